@@ -1,0 +1,4 @@
+pub mod Digest
+pub mod Fields
+pub mod Log
+pub mod Setup

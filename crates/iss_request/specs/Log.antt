@@ -1,0 +1,42 @@
+-- Identities, and logs of values. A log is kept newest first.
+use Rattle.std.specs.Prelude.{ℕ, ◌+◌, Bool, false, ◌==◌, ◌&&◌, ◌||◌, List, [], ◌∷◌, ◌++◌, length}
+use Rattle.iss_base.specs.Lists.{Different}
+use Rattle.iss_request.specs.declared.ids.ReqId.{ReqId}
+use Rattle.iss_request.specs.declared.requests.Request.{Request}
+use Rattle.iss_request.specs.declared.requests.Value.{Value}
+use Rattle.iss_request.specs.declared.requests.Value.TheVariants.{Nil, Batch as Holds}
+
+-- whether two identities are the same
+abbrev pub same_id : ReqId → ReqId → Bool
+same_id a b = (a.client == b.client) && (a.number == b.number)
+
+abbrev pub has_id : ReqId → List ReqId → Bool
+has_id x [] = false
+has_id x (y ∷ ys) = same_id x y || has_id x ys
+
+-- the identities of requests, of a value, and of all batches of a log
+abbrev pub ids : List Request → List ReqId
+ids [] = []
+ids (q ∷ qs) = q.id ∷ ids qs
+
+abbrev pub value_ids : Value → List ReqId
+value_ids Nil = []
+value_ids (Holds b) = ids b
+
+abbrev pub log_ids : List Value → List ReqId
+log_ids [] = []
+log_ids (v ∷ older) = value_ids v ++ log_ids older
+
+-- no request stands twice in the log, whatever its payload
+abbrev pub Once : List Value → Type 0
+Once log = Different (log_ids log)
+
+-- how many requests a value holds: nil none
+abbrev pub size_of : Value → ℕ
+size_of Nil = 0
+size_of (Holds b) = length b
+
+-- how many requests a log holds: the number of the first request of the value that comes next
+abbrev pub requests : List Value → ℕ
+requests [] = 0
+requests (v ∷ older) = size_of v + requests older

@@ -1,0 +1,53 @@
+-- Which set-ups are good: the ranges of a header, and the counts of its kind.
+use Rattle.std.specs.Prelude.{◌≡◌, ℕ, suc, ◌+◌, ◌*◌, ◌<◌, ◌≤◌, Bool, ◌==◌, if◌then◌else◌, List, [], ◌∷◌, length, slice_get, Some}
+use Rattle.iss_request.specs.declared.ids.NodeId.{NodeId}
+use Rattle.iss_request.specs.declared.setups.Kind.{Kind}
+use Rattle.iss_request.specs.declared.setups.Kind.TheVariants.{Byzantine, Stopping}
+use Rattle.iss_request.specs.declared.setups.Setup.{Setup}
+
+-- how many nodes withstand f faults, and how many of them decide
+abbrev pub nodes_of_kind : Kind → ℕ → ℕ
+nodes_of_kind Byzantine f = 3 * f + 1
+nodes_of_kind Stopping f = 2 * f + 1
+
+abbrev pub quorum_of_kind : Kind → ℕ → ℕ
+quorum_of_kind Byzantine f = 2 * f + 1
+quorum_of_kind Stopping f = f + 1
+
+-- the relay, module 1, is of three nodes that do not fail
+abbrev pub node_count : Setup → ℕ
+node_count s = if s.module == 1 then 3 else nodes_of_kind s.kind s.f
+
+abbrev pub quorum_count : Setup → ℕ
+quorum_count s = if s.module == 1 then 2 else quorum_of_kind s.kind s.f
+
+-- at most f nodes fail as they like, and none where nodes only stop
+abbrev pub IsFewFaulty : Kind → ℕ → List NodeId → Type 0
+IsFewFaulty Byzantine f faulty = length faulty ≤ f
+IsFewFaulty Stopping f faulty = faulty ≡ []
+
+-- nodes below n, ascending from the first number that is allowed
+abbrev pub AreRising : ℕ → ℕ → List NodeId → Type 0
+AreRising from n [] = Unit {0}
+AreRising from n (i ∷ is) = (from ≤ i.0) × (i.0 < n) × AreRising (suc i.0) n is
+
+pub record IsGoodSetup (s : Setup) : Type 0 where
+  pub faults : s.f ≤ 3
+  pub relay_faults : s.module ≡ 1 → s.f ≡ 0
+  pub relay_kind : s.module ≡ 1 → s.kind ≡ Stopping
+  pub nodes : s.n ≡ node_count s
+  pub majority : s.quorum ≡ quorum_count s
+  pub epoch_low : s.n ≤ s.epoch
+  pub epoch_high : s.epoch ≤ 64
+  pub buckets_low : 1 ≤ s.buckets
+  pub buckets_high : s.buckets ≤ 256
+  pub batch_low : 1 ≤ s.batch
+  pub batch_high : s.batch ≤ 32
+  pub window_low : 1 ≤ s.window
+  pub window_high : s.window ≤ 64
+  pub clients_low : 1 ≤ s.clients
+  pub clients_high : s.clients ≤ 256
+  pub keys_low : 2 ≤ s.keys
+  pub keys_high : s.keys ≤ 12
+  pub few_faulty : IsFewFaulty s.kind s.f s.faulty
+  pub rising_faulty : AreRising 0 s.n s.faulty

@@ -1,0 +1,19 @@
+//! The words that every crate speaks of: node numbers, slots, epochs, requests, batches, values, and the
+//! set-up of a cluster (ISS, "State Machine Replication Scalability Made Simple").
+#![tactic(auto)]
+
+pub mod bytes;
+pub mod errors;
+pub mod fields;
+pub mod ids;
+pub mod requests;
+pub mod rows;
+pub mod setups;
+
+pub use bytes::Bytes;
+pub use fields::{Fields, Writer};
+pub use errors::{DecodeError, NoMemory};
+pub use ids::{Epoch, NodeId, ReqId, Slot};
+pub use requests::{Batch, Request, Value};
+pub use rows::Row;
+pub use setups::{Kind, Nodes, Policy, Setup, quorum};

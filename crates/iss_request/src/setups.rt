@@ -1,0 +1,106 @@
+//! The set-up of a cluster: what its schedule's header says, and what follows of it.
+ghost use Rattle.std.specs.Prelude.{◌≡◌, ◌≤◌, ◌++◌, ◌∷◌, [], length, IfOk, OnOk, OnErr, IsTrue, ◌↔◌};
+ghost use Rattle.std.specs.List.{Contains};
+ghost use Rattle.iss_request.specs.Setup.{quorum_of_kind};
+
+use crate::errors::NoMemory;
+use crate::ids::NodeId;
+use std::alloc::Global;
+use std::marker::Model;
+
+/// What a module withstands. Byzantine: of `3f+1` nodes `f` do anything. Stopping: of `2f+1` nodes `f` stop.
+#[derive(Clone, Copy, Debug, PartialEq, Eq)]
+pub enum Kind {
+    Byzantine,
+    Stopping,
+}
+
+/// How the leaders of an epoch are chosen (ISS, "Leader selection").
+#[derive(Clone, Copy, Debug, PartialEq, Eq)]
+pub enum Policy {
+    Simple,
+    Backoff,
+    Blacklist,
+}
+
+/// Nodes in order, which contracts see as a list.
+#[derive(Drop, Clone, Debug)]
+pub struct Nodes {
+    all: Vec<NodeId>,
+}
+
+impl Model for Nodes {
+    ghost use Rattle.std.specs.Prelude.{List};
+    ghost use Rattle.iss_request.specs.declared.ids.NodeId.{NodeId};
+
+    ghost Value = { List NodeId };
+
+    ghost view = { λ n. n.all.items };
+}
+
+impl Nodes {
+    /// No nodes.
+    pub fn new(alloc: Global) -> Nodes
+        ensures { result ≡ [] }
+    {
+        Nodes {
+            all: Vec::new(alloc),
+        }
+    }
+
+    /// The nodes, lent.
+    pub fn as_slice(&self) -> &[NodeId]
+        ensures { result.now ≡ self.now }
+    {
+        self.all.as_slice()
+    }
+
+    /// Puts a node at the end.
+    pub fn push(&mut self, node: NodeId) -> Result<(), NoMemory>
+        ensures ok { OnOk result (self.new ≡ self.old ++ node ∷ []) }
+        ensures err { OnErr result (self.new ≡ self.old) }
+    {
+        self.all.push(node)?;
+        Ok(())
+    }
+}
+
+/// The set-up of a cluster. `epoch` is the number of slots of an epoch, `keys` the height of the key trees, `tag`
+/// the digest of the header, with which every statement of the cluster begins.
+#[derive(Drop, Clone, Debug)]
+pub struct Setup {
+    pub module: u8,
+    pub f: u32,
+    pub epoch: u64,
+    pub buckets: u32,
+    pub batch: u32,
+    pub window: u32,
+    pub policy: Policy,
+    pub clients: u32,
+    pub keys: u32,
+    pub faulty: Nodes,
+    pub n: u32,
+    pub quorum: u32,
+    pub kind: Kind,
+    pub tag: [u8; 32],
+}
+
+impl Setup {
+    /// The same set-up once more.
+    pub fn copy(&self) -> Result<Setup, NoMemory>
+        ensures { IfOk result (λ s. s ≡ self.now) }
+    {
+        Ok(self.clone()?)
+    }
+}
+
+/// How many votes decide: two such sets of nodes share a correct one (PBFT, Raft).
+pub fn quorum(kind: Kind, f: u32) -> u32
+    requires { f ≤ 3 }
+    ensures { result ≡ quorum_of_kind kind f }
+{
+    match kind {
+        Kind::Byzantine => 2 * f + 1,
+        Kind::Stopping => f + 1,
+    }
+}

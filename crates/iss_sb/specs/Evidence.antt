@@ -1,0 +1,145 @@
+-- A module as definitions over lists that forget nothing, and the world of one instance. Lists are newest first.
+use Rattle.std.specs.Prelude.{◌≡◌, ◌≢◌, ℕ, ◌+◌, ◌≤◌, ◌^◌, Bool, true, false, ◌&&◌, not, nat_lt, ◌==◌, ◌||◌, List, [], ◌∷◌, ◌++◌, Option, Some, None, ◌⊎◌}
+use Rattle.iss_base.specs.Lists.{In, first_of}
+use Rattle.iss_request.specs.Digest.{digest}
+use Rattle.iss_request.specs.Fields.{Parsed}
+use Rattle.iss_request.specs.declared.ids.NodeId.{NodeId}
+use Rattle.iss_request.specs.declared.ids.Slot.{Slot}
+use Rattle.iss_request.specs.declared.requests.Batch.{Batch}
+use Rattle.iss_request.specs.declared.requests.Value.{Value}
+use Rattle.iss_request.specs.declared.setups.Setup.{Setup}
+use Rattle.iss_sb.specs.declared.effects.Claim.{Claim}
+use Rattle.iss_sb.specs.declared.effects.Input.{Input}
+use Rattle.iss_sb.specs.declared.effects.Input.TheVariants.{Cast, Receive, Timeout}
+use Rattle.iss_sb.specs.declared.effects.Params.{Params}
+use Rattle.iss_sb.specs.declared.effects.To.{To}
+use Rattle.iss_sb.specs.declared.effects.To.TheVariants.{All as To_all, One as To_one}
+
+-- what one input made at a node: messages, the batch that it accepted, strings that it hashed, leaves that signed
+pub record Made (M : Type 0) : Type 0 where
+  pub sends : List (To × M)
+  pub accepted : Option (Slot × Batch)
+  pub strings : List (List ℕ)
+  pub used : ℕ
+
+-- an input that a node took, and what was made at it
+pub record Item (M : Type 0) : Type 0 where
+  pub input : Input M
+  pub made : Made M
+
+-- the world of one instance: what each correct node took. Accept lists, what was sent, signed and hashed are read
+-- off these lists
+abbrev pub World : Type 0 → Type 0
+World M = ℕ → List (Item M)
+
+abbrev pub empty_world : {M : Type 0} → World M
+empty_world i = []
+
+-- what a module is, as functions of the list of what a node took. Nodes go by their numbers
+pub record Module (M : Type 0) : Type 1 where
+  -- nodes and quorum for f faults, whether nodes only stop, the module's tag, the most signatures of a step
+  pub nodes : ℕ → ℕ
+  pub quorum : ℕ → ℕ
+  pub stopping : Bool
+  pub tag : ℕ
+  pub signs : Params → ℕ
+  -- the bytes of a message, and the message at the front of bytes
+  pub spell : M → List ℕ
+  pub parse : List ℕ → Parsed M
+  pub claims : Params → ℕ → M → List Claim
+  -- the batch that a node would accept with an input, what it makes at it with its next leaf, what it has decided
+  pub asks : Params → ℕ → List (Item M) → Input M → Option (Slot × Batch)
+  pub makes : Params → ℕ → List (Item M) → Input M → ℕ → Made M
+  pub decided : Params → ℕ → List (Item M) → ℕ → Option Value
+  -- what holds of every world of an instance
+  pub Inv : Params → World M → Type 0
+
+-- the value that the shortest part of the list decides at the slot
+abbrev pub delivered : {M : Type 0} → Module M → Params → ℕ → List (Item M) → ℕ → Option Value
+delivered m p me [] s = None
+delivered m p me (x ∷ xs) s = first_of (delivered m p me xs s) (m.decided p me (x ∷ xs) s)
+
+-- the list after one input more
+abbrev pub and_then : {M : Type 0} → Module M → Params → ℕ → List (Item M) → Input M → ℕ → List (Item M)
+and_then m p me xs input leaf = record { input = input; made = m.makes p me xs input leaf } ∷ xs
+
+abbrev pub one_or_none : {A : Type 0} → Option A → List A
+one_or_none None = []
+one_or_none (Some x) = x ∷ []
+
+-- the batches that were accepted, each with its slot
+abbrev pub accepts : {M : Type 0} → List (Item M) → List (Slot × Batch)
+accepts [] = []
+accepts (x ∷ xs) = one_or_none x.made.accepted ++ accepts xs
+
+abbrev pub has_node : ℕ → List NodeId → Bool
+has_node i [] = false
+has_node i (k ∷ ks) = (i == k.0) || has_node i ks
+
+-- a node is correct that the set-up does not name as faulty
+abbrev pub is_correct : Setup → ℕ → Bool
+is_correct s i = nat_lt i s.n && not (has_node i s.faulty)
+
+abbrev pub Reaches : To → ℕ → Type 0
+Reaches To_all i = Unit {0}
+Reaches (To_one k) i = k.0 ≡ i
+
+-- node `from` sent the message, and node i is among those it was for
+pub record IsSent {M : Type 0} (w : World M) (from i : ℕ) (msg : M) : Type 0 where
+  pub item : Item M
+  pub taken : In item (w from)
+  pub to : To
+  pub reaches : Reaches to i
+  pub sent : In {A = To × M} (to, msg) item.made.sends
+
+-- a claim of node i in what it sent of its own
+pub record IsSigned {M : Type 0} (m : Module M) (p : Params) (w : World M) (i : ℕ) (statement : List ℕ) : Type 0 where
+  pub item : Item M
+  pub taken : In item (w i)
+  pub to : To
+  pub msg : M
+  pub sent : In {A = To × M} (to, msg) item.made.sends
+  pub claim : Claim
+  pub made : In claim (m.claims p i msg)
+  pub by : claim.by.0 ≡ i
+  pub is : claim.statement ≡ statement
+
+pub record IsHashed {M : Type 0} (w : World M) (string : List ℕ) : Type 0 where
+  pub node : ℕ
+  pub item : Item M
+  pub taken : In item (w node)
+  pub hashed : In string item.made.strings
+
+-- a string of the world, or the empty one
+abbrev pub IsString : {M : Type 0} → World M → List ℕ → Type 0
+IsString w string = (string ≡ []) ⊎ IsHashed w string
+
+-- different strings of these have different digests
+abbrev pub Separate : (List ℕ → Type 0) → Type 0
+Separate Is = (a b : List ℕ) → Is a → Is b → digest a ≡ digest b → a ≡ b
+
+-- a message that may come to node i: where nodes only stop, one that was sent to it; else any message under any name,
+-- as long as what it claims of correct nodes was signed by them
+abbrev pub MayArrive : {M : Type 0} → Bool → Module M → Params → World M → ℕ → ℕ → M → Type 0
+MayArrive true m p w i from msg = IsSent w from i msg
+MayArrive false m p w i from msg = (c : Claim) → In c (m.claims p from msg) → is_correct p.setup c.by.0 ≡ true → IsSigned m p w c.by.0 c.statement
+
+abbrev pub MayCome : {M : Type 0} → Module M → Params → World M → ℕ → Input M → Type 0
+MayCome m p w i (Cast slot batch) = i ≡ p.leader.0
+MayCome m p w i (Receive from msg) = MayArrive m.stopping m p w i from.0 msg
+MayCome m p w i Timeout = Unit {0}
+
+-- one correct node takes one input. A verdict that is false changes nothing, and is no move
+pub record Move {M : Type 0} (m : Module M) (p : Params) (w later : World M) : Type 0 where
+  pub node : ℕ
+  pub correct : is_correct p.setup node ≡ true
+  pub input : Input M
+  pub may : MayCome m p w node input
+  pub leaf : ℕ
+  pub takes : later node ≡ and_then m p node (w node) input leaf
+  pub others : (i : ℕ) → i ≢ node → later i ≡ w i
+
+-- the worlds that moves lead to
+pub data IsReached {M : Type 0} (m : Module M) (p : Params) : World M → Type 0 where
+  at_start : IsReached m p empty_world
+  after : {w later : World M} → IsReached m p w → Move m p w later → IsReached m p later

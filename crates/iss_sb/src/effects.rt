@@ -1,0 +1,79 @@
+//! What goes into a module and what comes out of it.
+use iss_request::{Batch, Bytes, Epoch, NoMemory, NodeId, Row, Setup, Slot, Value};
+use std::alloc::Global;
+
+/// What a module takes: a batch to broadcast at a slot, a message, or that time has run out.
+#[derive(Drop)]
+pub enum Input<M> {
+    Cast { slot: Slot, batch: Batch },
+    Receive { from: NodeId, msg: M },
+    Timeout,
+}
+
+/// Whom a message goes to. A send to all includes the sender.
+#[derive(Clone, Copy, Debug, PartialEq, Eq)]
+pub enum To {
+    All,
+    One(NodeId),
+}
+
+/// What a node is said to have signed.
+#[derive(Drop)]
+pub struct Claim {
+    pub by: NodeId,
+    pub statement: Bytes,
+    pub sig: Bytes,
+}
+
+/// What an instance is started with: one epoch, one leader, and the slots of the leader's segment, ascending.
+#[derive(Drop)]
+pub struct Params {
+    pub setup: Setup,
+    pub epoch: Epoch,
+    pub leader: NodeId,
+    pub slots: Row<Slot>,
+}
+
+/// Why a step was not made: fewer leaves are left than one step may sign with, or memory was wanting.
+#[derive(Clone, Copy, Debug, PartialEq, Eq)]
+pub enum StepError {
+    Spent,
+    NoMemory,
+}
+
+impl From<NoMemory> for StepError {
+    ghost use Rattle.std.specs.Prelude.{◌≡◌};
+    ghost use Rattle.iss_sb.specs.declared.effects.StepError.TheVariants.{NoMemory};
+
+    ghost from_gives = { λ _ e. e ≡ NoMemory };
+
+    fn from(_error: NoMemory) -> StepError {
+        StepError::NoMemory
+    }
+}
+
+/// What a step gives: messages to send, the batch that it accepted, the slots that it delivers, and the strings that
+/// it hashed.
+#[derive(Drop)]
+pub struct Effects<M> {
+    pub sends: Row<(To, M)>,
+    pub accepted: Option<(Slot, Batch)>,
+    pub delivers: Row<(Slot, Value)>,
+    pub hashed: Row<Bytes>,
+}
+
+impl<M: Drop> Effects<M> {
+    ghost use Rattle.iss_sb.specs.Calls.{IsNothing};
+
+    /// No effects.
+    pub fn nothing(alloc: Global) -> Effects<M>
+        ensures { IsNothing result }
+    {
+        Effects {
+            sends: Row::new(alloc),
+            accepted: None,
+            delivers: Row::new(alloc),
+            hashed: Row::new(alloc),
+        }
+    }
+}

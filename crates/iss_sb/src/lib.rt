@@ -1,0 +1,11 @@
+//! Sequenced Broadcast: the trait of an ordering module, what its calls take and give, the world of one instance,
+//! and the laws that a module meets (ISS, "Sequenced Broadcast").
+#![tactic(auto)]
+
+pub mod effects;
+pub mod keys;
+pub mod sequenced;
+
+pub use effects::{Claim, Effects, Input, Params, StepError, To};
+pub use keys::{Keys, node_secret};
+pub use sequenced::Sequenced;

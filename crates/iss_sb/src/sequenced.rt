@@ -1,0 +1,109 @@
+//! The trait of an ordering module. Nothing above it knows more of a module than these clauses.
+ghost use Rattle.std.specs.Prelude.{◌≡◌, ℕ, ◌<◌, ◌≤◌, ◌↔◌, ◌++◌, List, [], Bool, IfOk, OnOk, IsTrue, Some};
+ghost use Rattle.iss_request.specs.declared.requests.Batch.{Batch};
+ghost use Rattle.iss_sb.specs.declared.effects.Params.{Params};
+ghost use Rattle.iss_sb.specs.Calls.{IsStep, IsGoodParams, IsGoodInput, IsRead, IsUnreadable, named};
+ghost use Rattle.iss_sb.specs.Evidence.{Item, Module};
+ghost use Rattle.iss_sb.specs.Laws.{IsGrammar, IsLawful, IsSafe};
+
+use crate::effects::{Claim, Effects, Input, Params, StepError};
+use crate::keys::Keys;
+use iss_request::{Batch, DecodeError, Fields, NoMemory, NodeId, Row, Slot, Writer};
+use std::alloc::Global;
+
+/// An implementation of Sequenced Broadcast. It knows of one epoch and of one leader's segment.
+pub trait Sequenced: Drop + Sized {
+    type Msg: Drop;
+
+    ghost TAG: { ℕ };
+
+    ghost STOPPING: { Bool };
+
+    /// The number of the module in statements and packets.
+    const TAG: u8;
+
+    /// Whether nodes only stop.
+    const STOPPING: bool;
+
+    /// What the module is, over lists.
+    ghost meaning: { Module Self.Msg };
+
+    /// The value stands for this list, as that node of this instance.
+    ghost stands: { Self → Params → ℕ → List (Item Self.Msg) → Type 0 };
+
+    /// How many nodes withstand `f` faults.
+    fn nodes_of(f: u32) -> u32
+        requires { f ≤ 3 }
+        ensures { result ≡ meaning.nodes f };
+
+    /// How many nodes decide where `f` may fail.
+    fn quorum_of(f: u32) -> u32
+        requires { f ≤ 3 }
+        ensures { result ≡ meaning.quorum f };
+
+    /// The most signatures that one step makes.
+    fn signs(p: &Params) -> u32
+        requires { IsGoodParams meaning p.now }
+        ensures { result ≡ meaning.signs p.now };
+
+    /// An instance that has taken nothing.
+    fn start(alloc: Global, p: &Params, me: NodeId) -> Result<Self, NoMemory>
+        requires good { IsGoodParams meaning p.now }
+        requires me { me.0 < p.now.setup.n }
+        ensures { IfOk result (λ m. stands m p.now me.0 []) };
+
+    /// Whether a batch cast at this slot would be taken.
+    fn casts(&self, p: &Params, slot: Slot) -> bool
+        requires good { IsGoodParams meaning p.now }
+        ensures { (me : ℕ) (xs : List (Item Self.Msg)) (batch : Batch) → stands self.now p.now me xs →
+            (IsTrue result ↔ (meaning.asks p.now me xs (Input.Cast slot batch) ≡ Some (slot, batch))) };
+
+    /// The batch that a step with this input would accept. The host judges it first.
+    fn asks<'a>(&'a self, p: &Params, i: &'a Input<Self::Msg>) -> Option<(Slot, &'a Batch)>
+        requires good { IsGoodParams meaning p.now }
+        requires input { IsGoodInput p.now i.now }
+        ensures { (me : ℕ) (xs : List (Item Self.Msg)) → stands self.now p.now me xs →
+            named result ≡ meaning.asks p.now me xs i.now };
+
+    /// Takes an input. With a verdict that is false nothing changes. `Spent` comes exactly where fewer leaves are left
+    /// than `signs`, with nothing changed; after want of memory nothing is promised.
+    fn step(
+        &mut self,
+        alloc: Global,
+        p: &Params,
+        i: Input<Self::Msg>,
+        verdict: bool,
+        keys: &mut Keys,
+    ) -> Result<Effects<Self::Msg>, StepError>
+        requires good { IsGoodParams meaning p.now }
+        requires input { IsGoodInput p.now i }
+        ensures { IsStep meaning stands p.now self.old self.new i verdict keys.old keys.new result };
+
+    /// Writes a message: its number, its fields, its signature.
+    fn encode(m: &Self::Msg, out: &mut Writer) -> Result<(), NoMemory>
+        ensures { OnOk result (out.new ≡ out.old ++ meaning.spell m.now) };
+
+    /// Reads the message at the front.
+    fn decode(alloc: Global, f: &mut Fields) -> Result<Self::Msg, DecodeError>
+        ensures ok { IfOk result (λ m. IsRead meaning.parse f.old f.new m) }
+        ensures bad { (at : ℕ) → result ≡ Err (DecodeError.BadField at) → IsUnreadable meaning.parse f.old at };
+
+    /// What a message says that nodes have signed, in the order of its bytes.
+    fn claims(
+        alloc: Global,
+        p: &Params,
+        from: NodeId,
+        m: &Self::Msg,
+    ) -> Result<Row<Claim>, NoMemory>
+        requires good { IsGoodParams meaning p.now }
+        requires from { from.0 < p.now.setup.n }
+        ensures { IfOk result (λ claims. claims ≡ meaning.claims p.now from.0 m.now) };
+
+    /// The laws, each proved by the module. The body is empty.
+    fn laws()
+        ensures tagged { meaning.tag ≡ TAG }
+        ensures stopping { meaning.stopping ≡ STOPPING }
+        ensures grammar { IsGrammar meaning.spell meaning.parse }
+        ensures lawful { IsLawful meaning }
+        ensures safe { IsSafe meaning };
+}
