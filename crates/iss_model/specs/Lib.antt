@@ -1,0 +1,5 @@
+pub mod Judge
+pub mod Node
+pub mod Past
+pub mod Rules
+pub mod Run
