@@ -1,3 +1,5 @@
 pub mod Epochs
 pub mod Logs
 pub mod Longest
+pub mod Ids
+pub mod Judged
