@@ -73,6 +73,9 @@ module _ (R : Rules) (before : List Value) (e l : ℕ) (marked : List ReqId) (ba
   abbrev old : Request → Bool
   old q = has_id q.id (log_ids before)
 
+  under : nat_lt R.batch (length batch) ≡ false → length batch ≤ R.batch
+  under h = elim (leb_tells (suc R.batch) (length batch)) [ inl t ↦ absurd (true≢false (sym t.0 ∙ h)) | inr t ↦ omega (arith, t.1) ]
+
   pub accepted : judge R before e l marked batch ≡ None → Accepted R before e l marked batch
   accepted h =
       let a = passed _ _ _ h in
@@ -83,7 +86,7 @@ module _ (R : Rules) (before : List Value) (e l : ℕ) (marked : List ReqId) (ba
       let g = passed _ _ _ f.1 in
       let m = unmarked-are marked (ids batch) g.0 in
       record {
-        few = elim (leb_tells (suc R.batch) (length batch)) [ inl t ↦ absurd (true≢false (sym t.0 ∙ a.0)) | inr t ↦ omega (arith, t.1) ];
+        few = under a.0;
         owner = λ q i. is-eq (R.owner before e q.id) l (not-false (eqb (R.owner before e q.id) l) (any-none foreign batch b.0 q i));
         signed = λ q i. not-false (R.signed q) (any-none unsigned batch c.0 q i);
         inside = λ q i. not-false (R.inside before e q.id) (any-none outside batch d.0 q i);
