@@ -3,3 +3,4 @@ pub mod Node
 pub mod Past
 pub mod Rules
 pub mod Run
+pub mod Sound
