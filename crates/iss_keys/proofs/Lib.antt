@@ -2,3 +2,4 @@ pub mod ChainLemmas
 pub mod TreeLemmas
 pub mod VerifyLemmas
 pub mod ListedLemmas
+pub mod Examples
