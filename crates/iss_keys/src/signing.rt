@@ -155,6 +155,7 @@ impl Keys {
         ensures verifies { IfOk result (λ sig. Verifies (root_of self.old.secret self.old.height) self.old.height statement.now sig.items) }
         ensures leaf { IfOk result (λ sig. leaf_number sig.items ≡ self.old.used) }
         ensures used { OnOk result (self.new ≡ record self.old { used = self.old.used + 1 }) }
+        ensures left { OnOk result (left_of self.new + 1 ≡ left_of self.old) }
         ensures spent { (result ≡ Err SignError.Spent) ↔ (left_of self.old ≡ 0) }
         ensures err { OnErr result (self.new ≡ self.old) }
     {

@@ -28,7 +28,7 @@ impl Model for PublicKey {
 
 impl PublicKey {
     // The key with this root and height.
-    pub fn from_parts(root: [u8; 32], height: u8) -> PublicKey
+    pub(crate) fn from_parts(root: [u8; 32], height: u8) -> PublicKey
         requires { height ≤ 12 }
         ensures { result ≡ record { root = root; height = height } }
     {
