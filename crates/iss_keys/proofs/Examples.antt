@@ -1,11 +1,11 @@
 -- The definitions, run on a small key: 32 zero bytes. The numbers were computed by another program.
-use Rattle.std.specs.Prelude.{◌≡◌, ℕ, suc, ◌+◌, ◌*◌, List, [], ◌∷◌, replicate}
+use Rattle.std.specs.Prelude.{◌≡◌, ℕ, List, [], ◌∷◌, replicate}
 use Rattle.std.proofs.Common.{refl}
 use Rattle.sha2.specs.Sha256.{sha256, digest_bytes, hash_after, compress, rounds, schedule, first_words}
-use Rattle.iss_keys.specs.Pieces.{join_below, sum_below, listed}
+use Rattle.iss_keys.specs.Pieces.{sum_below, listed}
 use Rattle.iss_keys.specs.Chains.{chain_start, chain_end, steps, digit, statement_digest, leaf_value}
 use Rattle.iss_keys.specs.Trees.{inner, node, root_of, path_node}
-use Rattle.iss_keys.specs.Signatures.{leaf_number, signature_of, part_of}
+use Rattle.iss_keys.specs.Signatures.{signature_of, part_of}
 
 -- the start of the first chain of the first leaf
 first_start : chain_start (replicate 32 0) 0 0 ≡ 227 ∷ 41 ∷ 245 ∷ 111 ∷ 219 ∷ 161 ∷ 33 ∷ 70 ∷ 162 ∷ 82 ∷ 204 ∷ 221 ∷ 142 ∷ 21 ∷ 122 ∷ 102 ∷ 4 ∷ 232 ∷ 161 ∷ 238 ∷ 124 ∷ 240 ∷ 175 ∷ 253 ∷ 163 ∷ 231 ∷ 222 ∷ 247 ∷ 1 ∷ 95 ∷ 47 ∷ 138 ∷ []

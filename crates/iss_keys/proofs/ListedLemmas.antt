@@ -1,5 +1,5 @@
 -- Facts on listed values, and on the public keys of keys that stand by their numbers.
-use Rattle.std.proofs.Common.{◌≡◌, ℕ, zero, suc, ◌+◌, ◌<◌, ◌≤◌, List, [], ◌∷◌, ◌++◌, length, get_or, map, refl, sym, ap, ap₂, ◌∙◌, arith, add-one, inl, inr, length-append}
+use Rattle.std.proofs.Common.{◌≡◌, ℕ, zero, suc, ◌+◌, ◌<◌, List, [], ◌∷◌, ◌++◌, length, get_or, map, refl, sym, ap, ap₂, ◌∙◌, arith, add-one, inl, inr, length-append}
 use Rattle.std.specs.Prelude.{slice_get, Some}
 use Rattle.std.specs.Option.{option_map}
 use Rattle.std.proofs.lemmas.List.{ext_get_or, length-map}
@@ -8,7 +8,7 @@ use Rattle.std.proofs.Math.ListN.{get_or-append}
 use Rattle.std.proofs.Math.Seq.{get_or-append_seam}
 use Rattle.std.proofs.lemmas.Bool.{cases_lt}
 use Rattle.iss_keys.specs.Pieces.{listed}
-use Rattle.iss_keys.specs.KeyStates.{KeyState, PublicKeyView, public_key, public_of}
+use Rattle.iss_keys.specs.KeyStates.{KeyState, public_key, public_of}
 use Rattle.iss_keys.specs.Directories.{public_keys_of, HasKeys}
 
 pub listed_none : {X : Type 0} (f : ℕ → X) → [] ≡ listed f 0

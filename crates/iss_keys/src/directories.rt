@@ -7,7 +7,7 @@ ghost use Rattle.iss_keys.specs.KeyStates.{public_key, public_of};
 ghost use Rattle.iss_keys.specs.Directories.{DirectoryView, directory_of, public_keys_of, VerifiesBy, HasKeys, node_secret, client_secret};
 
 use crate::signing::{Keys, NoMemory};
-use crate::verification::{verify, PublicKey};
+use crate::verification::{PublicKey, verify};
 use sha2::{Digest, Sha256};
 use std::alloc::{AllocError, Global};
 use std::marker::Model;

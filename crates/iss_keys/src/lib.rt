@@ -22,4 +22,4 @@ mod verification;
 
 pub use directories::Directory;
 pub use signing::{Keys, NoMemory, SignError};
-pub use verification::{verify, PublicKey};
+pub use verification::{PublicKey, verify};

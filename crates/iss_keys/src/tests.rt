@@ -53,7 +53,11 @@ fn changed_signatures_do_not_verify(rt: HostRuntime) -> Result<(), Fail> {
     let mut signature = keys.sign_at(1, &[0])?;
     for i in 0..41 {
         flip_byte(&mut signature, 54 * i);
-        assert!(rt; !verify(&public, &[0], &signature), "a change at {}", 54 * i);
+        assert!(rt;
+            !verify(&public, &[0], &signature),
+            "a change at {}",
+            54 * i
+        );
         flip_byte(&mut signature, 54 * i);
         assert!(rt; verify(&public, &[0], &signature));
     }
@@ -74,8 +78,16 @@ fn changed_signatures_do_not_verify(rt: HostRuntime) -> Result<(), Fail> {
 #[test]
 fn directories_have_the_keys_of_their_numbers(rt: HostRuntime) -> Result<(), Fail> {
     let directory = Directory::make(rt.alloc(), 1, 3, 2)?;
-    assert!(rt; directory.node_key(0).is_some_and(|key| key.root() == ROOT_NODE_0));
-    assert!(rt; directory.client_key(2).is_some_and(|key| key.root() == ROOT_CLIENT_2));
+    assert!(rt;
+        directory
+            .node_key(0)
+            .is_some_and(|key| key.root() == ROOT_NODE_0)
+    );
+    assert!(rt;
+        directory
+            .client_key(2)
+            .is_some_and(|key| key.root() == ROOT_CLIENT_2)
+    );
     assert!(rt; directory.node_key(1).is_none());
     assert!(rt; directory.client_key(3).is_none());
     let mut keys = Vec::new(rt.alloc());

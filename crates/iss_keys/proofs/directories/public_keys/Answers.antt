@@ -1,4 +1,4 @@
-use Rattle.std.proofs.Common.{◌∙◌, ap, ℕ, ◌∷◌, []}
+use Rattle.std.proofs.Common.{◌∙◌, ap, ◌∷◌, []}
 use Rattle.sha2.specs.Sha256.{sha256}
 use Rattle.iss_keys.specs.KeyStates.{public_of, public_key}
 use Rattle.iss_keys.proofs.ListedLemmas.{listed_none, listed_more}

@@ -1,5 +1,5 @@
-use Rattle.std.proofs.Common.{◌≡◌, ◌∙◌, ap₂}
-use Rattle.iss_keys.specs.Directories.{DirectoryView, node_secret, client_secret}
+use Rattle.std.proofs.Common.{◌∙◌, ap₂}
+use Rattle.iss_keys.specs.Directories.{node_secret, client_secret}
 use Rattle.iss_keys.proofs.ListedLemmas.{publics_listed}
 use Rattle.iss_keys.proofs.directories.Directory.of.Goals as goal
 
