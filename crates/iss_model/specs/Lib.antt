@@ -4,3 +4,4 @@ pub mod Past
 pub mod Rules
 pub mod Run
 pub mod Sound
+pub mod Concrete

@@ -1,0 +1,4 @@
+pub mod Answers
+pub mod Cells
+pub mod Marks
+pub mod State
