@@ -1,12 +1,14 @@
 -- Readers that go through their fields in order read what the parser of the whole reads.
-use Rattle.std.proofs.Common.{◌≡◌, ℕ, zero, suc, ◌+◌, ◌-◌, ◌*◌, ◌/◌, ◌^◌, ◌<◌, ◌≤◌, Bool, true, false, List, [], ◌∷◌, ◌++◌, length, drop, refl, sym, ap, subst, ◌∙◌, append_assoc, arith}
+use Rattle.std.proofs.Common.{◌≡◌, ℕ, zero, suc, ◌+◌, ◌-◌, ◌*◌, ◌/◌, ◌^◌, ◌<◌, ◌≤◌, Bool, true, false, List, [], ◌∷◌, ◌++◌, length, drop, refl, sym, ap, subst, ◌∙◌, append_assoc, append-nil, arith, inl, inr}
 use Rattle.std.specs.Int.{Width, byte_len, to_be_bytes}
-use Rattle.std.proofs.lemmas.List.{length-append}
-use Rattle.std.specs.Prelude.{Result, Err}
+use Rattle.std.proofs.lemmas.Bool.{cases_lt}
+use Rattle.std.proofs.lemmas.List.{length-append, length-drop, nil_from_length}
+use Rattle.std.specs.Prelude.{Result, Ok, Err, IsTrue, ◌↔◌}
+use Rattle.std.specs.Result.{IsErrAnd}
 use Rattle.iss_request.specs.declared.errors.DecodeError.{DecodeError}
 use Rattle.iss_request.specs.declared.errors.DecodeError.TheVariants.{BadField}
 use Rattle.iss_request.specs.Fields.{Reading, Parsed, Good, Bad, left, IsRead, IsUnreadable}
-use Rattle.iss_request.specs.Parsing.{Parser, ◌>>=◌, done, such_that, byte, number, block, digests, times}
+use Rattle.iss_request.specs.Parsing.{Parser, ◌>>=◌, done, such_that, byte, number, block, digests, times, at_end, all_of}
 use Rattle.iss_request.proofs.ParserLemmas
 
 -- ---- one thing and another
@@ -48,6 +50,13 @@ named {A} {T} p a x d at u is e =
     let same : x ≡ at = cc in
     record { after = u.after; found = u.found; field = sym same ∙ u.field }
 
+-- the exit of a `?`, where an error is passed on
+pub exit : {T U : Type 0} (r : Result T DecodeError) (d : DecodeError) (P : ℕ → Type 0) → IsErrAnd r (λ y. y ≡ d) → ((at : ℕ) → ◌≡◌ {A = Result U DecodeError} (Err d) (Err (BadField at)) → P at) → (at : ℕ) → r ≡ Err (BadField at) → P at
+exit (Ok x) d P h bad at e = absurd h
+exit (Err y) d P h bad at e =
+    let same : y ≡ BadField at = cc in
+    bad at (ap Err (sym h ∙ same))
+
 -- ---- fields
 
 -- so many bytes further on
@@ -85,3 +94,82 @@ digests_read count a b front parts len is = read_front (digests count) a b front
 
 pub digests_unread : (count : ℕ) (a : Reading) → length (left a) < 32 * count → IsUnreadable (digests count) a (a.at + 32 * (length (left a) / 32))
 digests_unread count a lt = record { after = 32 * (length (left a) / 32); found = ParserLemmas.digests_short count (left a) lt; field = refl }
+
+-- ---- so many things
+
+pub read_more : {A : Type 0} (p : Parser A) (count : ℕ) {a b c : Reading} {x : A} {xs : List A} → IsRead p a b x → IsRead (times count p) b c xs → IsRead (times (suc count) p) a c (x ∷ xs)
+unfolding times
+read_more p count r s = read_then _ _ r (read_then _ _ s (read_done _ _))
+
+pub unread_more : {A : Type 0} (p : Parser A) (count : ℕ) {a b : Reading} {x : A} {at : ℕ} → IsRead p a b x → IsUnreadable (times count p) b at → IsUnreadable (times (suc count) p) a at
+unfolding times
+unread_more p count r u = unread_then _ _ r (unread_first _ _ u)
+
+pub unread_one : {A : Type 0} (p : Parser A) (count : ℕ) {a : Reading} {at : ℕ} → IsUnreadable p a at → IsUnreadable (times (suc count) p) a at
+unfolding times
+unread_one p count u = unread_first _ _ u
+
+pub read_none : {A : Type 0} (p : Parser A) (a : Reading) → IsRead (times 0 p) a a []
+unfolding times
+read_none p a = read_done [] a
+
+-- of `total` things these are read, and `count` are still to come
+pub record Continues {A : Type 0} (p : Parser A) (total : ℕ) (start : Reading) (count : ℕ) (here : Reading) (got : List A) : Type 0 where
+  pub all : (later : Reading) (xs : List A) → IsRead (times count p) here later xs → IsRead (times total p) start later (got ++ xs)
+  pub fails : (at : ℕ) → IsUnreadable (times count p) here at → IsUnreadable (times total p) start at
+
+pub continues_start : {A : Type 0} (p : Parser A) (total : ℕ) (start : Reading) (count : ℕ) (got : List A) → count ≡ total → got ≡ [] → Continues p total start count start got
+continues_start p total start count got e none = record { all = λ later xs r. rw none (rw e at r); fails = λ at u. rw e at u }
+
+pub continues_next : {A : Type 0} (p : Parser A) (total : ℕ) (start : Reading) (count left : ℕ) (here there : Reading) (got : List A) (x : A) → left ≡ suc count → Continues p total start left here got → IsRead p here there x → Continues p total start count there (got ++ x ∷ [])
+continues_next p total start count left here there got x e c r = record {
+  all = λ later xs s. rw append_assoc (c.all later (x ∷ xs) (rw e (read_more p count r s)));
+  fails = λ at u. c.fails at (rw e (unread_more p count r u));
+}
+
+pub continues_bad : {A : Type 0} (p : Parser A) (total : ℕ) (start : Reading) (count left : ℕ) (here : Reading) (got : List A) (at : ℕ) → left ≡ suc count → Continues p total start left here got → IsUnreadable p here at → IsUnreadable (times total p) start at
+continues_bad p total start count left here got at e c u = c.fails at (rw e (unread_one p count u))
+
+pub continues_end : {A : Type 0} (p : Parser A) (total : ℕ) (start : Reading) (count : ℕ) (here : Reading) (got : List A) → count ≡ 0 → Continues p total start count here got → IsRead (times total p) start here got
+continues_end p total start count here got e c = rw append-nil at (c.all here [] (rw e (read_none p here)))
+
+-- ---- all of the bytes
+
+abbrev pub front : List ℕ → Reading
+front bytes = record { all = bytes; at = 0 }
+
+pub unread_whole : {A : Type 0} (p : Parser A) (bytes : List ℕ) (start : Reading) (at : ℕ) → start ≡ front bytes → IsUnreadable p start at → all_of p bytes ≡ Bad at
+unfolding all_of
+unread_whole p bytes start at is u =
+    let here = subst (λ (r : Reading). IsUnreadable p r at) is u in
+    let same : at ≡ here.after = omega (arith, here.field) in
+    rw same (ParserLemmas.first_bad p at_end bytes here.after here.found)
+
+end_bad : {A : Type 0} (x : A) (rest : List ℕ) → 0 < length rest → at_end x rest ≡ Bad 0
+unfolding at_end
+end_bad x [] lt = absurd (omega (arith, lt))
+end_bad x (b ∷ rest) lt = refl
+
+contradiction : IsTrue false → ⊥
+contradiction e = cc
+
+-- whether a reader is done, as its answer says
+abbrev pub Tells : Bool → Reading → Type 0
+Tells b f = IsTrue b ↔ (length f.all ≤ f.at)
+
+pub unread_end : {A T : Type 0} (p : Parser A) (bytes : List ℕ) (start f : Reading) (x : A) (d : DecodeError) (at : ℕ) → start ≡ front bytes → IsRead p start f x → Tells false f → d ≡ BadField f.at → ◌≡◌ {A = Result T DecodeError} (Err d) (Err (BadField at)) → all_of p bytes ≡ Bad at
+unfolding all_of
+unread_end {A} {T} p bytes start f x d at is r tells made e =
+    let here = subst (λ (s : Reading). IsRead p s f x) is r in
+    let same_at : f.at ≡ at = cc in
+    let lt : f.at < length f.all = elim (cases_lt f.at (length f.all)) [ inl lt ↦ lt | inr le ↦ absurd (contradiction (tells.1 le)) ] in
+    let more : 0 < length (left f) = omega (arith, length-drop f.at f.all) in
+    let same : at ≡ length bytes - length (left f) + 0 = omega (arith, here.behind) in
+    rw same (ParserLemmas.then_bad p at_end bytes (left f) x 0 here.found (end_bad x (left f) more))
+
+pub read_whole : {A : Type 0} (p : Parser A) (bytes : List ℕ) (start f : Reading) (x : A) → start ≡ front bytes → IsRead p start f x → Tells true f → p bytes ≡ Good x []
+read_whole p bytes start f x is r tells =
+    let here = subst (λ (s : Reading). IsRead p s f x) is r in
+    let le : length f.all ≤ f.at = tells.0 refl in
+    let none : left f ≡ [] = nil_from_length (left f) (omega (arith, length-drop f.at f.all)) in
+    rw none at here.found

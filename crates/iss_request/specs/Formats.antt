@@ -35,12 +35,15 @@ no_request = 0 ∷ 0 ∷ 0 ∷ 0 ∷ 0 ∷ 255 ∷ 255 ∷ []
 unfoldable pub spell_request : Request → List ℕ
 spell_request r = if is_request r then request_bytes r else no_request
 
-abbrev pub no_value : List ℕ
-no_value = 1 ∷ 255 ∷ []
+abbrev pub no_batch : List ℕ
+no_batch = 255 ∷ []
+
+unfoldable pub spell_batch : List Request → List ℕ
+spell_batch b = if nat_le (length b) 32 then length b ∷ flat_map spell_request b else no_batch
 
 unfoldable pub spell_value : Value → List ℕ
 spell_value Nil = 0 ∷ []
-spell_value (Holds b) = if nat_le (length b) 32 then 1 ∷ length b ∷ flat_map spell_request b else no_value
+spell_value (Holds b) = 1 ∷ spell_batch b
 
 -- ---- reading
 
