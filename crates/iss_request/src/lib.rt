@@ -9,6 +9,7 @@ pub mod ids;
 pub mod requests;
 pub mod rows;
 pub mod setups;
+pub mod values;
 
 pub use bytes::Bytes;
 pub use fields::{Fields, Writer};
@@ -17,3 +18,6 @@ pub use ids::{Epoch, NodeId, ReqId, Slot};
 pub use requests::{Batch, Request, Value};
 pub use rows::Row;
 pub use setups::{Kind, Nodes, Policy, Setup, quorum};
+pub use values::{
+    decode_value, digest_of, encode_value, read_request, read_value, write_request, write_value,
+};

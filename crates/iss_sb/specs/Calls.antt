@@ -2,7 +2,6 @@
 use Rattle.std.specs.Prelude.{◌≡◌, ◌≢◌, ℕ, suc, ◌+◌, ◌<◌, ◌≤◌, ◌++◌, List, [], ◌∷◌, length, Option, Some, None, ◌↔◌, Bool, true, false, IfSome, Result, Ok, Err}
 use Rattle.std.specs.Borrow.{Bor}
 use Rattle.iss_base.specs.Lists.{In}
-use Rattle.iss_request.specs.Fields.{Reading, Parsed, Good, Bad, left}
 use Rattle.iss_request.specs.Setup.{IsGoodSetup}
 use Rattle.iss_request.specs.declared.ids.Slot.{Slot}
 use Rattle.iss_request.specs.declared.requests.Batch.{Batch}
@@ -114,14 +113,3 @@ IsStep m stands p old new i false before later (Err NoMemory) = Unit {0}
 abbrev pub named : Option (Slot × Bor Batch) → Option (Slot × Batch)
 named None = None
 named (Some x) = Some (x.0, x.1.now)
-
--- what was read: the thing at the front, and the reader stands behind it
-pub record IsRead {A : Type 0} (parse : List ℕ → Parsed A) (before later : Reading) (thing : A) : Type 0 where
-  pub found : parse (left before) ≡ Good thing (left later)
-  pub same : later.all ≡ before.all
-
--- why nothing was read: `at` is the offset of the first field that does not fit
-pub record IsUnreadable {A : Type 0} (parse : List ℕ → Parsed A) (before : Reading) (at : ℕ) : Type 0 where
-  pub after : ℕ
-  pub found : parse (left before) ≡ Bad after
-  pub field : at ≡ before.at + after

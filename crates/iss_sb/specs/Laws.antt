@@ -1,8 +1,7 @@
 -- The properties of a broadcast, and the laws of a module.
-use Rattle.std.specs.Prelude.{◌≡◌, ℕ, ◌<◌, ◌≤◌, Bool, true, List, [], ◌∷◌, ◌++◌, Some, ◌⊎◌}
+use Rattle.std.specs.Prelude.{◌≡◌, ℕ, ◌<◌, ◌≤◌, Bool, true, List, [], ◌∷◌, ◌++◌, Some}
 use Rattle.std.specs.Int.{to_be_bytes, w64}
 use Rattle.iss_base.specs.Lists.{In}
-use Rattle.iss_request.specs.Fields.{Parsed, Good, IsBad}
 use Rattle.iss_request.specs.declared.ids.Slot.{Slot}
 use Rattle.iss_request.specs.declared.requests.Batch.{Batch}
 use Rattle.iss_request.specs.declared.requests.Value.{Value}
@@ -37,11 +36,6 @@ pub record IsSafe {M : Type 0} (m : Module M) : Type 0 where
   pub starts : (p : Params) → IsGoodParams m p → m.Inv p empty_world
   pub keeps : (p : Params) (w later : World M) → IsGoodParams m p → m.Inv p w → Move m p w later → Separate (IsString later) → m.Inv p later
   pub gives : (p : Params) (w : World M) → IsGoodParams m p → m.Inv p w → Separate (IsString w) → IsBroadcast m p w
-
--- a message has one spelling, and what has none is written as bytes that are no message's
-pub record IsGrammar {M : Type 0} (spell : M → List ℕ) (parse : List ℕ → Parsed M) : Type 0 where
-  pub only : (bytes rest : List ℕ) (msg : M) → parse bytes ≡ Good msg rest → bytes ≡ spell msg ++ rest
-  pub whole : (msg : M) → ((rest : List ℕ) → parse (spell msg ++ rest) ≡ Good msg rest) ⊎ ((rest : List ℕ) → IsBad (parse (spell msg ++ rest)))
 
 -- what each statement of a module begins with: the cluster, the epoch, the leader, the module
 abbrev pub statement_head : Params → ℕ → List ℕ
