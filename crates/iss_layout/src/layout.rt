@@ -102,7 +102,8 @@ impl Layout {
 
     /// The bucket of a request.
     pub fn bucket_of(&self, id: ReqId) -> u32
-        ensures { result ≡ bucket_of self.now id }
+        ensures value { result ≡ bucket_of self.now id }
+        ensures below { result < self.now.buckets }
     {
         ((id.client as u64 + id.number as u64) % self.buckets as u64) as u32
     }
