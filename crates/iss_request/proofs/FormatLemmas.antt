@@ -1,11 +1,10 @@
 -- Requests and values are read as they are spelled.
-use Rattle.std.proofs.Common.{◌≡◌, ℕ, zero, suc, ◌+◌, ◌*◌, ◌^◌, ◌<◌, ◌≤◌, Bool, true, false, cond, ltb, leb, ◌&&◌, List, [], ◌∷◌, ◌++◌, length, refl, sym, ap, subst, ◌∙◌, append_assoc, arith}
+use Rattle.std.proofs.Common.{◌≡◌, ℕ, ◌^◌, ◌<◌, ◌≤◌, Bool, true, false, ltb, ◌&&◌, List, [], ◌∷◌, ◌++◌, length, refl, sym, ap, subst, ◌∙◌, append_assoc}
 use Rattle.std.specs.Prelude.{Result, Ok, Err, OnOk}
 use Rattle.std.specs.List.{flat_map}
-use Rattle.std.specs.Int.{w16, w32, to_be_bytes}
 use Rattle.std.proofs.lemmas.Bool.{lt-ltb, le-leb, lt-leb}
-use Rattle.iss_request.specs.Fields.{Reading, Parsed, Good, Bad, IsRead, IsUnreadable}
-use Rattle.iss_request.specs.Parsing.{Parser, ◌>>=◌, done, such_that, byte}
+use Rattle.iss_request.specs.Fields.{Reading, IsRead, IsUnreadable}
+use Rattle.iss_request.specs.Parsing.{byte}
 use Rattle.iss_request.specs.Formats.{is_signature, is_request, request_bytes, no_request, no_batch, spell_request, spell_batch, spell_value, parse_batch, parse_rest, parse_value}
 use Rattle.iss_request.specs.declared.errors.NoMemory.{NoMemory}
 use Rattle.iss_request.specs.declared.requests.Request.{Request}

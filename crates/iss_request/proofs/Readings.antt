@@ -1,5 +1,5 @@
 -- Readers that go through their fields in order read what the parser of the whole reads.
-use Rattle.std.proofs.Common.{◌≡◌, ℕ, zero, suc, ◌+◌, ◌-◌, ◌*◌, ◌/◌, ◌^◌, ◌<◌, ◌≤◌, Bool, true, false, List, [], ◌∷◌, ◌++◌, length, drop, refl, sym, ap, subst, ◌∙◌, append_assoc, append-nil, arith, inl, inr}
+use Rattle.std.proofs.Common.{◌≡◌, ℕ, suc, ◌+◌, ◌-◌, ◌*◌, ◌/◌, ◌<◌, ◌≤◌, Bool, true, false, List, [], ◌∷◌, ◌++◌, length, refl, sym, ap, subst, ◌∙◌, append_assoc, append-nil, arith, inl, inr}
 use Rattle.std.specs.Int.{Width, byte_len, to_be_bytes}
 use Rattle.std.proofs.lemmas.Bool.{cases_lt}
 use Rattle.std.proofs.lemmas.List.{length-append, length-drop, nil_from_length}
@@ -7,7 +7,7 @@ use Rattle.std.specs.Prelude.{Result, Ok, Err, IsTrue, ◌↔◌}
 use Rattle.std.specs.Result.{IsErrAnd}
 use Rattle.iss_request.specs.declared.errors.DecodeError.{DecodeError}
 use Rattle.iss_request.specs.declared.errors.DecodeError.TheVariants.{BadField}
-use Rattle.iss_request.specs.Fields.{Reading, Parsed, Good, Bad, left, IsRead, IsUnreadable}
+use Rattle.iss_request.specs.Fields.{Reading, Good, Bad, left, IsRead, IsUnreadable}
 use Rattle.iss_request.specs.Parsing.{Parser, ◌>>=◌, done, such_that, byte, number, block, digests, times, at_end, all_of}
 use Rattle.iss_request.proofs.ParserLemmas
 

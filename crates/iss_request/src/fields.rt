@@ -53,9 +53,7 @@ impl<'a> Fields<'a> {
     pub fn bad_field(&self) -> DecodeError
         ensures { result ≡ DecodeError.BadField self.now.at }
     {
-        DecodeError::BadField {
-            at: self.at as u64,
-        }
+        DecodeError::BadField { at: self.at as u64 }
     }
 
     // The error that names the first field of 32 bytes that is cut off.

@@ -288,3 +288,10 @@ pub fn digest_of(value: &Value) -> [u8; 32]
     }
     hasher.finalize()
 }
+
+/// Each request and each value has at most one spelling, no spelling begins another one, and what has none is written
+/// as bytes that are read as nothing, whatever stands behind them.
+pub fn formats_are_exact()
+    ensures request { IsGrammar spell_request parse_request }
+    ensures value { IsGrammar spell_value parse_value }
+{}

@@ -1,49 +1,41 @@
-use Rattle.std.proofs.Common.{◌≡◌, ℕ, suc, ◌+◌, ◌-◌, ◌<◌, ◌≤◌, ◌∷◌, ◌++◌, List, arith, refl, sym, ap, subst, ◌∙◌, append_assoc, length, [], true, false}
-use Rattle.std.specs.Int.{w16, w32}
-use Rattle.std.specs.List.{flat_map}
-use Rattle.sha2.specs.Sha256.{sha256}
-use Rattle.sha2.specs.Hashers.{Holds256}
-use Rattle.std.proofs.lemmas.Bool.{le-leb, lt-leb}
-use Rattle.iss_request.specs.Parsing.{◌>>=◌, done, such_that, byte, number, block, digests, times}
-use Rattle.iss_request.specs.Formats.{is_height, parse_payload, parse_signature, parse_request, parse_batch, parse_rest, parse_value, is_signature, request_bytes, spell_request, spell_batch, spell_value}
-use Rattle.iss_request.proofs.FormatLemmas.{nil_read, batch_read, batch_unread, request_test, long_payload, request_spelled, request_unspelled, batch_unspelled, batch_spelled, nil_spelled, holds_spelled, both_written, five_parts}
-use Rattle.iss_request.proofs.Readings.{exit, named, read_then, unread_first, unread_then, read_done, read_passed, unread_failed, unread_tested, continues_start, continues_next, continues_bad, continues_end, unread_whole, unread_end, read_whole}
+use Rattle.iss_request.specs.Formats.{parse_request}
+use Rattle.iss_request.proofs.Readings.{exit, read_then, unread_first, unread_then, read_done}
 use Rattle.iss_request.proofs.values.read_request.Goals as goal
 
 pub returns-in_err-client-clause-bad : goal.returns-in_err-client-clause-bad
 unfolding parse_request
 returns-in_err-client-clause-bad c =
     exit c.from_residual.result _ _ c.from_residual.ensures.1 (λ at e.
-      unread_first _ _ (c.in_err-client.ensures.bad at e))
+    unread_first _ _ (c.in_err-client.ensures.bad at e))
 
 pub returns-in_err-number-clause-bad : goal.returns-in_err-number-clause-bad
 unfolding parse_request
 returns-in_err-number-clause-bad c =
     exit c.from_residual-in_err-number.result _ _ c.from_residual-in_err-number.ensures.1 (λ at e.
-      unread_then _ _ c.in_ok-client.ensures.ok
-        (unread_first _ _ (c.in_err-number.ensures.bad at e)))
+    unread_then _ _ c.in_ok-client.ensures.ok
+    (unread_first _ _ (c.in_err-number.ensures.bad at e)))
 
 pub returns-in_err-payload-clause-bad : goal.returns-in_err-payload-clause-bad
 unfolding parse_request
 returns-in_err-payload-clause-bad c =
     exit c.from_residual-in_err-payload.result _ _ c.from_residual-in_err-payload.ensures.1 (λ at e.
-      unread_then _ _ c.in_ok-client.ensures.ok
-        (unread_then _ _ c.in_ok-number.ensures.ok
-        (unread_first _ _ (c.in_err-payload.ensures.bad at e))))
+    unread_then _ _ c.in_ok-client.ensures.ok
+    (unread_then _ _ c.in_ok-number.ensures.ok
+    (unread_first _ _ (c.in_err-payload.ensures.bad at e))))
 
 pub returns-in_err-sig-clause-bad : goal.returns-in_err-sig-clause-bad
 unfolding parse_request
 returns-in_err-sig-clause-bad c =
     exit c.from_residual-in_err-sig.result _ _ c.from_residual-in_err-sig.ensures.1 (λ at e.
-      unread_then _ _ c.in_ok-client.ensures.ok
-        (unread_then _ _ c.in_ok-number.ensures.ok
-        (unread_then _ _ c.in_ok-payload.ensures.ok
-        (unread_first _ _ (c.in_err-sig.ensures.bad at e)))))
+    unread_then _ _ c.in_ok-client.ensures.ok
+    (unread_then _ _ c.in_ok-number.ensures.ok
+    (unread_then _ _ c.in_ok-payload.ensures.ok
+    (unread_first _ _ (c.in_err-sig.ensures.bad at e)))))
 
 pub returns-clause-ok : goal.returns-clause-ok
 unfolding parse_request
 returns-clause-ok c =
     read_then _ _ c.in_ok-client.ensures.ok
-      (read_then _ _ c.in_ok-number.ensures.ok
-      (read_then _ _ c.in_ok-payload.ensures.ok
-      (read_then _ _ c.in_ok-sig.ensures.ok (read_done _ _))))
+    (read_then _ _ c.in_ok-number.ensures.ok
+    (read_then _ _ c.in_ok-payload.ensures.ok
+    (read_then _ _ c.in_ok-sig.ensures.ok (read_done _ _))))

@@ -1,8 +1,8 @@
 use Rattle.std.proofs.Common.{◌^◌, arith}
-use Rattle.std.specs.Int.{w16, w32, w64}
-use Rattle.iss_request.proofs.ParserLemmas.{wide16, wide32, wide64}
-use Rattle.iss_request.proofs.Readings.{named, byte_read, byte_unread, number_read, number_unread, block_read, block_unread, digests_read, digests_unread}
-use Rattle.iss_request.specs.Parsing.{byte, number, block, digests}
+use Rattle.std.specs.Int.{w16}
+use Rattle.iss_request.proofs.ParserLemmas.{wide16}
+use Rattle.iss_request.proofs.Readings.{named, number_read, number_unread}
+use Rattle.iss_request.specs.Parsing.{number}
 use Rattle.iss_request.proofs.fields.Fields.read_u16.Goals as goal
 
 pub returns-in-Some-clause-ok : goal.returns-in-Some-clause-ok
