@@ -5,7 +5,7 @@
 --
 -- A module's message is from a node, in the instance of a node. A vote, an ask and a piece are from a node, and
 -- have leader 0. A request is from nobody: 255, epoch 0, leader 0.
-use Rattle.std.specs.Prelude.{ℕ, ◌+◌, ◌^◌, List, [], ◌∷◌, ◌++◌, length, Bool, nat_le, nat_lt, ◌==◌, ◌&&◌, if◌then◌else◌}
+use Rattle.std.specs.Prelude.{ℕ, ◌^◌, List, [], ◌∷◌, ◌++◌, length, Bool, nat_le, nat_lt, ◌==◌, ◌&&◌, if◌then◌else◌}
 use Rattle.std.specs.Int.{w32, w64, to_be_bytes}
 use Rattle.iss_request.specs.Parsing.{Parser, ◌>>=◌, done, such_that, byte, number, block}
 use Rattle.iss_packet.specs.declared.packets.Packet.{Packet}
@@ -43,14 +43,17 @@ is_routed n p = is_routed_as n p.kind p.from p.epoch.0 p.leader
 abbrev pub is_spellable : Packet → Bool
 is_spellable p = nat_lt p.epoch.0 (2 ^ 64) && nat_le (length p.body) 200000000
 
-abbrev pub packet_bytes : Packet → List ℕ
-packet_bytes p = 1 ∷ kind_byte p.kind ∷ p.from ∷ to_be_bytes w64 p.epoch.0 ++ p.leader ∷ to_be_bytes w32 (length p.body) ++ p.body
+abbrev pub route_bytes : Packet → List ℕ
+route_bytes p = 1 ∷ kind_byte p.kind ∷ p.from ∷ to_be_bytes w64 p.epoch.0 ++ p.leader ∷ []
+
+abbrev pub body_bytes : List ℕ → List ℕ
+body_bytes body = to_be_bytes w32 (length body) ++ body
 
 abbrev pub no_packet : List ℕ
 no_packet = 0 ∷ []
 
 unfoldable pub spell_packet : Packet → List ℕ
-spell_packet p = if is_spellable p then packet_bytes p else no_packet
+spell_packet p = if is_spellable p then route_bytes p ++ body_bytes p.body else no_packet
 
 -- ---- reading
 

@@ -3,4 +3,4 @@
 
 pub mod packets;
 
-pub use packets::{Packet, PacketError, PacketKind};
+pub use packets::{Packet, PacketError, PacketKind, packets_are_exact};

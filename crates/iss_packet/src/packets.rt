@@ -2,7 +2,7 @@
 ghost use Rattle.std.specs.Prelude.{◌≡◌, ℕ, [], ◌∷◌, ◌++◌, ◌≤◌, length, IfOk, OnOk, Err};
 ghost use Rattle.iss_request.specs.Fields.{IsRead, IsUnreadable, IsGrammar, IsBad, Good};
 ghost use Rattle.iss_request.specs.Parsing.{all_of};
-ghost use Rattle.iss_packet.specs.Packets.{is_routed, is_spellable, packet_bytes, spell_packet, parse_version, parse_kind, parse_size, parse_parts, parse_packet};
+ghost use Rattle.iss_packet.specs.Packets.{kind_byte, is_routed, is_spellable, route_bytes, body_bytes, spell_packet, parse_version, parse_kind, parse_size, parse_parts, parse_packet};
 
 use iss_request::{Bytes, DecodeError, Epoch, Fields, NoMemory, Writer};
 use std::alloc::Global;
@@ -11,11 +11,11 @@ use std::alloc::Global;
 /// piece, or a client's request.
 #[derive(Clone, Copy, Debug, PartialEq, Eq)]
 pub enum PacketKind {
-    Message = 1,
-    Vote = 2,
-    Ask = 3,
-    Piece = 4,
-    Request = 5,
+    Message,
+    Vote,
+    Ask,
+    Piece,
+    Request,
 }
 
 /// A packet. `from` is the sender, `leader` names the instance of a module's message. The body is not looked at here.
@@ -65,6 +65,21 @@ const VERSION: u8 = 1;
 
 // The most bytes of a body.
 const BODY_MAX: u32 = 200_000_000;
+
+// What stands for a packet that has no spelling.
+const NO_VERSION: u8 = 0;
+
+fn byte_of(kind: PacketKind) -> u8
+    ensures { result ≡ kind_byte kind }
+{
+    match kind {
+        PacketKind::Message => 1,
+        PacketKind::Vote => 2,
+        PacketKind::Ask => 3,
+        PacketKind::Piece => 4,
+        PacketKind::Request => 5,
+    }
+}
 
 fn read_version(f: &mut Fields) -> Result<u8, DecodeError>
     ensures ok { IfOk result (λ v. IsRead parse_version f.old f.new v) }
@@ -135,6 +150,7 @@ fn read_parts(alloc: Global, f: &mut Fields) -> Result<Packet, DecodeError>
 
 impl Packet {
     // Whether the kind fits the sender, the epoch and the leader in a cluster of n nodes.
+    #[tactic(auto, unfolding(crate::specs::Packets::is_routed))]
     fn has_route(&self, n: u32) -> bool
         ensures { result ≡ is_routed n self.now }
     {
@@ -166,34 +182,56 @@ impl Packet {
     fn has_spelling(&self) -> bool
         ensures { result ≡ is_spellable self.now }
     {
-        let _epoch = self.epoch;
+        // Its range is part of the answer.
+        let _epoch = self.epoch.0;
         self.body.len() <= BODY_MAX as usize
     }
 
-    fn put_parts(&self, out: &mut Writer) -> Result<(), NoMemory>
-        requires { length self.now.body ≤ 200000000 }
-        ensures { OnOk result (out.new ≡ out.old ++ packet_bytes self.now) }
+    // The fields before the body's length.
+    fn put_route(&self, out: &mut Writer) -> Result<(), NoMemory>
+        ensures { OnOk result (out.new ≡ out.old ++ route_bytes self.now) }
     {
         out.put_u8(VERSION)?;
-        out.put_u8(self.kind as u8)?;
+        out.put_u8(byte_of(self.kind))?;
         out.put_u8(self.from)?;
         out.put_u64(self.epoch.0)?;
         out.put_u8(self.leader)?;
+        Ok(())
+    }
+
+    fn put_body(&self, out: &mut Writer) -> Result<(), NoMemory>
+        requires { length self.now.body ≤ 200000000 }
+        ensures { OnOk result (out.new ≡ out.old ++ body_bytes self.now.body) }
+    {
         out.put_u32(self.body.len() as u32)?;
         out.put_bytes(self.body.as_slice())?;
         Ok(())
     }
 
-    /// The packet's bytes. One whose body is too long has no spelling, and gives bytes that are no packet's.
+    fn write(&self, out: &mut Writer) -> Result<(), NoMemory>
+        ensures { OnOk result (out.new ≡ out.old ++ spell_packet self.now) }
+    {
+        if self.has_spelling() {
+            self.put_route(out)?;
+            self.put_body(out)
+        } else {
+            out.put_u8(NO_VERSION)
+        }
+    }
+
+    /// The packet's bytes. One whose body is longer than 200,000,000 bytes has no spelling, and gives bytes that are
+    /// no packet's.
     pub fn encode(&self, alloc: Global) -> Result<Bytes, NoMemory>
         ensures { IfOk result (λ bytes. bytes ≡ spell_packet self.now) }
     {
         let mut out = Writer::new(alloc);
-        if self.has_spelling() {
-            self.put_parts(&mut out)?;
-        } else {
-            out.put_u8(0)?;
-        }
+        self.write(&mut out)?;
         Ok(out.into_bytes())
     }
 }
+
+/// In a cluster of any size a packet has at most one spelling, no spelling begins another one, and what has none is
+/// written as bytes that are read as nothing, whatever stands behind them.
+pub fn packets_are_exact()
+    ensures { (n : ℕ) → IsGrammar spell_packet (parse_packet n) }
+{}
