@@ -1,5 +1,7 @@
+pub mod Cluster
 pub mod Judge
 pub mod Node
+pub mod Ordered
 pub mod Past
 pub mod Rules
 pub mod Run
