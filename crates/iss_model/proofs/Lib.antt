@@ -6,3 +6,6 @@ pub mod Judged
 pub mod Steps
 pub mod Cuts
 pub mod Casts
+pub mod Good
+pub mod Kept
+pub mod Agree
