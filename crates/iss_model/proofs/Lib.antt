@@ -9,3 +9,5 @@ pub mod Casts
 pub mod Good
 pub mod Kept
 pub mod Agree
+pub mod Once
+pub mod Chains
