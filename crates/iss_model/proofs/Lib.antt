@@ -11,3 +11,4 @@ pub mod Kept
 pub mod Agree
 pub mod Once
 pub mod Chains
+pub mod Moves
