@@ -12,3 +12,6 @@ pub mod Agree
 pub mod Once
 pub mod Chains
 pub mod Moves
+pub mod Ends
+pub mod Adopts
+pub mod Reached
