@@ -55,7 +55,7 @@ module _ {Msg : Type 0} (s : Setup) (S : Scheme) (R : Rules) (M : Module Msg) (s
   same : voted.log ≡ whole
   same = chain-injective S chained w.strings sep (ad.quiet.strings [] g.root) voted.log whole voted.spelled ad.piece_spelled (λ x h. ad.quiet.strings x (voted.hashed x h)) ad.piece_hashed (sym voted.chained ∙ ad.chained)
 
-  whole_true : IsTrueLog s R M v whole
+  whole_true : IsTrueLog s R M v.pasts whole
   whole_true = rw same at voted.is
 
   -- where the epoch starts, and its log before
@@ -80,8 +80,8 @@ module _ {Msg : Type 0} (s : Setup) (S : Scheme) (R : Rules) (M : Module Msg) (s
   piece_true : (k : ℕ) (x : Value) → nth piece.values k ≡ Some x → IsTrue s R M v piece.epoch k x
   piece_true k x n =
       let r = over-at piece.values start_log k x n in
-      let h2 : Chain (Backed s R M v) (r.1.0 ++ (x ∷ r.0)) = rw r.1.1 at whole_true in
-      let z = chain-part (Backed s R M v) r.1.0 x r.0 h2 in
+      let h2 : Chain (Backed s R M v.pasts) (r.1.0 ++ (x ∷ r.0)) = rw r.1.1 at whole_true in
+      let z = chain-part (Backed s R M v.pasts) r.1.0 x r.0 h2 in
       let e = in_epoch r.0 r.3 (omega (arith, nth-below piece.values k x n, r.2)) in
       record { older = r.0; epoch = e.1; place = omega (arith, e.0, r.2); log = z.0; is = z.1 }
 

@@ -31,13 +31,13 @@ turned-later R c pieces h = record { epoch = omega arith; here = λ l. ([], refl
 
 -- messages, claims and strings where evidence stays
 module _ {Msg : Type 0} (s : Setup) (S : Scheme) (R : Rules) (M : Module Msg) (v w : Cluster Msg) (g : Good s R M v S) (later : (j : ℕ) → is_correct s j ≡ true → Later R (v.pasts j) (w.pasts j)) (quiet : Quiet s M v w) (same : (j e l : ℕ) → is_correct s j ≡ true → (w.pasts j).evidence e l ≡ (v.pasts j).evidence e l) where
-  pub sent-quiet : M.stopping ≡ true → (k : Message Msg) → In k w.messages → IsSent (world_of s w k.epoch k.leader) k.from k.to k.msg
+  pub sent-quiet : M.stopping ≡ true → (k : Message Msg) → In k w.messages → IsSent (world_of s w.pasts k.epoch k.leader) k.from k.to k.msg
   sent-quiet st k h = sent-later s S R M v w g later quiet.strings k.epoch k.leader k.from k.to k.msg (g.sent st k (quiet.messages st k h))
 
   pub signed-quiet : (x : Signed) (e l : ℕ) → In x w.book → Names s M e l x.statement → IsClaimed s R M w x e l
   signed-quiet x e l h t = claimed-later s S R M v w g later quiet.strings x e l (g.signed x e l (quiet.book x e l h t) t)
 
-  pub strings-quiet : (e l : ℕ) (x : List ℕ) → IsHashed (world_of s w e l) x → In x w.strings
+  pub strings-quiet : (e l : ℕ) (x : List ℕ) → IsHashed (world_of s w.pasts e l) x → In x w.strings
   strings-quiet e l x h = quiet.strings x (g.strings e l x (subst (λ (y : World Msg). IsHashed y x) (world-same s v w e l (λ j ok. same j e l ok)) h))
 
 pub good-rested : {Msg : Type 0} (s : Setup) (S : Scheme) (R : Rules) (M : Module Msg) (v w : Cluster Msg) → Good s R M v S → Rested s M v w → Good s R M w S
@@ -60,7 +60,7 @@ good-rested s S R M v w g rs =
     }
 
 -- a world in which no correct node has evidence
-pub empty-world : {Msg : Type 0} (s : Setup) (w : Cluster Msg) (e l : ℕ) → ((j : ℕ) → is_correct s j ≡ true → (w.pasts j).evidence e l ≡ []) → world_of s w e l ≡ empty_world
+pub empty-world : {Msg : Type 0} (s : Setup) (w : Cluster Msg) (e l : ℕ) → ((j : ℕ) → is_correct s j ≡ true → (w.pasts j).evidence e l ≡ []) → world_of s w.pasts e l ≡ empty_world
 empty-world s w e l h = fun_ext (λ j. go j (is_correct s j) refl)
   where
     go : (j : ℕ) (b : Bool) → is_correct s j ≡ b → cond b ((w.pasts j).evidence e l) [] ≡ []
@@ -131,10 +131,10 @@ module _ {Msg : Type 0} (s : Setup) (S : Scheme) (R : Rules) (M : Module Msg) (s
   same_before : (d : ℕ) → d ≤ c.epoch → before R M i t d ≡ before R M i c d
   same_before d le = before-later R M i c t d turned_later (far-start s S R M safe sound v sep_v g i ok d le)
 
-  turned_true : IsTrueLog s R M v (log_of R M i t)
+  turned_true : IsTrueLog s R M v.pasts (log_of R M i t)
   turned_true = log-true s S R M safe sound v sep_v g i ok t turned_later (λ e l. refl) (λ e k x h. (pieces_true e k x h).1) (log_of R M i t) (log-chain R M i t)
 
-  inv_new : (k : ℕ) → R.leads (before R M i t (suc c.epoch)) (suc c.epoch) k ≡ true → IsReached M (R.params (before R M i t (suc c.epoch)) (suc c.epoch) k) (world_of s v (suc c.epoch) k)
+  inv_new : (k : ℕ) → R.leads (before R M i t (suc c.epoch)) (suc c.epoch) k ≡ true → IsReached M (R.params (before R M i t (suc c.epoch)) (suc c.epoch) k) (world_of s v.pasts (suc c.epoch) k)
   inv_new k lead = elim (in_epoch s v (suc c.epoch)) [
     | inl x ↦
         let same : before R M x.0 (v.pasts x.0) (suc c.epoch) ≡ before R M i t (suc c.epoch) = before-true s S R M safe sound v sep_v g x.0 x.1 (suc c.epoch) x.2 (log_of R M i t) turned_true far in
@@ -148,7 +148,7 @@ module _ {Msg : Type 0} (s : Setup) (S : Scheme) (R : Rules) (M : Module Msg) (s
   pub good-turned : Good s R M w S
   good-turned = record {
     reached = by_node (λ j x. is_correct s j ≡ true → start_of R (log_of R M j x) x.epoch ≤ length (log_of R M j x)) (λ _. far) (λ j ne okj. g.reached j okj);
-    inv = λ j d k. rw (world-same s v w d k (λ j okj. same_evidence j d k okj)) (by_node (λ j x. is_correct s j ≡ true → d ≤ x.epoch → R.leads (before R M j x d) d k ≡ true → IsReached M (R.params (before R M j x d) d k) (world_of s v d k))
+    inv = λ j d k. rw (world-same s v w d k (λ j okj. same_evidence j d k okj)) (by_node (λ j x. is_correct s j ≡ true → d ≤ x.epoch → R.leads (before R M j x d) d k ≡ true → IsReached M (R.params (before R M j x d) d k) (world_of s v.pasts d k))
         (λ _ le lead. elim (leb_tells d c.epoch) [
           | inl y ↦ rw (same_before d y.1) (g.inv i d k ok y.1 (rw (same_before d y.1) at lead))
           | inr y ↦ let q : d ≡ suc c.epoch = omega (arith, le, y.1) in rw q (inv_new k (rw q at lead))
@@ -198,7 +198,7 @@ good-ended s S R M safe sound v w exact sep g i en =
           record {
             log = ended_log R M i c;
             whole = rw same.0 (start-cut R (log_of R M i c) (suc c.epoch) here_far);
-            is = chain-oldest (Backed s R M v) (start_of R (log_of R M i c) (suc c.epoch)) (log_of R M i c) (own-true s S R M safe sound v sep_v g i en.correct);
+            is = chain-oldest (Backed s R M v.pasts) (start_of R (log_of R M i c) (suc c.epoch)) (log_of R M i c) (own-true s S R M safe sound v sep_v g i en.correct);
             chained = same.1;
             number = same.2;
             hashed = λ y k. g.hashed i en.correct y (strings-oldest S (start_of R (log_of R M i c) (suc c.epoch)) (log_of R M i c) y k);

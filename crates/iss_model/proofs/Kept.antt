@@ -14,7 +14,7 @@ use Rattle.iss_model.proofs.Good.{Good, IsClaimed, IsTrue, Voted}
 use Rattle.iss_model.proofs.Logs.{Later, Settled, before-later, delivered-later, evidence-later, log-later}
 
 -- worlds with the same evidence are the same
-pub world-same : {Msg : Type 0} (s : Setup) (v w : Cluster Msg) (e l : ℕ) → ((j : ℕ) → is_correct s j ≡ true → (w.pasts j).evidence e l ≡ (v.pasts j).evidence e l) → world_of s w e l ≡ world_of s v e l
+pub world-same : {Msg : Type 0} (s : Setup) (v w : Cluster Msg) (e l : ℕ) → ((j : ℕ) → is_correct s j ≡ true → (w.pasts j).evidence e l ≡ (v.pasts j).evidence e l) → world_of s w.pasts e l ≡ world_of s v.pasts e l
 world-same s v w e l h = fun_ext (λ j. go j (is_correct s j) refl)
   where
     go : (j : ℕ) (b : Bool) → is_correct s j ≡ b → cond b ((w.pasts j).evidence e l) [] ≡ cond b ((v.pasts j).evidence e l) []
@@ -42,7 +42,7 @@ module _ {Msg : Type 0} (s : Setup) (S : Scheme) (R : Rules) (M : Module Msg) (v
   pub reached-later : (j d : ℕ) → is_correct s j ≡ true → d ≤ (v.pasts j).epoch → start_of R (log_of R M j (w.pasts j)) d ≤ length (log_of R M j (w.pasts j))
   reached-later j d ok le = rw (starts j d ok le) (length-later j (start_of R (log_of R M j (v.pasts j)) d) ok (reached-far j d ok le))
 
-  pub backed-later : (older : List Value) (x : Value) → Backed s R M v older x → Backed s R M w older x
+  pub backed-later : (older : List Value) (x : Value) → Backed s R M v.pasts older x → Backed s R M w.pasts older x
   backed-later older x b = record {
     node = b.node;
     correct = b.correct;
@@ -51,8 +51,8 @@ module _ {Msg : Type 0} (s : Setup) (S : Scheme) (R : Rules) (M : Module Msg) (v
     is = delivered-later R M (params_at R older) b.node (v.pasts b.node) (w.pasts b.node) (later b.node b.correct) (epoch_at R older) (leader_at R older) (length older) x b.is;
   }
 
-  pub true-later : (xs : List Value) → IsTrueLog s R M v xs → IsTrueLog s R M w xs
-  true-later = chain-map (Backed s R M v) (Backed s R M w) backed-later
+  pub true-later : (xs : List Value) → IsTrueLog s R M v.pasts xs → IsTrueLog s R M w.pasts xs
+  true-later = chain-map (Backed s R M v.pasts) (Backed s R M w.pasts) backed-later
 
   pub is_true-later : (e k : ℕ) (x : Value) → IsTrue s R M v e k x → IsTrue s R M w e k x
   is_true-later e k x h = record { older = h.older; epoch = h.epoch; place = h.place; log = true-later h.older h.log; is = backed-later h.older x h.is }
@@ -64,14 +64,14 @@ module _ {Msg : Type 0} (s : Setup) (S : Scheme) (R : Rules) (M : Module Msg) (v
   adopted-later j e k x ok h = let a = g.adopted j e k x ok h in (lt_of_lt_of_le a.0 (later j ok).epoch, is_true-later e k x a.1)
 
   -- the worlds of instances grow
-  pub world-later : (e l j : ℕ) (item : Item Msg) → In item (world_of s v e l j) → In item (world_of s w e l j)
+  pub world-later : (e l j : ℕ) (item : Item Msg) → In item (world_of s v.pasts e l j) → In item (world_of s w.pasts e l j)
   world-later e l j item = go (is_correct s j) refl
     where
       go : (b : Bool) → is_correct s j ≡ b → In item (cond b ((v.pasts j).evidence e l) []) → In item (cond b ((w.pasts j).evidence e l) [])
       go true ok h = let x = evidence-later R (v.pasts j) (w.pasts j) (later j ok) e l in rw x.1 (in_right item x.0 ((v.pasts j).evidence e l) h)
       go false ok h = h
 
-  pub sent-later : (e l from to : ℕ) (msg : Msg) → IsSent (world_of s v e l) from to msg → IsSent (world_of s w e l) from to msg
+  pub sent-later : (e l from to : ℕ) (msg : Msg) → IsSent (world_of s v.pasts e l) from to msg → IsSent (world_of s w.pasts e l) from to msg
   sent-later e l from to msg h = record { item = h.item; taken = world-later e l from h.item h.taken; to = h.to; reaches = h.reaches; sent = h.sent }
 
   pub claimed-later : (x : Signed) (e l : ℕ) → IsClaimed s R M v x e l → IsClaimed s R M w x e l

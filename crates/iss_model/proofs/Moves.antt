@@ -68,23 +68,23 @@ module _ {Msg : Type 0} (s : Setup) (S : Scheme) (R : Rules) (M : Module Msg) (s
       subst (λ (t : Setup). Names t M e l c.statement) (sound.setup bf e l) (subst (λ (d : ℕ). Names p.setup M d l c.statement) (sound.epoch bf e l) (subst (λ (k : ℕ). Names p.setup M p.epoch.0 k c.statement) (sound.leader bf e l) n))
 
   -- a claim of the instance was signed in its world
-  claim_old : (x : Signed) → IsClaimed s R M v x e l → IsSigned M p (world_of s v e l) x.by x.statement
+  claim_old : (x : Signed) → IsClaimed s R M v x e l → IsSigned M p (world_of s v.pasts e l) x.by x.statement
   claim_old x h =
       let q : before R M h.node (v.pasts h.node) e ≡ bf = befores-agree s S R M safe sound v sep_v g h.node i h.correct mv.correct e h.begun (omega arith) in
       rw q at h.signed
 
-  arrives : (stops : Bool) → M.stopping ≡ stops → (from : ℕ) (msg : Msg) → MayGet stops s R M v i l from msg → MayArrive stops M p (world_of s v e l) i from msg
+  arrives : (stops : Bool) → M.stopping ≡ stops → (from : ℕ) (msg : Msg) → MayGet stops s R M v i l from msg → MayArrive stops M p (world_of s v.pasts e l) i from msg
   arrives true st from msg k = g.sent st (record { from = from; to = i; epoch = e; leader = l; msg = msg }) k
   arrives false st from msg k = λ c inside ok.
       let right : is_correct s c.by.0 ≡ true = subst (λ (t : Setup). is_correct t c.by.0 ≡ true) (sound.setup bf e l) ok in
       claim_old (record { by = c.by.0; statement = c.statement }) (g.signed (record { by = c.by.0; statement = c.statement }) e l (k c inside right) (claim_names from msg c inside))
 
-  may_come : (x : Input Msg) → MayTake s R M v i l x → MayCome M p (world_of s v e l) i x
+  may_come : (x : Input Msg) → MayTake s R M v i l x → MayCome M p (world_of s v.pasts e l) i x
   may_come (Cast slot b) h = h ∙ sym (sound.leader bf e l)
   may_come (Receive from msg) h = arrives M.stopping refl from.0 msg h
   may_come Timeout h = tt
 
-  the_move : Move M p (world_of s v e l) (world_of s w e l)
+  the_move : Move M p (world_of s v.pasts e l) (world_of s w.pasts e l)
   the_move = record {
     node = i;
     correct = correct-there s M R sound bf e l i mv.correct;
@@ -99,7 +99,7 @@ module _ {Msg : Type 0} (s : Setup) (S : Scheme) (R : Rules) (M : Module Msg) (s
   reached' j ok = subst (λ (n : ℕ). start_of R (log_of R M j (w.pasts j)) n ≤ length (log_of R M j (w.pasts j))) (sym (epochs j)) (reached-later s S R M v w g later mv.strings j (v.pasts j).epoch ok (omega arith))
 
   -- what a world has is old, or the item of the move
-  new_or_old : (d k j : ℕ) (x : Item Msg) → In x (world_of s w d k j) → In x (world_of s v d k j) ⊎ (x ≡ item)
+  new_or_old : (d k j : ℕ) (x : Item Msg) → In x (world_of s w.pasts d k j) → In x (world_of s v.pasts d k j) ⊎ (x ≡ item)
   new_or_old d k j x = go (is_correct s j)
     where
       old : (b : Bool) → (w.pasts j).evidence d k ≡ (v.pasts j).evidence d k → In x (cond b ((w.pasts j).evidence d k) []) → In x (cond b ((v.pasts j).evidence d k) []) ⊎ (x ≡ item)
@@ -118,16 +118,16 @@ module _ {Msg : Type 0} (s : Setup) (S : Scheme) (R : Rules) (M : Module Msg) (s
         ]
       ]
 
-  strings' : (d k : ℕ) (x : List ℕ) → IsHashed (world_of s w d k) x → In x w.strings
+  strings' : (d k : ℕ) (x : List ℕ) → IsHashed (world_of s w.pasts d k) x → In x w.strings
   strings' d k x h = elim (new_or_old d k h.node h.item h.taken) [
     | inl a ↦ mv.strings x (g.strings d k x (record { node = h.node; item = h.item; taken = a; hashed = h.hashed }))
     | inr q ↦ mv.fresh_strings x (rw q at h.hashed)
   ]
 
-  taken_i : In item (world_of s w e l i)
+  taken_i : In item (world_of s w.pasts e l i)
   taken_i = rw (world-at s w e l i mv.correct) (rw evidence_i (inl refl))
 
-  sent' : M.stopping ≡ true → (k : Message Msg) → In k w.messages → IsSent (world_of s w k.epoch k.leader) k.from k.to k.msg
+  sent' : M.stopping ≡ true → (k : Message Msg) → In k w.messages → IsSent (world_of s w.pasts k.epoch k.leader) k.from k.to k.msg
   sent' st k h = elim (mv.messages st k h) [
     | inl a ↦ rw (a.from, a.epoch, a.leader) (record { item = item; taken = taken_i; to = a.to; reaches = a.reaches; sent = a.sent })
     | inr b ↦ sent-later s S R M v w g later mv.strings k.epoch k.leader k.from k.to k.msg (g.sent st k b)
@@ -150,10 +150,10 @@ module _ {Msg : Type 0} (s : Setup) (S : Scheme) (R : Rules) (M : Module Msg) (s
     | inr b ↦ claimed-later s S R M v w g later mv.strings x d k (g.signed x d k b named)
   ]
 
-  inv_here : IsReached M p (world_of s w e l)
+  inv_here : IsReached M p (world_of s w.pasts e l)
   inv_here = after (g.inv i e l mv.correct (omega arith) mv.leads) the_move
 
-  inv' : (j d k : ℕ) → is_correct s j ≡ true → d ≤ (w.pasts j).epoch → R.leads (before R M j (w.pasts j) d) d k ≡ true → IsReached M (R.params (before R M j (w.pasts j) d) d k) (world_of s w d k)
+  inv' : (j d k : ℕ) → is_correct s j ≡ true → d ≤ (w.pasts j).epoch → R.leads (before R M j (w.pasts j) d) d k ≡ true → IsReached M (R.params (before R M j (w.pasts j) d) d k) (world_of s w.pasts d k)
   inv' j d k ok le lead =
       let le_v : d ≤ (v.pasts j).epoch = subst (λ (n : ℕ). d ≤ n) (epochs j) le in
       let bq : before R M j (w.pasts j) d ≡ before R M j (v.pasts j) d = befores_are j d ok le_v in
@@ -161,7 +161,7 @@ module _ {Msg : Type 0} (s : Setup) (S : Scheme) (R : Rules) (M : Module Msg) (s
       elim (same_pair d k e l) [
         | inl q ↦
             let same : before R M j (v.pasts j) e ≡ bf = befores-agree s S R M safe sound v sep_v g j i ok mv.correct e (subst (λ (n : ℕ). n ≤ (v.pasts j).epoch) q.0 le_v) (omega arith) in
-            rw bq (subst (λ (n : ℕ). IsReached M (R.params (before R M j (v.pasts j) d) d n) (world_of s w d n)) (sym q.1) (subst (λ (n : ℕ). IsReached M (R.params (before R M j (v.pasts j) n) n l) (world_of s w n l)) (sym q.0) (rw same inv_here)))
+            rw bq (subst (λ (n : ℕ). IsReached M (R.params (before R M j (v.pasts j) d) d n) (world_of s w.pasts d n)) (sym q.1) (subst (λ (n : ℕ). IsReached M (R.params (before R M j (v.pasts j) n) n l) (world_of s w.pasts n l)) (sym q.0) (rw same inv_here)))
         | inr ne ↦ rw (bq, world-same s v w d k (λ j ok. evidence_there j d k ne)) (g.inv j d k ok le_v lead_v)
       ]
 

@@ -35,8 +35,8 @@ module _ {Msg : Type 0} (s : Setup) (S : Scheme) (R : Rules) (M : Module Msg) (s
 
   -- a value of a true log
   pub record Stands (older : List Value) (v : Value) : Type 0 where
-    pub log : IsTrueLog s R M w older
-    pub is : Backed s R M w older v
+    pub log : IsTrueLog s R M w.pasts older
+    pub is : Backed s R M w.pasts older v
 
   -- a node accepted the batches of two slots
   pub record Taken (older : List Value) (m n : Slot) (b c : Batch) : Type 0 where
@@ -59,7 +59,7 @@ module _ {Msg : Type 0} (s : Setup) (S : Scheme) (R : Rules) (M : Module Msg) (s
       let i = st.is.node in
       let db = in-world s S R M safe sound w sep g older i st.is.correct (length older) (Holds b) st.is.is in
       let dc = in-world s S R M safe sound w sep g older j okj n.0 (Holds c) h in
-      let sh : SharedAcceptor (params_at R older) (world_of s w e l) (at older) b n c = (placed s S R M safe sound w sep g older (Holds b) st.is).shared i j (at older) n b c (right s S R M safe sound w sep g older i st.is.correct) (right s S R M safe sound w sep g older j okj) db dc in
+      let sh : SharedAcceptor (params_at R older) (world_of s w.pasts e l) (at older) b n c = (placed s S R M safe sound w sep g older (Holds b) st.is).shared i j (at older) n b c (right s S R M safe sound w sep g older i st.is.correct) (right s S R M safe sound w sep g older j okj) db dc in
       let ok : is_correct s sh.node ≡ true = left_over older sh.node sh.correct in
       let first : In {A = Slot × Batch} (at older, b) (accepts ((w.pasts sh.node).evidence e l)) = rw (world-at s w e l sh.node ok) at sh.first in
       let second : In {A = Slot × Batch} (n, c) (accepts ((w.pasts sh.node).evidence e l)) = rw (world-at s w e l sh.node ok) at sh.second in
@@ -94,7 +94,7 @@ module _ {Msg : Type 0} (s : Setup) (S : Scheme) (R : Rules) (M : Module Msg) (s
     pub within : In z (ids batch)
     pub part : Extends (Holds batch ∷ older) log
 
-  pub find : (z : ReqId) (log : List Value) → IsTrueLog s R M w log → In z (log_ids log) → Found z log
+  pub find : (z : ReqId) (log : List Value) → IsTrueLog s R M w.pasts log → In z (log_ids log) → Found z log
   find z [] h k = absurd k
   find z (Nil ∷ older) h k =
       let f : Found z older = find z older h.0 k in
@@ -139,7 +139,7 @@ module _ {Msg : Type 0} (s : Setup) (S : Scheme) (R : Rules) (M : Module Msg) (s
             unordered-of R (before_at R older) (epoch_at R older) (leader_at R older) vb.marked b vb.is z zb (in-before (start_of R older (epoch_at R older)) (Holds f.batch ∷ f.older) older z f.part below (in_left z (ids f.batch) (log_ids f.older) f.within))
       ]
 
-  pub once : (log : List Value) → IsTrueLog s R M w log → Once log
+  pub once : (log : List Value) → IsTrueLog s R M w.pasts log → Once log
   once [] h = tt
   once (Nil ∷ older) h = once older h.0
   once (Holds b ∷ older) h =

@@ -36,21 +36,21 @@ module _ {Msg : Type 0} (s : Setup) (S : Scheme) (R : Rules) (M : Module Msg) (s
   good-reach w exact sep (adopt {v} i piece cert r ad) = good-adopted s S R M safe sound v w exact sep (good-reach v (exact-part s S M v w ad.quiet.old_book exact) (separate-part (Among w.strings) (Among v.strings) ad.quiet.strings sep) r) i piece cert ad
   good-reach w exact sep (rest {v} r rs) = good-rested s S R M v w (good-reach v (exact-part s S M v w rs.quiet.old_book exact) (separate-part (Among w.strings) (Among v.strings) rs.quiet.strings sep) r) rs
 
-  pub ordered : (w : Cluster Msg) → Separate (Among w.strings) → Good s R M w S → Ordered s R M w
+  pub ordered : (w : Cluster Msg) → Separate (Among w.strings) → Good s R M w S → Ordered s R M w.pasts
   ordered w sep g = record {
     one = λ i j oki okj.
         let a = log_of R M i (w.pasts i) in
         let b = log_of R M j (w.pasts j) in
-        let la : IsTrueLog s R M w a = own-true s S R M safe sound w sep g i oki in
-        let lb : IsTrueLog s R M w b = own-true s S R M safe sound w sep g j okj in
+        let la : IsTrueLog s R M w.pasts a = own-true s S R M safe sound w sep g i oki in
+        let lb : IsTrueLog s R M w.pasts b = own-true s S R M safe sound w sep g j okj in
         elim (leb_tells (length a) (length b)) [
           | inl t ↦ inl (true-meet s S R M safe sound w sep g a b la lb t.1)
           | inr t ↦ inr (true-meet s S R M safe sound w sep g b a lb la (omega (arith, t.1)))
         ];
     once = λ i ok. once s S R M safe sound w sep g (log_of R M i (w.pasts i)) (own-true s S R M safe sound w sep g i ok);
     valid = λ i ok older b x.
-        let h : Chain (Backed s R M w) (x.0 ++ (Holds b ∷ older)) = rw x.1 at (own-true s S R M safe sound w sep g i ok) in
-        let k = chain-part (Backed s R M w) x.0 (Holds b) older h in
+        let h : Chain (Backed s R M w.pasts) (x.0 ++ (Holds b ∷ older)) = rw x.1 at (own-true s S R M safe sound w sep g i ok) in
+        let k = chain-part (Backed s R M w.pasts) x.0 (Holds b) older h in
         let y = valid s S R M safe sound w sep g older b (record { log = k.0; is = k.1 }) in
         record { node = y.node; correct = y.correct; held = y.held; start = y.start; marked = y.marked; judged = y.judged };
     instances = g.inv;
@@ -60,5 +60,5 @@ module _ {Msg : Type 0} (s : Setup) (S : Scheme) (R : Rules) (M : Module Msg) (s
         befores-agree s S R M safe sound w sep g i j oki okj (w.pasts i).epoch (omega arith) le ∙ ap (λ (n : ℕ). before R M j (w.pasts j) n) q;
   }
 
-  pub composition : (w : Cluster Msg) → IsExact s S M w → Separate (Among w.strings) → Reach s S R M w → Ordered s R M w
+  pub composition : (w : Cluster Msg) → IsExact s S M w → Separate (Among w.strings) → Reach s S R M w → Ordered s R M w.pasts
   composition w exact sep r = ordered w sep (good-reach w exact sep r)

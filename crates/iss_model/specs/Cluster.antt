@@ -70,20 +70,20 @@ abbrev pub Names : {Msg : Type 0} → Setup → Module Msg → ℕ → ℕ → L
 Names s M e l statement = (rest : List ℕ) × (statement ≡ instance_head s M e l ++ rest)
 
 -- the world of the instance of leader l in epoch e
-abbrev pub world_of : {Msg : Type 0} → Setup → Cluster Msg → ℕ → ℕ → World Msg
-world_of s w e l i = cond (is_correct s i) ((w.pasts i).evidence e l) []
+abbrev pub world_of : {Msg : Type 0} → Setup → (ℕ → Past Msg) → ℕ → ℕ → World Msg
+world_of s pasts e l i = cond (is_correct s i) ((pasts i).evidence e l) []
 
 -- a correct node delivered the value in the slot that follows these, and its own log before that epoch is theirs
-pub record Backed {Msg : Type 0} (s : Setup) (R : Rules) (M : Module Msg) (w : Cluster Msg) (older : List Value) (v : Value) : Type 0 where
+pub record Backed {Msg : Type 0} (s : Setup) (R : Rules) (M : Module Msg) (pasts : ℕ → Past Msg) (older : List Value) (v : Value) : Type 0 where
   pub node : ℕ
   pub correct : is_correct s node ≡ true
-  pub begun : epoch_at R older ≤ (w.pasts node).epoch
-  pub start : before R M node (w.pasts node) (epoch_at R older) ≡ before_at R older
-  pub is : delivered M (params_at R older) node ((w.pasts node).evidence (epoch_at R older) (leader_at R older)) (length older) ≡ Some v
+  pub begun : epoch_at R older ≤ (pasts node).epoch
+  pub start : before R M node (pasts node) (epoch_at R older) ≡ before_at R older
+  pub is : delivered M (params_at R older) node ((pasts node).evidence (epoch_at R older) (leader_at R older)) (length older) ≡ Some v
 
 -- each value of the log was delivered by a correct node
-abbrev pub IsTrueLog : {Msg : Type 0} → Setup → Rules → Module Msg → Cluster Msg → List Value → Type 0
-IsTrueLog s R M w = Chain (Backed s R M w)
+abbrev pub IsTrueLog : {Msg : Type 0} → Setup → Rules → Module Msg → (ℕ → Past Msg) → List Value → Type 0
+IsTrueLog s R M pasts = Chain (Backed s R M pasts)
 
 -- what a message may be that node i takes in the instance of l: where nodes only stop, one that was sent to it; else
 -- any, as long as what it claims of correct nodes is in the book

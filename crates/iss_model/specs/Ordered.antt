@@ -13,7 +13,7 @@ use Rattle.iss_sb.specs.Calls.{IsGoodParams}
 use Rattle.iss_sb.specs.Evidence.{IsReached, Module, accepts, is_correct}
 use Rattle.iss_model.specs.Cluster.{Cluster, IsTrueLog, Names, Scheme, Signed, world_of}
 use Rattle.iss_model.specs.Judge.{judge}
-use Rattle.iss_model.specs.Past.{before, before_at, epoch_at, leader_at, log_of}
+use Rattle.iss_model.specs.Past.{Past, before, before_at, epoch_at, leader_at, log_of}
 use Rattle.iss_model.specs.Rules.{Rules}
 
 -- what the rules of the log owe: epochs have slots, each slot's leader leads its epoch, and a leader's instance is
@@ -47,25 +47,25 @@ Among strings x = In x strings
 
 -- a correct node accepted the batch in the slot that follows these values: it judged it there, over what stands before
 -- the epoch and after some marks
-pub record WasAccepted {Msg : Type 0} (s : Setup) (R : Rules) (M : Module Msg) (w : Cluster Msg) (older : List Value) (b : Batch) : Type 0 where
+pub record WasAccepted {Msg : Type 0} (s : Setup) (R : Rules) (M : Module Msg) (pasts : ℕ → Past Msg) (older : List Value) (b : Batch) : Type 0 where
   pub node : ℕ
   pub correct : is_correct s node ≡ true
-  pub held : In {A = Slot × Batch} (record { 0 = length older }, b) (accepts ((w.pasts node).evidence (epoch_at R older) (leader_at R older)))
-  pub start : before R M node (w.pasts node) (epoch_at R older) ≡ before_at R older
+  pub held : In {A = Slot × Batch} (record { 0 = length older }, b) (accepts ((pasts node).evidence (epoch_at R older) (leader_at R older)))
+  pub start : before R M node (pasts node) (epoch_at R older) ≡ before_at R older
   pub marked : List ReqId
   pub judged : judge R (before_at R older) (epoch_at R older) (leader_at R older) marked b ≡ None
 
--- what a reader wants of a cluster
-pub record Ordered {Msg : Type 0} (s : Setup) (R : Rules) (M : Module Msg) (w : Cluster Msg) : Type 0 where
+-- what a reader wants of the nodes of a cluster
+pub record Ordered {Msg : Type 0} (s : Setup) (R : Rules) (M : Module Msg) (pasts : ℕ → Past Msg) : Type 0 where
   -- of two correct nodes' logs one is the beginning of the other
-  pub one : (i j : ℕ) → is_correct s i ≡ true → is_correct s j ≡ true → Extends (log_of R M i (w.pasts i)) (log_of R M j (w.pasts j)) ⊎ Extends (log_of R M j (w.pasts j)) (log_of R M i (w.pasts i))
+  pub one : (i j : ℕ) → is_correct s i ≡ true → is_correct s j ≡ true → Extends (log_of R M i (pasts i)) (log_of R M j (pasts j)) ⊎ Extends (log_of R M j (pasts j)) (log_of R M i (pasts i))
   -- no identity stands twice
-  pub once : (i : ℕ) → is_correct s i ≡ true → Once (log_of R M i (w.pasts i))
+  pub once : (i : ℕ) → is_correct s i ≡ true → Once (log_of R M i (pasts i))
   -- each batch was accepted by a correct node
-  pub valid : (i : ℕ) → is_correct s i ≡ true → (older : List Value) (b : Batch) → Extends (Holds b ∷ older) (log_of R M i (w.pasts i)) → WasAccepted s R M w older b
+  pub valid : (i : ℕ) → is_correct s i ≡ true → (older : List Value) (b : Batch) → Extends (Holds b ∷ older) (log_of R M i (pasts i)) → WasAccepted s R M pasts older b
   -- each instance is a world of its own, reached by its own moves
-  pub instances : (i e l : ℕ) → is_correct s i ≡ true → e ≤ (w.pasts i).epoch → R.leads (before R M i (w.pasts i) e) e l ≡ true → IsReached M (R.params (before R M i (w.pasts i) e) e l) (world_of s w e l)
+  pub instances : (i e l : ℕ) → is_correct s i ≡ true → e ≤ (pasts i).epoch → R.leads (before R M i (pasts i) e) e l ≡ true → IsReached M (R.params (before R M i (pasts i) e) e l) (world_of s pasts e l)
   -- each value, delivered or adopted, was delivered by a correct node in its instance
-  pub backed : (i : ℕ) → is_correct s i ≡ true → IsTrueLog s R M w (log_of R M i (w.pasts i))
+  pub backed : (i : ℕ) → is_correct s i ≡ true → IsTrueLog s R M pasts (log_of R M i (pasts i))
   -- nodes in one epoch have the same log before it
-  pub epochs : (i j : ℕ) → is_correct s i ≡ true → is_correct s j ≡ true → (w.pasts i).epoch ≡ (w.pasts j).epoch → before R M i (w.pasts i) (w.pasts i).epoch ≡ before R M j (w.pasts j) (w.pasts j).epoch
+  pub epochs : (i j : ℕ) → is_correct s i ≡ true → is_correct s j ≡ true → (pasts i).epoch ≡ (pasts j).epoch → before R M i (pasts i) (pasts i).epoch ≡ before R M j (pasts j) (pasts j).epoch

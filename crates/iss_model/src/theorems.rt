@@ -12,7 +12,7 @@ use iss_sb::Sequenced;
 /// instances, ends of epochs, and adopted epochs (ISS, whole protocol).
 pub fn composition<M: Sequenced>()
     ensures { (s : Setup) (S : Scheme) (R : Rules) → IsSoundRules s M.meaning R → (w : Cluster M.Msg) →
-        IsExact s S M.meaning w → Separate (Among w.strings) → Reach s S R M.meaning w → Ordered s R M.meaning w }
+        IsExact s S M.meaning w → Separate (Among w.strings) → Reach s S R M.meaning w → Ordered s R M.meaning w.pasts }
 {
     M::laws();
 }
