@@ -15,3 +15,5 @@ pub mod Moves
 pub mod Ends
 pub mod Adopts
 pub mod Reached
+pub mod Posts
+pub mod Simulation

@@ -5,5 +5,6 @@ pub mod Ordered
 pub mod Past
 pub mod Rules
 pub mod Run
+pub mod Runs
 pub mod Sound
 pub mod Concrete
