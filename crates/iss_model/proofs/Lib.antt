@@ -17,3 +17,4 @@ pub mod Adopts
 pub mod Reached
 pub mod Posts
 pub mod Simulation
+pub mod Printed
