@@ -18,3 +18,4 @@ pub mod Reached
 pub mod Posts
 pub mod Simulation
 pub mod Printed
+pub mod Layouts

@@ -1,6 +1,7 @@
 -- What is promised of every run of a module whose nodes only stop, and what it takes.
 use Rattle.std.specs.Prelude.{◌≡◌, ◌⊎◌, ℕ, ◌<◌, List, [], ◌∷◌, ◌++◌, Some, None, reverse}
 use Rattle.iss_base.specs.Lists.{In}
+use Rattle.iss_request.specs.Setup.{IsGoodSetup}
 use Rattle.iss_request.specs.declared.ids.NodeId.{NodeId}
 use Rattle.iss_request.specs.declared.requests.Request.{Request}
 use Rattle.iss_request.specs.declared.requests.Value.{Value}
@@ -11,6 +12,7 @@ use Rattle.iss_sb.specs.declared.effects.Input.{Input}
 use Rattle.iss_sb.specs.declared.effects.Params.{Params}
 use Rattle.iss_sb.specs.declared.effects.To.{To}
 use Rattle.iss_sb.specs.declared.effects.To.TheVariants.{One as To_one}
+use Rattle.iss_sb.specs.Calls.{kind_of}
 use Rattle.iss_sb.specs.Evidence.{IsString, Item, Module}
 use Rattle.iss_model.specs.Cluster.{world_of}
 use Rattle.iss_model.specs.Node.{Formats, OfModule, OfRequest, Parcel}
@@ -35,6 +37,14 @@ log_after s F R M events i = reverse (log_of R M i (pasts_of (net_after s F R M 
 
 abbrev pub IsPrefix : List Value → List Value → Type 0
 IsPrefix a b = (rest : List Value) × (b ≡ a ++ rest)
+
+-- a good set-up of the module
+pub record IsSetupOf {Msg : Type 0} (M : Module Msg) (s : Setup) : Type 0 where
+  pub good : IsGoodSetup s
+  pub tag : s.module ≡ M.tag
+  pub kind : s.kind ≡ kind_of M.stopping
+  pub nodes : s.n ≡ M.nodes s.f
+  pub majority : s.quorum ≡ M.quorum s.f
 
 -- what was written is read back, or is no packet
 abbrev pub IsReadBack : {Msg : Type 0} → Formats Msg → Parcel Msg → Type 0
