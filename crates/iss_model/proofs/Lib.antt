@@ -19,3 +19,4 @@ pub mod Posts
 pub mod Simulation
 pub mod Printed
 pub mod Layouts
+pub mod Example
