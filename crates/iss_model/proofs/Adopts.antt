@@ -1,7 +1,7 @@
 -- A piece under a certificate is the log of a correct signer.
-use Rattle.std.proofs.Common.{◌≡◌, inl, inr, ℕ, suc, ◌+◌, ◌-◌, ◌*◌, ◌≤◌, ◌<◌, Bool, true, false, cond, eqb, List, [], ◌∷◌, ◌++◌, length, Option, Some, None, refl, sym, ap, ap₂, ◌∙◌, subst, arith, suc-mul}
+use Rattle.std.proofs.Common.{◌≡◌, inl, inr, ℕ, suc, ◌+◌, ◌-◌, ◌*◌, ◌≤◌, ◌<◌, Bool, true, false, cond, eqb, List, [], ◌∷◌, ◌++◌, length, Some, None, refl, sym, ap, ap₂, ◌∙◌, subst, arith, suc-mul}
 use Rattle.std.proofs.lemmas.Bool.Decides.{leb_tells}
-use Rattle.iss_base.specs.Lists.{Chain, Extends, In, first_of, nth, oldest, over}
+use Rattle.iss_base.specs.Lists.{Chain, Extends, In, nth, oldest, over}
 use Rattle.iss_base.proofs.Lists.{chain-part, eqb-same, extends-length, extends-next, extends-trans, first-cases, first-some, is-eq, nth-below, nth-some, oldest-all, oldest-extends, oldest-part, over-at}
 use Rattle.iss_request.specs.declared.requests.Value.{Value}
 use Rattle.iss_request.specs.declared.setups.Setup.{Setup}

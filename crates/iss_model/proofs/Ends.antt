@@ -1,5 +1,5 @@
 -- The start, the end of an epoch, and rest keep the invariant.
-use Rattle.std.proofs.Common.{◌≡◌, ◌≢◌, ◌⊎◌, inl, inr, ℕ, suc, zero, ◌*◌, ◌≤◌, ◌<◌, Bool, true, false, cond, not, leb, ◌&&◌, List, [], ◌++◌, length, Some, refl, sym, ap, ◌∙◌, subst, ap₂, arith, le_trans, true≢false}
+use Rattle.std.proofs.Common.{◌≡◌, ◌≢◌, ◌⊎◌, inl, inr, ℕ, suc, zero, ◌≤◌, ◌<◌, Bool, true, false, cond, not, leb, ◌&&◌, List, [], ◌++◌, length, Some, refl, sym, ap, ◌∙◌, subst, ap₂, arith, le_trans, true≢false}
 use Rattle.std.proofs.lemmas.Bool.Decides.{leb_tells}
 use mathlib.Core.Path.{fun_ext}
 use Rattle.iss_base.specs.Lists.{Extends, In}

@@ -20,7 +20,6 @@ use Rattle.iss_sb.specs.Evidence.{Item, Made, Module}
 use Rattle.iss_base.specs.Lists.{first_of}
 use Rattle.iss_model.specs.Concrete.{rules_of}
 use Rattle.iss_model.specs.Node.{Body, Formats, OfModule, OfRequest, Parcel}
-use Rattle.iss_model.specs.Past.{log_of}
 use Rattle.iss_model.specs.Runs.{log_after}
 
 abbrev Word : Type 0

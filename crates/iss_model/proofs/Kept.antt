@@ -1,5 +1,5 @@
 -- What is true of a cluster stays true as its nodes go on.
-use Rattle.std.proofs.Common.{◌≡◌, ℕ, ◌≤◌, ◌<◌, Bool, true, false, cond, List, [], ◌∷◌, length, Some, refl, ◌∙◌, le_trans, lt_of_lt_of_le}
+use Rattle.std.proofs.Common.{◌≡◌, ℕ, ◌≤◌, ◌<◌, Bool, true, false, cond, List, [], length, Some, refl, ◌∙◌, le_trans, lt_of_lt_of_le}
 use mathlib.Core.Path.{fun_ext}
 use Rattle.iss_base.specs.Lists.{In}
 use Rattle.iss_base.proofs.Lists.{chain-map, extends-length, in_right}

@@ -1,9 +1,9 @@
 -- The rules of a good set-up are sound.
-use Rattle.std.proofs.Common.{◌≡◌, ◌⊎◌, inl, inr, ℕ, zero, suc, ◌+◌, ◌-◌, ◌*◌, ◌/◌, ◌%◌, ◌<◌, ◌≤◌, Bool, true, false, cond, eqb, ◌||◌, List, [], ◌∷◌, ◌++◌, length, Option, Some, None, filter, slice_get, refl, sym, ap, ◌∙◌, subst, arith, mod-eq_of_lt}
+use Rattle.std.proofs.Common.{◌≡◌, inl, inr, ℕ, zero, suc, ◌+◌, ◌-◌, ◌/◌, ◌%◌, ◌<◌, ◌≤◌, Bool, true, false, cond, eqb, ◌||◌, List, [], ◌∷◌, ◌++◌, length, Some, filter, slice_get, refl, sym, subst, arith, mod-eq_of_lt}
 use Rattle.std.specs.List.{list_any}
 use Rattle.iss_base.specs.Lists.{In}
 use Rattle.iss_base.proofs.Lists.{eqb-same}
-use Rattle.iss_request.specs.Setup.{AreRising, IsGoodSetup}
+use Rattle.iss_request.specs.Setup.{AreRising}
 use Rattle.iss_request.specs.declared.ids.NodeId.{NodeId}
 use Rattle.iss_request.specs.declared.ids.Slot.{Slot}
 use Rattle.iss_request.specs.declared.requests.Value.{Value}
@@ -14,7 +14,7 @@ use Rattle.iss_sb.specs.Calls.{AreAscending, IsGoodParams}
 use Rattle.iss_sb.specs.Evidence.{Module}
 use Rattle.iss_model.specs.Concrete.{number_of, rules_of}
 use Rattle.iss_model.specs.Ordered.{IsSoundRules}
-use Rattle.iss_model.specs.Past.{before_at, epoch_at}
+use Rattle.iss_model.specs.Past.{before_at}
 use Rattle.iss_model.specs.Runs.{IsSetupOf}
 use Rattle.iss_model.specs.Sound.{AreAllInside}
 

@@ -12,7 +12,7 @@ use Rattle.iss_sb.specs.declared.effects.Input.TheVariants.{Cast, Receive, Timeo
 use Rattle.iss_sb.specs.declared.effects.Params.{Params}
 use Rattle.iss_sb.specs.Evidence.{IsHashed, IsReached, IsSent, IsSigned, Item, Made, MayArrive, MayCome, Module, Move, Separate, accepts, after, and_then, is_correct, one_or_none}
 use Rattle.iss_sb.specs.Laws.{IsLawful, IsSafe}
-use Rattle.iss_model.specs.Cluster.{AllSpelled, Cluster, IsHashedLog, IsOwn, MayGet, MayTake, Message, Moved, Names, Scheme, Signed, instance_head, world_of}
+use Rattle.iss_model.specs.Cluster.{AllSpelled, Cluster, IsHashedLog, MayGet, MayTake, Message, Moved, Names, Scheme, Signed, world_of}
 use Rattle.iss_model.specs.Judge.{Judged}
 use Rattle.iss_model.specs.Ordered.{Among, IsExact, IsSoundRules}
 use Rattle.iss_model.specs.Past.{Past, adopted_at, asked_in, before, log_of, made_in, start_of, takes}

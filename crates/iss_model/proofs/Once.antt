@@ -1,8 +1,8 @@
 -- No identity stands twice in the log of a correct node, and each batch in it was accepted.
-use Rattle.std.proofs.Common.{◌≡◌, inl, inr, ℕ, suc, ◌≤◌, ◌<◌, true, List, [], ◌∷◌, ◌++◌, length, Some, None, refl, sym, ◌∙◌, subst, arith, append_assoc}
+use Rattle.std.proofs.Common.{◌≡◌, inl, inr, ℕ, suc, ◌≤◌, ◌<◌, true, List, [], ◌∷◌, ◌++◌, length, Some, None, sym, ◌∙◌, subst, arith, append_assoc}
 use Rattle.std.proofs.lemmas.Bool.Decides.{leb_tells}
 use Rattle.iss_base.specs.Lists.{Extends, In, oldest}
-use Rattle.iss_base.proofs.Lists.{different-append, extends-cons, extends-length, extends-refl, extends-tail, in_append, in_left, oldest-holds}
+use Rattle.iss_base.proofs.Lists.{different-append, extends-cons, extends-length, extends-refl, in_append, in_left, oldest-holds}
 use Rattle.iss_request.specs.Log.{Once, ids, log_ids}
 use Rattle.iss_request.specs.declared.ids.ReqId.{ReqId}
 use Rattle.iss_request.specs.declared.ids.Slot.{Slot}

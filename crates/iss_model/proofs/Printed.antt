@@ -1,7 +1,7 @@
 -- Logs in the order of their slots, over every run.
-use Rattle.std.proofs.Common.{◌≡◌, ◌⊎◌, inl, inr, ℕ, ◌<◌, true, List, [], ◌∷◌, ◌++◌, reverse, refl, sym, ap, ◌∙◌, subst}
+use Rattle.std.proofs.Common.{◌≡◌, ◌⊎◌, inl, inr, ℕ, true, List, [], ◌∷◌, ◌++◌, reverse, refl, sym, ap, ◌∙◌, subst}
 use Rattle.std.proofs.lemmas.List.{reverse-append}
-use Rattle.iss_base.specs.Lists.{Different, Extends, In}
+use Rattle.iss_base.specs.Lists.{Extends, In}
 use Rattle.iss_base.proofs.Lists.{different-append, different-apart, different-left, different-right, in_append, in_left, in_right}
 use Rattle.iss_request.specs.Log.{Once, log_ids, value_ids}
 use Rattle.iss_request.specs.declared.ids.ReqId.{ReqId}
@@ -20,7 +20,7 @@ use Rattle.iss_model.specs.Sound.{AreAllInside, IsSoundCore}
 use Rattle.iss_model.proofs.Agree.{separate-part}
 use Rattle.iss_model.proofs.Ids.{log_ids-append}
 use Rattle.iss_model.proofs.Reached.{composition}
-use Rattle.iss_model.proofs.Simulation.{Goes, Grows, NetOk, run-ok, start-ok, unvoted, unvoted-exact}
+use Rattle.iss_model.proofs.Simulation.{NetOk, run-ok, start-ok, unvoted, unvoted-exact}
 
 pub turned : (a b : List Value) → Extends a b → IsPrefix (reverse a) (reverse b)
 turned a b x = (reverse x.0, ap (λ (t : List Value). reverse t) x.1 ∙ reverse-append x.0 a)

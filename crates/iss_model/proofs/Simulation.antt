@@ -1,9 +1,9 @@
 -- A run of a module whose nodes only stop is a chain of moves of a cluster, in which nobody votes; and logs only grow.
-use Rattle.std.proofs.Common.{◌≡◌, ◌≢◌, ◌⊎◌, inl, inr, ℕ, zero, suc, ◌+◌, ◌<◌, Bool, true, false, cond, not, ◌&&◌, List, [], ◌∷◌, ◌++◌, length, Option, Some, None, refl, sym, ap, ◌∙◌, subst, arith, nat_lt, true≢false}
+use Rattle.std.proofs.Common.{◌≡◌, ◌≢◌, inl, inr, ℕ, zero, suc, ◌<◌, Bool, true, false, cond, not, List, [], ◌∷◌, ◌++◌, Option, Some, None, refl, sym, ap, ◌∙◌, subst, arith, nat_lt, true≢false}
 use Rattle.std.proofs.lemmas.Bool.Decides.{leb_tells}
-use Rattle.iss_base.specs.Lists.{Extends, In, below, nth, set_at}
+use Rattle.iss_base.specs.Lists.{Extends, In, nth, set_at}
 use Rattle.iss_base.proofs.Lists.{both, extends-refl, extends-trans, in_append, in_left, in_right, nth-in, same_or_not, set_at-other, set_at-same, set_at2-same}
-use Rattle.iss_network.specs.Network.{Network, cleared, due, empty_network, held_to, settled}
+use Rattle.iss_network.specs.Network.{Network, cleared, due, held_to, settled}
 use Rattle.iss_network.specs.declared.packets.Sent.{Sent}
 use Rattle.iss_request.specs.Setup.{IsFewFaulty}
 use Rattle.iss_request.specs.declared.ids.NodeId.{NodeId}
@@ -24,18 +24,18 @@ use Rattle.iss_sb.specs.Evidence.{Item, Made, Module, accepts, has_node, is_corr
 use Rattle.iss_sb.specs.Laws.{IsLawful}
 use Rattle.iss_model.specs.declared.causes.NodeEvent.{NodeEvent}
 use Rattle.iss_model.specs.declared.causes.NodeEvent.TheVariants.{Packet as Gets, Propose as Proposes, Timeout as Fires}
-use Rattle.iss_model.specs.Cluster.{Cluster, IsOneOf, MayGet, MayTake, Message, Moved, Reach, Rested, Scheme, Signed, begin, chain_strings, move, rest, world_of}
-use Rattle.iss_model.specs.Node.{Body, Core, Dropped, Formats, OfModule, OfRequest, Parcel, Stepped, Taken, Turn, inputs, next_slot, packed, step, verdict}
+use Rattle.iss_model.specs.Cluster.{Cluster, IsOneOf, MayGet, MayTake, Message, Moved, Reach, Scheme, begin, chain_strings, move, rest, world_of}
+use Rattle.iss_model.specs.Node.{Core, Dropped, Formats, OfModule, OfRequest, Parcel, Stepped, Taken, Turn, packed, step, verdict}
 use Rattle.iss_model.specs.Ordered.{IsExact, IsSoundRules}
-use Rattle.iss_model.specs.Past.{Past, asked_in, before, before_at, epoch_at, leader_at, log_of, made_in, newborn, params_at, params_of, takes}
+use Rattle.iss_model.specs.Past.{Past, asked_in, before, before_at, epoch_at, leader_at, log_of, made_in, params_at, params_of, takes}
 use Rattle.iss_model.specs.Rules.{Rules}
-use Rattle.iss_model.specs.Run.{Happening, Net, Progress, addressees, after_step, at_core, begin_net, begin_run, calms, delivered_to, delivers, delivers_each, goes_on, happens, injects, loses, posted_all, pumps, request_of, run}
-use Rattle.iss_model.specs.Runs.{AreAtNodes, IsAddressed, IsAtNode, IsFaithful, IsReadBack, IsRunString, pasts_of}
+use Rattle.iss_model.specs.Run.{Net, Progress, addressees, after_step, at_core, begin_net, calms, delivered_to, delivers, delivers_each, goes_on, happens, injects, loses, posted_all, pumps, request_of, run}
+use Rattle.iss_model.specs.Runs.{AreAtNodes, IsAddressed, IsAtNode, IsFaithful, IsRunString, pasts_of}
 use Rattle.iss_model.specs.Sound.{AreAllInside, IsSoundCore}
-use Rattle.iss_model.proofs.Casts.{cast-judged, idle-sound, newborn-log, step-sound}
+use Rattle.iss_model.proofs.Casts.{cast-judged, idle-sound, step-sound}
 use Rattle.iss_model.proofs.Logs.{Later, Settled, evidence-later, later-refl, log-later, takes-later}
-use Rattle.iss_model.proofs.Posts.{Carries, in-below, posted-in, told, told-is}
-use Rattle.iss_model.proofs.Steps.{IsCast, IsInput, IsRequested, Took, asked, cast, fired, received, took}
+use Rattle.iss_model.proofs.Posts.{in-below, posted-in, told, told-is}
+use Rattle.iss_model.proofs.Steps.{Took, asked, cast, fired, received, took}
 
 -- the scheme of a cluster in which nobody votes
 abbrev pub unvoted : Scheme

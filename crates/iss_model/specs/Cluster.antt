@@ -1,6 +1,6 @@
 -- All nodes over all epochs, as far as logs depend on them, and what may happen to them. Nothing here runs: a run of
 -- the cluster is shown to be a chain of these moves.
-use Rattle.std.specs.Prelude.{◌≡◌, ◌≢◌, ◌⊎◌, ℕ, suc, ◌+◌, ◌≤◌, Bool, true, false, cond, nat_le, List, [], ◌∷◌, ◌++◌, length, Some, None}
+use Rattle.std.specs.Prelude.{◌≡◌, ◌≢◌, ◌⊎◌, ℕ, suc, ◌≤◌, Bool, true, false, cond, nat_le, List, [], ◌∷◌, ◌++◌, length, Some, None}
 use Rattle.std.specs.Int.{to_be_bytes, w64}
 use Rattle.iss_base.specs.Lists.{Chain, In, over}
 use Rattle.iss_request.specs.Digest.{digest}
