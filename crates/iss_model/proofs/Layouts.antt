@@ -79,7 +79,7 @@ segment-some p enough i h =
     let back : first_slot p + k - first_slot p ≡ k = omega arith in
     let round : k % length p.leaders ≡ k = mod-eq_of_lt lt in
     let here : slot_leader p (first_slot p + k) ≡ Some (node i) =
-        subst (λ (j : ℕ). at_turn p.leaders j ≡ Some (node i)) (sym back) (subst (λ (j : ℕ). slice_get p.leaders j ≡ Some (node i)) (sym round) r.1.1) in
+    subst (λ (j : ℕ). at_turn p.leaders j ≡ Some (node i)) (sym back) (subst (λ (j : ℕ). slice_get p.leaders j ≡ Some (node i)) (sym round) r.1.1) in
     let high : first_slot p + k < first_slot p + p.slots = omega (arith, lt, enough) in
     let low : first_slot p ≤ first_slot p + k = omega arith in
     in_some (segment p i) (record { 0 = first_slot p + k }) ((segment_slots p i (record { 0 = first_slot p + k })).1 ((low, high), here))

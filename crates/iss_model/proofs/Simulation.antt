@@ -333,8 +333,8 @@ module _ {Msg : Type 0} (s : Setup) (F : Formats Msg) (R : Rules) (M : Module Ms
     delivered-ok w nk k (Some p) q =
         let v : Net Msg = record w { network = settled w.network k } in
         goes-trans w v _ (network-ok w (settled w.network k) refl nk) (λ vk.
-          let h : IsWrapped vk.messages p = vk.packets p (nth-in w.network.packets k p q) in
-          at-core-ok v vk p.to h.low_to law inside (Gets p.bytes) (packet-legit v vk p h))
+        let h : IsWrapped vk.messages p = vk.packets p (nth-in w.network.packets k p q) in
+        at-core-ok v vk p.to h.low_to law inside (Gets p.bytes) (packet-legit v vk p h))
 
     delivers-ok : (w : Net Msg) → NetOk w → (k : ℕ) → Goes w (delivers s.n F R M w k).net
     delivers-ok w nk k = delivered-ok w nk k (nth w.network.packets k) refl
