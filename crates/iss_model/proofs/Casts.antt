@@ -1,7 +1,7 @@
 -- Every core of a run is sound, and the judge accepts what a sound core casts.
-use Rattle.std.proofs.Common.{◌≡◌, ◌⊎◌, inl, inr, ℕ, suc, zero, ◌+◌, ◌-◌, ◌<◌, ◌≤◌, Bool, true, false, cond, eqb, not, ◌&&◌, ◌||◌, List, [], ◌∷◌, ◌++◌, length, length-append, take, is_some, Option, Some, None, refl, sym, ap, ◌∙◌, subst, arith, true≢false}
+use Rattle.std.proofs.Common.{◌≡◌, ◌⊎◌, inl, inr, ℕ, suc, zero, ◌-◌, Bool, true, false, cond, eqb, not, List, [], ◌∷◌, ◌++◌, length, length-append, take, is_some, Option, Some, None, refl, sym, ap, ◌∙◌, subst, arith, true≢false}
 use Rattle.std.proofs.Math.Seq.{take-append_seam}
-use Rattle.iss_base.specs.Lists.{Different, Extends, In, oldest}
+use Rattle.iss_base.specs.Lists.{Extends, In}
 use Rattle.iss_base.proofs.Lists.{and-true, in_append, is-eq, not-true, oldest-part, or-false, set_at2-other}
 use Rattle.iss_request.specs.Log.{has_id, ids, log_ids}
 use Rattle.iss_request.specs.declared.ids.ReqId.{ReqId}
@@ -15,16 +15,16 @@ use Rattle.iss_sb.specs.Evidence.{Module, accepts, delivered}
 use Rattle.iss_sb.specs.Laws.{IsLawful}
 use Rattle.iss_model.specs.declared.causes.NodeEvent.{NodeEvent}
 use Rattle.iss_model.specs.Judge.{judge, marks}
-use Rattle.iss_model.specs.Node.{Core, Formats, Taken, Turn, absent, cut, first_slot, flown, has_slot, idle, inputs, is_castable, is_mine, joined, next_slot, step, verdict}
-use Rattle.iss_model.specs.Past.{Past, asked_in, before, cut_at, grow, log_of, newborn, params_of, start_of, takes}
+use Rattle.iss_model.specs.Node.{Core, Formats, Taken, Turn, cut, first_slot, flown, has_slot, idle, inputs, is_castable, is_mine, joined, next_slot, step, verdict}
+use Rattle.iss_model.specs.Past.{asked_in, before, grow, log_of, newborn, params_of, start_of, takes}
 use Rattle.iss_model.specs.Rules.{Rules}
 use Rattle.iss_model.specs.Sound.{AreAllInside, IsSoundCore}
 use Rattle.iss_model.proofs.Cuts.{absent-ids, absent-in, absent-once, cut-few, cut-in, cut-once, uncut-ids, uncut-in, uncut-once}
 use Rattle.iss_model.proofs.Ids.{ids-append, ids-in, ids-once, in-ids, log_ids-append, log_ids-extends, not-has}
-use Rattle.iss_model.proofs.Judged.{Accepted, accepts-it}
+use Rattle.iss_model.proofs.Judged.{accepts-it}
 use Rattle.iss_model.proofs.Logs.{Settled, log-later, takes-later}
 use Rattle.iss_model.proofs.Longest.{Bounded}
-use Rattle.iss_model.proofs.Steps.{IsCast, IsInput, IsRequested, Took, asked, cast, casting, fired, next_batch, received, took}
+use Rattle.iss_model.proofs.Steps.{IsRequested, Took, asked, cast, casting, fired, next_batch, received, took}
 
 -- the newer part of a longer log
 pub joined-newer : (newer old : List Value) → joined (length old) (newer ++ old) ≡ newer

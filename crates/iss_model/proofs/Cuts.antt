@@ -1,11 +1,11 @@
 -- What is cut from the waiting requests, what is left, and what a log took away.
-use Rattle.std.proofs.Common.{◌≡◌, ◌⊎◌, inl, inr, ℕ, zero, suc, ◌≤◌, Bool, true, false, cond, List, [], ◌∷◌, length, refl, sym, ap, ◌∙◌, arith, true≢false}
+use Rattle.std.proofs.Common.{◌≡◌, inl, inr, ℕ, zero, suc, ◌≤◌, Bool, true, false, cond, List, [], ◌∷◌, length, refl, sym, ap, ◌∙◌, arith, true≢false}
 use Rattle.iss_base.specs.Lists.{Different, In}
 use Rattle.iss_request.specs.Log.{has_id, ids}
 use Rattle.iss_request.specs.declared.ids.ReqId.{ReqId}
 use Rattle.iss_request.specs.declared.requests.Request.{Request}
 use Rattle.iss_model.specs.Node.{absent, cut, uncut}
-use Rattle.iss_model.proofs.Ids.{has-in, in-has, in-ids, ids-in}
+use Rattle.iss_model.proofs.Ids.{has-in, in-ids, ids-in}
 
 -- absent: what is not among the identities that are gone
 

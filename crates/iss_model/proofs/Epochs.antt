@@ -1,5 +1,5 @@
 -- Where epochs start, in a log and in longer ones. Epochs may differ in length.
-use Rattle.std.proofs.Common.{◌≡◌, inl, inr, ℕ, suc, zero, ◌+◌, ◌*◌, ◌≤◌, ◌<◌, List, [], ◌∷◌, ◌++◌, length, refl, sym, ap, ap₂, ◌∙◌, arith, le_trans, le_antisymm, suc-mul, eq-or-lt_of_le}
+use Rattle.std.proofs.Common.{◌≡◌, inl, inr, ℕ, suc, zero, ◌+◌, ◌*◌, ◌≤◌, ◌<◌, List, ◌++◌, length, refl, sym, ap, ap₂, ◌∙◌, arith, le_trans, le_antisymm, suc-mul, eq-or-lt_of_le}
 use Rattle.std.proofs.lemmas.Bool.Decides.{leb_tells}
 use Rattle.iss_base.specs.Lists.{Extends, oldest}
 use Rattle.iss_base.proofs.Lists.{oldest-append, oldest-extends, oldest-part, length-oldest, extends-length}

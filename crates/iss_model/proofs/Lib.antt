@@ -6,3 +6,17 @@ pub mod Judged
 pub mod Steps
 pub mod Cuts
 pub mod Casts
+pub mod Good
+pub mod Kept
+pub mod Agree
+pub mod Once
+pub mod Chains
+pub mod Moves
+pub mod Ends
+pub mod Adopts
+pub mod Reached
+pub mod Posts
+pub mod Simulation
+pub mod Printed
+pub mod Layouts
+pub mod Example

@@ -1,7 +1,7 @@
 -- The log of one core: each value stands in its cell, and it grows with the evidence.
-use Rattle.std.proofs.Common.{◌≡◌, ◌≢◌, ◌⊎◌, inl, inr, ℕ, suc, zero, ◌+◌, ◌-◌, ◌*◌, ◌≤◌, ◌<◌, List, [], ◌∷◌, ◌++◌, length, Option, Some, None, refl, sym, ◌∙◌, arith, append_assoc, mul-le-mul_right}
+use Rattle.std.proofs.Common.{◌≡◌, ◌≢◌, inl, inr, ℕ, suc, zero, ◌+◌, ◌-◌, ◌*◌, ◌≤◌, ◌<◌, List, [], ◌∷◌, ◌++◌, length, Option, Some, None, refl, sym, ◌∙◌, arith, append_assoc, mul-le-mul_right}
 use Rattle.std.proofs.lemmas.Bool.Decides.{leb_tells}
-use Rattle.iss_base.specs.Lists.{Extends, first_of}
+use Rattle.iss_base.specs.Lists.{Extends}
 use Rattle.iss_base.proofs.Lists.{extends-refl, chains-meet, first-cases, same_or_not, set_at2-cons, set_at2-other}
 use Rattle.iss_request.specs.declared.requests.Value.{Value}
 use Rattle.iss_sb.specs.declared.effects.Input.{Input}

@@ -1,5 +1,5 @@
 -- What holds of every core of every run, so that its own casts are accepted.
-use Rattle.std.specs.Prelude.{◌≡◌, ℕ, ◌<◌, List, [], true, Bool, Some}
+use Rattle.std.specs.Prelude.{◌≡◌, ℕ, ◌<◌, List, [], true, Some}
 use Rattle.iss_base.specs.Lists.{Different, In}
 use Rattle.iss_request.specs.Log.{ids, log_ids}
 use Rattle.iss_request.specs.declared.ids.ReqId.{ReqId}

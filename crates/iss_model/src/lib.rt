@@ -3,5 +3,7 @@
 #![tactic(auto)]
 
 pub mod causes;
+pub mod theorems;
 
 pub use causes::{NodeEvent, Refusal, Why};
+pub use theorems::{composition, ordered_runs};
