@@ -1,3 +1,4 @@
+pub mod Arguments
 pub mod Blanks
 pub mod Cuts
 pub mod HexWords

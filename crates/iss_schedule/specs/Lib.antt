@@ -1,4 +1,8 @@
+pub mod BadLines
 pub mod Events
+pub mod Forms
 pub mod Names
+pub mod Places
 pub mod Reads
+pub mod Schedules
 pub mod Words

@@ -62,8 +62,8 @@ fn boxed(all: Vec<u8>) -> Bytes
     Bytes::of(all)
 }
 
-// The bytes that the last word spells.
-fn bytes_in(alloc: Global, words: &mut Words) -> Result<Option<Bytes>, NoMemory>
+/// The bytes that the last word spells.
+pub fn bytes_in(alloc: Global, words: &mut Words) -> Result<Option<Bytes>, NoMemory>
     ensures { IfOk result (Reads (λ bytes. word_of bytes ∷ []) IsBytes words.old) }
 {
     let Some(word) = words.next() else {

@@ -3,6 +3,7 @@
 
 pub mod errors;
 mod events;
+mod forms;
 mod names;
 pub mod schedules;
 mod words;

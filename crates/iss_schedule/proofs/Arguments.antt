@@ -1,0 +1,20 @@
+-- Steps through the arguments of an event.
+use Rattle.std.proofs.Common.{◌≡◌, ℕ, zero, suc, ◌+◌, ◌-◌, ◌<◌, ◌≤◌, Bool, true, false, List, [], ◌∷◌, arith, refl, subst, sym, ◌∙◌}
+use Rattle.std.specs.Prelude.{◌↔◌, IsTrue}
+use Rattle.iss_schedule.specs.Forms.{AreArguments}
+use Rattle.iss_schedule.specs.Words.{IsNumber}
+
+one_less : (n i : ℕ) → i < n → n - i ≡ suc (n - (i + 1))
+one_less n i lt = omega arith
+
+-- arguments are left, and no word is
+pub too_few : (n i : ℕ) (last : Bool) (words : List (List ℕ)) → i < n → words ≡ [] → AreArguments (n - i) last words → ⊥
+too_few n i last words lt none h =
+    let at : AreArguments (suc (n - (i + 1))) last [] = subst (λ (w : List (List ℕ)). AreArguments (suc (n - (i + 1))) last w) none (subst (λ k. AreArguments k last words) (one_less n i lt) h) in at
+
+-- the next argument is a number just where its word is
+pub next_argument : (n i : ℕ) (last : Bool) (words rest : List (List ℕ)) (word : List ℕ) → i < n → words ≡ word ∷ rest → AreArguments (n - i) last words ↔ (IsNumber word × AreArguments (n - (i + 1)) last rest)
+next_argument n i last words rest word lt cut = (
+  (λ h. subst (λ (w : List (List ℕ)). AreArguments (suc (n - (i + 1))) last w) cut (subst (λ k. AreArguments k last words) (one_less n i lt) h)),
+  (λ h. subst (λ k. AreArguments k last words) (sym (one_less n i lt)) (subst (λ (w : List (List ℕ)). AreArguments (suc (n - (i + 1))) last w) (sym cut) h)),
+)
