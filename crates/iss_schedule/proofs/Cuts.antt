@@ -1,5 +1,5 @@
 -- Cutting a list at the first such byte.
-use Rattle.std.proofs.Common.{◌≡◌, ◌≢◌, ℕ, zero, suc, ◌+◌, ◌<◌, ◌≤◌, List, [], ◌∷◌, ◌++◌, length, get_or, take, eqb, Bool, true, false, cond, not, refl, sym, ap, ◌∙◌, arith, eq-eqb}
+use Rattle.std.proofs.Common.{◌≡◌, ◌≢◌, ℕ, zero, suc, ◌+◌, ◌<◌, ◌≤◌, List, [], ◌∷◌, ◌++◌, length, get_or, take, eqb, Bool, true, false, cond, not, refl, sym, ap, subst, ◌∙◌, arith}
 use Rattle.std.specs.List.{slice_split, onto_first}
 use Rattle.std.proofs.lemmas.Bool.{false≢true}
 use Rattle.iss_schedule.specs.Words.{Lacks, words_of}
@@ -50,3 +50,26 @@ words_next false text word rest ws t e cut first = absurd (false≢true t)
 pub words_last : (more : Bool) (text : List ℕ) (ws : List (List ℕ)) → more ≡ true → ws ≡ cond more (words_of text) [] → Lacks 32 text → ws ≡ text ∷ []
 words_last true text ws t e none = e ∙ words_none text none
 words_last false text ws t e none = absurd (false≢true t)
+
+-- a text has one first such byte
+pub cut_same : (c : ℕ) (a b x y : List ℕ) → Lacks c a → Lacks c b → a ++ c ∷ x ≡ b ++ c ∷ y → (a ≡ b) × (x ≡ y)
+cut_same c [] [] x y p q e = (refl, cc)
+cut_same c [] (b ∷ bs) x y p q e = let same : b ≡ c = cc in absurd (q.0 same)
+cut_same c (a ∷ an) [] x y p q e = let same : a ≡ c = cc in absurd (p.0 same)
+cut_same c (a ∷ an) (b ∷ bs) x y p q e =
+    let heads : a ≡ b = cc in
+    let tails : an ++ c ∷ x ≡ bs ++ c ∷ y = cc in
+    let rec = cut_same c an bs x y p.1 q.1 tails in
+    let fronts : an ≡ bs = rec.0 in
+    (cc, rec.1)
+
+pub no_cut : (c : ℕ) (a x : List ℕ) → Lacks c (a ++ c ∷ x) → ⊥
+no_cut c [] x h = h.0 refl
+no_cut c (a ∷ an) x h = no_cut c an x h.1
+
+-- where the text has no such byte, it is not cut there
+pub uncut : (c : ℕ) (text a x : List ℕ) → Lacks c text → text ≢ a ++ c ∷ x
+uncut c text a x h e = no_cut c a x (subst (Lacks c) e h)
+
+pub behind_same : (c : ℕ) (text a b x y : List ℕ) → Lacks c a → Lacks c b → text ≡ a ++ c ∷ x → text ≡ b ++ c ∷ y → (a ≡ b) × (x ≡ y)
+behind_same c text a b x y p q e f = cut_same c a b x y p q (sym e ∙ f)

@@ -1,5 +1,6 @@
 pub mod Arguments
 pub mod Blanks
 pub mod Cuts
+pub mod Fronts
 pub mod HexWords
 pub mod Numbers

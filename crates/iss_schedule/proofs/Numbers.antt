@@ -34,7 +34,5 @@ decimal_is_number n lt = (
     single (suc n) lt e = absurd (omega (arith, first_decimal (suc n) (omega arith) lt))
 
 -- the number that a word spells is out of range, so no number in range is spelled so
-pub outside : (low end m n : ℕ) (rest new : List (List ℕ)) → m < 2 ^ 64 → end < 2 ^ 64 → (IsWithin low end m → ⊥) → IsWithin low end n → decimal m ∷ rest ≡ decimal n ∷ new → ⊥
-outside low end m n rest new fits ends out within e =
-    let same : decimal m ≡ decimal n = cc in
-    out (subst (IsWithin low end) (sym (decimal_injective m n fits (omega arith) same)) within)
+pub outside : (low end m n : ℕ) → m < 2 ^ 64 → end < 2 ^ 64 → (IsWithin low end m → ⊥) → IsWithin low end n → decimal m ≡ decimal n → ⊥
+outside low end m n fits ends out within same = out (subst (IsWithin low end) (sym (decimal_injective m n fits (omega arith) same)) within)

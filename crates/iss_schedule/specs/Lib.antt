@@ -1,6 +1,7 @@
 pub mod BadLines
 pub mod Events
 pub mod Forms
+pub mod Headers
 pub mod Names
 pub mod Places
 pub mod Reads

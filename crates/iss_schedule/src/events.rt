@@ -9,18 +9,12 @@ ghost use Rattle.iss_schedule.specs.Words.{word_of};
 
 use crate::names::{Name, name_of};
 use crate::schedules::Event;
-use crate::words::{Words, bytes_of, number_of};
+use crate::words::{Words, bytes_of, number_of, number_within};
 use iss_request::bytes::Bytes;
 use iss_request::errors::NoMemory;
 use iss_request::ids::NodeId;
 use iss_request::setups::{Kind, Setup};
 use std::alloc::Global;
-
-fn is_within(number: u64, low: u32, end: u32) -> bool
-    ensures { IsTrue result ↔ IsWithin low end number }
-{
-    u64::from(low) <= number && number < u64::from(end)
-}
 
 // The number that the next word spells, where it is in range.
 fn number_in(words: &mut Words, low: u32, end: u32) -> Option<u32>
@@ -29,12 +23,7 @@ fn number_in(words: &mut Words, low: u32, end: u32) -> Option<u32>
     ensures none { IfNone result ((n : ℕ) (ws : List (List ℕ)) → IsWithin low end n → words.old ≢ decimal n ∷ ws) }
 {
     let word = words.next()?;
-    let number = number_of(word)?;
-    if is_within(number, low, end) {
-        Some(number as u32)
-    } else {
-        None
-    }
+    number_within(word, low, end)
 }
 
 // The number that the last word spells, where it is in range.

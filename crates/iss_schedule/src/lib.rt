@@ -4,9 +4,13 @@
 pub mod errors;
 mod events;
 mod forms;
+mod header;
+mod lines;
 mod names;
+mod reading;
 pub mod schedules;
 mod words;
 
 pub use errors::{ReadError, Why};
+pub use reading::{MOST_BYTES, MOST_EVENTS, read};
 pub use schedules::{Event, Schedule};

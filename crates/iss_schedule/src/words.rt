@@ -2,6 +2,7 @@
 ghost use Rattle.std.specs.Prelude.{◌≡◌, ◌≢◌, ◌↔◌, ◌<◌, ◌≤◌, ◌^◌, ◌+◌, ℕ, List, [], ◌∷◌, ◌++◌, IsTrue, IfOk, IfErr, IfSome, IfNone, decimal, string_bytes};
 ghost use Rattle.std.specs.List.{slice_split};
 ghost use Rattle.hex.specs.Hex.{IsBytes};
+ghost use Rattle.iss_schedule.specs.Reads.{Reads, IsWithin};
 ghost use Rattle.iss_schedule.specs.Words.{Lacks, words_of, word_of, AreDigits, IsNumber};
 
 use crate::names::is_same;
@@ -107,6 +108,24 @@ pub fn number_of(word: &[u8]) -> Option<u64>
             }
         }
         Err(_) => None,
+    }
+}
+
+fn is_within(number: u64, low: u32, end: u32) -> bool
+    ensures { IsTrue result ↔ IsWithin low end number }
+{
+    u64::from(low) <= number && number < u64::from(end)
+}
+
+/// The number that a word spells, where it is at least the first number and below the second.
+pub fn number_within(word: &[u8], low: u32, end: u32) -> Option<u32>
+    ensures { Reads decimal (IsWithin low end) word.now result }
+{
+    let number = number_of(word)?;
+    if is_within(number, low, end) {
+        Some(number as u32)
+    } else {
+        None
     }
 }
 
