@@ -1,5 +1,5 @@
 -- Texts and the lines at their front.
-use Rattle.std.proofs.Common.{◌≡◌, ◌≢◌, ℕ, zero, suc, ◌+◌, ◌<◌, ◌≤◌, Bool, true, false, List, [], ◌∷◌, ◌++◌, length, take, map, Option, Some, None, codes, decimal, refl, sym, ap, subst, ◌∙◌, arith, append_assoc, ◌⊎◌, inl, inr, Result, Ok, Err}
+use Rattle.std.proofs.Common.{◌≡◌, ◌≢◌, ℕ, zero, suc, ◌+◌, ◌<◌, ◌≤◌, Bool, true, false, List, [], ◌∷◌, ◌++◌, length, take, map, Option, Some, None, codes, decimal, refl, sym, ap, subst, ◌∙◌, arith, append_assoc, length-append, ◌⊎◌, inl, inr, Result, Ok, Err}
 use Rattle.std.specs.Prelude.{IfErr}
 use Rattle.sha2.specs.Sha256.{sha256}
 use Rattle.iss_base.specs.Lists.{nth}
@@ -11,11 +11,13 @@ use Rattle.iss_schedule.specs.declared.errors.Why.TheVariants.{Cut, Form, Faulty
 use Rattle.iss_schedule.specs.declared.header.Header.{Header}
 use Rattle.iss_schedule.specs.declared.schedules.Schedule.{Schedule}
 use Rattle.iss_schedule.specs.BadLines.{Begins, IsNext, IsBadRest, IsFirstBad, IsFault}
+use Rattle.iss_schedule.specs.declared.schedules.Event.{Event}
+use Rattle.iss_schedule.specs.Events.{spell_event, IsInRange, AreInRange}
 use Rattle.iss_schedule.specs.Forms.{HasForm, IsField, NamesFaulty}
 use Rattle.iss_schedule.specs.Headers.{setup_with, IsHeaderInRange}
 use Rattle.iss_schedule.specs.Places.{IsLineFault, IsFieldWithin, IsFaultyLineFault}
 use Rattle.iss_schedule.specs.Reads.{IsWithin}
-use Rattle.iss_schedule.specs.Schedules.{field, header_lines, schedule_lines, cluster_tag, IsRelay, IsFine, most_events}
+use Rattle.iss_schedule.specs.Schedules.{field, header_lines, schedule_lines, cluster_tag, IsRelay, IsFine, IsSchedule, most_events, most_bytes}
 use Rattle.iss_schedule.specs.Words.{Lacks, ended}
 
 pub ended-append : (xs ys : List (List ℕ)) → ended (xs ++ ys) ≡ ended xs ++ ended ys
@@ -135,3 +137,45 @@ fixed_fits text line e = cc
 
 pub field_fits : (name : List ℕ) (low end n : ℕ) (line : List ℕ) → IsWithin low end n → Some (field name n) ≡ Some line → IsFieldWithin name low end line
 field_fits name low end n line ok e = (n, (ok, fixed_fits (field name n) line e))
+
+-- ---- events
+
+pub in_range_push : (s : Setup) (es : List Event) (e : Event) → AreInRange s es → IsInRange s e → AreInRange s (es ++ e ∷ [])
+in_range_push s [] e h ok = (ok, tt)
+in_range_push s (x ∷ xs) e h ok = (h.0, in_range_push s xs e h.1 ok)
+
+pub map_push : (es : List Event) (e : Event) → map spell_event (es ++ e ∷ []) ≡ map spell_event es ++ spell_event e ∷ []
+map_push [] e = refl
+map_push (x ∷ xs) e = ap (λ (t : List (List ℕ)). spell_event x ∷ t) (map_push xs e)
+
+pub past_event : (text : List ℕ) (es : List Event) (e : Event) (rest more : List ℕ) → text ≡ ended (map spell_event es) ++ rest → rest ≡ spell_event e ++ 10 ∷ more → text ≡ ended (map spell_event (es ++ e ∷ [])) ++ more
+past_event text es e rest more eq cut =
+    past text (map spell_event es) (spell_event e) rest more eq cut ∙ ap (λ (ls : List (List ℕ)). ended ls ++ more) (sym (map_push es e))
+
+-- a line is shorter than the text that it begins
+pub shorter : (line rest more : List ℕ) → rest ≡ line ++ 10 ∷ more → length more < length rest
+shorter line rest more cut = omega (arith, ap length cut, length-append line (10 ∷ more))
+
+pub events_more : (s : Setup) (text : List ℕ) (es more : List Event) (e : Event) (rest left : List ℕ) → more ≡ es ++ e ∷ [] → text ≡ ended (map spell_event es) ++ rest → AreInRange s es → IsInRange s e → rest ≡ spell_event e ++ 10 ∷ left → (text ≡ ended (map spell_event more) ++ left) × AreInRange s more × (length more ≡ length es + 1)
+events_more s text es more e rest left pushed eq range ok cut =
+    subst (λ (m : List Event). (text ≡ ended (map spell_event m) ++ left) × AreInRange s m × (length m ≡ length es + 1)) (sym pushed)
+    (past_event text es e rest left eq cut, in_range_push s es e range ok, length-append es (e ∷ []))
+
+-- the set-up that was made is that of the header that was read
+pub made : (h : Header) (bytes front rest rest' : List ℕ) (s : Setup) → s ≡ setup_with h (sha256 (67 ∷ front)) → ((read : List ℕ) → bytes ≡ read ++ rest' → front ≡ read) → rest' ≡ rest → bytes ≡ ended (header_lines (setup_with h [])) ++ rest → s ≡ relay_of h
+made h bytes front rest rest' s e front_is same text =
+    e ∙ ap (λ (t : List ℕ). setup_with h (sha256 (67 ∷ t))) (front_is (ended (header_lines (setup_with h []))) (text ∙ ap (λ (t : List ℕ). ended (header_lines (setup_with h [])) ++ t) (sym same)))
+
+pub relay_made : (h : Header) (s : Setup) → IsHeaderInRange h → s ≡ relay_of h → IsRelay s
+relay_made h s ok e = subst IsRelay (sym e) (relay_header h ok)
+
+pub text_made : (h : Header) (s : Setup) (bytes rest : List ℕ) → s ≡ relay_of h → bytes ≡ ended (header_lines (setup_with h [])) ++ rest → bytes ≡ ended (header_lines s) ++ rest
+text_made h s bytes rest e text = subst (λ (x : Setup). bytes ≡ ended (header_lines x) ++ rest) (sym e) text
+
+-- a header and events that were read are a schedule
+pub schedule_read : (s : Setup) (es : List Event) (bytes rest : List ℕ) → IsRelay s → bytes ≡ ended (header_lines s) ++ rest → rest ≡ ended (map spell_event es) → AreInRange s es → length es ≤ most_events → length bytes ≤ most_bytes → IsSchedule bytes (record { setup = s; events = es })
+schedule_read s es bytes rest relay text events range few short = record {
+  text = text ∙ ap (λ (t : List ℕ). ended (header_lines s) ++ t) events ∙ sym (ended-append (header_lines s) (map spell_event es));
+  fine = record { setup = relay; events = range; few = few };
+  short = short;
+}

@@ -4,3 +4,4 @@ pub mod Cuts
 pub mod Fronts
 pub mod HexWords
 pub mod Numbers
+pub mod Refusals

@@ -34,7 +34,7 @@ fn read_events(alloc: Global, setup: &Setup, lines: &mut Lines) -> Result<Row<Ev
     ensures bad { IfErr result (IsEventsRefused setup.now lines.old.rest) }
 {
     let mut events = Row::new(alloc);
-    while !lines.is_done() {
+    'lines: while !lines.is_done() {
         if events.len() >= MOST_EVENTS {
             return Err(ReadError::BadLine {
                 line: lines.read() + 1,
