@@ -5,7 +5,7 @@
 
 ghost use Rattle.std.specs.Prelude.{◌<◌, ◌≤◌};
 
-use iss_keys::{verify, Keys, SignError};
+use iss_keys::{Keys, SignError, verify};
 use sha2::{Digest, Sha256};
 use std::alloc::Global;
 use std::io;
@@ -84,10 +84,14 @@ fn steps_signed(statement: &[u8]) -> u32 {
     hasher.update(statement);
     let mut sum = 0u32;
     for byte in hasher.finalize() {
-        sum = sum.wrapping_add(u32::from(byte / 16)).wrapping_add(u32::from(byte % 16));
+        sum = sum
+            .wrapping_add(u32::from(byte / 16))
+            .wrapping_add(u32::from(byte % 16));
     }
     let check = 960u32.saturating_sub(sum);
-    sum.wrapping_add(check / 256).wrapping_add(check / 16 % 16).wrapping_add(check % 16)
+    sum.wrapping_add(check / 256)
+        .wrapping_add(check / 16 % 16)
+        .wrapping_add(check % 16)
 }
 
 fn digests_of_signatures(count: u32) -> Digests {
@@ -170,7 +174,12 @@ fn time_tree<R: Clock + Print>(rt: &R, alloc: Global, height: u8, rounds: u32) -
     print_times(rt, "tree", best, 1)
 }
 
-fn time_signing<R: Clock + Print>(rt: &R, alloc: Global, count: u32, rounds: u32) -> io::Result<()> {
+fn time_signing<R: Clock + Print>(
+    rt: &R,
+    alloc: Global,
+    count: u32,
+    rounds: u32,
+) -> io::Result<()> {
     let mut best = NONE_YET;
     for _round in 0..rounds {
         let Ok(mut keys) = Keys::make(alloc, [7; 32], 10) else {
@@ -186,7 +195,12 @@ fn time_signing<R: Clock + Print>(rt: &R, alloc: Global, count: u32, rounds: u32
     print_times(rt, "sign", best, u64::from(count))
 }
 
-fn time_verifying<R: Clock + Print>(rt: &R, alloc: Global, count: u32, rounds: u32) -> io::Result<()> {
+fn time_verifying<R: Clock + Print>(
+    rt: &R,
+    alloc: Global,
+    count: u32,
+    rounds: u32,
+) -> io::Result<()> {
     let Ok(keys) = Keys::make(alloc, [7; 32], 10) else {
         return out_of_memory(rt);
     };
@@ -233,9 +247,16 @@ fn count_all<R: Print>(rt: &R, alloc: Global) -> io::Result<()> {
     };
     println!(rt; "tree of height 2: {:?}", digests_of_tree(2))?;
     let signed = matches!(signatures(&mut keys, 3), Ok(6));
-    println!(rt; "3 signatures: {:?}, made: {signed}, left: {}", digests_of_signatures(3), keys.left())?;
+    println!(rt;
+        "3 signatures: {:?}, made: {signed}, left: {}",
+        digests_of_signatures(3),
+        keys.left()
+    )?;
     let verified = verifications(&keys, 3).unwrap_or(0);
-    println!(rt; "3 verifications: {:?}, verified: {verified}", digests_of_verifications(3, 2))
+    println!(rt;
+        "3 verifications: {:?}, verified: {verified}",
+        digests_of_verifications(3, 2)
+    )
 }
 
 fn main(rt: HostRuntime) -> io::Result<()> {
