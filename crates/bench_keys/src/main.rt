@@ -5,7 +5,7 @@
 
 ghost use Rattle.std.specs.Prelude.{◌<◌, ◌≤◌};
 
-use iss_keys::{Keys, SignError, verify};
+use iss_keys::{Keys, PublicKey, SignError, verify};
 use sha2::{Digest, Sha256};
 use std::alloc::Global;
 use std::io;
@@ -53,7 +53,7 @@ fn take_digests<const N: usize>(count: u32) -> u8
 {
     let mut message = [0u8; N];
     for _i in 0..count {
-        let digest = Sha256::digest(&message[..]);
+        let digest = Sha256::digest(message);
         message[0] = digest[0];
     }
     message[0]
@@ -133,16 +133,14 @@ fn signatures(keys: &mut Keys, count: u32) -> Result<u32, SignError> {
     Ok(bytes)
 }
 
-fn verifications(keys: &Keys, count: u32) -> Option<u32> {
-    let public = keys.public();
-    let signature = keys.sign_at(0, STATEMENT).ok()?;
+fn verifications(key: &PublicKey, signature: &[u8], count: u32) -> u32 {
     let mut verified = 0u32;
     for _i in 0..count {
-        if verify(&public, STATEMENT, &signature) {
+        if verify(key, STATEMENT, signature) {
             verified = verified.wrapping_add(1);
         }
     }
-    Some(verified)
+    verified
 }
 
 fn out_of_memory<R: Print>(rt: &R) -> io::Result<()> {
@@ -180,14 +178,14 @@ fn time_signing<R: Clock + Print>(
     count: u32,
     rounds: u32,
 ) -> io::Result<()> {
+    let Ok(mut keys) = Keys::make(alloc, [7; 32], 10) else {
+        return out_of_memory(rt);
+    };
     let mut best = NONE_YET;
     for _round in 0..rounds {
-        let Ok(mut keys) = Keys::make(alloc, [7; 32], 10) else {
-            return out_of_memory(rt);
-        };
         let start = Instant::now(rt)?;
         let Ok(_bytes) = signatures(&mut keys, count) else {
-            return out_of_memory(rt);
+            return println!(rt; "no leaf or no memory left");
         };
         let work = nanos_since(rt, start)?;
         best = best.note(work, time_digests(rt, digests_of_signatures(count))?);
@@ -204,12 +202,14 @@ fn time_verifying<R: Clock + Print>(
     let Ok(keys) = Keys::make(alloc, [7; 32], 10) else {
         return out_of_memory(rt);
     };
+    let Ok(signature) = keys.sign_at(0, STATEMENT) else {
+        return out_of_memory(rt);
+    };
+    let public = keys.public();
     let mut best = NONE_YET;
     for _round in 0..rounds {
         let start = Instant::now(rt)?;
-        let Some(verified) = verifications(&keys, count) else {
-            return out_of_memory(rt);
-        };
+        let verified = verifications(&public, &signature, count);
         let work = nanos_since(rt, start)?;
         if verified != count {
             return println!(rt; "{verified} of {count} verified");
@@ -221,23 +221,23 @@ fn time_verifying<R: Clock + Print>(
 
 fn time_all<R: Clock + Print>(rt: &R, alloc: Global) -> io::Result<()> {
     let digests = Digests {
-        short: 1_000_000,
+        short: 1000,
         inner: 0,
         leaf: 0,
     };
     let mut best = NONE_YET;
-    for _round in 0..5 {
+    for _round in 0..1000 {
         let nanos = time_digests(rt, digests)?;
         best = best.note(nanos, nanos);
     }
-    print_times(rt, "digest of 40 bytes", best, 1_000_000)?;
-    time_tree(rt, alloc, 4, 50)?;
-    time_tree(rt, alloc, 6, 20)?;
-    time_tree(rt, alloc, 8, 10)?;
-    time_tree(rt, alloc, 10, 5)?;
-    time_tree(rt, alloc, 12, 3)?;
-    time_signing(rt, alloc, 1000, 5)?;
-    time_verifying(rt, alloc, 1000, 5)
+    print_times(rt, "digest of 40 bytes", best, 1000)?;
+    time_tree(rt, alloc, 4, 200)?;
+    time_tree(rt, alloc, 6, 50)?;
+    time_tree(rt, alloc, 8, 20)?;
+    time_tree(rt, alloc, 10, 10)?;
+    time_tree(rt, alloc, 12, 5)?;
+    time_signing(rt, alloc, 5, 200)?;
+    time_verifying(rt, alloc, 5, 200)
 }
 
 // What a small workload takes.
@@ -252,7 +252,10 @@ fn count_all<R: Print>(rt: &R, alloc: Global) -> io::Result<()> {
         digests_of_signatures(3),
         keys.left()
     )?;
-    let verified = verifications(&keys, 3).unwrap_or(0);
+    let Ok(signature) = keys.sign_at(0, STATEMENT) else {
+        return out_of_memory(rt);
+    };
+    let verified = verifications(&keys.public(), &signature, 3);
     println!(rt;
         "3 verifications: {:?}, verified: {verified}",
         digests_of_verifications(3, 2)
