@@ -7,6 +7,7 @@ ghost use Rattle.iss_keys.specs.Chains.{chain_start, chain_step, steps, leaf_of_
 ghost use Rattle.iss_keys.specs.Signatures.{end_from, signed_value};
 
 use crate::digits::{checksum_of, digit_of};
+use crate::marks::{CHAIN_START, CHAIN_STEP, LEAF};
 use sha2::{Digest, Sha256};
 use std::alloc::AllocError;
 
@@ -17,7 +18,7 @@ fn start_of_chain(secret: &[u8; 32], leaf: u32, chain: u16) -> [u8; 32]
     ensures { result ≡ chain_start secret.now leaf chain }
 {
     let mut hasher = Sha256::new();
-    hasher.update([0x10u8]);
+    hasher.update([CHAIN_START]);
     hasher.update(secret);
     hasher.update(leaf.to_be_bytes());
     hasher.update(chain.to_be_bytes());
@@ -33,7 +34,7 @@ fn message_of_step(leaf: u32, chain: u16, step: u8, x: &[u8; 32]) -> [u8; 40]
     let [q0, q1, q2, q3] = leaf.to_be_bytes();
     let [i0, i1] = chain.to_be_bytes();
     let mut message = [0u8; 40];
-    message[..8].copy_from_slice(&[0x11, q0, q1, q2, q3, i0, i1, step]);
+    message[..8].copy_from_slice(&[CHAIN_STEP, q0, q1, q2, q3, i0, i1, step]);
     message[8..].copy_from_slice(x);
     message
 }
@@ -64,7 +65,7 @@ pub fn value_of_leaf(secret: &[u8; 32], leaf: u32) -> [u8; 32]
     ensures { result ≡ leaf_value secret.now leaf }
 {
     let mut hasher = Sha256::new();
-    hasher.update([0x12u8]);
+    hasher.update([LEAF]);
     hasher.update(leaf.to_be_bytes());
     'chains: for i in 0..CHAINS {
         let start = start_of_chain(secret, leaf, i);
@@ -111,7 +112,7 @@ pub fn leaf_from_part(leaf: u32, digest: &[u8; 32], part: &[u8]) -> [u8; 32]
 {
     let sum = checksum_of(digest);
     let mut hasher = Sha256::new();
-    hasher.update([0x12u8]);
+    hasher.update([LEAF]);
     hasher.update(leaf.to_be_bytes());
     'chains: for i in 0..CHAINS {
         let digit = digit_of(digest, sum, i);
