@@ -1,0 +1,8 @@
+//! Disks: files by name that are read, written, cut and synced, and of which a crash may tear what was not synced.
+#![tactic(auto)]
+
+mod disk;
+mod errors;
+
+pub use disk::{Disk, Fused};
+pub use errors::{EndError, Failed, NoMemory};
