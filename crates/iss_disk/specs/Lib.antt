@@ -1,2 +1,4 @@
 pub mod Calls
 pub mod File
+pub mod States
+pub mod StoredViews

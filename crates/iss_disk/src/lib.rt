@@ -1,8 +1,10 @@
 //! Disks: files by name that are read, written, cut and synced, and of which a crash may tear what was not synced.
 #![tactic(auto)]
 
+mod call;
 mod disk;
 mod errors;
+mod stored;
 
 pub use disk::{Disk, Fused};
 pub use errors::{EndError, Failed, NoMemory};
