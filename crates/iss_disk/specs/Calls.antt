@@ -1,5 +1,5 @@
 -- What the calls of a disk have in common.
-use Rattle.std.specs.Prelude.{◌≡◌, ◌≢◌, ◌⊎◌, ℕ, ◌+◌, ◌-◌, ◌^◌, ◌<◌, ◌≤◌, Bool, true, false, nat_le, List, [], ◌∷◌, ◌++◌}
+use Rattle.std.specs.Prelude.{◌≡◌, ◌≢◌, ◌⊎◌, ℕ, zero, suc, ◌+◌, ◌-◌, ◌^◌, ◌<◌, ◌≤◌, Bool, true, false, Option, None, Some, List, [], ◌∷◌, ◌++◌}
 use Rattle.iss_disk.specs.File.{File, Image, restarted}
 
 -- each of these states
@@ -50,28 +50,39 @@ pub record HasCause (before now : ℕ) (failed : Type 0) : Type 0 where
   pub never_falls : before ≤ now
   pub rose : failed → Rose before now
 
--- What is known of the calls to come: nothing; that all pass; or that so many pass, and then none.
+-- What is known of the calls to come: nothing; that so many pass and then none; or which of the next ones pass, and that
+-- all pass after them.
 pub data Passes : Type 0 where
   untold : Passes
-  always : Passes
   up_to : ℕ → Passes
+  script : List Bool → Passes
 
--- what is known after n calls more
-abbrev pub spent : ℕ → Passes → Passes
-spent n untold = untold
-spent n always = always
-spent n (up_to m) = up_to (m - n)
+-- whether the next call passes
+abbrev pub outcome : Passes → Option Bool
+outcome untold = None
+outcome (up_to zero) = Some false
+outcome (up_to (suc n)) = Some true
+outcome (script []) = Some true
+outcome (script (passes ∷ later)) = Some passes
 
--- whether n calls in a row pass
-abbrev pub AllPass : ℕ → Passes → Bool → Type 0
-AllPass n untold passed = Unit {0}
-AllPass n always passed = passed ≡ true
-AllPass n (up_to m) passed = passed ≡ nat_le n m
+-- what is known after it
+abbrev pub next : Passes → Passes
+next untold = untold
+next (up_to zero) = up_to zero
+next (up_to (suc n)) = up_to n
+next (script []) = script []
+next (script (passes ∷ later)) = script later
 
--- n calls in a row, of which the first that fails is the last, and whether all of them passed
-pub record Spends (n : ℕ) (before now : Passes) (passed : Bool) : Type 0 where
-  pub after : now ≡ spent n before
-  pub outcome : AllPass n before passed
+-- of three facts, the one for what is known of a call
+abbrev pub AtOutcome : Option Bool → Type 0 → Type 0 → Type 0 → Type 0
+AtOutcome None unknown passes fails = unknown
+AtOutcome (Some true) unknown passes fails = passes
+AtOutcome (Some false) unknown passes fails = fails
+
+-- n calls in a row, of which one that fails is the last, and whether all of them passed
+abbrev pub Runs : ℕ → Passes → Passes → Bool → Type 0
+Runs zero before now passed = (now ≡ before) × (passed ≡ true)
+Runs (suc n) before now passed = AtOutcome (outcome before) (now ≡ before) (Runs n (next before) now passed) ((now ≡ next before) × (passed ≡ false))
 
 -- room for calls of `write_at`, `cut` and `sync`, and for the bytes that they write in all
 pub record Room : Type 0 where

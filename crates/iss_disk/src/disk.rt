@@ -1,7 +1,7 @@
 // The trait of disks.
-ghost use Rattle.std.specs.Prelude.{◌≡◌, ℕ, ◌+◌, ◌-◌, ◌≤◌, ◌<◌, min, List, ◌∷◌, ◌++◌, length, take, drop, is_ok, OnOk, OnErr, IfOk, IsErr, IsErrOf};
+ghost use Rattle.std.specs.Prelude.{◌≡◌, ℕ, ◌+◌, ◌-◌, ◌≤◌, ◌<◌, min, List, [], ◌∷◌, ◌++◌, length, take, drop, is_ok, OnOk, OnErr, IfOk, IsErr, IsErrOf};
 ghost use Rattle.iss_disk.specs.File.{File, Image, wrote, shortened, synced};
-ghost use Rattle.iss_disk.specs.Calls.{IfTold, Moves, Restarts, StaysHere, Stays, HasCause, Passes, up_to, always, Spends, Room, Takes};
+ghost use Rattle.iss_disk.specs.Calls.{IfTold, Moves, Restarts, StaysHere, Stays, HasCause, Passes, up_to, script, Runs, Room, Takes};
 
 use crate::{EndError, Failed, NoMemory};
 
@@ -34,7 +34,7 @@ pub trait Disk {
         ensures err { OnErr result (current self.new ≡ current self.old) }
         ensures files { (n : List ℕ) → files self.new n ≡ files self.old n }
         ensures cause { HasCause (faults self.old) (faults self.new) (IsErrOf result EndError.Failed) }
-        ensures device { (IsErrOf result EndError.NoMemory → ⊥) → Spends 1 (passes self.old) (passes self.new) (is_ok result) }
+        ensures device { (IsErrOf result EndError.NoMemory → ⊥) → Runs 1 (passes self.old) (passes self.new) (is_ok result) }
         ensures no_memory { IsErrOf result EndError.NoMemory → passes self.new ≡ passes self.old };
 
     /// Makes room for the next calls of `write_at`, `cut` and `sync`, which then take no memory, and which write at most
@@ -52,7 +52,7 @@ pub trait Disk {
         ensures same { Stays (current self.old) (current self.new) (files self.old) (files self.new) }
         ensures room { Takes 0 0 (room self.old) (room self.new) }
         ensures cause { HasCause (faults self.old) (faults self.new) (IsErr result) }
-        ensures device { Spends 1 (passes self.old) (passes self.new) (is_ok result) };
+        ensures device { Runs 1 (passes self.old) (passes self.new) (is_ok result) };
 
     /// Reads from an offset on, and says how many bytes it read. Where the disk tells its content it fills the slice as
     /// far as the file reaches, which is 0 bytes at or past the end.
@@ -63,7 +63,7 @@ pub trait Disk {
         ensures same { Stays (current self.old) (current self.new) (files self.old) (files self.new) }
         ensures room { Takes 0 0 (room self.old) (room self.new) }
         ensures cause { HasCause (faults self.old) (faults self.new) (IsErr result) }
-        ensures device { Spends 1 (passes self.old) (passes self.new) (is_ok result) };
+        ensures device { Runs 1 (passes self.old) (passes self.new) (is_ok result) };
 
     /// Writes over what is there, and past the end.
     fn write_at(&mut self, at: u64, bytes: &[u8]) -> Result<(), Failed>
@@ -74,7 +74,7 @@ pub trait Disk {
         ensures others { StaysHere (current self.old) (current self.new) (files self.old) (files self.new) }
         ensures room { Takes 1 (length bytes.now) (room self.old) (room self.new) }
         ensures cause { HasCause (faults self.old) (faults self.new) (IsErr result) }
-        ensures device { Spends 1 (passes self.old) (passes self.new) (is_ok result) };
+        ensures device { Runs 1 (passes self.old) (passes self.new) (is_ok result) };
 
     /// Cuts the file to a length.
     fn cut(&mut self, len: u64) -> Result<(), Failed>
@@ -84,7 +84,7 @@ pub trait Disk {
         ensures others { StaysHere (current self.old) (current self.new) (files self.old) (files self.new) }
         ensures room { Takes 1 0 (room self.old) (room self.new) }
         ensures cause { HasCause (faults self.old) (faults self.new) (IsErr result) }
-        ensures device { Spends 1 (passes self.old) (passes self.new) (is_ok result) };
+        ensures device { Runs 1 (passes self.old) (passes self.new) (is_ok result) };
 
     /// After it, a crash leaves what a read gives.
     fn sync(&mut self) -> Result<(), Failed>
@@ -93,7 +93,7 @@ pub trait Disk {
         ensures others { StaysHere (current self.old) (current self.new) (files self.old) (files self.new) }
         ensures room { Takes 1 0 (room self.old) (room self.new) }
         ensures cause { HasCause (faults self.old) (faults self.new) (IsErr result) }
-        ensures device { Spends 1 (passes self.old) (passes self.new) (is_ok result) };
+        ensures device { Runs 1 (passes self.old) (passes self.new) (is_ok result) };
 
     /// The states of the current file are those of the file of its name.
     ghost here: { (disk : Self) → history disk ≡ files disk (current disk) };
@@ -115,6 +115,6 @@ pub trait Fused: Disk {
     fn restart(&mut self)
         ensures files { (name : List ℕ) → Restarts (Self.files self.old name) (Self.files self.new name) }
         ensures current { Self.current self.new ≡ Self.current self.old }
-        ensures passes { Self.passes self.new ≡ always }
+        ensures passes { Self.passes self.new ≡ script [] }
         ensures faults { Self.faults self.new ≡ Self.faults self.old };
 }

@@ -4,7 +4,10 @@
 mod call;
 mod disk;
 mod errors;
+mod fate;
+mod memory;
 mod stored;
 
 pub use disk::{Disk, Fused};
 pub use errors::{EndError, Failed, NoMemory};
+pub use memory::MemoryDisk;
