@@ -5,3 +5,4 @@ pub mod StoredViews
 pub mod ReadsAreImages
 pub mod Fates
 pub mod MemoryViews
+pub mod MemoryLaws
