@@ -6,3 +6,4 @@ pub mod ReadsAreImages
 pub mod Fates
 pub mod MemoryViews
 pub mod MemoryLaws
+pub mod Untold
