@@ -24,11 +24,13 @@ pub struct MemoryDisk {
 impl MemoryDisk {
     ghost use Rattle.iss_disk.specs.File.{settled};
     ghost use Rattle.iss_disk.specs.Calls.{script};
+    ghost use Rattle.iss_disk.specs.StoredViews.{history_of};
     ghost use Rattle.iss_disk.specs.MemoryViews.{files_of, current_of, faults_of, calls_of};
 
     /// A disk of which no call fails. All of its files are empty, and the one of the empty name is the current one.
     pub fn new(alloc: Global) -> Result<MemoryDisk, AllocError>
         ensures files { IfOk result (λ disk. (name : List ℕ) → files_of disk name ≡ settled [] ∷ []) }
+        ensures history { IfOk result (λ disk. history_of disk.file ≡ settled [] ∷ []) }
         ensures current { IfOk result (λ disk. current_of disk ≡ []) }
         ensures passes { IfOk result (λ disk. calls_of disk ≡ script []) }
         ensures faults { IfOk result (λ disk. faults_of disk ≡ 0) }
@@ -45,6 +47,7 @@ impl MemoryDisk {
     /// The same disk, of whose next calls those pass that the list says, and then all.
     pub fn with_outcomes(self, outcomes: Vec<bool>) -> MemoryDisk
         ensures files { (name : List ℕ) → files_of result name ≡ files_of self name }
+        ensures history { history_of result.file ≡ history_of self.file }
         ensures current { current_of result ≡ current_of self }
         ensures passes { calls_of result ≡ script outcomes.items }
         ensures faults { faults_of result ≡ faults_of self }
