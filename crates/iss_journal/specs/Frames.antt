@@ -1,6 +1,7 @@
 -- The bytes of a journal's file: any number of entries, each behind an open gate and its length, and then one closed gate.
 use Rattle.std.specs.Prelude.{◌≡◌, ◌≢◌, ◌⊎◌, ℕ, ◌+◌, ◌<◌, ◌≤◌, List, [], ◌∷◌, ◌++◌, length, take, refl}
 use Rattle.std.specs.Int.{w32, to_be_bytes, from_be_bytes}
+use Rattle.std.specs.Coded.{×_prop, Unit-prop, le_prop}
 use Rattle.std.proofs.Common.{inl, lit≤}
 
 -- the longest entry
@@ -18,6 +19,10 @@ frames (entry ∷ entries) = frame entry ++ frames entries
 abbrev pub AreShort : List (List ℕ) → Type 0
 AreShort [] = Unit {0}
 AreShort (entry ∷ entries) = (length entry ≤ max_entry) × AreShort entries
+
+pub short_prop : (entries : List (List ℕ)) → IsProp (AreShort entries)
+short_prop [] = Unit-prop
+short_prop (entry ∷ entries) = ×_prop le_prop (short_prop entries)
 
 -- behind an open gate: a length, the entry and the next gate stand there whole
 abbrev pub IsWhole : List ℕ → Type 0

@@ -1,2 +1,8 @@
 //! A journal: a list of entries on a disk, each kept before its `append` answers, whatever a crash tears.
 #![tactic(auto)]
+
+mod entries;
+mod laws;
+
+pub use entries::Entries;
+pub use laws::a_file_has_one_reading;

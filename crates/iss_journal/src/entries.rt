@@ -1,0 +1,120 @@
+// The entries of a journal, as they lie in its file.
+ghost use Rattle.iss_journal.specs.Views.{IsBook};
+ghost use Rattle.iss_journal.specs.Frames.{short_prop};
+ghost use Rattle.std.proofs.Props.{props};
+
+use std::alloc::{AllocError, Global};
+
+/// The entries of a journal, in the order in which they were appended.
+#[derive(Drop)]
+pub struct Entries {
+    // The file's bytes up to its last gate; behind it lies what is about to be appended.
+    bytes: Vec<u8>,
+    // The offset of the gate of each entry.
+    gates: Vec<u64>,
+    // The offset of the last gate, behind which there is no entry yet.
+    last: usize,
+    ghost book: { IsBook bytes.items gates.items last } by { Prim.hlevel (short_prop, props) },
+}
+
+impl Entries {
+    ghost use Rattle.std.specs.Prelude.{◌≡◌, ◌+◌, ◌<◌, ◌≤◌, ◌++◌, [], ◌∷◌, length, take, drop, slice_index_or, vec_len, vec_capacity, OnOk};
+    ghost use Rattle.std.specs.Int.{w32, to_be_bytes};
+    ghost use Rattle.iss_journal.specs.Frames.{frame, frames, max_entry};
+    ghost use Rattle.iss_journal.specs.EntryViews.{entries_in};
+
+    pub(crate) fn new(alloc: Global) -> Entries
+        ensures entries { entries_in result ≡ [] }
+        ensures last { result.last ≡ 0 }
+    {
+        Entries {
+            bytes: Vec::new(alloc),
+            gates: Vec::new(alloc),
+            last: 0,
+        }
+    }
+
+    /// How many entries there are.
+    pub fn len(&self) -> usize
+        ensures { result ≡ length (entries_in self.now) }
+    {
+        self.gates.len()
+    }
+
+    /// The entry with this number, from 0.
+    pub fn get(&self, k: usize) -> &[u8]
+        requires { k < length (entries_in self.now) }
+        ensures { result.now ≡ slice_index_or (entries_in self.now) k [] }
+    {
+        let gate = self.gates[k] as usize;
+        let end = match self.gates.get(k + 1) {
+            Some(next) => *next as usize,
+            None => self.last,
+        };
+        &self.bytes[gate + 5..end]
+    }
+
+    /// The offset in the file of the gate of the entry with this number.
+    pub fn gate_of(&self, k: usize) -> u64
+        requires { k < length (entries_in self.now) }
+        ensures { result ≡ length (frames (take k (entries_in self.now))) }
+    {
+        self.gates[k]
+    }
+
+    // Where the next entry's gate lies.
+    pub(crate) fn last(&self) -> usize
+        ensures field { result ≡ self.now.last }
+        ensures offset { result ≡ length (frames (entries_in self.now)) }
+    {
+        self.last
+    }
+
+    // Makes room for an entry of so many bytes.
+    pub(crate) fn reserve(&mut self, bytes: usize) -> Result<(), AllocError>
+        ensures entries { entries_in self.new ≡ entries_in self.old }
+        ensures room { OnOk result (length (frames (entries_in self.new)) + bytes + 6 ≤ vec_capacity self.new.bytes) }
+        ensures gate { OnOk result (vec_len self.new.gates < vec_capacity self.new.gates) }
+    {
+        let wanted = bytes.checked_add(6).ok_or(AllocError)?;
+        self.bytes.truncate(self.last);
+        self.bytes.reserve(wanted)?;
+        self.gates.reserve(1)
+    }
+
+    // Puts an entry behind the last gate, with its length before it and a closed gate behind it.
+    pub(crate) fn stage(&mut self, entry: &[u8])
+        requires short { length entry.now ≤ max_entry }
+        requires room { length (frames (entries_in self.old)) + length entry.now + 6 ≤ vec_capacity self.old.bytes }
+        requires gate { vec_len self.old.gates < vec_capacity self.old.gates }
+        ensures entries { entries_in self.new ≡ entries_in self.old }
+        ensures bytes { self.new.bytes.items ≡ frames (entries_in self.old) ++ (frame entry.now ++ 0 ∷ []) }
+        ensures gate { vec_len self.new.gates < vec_capacity self.new.gates }
+    {
+        let size = entry.len() as u32;
+        self.bytes.truncate(self.last);
+        let _ = self.bytes.push(1);
+        let _ = self.bytes.extend_from_slice(&size.to_be_bytes());
+        let _ = self.bytes.extend_from_slice(entry);
+        let _ = self.bytes.push(0);
+    }
+
+    // What was staged, behind the gate.
+    pub(crate) fn staged(&self) -> &[u8]
+        requires { length (frames (entries_in self.now)) < length self.now.bytes.items }
+        ensures { result.now ≡ drop (length (frames (entries_in self.now)) + 1) self.now.bytes.items }
+    {
+        &self.bytes[self.last + 1..]
+    }
+
+    // The entry that was staged is the last one now.
+    pub(crate) fn commit(&mut self, entry: &[u8])
+        requires short { length entry.now ≤ max_entry }
+        requires bytes { self.old.bytes.items ≡ frames (entries_in self.old) ++ (frame entry.now ++ 0 ∷ []) }
+        requires gate { vec_len self.old.gates < vec_capacity self.old.gates }
+        ensures { entries_in self.new ≡ entries_in self.old ++ entry.now ∷ [] }
+    {
+        let _ = self.gates.push(self.last as u64);
+        self.last += 5 + entry.len();
+    }
+}
