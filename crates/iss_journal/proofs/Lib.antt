@@ -1,2 +1,3 @@
 mod FrameLemmas
 mod Grammar
+mod Book

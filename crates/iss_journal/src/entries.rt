@@ -1,6 +1,7 @@
 // The entries of a journal, as they lie in its file.
 ghost use Rattle.iss_journal.specs.Views.{IsBook};
-ghost use Rattle.iss_journal.specs.Frames.{short_prop};
+ghost use Rattle.std.specs.Prelude.{◌≡◌, ◌+◌, ◌≤◌, ◌++◌, [], ◌∷◌, length, vec_len, vec_capacity};
+ghost use Rattle.iss_journal.specs.Frames.{short_prop, frame, max_entry};
 ghost use Rattle.std.proofs.Props.{props};
 
 use std::alloc::{AllocError, Global};
@@ -15,6 +16,19 @@ pub struct Entries {
     // The offset of the last gate, behind which there is no entry yet.
     last: usize,
     ghost book: { IsBook bytes.items gates.items last } by { Prim.hlevel (short_prop, props) },
+}
+
+// Adds the frame of an entry, with a closed gate behind it.
+fn put_frame(bytes: &mut Vec<u8>, entry: &[u8])
+    requires short { length entry.now ≤ max_entry }
+    requires room { vec_len bytes.old + length entry.now + 6 ≤ vec_capacity bytes.old }
+    ensures { bytes.new.items ≡ bytes.old.items ++ (frame entry.now ++ 0 ∷ []) }
+{
+    let size = entry.len() as u32;
+    let _ = bytes.push(1);
+    let _ = bytes.extend_from_slice(&size.to_be_bytes());
+    let _ = bytes.extend_from_slice(entry);
+    let _ = bytes.push(0);
 }
 
 impl Entries {
@@ -46,12 +60,21 @@ impl Entries {
         requires { k < length (entries_in self.now) }
         ensures { result.now ≡ slice_index_or (entries_in self.now) k [] }
     {
-        let gate = self.gates[k] as usize;
-        let end = match self.gates.get(k + 1) {
-            Some(next) => *next as usize,
-            None => self.last,
-        };
+        let end = self.end_of(k);
+        let gate = self.gate_of(k) as usize;
         &self.bytes[gate + 5..end]
+    }
+
+    // The offset behind the entry with this number, where the next gate lies.
+    fn end_of(&self, k: usize) -> usize
+        requires { k < length (entries_in self.now) }
+        ensures { result ≡ length (frames (take (k + 1) (entries_in self.now))) }
+    {
+        if k + 1 < self.gates.len() {
+            self.gates[k + 1] as usize
+        } else {
+            self.last
+        }
     }
 
     /// The offset in the file of the gate of the entry with this number.
@@ -73,11 +96,10 @@ impl Entries {
     // Makes room for an entry of so many bytes.
     pub(crate) fn reserve(&mut self, bytes: usize) -> Result<(), AllocError>
         ensures entries { entries_in self.new ≡ entries_in self.old }
-        ensures room { OnOk result (length (frames (entries_in self.new)) + bytes + 6 ≤ vec_capacity self.new.bytes) }
+        ensures room { OnOk result (length (frames (entries_in self.old)) + bytes + 6 ≤ vec_capacity self.new.bytes) }
         ensures gate { OnOk result (vec_len self.new.gates < vec_capacity self.new.gates) }
     {
         let wanted = bytes.checked_add(6).ok_or(AllocError)?;
-        self.bytes.truncate(self.last);
         self.bytes.reserve(wanted)?;
         self.gates.reserve(1)
     }
@@ -91,12 +113,8 @@ impl Entries {
         ensures bytes { self.new.bytes.items ≡ frames (entries_in self.old) ++ (frame entry.now ++ 0 ∷ []) }
         ensures gate { vec_len self.new.gates < vec_capacity self.new.gates }
     {
-        let size = entry.len() as u32;
         self.bytes.truncate(self.last);
-        let _ = self.bytes.push(1);
-        let _ = self.bytes.extend_from_slice(&size.to_be_bytes());
-        let _ = self.bytes.extend_from_slice(entry);
-        let _ = self.bytes.push(0);
+        put_frame(&mut self.bytes, entry);
     }
 
     // What was staged, behind the gate.
