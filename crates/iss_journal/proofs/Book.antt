@@ -1,7 +1,10 @@
 -- Entries that lie in the bytes of a file.
-use Rattle.std.proofs.Common.{◌≡◌, ℕ, zero, suc, ◌+◌, ◌-◌, ◌<◌, ◌≤◌, List, [], ◌∷◌, ◌++◌, length, take, drop, map, get_or, refl, sym, ◌∙◌, ap, subst, arith, append_assoc, length-append, length-take, take-append-drop}
-use Rattle.std.proofs.lemmas.List.{take_at, drop_at, drop-drop, append-nil, take_all, length-map, get_or_read, get_or_default}
-use Rattle.iss_journal.specs.Frames.{frame, frames, max_entry, AreShort}
+use Rattle.std.proofs.Common.{◌≡◌, ◌≢◌, inl, inr, lit<, length-drop, length-take-le, ℕ, zero, suc, ◌+◌, ◌-◌, ◌<◌, ◌≤◌, List, [], ◌∷◌, ◌++◌, length, take, drop, map, get_or, refl, sym, ◌∙◌, ap, subst, arith, append_assoc, length-append, length-take, take-append-drop}
+use Rattle.std.proofs.lemmas.List.{take_at, drop_at, drop-drop, append-nil, take_all, length-map, get_or_read, get_or_default, get_or-take, get_or-drop, get_or_past, drop_more}
+use Rattle.std.proofs.lemmas.Bool.{cases_lt}
+use Rattle.std.proofs.lemmas.Nat.{be_bytes_4}
+use Rattle.std.specs.Int.{w32, to_be_bytes, from_be_bytes}
+use Rattle.iss_journal.specs.Frames.{frame, frames, max_entry, AreShort, IsWhole, ClosesAfter}
 use Rattle.iss_journal.specs.Views.{offsets, entry_at, entries_at, IsBook}
 use Rattle.iss_journal.proofs.FrameLemmas.{length-frame, entries_back, frames-push, offsets-push, short-push}
 
@@ -110,3 +113,45 @@ pub last_within : (bytes gates : List ℕ) (last : ℕ) → IsBook bytes gates l
 last_within bytes gates last book =
     let l : length (take last bytes) ≡ last = ap length book.front ∙ sym book.end in
     omega (arith, l, length-take last bytes)
+
+-- an open gate behind the last entry, and a whole entry behind it
+pub one_more : (bytes gates more : List ℕ) (at next first : ℕ) → IsBook bytes gates at → at < length bytes → first ≡ get_or bytes at first → first ≡ 1 → to_be_bytes w32 (from_be_bytes w32 (take 4 (drop (at + 1) bytes))) ≡ take 4 (drop (at + 1) bytes) → IsWhole (drop (at + 1) bytes) → next ≡ at + 5 + from_be_bytes w32 (take 4 (drop (at + 1) bytes)) → more ≡ gates ++ at ∷ [] → IsBook bytes more next
+one_more bytes gates more at next first book within is_first is_open sized whole is_next is_more =
+    let rest = drop (at + 1) bytes in
+    let size = from_be_bytes w32 (take 4 rest) in
+    let body = drop (at + 5) bytes in
+    let entry = take size body in
+    let behind : drop 4 rest ≡ body = drop-drop 4 (at + 1) bytes ∙ ap (λ (n : ℕ). drop n bytes) (five at) in
+    let room : size ≤ length body = omega (arith, whole.2, length-drop (at + 1) bytes, length-drop (at + 5) bytes) in
+    let long : length entry ≡ size = length-take-le size body room in
+    let spelled : rest ≡ to_be_bytes w32 (length entry) ++ (entry ++ drop size body) =
+    sym (take-append-drop 4 rest) ∙ ap (λ (l : List ℕ). l ++ drop 4 rest) (sym sized ∙ ap (to_be_bytes w32) (sym long)) ∙ ap (λ (l : List ℕ). to_be_bytes w32 (length entry) ++ l) (behind ∙ sym (take-append-drop size body)) in
+    let opened : drop at bytes ≡ frame entry ++ drop size body =
+    drop_more bytes at first within ∙ ap (λ (n : ℕ). n ∷ rest) (sym is_first ∙ is_open) ∙ ap (λ (l : List ℕ). 1 ∷ l) spelled ∙ sym (ap (λ (l : List ℕ). 1 ∷ l) (append_assoc (to_be_bytes w32 (length entry)) entry (drop size body))) in
+    let short : length entry ≤ max_entry = omega (arith, long, whole.1) in
+    let next_is : next ≡ at + (5 + length entry) = omega (arith, is_next, long) in
+    (with_entry bytes gates more at next entry (drop size body) book (begins bytes gates at book ∙ ap (λ (l : List ℕ). frames (entries_at bytes gates) ++ l) opened) short is_more next_is).book
+  where
+    five : (n : ℕ) → n + 1 + 4 ≡ n + 5
+    five n = omega arith
+
+-- a closed gate behind the last entry
+pub closes : (bytes gates : List ℕ) (at first : ℕ) (entries : List (List ℕ)) → IsBook bytes gates at → at < length bytes → first ≡ get_or bytes at first → first ≢ 1 → entries ≡ entries_at bytes gates → ClosesAfter entries bytes
+closes bytes gates at first entries book within is_first closed same = record {
+  gate = first;
+  rest = drop (at + 1) bytes;
+  is = begins bytes gates at book ∙ ap (λ (es : List (List ℕ)). frames es ++ drop at bytes) (sym same) ∙ ap (λ (l : List ℕ). frames entries ++ l) (drop_more bytes at first within ∙ ap (λ (n : ℕ). n ∷ drop (at + 1) bytes) (sym is_first));
+  closed = closed;
+  short = subst AreShort (sym same) book.short;
+}
+
+-- four bytes are the spelling of the number that they spell
+pub spelled : (bytes : List ℕ) (from : ℕ) → ((i : ℕ) → get_or bytes i 0 < 256) → 4 ≤ length (drop from bytes) → to_be_bytes w32 (from_be_bytes w32 (take 4 (drop from bytes))) ≡ take 4 (drop from bytes)
+spelled bytes from fit long =
+    let rest = drop from bytes in
+    let four : length (take 4 rest) ≡ 4 = length-take-le 4 rest long in
+    let fits : (i : ℕ) → get_or (take 4 rest) i 0 < 256 = λ i. elim (cases_lt i 4) [
+      | inl below ↦ subst (λ (n : ℕ). n < 256) (sym (get_or-take 4 rest i 0 below ∙ get_or-drop from bytes i 0)) (fit (from + i))
+      | inr past ↦ let at_end : length (take 4 rest) ≤ i = omega (arith, four, past) in subst (λ (n : ℕ). n < 256) (sym (get_or_past (take 4 rest) i 0 at_end)) (lit< tt)
+    ] in
+    be_bytes_4 (take 4 rest) (from_be_bytes w32 (take 4 rest)) four fits refl

@@ -1,3 +1,4 @@
 pub mod Frames
 pub mod Views
 pub mod EntryViews
+pub mod Scans

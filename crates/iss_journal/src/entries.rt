@@ -6,6 +6,14 @@ ghost use Rattle.std.proofs.Props.{props};
 
 use std::alloc::{AllocError, Global};
 
+/// The longest entry.
+pub const MAX_ENTRY: usize = 200_000_100;
+
+// A gate of this byte is open, and any other is closed.
+pub(crate) const OPEN: u8 = 1;
+
+pub(crate) const CLOSED: u8 = 0;
+
 /// The entries of a journal, in the order in which they were appended.
 #[derive(Drop)]
 pub struct Entries {
@@ -25,16 +33,17 @@ fn put_frame(bytes: &mut Vec<u8>, entry: &[u8])
     ensures { bytes.new.items ≡ bytes.old.items ++ (frame entry.now ++ 0 ∷ []) }
 {
     let size = entry.len() as u32;
-    let _ = bytes.push(1);
+    let _ = bytes.push(OPEN);
     let _ = bytes.extend_from_slice(&size.to_be_bytes());
     let _ = bytes.extend_from_slice(entry);
-    let _ = bytes.push(0);
+    let _ = bytes.push(CLOSED);
 }
 
 impl Entries {
     ghost use Rattle.std.specs.Prelude.{◌≡◌, ◌+◌, ◌<◌, ◌≤◌, ◌++◌, [], ◌∷◌, length, take, drop, slice_index_or, vec_len, vec_capacity, OnOk};
     ghost use Rattle.std.specs.Int.{w32, to_be_bytes};
     ghost use Rattle.iss_journal.specs.Frames.{frame, frames, max_entry};
+    ghost use Rattle.iss_journal.specs.Views.{IsBook, entries_at};
     ghost use Rattle.iss_journal.specs.EntryViews.{entries_in};
 
     pub(crate) fn new(alloc: Global) -> Entries
@@ -46,6 +55,14 @@ impl Entries {
             gates: Vec::new(alloc),
             last: 0,
         }
+    }
+
+    // The entries that lie in these bytes behind these gates.
+    pub(crate) fn from_parts(bytes: Vec<u8>, gates: Vec<u64>, last: usize) -> Entries
+        requires { IsBook bytes.items gates.items last }
+        ensures { entries_in result ≡ entries_at bytes.items gates.items }
+    {
+        Entries { bytes, gates, last }
     }
 
     /// How many entries there are.

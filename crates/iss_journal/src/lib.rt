@@ -3,6 +3,7 @@
 
 mod entries;
 mod laws;
+mod scan;
 
 pub use entries::Entries;
 pub use laws::a_file_has_one_reading;
