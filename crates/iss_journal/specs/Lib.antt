@@ -2,3 +2,4 @@ pub mod Frames
 pub mod Views
 pub mod EntryViews
 pub mod Scans
+pub mod Promises
