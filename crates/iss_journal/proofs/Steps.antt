@@ -1,9 +1,10 @@
 -- How runs of device calls go on.
-use Rattle.std.proofs.Common.{◌≡◌, ◌≢◌, ◌⊎◌, inl, inr, ⊎_elim, ℕ, zero, suc, ◌+◌, ◌-◌, ◌<◌, ◌≤◌, Bool, true, false, Option, Some, None, List, [], ◌∷◌, ◌++◌, length, refl, sym, ◌∙◌, ap, subst, arith, append_assoc}
+use Rattle.std.proofs.Common.{◌≡◌, ◌≢◌, ◌⊎◌, inl, inr, ⊎_elim, ℕ, zero, suc, ◌+◌, ◌-◌, ◌<◌, ◌≤◌, Bool, true, false, Option, Some, None, List, [], ◌∷◌, ◌++◌, length, drop, refl, sym, ◌∙◌, ap, subst, arith, append_assoc}
+use Rattle.std.proofs.lemmas.List.{drop_at, drop-drop}
 use Rattle.std.proofs.lemmas.Bool.{true≢false, false≢true}
 use Rattle.iss_disk.specs.File.{File, Image, settled, overwritten, wrote, shortened, synced}
 use Rattle.iss_disk.specs.Calls.{EachState, IfTold, IsBetween, Moves, StaysHere, Stays, Rose, HasCause, Passes, outcome, next, AtOutcome, Runs}
-use Rattle.iss_journal.specs.Frames.{frames, max_entry, AreShort, Reads, holds}
+use Rattle.iss_journal.specs.Frames.{frame, frames, max_entry, AreShort, Reads, holds}
 use Rattle.iss_journal.specs.Promises.{OnlyLeaves, LeavesOnly, HoldsWithOrWithout, RestsOn}
 use Rattle.iss_journal.proofs.Crash as crash
 
@@ -220,3 +221,13 @@ module _ (entries : List (List ℕ)) (entry : List ℕ) (fits : length entry ≤
   second_within (file ∷ past) h1 h2 rests w s =
       subst (λ (l : List File). IfTold l (λ file. last ≤ length file.content)) (sym (two file past rests h1 h2 w s))
       (omega (arith, ap (λ (f : File). length f.content) (is_staged file past rests), crash.length_staged entries entry rests.gate rests.short fits rests.closed))
+
+-- what is staged behind the gate
+pub is_body : (entries : List (List ℕ)) (entry bytes staged : List ℕ) → bytes ≡ frames entries ++ (frame entry ++ 0 ∷ []) → staged ≡ drop (length (frames entries) + 1) bytes → staged ≡ crash.body entry
+is_body entries entry bytes staged is is_staged =
+    is_staged ∙ ap (drop (length (frames entries) + 1)) is ∙ sym (drop-drop 1 (length (frames entries)) (frames entries ++ (frame entry ++ 0 ∷ []))) ∙ ap (drop 1) (drop_at (frames entries) (frame entry ++ 0 ∷ []) (length (frames entries)) refl)
+
+-- a write of the same bytes at the same place
+pub same_write : (at to : ℕ) (bytes others : List ℕ) (passed : Bool) (h new : List File) → at ≡ to → bytes ≡ others → Moves (wrote at bytes) passed h new → Moves (wrote to others) passed h new
+same_write at to bytes others passed h new is_at is_bytes moves =
+    subst (λ (n : ℕ). Moves (wrote n others) passed h new) is_at (subst (λ (l : List ℕ). Moves (wrote at l) passed h new) is_bytes moves)

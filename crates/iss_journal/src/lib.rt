@@ -2,6 +2,7 @@
 #![tactic(auto)]
 
 mod entries;
+mod keep;
 mod laws;
 mod scan;
 
