@@ -2,7 +2,7 @@
 ghost use Rattle.std.specs.Prelude.{◌≡◌, ◌<◌, IfOk, reverse};
 ghost use Rattle.iss_model.specs.Concrete.{rules_of};
 ghost use Rattle.iss_model.specs.Formats.{formats_of};
-ghost use Rattle.iss_model.specs.Node.{Core, idle};
+ghost use Rattle.iss_model.specs.Node.{Core, idle, step};
 ghost use Rattle.iss_model.specs.Past.{log_of};
 ghost use Rattle.iss_model.specs.Runs.{IsSetupOf};
 ghost use Rattle.iss_node.specs.State.{NodeState, Stands};
@@ -67,7 +67,7 @@ impl<M: Sequenced> Node<M> {
     /// Takes an event. Where it is dropped nothing changes; after want of memory nothing is promised.
     pub fn take(&mut self, alloc: Global, event: NodeEvent) -> Answer
         ensures answer { (c : Core M.Msg) → Stands M.meaning M.stands self.old c →
-            IsAnswer (formats_of self.old.setup M.meaning) (rules_of self.old.setup) M.meaning M.stands self.old.me.0 c event self.new result }
+            IsAnswer M.meaning M.stands c (step (formats_of self.old.setup M.meaning) (rules_of self.old.setup) M.meaning self.old.me.0 c event) self.new result }
         ensures same { (self.new.setup ≡ self.old.setup) × (self.new.me ≡ self.old.me) }
     {
         let _ = alloc;
