@@ -5,6 +5,7 @@ pub mod answers;
 pub mod cells;
 pub mod judge;
 pub mod node;
+pub mod parcels;
 pub mod segment;
 
 pub use answers::{Answer, Outcome};
