@@ -1,5 +1,6 @@
 pub mod Answers
 pub mod Cells
+pub mod Growth
 pub mod Marks
 pub mod Parcels
 pub mod Shape

@@ -3,6 +3,7 @@
 
 pub mod answers;
 pub mod cells;
+pub mod growth;
 pub mod judge;
 pub mod node;
 pub mod parcels;
