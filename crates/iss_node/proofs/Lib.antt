@@ -4,3 +4,4 @@ pub mod LogOf
 pub mod MarksLemmas
 pub mod ParcelLemmas
 pub mod SegmentLemmas
+pub mod TiedLemmas
