@@ -1,5 +1,5 @@
 -- A node that took an input stands for the core after it.
-use Rattle.std.proofs.Common.{inl, inr, arith, ◌≡◌, ◌≢◌, ◌⊎◌, ℕ, zero, suc, ◌+◌, ◌-◌, ◌*◌, ◌/◌, ◌<◌, ◌≤◌, Bool, true, false, List, [], ◌∷◌, ◌++◌, cond, ◌==◌, Option, Some, None, length, take, drop, reverse, refl, sym, ap, ◌∙◌, subst, slice_get, if◌then◌else◌}
+use Rattle.std.proofs.Common.{get_or, slice_set, inl, inr, arith, ◌≡◌, ◌≢◌, ◌⊎◌, ℕ, zero, suc, ◌+◌, ◌-◌, ◌*◌, ◌/◌, ◌<◌, ◌≤◌, Bool, true, false, List, [], ◌∷◌, ◌++◌, cond, ◌==◌, Option, Some, None, length, take, drop, reverse, refl, sym, ap, ◌∙◌, subst, slice_get, if◌then◌else◌}
 use Rattle.std.specs.Prelude.{fold}
 use Rattle.std.proofs.lemmas.Bool.Decides.{nat_tests}
 use Rattle.std.proofs.lemmas.List.{length-reverse}
@@ -124,7 +124,7 @@ module _ {M Msg : Type 0} (m : Module Msg) (stands : M → Params → ℕ → Li
   own : AreKeysOf g.me.0 g.params.setup.keys v.keys
   own =
       subst (λ (p : Params). AreKeysOf g.me.0 p.setup.keys v.keys) (sym (shape.params l g at))
-      (subst (λ (i : NodeId). AreKeysOf i.0 v.setup.keys v.keys) (sym (shape.node l g at)) shape.keys)
+      (subst (λ (i : NodeId). AreKeysOf i.0 v.setup.keys v.keys) (sym (shape.node l g at)) tied.keys)
 
   here : IsInstance stands g (ev 0 l)
   here = tied.instances l g at
@@ -231,6 +231,7 @@ module _ {M Msg : Type 0} (m : Module Msg) (stands : M → Params → ℕ → Li
       outside = outside;
       hole = grown.hole;
       logged = noted;
+      keys = record { own = taken.within.same_secret ∙ tied.keys.own; tall = taken.within.same_height ∙ tied.keys.tall };
       later = λ d k lt. set_at2-other ev 0 l (and_then m ((rules_of v.setup).params [] 0 l) v.me.0 (ev 0 l) input v.keys.used) d k (inl (let ne : d ≢ 0 = omega (arith, lt) in ne)) ∙ tied.later d k lt;
     }
 
@@ -267,27 +268,68 @@ module _ {M Msg : Type 0} (m : Module Msg) (stands : M → Params → ℕ → Li
       let all : AreToNodes v.setup.n e.sends = subst (λ (p : Params). AreToNodes p.setup.n e.sends) (shape.params l g at) taken.within.addressed in
       subst (λ (xs : List (To × List ℕ)). AreToNodes v.setup.n xs) (sym is) (to-nodes F v.me.0 l v.setup.n e.sends all)
 
-  -- the shape stays
-  pub same-shape : (segments : List (SegmentState M)) → length segments ≡ length v.segments → slice_get segments l ≡ Some g' → ((k : ℕ) → k ≢ l → slice_get segments k ≡ slice_get v.segments k) →
-      (w : LogState) (waiting : List Request) (flight : List (Slot × Batch)) (logged : List ReqId) →
-      IsNode m plan (record { setup = v.setup; me = v.me; segments = segments; log = w; waiting = waiting; flight = flight; logged = logged; keys = later })
-  same-shape segments count place others w waiting flight logged = record {
+-- ---- the shape stays, whatever the module did
+
+get-of : {A : Type 0} (xs : List A) (l : ℕ) (y : A) → l < length xs → y ≡ get_or xs l y → slice_get xs l ≡ Some y
+get-of [] l y lt is = absurd (omega arith)
+get-of (x ∷ xs) zero y lt is = ap (λ (z : _). Some z) (sym is)
+get-of (x ∷ xs) (suc l) y lt is = let less : l < length xs = omega arith in get-of xs l y less is
+
+pub set-same : {A : Type 0} (xs : List A) (l : ℕ) (y : A) → l < length xs → slice_get (slice_set xs l y) l ≡ Some y
+set-same [] l y lt = absurd (omega arith)
+set-same (x ∷ xs) zero y lt = refl
+set-same (x ∷ xs) (suc l) y lt = let less : l < length xs = omega arith in set-same xs l y less
+
+pub set-other : {A : Type 0} (xs : List A) (l k : ℕ) (y : A) → k ≢ l → slice_get (slice_set xs l y) k ≡ slice_get xs k
+set-other [] l k y ne = refl
+set-other (x ∷ xs) zero zero y ne = absurd (ne refl)
+set-other (x ∷ xs) zero (suc k) y ne = refl
+set-other (x ∷ xs) (suc l) zero y ne = refl
+set-other (x ∷ xs) (suc l) (suc k) y ne = set-other xs l k y (λ e. ne (ap (λ (n : ℕ). suc n) e))
+
+pub set-length : {A : Type 0} (xs : List A) (l : ℕ) (y : A) → length (slice_set xs l y) ≡ length xs
+set-length [] l y = refl
+set-length (x ∷ xs) zero y = refl
+set-length (x ∷ xs) (suc l) y = ap (λ (n : ℕ). suc n) (set-length xs l y)
+
+module _ {M Msg : Type 0} (m : Module Msg) (plan : Plan) (v : NodeState M) (shape : IsNode m plan v)
+    (l : ℕ) (leads : l < v.setup.n) (g g' : SegmentState M) (is : g ≡ get_or v.segments l g) (same : (g'.params ≡ g.params) × (g'.me ≡ g.me)) where
+  within : l < length v.segments
+  within = let n = shape.count in omega (arith, n, leads)
+
+  pub place : slice_get v.segments l ≡ Some g
+  place = get-of v.segments l g within is
+
+  pub here-now : slice_get (slice_set v.segments l g') l ≡ Some g'
+  here-now = set-same v.segments l g' within
+
+  pub same-shape : (log : LogState) (waiting : List Request) (flight : List (Slot × Batch)) (logged : List ReqId) (keys : KeyState) →
+      IsNode m plan (record { setup = v.setup; me = v.me; segments = slice_set v.segments l g'; log = log; waiting = waiting; flight = flight; logged = logged; keys = keys })
+  same-shape log waiting flight logged keys = record {
     good = shape.good;
     me = shape.me;
     layout = shape.layout;
-    count = count ∙ shape.count;
-    params = λ k h is. two k h is (λ (z : SegmentState M) (i : ℕ). z.params ≡ (rules_of v.setup).params [] 0 i) (taken.same_params ∙ shape.params l g at) (shape.params k h);
-    node = λ k h is. two k h is (λ (z : SegmentState M) (i : ℕ). z.me ≡ v.me) (taken.same_node ∙ shape.node l g at) (shape.node k h);
-    keys = record { own = taken.within.same_secret ∙ shape.keys.own; tall = taken.within.same_height ∙ shape.keys.tall };
+    count = set-length v.segments l g' ∙ shape.count;
+    params = λ k h at. two k h at (λ (z : SegmentState M) (i : ℕ). z.params ≡ (rules_of v.setup).params [] 0 i) (same.0 ∙ shape.params l g place) (shape.params k h);
+    node = λ k h at. two k h at (λ (z : SegmentState M) (i : ℕ). z.me ≡ v.me) (same.1 ∙ shape.node l g place) (shape.node k h);
   }
     where
-      two : (k : ℕ) (h : SegmentState M) → slice_get segments k ≡ Some h → (Q : SegmentState M → ℕ → Type 0) → Q g' l → (slice_get v.segments k ≡ Some h → Q h k) → Q h k
-      two k h is Q mine other = go (same_or_not k l)
+      two : (k : ℕ) (h : SegmentState M) → slice_get (slice_set v.segments l g') k ≡ Some h → (Q : SegmentState M → ℕ → Type 0) → Q g' l → (slice_get v.segments k ≡ Some h → Q h k) → Q h k
+      two k h at Q mine other = go (same_or_not k l)
         where
           go : (k ≡ l) ⊎ (k ≢ l) → Q h k
           go (inl q) =
-              let there : slice_get segments l ≡ Some h = subst (λ (i : ℕ). slice_get segments i ≡ Some h) q is in
-              let same : Some g' ≡ Some h = sym place ∙ there in
+              let there : slice_get (slice_set v.segments l g') l ≡ Some h = subst (λ (i : ℕ). slice_get (slice_set v.segments l g') i ≡ Some h) q at in
+              let one : Some g' ≡ Some h = sym here-now ∙ there in
               let is_g : g' ≡ h = cc in
               subst (λ (z : SegmentState M). Q z k) is_g (subst (λ (i : ℕ). Q g' i) (sym q) mine)
-          go (inr ne) = other (sym (others k ne) ∙ is)
+          go (inr ne) = other (sym (set-other v.segments l k g' ne) ∙ at)
+
+drop-front : {A : Type 0} (xs ys : List A) → drop (length xs) (xs ++ ys) ≡ ys
+drop-front [] ys = refl
+drop-front (x ∷ xs) ys = drop-front xs ys
+
+-- what joined is what stands behind the places that were held before
+pub more-is : (old : LogState) (ds : List (Slot × Value)) (new : LogState) (held : ℕ) (grown : IsGrown old ds new held) (entries more : List Value) → entries ≡ new.entries → more ≡ drop held entries → more ≡ grown.joined
+more-is old ds new held grown entries more e m =
+    m ∙ ap (λ (xs : List Value). drop held xs) (e ∙ grown.entries) ∙ ap (λ (n : ℕ). drop n (old.entries ++ grown.joined)) grown.count ∙ drop-front old.entries grown.joined

@@ -1,23 +1,28 @@
 //! The node.
-ghost use Rattle.std.specs.Prelude.{◌≡◌, ◌<◌, IfOk, reverse};
+ghost use Rattle.std.specs.Prelude.{◌≡◌, ◌<◌, ◌≤◌, ℕ, List, IfOk, drop, length, reverse};
 ghost use Rattle.iss_model.specs.Concrete.{rules_of};
 ghost use Rattle.iss_model.specs.Formats.{formats_of};
-ghost use Rattle.iss_model.specs.Node.{Core, idle, step};
+ghost use Rattle.iss_model.specs.Node.{Core, idle, inputs, step};
 ghost use Rattle.iss_model.specs.Past.{log_of};
 ghost use Rattle.iss_model.specs.Runs.{IsSetupOf};
-ghost use Rattle.iss_node.specs.State.{NodeState, Stands};
-ghost use Rattle.iss_node.specs.Steps.{IsAnswer};
+ghost use Rattle.iss_node.specs.State.{IsTied, NodeState, Stands, core_of};
+ghost use Rattle.iss_node.specs.Steps.{IsAnswer, IsInputTurn, IsNodeInput};
+ghost use Rattle.iss_sb.specs.Evidence.{Item};
 ghost use Rattle.iss_sb.specs.Keys.{AreKeysOf};
 
-use crate::answers::Answer;
+use crate::answers::{Answer, Outcome};
+use crate::cells::land_in;
+use crate::growth::{grow, refile};
+use crate::parcels::pack;
 use crate::segment::Segment;
 use iss_buckets::Pending;
 use iss_ids::Ids;
 use iss_layout::Layout;
+use iss_layout::laws::epochs_are_fair;
 use iss_log::Log;
 use iss_model::NodeEvent;
 use iss_request::{Batch, Epoch, NoMemory, NodeId, Setup, Slot, Value};
-use iss_sb::{Keys, Sequenced};
+use iss_sb::{Effects, Input, Keys, Sequenced};
 use std::alloc::Global;
 use std::marker::Model;
 
@@ -74,6 +79,32 @@ impl<M: Sequenced> Node<M> {
         Answer::NoMemory
     }
 
+    // Takes an input in the instance of a leader, which no test refuses.
+    fn input(
+        &mut self,
+        alloc: Global,
+        leader: NodeId,
+        input: Input<M::Msg>,
+    ) -> Result<Outcome, NoMemory>
+        requires leader { leader.0 < self.old.setup.n }
+        requires input { IsNodeInput self.old.setup.n input }
+        ensures taken { IfOk result (λ outcome. (evidence : ℕ → ℕ → List (Item M.Msg)) → IsTied M.meaning M.stands self.old evidence →
+            IsInputTurn M.meaning M.stands (inputs (formats_of self.old.setup M.meaning) (rules_of self.old.setup) M.meaning self.old.me.0 (core_of self.old evidence) leader.0 input) self.new outcome) }
+        ensures same { (self.new.setup ≡ self.old.setup) × (self.new.me ≡ self.old.me) }
+    {
+        epochs_are_fair();
+        let segment = &mut self.segments[leader.0 as usize];
+        let Ok(effects) = segment.step(alloc, input, &mut self.keys) else {
+            return Err(NoMemory);
+        };
+        let Effects { sends, delivers, .. } = effects;
+        let held = grow(&mut self.log, delivers.into_vec())?;
+        refile(behind(self.log.entries(), held), &mut self.waiting, &mut self.logged)?;
+        land_in(&mut self.flight, &self.log);
+        let sends = pack::<M>(alloc, &self.setup, self.me, leader, sends.as_slice())?;
+        Ok(Outcome { sends })
+    }
+
     /// The values of the log, in the order of the slots.
     pub fn entries(&self) -> &[Value]
         ensures { result.now ≡ self.now.log.entries }
@@ -87,6 +118,14 @@ impl<M: Sequenced> Node<M> {
     {
         Epoch(0)
     }
+}
+
+// The values from a place on.
+fn behind(values: &[Value], place: usize) -> &[Value]
+    requires { place ≤ length values.now }
+    ensures { result.now ≡ drop place values.now }
+{
+    &values[place..]
 }
 
 /// What the entries of a node are: the log of each core that it stands for.
