@@ -1,5 +1,6 @@
 pub mod CellsLemmas
 pub mod GrowthLemmas
+pub mod InstanceLemmas
 pub mod LogOf
 pub mod MarksLemmas
 pub mod ParcelLemmas

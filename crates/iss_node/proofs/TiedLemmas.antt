@@ -270,7 +270,7 @@ module _ {M Msg : Type 0} (m : Module Msg) (stands : M → Params → ℕ → Li
 
 -- ---- the shape stays, whatever the module did
 
-get-of : {A : Type 0} (xs : List A) (l : ℕ) (y : A) → l < length xs → y ≡ get_or xs l y → slice_get xs l ≡ Some y
+pub get-of : {A : Type 0} (xs : List A) (l : ℕ) (y : A) → l < length xs → y ≡ get_or xs l y → slice_get xs l ≡ Some y
 get-of [] l y lt is = absurd (omega arith)
 get-of (x ∷ xs) zero y lt is = ap (λ (z : _). Some z) (sym is)
 get-of (x ∷ xs) (suc l) y lt is = let less : l < length xs = omega arith in get-of xs l y less is

@@ -1,13 +1,14 @@
 //! The node.
-ghost use Rattle.std.specs.Prelude.{◌≡◌, ◌<◌, ◌≤◌, ℕ, List, IfOk, drop, length, reverse};
+ghost use Rattle.std.specs.Prelude.{◌≡◌, ◌<◌, ◌≤◌, ℕ, List, [], IfOk, IsTrue, drop, length, reverse};
 ghost use Rattle.iss_model.specs.Concrete.{rules_of};
 ghost use Rattle.iss_model.specs.Formats.{formats_of};
-ghost use Rattle.iss_model.specs.Node.{Core, idle, inputs, step};
+ghost use Rattle.iss_layout.specs.Layout.{leads, plan_of};
+ghost use Rattle.iss_model.specs.Node.{Core, at_instance, has_leaves, idle, inputs, step, verdict};
 ghost use Rattle.iss_model.specs.Past.{log_of};
 ghost use Rattle.iss_model.specs.Runs.{IsSetupOf};
 ghost use Rattle.iss_node.specs.State.{IsTied, NodeState, Stands, core_of};
 ghost use Rattle.iss_node.specs.Steps.{IsAnswer, IsInputTurn, IsNodeInput};
-ghost use Rattle.iss_sb.specs.Evidence.{Item};
+ghost use Rattle.iss_sb.specs.Evidence.{Item, accepts};
 ghost use Rattle.iss_sb.specs.Keys.{AreKeysOf};
 
 use crate::answers::{Answer, Outcome};
@@ -20,7 +21,7 @@ use iss_ids::Ids;
 use iss_layout::Layout;
 use iss_layout::laws::epochs_are_fair;
 use iss_log::Log;
-use iss_model::NodeEvent;
+use iss_model::{NodeEvent, Refusal, Why};
 use iss_request::{Batch, Epoch, NoMemory, NodeId, Setup, Slot, Value};
 use iss_sb::{Effects, Input, Keys, Sequenced};
 use std::alloc::Global;
@@ -77,6 +78,58 @@ impl<M: Sequenced> Node<M> {
     {
         let _ = alloc;
         Answer::NoMemory
+    }
+
+    // Whether a node leads the epoch.
+    fn leads(&self, leader: NodeId) -> bool
+        ensures leads { result ≡ leads (plan_of self.now.setup 0 []) leader.0 }
+        ensures below { IsTrue result → leader.0 < self.now.setup.n }
+    {
+        self.layout.leads(leader)
+    }
+
+    // Whether enough leaves are left for a step and for the vote at an epoch's end.
+    fn has_leaves(&self, leader: NodeId) -> bool
+        requires { leader.0 < self.now.setup.n }
+        ensures { (evidence : ℕ → ℕ → List (Item M.Msg)) → IsTied M.meaning M.stands self.now evidence →
+            result ≡ has_leaves M.meaning ((rules_of self.now.setup).params [] 0 leader.0) self.now.keys.used }
+    {
+        M::laws();
+        let segment = &self.segments[leader.0 as usize];
+        self.keys.left() > M::signs(segment.params())
+    }
+
+    // Why the batch that an input asks for is refused, if it is.
+    fn refusal(&self, leader: NodeId, input: &Input<M::Msg>) -> Option<Refusal>
+        requires leader { leader.0 < self.now.setup.n }
+        requires input { IsNodeInput self.now.setup.n input.now }
+        ensures { (evidence : ℕ → ℕ → List (Item M.Msg)) → IsTied M.meaning M.stands self.now evidence →
+            result ≡ verdict (rules_of self.now.setup) [] 0 leader.0 (accepts (evidence 0 leader.0)) (M.meaning.asks ((rules_of self.now.setup).params [] 0 leader.0) self.now.me.0 (evidence 0 leader.0) input.now) }
+    {
+        let segment = &self.segments[leader.0 as usize];
+        segment.refusal(&self.layout, input)
+    }
+
+    // An input in the instance of a leader, where it leads, keys are left and the judge agrees.
+    fn at_instance(&mut self, alloc: Global, leader: NodeId, input: Input<M::Msg>) -> Answer
+        requires { IsNodeInput self.old.setup.n input }
+        ensures answer { (c : Core M.Msg) → Stands M.meaning M.stands self.old c →
+            IsAnswer M.meaning M.stands c (at_instance (formats_of self.old.setup M.meaning) (rules_of self.old.setup) M.meaning self.old.me.0 c leader.0 input) self.new result }
+        ensures same { (self.new.setup ≡ self.old.setup) × (self.new.me ≡ self.old.me) }
+    {
+        if !self.leads(leader) {
+            return Answer::Dropped(Why::NotLeader);
+        }
+        if !self.has_leaves(leader) {
+            return Answer::Dropped(Why::NoKeys);
+        }
+        if let Some(refusal) = self.refusal(leader, &input) {
+            return Answer::Dropped(Why::Refused(refusal));
+        }
+        match self.input(alloc, leader, input) {
+            Ok(outcome) => Answer::Taken(outcome),
+            Err(_) => Answer::NoMemory,
+        }
     }
 
     // Takes an input in the instance of a leader, which no test refuses.
