@@ -1,4 +1,5 @@
 pub mod Answers
+pub mod Casts
 pub mod Cells
 pub mod Growth
 pub mod Marks

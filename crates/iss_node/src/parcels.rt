@@ -1,11 +1,11 @@
 //! What packets hold: a module's message, or a client's request.
-ghost use Rattle.std.specs.Prelude.{◌≡◌, ◌≤◌, ◌<◌, IfOk, OnOk, ◌∷◌, [], ◌++◌};
+ghost use Rattle.std.specs.Prelude.{◌≡◌, IfOk, IfSome, true};
 ghost use Rattle.iss_model.specs.Formats.{formats_of, packet_as, parcel_in, parcel_of_kind, message_in, request_in, whole};
 ghost use Rattle.iss_model.specs.Node.{Formats, OfModule, packed};
-ghost use Rattle.iss_node.specs.Parcels.{seen, seen_some};
+ghost use Rattle.iss_node.specs.Parcels.{IsFromNode, seen, seen_some};
 ghost use Rattle.iss_request.specs.declared.setups.Setup.{Setup};
 ghost use Rattle.iss_request.specs.Formats.{parse_request};
-ghost use Rattle.iss_packet.specs.Packets.{parse_packet};
+ghost use Rattle.iss_packet.specs.Packets.{is_routed, parse_packet};
 
 use iss_packet::{Packet, PacketError, PacketKind};
 use iss_request::{Bytes, DecodeError, Epoch, Fields, NoMemory, NodeId, Request, Row, Setup, Writer};
@@ -33,19 +33,27 @@ pub fn unwrap<M: Sequenced>(
     setup: &Setup,
     bytes: &[u8],
 ) -> Result<Option<Parcel<M::Msg>>, NoMemory>
-    ensures { IfOk result (λ parcel. seen parcel ≡ (formats_of setup.now M.meaning).unwrap bytes.now) }
+    ensures seen { IfOk result (λ parcel. seen parcel ≡ (formats_of setup.now M.meaning).unwrap bytes.now) }
+    ensures from { IfOk result (λ parcel. IfSome parcel (IsFromNode setup.now.n)) }
 {
     match Packet::decode(alloc, setup.n, bytes) {
-        Ok(packet) => open::<M>(alloc, packet),
+        Ok(packet) => open::<M>(alloc, setup.n, packet),
         Err(PacketError::NotPacket) => Ok(None),
         Err(PacketError::NoMemory) => Err(NoMemory),
     }
 }
 
 // What a packet holds. Votes, asks and pieces are not there yet.
-fn open<M: Sequenced>(alloc: Global, packet: Packet) -> Result<Option<Parcel<M::Msg>>, NoMemory>
-    ensures { IfOk result (λ parcel. seen parcel ≡ parcel_of_kind M.meaning packet packet.kind) }
+fn open<M: Sequenced>(
+    alloc: Global,
+    n: u32,
+    packet: Packet,
+) -> Result<Option<Parcel<M::Msg>>, NoMemory>
+    requires { is_routed n packet ≡ true }
+    ensures seen { IfOk result (λ parcel. seen parcel ≡ parcel_of_kind M.meaning packet packet.kind) }
+    ensures from { IfOk result (λ parcel. IfSome parcel (IsFromNode n)) }
 {
+    let _n = n;
     match packet.kind {
         PacketKind::Message => open_message::<M>(alloc, packet),
         PacketKind::Request => open_request::<M::Msg>(alloc, packet),
@@ -57,7 +65,8 @@ fn open_message<M: Sequenced>(
     alloc: Global,
     packet: Packet,
 ) -> Result<Option<Parcel<M::Msg>>, NoMemory>
-    ensures { IfOk result (λ parcel. seen parcel ≡ message_in packet (whole (M.meaning.parse packet.body))) }
+    ensures seen { IfOk result (λ parcel. seen parcel ≡ message_in packet (whole (M.meaning.parse packet.body))) }
+    ensures from { IfOk result (λ parcel. IfSome parcel (λ k. k.from.0 ≡ packet.from)) }
 {
     let Some(msg) = read_message::<M>(alloc, packet.body.as_slice())? else {
         return Ok(None);
@@ -91,7 +100,8 @@ fn read_message<M: Sequenced>(alloc: Global, bytes: &[u8]) -> Result<Option<M::M
 }
 
 fn open_request<T: Drop>(alloc: Global, packet: Packet) -> Result<Option<Parcel<T>>, NoMemory>
-    ensures { IfOk result (λ parcel. seen parcel ≡ request_in packet (whole (parse_request packet.body))) }
+    ensures seen { IfOk result (λ parcel. seen parcel ≡ request_in packet (whole (parse_request packet.body))) }
+    ensures asked { IfOk result (λ parcel. IfSome parcel (IsFromNode 0)) }
 {
     let Some(request) = read_request(alloc, packet.body.as_slice())? else {
         return Ok(None);
