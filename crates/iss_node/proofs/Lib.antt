@@ -1,3 +1,4 @@
+pub mod CastLemmas
 pub mod CellsLemmas
 pub mod GrowthLemmas
 pub mod InstanceLemmas
@@ -5,4 +6,5 @@ pub mod LogOf
 pub mod MarksLemmas
 pub mod ParcelLemmas
 pub mod SegmentLemmas
+pub mod StartLemmas
 pub mod TiedLemmas

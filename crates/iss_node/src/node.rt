@@ -186,7 +186,8 @@ impl<M: Sequenced> Node<M> {
         epochs_are_fair();
         M::laws();
         let segment = &self.segments[self.me.0 as usize];
-        first_castable(segment, &self.log, self.flight.as_slice())
+        let slots = segment.params().slots.as_slice();
+        first_castable(segment, &self.log, self.flight.as_slice(), slots)
     }
 
     // Casts at a slot, which no test refuses.
@@ -207,13 +208,9 @@ impl<M: Sequenced> Node<M> {
     {
         epochs_are_fair();
         let segment = &self.segments[self.me.0 as usize];
-        let batch = self.waiting.cut(
-            alloc,
-            &self.layout,
-            self.me,
-            segment.marked().as_slice(),
-            self.setup.batch as usize,
-        )?;
+        let most = self.setup.batch as usize;
+        let marked = segment.marked().as_slice();
+        let batch = self.waiting.cut(alloc, &self.layout, self.me, marked, most)?;
         self.flight.push((slot, batch.copy()?))?;
         Ok(batch)
     }
@@ -224,7 +221,13 @@ impl<M: Sequenced> Node<M> {
             result ≡ is_known (rules_of self.now.setup) M.meaning self.now.me.0 (core_of self.now evidence) id }
         ensures waits { result ≡ false → has_id id (request_ids self.now.waiting) ≡ false }
     {
-        self.waiting.has(id) || flies(self.flight.as_slice(), id) || self.logged.has(id)
+        if self.waiting.has(id) {
+            return true;
+        }
+        if flies(self.flight.as_slice(), id) {
+            return true;
+        }
+        self.logged.has(id)
     }
 
     // Puts a request at the end of those that wait.
@@ -335,12 +338,12 @@ fn first_castable<M: Sequenced>(
     segment: &Segment<M>,
     log: &Log,
     flight: &[(Slot, Batch)],
+    slots: &[Slot],
 ) -> Option<Slot>
     ensures { (xs : List (Item M.Msg)) → IsInstance M.stands segment.now xs →
-        result ≡ first_slot (is_open M.meaning segment.now.params segment.now.me.0 xs log.now flight.now) segment.now.params.slots }
+        result ≡ first_slot (is_open M.meaning segment.now.params segment.now.me.0 xs log.now flight.now) slots.now }
 {
-    M::laws();
-    for slot in segment.params().slots.as_slice() {
+    for slot in slots {
         if is_open(segment, log, flight, *slot) {
             return Some(*slot);
         }
@@ -370,7 +373,7 @@ fn is_cast(flight: &[(Slot, Batch)], slot: Slot) -> bool
 
 // Whether a request was cast in a slot that is not in the log.
 fn flies(flight: &[(Slot, Batch)], id: ReqId) -> bool
-    ensures { result ≡ list_any (λ (x : Slot × List Asked). has_id id (request_ids x.1)) flight.now }
+    ensures { result ≡ list_any (λ (x : Slot × List Asked). list_any (λ (q : Asked). same_id id q.id) x.1) flight.now }
 {
     flight.iter().any(|cast| holds(&cast.1, id))
 }
