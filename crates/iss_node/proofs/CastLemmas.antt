@@ -1,20 +1,24 @@
 -- How a node casts, and how it knows a request.
-use Rattle.std.proofs.Common.{inl, inr, arith, ◌≡◌, ◌≢◌, ◌⊎◌, ℕ, zero, suc, ◌+◌, ◌-◌, ◌<◌, ◌≤◌, Bool, true, false, List, [], ◌∷◌, ◌++◌, cond, ◌==◌, ◌||◌, ◌&&◌, not, Option, Some, None, Result, Ok, Err, IfOk, length, drop, get_or, refl, sym, ap, ◌∙◌, subst, if◌then◌else◌, add-one, drop-cons}
+use Rattle.std.specs.Prelude.{is_some}
+use Rattle.std.proofs.Common.{slice_get, inl, inr, arith, ◌≡◌, ◌≢◌, ◌⊎◌, ℕ, zero, suc, ◌+◌, ◌-◌, ◌<◌, ◌≤◌, Bool, true, false, List, [], ◌∷◌, ◌++◌, cond, ◌==◌, ◌||◌, ◌&&◌, not, Option, Some, None, Result, Ok, Err, IfOk, length, drop, get_or, refl, sym, ap, ◌∙◌, subst, if◌then◌else◌, add-one, drop-cons}
 use Rattle.std.specs.List.{list_any}
 use Rattle.iss_buckets.specs.Waiting.{cut_of, left_of, may_cast}
 use Rattle.iss_ids.proofs.Members.{has_id-append}
-use Rattle.iss_layout.specs.Layout.{HasOwner, IsFair, Plan, bucket_of, bucket_owner, is_node, leads, plan_of}
+use Rattle.iss_layout.specs.Layout.{HasOwner, IsFair, Plan, bucket_of, bucket_owner, is_node, leads, plan_of, segment}
 use Rattle.iss_model.specs.Concrete.{number_of, rules_of}
 use Rattle.iss_model.specs.Formats.{formats_of}
 use Rattle.iss_model.specs.Judge.{marks}
-use Rattle.iss_model.specs.Node.{Core, Dropped, Formats, Stepped, Taken, Turn, casts_at, cut, first_slot, flown, has_leaves, inputs, is_known, is_mine, next_slot, step, takes_request, uncut}
+use Rattle.iss_model.specs.Node.{Core, Dropped, Formats, Stepped, Taken, Turn, casts_at, cut, first_slot, has_slot, is_castable, flown, has_leaves, inputs, is_known, is_mine, next_slot, step, takes_request, uncut}
 use Rattle.iss_model.specs.Past.{log_of}
 use Rattle.iss_model.specs.declared.causes.NodeEvent.TheVariants.{Propose as Proposes}
 use Rattle.iss_model.specs.declared.causes.Why.TheVariants.{BadRequest, Known, NotLeader, NothingToCast, NoKeys}
 use Rattle.iss_node.specs.Casts.{IsCut, casting, is_open}
-use Rattle.iss_node.proofs.TiedLemmas.{get-of}
+use Rattle.iss_base.specs.Lists.{In}
+use Rattle.iss_log.specs.LogState.{value_at}
+use Rattle.iss_node.proofs.TiedLemmas.{get-of, own-slot}
+use Rattle.iss_request.specs.declared.requests.Value.{Value}
 use Rattle.iss_node.specs.Shape.{IsNode}
-use Rattle.iss_node.specs.State.{IsTied, NodeState, SameIds, SegmentState, Stands, core_of}
+use Rattle.iss_node.specs.State.{IsInstance, IsTied, NodeState, SameIds, SegmentState, Stands, core_of}
 use Rattle.iss_node.specs.Steps.{IsInputTurn}
 use Rattle.iss_node.specs.declared.answers.Outcome.{Outcome}
 use Rattle.iss_request.specs.Log.{has_id, ids, log_ids, same_id}
@@ -27,7 +31,7 @@ use Rattle.iss_request.specs.declared.requests.Request.{Request}
 use Rattle.iss_request.specs.declared.setups.Setup.{Setup}
 use Rattle.iss_sb.specs.declared.effects.Input.TheVariants.{Cast}
 use Rattle.iss_sb.specs.declared.effects.Params.{Params}
-use Rattle.iss_sb.specs.Evidence.{Item, Module, accepts}
+use Rattle.iss_sb.specs.Evidence.{Item, Module, accepts, delivered}
 
 -- ---- the batch that is cut
 
@@ -56,12 +60,12 @@ left-is p r same (suc n) (q ∷ qs) = go (r q) (same q) (left-is p r same n qs) 
 owner-is : (i : ℕ) (o : Option NodeId) (k : NodeId) → o ≡ Some k → is_node i o ≡ (number_of o == i)
 owner-is i o k e = ap (λ z. is_node i z) e ∙ sym (ap (λ z. number_of z == i) e)
 
-pub mine-is : {M Msg : Type 0} (m : Module Msg) (v : NodeState M) (ev : ℕ → ℕ → List (Item Msg)) (plan : Plan) (marked : List ReqId) → plan ≡ plan_of v.setup 0 [] → IsFair (plan_of v.setup 0 []) → SameIds marked (marks (accepts (ev 0 v.me.0))) →
-    (q : Request) → may_cast plan v.me.0 marked q ≡ is_mine (rules_of v.setup) m v.me.0 (core_of v ev) q
-mine-is m v ev plan marked is fair same q =
-    ap (λ (p : Plan). may_cast p v.me.0 marked q) is
-    ∙ ap (λ (b : Bool). b && not (has_id q.id marked)) (owner-is v.me.0 (bucket_owner (plan_of v.setup 0 []) (bucket_of (plan_of v.setup 0 []) q.id)) (fair.owned (bucket_of (plan_of v.setup 0 []) q.id)).owner (fair.owned (bucket_of (plan_of v.setup 0 []) q.id)).is)
-    ∙ ap (λ (b : Bool). (number_of (bucket_owner (plan_of v.setup 0 []) (bucket_of (plan_of v.setup 0 []) q.id)) == v.me.0) && not b) (same q.id)
+pub mine-is : {Msg : Type 0} (m : Module Msg) (s : Setup) (me : ℕ) (ev : ℕ → ℕ → List (Item Msg)) (waiting : List Request) (flight : List (Slot × Batch)) (leaf : ℕ) (plan : Plan) (marked : List ReqId) → plan ≡ plan_of s 0 [] → IsFair (plan_of s 0 []) → SameIds marked (marks (accepts (ev 0 me))) →
+    (q : Request) → may_cast plan me marked q ≡ is_mine (rules_of s) m me (record { past = record { epoch = 0; evidence = ev; adopted = [] }; waiting = waiting; flight = flight; leaf = leaf }) q
+mine-is m s me ev waiting flight leaf plan marked is fair same q =
+    ap (λ (p : Plan). may_cast p me marked q) is
+    ∙ ap (λ (b : Bool). b && not (has_id q.id marked)) (owner-is me (bucket_owner (plan_of s 0 []) (bucket_of (plan_of s 0 []) q.id)) (fair.owned (bucket_of (plan_of s 0 []) q.id)).owner (fair.owned (bucket_of (plan_of s 0 []) q.id)).is)
+    ∙ ap (λ (b : Bool). (number_of (bucket_owner (plan_of s 0 []) (bucket_of (plan_of s 0 []) q.id)) == me) && not b) (same q.id)
 
 -- ---- the turn of a cast
 
@@ -96,10 +100,10 @@ module _ {M Msg : Type 0} (m : Module Msg) (stands : M → Params → ℕ → Li
       (subst (λ (fs : List (Slot × Batch)). IsInputTurn m stands (inputs (formats_of v.setup m) (rules_of v.setup) m v.me.0 (record { past = record { epoch = 0; evidence = ev; adopted = [] }; waiting = new.waiting; flight = fs; leaf = v.keys.used }) v.me.0 (Cast slot (cut v.setup.batch mine v.waiting))) after o) with_batch
       (subst (λ (b : Batch). IsInputTurn m stands (inputs (formats_of v.setup m) (rules_of v.setup) m v.me.0 (record { past = record { epoch = 0; evidence = ev; adopted = [] }; waiting = new.waiting; flight = new.flight; leaf = v.keys.used }) v.me.0 (Cast slot b)) after o) is.taken turn))
 
-  pub cast-turn : (r : Result Outcome NoMemory) → IfOk r (λ o. (ev : ℕ → ℕ → List (Item Msg)) → IsTied m stands new ev → IsInputTurn m stands (inputs (formats_of new.setup m) (rules_of new.setup) m new.me.0 (core_of new ev) new.me.0 (Cast slot batch)) after o) →
+  pub cast-turn : (i : ℕ) → i ≡ new.me.0 → (r : Result Outcome NoMemory) → IfOk r (λ o. (ev : ℕ → ℕ → List (Item Msg)) → IsTied m stands new ev → IsInputTurn m stands (inputs (formats_of new.setup m) (rules_of new.setup) m new.me.0 (core_of new ev) i (Cast slot batch)) after o) →
       IfOk r (λ o. (ev : ℕ → ℕ → List (Item Msg)) → IsTied m stands v ev → IsInputTurn m stands (casting (formats_of v.setup m) (rules_of v.setup) m v.me.0 (core_of v ev) slot) after o)
-  cast-turn (Ok o) h = one o h
-  cast-turn (Err e) h = tt
+  cast-turn i is (Ok o) h = one o (λ ev tied. subst (λ (k : ℕ). IsInputTurn m stands (inputs (formats_of new.setup m) (rules_of new.setup) m new.me.0 (core_of new ev) k (Cast slot batch)) after o) is (h ev tied))
+  cast-turn i is (Err e) h = tt
 
 -- ---- the slots that are open
 
@@ -171,3 +175,39 @@ marks-of m stands plan v shape ev tied g is marked marked_is =
     let less : v.me.0 < length v.segments = omega (arith, n, lt) in
     let own : SameIds g.marked (marks (accepts (ev 0 v.me.0))) = (tied.instances v.me.0 g (get-of v.segments v.me.0 g less is)).marked in
     λ x. ap (λ (ys : List ReqId). has_id x ys) marked_is ∙ own x
+
+-- ---- the next slot
+
+slot-cast : (s : ℕ) (fs : List (Slot × Batch)) → list_any (λ (x : Slot × Batch). x.0.0 == s) fs ≡ has_slot s fs
+slot-cast s [] = refl
+slot-cast s (f ∷ fs) = ap (λ b. (f.0.0 == s) || b) (slot-cast s fs)
+
+first-same : (p q : Slot → Bool) (slots : List Slot) → ((s : Slot) → In s slots → p s ≡ q s) → first_slot p slots ≡ first_slot q slots
+first-same p q [] same = refl
+first-same p q (s ∷ ss) same =
+    ap (λ b. cond b (Some s) (first_slot p ss)) (same s (inl refl))
+    ∙ ap (λ (o : Option Slot). cond (q s) (Some s) o) (first-same p q ss (λ t i. same t (inr i)))
+
+pub next-is : {M Msg : Type 0} (m : Module Msg) (stands : M → Params → ℕ → List (Item Msg) → Type 0) (plan : Plan) (v : NodeState M) (shape : IsNode m plan v) → IsFair (plan_of v.setup 0 []) → (ev : ℕ → ℕ → List (Item Msg)) → IsTied m stands v ev →
+    (g : SegmentState M) → g ≡ get_or v.segments v.me.0 g → (r : Option Slot) (slots : List Slot) → slots ≡ g.params.slots → (flight : List (Slot × Batch)) → flight ≡ v.flight →
+    ((xs : List (Item Msg)) → IsInstance stands g xs → r ≡ first_slot (is_open m g.params g.me.0 xs v.log flight) slots) →
+    r ≡ next_slot (rules_of v.setup) m v.me.0 (core_of v ev)
+next-is {M} {Msg} m stands plan v shape fair ev tied g is r slots slots_are flight flight_is h =
+    let n = shape.count in
+    let lt = shape.me in
+    let less : v.me.0 < length v.segments = omega (arith, n, lt) in
+    let at : slice_get v.segments v.me.0 ≡ Some g = get-of v.segments v.me.0 g less is in
+    let P : Params = (rules_of v.setup).params [] 0 v.me.0 in
+    let found : r ≡ first_slot (is_open m ((rules_of v.setup).params [] 0 v.me.0) v.me.0 (ev 0 v.me.0) v.log v.flight) (segment (plan_of v.setup 0 []) v.me.0) =
+        subst (λ (fs : List (Slot × Batch)). r ≡ first_slot (is_open m ((rules_of v.setup).params [] 0 v.me.0) v.me.0 (ev 0 v.me.0) v.log fs) (segment (plan_of v.setup 0 []) v.me.0)) flight_is
+        (subst (λ (i : NodeId). r ≡ first_slot (is_open m ((rules_of v.setup).params [] 0 v.me.0) i.0 (ev 0 v.me.0) v.log flight) (segment (plan_of v.setup 0 []) v.me.0)) (shape.node v.me.0 g at)
+        (subst (λ (p : Params). r ≡ first_slot (is_open m p g.me.0 (ev 0 v.me.0) v.log flight) p.slots) (shape.params v.me.0 g at)
+        (subst (λ (ss : List Slot). r ≡ first_slot (is_open m g.params g.me.0 (ev 0 v.me.0) v.log flight) ss) slots_are (h (ev 0 v.me.0) (tied.instances v.me.0 g at))))) in
+    found ∙ first-same (is_open m ((rules_of v.setup).params [] 0 v.me.0) v.me.0 (ev 0 v.me.0) v.log v.flight) (is_castable m ((rules_of v.setup).params [] 0 v.me.0) v.me.0 (ev 0 v.me.0) v.flight) (segment (plan_of v.setup 0 []) v.me.0) same
+  where
+    same : (s : Slot) → In s (segment (plan_of v.setup 0 []) v.me.0) → is_open m ((rules_of v.setup).params [] 0 v.me.0) v.me.0 (ev 0 v.me.0) v.log v.flight s ≡ is_castable m ((rules_of v.setup).params [] 0 v.me.0) v.me.0 (ev 0 v.me.0) v.flight s
+    same s i =
+        let own = own-slot v.setup fair s.0 v.me.0 i in
+        let value : value_at v.log s.0 ≡ delivered m ((rules_of v.setup).params [] 0 v.me.0) v.me.0 (ev 0 v.me.0) s.0 = tied.cells s.0 own.0 ∙ ap (λ (l : ℕ). delivered m ((rules_of v.setup).params [] 0 l) v.me.0 (ev 0 l) s.0) own.1 in
+        ap (λ b. not b && (not (is_some (value_at v.log s.0)) && is_some (m.asks ((rules_of v.setup).params [] 0 v.me.0) v.me.0 (ev 0 v.me.0) (Cast s [])))) (slot-cast s.0 v.flight)
+        ∙ ap (λ (o : Option Value). not (has_slot s.0 v.flight) && (not (is_some o) && is_some (m.asks ((rules_of v.setup).params [] 0 v.me.0) v.me.0 (ev 0 v.me.0) (Cast s [])))) value

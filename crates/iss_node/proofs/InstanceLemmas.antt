@@ -4,11 +4,11 @@ use Rattle.std.specs.List.{list_any}
 use Rattle.std.proofs.lemmas.Bool.Decides.{nat_tests}
 use Rattle.iss_layout.specs.Layout.{Plan, leads, node, nodes_below, plan_of}
 use Rattle.iss_model.specs.Concrete.{rules_of}
-use Rattle.iss_model.specs.Node.{Core, Dropped, Formats, Stepped, Taken, Turn, at_instance, by_verdict, has_leaves, inputs, verdict}
+use Rattle.iss_model.specs.Node.{Core, Dropped, Formats, OfModule, takes_parcel, Stepped, Taken, Turn, at_instance, by_verdict, has_leaves, inputs, verdict}
 use Rattle.iss_model.specs.Past.{log_of}
 use Rattle.iss_model.specs.declared.causes.Refusal.{Refusal}
 use Rattle.iss_model.specs.declared.causes.Why.{Why}
-use Rattle.iss_model.specs.declared.causes.Why.TheVariants.{NotLeader, NoKeys, Refused}
+use Rattle.iss_model.specs.declared.causes.Why.TheVariants.{NotLeader, NoKeys, OtherEpoch, Refused}
 use Rattle.iss_node.proofs.LogOf.{oldest-zero}
 use Rattle.iss_node.proofs.TiedLemmas.{get-of}
 use Rattle.iss_node.specs.Shape.{IsNode}
@@ -19,6 +19,8 @@ use Rattle.iss_node.specs.declared.answers.Outcome.{Outcome}
 use Rattle.iss_request.specs.declared.ids.NodeId.{NodeId}
 use Rattle.iss_request.specs.declared.setups.Setup.{Setup}
 use Rattle.iss_sb.specs.declared.effects.Input.{Input}
+use Rattle.iss_model.specs.Rules.{Rules}
+use Rattle.iss_sb.specs.declared.effects.Input.TheVariants.{Receive}
 use Rattle.iss_sb.specs.declared.effects.Params.{Params}
 use Rattle.iss_sb.specs.Evidence.{Item, Module, accepts}
 
@@ -72,3 +74,11 @@ refusal-at m stands plan v shape l lt g is ev tied input r h =
     subst (λ (p : Params). r ≡ verdict (rules_of p.setup) [] 0 p.leader.0 (accepts (ev 0 l)) (m.asks p v.me.0 (ev 0 l) input)) (shape.params l g at)
     (subst (λ (i : NodeId). r ≡ verdict (rules_of g.params.setup) [] 0 g.params.leader.0 (accepts (ev 0 l)) (m.asks g.params i.0 (ev 0 l) input)) (shape.node l g at)
     (h (ev 0 l) (tied.instances l g at)))
+
+-- a message of the first epoch is an input of its instance
+pub parcel-at : {M Msg : Type 0} (m : Module Msg) (stands : M → Params → ℕ → List (Item Msg) → Type 0) (F : Formats Msg) (R : Rules) (me : ℕ) (v new : NodeState M) (d : Core Msg) (h : Stands m stands v d) (from : NodeId) (e leader : ℕ) (msg : Msg) (answer : Answer) → e ≡ 0 →
+    IsAnswer m stands d (at_instance F R m me d leader (Receive from msg)) new answer → IsAnswer m stands d (takes_parcel F R m me d from.0 e (OfModule leader msg)) new answer
+parcel-at m stands F R me v new d h from e leader msg answer zero_is is =
+    let first : d.past.epoch ≡ 0 = ap (λ (x : Core _). x.past.epoch) h.core in
+    let same : (e == d.past.epoch) ≡ true = grind (arith, nat_tests) in
+    subst (λ (b : Bool). IsAnswer m stands d (cond (not b) (Dropped OtherEpoch) (at_instance F R m me d leader (Receive from msg))) new answer) (sym same) is

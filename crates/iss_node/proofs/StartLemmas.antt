@@ -9,7 +9,13 @@ use Rattle.iss_model.specs.Concrete.{rules_of}
 use Rattle.iss_model.specs.Runs.{IsSetupOf}
 use Rattle.iss_node.specs.Parcels.{IsFromNode}
 use Rattle.iss_node.specs.Shape.{AreStarted, IsNode}
-use Rattle.iss_node.specs.State.{IsInstance, SegmentState}
+use Rattle.iss_log.specs.LogState.{empty_log}
+use Rattle.iss_model.specs.Past.{log_of}
+use Rattle.iss_node.proofs.LogOf.{log-is}
+use Rattle.iss_node.specs.State.{IsInstance, NodeState, SegmentState, Stands}
+use Rattle.iss_request.specs.Log.{has_id, log_ids}
+use Rattle.iss_request.specs.declared.requests.Value.{Value}
+use Rattle.iss_sb.specs.Keys.{AreKeysOf, KeyState}
 use Rattle.iss_node.specs.declared.parcels.Body.{Body}
 use Rattle.iss_node.specs.declared.parcels.Body.TheVariants.{Message as OfModule, Request as OfClient}
 use Rattle.iss_node.specs.declared.parcels.Parcel.{Parcel}
@@ -23,7 +29,7 @@ use Rattle.iss_request.specs.declared.ids.Slot.{Slot}
 use Rattle.iss_request.specs.declared.setups.Setup.{Setup}
 use Rattle.iss_sb.specs.declared.effects.Params.{Params}
 use Rattle.iss_sb.specs.Calls.{AreAscending, IsGoodParams}
-use Rattle.iss_sb.specs.Evidence.{Item, Module}
+use Rattle.iss_sb.specs.Evidence.{Item, Module, delivered}
 
 ascending : (from : ℕ) (ss : List Slot) → layout.AreAscending from ss → AreAscending from ss
 ascending from [] h = tt
@@ -121,3 +127,44 @@ from-any {Msg} n (Ok (Some k)) h = go k.body h
     go : (b : Body Msg) → IsFromNode 0 (record { from = k.from; epoch = k.epoch; body = b }) → IsFromNode n (record { from = k.from; epoch = k.epoch; body = b })
     go (OfModule leader msg) lt = absurd (omega (arith, lt))
     go (OfClient q) lt = tt
+
+-- ---- a node that has taken nothing
+
+nothing-delivered : {Msg : Type 0} (m : Module Msg) (p : Params) (me s : ℕ) → delivered m p me [] s ≡ None
+nothing-delivered m p me s = refl
+
+module _ {M Msg : Type 0} (m : Module Msg) (stands : M → Params → ℕ → List (Item Msg) → Type 0) (s t : Setup) (me : NodeId) (gs : List (SegmentState M)) (keys : KeyState)
+    (t_is : t ≡ s) (started : AreStarted stands s me s.n gs) where
+  abbrev begun : NodeState M
+  begun = record { setup = t; me = me; segments = gs; log = empty_log; waiting = []; flight = []; logged = []; keys = keys }
+
+  pub begun-shape : (plan : Plan) → IsSetupOf m s → me.0 < s.n → plan ≡ plan_of s 0 [] → IsNode m plan begun
+  begun-shape plan h lt plan_is = record {
+    good = subst (λ (z : Setup). IsSetupOf m z) (sym t_is) h;
+    me = subst (λ (z : Setup). me.0 < z.n) (sym t_is) lt;
+    layout = plan_is ∙ ap (λ (z : Setup). plan_of z 0 []) (sym t_is);
+    count = started.as_many ∙ ap (λ (z : Setup). z.n) (sym t_is);
+    params = λ l g at. started.params_are l g at ∙ ap (λ (z : Setup). (rules_of z).params [] 0 l) (sym t_is);
+    node = λ l g at. started.node_is l g at;
+  }
+
+  nothing : ℕ → ℕ → List (Item Msg)
+  nothing e l = []
+
+  no-log : log_of (rules_of t) m me.0 (record { epoch = 0; evidence = λ e l. []; adopted = [] }) ≡ []
+  no-log = log-is t m me.0 (λ e l. []) empty_log (λ k lt. refl) (λ k le. refl) refl
+
+  pub begun-stands : AreKeysOf me.0 s.keys keys → Stands m stands begun (record { past = record { epoch = 0; evidence = λ e l. []; adopted = [] }; waiting = []; flight = []; leaf = keys.used })
+  begun-stands own = record {
+    evidence = λ e l. [];
+    core = refl;
+    tied = record {
+      instances = λ l g at. started.instances l g at;
+      cells = λ k lt. refl;
+      outside = λ k le. refl;
+      hole = refl;
+      logged = λ x. ap (λ (xs : List Value). has_id x (log_ids xs)) (sym no-log);
+      later = λ e l lt. refl;
+      keys = subst (λ (z : Setup). AreKeysOf me.0 z.keys keys) (sym t_is) own;
+    };
+  }
