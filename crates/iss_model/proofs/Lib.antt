@@ -20,3 +20,4 @@ pub mod Simulation
 pub mod Printed
 pub mod Layouts
 pub mod Example
+pub mod Written

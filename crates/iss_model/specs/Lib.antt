@@ -8,3 +8,4 @@ pub mod Run
 pub mod Runs
 pub mod Sound
 pub mod Concrete
+pub mod Formats
