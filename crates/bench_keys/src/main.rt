@@ -5,7 +5,7 @@
 
 ghost use Rattle.std.specs.Prelude.{◌<◌, ◌≤◌};
 
-use iss_keys::{verify, Keys, SignError};
+use iss_keys::{Keys, PublicKey, SignError, verify};
 use sha2::{Digest, Sha256};
 use std::alloc::Global;
 use std::io;
@@ -53,7 +53,7 @@ fn take_digests<const N: usize>(count: u32) -> u8
 {
     let mut message = [0u8; N];
     for _i in 0..count {
-        let digest = Sha256::digest(&message[..]);
+        let digest = Sha256::digest(message);
         message[0] = digest[0];
     }
     message[0]
@@ -84,10 +84,14 @@ fn steps_signed(statement: &[u8]) -> u32 {
     hasher.update(statement);
     let mut sum = 0u32;
     for byte in hasher.finalize() {
-        sum = sum.wrapping_add(u32::from(byte / 16)).wrapping_add(u32::from(byte % 16));
+        sum = sum
+            .wrapping_add(u32::from(byte / 16))
+            .wrapping_add(u32::from(byte % 16));
     }
     let check = 960u32.saturating_sub(sum);
-    sum.wrapping_add(check / 256).wrapping_add(check / 16 % 16).wrapping_add(check % 16)
+    sum.wrapping_add(check / 256)
+        .wrapping_add(check / 16 % 16)
+        .wrapping_add(check % 16)
 }
 
 fn digests_of_signatures(count: u32) -> Digests {
@@ -129,16 +133,14 @@ fn signatures(keys: &mut Keys, count: u32) -> Result<u32, SignError> {
     Ok(bytes)
 }
 
-fn verifications(keys: &Keys, count: u32) -> Option<u32> {
-    let public = keys.public();
-    let signature = keys.sign_at(0, STATEMENT).ok()?;
+fn verifications(key: &PublicKey, signature: &[u8], count: u32) -> u32 {
     let mut verified = 0u32;
     for _i in 0..count {
-        if verify(&public, STATEMENT, &signature) {
+        if verify(key, STATEMENT, signature) {
             verified = verified.wrapping_add(1);
         }
     }
-    Some(verified)
+    verified
 }
 
 fn out_of_memory<R: Print>(rt: &R) -> io::Result<()> {
@@ -170,15 +172,20 @@ fn time_tree<R: Clock + Print>(rt: &R, alloc: Global, height: u8, rounds: u32) -
     print_times(rt, "tree", best, 1)
 }
 
-fn time_signing<R: Clock + Print>(rt: &R, alloc: Global, count: u32, rounds: u32) -> io::Result<()> {
+fn time_signing<R: Clock + Print>(
+    rt: &R,
+    alloc: Global,
+    count: u32,
+    rounds: u32,
+) -> io::Result<()> {
+    let Ok(mut keys) = Keys::make(alloc, [7; 32], 10) else {
+        return out_of_memory(rt);
+    };
     let mut best = NONE_YET;
     for _round in 0..rounds {
-        let Ok(mut keys) = Keys::make(alloc, [7; 32], 10) else {
-            return out_of_memory(rt);
-        };
         let start = Instant::now(rt)?;
         let Ok(_bytes) = signatures(&mut keys, count) else {
-            return out_of_memory(rt);
+            return println!(rt; "no leaf or no memory left");
         };
         let work = nanos_since(rt, start)?;
         best = best.note(work, time_digests(rt, digests_of_signatures(count))?);
@@ -186,16 +193,23 @@ fn time_signing<R: Clock + Print>(rt: &R, alloc: Global, count: u32, rounds: u32
     print_times(rt, "sign", best, u64::from(count))
 }
 
-fn time_verifying<R: Clock + Print>(rt: &R, alloc: Global, count: u32, rounds: u32) -> io::Result<()> {
+fn time_verifying<R: Clock + Print>(
+    rt: &R,
+    alloc: Global,
+    count: u32,
+    rounds: u32,
+) -> io::Result<()> {
     let Ok(keys) = Keys::make(alloc, [7; 32], 10) else {
         return out_of_memory(rt);
     };
+    let Ok(signature) = keys.sign_at(0, STATEMENT) else {
+        return out_of_memory(rt);
+    };
+    let public = keys.public();
     let mut best = NONE_YET;
     for _round in 0..rounds {
         let start = Instant::now(rt)?;
-        let Some(verified) = verifications(&keys, count) else {
-            return out_of_memory(rt);
-        };
+        let verified = verifications(&public, &signature, count);
         let work = nanos_since(rt, start)?;
         if verified != count {
             return println!(rt; "{verified} of {count} verified");
@@ -207,23 +221,23 @@ fn time_verifying<R: Clock + Print>(rt: &R, alloc: Global, count: u32, rounds: u
 
 fn time_all<R: Clock + Print>(rt: &R, alloc: Global) -> io::Result<()> {
     let digests = Digests {
-        short: 1_000_000,
+        short: 1000,
         inner: 0,
         leaf: 0,
     };
     let mut best = NONE_YET;
-    for _round in 0..5 {
+    for _round in 0..1000 {
         let nanos = time_digests(rt, digests)?;
         best = best.note(nanos, nanos);
     }
-    print_times(rt, "digest of 40 bytes", best, 1_000_000)?;
-    time_tree(rt, alloc, 4, 50)?;
-    time_tree(rt, alloc, 6, 20)?;
-    time_tree(rt, alloc, 8, 10)?;
-    time_tree(rt, alloc, 10, 5)?;
-    time_tree(rt, alloc, 12, 3)?;
-    time_signing(rt, alloc, 1000, 5)?;
-    time_verifying(rt, alloc, 1000, 5)
+    print_times(rt, "digest of 40 bytes", best, 1000)?;
+    time_tree(rt, alloc, 4, 200)?;
+    time_tree(rt, alloc, 6, 50)?;
+    time_tree(rt, alloc, 8, 20)?;
+    time_tree(rt, alloc, 10, 10)?;
+    time_tree(rt, alloc, 12, 5)?;
+    time_signing(rt, alloc, 5, 200)?;
+    time_verifying(rt, alloc, 5, 200)
 }
 
 // What a small workload takes.
@@ -233,9 +247,19 @@ fn count_all<R: Print>(rt: &R, alloc: Global) -> io::Result<()> {
     };
     println!(rt; "tree of height 2: {:?}", digests_of_tree(2))?;
     let signed = matches!(signatures(&mut keys, 3), Ok(6));
-    println!(rt; "3 signatures: {:?}, made: {signed}, left: {}", digests_of_signatures(3), keys.left())?;
-    let verified = verifications(&keys, 3).unwrap_or(0);
-    println!(rt; "3 verifications: {:?}, verified: {verified}", digests_of_verifications(3, 2))
+    println!(rt;
+        "3 signatures: {:?}, made: {signed}, left: {}",
+        digests_of_signatures(3),
+        keys.left()
+    )?;
+    let Ok(signature) = keys.sign_at(0, STATEMENT) else {
+        return out_of_memory(rt);
+    };
+    let verified = verifications(&keys.public(), &signature, 3);
+    println!(rt;
+        "3 verifications: {:?}, verified: {verified}",
+        digests_of_verifications(3, 2)
+    )
 }
 
 fn main(rt: HostRuntime) -> io::Result<()> {

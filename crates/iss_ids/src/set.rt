@@ -40,6 +40,13 @@ impl Ids {
         self.all.contains(&id)
     }
 
+    /// The identities, in the order in which they came.
+    pub fn as_slice(&self) -> &[ReqId]
+        ensures { result.now ≡ self.now }
+    {
+        self.all.as_slice()
+    }
+
     /// Puts an identity in. One that is there stays as it is.
     pub fn add(&mut self, id: ReqId) -> Result<(), NoMemory>
         ensures ok { OnOk result (self.new ≡ and_id self.old id) }

@@ -216,6 +216,33 @@ leaf_of_signature secret s h q high lt =
     let fits : q < 2 ^ 32 = omega arith in
     from_be_bytes-to_be_bytes_4 q fits
 
+-- a signature has bytes
+steps_bytes : (q i j n : ℕ) (x : List ℕ) → AreBytes x → AreBytes (steps q i j n x)
+unfolding steps
+steps_bytes q i j zero x h = h
+steps_bytes q i j (suc n) x h = sha256-bytes _
+
+node_bytes : (secret : List ℕ) (k p : ℕ) → AreBytes (node secret k p)
+unfolding node
+node_bytes secret zero p = sha256-bytes _
+node_bytes secret (suc k) p = sha256-bytes _
+
+join_bytes : (f : ℕ → List ℕ) (n : ℕ) → ((i : ℕ) → AreBytes (f i)) → AreBytes (join_below f n)
+unfolding join_below
+join_bytes f zero h = λ i. omega arith
+join_bytes f (suc n) h = bytes-append (join_below f n) (f n) (join_bytes f n h) (h n)
+
+head_bytes : (h q : ℕ) → h ≤ 12 → AreBytes (h ∷ to_be_bytes w32 q)
+head_bytes h q high zero = omega arith
+head_bytes h q high (suc i) = word_bytes q i
+
+pub bytes_of_signature : (secret s : List ℕ) (h q : ℕ) → h ≤ 12 → AreBytes (signature_of secret h q s)
+bytes_of_signature secret s h q high =
+    let m = statement_digest s in
+    let values = join_bytes (signed_value secret q m) 67 (λ i. steps_bytes q i 0 (digit m i) (chain_start secret q i) (sha256-bytes _)) in
+    let siblings = join_bytes (path_node secret q) h (λ k. node_bytes secret k _) in
+    bytes-append (h ∷ to_be_bytes w32 q) (part_of secret h q m) (head_bytes h q high) (bytes-append _ _ values siblings)
+
 -- a signature that is made as it should be verifies
 pub signature_verifies : (secret s : List ℕ) (h q : ℕ) → h ≤ 12 → q < 2 ^ h → Verifies (root_of secret h) h s (signature_of secret h q s)
 signature_verifies secret s h q high lt =

@@ -4,6 +4,7 @@ ghost use Rattle.std.specs.Prelude.{◌≡◌, ◌<◌, ◌≤◌};
 ghost use Rattle.iss_keys.specs.Pieces.{sum_below};
 ghost use Rattle.iss_keys.specs.Chains.{statement_digest, nibble, checksum, digit};
 
+use crate::marks::STATEMENT;
 use sha2::{Digest, Sha256};
 
 /// What is signed of a statement: a digest of it.
@@ -11,7 +12,7 @@ pub fn digest_of_statement(statement: &[u8]) -> [u8; 32]
     ensures { result ≡ statement_digest statement.now }
 {
     let mut hasher = Sha256::new();
-    hasher.update([0x14u8]);
+    hasher.update([STATEMENT]);
     hasher.update(statement);
     hasher.finalize()
 }

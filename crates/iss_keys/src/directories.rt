@@ -6,6 +6,7 @@ ghost use Rattle.iss_keys.specs.Pieces.{listed};
 ghost use Rattle.iss_keys.specs.KeyStates.{public_key, public_of};
 ghost use Rattle.iss_keys.specs.Directories.{DirectoryView, directory_of, public_keys_of, VerifiesBy, HasKeys, node_secret, client_secret};
 
+use crate::marks::{CLIENT_SECRET, NODE_SECRET};
 use crate::signing::{Keys, NoMemory};
 use crate::verification::{PublicKey, verify};
 use sha2::{Digest, Sha256};
@@ -75,8 +76,8 @@ impl Directory {
         requires high { height ≤ 12 }
         ensures { IfOk result (λ d. d ≡ directory_of n clients height) }
     {
-        let nodes = public_keys(alloc, 0x20, n, height)?;
-        let clients = public_keys(alloc, 0x21, clients, height)?;
+        let nodes = public_keys(alloc, NODE_SECRET, n, height)?;
+        let clients = public_keys(alloc, CLIENT_SECRET, clients, height)?;
         Ok(Directory { nodes, clients })
     }
 

@@ -14,6 +14,7 @@ mod chain;
 mod digits;
 mod directories;
 pub mod laws;
+mod marks;
 mod signing;
 #[cfg(test)]
 mod tests;

@@ -7,6 +7,7 @@ ghost use Rattle.iss_keys.specs.Trees.{inner, beside, path_node, HasNodesFrom};
 ghost use Rattle.iss_keys.specs.Signatures.{climb};
 
 use crate::chain::{piece_at, value_of_leaf};
+use crate::marks::INNER_NODE;
 use sha2::{Digest, Sha256};
 use std::alloc::{AllocError, Global};
 
@@ -15,7 +16,7 @@ fn inner_node(left: &[u8; 32], right: &[u8; 32]) -> [u8; 32]
     ensures { result ≡ inner left.now right.now }
 {
     let mut hasher = Sha256::new();
-    hasher.update([0x13u8]);
+    hasher.update([INNER_NODE]);
     hasher.update(left);
     hasher.update(right);
     hasher.finalize()

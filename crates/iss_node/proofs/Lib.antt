@@ -1,2 +1,4 @@
 pub mod CellsLemmas
+pub mod LogOf
 pub mod MarksLemmas
+pub mod SegmentLemmas

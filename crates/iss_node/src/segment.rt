@@ -1,10 +1,11 @@
 //! An instance of a module, with the identities of the batches that it accepted.
-ghost use Rattle.std.specs.Prelude.{◌≡◌, ◌<◌, ◌≤◌, ◌↔◌, ℕ, List, [], IfOk, IsTrue, Some};
+ghost use Rattle.std.specs.Prelude.{◌≡◌, ◌<◌, ◌≤◌, ◌↔◌, ℕ, List, [], IfOk, OnOk, IsTrue, Some};
 ghost use Rattle.iss_layout.specs.Layout.{plan_of};
 ghost use Rattle.iss_model.specs.Concrete.{rules_of};
 ghost use Rattle.iss_model.specs.Node.{verdict};
 ghost use Rattle.iss_node.specs.State.{IsInstance, SegmentState};
 ghost use Rattle.iss_node.specs.Answers.{IsInstanceStep};
+ghost use Rattle.iss_node.specs.Marks.{and_marks};
 ghost use Rattle.iss_request.specs.declared.requests.Batch.{Batch};
 ghost use Rattle.iss_sb.specs.Calls.{IsGoodParams, IsGoodInput};
 ghost use Rattle.iss_sb.specs.Evidence.{Item, accepts};
@@ -13,7 +14,7 @@ use crate::judge;
 use iss_ids::Ids;
 use iss_layout::Layout;
 use iss_model::Refusal;
-use iss_request::{NoMemory, NodeId, Slot};
+use iss_request::{Batch, NoMemory, NodeId, Slot};
 use iss_sb::{Effects, Input, Keys, Params, Sequenced, StepError};
 use std::alloc::Global;
 use std::marker::Model;
@@ -108,10 +109,19 @@ impl<M: Sequenced> Segment<M> {
         requires { IsGoodInput self.old.params input }
         ensures { IsInstanceStep M.meaning M.stands self.old self.new input keys.old keys.new result }
     {
+        M::laws();
         let effects = self.ordering.step(alloc, &self.params, input, true, keys)?;
-        if let Some((_, batch)) = &effects.accepted {
-            self.marked.add_all(batch.as_slice())?;
-        }
+        mark(&mut self.marked, &effects.accepted)?;
         Ok(effects)
+    }
+}
+
+// Notes the identities of a batch that was accepted.
+fn mark(marked: &mut Ids, accepted: &Option<(Slot, Batch)>) -> Result<(), NoMemory>
+    ensures { OnOk result (marked.new ≡ and_marks marked.old accepted.now) }
+{
+    match accepted {
+        Some((_, batch)) => marked.add_all(batch.as_slice()),
+        None => Ok(()),
     }
 }

@@ -157,15 +157,19 @@ contradiction e = cc
 abbrev pub Tells : Bool → Reading → Type 0
 Tells b f = IsTrue b ↔ (length f.all ≤ f.at)
 
-pub unread_end : {A T : Type 0} (p : Parser A) (bytes : List ℕ) (start f : Reading) (x : A) (d : DecodeError) (at : ℕ) → start ≡ front bytes → IsRead p start f x → Tells false f → d ≡ BadField f.at → ◌≡◌ {A = Result T DecodeError} (Err d) (Err (BadField at)) → all_of p bytes ≡ Bad at
+pub left_over : {A : Type 0} (p : Parser A) (bytes : List ℕ) (start f : Reading) (x : A) → start ≡ front bytes → IsRead p start f x → Tells false f → all_of p bytes ≡ Bad f.at
 unfolding all_of
-unread_end {A} {T} p bytes start f x d at is r tells made e =
+left_over p bytes start f x is r tells =
     let here = subst (λ (s : Reading). IsRead p s f x) is r in
-    let same_at : f.at ≡ at = cc in
     let lt : f.at < length f.all = elim (cases_lt f.at (length f.all)) [ inl lt ↦ lt | inr le ↦ absurd (contradiction (tells.1 le)) ] in
     let more : 0 < length (left f) = omega (arith, length-drop f.at f.all) in
-    let same : at ≡ length bytes - length (left f) + 0 = omega (arith, here.behind) in
+    let same : f.at ≡ length bytes - length (left f) + 0 = omega (arith, here.behind) in
     rw same (ParserLemmas.then_bad p at_end bytes (left f) x 0 here.found (end_bad x (left f) more))
+
+pub unread_end : {A T : Type 0} (p : Parser A) (bytes : List ℕ) (start f : Reading) (x : A) (d : DecodeError) (at : ℕ) → start ≡ front bytes → IsRead p start f x → Tells false f → d ≡ BadField f.at → ◌≡◌ {A = Result T DecodeError} (Err d) (Err (BadField at)) → all_of p bytes ≡ Bad at
+unread_end {A} {T} p bytes start f x d at is r tells made e =
+    let same_at : f.at ≡ at = cc in
+    left_over p bytes start f x is r tells ∙ ap Bad same_at
 
 pub read_whole : {A : Type 0} (p : Parser A) (bytes : List ℕ) (start f : Reading) (x : A) → start ≡ front bytes → IsRead p start f x → Tells true f → p bytes ≡ Good x []
 read_whole p bytes start f x is r tells =

@@ -76,7 +76,9 @@ fn put_request(request: &Request, out: &mut Writer) -> Result<(), NoMemory>
     Ok(())
 }
 
-fn write_batch(batch: &Batch, out: &mut Writer) -> Result<(), NoMemory>
+/// Writes a batch as it stands in a value, behind the byte that says that the value is one. A batch that has no
+/// spelling is written as bytes that no reader takes.
+pub fn write_batch(batch: &Batch, out: &mut Writer) -> Result<(), NoMemory>
     ensures { OnOk result (out.new ≡ out.old ++ spell_batch batch.now) }
 {
     if batch.len() > REQUESTS_MAX {

@@ -1,5 +1,5 @@
 -- The properties of a broadcast, and the laws of a module.
-use Rattle.std.specs.Prelude.{◌≡◌, ℕ, ◌<◌, ◌≤◌, Bool, true, List, [], ◌∷◌, ◌++◌, Some}
+use Rattle.std.specs.Prelude.{◌≡◌, ℕ, ◌<◌, ◌≤◌, true, List, [], ◌∷◌, ◌++◌, Some}
 use Rattle.std.specs.Int.{to_be_bytes, w64}
 use Rattle.iss_base.specs.Lists.{In}
 use Rattle.iss_request.specs.declared.ids.Slot.{Slot}

@@ -1,0 +1,7 @@
+pub mod Arguments
+pub mod Blanks
+pub mod Cuts
+pub mod Fronts
+pub mod HexWords
+pub mod Numbers
+pub mod Refusals

@@ -1,6 +1,16 @@
 //! Schedules: the set-up of a cluster and what happens to it, event by event, with the text that spells them.
 #![tactic(auto)]
 
+pub mod errors;
+mod events;
+mod forms;
+mod header;
+mod lines;
+mod names;
+mod reading;
 pub mod schedules;
+mod words;
 
+pub use errors::{ReadError, Why};
+pub use reading::{MOST_BYTES, MOST_EVENTS, read};
 pub use schedules::{Event, Schedule};

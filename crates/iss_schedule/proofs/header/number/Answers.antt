@@ -1,0 +1,25 @@
+use Rattle.std.proofs.Common.{sym, ◌∙◌, decimal, subst, List, ℕ}
+use Rattle.std.proofs.lemmas.Bool.{iff_false}
+use Rattle.iss_schedule.specs.Words.{IsNumber}
+use Rattle.iss_schedule.proofs.Cuts.{behind_same}
+use Rattle.iss_schedule.proofs.header.number.Goals as goal
+
+pub returns-then-is_number-clause-bad : goal.returns-then-is_number-clause-bad
+returns-then-is_number-clause-bad c = (
+  c.in_ok-line.line.now,
+  (
+    record { more = c.next.new.self.rest; text = c.in_ok-line.ensures.ok.text; whole = c.in_ok-line.ensures.ok.whole },
+    (c.in-Some.word.now, (c.in-Some.ensures.some, c.is_number.ensures.0 c.if-is_number.true)),
+    (λ h. c.in_default-number_within.ensures h.0 h.1.0 (behind_same 32 c.in_ok-line.line.now c.args.name.now c.args.name.now c.in-Some.word.now (decimal h.0) c.requires.name c.requires.name c.in-Some.ensures.some h.1.1).1),
+  ),
+)
+
+pub returns-else-is_number-clause-bad : goal.returns-else-is_number-clause-bad
+returns-else-is_number-clause-bad c = (
+  c.in_ok-line.line.now,
+  (
+    record { more = c.next.new.self.rest; text = c.in_ok-line.ensures.ok.text; whole = c.in_ok-line.ensures.ok.whole },
+    (λ h. iff_false c.is_number.ensures c.if-is_number.false
+        (subst IsNumber (sym (behind_same 32 c.in_ok-line.line.now c.args.name.now c.args.name.now c.in-Some.word.now h.0 c.requires.name c.requires.name c.in-Some.ensures.some h.1.0).1) h.1.1)),
+  ),
+)

@@ -1,0 +1,63 @@
+-- The first bad line of a text, and what is wrong with it.
+use Rattle.std.specs.Prelude.{◌≡◌, ◌≢◌, ◌⊎◌, ◌<◌, ◌≤◌, ◌+◌, ℕ, suc, List, [], ◌∷◌, ◌++◌, length, take}
+use Rattle.iss_schedule.specs.declared.errors.Why.{Why}
+use Rattle.iss_schedule.specs.declared.errors.Why.TheVariants.{Cut, Form, Faulty, Injected, Range, Size}
+use Rattle.iss_schedule.specs.declared.errors.ReadError.{ReadError}
+use Rattle.iss_schedule.specs.declared.errors.ReadError.TheVariants.{BadLine, NoMemory}
+use Rattle.iss_schedule.specs.declared.schedules.Schedule.{Schedule}
+use Rattle.iss_schedule.specs.Forms.{HasForm, IsInjection, NamesFaulty}
+use Rattle.iss_schedule.specs.Schedules.{IsFine, schedule_lines, most_bytes, most_events}
+use Rattle.iss_schedule.specs.Words.{Lacks, ended}
+
+-- some schedule in range begins with these lines
+pub record Begins (lines : List (List ℕ)) : Type 0 where
+  pub schedule : Schedule
+  pub fine : IsFine schedule
+  pub front : lines ≡ take (length lines) (schedule_lines schedule)
+
+-- the rest of a text begins with this line, which a line feed ends
+pub record IsNext (line rest : List ℕ) : Type 0 where
+  pub more : List ℕ
+  pub text : rest ≡ line ++ 10 ∷ more
+  pub whole : Lacks 10 line
+
+-- line 11 names faulty nodes; an event gives bytes to a core
+abbrev pub IsFaulty : List (List ℕ) → List ℕ → Type 0
+IsFaulty front line = (length front ≡ 10) × NamesFaulty line
+
+abbrev pub IsInjected : List (List ℕ) → List ℕ → Type 0
+IsInjected front line = (11 ≤ length front) × IsInjection line
+
+-- what is wrong with a line behind the good lines of the front; of several reasons the first counts
+abbrev pub IsFault : List (List ℕ) → List ℕ → Why → Type 0
+IsFault front line Form = ¬ HasForm (length front) line
+IsFault front line Faulty = IsFaulty front line
+IsFault front line Injected = IsInjected front line
+IsFault front line Range = HasForm (length front) line × ¬ IsFaulty front line × ¬ IsInjected front line × ¬ Begins (front ++ line ∷ [])
+IsFault front line Cut = ⊥
+IsFault front line Size = ⊥
+
+-- what is wrong where the rest begins, behind the good lines of the front: there is an event too many, or the line is
+-- not whole, or it is whole and has a fault
+abbrev pub IsBadRest : List (List ℕ) → List ℕ → Why → Type 0
+IsBadRest front rest Size = (length front ≡ 11 + most_events) × (rest ≢ [])
+IsBadRest front rest Cut = (length front < 11 + most_events) × Lacks 10 rest × ((length front < 11) ⊎ (rest ≢ []))
+IsBadRest front rest why = (length front < 11 + most_events) × ((line : List ℕ) × (IsNext line rest × IsFault front line why))
+
+-- the lines before this one begin a schedule in range, and with this one they do not
+pub record IsFirstBad (bytes : List ℕ) (line : ℕ) (why : Why) : Type 0 where
+  pub front : List (List ℕ)
+  pub rest : List ℕ
+  pub text : bytes ≡ ended front ++ rest
+  pub number : line ≡ suc (length front)
+  pub good : Begins front
+  pub bad : IsBadRest front rest why
+
+-- lines count from 1; a text that is too long has no good line, and line 0 is said to be bad
+abbrev pub IsBadLine : List ℕ → ℕ → Why → Type 0
+IsBadLine bytes line why = ((most_bytes < length bytes) × (line ≡ 0) × (why ≡ Size)) ⊎ ((length bytes ≤ most_bytes) × IsFirstBad bytes line why)
+
+-- a text is refused for its first bad line; want of memory says nothing of it
+abbrev pub IsRefused : List ℕ → ReadError → Type 0
+IsRefused bytes (BadLine line why) = IsBadLine bytes line why
+IsRefused bytes NoMemory = Unit {0}

@@ -1,0 +1,51 @@
+-- Events as lines, and their ranges.
+use Rattle.std.specs.Prelude.{◌≡◌, ◌≢◌, ◌<◌, ◌≤◌, ◌^◌, ℕ, List, [], ◌∷◌, length, decimal}
+use Rattle.hex.specs.Hex.{IsBytes}
+use Rattle.iss_request.specs.declared.ids.NodeId.{NodeId}
+use Rattle.iss_request.specs.declared.setups.Kind.TheVariants.{Byzantine}
+use Rattle.iss_request.specs.declared.setups.Setup.{Setup}
+use Rattle.iss_schedule.specs.declared.names.Name.TheVariants as name
+use Rattle.iss_schedule.specs.declared.schedules.Event.{Event}
+use Rattle.iss_schedule.specs.declared.schedules.Event.TheVariants.{Request, Propose, Timeout, Deliver, Lose, Pump, Calm, Hold, Free, Drop, Bytes}
+use Rattle.iss_schedule.specs.Names.{text_of_name}
+use Rattle.iss_schedule.specs.Words.{line_of, word_of}
+
+-- the words of an event's line
+abbrev pub event_words : Event → List (List ℕ)
+event_words (Request core client number payload) = text_of_name name.Request ∷ decimal core ∷ decimal client ∷ decimal number ∷ word_of payload ∷ []
+event_words (Propose core) = text_of_name name.Propose ∷ decimal core ∷ []
+event_words (Timeout core leader) = text_of_name name.Timeout ∷ decimal core ∷ decimal leader.0 ∷ []
+event_words (Deliver packet) = text_of_name name.Deliver ∷ decimal packet ∷ []
+event_words (Lose packet) = text_of_name name.Lose ∷ decimal packet ∷ []
+event_words Pump = text_of_name name.Pump ∷ []
+event_words (Calm pumps) = text_of_name name.Calm ∷ decimal pumps ∷ []
+event_words (Hold core) = text_of_name name.Hold ∷ decimal core ∷ []
+event_words (Free core) = text_of_name name.Free ∷ decimal core ∷ []
+event_words (Drop core) = text_of_name name.Drop ∷ decimal core ∷ []
+event_words (Bytes core bytes) = text_of_name name.Bytes ∷ decimal core ∷ word_of bytes ∷ []
+
+abbrev pub spell_event : Event → List ℕ
+spell_event e = line_of (event_words e)
+
+-- the bytes of a payload: at most 256
+abbrev pub IsPayload : List ℕ → Type 0
+IsPayload payload = IsBytes payload × (length payload ≤ 256)
+
+-- which events a cluster of this set-up may meet: its cores are its nodes, a client signs with a leaf of its tree,
+-- and only a module that withstands any fault meets bytes of no node
+abbrev pub IsInRange : Setup → Event → Type 0
+IsInRange s (Request core client number payload) = (core < s.n) × (client < s.clients) × (number < 2 ^ s.keys) × IsPayload payload
+IsInRange s (Propose core) = core < s.n
+IsInRange s (Timeout core leader) = (core < s.n) × (leader.0 < s.n)
+IsInRange s (Deliver packet) = packet < 2 ^ 64
+IsInRange s (Lose packet) = packet < 2 ^ 64
+IsInRange s Pump = Unit {0}
+IsInRange s (Calm pumps) = (1 ≤ pumps) × (pumps ≤ 1000)
+IsInRange s (Hold core) = core < s.n
+IsInRange s (Free core) = core < s.n
+IsInRange s (Drop core) = core < s.n
+IsInRange s (Bytes core bytes) = (s.kind ≡ Byzantine) × (core < s.n) × IsBytes bytes
+
+abbrev pub AreInRange : Setup → List Event → Type 0
+AreInRange s [] = Unit {0}
+AreInRange s (e ∷ es) = IsInRange s e × AreInRange s es

@@ -1,0 +1,106 @@
+-- How each line is spelled, whatever the size of its numbers.
+use Rattle.std.specs.Prelude.{◌≡◌, ◌⊎◌, ℕ, zero, suc, Bool, true, false, Option, Some, None, List, [], ◌∷◌, ◌++◌, codes}
+use Rattle.hex.specs.Hex.{IsBytes}
+use Rattle.iss_base.specs.Lists.{nth}
+use Rattle.iss_schedule.specs.declared.errors.Why.{Why}
+use Rattle.iss_schedule.specs.declared.errors.Why.TheVariants.{Cut, Form, Faulty, Injected, Range, Size}
+use Rattle.iss_schedule.specs.declared.names.Name.{Name}
+use Rattle.iss_schedule.specs.declared.names.Name.TheVariants.{Request, Propose, Timeout, Deliver, Lose, Pump, Calm, Hold, Free, Drop, Bytes}
+use Rattle.iss_schedule.specs.Names.{text_of_name}
+use Rattle.iss_schedule.specs.Words.{words_of, word_of, IsNumber}
+
+-- ---- the lines of events
+
+-- how many numbers follow a name, and whether bytes follow these
+abbrev pub number_count : Name → ℕ
+number_count Request = 3
+number_count Propose = 1
+number_count Timeout = 2
+number_count Deliver = 1
+number_count Lose = 1
+number_count Pump = 0
+number_count Calm = 1
+number_count Hold = 1
+number_count Free = 1
+number_count Drop = 1
+number_count Bytes = 1
+
+abbrev pub has_bytes : Name → Bool
+has_bytes Request = true
+has_bytes Propose = false
+has_bytes Timeout = false
+has_bytes Deliver = false
+has_bytes Lose = false
+has_bytes Pump = false
+has_bytes Calm = false
+has_bytes Hold = false
+has_bytes Free = false
+has_bytes Drop = false
+has_bytes Bytes = true
+
+-- so many numbers, and then nothing, or bytes
+abbrev pub AreArguments : ℕ → Bool → List (List ℕ) → Type 0
+AreArguments zero false words = words ≡ []
+AreArguments zero true words = (bytes : List ℕ) × (IsBytes bytes × (words ≡ word_of bytes ∷ []))
+AreArguments (suc n) last [] = ⊥
+AreArguments (suc n) last (word ∷ words) = IsNumber word × AreArguments n last words
+
+-- the line names an event and gives its arguments
+pub record IsEventLine (line : List ℕ) : Type 0 where
+  pub name : Name
+  pub arguments : List (List ℕ)
+  pub words : words_of line ≡ text_of_name name ∷ arguments
+  pub spelled : AreArguments (number_count name) (has_bytes name) arguments
+
+-- the line gives bytes to a core
+pub record IsInjection (line : List ℕ) : Type 0 where
+  pub arguments : List (List ℕ)
+  pub words : words_of line ≡ text_of_name Bytes ∷ arguments
+  pub spelled : AreArguments 1 true arguments
+
+-- of a line that is no event in range: it is spelled wrongly, or gives bytes to a core, or a number is out of range
+abbrev pub IsEventFault : List ℕ → Why → Type 0
+IsEventFault line Form = ¬ IsEventLine line
+IsEventFault line Injected = IsInjection line
+IsEventFault line Range = IsEventLine line × ¬ IsInjection line
+IsEventFault line Cut = ⊥
+IsEventFault line Faulty = ⊥
+IsEventFault line Size = ⊥
+
+-- ---- the lines of a header
+
+-- a name and a number
+abbrev pub IsField : List ℕ → List ℕ → Type 0
+IsField name line = (number : List ℕ) × ((line ≡ name ++ 32 ∷ number) × IsNumber number)
+
+abbrev pub AreNumbers : List (List ℕ) → Type 0
+AreNumbers [] = Unit {0}
+AreNumbers (word ∷ words) = IsNumber word × AreNumbers words
+
+-- the line names one faulty node or more
+pub record NamesFaulty (line : List ℕ) : Type 0 where
+  pub first : List ℕ
+  pub others : List (List ℕ)
+  pub words : words_of line ≡ codes "faulty" ∷ first ∷ others
+  pub numbers : AreNumbers (first ∷ others)
+
+-- a line of a header is a text that stands fast, a field, or the line of faulty nodes
+pub data HeaderForm : Type 0 where
+  Fixed : (text : List ℕ) → HeaderForm
+  Field : (name : List ℕ) → HeaderForm
+  FaultyNodes : HeaderForm
+
+abbrev pub header_forms : List HeaderForm
+header_forms =
+    Fixed (codes "iss 1") ∷ Fixed (codes "module relay") ∷ Field (codes "f") ∷ Field (codes "epoch") ∷ Field (codes "buckets") ∷ Field (codes "batch")
+    ∷ Field (codes "window") ∷ Fixed (codes "policy simple") ∷ Field (codes "clients") ∷ Field (codes "keys") ∷ FaultyNodes ∷ []
+
+-- the line at a place is spelled as that place asks; places count from 0, and behind the header stand events
+abbrev pub IsFormed : Option HeaderForm → List ℕ → Type 0
+IsFormed None line = IsEventLine line
+IsFormed (Some (Fixed text)) line = line ≡ text
+IsFormed (Some (Field name)) line = IsField name line
+IsFormed (Some FaultyNodes) line = (line ≡ codes "faulty none") ⊎ NamesFaulty line
+
+abbrev pub HasForm : ℕ → List ℕ → Type 0
+HasForm place line = IsFormed (nth header_forms place) line

@@ -1,0 +1,57 @@
+-- Schedules and their texts.
+use Rattle.std.specs.Prelude.{◌≡◌, ◌≤◌, ◌+◌, ℕ, List, [], ◌∷◌, ◌++◌, length, map, codes, decimal}
+use Rattle.sha2.specs.Sha256.{sha256}
+use Rattle.iss_request.specs.Setup.{IsGoodSetup}
+use Rattle.iss_request.specs.declared.setups.Setup.{Setup}
+use Rattle.iss_schedule.specs.declared.schedules.Event.{Event}
+use Rattle.iss_schedule.specs.declared.schedules.Schedule.{Schedule}
+use Rattle.iss_schedule.specs.Events.{spell_event, AreInRange}
+use Rattle.iss_schedule.specs.Words.{ended}
+
+-- a name and a number
+abbrev pub field : List ℕ → ℕ → List ℕ
+field name n = name ++ 32 ∷ decimal n
+
+-- the eleven lines of a header: the relay is the only module so far, the simple policy the only policy, and the relay
+-- has no faulty nodes
+abbrev pub header_lines : Setup → List (List ℕ)
+header_lines s =
+    codes "iss 1" ∷ codes "module relay" ∷ field (codes "f") s.f ∷ field (codes "epoch") s.epoch ∷ field (codes "buckets") s.buckets
+    ∷ field (codes "batch") s.batch ∷ field (codes "window") s.window ∷ codes "policy simple" ∷ field (codes "clients") s.clients
+    ∷ field (codes "keys") s.keys ∷ codes "faulty none" ∷ []
+
+-- the tag of a cluster is the digest of a letter C and its header
+abbrev pub cluster_tag : Setup → List ℕ
+cluster_tag s = sha256 (0x43 ∷ ended (header_lines s))
+
+-- a header, and then a line for each event
+abbrev pub schedule_lines : Schedule → List (List ℕ)
+schedule_lines s = header_lines s.setup ++ map spell_event s.events
+
+abbrev pub text_of : Schedule → List ℕ
+text_of s = ended (schedule_lines s)
+
+-- the limits of a text
+abbrev pub most_bytes : ℕ
+most_bytes = 16777216
+
+abbrev pub most_events : ℕ
+most_events = 1048576
+
+-- the set-up is that of a relay, and its tag its own
+pub record IsRelay (s : Setup) : Type 0 where
+  pub good : IsGoodSetup s
+  pub relay : s.module ≡ 1
+  pub tag : s.tag ≡ cluster_tag s
+
+-- a schedule in range
+pub record IsFine (s : Schedule) : Type 0 where
+  pub setup : IsRelay s.setup
+  pub events : AreInRange s.setup s.events
+  pub few : length s.events ≤ most_events
+
+-- the bytes are the text of the schedule
+pub record IsSchedule (bytes : List ℕ) (s : Schedule) : Type 0 where
+  pub text : bytes ≡ text_of s
+  pub fine : IsFine s
+  pub short : length bytes ≤ most_bytes

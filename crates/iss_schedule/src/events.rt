@@ -1,0 +1,196 @@
+//! The lines of events.
+ghost use Rattle.std.specs.Prelude.{◌≡◌, ◌≢◌, ◌<◌, ◌≤◌, ◌^◌, ◌+◌, ℕ, List, [], ◌∷◌, IfOk, IfSome, IfNone, IsTrue, ◌↔◌, decimal, option_map};
+ghost use Rattle.hex.specs.Hex.{IsBytes};
+ghost use Rattle.iss_request.specs.Setup.{IsGoodSetup};
+ghost use Rattle.iss_schedule.specs.Events.{event_words, spell_event, IsInRange, IsPayload};
+ghost use Rattle.iss_schedule.specs.Names.{text_of_name};
+ghost use Rattle.iss_schedule.specs.Reads.{Reads, IsWithin, last_number};
+ghost use Rattle.iss_schedule.specs.Words.{word_of};
+
+use crate::names::{Name, name_of};
+use crate::schedules::Event;
+use crate::words::{Words, bytes_of, number_of, number_within};
+use iss_request::bytes::Bytes;
+use iss_request::errors::NoMemory;
+use iss_request::ids::NodeId;
+use iss_request::setups::{Kind, Setup};
+use std::alloc::Global;
+
+// The number that the next word spells, where it is in range.
+fn number_in(words: &mut Words, low: u32, end: u32) -> Option<u32>
+    ensures some { IfSome result (λ n. words.old ≡ decimal n ∷ words.new) }
+    ensures range { IfSome result (IsWithin low end) }
+    ensures none { IfNone result ((n : ℕ) (ws : List (List ℕ)) → IsWithin low end n → words.old ≢ decimal n ∷ ws) }
+{
+    let word = words.next()?;
+    number_within(word, low, end)
+}
+
+// The number that the last word spells, where it is in range.
+fn last_number_in(words: &mut Words, low: u32, end: u32) -> Option<u32>
+    ensures { Reads last_number (IsWithin low end) words.old result }
+{
+    let number = number_in(words, low, end)?;
+    if words.is_done() { Some(number) } else { None }
+}
+
+// The number of the packet that the last word spells.
+fn packet_in(words: &mut Words) -> Option<u64>
+    ensures { Reads last_number (λ n. n < 2 ^ 64) words.old result }
+{
+    let word = words.next()?;
+    let number = number_of(word)?;
+    if words.is_done() { Some(number) } else { None }
+}
+
+// The same bytes.
+fn boxed(all: Vec<u8>) -> Bytes
+    ensures same { result ≡ all.items }
+    ensures bytes { IsBytes result }
+{
+    Bytes::of(all)
+}
+
+/// The bytes that the last word spells.
+pub fn bytes_in(alloc: Global, words: &mut Words) -> Result<Option<Bytes>, NoMemory>
+    ensures { IfOk result (Reads (λ bytes. word_of bytes ∷ []) IsBytes words.old) }
+{
+    let Some(word) = words.next() else {
+        return Ok(None);
+    };
+    let Some(bytes) = bytes_of(alloc, word)? else {
+        return Ok(None);
+    };
+    if words.is_done() {
+        Ok(Some(boxed(bytes)))
+    } else {
+        Ok(None)
+    }
+}
+
+// The core, numbered as its node, that the last word names.
+fn core_in(setup: &Setup, words: &mut Words) -> Option<u32>
+    ensures { Reads last_number (λ core. core < setup.now.n) words.old result }
+{
+    last_number_in(words, 0, setup.n)
+}
+
+// How many pumps the last word asks for.
+fn pumps_in(words: &mut Words) -> Option<u32>
+    ensures { Reads last_number (λ pumps. (1 ≤ pumps) × (pumps ≤ 1000)) words.old result }
+{
+    last_number_in(words, 1, 1001)
+}
+
+// A timeout, behind its name.
+fn timeout_in(setup: &Setup, words: &mut Words) -> Option<Event>
+    requires good { IsGoodSetup setup.now }
+    ensures { Reads event_words (IsInRange setup.now) (text_of_name Name.Timeout ∷ words.old) result }
+{
+    let core = number_in(words, 0, setup.n)?;
+    let leader = core_in(setup, words)?;
+    Some(Event::Timeout {
+        core,
+        leader: NodeId(leader as u8),
+    })
+}
+
+// The payload that the last word spells.
+fn payload_in(alloc: Global, words: &mut Words) -> Result<Option<Bytes>, NoMemory>
+    ensures { IfOk result (Reads (λ payload. word_of payload ∷ []) IsPayload words.old) }
+{
+    let Some(payload) = bytes_in(alloc, words)? else {
+        return Ok(None);
+    };
+    if payload.len() <= 256 {
+        Ok(Some(payload))
+    } else {
+        Ok(None)
+    }
+}
+
+// A request, behind its name.
+fn request_in(alloc: Global, setup: &Setup, words: &mut Words) -> Result<Option<Event>, NoMemory>
+    requires good { IsGoodSetup setup.now }
+    ensures { IfOk result (Reads event_words (IsInRange setup.now) (text_of_name Name.Request ∷ words.old)) }
+{
+    let Some(core) = number_in(words, 0, setup.n) else {
+        return Ok(None);
+    };
+    let Some(client) = number_in(words, 0, setup.clients) else {
+        return Ok(None);
+    };
+    let Some(number) = number_in(words, 0, 1 << setup.keys) else {
+        return Ok(None);
+    };
+    let Some(payload) = payload_in(alloc, words)? else {
+        return Ok(None);
+    };
+    Ok(Some(Event::Request {
+        core,
+        client: client as u8,
+        number,
+        payload,
+    }))
+}
+
+// Bytes for a core, behind their name.
+fn injection_in(alloc: Global, setup: &Setup, words: &mut Words) -> Result<Option<Event>, NoMemory>
+    ensures { IfOk result (Reads event_words (IsInRange setup.now) (text_of_name Name.Bytes ∷ words.old)) }
+{
+    if is_stopping(setup) {
+        return Ok(None);
+    }
+    let Some(core) = number_in(words, 0, setup.n) else {
+        return Ok(None);
+    };
+    let Some(bytes) = bytes_in(alloc, words)? else {
+        return Ok(None);
+    };
+    Ok(Some(Event::Bytes { core, bytes }))
+}
+
+/// Whether the set-up's module withstands nodes that stop, and no others.
+pub fn is_stopping(setup: &Setup) -> bool
+    ensures { IsTrue result ↔ (setup.now.kind ≡ Kind.Stopping) }
+{
+    match setup.kind {
+        Kind::Byzantine => false,
+        Kind::Stopping => true,
+    }
+}
+
+// The event of this name, behind which the words stand.
+fn event_in(alloc: Global, setup: &Setup, name: Name, words: &mut Words) -> Result<Option<Event>, NoMemory>
+    requires good { IsGoodSetup setup.now }
+    ensures { IfOk result (Reads event_words (IsInRange setup.now) (text_of_name name ∷ words.old)) }
+{
+    Ok(match name {
+        Name::Request => request_in(alloc, setup, words)?,
+        Name::Propose => core_in(setup, words).map(|core| Event::Propose { core }),
+        Name::Timeout => timeout_in(setup, words),
+        Name::Deliver => packet_in(words).map(|packet| Event::Deliver { packet }),
+        Name::Lose => packet_in(words).map(|packet| Event::Lose { packet }),
+        Name::Pump => words.is_done().then_some(Event::Pump),
+        Name::Calm => pumps_in(words).map(|pumps| Event::Calm { pumps }),
+        Name::Hold => core_in(setup, words).map(|core| Event::Hold { core }),
+        Name::Free => core_in(setup, words).map(|core| Event::Free { core }),
+        Name::Drop => core_in(setup, words).map(|core| Event::Drop { core }),
+        Name::Bytes => injection_in(alloc, setup, words)?,
+    })
+}
+
+/// The event that a line spells, where it is in range.
+pub fn event_of(alloc: Global, setup: &Setup, line: &[u8]) -> Result<Option<Event>, NoMemory>
+    requires good { IsGoodSetup setup.now }
+    ensures { IfOk result (Reads spell_event (IsInRange setup.now) line.now) }
+{
+    let mut words = Words::of(line);
+    let Some(word) = words.next() else {
+        return Ok(None);
+    };
+    let Some(name) = name_of(word) else {
+        return Ok(None);
+    };
+    event_in(alloc, setup, name, &mut words)
+}

@@ -1,0 +1,83 @@
+//! Whether the line of an event is spelled as its name asks, whatever the size of its numbers.
+ghost use Rattle.std.specs.Prelude.{◌≡◌, ◌↔◌, IsTrue, true, IfOk};
+ghost use Rattle.iss_schedule.specs.Forms.{number_count, has_bytes, AreArguments, IsEventFault};
+
+use crate::errors::Why;
+use crate::events::bytes_in;
+use crate::names::{Name, name_of};
+use crate::words::{Words, is_number};
+use iss_request::errors::NoMemory;
+use iss_request::setups::{Kind, Setup};
+use std::alloc::Global;
+
+// How many numbers follow a name.
+fn count_of_numbers(name: Name) -> u32
+    ensures { result ≡ number_count name }
+{
+    match name {
+        Name::Request => 3,
+        Name::Timeout => 2,
+        Name::Pump => 0,
+        _ => 1,
+    }
+}
+
+// Whether bytes follow the numbers.
+fn ends_in_bytes(name: Name) -> bool
+    ensures { result ≡ has_bytes name }
+{
+    matches!(name, Name::Request | Name::Bytes)
+}
+
+// Whether the words are so many numbers, and then nothing, or bytes.
+fn are_arguments(alloc: Global, numbers: u32, bytes: bool, words: &mut Words) -> Result<bool, NoMemory>
+    ensures { IfOk result (λ b. IsTrue b ↔ AreArguments numbers bytes words.old) }
+{
+    for _ in 0..numbers {
+        let Some(word) = words.next() else {
+            return Ok(false);
+        };
+        if !is_number(word) {
+            return Ok(false);
+        }
+    }
+    if !bytes {
+        return Ok(words.is_done());
+    }
+    are_bytes(alloc, words)
+}
+
+// Whether the last word spells bytes.
+fn are_bytes(alloc: Global, words: &mut Words) -> Result<bool, NoMemory>
+    ensures { IfOk result (λ b. IsTrue b ↔ AreArguments 0 true words.old) }
+{
+    Ok(bytes_in(alloc, words)?.is_some())
+}
+
+/// What is wrong with the line of an event that does not read as an event in range.
+pub fn fault_of(alloc: Global, setup: &Setup, line: &[u8]) -> Result<Why, NoMemory>
+    requires { setup.now.kind ≡ Kind.Stopping }
+    ensures { IfOk result (IsEventFault line.now) }
+{
+    let mut words = Words::of(line);
+    let Some(word) = words.next() else {
+        return Ok(Why::Form);
+    };
+    let Some(name) = name_of(word) else {
+        return Ok(Why::Form);
+    };
+    if !are_arguments(alloc, count_of_numbers(name), ends_in_bytes(name), &mut words)? {
+        return Ok(Why::Form);
+    }
+    if is_injection(name) {
+        Ok(Why::Injected)
+    } else {
+        Ok(Why::Range)
+    }
+}
+
+fn is_injection(name: Name) -> bool
+    ensures { IsTrue result ↔ (name ≡ Name.Bytes) }
+{
+    matches!(name, Name::Bytes)
+}

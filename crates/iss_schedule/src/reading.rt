@@ -1,0 +1,116 @@
+//! Reading a schedule's text.
+ghost use Rattle.std.specs.Prelude.{◌≡◌, ◌↔◌, ◌≤◌, ◌<◌, ◌+◌, ◌-◌, ◌^◌, ◌++◌, [], ℕ, List, IsTrue, IfOk, IfErr, OnOk, length, map};
+ghost use Rattle.iss_request.specs.Setup.{IsGoodSetup};
+ghost use Rattle.iss_schedule.specs.BadLines.{IsRefused};
+ghost use Rattle.iss_schedule.specs.Events.{spell_event, IsInRange, AreInRange};
+ghost use Rattle.iss_schedule.specs.Places.{GoesPast, IsEventRefused, IsEventsRefused};
+ghost use Rattle.iss_schedule.specs.Schedules.{IsSchedule, IsRelay, header_lines, most_events};
+ghost use Rattle.iss_schedule.specs.Words.{ended};
+ghost use Rattle.iss_schedule.specs.declared.schedules.Schedule.{Schedule};
+
+use crate::errors::{ReadError, Why};
+use crate::events::event_of;
+use crate::forms::fault_of;
+use crate::header::{read_header, setup_of};
+use crate::lines::Lines;
+use crate::schedules::{Event, Schedule};
+use iss_request::rows::Row;
+use iss_request::setups::Setup;
+use std::alloc::Global;
+
+/// The most bytes that a text may have.
+pub const MOST_BYTES: usize = 16_777_216;
+
+/// The most events that a schedule may have.
+pub const MOST_EVENTS: usize = 1_048_576;
+
+// Reads the lines behind the header, each an event.
+fn read_events(alloc: Global, setup: &Setup, lines: &mut Lines) -> Result<Row<Event>, ReadError>
+    requires relay { IsRelay setup.now }
+    requires read { lines.old.read ≡ 11 }
+    ensures text { IfOk result (λ es. lines.old.rest ≡ ended (map spell_event es)) }
+    ensures range { IfOk result (AreInRange setup.now) }
+    ensures few { IfOk result (λ es. length es ≤ most_events) }
+    ensures bad { IfErr result (IsEventsRefused setup.now lines.old.rest) }
+{
+    let mut events = Row::new(alloc);
+    'lines: while !lines.is_done() {
+        if events.len() >= MOST_EVENTS {
+            return Err(ReadError::BadLine {
+                line: lines.read() + 1,
+                why: Why::Size,
+            });
+        }
+        let event = read_event(alloc, setup, lines)?;
+        events.push(event)?;
+    }
+    Ok(events)
+}
+
+// Reads the next line, an event.
+fn read_event(alloc: Global, setup: &Setup, lines: &mut Lines) -> Result<Event, ReadError>
+    requires relay { IsRelay setup.now }
+    requires read { lines.old.read < 2 ^ 32 - 1 }
+    ensures ok { IfOk result (λ e. GoesPast (spell_event e) lines.old lines.new) }
+    ensures range { IfOk result (IsInRange setup.now) }
+    ensures count { OnOk result (lines.new.read ≡ lines.old.read + 1) }
+    ensures bad { IfErr result (IsEventRefused setup.now lines.old) }
+{
+    let line = match lines.next() {
+        Ok(line) => line,
+        Err(why) => return Err(bad_line(lines, why)),
+    };
+    match event_of(alloc, setup, line)? {
+        Some(event) => Ok(event),
+        None => {
+            let why = fault_of(alloc, setup, line)?;
+            Err(bad_line(lines, why))
+        }
+    }
+}
+
+// The line that was read last is bad.
+fn bad_line(lines: &Lines, why: Why) -> ReadError
+    ensures { result ≡ ReadError.BadLine lines.now.read why }
+{
+    ReadError::BadLine {
+        line: lines.read(),
+        why,
+    }
+}
+
+// The text in front of what is still to be read.
+fn front<'a>(text: &'a [u8], rest: &[u8]) -> &'a [u8]
+    requires { length rest.now ≤ length text.now }
+    ensures { (read : List ℕ) → text.now ≡ read ++ rest.now → result.now ≡ read }
+{
+    &text[..text.len() - rest.len()]
+}
+
+/// The schedule whose text these bytes are.
+///
+/// # Errors
+///
+/// `BadLine` exactly where no schedule has this text, with the first line that makes it so; `NoMemory` where memory
+/// was wanting.
+pub fn read(alloc: Global, bytes: &[u8]) -> Result<Schedule, ReadError>
+    ensures ok { IfOk result (IsSchedule bytes.now) }
+    ensures good { IfOk result (λ s. IsGoodSetup s.setup) }
+    ensures range { IfOk result (λ s. AreInRange s.setup s.events) }
+    ensures bad { IfErr result (IsRefused bytes.now) }
+{
+    if bytes.len() > MOST_BYTES {
+        return Err(ReadError::BadLine {
+            line: 0,
+            why: Why::Size,
+        });
+    }
+    let mut lines = Lines::of(bytes);
+    let header = match read_header(&mut lines) {
+        Ok(header) => header,
+        Err(why) => return Err(bad_line(&lines, why)),
+    };
+    let setup = setup_of(alloc, header, front(bytes, lines.rest()));
+    let events = read_events(alloc, &setup, &mut lines)?;
+    Ok(Schedule { setup, events })
+}
