@@ -55,10 +55,6 @@ pub record IsFaithful {Msg : Type 0} (s : Setup) (F : Formats Msg) : Type 0 wher
   pub messages : (from l : ℕ) (msg : Msg) → from < s.n → l < s.n → IsReadBack F (record { from = from; epoch = 0; body = OfModule l msg })
   pub requests : (q : Request) → IsReadBack F (record { from = 255; epoch = 0; body = OfRequest q })
 
--- what a module sends to one, it sends to a node
-abbrev pub IsAddressed : {Msg : Type 0} → Module Msg → Type 0
-IsAddressed {Msg} M = (p : Params) (me : ℕ) (xs : List (Item Msg)) (input : Input Msg) (leaf : ℕ) (k : NodeId) (msg : Msg) → In {A = To × Msg} (To_one k, msg) (M.makes p me xs input leaf).sends → k.0 < p.setup.n
-
 -- the events happen at nodes
 abbrev pub IsAtNode : ℕ → Event → Type 0
 IsAtNode n (Asks_order c client number payload) = c < n

@@ -9,7 +9,7 @@ ghost use Rattle.iss_model.specs.Concrete.{rules_of};
 ghost use Rattle.iss_model.specs.Ordered.{Among, IsExact, IsSoundRules, Ordered};
 ghost use Rattle.iss_model.specs.Rules.{Rules};
 ghost use Rattle.iss_model.specs.Printed.{IsSeparateRun, pasts_after, printed};
-ghost use Rattle.iss_model.specs.Runs.{AreAtNodes, IsAddressed, IsPrefix, IsSetupOf};
+ghost use Rattle.iss_model.specs.Runs.{AreAtNodes, IsPrefix, IsSetupOf};
 
 use iss_sb::Sequenced;
 
@@ -24,20 +24,20 @@ pub fn composition<M: Sequenced>()
 
 /// After every list of events, where nodes only stop, the printed logs of correct nodes are of one log, each request
 /// stands there once, and each batch was accepted by a correct node. More events only make logs longer (ISS, whole
-/// protocol). What it takes: a good set-up of the module, sends to nodes alone, and different digests of different
-/// strings that the run hashed.
+/// protocol). What it takes: a good set-up of the module, and different digests of different strings that the run
+/// hashed.
 pub fn ordered_runs<M: Sequenced>()
-    ensures prefix { (s : Setup) → IsSetupOf M.meaning s → M.meaning.stopping ≡ true → IsAddressed M.meaning →
+    ensures prefix { (s : Setup) → IsSetupOf M.meaning s → M.meaning.stopping ≡ true →
         (events : List Event) → AreAtNodes s.n events → IsSeparateRun s M.meaning events →
         (i j : ℕ) → is_correct s i ≡ true → is_correct s j ≡ true →
         IsPrefix (printed s M.meaning events i) (printed s M.meaning events j) ⊎ IsPrefix (printed s M.meaning events j) (printed s M.meaning events i) }
-    ensures once { (s : Setup) → IsSetupOf M.meaning s → M.meaning.stopping ≡ true → IsAddressed M.meaning →
+    ensures once { (s : Setup) → IsSetupOf M.meaning s → M.meaning.stopping ≡ true →
         (events : List Event) → AreAtNodes s.n events → IsSeparateRun s M.meaning events →
         (i : ℕ) → is_correct s i ≡ true → Once (printed s M.meaning events i) }
-    ensures later { (s : Setup) → IsSetupOf M.meaning s → M.meaning.stopping ≡ true → IsAddressed M.meaning →
+    ensures later { (s : Setup) → IsSetupOf M.meaning s → M.meaning.stopping ≡ true →
         (events more : List Event) → AreAtNodes s.n (events ++ more) → (i : ℕ) →
         IsPrefix (printed s M.meaning events i) (printed s M.meaning (events ++ more) i) }
-    ensures ordered { (s : Setup) → IsSetupOf M.meaning s → M.meaning.stopping ≡ true → IsAddressed M.meaning →
+    ensures ordered { (s : Setup) → IsSetupOf M.meaning s → M.meaning.stopping ≡ true →
         (events : List Event) → AreAtNodes s.n events → IsSeparateRun s M.meaning events →
         Ordered s (rules_of s) M.meaning (pasts_after s M.meaning events) }
 {
