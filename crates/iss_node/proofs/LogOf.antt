@@ -8,7 +8,9 @@ use Rattle.iss_log.specs.LogState.{LogState, ahead_at, value_at}
 use Rattle.iss_model.specs.Concrete.{rules_of}
 use Rattle.iss_model.specs.Past.{Past, before_at, cell, climb, cut_at, epoch_at, grow, grown, leader_at, log_of, params_at}
 use Rattle.iss_model.specs.Rules.{Rules}
-use Rattle.iss_node.specs.State.{Took, slot_value}
+use Rattle.iss_model.specs.Node.{Core}
+use Rattle.iss_node.specs.State.{NodeState, Stands, Took, slot_value}
+use Rattle.iss_sb.specs.declared.effects.Params.{Params}
 use Rattle.iss_request.specs.declared.requests.Value.{Value}
 use Rattle.iss_request.specs.declared.setups.Setup.{Setup}
 use Rattle.iss_sb.specs.Evidence.{Item, Module, delivered}
@@ -88,3 +90,9 @@ module _ (s : Setup) {Msg : Type 0} (m : Module Msg) (me : ℕ) (ev : ℕ → �
 
     pub log-is : log_of (rules_of s) m me (record { epoch = 0; evidence = ev; adopted = [] }) ≡ reverse log.entries
     log-is = grows log.entries [] refl (suc 0 * s.epoch) (omega arith)
+
+-- the log of each core that a node stands for
+pub stands-log : {M Msg : Type 0} (m : Module Msg) (stands : M → Params → ℕ → List (Item Msg) → Type 0) (v : NodeState M) (c : Core Msg) → Stands m stands v c → log_of (rules_of v.setup) m v.me.0 c.past ≡ reverse v.log.entries
+stands-log m stands v c h =
+    ap (λ (d : Core _). log_of (rules_of v.setup) m v.me.0 d.past) h.core
+    ∙ log-is v.setup m v.me.0 h.evidence v.log h.tied.cells h.tied.outside h.tied.hole

@@ -1,4 +1,6 @@
 pub mod Answers
 pub mod Cells
 pub mod Marks
+pub mod Shape
 pub mod State
+pub mod Steps

@@ -14,6 +14,8 @@ use Rattle.iss_sb.specs.declared.effects.Input.TheVariants.{Cast, Receive, Timeo
 use Rattle.iss_sb.specs.declared.effects.Params.{Params}
 use Rattle.iss_sb.specs.declared.effects.StepError.{StepError}
 use Rattle.iss_sb.specs.declared.effects.StepError.TheVariants.{Spent, NoMemory}
+use Rattle.iss_sb.specs.declared.effects.To.{To}
+use Rattle.iss_sb.specs.declared.effects.To.TheVariants.{All as To_all, One as To_one}
 use Rattle.iss_sb.specs.Evidence.{Item, Module, delivered, and_then}
 use Rattle.iss_sb.specs.Keys.{KeyState, AreKeysOf, leaves_left}
 
@@ -71,10 +73,20 @@ abbrev pub AllIn : List Slot → List Slot → Type 0
 AllIn [] slots = Unit {0}
 AllIn (s ∷ ss) slots = In s slots × AllIn ss slots
 
--- whatever the module holds: what it gives is of its segment, and few leaves are used
+-- each message to one node is to a node below n
+abbrev pub IsToNode : ℕ → To → Type 0
+IsToNode n To_all = Unit {0}
+IsToNode n (To_one k) = k.0 < n
+
+abbrev pub AreToNodes : {M : Type 0} → ℕ → List (To × M) → Type 0
+AreToNodes n [] = Unit {0}
+AreToNodes n (x ∷ xs) = IsToNode n x.0 × AreToNodes n xs
+
+-- whatever the module holds: what it gives is of its segment, what it sends is to nodes, and few leaves are used
 pub record IsWithin {M : Type 0} (m : Module M) (p : Params) (before later : KeyState) (e : Effects M) : Type 0 where
   pub delivered : AllIn (slots_of e.delivers) p.slots
   pub accepted : IfSome e.accepted (λ a. In a.0 p.slots)
+  pub addressed : AreToNodes p.setup.n e.sends
   pub same_secret : later.secret ≡ before.secret
   pub same_height : later.height ≡ before.height
   pub leaves : before.used ≤ later.used

@@ -2,6 +2,7 @@
 use Rattle.std.specs.Prelude.{◌≡◌, ℕ, ◌<◌, ◌≤◌, true, List, [], ◌∷◌, ◌++◌, Some}
 use Rattle.std.specs.Int.{to_be_bytes, w64}
 use Rattle.iss_base.specs.Lists.{In}
+use Rattle.iss_request.specs.declared.ids.NodeId.{NodeId}
 use Rattle.iss_request.specs.declared.ids.Slot.{Slot}
 use Rattle.iss_request.specs.declared.requests.Batch.{Batch}
 use Rattle.iss_request.specs.declared.requests.Value.{Value}
@@ -10,6 +11,8 @@ use Rattle.iss_sb.specs.declared.effects.Claim.{Claim}
 use Rattle.iss_sb.specs.declared.effects.Input.{Input}
 use Rattle.iss_sb.specs.declared.effects.Input.TheVariants.{Cast}
 use Rattle.iss_sb.specs.declared.effects.Params.{Params}
+use Rattle.iss_sb.specs.declared.effects.To.{To}
+use Rattle.iss_sb.specs.declared.effects.To.TheVariants.{One as To_one}
 use Rattle.iss_sb.specs.Calls.{IsGoodParams}
 use Rattle.iss_sb.specs.Evidence.{Item, Module, World, empty_world, Move, Separate, IsString, delivered, accepts, is_correct}
 
@@ -53,6 +56,8 @@ pub record IsLawful {M : Type 0} (m : Module M) : Type 0 where
   -- what is asked for or decided is of the segment
   pub asked_within : (p : Params) (me : ℕ) (xs : List (Item M)) (i : Input M) (x : Slot × Batch) → m.asks p me xs i ≡ Some x → In x.0 p.slots
   pub decided_within : (p : Params) (me : ℕ) (xs : List (Item M)) (s : Slot) (x : Value) → m.decided p me xs s.0 ≡ Some x → In s p.slots
+  -- what is sent to one node is sent to a node
+  pub addressed : (p : Params) (me : ℕ) (xs : List (Item M)) (i : Input M) (leaf : ℕ) (k : NodeId) (msg : M) → In {A = To × M} (To_one k, msg) (m.makes p me xs i leaf).sends → k.0 < p.setup.n
   -- few signatures a step
   pub few : (p : Params) → m.signs p < 65536
   pub uses : (p : Params) (me : ℕ) (xs : List (Item M)) (i : Input M) (leaf : ℕ) → (m.makes p me xs i leaf).used ≤ m.signs p

@@ -13,6 +13,7 @@ use Rattle.iss_sb.specs.declared.effects.Input.{Input}
 use Rattle.iss_sb.specs.declared.effects.Input.TheVariants.{Cast, Receive, Timeout}
 use Rattle.iss_sb.specs.declared.effects.Params.{Params}
 use Rattle.iss_sb.specs.declared.effects.To.{To}
+use Rattle.iss_sb.specs.declared.effects.To.TheVariants.{All as To_all, One as To_one}
 use Rattle.iss_sb.specs.Calls.{IsGoodParams}
 use Rattle.iss_sb.specs.Evidence.{Item, World, Move, MayCome, IsSent, accepts, delivered, is_correct}
 use Rattle.iss_sb.specs.Laws.{IsBroadcast, IsLawful, IsSafe}
@@ -206,6 +207,12 @@ no-leaves : (o : Option (Slot × Batch)) → (made_of o).used ≤ 0
 no-leaves None = omega arith
 no-leaves (Some a) = omega arith
 
+-- the relay sends to all alone
+not-one : (o : Option (Slot × Batch)) (k : NodeId) (msg : Say) (n : ℕ) → In {A = To × Say} (To_one k, msg) (made_of o).sends → k.0 < n
+not-one None k msg n h = absurd h
+not-one (Some a) k msg n (inl e) = let to : To_one k ≡ To_all = ap (λ (z : To × Say). z.0) e in cc
+not-one (Some a) k msg n (inr h) = absurd h
+
 pub relay-lawful : IsLawful relay
 relay-lawful = record {
   names = λ p from msg c h. absurd h;
@@ -216,6 +223,7 @@ relay-lawful = record {
       rw (same-is me p.leader.0 a.leads, a.within, a.fresh) refl;
   asked_within = λ p me xs i x h. has_slot-In x.0 p.slots (asked p me xs i x.0 x.1 h).within;
   decided_within = λ p me xs s x h. has_slot-In s p.slots (decided-said p me xs s.0 x h).0;
+  addressed = λ p me xs i leaf k msg h. not-one (asks p me xs i) k msg p.setup.n h;
   few = λ p. omega arith;
   uses = λ p me xs i leaf. no-leaves (asks p me xs i);
 }

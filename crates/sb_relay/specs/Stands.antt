@@ -5,7 +5,7 @@ use Rattle.iss_request.specs.declared.ids.NodeId.{NodeId}
 use Rattle.iss_request.specs.declared.ids.Slot.{Slot}
 use Rattle.iss_sb.specs.declared.effects.Effects.{Effects}
 use Rattle.iss_sb.specs.declared.effects.Params.{Params}
-use Rattle.iss_sb.specs.Calls.{AllIn, slots_of}
+use Rattle.iss_sb.specs.Calls.{AllIn, slots_of, AreToNodes}
 use Rattle.iss_sb.specs.Evidence.{Item}
 use Rattle.sb_relay.specs.declared.relay.Relay.{Relay}
 use Rattle.sb_relay.specs.declared.say.Say.{Say}
@@ -28,3 +28,4 @@ may_deliver m p from slot = (from.0 == p.leader.0) && (has_slot slot.0 p.slots &
 pub record IsOfSegment (p : Params) (e : Effects Say) : Type 0 where
   pub delivered : AllIn (slots_of e.delivers) p.slots
   pub accepted : IfSome e.accepted (λ a. In a.0 p.slots)
+  pub addressed : AreToNodes p.setup.n e.sends

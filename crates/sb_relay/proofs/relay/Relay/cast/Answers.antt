@@ -22,4 +22,5 @@ pub returns-clause-within : goal.returns-clause-within
 returns-clause-within c = let no = c.nothing-effects.ensures.delivers in record {
   delivered = rw no tt;
   accepted = cast-within c.args.self.now c.args.p.now c.args.slot (sym c.if-not-may_cast.ensures);
+  addressed = let is = rw c.nothing-effects.ensures.sends at c.in_ok-push-2.ensures.ok in rw is (tt, tt);
 }

@@ -22,4 +22,5 @@ pub returns-clause-within : goal.returns-clause-within
 returns-clause-within c = let no = c.nothing-effects.ensures.accepted in let is = rw c.nothing-effects.ensures.delivers at c.in_ok-push-2.ensures.ok in record {
   delivered = rw is (deliver-within c.args.self.now c.args.p.now c.args.from c.args.said.slot (sym c.if-not-may_deliver.ensures), tt);
   accepted = rw no tt;
+  addressed = let none = c.nothing-effects.ensures.sends in rw none tt;
 }

@@ -10,6 +10,7 @@ returns-in_ok-cast-in-Cast c = rw (c.if-not-verdict.false, c.in-Cast.is) (record
   within = record {
     delivered = c.in_ok-cast-in-Cast.ensures.within.delivered;
     accepted = c.in_ok-cast-in-Cast.ensures.within.accepted;
+    addressed = c.in_ok-cast-in-Cast.ensures.within.addressed;
     same_secret = refl;
     same_height = refl;
     leaves = omega arith;
@@ -26,6 +27,7 @@ returns-in_ok-hear-in-Receive c = rw (c.if-not-verdict.false, c.in-Receive.is) (
   within = record {
     delivered = c.in_ok-hear-in-Receive.ensures.within.delivered;
     accepted = c.in_ok-hear-in-Receive.ensures.within.accepted;
+    addressed = c.in_ok-hear-in-Receive.ensures.within.addressed;
     same_secret = refl;
     same_height = refl;
     leaves = omega arith;
@@ -42,6 +44,7 @@ returns-in-Timeout c = let nothing = c.nothing-in-Timeout.ensures in rw (c.if-no
   within = record {
     delivered = let none = nothing.delivers in rw none tt;
     accepted = let none = nothing.accepted in rw none tt;
+    addressed = let none = nothing.sends in rw none tt;
     same_secret = refl;
     same_height = refl;
     leaves = omega arith;
