@@ -21,3 +21,4 @@ pub mod Printed
 pub mod Layouts
 pub mod Example
 pub mod Written
+pub mod Ranges

@@ -1,11 +1,10 @@
 -- What is written as a packet is read back, or is no packet.
-use Rattle.std.proofs.Common.{◌≡◌, ◌⊎◌, inl, inr, ℕ, List, [], ◌∷◌, ◌++◌, Option, Some, None, refl, sym, ap, ◌∙◌, subst, append-nil}
+use Rattle.std.proofs.Common.{◌≡◌, ◌⊎◌, inl, inr, ℕ, List, [], Some, None, sym, ap, ◌∙◌, append-nil}
 use Rattle.iss_packet.specs.Packets.{parse_packet, spell_packet}
 use Rattle.iss_packet.specs.declared.packets.Packet.{Packet}
 use Rattle.iss_packet.proofs.OneSpelling.{packet_grammar}
-use Rattle.iss_request.specs.Fields.{Bad, Good, IsBad, IsGrammar, Parsed}
+use Rattle.iss_request.specs.Fields.{IsGrammar, Parsed}
 use Rattle.iss_request.specs.Formats.{parse_request, spell_request}
-use Rattle.iss_request.specs.declared.requests.Request.{Request}
 use Rattle.iss_request.specs.declared.setups.Setup.{Setup}
 use Rattle.iss_request.proofs.OneSpelling.{request_grammar}
 use Rattle.iss_sb.specs.Evidence.{Module}

@@ -1,19 +1,13 @@
 -- What is promised of every run of a module whose nodes only stop, and what it takes.
 use Rattle.std.specs.Prelude.{◌≡◌, ◌⊎◌, ℕ, ◌<◌, List, [], ◌∷◌, ◌++◌, Some, None, reverse}
-use Rattle.iss_base.specs.Lists.{In}
 use Rattle.iss_request.specs.Setup.{IsGoodSetup}
-use Rattle.iss_request.specs.declared.ids.NodeId.{NodeId}
 use Rattle.iss_request.specs.declared.requests.Request.{Request}
 use Rattle.iss_request.specs.declared.requests.Value.{Value}
 use Rattle.iss_request.specs.declared.setups.Setup.{Setup}
 use Rattle.iss_schedule.specs.declared.schedules.Event.{Event}
 use Rattle.iss_schedule.specs.declared.schedules.Event.TheVariants.{Request as Asks_order, Propose, Timeout, Deliver, Lose, Pump, Calm, Hold, Free, Drop, Bytes}
-use Rattle.iss_sb.specs.declared.effects.Input.{Input}
-use Rattle.iss_sb.specs.declared.effects.Params.{Params}
-use Rattle.iss_sb.specs.declared.effects.To.{To}
-use Rattle.iss_sb.specs.declared.effects.To.TheVariants.{One as To_one}
 use Rattle.iss_sb.specs.Calls.{kind_of}
-use Rattle.iss_sb.specs.Evidence.{IsString, Item, Module}
+use Rattle.iss_sb.specs.Evidence.{IsString, Module}
 use Rattle.iss_model.specs.Cluster.{world_of}
 use Rattle.iss_model.specs.Node.{Formats, OfModule, OfRequest, Parcel}
 use Rattle.iss_model.specs.Past.{Past, log_of}
