@@ -22,3 +22,4 @@ pub mod Layouts
 pub mod Example
 pub mod Written
 pub mod Ranges
+pub mod Everywhere

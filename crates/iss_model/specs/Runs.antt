@@ -6,8 +6,10 @@ use Rattle.iss_request.specs.declared.requests.Value.{Value}
 use Rattle.iss_request.specs.declared.setups.Setup.{Setup}
 use Rattle.iss_schedule.specs.declared.schedules.Event.{Event}
 use Rattle.iss_schedule.specs.declared.schedules.Event.TheVariants.{Request as Asks_order, Propose, Timeout, Deliver, Lose, Pump, Calm, Hold, Free, Drop, Bytes}
+use Rattle.iss_sb.specs.declared.effects.Input.{Input}
+use Rattle.iss_sb.specs.declared.effects.Params.{Params}
 use Rattle.iss_sb.specs.Calls.{kind_of}
-use Rattle.iss_sb.specs.Evidence.{IsString, Module}
+use Rattle.iss_sb.specs.Evidence.{IsString, Item, Module}
 use Rattle.iss_model.specs.Cluster.{world_of}
 use Rattle.iss_model.specs.Node.{Formats, OfModule, OfRequest, Parcel}
 use Rattle.iss_model.specs.Past.{Past, log_of}
@@ -48,6 +50,10 @@ IsReadBack F k = (F.unwrap (F.wrap k) ≡ Some k) ⊎ (F.unwrap (F.wrap k) ≡ N
 pub record IsFaithful {Msg : Type 0} (s : Setup) (F : Formats Msg) : Type 0 where
   pub messages : (from l : ℕ) (msg : Msg) → from < s.n → l < s.n → IsReadBack F (record { from = from; epoch = 0; body = OfModule l msg })
   pub requests : (q : Request) → IsReadBack F (record { from = 255; epoch = 0; body = OfRequest q })
+
+-- a module that hashes nothing
+abbrev pub HashesNothing : {Msg : Type 0} → Module Msg → Type 0
+HashesNothing {Msg} M = (p : Params) (me : ℕ) (xs : List (Item Msg)) (input : Input Msg) (leaf : ℕ) → (M.makes p me xs input leaf).strings ≡ []
 
 -- the events happen at nodes
 abbrev pub IsAtNode : ℕ → Event → Type 0
