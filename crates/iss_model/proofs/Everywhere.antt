@@ -1,6 +1,6 @@
 -- What each step keeps holds of every core of every run.
-use Rattle.std.proofs.Common.{◌≡◌, ◌⊎◌, inl, inr, ℕ, zero, suc, Bool, true, false, cond, List, [], ◌∷◌, Option, Some, None, refl, sym, ap, ◌∙◌, subst}
-use Rattle.iss_base.specs.Lists.{In, nth, set_at, set_at2}
+use Rattle.std.proofs.Common.{◌≡◌, inl, inr, ℕ, zero, suc, Bool, true, false, cond, List, [], ◌∷◌, Option, Some, None, refl, sym, ◌∙◌, subst}
+use Rattle.iss_base.specs.Lists.{In, nth, set_at2}
 use Rattle.iss_base.proofs.Lists.{same_or_not, same_pair, set_at-other, set_at-same, set_at2-at, set_at2-other}
 use Rattle.iss_network.specs.Network.{due, settled}
 use Rattle.iss_network.specs.declared.packets.Sent.{Sent}
@@ -14,7 +14,7 @@ use Rattle.iss_model.specs.declared.causes.NodeEvent.TheVariants.{Packet as Gets
 use Rattle.iss_model.specs.Node.{Core, Dropped, Formats, OfRequest, Stepped, Taken, Turn, idle, step}
 use Rattle.iss_model.specs.Past.{Past, params_of, takes}
 use Rattle.iss_model.specs.Rules.{Rules}
-use Rattle.iss_model.specs.Run.{Net, Progress, after_step, at_core, begin_run, calms, delivered_to, delivers, delivers_each, goes_on, happens, injects, loses, posted_all, pumps, request_of, run}
+use Rattle.iss_model.specs.Run.{Net, Progress, after_step, at_core, begin_run, calms, delivered_to, delivers, delivers_each, goes_on, happens, injects, loses, pumps, request_of, run}
 use Rattle.iss_model.specs.Runs.{HashesNothing, IsRunString, net_after, pasts_of}
 use Rattle.iss_model.specs.Sound.{IsSoundCore}
 use Rattle.iss_model.proofs.Casts.{idle-sound, step-sound}
