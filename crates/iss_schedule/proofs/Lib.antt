@@ -5,3 +5,4 @@ pub mod Fronts
 pub mod HexWords
 pub mod Numbers
 pub mod Refusals
+pub mod Written

@@ -10,7 +10,9 @@ mod names;
 mod reading;
 pub mod schedules;
 mod words;
+mod writing;
 
 pub use errors::{ReadError, Why};
 pub use reading::{MOST_BYTES, MOST_EVENTS, read};
+pub use writing::write;
 pub use schedules::{Event, Schedule};
