@@ -1,8 +1,10 @@
 pub mod Arguments
 pub mod Blanks
 pub mod Cuts
+pub mod Forming
 pub mod Fronts
 pub mod HexWords
 pub mod Numbers
+pub mod OneLine
 pub mod Refusals
 pub mod Written

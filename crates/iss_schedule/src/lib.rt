@@ -5,6 +5,7 @@ pub mod errors;
 mod events;
 mod forms;
 mod header;
+pub mod laws;
 mod lines;
 mod names;
 mod reading;
