@@ -6,5 +6,6 @@ pub mod Fronts
 pub mod HexWords
 pub mod Numbers
 pub mod OneLine
+pub mod OneSchedule
 pub mod Refusals
 pub mod Written

@@ -31,7 +31,7 @@ take_drop (suc n) (x ∷ xs) = ap (λ (t : List (List ℕ)). x ∷ t) (take_drop
 line_count : (s : Schedule) → length (schedule_lines s) ≡ 11 + length s.events
 line_count s = let all = length-append (header_lines s.setup) (map spell_event s.events) in let count = length_spelled s.events in omega arith
 
-nonempty : (line more : List ℕ) → line ++ 10 ∷ more ≢ []
+pub nonempty : (line more : List ℕ) → line ++ 10 ∷ more ≢ []
 nonempty line more e = omega (arith, ap length e, length-append line (10 ∷ more))
 
 -- ---- a schedule in range goes on behind the front with the line m
@@ -80,7 +80,7 @@ ends s front rest Range is none bad = next_ends front rest Range none bad.1
 
 -- ---- the laws
 
-nothing : (xs : List ℕ) → xs ++ [] ≡ xs
+pub nothing : (xs : List ℕ) → xs ++ [] ≡ xs
 nothing [] = refl
 nothing (x ∷ xs) = ap (λ (t : List ℕ). x ∷ t) (nothing xs)
 

@@ -57,7 +57,7 @@ pub field_same : (name : List ℕ) (m n : ℕ) → m < 2 ^ 64 → n < 2 ^ 64 →
 field_same [] m n fits fits' e = let same : decimal m ≡ decimal n = cc in decimal_injective m n fits fits' same
 field_same (b ∷ bs) m n fits fits' e = let tails : bs ++ 32 ∷ decimal m ≡ bs ++ 32 ∷ decimal n = cc in field_same bs m n fits fits' tails
 
-some_same : (x y : List ℕ) → Some x ≡ Some y → x ≡ y
+pub some_same : (x y : List ℕ) → Some x ≡ Some y → x ≡ y
 some_same x y e = cc
 
 pub same_kind : (s : Setup) → IsRelay s → s.kind ≡ Byzantine → ⊥
