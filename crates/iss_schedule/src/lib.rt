@@ -17,3 +17,6 @@ pub use errors::{ReadError, Why};
 pub use reading::{MOST_BYTES, MOST_EVENTS, read};
 pub use writing::write;
 pub use schedules::{Event, Schedule};
+
+#[cfg(test)]
+mod tests;
