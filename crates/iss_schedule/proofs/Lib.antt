@@ -1,6 +1,7 @@
 pub mod Arguments
 pub mod Blanks
 pub mod Cuts
+mod Examples
 pub mod Forming
 pub mod Fronts
 pub mod HexWords
