@@ -12,7 +12,9 @@ use Rattle.iss_model.specs.declared.causes.NodeEvent.{NodeEvent}
 use Rattle.iss_model.specs.declared.causes.NodeEvent.TheVariants.{Packet as Gets}
 use Rattle.iss_model.specs.declared.causes.Why.{Why}
 use Rattle.iss_model.specs.declared.causes.Why.TheVariants.{NoPacket}
-use Rattle.iss_network.specs.Network.{Network, due, settled}
+use Rattle.iss_model.specs.Runs.{IsSetupOf}
+use Rattle.std.proofs.lemmas.List.{length-replicate}
+use Rattle.iss_network.specs.Network.{Network, due, empty_network, settled}
 use Rattle.iss_network.specs.declared.packets.Sent.{Sent}
 use Rattle.iss_node.specs.State.{NodeState, Stands}
 use Rattle.iss_node.specs.Steps.{IsDrop, IsTurn}
@@ -26,7 +28,7 @@ use Rattle.iss_sb.specs.Calls.{AreToNodes, kind_of}
 use Rattle.iss_sb.specs.Evidence.{Item, Module}
 use Rattle.iss_sb.specs.Keys.{KeyState}
 use Rattle.iss_world.proofs.PostLemmas.{take-next}
-use Rattle.iss_world.specs.Shape.{IsNetworkOf, IsWorld}
+use Rattle.iss_world.specs.Shape.{AreForCores, IsNetworkOf, IsWorld}
 use Rattle.iss_world.specs.Stands.{AreFresh, HasHappened, IsFresh, StandsFor}
 use Rattle.iss_world.specs.State.{WorldState}
 use Rattle.iss_world.specs.declared.world.Happened.{Happened}
@@ -223,3 +225,14 @@ module _ {M Msg : Type 0} (m : Module Msg) (stands : M → Params → ℕ → Li
       | inr t ↦ subst (λ (k : ℕ). IsFresh m stands s k g) (sym (t.0 ∙ h.count)) (subst (λ (z : NodeState M). IsFresh m stands s n z) (sym t.1) f)
     ];
   }
+
+  pub fresh-world : (s t : Setup) (nodes : List (NodeState M)) (net : Network) → IsSetupOf m s → t ≡ s → AreFresh m stands s s.n nodes → net ≡ empty_network s.n → IsWorld m (record { setup = t; nodes = nodes; network = net })
+  fresh-world s t nodes net good e h en =
+      let P : Setup → Type 0 = λ u. IsWorld m (record { setup = u; nodes = nodes; network = net }) in
+      subst P (sym e) (record {
+        good = good;
+        count = h.count;
+        network = record { held = ap (λ (u : Network). length u.held) en ∙ length-replicate s.n false; packets = subst (λ (u : Network). AreForCores s.n u.packets) (sym en) tt };
+        setups = λ i g at. (h.each i g at).setup;
+        places = λ i g at. (h.each i g at).place;
+      })
