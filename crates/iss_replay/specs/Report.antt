@@ -1,12 +1,18 @@
--- The text of a report, as a function of how far a run has come.
+-- The run of a schedule, and the text that tells how far a run has come.
 use Rattle.std.specs.Prelude.{ℕ, zero, suc, List, [], ◌∷◌, ◌++◌}
 use Rattle.iss_model.specs.Concrete.{rules_of}
+use Rattle.iss_model.specs.Formats.{formats_of}
 use Rattle.iss_model.specs.Past.{log_of}
-use Rattle.iss_model.specs.Run.{Net, Progress}
+use Rattle.iss_model.specs.Run.{Net, Progress, begin_run, run}
 use Rattle.iss_model.specs.declared.causes.Why.{Why}
 use Rattle.iss_report.specs.Text.{drop_line, end_line, node_block}
 use Rattle.iss_request.specs.declared.setups.Setup.{Setup}
+use Rattle.iss_schedule.specs.declared.schedules.Event.{Event}
 use Rattle.iss_sb.specs.Evidence.{Module}
+
+-- the run of these events from the start
+abbrev pub run_of : {Msg : Type 0} → Setup → Module Msg → List Event → Progress Msg
+run_of s M events = run s (formats_of s M) (rules_of s) M (begin_run s.n) events
 
 -- a line for each event that was lost, in the order of the events: the newest is the first of the list
 abbrev pub drop_lines : List (ℕ × Why) → List ℕ

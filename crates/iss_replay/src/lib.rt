@@ -1,8 +1,8 @@
 //! The replay of a schedule: its events happen to a cluster, one after the other, and what came of them is told.
 #![tactic(auto)]
 
-pub mod replay;
-pub mod text;
+pub mod replays;
+pub mod texts;
 
-pub use replay::{Report, replay};
-pub use text::text;
+pub use replays::{Report, replay};
+pub use texts::text;

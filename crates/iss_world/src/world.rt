@@ -262,7 +262,8 @@ impl<M: Sequenced> World<M> {
 
     /// The set-up of the cluster.
     pub fn setup(&self) -> &Setup
-        ensures { result.now ≡ self.now.setup }
+        ensures same { result.now ≡ self.now.setup }
+        ensures good { IsSetupOf M.meaning result.now }
     {
         &self.setup
     }
