@@ -46,7 +46,42 @@ pub fn replay<M: Sequenced>(alloc: Global, schedule: &Schedule) -> Result<Report
         (i : ℕ) → IsPrefix (printed schedule.now.setup M.meaning schedule.now.events i) (printed schedule.now.setup M.meaning (schedule.now.events ++ more) i) }
 {
     ordered_runs::<M>();
-    let _ = alloc;
-    let _ = schedule;
-    Err(NoMemory)
+    play(alloc, schedule)
+}
+
+// The events happen to a cluster that has taken nothing.
+fn play<M: Sequenced>(alloc: Global, schedule: &Schedule) -> Result<Report<M>, NoMemory>
+    requires good { IsSetupOf M.meaning schedule.now.setup }
+    requires range { AreInRange schedule.now.setup schedule.now.events }
+    ensures run { IfOk result (λ r. StandsForRun M.meaning M.stands r.world r.drops (run_of schedule.now.setup M.meaning schedule.now.events)) }
+    ensures same { IfOk result (λ r. r.world.setup ≡ schedule.now.setup) }
+{
+    let events = schedule.events.as_slice();
+    let mut world = World::start(alloc, &schedule.setup)?;
+    let mut drops = Row::new(alloc);
+    for place in 0..events.len() {
+        go_on(alloc, &mut world, &mut drops, place as u64, &events[place])?;
+    }
+    Ok(Report { world, drops })
+}
+
+// The next event happens, and where it is lost, its number and the cause are noted.
+fn go_on<M: Sequenced>(
+    alloc: Global,
+    world: &mut World<M>,
+    drops: &mut Row<(u64, Why)>,
+    number: u64,
+    event: &Event,
+) -> Result<(), NoMemory>
+    requires range { IsInRange world.old.setup event.now }
+    requires standing { IsStanding M.meaning M.stands world.old }
+    ensures went { OnOk result ((p : Progress M.Msg) → p.event ≡ number → StandsForRun M.meaning M.stands world.old drops.old p →
+        StandsForRun M.meaning M.stands world.new drops.new (goes_on world.old.setup (formats_of world.old.setup M.meaning) (rules_of world.old.setup) M.meaning p event.now)) }
+    ensures same { world.new.setup ≡ world.old.setup }
+{
+    let happened = world.event(alloc, event)?;
+    if let Happened::Lost(why) = happened {
+        drops.push((number, why))?;
+    }
+    Ok(())
 }
