@@ -20,3 +20,6 @@ pub mod Simulation
 pub mod Printed
 pub mod Layouts
 pub mod Example
+pub mod Written
+pub mod Ranges
+pub mod Everywhere

@@ -15,7 +15,7 @@ use Rattle.iss_model.specs.Ordered.{IsSoundRules, Ordered}
 use Rattle.iss_model.specs.Past.{log_of}
 use Rattle.iss_model.specs.Rules.{Rules}
 use Rattle.iss_model.specs.Run.{Progress, begin_run, run}
-use Rattle.iss_model.specs.Runs.{AreAtNodes, IsAddressed, IsFaithful, IsPrefix, IsRunString, log_after, net_after, pasts_of}
+use Rattle.iss_model.specs.Runs.{AreAtNodes, IsFaithful, IsPrefix, IsRunString, log_after, net_after, pasts_of}
 use Rattle.iss_model.specs.Sound.{AreAllInside, IsSoundCore}
 use Rattle.iss_model.proofs.Agree.{separate-part}
 use Rattle.iss_model.proofs.Ids.{log_ids-append}
@@ -64,9 +64,9 @@ at-nodes-right : (n : ℕ) (es fs : List Event) → AreAtNodes n (es ++ fs) → 
 at-nodes-right n [] fs h = h
 at-nodes-right n (e ∷ es) fs h = at-nodes-right n es fs h.1
 
-module _ {Msg : Type 0} (s : Setup) (F : Formats Msg) (R : Rules) (M : Module Msg) (sound : IsSoundRules s M R) (stops : M.stopping ≡ true) (faithful : IsFaithful s F) (addressed : IsAddressed M) (law : IsLawful M) (inside : AreAllInside R) where
-  after-ok : (events : List Event) → AreAtNodes s.n events → NetOk s F R M sound stops faithful addressed (net_after s F R M events)
-  after-ok events low = (run-ok s F R M sound stops faithful addressed law inside events (begin_run s.n) (start-ok s F R M sound stops faithful addressed law inside) low).ok
+module _ {Msg : Type 0} (s : Setup) (F : Formats Msg) (R : Rules) (M : Module Msg) (sound : IsSoundRules s M R) (stops : M.stopping ≡ true) (faithful : IsFaithful s F) (law : IsLawful M) (inside : AreAllInside R) where
+  after-ok : (events : List Event) → AreAtNodes s.n events → NetOk s F R M sound stops faithful law (net_after s F R M events)
+  after-ok events low = (run-ok s F R M sound stops faithful law inside events (begin_run s.n) (start-ok s F R M sound stops faithful law inside) low).ok
 
   -- every core of a run is sound
   pub sound-run : (events : List Event) → AreAtNodes s.n events → (i : ℕ) → IsSoundCore R M i ((net_after s F R M events).cores i)
@@ -93,6 +93,6 @@ module _ {Msg : Type 0} (s : Setup) (F : Formats Msg) (R : Rules) (M : Module Ms
   -- what is printed after more events begins with what was printed
   pub later-run : (events more : List Event) → AreAtNodes s.n (events ++ more) → (i : ℕ) → IsPrefix (log_after s F R M events i) (log_after s F R M (events ++ more) i)
   later-run events more low i =
-      let g = run-ok s F R M sound stops faithful addressed law inside more (run s F R M (begin_run s.n) events) (after-ok events (at-nodes-left s.n events more low)) (at-nodes-right s.n events more low) in
+      let g = run-ok s F R M sound stops faithful law inside more (run s F R M (begin_run s.n) events) (after-ok events (at-nodes-left s.n events more low)) (at-nodes-right s.n events more low) in
       let p : Progress Msg = run s F R M (run s F R M (begin_run s.n) events) more in
       subst (λ (q : Progress Msg). IsPrefix (log_after s F R M events i) (reverse (log_of R M i (pasts_of q.net i)))) (sym (run-append s F R M events more (begin_run s.n))) (turned (log_of R M i (pasts_of (net_after s F R M events) i)) (log_of R M i (pasts_of p.net i)) (g.grows.logs i))

@@ -30,7 +30,7 @@ use Rattle.iss_model.specs.Ordered.{IsExact, IsSoundRules}
 use Rattle.iss_model.specs.Past.{Past, asked_in, before, before_at, epoch_at, leader_at, log_of, made_in, params_at, params_of, takes}
 use Rattle.iss_model.specs.Rules.{Rules}
 use Rattle.iss_model.specs.Run.{Net, Progress, addressees, after_step, at_core, begin_net, calms, delivered_to, delivers, delivers_each, goes_on, happens, injects, loses, posted_all, pumps, request_of, run}
-use Rattle.iss_model.specs.Runs.{AreAtNodes, IsAddressed, IsAtNode, IsFaithful, IsRunString, pasts_of}
+use Rattle.iss_model.specs.Runs.{AreAtNodes, IsAtNode, IsFaithful, IsRunString, pasts_of}
 use Rattle.iss_model.specs.Sound.{AreAllInside, IsSoundCore}
 use Rattle.iss_model.proofs.Casts.{cast-judged, idle-sound, step-sound}
 use Rattle.iss_model.proofs.Logs.{Later, Settled, evidence-later, later-refl, log-later, takes-later}
@@ -81,7 +81,7 @@ grows-same R M w v q = record { logs = λ j. rw (q j) (extends-refl (log_of R M 
 grows-trans : {Msg : Type 0} (R : Rules) (M : Module Msg) (u v w : Net Msg) → Grows R M u v → Grows R M v w → Grows R M u w
 grows-trans R M u v w a b = record { logs = λ j. extends-trans _ _ _ (a.logs j) (b.logs j) }
 
-module _ {Msg : Type 0} (s : Setup) (F : Formats Msg) (R : Rules) (M : Module Msg) (sound : IsSoundRules s M R) (stops : M.stopping ≡ true) (faithful : IsFaithful s F) (addressed : IsAddressed M) where
+module _ {Msg : Type 0} (s : Setup) (F : Formats Msg) (R : Rules) (M : Module Msg) (sound : IsSoundRules s M R) (stops : M.stopping ≡ true) (faithful : IsFaithful s F) (law : IsLawful M) where
   -- where nodes only stop, all are correct
   faultless : s.faulty ≡ []
   faultless =
@@ -146,7 +146,7 @@ module _ {Msg : Type 0} (s : Setup) (F : Formats Msg) (R : Rules) (M : Module Ms
   -- an addressee of a send is a node
   addressee-low : (p : Params) → p.setup ≡ s → (me : ℕ) (xs : List (Item Msg)) (input : Input Msg) (leaf : ℕ) (to : To) (msg : Msg) → In {A = To × Msg} (to, msg) (M.makes p me xs input leaf).sends → (j : ℕ) → In j (addressees s.n to) → j < s.n
   addressee-low p q me xs input leaf To_all msg h j i = in-below s.n j i
-  addressee-low p q me xs input leaf (To_one k) msg h j (inl e) = let lt : k.0 < p.setup.n = addressed p me xs input leaf k msg h in rw e (subst (λ (t : Setup). k.0 < t.n) q lt)
+  addressee-low p q me xs input leaf (To_one k) msg h j (inl e) = let lt : k.0 < p.setup.n = law.addressed p me xs input leaf k msg h in rw e (subst (λ (t : Setup). k.0 < t.n) q lt)
   addressee-low p q me xs input leaf (To_one k) msg h j (inr i) = absurd i
 
   module _ (w : Net Msg) (nk : NetOk w) (i : ℕ) (low : i < s.n) where
@@ -292,7 +292,7 @@ module _ {Msg : Type 0} (s : Setup) (F : Formats Msg) (R : Rules) (M : Module Ms
     may-get : (from l : ℕ) (msg : Msg) → In (record { from = from; to = i; epoch = c.past.epoch; leader = l; msg = msg }) nk.messages → MayGet M.stopping s R M view i l from msg
     may-get from l msg h = subst (λ (b : Bool). MayGet b s R M view i l from msg) (sym stops) h
 
-    module _ (law : IsLawful M) (inside : AreAllInside R) where
+    module _ (inside : AreAllInside R) where
       took-ok : (event : NodeEvent) (t : Turn Msg) → Legit event → IsSoundCore R M i t.core → Took F R M i c event t → Goes w (next t)
       took-ok event t legit core (received k l msg u b e inp) =
           let m : In (record { from = k.from; to = i; epoch = k.epoch; leader = l; msg = msg }) nk.messages = legit k l msg u b in
@@ -309,7 +309,7 @@ module _ {Msg : Type 0} (s : Setup) (F : Formats Msg) (R : Rules) (M : Module Ms
           go (Dropped why) q = goes-refl w nk
           go (Taken t) q = took-ok event t legit (step-sound F R M i c event t (nk.cores i) q) (took F R M i c event t q)
 
-  module _ (law : IsLawful M) (inside : AreAllInside R) where
+  module _ (inside : AreAllInside R) where
     -- bytes that were written for a request give no message of a module
     request-legit : (w : Net Msg) (nk : NetOk w) (i : ℕ) (low : i < s.n) (q : Request) → Legit w nk i low (Gets (F.wrap (record { from = 255; epoch = 0; body = OfRequest q })))
     request-legit w nk i low q k l msg u b = elim (faithful.requests q) [
@@ -334,7 +334,7 @@ module _ {Msg : Type 0} (s : Setup) (F : Formats Msg) (R : Rules) (M : Module Ms
         let v : Net Msg = record w { network = settled w.network k } in
         goes-trans w v _ (network-ok w (settled w.network k) refl nk) (λ vk.
         let h : IsWrapped vk.messages p = vk.packets p (nth-in w.network.packets k p q) in
-        at-core-ok v vk p.to h.low_to law inside (Gets p.bytes) (packet-legit v vk p h))
+        at-core-ok v vk p.to h.low_to inside (Gets p.bytes) (packet-legit v vk p h))
 
     delivers-ok : (w : Net Msg) → NetOk w → (k : ℕ) → Goes w (delivers s.n F R M w k).net
     delivers-ok w nk k = delivered-ok w nk k (nth w.network.packets k) refl
@@ -360,9 +360,9 @@ module _ {Msg : Type 0} (s : Setup) (F : Formats Msg) (R : Rules) (M : Module Ms
         go false q = absurd (true≢false (sym q))
 
     pub happens-ok : (w : Net Msg) → NetOk w → (e : Event) → IsAtNode s.n e → Goes w (happens s F R M w e).net
-    happens-ok w nk (Asks_order i client number payload) low = at-core-ok w nk i low law inside (Gets (F.wrap (record { from = 255; epoch = 0; body = OfRequest (request_of s client number payload) }))) (request-legit w nk i low (request_of s client number payload))
-    happens-ok w nk (Propose i) low = at-core-ok w nk i low law inside Proposes tt
-    happens-ok w nk (Times_out i l) low = at-core-ok w nk i low law inside (Fires l) tt
+    happens-ok w nk (Asks_order i client number payload) low = at-core-ok w nk i low inside (Gets (F.wrap (record { from = 255; epoch = 0; body = OfRequest (request_of s client number payload) }))) (request-legit w nk i low (request_of s client number payload))
+    happens-ok w nk (Propose i) low = at-core-ok w nk i low inside Proposes tt
+    happens-ok w nk (Times_out i l) low = at-core-ok w nk i low inside (Fires l) tt
     happens-ok w nk (Deliver k) low = delivers-ok w nk k
     happens-ok w nk (Lose k) low = loses-ok w nk k (nth w.network.packets k)
     happens-ok w nk Pump low = each-ok (due w.network) w nk

@@ -1,5 +1,5 @@
 -- How a node's packets are written in bytes, and read.
-use Rattle.std.specs.Prelude.{ℕ, List, [], ◌∷◌, Option, Some, None}
+use Rattle.std.specs.Prelude.{ℕ, [], ◌∷◌, Option, Some, None}
 use Rattle.iss_packet.specs.Packets.{parse_packet, spell_packet}
 use Rattle.iss_packet.specs.declared.packets.Packet.{Packet}
 use Rattle.iss_packet.specs.declared.packets.PacketKind.{PacketKind}

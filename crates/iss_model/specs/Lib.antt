@@ -9,3 +9,4 @@ pub mod Runs
 pub mod Sound
 pub mod Concrete
 pub mod Formats
+pub mod Printed

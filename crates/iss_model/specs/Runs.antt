@@ -1,8 +1,6 @@
 -- What is promised of every run of a module whose nodes only stop, and what it takes.
 use Rattle.std.specs.Prelude.{◌≡◌, ◌⊎◌, ℕ, ◌<◌, List, [], ◌∷◌, ◌++◌, Some, None, reverse}
-use Rattle.iss_base.specs.Lists.{In}
 use Rattle.iss_request.specs.Setup.{IsGoodSetup}
-use Rattle.iss_request.specs.declared.ids.NodeId.{NodeId}
 use Rattle.iss_request.specs.declared.requests.Request.{Request}
 use Rattle.iss_request.specs.declared.requests.Value.{Value}
 use Rattle.iss_request.specs.declared.setups.Setup.{Setup}
@@ -10,8 +8,6 @@ use Rattle.iss_schedule.specs.declared.schedules.Event.{Event}
 use Rattle.iss_schedule.specs.declared.schedules.Event.TheVariants.{Request as Asks_order, Propose, Timeout, Deliver, Lose, Pump, Calm, Hold, Free, Drop, Bytes}
 use Rattle.iss_sb.specs.declared.effects.Input.{Input}
 use Rattle.iss_sb.specs.declared.effects.Params.{Params}
-use Rattle.iss_sb.specs.declared.effects.To.{To}
-use Rattle.iss_sb.specs.declared.effects.To.TheVariants.{One as To_one}
 use Rattle.iss_sb.specs.Calls.{kind_of}
 use Rattle.iss_sb.specs.Evidence.{IsString, Item, Module}
 use Rattle.iss_model.specs.Cluster.{world_of}
@@ -55,9 +51,9 @@ pub record IsFaithful {Msg : Type 0} (s : Setup) (F : Formats Msg) : Type 0 wher
   pub messages : (from l : ℕ) (msg : Msg) → from < s.n → l < s.n → IsReadBack F (record { from = from; epoch = 0; body = OfModule l msg })
   pub requests : (q : Request) → IsReadBack F (record { from = 255; epoch = 0; body = OfRequest q })
 
--- what a module sends to one, it sends to a node
-abbrev pub IsAddressed : {Msg : Type 0} → Module Msg → Type 0
-IsAddressed {Msg} M = (p : Params) (me : ℕ) (xs : List (Item Msg)) (input : Input Msg) (leaf : ℕ) (k : NodeId) (msg : Msg) → In {A = To × Msg} (To_one k, msg) (M.makes p me xs input leaf).sends → k.0 < p.setup.n
+-- a module that hashes nothing
+abbrev pub HashesNothing : {Msg : Type 0} → Module Msg → Type 0
+HashesNothing {Msg} M = (p : Params) (me : ℕ) (xs : List (Item Msg)) (input : Input Msg) (leaf : ℕ) → (M.makes p me xs input leaf).strings ≡ []
 
 -- the events happen at nodes
 abbrev pub IsAtNode : ℕ → Event → Type 0

@@ -6,10 +6,10 @@ ghost use Rattle.iss_sb.specs.Evidence.{Separate, is_correct};
 ghost use Rattle.iss_schedule.specs.declared.schedules.Event.{Event};
 ghost use Rattle.iss_model.specs.Cluster.{Cluster, Reach, Scheme};
 ghost use Rattle.iss_model.specs.Concrete.{rules_of};
-ghost use Rattle.iss_model.specs.Node.{Formats};
 ghost use Rattle.iss_model.specs.Ordered.{Among, IsExact, IsSoundRules, Ordered};
 ghost use Rattle.iss_model.specs.Rules.{Rules};
-ghost use Rattle.iss_model.specs.Runs.{AreAtNodes, IsAddressed, IsFaithful, IsPrefix, IsRunString, IsSetupOf, log_after, net_after, pasts_of};
+ghost use Rattle.iss_model.specs.Printed.{IsSeparateRun, pasts_after, printed};
+ghost use Rattle.iss_model.specs.Runs.{AreAtNodes, HashesNothing, IsPrefix, IsSetupOf};
 
 use iss_sb::Sequenced;
 
@@ -24,22 +24,28 @@ pub fn composition<M: Sequenced>()
 
 /// After every list of events, where nodes only stop, the printed logs of correct nodes are of one log, each request
 /// stands there once, and each batch was accepted by a correct node. More events only make logs longer (ISS, whole
-/// protocol).
+/// protocol). What it takes: a good set-up of the module, and different digests of different strings that the run
+/// hashed.
 pub fn ordered_runs<M: Sequenced>()
-    ensures prefix { (s : Setup) (F : Formats M.Msg) → IsSetupOf M.meaning s → M.meaning.stopping ≡ true → IsFaithful s F → IsAddressed M.meaning →
-        (events : List Event) → AreAtNodes s.n events → Separate (IsRunString s (pasts_of (net_after s F (rules_of s) M.meaning events))) →
+    ensures prefix { (s : Setup) → IsSetupOf M.meaning s → M.meaning.stopping ≡ true →
+        (events : List Event) → AreAtNodes s.n events → IsSeparateRun s M.meaning events →
         (i j : ℕ) → is_correct s i ≡ true → is_correct s j ≡ true →
-        IsPrefix (log_after s F (rules_of s) M.meaning events i) (log_after s F (rules_of s) M.meaning events j) ⊎
-        IsPrefix (log_after s F (rules_of s) M.meaning events j) (log_after s F (rules_of s) M.meaning events i) }
-    ensures once { (s : Setup) (F : Formats M.Msg) → IsSetupOf M.meaning s → M.meaning.stopping ≡ true → IsFaithful s F → IsAddressed M.meaning →
-        (events : List Event) → AreAtNodes s.n events → Separate (IsRunString s (pasts_of (net_after s F (rules_of s) M.meaning events))) →
-        (i : ℕ) → is_correct s i ≡ true → Once (log_after s F (rules_of s) M.meaning events i) }
-    ensures later { (s : Setup) (F : Formats M.Msg) → IsSetupOf M.meaning s → M.meaning.stopping ≡ true → IsFaithful s F → IsAddressed M.meaning →
+        IsPrefix (printed s M.meaning events i) (printed s M.meaning events j) ⊎ IsPrefix (printed s M.meaning events j) (printed s M.meaning events i) }
+    ensures once { (s : Setup) → IsSetupOf M.meaning s → M.meaning.stopping ≡ true →
+        (events : List Event) → AreAtNodes s.n events → IsSeparateRun s M.meaning events →
+        (i : ℕ) → is_correct s i ≡ true → Once (printed s M.meaning events i) }
+    ensures later { (s : Setup) → IsSetupOf M.meaning s → M.meaning.stopping ≡ true →
         (events more : List Event) → AreAtNodes s.n (events ++ more) → (i : ℕ) →
-        IsPrefix (log_after s F (rules_of s) M.meaning events i) (log_after s F (rules_of s) M.meaning (events ++ more) i) }
-    ensures ordered { (s : Setup) (F : Formats M.Msg) → IsSetupOf M.meaning s → M.meaning.stopping ≡ true → IsFaithful s F → IsAddressed M.meaning →
-        (events : List Event) → AreAtNodes s.n events → Separate (IsRunString s (pasts_of (net_after s F (rules_of s) M.meaning events))) →
-        Ordered s (rules_of s) M.meaning (pasts_of (net_after s F (rules_of s) M.meaning events)) }
+        IsPrefix (printed s M.meaning events i) (printed s M.meaning (events ++ more) i) }
+    ensures ordered { (s : Setup) → IsSetupOf M.meaning s → M.meaning.stopping ≡ true →
+        (events : List Event) → AreAtNodes s.n events → IsSeparateRun s M.meaning events →
+        Ordered s (rules_of s) M.meaning (pasts_after s M.meaning events) }
 {
     M::laws();
 }
+
+/// Where a module hashes nothing, the run of every list of events is separate, so that `ordered_runs` has no premise
+/// on digests.
+pub fn separate_runs<M: Sequenced>()
+    ensures { (s : Setup) → HashesNothing M.meaning → (events : List Event) → IsSeparateRun s M.meaning events }
+{}

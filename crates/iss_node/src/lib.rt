@@ -10,4 +10,4 @@ pub mod parcels;
 pub mod segment;
 
 pub use answers::{Answer, Outcome};
-pub use node::Node;
+pub use node::{Node, entries_are_the_log};

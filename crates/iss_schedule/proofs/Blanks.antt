@@ -27,7 +27,7 @@ AllLack c [] = ⊥
 AllLack c (w ∷ []) = Lacks c w
 AllLack c (w ∷ x ∷ xs) = Lacks c w × AllLack c (x ∷ xs)
 
-abbrev lacks_test : ℕ → List ℕ → Bool
+abbrev pub lacks_test : ℕ → List ℕ → Bool
 lacks_test c bs = list_all (λ b. not (eqb b c)) bs
 
 differs : (b c : ℕ) → not (eqb b c) ≡ true → b ≢ c

@@ -57,10 +57,10 @@ pub field_same : (name : List ℕ) (m n : ℕ) → m < 2 ^ 64 → n < 2 ^ 64 →
 field_same [] m n fits fits' e = let same : decimal m ≡ decimal n = cc in decimal_injective m n fits fits' same
 field_same (b ∷ bs) m n fits fits' e = let tails : bs ++ 32 ∷ decimal m ≡ bs ++ 32 ∷ decimal n = cc in field_same bs m n fits fits' tails
 
-some_same : (x y : List ℕ) → Some x ≡ Some y → x ≡ y
+pub some_same : (x y : List ℕ) → Some x ≡ Some y → x ≡ y
 some_same x y e = cc
 
-same_kind : (s : Setup) → IsRelay s → s.kind ≡ Byzantine → ⊥
+pub same_kind : (s : Setup) → IsRelay s → s.kind ≡ Byzantine → ⊥
 same_kind s r e = let stopping = r.good.relay_kind r.relay in let both : Byzantine ≡ Stopping = sym e ∙ stopping in cc
 
 pub same_range : (s t : Setup) → IsRelay s → IsRelay t → s.clients ≡ t.clients → s.keys ≡ t.keys → (e : Event) → IsInRange t e → IsInRange s e
@@ -136,7 +136,7 @@ bad_event s lines rest Range relay few some bad =
     )
 bad_event s lines rest Size relay few some bad = absurd bad.1.1
 
-length_spelled : (es : List Event) → length (map spell_event es) ≡ length es
+pub length_spelled : (es : List Event) → length (map spell_event es) ≡ length es
 length_spelled [] = refl
 length_spelled (e ∷ es) = ap suc (length_spelled es)
 

@@ -6,7 +6,7 @@ use Rattle.iss_schedule.specs.declared.errors.ReadError.{ReadError}
 use Rattle.iss_schedule.specs.declared.errors.ReadError.TheVariants.{BadLine, NoMemory}
 use Rattle.iss_schedule.specs.declared.schedules.Schedule.{Schedule}
 use Rattle.iss_schedule.specs.Forms.{HasForm, IsInjection, NamesFaulty}
-use Rattle.iss_schedule.specs.Schedules.{IsFine, schedule_lines, most_bytes, most_events}
+use Rattle.iss_schedule.specs.Schedules.{IsFine, IsSchedule, schedule_lines, most_bytes, most_events}
 use Rattle.iss_schedule.specs.Words.{Lacks, ended}
 
 -- some schedule in range begins with these lines
@@ -61,3 +61,8 @@ IsBadLine bytes line why = ((most_bytes < length bytes) × (line ≡ 0) × (why 
 abbrev pub IsRefused : List ℕ → ReadError → Type 0
 IsRefused bytes (BadLine line why) = IsBadLine bytes line why
 IsRefused bytes NoMemory = Unit {0}
+
+-- a text that is refused for a line is that of no schedule
+abbrev pub IsNoText : List ℕ → ReadError → Type 0
+IsNoText bytes (BadLine line why) = (s : Schedule) → ¬ IsSchedule bytes s
+IsNoText bytes NoMemory = Unit {0}

@@ -5,12 +5,18 @@ pub mod errors;
 mod events;
 mod forms;
 mod header;
+pub mod laws;
 mod lines;
 mod names;
 mod reading;
 pub mod schedules;
 mod words;
+mod writing;
 
 pub use errors::{ReadError, Why};
 pub use reading::{MOST_BYTES, MOST_EVENTS, read};
+pub use writing::write;
 pub use schedules::{Event, Schedule};
+
+#[cfg(test)]
+mod tests;

@@ -1,7 +1,7 @@
 //! Reading a schedule's text.
 ghost use Rattle.std.specs.Prelude.{◌≡◌, ◌↔◌, ◌≤◌, ◌<◌, ◌+◌, ◌-◌, ◌^◌, ◌++◌, [], ℕ, List, IsTrue, IfOk, IfErr, OnOk, length, map};
 ghost use Rattle.iss_request.specs.Setup.{IsGoodSetup};
-ghost use Rattle.iss_schedule.specs.BadLines.{IsRefused};
+ghost use Rattle.iss_schedule.specs.BadLines.{IsRefused, IsNoText};
 ghost use Rattle.iss_schedule.specs.Events.{spell_event, IsInRange, AreInRange};
 ghost use Rattle.iss_schedule.specs.Places.{GoesPast, IsEventRefused, IsEventsRefused};
 ghost use Rattle.iss_schedule.specs.Schedules.{IsSchedule, IsRelay, header_lines, most_events};
@@ -12,6 +12,7 @@ use crate::errors::{ReadError, Why};
 use crate::events::event_of;
 use crate::forms::fault_of;
 use crate::header::{read_header, setup_of};
+use crate::laws::texts_and_schedules;
 use crate::lines::Lines;
 use crate::schedules::{Event, Schedule};
 use iss_request::rows::Row;
@@ -87,16 +88,9 @@ fn front<'a>(text: &'a [u8], rest: &[u8]) -> &'a [u8]
     &text[..text.len() - rest.len()]
 }
 
-/// The schedule whose text these bytes are.
-///
-/// # Errors
-///
-/// `BadLine` exactly where no schedule has this text, with the first line that makes it so; `NoMemory` where memory
-/// was wanting.
-pub fn read(alloc: Global, bytes: &[u8]) -> Result<Schedule, ReadError>
+// The schedule whose text these bytes are, or the first bad line.
+fn read_text(alloc: Global, bytes: &[u8]) -> Result<Schedule, ReadError>
     ensures ok { IfOk result (IsSchedule bytes.now) }
-    ensures good { IfOk result (λ s. IsGoodSetup s.setup) }
-    ensures range { IfOk result (λ s. AreInRange s.setup s.events) }
     ensures bad { IfErr result (IsRefused bytes.now) }
 {
     if bytes.len() > MOST_BYTES {
@@ -113,4 +107,21 @@ pub fn read(alloc: Global, bytes: &[u8]) -> Result<Schedule, ReadError>
     let setup = setup_of(alloc, header, front(bytes, lines.rest()));
     let events = read_events(alloc, &setup, &mut lines)?;
     Ok(Schedule { setup, events })
+}
+
+/// The schedule whose text these bytes are.
+///
+/// # Errors
+///
+/// `BadLine` exactly where no schedule has this text, with the first line that makes it so, numbered from 1, and the
+/// first reason for it; `NoMemory` where memory was wanting.
+pub fn read(alloc: Global, bytes: &[u8]) -> Result<Schedule, ReadError>
+    ensures ok { IfOk result (IsSchedule bytes.now) }
+    ensures good { IfOk result (λ s. IsGoodSetup s.setup) }
+    ensures range { IfOk result (λ s. AreInRange s.setup s.events) }
+    ensures bad { IfErr result (IsRefused bytes.now) }
+    ensures none { IfErr result (IsNoText bytes.now) }
+{
+    texts_and_schedules();
+    read_text(alloc, bytes)
 }

@@ -1,31 +1,33 @@
-use Rattle.std.proofs.Common.{◌≡◌, ◌++◌, [], ap, sym, ◌∙◌, arith}
-use Rattle.std.proofs.lemmas.Result.{err_from_is_err_and}
-use Rattle.iss_schedule.specs.Headers.{setup_with}
-use Rattle.iss_schedule.specs.Places.{Place}
-use Rattle.iss_schedule.specs.Schedules.{header_lines}
-use Rattle.iss_schedule.specs.Words.{ended}
-use Rattle.iss_schedule.proofs.Fronts.{made, relay_made, text_made, schedule_read, relay_of}
-use Rattle.iss_schedule.proofs.Refusals.{refused_behind}
+use Rattle.std.specs.Prelude.{IfOk, IfErr, Result}
+use Rattle.std.proofs.Common.{List, ℕ, Ok, Err}
+use Rattle.iss_request.specs.Setup.{IsGoodSetup}
+use Rattle.iss_schedule.specs.declared.errors.ReadError.{ReadError}
+use Rattle.iss_schedule.specs.declared.errors.ReadError.TheVariants.{BadLine, NoMemory}
+use Rattle.iss_schedule.specs.declared.schedules.Schedule.{Schedule}
+use Rattle.iss_schedule.specs.BadLines.{IsRefused, IsNoText}
+use Rattle.iss_schedule.specs.Events.{AreInRange}
+use Rattle.iss_schedule.specs.Schedules.{IsSchedule}
+use Rattle.iss_schedule.proofs.OneLine.{refused_none}
 use Rattle.iss_schedule.proofs.reading.read.Goals as goal
 
-pub read_events-requires-clause-relay : goal.read_events-requires-clause-relay
-read_events-requires-clause-relay c =
-    let text : c.args.bytes.now ≡ ended (header_lines (setup_with c.in-Ok.header [])) ++ c.read_header.new.lines.rest = ap (λ (p : Place). p.rest) (sym c.of-lines.ensures) ∙ c.in-Ok.ensures.ok in
-    let is = made c.in-Ok.header c.args.bytes.now c.front.result.now c.read_header.new.lines.rest c.rest.result.now c.setup_of-setup.result c.setup_of-setup.ensures c.front.ensures c.rest.ensures text in
-    relay_made c.in-Ok.header c.setup_of-setup.result c.in-Ok.ensures.range is
+good_setup : (bytes : List ℕ) (r : Result Schedule ReadError) → IfOk r (IsSchedule bytes) → IfOk r (λ s. IsGoodSetup s.setup)
+good_setup bytes (Ok s) h = h.fine.setup.good
+good_setup bytes (Err e) h = tt
 
-pub returns-in_err-events-clause-bad : goal.returns-in_err-events-clause-bad
-returns-in_err-events-clause-bad c =
-    let text : c.args.bytes.now ≡ ended (header_lines (setup_with c.in-Ok.header [])) ++ c.read_header.new.lines.rest = ap (λ (p : Place). p.rest) (sym c.of-lines.ensures) ∙ c.in-Ok.ensures.ok in
-    let is = made c.in-Ok.header c.args.bytes.now c.front.result.now c.read_header.new.lines.rest c.rest.result.now c.setup_of-setup.result c.setup_of-setup.ensures c.front.ensures c.rest.ensures text in
-    let p = err_from_is_err_and c.from_residual.result c.from_residual.ensures.1 in
-    rw (p.1, p.2)
-    (refused_behind c.setup_of-setup.result c.args.bytes.now c.read_header.new.lines.rest c.in_err-events.field-0.0 (relay_made c.in-Ok.header c.setup_of-setup.result c.in-Ok.ensures.range is)
-    (text_made c.in-Ok.header c.setup_of-setup.result c.args.bytes.now c.read_header.new.lines.rest is text) (omega arith) c.in_err-events.ensures.bad)
+in_range : (bytes : List ℕ) (r : Result Schedule ReadError) → IfOk r (IsSchedule bytes) → IfOk r (λ s. AreInRange s.setup s.events)
+in_range bytes (Ok s) h = h.fine.events
+in_range bytes (Err e) h = tt
 
-pub returns-clause-ok : goal.returns-clause-ok
-returns-clause-ok c =
-    let text : c.args.bytes.now ≡ ended (header_lines (setup_with c.in-Ok.header [])) ++ c.read_header.new.lines.rest = ap (λ (p : Place). p.rest) (sym c.of-lines.ensures) ∙ c.in-Ok.ensures.ok in
-    let is = made c.in-Ok.header c.args.bytes.now c.front.result.now c.read_header.new.lines.rest c.rest.result.now c.setup_of-setup.result c.setup_of-setup.ensures c.front.ensures c.rest.ensures text in
-    schedule_read c.setup_of-setup.result c.in_ok-events.events c.args.bytes.now c.read_header.new.lines.rest (relay_made c.in-Ok.header c.setup_of-setup.result c.in-Ok.ensures.range is)
-    (text_made c.in-Ok.header c.setup_of-setup.result c.args.bytes.now c.read_header.new.lines.rest is text) c.in_ok-events.ensures.text c.in_ok-events.ensures.range c.in_ok-events.ensures.few (omega arith)
+no_text : (bytes : List ℕ) (r : Result Schedule ReadError) → IfErr r (IsRefused bytes) → IfErr r (IsNoText bytes)
+no_text bytes (Ok s) h = tt
+no_text bytes (Err (BadLine line why)) h = λ s is. refused_none bytes line why s h is
+no_text bytes (Err NoMemory) h = tt
+
+pub returns-clause-good : goal.returns-clause-good
+returns-clause-good c = good_setup c.args.bytes.now c.read_text.result c.read_text.ensures.ok
+
+pub returns-clause-range : goal.returns-clause-range
+returns-clause-range c = in_range c.args.bytes.now c.read_text.result c.read_text.ensures.ok
+
+pub returns-clause-none : goal.returns-clause-none
+returns-clause-none c = no_text c.args.bytes.now c.read_text.result c.read_text.ensures.bad

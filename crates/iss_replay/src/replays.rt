@@ -1,0 +1,87 @@
+//! The events of a schedule, one after the other.
+ghost use Rattle.std.specs.Prelude.{◌≡◌, ◌⊎◌, ◌++◌, ℕ, IfOk, OnOk, true, List};
+ghost use Rattle.iss_model.specs.Concrete.{rules_of};
+ghost use Rattle.iss_model.specs.Formats.{formats_of};
+ghost use Rattle.iss_model.specs.Printed.{IsSeparateRun, printed};
+ghost use Rattle.iss_model.specs.Run.{Progress, goes_on};
+ghost use Rattle.iss_model.specs.Runs.{IsPrefix, IsSetupOf};
+ghost use Rattle.iss_replay.specs.Report.{run_of};
+ghost use Rattle.iss_replay.specs.Stands.{StandsForRun};
+ghost use Rattle.iss_request.specs.Log.{Once};
+ghost use Rattle.iss_sb.specs.Evidence.{is_correct};
+ghost use Rattle.iss_schedule.specs.Events.{AreInRange, IsInRange};
+ghost use Rattle.iss_schedule.specs.declared.schedules.Event.{Event};
+ghost use Rattle.iss_world.specs.Stands.{IsStanding};
+
+use iss_model::{Why, ordered_runs};
+use iss_request::{NoMemory, Row};
+use iss_sb::Sequenced;
+use iss_schedule::{Event, Schedule};
+use iss_world::{Happened, World};
+use std::alloc::Global;
+
+/// What came of a schedule: its cluster as it stands at the end, and the events that were lost, in their order, each
+/// with its number from 0 and the cause.
+#[derive(Drop)]
+pub struct Report<M: Sequenced> {
+    pub world: World<M>,
+    pub drops: Row<(u64, Why)>,
+}
+
+/// Replays a schedule: what its events make of a cluster that has taken nothing. Where nodes only stop, the logs of
+/// correct nodes are of one log, no request stands twice in a log, and more events only make logs longer, as long as
+/// different strings that the run hashed have different digests (ISS, whole protocol).
+pub fn replay<M: Sequenced>(alloc: Global, schedule: &Schedule) -> Result<Report<M>, NoMemory>
+    requires good { IsSetupOf M.meaning schedule.now.setup }
+    requires range { AreInRange schedule.now.setup schedule.now.events }
+    ensures run { IfOk result (λ r. StandsForRun M.meaning M.stands r.world r.drops (run_of schedule.now.setup M.meaning schedule.now.events)) }
+    ensures same { IfOk result (λ r. r.world.setup ≡ schedule.now.setup) }
+    ensures prefix { M.meaning.stopping ≡ true → IsSeparateRun schedule.now.setup M.meaning schedule.now.events →
+        (i j : ℕ) → is_correct schedule.now.setup i ≡ true → is_correct schedule.now.setup j ≡ true →
+        IsPrefix (printed schedule.now.setup M.meaning schedule.now.events i) (printed schedule.now.setup M.meaning schedule.now.events j) ⊎
+        IsPrefix (printed schedule.now.setup M.meaning schedule.now.events j) (printed schedule.now.setup M.meaning schedule.now.events i) }
+    ensures once { M.meaning.stopping ≡ true → IsSeparateRun schedule.now.setup M.meaning schedule.now.events →
+        (i : ℕ) → is_correct schedule.now.setup i ≡ true → Once (printed schedule.now.setup M.meaning schedule.now.events i) }
+    ensures later { M.meaning.stopping ≡ true → (more : List Event) → AreInRange schedule.now.setup more →
+        (i : ℕ) → IsPrefix (printed schedule.now.setup M.meaning schedule.now.events i) (printed schedule.now.setup M.meaning (schedule.now.events ++ more) i) }
+{
+    ordered_runs::<M>();
+    play(alloc, schedule)
+}
+
+// The events happen to a cluster that has taken nothing.
+fn play<M: Sequenced>(alloc: Global, schedule: &Schedule) -> Result<Report<M>, NoMemory>
+    requires good { IsSetupOf M.meaning schedule.now.setup }
+    requires range { AreInRange schedule.now.setup schedule.now.events }
+    ensures run { IfOk result (λ r. StandsForRun M.meaning M.stands r.world r.drops (run_of schedule.now.setup M.meaning schedule.now.events)) }
+    ensures same { IfOk result (λ r. r.world.setup ≡ schedule.now.setup) }
+{
+    let events = schedule.events.as_slice();
+    let mut world = World::start(alloc, &schedule.setup)?;
+    let mut drops = Row::new(alloc);
+    for place in 0..events.len() {
+        go_on(alloc, &mut world, &mut drops, place as u64, &events[place])?;
+    }
+    Ok(Report { world, drops })
+}
+
+// The next event happens, and where it is lost, its number and the cause are noted.
+fn go_on<M: Sequenced>(
+    alloc: Global,
+    world: &mut World<M>,
+    drops: &mut Row<(u64, Why)>,
+    number: u64,
+    event: &Event,
+) -> Result<(), NoMemory>
+    requires range { IsInRange world.old.setup event.now }
+    requires standing { IsStanding M.meaning M.stands world.old }
+    ensures went { OnOk result ((p : Progress M.Msg) → p.event ≡ number → StandsForRun M.meaning M.stands world.old drops.old p →
+        StandsForRun M.meaning M.stands world.new drops.new (goes_on world.old.setup (formats_of world.old.setup M.meaning) (rules_of world.old.setup) M.meaning p event.now)) }
+    ensures same { world.new.setup ≡ world.old.setup }
+{
+    let happened = world.event(alloc, event)?;
+    if let Happened::Lost(why) = happened {
+        drops.push((number, why))?;
+    }
+    Ok(())
+}

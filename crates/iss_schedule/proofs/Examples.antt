@@ -1,0 +1,55 @@
+-- The definitions, run on worked schedules.
+use Rattle.std.proofs.Common.{◌≡◌, ◌∷◌, [], ◌++◌, codes, refl, arith, inl}
+use Rattle.std.specs.Fmt.{digits}
+use Rattle.hex.specs.Hex.{encode_with}
+use Rattle.iss_schedule.specs.declared.errors.Why.TheVariants.{Cut}
+use Rattle.iss_schedule.specs.declared.header.Header.{Header}
+use Rattle.iss_schedule.specs.declared.schedules.Event.TheVariants.{Request, Propose, Timeout, Deliver, Lose, Pump, Calm, Hold, Free, Drop}
+use Rattle.iss_schedule.specs.declared.schedules.Schedule.{Schedule}
+use Rattle.iss_schedule.specs.BadLines.{IsFirstBad}
+use Rattle.iss_schedule.specs.Headers.{setup_with, IsHeaderInRange}
+use Rattle.iss_schedule.specs.Schedules.{text_of}
+use Rattle.iss_schedule.specs.Words.{words_of}
+use Rattle.iss_schedule.proofs.Blanks.{lacks_by_test}
+use Rattle.iss_schedule.proofs.Fronts.{empty_schedule, fine_header}
+
+three : Header
+three = record { epoch = 3; buckets = 3; batch = 4; window = 8; clients = 1; keys = 4 }
+
+-- one request, its proposal, and rounds of deliveries
+worked : Schedule
+worked = record {
+  setup = setup_with three [];
+  events = Request 0 0 0 (170 ∷ []) ∷ Propose 0 ∷ Timeout 1 (record { 0 = 2 }) ∷ Deliver 12 ∷ Lose 0 ∷ Pump ∷ Calm 10 ∷ Hold 2 ∷ Free 2 ∷ Drop 1 ∷ []
+}
+
+worked_text : text_of worked ≡ codes "iss 1\nmodule relay\nf 0\nepoch 3\nbuckets 3\nbatch 4\nwindow 8\npolicy simple\nclients 1\nkeys 4\nfaulty none\nrequest 0 0 0 aa\npropose 0\ntimeout 1 2\ndeliver 12\nlose 0\npump\ncalm 10\nhold 2\nfree 2\ndrop 1\n"
+unfolding worked three digits encode_with
+worked_text = refl
+
+-- words are parted by one space, so two spaces have an empty word between them
+two_spaces : words_of (codes "propose  0") ≡ codes "propose" ∷ [] ∷ codes "0" ∷ []
+two_spaces = refl
+
+-- a text that ends inside its first line is cut there
+cut_text : IsFirstBad (codes "iss 1") 1 Cut
+unfolding three
+cut_text = record {
+  front = [];
+  rest = codes "iss 1";
+  text = refl;
+  number = refl;
+  good = record {
+    schedule = empty_schedule three;
+    fine = fine_header three (record {
+      epoch = (omega arith, omega arith);
+      buckets = (omega arith, omega arith);
+      batch = (omega arith, omega arith);
+      window = (omega arith, omega arith);
+      clients = (omega arith, omega arith);
+      keys = (omega arith, omega arith);
+    });
+    front = refl;
+  };
+  bad = (omega arith, lacks_by_test 10 (codes "iss 1") refl, inl (omega arith));
+}

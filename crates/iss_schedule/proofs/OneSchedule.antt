@@ -1,0 +1,174 @@
+-- A text is that of one schedule.
+use Rattle.std.proofs.Common.{◌≡◌, ◌≢◌, ℕ, suc, ◌+◌, ◌*◌, ◌^◌, ◌<◌, ◌≤◌, List, [], ◌∷◌, ◌++◌, length, take, drop, map, get_or, Bool, false, cond, eqb, Option, Some, None, Result, codes, decimal, refl, sym, ap, subst, ◌∙◌, arith, append_assoc}
+use Rattle.std.proofs.Math.Pow.{pow_mono}
+use Rattle.std.specs.Result.{result_unwrap_or}
+use Rattle.std.specs.Str.Parse.{digits_value}
+use Rattle.std.proofs.lemmas.Fmt.{decimal_is_IsNumeral}
+use Rattle.sha2.specs.Sha256.{sha256}
+use Rattle.hex.specs.Hex.{IsBytes, decode_of, encode_with, lower_digits}
+use Rattle.hex.specs.declared.error.FromHexError.{FromHexError}
+use Rattle.hex.proofs.HexLemmas.{decode_of-encode_lower, length-encode_with}
+use Rattle.iss_base.specs.Lists.{nth}
+use Rattle.iss_request.specs.Setup.{IsGoodSetup, IsFewFaulty}
+use Rattle.iss_request.specs.declared.ids.NodeId.{NodeId}
+use Rattle.iss_request.specs.declared.setups.Kind.{Kind}
+use Rattle.iss_request.specs.declared.setups.Kind.TheVariants.{Stopping}
+use Rattle.iss_request.specs.declared.setups.Policy.{Policy}
+use Rattle.iss_request.specs.declared.setups.Policy.TheVariants.{Simple}
+use Rattle.iss_request.specs.declared.setups.Setup.{Setup}
+use Rattle.iss_schedule.specs.declared.schedules.Event.{Event}
+use Rattle.iss_schedule.specs.declared.schedules.Event.TheVariants.{Request, Propose, Timeout, Deliver, Lose, Pump, Calm, Hold, Free, Drop, Bytes}
+use Rattle.iss_schedule.specs.declared.schedules.Schedule.{Schedule}
+use Rattle.iss_schedule.specs.Events.{event_words, spell_event, IsInRange, AreInRange}
+use Rattle.iss_schedule.specs.Schedules.{field, header_lines, schedule_lines, cluster_tag, IsRelay, IsFine, IsSchedule}
+use Rattle.iss_schedule.specs.Words.{word_of, ended}
+use Rattle.iss_schedule.proofs.Blanks.{event_spelled}
+use Rattle.iss_schedule.proofs.Forming.{whole_lines, Meets, Same, Left, Right, meets, setup_fits}
+use Rattle.iss_schedule.proofs.Fronts.{three_nodes}
+use Rattle.iss_schedule.proofs.OneLine.{nonempty, nothing}
+use Rattle.iss_schedule.proofs.Refusals.{field_same, some_same}
+
+-- ---- events back from their words
+
+back_number : List ℕ → ℕ
+back_number w = digits_value 10 w
+
+number_back : (n : ℕ) → n < 2 ^ 64 → back_number (decimal n) ≡ n
+unfolding back_number
+number_back n fits = (decimal_is_IsNumeral n fits).1
+
+back_bytes : List ℕ → List ℕ
+back_bytes w = cond (eqb (length w) 1) [] (result_unwrap_or (decode_of w) [])
+
+bytes_back : (bytes : List ℕ) → IsBytes bytes → back_bytes (word_of bytes) ≡ bytes
+unfolding back_bytes
+bytes_back [] fits = refl
+bytes_back (b ∷ bs) fits =
+    let long = length-encode_with lower_digits (b ∷ bs) in
+    let two : eqb (length (encode_with lower_digits (b ∷ bs))) 1 ≡ false = grind (arith, long) in
+    rw two (ap (λ (r : Result (List ℕ) FromHexError). result_unwrap_or r []) (decode_of-encode_lower (b ∷ bs) fits))
+
+-- the event of a word, by its length and first letter, with these words behind it
+abbrev one : (ℕ → Event) → List (List ℕ) → Event
+one f (a ∷ []) = f (back_number a)
+one f _ = Pump
+
+abbrev four : List (List ℕ) → Event
+four (a ∷ b ∷ c ∷ d ∷ []) = Request (back_number a) (back_number b) (back_number c) (back_bytes d)
+four _ = Pump
+
+abbrev two_numbers : List (List ℕ) → Event
+two_numbers (a ∷ b ∷ []) = Timeout (back_number a) (record { 0 = back_number b })
+two_numbers _ = Pump
+
+abbrev number_bytes : List (List ℕ) → Event
+number_bytes (a ∷ b ∷ []) = Bytes (back_number a) (back_bytes b)
+number_bytes _ = Pump
+
+abbrev back_event : List (List ℕ) → Event
+back_event [] = Pump
+back_event (w ∷ ws) =
+    let key = length w * 1000 + get_or w 0 0 in
+    cond (eqb key 7114) (four ws) (cond (eqb key 7112) (one Propose ws) (cond (eqb key 7116) (two_numbers ws) (cond (eqb key 7100) (one Deliver ws) (cond (eqb key 4108) (one Lose ws)
+    (cond (eqb key 4099) (one Calm ws) (cond (eqb key 4104) (one Hold ws) (cond (eqb key 4102) (one Free ws) (cond (eqb key 4100) (one Drop ws) (cond (eqb key 5098) (number_bytes ws) Pump)))))))))
+
+event_back : (s : Setup) (e : Event) → IsGoodSetup s → IsInRange s e → back_event (event_words e) ≡ e
+event_back s (Request core client number payload) good ok =
+    let leaves : 2 ^ s.keys ≤ 2 ^ 12 = pow_mono good.keys_high in
+    let a = number_back core (omega arith) in let b = number_back client (omega arith) in let c = number_back number (omega arith) in let d = bytes_back payload ok.3.0 in cc
+event_back s (Propose core) good ok = ap Propose (number_back core (omega arith))
+event_back s (Timeout core leader) good ok =
+    ap (λ n. Timeout n (record { 0 = back_number (decimal leader.0) })) (number_back core (omega arith)) ∙ ap (λ n. Timeout core (record { 0 = n })) (number_back leader.0 (omega arith))
+event_back s (Deliver packet) good ok = ap Deliver (number_back packet ok)
+event_back s (Lose packet) good ok = ap Lose (number_back packet ok)
+event_back s Pump good ok = refl
+event_back s (Calm pumps) good ok = ap Calm (number_back pumps (omega arith))
+event_back s (Hold core) good ok = ap Hold (number_back core (omega arith))
+event_back s (Free core) good ok = ap Free (number_back core (omega arith))
+event_back s (Drop core) good ok = ap Drop (number_back core (omega arith))
+event_back s (Bytes core bytes) good ok =
+    ap (λ n. Bytes n (back_bytes (word_of bytes))) (number_back core (omega arith)) ∙ ap (λ (x : List ℕ). Bytes core x) (bytes_back bytes ok.2)
+
+spell_same : (s : Setup) (e f : Event) → IsGoodSetup s → IsInRange s e → IsInRange s f → spell_event e ≡ spell_event f → e ≡ f
+spell_same s e f good ok ok' is =
+    let words : event_words e ≡ event_words f = sym (event_spelled s (spell_event e) e good ok refl) ∙ event_spelled s (spell_event e) f good ok' is in
+    sym (event_back s e good ok) ∙ ap (λ (ws : List (List ℕ)). back_event ws) words ∙ event_back s f good ok'
+
+events_same : (s : Setup) (es fs : List Event) → IsGoodSetup s → AreInRange s es → AreInRange s fs → map spell_event es ≡ map spell_event fs → es ≡ fs
+events_same s [] [] good r q e = refl
+events_same s [] (f ∷ fs) good r q e = let two : [] ≡ spell_event f ∷ map spell_event fs = e in cc
+events_same s (x ∷ xs) [] good r q e = let two : spell_event x ∷ map spell_event xs ≡ [] = e in cc
+events_same s (x ∷ xs) (f ∷ fs) good r q e =
+    let both : spell_event x ∷ map spell_event xs ≡ spell_event f ∷ map spell_event fs = e in
+    let heads : spell_event x ≡ spell_event f = cc in
+    let tails : map spell_event xs ≡ map spell_event fs = cc in
+    ap (λ (t : List Event). x ∷ t) (events_same s xs fs good r.1 q.1 tails) ∙ ap (λ (y : Event). y ∷ fs) (spell_same s x f good r.0 q.0 heads)
+
+-- ---- set-ups
+
+parts : (m f e b ba w : ℕ) → Policy → (c k : ℕ) → List NodeId → (n q : ℕ) → Kind → List ℕ → Setup
+parts m f e b ba w p c k faulty n q kind tag = record {
+  «module» = m; f = f; epoch = e; buckets = b; batch = ba; window = w; policy = p; clients = c; keys = k; faulty = faulty; n = n; quorum = q; kind = kind; tag = tag
+}
+
+none_faulty : (s : Setup) → s.kind ≡ Stopping → IsFewFaulty s.kind s.f s.faulty → s.faulty ≡ []
+none_faulty s e h = subst (λ (k : Kind). IsFewFaulty k s.f s.faulty) e h
+
+two_decide : (s : Setup) → IsRelay s → s.quorum ≡ 2
+two_decide s r = let e = r.good.majority in let m = r.relay in grind (arith)
+
+-- the set-up of a relay is given by seven numbers and its tag
+relay_parts : (s : Setup) → IsRelay s → s ≡ parts 1 s.f s.epoch s.buckets s.batch s.window Simple s.clients s.keys [] 3 2 Stopping s.tag
+unfolding parts
+relay_parts s r =
+    let kind = r.good.relay_kind r.relay in
+    ap (λ x. parts x s.f s.epoch s.buckets s.batch s.window s.policy s.clients s.keys s.faulty s.n s.quorum s.kind s.tag) r.relay
+    ∙ ap (λ (x : Policy). parts 1 s.f s.epoch s.buckets s.batch s.window x s.clients s.keys s.faulty s.n s.quorum s.kind s.tag) r.good.simple
+    ∙ ap (λ (x : List NodeId). parts 1 s.f s.epoch s.buckets s.batch s.window Simple s.clients s.keys x s.n s.quorum s.kind s.tag) (none_faulty s kind r.good.few_faulty)
+    ∙ ap (λ x. parts 1 s.f s.epoch s.buckets s.batch s.window Simple s.clients s.keys [] x s.quorum s.kind s.tag) (three_nodes s r)
+    ∙ ap (λ x. parts 1 s.f s.epoch s.buckets s.batch s.window Simple s.clients s.keys [] 3 x s.kind s.tag) (two_decide s r)
+    ∙ ap (λ (x : Kind). parts 1 s.f s.epoch s.buckets s.batch s.window Simple s.clients s.keys [] 3 2 x s.tag) kind
+
+field_at : (s t : Setup) (k : ℕ) (name : List ℕ) (m n : ℕ) → header_lines s ≡ header_lines t → nth (header_lines s) k ≡ Some (field name m) → nth (header_lines t) k ≡ Some (field name n) → m < 2 ^ 64 → n < 2 ^ 64 → m ≡ n
+field_at s t k name m n e a b fits fits' = field_same name m n fits fits' (some_same (field name m) (field name n) (sym a ∙ ap (λ (ls : List (List ℕ)). nth ls k) e ∙ b))
+
+setups_same : (s t : Setup) → IsRelay s → IsRelay t → header_lines s ≡ header_lines t → s ≡ t
+unfolding parts
+setups_same s t r q e =
+    let x = setup_fits s r.good in
+    let y = setup_fits t q.good in
+    let tags : s.tag ≡ t.tag = r.tag ∙ ap (λ (ls : List (List ℕ)). sha256 (67 ∷ ended ls)) e ∙ sym q.tag in
+    relay_parts s r
+    ∙ ap (λ z. parts 1 z s.epoch s.buckets s.batch s.window Simple s.clients s.keys [] 3 2 Stopping s.tag) (field_at s t 2 (codes "f") s.f t.f e refl refl x.f y.f)
+    ∙ ap (λ z. parts 1 t.f z s.buckets s.batch s.window Simple s.clients s.keys [] 3 2 Stopping s.tag) (field_at s t 3 (codes "epoch") s.epoch t.epoch e refl refl x.epoch y.epoch)
+    ∙ ap (λ z. parts 1 t.f t.epoch z s.batch s.window Simple s.clients s.keys [] 3 2 Stopping s.tag) (field_at s t 4 (codes "buckets") s.buckets t.buckets e refl refl x.buckets y.buckets)
+    ∙ ap (λ z. parts 1 t.f t.epoch t.buckets z s.window Simple s.clients s.keys [] 3 2 Stopping s.tag) (field_at s t 5 (codes "batch") s.batch t.batch e refl refl x.batch y.batch)
+    ∙ ap (λ z. parts 1 t.f t.epoch t.buckets t.batch z Simple s.clients s.keys [] 3 2 Stopping s.tag) (field_at s t 6 (codes "window") s.window t.window e refl refl x.window y.window)
+    ∙ ap (λ z. parts 1 t.f t.epoch t.buckets t.batch t.window Simple z s.keys [] 3 2 Stopping s.tag) (field_at s t 8 (codes "clients") s.clients t.clients e refl refl x.clients y.clients)
+    ∙ ap (λ z. parts 1 t.f t.epoch t.buckets t.batch t.window Simple t.clients z [] 3 2 Stopping s.tag) (field_at s t 9 (codes "keys") s.keys t.keys e refl refl x.keys y.keys)
+    ∙ ap (λ (z : List ℕ). parts 1 t.f t.epoch t.buckets t.batch t.window Simple t.clients t.keys [] 3 2 Stopping z) tags
+    ∙ sym (relay_parts t q)
+
+-- ---- schedules
+
+same_lines : (xs ys : List (List ℕ)) → Meets xs ys [] [] → xs ≡ ys
+same_lines xs ys (Same e f) = e
+same_lines xs ys (Left m ms e f) = absurd (nonempty m (ended ms ++ []) (sym (f ∙ append_assoc m (10 ∷ ended ms) [])))
+same_lines xs ys (Right m ms e f) = absurd (nonempty m (ended ms ++ []) (sym (f ∙ append_assoc m (10 ∷ ended ms) [])))
+
+schedules_same : (s t : Schedule) → IsFine s → IsFine t → schedule_lines s ≡ schedule_lines t → s ≡ t
+schedules_same s t x y e =
+    let header : header_lines s.setup ≡ header_lines t.setup = ap (λ (ls : List (List ℕ)). take 11 ls) e in
+    let events : map spell_event s.events ≡ map spell_event t.events = ap (λ (ls : List (List ℕ)). drop 11 ls) e in
+    let setup = setups_same s.setup t.setup x.setup y.setup header in
+    let range : AreInRange s.setup t.events = subst (λ (u : Setup). AreInRange u t.events) (sym setup) y.events in
+    both s.setup t.setup s.events t.events setup (events_same s.setup s.events t.events x.setup.good x.events range events)
+  where
+    both : (u v : Setup) (es fs : List Event) → u ≡ v → es ≡ fs → record { setup = u; events = es } ≡ (let t : Schedule = record { setup = v; events = fs } in t)
+    both u v es fs a b = ap (λ (z : Setup). (let r : Schedule = record { setup = z; events = es } in r)) a ∙ ap (λ (z : List Event). (let r : Schedule = record { setup = v; events = z } in r)) b
+
+pub one_schedule : (b : List ℕ) (s t : Schedule) → IsSchedule b s → IsSchedule b t → s ≡ t
+one_schedule b s t h k =
+    schedules_same s t h.fine k.fine
+    (same_lines (schedule_lines s) (schedule_lines t)
+    (meets (schedule_lines s) (schedule_lines t) [] [] (whole_lines s h.fine) (whole_lines t k.fine) (nothing (ended (schedule_lines s)) ∙ sym h.text ∙ k.text ∙ sym (nothing (ended (schedule_lines t))))))

@@ -1,0 +1,121 @@
+//! Writing a schedule's text.
+ghost use Rattle.std.specs.Prelude.{◌≡◌, ◌∷◌, ◌++◌, [], IfOk, OnOk, decimal, codes};
+ghost use Rattle.iss_request.specs.declared.setups.Setup.{Setup};
+ghost use Rattle.iss_schedule.specs.Events.{spell_event};
+ghost use Rattle.iss_schedule.specs.Names.{text_of_name};
+ghost use Rattle.iss_schedule.specs.Schedules.{field, header_lines, text_of};
+ghost use Rattle.iss_schedule.specs.Words.{ended, word_of};
+
+use crate::names::{self, Name};
+use crate::schedules::{Event, Schedule};
+use iss_request::bytes::Bytes;
+use iss_request::errors::NoMemory;
+use iss_request::setups::Setup;
+use itoa::Buffer;
+use std::alloc::Global;
+
+// Appends a text.
+fn put(out: &mut Vec<u8>, text: &[u8]) -> Result<(), NoMemory>
+    ensures { OnOk result (out.new.items ≡ out.old.items ++ text.now) }
+{
+    out.extend_from_slice(text)?;
+    Ok(())
+}
+
+// Appends a number behind a space.
+fn put_number(out: &mut Vec<u8>, number: u64) -> Result<(), NoMemory>
+    ensures { OnOk result (out.new.items ≡ out.old.items ++ 32 ∷ decimal number) }
+{
+    let mut buffer = Buffer::new();
+    put(out, b" ")?;
+    put(out, buffer.format(number).as_bytes())
+}
+
+// Appends the word of some bytes behind a space.
+fn put_bytes(alloc: Global, out: &mut Vec<u8>, bytes: &[u8]) -> Result<(), NoMemory>
+    ensures { OnOk result (out.new.items ≡ out.old.items ++ 32 ∷ word_of bytes.now) }
+{
+    put(out, b" ")?;
+    if bytes.is_empty() {
+        return put(out, b"-");
+    }
+    let word = hex::encode(alloc, bytes)?;
+    put(out, word.as_bytes())
+}
+
+// Appends a line of a header: a name and a number.
+fn put_field(out: &mut Vec<u8>, name: &[u8], number: u64) -> Result<(), NoMemory>
+    ensures { OnOk result (out.new.items ≡ out.old.items ++ field name.now number ++ 10 ∷ []) }
+{
+    put(out, name)?;
+    put_number(out, number)?;
+    put(out, b"\n")
+}
+
+// Appends the lines of a header.
+fn put_header(out: &mut Vec<u8>, setup: &Setup) -> Result<(), NoMemory>
+    ensures { OnOk result (out.new.items ≡ out.old.items ++ ended (header_lines setup.now)) }
+{
+    put(out, b"iss 1\nmodule relay\n")?;
+    put_field(out, b"f", u64::from(setup.f))?;
+    put_field(out, b"epoch", setup.epoch)?;
+    put_field(out, b"buckets", u64::from(setup.buckets))?;
+    put_field(out, b"batch", u64::from(setup.batch))?;
+    put_field(out, b"window", u64::from(setup.window))?;
+    put(out, b"policy simple\n")?;
+    put_field(out, b"clients", u64::from(setup.clients))?;
+    put_field(out, b"keys", u64::from(setup.keys))?;
+    put(out, b"faulty none\n")
+}
+
+// Appends a name and a number.
+fn put_one(out: &mut Vec<u8>, name: Name, number: u64) -> Result<(), NoMemory>
+    ensures { OnOk result (out.new.items ≡ out.old.items ++ text_of_name name ++ 32 ∷ decimal number) }
+{
+    put(out, names::text_of(name))?;
+    put_number(out, number)
+}
+
+// Appends an event.
+fn put_event(alloc: Global, out: &mut Vec<u8>, event: &Event) -> Result<(), NoMemory>
+    ensures { OnOk result (out.new.items ≡ out.old.items ++ spell_event event.now) }
+{
+    match event {
+        Event::Request { core, client, number, payload } => {
+            put_one(out, Name::Request, u64::from(*core))?;
+            put_number(out, u64::from(*client))?;
+            put_number(out, u64::from(*number))?;
+            put_bytes(alloc, out, payload.as_slice())
+        }
+        Event::Propose { core } => put_one(out, Name::Propose, u64::from(*core)),
+        Event::Timeout { core, leader } => {
+            put_one(out, Name::Timeout, u64::from(*core))?;
+            put_number(out, u64::from(leader.0))
+        }
+        Event::Deliver { packet } => put_one(out, Name::Deliver, *packet),
+        Event::Lose { packet } => put_one(out, Name::Lose, *packet),
+        Event::Pump => put(out, names::text_of(Name::Pump)),
+        Event::Calm { pumps } => put_one(out, Name::Calm, u64::from(*pumps)),
+        Event::Hold { core } => put_one(out, Name::Hold, u64::from(*core)),
+        Event::Free { core } => put_one(out, Name::Free, u64::from(*core)),
+        Event::Drop { core } => put_one(out, Name::Drop, u64::from(*core)),
+        Event::Bytes { core, bytes } => {
+            put_one(out, Name::Bytes, u64::from(*core))?;
+            put_bytes(alloc, out, bytes.as_slice())
+        }
+    }
+}
+
+/// The one text of a schedule that has one. What has no text, as a module that has no word yet, is written as the
+/// relay would be.
+pub fn write(alloc: Global, schedule: &Schedule) -> Result<Bytes, NoMemory>
+    ensures { IfOk result (λ bytes. bytes ≡ text_of schedule.now) }
+{
+    let mut out = Vec::new(alloc);
+    put_header(&mut out, &schedule.setup)?;
+    for event in schedule.events.as_slice() {
+        put_event(alloc, &mut out, event)?;
+        put(&mut out, b"\n")?;
+    }
+    Ok(Bytes::of(out))
+}

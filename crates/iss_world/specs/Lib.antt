@@ -1,0 +1,3 @@
+pub mod Shape
+pub mod Stands
+pub mod State
