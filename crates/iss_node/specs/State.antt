@@ -16,7 +16,7 @@ use Rattle.iss_request.specs.declared.requests.Value.{Value}
 use Rattle.iss_request.specs.declared.setups.Setup.{Setup}
 use Rattle.iss_sb.specs.declared.effects.Params.{Params}
 use Rattle.iss_sb.specs.Evidence.{Item, Module, accepts, delivered}
-use Rattle.iss_sb.specs.Keys.{KeyState}
+use Rattle.iss_sb.specs.Keys.{AreKeysOf, KeyState}
 
 -- one instance: its parameters, its node, its module, and the identities that it accepted
 pub record SegmentState (M : Type 0) : Type 0 where
@@ -72,6 +72,7 @@ pub record IsTied {M Msg : Type 0} (m : Module Msg) (stands : M → Params → �
   pub hole : value_at v.log (length v.log.entries) ≡ None
   pub logged : SameIds v.logged (log_ids (log_of (rules_of v.setup) m v.me.0 (record { epoch = 0; evidence = evidence; adopted = [] })))
   pub later : (e l : ℕ) → 0 < e → evidence e l ≡ []
+  pub keys : AreKeysOf v.me.0 v.setup.keys v.keys
 
 -- the node stands for a core
 pub record Stands {M Msg : Type 0} (m : Module Msg) (stands : M → Params → ℕ → List (Item Msg) → Type 0) (v : NodeState M) (c : Core Msg) : Type 0 where

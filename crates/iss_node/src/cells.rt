@@ -1,5 +1,6 @@
 //! What deliveries do to the log, and what a log that has grown does to the rest.
-ghost use Rattle.std.specs.Prelude.{◌≡◌, OnOk, filter, nat_le};
+ghost use Rattle.std.specs.Prelude.{◌≡◌, OnOk, filter, length, nat_le};
+ghost use Rattle.iss_model.specs.Node.{flying};
 ghost use Rattle.iss_node.specs.Cells.{AreFilled};
 
 use iss_log::Log;
@@ -15,9 +16,17 @@ pub fn fill_all(log: &mut Log, delivers: Vec<(Slot, Value)>) -> Result<(), NoMem
     Ok(())
 }
 
-/// Forgets what was cast in slots that the log holds now.
-pub fn land(flight: &mut Vec<(Slot, Batch)>, slots: u64)
+// Forgets what was cast in slots below this number.
+fn land(flight: &mut Vec<(Slot, Batch)>, slots: u64)
     ensures { flight.new.items ≡ filter (λ x. nat_le slots x.0.0) flight.old.items }
 {
     flight.retain(|cast| slots <= cast.0.0);
+}
+
+/// Forgets what was cast in slots of this log.
+pub fn land_in(flight: &mut Vec<(Slot, Batch)>, log: &Log)
+    ensures { flight.new.items ≡ flying (length log.now.entries) flight.old.items }
+{
+    let slots = log.entries().len() as u64;
+    land(flight, slots);
 }

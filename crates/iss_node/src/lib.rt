@@ -3,8 +3,10 @@
 
 pub mod answers;
 pub mod cells;
+pub mod growth;
 pub mod judge;
 pub mod node;
+pub mod parcels;
 pub mod segment;
 
 pub use answers::{Answer, Outcome};

@@ -107,7 +107,8 @@ impl<M: Sequenced> Segment<M> {
         keys: &mut Keys,
     ) -> Result<Effects<M::Msg>, StepError>
         requires { IsGoodInput self.old.params input }
-        ensures { IsInstanceStep M.meaning M.stands self.old self.new input keys.old keys.new result }
+        ensures step { IsInstanceStep M.meaning M.stands self.old self.new input keys.old keys.new result }
+        ensures same { (self.new.params ≡ self.old.params) × (self.new.me ≡ self.old.me) }
     {
         M::laws();
         let effects = self.ordering.step(alloc, &self.params, input, true, keys)?;

@@ -1,5 +1,5 @@
 //! Packets and their bytes. `specs/Packets.antt` has the table.
-ghost use Rattle.std.specs.Prelude.{◌≡◌, ℕ, [], ◌∷◌, ◌++◌, ◌≤◌, length, IfOk, OnOk, Err};
+ghost use Rattle.std.specs.Prelude.{true, ◌≡◌, ℕ, [], ◌∷◌, ◌++◌, ◌≤◌, length, IfOk, OnOk, Err};
 ghost use Rattle.iss_request.specs.Fields.{IsRead, IsUnreadable, IsGrammar, IsBad, Good};
 ghost use Rattle.iss_request.specs.Parsing.{all_of};
 ghost use Rattle.iss_packet.specs.Packets.{kind_byte, is_routed, is_spellable, route_bytes, body_bytes, spell_packet, parse_version, parse_kind, parse_size, parse_parts, parse_packet};
@@ -167,6 +167,7 @@ impl Packet {
     pub fn decode(alloc: Global, n: u32, bytes: &[u8]) -> Result<Packet, PacketError>
         ensures ok { IfOk result (λ p. parse_packet n bytes.now ≡ Good p []) }
         ensures bad { result ≡ Err PacketError.NotPacket → IsBad (all_of (parse_packet n) bytes.now) }
+        ensures routed { IfOk result (λ p. is_routed n p ≡ true) }
     {
         let mut f = Fields::over(bytes);
         let packet = read_parts(alloc, &mut f)?;
