@@ -1,0 +1,4 @@
+pub mod FormatLemmas
+pub mod OneSpelling
+pub mod ParserLemmas
+pub mod Readings

@@ -1,5 +1,5 @@
 -- Bytes that are read from the front, and what a reader finds there.
-use Rattle.std.specs.Prelude.{ℕ, List, drop, ◌≡◌}
+use Rattle.std.specs.Prelude.{ℕ, ◌+◌, ◌≤◌, List, ◌++◌, length, drop, ◌≡◌, ◌⊎◌}
 
 -- where a reader stands in its bytes
 pub record Reading : Type 0 where
@@ -18,3 +18,21 @@ pub data Parsed (A : Type 0) : Type 0 where
 
 abbrev pub IsBad : {A : Type 0} → Parsed A → Type 0
 IsBad {A} p = (at : ℕ) × (p ≡ Bad at)
+
+-- what was read: the thing at the front, and the reader stands behind it
+pub record IsRead {A : Type 0} (parse : List ℕ → Parsed A) (before later : Reading) (thing : A) : Type 0 where
+  pub found : parse (left before) ≡ Good thing (left later)
+  pub same : later.all ≡ before.all
+  pub forward : before.at ≤ later.at
+  pub behind : later.at + length (left later) ≡ before.at + length (left before)
+
+-- why nothing was read: `at` is the offset of the first field that does not fit
+pub record IsUnreadable {A : Type 0} (parse : List ℕ → Parsed A) (before : Reading) (at : ℕ) : Type 0 where
+  pub after : ℕ
+  pub found : parse (left before) ≡ Bad after
+  pub field : at ≡ before.at + after
+
+-- a thing has one spelling, and what has none is written as bytes that are no thing's
+pub record IsGrammar {M : Type 0} (spell : M → List ℕ) (parse : List ℕ → Parsed M) : Type 0 where
+  pub only : (bytes rest : List ℕ) (msg : M) → parse bytes ≡ Good msg rest → bytes ≡ spell msg ++ rest
+  pub whole : (msg : M) → ((rest : List ℕ) → parse (spell msg ++ rest) ≡ Good msg rest) ⊎ ((rest : List ℕ) → IsBad (parse (spell msg ++ rest)))

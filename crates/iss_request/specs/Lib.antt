@@ -1,4 +1,6 @@
 pub mod Digest
 pub mod Fields
+pub mod Formats
 pub mod Log
+pub mod Parsing
 pub mod Setup

@@ -1,9 +1,11 @@
 //! A reader and a writer of fields. Numbers of several bytes are big-endian.
-ghost use Rattle.std.specs.Prelude.{◌≡◌, ◌+◌, ◌<◌, ◌≤◌, [], ◌∷◌, ◌++◌, length, OnOk, IfSome, IfNone, IsTrue, ◌↔◌};
-ghost use Rattle.iss_request.specs.Fields.{Reading, left};
+ghost use Rattle.std.specs.Prelude.{◌≡◌, ℕ, ◌+◌, ◌*◌, ◌/◌, ◌^◌, ◌<◌, ◌≤◌, [], ◌∷◌, ◌++◌, length, OnOk, IfOk, IfSome, IfNone, IsTrue, ◌↔◌, Err};
+ghost use Rattle.std.specs.Int.{w16, w32, w64, to_be_bytes};
+ghost use Rattle.iss_request.specs.Fields.{Reading, left, IsRead, IsUnreadable};
+ghost use Rattle.iss_request.specs.Parsing.{byte, number, block, digests};
 
 use crate::bytes::Bytes;
-use crate::errors::NoMemory;
+use crate::errors::{DecodeError, NoMemory};
 use std::alloc::Global;
 use std::marker::Model;
 
@@ -47,6 +49,23 @@ impl<'a> Fields<'a> {
         self.at >= self.all.len()
     }
 
+    /// The error that names the next field.
+    pub fn bad_field(&self) -> DecodeError
+        ensures { result ≡ DecodeError.BadField self.now.at }
+    {
+        DecodeError::BadField { at: self.at as u64 }
+    }
+
+    // The error that names the first field of 32 bytes that is cut off.
+    fn bad_digest(&self) -> DecodeError
+        ensures { result ≡ DecodeError.BadField (self.now.at + 32 * (length (left self.now) / 32)) }
+    {
+        let whole = (self.all.len() - self.at) / 32 * 32;
+        DecodeError::BadField {
+            at: (self.at + whole) as u64,
+        }
+    }
+
     /// The next byte.
     pub fn take_u8(&mut self) -> Option<u8>
         ensures some { IfSome result (λ b. left self.old ≡ b ∷ left self.new) }
@@ -62,6 +81,135 @@ impl<'a> Fields<'a> {
             None
         }
     }
+
+    /// The next so many bytes, lent. `None`, and nothing is taken, where fewer are left.
+    pub fn take_bytes(&mut self, count: usize) -> Option<&'a [u8]>
+        ensures some { IfSome result (λ bytes. left self.old ≡ bytes.now ++ left self.new) }
+        ensures long { IfSome result (λ bytes. length bytes.now ≡ count) }
+        ensures moved { IfSome result (λ _. self.new ≡ record self.old { at = self.old.at + count }) }
+        ensures none { IfNone result (length (left self.old) < count) }
+        ensures still { IfNone result (self.new ≡ self.old) }
+    {
+        if count > self.all.len() - self.at {
+            return None;
+        }
+        let bytes = &self.all[self.at..self.at + count];
+        self.at += count;
+        Some(bytes)
+    }
+
+    /// The next two bytes as a number.
+    pub fn take_u16(&mut self) -> Option<u16>
+        ensures some { IfSome result (λ n. left self.old ≡ to_be_bytes w16 n ++ left self.new) }
+        ensures moved { IfSome result (λ _. self.new ≡ record self.old { at = self.old.at + 2 }) }
+        ensures none { IfNone result (length (left self.old) < 2) }
+        ensures still { IfNone result (self.new ≡ self.old) }
+    {
+        let b = self.take_bytes(2)?;
+        Some(u16::from_be_bytes([b[0], b[1]]))
+    }
+
+    /// The next four bytes as a number.
+    pub fn take_u32(&mut self) -> Option<u32>
+        ensures some { IfSome result (λ n. left self.old ≡ to_be_bytes w32 n ++ left self.new) }
+        ensures moved { IfSome result (λ _. self.new ≡ record self.old { at = self.old.at + 4 }) }
+        ensures none { IfNone result (length (left self.old) < 4) }
+        ensures still { IfNone result (self.new ≡ self.old) }
+    {
+        let b = self.take_bytes(4)?;
+        Some(u32::from_be_bytes([b[0], b[1], b[2], b[3]]))
+    }
+
+    /// The next eight bytes as a number.
+    pub fn take_u64(&mut self) -> Option<u64>
+        ensures some { IfSome result (λ n. left self.old ≡ to_be_bytes w64 n ++ left self.new) }
+        ensures moved { IfSome result (λ _. self.new ≡ record self.old { at = self.old.at + 8 }) }
+        ensures none { IfNone result (length (left self.old) < 8) }
+        ensures still { IfNone result (self.new ≡ self.old) }
+    {
+        Some(number_of(self.take_bytes(8)?))
+    }
+
+    /// The next byte, or the error that names it.
+    pub fn read_u8(&mut self) -> Result<u8, DecodeError>
+        ensures ok { IfOk result (λ b. IsRead byte self.old self.new b) }
+        ensures bad { (at : ℕ) → result ≡ Err (DecodeError.BadField at) → IsUnreadable byte self.old at }
+    {
+        let missing = self.bad_field();
+        match self.take_u8() {
+            Some(found) => Ok(found),
+            None => Err(missing),
+        }
+    }
+
+    /// The next two bytes as a number, or the error that names them.
+    pub fn read_u16(&mut self) -> Result<u16, DecodeError>
+        ensures ok { IfOk result (λ n. IsRead (number w16) self.old self.new n) }
+        ensures bad { (at : ℕ) → result ≡ Err (DecodeError.BadField at) → IsUnreadable (number w16) self.old at }
+    {
+        let missing = self.bad_field();
+        match self.take_u16() {
+            Some(found) => Ok(found),
+            None => Err(missing),
+        }
+    }
+
+    /// The next four bytes as a number, or the error that names them.
+    pub fn read_u32(&mut self) -> Result<u32, DecodeError>
+        ensures ok { IfOk result (λ n. IsRead (number w32) self.old self.new n) }
+        ensures bad { (at : ℕ) → result ≡ Err (DecodeError.BadField at) → IsUnreadable (number w32) self.old at }
+    {
+        let missing = self.bad_field();
+        match self.take_u32() {
+            Some(found) => Ok(found),
+            None => Err(missing),
+        }
+    }
+
+    /// The next eight bytes as a number, or the error that names them.
+    pub fn read_u64(&mut self) -> Result<u64, DecodeError>
+        ensures ok { IfOk result (λ n. IsRead (number w64) self.old self.new n) }
+        ensures bad { (at : ℕ) → result ≡ Err (DecodeError.BadField at) → IsUnreadable (number w64) self.old at }
+    {
+        let missing = self.bad_field();
+        match self.take_u64() {
+            Some(found) => Ok(found),
+            None => Err(missing),
+        }
+    }
+
+    /// The next so many bytes, lent, or the error that names them.
+    pub fn read_bytes(&mut self, count: usize) -> Result<&'a [u8], DecodeError>
+        ensures ok { IfOk result (λ bytes. IsRead (block count) self.old self.new bytes.now) }
+        ensures bad { (at : ℕ) → result ≡ Err (DecodeError.BadField at) → IsUnreadable (block count) self.old at }
+    {
+        let missing = self.bad_field();
+        match self.take_bytes(count) {
+            Some(found) => Ok(found),
+            None => Err(missing),
+        }
+    }
+
+    /// So many fields of 32 bytes, lent as one, or the error that names the first that is cut off.
+    pub fn read_digests(&mut self, count: usize) -> Result<&'a [u8], DecodeError>
+        requires { count < 2 ^ 32 }
+        ensures ok { IfOk result (λ bytes. IsRead (digests count) self.old self.new bytes.now) }
+        ensures bad { (at : ℕ) → result ≡ Err (DecodeError.BadField at) → IsUnreadable (digests count) self.old at }
+    {
+        let missing = self.bad_digest();
+        match self.take_bytes(32 * count) {
+            Some(found) => Ok(found),
+            None => Err(missing),
+        }
+    }
+}
+
+// The number that eight bytes spell.
+fn number_of(b: &[u8]) -> u64
+    requires { length b.now ≡ 8 }
+    ensures { to_be_bytes w64 result ≡ b.now }
+{
+    u64::from_be_bytes([b[0], b[1], b[2], b[3], b[4], b[5], b[6], b[7]])
 }
 
 /// Bytes that are written at the end.
@@ -107,6 +255,35 @@ impl Writer {
         ensures ok { OnOk result (self.new ≡ self.old ++ byte ∷ []) }
     {
         self.out.push(byte)?;
+        Ok(())
+    }
+
+    /// A number of two bytes.
+    pub fn put_u16(&mut self, number: u16) -> Result<(), NoMemory>
+        ensures ok { OnOk result (self.new ≡ self.old ++ to_be_bytes w16 number) }
+    {
+        self.put_bytes(&number.to_be_bytes())
+    }
+
+    /// A number of four bytes.
+    pub fn put_u32(&mut self, number: u32) -> Result<(), NoMemory>
+        ensures ok { OnOk result (self.new ≡ self.old ++ to_be_bytes w32 number) }
+    {
+        self.put_bytes(&number.to_be_bytes())
+    }
+
+    /// A number of eight bytes.
+    pub fn put_u64(&mut self, number: u64) -> Result<(), NoMemory>
+        ensures ok { OnOk result (self.new ≡ self.old ++ to_be_bytes w64 number) }
+    {
+        self.put_bytes(&number.to_be_bytes())
+    }
+
+    /// Bytes as they are.
+    pub fn put_bytes(&mut self, bytes: &[u8]) -> Result<(), NoMemory>
+        ensures ok { OnOk result (self.new ≡ self.old ++ bytes.now) }
+    {
+        self.out.extend_from_slice(bytes)?;
         Ok(())
     }
 }

@@ -9,11 +9,16 @@ pub mod ids;
 pub mod requests;
 pub mod rows;
 pub mod setups;
+pub mod values;
 
 pub use bytes::Bytes;
-pub use fields::{Fields, Writer};
 pub use errors::{DecodeError, NoMemory};
+pub use fields::{Fields, Writer};
 pub use ids::{Epoch, NodeId, ReqId, Slot};
 pub use requests::{Batch, Request, Value};
 pub use rows::Row;
 pub use setups::{Kind, Nodes, Policy, Setup, quorum};
+pub use values::{
+    decode_value, digest_of, encode_value, formats_are_exact, read_request, read_signature,
+    read_value, write_request, write_value,
+};

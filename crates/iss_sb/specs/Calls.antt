@@ -1,8 +1,7 @@
 -- What the calls of a module ask for, and what they give.
-use Rattle.std.specs.Prelude.{◌≡◌, ◌≢◌, ℕ, suc, ◌+◌, ◌<◌, ◌≤◌, ◌++◌, List, [], ◌∷◌, length, Option, Some, None, ◌↔◌, Bool, true, false, IfSome, Result, Ok, Err}
+use Rattle.std.specs.Prelude.{◌≡◌, ℕ, suc, ◌+◌, ◌<◌, ◌≤◌, List, [], ◌∷◌, length, Option, Some, None, ◌↔◌, Bool, true, false, IfSome, Result, Ok, Err}
 use Rattle.std.specs.Borrow.{Bor}
 use Rattle.iss_base.specs.Lists.{In}
-use Rattle.iss_request.specs.Fields.{Reading, Parsed, Good, Bad, left}
 use Rattle.iss_request.specs.Setup.{IsGoodSetup}
 use Rattle.iss_request.specs.declared.ids.Slot.{Slot}
 use Rattle.iss_request.specs.declared.requests.Batch.{Batch}
@@ -15,6 +14,8 @@ use Rattle.iss_sb.specs.declared.effects.Input.TheVariants.{Cast, Receive, Timeo
 use Rattle.iss_sb.specs.declared.effects.Params.{Params}
 use Rattle.iss_sb.specs.declared.effects.StepError.{StepError}
 use Rattle.iss_sb.specs.declared.effects.StepError.TheVariants.{Spent, NoMemory}
+use Rattle.iss_sb.specs.declared.effects.To.{To}
+use Rattle.iss_sb.specs.declared.effects.To.TheVariants.{All as To_all, One as To_one}
 use Rattle.iss_sb.specs.Evidence.{Item, Module, delivered, and_then}
 use Rattle.iss_sb.specs.Keys.{KeyState, AreKeysOf, leaves_left}
 
@@ -72,10 +73,20 @@ abbrev pub AllIn : List Slot → List Slot → Type 0
 AllIn [] slots = Unit {0}
 AllIn (s ∷ ss) slots = In s slots × AllIn ss slots
 
--- whatever the module holds: what it gives is of its segment, and few leaves are used
+-- each message to one node is to a node below n
+abbrev pub IsToNode : ℕ → To → Type 0
+IsToNode n To_all = Unit {0}
+IsToNode n (To_one k) = k.0 < n
+
+abbrev pub AreToNodes : {M : Type 0} → ℕ → List (To × M) → Type 0
+AreToNodes n [] = Unit {0}
+AreToNodes n (x ∷ xs) = IsToNode n x.0 × AreToNodes n xs
+
+-- whatever the module holds: what it gives is of its segment, what it sends is to nodes, and few leaves are used
 pub record IsWithin {M : Type 0} (m : Module M) (p : Params) (before later : KeyState) (e : Effects M) : Type 0 where
   pub delivered : AllIn (slots_of e.delivers) p.slots
   pub accepted : IfSome e.accepted (λ a. In a.0 p.slots)
+  pub addressed : AreToNodes p.setup.n e.sends
   pub same_secret : later.secret ≡ before.secret
   pub same_height : later.height ≡ before.height
   pub leaves : before.used ≤ later.used
@@ -114,14 +125,3 @@ IsStep m stands p old new i false before later (Err NoMemory) = Unit {0}
 abbrev pub named : Option (Slot × Bor Batch) → Option (Slot × Batch)
 named None = None
 named (Some x) = Some (x.0, x.1.now)
-
--- what was read: the thing at the front, and the reader stands behind it
-pub record IsRead {A : Type 0} (parse : List ℕ → Parsed A) (before later : Reading) (thing : A) : Type 0 where
-  pub found : parse (left before) ≡ Good thing (left later)
-  pub same : later.all ≡ before.all
-
--- why nothing was read: `at` is the offset of the first field that does not fit
-pub record IsUnreadable {A : Type 0} (parse : List ℕ → Parsed A) (before : Reading) (at : ℕ) : Type 0 where
-  pub after : ℕ
-  pub found : parse (left before) ≡ Bad after
-  pub field : at ≡ before.at + after

@@ -1,5 +1,5 @@
 -- A module as definitions over lists that forget nothing, and the world of one instance. Lists are newest first.
-use Rattle.std.specs.Prelude.{◌≡◌, ◌≢◌, ℕ, ◌+◌, ◌≤◌, ◌^◌, Bool, true, false, ◌&&◌, not, nat_lt, ◌==◌, ◌||◌, List, [], ◌∷◌, ◌++◌, Option, Some, None, ◌⊎◌}
+use Rattle.std.specs.Prelude.{◌≡◌, ◌≢◌, ℕ, Bool, true, false, ◌&&◌, not, nat_lt, ◌==◌, ◌||◌, List, [], ◌∷◌, ◌++◌, Option, Some, None, ◌⊎◌}
 use Rattle.iss_base.specs.Lists.{In, first_of}
 use Rattle.iss_request.specs.Digest.{digest}
 use Rattle.iss_request.specs.Fields.{Parsed}

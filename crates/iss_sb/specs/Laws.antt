@@ -1,8 +1,8 @@
 -- The properties of a broadcast, and the laws of a module.
-use Rattle.std.specs.Prelude.{◌≡◌, ℕ, ◌<◌, ◌≤◌, Bool, true, List, [], ◌∷◌, ◌++◌, Some, ◌⊎◌}
+use Rattle.std.specs.Prelude.{◌≡◌, ℕ, ◌<◌, ◌≤◌, true, List, [], ◌∷◌, ◌++◌, Some}
 use Rattle.std.specs.Int.{to_be_bytes, w64}
 use Rattle.iss_base.specs.Lists.{In}
-use Rattle.iss_request.specs.Fields.{Parsed, Good, IsBad}
+use Rattle.iss_request.specs.declared.ids.NodeId.{NodeId}
 use Rattle.iss_request.specs.declared.ids.Slot.{Slot}
 use Rattle.iss_request.specs.declared.requests.Batch.{Batch}
 use Rattle.iss_request.specs.declared.requests.Value.{Value}
@@ -11,6 +11,8 @@ use Rattle.iss_sb.specs.declared.effects.Claim.{Claim}
 use Rattle.iss_sb.specs.declared.effects.Input.{Input}
 use Rattle.iss_sb.specs.declared.effects.Input.TheVariants.{Cast}
 use Rattle.iss_sb.specs.declared.effects.Params.{Params}
+use Rattle.iss_sb.specs.declared.effects.To.{To}
+use Rattle.iss_sb.specs.declared.effects.To.TheVariants.{One as To_one}
 use Rattle.iss_sb.specs.Calls.{IsGoodParams}
 use Rattle.iss_sb.specs.Evidence.{Item, Module, World, empty_world, Move, Separate, IsString, delivered, accepts, is_correct}
 
@@ -38,11 +40,6 @@ pub record IsSafe {M : Type 0} (m : Module M) : Type 0 where
   pub keeps : (p : Params) (w later : World M) → IsGoodParams m p → m.Inv p w → Move m p w later → Separate (IsString later) → m.Inv p later
   pub gives : (p : Params) (w : World M) → IsGoodParams m p → m.Inv p w → Separate (IsString w) → IsBroadcast m p w
 
--- a message has one spelling, and what has none is written as bytes that are no message's
-pub record IsGrammar {M : Type 0} (spell : M → List ℕ) (parse : List ℕ → Parsed M) : Type 0 where
-  pub only : (bytes rest : List ℕ) (msg : M) → parse bytes ≡ Good msg rest → bytes ≡ spell msg ++ rest
-  pub whole : (msg : M) → ((rest : List ℕ) → parse (spell msg ++ rest) ≡ Good msg rest) ⊎ ((rest : List ℕ) → IsBad (parse (spell msg ++ rest)))
-
 -- what each statement of a module begins with: the cluster, the epoch, the leader, the module
 abbrev pub statement_head : Params → ℕ → List ℕ
 statement_head p tag = p.setup.tag ++ to_be_bytes w64 p.epoch.0 ++ p.leader.0 ∷ tag ∷ []
@@ -59,6 +56,8 @@ pub record IsLawful {M : Type 0} (m : Module M) : Type 0 where
   -- what is asked for or decided is of the segment
   pub asked_within : (p : Params) (me : ℕ) (xs : List (Item M)) (i : Input M) (x : Slot × Batch) → m.asks p me xs i ≡ Some x → In x.0 p.slots
   pub decided_within : (p : Params) (me : ℕ) (xs : List (Item M)) (s : Slot) (x : Value) → m.decided p me xs s.0 ≡ Some x → In s p.slots
+  -- what is sent to one node is sent to a node
+  pub addressed : (p : Params) (me : ℕ) (xs : List (Item M)) (i : Input M) (leaf : ℕ) (k : NodeId) (msg : M) → In {A = To × M} (To_one k, msg) (m.makes p me xs i leaf).sends → k.0 < p.setup.n
   -- few signatures a step
   pub few : (p : Params) → m.signs p < 65536
   pub uses : (p : Params) (me : ℕ) (xs : List (Item M)) (i : Input M) (leaf : ℕ) → (m.makes p me xs i leaf).used ≤ m.signs p

@@ -2,9 +2,10 @@
 ghost use Rattle.std.specs.Prelude.{◌≡◌, ℕ, ◌<◌, ◌≤◌, ◌↔◌, ◌++◌, List, [], Bool, IfOk, OnOk, IsTrue, Some};
 ghost use Rattle.iss_request.specs.declared.requests.Batch.{Batch};
 ghost use Rattle.iss_sb.specs.declared.effects.Params.{Params};
-ghost use Rattle.iss_sb.specs.Calls.{IsStep, IsGoodParams, IsGoodInput, IsRead, IsUnreadable, named};
+ghost use Rattle.iss_request.specs.Fields.{IsGrammar, IsRead, IsUnreadable};
+ghost use Rattle.iss_sb.specs.Calls.{IsStep, IsGoodParams, IsGoodInput, named};
 ghost use Rattle.iss_sb.specs.Evidence.{Item, Module};
-ghost use Rattle.iss_sb.specs.Laws.{IsGrammar, IsLawful, IsSafe};
+ghost use Rattle.iss_sb.specs.Laws.{IsLawful, IsSafe};
 
 use crate::effects::{Claim, Effects, Input, Params, StepError};
 use crate::keys::Keys;

@@ -1,0 +1,272 @@
+//! Measures keys: trees, signatures and verifications, each beside what the same number of digests costs by
+//! itself. With the word `time` it runs the whole workload and prints times. Without it, it runs a small one
+//! and prints what that takes, which is the same on each machine.
+#![tactic(auto)]
+
+ghost use Rattle.std.specs.Prelude.{◌<◌, ◌≤◌};
+
+use iss_keys::{Keys, PublicKey, SignError, verify};
+use sha2::{Digest, Sha256};
+use std::alloc::Global;
+use std::io;
+use std::rt::Clock;
+use std::time::Instant;
+
+const STATEMENT: &[u8; 16] = b"0123456789abcdef";
+
+/// How many digests of each length a piece of work takes.
+#[derive(Clone, Copy, Debug)]
+struct Digests {
+    /// Of up to 55 bytes, one block: starts and steps of chains, statements.
+    short: u32,
+    /// Of 65 bytes, two blocks: inner nodes.
+    inner: u32,
+    /// Of 2,149 bytes, 34 blocks: leaves.
+    leaf: u32,
+}
+
+/// The best time of several, in nanoseconds: of the work, and of its digests alone.
+#[derive(Clone, Copy)]
+struct Best {
+    work: u64,
+    digests: u64,
+}
+
+impl Best {
+    fn note(self, work: u64, digests: u64) -> Best {
+        Best {
+            work: self.work.min(work),
+            digests: self.digests.min(digests),
+        }
+    }
+}
+
+const NONE_YET: Best = Best {
+    work: u64::MAX,
+    digests: u64::MAX,
+};
+
+// Takes `count` digests of `N` bytes, each of which changes with the one before.
+fn take_digests<const N: usize>(count: u32) -> u8
+    requires low { 0 < N }
+    requires high { N ≤ 4096 }
+{
+    let mut message = [0u8; N];
+    for _i in 0..count {
+        let digest = Sha256::digest(message);
+        message[0] = digest[0];
+    }
+    message[0]
+}
+
+fn take_all(digests: Digests) -> u8 {
+    let short = take_digests::<40>(digests.short);
+    let inner = take_digests::<65>(digests.inner);
+    let leaf = take_digests::<2149>(digests.leaf);
+    short ^ inner ^ leaf
+}
+
+fn digests_of_tree(height: u8) -> Digests
+    requires { height ≤ 12 }
+{
+    let leaves = 1u32 << height;
+    Digests {
+        short: leaves.wrapping_mul(67 * 16),
+        inner: leaves.wrapping_sub(1),
+        leaf: leaves,
+    }
+}
+
+// How many steps a signature of a statement has gone along its 67 chains, of 1,005 in all.
+fn steps_signed(statement: &[u8]) -> u32 {
+    let mut hasher = Sha256::new();
+    hasher.update([0x14u8]);
+    hasher.update(statement);
+    let mut sum = 0u32;
+    for byte in hasher.finalize() {
+        sum = sum
+            .wrapping_add(u32::from(byte / 16))
+            .wrapping_add(u32::from(byte % 16));
+    }
+    let check = 960u32.saturating_sub(sum);
+    sum.wrapping_add(check / 256)
+        .wrapping_add(check / 16 % 16)
+        .wrapping_add(check % 16)
+}
+
+fn digests_of_signatures(count: u32) -> Digests {
+    let each = steps_signed(STATEMENT).wrapping_add(68);
+    Digests {
+        short: count.wrapping_mul(each),
+        inner: 0,
+        leaf: 0,
+    }
+}
+
+fn digests_of_verifications(count: u32, height: u8) -> Digests {
+    let each = 1006u32.saturating_sub(steps_signed(STATEMENT));
+    Digests {
+        short: count.wrapping_mul(each),
+        inner: count.wrapping_mul(u32::from(height)),
+        leaf: count,
+    }
+}
+
+fn nanos_since<R: Clock>(rt: &R, start: Instant) -> io::Result<u64> {
+    Ok(u64::try_from(start.elapsed(rt)?.as_nanos()).unwrap_or(u64::MAX))
+}
+
+fn time_digests<R: Clock>(rt: &R, digests: Digests) -> io::Result<u64> {
+    let start = Instant::now(rt)?;
+    let last = take_all(digests);
+    let nanos = nanos_since(rt, start)?;
+    // The digests are used, so that no compiler leaves them out.
+    Ok(nanos.saturating_add(u64::from(last / 255)))
+}
+
+fn signatures(keys: &mut Keys, count: u32) -> Result<u32, SignError> {
+    let mut bytes = 0u32;
+    for _i in 0..count {
+        let signature = keys.sign(STATEMENT)?;
+        bytes = bytes.wrapping_add(u32::from(signature.first().copied().unwrap_or(0)));
+    }
+    Ok(bytes)
+}
+
+fn verifications(key: &PublicKey, signature: &[u8], count: u32) -> u32 {
+    let mut verified = 0u32;
+    for _i in 0..count {
+        if verify(key, STATEMENT, signature) {
+            verified = verified.wrapping_add(1);
+        }
+    }
+    verified
+}
+
+fn out_of_memory<R: Print>(rt: &R) -> io::Result<()> {
+    println!(rt; "no memory")
+}
+
+// A line of times: of one piece of work, and how it compares with its digests.
+fn print_times<R: Print>(rt: &R, what: &str, best: Best, count: u64) -> io::Result<()> {
+    let each = best.work / count.max(1);
+    let a_second = 1_000_000_000u64.saturating_mul(count) / best.work.max(1);
+    let percent = best.work.saturating_mul(100) / best.digests.max(1);
+    println!(rt; "{what}: {each} ns each, {a_second} a second, {percent} percent of its digests")
+}
+
+fn time_tree<R: Clock + Print>(rt: &R, alloc: Global, height: u8, rounds: u32) -> io::Result<()>
+    requires low { 2 ≤ height }
+    requires high { height ≤ 12 }
+{
+    let mut best = NONE_YET;
+    for _round in 0..rounds {
+        let start = Instant::now(rt)?;
+        let Ok(_keys) = Keys::make(alloc, [7; 32], height) else {
+            return out_of_memory(rt);
+        };
+        let work = nanos_since(rt, start)?;
+        best = best.note(work, time_digests(rt, digests_of_tree(height))?);
+    }
+    println!(rt; "height {height}")?;
+    print_times(rt, "tree", best, 1)
+}
+
+fn time_signing<R: Clock + Print>(
+    rt: &R,
+    alloc: Global,
+    count: u32,
+    rounds: u32,
+) -> io::Result<()> {
+    let Ok(mut keys) = Keys::make(alloc, [7; 32], 10) else {
+        return out_of_memory(rt);
+    };
+    let mut best = NONE_YET;
+    for _round in 0..rounds {
+        let start = Instant::now(rt)?;
+        let Ok(_bytes) = signatures(&mut keys, count) else {
+            return println!(rt; "no leaf or no memory left");
+        };
+        let work = nanos_since(rt, start)?;
+        best = best.note(work, time_digests(rt, digests_of_signatures(count))?);
+    }
+    print_times(rt, "sign", best, u64::from(count))
+}
+
+fn time_verifying<R: Clock + Print>(
+    rt: &R,
+    alloc: Global,
+    count: u32,
+    rounds: u32,
+) -> io::Result<()> {
+    let Ok(keys) = Keys::make(alloc, [7; 32], 10) else {
+        return out_of_memory(rt);
+    };
+    let Ok(signature) = keys.sign_at(0, STATEMENT) else {
+        return out_of_memory(rt);
+    };
+    let public = keys.public();
+    let mut best = NONE_YET;
+    for _round in 0..rounds {
+        let start = Instant::now(rt)?;
+        let verified = verifications(&public, &signature, count);
+        let work = nanos_since(rt, start)?;
+        if verified != count {
+            return println!(rt; "{verified} of {count} verified");
+        }
+        best = best.note(work, time_digests(rt, digests_of_verifications(count, 10))?);
+    }
+    print_times(rt, "verify", best, u64::from(count))
+}
+
+fn time_all<R: Clock + Print>(rt: &R, alloc: Global) -> io::Result<()> {
+    let digests = Digests {
+        short: 1000,
+        inner: 0,
+        leaf: 0,
+    };
+    let mut best = NONE_YET;
+    for _round in 0..1000 {
+        let nanos = time_digests(rt, digests)?;
+        best = best.note(nanos, nanos);
+    }
+    print_times(rt, "digest of 40 bytes", best, 1000)?;
+    time_tree(rt, alloc, 4, 200)?;
+    time_tree(rt, alloc, 6, 50)?;
+    time_tree(rt, alloc, 8, 20)?;
+    time_tree(rt, alloc, 10, 10)?;
+    time_tree(rt, alloc, 12, 5)?;
+    time_signing(rt, alloc, 5, 200)?;
+    time_verifying(rt, alloc, 5, 200)
+}
+
+// What a small workload takes.
+fn count_all<R: Print>(rt: &R, alloc: Global) -> io::Result<()> {
+    let Ok(mut keys) = Keys::make(alloc, [7; 32], 2) else {
+        return out_of_memory(rt);
+    };
+    println!(rt; "tree of height 2: {:?}", digests_of_tree(2))?;
+    let signed = matches!(signatures(&mut keys, 3), Ok(6));
+    println!(rt;
+        "3 signatures: {:?}, made: {signed}, left: {}",
+        digests_of_signatures(3),
+        keys.left()
+    )?;
+    let Ok(signature) = keys.sign_at(0, STATEMENT) else {
+        return out_of_memory(rt);
+    };
+    let verified = verifications(&keys.public(), &signature, 3);
+    println!(rt;
+        "3 verifications: {:?}, verified: {verified}",
+        digests_of_verifications(3, 2)
+    )
+}
+
+fn main(rt: HostRuntime) -> io::Result<()> {
+    let words: Vec<String> = std::env::args(&rt)?.collect(rt.alloc())?;
+    if words.iter().any(|word| word.as_str() == "time") {
+        time_all(&rt, rt.alloc())
+    } else {
+        count_all(&rt, rt.alloc())
+    }
+}

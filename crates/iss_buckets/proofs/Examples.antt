@@ -1,0 +1,34 @@
+-- Three nodes, three buckets, epoch 0, all lead: node 0 owns bucket 0, in which the numbers 0, 3, 6 of client 0 are.
+use Rattle.std.proofs.Common.{◌≡◌, ℕ, List, [], ◌∷◌, refl}
+use Rattle.iss_request.specs.declared.ids.ReqId.{ReqId}
+use Rattle.iss_request.specs.declared.requests.Request.{Request}
+use Rattle.iss_layout.specs.Layout.{Plan, nodes_below}
+use Rattle.iss_buckets.specs.Waiting.{may_cast, cut_of, left_of, without}
+
+abbrev plan : Plan
+plan = record { epoch = 0; nodes = 3; slots = 6; buckets = 3; leaders = nodes_below 3 }
+
+abbrev id : ℕ → ReqId
+id t = record { client = 0; number = t }
+
+abbrev request : ℕ → Request
+request t = record { id = id t; payload = []; sig = [] }
+
+abbrev waiting : List Request
+waiting = request 6 ∷ request 1 ∷ request 0 ∷ request 3 ∷ []
+
+-- the oldest two, though their numbers are not the least
+two_of_bucket_0 : cut_of (may_cast plan 0 []) 2 waiting ≡ request 6 ∷ request 0 ∷ []
+unfolding cut_of
+two_of_bucket_0 = refl
+
+rest_of_bucket_0 : left_of (may_cast plan 0 []) 2 waiting ≡ request 1 ∷ request 3 ∷ []
+unfolding left_of
+rest_of_bucket_0 = refl
+
+marked_is_passed_over : cut_of (may_cast plan 0 (id 6 ∷ [])) 2 waiting ≡ request 0 ∷ request 3 ∷ []
+unfolding cut_of
+marked_is_passed_over = refl
+
+ordered_wait_no_more : without (id 0 ∷ id 6 ∷ []) waiting ≡ request 1 ∷ request 3 ∷ []
+ordered_wait_no_more = refl

@@ -1,0 +1,14 @@
+use Rattle.std.proofs.Common.{sym}
+use Rattle.std.specs.Map.{values_of}
+use Rattle.iss_buckets.proofs.WaitingLemmas.{without_none, dropped_more}
+use Rattle.iss_buckets.proofs.pending.drop_all.Goals as goal
+
+pub loop-request-init : goal.loop-request-init
+loop-request-init c = record { gone = sym (without_none (values_of c.args.requests.now.entries)); keyed = c.requires }
+
+pub loop-request-preserved : goal.loop-request-preserved
+loop-request-preserved c = record {
+    gone = dropped_more (values_of c.args.requests.now.entries) (values_of c.loop-request.requests.entries) (values_of c.drop_one.new.requests.entries)
+        c.args.batch.now c.loop-request.request-index c.request-item.result c.loop-request-test.true c.request-item.is c.loop-request.invariant.gone c.drop_one.ensures.gone;
+    keyed = c.drop_one.ensures.keyed;
+  }

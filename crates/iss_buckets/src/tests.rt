@@ -1,0 +1,56 @@
+//! A run of the calls with ample memory.
+use crate::{Added, Pending};
+use iss_layout::{Layout, Standing};
+use iss_request::{Batch, Bytes, Epoch, Kind, NodeId, Nodes, Policy, ReqId, Request, Setup};
+use std::alloc::Global;
+use std::test::Fail;
+
+fn id(number: u32) -> ReqId {
+    ReqId { client: 0, number }
+}
+
+fn request(alloc: Global, number: u32) -> Request {
+    Request {
+        id: id(number),
+        payload: Bytes::new(alloc),
+        sig: Bytes::new(alloc),
+    }
+}
+
+fn layout(alloc: Global) -> Layout {
+    let setup = Setup {
+        module: 1,
+        f: 0,
+        epoch: 6,
+        buckets: 3,
+        batch: 2,
+        window: 8,
+        policy: Policy::Simple,
+        clients: 1,
+        keys: 4,
+        faulty: Nodes::new(alloc),
+        n: 3,
+        quorum: 2,
+        kind: Kind::Stopping,
+        tag: [0; 32],
+    };
+    Layout::of(&setup, Epoch(0), &Standing::new())
+}
+
+#[test]
+fn a_batch_is_cut_and_comes_back(rt: HostRuntime) -> Result<(), Fail> {
+    let alloc = rt.alloc();
+    let layout = layout(alloc);
+    let mut pending = Pending::new(alloc);
+    for number in [0, 1, 3, 6] {
+        assert!(rt; pending.add(request(alloc, number))? == Added::Added);
+    }
+    assert!(rt; pending.add(request(alloc, 3))? == Added::Known);
+    let batch = pending.cut(alloc, &layout, NodeId(0), &[id(0)], 2)?;
+    assert_eq!(rt; batch.len(), 2);
+    assert!(rt; batch.as_slice()[0].id == id(3));
+    assert!(rt; !pending.has(id(6)));
+    assert!(rt; pending.has(id(0)));
+    assert_eq!(rt; pending.waiting().len(), 2);
+    Ok(())
+}

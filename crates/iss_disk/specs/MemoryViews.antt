@@ -1,0 +1,29 @@
+-- What a disk in memory shows.
+use Rattle.std.specs.Prelude.{ℕ, List, [], ◌∷◌, bytes_eq, if◌then◌else◌}
+use Rattle.iss_disk.specs.File.{File, settled}
+use Rattle.iss_disk.specs.Calls.{Passes}
+use Rattle.iss_disk.specs.Fates.{passes_of}
+use Rattle.iss_disk.specs.StoredViews.{history_of}
+use Rattle.iss_disk.specs.declared.stored.StoredFile.{StoredFile}
+use Rattle.iss_disk.specs.declared.memory.MemoryDisk.{MemoryDisk}
+
+-- the states of the file of this name, which is new and empty where there is none
+abbrev pub history_among : List StoredFile → List ℕ → List File
+history_among [] name = settled [] ∷ []
+history_among (file ∷ files) name = if bytes_eq file.name.items name then history_of file else history_among files name
+
+-- the states of each file, by its name
+abbrev pub files_of : MemoryDisk → List ℕ → List File
+files_of disk name = history_among (disk.file ∷ disk.others.items) name
+
+-- the name of the current file
+abbrev pub current_of : MemoryDisk → List ℕ
+current_of disk = disk.file.name.items
+
+-- how often it has failed
+abbrev pub faults_of : MemoryDisk → ℕ
+faults_of disk = disk.faults
+
+-- which of the calls to come pass
+abbrev pub calls_of : MemoryDisk → Passes
+calls_of disk = passes_of disk.fate

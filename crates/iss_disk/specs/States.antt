@@ -1,0 +1,44 @@
+-- The states that a file of a memory disk went through, read off the list of its calls.
+use Rattle.std.specs.Prelude.{◌≡◌, ℕ, ◌-◌, ◌≤◌, Bool, true, false, List, [], ◌∷◌, length, take, drop, refl}
+use Rattle.iss_disk.specs.File.{File, settled, wrote, shortened, synced, restarted}
+use Rattle.iss_disk.specs.declared.call.Call.{Call}
+use Rattle.iss_disk.specs.declared.call.Call.TheVariants.{Wrote, Cut, Synced, Restarted}
+
+-- one state more
+abbrev pub after : (File → File) → List File → List File
+after change [] = []
+after change (file ∷ past) = change file ∷ file ∷ past
+
+-- The states, newest first, after these calls, newest first. The calls wrote these bytes, oldest first.
+abbrev pub states : List Call → List ℕ → List File
+states [] written = settled [] ∷ []
+states (Wrote at len ∷ calls) written = after (wrote at (drop (length written - len) written)) (states calls (take (length written - len) written))
+states (Cut len ∷ calls) written = after (shortened len) (states calls written)
+states (Synced ∷ calls) written = after synced (states calls written)
+states (Restarted ∷ calls) written = after restarted (states calls written)
+
+-- the newest state
+abbrev pub newest : List File → File
+newest [] = settled []
+newest (file ∷ past) = file
+
+-- whether the file was written or cut since it was last synced or restarted
+abbrev pub is_pending : List Call → Bool
+is_pending [] = false
+is_pending (Wrote at len ∷ calls) = true
+is_pending (Cut len ∷ calls) = true
+is_pending (Synced ∷ calls) = false
+is_pending (Restarted ∷ calls) = false
+
+-- What a file holds and what was synced are those of its newest state, and agree below an offset.
+pub record IsStored (states : List File) (content kept : List ℕ) (same : ℕ) : Type 0 where
+  pub is_content : (newest states).content ≡ content
+  pub is_kept : (newest states).kept ≡ kept
+  pub same_front : take same content ≡ take same kept
+  pub in_content : same ≤ length content
+  pub in_kept : same ≤ length kept
+
+-- Two bytes written and synced, one over them, and a crash.
+
+example : newest (states (Restarted ∷ Wrote 1 1 ∷ Synced ∷ Wrote 0 2 ∷ []) (97 ∷ 98 ∷ 99 ∷ [])) ≡ settled (97 ∷ 98 ∷ [])
+example = refl

@@ -1,0 +1,52 @@
+// Which calls of a memory disk fail.
+ghost use Rattle.std.specs.Prelude.{◌≡◌, is_ok, IsErr};
+ghost use Rattle.iss_disk.specs.Calls.{HasCause, Runs};
+ghost use Rattle.iss_disk.specs.Fates.{passes_of};
+
+use crate::Failed;
+
+/// Which of the calls to come pass.
+#[derive(Debug, Drop)]
+pub enum Fate {
+    /// All.
+    Sound,
+    /// The first so many.
+    Fused(u64),
+    /// The list says it of each, of which so many were made, and all behind it pass.
+    Scripted { made: usize, outcomes: Vec<bool> },
+}
+
+impl Fate {
+    // Takes one call, which passes or counts as a fault.
+    pub(crate) fn take(&mut self, faults: &mut u64) -> Result<(), Failed>
+        ensures cause { HasCause faults.old faults.new (IsErr result) }
+        ensures device { Runs 1 (passes_of self.old) (passes_of self.new) (is_ok result) }
+    {
+        if self.next() {
+            return Ok(());
+        }
+        *faults = faults.saturating_add(1);
+        Err(Failed)
+    }
+
+    // Whether the next call passes.
+    fn next(&mut self) -> bool
+        ensures { Runs 1 (passes_of self.old) (passes_of self.new) result }
+    {
+        match self {
+            Fate::Sound => true,
+            Fate::Fused(0) => false,
+            Fate::Fused(calls) => {
+                *calls -= 1;
+                true
+            }
+            Fate::Scripted { made, outcomes } => match outcomes.get(*made) {
+                Some(passes) => {
+                    *made += 1;
+                    *passes
+                }
+                None => true,
+            },
+        }
+    }
+}

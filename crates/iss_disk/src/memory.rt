@@ -1,0 +1,183 @@
+// A disk in memory.
+ghost use Rattle.std.specs.Prelude.{◌≡◌, ◌≢◌, ◌≤◌, ℕ, List, [], ◌∷◌, IfOk, ◌++◌, ◌-◌, min, take, drop, length, vec_len, vec_capacity};
+ghost use Rattle.iss_disk.specs.File.{settled};
+ghost use Rattle.iss_disk.specs.Calls.{Restarts};
+ghost use Rattle.iss_disk.specs.StoredViews.{history_of};
+ghost use Rattle.iss_disk.specs.MemoryViews.{history_among};
+
+use crate::fate::Fate;
+use crate::stored::StoredFile;
+use crate::{Disk, EndError, Failed, Fused, NoMemory};
+use std::alloc::{AllocError, Global};
+use std::mem;
+
+/// A disk in memory, which tells all of its files. It keeps the list of its writes, cuts and syncs.
+#[derive(Drop)]
+pub struct MemoryDisk {
+    alloc: Global,
+    file: StoredFile,
+    others: Vec<StoredFile>,
+    fate: Fate,
+    faults: u64,
+}
+
+impl MemoryDisk {
+    ghost use Rattle.iss_disk.specs.File.{settled};
+    ghost use Rattle.iss_disk.specs.Calls.{script};
+    ghost use Rattle.iss_disk.specs.StoredViews.{history_of};
+    ghost use Rattle.iss_disk.specs.MemoryViews.{files_of, current_of, faults_of, calls_of};
+
+    /// A disk of which no call fails. All of its files are empty, and the one of the empty name is the current one.
+    pub fn new(alloc: Global) -> Result<MemoryDisk, AllocError>
+        ensures files { IfOk result (λ disk. (name : List ℕ) → files_of disk name ≡ settled [] ∷ []) }
+        ensures history { IfOk result (λ disk. history_of disk.file ≡ settled [] ∷ []) }
+        ensures current { IfOk result (λ disk. current_of disk ≡ []) }
+        ensures passes { IfOk result (λ disk. calls_of disk ≡ script []) }
+        ensures faults { IfOk result (λ disk. faults_of disk ≡ 0) }
+    {
+        Ok(MemoryDisk {
+            alloc,
+            file: StoredFile::new(alloc, "")?,
+            others: Vec::new(alloc),
+            fate: Fate::Sound,
+            faults: 0,
+        })
+    }
+
+    /// The same disk, of whose next calls those pass that the list says, and then all.
+    pub fn with_outcomes(self, outcomes: Vec<bool>) -> MemoryDisk
+        ensures files { (name : List ℕ) → files_of result name ≡ files_of self name }
+        ensures history { history_of result.file ≡ history_of self.file }
+        ensures current { current_of result ≡ current_of self }
+        ensures passes { calls_of result ≡ script outcomes.items }
+        ensures faults { faults_of result ≡ faults_of self }
+    {
+        let MemoryDisk { alloc, file, others, fate: _, faults } = self;
+        MemoryDisk {
+            alloc,
+            file,
+            others,
+            fate: Fate::Scripted { made: 0, outcomes },
+            faults,
+        }
+    }
+}
+
+// Takes out the file that has the same name as a new one, or else gives back the new one.
+fn take_named(others: &mut Vec<StoredFile>, fresh: StoredFile) -> StoredFile
+    requires { history_of fresh ≡ settled [] ∷ [] }
+    ensures name { result.name.items ≡ fresh.name.items }
+    ensures history { history_of result ≡ history_among others.old.items fresh.name.items }
+    ensures others { (name : List ℕ) → name ≢ fresh.name.items → history_among others.new.items name ≡ history_among others.old.items name }
+    ensures len { vec_len others.new ≤ vec_len others.old }
+    ensures capacity { vec_capacity others.new ≡ vec_capacity others.old }
+{
+    for i in 0..others.len() {
+        if others[i].name == fresh.name {
+            return others.remove(i);
+        }
+    }
+    fresh
+}
+
+// Leaves of each file what was synced.
+fn restart_all(files: &mut [StoredFile])
+    ensures { (name : List ℕ) → Restarts (history_among files.old name) (history_among files.new name) }
+{
+    for i in 0..files.len() {
+        let file = &mut files[i];
+        file.restart();
+    }
+}
+
+impl Disk for MemoryDisk {
+    ghost use Rattle.std.specs.Prelude.{◌≡◌, List, ℕ};
+    ghost use Rattle.iss_disk.specs.StoredViews.{history_of, room_of};
+    ghost use Rattle.iss_disk.specs.MemoryViews.{files_of, current_of, faults_of, calls_of};
+    ghost use Rattle.iss_disk.specs.MemoryLaws.{memory_here, memory_read_is_image};
+
+    ghost history = { λ disk. history_of disk.file };
+
+    ghost files = { files_of };
+
+    ghost current = { current_of };
+
+    ghost faults = { faults_of };
+
+    ghost passes = { calls_of };
+
+    ghost room = { λ disk. room_of disk.file };
+
+    fn attach(&mut self, name: &str) -> Result<(), EndError> {
+        let fresh = StoredFile::new(self.alloc, name)?;
+        self.others.reserve(1)?;
+        self.fate.take(&mut self.faults)?;
+        if self.file.name != fresh.name {
+            let next = take_named(&mut self.others, fresh);
+            let former = mem::replace(&mut self.file, next);
+            let _ = self.others.insert(0, former);
+        }
+        Ok(())
+    }
+
+    fn reserve(&mut self, calls: u64, bytes: u64) -> Result<(), NoMemory> {
+        self.file.reserve(calls, bytes)
+    }
+
+    fn length(&mut self) -> Result<u64, Failed> {
+        self.fate.take(&mut self.faults)?;
+        Ok(self.file.content.len() as u64)
+    }
+
+    fn read_at(&mut self, at: u64, into: &mut [u8]) -> Result<usize, Failed> {
+        self.fate.take(&mut self.faults)?;
+        Ok(copy_from(&self.file.content, at as usize, into))
+    }
+
+    fn write_at(&mut self, at: u64, bytes: &[u8]) -> Result<(), Failed> {
+        self.fate.take(&mut self.faults)?;
+        self.file.write(at as usize, bytes);
+        Ok(())
+    }
+
+    fn cut(&mut self, len: u64) -> Result<(), Failed> {
+        self.fate.take(&mut self.faults)?;
+        self.file.cut(len as usize);
+        Ok(())
+    }
+
+    fn sync(&mut self) -> Result<(), Failed> {
+        self.fate.take(&mut self.faults)?;
+        self.file.sync();
+        Ok(())
+    }
+
+    ghost here = { memory_here };
+
+    ghost read_is_image = { memory_read_is_image };
+}
+
+// Copies what stands from an offset on, as far as there is something and room for it.
+fn copy_from(content: &[u8], at: usize, into: &mut [u8]) -> usize
+    ensures count { result ≡ min (length into.old) (length content.now - at) }
+    ensures bytes { into.new ≡ take result (drop at content.now) ++ drop result into.old }
+{
+    if at >= content.len() {
+        return 0;
+    }
+    let count = into.len().min(content.len() - at);
+    into[..count].copy_from_slice(&content[at..at + count]);
+    count
+}
+
+impl Fused for MemoryDisk {
+    fn fuse(&mut self, calls: u64) {
+        self.fate = Fate::Fused(calls);
+    }
+
+    fn restart(&mut self) {
+        self.file.restart();
+        restart_all(&mut self.others);
+        self.fate = Fate::Sound;
+    }
+}

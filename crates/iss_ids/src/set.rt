@@ -1,0 +1,68 @@
+//! The set.
+ghost use Rattle.std.specs.Prelude.{◌≡◌, [], OnOk, OnErr};
+ghost use Rattle.iss_request.specs.Log.{has_id};
+ghost use Rattle.iss_ids.specs.Set.{and_id, and_ids};
+
+use indexmap::IndexSet;
+use iss_request::{NoMemory, ReqId, Request};
+use std::alloc::Global;
+use std::marker::Model;
+
+/// Identities, which contracts see as the list of them in the order in which they came.
+#[derive(Drop)]
+pub struct Ids {
+    all: IndexSet<ReqId>,
+}
+
+impl Model for Ids {
+    ghost use Rattle.std.specs.Prelude.{List};
+    ghost use Rattle.iss_request.specs.declared.ids.ReqId.{ReqId};
+
+    ghost Value = { List ReqId };
+
+    ghost view = { λ s. s.all.keys };
+}
+
+impl Ids {
+    /// No identities.
+    pub fn new(alloc: Global) -> Ids
+        ensures { result ≡ [] }
+    {
+        Ids {
+            all: IndexSet::new(alloc),
+        }
+    }
+
+    /// Whether the identity is in the set.
+    pub fn has(&self, id: ReqId) -> bool
+        ensures { result ≡ has_id id self.now }
+    {
+        self.all.contains(&id)
+    }
+
+    /// The identities, in the order in which they came.
+    pub fn as_slice(&self) -> &[ReqId]
+        ensures { result.now ≡ self.now }
+    {
+        self.all.as_slice()
+    }
+
+    /// Puts an identity in. One that is there stays as it is.
+    pub fn add(&mut self, id: ReqId) -> Result<(), NoMemory>
+        ensures ok { OnOk result (self.new ≡ and_id self.old id) }
+        ensures err { OnErr result (self.new ≡ self.old) }
+    {
+        self.all.insert(id)?;
+        Ok(())
+    }
+
+    /// Puts the identities of these requests in. After want of memory some of them may be in.
+    pub fn add_all(&mut self, requests: &[Request]) -> Result<(), NoMemory>
+        ensures { OnOk result (self.new ≡ and_ids self.old requests.now) }
+    {
+        for request in requests {
+            self.add(request.id)?;
+        }
+        Ok(())
+    }
+}

@@ -1,0 +1,5 @@
+mod FrameLemmas
+mod Grammar
+mod Book
+mod Crash
+mod Steps

@@ -1,0 +1,5 @@
+use Rattle.iss_journal.proofs.Grammar.{one_reading}
+use Rattle.iss_journal.proofs.laws.a_file_has_one_reading.Goals as goal
+
+pub returns : goal.returns
+returns c = one_reading

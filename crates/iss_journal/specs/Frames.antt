@@ -1,0 +1,63 @@
+-- The bytes of a journal's file: any number of entries, each behind an open gate and its length, and then one closed gate.
+use Rattle.std.specs.Prelude.{◌≡◌, ◌≢◌, ◌⊎◌, ℕ, ◌+◌, ◌<◌, ◌≤◌, List, [], ◌∷◌, ◌++◌, length, take, refl}
+use Rattle.std.specs.Int.{w32, to_be_bytes, from_be_bytes}
+use Rattle.std.specs.Coded.{×_prop, Unit-prop, le_prop}
+use Rattle.std.proofs.Common.{inl, lit≤}
+
+-- the longest entry
+abbrev pub max_entry : ℕ
+max_entry = 200000100
+
+-- an open gate, the length in four bytes with the highest first, and the entry
+abbrev pub frame : List ℕ → List ℕ
+frame entry = 1 ∷ (to_be_bytes w32 (length entry) ++ entry)
+
+abbrev pub frames : List (List ℕ) → List ℕ
+frames [] = []
+frames (entry ∷ entries) = frame entry ++ frames entries
+
+abbrev pub AreShort : List (List ℕ) → Type 0
+AreShort [] = Unit {0}
+AreShort (entry ∷ entries) = (length entry ≤ max_entry) × AreShort entries
+
+pub short_prop : (entries : List (List ℕ)) → IsProp (AreShort entries)
+short_prop [] = Unit-prop
+short_prop (entry ∷ entries) = ×_prop le_prop (short_prop entries)
+
+-- behind an open gate: a length, the entry and the next gate stand there whole
+abbrev pub IsWhole : List ℕ → Type 0
+IsWhole rest = let size = from_be_bytes w32 (take 4 rest) in (4 ≤ length rest) × (size ≤ max_entry) × (5 + size ≤ length rest)
+
+-- these entries, and then a closed gate, whatever stands behind it
+pub record ClosesAfter (entries : List (List ℕ)) (file : List ℕ) : Type 0 where
+  pub gate : ℕ
+  pub rest : List ℕ
+  pub is : file ≡ frames entries ++ gate ∷ rest
+  pub closed : gate ≢ 1
+  pub short : AreShort entries
+
+-- entries, and then at this offset an open gate behind which no whole entry stands
+pub record BreaksAt (at : ℕ) (file : List ℕ) : Type 0 where
+  pub entries : List (List ℕ)
+  pub rest : List ℕ
+  pub is : file ≡ frames entries ++ 1 ∷ rest
+  pub offset : at ≡ length (frames entries)
+  pub short : AreShort entries
+  pub broken : IsWhole rest → ⊥
+
+-- what a file stands for
+pub data Reading : Type 0 where
+  holds : List (List ℕ) → Reading
+  damaged : ℕ → Reading
+
+-- A file of at most one byte is an empty journal. Of any other exactly one of these readings is right.
+abbrev pub Reads : List ℕ → Reading → Type 0
+Reads file (holds entries) = ((length file ≤ 1) × (entries ≡ [])) ⊎ ((1 < length file) × ClosesAfter entries file)
+Reads file (damaged at) = (1 < length file) × BreaksAt at file
+
+-- One entry of one byte, and a single open gate.
+one_entry : frames ((170 ∷ []) ∷ []) ++ 0 ∷ [] ≡ 1 ∷ 0 ∷ 0 ∷ 0 ∷ 1 ∷ 170 ∷ 0 ∷ []
+one_entry = refl
+
+single_gate : Reads (1 ∷ []) (holds [])
+single_gate = inl (lit≤ tt, refl)

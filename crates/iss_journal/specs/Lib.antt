@@ -1,0 +1,5 @@
+pub mod Frames
+pub mod Views
+pub mod EntryViews
+pub mod Scans
+pub mod Promises

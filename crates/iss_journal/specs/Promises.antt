@@ -1,0 +1,35 @@
+-- What a journal promises of a file, whatever a crash makes of it.
+use Rattle.std.specs.Prelude.{◌≡◌, ◌≢◌, ◌⊎◌, ℕ, List, [], ◌∷◌, ◌++◌}
+use Rattle.iss_disk.specs.File.{File, Image, settled}
+use Rattle.iss_disk.specs.Calls.{EachState}
+use Rattle.iss_journal.specs.Frames.{frames, AreShort, Reads, holds}
+
+-- a crash leaves only bytes with P
+abbrev pub OnlyLeaves : (List ℕ → Type 0) → File → Type 0
+OnlyLeaves P file = (bytes : List ℕ) → Image file bytes → P bytes
+
+-- At each moment of a call, its start too, a crash leaves only bytes with P. The states are the newest first.
+abbrev pub LeavesOnly : (List ℕ → Type 0) → List File → List File → Type 0
+LeavesOnly P [] new = new ≡ []
+LeavesOnly P (file ∷ past) new = (added : List File) × (new ≡ added ++ file ∷ past) × OnlyLeaves P file × EachState (OnlyLeaves P) added
+
+-- the file holds these entries, or these and one more
+abbrev pub HoldsWithOrWithout : List (List ℕ) → List ℕ → List ℕ → Type 0
+HoldsWithOrWithout entries entry bytes = Reads bytes (holds entries) ⊎ Reads bytes (holds (entries ++ entry ∷ []))
+
+-- the file holds these entries first
+abbrev pub HoldsFirst : List (List ℕ) → List ℕ → Type 0
+HoldsFirst entries bytes = (more : List (List ℕ)) × Reads bytes (holds (entries ++ more))
+
+-- At each moment of a call a crash leaves the entries that every crash before it would have left.
+abbrev pub LosesNothing : List File → List File → Type 0
+LosesNothing [] new = new ≡ []
+LosesNothing (file ∷ past) new = (added : List File) × (new ≡ added ++ file ∷ past)
+    × ((entries : List (List ℕ)) → OnlyLeaves (HoldsFirst entries) file → EachState (OnlyLeaves (HoldsFirst entries)) added)
+
+-- the file is the frames of these entries and a closed gate, all of it synced
+pub record RestsOn (entries : List (List ℕ)) (file : File) : Type 0 where
+  pub gate : ℕ
+  pub closed : gate ≢ 1
+  pub is : file ≡ settled (frames entries ++ gate ∷ [])
+  pub short : AreShort entries

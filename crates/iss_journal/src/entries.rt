@@ -1,0 +1,155 @@
+// The entries of a journal, as they lie in its file.
+ghost use Rattle.iss_journal.specs.Views.{IsBook};
+ghost use Rattle.std.specs.Prelude.{◌≡◌, ◌+◌, ◌≤◌, ◌++◌, [], ◌∷◌, length, vec_len, vec_capacity};
+ghost use Rattle.iss_journal.specs.Frames.{short_prop, frame, max_entry};
+ghost use Rattle.std.proofs.Props.{props};
+
+use std::alloc::{AllocError, Global};
+
+/// The longest entry.
+pub const MAX_ENTRY: usize = 200_000_100;
+
+// A gate of this byte is open, and any other is closed.
+pub(crate) const OPEN: u8 = 1;
+
+pub(crate) const CLOSED: u8 = 0;
+
+/// The entries of a journal, in the order in which they were appended.
+#[derive(Drop)]
+pub struct Entries {
+    // The file's bytes up to its last gate; behind it lies what is about to be appended.
+    bytes: Vec<u8>,
+    // The offset of the gate of each entry.
+    gates: Vec<u64>,
+    // The offset of the last gate, behind which there is no entry yet.
+    last: usize,
+    ghost book: { IsBook bytes.items gates.items last } by { Prim.hlevel (short_prop, props) },
+}
+
+// Adds the frame of an entry, with a closed gate behind it.
+fn put_frame(bytes: &mut Vec<u8>, entry: &[u8])
+    requires short { length entry.now ≤ max_entry }
+    requires room { vec_len bytes.old + length entry.now + 6 ≤ vec_capacity bytes.old }
+    ensures { bytes.new.items ≡ bytes.old.items ++ (frame entry.now ++ 0 ∷ []) }
+{
+    let size = entry.len() as u32;
+    let _ = bytes.push(OPEN);
+    let _ = bytes.extend_from_slice(&size.to_be_bytes());
+    let _ = bytes.extend_from_slice(entry);
+    let _ = bytes.push(CLOSED);
+}
+
+impl Entries {
+    ghost use Rattle.std.specs.Prelude.{◌≡◌, ◌+◌, ◌<◌, ◌≤◌, ◌++◌, [], ◌∷◌, length, take, drop, slice_index_or, vec_len, vec_capacity, OnOk};
+    ghost use Rattle.std.specs.Int.{w32, to_be_bytes};
+    ghost use Rattle.iss_journal.specs.Frames.{frame, frames, max_entry};
+    ghost use Rattle.iss_journal.specs.Views.{IsBook, entries_at};
+    ghost use Rattle.iss_journal.specs.EntryViews.{entries_in};
+
+    pub(crate) fn new(alloc: Global) -> Entries
+        ensures entries { entries_in result ≡ [] }
+        ensures last { result.last ≡ 0 }
+    {
+        Entries {
+            bytes: Vec::new(alloc),
+            gates: Vec::new(alloc),
+            last: 0,
+        }
+    }
+
+    // The entries that lie in these bytes behind these gates.
+    pub(crate) fn from_parts(bytes: Vec<u8>, gates: Vec<u64>, last: usize) -> Entries
+        requires { IsBook bytes.items gates.items last }
+        ensures { entries_in result ≡ entries_at bytes.items gates.items }
+    {
+        Entries { bytes, gates, last }
+    }
+
+    /// How many entries there are.
+    pub fn len(&self) -> usize
+        ensures { result ≡ length (entries_in self.now) }
+    {
+        self.gates.len()
+    }
+
+    /// The entry with this number, from 0.
+    pub fn get(&self, k: usize) -> &[u8]
+        requires { k < length (entries_in self.now) }
+        ensures { result.now ≡ slice_index_or (entries_in self.now) k [] }
+    {
+        let end = self.end_of(k);
+        let gate = self.gate_of(k) as usize;
+        &self.bytes[gate + 5..end]
+    }
+
+    // The offset behind the entry with this number, where the next gate lies.
+    fn end_of(&self, k: usize) -> usize
+        requires { k < length (entries_in self.now) }
+        ensures { result ≡ length (frames (take (k + 1) (entries_in self.now))) }
+    {
+        if k + 1 < self.gates.len() {
+            self.gates[k + 1] as usize
+        } else {
+            self.last
+        }
+    }
+
+    /// The offset in the file of the gate of the entry with this number.
+    pub fn gate_of(&self, k: usize) -> u64
+        requires { k < length (entries_in self.now) }
+        ensures { result ≡ length (frames (take k (entries_in self.now))) }
+    {
+        self.gates[k]
+    }
+
+    // Where the next entry's gate lies.
+    pub(crate) fn last(&self) -> usize
+        ensures field { result ≡ self.now.last }
+        ensures offset { result ≡ length (frames (entries_in self.now)) }
+    {
+        self.last
+    }
+
+    // Makes room for an entry of so many bytes.
+    pub(crate) fn reserve(&mut self, bytes: usize) -> Result<(), AllocError>
+        ensures entries { entries_in self.new ≡ entries_in self.old }
+        ensures room { OnOk result (length (frames (entries_in self.old)) + bytes + 6 ≤ vec_capacity self.new.bytes) }
+        ensures gate { OnOk result (vec_len self.new.gates < vec_capacity self.new.gates) }
+    {
+        let wanted = bytes.checked_add(6).ok_or(AllocError)?;
+        self.bytes.reserve(wanted)?;
+        self.gates.reserve(1)
+    }
+
+    // Puts an entry behind the last gate, with its length before it and a closed gate behind it.
+    pub(crate) fn stage(&mut self, entry: &[u8])
+        requires short { length entry.now ≤ max_entry }
+        requires room { length (frames (entries_in self.old)) + length entry.now + 6 ≤ vec_capacity self.old.bytes }
+        requires gate { vec_len self.old.gates < vec_capacity self.old.gates }
+        ensures entries { entries_in self.new ≡ entries_in self.old }
+        ensures bytes { self.new.bytes.items ≡ frames (entries_in self.old) ++ (frame entry.now ++ 0 ∷ []) }
+        ensures gate { vec_len self.new.gates < vec_capacity self.new.gates }
+    {
+        self.bytes.truncate(self.last);
+        put_frame(&mut self.bytes, entry);
+    }
+
+    // What was staged, behind the gate.
+    pub(crate) fn staged(&self) -> &[u8]
+        requires { length (frames (entries_in self.now)) < length self.now.bytes.items }
+        ensures { result.now ≡ drop (length (frames (entries_in self.now)) + 1) self.now.bytes.items }
+    {
+        &self.bytes[self.last + 1..]
+    }
+
+    // The entry that was staged is the last one now.
+    pub(crate) fn commit(&mut self, entry: &[u8])
+        requires short { length entry.now ≤ max_entry }
+        requires bytes { self.old.bytes.items ≡ frames (entries_in self.old) ++ (frame entry.now ++ 0 ∷ []) }
+        requires gate { vec_len self.old.gates < vec_capacity self.old.gates }
+        ensures { entries_in self.new ≡ entries_in self.old ++ entry.now ∷ [] }
+    {
+        let _ = self.gates.push(self.last as u64);
+        self.last += 5 + entry.len();
+    }
+}

@@ -1,0 +1,5 @@
+pub mod ChainLemmas
+pub mod TreeLemmas
+pub mod VerifyLemmas
+pub mod ListedLemmas
+pub mod Examples

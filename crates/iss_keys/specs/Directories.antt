@@ -1,0 +1,38 @@
+-- The keys of all nodes and clients. Their secrets follow from their numbers alone, for demonstration.
+use Rattle.std.specs.Prelude.{◌≡◌, ℕ, List, [], ◌∷◌, IsSomeAnd, Some, slice_get}
+use Rattle.sha2.specs.Sha256.{sha256}
+use Rattle.iss_keys.specs.Pieces.{listed}
+use Rattle.iss_keys.specs.Signatures.{Verifies}
+use Rattle.iss_keys.specs.KeyStates.{KeyState, PublicKeyView, public_key}
+
+-- the secret of node i
+abbrev pub node_secret : ℕ → List ℕ
+node_secret i = sha256 (0x20 ∷ i ∷ [])
+
+-- the secret of client c
+abbrev pub client_secret : ℕ → List ℕ
+client_secret c = sha256 (0x21 ∷ c ∷ [])
+
+-- what a directory shows: the public keys of the nodes and of the clients, by their numbers
+pub record DirectoryView : Type 0 where
+  pub nodes : List PublicKeyView
+  pub clients : List PublicKeyView
+
+-- the first n public keys of secrets that are given by a number
+abbrev pub public_keys_of : (ℕ → List ℕ) → ℕ → ℕ → List PublicKeyView
+public_keys_of secret_of h n = listed (λ i. public_key (secret_of i) h) n
+
+-- the directory of n nodes and so many clients, all with trees of height h
+abbrev pub directory_of : ℕ → ℕ → ℕ → DirectoryView
+directory_of n clients h = record {
+  nodes = public_keys_of node_secret h n;
+  clients = public_keys_of client_secret h clients;
+}
+
+-- sig is a signature of statement s by the key of number i; a number without a key has no signatures
+abbrev pub VerifiesBy : List PublicKeyView → ℕ → List ℕ → List ℕ → Type 0
+VerifiesBy keys i s sig = IsSomeAnd (slice_get keys i) (λ key. Verifies key.root key.height s sig)
+
+-- key i of the list has the secret of number i and a tree of height h
+abbrev pub HasKeys : (ℕ → List ℕ) → ℕ → List KeyState → Type 0
+HasKeys secret_of h keys = (i : ℕ) (key : KeyState) → slice_get keys i ≡ Some key → (key.secret ≡ secret_of i) × (key.height ≡ h)

@@ -1,0 +1,34 @@
+-- What contracts see of a key and of its public key.
+use Rattle.std.specs.Prelude.{◌≡◌, ℕ, ◌+◌, ◌-◌, ◌^◌, ◌≤◌, List, length}
+use Rattle.iss_keys.specs.Trees.{root_of, HasNodesFrom}
+
+-- a secret, the height of the tree over its leaves, and how many leaves are used: those below `used`
+pub record KeyState : Type 0 where
+  pub secret : List ℕ
+  pub height : ℕ
+  pub used : ℕ
+
+-- how many leaves are left
+abbrev pub left_of : KeyState → ℕ
+left_of k = 2 ^ k.height - k.used
+
+-- what a key keeps: these fields, and the nodes of its tree
+pub record IsKey (secret : List ℕ) (h used : ℕ) (nodes : List (List ℕ)) : Type 0 where
+  pub low : 2 ≤ h
+  pub high : h ≤ 12
+  pub within : used ≤ 2 ^ h
+  pub size : length nodes ≡ 2 ^ (h + 1)
+  pub tree : HasNodesFrom secret h 1 nodes
+
+-- the public key: the root of the tree, and its height
+pub record PublicKeyView : Type 0 where
+  pub root : List ℕ
+  pub height : ℕ
+
+-- the public key of a secret
+abbrev pub public_key : List ℕ → ℕ → PublicKeyView
+public_key secret h = record { root = root_of secret h; height = h }
+
+-- the public key of a key
+abbrev pub public_of : KeyState → PublicKeyView
+public_of k = public_key k.secret k.height

@@ -1,0 +1,6 @@
+pub mod Pieces
+pub mod Chains
+pub mod Trees
+pub mod Signatures
+pub mod KeyStates
+pub mod Directories

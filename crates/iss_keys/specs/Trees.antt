@@ -1,0 +1,35 @@
+-- The tree over the leaves of a secret. Its first byte 0x13 marks an inner node's hash.
+use Rattle.std.specs.Prelude.{◌≡◌, ℕ, zero, suc, ◌+◌, ◌-◌, ◌*◌, ◌/◌, ◌%◌, ◌^◌, ◌<◌, ◌≤◌, ◌==◌, List, [], ◌∷◌, ◌++◌, slice_index_or, if◌then◌else◌}
+use Rattle.sha2.specs.Sha256.{sha256}
+use Rattle.iss_keys.specs.Chains.{leaf_value}
+
+-- the node over two nodes
+abbrev pub inner : List ℕ → List ℕ → List ℕ
+inner left right = sha256 (0x13 ∷ left ++ right)
+
+-- node p of level k, from the left: level 0 has the leaves
+unfoldable pub node : List ℕ → ℕ → ℕ → List ℕ
+node secret zero p = leaf_value secret p
+node secret (suc k) p = inner (node secret k (2 * p)) (node secret k (2 * p + 1))
+
+-- the root of the tree of height h
+abbrev pub root_of : List ℕ → ℕ → List ℕ
+root_of secret h = node secret h 0
+
+-- the position beside p, under the same parent
+abbrev pub beside : ℕ → ℕ
+beside p = if p % 2 == 0 then p + 1 else p - 1
+
+-- the sibling, at level k, of the node over leaf q
+abbrev pub path_node : List ℕ → ℕ → ℕ → List ℕ
+path_node secret q k = node secret k (beside (q / 2 ^ k))
+
+-- the parent of x and its sibling, x being at position p of its level
+abbrev pub parent_of : ℕ → List ℕ → List ℕ → List ℕ
+parent_of p x sibling = if p % 2 == 0 then inner x sibling else inner sibling x
+
+-- The tree of height h as it lies in memory, right from place i on: node p of level k is at place
+-- 2 ^ (h - k) + p, so the root is at 1 and the nodes under place i are at 2 * i and 2 * i + 1.
+abbrev pub HasNodesFrom : List ℕ → ℕ → ℕ → List (List ℕ) → Type 0
+HasNodesFrom secret h i nodes = (k p : ℕ) → k ≤ h → p < 2 ^ (h - k) → i ≤ 2 ^ (h - k) + p
+    → slice_index_or nodes (2 ^ (h - k) + p) [] ≡ node secret k p

@@ -1,0 +1,61 @@
+//! The 67 digits of a statement: 64 of its digest, and three of their checksum.
+
+ghost use Rattle.std.specs.Prelude.{◌≡◌, ◌<◌, ◌≤◌};
+ghost use Rattle.iss_keys.specs.Pieces.{sum_below};
+ghost use Rattle.iss_keys.specs.Chains.{statement_digest, nibble, checksum, digit};
+
+use crate::marks::STATEMENT;
+use sha2::{Digest, Sha256};
+
+/// What is signed of a statement: a digest of it.
+pub fn digest_of_statement(statement: &[u8]) -> [u8; 32]
+    ensures { result ≡ statement_digest statement.now }
+{
+    let mut hasher = Sha256::new();
+    hasher.update([STATEMENT]);
+    hasher.update(statement);
+    hasher.finalize()
+}
+
+// Hexadecimal digit `k` of a digest, the high digit of a byte first.
+fn nibble_of(digest: &[u8; 32], k: usize) -> u8
+    requires { k < 64 }
+    ensures { result ≡ nibble digest.now k }
+{
+    let byte = digest[k / 2];
+    if k % 2 == 0 { byte / 16 } else { byte % 16 }
+}
+
+/// The sum of what a digest's digits lack of 15.
+#[tactic(auto, using(crate::proofs::ChainLemmas::sum_below_more), unfolding(crate::specs::Pieces::sum_below))]
+pub fn checksum_of(digest: &[u8; 32]) -> u16
+    ensures value { result ≡ checksum digest.now }
+    ensures small { result ≤ 960 }
+{
+    let mut sum = 0u16;
+    'digits: for k in 0..64 {
+        sum += 15 - u16::from(nibble_of(digest, k));
+    }
+    sum
+}
+
+/// Digit `i` of a digest and its checksum.
+#[tactic(auto, unfolding(crate::specs::Chains::digit))]
+pub fn digit_of(digest: &[u8; 32], sum: u16, i: u16) -> u8
+    requires sum { sum ≡ checksum digest.now }
+    requires small { sum ≤ 960 }
+    requires range { i < 67 }
+    ensures value { result ≡ digit digest.now i }
+    ensures small { result ≤ 15 }
+{
+    if i < 64 {
+        return nibble_of(digest, i as usize);
+    }
+    if i == 64 {
+        return (sum / 256) as u8;
+    }
+    if i == 65 {
+        return (sum / 16 % 16) as u8;
+    }
+    (sum % 16) as u8
+}

@@ -1,0 +1,26 @@
+//! One-time signatures under a key tree, over SHA-256.
+//!
+//! A key is a secret and a tree of height `h` from 2 to 12. Each of its `2^h` leaves signs one statement,
+//! by 67 hash chains of 15 steps: 64 for the hexadecimal digits of the statement's digest, and three for a
+//! checksum of these. The tree's root and height are the public key. A signature has the leaf's number, a
+//! value from each chain, and the siblings on the leaf's way up, `2149 + 32 * h` bytes in all.
+//!
+//! Proved: [`verify`] accepts exactly what the definition says, and what a key signs verifies. That nobody
+//! without the secret can make a signature is no theorem here: it rests on SHA-256, and on signing no two
+//! statements by one leaf. [`Keys::sign`] sees to the latter as long as its count of used leaves is kept.
+#![tactic(auto)]
+
+mod chain;
+mod digits;
+mod directories;
+pub mod laws;
+mod marks;
+mod signing;
+#[cfg(test)]
+mod tests;
+mod tree;
+mod verification;
+
+pub use directories::Directory;
+pub use signing::{Keys, NoMemory, SignError};
+pub use verification::{PublicKey, verify};

@@ -1,0 +1,16 @@
+//! The first byte of each hashed string, which says what the string is. So no string of one kind is ever one
+//! of another.
+
+pub const CHAIN_START: u8 = 0x10;
+
+pub const CHAIN_STEP: u8 = 0x11;
+
+pub const LEAF: u8 = 0x12;
+
+pub const INNER_NODE: u8 = 0x13;
+
+pub const STATEMENT: u8 = 0x14;
+
+pub const NODE_SECRET: u8 = 0x20;
+
+pub const CLIENT_SECRET: u8 = 0x21;

@@ -1,0 +1,169 @@
+//! Keys, which sign by one leaf after another.
+
+ghost use Rattle.std.specs.Prelude.{◌≡◌, ◌↔◌, ◌+◌, ◌^◌, ◌<◌, ◌≤◌, length, IfOk, OnOk, OnErr, Err};
+ghost use Rattle.iss_keys.specs.Trees.{root_of, HasNodesFrom};
+ghost use Rattle.iss_keys.specs.Signatures.{leaf_number, signature_of, Verifies};
+ghost use Rattle.iss_keys.specs.KeyStates.{KeyState, IsKey, left_of, public_of};
+
+use crate::chain::write_values;
+use crate::digits::digest_of_statement;
+use crate::tree::{tree_of, write_path};
+use crate::verification::PublicKey;
+use std::alloc::{AllocError, AllocFailed, Global};
+use std::marker::Model;
+
+/// No memory was left.
+#[derive(Clone, Copy, Debug, PartialEq, Eq)]
+pub struct NoMemory;
+
+impl From<AllocError> for NoMemory {
+    fn from(_: AllocError) -> NoMemory {
+        NoMemory
+    }
+}
+
+impl<T: Drop> From<AllocFailed<T>> for NoMemory {
+    fn from(_: AllocFailed<T>) -> NoMemory {
+        NoMemory
+    }
+}
+
+/// Why a key did not sign.
+#[derive(Clone, Copy, Debug, PartialEq, Eq)]
+pub enum SignError {
+    /// Each leaf is used.
+    Spent,
+    /// No memory was left.
+    NoMemory,
+}
+
+impl From<NoMemory> for SignError {
+    ghost use Rattle.iss_keys.specs.declared.signing.SignError.TheVariants.{NoMemory};
+
+    ghost from_gives = { λ _ e. e ≡ NoMemory };
+
+    fn from(_: NoMemory) -> SignError {
+        SignError::NoMemory
+    }
+}
+
+// The signature of a statement by a leaf.
+fn signature_bytes(
+    alloc: Global,
+    secret: &[u8; 32],
+    height: u8,
+    nodes: &[[u8; 32]],
+    leaf: u32,
+    statement: &[u8],
+) -> Result<Vec<u8>, NoMemory>
+    requires height { height ≤ 12 }
+    requires leaf { leaf < 2 ^ height }
+    requires size { length nodes.now ≡ 2 ^ (height + 1) }
+    requires tree { HasNodesFrom secret.now height 1 nodes.now }
+    ensures { IfOk result (λ sig. sig.items ≡ signature_of secret.now height leaf statement.now) }
+{
+    let digest = digest_of_statement(statement);
+    let mut out = Vec::with_capacity(alloc, 2149 + 32 * height as usize)?;
+    out.push(height)?;
+    out.extend_from_slice(&leaf.to_be_bytes())?;
+    write_values(secret, leaf, &digest, &mut out)?;
+    write_path(nodes, height, leaf, &mut out)?;
+    Ok(out)
+}
+
+/// A key: a secret, the tree over its leaves (64 bytes of memory a leaf), and how many leaves are used.
+#[derive(Drop)]
+pub struct Keys {
+    secret: [u8; 32],
+    height: u8,
+    used: u32,
+    nodes: Vec<[u8; 32]>,
+}
+
+impl Model for Keys {
+    ghost Value = { KeyState };
+
+    ghost view = { λ k. record { secret = k.secret; height = k.height; used = k.used } };
+
+    ghost invariant = { λ k. IsKey k.secret k.height k.used k.nodes.items };
+}
+
+impl Keys {
+    /// The key of a secret with no leaf used. Making the tree takes 1,072 small hashes a leaf.
+    pub fn make(alloc: Global, secret: [u8; 32], height: u8) -> Result<Keys, NoMemory>
+        requires low { 2 ≤ height }
+        requires high { height ≤ 12 }
+        ensures { IfOk result (λ keys. keys ≡ record { secret = secret; height = height; used = 0 }) }
+    {
+        Keys::make_at(alloc, secret, height, 0)
+    }
+
+    /// The key of a secret with the leaves below `next` used.
+    pub fn make_at(alloc: Global, secret: [u8; 32], height: u8, next: u32) -> Result<Keys, NoMemory>
+        requires low { 2 ≤ height }
+        requires high { height ≤ 12 }
+        requires next { next ≤ 2 ^ height }
+        ensures { IfOk result (λ keys. keys ≡ record { secret = secret; height = height; used = next }) }
+    {
+        let nodes = tree_of(alloc, &secret, height)?;
+        Ok(Keys {
+            secret,
+            height,
+            used: next,
+            nodes,
+        })
+    }
+
+    /// How many leaves are left, so how many times `sign` can answer a signature.
+    pub fn left(&self) -> u32
+        ensures value { result ≡ left_of self.now }
+        ensures whole { result + self.now.used ≡ 2 ^ self.now.height }
+    {
+        (1 << self.height) - self.used
+    }
+
+    /// The public key.
+    pub fn public(&self) -> PublicKey
+        ensures { result ≡ public_of self.now }
+    {
+        PublicKey::from_parts(self.nodes[1], self.height)
+    }
+
+    /// Signs by a leaf of the caller's choice, and counts no leaf as used: no two statements may be signed
+    /// by one leaf.
+    pub fn sign_at(&self, leaf: u32, statement: &[u8]) -> Result<Vec<u8>, NoMemory>
+        requires { leaf < 2 ^ self.now.height }
+        ensures exact { IfOk result (λ sig. sig.items ≡ signature_of self.now.secret self.now.height leaf statement.now) }
+        ensures verifies { IfOk result (λ sig. Verifies (root_of self.now.secret self.now.height) self.now.height statement.now sig.items) }
+        ensures leaf { IfOk result (λ sig. leaf_number sig.items ≡ leaf) }
+    {
+        let alloc = *self.nodes.allocator();
+        signature_bytes(
+            alloc,
+            &self.secret,
+            self.height,
+            &self.nodes,
+            leaf,
+            statement,
+        )
+    }
+
+    /// Signs by the least leaf that is not used, which is used from then on. After either error the key is
+    /// as it was.
+    pub fn sign(&mut self, statement: &[u8]) -> Result<Vec<u8>, SignError>
+        ensures exact { IfOk result (λ sig. sig.items ≡ signature_of self.old.secret self.old.height self.old.used statement.now) }
+        ensures verifies { IfOk result (λ sig. Verifies (root_of self.old.secret self.old.height) self.old.height statement.now sig.items) }
+        ensures leaf { IfOk result (λ sig. leaf_number sig.items ≡ self.old.used) }
+        ensures used { OnOk result (self.new ≡ record self.old { used = self.old.used + 1 }) }
+        ensures left { OnOk result (left_of self.new + 1 ≡ left_of self.old) }
+        ensures spent { (result ≡ Err SignError.Spent) ↔ (left_of self.old ≡ 0) }
+        ensures err { OnErr result (self.new ≡ self.old) }
+    {
+        if self.left() == 0 {
+            return Err(SignError::Spent);
+        }
+        let signature = self.sign_at(self.used, statement)?;
+        self.used += 1;
+        Ok(signature)
+    }
+}

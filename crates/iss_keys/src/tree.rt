@@ -1,0 +1,116 @@
+//! The tree over the leaves. In memory it is one array: the root at place 1, and the nodes under place `i`
+//! at places `2 * i` and `2 * i + 1`.
+
+ghost use Rattle.std.specs.Prelude.{◌≡◌, ℕ, List, ◌+◌, ◌*◌, ◌^◌, ◌<◌, ◌≤◌, ◌++◌, length, IfOk, OnOk};
+ghost use Rattle.iss_keys.specs.Pieces.{join_below};
+ghost use Rattle.iss_keys.specs.Trees.{inner, beside, path_node, HasNodesFrom};
+ghost use Rattle.iss_keys.specs.Signatures.{climb};
+
+use crate::chain::{piece_at, value_of_leaf};
+use crate::marks::INNER_NODE;
+use sha2::{Digest, Sha256};
+use std::alloc::{AllocError, Global};
+
+// The node over two nodes.
+fn inner_node(left: &[u8; 32], right: &[u8; 32]) -> [u8; 32]
+    ensures { result ≡ inner left.now right.now }
+{
+    let mut hasher = Sha256::new();
+    hasher.update([INNER_NODE]);
+    hasher.update(left);
+    hasher.update(right);
+    hasher.finalize()
+}
+
+/// How many leaves a tree has.
+pub fn leaves_under(height: u8) -> usize
+    requires { height ≤ 12 }
+    ensures value { result ≡ 2 ^ height }
+    ensures low { 1 ≤ result }
+    ensures high { result ≤ 4096 }
+{
+    1 << height
+}
+
+/// Writes the tree over a secret, in place of what was there.
+pub fn fill_tree(nodes: &mut [[u8; 32]], secret: &[u8; 32], height: u8)
+    requires height { height ≤ 12 }
+    requires size { length nodes.old ≡ 2 ^ (height + 1) }
+    ensures { HasNodesFrom secret.now height 1 nodes.new }
+{
+    let leaves = leaves_under(height);
+    'leaves: for q in 0..leaves {
+        nodes[leaves + q] = value_of_leaf(secret, q as u32);
+    }
+    'inner: for i in (1..leaves).rev() {
+        nodes[i] = inner_node(&nodes[2 * i], &nodes[2 * i + 1]);
+    }
+}
+
+/// The tree over a secret.
+pub fn tree_of(alloc: Global, secret: &[u8; 32], height: u8) -> Result<Vec<[u8; 32]>, AllocError>
+    requires { height ≤ 12 }
+    ensures size { IfOk result (λ nodes. length nodes.items ≡ 2 ^ (height + 1)) }
+    ensures tree { IfOk result (λ nodes. HasNodesFrom secret.now height 1 nodes.items) }
+{
+    let mut nodes = vec![in alloc; [0u8; 32]; 2 * leaves_under(height)]?;
+    fill_tree(&mut nodes, secret, height);
+    Ok(nodes)
+}
+
+// The place beside a place, under the same node.
+fn place_beside(place: usize) -> usize
+    requires { place < 2 ^ 63 }
+    ensures { result ≡ beside place }
+{
+    if place % 2 == 0 { place + 1 } else { place - 1 }
+}
+
+// Appends a node.
+fn write_node(node: &[u8; 32], out: &mut Vec<u8>) -> Result<(), AllocError>
+    ensures { OnOk result (out.new.items ≡ out.old.items ++ node.now) }
+{
+    out.extend_from_slice(node)?;
+    Ok(())
+}
+
+/// Appends the siblings on the way from a leaf to the root.
+pub fn write_path(
+    nodes: &[[u8; 32]],
+    height: u8,
+    leaf: u32,
+    out: &mut Vec<u8>,
+) -> Result<(), AllocError>
+    requires height { height ≤ 12 }
+    requires leaf { leaf < 2 ^ height }
+    requires size { length nodes.now ≡ 2 ^ (height + 1) }
+    ensures { (secret : List ℕ) → HasNodesFrom secret height 1 nodes.now
+        → OnOk result (out.new.items ≡ out.old.items ++ join_below (path_node secret leaf) height) }
+{
+    let mut place = leaves_under(height) + leaf as usize;
+    'levels: for k in 0..height {
+        write_node(&nodes[place_beside(place)], out)?;
+        place /= 2;
+    }
+    Ok(())
+}
+
+/// The root over a leaf of this value, by the siblings that a signature has.
+#[tactic(auto, using(crate::proofs::ChainLemmas::climb_more), unfolding(crate::specs::Signatures::climb))]
+pub fn root_from_leaf(leaf: u32, height: u8, value: [u8; 32], part: &[u8]) -> [u8; 32]
+    requires height { height ≤ 12 }
+    requires room { 2144 + 32 * height ≤ length part.now }
+    ensures { result ≡ climb leaf part.now value height }
+{
+    let mut x = value;
+    'levels: for k in 0..height {
+        let sibling = piece_at(part, 2144 + 32 * k as usize);
+        let next = if (leaf >> k) % 2 == 0 {
+            inner_node(&x, &sibling)
+        } else {
+            inner_node(&sibling, &x)
+        };
+        x = next;
+    }
+    x
+}

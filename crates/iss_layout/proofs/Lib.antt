@@ -1,0 +1,3 @@
+mod Examples
+pub mod FairLemmas
+pub mod LayoutLemmas

@@ -1,0 +1,40 @@
+-- What the definitions say of a small log: two requests in slot 0, nil in slot 1, one request in slot 2, and an empty
+-- batch in slot 4, for which slot 3 is missing.
+use Rattle.std.proofs.Common.{◌≡◌, ℕ, [], ◌∷◌, refl, Some, None}
+use Rattle.iss_request.specs.Log.{requests}
+use Rattle.iss_request.specs.declared.requests.Request.{Request}
+use Rattle.iss_request.specs.declared.requests.Value.TheVariants.{Nil, Batch as Holds}
+use Rattle.iss_log.specs.LogState.{LogState, value_at, first_number_of}
+
+abbrev request : ℕ → Request
+request t = record { id = record { client = 0; number = t }; payload = []; sig = [] }
+
+abbrev example : LogState
+example = record {
+    entries = Holds (request 0 ∷ request 1 ∷ []) ∷ Nil ∷ Holds (request 7 ∷ []) ∷ [];
+    ahead = (4, Holds []) ∷ [];
+  }
+
+nil_counts_nothing : first_number_of example.entries 1 ≡ Some 2
+nil_counts_nothing = refl
+
+after_nil : first_number_of example.entries 2 ≡ Some 2
+after_nil = refl
+
+first_is_zero : first_number_of example.entries 0 ≡ Some 0
+first_is_zero = refl
+
+none_past : first_number_of example.entries 3 ≡ None
+none_past = refl
+
+all_three : requests example.entries ≡ 3
+all_three = refl
+
+gap : value_at example 3 ≡ None
+gap = refl
+
+nil_is_a_value : value_at example 1 ≡ Some Nil
+nil_is_a_value = refl
+
+behind_the_gap : value_at example 4 ≡ Some (Holds [])
+behind_the_gap = refl

@@ -1,0 +1,231 @@
+-- All nodes over all epochs, as far as logs depend on them, and what may happen to them. Nothing here runs: a run of
+-- the cluster is shown to be a chain of these moves.
+use Rattle.std.specs.Prelude.{◌≡◌, ◌≢◌, ◌⊎◌, ℕ, suc, ◌≤◌, Bool, true, false, cond, nat_le, List, [], ◌∷◌, ◌++◌, length, Some, None}
+use Rattle.std.specs.Int.{to_be_bytes, w64}
+use Rattle.iss_base.specs.Lists.{Chain, In, over}
+use Rattle.iss_request.specs.Digest.{digest}
+use Rattle.iss_request.specs.Log.{requests}
+use Rattle.iss_request.specs.declared.requests.Value.{Value}
+use Rattle.iss_request.specs.declared.setups.Setup.{Setup}
+use Rattle.iss_sb.specs.declared.effects.Claim.{Claim}
+use Rattle.iss_sb.specs.declared.effects.Input.{Input}
+use Rattle.iss_sb.specs.declared.effects.Input.TheVariants.{Cast, Receive, Timeout}
+use Rattle.iss_sb.specs.declared.effects.Params.{Params}
+use Rattle.iss_sb.specs.declared.effects.To.{To}
+use Rattle.iss_sb.specs.Evidence.{Module, Reaches, World, accepts, delivered, is_correct}
+use Rattle.iss_model.specs.Node.{verdict}
+use Rattle.iss_model.specs.Past.{Past, Piece, asked_in, before, before_at, cut_at, epoch_at, leader_at, log_of, made_in, newborn, params_at, params_of, start_of, takes}
+use Rattle.iss_model.specs.Rules.{Rules}
+
+-- a message of a module, on its way
+pub record Message (Msg : Type 0) : Type 0 where
+  pub from : ℕ
+  pub to : ℕ
+  pub epoch : ℕ
+  pub leader : ℕ
+  pub msg : Msg
+
+pub record Signed : Type 0 where
+  pub by : ℕ
+  pub statement : List ℕ
+
+-- what each node took, the messages that were sent, what nodes signed, and the strings that they hashed
+pub record Cluster (Msg : Type 0) : Type 0 where
+  pub pasts : ℕ → Past Msg
+  pub messages : List (Message Msg)
+  pub book : List Signed
+  pub strings : List (List ℕ)
+
+-- how logs are chained, and how votes are stated
+pub record Scheme : Type 0 where
+  -- the statement of a vote: an epoch, the chain of the log at its end, and how many requests that log holds
+  pub vote : ℕ → List ℕ → ℕ → List ℕ
+  -- the bytes of a value where it has any, and of a link of two digests
+  pub spells : Value → Bool
+  pub spelled : Value → List ℕ
+  pub link : List ℕ → List ℕ → List ℕ
+  pub is_quorum : List ℕ → Bool
+
+-- the digest that stands for a log, and the strings that it hashes
+abbrev pub chain : Scheme → List Value → List ℕ
+chain S [] = digest []
+chain S (v ∷ older) = digest (S.link (chain S older) (digest (S.spelled v)))
+
+abbrev pub chain_strings : Scheme → List Value → List (List ℕ)
+chain_strings S [] = []
+chain_strings S (v ∷ older) = S.spelled v ∷ S.link (chain S older) (digest (S.spelled v)) ∷ chain_strings S older
+
+abbrev pub AllSpelled : Scheme → List Value → Type 0
+AllSpelled S log = (v : Value) → In v log → S.spells v ≡ true
+
+-- what was hashed for a log
+abbrev pub IsHashedLog : Scheme → List (List ℕ) → List Value → Type 0
+IsHashedLog S strings log = (x : List ℕ) → In x (chain_strings S log) → In x strings
+
+-- what every statement of the instance of leader l in epoch e begins with
+abbrev pub instance_head : {Msg : Type 0} → Setup → Module Msg → ℕ → ℕ → List ℕ
+instance_head s M e l = s.tag ++ to_be_bytes w64 e ++ l ∷ M.tag ∷ []
+
+abbrev pub Names : {Msg : Type 0} → Setup → Module Msg → ℕ → ℕ → List ℕ → Type 0
+Names s M e l statement = (rest : List ℕ) × (statement ≡ instance_head s M e l ++ rest)
+
+-- the world of the instance of leader l in epoch e
+abbrev pub world_of : {Msg : Type 0} → Setup → (ℕ → Past Msg) → ℕ → ℕ → World Msg
+world_of s pasts e l i = cond (is_correct s i) ((pasts i).evidence e l) []
+
+-- a correct node delivered the value in the slot that follows these, and its own log before that epoch is theirs
+pub record Backed {Msg : Type 0} (s : Setup) (R : Rules) (M : Module Msg) (pasts : ℕ → Past Msg) (older : List Value) (v : Value) : Type 0 where
+  pub node : ℕ
+  pub correct : is_correct s node ≡ true
+  pub begun : epoch_at R older ≤ (pasts node).epoch
+  pub start : before R M node (pasts node) (epoch_at R older) ≡ before_at R older
+  pub is : delivered M (params_at R older) node ((pasts node).evidence (epoch_at R older) (leader_at R older)) (length older) ≡ Some v
+
+-- each value of the log was delivered by a correct node
+abbrev pub IsTrueLog : {Msg : Type 0} → Setup → Rules → Module Msg → (ℕ → Past Msg) → List Value → Type 0
+IsTrueLog s R M pasts = Chain (Backed s R M pasts)
+
+-- what a message may be that node i takes in the instance of l: where nodes only stop, one that was sent to it; else
+-- any, as long as what it claims of correct nodes is in the book
+abbrev pub AreSigned : Setup → List Signed → List Claim → Type 0
+AreSigned s book claims = (c : Claim) → In c claims → is_correct s c.by.0 ≡ true → In (record { by = c.by.0; statement = c.statement }) book
+
+abbrev pub MayGet : {Msg : Type 0} → Bool → Setup → Rules → Module Msg → Cluster Msg → ℕ → ℕ → ℕ → Msg → Type 0
+MayGet true s R M w i l from msg = In (record { from = from; to = i; epoch = (w.pasts i).epoch; leader = l; msg = msg }) w.messages
+MayGet false s R M w i l from msg = AreSigned s w.book (M.claims (params_of R M i (w.pasts i) l) from msg)
+
+abbrev pub MayTake : {Msg : Type 0} → Setup → Rules → Module Msg → Cluster Msg → ℕ → ℕ → Input Msg → Type 0
+MayTake s R M w i l (Cast slot batch) = i ≡ l
+MayTake s R M w i l (Receive from msg) = MayGet M.stopping s R M w i l from.0 msg
+MayTake s R M w i l Timeout = Unit {0}
+
+-- the message is one of these sends of node i in the instance of l
+pub record IsOneOf {Msg : Type 0} (i e l : ℕ) (sends : List (To × Msg)) (k : Message Msg) : Type 0 where
+  pub from : k.from ≡ i
+  pub epoch : k.epoch ≡ e
+  pub leader : k.leader ≡ l
+  pub to : To
+  pub reaches : Reaches to k.to
+  pub sent : In {A = To × Msg} (to, k.msg) sends
+
+-- a claim of node i itself in what it sends
+pub record IsOwn {Msg : Type 0} (M : Module Msg) (p : Params) (i : ℕ) (sends : List (To × Msg)) (x : Signed) : Type 0 where
+  pub to : To
+  pub msg : Msg
+  pub sent : In {A = To × Msg} (to, msg) sends
+  pub claim : Claim
+  pub made : In claim (M.claims p i msg)
+  pub by : claim.by.0 ≡ i
+  pub is : x ≡ record { by = i; statement = claim.statement }
+
+-- node i takes an input in the instance of l of its epoch, which the judge accepts
+pub record Moved {Msg : Type 0} (s : Setup) (S : Scheme) (R : Rules) (M : Module Msg) (v w : Cluster Msg) (i l : ℕ) (input : Input Msg) (leaf : ℕ) : Type 0 where
+  pub correct : is_correct s i ≡ true
+  pub leads : R.leads (before R M i (v.pasts i) (v.pasts i).epoch) (v.pasts i).epoch l ≡ true
+  pub comes : MayTake s R M v i l input
+  pub judged : verdict R (before R M i (v.pasts i) (v.pasts i).epoch) (v.pasts i).epoch l (accepts ((v.pasts i).evidence (v.pasts i).epoch l)) (asked_in R M i (v.pasts i) l input) ≡ None
+  pub here : w.pasts i ≡ takes R M i (v.pasts i) l input leaf
+  pub other : (j : ℕ) → j ≢ i → w.pasts j ≡ v.pasts j
+  pub messages : M.stopping ≡ true → (k : Message Msg) → In k w.messages → IsOneOf i (v.pasts i).epoch l (made_in R M i (v.pasts i) l input leaf).sends k ⊎ In k v.messages
+  pub book : (x : Signed) → In x w.book → IsOwn M (params_of R M i (v.pasts i) l) i (made_in R M i (v.pasts i) l input leaf).sends x ⊎ In x v.book
+  pub old_book : (x : Signed) → In x v.book → In x w.book
+  pub fresh_strings : (x : List ℕ) → In x (made_in R M i (v.pasts i) l input leaf).strings → In x w.strings
+  pub strings : (x : List ℕ) → In x v.strings → In x w.strings
+  pub hashed : IsHashedLog S w.strings (log_of R M i (w.pasts i))
+  pub spelled : AllSpelled S (log_of R M i (w.pasts i))
+
+-- no instance sees anything of it
+pub record Quiet {Msg : Type 0} (s : Setup) (M : Module Msg) (v w : Cluster Msg) : Type 0 where
+  pub messages : M.stopping ≡ true → (k : Message Msg) → In k w.messages → In k v.messages
+  pub book : (x : Signed) (e l : ℕ) → In x w.book → Names s M e l x.statement → In x v.book
+  pub old_book : (x : Signed) → In x v.book → In x w.book
+  pub strings : (x : List ℕ) → In x v.strings → In x w.strings
+
+-- nothing happens to any log
+pub record Rested {Msg : Type 0} (s : Setup) (M : Module Msg) (v w : Cluster Msg) : Type 0 where
+  pub same : (j : ℕ) → is_correct s j ≡ true → w.pasts j ≡ v.pasts j
+  pub quiet : Quiet s M v w
+  pub book : (x : Signed) → In x w.book → In x v.book
+
+-- whether the log holds the node's whole epoch, the past in the next epoch, and the log at the end of the epoch
+abbrev pub is_complete : {Msg : Type 0} → Rules → Module Msg → ℕ → Past Msg → Bool
+is_complete R M me c = nat_le (start_of R (log_of R M me c) (suc c.epoch)) (length (log_of R M me c))
+
+abbrev pub advanced : {Msg : Type 0} → Past Msg → Past Msg
+advanced c = record { epoch = suc c.epoch; evidence = c.evidence; adopted = c.adopted }
+
+abbrev pub ended_log : {Msg : Type 0} → Rules → Module Msg → ℕ → Past Msg → List Value
+ended_log R M i c = cut_at R (log_of R M i c) (suc c.epoch)
+
+-- what a node votes for that ends its epoch
+abbrev pub vote_of : {Msg : Type 0} → Scheme → Rules → Module Msg → ℕ → Past Msg → List ℕ
+vote_of S R M i c = S.vote c.epoch (chain S (ended_log R M i c)) (requests (ended_log R M i c))
+
+-- node i ends its epoch, and may vote
+pub record Ended {Msg : Type 0} (s : Setup) (S : Scheme) (R : Rules) (M : Module Msg) (v w : Cluster Msg) (i : ℕ) : Type 0 where
+  pub correct : is_correct s i ≡ true
+  pub complete : is_complete R M i (v.pasts i) ≡ true
+  pub here : w.pasts i ≡ advanced (v.pasts i)
+  pub other : (j : ℕ) → j ≢ i → w.pasts j ≡ v.pasts j
+  pub quiet : Quiet s M v w
+  pub book : (x : Signed) → In x w.book → In x v.book ⊎ ((x.by ≡ i) × (x.statement ≡ vote_of S R M i (v.pasts i)))
+  pub hashed : IsHashedLog S w.strings (log_of R M i (w.pasts i))
+  pub spelled : AllSpelled S (log_of R M i (w.pasts i))
+
+-- votes of one statement
+pub record Signature : Type 0 where
+  pub by : ℕ
+  pub sig : List ℕ
+
+pub record Cert : Type 0 where
+  pub chain : List ℕ
+  pub number : ℕ
+  pub signed : List Signature
+
+abbrev pub signers : List Signature → List ℕ
+signers [] = []
+signers (x ∷ xs) = x.by ∷ signers xs
+
+-- the past with a piece, which ends its epoch
+abbrev pub adopts : {Msg : Type 0} → Past Msg → Piece → Past Msg
+adopts c p = record { epoch = suc c.epoch; evidence = c.evidence; adopted = p ∷ c.adopted }
+
+-- the log that a piece leads to
+abbrev pub adopted_log : {Msg : Type 0} → Rules → Module Msg → ℕ → Past Msg → Piece → List Value
+adopted_log R M i c piece = over piece.values (before R M i c piece.epoch)
+
+-- the votes of correct nodes in a certificate are in the book
+abbrev pub AreVotes : Setup → Scheme → List Signed → ℕ → Cert → Type 0
+AreVotes s S book e cert = (k : ℕ) → In k (signers cert.signed) → is_correct s k ≡ true → In (record { by = k; statement = S.vote e cert.chain cert.number }) book
+
+-- node i adopts the values of its epoch under a certificate, and ends it with no vote
+pub record Adopted {Msg : Type 0} (s : Setup) (S : Scheme) (R : Rules) (M : Module Msg) (v w : Cluster Msg) (i : ℕ) (piece : Piece) (cert : Cert) : Type 0 where
+  pub correct : is_correct s i ≡ true
+  pub epoch : piece.epoch ≡ (v.pasts i).epoch
+  pub whole : length piece.values ≡ R.slots (before R M i (v.pasts i) piece.epoch) piece.epoch
+  pub quorum : S.is_quorum (signers cert.signed) ≡ true
+  pub votes : AreVotes s S v.book piece.epoch cert
+  pub chained : cert.chain ≡ chain S (adopted_log R M i (v.pasts i) piece)
+  pub piece_hashed : IsHashedLog S w.strings (adopted_log R M i (v.pasts i) piece)
+  pub piece_spelled : AllSpelled S (adopted_log R M i (v.pasts i) piece)
+  pub here : w.pasts i ≡ adopts (v.pasts i) piece
+  pub other : (j : ℕ) → j ≢ i → w.pasts j ≡ v.pasts j
+  pub quiet : Quiet s M v w
+  pub book : (x : Signed) → In x w.book → In x v.book
+  pub hashed : IsHashedLog S w.strings (log_of R M i (w.pasts i))
+  pub spelled : AllSpelled S (log_of R M i (w.pasts i))
+
+-- nothing has happened; the empty string, at which chains begin, counts as hashed
+pub record Begun {Msg : Type 0} (s : Setup) (w : Cluster Msg) : Type 0 where
+  pub pasts : (j : ℕ) → is_correct s j ≡ true → w.pasts j ≡ newborn
+  pub messages : (k : Message Msg) → In k w.messages → ⊥
+  pub book : (x : Signed) → In x w.book → ⊥
+  pub root : In {A = List ℕ} [] w.strings
+
+-- the clusters that moves lead to
+pub data Reach {Msg : Type 0} (s : Setup) (S : Scheme) (R : Rules) (M : Module Msg) : Cluster Msg → Type 0 where
+  begin : {w : Cluster Msg} → Begun s w → Reach s S R M w
+  move : {v w : Cluster Msg} (i l : ℕ) (input : Input Msg) (leaf : ℕ) → Reach s S R M v → Moved s S R M v w i l input leaf → Reach s S R M w
+  ends : {v w : Cluster Msg} (i : ℕ) → Reach s S R M v → Ended s S R M v w i → Reach s S R M w
+  adopt : {v w : Cluster Msg} (i : ℕ) (piece : Piece) (cert : Cert) → Reach s S R M v → Adopted s S R M v w i piece cert → Reach s S R M w
+  rest : {v w : Cluster Msg} → Reach s S R M v → Rested s M v w → Reach s S R M w

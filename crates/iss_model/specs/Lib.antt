@@ -1,0 +1,11 @@
+pub mod Cluster
+pub mod Judge
+pub mod Node
+pub mod Ordered
+pub mod Past
+pub mod Rules
+pub mod Run
+pub mod Runs
+pub mod Sound
+pub mod Concrete
+pub mod Formats

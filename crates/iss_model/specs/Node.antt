@@ -1,0 +1,195 @@
+-- One node: what it holds, and one step of it.
+use Rattle.std.specs.Prelude.{ℕ, zero, suc, ◌+◌, ◌-◌, ◌==◌, nat_lt, cond, Bool, true, false, not, ◌&&◌, ◌||◌, List, [], ◌∷◌, ◌++◌, Option, Some, None, length, is_some, take}
+use Rattle.iss_request.specs.Log.{has_id, ids, log_ids}
+use Rattle.iss_request.specs.declared.ids.ReqId.{ReqId}
+use Rattle.iss_request.specs.declared.ids.Slot.{Slot}
+use Rattle.iss_request.specs.declared.requests.Batch.{Batch}
+use Rattle.iss_request.specs.declared.requests.Request.{Request}
+use Rattle.iss_request.specs.declared.requests.Value.{Value}
+use Rattle.iss_request.specs.declared.setups.Setup.{Setup}
+use Rattle.iss_sb.specs.declared.effects.Input.{Input}
+use Rattle.iss_sb.specs.declared.effects.Input.TheVariants.{Cast, Receive, Timeout}
+use Rattle.iss_sb.specs.declared.effects.Params.{Params}
+use Rattle.iss_sb.specs.declared.effects.To.{To}
+use Rattle.iss_sb.specs.Evidence.{Item, Module, accepts, delivered}
+use Rattle.iss_sb.specs.Keys.{leaves_left}
+use Rattle.iss_model.specs.declared.causes.NodeEvent.{NodeEvent}
+use Rattle.iss_model.specs.declared.causes.NodeEvent.TheVariants.{Packet as Gets, Propose as Proposes, Timeout as Fires}
+use Rattle.iss_model.specs.declared.causes.Refusal.{Refusal}
+use Rattle.iss_model.specs.declared.causes.Why.{Why}
+use Rattle.iss_model.specs.declared.causes.Why.TheVariants.{NotPacket, BadRequest, Known, OtherEpoch, NotLeader, NothingToCast, NoKeys, Refused}
+use Rattle.iss_model.specs.Judge.{judge, marks}
+use Rattle.iss_model.specs.Past.{Past, asked_in, before, log_of, made_in, newborn, params_of, takes}
+use Rattle.iss_model.specs.Rules.{Rules}
+
+-- what a packet holds: a module's message in the instance of a leader, or a request
+pub data Body (Msg : Type 0) : Type 0 where
+  OfModule : (leader : ℕ) → (msg : Msg) → Body Msg
+  OfRequest : (request : Request) → Body Msg
+
+pub record Parcel (Msg : Type 0) : Type 0 where
+  pub from : ℕ
+  pub epoch : ℕ
+  pub body : Body Msg
+
+-- how parcels are written and read; nothing is read of bytes that are no packet
+pub record Formats (Msg : Type 0) : Type 0 where
+  pub wrap : Parcel Msg → List ℕ
+  pub unwrap : List ℕ → Option (Parcel Msg)
+
+pub record Core (Msg : Type 0) : Type 0 where
+  pub past : Past Msg
+  -- the requests that wait, in order of arrival, and the batches that were cast in slots that are not in the log
+  pub waiting : List Request
+  pub flight : List (Slot × Batch)
+  -- the next leaf to sign with
+  pub leaf : ℕ
+
+abbrev pub idle : {Msg : Type 0} → Core Msg
+idle = record { past = newborn; waiting = []; flight = []; leaf = 0 }
+
+-- a node after a step, and the packets that it made, in order
+pub record Turn (Msg : Type 0) : Type 0 where
+  pub core : Core Msg
+  pub sends : List (To × List ℕ)
+
+pub data Stepped (Msg : Type 0) : Type 0 where
+  Dropped : (why : Why) → Stepped Msg
+  Taken : (turn : Turn Msg) → Stepped Msg
+
+-- the requests whose identity is not among these
+abbrev pub absent : List ReqId → List Request → List Request
+absent gone [] = []
+absent gone (q ∷ qs) = cond (has_id q.id gone) (absent gone qs) (q ∷ absent gone qs)
+
+-- what was cast in slots from n on
+abbrev pub flying : ℕ → List (Slot × Batch) → List (Slot × Batch)
+flying n [] = []
+flying n (x ∷ xs) = cond (nat_lt x.0.0 n) (flying n xs) (x ∷ flying n xs)
+
+-- the values by which a log has grown past n
+abbrev pub joined : ℕ → List Value → List Value
+joined n log = take (length log - n) log
+
+-- a batch that enters the log waits no more and flies no more
+abbrev pub refiled : {Msg : Type 0} → Rules → Module Msg → ℕ → Core Msg → Past Msg → ℕ → Core Msg
+refiled R M me c past leaf =
+    let old = log_of R M me c.past in
+    let log = log_of R M me past in
+    record {
+      past = past;
+      waiting = absent (log_ids (joined (length old) log)) c.waiting;
+      flight = flying (length log) c.flight;
+      leaf = leaf;
+    }
+
+abbrev pub packed : {Msg : Type 0} → Formats Msg → ℕ → ℕ → ℕ → List (To × Msg) → List (To × List ℕ)
+packed F me e l [] = []
+packed F me e l (x ∷ xs) = (x.0, F.wrap (record { from = me; epoch = e; body = OfModule l x.1 })) ∷ packed F me e l xs
+
+-- the node takes an input in the instance of leader l of its epoch
+abbrev pub inputs : {Msg : Type 0} → Formats Msg → Rules → Module Msg → ℕ → Core Msg → ℕ → Input Msg → Turn Msg
+inputs F R M me c l input =
+    let made = made_in R M me c.past l input c.leaf in
+    record {
+      core = refiled R M me c (takes R M me c.past l input c.leaf) (c.leaf + made.used);
+      sends = packed F me c.past.epoch l made.sends;
+    }
+
+-- what the judge says of what an input asks for
+abbrev pub verdict : Rules → List Value → ℕ → ℕ → List (Slot × Batch) → Option (Slot × Batch) → Option Refusal
+verdict R before e l accepted None = None
+verdict R before e l accepted (Some x) = judge R before e l (marks accepted) x.1
+
+abbrev pub by_verdict : {Msg : Type 0} → Option Refusal → Turn Msg → Stepped Msg
+by_verdict None turn = Taken turn
+by_verdict (Some x) turn = Dropped (Refused x)
+
+-- one leaf is kept for the vote at an epoch's end
+abbrev pub has_leaves : {Msg : Type 0} → Module Msg → Params → ℕ → Bool
+has_leaves M p leaf = not (nat_lt (leaves_left (record { secret = []; height = p.setup.keys; used = leaf })) (suc (M.signs p)))
+
+-- an input in the instance of leader l, where it leads, keys are left and the judge agrees
+abbrev pub at_instance : {Msg : Type 0} → Formats Msg → Rules → Module Msg → ℕ → Core Msg → ℕ → Input Msg → Stepped Msg
+at_instance F R M me c l input =
+    let e = c.past.epoch in
+    let bf = before R M me c.past e in
+    cond (not (R.leads bf e l)) (Dropped NotLeader)
+    (cond (not (has_leaves M (R.params bf e l) c.leaf)) (Dropped NoKeys)
+    (by_verdict (verdict R bf e l (accepts (c.past.evidence e l)) (asked_in R M me c.past l input)) (inputs F R M me c l input)))
+
+-- the identities of what was cast
+abbrev pub flown : List (Slot × Batch) → List ReqId
+flown [] = []
+flown (x ∷ xs) = ids x.1 ++ flown xs
+
+-- whether an identity waits, is in flight, or is in the log
+abbrev pub is_known : {Msg : Type 0} → Rules → Module Msg → ℕ → Core Msg → ReqId → Bool
+is_known R M me c x = has_id x (ids c.waiting) || (has_id x (flown c.flight) || has_id x (log_ids (log_of R M me c.past)))
+
+abbrev pub takes_request : {Msg : Type 0} → Rules → Module Msg → ℕ → Core Msg → Request → Stepped Msg
+takes_request R M me c q =
+    cond (not (R.signed q)) (Dropped BadRequest)
+    (cond (is_known R M me c q.id) (Dropped Known)
+    (Taken (record { core = record c { waiting = c.waiting ++ q ∷ [] }; sends = [] })))
+
+abbrev pub takes_parcel : {Msg : Type 0} → Formats Msg → Rules → Module Msg → ℕ → Core Msg → ℕ → ℕ → Body Msg → Stepped Msg
+takes_parcel F R M me c from e (OfRequest q) = takes_request R M me c q
+takes_parcel F R M me c from e (OfModule l msg) =
+    cond (not (e == c.past.epoch)) (Dropped OtherEpoch)
+    (at_instance F R M me c l (Receive (record { 0 = from }) msg))
+
+abbrev pub takes_bytes : {Msg : Type 0} → Formats Msg → Rules → Module Msg → ℕ → Core Msg → Option (Parcel Msg) → Stepped Msg
+takes_bytes F R M me c None = Dropped NotPacket
+takes_bytes F R M me c (Some k) = takes_parcel F R M me c k.from k.epoch k.body
+
+-- the first n requests that pass, and what they leave
+abbrev pub cut : ℕ → (Request → Bool) → List Request → List Request
+cut n is_mine [] = []
+cut zero is_mine (q ∷ qs) = []
+cut (suc n) is_mine (q ∷ qs) = cond (is_mine q) (q ∷ cut n is_mine qs) (cut (suc n) is_mine qs)
+
+abbrev pub uncut : ℕ → (Request → Bool) → List Request → List Request
+uncut n is_mine [] = []
+uncut zero is_mine (q ∷ qs) = q ∷ qs
+uncut (suc n) is_mine (q ∷ qs) = cond (is_mine q) (uncut n is_mine qs) (q ∷ uncut (suc n) is_mine qs)
+
+-- a request that the node may cast: its bucket is the node's, and it is not marked in the node's own instance
+abbrev pub is_mine : {Msg : Type 0} → Rules → Module Msg → ℕ → Core Msg → Request → Bool
+is_mine R M me c q =
+    (R.owner (before R M me c.past c.past.epoch) c.past.epoch q.id == me) && not (has_id q.id (marks (accepts (c.past.evidence c.past.epoch me))))
+
+abbrev pub has_slot : ℕ → List (Slot × Batch) → Bool
+has_slot s [] = false
+has_slot s (x ∷ xs) = (x.0.0 == s) || has_slot s xs
+
+-- whether the node may cast at a slot of its segment: not cast, not filled, and the module takes casts there
+abbrev pub is_castable : {Msg : Type 0} → Module Msg → Params → ℕ → List (Item Msg) → List (Slot × Batch) → Slot → Bool
+is_castable M p me xs flight s = not (has_slot s.0 flight) && (not (is_some (delivered M p me xs s.0)) && is_some (M.asks p me xs (Cast s [])))
+
+abbrev pub first_slot : (Slot → Bool) → List Slot → Option Slot
+first_slot p [] = None
+first_slot p (s ∷ ss) = cond (p s) (Some s) (first_slot p ss)
+
+abbrev pub next_slot : {Msg : Type 0} → Rules → Module Msg → ℕ → Core Msg → Option Slot
+next_slot R M me c =
+    let p = params_of R M me c.past me in
+    first_slot (is_castable M p me (c.past.evidence c.past.epoch me) c.flight) p.slots
+
+-- a batch of waiting requests is cast at the slot
+abbrev pub casts_at : {Msg : Type 0} → Formats Msg → Rules → Module Msg → ℕ → Core Msg → Option Slot → Stepped Msg
+casts_at F R M me c None = Dropped NothingToCast
+casts_at F R M me c (Some s) =
+    let mine = is_mine R M me c in
+    let batch = cut R.batch mine c.waiting in
+    let d = record c { waiting = uncut R.batch mine c.waiting; flight = c.flight ++ (s, batch) ∷ [] } in
+    cond (not (has_leaves M (params_of R M me c.past me) c.leaf)) (Dropped NoKeys)
+    (Taken (inputs F R M me d me (Cast s batch)))
+
+-- one step of a node
+abbrev pub step : {Msg : Type 0} → Formats Msg → Rules → Module Msg → ℕ → Core Msg → NodeEvent → Stepped Msg
+step F R M me c (Gets bytes) = takes_bytes F R M me c (F.unwrap bytes)
+step F R M me c Proposes =
+    cond (not (R.leads (before R M me c.past c.past.epoch) c.past.epoch me)) (Dropped NotLeader)
+    (casts_at F R M me c (next_slot R M me c))
+step F R M me c (Fires l) = at_instance F R M me c l.0 Timeout

@@ -1,0 +1,22 @@
+-- The rules of the log, as functions of the log before an epoch. Logs are newest first.
+use Rattle.std.specs.Prelude.{ℕ, List, Bool}
+use Rattle.iss_request.specs.declared.ids.ReqId.{ReqId}
+use Rattle.iss_request.specs.declared.requests.Request.{Request}
+use Rattle.iss_request.specs.declared.requests.Value.{Value}
+use Rattle.iss_sb.specs.declared.effects.Params.{Params}
+
+pub record Rules : Type 0 where
+  -- how many slots an epoch has, and how many no epoch passes
+  pub slots : List Value → ℕ → ℕ
+  pub most : ℕ
+  -- the leader of a slot, who leads an epoch, and who owns a request there
+  pub leader : List Value → ℕ → ℕ
+  pub leads : List Value → ℕ → ℕ → Bool
+  pub owner : List Value → ℕ → ReqId → ℕ
+  -- whether a request's client and signature are good, and whether its number is inside the window of an epoch
+  pub signed : Request → Bool
+  pub inside : List Value → ℕ → ReqId → Bool
+  -- the most requests of a batch
+  pub batch : ℕ
+  -- what an instance of an epoch is started with, by its leader
+  pub params : List Value → ℕ → ℕ → Params

@@ -1,0 +1,9 @@
+//! What a node and a cluster do, as definitions over lists, and the composition theorem over every list of events.
+//! No code runs here: the node and the world cite these definitions in their contracts (ISS, whole protocol).
+#![tactic(auto)]
+
+pub mod causes;
+pub mod theorems;
+
+pub use causes::{NodeEvent, Refusal, Why};
+pub use theorems::{composition, ordered_runs};

@@ -1,0 +1,159 @@
+//! Packets that were sent, which of them wait, and which cores are held.
+ghost use Rattle.std.specs.Prelude.{◌≡◌, ◌<◌, length, [], ◌∷◌, vec_len, vec_capacity, true, false, ◌++◌, IfOk, OnOk, is_ok, if◌then◌else◌};
+ghost use Rattle.std.specs.Option.{option_copied};
+ghost use Rattle.iss_base.specs.Lists.{nth};
+
+use crate::packets::Sent;
+use crate::queues::Queue;
+use iss_request::{Bytes, NoMemory};
+use std::alloc::Global;
+use std::marker::Model;
+
+/// Every packet that was sent, in the order of sending, which of them wait, and which cores are held.
+///
+/// A packet is numbered by its place, from 0. The packets that wait are found by core, so that what waits for a held
+/// core costs nothing.
+#[derive(Drop)]
+pub struct Network {
+    packets: Vec<Sent>,
+    // for each packet whether it waits
+    waiting: Vec<bool>,
+    // for each core the numbers of its packets that wait, and maybe of some that wait no more
+    queues: Vec<Queue>,
+    held: Vec<bool>,
+}
+
+impl Model for Network {
+    ghost use Rattle.iss_network.specs.Network as network;
+    ghost use Rattle.iss_network.specs.Kept.{flagged, IsKept};
+
+    ghost Value = { network.Network };
+
+    ghost view = { λ w. record { packets = w.packets.items; waits = flagged w.waiting.items; held = w.held.items } };
+
+    ghost invariant = { λ w. IsKept w.packets.items w.waiting.items w.queues.items w.held.items };
+}
+
+impl Network {
+    ghost use Rattle.iss_network.specs.Network.{empty_network, posted, settled, cleared, held_to, due};
+    ghost use Rattle.iss_network.specs.Kept.{gathered};
+
+    /// No packets yet, between this many cores, none of them held.
+    pub fn new(alloc: Global, cores: u32) -> Result<Network, NoMemory>
+        ensures { IfOk result (λ w. w ≡ empty_network cores) }
+    {
+        let mut queues = Vec::new(alloc);
+        for _ in 0..cores {
+            queues.push(Queue::new(alloc))?;
+        }
+        Ok(Network {
+            packets: Vec::new(alloc),
+            waiting: Vec::new(alloc),
+            queues,
+            held: vec![in alloc; false; cores as usize]?,
+        })
+    }
+
+    /// A packet is sent, takes the next number, and waits. Where memory is wanting, nothing changes.
+    pub fn post(&mut self, from: u32, to: u32, bytes: Bytes) -> Result<(), NoMemory>
+        requires { to < length self.old.held }
+        ensures { self.new ≡ (if is_ok result then posted self.old (record { from = from; to = to; bytes = bytes }) else self.old) }
+    {
+        let number = self.packets.len() as u64;
+        self.packets.reserve(1)?;
+        self.waiting.reserve(1)?;
+        self.queues[to as usize].push(number)?;
+        put(&mut self.waiting, true);
+        put(&mut self.packets, Sent { from, to, bytes });
+        Ok(())
+    }
+
+    /// How many packets were sent.
+    pub fn count(&self) -> u64
+        ensures { result ≡ length self.now.packets }
+    {
+        self.packets.len() as u64
+    }
+
+    /// Packet `number`, if it was sent.
+    pub fn packet(&self, number: u64) -> Option<&Sent>
+        ensures { option_copied result ≡ nth self.now.packets number }
+    {
+        self.packets.get(number as usize)
+    }
+
+    /// Every packet that was sent, by its number.
+    pub fn packets(&self) -> &[Sent]
+        ensures { result.now ≡ self.now.packets }
+    {
+        self.packets.as_slice()
+    }
+
+    /// Packet `number` waits no more. At any other number nothing changes.
+    pub fn settle(&mut self, number: u64)
+        ensures { self.new ≡ settled self.old number }
+    {
+        let place = number as usize;
+        if place < self.waiting.len() {
+            self.waiting[place] = false;
+        }
+    }
+
+    /// Pumps pass over this core from now on.
+    pub fn hold(&mut self, core: u32)
+        requires { core < length self.old.held }
+        ensures { self.new ≡ held_to self.old core true }
+    {
+        self.held[core as usize] = true;
+    }
+
+    /// Pumps pass over this core no longer.
+    pub fn free(&mut self, core: u32)
+        requires { core < length self.old.held }
+        ensures { self.new ≡ held_to self.old core false }
+    {
+        self.held[core as usize] = false;
+    }
+
+    /// No packet for this core waits any more.
+    pub fn drop_for(&mut self, core: u32)
+        requires { core < length self.old.held }
+        ensures { self.new ≡ cleared self.old core }
+    {
+        self.queues[core as usize].clear(&mut self.waiting);
+    }
+
+    /// The numbers of the packets that wait for cores that are not held, ascending: what a pump takes now.
+    pub fn due(&mut self, alloc: Global) -> Result<Vec<u64>, NoMemory>
+        ensures same { self.new ≡ self.old }
+        ensures found { IfOk result (λ numbers. numbers.items ≡ due self.old) }
+    {
+        let mut numbers = Vec::new(alloc);
+        for core in 0..self.held.len() {
+            self.gather(core, &mut numbers)?;
+        }
+        numbers.sort()?;
+        Ok(numbers)
+    }
+
+    /// Adds the numbers of the packets that wait for this core, unless it is held.
+    fn gather(&mut self, core: usize, numbers: &mut Vec<u64>) -> Result<(), NoMemory>
+        requires { core < length self.old.held }
+        ensures same { self.new ≡ self.old }
+        ensures added { OnOk result (numbers.new.items ≡ numbers.old.items ++ gathered self.old core) }
+    {
+        if !self.held[core] {
+            self.queues[core].prune(&self.waiting);
+            numbers.extend_from_slice(self.queues[core].numbers())?;
+        }
+        Ok(())
+    }
+}
+
+/// Puts an element at the end, where room was made for it.
+fn put<T: Drop>(items: &mut Vec<T>, item: T)
+    requires { vec_len items.old < vec_capacity items.old }
+    ensures { items.new.items ≡ items.old.items ++ item ∷ [] }
+{
+    let _ = items.push(item);
+}

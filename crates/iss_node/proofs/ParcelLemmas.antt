@@ -1,0 +1,38 @@
+use Rattle.std.proofs.Common.{arith, ◌≡◌, ℕ, suc, ◌+◌, ◌<◌, List, [], ◌∷◌, ◌++◌, Option, Some, None, length, take, drop, get_or, refl, sym, ap, ◌∙◌, subst, append_assoc, add-one}
+use Rattle.std.proofs.lemmas.List.{append-nil}
+use Rattle.std.proofs.Math.Seq.{take-suc}
+use Rattle.iss_model.specs.Formats.{parcel_in, whole}
+use Rattle.iss_model.specs.Node.{Formats, OfModule, Parcel, packed}
+use Rattle.iss_request.specs.Fields.{Bad, Good, IsBad, IsUnreadable, Parsed, Reading, left}
+use Rattle.iss_request.specs.Parsing as parsing
+use Rattle.iss_request.specs.Parsing.{Parser, all_of}
+use Rattle.iss_sb.specs.declared.effects.To.{To}
+use Rattle.iss_sb.specs.Evidence.{Module}
+
+-- what does not begin with a thing is not one whole
+pub bad-whole : {A : Type 0} (parse : List ℕ → Parsed A) (r : Reading) (bytes : List ℕ) (at : ℕ) → r ≡ record { all = bytes; at = 0 } → IsUnreadable parse r at → whole (parse bytes) ≡ None
+bad-whole parse r bytes at is h =
+    let e : left r ≡ bytes = ap (λ (z : Reading). left z) is in
+    ap (λ p. whole p) (ap parse (sym e) ∙ h.found)
+
+all_of-good : {A : Type 0} (parse : Parser A) (bytes : List ℕ) (x : A) → parse bytes ≡ Good x [] → all_of parse bytes ≡ Good x []
+unfolding all_of parsing.◌>>=◌ parsing.at_end
+all_of-good parse bytes x e = rw e refl
+
+-- what is not one thing is not one whole
+pub all-whole : {A : Type 0} (parse : Parser A) (bytes : List ℕ) → IsBad (all_of parse bytes) → whole (parse bytes) ≡ None
+all-whole {A} parse bytes h = go (parse bytes) refl
+  where
+    go : (p : Parsed A) → parse bytes ≡ p → whole p ≡ None
+    go (Good thing []) e = let good : all_of parse bytes ≡ Good thing [] = all_of-good parse bytes thing e in let bad = h.1 in cc
+    go (Good thing (b ∷ rest)) e = refl
+    go (Bad at) e = refl
+
+packed-append : {Msg : Type 0} (F : Formats Msg) (me l : ℕ) (xs ys : List (To × Msg)) → packed F me 0 l (xs ++ ys) ≡ packed F me 0 l xs ++ packed F me 0 l ys
+packed-append F me l [] ys = refl
+packed-append F me l (x ∷ xs) ys = ap (λ zs. (x.0, F.wrap (record { from = me; epoch = 0; body = OfModule l x.1 })) ∷ zs) (packed-append F me l xs ys)
+
+pub packed-next : {Msg : Type 0} (F : Formats Msg) (me l : ℕ) (xs : List (To × Msg)) (i : ℕ) (x : To × Msg) → i < length xs → x ≡ get_or xs i x → packed F me 0 l (take i xs) ++ (x.0, F.wrap (record { from = me; epoch = 0; body = OfModule l x.1 })) ∷ [] ≡ packed F me 0 l (take (i + 1) xs)
+packed-next {Msg} F me l xs i x lt is =
+    let e : take (i + 1) xs ≡ take i xs ++ x ∷ [] = rw add-one (take-suc xs i x lt ∙ ap (λ (y : To × Msg). take i xs ++ y ∷ []) (sym is)) in
+    sym (ap (λ ys. packed F me 0 l ys) e ∙ packed-append F me l (take i xs) (x ∷ []))

@@ -1,0 +1,14 @@
+use Rattle.std.proofs.Common.{◌≡◌, ◌∙◌, ap, sym, length, ◌++◌}
+use Rattle.iss_node.proofs.growth.grow.Goals as goal
+
+pub returns : goal.returns
+returns c =
+    let filled = c.in_ok-fill_all.ensures in
+    let advanced = c.in_ok-_joined.ensures in
+    record {
+      count = ap (λ xs. length xs) c.entries-held.ensures;
+      joined = advanced.joined;
+      entries = advanced.entries ∙ ap (λ xs. xs ++ advanced.joined) filled.entries;
+      values = λ s. advanced.values s ∙ filled.values s;
+      hole = advanced.hole;
+    }

@@ -1,0 +1,7 @@
+use Rattle.std.proofs.Common.{◌≡◌, take}
+use Rattle.iss_model.specs.Formats.{formats_of}
+use Rattle.iss_model.specs.Node.{packed}
+use Rattle.iss_node.proofs.parcels.pack.Given as goal
+
+abbrev pub invariant-loop-to : goal.invariant-loop-to
+invariant-loop-to g l = l.packets ≡ packed (formats_of l.setup g.M.Sequenced.meaning) l.me.0 0 l.leader.0 (take l.to-index l.sends)

@@ -1,0 +1,8 @@
+use Rattle.std.proofs.Common.{sym, refl, ap, ◌∙◌}
+use Rattle.iss_node.proofs.ParcelLemmas.{all-whole}
+use Rattle.iss_model.specs.Formats.{parcel_in}
+use Rattle.iss_packet.specs.Packets.{parse_packet}
+use Rattle.iss_node.proofs.parcels.unwrap.Goals as goal
+
+pub returns-in-Err-NotPacket : goal.returns-in-Err-NotPacket
+returns-in-Err-NotPacket g c = sym (ap (λ o. parcel_in g.M.Sequenced.meaning o) (all-whole (parse_packet c.args.setup.now.n) c.args.bytes.now (rw c.in-Err-NotPacket.field-0-is at c.in-Err-NotPacket.ensures.bad refl)))

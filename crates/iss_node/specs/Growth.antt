@@ -1,0 +1,30 @@
+-- How a log grows by deliveries, and what that does to a node's requests.
+use Rattle.std.specs.Prelude.{◌≡◌, ℕ, List, ◌++◌, length, Option, None}
+use Rattle.iss_base.specs.Lists.{first_of}
+use Rattle.iss_buckets.specs.Waiting.{without}
+use Rattle.iss_ids.specs.Set.{and_ids}
+use Rattle.iss_log.specs.LogState.{LogState, value_at}
+use Rattle.iss_node.specs.Cells.{given}
+use Rattle.iss_request.specs.Log.{ids}
+use Rattle.iss_request.specs.declared.ids.ReqId.{ReqId}
+use Rattle.iss_request.specs.declared.ids.Slot.{Slot}
+use Rattle.iss_request.specs.declared.requests.Request.{Request}
+use Rattle.iss_request.specs.declared.requests.Value.{Value}
+use Rattle.iss_request.specs.declared.requests.Value.TheVariants.{Nil, Batch as Holds}
+
+-- empty slots took what was delivered for them, and the log is the longest run of filled slots again
+pub record IsGrown (old : LogState) (ds : List (Slot × Value)) (new : LogState) (held : ℕ) : Type 0 where
+  pub count : held ≡ length old.entries
+  pub joined : List Value
+  pub entries : new.entries ≡ old.entries ++ joined
+  pub values : (s : ℕ) → value_at new s ≡ first_of (value_at old s) (given ds s)
+  pub hole : value_at new (length new.entries) ≡ None
+
+-- the requests that wait once a value is in the log, and the identities of the log with it
+abbrev pub waits_on : List Request → Value → List Request
+waits_on qs Nil = qs
+waits_on qs (Holds b) = without (ids b) qs
+
+abbrev pub and_values : List ReqId → Value → List ReqId
+and_values xs Nil = xs
+and_values xs (Holds b) = and_ids xs b

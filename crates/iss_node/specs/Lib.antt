@@ -1,0 +1,9 @@
+pub mod Answers
+pub mod Casts
+pub mod Cells
+pub mod Growth
+pub mod Marks
+pub mod Parcels
+pub mod Shape
+pub mod State
+pub mod Steps

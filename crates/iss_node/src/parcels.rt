@@ -1,0 +1,171 @@
+//! What packets hold: a module's message, or a client's request.
+ghost use Rattle.std.specs.Prelude.{◌≡◌, IfOk, IfSome, true};
+ghost use Rattle.iss_model.specs.Formats.{formats_of, packet_as, parcel_in, parcel_of_kind, message_in, request_in, whole};
+ghost use Rattle.iss_model.specs.Node.{Formats, OfModule, packed};
+ghost use Rattle.iss_node.specs.Parcels.{IsFromNode, seen, seen_some};
+ghost use Rattle.iss_request.specs.declared.setups.Setup.{Setup};
+ghost use Rattle.iss_request.specs.Formats.{parse_request};
+ghost use Rattle.iss_packet.specs.Packets.{is_routed, parse_packet};
+
+use iss_packet::{Packet, PacketError, PacketKind};
+use iss_request::{Bytes, DecodeError, Epoch, Fields, NoMemory, NodeId, Request, Row, Setup, Writer};
+use iss_sb::{Sequenced, To};
+use std::alloc::Global;
+
+/// What a packet's body holds.
+#[derive(Drop)]
+pub enum Body<T> {
+    Message { leader: NodeId, msg: T },
+    Request(Request),
+}
+
+/// What a packet holds, and who sent it.
+#[derive(Drop)]
+pub struct Parcel<T> {
+    pub from: NodeId,
+    pub epoch: Epoch,
+    pub body: Body<T>,
+}
+
+/// What these bytes hold in a cluster of this set-up, if they are a packet.
+pub fn unwrap<M: Sequenced>(
+    alloc: Global,
+    setup: &Setup,
+    bytes: &[u8],
+) -> Result<Option<Parcel<M::Msg>>, NoMemory>
+    ensures seen { IfOk result (λ parcel. seen parcel ≡ (formats_of setup.now M.meaning).unwrap bytes.now) }
+    ensures from { IfOk result (λ parcel. IfSome parcel (IsFromNode setup.now.n)) }
+{
+    match Packet::decode(alloc, setup.n, bytes) {
+        Ok(packet) => open::<M>(alloc, setup.n, packet),
+        Err(PacketError::NotPacket) => Ok(None),
+        Err(PacketError::NoMemory) => Err(NoMemory),
+    }
+}
+
+// What a packet holds. Votes, asks and pieces are not there yet.
+fn open<M: Sequenced>(
+    alloc: Global,
+    n: u32,
+    packet: Packet,
+) -> Result<Option<Parcel<M::Msg>>, NoMemory>
+    requires { is_routed n packet ≡ true }
+    ensures seen { IfOk result (λ parcel. seen parcel ≡ parcel_of_kind M.meaning packet packet.kind) }
+    ensures from { IfOk result (λ parcel. IfSome parcel (IsFromNode n)) }
+{
+    let _n = n;
+    match packet.kind {
+        PacketKind::Message => open_message::<M>(alloc, packet),
+        PacketKind::Request => open_request::<M::Msg>(alloc, packet),
+        PacketKind::Vote | PacketKind::Ask | PacketKind::Piece => Ok(None),
+    }
+}
+
+fn open_message<M: Sequenced>(
+    alloc: Global,
+    packet: Packet,
+) -> Result<Option<Parcel<M::Msg>>, NoMemory>
+    ensures seen { IfOk result (λ parcel. seen parcel ≡ message_in packet (whole (M.meaning.parse packet.body))) }
+    ensures from { IfOk result (λ parcel. IfSome parcel (λ k. k.from.0 ≡ packet.from)) }
+{
+    let Some(msg) = read_message::<M>(alloc, packet.body.as_slice())? else {
+        return Ok(None);
+    };
+    Ok(Some(Parcel {
+        from: NodeId(packet.from),
+        epoch: packet.epoch,
+        body: Body::Message {
+            leader: NodeId(packet.leader),
+            msg,
+        },
+    }))
+}
+
+// The message that takes up all of the bytes, if one does.
+fn read_message<M: Sequenced>(alloc: Global, bytes: &[u8]) -> Result<Option<M::Msg>, NoMemory>
+    ensures { IfOk result (λ msg. msg ≡ whole (M.meaning.parse bytes.now)) }
+{
+    let mut fields = Fields::over(bytes);
+    match M::decode(alloc, &mut fields) {
+        Ok(msg) => {
+            if fields.is_done() {
+                Ok(Some(msg))
+            } else {
+                Ok(None)
+            }
+        }
+        Err(DecodeError::BadField { .. }) => Ok(None),
+        Err(DecodeError::NoMemory) => Err(NoMemory),
+    }
+}
+
+fn open_request<T: Drop>(alloc: Global, packet: Packet) -> Result<Option<Parcel<T>>, NoMemory>
+    ensures seen { IfOk result (λ parcel. seen parcel ≡ request_in packet (whole (parse_request packet.body))) }
+    ensures asked { IfOk result (λ parcel. IfSome parcel (IsFromNode 0)) }
+{
+    let Some(request) = read_request(alloc, packet.body.as_slice())? else {
+        return Ok(None);
+    };
+    Ok(Some(Parcel {
+        from: NodeId(packet.from),
+        epoch: packet.epoch,
+        body: Body::Request(request),
+    }))
+}
+
+// The request that takes up all of the bytes, if one does.
+fn read_request(alloc: Global, bytes: &[u8]) -> Result<Option<Request>, NoMemory>
+    ensures { IfOk result (λ request. request ≡ whole (parse_request bytes.now)) }
+{
+    let mut fields = Fields::over(bytes);
+    match iss_request::read_request(alloc, &mut fields) {
+        Ok(request) => {
+            if fields.is_done() {
+                Ok(Some(request))
+            } else {
+                Ok(None)
+            }
+        }
+        Err(DecodeError::BadField { .. }) => Ok(None),
+        Err(DecodeError::NoMemory) => Err(NoMemory),
+    }
+}
+
+/// The packets of a step's messages, in their order.
+pub fn pack<M: Sequenced>(
+    alloc: Global,
+    setup: &Setup,
+    me: NodeId,
+    leader: NodeId,
+    sends: &[(To, M::Msg)],
+) -> Result<Row<(To, Bytes)>, NoMemory>
+    ensures { IfOk result (λ packets. packets ≡ packed (formats_of setup.now M.meaning) me.0 0 leader.0 sends.now) }
+{
+    let _setup = setup;
+    let mut packets = Row::new(alloc);
+    for (to, msg) in sends {
+        packets.push((*to, wrap::<M>(alloc, me, leader, msg)?))?;
+    }
+    Ok(packets)
+}
+
+// The packet of a message of the first epoch.
+fn wrap<M: Sequenced>(
+    alloc: Global,
+    me: NodeId,
+    leader: NodeId,
+    msg: &M::Msg,
+) -> Result<Bytes, NoMemory>
+    ensures { IfOk result (λ bytes. (s : Setup) → bytes ≡ (formats_of s M.meaning).wrap (record { from = me.0; epoch = 0; body = OfModule leader.0 msg.now })) }
+{
+    let mut out = Writer::new(alloc);
+    M::encode(msg, &mut out)?;
+    let packet = Packet {
+        kind: PacketKind::Message,
+        from: me.0,
+        epoch: Epoch(0),
+        leader: leader.0,
+        body: out.into_bytes(),
+    };
+    packet.encode(alloc)
+}

@@ -1,0 +1,168 @@
+-- A packet has one spelling.
+use Rattle.std.proofs.Common.{◌≡◌, ℕ, ◌^◌, ◌≤◌, Bool, true, false, ltb, leb, eqb, List, ◌∷◌, ◌++◌, length, refl, sym, ap, subst, ◌∙◌, append_assoc, arith, inl, inr, ◌⊎◌, eqb-true}
+use Rattle.std.specs.Int.{w32, w64, to_be_bytes}
+use Rattle.std.proofs.lemmas.Bool.{ltb-true, leb-true, lt-ltb, le-leb}
+use Rattle.iss_request.specs.Fields.{Good, Bad, IsBad, IsGrammar}
+use Rattle.iss_request.specs.Parsing.{done, byte, number}
+use Rattle.iss_request.proofs.ParserLemmas.{then_good, first_bad, then_parts, done_parts, test_passed, test_failed, test_bad, test_parts, byte_again, byte_parts, both_true, wide32, wide64, number_again, number_parts, block_again, block_parts}
+use Rattle.iss_packet.specs.declared.packets.Packet.{Packet}
+use Rattle.iss_packet.specs.declared.packets.PacketKind.{PacketKind}
+use Rattle.iss_packet.specs.declared.packets.PacketKind.TheVariants.{Message, Vote, Ask, Piece, Request}
+use Rattle.iss_packet.specs.Packets.{kind_byte, is_kind, kind_at, is_routed, is_spellable, route_bytes, body_bytes, no_packet, spell_packet, parse_version, parse_kind, parse_size, parse_parts, parse_packet}
+use Rattle.iss_packet.proofs.PacketLemmas.{packet_spelled, packet_unspelled}
+
+-- ---- kinds
+
+kind_again : (k : PacketKind) → (is_kind (kind_byte k) ≡ true) × (kind_at (kind_byte k) ≡ k)
+kind_again Message = (refl, refl)
+kind_again Vote = (refl, refl)
+kind_again Ask = (refl, refl)
+kind_again Piece = (refl, refl)
+kind_again Request = (refl, refl)
+
+one_of_five : (n : ℕ) → is_kind n ≡ true → (n ≡ 1) ⊎ (n ≡ 2) ⊎ (n ≡ 3) ⊎ (n ≡ 4) ⊎ (n ≡ 5)
+one_of_five n e =
+    let both = both_true (leb 1 n) (leb n 5) e in
+    let low : 1 ≤ n = leb-true 1 n both.0 in
+    let high : n ≤ 5 = leb-true n 5 both.1 in
+    grind arith
+
+kind_back : (n : ℕ) → is_kind n ≡ true → kind_byte (kind_at n) ≡ n
+kind_back n e =
+    let P : ℕ → Type 0 = λ m. kind_byte (kind_at m) ≡ m in
+    elim (one_of_five n e) [
+      | inl a ↦ subst P (sym a) refl
+      | inr (inl a) ↦ subst P (sym a) refl
+      | inr (inr (inl a)) ↦ subst P (sym a) refl
+      | inr (inr (inr (inl a))) ↦ subst P (sym a) refl
+      | inr (inr (inr (inr a))) ↦ subst P (sym a) refl
+    ]
+
+done_good : {A : Type 0} (x : A) (bytes : List ℕ) → done x bytes ≡ Good x bytes
+unfolding done
+done_good x bytes = refl
+
+kind_read : (k : PacketKind) (rest : List ℕ) → parse_kind (kind_byte k ∷ rest) ≡ Good k rest
+unfolding parse_kind
+kind_read k rest =
+    let again = kind_again k in
+    then_good _ _ _ rest rest (kind_byte k) k (test_passed is_kind byte _ rest (kind_byte k) (byte_again _ rest) again.0) (ap (λ (x : PacketKind). done x rest) again.1 ∙ done_good k rest)
+
+kind_parts : (bytes rest : List ℕ) (k : PacketKind) → parse_kind bytes ≡ Good k rest → bytes ≡ kind_byte k ∷ rest
+unfolding parse_kind
+kind_parts bytes rest k e =
+    let a = then_parts _ _ bytes rest k e in
+    let found = test_parts is_kind byte bytes a.mid a.thing a.first in
+    let ends = done_parts (kind_at a.thing) k a.mid rest a.second in
+    let same : kind_byte k ≡ a.thing = ap kind_byte (sym ends.0) ∙ kind_back a.thing found.1 in
+    byte_parts bytes a.mid a.thing found.0 ∙ ap (λ (x : ℕ). x ∷ a.mid) (sym same) ∙ ap (λ (x : List ℕ). kind_byte k ∷ x) ends.1
+
+-- ---- the other fields
+
+abbrev first : ℕ → Bool
+first v = eqb v 1
+
+abbrev fits : ℕ → Bool
+fits n = leb n 200000000
+
+version_read : (rest : List ℕ) → parse_version (1 ∷ rest) ≡ Good 1 rest
+unfolding parse_version
+version_read rest = test_passed first byte _ rest 1 (byte_again 1 rest) refl
+
+version_parts : (bytes rest : List ℕ) (v : ℕ) → parse_version bytes ≡ Good v rest → bytes ≡ 1 ∷ rest
+unfolding parse_version
+version_parts bytes rest v e =
+    let found = test_parts first byte bytes rest v e in
+    rw (← eqb-true v 1 found.1) (byte_parts bytes rest v found.0)
+
+no_version : (rest : List ℕ) → parse_version (0 ∷ rest) ≡ Bad 0
+unfolding parse_version
+no_version rest = test_failed first byte _ rest 0 (byte_again 0 rest) refl
+
+size_read : (n : ℕ) (rest : List ℕ) → n ≤ 200000000 → parse_size (to_be_bytes w32 n ++ rest) ≡ Good n rest
+unfolding parse_size
+size_read n rest le = test_passed fits (number w32) _ rest n (number_again w32 (2 ^ 32) wide32 n rest (omega arith)) (le-leb n 200000000 le)
+
+record IsSize (bytes rest : List ℕ) (n : ℕ) : Type 0 where
+  pub parts : bytes ≡ to_be_bytes w32 n ++ rest
+  pub small : n ≤ 200000000
+
+size_parts : (bytes rest : List ℕ) (n : ℕ) → parse_size bytes ≡ Good n rest → IsSize bytes rest n
+unfolding parse_size
+size_parts bytes rest n e =
+    let found = test_parts fits (number w32) bytes rest n e in
+    record { parts = (number_parts w32 (2 ^ 32) wide32 bytes rest n found.0).parts; small = leb-true n 200000000 found.1 }
+
+-- ---- packets
+
+regrouped : (p : Packet) (rest : List ℕ) → (route_bytes p ++ body_bytes p.body) ++ rest ≡ 1 ∷ (kind_byte p.kind ∷ (p.from ∷ (to_be_bytes w64 p.epoch.0 ++ (p.leader ∷ (to_be_bytes w32 (length p.body) ++ (p.body ++ rest))))))
+regrouped p rest = simp append_assoc
+
+parts_again : (p : Packet) (rest : List ℕ) → is_spellable p ≡ true → parse_parts ((route_bytes p ++ body_bytes p.body) ++ rest) ≡ Good p rest
+unfolding parse_parts
+parts_again p rest e =
+    let both = both_true (ltb p.epoch.0 (2 ^ 64)) (fits (length p.body)) e in
+    let tail = p.body ++ rest in
+    let sized = to_be_bytes w32 (length p.body) ++ tail in
+    let epoch = to_be_bytes w64 p.epoch.0 in
+    let body_read = block_again p.body rest (length p.body) refl in
+    ap parse_parts (regrouped p rest) ∙
+    then_good _ _ _ (kind_byte p.kind ∷ (p.from ∷ (epoch ++ (p.leader ∷ sized)))) rest 1 p (version_read _)
+    (then_good _ _ _ (p.from ∷ (epoch ++ (p.leader ∷ sized))) rest p.kind p (kind_read p.kind _)
+    (then_good _ _ _ (epoch ++ (p.leader ∷ sized)) rest p.from p (byte_again p.from _)
+    (then_good _ _ _ (p.leader ∷ sized) rest p.epoch.0 p (number_again w64 (2 ^ 64) wide64 p.epoch.0 _ (ltb-true _ _ both.0))
+    (then_good _ _ _ sized rest p.leader p (byte_again p.leader sized)
+    (then_good _ _ _ tail rest (length p.body) p (size_read (length p.body) tail (leb-true _ _ both.1))
+    (then_good _ _ _ rest rest p.body p body_read (done_good p rest)))))))
+
+record IsPacket (bytes rest : List ℕ) (p : Packet) : Type 0 where
+  pub parts : bytes ≡ (route_bytes p ++ body_bytes p.body) ++ rest
+  pub spelled : is_spellable p ≡ true
+
+parts_parts : (bytes rest : List ℕ) (p : Packet) → parse_parts bytes ≡ Good p rest → IsPacket bytes rest p
+unfolding parse_parts
+parts_parts bytes rest p e =
+    let a = then_parts _ _ bytes rest p e in
+    let b = then_parts _ _ a.mid rest p a.second in
+    let c = then_parts _ _ b.mid rest p b.second in
+    let d = then_parts _ _ c.mid rest p c.second in
+    let f = then_parts _ _ d.mid rest p d.second in
+    let g = then_parts _ _ f.mid rest p f.second in
+    let h = then_parts _ _ g.mid rest p g.second in
+    let made : Packet = record { kind = b.thing; from = c.thing; epoch = record { 0 = d.thing }; leader = f.thing; body = h.thing } in
+    let ends = done_parts made p h.mid rest h.second in
+    let epoch = number_parts w64 (2 ^ 64) wide64 c.mid d.mid d.thing d.first in
+    let size = size_parts f.mid g.mid g.thing g.first in
+    let body = block_parts g.thing g.mid h.mid h.thing h.first in
+    let tail : f.mid ≡ to_be_bytes w32 (length h.thing) ++ (h.thing ++ rest) = size.parts ∙ ap (λ (n : ℕ). to_be_bytes w32 n ++ g.mid) (sym body.len) ∙ ap (λ (x : List ℕ). to_be_bytes w32 (length h.thing) ++ x) (body.parts ∙ ap (λ (x : List ℕ). h.thing ++ x) ends.1) in
+    let behind : c.mid ≡ to_be_bytes w64 d.thing ++ (f.thing ∷ (to_be_bytes w32 (length h.thing) ++ (h.thing ++ rest))) = epoch.parts ∙ ap (λ (x : List ℕ). to_be_bytes w64 d.thing ++ x) (byte_parts d.mid f.mid f.thing f.first ∙ ap (λ (x : List ℕ). f.thing ∷ x) tail) in
+    let whole : bytes ≡ 1 ∷ (kind_byte b.thing ∷ (c.thing ∷ (to_be_bytes w64 d.thing ++ (f.thing ∷ (to_be_bytes w32 (length h.thing) ++ (h.thing ++ rest)))))) =
+    version_parts bytes a.mid a.thing a.first ∙ ap (λ (x : List ℕ). 1 ∷ x) (kind_parts a.mid b.mid b.thing b.first ∙ ap (λ (x : List ℕ). kind_byte b.thing ∷ x) (byte_parts b.mid c.mid c.thing c.first ∙ ap (λ (x : List ℕ). c.thing ∷ x) behind)) in
+    let small : length h.thing ≤ 200000000 = omega (arith, body.len, size.small) in
+    subst (λ (x : Packet). IsPacket bytes rest x) ends.0 record {
+      parts = whole ∙ sym (regrouped made rest);
+      spelled = rw (lt-ltb d.thing (2 ^ 64) epoch.below, le-leb (length h.thing) 200000000 small) refl;
+    }
+
+routed_whole : (n : ℕ) (p : Packet) (b : Bool) → is_routed n p ≡ b → is_spellable p ≡ true → ((rest : List ℕ) → parse_packet n (spell_packet p ++ rest) ≡ Good p rest) ⊎ ((rest : List ℕ) → IsBad (parse_packet n (spell_packet p ++ rest)))
+unfolding parse_packet
+routed_whole n p true r e = inl (λ rest. rw (packet_spelled p (sym e)) (test_passed (is_routed n) parse_parts _ rest p (parts_again p rest e) r))
+routed_whole n p false r e = inr (λ rest. rw (packet_spelled p (sym e)) (0, test_failed (is_routed n) parse_parts _ rest p (parts_again p rest e) r))
+
+no_packet_bad : (n : ℕ) (rest : List ℕ) → IsBad (parse_packet n (no_packet ++ rest))
+unfolding parse_packet parse_parts
+no_packet_bad n rest = (0, test_bad (is_routed n) parse_parts _ 0 (first_bad _ _ _ 0 (no_version rest)))
+
+packet_whole : (n : ℕ) (p : Packet) (b : Bool) → is_spellable p ≡ b → ((rest : List ℕ) → parse_packet n (spell_packet p ++ rest) ≡ Good p rest) ⊎ ((rest : List ℕ) → IsBad (parse_packet n (spell_packet p ++ rest)))
+packet_whole n p true e = routed_whole n p (is_routed n p) refl e
+packet_whole n p false e = inr (λ rest. rw (packet_unspelled p (sym e)) (no_packet_bad n rest))
+
+packet_only : (n : ℕ) (bytes rest : List ℕ) (p : Packet) → parse_packet n bytes ≡ Good p rest → bytes ≡ spell_packet p ++ rest
+unfolding parse_packet
+packet_only n bytes rest p e =
+    let found = test_parts (is_routed n) parse_parts bytes rest p e in
+    let is = parts_parts bytes rest p found.0 in
+    rw (packet_spelled p (sym is.spelled)) is.parts
+
+pub packet_grammar : (n : ℕ) → IsGrammar spell_packet (parse_packet n)
+packet_grammar n = record { only = packet_only n; whole = λ p. packet_whole n p (is_spellable p) refl }

@@ -1,0 +1,84 @@
+-- How packets are spelled in bytes, and how they are read.
+--
+--   packet    version (1 byte, 1), kind (1), from (1), epoch (8), leader (1), length of the body (4, at most
+--             200,000,000), body
+--
+-- A module's message is from a node, in the instance of a node. A vote, an ask and a piece are from a node, and
+-- have leader 0. A request is from nobody: 255, epoch 0, leader 0.
+use Rattle.std.specs.Prelude.{ℕ, ◌^◌, List, [], ◌∷◌, ◌++◌, length, Bool, nat_le, nat_lt, ◌==◌, ◌&&◌, if◌then◌else◌}
+use Rattle.std.specs.Int.{w32, w64, to_be_bytes}
+use Rattle.iss_request.specs.Parsing.{Parser, ◌>>=◌, done, such_that, byte, number, block}
+use Rattle.iss_packet.specs.declared.packets.Packet.{Packet}
+use Rattle.iss_packet.specs.declared.packets.PacketKind.{PacketKind}
+use Rattle.iss_packet.specs.declared.packets.PacketKind.TheVariants.{Message, Vote, Ask, Piece, Request}
+
+-- ---- kinds
+
+abbrev pub kind_byte : PacketKind → ℕ
+kind_byte Message = 1
+kind_byte Vote = 2
+kind_byte Ask = 3
+kind_byte Piece = 4
+kind_byte Request = 5
+
+abbrev pub is_kind : ℕ → Bool
+is_kind b = nat_le 1 b && nat_le b 5
+
+abbrev pub kind_at : ℕ → PacketKind
+kind_at b = if b == 1 then Message else (if b == 2 then Vote else (if b == 3 then Ask else (if b == 4 then Piece else Request)))
+
+-- whether the packet's kind fits its sender, epoch and leader in a cluster of n nodes
+abbrev pub is_routed_as : ℕ → PacketKind → ℕ → ℕ → ℕ → Bool
+is_routed_as n Message from epoch leader = nat_lt from n && nat_lt leader n
+is_routed_as n Vote from epoch leader = nat_lt from n && (leader == 0)
+is_routed_as n Ask from epoch leader = nat_lt from n && (leader == 0)
+is_routed_as n Piece from epoch leader = nat_lt from n && (leader == 0)
+is_routed_as n Request from epoch leader = (from == 255) && ((epoch == 0) && (leader == 0))
+
+unfoldable pub is_routed : ℕ → Packet → Bool
+is_routed n p = is_routed_as n p.kind p.from p.epoch.0 p.leader
+
+-- ---- spelling. What has none is written as one byte that is no version
+
+abbrev pub is_spellable : Packet → Bool
+is_spellable p = nat_lt p.epoch.0 (2 ^ 64) && nat_le (length p.body) 200000000
+
+abbrev pub route_bytes : Packet → List ℕ
+route_bytes p = 1 ∷ kind_byte p.kind ∷ p.from ∷ to_be_bytes w64 p.epoch.0 ++ p.leader ∷ []
+
+abbrev pub body_bytes : List ℕ → List ℕ
+body_bytes body = to_be_bytes w32 (length body) ++ body
+
+abbrev pub no_packet : List ℕ
+no_packet = 0 ∷ []
+
+unfoldable pub spell_packet : Packet → List ℕ
+spell_packet p = if is_spellable p then route_bytes p ++ body_bytes p.body else no_packet
+
+-- ---- reading
+
+unfoldable pub parse_version : Parser ℕ
+parse_version = such_that (λ v. v == 1) byte
+
+unfoldable pub parse_kind : Parser PacketKind
+parse_kind = do
+  kind ← such_that is_kind byte
+  done (kind_at kind)
+
+unfoldable pub parse_size : Parser ℕ
+parse_size = such_that (λ n. nat_le n 200000000) (number w32)
+
+unfoldable pub parse_parts : Parser Packet
+parse_parts = do
+  version ← parse_version
+  kind ← parse_kind
+  from ← byte
+  epoch ← number w64
+  leader ← byte
+  size ← parse_size
+  body ← block size
+  done (record { kind = kind; from = from; epoch = record { 0 = epoch }; leader = leader; body = body })
+
+-- a packet in a cluster of n nodes
+unfoldable pub parse_packet : ℕ → Parser Packet
+parse_packet n = such_that (is_routed n) parse_parts

@@ -1,0 +1,62 @@
+-- The text of a report, line by line. Logs are newest first; numbers are in decimal digits.
+use Rattle.std.specs.Prelude.{ℕ, List, [], ◌∷◌, ◌++◌, length, codes, decimal}
+use Rattle.iss_request.specs.Log.{requests}
+use Rattle.iss_request.specs.declared.requests.Request.{Request}
+use Rattle.iss_request.specs.declared.requests.Value.{Value}
+use Rattle.iss_request.specs.declared.requests.Value.TheVariants.{Nil, Batch as Holds}
+use Rattle.iss_model.specs.declared.causes.Refusal.{Refusal}
+use Rattle.iss_model.specs.declared.causes.Refusal.TheVariants.{TooLarge, ForeignBucket, BadSignature, OutOfWindow, Ordered, Marked}
+use Rattle.iss_model.specs.declared.causes.Why.{Why}
+use Rattle.iss_model.specs.declared.causes.Why.TheVariants.{NoPacket, NotPacket, BadRequest, Known, OtherEpoch, NotLeader, NothingToCast, NoKeys, Refused}
+
+abbrev pub refusal_word : Refusal → List ℕ
+refusal_word TooLarge = codes "TooLarge"
+refusal_word ForeignBucket = codes "ForeignBucket"
+refusal_word BadSignature = codes "BadSignature"
+refusal_word OutOfWindow = codes "OutOfWindow"
+refusal_word Ordered = codes "Ordered"
+refusal_word Marked = codes "Marked"
+
+abbrev pub why_word : Why → List ℕ
+why_word NoPacket = codes "NoPacket"
+why_word NotPacket = codes "NotPacket"
+why_word BadRequest = codes "BadRequest"
+why_word Known = codes "Known"
+why_word OtherEpoch = codes "OtherEpoch"
+why_word NotLeader = codes "NotLeader"
+why_word NothingToCast = codes "NothingToCast"
+why_word NoKeys = codes "NoKeys"
+why_word (Refused x) = codes "Refused " ++ refusal_word x
+
+-- each line ends with one line feed, the byte 10
+abbrev pub drop_line : ℕ → Why → List ℕ
+drop_line event why = codes "drop " ++ decimal event ++ codes " " ++ why_word why ++ 10 ∷ []
+
+abbrev pub end_line : List ℕ
+end_line = codes "end ok" ++ 10 ∷ []
+
+abbrev pub request_word : Request → List ℕ
+request_word q = codes " " ++ decimal q.id.client ++ codes "." ++ decimal q.id.number
+
+abbrev pub request_words : List Request → List ℕ
+request_words [] = []
+request_words (q ∷ qs) = request_word q ++ request_words qs
+
+-- nil, or the number of the first request, how many there are, and their identities
+abbrev pub value_words : ℕ → Value → List ℕ
+value_words first Nil = codes " nil"
+value_words first (Holds b) = codes " " ++ decimal first ++ codes " " ++ decimal (length b) ++ request_words b
+
+abbrev pub slot_line : ℕ → ℕ → Value → List ℕ
+slot_line slot first v = decimal slot ++ value_words first v ++ 10 ∷ []
+
+-- a slot's first request has as its number the sum of the sizes before it
+abbrev pub slot_lines : List Value → List ℕ
+slot_lines [] = []
+slot_lines (v ∷ older) = slot_lines older ++ slot_line (length older) (requests older) v
+
+abbrev pub node_line : ℕ → ℕ → ℕ → ℕ → List ℕ
+node_line node epoch slots count = codes "node " ++ decimal node ++ codes " epoch " ++ decimal epoch ++ codes " slots " ++ decimal slots ++ codes " requests " ++ decimal count ++ 10 ∷ []
+
+abbrev pub node_block : ℕ → ℕ → List Value → List ℕ
+node_block node epoch log = node_line node epoch (length log) (requests log) ++ slot_lines log

@@ -1,0 +1,7 @@
+//! The text of a report: the events that were lost, and each node's log with the numbers of its requests.
+#![tactic(auto)]
+
+pub mod lines;
+pub mod words;
+
+pub use lines::{put_drop, put_end, put_node};

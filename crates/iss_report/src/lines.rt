@@ -1,0 +1,148 @@
+//! Lines of a report. After want of memory a part may have been written.
+ghost use Rattle.std.specs.Prelude.{◌≡◌, ◌++◌, ◌+◌, OnOk, IfOk, reverse};
+ghost use Rattle.iss_request.specs.Log.{requests, size_of};
+ghost use Rattle.iss_report.specs.Text.{drop_line, end_line, node_block, node_line, request_word, request_words, slot_line, slot_lines, value_words};
+
+use crate::words::{put_number, put_text, put_why};
+use iss_model::Why;
+use iss_request::{Epoch, NoMemory, NodeId, Request, Slot, Value};
+
+/// Writes the line of an event that was lost.
+pub fn put_drop(out: &mut Vec<u8>, event: u64, why: Why) -> Result<(), NoMemory>
+    ensures { OnOk result (out.new.items ≡ out.old.items ++ drop_line event why) }
+{
+    put_text(out, b"drop ")?;
+    put_number(out, event)?;
+    put_text(out, b" ")?;
+    put_why(out, why)?;
+    put_text(out, b"\n")
+}
+
+/// Writes the last line.
+pub fn put_end(out: &mut Vec<u8>) -> Result<(), NoMemory>
+    ensures { OnOk result (out.new.items ≡ out.old.items ++ end_line) }
+{
+    put_text(out, b"end ok\n")
+}
+
+/// Writes a node's block: its line, and a line for each slot of its log, which is given in the order of the slots.
+/// Want of memory comes also where the number of requests would pass 2^64 - 1.
+pub fn put_node(
+    out: &mut Vec<u8>,
+    node: NodeId,
+    epoch: Epoch,
+    entries: &[Value],
+) -> Result<(), NoMemory>
+    ensures { OnOk result (out.new.items ≡ out.old.items ++ node_block node.0 epoch.0 (reverse entries.now)) }
+{
+    let count = count_requests(entries)?;
+    put_node_line(out, node, epoch, entries.len() as u64, count)?;
+    put_slots(out, entries)
+}
+
+// How many requests the values hold.
+fn count_requests(entries: &[Value]) -> Result<u64, NoMemory>
+    ensures { IfOk result (λ count. count ≡ requests (reverse entries.now)) }
+{
+    let mut count = 0u64;
+    for value in entries {
+        count = plus(count, value)?;
+    }
+    Ok(count)
+}
+
+// The number of the request that follows a value.
+fn plus(first: u64, value: &Value) -> Result<u64, NoMemory>
+    ensures { IfOk result (λ next. next ≡ size_of value.now + first) }
+{
+    let size = match value {
+        Value::Nil => 0,
+        Value::Batch(batch) => batch.len() as u64,
+    };
+    size.checked_add(first).ok_or(NoMemory)
+}
+
+// Writes the first line of a node's block.
+fn put_node_line(
+    out: &mut Vec<u8>,
+    node: NodeId,
+    epoch: Epoch,
+    slots: u64,
+    count: u64,
+) -> Result<(), NoMemory>
+    ensures { OnOk result (out.new.items ≡ out.old.items ++ node_line node.0 epoch.0 slots count) }
+{
+    put_text(out, b"node ")?;
+    put_number(out, node.0 as u64)?;
+    put_text(out, b" epoch ")?;
+    put_number(out, epoch.0)?;
+    put_text(out, b" slots ")?;
+    put_number(out, slots)?;
+    put_text(out, b" requests ")?;
+    put_number(out, count)?;
+    put_text(out, b"\n")
+}
+
+// Writes a line for each slot.
+fn put_slots(out: &mut Vec<u8>, entries: &[Value]) -> Result<(), NoMemory>
+    ensures { OnOk result (out.new.items ≡ out.old.items ++ slot_lines (reverse entries.now)) }
+{
+    let mut first = 0u64;
+    let mut slot = 0u64;
+    for value in entries {
+        put_slot(out, Slot(slot), first, value)?;
+        first = plus(first, value)?;
+        slot += 1;
+    }
+    Ok(())
+}
+
+// Writes the line of a slot, whose first request has this number.
+fn put_slot(out: &mut Vec<u8>, slot: Slot, first: u64, value: &Value) -> Result<(), NoMemory>
+    ensures { OnOk result (out.new.items ≡ out.old.items ++ slot_line slot.0 first value.now) }
+{
+    put_number(out, slot.0)?;
+    put_value(out, first, value)?;
+    put_text(out, b"\n")
+}
+
+// Writes what a slot holds.
+fn put_value(out: &mut Vec<u8>, first: u64, value: &Value) -> Result<(), NoMemory>
+    ensures { OnOk result (out.new.items ≡ out.old.items ++ value_words first value.now) }
+{
+    match value {
+        Value::Nil => put_text(out, b" nil"),
+        Value::Batch(batch) => put_batch(out, first, batch.as_slice()),
+    }
+}
+
+// Writes the number of the first request, how many there are, and the identity of each.
+fn put_batch(out: &mut Vec<u8>, first: u64, batch: &[Request]) -> Result<(), NoMemory>
+    ensures { OnOk result (out.new.items ≡ out.old.items ++ value_words first (Value.Batch batch.now)) }
+{
+    put_text(out, b" ")?;
+    put_number(out, first)?;
+    put_text(out, b" ")?;
+    put_number(out, batch.len() as u64)?;
+    put_requests(out, batch)
+}
+
+// Writes the identities of requests.
+fn put_requests(out: &mut Vec<u8>, batch: &[Request]) -> Result<(), NoMemory>
+    ensures { OnOk result (out.new.items ≡ out.old.items ++ request_words batch.now) }
+{
+    for request in batch {
+        put_request(out, request)?;
+    }
+    Ok(())
+}
+
+// Writes the identity of a request.
+fn put_request(out: &mut Vec<u8>, request: &Request) -> Result<(), NoMemory>
+    ensures { OnOk result (out.new.items ≡ out.old.items ++ request_word request.now) }
+{
+    put_text(out, b" ")?;
+    put_number(out, request.id.client as u64)?;
+    put_text(out, b".")?;
+    put_number(out, request.id.number as u64)
+}

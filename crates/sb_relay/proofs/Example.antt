@@ -1,0 +1,73 @@
+-- The relay on a worked example: node 0 leads the segment of the slots 0 and 3.
+use Rattle.std.proofs.Common.{◌≡◌, ℕ, List, [], ◌∷◌, Some, None, refl}
+use Rattle.iss_request.specs.declared.ids.NodeId.{NodeId}
+use Rattle.iss_request.specs.declared.ids.Slot.{Slot}
+use Rattle.iss_request.specs.declared.requests.Batch.{Batch}
+use Rattle.iss_request.specs.declared.requests.Value.TheVariants.{Batch as Holds}
+use Rattle.iss_request.specs.declared.setups.Setup.{Setup}
+use Rattle.iss_sb.specs.declared.effects.Input.TheVariants.{Cast, Receive, Timeout}
+use Rattle.iss_sb.specs.declared.effects.Params.{Params}
+use Rattle.iss_sb.specs.declared.effects.To.TheVariants.{All as To_all}
+use Rattle.iss_sb.specs.Evidence.{Item, and_then, delivered}
+use Rattle.sb_relay.specs.declared.say.Say.{Say}
+use Rattle.iss_request.specs.Formats.{spell_batch, spell_value}
+use Rattle.sb_relay.specs.Relay.{asks, relay, spell}
+
+abbrev slot : ℕ → Slot
+slot n = record { 0 = n }
+
+abbrev node : ℕ → NodeId
+node n = record { 0 = n }
+
+abbrev say : ℕ → Batch → Say
+say n batch = record { slot = slot n; batch = batch }
+
+module _ (setup : Setup) (b c : Batch) where
+  abbrev p : Params
+  p = record { setup = setup; epoch = record { 0 = 0 }; leader = node 0; slots = slot 0 ∷ slot 3 ∷ [] }
+
+  -- the leader casts b at slot 0: it accepts it and says it to all
+  abbrev after_cast : List (Item Say)
+  after_cast = and_then relay p 0 [] (Cast (slot 0) b) 0
+
+  casts : after_cast ≡ record { input = Cast (slot 0) b; made = record { sends = (To_all, say 0 b) ∷ []; accepted = Some (slot 0, b); strings = []; used = 0 } } ∷ []
+  casts = refl
+
+  -- the slot is cast once, and the other one is still free
+  casts_once : asks p 0 after_cast (Cast (slot 0) c) ≡ None
+  casts_once = refl
+
+  casts_another : asks p 0 after_cast (Cast (slot 3) c) ≡ Some (slot 3, c)
+  casts_another = refl
+
+  -- a slot of another segment, and another node than the leader
+  no_cast_outside : asks p 0 [] (Cast (slot 1) b) ≡ None
+  no_cast_outside = refl
+
+  no_cast_elsewhere : asks p 1 [] (Cast (slot 0) b) ≡ None
+  no_cast_elsewhere = refl
+
+  -- node 1 takes the leader's first word on slot 0, and no later one
+  abbrev after_word : List (Item Say)
+  after_word = and_then relay p 1 [] (Receive (node 0) (say 0 b)) 0
+
+  delivers : delivered relay p 1 after_word 0 ≡ Some (Holds b)
+  delivers = refl
+
+  delivers_first : delivered relay p 1 (and_then relay p 1 after_word (Receive (node 0) (say 0 c)) 0) 0 ≡ Some (Holds b)
+  delivers_first = refl
+
+  -- not the word of another node, nor one on a slot of another segment; nor does a cast deliver
+  no_stranger : delivered relay p 1 (and_then relay p 1 [] (Receive (node 2) (say 0 b)) 0) 0 ≡ None
+  no_stranger = refl
+
+  no_word_outside : delivered relay p 1 (and_then relay p 1 [] (Receive (node 0) (say 1 b)) 0) 1 ≡ None
+  no_word_outside = refl
+
+  no_word_yet : delivered relay p 0 (and_then relay p 0 after_cast Timeout 0) 0 ≡ None
+  no_word_yet = refl
+
+-- the number of the message, the slot, and a batch of no requests
+spelling : spell (say 259 []) ≡ 1 ∷ 0 ∷ 0 ∷ 0 ∷ 0 ∷ 0 ∷ 0 ∷ 1 ∷ 3 ∷ 1 ∷ 0 ∷ []
+unfolding spell_batch spell_value
+spelling = refl

@@ -1,0 +1,4 @@
+mod Example
+pub mod Marks
+pub mod Safe
+pub mod Spelling

@@ -1,0 +1,250 @@
+//! The relay's two rules, and that it is an ordering module.
+ghost use Rattle.std.specs.Prelude.{◌≡◌, ℕ, List, IfOk, OnOk};
+ghost use Rattle.iss_sb.specs.Calls.{IsGoodInput, IsGoodParams, IsStep, IsTaken};
+ghost use Rattle.iss_sb.specs.Evidence.{Item, and_then};
+ghost use Rattle.sb_relay.specs.declared.say.Say.{Say};
+ghost use Rattle.sb_relay.specs.Relay.{relay};
+ghost use Rattle.sb_relay.specs.Stands.{IsOfSegment, Stands, may_cast, may_deliver};
+
+use crate::say::Say;
+use iss_request::{Batch, DecodeError, Fields, NoMemory, NodeId, Row, Slot, Value, Writer};
+use iss_sb::{Claim, Effects, Input, Keys, Params, Sequenced, StepError, To};
+use std::alloc::Global;
+
+/// A node's part in one instance: which slots of the segment it cast, and which it delivered.
+#[derive(Drop, Debug)]
+pub struct Relay {
+    me: NodeId,
+    cast: Row<Slot>,
+    delivered: Row<Slot>,
+}
+
+impl Relay {
+    /// Whether a batch may be cast at the slot: by the leader, in its segment, once.
+    fn may_cast(&self, p: &Params, slot: Slot) -> bool
+        ensures { result ≡ may_cast self.now p.now slot }
+    {
+        self.me == p.leader
+            && p.slots.as_slice().contains(&slot)
+            && !self.cast.as_slice().contains(&slot)
+    }
+
+    /// Whether the word of a node on the slot is to be delivered: the leader's, in its segment, the first.
+    fn may_deliver(&self, p: &Params, from: NodeId, slot: Slot) -> bool
+        ensures { result ≡ may_deliver self.now p.now from slot }
+    {
+        from == p.leader
+            && p.slots.as_slice().contains(&slot)
+            && !self.delivered.as_slice().contains(&slot)
+    }
+
+    /// Says the batch to all, where it may be cast.
+    fn cast(
+        &mut self,
+        alloc: Global,
+        p: &Params,
+        slot: Slot,
+        batch: Batch,
+    ) -> Result<Effects<Say>, NoMemory>
+        ensures stands { OnOk result ((me : ℕ) (xs : List (Item Say)) (leaf : ℕ) → Stands self.old p.now me xs →
+            Stands self.new p.now me (and_then relay p.now me xs (Input.Cast slot batch) leaf)) }
+        ensures effects { IfOk result (λ e. (me : ℕ) (xs : List (Item Say)) (leaf : ℕ) → Stands self.old p.now me xs →
+            IsTaken relay p.now me xs (Input.Cast slot batch) leaf e) }
+        ensures within { IfOk result (λ e. IsOfSegment p.now e) }
+    {
+        if !self.may_cast(p, slot) {
+            return Ok(Effects::nothing(alloc));
+        }
+        let mut effects = Effects::nothing(alloc);
+        let said = Say {
+            slot,
+            batch: batch.copy()?,
+        };
+        self.cast.push(slot)?;
+        effects.sends.push((To::All, said))?;
+        effects.accepted = Some((slot, batch));
+        Ok(effects)
+    }
+
+    /// Delivers what a node said, where it is to be delivered.
+    fn hear(
+        &mut self,
+        alloc: Global,
+        p: &Params,
+        from: NodeId,
+        said: Say,
+    ) -> Result<Effects<Say>, NoMemory>
+        ensures stands { OnOk result ((me : ℕ) (xs : List (Item Say)) (leaf : ℕ) → Stands self.old p.now me xs →
+            Stands self.new p.now me (and_then relay p.now me xs (Input.Receive from said) leaf)) }
+        ensures effects { IfOk result (λ e. (me : ℕ) (xs : List (Item Say)) (leaf : ℕ) → Stands self.old p.now me xs →
+            IsTaken relay p.now me xs (Input.Receive from said) leaf e) }
+        ensures within { IfOk result (λ e. IsOfSegment p.now e) }
+    {
+        if !self.may_deliver(p, from, said.slot) {
+            return Ok(Effects::nothing(alloc));
+        }
+        let mut effects = Effects::nothing(alloc);
+        let Say { slot, batch } = said;
+        self.delivered.push(slot)?;
+        effects.delivers.push((slot, Value::Batch(batch)))?;
+        Ok(effects)
+    }
+}
+
+impl Sequenced for Relay {
+    type Msg = Say;
+
+    const TAG: u8 = 1;
+
+    const STOPPING: bool = true;
+
+    ghost use Rattle.std.specs.Prelude.{true};
+
+    ghost TAG = { 1 };
+
+    ghost STOPPING = { true };
+
+    ghost meaning = { relay };
+
+    ghost stands = { Stands };
+
+    fn nodes_of(_f: u32) -> u32 {
+        3
+    }
+
+    fn quorum_of(_f: u32) -> u32 {
+        2
+    }
+
+    fn signs(_p: &Params) -> u32 {
+        0
+    }
+
+    fn start(alloc: Global, _p: &Params, me: NodeId) -> Result<Relay, NoMemory> {
+        Ok(Relay {
+            me,
+            cast: Row::new(alloc),
+            delivered: Row::new(alloc),
+        })
+    }
+
+    fn casts(&self, p: &Params, slot: Slot) -> bool {
+        self.may_cast(p, slot)
+    }
+
+    fn asks<'a>(&'a self, p: &Params, i: &'a Input<Say>) -> Option<(Slot, &'a Batch)> {
+        match i {
+            Input::Cast { slot, batch } => {
+                if self.may_cast(p, *slot) {
+                    Some((*slot, batch))
+                } else {
+                    None
+                }
+            }
+            _ => None,
+        }
+    }
+
+    fn step(
+        &mut self,
+        alloc: Global,
+        p: &Params,
+        i: Input<Say>,
+        verdict: bool,
+        keys: &mut Keys,
+    ) -> Result<Effects<Say>, StepError>
+        requires good { IsGoodParams relay p.now }
+        requires input { IsGoodInput p.now i }
+        ensures { IsStep relay Stands p.now self.old self.new i verdict keys.old keys.new result }
+    {
+        if !verdict {
+            return Ok(Effects::nothing(alloc));
+        }
+        match i {
+            Input::Cast { slot, batch } => Ok(self.cast(alloc, p, slot, batch)?),
+            Input::Receive { from, msg } => Ok(self.hear(alloc, p, from, msg)?),
+            Input::Timeout => Ok(Effects::nothing(alloc)),
+        }
+    }
+
+    fn encode(m: &Say, out: &mut Writer) -> Result<(), NoMemory> {
+        m.write(out)
+    }
+
+    fn decode(alloc: Global, f: &mut Fields) -> Result<Say, DecodeError> {
+        Say::read(alloc, f)
+    }
+
+    fn claims(alloc: Global, _p: &Params, _from: NodeId, _m: &Say) -> Result<Row<Claim>, NoMemory> {
+        Ok(Row::new(alloc))
+    }
+
+    fn laws() {}
+}
+
+#[cfg(test)]
+mod tests {
+    use super::*;
+    use iss_request::{Epoch, Kind, Nodes, Policy, Setup};
+    use iss_sb::broadcast;
+    use std::test::Fail;
+
+    // Three nodes, of which node 0 leads the slots 0 and 3.
+    fn instance(alloc: Global) -> Result<Params, NoMemory>
+        ensures { IfOk result (λ p. IsGoodParams relay p) }
+    {
+        let mut slots = Row::new(alloc);
+        slots.push(Slot(0))?;
+        slots.push(Slot(3))?;
+        let setup = Setup {
+            module: 1,
+            f: 0,
+            epoch: 6,
+            buckets: 1,
+            batch: 1,
+            window: 1,
+            policy: Policy::Simple,
+            clients: 1,
+            keys: 2,
+            faulty: Nodes::new(alloc),
+            n: 3,
+            quorum: 2,
+            kind: Kind::Stopping,
+            tag: [0; 32],
+        };
+        Ok(Params {
+            setup,
+            epoch: Epoch(0),
+            leader: NodeId(0),
+            slots,
+        })
+    }
+
+    // A cast is said to all, and the leader's word is delivered; neither happens twice.
+    #[test]
+    fn a_cast_is_said_and_delivered(rt: HostRuntime) -> Result<(), Fail> {
+        let alloc = rt.alloc();
+        let p = instance(alloc)?;
+        let mut keys = Keys::make([0; 32], 2);
+        let mut node = Relay::start(alloc, &p, NodeId(0))?;
+        let cast = Input::Cast {
+            slot: Slot(3),
+            batch: Batch::new(alloc),
+        };
+        assert!(rt; node.casts(&p, Slot(3)));
+        assert!(rt; node.asks(&p, &cast).is_some());
+        let sent = node.step(alloc, &p, cast, true, &mut keys)?;
+        assert!(rt; !node.casts(&p, Slot(3)));
+        for (to, said) in sent.sends.into_vec() {
+            assert_eq!(rt; to, To::All);
+            let heard = Input::Receive {
+                from: NodeId(0),
+                msg: said,
+            };
+            let effects = node.step(alloc, &p, heard, true, &mut keys)?;
+            assert_eq!(rt; effects.delivers.len(), 1);
+        }
+        broadcast::<Relay>();
+        Ok(())
+    }
+}
