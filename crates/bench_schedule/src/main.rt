@@ -9,7 +9,8 @@ use std::io;
 use std::rt::Clock;
 use std::time::Instant;
 
-const HEADER: &str = "iss 1\nmodule relay\nf 0\nepoch 3\nbuckets 3\nbatch 4\nwindow 8\npolicy simple\nclients 1\nkeys 4\nfaulty none\n";
+const HEADER: &str =
+    "iss 1\nmodule relay\nf 0\nepoch 3\nbuckets 3\nbatch 4\nwindow 8\npolicy simple\nclients 1\nkeys 4\nfaulty none\n";
 
 // A schedule's text with so many pairs of events.
 fn text_of(alloc: Global, pairs: u32) -> Result<String, AllocError> {
@@ -80,7 +81,12 @@ fn count_all<R: Print>(rt: &R, alloc: Global) -> io::Result<()> {
     let Ok(written) = write(alloc, &schedule) else {
         return println!(rt; "no memory");
     };
-    println!(rt; "{} events, {} bytes read, {} written", schedule.events.len(), text.len(), written.len())
+    println!(rt;
+        "{} events, {} bytes read, {} written",
+        schedule.events.len(),
+        text.len(),
+        written.len()
+    )
 }
 
 fn main(rt: HostRuntime) -> io::Result<()> {

@@ -1,5 +1,5 @@
 -- Steps through the arguments of an event.
-use Rattle.std.proofs.Common.{◌≡◌, ℕ, zero, suc, ◌+◌, ◌-◌, ◌<◌, ◌≤◌, Bool, true, false, List, [], ◌∷◌, arith, ap, codes, refl, subst, sym, ◌∙◌}
+use Rattle.std.proofs.Common.{◌≡◌, ℕ, suc, ◌+◌, ◌-◌, ◌<◌, Bool, List, [], ◌∷◌, arith, ap, codes, refl, subst, sym, ◌∙◌}
 use Rattle.std.specs.Prelude.{◌↔◌, IsTrue}
 use Rattle.iss_schedule.specs.Forms.{AreArguments, AreNumbers, NamesFaulty}
 use Rattle.iss_schedule.specs.Words.{IsNumber, words_of}

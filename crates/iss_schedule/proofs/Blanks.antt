@@ -1,9 +1,9 @@
 -- No space and no line feed stands inside a word.
-use Rattle.std.proofs.Common.{◌≡◌, ◌≢◌, ℕ, zero, suc, ◌+◌, ◌<◌, ◌≤◌, ◌^◌, ◌/◌, ◌%◌, List, [], ◌∷◌, ◌++◌, length, get_or, eqb, not, Bool, true, false, None, Some, Option, Ok, Err, decimal, refl, sym, ap, ◌∙◌, arith, subst, rules}
+use Rattle.std.proofs.Common.{◌≡◌, ◌≢◌, ℕ, suc, ◌<◌, ◌≤◌, ◌^◌, ◌/◌, ◌%◌, List, [], ◌∷◌, ◌++◌, length, get_or, eqb, not, Bool, true, None, Some, Option, Ok, Err, decimal, refl, sym, ap, ◌∙◌, arith}
 use Rattle.std.specs.Prelude.{Result, IfOk}
 use Rattle.std.proofs.lemmas.List.Splits.{join_with_byte-slice_split}
-use Rattle.std.specs.List.{list_all, slice_split, join_with_byte}
-use Rattle.std.proofs.lemmas.Bool.{false≢true, and_parts}
+use Rattle.std.specs.List.{list_all}
+use Rattle.std.proofs.lemmas.Bool.{and_parts}
 use Rattle.std.proofs.lemmas.Fmt.{decimal_is_IsNumeral}
 use Rattle.std.proofs.lemmas.Str.Parse.{digit_at}
 use Rattle.std.proofs.Math.Pow.{pow_mono}

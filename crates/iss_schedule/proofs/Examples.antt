@@ -1,5 +1,5 @@
 -- The definitions, run on worked schedules.
-use Rattle.std.proofs.Common.{◌≡◌, ◌∷◌, [], ◌++◌, codes, refl, arith, inl}
+use Rattle.std.proofs.Common.{◌≡◌, ◌∷◌, [], codes, refl, arith, inl}
 use Rattle.std.specs.Fmt.{digits}
 use Rattle.hex.specs.Hex.{encode_with}
 use Rattle.iss_schedule.specs.declared.errors.Why.TheVariants.{Cut}
@@ -7,7 +7,7 @@ use Rattle.iss_schedule.specs.declared.header.Header.{Header}
 use Rattle.iss_schedule.specs.declared.schedules.Event.TheVariants.{Request, Propose, Timeout, Deliver, Lose, Pump, Calm, Hold, Free, Drop}
 use Rattle.iss_schedule.specs.declared.schedules.Schedule.{Schedule}
 use Rattle.iss_schedule.specs.BadLines.{IsFirstBad}
-use Rattle.iss_schedule.specs.Headers.{setup_with, IsHeaderInRange}
+use Rattle.iss_schedule.specs.Headers.{setup_with}
 use Rattle.iss_schedule.specs.Schedules.{text_of}
 use Rattle.iss_schedule.specs.Words.{words_of}
 use Rattle.iss_schedule.proofs.Blanks.{lacks_by_test}
@@ -20,7 +20,7 @@ three = record { epoch = 3; buckets = 3; batch = 4; window = 8; clients = 1; key
 worked : Schedule
 worked = record {
   setup = setup_with three [];
-  events = Request 0 0 0 (170 ∷ []) ∷ Propose 0 ∷ Timeout 1 (record { 0 = 2 }) ∷ Deliver 12 ∷ Lose 0 ∷ Pump ∷ Calm 10 ∷ Hold 2 ∷ Free 2 ∷ Drop 1 ∷ []
+  events = Request 0 0 0 (170 ∷ []) ∷ Propose 0 ∷ Timeout 1 (record { 0 = 2 }) ∷ Deliver 12 ∷ Lose 0 ∷ Pump ∷ Calm 10 ∷ Hold 2 ∷ Free 2 ∷ Drop 1 ∷ [];
 }
 
 worked_text : text_of worked ≡ codes "iss 1\nmodule relay\nf 0\nepoch 3\nbuckets 3\nbatch 4\nwindow 8\npolicy simple\nclients 1\nkeys 4\nfaulty none\nrequest 0 0 0 aa\npropose 0\ntimeout 1 2\ndeliver 12\nlose 0\npump\ncalm 10\nhold 2\nfree 2\ndrop 1\n"

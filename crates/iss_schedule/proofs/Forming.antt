@@ -1,10 +1,10 @@
 -- The lines of a schedule in range: none holds a line feed, and each has the form of its place.
-use Rattle.std.proofs.Common.{◌≡◌, ◌≢◌, ℕ, zero, suc, ◌+◌, ◌^◌, ◌<◌, ◌≤◌, Bool, true, false, List, [], ◌∷◌, ◌++◌, length, take, map, get_or, Option, Some, None, codes, decimal, refl, sym, ap, subst, ◌∙◌, arith, append_assoc, length-append, ◌⊎◌, inl, inr}
+use Rattle.std.proofs.Common.{◌≡◌, ◌≢◌, ℕ, zero, suc, ◌^◌, ◌<◌, ◌≤◌, true, List, [], ◌∷◌, ◌++◌, length, take, map, get_or, Some, codes, decimal, refl, sym, ap, ◌∙◌, arith, append_assoc, length-append, inl}
 use Rattle.std.proofs.Math.Pow.{pow_mono}
 use Rattle.iss_base.specs.Lists.{nth}
 use Rattle.iss_request.specs.Setup.{IsGoodSetup}
 use Rattle.iss_request.specs.declared.setups.Setup.{Setup}
-use Rattle.iss_request.specs.declared.setups.Kind.TheVariants.{Byzantine, Stopping}
+use Rattle.iss_request.specs.declared.setups.Kind.TheVariants.{Byzantine}
 use Rattle.iss_schedule.specs.declared.names.Name.TheVariants as name
 use Rattle.iss_schedule.specs.declared.schedules.Event.{Event}
 use Rattle.iss_schedule.specs.declared.schedules.Event.TheVariants.{Request, Propose, Timeout, Deliver, Lose, Pump, Calm, Hold, Free, Drop, Bytes}
@@ -12,13 +12,13 @@ use Rattle.iss_schedule.specs.declared.schedules.Schedule.{Schedule}
 use Rattle.iss_schedule.specs.Events.{event_words, spell_event, IsInRange, AreInRange}
 use Rattle.iss_schedule.specs.Forms.{HasForm, IsField, IsEventLine, IsInjection, NamesFaulty}
 use Rattle.iss_schedule.specs.Names.{text_of_name}
-use Rattle.iss_schedule.specs.Schedules.{field, header_lines, schedule_lines, IsRelay, IsFine}
+use Rattle.iss_schedule.specs.Schedules.{field, header_lines, schedule_lines, IsFine}
 use Rattle.iss_schedule.specs.Words.{Lacks, words_of, ended}
 use Rattle.iss_schedule.proofs.Blanks.{feed, lacks_test, lacks_by_test, lacks_decimal, lacks_append, lacks_line, event_lacks, event_spelled}
 use Rattle.iss_schedule.proofs.Cuts.{cut_same}
 use Rattle.iss_schedule.proofs.Fronts.{fixed_fits}
 use Rattle.iss_schedule.proofs.Numbers.{decimal_is_number}
-use Rattle.iss_schedule.proofs.Refusals.{event_behind, form_behind, same_kind}
+use Rattle.iss_schedule.proofs.Refusals.{event_behind, same_kind}
 
 -- ---- no line feed
 
@@ -54,11 +54,34 @@ setup_fits s g =
     record { f = omega arith; epoch = omega arith; buckets = omega arith; batch = omega arith; window = omega arith; clients = omega arith; keys = omega arith }
 
 whole_header : (s : Setup) → Fits s → AreWhole (header_lines s)
-whole_header s fits =
-    (lacks_by_test 10 (codes "iss 1") refl, (lacks_by_test 10 (codes "module relay") refl, (whole_field (codes "f") s.f refl fits.f,
-    (whole_field (codes "epoch") s.epoch refl fits.epoch, (whole_field (codes "buckets") s.buckets refl fits.buckets, (whole_field (codes "batch") s.batch refl fits.batch,
-    (whole_field (codes "window") s.window refl fits.window, (lacks_by_test 10 (codes "policy simple") refl, (whole_field (codes "clients") s.clients refl fits.clients,
-    (whole_field (codes "keys") s.keys refl fits.keys, (lacks_by_test 10 (codes "faulty none") refl, tt)))))))))))
+whole_header s fits = (
+  lacks_by_test 10 (codes "iss 1") refl,
+  (
+    lacks_by_test 10 (codes "module relay") refl,
+    (
+      whole_field (codes "f") s.f refl fits.f,
+      (
+        whole_field (codes "epoch") s.epoch refl fits.epoch,
+        (
+          whole_field (codes "buckets") s.buckets refl fits.buckets,
+          (
+            whole_field (codes "batch") s.batch refl fits.batch,
+            (
+              whole_field (codes "window") s.window refl fits.window,
+              (
+                lacks_by_test 10 (codes "policy simple") refl,
+                (
+                  whole_field (codes "clients") s.clients refl fits.clients,
+                  (whole_field (codes "keys") s.keys refl fits.keys, (lacks_by_test 10 (codes "faulty none") refl, tt)),
+                ),
+              ),
+            ),
+          ),
+        ),
+      ),
+    ),
+  ),
+)
 
 whole_events : (s : Setup) (es : List Event) → IsGoodSetup s → AreInRange s es → AreWhole (map spell_event es)
 whole_events s [] good range = tt

@@ -1,24 +1,22 @@
 -- Texts and the lines at their front.
-use Rattle.std.proofs.Common.{◌≡◌, ◌≢◌, ℕ, zero, suc, ◌+◌, ◌<◌, ◌≤◌, Bool, true, false, List, [], ◌∷◌, ◌++◌, length, take, map, Option, Some, None, codes, decimal, refl, sym, ap, subst, ◌∙◌, arith, append_assoc, length-append, ◌⊎◌, inl, inr, Result, Ok, Err}
-use Rattle.std.specs.Prelude.{IfErr}
+use Rattle.std.proofs.Common.{◌≡◌, ℕ, suc, ◌+◌, ◌<◌, ◌≤◌, List, [], ◌∷◌, ◌++◌, length, take, map, Some, refl, sym, ap, subst, ◌∙◌, arith, append_assoc, length-append, inl}
 use Rattle.sha2.specs.Sha256.{sha256}
 use Rattle.iss_base.specs.Lists.{nth}
 use Rattle.iss_request.specs.Setup.{IsGoodSetup}
 use Rattle.iss_request.specs.declared.setups.Setup.{Setup}
-use Rattle.iss_request.specs.declared.setups.Kind.TheVariants.{Stopping}
 use Rattle.iss_schedule.specs.declared.errors.Why.{Why}
 use Rattle.iss_schedule.specs.declared.errors.Why.TheVariants.{Cut, Form, Faulty, Injected, Range, Size}
 use Rattle.iss_schedule.specs.declared.header.Header.{Header}
 use Rattle.iss_schedule.specs.declared.schedules.Schedule.{Schedule}
-use Rattle.iss_schedule.specs.BadLines.{Begins, IsNext, IsBadRest, IsFirstBad, IsFault}
+use Rattle.iss_schedule.specs.BadLines.{IsBadRest, IsFirstBad}
 use Rattle.iss_schedule.specs.declared.schedules.Event.{Event}
 use Rattle.iss_schedule.specs.Events.{spell_event, IsInRange, AreInRange}
-use Rattle.iss_schedule.specs.Forms.{HasForm, IsField, NamesFaulty}
+use Rattle.iss_schedule.specs.Forms.{HasForm}
 use Rattle.iss_schedule.specs.Headers.{setup_with, IsHeaderInRange}
 use Rattle.iss_schedule.specs.Places.{IsLineFault, IsFieldWithin, IsFaultyLineFault}
 use Rattle.iss_schedule.specs.Reads.{IsWithin}
 use Rattle.iss_schedule.specs.Schedules.{field, header_lines, schedule_lines, cluster_tag, IsRelay, IsFine, IsSchedule, most_events, most_bytes}
-use Rattle.iss_schedule.specs.Words.{Lacks, ended}
+use Rattle.iss_schedule.specs.Words.{ended}
 
 pub ended-append : (xs ys : List (List ℕ)) → ended (xs ++ ys) ≡ ended xs ++ ended ys
 ended-append [] ys = refl

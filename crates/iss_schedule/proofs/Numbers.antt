@@ -1,5 +1,5 @@
 -- Words of numbers.
-use Rattle.std.proofs.Common.{◌≡◌, ◌≢◌, ℕ, zero, suc, ◌<◌, ◌≤◌, ◌+◌, ◌^◌, List, [], ◌∷◌, length, get_or, Ok, Err, ap, decimal, arith, rules, subst, sym, refl}
+use Rattle.std.proofs.Common.{◌≡◌, ◌≢◌, ℕ, zero, suc, ◌<◌, ◌^◌, List, length, get_or, Ok, Err, ap, decimal, arith, subst, sym}
 use Rattle.std.specs.Prelude.{Result}
 use Rattle.std.specs.Result.{result_unwrap_or}
 use Rattle.std.specs.Str.{IsUtf8}
@@ -8,7 +8,7 @@ use Rattle.std.proofs.lemmas.Fmt.{parse-decimal, IsAscii-decimal, decimal_is_IsN
 use Rattle.std.proofs.lemmas.Str.Parse.{digit_at}
 use Rattle.std.proofs.lemmas.Str.{IsUtf8-from_ascii}
 use Rattle.iss_schedule.specs.Reads.{IsWithin}
-use Rattle.iss_schedule.specs.Words.{IsNumber, AreDigits}
+use Rattle.iss_schedule.specs.Words.{IsNumber}
 
 -- what was read of a number's word is that number
 pub read_same : (E : Type 0) (w : List ℕ) (m n : ℕ) → ParsesUnsigned {E = E} 64 10 w (Ok m) → n < 2 ^ 64 → w ≡ decimal n → m ≡ n

@@ -1,18 +1,18 @@
 -- A text with a bad line is that of no schedule, and has one first bad line with one reason.
-use Rattle.std.proofs.Common.{◌≡◌, ◌≢◌, ℕ, zero, suc, ◌+◌, ◌<◌, ◌≤◌, List, [], ◌∷◌, ◌++◌, length, take, drop, map, Option, Some, None, codes, refl, sym, ap, subst, ◌∙◌, arith, append_assoc, length-append, ◌⊎◌, inl, inr}
+use Rattle.std.proofs.Common.{◌≡◌, ◌≢◌, ℕ, zero, suc, ◌+◌, ◌<◌, List, [], ◌∷◌, ◌++◌, length, take, drop, map, Some, codes, refl, sym, ap, subst, ◌∙◌, arith, append_assoc, length-append, inl, inr}
 use Rattle.iss_base.specs.Lists.{nth}
 use Rattle.iss_schedule.specs.declared.errors.Why.{Why}
 use Rattle.iss_schedule.specs.declared.errors.Why.TheVariants.{Cut, Form, Faulty, Injected, Range, Size}
 use Rattle.iss_schedule.specs.declared.names.Name.TheVariants as name
 use Rattle.iss_schedule.specs.declared.schedules.Schedule.{Schedule}
-use Rattle.iss_schedule.specs.BadLines.{Begins, IsNext, IsFault, IsBadRest, IsFirstBad, IsBadLine}
+use Rattle.iss_schedule.specs.BadLines.{Begins, IsNext, IsFault, IsBadRest, IsBadLine}
 use Rattle.iss_schedule.specs.Events.{spell_event}
-use Rattle.iss_schedule.specs.Forms.{HasForm, IsEventLine, IsInjection, NamesFaulty}
-use Rattle.iss_schedule.specs.Schedules.{header_lines, schedule_lines, IsFine, IsSchedule, most_bytes, most_events}
+use Rattle.iss_schedule.specs.Forms.{HasForm}
+use Rattle.iss_schedule.specs.Schedules.{header_lines, schedule_lines, IsFine, IsSchedule, most_events}
 use Rattle.iss_schedule.specs.Words.{Lacks, ended}
 use Rattle.iss_schedule.proofs.Cuts.{cut_same, no_cut}
 use Rattle.iss_schedule.proofs.Forming.{AreWhole, whole_take, whole_lines, Meets, Same, Left, Right, meets, formed, none_named, no_injection}
-use Rattle.iss_schedule.proofs.Refusals.{form_behind, length_spelled, take_all}
+use Rattle.iss_schedule.proofs.Refusals.{form_behind, length_spelled}
 use Rattle.iss_schedule.proofs.Fronts.{fixed_fits}
 
 nth_at : (xs : List (List ℕ)) (y : List ℕ) (ys : List (List ℕ)) → nth (xs ++ y ∷ ys) (length xs) ≡ Some y

@@ -1,5 +1,5 @@
 -- A text is that of one schedule.
-use Rattle.std.proofs.Common.{◌≡◌, ◌≢◌, ℕ, suc, ◌+◌, ◌*◌, ◌^◌, ◌<◌, ◌≤◌, List, [], ◌∷◌, ◌++◌, length, take, drop, map, get_or, Bool, false, cond, eqb, Option, Some, None, Result, codes, decimal, refl, sym, ap, subst, ◌∙◌, arith, append_assoc}
+use Rattle.std.proofs.Common.{◌≡◌, ℕ, ◌+◌, ◌*◌, ◌^◌, ◌<◌, ◌≤◌, List, [], ◌∷◌, ◌++◌, length, take, drop, map, get_or, false, cond, eqb, Some, Result, codes, decimal, refl, sym, ap, subst, ◌∙◌, arith, append_assoc}
 use Rattle.std.proofs.Math.Pow.{pow_mono}
 use Rattle.std.specs.Result.{result_unwrap_or}
 use Rattle.std.specs.Str.Parse.{digits_value}
@@ -20,7 +20,7 @@ use Rattle.iss_schedule.specs.declared.schedules.Event.{Event}
 use Rattle.iss_schedule.specs.declared.schedules.Event.TheVariants.{Request, Propose, Timeout, Deliver, Lose, Pump, Calm, Hold, Free, Drop, Bytes}
 use Rattle.iss_schedule.specs.declared.schedules.Schedule.{Schedule}
 use Rattle.iss_schedule.specs.Events.{event_words, spell_event, IsInRange, AreInRange}
-use Rattle.iss_schedule.specs.Schedules.{field, header_lines, schedule_lines, cluster_tag, IsRelay, IsFine, IsSchedule}
+use Rattle.iss_schedule.specs.Schedules.{field, header_lines, schedule_lines, IsRelay, IsFine, IsSchedule}
 use Rattle.iss_schedule.specs.Words.{word_of, ended}
 use Rattle.iss_schedule.proofs.Blanks.{event_spelled}
 use Rattle.iss_schedule.proofs.Forming.{whole_lines, Meets, Same, Left, Right, meets, setup_fits}
@@ -108,7 +108,20 @@ events_same s (x ∷ xs) (f ∷ fs) good r q e =
 
 parts : (m f e b ba w : ℕ) → Policy → (c k : ℕ) → List NodeId → (n q : ℕ) → Kind → List ℕ → Setup
 parts m f e b ba w p c k faulty n q kind tag = record {
-  «module» = m; f = f; epoch = e; buckets = b; batch = ba; window = w; policy = p; clients = c; keys = k; faulty = faulty; n = n; quorum = q; kind = kind; tag = tag
+  «module» = m;
+  f = f;
+  epoch = e;
+  buckets = b;
+  batch = ba;
+  window = w;
+  policy = p;
+  clients = c;
+  keys = k;
+  faulty = faulty;
+  n = n;
+  quorum = q;
+  kind = kind;
+  tag = tag;
 }
 
 none_faulty : (s : Setup) → s.kind ≡ Stopping → IsFewFaulty s.kind s.f s.faulty → s.faulty ≡ []

@@ -1,9 +1,8 @@
 -- Lines that no schedule has.
-use Rattle.std.proofs.Common.{◌≡◌, ◌≢◌, ℕ, zero, suc, ◌+◌, ◌-◌, ◌*◌, ◌^◌, ◌<◌, ◌≤◌, List, [], ◌∷◌, ◌++◌, length, take, map, Option, Some, None, codes, decimal, refl, sym, ap, subst, ◌∙◌, arith, append_assoc, length-append, ◌⊎◌, inl, inr}
+use Rattle.std.proofs.Common.{◌≡◌, ◌≢◌, ℕ, zero, suc, ◌+◌, ◌-◌, ◌^◌, ◌<◌, ◌≤◌, List, [], ◌∷◌, ◌++◌, length, take, map, Option, Some, None, codes, decimal, refl, sym, ap, subst, ◌∙◌, arith, append_assoc, length-append, inl, inr}
 use Rattle.std.proofs.lemmas.Fmt.{decimal_injective}
 use Rattle.iss_base.specs.Lists.{nth}
 use Rattle.iss_request.specs.declared.setups.Setup.{Setup}
-use Rattle.iss_request.specs.declared.setups.Kind.{Kind}
 use Rattle.iss_request.specs.declared.setups.Kind.TheVariants.{Byzantine, Stopping}
 use Rattle.iss_schedule.specs.declared.errors.Why.{Why}
 use Rattle.iss_schedule.specs.declared.errors.Why.TheVariants.{Cut, Form, Faulty, Injected, Range, Size}
@@ -12,12 +11,12 @@ use Rattle.iss_schedule.specs.declared.errors.ReadError.TheVariants.{BadLine, No
 use Rattle.iss_schedule.specs.declared.schedules.Event.{Event}
 use Rattle.iss_schedule.specs.declared.schedules.Event.TheVariants.{Request, Propose, Timeout, Deliver, Lose, Pump, Calm, Hold, Free, Drop, Bytes}
 use Rattle.iss_schedule.specs.declared.schedules.Schedule.{Schedule}
-use Rattle.iss_schedule.specs.BadLines.{Begins, IsNext, IsBadRest, IsFirstBad, IsBadLine, IsRefused}
+use Rattle.iss_schedule.specs.BadLines.{Begins, IsBadRest, IsRefused}
 use Rattle.iss_schedule.specs.Events.{spell_event, IsInRange, AreInRange}
-use Rattle.iss_schedule.specs.Forms.{HasForm, HeaderForm, IsFormed, header_forms, IsEventLine, IsEventFault}
+use Rattle.iss_schedule.specs.Forms.{HasForm, HeaderForm, IsFormed, header_forms, IsEventLine}
 use Rattle.iss_schedule.specs.Places.{IsEventBad, IsEventsBad, IsEventsRefused}
 use Rattle.iss_schedule.specs.Schedules.{field, header_lines, schedule_lines, IsRelay, IsFine, most_events, most_bytes}
-use Rattle.iss_schedule.specs.Words.{Lacks, ended}
+use Rattle.iss_schedule.specs.Words.{ended}
 use Rattle.iss_schedule.proofs.Fronts.{ended-append, nth_behind, three_nodes}
 
 pub take_all : (xs : List (List ℕ)) → xs ≡ take (length xs) xs
@@ -118,8 +117,7 @@ bad_event s lines rest Form relay few some bad =
 bad_event s lines rest Faulty relay few some bad = absurd bad.1.1
 bad_event s lines rest Injected relay few some bad = let n = length-append (header_lines s) lines in (omega arith, (bad.0, (bad.1.0, (omega arith, bad.1.1))))
 bad_event s lines rest Range relay few some bad =
-    let n = length-append (header_lines s) lines in
-    (
+    let n = length-append (header_lines s) lines in (
       omega arith,
       (
         bad.0,
@@ -146,8 +144,8 @@ bad_rest s text line why relay b =
     let all = length-append (header_lines s) (map spell_event b.events) in
     elim b.bad [
       | inl full ↦
-        let at : length (header_lines s ++ map spell_event b.events) ≡ 11 + most_events = omega (arith, full.1) in
-        subst (λ (w : Why). IsBadRest (header_lines s ++ map spell_event b.events) b.rest w) (sym full.0) (at, b.some)
+          let at : length (header_lines s ++ map spell_event b.events) ≡ 11 + most_events = omega (arith, full.1) in
+          subst (λ (w : Why). IsBadRest (header_lines s ++ map spell_event b.events) b.rest w) (sym full.0) (at, b.some)
       | inr next ↦ bad_event s (map spell_event b.events) b.rest why relay (omega (arith, next.0)) b.some next.1
     ]
 

@@ -9,8 +9,20 @@ use Rattle.iss_schedule.specs.Reads.{IsWithin}
 -- three nodes that do not fail, of which two decide
 abbrev pub setup_with : Header → List ℕ → Setup
 setup_with h tag = record {
-  «module» = 1; f = 0; epoch = h.epoch; buckets = h.buckets; batch = h.batch; window = h.window; policy = Simple; clients = h.clients; keys = h.keys;
-  faulty = []; n = 3; quorum = 2; kind = Stopping; tag = tag
+  «module» = 1;
+  f = 0;
+  epoch = h.epoch;
+  buckets = h.buckets;
+  batch = h.batch;
+  window = h.window;
+  policy = Simple;
+  clients = h.clients;
+  keys = h.keys;
+  faulty = [];
+  n = 3;
+  quorum = 2;
+  kind = Stopping;
+  tag = tag;
 }
 
 -- the ranges of the numbers of a header

@@ -23,10 +23,7 @@ pub enum Why {
 #[derive(Clone, Copy, Debug, PartialEq, Eq)]
 pub enum ReadError {
     /// The first bad line, numbered from 1, and what is wrong with it.
-    BadLine {
-        line: u32,
-        why: Why,
-    },
+    BadLine { line: u32, why: Why },
     /// Memory was wanting.
     NoMemory,
 }

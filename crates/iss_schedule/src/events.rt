@@ -43,8 +43,8 @@ fn packet_in(words: &mut Words) -> Option<u64>
     if words.is_done() { Some(number) } else { None }
 }
 
-// The same bytes.
-fn boxed(all: Vec<u8>) -> Bytes
+// The same bytes, each of which is below 256.
+fn bytes_from(all: Vec<u8>) -> Bytes
     ensures same { result ≡ all.items }
     ensures bytes { IsBytes result }
 {
@@ -62,7 +62,7 @@ pub fn bytes_in(alloc: Global, words: &mut Words) -> Result<Option<Bytes>, NoMem
         return Ok(None);
     };
     if words.is_done() {
-        Ok(Some(boxed(bytes)))
+        Ok(Some(bytes_from(bytes)))
     } else {
         Ok(None)
     }
@@ -161,7 +161,12 @@ pub fn is_stopping(setup: &Setup) -> bool
 }
 
 // The event of this name, behind which the words stand.
-fn event_in(alloc: Global, setup: &Setup, name: Name, words: &mut Words) -> Result<Option<Event>, NoMemory>
+fn event_in(
+    alloc: Global,
+    setup: &Setup,
+    name: Name,
+    words: &mut Words,
+) -> Result<Option<Event>, NoMemory>
     requires good { IsGoodSetup setup.now }
     ensures { IfOk result (Reads event_words (IsInRange setup.now) (text_of_name name ∷ words.old)) }
 {

@@ -30,7 +30,12 @@ fn ends_in_bytes(name: Name) -> bool
 }
 
 // Whether the words are so many numbers, and then nothing, or bytes.
-fn are_arguments(alloc: Global, numbers: u32, bytes: bool, words: &mut Words) -> Result<bool, NoMemory>
+fn are_arguments(
+    alloc: Global,
+    numbers: u32,
+    bytes: bool,
+    words: &mut Words,
+) -> Result<bool, NoMemory>
     ensures { IfOk result (λ b. IsTrue b ↔ AreArguments numbers bytes words.old) }
 {
     for _ in 0..numbers {
@@ -66,7 +71,12 @@ pub fn fault_of(alloc: Global, setup: &Setup, line: &[u8]) -> Result<Why, NoMemo
     let Some(name) = name_of(word) else {
         return Ok(Why::Form);
     };
-    if !are_arguments(alloc, count_of_numbers(name), ends_in_bytes(name), &mut words)? {
+    if !are_arguments(
+        alloc,
+        count_of_numbers(name),
+        ends_in_bytes(name),
+        &mut words,
+    )? {
         return Ok(Why::Form);
     }
     if is_injection(name) {

@@ -52,7 +52,11 @@ fn behind<'a>(line: &'a [u8], name: &[u8]) -> Option<&'a [u8]>
     let Some((first, rest)) = cut_at(line, b' ') else {
         return None;
     };
-    if is_same(first, name) { Some(rest) } else { None }
+    if is_same(first, name) {
+        Some(rest)
+    } else {
+        None
+    }
 }
 
 // Goes past a line that has to be this name and a number in range, at least the first and below the second.

@@ -11,5 +11,4 @@ pub fn texts_and_schedules()
     ensures one_schedule { (b : List ℕ) (s t : Schedule) → IsSchedule b s → IsSchedule b t → s ≡ t }
     ensures refused { (b : List ℕ) (line : ℕ) (why : Why) (s : Schedule) → IsBadLine b line why → ¬ IsSchedule b s }
     ensures one_refusal { (b : List ℕ) (k l : ℕ) (v w : Why) → IsBadLine b k v → IsBadLine b l w → (k ≡ l) × (v ≡ w) }
-{
-}
+{}

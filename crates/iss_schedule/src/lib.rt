@@ -15,8 +15,8 @@ mod writing;
 
 pub use errors::{ReadError, Why};
 pub use reading::{MOST_BYTES, MOST_EVENTS, read};
-pub use writing::write;
 pub use schedules::{Event, Schedule};
+pub use writing::write;
 
 #[cfg(test)]
 mod tests;

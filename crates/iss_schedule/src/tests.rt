@@ -3,10 +3,12 @@ use crate::{Event, ReadError, Why, read, write};
 use std::alloc::{AllocError, Global};
 use std::test::Fail;
 
-const HEADER: &str = "iss 1\nmodule relay\nf 0\nepoch 3\nbuckets 3\nbatch 4\nwindow 8\npolicy simple\nclients 1\nkeys 4\nfaulty none\n";
+const HEADER: &str =
+    "iss 1\nmodule relay\nf 0\nepoch 3\nbuckets 3\nbatch 4\nwindow 8\npolicy simple\nclients 1\nkeys 4\nfaulty none\n";
 
 // A line number, what is wrong there, and the line that stands there in place of a good one.
-const BAD_LINES: &str = "1 Form iss 2\n1 Form iss 01\n1 Form iss  1\n1 Form iss 1 \n1 Form \n1 Form Iss 1\n1 Form iss 1\r
+const BAD_LINES: &str =
+    "1 Form iss 2\n1 Form iss 01\n1 Form iss  1\n1 Form iss 1 \n1 Form \n1 Form Iss 1\n1 Form iss 1\r
 2 Form module raft\n2 Form module\n2 Form module relay x\n3 Range f 1\n3 Form f 00\n3 Form f\n3 Form f -0\n3 Form f 0x\n4 Range epoch 2\n4 Range epoch 65\n4 Form epoch +3
 5 Range buckets 0\n5 Range buckets 257\n5 Form bucket 1\n6 Range batch 33\n6 Range batch 0\n7 Range window 65\n7 Range window 99999999999999999999999999\n8 Form policy backoff
 8 Form policy Simple\n9 Range clients 257\n9 Range clients 0\n9 Form clients \n10 Range keys 1\n10 Range keys 13\n10 Form keys 4 4\n11 Faulty faulty 0\n11 Faulty faulty 1 0 7
@@ -18,7 +20,8 @@ const BAD_LINES: &str = "1 Form iss 2\n1 Form iss 01\n1 Form iss  1\n1 Form iss 
 12 Range calm 0\n12 Range calm 1001\n12 Range hold 3\n12 Range free 3\n12 Range drop 3\n12 Injected bytes 0 00\n12 Injected bytes 99999999999999999999 -\n12 Form bytes 0 0
 12 Form bytes 0\n12 Form bytes 00 00";
 
-const EVENTS: &str = "request 0 0 0 aa\nrequest 2 0 15 -\nrequest 1 0 7 00ff10\npropose 0\ntimeout 1 2\ndeliver 18446744073709551615\nlose 0\npump\ncalm 1000\ncalm 1\nhold 2\nfree 2\ndrop 1\n";
+const EVENTS: &str =
+    "request 0 0 0 aa\nrequest 2 0 15 -\nrequest 1 0 7 00ff10\npropose 0\ntimeout 1 2\ndeliver 18446744073709551615\nlose 0\npump\ncalm 1000\ncalm 1\nhold 2\nfree 2\ndrop 1\n";
 
 fn why_of(word: &str) -> Why {
     match word {
@@ -52,7 +55,8 @@ fn each_bad_line_is_named(rt: HostRuntime) -> Result<(), Fail> {
             if let Some((why, line)) = rest.split_once(' ') {
                 let number = number.parse::<u32>()?;
                 let text = text_with(rt.alloc(), number, line)?;
-                let refused = matches!(read(rt.alloc(), text.as_bytes()), Err(ReadError::BadLine { line: at, why: is }) if at == number && is == why_of(why));
+                let refused =
+                    matches!(read(rt.alloc(), text.as_bytes()), Err(ReadError::BadLine { line: at, why: is }) if at == number && is == why_of(why));
                 assert!(rt; refused, "at {case}");
                 count = count.saturating_add(1);
             }
@@ -65,16 +69,38 @@ fn each_bad_line_is_named(rt: HostRuntime) -> Result<(), Fail> {
 #[test]
 fn lines_that_are_cut_and_bytes_that_are_no_text(rt: HostRuntime) -> Result<(), Fail> {
     let alloc = rt.alloc();
-    for (text, number) in [("", 1u32), ("iss 1", 1), ("iss 1\n", 2), ("iss 1\nmodule relay\nf 0\nepoch 3", 4)] {
-        let cut = matches!(read(alloc, text.as_bytes()), Err(ReadError::BadLine { line, why: Why::Cut }) if line == number);
+    for (text, number) in [
+        ("", 1u32),
+        ("iss 1", 1),
+        ("iss 1\n", 2),
+        ("iss 1\nmodule relay\nf 0\nepoch 3", 4),
+    ] {
+        let cut =
+            matches!(read(alloc, text.as_bytes()), Err(ReadError::BadLine { line, why: Why::Cut }) if line == number);
         assert!(rt; cut, "at {text}");
     }
     let mut text = String::from_str(alloc, HEADER)?;
     text.push_str("pump\npump")?;
-    assert!(rt; matches!(read(alloc, text.as_bytes()), Err(ReadError::BadLine { line: 13, why: Why::Cut })));
+    assert!(rt;
+        matches!(
+            read(alloc, text.as_bytes()),
+            Err(ReadError::BadLine {
+                line: 13,
+                why: Why::Cut
+            })
+        )
+    );
     let mut bytes = Vec::from_slice(alloc, HEADER.as_bytes())?;
     bytes.extend_from_slice(&[0xff, 0x00, 0x0a])?;
-    assert!(rt; matches!(read(alloc, &bytes), Err(ReadError::BadLine { line: 12, why: Why::Form })));
+    assert!(rt;
+        matches!(
+            read(alloc, &bytes),
+            Err(ReadError::BadLine {
+                line: 12,
+                why: Why::Form
+            })
+        )
+    );
     Ok(())
 }
 
@@ -103,10 +129,29 @@ fn a_schedule_holds_what_its_text_says(rt: HostRuntime) -> Result<(), Fail> {
         Err(_) => return Err(Fail::new("refused")),
     };
     let s = &schedule.setup;
-    assert!(rt; s.epoch == 3 && s.buckets == 3 && s.batch == 4 && s.window == 8 && s.clients == 1 && s.keys == 4 && s.n == 3 && s.quorum == 2);
+    assert!(rt;
+        s.epoch == 3
+            && s.buckets == 3
+            && s.batch == 4
+            && s.window == 8
+            && s.clients == 1
+            && s.keys == 4
+            && s.n == 3
+            && s.quorum == 2
+    );
     assert!(rt; s.tag[..4] == [120u8, 18, 191, 101][..]);
     let told = match schedule.events.as_slice() {
-        [Event::Request { core, client, number, payload }] => *core == 2 && *client == 0 && *number == 5 && payload.as_slice() == &[0xabu8, 0xcd][..],
+        [
+            Event::Request {
+                core,
+                client,
+                number,
+                payload,
+            },
+        ] => *core == 2
+            && *client == 0
+            && *number == 5
+            && payload.as_slice() == &[0xabu8, 0xcd][..],
         _ => false,
     };
     assert!(rt; told);

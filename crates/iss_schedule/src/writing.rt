@@ -81,7 +81,12 @@ fn put_event(alloc: Global, out: &mut Vec<u8>, event: &Event) -> Result<(), NoMe
     ensures { OnOk result (out.new.items ≡ out.old.items ++ spell_event event.now) }
 {
     match event {
-        Event::Request { core, client, number, payload } => {
+        Event::Request {
+            core,
+            client,
+            number,
+            payload,
+        } => {
             put_one(out, Name::Request, u64::from(*core))?;
             put_number(out, u64::from(*client))?;
             put_number(out, u64::from(*number))?;

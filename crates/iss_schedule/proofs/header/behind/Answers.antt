@@ -1,4 +1,3 @@
-use Rattle.std.proofs.Common.{sym, ◌∙◌}
 use Rattle.std.proofs.lemmas.Bool.{iff_false}
 use Rattle.iss_schedule.proofs.Cuts.{uncut, behind_same}
 use Rattle.iss_schedule.proofs.header.behind.Goals as goal

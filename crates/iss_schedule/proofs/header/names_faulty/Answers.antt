@@ -1,6 +1,5 @@
-use Rattle.std.proofs.Common.{◌≡◌, [], false, rules, sym, ◌∙◌}
+use Rattle.std.proofs.Common.{rules, sym, ◌∙◌}
 use Rattle.std.proofs.lemmas.Bool.{iff_false}
-use Rattle.iss_schedule.specs.Words.{words_of}
 use Rattle.iss_schedule.proofs.Arguments.{faulty_words}
 use Rattle.iss_schedule.proofs.header.names_faulty.Goals as goal
 

@@ -1,4 +1,4 @@
-use Rattle.std.proofs.Common.{sym, ◌∙◌, decimal, subst, List, ℕ}
+use Rattle.std.proofs.Common.{sym, decimal, subst}
 use Rattle.std.proofs.lemmas.Bool.{iff_false}
 use Rattle.iss_schedule.specs.Words.{IsNumber}
 use Rattle.iss_schedule.proofs.Cuts.{behind_same}

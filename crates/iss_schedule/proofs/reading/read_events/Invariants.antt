@@ -9,7 +9,7 @@ invariant-lines l = record {
   text : l.initial.lines.rest ≡ ended (map spell_event l.events) ++ l.lines.rest;
   range : AreInRange l.setup l.events;
   few : length l.events ≤ most_events;
-  read : l.lines.read ≡ 11 + length l.events
+  read : l.lines.read ≡ 11 + length l.events;
 }
 
 abbrev pub decreases-lines : goal.decreases-lines

@@ -4,7 +4,7 @@ use Rattle.iss_schedule.specs.Headers.{setup_with}
 use Rattle.iss_schedule.specs.Places.{Place}
 use Rattle.iss_schedule.specs.Schedules.{header_lines}
 use Rattle.iss_schedule.specs.Words.{ended}
-use Rattle.iss_schedule.proofs.Fronts.{made, relay_made, text_made, schedule_read, relay_of}
+use Rattle.iss_schedule.proofs.Fronts.{made, relay_made, text_made, schedule_read}
 use Rattle.iss_schedule.proofs.Refusals.{refused_behind}
 use Rattle.iss_schedule.proofs.reading.read_text.Goals as goal
 

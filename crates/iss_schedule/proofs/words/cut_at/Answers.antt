@@ -1,6 +1,4 @@
 use Rattle.std.proofs.Common.{arith}
-
-use Rattle.iss_schedule.specs.Words.{Lacks}
 use Rattle.iss_schedule.proofs.Cuts.{lacks_take, lacks_all}
 use Rattle.iss_schedule.proofs.words.cut_at.Goals as goal
 

@@ -1,4 +1,4 @@
-use Rattle.std.proofs.Common.{◌<◌, ◌^◌, ◌≡◌, ◌∙◌, arith, rules, sym}
+use Rattle.std.proofs.Common.{◌<◌, ◌^◌, ◌∙◌, arith, rules, sym}
 use Rattle.std.proofs.lemmas.Bool.{iff_false}
 use Rattle.iss_schedule.proofs.Numbers.{outside}
 use Rattle.iss_schedule.proofs.words.number_within.Goals as goal
