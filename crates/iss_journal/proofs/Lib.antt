@@ -3,3 +3,4 @@ mod Grammar
 mod Book
 mod Crash
 mod Steps
+mod Resting

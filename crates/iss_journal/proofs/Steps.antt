@@ -223,9 +223,9 @@ module _ (entries : List (List ℕ)) (entry : List ℕ) (fits : length entry ≤
       (omega (arith, ap (λ (f : File). length f.content) (is_staged file past rests), crash.length_staged entries entry rests.gate rests.short fits rests.closed))
 
 -- what is staged behind the gate
-pub is_body : (entries : List (List ℕ)) (entry bytes staged : List ℕ) → bytes ≡ frames entries ++ (frame entry ++ 0 ∷ []) → staged ≡ drop (length (frames entries) + 1) bytes → staged ≡ crash.body entry
-is_body entries entry bytes staged is is_staged =
-    is_staged ∙ ap (drop (length (frames entries) + 1)) is ∙ sym (drop-drop 1 (length (frames entries)) (frames entries ++ (frame entry ++ 0 ∷ []))) ∙ ap (drop 1) (drop_at (frames entries) (frame entry ++ 0 ∷ []) (length (frames entries)) refl)
+pub is_body : (entries : List (List ℕ)) (entry bytes behind : List ℕ) → bytes ≡ frames entries ++ (frame entry ++ 0 ∷ []) → behind ≡ drop (length (frames entries) + 1) bytes → behind ≡ crash.body entry
+is_body entries entry bytes behind is is_behind =
+    is_behind ∙ ap (drop (length (frames entries) + 1)) is ∙ sym (drop-drop 1 (length (frames entries)) (frames entries ++ (frame entry ++ 0 ∷ []))) ∙ ap (drop 1) (drop_at (frames entries) (frame entry ++ 0 ∷ []) (length (frames entries)) refl)
 
 -- a write of the same bytes at the same place
 pub same_write : (at to : ℕ) (bytes others : List ℕ) (passed : Bool) (h new : List File) → at ≡ to → bytes ≡ others → Moves (wrote at bytes) passed h new → Moves (wrote to others) passed h new

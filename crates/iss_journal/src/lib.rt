@@ -2,9 +2,13 @@
 #![tactic(auto)]
 
 mod entries;
+mod errors;
 mod keep;
 mod laws;
+mod load;
 mod scan;
+mod settle;
 
-pub use entries::Entries;
+pub use entries::{Entries, MAX_ENTRY};
+pub use errors::AttachError;
 pub use laws::a_file_has_one_reading;
