@@ -4,3 +4,4 @@ mod Book
 mod Crash
 mod Steps
 mod Resting
+mod Reading

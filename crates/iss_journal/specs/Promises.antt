@@ -37,7 +37,8 @@ pub record RestsOn (entries : List (List ℕ)) (file : File) : Type 0 where
 -- a crash at any moment of a call leaves a file that reads as what a read gave before it
 abbrev pub LeavesReading : List File → List File → Type 0
 LeavesReading [] new = new ≡ []
-LeavesReading (file ∷ past) new = (reading : Reading) → Reads file.content reading → LeavesOnly (λ bytes. Reads bytes reading) (file ∷ past) new
+LeavesReading (file ∷ past) new = (added : List File) × (new ≡ added ++ file ∷ past)
+    × ((reading : Reading) → Reads file.content reading → OnlyLeaves (λ bytes. Reads bytes reading) file × EachState (OnlyLeaves (λ bytes. Reads bytes reading)) added)
 
 -- a disk of which all calls pass goes on so, and nothing fails
 abbrev pub Works : Passes → Passes → Type 0 → Type 0

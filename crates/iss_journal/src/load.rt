@@ -35,3 +35,30 @@ fn read_file<D: Disk>(alloc: Global, disk: &mut D) -> Result<Vec<u8>, EndError>
     bytes.truncate(at);
     Ok(bytes)
 }
+
+/// Reads the entries of the current file, all of which is on the disk, and brings it to rest.
+pub(crate) fn load<D: Disk>(alloc: Global, disk: &mut D) -> Result<Entries, AttachError>
+    requires on_disk { IfTold (D.history disk.old) (λ file. file ≡ settled file.content) }
+    requires calls { 3 ≤ (D.room disk.old).calls }
+    requires bytes { 1 ≤ (D.room disk.old).bytes }
+    ensures entries { IfOk result (λ entries. IfTold (D.history disk.old) (λ file. Reads file.content (holds (entries_in entries)))) }
+    ensures rests { IfOk result (λ entries. IfTold (D.history disk.new) (RestsOn (entries_in entries))) }
+    ensures damaged { (at : ℕ) → IsErrOf result (AttachError.Damaged at) → IfTold (D.history disk.old) (λ file. Reads file.content (damaged at)) }
+    ensures any_moment { LeavesReading (D.history disk.old) (D.history disk.new) }
+    ensures others { StaysHere (D.current disk.old) (D.current disk.new) (D.files disk.old) (D.files disk.new) }
+    ensures cause { HasCause (D.faults disk.old) (D.faults disk.new) (IsErrOf result AttachError.Failed) }
+    ensures works { Works (D.passes disk.old) (D.passes disk.new) (IsErrOf result AttachError.Failed) }
+{
+    let bytes = read_file(alloc, disk)?;
+    if bytes.len() <= 1 {
+        make_empty(disk, &bytes)?;
+        return Ok(Entries::new(alloc));
+    }
+    match read_entries(alloc, bytes)? {
+        Found::Whole(entries) => {
+            cut_tail(disk, &entries)?;
+            Ok(entries)
+        }
+        Found::Damaged(at) => Err(AttachError::Damaged { at }),
+    }
+}
