@@ -1,10 +1,13 @@
 -- A file that is read and brought to rest reads as before at each moment.
-use Rattle.std.proofs.Common.{◌≡◌, inl, inr, ℕ, ◌+◌, ◌<◌, ◌≤◌, true, false, List, [], ◌∷◌, ◌++◌, length, refl, sym, ◌∙◌, ap, subst, arith, append_assoc}
+use Rattle.std.proofs.Common.{◌≡◌, inl, inr, ℕ, ◌+◌, ◌<◌, ◌≤◌, true, false, List, [], ◌∷◌, ◌++◌, length, refl, sym, ◌∙◌, ap, subst, arith, append_assoc, vec_len, vec_capacity}
 use Rattle.iss_disk.specs.File.{File, Image, settled, synced}
-use Rattle.iss_disk.specs.Calls.{IfTold, EachState, IsBetween, Moves}
-use Rattle.iss_journal.specs.Frames.{ClosesAfter, Reading, Reads, holds}
-use Rattle.iss_journal.specs.Promises.{OnlyLeaves, LeavesOnly, LeavesReading, LosesNothing, HoldsFirst}
-use Rattle.iss_journal.proofs.Crash.{only_settled}
+use Rattle.iss_disk.specs.Calls.{IfTold, EachState, IsBetween, Moves, Stays, Room, Takes}
+use Rattle.iss_journal.specs.Frames.{frames, ClosesAfter, Reading, Reads, holds}
+use Rattle.iss_journal.specs.Promises.{OnlyLeaves, LeavesOnly, LeavesReading, LosesNothing, HoldsFirst, RestsOn}
+use Rattle.iss_journal.proofs.Crash.{only_settled, reads_closed}
+use Rattle.iss_journal.specs.EntryViews.{entries_in}
+use Rattle.iss_journal.specs.Sound.{HasRoom}
+use Rattle.iss_journal.specs.declared.entries.Entries.{Entries}
 use Rattle.iss_journal.proofs.Grammar.{one_reading}
 use Rattle.iss_journal.proofs.Steps.{between_leaves, each_append}
 
@@ -65,3 +68,26 @@ sync_content (file ∷ past) h1 moves = subst (λ (h : List File). IfTold h (λ 
 pub before_sync : (P : List ℕ → Type 0) (h0 h1 : List File) → Moves synced true h0 h1 → IfTold h1 (λ file. P file.content) → IfTold h0 (λ file. P file.content)
 before_sync P [] h1 moves told = tt
 before_sync P (file ∷ past) h1 moves told = subst (λ (h : List File). IfTold h (λ f. P f.content)) moves told
+
+pub loses_start : (h : List File) → LosesNothing h h
+loses_start [] = refl
+loses_start (file ∷ past) = ([], refl, λ entries leaves. tt)
+
+pub rests_durable : (h : List File) (entries : List (List ℕ)) → IfTold h (RestsOn entries) → IfTold h (OnlyLeaves (λ bytes. Reads bytes (holds entries)))
+rests_durable h entries told = told_so _ _ h told (λ file rests c image.
+    reads_closed entries rests.gate [] c rests.short rests.closed (only_settled (frames entries ++ rests.gate ∷ []) c (subst (λ (f : File). Image f c) rests.is image)))
+
+pub history_same : (h0 h1 : List File) (f0 f1 : List ℕ → List File) (n0 n1 : List ℕ) → h0 ≡ f0 n0 → h1 ≡ f1 n1 → Stays n0 n1 f0 f1 → h1 ≡ h0
+history_same h0 h1 f0 f1 n0 n1 is0 is1 stays = is1 ∙ ap f1 stays.name ∙ stays.all n0 ∙ sym is0
+
+-- whether there is room does not depend on room that was added
+pub room_more : (bytes : ℕ) (old new : Entries) (room now : Room) → HasRoom bytes old room → entries_in new ≡ entries_in old → vec_capacity old.bytes ≤ vec_capacity new.bytes → (vec_len old.gates < vec_capacity old.gates → vec_len new.gates < vec_capacity new.gates) → Takes 0 0 room now → HasRoom bytes new now
+room_more bytes old new room now has same no_less gate takes = record {
+  in_memory = omega (arith, has.in_memory, no_less, ap (λ (es : List (List ℕ)). length (frames es)) same);
+  for_gate = gate has.for_gate;
+  calls = omega (arith, has.calls, takes.calls_left);
+  on_disk = omega (arith, has.on_disk, takes.bytes_left);
+}
+
+pub takes_none : (room : Room) → Takes 0 0 room room
+takes_none room = record { calls_left = omega arith; bytes_left = omega arith }

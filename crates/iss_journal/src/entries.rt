@@ -123,6 +123,8 @@ impl Entries {
         ensures entries { entries_in self.new ≡ entries_in self.old }
         ensures room { OnOk result (length (frames (entries_in self.old)) + bytes + 6 ≤ vec_capacity self.new.bytes) }
         ensures gate { OnOk result (vec_len self.new.gates < vec_capacity self.new.gates) }
+        ensures no_less { vec_capacity self.old.bytes ≤ vec_capacity self.new.bytes }
+        ensures gate_kept { vec_len self.old.gates < vec_capacity self.old.gates → vec_len self.new.gates < vec_capacity self.new.gates }
     {
         let wanted = bytes.checked_add(6).ok_or(AllocError)?;
         self.bytes.reserve(wanted)?;

@@ -3,6 +3,7 @@
 
 mod entries;
 mod errors;
+mod journal;
 mod keep;
 mod laws;
 mod load;
@@ -11,4 +12,5 @@ mod settle;
 
 pub use entries::{Entries, MAX_ENTRY};
 pub use errors::AttachError;
+pub use journal::Journal;
 pub use laws::a_file_has_one_reading;
