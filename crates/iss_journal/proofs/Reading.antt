@@ -3,7 +3,7 @@ use Rattle.std.proofs.Common.{◌≡◌, inl, inr, ℕ, ◌+◌, ◌<◌, ◌≤
 use Rattle.iss_disk.specs.File.{File, Image, settled, synced}
 use Rattle.iss_disk.specs.Calls.{IfTold, EachState, IsBetween, Moves, Stays, Room, Takes}
 use Rattle.iss_journal.specs.Frames.{frames, ClosesAfter, Reading, Reads, holds}
-use Rattle.iss_journal.specs.Promises.{OnlyLeaves, LeavesOnly, LeavesReading, LosesNothing, HoldsFirst, RestsOn}
+use Rattle.iss_journal.specs.Promises.{OnlyLeaves, LeavesOnly, LeavesReading, LosesNothing, HoldsFirst, HoldsWithOrWithout, RestsOn}
 use Rattle.iss_journal.proofs.Crash.{only_settled, reads_closed}
 use Rattle.iss_journal.specs.EntryViews.{entries_in}
 use Rattle.iss_journal.specs.Sound.{HasRoom}
@@ -91,3 +91,8 @@ room_more bytes old new room now has same no_less gate takes = record {
 
 pub takes_none : (room : Room) → Takes 0 0 room room
 takes_none room = record { calls_left = omega arith; bytes_left = omega arith }
+
+-- before an append
+pub rests_start : (h : List File) (entries : List (List ℕ)) (entry : List ℕ) → IfTold h (RestsOn entries) → LeavesOnly (HoldsWithOrWithout entries entry) h h
+rests_start [] entries entry told = refl
+rests_start (file ∷ past) entries entry told = ([], refl, (λ c image. inl (rests_durable (file ∷ past) entries told c image)), tt)

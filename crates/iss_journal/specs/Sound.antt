@@ -1,7 +1,7 @@
 -- What a journal shows, and what is true of each.
 use Rattle.std.specs.Prelude.{◌≡◌, ℕ, ◌+◌, ◌<◌, ◌≤◌, Bool, true, Option, Some, List, length, vec_len, vec_capacity}
 use Rattle.iss_disk.specs.File.{File}
-use Rattle.iss_disk.specs.Calls.{IfTold, Room}
+use Rattle.iss_disk.specs.Calls.{IfTold, Room, Passes}
 use Rattle.iss_journal.specs.Frames.{frames}
 use Rattle.iss_journal.specs.EntryViews.{entries_in}
 use Rattle.iss_journal.specs.Promises.{RestsOn}
@@ -34,3 +34,9 @@ pub record HasRoom (bytes : ℕ) (entries : Entries) (room : Room) : Type 0 wher
 pub record IsSound {D : Type 0} (history : D → List File) (room : D → Room) (journal : Journal D) : Type 0 where
   pub rests : journal.attached ≡ true → IfTold (history journal.disk) (RestsOn (entries_in journal.entries))
   pub room_kept : (bytes : ℕ) → journal.reserved ≡ Some bytes → HasRoom bytes journal.entries (room journal.disk)
+
+-- the disk's file, the calls to come and whether the journal is attached are as before
+pub record NothingChanged {D : Type 0} (history : D → List File) (passes : D → Passes) (old new : Journal D) : Type 0 where
+  pub file : history new.disk ≡ history old.disk
+  pub calls : passes new.disk ≡ passes old.disk
+  pub attached : new.attached ≡ old.attached
