@@ -17,15 +17,22 @@ told_so P Q (file ∷ past) told so = so file told
 
 pub reads_same : (h new : List File) → IfTold h (λ file. file ≡ settled file.content) → new ≡ h → LeavesReading h new
 reads_same [] new on_disk same = same
-reads_same (file ∷ past) new on_disk same = ([], same, λ reading reads.
-    ((λ c image. subst (λ (bytes : List ℕ). Reads bytes reading) (sym (only_settled file.content c (subst (λ (f : File). Image f c) on_disk image))) reads), tt))
+reads_same (file ∷ past) new on_disk same = (
+  [],
+  same,
+  λ reading reads.
+      ((λ c image. subst (λ (bytes : List ℕ). Reads bytes reading) (sym (only_settled file.content c (subst (λ (f : File). Image f c) on_disk image))) reads), tt),
+)
 
 pub reads_like : (h0 h1 new : List File) (found : Reading) → h1 ≡ h0 → IfTold h0 (λ file. Reads file.content found) → LeavesOnly (λ bytes. Reads bytes found) h1 new → LeavesReading h0 new
 reads_like [] h1 new found same told leaves = subst (λ (h : List File). LeavesOnly (λ bytes. Reads bytes found) h new) same leaves
 reads_like (file ∷ past) h1 new found same told leaves =
-    let here : LeavesOnly (λ bytes. Reads bytes found) (file ∷ past) new = subst (λ (h : List File). LeavesOnly (λ bytes. Reads bytes found) h new) same leaves in
-    (here.0, here.1, λ reading reads.
-      subst (λ (r : Reading). OnlyLeaves (λ bytes. Reads bytes r) file × EachState (OnlyLeaves (λ bytes. Reads bytes r)) here.0) (one_reading file.content found reading told reads) (here.2, here.3))
+    let here : LeavesOnly (λ bytes. Reads bytes found) (file ∷ past) new = subst (λ (h : List File). LeavesOnly (λ bytes. Reads bytes found) h new) same leaves in (
+      here.0,
+      here.1,
+      λ reading reads.
+          subst (λ (r : Reading). OnlyLeaves (λ bytes. Reads bytes r) file × EachState (OnlyLeaves (λ bytes. Reads bytes r)) here.0) (one_reading file.content found reading told reads) (here.2, here.3),
+    )
 
 pub brief_reads : (h : List File) (bytes : List ℕ) → IfTold h (λ file. bytes ≡ file.content) → length bytes ≤ 1 → IfTold h (λ file. Reads file.content (holds []))
 brief_reads h bytes told brief = told_so _ _ h told (λ file is. subst (λ (b : List ℕ). Reads b (holds [])) is (inl (brief, refl)))
@@ -50,14 +57,13 @@ sync_fails (file ∷ past) h1 read moves =
 pub sync_then : (h0 h1 h2 : List File) → ((file : File) (past : List File) → h0 ≡ file ∷ past → Image file file.content) → Moves synced true h0 h1 → LeavesReading h1 h2 → LosesNothing h0 h2
 sync_then [] h1 h2 read moves reading = subst (λ (h : List File). LeavesReading h h2) moves reading
 sync_then (file ∷ past) h1 h2 read moves reading =
-    let later : LeavesReading (synced file ∷ file ∷ past) h2 = subst (λ (h : List File). LeavesReading h h2) moves reading in
-    (
+    let later : LeavesReading (synced file ∷ file ∷ past) h2 = subst (λ (h : List File). LeavesReading h h2) moves reading in (
       later.0 ++ synced file ∷ [],
       later.1 ∙ sym (append_assoc later.0 (synced file ∷ []) (file ∷ past)),
       λ entries leaves.
-        let first = leaves file.content (read file past refl) in
-        let each = (later.2 (holds (entries ++ first.0)) first.1).1 in
-        each_append (OnlyLeaves (HoldsFirst entries)) later.0 (synced file ∷ []) (each_holds entries first.0 later.0 each) (keeps_first entries file (read file past refl) leaves, tt),
+          let first = leaves file.content (read file past refl) in
+          let each = (later.2 (holds (entries ++ first.0)) first.1).1 in
+          each_append (OnlyLeaves (HoldsFirst entries)) later.0 (synced file ∷ []) (each_holds entries first.0 later.0 each) (keeps_first entries file (read file past refl) leaves, tt),
     )
 
 pub sync_content : (h0 h1 : List File) → Moves synced true h0 h1 → IfTold h1 (λ file. file ≡ settled file.content)

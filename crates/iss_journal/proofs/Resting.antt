@@ -37,8 +37,8 @@ module _ (entries : List (List ℕ)) (bytes : List ℕ) (ends : ClosesAfter entr
       let long : end ≤ length c = omega (arith, image.long_enough, end_within) in
       let same : c ≡ front ++ drop (length front) c =
       begins_with c front (omega (arith, long, length_front)) (λ i lt.
-        let within : i < length bytes = omega (arith, lt, length_front, end_within) in
-        image.others i (omega (arith, lt, length_front, long)) within refl ∙ ap (λ (l : List ℕ). get_or l i 0) split ∙ get_or_append_left front ends.rest 0 i lt) in
+      let within : i < length bytes = omega (arith, lt, length_front, end_within) in
+      image.others i (omega (arith, lt, length_front, long)) within refl ∙ ap (λ (l : List ℕ). get_or l i 0) split ∙ get_or_append_left front ends.rest 0 i lt) in
       reads_closed entries ends.gate (drop (length front) c) c ends.short ends.closed (same ∙ append_assoc (frames entries) (ends.gate ∷ []) (drop (length front) c))
 
   shortens : take end bytes ≡ front

@@ -70,6 +70,7 @@ goes_on P file past h new change passed now before so_far is here there moves = 
   where
     whole : now ∷ before ≡ so_far.0 ++ file ∷ past
     whole = sym is ∙ so_far.1
+
     goes : (b : Bool) → Moves change b (now ∷ before) new → LeavesOnly P (file ∷ past) new
     goes true made = (change now ∷ so_far.0, made ∙ ap (λ (l : List File). change now ∷ l) whole, so_far.2, (there, so_far.3))
     goes false made = (made.0 ++ so_far.0, made.1 ∙ ap (λ (l : List File). made.0 ++ l) whole ∙ sym (append_assoc made.0 so_far.0 (file ∷ past)), so_far.2, each_append (OnlyLeaves P) made.0 so_far.0 (between_leaves P made.0 now (change now) here there made.2) so_far.3)

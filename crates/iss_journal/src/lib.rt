@@ -43,7 +43,13 @@ mod tests {
     }
 
     // How many entries a journal over these bytes has, and what is left of the file.
-    fn assert_attached(rt: &impl Abort, alloc: Global, bytes: &[u8], count: usize, left: &[u8]) -> Result<(), Fail> {
+    fn assert_attached(
+        rt: &impl Abort,
+        alloc: Global,
+        bytes: &[u8],
+        count: usize,
+        left: &[u8],
+    ) -> Result<(), Fail> {
         let mut disk = disk_with(alloc, bytes)?;
         {
             let mut journal = Journal::over(alloc, &mut disk);
@@ -71,7 +77,13 @@ mod tests {
     fn what_stands_behind_the_last_gate_is_cut_off(rt: HostRuntime) -> Result<(), Fail> {
         assert_attached(&rt, rt.alloc(), &[0, 0, 0, 0, 1, 0xaa, 0], 0, &[0])?;
         assert_attached(&rt, rt.alloc(), &[1], 0, &[0])?;
-        assert_attached(&rt, rt.alloc(), &[1, 0, 0, 0, 1, 0xaa, 7, 9], 1, &[1, 0, 0, 0, 1, 0xaa, 7])
+        assert_attached(
+            &rt,
+            rt.alloc(),
+            &[1, 0, 0, 0, 1, 0xaa, 7, 9],
+            1,
+            &[1, 0, 0, 0, 1, 0xaa, 7],
+        )
     }
 
     #[test]
