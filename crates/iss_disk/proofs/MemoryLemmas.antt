@@ -1,5 +1,5 @@
 -- Files of a disk in memory by their names.
-use Rattle.std.proofs.Common.{◌≡◌, ◌≢◌, inl, inr, ⊎_elim, ℕ, zero, suc, ◌+◌, ◌<◌, ◌≤◌, Bool, true, false, cond, List, [], ◌∷◌, ◌++◌, length, take, drop, get_or, set, reverse, refl, sym, ◌∙◌, ap, subst, arith, add-zero}
+use Rattle.std.proofs.Common.{◌≡◌, ◌≢◌, inl, inr, ℕ, zero, suc, ◌+◌, ◌<◌, ◌≤◌, true, false, cond, List, [], ◌∷◌, ◌++◌, length, take, drop, get_or, set, reverse, refl, sym, ◌∙◌, ap, subst, arith, add-zero}
 use Rattle.std.specs.Prelude.{bytes_eq}
 use Rattle.std.proofs.lemmas.Bool.{cases_Bool, cond-true, cond-false, false≢true}
 use Rattle.std.proofs.lemmas.Slice.Eq.{bytes_eq-Decides}
@@ -86,10 +86,9 @@ each_next olds news i old new lt long done left is named restarts =
     let in_news : i < length news = omega (arith, lt, long) in
     let front_old : take (i + 1) olds ≡ take i olds ++ old ∷ [] = take_more olds i old lt ∙ ap (λ (f : StoredFile). take i olds ++ f ∷ []) same in
     let front_new : take (i + 1) (set news i new) ≡ take i news ++ new ∷ [] = take_more_set news i new in_news in
-    let behind : i < i + 1 = omega arith in
-    (
+    let behind : i < i + 1 = omega arith in (
       subst (λ (l : List StoredFile). EachRestarts l (take (i + 1) (set news i new))) (sym front_old)
-      (subst (λ (l : List StoredFile). EachRestarts (take i olds ++ old ∷ []) l) (sym front_new) (each_more (take i olds) (take i news) old new done named restarts)),
+          (subst (λ (l : List StoredFile). EachRestarts (take i olds ++ old ∷ []) l) (sym front_new) (each_more (take i olds) (take i news) old new done named restarts)),
       drop-set-lt (i + 1) news i new behind ∙ sym (drop-drop 1 i news) ∙ ap (drop 1) left ∙ drop-drop 1 i olds,
     )
 

@@ -1,5 +1,5 @@
 -- A write and a cut keep what a stored file says of itself.
-use Rattle.std.proofs.Common.{◌≡◌, inl, inr, ℕ, ◌+◌, ◌-◌, ◌≤◌, ◌<◌, min, List, [], ◌∷◌, ◌++◌, length, take, drop, reverse, refl, sym, ◌∙◌, ap, subst, arith, length-append, length-take-le}
+use Rattle.std.proofs.Common.{◌≡◌, ℕ, ◌+◌, ◌-◌, ◌≤◌, List, [], ◌∷◌, ◌++◌, length, take, drop, reverse, refl, sym, ◌∙◌, ap, arith, length-append, length-take-le}
 use Rattle.std.proofs.lemmas.List.{reverse-append, take_at, drop_at, take-take, take-append-le}
 use Rattle.iss_disk.specs.File.{File, settled, overwritten, wrote, shortened, synced, restarted}
 use Rattle.iss_disk.specs.States.{states, after, newest, is_pending, IsStored}

@@ -1,9 +1,9 @@
 -- The laws of a disk in memory.
-use Rattle.std.proofs.Common.{◌≡◌, inl, inr, ℕ, Bool, true, false, List, [], ◌∷◌, reverse, refl, sym, ◌∙◌, ap}
+use Rattle.std.proofs.Common.{◌≡◌, inl, inr, ℕ, true, List, [], ◌∷◌, reverse, refl, sym, ◌∙◌}
 use Rattle.std.specs.Prelude.{bytes_eq}
 use Rattle.std.proofs.lemmas.Bool.{cases_Bool, cond-true, cond-false}
 use Rattle.std.proofs.lemmas.Slice.Eq.{bytes_eq-Decides}
-use Rattle.iss_disk.specs.File.{File, Image, settled}
+use Rattle.iss_disk.specs.File.{File, Image}
 use Rattle.iss_disk.specs.ReadsAreImages.{readable}
 use Rattle.iss_disk.specs.StoredViews.{history_of}
 use Rattle.iss_disk.specs.MemoryViews.{history_among, files_of}

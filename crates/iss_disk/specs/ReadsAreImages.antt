@@ -1,9 +1,9 @@
 -- What a read of a file gives is one of the things that a crash may leave of it, whatever calls were made on it.
-use Rattle.std.proofs.Common.{◌≡◌, ◌⊎◌, inl, inr, ⊎_elim, ℕ, ◌+◌, ◌-◌, ◌≤◌, ◌<◌, min, max, Bool, true, false, ◌&&◌, ◌||◌, List, [], ◌∷◌, ◌++◌, length, take, drop, get_or, refl, sym, ◌∙◌, ap, subst, arith, length-append, length-take, length-drop}
+use Rattle.std.proofs.Common.{◌≡◌, ◌⊎◌, inl, inr, ⊎_elim, ℕ, ◌+◌, ◌-◌, ◌≤◌, ◌<◌, min, List, [], ◌∷◌, ◌++◌, length, take, drop, get_or, refl, ◌∙◌, ap, subst, arith, length-append, length-take, length-drop}
 use Rattle.std.proofs.lemmas.List.{get_or_append_left, get_or-append_right, get_or-take, get_or-drop}
 use Rattle.std.proofs.lemmas.Bool.{or_parts, and_cases, leb-false, ltb-false}
 use Rattle.iss_disk.specs.File.{File, Image, is_written, settled, overwritten, wrote, shortened, synced, restarted}
-use Rattle.iss_disk.specs.States.{states, after, newest}
+use Rattle.iss_disk.specs.States.{states, after}
 use Rattle.iss_disk.specs.declared.call.Call.{Call}
 use Rattle.iss_disk.specs.declared.call.Call.TheVariants.{Wrote, Cut, Synced, Restarted}
 
@@ -32,9 +32,9 @@ image_wrote at over file now = record {
   long_enough = omega (arith, length-overwritten at over file.content, now.long_enough);
   short_enough = omega (arith, length-overwritten at over file.content, now.short_enough);
   others = λ i in_bytes below outside.
-    let parts = or_parts _ (is_written file.written i) outside in
-    let place : (i < at) ⊎ (at + length over ≤ i) = ⊎_elim (λ e. inl (leb-false at i e)) (λ e. inr (ltb-false i (at + length over) e)) (and_cases _ _ parts.0) in
-    beside at over file.content i (omega (arith, below)) place ∙ now.others i (omega (arith, below)) (omega (arith, below)) parts.1;
+      let parts = or_parts _ (is_written file.written i) outside in
+      let place : (i < at) ⊎ (at + length over ≤ i) = ⊎_elim (λ e. inl (leb-false at i e)) (λ e. inr (ltb-false i (at + length over) e)) (and_cases _ _ parts.0) in
+      beside at over file.content i (omega (arith, below)) place ∙ now.others i (omega (arith, below)) (omega (arith, below)) parts.1;
 }
 
 image_shortened : (n : ℕ) (file : File) → Image file file.content → Image (shortened n file) (take n file.content)

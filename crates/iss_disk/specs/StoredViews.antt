@@ -1,5 +1,5 @@
 -- What a stored file shows.
-use Rattle.std.specs.Prelude.{ℕ, ◌+◌, ◌-◌, min, List, reverse, vec_len, vec_capacity}
+use Rattle.std.specs.Prelude.{◌+◌, ◌-◌, min, List, reverse, vec_len, vec_capacity}
 use Rattle.iss_disk.specs.File.{File}
 use Rattle.iss_disk.specs.Calls.{Room}
 use Rattle.iss_disk.specs.States.{states}

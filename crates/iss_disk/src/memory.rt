@@ -52,7 +52,13 @@ impl MemoryDisk {
         ensures passes { calls_of result ≡ script outcomes.items }
         ensures faults { faults_of result ≡ faults_of self }
     {
-        let MemoryDisk { alloc, file, others, fate: _, faults } = self;
+        let MemoryDisk {
+            alloc,
+            file,
+            others,
+            fate: _,
+            faults,
+        } = self;
         MemoryDisk {
             alloc,
             file,

@@ -109,7 +109,10 @@ impl StoredFile {
         overwrite(&mut self.content, at, bytes);
         self.same = self.same.min(at);
         self.pending = true;
-        let _ = self.calls.push(Call::Wrote { at, len: bytes.len() });
+        let _ = self.calls.push(Call::Wrote {
+            at,
+            len: bytes.len(),
+        });
         let _ = self.written.extend_from_slice(bytes);
     }
 

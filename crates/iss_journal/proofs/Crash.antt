@@ -80,8 +80,8 @@ module _ (entries : List (List ℕ)) (entry : List ℕ) (gate : ℕ) (short : Ar
   behind c image =
       let front : c ≡ rest ++ drop (length rest) c =
       begins_with c rest image.long_enough (λ i lt.
-        let before : i < last + 1 = omega (arith, lt, length_rest) in
-        image.others i (omega (arith, lt, image.long_enough)) (omega (arith, lt)) (or_from _ false (and_left _ _ (lt-leb (last + 1) i before)) refl)) in
+      let before : i < last + 1 = omega (arith, lt, length_rest) in
+      image.others i (omega (arith, lt, image.long_enough)) (omega (arith, lt)) (or_from _ false (and_left _ _ (lt-leb (last + 1) i before)) refl)) in
       inl (reads_closed entries gate (drop (length rest) c) c short closed (front ∙ append_assoc (frames entries) (gate ∷ []) (drop (length rest) c)))
 
   pub staged_rest : OnlyLeaves P (settled staged)
@@ -112,17 +112,16 @@ module _ (entries : List (List ℕ)) (entry : List ℕ) (gate : ℕ) (short : Ar
       let in_staged : last < length staged = omega (arith, length_staged) in
       let same : c ≡ set staged last x =
       ext_get_or 0 c (set staged last x) (l ∙ sym (length-set staged last x)) (λ i lt.
-        elim (cases_eq i last) [
-          | inl here ↦ ap (λ (n : ℕ). get_or c n 0) here ∙ sym (ap (λ (n : ℕ). get_or (set staged last x) n 0) here ∙ get_or-set_same staged last x 0 in_staged)
-          | inr elsewhere ↦
-              image.others i lt (omega (arith, l, lt)) (or_from _ false (elim (cases_lt i last) [
-                | inl before ↦ and_left _ _ (lt-leb last i before)
-                | inr past ↦ and_right _ _ (le-ltb i (last + 1) (omega (arith, past, elsewhere)))
-              ]) refl)
-              ∙ sym (get_or-set_other staged last i x 0 elsewhere)
-        ]) in
+      elim (cases_eq i last) [
+        | inl here ↦ ap (λ (n : ℕ). get_or c n 0) here ∙ sym (ap (λ (n : ℕ). get_or (set staged last x) n 0) here ∙ get_or-set_same staged last x 0 in_staged)
+        | inr elsewhere ↦
+            image.others i lt (omega (arith, l, lt)) (or_from _ false (elim (cases_lt i last) [
+              | inl before ↦ and_left _ _ (lt-leb last i before)
+              | inr past ↦ and_right _ _ (le-ltb i (last + 1) (omega (arith, past, elsewhere)))
+            ]) refl)
+            ∙ sym (get_or-set_other staged last i x 0 elsewhere)
+      ]) in
       with_gate x c (same ∙ set_at (frames entries) gate (body entry) x last refl)
 
   pub rests : RestsOn (entries ++ entry ∷ []) (synced (wrote last (1 ∷ []) (settled staged)))
   rests = record { gate = 0; closed = λ e. omega arith; is = ap settled opened; short = short-push entries entry short fits }
-

@@ -34,8 +34,7 @@ same_frame : (e f x y : List ℕ) → length e ≤ max_entry → length f ≤ ma
 same_frame e f x y short_e short_f is =
     let sized : to_be_bytes w32 (length e) ≡ to_be_bytes w32 (length f) = ap (λ (l : List ℕ). take 4 (drop 1 l)) is in
     let size : length e ≡ length f = sym (size_back e short_e) ∙ ap (from_be_bytes w32) sized ∙ size_back f short_f in
-    let bodies : e ++ x ≡ f ++ y = ap (drop 5) is in
-    (
+    let bodies : e ++ x ≡ f ++ y = ap (drop 5) is in (
       sym (take_at e x (length e) refl) ∙ ap (take (length e)) bodies ∙ take_at f y (length e) (sym size),
       sym (drop_at e x (length e) refl) ∙ ap (drop (length e)) bodies ∙ drop_at f y (length e) (sym size),
     )

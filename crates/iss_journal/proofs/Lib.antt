@@ -3,3 +3,5 @@ mod Grammar
 mod Book
 mod Crash
 mod Steps
+mod Resting
+mod Reading

@@ -70,6 +70,7 @@ goes_on P file past h new change passed now before so_far is here there moves = 
   where
     whole : now ∷ before ≡ so_far.0 ++ file ∷ past
     whole = sym is ∙ so_far.1
+
     goes : (b : Bool) → Moves change b (now ∷ before) new → LeavesOnly P (file ∷ past) new
     goes true made = (change now ∷ so_far.0, made ∙ ap (λ (l : List File). change now ∷ l) whole, so_far.2, (there, so_far.3))
     goes false made = (made.0 ++ so_far.0, made.1 ∙ ap (λ (l : List File). made.0 ++ l) whole ∙ sym (append_assoc made.0 so_far.0 (file ∷ past)), so_far.2, each_append (OnlyLeaves P) made.0 so_far.0 (between_leaves P made.0 now (change now) here there made.2) so_far.3)
@@ -223,9 +224,9 @@ module _ (entries : List (List ℕ)) (entry : List ℕ) (fits : length entry ≤
       (omega (arith, ap (λ (f : File). length f.content) (is_staged file past rests), crash.length_staged entries entry rests.gate rests.short fits rests.closed))
 
 -- what is staged behind the gate
-pub is_body : (entries : List (List ℕ)) (entry bytes staged : List ℕ) → bytes ≡ frames entries ++ (frame entry ++ 0 ∷ []) → staged ≡ drop (length (frames entries) + 1) bytes → staged ≡ crash.body entry
-is_body entries entry bytes staged is is_staged =
-    is_staged ∙ ap (drop (length (frames entries) + 1)) is ∙ sym (drop-drop 1 (length (frames entries)) (frames entries ++ (frame entry ++ 0 ∷ []))) ∙ ap (drop 1) (drop_at (frames entries) (frame entry ++ 0 ∷ []) (length (frames entries)) refl)
+pub is_body : (entries : List (List ℕ)) (entry bytes behind : List ℕ) → bytes ≡ frames entries ++ (frame entry ++ 0 ∷ []) → behind ≡ drop (length (frames entries) + 1) bytes → behind ≡ crash.body entry
+is_body entries entry bytes behind is is_behind =
+    is_behind ∙ ap (drop (length (frames entries) + 1)) is ∙ sym (drop-drop 1 (length (frames entries)) (frames entries ++ (frame entry ++ 0 ∷ []))) ∙ ap (drop 1) (drop_at (frames entries) (frame entry ++ 0 ∷ []) (length (frames entries)) refl)
 
 -- a write of the same bytes at the same place
 pub same_write : (at to : ℕ) (bytes others : List ℕ) (passed : Bool) (h new : List File) → at ≡ to → bytes ≡ others → Moves (wrote at bytes) passed h new → Moves (wrote to others) passed h new

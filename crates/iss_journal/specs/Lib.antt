@@ -3,3 +3,4 @@ pub mod Views
 pub mod EntryViews
 pub mod Scans
 pub mod Promises
+pub mod Sound

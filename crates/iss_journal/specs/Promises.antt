@@ -1,8 +1,8 @@
 -- What a journal promises of a file, whatever a crash makes of it.
 use Rattle.std.specs.Prelude.{◌≡◌, ◌≢◌, ◌⊎◌, ℕ, List, [], ◌∷◌, ◌++◌}
 use Rattle.iss_disk.specs.File.{File, Image, settled}
-use Rattle.iss_disk.specs.Calls.{EachState}
-use Rattle.iss_journal.specs.Frames.{frames, AreShort, Reads, holds}
+use Rattle.iss_disk.specs.Calls.{EachState, Passes, script}
+use Rattle.iss_journal.specs.Frames.{frames, AreShort, Reading, Reads, holds}
 
 -- a crash leaves only bytes with P
 abbrev pub OnlyLeaves : (List ℕ → Type 0) → File → Type 0
@@ -33,3 +33,13 @@ pub record RestsOn (entries : List (List ℕ)) (file : File) : Type 0 where
   pub closed : gate ≢ 1
   pub is : file ≡ settled (frames entries ++ gate ∷ [])
   pub short : AreShort entries
+
+-- a crash at any moment of a call leaves a file that reads as what a read gave before it
+abbrev pub LeavesReading : List File → List File → Type 0
+LeavesReading [] new = new ≡ []
+LeavesReading (file ∷ past) new = (added : List File) × (new ≡ added ++ file ∷ past)
+    × ((reading : Reading) → Reads file.content reading → OnlyLeaves (λ bytes. Reads bytes reading) file × EachState (OnlyLeaves (λ bytes. Reads bytes reading)) added)
+
+-- a disk of which all calls pass goes on so, and nothing fails
+abbrev pub Works : Passes → Passes → Type 0 → Type 0
+Works before now failed = before ≡ script [] → (now ≡ script []) × (failed → ⊥)

@@ -40,7 +40,7 @@ fn put_frame(bytes: &mut Vec<u8>, entry: &[u8])
 }
 
 impl Entries {
-    ghost use Rattle.std.specs.Prelude.{◌≡◌, ◌+◌, ◌<◌, ◌≤◌, ◌++◌, [], ◌∷◌, length, take, drop, slice_index_or, vec_len, vec_capacity, OnOk};
+    ghost use Rattle.std.specs.Prelude.{◌≡◌, ◌+◌, ◌<◌, ◌≤◌, ◌++◌, [], ◌∷◌, length, take, drop, slice_index_or, vec_len, vec_capacity, OnOk, IsTrue, ◌↔◌};
     ghost use Rattle.std.specs.Int.{w32, to_be_bytes};
     ghost use Rattle.iss_journal.specs.Frames.{frame, frames, max_entry};
     ghost use Rattle.iss_journal.specs.Views.{IsBook, entries_at};
@@ -60,7 +60,8 @@ impl Entries {
     // The entries that lie in these bytes behind these gates.
     pub(crate) fn from_parts(bytes: Vec<u8>, gates: Vec<u64>, last: usize) -> Entries
         requires { IsBook bytes.items gates.items last }
-        ensures { entries_in result ≡ entries_at bytes.items gates.items }
+        ensures entries { entries_in result ≡ entries_at bytes.items gates.items }
+        ensures bytes { result.bytes.items ≡ bytes.items }
     {
         Entries { bytes, gates, last }
     }
@@ -110,11 +111,20 @@ impl Entries {
         self.last
     }
 
+    // Whether something stands behind the last gate.
+    pub(crate) fn has_tail(&self) -> bool
+        ensures { IsTrue result ↔ (length (frames (entries_in self.now)) + 1 < length self.now.bytes.items) }
+    {
+        self.bytes.len() - self.last > 1
+    }
+
     // Makes room for an entry of so many bytes.
     pub(crate) fn reserve(&mut self, bytes: usize) -> Result<(), AllocError>
         ensures entries { entries_in self.new ≡ entries_in self.old }
         ensures room { OnOk result (length (frames (entries_in self.old)) + bytes + 6 ≤ vec_capacity self.new.bytes) }
         ensures gate { OnOk result (vec_len self.new.gates < vec_capacity self.new.gates) }
+        ensures no_less { vec_capacity self.old.bytes ≤ vec_capacity self.new.bytes }
+        ensures gate_kept { vec_len self.old.gates < vec_capacity self.old.gates → vec_len self.new.gates < vec_capacity self.new.gates }
     {
         let wanted = bytes.checked_add(6).ok_or(AllocError)?;
         self.bytes.reserve(wanted)?;

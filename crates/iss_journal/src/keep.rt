@@ -10,7 +10,11 @@ use iss_disk::{Disk, Failed};
 
 /// Writes a staged entry behind the last gate, which is closed and stays so until the entry is on the disk; only then
 /// it is opened.
-pub(crate) fn keep_entry<D: Disk>(disk: &mut D, entries: &Entries, entry: &[u8]) -> Result<(), Failed>
+pub(crate) fn keep_entry<D: Disk>(
+    disk: &mut D,
+    entries: &Entries,
+    entry: &[u8],
+) -> Result<(), Failed>
     requires short { length entry.now ≤ max_entry }
     requires staged { entries.now.bytes.items ≡ frames (entries_in entries.now) ++ (frame entry.now ++ 0 ∷ []) }
     requires calls { 4 ≤ (D.room disk.old).calls }

@@ -1,4 +1,4 @@
-use Rattle.std.proofs.Common.{rules, ◌≡◌, ◌≢◌, ◌∙◌, sym, ap, ◌+◌, ◌<◌, ◌≤◌, ◌++◌, length, take, drop, get_or, suc, arith, List, ℕ}
+use Rattle.std.proofs.Common.{rules, ◌≡◌, ◌∙◌, sym, ap, ◌<◌, ◌≤◌, ◌++◌, length, take, drop, suc, List}
 use Rattle.iss_disk.specs.MemoryViews.{history_among}
 use Rattle.iss_disk.specs.declared.stored.StoredFile.{StoredFile}
 use Rattle.iss_disk.proofs.MemoryLemmas.{among_found, among_removed, among_none, same_read}

@@ -22,4 +22,4 @@ pub returns : goal.returns
 returns c =
     let first : c.index.result.now ≡ get_or c.args.bytes.items c.loop-bytes.at c.index.result.now = search rules in
     let closed : c.index.result.now ≢ 1 = search rules in
-    closes c.args.bytes.items c.loop-bytes.gates.items c.loop-bytes.at c.index.result.now _ c.loop-bytes.invariant.book c.loop-bytes.invariant.within first closed c.from_parts.ensures
+    (c.from_parts.ensures.bytes, closes c.args.bytes.items c.loop-bytes.gates.items c.loop-bytes.at c.index.result.now _ c.loop-bytes.invariant.book c.loop-bytes.invariant.within first closed c.from_parts.ensures.entries)

@@ -1,4 +1,4 @@
-use Rattle.std.proofs.Common.{rules, ◌≡◌, ◌≢◌, ◌∙◌, ◌∷◌, List, ℕ, ap, sym, subst}
+use Rattle.std.proofs.Common.{rules, ◌≡◌, ◌≢◌, ◌∙◌, ◌∷◌, List, ap}
 use Rattle.iss_disk.specs.MemoryViews.{history_among}
 use Rattle.iss_disk.specs.StoredViews.{history_of}
 use Rattle.iss_disk.specs.declared.stored.StoredFile.{StoredFile}
@@ -15,4 +15,4 @@ returns-then-ne-clause-files c = λ n.
     ap (λ (fs : List StoredFile). history_among (c.replace-former.new.dest ∷ fs) n) inserted
     ∙ ap (λ (f : StoredFile). history_among (f ∷ c.args.self.now.file ∷ c.take_named-next.new.others.items) n) is_next
     ∙ attached_files c.args.self.now.file c.take_named-next.result c.args.self.now.others.items c.take_named-next.new.others.items c.in_ok-fresh.fresh.name.items apart c.take_named-next.ensures.name found
-        (λ name other. c.take_named-next.ensures.others name other ∙ ap (λ (fs : List StoredFile). history_among fs name) kept) n
+    (λ name other. c.take_named-next.ensures.others name other ∙ ap (λ (fs : List StoredFile). history_among fs name) kept) n

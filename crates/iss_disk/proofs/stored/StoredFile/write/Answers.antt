@@ -1,5 +1,4 @@
-use Rattle.std.proofs.Common.{rules, sym, ◌≡◌, ◌≤◌, List, [], ◌∷◌, ◌++◌, length, arith}
-use Rattle.iss_disk.specs.declared.call.Call.{Call}
+use Rattle.std.proofs.Common.{rules, sym, ◌≡◌, ◌≤◌, [], ◌∷◌, ◌++◌, length}
 use Rattle.iss_disk.specs.declared.call.Call.TheVariants.{Wrote}
 use Rattle.iss_disk.proofs.StoredLemmas.{write_keeps, pending_push}
 use Rattle.iss_disk.proofs.stored.StoredFile.write.Goals as goal

@@ -1,0 +1,54 @@
+// The errors of a journal.
+ghost use Rattle.std.specs.Prelude.{◌≡◌};
+ghost use Rattle.iss_journal.specs.declared.errors.AttachError.{AttachError};
+
+use iss_disk::{EndError, Failed, NoMemory};
+use std::alloc::AllocError;
+
+/// Why a journal could not be attached.
+#[derive(Clone, Copy, Debug, PartialEq, Eq)]
+pub enum AttachError {
+    /// Behind the open gate at this offset there stands no whole entry.
+    Damaged { at: u64 },
+    /// The disk failed, and its count of faults rose.
+    Failed,
+    /// There was no memory.
+    NoMemory,
+}
+
+impl From<Failed> for AttachError {
+    ghost from_gives = { λ _ e. e ≡ AttachError.Failed };
+
+    fn from(_: Failed) -> Self {
+        AttachError::Failed
+    }
+}
+
+impl From<NoMemory> for AttachError {
+    ghost from_gives = { λ _ e. e ≡ AttachError.NoMemory };
+
+    fn from(_: NoMemory) -> Self {
+        AttachError::NoMemory
+    }
+}
+
+impl From<AllocError> for AttachError {
+    ghost from_gives = { λ _ e. e ≡ AttachError.NoMemory };
+
+    fn from(_: AllocError) -> Self {
+        AttachError::NoMemory
+    }
+}
+
+impl From<EndError> for AttachError {
+    ghost use Rattle.iss_disk.specs.declared.errors.EndError.{EndError};
+
+    ghost from_gives = { λ end e. ((end ≡ EndError.Failed) → e ≡ AttachError.Failed) × ((end ≡ EndError.NoMemory) → e ≡ AttachError.NoMemory) };
+
+    fn from(error: EndError) -> Self {
+        match error {
+            EndError::Failed => AttachError::Failed,
+            EndError::NoMemory => AttachError::NoMemory,
+        }
+    }
+}

@@ -1,0 +1,188 @@
+// A journal over a disk.
+ghost use Rattle.std.specs.Prelude.{◌≡◌, ◌≤◌, ◌<◌, ◌++◌, ℕ, [], ◌∷◌, true, false, Some, List, length, is_ok, OnOk, OnErr, IsErr, IsErrOf};
+
+use crate::entries::Entries;
+use crate::errors::AttachError;
+use crate::keep::keep_entry;
+use crate::load::load;
+use iss_disk::{Disk, EndError, Fused, NoMemory};
+use std::alloc::Global;
+
+/// A list of entries in the current file of a disk, each of them on the disk before its `append` answers.
+#[derive(Drop)]
+pub struct Journal<D: Disk> {
+    alloc: Global,
+    disk: D,
+    entries: Entries,
+    attached: bool,
+    // The longest entry for which there is room.
+    reserved: Option<u64>,
+}
+
+impl<D: Disk> Journal<D> {
+    ghost use Rattle.std.specs.Prelude.{slice_index_or, take};
+    ghost use Rattle.iss_disk.specs.Calls.{IfTold, Stays, StaysHere, HasCause, Runs};
+    ghost use Rattle.iss_journal.specs.Frames.{frames, max_entry, Reads, holds, damaged};
+    ghost use Rattle.iss_journal.specs.Promises.{OnlyLeaves, LeavesOnly, HoldsWithOrWithout, LosesNothing, Works};
+    ghost use Rattle.iss_journal.specs.EntryViews.{entries_in};
+    ghost use Rattle.iss_journal.specs.Sound.{disk_of, entries_of, is_attached, reserved_of, IsSound, NothingChanged};
+
+    /// A journal that is not attached yet, over the current file of a disk.
+    pub fn over(alloc: Global, disk: D) -> Self
+        ensures disk { disk_of result ≡ disk }
+        ensures entries { entries_of result ≡ [] }
+        ensures attached { is_attached result ≡ false }
+        ensures sound { IsSound D.history D.room result }
+    {
+        Journal {
+            alloc,
+            disk,
+            entries: Entries::new(alloc),
+            attached: false,
+            reserved: None,
+        }
+    }
+
+    /// Reads the file, and cuts off what stands behind its last gate. A file of at most one byte becomes an empty journal.
+    pub fn attach(&mut self) -> Result<(), AttachError>
+        requires sound { IsSound D.history D.room self.old }
+        ensures entries { OnOk result (IfTold (D.history (disk_of self.old)) (λ file. Reads file.content (holds (entries_of self.new)))) }
+        ensures damaged { (at : ℕ) → IsErrOf result (AttachError.Damaged at) → IfTold (D.history (disk_of self.old)) (λ file. Reads file.content (damaged at)) }
+        ensures err { OnErr result (entries_of self.new ≡ entries_of self.old) }
+        ensures attached { is_attached self.new ≡ is_ok result }
+
+        // From then on each crash leaves the entries that were found, and one at any moment of the call loses no entry
+        // that each crash before it would have left.
+        ensures durable { OnOk result (IfTold (D.history (disk_of self.new)) (OnlyLeaves (λ bytes. Reads bytes (holds (entries_of self.new))))) }
+        ensures any_moment { LosesNothing (D.history (disk_of self.old)) (D.history (disk_of self.new)) }
+
+        ensures others { StaysHere (D.current (disk_of self.old)) (D.current (disk_of self.new)) (D.files (disk_of self.old)) (D.files (disk_of self.new)) }
+        ensures cause { HasCause (D.faults (disk_of self.old)) (D.faults (disk_of self.new)) (IsErrOf result AttachError.Failed) }
+        ensures works { Works (D.passes (disk_of self.old)) (D.passes (disk_of self.new)) (IsErrOf result AttachError.Failed) }
+        ensures sound { IsSound D.history D.room self.new }
+    {
+        self.attached = false;
+        self.reserved = None;
+        // A sync, a cut, a write and a sync.
+        self.disk.reserve(4, 1)?;
+        self.disk.sync()?;
+        self.entries = load(self.alloc, &mut self.disk)?;
+        self.attached = true;
+        Ok(())
+    }
+
+    /// Whether the journal may be appended to: from an `attach` that is Ok until a call of the disk fails.
+    pub fn attached(&self) -> bool
+        ensures { result ≡ is_attached self.now }
+    {
+        self.attached
+    }
+
+    /// The entries.
+    pub fn entries(&self) -> &Entries
+        ensures { entries_in result.now ≡ entries_of self.now }
+    {
+        &self.entries
+    }
+
+    /// The offset in the file of the gate of the entry with this number, from 0.
+    pub fn gate_of(&self, k: usize) -> u64
+        requires { k < length (entries_of self.now) }
+        ensures { result ≡ length (frames (take k (entries_of self.now))) }
+    {
+        self.entries.gate_of(k)
+    }
+
+    /// Takes the memory that appending an entry of so many bytes needs, in memory and on the disk. Nothing else changes.
+    pub fn reserve(&mut self, bytes: u64) -> Result<(), NoMemory>
+        requires sound { IsSound D.history D.room self.old }
+        ensures reserved { OnOk result ((most : ℕ) × (reserved_of self.new ≡ Some most) × (bytes ≤ most)) }
+        ensures ready { (most : ℕ) → reserved_of self.old ≡ Some most → bytes ≤ most → is_ok result ≡ true }
+        ensures entries { entries_of self.new ≡ entries_of self.old }
+        ensures attached { is_attached self.new ≡ is_attached self.old }
+        ensures history { D.history (disk_of self.new) ≡ D.history (disk_of self.old) }
+        ensures same { Stays (D.current (disk_of self.old)) (D.current (disk_of self.new)) (D.files (disk_of self.old)) (D.files (disk_of self.new)) }
+        ensures faults { D.faults (disk_of self.new) ≡ D.faults (disk_of self.old) }
+        ensures passes { D.passes (disk_of self.new) ≡ D.passes (disk_of self.old) }
+        ensures sound { IsSound D.history D.room self.new }
+    {
+        if let Some(most) = self.reserved {
+            if bytes <= most {
+                return Ok(());
+            }
+        }
+        self.entries.reserve(bytes as usize)?;
+        self.disk.reserve(4, bytes.checked_add(6).ok_or(NoMemory)?)?;
+        self.reserved = Some(bytes);
+        Ok(())
+    }
+
+    /// Adds an entry at the end. Once it is Ok every crash leaves the entry; after `NoMemory` nothing has changed; after
+    /// `Failed` the journal has to be attached again, and then has the entries with the new one or without.
+    pub fn append(&mut self, entry: &[u8]) -> Result<(), EndError>
+        requires sound { IsSound D.history D.room self.old }
+        requires attached { is_attached self.old ≡ true }
+        requires short { length entry.now ≤ max_entry }
+        ensures entries { OnOk result (entries_of self.new ≡ entries_of self.old ++ entry.now ∷ []) }
+        ensures err { OnErr result (entries_of self.new ≡ entries_of self.old) }
+        ensures attached { OnOk result (is_attached self.new ≡ true) }
+        ensures failed { IsErrOf result EndError.Failed → is_attached self.new ≡ false }
+
+        // A crash at any moment of the call leaves the entries, with the new one or without; once it is Ok, with it.
+        ensures any_moment { LeavesOnly (HoldsWithOrWithout (entries_of self.old) entry.now) (D.history (disk_of self.old)) (D.history (disk_of self.new)) }
+        ensures durable { OnOk result (IfTold (D.history (disk_of self.new)) (OnlyLeaves (λ bytes. Reads bytes (holds (entries_of self.new))))) }
+
+        // Where it failed, what was synced holds the entries without the new one.
+        ensures kept { IsErrOf result EndError.Failed → IfTold (D.history (disk_of self.new)) (λ file. Reads file.kept (holds (entries_of self.old))) }
+
+        // It is four calls of the device.
+        ensures device { (IsErrOf result EndError.NoMemory → ⊥) → Runs 4 (D.passes (disk_of self.old)) (D.passes (disk_of self.new)) (is_ok result) }
+        ensures no_memory { IsErrOf result EndError.NoMemory → NothingChanged D.history D.passes self.old self.new }
+        ensures ready { (most : ℕ) → reserved_of self.old ≡ Some most → length entry.now ≤ most → IsErrOf result EndError.NoMemory → ⊥ }
+        ensures others { StaysHere (D.current (disk_of self.old)) (D.current (disk_of self.new)) (D.files (disk_of self.old)) (D.files (disk_of self.new)) }
+        ensures cause { HasCause (D.faults (disk_of self.old)) (D.faults (disk_of self.new)) (IsErrOf result EndError.Failed) }
+        ensures sound { IsSound D.history D.room self.new }
+    {
+        self.reserve(entry.len() as u64)?;
+        self.reserved = None;
+        self.attached = false;
+        self.entries.stage(entry);
+        keep_entry(&mut self.disk, &self.entries, entry)?;
+        self.entries.commit(entry);
+        self.attached = true;
+        Ok(())
+    }
+}
+
+impl<D: Fused> Journal<D> {
+    ghost use Rattle.iss_disk.specs.Calls.{Stays, Restarts, up_to, script};
+    ghost use Rattle.iss_journal.specs.Sound.{disk_of, entries_of, is_attached, IsSound};
+
+    /// From now on that many calls of the disk pass, and all others fail.
+    pub fn fuse(&mut self, calls: u64)
+        requires sound { IsSound D.history D.room self.old }
+        ensures passes { D.passes (disk_of self.new) ≡ up_to calls }
+        ensures entries { entries_of self.new ≡ entries_of self.old }
+        ensures attached { is_attached self.new ≡ is_attached self.old }
+        ensures same { Stays (D.current (disk_of self.old)) (D.current (disk_of self.new)) (D.files (disk_of self.old)) (D.files (disk_of self.new)) }
+        ensures faults { D.faults (disk_of self.new) ≡ D.faults (disk_of self.old) }
+        ensures sound { IsSound D.history D.room self.new }
+    {
+        self.disk.fuse(calls);
+    }
+
+    /// Leaves of the disk what was synced, and ends the fuse. The journal has to be attached again.
+    pub fn restart(&mut self)
+        ensures files { (name : List ℕ) → Restarts (D.files (disk_of self.old) name) (D.files (disk_of self.new) name) }
+        ensures current { D.current (disk_of self.new) ≡ D.current (disk_of self.old) }
+        ensures passes { D.passes (disk_of self.new) ≡ script [] }
+        ensures entries { entries_of self.new ≡ entries_of self.old }
+        ensures attached { is_attached self.new ≡ false }
+        ensures faults { D.faults (disk_of self.new) ≡ D.faults (disk_of self.old) }
+        ensures sound { IsSound D.history D.room self.new }
+    {
+        self.disk.restart();
+        self.reserved = None;
+        self.attached = false;
+    }
+}
