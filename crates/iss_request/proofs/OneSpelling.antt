@@ -6,7 +6,7 @@ use Rattle.std.proofs.lemmas.Bool.{cases_lt, ltb-true, leb-true, lt-ltb, le-leb}
 use Rattle.std.proofs.lemmas.List.{take-append-drop, length-append, length-take, length-drop}
 use Rattle.iss_request.specs.Fields.{Good, Bad, IsBad, IsGrammar}
 use Rattle.iss_request.specs.Parsing.{Parser, done, such_that, byte, number, block, times}
-use Rattle.iss_request.specs.Formats.{is_height, is_signature, is_request, request_bytes, no_request, spell_request, spell_batch, spell_value, parse_payload, parse_signature, parse_request, parse_batch, parse_rest, parse_value}
+use Rattle.iss_request.specs.Formats.{is_height, is_signature, has_spelling, request_bytes, no_request, spell_request, spell_batch, spell_value, parse_payload, parse_signature, parse_request, parse_batch, parse_rest, parse_value}
 use Rattle.iss_request.specs.declared.requests.Request.{Request}
 use Rattle.iss_request.specs.declared.requests.Value.{Value}
 use Rattle.iss_request.specs.declared.requests.Value.TheVariants.{Nil, Batch as Holds}
@@ -98,7 +98,7 @@ signature_parts bytes rest sig e =
 
 -- ---- requests
 
-request_bytes_again : (r : Request) (rest : List ℕ) → is_request r ≡ true → parse_request (request_bytes r ++ rest) ≡ Good r rest
+request_bytes_again : (r : Request) (rest : List ℕ) → has_spelling r ≡ true → parse_request (request_bytes r ++ rest) ≡ Good r rest
 unfolding parse_request
 request_bytes_again r rest e =
     let fits = both_true (ltb r.id.number (2 ^ 32)) (short (length r.payload) && is_signature r.sig) e in
@@ -127,7 +127,7 @@ no_request_bad rest =
 
 record IsRequest (bytes rest : List ℕ) (r : Request) : Type 0 where
   pub parts : bytes ≡ request_bytes r ++ rest
-  pub spelled : is_request r ≡ true
+  pub spelled : has_spelling r ≡ true
 
 request_parts : (bytes rest : List ℕ) (r : Request) → parse_request bytes ≡ Good r rest → IsRequest bytes rest r
 unfolding parse_request
@@ -150,14 +150,14 @@ request_parts bytes rest r e =
       spelled = rw (lt-ltb b.thing (2 ^ 32) number_is.below, le-leb (length c.thing) 256 payload_is.short, sig_is.shape) refl;
     }
 
-request_whole : (r : Request) (b : Bool) → is_request r ≡ b → ((rest : List ℕ) → parse_request (spell_request r ++ rest) ≡ Good r rest) ⊎ ((rest : List ℕ) → IsBad (parse_request (spell_request r ++ rest)))
+request_whole : (r : Request) (b : Bool) → has_spelling r ≡ b → ((rest : List ℕ) → parse_request (spell_request r ++ rest) ≡ Good r rest) ⊎ ((rest : List ℕ) → IsBad (parse_request (spell_request r ++ rest)))
 request_whole r true e = inl (λ rest. rw (request_spelled r (sym e)) (request_bytes_again r rest e))
 request_whole r false e = inr (λ rest. rw (request_unspelled r (sym e)) (no_request_bad rest))
 
 pub request_grammar : IsGrammar spell_request parse_request
 request_grammar = record {
   only = λ bytes rest r e. let is = request_parts bytes rest r e in rw (request_spelled r (sym is.spelled)) is.parts;
-  whole = λ r. request_whole r (is_request r) refl;
+  whole = λ r. request_whole r (has_spelling r) refl;
 }
 
 -- ---- so many things

@@ -20,8 +20,8 @@ abbrev pub is_signature : List ℕ → Bool
 is_signature [] = false
 is_signature (h ∷ rest) = is_height h && (length rest == 4 + 32 * (67 + h))
 
-abbrev pub is_request : Request → Bool
-is_request r = nat_lt r.id.number (2 ^ 32) && (nat_le (length r.payload) 256 && is_signature r.sig)
+abbrev pub has_spelling : Request → Bool
+has_spelling r = nat_lt r.id.number (2 ^ 32) && (nat_le (length r.payload) 256 && is_signature r.sig)
 
 -- ---- spelling. What has none is written as a request whose length is too large, or a count that is, and ends there
 
@@ -32,7 +32,7 @@ abbrev pub no_request : List ℕ
 no_request = 0 ∷ 0 ∷ 0 ∷ 0 ∷ 0 ∷ 255 ∷ 255 ∷ []
 
 unfoldable pub spell_request : Request → List ℕ
-spell_request r = if is_request r then request_bytes r else no_request
+spell_request r = if has_spelling r then request_bytes r else no_request
 
 abbrev pub no_batch : List ℕ
 no_batch = 255 ∷ []

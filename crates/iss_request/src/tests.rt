@@ -71,10 +71,13 @@ fn each_cut_of_a_value_is_refused(rt: HostRuntime) -> Result<(), Fail> {
     let bytes = encode_value(alloc, &one(alloc, 1)?)?;
     let all = bytes.as_slice();
     assert_eq!(rt; all.len(), 2223);
-    // The signature begins at 10 and its digests at 15; the second of them is cut here.
-    assert_eq!(rt; fault(alloc, &all[..78]), Some(47));
     for cut in 0..all.len() {
-        assert!(rt; fault(alloc, &all[..cut]).is_some());
+        let at = fault(alloc, &all[..cut]);
+        assert!(rt; at.is_some());
+        // The signature begins at 10 and its digests at 15: the second of them is cut.
+        if cut == 78 {
+            assert_eq!(rt; at, Some(47));
+        }
     }
     let again = encode_value(alloc, &decode_value(alloc, all)?)?;
     assert_eq!(rt; again.as_slice(), all);
