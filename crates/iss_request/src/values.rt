@@ -1,11 +1,13 @@
 //! How requests and values are spelled in bytes, and their digests. `specs/Formats.antt` has the table.
-ghost use Rattle.std.specs.Prelude.{◌≡◌, ℕ, List, [], ◌∷◌, ◌++◌, ◌≤◌, length, IfOk, OnOk, Ok, Err};
+ghost use Rattle.std.specs.Prelude.{◌≡◌, ℕ, List, [], ◌∷◌, ◌++◌, ◌≤◌, length, ◌↔◌, IfOk, OnOk, Ok, Err};
 ghost use Rattle.std.specs.List.{flat_map};
 ghost use Rattle.sha2.specs.Hashers.{Holds256};
 ghost use Rattle.sha2.specs.Sha256.{sha256};
 ghost use Rattle.iss_request.specs.Fields.{IsRead, IsUnreadable, IsGrammar, Good, Bad};
 ghost use Rattle.iss_request.specs.Parsing.{all_of, times};
-ghost use Rattle.iss_request.specs.Formats.{is_height, is_signature, has_spelling, request_bytes, spell_request, spell_value, parse_payload, parse_signature, parse_request, parse_batch, parse_rest, parse_value, spell_batch};
+ghost use Rattle.iss_request.specs.Formats.{IsSpelledRequest, IsSpelledValue, is_height, is_signature, has_spelling, request_bytes, spell_request, spell_value, parse_payload, parse_signature, parse_request, parse_batch, parse_rest, parse_value, spell_batch};
+ghost use Rattle.iss_request.specs.declared.requests.Request.{Request};
+ghost use Rattle.iss_request.specs.declared.requests.Value.{Value};
 
 use crate::bytes::Bytes;
 use crate::errors::{DecodeError, NoMemory};
@@ -296,4 +298,7 @@ pub fn digest_of(value: &Value) -> [u8; 32]
 pub fn formats_are_exact()
     ensures request { IsGrammar spell_request parse_request }
     ensures value { IsGrammar spell_value parse_value }
+    // What is read of bytes, and all of them, is what the table relates to them.
+    ensures request_table { (r : Request) (bytes : List ℕ) → (parse_request bytes ≡ Good r []) ↔ IsSpelledRequest r bytes }
+    ensures value_table { (v : Value) (bytes : List ℕ) → (parse_value bytes ≡ Good v []) ↔ IsSpelledValue v bytes }
 {}
