@@ -4,3 +4,6 @@
 pub mod packets;
 
 pub use packets::{Packet, PacketError, PacketKind, packets_are_exact};
+
+#[cfg(test)]
+mod tests;

@@ -5,7 +5,7 @@ use Rattle.std.specs.List.{flat_map}
 use Rattle.std.proofs.lemmas.Bool.{lt-ltb, le-leb, lt-leb}
 use Rattle.iss_request.specs.Fields.{Reading, IsRead, IsUnreadable}
 use Rattle.iss_request.specs.Parsing.{byte}
-use Rattle.iss_request.specs.Formats.{is_signature, is_request, request_bytes, no_request, no_batch, spell_request, spell_batch, spell_value, parse_batch, parse_rest, parse_value}
+use Rattle.iss_request.specs.Formats.{is_signature, has_spelling, request_bytes, no_request, no_batch, spell_request, spell_batch, spell_value, parse_batch, parse_rest, parse_value}
 use Rattle.iss_request.specs.declared.errors.NoMemory.{NoMemory}
 use Rattle.iss_request.specs.declared.requests.Request.{Request}
 use Rattle.iss_request.specs.declared.requests.Value.{Value}
@@ -34,21 +34,21 @@ batch_unread a b first at e r u =
 
 -- ---- what has no spelling
 
-pub request_test : (r : Request) (b : Bool) → r.id.number < 2 ^ 32 → length r.payload ≤ 256 → b ≡ is_signature r.sig → b ≡ is_request r
+pub request_test : (r : Request) (b : Bool) → r.id.number < 2 ^ 32 → length r.payload ≤ 256 → b ≡ is_signature r.sig → b ≡ has_spelling r
 request_test r b lt le e = rw (lt-ltb r.id.number (2 ^ 32) lt, le-leb (length r.payload) 256 le) e
 
 and_false : (b : Bool) → (b && false) ≡ false
 and_false true = refl
 and_false false = refl
 
-pub long_payload : (r : Request) → 256 < length r.payload → false ≡ is_request r
+pub long_payload : (r : Request) → 256 < length r.payload → false ≡ has_spelling r
 long_payload r lt = rw (lt-leb (length r.payload) 256 lt) (sym (and_false (ltb r.id.number (2 ^ 32))))
 
-pub request_spelled : (r : Request) → true ≡ is_request r → spell_request r ≡ request_bytes r
+pub request_spelled : (r : Request) → true ≡ has_spelling r → spell_request r ≡ request_bytes r
 unfolding spell_request
 request_spelled r e = rw (sym e) refl
 
-pub request_unspelled : (r : Request) → false ≡ is_request r → spell_request r ≡ no_request
+pub request_unspelled : (r : Request) → false ≡ has_spelling r → spell_request r ≡ no_request
 unfolding spell_request
 request_unspelled r e = rw (sym e) refl
 

@@ -1,3 +1,4 @@
+mod Examples
 pub mod FormatLemmas
 pub mod OneSpelling
 pub mod ParserLemmas

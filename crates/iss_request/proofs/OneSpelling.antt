@@ -1,12 +1,13 @@
 -- Requests and values have one spelling each.
-use Rattle.std.proofs.Common.{◌≡◌, ℕ, zero, suc, ◌+◌, ◌*◌, ◌^◌, ◌<◌, ◌≤◌, Bool, true, false, ltb, leb, eqb, ◌&&◌, List, [], ◌∷◌, ◌++◌, length, take, drop, refl, sym, ap, subst, ◌∙◌, append_assoc, arith, inl, inr, ◌⊎◌, eqb-true, eq-eqb}
-use Rattle.std.specs.List.{flat_map}
+use Rattle.std.proofs.Common.{◌≡◌, ℕ, zero, suc, ◌+◌, ◌*◌, ◌^◌, ◌<◌, ◌≤◌, Bool, true, false, ltb, leb, eqb, ◌&&◌, List, [], ◌∷◌, ◌++◌, length, take, drop, refl, sym, ap, subst, ◌∙◌, append_assoc, arith, inl, inr, ◌⊎◌, eqb-true, eq-eqb, append-nil}
+use Rattle.std.specs.Prelude.{◌↔◌}
+use Rattle.std.specs.List.{AllByRecursion, flat_map}
 use Rattle.std.specs.Int.{w16, w32, to_be_bytes}
 use Rattle.std.proofs.lemmas.Bool.{cases_lt, ltb-true, leb-true, lt-ltb, le-leb}
 use Rattle.std.proofs.lemmas.List.{take-append-drop, length-append, length-take, length-drop}
 use Rattle.iss_request.specs.Fields.{Good, Bad, IsBad, IsGrammar}
 use Rattle.iss_request.specs.Parsing.{Parser, done, such_that, byte, number, block, times}
-use Rattle.iss_request.specs.Formats.{is_height, is_signature, is_request, request_bytes, no_request, spell_request, spell_batch, spell_value, parse_payload, parse_signature, parse_request, parse_batch, parse_rest, parse_value}
+use Rattle.iss_request.specs.Formats.{HasSpelling, IsSpelledRequest, IsSpelledValue, is_height, is_signature, has_spelling, request_bytes, no_request, spell_request, spell_batch, spell_value, parse_payload, parse_signature, parse_request, parse_batch, parse_rest, parse_value}
 use Rattle.iss_request.specs.declared.requests.Request.{Request}
 use Rattle.iss_request.specs.declared.requests.Value.{Value}
 use Rattle.iss_request.specs.declared.requests.Value.TheVariants.{Nil, Batch as Holds}
@@ -98,7 +99,7 @@ signature_parts bytes rest sig e =
 
 -- ---- requests
 
-request_bytes_again : (r : Request) (rest : List ℕ) → is_request r ≡ true → parse_request (request_bytes r ++ rest) ≡ Good r rest
+request_bytes_again : (r : Request) (rest : List ℕ) → has_spelling r ≡ true → parse_request (request_bytes r ++ rest) ≡ Good r rest
 unfolding parse_request
 request_bytes_again r rest e =
     let fits = both_true (ltb r.id.number (2 ^ 32)) (short (length r.payload) && is_signature r.sig) e in
@@ -127,7 +128,7 @@ no_request_bad rest =
 
 record IsRequest (bytes rest : List ℕ) (r : Request) : Type 0 where
   pub parts : bytes ≡ request_bytes r ++ rest
-  pub spelled : is_request r ≡ true
+  pub spelled : has_spelling r ≡ true
 
 request_parts : (bytes rest : List ℕ) (r : Request) → parse_request bytes ≡ Good r rest → IsRequest bytes rest r
 unfolding parse_request
@@ -150,14 +151,14 @@ request_parts bytes rest r e =
       spelled = rw (lt-ltb b.thing (2 ^ 32) number_is.below, le-leb (length c.thing) 256 payload_is.short, sig_is.shape) refl;
     }
 
-request_whole : (r : Request) (b : Bool) → is_request r ≡ b → ((rest : List ℕ) → parse_request (spell_request r ++ rest) ≡ Good r rest) ⊎ ((rest : List ℕ) → IsBad (parse_request (spell_request r ++ rest)))
+request_whole : (r : Request) (b : Bool) → has_spelling r ≡ b → ((rest : List ℕ) → parse_request (spell_request r ++ rest) ≡ Good r rest) ⊎ ((rest : List ℕ) → IsBad (parse_request (spell_request r ++ rest)))
 request_whole r true e = inl (λ rest. rw (request_spelled r (sym e)) (request_bytes_again r rest e))
 request_whole r false e = inr (λ rest. rw (request_unspelled r (sym e)) (no_request_bad rest))
 
 pub request_grammar : IsGrammar spell_request parse_request
 request_grammar = record {
   only = λ bytes rest r e. let is = request_parts bytes rest r e in rw (request_spelled r (sym is.spelled)) is.parts;
-  whole = λ r. request_whole r (is_request r) refl;
+  whole = λ r. request_whole r (has_spelling r) refl;
 }
 
 -- ---- so many things
@@ -305,3 +306,79 @@ value_only bytes rest v e =
 
 pub value_grammar : IsGrammar spell_value parse_value
 value_grammar = record { only = value_only; whole = value_whole }
+
+-- ---- the relation between things and bytes
+
+times_all : {A : Type 0} (P : A → Type 0) (p : Parser A) → ((bytes rest : List ℕ) (x : A) → p bytes ≡ Good x rest → P x) → (count : ℕ) (bytes rest : List ℕ) (xs : List A) → times count p bytes ≡ Good xs rest → AllByRecursion P xs
+unfolding times
+times_all {A} P p each zero bytes rest xs e =
+    let ends = done_parts [] xs bytes rest e in
+    subst (λ (x : List A). AllByRecursion P x) ends.0 tt
+times_all {A} P p each (suc count) bytes rest xs e =
+    let a = then_parts _ _ bytes rest xs e in
+    let b = then_parts _ _ a.mid rest xs a.second in
+    let ends = done_parts (a.thing ∷ b.thing) xs b.mid rest b.second in
+    subst (λ (x : List A). AllByRecursion P x) ends.0 (each bytes a.mid a.thing a.first, times_all P p each count a.mid b.mid b.thing b.first)
+
+all_spelled : (b : List Request) → AllByRecursion HasSpelling b → flat_map spell_request b ≡ flat_map request_bytes b
+all_spelled [] h = refl
+all_spelled (r ∷ rs) h =
+    ap (λ (x : List ℕ). x ++ flat_map spell_request rs) (request_spelled r (sym h.0)) ∙ ap (λ (x : List ℕ). request_bytes r ++ x) (all_spelled rs h.1)
+
+times_again : (b : List Request) → AllByRecursion HasSpelling b → (rest : List ℕ) → times (length b) parse_request (flat_map spell_request b ++ rest) ≡ Good b rest
+times_again [] h rest = times_none parse_request rest
+times_again (r ∷ rs) h rest =
+    let first = request_bytes_again r (flat_map spell_request rs ++ rest) h.0 in
+    rw (append_assoc (spell_request r) (flat_map spell_request rs) rest) (times_more parse_request (length rs) _ (flat_map spell_request rs ++ rest) rest r rs (rw (request_spelled r (sym h.0)) first) (times_again rs h.1 rest))
+
+pub request_related : (r : Request) (bytes : List ℕ) → (parse_request bytes ≡ Good r []) ↔ IsSpelledRequest r bytes
+request_related r bytes = (
+  (λ e. let is = request_parts bytes [] r e in (is.spelled, is.parts ∙ append-nil (request_bytes r))),
+  (λ h. ap parse_request (h.1 ∙ sym (append-nil (request_bytes r))) ∙ request_bytes_again r [] h.0),
+)
+
+nil_holds : (b : List Request) → Nil ≡ Holds b → ⊥
+nil_holds b e = cc
+
+-- what a batch that was read holds
+batch_limits : (bytes rest : List ℕ) (b : List Request) → parse_batch bytes ≡ Good b rest → (length b ≤ 32) × AllByRecursion HasSpelling b
+unfolding parse_batch
+batch_limits bytes rest b e =
+    let a = then_parts _ _ bytes rest b e in
+    let count = test_parts few byte bytes a.mid a.thing a.first in
+    let requests = times_parts spell_request parse_request request_grammar a.thing a.mid rest b a.second in
+    (omega (arith, requests.count_is, leb-true a.thing 32 count.1), times_all HasSpelling parse_request (λ front back r d. (request_parts front back r d).spelled) a.thing a.mid rest b a.second)
+
+holds_is : (b c : List Request) (v : Value) → Holds b ≡ v → v ≡ Holds c → b ≡ c
+holds_is b c v e d = cc
+
+rest_limits : (n : ℕ) (bytes rest : List ℕ) (b : List Request) → parse_rest n bytes ≡ Good (Holds b) rest → (length b ≤ 32) × AllByRecursion HasSpelling b
+unfolding parse_rest
+rest_limits zero bytes rest b e = absurd (nil_holds b (done_parts Nil (Holds b) bytes rest e).0)
+rest_limits (suc n) bytes rest b e =
+    let a = then_parts _ _ bytes rest (Holds b) e in
+    let ends = done_parts (Holds a.thing) (Holds b) a.mid rest a.second in
+    subst (λ (x : List Request). (length x ≤ 32) × AllByRecursion HasSpelling x) (holds_is a.thing b (Holds b) ends.0 refl) (batch_limits bytes a.mid a.thing a.first)
+
+batch_all : (bytes : List ℕ) (b : List Request) → parse_value bytes ≡ Good (Holds b) [] → (length b ≤ 32) × AllByRecursion HasSpelling b
+unfolding parse_value
+batch_all bytes b e =
+    let a = then_parts _ _ bytes [] (Holds b) e in
+    rest_limits a.thing a.mid [] b a.second
+
+value_parts : (v : Value) (bytes : List ℕ) → parse_value bytes ≡ Good v [] → IsSpelledValue v bytes
+unfolding spell_value
+value_parts Nil bytes e = value_only bytes [] Nil e
+value_parts (Holds b) bytes e =
+    let spelled = batch_all bytes b e in
+    let few_enough = spelled.0 in
+    (few_enough, spelled.1, value_only bytes [] (Holds b) e ∙ append-nil (1 ∷ spell_batch b) ∙ ap (λ (x : List ℕ). 1 ∷ x) (batch_spelled b few_enough ∙ ap (λ (x : List ℕ). length b ∷ x) (all_spelled b spelled.1)))
+
+value_again : (v : Value) (bytes : List ℕ) → IsSpelledValue v bytes → parse_value bytes ≡ Good v []
+value_again Nil bytes h = ap parse_value h ∙ nil_whole []
+value_again (Holds b) bytes h =
+    let whole : bytes ≡ 1 ∷ (spell_batch b ++ []) = h.2 ∙ ap (λ (x : List ℕ). 1 ∷ length b ∷ x) (sym (all_spelled b h.1)) ∙ ap (λ (x : List ℕ). 1 ∷ x) (sym (batch_spelled b h.0)) ∙ ap (λ (x : List ℕ). 1 ∷ x) (sym (append-nil (spell_batch b))) in
+    ap parse_value whole ∙ holds_good b (spell_batch b ++ []) [] (batch_good b h.0 (times_again b h.1) [])
+
+pub value_related : (v : Value) (bytes : List ℕ) → (parse_value bytes ≡ Good v []) ↔ IsSpelledValue v bytes
+value_related v bytes = (value_parts v bytes, value_again v bytes)

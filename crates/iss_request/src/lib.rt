@@ -22,3 +22,6 @@ pub use values::{
     decode_value, digest_of, encode_value, formats_are_exact, read_request, read_signature,
     read_value, write_request, write_value,
 };
+
+#[cfg(test)]
+mod tests;

@@ -1,11 +1,13 @@
 //! How requests and values are spelled in bytes, and their digests. `specs/Formats.antt` has the table.
-ghost use Rattle.std.specs.Prelude.{◌≡◌, ℕ, List, [], ◌∷◌, ◌++◌, ◌≤◌, length, IfOk, OnOk, Ok, Err};
+ghost use Rattle.std.specs.Prelude.{◌≡◌, ℕ, List, [], ◌∷◌, ◌++◌, ◌≤◌, length, ◌↔◌, IfOk, OnOk, Ok, Err};
 ghost use Rattle.std.specs.List.{flat_map};
 ghost use Rattle.sha2.specs.Hashers.{Holds256};
 ghost use Rattle.sha2.specs.Sha256.{sha256};
 ghost use Rattle.iss_request.specs.Fields.{IsRead, IsUnreadable, IsGrammar, Good, Bad};
 ghost use Rattle.iss_request.specs.Parsing.{all_of, times};
-ghost use Rattle.iss_request.specs.Formats.{is_height, is_signature, is_request, request_bytes, spell_request, spell_value, parse_payload, parse_signature, parse_request, parse_batch, parse_rest, parse_value, spell_batch};
+ghost use Rattle.iss_request.specs.Formats.{IsSpelledRequest, IsSpelledValue, is_height, is_signature, has_spelling, request_bytes, spell_request, spell_value, parse_payload, parse_signature, parse_request, parse_batch, parse_rest, parse_value, spell_batch};
+ghost use Rattle.iss_request.specs.declared.requests.Request.{Request};
+ghost use Rattle.iss_request.specs.declared.requests.Value.{Value};
 
 use crate::bytes::Bytes;
 use crate::errors::{DecodeError, NoMemory};
@@ -16,10 +18,10 @@ use sha2::{Digest, Sha256};
 use std::alloc::Global;
 
 // The most bytes of a payload.
-const PAYLOAD_MAX: usize = 256;
+const PAYLOAD_MAX: u16 = 256;
 
 // The most requests of a batch.
-const REQUESTS_MAX: usize = 32;
+const REQUESTS_MAX: u8 = 32;
 
 // What stands for a request without a spelling: a length that is too large, and nothing behind it.
 const NO_REQUEST: [u8; 7] = [0, 0, 0, 0, 0, 255, 255];
@@ -46,11 +48,11 @@ fn has_shape(sig: &[u8]) -> bool
 }
 
 fn is_spellable(request: &Request) -> bool
-    ensures { result ≡ is_request request.now }
+    ensures { result ≡ has_spelling request.now }
 {
     // Its range is part of the answer.
     let _number = request.id.number;
-    request.payload.len() <= PAYLOAD_MAX && has_shape(request.sig.as_slice())
+    request.payload.len() <= PAYLOAD_MAX as usize && has_shape(request.sig.as_slice())
 }
 
 /// Writes a request. One that has no spelling is written as bytes that no reader takes.
@@ -81,7 +83,7 @@ fn put_request(request: &Request, out: &mut Writer) -> Result<(), NoMemory>
 pub fn write_batch(batch: &Batch, out: &mut Writer) -> Result<(), NoMemory>
     ensures { OnOk result (out.new ≡ out.old ++ spell_batch batch.now) }
 {
-    if batch.len() > REQUESTS_MAX {
+    if batch.len() > REQUESTS_MAX as usize {
         return out.put_u8(NO_BATCH);
     }
     out.put_u8(batch.len() as u8)?;
@@ -116,7 +118,7 @@ fn read_payload(alloc: Global, f: &mut Fields) -> Result<Bytes, DecodeError>
 {
     let too_long = f.bad_field();
     let size = f.read_u16()?;
-    if size > 256 {
+    if size > PAYLOAD_MAX {
         return Err(too_long);
     }
     let bytes = f.read_bytes(size as usize)?;
@@ -177,7 +179,7 @@ fn read_batch(alloc: Global, f: &mut Fields) -> Result<Batch, DecodeError>
 {
     let too_many = f.bad_field();
     let count = f.read_u8()?;
-    if count > 32 {
+    if count > REQUESTS_MAX {
         return Err(too_many);
     }
     let batch = read_requests(alloc, count, f)?;
@@ -259,7 +261,7 @@ fn hash_parts(request: &Request, hasher: &mut Sha256)
 fn hash_batch(batch: &Batch, hasher: &mut Sha256)
     ensures { (m : List ℕ) → Holds256 hasher.old m → Holds256 hasher.new (m ++ spell_batch batch.now) }
 {
-    if batch.len() > REQUESTS_MAX {
+    if batch.len() > REQUESTS_MAX as usize {
         hasher.update([NO_BATCH]);
         return;
     }
@@ -296,4 +298,7 @@ pub fn digest_of(value: &Value) -> [u8; 32]
 pub fn formats_are_exact()
     ensures request { IsGrammar spell_request parse_request }
     ensures value { IsGrammar spell_value parse_value }
+    // What is read of bytes, and all of them, is what the table relates to them.
+    ensures request_table { (r : Request) (bytes : List ℕ) → (parse_request bytes ≡ Good r []) ↔ IsSpelledRequest r bytes }
+    ensures value_table { (v : Value) (bytes : List ℕ) → (parse_value bytes ≡ Good v []) ↔ IsSpelledValue v bytes }
 {}

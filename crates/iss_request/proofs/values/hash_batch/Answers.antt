@@ -5,8 +5,8 @@ use Rattle.iss_request.specs.Formats.{spell_request}
 use Rattle.iss_request.proofs.FormatLemmas.{batch_unspelled, batch_spelled}
 use Rattle.iss_request.proofs.values.hash_batch.Goals as goal
 
-pub returns-then-len-gt-REQUESTS_MAX : goal.returns-then-len-gt-REQUESTS_MAX
-returns-then-len-gt-REQUESTS_MAX c m h = rw (batch_unspelled c.args.batch.now (omega arith)) (c.update.ensures m h)
+pub returns-then-len : goal.returns-then-len
+returns-then-len c m h = rw (batch_unspelled c.args.batch.now (omega arith)) (c.update.ensures m h)
 
 pub returns : goal.returns
 returns c m h =

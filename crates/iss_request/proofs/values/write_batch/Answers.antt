@@ -2,8 +2,8 @@ use Rattle.std.proofs.Common.{arith}
 use Rattle.iss_request.proofs.FormatLemmas.{batch_unspelled, batch_spelled, both_written}
 use Rattle.iss_request.proofs.values.write_batch.Goals as goal
 
-pub returns-then-len-gt-REQUESTS_MAX : goal.returns-then-len-gt-REQUESTS_MAX
-returns-then-len-gt-REQUESTS_MAX c = rw (batch_unspelled c.args.batch.now (omega arith)) c.put_u8.ensures.ok
+pub returns-then-len : goal.returns-then-len
+returns-then-len c = rw (batch_unspelled c.args.batch.now (omega arith)) c.put_u8.ensures.ok
 
 pub returns : goal.returns
 returns c =
