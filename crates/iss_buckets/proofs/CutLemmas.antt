@@ -103,4 +103,3 @@ unfolding cut_of left_of
 cuts_full p m old out i es full c =
     let n : m - length out ≡ 0 = omega arith in
     (sym (append-nil out) ∙ rw n at c.taken, sym (take-append-drop i es) ∙ rw n at c.left)
-

@@ -64,7 +64,7 @@ pub lookup_waits : (id : ReqId) (es : List (ReqId × Request)) → AreKeyed es �
 lookup_waits id [] h = refl
 lookup_waits id (e ∷ es) h =
     subst (λ (k : ReqId). is_some (cond (same_id id k) (Some e.1) (lookup (λ k. same_id id k) es)) ≡ (same_id id e.1.id || waits id (values_of es))) (sym h.0)
-        (go (same_id id e.1.id) (lookup_waits id es h.1))
+    (go (same_id id e.1.id) (lookup_waits id es h.1))
   where
     go : (b : Bool) → is_some (lookup (λ k. same_id id k) es) ≡ waits id (values_of es)
         → is_some (cond b (Some e.1) (lookup (λ k. same_id id k) es)) ≡ (b || waits id (values_of es))
@@ -109,16 +109,16 @@ apart : (id : ReqId) (es : List (ReqId × Request)) → AreKeyed es → AllByRec
 apart id [] h all there = there
 apart id (e ∷ es) h all there = ⊎_elim
     (λ (same : id ≡ e.1.id).
-        let bad : true ≡ false = sym (same_self id) ∙ ap (λ k. same_id id k) (same ∙ sym h.0) ∙ all.0 in cc)
+    let bad : true ≡ false = sym (same_self id) ∙ ap (λ k. same_id id k) (same ∙ sym h.0) ∙ all.0 in cc)
     (λ (later : In id (ids (values_of es))). apart id es h.1 all.1 later)
     there
 
 pub different : (es : List (ReqId × Request)) → AreKeyed es → IsDistinct (λ a b. same_id a b) (keys_of es) → Different (ids (values_of es))
 different [] h d = tt
-different (e ∷ es) h d =
-    ( (λ there. apart e.0 es h.1 (IsDistinct-head (λ a b. same_id a b) e.0 (keys_of es) d) (subst (λ (k : ReqId). In k (ids (values_of es))) (sym h.0) there))
-    , different es h.1 (IsDistinct-tail (λ a b. same_id a b) e.0 (keys_of es) d)
-    )
+different (e ∷ es) h d = (
+  (λ there. apart e.0 es h.1 (IsDistinct-head (λ a b. same_id a b) e.0 (keys_of es) d) (subst (λ (k : ReqId). In k (ids (values_of es))) (sym h.0) there)),
+  different es h.1 (IsDistinct-tail (λ a b. same_id a b) e.0 (keys_of es) d),
+)
 
 -- ---- requests that are taken out by their identities
 

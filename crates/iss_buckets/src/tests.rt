@@ -38,7 +38,7 @@ fn layout(alloc: Global) -> Layout {
 }
 
 #[test]
-fn a_batch_is_cut_and_comes_back(rt: HostRuntime) -> Result<(), Fail> {
+fn a_batch_is_cut(rt: HostRuntime) -> Result<(), Fail> {
     let alloc = rt.alloc();
     let layout = layout(alloc);
     let mut pending = Pending::new(alloc);
@@ -52,5 +52,20 @@ fn a_batch_is_cut_and_comes_back(rt: HostRuntime) -> Result<(), Fail> {
     assert!(rt; !pending.has(id(6)));
     assert!(rt; pending.has(id(0)));
     assert_eq!(rt; pending.waiting().len(), 2);
+    pending.drop_ordered(&batch);
+    assert_eq!(rt; pending.waiting().len(), 2);
+    Ok(())
+}
+
+#[test]
+fn a_batch_comes_back(rt: HostRuntime) -> Result<(), Fail> {
+    let alloc = rt.alloc();
+    let mut batch = Batch::new(alloc);
+    batch.push(request(alloc, 3))?;
+    let mut pending = Pending::new(alloc);
+    pending.put_back(&batch)?;
+    assert!(rt; pending.has(id(3)));
+    pending.drop_ordered(&batch);
+    assert!(rt; !pending.has(id(3)));
     Ok(())
 }

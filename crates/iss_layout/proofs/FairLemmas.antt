@@ -49,15 +49,15 @@ good_plan s e log good fits =
     let few = few_nodes s good in
     let long = length_below s.n in
     record {
-        rising = rising_below s.n;
-        some = omega arith;
-        no_more = omega arith;
-        few_nodes = few.1;
-        enough = good.epoch_low;
-        few_slots = good.epoch_high;
-        some_buckets = good.buckets_low;
-        few_buckets = good.buckets_high;
-        fits = fits;
+      rising = rising_below s.n;
+      some = omega arith;
+      no_more = omega arith;
+      few_nodes = few.1;
+      enough = good.epoch_low;
+      few_slots = good.epoch_high;
+      some_buckets = good.buckets_low;
+      few_buckets = good.buckets_high;
+      fits = fits;
     }
 
 -- ---- lists
@@ -131,9 +131,9 @@ in_slots first zero s low high = absurd (omega arith)
 in_slots first (suc k) s low high = ⊎_elim
     (λ (front : s.0 < first + k). in_front (slots_from first k) (record { 0 = first + k } ∷ []) s (in_slots first k s low front))
     (λ (back : first + k ≤ s.0).
-        let at : s.0 ≡ first + k = omega arith in
-        let is : s ≡ record { 0 = first + k } = ap (λ (i : ℕ). record { 0 = i }) at in
-        in_back (slots_from first k) (record { 0 = first + k } ∷ []) s (inl is))
+    let at : s.0 ≡ first + k = omega arith in
+    let is : s ≡ record { 0 = first + k } = ap (λ (i : ℕ). record { 0 = i }) at in
+    in_back (slots_from first k) (record { 0 = first + k } ∷ []) s (inl is))
     (cases_lt s.0 (first + k))
 
 pub of_slots : (first k : ℕ) (s : Slot) → In s (slots_from first k) → (first ≤ s.0) × (s.0 < first + k)
@@ -196,27 +196,27 @@ turn_in ls k some = let lt : k % length ls < length ls = mod_below k (length ls)
 -- ---- the laws
 
 pub segment_slots : (p : Plan) (i : ℕ) (s : Slot) → In s (segment p i) ↔ (IsSlotOf p s.0 × (slot_leader p s.0 ≡ Some (node i)))
-segment_slots p i s =
-    ( (λ h.
-        let (within, is) = of_filter (is_slot_of_leader p i) (slots_from (first_slot p) p.slots) s h in
-        (of_slots (first_slot p) p.slots s within, is_node_means i (slot_leader p s.0) is))
-    , (λ h.
-        in_filter (is_slot_of_leader p i) (slots_from (first_slot p) p.slots) s (in_slots (first_slot p) p.slots s h.0.0 h.0.1)
-            (is_node_of i (slot_leader p s.0) h.1))
-    )
+segment_slots p i s = (
+  (λ h.
+      let (within, is) = of_filter (is_slot_of_leader p i) (slots_from (first_slot p) p.slots) s h in
+      (of_slots (first_slot p) p.slots s within, is_node_means i (slot_leader p s.0) is)),
+  (λ h.
+      in_filter (is_slot_of_leader p i) (slots_from (first_slot p) p.slots) s (in_slots (first_slot p) p.slots s h.0.0 h.0.1)
+      (is_node_of i (slot_leader p s.0) h.1)),
+)
 
 one_leader : (p : Plan) → IsGoodPlan p → (s : Slot) → IsSlotOf p s.0 → HasOneLeader p s
 one_leader p good s at =
     let (l, (leads, is)) = turn_in p.leaders (s.0 - first_slot p) good.some in
     record {
-        leader = l;
-        leads = leads;
-        is = is;
-        within = (segment_slots p l.0 s).1 (at, is);
-        only = λ i h. let other = ((segment_slots p i s).0 h).1 in
-            let same : Some (node i) ≡ Some l = sym other ∙ is in
-            let e : node i ≡ l = cc in
-            ap (λ (x : NodeId). x.0) e;
+      leader = l;
+      leads = leads;
+      is = is;
+      within = (segment_slots p l.0 s).1 (at, is);
+      only = λ i h. let other = ((segment_slots p i s).0 h).1 in
+          let same : Some (node i) ≡ Some l = sym other ∙ is in
+          let e : node i ≡ l = cc in
+          ap (λ (x : NodeId). x.0) e;
     }
 
 has_owner : (p : Plan) → IsGoodPlan p → (b : ℕ) → HasOwner p b
@@ -224,15 +224,15 @@ has_owner p good b = go (leads p (home p b)) refl
   where
     go : (t : Bool) → leads p (home p b) ≡ t → HasOwner p b
     go true is = record {
-        owner = node (home p b);
-        leads = leads_means (home p b) p.leaders is;
-        is = rw is refl;
-      }
+      owner = node (home p b);
+      leads = leads_means (home p b) p.leaders is;
+      is = rw is refl;
+    }
     go false is = let (l, (here, turn)) = turn_in p.leaders (b + p.epoch) good.some in record {
-        owner = l;
-        leads = here;
-        is = rw is turn;
-      }
+      owner = l;
+      leads = here;
+      is = rw is turn;
+    }
 
 some_slot : (p : Plan) → IsGoodPlan p → (i : ℕ) → In (node i) p.leaders → 1 ≤ length (segment p i)
 some_slot p good i h =
@@ -243,7 +243,7 @@ some_slot p good i h =
     let back : first_slot p + k - first_slot p ≡ k = omega arith in
     let round : k % length p.leaders ≡ k = mod-eq_of_lt lt in
     let here : slot_leader p (first_slot p + k) ≡ Some (node i) =
-        subst (λ (j : ℕ). at_turn p.leaders j ≡ Some (node i)) (sym back) (subst (λ (j : ℕ). slice_get p.leaders j ≡ Some (node i)) (sym round) is)
+    subst (λ (j : ℕ). at_turn p.leaders j ≡ Some (node i)) (sym back) (subst (λ (j : ℕ). slice_get p.leaders j ≡ Some (node i)) (sym round) is)
     in
     let high : first_slot p + k < first_slot p + p.slots = omega arith in
     let low : first_slot p ≤ first_slot p + k = omega arith in
@@ -251,18 +251,18 @@ some_slot p good i h =
 
 pub fair : (p : Plan) → IsGoodPlan p → IsFair p
 fair p good = record {
-    some = good.some;
-    nodes = good.rising;
-    led = λ s at. one_leader p good s at;
-    owned = λ b. has_owner p good b;
-    segments = λ i. record {
-        slots = λ s. segment_slots p i s;
-        ascending = ascending_lower 0 (first_slot p) (segment p i) (omega arith)
-            (ascending_filter (is_slot_of_leader p i) (first_slot p) (first_slot p + p.slots) (slots_from (first_slot p) p.slots) (rises_from (first_slot p) p.slots));
-        few = let shorter = filter_shorter (is_slot_of_leader p i) (slots_from (first_slot p) p.slots) in
-            let long = length_slots (first_slot p) p.slots in
-            let few = good.few_slots in
-            omega arith;
-        some = λ h. some_slot p good i h;
-    };
-  }
+  some = good.some;
+  nodes = good.rising;
+  led = λ s at. one_leader p good s at;
+  owned = λ b. has_owner p good b;
+  segments = λ i. record {
+    slots = λ s. segment_slots p i s;
+    ascending = ascending_lower 0 (first_slot p) (segment p i) (omega arith)
+        (ascending_filter (is_slot_of_leader p i) (first_slot p) (first_slot p + p.slots) (slots_from (first_slot p) p.slots) (rises_from (first_slot p) p.slots));
+    few = let shorter = filter_shorter (is_slot_of_leader p i) (slots_from (first_slot p) p.slots) in
+        let long = length_slots (first_slot p) p.slots in
+        let few = good.few_slots in
+        omega arith;
+    some = λ h. some_slot p good i h;
+  };
+}

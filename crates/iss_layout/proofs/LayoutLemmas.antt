@@ -15,7 +15,7 @@ pub owner_turn : (p : Plan) (b i k : ℕ) (x : NodeId) → i ≡ (b + p.epoch) %
     → k ≡ (b + p.epoch) % length p.leaders → slice_get p.leaders k ≡ Some x → bucket_owner p b ≡ Some x
 owner_turn p b i k x e not_home turn here =
     subst (λ (j : ℕ). cond (leads p j) (Some (node j)) (at_turn p.leaders (b + p.epoch)) ≡ Some x) e
-        (rw not_home (subst (λ (j : ℕ). slice_get p.leaders j ≡ Some x) turn here))
+    (rw not_home (subst (λ (j : ℕ). slice_get p.leaders j ≡ Some x) turn here))
 
 pub leaders_more : (ls : List NodeId) (i : ℕ) → i < length ls → take i ls ≡ nodes_below i
     → take (i + 1) (slice_set ls i (node i)) ≡ nodes_below (i + 1)

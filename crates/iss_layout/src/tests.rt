@@ -29,6 +29,12 @@ fn an_epoch_of_three_nodes(rt: HostRuntime) -> Result<(), Fail> {
     let slots = layout.slots_of(rt.alloc(), NodeId(2))?;
     assert_eq!(rt; slots.as_slice(), [Slot(8), Slot(11)].as_slice());
     assert_eq!(rt; layout.owner_of(2), NodeId(0));
-    assert_eq!(rt; layout.bucket_of(ReqId { client: 2, number: 5 }), 1);
+    assert_eq!(rt;
+        layout.bucket_of(ReqId {
+            client: 2,
+            number: 5
+        }),
+        1
+    );
     Ok(())
 }

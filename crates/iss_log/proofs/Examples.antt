@@ -11,9 +11,9 @@ request t = record { id = record { client = 0; number = t }; payload = []; sig =
 
 abbrev example : LogState
 example = record {
-    entries = Holds (request 0 ∷ request 1 ∷ []) ∷ Nil ∷ Holds (request 7 ∷ []) ∷ [];
-    ahead = (4, Holds []) ∷ [];
-  }
+  entries = Holds (request 0 ∷ request 1 ∷ []) ∷ Nil ∷ Holds (request 7 ∷ []) ∷ [];
+  ahead = (4, Holds []) ∷ [];
+}
 
 nil_counts_nothing : first_number_of example.entries 1 ≡ Some 2
 nil_counts_nothing = refl

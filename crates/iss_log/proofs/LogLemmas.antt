@@ -63,15 +63,15 @@ pub advancing_more : (old now new : LogState) (v : Value) (ahead : List (ℕ × 
     → new ≡ record { entries = now.entries ++ v ∷ []; ahead = ahead } → IsAdvancing old new
 advancing_more old now new v ahead so_far next without is =
     let at : (s : ℕ) → value_at (record { entries = now.entries ++ v ∷ []; ahead = ahead }) s ≡ value_at old s = λ s.
-        joined_at now.entries v s (ahead_at now.ahead s) (ahead_at ahead s)
-            (λ e. ap (λ k. ahead_at now.ahead k) e ∙ next)
-            (λ ne. without s ∙ cond_apart (length now.entries) s None (ahead_at now.ahead s) ne)
-        ∙ so_far.values s
+    joined_at now.entries v s (ahead_at now.ahead s) (ahead_at ahead s)
+    (λ e. ap (λ k. ahead_at now.ahead k) e ∙ next)
+    (λ ne. without s ∙ cond_apart (length now.entries) s None (ahead_at now.ahead s) ne)
+    ∙ so_far.values s
     in
     subst (λ (x : LogState). IsAdvancing old x) (sym is) (record {
-        joined = so_far.joined ++ v ∷ [];
-        entries = ap (λ xs. xs ++ v ∷ []) so_far.entries ∙ append_assoc old.entries so_far.joined (v ∷ []);
-        values = at;
+      joined = so_far.joined ++ v ∷ [];
+      entries = ap (λ xs. xs ++ v ∷ []) so_far.entries ∙ append_assoc old.entries so_far.joined (v ∷ []);
+      values = at;
     })
 
 pub advanced : (old new : LogState) (slots : ℕ) → IsAdvancing old new → ahead_at new.ahead (length new.entries) ≡ None
@@ -80,11 +80,11 @@ advanced old new slots so_far none count =
     let long : length new.entries ≡ length old.entries + length so_far.joined = ap length so_far.entries ∙ length-append old.entries so_far.joined in
     let le : length new.entries ≤ length new.entries = omega arith in
     record {
-        joined = so_far.joined;
-        entries = so_far.entries;
-        count = omega arith;
-        values = so_far.values;
-        hole = rw (past_none new.entries (length new.entries) le) none;
+      joined = so_far.joined;
+      entries = so_far.entries;
+      count = omega arith;
+      values = so_far.values;
+      hole = rw (past_none new.entries (length new.entries) le) none;
     }
 
 -- ---- numbers
@@ -122,19 +122,19 @@ numbered_more es v firsts count next h e =
     let long = length-append firsts (count ∷ []) in
     let size = h.size in
     record {
-        size = omega arith;
-        first = λ s lt. ⊎_elim
-            (λ (below : s < length es).
-                let le : s ≤ length es = omega arith in
-                let within : s < length firsts = omega arith in
-                index_front firsts count s within ∙ h.first s below ∙ ap requests (sym (take_front es v s le)))
-            (λ (past : length es ≤ s).
-                let at : s ≡ length es = omega arith in
-                let last : s ≡ length firsts = omega arith in
-                let le : s ≤ length es = omega arith in
-                index_last firsts count s last ∙ h.all ∙ ap requests (sym (take_front es v s le ∙ take_whole es s at)))
-            (cases_lt s (length es));
-        all = e ∙ ap (λ k. k + size_of v) h.all ∙ sym (requests_more es v);
+      size = omega arith;
+      first = λ s lt. ⊎_elim
+          (λ (below : s < length es).
+          let le : s ≤ length es = omega arith in
+          let within : s < length firsts = omega arith in
+          index_front firsts count s within ∙ h.first s below ∙ ap requests (sym (take_front es v s le)))
+          (λ (past : length es ≤ s).
+          let at : s ≡ length es = omega arith in
+          let last : s ≡ length firsts = omega arith in
+          let le : s ≤ length es = omega arith in
+          index_last firsts count s last ∙ h.all ∙ ap requests (sym (take_front es v s le ∙ take_whole es s at)))
+          (cases_lt s (length es));
+      all = e ∙ ap (λ k. k + size_of v) h.all ∙ sym (requests_more es v);
     }
 
 pub without_here : (old new : List (ℕ × Value)) (next k s : ℕ) → ahead_at new s ≡ cond (is_eq (nat_cmp next s)) None (ahead_at old s)

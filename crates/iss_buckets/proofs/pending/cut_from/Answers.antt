@@ -24,7 +24,7 @@ scan-preserved-else-is_err c =
     let ok : is_ok c.push.result ≡ true = search rules in
     let pushed : c.push.new.self.items ≡ c.scan.out.items ++ q ∷ [] = rw ok at c.push.ensures.items in
     let left : values_of c.shift_remove_index.new.self.entries ≡ remove (values_of es) c.scan.i =
-        ap (λ (xs : List (ReqId × Request)). values_of xs) c.shift_remove_index.ensures.entries ∙ values_removed es c.scan.i
+    ap (λ (xs : List (ReqId × Request)). values_of xs) c.shift_remove_index.ensures.entries ∙ values_removed es c.scan.i
     in
     record {
       cuts = rw (pushed, left) (cuts_hit p c.args.max (values_of c.args.requests.now.entries) c.scan.out.items c.scan.i (values_of es) q room (value_at es c.scan.i k q at) hit c.scan.invariant.cuts);

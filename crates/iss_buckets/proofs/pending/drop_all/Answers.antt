@@ -8,7 +8,7 @@ loop-request-init c = record { gone = sym (without_none (values_of c.args.reques
 
 pub loop-request-preserved : goal.loop-request-preserved
 loop-request-preserved c = record {
-    gone = dropped_more (values_of c.args.requests.now.entries) (values_of c.loop-request.requests.entries) (values_of c.drop_one.new.requests.entries)
-        c.args.batch.now c.loop-request.request-index c.request-item.result c.loop-request-test.true c.request-item.is c.loop-request.invariant.gone c.drop_one.ensures.gone;
-    keyed = c.drop_one.ensures.keyed;
-  }
+  gone = dropped_more (values_of c.args.requests.now.entries) (values_of c.loop-request.requests.entries) (values_of c.drop_one.new.requests.entries)
+      c.args.batch.now c.loop-request.request-index c.request-item.result c.loop-request-test.true c.request-item.is c.loop-request.invariant.gone c.drop_one.ensures.gone;
+  keyed = c.drop_one.ensures.keyed;
+}

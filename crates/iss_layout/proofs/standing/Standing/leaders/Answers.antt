@@ -6,6 +6,6 @@ pub loop-i-preserved : goal.loop-i-preserved
 loop-i-preserved c =
     let within : c.loop-i.i < length c.loop-i.leaders = omega (arith, c.loop-i.invariant.size, c.requires) in
     record {
-        size = search rules;
-        front = leaders_more c.loop-i.leaders c.loop-i.i within c.loop-i.invariant.front;
+      size = search rules;
+      front = leaders_more c.loop-i.leaders c.loop-i.i within c.loop-i.invariant.front;
     }

@@ -10,8 +10,8 @@ run-init c = advancing_none c.args.self.now
 pub run-preserved : goal.run-preserved
 run-preserved c =
     advancing_more c.args.self.now c.run.self c.join.new.self c.in-Some.value c.take_next.new.self.ahead c.run.invariant
-        (sym c.take_next.ensures.value ∙ c.in-Some.is) c.take_next.ensures.others
-        (c.in_ok-join.ensures ∙ ap (λ (xs : List Value). record { entries = xs ++ c.in-Some.value ∷ []; ahead = c.take_next.new.self.ahead }) c.take_next.ensures.entries)
+    (sym c.take_next.ensures.value ∙ c.in-Some.is) c.take_next.ensures.others
+    (c.in_ok-join.ensures ∙ ap (λ (xs : List Value). record { entries = xs ++ c.in-Some.value ∷ []; ahead = c.take_next.new.self.ahead }) c.take_next.ensures.entries)
 
 pub returns : goal.returns
 returns c =

@@ -11,9 +11,9 @@ returns c =
     let past : length es ≤ slot = omega (arith, c.len.ensures) in
     let free : is_some (ahead_at ahead slot) ≡ false = sym c.contains_key.ensures ∙ c.if-contains_key.false in
     record {
-        was_empty = subst (λ (l : LogState). value_at l slot ≡ None) c.self.view_is (empty_at es ahead slot past free);
-        values = λ s. subst (λ (l : LogState). value_at (record { entries = es; ahead = c.insert.new.self.entries }) s ≡ cond (eqb slot s) (Some c.args.value) (value_at l s)) c.self.view_is
-            (filled_at es slot s c.args.value (ahead_at ahead s) (ahead_at c.insert.new.self.entries s) past
-                (c.in_ok-insert.ensures.updates.0 s ∙ ap (λ b. cond b (Some c.args.value) (ahead_at ahead s)) (same_slot slot s)));
-        entries = ap (λ (l : LogState). l.entries) c.self.view_is;
+      was_empty = subst (λ (l : LogState). value_at l slot ≡ None) c.self.view_is (empty_at es ahead slot past free);
+      values = λ s. subst (λ (l : LogState). value_at (record { entries = es; ahead = c.insert.new.self.entries }) s ≡ cond (eqb slot s) (Some c.args.value) (value_at l s)) c.self.view_is
+          (filled_at es slot s c.args.value (ahead_at ahead s) (ahead_at c.insert.new.self.entries s) past
+          (c.in_ok-insert.ensures.updates.0 s ∙ ap (λ b. cond b (Some c.args.value) (ahead_at ahead s)) (same_slot slot s)));
+      entries = ap (λ (l : LogState). l.entries) c.self.view_is;
     }
