@@ -220,7 +220,7 @@ mod tests {
         })
     }
 
-    // A cast is said to all, and the leader's word is delivered; neither happens twice.
+    // A cast is said to all, once, and the leader's word is delivered.
     #[test]
     fn a_cast_is_said_and_delivered(rt: HostRuntime) -> Result<(), Fail> {
         let alloc = rt.alloc();
@@ -235,6 +235,7 @@ mod tests {
         assert!(rt; node.asks(&p, &cast).is_some());
         let sent = node.step(alloc, &p, cast, true, &mut keys)?;
         assert!(rt; !node.casts(&p, Slot(3)));
+        assert_eq!(rt; sent.sends.len(), 1);
         for (to, said) in sent.sends.into_vec() {
             assert_eq!(rt; to, To::All);
             let heard = Input::Receive {
