@@ -10,6 +10,8 @@ pub mod memory;
 pub mod output;
 pub mod status;
 pub mod streams;
+#[cfg(test)]
+mod tests;
 pub mod top;
 
 pub use answers::Answer;

@@ -28,7 +28,7 @@ pub fn run<I: Source, O: Sink>(
     out: &mut O,
 ) -> Status
     ensures printed { Ends (map string_bytes words.now) (I.left input.old) (O.held out.old) (O.held out.new) result }
-    ensures taken { Drains MOST_TAKEN (I.left input.old) (I.left input.new) }
+    ensures taken { Drains 16777217 (I.left input.old) (I.left input.new) }
     ensures unread { ¬ AskReplay (map string_bytes words.now) → I.left input.new ≡ I.left input.old }
     ensures source { HasCause (I.faults input.old) (I.faults input.new) (result ≡ Status.SourceFailed) }
     ensures sink { HasCause (O.faults out.old) (O.faults out.new) (result ≡ Status.SinkFailed) }
@@ -44,7 +44,7 @@ pub fn run<I: Source, O: Sink>(
 fn answer<I: Source>(alloc: Global, words: &[String], input: &mut I) -> Result<Answer, EndError>
     ensures ok { IfOk result (IsAnswered (map string_bytes words.now) (I.left input.old)) }
     ensures asked { IsErrOf result EndError.Failed → AskReplay (map string_bytes words.now) }
-    ensures taken { Drains MOST_TAKEN (I.left input.old) (I.left input.new) }
+    ensures taken { Drains 16777217 (I.left input.old) (I.left input.new) }
     ensures unread { ¬ AskReplay (map string_bytes words.now) → I.left input.new ≡ I.left input.old }
     ensures cause { HasCause (I.faults input.old) (I.faults input.new) (IsErrOf result EndError.Failed) }
 {
