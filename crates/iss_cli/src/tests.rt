@@ -13,7 +13,7 @@ const PUTS: u64 = 7;
 
 fn words(alloc: Global, command: &str) -> Result<Vec<String>, AllocError> {
     let program = String::from_str(alloc, "iss")?;
-    vec![in alloc; program, String::from_str(alloc, command)?]
+    Ok(vec![in alloc; program, String::from_str(alloc, command)?]?)
 }
 
 fn failing_at(alloc: Global, call: u64) -> Result<Script, AllocError> {

@@ -1,5 +1,5 @@
 -- What the calls do to a network's flags and queues.
-use Rattle.std.proofs.Common.{◌∙◌, ◌≡◌, ◌≢◌, ◌⊎◌, inl, inr, ℕ, zero, suc, ◌+◌, ◌<◌, ◌≤◌, Bool, true, false, not, cond, ◌==◌, ◌&&◌, List, [], ◌∷◌, ◌++◌, length, filter, Option, Some, None, refl, sym, ap, subst, arith, add-one, get_or, set, replicate, ltb, length-append, append-nil}
+use Rattle.std.proofs.Common.{◌∙◌, ◌≡◌, ◌≢◌, ◌⊎◌, inl, inr, ℕ, zero, suc, ◌+◌, ◌<◌, ◌≤◌, Bool, true, false, not, cond, ◌==◌, ◌&&◌, List, [], ◌∷◌, ◌++◌, length, filter, Option, Some, None, refl, sym, ap, subst, arith, get_or, set, replicate, ltb, length-append, append-nil}
 use Rattle.std.specs.List.{list_all}
 use Rattle.std.specs.List.Sorted.{IsPermutation, IsSorted}
 use Rattle.std.specs.Ordering.{nat_cmp}
@@ -12,7 +12,7 @@ use Rattle.iss_base.specs.Lists.{nth, below}
 use Rattle.iss_network.specs.declared.packets.Sent.{Sent}
 use Rattle.iss_network.specs.Network.{Network, flag_at, is_for, is_held, without, not_for, not_held, due}
 use Rattle.iss_network.specs.Kept.{is_set, flagged, cleared_flags, for_core, IsKept, gathered}
-use Rattle.iss_network.proofs.Filters.{same_or_not, same_number, other_number, and_swap, and_not, filter_yes, filter_no, filter_cong, filter_cong_all, filter_filter, filter_swap, filter_twice, filter_never, filter_rest, list_all_filter, list_all_mono, filter_below, times, times-append, times-filter, times-permutation, Up, up_filter, up_below, up_sorted, same_ascending}
+use Rattle.iss_network.proofs.Filters.{same_or_not, same_number, other_number, and_not, filter_yes, filter_no, filter_cong, filter_cong_all, filter_filter, filter_swap, filter_twice, filter_never, filter_rest, list_all_filter, list_all_mono, filter_below, times, times-append, times-filter, times-permutation, up_filter, up_below, up_sorted, same_ascending}
 
 -- the words of the network as filters
 

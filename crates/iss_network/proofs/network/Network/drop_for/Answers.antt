@@ -1,6 +1,5 @@
-use Rattle.std.proofs.Common.{◌≡◌, ◌<◌, ◌∙◌, ℕ, List, Bool, length, filter, get_or, set, [], sym, ap, subst, arith, rules}
+use Rattle.std.proofs.Common.{◌≡◌, ◌<◌, ◌∙◌, ℕ, List, Bool, length, get_or, set, [], sym, ap, subst, arith}
 use Rattle.std.proofs.lemmas.List.{with_items_is}
-use Rattle.std.specs.Vec.{with_items}
 use Rattle.iss_network.specs.Network.{Network}
 use Rattle.iss_network.specs.Kept.{cleared_flags, IsKept, flagged}
 use Rattle.iss_network.proofs.Keeping.{cleared_kept_at, cleared_waits, any_default}

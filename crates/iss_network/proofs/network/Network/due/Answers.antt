@@ -1,4 +1,4 @@
-use Rattle.std.proofs.Common.{◌≡◌, ◌<◌, ◌∙◌, ℕ, List, length, filter, get_or, [], sym, ap, subst, arith, rules}
+use Rattle.std.proofs.Common.{◌≡◌, ◌∙◌, length, sym, ap, subst, arith}
 use Rattle.iss_network.specs.Network.{Network, due}
 use Rattle.iss_network.proofs.Keeping.{sorted_is_due, gathered_below}
 use Rattle.iss_network.proofs.network.Network.due.Goals as goal

@@ -1,8 +1,8 @@
-use Rattle.std.proofs.Common.{◌≡◌, ◌<◌, ◌∙◌, ℕ, List, Bool, true, false, cond, length, filter, get_or, [], ◌++◌, sym, ap, arith, rules}
+use Rattle.std.proofs.Common.{◌≡◌, ◌<◌, ◌∙◌, true, false, length, filter, [], ◌++◌, sym, ap, arith}
 use Rattle.std.proofs.lemmas.List.{append-nil, get_or-set_same}
 use Rattle.iss_base.specs.Lists.{nth}
-use Rattle.iss_network.specs.Network.{Network, flag_at}
-use Rattle.iss_network.specs.Kept.{is_set, for_core, flagged, gathered}
+use Rattle.iss_network.specs.Network.{flag_at}
+use Rattle.iss_network.specs.Kept.{is_set, for_core, flagged}
 use Rattle.iss_network.proofs.Keeping.{pruned_kept_at, any_default, flag_is}
 use Rattle.iss_network.proofs.network.Network.gather.Goals as goal
 

@@ -1,4 +1,4 @@
-use Rattle.std.proofs.Common.{◌≡◌, ℕ, length, arith, rules}
+use Rattle.std.proofs.Common.{rules}
 use Rattle.iss_network.proofs.Keeping.{empty_kept}
 use Rattle.iss_network.proofs.network.Network.new.Goals as goal
 

@@ -1,4 +1,4 @@
-use Rattle.std.proofs.Common.{◌≡◌, ◌<◌, ◌∙◌, ℕ, List, Bool, true, length, get_or, [], ◌∷◌, ◌++◌, sym, ap, arith, rules}
+use Rattle.std.proofs.Common.{◌≡◌, ◌<◌, ◌∙◌, ℕ, List, true, length, get_or, [], ◌∷◌, ◌++◌, ap, arith, rules}
 use Rattle.iss_network.specs.declared.packets.Sent.{Sent}
 use Rattle.iss_network.specs.Network.{Network}
 use Rattle.iss_network.specs.Kept.{flagged}
