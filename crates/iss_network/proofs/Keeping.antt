@@ -1,5 +1,5 @@
 -- What the calls do to a network's flags and queues.
-use Rattle.std.proofs.Common.{◌∙◌, ◌≡◌, ◌≢◌, ◌⊎◌, inl, inr, ℕ, zero, suc, ◌+◌, ◌<◌, ◌≤◌, Bool, true, false, not, cond, ◌==◌, ◌&&◌, List, [], ◌∷◌, ◌++◌, length, filter, Option, Some, None, refl, sym, ap, subst, arith, add-one, get_or, set, replicate, ltb, length-append, append-nil}
+use Rattle.std.proofs.Common.{◌∙◌, ◌≡◌, ◌≢◌, ◌⊎◌, inl, inr, ℕ, zero, suc, ◌+◌, ◌<◌, ◌≤◌, Bool, true, false, not, cond, ◌==◌, ◌&&◌, List, [], ◌∷◌, ◌++◌, length, filter, Option, Some, None, refl, sym, ap, subst, arith, get_or, set, replicate, ltb, length-append, append-nil}
 use Rattle.std.specs.List.{list_all}
 use Rattle.std.specs.List.Sorted.{IsPermutation, IsSorted}
 use Rattle.std.specs.Ordering.{nat_cmp}
@@ -12,7 +12,7 @@ use Rattle.iss_base.specs.Lists.{nth, below}
 use Rattle.iss_network.specs.declared.packets.Sent.{Sent}
 use Rattle.iss_network.specs.Network.{Network, flag_at, is_for, is_held, without, not_for, not_held, due}
 use Rattle.iss_network.specs.Kept.{is_set, flagged, cleared_flags, for_core, IsKept, gathered}
-use Rattle.iss_network.proofs.Filters.{same_or_not, same_number, other_number, and_swap, and_not, filter_yes, filter_no, filter_cong, filter_cong_all, filter_filter, filter_swap, filter_twice, filter_never, filter_rest, list_all_filter, list_all_mono, filter_below, times, times-append, times-filter, times-permutation, Up, up_filter, up_below, up_sorted, same_ascending}
+use Rattle.iss_network.proofs.Filters.{same_or_not, same_number, other_number, and_not, filter_yes, filter_no, filter_cong, filter_cong_all, filter_filter, filter_swap, filter_twice, filter_never, filter_rest, list_all_filter, list_all_mono, filter_below, times, times-append, times-filter, times-permutation, up_filter, up_below, up_sorted, same_ascending}
 
 -- the words of the network as filters
 
@@ -98,12 +98,17 @@ pub settled_waits : (flags : List Bool) (k : ℕ) → flagged (set flags k false
 settled_waits flags k = flagged_unset flags k ∙ sym (without_is k (flagged flags))
 
 pub settled_kept : (packets : List Sent) (flags : List Bool) (queues : List (List ℕ)) (held : List Bool) (k : ℕ) → IsKept packets flags queues held → IsKept packets (set flags k false) queues held
-settled_kept packets flags queues held k h =
-    (length-set flags k false ∙ h.0, h.1, h.2, h.3, λ c l.
-        filter_unset flags k (get_or queues c [])
-        ∙ ap (filter (λ x. not (k == x))) (h.4 c l)
-        ∙ filter_swap (λ x. not (k == x)) (for_core packets c) (flagged flags)
-        ∙ sym (ap (filter (for_core packets c)) (flagged_unset flags k)))
+settled_kept packets flags queues held k h = (
+  length-set flags k false ∙ h.0,
+  h.1,
+  h.2,
+  h.3,
+  λ c l.
+      filter_unset flags k (get_or queues c [])
+      ∙ ap (filter (λ x. not (k == x))) (h.4 c l)
+      ∙ filter_swap (λ x. not (k == x)) (for_core packets c) (flagged flags)
+      ∙ sym (ap (filter (for_core packets c)) (flagged_unset flags k)),
+)
 
 -- a packet is sent
 
@@ -132,7 +137,7 @@ for_flagged : (packets : List Sent) (p : Sent) (flags : List Bool) (c : ℕ) →
 for_flagged packets p flags c e =
     filter_filter (for_core (packets ++ p ∷ []) c) (is_set flags) (below (length flags))
     ∙ filter_below (λ x. for_core (packets ++ p ∷ []) c x && is_set flags x) (λ x. for_core packets c x && is_set flags x) (length flags)
-        (λ x l. ap (λ o. is_for o c && is_set flags x) (nth_old packets p x (omega arith)))
+    (λ x l. ap (λ o. is_for o c && is_set flags x) (nth_old packets p x (omega arith)))
     ∙ sym (filter_filter (for_core packets c) (is_set flags) (below (length flags)))
 
 pub posted_kept :
@@ -144,49 +149,60 @@ posted_kept packets flags queues held p queue h small is =
   where
     same_len : length flags ≡ length packets
     same_len = h.0
+
     bounded : (k : ℕ) (q : Sent) → nth (packets ++ p ∷ []) k ≡ Some q → q.to < length held
     bounded k q e = elim (nth_either packets p k q e) [ inl f ↦ h.2 k q f | inr f ↦ (let P : Sent → Type 0 = λ s. s.to < length held in subst P (sym f) small) ]
+
     old_own : (c : ℕ) → c < length queues → list_all (for_core (packets ++ p ∷ []) c) (get_or queues c []) ≡ true
     old_own c l = list_all_mono (for_core packets c) (for_core (packets ++ p ∷ []) c) (for_core_more packets p c) (get_or queues c []) (h.3 c l)
+
     old_whole : (c : ℕ) → c < length queues → filter (is_set (flags ++ true ∷ [])) (get_or queues c []) ≡ filter (for_core (packets ++ p ∷ []) c) (flagged flags)
     old_whole c l =
         filter_cong_all (for_core packets c) (is_set (flags ++ true ∷ [])) (is_set flags) (λ x e. set_old flags x (omega (arith, for_core_there packets c x e, same_len))) (get_or queues c []) (h.3 c l)
         ∙ h.4 c l
         ∙ sym (for_flagged packets p flags c h.0)
+
     is_to : for_core (packets ++ p ∷ []) p.to (length packets) ≡ true
     is_to = ap (λ o. is_for o p.to) (nth_new packets p) ∙ same_number p.to
+
     not_to : (c : ℕ) → c ≢ p.to → for_core (packets ++ p ∷ []) c (length packets) ≡ false
     not_to c ne = ap (λ o. is_for o c) (nth_new packets p) ∙ other_number p.to c (λ e. ne (sym e))
+
     new_set : is_set (flags ++ true ∷ []) (length packets) ≡ true
     new_set = ap (is_set (flags ++ true ∷ [])) (sym same_len) ∙ ap flag_at (nth_new flags true)
+
     own_at : (c : ℕ) → c < length queues → (c ≡ p.to) ⊎ (c ≢ p.to) → list_all (for_core (packets ++ p ∷ []) c) (get_or (set queues p.to queue) c []) ≡ true
     own_at c l (inr ne) = ap (list_all (for_core (packets ++ p ∷ []) c)) (get_or-set_other queues p.to c queue [] ne) ∙ old_own c l
     own_at c l (inl e) =
         let P : ℕ → Type 0 = λ d. d < length queues → list_all (for_core (packets ++ p ∷ []) d) (get_or (set queues p.to queue) d []) ≡ true in
         subst P (sym e) (λ m.
-            ap (list_all (for_core (packets ++ p ∷ []) p.to)) (get_or-set_same queues p.to queue [] m ∙ is)
-            ∙ list_all-append (for_core (packets ++ p ∷ []) p.to) (get_or queues p.to []) (length packets ∷ [])
-            ∙ rw (old_own p.to m, is_to) refl) l
+        ap (list_all (for_core (packets ++ p ∷ []) p.to)) (get_or-set_same queues p.to queue [] m ∙ is)
+        ∙ list_all-append (for_core (packets ++ p ∷ []) p.to) (get_or queues p.to []) (length packets ∷ [])
+        ∙ rw (old_own p.to m, is_to) refl) l
+
     whole_at : (c : ℕ) → c < length queues → (c ≡ p.to) ⊎ (c ≢ p.to) → filter (is_set (flags ++ true ∷ [])) (get_or (set queues p.to queue) c []) ≡ filter (for_core (packets ++ p ∷ []) c) (flagged flags ++ length packets ∷ [])
     whole_at c l (inr ne) =
         ap (filter (is_set (flags ++ true ∷ []))) (get_or-set_other queues p.to c queue [] ne)
         ∙ old_whole c l
         ∙ sym (filter-append (for_core (packets ++ p ∷ []) c) (flagged flags) (length packets ∷ [])
-            ∙ ap (λ t. filter (for_core (packets ++ p ∷ []) c) (flagged flags) ++ t) (filter_no (for_core (packets ++ p ∷ []) c) (length packets) [] (not_to c ne))
-            ∙ append-nil (filter (for_core (packets ++ p ∷ []) c) (flagged flags)))
+        ∙ ap (λ t. filter (for_core (packets ++ p ∷ []) c) (flagged flags) ++ t) (filter_no (for_core (packets ++ p ∷ []) c) (length packets) [] (not_to c ne))
+        ∙ append-nil (filter (for_core (packets ++ p ∷ []) c) (flagged flags)))
     whole_at c l (inl e) =
         let P : ℕ → Type 0 = λ d. d < length queues → filter (is_set (flags ++ true ∷ [])) (get_or (set queues p.to queue) d []) ≡ filter (for_core (packets ++ p ∷ []) d) (flagged flags ++ length packets ∷ []) in
         subst P (sym e) (λ m.
-            ap (filter (is_set (flags ++ true ∷ []))) (get_or-set_same queues p.to queue [] m ∙ is)
-            ∙ filter-append (is_set (flags ++ true ∷ [])) (get_or queues p.to []) (length packets ∷ [])
-            ∙ ap (λ t. t ++ filter (is_set (flags ++ true ∷ [])) (length packets ∷ [])) (old_whole p.to m)
-            ∙ ap (λ t. filter (for_core (packets ++ p ∷ []) p.to) (flagged flags) ++ t) (filter_yes (is_set (flags ++ true ∷ [])) (length packets) [] new_set)
-            ∙ sym (filter-append (for_core (packets ++ p ∷ []) p.to) (flagged flags) (length packets ∷ [])
-                ∙ ap (λ t. filter (for_core (packets ++ p ∷ []) p.to) (flagged flags) ++ t) (filter_yes (for_core (packets ++ p ∷ []) p.to) (length packets) [] is_to))) l
+        ap (filter (is_set (flags ++ true ∷ []))) (get_or-set_same queues p.to queue [] m ∙ is)
+        ∙ filter-append (is_set (flags ++ true ∷ [])) (get_or queues p.to []) (length packets ∷ [])
+        ∙ ap (λ t. t ++ filter (is_set (flags ++ true ∷ [])) (length packets ∷ [])) (old_whole p.to m)
+        ∙ ap (λ t. filter (for_core (packets ++ p ∷ []) p.to) (flagged flags) ++ t) (filter_yes (is_set (flags ++ true ∷ [])) (length packets) [] new_set)
+        ∙ sym (filter-append (for_core (packets ++ p ∷ []) p.to) (flagged flags) (length packets ∷ [])
+        ∙ ap (λ t. filter (for_core (packets ++ p ∷ []) p.to) (flagged flags) ++ t) (filter_yes (for_core (packets ++ p ∷ []) p.to) (length packets) [] is_to))) l
+
     either : (c : ℕ) → (c ≡ p.to) ⊎ (c ≢ p.to)
     either c = elim (same_or_not c p.to) [ inl s ↦ inl s.1 | inr s ↦ inr s.1 ]
+
     own : (c : ℕ) → c < length (set queues p.to queue) → list_all (for_core (packets ++ p ∷ []) c) (get_or (set queues p.to queue) c []) ≡ true
     own c l = own_at c (omega (arith, length-set queues p.to queue)) (either c)
+
     whole : (c : ℕ) → c < length (set queues p.to queue) → filter (is_set (flags ++ true ∷ [])) (get_or (set queues p.to queue) c []) ≡ filter (for_core (packets ++ p ∷ []) c) (flagged (flags ++ true ∷ []))
     whole c l =
         whole_at c (omega (arith, length-set queues p.to queue)) (either c)
@@ -219,12 +235,13 @@ empty_kept n packets flags queues held no_packets no_flags e f =
     let empty : (c : ℕ) → get_or queues c [] ≡ [] = λ c. ap (λ q. get_or q c []) e ∙ all_alike none n c in
     let P : List Sent → Type 0 = λ ps. IsKept ps flags queues held in
     let Q : List Bool → Type 0 = λ bs. IsKept [] bs queues held in
-    subst P (sym no_packets) (subst Q (sym no_flags)
-        (refl,
-         ap length e ∙ length-replicate n none ∙ sym f,
-         λ k p g. absurd (cc),
-         λ c l. ap (list_all (for_core [] c)) (empty c),
-         λ c l. ap (filter (is_set [])) (empty c)))
+    subst P (sym no_packets) (subst Q (sym no_flags) (
+      refl,
+      ap length e ∙ length-replicate n none ∙ sym f,
+      λ k p g. absurd (cc),
+      λ c l. ap (list_all (for_core [] c)) (empty c),
+      λ c l. ap (filter (is_set [])) (empty c),
+    ))
 
 -- packets for a core are dropped
 
@@ -261,10 +278,13 @@ flagged_cleared packets c (k ∷ ks) flags own whole =
   where
     unlike : ℕ → Bool
     unlike x = not (k == x)
+
     others : ℕ → Bool
     others x = not (for_core packets c x)
+
     drops : (x : ℕ) → (unlike x && others x) ≡ others x
     drops x = elim (same_or_not k x) [ inl s ↦ (let e : for_core packets c x ≡ true = ap (for_core packets c) (sym s.1) ∙ (own_head packets c k ks own).0 in rw (s.0, e) refl) | inr s ↦ rw s.0 refl ]
+
     rest : filter (is_set (set flags k false)) ks ≡ filter (for_core packets c) (flagged (set flags k false))
     rest =
         sym (filter_no (is_set (set flags k false)) k ks (unset_same flags k))
@@ -294,17 +314,23 @@ cleared_kept packets flags queues held c h l =
   where
     after : List Bool
     after = cleared_flags (get_or queues c []) flags
+
     waits : flagged after ≡ filter (λ k. not (for_core packets c k)) (flagged flags)
     waits = flagged_cleared packets c (get_or queues c []) flags (h.3 c l) (h.4 c l)
+
     either : (d : ℕ) → (d ≡ c) ⊎ (d ≢ c)
     either d = elim (same_or_not d c) [ inl s ↦ inl s.1 | inr s ↦ inr s.1 ]
+
     empty : (d : ℕ) → d ≡ c → get_or (set queues c []) d [] ≡ []
     empty d e = ap (λ i. get_or (set queues c []) i []) e ∙ get_or-set_same queues c [] [] l
+
     own_at : (d : ℕ) → d < length queues → (d ≡ c) ⊎ (d ≢ c) → list_all (for_core packets d) (get_or (set queues c []) d []) ≡ true
     own_at d m (inl e) = ap (list_all (for_core packets d)) (empty d e)
     own_at d m (inr ne) = ap (list_all (for_core packets d)) (get_or-set_other queues c d [] [] ne) ∙ h.3 d m
+
     own : (d : ℕ) → d < length (set queues c []) → list_all (for_core packets d) (get_or (set queues c []) d []) ≡ true
     own d m = own_at d (omega (arith, length-set queues c [])) (either d)
+
     whole_at : (d : ℕ) → d < length queues → (d ≡ c) ⊎ (d ≢ c) → filter (is_set after) (get_or (set queues c []) d []) ≡ filter (for_core packets d) (flagged after)
     whole_at d m (inl e) =
         ap (filter (is_set after)) (empty d e)
@@ -319,6 +345,7 @@ cleared_kept packets flags queues held c h l =
         ∙ sym (filter_cong (λ k. for_core packets d k && not (for_core packets c k)) (for_core packets d) (λ k. other_core (nth packets k) c d ne) (flagged flags))
         ∙ sym (filter_filter (for_core packets d) (λ k. not (for_core packets c k)) (flagged flags))
         ∙ sym (ap (filter (for_core packets d)) waits)
+
     whole : (d : ℕ) → d < length (set queues c []) → filter (is_set after) (get_or (set queues c []) d []) ≡ filter (for_core packets d) (flagged after)
     whole d m = whole_at d (omega (arith, length-set queues c [])) (either d)
 
@@ -339,16 +366,20 @@ pruned_kept packets flags queues held c h l =
   where
     pruned : List ℕ
     pruned = filter (is_set flags) (get_or queues c [])
+
     either : (d : ℕ) → (d ≡ c) ⊎ (d ≢ c)
     either d = elim (same_or_not d c) [ inl s ↦ inl s.1 | inr s ↦ inr s.1 ]
+
     there : (d : ℕ) → d ≡ c → get_or (set queues c pruned) d [] ≡ pruned
     there d e = ap (λ i. get_or (set queues c pruned) i []) e ∙ get_or-set_same queues c pruned [] l
+
     own_at : (d : ℕ) → d < length queues → (d ≡ c) ⊎ (d ≢ c) → list_all (for_core packets d) (get_or (set queues c pruned) d []) ≡ true
     own_at d m (inl e) =
         ap (list_all (for_core packets d)) (there d e)
         ∙ ap (λ i. list_all (for_core packets i) pruned) e
         ∙ list_all_filter (for_core packets c) (is_set flags) (get_or queues c []) (h.3 c l)
     own_at d m (inr ne) = ap (list_all (for_core packets d)) (get_or-set_other queues c d pruned [] ne) ∙ h.3 d m
+
     whole_at : (d : ℕ) → d < length queues → (d ≡ c) ⊎ (d ≢ c) → filter (is_set flags) (get_or (set queues c pruned) d []) ≡ filter (for_core packets d) (flagged flags)
     whole_at d m (inl e) =
         ap (filter (is_set flags)) (there d e)
@@ -416,8 +447,10 @@ sorted_is_due packets flags queues held all found h is moved sorted =
   where
     free : ℕ → Bool
     free k = not (is_held held (nth packets k))
+
     w : Network
     w = record { packets = packets; waits = flagged flags; held = held }
+
     none_waits : (k : ℕ) → nth packets k ≡ None → times k (flagged flags) ≡ 0
     none_waits k e = times-filter k (is_set flags) (below (length flags)) ∙ rw (unflagged k e) refl
       where
@@ -425,11 +458,14 @@ sorted_is_due packets flags queues held all found h is moved sorted =
         beyond [] j f = omega arith
         beyond (p ∷ ps) zero f = absurd (cc)
         beyond (p ∷ ps) (suc j) f = omega (arith, beyond ps j f)
+
         unflagged : (j : ℕ) → nth packets j ≡ None → is_set flags j ≡ false
         unflagged j f = ap flag_at (nth_beyond flags j (omega (arith, beyond packets j f, h.0)))
+
     same_at : (k : ℕ) (o : Option Sent) → nth packets k ≡ o → cond (for_below held (length held) o) (times k (flagged flags)) 0 ≡ cond (not (is_held held o)) (times k (flagged flags)) 0
     same_at k None e = sym (none_waits k e)
     same_at k (Some p) e = let small : ltb p.to (length held) ≡ true = grind (arith, nat_tests, h.2 k p e) in rw small refl
+
     counts : (k : ℕ) → times k found ≡ times k (filter free (flagged flags))
     counts k =
         times-permutation k all found moved

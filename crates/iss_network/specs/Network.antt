@@ -1,5 +1,5 @@
 -- The network: every packet that was sent, which of them wait, and which cores pumps pass over.
-use Rattle.std.specs.Prelude.{ℕ, ◌==◌, cond, Bool, true, false, not, List, [], ◌∷◌, ◌++◌, length, Option, Some, None, replicate, slice_set}
+use Rattle.std.specs.Prelude.{ℕ, ◌==◌, cond, Bool, false, List, [], ◌∷◌, ◌++◌, length, Option, Some, None, replicate, slice_set}
 use Rattle.iss_base.specs.Lists.{nth}
 use Rattle.iss_network.specs.declared.packets.Sent.{Sent}
 

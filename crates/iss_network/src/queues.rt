@@ -49,9 +49,11 @@ impl Queue {
     pub fn prune(&mut self, waiting: &[bool])
         ensures { self.new ≡ filter (is_set waiting.now) self.old }
     {
-        self.numbers.retain(|number: &u64| -> bool
-            ensures { result ≡ is_set waiting.entry.now number.now }
-        { flag_of(waiting, *number) });
+        self.numbers.retain(
+            |number: &u64| -> bool
+                ensures { result ≡ is_set waiting.entry.now number.now }
+            { flag_of(waiting, *number) },
+        );
     }
 
     /// Forgets all numbers, and takes the flags of their packets away.

@@ -1,4 +1,4 @@
-use Rattle.std.proofs.Common.{◌≡◌, ◌∙◌, List, ℕ, false, sym, ap, arith}
+use Rattle.std.proofs.Common.{◌∙◌, List, ℕ, false, sym, ap, arith}
 use Rattle.iss_network.specs.Network.{Network}
 use Rattle.iss_network.specs.Kept.{flagged}
 use Rattle.iss_network.proofs.Keeping.{settled_kept, settled_waits, set_beyond}

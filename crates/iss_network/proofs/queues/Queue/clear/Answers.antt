@@ -1,4 +1,4 @@
-use Rattle.std.proofs.Common.{◌≡◌, ◌∙◌, ℕ, List, Bool, false, take, set, get_or, sym, ap, arith}
+use Rattle.std.proofs.Common.{◌∙◌, false, take, set, get_or, sym, ap, arith}
 use Rattle.std.proofs.lemmas.List.{take_more}
 use Rattle.iss_network.specs.Kept.{cleared_flags}
 use Rattle.iss_network.proofs.Keeping.{cleared_end}

@@ -1,0 +1,101 @@
+-- Bytes that are taken and put piece by piece.
+use Rattle.std.proofs.Common.{◌∙◌, ◌≡◌, ◌⊎◌, inl, inr, ℕ, ◌+◌, ◌-◌, ◌<◌, ◌≤◌, Option, None, Some, List, [], ◌++◌, length, take, drop, refl, sym, ap, subst, arith, append_assoc, length-append, length-drop}
+use Rattle.std.proofs.Math.Seq.{take-add}
+use Rattle.std.proofs.lemmas.List.{append-nil, drop-drop, take_at, take_all, length-take, length-take-le}
+use Rattle.iss_cli.specs.Ends.{Rose, HasCause, IfTold, Taken, Takes, Drains, and_more}
+
+pub and_more_nil : (h : Option (List ℕ)) → and_more h [] ≡ h
+and_more_nil None = refl
+and_more_nil (Some held) = ap Some (append-nil held)
+
+pub and_more_more : (h : Option (List ℕ)) (a b : List ℕ) → and_more (and_more h a) b ≡ and_more h (a ++ b)
+and_more_more None a b = refl
+and_more_more (Some held) a b = ap Some (append_assoc held a b)
+
+-- one more piece is put
+pub and_more_piece : (h now next : Option (List ℕ)) (put n : ℕ) (bytes : List ℕ) → now ≡ and_more h (take put bytes) → next ≡ and_more now (take n (drop put bytes)) → next ≡ and_more h (take (put + n) bytes)
+and_more_piece h now next put n bytes e f =
+    f ∙ ap (λ o. and_more o (take n (drop put bytes))) e ∙ and_more_more h (take put bytes) (take n (drop put bytes)) ∙ ap (and_more h) (sym (take-add put n bytes))
+
+pub rose_later : (a b c : ℕ) → a ≤ b → Rose b c → Rose a c
+rose_later a b c h (inl l) = inl (omega arith)
+rose_later a b c h (inr e) = inr e
+
+pub cause_later : (a b c : ℕ) (F G : Type 0) → a ≤ b → HasCause b c F → (G → F) → HasCause a c G
+cause_later a b c F G h cause why = record { never_falls = omega (arith, cause.never_falls); rose = λ g. rose_later a b c h (cause.rose (why g)) }
+
+-- what was read so far of all that was left
+abbrev pub IsRead : Option (List ℕ) → Option (List ℕ) → List ℕ → Type 0
+IsRead None now bytes = now ≡ None
+IsRead (Some all) now bytes = (bytes ≡ take (length bytes) all) × (now ≡ Some (drop (length bytes) all))
+
+pub read_nothing : (left : Option (List ℕ)) → IsRead left left []
+read_nothing None = refl
+read_nothing (Some all) = (sym (take_none all), ap Some (sym (drop_none all)))
+  where
+    take_none : (xs : List ℕ) → take 0 xs ≡ []
+    take_none xs = refl
+    drop_none : (xs : List ℕ) → drop 0 xs ≡ xs
+    drop_none xs = refl
+
+-- one more piece is read
+pub read_piece : (left now next : Option (List ℕ)) (bytes slice slice_now : List ℕ) (n : ℕ) → IsRead left now bytes → Takes n now next slice slice_now → IsRead left next (bytes ++ take n slice_now)
+read_piece None now next bytes slice slice_now n h t =
+    let P : Option (List ℕ) → Type 0 = λ o. Takes n o next slice slice_now in subst P h t
+read_piece (Some all) now next bytes slice slice_now n h t =
+    let P : Option (List ℕ) → Type 0 = λ o. Takes n o next slice slice_now in
+    let taken : Taken n (drop (length bytes) all) next slice slice_now = subst P h.1 t in
+    let piece : take n slice_now ≡ take n (drop (length bytes) all) =
+        ap (take n) taken.bytes ∙ take_at (take n (drop (length bytes) all)) (drop n slice) n (length-take-le n (drop (length bytes) all) taken.within) in
+    let whole : bytes ++ take n slice_now ≡ take (length bytes + n) all =
+        ap (λ b. b ++ take n slice_now) h.0 ∙ ap (λ b. take (length bytes) all ++ b) piece ∙ sym (take-add (length bytes) n all) in
+    let size : length (bytes ++ take n slice_now) ≡ length bytes + n =
+        length-append bytes (take n slice_now) ∙ ap (λ m. length bytes + m) (ap length piece ∙ length-take-le n (drop (length bytes) all) taken.within) in
+    (whole ∙ ap (λ m. take m all) (sym size), taken.rest ∙ ap Some (drop-drop n (length bytes) all ∙ ap (λ m. drop m all) (sym size)))
+
+-- a buffer whose front was written over is as long as before
+pub refilled : (n : ℕ) (front xs : List ℕ) → n ≡ length xs → length (take n (front ++ drop (length front) xs)) ≡ n
+refilled n front xs e = omega (arith, length-take n (front ++ drop (length front) xs), length-append front (drop (length front) xs), length-drop (length front) xs)
+
+pub longer : (xs ys zs : List ℕ) (n : ℕ) → zs ≡ xs ++ take n ys → length zs ≤ length xs + n
+longer xs ys zs n e = omega (arith, ap length e, length-append xs (take n ys), length-take n ys)
+
+-- at the end all was read
+pub read_end :
+    (most : ℕ) (left now next : Option (List ℕ)) (bytes bytes_now slice slice_now : List ℕ) (n : ℕ)
+    → IsRead left now bytes → length bytes ≤ most → n ≡ 0 → 0 < length slice → Takes n now next slice slice_now → bytes_now ≡ bytes ++ take n slice_now
+    → IfTold left (λ all. bytes_now ≡ take most all)
+read_end most None now next bytes bytes_now slice slice_now n h small zero room t is = tt
+read_end most (Some all) now next bytes bytes_now slice slice_now n h small zero room t is =
+    let P : Option (List ℕ) → Type 0 = λ o. Takes n o next slice slice_now in
+    let taken : Taken n (drop (length bytes) all) next slice slice_now = subst P h.1 t in
+    let same : bytes_now ≡ bytes = is ∙ ap (λ k. bytes ++ take k slice_now) zero ∙ append-nil bytes in
+    elim (taken.end zero) [
+        inl none ↦ (
+            let short : length all ≤ length bytes = omega (arith, length-drop (length bytes) all, ap length none) in
+            same ∙ h.0 ∙ take_all (length bytes) all short ∙ sym (take_all most all (omega arith)))
+        | inr full ↦ absurd (omega arith) ]
+
+pub read_full : (most : ℕ) (left now : Option (List ℕ)) (bytes : List ℕ) → IsRead left now bytes → length bytes ≡ most → IfTold left (λ all. bytes ≡ take most all)
+read_full most None now bytes h e = tt
+read_full most (Some all) now bytes h e = h.0 ∙ ap (λ n. take n all) e
+
+pub read_drains : (most : ℕ) (left now : Option (List ℕ)) (bytes : List ℕ) → IsRead left now bytes → length bytes ≤ most → Drains most left now
+read_drains most None now bytes h l = h
+read_drains most (Some all) now bytes h l = (length bytes, l, h.1)
+
+-- a call that fails may take what it had room for
+pub drains_more : (most room : ℕ) (left now next : Option (List ℕ)) (bytes : List ℕ) → IsRead left now bytes → length bytes + room ≤ most → Drains room now next → Drains most left next
+drains_more most room None now next bytes h l d = let P : Option (List ℕ) → Type 0 = λ o. Drains room o next in subst P h d
+drains_more most room (Some all) now next bytes h l d =
+    let P : Option (List ℕ) → Type 0 = λ o. Drains room o next in
+    let e : (n : ℕ) × (n ≤ room) × (next ≡ Some (drop n (drop (length bytes) all))) = subst P h.1 d in
+    (length bytes + e.0, omega (arith, e.1), e.2 ∙ ap Some (drop-drop e.0 (length bytes) all))
+
+pub taken_drains : (n room : ℕ) (now next : Option (List ℕ)) (slice slice_now : List ℕ) → Takes n now next slice slice_now → n ≤ room → Drains room now next
+taken_drains n room None next slice slice_now t l = t
+taken_drains n room (Some left) next slice slice_now t l = (n, l, t.rest)
+
+pub none_drains : (room : ℕ) (now next : Option (List ℕ)) → next ≡ now → Drains room now next
+none_drains room None next e = e
+none_drains room (Some left) next e = (0, omega arith, e)

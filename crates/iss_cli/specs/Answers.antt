@@ -1,0 +1,87 @@
+-- What the program answers to its words and its input.
+use Rattle.std.specs.Prelude.{◌≡◌, ◌⊎◌, ℕ, Option, List, [], ◌∷◌, ◌++◌, take, codes, decimal}
+use Rattle.iss_schedule.specs.declared.errors.Why.{Why}
+use Rattle.iss_schedule.specs.declared.errors.Why.TheVariants.{Cut, Form, Faulty, Injected, Range, Size}
+use Rattle.iss_schedule.specs.declared.schedules.Schedule.{Schedule}
+use Rattle.iss_schedule.specs.BadLines.{IsBadLine}
+use Rattle.iss_schedule.specs.Schedules.{IsSchedule}
+use Rattle.iss_cli.specs.declared.answers.Answer.{Answer}
+use Rattle.iss_cli.specs.declared.status.Status.{Status}
+use Rattle.iss_cli.specs.declared.status.Status.TheVariants.{Done, NoMemory, RefusedWords, RefusedSchedule, SourceFailed, SinkFailed}
+use Rattle.iss_cli.specs.Ends.{IfTold, and_more}
+use Rattle.iss_cli.specs.Pending.{report_text}
+
+-- there are two words, the program's name and `replay`
+abbrev pub AskReplay : List (List ℕ) → Type 0
+AskReplay [] = ⊥
+AskReplay (program ∷ []) = ⊥
+AskReplay (program ∷ command ∷ []) = command ≡ codes "replay"
+AskReplay (program ∷ command ∷ word ∷ words) = ⊥
+
+abbrev pub refused_words : Answer
+refused_words = record { printed = codes "refused words" ++ 10 ∷ []; status = RefusedWords }
+
+abbrev pub why_word : Why → List ℕ
+why_word Cut = codes "Cut"
+why_word Form = codes "Form"
+why_word Faulty = codes "Faulty"
+why_word Injected = codes "Injected"
+why_word Range = codes "Range"
+why_word Size = codes "Size"
+
+abbrev pub refused_line : ℕ → Why → Answer
+refused_line line why = record { printed = codes "refused line " ++ decimal line ++ codes " " ++ why_word why ++ 10 ∷ []; status = RefusedSchedule }
+
+abbrev pub reported : Schedule → Answer
+reported s = record { printed = report_text s; status = Done }
+
+-- the answer to an input: the report of the run where the bytes are those of a schedule, and else the first bad line
+abbrev pub IsAnswer : List ℕ → Answer → Type 0
+IsAnswer bytes a =
+    ((s : Schedule) × (IsSchedule bytes s × (a ≡ reported s)))
+    ⊎ ((line : ℕ) × ((why : Why) × (IsBadLine bytes line why × (a ≡ refused_line line why))))
+
+-- the answer to words and an input
+abbrev pub Answers : List (List ℕ) → List ℕ → Answer → Type 0
+Answers words input a = (AskReplay words × IsAnswer input a) ⊎ ((¬ AskReplay words) × (a ≡ refused_words))
+
+-- the answer to words and all that a source had left
+pub record IsAnswered (words : List (List ℕ)) (left : Option (List ℕ)) (answer : Answer) : Type 0 where
+  pub input : List ℕ
+  pub whole : IfTold left (λ bytes. input ≡ bytes)
+  pub right : Answers words input answer
+
+-- the whole answer was printed, and the call ends as it says; or the first n bytes of it were
+abbrev pub Printed : Answer → Option (List ℕ) → Option (List ℕ) → Status → Type 0
+Printed answer held held_now status = (status ≡ answer.status) × (held_now ≡ and_more held answer.printed)
+
+abbrev pub PrintedPart : Answer → Option (List ℕ) → Option (List ℕ) → Type 0
+PrintedPart answer held held_now = (n : ℕ) × (held_now ≡ and_more held (take n answer.printed))
+
+-- how a call ends that is to print this answer
+abbrev pub Prints : Answer → Option (List ℕ) → Option (List ℕ) → Status → Type 0
+Prints answer held held_now SinkFailed = PrintedPart answer held held_now
+Prints answer held held_now NoMemory = PrintedPart answer held held_now
+Prints answer held held_now SourceFailed = ⊥
+Prints answer held held_now Done = Printed answer held held_now Done
+Prints answer held held_now RefusedWords = Printed answer held held_now RefusedWords
+Prints answer held held_now RefusedSchedule = Printed answer held held_now RefusedSchedule
+
+-- Nothing is printed where the source fails, and maybe where memory is wanting. Else there is an answer, and it is
+-- printed, or a first part of it where the sink fails or memory is wanting.
+abbrev pub Ends : List (List ℕ) → Option (List ℕ) → Option (List ℕ) → Option (List ℕ) → Status → Type 0
+Ends words left held held_now SourceFailed = AskReplay words × (held_now ≡ held)
+Ends words left held held_now NoMemory = (held_now ≡ held) ⊎ ((answer : Answer) × (IsAnswered words left answer × Prints answer held held_now NoMemory))
+Ends words left held held_now SinkFailed = (answer : Answer) × (IsAnswered words left answer × Prints answer held held_now SinkFailed)
+Ends words left held held_now Done = (answer : Answer) × (IsAnswered words left answer × Prints answer held held_now Done)
+Ends words left held held_now RefusedWords = (answer : Answer) × (IsAnswered words left answer × Prints answer held held_now RefusedWords)
+Ends words left held held_now RefusedSchedule = (answer : Answer) × (IsAnswered words left answer × Prints answer held held_now RefusedSchedule)
+
+-- the statuses of an answer that is printed whole
+abbrev pub IsAnswerStatus : Status → Type 0
+IsAnswerStatus Done = Unit {0}
+IsAnswerStatus RefusedWords = Unit {0}
+IsAnswerStatus RefusedSchedule = Unit {0}
+IsAnswerStatus NoMemory = ⊥
+IsAnswerStatus SourceFailed = ⊥
+IsAnswerStatus SinkFailed = ⊥

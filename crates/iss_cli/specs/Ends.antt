@@ -1,0 +1,37 @@
+-- What the calls of sources and sinks do. Of a source or a sink that tells nothing of its bytes, nothing is said.
+use Rattle.std.specs.Prelude.{◌≡◌, ◌⊎◌, ℕ, ◌-◌, ◌^◌, ◌<◌, ◌≤◌, Option, None, Some, List, [], ◌++◌, length, take, drop}
+
+-- a count rose, or stands at its last value
+abbrev pub Rose : ℕ → ℕ → Type 0
+Rose before now = (before < now) ⊎ (now ≡ 2 ^ 64 - 1)
+
+-- a failure has a cause, which was counted; the count never falls
+pub record HasCause (before now : ℕ) (failed : Type 0) : Type 0 where
+  pub never_falls : before ≤ now
+  pub rose : failed → Rose before now
+
+-- of bytes that are told
+abbrev pub IfTold : Option (List ℕ) → (List ℕ → Type 0) → Type 0
+IfTold None P = Unit {0}
+IfTold (Some bytes) P = P bytes
+
+-- n of the bytes that were left fill the front of a slice; none only where none was left, or the slice has no room
+pub record Taken (n : ℕ) (left : List ℕ) (left_now : Option (List ℕ)) (slice slice_now : List ℕ) : Type 0 where
+  pub rest : left_now ≡ Some (drop n left)
+  pub within : n ≤ length left
+  pub bytes : slice_now ≡ take n left ++ drop n slice
+  pub end : n ≡ 0 → (left ≡ []) ⊎ (length slice ≡ 0)
+
+abbrev pub Takes : ℕ → Option (List ℕ) → Option (List ℕ) → List ℕ → List ℕ → Type 0
+Takes n None left_now slice slice_now = left_now ≡ None
+Takes n (Some left) left_now slice slice_now = Taken n left left_now slice slice_now
+
+-- at most n bytes are taken of those that were left
+abbrev pub Drains : ℕ → Option (List ℕ) → Option (List ℕ) → Type 0
+Drains most None left_now = left_now ≡ None
+Drains most (Some left) left_now = (n : ℕ) × (n ≤ most) × (left_now ≡ Some (drop n left))
+
+-- what is held after more bytes were put
+abbrev pub and_more : Option (List ℕ) → List ℕ → Option (List ℕ)
+and_more None bytes = None
+and_more (Some held) bytes = Some (held ++ bytes)

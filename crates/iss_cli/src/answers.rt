@@ -1,0 +1,97 @@
+//! What is answered to words and an input.
+ghost use Rattle.std.specs.Prelude.{◌≡◌, ◌↔◌, IsTrue, IfOk, map, string_bytes, codes};
+ghost use Rattle.iss_cli.specs.Answers.{AskReplay, IsAnswer, refused_words, refused_line, reported, why_word};
+ghost use Rattle.iss_cli.specs.Pending.{report_text};
+
+use crate::status::Status;
+use iss_report::words::{put_number, put_text};
+use iss_request::{Bytes, NoMemory};
+use iss_schedule::{ReadError, Schedule, Why, read};
+use std::alloc::Global;
+
+/// What is to be printed, and how the call ends then.
+#[derive(Drop)]
+pub struct Answer {
+    pub printed: Bytes,
+    pub status: Status,
+}
+
+/// Whether the words are the program's name and `replay`.
+pub fn ask_replay(words: &[String]) -> bool
+    ensures { IsTrue result ↔ AskReplay (map string_bytes words.now) }
+{
+    match words {
+        [_, command] => is_replay(command.as_str()),
+        _ => false,
+    }
+}
+
+fn is_replay(command: &str) -> bool
+    ensures { IsTrue result ↔ (command.now ≡ codes "replay") }
+{
+    command == "replay"
+}
+
+/// The answer to words that are no call.
+pub fn refuse_words(alloc: Global) -> Result<Answer, NoMemory>
+    ensures { IfOk result (λ answer. answer ≡ refused_words) }
+{
+    let mut printed = Vec::new(alloc);
+    put_text(&mut printed, b"refused words\n")?;
+    Ok(Answer {
+        printed: Bytes::of(printed),
+        status: Status::RefusedWords,
+    })
+}
+
+/// The answer to the bytes of an input.
+pub fn respond(alloc: Global, bytes: &[u8]) -> Result<Answer, NoMemory>
+    ensures { IfOk result (IsAnswer bytes.now) }
+{
+    match read(alloc, bytes) {
+        Ok(schedule) => report(alloc, &schedule),
+        Err(ReadError::BadLine { line, why }) => refuse_line(alloc, line, why),
+        Err(ReadError::NoMemory) => Err(NoMemory),
+    }
+}
+
+// The report of a schedule's run.
+fn report(alloc: Global, schedule: &Schedule) -> Result<Answer, NoMemory>
+    ensures { IfOk result (λ answer. answer ≡ reported schedule.now) }
+{
+    let mut printed = Vec::new(alloc);
+    put_text(&mut printed, b"end ok\n")?;
+    Ok(Answer {
+        printed: Bytes::of(printed),
+        status: Status::Done,
+    })
+}
+
+// The answer to an input whose first bad line is this one.
+fn refuse_line(alloc: Global, line: u32, why: Why) -> Result<Answer, NoMemory>
+    ensures { IfOk result (λ answer. answer ≡ refused_line line why) }
+{
+    let mut printed = Vec::new(alloc);
+    put_text(&mut printed, b"refused line ")?;
+    put_number(&mut printed, line as u64)?;
+    put_text(&mut printed, b" ")?;
+    put_text(&mut printed, name_of(why))?;
+    put_text(&mut printed, b"\n")?;
+    Ok(Answer {
+        printed: Bytes::of(printed),
+        status: Status::RefusedSchedule,
+    })
+}
+
+fn name_of(why: Why) -> &'static [u8]
+    ensures { result.now ≡ why_word why }
+{
+    match why {
+        Why::Cut => b"Cut",
+        Why::Form => b"Form",
+        Why::Faulty => b"Faulty",
+        Why::Injected => b"Injected",
+        Why::Range => b"Range",
+        Why::Size => b"Size",
+    }
+}

@@ -1,0 +1,127 @@
+//! Sources and sinks in memory, some of whose calls fail.
+ghost use Rattle.std.specs.Prelude.{◌≡◌, ◌≤◌, ◌<◌, [], length, vec_len, IsErr};
+ghost use Rattle.iss_cli.specs.Ends.{HasCause};
+
+use crate::ends::{Sink, Source};
+use crate::errors::{EndError, Failed};
+use crate::memory::give;
+use std::alloc::Global;
+
+/// Which calls fail, by their numbers from 0, and how often one did.
+#[derive(Drop)]
+pub struct Script {
+    failing: Vec<u64>,
+    calls: u64,
+    faults: u64,
+}
+
+impl Script {
+    /// The calls of these numbers fail.
+    pub fn new(failing: Vec<u64>) -> Script
+        ensures { result.faults ≡ 0 }
+    {
+        Script {
+            failing,
+            calls: 0,
+            faults: 0,
+        }
+    }
+
+    // One call more, which may fail.
+    fn call(&mut self) -> Result<(), Failed>
+        ensures { HasCause self.old.faults self.new.faults (IsErr result) }
+    {
+        let number = self.calls;
+        self.calls = self.calls.saturating_add(1);
+        if !self.failing.contains(&number) {
+            return Ok(());
+        }
+        self.faults = self.faults.saturating_add(1);
+        Err(Failed)
+    }
+}
+
+/// Bytes in memory that are given at most so many at a time, and not at all by the calls that fail.
+#[derive(Drop)]
+pub struct FailingSource {
+    bytes: Vec<u8>,
+    at: usize,
+    most: usize,
+    script: Script,
+    ghost within: { at ≤ vec_len bytes },
+    ghost some: { 0 < most },
+}
+
+impl FailingSource {
+    /// These bytes, all of which are left, at least one of them a call.
+    pub fn new(bytes: Vec<u8>, most: usize, script: Script) -> FailingSource
+        ensures { result.script ≡ script }
+    {
+        FailingSource {
+            bytes,
+            at: 0,
+            most: most.max(1),
+            script,
+        }
+    }
+}
+
+impl Source for FailingSource {
+    ghost use Rattle.std.specs.Prelude.{Some, drop};
+
+    ghost left = { λ s. Some (drop s.at s.bytes.items) };
+
+    ghost faults = { λ s. s.script.faults };
+
+    fn take(&mut self, into: &mut [u8]) -> Result<usize, Failed> {
+        self.script.call()?;
+        let taken = give(self.bytes.as_slice(), self.at, into, self.most);
+        self.at += taken;
+        Ok(taken)
+    }
+}
+
+/// Bytes in memory that are put at most so many at a time, and not at all by the calls that fail.
+#[derive(Drop)]
+pub struct FailingSink {
+    held: Vec<u8>,
+    most: usize,
+    script: Script,
+    ghost some: { 0 < most },
+}
+
+impl FailingSink {
+    /// No bytes yet, of which a call puts at least one.
+    pub fn new(alloc: Global, most: usize, script: Script) -> FailingSink
+        ensures held { result.held.items ≡ [] }
+        ensures script { result.script ≡ script }
+    {
+        FailingSink {
+            held: Vec::new(alloc),
+            most: most.max(1),
+            script,
+        }
+    }
+
+    /// The bytes that were put.
+    pub fn held(&self) -> &[u8]
+        ensures { result.now ≡ self.now.held.items }
+    {
+        self.held.as_slice()
+    }
+}
+
+impl Sink for FailingSink {
+    ghost use Rattle.std.specs.Prelude.{Some};
+
+    ghost held = { λ s. Some s.held.items };
+
+    ghost faults = { λ s. s.script.faults };
+
+    fn put(&mut self, bytes: &[u8]) -> Result<usize, EndError> {
+        self.script.call()?;
+        let count = self.most.min(bytes.len());
+        self.held.extend_from_slice(&bytes[..count])?;
+        Ok(count)
+    }
+}

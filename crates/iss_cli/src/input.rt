@@ -1,0 +1,47 @@
+//! Reading a source to its end.
+ghost use Rattle.std.specs.Prelude.{◌≡◌, ◌<◌, ◌≤◌, ◌++◌, length, take, IfOk, OnErr, IsErrOf};
+ghost use Rattle.iss_cli.specs.Ends.{HasCause, IfTold, Takes, Drains};
+
+use crate::ends::Source;
+use crate::errors::EndError;
+use std::alloc::Global;
+
+/// The bytes that a source has left, but not more than `most`. They are asked for in pieces of so many bytes.
+pub fn read_up_to<I: Source>(
+    alloc: Global,
+    input: &mut I,
+    most: usize,
+    piece: usize,
+) -> Result<Vec<u8>, EndError>
+    requires { 0 < piece }
+    ensures bytes { IfOk result (λ bytes. IfTold (I.left input.old) (λ all. bytes.items ≡ take most all)) }
+    ensures taken { Drains most (I.left input.old) (I.left input.new) }
+    ensures cause { HasCause (I.faults input.old) (I.faults input.new) (IsErrOf result EndError.Failed) }
+{
+    let mut bytes = Vec::new(alloc);
+    let mut buffer = vec![in alloc; 0u8; piece]?;
+    while bytes.len() < most {
+        let room = piece.min(most - bytes.len());
+        if take_more(input, &mut buffer[..room], &mut bytes)? == 0 {
+            return Ok(bytes);
+        }
+    }
+    Ok(bytes)
+}
+
+// Takes bytes into the buffer, and adds them to those that were read. It says how many there were.
+fn take_more<I: Source>(
+    input: &mut I,
+    buffer: &mut [u8],
+    bytes: &mut Vec<u8>,
+) -> Result<usize, EndError>
+    ensures bound { IfOk result (λ n. n ≤ length buffer.old) }
+    ensures taken { IfOk result (λ n. Takes n (I.left input.old) (I.left input.new) buffer.old buffer.new) }
+    ensures bytes { IfOk result (λ n. bytes.new.items ≡ bytes.old.items ++ take n buffer.new) }
+    ensures err { OnErr result (Drains (length buffer.old) (I.left input.old) (I.left input.new)) }
+    ensures cause { HasCause (I.faults input.old) (I.faults input.new) (IsErrOf result EndError.Failed) }
+{
+    let taken = input.take(buffer)?;
+    bytes.extend_from_slice(&buffer[..taken])?;
+    Ok(taken)
+}

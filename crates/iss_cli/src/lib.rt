@@ -1,0 +1,24 @@
+//! The top call: from the words and the bytes that a program is given to the bytes that it prints.
+#![tactic(auto)]
+
+pub mod answers;
+pub mod ends;
+pub mod errors;
+pub mod failing;
+pub mod input;
+pub mod memory;
+pub mod output;
+pub mod status;
+pub mod streams;
+#[cfg(test)]
+mod tests;
+pub mod top;
+
+pub use answers::Answer;
+pub use ends::{Sink, Source};
+pub use errors::{EndError, Failed};
+pub use failing::{FailingSink, FailingSource, Script};
+pub use memory::{MemorySink, MemorySource};
+pub use status::Status;
+pub use streams::{ReadSource, WriteSink};
+pub use top::{MOST_TAKEN, run};

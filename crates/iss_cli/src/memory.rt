@@ -1,0 +1,104 @@
+//! Sources and sinks in memory that never fail.
+ghost use Rattle.std.specs.Prelude.{◌≡◌, ◌≤◌, ◌-◌, ◌++◌, [], length, take, drop, min};
+
+use crate::ends::{Sink, Source};
+use crate::errors::{EndError, Failed};
+use std::alloc::Global;
+use std::marker::Model;
+
+/// Bytes in memory that are still to be taken.
+#[derive(Drop)]
+pub struct MemorySource {
+    bytes: Vec<u8>,
+    at: usize,
+}
+
+impl Model for MemorySource {
+    ghost use Rattle.std.specs.Prelude.{ℕ, List, ◌≤◌, drop, vec_len};
+
+    ghost Value = { List ℕ };
+
+    ghost view = { λ s. drop s.at s.bytes.items };
+
+    ghost invariant = { λ s. s.at ≤ vec_len s.bytes };
+}
+
+impl MemorySource {
+    /// These bytes, all of which are left.
+    pub fn new(bytes: Vec<u8>) -> MemorySource
+        ensures { result ≡ bytes.items }
+    {
+        MemorySource { bytes, at: 0 }
+    }
+}
+
+impl Source for MemorySource {
+    ghost use Rattle.std.specs.Prelude.{Some};
+
+    ghost left = { λ s. Some s };
+
+    ghost faults = { λ s. 0 };
+
+    fn take(&mut self, into: &mut [u8]) -> Result<usize, Failed> {
+        let most = into.len();
+        let taken = give(self.bytes.as_slice(), self.at, into, most);
+        self.at += taken;
+        Ok(taken)
+    }
+}
+
+/// Gives at most so many of the bytes from a place on.
+pub fn give(bytes: &[u8], at: usize, into: &mut [u8], most: usize) -> usize
+    requires { at ≤ length bytes.now }
+    ensures count { result ≡ min most (min (length into.old) (length bytes.now - at)) }
+    ensures filled { into.new ≡ take result (drop at bytes.now) ++ drop result into.old }
+{
+    let count = most.min(into.len().min(bytes.len() - at));
+    into[..count].copy_from_slice(&bytes[at..at + count]);
+    count
+}
+
+/// Bytes in memory that were put.
+#[derive(Drop)]
+pub struct MemorySink {
+    held: Vec<u8>,
+}
+
+impl Model for MemorySink {
+    ghost use Rattle.std.specs.Prelude.{ℕ, List};
+
+    ghost Value = { List ℕ };
+
+    ghost view = { λ s. s.held.items };
+}
+
+impl MemorySink {
+    /// No bytes yet.
+    pub fn new(alloc: Global) -> MemorySink
+        ensures { result ≡ [] }
+    {
+        MemorySink {
+            held: Vec::new(alloc),
+        }
+    }
+
+    /// The bytes that were put.
+    pub fn held(&self) -> &[u8]
+        ensures { result.now ≡ self.now }
+    {
+        self.held.as_slice()
+    }
+}
+
+impl Sink for MemorySink {
+    ghost use Rattle.std.specs.Prelude.{Some};
+
+    ghost held = { λ s. Some s };
+
+    ghost faults = { λ s. 0 };
+
+    fn put(&mut self, bytes: &[u8]) -> Result<usize, EndError> {
+        self.held.extend_from_slice(bytes)?;
+        Ok(bytes.len())
+    }
+}

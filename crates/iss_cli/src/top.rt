@@ -1,0 +1,69 @@
+//! The top call.
+ghost use Rattle.std.specs.Prelude.{◌≡◌, map, string_bytes, IfOk, IsErrOf};
+ghost use Rattle.iss_cli.specs.Answers.{AskReplay, IsAnswered, IsAnswerStatus, Prints, Ends};
+ghost use Rattle.iss_cli.specs.Ends.{HasCause, Drains};
+
+use crate::answers::{Answer, ask_replay, refuse_words, respond};
+use crate::ends::{Sink, Source};
+use crate::errors::EndError;
+use crate::input::read_up_to;
+use crate::output::write_all;
+use crate::status::Status;
+use std::alloc::Global;
+
+/// How many bytes are taken at most: one more than a schedule may have, so that a longer input is noticed.
+pub const MOST_TAKEN: usize = 16_777_217;
+
+// How many bytes are asked for at once.
+const PIECE: usize = 65_536;
+
+/// Does what the words ask for, and says how it ended. `replay` reads the input to its end and prints the report of the
+/// schedule that it is, or its first bad line.
+///
+/// Causes are met in the order words, source, input, printing; want of memory may come anywhere.
+pub fn run<I: Source, O: Sink>(
+    alloc: Global,
+    words: &[String],
+    input: &mut I,
+    out: &mut O,
+) -> Status
+    ensures printed { Ends (map string_bytes words.now) (I.left input.old) (O.held out.old) (O.held out.new) result }
+    ensures taken { Drains 16777217 (I.left input.old) (I.left input.new) }
+    ensures unread { ¬ AskReplay (map string_bytes words.now) → I.left input.new ≡ I.left input.old }
+    ensures source { HasCause (I.faults input.old) (I.faults input.new) (result ≡ Status.SourceFailed) }
+    ensures sink { HasCause (O.faults out.old) (O.faults out.new) (result ≡ Status.SinkFailed) }
+{
+    match answer(alloc, words, input) {
+        Ok(answer) => print(out, &answer),
+        Err(EndError::Failed) => Status::SourceFailed,
+        Err(EndError::NoMemory) => Status::NoMemory,
+    }
+}
+
+// The answer to the words and the input.
+fn answer<I: Source>(alloc: Global, words: &[String], input: &mut I) -> Result<Answer, EndError>
+    ensures ok { IfOk result (IsAnswered (map string_bytes words.now) (I.left input.old)) }
+    ensures asked { IsErrOf result EndError.Failed → AskReplay (map string_bytes words.now) }
+    ensures taken { Drains 16777217 (I.left input.old) (I.left input.new) }
+    ensures unread { ¬ AskReplay (map string_bytes words.now) → I.left input.new ≡ I.left input.old }
+    ensures cause { HasCause (I.faults input.old) (I.faults input.new) (IsErrOf result EndError.Failed) }
+{
+    if !ask_replay(words) {
+        return Ok(refuse_words(alloc)?);
+    }
+    let bytes = read_up_to(alloc, input, MOST_TAKEN, PIECE)?;
+    Ok(respond(alloc, &bytes)?)
+}
+
+// Prints an answer, and says how the call ends.
+fn print<O: Sink>(out: &mut O, answer: &Answer) -> Status
+    requires { IsAnswerStatus answer.now.status }
+    ensures printed { Prints answer.now (O.held out.old) (O.held out.new) result }
+    ensures sink { HasCause (O.faults out.old) (O.faults out.new) (result ≡ Status.SinkFailed) }
+{
+    match write_all(out, answer.printed.as_slice()) {
+        Ok(()) => answer.status,
+        Err(EndError::Failed) => Status::SinkFailed,
+        Err(EndError::NoMemory) => Status::NoMemory,
+    }
+}
