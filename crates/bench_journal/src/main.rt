@@ -9,10 +9,9 @@ use iss_disk::{Disk, FileDisk, MemoryDisk};
 use iss_journal::Journal;
 use sha2::{Digest, Sha256};
 use std::alloc::Global;
-use std::env;
-use std::fs;
 use std::test::Fail;
 use std::time::Instant;
+use std::{env, fs};
 
 type Result<T> = std::result::Result<T, Fail>;
 
@@ -100,8 +99,16 @@ fn main(rt: HostRuntime) -> Result<()> {
     let Some(name) = words.next() else {
         return in_memory(&rt);
     };
-    let entries = words.next().ok_or("how many entries?")?.as_str().parse::<u32>()?;
-    let appends = words.next().ok_or("how many appends?")?.as_str().parse::<u32>()?;
+    let entries = words
+        .next()
+        .ok_or("how many entries?")?
+        .as_str()
+        .parse::<u32>()?;
+    let appends = words
+        .next()
+        .ok_or("how many appends?")?
+        .as_str()
+        .parse::<u32>()?;
     attaching(&rt, name.as_str(), entries)?;
     appending(&rt, name.as_str(), appends)?;
     fs::remove_file(&rt, name.as_str())?;

@@ -2,9 +2,8 @@
 #![tactic(auto)]
 
 use iss_cli::{ReadSource, Status, WriteSink, run};
-use std::env;
-use std::io;
 use std::process::ExitCode;
+use std::{env, io};
 
 // The program's words, its name first.
 fn words(rt: &HostRuntime) -> io::Result<Vec<String>> {

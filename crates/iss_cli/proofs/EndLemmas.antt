@@ -35,6 +35,7 @@ read_nothing (Some all) = (sym (take_none all), ap Some (sym (drop_none all)))
   where
     take_none : (xs : List ℕ) → take 0 xs ≡ []
     take_none xs = refl
+
     drop_none : (xs : List ℕ) → drop 0 xs ≡ xs
     drop_none xs = refl
 
@@ -46,11 +47,11 @@ read_piece (Some all) now next bytes slice slice_now n h t =
     let P : Option (List ℕ) → Type 0 = λ o. Takes n o next slice slice_now in
     let taken : Taken n (drop (length bytes) all) next slice slice_now = subst P h.1 t in
     let piece : take n slice_now ≡ take n (drop (length bytes) all) =
-        ap (take n) taken.bytes ∙ take_at (take n (drop (length bytes) all)) (drop n slice) n (length-take-le n (drop (length bytes) all) taken.within) in
+    ap (take n) taken.bytes ∙ take_at (take n (drop (length bytes) all)) (drop n slice) n (length-take-le n (drop (length bytes) all) taken.within) in
     let whole : bytes ++ take n slice_now ≡ take (length bytes + n) all =
-        ap (λ b. b ++ take n slice_now) h.0 ∙ ap (λ b. take (length bytes) all ++ b) piece ∙ sym (take-add (length bytes) n all) in
+    ap (λ b. b ++ take n slice_now) h.0 ∙ ap (λ b. take (length bytes) all ++ b) piece ∙ sym (take-add (length bytes) n all) in
     let size : length (bytes ++ take n slice_now) ≡ length bytes + n =
-        length-append bytes (take n slice_now) ∙ ap (λ m. length bytes + m) (ap length piece ∙ length-take-le n (drop (length bytes) all) taken.within) in
+    length-append bytes (take n slice_now) ∙ ap (λ m. length bytes + m) (ap length piece ∙ length-take-le n (drop (length bytes) all) taken.within) in
     (whole ∙ ap (λ m. take m all) (sym size), taken.rest ∙ ap Some (drop-drop n (length bytes) all ∙ ap (λ m. drop m all) (sym size)))
 
 -- a buffer whose front was written over is as long as before
@@ -71,10 +72,11 @@ read_end most (Some all) now next bytes bytes_now slice slice_now n h small zero
     let taken : Taken n (drop (length bytes) all) next slice slice_now = subst P h.1 t in
     let same : bytes_now ≡ bytes = is ∙ ap (λ k. bytes ++ take k slice_now) zero ∙ append-nil bytes in
     elim (taken.end zero) [
-        inl none ↦ (
-            let short : length all ≤ length bytes = omega (arith, length-drop (length bytes) all, ap length none) in
-            same ∙ h.0 ∙ take_all (length bytes) all short ∙ sym (take_all most all (omega arith)))
-        | inr full ↦ absurd (omega arith) ]
+      | inl none ↦ (
+          let short : length all ≤ length bytes = omega (arith, length-drop (length bytes) all, ap length none) in
+          same ∙ h.0 ∙ take_all (length bytes) all short ∙ sym (take_all most all (omega arith)))
+      | inr full ↦ absurd (omega arith)
+    ]
 
 pub read_full : (most : ℕ) (left now : Option (List ℕ)) (bytes : List ℕ) → IsRead left now bytes → length bytes ≡ most → IfTold left (λ all. bytes ≡ take most all)
 read_full most None now bytes h e = tt

@@ -49,6 +49,7 @@ has_id-and_id x y xs = go (has_id y xs) refl
     there : has_id y xs ≡ true → (b : Bool) → same_id x y ≡ b → has_id x xs ≡ (has_id x xs || b)
     there h true e = let k : has_id x xs ≡ true = subst (λ (z : ReqId). has_id z xs ≡ true) (sym (same_id-tells x y e)) h in rw k refl
     there h false e = sym (or-false (has_id x xs))
+
     go : (b : Bool) → has_id y xs ≡ b → has_id x (and_id xs y) ≡ (has_id x xs || same_id x y)
     go true h = ap (λ b. has_id x (if b then xs else xs ++ y ∷ [])) h ∙ there h (same_id x y) refl
     go false h = ap (λ b. has_id x (if b then xs else xs ++ y ∷ [])) h ∙ has_id-append x xs (y ∷ []) ∙ ap (λ b. has_id x xs || b) (or-false (same_id x y))

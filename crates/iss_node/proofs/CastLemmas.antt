@@ -199,10 +199,10 @@ next-is {M} {Msg} m stands plan v shape fair ev tied g is r slots slots_are flig
     let at : slice_get v.segments v.me.0 ≡ Some g = get-of v.segments v.me.0 g less is in
     let P : Params = (rules_of v.setup).params [] 0 v.me.0 in
     let found : r ≡ first_slot (is_open m ((rules_of v.setup).params [] 0 v.me.0) v.me.0 (ev 0 v.me.0) v.log v.flight) (segment (plan_of v.setup 0 []) v.me.0) =
-        subst (λ (fs : List (Slot × Batch)). r ≡ first_slot (is_open m ((rules_of v.setup).params [] 0 v.me.0) v.me.0 (ev 0 v.me.0) v.log fs) (segment (plan_of v.setup 0 []) v.me.0)) flight_is
-        (subst (λ (i : NodeId). r ≡ first_slot (is_open m ((rules_of v.setup).params [] 0 v.me.0) i.0 (ev 0 v.me.0) v.log flight) (segment (plan_of v.setup 0 []) v.me.0)) (shape.node v.me.0 g at)
-        (subst (λ (p : Params). r ≡ first_slot (is_open m p g.me.0 (ev 0 v.me.0) v.log flight) p.slots) (shape.params v.me.0 g at)
-        (subst (λ (ss : List Slot). r ≡ first_slot (is_open m g.params g.me.0 (ev 0 v.me.0) v.log flight) ss) slots_are (h (ev 0 v.me.0) (tied.instances v.me.0 g at))))) in
+    subst (λ (fs : List (Slot × Batch)). r ≡ first_slot (is_open m ((rules_of v.setup).params [] 0 v.me.0) v.me.0 (ev 0 v.me.0) v.log fs) (segment (plan_of v.setup 0 []) v.me.0)) flight_is
+    (subst (λ (i : NodeId). r ≡ first_slot (is_open m ((rules_of v.setup).params [] 0 v.me.0) i.0 (ev 0 v.me.0) v.log flight) (segment (plan_of v.setup 0 []) v.me.0)) (shape.node v.me.0 g at)
+    (subst (λ (p : Params). r ≡ first_slot (is_open m p g.me.0 (ev 0 v.me.0) v.log flight) p.slots) (shape.params v.me.0 g at)
+    (subst (λ (ss : List Slot). r ≡ first_slot (is_open m g.params g.me.0 (ev 0 v.me.0) v.log flight) ss) slots_are (h (ev 0 v.me.0) (tied.instances v.me.0 g at))))) in
     found ∙ first-same (is_open m ((rules_of v.setup).params [] 0 v.me.0) v.me.0 (ev 0 v.me.0) v.log v.flight) (is_castable m ((rules_of v.setup).params [] 0 v.me.0) v.me.0 (ev 0 v.me.0) v.flight) (segment (plan_of v.setup 0 []) v.me.0) same
   where
     same : (s : Slot) → In s (segment (plan_of v.setup 0 []) v.me.0) → is_open m ((rules_of v.setup).params [] 0 v.me.0) v.me.0 (ev 0 v.me.0) v.log v.flight s ≡ is_castable m ((rules_of v.setup).params [] 0 v.me.0) v.me.0 (ev 0 v.me.0) v.flight s

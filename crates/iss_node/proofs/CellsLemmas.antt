@@ -82,9 +82,9 @@ module _ (old new : LogState) (slot : Slot) (value : Value) where
   pub filled-next : (start : LogState) (ds : List (Slot × Value)) (fill : Fill) → AreFilled start ds old → IsFill old slot.0 value new (Ok fill) → AreFilled start (ds ++ (slot, value) ∷ []) new
   filled-next start ds fill so_far h = record {
     values = λ s.
-      values s fill h
-      ∙ ap (λ t. first_of t (if slot.0 == s then Some value else None)) (so_far.values s)
-      ∙ first-assoc (value_at start s) (given ds s) (if slot.0 == s then Some value else None)
-      ∙ ap (λ t. first_of (value_at start s) t) (sym (given-append ds (slot, value) s));
+        values s fill h
+        ∙ ap (λ t. first_of t (if slot.0 == s then Some value else None)) (so_far.values s)
+        ∙ first-assoc (value_at start s) (given ds s) (if slot.0 == s then Some value else None)
+        ∙ ap (λ t. first_of (value_at start s) t) (sym (given-append ds (slot, value) s));
     entries = entries fill h ∙ so_far.entries;
   }

@@ -52,7 +52,7 @@ module _ {M Msg : Type 0} (m : Module Msg) (stands : M → Params → ℕ → Li
       at_instance F (rules_of v.setup) m v.me.0 (core_of v ev) l input ≡ cond (not a) (Dropped NotLeader) (cond (not b) (Dropped NoKeys) (by_verdict w (inputs F (rules_of v.setup) m v.me.0 (core_of v ev) l input)))
   instance-is a b w ha hb hw =
       three _ a _ b _ w (inputs F (rules_of v.setup) m v.me.0 (core_of v ev) l input) ha hb
-        (ap (λ bf. verdict (rules_of v.setup) bf 0 l (accepts (ev 0 l)) (m.asks ((rules_of v.setup).params [] 0 l) v.me.0 (ev 0 l) input)) (oldest-zero (log_of (rules_of v.setup) m v.me.0 (record { epoch = 0; evidence = ev; adopted = [] }))) ∙ hw)
+      (ap (λ bf. verdict (rules_of v.setup) bf 0 l (accepts (ev 0 l)) (m.asks ((rules_of v.setup).params [] 0 l) v.me.0 (ev 0 l) input)) (oldest-zero (log_of (rules_of v.setup) m v.me.0 (record { epoch = 0; evidence = ev; adopted = [] }))) ∙ hw)
 
 -- the model's answer at the core that the node stands for, whatever core that is
 pub at-core : {M Msg : Type 0} (m : Module Msg) (stands : M → Params → ℕ → List (Item Msg) → Type 0) (v new : NodeState M) (c : Core Msg) (answer : Answer) (step : Core Msg → Stepped Msg) → (h : Stands m stands v c) →

@@ -22,9 +22,9 @@ first-none (Some x) = refl
 pub oldest-zero : {A : Type 0} (xs : List A) → oldest 0 xs ≡ []
 oldest-zero [] = refl
 oldest-zero (x ∷ xs) = elim (leb_tells 0 (length xs)) [
-    | inl t ↦ rw t.0 (oldest-zero xs)
-    | inr t ↦ absurd (omega (arith, t.1))
-  ]
+  | inl t ↦ rw t.0 (oldest-zero xs)
+  | inr t ↦ absurd (omega (arith, t.1))
+]
 
 at_end : {A : Type 0} (xs : List A) (y : A) (ys : List A) → slice_get (xs ++ y ∷ ys) (length xs) ≡ Some y
 at_end [] y ys = refl

@@ -30,12 +30,12 @@ use Rattle.iss_sb.specs.Laws.{IsLawful}
 judge-same : (R : Rules) (before : List Value) (e l : ℕ) (a b : List ReqId) (batch : Batch) → SameIds a b → judge R before e l a batch ≡ judge R before e l b batch
 judge-same R before e l a b batch same =
     ap (λ (t : Bool).
-      cond (nat_lt R.batch (length batch)) (Some TooLarge)
-      (cond (any (λ (q : Request). not (R.owner before e q.id == l)) batch) (Some ForeignBucket)
-      (cond (any (λ (q : Request). not (R.signed q)) batch) (Some BadSignature)
-      (cond (any (λ (q : Request). not (R.inside before e q.id)) batch) (Some OutOfWindow)
-      (cond (any (λ (q : Request). has_id q.id (log_ids before)) batch) (Some Ordered)
-      (cond t (Some Marked) None))))))
+    cond (nat_lt R.batch (length batch)) (Some TooLarge)
+    (cond (any (λ (q : Request). not (R.owner before e q.id == l)) batch) (Some ForeignBucket)
+    (cond (any (λ (q : Request). not (R.signed q)) batch) (Some BadSignature)
+    (cond (any (λ (q : Request). not (R.inside before e q.id)) batch) (Some OutOfWindow)
+    (cond (any (λ (q : Request). has_id q.id (log_ids before)) batch) (Some Ordered)
+    (cond t (Some Marked) None))))))
     (any_marked-same a b same (ids batch))
 
 pub verdict-at : (R : Rules) (l : ℕ) (marked : List ReqId) (xs : List (Slot × Batch)) (slot : Slot) (b lent : Batch) (asked : Option (Slot × Batch)) (r : Option Refusal) →
@@ -71,8 +71,8 @@ instance-taken m stands old ordering marked i before later e laws step marked_is
   stands_for = λ xs h own. record {
     ordering = step.stands_for old.me.0 xs h.ordering own;
     marked =
-      let is : e.accepted ≡ (m.makes old.params old.me.0 xs i before.used).accepted = (step.effects old.me.0 xs h.ordering own).accepted ∙ sym (laws.accepted old.params old.me.0 xs i before.used) in
-      λ x. ap (λ (ys : List ReqId). has_id x ys) (marked_is ∙ ap (λ (o : Option (Slot × Batch)). and_marks old.marked o) is) ∙ marks-grow old.marked (accepts xs) (m.makes old.params old.me.0 xs i before.used).accepted h.marked x;
+        let is : e.accepted ≡ (m.makes old.params old.me.0 xs i before.used).accepted = (step.effects old.me.0 xs h.ordering own).accepted ∙ sym (laws.accepted old.params old.me.0 xs i before.used) in
+        λ x. ap (λ (ys : List ReqId). has_id x ys) (marked_is ∙ ap (λ (o : Option (Slot × Batch)). and_marks old.marked o) is) ∙ marks-grow old.marked (accepts xs) (m.makes old.params old.me.0 xs i before.used).accepted h.marked x;
   };
   effects = λ xs h own. step.effects old.me.0 xs h.ordering own;
   used = λ xs h own. step.used old.me.0 xs h.ordering own;

@@ -67,9 +67,9 @@ get-append [] x y zero h = inr (refl, (let e : Some x ≡ Some y = h in cc))
 get-append [] x y (suc k) h = cc
 get-append (z ∷ xs) x y zero h = inl h
 get-append (z ∷ xs) x y (suc k) h = elim (get-append xs x y k h) [
-    | inl a ↦ inl a
-    | inr b ↦ inr (ap (λ (n : ℕ). suc n) b.0, b.1)
-  ]
+  | inl a ↦ inl a
+  | inr b ↦ inr (ap (λ (n : ℕ). suc n) b.0, b.1)
+]
 
 pub started-next : {M Msg : Type 0} (stands : M → Params → ℕ → List (Item Msg) → Type 0) (s : Setup) (me : NodeId) (l : ℕ) (gs : List (SegmentState M)) (g : SegmentState M) → AreStarted stands s me l gs → IsInstance stands g [] → (g.params ≡ (rules_of s).params [] 0 l) × (g.me ≡ me) → AreStarted stands s me (l + 1) (gs ++ g ∷ [])
 started-next {M} {Msg} stands s me l gs g h stood same = record {

@@ -117,7 +117,6 @@ module _ {M Msg : Type 0} (m : Module Msg) (stands : M → Params → ℕ → Li
     (g g' : SegmentState M) (at : slice_get v.segments l ≡ Some g)
     (input : Input Msg) (later : KeyState) (e : Effects Msg) (taken : IsInstanceTaken m stands g g' input v.keys later e)
     (log : LogState) (held : ℕ) (grown : IsGrown v.log e.delivers log held) where
-
   P : Params
   P = (rules_of v.setup).params [] 0 l
 
@@ -172,8 +171,8 @@ module _ {M Msg : Type 0} (m : Module Msg) (stands : M → Params → ℕ → Li
           grown.values k
           ∙ ap (λ (o : Option Value). first_of o (given e.delivers k)) (tied.cells k lt ∙ ap (λ (i : ℕ). delivered m ((rules_of v.setup).params [] 0 i) v.me.0 (ev 0 i) k) q)
           ∙ slot-next m ((rules_of v.setup).params [] 0 l) v.me.0 (ev 0 l) (record { input = input; made = m.makes ((rules_of v.setup).params [] 0 l) v.me.0 (ev 0 l) input v.keys.used }) e.delivers k
-              (λ x i. (took.delivers.exactly (record { 0 = k }) x).0 i)
-              (λ x d n. (took.delivers.exactly (record { 0 = k }) x).1 (d, n))
+          (λ x i. (took.delivers.exactly (record { 0 = k }) x).0 i)
+          (λ x d n. (took.delivers.exactly (record { 0 = k }) x).1 (d, n))
           ∙ sym (ap (λ (ys : List (Item Msg)). delivered m ((rules_of v.setup).params [] 0 l) v.me.0 ys k) (set_at2-same ev 0 l (and_then m ((rules_of v.setup).params [] 0 l) v.me.0 (ev 0 l) input v.keys.used)))
           ∙ sym (ap (λ (i : ℕ). delivered m ((rules_of v.setup).params [] 0 i) v.me.0 (next 0 i) k) q)
       go (inr ne) =
@@ -195,7 +194,6 @@ module _ {M Msg : Type 0} (m : Module Msg) (stands : M → Params → ℕ → Li
       (waits : waiting ≡ fold waits_on v.waiting grown.joined)
       (flies : flight ≡ flying (length log.entries) v.flight)
       (notes : logged ≡ fold and_values v.logged grown.joined) where
-
     abbrev after : NodeState M
     after = record { setup = v.setup; me = v.me; segments = segments; log = log; waiting = waiting; flight = flight; logged = logged; keys = later }
 
@@ -209,8 +207,8 @@ module _ {M Msg : Type 0} (m : Module Msg) (stands : M → Params → ℕ → Li
             let is_g : g' ≡ h = cc in
             let stood : IsInstance stands g' (and_then m g.params g.me.0 (ev 0 l) input v.keys.used) = taken.stands_for (ev 0 l) here own in
             let mine : IsInstance stands g' (and_then m ((rules_of v.setup).params [] 0 l) v.me.0 (ev 0 l) input v.keys.used) =
-                subst (λ (p : Params). IsInstance stands g' (and_then m p v.me.0 (ev 0 l) input v.keys.used)) (shape.params l g at)
-                (subst (λ (i : NodeId). IsInstance stands g' (and_then m g.params i.0 (ev 0 l) input v.keys.used)) (shape.node l g at) stood) in
+            subst (λ (p : Params). IsInstance stands g' (and_then m p v.me.0 (ev 0 l) input v.keys.used)) (shape.params l g at)
+            (subst (λ (i : NodeId). IsInstance stands g' (and_then m g.params i.0 (ev 0 l) input v.keys.used)) (shape.node l g at) stood) in
             let set : IsInstance stands g' (next 0 l) = subst (λ (ys : List (Item Msg)). IsInstance stands g' ys) (sym (set_at2-same ev 0 l (and_then m ((rules_of v.setup).params [] 0 l) v.me.0 (ev 0 l) input v.keys.used))) mine in
             subst (λ (z : SegmentState M). IsInstance stands z (next 0 k)) is_g (subst (λ (i : ℕ). IsInstance stands g' (next 0 i)) (sym q) set)
         go (inr ne) =

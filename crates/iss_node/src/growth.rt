@@ -20,11 +20,7 @@ pub fn grow(log: &mut Log, delivers: Vec<(Slot, Value)>) -> Result<usize, NoMemo
 }
 
 /// The requests of values that joined the log wait no more, and their identities are noted.
-pub fn refile(
-    values: &[Value],
-    waiting: &mut Pending,
-    logged: &mut Ids,
-) -> Result<(), NoMemory>
+pub fn refile(values: &[Value], waiting: &mut Pending, logged: &mut Ids) -> Result<(), NoMemory>
     ensures waiting { OnOk result (waiting.new ≡ fold waits_on waiting.old values.now) }
     ensures logged { OnOk result (logged.new ≡ fold and_values logged.old values.now) }
 {

@@ -56,7 +56,9 @@ pub fn is_signed(setup: &Setup, request: &Request) -> bool
 fn is_any_foreign(layout: &Layout, leader: NodeId, batch: &[Request]) -> bool
     ensures { result ≡ any (λ (q : Request). not (number_of (bucket_owner layout.now (bucket_of layout.now q.id)) == leader.0)) batch.now }
 {
-    batch.iter().any(|request| !is_owner(layout, leader, request.id))
+    batch
+        .iter()
+        .any(|request| !is_owner(layout, leader, request.id))
 }
 
 // Whether the node owns the bucket of a request.

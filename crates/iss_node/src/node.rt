@@ -26,13 +26,11 @@ use crate::parcels::{Body, Parcel, pack, unwrap};
 use crate::segment::Segment;
 use iss_buckets::Pending;
 use iss_ids::Ids;
-use iss_layout::{Layout, Standing};
 use iss_layout::laws::epochs_are_fair;
+use iss_layout::{Layout, Standing};
 use iss_log::Log;
 use iss_model::{NodeEvent, Refusal, Why};
-use iss_request::{
-    Batch, Bytes, Epoch, NoMemory, NodeId, ReqId, Request, Row, Setup, Slot, Value,
-};
+use iss_request::{Batch, Bytes, Epoch, NoMemory, NodeId, ReqId, Request, Row, Setup, Slot, Value};
 use iss_sb::{Effects, Input, Keys, Params, Sequenced};
 use std::alloc::Global;
 use std::marker::Model;
@@ -64,12 +62,7 @@ impl<M: Sequenced> Model for Node<M> {
 
 impl<M: Sequenced> Node<M> {
     /// A node that has taken nothing, with its own keys.
-    pub fn start(
-        alloc: Global,
-        setup: &Setup,
-        me: NodeId,
-        keys: Keys,
-    ) -> Result<Node<M>, NoMemory>
+    pub fn start(alloc: Global, setup: &Setup, me: NodeId, keys: Keys) -> Result<Node<M>, NoMemory>
         requires good { IsSetupOf M.meaning setup.now }
         requires me { me.0 < setup.now.n }
         requires own { AreKeysOf me.0 setup.now.keys keys }
@@ -210,7 +203,9 @@ impl<M: Sequenced> Node<M> {
         let segment = &self.segments[self.me.0 as usize];
         let most = self.setup.batch as usize;
         let marked = segment.marked().as_slice();
-        let batch = self.waiting.cut(alloc, &self.layout, self.me, marked, most)?;
+        let batch = self
+            .waiting
+            .cut(alloc, &self.layout, self.me, marked, most)?;
         self.flight.push((slot, batch.copy()?))?;
         Ok(batch)
     }
@@ -310,9 +305,17 @@ impl<M: Sequenced> Node<M> {
         let Ok(effects) = segment.step(alloc, input, &mut self.keys) else {
             return Err(NoMemory);
         };
-        let Effects { sends, delivers, .. } = effects;
+        let Effects {
+            sends,
+            delivers,
+            ..
+        } = effects;
         let held = grow(&mut self.log, delivers.into_vec())?;
-        refile(behind(self.log.entries(), held), &mut self.waiting, &mut self.logged)?;
+        refile(
+            behind(self.log.entries(), held),
+            &mut self.waiting,
+            &mut self.logged,
+        )?;
         land_in(&mut self.flight, &self.log);
         let sends = pack::<M>(alloc, &self.setup, self.me, leader, sends.as_slice())?;
         Ok(Outcome { sends })

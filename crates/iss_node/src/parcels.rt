@@ -8,7 +8,9 @@ ghost use Rattle.iss_request.specs.Formats.{parse_request};
 ghost use Rattle.iss_packet.specs.Packets.{is_routed, parse_packet};
 
 use iss_packet::{Packet, PacketError, PacketKind};
-use iss_request::{Bytes, DecodeError, Epoch, Fields, NoMemory, NodeId, Request, Row, Setup, Writer};
+use iss_request::{
+    Bytes, DecodeError, Epoch, Fields, NoMemory, NodeId, Request, Row, Setup, Writer,
+};
 use iss_sb::{Sequenced, To};
 use std::alloc::Global;
 

@@ -104,10 +104,10 @@ module _ {M Msg : Type 0} (m : Module Msg) (stands : M → Params → ℕ → Li
       StandsForRun m stands later drops (goes_on t (formats_of t m) (rules_of t) m (run_of s m (take i es)) e) → StandsForRun m stands later drops (run_of s m (take (i + 1) es))
   run-next s t later drops es i e same lt is h =
       let there : StandsForRun m stands later drops (goes_on s (formats_of s m) (rules_of s) m (run_of s m (take i es)) e) =
-          subst (λ (u : Setup). StandsForRun m stands later drops (goes_on u (formats_of u m) (rules_of u) m (run_of s m (take i es)) e)) same h in
+      subst (λ (u : Setup). StandsForRun m stands later drops (goes_on u (formats_of u m) (rules_of u) m (run_of s m (take i es)) e)) same h in
       subst (λ (p : Progress Msg). StandsForRun m stands later drops p)
-        (sym (run-append s (formats_of s m) (rules_of s) (begin_run s.n) (take i es) (e ∷ [])) ∙ ap (λ (fs : List Event). run_of s m fs) (sym (take-next es i e lt is)))
-        there
+      (sym (run-append s (formats_of s m) (rules_of s) (begin_run s.n) (take i es) (e ∷ [])) ∙ ap (λ (fs : List Event). run_of s m fs) (sym (take-next es i e lt is)))
+      there
 
   -- one block more
   pub blocks-next : (s : Setup) (w : Net Msg) (out now later : List ℕ) (k : ℕ) → now ≡ out ++ node_blocks s m w k → later ≡ now ++ node_block k (w.cores k).past.epoch (log_of (rules_of s) m k (w.cores k).past) → later ≡ out ++ node_blocks s m w (k + 1)

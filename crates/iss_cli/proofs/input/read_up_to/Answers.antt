@@ -12,7 +12,7 @@ loop-bytes-preserved g c =
     let held : length c.loop-bytes.bytes.items ≡ c.len-in-loop-bytes.result = search rules in
     let size : c.loop-bytes.buffer.len ≡ length c.loop-bytes.buffer.items = sym c.deref_mut.ensures.len ∙ ap length c.deref_mut.ensures.value in
     let read = read_piece (g.I.Source.left c.args.input.now) (g.I.Source.left c.loop-bytes.input) (g.I.Source.left c.take_more.new.input) c.loop-bytes.bytes.items slice c.take_more.new.buffer n
-        c.loop-bytes.invariant.read c.in_ok-take_more.ensures.taken in
+    c.loop-bytes.invariant.read c.in_ok-take_more.ensures.taken in
     let P : List ℕ → Type 0 = λ bytes. IsRead (g.I.Source.left c.args.input.now) (g.I.Source.left c.take_more.new.input) bytes in
     record {
       within = omega (arith, more, bound, held, c.min-room.ensures);

@@ -13,7 +13,7 @@ returns-then-not-branch-clause-calmed g c = λ w st.
     let lt : c.loop-done.done < c.args.most = omega (arith, c.loop-done-test.true) in
     let now = c.loop-done.invariant.calmed w st in
     calms-early g.M.Sequenced.meaning g.M.Sequenced.stands c.args.self.now.setup c.loop-done.self.setup c.pump.new.self w c.loop-done.done c.args.most c.loop-done.invariant.same lt
-      (c.in_ok-pump.ensures.pumped _ now) (c.in_ok-pump.ensures.quiet c.if-not-branch.true _ now)
+    (c.in_ok-pump.ensures.pumped _ now) (c.in_ok-pump.ensures.quiet c.if-not-branch.true _ now)
 
 pub loop-done-preserved : goal.loop-done-preserved
 loop-done-preserved g c = record {
