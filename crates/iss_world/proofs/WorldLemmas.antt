@@ -1,5 +1,5 @@
 -- Worlds, and the nets that they stand for, as events happen.
-use Rattle.std.proofs.Common.{inl, inr, ◌≡◌, ◌≢◌, ◌⊎◌, ℕ, zero, suc, ◌+◌, ◌-◌, ◌<◌, Bool, true, false, List, [], ◌∷◌, ◌++◌, length, length-append, take, get_or, set, slice_get, Some, None, Option, Result, Ok, Err, IfOk, refl, sym, ap, ◌∙◌, subst, arith, cond}
+use Rattle.std.proofs.Common.{inl, inr, ◌≡◌, ◌≢◌, ◌⊎◌, ℕ, zero, suc, ◌+◌, ◌-◌, ◌<◌, Bool, true, false, List, [], ◌∷◌, ◌++◌, length, length-append, take, get_or, set, slice_get, Some, Option, Result, Ok, Err, IfOk, refl, sym, ap, ◌∙◌, subst, arith, cond}
 use Rattle.std.specs.Prelude.{eqb}
 use Rattle.std.proofs.lemmas.Bool.Decides.{eqb_tells}
 use Rattle.iss_base.specs.Lists.{nth, set_at}
@@ -7,11 +7,10 @@ use Rattle.iss_model.specs.Concrete.{rules_of}
 use Rattle.iss_model.specs.Formats.{formats_of}
 use Rattle.iss_model.specs.Node.{Core, Formats, Stepped, idle, step}
 use Rattle.iss_model.specs.Rules.{Rules}
-use Rattle.iss_model.specs.Run.{Happening, Net, after_step, at_core, calms, delivered_to, delivers, delivers_each, done, injects, posted_all, pumps}
+use Rattle.iss_model.specs.Run.{Net, after_step, at_core, calms, delivered_to, delivers, delivers_each, done, injects, posted_all, pumps}
 use Rattle.iss_model.specs.declared.causes.NodeEvent.{NodeEvent}
 use Rattle.iss_model.specs.declared.causes.NodeEvent.TheVariants.{Packet as Gets}
 use Rattle.iss_model.specs.declared.causes.Why.{Why}
-use Rattle.iss_model.specs.declared.causes.Why.TheVariants.{NoPacket}
 use Rattle.iss_model.specs.Runs.{IsSetupOf}
 use Rattle.std.proofs.lemmas.List.{length-replicate}
 use Rattle.iss_network.specs.Network.{Network, due, empty_network, settled}
@@ -23,7 +22,7 @@ use Rattle.iss_request.specs.declared.ids.NodeId.{NodeId}
 use Rattle.iss_request.specs.declared.setups.Setup.{Setup}
 use Rattle.iss_sb.specs.declared.effects.Params.{Params}
 use Rattle.iss_sb.specs.declared.effects.To.{To}
-use Rattle.iss_request.specs.declared.setups.Kind.TheVariants.{Byzantine, Stopping}
+use Rattle.iss_request.specs.declared.setups.Kind.TheVariants.{Byzantine}
 use Rattle.iss_sb.specs.Calls.{AreToNodes, kind_of}
 use Rattle.iss_sb.specs.Evidence.{Item, Module}
 use Rattle.iss_sb.specs.Keys.{KeyState}
@@ -123,7 +122,7 @@ module _ {M Msg : Type 0} (m : Module Msg) (stands : M → Params → ℕ → Li
     happened-taken outcome net f e w st =
         let t : IsTurn m stands (step (formats_of v.setup m) (rules_of v.setup) m i (w.cores i) event) later outcome = turn-at outcome f (w.cores i) (st.cores i g at) in
         let network : net ≡ posted_all v.setup.n w.network i t.turn.sends =
-            e ∙ ap (λ (u : Network). posted_all v.setup.n u i outcome.sends) st.network ∙ ap (λ (xs : List (To × List ℕ)). posted_all v.setup.n w.network i xs) t.sends in
+        e ∙ ap (λ (u : Network). posted_all v.setup.n u i outcome.sends) st.network ∙ ap (λ (xs : List (To × List ℕ)). posted_all v.setup.n w.network i xs) t.sends in
         subst (λ (s : Stepped Msg). HasHappened m stands (record { setup = v.setup; nodes = set v.nodes i later; network = net }) (after_step v.setup.n w i s) Done) (sym t.step_is)
         (record { stands_for = stands-taken v w i later t.turn.core net (posted_all v.setup.n w.network i t.turn.sends) st lt t.stands_for network; lost = refl })
 
@@ -141,7 +140,7 @@ module _ {M Msg : Type 0} (m : Module Msg) (stands : M → Params → ℕ → Li
     happened-delivered k p bytes e same h =
         let found : nth w.network.packets k ≡ Some p = ap (λ (u : Network). nth u.packets k) (sym st.network) ∙ e in
         let taken : HasHappened m stands later (at_core n F R m (record { cores = w.cores; network = settled w.network k }) p.to (Gets p.bytes)) r =
-            subst (λ (b : List ℕ). HasHappened m stands later (at_core n F R m (record { cores = w.cores; network = settled w.network k }) p.to (Gets b)) r) same h in
+        subst (λ (b : List ℕ). HasHappened m stands later (at_core n F R m (record { cores = w.cores; network = settled w.network k }) p.to (Gets b)) r) same h in
         subst (λ (o : Option Sent). HasHappened m stands later (delivered_to n F R m w k o) r) (sym found) taken
 
     pub happened-injected : (i : ℕ) (bytes packet : List ℕ) → m.stopping ≡ false → packet ≡ bytes → HasHappened m stands later (at_core n F R m w i (Gets packet)) r → HasHappened m stands later (injects n F R m w i bytes) r
@@ -160,10 +159,10 @@ module _ {M Msg : Type 0} (m : Module Msg) (stands : M → Params → ℕ → Li
   each-delivered s t later w packets i k r e lt is h =
       let now : Net Msg = delivers_each s.n (formats_of s m) (rules_of s) m w (take i packets) in
       let there : StandsFor m stands later (delivers s.n (formats_of s m) (rules_of s) m now k).net =
-          subst (λ (z : Setup). StandsFor m stands later (delivers z.n (formats_of z m) (rules_of z) m (delivers_each s.n (formats_of s m) (rules_of s) m w (take i packets)) k).net) e h.stands_for in
+      subst (λ (z : Setup). StandsFor m stands later (delivers z.n (formats_of z m) (rules_of z) m (delivers_each s.n (formats_of s m) (rules_of s) m w (take i packets)) k).net) e h.stands_for in
       subst (λ (u : Net Msg). StandsFor m stands later u)
-        (sym (delivers_each-append s.n (formats_of s m) (rules_of s) w (take i packets) (k ∷ [])) ∙ ap (λ (ks : List ℕ). delivers_each s.n (formats_of s m) (rules_of s) m w ks) (sym (take-next packets i k lt is)))
-        there
+      (sym (delivers_each-append s.n (formats_of s m) (rules_of s) w (take i packets) (k ∷ [])) ∙ ap (λ (ks : List ℕ). delivers_each s.n (formats_of s m) (rules_of s) m w ks) (sym (take-next packets i k lt is)))
+      there
 
   pub quiet-pump : (n : ℕ) (F : Formats Msg) (R : Rules) (v : WorldState M) (w : Net Msg) (packets : List ℕ) → StandsFor m stands v w → packets ≡ due v.network → packets ≡ [] → pumps n F R m w ≡ w
   quiet-pump n F R v w packets st e none =
@@ -185,7 +184,7 @@ module _ {M Msg : Type 0} (m : Module Msg) (stands : M → Params → ℕ → Li
   pub calms-next : (s t : Setup) (later : WorldState M) (w : Net Msg) (i : ℕ) → t ≡ s → StandsFor m stands later (pumps t.n (formats_of t m) (rules_of t) m (calms s.n (formats_of s m) (rules_of s) m i w)) → StandsFor m stands later (calms s.n (formats_of s m) (rules_of s) m (i + 1) w)
   calms-next s t later w i e h =
       let there : StandsFor m stands later (pumps s.n (formats_of s m) (rules_of s) m (calms s.n (formats_of s m) (rules_of s) m i w)) =
-          subst (λ (z : Setup). StandsFor m stands later (pumps z.n (formats_of z m) (rules_of z) m (calms s.n (formats_of s m) (rules_of s) m i w))) e h in
+      subst (λ (z : Setup). StandsFor m stands later (pumps z.n (formats_of z m) (rules_of z) m (calms s.n (formats_of s m) (rules_of s) m i w))) e h in
       subst (λ (u : Net Msg). StandsFor m stands later u) (sym (calms-plus s.n (formats_of s m) (rules_of s) w i 1)) there
 
   pub calms-early : (s t : Setup) (later : WorldState M) (w : Net Msg) (i most : ℕ) → t ≡ s → i < most →
@@ -194,12 +193,12 @@ module _ {M Msg : Type 0} (m : Module Msg) (stands : M → Params → ℕ → Li
       StandsFor m stands later (calms s.n (formats_of s m) (rules_of s) m most w)
   calms-early s t later w i most e lt h q =
       let quiet : pumps s.n (formats_of s m) (rules_of s) m (calms s.n (formats_of s m) (rules_of s) m i w) ≡ calms s.n (formats_of s m) (rules_of s) m i w =
-          subst (λ (z : Setup). pumps z.n (formats_of z m) (rules_of z) m (calms s.n (formats_of s m) (rules_of s) m i w) ≡ calms s.n (formats_of s m) (rules_of s) m i w) e q in
+      subst (λ (z : Setup). pumps z.n (formats_of z m) (rules_of z) m (calms s.n (formats_of s m) (rules_of s) m i w) ≡ calms s.n (formats_of s m) (rules_of s) m i w) e q in
       let now : StandsFor m stands later (calms s.n (formats_of s m) (rules_of s) m i w) = subst (λ (u : Net Msg). StandsFor m stands later u) q h in
       let all : i + (most - i) ≡ most = omega arith in
       subst (λ (u : Net Msg). StandsFor m stands later u)
-        (sym (calms-quiet s.n (formats_of s m) (rules_of s) (calms s.n (formats_of s m) (rules_of s) m i w) (most - i) quiet) ∙ sym (calms-plus s.n (formats_of s m) (rules_of s) w i (most - i)) ∙ ap (λ (x : ℕ). calms s.n (formats_of s m) (rules_of s) m x w) all)
-        now
+      (sym (calms-quiet s.n (formats_of s m) (rules_of s) (calms s.n (formats_of s m) (rules_of s) m i w) (most - i) quiet) ∙ sym (calms-plus s.n (formats_of s m) (rules_of s) w i (most - i)) ∙ ap (λ (x : ℕ). calms s.n (formats_of s m) (rules_of s) m x w) all)
+      now
 
   pub fresh : (s : Setup) (me : NodeId) (k : KeyState) (g : NodeState M) → Stands m stands g (record { past = (idle {Msg = Msg}).past; waiting = []; flight = []; leaf = k.used }) → k.used ≡ 0 → g.setup ≡ s → g.me ≡ me → IsFresh m stands s me.0 g
   fresh s me k g st e es em = record {

@@ -29,12 +29,7 @@ pub fn post_all(
 }
 
 // Posts the packets of one send.
-fn post_send(
-    network: &mut Network,
-    n: u32,
-    from: u32,
-    send: &(To, Bytes),
-) -> Result<(), NoMemory>
+fn post_send(network: &mut Network, n: u32, from: u32, send: &(To, Bytes)) -> Result<(), NoMemory>
     requires between { IsNetworkOf n network.old }
     requires addressed { IsToNode n send.now.0 }
     ensures posted { OnOk result (network.new ≡ posted_to network.old from send.now.1 (addressees n send.now.0)) }

@@ -1,7 +1,4 @@
-use Rattle.std.proofs.Common.{◌∙◌, ◌<◌, ◌≡◌, arith, false, true, Bool, not}
-use Rattle.iss_model.specs.Concrete.{rules_of}
-use Rattle.iss_model.specs.Formats.{formats_of}
-use Rattle.iss_model.specs.Run.{calms}
+use Rattle.std.proofs.Common.{◌∙◌, ◌<◌, arith}
 use Rattle.iss_world.proofs.WorldLemmas.{calms-early, calms-next}
 use Rattle.iss_world.proofs.world.World.calm.Goals as goal
 
@@ -13,7 +10,7 @@ returns-then-not-branch-clause-calmed g c = λ w st.
     let lt : c.loop-done.done < c.args.most = omega (arith, c.loop-done-test.true) in
     let now = c.loop-done.invariant.calmed w st in
     calms-early g.M.Sequenced.meaning g.M.Sequenced.stands c.args.self.now.setup c.loop-done.self.setup c.pump.new.self w c.loop-done.done c.args.most c.loop-done.invariant.same lt
-      (c.in_ok-pump.ensures.pumped _ now) (c.in_ok-pump.ensures.quiet c.if-not-branch.true _ now)
+    (c.in_ok-pump.ensures.pumped _ now) (c.in_ok-pump.ensures.quiet c.if-not-branch.true _ now)
 
 pub loop-done-preserved : goal.loop-done-preserved
 loop-done-preserved g c = record {

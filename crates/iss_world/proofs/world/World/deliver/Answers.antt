@@ -23,5 +23,5 @@ returns-clause-happened g c =
     let v : WorldState g.row.M.Denot = record { setup = c.self.inside.setup; nodes = c.self.inside.nodes.items; network = c.self.inside.network } in
     rw (← c.self.view_is)
     (if-ok _ _ c.take.result c.take.ensures.happened (λ h f w st.
-      happened-delivered g.M.Sequenced.meaning g.M.Sequenced.stands c.self.inside.setup.n (formats_of c.self.inside.setup g.M.Sequenced.meaning) (rules_of c.self.inside.setup) v c.take.new.self w h st c.args.packet c.in-Some.sent.now c.in_ok-bytes.bytes (sym c.in-Some.ensures) c.in_ok-bytes.ensures
-        (f (record { cores = w.cores; network = settled w.network c.args.packet }) (renetworked g.M.Sequenced.meaning g.M.Sequenced.stands v w c.settle.new.self (settled w.network c.args.packet) st (c.settle.ensures ∙ ap (λ (u : Network). settled u c.args.packet) st.network)))))
+    happened-delivered g.M.Sequenced.meaning g.M.Sequenced.stands c.self.inside.setup.n (formats_of c.self.inside.setup g.M.Sequenced.meaning) (rules_of c.self.inside.setup) v c.take.new.self w h st c.args.packet c.in-Some.sent.now c.in_ok-bytes.bytes (sym c.in-Some.ensures) c.in_ok-bytes.ensures
+    (f (record { cores = w.cores; network = settled w.network c.args.packet }) (renetworked g.M.Sequenced.meaning g.M.Sequenced.stands v w c.settle.new.self (settled w.network c.args.packet) st (c.settle.ensures ∙ ap (λ (u : Network). settled u c.args.packet) st.network)))))

@@ -1,7 +1,4 @@
 use Rattle.std.proofs.Common.{◌∙◌, ◌<◌, length, arith}
-use Rattle.iss_model.specs.Concrete.{rules_of}
-use Rattle.iss_model.specs.Formats.{formats_of}
-use Rattle.iss_model.specs.Run.{delivers_each}
 use Rattle.iss_world.proofs.PostLemmas.{any-default}
 use Rattle.iss_world.proofs.WorldLemmas.{each-delivered}
 use Rattle.iss_world.proofs.world.World.deliver_each.Goals as goal
@@ -14,6 +11,6 @@ loop-packet-preserved g c =
     let lt : c.loop-packet.packet-index < length c.args.packets.now = omega (arith, c.loop-packet-test.true) in
     record {
       taken = λ w st. each-delivered g.M.Sequenced.meaning g.M.Sequenced.stands c.args.self.now.setup c.loop-packet.self.setup c.deliver.new.self w c.args.packets.now c.loop-packet.packet-index _ _ c.loop-packet.invariant.same lt (any-default c.args.packets.now c.loop-packet.packet-index _ _ lt)
-        (c.in_ok-deliver.ensures.happened _ (c.loop-packet.invariant.taken w st));
+          (c.in_ok-deliver.ensures.happened _ (c.loop-packet.invariant.taken w st));
       same = c.deliver.ensures.same ∙ c.loop-packet.invariant.same;
     }

@@ -1,4 +1,4 @@
-use Rattle.std.proofs.Common.{◌≡◌, IfOk, subst, sym}
+use Rattle.std.proofs.Common.{IfOk, subst, sym}
 use Rattle.iss_model.specs.Concrete.{rules_of}
 use Rattle.iss_model.specs.Formats.{formats_of}
 use Rattle.iss_model.specs.Run.{Net, happens}
@@ -9,5 +9,5 @@ use Rattle.iss_world.proofs.world.World.event.Goals as goal
 pub returns-in-Timeout-clause-happened : goal.returns-in-Timeout-clause-happened
 returns-in-Timeout-clause-happened g c =
     subst (λ (e : Event). IfOk c.take-in-Timeout.result (λ h. (w : Net g.row.M-Msg.Denot) → StandsFor g.M.Sequenced.meaning g.M.Sequenced.stands c.args.self.now w →
-        HasHappened g.M.Sequenced.meaning g.M.Sequenced.stands c.take-in-Timeout.new.self (happens c.args.self.now.setup (formats_of c.args.self.now.setup g.M.Sequenced.meaning) (rules_of c.args.self.now.setup) g.M.Sequenced.meaning w e) h))
-      (sym c.in-Timeout.is) c.take-in-Timeout.ensures.happened
+    HasHappened g.M.Sequenced.meaning g.M.Sequenced.stands c.take-in-Timeout.new.self (happens c.args.self.now.setup (formats_of c.args.self.now.setup g.M.Sequenced.meaning) (rules_of c.args.self.now.setup) g.M.Sequenced.meaning w e) h))
+    (sym c.in-Timeout.is) c.take-in-Timeout.ensures.happened
