@@ -1,5 +1,5 @@
 -- Worlds, and the nets that they stand for, as events happen.
-use Rattle.std.proofs.Common.{inl, inr, ◌≡◌, ◌≢◌, ◌⊎◌, ℕ, zero, suc, ◌+◌, ◌-◌, ◌<◌, Bool, true, false, List, [], ◌∷◌, ◌++◌, length, length-append, take, get_or, set, slice_get, Some, None, Option, Result, Ok, Err, IfOk, refl, sym, ap, ◌∙◌, subst, arith, cond}
+use Rattle.std.proofs.Common.{inl, inr, ◌≡◌, ◌≢◌, ◌⊎◌, ℕ, zero, suc, ◌+◌, ◌-◌, ◌<◌, Bool, true, false, List, [], ◌∷◌, ◌++◌, length, length-append, take, get_or, set, slice_get, Some, Option, Result, Ok, Err, IfOk, refl, sym, ap, ◌∙◌, subst, arith, cond}
 use Rattle.std.specs.Prelude.{eqb}
 use Rattle.std.proofs.lemmas.Bool.Decides.{eqb_tells}
 use Rattle.iss_base.specs.Lists.{nth, set_at}
@@ -7,11 +7,10 @@ use Rattle.iss_model.specs.Concrete.{rules_of}
 use Rattle.iss_model.specs.Formats.{formats_of}
 use Rattle.iss_model.specs.Node.{Core, Formats, Stepped, idle, step}
 use Rattle.iss_model.specs.Rules.{Rules}
-use Rattle.iss_model.specs.Run.{Happening, Net, after_step, at_core, calms, delivered_to, delivers, delivers_each, done, injects, posted_all, pumps}
+use Rattle.iss_model.specs.Run.{Net, after_step, at_core, calms, delivered_to, delivers, delivers_each, done, injects, posted_all, pumps}
 use Rattle.iss_model.specs.declared.causes.NodeEvent.{NodeEvent}
 use Rattle.iss_model.specs.declared.causes.NodeEvent.TheVariants.{Packet as Gets}
 use Rattle.iss_model.specs.declared.causes.Why.{Why}
-use Rattle.iss_model.specs.declared.causes.Why.TheVariants.{NoPacket}
 use Rattle.iss_model.specs.Runs.{IsSetupOf}
 use Rattle.std.proofs.lemmas.List.{length-replicate}
 use Rattle.iss_network.specs.Network.{Network, due, empty_network, settled}
@@ -23,7 +22,7 @@ use Rattle.iss_request.specs.declared.ids.NodeId.{NodeId}
 use Rattle.iss_request.specs.declared.setups.Setup.{Setup}
 use Rattle.iss_sb.specs.declared.effects.Params.{Params}
 use Rattle.iss_sb.specs.declared.effects.To.{To}
-use Rattle.iss_request.specs.declared.setups.Kind.TheVariants.{Byzantine, Stopping}
+use Rattle.iss_request.specs.declared.setups.Kind.TheVariants.{Byzantine}
 use Rattle.iss_sb.specs.Calls.{AreToNodes, kind_of}
 use Rattle.iss_sb.specs.Evidence.{Item, Module}
 use Rattle.iss_sb.specs.Keys.{KeyState}

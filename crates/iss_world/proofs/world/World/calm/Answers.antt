@@ -1,7 +1,4 @@
-use Rattle.std.proofs.Common.{◌∙◌, ◌<◌, ◌≡◌, arith, false, true, Bool, not}
-use Rattle.iss_model.specs.Concrete.{rules_of}
-use Rattle.iss_model.specs.Formats.{formats_of}
-use Rattle.iss_model.specs.Run.{calms}
+use Rattle.std.proofs.Common.{◌∙◌, ◌<◌, arith}
 use Rattle.iss_world.proofs.WorldLemmas.{calms-early, calms-next}
 use Rattle.iss_world.proofs.world.World.calm.Goals as goal
 

@@ -1,7 +1,4 @@
 use Rattle.std.proofs.Common.{◌∙◌, ◌<◌, length, arith}
-use Rattle.iss_model.specs.Concrete.{rules_of}
-use Rattle.iss_model.specs.Formats.{formats_of}
-use Rattle.iss_model.specs.Run.{delivers_each}
 use Rattle.iss_world.proofs.PostLemmas.{any-default}
 use Rattle.iss_world.proofs.WorldLemmas.{each-delivered}
 use Rattle.iss_world.proofs.world.World.deliver_each.Goals as goal

@@ -1,4 +1,4 @@
-use Rattle.std.proofs.Common.{Some, ◌≡◌, ◌<◌, slice_get, length, arith, ap, refl}
+use Rattle.std.proofs.Common.{◌<◌, length, arith, ap, refl}
 use Rattle.std.proofs.lemmas.Option.{slice_get_read}
 use Rattle.iss_world.specs.State.{WorldState}
 use Rattle.iss_world.proofs.world.World.epoch.Goals as goal

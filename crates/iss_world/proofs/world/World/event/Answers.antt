@@ -1,4 +1,4 @@
-use Rattle.std.proofs.Common.{◌≡◌, IfOk, subst, sym}
+use Rattle.std.proofs.Common.{IfOk, subst, sym}
 use Rattle.iss_model.specs.Concrete.{rules_of}
 use Rattle.iss_model.specs.Formats.{formats_of}
 use Rattle.iss_model.specs.Run.{Net, happens}

@@ -1,4 +1,4 @@
-use Rattle.std.proofs.Common.{sym, subst, ◌∙◌, ◌≡◌, false, ap}
+use Rattle.std.proofs.Common.{sym, ◌∙◌, ◌≡◌, false, ap}
 use Rattle.iss_model.specs.Concrete.{rules_of}
 use Rattle.iss_model.specs.Formats.{formats_of}
 use Rattle.iss_world.specs.State.{WorldState}
