@@ -9,7 +9,7 @@ use Rattle.iss_cli.specs.declared.answers.Answer.{Answer}
 use Rattle.iss_cli.specs.declared.status.Status.{Status}
 use Rattle.iss_cli.specs.declared.status.Status.TheVariants.{Done, NoMemory, RefusedWords, RefusedSchedule, SourceFailed, SinkFailed}
 use Rattle.iss_cli.specs.Ends.{IfTold, and_more}
-use Rattle.iss_cli.specs.Pending.{report_text}
+use Rattle.iss_cli.specs.Reports.{report_text}
 
 -- there are two words, the program's name and `replay`
 abbrev pub AskReplay : List (List ℕ) → Type 0

@@ -1,4 +1,4 @@
 pub mod Answers
 pub mod Codes
 pub mod Ends
-pub mod Pending
+pub mod Reports

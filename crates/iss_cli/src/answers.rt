@@ -1,12 +1,15 @@
 //! What is answered to words and an input.
 ghost use Rattle.std.specs.Prelude.{◌≡◌, ◌↔◌, IsTrue, IfOk, map, string_bytes, codes};
 ghost use Rattle.iss_cli.specs.Answers.{AskReplay, IsAnswer, refused_words, refused_line, reported, why_word};
-ghost use Rattle.iss_cli.specs.Pending.{report_text};
+ghost use Rattle.iss_schedule.specs.Events.{AreInRange};
+ghost use Rattle.iss_schedule.specs.Schedules.{IsRelay};
 
 use crate::status::Status;
+use iss_replay::{replay, text};
 use iss_report::words::{put_number, put_text};
 use iss_request::{Bytes, NoMemory};
 use iss_schedule::{ReadError, Schedule, Why, read};
+use sb_relay::Relay;
 use std::alloc::Global;
 
 /// What is to be printed, and how the call ends then.
@@ -57,12 +60,13 @@ pub fn respond(alloc: Global, bytes: &[u8]) -> Result<Answer, NoMemory>
 
 // The report of a schedule's run.
 fn report(alloc: Global, schedule: &Schedule) -> Result<Answer, NoMemory>
+    requires relay { IsRelay schedule.now.setup }
+    requires range { AreInRange schedule.now.setup schedule.now.events }
     ensures { IfOk result (λ answer. answer ≡ reported schedule.now) }
 {
-    let mut printed = Vec::new(alloc);
-    put_text(&mut printed, b"end ok\n")?;
+    let report = replay::<Relay>(alloc, schedule)?;
     Ok(Answer {
-        printed: Bytes::of(printed),
+        printed: text(alloc, &report)?,
         status: Status::Done,
     })
 }

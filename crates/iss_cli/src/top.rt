@@ -2,6 +2,9 @@
 ghost use Rattle.std.specs.Prelude.{◌≡◌, map, string_bytes, IfOk, IsErrOf};
 ghost use Rattle.iss_cli.specs.Answers.{AskReplay, IsAnswered, IsAnswerStatus, Prints, Ends};
 ghost use Rattle.iss_cli.specs.Ends.{HasCause, Drains};
+ghost use Rattle.iss_cli.specs.Reports.{IsOneLog};
+ghost use Rattle.iss_schedule.specs.Schedules.{IsFine};
+ghost use Rattle.iss_schedule.specs.declared.schedules.Schedule.{Schedule};
 
 use crate::answers::{Answer, ask_replay, refuse_words, respond};
 use crate::ends::{Sink, Source};
@@ -9,6 +12,8 @@ use crate::errors::EndError;
 use crate::input::read_up_to;
 use crate::output::write_all;
 use crate::status::Status;
+use iss_model::{ordered_runs, separate_runs};
+use sb_relay::Relay;
 use std::alloc::Global;
 
 /// How many bytes are taken at most: one more than a schedule may have, so that a longer input is noticed.
@@ -18,7 +23,7 @@ pub const MOST_TAKEN: usize = 16_777_217;
 const PIECE: usize = 65_536;
 
 /// Does what the words ask for, and says how it ended. `replay` reads the input to its end and prints the report of the
-/// schedule that it is, or its first bad line.
+/// schedule that it is, or its first bad line. Every report is of one log (`one_log`).
 ///
 /// Causes are met in the order words, source, input, printing; want of memory may come anywhere.
 pub fn run<I: Source, O: Sink>(
@@ -27,17 +32,29 @@ pub fn run<I: Source, O: Sink>(
     input: &mut I,
     out: &mut O,
 ) -> Status
+    ensures one_log { (s : Schedule) → IsFine s → IsOneLog s }
     ensures printed { Ends (map string_bytes words.now) (I.left input.old) (O.held out.old) (O.held out.new) result }
     ensures taken { Drains 16777217 (I.left input.old) (I.left input.new) }
     ensures unread { ¬ AskReplay (map string_bytes words.now) → I.left input.new ≡ I.left input.old }
     ensures source { HasCause (I.faults input.old) (I.faults input.new) (result ≡ Status.SourceFailed) }
     ensures sink { HasCause (O.faults out.old) (O.faults out.new) (result ≡ Status.SinkFailed) }
 {
+    one_log();
     match answer(alloc, words, input) {
         Ok(answer) => print(out, &answer),
         Err(EndError::Failed) => Status::SourceFailed,
         Err(EndError::NoMemory) => Status::NoMemory,
     }
+}
+
+/// What is promised of the run of every schedule: the logs of correct nodes are of one log, in which no request stands
+/// twice, and more events only make logs longer (ISS, whole protocol). It takes no premise on digests, since the relay
+/// hashes nothing.
+pub fn one_log()
+    ensures { (s : Schedule) → IsFine s → IsOneLog s }
+{
+    ordered_runs::<Relay>();
+    separate_runs::<Relay>();
 }
 
 // The answer to the words and the input.
