@@ -2,9 +2,10 @@
 ghost use Rattle.std.specs.Prelude.{◌≡◌, map, string_bytes, IfOk, IsErrOf};
 ghost use Rattle.iss_cli.specs.Answers.{AskReplay, IsAnswered, IsAnswerStatus, Prints, Ends};
 ghost use Rattle.iss_cli.specs.Ends.{HasCause, Drains};
-ghost use Rattle.iss_cli.specs.Reports.{IsOneLog};
+ghost use Rattle.iss_model.specs.OneLog.{IsOneLog, OnlyGrows};
 ghost use Rattle.iss_schedule.specs.Schedules.{IsFine};
 ghost use Rattle.iss_schedule.specs.declared.schedules.Schedule.{Schedule};
+ghost use Rattle.sb_relay.specs.Relay.{relay};
 
 use crate::answers::{Answer, ask_replay, refuse_words, respond};
 use crate::ends::{Sink, Source};
@@ -12,7 +13,7 @@ use crate::errors::EndError;
 use crate::input::read_up_to;
 use crate::output::write_all;
 use crate::status::Status;
-use iss_model::{ordered_runs, separate_runs};
+use iss_model::{cluster_runs, composition, separate_runs};
 use sb_relay::Relay;
 use std::alloc::Global;
 
@@ -23,7 +24,8 @@ pub const MOST_TAKEN: usize = 16_777_217;
 const PIECE: usize = 65_536;
 
 /// Does what the words ask for, and says how it ended. `replay` reads the input to its end and prints the report of the
-/// schedule that it is, or its first bad line. Every report is of one log (`one_log`).
+/// schedule that it is, or its first bad line. The logs of every report are of one log (`one_log`), and more events only
+/// make them longer (`grows`).
 ///
 /// Causes are met in the order words, source, input, printing; want of memory may come anywhere.
 pub fn run<I: Source, O: Sink>(
@@ -32,7 +34,8 @@ pub fn run<I: Source, O: Sink>(
     input: &mut I,
     out: &mut O,
 ) -> Status
-    ensures one_log { (s : Schedule) → IsFine s → IsOneLog s }
+    ensures one_log { (s : Schedule) → IsFine s → IsOneLog s.setup relay s.events }
+    ensures grows { (s : Schedule) → IsFine s → OnlyGrows s.setup relay s.events }
     ensures printed { Ends (map string_bytes words.now) (I.left input.old) (O.held out.old) (O.held out.new) result }
     ensures taken { Drains 16777217 (I.left input.old) (I.left input.new) }
     ensures unread { ¬ AskReplay (map string_bytes words.now) → I.left input.new ≡ I.left input.old }
@@ -48,12 +51,14 @@ pub fn run<I: Source, O: Sink>(
 }
 
 /// What is promised of the run of every schedule: the logs of correct nodes are of one log, in which no request stands
-/// twice, and more events only make logs longer (ISS, whole protocol). It takes no premise on digests, since the relay
-/// hashes nothing.
+/// twice and each batch was accepted as valid by a correct node, and more events only make logs longer (ISS, whole
+/// protocol). It takes no premise on digests, since the relay hashes nothing.
 pub fn one_log()
-    ensures { (s : Schedule) → IsFine s → IsOneLog s }
+    ensures one_log { (s : Schedule) → IsFine s → IsOneLog s.setup relay s.events }
+    ensures grows { (s : Schedule) → IsFine s → OnlyGrows s.setup relay s.events }
 {
-    ordered_runs::<Relay>();
+    composition::<Relay>();
+    cluster_runs::<Relay>();
     separate_runs::<Relay>();
 }
 

@@ -23,3 +23,4 @@ pub mod Example
 pub mod Written
 pub mod Ranges
 pub mod Everywhere
+pub mod OneLog

@@ -1,5 +1,5 @@
 -- Logs in the order of their slots, over every run.
-use Rattle.std.proofs.Common.{◌≡◌, ◌⊎◌, inl, inr, ℕ, true, List, [], ◌∷◌, ◌++◌, reverse, refl, sym, ap, ◌∙◌, subst}
+use Rattle.std.proofs.Common.{◌≡◌, inl, inr, ℕ, true, List, [], ◌∷◌, ◌++◌, reverse, refl, sym, ap, ◌∙◌, subst}
 use Rattle.std.proofs.lemmas.List.{reverse-append}
 use Rattle.iss_base.specs.Lists.{Extends, In}
 use Rattle.iss_base.proofs.Lists.{different-append, different-apart, different-left, different-right, in_append, in_left, in_right}
@@ -8,19 +8,17 @@ use Rattle.iss_request.specs.declared.ids.ReqId.{ReqId}
 use Rattle.iss_request.specs.declared.requests.Value.{Value}
 use Rattle.iss_request.specs.declared.setups.Setup.{Setup}
 use Rattle.iss_schedule.specs.declared.schedules.Event.{Event}
-use Rattle.iss_sb.specs.Evidence.{Module, Separate, is_correct}
-use Rattle.iss_sb.specs.Laws.{IsLawful, IsSafe}
+use Rattle.iss_sb.specs.Evidence.{Module}
+use Rattle.iss_sb.specs.Laws.{IsLawful}
 use Rattle.iss_model.specs.Node.{Formats}
-use Rattle.iss_model.specs.Ordered.{IsSoundRules, Ordered}
+use Rattle.iss_model.specs.Ordered.{IsSoundRules}
 use Rattle.iss_model.specs.Past.{log_of}
 use Rattle.iss_model.specs.Rules.{Rules}
 use Rattle.iss_model.specs.Run.{Progress, begin_run, run}
-use Rattle.iss_model.specs.Runs.{AreAtNodes, IsFaithful, IsPrefix, IsRunString, log_after, net_after, pasts_of}
+use Rattle.iss_model.specs.Runs.{AreAtNodes, IsFaithful, IsPrefix, log_after, net_after, pasts_of}
 use Rattle.iss_model.specs.Sound.{AreAllInside, IsSoundCore}
-use Rattle.iss_model.proofs.Agree.{separate-part}
 use Rattle.iss_model.proofs.Ids.{log_ids-append}
-use Rattle.iss_model.proofs.Reached.{composition}
-use Rattle.iss_model.proofs.Simulation.{NetOk, run-ok, start-ok, unvoted, unvoted-exact}
+use Rattle.iss_model.proofs.Simulation.{NetOk, run-ok, start-ok}
 
 pub turned : (a b : List Value) → Extends a b → IsPrefix (reverse a) (reverse b)
 turned a b x = (reverse x.0, ap (λ (t : List Value). reverse t) x.1 ∙ reverse-append x.0 a)
@@ -56,43 +54,17 @@ pub run-append : {Msg : Type 0} (s : Setup) (F : Formats Msg) (R : Rules) (M : M
 run-append s F R M [] fs p = refl
 run-append s F R M (e ∷ es) fs p = run-append s F R M es fs _
 
-at-nodes-left : (n : ℕ) (es fs : List Event) → AreAtNodes n (es ++ fs) → AreAtNodes n es
-at-nodes-left n [] fs h = tt
-at-nodes-left n (e ∷ es) fs h = (h.0, at-nodes-left n es fs h.1)
-
-at-nodes-right : (n : ℕ) (es fs : List Event) → AreAtNodes n (es ++ fs) → AreAtNodes n fs
-at-nodes-right n [] fs h = h
-at-nodes-right n (e ∷ es) fs h = at-nodes-right n es fs h.1
-
 module _ {Msg : Type 0} (s : Setup) (F : Formats Msg) (R : Rules) (M : Module Msg) (sound : IsSoundRules s M R) (stops : M.stopping ≡ true) (faithful : IsFaithful s F) (law : IsLawful M) (inside : AreAllInside R) where
-  after-ok : (events : List Event) → AreAtNodes s.n events → NetOk s F R M sound stops faithful law (net_after s F R M events)
+  pub after-ok : (events : List Event) → AreAtNodes s.n events → NetOk s F R M sound stops faithful law (net_after s F R M events)
   after-ok events low = (run-ok s F R M sound stops faithful law inside events (begin_run s.n) (start-ok s F R M sound stops faithful law inside) low).ok
 
   -- every core of a run is sound
   pub sound-run : (events : List Event) → AreAtNodes s.n events → (i : ℕ) → IsSoundCore R M i ((net_after s F R M events).cores i)
   sound-run events low = (after-ok events low).cores
 
-  pub ordered-run : IsSafe M → (events : List Event) → AreAtNodes s.n events → Separate (IsRunString s (pasts_of (net_after s F R M events))) → Ordered s R M (pasts_of (net_after s F R M events))
-  ordered-run safe events low sep =
-      let pasts = pasts_of (net_after s F R M events) in
-      let k = after-ok events low in
-      composition s unvoted R M safe law sound (record { pasts = pasts; messages = k.messages; book = []; strings = k.strings })
-      (unvoted-exact s M pasts k.messages k.strings)
-      (separate-part (IsRunString s pasts) (λ x. In x k.strings) k.hashed sep)
-      k.reach
-
-  pub prefix-run : IsSafe M → (events : List Event) → AreAtNodes s.n events → Separate (IsRunString s (pasts_of (net_after s F R M events))) → (i j : ℕ) → is_correct s i ≡ true → is_correct s j ≡ true → IsPrefix (log_after s F R M events i) (log_after s F R M events j) ⊎ IsPrefix (log_after s F R M events j) (log_after s F R M events i)
-  prefix-run safe events low sep i j oki okj = elim ((ordered-run safe events low sep).one i j oki okj) [
-    | inl x ↦ inl (turned _ _ x)
-    | inr x ↦ inr (turned _ _ x)
-  ]
-
-  pub once-run : IsSafe M → (events : List Event) → AreAtNodes s.n events → Separate (IsRunString s (pasts_of (net_after s F R M events))) → (i : ℕ) → is_correct s i ≡ true → Once (log_after s F R M events i)
-  once-run safe events low sep i ok = once-turned (log_of R M i (pasts_of (net_after s F R M events) i)) ((ordered-run safe events low sep).once i ok)
-
   -- what is printed after more events begins with what was printed
-  pub later-run : (events more : List Event) → AreAtNodes s.n (events ++ more) → (i : ℕ) → IsPrefix (log_after s F R M events i) (log_after s F R M (events ++ more) i)
-  later-run events more low i =
-      let g = run-ok s F R M sound stops faithful law inside more (run s F R M (begin_run s.n) events) (after-ok events (at-nodes-left s.n events more low)) (at-nodes-right s.n events more low) in
+  pub later-run : (events : List Event) → AreAtNodes s.n events → (more : List Event) → AreAtNodes s.n more → (i : ℕ) → IsPrefix (log_after s F R M events i) (log_after s F R M (events ++ more) i)
+  later-run events low more low_more i =
+      let g = run-ok s F R M sound stops faithful law inside more (run s F R M (begin_run s.n) events) (after-ok events low) low_more in
       let p : Progress Msg = run s F R M (run s F R M (begin_run s.n) events) more in
       subst (λ (q : Progress Msg). IsPrefix (log_after s F R M events i) (reverse (log_of R M i (pasts_of q.net i)))) (sym (run-append s F R M events more (begin_run s.n))) (turned (log_of R M i (pasts_of (net_after s F R M events) i)) (log_of R M i (pasts_of p.net i)) (g.grows.logs i))

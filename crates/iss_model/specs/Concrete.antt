@@ -1,5 +1,5 @@
 -- The rules of a cluster under its set-up.
-use Rattle.std.specs.Prelude.{ℕ, zero, ◌/◌, nat_lt, true, List, Option, Some, None}
+use Rattle.std.specs.Prelude.{ℕ, ◌/◌, nat_lt, true, Option, Some, None}
 use Rattle.iss_layout.specs.Layout.{bucket_of, bucket_owner, leads, plan_of, segment, slot_leader}
 use Rattle.iss_request.specs.declared.ids.NodeId.{NodeId}
 use Rattle.iss_request.specs.declared.setups.Setup.{Setup}

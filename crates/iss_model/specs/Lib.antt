@@ -10,3 +10,4 @@ pub mod Sound
 pub mod Concrete
 pub mod Formats
 pub mod Printed
+pub mod OneLog

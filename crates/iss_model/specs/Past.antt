@@ -1,5 +1,5 @@
 -- What a node's log rests on: what it took in each instance, and the log that follows.
-use Rattle.std.specs.Prelude.{◌≡◌, ℕ, zero, suc, ◌+◌, ◌-◌, ◌*◌, ◌==◌, ◌≤◌, nat_le, cond, Bool, List, [], ◌∷◌, Option, Some, None, length}
+use Rattle.std.specs.Prelude.{◌≡◌, ℕ, zero, suc, ◌+◌, ◌-◌, ◌*◌, ◌==◌, nat_le, cond, List, [], ◌∷◌, Option, Some, None, length}
 use Rattle.iss_base.specs.Lists.{Chain, first_of, nth, oldest, set_at2}
 use Rattle.iss_request.specs.declared.ids.Slot.{Slot}
 use Rattle.iss_request.specs.declared.requests.Batch.{Batch}

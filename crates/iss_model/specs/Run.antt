@@ -1,5 +1,5 @@
 -- All cores over a whole schedule.
-use Rattle.std.specs.Prelude.{ℕ, zero, suc, ◌+◌, ◌*◌, cond, Bool, true, false, List, [], ◌∷◌, ◌++◌, Option, Some, None, replicate}
+use Rattle.std.specs.Prelude.{ℕ, zero, suc, ◌+◌, ◌*◌, cond, true, false, List, [], ◌∷◌, ◌++◌, Option, Some, None, replicate}
 use Rattle.std.specs.Int.{to_be_bytes, w32}
 use Rattle.iss_base.specs.Lists.{below, nth, set_at}
 use Rattle.iss_network.specs.Network.{Network, cleared, due, empty_network, held_to, posted, settled}
@@ -15,7 +15,7 @@ use Rattle.iss_model.specs.declared.causes.NodeEvent.{NodeEvent}
 use Rattle.iss_model.specs.declared.causes.NodeEvent.TheVariants.{Packet as Gets, Propose as Proposes, Timeout as Fires}
 use Rattle.iss_model.specs.declared.causes.Why.{Why}
 use Rattle.iss_model.specs.declared.causes.Why.TheVariants.{NoPacket}
-use Rattle.iss_model.specs.Node.{Core, Formats, OfRequest, Stepped, Dropped, Taken, Turn, idle, step}
+use Rattle.iss_model.specs.Node.{Core, Formats, OfRequest, Stepped, Dropped, Taken, idle, step}
 use Rattle.iss_model.specs.Rules.{Rules}
 
 pub record Net (Msg : Type 0) : Type 0 where

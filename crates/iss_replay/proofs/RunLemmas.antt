@@ -1,5 +1,5 @@
 -- Runs, event by event.
-use Rattle.std.proofs.Common.{◌≡◌, ℕ, zero, suc, ◌+◌, ◌*◌, ◌<◌, ◌≤◌, List, [], ◌∷◌, ◌++◌, length, take, get_or, refl, sym, ap, ◌∙◌, subst, arith, add-one, Option, Some, None, reverse, append_assoc, if◌then◌else◌}
+use Rattle.std.proofs.Common.{◌≡◌, ℕ, zero, suc, ◌+◌, ◌<◌, ◌≤◌, List, [], ◌∷◌, ◌++◌, length, take, get_or, refl, sym, ap, ◌∙◌, subst, arith, add-one, Option, Some, reverse, append_assoc}
 use Rattle.std.proofs.Math.Seq.{take-suc}
 use Rattle.std.proofs.lemmas.List.{append-nil, length-take, reverse-append}
 use Rattle.iss_model.specs.Concrete.{rules_of}
@@ -7,7 +7,7 @@ use Rattle.iss_model.specs.Formats.{formats_of}
 use Rattle.iss_model.specs.Node.{Formats}
 use Rattle.iss_model.specs.Past.{log_of}
 use Rattle.iss_model.specs.Rules.{Rules}
-use Rattle.iss_model.specs.Run.{Happening, Net, Progress, begin_run, goes_on, happens, noted, run}
+use Rattle.iss_model.specs.Run.{Net, Progress, begin_run, goes_on, happens, noted, run}
 use Rattle.iss_model.specs.declared.causes.Why.{Why}
 use Rattle.iss_report.specs.Text.{drop_line, node_block}
 use Rattle.iss_replay.specs.Report.{drop_lines, node_blocks, run_of}
@@ -20,14 +20,9 @@ use Rattle.iss_request.specs.declared.setups.Kind.TheVariants.{Byzantine, Stoppi
 use Rattle.iss_request.specs.declared.setups.Setup.{Setup}
 use Rattle.iss_sb.specs.declared.effects.Params.{Params}
 use Rattle.iss_sb.specs.Evidence.{Item, Module}
-use Rattle.iss_world.specs.Stands.{HasHappened, StandsFor, cause_of}
+use Rattle.iss_world.specs.Stands.{HasHappened}
 use Rattle.iss_world.specs.State.{WorldState}
-use Rattle.iss_world.specs.declared.world.Happened.{Happened}
 use Rattle.iss_world.specs.declared.world.Happened.TheVariants.{Done, Lost}
-
-pub in-range-both : (s : Setup) (es fs : List Event) → AreInRange s es → AreInRange s fs → AreInRange s (es ++ fs)
-in-range-both s [] fs h k = k
-in-range-both s (e ∷ es) fs h k = (h.0, in-range-both s es fs h.1 k)
 
 in-range-get : (s : Setup) (es : List Event) (i : ℕ) (d : Event) → AreInRange s es → i < length es → IsInRange s (get_or es i d)
 in-range-get s [] i d h lt = absurd (omega arith)

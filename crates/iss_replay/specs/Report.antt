@@ -1,8 +1,10 @@
 -- The run of a schedule, and the text that tells how far a run has come.
-use Rattle.std.specs.Prelude.{ℕ, zero, suc, List, [], ◌∷◌, ◌++◌}
+use Rattle.std.specs.Prelude.{◌≡◌, ℕ, zero, suc, true, List, [], ◌∷◌, ◌++◌}
 use Rattle.iss_model.specs.Concrete.{rules_of}
 use Rattle.iss_model.specs.Formats.{formats_of}
+use Rattle.iss_model.specs.OneLog.{IsOneLog, OnlyGrows}
 use Rattle.iss_model.specs.Past.{log_of}
+use Rattle.iss_model.specs.Printed.{IsSeparateRun}
 use Rattle.iss_model.specs.Run.{Net, Progress, begin_run, run}
 use Rattle.iss_model.specs.declared.causes.Why.{Why}
 use Rattle.iss_report.specs.Text.{drop_line, end_line, node_block}
@@ -26,3 +28,10 @@ node_blocks s M w (suc n) = node_blocks s M w n ++ node_block n (w.cores n).past
 
 abbrev pub text_of : {Msg : Type 0} → Setup → Module Msg → Progress Msg → List ℕ
 text_of s M p = drop_lines p.drops ++ node_blocks s M p.net s.n ++ end_line
+
+-- The bytes report these events: they are the text of their run. Where nodes only stop, more events only make its logs
+-- longer, and these are of one log as long as different strings that were hashed have different digests.
+pub record IsReport {Msg : Type 0} (s : Setup) (M : Module Msg) (events : List Event) (bytes : List ℕ) : Type 0 where
+  pub tells : bytes ≡ text_of s M (run_of s M events)
+  pub one_log : M.stopping ≡ true → IsSeparateRun s M events → IsOneLog s M events
+  pub grows : M.stopping ≡ true → OnlyGrows s M events

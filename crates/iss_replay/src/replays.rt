@@ -1,19 +1,17 @@
 //! The events of a schedule, one after the other.
-ghost use Rattle.std.specs.Prelude.{◌≡◌, ◌⊎◌, ◌++◌, ℕ, IfOk, OnOk, true, List};
+ghost use Rattle.std.specs.Prelude.{◌≡◌, IfOk, OnOk, true};
 ghost use Rattle.iss_model.specs.Concrete.{rules_of};
 ghost use Rattle.iss_model.specs.Formats.{formats_of};
-ghost use Rattle.iss_model.specs.Printed.{IsSeparateRun, printed};
+ghost use Rattle.iss_model.specs.OneLog.{IsOneLog, OnlyGrows};
+ghost use Rattle.iss_model.specs.Printed.{IsSeparateRun};
 ghost use Rattle.iss_model.specs.Run.{Progress, goes_on};
-ghost use Rattle.iss_model.specs.Runs.{IsPrefix, IsSetupOf};
+ghost use Rattle.iss_model.specs.Runs.{IsSetupOf};
 ghost use Rattle.iss_replay.specs.Report.{run_of};
 ghost use Rattle.iss_replay.specs.Stands.{StandsForRun};
-ghost use Rattle.iss_request.specs.Log.{Once};
-ghost use Rattle.iss_sb.specs.Evidence.{is_correct};
 ghost use Rattle.iss_schedule.specs.Events.{AreInRange, IsInRange};
-ghost use Rattle.iss_schedule.specs.declared.schedules.Event.{Event};
 ghost use Rattle.iss_world.specs.Stands.{IsStanding};
 
-use iss_model::{Why, ordered_runs};
+use iss_model::{Why, cluster_runs, composition};
 use iss_request::{NoMemory, Row};
 use iss_sb::Sequenced;
 use iss_schedule::{Event, Schedule};
@@ -28,24 +26,20 @@ pub struct Report<M: Sequenced> {
     pub drops: Row<(u64, Why)>,
 }
 
-/// Replays a schedule: what its events make of a cluster that has taken nothing. Where nodes only stop, the logs of
-/// correct nodes are of one log, no request stands twice in a log, and more events only make logs longer, as long as
-/// different strings that the run hashed have different digests (ISS, whole protocol).
+/// Replays a schedule: what its events make of a cluster that has taken nothing. Where nodes only stop, more events only
+/// make logs longer, and the logs of correct nodes are of one log, in which no request stands twice and each batch was
+/// accepted as valid by a correct node, as long as different strings that the run hashed have different digests (ISS,
+/// whole protocol).
 pub fn replay<M: Sequenced>(alloc: Global, schedule: &Schedule) -> Result<Report<M>, NoMemory>
     requires good { IsSetupOf M.meaning schedule.now.setup }
     requires range { AreInRange schedule.now.setup schedule.now.events }
     ensures run { IfOk result (λ r. StandsForRun M.meaning M.stands r.world r.drops (run_of schedule.now.setup M.meaning schedule.now.events)) }
     ensures same { IfOk result (λ r. r.world.setup ≡ schedule.now.setup) }
-    ensures prefix { M.meaning.stopping ≡ true → IsSeparateRun schedule.now.setup M.meaning schedule.now.events →
-        (i j : ℕ) → is_correct schedule.now.setup i ≡ true → is_correct schedule.now.setup j ≡ true →
-        IsPrefix (printed schedule.now.setup M.meaning schedule.now.events i) (printed schedule.now.setup M.meaning schedule.now.events j) ⊎
-        IsPrefix (printed schedule.now.setup M.meaning schedule.now.events j) (printed schedule.now.setup M.meaning schedule.now.events i) }
-    ensures once { M.meaning.stopping ≡ true → IsSeparateRun schedule.now.setup M.meaning schedule.now.events →
-        (i : ℕ) → is_correct schedule.now.setup i ≡ true → Once (printed schedule.now.setup M.meaning schedule.now.events i) }
-    ensures later { M.meaning.stopping ≡ true → (more : List Event) → AreInRange schedule.now.setup more →
-        (i : ℕ) → IsPrefix (printed schedule.now.setup M.meaning schedule.now.events i) (printed schedule.now.setup M.meaning (schedule.now.events ++ more) i) }
+    ensures one_log { M.meaning.stopping ≡ true → IsSeparateRun schedule.now.setup M.meaning schedule.now.events → IsOneLog schedule.now.setup M.meaning schedule.now.events }
+    ensures grows { M.meaning.stopping ≡ true → OnlyGrows schedule.now.setup M.meaning schedule.now.events }
 {
-    ordered_runs::<M>();
+    composition::<M>();
+    cluster_runs::<M>();
     play(alloc, schedule)
 }
 

@@ -1,23 +1,39 @@
 //! The text of a report.
-ghost use Rattle.std.specs.Prelude.{◌≡◌, ◌<◌, ◌++◌, IfOk, OnOk, reverse};
+ghost use Rattle.std.specs.Prelude.{◌≡◌, ◌<◌, ◌++◌, IfOk, List, OnOk, reverse};
 ghost use Rattle.iss_model.specs.Concrete.{rules_of};
 ghost use Rattle.iss_model.specs.Past.{log_of};
 ghost use Rattle.iss_model.specs.Run.{Net, Progress};
-ghost use Rattle.iss_replay.specs.Report.{drop_lines, node_blocks, text_of};
+ghost use Rattle.iss_model.specs.Runs.{IsSetupOf};
+ghost use Rattle.iss_replay.specs.Report.{IsReport, drop_lines, node_blocks, run_of, text_of};
 ghost use Rattle.iss_replay.specs.Stands.{StandsForRun};
 ghost use Rattle.iss_report.specs.Text.{node_block};
+ghost use Rattle.iss_schedule.specs.Events.{AreInRange};
+ghost use Rattle.iss_schedule.specs.declared.schedules.Event.{Event};
 ghost use Rattle.iss_world.specs.Stands.{StandsFor};
 
 use crate::replays::Report;
-use iss_model::Why;
+use iss_model::{Why, cluster_runs, composition};
 use iss_report::{put_drop, put_end, put_node};
 use iss_request::{Bytes, NoMemory, NodeId};
 use iss_sb::Sequenced;
 use iss_world::World;
 use std::alloc::Global;
 
-/// The text of a report: a line for each event that was lost, each node's block, and the last line.
+/// The text of a report: a line for each event that was lost, each node's block, and the last line. Where it is the
+/// report of a schedule, its logs are of one log, as `replay` says.
 pub fn text<M: Sequenced>(alloc: Global, report: &Report<M>) -> Result<Bytes, NoMemory>
+    ensures tells { IfOk result (λ bytes. (p : Progress M.Msg) → StandsForRun M.meaning M.stands report.now.world report.now.drops p → bytes ≡ text_of report.now.world.setup M.meaning p) }
+    ensures reports { IfOk result (λ bytes. IsSetupOf M.meaning report.now.world.setup → (events : List Event) → AreInRange report.now.world.setup events →
+        StandsForRun M.meaning M.stands report.now.world report.now.drops (run_of report.now.world.setup M.meaning events) →
+        IsReport report.now.world.setup M.meaning events bytes) }
+{
+    composition::<M>();
+    cluster_runs::<M>();
+    write(alloc, report)
+}
+
+// Writes the text.
+fn write<M: Sequenced>(alloc: Global, report: &Report<M>) -> Result<Bytes, NoMemory>
     ensures { IfOk result (λ bytes. (p : Progress M.Msg) → StandsForRun M.meaning M.stands report.now.world report.now.drops p → bytes ≡ text_of report.now.world.setup M.meaning p) }
 {
     let mut out = Vec::new(alloc);

@@ -1,4 +1,4 @@
-use Rattle.std.proofs.Common.{◌<◌, ◌≤◌, ◌≡◌, ◌∙◌, length, arith, List, subst, ap, get_or, take}
+use Rattle.std.proofs.Common.{◌<◌, ◌≡◌, ◌∙◌, length, arith, List, subst, ap, get_or, take}
 use Rattle.iss_schedule.specs.declared.schedules.Event.{Event}
 use Rattle.iss_replay.specs.Report.{run_of}
 use Rattle.iss_replay.proofs.RunLemmas.{event-number, in-range-at, run-next}

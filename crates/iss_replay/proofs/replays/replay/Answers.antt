@@ -1,14 +1,14 @@
+use Rattle.iss_model.proofs.OneLog.{one-log, ordered-run}
 use Rattle.iss_model.proofs.Ranges.{at-nodes}
-use Rattle.std.proofs.Common.{◌++◌}
-use Rattle.iss_replay.proofs.RunLemmas.{in-range-both}
 use Rattle.iss_replay.proofs.replays.replay.Goals as goal
 
-pub returns-clause-prefix : goal.returns-clause-prefix
-returns-clause-prefix g c = λ stops separate i j. c.ordered_runs.ensures.prefix c.args.schedule.now.setup c.requires.good stops c.args.schedule.now.events (at-nodes c.args.schedule.now.setup c.args.schedule.now.events c.requires.range) separate i j
+pub returns-clause-one_log : goal.returns-clause-one_log
+returns-clause-one_log g c = λ stops separate.
+    let s = c.args.schedule.now.setup in
+    let events = c.args.schedule.now.events in
+    one-log s g.M.Sequenced.meaning events (ordered-run s g.M.Sequenced.meaning events c.composition.ensures (c.cluster_runs.ensures.reached s c.requires.good stops events (at-nodes s events c.requires.range)) separate)
 
-pub returns-clause-once : goal.returns-clause-once
-returns-clause-once g c = λ stops separate i. c.ordered_runs.ensures.once c.args.schedule.now.setup c.requires.good stops c.args.schedule.now.events (at-nodes c.args.schedule.now.setup c.args.schedule.now.events c.requires.range) separate i
-
-pub returns-clause-later : goal.returns-clause-later
-returns-clause-later g c = λ stops more range i.
-    c.ordered_runs.ensures.later c.args.schedule.now.setup c.requires.good stops c.args.schedule.now.events more (at-nodes c.args.schedule.now.setup (c.args.schedule.now.events ++ more) (in-range-both c.args.schedule.now.setup c.args.schedule.now.events more c.requires.range range)) i
+pub returns-clause-grows : goal.returns-clause-grows
+returns-clause-grows g c = λ stops.
+    let s = c.args.schedule.now.setup in
+    c.cluster_runs.ensures.grows s c.requires.good stops c.args.schedule.now.events (at-nodes s c.args.schedule.now.events c.requires.range)
