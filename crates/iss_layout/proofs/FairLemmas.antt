@@ -5,13 +5,14 @@ use Rattle.std.proofs.lemmas.Bool.{cases_lt}
 use Rattle.std.specs.List.{filter, list_any}
 use Rattle.iss_base.specs.Lists.{In}
 use Rattle.iss_request.specs.Setup.{IsGoodSetup, AreRising, nodes_of_kind}
+use Rattle.iss_request.specs.Slots.{AreAscending}
 use Rattle.iss_request.specs.declared.ids.NodeId.{NodeId}
 use Rattle.iss_request.specs.declared.ids.Slot.{Slot}
 use Rattle.iss_request.specs.declared.requests.Value.{Value}
 use Rattle.iss_request.specs.declared.setups.Kind.{Kind}
 use Rattle.iss_request.specs.declared.setups.Kind.TheVariants.{Byzantine, Stopping}
 use Rattle.iss_request.specs.declared.setups.Setup.{Setup}
-use Rattle.iss_layout.specs.Layout.{Plan, node, nodes_below, plan_of, leads, home, at_turn, slot_leader, is_node, is_slot_of_leader, slots_from, first_slot, segment, IsSlotOf, IsGoodPlan, AreAscending, HasOneLeader, HasOwner, IsFair}
+use Rattle.iss_layout.specs.Layout.{Plan, node, nodes_below, plan_of, leads, home, at_turn, slot_leader, is_node, is_slot_of_leader, slots_from, first_slot, segment, IsSlotOf, IsGoodPlan, HasOneLeader, HasOwner, IsFair}
 
 pub eqb_means : (a b : ℕ) → eqb a b ≡ true → a ≡ b
 eqb_means a b h = grind arith
@@ -234,11 +235,21 @@ has_owner p good b = go (leads p (home p b)) refl
       is = rw is turn;
     }
 
-some_slot : (p : Plan) → IsGoodPlan p → (i : ℕ) → In (node i) p.leaders → 1 ≤ length (segment p i)
-some_slot p good i h =
+pub segment_ascending : (p : Plan) (i : ℕ) → AreAscending 0 (segment p i)
+segment_ascending p i =
+    ascending_lower 0 (first_slot p) (segment p i) (omega arith)
+    (ascending_filter (is_slot_of_leader p i) (first_slot p) (first_slot p + p.slots) (slots_from (first_slot p) p.slots) (rises_from (first_slot p) p.slots))
+
+pub segment_few : (p : Plan) (i : ℕ) → length (segment p i) ≤ p.slots
+segment_few p i =
+    let shorter = filter_shorter (is_slot_of_leader p i) (slots_from (first_slot p) p.slots) in
+    let long = length_slots (first_slot p) p.slots in
+    omega arith
+
+-- a leader has a slot, where an epoch has as many slots as it has leaders
+pub some_slot : (p : Plan) → length p.leaders ≤ p.slots → (i : ℕ) → In (node i) p.leaders → 1 ≤ length (segment p i)
+some_slot p enough i h =
     let (k, (lt, is)) = in_get p.leaders (node i) h in
-    let no_more = good.no_more in
-    let enough = good.enough in
     let s : Slot = record { 0 = first_slot p + k } in
     let back : first_slot p + k - first_slot p ≡ k = omega arith in
     let round : k % length p.leaders ≡ k = mod-eq_of_lt lt in
@@ -257,12 +268,8 @@ fair p good = record {
   owned = λ b. has_owner p good b;
   segments = λ i. record {
     slots = λ s. segment_slots p i s;
-    ascending = ascending_lower 0 (first_slot p) (segment p i) (omega arith)
-        (ascending_filter (is_slot_of_leader p i) (first_slot p) (first_slot p + p.slots) (slots_from (first_slot p) p.slots) (rises_from (first_slot p) p.slots));
-    few = let shorter = filter_shorter (is_slot_of_leader p i) (slots_from (first_slot p) p.slots) in
-        let long = length_slots (first_slot p) p.slots in
-        let few = good.few_slots in
-        omega arith;
-    some = λ h. some_slot p good i h;
+    ascending = segment_ascending p i;
+    few = let few = segment_few p i in let few_slots = good.few_slots in omega arith;
+    some = λ h. some_slot p (let no_more = good.no_more in let enough = good.enough in omega arith) i h;
   };
 }

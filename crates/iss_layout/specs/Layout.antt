@@ -3,6 +3,7 @@ use Rattle.std.specs.Prelude.{◌≡◌, ℕ, zero, suc, ◌+◌, ◌-◌, ◌*�
 use Rattle.std.specs.List.{filter, list_any}
 use Rattle.iss_base.specs.Lists.{In}
 use Rattle.iss_request.specs.Setup.{AreRising}
+use Rattle.iss_request.specs.Slots.{AreAscending}
 use Rattle.iss_request.specs.declared.ids.NodeId.{NodeId}
 use Rattle.iss_request.specs.declared.ids.ReqId.{ReqId}
 use Rattle.iss_request.specs.declared.ids.Slot.{Slot}
@@ -90,11 +91,6 @@ pub record IsGoodPlan (p : Plan) : Type 0 where
   pub some_buckets : 1 ≤ p.buckets
   pub few_buckets : p.buckets ≤ 256
   pub fits : first_slot p + p.slots ≤ 2 ^ 64
-
--- slots that rise, none below the first number that is allowed
-abbrev pub AreAscending : ℕ → List Slot → Type 0
-AreAscending from [] = Unit {0}
-AreAscending from (s ∷ ss) = (from ≤ s.0) × AreAscending (suc s.0) ss
 
 -- a slot of the epoch is in the segment of one leader and of no other node
 pub record HasOneLeader (p : Plan) (s : Slot) : Type 0 where

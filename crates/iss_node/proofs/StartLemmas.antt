@@ -3,7 +3,6 @@ use Rattle.std.proofs.Common.{inl, inr, arith, ◌≡◌, ◌≢◌, ◌⊎◌, 
 use Rattle.std.proofs.lemmas.Bool.Decides.{nat_tests}
 use Rattle.iss_base.proofs.Lists.{in_left, in_right, same_or_not}
 use Rattle.iss_base.specs.Lists.{In}
-use Rattle.iss_layout.specs.Layout as layout
 use Rattle.iss_layout.specs.Layout.{IsFair, Plan, node, nodes_below, plan_of, segment}
 use Rattle.iss_model.specs.Concrete.{rules_of}
 use Rattle.iss_model.specs.Runs.{IsSetupOf}
@@ -28,12 +27,8 @@ use Rattle.iss_request.specs.declared.ids.NodeId.{NodeId}
 use Rattle.iss_request.specs.declared.ids.Slot.{Slot}
 use Rattle.iss_request.specs.declared.setups.Setup.{Setup}
 use Rattle.iss_sb.specs.declared.effects.Params.{Params}
-use Rattle.iss_sb.specs.Calls.{AreAscending, IsGoodParams}
+use Rattle.iss_sb.specs.Calls.{IsGoodParams}
 use Rattle.iss_sb.specs.Evidence.{Item, Module, delivered}
-
-ascending : (from : ℕ) (ss : List Slot) → layout.AreAscending from ss → AreAscending from ss
-ascending from [] h = tt
-ascending from (s ∷ ss) h = (h.0, ascending (suc s.0) ss h.1)
 
 in-below : (n l : ℕ) → l < n → In (node l) (nodes_below n)
 in-below zero l lt = absurd (omega arith)
@@ -53,7 +48,7 @@ good-params m s l h lt fair = record {
   leader = lt;
   some = (fair.segments l).some (in-below s.n l lt);
   few = (fair.segments l).few;
-  rising = ascending 0 (segment (plan_of s 0 []) l) (fair.segments l).ascending;
+  rising = (fair.segments l).ascending;
 }
 
 pub good-copy : {Msg : Type 0} (m : Module Msg) (s t : Setup) (l : NodeId) (slots : List Slot) (plan : Plan) → IsSetupOf m s → l.0 < s.n → IsFair (plan_of s 0 []) → plan ≡ plan_of s 0 [] → t ≡ s → slots ≡ segment plan l.0 →

@@ -4,3 +4,4 @@ pub mod Formats
 pub mod Log
 pub mod Parsing
 pub mod Setup
+pub mod Slots

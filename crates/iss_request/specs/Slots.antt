@@ -1,0 +1,8 @@
+-- Lists of slots.
+use Rattle.std.specs.Prelude.{ℕ, suc, ◌≤◌, List, [], ◌∷◌}
+use Rattle.iss_request.specs.declared.ids.Slot.{Slot}
+
+-- slots that rise, none below the first number that is allowed
+abbrev pub AreAscending : ℕ → List Slot → Type 0
+AreAscending from [] = Unit {0}
+AreAscending from (s ∷ ss) = (from ≤ s.0) × AreAscending (suc s.0) ss
