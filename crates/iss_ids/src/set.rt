@@ -1,5 +1,5 @@
 //! The set.
-ghost use Rattle.std.specs.Prelude.{◌≡◌, [], OnOk, OnErr};
+ghost use Rattle.std.specs.Prelude.{◌≡◌, ℕ, [], take, OnOk, OnErr};
 ghost use Rattle.iss_request.specs.Log.{has_id};
 ghost use Rattle.iss_ids.specs.Set.{and_id, and_ids};
 
@@ -56,9 +56,10 @@ impl Ids {
         Ok(())
     }
 
-    /// Puts the identities of these requests in. After want of memory some of them may be in.
+    /// Puts the identities of these requests in. After want of memory those of the first few may be in, and no others.
     pub fn add_all(&mut self, requests: &[Request]) -> Result<(), NoMemory>
-        ensures { OnOk result (self.new ≡ and_ids self.old requests.now) }
+        ensures ok { OnOk result (self.new ≡ and_ids self.old requests.now) }
+        ensures err { OnErr result ((k : ℕ) × (self.new ≡ and_ids self.old (take k requests.now))) }
     {
         for request in requests {
             self.add(request.id)?;

@@ -1,5 +1,5 @@
 //! A reader and a writer of fields. Numbers of several bytes are big-endian.
-ghost use Rattle.std.specs.Prelude.{◌≡◌, ℕ, ◌+◌, ◌*◌, ◌/◌, ◌^◌, ◌<◌, ◌≤◌, [], ◌∷◌, ◌++◌, length, OnOk, IfOk, IfSome, IfNone, IsTrue, ◌↔◌, Err};
+ghost use Rattle.std.specs.Prelude.{◌≡◌, ◌≢◌, ℕ, ◌+◌, ◌*◌, ◌/◌, ◌^◌, ◌<◌, ◌≤◌, [], ◌∷◌, ◌++◌, length, OnOk, OnErr, IfOk, IfSome, IfNone, IsTrue, ◌↔◌, Err};
 ghost use Rattle.std.specs.Int.{w16, w32, w64, to_be_bytes};
 ghost use Rattle.iss_request.specs.Fields.{Reading, left, IsRead, IsUnreadable};
 ghost use Rattle.iss_request.specs.Parsing.{byte, number, block, digests};
@@ -134,6 +134,8 @@ impl<'a> Fields<'a> {
     pub fn read_u8(&mut self) -> Result<u8, DecodeError>
         ensures ok { IfOk result (λ b. IsRead byte self.old self.new b) }
         ensures bad { (at : ℕ) → result ≡ Err (DecodeError.BadField at) → IsUnreadable byte self.old at }
+        ensures still { OnErr result (self.new ≡ self.old) }
+        ensures enough { result ≢ Err DecodeError.NoMemory }
     {
         let missing = self.bad_field();
         match self.take_u8() {
@@ -146,6 +148,8 @@ impl<'a> Fields<'a> {
     pub fn read_u16(&mut self) -> Result<u16, DecodeError>
         ensures ok { IfOk result (λ n. IsRead (number w16) self.old self.new n) }
         ensures bad { (at : ℕ) → result ≡ Err (DecodeError.BadField at) → IsUnreadable (number w16) self.old at }
+        ensures still { OnErr result (self.new ≡ self.old) }
+        ensures enough { result ≢ Err DecodeError.NoMemory }
     {
         let missing = self.bad_field();
         match self.take_u16() {
@@ -158,6 +162,8 @@ impl<'a> Fields<'a> {
     pub fn read_u32(&mut self) -> Result<u32, DecodeError>
         ensures ok { IfOk result (λ n. IsRead (number w32) self.old self.new n) }
         ensures bad { (at : ℕ) → result ≡ Err (DecodeError.BadField at) → IsUnreadable (number w32) self.old at }
+        ensures still { OnErr result (self.new ≡ self.old) }
+        ensures enough { result ≢ Err DecodeError.NoMemory }
     {
         let missing = self.bad_field();
         match self.take_u32() {
@@ -170,6 +176,8 @@ impl<'a> Fields<'a> {
     pub fn read_u64(&mut self) -> Result<u64, DecodeError>
         ensures ok { IfOk result (λ n. IsRead (number w64) self.old self.new n) }
         ensures bad { (at : ℕ) → result ≡ Err (DecodeError.BadField at) → IsUnreadable (number w64) self.old at }
+        ensures still { OnErr result (self.new ≡ self.old) }
+        ensures enough { result ≢ Err DecodeError.NoMemory }
     {
         let missing = self.bad_field();
         match self.take_u64() {
@@ -182,6 +190,8 @@ impl<'a> Fields<'a> {
     pub fn read_bytes(&mut self, count: usize) -> Result<&'a [u8], DecodeError>
         ensures ok { IfOk result (λ bytes. IsRead (block count) self.old self.new bytes.now) }
         ensures bad { (at : ℕ) → result ≡ Err (DecodeError.BadField at) → IsUnreadable (block count) self.old at }
+        ensures still { OnErr result (self.new ≡ self.old) }
+        ensures enough { result ≢ Err DecodeError.NoMemory }
     {
         let missing = self.bad_field();
         match self.take_bytes(count) {
@@ -195,6 +205,8 @@ impl<'a> Fields<'a> {
         requires { count < 2 ^ 32 }
         ensures ok { IfOk result (λ bytes. IsRead (digests count) self.old self.new bytes.now) }
         ensures bad { (at : ℕ) → result ≡ Err (DecodeError.BadField at) → IsUnreadable (digests count) self.old at }
+        ensures still { OnErr result (self.new ≡ self.old) }
+        ensures enough { result ≢ Err DecodeError.NoMemory }
     {
         let missing = self.bad_digest();
         match self.take_bytes(32 * count) {
@@ -253,6 +265,7 @@ impl Writer {
     /// One byte.
     pub fn put_u8(&mut self, byte: u8) -> Result<(), NoMemory>
         ensures ok { OnOk result (self.new ≡ self.old ++ byte ∷ []) }
+        ensures err { OnErr result (self.new ≡ self.old) }
     {
         self.out.push(byte)?;
         Ok(())
@@ -261,6 +274,7 @@ impl Writer {
     /// A number of two bytes.
     pub fn put_u16(&mut self, number: u16) -> Result<(), NoMemory>
         ensures ok { OnOk result (self.new ≡ self.old ++ to_be_bytes w16 number) }
+        ensures err { OnErr result (self.new ≡ self.old) }
     {
         self.put_bytes(&number.to_be_bytes())
     }
@@ -268,6 +282,7 @@ impl Writer {
     /// A number of four bytes.
     pub fn put_u32(&mut self, number: u32) -> Result<(), NoMemory>
         ensures ok { OnOk result (self.new ≡ self.old ++ to_be_bytes w32 number) }
+        ensures err { OnErr result (self.new ≡ self.old) }
     {
         self.put_bytes(&number.to_be_bytes())
     }
@@ -275,6 +290,7 @@ impl Writer {
     /// A number of eight bytes.
     pub fn put_u64(&mut self, number: u64) -> Result<(), NoMemory>
         ensures ok { OnOk result (self.new ≡ self.old ++ to_be_bytes w64 number) }
+        ensures err { OnErr result (self.new ≡ self.old) }
     {
         self.put_bytes(&number.to_be_bytes())
     }
@@ -282,6 +298,7 @@ impl Writer {
     /// Bytes as they are.
     pub fn put_bytes(&mut self, bytes: &[u8]) -> Result<(), NoMemory>
         ensures ok { OnOk result (self.new ≡ self.old ++ bytes.now) }
+        ensures err { OnErr result (self.new ≡ self.old) }
     {
         self.out.extend_from_slice(bytes)?;
         Ok(())
