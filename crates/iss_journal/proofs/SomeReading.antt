@@ -1,20 +1,23 @@
 -- Each list of bytes has a reading.
-use Rattle.std.proofs.Common.{◌≡◌, ◌≢◌, inl, inr, ℕ, zero, suc, ◌+◌, ◌-◌, ◌<◌, ◌≤◌, List, [], ◌∷◌, ◌++◌, length, take, drop, get_or, refl, sym, ◌∙◌, ap, subst, arith, append_assoc, length-append}
+use Rattle.std.proofs.Common.{◌≡◌, inl, inr, ℕ, zero, suc, ◌+◌, ◌<◌, ◌≤◌, List, [], ◌∷◌, ◌++◌, length, take, drop, get_or, refl, sym, ◌∙◌, ap, subst, arith, append_assoc, length-append}
 use Rattle.std.proofs.lemmas.List.{take-append-drop, length-take-le}
-use Rattle.std.proofs.lemmas.List.Elements.{All-take, All-drop}
+use Rattle.std.proofs.lemmas.List.Elements.{All-take, All-drop, All-get_or}
 use Rattle.std.proofs.lemmas.Nat.{be_bytes_4}
-use Rattle.std.proofs.Math.Decide.{dec_le, ℕ_discrete}
+use Rattle.std.proofs.Math.Decide.{dec_le, dec_lt, ℕ_discrete}
+use Rattle.std.proofs.Math.ListN.{get_or-eq_default}
 use Rattle.std.specs.Int.{w32, to_be_bytes, from_be_bytes}
 use Rattle.std.specs.List.{All}
-use Rattle.iss_journal.specs.Frames.{frame, frames, max_entry, AreShort, IsWhole, ClosesAfter, BreaksAt, Reading, holds, damaged, Reads}
+use Rattle.iss_journal.specs.Frames.{frame, frames, max_entry, IsWhole, ClosesAfter, BreaksAt, Reading, holds, damaged, Reads}
 
 abbrev IsByte : ℕ → Type 0
 IsByte b = b < 256
 
 byte_at : (bytes : List ℕ) → All IsByte bytes → (i : ℕ) → get_or bytes i 0 < 256
-byte_at [] each i = omega arith
-byte_at (b ∷ bytes) each zero = each.0
-byte_at (b ∷ bytes) each (suc i) = byte_at bytes each.1 i
+byte_at bytes each i = within (dec_lt i (length bytes))
+  where
+    within : Dec (i < length bytes) → get_or bytes i 0 < 256
+    within (yes here) = All-get_or IsByte bytes i 0 here each
+    within (no behind) = omega (arith, get_or-eq_default bytes 0 {n = i} (omega (arith, behind)))
 
 -- a frame, and what stands behind it
 record Framed (rest : List ℕ) : Type 0 where
@@ -43,7 +46,7 @@ framed rest bytes whole =
       entry = entry;
       more = more;
       is = sym (append_assoc (1 ∷ to_be_bytes w32 (length entry)) entry more ∙ ap (λ (n : ℕ). 1 ∷ (to_be_bytes w32 n ++ (entry ++ more))) sized
-        ∙ ap (λ (l : List ℕ). 1 ∷ (l ++ (entry ++ more))) spelled ∙ ap (λ (l : List ℕ). 1 ∷ (take 4 rest ++ l)) halves ∙ ap (λ (l : List ℕ). 1 ∷ l) parts);
+          ∙ ap (λ (l : List ℕ). 1 ∷ (l ++ (entry ++ more))) spelled ∙ ap (λ (l : List ℕ). 1 ∷ (take 4 rest ++ l)) halves ∙ ap (λ (l : List ℕ). 1 ∷ l) parts);
       short = omega (arith, sized, whole.1);
       some = omega (arith, whole.2, behind, sized, whole_length);
       fewer = omega (arith, behind, whole_length);
@@ -83,17 +86,17 @@ dec_whole rest = all_three (dec_le 4 (length rest)) (dec_le (from_be_bytes w32 (
 
 at_gate : (gate : ℕ) (rest : List ℕ) → Dec (gate ≡ 1) → Dec (IsWhole rest) → All IsByte rest → ((more : List ℕ) → length more ≤ length rest → 1 ≤ length more → All IsByte more → Found more) → Found (gate ∷ rest)
 at_gate gate rest (no closed) whole bytes found = closes [] (record { gate = gate; rest = rest; is = refl; closed = closed; short = tt })
-at_gate gate rest (yes open) (no broken) bytes found =
-    subst Found (ap (λ (g : ℕ). g ∷ rest) (sym open)) (breaks 0 (record { entries = []; rest = rest; is = refl; offset = refl; short = tt; broken = broken }))
-at_gate gate rest (yes open) (yes whole) bytes found =
+at_gate gate rest (yes opened) (no broken) bytes found =
+    subst Found (ap (λ (g : ℕ). g ∷ rest) (sym opened)) (breaks 0 (record { entries = []; rest = rest; is = refl; offset = refl; short = tt; broken = broken }))
+at_gate gate rest (yes opened) (yes whole) bytes found =
     let f = framed rest bytes whole in
-    subst Found (sym f.is ∙ ap (λ (g : ℕ). g ∷ rest) (sym open)) (behind_entry f.entry f.more f.short (found f.more f.fewer f.some f.bytes))
+    subst Found (sym f.is ∙ ap (λ (g : ℕ). g ∷ rest) (sym opened)) (behind_entry f.entry f.more f.short (found f.more f.fewer f.some f.bytes))
 
 found_from : (bound : ℕ) (file : List ℕ) → length file ≤ bound → 1 ≤ length file → All IsByte file → Found file
 found_from bound [] few some bytes = absurd (omega (arith, some))
 found_from zero (gate ∷ rest) few some bytes = absurd (omega (arith, few))
 found_from (suc bound) (gate ∷ rest) few some bytes =
-    at_gate gate rest (ℕ_discrete gate 1) (dec_whole rest) bytes.1 (λ more fewer some_more each. found_from bound more (omega (arith, few, fewer)) some_more each)
+    at_gate gate rest (ℕ_discrete gate 1) (dec_whole rest) (All-drop IsByte 1 (gate ∷ rest) bytes) (λ more fewer some_more each. found_from bound more (omega (arith, few, fewer)) some_more each)
 
 reading_of : (file : List ℕ) → Dec (length file ≤ 1) → All IsByte file → (r : Reading) × Reads file r
 reading_of file (yes brief) bytes = (holds [], inl (brief, refl))
