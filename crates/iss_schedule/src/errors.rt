@@ -1,6 +1,6 @@
 //! Why a text is no schedule.
 use iss_request::errors::NoMemory as WantOfMemory;
-use std::alloc::{AllocError, AllocFailed};
+use std::alloc::AllocError;
 
 /// What is wrong with a line. Of several reasons the one that stands first here counts, but for `Size`, which counts first.
 #[derive(Clone, Copy, Debug, PartialEq, Eq)]
@@ -46,17 +46,6 @@ impl From<AllocError> for ReadError {
     ghost from_gives = { λ _ e. e ≡ NoMemory };
 
     fn from(_error: AllocError) -> ReadError {
-        ReadError::NoMemory
-    }
-}
-
-impl<T: Drop> From<AllocFailed<T>> for ReadError {
-    ghost use Rattle.std.specs.Prelude.{◌≡◌};
-    ghost use Rattle.iss_schedule.specs.declared.errors.ReadError.TheVariants.{NoMemory};
-
-    ghost from_gives = { λ _ e. e ≡ NoMemory };
-
-    fn from(_error: AllocFailed<T>) -> ReadError {
         ReadError::NoMemory
     }
 }

@@ -1,6 +1,5 @@
 //! Reading a schedule's text.
-ghost use Rattle.std.specs.Prelude.{◌≡◌, ◌↔◌, ◌≤◌, ◌<◌, ◌+◌, ◌-◌, ◌^◌, ◌++◌, ◌==◌, [], ℕ, List, IsTrue, IfOk, IfErr, OnOk, length, map};
-ghost use Rattle.std.specs.List.{filter};
+ghost use Rattle.std.specs.Prelude.{◌≡◌, ◌↔◌, ◌≤◌, ◌<◌, ◌+◌, ◌-◌, ◌^◌, ◌++◌, [], ℕ, List, IsTrue, IfOk, IfErr, OnOk, length, map};
 ghost use Rattle.iss_request.specs.Setup.{IsGoodSetup};
 ghost use Rattle.iss_schedule.specs.BadLines.{IsRefused, IsNoText};
 ghost use Rattle.iss_schedule.specs.Events.{spell_event, IsInRange, AreInRange};
@@ -26,13 +25,6 @@ pub const MOST_BYTES: usize = 16_777_216;
 /// The most events that a schedule may have.
 pub const MOST_EVENTS: usize = 1_048_576;
 
-// How many line feeds stand in a text.
-fn line_feeds(text: &[u8]) -> usize
-    ensures { result ≡ length (filter (λ b. b == 10) text.now) }
-{
-    text.iter().filter(|b| **b == b'\n').count()
-}
-
 // Reads the lines behind the header, each an event.
 fn read_events(alloc: Global, setup: &Setup, lines: &mut Lines) -> Result<Row<Event>, ReadError>
     requires relay { IsRelay setup.now }
@@ -42,9 +34,7 @@ fn read_events(alloc: Global, setup: &Setup, lines: &mut Lines) -> Result<Row<Ev
     ensures few { IfOk result (λ es. length es ≤ most_events) }
     ensures bad { IfErr result (IsEventsRefused setup.now lines.old.rest) }
 {
-    // Room for all of them at once, so that none is moved.
-    let room = line_feeds(lines.rest()).min(MOST_EVENTS);
-    let mut events = Vec::with_capacity(alloc, room)?;
+    let mut events = Row::new(alloc);
     'lines: while !lines.is_done() {
         if events.len() >= MOST_EVENTS {
             return Err(ReadError::BadLine {
@@ -55,7 +45,7 @@ fn read_events(alloc: Global, setup: &Setup, lines: &mut Lines) -> Result<Row<Ev
         let event = read_event(alloc, setup, lines)?;
         events.push(event)?;
     }
-    Ok(Row::of(events))
+    Ok(events)
 }
 
 // Reads the next line, an event.

@@ -6,10 +6,10 @@ use Rattle.iss_schedule.proofs.reading.read_events.Given as goal
 
 abbrev pub invariant-lines : goal.invariant-lines
 invariant-lines l = record {
-  text : l.initial.lines.rest ≡ ended (map spell_event l.events.items) ++ l.lines.rest;
-  range : AreInRange l.setup l.events.items;
-  few : length l.events.items ≤ most_events;
-  read : l.lines.read ≡ 11 + length l.events.items;
+  text : l.initial.lines.rest ≡ ended (map spell_event l.events) ++ l.lines.rest;
+  range : AreInRange l.setup l.events;
+  few : length l.events ≤ most_events;
+  read : l.lines.read ≡ 11 + length l.events;
 }
 
 abbrev pub decreases-lines : goal.decreases-lines
