@@ -1,12 +1,12 @@
 -- Entries that lie in the bytes of a file.
-use Rattle.std.proofs.Common.{◌≡◌, ◌≢◌, inl, inr, lit<, length-drop, length-take-le, ℕ, zero, suc, ◌+◌, ◌-◌, ◌<◌, ◌≤◌, List, [], ◌∷◌, ◌++◌, length, take, drop, map, get_or, refl, sym, ◌∙◌, ap, subst, arith, append_assoc, length-append, length-take, take-append-drop}
-use Rattle.std.proofs.lemmas.List.{take_at, drop_at, drop-drop, append-nil, take_all, length-map, get_or_read, get_or_default, get_or-take, get_or-drop, get_or_past, drop_more}
+use Rattle.std.proofs.Common.{◌≡◌, ◌≢◌, inl, inr, lit<, length-drop, length-take-le, ℕ, zero, suc, ◌+◌, ◌-◌, ◌<◌, ◌≤◌, List, [], ◌∷◌, ◌++◌, length, take, drop, get_or, refl, sym, ◌∙◌, ap, subst, arith, append_assoc, length-append, length-take, take-append-drop}
+use Rattle.std.proofs.lemmas.List.{take_at, drop_at, drop-drop, append-nil, length-map, get_or_default, get_or-take, get_or-drop, get_or_past, drop_more}
 use Rattle.std.proofs.lemmas.Bool.{cases_lt}
 use Rattle.std.proofs.lemmas.Nat.{be_bytes_4}
 use Rattle.std.specs.Int.{w32, to_be_bytes, from_be_bytes}
 use Rattle.iss_journal.specs.Frames.{frame, frames, max_entry, AreShort, IsWhole, ClosesAfter}
 use Rattle.iss_journal.specs.Views.{offsets, entry_at, entries_at, IsBook}
-use Rattle.iss_journal.proofs.FrameLemmas.{length-frame, entries_back, frames-push, offsets-push, short-push}
+use Rattle.iss_journal.proofs.FrameLemmas.{entries_back, frames-push, offsets-push, short-push}
 
 -- the entries that were written are those that are found, and the book is right
 pub record Rebuilt (bytes gates : List ℕ) (last : ℕ) (entries : List (List ℕ)) : Type 0 where

@@ -1,10 +1,10 @@
 -- What a crash leaves at each step of an append.
-use Rattle.std.proofs.Common.{◌≡◌, ◌≢◌, ◌⊎◌, inl, inr, ⊎_elim, ℕ, zero, suc, ◌+◌, ◌-◌, ◌<◌, ◌≤◌, min, max, Bool, true, false, List, [], ◌∷◌, ◌++◌, length, take, drop, get_or, set, refl, sym, ◌∙◌, ap, subst, arith, append_assoc, length-append, length-take-le, take-append-drop, get_or-set_same, get_or-set_other, length-set}
+use Rattle.std.proofs.Common.{◌≡◌, ◌≢◌, inl, inr, ℕ, ◌+◌, ◌<◌, ◌≤◌, false, List, [], ◌∷◌, ◌++◌, length, take, drop, get_or, set, refl, sym, ◌∙◌, ap, arith, append_assoc, length-append, length-take-le, take-append-drop, get_or-set_same, get_or-set_other, length-set}
 use Rattle.std.proofs.lemmas.List.{take_at, drop_at, drop-drop, append-nil, take_all, drop_all, get_or-take, ext_get_or, set_at}
 use Rattle.std.proofs.lemmas.Bool.{cases_lt, cases_eq, lt-leb, le-ltb, or_from, and_left, and_right}
 use Rattle.std.specs.Int.{w32, to_be_bytes}
-use Rattle.iss_disk.specs.File.{File, Image, is_written, settled, overwritten, wrote, synced}
-use Rattle.iss_journal.specs.Frames.{frame, frames, max_entry, AreShort, ClosesAfter, Reads, holds}
+use Rattle.iss_disk.specs.File.{Image, settled, overwritten, wrote, synced}
+use Rattle.iss_journal.specs.Frames.{frame, frames, max_entry, AreShort, Reads, holds}
 use Rattle.iss_journal.specs.Promises.{OnlyLeaves, HoldsWithOrWithout, RestsOn}
 use Rattle.iss_journal.proofs.FrameLemmas.{frames-push, short-push}
 

@@ -1,9 +1,9 @@
 -- Frames of entries: their lengths, and that they are read back.
-use Rattle.std.proofs.Common.{◌≡◌, ℕ, zero, suc, ◌+◌, ◌-◌, ◌<◌, ◌≤◌, ◌^◌, List, [], ◌∷◌, ◌++◌, length, take, drop, map, refl, sym, ◌∙◌, ap, subst, arith, append_assoc, length-append}
-use Rattle.std.proofs.lemmas.List.{take_at, drop_at, drop-drop, take-append-le, append-nil}
+use Rattle.std.proofs.Common.{◌≡◌, ℕ, ◌+◌, ◌≤◌, List, [], ◌∷◌, ◌++◌, length, take, drop, refl, sym, ◌∙◌, ap, arith, append_assoc, length-append}
+use Rattle.std.proofs.lemmas.List.{take_at, drop_at, drop-drop, append-nil}
 use Rattle.std.proofs.lemmas.Nat.{from_be_bytes-to_be_bytes_4}
 use Rattle.std.specs.Int.{w32, to_be_bytes, from_be_bytes}
-use Rattle.iss_journal.specs.Frames.{frame, frames, max_entry, AreShort, IsWhole}
+use Rattle.iss_journal.specs.Frames.{frame, frames, max_entry, AreShort}
 use Rattle.iss_journal.specs.Views.{offsets, entry_at, entries_at}
 
 pub length-frame : (entry : List ℕ) → length (frame entry) ≡ 5 + length entry

@@ -1,10 +1,9 @@
 -- Each file has one reading.
-use Rattle.std.proofs.Common.{◌≡◌, ◌≢◌, ◌⊎◌, inl, inr, ℕ, zero, suc, ◌+◌, ◌-◌, ◌<◌, ◌≤◌, ◌^◌, List, [], ◌∷◌, ◌++◌, length, take, drop, get_or, refl, sym, ◌∙◌, ap, subst, arith, append_assoc, length-append}
-use Rattle.std.proofs.lemmas.List.{take_at, drop_at, append-nil}
-use Rattle.std.proofs.lemmas.Nat.{from_be_bytes-to_be_bytes_4}
+use Rattle.std.proofs.Common.{◌≡◌, ◌≢◌, inl, inr, ℕ, ◌≤◌, List, [], ◌∷◌, ◌++◌, length, take, drop, get_or, refl, sym, ◌∙◌, ap, subst, arith, append_assoc, length-append}
+use Rattle.std.proofs.lemmas.List.{take_at, drop_at}
 use Rattle.std.specs.Int.{w32, to_be_bytes, from_be_bytes}
-use Rattle.iss_journal.specs.Frames.{frame, frames, max_entry, AreShort, IsWhole, ClosesAfter, BreaksAt, Reading, holds, damaged, Reads}
-use Rattle.iss_journal.proofs.FrameLemmas.{length-frame, size_back}
+use Rattle.iss_journal.specs.Frames.{frame, frames, max_entry, AreShort, IsWhole, Reading, holds, damaged, Reads}
+use Rattle.iss_journal.proofs.FrameLemmas.{size_back}
 
 -- No whole frame, with something behind it, stands at the front of these bytes.
 pub Ends : List ℕ → Type 0

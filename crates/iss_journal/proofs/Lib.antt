@@ -5,3 +5,4 @@ mod Crash
 mod Steps
 mod Resting
 mod Reading
+mod SomeReading

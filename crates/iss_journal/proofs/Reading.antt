@@ -1,7 +1,7 @@
 -- A file that is read and brought to rest reads as before at each moment.
-use Rattle.std.proofs.Common.{◌≡◌, inl, inr, ℕ, ◌+◌, ◌<◌, ◌≤◌, true, false, List, [], ◌∷◌, ◌++◌, length, refl, sym, ◌∙◌, ap, subst, arith, append_assoc, vec_len, vec_capacity}
+use Rattle.std.proofs.Common.{◌≡◌, inl, inr, ℕ, ◌<◌, ◌≤◌, true, false, List, [], ◌∷◌, ◌++◌, length, refl, sym, ◌∙◌, ap, subst, arith, append_assoc, vec_len, vec_capacity}
 use Rattle.iss_disk.specs.File.{File, Image, settled, synced}
-use Rattle.iss_disk.specs.Calls.{IfTold, EachState, IsBetween, Moves, Stays, Room, Takes}
+use Rattle.iss_disk.specs.Calls.{IfTold, EachState, Moves, Stays, Room, Takes}
 use Rattle.iss_journal.specs.Frames.{frames, ClosesAfter, Reading, Reads, holds}
 use Rattle.iss_journal.specs.Promises.{OnlyLeaves, LeavesOnly, LeavesReading, LosesNothing, HoldsFirst, HoldsWithOrWithout, RestsOn}
 use Rattle.iss_journal.proofs.Crash.{only_settled, reads_closed}

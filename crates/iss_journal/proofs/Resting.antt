@@ -1,9 +1,9 @@
 -- What a crash leaves while the end of a file is cut off, and while an empty journal is made.
-use Rattle.std.proofs.Common.{◌≡◌, ◌≢◌, inl, inr, ℕ, zero, suc, ◌+◌, ◌-◌, ◌<◌, ◌≤◌, min, max, Bool, true, false, List, [], ◌∷◌, ◌++◌, length, take, drop, get_or, refl, sym, ◌∙◌, ap, subst, arith, append_assoc, length-append}
-use Rattle.std.proofs.lemmas.List.{take_at, append-nil, get_or_append_left, nil_from_length}
-use Rattle.iss_disk.specs.File.{File, Image, settled, wrote, shortened, synced}
+use Rattle.std.proofs.Common.{◌≡◌, inl, ℕ, ◌+◌, ◌<◌, ◌≤◌, Bool, true, List, [], ◌∷◌, ◌++◌, length, take, drop, get_or, refl, sym, ◌∙◌, ap, subst, arith, append_assoc, length-append}
+use Rattle.std.proofs.lemmas.List.{take_at, get_or_append_left, nil_from_length}
+use Rattle.iss_disk.specs.File.{File, settled, wrote, shortened, synced}
 use Rattle.iss_disk.specs.Calls.{IfTold, Moves}
-use Rattle.iss_journal.specs.Frames.{frames, AreShort, ClosesAfter, Reads, holds}
+use Rattle.iss_journal.specs.Frames.{frames, ClosesAfter, Reads, holds}
 use Rattle.iss_journal.specs.Promises.{OnlyLeaves, LeavesOnly, RestsOn}
 use Rattle.iss_journal.proofs.Crash.{begins_with, only_settled, reads_closed}
 use Rattle.iss_journal.proofs.Steps.{goes_on, untold}

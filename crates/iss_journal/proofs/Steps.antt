@@ -1,10 +1,10 @@
 -- How runs of device calls go on.
-use Rattle.std.proofs.Common.{◌≡◌, ◌≢◌, ◌⊎◌, inl, inr, ⊎_elim, ℕ, zero, suc, ◌+◌, ◌-◌, ◌<◌, ◌≤◌, Bool, true, false, Option, Some, None, List, [], ◌∷◌, ◌++◌, length, drop, refl, sym, ◌∙◌, ap, subst, arith, append_assoc}
+use Rattle.std.proofs.Common.{◌≡◌, inl, inr, ⊎_elim, ℕ, zero, suc, ◌+◌, ◌<◌, ◌≤◌, Bool, true, false, Option, Some, None, List, [], ◌∷◌, ◌++◌, length, drop, refl, sym, ◌∙◌, ap, subst, arith, append_assoc}
 use Rattle.std.proofs.lemmas.List.{drop_at, drop-drop}
 use Rattle.std.proofs.lemmas.Bool.{true≢false, false≢true}
-use Rattle.iss_disk.specs.File.{File, Image, settled, overwritten, wrote, shortened, synced}
-use Rattle.iss_disk.specs.Calls.{EachState, IfTold, IsBetween, Moves, StaysHere, Stays, Rose, HasCause, Passes, outcome, next, AtOutcome, Runs}
-use Rattle.iss_journal.specs.Frames.{frame, frames, max_entry, AreShort, Reads, holds}
+use Rattle.iss_disk.specs.File.{File, Image, settled, wrote, synced}
+use Rattle.iss_disk.specs.Calls.{EachState, IfTold, IsBetween, Moves, StaysHere, Stays, HasCause, Passes, outcome, next, AtOutcome, Runs}
+use Rattle.iss_journal.specs.Frames.{frame, frames, max_entry, Reads, holds}
 use Rattle.iss_journal.specs.Promises.{OnlyLeaves, LeavesOnly, HoldsWithOrWithout, RestsOn}
 use Rattle.iss_journal.proofs.Crash as crash
 

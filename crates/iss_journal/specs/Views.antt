@@ -1,5 +1,5 @@
 -- Where entries lie in the bytes of a file.
-use Rattle.std.specs.Prelude.{◌≡◌, ℕ, ◌+◌, List, [], ◌∷◌, ◌++◌, length, take, drop, map}
+use Rattle.std.specs.Prelude.{◌≡◌, ℕ, ◌+◌, List, [], ◌∷◌, length, take, drop, map}
 use Rattle.std.specs.Int.{w32, from_be_bytes}
 use Rattle.iss_journal.specs.Frames.{frame, frames, AreShort}
 

@@ -156,7 +156,7 @@ impl<D: Disk> Journal<D> {
 
 impl<D: Fused> Journal<D> {
     ghost use Rattle.iss_disk.specs.Calls.{Stays, Restarts, up_to, script};
-    ghost use Rattle.iss_journal.specs.Sound.{disk_of, entries_of, is_attached, IsSound};
+    ghost use Rattle.iss_journal.specs.Sound.{disk_of, entries_of, is_attached, reserved_of, IsSound};
 
     /// From now on that many calls of the disk pass, and all others fail.
     pub fn fuse(&mut self, calls: u64)
@@ -164,6 +164,7 @@ impl<D: Fused> Journal<D> {
         ensures passes { D.passes (disk_of self.new) ≡ up_to calls }
         ensures entries { entries_of self.new ≡ entries_of self.old }
         ensures attached { is_attached self.new ≡ is_attached self.old }
+        ensures reserved { reserved_of self.new ≡ reserved_of self.old }
         ensures same { Stays (D.current (disk_of self.old)) (D.current (disk_of self.new)) (D.files (disk_of self.old)) (D.files (disk_of self.new)) }
         ensures faults { D.faults (disk_of self.new) ≡ D.faults (disk_of self.old) }
         ensures sound { IsSound D.history D.room self.new }

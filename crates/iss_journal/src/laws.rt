@@ -1,8 +1,10 @@
 // Laws of the grammar of a journal's file.
-ghost use Rattle.std.specs.Prelude.{◌≡◌, ℕ, List};
+ghost use Rattle.std.specs.Prelude.{◌≡◌, ◌<◌, ℕ, List};
+ghost use Rattle.std.specs.List.{All};
 ghost use Rattle.iss_journal.specs.Frames.{Reading, Reads};
 
-/// No file has two readings: it is damaged at one offset, or holds one list of entries.
+/// Every list of bytes has exactly one reading: it holds one list of entries, or is damaged at one offset.
 pub fn a_file_has_one_reading()
-    ensures { (file : List ℕ) (r s : Reading) → Reads file r → Reads file s → r ≡ s }
+    ensures some { (file : List ℕ) → All (λ b. b < 256) file → (r : Reading) × Reads file r }
+    ensures one { (file : List ℕ) (r s : Reading) → Reads file r → Reads file s → r ≡ s }
 {}

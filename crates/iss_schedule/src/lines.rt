@@ -1,5 +1,5 @@
 //! The lines of a text, read one after another.
-ghost use Rattle.std.specs.Prelude.{◌≡◌, ◌↔◌, ◌<◌, ◌+◌, ◌^◌, ◌-◌, [], IsTrue, IfOk, IfErr};
+ghost use Rattle.std.specs.Prelude.{◌≡◌, ◌↔◌, ◌<◌, ◌+◌, ◌^◌, ◌-◌, [], IsTrue, IfOk, IfErr, OnErr};
 ghost use Rattle.iss_schedule.specs.Places.{Place, GoesPast};
 ghost use Rattle.iss_schedule.specs.Words.{Lacks};
 
@@ -61,6 +61,7 @@ impl<'a> Lines<'a> {
         ensures ok { IfOk result (λ line. GoesPast line.now self.old self.new) }
         ensures cut { IfErr result (λ why. why ≡ Why.Cut) }
         ensures unended { IfErr result (λ _. Lacks 10 self.old.rest) }
+        ensures kept { OnErr result (self.new.rest ≡ self.old.rest) }
     {
         self.read += 1;
         match cut_at(self.rest, b'\n') {

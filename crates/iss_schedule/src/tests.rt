@@ -1,5 +1,5 @@
 //! Texts from outside: bad lines, and worked schedules read and written again.
-use crate::{Event, ReadError, Why, read, write};
+use crate::{Event, MOST_BYTES, MOST_EVENTS, ReadError, Why, read, write};
 use std::alloc::{AllocError, Global};
 use std::test::Fail;
 
@@ -155,5 +155,72 @@ fn a_schedule_holds_what_its_text_says(rt: HostRuntime) -> Result<(), Fail> {
         _ => false,
     };
     assert!(rt; told);
+    Ok(())
+}
+
+// A text of so many bytes: the header, lines of 16 bytes, and a last line that fills it up.
+fn text_of_bytes(alloc: Global, bytes: usize) -> Result<String, AllocError> {
+    let mut text = String::from_str(alloc, HEADER)?;
+    let lines = bytes.saturating_sub(HEADER.len()).saturating_sub(10) / 16;
+    for _ in 0..lines {
+        text.push_str("deliver 1234567\n")?;
+    }
+    text.push_str("deliver ")?;
+    for _ in text.len()..bytes.saturating_sub(1) {
+        text.push_str("1")?;
+    }
+    text.push_str("\n")?;
+    Ok(text)
+}
+
+// A text of so many events.
+fn text_of_events(alloc: Global, events: usize) -> Result<String, AllocError> {
+    let mut text = String::from_str(alloc, HEADER)?;
+    for _ in 0..events {
+        text.push_str("pump\n")?;
+    }
+    Ok(text)
+}
+
+#[test]
+fn a_text_has_at_most_so_many_bytes(rt: HostRuntime) -> Result<(), Fail> {
+    let alloc = rt.alloc();
+    let most = text_of_bytes(alloc, MOST_BYTES)?;
+    assert!(rt; most.len() == 16_777_216);
+    assert!(rt; read(alloc, most.as_bytes()).is_ok());
+    let more = text_of_bytes(alloc, MOST_BYTES + 1)?;
+    assert!(rt; more.len() == 16_777_217);
+    assert!(rt;
+        matches!(
+            read(alloc, more.as_bytes()),
+            Err(ReadError::BadLine {
+                line: 0,
+                why: Why::Size
+            })
+        )
+    );
+    Ok(())
+}
+
+#[test]
+fn a_text_has_at_most_so_many_events(rt: HostRuntime) -> Result<(), Fail> {
+    let alloc = rt.alloc();
+    let mut text = text_of_events(alloc, MOST_EVENTS)?;
+    let Ok(most) = read(alloc, text.as_bytes()) else {
+        return Err(Fail::new("refused"));
+    };
+    assert!(rt; most.events.len() == 1_048_576);
+    for more in ["pump", "\n"] {
+        text.push_str(more)?;
+        assert!(rt;
+            matches!(
+                read(alloc, text.as_bytes()),
+                Err(ReadError::BadLine {
+                    line: 1_048_588,
+                    why: Why::Size
+                })
+            )
+        );
+    }
     Ok(())
 }

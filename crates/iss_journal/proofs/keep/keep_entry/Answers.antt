@@ -1,9 +1,8 @@
-use Rattle.std.proofs.Common.{rules, ◌≡◌, ◌+◌, ◌∙◌, [], ◌∷◌, true, false, length, refl, ap, ℕ}
-use Rattle.iss_disk.specs.File.{wrote, synced}
+use Rattle.std.proofs.Common.{rules, ◌+◌, [], ◌∷◌, true, false, length, refl, ap, ℕ}
+use Rattle.iss_disk.specs.File.{synced}
 use Rattle.iss_disk.specs.Calls.{IfTold, Moves}
 use Rattle.iss_journal.specs.Frames.{frames, Reads, holds}
 use Rattle.iss_journal.specs.EntryViews.{entries_in}
-use Rattle.iss_journal.specs.Promises.{RestsOn}
 use Rattle.iss_journal.proofs.Crash.{body}
 use Rattle.iss_journal.proofs.Steps.{exit1, exit2, exit3, exit4, finish, is_body, same_write}
 use Rattle.iss_journal.proofs.keep.keep_entry.Goals as goal

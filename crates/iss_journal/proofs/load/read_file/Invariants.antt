@@ -1,5 +1,5 @@
 use Rattle.std.proofs.Common.{◌≡◌, ◌≤◌, ◌-◌, length, take}
-use Rattle.iss_disk.specs.Calls.{IfTold, Stays, Takes, HasCause, Passes}
+use Rattle.iss_disk.specs.Calls.{IfTold, Stays, Takes}
 use Rattle.iss_journal.specs.Promises.{Works}
 use Rattle.iss_journal.proofs.load.read_file.Given as goal
 

@@ -1,9 +1,8 @@
 use Rattle.std.proofs.Common.{rules, ◌≡◌, ◌+◌, ◌≤◌, ℕ, true, false, length, ap, subst}
 use Rattle.iss_disk.specs.File.{shortened}
-use Rattle.iss_disk.specs.Calls.{IfTold, Moves}
+use Rattle.iss_disk.specs.Calls.{Moves}
 use Rattle.iss_journal.specs.Frames.{frames}
 use Rattle.iss_journal.specs.EntryViews.{entries_in}
-use Rattle.iss_journal.specs.Promises.{RestsOn}
 use Rattle.iss_journal.proofs.Resting.{cutting, cut_synced, cut_done, nothing_done, rests_already}
 use Rattle.iss_journal.proofs.settle.cut_tail.Goals as goal
 

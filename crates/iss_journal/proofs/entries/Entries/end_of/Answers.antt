@@ -1,4 +1,4 @@
-use Rattle.std.proofs.Common.{rules, ◌≡◌, ◌+◌, ◌<◌, length, arith}
+use Rattle.std.proofs.Common.{◌+◌, ◌<◌, length, arith}
 use Rattle.std.proofs.lemmas.List.{length-map}
 use Rattle.iss_journal.specs.Views.{entry_at}
 use Rattle.iss_journal.specs.EntryViews.{entries_in}

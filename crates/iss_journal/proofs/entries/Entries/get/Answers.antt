@@ -1,4 +1,4 @@
-use Rattle.std.proofs.Common.{rules, ◌≡◌, ◌+◌, ◌-◌, ◌≤◌, ◌<◌, ℕ, List, length, take, drop, ap, ◌∙◌, arith}
+use Rattle.std.proofs.Common.{rules, ◌≡◌, ◌+◌, ◌-◌, ◌≤◌, ◌<◌, ℕ, List, length, take, drop, ap, ◌∙◌}
 use Rattle.iss_journal.specs.EntryViews.{entries_in}
 use Rattle.iss_journal.specs.declared.entries.Entries.{Entries}
 use Rattle.iss_journal.specs.Frames.{frames}

@@ -1,9 +1,9 @@
-use Rattle.std.proofs.Common.{rules, ◌≡◌, ◌∷◌, ◌∙◌, sym, ap, subst, true, false, List, ℕ, IsErrOf}
-use Rattle.iss_disk.specs.File.{File, Image, synced}
-use Rattle.iss_disk.specs.Calls.{IfTold, Moves}
-use Rattle.iss_journal.specs.Frames.{Reads, holds, damaged}
+use Rattle.std.proofs.Common.{rules, ◌≡◌, ◌∷◌, ◌∙◌, sym, subst, List, IsErrOf}
+use Rattle.iss_disk.specs.File.{File, Image}
+use Rattle.iss_disk.specs.Calls.{IfTold}
+use Rattle.iss_journal.specs.Frames.{Reads, damaged}
 use Rattle.iss_journal.specs.EntryViews.{entries_in}
-use Rattle.iss_journal.specs.Promises.{LosesNothing, OnlyLeaves}
+use Rattle.iss_journal.specs.Promises.{LosesNothing}
 use Rattle.iss_journal.specs.declared.errors.AttachError.TheVariants.{Damaged}
 use Rattle.iss_journal.proofs.Reading.{loses_start, rests_durable, history_same, sync_fails, sync_then, before_sync}
 use Rattle.iss_journal.proofs.journal.Journal.attach.Goals as goal

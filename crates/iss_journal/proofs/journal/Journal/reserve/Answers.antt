@@ -1,4 +1,4 @@
-use Rattle.std.proofs.Common.{◌≡◌, sym, subst, List, ℕ}
+use Rattle.std.proofs.Common.{sym, subst, List, ℕ}
 use Rattle.iss_disk.specs.Calls.{IfTold}
 use Rattle.iss_journal.specs.Promises.{RestsOn}
 use Rattle.iss_journal.proofs.Reading.{room_more, takes_none}
