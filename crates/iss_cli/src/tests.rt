@@ -1,4 +1,9 @@
-//! The top call over sources and sinks that fail.
+//! The top call over sources and sinks that fail, and the calls below it, each of which some module has to be given.
+mod nodes;
+mod played;
+mod replays;
+mod worlds;
+
 use crate::{FailingSink, FailingSource, MemorySink, MemorySource, Script, run};
 use std::alloc::{AllocError, Global};
 use std::test::Fail;
