@@ -1,13 +1,12 @@
 -- The answer to an input that was read up to a bound, and to words.
-use Rattle.std.proofs.Common.{◌∙◌, ◌≡◌, ◌⊎◌, inl, inr, ℕ, suc, ◌+◌, ◌<◌, ◌≤◌, zero, Bool, true, false, ◌↔◌, Option, None, Some, List, [], ◌∷◌, length, take, map, codes, refl, sym, ap, subst, arith, string_bytes, get_or}
+use Rattle.std.proofs.Common.{◌∙◌, ◌≡◌, ◌⊎◌, inl, inr, ℕ, ◌<◌, ◌≤◌, Bool, true, false, ◌↔◌, Option, None, Some, List, [], ◌∷◌, length, take, map, codes, refl, sym, ap, subst, arith, string_bytes, get_or}
 use Rattle.std.specs.Bool.{IsTrue}
 use Rattle.std.specs.declared.string.String.{String}
 use Rattle.std.proofs.lemmas.Bool.Decides.{leb_tells}
 use Rattle.std.proofs.lemmas.List.{take_all, length-take}
-use Rattle.iss_schedule.specs.BadLines.{IsBadLine}
-use Rattle.iss_schedule.specs.Schedules.{IsSchedule, most_bytes}
+use Rattle.iss_schedule.specs.Schedules.{most_bytes}
 use Rattle.iss_cli.specs.declared.answers.Answer.{Answer}
-use Rattle.iss_cli.specs.Answers.{AskReplay, Answers, IsAnswer, IsAnswered, refused_words}
+use Rattle.iss_cli.specs.Answers.{AskReplay, IsAnswer, IsAnswered, refused_words}
 use Rattle.iss_cli.specs.Ends.{IfTold}
 
 some_input : (left : Option (List ℕ)) → (input : List ℕ) × IfTold left (λ bytes. input ≡ bytes)

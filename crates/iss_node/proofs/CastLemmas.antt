@@ -1,14 +1,14 @@
 -- How a node casts, and how it knows a request.
 use Rattle.std.specs.Prelude.{is_some}
-use Rattle.std.proofs.Common.{slice_get, inl, inr, arith, ◌≡◌, ◌≢◌, ◌⊎◌, ℕ, zero, suc, ◌+◌, ◌-◌, ◌<◌, ◌≤◌, Bool, true, false, List, [], ◌∷◌, ◌++◌, cond, ◌==◌, ◌||◌, ◌&&◌, not, Option, Some, None, Result, Ok, Err, IfOk, length, drop, get_or, refl, sym, ap, ◌∙◌, subst, if◌then◌else◌, add-one, drop-cons}
+use Rattle.std.proofs.Common.{slice_get, inl, inr, arith, ◌≡◌, ℕ, zero, suc, ◌+◌, ◌<◌, Bool, true, false, List, [], ◌∷◌, ◌++◌, cond, ◌==◌, ◌||◌, ◌&&◌, not, Option, Some, None, Result, Ok, Err, IfOk, length, drop, get_or, refl, sym, ap, ◌∙◌, subst, if◌then◌else◌, add-one, drop-cons}
 use Rattle.std.specs.List.{list_any}
 use Rattle.iss_buckets.specs.Waiting.{cut_of, left_of, may_cast}
 use Rattle.iss_ids.proofs.Members.{has_id-append}
-use Rattle.iss_layout.specs.Layout.{HasOwner, IsFair, Plan, bucket_of, bucket_owner, is_node, leads, plan_of, segment}
+use Rattle.iss_layout.specs.Layout.{IsFair, Plan, bucket_of, bucket_owner, is_node, leads, plan_of, segment}
 use Rattle.iss_model.specs.Concrete.{number_of, rules_of}
 use Rattle.iss_model.specs.Formats.{formats_of}
 use Rattle.iss_model.specs.Judge.{marks}
-use Rattle.iss_model.specs.Node.{Core, Dropped, Formats, Stepped, Taken, Turn, casts_at, cut, first_slot, has_slot, is_castable, flown, has_leaves, inputs, is_known, is_mine, next_slot, step, takes_request, uncut}
+use Rattle.iss_model.specs.Node.{Dropped, Formats, Stepped, Taken, Turn, casts_at, cut, first_slot, has_slot, is_castable, flown, has_leaves, inputs, is_known, is_mine, next_slot, step, takes_request, uncut}
 use Rattle.iss_model.specs.Past.{log_of}
 use Rattle.iss_model.specs.declared.causes.NodeEvent.TheVariants.{Propose as Proposes}
 use Rattle.iss_model.specs.declared.causes.Why.TheVariants.{BadRequest, Known, NotLeader, NothingToCast, NoKeys}
@@ -18,7 +18,7 @@ use Rattle.iss_log.specs.LogState.{value_at}
 use Rattle.iss_node.proofs.TiedLemmas.{get-of, own-slot}
 use Rattle.iss_request.specs.declared.requests.Value.{Value}
 use Rattle.iss_node.specs.Shape.{IsNode}
-use Rattle.iss_node.specs.State.{IsInstance, IsTied, NodeState, SameIds, SegmentState, Stands, core_of}
+use Rattle.iss_node.specs.State.{IsInstance, IsTied, NodeState, SameIds, SegmentState, core_of}
 use Rattle.iss_node.specs.Steps.{IsInputTurn}
 use Rattle.iss_node.specs.declared.answers.Outcome.{Outcome}
 use Rattle.iss_request.specs.Log.{has_id, ids, log_ids, same_id}

@@ -1,7 +1,7 @@
 -- What a grown log does to waiting requests and to the identities of the log.
-use Rattle.std.proofs.Common.{arith, ◌≡◌, ℕ, suc, ◌+◌, ◌-◌, ◌<◌, ◌≤◌, Bool, true, false, List, [], ◌∷◌, ◌++◌, cond, ◌||◌, length, take, drop, reverse, refl, sym, ap, ◌∙◌, subst, append_assoc, length-append, if◌then◌else◌}
+use Rattle.std.proofs.Common.{◌≡◌, Bool, true, false, List, [], ◌∷◌, ◌++◌, ◌||◌, length, reverse, refl, sym, ap, ◌∙◌, append_assoc}
 use Rattle.std.specs.Prelude.{fold}
-use Rattle.std.proofs.lemmas.List.{append-nil, reverse-append, length-reverse}
+use Rattle.std.proofs.lemmas.List.{append-nil, reverse-append}
 use Rattle.iss_buckets.specs.Waiting.{without}
 use Rattle.iss_ids.proofs.Members.{has_id-and_ids, has_id-append}
 use Rattle.iss_model.proofs.Casts.{joined-newer}

@@ -1,23 +1,20 @@
 -- What the tests before an input say of the model's step.
-use Rattle.std.proofs.Common.{get_or, inl, inr, arith, ◌≡◌, ◌≢◌, ◌⊎◌, ℕ, zero, suc, ◌+◌, ◌-◌, ◌^◌, ◌<◌, ◌≤◌, Bool, true, false, List, [], ◌∷◌, ◌++◌, cond, ◌==◌, ◌||◌, not, nat_lt, Option, Some, None, length, refl, sym, ap, ◌∙◌, subst, slice_get}
+use Rattle.std.proofs.Common.{get_or, arith, ◌≡◌, ℕ, zero, suc, ◌<◌, Bool, true, false, List, [], ◌∷◌, ◌++◌, cond, ◌==◌, ◌||◌, not, Option, Some, length, refl, sym, ap, ◌∙◌, subst, slice_get}
 use Rattle.std.specs.List.{list_any}
 use Rattle.std.proofs.lemmas.Bool.Decides.{nat_tests}
 use Rattle.iss_layout.specs.Layout.{Plan, leads, node, nodes_below, plan_of}
 use Rattle.iss_model.specs.Concrete.{rules_of}
-use Rattle.iss_model.specs.Node.{Core, Dropped, Formats, OfModule, takes_parcel, Stepped, Taken, Turn, at_instance, by_verdict, has_leaves, inputs, verdict}
+use Rattle.iss_model.specs.Node.{Core, Dropped, Formats, OfModule, takes_parcel, Stepped, Turn, at_instance, by_verdict, has_leaves, inputs, verdict}
 use Rattle.iss_model.specs.Past.{log_of}
 use Rattle.iss_model.specs.declared.causes.Refusal.{Refusal}
-use Rattle.iss_model.specs.declared.causes.Why.{Why}
-use Rattle.iss_model.specs.declared.causes.Why.TheVariants.{NotLeader, NoKeys, OtherEpoch, Refused}
+use Rattle.iss_model.specs.declared.causes.Why.TheVariants.{NotLeader, NoKeys, OtherEpoch}
 use Rattle.iss_node.proofs.LogOf.{oldest-zero}
 use Rattle.iss_node.proofs.TiedLemmas.{get-of}
 use Rattle.iss_node.specs.Shape.{IsNode}
 use Rattle.iss_node.specs.State.{IsInstance, IsTied, NodeState, SegmentState, Stands, core_of}
-use Rattle.iss_node.specs.Steps.{IsAnswer, IsInputTurn}
+use Rattle.iss_node.specs.Steps.{IsAnswer}
 use Rattle.iss_node.specs.declared.answers.Answer.{Answer}
-use Rattle.iss_node.specs.declared.answers.Outcome.{Outcome}
 use Rattle.iss_request.specs.declared.ids.NodeId.{NodeId}
-use Rattle.iss_request.specs.declared.setups.Setup.{Setup}
 use Rattle.iss_sb.specs.declared.effects.Input.{Input}
 use Rattle.iss_model.specs.Rules.{Rules}
 use Rattle.iss_sb.specs.declared.effects.Input.TheVariants.{Receive}

@@ -1,15 +1,13 @@
 -- A log that holds what the instances of the first epoch deliver is the model's log.
-use Rattle.std.proofs.Common.{inl, inr, arith, ◌≡◌, ◌≢◌, ℕ, zero, suc, ◌+◌, ◌*◌, ◌-◌, ◌<◌, ◌≤◌, Bool, true, false, List, [], ◌∷◌, ◌++◌, cond, Option, Some, None, length, reverse, refl, sym, ap, ◌∙◌, subst, append_assoc, length-append, slice_get}
-use Rattle.std.specs.Prelude.{nat_le}
-use Rattle.std.proofs.lemmas.Bool.Decides.{leb_tells, nat_tests}
+use Rattle.std.proofs.Common.{inl, inr, arith, ◌≡◌, ℕ, zero, suc, ◌+◌, ◌*◌, ◌<◌, ◌≤◌, List, [], ◌∷◌, ◌++◌, Option, Some, None, length, reverse, refl, sym, ap, ◌∙◌, subst, append_assoc, length-append, slice_get}
+use Rattle.std.proofs.lemmas.Bool.Decides.{leb_tells}
 use Rattle.std.proofs.lemmas.List.{append-nil, reverse-append, length-reverse}
 use Rattle.iss_base.specs.Lists.{first_of, oldest}
 use Rattle.iss_log.specs.LogState.{LogState, ahead_at, value_at}
 use Rattle.iss_model.specs.Concrete.{rules_of}
-use Rattle.iss_model.specs.Past.{Past, before_at, cell, climb, cut_at, epoch_at, grow, grown, leader_at, log_of, params_at}
-use Rattle.iss_model.specs.Rules.{Rules}
+use Rattle.iss_model.specs.Past.{Past, before_at, cell, climb, cut_at, epoch_at, grow, log_of}
 use Rattle.iss_model.specs.Node.{Core}
-use Rattle.iss_node.specs.State.{NodeState, Stands, Took, slot_value}
+use Rattle.iss_node.specs.State.{NodeState, Stands, slot_value}
 use Rattle.iss_sb.specs.declared.effects.Params.{Params}
 use Rattle.iss_request.specs.declared.requests.Value.{Value}
 use Rattle.iss_request.specs.declared.setups.Setup.{Setup}

@@ -1,13 +1,11 @@
-use Rattle.std.proofs.Common.{arith, ◌≡◌, ℕ, suc, ◌+◌, ◌<◌, List, [], ◌∷◌, ◌++◌, Option, Some, None, length, take, drop, get_or, refl, sym, ap, ◌∙◌, subst, append_assoc, add-one}
-use Rattle.std.proofs.lemmas.List.{append-nil}
+use Rattle.std.proofs.Common.{◌≡◌, ℕ, ◌+◌, ◌<◌, List, [], ◌∷◌, ◌++◌, None, length, take, get_or, refl, sym, ap, ◌∙◌, add-one}
 use Rattle.std.proofs.Math.Seq.{take-suc}
-use Rattle.iss_model.specs.Formats.{parcel_in, whole}
-use Rattle.iss_model.specs.Node.{Formats, OfModule, Parcel, packed}
+use Rattle.iss_model.specs.Formats.{whole}
+use Rattle.iss_model.specs.Node.{Formats, OfModule, packed}
 use Rattle.iss_request.specs.Fields.{Bad, Good, IsBad, IsUnreadable, Parsed, Reading, left}
 use Rattle.iss_request.specs.Parsing as parsing
 use Rattle.iss_request.specs.Parsing.{Parser, all_of}
 use Rattle.iss_sb.specs.declared.effects.To.{To}
-use Rattle.iss_sb.specs.Evidence.{Module}
 
 -- what does not begin with a thing is not one whole
 pub bad-whole : {A : Type 0} (parse : List ℕ → Parsed A) (r : Reading) (bytes : List ℕ) (at : ℕ) → r ≡ record { all = bytes; at = 0 } → IsUnreadable parse r at → whole (parse bytes) ≡ None

@@ -1,9 +1,7 @@
-use Rattle.std.proofs.Common.{arith, ◌≡◌, ℕ, Bool, true, false, List, [], ◌∷◌, ◌++◌, cond, ◌||◌, Option, Some, None, length, refl, sym, ap, ◌∙◌, subst}
+use Rattle.std.proofs.Common.{◌≡◌, ℕ, Bool, true, false, List, [], ◌++◌, cond, ◌||◌, Option, Some, None, length, refl, sym, ap, ◌∙◌}
 use Rattle.std.specs.Prelude.{not, nat_lt, ◌==◌}
 use Rattle.iss_ids.proofs.Members.{has_id-and_ids, has_id-append}
-use Rattle.iss_ids.specs.Set.{and_ids}
-use Rattle.iss_model.specs.Concrete.{rules_of}
-use Rattle.iss_model.specs.Judge.{any, any_marked, judge, marks}
+use Rattle.iss_model.specs.Judge.{any, judge, marks}
 use Rattle.iss_model.specs.Node.{verdict}
 use Rattle.iss_model.specs.Rules.{Rules}
 use Rattle.iss_model.specs.declared.causes.Refusal.{Refusal}
@@ -11,7 +9,7 @@ use Rattle.iss_model.specs.declared.causes.Refusal.TheVariants.{TooLarge, Foreig
 use Rattle.iss_node.proofs.MarksLemmas.{any_marked-same}
 use Rattle.iss_node.specs.Answers.{IsInstanceTaken}
 use Rattle.iss_node.specs.Marks.{and_marks}
-use Rattle.iss_node.specs.State.{IsInstance, SameIds, SegmentState}
+use Rattle.iss_node.specs.State.{SameIds, SegmentState}
 use Rattle.iss_request.specs.Log.{has_id, ids, log_ids}
 use Rattle.iss_request.specs.declared.ids.ReqId.{ReqId}
 use Rattle.iss_request.specs.declared.ids.Slot.{Slot}
@@ -21,9 +19,9 @@ use Rattle.iss_request.specs.declared.requests.Value.{Value}
 use Rattle.iss_sb.specs.declared.effects.Effects.{Effects}
 use Rattle.iss_sb.specs.declared.effects.Input.{Input}
 use Rattle.iss_sb.specs.declared.effects.Params.{Params}
-use Rattle.iss_sb.specs.Calls.{IsTaken, IsTrueStep, IsWithin}
-use Rattle.iss_sb.specs.Evidence.{Item, Module, accepts, and_then, one_or_none}
-use Rattle.iss_sb.specs.Keys.{AreKeysOf, KeyState}
+use Rattle.iss_sb.specs.Calls.{IsTrueStep}
+use Rattle.iss_sb.specs.Evidence.{Item, Module, accepts, one_or_none}
+use Rattle.iss_sb.specs.Keys.{KeyState}
 use Rattle.iss_sb.specs.Laws.{IsLawful}
 
 -- the judge sees the marks as a set

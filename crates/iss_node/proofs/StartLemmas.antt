@@ -1,5 +1,5 @@
 -- How a node starts, and whom a packet comes from.
-use Rattle.std.proofs.Common.{inl, inr, arith, ◌≡◌, ◌≢◌, ◌⊎◌, ℕ, zero, suc, ◌+◌, ◌<◌, ◌≤◌, Bool, true, false, List, [], ◌∷◌, ◌++◌, ◌&&◌, nat_lt, Option, Some, None, Result, Ok, Err, IfOk, IfSome, length, refl, sym, ap, ◌∙◌, subst, slice_get, length-append}
+use Rattle.std.proofs.Common.{inl, inr, arith, ◌≡◌, ◌≢◌, ◌⊎◌, ℕ, zero, suc, ◌+◌, ◌<◌, Bool, true, false, List, [], ◌∷◌, ◌++◌, ◌&&◌, nat_lt, Option, Some, None, Result, Ok, Err, IfOk, IfSome, length, refl, sym, ap, ◌∙◌, subst, slice_get, length-append}
 use Rattle.std.proofs.lemmas.Bool.Decides.{nat_tests}
 use Rattle.iss_base.proofs.Lists.{in_left, in_right, same_or_not}
 use Rattle.iss_base.specs.Lists.{In}

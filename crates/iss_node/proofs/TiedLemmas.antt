@@ -1,5 +1,5 @@
 -- A node that took an input stands for the core after it.
-use Rattle.std.proofs.Common.{get_or, slice_set, inl, inr, arith, ◌≡◌, ◌≢◌, ◌⊎◌, ℕ, zero, suc, ◌+◌, ◌-◌, ◌*◌, ◌/◌, ◌<◌, ◌≤◌, Bool, true, false, List, [], ◌∷◌, ◌++◌, cond, ◌==◌, Option, Some, None, length, take, drop, reverse, refl, sym, ap, ◌∙◌, subst, slice_get, if◌then◌else◌}
+use Rattle.std.proofs.Common.{get_or, slice_set, inl, inr, arith, ◌≡◌, ◌≢◌, ◌⊎◌, ℕ, zero, suc, ◌+◌, ◌/◌, ◌<◌, ◌≤◌, Bool, true, false, List, [], ◌∷◌, ◌++◌, ◌==◌, Option, Some, None, length, drop, reverse, refl, sym, ap, ◌∙◌, subst, slice_get, if◌then◌else◌}
 use Rattle.std.specs.Prelude.{fold}
 use Rattle.std.proofs.lemmas.Bool.Decides.{nat_tests}
 use Rattle.std.proofs.lemmas.List.{length-reverse}
@@ -9,8 +9,8 @@ use Rattle.iss_base.specs.Lists.{In, first_of, set_at2}
 use Rattle.iss_layout.specs.Layout.{IsFair, Plan, plan_of, segment, slot_leader}
 use Rattle.iss_log.specs.LogState.{LogState, value_at}
 use Rattle.iss_model.specs.Concrete.{number_of, rules_of}
-use Rattle.iss_model.specs.Node.{Core, Formats, OfModule, Turn, absent, flying, inputs, joined, packed}
-use Rattle.iss_model.specs.Past.{Past, log_of, takes}
+use Rattle.iss_model.specs.Node.{Formats, absent, flying, inputs, joined, packed}
+use Rattle.iss_model.specs.Past.{log_of}
 use Rattle.iss_node.proofs.GrowthLemmas.{logged-is, waiting-is}
 use Rattle.iss_node.proofs.LogOf.{log-is}
 use Rattle.iss_node.specs.Answers.{IsInstanceTaken}
@@ -30,7 +30,6 @@ use Rattle.iss_sb.specs.declared.effects.Effects.{Effects}
 use Rattle.iss_sb.specs.declared.effects.Input.{Input}
 use Rattle.iss_sb.specs.declared.effects.Params.{Params}
 use Rattle.iss_sb.specs.declared.effects.To.{To}
-use Rattle.iss_sb.specs.declared.effects.To.TheVariants.{All as To_all, One as To_one}
 use Rattle.iss_sb.specs.Calls.{AllIn, AreToNodes, IsTaken, slots_of}
 use Rattle.iss_sb.specs.Evidence.{Item, Module, and_then, delivered}
 use Rattle.iss_sb.specs.Keys.{AreKeysOf, KeyState}

@@ -1,6 +1,5 @@
 -- What the calls of a node answer.
-use Rattle.std.specs.Prelude.{◌≡◌, ℕ, ◌+◌, ◌<◌, ◌≤◌, List, Result, Ok, Err}
-use Rattle.iss_model.specs.Judge.{marks}
+use Rattle.std.specs.Prelude.{◌≡◌, ℕ, ◌+◌, ◌<◌, List, Result, Ok, Err}
 use Rattle.iss_node.specs.State.{IsInstance, SegmentState}
 use Rattle.iss_sb.specs.declared.effects.Effects.{Effects}
 use Rattle.iss_sb.specs.declared.effects.Input.{Input}

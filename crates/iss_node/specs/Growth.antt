@@ -1,5 +1,5 @@
 -- How a log grows by deliveries, and what that does to a node's requests.
-use Rattle.std.specs.Prelude.{◌≡◌, ℕ, List, ◌++◌, length, Option, None}
+use Rattle.std.specs.Prelude.{◌≡◌, ℕ, List, ◌++◌, length, None}
 use Rattle.iss_base.specs.Lists.{first_of}
 use Rattle.iss_buckets.specs.Waiting.{without}
 use Rattle.iss_ids.specs.Set.{and_ids}

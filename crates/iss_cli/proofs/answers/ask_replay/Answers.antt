@@ -1,4 +1,4 @@
-use Rattle.std.proofs.Common.{◌≡◌, ◌∙◌, sym}
+use Rattle.std.proofs.Common.{◌∙◌, sym}
 use Rattle.iss_cli.proofs.TopLemmas.{two_words}
 use Rattle.iss_cli.proofs.answers.ask_replay.Goals as goal
 

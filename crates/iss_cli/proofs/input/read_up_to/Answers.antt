@@ -1,4 +1,4 @@
-use Rattle.std.proofs.Common.{◌≡◌, ◌∙◌, ◌≤◌, ◌+◌, ap, List, Option, ℕ, length, take, sym, subst, arith, rules}
+use Rattle.std.proofs.Common.{◌≡◌, ◌∙◌, ◌≤◌, ap, List, ℕ, length, take, sym, subst, arith, rules}
 use Rattle.std.proofs.lemmas.List.{length-take}
 use Rattle.iss_cli.proofs.EndLemmas.{IsRead, read_piece, longer, refilled}
 use Rattle.iss_cli.proofs.input.read_up_to.Goals as goal

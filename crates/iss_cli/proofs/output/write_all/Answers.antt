@@ -1,4 +1,4 @@
-use Rattle.std.proofs.Common.{◌≡◌, ◌∙◌, ◌≤◌, ◌<◌, ◌+◌, ◌-◌, ℕ, List, length, take, drop, ap, subst, arith, length-drop}
+use Rattle.std.proofs.Common.{◌≡◌, ◌∙◌, ◌≤◌, ◌-◌, ℕ, List, length, take, drop, ap, subst, arith, length-drop}
 use Rattle.std.proofs.lemmas.List.{take_all}
 use Rattle.iss_cli.specs.Ends.{and_more}
 use Rattle.iss_cli.proofs.EndLemmas.{and_more_piece}

@@ -1,4 +1,4 @@
-use Rattle.std.proofs.Common.{◌≡◌, ◌<◌, ℕ, List, map, string_bytes, subst, arith}
+use Rattle.std.proofs.Common.{ℕ, List, map, string_bytes, subst, arith}
 use Rattle.iss_cli.specs.Answers.{IsAnswer}
 use Rattle.iss_cli.proofs.TopLemmas.{answered_words, answered_input, not_true}
 use Rattle.iss_cli.proofs.top.answer.Goals as goal

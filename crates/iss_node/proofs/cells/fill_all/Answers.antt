@@ -1,4 +1,3 @@
-use Rattle.std.proofs.Common.{subst}
 use Rattle.iss_node.proofs.CellsLemmas.{filled-next}
 use Rattle.iss_node.proofs.cells.fill_all.Goals as goal
 

@@ -1,4 +1,4 @@
-use Rattle.std.proofs.Common.{◌≡◌, ◌∙◌, ap, sym, length, ◌++◌}
+use Rattle.std.proofs.Common.{◌∙◌, ap, length, ◌++◌}
 use Rattle.iss_node.proofs.growth.grow.Goals as goal
 
 pub returns : goal.returns

@@ -1,4 +1,4 @@
-use Rattle.std.proofs.Common.{◌∙◌, ◌≡◌, Bool, true, false, ◌||◌, sym, refl, ap}
+use Rattle.std.proofs.Common.{◌∙◌, sym}
 use Rattle.iss_node.proofs.MarksLemmas.{marked-split, or-left, or-right}
 use Rattle.iss_node.proofs.judge.is_any_marked.Goals as goal
 

@@ -1,4 +1,4 @@
-use Rattle.std.proofs.Common.{◌∙◌, ◌≡◌, ◌<◌, length, sym, arith}
+use Rattle.std.proofs.Common.{◌∙◌, ◌<◌, length, sym, arith}
 use Rattle.iss_node.proofs.MarksLemmas.{twice-next, or-left, or-skip}
 use Rattle.iss_node.proofs.judge.is_any_twice.Goals as goal
 

@@ -1,4 +1,4 @@
-use Rattle.std.proofs.Common.{◌∙◌, ◌≡◌, ◌≤◌, length, sym, arith}
+use Rattle.std.proofs.Common.{◌∙◌, ◌≤◌, length, sym, arith}
 use Rattle.iss_node.proofs.MarksLemmas.{judged-marked, judged-none}
 use Rattle.iss_node.proofs.judge.refusal.Goals as goal
 

@@ -1,4 +1,4 @@
-use Rattle.std.proofs.Common.{◌<◌, ◌≤◌, ◌≡◌, ◌∙◌, length, arith, List, subst, ap, get_or, take}
+use Rattle.std.proofs.Common.{◌<◌, ◌≡◌, ◌∙◌, length, arith, List, subst, ap, get_or}
 use Rattle.iss_schedule.specs.declared.schedules.Event.{Event}
 use Rattle.iss_replay.proofs.RunLemmas.{in-range-at}
 use Rattle.iss_cli.proofs.tests.played.play.Goals as goal

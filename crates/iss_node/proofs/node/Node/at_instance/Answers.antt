@@ -1,4 +1,4 @@
-use Rattle.std.proofs.Common.{◌≡◌, ◌∙◌, ap, sym, refl, true, false, Some, None}
+use Rattle.std.proofs.Common.{sym, refl, true, false, Some, None}
 use Rattle.iss_model.specs.Formats.{formats_of}
 use Rattle.iss_model.specs.Concrete.{rules_of}
 use Rattle.iss_model.specs.Node.{at_instance, inputs}

@@ -1,4 +1,4 @@
-use Rattle.std.proofs.Common.{◌≡◌, ◌∙◌, ap, sym, true, false, List}
+use Rattle.std.proofs.Common.{◌∙◌, ap, sym, List}
 use Rattle.std.specs.List.{list_any}
 use Rattle.iss_node.proofs.CastLemmas.{known-flies, known-logged}
 use Rattle.iss_request.specs.Log.{same_id}

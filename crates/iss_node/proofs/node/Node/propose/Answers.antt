@@ -1,4 +1,4 @@
-use Rattle.std.proofs.Common.{subst, [], ◌≡◌, ◌∙◌, ap, sym, refl, true, false, Some, None}
+use Rattle.std.proofs.Common.{subst, [], ◌≡◌, ap, sym, true, false, Some}
 use Rattle.iss_model.specs.Formats.{formats_of}
 use Rattle.iss_model.specs.Concrete.{rules_of}
 use Rattle.iss_layout.specs.Layout.{leads, plan_of}
@@ -9,7 +9,7 @@ use Rattle.iss_node.proofs.InstanceLemmas.{at-core, same-stands}
 use Rattle.iss_node.specs.Casts.{casting}
 use Rattle.iss_node.specs.State.{core_of}
 use Rattle.iss_node.specs.declared.answers.Answer.TheVariants.{Dropped, Taken}
-use Rattle.iss_model.specs.declared.causes.Why.TheVariants.{NoKeys, NothingToCast}
+use Rattle.iss_model.specs.declared.causes.Why.TheVariants.{NoKeys}
 use Rattle.iss_node.proofs.node.Node.propose.Goals as goal
 
 pub returns-then-not-has_leaves-clause-answer : goal.returns-then-not-has_leaves-clause-answer

@@ -1,4 +1,3 @@
-use Rattle.std.proofs.Common.{subst, sym, ◌∙◌, ap, []}
 use Rattle.iss_node.proofs.StartLemmas.{begun-shape, begun-stands}
 use Rattle.iss_node.proofs.node.Node.start.Goals as goal
 

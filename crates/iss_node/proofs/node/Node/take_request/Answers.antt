@@ -1,4 +1,4 @@
-use Rattle.std.proofs.Common.{◌≡◌, ◌∙◌, ap, sym, refl, true, false, subst, ◌++◌, ◌∷◌, []}
+use Rattle.std.proofs.Common.{◌≡◌, ap, sym, refl, true, subst, ◌++◌, ◌∷◌, []}
 use Rattle.iss_model.specs.Concrete.{rules_of}
 use Rattle.iss_model.specs.Node.{Core, takes_request}
 use Rattle.iss_node.proofs.CastLemmas.{moved, request-is}

@@ -1,6 +1,5 @@
-use Rattle.std.proofs.Common.{◌≡◌, sym, ◌∙◌, ap, subst}
 use Rattle.iss_sb.specs.Evidence.{accepts}
-use Rattle.iss_node.proofs.SegmentLemmas.{verdict-at, verdict-none}
+use Rattle.iss_node.proofs.SegmentLemmas.{verdict-at}
 use Rattle.iss_model.specs.Concrete.{rules_of}
 use Rattle.iss_node.proofs.segment.Segment.refusal.Goals as goal
 

@@ -1,4 +1,3 @@
-use Rattle.std.proofs.Common.{◌≡◌, sym, ◌∙◌, ap, subst}
 use Rattle.iss_node.proofs.SegmentLemmas.{instance-taken}
 use Rattle.iss_node.proofs.segment.Segment.step.Goals as goal
 
