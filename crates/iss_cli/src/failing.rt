@@ -1,5 +1,6 @@
 //! Sources and sinks in memory, some of whose calls fail.
-ghost use Rattle.std.specs.Prelude.{◌≡◌, ◌≤◌, ◌<◌, [], length, vec_len, IsErr};
+ghost use Rattle.std.specs.Prelude.{◌≡◌, ◌↔◌, ◌≤◌, ◌<◌, [], length, max, vec_len, IsErr};
+ghost use Rattle.std.specs.List.{Contains};
 ghost use Rattle.iss_cli.specs.Ends.{HasCause};
 
 use crate::ends::{Sink, Source};
@@ -18,7 +19,7 @@ pub struct Script {
 impl Script {
     /// The calls of these numbers fail.
     pub fn new(failing: Vec<u64>) -> Script
-        ensures { result.faults ≡ 0 }
+        ensures { result ≡ record { failing = failing; calls = 0; faults = 0 } }
     {
         Script {
             failing,
@@ -27,9 +28,11 @@ impl Script {
         }
     }
 
-    // One call more, which may fail.
+    // One call more, which fails where its number says so.
     fn call(&mut self) -> Result<(), Failed>
-        ensures { HasCause self.old.faults self.new.faults (IsErr result) }
+        ensures cause { HasCause self.old.faults self.new.faults (IsErr result) }
+        ensures failing { self.new.failing ≡ self.old.failing }
+        ensures fails { IsErr result ↔ Contains self.old.failing.items self.old.calls }
     {
         let number = self.calls;
         self.calls = self.calls.saturating_add(1);
@@ -55,7 +58,10 @@ pub struct FailingSource {
 impl FailingSource {
     /// These bytes, all of which are left, at least one of them a call.
     pub fn new(bytes: Vec<u8>, most: usize, script: Script) -> FailingSource
-        ensures { result.script ≡ script }
+        ensures bytes { result.bytes ≡ bytes }
+        ensures at { result.at ≡ 0 }
+        ensures most { result.most ≡ max most 1 }
+        ensures script { result.script ≡ script }
     {
         FailingSource {
             bytes,
@@ -94,6 +100,7 @@ impl FailingSink {
     /// No bytes yet, of which a call puts at least one.
     pub fn new(alloc: Global, most: usize, script: Script) -> FailingSink
         ensures held { result.held.items ≡ [] }
+        ensures most { result.most ≡ max most 1 }
         ensures script { result.script ≡ script }
     {
         FailingSink {
