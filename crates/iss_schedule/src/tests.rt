@@ -23,6 +23,24 @@ const BAD_LINES: &str =
 const EVENTS: &str =
     "request 0 0 0 aa\nrequest 2 0 15 -\nrequest 1 0 7 00ff10\npropose 0\ntimeout 1 2\ndeliver 18446744073709551615\nlose 0\npump\ncalm 1000\ncalm 1\nhold 2\nfree 2\ndrop 1\n";
 
+// The header of a worked schedule in which each node has two slots.
+const WIDE_HEADER: &str =
+    "iss 1\nmodule relay\nf 0\nepoch 6\nbuckets 3\nbatch 2\nwindow 8\npolicy simple\nclients 1\nkeys 4\nfaulty none\n";
+
+// The events of each worked schedule of `rows/` that is one, parted by semicolons.
+const WORKED: &str = "request 0 0 0 aa\npropose 0\ndrop 2\ncalm 10\n;\
+     request 2 0 2 -\npropose 2\nrequest 0 0 0 -\npropose 0\ncalm 10\n;\
+     request 0 0 0 aa\npropose 0\ncalm 10\n;\
+     propose 1\ncalm 10\n;\
+     request 0 0 0 aa\npropose 0\nhold 1\ncalm 10\nfree 1\npump\n;\
+     request 0 0 0 aa\npropose 0\nhold 1\ncalm 10\n;\
+     request 0 0 0 aa\npropose 0\ndeliver 2\ndeliver 2\nlose 0\ncalm 10\ndeliver 9\n;\
+     ;\
+     propose 0\npropose 0\ncalm 10\n;\
+     request 0 0 0 aa\nrequest 0 0 3 aa\nrequest 0 0 6 aa\npropose 0\npropose 0\npropose 1\npropose 2\ncalm 10\n;\
+     request 0 0 0 aa\nrequest 0 0 0 aa\npropose 0\nrequest 0 0 0 bb\ncalm 10\nrequest 0 0 0 cc\n;\
+     request 0 0 0 aa\ntimeout 0 0\npropose 0\ntimeout 1 0\ncalm 10\n";
+
 fn why_of(word: &str) -> Why {
     match word {
         "Faulty" => Why::Faulty,
@@ -104,19 +122,27 @@ fn lines_that_are_cut_and_bytes_that_are_no_text(rt: HostRuntime) -> Result<(), 
     Ok(())
 }
 
+// Whether what is read of this schedule is written as it was.
+fn is_written_back(alloc: Global, header: &str, events: &str) -> Result<bool, Fail> {
+    let mut text = String::from_str(alloc, header)?;
+    text.push_str(events)?;
+    let schedule = read(alloc, text.as_bytes())?;
+    let written = write(alloc, &schedule)?;
+    Ok(written.as_slice() == text.as_bytes())
+}
+
 #[test]
 fn worked_schedules_are_written_as_they_were_read(rt: HostRuntime) -> Result<(), Fail> {
     let alloc = rt.alloc();
-    for events in ["", "request 0 0 0 aa\npropose 0\ncalm 10\n", EVENTS] {
-        let mut text = String::from_str(alloc, HEADER)?;
-        text.push_str(events)?;
-        let schedule = match read(alloc, text.as_bytes()) {
-            Ok(schedule) => schedule,
-            Err(_) => return Err(Fail::new("refused")),
-        };
-        let written = write(alloc, &schedule)?;
-        assert!(rt; written.as_slice() == text.as_bytes(), "at {events}");
+    let mut count = 0u32;
+    for events in WORKED.split(';') {
+        for header in [HEADER, WIDE_HEADER] {
+            assert!(rt; is_written_back(alloc, header, events)?, "at {events}");
+        }
+        count = count.saturating_add(1);
     }
+    assert!(rt; count == 12, "{count} schedules");
+    assert!(rt; is_written_back(alloc, HEADER, EVENTS)?);
     Ok(())
 }
 
