@@ -5,7 +5,7 @@
 
 ghost use Rattle.std.specs.Prelude.{◌<◌, ◌≤◌};
 
-use iss_keys::{Keys, PublicKey, SignError, verify};
+use iss_keys::{Directory, Keys, PublicKey, SignError, verify};
 use sha2::{Digest, Sha256};
 use std::alloc::Global;
 use std::io;
@@ -143,6 +143,16 @@ fn verifications(key: &PublicKey, signature: &[u8], count: u32) -> u32 {
     verified
 }
 
+fn checks(directory: &Directory, client: u8, signature: &[u8], count: u32) -> u32 {
+    let mut verified = 0u32;
+    for _i in 0..count {
+        if directory.verify_client(client, STATEMENT, signature) {
+            verified = verified.wrapping_add(1);
+        }
+    }
+    verified
+}
+
 fn out_of_memory<R: Print>(rt: &R) -> io::Result<()> {
     println!(rt; "no memory")
 }
@@ -219,6 +229,110 @@ fn time_verifying<R: Clock + Print>(
     print_times(rt, "verify", best, u64::from(count))
 }
 
+// How long so many checks of a signature by client 7 take; for ever, where it does not verify.
+fn time_checks<R: Clock>(
+    rt: &R,
+    directory: &Directory,
+    signature: &[u8],
+    count: u32,
+) -> io::Result<u64> {
+    let start = Instant::now(rt)?;
+    let verified = checks(directory, 7, signature, count);
+    let nanos = nanos_since(rt, start)?;
+    Ok(if verified == count { nanos } else { u64::MAX })
+}
+
+// Checks a new signature, and then again and again.
+fn time_signature<R: Clock>(
+    rt: &R,
+    directory: &Directory,
+    signature: &[u8],
+    height: u8,
+) -> io::Result<Best> {
+    let work = time_checks(rt, directory, signature, 1)?;
+    let digests = time_digests(rt, digests_of_verifications(1, height))?;
+    Ok(Best { work, digests })
+}
+
+fn time_signatures<R: Clock + Print>(
+    rt: &R,
+    directory: &Directory,
+    signatures: &[Vec<u8>],
+    height: u8,
+) -> io::Result<()> {
+    let mut new = NONE_YET;
+    let mut again = u64::MAX;
+    for signature in signatures {
+        let best = time_signature(rt, directory, signature, height)?;
+        new = new.note(best.work, best.digests);
+        again = again.min(time_checks(rt, directory, signature, 100)?);
+    }
+    print_times(rt, "check of a new signature", new, 1)?;
+    println!(rt; "remembered check: {} ns each", again / 100)
+}
+
+// Two hundred signatures, checked one after the other, again and again: some share their place in memory.
+fn time_rounds<R: Clock + Print>(
+    rt: &R,
+    directory: &Directory,
+    signatures: &[Vec<u8>],
+) -> io::Result<()> {
+    let mut best = u64::MAX;
+    for _round in 0..20 {
+        let start = Instant::now(rt)?;
+        let mut verified = 0u32;
+        for signature in signatures {
+            verified = verified.wrapping_add(checks(directory, 7, signature, 1));
+        }
+        let nanos = nanos_since(rt, start)?;
+        if verified == 200 {
+            best = best.min(nanos);
+        }
+    }
+    println!(rt;
+        "remembered checks of 200 signatures by turns: {} ns each",
+        best / 200
+    )
+}
+
+fn two_hundred(keys: &mut Keys, alloc: Global) -> Result<Vec<Vec<u8>>, SignError> {
+    let mut all = Vec::new(alloc);
+    for _i in 0..200 {
+        let signature = keys.sign(STATEMENT)?;
+        if all.push(signature).is_err() {
+            return Err(SignError::NoMemory);
+        }
+    }
+    Ok(all)
+}
+
+// A directory of 4 nodes and 256 clients, of which one is used: made, asked for the first time (which makes
+// that client's key), asked about other signatures, and about these again.
+fn time_directory<R: Clock + Print>(rt: &R, alloc: Global, height: u8) -> io::Result<()>
+    requires low { 2 ≤ height }
+    requires high { height ≤ 12 }
+{
+    let Ok(mut keys) = Keys::make(alloc, Sha256::digest([0x21u8, 7]), height) else {
+        return out_of_memory(rt);
+    };
+    let Ok(signature) = keys.sign(STATEMENT) else {
+        return out_of_memory(rt);
+    };
+    let start = Instant::now(rt)?;
+    let Ok(directory) = Directory::make(alloc, 4, 256, height) else {
+        return out_of_memory(rt);
+    };
+    let made = nanos_since(rt, start)?;
+    let first = time_checks(rt, &directory, &signature, 1)?;
+    println!(rt; "directory of 4 nodes and 256 clients, height {height}: {made} ns")?;
+    println!(rt; "its first check: {first} ns")?;
+    let Ok(signatures) = two_hundred(&mut keys, alloc) else {
+        return out_of_memory(rt);
+    };
+    time_signatures(rt, &directory, &signatures, height)?;
+    time_rounds(rt, &directory, &signatures)
+}
+
 fn time_all<R: Clock + Print>(rt: &R, alloc: Global) -> io::Result<()> {
     let digests = Digests {
         short: 1000,
@@ -237,7 +351,8 @@ fn time_all<R: Clock + Print>(rt: &R, alloc: Global) -> io::Result<()> {
     time_tree(rt, alloc, 10, 10)?;
     time_tree(rt, alloc, 12, 5)?;
     time_signing(rt, alloc, 5, 200)?;
-    time_verifying(rt, alloc, 5, 200)
+    time_verifying(rt, alloc, 5, 200)?;
+    time_directory(rt, alloc, 12)
 }
 
 // What a small workload takes.

@@ -1,9 +1,9 @@
 -- Facts on listed values, and on the public keys of keys that stand by their numbers.
 use Rattle.std.proofs.Common.{◌≡◌, ℕ, zero, suc, ◌+◌, ◌<◌, List, [], ◌∷◌, ◌++◌, length, get_or, map, refl, sym, ap, ap₂, ◌∙◌, arith, add-one, inl, inr, length-append}
-use Rattle.std.specs.Prelude.{slice_get, Some}
+use Rattle.std.specs.Prelude.{◌≤◌, slice_get, Some, None}
 use Rattle.std.specs.Option.{option_map}
 use Rattle.std.proofs.lemmas.List.{ext_get_or, length-map}
-use Rattle.std.proofs.lemmas.Option.{slice_get-map, slice_get-get_or, get_or_from_slice_get}
+use Rattle.std.proofs.lemmas.Option.{slice_get-map, slice_get-get_or, slice_get_past, get_or_from_slice_get}
 use Rattle.std.proofs.Math.ListN.{get_or-append}
 use Rattle.std.proofs.Math.Seq.{get_or-append_seam}
 use Rattle.std.proofs.lemmas.Bool.{cases_lt}
@@ -60,3 +60,10 @@ publics_listed secret_of h keys has =
     get_or_from_slice_get (map public_of keys) i (public_of key) none (slice_get-map public_of keys i ∙ ap (option_map public_of) at)
     ∙ ap₂ public_key own.0 own.1
     ∙ sym (get_or-listed (λ j. public_key (secret_of j) h) (length keys) i none within))
+
+-- what is there at a number: what is listed, and nothing from the end on
+pub some_listed : {X : Type 0} (f : ℕ → X) (n i : ℕ) (x : X) → i < n → x ≡ f i → Some x ≡ slice_get (listed f n) i
+some_listed f n i x lt e = ap Some e ∙ sym (slice_get-listed f n i lt)
+
+pub none_listed : {X : Type 0} (f : ℕ → X) (n i : ℕ) → n ≤ i → None ≡ slice_get (listed f n) i
+none_listed f n i le = sym (slice_get_past (listed f n) i (rw (length-listed f n) le))

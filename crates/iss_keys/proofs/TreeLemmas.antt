@@ -1,7 +1,7 @@
 -- Facts on the tree of a key.
-use Rattle.std.proofs.Common.{◌≡◌, ℕ, zero, suc, ◌+◌, ◌-◌, ◌*◌, ◌/◌, ◌%◌, ◌^◌, ◌<◌, ◌≤◌, List, [], length, get_or, sym, ap, ap₂, ◌∙◌, arith, add-one, pow-add, inl, inr, get_or-set_same, get_or-set_other}
+use Rattle.std.proofs.Common.{◌≡◌, ℕ, zero, suc, ◌+◌, ◌-◌, ◌*◌, ◌/◌, ◌%◌, ◌^◌, ◌<◌, ◌≤◌, List, [], length, get_or, refl, sym, ap, ap₂, ◌∙◌, arith, add-one, pow-add, inl, inr, get_or-set_same, get_or-set_other}
 use Rattle.std.specs.Prelude.{slice_set}
-use Rattle.std.proofs.Math.Nat.{pow-succ', pow-suc, div-div-eq-div-mul, div-lt_iff_lt-mul}
+use Rattle.std.proofs.Math.Nat.{pow-succ', pow-suc, div-div-eq-div-mul, div-lt_iff_lt-mul, mul_assoc, mul-le-mul_right}
 use Rattle.std.proofs.Math.Pow.{pow_mono}
 use Rattle.std.proofs.lemmas.Nat.{pow_pos}
 use Rattle.std.proofs.lemmas.Bool.{cases_eq}
@@ -124,3 +124,18 @@ has_a_root h n e =
     let some = pow_pos h in
     let whole : 2 ^ (h + 1) ≡ 2 * 2 ^ h = rw add-one (pow-succ' 2 h) in
     omega arith
+
+-- ---- the nodes under a node
+
+-- the two nodes under one have their leaves where it has its own
+pub halves_within : (l p m : ℕ) → (l ≡ 0 → ⊥) → (p + 1) * 2 ^ l ≤ m
+    → ((2 * p + 1) * 2 ^ (l - 1) ≤ m) × ((2 * p + 1 + 1) * 2 ^ (l - 1) ≤ m)
+halves_within zero p m some h = absurd (some refl)
+halves_within (suc k) p m some h =
+    let e : suc k - 1 ≡ k = omega arith in
+    let whole : (2 * p + 1 + 1) * 2 ^ k ≡ (p + 1) * 2 ^ suc k =
+    ap (λ n. n * 2 ^ k) (let d : 2 * p + 1 + 1 ≡ (p + 1) * 2 = omega arith in d)
+    ∙ mul_assoc (p + 1) 2 (2 ^ k) ∙ ap (λ n. (p + 1) * n) (sym (pow-succ' 2 k)) in
+    let right : (2 * p + 1 + 1) * 2 ^ k ≤ m = rw whole h in
+    let less : (2 * p + 1) * 2 ^ k ≤ (2 * p + 1 + 1) * 2 ^ k = mul-le-mul_right (2 ^ k) (let l : 2 * p + 1 ≤ 2 * p + 1 + 1 = omega arith in l) in
+    rw e (omega (arith, less, right), right)

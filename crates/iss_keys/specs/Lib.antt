@@ -4,3 +4,5 @@ pub mod Trees
 pub mod Signatures
 pub mod KeyStates
 pub mod Directories
+pub mod Sources
+pub mod Questions

@@ -10,9 +10,11 @@
 //! statements by one leaf. [`Keys::sign`] sees to the latter as long as its count of used leaves is kept.
 #![tactic(auto)]
 
+mod answers;
 mod chain;
 mod digits;
 mod directories;
+mod keyrings;
 pub mod laws;
 mod marks;
 mod signing;

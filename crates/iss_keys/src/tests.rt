@@ -1,4 +1,5 @@
 use super::*;
+use sha2::{Digest, Sha256};
 use std::test::Fail;
 use vectors::{ROOT_2, ROOT_4, ROOT_CLIENT_2, ROOT_NODE_0, SIGNATURE};
 
@@ -97,5 +98,33 @@ fn directories_have_the_keys_of_their_numbers(rt: HostRuntime) -> Result<(), Fai
     assert!(rt; !other.verify_node(1, &[0], &SIGNATURE));
     assert!(rt; !other.verify_client(0, &[0], &SIGNATURE));
     assert!(rt; !directory.verify_node(0, &[0], &SIGNATURE));
+    Ok(())
+}
+
+#[test]
+fn keys_that_are_made_late_are_the_same(rt: HostRuntime) -> Result<(), Fail> {
+    let directory = Directory::make(rt.alloc(), 1, 256, 2)?;
+    let mut keys = Keys::make(rt.alloc(), Sha256::digest([0x21u8, 2]), 2)?;
+    for _round in 0..2 {
+        assert!(rt;
+            directory
+                .client_key(2)
+                .is_some_and(|key| key.root() == ROOT_CLIENT_2)
+        );
+    }
+    assert_eq!(rt; keys.public().root(), ROOT_CLIENT_2);
+    let mut signature = keys.sign(&[0])?;
+    for _round in 0..3 {
+        assert!(rt; directory.verify_client(2, &[0], &signature));
+        assert!(rt; !directory.verify_client(2, &[1], &signature));
+        assert!(rt; !directory.verify_client(3, &[0], &signature));
+        assert!(rt; !directory.verify_node(0, &[0], &signature));
+    }
+    for i in 0..41 {
+        flip_byte(&mut signature, 54 * i);
+        assert!(rt; !directory.verify_client(2, &[0], &signature));
+        flip_byte(&mut signature, 54 * i);
+        assert!(rt; directory.verify_client(2, &[0], &signature));
+    }
     Ok(())
 }

@@ -3,7 +3,7 @@
 
 ghost use Rattle.std.specs.Prelude.{◌≡◌, ℕ, List, ◌+◌, ◌*◌, ◌^◌, ◌<◌, ◌≤◌, ◌++◌, length, IfOk, OnOk};
 ghost use Rattle.iss_keys.specs.Pieces.{join_below};
-ghost use Rattle.iss_keys.specs.Trees.{inner, beside, path_node, HasNodesFrom};
+ghost use Rattle.iss_keys.specs.Trees.{inner, node, root_of, beside, path_node, HasNodesFrom};
 ghost use Rattle.iss_keys.specs.Signatures.{climb};
 
 use crate::chain::{piece_at, value_of_leaf};
@@ -56,6 +56,28 @@ pub fn tree_of(alloc: Global, secret: &[u8; 32], height: u8) -> Result<Vec<[u8; 
     let mut nodes = vec![in alloc; [0u8; 32]; 2 * leaves_under(height)]?;
     fill_tree(&mut nodes, secret, height);
     Ok(nodes)
+}
+
+// A node of the tree over a secret. It takes no memory: at most one digest of each level is waiting.
+#[tactic(auto, unfolding(crate::specs::Trees::node))]
+fn node_of(secret: &[u8; 32], level: u8, place: u32) -> [u8; 32]
+    requires { (place + 1) * 2 ^ level ≤ 4096 }
+    ensures { result ≡ node secret.now level place }
+{
+    if level == 0 {
+        return value_of_leaf(secret, place);
+    }
+    let left = node_of(secret, level - 1, 2 * place);
+    let right = node_of(secret, level - 1, 2 * place + 1);
+    inner_node(&left, &right)
+}
+
+/// The root of the tree over a secret, without its tree: it takes no memory, and the same digests.
+pub fn root_of_secret(secret: &[u8; 32], height: u8) -> [u8; 32]
+    requires { height ≤ 12 }
+    ensures { result ≡ root_of secret.now height }
+{
+    node_of(secret, height, 0)
 }
 
 // The place beside a place, under the same node.

@@ -7,7 +7,7 @@ use Rattle.iss_request.specs.declared.requests.Value.{Value}
 use Rattle.iss_request.specs.declared.setups.Setup.{Setup}
 use Rattle.iss_sb.specs.Evidence.{Module, Separate, delivered, is_correct}
 use Rattle.iss_sb.specs.Laws.{IsSafe}
-use Rattle.iss_model.specs.Cluster.{Adopted, Backed, Cert, Cluster, IsTrueLog, Scheme, Signed, signers}
+use Rattle.iss_model.specs.Cluster.{Adopted, Backed, Cert, Cluster, IsTrueLog, Scheme, Signed, signers, vote_statement}
 use Rattle.iss_model.specs.Ordered.{Among, AreChained, IsExact, IsSoundRules}
 use Rattle.iss_model.specs.Past.{IsLog, Past, Piece, adopted_at, before, before_at, cell, cut_at, epoch_at, leader_at, log_of, params_at, start_of}
 use Rattle.iss_model.specs.Rules.{Rules}
@@ -19,7 +19,7 @@ use Rattle.iss_model.proofs.Good.{Good, IsTrue, Voted}
 use Rattle.iss_model.proofs.Kept.{settled-of}
 use Rattle.iss_model.proofs.Logs.{Settled, grow-far, log-chain, log-kept, log-later, logs-meet}
 
-module _ {Msg : Type 0} (s : Setup) (S : Scheme) (R : Rules) (M : Module Msg) (safe : IsSafe M) (sound : IsSoundRules s M R) (v w : Cluster Msg) (exact : IsExact s S M w) (sep : Separate (Among w.strings)) (g : Good s R M v S) (i : ℕ) (piece : Piece) (cert : Cert) (ad : Adopted s S R M v w i piece cert) where
+module _ {Msg : Type 0} (s : Setup) (S : Scheme) (R : Rules) (M : Module Msg) (safe : IsSafe M) (sound : IsSoundRules s M R) (v w : Cluster Msg) (exact : IsExact s S w) (sep : Separate (Among w.strings)) (g : Good s R M v S) (i : ℕ) (piece : Piece) (cert : Cert) (ad : Adopted s S R M v w i piece cert) where
   abbrev c : Past Msg
   c = v.pasts i
 
@@ -40,7 +40,7 @@ module _ {Msg : Type 0} (s : Setup) (S : Scheme) (R : Rules) (M : Module Msg) (s
   signer = exact.quorums (signers cert.signed) ad.quorum
 
   abbrev vote : Signed
-  vote = record { by = signer.0; statement = S.vote piece.epoch cert.chain cert.number }
+  vote = record { by = signer.0; statement = vote_statement s piece.epoch cert.chain cert.number }
 
   in_book : In vote v.book
   in_book = ad.votes signer.0 signer.1 signer.2
@@ -140,4 +140,4 @@ module _ {Msg : Type 0} (s : Setup) (S : Scheme) (R : Rules) (M : Module Msg) (s
       subst (λ (n : ℕ). start_of R (log_of R M i t) (suc n) ≤ length (log_of R M i t)) ad.epoch (omega (arith, next, reach_end, start_length, ad.whole))
 
   pub good-adopted : Good s R M w S
-  good-adopted = good-turned s S R M safe sound v w sep g i ad.correct (piece ∷ []) ad.here ad.other ad.quiet ad.hashed ad.spelled far pieces_true (λ x e d q h okx st. g.voted x e d q (ad.book x h) okx st)
+  good-adopted = good-turned s S R M safe sound v w sep g i ad.correct (piece ∷ []) ad.here ad.other ad.quiet (λ x e l low h named. ad.book x h) ad.hashed ad.spelled far pieces_true (λ x e d q h okx st. g.voted x e d q (ad.book x h) okx st)

@@ -1,24 +1,27 @@
 -- Every core of a run is sound, and the judge accepts what a sound core casts.
-use Rattle.std.proofs.Common.{◌≡◌, ◌⊎◌, inl, inr, ℕ, suc, zero, ◌-◌, Bool, true, false, cond, eqb, not, List, [], ◌∷◌, ◌++◌, length, length-append, take, is_some, Option, Some, None, refl, sym, ap, ◌∙◌, subst, arith, true≢false}
+use Rattle.std.proofs.Common.{◌≡◌, ◌⊎◌, inl, inr, ℕ, suc, zero, ◌-◌, ◌≤◌, Bool, true, false, cond, eqb, not, List, [], ◌∷◌, ◌++◌, length, length-append, take, is_some, Option, Some, None, refl, sym, ap, ◌∙◌, subst, arith, true≢false}
 use Rattle.std.proofs.Math.Seq.{take-append_seam}
 use Rattle.iss_base.specs.Lists.{Extends, In}
 use Rattle.iss_base.proofs.Lists.{and-true, in_append, is-eq, not-true, oldest-part, or-false, set_at2-other}
+use Rattle.iss_request.specs.Formats.{HasSpelling, parse_value, spell_value}
 use Rattle.iss_request.specs.Log.{has_id, ids, log_ids}
 use Rattle.iss_request.specs.declared.ids.ReqId.{ReqId}
 use Rattle.iss_request.specs.declared.ids.Slot.{Slot}
 use Rattle.iss_request.specs.declared.requests.Batch.{Batch}
 use Rattle.iss_request.specs.declared.requests.Request.{Request}
 use Rattle.iss_request.specs.declared.requests.Value.{Value}
+use Rattle.iss_request.specs.declared.requests.Value.TheVariants.{Batch as Holds}
 use Rattle.iss_sb.specs.declared.effects.Input.{Input}
 use Rattle.iss_sb.specs.declared.effects.Input.TheVariants.{Cast}
-use Rattle.iss_sb.specs.Evidence.{Module, accepts, delivered}
+use Rattle.iss_sb.specs.Evidence.{IsReadAgain, Module, accepts, delivered}
 use Rattle.iss_sb.specs.Laws.{IsLawful}
+use Rattle.iss_sb.proofs.Read.{batch-read}
 use Rattle.iss_model.specs.declared.causes.NodeEvent.{NodeEvent}
 use Rattle.iss_model.specs.Judge.{judge, marks}
-use Rattle.iss_model.specs.Node.{Core, Formats, Taken, Turn, cut, first_slot, flown, has_slot, idle, inputs, is_castable, is_mine, joined, next_slot, step, verdict}
+use Rattle.iss_model.specs.Node.{Core, Formats, OfRequest, Parcel, Taken, Turn, cut, first_slot, flown, has_slot, idle, inputs, is_castable, is_mine, joined, next_slot, step, uncut, verdict}
 use Rattle.iss_model.specs.Past.{asked_in, before, grow, log_of, newborn, params_of, start_of, takes}
 use Rattle.iss_model.specs.Rules.{Rules}
-use Rattle.iss_model.specs.Sound.{AreAllInside, IsSoundCore}
+use Rattle.iss_model.specs.Sound.{AreAllInside, IsReadyCore, IsSoundCore}
 use Rattle.iss_model.proofs.Cuts.{absent-ids, absent-in, absent-once, cut-few, cut-in, cut-once, uncut-ids, uncut-in, uncut-once}
 use Rattle.iss_model.proofs.Ids.{ids-append, ids-in, ids-once, in-ids, log_ids-append, log_ids-extends, not-has}
 use Rattle.iss_model.proofs.Judged.{accepts-it}
@@ -99,6 +102,20 @@ module _ {Msg : Type 0} (F : Formats Msg) (R : Rules) (M : Module Msg) (me : ℕ
   pub step-sound : (c : Core Msg) (event : NodeEvent) (t : Turn Msg) → IsSoundCore R M me c → step F R M me c event ≡ Taken t → IsSoundCore R M me t.core
   step-sound c event t h q = took-sound c event t h (took F R M me c event t q)
 
+  took-spelled : (c : Core Msg) (event : NodeEvent) (t : Turn Msg) → ((q : Request) → In q c.waiting → HasSpelling q) → Took F R M me c event t →
+      ((bytes : List ℕ) (k : Parcel Msg) (q : Request) → F.unwrap bytes ≡ Some k → k.body ≡ OfRequest q → HasSpelling q) → (q : Request) → In q t.core.waiting → HasSpelling q
+  took-spelled c event t h (received k l msg u b e i) read q m = h q (absent-in _ c.waiting q (subst (λ (z : Turn Msg). In q z.core.waiting) i.is m)).0
+  took-spelled c event t h (asked {bytes} k r u b w) read q m = elim (in_append q c.waiting (r ∷ []) (subst (λ (z : Turn Msg). In q z.core.waiting) w.is m)) [
+    | inl old ↦ h q old
+    | inr new ↦ elim new [ inl e ↦ rw e (read bytes k r u b) | inr none ↦ absurd none ]
+  ]
+  took-spelled c event t h (cast s i) read q m = h q (uncut-in R.batch (is_mine R M me c) c.waiting q (absent-in _ (uncut R.batch (is_mine R M me c) c.waiting) q (subst (λ (z : Turn Msg). In q z.core.waiting) i.is m)).0)
+  took-spelled c event t h (fired l i) read q m = h q (absent-in _ c.waiting q (subst (λ (z : Turn Msg). In q z.core.waiting) i.is m)).0
+
+  -- and what waits has a spelling, where each request that is read has one
+  pub step-ready : ((bytes : List ℕ) (k : Parcel Msg) (q : Request) → F.unwrap bytes ≡ Some k → k.body ≡ OfRequest q → HasSpelling q) → (c : Core Msg) (event : NodeEvent) (t : Turn Msg) → IsReadyCore R M me c → step F R M me c event ≡ Taken t → IsReadyCore R M me t.core
+  step-ready read c event t h q = record { sound = step-sound c event t h.sound q; spelled = took-spelled c event t h.spelled (took F R M me c event t q) read }
+
 newborn-empty : (R : Rules) {Msg : Type 0} (M : Module Msg) (me n : ℕ) → grow R M me newborn n [] ≡ []
 newborn-empty R M me zero = refl
 newborn-empty R M me (suc n) = refl
@@ -109,6 +126,9 @@ newborn-log R M me = newborn-empty R M me _
 -- a core that has taken nothing is sound
 pub idle-sound : {Msg : Type 0} (R : Rules) (M : Module Msg) (me : ℕ) → IsSoundCore R M me idle
 idle-sound R M me = record { different = tt; signed = λ q i. absurd i; unordered = λ x i. absurd i; settled = λ e k v h. absurd (cc); unborn = λ e l lt. refl }
+
+pub idle-ready : {Msg : Type 0} (R : Rules) (M : Module Msg) (me : ℕ) → IsReadyCore R M me idle
+idle-ready R M me = record { sound = idle-sound R M me; spelled = λ q i. absurd i }
 
 -- what a core casts
 
@@ -139,6 +159,12 @@ module _ {Msg : Type 0} (R : Rules) (M : Module Msg) (me : ℕ) (c : Core Msg) w
       let r = some-there (M.asks p me xs (Cast s [])) k2.1 in
       let q : r.0 ≡ (s, []) = law.casts p me xs s [] r.0 r.1 in
       law.castable p me xs s [] b (r.1 ∙ ap (λ (z : Slot × Batch). Some z) q)
+
+  -- a batch of requests that have spellings has one
+  pub cast-read : (F : Formats Msg) → R.batch ≤ 32 → ((q : Request) → In q c.waiting → HasSpelling q) → IsReadAgain spell_value parse_value (Holds (next_batch F R M me c))
+  cast-read F low h =
+      let few = cut-few R.batch (is_mine R M me c) c.waiting in
+      batch-read (next_batch F R M me c) (omega (arith, few, low)) (λ q i. h q (cut-in R.batch (is_mine R M me c) c.waiting q i).0)
 
   module _ (inside : AreAllInside R) (h : IsSoundCore R M me c) where
     abbrev bf : List Value

@@ -9,9 +9,9 @@ use Rattle.iss_request.specs.declared.requests.Value.{Value}
 use Rattle.iss_request.specs.declared.setups.Setup.{Setup}
 use Rattle.iss_sb.specs.Evidence.{IsHashed, IsReached, IsSent, Module, Separate, World, accepts, at_start, empty_world, has_node, is_correct}
 use Rattle.iss_sb.specs.Laws.{IsSafe}
-use Rattle.iss_model.specs.Cluster.{AllSpelled, Backed, Begun, Cluster, Ended, IsHashedLog, IsTrueLog, Message, Names, Quiet, Rested, Scheme, Signed, advanced, chain, ended_log, world_of}
+use Rattle.iss_model.specs.Cluster.{AllSpelled, Backed, Begun, Cluster, Ended, IsHashedLog, IsTrueLog, Message, Names, Quiet, Rested, Scheme, Signed, advanced, chain, ended_log, vote_statement, world_of}
 use Rattle.iss_model.specs.Judge.{Judged}
-use Rattle.iss_model.specs.Ordered.{Among, IsExact, IsSoundRules}
+use Rattle.iss_model.specs.Ordered.{Among, IsSoundRules}
 use Rattle.iss_model.specs.Past.{Past, Piece, adopted_at, before, log_of, start_of}
 use Rattle.iss_model.specs.Rules.{Rules}
 use Rattle.iss_model.proofs.Agree.{before-true, far-start, log-true, own-true, separate-part}
@@ -21,6 +21,7 @@ use Rattle.iss_model.proofs.Epochs.{start-cut, start-extends}
 use Rattle.iss_model.proofs.Good.{Good, IsClaimed, IsTrue, Voted}
 use Rattle.iss_model.proofs.Kept.{adopted-later, claimed-later, is_true-later, sent-later, settled-of, voted-later, world-same}
 use Rattle.iss_model.proofs.Logs.{Later, Settled, before-later, later-refl, log-chain, log-later}
+use Rattle.iss_model.proofs.Statements.{apart, votes}
 
 -- the next epoch, with more pieces
 abbrev pub turned : {Msg : Type 0} → Past Msg → List Piece → Past Msg
@@ -30,12 +31,12 @@ pub turned-later : (R : Rules) {Msg : Type 0} (c : Past Msg) (pieces : List Piec
 turned-later R c pieces h = record { epoch = omega arith; here = λ l. ([], refl); there = λ e l ne. refl; adopted = (pieces, refl); settled = h.all }
 
 -- messages, claims and strings where evidence stays
-module _ {Msg : Type 0} (s : Setup) (S : Scheme) (R : Rules) (M : Module Msg) (v w : Cluster Msg) (g : Good s R M v S) (later : (j : ℕ) → is_correct s j ≡ true → Later R (v.pasts j) (w.pasts j)) (quiet : Quiet s M v w) (same : (j e l : ℕ) → is_correct s j ≡ true → (w.pasts j).evidence e l ≡ (v.pasts j).evidence e l) where
+module _ {Msg : Type 0} (s : Setup) (S : Scheme) (R : Rules) (M : Module Msg) (v w : Cluster Msg) (g : Good s R M v S) (later : (j : ℕ) → is_correct s j ≡ true → Later R (v.pasts j) (w.pasts j)) (quiet : Quiet M v w) (named : (x : Signed) (e l : ℕ) → l ≢ 255 → In x w.book → Names s M e l x.statement → In x v.book) (same : (j e l : ℕ) → is_correct s j ≡ true → (w.pasts j).evidence e l ≡ (v.pasts j).evidence e l) where
   pub sent-quiet : M.stopping ≡ true → (k : Message Msg) → In k w.messages → IsSent (world_of s w.pasts k.epoch k.leader) k.from k.to k.msg
   sent-quiet st k h = sent-later s S R M v w g later quiet.strings k.epoch k.leader k.from k.to k.msg (g.sent st k (quiet.messages st k h))
 
-  pub signed-quiet : (x : Signed) (e l : ℕ) → In x w.book → Names s M e l x.statement → IsClaimed s R M w x e l
-  signed-quiet x e l h t = claimed-later s S R M v w g later quiet.strings x e l (g.signed x e l (quiet.book x e l h t) t)
+  pub signed-quiet : (x : Signed) (e l : ℕ) → l ≢ 255 → In x w.book → Names s M e l x.statement → IsClaimed s R M w x e l
+  signed-quiet x e l low h t = claimed-later s S R M v w g later quiet.strings x e l (g.signed x e l low (named x e l low h t) t)
 
   pub strings-quiet : (e l : ℕ) (x : List ℕ) → IsHashed (world_of s w.pasts e l) x → In x w.strings
   strings-quiet e l x h = quiet.strings x (g.strings e l x (subst (λ (y : World Msg). IsHashed y x) (world-same s v w e l (λ j ok. same j e l ok)) h))
@@ -49,9 +50,9 @@ good-rested s S R M v w g rs =
       inv = λ j d k ok. rw (rs.same j ok, world-same s v w d k (λ j ok. same j d k ok)) (g.inv j d k ok);
       unborn = λ j d k ok. rw (rs.same j ok) (g.unborn j d k ok);
       judged = λ j d k ok. rw (rs.same j ok) (g.judged j d k ok);
-      sent = sent-quiet s S R M v w g later rs.quiet same;
-      signed = signed-quiet s S R M v w g later rs.quiet same;
-      strings = strings-quiet s S R M v w g later rs.quiet same;
+      sent = sent-quiet s S R M v w g later rs.quiet (λ x e l low h t. rs.book x h) same;
+      signed = signed-quiet s S R M v w g later rs.quiet (λ x e l low h t. rs.book x h) same;
+      strings = strings-quiet s S R M v w g later rs.quiet (λ x e l low h t. rs.book x h) same;
       adopted = λ j d k x ok h. adopted-later s S R M v w g later rs.quiet.strings j d k x ok (rw (rs.same j ok) at h);
       voted = λ x e d q h ok st. voted-later s S R M v w g later rs.quiet.strings e d q (g.voted x e d q (rs.book x h) ok st);
       hashed = λ j ok x. rw (rs.same j ok) (λ h. rs.quiet.strings x (g.hashed j ok x h));
@@ -74,7 +75,7 @@ good-begun s S R M w b = record {
   unborn = λ j d k ok. rw (b.pasts j ok) (λ lt. refl);
   judged = λ j d k ok. rw (b.pasts j ok) (λ le. tt);
   sent = λ st k i. absurd (b.messages k i);
-  signed = λ x e l i t. absurd (b.book x i);
+  signed = λ x e l low i t. absurd (b.book x i);
   strings = λ e l x h. absurd (subst (λ y. In h.item (y h.node)) (empty-world s w e l (λ j ok. ap (λ (c : Past _). c.evidence e l) (b.pasts j ok))) h.taken);
   adopted = λ j d k x ok. rw (b.pasts j ok) (λ h. absurd (cc));
   voted = λ x e d q h. absurd (b.book x h);
@@ -106,10 +107,10 @@ in_epoch s v d = elim (some_or_none (λ j. is_correct s j && leb d (v.pasts j).e
 
 -- node i goes into the next epoch, perhaps with more pieces
 module _ {Msg : Type 0} (s : Setup) (S : Scheme) (R : Rules) (M : Module Msg) (safe : IsSafe M) (sound : IsSoundRules s M R) (v w : Cluster Msg) (sep : Separate (Among w.strings)) (g : Good s R M v S) (i : ℕ) (ok : is_correct s i ≡ true) (pieces : List Piece)
-    (here : w.pasts i ≡ turned (v.pasts i) pieces) (other : (j : ℕ) → j ≢ i → w.pasts j ≡ v.pasts j) (quiet : Quiet s M v w) (hashed : IsHashedLog S w.strings (log_of R M i (w.pasts i))) (spelled : AllSpelled S (log_of R M i (w.pasts i)))
+    (here : w.pasts i ≡ turned (v.pasts i) pieces) (other : (j : ℕ) → j ≢ i → w.pasts j ≡ v.pasts j) (quiet : Quiet M v w) (named : (x : Signed) (e l : ℕ) → l ≢ 255 → In x w.book → Names s M e l x.statement → In x v.book) (hashed : IsHashedLog S w.strings (log_of R M i (w.pasts i))) (spelled : AllSpelled S (log_of R M i (w.pasts i)))
     (far : start_of R (log_of R M i (turned (v.pasts i) pieces)) (suc (v.pasts i).epoch) ≤ length (log_of R M i (turned (v.pasts i) pieces)))
     (pieces_true : (e k : ℕ) (x : Value) → adopted_at (pieces ++ (v.pasts i).adopted) e k ≡ Some x → (e < suc (v.pasts i).epoch) × IsTrue s R M v e k x)
-    (votes : (x : Signed) (e : ℕ) (d : List ℕ) (q : ℕ) → In x w.book → is_correct s x.by ≡ true → x.statement ≡ S.vote e d q → Voted s R M v S e d q) where
+    (votes : (x : Signed) (e : ℕ) (d : List ℕ) (q : ℕ) → In x w.book → is_correct s x.by ≡ true → x.statement ≡ vote_statement s e d q → Voted s R M v S e d q) where
   abbrev c : Past Msg
   c = v.pasts i
 
@@ -161,9 +162,9 @@ module _ {Msg : Type 0} (s : Setup) (S : Scheme) (R : Rules) (M : Module Msg) (s
           | inr y ↦ rw (g.unborn i d k ok y.1) tt
         ])
         (λ j ne okj. g.judged j d k okj) j;
-    sent = sent-quiet s S R M v w g later quiet same_evidence;
-    signed = signed-quiet s S R M v w g later quiet same_evidence;
-    strings = strings-quiet s S R M v w g later quiet same_evidence;
+    sent = sent-quiet s S R M v w g later quiet named same_evidence;
+    signed = signed-quiet s S R M v w g later quiet named same_evidence;
+    strings = strings-quiet s S R M v w g later quiet named same_evidence;
     adopted = λ j d k x. by_node (λ j y. is_correct s j ≡ true → adopted_at y.adopted d k ≡ Some x → (d < y.epoch) × IsTrue s R M w d k x)
         (λ _ h. let a = pieces_true d k x h in (a.0, is_true-later s S R M v w g later quiet.strings d k x a.1))
         (λ j ne okj h. let a = g.adopted j d k x okj h in (a.0, is_true-later s S R M v w g later quiet.strings d k x a.1)) j;
@@ -180,8 +181,8 @@ module _ {Msg : Type 0} (s : Setup) (S : Scheme) (R : Rules) (M : Module Msg) (s
   }
 
 -- an epoch ends by itself
-pub good-ended : {Msg : Type 0} (s : Setup) (S : Scheme) (R : Rules) (M : Module Msg) → IsSafe M → IsSoundRules s M R → (v w : Cluster Msg) → IsExact s S M w → Separate (Among w.strings) → Good s R M v S → (i : ℕ) → Ended s S R M v w i → Good s R M w S
-good-ended s S R M safe sound v w exact sep g i en =
+pub good-ended : {Msg : Type 0} (s : Setup) (S : Scheme) (R : Rules) (M : Module Msg) → IsSafe M → IsSoundRules s M R → (v w : Cluster Msg) → Separate (Among w.strings) → Good s R M v S → (i : ℕ) → Ended s S R M v w i → Good s R M w S
+good-ended s S R M safe sound v w sep g i en =
     let c = v.pasts i in
     let t = advanced c in
     let sep_v : Separate (Among v.strings) = separate-part (Among w.strings) (Among v.strings) en.quiet.strings sep in
@@ -189,12 +190,14 @@ good-ended s S R M safe sound v w exact sep g i en =
     let grown : Extends (log_of R M i c) (log_of R M i t) = log-later R M i c t (turned-later R c [] (settled-of s S R M v g i en.correct)) in
     let same_start : start_of R (log_of R M i t) (suc c.epoch) ≡ start_of R (log_of R M i c) (suc c.epoch) = start-extends R (log_of R M i c) (log_of R M i t) (suc c.epoch) grown here_far in
     let far : start_of R (log_of R M i t) (suc c.epoch) ≤ length (log_of R M i t) = rw same_start (le_trans here_far (extends-length (log_of R M i c) (log_of R M i t) grown)) in
-    good-turned s S R M safe sound v w sep g i en.correct [] en.here en.other en.quiet en.hashed en.spelled far
+    good-turned s S R M safe sound v w sep g i en.correct [] en.here en.other en.quiet
+    (λ x d k low h named. elim (en.book x h) [ inl a ↦ a | inr a ↦ absurd (apart s M x.statement d k c.epoch (chain S (ended_log R M i c)) (requests (ended_log R M i c)) low named a.1) ])
+    en.hashed en.spelled far
     (λ d k x h. let a = g.adopted i d k x en.correct h in (omega (arith, a.0), a.1))
     (λ x e d q h okx st. elim (en.book x h) [
       | inl a ↦ g.voted x e d q a okx st
       | inr a ↦
-          let same = exact.votes x e c.epoch d (chain S (ended_log R M i c)) q (requests (ended_log R M i c)) h st a.1 in
+          let same = votes s e c.epoch d (chain S (ended_log R M i c)) q (requests (ended_log R M i c)) (sym st ∙ a.1) in
           record {
             log = ended_log R M i c;
             whole = rw same.0 (start-cut R (log_of R M i c) (suc c.epoch) here_far);

@@ -22,7 +22,7 @@ use Rattle.iss_model.specs.Concrete.{rules_of}
 use Rattle.iss_model.specs.Node.{Body, Formats, OfModule, OfRequest, Parcel}
 use Rattle.iss_model.specs.Runs.{log_after}
 
-abbrev Word : Type 0
+abbrev pub Word : Type 0
 Word = Slot × Batch
 
 abbrev plain : Setup
@@ -63,27 +63,27 @@ telling = record {
 }
 
 -- at most one request in a batch, and no signatures
-abbrev plain_request : ℕ → ℕ → List ℕ → Request
+abbrev pub plain_request : ℕ → ℕ → List ℕ → Request
 plain_request client number payload = record { id = record { client = client; number = number }; payload = payload; sig = [] }
 
-abbrev spell_batch : Batch → List ℕ
+abbrev pub spell_batch : Batch → List ℕ
 spell_batch [] = []
 spell_batch (q ∷ qs) = q.id.client ∷ q.id.number ∷ q.payload
 
-abbrev read_batch : List ℕ → Batch
+abbrev pub read_batch : List ℕ → Batch
 read_batch (client ∷ number ∷ payload) = plain_request client number payload ∷ []
 read_batch _ = []
 
-abbrev spell : ℕ → ℕ → Body Word → List ℕ
+abbrev pub spell : ℕ → ℕ → Body Word → List ℕ
 spell from epoch (OfModule leader w) = 0 ∷ from ∷ epoch ∷ leader ∷ w.0.0 ∷ spell_batch w.1
 spell from epoch (OfRequest q) = 1 ∷ q.id.client ∷ q.id.number ∷ q.payload
 
-abbrev read : List ℕ → Option (Parcel Word)
+abbrev pub read : List ℕ → Option (Parcel Word)
 read (zero ∷ from ∷ epoch ∷ leader ∷ slot ∷ batch) = Some (record { from = from; epoch = epoch; body = OfModule leader (record { 0 = slot }, read_batch batch) })
 read (suc one ∷ client ∷ number ∷ payload) = Some (record { from = 255; epoch = 0; body = OfRequest (plain_request client number payload) })
 read _ = None
 
-abbrev short : Formats Word
+abbrev pub short : Formats Word
 short = record { wrap = λ k. spell k.from k.epoch k.body; unwrap = read }
 
 after : List Event → ℕ → List Value

@@ -1,11 +1,11 @@
 -- The invariant of every run of a cluster.
-use Rattle.std.proofs.Common.{◌≡◌, ℕ, suc, ◌+◌, ◌≤◌, ◌<◌, true, List, [], length, Some}
+use Rattle.std.proofs.Common.{◌≡◌, ◌≢◌, ℕ, suc, ◌+◌, ◌≤◌, ◌<◌, true, List, [], length, Some}
 use Rattle.iss_base.specs.Lists.{In}
 use Rattle.iss_request.specs.Log.{requests}
 use Rattle.iss_request.specs.declared.requests.Value.{Value}
 use Rattle.iss_request.specs.declared.setups.Setup.{Setup}
 use Rattle.iss_sb.specs.Evidence.{IsHashed, IsReached, IsSent, IsSigned, Module, accepts, is_correct}
-use Rattle.iss_model.specs.Cluster.{AllSpelled, Backed, Cluster, IsHashedLog, IsTrueLog, Message, Names, Scheme, Signed, chain, world_of}
+use Rattle.iss_model.specs.Cluster.{AllSpelled, Backed, Cluster, IsHashedLog, IsTrueLog, Message, Names, Scheme, Signed, chain, vote_statement, world_of}
 use Rattle.iss_model.specs.Judge.{Judged}
 use Rattle.iss_model.specs.Past.{adopted_at, before, epoch_at, log_of, start_of}
 use Rattle.iss_model.specs.Rules.{Rules}
@@ -43,10 +43,10 @@ module _ {Msg : Type 0} (s : Setup) (R : Rules) (M : Module Msg) (w : Cluster Ms
       pub unborn : (i e l : ℕ) → is_correct s i ≡ true → (w.pasts i).epoch < e → (w.pasts i).evidence e l ≡ []
       pub judged : (i e l : ℕ) → is_correct s i ≡ true → e ≤ (w.pasts i).epoch → Judged R (before R M i (w.pasts i) e) e l (accepts ((w.pasts i).evidence e l))
       pub sent : M.stopping ≡ true → (k : Message Msg) → In k w.messages → IsSent (world_of s w.pasts k.epoch k.leader) k.from k.to k.msg
-      pub signed : (x : Signed) (e l : ℕ) → In x w.book → Names s M e l x.statement → IsClaimed x e l
+      pub signed : (x : Signed) (e l : ℕ) → l ≢ 255 → In x w.book → Names s M e l x.statement → IsClaimed x e l
       pub strings : (e l : ℕ) (x : List ℕ) → IsHashed (world_of s w.pasts e l) x → In x w.strings
       pub adopted : (i e k : ℕ) (v : Value) → is_correct s i ≡ true → adopted_at (w.pasts i).adopted e k ≡ Some v → (e < (w.pasts i).epoch) × IsTrue e k v
-      pub voted : (x : Signed) (e : ℕ) (d : List ℕ) (q : ℕ) → In x w.book → is_correct s x.by ≡ true → x.statement ≡ S.vote e d q → Voted e d q
+      pub voted : (x : Signed) (e : ℕ) (d : List ℕ) (q : ℕ) → In x w.book → is_correct s x.by ≡ true → x.statement ≡ vote_statement s e d q → Voted e d q
       pub hashed : (i : ℕ) → is_correct s i ≡ true → IsHashedLog S w.strings (log_of R M i (w.pasts i))
       pub spelled : (i : ℕ) → is_correct s i ≡ true → AllSpelled S (log_of R M i (w.pasts i))
       pub root : In {A = List ℕ} [] w.strings

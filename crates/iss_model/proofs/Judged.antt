@@ -1,5 +1,5 @@
 -- What the judge says of a batch, when it accepts one, and what two batches of one list tell.
-use Rattle.std.proofs.Common.{◌≡◌, ◌≢◌, inl, inr, ℕ, suc, ◌≤◌, Bool, true, false, cond, eqb, not, List, [], ◌∷◌, length, Option, Some, None, refl, sym, ap, ◌∙◌, arith, true≢false}
+use Rattle.std.proofs.Common.{◌≡◌, ◌≢◌, inl, inr, ℕ, suc, ◌≤◌, Bool, true, false, cond, eqb, not, List, [], ◌∷◌, ◌++◌, length, Option, Some, None, refl, sym, ap, ◌∙◌, arith, true≢false}
 use Rattle.std.specs.Prelude.{nat_lt}
 use Rattle.std.proofs.lemmas.Bool.Decides.{leb_tells}
 use Rattle.iss_base.specs.Lists.{In, Different}
@@ -111,10 +111,11 @@ owner-of R before e l marked batch a x i = let r = ids-in x batch i in rw r.2 (a
 pub unordered-of : (R : Rules) (before : List Value) (e l : ℕ) (marked : List ReqId) (batch : Batch) → Accepted R before e l marked batch → (x : ReqId) → In x (ids batch) → In x (log_ids before) → ⊥
 unordered-of R before e l marked batch a x i = let r = ids-in x batch i in rw r.2 (a.unordered r.0 r.1)
 
-pub entry-judged : (R : Rules) (before : List Value) (e l : ℕ) (xs : List (Slot × Batch)) → Judged R before e l xs → (x : Slot × Batch) → In x xs → (older : List (Slot × Batch)) × (judge R before e l (marks older) x.1 ≡ None)
+-- over the marks of the older entries
+pub entry-judged : (R : Rules) (before : List Value) (e l : ℕ) (xs : List (Slot × Batch)) → Judged R before e l xs → (x : Slot × Batch) → In x xs → (newer : List (Slot × Batch)) × (older : List (Slot × Batch)) × (xs ≡ newer ++ (x ∷ older)) × (judge R before e l (marks older) x.1 ≡ None)
 entry-judged R before e l [] j x i = absurd i
-entry-judged R before e l (y ∷ ys) j x (inl q) = (ys, rw q j.1)
-entry-judged R before e l (y ∷ ys) j x (inr i) = entry-judged R before e l ys j.0 x i
+entry-judged R before e l (y ∷ ys) j x (inl q) = ([], ys, ap (λ (z : Slot × Batch). z ∷ ys) (sym q), rw q j.1)
+entry-judged R before e l (y ∷ ys) j x (inr i) = let r = entry-judged R before e l ys j.0 x i in (y ∷ r.0, r.1, ap (λ (zs : List (Slot × Batch)). y ∷ zs) r.2, r.3)
 
 in-marks : (z : ReqId) (x : Slot × Batch) (xs : List (Slot × Batch)) → In x xs → In z (ids x.1) → In z (marks xs)
 in-marks z x [] i h = absurd i

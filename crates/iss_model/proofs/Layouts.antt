@@ -1,5 +1,6 @@
 -- The rules of a good set-up are sound.
-use Rattle.std.proofs.Common.{◌≡◌, inl, inr, ℕ, suc, ◌-◌, ◌/◌, ◌<◌, ◌≤◌, true, false, eqb, ◌||◌, List, [], ◌∷◌, length, Some, refl, arith}
+use Rattle.std.proofs.Common.{◌≡◌, inl, inr, ℕ, suc, ◌-◌, ◌/◌, ◌<◌, ◌≤◌, true, false, eqb, ◌||◌, List, [], ◌∷◌, length, Some, refl, sym, ◌∙◌, arith, true≢false}
+use Rattle.std.proofs.lemmas.Bool.Decides.{leb_tells}
 use Rattle.std.specs.List.{list_any}
 use Rattle.iss_base.specs.Lists.{In}
 use Rattle.iss_base.proofs.Lists.{eqb-same}
@@ -63,6 +64,8 @@ module _ {Msg : Type 0} (M : Module Msg) (s : Setup) (h : IsSetupOf M s) where
     setup = λ log e l. refl;
     epoch = λ log e l. refl;
     leader = λ log e l. refl;
+    batch = h.good.batch_high;
+    signers = λ k statement sig h. elim (leb_tells (suc k) s.n) [ inl t ↦ t.1 | inr t ↦ absurd (true≢false (sym h ∙ t.0)) ];
   }
 
 pub all-inside : (s : Setup) → AreAllInside (rules_of s)

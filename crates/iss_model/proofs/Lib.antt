@@ -24,3 +24,13 @@ pub mod Written
 pub mod Ranges
 pub mod Everywhere
 pub mod OneLog
+pub mod Statements
+pub mod Checkpoints
+pub mod Signing
+pub mod Tested
+pub mod FromNodes
+pub mod TestedLog
+pub mod Forging
+pub mod Adopting
+pub mod Turns
+pub mod Shown

@@ -12,17 +12,18 @@ use Rattle.iss_sb.specs.declared.effects.Input.TheVariants.{Cast, Receive, Timeo
 use Rattle.iss_sb.specs.declared.effects.Params.{Params}
 use Rattle.iss_sb.specs.Evidence.{IsHashed, IsReached, IsSent, IsSigned, Item, Made, MayArrive, MayCome, Module, Move, Separate, accepts, after, and_then, is_correct, one_or_none}
 use Rattle.iss_sb.specs.Laws.{IsLawful, IsSafe}
-use Rattle.iss_model.specs.Cluster.{AllSpelled, Cluster, IsHashedLog, MayGet, MayTake, Message, Moved, Names, Scheme, Signed, world_of}
+use Rattle.iss_model.specs.Cluster.{AllSpelled, Cluster, IsHashedLog, MayGet, MayTake, Message, Moved, Names, Scheme, Signed, vote_statement, world_of}
 use Rattle.iss_model.specs.Judge.{Judged}
-use Rattle.iss_model.specs.Ordered.{Among, IsExact, IsSoundRules}
+use Rattle.iss_model.specs.Ordered.{Among, IsSoundRules}
 use Rattle.iss_model.specs.Past.{Past, adopted_at, asked_in, before, log_of, made_in, start_of, takes}
 use Rattle.iss_model.specs.Rules.{Rules}
 use Rattle.iss_model.proofs.Agree.{befores-agree, correct-there, separate-part, world-at}
 use Rattle.iss_model.proofs.Good.{Good, IsClaimed, IsTrue, Voted}
 use Rattle.iss_model.proofs.Kept.{adopted-later, befores, claimed-later, reached-later, sent-later, settled-of, voted-later, world-same}
 use Rattle.iss_model.proofs.Logs.{Later, later-refl, takes-later}
+use Rattle.iss_model.proofs.Statements.{apart, heads, leader-far}
 
-module _ {Msg : Type 0} (s : Setup) (S : Scheme) (R : Rules) (M : Module Msg) (safe : IsSafe M) (law : IsLawful M) (sound : IsSoundRules s M R) (v w : Cluster Msg) (exact : IsExact s S M w) (sep : Separate (Among w.strings)) (g : Good s R M v S) (i l : ℕ) (input : Input Msg) (leaf : ℕ) (mv : Moved s S R M v w i l input leaf) where
+module _ {Msg : Type 0} (s : Setup) (S : Scheme) (R : Rules) (M : Module Msg) (safe : IsSafe M) (law : IsLawful M) (sound : IsSoundRules s M R) (v w : Cluster Msg) (sep : Separate (Among w.strings)) (g : Good s R M v S) (i l : ℕ) (input : Input Msg) (leaf : ℕ) (mv : Moved s S R M v w i l input leaf) where
   abbrev e : ℕ
   e = (v.pasts i).epoch
 
@@ -67,6 +68,9 @@ module _ {Msg : Type 0} (s : Setup) (S : Scheme) (R : Rules) (M : Module Msg) (s
       let n = law.names p from msg c inside in
       subst (λ (t : Setup). Names t M e l c.statement) (sound.setup bf e l) (subst (λ (d : ℕ). Names p.setup M d l c.statement) (sound.epoch bf e l) (subst (λ (k : ℕ). Names p.setup M p.epoch.0 k c.statement) (sound.leader bf e l) n))
 
+  far : l ≢ 255
+  far = leader-far s M R sound bf e l mv.leads
+
   -- a claim of the instance was signed in its world
   claim_old : (x : Signed) → IsClaimed s R M v x e l → IsSigned M p (world_of s v.pasts e l) x.by x.statement
   claim_old x h =
@@ -75,12 +79,15 @@ module _ {Msg : Type 0} (s : Setup) (S : Scheme) (R : Rules) (M : Module Msg) (s
 
   arrives : (stops : Bool) → M.stopping ≡ stops → (from : ℕ) (msg : Msg) → MayGet stops s R M v i l from msg → MayArrive stops M p (world_of s v.pasts e l) i from msg
   arrives true st from msg k = g.sent st (record { from = from; to = i; epoch = e; leader = l; msg = msg }) k
-  arrives false st from msg k = λ c inside ok.
-      let right : is_correct s c.by.0 ≡ true = subst (λ (t : Setup). is_correct t c.by.0 ≡ true) (sound.setup bf e l) ok in
-      claim_old (record { by = c.by.0; statement = c.statement }) (g.signed (record { by = c.by.0; statement = c.statement }) e l (k c inside right) (claim_names from msg c inside))
+  arrives false st from msg k = record {
+    named = k.named;
+    read = k.read;
+    verified = λ c inside. subst (λ (t : Setup). c.by.0 < t.n) (sym (sound.setup bf e l)) (sound.signers c.by.0 c.statement c.sig (k.verified c inside));
+    signed = λ c inside ok. claim_old (record { by = c.by.0; statement = c.statement }) (g.signed (record { by = c.by.0; statement = c.statement }) e l far (k.signed c inside ok) (claim_names from msg c inside));
+  }
 
   may_come : (x : Input Msg) → MayTake s R M v i l x → MayCome M p (world_of s v.pasts e l) i x
-  may_come (Cast slot b) h = h ∙ sym (sound.leader bf e l)
+  may_come (Cast slot b) h = (h.0 ∙ sym (sound.leader bf e l), h.1)
   may_come (Receive from msg) h = arrives M.stopping refl from.0 msg h
   may_come Timeout h = tt
 
@@ -133,11 +140,11 @@ module _ {Msg : Type 0} (s : Setup) (S : Scheme) (R : Rules) (M : Module Msg) (s
     | inr b ↦ sent-later s S R M v w g later mv.strings k.epoch k.leader k.from k.to k.msg (g.sent st k b)
   ]
 
-  signed' : (x : Signed) (d k : ℕ) → In x w.book → Names s M d k x.statement → IsClaimed s R M w x d k
-  signed' x d k h named = elim (mv.book x h) [
+  signed' : (x : Signed) (d k : ℕ) → k ≢ 255 → In x w.book → Names s M d k x.statement → IsClaimed s R M w x d k
+  signed' x d k low h named = elim (mv.book x h) [
     | inl a ↦
         let q : Names s M e l x.statement = subst (λ (y : Signed). Names s M e l y.statement) (sym a.is) (claim_names i a.msg a.claim a.made) in
-        let pair = exact.heads x e l d k h q named in
+        let pair = heads s M x.statement e l d k q named in
         let bq : before R M i (w.pasts i) e ≡ bf = befores_are i e mv.correct (omega arith) in
         let made2 : In a.claim (M.claims (R.params (before R M i (w.pasts i) e) e l) i a.msg) = rw bq a.made in
         let here : IsClaimed s R M w (record { by = i; statement = a.claim.statement }) e l = record {
@@ -147,7 +154,7 @@ module _ {Msg : Type 0} (s : Setup) (S : Scheme) (R : Rules) (M : Module Msg) (s
           signed = record { item = item; taken = taken_i; to = a.to; msg = a.msg; sent = a.sent; claim = a.claim; made = made2; by = a.by; is = refl };
         } in
         subst (λ (n : ℕ). IsClaimed s R M w x n k) pair.0 (subst (λ (n : ℕ). IsClaimed s R M w x e n) pair.1 (subst (λ (y : Signed). IsClaimed s R M w y e l) (sym a.is) here))
-    | inr b ↦ claimed-later s S R M v w g later mv.strings x d k (g.signed x d k b named)
+    | inr b ↦ claimed-later s S R M v w g later mv.strings x d k (g.signed x d k low b named)
   ]
 
   inv_here : IsReached M p (world_of s w.pasts e l)
@@ -189,9 +196,9 @@ module _ {Msg : Type 0} (s : Setup) (S : Scheme) (R : Rules) (M : Module Msg) (s
   adopted' : (j d k : ℕ) (x : Value) → is_correct s j ≡ true → adopted_at (w.pasts j).adopted d k ≡ Some x → (d < (w.pasts j).epoch) × IsTrue s R M w d k x
   adopted' j d k x ok h = adopted-later s S R M v w g later mv.strings j d k x ok (rw (by_node (λ j c. c.adopted ≡ (v.pasts j).adopted) refl (λ j ne. refl) j) at h)
 
-  voted' : (x : Signed) (d : ℕ) (a : List ℕ) (q : ℕ) → In x w.book → is_correct s x.by ≡ true → x.statement ≡ S.vote d a q → Voted s R M w S d a q
+  voted' : (x : Signed) (d : ℕ) (a : List ℕ) (q : ℕ) → In x w.book → is_correct s x.by ≡ true → x.statement ≡ vote_statement s d a q → Voted s R M w S d a q
   voted' x d a q h ok is = elim (mv.book x h) [
-    | inl own ↦ absurd (exact.apart x e l d a q h (subst (λ (y : Signed). Names s M e l y.statement) (sym own.is) (claim_names i own.msg own.claim own.made)) is)
+    | inl own ↦ absurd (apart s M x.statement e l d a q far (subst (λ (y : Signed). Names s M e l y.statement) (sym own.is) (claim_names i own.msg own.claim own.made)) is)
     | inr b ↦ voted-later s S R M v w g later mv.strings d a q (g.voted x d a q b ok is)
   ]
 

@@ -72,19 +72,20 @@ module _ {Msg : Type 0} (s : Setup) (S : Scheme) (R : Rules) (M : Module Msg) (s
     pub node : ℕ
     pub correct : is_correct s node ≡ true
     pub start : before R M node (w.pasts node) (epoch_at R older) ≡ before_at R older
-    pub held : In {A = Slot × Batch} (at older, b) (accepts ((w.pasts node).evidence (epoch_at R older) (leader_at R older)))
-    pub marked : List ReqId
-    pub judged : judge R (before_at R older) (epoch_at R older) (leader_at R older) marked b ≡ None
-    pub is : Accepted R (before_at R older) (epoch_at R older) (leader_at R older) marked b
+    pub newer : List (Slot × Batch)
+    pub earlier : List (Slot × Batch)
+    pub held : accepts ((w.pasts node).evidence (epoch_at R older) (leader_at R older)) ≡ newer ++ ((at older, b) ∷ earlier)
+    pub judged : judge R (before_at R older) (epoch_at R older) (leader_at R older) (marks earlier) b ≡ None
+    pub is : Accepted R (before_at R older) (epoch_at R older) (leader_at R older) (marks earlier) b
 
   pub valid : (older : List Value) (b : Batch) → Stands older (Holds b) → Valid older b
   valid older b st =
       let t : Taken older (at older) (at older) b b = taken older b st st.is.node (at older) b st.is.correct st.is.is in
       let a = entry-judged R (before_at R older) (epoch_at R older) (leader_at R older) _ t.judged (at older, b) t.first in
-      record { node = t.node; correct = t.correct; start = t.start; held = t.first; marked = marks a.0; judged = a.1; is = accepted R (before_at R older) (epoch_at R older) (leader_at R older) (marks a.0) b a.1 }
+      record { node = t.node; correct = t.correct; start = t.start; newer = a.0; earlier = a.1; held = a.2; judged = a.3; is = accepted R (before_at R older) (epoch_at R older) (leader_at R older) (marks a.1) b a.3 }
 
   owned : (older : List Value) (b : Batch) → Valid older b → (z : ReqId) → In z (ids b) → R.owner (before_at R older) (epoch_at R older) z ≡ leader_at R older
-  owned older b v = owner-of R (before_at R older) (epoch_at R older) (leader_at R older) v.marked b v.is
+  owned older b v = owner-of R (before_at R older) (epoch_at R older) (leader_at R older) (marks v.earlier) b v.is
 
   -- where an identity of the log stands
   pub record Found (z : ReqId) (log : List Value) : Type 0 where
@@ -136,7 +137,7 @@ module _ {Msg : Type 0} (s : Setup) (S : Scheme) (R : Rules) (M : Module Msg) (s
             same-epoch older f.older b f.batch z st f.stands len x (omega (arith, mono, t.1)) zb f.within
         | inr t ↦
             let below : length f.older < start_of R older (epoch_at R older) = epoch-below R sound.some_slots f.older older x t.1 in
-            unordered-of R (before_at R older) (epoch_at R older) (leader_at R older) vb.marked b vb.is z zb (in-before (start_of R older (epoch_at R older)) (Holds f.batch ∷ f.older) older z f.part below (in_left z (ids f.batch) (log_ids f.older) f.within))
+            unordered-of R (before_at R older) (epoch_at R older) (leader_at R older) (marks vb.earlier) b vb.is z zb (in-before (start_of R older (epoch_at R older)) (Holds f.batch ∷ f.older) older z f.part below (in_left z (ids f.batch) (log_ids f.older) f.within))
       ]
 
   pub once : (log : List Value) → IsTrueLog s R M w.pasts log → Once log

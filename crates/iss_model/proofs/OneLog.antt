@@ -31,20 +31,20 @@ cluster-run s M h stops faithful law events low =
       pasts = refl;
       reached = k.reach;
       sound = sound-rules M s h;
-      exact = unvoted-exact s M (pasts_after s M events) k.messages k.strings;
+      exact = unvoted-exact s (pasts_after s M events) k.messages k.strings;
       hashed = k.hashed;
     }
 
 -- what composition says of clusters is what it says of a run
 pub ordered-run : {Msg : Type 0} (s : Setup) (M : Module Msg) (events : List Event) →
-    ((t : Setup) (S : Scheme) (R : Rules) → IsSoundRules t M R → (w : Cluster Msg) → IsExact t S M w → Separate (Among w.strings) → Reach t S R M w → Ordered t R M w.pasts) →
+    ((t : Setup) (S : Scheme) (R : Rules) → IsSoundRules t M R → (w : Cluster Msg) → IsExact t S w → Separate (Among w.strings) → Reach t S R M w → Ordered t R M w.pasts) →
     IsClusterRun s M events → IsSeparateRun s M events → Ordered s (rules_of s) M (pasts_after s M events)
 ordered-run {Msg} s M events composed c sep =
     subst (λ (pasts : ℕ → Past Msg). Ordered s (rules_of s) M pasts) c.pasts
     (composed s c.scheme (rules_of s) c.sound c.cluster c.exact (separate-part (IsRunString s (pasts_after s M events)) (λ x. In x c.cluster.strings) c.hashed sep) c.reached)
 
 -- a log that is cut behind a value, newest first
-turned-cut : (log front back : List Value) (v : Value) → reverse log ≡ front ++ v ∷ back → Extends (v ∷ reverse front) log
+pub turned-cut : (log front back : List Value) (v : Value) → reverse log ≡ front ++ v ∷ back → Extends (v ∷ reverse front) log
 turned-cut log front back v is = (
   reverse back,
   sym (reverse-reverse log) ∙ ap (λ (t : List Value). reverse t) is ∙ reverse-append front (v ∷ back)

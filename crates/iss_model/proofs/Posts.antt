@@ -23,25 +23,25 @@ addressee-reached To_all n j h = tt
 addressee-reached (To_one k) n j (inl e) = sym e
 addressee-reached (To_one k) n j (inr h) = absurd h
 
--- the messages of sends in the instance of l, in the first epoch
-abbrev pub told_to : {Msg : Type 0} → ℕ → ℕ → Msg → List ℕ → List (Message Msg)
-told_to i l msg [] = []
-told_to i l msg (j ∷ js) = record { from = i; to = j; epoch = 0; leader = l; msg = msg } ∷ told_to i l msg js
+-- the messages of sends in the instance of l, in epoch d
+abbrev pub told_to : {Msg : Type 0} → ℕ → ℕ → ℕ → Msg → List ℕ → List (Message Msg)
+told_to i d l msg [] = []
+told_to i d l msg (j ∷ js) = record { from = i; to = j; epoch = d; leader = l; msg = msg } ∷ told_to i d l msg js
 
-abbrev pub told : {Msg : Type 0} → ℕ → ℕ → ℕ → List (To × Msg) → List (Message Msg)
-told n i l [] = []
-told n i l (x ∷ xs) = told_to i l x.1 (addressees n x.0) ++ told n i l xs
+abbrev pub told : {Msg : Type 0} → ℕ → ℕ → ℕ → ℕ → List (To × Msg) → List (Message Msg)
+told n i d l [] = []
+told n i d l (x ∷ xs) = told_to i d l x.1 (addressees n x.0) ++ told n i d l xs
 
-told_to-is : {Msg : Type 0} (i l : ℕ) (msg : Msg) (js : List ℕ) (k : Message Msg) → In k (told_to i l msg js) → In k.to js × (k ≡ record { from = i; to = k.to; epoch = 0; leader = l; msg = msg })
-told_to-is i l msg [] k h = absurd h
-told_to-is i l msg (j ∷ js) k (inl e) = (inl (ap (λ (z : Message _). z.to) e), e ∙ ap (λ (t : ℕ). record { from = i; to = t; epoch = 0; leader = l; msg = msg }) (sym (ap (λ (z : Message _). z.to) e)))
-told_to-is i l msg (j ∷ js) k (inr h) = let r = told_to-is i l msg js k h in (inr r.0, r.1)
+told_to-is : {Msg : Type 0} (i d l : ℕ) (msg : Msg) (js : List ℕ) (k : Message Msg) → In k (told_to i d l msg js) → In k.to js × (k ≡ record { from = i; to = k.to; epoch = d; leader = l; msg = msg })
+told_to-is i d l msg [] k h = absurd h
+told_to-is i d l msg (j ∷ js) k (inl e) = (inl (ap (λ (z : Message _). z.to) e), e ∙ ap (λ (t : ℕ). record { from = i; to = t; epoch = d; leader = l; msg = msg }) (sym (ap (λ (z : Message _). z.to) e)))
+told_to-is i d l msg (j ∷ js) k (inr h) = let r = told_to-is i d l msg js k h in (inr r.0, r.1)
 
-pub told-is : {Msg : Type 0} (n i l : ℕ) (sends : List (To × Msg)) (k : Message Msg) → In k (told n i l sends) → IsOneOf i 0 l sends k
-told-is n i l [] k h = absurd h
-told-is n i l (x ∷ xs) k h = elim (in_append k (told_to i l x.1 (addressees n x.0)) (told n i l xs) h) [
+pub told-is : {Msg : Type 0} (n i d l : ℕ) (sends : List (To × Msg)) (k : Message Msg) → In k (told n i d l sends) → IsOneOf i d l sends k
+told-is n i d l [] k h = absurd h
+told-is n i d l (x ∷ xs) k h = elim (in_append k (told_to i d l x.1 (addressees n x.0)) (told n i d l xs) h) [
   | inl a ↦
-      let r = told_to-is i l x.1 (addressees n x.0) k a in
+      let r = told_to-is i d l x.1 (addressees n x.0) k a in
       record {
         from = ap (λ (z : Message _). z.from) r.1;
         epoch = ap (λ (z : Message _). z.epoch) r.1;
@@ -51,14 +51,14 @@ told-is n i l (x ∷ xs) k h = elim (in_append k (told_to i l x.1 (addressees n 
         sent = inl (ap (λ m. (x.0, m)) (ap (λ (z : Message _). z.msg) r.1));
       }
   | inr b ↦
-      let r = told-is n i l xs k b in
+      let r = told-is n i d l xs k b in
       record { from = r.from; epoch = r.epoch; leader = r.leader; to = r.to; reaches = r.reaches; sent = inr r.sent }
 ]
 
-in-told_to : {Msg : Type 0} (i l : ℕ) (msg : Msg) (js : List ℕ) (j : ℕ) → In j js → In (record { from = i; to = j; epoch = 0; leader = l; msg = msg }) (told_to i l msg js)
-in-told_to i l msg [] j h = absurd h
-in-told_to i l msg (k ∷ js) j (inl e) = inl (ap (λ (t : ℕ). record { from = i; to = t; epoch = 0; leader = l; msg = msg }) e)
-in-told_to i l msg (k ∷ js) j (inr h) = inr (in-told_to i l msg js j h)
+in-told_to : {Msg : Type 0} (i d l : ℕ) (msg : Msg) (js : List ℕ) (j : ℕ) → In j js → In (record { from = i; to = j; epoch = d; leader = l; msg = msg }) (told_to i d l msg js)
+in-told_to i d l msg [] j h = absurd h
+in-told_to i d l msg (k ∷ js) j (inl e) = inl (ap (λ (t : ℕ). record { from = i; to = t; epoch = d; leader = l; msg = msg }) e)
+in-told_to i d l msg (k ∷ js) j (inr h) = inr (in-told_to i d l msg js j h)
 
 -- packets are old, or one of these
 posted_to-in : (js : List ℕ) (w : Network) (from : ℕ) (bytes : List ℕ) (p : Sent) → In p (posted_to w from bytes js).packets → In p w.packets ⊎ ((p.bytes ≡ bytes) × In p.to js)
@@ -72,20 +72,20 @@ posted_to-in (j ∷ js) w from bytes p h = elim (posted_to-in js (posted w (reco
 ]
 
 -- the packet carries a message of the sends
-pub record Carries {Msg : Type 0} (F : Formats Msg) (n i l : ℕ) (sends : List (To × Msg)) (p : Sent) : Type 0 where
+pub record Carries {Msg : Type 0} (F : Formats Msg) (n i d l : ℕ) (sends : List (To × Msg)) (p : Sent) : Type 0 where
   pub to : To
   pub msg : Msg
   pub sent : In {A = To × Msg} (to, msg) sends
   pub addressed : In p.to (addressees n to)
-  pub bytes : p.bytes ≡ F.wrap (record { from = i; epoch = 0; body = OfModule l msg })
-  pub is_told : In (record { from = i; to = p.to; epoch = 0; leader = l; msg = msg }) (told n i l sends)
+  pub bytes : p.bytes ≡ F.wrap (record { from = i; epoch = d; body = OfModule l msg })
+  pub is_told : In (record { from = i; to = p.to; epoch = d; leader = l; msg = msg }) (told n i d l sends)
 
-pub posted-in : {Msg : Type 0} (F : Formats Msg) (n i l : ℕ) (sends : List (To × Msg)) (w : Network) (p : Sent) → In p (posted_all n w i (packed F i 0 l sends)).packets → In p w.packets ⊎ Carries F n i l sends p
-posted-in F n i l [] w p h = inl h
-posted-in F n i l (x ∷ xs) w p h = elim (posted-in F n i l xs (posted_to w i (F.wrap (record { from = i; epoch = 0; body = OfModule l x.1 })) (addressees n x.0)) p h) [
-  | inr r ↦ inr (record { to = r.to; msg = r.msg; sent = inr r.sent; addressed = r.addressed; bytes = r.bytes; is_told = in_right _ (told_to i l x.1 (addressees n x.0)) (told n i l xs) r.is_told })
-  | inl a ↦ elim (posted_to-in (addressees n x.0) w i (F.wrap (record { from = i; epoch = 0; body = OfModule l x.1 })) p a) [
+pub posted-in : {Msg : Type 0} (F : Formats Msg) (n i d l : ℕ) (sends : List (To × Msg)) (w : Network) (p : Sent) → In p (posted_all n w i (packed F i d l sends)).packets → In p w.packets ⊎ Carries F n i d l sends p
+posted-in F n i d l [] w p h = inl h
+posted-in F n i d l (x ∷ xs) w p h = elim (posted-in F n i d l xs (posted_to w i (F.wrap (record { from = i; epoch = d; body = OfModule l x.1 })) (addressees n x.0)) p h) [
+  | inr r ↦ inr (record { to = r.to; msg = r.msg; sent = inr r.sent; addressed = r.addressed; bytes = r.bytes; is_told = in_right _ (told_to i d l x.1 (addressees n x.0)) (told n i d l xs) r.is_told })
+  | inl a ↦ elim (posted_to-in (addressees n x.0) w i (F.wrap (record { from = i; epoch = d; body = OfModule l x.1 })) p a) [
     | inl b ↦ inl b
-    | inr b ↦ inr (record { to = x.0; msg = x.1; sent = inl refl; addressed = b.1; bytes = b.0; is_told = in_left _ (told_to i l x.1 (addressees n x.0)) (told n i l xs) (in-told_to i l x.1 (addressees n x.0) p.to b.1) })
+    | inr b ↦ inr (record { to = x.0; msg = x.1; sent = inl refl; addressed = b.1; bytes = b.0; is_told = in_left _ (told_to i d l x.1 (addressees n x.0)) (told n i d l xs) (in-told_to i d l x.1 (addressees n x.0) p.to b.1) })
   ]
 ]

@@ -60,7 +60,7 @@ module _ {Msg : Type 0} (s : Setup) (F : Formats Msg) (R : Rules) (M : Module Ms
 
   -- every core of a run is sound
   pub sound-run : (events : List Event) → AreAtNodes s.n events → (i : ℕ) → IsSoundCore R M i ((net_after s F R M events).cores i)
-  sound-run events low = (after-ok events low).cores
+  sound-run events low i = ((after-ok events low).cores i).sound
 
   -- what is printed after more events begins with what was printed
   pub later-run : (events : List Event) → AreAtNodes s.n events → (more : List Event) → AreAtNodes s.n more → (i : ℕ) → IsPrefix (log_after s F R M events i) (log_after s F R M (events ++ more) i)

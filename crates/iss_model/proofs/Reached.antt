@@ -19,22 +19,19 @@ use Rattle.iss_model.proofs.Moves.{good-moved}
 use Rattle.iss_model.proofs.Once.{once, valid}
 
 -- what is exact of a whole book is so of a part of it
-exact-part : {Msg : Type 0} (s : Setup) (S : Scheme) (M : Module Msg) (v w : Cluster Msg) → ((x : Signed) → In x v.book → In x w.book) → IsExact s S M w → IsExact s S M v
-exact-part s S M v w sub exact = record {
-  heads = λ x e l d k i. exact.heads x e l d k (sub x i);
-  apart = λ x e l d a q i. exact.apart x e l d a q (sub x i);
-  votes = λ x e d a b q r i. exact.votes x e d a b q r (sub x i);
+exact-part : {Msg : Type 0} (s : Setup) (S : Scheme) (v w : Cluster Msg) → ((x : Signed) → In x v.book → In x w.book) → IsExact s S w → IsExact s S v
+exact-part s S v w sub exact = record {
   chained = λ x e a q i. exact.chained x e a q (sub x i);
   quorums = exact.quorums;
 }
 
 module _ {Msg : Type 0} (s : Setup) (S : Scheme) (R : Rules) (M : Module Msg) (safe : IsSafe M) (law : IsLawful M) (sound : IsSoundRules s M R) where
-  pub good-reach : (w : Cluster Msg) → IsExact s S M w → Separate (Among w.strings) → Reach s S R M w → Good s R M w S
+  pub good-reach : (w : Cluster Msg) → IsExact s S w → Separate (Among w.strings) → Reach s S R M w → Good s R M w S
   good-reach w exact sep (begin b) = good-begun s S R M w b
-  good-reach w exact sep (move {v} i l input leaf r mv) = good-moved s S R M safe law sound v w exact sep (good-reach v (exact-part s S M v w mv.old_book exact) (separate-part (Among w.strings) (Among v.strings) mv.strings sep) r) i l input leaf mv
-  good-reach w exact sep (ends {v} i r en) = good-ended s S R M safe sound v w exact sep (good-reach v (exact-part s S M v w en.quiet.old_book exact) (separate-part (Among w.strings) (Among v.strings) en.quiet.strings sep) r) i en
-  good-reach w exact sep (adopt {v} i piece cert r ad) = good-adopted s S R M safe sound v w exact sep (good-reach v (exact-part s S M v w ad.quiet.old_book exact) (separate-part (Among w.strings) (Among v.strings) ad.quiet.strings sep) r) i piece cert ad
-  good-reach w exact sep (rest {v} r rs) = good-rested s S R M v w (good-reach v (exact-part s S M v w rs.quiet.old_book exact) (separate-part (Among w.strings) (Among v.strings) rs.quiet.strings sep) r) rs
+  good-reach w exact sep (move {v} i l input leaf r mv) = good-moved s S R M safe law sound v w sep (good-reach v (exact-part s S v w mv.old_book exact) (separate-part (Among w.strings) (Among v.strings) mv.strings sep) r) i l input leaf mv
+  good-reach w exact sep (ends {v} i r en) = good-ended s S R M safe sound v w sep (good-reach v (exact-part s S v w en.quiet.old_book exact) (separate-part (Among w.strings) (Among v.strings) en.quiet.strings sep) r) i en
+  good-reach w exact sep (adopt {v} i piece cert r ad) = good-adopted s S R M safe sound v w exact sep (good-reach v (exact-part s S v w ad.quiet.old_book exact) (separate-part (Among w.strings) (Among v.strings) ad.quiet.strings sep) r) i piece cert ad
+  good-reach w exact sep (rest {v} r rs) = good-rested s S R M v w (good-reach v (exact-part s S v w rs.quiet.old_book exact) (separate-part (Among w.strings) (Among v.strings) rs.quiet.strings sep) r) rs
 
   pub ordered : (w : Cluster Msg) → Separate (Among w.strings) → Good s R M w S → Ordered s R M w.pasts
   ordered w sep g = record {
@@ -52,7 +49,7 @@ module _ {Msg : Type 0} (s : Setup) (S : Scheme) (R : Rules) (M : Module Msg) (s
         let h : Chain (Backed s R M w.pasts) (x.0 ++ (Holds b ∷ older)) = rw x.1 at (own-true s S R M safe sound w sep g i ok) in
         let k = chain-part (Backed s R M w.pasts) x.0 (Holds b) older h in
         let y = valid s S R M safe sound w sep g older b (record { log = k.0; is = k.1 }) in
-        record { node = y.node; correct = y.correct; held = y.held; start = y.start; marked = y.marked; judged = y.judged };
+        record { node = y.node; correct = y.correct; newer = y.newer; earlier = y.earlier; held = y.held; start = y.start; judged = y.judged };
     instances = g.inv;
     backed = own-true s S R M safe sound w sep g;
     epochs = λ i j oki okj q.
@@ -60,5 +57,5 @@ module _ {Msg : Type 0} (s : Setup) (S : Scheme) (R : Rules) (M : Module Msg) (s
         befores-agree s S R M safe sound w sep g i j oki okj (w.pasts i).epoch (omega arith) le ∙ ap (λ (n : ℕ). before R M j (w.pasts j) n) q;
   }
 
-  pub composition : (w : Cluster Msg) → IsExact s S M w → Separate (Among w.strings) → Reach s S R M w → Ordered s R M w.pasts
+  pub composition : (w : Cluster Msg) → IsExact s S w → Separate (Among w.strings) → Reach s S R M w → Ordered s R M w.pasts
   composition w exact sep r = ordered w sep (good-reach w exact sep r)

@@ -19,7 +19,7 @@ use Rattle.iss_sb.specs.declared.effects.Input.TheVariants.{Cast, Receive, Timeo
 use Rattle.iss_sb.specs.declared.effects.Params.{Params}
 use Rattle.iss_sb.specs.declared.effects.To.{To}
 use Rattle.iss_sb.specs.declared.effects.To.TheVariants.{All as To_all, One as To_one}
-use Rattle.iss_sb.specs.Calls.{IsGoodParams, kind_of}
+use Rattle.iss_sb.specs.Calls.{IsGoodInput, IsGoodParams, kind_of}
 use Rattle.iss_sb.specs.Evidence.{Item, Made, Module, accepts, has_node, is_correct}
 use Rattle.iss_sb.specs.Laws.{IsLawful}
 use Rattle.iss_model.specs.declared.causes.NodeEvent.{NodeEvent}
@@ -31,35 +31,32 @@ use Rattle.iss_model.specs.Past.{Past, asked_in, before, before_at, epoch_at, le
 use Rattle.iss_model.specs.Rules.{Rules}
 use Rattle.iss_model.specs.Run.{Net, Progress, addressees, after_step, at_core, begin_net, calms, delivered_to, delivers, delivers_each, goes_on, happens, injects, loses, posted_all, pumps, request_of, run}
 use Rattle.iss_model.specs.Runs.{AreAtNodes, IsAtNode, IsFaithful, IsRunString, pasts_of}
-use Rattle.iss_model.specs.Sound.{AreAllInside, IsSoundCore}
-use Rattle.iss_model.proofs.Casts.{cast-judged, idle-sound, step-sound}
+use Rattle.iss_model.specs.Sound.{AreAllInside, IsReadyCore}
+use Rattle.iss_model.proofs.Casts.{cast-judged, cast-read, idle-ready, step-ready}
 use Rattle.iss_model.proofs.Logs.{Later, Settled, evidence-later, later-refl, log-later, takes-later}
 use Rattle.iss_model.proofs.Posts.{in-below, posted-in, told, told-is}
 use Rattle.iss_model.proofs.Steps.{Took, asked, cast, fired, received, took}
 
 -- the scheme of a cluster in which nobody votes
 abbrev pub unvoted : Scheme
-unvoted = record { vote = λ e a q. []; spells = λ v. true; spelled = λ v. []; link = λ a b. []; is_quorum = λ ks. false }
+unvoted = record { spells = λ v. true; spelled = λ v. []; link = λ a b. []; is_quorum = λ ks. false }
 
-unvoted-strings : (log : List Value) (x : List ℕ) → In x (chain_strings unvoted log) → x ≡ []
+pub unvoted-strings : (log : List Value) (x : List ℕ) → In x (chain_strings unvoted log) → x ≡ []
 unvoted-strings [] x h = absurd h
 unvoted-strings (v ∷ log) x (inl e) = e
 unvoted-strings (v ∷ log) x (inr (inl e)) = e
 unvoted-strings (v ∷ log) x (inr (inr h)) = unvoted-strings log x h
 
-pub unvoted-exact : {Msg : Type 0} (s : Setup) (M : Module Msg) (pasts : ℕ → Past Msg) (messages : List (Message Msg)) (strings : List (List ℕ)) → IsExact s unvoted M (record { pasts = pasts; messages = messages; book = []; strings = strings })
-unvoted-exact s M pasts messages strings = record {
-  heads = λ x e l d k i. absurd i;
-  apart = λ x e l d a q i. absurd i;
-  votes = λ x e d a b q r i. absurd i;
+pub unvoted-exact : {Msg : Type 0} (s : Setup) (pasts : ℕ → Past Msg) (messages : List (Message Msg)) (strings : List (List ℕ)) → IsExact s unvoted (record { pasts = pasts; messages = messages; book = []; strings = strings })
+unvoted-exact s pasts messages strings = record {
   chained = λ x e a q i. absurd i;
   quorums = λ ks h. absurd (true≢false (sym h));
 }
 
-some-is : {A : Type 0} (x t : A) → Some x ≡ Some t → x ≡ t
+pub some-is : {A : Type 0} (x t : A) → Some x ≡ Some t → x ≡ t
 some-is x t h = cc
 
-none-some : {A : Type 0} (t : A) → None ≡ Some t → ⊥
+pub none-some : {A : Type 0} (t : A) → None ≡ Some t → ⊥
 none-some t h = cc
 
 -- strings of the instances stay
@@ -75,10 +72,10 @@ run-string-later {Msg} s R u v later x (e, l, inr h) = (e, l, inr (record { node
 pub record Grows {Msg : Type 0} (R : Rules) (M : Module Msg) (w v : Net Msg) : Type 0 where
   pub logs : (j : ℕ) → Extends (log_of R M j (pasts_of w j)) (log_of R M j (pasts_of v j))
 
-grows-same : {Msg : Type 0} (R : Rules) (M : Module Msg) (w v : Net Msg) → ((j : ℕ) → pasts_of v j ≡ pasts_of w j) → Grows R M w v
+pub grows-same : {Msg : Type 0} (R : Rules) (M : Module Msg) (w v : Net Msg) → ((j : ℕ) → pasts_of v j ≡ pasts_of w j) → Grows R M w v
 grows-same R M w v q = record { logs = λ j. rw (q j) (extends-refl (log_of R M j (pasts_of w j))) }
 
-grows-trans : {Msg : Type 0} (R : Rules) (M : Module Msg) (u v w : Net Msg) → Grows R M u v → Grows R M v w → Grows R M u w
+pub grows-trans : {Msg : Type 0} (R : Rules) (M : Module Msg) (u v w : Net Msg) → Grows R M u v → Grows R M v w → Grows R M u w
 grows-trans R M u v w a b = record { logs = λ j. extends-trans _ _ _ (a.logs j) (b.logs j) }
 
 module _ {Msg : Type 0} (s : Setup) (F : Formats Msg) (R : Rules) (M : Module Msg) (sound : IsSoundRules s M R) (stops : M.stopping ≡ true) (faithful : IsFaithful s F) (law : IsLawful M) where
@@ -93,10 +90,10 @@ module _ {Msg : Type 0} (s : Setup) (F : Formats Msg) (R : Rules) (M : Module Ms
   below-n : (i : ℕ) → i < s.n → nat_lt i s.n ≡ true
   below-n i lt = elim (leb_tells (suc i) s.n) [ inl t ↦ t.0 | inr t ↦ absurd (omega (arith, t.1, lt)) ]
 
-  correct-all : (i : ℕ) → i < s.n → is_correct s i ≡ true
+  pub correct-all : (i : ℕ) → i < s.n → is_correct s i ≡ true
   correct-all i lt = both (nat_lt i s.n) (not (has_node i s.faulty)) (below-n i lt) (ap (λ (ks : List NodeId). not (has_node i ks)) faultless)
 
-  leader-below : (log : List Value) (e l : ℕ) → R.leads log e l ≡ true → l < s.n
+  pub leader-below : (log : List Value) (e l : ℕ) → R.leads log e l ≡ true → l < s.n
   leader-below log e l h =
       let lt : (R.params log e l).leader.0 < (R.params log e l).setup.n = (sound.good log e l h).leader in
       let lt2 : l < (R.params log e l).setup.n = subst (λ (k : ℕ). k < (R.params log e l).setup.n) (sound.leader log e l) lt in
@@ -118,7 +115,7 @@ module _ {Msg : Type 0} (s : Setup) (F : Formats Msg) (R : Rules) (M : Module Ms
     pub strings : List (List ℕ)
     pub reach : Reach s unvoted R M (record { pasts = pasts_of w; messages = messages; book = []; strings = strings })
     pub root : In {A = List ℕ} [] strings
-    pub cores : (j : ℕ) → IsSoundCore R M j (w.cores j)
+    pub cores : (j : ℕ) → IsReadyCore R M j (w.cores j)
     pub epoch : (j : ℕ) → (pasts_of w j).epoch ≡ 0
     pub packets : (p : Sent) → In p w.network.packets → IsWrapped messages p
     pub hashed : (x : List ℕ) → In x strings → IsRunString s (pasts_of w) x
@@ -144,10 +141,10 @@ module _ {Msg : Type 0} (s : Setup) (F : Formats Msg) (R : Rules) (M : Module Ms
   more-wrapped a b p h = record { from = h.from; leader = h.leader; msg = h.msg; low_from = h.low_from; low_leader = h.low_leader; low_to = h.low_to; bytes = h.bytes; sent = in_right _ a b h.sent }
 
   -- an addressee of a send is a node
-  addressee-low : (p : Params) → p.setup ≡ s → (me : ℕ) (xs : List (Item Msg)) (input : Input Msg) (leaf : ℕ) (to : To) (msg : Msg) → In {A = To × Msg} (to, msg) (M.makes p me xs input leaf).sends → (j : ℕ) → In j (addressees s.n to) → j < s.n
-  addressee-low p q me xs input leaf To_all msg h j i = in-below s.n j i
-  addressee-low p q me xs input leaf (To_one k) msg h j (inl e) = let lt : k.0 < p.setup.n = law.addressed p me xs input leaf k msg h in rw e (subst (λ (t : Setup). k.0 < t.n) q lt)
-  addressee-low p q me xs input leaf (To_one k) msg h j (inr i) = absurd i
+  pub addressee-low : (p : Params) → p.setup ≡ s → IsGoodParams M p → (me : ℕ) (xs : List (Item Msg)) (input : Input Msg) → IsGoodInput p input → (leaf : ℕ) (to : To) (msg : Msg) → In {A = To × Msg} (to, msg) (M.makes p me xs input leaf).sends → (j : ℕ) → In j (addressees s.n to) → j < s.n
+  addressee-low p q good me xs input fits leaf To_all msg h j i = in-below s.n j i
+  addressee-low p q good me xs input fits leaf (To_one k) msg h j (inl e) = let lt : k.0 < p.setup.n = law.addressed p me xs input leaf k msg good fits h in rw e (subst (λ (t : Setup). k.0 < t.n) q lt)
+  addressee-low p q good me xs input fits leaf (To_one k) msg h j (inr i) = absurd i
 
   module _ (w : Net Msg) (nk : NetOk w) (i : ℕ) (low : i < s.n) where
     abbrev c : Core Msg
@@ -157,11 +154,11 @@ module _ {Msg : Type 0} (s : Setup) (F : Formats Msg) (R : Rules) (M : Module Ms
     view = record { pasts = pasts_of w; messages = nk.messages; book = []; strings = nk.strings }
 
     settled_at : (j : ℕ) → Settled R (pasts_of w j)
-    settled_at j = record { all = (nk.cores j).settled }
+    settled_at j = record { all = (nk.cores j).sound.settled }
 
     -- a message of a module that comes in a packet was sent
     abbrev pub Legit : NodeEvent → Type 0
-    Legit (Gets bytes) = (k : Parcel Msg) (l : ℕ) (msg : Msg) → F.unwrap bytes ≡ Some k → k.body ≡ OfModule l msg → In (record { from = k.from; to = i; epoch = k.epoch; leader = l; msg = msg }) nk.messages
+    Legit (Gets bytes) = (k : Parcel Msg) (l : ℕ) (msg : Msg) → F.unwrap bytes ≡ Some k → k.body ≡ OfModule l msg → In (record { from = k.from; to = i; epoch = k.epoch; leader = l; msg = msg }) nk.messages × (k.from < s.n)
     Legit Proposes = Unit {0}
     Legit (Fires l) = Unit {0}
 
@@ -182,14 +179,14 @@ module _ {Msg : Type 0} (s : Setup) (F : Formats Msg) (R : Rules) (M : Module Ms
     ]
 
     -- an input was taken in the instance of l
-    module _ (l : ℕ) (input : Input Msg) (leaf : ℕ) (t : Turn Msg) (leads : R.leads (before R M i c.past c.past.epoch) c.past.epoch l ≡ true) (may : MayTake s R M view i l input)
+    module _ (l : ℕ) (input : Input Msg) (leaf : ℕ) (t : Turn Msg) (leads : R.leads (before R M i c.past c.past.epoch) c.past.epoch l ≡ true) (may : MayTake s R M view i l input) (fits : (q : Params) → q.setup ≡ s → IsGoodInput q input)
         (judged : verdict R (before R M i c.past c.past.epoch) c.past.epoch l (accepts (c.past.evidence c.past.epoch l)) (asked_in R M i c.past l input) ≡ None)
-        (past : t.core.past ≡ takes R M i c.past l input leaf) (sends : t.sends ≡ packed F i c.past.epoch l (made_in R M i c.past l input leaf).sends) (core : IsSoundCore R M i t.core) where
+        (past : t.core.past ≡ takes R M i c.past l input leaf) (sends : t.sends ≡ packed F i c.past.epoch l (made_in R M i c.past l input leaf).sends) (core : IsReadyCore R M i t.core) where
       abbrev made : Made Msg
       made = made_in R M i c.past l input leaf
 
       abbrev messages' : List (Message Msg)
-      messages' = told s.n i l made.sends ++ nk.messages
+      messages' = told s.n i 0 l made.sends ++ nk.messages
 
       abbrev strings' : List (List ℕ)
       strings' = made.strings ++ nk.strings
@@ -200,8 +197,8 @@ module _ {Msg : Type 0} (s : Setup) (F : Formats Msg) (R : Rules) (M : Module Ms
       root' : In {A = List ℕ} [] strings'
       root' = in_right [] made.strings nk.strings nk.root
 
-      is_one : (k : Message Msg) → In k (told s.n i l made.sends) → IsOneOf i c.past.epoch l made.sends k
-      is_one k h = subst (λ (e : ℕ). IsOneOf i e l made.sends k) (sym (nk.epoch i)) (told-is s.n i l made.sends k h)
+      is_one : (k : Message Msg) → In k (told s.n i 0 l made.sends) → IsOneOf i c.past.epoch l made.sends k
+      is_one k h = subst (λ (e : ℕ). IsOneOf i e l made.sends k) (sym (nk.epoch i)) (told-is s.n i 0 l made.sends k h)
 
       the_move : Moved s unvoted R M view view' i l input leaf
       the_move = record {
@@ -211,7 +208,7 @@ module _ {Msg : Type 0} (s : Setup) (F : Formats Msg) (R : Rules) (M : Module Ms
         judged = judged;
         here = past-here t ∙ past;
         other = past-there t;
-        messages = λ st k h. elim (in_append k (told s.n i l made.sends) nk.messages h) [ inl a ↦ inl (is_one k a) | inr b ↦ inr b ];
+        messages = λ st k h. elim (in_append k (told s.n i 0 l made.sends) nk.messages h) [ inl a ↦ inl (is_one k a) | inr b ↦ inr b ];
         book = λ x h. absurd h;
         old_book = λ x h. absurd h;
         fresh_strings = λ x h. in_left x made.strings nk.strings h;
@@ -237,17 +234,17 @@ module _ {Msg : Type 0} (s : Setup) (F : Formats Msg) (R : Rules) (M : Module Ms
       wrapped p h =
           let at0 : packed F i c.past.epoch l made.sends ≡ packed F i 0 l made.sends = ap (λ (e : ℕ). packed F i e l made.sends) (nk.epoch i) in
           let h2 : In p (posted_all s.n w.network i (packed F i 0 l made.sends)).packets = subst (λ (xs : List (To × List ℕ)). In p (posted_all s.n w.network i xs).packets) (sends ∙ at0) h in
-          elim (posted-in F s.n i l made.sends w.network p h2) [
-            | inl a ↦ more-wrapped (told s.n i l made.sends) nk.messages p (nk.packets p a)
+          elim (posted-in F s.n i 0 l made.sends w.network p h2) [
+            | inl a ↦ more-wrapped (told s.n i 0 l made.sends) nk.messages p (nk.packets p a)
             | inr r ↦ record {
               from = i;
               leader = l;
               msg = r.msg;
               low_from = low;
               low_leader = leader-below (before R M i c.past c.past.epoch) c.past.epoch l leads;
-              low_to = addressee-low (params_of R M i c.past l) (sound.setup (before R M i c.past c.past.epoch) c.past.epoch l) i (c.past.evidence c.past.epoch l) input leaf r.to r.msg r.sent p.to r.addressed;
+              low_to = addressee-low (params_of R M i c.past l) (sound.setup (before R M i c.past c.past.epoch) c.past.epoch l) (sound.good (before R M i c.past c.past.epoch) c.past.epoch l leads) i (c.past.evidence c.past.epoch l) input (fits (params_of R M i c.past l) (sound.setup (before R M i c.past c.past.epoch) c.past.epoch l)) leaf r.to r.msg r.sent p.to r.addressed;
               bytes = r.bytes;
-              sent = in_left _ (told s.n i l made.sends) nk.messages r.is_told;
+              sent = in_left _ (told s.n i 0 l made.sends) nk.messages r.is_told;
             }
           ]
 
@@ -258,7 +255,7 @@ module _ {Msg : Type 0} (s : Setup) (F : Formats Msg) (R : Rules) (M : Module Ms
           strings = strings';
           reach = move i l input leaf nk.reach the_move;
           root = root';
-          cores = each-core (λ j d. IsSoundCore R M j d) t core nk.cores;
+          cores = each-core (λ j d. IsReadyCore R M j d) t core nk.cores;
           epoch = each-core (λ j d. d.past.epoch ≡ 0) t (ap (λ (d : Past Msg). d.epoch) past ∙ nk.epoch i) nk.epoch;
           packets = wrapped;
           hashed = λ x h. elim (in_append x made.strings nk.strings h) [
@@ -270,7 +267,7 @@ module _ {Msg : Type 0} (s : Setup) (F : Formats Msg) (R : Rules) (M : Module Ms
       }
 
     -- a request waits, and nothing else happens
-    still-ok : (t : Turn Msg) → t.core.past ≡ c.past → t.sends ≡ [] → IsSoundCore R M i t.core → Goes w (next t)
+    still-ok : (t : Turn Msg) → t.core.past ≡ c.past → t.sends ≡ [] → IsReadyCore R M i t.core → Goes w (next t)
     still-ok t q none core =
         let same : (j : ℕ) → pasts_of (next t) j ≡ pasts_of w j = each-core (λ j d. d.past ≡ pasts_of w j) t q (λ j. refl) in
         let later : (j : ℕ) → Later R (pasts_of w j) (pasts_of (next t) j) = λ j. rw (same j) (later-refl R (pasts_of w j) (settled_at j)) in
@@ -279,9 +276,9 @@ module _ {Msg : Type 0} (s : Setup) (F : Formats Msg) (R : Rules) (M : Module Ms
           ok = record {
             messages = nk.messages;
             strings = nk.strings;
-            reach = rest nk.reach (record { same = λ j ok. same j; quiet = record { messages = λ st k h. h; book = λ x e l h n. h; old_book = λ x h. h; strings = λ x h. h }; book = λ x h. h });
+            reach = rest nk.reach (record { same = λ j ok. same j; quiet = record { messages = λ st k h. h; old_book = λ x h. h; strings = λ x h. h }; book = λ x h. h });
             root = nk.root;
-            cores = each-core (λ j d. IsSoundCore R M j d) t core nk.cores;
+            cores = each-core (λ j d. IsReadyCore R M j d) t core nk.cores;
             epoch = λ j. ap (λ (d : Past Msg). d.epoch) (same j) ∙ nk.epoch j;
             packets = λ p h. nk.packets p (rw packets at h);
             hashed = λ x h. run-string-later s R (pasts_of w) (pasts_of (next t)) later x (nk.hashed x h);
@@ -293,21 +290,21 @@ module _ {Msg : Type 0} (s : Setup) (F : Formats Msg) (R : Rules) (M : Module Ms
     may-get from l msg h = subst (λ (b : Bool). MayGet b s R M view i l from msg) (sym stops) h
 
     module _ (inside : AreAllInside R) where
-      took-ok : (event : NodeEvent) (t : Turn Msg) → Legit event → IsSoundCore R M i t.core → Took F R M i c event t → Goes w (next t)
+      took-ok : (event : NodeEvent) (t : Turn Msg) → Legit event → IsReadyCore R M i t.core → Took F R M i c event t → Goes w (next t)
       took-ok event t legit core (received k l msg u b e inp) =
-          let m : In (record { from = k.from; to = i; epoch = k.epoch; leader = l; msg = msg }) nk.messages = legit k l msg u b in
+          let m : In (record { from = k.from; to = i; epoch = k.epoch; leader = l; msg = msg }) nk.messages = (legit k l msg u b).0 in
           let m2 : In (record { from = k.from; to = i; epoch = c.past.epoch; leader = l; msg = msg }) nk.messages = subst (λ (n : ℕ). In (record { from = k.from; to = i; epoch = n; leader = l; msg = msg }) nk.messages) e m in
-          input-ok l (Receive (record { 0 = k.from }) msg) c.leaf t inp.leads (may-get k.from l msg m2) inp.judged (ap (λ (z : Turn Msg). z.core.past) inp.is) (ap (λ (z : Turn Msg). z.sends) inp.is) core
+          input-ok l (Receive (record { 0 = k.from }) msg) c.leaf t inp.leads (may-get k.from l msg m2) (λ q z. subst (λ (t : Setup). k.from < t.n) (sym z) (legit k l msg u b).1) inp.judged (ap (λ (z : Turn Msg). z.core.past) inp.is) (ap (λ (z : Turn Msg). z.sends) inp.is) core
       took-ok event t legit core (asked k q u b r) = still-ok t (ap (λ (z : Turn Msg). z.core.past) r.is) (ap (λ (z : Turn Msg). z.sends) r.is) core
-      took-ok event t legit core (cast n r) = input-ok i (Cast n _) c.leaf t r.leads refl (cast-judged R M i c inside (nk.cores i) F law n r.free) (ap (λ (z : Turn Msg). z.core.past) r.is) (ap (λ (z : Turn Msg). z.sends) r.is) core
-      took-ok event t legit core (fired l inp) = input-ok l.0 Timeout c.leaf t inp.leads tt inp.judged (ap (λ (z : Turn Msg). z.core.past) inp.is) (ap (λ (z : Turn Msg). z.sends) inp.is) core
+      took-ok event t legit core (cast n r) = input-ok i (Cast n _) c.leaf t r.leads (refl, cast-read R M i c F sound.batch (nk.cores i).spelled) (λ q z. tt) (cast-judged R M i c inside (nk.cores i).sound F law n r.free) (ap (λ (z : Turn Msg). z.core.past) r.is) (ap (λ (z : Turn Msg). z.sends) r.is) core
+      took-ok event t legit core (fired l inp) = input-ok l.0 Timeout c.leaf t inp.leads tt (λ q z. tt) inp.judged (ap (λ (z : Turn Msg). z.core.past) inp.is) (ap (λ (z : Turn Msg). z.sends) inp.is) core
 
       pub at-core-ok : (event : NodeEvent) → Legit event → Goes w (at_core s.n F R M w i event).net
       at-core-ok event legit = go (step F R M i c event) refl
         where
           go : (o : Stepped Msg) → step F R M i c event ≡ o → Goes w (after_step s.n w i o).net
           go (Dropped why) q = goes-refl w nk
-          go (Taken t) q = took-ok event t legit (step-sound F R M i c event t (nk.cores i) q) (took F R M i c event t q)
+          go (Taken t) q = took-ok event t legit (step-ready F R M i faithful.asked c event t (nk.cores i) q) (took F R M i c event t q)
 
   module _ (inside : AreAllInside R) where
     -- bytes that were written for a request give no message of a module
@@ -318,13 +315,13 @@ module _ {Msg : Type 0} (s : Setup) (F : Formats Msg) (R : Rules) (M : Module Ms
     ]
 
     packet-legit : (w : Net Msg) (nk : NetOk w) (p : Sent) (h : IsWrapped nk.messages p) → Legit w nk p.to h.low_to (Gets p.bytes)
-    packet-legit w nk p h k l msg u b = elim (faithful.messages h.from h.leader h.msg h.low_from h.low_leader) [
+    packet-legit w nk p h k l msg u b = elim (faithful.messages h.from 0 h.leader h.msg h.low_from h.low_leader) [
       | inl y ↦
           let e : k ≡ record { from = h.from; epoch = 0; body = OfModule h.leader h.msg } = sym (some-is _ k (sym y ∙ (sym (ap F.unwrap h.bytes) ∙ u))) in
           let z : OfModule h.leader h.msg ≡ OfModule l msg = sym (ap (λ (p : Parcel Msg). p.body) e) ∙ b in
           let l2 : h.leader ≡ l = cc in
           let m2 : h.msg ≡ msg = cc in
-          rw (ap (λ (p : Parcel Msg). p.from) e, ap (λ (p : Parcel Msg). p.epoch) e, ← l2, ← m2) h.sent
+          rw (ap (λ (p : Parcel Msg). p.from) e, ap (λ (p : Parcel Msg). p.epoch) e, ← l2, ← m2) (h.sent, h.low_from)
       | inr y ↦ absurd (none-some k (sym y ∙ (sym (ap F.unwrap h.bytes) ∙ u)))
     ]
 
@@ -382,7 +379,7 @@ module _ {Msg : Type 0} (s : Setup) (F : Formats Msg) (R : Rules) (M : Module Ms
       strings = [] ∷ [];
       reach = begin (record { pasts = λ j ok. refl; messages = λ k h. h; book = λ x h. h; root = inl refl });
       root = inl refl;
-      cores = λ j. idle-sound R M j;
+      cores = λ j. idle-ready R M j;
       epoch = λ j. refl;
       packets = λ p h. absurd h;
       hashed = λ x h. (0, 0, inl (elim h [ inl e ↦ e | inr b ↦ absurd b ]));

@@ -24,7 +24,7 @@ untaken : {Msg : Type 0} (why : Why) (t : Turn Msg) → Dropped why ≡ Taken t 
 untaken why t h = cc
 
 -- a test that dropped nothing
-undropped : {Msg : Type 0} (b : Bool) (why : Why) (more : Stepped Msg) (t : Turn Msg) → cond b (Dropped why) more ≡ Taken t → (b ≡ false) × (more ≡ Taken t)
+pub undropped : {Msg : Type 0} (b : Bool) (why : Why) (more : Stepped Msg) (t : Turn Msg) → cond b (Dropped why) more ≡ Taken t → (b ≡ false) × (more ≡ Taken t)
 undropped true why more t h = absurd (untaken why t h)
 undropped false why more t h = (refl, h)
 
@@ -40,7 +40,7 @@ module _ {Msg : Type 0} (F : Formats Msg) (R : Rules) (M : Module Msg) (me : ℕ
   pub record IsRequested (q : Request) (t : Turn Msg) : Type 0 where
     pub signed : R.signed q ≡ true
     pub unknown : is_known R M me c q.id ≡ false
-    pub is : t ≡ record { core = record c { waiting = c.waiting ++ q ∷ [] }; sends = [] }
+    pub is : t ≡ record { core = record c { waiting = c.waiting ++ q ∷ [] }; sends = []; own = []; strings = [] }
 
   -- the batch that is cast, and the core that casts it at a slot
   abbrev pub next_batch : Batch

@@ -1,18 +1,20 @@
 -- All nodes over all epochs, as far as logs depend on them, and what may happen to them. Nothing here runs: a run of
 -- the cluster is shown to be a chain of these moves.
 use Rattle.std.specs.Prelude.{◌≡◌, ◌≢◌, ◌⊎◌, ℕ, suc, ◌≤◌, Bool, true, false, cond, nat_le, List, [], ◌∷◌, ◌++◌, length, Some, None}
-use Rattle.std.specs.Int.{to_be_bytes, w64}
 use Rattle.iss_base.specs.Lists.{Chain, In, over}
 use Rattle.iss_request.specs.Digest.{digest}
+use Rattle.iss_request.specs.Formats.{parse_value, spell_value}
 use Rattle.iss_request.specs.Log.{requests}
 use Rattle.iss_request.specs.declared.requests.Value.{Value}
+use Rattle.iss_request.specs.declared.requests.Value.TheVariants.{Batch as Holds}
 use Rattle.iss_request.specs.declared.setups.Setup.{Setup}
 use Rattle.iss_sb.specs.declared.effects.Claim.{Claim}
 use Rattle.iss_sb.specs.declared.effects.Input.{Input}
 use Rattle.iss_sb.specs.declared.effects.Input.TheVariants.{Cast, Receive, Timeout}
 use Rattle.iss_sb.specs.declared.effects.Params.{Params}
 use Rattle.iss_sb.specs.declared.effects.To.{To}
-use Rattle.iss_sb.specs.Evidence.{Module, Reaches, World, accepts, delivered, is_correct}
+use Rattle.iss_sb.specs.Evidence.{IsCredible, IsReadAgain, Module, Reaches, World, accepts, delivered, is_correct}
+use Rattle.iss_sb.specs.Statements.{eight_bytes, head_of}
 use Rattle.iss_model.specs.Node.{verdict}
 use Rattle.iss_model.specs.Past.{Past, Piece, asked_in, before, before_at, cut_at, epoch_at, leader_at, log_of, made_in, newborn, params_at, params_of, start_of, takes}
 use Rattle.iss_model.specs.Rules.{Rules}
@@ -36,10 +38,8 @@ pub record Cluster (Msg : Type 0) : Type 0 where
   pub book : List Signed
   pub strings : List (List ℕ)
 
--- how logs are chained, and how votes are stated
+-- how logs are chained, and whose votes make a certificate
 pub record Scheme : Type 0 where
-  -- the statement of a vote: an epoch, the chain of the log at its end, and how many requests that log holds
-  pub vote : ℕ → List ℕ → ℕ → List ℕ
   -- the bytes of a value where it has any, and of a link of two digests
   pub spells : Value → Bool
   pub spelled : Value → List ℕ
@@ -64,10 +64,15 @@ IsHashedLog S strings log = (x : List ℕ) → In x (chain_strings S log) → In
 
 -- what every statement of the instance of leader l in epoch e begins with
 abbrev pub instance_head : {Msg : Type 0} → Setup → Module Msg → ℕ → ℕ → List ℕ
-instance_head s M e l = s.tag ++ to_be_bytes w64 e ++ l ∷ M.tag ∷ []
+instance_head s M e l = head_of s.tag e l M.tag
 
 abbrev pub Names : {Msg : Type 0} → Setup → Module Msg → ℕ → ℕ → List ℕ → Type 0
 Names s M e l statement = (rest : List ℕ) × (statement ≡ instance_head s M e l ++ rest)
+
+-- the statement of a vote: an epoch, the chain of the log at its end, and how many requests that log holds. It stands
+-- where the statements of a leader 255 and a module 0 would, and there are none
+abbrev pub vote_statement : Setup → ℕ → List ℕ → ℕ → List ℕ
+vote_statement s e chain number = head_of s.tag e 255 0 ++ (0 ∷ (chain ++ eight_bytes number))
 
 -- the world of the instance of leader l in epoch e
 abbrev pub world_of : {Msg : Type 0} → Setup → (ℕ → Past Msg) → ℕ → ℕ → World Msg
@@ -85,17 +90,21 @@ pub record Backed {Msg : Type 0} (s : Setup) (R : Rules) (M : Module Msg) (pasts
 abbrev pub IsTrueLog : {Msg : Type 0} → Setup → Rules → Module Msg → (ℕ → Past Msg) → List Value → Type 0
 IsTrueLog s R M pasts = Chain (Backed s R M pasts)
 
--- what a message may be that node i takes in the instance of l: where nodes only stop, one that was sent to it; else
--- any, as long as what it claims of correct nodes is in the book
-abbrev pub AreSigned : Setup → List Signed → List Claim → Type 0
-AreSigned s book claims = (c : Claim) → In c claims → is_correct s c.by.0 ≡ true → In (record { by = c.by.0; statement = c.statement }) book
+-- what verifies by the rules, and what is in the book
+abbrev pub IsVerified : Rules → Claim → Type 0
+IsVerified R c = R.verifies c.by.0 c.statement c.sig ≡ true
 
+abbrev pub IsBooked : List Signed → ℕ → List ℕ → Type 0
+IsBooked book k statement = In (record { by = k; statement = statement }) book
+
+-- what a message may be that node i takes in the instance of l: where nodes only stop, one that was sent to it; else any
+-- that is credible by the book
 abbrev pub MayGet : {Msg : Type 0} → Bool → Setup → Rules → Module Msg → Cluster Msg → ℕ → ℕ → ℕ → Msg → Type 0
 MayGet true s R M w i l from msg = In (record { from = from; to = i; epoch = (w.pasts i).epoch; leader = l; msg = msg }) w.messages
-MayGet false s R M w i l from msg = AreSigned s w.book (M.claims (params_of R M i (w.pasts i) l) from msg)
+MayGet false s R M w i l from msg = IsCredible M (params_of R M i (w.pasts i) l) (IsVerified R) (IsBooked w.book) from msg
 
 abbrev pub MayTake : {Msg : Type 0} → Setup → Rules → Module Msg → Cluster Msg → ℕ → ℕ → Input Msg → Type 0
-MayTake s R M w i l (Cast slot batch) = i ≡ l
+MayTake s R M w i l (Cast slot batch) = (i ≡ l) × IsReadAgain spell_value parse_value (Holds batch)
 MayTake s R M w i l (Receive from msg) = MayGet M.stopping s R M w i l from.0 msg
 MayTake s R M w i l Timeout = Unit {0}
 
@@ -135,16 +144,15 @@ pub record Moved {Msg : Type 0} (s : Setup) (S : Scheme) (R : Rules) (M : Module
   pub spelled : AllSpelled S (log_of R M i (w.pasts i))
 
 -- no instance sees anything of it
-pub record Quiet {Msg : Type 0} (s : Setup) (M : Module Msg) (v w : Cluster Msg) : Type 0 where
+pub record Quiet {Msg : Type 0} (M : Module Msg) (v w : Cluster Msg) : Type 0 where
   pub messages : M.stopping ≡ true → (k : Message Msg) → In k w.messages → In k v.messages
-  pub book : (x : Signed) (e l : ℕ) → In x w.book → Names s M e l x.statement → In x v.book
   pub old_book : (x : Signed) → In x v.book → In x w.book
   pub strings : (x : List ℕ) → In x v.strings → In x w.strings
 
 -- nothing happens to any log
 pub record Rested {Msg : Type 0} (s : Setup) (M : Module Msg) (v w : Cluster Msg) : Type 0 where
   pub same : (j : ℕ) → is_correct s j ≡ true → w.pasts j ≡ v.pasts j
-  pub quiet : Quiet s M v w
+  pub quiet : Quiet M v w
   pub book : (x : Signed) → In x w.book → In x v.book
 
 -- whether the log holds the node's whole epoch, the past in the next epoch, and the log at the end of the epoch
@@ -158,8 +166,8 @@ abbrev pub ended_log : {Msg : Type 0} → Rules → Module Msg → ℕ → Past 
 ended_log R M i c = cut_at R (log_of R M i c) (suc c.epoch)
 
 -- what a node votes for that ends its epoch
-abbrev pub vote_of : {Msg : Type 0} → Scheme → Rules → Module Msg → ℕ → Past Msg → List ℕ
-vote_of S R M i c = S.vote c.epoch (chain S (ended_log R M i c)) (requests (ended_log R M i c))
+abbrev pub vote_of : {Msg : Type 0} → Setup → Scheme → Rules → Module Msg → ℕ → Past Msg → List ℕ
+vote_of s S R M i c = vote_statement s c.epoch (chain S (ended_log R M i c)) (requests (ended_log R M i c))
 
 -- node i ends its epoch, and may vote
 pub record Ended {Msg : Type 0} (s : Setup) (S : Scheme) (R : Rules) (M : Module Msg) (v w : Cluster Msg) (i : ℕ) : Type 0 where
@@ -167,8 +175,8 @@ pub record Ended {Msg : Type 0} (s : Setup) (S : Scheme) (R : Rules) (M : Module
   pub complete : is_complete R M i (v.pasts i) ≡ true
   pub here : w.pasts i ≡ advanced (v.pasts i)
   pub other : (j : ℕ) → j ≢ i → w.pasts j ≡ v.pasts j
-  pub quiet : Quiet s M v w
-  pub book : (x : Signed) → In x w.book → In x v.book ⊎ ((x.by ≡ i) × (x.statement ≡ vote_of S R M i (v.pasts i)))
+  pub quiet : Quiet M v w
+  pub book : (x : Signed) → In x w.book → In x v.book ⊎ ((x.by ≡ i) × (x.statement ≡ vote_of s S R M i (v.pasts i)))
   pub hashed : IsHashedLog S w.strings (log_of R M i (w.pasts i))
   pub spelled : AllSpelled S (log_of R M i (w.pasts i))
 
@@ -195,8 +203,8 @@ abbrev pub adopted_log : {Msg : Type 0} → Rules → Module Msg → ℕ → Pas
 adopted_log R M i c piece = over piece.values (before R M i c piece.epoch)
 
 -- the votes of correct nodes in a certificate are in the book
-abbrev pub AreVotes : Setup → Scheme → List Signed → ℕ → Cert → Type 0
-AreVotes s S book e cert = (k : ℕ) → In k (signers cert.signed) → is_correct s k ≡ true → In (record { by = k; statement = S.vote e cert.chain cert.number }) book
+abbrev pub AreVotes : Setup → List Signed → ℕ → Cert → Type 0
+AreVotes s book e cert = (k : ℕ) → In k (signers cert.signed) → is_correct s k ≡ true → In (record { by = k; statement = vote_statement s e cert.chain cert.number }) book
 
 -- node i adopts the values of its epoch under a certificate, and ends it with no vote
 pub record Adopted {Msg : Type 0} (s : Setup) (S : Scheme) (R : Rules) (M : Module Msg) (v w : Cluster Msg) (i : ℕ) (piece : Piece) (cert : Cert) : Type 0 where
@@ -204,13 +212,13 @@ pub record Adopted {Msg : Type 0} (s : Setup) (S : Scheme) (R : Rules) (M : Modu
   pub epoch : piece.epoch ≡ (v.pasts i).epoch
   pub whole : length piece.values ≡ R.slots (before R M i (v.pasts i) piece.epoch) piece.epoch
   pub quorum : S.is_quorum (signers cert.signed) ≡ true
-  pub votes : AreVotes s S v.book piece.epoch cert
+  pub votes : AreVotes s v.book piece.epoch cert
   pub chained : cert.chain ≡ chain S (adopted_log R M i (v.pasts i) piece)
   pub piece_hashed : IsHashedLog S w.strings (adopted_log R M i (v.pasts i) piece)
   pub piece_spelled : AllSpelled S (adopted_log R M i (v.pasts i) piece)
   pub here : w.pasts i ≡ adopts (v.pasts i) piece
   pub other : (j : ℕ) → j ≢ i → w.pasts j ≡ v.pasts j
-  pub quiet : Quiet s M v w
+  pub quiet : Quiet M v w
   pub book : (x : Signed) → In x w.book → In x v.book
   pub hashed : IsHashedLog S w.strings (log_of R M i (w.pasts i))
   pub spelled : AllSpelled S (log_of R M i (w.pasts i))

@@ -10,7 +10,7 @@ number_of None = 0
 number_of (Some l) = l.0
 
 -- every epoch has K slots, and its division is the layout's over the log before it. A request is signed where its
--- client exists; windows are not there yet, so each number is inside
+-- client exists, and a statement where its node does; windows are not there yet, so each number is inside
 abbrev pub rules_of : Setup → Rules
 rules_of s =
     record {
@@ -22,5 +22,6 @@ rules_of s =
       signed = λ q. nat_lt q.id.client s.clients;
       inside = λ log e id. true;
       batch = s.batch;
+      verifies = λ k statement sig. nat_lt k s.n;
       params = λ log e l. record { setup = s; epoch = record { 0 = e }; leader = record { 0 = l }; slots = segment (plan_of s e log) l };
     }

@@ -11,3 +11,7 @@ pub mod Concrete
 pub mod Formats
 pub mod Printed
 pub mod OneLog
+pub mod Checkpoints
+pub mod Tested
+pub mod TestedLog
+pub mod Turns

@@ -6,6 +6,7 @@ use Rattle.iss_request.specs.declared.ids.Slot.{Slot}
 use Rattle.iss_request.specs.declared.requests.Batch.{Batch}
 use Rattle.iss_request.specs.declared.requests.Request.{Request}
 use Rattle.iss_request.specs.declared.requests.Value.{Value}
+use Rattle.iss_sb.specs.declared.effects.Claim.{Claim}
 use Rattle.iss_sb.specs.declared.effects.Input.{Input}
 use Rattle.iss_sb.specs.declared.effects.Input.TheVariants.{Cast, Receive, Timeout}
 use Rattle.iss_sb.specs.declared.effects.Params.{Params}
@@ -47,10 +48,12 @@ pub record Core (Msg : Type 0) : Type 0 where
 abbrev pub idle : {Msg : Type 0} → Core Msg
 idle = record { past = newborn; waiting = []; flight = []; leaf = 0 }
 
--- a node after a step, and the packets that it made, in order
+-- a node after a step, the packets that it made, in order, its own claims in them, and the strings that it hashed
 pub record Turn (Msg : Type 0) : Type 0 where
   pub core : Core Msg
   pub sends : List (To × List ℕ)
+  pub own : List Claim
+  pub strings : List (List ℕ)
 
 pub data Stepped (Msg : Type 0) : Type 0 where
   Dropped : (why : Why) → Stepped Msg
@@ -86,6 +89,15 @@ abbrev pub packed : {Msg : Type 0} → Formats Msg → ℕ → ℕ → ℕ → L
 packed F me e l [] = []
 packed F me e l (x ∷ xs) = (x.0, F.wrap (record { from = me; epoch = e; body = OfModule l x.1 })) ∷ packed F me e l xs
 
+-- the claims of node i in what it sends
+abbrev pub only_by : ℕ → List Claim → List Claim
+only_by i [] = []
+only_by i (c ∷ cs) = cond (c.by.0 == i) (c ∷ only_by i cs) (only_by i cs)
+
+abbrev pub own_claims : {Msg : Type 0} → Module Msg → Params → ℕ → List (To × Msg) → List Claim
+own_claims M p i [] = []
+own_claims M p i (x ∷ xs) = only_by i (M.claims p i x.1) ++ own_claims M p i xs
+
 -- the node takes an input in the instance of leader l of its epoch
 abbrev pub inputs : {Msg : Type 0} → Formats Msg → Rules → Module Msg → ℕ → Core Msg → ℕ → Input Msg → Turn Msg
 inputs F R M me c l input =
@@ -93,6 +105,8 @@ inputs F R M me c l input =
     record {
       core = refiled R M me c (takes R M me c.past l input c.leaf) (c.leaf + made.used);
       sends = packed F me c.past.epoch l made.sends;
+      own = own_claims M (params_of R M me c.past l) me made.sends;
+      strings = made.strings;
     }
 
 -- what the judge says of what an input asks for
@@ -130,7 +144,7 @@ abbrev pub takes_request : {Msg : Type 0} → Rules → Module Msg → ℕ → C
 takes_request R M me c q =
     cond (not (R.signed q)) (Dropped BadRequest)
     (cond (is_known R M me c q.id) (Dropped Known)
-    (Taken (record { core = record c { waiting = c.waiting ++ q ∷ [] }; sends = [] })))
+    (Taken (record { core = record c { waiting = c.waiting ++ q ∷ [] }; sends = []; own = []; strings = [] })))
 
 abbrev pub takes_parcel : {Msg : Type 0} → Formats Msg → Rules → Module Msg → ℕ → Core Msg → ℕ → ℕ → Body Msg → Stepped Msg
 takes_parcel F R M me c from e (OfRequest q) = takes_request R M me c q

@@ -35,5 +35,5 @@ pub record IsClusterRun {Msg : Type 0} (s : Setup) (M : Module Msg) (events : Li
   pub pasts : cluster.pasts ≡ pasts_after s M events
   pub reached : Reach s scheme (rules_of s) M cluster
   pub sound : IsSoundRules s M (rules_of s)
-  pub exact : IsExact s scheme M cluster
+  pub exact : IsExact s scheme cluster
   pub hashed : (x : List ℕ) → In x cluster.strings → IsRunString s (pasts_after s M events) x

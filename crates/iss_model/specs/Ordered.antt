@@ -1,9 +1,8 @@
 -- What holds of every cluster that moves lead to, and what it takes.
-use Rattle.std.specs.Prelude.{◌≡◌, ◌⊎◌, ℕ, ◌<◌, ◌≤◌, true, List, [], ◌∷◌, length, None}
+use Rattle.std.specs.Prelude.{◌≡◌, ◌⊎◌, ℕ, ◌<◌, ◌≤◌, true, List, [], ◌∷◌, ◌++◌, length, None}
 use Rattle.iss_base.specs.Lists.{Extends, In}
 use Rattle.iss_request.specs.Digest.{digest}
 use Rattle.iss_request.specs.Log.{Once}
-use Rattle.iss_request.specs.declared.ids.ReqId.{ReqId}
 use Rattle.iss_request.specs.declared.ids.Slot.{Slot}
 use Rattle.iss_request.specs.declared.requests.Batch.{Batch}
 use Rattle.iss_request.specs.declared.requests.Value.{Value}
@@ -11,13 +10,13 @@ use Rattle.iss_request.specs.declared.requests.Value.TheVariants.{Batch as Holds
 use Rattle.iss_request.specs.declared.setups.Setup.{Setup}
 use Rattle.iss_sb.specs.Calls.{IsGoodParams}
 use Rattle.iss_sb.specs.Evidence.{IsReached, Module, accepts, is_correct}
-use Rattle.iss_model.specs.Cluster.{Cluster, IsTrueLog, Names, Scheme, Signed, world_of}
-use Rattle.iss_model.specs.Judge.{judge}
+use Rattle.iss_model.specs.Cluster.{Cluster, IsTrueLog, Scheme, Signed, vote_statement, world_of}
+use Rattle.iss_model.specs.Judge.{judge, marks}
 use Rattle.iss_model.specs.Past.{Past, before, before_at, epoch_at, leader_at, log_of}
 use Rattle.iss_model.specs.Rules.{Rules}
 
 -- what the rules of the log owe: epochs have slots, each slot's leader leads its epoch, and a leader's instance is
--- started with good parameters that name it
+-- started with good parameters that name it; a batch is no larger than one that has a spelling; what verifies is a node's
 pub record IsSoundRules {Msg : Type 0} (s : Setup) (M : Module Msg) (R : Rules) : Type 0 where
   pub some_slots : (log : List Value) (e : ℕ) → 0 < R.slots log e
   pub most : (log : List Value) (e : ℕ) → R.slots log e ≤ R.most
@@ -26,6 +25,8 @@ pub record IsSoundRules {Msg : Type 0} (s : Setup) (M : Module Msg) (R : Rules) 
   pub setup : (log : List Value) (e l : ℕ) → (R.params log e l).setup ≡ s
   pub epoch : (log : List Value) (e l : ℕ) → (R.params log e l).epoch.0 ≡ e
   pub leader : (log : List Value) (e l : ℕ) → (R.params log e l).leader.0 ≡ l
+  pub batch : R.batch ≤ 32
+  pub signers : (k : ℕ) (statement sig : List ℕ) → R.verifies k statement sig ≡ true → k < s.n
 
 -- values and links have one spelling each
 pub record AreChained (S : Scheme) : Type 0 where
@@ -33,27 +34,25 @@ pub record AreChained (S : Scheme) : Type 0 where
   pub links : (a b c d : List ℕ) → S.link (digest a) (digest b) ≡ S.link (digest c) (digest d) → (digest a ≡ digest c) × (digest b ≡ digest d)
   pub some_link : (a b : List ℕ) → [] ≡ S.link a b → ⊥
 
--- what the formats owe, of all that was signed: no statement says two things, and a quorum has a correct node
-pub record IsExact {Msg : Type 0} (s : Setup) (S : Scheme) (M : Module Msg) (w : Cluster Msg) : Type 0 where
-  pub heads : (x : Signed) (e l d k : ℕ) → In x w.book → Names s M e l x.statement → Names s M d k x.statement → (e ≡ d) × (l ≡ k)
-  pub apart : (x : Signed) (e l d : ℕ) (a : List ℕ) (q : ℕ) → In x w.book → Names s M e l x.statement → x.statement ≡ S.vote d a q → ⊥
-  pub votes : (x : Signed) (e d : ℕ) (a b : List ℕ) (q r : ℕ) → In x w.book → x.statement ≡ S.vote e a q → x.statement ≡ S.vote d b r → (e ≡ d) × (a ≡ b) × (q ≡ r)
-  -- as soon as there is a vote
-  pub chained : (x : Signed) (e : ℕ) (a : List ℕ) (q : ℕ) → In x w.book → x.statement ≡ S.vote e a q → AreChained S
+-- what the scheme owes: values and links have one spelling each as soon as there is a vote, and a quorum has a correct
+-- node. That no statement says two things is a lemma
+pub record IsExact {Msg : Type 0} (s : Setup) (S : Scheme) (w : Cluster Msg) : Type 0 where
+  pub chained : (x : Signed) (e : ℕ) (a : List ℕ) (q : ℕ) → In x w.book → x.statement ≡ vote_statement s e a q → AreChained S
   pub quorums : (nodes : List ℕ) → S.is_quorum nodes ≡ true → (k : ℕ) × In k nodes × (is_correct s k ≡ true)
 
 abbrev pub Among : List (List ℕ) → List ℕ → Type 0
 Among strings x = In x strings
 
 -- a correct node accepted the batch in the slot that follows these values: it judged it there, over what stands before
--- the epoch and after some marks
+-- the epoch and the marks of what it had accepted in that instance
 pub record WasAccepted {Msg : Type 0} (s : Setup) (R : Rules) (M : Module Msg) (pasts : ℕ → Past Msg) (older : List Value) (b : Batch) : Type 0 where
   pub node : ℕ
   pub correct : is_correct s node ≡ true
-  pub held : In {A = Slot × Batch} (record { 0 = length older }, b) (accepts ((pasts node).evidence (epoch_at R older) (leader_at R older)))
+  pub newer : List (Slot × Batch)
+  pub earlier : List (Slot × Batch)
+  pub held : accepts ((pasts node).evidence (epoch_at R older) (leader_at R older)) ≡ newer ++ ((record { 0 = length older }, b) ∷ earlier)
   pub start : before R M node (pasts node) (epoch_at R older) ≡ before_at R older
-  pub marked : List ReqId
-  pub judged : judge R (before_at R older) (epoch_at R older) (leader_at R older) marked b ≡ None
+  pub judged : judge R (before_at R older) (epoch_at R older) (leader_at R older) (marks earlier) b ≡ None
 
 -- what a reader wants of the nodes of a cluster
 pub record Ordered {Msg : Type 0} (s : Setup) (R : Rules) (M : Module Msg) (pasts : ℕ → Past Msg) : Type 0 where

@@ -18,5 +18,7 @@ pub record Rules : Type 0 where
   pub inside : List Value → ℕ → ReqId → Bool
   -- the most requests of a batch
   pub batch : ℕ
+  -- whether a signature is a node's, of a statement
+  pub verifies : ℕ → List ℕ → List ℕ → Bool
   -- what an instance of an epoch is started with, by its leader
   pub params : List Value → ℕ → ℕ → Params

@@ -1,5 +1,6 @@
 -- What is promised of every run of a module whose nodes only stop, and what it takes.
 use Rattle.std.specs.Prelude.{◌≡◌, ◌⊎◌, ℕ, ◌<◌, List, [], ◌∷◌, ◌++◌, Some, None, reverse}
+use Rattle.iss_request.specs.Formats.{HasSpelling}
 use Rattle.iss_request.specs.Setup.{IsGoodSetup}
 use Rattle.iss_request.specs.declared.requests.Request.{Request}
 use Rattle.iss_request.specs.declared.requests.Value.{Value}
@@ -46,10 +47,11 @@ pub record IsSetupOf {Msg : Type 0} (M : Module Msg) (s : Setup) : Type 0 where
 abbrev pub IsReadBack : {Msg : Type 0} → Formats Msg → Parcel Msg → Type 0
 IsReadBack F k = (F.unwrap (F.wrap k) ≡ Some k) ⊎ (F.unwrap (F.wrap k) ≡ None)
 
--- what the formats owe: of a node's messages, and of requests
+-- what the formats owe: of a node's messages, and of requests, of which those that are read have a spelling
 pub record IsFaithful {Msg : Type 0} (s : Setup) (F : Formats Msg) : Type 0 where
-  pub messages : (from l : ℕ) (msg : Msg) → from < s.n → l < s.n → IsReadBack F (record { from = from; epoch = 0; body = OfModule l msg })
+  pub messages : (from e l : ℕ) (msg : Msg) → from < s.n → l < s.n → IsReadBack F (record { from = from; epoch = e; body = OfModule l msg })
   pub requests : (q : Request) → IsReadBack F (record { from = 255; epoch = 0; body = OfRequest q })
+  pub asked : (bytes : List ℕ) (k : Parcel Msg) (q : Request) → F.unwrap bytes ≡ Some k → k.body ≡ OfRequest q → HasSpelling q
 
 -- a module that hashes nothing
 abbrev pub HashesNothing : {Msg : Type 0} → Module Msg → Type 0

@@ -3,20 +3,25 @@ ghost use Rattle.std.specs.Prelude.{◌≡◌, true, List};
 ghost use Rattle.iss_request.specs.declared.setups.Setup.{Setup};
 ghost use Rattle.iss_sb.specs.Evidence.{Separate};
 ghost use Rattle.iss_schedule.specs.declared.schedules.Event.{Event};
+ghost use Rattle.iss_model.specs.Checkpoints.{scheme_of};
 ghost use Rattle.iss_model.specs.Cluster.{Cluster, Reach, Scheme};
 ghost use Rattle.iss_model.specs.OneLog.{IsClusterRun, OnlyGrows};
 ghost use Rattle.iss_model.specs.Ordered.{Among, IsExact, IsSoundRules, Ordered};
 ghost use Rattle.iss_model.specs.Rules.{Rules};
 ghost use Rattle.iss_model.specs.Printed.{IsSeparateRun};
 ghost use Rattle.iss_model.specs.Runs.{AreAtNodes, HashesNothing, IsSetupOf};
+ghost use Rattle.iss_model.specs.TestedLog.{IsOneTestedLog, IsTestedRun};
 
 use iss_sb::Sequenced;
 
 /// Whatever happens in a cluster over all its epochs, the logs of its correct nodes are of one log: by moves of
-/// instances, ends of epochs, and adopted epochs (ISS, whole protocol).
+/// instances, ends of epochs, and adopted epochs (ISS, whole protocol). Where logs are chained and voted for as the set-up
+/// has it, nothing is asked of what was signed.
 pub fn composition<M: Sequenced>()
-    ensures { (s : Setup) (S : Scheme) (R : Rules) → IsSoundRules s M.meaning R → (w : Cluster M.Msg) →
-        IsExact s S M.meaning w → Separate (Among w.strings) → Reach s S R M.meaning w → Ordered s R M.meaning w.pasts }
+    ensures part { (s : Setup) (S : Scheme) (R : Rules) → IsSoundRules s M.meaning R → (w : Cluster M.Msg) →
+        IsExact s S w → Separate (Among w.strings) → Reach s S R M.meaning w → Ordered s R M.meaning w.pasts }
+    ensures whole { (s : Setup) (R : Rules) → IsSoundRules s M.meaning R → (w : Cluster M.Msg) →
+        Separate (Among w.strings) → Reach s (scheme_of s) R M.meaning w → Ordered s R M.meaning w.pasts }
 {
     M::laws();
 }
@@ -37,3 +42,12 @@ pub fn cluster_runs<M: Sequenced>()
 pub fn separate_runs<M: Sequenced>()
     ensures { (s : Setup) → HashesNothing M.meaning → (events : List Event) → IsSeparateRun s M.meaning events }
 {}
+
+/// Every list of events, of either kind of module: up to the delivery that shows a forged claim or a collision, at which the
+/// run ends, the logs that correct nodes print are of one log, and more events only make them longer (ISS, whole protocol).
+pub fn tested_runs<M: Sequenced>()
+    ensures reached { (s : Setup) → IsSetupOf M.meaning s → (events : List Event) → AreAtNodes s.n events → IsTestedRun s M.meaning events }
+    ensures one { (s : Setup) → IsSetupOf M.meaning s → (events : List Event) → AreAtNodes s.n events → IsOneTestedLog s M.meaning events }
+{
+    M::laws();
+}

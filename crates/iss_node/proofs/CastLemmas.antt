@@ -145,7 +145,7 @@ two : {Msg : Type 0} (a b : Bool) (turn : Turn Msg) → a ≡ true → b ≡ fal
 two a b turn ha hb = rw (ha, hb) refl
 
 pub request-is : {M Msg : Type 0} (m : Module Msg) (v : NodeState M) (ev : ℕ → ℕ → List (Item Msg)) (q : Request) → (rules_of v.setup).signed q ≡ true → is_known (rules_of v.setup) m v.me.0 (core_of v ev) q.id ≡ false →
-    takes_request (rules_of v.setup) m v.me.0 (core_of v ev) q ≡ Taken (record { core = record { past = record { epoch = 0; evidence = ev; adopted = [] }; waiting = v.waiting ++ q ∷ []; flight = v.flight; leaf = v.keys.used }; sends = [] })
+    takes_request (rules_of v.setup) m v.me.0 (core_of v ev) q ≡ Taken (record { core = record { past = record { epoch = 0; evidence = ev; adopted = [] }; waiting = v.waiting ++ q ∷ []; flight = v.flight; leaf = v.keys.used }; sends = []; own = []; strings = [] })
 request-is m v ev q signed known = two _ _ _ signed known
 
 -- ---- a proposal

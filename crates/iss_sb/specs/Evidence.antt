@@ -1,12 +1,14 @@
 -- A module as definitions over lists that forget nothing, and the world of one instance. Lists are newest first.
-use Rattle.std.specs.Prelude.{◌≡◌, ◌≢◌, ℕ, Bool, true, false, ◌&&◌, not, nat_lt, ◌==◌, ◌||◌, List, [], ◌∷◌, ◌++◌, Option, Some, None, ◌⊎◌}
+use Rattle.std.specs.Prelude.{◌≡◌, ◌≢◌, ℕ, ◌<◌, Bool, true, false, ◌&&◌, not, nat_lt, ◌==◌, ◌||◌, List, [], ◌∷◌, ◌++◌, Option, Some, None, ◌⊎◌}
 use Rattle.iss_base.specs.Lists.{In, first_of}
 use Rattle.iss_request.specs.Digest.{digest}
-use Rattle.iss_request.specs.Fields.{Parsed}
+use Rattle.iss_request.specs.Fields.{Good, Parsed}
+use Rattle.iss_request.specs.Formats.{parse_value, spell_value}
 use Rattle.iss_request.specs.declared.ids.NodeId.{NodeId}
 use Rattle.iss_request.specs.declared.ids.Slot.{Slot}
 use Rattle.iss_request.specs.declared.requests.Batch.{Batch}
 use Rattle.iss_request.specs.declared.requests.Value.{Value}
+use Rattle.iss_request.specs.declared.requests.Value.TheVariants.{Batch as Holds}
 use Rattle.iss_request.specs.declared.setups.Setup.{Setup}
 use Rattle.iss_sb.specs.declared.effects.Claim.{Claim}
 use Rattle.iss_sb.specs.declared.effects.Input.{Input}
@@ -118,14 +120,30 @@ IsString w string = (string ≡ []) ⊎ IsHashed w string
 abbrev pub Separate : (List ℕ → Type 0) → Type 0
 Separate Is = (a b : List ℕ) → Is a → Is b → digest a ≡ digest b → a ≡ b
 
--- a message that may come to node i: where nodes only stop, one that was sent to it; else any message under any name,
--- as long as what it claims of correct nodes was signed by them
+-- what the verification of a claim gives. Until parameters hold the nodes' keys it is the least of it: a node signed
+abbrev pub Verifies : Params → Claim → Type 0
+Verifies p c = c.by.0 < p.setup.n
+
+-- a thing's bytes are read as it, whatever stands behind them
+abbrev pub IsReadAgain : {A : Type 0} → (A → List ℕ) → (List ℕ → Parsed A) → A → Type 0
+IsReadAgain spell parse x = (rest : List ℕ) → parse (spell x ++ rest) ≡ Good x rest
+
+-- a message that may come from anywhere: under a node's name, read from bytes, each claim in it verified, and those of
+-- correct nodes signed by them
+pub record IsCredible {M : Type 0} (m : Module M) (p : Params) (Verified : Claim → Type 0) (Signed : ℕ → List ℕ → Type 0) (from : ℕ) (msg : M) : Type 0 where
+  pub named : from < p.setup.n
+  pub read : IsReadAgain m.spell m.parse msg
+  pub verified : (c : Claim) → In c (m.claims p from msg) → Verified c
+  pub signed : (c : Claim) → In c (m.claims p from msg) → is_correct p.setup c.by.0 ≡ true → Signed c.by.0 c.statement
+
+-- a message that may come to node i: where nodes only stop, one that was sent to it; else any that is credible
 abbrev pub MayArrive : {M : Type 0} → Bool → Module M → Params → World M → ℕ → ℕ → M → Type 0
 MayArrive true m p w i from msg = IsSent w from i msg
-MayArrive false m p w i from msg = (c : Claim) → In c (m.claims p from msg) → is_correct p.setup c.by.0 ≡ true → IsSigned m p w c.by.0 c.statement
+MayArrive false m p w i from msg = IsCredible m p (Verifies p) (IsSigned m p w) from msg
 
+-- what may come: the leader casts batches that have a spelling
 abbrev pub MayCome : {M : Type 0} → Module M → Params → World M → ℕ → Input M → Type 0
-MayCome m p w i (Cast slot batch) = i ≡ p.leader.0
+MayCome m p w i (Cast slot batch) = (i ≡ p.leader.0) × IsReadAgain spell_value parse_value (Holds batch)
 MayCome m p w i (Receive from msg) = MayArrive m.stopping m p w i from.0 msg
 MayCome m p w i Timeout = Unit {0}
 

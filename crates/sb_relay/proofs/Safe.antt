@@ -223,7 +223,7 @@ relay-lawful = record {
       rw (same-is me p.leader.0 a.leads, a.within, a.fresh) refl;
   asked_within = λ p me xs i x h. has_slot-In x.0 p.slots (asked p me xs i x.0 x.1 h).within;
   decided_within = λ p me xs s x h. has_slot-In s p.slots (decided-said p me xs s.0 x h).0;
-  addressed = λ p me xs i leaf k msg h. not-one (asks p me xs i) k msg p.setup.n h;
-  few = λ p. omega arith;
-  uses = λ p me xs i leaf. no-leaves (asks p me xs i);
+  addressed = λ p me xs i leaf k msg good input h. not-one (asks p me xs i) k msg p.setup.n h;
+  few = λ p good. omega arith;
+  uses = λ p me xs i leaf good input. no-leaves (asks p me xs i);
 }

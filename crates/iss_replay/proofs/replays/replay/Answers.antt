@@ -6,7 +6,7 @@ pub returns-clause-one_log : goal.returns-clause-one_log
 returns-clause-one_log g c = λ stops separate.
     let s = c.args.schedule.now.setup in
     let events = c.args.schedule.now.events in
-    one-log s g.M.Sequenced.meaning events (ordered-run s g.M.Sequenced.meaning events c.composition.ensures (c.cluster_runs.ensures.reached s c.requires.good stops events (at-nodes s events c.requires.range)) separate)
+    one-log s g.M.Sequenced.meaning events (ordered-run s g.M.Sequenced.meaning events c.composition.ensures.part (c.cluster_runs.ensures.reached s c.requires.good stops events (at-nodes s events c.requires.range)) separate)
 
 pub returns-clause-grows : goal.returns-clause-grows
 returns-clause-grows g c = λ stops.

@@ -10,6 +10,6 @@ returns-clause-reports g c =
     let m = g.M.Sequenced.meaning in
     if-ok _ _ c.write.result c.write.ensures (λ bytes told good events range stands. record {
       tells = told (run_of s m events) stands;
-      one_log = λ stops separate. one-log s m events (ordered-run s m events c.composition.ensures (c.cluster_runs.ensures.reached s good stops events (at-nodes s events range)) separate);
+      one_log = λ stops separate. one-log s m events (ordered-run s m events c.composition.ensures.part (c.cluster_runs.ensures.reached s good stops events (at-nodes s events range)) separate);
       grows = λ stops. c.cluster_runs.ensures.grows s good stops events (at-nodes s events range);
     })

@@ -1,0 +1,9 @@
+-- What is asked of a directory.
+use Rattle.std.specs.Prelude.{ℕ, List}
+use Rattle.iss_keys.specs.KeyStates.{PublicKeyView}
+
+-- whether this signature is one of this statement under this key
+pub record Question : Type 0 where
+  pub key : PublicKeyView
+  pub statement : List ℕ
+  pub signature : List ℕ

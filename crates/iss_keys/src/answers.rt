@@ -1,0 +1,200 @@
+//! Answers that are remembered. A signature goes round with what it signs, so the same question is asked
+//! again and again: each answer is walked to once, and found later by all bytes of its question.
+
+ghost use Rattle.std.specs.Prelude.{◌≡◌, ◌↔◌, ℕ, ◌<◌, length, slice_get, IfOk, IfSome, IsSome, IsTrue};
+ghost use Rattle.iss_keys.specs.Signatures.{Verifies};
+ghost use Rattle.iss_keys.specs.Questions.{Question};
+
+use crate::verification::{PublicKey, verify};
+use std::alloc::{AllocError, AllocFailed, Global};
+use std::cell::RefCell;
+use std::marker::Model;
+
+// How many answers are remembered at most, in sets of four: a power of two.
+const PLACES: usize = 1024;
+
+// How many answers the questions of one hash have room for.
+const SET: usize = 4;
+
+// Of longer statements no answer is remembered, so that the memory is bounded.
+const LONGEST_STATEMENT: usize = 1024;
+
+// A question, with the right answer.
+#[derive(Drop)]
+struct Answer {
+    key: PublicKey,
+    statement: Vec<u8>,
+    signature: Vec<u8>,
+    verifies: bool,
+}
+
+impl Model for Answer {
+    ghost Value = { Question };
+
+    ghost view = { λ a. record { key = a.key; statement = a.statement.items; signature = a.signature.items } };
+
+    ghost invariant = { λ a. IsTrue a.verifies ↔ Verifies a.key.root a.key.height a.statement.items a.signature.items };
+}
+
+impl Answer {
+    // The question and its answer, to be kept.
+    fn to(
+        alloc: Global,
+        key: &PublicKey,
+        statement: &[u8],
+        signature: &[u8],
+        verifies: bool,
+    ) -> Result<Answer, AllocError>
+        requires { IsTrue verifies ↔ Verifies key.now.root key.now.height statement.now signature.now }
+        ensures { IfOk result (λ a. a ≡ record { key = key.now; statement = statement.now; signature = signature.now }) }
+    {
+        let statement = statement.to_vec(alloc)?;
+        let signature = signature.to_vec(alloc)?;
+        Ok(Answer {
+            key: *key,
+            statement,
+            signature,
+            verifies,
+        })
+    }
+
+    // The answer, if it is one to this question.
+    fn answer(&self, key: &PublicKey, statement: &[u8], signature: &[u8]) -> Option<bool>
+        ensures right { IfSome result (λ verifies. IsTrue verifies ↔ Verifies key.now.root key.now.height statement.now signature.now) }
+        ensures found { self.now ≡ record { key = key.now; statement = statement.now; signature = signature.now } → IsSome result }
+    {
+        if self.key.root() == key.root()
+            && self.key.height() == key.height()
+            && self.statement.as_slice() == statement
+            && self.signature.as_slice() == signature
+        {
+            Some(self.verifies)
+        } else {
+            None
+        }
+    }
+}
+
+// Goes on with a hash (FNV-1a) over up to `most` bytes.
+fn hash_on(hash: u64, bytes: &[u8], most: usize) -> u64 {
+    let mut hash = hash;
+    for byte in bytes.iter().take(most) {
+        hash = (hash ^ u64::from(*byte)).wrapping_mul(0x0000_0100_0000_01b3);
+    }
+    hash
+}
+
+// Where the set of a question begins. Questions of different sets differ; whoever wants can make many
+// share one, and only the last few are then remembered.
+fn set_of(key: &PublicKey, statement: &[u8], signature: &[u8]) -> usize
+    ensures { result < 1024 }
+{
+    let hash = hash_on(0xcbf2_9ce4_8422_2325, &key.root(), 8);
+    let hash = hash_on(hash, statement, 64);
+    let hash = hash_on(hash, signature, 69);
+    (hash ^ (hash >> 32)) as usize % (PLACES / SET) * SET
+}
+
+// The answer to a question, if it is among these.
+fn find_answer(
+    answers: &[Option<Answer>],
+    key: &PublicKey,
+    statement: &[u8],
+    signature: &[u8],
+) -> Option<bool>
+    ensures right { IfSome result (λ verifies. IsTrue verifies ↔ Verifies key.now.root key.now.height statement.now signature.now) }
+    ensures found { (i : ℕ) → slice_get answers.now i ≡ Some (Some (record { key = key.now; statement = statement.now; signature = signature.now })) → IsSome result }
+{
+    'places: for place in answers {
+        if let Some(answer) = place {
+            let known = answer.answer(key, statement, signature);
+            if known.is_some() {
+                return known;
+            }
+        }
+    }
+    None
+}
+
+// Puts an answer before others, of which the last goes.
+fn put_first(answers: &mut [Option<Answer>], answer: Answer)
+    requires { 0 < length answers.old }
+    ensures { slice_get answers.new 0 ≡ Some (Some answer) }
+{
+    answers.rotate_right(1);
+    answers[0] = Some(answer);
+}
+
+// Fills up the places with no answer, as far as memory goes.
+fn fill_places(places: &mut Vec<Option<Answer>>) -> Result<(), AllocFailed<Option<Answer>>> {
+    for _i in places.len()..PLACES {
+        places.push(None)?;
+    }
+    Ok(())
+}
+
+/// Answers to questions that were asked. It takes no memory before the first, and where there is none, an
+/// answer is not remembered.
+#[derive(Drop)]
+pub struct Answers {
+    places: RefCell<Vec<Option<Answer>>>,
+}
+
+impl Answers {
+    /// No answers yet.
+    pub fn new(alloc: Global) -> Answers {
+        Answers {
+            places: RefCell::new(Vec::new(alloc)),
+        }
+    }
+
+    // The answer to a question, if it is remembered.
+    fn recall(&self, key: &PublicKey, statement: &[u8], signature: &[u8]) -> Option<bool>
+        ensures { IfSome result (λ verifies. IsTrue verifies ↔ Verifies key.now.root key.now.height statement.now signature.now) }
+    {
+        let Ok(places) = self.places.try_borrow() else {
+            return None;
+        };
+        let set = set_of(key, statement, signature);
+        match places.get(set..set + SET) {
+            Some(answers) => find_answer(answers, key, statement, signature),
+            None => None,
+        }
+    }
+
+    // Remembers an answer, in place of the oldest of its set.
+    fn remember(&self, key: &PublicKey, statement: &[u8], signature: &[u8], verifies: bool)
+        requires { IsTrue verifies ↔ Verifies key.now.root key.now.height statement.now signature.now }
+    {
+        let Ok(mut places) = self.places.try_borrow_mut() else {
+            return;
+        };
+        let alloc = *places.allocator();
+        let Ok(answer) = Answer::to(alloc, key, statement, signature, verifies) else {
+            return;
+        };
+        let _ = fill_places(&mut places);
+        let set = set_of(key, statement, signature);
+        if set + SET <= places.len() {
+            put_first(&mut places[set..set + SET], answer);
+        }
+    }
+
+    /// Whether `signature` is one of `statement` under `key`: remembered, or found and then remembered.
+    pub fn verify(&self, key: &PublicKey, statement: &[u8], signature: &[u8]) -> bool
+        ensures { IsTrue result ↔ Verifies key.now.root key.now.height statement.now signature.now }
+    {
+        // A signature of another length is refused at once.
+        if statement.len() > LONGEST_STATEMENT
+            || signature.len() != 2149 + 32 * key.height() as usize
+        {
+            return verify(key, statement, signature);
+        }
+        if let Some(verifies) = self.recall(key, statement, signature) {
+            return verifies;
+        }
+        let verifies = verify(key, statement, signature);
+        self.remember(key, statement, signature, verifies);
+        verifies
+    }
+}

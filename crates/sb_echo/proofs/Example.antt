@@ -1,0 +1,123 @@
+-- Echo on a worked example: four nodes, of which node 0 leads the slots 0 and 4.
+use Rattle.std.proofs.Common.{◌≡◌, ℕ, List, [], ◌∷◌, Some, None, refl}
+use Rattle.std.specs.Prelude.{replicate}
+use Rattle.sha2.specs.Sha256.{sha256, digest_bytes, hash_after, compress, rounds, schedule, first_words}
+use Rattle.iss_request.specs.Formats.{spell_batch, spell_value}
+use Rattle.iss_request.specs.declared.ids.NodeId.{NodeId}
+use Rattle.iss_request.specs.declared.ids.Slot.{Slot}
+use Rattle.iss_request.specs.declared.requests.Batch.{Batch}
+use Rattle.iss_request.specs.declared.requests.Value.TheVariants.{Batch as Holds}
+use Rattle.iss_request.specs.declared.setups.Kind.TheVariants.{Byzantine}
+use Rattle.iss_request.specs.declared.setups.Policy.TheVariants.{Simple}
+use Rattle.iss_request.specs.declared.setups.Setup.{Setup}
+use Rattle.iss_sb.specs.declared.effects.Input.TheVariants.{Cast, Receive}
+use Rattle.iss_sb.specs.declared.effects.Params.{Params}
+use Rattle.iss_sb.specs.declared.effects.To.TheVariants.{All as To_all}
+use Rattle.iss_sb.specs.Evidence.{Item, and_then, delivered}
+use Rattle.sb_echo.specs.declared.word.Word.{Word}
+use Rattle.sb_echo.specs.declared.word.Word.TheVariants.{Say, Echo}
+use Rattle.sb_echo.specs.Echo.{asks, claims, digest_of, echo, signature, statement, value_string}
+
+abbrev pub slot : ℕ → Slot
+slot n = record { 0 = n }
+
+abbrev pub node : ℕ → NodeId
+node n = record { 0 = n }
+
+-- node 3 is Byzantine
+abbrev pub setup : Setup
+setup = record {
+  «module» = 6;
+  f = 1;
+  epoch = 8;
+  buckets = 4;
+  batch = 4;
+  window = 4;
+  policy = Simple;
+  clients = 1;
+  keys = 4;
+  faulty = node 3 ∷ [];
+  n = 4;
+  quorum = 3;
+  kind = Byzantine;
+  tag = replicate 32 7;
+}
+
+abbrev pub p : Params
+p = record { setup = setup; epoch = record { 0 = 2 }; leader = node 0; slots = slot 0 ∷ slot 4 ∷ [] }
+
+-- what stands for a signature with a leaf
+abbrev pub sig : ℕ → List ℕ
+sig leaf = signature p leaf
+
+-- the batch of no requests
+abbrev pub b : Batch
+b = []
+
+abbrev pub d : List ℕ
+d = digest_of b
+
+-- the leader casts it at slot 0, with leaf 5 as its next
+abbrev pub cast : List (Item Word)
+cast = and_then echo p 0 [] (Cast (slot 0) b) 5
+
+casts : cast ≡ record { input = Cast (slot 0) b; made = record { sends = (To_all, Say (slot 0) b (sig 5)) ∷ (To_all, Echo (slot 0) d (sig 6)) ∷ []; accepted = Some (slot 0, b); strings = value_string b ∷ []; used = 2 } } ∷ []
+casts = refl
+
+casts_once : asks p 0 cast (Cast (slot 0) b) ≡ None
+casts_once = refl
+
+casts_another : asks p 0 cast (Cast (slot 4) b) ≡ Some (slot 4, b)
+casts_another = refl
+
+-- its own word is none to it, since the cast was
+no_word_to_itself : asks p 0 cast (Receive (node 0) (Say (slot 0) b (sig 5))) ≡ None
+no_word_to_itself = refl
+
+-- node 1 takes the word, and echoes it
+abbrev pub word : List (Item Word)
+word = and_then echo p 1 [] (Receive (node 0) (Say (slot 0) b (sig 5))) 9
+
+echoes : word ≡ record { input = Receive (node 0) (Say (slot 0) b (sig 5)); made = record { sends = (To_all, Echo (slot 0) d (sig 9)) ∷ []; accepted = Some (slot 0, b); strings = value_string b ∷ []; used = 1 } } ∷ []
+echoes = refl
+
+no_word_outside : asks p 1 [] (Receive (node 0) (Say (slot 1) b [])) ≡ None
+no_word_outside = refl
+
+no_word_of_another : asks p 1 [] (Receive (node 2) (Say (slot 0) b [])) ≡ None
+no_word_of_another = refl
+
+-- what is signed: the head, the kind, the slot, the digest
+states : claims p 1 (Echo (slot 4) (9 ∷ []) []) ≡ record { by = node 1; statement = statement p 2 4 (9 ∷ []); sig = [] } ∷ []
+states = refl
+
+abbrev pub echo_from : ℕ → List (Item Word) → List (Item Word)
+echo_from k xs = and_then echo p 1 xs (Receive (node k) (Echo (slot 0) d (sig 0))) 0
+
+-- two echoes, one of them twice, decide nothing; the third decides, and the fourth changes nothing
+two : delivered echo p 1 (echo_from 1 (echo_from 0 (echo_from 0 word))) 0 ≡ None
+unfolding sha256 digest_bytes hash_after compress rounds schedule first_words spell_batch spell_value
+two = refl
+
+three : delivered echo p 1 (echo_from 2 (echo_from 1 (echo_from 0 word))) 0 ≡ Some (Holds b)
+unfolding sha256 digest_bytes hash_after compress rounds schedule first_words spell_batch spell_value
+three = refl
+
+four : delivered echo p 1 (echo_from 3 (echo_from 2 (echo_from 1 (echo_from 0 word)))) 0 ≡ Some (Holds b)
+unfolding sha256 digest_bytes hash_after compress rounds schedule first_words spell_batch spell_value
+four = refl
+
+-- echoes alone deliver nothing, nor a word alone
+no_word : delivered echo p 1 (echo_from 2 (echo_from 1 (echo_from 0 []))) 0 ≡ None
+no_word = refl
+
+no_echo : delivered echo p 1 word 0 ≡ None
+no_echo = refl
+
+-- why a word has to have a spelling: different batches that have none can have one string, and so one digest
+abbrev many : ℕ → Batch
+many n = replicate n (record { id = record { client = 0; number = 0 }; payload = []; sig = [] })
+
+one-string : value_string (many 33) ≡ value_string (many 34)
+unfolding spell_batch spell_value
+one-string = refl

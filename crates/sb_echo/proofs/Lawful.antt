@@ -1,0 +1,89 @@
+-- The laws of echo's single steps.
+use Rattle.std.proofs.Common.{◌≡◌, ◌≤◌, ℕ, Bool, true, false, ◌==◌, ◌||◌, List, [], ◌∷◌, ◌++◌, Option, Some, None, refl, sym, ap, ◌∙◌, inl, inr, arith, true≢false}
+use Rattle.iss_base.specs.Lists.{In}
+use Rattle.iss_request.specs.declared.ids.NodeId.{NodeId}
+use Rattle.iss_request.specs.declared.ids.Slot.{Slot}
+use Rattle.iss_request.specs.declared.requests.Batch.{Batch}
+use Rattle.iss_sb.specs.declared.effects.Claim.{Claim}
+use Rattle.iss_sb.specs.declared.effects.Input.TheVariants.{Cast, Receive}
+use Rattle.iss_sb.specs.declared.effects.Params.{Params}
+use Rattle.iss_sb.specs.declared.effects.To.{To}
+use Rattle.iss_sb.specs.declared.effects.To.TheVariants.{All as To_all, One as To_one}
+use Rattle.iss_sb.specs.Evidence.{Item}
+use Rattle.iss_sb.specs.Laws.{IsLawful}
+use Rattle.iss_sb.specs.Statements.{eight_bytes, statement_head}
+use Rattle.sb_echo.specs.declared.word.Word.{Word}
+use Rattle.sb_echo.specs.declared.word.Word.TheVariants.{Say, Echo}
+use Rattle.sb_echo.specs.Echo.{asks, claims, digest_of, echo, has_slot, is_cast, made_of, tag, taken}
+use Rattle.sb_echo.proofs.Bytes.{is-same, same-is}
+use Rattle.sb_echo.proofs.Facts.{IsOwn, Same, accepted-is, asked, decided-is}
+
+slot_eta : (a b : Slot) → a.0 ≡ b.0 → a ≡ b
+slot_eta a b h = ap (λ (n : ℕ). let s : Slot = record { 0 = n } in s) h
+
+has_slot-In : (s : Slot) (slots : List Slot) → has_slot s.0 slots ≡ true → In s slots
+has_slot-In s [] h = absurd (true≢false (sym h))
+has_slot-In s (t ∷ slots) h = go (t.0 == s.0) refl (has_slot-In s slots) h
+  where
+    go : (b : Bool) → (t.0 == s.0) ≡ b → (has_slot s.0 slots ≡ true → In s slots) → (b || has_slot s.0 slots) ≡ true → In s (t ∷ slots)
+    go true q more k = inl (slot_eta s t (sym (is-same t.0 s.0 q)))
+    go false q more k = inr (more k)
+
+named : (p : Params) (from : ℕ) (msg : Word) (c : Claim) → In c (claims p from msg) → (rest : List ℕ) × (c.statement ≡ statement_head p tag ++ rest)
+named p from (Say slot batch sig) c (inl e) = (1 ∷ (eight_bytes slot.0 ++ digest_of batch), ap (λ (z : Claim). z.statement) e)
+named p from (Say slot batch sig) c (inr h) = absurd h
+named p from (Echo slot d sig) c (inl e) = (2 ∷ (eight_bytes slot.0 ++ d), ap (λ (z : Claim). z.statement) e)
+named p from (Echo slot d sig) c (inr h) = absurd h
+
+cast-is : (s : Slot) (b : Batch) (x : Slot × Batch) → Same (Cast s b) (Cast x.0 x.1) → x ≡ (s, b)
+cast-is s b x h =
+    let slots : x.0 ≡ s = cc in
+    let batches : x.1 ≡ b = cc in
+    ap (λ (t : Slot). let z : Slot × Batch = (t, x.1) in z) slots ∙ ap (λ (c : Batch). let z : Slot × Batch = (s, c) in z) batches
+
+no-word : (s : Slot) (b : Batch) (from : NodeId) (msg : Word) → Same (Cast s b) (Receive from msg) → ⊥
+no-word s b from msg h = cc
+
+-- a cast that is asked for is the leader's
+own : (p : Params) (me : ℕ) (xs : List (Item Word)) (s : Slot) (b : Batch) (x : Slot × Batch) → asks p me xs (Cast s b) ≡ Some x → IsOwn p me (Cast s b) x
+own p me xs s b x h = elim (asked p me xs (Cast s b) x h).cause [
+  | inl o ↦ o
+  | inr told ↦ absurd (no-word s b p.leader (Say x.0 x.1 told.sig) told.input)
+]
+
+castable : (p : Params) (me : ℕ) (xs : List (Item Word)) (s : Slot) (b c : Batch) → asks p me xs (Cast s b) ≡ Some (s, b) → asks p me xs (Cast s c) ≡ Some (s, c)
+castable p me xs s b c h =
+    let a = asked p me xs (Cast s b) (s, b) h in
+    let leads : me ≡ p.leader.0 = (own p me xs s b (s, b) h).leads in
+    let fresh : taken s.0 xs ≡ None = a.free.fresh in
+    rw (same-is me p.leader.0 leads, a.free.within, fresh) refl
+
+used-is : (p : Params) (me leaf : ℕ) (cast : Bool) (o : Option (Slot × Batch)) → (made_of p me leaf cast o).used ≤ 2
+used-is p me leaf cast None = omega arith
+used-is p me leaf true (Some a) = omega arith
+used-is p me leaf false (Some a) = omega arith
+
+one-all : (k : NodeId) → To_one k ≡ To_all → ⊥
+one-all k h = cc
+
+-- echo sends to all alone
+to-all : (p : Params) (me leaf : ℕ) (cast : Bool) (o : Option (Slot × Batch)) (k : NodeId) (msg : Word) → In {A = To × Word} (To_one k, msg) (made_of p me leaf cast o).sends → ⊥
+to-all p me leaf cast None k msg h = h
+to-all p me leaf true (Some a) k msg (inl e) = one-all k (ap (λ (z : To × Word). z.0) e)
+to-all p me leaf true (Some a) k msg (inr (inl e)) = one-all k (ap (λ (z : To × Word). z.0) e)
+to-all p me leaf true (Some a) k msg (inr (inr h)) = h
+to-all p me leaf false (Some a) k msg (inl e) = one-all k (ap (λ (z : To × Word). z.0) e)
+to-all p me leaf false (Some a) k msg (inr h) = h
+
+pub echo-lawful : IsLawful echo
+echo-lawful = record {
+  names = named;
+  accepted = λ p me xs i leaf. accepted-is p me leaf (is_cast i) (asks p me xs i);
+  casts = λ p me xs s b x h. cast-is s b x (own p me xs s b x h).input;
+  castable = castable;
+  asked_within = λ p me xs i x h. has_slot-In x.0 p.slots (asked p me xs i x h).free.within;
+  decided_within = λ p me xs s x h. has_slot-In s p.slots (decided-is p me xs s.0 x h).within;
+  addressed = λ p me xs i leaf k msg good input h. absurd (to-all p me leaf (is_cast i) (asks p me xs i) k msg h);
+  few = λ p good. omega arith;
+  uses = λ p me xs i leaf good input. used-is p me leaf (is_cast i) (asks p me xs i);
+}

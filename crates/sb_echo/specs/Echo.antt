@@ -1,0 +1,195 @@
+-- Echo: the leader says a batch to all, each node echoes the digest of the first batch that it took at a slot, and
+-- the echoes of a quorum decide what the node itself took there.
+use Rattle.std.specs.Prelude.{ℕ, zero, suc, ◌+◌, ◌*◌, ◌^◌, ◌==◌, ◌&&◌, ◌||◌, Bool, true, false, not, cond, nat_lt, nat_le, List, [], ◌∷◌, ◌++◌, length, replicate, Option, Some, None, is_some, if◌then◌else◌}
+use Rattle.std.specs.Int.{to_be_bytes, w32, w64}
+use Rattle.std.specs.List.{list_any}
+use Rattle.iss_base.specs.Lists.{first_of}
+use Rattle.iss_request.specs.Digest.{digest}
+use Rattle.iss_request.specs.Formats.{is_signature, parse_signature, parse_value, spell_value}
+use Rattle.iss_request.specs.Parsing.{Parser, ◌>>=◌, block, byte, done, number, such_that}
+use Rattle.iss_request.specs.declared.ids.Slot.{Slot}
+use Rattle.iss_request.specs.declared.requests.Batch.{Batch}
+use Rattle.iss_request.specs.declared.requests.Value.{Value}
+use Rattle.iss_request.specs.declared.requests.Value.TheVariants.{Nil, Batch as Holds}
+use Rattle.iss_sb.specs.declared.effects.Claim.{Claim}
+use Rattle.iss_sb.specs.declared.effects.Input.{Input}
+use Rattle.iss_sb.specs.declared.effects.Input.TheVariants.{Cast, Receive, Timeout}
+use Rattle.iss_sb.specs.declared.effects.Params.{Params}
+use Rattle.iss_sb.specs.declared.effects.To.{To}
+use Rattle.iss_sb.specs.declared.effects.To.TheVariants.{All as To_all}
+use Rattle.iss_sb.specs.Evidence.{Item, Made, Module}
+use Rattle.iss_sb.specs.Legal.{by_lists}
+use Rattle.iss_sb.specs.Statements.{eight_bytes, statement_head}
+use Rattle.sb_echo.specs.declared.word.Word.{Word}
+use Rattle.sb_echo.specs.declared.word.Word.TheVariants.{Say, Echo}
+
+-- ---- digests and statements
+
+-- what is hashed of a batch: the string of the value that holds it
+abbrev pub value_string : Batch → List ℕ
+value_string b = 0x40 ∷ spell_value (Holds b)
+
+abbrev pub digest_of : Batch → List ℕ
+digest_of b = digest (value_string b)
+
+abbrev pub tag : ℕ
+tag = 6
+
+-- what is signed: the instance, the kind of the message, the slot, the digest
+abbrev pub statement : Params → ℕ → ℕ → List ℕ → List ℕ
+statement p kind s d = statement_head p tag ++ (kind ∷ (eight_bytes s ++ d))
+
+abbrev pub claim : ℕ → List ℕ → List ℕ → Claim
+claim by statement sig = record { by = record { 0 = by }; statement = statement; sig = sig }
+
+-- a message claims its own signature
+abbrev pub claims : Params → ℕ → Word → List Claim
+claims p from (Say slot batch sig) = claim from (statement p 1 slot.0 (digest_of batch)) sig ∷ []
+claims p from (Echo slot d sig) = claim from (statement p 2 slot.0 d) sig ∷ []
+
+-- what stands for a signature, in the shape of one: no law reads it
+abbrev pub signature : Params → ℕ → List ℕ
+signature p leaf = p.setup.keys ∷ to_be_bytes w32 leaf ++ replicate (32 * (67 + p.setup.keys)) 0
+
+abbrev pub say : Params → ℕ → ℕ → Slot × Batch → Word
+say p me leaf a = Say a.0 a.1 (signature p leaf)
+
+abbrev pub echo_of : Params → ℕ → ℕ → Slot × Batch → Word
+echo_of p me leaf a = Echo a.0 (digest_of a.1) (signature p leaf)
+
+-- ---- what a node took
+
+-- whether the slot of this number is among the slots
+abbrev pub has_slot : ℕ → List Slot → Bool
+has_slot s slots = list_any (λ t. t.0 == s) slots
+
+abbrev pub batch_for : ℕ → Option (Slot × Batch) → Option Batch
+batch_for s None = None
+batch_for s (Some a) = if a.0.0 == s then Some a.1 else None
+
+-- the first batch that was accepted here at the slot
+abbrev pub taken : ℕ → List (Item Word) → Option Batch
+taken s [] = None
+taken s (x ∷ xs) = first_of (taken s xs) (batch_for s x.made.accepted)
+
+-- a slot of the segment at which nothing was taken
+abbrev pub is_open : Params → ℕ → List (Item Word) → Bool
+is_open p s xs = has_slot s p.slots && not (is_some (taken s xs))
+
+-- ---- rules
+
+-- the leader takes a cast at an open slot, and a node the leader's word on one
+abbrev pub asks : Params → ℕ → List (Item Word) → Input Word → Option (Slot × Batch)
+asks p me xs (Cast slot batch) = if (me == p.leader.0) && is_open p slot.0 xs then Some (slot, batch) else None
+asks p me xs (Receive from (Say slot batch sig)) = if (from.0 == p.leader.0) && is_open p slot.0 xs then Some (slot, batch) else None
+asks p me xs (Receive from (Echo slot d sig)) = None
+asks p me xs Timeout = None
+
+abbrev pub is_cast : Input Word → Bool
+is_cast (Cast slot batch) = true
+is_cast (Receive from msg) = false
+is_cast Timeout = false
+
+-- what is taken is echoed to all, once said where it was cast
+abbrev pub words : Params → ℕ → ℕ → Bool → Slot × Batch → List (To × Word)
+words p me leaf true a = (To_all, say p me leaf a) ∷ (To_all, echo_of p me (leaf + 1) a) ∷ []
+words p me leaf false a = (To_all, echo_of p me leaf a) ∷ []
+
+abbrev pub made_of : Params → ℕ → ℕ → Bool → Option (Slot × Batch) → Made Word
+made_of p me leaf cast None = record { sends = []; accepted = None; strings = []; used = 0 }
+made_of p me leaf cast (Some a) = record { sends = words p me leaf cast a; accepted = Some a; strings = value_string a.1 ∷ []; used = cond cast 2 1 }
+
+abbrev pub makes : Params → ℕ → List (Item Word) → Input Word → ℕ → Made Word
+makes p me xs input leaf = made_of p me leaf (is_cast input) (asks p me xs input)
+
+-- ---- what is decided
+
+abbrev pub same_bytes : List ℕ → List ℕ → Bool
+same_bytes [] [] = true
+same_bytes [] (y ∷ ys) = false
+same_bytes (x ∷ xs) [] = false
+same_bytes (x ∷ xs) (y ∷ ys) = (x == y) && same_bytes xs ys
+
+-- whether an input is node k's echo of the digest at the slot
+abbrev pub is_echo : ℕ → List ℕ → ℕ → Input Word → Bool
+is_echo s d k (Cast slot batch) = false
+is_echo s d k (Receive from (Say slot batch sig)) = false
+is_echo s d k (Receive from (Echo slot e sig)) = (from.0 == k) && ((slot.0 == s) && same_bytes e d)
+is_echo s d k Timeout = false
+
+abbrev pub has_echo : ℕ → List ℕ → ℕ → List (Item Word) → Bool
+has_echo s d k [] = false
+has_echo s d k (x ∷ xs) = is_echo s d k x.input || has_echo s d k xs
+
+-- how many numbers below n pass the test
+abbrev pub count_below : (ℕ → Bool) → ℕ → ℕ
+count_below test zero = 0
+count_below test (suc n) = cond (test n) 1 0 + count_below test n
+
+-- whether a quorum echoed the digest at the slot
+abbrev pub is_echoed : Params → ℕ → List ℕ → List (Item Word) → Bool
+is_echoed p s d xs = nat_le p.setup.quorum (count_below (λ k. has_echo s d k xs) p.setup.n)
+
+abbrev pub decide : Params → ℕ → List (Item Word) → Option Batch → Option Value
+decide p s xs None = None
+decide p s xs (Some b) = if has_slot s p.slots && is_echoed p s (digest_of b) xs then Some (Holds b) else None
+
+abbrev pub decided : Params → ℕ → List (Item Word) → ℕ → Option Value
+decided p me xs s = decide p s xs (taken s xs)
+
+-- ---- bytes
+
+-- a message's number, its fields, its signature. One that has no spelling is written as the number of no message
+abbrev pub spell : Word → List ℕ
+spell (Say slot batch sig) = if nat_lt slot.0 (2 ^ 64) && is_signature sig then 1 ∷ to_be_bytes w64 slot.0 ++ spell_value (Holds batch) ++ sig else 0 ∷ []
+spell (Echo slot d sig) = if nat_lt slot.0 (2 ^ 64) && ((length d == 32) && is_signature sig) then 2 ∷ to_be_bytes w64 slot.0 ++ d ++ sig else 0 ∷ []
+
+abbrev pub is_batch : Value → Bool
+is_batch Nil = false
+is_batch (Holds batch) = true
+
+abbrev pub batch_of : Value → Batch
+batch_of Nil = []
+batch_of (Holds batch) = batch
+
+unfoldable pub parse_say : Parser Word
+parse_say = do
+  slot ← number w64
+  value ← such_that is_batch parse_value
+  sig ← parse_signature
+  done (Say (record { 0 = slot }) (batch_of value) sig)
+
+unfoldable pub parse_echo : Parser Word
+parse_echo = do
+  slot ← number w64
+  d ← block 32
+  sig ← parse_signature
+  done (Echo (record { 0 = slot }) d sig)
+
+unfoldable pub parse : Parser Word
+parse = do
+  message ← such_that (λ n. (n == 1) || (n == 2)) byte
+  if message == 1 then parse_say else parse_echo
+
+-- ---- the module
+
+-- with no invariant
+abbrev pub rules : Module Word
+rules = record {
+  nodes = λ f. 3 * f + 1;
+  quorum = λ f. 2 * f + 1;
+  stopping = false;
+  tag = tag;
+  signs = λ p. 2;
+  spell = spell;
+  parse = parse;
+  claims = claims;
+  asks = asks;
+  makes = makes;
+  decided = decided;
+  Inv = λ p w. Unit {0};
+}
+
+-- f Byzantine nodes of 3f+1. What holds of every world is that its lists are legal
+abbrev pub echo : Module Word
+echo = by_lists rules
