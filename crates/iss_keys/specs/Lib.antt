@@ -7,3 +7,4 @@ pub mod Directories
 pub mod Sources
 pub mod Questions
 pub mod VerifiedBy
+pub mod Homes
