@@ -6,3 +6,5 @@ pub mod KeyStates
 pub mod Directories
 pub mod Sources
 pub mod Questions
+pub mod VerifiedBy
+pub mod Homes

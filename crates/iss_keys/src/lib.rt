@@ -17,6 +17,7 @@ mod directories;
 mod keyrings;
 pub mod laws;
 mod marks;
+mod shared;
 mod signing;
 #[cfg(test)]
 mod tests;
@@ -24,5 +25,6 @@ mod tree;
 mod verification;
 
 pub use directories::Directory;
+pub use shared::SharedDirectory;
 pub use signing::{Keys, NoMemory, SignError};
 pub use verification::{PublicKey, verify};
