@@ -1,9 +1,9 @@
 -- Requests and values are read as they are spelled.
-use Rattle.std.proofs.Common.{◌≡◌, ℕ, ◌^◌, ◌<◌, ◌≤◌, Bool, true, false, cond, eqb, ltb, ◌&&◌, ◌||◌, List, [], ◌∷◌, ◌++◌, length, refl, sym, ap, subst, ◌∙◌, append_assoc}
+use Rattle.std.proofs.Common.{◌≡◌, ◌≢◌, ℕ, ◌^◌, ◌<◌, ◌≤◌, Bool, true, false, cond, eqb, ltb, ◌&&◌, ◌||◌, List, [], ◌∷◌, ◌++◌, length, refl, sym, ap, subst, ◌∙◌, append_assoc}
 use Rattle.std.specs.Prelude.{Result, Ok, Err, OnOk}
 use Rattle.std.specs.Int.{w16, to_be_bytes}
 use Rattle.std.specs.List.{flat_map}
-use Rattle.std.proofs.lemmas.Bool.{lt-ltb, le-leb, lt-leb}
+use Rattle.std.proofs.lemmas.Bool.{lt-ltb, le-leb, lt-leb, ne_eqb}
 use Rattle.iss_request.specs.Fields.{Reading, Written, and_bytes, IsRead, IsUnreadable}
 use Rattle.iss_request.specs.Parsing.{Parser, ◌>>=◌, done, byte, number}
 use Rattle.iss_request.specs.Formats.{is_second, version_byte, requests_most, is_signature, has_spelling, request_bytes, no_request, no_batch}
@@ -22,6 +22,9 @@ first_of version false = refl
 
 pub batch_first : (version : ℕ) → is_first version (version_byte version) ≡ true
 batch_first version = first_of version (is_second version)
+
+pub other_first : (version n : ℕ) → n ≢ 0 → n ≢ version_byte version → is_first version n ≡ false
+other_first version n nil batch = rw (ne_eqb n 0 nil, ne_eqb n (version_byte version) batch) refl
 
 rest_of : (version : ℕ) (second : Bool) → parse_rest version (cond second 2 1) ≡ (parse_batch version >>= λ b. done (Holds b))
 unfolding parse_rest
@@ -119,6 +122,12 @@ both_written (Err d) old mid new xs ys e h = h
 pub versioned_written : (r : Result (Unit {0}) NoMemory) (old mid new : Written) (xs : List ℕ) (spelled : ℕ → List ℕ) → mid ≡ and_bytes old xs → OnOk r (new ≡ and_bytes mid (spelled mid.version)) → OnOk r (new ≡ and_bytes old (xs ++ spelled old.version))
 versioned_written r old mid new xs spelled e h =
     both_written r old mid new xs (spelled old.version) e (subst (λ (v : ℕ). OnOk r (new ≡ and_bytes mid (spelled v))) (ap (λ (w : Written). w.version) e) h)
+
+-- a batch that is written behind its byte
+pub holds_written : (r : Result (Unit {0}) NoMemory) (old mid new : Written) (v : Value) (b : List Request) (first : ℕ) → v ≡ Holds b → first ≡ version_byte old.version → mid ≡ and_bytes old (first ∷ []) → OnOk r (new ≡ and_bytes mid (spell_batch mid.version b)) → OnOk r (new ≡ and_bytes old (spell_value old.version v))
+holds_written r old mid new v b first is e m h =
+    rw (holds_spelled old.version v b is)
+    (versioned_written r old mid new (version_byte old.version ∷ []) (λ version. spell_batch version b) (subst (λ (n : ℕ). mid ≡ and_bytes old (n ∷ [])) e m) h)
 
 pub five_parts : (m : List ℕ) (x : ℕ) (a b c d : List ℕ) → ((((m ++ x ∷ []) ++ a) ++ b) ++ c) ++ d ≡ m ++ (x ∷ (a ++ b ++ c ++ d))
 five_parts m x a b c d = simp append_assoc
