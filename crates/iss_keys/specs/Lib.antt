@@ -8,3 +8,4 @@ pub mod Sources
 pub mod Questions
 pub mod VerifiedBy
 pub mod Homes
+pub mod Held

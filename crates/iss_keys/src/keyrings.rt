@@ -181,10 +181,13 @@ impl Keyring {
     }
 
     /// The public keys of keys.
-    pub fn given(alloc: Global, keys: &[Keys]) -> Result<Keyring, AllocError>
+    pub fn given(alloc: Global, keys: &[Keys]) -> Result<Keyring, NoMemory>
         ensures { IfOk result (λ ring. ring ≡ map public_of keys.now) }
     {
-        let publics = keys.iter().map(|key| key.public()).collect(alloc)?;
+        let mut publics = Vec::with_capacity(alloc, keys.len())?;
+        'keys: for key in keys {
+            publics.push(key.public())?;
+        }
         Ok(Keyring {
             source: Source::Given(publics),
         })

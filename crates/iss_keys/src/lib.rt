@@ -15,6 +15,7 @@ mod chain;
 mod digits;
 mod directories;
 mod keyrings;
+mod late;
 pub mod laws;
 mod marks;
 mod shared;
