@@ -9,6 +9,7 @@ use Rattle.iss_schedule.specs.Reads.{IsWithin}
 -- three nodes that do not fail, of which two decide
 abbrev pub setup_with : Header → List ℕ → Setup
 setup_with h tag = record {
+  version = 1;
   «module» = 1;
   f = 0;
   epoch = h.epoch;

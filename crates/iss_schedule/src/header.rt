@@ -173,6 +173,7 @@ pub fn setup_of(alloc: Global, header: Header, text: &[u8]) -> Setup
     ensures { result ≡ setup_with header (sha256 (0x43 ∷ text.now)) }
 {
     Setup {
+        version: 1,
         module: 1,
         f: 0,
         epoch: u64::from(header.epoch),
