@@ -6,3 +6,4 @@ pub mod KeyStates
 pub mod Directories
 pub mod Sources
 pub mod Questions
+pub mod VerifiedBy
