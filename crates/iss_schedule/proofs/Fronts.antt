@@ -46,6 +46,7 @@ empty_schedule h = record { setup = relay_of h; events = [] }
 
 pub good_header : (h : Header) (tag : List ℕ) → IsHeaderInRange h → IsGoodSetup (setup_with h tag)
 good_header h tag ok = record {
+  version = refl;
   faults = omega arith;
   relay_faults = λ _. refl;
   relay_kind = λ _. refl;

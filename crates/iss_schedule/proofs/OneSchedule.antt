@@ -106,8 +106,9 @@ events_same s (x ∷ xs) (f ∷ fs) good r q e =
 
 -- ---- set-ups
 
-parts : (m f e b ba w : ℕ) → Policy → (c k : ℕ) → List NodeId → (n q : ℕ) → Kind → List ℕ → Setup
-parts m f e b ba w p c k faulty n q kind tag = record {
+parts : (v m f e b ba w : ℕ) → Policy → (c k : ℕ) → List NodeId → (n q : ℕ) → Kind → List ℕ → Setup
+parts v m f e b ba w p c k faulty n q kind tag = record {
+  version = v;
   «module» = m;
   f = f;
   epoch = e;
@@ -131,16 +132,17 @@ two_decide : (s : Setup) → IsRelay s → s.quorum ≡ 2
 two_decide s r = let e = r.good.majority in let m = r.relay in grind (arith)
 
 -- the set-up of a relay is given by seven numbers and its tag
-relay_parts : (s : Setup) → IsRelay s → s ≡ parts 1 s.f s.epoch s.buckets s.batch s.window Simple s.clients s.keys [] 3 2 Stopping s.tag
+relay_parts : (s : Setup) → IsRelay s → s ≡ parts 1 1 s.f s.epoch s.buckets s.batch s.window Simple s.clients s.keys [] 3 2 Stopping s.tag
 unfolding parts
 relay_parts s r =
     let kind = r.good.relay_kind r.relay in
-    ap (λ x. parts x s.f s.epoch s.buckets s.batch s.window s.policy s.clients s.keys s.faulty s.n s.quorum s.kind s.tag) r.relay
-    ∙ ap (λ (x : Policy). parts 1 s.f s.epoch s.buckets s.batch s.window x s.clients s.keys s.faulty s.n s.quorum s.kind s.tag) r.good.simple
-    ∙ ap (λ (x : List NodeId). parts 1 s.f s.epoch s.buckets s.batch s.window Simple s.clients s.keys x s.n s.quorum s.kind s.tag) (none_faulty s kind r.good.few_faulty)
-    ∙ ap (λ x. parts 1 s.f s.epoch s.buckets s.batch s.window Simple s.clients s.keys [] x s.quorum s.kind s.tag) (three_nodes s r)
-    ∙ ap (λ x. parts 1 s.f s.epoch s.buckets s.batch s.window Simple s.clients s.keys [] 3 x s.kind s.tag) (two_decide s r)
-    ∙ ap (λ (x : Kind). parts 1 s.f s.epoch s.buckets s.batch s.window Simple s.clients s.keys [] 3 2 x s.tag) kind
+    ap (λ v. parts v s.module s.f s.epoch s.buckets s.batch s.window s.policy s.clients s.keys s.faulty s.n s.quorum s.kind s.tag) r.good.version
+    ∙ ap (λ x. parts 1 x s.f s.epoch s.buckets s.batch s.window s.policy s.clients s.keys s.faulty s.n s.quorum s.kind s.tag) r.relay
+    ∙ ap (λ (x : Policy). parts 1 1 s.f s.epoch s.buckets s.batch s.window x s.clients s.keys s.faulty s.n s.quorum s.kind s.tag) r.good.simple
+    ∙ ap (λ (x : List NodeId). parts 1 1 s.f s.epoch s.buckets s.batch s.window Simple s.clients s.keys x s.n s.quorum s.kind s.tag) (none_faulty s kind r.good.few_faulty)
+    ∙ ap (λ x. parts 1 1 s.f s.epoch s.buckets s.batch s.window Simple s.clients s.keys [] x s.quorum s.kind s.tag) (three_nodes s r)
+    ∙ ap (λ x. parts 1 1 s.f s.epoch s.buckets s.batch s.window Simple s.clients s.keys [] 3 x s.kind s.tag) (two_decide s r)
+    ∙ ap (λ (x : Kind). parts 1 1 s.f s.epoch s.buckets s.batch s.window Simple s.clients s.keys [] 3 2 x s.tag) kind
 
 field_at : (s t : Setup) (k : ℕ) (name : List ℕ) (m n : ℕ) → header_lines s ≡ header_lines t → nth (header_lines s) k ≡ Some (field name m) → nth (header_lines t) k ≡ Some (field name n) → m < 2 ^ 64 → n < 2 ^ 64 → m ≡ n
 field_at s t k name m n e a b fits fits' = field_same name m n fits fits' (some_same (field name m) (field name n) (sym a ∙ ap (λ (ls : List (List ℕ)). nth ls k) e ∙ b))
@@ -152,14 +154,14 @@ setups_same s t r q e =
     let y = setup_fits t q.good in
     let tags : s.tag ≡ t.tag = r.tag ∙ ap (λ (ls : List (List ℕ)). sha256 (67 ∷ ended ls)) e ∙ sym q.tag in
     relay_parts s r
-    ∙ ap (λ z. parts 1 z s.epoch s.buckets s.batch s.window Simple s.clients s.keys [] 3 2 Stopping s.tag) (field_at s t 2 (codes "f") s.f t.f e refl refl x.f y.f)
-    ∙ ap (λ z. parts 1 t.f z s.buckets s.batch s.window Simple s.clients s.keys [] 3 2 Stopping s.tag) (field_at s t 3 (codes "epoch") s.epoch t.epoch e refl refl x.epoch y.epoch)
-    ∙ ap (λ z. parts 1 t.f t.epoch z s.batch s.window Simple s.clients s.keys [] 3 2 Stopping s.tag) (field_at s t 4 (codes "buckets") s.buckets t.buckets e refl refl x.buckets y.buckets)
-    ∙ ap (λ z. parts 1 t.f t.epoch t.buckets z s.window Simple s.clients s.keys [] 3 2 Stopping s.tag) (field_at s t 5 (codes "batch") s.batch t.batch e refl refl x.batch y.batch)
-    ∙ ap (λ z. parts 1 t.f t.epoch t.buckets t.batch z Simple s.clients s.keys [] 3 2 Stopping s.tag) (field_at s t 6 (codes "window") s.window t.window e refl refl x.window y.window)
-    ∙ ap (λ z. parts 1 t.f t.epoch t.buckets t.batch t.window Simple z s.keys [] 3 2 Stopping s.tag) (field_at s t 8 (codes "clients") s.clients t.clients e refl refl x.clients y.clients)
-    ∙ ap (λ z. parts 1 t.f t.epoch t.buckets t.batch t.window Simple t.clients z [] 3 2 Stopping s.tag) (field_at s t 9 (codes "keys") s.keys t.keys e refl refl x.keys y.keys)
-    ∙ ap (λ (z : List ℕ). parts 1 t.f t.epoch t.buckets t.batch t.window Simple t.clients t.keys [] 3 2 Stopping z) tags
+    ∙ ap (λ z. parts 1 1 z s.epoch s.buckets s.batch s.window Simple s.clients s.keys [] 3 2 Stopping s.tag) (field_at s t 2 (codes "f") s.f t.f e refl refl x.f y.f)
+    ∙ ap (λ z. parts 1 1 t.f z s.buckets s.batch s.window Simple s.clients s.keys [] 3 2 Stopping s.tag) (field_at s t 3 (codes "epoch") s.epoch t.epoch e refl refl x.epoch y.epoch)
+    ∙ ap (λ z. parts 1 1 t.f t.epoch z s.batch s.window Simple s.clients s.keys [] 3 2 Stopping s.tag) (field_at s t 4 (codes "buckets") s.buckets t.buckets e refl refl x.buckets y.buckets)
+    ∙ ap (λ z. parts 1 1 t.f t.epoch t.buckets z s.window Simple s.clients s.keys [] 3 2 Stopping s.tag) (field_at s t 5 (codes "batch") s.batch t.batch e refl refl x.batch y.batch)
+    ∙ ap (λ z. parts 1 1 t.f t.epoch t.buckets t.batch z Simple s.clients s.keys [] 3 2 Stopping s.tag) (field_at s t 6 (codes "window") s.window t.window e refl refl x.window y.window)
+    ∙ ap (λ z. parts 1 1 t.f t.epoch t.buckets t.batch t.window Simple z s.keys [] 3 2 Stopping s.tag) (field_at s t 8 (codes "clients") s.clients t.clients e refl refl x.clients y.clients)
+    ∙ ap (λ z. parts 1 1 t.f t.epoch t.buckets t.batch t.window Simple t.clients z [] 3 2 Stopping s.tag) (field_at s t 9 (codes "keys") s.keys t.keys e refl refl x.keys y.keys)
+    ∙ ap (λ (z : List ℕ). parts 1 1 t.f t.epoch t.buckets t.batch t.window Simple t.clients t.keys [] 3 2 Stopping z) tags
     ∙ sym (relay_parts t q)
 
 -- ---- schedules
