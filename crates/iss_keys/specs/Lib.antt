@@ -7,3 +7,5 @@ pub mod Directories
 pub mod Sources
 pub mod Questions
 pub mod VerifiedBy
+pub mod Homes
+pub mod Held
