@@ -34,7 +34,7 @@ fn layout(alloc: Global) -> Layout {
         kind: Kind::Stopping,
         tag: [0; 32],
     };
-    Layout::of(&setup, Epoch(0), &Standing::new())
+    Layout::of(&setup, Epoch(0), 0, &Standing::new())
 }
 
 #[test]

@@ -4,7 +4,7 @@ use Rattle.std.proofs.Common.{◌≡◌, [], ◌∷◌, refl, Some}
 use Rattle.iss_layout.specs.Layout.{Plan, node, nodes_below, slot_leader, bucket_owner, bucket_of, segment}
 
 abbrev all_lead : Plan
-all_lead = record { epoch = 1; nodes = 4; slots = 4; buckets = 4; leaders = nodes_below 4 }
+all_lead = record { epoch = 1; start = 4; nodes = 4; slots = 4; buckets = 4; leaders = nodes_below 4 }
 
 bucket_0 : bucket_owner all_lead 0 ≡ Some (node 1)
 bucket_0 = refl
@@ -22,7 +22,7 @@ request_7_1 : bucket_of all_lead (record { client = 7; number = 1 }) ≡ 0
 request_7_1 = refl
 
 abbrev three_lead : Plan
-three_lead = record { epoch = 1; nodes = 4; slots = 4; buckets = 4; leaders = node 0 ∷ node 2 ∷ node 3 ∷ [] }
+three_lead = record { epoch = 1; start = 4; nodes = 4; slots = 4; buckets = 4; leaders = node 0 ∷ node 2 ∷ node 3 ∷ [] }
 
 home_does_not_lead : bucket_owner three_lead 0 ≡ Some (node 2)
 home_does_not_lead = refl

@@ -1,4 +1,4 @@
-use Rattle.std.proofs.Common.{◌≡◌, ◌⊎◌, inl, inr, ⊎_elim, ℕ, zero, suc, ◌+◌, ◌-◌, ◌*◌, ◌%◌, ◌^◌, ◌<◌, ◌≤◌, ◌↔◌, Bool, true, false, cond, List, [], ◌∷◌, ◌++◌, length, refl, sym, ap, ◌∙◌, subst, arith, Option, Some, None, slice_get, eqb, ◌==◌, ◌||◌, length-append}
+use Rattle.std.proofs.Common.{◌≡◌, ◌⊎◌, inl, inr, ⊎_elim, ℕ, zero, suc, ◌+◌, ◌-◌, ◌%◌, ◌^◌, ◌<◌, ◌≤◌, ◌↔◌, Bool, true, false, cond, List, [], ◌∷◌, ◌++◌, length, refl, sym, ap, ◌∙◌, subst, arith, Option, Some, None, slice_get, eqb, ◌==◌, ◌||◌, length-append}
 use Rattle.std.proofs.Math.Nat.{mod-eq_of_lt}
 use Rattle.std.proofs.lemmas.Nat.{mod_below}
 use Rattle.std.proofs.lemmas.Bool.{cases_lt}
@@ -45,8 +45,8 @@ pub rising_below : (n : ℕ) → AreRising 0 n (nodes_below n)
 rising_below zero = tt
 rising_below (suc n) = rising_more 0 n (nodes_below n) (rising_below n) (omega arith)
 
-pub good_plan : (s : Setup) (e : ℕ) (log : List Value) → IsGoodSetup s → e * s.epoch + s.epoch ≤ 2 ^ 64 → IsGoodPlan (plan_of s e log)
-good_plan s e log good fits =
+pub good_plan : (s : Setup) (e start : ℕ) (log : List Value) → IsGoodSetup s → start + s.epoch ≤ 2 ^ 64 → IsGoodPlan (plan_of s e start log)
+good_plan s e start log good fits =
     let few = few_nodes s good in
     let long = length_below s.n in
     record {

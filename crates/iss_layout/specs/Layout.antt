@@ -1,5 +1,5 @@
 -- Which node leads which slots of an epoch, and which node owns which bucket of requests.
-use Rattle.std.specs.Prelude.{◌≡◌, ℕ, zero, suc, ◌+◌, ◌-◌, ◌*◌, ◌%◌, ◌^◌, ◌<◌, ◌≤◌, ◌==◌, Bool, false, List, [], ◌∷◌, ◌++◌, length, Option, Some, None, slice_get, if◌then◌else◌, ◌↔◌}
+use Rattle.std.specs.Prelude.{◌≡◌, ℕ, zero, suc, ◌+◌, ◌-◌, ◌%◌, ◌^◌, ◌<◌, ◌≤◌, ◌==◌, Bool, false, List, [], ◌∷◌, ◌++◌, length, Option, Some, None, slice_get, if◌then◌else◌, ◌↔◌}
 use Rattle.std.specs.List.{filter, list_any}
 use Rattle.iss_base.specs.Lists.{In}
 use Rattle.iss_request.specs.Setup.{AreRising}
@@ -13,6 +13,8 @@ use Rattle.iss_request.specs.declared.setups.Setup.{Setup}
 -- what the division of an epoch depends on
 pub record Plan : Type 0 where
   pub epoch : ℕ
+  -- the epoch's first slot: the sum of the lengths of those before it
+  pub start : ℕ
   pub nodes : ℕ
   -- how many slots an epoch has
   pub slots : ℕ
@@ -32,15 +34,17 @@ nodes_below (suc n) = nodes_below n ++ node n ∷ []
 abbrev pub leaders_of : Setup → ℕ → List Value → List NodeId
 leaders_of s e log = nodes_below s.n
 
-abbrev pub plan_of : Setup → ℕ → List Value → Plan
-plan_of s e log = record { epoch = e; nodes = s.n; slots = s.epoch; buckets = s.buckets; leaders = leaders_of s e log }
+-- the plan of an epoch that starts at a given slot
+abbrev pub plan_of : Setup → ℕ → ℕ → List Value → Plan
+plan_of s e start log =
+    record { epoch = e; start = start; nodes = s.n; slots = s.epoch; buckets = s.buckets; leaders = leaders_of s e log }
 
 -- the leader at turn k, where the leaders take turns in ascending order, round and round
 abbrev pub at_turn : List NodeId → ℕ → Option NodeId
 at_turn leaders k = slice_get leaders (k % length leaders)
 
 abbrev pub first_slot : Plan → ℕ
-first_slot p = p.epoch * p.slots
+first_slot p = p.start
 
 -- the slot is of the epoch
 abbrev pub IsSlotOf : Plan → ℕ → Type 0

@@ -1,5 +1,5 @@
 //! The division of one epoch.
-ghost use Rattle.std.specs.Prelude.{◌≡◌, ◌+◌, ◌*◌, ◌%◌, ◌^◌, ◌<◌, ◌≤◌, [], length, slice_get, IfOk, Some};
+ghost use Rattle.std.specs.Prelude.{◌≡◌, ◌+◌, ◌%◌, ◌^◌, ◌<◌, ◌≤◌, [], length, slice_get, IfOk, Some};
 ghost use Rattle.iss_request.specs.Setup.{IsGoodSetup};
 ghost use Rattle.iss_layout.specs.Layout.{IsSlotOf, plan_of, slot_leader, leads, bucket_owner, bucket_of, segment};
 
@@ -12,6 +12,7 @@ use std::marker::Model;
 #[derive(Drop, Debug)]
 pub struct Layout {
     epoch: u64,
+    start: u64,
     nodes: u32,
     slots: u64,
     buckets: u32,
@@ -26,22 +27,37 @@ impl Model for Layout {
 
     ghost Value = { Plan };
 
-    ghost view = { λ l. record { epoch = l.epoch; nodes = l.nodes; slots = l.slots; buckets = l.buckets; leaders = take l.count l.leaders } };
+    ghost view = { λ l. record {
+      epoch = l.epoch;
+      start = l.start;
+      nodes = l.nodes;
+      slots = l.slots;
+      buckets = l.buckets;
+      leaders = take l.count l.leaders;
+    } };
 
-    ghost invariant = { λ l. (length (take l.count l.leaders) ≡ l.count) × IsGoodPlan (record { epoch = l.epoch; nodes = l.nodes; slots = l.slots; buckets = l.buckets; leaders = take l.count l.leaders }) };
+    ghost invariant = { λ l. (length (take l.count l.leaders) ≡ l.count) × IsGoodPlan (record {
+      epoch = l.epoch;
+      start = l.start;
+      nodes = l.nodes;
+      slots = l.slots;
+      buckets = l.buckets;
+      leaders = take l.count l.leaders;
+    }) };
 }
 
 impl Layout {
-    /// The division of an epoch, all of whose slots are below 2^64, by the standing that earlier epochs left. The
-    /// simple policy reads nothing of the log before the epoch, so the clause names an empty one; any other says the
-    /// same.
-    pub fn of(setup: &Setup, epoch: Epoch, standing: &Standing) -> Layout
+    /// The division of an epoch that starts at a given slot and all of whose slots are below 2^64, by the standing
+    /// that earlier epochs left. The simple policy reads nothing of the log before the epoch, so the clause names an
+    /// empty one; any other says the same.
+    pub fn of(setup: &Setup, epoch: Epoch, start: u64, standing: &Standing) -> Layout
         requires good { IsGoodSetup setup.now }
-        requires fits { epoch.0 * setup.now.epoch + setup.now.epoch ≤ 2 ^ 64 }
-        ensures { result ≡ plan_of setup.now epoch.0 [] }
+        requires fits { start + setup.now.epoch ≤ 2 ^ 64 }
+        ensures { result ≡ plan_of setup.now epoch.0 start [] }
     {
         Layout {
             epoch: epoch.0,
+            start,
             nodes: setup.n,
             slots: setup.epoch,
             buckets: setup.buckets,
@@ -69,17 +85,16 @@ impl Layout {
         requires { IsSlotOf self.now slot.0 }
         ensures { slot_leader self.now slot.0 ≡ Some result }
     {
-        self.at_turn((slot.0 - self.epoch * self.slots) % self.count as u64)
+        self.at_turn((slot.0 - self.start) % self.count as u64)
     }
 
     /// The slots of the epoch that a node leads, ascending.
     pub fn slots_of(&self, alloc: Global, node: NodeId) -> Result<Row<Slot>, NoMemory>
         ensures { IfOk result (λ slots. slots ≡ segment self.now node.0) }
     {
-        let first = self.epoch * self.slots;
         let mut slots = Row::new(alloc);
         for k in 0..self.slots {
-            let slot = Slot(first + k);
+            let slot = Slot(self.start + k);
             if self.segment_of(slot) == node {
                 slots.push(slot)?;
             }

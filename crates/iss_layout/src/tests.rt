@@ -21,7 +21,7 @@ fn an_epoch_of_three_nodes(rt: HostRuntime) -> Result<(), Fail> {
         kind: Kind::Stopping,
         tag: [0; 32],
     };
-    let layout = Layout::of(&setup, Epoch(1), &Standing::new());
+    let layout = Layout::of(&setup, Epoch(1), 6, &Standing::new());
     assert_eq!(rt; layout.leaders().len(), 3);
     assert!(rt; layout.leads(NodeId(2)));
     assert!(rt; !layout.leads(NodeId(3)));

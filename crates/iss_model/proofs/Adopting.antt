@@ -2,8 +2,8 @@
 -- other's claim, and vote; the third adopts the epoch under a certificate that the faulty one signed too.
 use Rattle.std.proofs.Common.{◌≡◌, inl, inr, ℕ, true, cond, List, [], ◌∷◌, ◌++◌, Option, Some, None, refl, sym, ap, ◌∙◌, subst, true≢false, arith}
 use Rattle.sha2.specs.Sha256.{compress, digest_bytes, first_words, hash_after, rounds, schedule, sha256}
-use Rattle.iss_base.specs.Lists.{In, set_at}
-use Rattle.iss_base.proofs.Lists.{first-cases, in_append, in_left, in_right, set_at-other, set_at-same, some-injective}
+use Rattle.iss_base.specs.Lists.{In, over, set_at}
+use Rattle.iss_base.proofs.Lists.{first-cases, in_append, in_right, set_at-other, set_at-same, some-injective}
 use Rattle.iss_request.specs.Fields.{Good}
 use Rattle.iss_request.specs.Formats.{parse_batch, parse_rest, parse_value, spell_batch, spell_value}
 use Rattle.iss_request.specs.Parsing.{◌>>=◌, byte, done, such_that, times}
@@ -35,7 +35,7 @@ use Rattle.iss_model.proofs.Checkpoints.{exact-of}
 use Rattle.iss_model.proofs.Layouts.{sound-rules}
 use Rattle.iss_model.proofs.Reached.{composition}
 use Rattle.iss_model.proofs.Signing.{Word, is_slot, lawful, made_of, passes, read_word, signing, slot-in}
-use Rattle.iss_model.proofs.Tested.{own-is, separate-more}
+use Rattle.iss_model.proofs.Tests.{over-new, over-old, own-is, separate-more}
 
 -- the module: as the one that signs, but each node delivers nil in all slots as soon as it takes anything
 
@@ -128,7 +128,7 @@ nils = Nil ∷ Nil ∷ Nil ∷ Nil ∷ []
 
 -- what is hashed for one epoch of nils, and the empty string, are all strings
 abbrev strings : List (List ℕ)
-strings = chain_strings S nils ++ [] ∷ []
+strings = over (chain_strings S nils) ([] ∷ [])
 
 -- a part of the log's strings
 abbrev IsPart : List Value → Type 0
@@ -139,7 +139,7 @@ part-strings [] log x h = h
 part-strings (v ∷ newer) log x h = inr (inr (part-strings newer log x h))
 
 hashed-part : (log : List Value) → IsPart log → IsHashedLog S strings log
-hashed-part log p x h = in_left x (chain_strings S nils) ([] ∷ []) (subst (λ (ys : List Value). In x (chain_strings S ys)) (sym p.1) (part-strings p.0 log x h))
+hashed-part log p x h = over-new x (chain_strings S nils) ([] ∷ []) (subst (λ (ys : List Value). In x (chain_strings S ys)) (sym p.1) (part-strings p.0 log x h))
 
 nil-spelled : S.spells Nil ≡ true
 unfolding parse_value parse_rest spell_value ◌>>=◌ such_that byte done
@@ -275,7 +275,7 @@ abbrev pub w10 : Net
 w10 = after_end w9 1
 
 r0 : Reached w0
-r0 = record { reach = begin (record { pasts = λ j ok. refl; messages = λ k h. h; book = λ x h. h; root = in_right [] (chain_strings S nils) ([] ∷ []) (inl refl) }); same = refl }
+r0 = record { reach = begin (record { pasts = λ j ok. refl; messages = λ k h. h; book = λ x h. h; root = over-old [] (chain_strings S nils) ([] ∷ []) (inl refl) }); same = refl }
 
 r1 : Reached w1
 r1 = moves w0 r0 0 0 casts refl refl (refl, batch-read [] (omega arith) (λ q i. absurd i)) refl (Nil ∷ Nil ∷ Nil ∷ [], refl)

@@ -17,7 +17,6 @@ use Rattle.iss_sb.specs.Evidence.{IsReadAgain, Module}
 use Rattle.iss_sb.proofs.Read.{read-again}
 use Rattle.iss_model.specs.Formats.{formats_of, message_in, parcel_in, parcel_of_kind, request_in, whole}
 use Rattle.iss_model.specs.Node.{Body, OfModule, OfRequest, Parcel}
-use Rattle.iss_model.specs.Tested.{AreRead}
 
 some-same : {A : Type 0} (x y : A) → Some x ≡ Some y → x ≡ y
 some-same x y h = cc
@@ -89,7 +88,7 @@ module _ {Msg : Type 0} (s : Setup) (M : Module Msg) (grammar : IsGrammar M.spel
   abbrev Told : Parcel Msg → Msg → Type 0
   Told k msg = (k.from < s.n) × IsReadAgain M.spell M.parse msg
 
-  pub are-read : AreRead s (formats_of s M) M
+  pub are-read : (bytes : List ℕ) (k : Parcel Msg) (l : ℕ) (msg : Msg) → (formats_of s M).unwrap bytes ≡ Some k → k.body ≡ OfModule l msg → Told k msg
   are-read bytes k l msg u b = packet (whole (parse_packet s.n bytes)) refl u
     where
       no-request : (q : Request) → OfRequest q ≡ OfModule l msg → ⊥

@@ -1,5 +1,5 @@
 -- The rules of a good set-up are sound.
-use Rattle.std.proofs.Common.{◌≡◌, inl, inr, ℕ, suc, ◌-◌, ◌/◌, ◌<◌, ◌≤◌, true, false, eqb, ◌||◌, List, [], ◌∷◌, length, Some, refl, sym, ◌∙◌, arith, true≢false}
+use Rattle.std.proofs.Common.{◌≡◌, inl, inr, ℕ, zero, suc, ◌-◌, ◌*◌, ◌<◌, ◌≤◌, true, false, eqb, ◌||◌, List, [], ◌∷◌, length, Some, refl, sym, ◌∙◌, arith, true≢false}
 use Rattle.std.proofs.lemmas.Bool.Decides.{leb_tells}
 use Rattle.std.specs.List.{list_any}
 use Rattle.iss_base.specs.Lists.{In}
@@ -8,13 +8,13 @@ use Rattle.iss_request.specs.Setup.{AreRising}
 use Rattle.iss_request.specs.declared.ids.NodeId.{NodeId}
 use Rattle.iss_request.specs.declared.requests.Value.{Value}
 use Rattle.iss_request.specs.declared.setups.Setup.{Setup}
-use Rattle.iss_layout.specs.Layout.{first_slot, node, nodes_below, plan_of, slot_leader}
+use Rattle.iss_layout.specs.Layout.{first_slot, node, nodes_below, slot_leader}
 use Rattle.iss_layout.proofs.FairLemmas.{few_nodes, leads_means, length_below, rising_below, segment_ascending, segment_few, some_slot, turn_in}
 use Rattle.iss_sb.specs.Calls.{IsGoodParams}
 use Rattle.iss_sb.specs.Evidence.{Module}
-use Rattle.iss_model.specs.Concrete.{number_of, rules_of}
+use Rattle.iss_model.specs.Concrete.{number_of, plan_at, rules_of, start_at}
 use Rattle.iss_model.specs.Ordered.{IsSoundRules}
-use Rattle.iss_model.specs.Past.{before_at}
+use Rattle.iss_model.specs.Past.{before_at, epoch_at}
 use Rattle.iss_model.specs.Runs.{IsSetupOf}
 use Rattle.iss_model.specs.Sound.{AreAllInside}
 
@@ -28,20 +28,25 @@ leads-of [] l i = absurd i
 leads-of (x ∷ ls) l (inl e) = rw (← e, eqb-same l.0) refl
 leads-of (x ∷ ls) l (inr i) = let k : list_any (λ (x : NodeId). eqb x.0 l.0) ls ≡ true = leads-of ls l i in elim (eqb x.0 l.0) as (λ b. (b || list_any (λ (x : NodeId). eqb x.0 l.0) ls) ≡ true) [ true ↦ refl | false ↦ k ]
 
+-- epochs are of one length as yet
+pub start-times : (s : Setup) (log : List Value) (e : ℕ) → start_at s log e ≡ e * s.epoch
+start-times s log zero = omega arith
+start-times s log (suc e) = let before = start-times s log e in omega (arith, before)
+
 module _ {Msg : Type 0} (M : Module Msg) (s : Setup) (h : IsSetupOf M s) where
   some-nodes : 1 ≤ length (nodes_below s.n)
   some-nodes = omega (arith, (few_nodes s h.good).0, length_below s.n)
 
   -- the leader of a slot leads its epoch
-  leader-leads : (e : ℕ) (log : List Value) (slot : ℕ) → list_any (λ (x : NodeId). eqb x.0 (number_of (slot_leader (plan_of s e log) slot))) (nodes_below s.n) ≡ true
+  leader-leads : (e : ℕ) (log : List Value) (slot : ℕ) → list_any (λ (x : NodeId). eqb x.0 (number_of (slot_leader (plan_at s log e) slot))) (nodes_below s.n) ≡ true
   leader-leads e log slot =
-      let r = turn_in (nodes_below s.n) (slot - first_slot (plan_of s e log)) some-nodes in
-      let q : slot_leader (plan_of s e log) slot ≡ Some r.0 = r.1.1 in
+      let r = turn_in (nodes_below s.n) (slot - first_slot (plan_at s log e)) some-nodes in
+      let q : slot_leader (plan_at s log e) slot ≡ Some r.0 = r.1.1 in
       rw q (leads-of (nodes_below s.n) r.0 r.1.0)
 
   good-params : (log : List Value) (e l : ℕ) → (rules_of s).leads log e l ≡ true → IsGoodParams M ((rules_of s).params log e l)
   good-params log e l leads =
-      let p = plan_of s e log in
+      let p = plan_at s log e in
       let inside : In (node l) (nodes_below s.n) = leads_means l (nodes_below s.n) leads in
       record {
         setup = h.good;
@@ -59,7 +64,7 @@ module _ {Msg : Type 0} (M : Module Msg) (s : Setup) (h : IsSetupOf M s) where
   sound-rules = record {
     some_slots = λ log e. omega (arith, (few_nodes s h.good).0, h.good.epoch_low);
     most = λ log e. omega arith;
-    leads = λ log. leader-leads (length log / s.epoch) (before_at (rules_of s) log) (length log);
+    leads = λ log. leader-leads (epoch_at (rules_of s) log) (before_at (rules_of s) log) (length log);
     good = good-params;
     setup = λ log e l. refl;
     epoch = λ log e l. refl;

@@ -27,6 +27,7 @@ pub mod OneLog
 pub mod Statements
 pub mod Checkpoints
 pub mod Signing
+pub mod Tests
 pub mod Tested
 pub mod FromNodes
 pub mod TestedLog

@@ -22,7 +22,7 @@ use Rattle.iss_model.proofs.Layouts.{all-inside, sound-rules}
 use Rattle.iss_model.proofs.Printed.{after-ok, once-turned, turned}
 use Rattle.iss_model.proofs.Simulation.{unvoted, unvoted-exact}
 
-pub cluster-run : {Msg : Type 0} (s : Setup) (M : Module Msg) → IsSetupOf M s → M.stopping ≡ true → IsFaithful s (formats_of s M) → IsLawful M → (events : List Event) → AreAtNodes s.n events → IsClusterRun s M events
+pub cluster-run : {Msg : Type 0} (s : Setup) (M : Module Msg) → IsSetupOf M s → M.stopping ≡ true → IsFaithful s (formats_of s M) M → IsLawful M → (events : List Event) → AreAtNodes s.n events → IsClusterRun s M events
 cluster-run s M h stops faithful law events low =
     let k = after-ok s (formats_of s M) (rules_of s) M (sound-rules M s h) stops faithful law (all-inside s) events low in
     record {

@@ -54,7 +54,7 @@ pub run-append : {Msg : Type 0} (s : Setup) (F : Formats Msg) (R : Rules) (M : M
 run-append s F R M [] fs p = refl
 run-append s F R M (e ∷ es) fs p = run-append s F R M es fs _
 
-module _ {Msg : Type 0} (s : Setup) (F : Formats Msg) (R : Rules) (M : Module Msg) (sound : IsSoundRules s M R) (stops : M.stopping ≡ true) (faithful : IsFaithful s F) (law : IsLawful M) (inside : AreAllInside R) where
+module _ {Msg : Type 0} (s : Setup) (F : Formats Msg) (R : Rules) (M : Module Msg) (sound : IsSoundRules s M R) (stops : M.stopping ≡ true) (faithful : IsFaithful s F M) (law : IsLawful M) (inside : AreAllInside R) where
   pub after-ok : (events : List Event) → AreAtNodes s.n events → NetOk s F R M sound stops faithful law (net_after s F R M events)
   after-ok events low = (run-ok s F R M sound stops faithful law inside events (begin_run s.n) (start-ok s F R M sound stops faithful law inside) low).ok
 

@@ -1,7 +1,7 @@
 -- What an end shows: a forged claim is of a correct node and in no book, and a collision is of two strings of one digest. And
 -- the book has each claim that a correct node sent of its own.
 use Rattle.std.proofs.Common.{◌≡◌, inl, inr, ℕ, Bool, true, false, cond, eqb, not, ◌&&◌, List, [], ◌∷◌, ◌++◌, Some, refl, sym, ap, ◌∙◌, subst, true≢false}
-use Rattle.iss_base.specs.Lists.{In}
+use Rattle.iss_base.specs.Lists.{In, over}
 use Rattle.iss_base.proofs.Lists.{and-true, eqb-same, first-cases, in_left, in_right, not-true}
 use Rattle.iss_request.specs.Digest.{digest}
 use Rattle.iss_request.specs.declared.setups.Setup.{Setup}
@@ -13,7 +13,7 @@ use Rattle.iss_model.specs.Cluster.{IsOwn, Signed}
 use Rattle.iss_model.specs.Node.{only_by, own_claims}
 use Rattle.iss_model.specs.Rules.{Rules}
 use Rattle.iss_model.specs.Tested.{Collision, as_signed, collision_in, collision_with, first_forged, has_signed, is_collision, is_forged, same_bytes}
-use Rattle.iss_model.proofs.Tested.{same-is, same-refl}
+use Rattle.iss_model.proofs.Tests.{same-is, same-refl}
 
 in-has : (i : ℕ) (statement : List ℕ) (xs : List Signed) → In (record { by = i; statement = statement }) xs → has_signed i statement xs ≡ true
 in-has i statement [] h = absurd h
@@ -51,38 +51,52 @@ forged-shown s R book (d ∷ ds) c h = go (is_forged s R book d) refl h (forged-
     go true q k ih = subst (λ (z : Claim). IsForgery s R book (d ∷ ds) z) (some-same d c k) (here q)
     go false q k ih = let r = ih k in record { held = inr r.held; verifies = r.verifies; correct = r.correct; absent = r.absent }
 
--- two strings that end a run
-pub record AreColliding (strings : List (List ℕ)) (a b : List ℕ) : Type 0 where
-  pub one : In a strings
-  pub other : In b strings
-  pub same : digest a ≡ digest b
-  pub different : a ≡ b → ⊥
+-- two strings that end a run: the second is one of the step's, and the first stood in the book when it came
+pub record AreColliding (strings book : List (List ℕ)) (first second : List ℕ) : Type 0 where
+  pub earlier : List (List ℕ)
+  pub later : List (List ℕ)
+  pub is : strings ≡ earlier ++ second ∷ later
+  pub booked : In first (over earlier book)
+  pub same : digest first ≡ digest second
+  pub different : first ≡ second → ⊥
 
 ends-same : (a b c d : List ℕ) → Collision a b ≡ Collision c d → (a ≡ c) × (b ≡ d)
 ends-same a b c d h = (cc, cc)
 
-with-shown : (x : List ℕ) (ys : List (List ℕ)) (a b : List ℕ) → collision_with x ys ≡ Some (Collision a b) → AreColliding (x ∷ ys) a b
+-- the string x collides with one of the book
+record Collides (book : List (List ℕ)) (x a b : List ℕ) : Type 0 where
+  is : x ≡ b
+  booked : In a book
+  same : digest a ≡ digest b
+  different : a ≡ b → ⊥
+
+with-shown : (x : List ℕ) (book : List (List ℕ)) (a b : List ℕ) → collision_with x book ≡ Some (Collision a b) → Collides book x a b
 with-shown x [] a b h = absurd (cc)
-with-shown x (y ∷ ys) a b h = go (is_collision x y) refl h (with-shown x ys a b)
+with-shown x (y ∷ book) a b h = go (is_collision y x) refl h (with-shown x book a b)
   where
-    here : is_collision x y ≡ true → AreColliding (x ∷ y ∷ ys) x y
+    here : is_collision y x ≡ true → Collides (y ∷ book) x y x
     here q =
-        let k = and-true (same_bytes (digest x) (digest y)) (not (same_bytes x y)) q in
-        record { one = inl refl; other = inr (inl refl); same = same-is (digest x) (digest y) k.0; different = λ e. true≢false (sym (subst (λ (t : List ℕ). same_bytes x t ≡ true) e (same-refl x)) ∙ not-true (same_bytes x y) k.1) }
+        let k = and-true (same_bytes (digest y) (digest x)) (not (same_bytes y x)) q in
+        record {
+          is = refl;
+          booked = inl refl;
+          same = same-is (digest y) (digest x) k.0;
+          different = λ e. true≢false (sym (subst (λ (t : List ℕ). same_bytes y t ≡ true) e (same-refl y)) ∙ not-true (same_bytes y x) k.1);
+        }
 
-    further : (z : List ℕ) → In z (x ∷ ys) → In z (x ∷ y ∷ ys)
-    further z (inl q) = inl q
-    further z (inr i) = inr (inr i)
+    go : (t : Bool) → is_collision y x ≡ t → cond t (Some (Collision y x)) (collision_with x book) ≡ Some (Collision a b) → (collision_with x book ≡ Some (Collision a b) → Collides book x a b) → Collides (y ∷ book) x a b
+    go true q k ih = let e = ends-same y x a b (some-same _ _ k) in rw (← e.0, ← e.1) (here q)
+    go false q k ih = let r = ih k in record { is = r.is; booked = inr r.booked; same = r.same; different = r.different }
 
-    go : (t : Bool) → is_collision x y ≡ t → cond t (Some (Collision x y)) (collision_with x ys) ≡ Some (Collision a b) → (collision_with x ys ≡ Some (Collision a b) → AreColliding (x ∷ ys) a b) → AreColliding (x ∷ y ∷ ys) a b
-    go true q k ih = let e = ends-same x y a b (some-same _ _ k) in rw (← e.0, ← e.1) (here q)
-    go false q k ih = let r = ih k in record { one = further a r.one; other = further b r.other; same = r.same; different = r.different }
-
-pub collision-shown : (xs old : List (List ℕ)) (a b : List ℕ) → collision_in xs old ≡ Some (Collision a b) → AreColliding (xs ++ old) a b
-collision-shown [] old a b h = absurd (cc)
-collision-shown (x ∷ xs) old a b h = elim (first-cases (collision_in xs old) (collision_with x (xs ++ old)) (Collision a b) h) [
-  | inl k ↦ let r = collision-shown xs old a b k in record { one = inr r.one; other = inr r.other; same = r.same; different = r.different }
-  | inr k ↦ with-shown x (xs ++ old) a b k.1
+pub collision-shown : (xs book : List (List ℕ)) (a b : List ℕ) → collision_in xs book ≡ Some (Collision a b) → AreColliding xs book a b
+collision-shown [] book a b h = absurd (cc)
+collision-shown (x ∷ xs) book a b h = elim (first-cases (collision_with x book) (collision_in xs (x ∷ book)) (Collision a b) h) [
+  | inl k ↦
+      let r = with-shown x book a b k in
+      record { earlier = []; later = xs; is = ap (λ (z : List ℕ). z ∷ xs) r.is; booked = r.booked; same = r.same; different = r.different }
+  | inr k ↦
+      let r = collision-shown xs (x ∷ book) a b k.1 in
+      record { earlier = x ∷ r.earlier; later = r.later; is = ap (λ (zs : List (List ℕ)). x ∷ zs) r.is; booked = r.booked; same = r.same; different = r.different }
 ]
 
 -- the book has all own claims

@@ -78,7 +78,7 @@ grows-same R M w v q = record { logs = λ j. rw (q j) (extends-refl (log_of R M 
 pub grows-trans : {Msg : Type 0} (R : Rules) (M : Module Msg) (u v w : Net Msg) → Grows R M u v → Grows R M v w → Grows R M u w
 grows-trans R M u v w a b = record { logs = λ j. extends-trans _ _ _ (a.logs j) (b.logs j) }
 
-module _ {Msg : Type 0} (s : Setup) (F : Formats Msg) (R : Rules) (M : Module Msg) (sound : IsSoundRules s M R) (stops : M.stopping ≡ true) (faithful : IsFaithful s F) (law : IsLawful M) where
+module _ {Msg : Type 0} (s : Setup) (F : Formats Msg) (R : Rules) (M : Module Msg) (sound : IsSoundRules s M R) (stops : M.stopping ≡ true) (faithful : IsFaithful s F M) (law : IsLawful M) where
   -- where nodes only stop, all are correct
   faultless : s.faulty ≡ []
   faultless =

@@ -1,10 +1,9 @@
 -- A run of a module that signs, as long as it has not ended, is a chain of moves of a cluster with that run's book.
-use Rattle.std.proofs.Common.{◌≡◌, ◌≢◌, inl, inr, ℕ, ◌<◌, zero, suc, Bool, true, false, cond, eqb, not, ◌&&◌, List, [], ◌∷◌, ◌++◌, Option, Some, None, refl, sym, ap, ap₂, ◌∙◌, subst, true≢false}
-use Rattle.iss_base.specs.Lists.{Extends, In, first_of, nth}
-use Rattle.iss_base.proofs.Lists.{and-true, both, eqb-same, extends-refl, in_append, in_left, in_right, is-eq, nth-in, not-false, same_or_not, set_at-other, set_at-same}
+use Rattle.std.proofs.Common.{◌≡◌, ◌≢◌, inl, inr, ℕ, ◌<◌, zero, suc, Bool, true, false, cond, eqb, not, ◌&&◌, List, [], ◌∷◌, ◌++◌, Option, Some, None, refl, sym, ap, ◌∙◌, subst, true≢false}
+use Rattle.iss_base.specs.Lists.{Extends, In, nth, over}
+use Rattle.iss_base.proofs.Lists.{both, eqb-same, extends-refl, in_append, in_left, in_right, nth-in, not-false, same_or_not, set_at-other, set_at-same}
 use Rattle.iss_network.specs.Network.{Network, due, settled}
 use Rattle.iss_network.specs.declared.packets.Sent.{Sent}
-use Rattle.iss_request.specs.Digest.{digest}
 use Rattle.iss_request.specs.declared.requests.Request.{Request}
 use Rattle.iss_request.specs.declared.requests.Value.{Value}
 use Rattle.iss_request.specs.declared.setups.Setup.{Setup}
@@ -21,137 +20,24 @@ use Rattle.iss_sb.specs.Laws.{IsLawful, IsSafe}
 use Rattle.iss_model.specs.declared.causes.NodeEvent.{NodeEvent}
 use Rattle.iss_model.specs.declared.causes.NodeEvent.TheVariants.{Packet as Gets, Propose as Proposes, Timeout as Fires}
 use Rattle.iss_model.specs.Cluster.{Cluster, IsBooked, IsOwn, IsVerified, Message, MayGet, MayTake, Names, Reach, Signed, begin, move, rest}
-use Rattle.iss_model.specs.Node.{Body, Core, Dropped, Formats, OfModule, OfRequest, Parcel, Stepped, Taken, Turn, only_by, own_claims, packed, step, verdict}
+use Rattle.iss_model.specs.Node.{Body, Core, Dropped, Formats, OfModule, OfRequest, Parcel, Stepped, Taken, Turn, own_claims, packed, step, verdict}
 use Rattle.iss_model.specs.Ordered.{Among, IsExact, IsSoundRules, Ordered}
 use Rattle.iss_model.specs.Past.{asked_in, before, log_of, made_in, params_of, takes}
 use Rattle.iss_model.specs.Rules.{Rules}
 use Rattle.iss_model.specs.Run.{Net, posted_all, request_of}
 use Rattle.iss_model.specs.Runs.{AreAtNodes, IsAtNode, IsFaithful, pasts_of}
 use Rattle.iss_model.specs.Sound.{AreAllInside, IsReadyCore}
-use Rattle.iss_model.specs.Tested.{AreRead, Course, End, Going, Held, after_tested, all_verify, as_signed, at_tested, begin_tested, booked, by_collision, by_forged, calms_tested, claims_at, claims_of_body, claims_of_parcel, collision_in, collision_with, delivers_tested, delivers_tested_to, each_tested, first_forged, goes_further, happens_tested, has_signed, is_collision, is_forged, loses_tested, on_net, pumps_tested, run_tested, same_bytes, still, tested_step, turned_to, unless}
+use Rattle.iss_model.specs.Tested.{Course, End, Going, Held, after_tested, all_verify, as_signed, at_tested, begin_tested, booked, by_collision, by_forged, calms_tested, claims_at, claims_of_body, claims_of_parcel, collision_in, delivers_tested, delivers_tested_to, each_tested, first_forged, goes_further, happens_tested, loses_tested, on_net, pumps_tested, run_tested, still, tested_step, turned_to, unless}
 use Rattle.iss_model.proofs.Casts.{cast-judged, cast-read, idle-ready, step-ready}
 use Rattle.iss_model.proofs.Logs.{log-later, takes-later}
 use Rattle.iss_model.proofs.Posts.{posted-in, told, told-is}
 use Rattle.iss_model.proofs.Reached.{composition}
 use Rattle.iss_model.proofs.Simulation.{Grows, addressee-low, correct-all, grows-same, grows-trans, leader-below, none-some, some-is, unvoted, unvoted-strings}
 use Rattle.iss_model.proofs.Statements.{apart, leader-far}
+use Rattle.iss_model.proofs.Tests.{each-verifies, own-is, over-new, over-old, separate-more, unforged}
 use Rattle.iss_model.proofs.Steps.{Took, asked, cast, fired, received, took, undropped}
 
--- tests on bytes, claims and strings
-
-pub same-is : (a b : List ℕ) → same_bytes a b ≡ true → a ≡ b
-same-is [] [] h = refl
-same-is [] (y ∷ ys) h = absurd (true≢false (sym h))
-same-is (x ∷ xs) [] h = absurd (true≢false (sym h))
-same-is (x ∷ xs) (y ∷ ys) h =
-    let k = and-true (eqb x y) (same_bytes xs ys) h in
-    ap₂ (λ (z : ℕ) (zs : List ℕ). z ∷ zs) (is-eq x y k.0) (same-is xs ys k.1)
-
-pub same-refl : (a : List ℕ) → same_bytes a a ≡ true
-same-refl [] = refl
-same-refl (x ∷ xs) = both (eqb x x) (same_bytes xs xs) (eqb-same x) (same-refl xs)
-
-has-booked : (i : ℕ) (statement : List ℕ) (xs : List Signed) → has_signed i statement xs ≡ true → In (record { by = i; statement = statement }) xs
-has-booked i statement [] h = absurd (true≢false (sym h))
-has-booked i statement (x ∷ xs) h = go (eqb x.by i && same_bytes x.statement statement) refl h (has-booked i statement xs)
-  where
-    go : (b : Bool) → (eqb x.by i && same_bytes x.statement statement) ≡ b → cond b true (has_signed i statement xs) ≡ true → (has_signed i statement xs ≡ true → In (record { by = i; statement = statement }) xs) → In (record { by = i; statement = statement }) (x ∷ xs)
-    go true q k ih =
-        let y = and-true (eqb x.by i) (same_bytes x.statement statement) q in
-        inl (ap₂ (λ (n : ℕ) (t : List ℕ). record { by = n; statement = t }) (sym (is-eq x.by i y.0)) (sym (same-is x.statement statement y.1)))
-    go false q k ih = inr (ih k)
-
-none-left : {A : Type 0} (b : Bool) (x : A) (o : Option A) → cond b (Some x) o ≡ None → (b ≡ false) × (o ≡ None)
-none-left true x o h = absurd (cc)
-none-left false x o h = (refl, h)
-
-first-none : {A : Type 0} (a b : Option A) → first_of a b ≡ None → (a ≡ None) × (b ≡ None)
-first-none None b h = (refl, h)
-first-none (Some x) b h = absurd (cc)
-
-not-forged : (a b c : Bool) → (a && (b && not c)) ≡ false → a ≡ true → b ≡ true → c ≡ true
-not-forged true true true h ha hb = refl
-not-forged true true false h ha hb = absurd (true≢false h)
-not-forged true false c h ha hb = absurd (true≢false (sym hb))
-not-forged false b c h ha hb = absurd (true≢false (sym ha))
-
-unforged : (s : Setup) (R : Rules) (book : List Signed) (cs : List Claim) → first_forged s R book cs ≡ None → (c : Claim) → In c cs → R.verifies c.by.0 c.statement c.sig ≡ true → is_correct s c.by.0 ≡ true → In (record { by = c.by.0; statement = c.statement }) book
-unforged s R book [] h c i v ok = absurd i
-unforged s R book (d ∷ cs) h c (inl q) v ok =
-    let k = none-left (is_forged s R book d) d (first_forged s R book cs) h in
-    let kc : is_forged s R book c ≡ false = subst (λ (z : Claim). is_forged s R book z ≡ false) (sym q) k.0 in
-    has-booked c.by.0 c.statement book (not-forged (R.verifies c.by.0 c.statement c.sig) (is_correct s c.by.0) (has_signed c.by.0 c.statement book) kc v ok)
-unforged s R book (d ∷ cs) h c (inr i) v ok = unforged s R book cs (none-left (is_forged s R book d) d (first_forged s R book cs) h).1 c i v ok
-
-each-verifies : (R : Rules) (cs : List Claim) → all_verify R cs ≡ true → (c : Claim) → In c cs → R.verifies c.by.0 c.statement c.sig ≡ true
-each-verifies R [] h c i = absurd i
-each-verifies R (d ∷ cs) h c (inl q) = rw q (and-true (R.verifies d.by.0 d.statement d.sig) (all_verify R cs) h).0
-each-verifies R (d ∷ cs) h c (inr i) = each-verifies R cs (and-true (R.verifies d.by.0 d.statement d.sig) (all_verify R cs) h).1 c i
-
-no-collision : (a b : List ℕ) → is_collision a b ≡ false → digest a ≡ digest b → a ≡ b
-no-collision a b h q = same-is a b (not-apart (same_bytes (digest a) (digest b)) (same_bytes a b) h (subst (λ (t : List ℕ). same_bytes (digest a) t ≡ true) q (same-refl (digest a))))
-  where
-    not-apart : (x y : Bool) → (x && not y) ≡ false → x ≡ true → y ≡ true
-    not-apart true true h q = refl
-    not-apart true false h q = absurd (true≢false h)
-    not-apart false y h q = absurd (true≢false (sym q))
-
-unlike : (a : List ℕ) (bs : List (List ℕ)) → collision_with a bs ≡ None → (b : List ℕ) → In b bs → digest a ≡ digest b → a ≡ b
-unlike a [] h b i q = absurd i
-unlike a (c ∷ bs) h b (inl e) q = no-collision a b (subst (λ (t : List ℕ). is_collision a t ≡ false) (sym e) (none-left (is_collision a c) _ (collision_with a bs) h).0) q
-unlike a (c ∷ bs) h b (inr i) q = unlike a bs (none-left (is_collision a c) _ (collision_with a bs) h).1 b i q
-
--- where no new string collides, all are separate
-pub separate-more : (xs old : List (List ℕ)) → collision_in xs old ≡ None → Separate (Among old) → Separate (Among (xs ++ old))
-separate-more [] old h sep = sep
-separate-more (x ∷ xs) old h sep =
-    let k = first-none (collision_in xs old) (collision_with x (xs ++ old)) h in
-    joined (separate-more xs old k.0 sep) (unlike x (xs ++ old) k.1)
-  where
-    joined : Separate (Among (xs ++ old)) → ((b : List ℕ) → In b (xs ++ old) → digest x ≡ digest b → x ≡ b) → Separate (Among (x ∷ (xs ++ old)))
-    joined more one a b (inl p) (inl q) e = p ∙ sym q
-    joined more one a b (inl p) (inr q) e = p ∙ one b q (ap digest (sym p) ∙ e)
-    joined more one a b (inr p) (inl q) e = sym (one a p (ap digest (sym q) ∙ sym e)) ∙ sym q
-    joined more one a b (inr p) (inr q) e = more a b p q e
-
--- a node's own claims in what it sends
-
-only-by : (i : ℕ) (cs : List Claim) (c : Claim) → In c (only_by i cs) → In c cs × (c.by.0 ≡ i)
-only-by i [] c h = absurd h
-only-by i (d ∷ cs) c h = go (eqb d.by.0 i) refl h (only-by i cs c)
-  where
-    go : (b : Bool) → eqb d.by.0 i ≡ b → In c (cond b (d ∷ only_by i cs) (only_by i cs)) → (In c (only_by i cs) → In c cs × (c.by.0 ≡ i)) → In c (d ∷ cs) × (c.by.0 ≡ i)
-    go true q (inl e) ih = (inl e, ap (λ (z : Claim). z.by.0) e ∙ is-eq d.by.0 i q)
-    go true q (inr k) ih = let r = ih k in (inr r.0, r.1)
-    go false q k ih = let r = ih k in (inr r.0, r.1)
-
-in-signed : (cs : List Claim) (x : Signed) → In x (as_signed cs) → (c : Claim) × In c cs × (x ≡ record { by = c.by.0; statement = c.statement })
-in-signed [] x h = absurd h
-in-signed (c ∷ cs) x (inl e) = (c, inl refl, e)
-in-signed (c ∷ cs) x (inr h) = let r = in-signed cs x h in (r.0, inr r.1, r.2)
-
-module _ {Msg : Type 0} (M : Module Msg) (p : Params) (i : ℕ) where
-  record OwnClaim (sends : List (To × Msg)) (c : Claim) : Type 0 where
-    to : To
-    msg : Msg
-    sent : In {A = To × Msg} (to, msg) sends
-    made : In c (M.claims p i msg)
-    by : c.by.0 ≡ i
-
-  own-claim : (sends : List (To × Msg)) (c : Claim) → In c (own_claims M p i sends) → OwnClaim sends c
-  own-claim [] c h = absurd h
-  own-claim (x ∷ xs) c h = elim (in_append c (only_by i (M.claims p i x.1)) (own_claims M p i xs) h) [
-    | inl a ↦ let r = only-by i (M.claims p i x.1) c a in record { to = x.0; msg = x.1; sent = inl refl; made = r.0; by = r.1 }
-    | inr b ↦ let r = own-claim xs c b in record { to = r.to; msg = r.msg; sent = inr r.sent; made = r.made; by = r.by }
-  ]
-
-  pub own-is : (sends : List (To × Msg)) (x : Signed) → In x (as_signed (own_claims M p i sends)) → IsOwn M p i sends x
-  own-is sends x h =
-      let r = in-signed (own_claims M p i sends) x h in
-      let o = own-claim sends r.0 r.1 in
-      record { to = o.to; msg = o.msg; sent = o.sent; claim = r.0; made = o.made; by = o.by; is = r.2 ∙ ap (λ (n : ℕ). record { by = n; statement = r.0.statement }) o.by }
-
-module _ {Msg : Type 0} (s : Setup) (F : Formats Msg) (R : Rules) (M : Module Msg) (sound : IsSoundRules s M R) (faithful : IsFaithful s F) (law : IsLawful M) (inside : AreAllInside R) (readable : AreRead s F M) where
+module _ {Msg : Type 0} (s : Setup) (F : Formats Msg) (R : Rules) (M : Module Msg) (sound : IsSoundRules s M R) (faithful : IsFaithful s F M) (law : IsLawful M) (inside : AreAllInside R) where
   abbrev pub view : Held Msg → List (Message Msg) → Cluster Msg
   view h messages = record { pasts = pasts_of h.net; messages = messages; book = h.signed; strings = h.hashed }
 
@@ -223,7 +109,7 @@ module _ {Msg : Type 0} (s : Setup) (F : Formats Msg) (R : Rules) (M : Module Ms
       pub legit : M.stopping ≡ true → Legit event
 
     -- nothing that a correct node took, or signed
-    rest-fits : (t : Turn Msg) → (M.stopping ≡ true → (p : Sent) → In p (turned_to s h i t).net.network.packets → In p h.net.network.packets) → ((j : ℕ) → is_correct s j ≡ true → pasts_of (turned_to s h i t).net j ≡ pasts_of h.net j) → ((x : Signed) → In x (booked s i t.own) → ⊥) → IsReadyCore R M i t.core → Separate (Among (t.strings ++ h.hashed)) → Fits (turned_to s h i t)
+    rest-fits : (t : Turn Msg) → (M.stopping ≡ true → (p : Sent) → In p (turned_to s h i t).net.network.packets → In p h.net.network.packets) → ((j : ℕ) → is_correct s j ≡ true → pasts_of (turned_to s h i t).net j ≡ pasts_of h.net j) → ((x : Signed) → In x (booked s i t.own) → ⊥) → IsReadyCore R M i t.core → Separate (Among (over t.strings h.hashed)) → Fits (turned_to s h i t)
     rest-fits t post same none core sep =
         let old : (x : Signed) → In x (booked s i t.own ++ h.signed) → In x h.signed = λ x k. elim (in_append x (booked s i t.own) h.signed k) [ inl a ↦ absurd (none x a) | inr b ↦ b ] in
         record {
@@ -231,10 +117,10 @@ module _ {Msg : Type 0} (s : Setup) (F : Formats Msg) (R : Rules) (M : Module Ms
           posted = λ st p m. ok.posted st p (post st p m);
           reach = rest ok.reach (record {
             same = same;
-            quiet = record { messages = λ st k m. m; old_book = λ x k. in_right x (booked s i t.own) h.signed k; strings = λ x k. in_right x t.strings h.hashed k };
+            quiet = record { messages = λ st k m. m; old_book = λ x k. in_right x (booked s i t.own) h.signed k; strings = λ x k. over-old x t.strings h.hashed k };
             book = old;
           });
-          root = in_right [] t.strings h.hashed ok.root;
+          root = over-old [] t.strings h.hashed ok.root;
           cores = each-core (λ j d. IsReadyCore R M j d) t core ok.cores;
           named = λ x k. ok.named x (old x k);
           separate = sep;
@@ -244,11 +130,11 @@ module _ {Msg : Type 0} (s : Setup) (F : Formats Msg) (R : Rules) (M : Module Ms
     input-fits : (correct : is_correct s i ≡ true) (l : ℕ) (input : Input Msg) (leaf : ℕ) (t : Turn Msg) → R.leads (before R M i c.past c.past.epoch) c.past.epoch l ≡ true → MayTake s R M start i l input → IsGoodInput (params_of R M i c.past l) input →
         verdict R (before R M i c.past c.past.epoch) c.past.epoch l (accepts (c.past.evidence c.past.epoch l)) (asked_in R M i c.past l input) ≡ None →
         t.core.past ≡ takes R M i c.past l input leaf → t.own ≡ own_claims M (params_of R M i c.past l) i (made_in R M i c.past l input leaf).sends → t.strings ≡ (made_in R M i c.past l input leaf).strings →
-        t.sends ≡ packed F i c.past.epoch l (made_in R M i c.past l input leaf).sends → (M.stopping ≡ true → i < s.n) → IsReadyCore R M i t.core → Separate (Among (t.strings ++ h.hashed)) → Fits (turned_to s h i t)
+        t.sends ≡ packed F i c.past.epoch l (made_in R M i c.past l input leaf).sends → (M.stopping ≡ true → i < s.n) → IsReadyCore R M i t.core → Separate (Among (over t.strings h.hashed)) → Fits (turned_to s h i t)
     input-fits correct l input leaf t leads may fits judged past own strings sends low core sep =
         let made : Made Msg = made_in R M i c.past l input leaf in
         let p : Params = params_of R M i c.past l in
-        let root : In {A = List ℕ} [] (t.strings ++ h.hashed) = in_right [] t.strings h.hashed ok.root in
+        let root : In {A = List ℕ} [] (over t.strings h.hashed) = over-old [] t.strings h.hashed ok.root in
         let is_own : (x : Signed) → In x (booked s i t.own) → IsOwn M p i made.sends x = λ x k.
         let k2 : In x (as_signed t.own) = subst (λ (b : Bool). In x (cond b (as_signed t.own) [])) correct k in
         own-is M p i made.sends x (subst (λ (cs : List Claim). In x (as_signed cs)) own k2) in
@@ -283,8 +169,8 @@ module _ {Msg : Type 0} (s : Setup) (F : Formats Msg) (R : Rules) (M : Module Ms
             messages = λ st k m. elim (in_append k fresh ok.messages m) [ inl a ↦ inl (told-is s.n i c.past.epoch l made.sends k a) | inr b ↦ inr b ];
             book = λ x k. elim (in_append x (booked s i t.own) h.signed k) [ inl a ↦ inl (is_own x a) | inr b ↦ inr b ];
             old_book = λ x k. in_right x (booked s i t.own) h.signed k;
-            fresh_strings = λ x k. in_left x t.strings h.hashed (rw strings k);
-            strings = λ x k. in_right x t.strings h.hashed k;
+            fresh_strings = λ x k. over-new x t.strings h.hashed (rw strings k);
+            strings = λ x k. over-old x t.strings h.hashed k;
             hashed = λ x k. rw (unvoted-strings (log_of R M i (pasts_of (turned_to s h i t).net i)) x k) root;
             spelled = λ v k. refl;
           });
@@ -311,14 +197,14 @@ module _ {Msg : Type 0} (s : Setup) (F : Formats Msg) (R : Rules) (M : Module Ms
         go true k = k
         go false k = k
 
-    request-fits : (t : Turn Msg) → t.core.past ≡ c.past → t.own ≡ [] → t.sends ≡ [] → IsReadyCore R M i t.core → Separate (Among (t.strings ++ h.hashed)) → Fits (turned_to s h i t)
+    request-fits : (t : Turn Msg) → t.core.past ≡ c.past → t.own ≡ [] → t.sends ≡ [] → IsReadyCore R M i t.core → Separate (Among (over t.strings h.hashed)) → Fits (turned_to s h i t)
     request-fits t past own sends core sep = rest-fits t (λ st p m. subst (λ (xs : List (To × List ℕ)). In p (posted_all s.n h.net.network i xs).packets) sends m) (λ j _. each-core (λ j d. d.past ≡ pasts_of h.net j) t past (λ j. refl) j) (λ x k. no-own x (subst (λ (cs : List Claim). In x (booked s i cs)) own k)) core sep
 
-    took-fits : (event : NodeEvent) (t : Turn Msg) → Comes event → is_correct s i ≡ true → first_forged s R h.signed (claims_at F R M i c event) ≡ None → all_verify R (claims_at F R M i c event) ≡ true → IsReadyCore R M i t.core → Separate (Among (t.strings ++ h.hashed)) → Took F R M i c event t → Fits (turned_to s h i t)
+    took-fits : (event : NodeEvent) (t : Turn Msg) → Comes event → is_correct s i ≡ true → first_forged s R h.signed (claims_at F R M i c event) ≡ None → all_verify R (claims_at F R M i c event) ≡ true → IsReadyCore R M i t.core → Separate (Among (over t.strings h.hashed)) → Took F R M i c event t → Fits (turned_to s h i t)
     took-fits event t comes correct unf ver core sep (received {bytes} k l msg u b e inp) =
         let is = claims-are bytes k l msg u b e inp.leads in
         let setup : (params_of R M i c.past l).setup ≡ s = sound.setup (before R M i c.past c.past.epoch) c.past.epoch l in
-        let read = readable bytes k l msg u b in
+        let read = faithful.told bytes k l msg u b in
         let credible : IsCredible M (params_of R M i c.past l) (IsVerified R) (IsBooked h.signed) k.from msg = record {
           named = subst (λ (t : Setup). k.from < t.n) (sym setup) read.0;
           read = read.1;
@@ -332,13 +218,13 @@ module _ {Msg : Type 0} (s : Setup) (F : Formats Msg) (R : Rules) (M : Module Ms
     took-fits event t comes correct unf ver core sep (fired l inp) = input-fits correct l.0 Timeout c.leaf t inp.leads tt tt inp.judged (ap (λ (z : Turn Msg). z.core.past) inp.is) (ap (λ (z : Turn Msg). z.own) inp.is) (ap (λ (z : Turn Msg). z.strings) inp.is) (ap (λ (z : Turn Msg). z.sends) inp.is) comes.low core sep
 
     -- a faulty node may take anything
-    faulty-fits : (t : Turn Msg) → (M.stopping ≡ true → i < s.n) → is_correct s i ≡ false → IsReadyCore R M i t.core → Separate (Among (t.strings ++ h.hashed)) → Fits (turned_to s h i t)
+    faulty-fits : (t : Turn Msg) → (M.stopping ≡ true → i < s.n) → is_correct s i ≡ false → IsReadyCore R M i t.core → Separate (Among (over t.strings h.hashed)) → Fits (turned_to s h i t)
     faulty-fits t low faulty core sep = rest-fits t
         (λ st p m. absurd (true≢false (sym (correct-all s F R M sound st faithful law i (low st)) ∙ faulty)))
         (λ j good. past-there t j (λ q. absurd (true≢false (sym (subst (λ (n : ℕ). is_correct s n ≡ true) q good) ∙ faulty))))
         (λ x k. subst (λ (b : Bool). In x (cond b (as_signed t.own) [])) faulty k) core sep
 
-    turn-fits : (event : NodeEvent) (t : Turn Msg) → Comes event → first_forged s R h.signed (claims_at F R M i c event) ≡ None → all_verify R (claims_at F R M i c event) ≡ true → step F R M i c event ≡ Taken t → Separate (Among (t.strings ++ h.hashed)) → Fits (turned_to s h i t)
+    turn-fits : (event : NodeEvent) (t : Turn Msg) → Comes event → first_forged s R h.signed (claims_at F R M i c event) ≡ None → all_verify R (claims_at F R M i c event) ≡ true → step F R M i c event ≡ Taken t → Separate (Among (over t.strings h.hashed)) → Fits (turned_to s h i t)
     turn-fits event t comes unf ver q sep = go (is_correct s i) refl
       where
         core : IsReadyCore R M i t.core

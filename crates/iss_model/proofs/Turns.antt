@@ -10,7 +10,7 @@ use Rattle.iss_model.specs.Cluster.{AllSpelled, Cluster, IsBooked, IsVerified, M
 use Rattle.iss_model.specs.Past.{Past, log_of, made_in, params_of, takes}
 use Rattle.iss_model.specs.Rules.{Rules}
 use Rattle.iss_model.specs.Turns.{Adopts, AreRight, Ends, IsRight, MayHear, Small, Takes, hashes_at, hashes_of, past_after, past_of, signs_at, signs_of}
-use Rattle.iss_model.proofs.Tested.{own-is}
+use Rattle.iss_model.proofs.Tests.{own-is}
 
 module _ {Msg : Type 0} (s : Setup) (S : Scheme) (R : Rules) (M : Module Msg) (fails : M.stopping ≡ false) (i : ℕ) (correct : is_correct s i ≡ true) where
   abbrev after : Cluster Msg → Past Msg → List Signed → List (List ℕ) → Cluster Msg

@@ -11,7 +11,7 @@ use Rattle.iss_sb.specs.Evidence.{Module}
 use Rattle.iss_model.specs.Formats.{formats_of, message_in, packet_as, parcel_in, request_in, whole}
 use Rattle.iss_model.specs.Node.{Body, OfModule, OfRequest, Parcel}
 use Rattle.iss_model.specs.Runs.{IsFaithful, IsReadBack}
-use Rattle.iss_model.proofs.FromNodes.{requests-spelled}
+use Rattle.iss_model.proofs.FromNodes.{are-read, requests-spelled}
 
 -- a thing that is spelled is read as itself, or not at all
 whole-spelled : {A : Type 0} (spell : A → List ℕ) (parse : List ℕ → Parsed A) → IsGrammar spell parse → (x : A) → (whole (parse (spell x)) ≡ Some x) ⊎ (whole (parse (spell x)) ≡ None)
@@ -44,9 +44,10 @@ module _ {Msg : Type 0} (s : Setup) (M : Module Msg) (grammar : IsGrammar M.spel
         ]
       ]
 
-  pub faithful : IsFaithful s (formats_of s M)
+  pub faithful : IsFaithful s (formats_of s M) M
   faithful = record {
     messages = λ from e l msg lowf lowl. read-back (record { from = from; epoch = e; body = OfModule l msg });
     asked = requests-spelled s M;
+    told = are-read s M grammar;
     requests = λ q. read-back (record { from = 255; epoch = 0; body = OfRequest q });
   }

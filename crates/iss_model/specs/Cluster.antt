@@ -13,10 +13,10 @@ use Rattle.iss_sb.specs.declared.effects.Input.{Input}
 use Rattle.iss_sb.specs.declared.effects.Input.TheVariants.{Cast, Receive, Timeout}
 use Rattle.iss_sb.specs.declared.effects.Params.{Params}
 use Rattle.iss_sb.specs.declared.effects.To.{To}
-use Rattle.iss_sb.specs.Evidence.{IsCredible, IsReadAgain, Module, Reaches, World, accepts, delivered, is_correct}
+use Rattle.iss_sb.specs.Evidence.{IsCredible, IsReadAgain, Module, Reaches, World, delivered, is_correct}
 use Rattle.iss_sb.specs.Statements.{eight_bytes, head_of}
-use Rattle.iss_model.specs.Node.{verdict}
-use Rattle.iss_model.specs.Past.{Past, Piece, asked_in, before, before_at, cut_at, epoch_at, leader_at, log_of, made_in, newborn, params_at, params_of, start_of, takes}
+use Rattle.iss_model.specs.Node.{verdict_in}
+use Rattle.iss_model.specs.Past.{Past, Piece, before, before_at, cut_at, epoch_at, leader_at, leads_in, log_of, made_in, newborn, params_at, params_of, start_of, takes}
 use Rattle.iss_model.specs.Rules.{Rules}
 
 -- a message of a module, on its way
@@ -128,15 +128,18 @@ pub record IsOwn {Msg : Type 0} (M : Module Msg) (p : Params) (i : ℕ) (sends :
   pub is : x ≡ record { by = i; statement = claim.statement }
 
 -- node i takes an input in the instance of l of its epoch, which the judge accepts
-pub record Moved {Msg : Type 0} (s : Setup) (S : Scheme) (R : Rules) (M : Module Msg) (v w : Cluster Msg) (i l : ℕ) (input : Input Msg) (leaf : ℕ) : Type 0 where
+pub record Moved {Msg : Type 0} (s : Setup) (S : Scheme) (R : Rules) (M : Module Msg) (v w : Cluster Msg)
+    (i l : ℕ) (input : Input Msg) (leaf : ℕ) : Type 0 where
   pub correct : is_correct s i ≡ true
-  pub leads : R.leads (before R M i (v.pasts i) (v.pasts i).epoch) (v.pasts i).epoch l ≡ true
+  pub leads : leads_in R M i (v.pasts i) l ≡ true
   pub comes : MayTake s R M v i l input
-  pub judged : verdict R (before R M i (v.pasts i) (v.pasts i).epoch) (v.pasts i).epoch l (accepts ((v.pasts i).evidence (v.pasts i).epoch l)) (asked_in R M i (v.pasts i) l input) ≡ None
+  pub judged : verdict_in R M i (v.pasts i) l input ≡ None
   pub here : w.pasts i ≡ takes R M i (v.pasts i) l input leaf
   pub other : (j : ℕ) → j ≢ i → w.pasts j ≡ v.pasts j
-  pub messages : M.stopping ≡ true → (k : Message Msg) → In k w.messages → IsOneOf i (v.pasts i).epoch l (made_in R M i (v.pasts i) l input leaf).sends k ⊎ In k v.messages
-  pub book : (x : Signed) → In x w.book → IsOwn M (params_of R M i (v.pasts i) l) i (made_in R M i (v.pasts i) l input leaf).sends x ⊎ In x v.book
+  pub messages : M.stopping ≡ true → (k : Message Msg) → In k w.messages →
+      IsOneOf i (v.pasts i).epoch l (made_in R M i (v.pasts i) l input leaf).sends k ⊎ In k v.messages
+  pub book : (x : Signed) → In x w.book →
+      IsOwn M (params_of R M i (v.pasts i) l) i (made_in R M i (v.pasts i) l input leaf).sends x ⊎ In x v.book
   pub old_book : (x : Signed) → In x v.book → In x w.book
   pub fresh_strings : (x : List ℕ) → In x (made_in R M i (v.pasts i) l input leaf).strings → In x w.strings
   pub strings : (x : List ℕ) → In x v.strings → In x w.strings
@@ -204,10 +207,12 @@ adopted_log R M i c piece = over piece.values (before R M i c piece.epoch)
 
 -- the votes of correct nodes in a certificate are in the book
 abbrev pub AreVotes : Setup → List Signed → ℕ → Cert → Type 0
-AreVotes s book e cert = (k : ℕ) → In k (signers cert.signed) → is_correct s k ≡ true → In (record { by = k; statement = vote_statement s e cert.chain cert.number }) book
+AreVotes s book e cert =
+    (k : ℕ) → In k (signers cert.signed) → is_correct s k ≡ true → IsBooked book k (vote_statement s e cert.chain cert.number)
 
 -- node i adopts the values of its epoch under a certificate, and ends it with no vote
-pub record Adopted {Msg : Type 0} (s : Setup) (S : Scheme) (R : Rules) (M : Module Msg) (v w : Cluster Msg) (i : ℕ) (piece : Piece) (cert : Cert) : Type 0 where
+pub record Adopted {Msg : Type 0} (s : Setup) (S : Scheme) (R : Rules) (M : Module Msg) (v w : Cluster Msg)
+    (i : ℕ) (piece : Piece) (cert : Cert) : Type 0 where
   pub correct : is_correct s i ≡ true
   pub epoch : piece.epoch ≡ (v.pasts i).epoch
   pub whole : length piece.values ≡ R.slots (before R M i (v.pasts i) piece.epoch) piece.epoch

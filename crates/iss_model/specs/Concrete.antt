@@ -1,27 +1,40 @@
 -- The rules of a cluster under its set-up.
-use Rattle.std.specs.Prelude.{ℕ, ◌/◌, nat_lt, true, Option, Some, None}
-use Rattle.iss_layout.specs.Layout.{bucket_of, bucket_owner, leads, plan_of, segment, slot_leader}
+use Rattle.std.specs.Prelude.{ℕ, List, nat_lt, true, Option, Some, None}
+use Rattle.iss_layout.specs.Layout.{Plan, bucket_of, bucket_owner, leads, plan_of, segment, slot_leader}
 use Rattle.iss_request.specs.declared.ids.NodeId.{NodeId}
+use Rattle.iss_request.specs.declared.requests.Value.{Value}
 use Rattle.iss_request.specs.declared.setups.Setup.{Setup}
+use Rattle.iss_model.specs.Past.{start_by}
 use Rattle.iss_model.specs.Rules.{Rules}
 
 abbrev pub number_of : Option NodeId → ℕ
 number_of None = 0
 number_of (Some l) = l.0
 
--- every epoch has K slots, and its division is the layout's over the log before it. A request is signed where its
--- client exists, and a statement where its node does; windows are not there yet, so each number is inside
+-- every epoch has K slots
+abbrev pub slots_at : Setup → List Value → ℕ → ℕ
+slots_at s log e = s.epoch
+
+-- where an epoch starts, and its division, by the log before it
+abbrev pub start_at : Setup → List Value → ℕ → ℕ
+start_at s log e = start_by (slots_at s) log e
+
+abbrev pub plan_at : Setup → List Value → ℕ → Plan
+plan_at s log e = plan_of s e (start_at s log e) log
+
+-- epochs are divided by the layout. A request is signed where its client exists, and a statement where its node does;
+-- windows are not there yet, so each number is inside
 abbrev pub rules_of : Setup → Rules
 rules_of s =
     record {
-      slots = λ log e. s.epoch;
+      slots = slots_at s;
       most = s.epoch;
-      leader = λ log slot. number_of (slot_leader (plan_of s (slot / s.epoch) log) slot);
-      leads = λ log e l. leads (plan_of s e log) l;
-      owner = λ log e id. number_of (bucket_owner (plan_of s e log) (bucket_of (plan_of s e log) id));
+      leader = λ log e slot. number_of (slot_leader (plan_at s log e) slot);
+      leads = λ log e l. leads (plan_at s log e) l;
+      owner = λ log e id. number_of (bucket_owner (plan_at s log e) (bucket_of (plan_at s log e) id));
       signed = λ q. nat_lt q.id.client s.clients;
       inside = λ log e id. true;
       batch = s.batch;
       verifies = λ k statement sig. nat_lt k s.n;
-      params = λ log e l. record { setup = s; epoch = record { 0 = e }; leader = record { 0 = l }; slots = segment (plan_of s e log) l };
+      params = λ log e l. record { setup = s; epoch = record { 0 = e }; leader = record { 0 = l }; slots = segment (plan_at s log e) l };
     }

@@ -19,7 +19,7 @@ use Rattle.iss_model.specs.declared.causes.Refusal.{Refusal}
 use Rattle.iss_model.specs.declared.causes.Why.{Why}
 use Rattle.iss_model.specs.declared.causes.Why.TheVariants.{NotPacket, BadRequest, Known, OtherEpoch, NotLeader, NothingToCast, NoKeys, Refused}
 use Rattle.iss_model.specs.Judge.{judge, marks}
-use Rattle.iss_model.specs.Past.{Past, asked_in, before, log_of, made_in, newborn, params_of, takes}
+use Rattle.iss_model.specs.Past.{Past, asked_in, before_own, leads_in, log_of, made_in, newborn, params_of, taken_in, takes}
 use Rattle.iss_model.specs.Rules.{Rules}
 
 -- what a packet holds: a module's message in the instance of a leader, or a request
@@ -114,6 +114,11 @@ abbrev pub verdict : Rules → List Value → ℕ → ℕ → List (Slot × Batc
 verdict R before e l accepted None = None
 verdict R before e l accepted (Some x) = judge R before e l (marks accepted) x.1
 
+-- of an input in the instance of leader l of the node's epoch
+abbrev pub verdict_in : {Msg : Type 0} → Rules → Module Msg → ℕ → Past Msg → ℕ → Input Msg → Option Refusal
+verdict_in R M me c l input =
+    verdict R (before_own R M me c) c.epoch l (accepts (taken_in c l)) (asked_in R M me c l input)
+
 abbrev pub by_verdict : {Msg : Type 0} → Option Refusal → Turn Msg → Stepped Msg
 by_verdict None turn = Taken turn
 by_verdict (Some x) turn = Dropped (Refused x)
@@ -125,11 +130,9 @@ has_leaves M p leaf = not (nat_lt (leaves_left (record { secret = []; height = p
 -- an input in the instance of leader l, where it leads, keys are left and the judge agrees
 abbrev pub at_instance : {Msg : Type 0} → Formats Msg → Rules → Module Msg → ℕ → Core Msg → ℕ → Input Msg → Stepped Msg
 at_instance F R M me c l input =
-    let e = c.past.epoch in
-    let bf = before R M me c.past e in
-    cond (not (R.leads bf e l)) (Dropped NotLeader)
-    (cond (not (has_leaves M (R.params bf e l) c.leaf)) (Dropped NoKeys)
-    (by_verdict (verdict R bf e l (accepts (c.past.evidence e l)) (asked_in R M me c.past l input)) (inputs F R M me c l input)))
+    cond (not (leads_in R M me c.past l)) (Dropped NotLeader)
+    (cond (not (has_leaves M (params_of R M me c.past l) c.leaf)) (Dropped NoKeys)
+    (by_verdict (verdict_in R M me c.past l input) (inputs F R M me c l input)))
 
 -- the identities of what was cast
 abbrev pub flown : List (Slot × Batch) → List ReqId
@@ -170,7 +173,7 @@ uncut (suc n) is_mine (q ∷ qs) = cond (is_mine q) (uncut n is_mine qs) (q ∷ 
 -- a request that the node may cast: its bucket is the node's, and it is not marked in the node's own instance
 abbrev pub is_mine : {Msg : Type 0} → Rules → Module Msg → ℕ → Core Msg → Request → Bool
 is_mine R M me c q =
-    (R.owner (before R M me c.past c.past.epoch) c.past.epoch q.id == me) && not (has_id q.id (marks (accepts (c.past.evidence c.past.epoch me))))
+    (R.owner (before_own R M me c.past) c.past.epoch q.id == me) && not (has_id q.id (marks (accepts (taken_in c.past me))))
 
 abbrev pub has_slot : ℕ → List (Slot × Batch) → Bool
 has_slot s [] = false
@@ -187,7 +190,7 @@ first_slot p (s ∷ ss) = cond (p s) (Some s) (first_slot p ss)
 abbrev pub next_slot : {Msg : Type 0} → Rules → Module Msg → ℕ → Core Msg → Option Slot
 next_slot R M me c =
     let p = params_of R M me c.past me in
-    first_slot (is_castable M p me (c.past.evidence c.past.epoch me) c.flight) p.slots
+    first_slot (is_castable M p me (taken_in c.past me) c.flight) p.slots
 
 -- a batch of waiting requests is cast at the slot
 abbrev pub casts_at : {Msg : Type 0} → Formats Msg → Rules → Module Msg → ℕ → Core Msg → Option Slot → Stepped Msg
@@ -203,6 +206,6 @@ casts_at F R M me c (Some s) =
 abbrev pub step : {Msg : Type 0} → Formats Msg → Rules → Module Msg → ℕ → Core Msg → NodeEvent → Stepped Msg
 step F R M me c (Gets bytes) = takes_bytes F R M me c (F.unwrap bytes)
 step F R M me c Proposes =
-    cond (not (R.leads (before R M me c.past c.past.epoch) c.past.epoch me)) (Dropped NotLeader)
+    cond (not (leads_in R M me c.past me)) (Dropped NotLeader)
     (casts_at F R M me c (next_slot R M me c))
 step F R M me c (Fires l) = at_instance F R M me c l.0 Timeout

@@ -12,7 +12,7 @@ use Rattle.iss_sb.specs.Calls.{IsGoodParams}
 use Rattle.iss_sb.specs.Evidence.{IsReached, Module, accepts, is_correct}
 use Rattle.iss_model.specs.Cluster.{Cluster, IsTrueLog, Scheme, Signed, vote_statement, world_of}
 use Rattle.iss_model.specs.Judge.{judge, marks}
-use Rattle.iss_model.specs.Past.{Past, before, before_at, epoch_at, leader_at, log_of}
+use Rattle.iss_model.specs.Past.{Past, before, before_at, before_own, epoch_at, leader_at, log_of}
 use Rattle.iss_model.specs.Rules.{Rules}
 
 -- what the rules of the log owe: epochs have slots, each slot's leader leads its epoch, and a leader's instance is
@@ -31,7 +31,8 @@ pub record IsSoundRules {Msg : Type 0} (s : Setup) (M : Module Msg) (R : Rules) 
 -- values and links have one spelling each
 pub record AreChained (S : Scheme) : Type 0 where
   pub values : (v u : Value) → S.spells v ≡ true → S.spells u ≡ true → S.spelled v ≡ S.spelled u → v ≡ u
-  pub links : (a b c d : List ℕ) → S.link (digest a) (digest b) ≡ S.link (digest c) (digest d) → (digest a ≡ digest c) × (digest b ≡ digest d)
+  pub links : (a b c d : List ℕ) → S.link (digest a) (digest b) ≡ S.link (digest c) (digest d) →
+      (digest a ≡ digest c) × (digest b ≡ digest d)
   pub some_link : (a b : List ℕ) → [] ≡ S.link a b → ⊥
 
 -- what the scheme owes: values and links have one spelling each as soon as there is a vote, and a quorum has a correct
@@ -45,26 +46,32 @@ Among strings x = In x strings
 
 -- a correct node accepted the batch in the slot that follows these values: it judged it there, over what stands before
 -- the epoch and the marks of what it had accepted in that instance
-pub record WasAccepted {Msg : Type 0} (s : Setup) (R : Rules) (M : Module Msg) (pasts : ℕ → Past Msg) (older : List Value) (b : Batch) : Type 0 where
+pub record WasAccepted {Msg : Type 0} (s : Setup) (R : Rules) (M : Module Msg) (pasts : ℕ → Past Msg)
+    (older : List Value) (b : Batch) : Type 0 where
   pub node : ℕ
   pub correct : is_correct s node ≡ true
   pub newer : List (Slot × Batch)
   pub earlier : List (Slot × Batch)
-  pub held : accepts ((pasts node).evidence (epoch_at R older) (leader_at R older)) ≡ newer ++ ((record { 0 = length older }, b) ∷ earlier)
+  pub held : accepts ((pasts node).evidence (epoch_at R older) (leader_at R older)) ≡
+      newer ++ ((record { 0 = length older }, b) ∷ earlier)
   pub start : before R M node (pasts node) (epoch_at R older) ≡ before_at R older
   pub judged : judge R (before_at R older) (epoch_at R older) (leader_at R older) (marks earlier) b ≡ None
 
 -- what a reader wants of the nodes of a cluster
 pub record Ordered {Msg : Type 0} (s : Setup) (R : Rules) (M : Module Msg) (pasts : ℕ → Past Msg) : Type 0 where
   -- of two correct nodes' logs one is the beginning of the other
-  pub one : (i j : ℕ) → is_correct s i ≡ true → is_correct s j ≡ true → Extends (log_of R M i (pasts i)) (log_of R M j (pasts j)) ⊎ Extends (log_of R M j (pasts j)) (log_of R M i (pasts i))
+  pub one : (i j : ℕ) → is_correct s i ≡ true → is_correct s j ≡ true →
+      Extends (log_of R M i (pasts i)) (log_of R M j (pasts j)) ⊎ Extends (log_of R M j (pasts j)) (log_of R M i (pasts i))
   -- no identity stands twice
   pub once : (i : ℕ) → is_correct s i ≡ true → Once (log_of R M i (pasts i))
   -- each batch was accepted by a correct node
-  pub valid : (i : ℕ) → is_correct s i ≡ true → (older : List Value) (b : Batch) → Extends (Holds b ∷ older) (log_of R M i (pasts i)) → WasAccepted s R M pasts older b
+  pub valid : (i : ℕ) → is_correct s i ≡ true → (older : List Value) (b : Batch) →
+      Extends (Holds b ∷ older) (log_of R M i (pasts i)) → WasAccepted s R M pasts older b
   -- each instance is a world of its own, reached by its own moves
-  pub instances : (i e l : ℕ) → is_correct s i ≡ true → e ≤ (pasts i).epoch → R.leads (before R M i (pasts i) e) e l ≡ true → IsReached M (R.params (before R M i (pasts i) e) e l) (world_of s pasts e l)
+  pub instances : (i e l : ℕ) → is_correct s i ≡ true → e ≤ (pasts i).epoch →
+      R.leads (before R M i (pasts i) e) e l ≡ true → IsReached M (R.params (before R M i (pasts i) e) e l) (world_of s pasts e l)
   -- each value, delivered or adopted, was delivered by a correct node in its instance
   pub backed : (i : ℕ) → is_correct s i ≡ true → IsTrueLog s R M pasts (log_of R M i (pasts i))
   -- nodes in one epoch have the same log before it
-  pub epochs : (i j : ℕ) → is_correct s i ≡ true → is_correct s j ≡ true → (pasts i).epoch ≡ (pasts j).epoch → before R M i (pasts i) (pasts i).epoch ≡ before R M j (pasts j) (pasts j).epoch
+  pub epochs : (i j : ℕ) → is_correct s i ≡ true → is_correct s j ≡ true → (pasts i).epoch ≡ (pasts j).epoch →
+      before_own R M i (pasts i) ≡ before_own R M j (pasts j)

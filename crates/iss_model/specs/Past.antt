@@ -1,5 +1,5 @@
 -- What a node's log rests on: what it took in each instance, and the log that follows.
-use Rattle.std.specs.Prelude.{◌≡◌, ℕ, zero, suc, ◌+◌, ◌-◌, ◌*◌, ◌==◌, nat_le, cond, List, [], ◌∷◌, Option, Some, None, length}
+use Rattle.std.specs.Prelude.{◌≡◌, ℕ, zero, suc, ◌+◌, ◌-◌, ◌*◌, ◌==◌, nat_le, Bool, cond, List, [], ◌∷◌, Option, Some, None, length}
 use Rattle.iss_base.specs.Lists.{Chain, first_of, nth, oldest, set_at2}
 use Rattle.iss_request.specs.declared.ids.Slot.{Slot}
 use Rattle.iss_request.specs.declared.requests.Batch.{Batch}
@@ -25,10 +25,14 @@ pub record Past (Msg : Type 0) : Type 0 where
   pub evidence : ℕ → ℕ → List (Item Msg)
   pub adopted : List Piece
 
--- where an epoch starts, in a log that holds all before it
+-- where an epoch starts, in a log that holds all before it: the sum of the lengths of the epochs before it, where a length
+-- may hang on the log before its epoch
+abbrev pub start_by : (List Value → ℕ → ℕ) → List Value → ℕ → ℕ
+start_by slots log zero = 0
+start_by slots log (suc e) = start_by slots log e + slots (oldest (start_by slots log e) log) e
+
 abbrev pub start_of : Rules → List Value → ℕ → ℕ
-start_of R log zero = 0
-start_of R log (suc e) = start_of R log e + R.slots (oldest (start_of R log e) log) e
+start_of R log e = start_by R.slots log e
 
 -- the log before an epoch
 abbrev pub cut_at : Rules → List Value → ℕ → List Value
@@ -47,14 +51,17 @@ abbrev pub before_at : Rules → List Value → List Value
 before_at R older = cut_at R older (epoch_at R older)
 
 abbrev pub leader_at : Rules → List Value → ℕ
-leader_at R older = R.leader (before_at R older) (length older)
+leader_at R older = R.leader (before_at R older) (epoch_at R older) (length older)
 
 abbrev pub params_at : Rules → List Value → Params
 params_at R older = R.params (before_at R older) (epoch_at R older) (leader_at R older)
 
 -- the value of that slot: what its instance delivered, else what was adopted
 abbrev pub cell : {Msg : Type 0} → Rules → Module Msg → ℕ → Past Msg → List Value → Option Value
-cell R M me c older = first_of (delivered M (params_at R older) me (c.evidence (epoch_at R older) (leader_at R older)) (length older)) (adopted_at c.adopted (epoch_at R older) (length older - length (before_at R older)))
+cell R M me c older =
+    let taken = c.evidence (epoch_at R older) (leader_at R older) in
+    let index = length older - length (before_at R older) in
+    first_of (delivered M (params_at R older) me taken (length older)) (adopted_at c.adopted (epoch_at R older) index)
 
 abbrev pub grown : Option Value → List Value → (List Value → List Value) → List Value
 grown None log more = log
@@ -76,22 +83,32 @@ before R M me c e = cut_at R (log_of R M me c) e
 abbrev pub IsLog : {Msg : Type 0} → Rules → Module Msg → ℕ → Past Msg → List Value → Type 0
 IsLog R M me c = Chain (λ older v. cell R M me c older ≡ Some v)
 
--- the parameters of the instance of a leader in the node's epoch
+-- the log before the node's own epoch, and whether a node leads that epoch
+abbrev pub before_own : {Msg : Type 0} → Rules → Module Msg → ℕ → Past Msg → List Value
+before_own R M me c = before R M me c c.epoch
+
+abbrev pub leads_in : {Msg : Type 0} → Rules → Module Msg → ℕ → Past Msg → ℕ → Bool
+leads_in R M me c l = R.leads (before_own R M me c) c.epoch l
+
+-- what the node took in the instance of a leader in its epoch, and the parameters there
+abbrev pub taken_in : {Msg : Type 0} → Past Msg → ℕ → List (Item Msg)
+taken_in c l = c.evidence c.epoch l
+
 abbrev pub params_of : {Msg : Type 0} → Rules → Module Msg → ℕ → Past Msg → ℕ → Params
-params_of R M me c l = R.params (before R M me c c.epoch) c.epoch l
+params_of R M me c l = R.params (before_own R M me c) c.epoch l
 
 -- what an input makes there, what it asks for, and the past with it
 abbrev pub made_in : {Msg : Type 0} → Rules → Module Msg → ℕ → Past Msg → ℕ → Input Msg → ℕ → Made Msg
-made_in R M me c l input leaf = M.makes (params_of R M me c l) me (c.evidence c.epoch l) input leaf
+made_in R M me c l input leaf = M.makes (params_of R M me c l) me (taken_in c l) input leaf
 
 abbrev pub asked_in : {Msg : Type 0} → Rules → Module Msg → ℕ → Past Msg → ℕ → Input Msg → Option (Slot × Batch)
-asked_in R M me c l input = M.asks (params_of R M me c l) me (c.evidence c.epoch l) input
+asked_in R M me c l input = M.asks (params_of R M me c l) me (taken_in c l) input
 
 abbrev pub takes : {Msg : Type 0} → Rules → Module Msg → ℕ → Past Msg → ℕ → Input Msg → ℕ → Past Msg
 takes R M me c l input leaf =
     record {
       epoch = c.epoch;
-      evidence = set_at2 c.evidence c.epoch l (and_then M (params_of R M me c l) me (c.evidence c.epoch l) input leaf);
+      evidence = set_at2 c.evidence c.epoch l (and_then M (params_of R M me c l) me (taken_in c l) input leaf);
       adopted = c.adopted;
     }
 

@@ -9,8 +9,8 @@ pub record Rules : Type 0 where
   -- how many slots an epoch has, and how many no epoch passes
   pub slots : List Value → ℕ → ℕ
   pub most : ℕ
-  -- the leader of a slot, who leads an epoch, and who owns a request there
-  pub leader : List Value → ℕ → ℕ
+  -- the leader of a slot of an epoch, who leads an epoch, and who owns a request there
+  pub leader : List Value → ℕ → ℕ → ℕ
   pub leads : List Value → ℕ → ℕ → Bool
   pub owner : List Value → ℕ → ReqId → ℕ
   -- whether a request's client and signature are good, and whether its number is inside the window of an epoch

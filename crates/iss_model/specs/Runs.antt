@@ -10,7 +10,7 @@ use Rattle.iss_schedule.specs.declared.schedules.Event.TheVariants.{Request as A
 use Rattle.iss_sb.specs.declared.effects.Input.{Input}
 use Rattle.iss_sb.specs.declared.effects.Params.{Params}
 use Rattle.iss_sb.specs.Calls.{kind_of}
-use Rattle.iss_sb.specs.Evidence.{IsString, Item, Module}
+use Rattle.iss_sb.specs.Evidence.{IsReadAgain, IsString, Item, Module}
 use Rattle.iss_model.specs.Cluster.{world_of}
 use Rattle.iss_model.specs.Node.{Formats, OfModule, OfRequest, Parcel}
 use Rattle.iss_model.specs.Past.{Past, log_of}
@@ -47,11 +47,15 @@ pub record IsSetupOf {Msg : Type 0} (M : Module Msg) (s : Setup) : Type 0 where
 abbrev pub IsReadBack : {Msg : Type 0} → Formats Msg → Parcel Msg → Type 0
 IsReadBack F k = (F.unwrap (F.wrap k) ≡ Some k) ⊎ (F.unwrap (F.wrap k) ≡ None)
 
--- what the formats owe: of a node's messages, and of requests, of which those that are read have a spelling
-pub record IsFaithful {Msg : Type 0} (s : Setup) (F : Formats Msg) : Type 0 where
-  pub messages : (from e l : ℕ) (msg : Msg) → from < s.n → l < s.n → IsReadBack F (record { from = from; epoch = e; body = OfModule l msg })
+-- what the formats owe: of what is written, a node's messages and requests; and of what is read, that a request has a
+-- spelling, and that a module's message came under a node's name and is read again of its own bytes
+pub record IsFaithful {Msg : Type 0} (s : Setup) (F : Formats Msg) (M : Module Msg) : Type 0 where
+  pub messages : (from e l : ℕ) (msg : Msg) → from < s.n → l < s.n →
+      IsReadBack F (record { from = from; epoch = e; body = OfModule l msg })
   pub requests : (q : Request) → IsReadBack F (record { from = 255; epoch = 0; body = OfRequest q })
   pub asked : (bytes : List ℕ) (k : Parcel Msg) (q : Request) → F.unwrap bytes ≡ Some k → k.body ≡ OfRequest q → HasSpelling q
+  pub told : (bytes : List ℕ) (k : Parcel Msg) (l : ℕ) (msg : Msg) → F.unwrap bytes ≡ Some k → k.body ≡ OfModule l msg →
+      (k.from < s.n) × IsReadAgain M.spell M.parse msg
 
 -- a module that hashes nothing
 abbrev pub HashesNothing : {Msg : Type 0} → Module Msg → Type 0

@@ -1,6 +1,6 @@
 -- A run that is tested: it ends at the first delivery that shows a forged claim, or step that shows a collision.
-use Rattle.std.specs.Prelude.{◌≡◌, ℕ, ◌<◌, zero, suc, ◌==◌, ◌&&◌, not, cond, Bool, true, false, List, [], ◌∷◌, ◌++◌, Option, Some, None}
-use Rattle.iss_base.specs.Lists.{first_of, nth, set_at}
+use Rattle.std.specs.Prelude.{ℕ, zero, suc, ◌==◌, ◌&&◌, not, cond, Bool, true, false, List, [], ◌∷◌, ◌++◌, Option, Some, None}
+use Rattle.iss_base.specs.Lists.{first_of, nth, over, set_at}
 use Rattle.iss_network.specs.Network.{cleared, due, held_to, settled}
 use Rattle.iss_network.specs.declared.packets.Sent.{Sent}
 use Rattle.iss_request.specs.Digest.{digest}
@@ -8,14 +8,14 @@ use Rattle.iss_request.specs.declared.setups.Setup.{Setup}
 use Rattle.iss_schedule.specs.declared.schedules.Event.{Event}
 use Rattle.iss_schedule.specs.declared.schedules.Event.TheVariants.{Request as Asks_order, Propose, Timeout, Deliver, Lose, Pump, Calm, Hold, Free, Drop, Bytes}
 use Rattle.iss_sb.specs.declared.effects.Claim.{Claim}
-use Rattle.iss_sb.specs.Evidence.{IsReadAgain, Module, is_correct}
+use Rattle.iss_sb.specs.Evidence.{Module, is_correct}
 use Rattle.iss_model.specs.declared.causes.NodeEvent.{NodeEvent}
 use Rattle.iss_model.specs.declared.causes.NodeEvent.TheVariants.{Packet as Gets, Propose as Proposes, Timeout as Fires}
 use Rattle.iss_model.specs.declared.causes.Why.{Why}
 use Rattle.iss_model.specs.declared.causes.Why.TheVariants.{NoPacket, NotPacket}
 use Rattle.iss_model.specs.Cluster.{Signed}
 use Rattle.iss_model.specs.Node.{Body, Core, Dropped, Formats, OfModule, OfRequest, Parcel, Stepped, Taken, Turn, step}
-use Rattle.iss_model.specs.Past.{before, params_of}
+use Rattle.iss_model.specs.Past.{leads_in, params_of}
 use Rattle.iss_model.specs.Rules.{Rules}
 use Rattle.iss_model.specs.Run.{Net, begin_net, noted, posted_all, request_of}
 
@@ -46,7 +46,7 @@ on_net h w = record { net = w; signed = h.signed; hashed = h.hashed }
 abbrev pub claims_of_body : {Msg : Type 0} → Rules → Module Msg → ℕ → Core Msg → ℕ → ℕ → Body Msg → List Claim
 claims_of_body R M me c from e (OfRequest q) = []
 claims_of_body R M me c from e (OfModule l msg) =
-    cond ((e == c.past.epoch) && R.leads (before R M me c.past c.past.epoch) c.past.epoch l) (M.claims (params_of R M me c.past l) from msg) []
+    cond ((e == c.past.epoch) && leads_in R M me c.past l) (M.claims (params_of R M me c.past l) from msg) []
 
 abbrev pub claims_of_parcel : {Msg : Type 0} → Rules → Module Msg → ℕ → Core Msg → Option (Parcel Msg) → List Claim
 claims_of_parcel R M me c None = []
@@ -83,13 +83,15 @@ first_forged s R book (c ∷ cs) = cond (is_forged s R book c) (Some c) (first_f
 abbrev pub is_collision : List ℕ → List ℕ → Bool
 is_collision a b = same_bytes (digest a) (digest b) && not (same_bytes a b)
 
+-- a string against those that were hashed before it, of which the one with its digest is named first
 abbrev pub collision_with : List ℕ → List (List ℕ) → Option End
-collision_with a [] = None
-collision_with a (b ∷ bs) = cond (is_collision a b) (Some (Collision a b)) (collision_with a bs)
+collision_with x [] = None
+collision_with x (b ∷ book) = cond (is_collision b x) (Some (Collision b x)) (collision_with x book)
 
+-- the strings of a step, in order, each put on top of the book after it was tested
 abbrev pub collision_in : List (List ℕ) → List (List ℕ) → Option End
-collision_in [] old = None
-collision_in (x ∷ xs) old = first_of (collision_in xs old) (collision_with x (xs ++ old))
+collision_in [] book = None
+collision_in (x ∷ xs) book = first_of (collision_with x book) (collision_in xs (x ∷ book))
 
 abbrev pub as_signed : List Claim → List Signed
 as_signed [] = []
@@ -108,7 +110,7 @@ turned_to s h i t =
     record {
       net = record { cores = set_at h.net.cores i t.core; network = posted_all s.n h.net.network i t.sends };
       signed = booked s i t.own ++ h.signed;
-      hashed = t.strings ++ h.hashed;
+      hashed = over t.strings h.hashed;
     }
 
 abbrev pub by_collision : {Msg : Type 0} → Option End → Held Msg → Held Msg → Course Msg
@@ -197,7 +199,3 @@ goes_further (Some end) s F R M p e = p
 abbrev pub run_tested : {Msg : Type 0} → Setup → Formats Msg → Rules → Module Msg → Going Msg → List Event → Going Msg
 run_tested s F R M p [] = p
 run_tested s F R M p (e ∷ es) = run_tested s F R M (goes_further p.ended s F R M p e) es
-
--- a module's message that is read came under a node's name, and is read again of its bytes
-abbrev pub AreRead : {Msg : Type 0} → Setup → Formats Msg → Module Msg → Type 0
-AreRead {Msg} s F M = (bytes : List ℕ) (k : Parcel Msg) (l : ℕ) (msg : Msg) → F.unwrap bytes ≡ Some k → k.body ≡ OfModule l msg → (k.from < s.n) × IsReadAgain M.spell M.parse msg

@@ -41,10 +41,13 @@ pub record IsTestedRun {Msg : Type 0} (s : Setup) (M : Module Msg) (events : Lis
 -- The logs that correct nodes print are of one log, with no premise on claims or digests.
 pub record IsOneTestedLog {Msg : Type 0} (s : Setup) (M : Module Msg) (events : List Event) : Type 0 where
   -- of two logs one is the beginning of the other
-  pub prefix : (i j : ℕ) → is_correct s i ≡ true → is_correct s j ≡ true → IsPrefix (tested_log s M events i) (tested_log s M events j) ⊎ IsPrefix (tested_log s M events j) (tested_log s M events i)
+  pub prefix : (i j : ℕ) → is_correct s i ≡ true → is_correct s j ≡ true →
+      IsPrefix (tested_log s M events i) (tested_log s M events j) ⊎ IsPrefix (tested_log s M events j) (tested_log s M events i)
   -- no request stands twice in a log
   pub once : (i : ℕ) → is_correct s i ≡ true → Once (tested_log s M events i)
   -- a correct node accepted each batch as valid, in the slot in which it is printed
-  pub valid : (i : ℕ) → is_correct s i ≡ true → (front back : List Value) (b : Batch) → tested_log s M events i ≡ front ++ Holds b ∷ back → WasAccepted s (rules_of s) M (tested_pasts s M events) (reverse front) b
+  pub valid : (i : ℕ) → is_correct s i ≡ true → (front back : List Value) (b : Batch) →
+      tested_log s M events i ≡ front ++ Holds b ∷ back → WasAccepted s (rules_of s) M (tested_pasts s M events) (reverse front) b
   -- more events only make logs longer
-  pub grows : (more : List Event) → AreAtNodes s.n more → (i : ℕ) → IsPrefix (tested_log s M events i) (tested_log s M (events ++ more) i)
+  pub grows : (more : List Event) → AreAtNodes s.n more → (i : ℕ) →
+      IsPrefix (tested_log s M events i) (tested_log s M (events ++ more) i)

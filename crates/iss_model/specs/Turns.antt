@@ -6,10 +6,10 @@ use Rattle.iss_request.specs.declared.requests.Value.TheVariants.{Batch as Holds
 use Rattle.iss_request.specs.declared.setups.Setup.{Setup}
 use Rattle.iss_sb.specs.declared.effects.Input.{Input}
 use Rattle.iss_sb.specs.declared.effects.Input.TheVariants.{Cast, Receive, Timeout}
-use Rattle.iss_sb.specs.Evidence.{IsCredible, IsReadAgain, Module, accepts}
+use Rattle.iss_sb.specs.Evidence.{IsCredible, IsReadAgain, Module}
 use Rattle.iss_model.specs.Cluster.{AllSpelled, AreVotes, Cert, IsBooked, IsVerified, Scheme, Signed, adopted_log, adopts, advanced, chain, chain_strings, is_complete, signers, vote_of}
-use Rattle.iss_model.specs.Node.{own_claims, verdict}
-use Rattle.iss_model.specs.Past.{Past, Piece, asked_in, before, log_of, made_in, params_of, takes}
+use Rattle.iss_model.specs.Node.{own_claims, verdict_in}
+use Rattle.iss_model.specs.Past.{Past, Piece, before, leads_in, log_of, made_in, params_of, takes}
 use Rattle.iss_model.specs.Rules.{Rules}
 use Rattle.iss_model.specs.Tested.{as_signed}
 
@@ -40,12 +40,14 @@ MayHear R M book i c l (Cast slot batch) = (i ≡ l) × IsReadAgain spell_value 
 MayHear R M book i c l (Receive from msg) = IsCredible M (params_of R M i c l) (IsVerified R) (IsBooked book) from.0 msg
 MayHear R M book i c l Timeout = Unit {0}
 
-pub record IsRightInput {Msg : Type 0} (s : Setup) (R : Rules) (M : Module Msg) (book : List Signed) (i : ℕ) (c : Past Msg) (l : ℕ) (input : Input Msg) : Type 0 where
-  pub leads : R.leads (before R M i c c.epoch) c.epoch l ≡ true
+pub record IsRightInput {Msg : Type 0} (s : Setup) (R : Rules) (M : Module Msg) (book : List Signed) (i : ℕ) (c : Past Msg)
+    (l : ℕ) (input : Input Msg) : Type 0 where
+  pub leads : leads_in R M i c l ≡ true
   pub comes : MayHear R M book i c l input
-  pub judged : verdict R (before R M i c c.epoch) c.epoch l (accepts (c.evidence c.epoch l)) (asked_in R M i c l input) ≡ None
+  pub judged : verdict_in R M i c l input ≡ None
 
-pub record IsRightPiece {Msg : Type 0} (s : Setup) (S : Scheme) (R : Rules) (M : Module Msg) (book : List Signed) (i : ℕ) (c : Past Msg) (piece : Piece) (cert : Cert) : Type 0 where
+pub record IsRightPiece {Msg : Type 0} (s : Setup) (S : Scheme) (R : Rules) (M : Module Msg) (book : List Signed) (i : ℕ) (c : Past Msg)
+    (piece : Piece) (cert : Cert) : Type 0 where
   pub epoch : piece.epoch ≡ c.epoch
   pub whole : length piece.values ≡ R.slots (before R M i c piece.epoch) piece.epoch
   pub quorum : S.is_quorum (signers cert.signed) ≡ true
@@ -73,4 +75,6 @@ hashes_of S R M i c (x ∷ xs) = hashes_of S R M i (past_after R M i c x) xs ++ 
 
 abbrev pub AreRight : {Msg : Type 0} → Setup → Scheme → Rules → Module Msg → List Signed → ℕ → Past Msg → List (Small Msg) → Type 0
 AreRight s S R M book i c [] = Unit {0}
-AreRight s S R M book i c (x ∷ xs) = IsRight s S R M book i c x × AllSpelled S (log_of R M i (past_after R M i c x)) × AreRight s S R M book i (past_after R M i c x) xs
+AreRight s S R M book i c (x ∷ xs) =
+    let later = past_after R M i c x in
+    IsRight s S R M book i c x × AllSpelled S (log_of R M i later) × AreRight s S R M book i later xs

@@ -1,5 +1,5 @@
 -- What was read of bytes is read again, and a batch of few requests that have spellings is.
-use Rattle.std.proofs.Common.{◌≡◌, ◌≤◌, ℕ, List, [], ◌∷◌, ◌++◌, length, refl, sym, ap, ◌∙◌, inl, inr}
+use Rattle.std.proofs.Common.{◌≡◌, ◌≤◌, ℕ, List, [], ◌∷◌, length, refl, sym, ap, ◌∙◌, inl, inr}
 use Rattle.std.specs.List.{AllByRecursion, flat_map}
 use Rattle.iss_base.specs.Lists.{In}
 use Rattle.iss_request.specs.Fields.{Bad, Good, IsGrammar, Parsed}

@@ -24,9 +24,10 @@ pub record Made (M : Type 0) : Type 0 where
   pub strings : List (List ℕ)
   pub used : ℕ
 
--- an input that a node took, and what was made at it
+-- an input that a node took, the least leaf of its keys that had not signed then, and what was made at it
 pub record Item (M : Type 0) : Type 0 where
   pub input : Input M
+  pub leaf : ℕ
   pub made : Made M
 
 -- the world of one instance: what each correct node took. Accept lists, what was sent, signed and hashed are read
@@ -53,8 +54,6 @@ pub record Module (M : Type 0) : Type 1 where
   pub asks : Params → ℕ → List (Item M) → Input M → Option (Slot × Batch)
   pub makes : Params → ℕ → List (Item M) → Input M → ℕ → Made M
   pub decided : Params → ℕ → List (Item M) → ℕ → Option Value
-  -- what holds of every world of an instance
-  pub Inv : Params → World M → Type 0
 
 -- the value that the shortest part of the list decides at the slot
 abbrev pub delivered : {M : Type 0} → Module M → Params → ℕ → List (Item M) → ℕ → Option Value
@@ -63,7 +62,7 @@ delivered m p me (x ∷ xs) s = first_of (delivered m p me xs s) (m.decided p me
 
 -- the list after one input more
 abbrev pub and_then : {M : Type 0} → Module M → Params → ℕ → List (Item M) → Input M → ℕ → List (Item M)
-and_then m p me xs input leaf = record { input = input; made = m.makes p me xs input leaf } ∷ xs
+and_then m p me xs input leaf = record { input = input; leaf = leaf; made = m.makes p me xs input leaf } ∷ xs
 
 abbrev pub one_or_none : {A : Type 0} → Option A → List A
 one_or_none None = []

@@ -3,10 +3,19 @@ use Rattle.std.specs.Prelude.{ℕ, ◌/◌, ◌^◌, List, [], ◌∷◌, ◌++�
 use Rattle.std.specs.Int.{bytes_high_first}
 use Rattle.iss_sb.specs.declared.effects.Params.{Params}
 
--- a number as eight, high first. Below 2 ^ 64 they are its bytes; the first takes all that is left of a greater number,
--- so that no two numbers are spelled alike
-unfoldable pub eight_bytes : ℕ → List ℕ
-eight_bytes n = n / 256 ^ 7 ∷ bytes_high_first 7 n
+-- a number as a first byte and `low` more, high first. Below 256 ^ (low + 1) they are its bytes; the first takes all that
+-- is left of a greater number, so that no two numbers are spelled alike
+unfoldable pub wide_bytes : ℕ → ℕ → List ℕ
+wide_bytes low n = n / 256 ^ low ∷ bytes_high_first low n
+
+abbrev pub two_bytes : ℕ → List ℕ
+two_bytes n = wide_bytes 1 n
+
+abbrev pub four_bytes : ℕ → List ℕ
+four_bytes n = wide_bytes 3 n
+
+abbrev pub eight_bytes : ℕ → List ℕ
+eight_bytes n = wide_bytes 7 n
 
 -- the cluster, an epoch, a leader, and the tag of a module
 abbrev pub head_of : List ℕ → ℕ → ℕ → ℕ → List ℕ

@@ -7,6 +7,6 @@ returns g c =
     let M = g.M.Sequenced.meaning in
     let laws = c.laws.ensures in
     record {
-      reached = λ s h. is-tested s M h (faithful s M laws.grammar) laws.grammar laws.lawful;
-      one = λ s h. one-tested s M h (faithful s M laws.grammar) laws.grammar laws.lawful laws.safe;
+      reached = λ s h. is-tested s M h (faithful s M laws.grammar) laws.lawful;
+      one = λ s h. one-tested s M h (faithful s M laws.grammar) laws.lawful laws.safe;
     }
