@@ -5,3 +5,5 @@ pub mod Legal
 pub mod Claims
 pub mod Quorums
 pub mod Read
+pub mod Signatures
+pub mod Heard

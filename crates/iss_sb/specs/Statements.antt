@@ -1,6 +1,8 @@
--- What the statements of a cluster begin with.
+-- What the statements of a cluster begin with, and their signatures.
 use Rattle.std.specs.Prelude.{ℕ, ◌/◌, ◌^◌, List, [], ◌∷◌, ◌++◌}
 use Rattle.std.specs.Int.{bytes_high_first}
+use Rattle.iss_keys.specs.Directories.{node_secret}
+use Rattle.iss_keys.specs.Signatures.{signature_of}
 use Rattle.iss_sb.specs.declared.effects.Params.{Params}
 
 -- a number as a first byte and `low` more, high first. Below 256 ^ (low + 1) they are its bytes; the first takes all that
@@ -24,3 +26,7 @@ head_of cluster e l tag = cluster ++ eight_bytes e ++ l ∷ tag ∷ []
 -- what each statement of a module begins with
 abbrev pub statement_head : Params → ℕ → List ℕ
 statement_head p tag = head_of p.setup.tag p.epoch.0 p.leader.0 tag
+
+-- the signature of node me by a leaf of its keys
+abbrev pub signature : Params → ℕ → ℕ → List ℕ → List ℕ
+signature p me leaf statement = signature_of (node_secret me) p.setup.keys leaf statement
