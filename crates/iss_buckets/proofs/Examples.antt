@@ -6,7 +6,7 @@ use Rattle.iss_layout.specs.Layout.{Plan, nodes_below}
 use Rattle.iss_buckets.specs.Waiting.{may_cast, cut, uncut, absent}
 
 abbrev plan : Plan
-plan = record { epoch = 0; nodes = 3; slots = 6; buckets = 3; leaders = nodes_below 3 }
+plan = record { epoch = 0; start = 0; nodes = 3; slots = 6; buckets = 3; leaders = nodes_below 3 }
 
 abbrev id : ℕ → ReqId
 id t = record { client = 0; number = t }
