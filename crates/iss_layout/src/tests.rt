@@ -6,6 +6,7 @@ use std::test::Fail;
 #[test]
 fn an_epoch_of_three_nodes(rt: HostRuntime) -> Result<(), Fail> {
     let setup = Setup {
+        version: 1,
         module: 1,
         f: 0,
         epoch: 6,

@@ -4,9 +4,8 @@ use Rattle.std.proofs.Common.{◌≡◌, inl, inr, ℕ, true, cond, List, [], �
 use Rattle.sha2.specs.Sha256.{compress, digest_bytes, first_words, hash_after, rounds, schedule, sha256}
 use Rattle.iss_base.specs.Lists.{In, over, set_at}
 use Rattle.iss_base.proofs.Lists.{first-cases, in_append, in_right, set_at-other, set_at-same, some-injective}
-use Rattle.iss_request.specs.Fields.{Good}
-use Rattle.iss_request.specs.Formats.{parse_batch, parse_rest, parse_value, spell_batch, spell_value}
-use Rattle.iss_request.specs.Parsing.{◌>>=◌, byte, done, such_that, times}
+use Rattle.iss_request.specs.Formats.{parse_rest, parse_value, spell_value}
+use Rattle.iss_request.specs.Parsing.{◌>>=◌, byte, done, such_that}
 use Rattle.iss_request.specs.Setup.{IsGoodSetup}
 use Rattle.iss_request.specs.declared.ids.Slot.{Slot}
 use Rattle.iss_request.specs.declared.requests.Batch.{Batch}
@@ -19,8 +18,8 @@ use Rattle.iss_sb.specs.declared.effects.Input.{Input}
 use Rattle.iss_sb.specs.declared.effects.Input.TheVariants.{Cast, Receive, Timeout}
 use Rattle.iss_sb.specs.declared.effects.Params.{Params}
 use Rattle.iss_sb.specs.Calls.{IsGoodParams}
-use Rattle.iss_sb.specs.Evidence.{Item, Module, Separate, accepts, delivered, is_correct}
-use Rattle.iss_sb.specs.Laws.{IsLawful, IsSafe}
+use Rattle.iss_sb.specs.Evidence.{IsReadMessage, Item, Module, Separate, accepts, delivered, is_correct}
+use Rattle.iss_sb.specs.Laws.{IsHeard, IsLawful, IsSafe}
 use Rattle.iss_sb.proofs.Read.{batch-read}
 use Rattle.iss_model.specs.Checkpoints.{scheme_of}
 use Rattle.iss_model.specs.Cluster.{Adopted, AllSpelled, Cert, Cluster, IsHashedLog, MayTake, Reach, Scheme, Signed, adopt, adopts, advanced, begin, chain, chain_strings, ends, is_complete, move, vote_of}
@@ -32,9 +31,9 @@ use Rattle.iss_model.specs.Rules.{Rules}
 use Rattle.iss_model.specs.Runs.{IsSetupOf}
 use Rattle.iss_model.specs.Tested.{as_signed, collision_in}
 use Rattle.iss_model.proofs.Checkpoints.{exact-of}
-use Rattle.iss_model.proofs.Layouts.{sound-rules}
+use Rattle.iss_model.proofs.Layouts.{own-verifies, sound-rules}
 use Rattle.iss_model.proofs.Reached.{composition}
-use Rattle.iss_model.proofs.Signing.{Word, is_slot, lawful, made_of, passes, read_word, signing, slot-in}
+use Rattle.iss_model.proofs.Signing.{Word, is_slot, lawful, made_of, passes, sent-again, signing, slot-in, word-again}
 use Rattle.iss_model.proofs.Tests.{over-new, over-old, own-is, separate-more}
 
 -- the module: as the one that signs, but each node delivers nil in all slots as soon as it takes anything
@@ -47,7 +46,12 @@ abbrev nodding : Module Word
 nodding = record signing { decided = λ p me xs s. cond (is_slot s p.slots) (nil_if xs) None }
 
 as-signing : (p : Params) → IsGoodParams nodding p → IsGoodParams signing p
-as-signing p good = record { setup = good.setup; tag = good.tag; kind = good.kind; nodes = good.nodes; majority = good.majority; leader = good.leader; some = good.some; few = good.few; rising = good.rising }
+as-signing p good = record { setup = good.setup; tag = good.tag; kind = good.kind; nodes = good.nodes; majority = good.majority; leader = good.leader; some = good.some; few = good.few; rising = good.rising; slots_low = good.slots_low; directory = good.directory }
+
+as-heard : (p : Params) (i : Input Word) → IsHeard nodding p i → IsHeard signing p i
+as-heard p (Cast slot batch) h = h
+as-heard p (Receive from msg) h = h
+as-heard p Timeout h = h
 
 nodding-lawful : IsLawful nodding
 nodding-lawful = record {
@@ -58,6 +62,7 @@ nodding-lawful = record {
   asked_within = lawful.asked_within;
   decided_within = λ p me xs s x h. slot-in s p.slots (passes (is_slot s.0 p.slots) (nil_if xs) x h).0;
   addressed = λ p me xs i leaf k msg good. lawful.addressed p me xs i leaf k msg (as-signing p good);
+  read_again = λ p me xs i leaf to msg good low heard came h. sent-again p me i to msg (as-heard p i came) h;
   few = λ p good. lawful.few p (as-signing p good);
   uses = λ p me xs i leaf good. lawful.uses p me xs i leaf (as-signing p good);
 }
@@ -77,21 +82,18 @@ no-batch : (b : Batch) → Holds b ≡ Nil → ⊥
 no-batch b h = cc
 
 nodding-safe : IsSafe nodding
-nodding-safe = record {
-  starts = λ p good. tt;
-  keeps = λ p w later good inv move sep. tt;
-  gives = λ p w good inv sep. record {
-    agreement = λ i j s x y oki okj hi hj. delivers-nil p i (w i) s x hi ∙ sym (delivers-nil p j (w j) s y hj);
-    shared = λ i j s t b c oki okj hi hj. absurd (no-batch b (delivers-nil p i (w i) s.0 (Holds b) hi));
-    integrity = λ i s b okl oki h. absurd (no-batch b (delivers-nil p i (w i) s.0 (Holds b) h));
-  };
+nodding-safe p w good reached sep = record {
+  agreement = λ i j s x y oki okj hi hj. delivers-nil p i (w i) s x hi ∙ sym (delivers-nil p j (w j) s y hj);
+  shared = λ i j s t b c oki okj hi hj. absurd (no-batch b (delivers-nil p i (w i) s.0 (Holds b) hi));
+  integrity = λ i s b okl oki h. absurd (no-batch b (delivers-nil p i (w i) s.0 (Holds b) h));
 }
 
 abbrev four : Setup
-four = record { «module» = 9; f = 1; epoch = 4; buckets = 4; batch = 4; window = 8; policy = Simple; clients = 1; keys = 4; faulty = record { 0 = 3 } ∷ []; n = 4; quorum = 3; kind = Byzantine; tag = [] }
+four = record { version = 1; «module» = 9; f = 1; epoch = 4; buckets = 4; batch = 4; window = 8; policy = Simple; clients = 1; keys = 4; faulty = record { 0 = 3 } ∷ []; n = 4; quorum = 3; kind = Byzantine; tag = [] }
 
 setup-good : IsGoodSetup four
 setup-good = record {
+  version = refl;
   faults = omega arith;
   relay_faults = λ h. absurd (omega (arith, h));
   relay_kind = λ h. absurd (omega (arith, h));
@@ -278,7 +280,7 @@ r0 : Reached w0
 r0 = record { reach = begin (record { pasts = λ j ok. refl; messages = λ k h. h; book = λ x h. h; root = over-old [] (chain_strings S nils) ([] ∷ []) (inl refl) }); same = refl }
 
 r1 : Reached w1
-r1 = moves w0 r0 0 0 casts refl refl (refl, batch-read [] (omega arith) (λ q i. absurd i)) refl (Nil ∷ Nil ∷ Nil ∷ [], refl)
+r1 = moves w0 r0 0 0 casts refl refl (refl, batch-read 1 [] (omega arith) (λ q i. absurd i)) refl (Nil ∷ Nil ∷ Nil ∷ [], refl)
 
 r2 : Reached w2
 r2 = moves w1 r1 0 1 Timeout refl refl tt refl (Nil ∷ Nil ∷ [], refl)
@@ -293,15 +295,14 @@ r5 : Reached w5
 r5 = votes w4 r4 0 refl refl ([], refl)
 
 -- the message's bytes are read, and its claim is node 0's, and in the book
-word-read : (rest : List ℕ) → read_word (nodding.spell (slot, []) ++ rest) ≡ Good (slot, []) rest
-unfolding parse_value parse_rest parse_batch spell_value spell_batch ◌>>=◌ such_that byte times done
-word-read rest = refl
+word-read : IsReadMessage nodding (params_of R nodding 1 (w5.pasts 1) 0) (slot, [])
+word-read = word-again 1 slot [] (batch-read 1 [] (omega arith) (λ q i. absurd i))
 
 heard : MayTake four R nodding w5 1 0 hears
 heard = record {
   named = omega arith;
   read = word-read;
-  verified = λ c h. elim h [ inl q ↦ rw q refl | inr none ↦ absurd none ];
+  verified = λ c h. elim h [ inl q ↦ rw q (own-verifies four 0 0 _ (omega arith) (omega arith) (omega arith)) | inr none ↦ absurd none ];
   signed = λ c h ok. elim h [ inl q ↦ rw q (inr (inl refl)) | inr none ↦ absurd none ];
 }
 

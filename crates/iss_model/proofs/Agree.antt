@@ -1,15 +1,17 @@
 -- What follows from the invariant at one moment: true logs are of one log, and each node's log is one.
-use Rattle.std.proofs.Common.{◌≡◌, inl, inr, ℕ, ◌+◌, ◌-◌, ◌≤◌, true, List, [], ◌∷◌, length, Some, refl, sym, subst, arith, le_trans}
+use Rattle.std.proofs.Common.{◌≡◌, inl, inr, ℕ, ◌+◌, ◌-◌, ◌≤◌, true, List, [], ◌∷◌, length, Some, refl, sym, ap, subst, ◌∙◌, arith, le_trans}
 use Rattle.std.proofs.lemmas.Bool.Decides.{leb_tells}
 use Rattle.iss_base.specs.Lists.{Extends}
 use Rattle.iss_base.proofs.Lists.{chains-meet, first-cases, same_length, same_or_not}
+use Rattle.iss_keys.specs.Directories.{DirectoryView, VerifiesBy, directory_of}
 use Rattle.iss_request.specs.declared.requests.Value.{Value}
 use Rattle.iss_request.specs.declared.setups.Setup.{Setup}
+use Rattle.iss_sb.specs.declared.effects.Claim.{Claim}
 use Rattle.iss_sb.specs.declared.effects.Params.{Params}
 use Rattle.iss_sb.specs.Calls.{IsGoodParams}
-use Rattle.iss_sb.specs.Evidence.{IsReached, IsString, Module, Move, Separate, World, after, at_start, delivered, is_correct}
+use Rattle.iss_sb.specs.Evidence.{IsReached, IsString, Module, Separate, Verifies, delivered, is_correct}
 use Rattle.iss_sb.specs.Laws.{IsBroadcast, IsSafe}
-use Rattle.iss_model.specs.Cluster.{Backed, Cluster, IsTrueLog, Scheme, world_of}
+use Rattle.iss_model.specs.Cluster.{Backed, Cluster, IsTrueLog, IsVerified, Scheme, world_of}
 use Rattle.iss_model.specs.Ordered.{Among, IsSoundRules}
 use Rattle.iss_model.specs.Past.{IsLog, Past, adopted_at, before, before_at, cut_at, epoch_at, leader_at, log_of, params_at, start_of}
 use Rattle.iss_model.specs.Rules.{Rules}
@@ -20,24 +22,6 @@ use Rattle.iss_model.proofs.Logs.{Later, later-refl, log-chain, log-kept, logs-m
 
 pub separate-part : (Big Small : List ℕ → Type 0) → ((x : List ℕ) → Small x → Big x) → Separate Big → Separate Small
 separate-part Big Small sub sep a b ia ib = sep a b (sub a ia) (sub b ib)
-
--- strings stay
-moved-strings : {Msg : Type 0} (M : Module Msg) (p : Params) (w later : World Msg) → Move M p w later → (x : List ℕ) → IsString w x → IsString later x
-moved-strings M p w later mv x (inl q) = inl q
-moved-strings M p w later mv x (inr h) = inr (record {
-  node = h.node;
-  item = h.item;
-  hashed = h.hashed;
-  taken = elim (same_or_not h.node mv.node) [
-    | inl q ↦ rw (q, mv.takes) (inr (rw q at h.taken))
-    | inr ne ↦ rw (mv.others h.node ne) h.taken
-  ];
-})
-
--- the law holds in each world that moves lead to
-pub reached-inv : {Msg : Type 0} (M : Module Msg) → IsSafe M → (p : Params) → IsGoodParams M p → (w : World Msg) → IsReached M p w → Separate (IsString w) → M.Inv p w
-reached-inv M safe p good w at_start sep = safe.starts p good
-reached-inv M safe p good w (after {w = v} r mv) sep = safe.keeps p v w good (reached-inv M safe p good v r (separate-part (IsString w) (IsString v) (moved-strings M p v w mv) sep)) mv sep
 
 -- at a correct node the world has its evidence
 pub world-at : {Msg : Type 0} (s : Setup) (w : Cluster Msg) (e l i : ℕ) → is_correct s i ≡ true → world_of s w.pasts e l i ≡ (w.pasts i).evidence e l
@@ -51,6 +35,12 @@ strings-are s S R M w g e l x (inr h) = g.strings e l x h
 pub correct-there : {Msg : Type 0} (s : Setup) (M : Module Msg) (R : Rules) → IsSoundRules s M R → (log : List Value) (e l i : ℕ) → is_correct s i ≡ true → is_correct (R.params log e l).setup i ≡ true
 correct-there s M R sound log e l i ok = subst (λ (t : Setup). is_correct t i ≡ true) (sym (sound.setup log e l)) ok
 
+-- what verifies by the rules verifies under them
+pub verifies-there : {Msg : Type 0} (s : Setup) (M : Module Msg) (R : Rules) → IsSoundRules s M R → (log : List Value) (e l : ℕ) → R.leads log e l ≡ true → (c : Claim) → IsVerified R c → Verifies (R.params log e l) c
+verifies-there s M R sound log e l leads c v =
+    let keys = (sound.good log e l leads).directory ∙ ap (λ (t : Setup). directory_of t.n t.clients t.keys) (sound.setup log e l) in
+    subst (λ (d : DirectoryView). VerifiesBy d.nodes c.by.0 c.statement c.sig) (sym keys) (sound.signers c.by.0 c.statement c.sig v)
+
 module _ {Msg : Type 0} (s : Setup) (S : Scheme) (R : Rules) (M : Module Msg) (safe : IsSafe M) (sound : IsSoundRules s M R) (w : Cluster Msg) (sep : Separate (Among w.strings)) (g : Good s R M w S) where
   -- the instance of a slot is a broadcast
   pub placed : (older : List Value) (v : Value) → Backed s R M w.pasts older v → IsBroadcast M (params_at R older) (world_of s w.pasts (epoch_at R older) (leader_at R older))
@@ -61,7 +51,7 @@ module _ {Msg : Type 0} (s : Setup) (S : Scheme) (R : Rules) (M : Module Msg) (s
       let reached : IsReached M (params_at R older) (world_of s w.pasts e l) = rw b.start at (g.inv b.node e l b.correct b.begun (rw b.start lead)) in
       let apart : Separate (IsString (world_of s w.pasts e l)) = separate-part (Among w.strings) (IsString (world_of s w.pasts e l)) (strings-are s S R M w g e l) sep in
       let good : IsGoodParams M (params_at R older) = sound.good (before_at R older) e l lead in
-      safe.gives (params_at R older) (world_of s w.pasts e l) good (reached-inv M safe (params_at R older) good (world_of s w.pasts e l) reached apart) apart
+      safe (params_at R older) (world_of s w.pasts e l) good reached apart
 
   pub in-world : (older : List Value) (i : ℕ) → is_correct s i ≡ true → (n : ℕ) (v : Value) → delivered M (params_at R older) i ((w.pasts i).evidence (epoch_at R older) (leader_at R older)) n ≡ Some v → delivered M (params_at R older) i (world_of s w.pasts (epoch_at R older) (leader_at R older) i) n ≡ Some v
   in-world older i ok n v h = rw (world-at s w (epoch_at R older) (leader_at R older) i ok) h

@@ -3,7 +3,8 @@ use Rattle.std.proofs.Common.{◌≡◌, ◌⊎◌, inl, inr, ℕ, suc, zero, �
 use Rattle.std.proofs.Math.Seq.{take-append_seam}
 use Rattle.iss_base.specs.Lists.{Extends, In}
 use Rattle.iss_base.proofs.Lists.{and-true, in_append, is-eq, not-true, oldest-part, or-false, set_at2-other}
-use Rattle.iss_request.specs.Formats.{HasSpelling, parse_value, spell_value}
+use Rattle.iss_request.specs.Fields.{IsReadAgain}
+use Rattle.iss_request.specs.Formats.{HasSpelling, parse_value, requests_most, spell_value}
 use Rattle.iss_request.specs.Log.{has_id, ids, log_ids}
 use Rattle.iss_request.specs.declared.ids.ReqId.{ReqId}
 use Rattle.iss_request.specs.declared.ids.Slot.{Slot}
@@ -11,9 +12,11 @@ use Rattle.iss_request.specs.declared.requests.Batch.{Batch}
 use Rattle.iss_request.specs.declared.requests.Request.{Request}
 use Rattle.iss_request.specs.declared.requests.Value.{Value}
 use Rattle.iss_request.specs.declared.requests.Value.TheVariants.{Batch as Holds}
+use Rattle.iss_request.specs.declared.setups.Setup.{Setup}
 use Rattle.iss_sb.specs.declared.effects.Input.{Input}
 use Rattle.iss_sb.specs.declared.effects.Input.TheVariants.{Cast}
-use Rattle.iss_sb.specs.Evidence.{IsReadAgain, Module, accepts, delivered}
+use Rattle.iss_sb.specs.declared.effects.Params.{Params}
+use Rattle.iss_sb.specs.Evidence.{IsReadBatch, Module, accepts, delivered}
 use Rattle.iss_sb.specs.Laws.{IsLawful}
 use Rattle.iss_sb.proofs.Read.{batch-read}
 use Rattle.iss_model.specs.declared.causes.NodeEvent.{NodeEvent}
@@ -161,10 +164,13 @@ module _ {Msg : Type 0} (R : Rules) (M : Module Msg) (me : ℕ) (c : Core Msg) w
       law.castable p me xs s [] b (r.1 ∙ ap (λ (z : Slot × Batch). Some z) q)
 
   -- a batch of requests that have spellings has one
-  pub cast-read : (F : Formats Msg) → R.batch ≤ 32 → ((q : Request) → In q c.waiting → HasSpelling q) → IsReadAgain spell_value parse_value (Holds (next_batch F R M me c))
-  cast-read F low h =
+  pub cast-read : (F : Formats Msg) (s : Setup) (p : Params) → p.setup ≡ s → R.batch ≤ requests_most s.version → ((q : Request) → In q c.waiting → HasSpelling q) →
+      IsReadBatch p (next_batch F R M me c)
+  cast-read F s p setup low h =
       let few = cut-few R.batch (is_mine R M me c) c.waiting in
-      batch-read (next_batch F R M me c) (omega (arith, few, low)) (λ q i. h q (cut-in R.batch (is_mine R M me c) c.waiting q i).0)
+      let batch = next_batch F R M me c in
+      let read = batch-read s.version batch (omega (arith, few, low)) (λ q i. h q (cut-in R.batch (is_mine R M me c) c.waiting q i).0) in
+      subst (λ (t : Setup). IsReadAgain (spell_value t.version) (parse_value t.version) (Holds batch)) (sym setup) read
 
   module _ (inside : AreAllInside R) (h : IsSoundCore R M me c) where
     abbrev bf : List Value

@@ -31,12 +31,13 @@ bad-good : (r : Parsed Value) → IsBad r → is_good r ≡ true → ⊥
 bad-good r b h = absurd (true≢false (sym h ∙ ap (λ (t : Parsed Value). is_good t) b.1))
 
 -- a value that is spelled is read back
-read-back : (v : Value) → is_good (parse_value (spell_value v)) ≡ true → parse_value (spell_value v) ≡ Good v []
-read-back v h =
-    let flat : spell_value v ++ [] ≡ spell_value v = append-nil (spell_value v) in
-    elim (value_grammar.whole v) [
-      | inl k ↦ ap (λ (t : List ℕ). parse_value t) (sym flat) ∙ k []
-      | inr k ↦ absurd (bad-good (parse_value (spell_value v)) (subst (λ (t : List ℕ). IsBad (parse_value t)) flat (k [])) h)
+read-back : (version : ℕ) (v : Value) → is_good (parse_value version (spell_value version v)) ≡ true → parse_value version (spell_value version v) ≡ Good v []
+read-back version v h =
+    let bytes = spell_value version v in
+    let flat : bytes ++ [] ≡ bytes = append-nil bytes in
+    elim ((value_grammar version).whole v) [
+      | inl k ↦ ap (λ (t : List ℕ). parse_value version t) (sym flat) ∙ k []
+      | inr k ↦ absurd (bad-good (parse_value version bytes) (subst (λ (t : List ℕ). IsBad (parse_value version t)) flat (k [])) h)
     ]
 
 good-same : (v u : Value) (x y : List ℕ) → Good v x ≡ Good u y → v ≡ u
@@ -52,8 +53,8 @@ tail-same a x y h = cc
 pub are-chained : (s : Setup) → AreChained (scheme_of s)
 are-chained s = record {
   values = λ v u sv su h.
-      let same : spell_value v ≡ spell_value u = tail-same 64 (spell_value v) (spell_value u) h in
-      good-same v u [] [] (sym (read-back v sv) ∙ ap (λ (t : List ℕ). parse_value t) same ∙ read-back u su);
+      let same : spell_value s.version v ≡ spell_value s.version u = tail-same 64 (spell_value s.version v) (spell_value s.version u) h in
+      good-same v u [] [] (sym (read-back s.version v sv) ∙ ap (λ (t : List ℕ). parse_value s.version t) same ∙ read-back s.version u su);
   links = λ a b c d h. ends-same (digest a) (digest c) (digest b) (digest d) (digest-length a ∙ sym (digest-length c)) (tail-same 66 (digest a ++ digest b) (digest c ++ digest d) h);
   some_link = λ a b h. cc;
 }

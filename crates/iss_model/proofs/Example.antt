@@ -26,7 +26,7 @@ abbrev pub Word : Type 0
 Word = Slot × Batch
 
 abbrev plain : Setup
-plain = record { «module» = 1; f = 0; epoch = 3; buckets = 3; batch = 4; window = 8; policy = Simple; clients = 1; keys = 4; faulty = []; n = 3; quorum = 2; kind = Stopping; tag = [] }
+plain = record { version = 1; «module» = 1; f = 0; epoch = 3; buckets = 3; batch = 4; window = 8; policy = Simple; clients = 1; keys = 4; faulty = []; n = 3; quorum = 2; kind = Stopping; tag = [] }
 
 abbrev asks : Params → ℕ → Input Word → Option Word
 asks p me (Cast slot batch) = cond (me == p.leader.0) (Some (slot, batch)) None
@@ -53,13 +53,12 @@ telling = record {
   stopping = true;
   tag = 1;
   signs = λ p. 0;
-  spell = λ w. [];
-  parse = λ bytes. Bad 0;
+  spell = λ version w. [];
+  parse = λ version bytes. Bad 0;
   claims = λ p from w. [];
   asks = λ p me xs input. asks p me input;
   makes = λ p me xs input leaf. made_of (asks p me input);
   decided = λ p me xs s. first_told p.leader.0 s xs;
-  Inv = λ p w. Unit {0};
 }
 
 -- at most one request in a batch, and no signatures

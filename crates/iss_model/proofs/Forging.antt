@@ -1,6 +1,7 @@
 -- Runs of four nodes that are computed, of which the last is faulty: what is forged ends a run, and what was signed, or is
 -- in the faulty node's name, does not.
 use Rattle.std.proofs.Common.{◌≡◌, ℕ, List, [], ◌∷◌, Some, None, refl}
+use Rattle.std.specs.Prelude.{nat_lt}
 use Rattle.iss_request.specs.Formats.{spell_batch, spell_request, spell_value}
 use Rattle.iss_request.specs.declared.requests.Batch.{Batch}
 use Rattle.iss_request.specs.declared.setups.Kind.TheVariants.{Byzantine}
@@ -8,21 +9,26 @@ use Rattle.iss_request.specs.declared.setups.Policy.TheVariants.{Simple}
 use Rattle.iss_request.specs.declared.setups.Setup.{Setup}
 use Rattle.iss_schedule.specs.declared.schedules.Event.{Event}
 use Rattle.iss_schedule.specs.declared.schedules.Event.TheVariants.{Request as Asks_order, Propose, Calm, Bytes}
-use Rattle.iss_sb.specs.Statements.{eight_bytes}
+use Rattle.iss_sb.specs.Statements.{wide_bytes}
 use Rattle.iss_model.specs.Cluster.{Signed}
 use Rattle.iss_model.specs.Concrete.{rules_of}
+use Rattle.iss_model.specs.Rules.{Rules}
 use Rattle.iss_model.specs.Tested.{Forged, Going, begin_tested, run_tested}
 use Rattle.iss_model.proofs.Example.{plain_request, short}
 use Rattle.iss_model.proofs.Signing.{Word, claim_of, signing}
 
 abbrev four : Setup
-four = record { «module» = 9; f = 1; epoch = 4; buckets = 4; batch = 4; window = 8; policy = Simple; clients = 1; keys = 4; faulty = record { 0 = 3 } ∷ []; n = 4; quorum = 3; kind = Byzantine; tag = [] }
+four = record { version = 1; «module» = 9; f = 1; epoch = 4; buckets = 4; batch = 4; window = 8; policy = Simple; clients = 1; keys = 4; faulty = record { 0 = 3 } ∷ []; n = 4; quorum = 3; kind = Byzantine; tag = [] }
+
+-- what a node is said to have signed counts as verified, so that runs compute
+abbrev easy : Rules
+easy = record (rules_of four) { verifies = λ k statement sig. nat_lt k 4 }
 
 abbrev batch : Batch
 batch = plain_request 0 0 (170 ∷ []) ∷ []
 
 abbrev after : List Event → Going Word
-after events = run_tested four short (rules_of four) signing (begin_tested 4) events
+after events = run_tested four short easy signing (begin_tested 4) events
 
 -- a message in the instance of a leader, under its name: slot and batch
 abbrev told : ℕ → List ℕ
@@ -33,28 +39,28 @@ claim leader = record { by = leader; statement = (claim_of ((rules_of four).para
 
 -- node 0 casts, and all take its message
 honest : (after (Asks_order 0 0 0 (170 ∷ []) ∷ Propose 0 ∷ Calm 5 ∷ [])).ended ≡ None
-unfolding eight_bytes spell_value spell_batch spell_request
+unfolding wide_bytes spell_value spell_batch spell_request
 honest = refl
 
 booked : (after (Asks_order 0 0 0 (170 ∷ []) ∷ Propose 0 ∷ Calm 5 ∷ [])).held.signed ≡ claim 0 ∷ []
-unfolding eight_bytes spell_value spell_batch spell_request
+unfolding wide_bytes spell_value spell_batch spell_request
 booked = refl
 
 -- the message again, from nowhere
 repeated : (after (Asks_order 0 0 0 (170 ∷ []) ∷ Propose 0 ∷ Bytes 1 (told 0) ∷ [])).ended ≡ None
-unfolding eight_bytes spell_value spell_batch spell_request
+unfolding wide_bytes spell_value spell_batch spell_request
 repeated = refl
 
 -- before node 0 has signed it, it is forged, and the run ends: what follows does not happen
 forged : (after (Bytes 1 (told 0) ∷ Asks_order 0 0 0 (170 ∷ []) ∷ Propose 0 ∷ [])).ended ≡ Some (Forged (claim_of ((rules_of four).params [] 0 0) 0 (record { 0 = 0 }, batch)))
-unfolding eight_bytes spell_value spell_batch spell_request
+unfolding wide_bytes spell_value spell_batch spell_request
 forged = refl
 
 ended : (after (Bytes 1 (told 0) ∷ Asks_order 0 0 0 (170 ∷ []) ∷ Propose 0 ∷ [])).event ≡ 1
-unfolding eight_bytes spell_value spell_batch spell_request
+unfolding wide_bytes spell_value spell_batch spell_request
 ended = refl
 
 -- the faulty node signs what it likes
 faulty : (after (Bytes 1 (told 3) ∷ [])).ended ≡ None
-unfolding eight_bytes spell_value spell_batch spell_request
+unfolding wide_bytes spell_value spell_batch spell_request
 faulty = refl

@@ -7,13 +7,13 @@ use Rattle.iss_packet.specs.Packets.{is_routed, is_routed_as, parse_packet, pars
 use Rattle.iss_packet.specs.declared.packets.Packet.{Packet}
 use Rattle.iss_packet.specs.declared.packets.PacketKind.{PacketKind}
 use Rattle.iss_packet.specs.declared.packets.PacketKind.TheVariants.{Message, Vote, Ask, Piece, Request as Asked}
-use Rattle.iss_request.specs.Fields.{Bad, Good, IsGrammar, Parsed}
+use Rattle.iss_request.specs.Fields.{Bad, Good, IsGrammar, IsReadAgain, Parsed}
 use Rattle.iss_request.specs.Formats.{HasSpelling, parse_request}
 use Rattle.iss_request.specs.declared.requests.Request.{Request}
 use Rattle.iss_request.specs.declared.setups.Setup.{Setup}
 use Rattle.iss_request.proofs.OneSpelling.{request_related}
 use Rattle.iss_request.proofs.ParserLemmas.{test_parts}
-use Rattle.iss_sb.specs.Evidence.{IsReadAgain, Module}
+use Rattle.iss_sb.specs.Evidence.{Module}
 use Rattle.iss_sb.proofs.Read.{read-again}
 use Rattle.iss_model.specs.Formats.{formats_of, message_in, parcel_in, parcel_of_kind, request_in, whole}
 use Rattle.iss_model.specs.Node.{Body, OfModule, OfRequest, Parcel}
@@ -24,12 +24,12 @@ some-same x y h = cc
 none-there : {A : Type 0} (y : A) → None ≡ Some y → ⊥
 none-there y h = cc
 
-routed : (n : ℕ) (bytes : List ℕ) (p : Packet) → whole (parse_packet n bytes) ≡ Some p → is_routed n p ≡ true
+routed : (version n : ℕ) (bytes : List ℕ) (p : Packet) → whole (parse_packet version n bytes) ≡ Some p → is_routed n p ≡ true
 unfolding parse_packet
-routed n bytes p = go (parse_packet n bytes) refl
+routed version n bytes p = go (parse_packet version n bytes) refl
   where
-    go : (r : Parsed Packet) → parse_packet n bytes ≡ r → whole r ≡ Some p → is_routed n p ≡ true
-    go (Good q []) e h = subst (λ (z : Packet). is_routed n z ≡ true) (some-same q p h) (test_parts (is_routed n) parse_parts bytes [] q e).1
+    go : (r : Parsed Packet) → parse_packet version n bytes ≡ r → whole r ≡ Some p → is_routed n p ≡ true
+    go (Good q []) e h = subst (λ (z : Packet). is_routed n z ≡ true) (some-same q p h) (test_parts (is_routed n) (parse_parts version) bytes [] q e).1
     go (Good q (b ∷ rest)) e h = absurd (none-there p h)
     go (Bad at) e h = absurd (none-there p h)
 
@@ -50,7 +50,7 @@ again {A} spell parse grammar bytes x h = go (parse bytes) refl h
 
 -- a request that is read has a spelling
 pub requests-spelled : {Msg : Type 0} (s : Setup) (M : Module Msg) (bytes : List ℕ) (k : Parcel Msg) (q : Request) → (formats_of s M).unwrap bytes ≡ Some k → k.body ≡ OfRequest q → HasSpelling q
-requests-spelled {Msg} s M bytes k q u b = packet (whole (parse_packet s.n bytes)) u
+requests-spelled {Msg} s M bytes k q u b = packet (whole (parse_packet s.version s.n bytes)) u
   where
     no-message : (l : ℕ) (msg : Msg) → OfModule l msg ≡ OfRequest q → ⊥
     no-message l msg e = cc
@@ -73,23 +73,23 @@ requests-spelled {Msg} s M bytes k q u b = packet (whole (parse_packet s.n bytes
         let same : r ≡ q = same-request r (ap (λ (z : Parcel Msg). z.body) (some-same _ k h) ∙ b) in
         subst (λ (z : Request). HasSpelling z) same (spelled p.body r (parse_request p.body) refl e)
 
-    kind : (p : Packet) (kd : PacketKind) → parcel_of_kind M p kd ≡ Some k → HasSpelling q
-    kind p Message h = message p (whole (M.parse p.body)) h
+    kind : (p : Packet) (kd : PacketKind) → parcel_of_kind M s.version p kd ≡ Some k → HasSpelling q
+    kind p Message h = message p (whole (M.parse s.version p.body)) h
     kind p Vote h = absurd (none-there k h)
     kind p Ask h = absurd (none-there k h)
     kind p Piece h = absurd (none-there k h)
     kind p Asked h = request p (whole (parse_request p.body)) refl h
 
-    packet : (o : Option Packet) → parcel_in M o ≡ Some k → HasSpelling q
+    packet : (o : Option Packet) → parcel_in M s.version o ≡ Some k → HasSpelling q
     packet None h = absurd (none-there k h)
     packet (Some p) h = kind p p.kind h
 
-module _ {Msg : Type 0} (s : Setup) (M : Module Msg) (grammar : IsGrammar M.spell M.parse) where
+module _ {Msg : Type 0} (s : Setup) (M : Module Msg) (grammar : (version : ℕ) → IsGrammar (M.spell version) (M.parse version)) where
   abbrev Told : Parcel Msg → Msg → Type 0
-  Told k msg = (k.from < s.n) × IsReadAgain M.spell M.parse msg
+  Told k msg = (k.from < s.n) × IsReadAgain (M.spell s.version) (M.parse s.version) msg
 
   pub are-read : (bytes : List ℕ) (k : Parcel Msg) (l : ℕ) (msg : Msg) → (formats_of s M).unwrap bytes ≡ Some k → k.body ≡ OfModule l msg → Told k msg
-  are-read bytes k l msg u b = packet (whole (parse_packet s.n bytes)) refl u
+  are-read bytes k l msg u b = packet (whole (parse_packet s.version s.n bytes)) refl u
     where
       no-request : (q : Request) → OfRequest q ≡ OfModule l msg → ⊥
       no-request q e = cc
@@ -97,24 +97,24 @@ module _ {Msg : Type 0} (s : Setup) (M : Module Msg) (grammar : IsGrammar M.spel
       same-message : (j : ℕ) (m : Msg) → OfModule j m ≡ OfModule l msg → m ≡ msg
       same-message j m e = cc
 
-      message : (p : Packet) (o : Option Msg) → whole (M.parse p.body) ≡ o → is_routed s.n p ≡ true → p.kind ≡ Message → message_in p o ≡ Some k → Told k msg
+      message : (p : Packet) (o : Option Msg) → whole (M.parse s.version p.body) ≡ o → is_routed s.n p ≡ true → p.kind ≡ Message → message_in p o ≡ Some k → Told k msg
       message p None e r q h = absurd (none-there k h)
       message p (Some m) e r q h = (
         subst (λ (f : ℕ). f < s.n) (ap (λ (z : Parcel Msg). z.from) (some-same _ k h)) (sender s.n p q r),
-        again M.spell M.parse grammar p.body msg (e ∙ ap (λ (z : Msg). Some z) (same-message p.leader m (ap (λ (z : Parcel Msg). z.body) (some-same _ k h) ∙ b))),
+        again (M.spell s.version) (M.parse s.version) (grammar s.version) p.body msg (e ∙ ap (λ (z : Msg). Some z) (same-message p.leader m (ap (λ (z : Parcel Msg). z.body) (some-same _ k h) ∙ b))),
       )
 
       request : (p : Packet) (o : Option Request) → request_in {Msg = Msg} p o ≡ Some k → Told k msg
       request p None h = absurd (none-there k h)
       request p (Some q) h = absurd (no-request q (ap (λ (z : Parcel Msg). z.body) (some-same _ k h) ∙ b))
 
-      kind : (p : Packet) (kd : PacketKind) → is_routed s.n p ≡ true → p.kind ≡ kd → parcel_of_kind M p kd ≡ Some k → Told k msg
-      kind p Message r q h = message p (whole (M.parse p.body)) refl r q h
+      kind : (p : Packet) (kd : PacketKind) → is_routed s.n p ≡ true → p.kind ≡ kd → parcel_of_kind M s.version p kd ≡ Some k → Told k msg
+      kind p Message r q h = message p (whole (M.parse s.version p.body)) refl r q h
       kind p Vote r q h = absurd (none-there k h)
       kind p Ask r q h = absurd (none-there k h)
       kind p Piece r q h = absurd (none-there k h)
       kind p Asked r q h = request p (whole (parse_request p.body)) h
 
-      packet : (o : Option Packet) → whole (parse_packet s.n bytes) ≡ o → parcel_in M o ≡ Some k → Told k msg
+      packet : (o : Option Packet) → whole (parse_packet s.version s.n bytes) ≡ o → parcel_in M s.version o ≡ Some k → Told k msg
       packet None e h = absurd (none-there k h)
-      packet (Some p) e h = kind p p.kind (routed s.n bytes p e) refl h
+      packet (Some p) e h = kind p p.kind (routed s.version s.n bytes p e) refl h

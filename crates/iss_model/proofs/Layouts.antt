@@ -1,20 +1,25 @@
 -- The rules of a good set-up are sound.
-use Rattle.std.proofs.Common.{◌≡◌, inl, inr, ℕ, zero, suc, ◌-◌, ◌*◌, ◌<◌, ◌≤◌, true, false, eqb, ◌||◌, List, [], ◌∷◌, length, Some, refl, sym, ◌∙◌, arith, true≢false}
+use Rattle.std.proofs.Common.{◌≡◌, inl, inr, ℕ, zero, suc, ◌-◌, ◌*◌, ◌+◌, ◌^◌, ◌<◌, ◌≤◌, true, false, eqb, ◌||◌, List, [], ◌∷◌, length, Some, refl, sym, subst, ◌∙◌, arith, true≢false}
 use Rattle.std.proofs.lemmas.Bool.Decides.{leb_tells}
 use Rattle.std.specs.List.{list_any}
 use Rattle.iss_base.specs.Lists.{In}
 use Rattle.iss_base.proofs.Lists.{eqb-same}
+use Rattle.iss_keys.specs.Directories.{node_secret}
+use Rattle.iss_keys.specs.Signatures.{signature_of}
+use Rattle.iss_keys.proofs.DirectoryLemmas.{node-verifies, verified-by}
+use Rattle.iss_request.specs.Formats.{requests_most}
 use Rattle.iss_request.specs.Setup.{AreRising}
 use Rattle.iss_request.specs.declared.ids.NodeId.{NodeId}
+use Rattle.iss_request.specs.declared.ids.Slot.{Slot}
 use Rattle.iss_request.specs.declared.requests.Value.{Value}
 use Rattle.iss_request.specs.declared.setups.Setup.{Setup}
-use Rattle.iss_layout.specs.Layout.{first_slot, node, nodes_below, slot_leader}
-use Rattle.iss_layout.proofs.FairLemmas.{few_nodes, leads_means, length_below, rising_below, segment_ascending, segment_few, some_slot, turn_in}
-use Rattle.iss_sb.specs.Calls.{IsGoodParams}
+use Rattle.iss_layout.specs.Layout.{Plan, first_slot, node, nodes_below, segment, slot_leader}
+use Rattle.iss_layout.proofs.FairLemmas.{few_nodes, leads_means, length_below, rising_below, segment_ascending, segment_few, segment_slots, some_slot, turn_in}
+use Rattle.iss_sb.specs.Calls.{AreBelow, IsGoodParams}
 use Rattle.iss_sb.specs.Evidence.{Module}
-use Rattle.iss_model.specs.Concrete.{number_of, plan_at, rules_of, start_at}
+use Rattle.iss_model.specs.Concrete.{keys_of, least, number_of, plan_at, rules_of, slots_at, start_at}
 use Rattle.iss_model.specs.Ordered.{IsSoundRules}
-use Rattle.iss_model.specs.Past.{before_at, epoch_at}
+use Rattle.iss_model.specs.Past.{before_at, epoch_at, start_by}
 use Rattle.iss_model.specs.Runs.{IsSetupOf}
 use Rattle.iss_model.specs.Sound.{AreAllInside}
 
@@ -28,10 +33,43 @@ leads-of [] l i = absurd i
 leads-of (x ∷ ls) l (inl e) = rw (← e, eqb-same l.0) refl
 leads-of (x ∷ ls) l (inr i) = let k : list_any (λ (x : NodeId). eqb x.0 l.0) ls ≡ true = leads-of ls l i in elim (eqb x.0 l.0) as (λ b. (b || list_any (λ (x : NodeId). eqb x.0 l.0) ls) ≡ true) [ true ↦ refl | false ↦ k ]
 
+least-is : (a b : ℕ) → a ≤ b → least a b ≡ a
+least-is a b h = elim (leb_tells a b) [ inl t ↦ rw t.0 refl | inr t ↦ absurd (omega (arith, t.1, h)) ]
+
+least-low : (a b : ℕ) → least a b ≤ b
+least-low a b = elim (leb_tells a b) [ inl t ↦ rw t.0 t.1 | inr t ↦ rw t.0 (omega arith) ]
+
 -- epochs are of one length as yet
-pub start-times : (s : Setup) (log : List Value) (e : ℕ) → start_at s log e ≡ e * s.epoch
-start-times s log zero = omega arith
-start-times s log (suc e) = let before = start-times s log e in omega (arith, before)
+sums : (s : Setup) (log : List Value) (e : ℕ) → start_by (slots_at s) log e ≡ e * s.epoch
+sums s log zero = omega arith
+sums s log (suc e) = let before = sums s log e in omega (arith, before)
+
+-- so an epoch whose slots are all numbers below 2^64 starts where a multiple of that length is
+pub start-times : (s : Setup) (log : List Value) (e : ℕ) → e * s.epoch + s.epoch ≤ 2 ^ 64 → start_at s log e ≡ e * s.epoch
+start-times s log zero fits = omega arith
+start-times s log (suc e) fits =
+    let sum = sums s log (suc e) in
+    least-is (start_by (slots_at s) log (suc e)) (2 ^ 64 - s.epoch) (omega (arith, sum, fits)) ∙ sum
+
+-- each epoch's slots are
+start-low : (s : Setup) → s.epoch ≤ 64 → (log : List Value) (e : ℕ) → start_at s log e + s.epoch ≤ 2 ^ 64
+start-low s few log zero = omega (arith, few)
+start-low s few log (suc e) =
+    let low = least-low (start_by (slots_at s) log (suc e)) (2 ^ 64 - s.epoch) in
+    omega (arith, few, low)
+
+below-all : (bound : ℕ) (ss : List Slot) → ((x : Slot) → In x ss → x.0 < bound) → AreBelow bound ss
+below-all bound [] h = tt
+below-all bound (x ∷ ss) h = (h x (inl refl), below-all bound ss (λ y i. h y (inr i)))
+
+segment-low : (p : Plan) (l bound : ℕ) → first_slot p + p.slots ≤ bound → AreBelow bound (segment p l)
+segment-low p l bound fits = below-all bound (segment p l)
+    (λ x i. let within = ((segment_slots p l x).0 i).0 in let high = within.1 in omega (arith, high, fits))
+
+-- what a node signs verifies by the rules
+pub own-verifies : (s : Setup) (k q : ℕ) (statement : List ℕ) → s.keys ≤ 12 → q < 2 ^ s.keys → k < s.n → (rules_of s).verifies k statement (signature_of (node_secret k) s.keys q statement) ≡ true
+own-verifies s k q statement high leaf number =
+    (verified-by (keys_of s).nodes k statement (signature_of (node_secret k) s.keys q statement)).1 (node-verifies s.n s.clients s.keys k q statement high leaf number)
 
 module _ {Msg : Type 0} (M : Module Msg) (s : Setup) (h : IsSetupOf M s) where
   some-nodes : 1 ≤ length (nodes_below s.n)
@@ -58,6 +96,8 @@ module _ {Msg : Type 0} (M : Module Msg) (s : Setup) (h : IsSetupOf M s) where
         some = some_slot p (omega (arith, length_below s.n, h.good.epoch_low)) l inside;
         few = omega (arith, segment_few p l, h.good.epoch_high);
         rising = segment_ascending p l;
+        slots_low = segment-low p l (2 ^ 64) (start-low s h.good.epoch_high log e);
+        directory = refl;
       }
 
   pub sound-rules : IsSoundRules s M (rules_of s)
@@ -69,8 +109,8 @@ module _ {Msg : Type 0} (M : Module Msg) (s : Setup) (h : IsSetupOf M s) where
     setup = λ log e l. refl;
     epoch = λ log e l. refl;
     leader = λ log e l. refl;
-    batch = h.good.batch_high;
-    signers = λ k statement sig h. elim (leb_tells (suc k) s.n) [ inl t ↦ t.1 | inr t ↦ absurd (true≢false (sym h ∙ t.0)) ];
+    batch = subst (λ (v : ℕ). s.batch ≤ requests_most v) (sym h.good.version) h.good.batch_high;
+    signers = λ k statement sig v. (verified-by (keys_of s).nodes k statement sig).0 v;
   }
 
 pub all-inside : (s : Setup) → AreAllInside (rules_of s)

@@ -17,7 +17,7 @@ use Rattle.iss_model.specs.Judge.{Judged}
 use Rattle.iss_model.specs.Ordered.{Among, IsSoundRules}
 use Rattle.iss_model.specs.Past.{Past, adopted_at, asked_in, before, log_of, made_in, start_of, takes}
 use Rattle.iss_model.specs.Rules.{Rules}
-use Rattle.iss_model.proofs.Agree.{befores-agree, correct-there, separate-part, world-at}
+use Rattle.iss_model.proofs.Agree.{befores-agree, verifies-there, correct-there, separate-part, world-at}
 use Rattle.iss_model.proofs.Good.{Good, IsClaimed, IsTrue, Voted}
 use Rattle.iss_model.proofs.Kept.{adopted-later, befores, claimed-later, reached-later, sent-later, settled-of, voted-later, world-same}
 use Rattle.iss_model.proofs.Logs.{Later, later-refl, takes-later}
@@ -82,7 +82,7 @@ module _ {Msg : Type 0} (s : Setup) (S : Scheme) (R : Rules) (M : Module Msg) (s
   arrives false st from msg k = record {
     named = k.named;
     read = k.read;
-    verified = λ c inside. subst (λ (t : Setup). c.by.0 < t.n) (sym (sound.setup bf e l)) (sound.signers c.by.0 c.statement c.sig (k.verified c inside));
+    verified = λ c inside. verifies-there s M R sound bf e l mv.leads c (k.verified c inside);
     signed = λ c inside ok. claim_old (record { by = c.by.0; statement = c.statement }) (g.signed (record { by = c.by.0; statement = c.statement }) e l far (k.signed c inside ok) (claim_names from msg c inside));
   }
 

@@ -1,8 +1,8 @@
 -- What an end shows: a forged claim is of a correct node and in no book, and a collision is of two strings of one digest. And
 -- the book has each claim that a correct node sent of its own.
 use Rattle.std.proofs.Common.{◌≡◌, inl, inr, ℕ, Bool, true, false, cond, eqb, not, ◌&&◌, List, [], ◌∷◌, ◌++◌, Some, refl, sym, ap, ◌∙◌, subst, true≢false}
-use Rattle.iss_base.specs.Lists.{In, over}
-use Rattle.iss_base.proofs.Lists.{and-true, eqb-same, first-cases, in_left, in_right, not-true}
+use Rattle.iss_base.specs.Lists.{In, over, same_bytes}
+use Rattle.iss_base.proofs.Lists.{and-true, eqb-same, first-cases, in_left, in_right, not-true, same_bytes-is, same_bytes-refl}
 use Rattle.iss_request.specs.Digest.{digest}
 use Rattle.iss_request.specs.declared.setups.Setup.{Setup}
 use Rattle.iss_sb.specs.declared.effects.Claim.{Claim}
@@ -12,15 +12,14 @@ use Rattle.iss_sb.specs.Evidence.{Module, is_correct}
 use Rattle.iss_model.specs.Cluster.{IsOwn, Signed}
 use Rattle.iss_model.specs.Node.{only_by, own_claims}
 use Rattle.iss_model.specs.Rules.{Rules}
-use Rattle.iss_model.specs.Tested.{Collision, as_signed, collision_in, collision_with, first_forged, has_signed, is_collision, is_forged, same_bytes}
-use Rattle.iss_model.proofs.Tests.{same-is, same-refl}
+use Rattle.iss_model.specs.Tested.{Collision, as_signed, collision_in, collision_with, first_forged, has_signed, is_collision, is_forged}
 
 in-has : (i : ℕ) (statement : List ℕ) (xs : List Signed) → In (record { by = i; statement = statement }) xs → has_signed i statement xs ≡ true
 in-has i statement [] h = absurd h
 in-has i statement (x ∷ xs) (inl q) =
     let by : x.by ≡ i = sym (ap (λ (y : Signed). y.by) q) in
     let is : x.statement ≡ statement = sym (ap (λ (y : Signed). y.statement) q) in
-    rw (by, is, eqb-same i, same-refl statement) refl
+    rw (by, is, eqb-same i, same_bytes-refl statement) refl
 in-has i statement (x ∷ xs) (inr h) = go (eqb x.by i && same_bytes x.statement statement) (in-has i statement xs h)
   where
     go : (b : Bool) → has_signed i statement xs ≡ true → cond b true (has_signed i statement xs) ≡ true
@@ -80,8 +79,8 @@ with-shown x (y ∷ book) a b h = go (is_collision y x) refl h (with-shown x boo
         record {
           is = refl;
           booked = inl refl;
-          same = same-is (digest y) (digest x) k.0;
-          different = λ e. true≢false (sym (subst (λ (t : List ℕ). same_bytes y t ≡ true) e (same-refl y)) ∙ not-true (same_bytes y x) k.1);
+          same = same_bytes-is (digest y) (digest x) k.0;
+          different = λ e. true≢false (sym (subst (λ (t : List ℕ). same_bytes y t ≡ true) e (same_bytes-refl y)) ∙ not-true (same_bytes y x) k.1);
         }
 
     go : (t : Bool) → is_collision y x ≡ t → cond t (Some (Collision y x)) (collision_with x book) ≡ Some (Collision a b) → (collision_with x book ≡ Some (Collision a b) → Collides book x a b) → Collides (y ∷ book) x a b

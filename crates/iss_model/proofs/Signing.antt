@@ -5,8 +5,8 @@ use Rattle.sha2.specs.Sha256.{compress, digest_bytes, first_words, hash_after, r
 use Rattle.iss_base.specs.Lists.{In, set_at}
 use Rattle.iss_base.proofs.Lists.{and-true, first-cases, in_left, in_right, is-eq, set_at-other, some-injective}
 use Rattle.iss_request.specs.Digest.{digest}
-use Rattle.iss_request.specs.Fields.{Bad, Good, Parsed}
-use Rattle.iss_request.specs.Formats.{parse_batch, parse_payload, parse_request, parse_rest, parse_signature, parse_value, spell_batch, spell_request, spell_value}
+use Rattle.iss_request.specs.Fields.{Bad, Good, IsReadAgain, Parsed}
+use Rattle.iss_request.specs.Formats.{count_field, parse_batch, parse_count, parse_payload, parse_request, parse_rest, parse_signature, parse_value, spell_batch, spell_count, spell_request, spell_value}
 use Rattle.iss_request.specs.Parsing.{◌>>=◌, block, byte, digests, done, number, such_that, times}
 use Rattle.iss_request.specs.Setup.{IsGoodSetup}
 use Rattle.iss_request.specs.declared.ids.NodeId.{NodeId}
@@ -23,9 +23,9 @@ use Rattle.iss_sb.specs.declared.effects.Input.TheVariants.{Cast, Receive, Timeo
 use Rattle.iss_sb.specs.declared.effects.Params.{Params}
 use Rattle.iss_sb.specs.declared.effects.To.{To}
 use Rattle.iss_sb.specs.declared.effects.To.TheVariants.{All as To_all, One as To_one}
-use Rattle.iss_sb.specs.Evidence.{Item, Made, Module, Separate, World, accepts, delivered, is_correct, one_or_none}
-use Rattle.iss_sb.specs.Laws.{IsBroadcast, IsLawful, IsSafe}
-use Rattle.iss_sb.specs.Statements.{eight_bytes, head_of}
+use Rattle.iss_sb.specs.Evidence.{IsReadMessage, Item, Made, Module, Separate, World, accepts, delivered, is_correct, one_or_none}
+use Rattle.iss_sb.specs.Laws.{IsBroadcast, IsHeard, IsLawful, IsSafe}
+use Rattle.iss_sb.specs.Statements.{eight_bytes, signature, statement_head}
 use Rattle.iss_sb.proofs.Read.{batch-read}
 use Rattle.iss_model.specs.Checkpoints.{scheme_of}
 use Rattle.iss_model.specs.Cluster.{Cluster, Ended, Moved, Names, Reach, Scheme, Signed, advanced, begin, chain_strings, ends, move, vote_of, vote_statement}
@@ -58,8 +58,14 @@ abbrev pub made_of : Option Word → Made Word
 made_of None = record { sends = []; accepted = None; strings = []; used = 0 }
 made_of (Some w) = record { sends = (To_all, w) ∷ []; accepted = Some w; strings = []; used = 1 }
 
+abbrev pub statement_of : Params → Word → List ℕ
+statement_of p w = statement_head p 9 ++ (1 ∷ (eight_bytes w.0.0 ++ spell_value p.setup.version (Holds w.1)))
+
+-- its bytes have no signature, since that by a node's first leaf is known to all here
 abbrev pub claim_of : Params → ℕ → Word → Claim
-claim_of p from w = record { by = record { 0 = from }; statement = head_of p.setup.tag p.epoch.0 p.leader.0 9 ++ (1 ∷ (eight_bytes w.0.0 ++ spell_value (Holds w.1))); sig = [] }
+claim_of p from w =
+    let statement = statement_of p w in
+    record { by = record { 0 = from }; statement = statement; sig = signature p from 0 statement }
 
 abbrev pub found : ℕ → List Word → Option Value
 found s [] = None
@@ -71,9 +77,9 @@ word_in n (Good Nil rest) = Bad 1
 word_in n (Good (Holds batch) rest) = Good (record { 0 = n }, batch) rest
 word_in n (Bad at) = Bad (suc at)
 
-abbrev pub read_word : List ℕ → Parsed Word
-read_word [] = Bad 0
-read_word (n ∷ bytes) = word_in n (parse_value bytes)
+abbrev pub read_word : ℕ → List ℕ → Parsed Word
+read_word version [] = Bad 0
+read_word version (n ∷ bytes) = word_in n (parse_value version bytes)
 
 abbrev pub signing : Module Word
 signing = record {
@@ -82,13 +88,12 @@ signing = record {
   stopping = false;
   tag = 9;
   signs = λ p. 1;
-  spell = λ w. w.0.0 ∷ spell_value (Holds w.1);
+  spell = λ version w. w.0.0 ∷ spell_value version (Holds w.1);
   parse = read_word;
   claims = λ p from w. claim_of p from w ∷ [];
   asks = λ p me xs input. asks p me input;
   makes = λ p me xs input leaf. made_of (asks p me input);
   decided = λ p me xs s. cond ((me == p.leader.0) && is_slot s p.slots) (found s (accepts xs)) None;
-  Inv = λ p w. Unit {0};
 }
 
 -- its laws
@@ -135,10 +140,26 @@ to_all (Some w) k msg n (inl q) = absurd (to_one (ap (λ (x : To × Word). x.0) 
     to_one e = cc
 to_all (Some w) k msg n (inr h) = absurd h
 
+-- a word whose batch is read again is
+pub word-again : (version : ℕ) (s : Slot) (b : Batch) → IsReadAgain (spell_value version) (parse_value version) (Holds b) → IsReadAgain (signing.spell version) (signing.parse version) (s, b)
+word-again version s b h rest = ap (word_in s.0) (h rest)
+
+cast-sent : (t : Bool) (w : Word) (to : To) (msg : Word) → In {A = To × Word} (to, msg) (made_of (cond t (Some w) None)).sends → msg ≡ w
+cast-sent true w to msg (inl q) = ap (λ (x : To × Word). x.1) q
+cast-sent true w to msg (inr none) = absurd none
+cast-sent false w to msg h = absurd h
+
+pub sent-again : (p : Params) (me : ℕ) (i : Input Word) (to : To) (msg : Word) → IsHeard signing p i → In {A = To × Word} (to, msg) (made_of (asks p me i)).sends → IsReadMessage signing p msg
+sent-again p me (Cast slot batch) to msg heard h =
+    let is = cast-sent ((me == p.leader.0) && is_slot slot.0 p.slots) (slot, batch) to msg h in
+    subst (λ (w : Word). IsReadMessage signing p w) (sym is) (word-again p.setup.version slot batch heard)
+sent-again p me (Receive from word) to msg heard h = absurd h
+sent-again p me Timeout to msg heard h = absurd h
+
 pub lawful : IsLawful signing
 lawful = record {
   names = λ p from msg c inside. elim inside [
-    | inl q ↦ (1 ∷ (eight_bytes msg.0.0 ++ spell_value (Holds msg.1)), ap (λ (d : Claim). d.statement) q)
+    | inl q ↦ (1 ∷ (eight_bytes msg.0.0 ++ spell_value p.setup.version (Holds msg.1)), ap (λ (d : Claim). d.statement) q)
     | inr none ↦ absurd none
   ];
   accepted = λ p me xs i leaf. made-accepted (asks p me i);
@@ -147,6 +168,7 @@ lawful = record {
   asked_within = λ p me xs i x h. asked p me i x h;
   decided_within = λ p me xs s x h. slot-in s p.slots (and-true (me == p.leader.0) (is_slot s.0 p.slots) (passes ((me == p.leader.0) && is_slot s.0 p.slots) (found s.0 (accepts xs)) x h).0).1;
   addressed = λ p me xs i leaf k msg good fits h. to_all (asks p me i) k msg p.setup.n h;
+  read_again = λ p me xs i leaf to msg good low heard came h. sent-again p me i to msg came h;
   few = λ p good. omega arith;
   uses = λ p me xs i leaf good fits. made-used (asks p me i);
 }
@@ -195,15 +217,16 @@ gives p w = record {
 }
 
 pub safe : IsSafe signing
-safe = record { starts = λ p good. tt; keeps = λ p w later good inv move sep. tt; gives = λ p w good inv sep. gives p w }
+safe p w good reached sep = gives p w
 
 -- a cluster of one node, whose epochs have one slot
 
 abbrev pub alone : Setup
-alone = record { «module» = 9; f = 0; epoch = 1; buckets = 1; batch = 4; window = 8; policy = Simple; clients = 1; keys = 4; faulty = []; n = 1; quorum = 1; kind = Byzantine; tag = replicate 32 67 }
+alone = record { version = 1; «module» = 9; f = 0; epoch = 1; buckets = 1; batch = 4; window = 8; policy = Simple; clients = 1; keys = 4; faulty = []; n = 1; quorum = 1; kind = Byzantine; tag = replicate 32 67 }
 
 pub setup-good : IsGoodSetup alone
 setup-good = record {
+  version = refl;
   faults = omega arith;
   relay_faults = λ h. refl;
   relay_kind = λ h. absurd (omega (arith, h));
@@ -279,14 +302,14 @@ begun : Reach alone S R signing first_net
 begun = begin (record { pasts = λ j ok. refl; messages = λ k h. h; book = λ x h. h; root = inl refl })
 
 cast-spelled : S.spells (Holds batch) ≡ true
-unfolding parse_value parse_rest parse_batch parse_request parse_payload parse_signature spell_value spell_batch spell_request ◌>>=◌ such_that byte number block digests times done
+unfolding parse_value parse_rest parse_batch parse_count count_field spell_count parse_request parse_payload parse_signature spell_value spell_batch spell_request ◌>>=◌ such_that byte number block digests times done
 cast-spelled = refl
 
 the-cast : Moved alone S R signing first_net second_net 0 0 casts 0
 the-cast = record {
   correct = refl;
   leads = refl;
-  comes = (refl, batch-read batch (omega arith) (λ q i. elim i [ inl e ↦ rw e refl | inr none ↦ absurd none ]));
+  comes = (refl, batch-read 1 batch (omega arith) (λ q i. elim i [ inl e ↦ rw e refl | inr none ↦ absurd none ]));
   judged = refl;
   here = refl;
   other = λ j ne. set_at-other first_net.pasts 0 after_cast j ne;
@@ -330,11 +353,11 @@ first [] = 0
 first (b ∷ bs) = b
 
 value-first : first (digest value_string) ≡ 111
-unfolding spell_value spell_batch spell_request sha256 digest_bytes hash_after compress rounds schedule first_words
+unfolding spell_value spell_batch spell_count spell_request sha256 digest_bytes hash_after compress rounds schedule first_words
 value-first = refl
 
 link-first : first (digest link_string) ≡ 164
-unfolding spell_value spell_batch spell_request sha256 digest_bytes hash_after compress rounds schedule first_words
+unfolding spell_value spell_batch spell_count spell_request sha256 digest_bytes hash_after compress rounds schedule first_words
 link-first = refl
 
 root-first : first (digest []) ≡ 0
@@ -363,7 +386,7 @@ separate a b (inr (inr (inr none))) q h = absurd none
 
 -- a claim of the instance of leader 0 in epoch 0 is in the book, and the vote at the end of that epoch
 pub claim-booked : In claimed third_net.book × Names alone signing 0 0 claimed.statement
-claim-booked = (inr (inl refl), (1 ∷ (eight_bytes 0 ++ spell_value (Holds batch)), refl))
+claim-booked = (inr (inl refl), (1 ∷ (eight_bytes 0 ++ spell_value 1 (Holds batch)), refl))
 
 pub vote-booked : In voted third_net.book × (voted.statement ≡ vote_statement alone 0 (digest link_string) 1)
 vote-booked = (inl refl, refl)

@@ -296,7 +296,7 @@ module _ {Msg : Type 0} (s : Setup) (F : Formats Msg) (R : Rules) (M : Module Ms
           let m2 : In (record { from = k.from; to = i; epoch = c.past.epoch; leader = l; msg = msg }) nk.messages = subst (λ (n : ℕ). In (record { from = k.from; to = i; epoch = n; leader = l; msg = msg }) nk.messages) e m in
           input-ok l (Receive (record { 0 = k.from }) msg) c.leaf t inp.leads (may-get k.from l msg m2) (λ q z. subst (λ (t : Setup). k.from < t.n) (sym z) (legit k l msg u b).1) inp.judged (ap (λ (z : Turn Msg). z.core.past) inp.is) (ap (λ (z : Turn Msg). z.sends) inp.is) core
       took-ok event t legit core (asked k q u b r) = still-ok t (ap (λ (z : Turn Msg). z.core.past) r.is) (ap (λ (z : Turn Msg). z.sends) r.is) core
-      took-ok event t legit core (cast n r) = input-ok i (Cast n _) c.leaf t r.leads (refl, cast-read R M i c F sound.batch (nk.cores i).spelled) (λ q z. tt) (cast-judged R M i c inside (nk.cores i).sound F law n r.free) (ap (λ (z : Turn Msg). z.core.past) r.is) (ap (λ (z : Turn Msg). z.sends) r.is) core
+      took-ok event t legit core (cast n r) = input-ok i (Cast n _) c.leaf t r.leads (refl, cast-read R M i c F s (params_of R M i c.past i) (sound.setup _ _ _) sound.batch (nk.cores i).spelled) (λ q z. tt) (cast-judged R M i c inside (nk.cores i).sound F law n r.free) (ap (λ (z : Turn Msg). z.core.past) r.is) (ap (λ (z : Turn Msg). z.sends) r.is) core
       took-ok event t legit core (fired l inp) = input-ok l.0 Timeout c.leaf t inp.leads tt (λ q z. tt) inp.judged (ap (λ (z : Turn Msg). z.core.past) inp.is) (ap (λ (z : Turn Msg). z.sends) inp.is) core
 
       pub at-core-ok : (event : NodeEvent) → Legit event → Goes w (at_core s.n F R M w i event).net

@@ -4,6 +4,7 @@ use Rattle.iss_base.specs.Lists.{Extends, In, nth, over}
 use Rattle.iss_base.proofs.Lists.{both, eqb-same, extends-refl, in_append, in_left, in_right, nth-in, not-false, same_or_not, set_at-other, set_at-same}
 use Rattle.iss_network.specs.Network.{Network, due, settled}
 use Rattle.iss_network.specs.declared.packets.Sent.{Sent}
+use Rattle.iss_request.specs.Fields.{IsReadAgain}
 use Rattle.iss_request.specs.declared.requests.Request.{Request}
 use Rattle.iss_request.specs.declared.requests.Value.{Value}
 use Rattle.iss_request.specs.declared.setups.Setup.{Setup}
@@ -207,14 +208,14 @@ module _ {Msg : Type 0} (s : Setup) (F : Formats Msg) (R : Rules) (M : Module Ms
         let read = faithful.told bytes k l msg u b in
         let credible : IsCredible M (params_of R M i c.past l) (IsVerified R) (IsBooked h.signed) k.from msg = record {
           named = subst (λ (t : Setup). k.from < t.n) (sym setup) read.0;
-          read = read.1;
+          read = subst (λ (t : Setup). IsReadAgain (M.spell t.version) (M.parse t.version) msg) (sym setup) read.1;
           verified = λ d m. each-verifies R (claims_at F R M i c event) ver d (rw is m);
           signed = λ d m good. unforged s R h.signed (claims_at F R M i c event) unf d (rw is m) (each-verifies R (claims_at F R M i c event) ver d (rw is m)) (subst (λ (t : Setup). is_correct t d.by.0 ≡ true) setup good);
         } in
         let sent : M.stopping ≡ true → In (record { from = k.from; to = i; epoch = c.past.epoch; leader = l; msg = msg }) ok.messages = λ st. subst (λ (n : ℕ). In (record { from = k.from; to = i; epoch = n; leader = l; msg = msg }) ok.messages) e (comes.legit st k l msg u b) in
         input-fits correct l (Receive (record { 0 = k.from }) msg) c.leaf t inp.leads (may-get M.stopping refl k.from l msg sent credible) credible.named inp.judged (ap (λ (z : Turn Msg). z.core.past) inp.is) (ap (λ (z : Turn Msg). z.own) inp.is) (ap (λ (z : Turn Msg). z.strings) inp.is) (ap (λ (z : Turn Msg). z.sends) inp.is) comes.low core sep
     took-fits event t comes correct unf ver core sep (asked k q u b r) = request-fits t (ap (λ (z : Turn Msg). z.core.past) r.is) (ap (λ (z : Turn Msg). z.own) r.is) (ap (λ (z : Turn Msg). z.sends) r.is) core sep
-    took-fits event t comes correct unf ver core sep (cast n r) = input-fits correct i (Cast n _) c.leaf t r.leads (refl, cast-read R M i c F sound.batch (ok.cores i).spelled) tt (cast-judged R M i c inside (ok.cores i).sound F law n r.free) (ap (λ (z : Turn Msg). z.core.past) r.is) (ap (λ (z : Turn Msg). z.own) r.is) (ap (λ (z : Turn Msg). z.strings) r.is) (ap (λ (z : Turn Msg). z.sends) r.is) comes.low core sep
+    took-fits event t comes correct unf ver core sep (cast n r) = input-fits correct i (Cast n _) c.leaf t r.leads (refl, cast-read R M i c F s (params_of R M i c.past i) (sound.setup _ _ _) sound.batch (ok.cores i).spelled) tt (cast-judged R M i c inside (ok.cores i).sound F law n r.free) (ap (λ (z : Turn Msg). z.core.past) r.is) (ap (λ (z : Turn Msg). z.own) r.is) (ap (λ (z : Turn Msg). z.strings) r.is) (ap (λ (z : Turn Msg). z.sends) r.is) comes.low core sep
     took-fits event t comes correct unf ver core sep (fired l inp) = input-fits correct l.0 Timeout c.leaf t inp.leads tt tt inp.judged (ap (λ (z : Turn Msg). z.core.past) inp.is) (ap (λ (z : Turn Msg). z.own) inp.is) (ap (λ (z : Turn Msg). z.strings) inp.is) (ap (λ (z : Turn Msg). z.sends) inp.is) comes.low core sep
 
     -- a faulty node may take anything

@@ -1,7 +1,7 @@
 -- What the tests of a delivery and of a step say: of claims, of strings, and of a node's own claims in what it sends.
 use Rattle.std.proofs.Common.{◌≡◌, inl, inr, ℕ, Bool, true, false, cond, eqb, not, ◌&&◌, List, [], ◌∷◌, Option, Some, None, refl, sym, ap, ap₂, ◌∙◌, subst, true≢false}
-use Rattle.iss_base.specs.Lists.{In, first_of, over}
-use Rattle.iss_base.proofs.Lists.{and-true, both, eqb-same, in_append, is-eq}
+use Rattle.iss_base.specs.Lists.{In, first_of, over, same_bytes}
+use Rattle.iss_base.proofs.Lists.{and-true, in_append, is-eq, same_bytes-is, same_bytes-refl}
 use Rattle.iss_request.specs.Digest.{digest}
 use Rattle.iss_request.specs.declared.setups.Setup.{Setup}
 use Rattle.iss_sb.specs.declared.effects.Claim.{Claim}
@@ -12,21 +12,9 @@ use Rattle.iss_model.specs.Cluster.{IsOwn, Signed}
 use Rattle.iss_model.specs.Node.{only_by, own_claims}
 use Rattle.iss_model.specs.Ordered.{Among}
 use Rattle.iss_model.specs.Rules.{Rules}
-use Rattle.iss_model.specs.Tested.{all_verify, as_signed, collision_in, collision_with, first_forged, has_signed, is_collision, is_forged, same_bytes}
+use Rattle.iss_model.specs.Tested.{all_verify, as_signed, collision_in, collision_with, first_forged, has_signed, is_collision, is_forged}
 
 -- tests on bytes, claims and strings
-
-pub same-is : (a b : List ℕ) → same_bytes a b ≡ true → a ≡ b
-same-is [] [] h = refl
-same-is [] (y ∷ ys) h = absurd (true≢false (sym h))
-same-is (x ∷ xs) [] h = absurd (true≢false (sym h))
-same-is (x ∷ xs) (y ∷ ys) h =
-    let k = and-true (eqb x y) (same_bytes xs ys) h in
-    ap₂ (λ (z : ℕ) (zs : List ℕ). z ∷ zs) (is-eq x y k.0) (same-is xs ys k.1)
-
-pub same-refl : (a : List ℕ) → same_bytes a a ≡ true
-same-refl [] = refl
-same-refl (x ∷ xs) = both (eqb x x) (same_bytes xs xs) (eqb-same x) (same-refl xs)
 
 pub has-booked : (i : ℕ) (statement : List ℕ) (xs : List Signed) → has_signed i statement xs ≡ true → In (record { by = i; statement = statement }) xs
 has-booked i statement [] h = absurd (true≢false (sym h))
@@ -35,7 +23,7 @@ has-booked i statement (x ∷ xs) h = go (eqb x.by i && same_bytes x.statement s
     go : (b : Bool) → (eqb x.by i && same_bytes x.statement statement) ≡ b → cond b true (has_signed i statement xs) ≡ true → (has_signed i statement xs ≡ true → In (record { by = i; statement = statement }) xs) → In (record { by = i; statement = statement }) (x ∷ xs)
     go true q k ih =
         let y = and-true (eqb x.by i) (same_bytes x.statement statement) q in
-        inl (ap₂ (λ (n : ℕ) (t : List ℕ). record { by = n; statement = t }) (sym (is-eq x.by i y.0)) (sym (same-is x.statement statement y.1)))
+        inl (ap₂ (λ (n : ℕ) (t : List ℕ). record { by = n; statement = t }) (sym (is-eq x.by i y.0)) (sym (same_bytes-is x.statement statement y.1)))
     go false q k ih = inr (ih k)
 
 pub none-left : {A : Type 0} (b : Bool) (x : A) (o : Option A) → cond b (Some x) o ≡ None → (b ≡ false) × (o ≡ None)
@@ -66,7 +54,7 @@ each-verifies R (d ∷ cs) h c (inl q) = rw q (and-true (R.verifies d.by.0 d.sta
 each-verifies R (d ∷ cs) h c (inr i) = each-verifies R cs (and-true (R.verifies d.by.0 d.statement d.sig) (all_verify R cs) h).1 c i
 
 no-collision : (a b : List ℕ) → is_collision a b ≡ false → digest a ≡ digest b → a ≡ b
-no-collision a b h q = same-is a b (not-apart (same_bytes (digest a) (digest b)) (same_bytes a b) h (subst (λ (t : List ℕ). same_bytes (digest a) t ≡ true) q (same-refl (digest a))))
+no-collision a b h q = same_bytes-is a b (not-apart (same_bytes (digest a) (digest b)) (same_bytes a b) h (subst (λ (t : List ℕ). same_bytes (digest a) t ≡ true) q (same_bytes-refl (digest a))))
   where
     not-apart : (x y : Bool) → (x && not y) ≡ false → x ≡ true → y ≡ true
     not-apart true true h q = refl

@@ -20,27 +20,27 @@ whole-spelled spell parse grammar x = elim (grammar.whole x) [
   | inr bad ↦ let b = bad [] in inr (ap whole (ap parse (sym (append-nil (spell x))) ∙ b.1))
 ]
 
-module _ {Msg : Type 0} (s : Setup) (M : Module Msg) (grammar : IsGrammar M.spell M.parse) where
-  read-again : (p : Packet) → (whole (parse_packet s.n (spell_packet p)) ≡ Some p) ⊎ (whole (parse_packet s.n (spell_packet p)) ≡ None)
-  read-again p = whole-spelled spell_packet (parse_packet s.n) (packet_grammar s.n) p
+module _ {Msg : Type 0} (s : Setup) (M : Module Msg) (grammar : (version : ℕ) → IsGrammar (M.spell version) (M.parse version)) where
+  read-again : (p : Packet) → (whole (parse_packet s.version s.n (spell_packet s.version p)) ≡ Some p) ⊎ (whole (parse_packet s.version s.n (spell_packet s.version p)) ≡ None)
+  read-again p = whole-spelled (spell_packet s.version) (parse_packet s.version s.n) (packet_grammar s.version s.n) p
 
   -- of every parcel, in the bounds or not
   pub read-back : (k : Parcel Msg) → IsReadBack (formats_of s M) k
   read-back k = go k.from k.epoch k.body
     where
       go : (from e : ℕ) (b : Body Msg) → IsReadBack (formats_of s M) (record { from = from; epoch = e; body = b })
-      go from e (OfModule l msg) = elim (read-again (packet_as M from e (OfModule l msg))) [
-        | inr none ↦ inr (ap (parcel_in M) none)
-        | inl some ↦ elim (whole-spelled M.spell M.parse grammar msg) [
-          | inl y ↦ inl (ap (parcel_in M) some ∙ ap (message_in (packet_as M from e (OfModule l msg))) y)
-          | inr n ↦ inr (ap (parcel_in M) some ∙ ap (message_in (packet_as M from e (OfModule l msg))) n)
+      go from e (OfModule l msg) = elim (read-again (packet_as M s.version from e (OfModule l msg))) [
+        | inr none ↦ inr (ap (parcel_in M s.version) none)
+        | inl some ↦ elim (whole-spelled (M.spell s.version) (M.parse s.version) (grammar s.version) msg) [
+          | inl y ↦ inl (ap (parcel_in M s.version) some ∙ ap (message_in (packet_as M s.version from e (OfModule l msg))) y)
+          | inr n ↦ inr (ap (parcel_in M s.version) some ∙ ap (message_in (packet_as M s.version from e (OfModule l msg))) n)
         ]
       ]
-      go from e (OfRequest q) = elim (read-again (packet_as M from e (OfRequest q))) [
-        | inr none ↦ inr (ap (parcel_in M) none)
+      go from e (OfRequest q) = elim (read-again (packet_as M s.version from e (OfRequest q))) [
+        | inr none ↦ inr (ap (parcel_in M s.version) none)
         | inl some ↦ elim (whole-spelled spell_request parse_request request_grammar q) [
-          | inl y ↦ inl (ap (parcel_in M) some ∙ ap (request_in (packet_as M from e (OfRequest q))) y)
-          | inr n ↦ inr (ap (parcel_in M) some ∙ ap (request_in (packet_as M from e (OfRequest q))) n)
+          | inl y ↦ inl (ap (parcel_in M s.version) some ∙ ap (request_in (packet_as M s.version from e (OfRequest q))) y)
+          | inr n ↦ inr (ap (parcel_in M s.version) some ∙ ap (request_in (packet_as M s.version from e (OfRequest q))) n)
         ]
       ]
 

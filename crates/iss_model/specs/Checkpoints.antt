@@ -2,7 +2,7 @@
 use Rattle.std.specs.Prelude.{Bool, true, false, ◌&&◌, nat_le, ◌∷◌, ◌++◌, length}
 use Rattle.iss_base.specs.Quorum.{all_below, distinct}
 use Rattle.iss_request.specs.Fields.{Bad, Good, Parsed}
-use Rattle.iss_request.specs.Formats.{parse_value, spell_value}
+use Rattle.iss_request.specs.Formats.{parse_value, spell_value, value_string}
 use Rattle.iss_request.specs.declared.setups.Setup.{Setup}
 use Rattle.iss_model.specs.Cluster.{Scheme}
 
@@ -15,8 +15,8 @@ is_good (Bad at) = false
 abbrev pub scheme_of : Setup → Scheme
 scheme_of s =
     record {
-      spells = λ v. is_good (parse_value (spell_value v));
-      spelled = λ v. 64 ∷ spell_value v;
+      spells = λ v. is_good (parse_value s.version (spell_value s.version v));
+      spelled = λ v. value_string s.version v;
       link = λ before value. 66 ∷ (before ++ value);
       is_quorum = λ ks. all_below s.n ks && (distinct ks && nat_le s.quorum (length ks));
     }

@@ -3,17 +3,15 @@
 use Rattle.std.specs.Prelude.{◌≡◌, ◌≢◌, ◌⊎◌, ℕ, suc, ◌≤◌, Bool, true, false, cond, nat_le, List, [], ◌∷◌, ◌++◌, length, Some, None}
 use Rattle.iss_base.specs.Lists.{Chain, In, over}
 use Rattle.iss_request.specs.Digest.{digest}
-use Rattle.iss_request.specs.Formats.{parse_value, spell_value}
 use Rattle.iss_request.specs.Log.{requests}
 use Rattle.iss_request.specs.declared.requests.Value.{Value}
-use Rattle.iss_request.specs.declared.requests.Value.TheVariants.{Batch as Holds}
 use Rattle.iss_request.specs.declared.setups.Setup.{Setup}
 use Rattle.iss_sb.specs.declared.effects.Claim.{Claim}
 use Rattle.iss_sb.specs.declared.effects.Input.{Input}
 use Rattle.iss_sb.specs.declared.effects.Input.TheVariants.{Cast, Receive, Timeout}
 use Rattle.iss_sb.specs.declared.effects.Params.{Params}
 use Rattle.iss_sb.specs.declared.effects.To.{To}
-use Rattle.iss_sb.specs.Evidence.{IsCredible, IsReadAgain, Module, Reaches, World, delivered, is_correct}
+use Rattle.iss_sb.specs.Evidence.{IsCredible, IsReadBatch, Module, Reaches, World, delivered, is_correct}
 use Rattle.iss_sb.specs.Statements.{eight_bytes, head_of}
 use Rattle.iss_model.specs.Node.{verdict_in}
 use Rattle.iss_model.specs.Past.{Past, Piece, before, before_at, cut_at, epoch_at, leader_at, leads_in, log_of, made_in, newborn, params_at, params_of, start_of, takes}
@@ -104,7 +102,7 @@ MayGet true s R M w i l from msg = In (record { from = from; to = i; epoch = (w.
 MayGet false s R M w i l from msg = IsCredible M (params_of R M i (w.pasts i) l) (IsVerified R) (IsBooked w.book) from msg
 
 abbrev pub MayTake : {Msg : Type 0} → Setup → Rules → Module Msg → Cluster Msg → ℕ → ℕ → Input Msg → Type 0
-MayTake s R M w i l (Cast slot batch) = (i ≡ l) × IsReadAgain spell_value parse_value (Holds batch)
+MayTake s R M w i l (Cast slot batch) = (i ≡ l) × IsReadBatch (params_of R M i (w.pasts i) l) batch
 MayTake s R M w i l (Receive from msg) = MayGet M.stopping s R M w i l from.0 msg
 MayTake s R M w i l Timeout = Unit {0}
 

@@ -1,5 +1,7 @@
 -- The rules of a cluster under its set-up.
-use Rattle.std.specs.Prelude.{ℕ, List, nat_lt, true, Option, Some, None}
+use Rattle.std.specs.Prelude.{ℕ, zero, suc, ◌-◌, ◌^◌, List, cond, nat_le, nat_lt, true, Option, Some, None}
+use Rattle.iss_keys.specs.Directories.{DirectoryView, directory_of}
+use Rattle.iss_keys.specs.VerifiedBy.{is_verified_by}
 use Rattle.iss_layout.specs.Layout.{Plan, bucket_of, bucket_owner, leads, plan_of, segment, slot_leader}
 use Rattle.iss_request.specs.declared.ids.NodeId.{NodeId}
 use Rattle.iss_request.specs.declared.requests.Value.{Value}
@@ -15,15 +17,25 @@ number_of (Some l) = l.0
 abbrev pub slots_at : Setup → List Value → ℕ → ℕ
 slots_at s log e = s.epoch
 
--- where an epoch starts, and its division, by the log before it
-abbrev pub start_at : Setup → List Value → ℕ → ℕ
-start_at s log e = start_by (slots_at s) log e
+abbrev pub least : ℕ → ℕ → ℕ
+least a b = cond (nat_le a b) a b
 
+-- where an epoch starts, by the log before it: the sum of the lengths of those before it. Slots are numbers below 2^64, so
+-- that no epoch is given a start from which it would pass them
+abbrev pub start_at : Setup → List Value → ℕ → ℕ
+start_at s log zero = 0
+start_at s log (suc e) = least (start_by (slots_at s) log (suc e)) (2 ^ 64 - slots_at s log (suc e))
+
+-- its division
 abbrev pub plan_at : Setup → List Value → ℕ → Plan
 plan_at s log e = plan_of s e (start_at s log e) log
 
--- epochs are divided by the layout. A request is signed where its client exists, and a statement where its node does;
--- windows are not there yet, so each number is inside
+-- the keys of all nodes and clients
+abbrev pub keys_of : Setup → DirectoryView
+keys_of s = directory_of s.n s.clients s.keys
+
+-- epochs are divided by the layout, and nodes sign by their keys. A request is signed where its client exists, and windows
+-- are not there yet, so each number is inside
 abbrev pub rules_of : Setup → Rules
 rules_of s =
     record {
@@ -35,6 +47,12 @@ rules_of s =
       signed = λ q. nat_lt q.id.client s.clients;
       inside = λ log e id. true;
       batch = s.batch;
-      verifies = λ k statement sig. nat_lt k s.n;
-      params = λ log e l. record { setup = s; epoch = record { 0 = e }; leader = record { 0 = l }; slots = segment (plan_at s log e) l };
+      verifies = λ k statement sig. is_verified_by (keys_of s).nodes k statement sig;
+      params = λ log e l. record {
+        setup = s;
+        epoch = record { 0 = e };
+        leader = record { 0 = l };
+        slots = segment (plan_at s log e) l;
+        directory = keys_of s;
+      };
     }

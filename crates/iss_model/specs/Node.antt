@@ -1,5 +1,6 @@
 -- One node: what it holds, and one step of it.
 use Rattle.std.specs.Prelude.{ℕ, zero, suc, ◌+◌, ◌-◌, ◌==◌, nat_lt, cond, Bool, false, not, ◌&&◌, ◌||◌, List, [], ◌∷◌, ◌++◌, Option, Some, None, length, is_some, take}
+use Rattle.iss_keys.specs.KeyStates.{left_of}
 use Rattle.iss_request.specs.Log.{has_id, ids, log_ids}
 use Rattle.iss_request.specs.declared.ids.ReqId.{ReqId}
 use Rattle.iss_request.specs.declared.ids.Slot.{Slot}
@@ -12,7 +13,6 @@ use Rattle.iss_sb.specs.declared.effects.Input.TheVariants.{Cast, Receive, Timeo
 use Rattle.iss_sb.specs.declared.effects.Params.{Params}
 use Rattle.iss_sb.specs.declared.effects.To.{To}
 use Rattle.iss_sb.specs.Evidence.{Item, Module, accepts, delivered}
-use Rattle.iss_sb.specs.Keys.{leaves_left}
 use Rattle.iss_model.specs.declared.causes.NodeEvent.{NodeEvent}
 use Rattle.iss_model.specs.declared.causes.NodeEvent.TheVariants.{Packet as Gets, Propose as Proposes, Timeout as Fires}
 use Rattle.iss_model.specs.declared.causes.Refusal.{Refusal}
@@ -125,7 +125,7 @@ by_verdict (Some x) turn = Dropped (Refused x)
 
 -- one leaf is kept for the vote at an epoch's end
 abbrev pub has_leaves : {Msg : Type 0} → Module Msg → Params → ℕ → Bool
-has_leaves M p leaf = not (nat_lt (leaves_left (record { secret = []; height = p.setup.keys; used = leaf })) (suc (M.signs p)))
+has_leaves M p leaf = not (nat_lt (left_of (record { secret = []; height = p.setup.keys; used = leaf })) (suc (M.signs p)))
 
 -- an input in the instance of leader l, where it leads, keys are left and the judge agrees
 abbrev pub at_instance : {Msg : Type 0} → Formats Msg → Rules → Module Msg → ℕ → Core Msg → ℕ → Input Msg → Stepped Msg

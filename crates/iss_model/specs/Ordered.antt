@@ -1,7 +1,9 @@
 -- What holds of every cluster that moves lead to, and what it takes.
 use Rattle.std.specs.Prelude.{◌≡◌, ◌⊎◌, ℕ, ◌<◌, ◌≤◌, true, List, [], ◌∷◌, ◌++◌, length, None}
 use Rattle.iss_base.specs.Lists.{Extends, In}
+use Rattle.iss_keys.specs.Directories.{VerifiesBy, directory_of}
 use Rattle.iss_request.specs.Digest.{digest}
+use Rattle.iss_request.specs.Formats.{requests_most}
 use Rattle.iss_request.specs.Log.{Once}
 use Rattle.iss_request.specs.declared.ids.Slot.{Slot}
 use Rattle.iss_request.specs.declared.requests.Batch.{Batch}
@@ -16,7 +18,8 @@ use Rattle.iss_model.specs.Past.{Past, before, before_at, before_own, epoch_at, 
 use Rattle.iss_model.specs.Rules.{Rules}
 
 -- what the rules of the log owe: epochs have slots, each slot's leader leads its epoch, and a leader's instance is
--- started with good parameters that name it; a batch is no larger than one that has a spelling; what verifies is a node's
+-- started with good parameters that name it; a batch is no larger than one that has a spelling; what verifies is signed by a
+-- node's key
 pub record IsSoundRules {Msg : Type 0} (s : Setup) (M : Module Msg) (R : Rules) : Type 0 where
   pub some_slots : (log : List Value) (e : ℕ) → 0 < R.slots log e
   pub most : (log : List Value) (e : ℕ) → R.slots log e ≤ R.most
@@ -25,8 +28,9 @@ pub record IsSoundRules {Msg : Type 0} (s : Setup) (M : Module Msg) (R : Rules) 
   pub setup : (log : List Value) (e l : ℕ) → (R.params log e l).setup ≡ s
   pub epoch : (log : List Value) (e l : ℕ) → (R.params log e l).epoch.0 ≡ e
   pub leader : (log : List Value) (e l : ℕ) → (R.params log e l).leader.0 ≡ l
-  pub batch : R.batch ≤ 32
-  pub signers : (k : ℕ) (statement sig : List ℕ) → R.verifies k statement sig ≡ true → k < s.n
+  pub batch : R.batch ≤ requests_most s.version
+  pub signers : (k : ℕ) (statement sig : List ℕ) → R.verifies k statement sig ≡ true →
+      VerifiesBy (directory_of s.n s.clients s.keys).nodes k statement sig
 
 -- values and links have one spelling each
 pub record AreChained (S : Scheme) : Type 0 where

@@ -1,5 +1,6 @@
 -- What is promised of every run of a module whose nodes only stop, and what it takes.
 use Rattle.std.specs.Prelude.{◌≡◌, ◌⊎◌, ℕ, ◌<◌, List, [], ◌∷◌, ◌++◌, Some, None, reverse}
+use Rattle.iss_request.specs.Fields.{IsReadAgain}
 use Rattle.iss_request.specs.Formats.{HasSpelling}
 use Rattle.iss_request.specs.Setup.{IsGoodSetup}
 use Rattle.iss_request.specs.declared.requests.Request.{Request}
@@ -10,7 +11,7 @@ use Rattle.iss_schedule.specs.declared.schedules.Event.TheVariants.{Request as A
 use Rattle.iss_sb.specs.declared.effects.Input.{Input}
 use Rattle.iss_sb.specs.declared.effects.Params.{Params}
 use Rattle.iss_sb.specs.Calls.{kind_of}
-use Rattle.iss_sb.specs.Evidence.{IsReadAgain, IsString, Item, Module}
+use Rattle.iss_sb.specs.Evidence.{IsString, Item, Module}
 use Rattle.iss_model.specs.Cluster.{world_of}
 use Rattle.iss_model.specs.Node.{Formats, OfModule, OfRequest, Parcel}
 use Rattle.iss_model.specs.Past.{Past, log_of}
@@ -55,7 +56,7 @@ pub record IsFaithful {Msg : Type 0} (s : Setup) (F : Formats Msg) (M : Module M
   pub requests : (q : Request) → IsReadBack F (record { from = 255; epoch = 0; body = OfRequest q })
   pub asked : (bytes : List ℕ) (k : Parcel Msg) (q : Request) → F.unwrap bytes ≡ Some k → k.body ≡ OfRequest q → HasSpelling q
   pub told : (bytes : List ℕ) (k : Parcel Msg) (l : ℕ) (msg : Msg) → F.unwrap bytes ≡ Some k → k.body ≡ OfModule l msg →
-      (k.from < s.n) × IsReadAgain M.spell M.parse msg
+      (k.from < s.n) × IsReadAgain (M.spell s.version) (M.parse s.version) msg
 
 -- a module that hashes nothing
 abbrev pub HashesNothing : {Msg : Type 0} → Module Msg → Type 0

@@ -1,6 +1,6 @@
 -- A run that is tested: it ends at the first delivery that shows a forged claim, or step that shows a collision.
 use Rattle.std.specs.Prelude.{ℕ, zero, suc, ◌==◌, ◌&&◌, not, cond, Bool, true, false, List, [], ◌∷◌, ◌++◌, Option, Some, None}
-use Rattle.iss_base.specs.Lists.{first_of, nth, over, set_at}
+use Rattle.iss_base.specs.Lists.{first_of, nth, over, same_bytes, set_at}
 use Rattle.iss_network.specs.Network.{cleared, due, held_to, settled}
 use Rattle.iss_network.specs.declared.packets.Sent.{Sent}
 use Rattle.iss_request.specs.Digest.{digest}
@@ -60,12 +60,6 @@ claims_at F R M me c (Fires l) = []
 abbrev pub all_verify : Rules → List Claim → Bool
 all_verify R [] = true
 all_verify R (c ∷ cs) = R.verifies c.by.0 c.statement c.sig && all_verify R cs
-
-abbrev pub same_bytes : List ℕ → List ℕ → Bool
-same_bytes [] [] = true
-same_bytes [] (y ∷ ys) = false
-same_bytes (x ∷ xs) [] = false
-same_bytes (x ∷ xs) (y ∷ ys) = (x == y) && same_bytes xs ys
 
 abbrev pub has_signed : ℕ → List ℕ → List Signed → Bool
 has_signed i statement [] = false

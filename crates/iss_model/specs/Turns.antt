@@ -1,12 +1,10 @@
 -- An event at a node may be many moves of it: it takes an input, ends its epoch and votes, adopts an epoch, and takes what
 -- had come early for the next. Claims are read against the book before the event.
 use Rattle.std.specs.Prelude.{◌≡◌, ℕ, true, List, [], ◌∷◌, ◌++◌, length, None}
-use Rattle.iss_request.specs.Formats.{parse_value, spell_value}
-use Rattle.iss_request.specs.declared.requests.Value.TheVariants.{Batch as Holds}
 use Rattle.iss_request.specs.declared.setups.Setup.{Setup}
 use Rattle.iss_sb.specs.declared.effects.Input.{Input}
 use Rattle.iss_sb.specs.declared.effects.Input.TheVariants.{Cast, Receive, Timeout}
-use Rattle.iss_sb.specs.Evidence.{IsCredible, IsReadAgain, Module}
+use Rattle.iss_sb.specs.Evidence.{IsCredible, IsReadBatch, Module}
 use Rattle.iss_model.specs.Cluster.{AllSpelled, AreVotes, Cert, IsBooked, IsVerified, Scheme, Signed, adopted_log, adopts, advanced, chain, chain_strings, is_complete, signers, vote_of}
 use Rattle.iss_model.specs.Node.{own_claims, verdict_in}
 use Rattle.iss_model.specs.Past.{Past, Piece, before, leads_in, log_of, made_in, params_of, takes}
@@ -36,7 +34,7 @@ hashes_at S R M i c (Adopts piece cert) = chain_strings S (adopted_log R M i c p
 
 -- what may come, by this book
 abbrev pub MayHear : {Msg : Type 0} → Rules → Module Msg → List Signed → ℕ → Past Msg → ℕ → Input Msg → Type 0
-MayHear R M book i c l (Cast slot batch) = (i ≡ l) × IsReadAgain spell_value parse_value (Holds batch)
+MayHear R M book i c l (Cast slot batch) = (i ≡ l) × IsReadBatch (params_of R M i c l) batch
 MayHear R M book i c l (Receive from msg) = IsCredible M (params_of R M i c l) (IsVerified R) (IsBooked book) from.0 msg
 MayHear R M book i c l Timeout = Unit {0}
 
