@@ -3,7 +3,7 @@ use Rattle.std.specs.List.{remove}
 use Rattle.std.proofs.lemmas.Option.{same_Some, slice_get_within}
 use Rattle.std.proofs.lemmas.List.{take_all, drop_all, take-append-drop, append-nil}
 use Rattle.iss_request.specs.declared.requests.Request.{Request}
-use Rattle.iss_buckets.specs.Waiting.{cut_of, left_of}
+use Rattle.iss_buckets.specs.Waiting.{cut, uncut}
 
 -- ---- a list at a place
 
@@ -31,36 +31,38 @@ module _ {X : Type 0} where
 
 -- ---- the steps of a cut
 
-cut_of-hit : (p : Request → Bool) (n : ℕ) (x : Request) (r : List Request) → p x ≡ true → cut_of p (suc n) (x ∷ r) ≡ x ∷ cut_of p n r
-unfolding cut_of
-cut_of-hit p n x r h = rw h
+cut-hit : (p : Request → Bool) (n : ℕ) (x : Request) (r : List Request) → p x ≡ true → cut (suc n) p (x ∷ r) ≡ x ∷ cut n p r
+cut-hit p n x r h = rw h
 
-cut_of-miss : (p : Request → Bool) (n : ℕ) (x : Request) (r : List Request) → p x ≡ false → cut_of p (suc n) (x ∷ r) ≡ cut_of p (suc n) r
-unfolding cut_of
-cut_of-miss p n x r h = rw h
+cut-miss : (p : Request → Bool) (n : ℕ) (x : Request) (r : List Request) → p x ≡ false → cut (suc n) p (x ∷ r) ≡ cut (suc n) p r
+cut-miss p n x r h = rw h
 
-left_of-hit : (p : Request → Bool) (n : ℕ) (x : Request) (r : List Request) → p x ≡ true → left_of p (suc n) (x ∷ r) ≡ left_of p n r
-unfolding left_of
-left_of-hit p n x r h = rw h
+uncut-hit : (p : Request → Bool) (n : ℕ) (x : Request) (r : List Request) → p x ≡ true → uncut (suc n) p (x ∷ r) ≡ uncut n p r
+uncut-hit p n x r h = rw h
 
-left_of-miss : (p : Request → Bool) (n : ℕ) (x : Request) (r : List Request) → p x ≡ false → left_of p (suc n) (x ∷ r) ≡ x ∷ left_of p (suc n) r
-unfolding left_of
-left_of-miss p n x r h = rw h
+uncut-miss : (p : Request → Bool) (n : ℕ) (x : Request) (r : List Request) → p x ≡ false → uncut (suc n) p (x ∷ r) ≡ x ∷ uncut (suc n) p r
+uncut-miss p n x r h = rw h
 
-cut_of-nil : (p : Request → Bool) (n : ℕ) → cut_of p n [] ≡ []
-unfolding cut_of
-cut_of-nil p zero = refl
-cut_of-nil p (suc n) = refl
+cut-nil : (p : Request → Bool) (n : ℕ) → cut n p [] ≡ []
+cut-nil p zero = refl
+cut-nil p (suc n) = refl
 
-left_of-nil : (p : Request → Bool) (n : ℕ) → left_of p n [] ≡ []
-unfolding left_of
-left_of-nil p zero = refl
-left_of-nil p (suc n) = refl
+uncut-nil : (p : Request → Bool) (n : ℕ) → uncut n p [] ≡ []
+uncut-nil p zero = refl
+uncut-nil p (suc n) = refl
+
+cut-zero : (p : Request → Bool) (qs : List Request) → cut 0 p qs ≡ []
+cut-zero p [] = refl
+cut-zero p (q ∷ qs) = refl
+
+uncut-zero : (p : Request → Bool) (qs : List Request) → uncut 0 p qs ≡ qs
+uncut-zero p [] = refl
+uncut-zero p (q ∷ qs) = refl
 
 -- where a cut stands: what it has taken, the place, and the entries
 pub record Cuts (p : Request → Bool) (m : ℕ) (old out : List Request) (i : ℕ) (es : List Request) : Type 0 where
-  pub taken : out ++ cut_of p (m - length out) (drop i es) ≡ cut_of p m old
-  pub left : take i es ++ left_of p (m - length out) (drop i es) ≡ left_of p m old
+  pub taken : out ++ cut (m - length out) p (drop i es) ≡ cut m p old
+  pub left : take i es ++ uncut (m - length out) p (drop i es) ≡ uncut m p old
 
 pub cuts_start : (p : Request → Bool) (m : ℕ) (old : List Request) → Cuts p m old [] 0 old
 cuts_start p m old = let e : m - 0 ≡ m = omega arith in record { taken = rw e; left = rw e }
@@ -72,10 +74,10 @@ cuts_hit p m old out i es x lt at hit c =
     let here = drop_here es i x at in
     let within : i ≤ length es = let w = slice_get_within es i x at in omega arith in
     record {
-      taken = rw (drop_removed es i within, append_assoc out (x ∷ []) (cut_of p (m - length (out ++ x ∷ [])) (drop (suc i) es)))
-          (rw (n, here, cut_of-hit p (m - length (out ++ x ∷ [])) x (drop (suc i) es) hit) at c.taken);
+      taken = rw (drop_removed es i within, append_assoc out (x ∷ []) (cut (m - length (out ++ x ∷ [])) p (drop (suc i) es)))
+          (rw (n, here, cut-hit p (m - length (out ++ x ∷ [])) x (drop (suc i) es) hit) at c.taken);
       left = rw (drop_removed es i within, take_removed es i within)
-          (rw (n, here, left_of-hit p (m - length (out ++ x ∷ [])) x (drop (suc i) es) hit) at c.left);
+          (rw (n, here, uncut-hit p (m - length (out ++ x ∷ [])) x (drop (suc i) es) hit) at c.left);
     }
 
 pub cuts_miss : (p : Request → Bool) (m : ℕ) (old out : List Request) (i : ℕ) (es : List Request) (x : Request) → length out < m
@@ -84,22 +86,21 @@ cuts_miss p m old out i es x lt at miss c =
     let n : m - length out ≡ suc (m - length out - 1) = omega arith in
     let here = drop_here es i x at in
     record {
-      taken = rw add-one (rw (here, n, cut_of-miss p (m - length out - 1) x (drop (suc i) es) miss, ← n) at c.taken);
-      left = rw (add-one, take_more es i x at, append_assoc (take i es) (x ∷ []) (left_of p (m - length out) (drop (suc i) es)))
-          (rw (here, n, left_of-miss p (m - length out - 1) x (drop (suc i) es) miss, ← n) at c.left);
+      taken = rw add-one (rw (here, n, cut-miss p (m - length out - 1) x (drop (suc i) es) miss, ← n) at c.taken);
+      left = rw (add-one, take_more es i x at, append_assoc (take i es) (x ∷ []) (uncut (m - length out) p (drop (suc i) es)))
+          (rw (here, n, uncut-miss p (m - length out - 1) x (drop (suc i) es) miss, ← n) at c.left);
     }
 
 -- at the end
 pub cuts_end : (p : Request → Bool) (m : ℕ) (old out : List Request) (i : ℕ) (es : List Request) → length es ≤ i → Cuts p m old out i es
-    → (out ≡ cut_of p m old) × (es ≡ left_of p m old)
+    → (out ≡ cut m p old) × (es ≡ uncut m p old)
 cuts_end p m old out i es past c =
     let none : drop i es ≡ [] = drop_all i es past in
     let all : take i es ≡ es = take_all i es past in
-    (sym (append-nil out) ∙ rw (none, cut_of-nil p (m - length out)) at c.taken, sym (append-nil es) ∙ rw (none, all, left_of-nil p (m - length out)) at c.left)
+    (sym (append-nil out) ∙ rw (none, cut-nil p (m - length out)) at c.taken, sym (append-nil es) ∙ rw (none, all, uncut-nil p (m - length out)) at c.left)
 
 pub cuts_full : (p : Request → Bool) (m : ℕ) (old out : List Request) (i : ℕ) (es : List Request) → m ≤ length out → Cuts p m old out i es
-    → (out ≡ cut_of p m old) × (es ≡ left_of p m old)
-unfolding cut_of left_of
+    → (out ≡ cut m p old) × (es ≡ uncut m p old)
 cuts_full p m old out i es full c =
     let n : m - length out ≡ 0 = omega arith in
-    (sym (append-nil out) ∙ rw n at c.taken, sym (take-append-drop i es) ∙ rw n at c.left)
+    (sym (append-nil out) ∙ rw (n, cut-zero p (drop i es)) at c.taken, sym (take-append-drop i es) ∙ rw (n, uncut-zero p (drop i es)) at c.left)

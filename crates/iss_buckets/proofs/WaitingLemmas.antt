@@ -9,7 +9,7 @@ use Rattle.iss_request.specs.Log.{same_id, has_id, ids}
 use Rattle.iss_request.specs.declared.ids.ReqId.{ReqId}
 use Rattle.iss_request.specs.declared.requests.Request.{Request}
 use Rattle.iss_layout.specs.Layout.{Plan, is_node, bucket_owner, bucket_of}
-use Rattle.iss_buckets.specs.Waiting.{waits, may_cast, cut_of, left_of, without, AreKeyed}
+use Rattle.iss_buckets.specs.Waiting.{waits, may_cast, cut, uncut, absent, AreKeyed}
 
 Entry : Type 0
 Entry = ReqId × Request
@@ -125,18 +125,18 @@ different (e ∷ es) h d = (
 test_same : (id : ReqId) (e : ReqId × Request) → e.0 ≡ e.1.id → (same_id e.1.id id || false) ≡ same_id id e.0
 test_same id e h = or_false (same_id e.1.id id) ∙ same_flip e.1.id id ∙ ap (λ k. same_id id k) (sym h)
 
-stay : (id : ReqId) (es : List (ReqId × Request)) → AreKeyed es → AllByRecursion (λ k. same_id id k ≡ false) (keys_of es) → without (id ∷ []) (values_of es) ≡ values_of es
+stay : (id : ReqId) (es : List (ReqId × Request)) → AreKeyed es → AllByRecursion (λ k. same_id id k ≡ false) (keys_of es) → absent (id ∷ []) (values_of es) ≡ values_of es
 stay id [] h all = refl
 stay id (e ∷ es) h all = rw (test_same id e h.0 ∙ all.0) (ap (λ qs. e.1 ∷ qs) (stay id es h.1 all.1))
 
 pub removed_one : (id : ReqId) (es : List (ReqId × Request)) → AreKeyed es → IsDistinct (λ a b. same_id a b) (keys_of es)
-    → values_of (remove_entry (λ k. same_id id k) es) ≡ without (id ∷ []) (values_of es)
+    → values_of (remove_entry (λ k. same_id id k) es) ≡ absent (id ∷ []) (values_of es)
 removed_one id [] h d = refl
 removed_one id (e ∷ es) h d =
     rw (test_same id e h.0) (go (same_id id e.0) refl (removed_one id es h.1 (IsDistinct-tail (λ a b. same_id a b) e.0 (keys_of es) d)))
   where
-    go : (b : Bool) → same_id id e.0 ≡ b → values_of (remove_entry (λ k. same_id id k) es) ≡ without (id ∷ []) (values_of es)
-        → values_of (cond b es (e ∷ remove_entry (λ k. same_id id k) es)) ≡ cond b (without (id ∷ []) (values_of es)) (e.1 ∷ without (id ∷ []) (values_of es))
+    go : (b : Bool) → same_id id e.0 ≡ b → values_of (remove_entry (λ k. same_id id k) es) ≡ absent (id ∷ []) (values_of es)
+        → values_of (cond b es (e ∷ remove_entry (λ k. same_id id k) es)) ≡ cond b (absent (id ∷ []) (values_of es)) (e.1 ∷ absent (id ∷ []) (values_of es))
     go true is rest =
         let here = same_means id e.0 is in
         sym (stay id es h.1 (subst (λ (x : ReqId). AllByRecursion (λ k. same_id x k ≡ false) (keys_of es)) (sym here) (IsDistinct-head (λ a b. same_id a b) e.0 (keys_of es) d)))
@@ -154,16 +154,16 @@ pub ids_more : (qs : List Request) (q : Request) → ids (qs ++ q ∷ []) ≡ id
 ids_more [] q = refl
 ids_more (x ∷ qs) q = ap (λ is. x.id ∷ is) (ids_more qs q)
 
-pub without_none : (qs : List Request) → without [] qs ≡ qs
-without_none [] = refl
-without_none (q ∷ qs) = ap (λ rest. q ∷ rest) (without_none qs)
+pub absent_none : (qs : List Request) → absent [] qs ≡ qs
+absent_none [] = refl
+absent_none (q ∷ qs) = ap (λ rest. q ∷ rest) (absent_none qs)
 
-pub without_more : (gone : List ReqId) (x : ReqId) (qs : List Request) → without (gone ++ x ∷ []) qs ≡ without (x ∷ []) (without gone qs)
-without_more gone x [] = refl
-without_more gone x (q ∷ qs) = rw (has_both q.id gone (x ∷ [])) (go (has_id q.id gone) (without_more gone x qs))
+pub absent_more : (gone : List ReqId) (x : ReqId) (qs : List Request) → absent (gone ++ x ∷ []) qs ≡ absent (x ∷ []) (absent gone qs)
+absent_more gone x [] = refl
+absent_more gone x (q ∷ qs) = rw (has_both q.id gone (x ∷ [])) (go (has_id q.id gone) (absent_more gone x qs))
   where
-    go : (b : Bool) → without (gone ++ x ∷ []) qs ≡ without (x ∷ []) (without gone qs)
-        → cond (b || (same_id q.id x || false)) (without (gone ++ x ∷ []) qs) (q ∷ without (gone ++ x ∷ []) qs) ≡ without (x ∷ []) (cond b (without gone qs) (q ∷ without gone qs))
+    go : (b : Bool) → absent (gone ++ x ∷ []) qs ≡ absent (x ∷ []) (absent gone qs)
+        → cond (b || (same_id q.id x || false)) (absent (gone ++ x ∷ []) qs) (q ∷ absent (gone ++ x ∷ []) qs) ≡ absent (x ∷ []) (cond b (absent gone qs) (q ∷ absent gone qs))
     go true rest = rest
     go false rest = ap (λ qs. cond (same_id q.id x || false) qs (q ∷ qs)) rest
 
@@ -182,17 +182,17 @@ marks_more keys now done x id is so_far =
     swap false false = refl
 
 pub cut_same : (p : Plan) (owner n : ℕ) (a b : List ReqId) (qs : List Request) → ((id : ReqId) → has_id id a ≡ has_id id b)
-    → (cut_of (may_cast p owner a) n qs ≡ cut_of (may_cast p owner b) n qs) × (left_of (may_cast p owner a) n qs ≡ left_of (may_cast p owner b) n qs)
+    → (cut n (may_cast p owner a) qs ≡ cut n (may_cast p owner b) qs) × (uncut n (may_cast p owner a) qs ≡ uncut n (may_cast p owner b) qs)
 cut_same p owner n a b qs same =
     let tests : may_cast p owner a ≡ may_cast p owner b = λ i q. is_node owner (bucket_owner p (bucket_of p q.id)) && not (same q.id i) in
-    (ap (λ (f : Request → Bool). cut_of f n qs) tests, ap (λ (f : Request → Bool). left_of f n qs) tests)
+    (ap (λ (f : Request → Bool). cut n f qs) tests, ap (λ (f : Request → Bool). uncut n f qs) tests)
 
 pub dropped_more : (old now next batch : List Request) (i : ℕ) (x : Request) → i < length batch → x ≡ get_or batch i x
-    → now ≡ without (ids (take i batch)) old → next ≡ without (x.id ∷ []) now → next ≡ without (ids (take (i + 1) batch)) old
+    → now ≡ absent (ids (take i batch)) old → next ≡ absent (x.id ∷ []) now → next ≡ absent (ids (take (i + 1) batch)) old
 dropped_more old now next batch i x within item so_far is =
     let more : take (i + 1) batch ≡ take i batch ++ x ∷ [] = take_more batch i x within ∙ ap (λ y. take i batch ++ y ∷ []) (sym item) in
-    is ∙ ap (λ qs. without (x.id ∷ []) qs) so_far ∙ sym (without_more (ids (take i batch)) x.id old)
-    ∙ ap (λ is. without is old) (sym (ids_more (take i batch) x)) ∙ ap (λ qs. without (ids qs) old) (sym more)
+    is ∙ ap (λ qs. absent (x.id ∷ []) qs) so_far ∙ sym (absent_more (ids (take i batch)) x.id old)
+    ∙ ap (λ is. absent is old) (sym (ids_more (take i batch) x)) ∙ ap (λ qs. absent (ids qs) old) (sym more)
 
 pub marked_more : (keys now marked : List ReqId) (i : ℕ) (d id : ReqId) → i < length marked
     → list_any (λ k. same_id id k) now ≡ cond (same_id (get_or marked i d) id) true (list_any (λ k. same_id id k) keys)

@@ -1,5 +1,5 @@
 -- Waiting requests: a list in the order of arrival, no identity twice.
-use Rattle.std.specs.Prelude.{◌≡◌, ◌&&◌, not, ℕ, zero, suc, Bool, false, List, [], ◌∷◌, ◌++◌, if◌then◌else◌}
+use Rattle.std.specs.Prelude.{◌≡◌, ◌&&◌, not, ℕ, zero, suc, Bool, cond, false, List, [], ◌∷◌, ◌++◌}
 use Rattle.iss_request.specs.Log.{has_id, ids}
 use Rattle.iss_request.specs.declared.ids.ReqId.{ReqId}
 use Rattle.iss_request.specs.declared.requests.Request.{Request}
@@ -13,22 +13,21 @@ waits id qs = has_id id (ids qs)
 abbrev pub may_cast : Plan → ℕ → List ReqId → Request → Bool
 may_cast p owner marked q = is_node owner (bucket_owner p (bucket_of p q.id)) && not (has_id q.id marked)
 
--- the first n requests that pass a test
-unfoldable pub cut_of : (Request → Bool) → ℕ → List Request → List Request
-cut_of p zero qs = []
-cut_of p (suc n) [] = []
-cut_of p (suc n) (q ∷ qs) = if p q then q ∷ cut_of p n qs else cut_of p (suc n) qs
+-- the first n requests that pass a test, and what they leave
+abbrev pub cut : ℕ → (Request → Bool) → List Request → List Request
+cut n passes [] = []
+cut zero passes (q ∷ qs) = []
+cut (suc n) passes (q ∷ qs) = cond (passes q) (q ∷ cut n passes qs) (cut (suc n) passes qs)
 
--- all but these
-unfoldable pub left_of : (Request → Bool) → ℕ → List Request → List Request
-left_of p zero qs = qs
-left_of p (suc n) [] = []
-left_of p (suc n) (q ∷ qs) = if p q then left_of p n qs else q ∷ left_of p (suc n) qs
+abbrev pub uncut : ℕ → (Request → Bool) → List Request → List Request
+uncut n passes [] = []
+uncut zero passes (q ∷ qs) = q ∷ qs
+uncut (suc n) passes (q ∷ qs) = cond (passes q) (uncut n passes qs) (q ∷ uncut (suc n) passes qs)
 
--- the requests with other identities than these
-abbrev pub without : List ReqId → List Request → List Request
-without gone [] = []
-without gone (q ∷ qs) = if has_id q.id gone then without gone qs else q ∷ without gone qs
+-- the requests whose identity is not among these
+abbrev pub absent : List ReqId → List Request → List Request
+absent gone [] = []
+absent gone (q ∷ qs) = cond (has_id q.id gone) (absent gone qs) (q ∷ absent gone qs)
 
 -- no two of the requests have one identity, and none of them waits
 abbrev pub AreNew : List Request → List Request → Type 0

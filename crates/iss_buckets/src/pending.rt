@@ -4,7 +4,7 @@ ghost use Rattle.std.specs.Map.{values_of};
 ghost use Rattle.iss_base.specs.Lists.{Different};
 ghost use Rattle.iss_request.specs.Log.{has_id, ids};
 ghost use Rattle.iss_request.specs.declared.ids.ReqId.{ReqId};
-ghost use Rattle.iss_buckets.specs.Waiting.{waits, may_cast, cut_of, left_of, without, AreNew, AreKeyed};
+ghost use Rattle.iss_buckets.specs.Waiting.{waits, may_cast, cut, uncut, absent, AreNew, AreKeyed};
 
 use indexmap::IndexMap;
 use iss_layout::Layout;
@@ -80,8 +80,8 @@ impl Pending {
         marked: &[ReqId],
         max: usize,
     ) -> Result<Batch, NoMemory>
-        ensures taken { IfOk result (λ batch. batch ≡ cut_of (may_cast layout.now owner.0 marked.now) max self.old) }
-        ensures left { OnOk result (self.new ≡ left_of (may_cast layout.now owner.0 marked.now) max self.old) }
+        ensures taken { IfOk result (λ batch. batch ≡ cut max (may_cast layout.now owner.0 marked.now) self.old) }
+        ensures left { OnOk result (self.new ≡ uncut max (may_cast layout.now owner.0 marked.now) self.old) }
         ensures err { OnErr result (self.new ≡ self.old) }
     {
         let marks = marks_of(alloc, marked)?;
@@ -100,7 +100,7 @@ impl Pending {
 
     /// Takes out the requests that have an identity of the batch.
     pub fn drop_ordered(&mut self, batch: &Batch)
-        ensures { self.new ≡ without (ids batch.now) self.old }
+        ensures { self.new ≡ absent (ids batch.now) self.old }
     {
         drop_all(&mut self.requests, batch.as_slice());
     }
@@ -140,7 +140,7 @@ fn copy_all(requests: &mut IndexMap<ReqId, Request>, batch: &[Request]) -> Resul
 
 fn drop_all(requests: &mut IndexMap<ReqId, Request>, batch: &[Request])
     requires { AreKeyed requests.old.entries }
-    ensures gone { values_of requests.new.entries ≡ without (ids batch.now) (values_of requests.old.entries) }
+    ensures gone { values_of requests.new.entries ≡ absent (ids batch.now) (values_of requests.old.entries) }
     ensures keyed { AreKeyed requests.new.entries }
 {
     for request in batch {
@@ -150,7 +150,7 @@ fn drop_all(requests: &mut IndexMap<ReqId, Request>, batch: &[Request])
 
 fn drop_one(requests: &mut IndexMap<ReqId, Request>, id: ReqId)
     requires { AreKeyed requests.old.entries }
-    ensures gone { values_of requests.new.entries ≡ without (id ∷ []) (values_of requests.old.entries) }
+    ensures gone { values_of requests.new.entries ≡ absent (id ∷ []) (values_of requests.old.entries) }
     ensures keyed { AreKeyed requests.new.entries }
 {
     // no key stands twice
@@ -186,8 +186,8 @@ fn cut_from(
     requires keyed { AreKeyed requests.old.entries }
     requires empty { out.old.items ≡ [] }
     requires room { max ≤ vec_capacity out.old }
-    ensures taken { out.new.items ≡ cut_of (may_cast layout.now owner.0 marks.now.keys) max (values_of requests.old.entries) }
-    ensures left { values_of requests.new.entries ≡ left_of (may_cast layout.now owner.0 marks.now.keys) max (values_of requests.old.entries) }
+    ensures taken { out.new.items ≡ cut max (may_cast layout.now owner.0 marks.now.keys) (values_of requests.old.entries) }
+    ensures left { values_of requests.new.entries ≡ uncut max (may_cast layout.now owner.0 marks.now.keys) (values_of requests.old.entries) }
     ensures keyed { AreKeyed requests.new.entries }
 {
     let mut i = 0;

@@ -19,6 +19,7 @@ fn request(alloc: Global, number: u32) -> Request {
 
 fn layout(alloc: Global) -> Layout {
     let setup = Setup {
+        version: 1,
         module: 1,
         f: 0,
         epoch: 6,

@@ -1,8 +1,4 @@
-//! The top call over sources and sinks that fail, and the calls below it, each of which some module has to be given.
-mod nodes;
-mod played;
-mod replays;
-mod worlds;
+//! The top call over sources and sinks that fail.
 
 use crate::{FailingSink, FailingSource, MemorySink, MemorySource, Script, run};
 use std::alloc::{AllocError, Global};

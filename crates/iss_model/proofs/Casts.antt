@@ -21,7 +21,8 @@ use Rattle.iss_sb.specs.Laws.{IsLawful}
 use Rattle.iss_sb.proofs.Read.{batch-read}
 use Rattle.iss_model.specs.declared.causes.NodeEvent.{NodeEvent}
 use Rattle.iss_model.specs.Judge.{judge, marks}
-use Rattle.iss_model.specs.Node.{Core, Formats, OfRequest, Parcel, Taken, Turn, cut, first_slot, flown, has_slot, idle, inputs, is_castable, is_mine, joined, next_slot, step, uncut, verdict}
+use Rattle.iss_buckets.specs.Waiting.{cut, uncut}
+use Rattle.iss_model.specs.Node.{Core, Formats, OfRequest, Parcel, Taken, Turn, first_slot, flown, has_slot, idle, inputs, is_castable, is_mine, joined, next_slot, step, verdict}
 use Rattle.iss_model.specs.Past.{asked_in, before, grow, log_of, newborn, params_of, start_of, takes}
 use Rattle.iss_model.specs.Rules.{Rules}
 use Rattle.iss_model.specs.Sound.{AreAllInside, IsReadyCore, IsSoundCore}

@@ -13,7 +13,8 @@ use Rattle.iss_model.specs.declared.causes.NodeEvent.TheVariants.{Packet as Gets
 use Rattle.iss_model.specs.declared.causes.Refusal.{Refusal}
 use Rattle.iss_model.specs.declared.causes.Why.{Why}
 use Rattle.iss_model.specs.declared.causes.Why.TheVariants.{BadRequest, Known, NoKeys, NotLeader, OtherEpoch}
-use Rattle.iss_model.specs.Node.{Body, Core, Dropped, Formats, OfModule, OfRequest, Parcel, Stepped, Taken, Turn, at_instance, by_verdict, casts_at, cut, has_leaves, inputs, is_known, is_mine, next_slot, step, takes_bytes, takes_parcel, takes_request, uncut, verdict}
+use Rattle.iss_buckets.specs.Waiting.{cut, uncut}
+use Rattle.iss_model.specs.Node.{Body, Core, Dropped, Formats, OfModule, OfRequest, Parcel, Stepped, Taken, Turn, at_instance, by_verdict, casts_at, has_leaves, inputs, is_known, is_mine, next_slot, step, takes_bytes, takes_parcel, takes_request, verdict}
 use Rattle.iss_model.specs.Past.{asked_in, before, params_of}
 use Rattle.iss_model.specs.Rules.{Rules}
 

@@ -1,6 +1,7 @@
 -- One node: what it holds, and one step of it.
-use Rattle.std.specs.Prelude.{ℕ, zero, suc, ◌+◌, ◌-◌, ◌==◌, nat_lt, cond, Bool, false, not, ◌&&◌, ◌||◌}
+use Rattle.std.specs.Prelude.{ℕ, suc, ◌+◌, ◌-◌, ◌==◌, nat_lt, cond, Bool, false, not, ◌&&◌, ◌||◌}
 use Rattle.std.specs.Prelude.{List, [], ◌∷◌, ◌++◌, Option, Some, None, length, is_some, take}
+use Rattle.iss_buckets.specs.Waiting.{absent, cut, uncut}
 use Rattle.iss_keys.specs.KeyStates.{left_of}
 use Rattle.iss_request.specs.Log.{has_id, ids, log_ids}
 use Rattle.iss_request.specs.declared.ids.ReqId.{ReqId}
@@ -59,11 +60,6 @@ pub record Turn (Msg : Type 0) : Type 0 where
 pub data Stepped (Msg : Type 0) : Type 0 where
   Dropped : (why : Why) → Stepped Msg
   Taken : (turn : Turn Msg) → Stepped Msg
-
--- the requests whose identity is not among these
-abbrev pub absent : List ReqId → List Request → List Request
-absent gone [] = []
-absent gone (q ∷ qs) = cond (has_id q.id gone) (absent gone qs) (q ∷ absent gone qs)
 
 -- what was cast in slots from n on
 abbrev pub flying : ℕ → List (Slot × Batch) → List (Slot × Batch)
@@ -159,17 +155,6 @@ takes_parcel F R M me c from e (OfModule l msg) =
 abbrev pub takes_bytes : {Msg : Type 0} → Formats Msg → Rules → Module Msg → ℕ → Core Msg → Option (Parcel Msg) → Stepped Msg
 takes_bytes F R M me c None = Dropped NotPacket
 takes_bytes F R M me c (Some k) = takes_parcel F R M me c k.from k.epoch k.body
-
--- the first n requests that pass, and what they leave
-abbrev pub cut : ℕ → (Request → Bool) → List Request → List Request
-cut n is_mine [] = []
-cut zero is_mine (q ∷ qs) = []
-cut (suc n) is_mine (q ∷ qs) = cond (is_mine q) (q ∷ cut n is_mine qs) (cut (suc n) is_mine qs)
-
-abbrev pub uncut : ℕ → (Request → Bool) → List Request → List Request
-uncut n is_mine [] = []
-uncut zero is_mine (q ∷ qs) = q ∷ qs
-uncut (suc n) is_mine (q ∷ qs) = cond (is_mine q) (uncut n is_mine qs) (q ∷ uncut (suc n) is_mine qs)
 
 -- a request that the node may cast: its bucket is the node's, and it is not marked in the node's own instance
 abbrev pub is_mine : {Msg : Type 0} → Rules → Module Msg → ℕ → Core Msg → Request → Bool

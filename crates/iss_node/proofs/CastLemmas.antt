@@ -60,12 +60,12 @@ left-is p r same (suc n) (q ∷ qs) = go (r q) (same q) (left-is p r same n qs) 
 owner-is : (i : ℕ) (o : Option NodeId) (k : NodeId) → o ≡ Some k → is_node i o ≡ (number_of o == i)
 owner-is i o k e = ap (λ z. is_node i z) e ∙ sym (ap (λ z. number_of z == i) e)
 
-pub mine-is : {Msg : Type 0} (m : Module Msg) (s : Setup) (me : ℕ) (ev : ℕ → ℕ → List (Item Msg)) (waiting : List Request) (flight : List (Slot × Batch)) (leaf : ℕ) (plan : Plan) (marked : List ReqId) → plan ≡ plan_of s 0 [] → IsFair (plan_of s 0 []) → SameIds marked (marks (accepts (ev 0 me))) →
+pub mine-is : {Msg : Type 0} (m : Module Msg) (s : Setup) (me : ℕ) (ev : ℕ → ℕ → List (Item Msg)) (waiting : List Request) (flight : List (Slot × Batch)) (leaf : ℕ) (plan : Plan) (marked : List ReqId) → plan ≡ plan_of s 0 0 [] → IsFair (plan_of s 0 0 []) → SameIds marked (marks (accepts (ev 0 me))) →
     (q : Request) → may_cast plan me marked q ≡ is_mine (rules_of s) m me (record { past = record { epoch = 0; evidence = ev; adopted = [] }; waiting = waiting; flight = flight; leaf = leaf }) q
 mine-is m s me ev waiting flight leaf plan marked is fair same q =
     ap (λ (p : Plan). may_cast p me marked q) is
-    ∙ ap (λ (b : Bool). b && not (has_id q.id marked)) (owner-is me (bucket_owner (plan_of s 0 []) (bucket_of (plan_of s 0 []) q.id)) (fair.owned (bucket_of (plan_of s 0 []) q.id)).owner (fair.owned (bucket_of (plan_of s 0 []) q.id)).is)
-    ∙ ap (λ (b : Bool). (number_of (bucket_owner (plan_of s 0 []) (bucket_of (plan_of s 0 []) q.id)) == me) && not b) (same q.id)
+    ∙ ap (λ (b : Bool). b && not (has_id q.id marked)) (owner-is me (bucket_owner (plan_of s 0 0 []) (bucket_of (plan_of s 0 0 []) q.id)) (fair.owned (bucket_of (plan_of s 0 0 []) q.id)).owner (fair.owned (bucket_of (plan_of s 0 0 []) q.id)).is)
+    ∙ ap (λ (b : Bool). (number_of (bucket_owner (plan_of s 0 0 []) (bucket_of (plan_of s 0 0 []) q.id)) == me) && not b) (same q.id)
 
 -- ---- the turn of a cast
 
@@ -155,7 +155,7 @@ proposed b None turn = Dropped NothingToCast
 proposed b (Some s) turn = cond (not b) (Dropped NoKeys) (Taken (turn s))
 
 pub proposal-is : {M Msg : Type 0} (m : Module Msg) (F : Formats Msg) (v : NodeState M) (ev : ℕ → ℕ → List (Item Msg)) (a b : Bool) (o : Option Slot) →
-    leads (plan_of v.setup 0 []) v.me.0 ≡ a → next_slot (rules_of v.setup) m v.me.0 (core_of v ev) ≡ o → has_leaves m ((rules_of v.setup).params [] 0 v.me.0) v.keys.used ≡ b →
+    leads (plan_of v.setup 0 0 []) v.me.0 ≡ a → next_slot (rules_of v.setup) m v.me.0 (core_of v ev) ≡ o → has_leaves m ((rules_of v.setup).params [] 0 v.me.0) v.keys.used ≡ b →
     step F (rules_of v.setup) m v.me.0 (core_of v ev) Proposes ≡ cond (not a) (Dropped NotLeader) (proposed b o (casting F (rules_of v.setup) m v.me.0 (core_of v ev)))
 proposal-is {M} {Msg} m F v ev a b o ha ho hb =
     let no_leader : Stepped Msg = Dropped NotLeader in
@@ -188,7 +188,7 @@ first-same p q (s ∷ ss) same =
     ap (λ b. cond b (Some s) (first_slot p ss)) (same s (inl refl))
     ∙ ap (λ (o : Option Slot). cond (q s) (Some s) o) (first-same p q ss (λ t i. same t (inr i)))
 
-pub next-is : {M Msg : Type 0} (m : Module Msg) (stands : M → Params → ℕ → List (Item Msg) → Type 0) (plan : Plan) (v : NodeState M) (shape : IsNode m plan v) → IsFair (plan_of v.setup 0 []) → (ev : ℕ → ℕ → List (Item Msg)) → IsTied m stands v ev →
+pub next-is : {M Msg : Type 0} (m : Module Msg) (stands : M → Params → ℕ → List (Item Msg) → Type 0) (plan : Plan) (v : NodeState M) (shape : IsNode m plan v) → IsFair (plan_of v.setup 0 0 []) → (ev : ℕ → ℕ → List (Item Msg)) → IsTied m stands v ev →
     (g : SegmentState M) → g ≡ get_or v.segments v.me.0 g → (r : Option Slot) (slots : List Slot) → slots ≡ g.params.slots → (flight : List (Slot × Batch)) → flight ≡ v.flight →
     ((xs : List (Item Msg)) → IsInstance stands g xs → r ≡ first_slot (is_open m g.params g.me.0 xs v.log flight) slots) →
     r ≡ next_slot (rules_of v.setup) m v.me.0 (core_of v ev)
@@ -198,14 +198,14 @@ next-is {M} {Msg} m stands plan v shape fair ev tied g is r slots slots_are flig
     let less : v.me.0 < length v.segments = omega (arith, n, lt) in
     let at : slice_get v.segments v.me.0 ≡ Some g = get-of v.segments v.me.0 g less is in
     let P : Params = (rules_of v.setup).params [] 0 v.me.0 in
-    let found : r ≡ first_slot (is_open m ((rules_of v.setup).params [] 0 v.me.0) v.me.0 (ev 0 v.me.0) v.log v.flight) (segment (plan_of v.setup 0 []) v.me.0) =
-    subst (λ (fs : List (Slot × Batch)). r ≡ first_slot (is_open m ((rules_of v.setup).params [] 0 v.me.0) v.me.0 (ev 0 v.me.0) v.log fs) (segment (plan_of v.setup 0 []) v.me.0)) flight_is
-    (subst (λ (i : NodeId). r ≡ first_slot (is_open m ((rules_of v.setup).params [] 0 v.me.0) i.0 (ev 0 v.me.0) v.log flight) (segment (plan_of v.setup 0 []) v.me.0)) (shape.node v.me.0 g at)
+    let found : r ≡ first_slot (is_open m ((rules_of v.setup).params [] 0 v.me.0) v.me.0 (ev 0 v.me.0) v.log v.flight) (segment (plan_of v.setup 0 0 []) v.me.0) =
+    subst (λ (fs : List (Slot × Batch)). r ≡ first_slot (is_open m ((rules_of v.setup).params [] 0 v.me.0) v.me.0 (ev 0 v.me.0) v.log fs) (segment (plan_of v.setup 0 0 []) v.me.0)) flight_is
+    (subst (λ (i : NodeId). r ≡ first_slot (is_open m ((rules_of v.setup).params [] 0 v.me.0) i.0 (ev 0 v.me.0) v.log flight) (segment (plan_of v.setup 0 0 []) v.me.0)) (shape.node v.me.0 g at)
     (subst (λ (p : Params). r ≡ first_slot (is_open m p g.me.0 (ev 0 v.me.0) v.log flight) p.slots) (shape.params v.me.0 g at)
     (subst (λ (ss : List Slot). r ≡ first_slot (is_open m g.params g.me.0 (ev 0 v.me.0) v.log flight) ss) slots_are (h (ev 0 v.me.0) (tied.instances v.me.0 g at))))) in
-    found ∙ first-same (is_open m ((rules_of v.setup).params [] 0 v.me.0) v.me.0 (ev 0 v.me.0) v.log v.flight) (is_castable m ((rules_of v.setup).params [] 0 v.me.0) v.me.0 (ev 0 v.me.0) v.flight) (segment (plan_of v.setup 0 []) v.me.0) same
+    found ∙ first-same (is_open m ((rules_of v.setup).params [] 0 v.me.0) v.me.0 (ev 0 v.me.0) v.log v.flight) (is_castable m ((rules_of v.setup).params [] 0 v.me.0) v.me.0 (ev 0 v.me.0) v.flight) (segment (plan_of v.setup 0 0 []) v.me.0) same
   where
-    same : (s : Slot) → In s (segment (plan_of v.setup 0 []) v.me.0) → is_open m ((rules_of v.setup).params [] 0 v.me.0) v.me.0 (ev 0 v.me.0) v.log v.flight s ≡ is_castable m ((rules_of v.setup).params [] 0 v.me.0) v.me.0 (ev 0 v.me.0) v.flight s
+    same : (s : Slot) → In s (segment (plan_of v.setup 0 0 []) v.me.0) → is_open m ((rules_of v.setup).params [] 0 v.me.0) v.me.0 (ev 0 v.me.0) v.log v.flight s ≡ is_castable m ((rules_of v.setup).params [] 0 v.me.0) v.me.0 (ev 0 v.me.0) v.flight s
     same s i =
         let own = own-slot v.setup fair s.0 v.me.0 i in
         let value : value_at v.log s.0 ≡ delivered m ((rules_of v.setup).params [] 0 v.me.0) v.me.0 (ev 0 v.me.0) s.0 = tied.cells s.0 own.0 ∙ ap (λ (l : ℕ). delivered m ((rules_of v.setup).params [] 0 l) v.me.0 (ev 0 l) s.0) own.1 in

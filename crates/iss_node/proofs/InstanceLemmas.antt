@@ -44,7 +44,7 @@ three : {Msg : Type 0} (a a' b b' : Bool) (w w' : Option Refusal) (turn : Turn M
 three a a' b b' w w' turn ha hb hw = rw (ha, hb, hw) refl
 
 module _ {M Msg : Type 0} (m : Module Msg) (stands : M → Params → ℕ → List (Item Msg) → Type 0) (F : Formats Msg) (v : NodeState M) (ev : ℕ → ℕ → List (Item Msg)) (l : ℕ) (input : Input Msg) where
-  pub instance-is : (a b : Bool) (w : Option Refusal) → leads (plan_of v.setup 0 []) l ≡ a → has_leaves m ((rules_of v.setup).params [] 0 l) v.keys.used ≡ b →
+  pub instance-is : (a b : Bool) (w : Option Refusal) → leads (plan_of v.setup 0 0 []) l ≡ a → has_leaves m ((rules_of v.setup).params [] 0 l) v.keys.used ≡ b →
       verdict (rules_of v.setup) [] 0 l (accepts (ev 0 l)) (m.asks ((rules_of v.setup).params [] 0 l) v.me.0 (ev 0 l) input) ≡ w →
       at_instance F (rules_of v.setup) m v.me.0 (core_of v ev) l input ≡ cond (not a) (Dropped NotLeader) (cond (not b) (Dropped NoKeys) (by_verdict w (inputs F (rules_of v.setup) m v.me.0 (core_of v ev) l input)))
   instance-is a b w ha hb hw =

@@ -103,13 +103,13 @@ never (q ∷ qs) = never qs
 tests : (a b c d e f : Bool) → a ≡ false → b ≡ false → c ≡ false → d ≡ false → e ≡ false → cond a (Some TooLarge) (cond b (Some ForeignBucket) (cond c (Some BadSignature) (cond d (Some OutOfWindow) (cond e (Some Ordered) (cond f (Some Marked) None))))) ≡ cond f (Some Marked) None
 tests a b c d e f ha hb hc hd he = rw (ha, hb, hc, hd, he) refl
 
-module _ (s : Setup) (l : ℕ) (marked : List ReqId) (batch : List Request) (small : length batch ≤ s.batch) (plan : Plan) (plan_is : plan ≡ plan_of s 0 [])
+module _ (s : Setup) (l : ℕ) (marked : List ReqId) (batch : List Request) (small : length batch ≤ s.batch) (plan : Plan) (plan_is : plan ≡ plan_of s 0 0 [])
     (own : any (λ (q : Request). not (number_of (bucket_owner plan (bucket_of plan q.id)) == l)) batch ≡ false)
     (signed : any (λ (q : Request). not ((rules_of s).signed q)) batch ≡ false) where
   judged : judge (rules_of s) [] 0 l marked batch ≡ cond (any_marked marked (ids batch)) (Some Marked) None
   judged =
       let a : nat_lt s.batch (length batch) ≡ false = grind (arith, nat_tests) in
-      let b : any (λ (q : Request). not (number_of (bucket_owner (plan_of s 0 []) (bucket_of (plan_of s 0 []) q.id)) == l)) batch ≡ false = subst (λ (p : Plan). any (λ (q : Request). not (number_of (bucket_owner p (bucket_of p q.id)) == l)) batch ≡ false) plan_is own in
+      let b : any (λ (q : Request). not (number_of (bucket_owner (plan_of s 0 0 []) (bucket_of (plan_of s 0 0 []) q.id)) == l)) batch ≡ false = subst (λ (p : Plan). any (λ (q : Request). not (number_of (bucket_owner p (bucket_of p q.id)) == l)) batch ≡ false) plan_is own in
       tests _ _ _ _ _ (any_marked marked (ids batch)) a b signed (never batch) (never batch)
 
   pub judged-marked : any_marked marked (ids batch) ≡ true → judge (rules_of s) [] 0 l marked batch ≡ Some Marked

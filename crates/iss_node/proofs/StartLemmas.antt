@@ -14,7 +14,8 @@ use Rattle.iss_node.proofs.LogOf.{log-is}
 use Rattle.iss_node.specs.State.{IsInstance, NodeState, SegmentState, Stands}
 use Rattle.iss_request.specs.Log.{has_id, log_ids}
 use Rattle.iss_request.specs.declared.requests.Value.{Value}
-use Rattle.iss_sb.specs.Keys.{AreKeysOf, KeyState}
+use Rattle.iss_keys.specs.Directories.{AreKeysOf}
+use Rattle.iss_keys.specs.KeyStates.{KeyState}
 use Rattle.iss_node.specs.declared.parcels.Body.{Body}
 use Rattle.iss_node.specs.declared.parcels.Body.TheVariants.{Message as OfModule, Request as OfClient}
 use Rattle.iss_node.specs.declared.parcels.Parcel.{Parcel}
@@ -38,7 +39,7 @@ in-below (suc n) l lt = go (same_or_not l n) (in-below n l)
     go (inl e) more = in_right (node l) (nodes_below n) (node n ∷ []) (inl (ap (λ (i : ℕ). node i) e))
     go (inr ne) more = let less : l < n = omega (arith, ne, lt) in in_left (node l) (nodes_below n) (node n ∷ []) (more less)
 
-pub good-params : {Msg : Type 0} (m : Module Msg) (s : Setup) (l : ℕ) → IsSetupOf m s → l < s.n → IsFair (plan_of s 0 []) → IsGoodParams m ((rules_of s).params [] 0 l)
+pub good-params : {Msg : Type 0} (m : Module Msg) (s : Setup) (l : ℕ) → IsSetupOf m s → l < s.n → IsFair (plan_of s 0 0 []) → IsGoodParams m ((rules_of s).params [] 0 l)
 good-params m s l h lt fair = record {
   setup = h.good;
   tag = h.tag;
@@ -51,7 +52,7 @@ good-params m s l h lt fair = record {
   rising = (fair.segments l).ascending;
 }
 
-pub good-copy : {Msg : Type 0} (m : Module Msg) (s t : Setup) (l : NodeId) (slots : List Slot) (plan : Plan) → IsSetupOf m s → l.0 < s.n → IsFair (plan_of s 0 []) → plan ≡ plan_of s 0 [] → t ≡ s → slots ≡ segment plan l.0 →
+pub good-copy : {Msg : Type 0} (m : Module Msg) (s t : Setup) (l : NodeId) (slots : List Slot) (plan : Plan) → IsSetupOf m s → l.0 < s.n → IsFair (plan_of s 0 0 []) → plan ≡ plan_of s 0 0 [] → t ≡ s → slots ≡ segment plan l.0 →
     IsGoodParams m (record { setup = t; epoch = record { 0 = 0 }; leader = l; slots = slots })
 good-copy m s t l slots plan h lt fair plan_is t_is slots_are =
     subst (λ (z : Setup). IsGoodParams m (record { setup = z; epoch = record { 0 = 0 }; leader = l; slots = slots })) (sym t_is)
@@ -133,11 +134,11 @@ module _ {M Msg : Type 0} (m : Module Msg) (stands : M → Params → ℕ → Li
   abbrev begun : NodeState M
   begun = record { setup = t; me = me; segments = gs; log = empty_log; waiting = []; flight = []; logged = []; keys = keys }
 
-  pub begun-shape : (plan : Plan) → IsSetupOf m s → me.0 < s.n → plan ≡ plan_of s 0 [] → IsNode m plan begun
+  pub begun-shape : (plan : Plan) → IsSetupOf m s → me.0 < s.n → plan ≡ plan_of s 0 0 [] → IsNode m plan begun
   begun-shape plan h lt plan_is = record {
     good = subst (λ (z : Setup). IsSetupOf m z) (sym t_is) h;
     me = subst (λ (z : Setup). me.0 < z.n) (sym t_is) lt;
-    layout = plan_is ∙ ap (λ (z : Setup). plan_of z 0 []) (sym t_is);
+    layout = plan_is ∙ ap (λ (z : Setup). plan_of z 0 0 []) (sym t_is);
     count = started.as_many ∙ ap (λ (z : Setup). z.n) (sym t_is);
     params = λ l g at. started.params_are l g at ∙ ap (λ (z : Setup). (rules_of z).params [] 0 l) (sym t_is);
     node = λ l g at. started.node_is l g at;

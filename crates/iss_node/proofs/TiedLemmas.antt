@@ -32,7 +32,8 @@ use Rattle.iss_sb.specs.declared.effects.Params.{Params}
 use Rattle.iss_sb.specs.declared.effects.To.{To}
 use Rattle.iss_sb.specs.Calls.{AllIn, AreToNodes, IsTaken, slots_of}
 use Rattle.iss_sb.specs.Evidence.{Item, Module, and_then, delivered}
-use Rattle.iss_sb.specs.Keys.{AreKeysOf, KeyState}
+use Rattle.iss_keys.specs.Directories.{AreKeysOf}
+use Rattle.iss_keys.specs.KeyStates.{KeyState}
 
 -- ---- what is delivered for a slot
 
@@ -99,9 +100,9 @@ to-nodes F me l n (x ∷ xs) h = (h.0, to-nodes F me l n xs h.1)
 
 -- ---- the segments of the first epoch
 
-module _ (s : Setup) (fair : IsFair (plan_of s 0 [])) where
+module _ (s : Setup) (fair : IsFair (plan_of s 0 0 [])) where
   -- the leader of a slot of a segment
-  pub own-slot : (k l : ℕ) → In (slot_at k) (segment (plan_of s 0 []) l) → (k < s.epoch) × ((rules_of s).leader [] k ≡ l)
+  pub own-slot : (k l : ℕ) → In (slot_at k) (segment (plan_of s 0 0 []) l) → (k < s.epoch) × ((rules_of s).leader [] 0 k ≡ l)
   own-slot k l h =
       let both = ((fair.segments l).slots (record { 0 = k })).0 h in
       let lt : k < s.epoch = omega (arith, both.0.1) in
@@ -111,7 +112,7 @@ module _ (s : Setup) (fair : IsFair (plan_of s 0 [])) where
 -- ---- the node
 
 module _ {M Msg : Type 0} (m : Module Msg) (stands : M → Params → ℕ → List (Item Msg) → Type 0) (F : Formats Msg)
-    (plan : Plan) (v : NodeState M) (shape : IsNode m plan v) (fair : IsFair (plan_of v.setup 0 []))
+    (plan : Plan) (v : NodeState M) (shape : IsNode m plan v) (fair : IsFair (plan_of v.setup 0 0 []))
     (l : ℕ) (ev : ℕ → ℕ → List (Item Msg)) (tied : IsTied m stands v ev)
     (g g' : SegmentState M) (at : slice_get v.segments l ≡ Some g)
     (input : Input Msg) (later : KeyState) (e : Effects Msg) (taken : IsInstanceTaken m stands g g' input v.keys later e)
@@ -135,11 +136,11 @@ module _ {M Msg : Type 0} (m : Module Msg) (stands : M → Params → ℕ → Li
       subst (λ (p : Params). IsTaken m p v.me.0 (ev 0 l) input v.keys.used e) (shape.params l g at)
       (subst (λ (i : NodeId). IsTaken m g.params i.0 (ev 0 l) input v.keys.used e) (shape.node l g at) (taken.effects (ev 0 l) here own))
 
-  inside : AllIn (slots_of e.delivers) (segment (plan_of v.setup 0 []) l)
+  inside : AllIn (slots_of e.delivers) (segment (plan_of v.setup 0 0 []) l)
   inside = subst (λ (p : Params). AllIn (slots_of e.delivers) p.slots) (shape.params l g at) taken.within.delivered
 
-  given-own : (k : ℕ) (x : Value) → given e.delivers k ≡ Some x → (k < v.setup.epoch) × ((rules_of v.setup).leader [] k ≡ l)
-  given-own k x h = own-slot v.setup fair k l (slot-in e.delivers (segment (plan_of v.setup 0 []) l) k x inside h)
+  given-own : (k : ℕ) (x : Value) → given e.delivers k ≡ Some x → (k < v.setup.epoch) × ((rules_of v.setup).leader [] 0 k ≡ l)
+  given-own k x h = own-slot v.setup fair k l (slot-in e.delivers (segment (plan_of v.setup 0 0 []) l) k x inside h)
 
   none-given : (k : ℕ) → (given e.delivers k ≢ None → ⊥) → given e.delivers k ≡ None
   none-given k never = go (given e.delivers k) refl
@@ -163,9 +164,9 @@ module _ {M Msg : Type 0} (m : Module Msg) (stands : M → Params → ℕ → Li
       stays (Some x) = refl
 
   cells : (k : ℕ) → k < v.setup.epoch → value_at log k ≡ slot_value (rules_of v.setup) m v.me.0 (next 0) k
-  cells k lt = go (same_or_not ((rules_of v.setup).leader [] k) l)
+  cells k lt = go (same_or_not ((rules_of v.setup).leader [] 0 k) l)
     where
-      go : ((rules_of v.setup).leader [] k ≡ l) ⊎ ((rules_of v.setup).leader [] k ≢ l) → value_at log k ≡ slot_value (rules_of v.setup) m v.me.0 (next 0) k
+      go : ((rules_of v.setup).leader [] 0 k ≡ l) ⊎ ((rules_of v.setup).leader [] 0 k ≢ l) → value_at log k ≡ slot_value (rules_of v.setup) m v.me.0 (next 0) k
       go (inl q) =
           grown.values k
           ∙ ap (λ (o : Option Value). first_of o (given e.delivers k)) (tied.cells k lt ∙ ap (λ (i : ℕ). delivered m ((rules_of v.setup).params [] 0 i) v.me.0 (ev 0 i) k) q)
@@ -176,7 +177,7 @@ module _ {M Msg : Type 0} (m : Module Msg) (stands : M → Params → ℕ → Li
           ∙ sym (ap (λ (i : ℕ). delivered m ((rules_of v.setup).params [] 0 i) v.me.0 (next 0 i) k) q)
       go (inr ne) =
           kept k (slot_value (rules_of v.setup) m v.me.0 (ev 0) k) (tied.cells k lt) (none-given k (λ some. ne (let x = some-given k some in (given-own k x.0 x.1).1)))
-          ∙ sym (ap (λ (ys : List (Item Msg)). delivered m ((rules_of v.setup).params [] 0 ((rules_of v.setup).leader [] k)) v.me.0 ys k) (set_at2-other ev 0 l (and_then m ((rules_of v.setup).params [] 0 l) v.me.0 (ev 0 l) input v.keys.used) 0 ((rules_of v.setup).leader [] k) (inr ne)))
+          ∙ sym (ap (λ (ys : List (Item Msg)). delivered m ((rules_of v.setup).params [] 0 ((rules_of v.setup).leader [] 0 k)) v.me.0 ys k) (set_at2-other ev 0 l (and_then m ((rules_of v.setup).params [] 0 l) v.me.0 (ev 0 l) input v.keys.used) 0 ((rules_of v.setup).leader [] 0 k) (inr ne)))
 
   outside : (k : ℕ) → v.setup.epoch ≤ k → value_at log k ≡ None
   outside k le = kept k None (tied.outside k le) (none-given k (λ some. let x = some-given k some in let lt = (given-own k x.0 x.1).0 in absurd (omega (arith, lt, le))))

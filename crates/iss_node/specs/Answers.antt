@@ -8,7 +8,8 @@ use Rattle.iss_sb.specs.declared.effects.StepError.{StepError}
 use Rattle.iss_sb.specs.declared.effects.StepError.TheVariants.{Spent, NoMemory}
 use Rattle.iss_sb.specs.Calls.{IsTaken, IsWithin}
 use Rattle.iss_sb.specs.Evidence.{Item, Module, and_then}
-use Rattle.iss_sb.specs.Keys.{AreKeysOf, KeyState, leaves_left}
+use Rattle.iss_keys.specs.Directories.{AreKeysOf}
+use Rattle.iss_keys.specs.KeyStates.{KeyState, left_of}
 
 -- an instance took an input
 pub record IsInstanceTaken {M Msg : Type 0} (m : Module Msg) (stands : M → Params → ℕ → List (Item Msg) → Type 0) (old new : SegmentState M) (i : Input Msg) (before later : KeyState) (e : Effects Msg) : Type 0 where
@@ -21,5 +22,5 @@ pub record IsInstanceTaken {M Msg : Type 0} (m : Module Msg) (stands : M → Par
 
 abbrev pub IsInstanceStep : {M Msg : Type 0} → Module Msg → (M → Params → ℕ → List (Item Msg) → Type 0) → SegmentState M → SegmentState M → Input Msg → KeyState → KeyState → Result (Effects Msg) StepError → Type 0
 IsInstanceStep m stands old new i before later (Ok e) = IsInstanceTaken m stands old new i before later e
-IsInstanceStep m stands old new i before later (Err Spent) = leaves_left before < m.signs old.params
+IsInstanceStep m stands old new i before later (Err Spent) = left_of before < m.signs old.params
 IsInstanceStep m stands old new i before later (Err NoMemory) = Unit {0}

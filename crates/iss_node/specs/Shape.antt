@@ -12,7 +12,7 @@ use Rattle.iss_sb.specs.Evidence.{Item, Module}
 pub record IsNode {M Msg : Type 0} (m : Module Msg) (plan : Plan) (v : NodeState M) : Type 0 where
   pub good : IsSetupOf m v.setup
   pub me : v.me.0 < v.setup.n
-  pub layout : plan ≡ plan_of v.setup 0 []
+  pub layout : plan ≡ plan_of v.setup 0 0 []
   pub count : length v.segments ≡ v.setup.n
   pub params : (l : ℕ) (g : SegmentState M) → slice_get v.segments l ≡ Some g → g.params ≡ (rules_of v.setup).params [] 0 l
   pub node : (l : ℕ) (g : SegmentState M) → slice_get v.segments l ≡ Some g → g.me ≡ v.me

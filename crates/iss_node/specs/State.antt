@@ -16,7 +16,8 @@ use Rattle.iss_request.specs.declared.requests.Value.{Value}
 use Rattle.iss_request.specs.declared.setups.Setup.{Setup}
 use Rattle.iss_sb.specs.declared.effects.Params.{Params}
 use Rattle.iss_sb.specs.Evidence.{Item, Module, accepts, delivered}
-use Rattle.iss_sb.specs.Keys.{AreKeysOf, KeyState}
+use Rattle.iss_keys.specs.Directories.{AreKeysOf}
+use Rattle.iss_keys.specs.KeyStates.{KeyState}
 
 -- one instance: its parameters, its node, its module, and the identities that it accepted
 pub record SegmentState (M : Type 0) : Type 0 where
@@ -53,7 +54,7 @@ core_of v evidence =
 
 -- the value that the instances deliver in a slot of the first epoch
 abbrev pub slot_value : {Msg : Type 0} → Rules → Module Msg → ℕ → Took Msg → ℕ → Option Value
-slot_value R M me took s = delivered M (R.params [] 0 (R.leader [] s)) me (took (R.leader [] s)) s
+slot_value R M me took s = delivered M (R.params [] 0 (R.leader [] 0 s)) me (took (R.leader [] 0 s)) s
 
 -- the same members
 abbrev pub SameIds : List ReqId → List ReqId → Type 0

@@ -22,7 +22,7 @@ pub fn refusal(
     marked: &Ids,
     batch: &[Request],
 ) -> Option<Refusal>
-    requires { layout.now ≡ plan_of setup.now 0 [] }
+    requires { layout.now ≡ plan_of setup.now 0 0 [] }
     ensures { result ≡ judge (rules_of setup.now) [] 0 leader.0 marked.now batch.now }
 {
     if batch.len() as u64 > setup.batch as u64 {

@@ -1,6 +1,6 @@
 //! The node.
 ghost use Rattle.std.specs.Prelude.{◌≡◌, ◌==◌, ◌<◌, ◌≤◌, ◌++◌, ◌∷◌, ℕ, List, [], IfOk, IsTrue, OnOk, drop, false, length, reverse};
-ghost use Rattle.iss_model.specs.Concrete.{rules_of};
+ghost use Rattle.iss_model.specs.Concrete.{keys_of, rules_of};
 ghost use Rattle.iss_model.specs.Formats.{formats_of};
 ghost use Rattle.iss_layout.specs.Layout.{leads, plan_of};
 ghost use Rattle.iss_model.specs.Node.{Core, at_instance, has_leaves, idle, inputs, is_known, step, takes_bytes, takes_parcel, takes_request, verdict};
@@ -16,7 +16,7 @@ ghost use Rattle.iss_node.specs.State.{IsInstance, IsTied, NodeState, Stands, co
 ghost use Rattle.iss_node.specs.Shape.{AreStarted};
 ghost use Rattle.iss_node.specs.Steps.{IsAnswer, IsInputTurn, IsNodeInput};
 ghost use Rattle.iss_sb.specs.Evidence.{Item, accepts};
-ghost use Rattle.iss_sb.specs.Keys.{AreKeysOf};
+ghost use Rattle.iss_keys.specs.Directories.{AreKeysOf};
 
 use crate::answers::{Answer, Outcome};
 use crate::cells::land_in;
@@ -26,12 +26,13 @@ use crate::parcels::{Body, Parcel, pack, unwrap};
 use crate::segment::Segment;
 use iss_buckets::Pending;
 use iss_ids::Ids;
+use iss_keys::{Keys, SharedDirectory};
 use iss_layout::laws::epochs_are_fair;
 use iss_layout::{Layout, Standing};
 use iss_log::Log;
 use iss_model::{NodeEvent, Refusal, Why};
 use iss_request::{Batch, Bytes, Epoch, NoMemory, NodeId, ReqId, Request, Row, Setup, Slot, Value};
-use iss_sb::{Effects, Input, Keys, Params, Sequenced};
+use iss_sb::{Effects, Input, Params, Sequenced};
 use std::alloc::Global;
 use std::marker::Model;
 
@@ -61,17 +62,24 @@ impl<M: Sequenced> Model for Node<M> {
 }
 
 impl<M: Sequenced> Node<M> {
-    /// A node that has taken nothing, with its own keys.
-    pub fn start(alloc: Global, setup: &Setup, me: NodeId, keys: Keys) -> Result<Node<M>, NoMemory>
+    /// A node that has taken nothing, with its own keys, in a cluster with this directory.
+    pub fn start(
+        alloc: Global,
+        setup: &Setup,
+        directory: &SharedDirectory,
+        me: NodeId,
+        keys: Keys,
+    ) -> Result<Node<M>, NoMemory>
         requires good { IsSetupOf M.meaning setup.now }
+        requires directory { directory.now ≡ keys_of setup.now }
         requires me { me.0 < setup.now.n }
         requires own { AreKeysOf me.0 setup.now.keys keys }
         ensures stands { IfOk result (λ v. Stands M.meaning M.stands v (record idle { leaf = keys.used })) }
         ensures same { IfOk result (λ v. (v.setup ≡ setup.now) × (v.me ≡ me)) }
     {
         epochs_are_fair();
-        let layout = Layout::of(setup, Epoch(0), &Standing::new());
-        let segments = start_segments::<M>(alloc, setup, &layout, me)?;
+        let layout = Layout::of(setup, Epoch(0), 0, &Standing::new());
+        let segments = start_segments::<M>(alloc, setup, directory, &layout, me)?;
         Ok(Node {
             setup: setup.copy()?,
             me,
@@ -237,7 +245,7 @@ impl<M: Sequenced> Node<M> {
 
     // Whether a node leads the epoch.
     fn leads(&self, leader: NodeId) -> bool
-        ensures leads { result ≡ leads (plan_of self.now.setup 0 []) leader.0 }
+        ensures leads { result ≡ leads (plan_of self.now.setup 0 0 []) leader.0 }
         ensures below { IsTrue result → leader.0 < self.now.setup.n }
     {
         self.layout.leads(leader)
@@ -321,11 +329,11 @@ impl<M: Sequenced> Node<M> {
         Ok(Outcome { sends })
     }
 
-    /// The values of the log, in the order of the slots.
-    pub fn entries(&self) -> &[Value]
-        ensures { result.now ≡ self.now.log.entries }
+    /// The log.
+    pub fn log(&self) -> &Log
+        ensures { result.now ≡ self.now.log }
     {
-        self.log.entries()
+        &self.log
     }
 
     /// The node's epoch.
@@ -392,18 +400,20 @@ fn holds(batch: &Batch, id: ReqId) -> bool
 fn start_segments<M: Sequenced>(
     alloc: Global,
     setup: &Setup,
+    directory: &SharedDirectory,
     layout: &Layout,
     me: NodeId,
 ) -> Result<Vec<Segment<M>>, NoMemory>
     requires good { IsSetupOf M.meaning setup.now }
+    requires directory { directory.now ≡ keys_of setup.now }
     requires me { me.0 < setup.now.n }
-    requires layout { layout.now ≡ plan_of setup.now 0 [] }
+    requires layout { layout.now ≡ plan_of setup.now 0 0 [] }
     ensures { IfOk result (λ segments. AreStarted M.stands setup.now me setup.now.n segments.items) }
 {
     epochs_are_fair();
     let mut segments = Vec::new(alloc);
     for leader in 0..setup.n {
-        let segment = start_segment::<M>(alloc, setup, layout, NodeId(leader as u8), me)?;
+        let segment = start_segment::<M>(alloc, setup, directory, layout, NodeId(leader as u8), me)?;
         segments.push(segment)?;
     }
     Ok(segments)
@@ -413,14 +423,16 @@ fn start_segments<M: Sequenced>(
 fn start_segment<M: Sequenced>(
     alloc: Global,
     setup: &Setup,
+    directory: &SharedDirectory,
     layout: &Layout,
     leader: NodeId,
     me: NodeId,
 ) -> Result<Segment<M>, NoMemory>
     requires good { IsSetupOf M.meaning setup.now }
+    requires directory { directory.now ≡ keys_of setup.now }
     requires leader { leader.0 < setup.now.n }
     requires me { me.0 < setup.now.n }
-    requires layout { layout.now ≡ plan_of setup.now 0 [] }
+    requires layout { layout.now ≡ plan_of setup.now 0 0 [] }
     ensures stands { IfOk result (λ s. IsInstance M.stands s []) }
     ensures same { IfOk result (λ s. (s.params ≡ (rules_of setup.now).params [] 0 leader.0) × (s.me ≡ me)) }
 {
@@ -430,6 +442,7 @@ fn start_segment<M: Sequenced>(
         epoch: Epoch(0),
         leader,
         slots: layout.slots_of(alloc, leader)?,
+        directory: directory.share(),
     };
     Segment::start(alloc, params, me)
 }

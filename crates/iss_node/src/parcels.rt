@@ -38,8 +38,8 @@ pub fn unwrap<M: Sequenced>(
     ensures seen { IfOk result (λ parcel. seen parcel ≡ (formats_of setup.now M.meaning).unwrap bytes.now) }
     ensures from { IfOk result (λ parcel. IfSome parcel (IsFromNode setup.now.n)) }
 {
-    match Packet::decode(alloc, setup.n, bytes) {
-        Ok(packet) => open::<M>(alloc, setup.n, packet),
+    match Packet::decode(alloc, setup.version, setup.n, bytes) {
+        Ok(packet) => open::<M>(alloc, setup.version, setup.n, packet),
         Err(PacketError::NotPacket) => Ok(None),
         Err(PacketError::NoMemory) => Err(NoMemory),
     }
@@ -48,29 +48,31 @@ pub fn unwrap<M: Sequenced>(
 // What a packet holds. Votes, asks and pieces are not there yet.
 fn open<M: Sequenced>(
     alloc: Global,
+    version: u8,
     n: u32,
     packet: Packet,
 ) -> Result<Option<Parcel<M::Msg>>, NoMemory>
     requires { is_routed n packet ≡ true }
-    ensures seen { IfOk result (λ parcel. seen parcel ≡ parcel_of_kind M.meaning packet packet.kind) }
+    ensures seen { IfOk result (λ parcel. seen parcel ≡ parcel_of_kind M.meaning version packet packet.kind) }
     ensures from { IfOk result (λ parcel. IfSome parcel (IsFromNode n)) }
 {
     let _n = n;
     match packet.kind {
-        PacketKind::Message => open_message::<M>(alloc, packet),
-        PacketKind::Request => open_request::<M::Msg>(alloc, packet),
+        PacketKind::Message => open_message::<M>(alloc, version, packet),
+        PacketKind::Request => open_request::<M::Msg>(alloc, version, packet),
         PacketKind::Vote | PacketKind::Ask | PacketKind::Piece => Ok(None),
     }
 }
 
 fn open_message<M: Sequenced>(
     alloc: Global,
+    version: u8,
     packet: Packet,
 ) -> Result<Option<Parcel<M::Msg>>, NoMemory>
-    ensures seen { IfOk result (λ parcel. seen parcel ≡ message_in packet (whole (M.meaning.parse packet.body))) }
+    ensures seen { IfOk result (λ parcel. seen parcel ≡ message_in packet (whole (M.meaning.parse version packet.body))) }
     ensures from { IfOk result (λ parcel. IfSome parcel (λ k. k.from.0 ≡ packet.from)) }
 {
-    let Some(msg) = read_message::<M>(alloc, packet.body.as_slice())? else {
+    let Some(msg) = read_message::<M>(alloc, version, packet.body.as_slice())? else {
         return Ok(None);
     };
     Ok(Some(Parcel {
@@ -84,10 +86,14 @@ fn open_message<M: Sequenced>(
 }
 
 // The message that takes up all of the bytes, if one does.
-fn read_message<M: Sequenced>(alloc: Global, bytes: &[u8]) -> Result<Option<M::Msg>, NoMemory>
-    ensures { IfOk result (λ msg. msg ≡ whole (M.meaning.parse bytes.now)) }
+fn read_message<M: Sequenced>(
+    alloc: Global,
+    version: u8,
+    bytes: &[u8],
+) -> Result<Option<M::Msg>, NoMemory>
+    ensures { IfOk result (λ msg. msg ≡ whole (M.meaning.parse version bytes.now)) }
 {
-    let mut fields = Fields::over(bytes);
+    let mut fields = Fields::over(version, bytes);
     match M::decode(alloc, &mut fields) {
         Ok(msg) => {
             if fields.is_done() {
@@ -101,11 +107,15 @@ fn read_message<M: Sequenced>(alloc: Global, bytes: &[u8]) -> Result<Option<M::M
     }
 }
 
-fn open_request<T: Drop>(alloc: Global, packet: Packet) -> Result<Option<Parcel<T>>, NoMemory>
+fn open_request<T: Drop>(
+    alloc: Global,
+    version: u8,
+    packet: Packet,
+) -> Result<Option<Parcel<T>>, NoMemory>
     ensures seen { IfOk result (λ parcel. seen parcel ≡ request_in packet (whole (parse_request packet.body))) }
     ensures asked { IfOk result (λ parcel. IfSome parcel (IsFromNode 0)) }
 {
-    let Some(request) = read_request(alloc, packet.body.as_slice())? else {
+    let Some(request) = read_request(alloc, version, packet.body.as_slice())? else {
         return Ok(None);
     };
     Ok(Some(Parcel {
@@ -116,10 +126,10 @@ fn open_request<T: Drop>(alloc: Global, packet: Packet) -> Result<Option<Parcel<
 }
 
 // The request that takes up all of the bytes, if one does.
-fn read_request(alloc: Global, bytes: &[u8]) -> Result<Option<Request>, NoMemory>
+fn read_request(alloc: Global, version: u8, bytes: &[u8]) -> Result<Option<Request>, NoMemory>
     ensures { IfOk result (λ request. request ≡ whole (parse_request bytes.now)) }
 {
-    let mut fields = Fields::over(bytes);
+    let mut fields = Fields::over(version, bytes);
     match iss_request::read_request(alloc, &mut fields) {
         Ok(request) => {
             if fields.is_done() {
@@ -143,10 +153,10 @@ pub fn pack<M: Sequenced>(
 ) -> Result<Row<(To, Bytes)>, NoMemory>
     ensures { IfOk result (λ packets. packets ≡ packed (formats_of setup.now M.meaning) me.0 0 leader.0 sends.now) }
 {
-    let _setup = setup;
+    let version = setup.version;
     let mut packets = Row::new(alloc);
     for (to, msg) in sends {
-        packets.push((*to, wrap::<M>(alloc, me, leader, msg)?))?;
+        packets.push((*to, wrap::<M>(alloc, version, me, leader, msg)?))?;
     }
     Ok(packets)
 }
@@ -154,13 +164,14 @@ pub fn pack<M: Sequenced>(
 // The packet of a message of the first epoch.
 fn wrap<M: Sequenced>(
     alloc: Global,
+    version: u8,
     me: NodeId,
     leader: NodeId,
     msg: &M::Msg,
 ) -> Result<Bytes, NoMemory>
-    ensures { IfOk result (λ bytes. (s : Setup) → bytes ≡ (formats_of s M.meaning).wrap (record { from = me.0; epoch = 0; body = OfModule leader.0 msg.now })) }
+    ensures { IfOk result (λ bytes. (s : Setup) → s.version ≡ version → bytes ≡ (formats_of s M.meaning).wrap (record { from = me.0; epoch = 0; body = OfModule leader.0 msg.now })) }
 {
-    let mut out = Writer::new(alloc);
+    let mut out = Writer::new(alloc, version);
     M::encode(msg, &mut out)?;
     let packet = Packet {
         kind: PacketKind::Message,
@@ -169,5 +180,5 @@ fn wrap<M: Sequenced>(
         leader: leader.0,
         body: out.into_bytes(),
     };
-    packet.encode(alloc)
+    packet.encode(alloc, version)
 }

@@ -12,10 +12,11 @@ ghost use Rattle.iss_sb.specs.Evidence.{Item, accepts};
 
 use crate::judge;
 use iss_ids::Ids;
+use iss_keys::Keys;
 use iss_layout::Layout;
 use iss_model::Refusal;
 use iss_request::{Batch, NoMemory, NodeId, Slot};
-use iss_sb::{Effects, Input, Keys, Params, Sequenced, StepError};
+use iss_sb::{Effects, Input, Params, Sequenced, StepError};
 use std::alloc::Global;
 use std::marker::Model;
 
@@ -82,7 +83,7 @@ impl<M: Sequenced> Segment<M> {
 
     /// Why the batch that this input asks for is refused, if it is.
     pub fn refusal(&self, layout: &Layout, input: &Input<M::Msg>) -> Option<Refusal>
-        requires layout { layout.now ≡ plan_of self.now.params.setup 0 [] }
+        requires layout { layout.now ≡ plan_of self.now.params.setup 0 0 [] }
         requires input { IsGoodInput self.now.params input.now }
         ensures { (xs : List (Item M.Msg)) → IsInstance M.stands self.now xs →
             result ≡ verdict (rules_of self.now.params.setup) [] 0 self.now.params.leader.0 (accepts xs) (M.meaning.asks self.now.params self.now.me.0 xs input.now) }

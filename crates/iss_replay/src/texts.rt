@@ -75,6 +75,6 @@ fn put_block<M: Sequenced>(out: &mut Vec<u8>, world: &World<M>, node: u32) -> Re
         out,
         NodeId(node as u8),
         world.epoch(node),
-        world.entries(node),
+        world.log(node),
     )
 }

@@ -1,8 +1,13 @@
-use Rattle.std.proofs.Common.{◌≡◌, ℕ, ◌+◌, ◌<◌, List, [], ◌∷◌, ◌++◌, length, take, get_or, refl, sym, ap, ◌∙◌, add-one, append_assoc}
-use Rattle.std.proofs.lemmas.List.{append-nil}
+use Rattle.std.proofs.Common.{◌≡◌, ℕ, ◌+◌, ◌<◌, ◌≤◌, List, [], ◌∷◌, ◌++◌, length, take, reverse, get_or, Result, Ok, Err, refl, sym, ap, ◌∙◌, add-one, append_assoc, arith}
+use Rattle.std.specs.Prelude.{OnOk}
+use Rattle.std.proofs.lemmas.List.{append-nil, length-reverse, length-take-le, reverse-append}
 use Rattle.std.proofs.Math.Seq.{take-suc}
+use Rattle.iss_log.proofs.LogLemmas.{requests_more}
+use Rattle.iss_request.specs.Log.{requests, size_of}
 use Rattle.iss_request.specs.declared.requests.Request.{Request}
-use Rattle.iss_report.specs.Text.{request_word, request_words}
+use Rattle.iss_request.specs.declared.requests.Value.{Value}
+use Rattle.iss_request.specs.declared.errors.NoMemory.{NoMemory}
+use Rattle.iss_report.specs.Text.{node_block, node_line, request_word, request_words, slot_line, slot_lines}
 
 -- the elements up to place i, and the one there
 pub take-next : {A : Type 0} (xs : List A) (i : ℕ) (x : A) → i < length xs → x ≡ get_or xs i x → take (i + 1) xs ≡ take i xs ++ x ∷ []
@@ -17,3 +22,35 @@ pub words-next : (out : List ℕ) (qs : List Request) (i : ℕ) (q : Request) �
 words-next out qs i q lt is =
     append_assoc out (request_words (take i qs)) (request_word q)
     ∙ ap (λ t. out ++ t) (sym (ap request_words (take-next qs i q lt is) ∙ request_words-append (take i qs) (q ∷ []) ∙ ap (λ t. request_words (take i qs) ++ t) (append-nil (request_word q))))
+
+-- ---- slots
+
+-- the sum of the sizes does not hang on the order
+pub requests-reverse : (vs : List Value) → requests (reverse vs) ≡ requests vs
+requests-reverse [] = refl
+requests-reverse (v ∷ vs) =
+    let last : requests (reverse (v ∷ vs)) ≡ requests (reverse vs) + size_of v = ap requests (reverse-append (v ∷ []) vs) ∙ requests_more (reverse vs) v in
+    let rest = requests-reverse vs in
+    omega (arith, last, rest)
+
+-- the lines up to slot i, and its own
+pub slots-next : (out : List ℕ) (vs : List Value) (i : ℕ) (v : Value) → i < length vs → v ≡ get_or vs i v
+    → (out ++ slot_lines (reverse (take i vs))) ++ slot_line i (requests (take i vs)) v ≡ out ++ slot_lines (reverse (take (i + 1) vs))
+slots-next out vs i v lt is =
+    let front = take i vs in
+    let turned : reverse (take (i + 1) vs) ≡ v ∷ reverse front = ap (λ (xs : List Value). reverse xs) (take-next vs i v lt is) ∙ reverse-append front (v ∷ []) in
+    let within : i ≤ length vs = omega (arith, lt) in
+    let count : length (reverse front) ≡ i = length-reverse front ∙ length-take-le i vs within in
+    append_assoc out (slot_lines (reverse front)) (slot_line i (requests front) v)
+    ∙ ap (λ k. out ++ (slot_lines (reverse front) ++ slot_line k (requests front) v)) (sym count)
+    ∙ ap (λ k. out ++ (slot_lines (reverse front) ++ slot_line (length (reverse front)) k v)) (sym (requests-reverse front))
+    ∙ ap (λ (xs : List Value). out ++ slot_lines xs) (sym turned)
+
+-- a node's line, and then its slots'
+pub block-is : (out mid now : List ℕ) (n e slots count : ℕ) (vs : List Value) → slots ≡ length vs → count ≡ requests vs → mid ≡ out ++ node_line n e slots count
+    → (r : Result (Unit {0}) NoMemory) → OnOk r (now ≡ mid ++ slot_lines (reverse vs)) → OnOk r (now ≡ out ++ node_block n e (reverse vs))
+block-is out mid now n e slots count vs many all is (Ok u) h =
+    let lines = slot_lines (reverse vs) in
+    h ∙ ap (λ t. t ++ lines) (is ∙ ap (λ k. out ++ node_line n e k count) (many ∙ sym (length-reverse vs)) ∙ ap (λ k. out ++ node_line n e (length (reverse vs)) k) (all ∙ sym (requests-reverse vs)))
+    ∙ append_assoc out (node_line n e (length (reverse vs)) (requests (reverse vs))) lines
+block-is out mid now n e slots count vs many all is (Err x) h = tt

@@ -1,9 +1,10 @@
 //! Lines of a report. After want of memory a part may have been written.
-ghost use Rattle.std.specs.Prelude.{◌≡◌, ◌++◌, ◌+◌, OnOk, IfOk, reverse};
-ghost use Rattle.iss_request.specs.Log.{requests, size_of};
+ghost use Rattle.std.specs.Prelude.{◌≡◌, ◌<◌, ◌++◌, OnOk, length, reverse, take};
+ghost use Rattle.iss_request.specs.Log.{requests};
 ghost use Rattle.iss_report.specs.Text.{drop_line, end_line, node_block, node_line, request_word, request_words, slot_line, slot_lines, value_words};
 
 use crate::words::{put_number, put_text, put_why};
+use iss_log::Log;
 use iss_model::Why;
 use iss_request::{Epoch, NoMemory, NodeId, Request, Slot, Value};
 
@@ -25,41 +26,13 @@ pub fn put_end(out: &mut Vec<u8>) -> Result<(), NoMemory>
     put_text(out, b"end ok\n")
 }
 
-/// Writes a node's block: its line, and a line for each slot of its log, which is given in the order of the slots.
-/// Want of memory comes also where the number of requests would pass 2^64 - 1.
-pub fn put_node(
-    out: &mut Vec<u8>,
-    node: NodeId,
-    epoch: Epoch,
-    entries: &[Value],
-) -> Result<(), NoMemory>
-    ensures { OnOk result (out.new.items ≡ out.old.items ++ node_block node.0 epoch.0 (reverse entries.now)) }
+/// Writes a node's block: its line, and a line for each slot of its log.
+pub fn put_node(out: &mut Vec<u8>, node: NodeId, epoch: Epoch, log: &Log) -> Result<(), NoMemory>
+    ensures { OnOk result (out.new.items ≡ out.old.items ++ node_block node.0 epoch.0 (reverse log.now.entries)) }
 {
-    let count = count_requests(entries)?;
-    put_node_line(out, node, epoch, entries.len() as u64, count)?;
-    put_slots(out, entries)
-}
-
-// How many requests the values hold.
-fn count_requests(entries: &[Value]) -> Result<u64, NoMemory>
-    ensures { IfOk result (λ count. count ≡ requests (reverse entries.now)) }
-{
-    let mut count = 0u64;
-    for value in entries {
-        count = plus(count, value)?;
-    }
-    Ok(count)
-}
-
-// The number of the request that follows a value.
-fn plus(first: u64, value: &Value) -> Result<u64, NoMemory>
-    ensures { IfOk result (λ next. next ≡ size_of value.now + first) }
-{
-    let size = match value {
-        Value::Nil => 0,
-        Value::Batch(batch) => batch.len() as u64,
-    };
-    size.checked_add(first).ok_or(NoMemory)
+    let slots = log.entries().len() as u64;
+    put_node_line(out, node, epoch, slots, log.requests())?;
+    put_slots(out, log)
 }
 
 // Writes the first line of a node's block.
@@ -84,24 +57,33 @@ fn put_node_line(
 }
 
 // Writes a line for each slot.
-fn put_slots(out: &mut Vec<u8>, entries: &[Value]) -> Result<(), NoMemory>
-    ensures { OnOk result (out.new.items ≡ out.old.items ++ slot_lines (reverse entries.now)) }
+fn put_slots(out: &mut Vec<u8>, log: &Log) -> Result<(), NoMemory>
+    ensures { OnOk result (out.new.items ≡ out.old.items ++ slot_lines (reverse log.now.entries)) }
 {
-    let mut first = 0u64;
-    let mut slot = 0u64;
-    for value in entries {
-        put_slot(out, Slot(slot), first, value)?;
-        first = plus(first, value)?;
-        slot += 1;
+    let entries = log.entries();
+    for slot in 0..entries.len() {
+        let first = first_number(log, slot as u64);
+        put_slot(out, slot as u64, first, &entries[slot])?;
     }
     Ok(())
 }
 
-// Writes the line of a slot, whose first request has this number.
-fn put_slot(out: &mut Vec<u8>, slot: Slot, first: u64, value: &Value) -> Result<(), NoMemory>
-    ensures { OnOk result (out.new.items ≡ out.old.items ++ slot_line slot.0 first value.now) }
+// The number of the first request of a slot of the log.
+fn first_number(log: &Log, slot: u64) -> u64
+    requires { slot < length log.now.entries }
+    ensures { result ≡ requests (take slot log.now.entries) }
 {
-    put_number(out, slot.0)?;
+    match log.first_number(Slot(slot)) {
+        Some(first) => first,
+        None => unreachable!(),
+    }
+}
+
+// Writes the line of a slot, whose first request has this number.
+fn put_slot(out: &mut Vec<u8>, slot: u64, first: u64, value: &Value) -> Result<(), NoMemory>
+    ensures { OnOk result (out.new.items ≡ out.old.items ++ slot_line slot first value.now) }
+{
+    put_number(out, slot)?;
     put_value(out, first, value)?;
     put_text(out, b"\n")
 }

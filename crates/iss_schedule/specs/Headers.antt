@@ -6,7 +6,7 @@ use Rattle.iss_request.specs.declared.setups.Setup.{Setup}
 use Rattle.iss_schedule.specs.declared.header.Header.{Header}
 use Rattle.iss_schedule.specs.Reads.{IsWithin}
 
--- three nodes that do not fail, of which two decide
+-- the first version, and three nodes that do not fail, of which two decide
 abbrev pub setup_with : Header → List ℕ → Setup
 setup_with h tag = record {
   version = 1;

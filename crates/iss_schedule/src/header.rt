@@ -14,6 +14,7 @@ use crate::lines::Lines;
 use crate::names::is_same;
 use crate::words::{Words, cut_at, is_number, number_within};
 use iss_request::setups::{Kind, Nodes, Policy, Setup};
+use iss_request::versions::FIRST;
 use sha2::{Digest, Sha256};
 use std::alloc::Global;
 
@@ -173,7 +174,7 @@ pub fn setup_of(alloc: Global, header: Header, text: &[u8]) -> Setup
     ensures { result ≡ setup_with header (sha256 (0x43 ∷ text.now)) }
 {
     Setup {
-        version: 1,
+        version: FIRST,
         module: 1,
         f: 0,
         epoch: u64::from(header.epoch),

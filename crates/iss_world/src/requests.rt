@@ -26,14 +26,18 @@ pub fn request_packet<M: Sequenced>(
         payload: payload.copy()?,
         sig: stand_in(alloc, setup.keys, number)?,
     };
-    Ok(wrapped::<M>(alloc, &request)?)
+    Ok(wrapped::<M>(alloc, setup.version, &request)?)
 }
 
 // The packet of a request.
-fn wrapped<M: Sequenced>(alloc: Global, request: &Request) -> Result<Bytes, NoMemory>
-    ensures { IfOk result (λ bytes. (s : Setup) → bytes ≡ (formats_of s M.meaning).wrap (record { from = 255; epoch = 0; body = OfRequest request.now })) }
+fn wrapped<M: Sequenced>(
+    alloc: Global,
+    version: u8,
+    request: &Request,
+) -> Result<Bytes, NoMemory>
+    ensures { IfOk result (λ bytes. (s : Setup) → s.version ≡ version → bytes ≡ (formats_of s M.meaning).wrap (record { from = 255; epoch = 0; body = OfRequest request.now })) }
 {
-    let mut body = Writer::new(alloc);
+    let mut body = Writer::new(alloc, version);
     write_request(request, &mut body)?;
     let packet = Packet {
         kind: PacketKind::Request,
@@ -42,7 +46,7 @@ fn wrapped<M: Sequenced>(alloc: Global, request: &Request) -> Result<Bytes, NoMe
         leader: 0,
         body: body.into_bytes(),
     };
-    packet.encode(alloc)
+    packet.encode(alloc, version)
 }
 
 // The shape of a signature, under a tree of this height.
@@ -51,9 +55,9 @@ fn stand_in(alloc: Global, height: u32, leaf: u32) -> Result<Bytes, NoMemory>
     ensures { IfOk result (λ sig. sig ≡ stand_in height leaf) }
 {
     let zeros = vec![in alloc; 0u8; 2144 + 32 * height as usize]?;
-    let mut out = Writer::new(alloc);
-    out.put_u8(height as u8)?;
-    out.put_u32(leaf)?;
-    out.put_bytes(zeros.as_slice())?;
-    Ok(out.into_bytes())
+    let mut sig = Vec::new(alloc);
+    sig.push(height as u8)?;
+    sig.extend_from_slice(&leaf.to_be_bytes())?;
+    sig.extend_from_slice(zeros.as_slice())?;
+    Ok(Bytes::of(sig))
 }

@@ -1,22 +1,25 @@
 //! The world of a cluster.
 ghost use Rattle.std.specs.Prelude.{◌≡◌, ◌<◌, ℕ, IfOk, OnOk, reverse, true, false};
 ghost use Rattle.iss_base.specs.Lists.{nth};
-ghost use Rattle.iss_model.specs.Concrete.{rules_of};
+ghost use Rattle.iss_model.specs.Concrete.{keys_of, rules_of};
 ghost use Rattle.iss_model.specs.Formats.{formats_of};
 ghost use Rattle.iss_model.specs.Past.{log_of};
 ghost use Rattle.iss_model.specs.Run.{Net, at_core, begin_net, calms, delivers, delivers_each, done, happens, injects, loses, pumps};
 ghost use Rattle.iss_model.specs.Runs.{IsSetupOf};
 ghost use Rattle.iss_network.specs.Network.{cleared, held_to};
+ghost use Rattle.iss_request.specs.Setup.{IsGoodSetup};
 ghost use Rattle.iss_schedule.specs.Events.{IsInRange};
 ghost use Rattle.iss_world.specs.Stands.{AreFresh, HasHappened, IsFresh, IsStanding, StandsFor};
 
 use crate::posting::post_all;
 use crate::requests::request_packet;
+use iss_keys::SharedDirectory;
+use iss_log::Log;
 use iss_model::{NodeEvent, Why};
 use iss_network::Network;
 use iss_node::{Answer, Node, entries_are_the_log};
 use iss_request::{Bytes, Epoch, Kind, NoMemory, NodeId, Setup, Value};
-use iss_sb::{Keys, Sequenced, node_secret};
+use iss_sb::Sequenced;
 use iss_schedule::Event;
 use std::alloc::Global;
 use std::marker::Model;
@@ -55,9 +58,10 @@ impl<M: Sequenced> World<M> {
         ensures stands { IfOk result (λ v. StandsFor M.meaning M.stands v (begin_net setup.now.n)) }
         ensures same { IfOk result (λ v. v.setup ≡ setup.now) }
     {
+        let directory = directory_of(alloc, setup)?;
         Ok(World {
             setup: setup.copy()?,
-            nodes: start_nodes(alloc, setup)?,
+            nodes: start_nodes(alloc, setup, &directory)?,
             network: Network::new(alloc, setup.n)?,
         })
     }
@@ -268,14 +272,23 @@ impl<M: Sequenced> World<M> {
         &self.setup
     }
 
+    /// A node's log.
+    pub fn log(&self, core: u32) -> &Log
+        requires { core < self.now.setup.n }
+        ensures { (w : Net M.Msg) → StandsFor M.meaning M.stands self.now w →
+            log_of (rules_of self.now.setup) M.meaning core (w.cores core).past ≡ reverse result.now.entries }
+    {
+        entries_are_the_log::<M>();
+        self.nodes[core as usize].log()
+    }
+
     /// The values of a node's log, in the order of the slots.
     pub fn entries(&self, core: u32) -> &[Value]
         requires { core < self.now.setup.n }
         ensures { (w : Net M.Msg) → StandsFor M.meaning M.stands self.now w →
             log_of (rules_of self.now.setup) M.meaning core (w.cores core).past ≡ reverse result.now }
     {
-        entries_are_the_log::<M>();
-        self.nodes[core as usize].entries()
+        self.log(core).entries()
     }
 
     /// A node's epoch.
@@ -287,25 +300,47 @@ impl<M: Sequenced> World<M> {
     }
 }
 
-// The nodes of a cluster, ascending, each of which has taken nothing.
-fn start_nodes<M: Sequenced>(alloc: Global, setup: &Setup) -> Result<Vec<Node<M>>, NoMemory>
-    requires { IsSetupOf M.meaning setup.now }
+// The keys of all nodes and clients. No tree is made before it is needed.
+fn directory_of(alloc: Global, setup: &Setup) -> Result<SharedDirectory, NoMemory>
+    requires { IsGoodSetup setup.now }
+    ensures { IfOk result (λ directory. directory ≡ keys_of setup.now) }
+{
+    match SharedDirectory::make(alloc, setup.n, setup.clients, setup.keys as u8) {
+        Ok(directory) => Ok(directory),
+        Err(_) => Err(NoMemory),
+    }
+}
+
+// The nodes of a cluster, ascending, each of which has taken nothing. All share the directory.
+fn start_nodes<M: Sequenced>(
+    alloc: Global,
+    setup: &Setup,
+    directory: &SharedDirectory,
+) -> Result<Vec<Node<M>>, NoMemory>
+    requires good { IsSetupOf M.meaning setup.now }
+    requires directory { directory.now ≡ keys_of setup.now }
     ensures { IfOk result (λ nodes. AreFresh M.meaning M.stands setup.now setup.now.n nodes.items) }
 {
     let mut nodes = Vec::new(alloc);
     for me in 0..setup.n {
-        nodes.push(start_node(alloc, setup, me)?)?;
+        nodes.push(start_node(alloc, setup, directory, me)?)?;
     }
     Ok(nodes)
 }
 
-// A node that has taken nothing.
-fn start_node<M: Sequenced>(alloc: Global, setup: &Setup, me: u32) -> Result<Node<M>, NoMemory>
+// A node that has taken nothing, with its keys of the directory.
+fn start_node<M: Sequenced>(
+    alloc: Global,
+    setup: &Setup,
+    directory: &SharedDirectory,
+    me: u32,
+) -> Result<Node<M>, NoMemory>
     requires good { IsSetupOf M.meaning setup.now }
+    requires directory { directory.now ≡ keys_of setup.now }
     requires me { me < setup.now.n }
     ensures { IfOk result (λ node. IsFresh M.meaning M.stands setup.now me node) }
 {
     let node = NodeId(me as u8);
-    let keys = Keys::make(node_secret(node), setup.keys);
-    Node::start(alloc, setup, node, keys)
+    let keys = directory.directory().keys_of_node(alloc, node.0);
+    Node::start(alloc, setup, directory, node, keys)
 }

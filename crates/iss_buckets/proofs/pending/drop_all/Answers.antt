@@ -1,10 +1,10 @@
 use Rattle.std.proofs.Common.{sym}
 use Rattle.std.specs.Map.{values_of}
-use Rattle.iss_buckets.proofs.WaitingLemmas.{without_none, dropped_more}
+use Rattle.iss_buckets.proofs.WaitingLemmas.{absent_none, dropped_more}
 use Rattle.iss_buckets.proofs.pending.drop_all.Goals as goal
 
 pub loop-request-init : goal.loop-request-init
-loop-request-init c = record { gone = sym (without_none (values_of c.args.requests.now.entries)); keyed = c.requires }
+loop-request-init c = record { gone = sym (absent_none (values_of c.args.requests.now.entries)); keyed = c.requires }
 
 pub loop-request-preserved : goal.loop-request-preserved
 loop-request-preserved c = record {

@@ -1,7 +1,7 @@
 use Rattle.std.proofs.Common.{◌∙◌, ap, List}
 use Rattle.std.specs.Map.{values_of}
 use Rattle.iss_request.specs.declared.requests.Request.{Request}
-use Rattle.iss_buckets.specs.Waiting.{may_cast, cut_of, left_of}
+use Rattle.iss_buckets.specs.Waiting.{may_cast, cut, uncut}
 use Rattle.iss_buckets.proofs.WaitingLemmas.{cut_same}
 use Rattle.iss_buckets.proofs.pending.Pending.cut.Goals as goal
 
@@ -11,7 +11,7 @@ returns-clause-taken c =
     let owner = c.args.owner.0 in
     c.of.ensures ∙ c.cut_from.ensures.taken
     ∙ (cut_same p owner c.args.max c.in_ok-marks.marks.keys c.args.marked.now (values_of c.self.inside.requests.entries) c.in_ok-marks.ensures).0
-    ∙ ap (λ (qs : List Request). cut_of (may_cast p owner c.args.marked.now) c.args.max qs) c.self.view_is
+    ∙ ap (λ (qs : List Request). cut c.args.max (may_cast p owner c.args.marked.now) qs) c.self.view_is
 
 pub returns-clause-left : goal.returns-clause-left
 returns-clause-left c =
@@ -19,4 +19,4 @@ returns-clause-left c =
     let owner = c.args.owner.0 in
     c.cut_from.ensures.left
     ∙ (cut_same p owner c.args.max c.in_ok-marks.marks.keys c.args.marked.now (values_of c.self.inside.requests.entries) c.in_ok-marks.ensures).1
-    ∙ ap (λ (qs : List Request). left_of (may_cast p owner c.args.marked.now) c.args.max qs) c.self.view_is
+    ∙ ap (λ (qs : List Request). uncut c.args.max (may_cast p owner c.args.marked.now) qs) c.self.view_is

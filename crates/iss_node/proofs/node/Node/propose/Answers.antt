@@ -17,7 +17,7 @@ returns-then-not-has_leaves-clause-answer g c = λ d h.
     let m = g.M.Sequenced.meaning in
     let v = c.args.self.now in
     at-core m g.M.Sequenced.stands v v d (Dropped NoKeys) (λ e. step (formats_of v.setup m) (rules_of v.setup) m v.me.0 e Proposes) h (record {
-      step_is = proposal-is m (formats_of v.setup m) v h.evidence true false (Some c.in-Some.slot) (subst (λ i. leads (plan_of v.setup 0 []) i ≡ true) (ap (λ z. z.me.0) c.self.view_is) (sym c.if-not-leads.ensures.leads)) (sym (c.in-Some.ensures h.evidence h.tied)) (subst (λ i. has_leaves m ((rules_of v.setup).params [] 0 i) v.keys.used ≡ false) (ap (λ z. z.me.0) c.self.view_is) (sym (c.if-not-has_leaves.ensures h.evidence h.tied)));
+      step_is = proposal-is m (formats_of v.setup m) v h.evidence true false (Some c.in-Some.slot) (subst (λ i. leads (plan_of v.setup 0 0 []) i ≡ true) (ap (λ z. z.me.0) c.self.view_is) (sym c.if-not-leads.ensures.leads)) (sym (c.in-Some.ensures h.evidence h.tied)) (subst (λ i. has_leaves m ((rules_of v.setup).params [] 0 i) v.keys.used ≡ false) (ap (λ z. z.me.0) c.self.view_is) (sym (c.if-not-has_leaves.ensures h.evidence h.tied)));
       stands_for = same-stands m g.M.Sequenced.stands v h.evidence h.tied;
     })
 
@@ -28,7 +28,7 @@ returns-in-Ok-clause-answer g c = λ d h.
     let turn = c.in-Ok.ensures.taken h.evidence h.tied in
     at-core m g.M.Sequenced.stands v c.cast.new.self d (Taken c.in-Ok.outcome) (λ e. step (formats_of v.setup m) (rules_of v.setup) m v.me.0 e Proposes) h (record {
       turn = casting (formats_of v.setup m) (rules_of v.setup) m v.me.0 (core_of v h.evidence) c.in-Some.slot;
-      step_is = proposal-is m (formats_of v.setup m) v h.evidence true true (Some c.in-Some.slot) (subst (λ i. leads (plan_of v.setup 0 []) i ≡ true) (ap (λ z. z.me.0) c.self.view_is) (sym c.if-not-leads.ensures.leads)) (sym (c.in-Some.ensures h.evidence h.tied)) (subst (λ i. has_leaves m ((rules_of v.setup).params [] 0 i) v.keys.used ≡ true) (ap (λ z. z.me.0) c.self.view_is) (sym (c.if-not-has_leaves.ensures h.evidence h.tied)));
+      step_is = proposal-is m (formats_of v.setup m) v h.evidence true true (Some c.in-Some.slot) (subst (λ i. leads (plan_of v.setup 0 0 []) i ≡ true) (ap (λ z. z.me.0) c.self.view_is) (sym c.if-not-leads.ensures.leads)) (sym (c.in-Some.ensures h.evidence h.tied)) (subst (λ i. has_leaves m ((rules_of v.setup).params [] 0 i) v.keys.used ≡ true) (ap (λ z. z.me.0) c.self.view_is) (sym (c.if-not-has_leaves.ensures h.evidence h.tied)));
       stands_for = turn.stands_for;
       sends = turn.sends;
       addressed = turn.addressed;

@@ -1,9 +1,14 @@
 //! Each event of one node. What is expected follows from the formats and the table of causes.
+ghost use Rattle.std.specs.Prelude.{◌≡◌, IfOk};
+ghost use Rattle.iss_model.specs.Concrete.{keys_of};
+ghost use Rattle.iss_request.specs.Setup.{IsGoodSetup};
+
 use crate::tests::played::schedule_of;
+use iss_keys::SharedDirectory;
 use iss_model::{NodeEvent, Why};
 use iss_node::{Answer, Node};
-use iss_request::{Bytes, Epoch, NoMemory, NodeId};
-use iss_sb::{Keys, To, node_secret};
+use iss_request::{Bytes, Epoch, NoMemory, NodeId, Setup};
+use iss_sb::To;
 use sb_relay::Relay;
 use std::alloc::Global;
 use std::process::Abort;
@@ -17,11 +22,22 @@ const LATER: &[u8] = b"\x01\x01\x00\0\0\0\0\0\0\0\x02\x00\0\0\0\x0b\x01\0\0\0\0\
 // The head of a packet of a request with a signature under a tree of two levels, which has 2,221 bytes.
 const ASKED: &[u8] = b"\x01\x05\xff\0\0\0\0\0\0\0\0\x00\0\0\x08\xad";
 
+fn directory_of(alloc: Global, setup: &Setup) -> Result<SharedDirectory, NoMemory>
+    requires { IsGoodSetup setup.now }
+    ensures { IfOk result (λ directory. directory ≡ keys_of setup.now) }
+{
+    match SharedDirectory::make(alloc, setup.n, setup.clients, setup.keys as u8) {
+        Ok(directory) => Ok(directory),
+        Err(_) => Err(NoMemory),
+    }
+}
+
 fn node(rt: &impl Abort, alloc: Global, me: u8) -> Result<Node<Relay>, Fail> {
     let setup = schedule_of(alloc, "")?.setup;
     assert!(rt; (me as u32) < setup.n);
-    let keys = Keys::make(node_secret(NodeId(me)), setup.keys);
-    Ok(Node::start(alloc, &setup, NodeId(me), keys)?)
+    let directory = directory_of(alloc, &setup)?;
+    let keys = directory.directory().keys_of_node(alloc, me);
+    Ok(Node::start(alloc, &setup, &directory, NodeId(me), keys)?)
 }
 
 fn packet(alloc: Global, bytes: &[u8]) -> Result<NodeEvent, NoMemory> {
@@ -58,7 +74,7 @@ fn bytes_that_are_no_packet_are_dropped(rt: HostRuntime) -> Result<(), Fail> {
         let answer = node.take(alloc, packet(alloc, bytes)?);
         assert_eq!(rt; cause(&rt, answer)?, Some(Why::NotPacket));
     }
-    assert_eq!(rt; node.entries().len(), 0);
+    assert_eq!(rt; node.log().entries().len(), 0);
     Ok(())
 }
 
@@ -68,10 +84,10 @@ fn a_message_is_of_the_nodes_epoch(rt: HostRuntime) -> Result<(), Fail> {
     let mut node = node(&rt, alloc, 1)?;
     let answer = node.take(alloc, packet(alloc, LATER)?);
     assert_eq!(rt; cause(&rt, answer)?, Some(Why::OtherEpoch));
-    assert_eq!(rt; node.entries().len(), 0);
+    assert_eq!(rt; node.log().entries().len(), 0);
     let answer = node.take(alloc, packet(alloc, SAID)?);
     assert_eq!(rt; cause(&rt, answer)?, None);
-    assert_eq!(rt; node.entries().len(), 1);
+    assert_eq!(rt; node.log().entries().len(), 1);
     assert!(rt; node.epoch() == Epoch(0));
     Ok(())
 }
@@ -113,7 +129,7 @@ fn a_proposal_is_said_to_all(rt: HostRuntime) -> Result<(), Fail> {
     };
     assert!(rt; *to == To::All);
     assert_eq!(rt; bytes.as_slice(), SAID);
-    assert_eq!(rt; node.entries().len(), 0);
+    assert_eq!(rt; node.log().entries().len(), 0);
     Ok(())
 }
 

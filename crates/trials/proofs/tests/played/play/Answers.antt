@@ -1,7 +1,7 @@
 use Rattle.std.proofs.Common.{◌<◌, ◌≡◌, ◌∙◌, length, arith, List, subst, ap, get_or}
 use Rattle.iss_schedule.specs.declared.schedules.Event.{Event}
 use Rattle.iss_replay.proofs.RunLemmas.{in-range-at}
-use Rattle.iss_cli.proofs.tests.played.play.Goals as goal
+use Rattle.trials.proofs.tests.played.play.Goals as goal
 
 pub event-requires-clause-range : goal.event-requires-clause-range
 event-requires-clause-range c =

@@ -2,7 +2,7 @@ use Rattle.std.proofs.Common.{◌≡◌}
 use Rattle.iss_world.specs.Stands.{IsStanding}
 use Rattle.sb_relay.specs.Relay.{relay}
 use Rattle.sb_relay.specs.Stands.{Stands}
-use Rattle.iss_cli.proofs.tests.played.play.Given as goal
+use Rattle.trials.proofs.tests.played.play.Given as goal
 
 abbrev pub invariant-loop-place : goal.invariant-loop-place
 invariant-loop-place l = record {
