@@ -11,7 +11,7 @@ use Rattle.iss_request.proofs.OneSpelling.{value_grammar}
 use Rattle.iss_sb.specs.declared.effects.Params.{Params}
 use Rattle.iss_sb.specs.Statements.{eight_bytes}
 use Rattle.iss_sb.proofs.Statements.{eight-same, head-same}
-use Rattle.sb_echo.specs.Echo.{same_bytes, statement, tag, value_string}
+use Rattle.sb_echo.specs.Echo.{same_bytes, statement, tag, string_of}
 
 pub is-same : (a b : ℕ) → (a == b) ≡ true → a ≡ b
 is-same a b h = (Decides-eqb a b).0 h
@@ -45,8 +45,8 @@ no-good : (v : Value) (x : List ℕ) (n : ℕ) → Good v x ≡ Bad n → ⊥
 no-good v x n h = cc
 
 -- one batch that is read as it is spelled is enough
-pub one-batch : (b c : Batch) → parse_value (spell_value (Holds b) ++ []) ≡ Good (Holds b) [] → value_string b ≡ value_string c → b ≡ c
-one-batch b c h e =
+pub one-batch : (p : Params) (b c : Batch) → parse_value (spell_value (Holds b) ++ []) ≡ Good (Holds b) [] → string_of p b ≡ string_of p c → b ≡ c
+one-batch p b c h e =
     let same : spell_value (Holds b) ≡ spell_value (Holds c) = cc in
     let read : parse_value (spell_value (Holds c) ++ []) ≡ Good (Holds b) [] = ap (λ (s : List ℕ). parse_value (s ++ [])) (sym same) ∙ h in
     elim (value_grammar.whole (Holds c)) [

@@ -19,7 +19,7 @@ use Rattle.iss_sb.proofs.Delivered.{first_of-cases}
 use Rattle.iss_sb.proofs.Worlds.{accepts-cases, accepts-new, accepts-old}
 use Rattle.sb_echo.specs.declared.word.Word.{Word}
 use Rattle.sb_echo.specs.declared.word.Word.TheVariants.{Say, Echo}
-use Rattle.sb_echo.specs.Echo.{asks, batch_for, claims, decide, decided, digest_of, echo_of, has_echo, has_slot, is_cast, is_echo, is_echoed, is_open, made_of, makes, rules, same_bytes, say, statement, taken, value_string, words}
+use Rattle.sb_echo.specs.Echo.{asks, batch_for, claims, decide, decided, digest_of, echo_of, has_echo, has_slot, is_cast, is_echo, is_echoed, is_open, made_of, makes, rules, same_bytes, say, statement, taken, string_of, words}
 use Rattle.sb_echo.proofs.Bytes.{is-same, same-is, same_bytes-is}
 use Rattle.sb_echo.proofs.Quorums.{count-more}
 
@@ -130,7 +130,7 @@ pub record IsAccepted (p : Params) (me : ℕ) (xs : List (Item Word)) (a : Slot 
   pub item : Item Word
   pub stands : In item xs
   pub cause : IsOwn p me item.input a ⊎ IsTold p item.input a
-  pub hashed : In (value_string a.1) item.made.strings
+  pub hashed : In (string_of p a.1) item.made.strings
 
 pub accepted-cause : (p : Params) (me : ℕ) (xs : List (Item Word)) (a : Slot × Batch) → AreMade rules p me xs → In a (accepts xs) → IsAccepted p me xs a
 accepted-cause p me [] a made h = absurd h
@@ -147,10 +147,10 @@ pub record IsSentFor (p : Params) (me : ℕ) (xs : List (Item Word)) (msg : Word
   pub accepted : Slot × Batch
   pub stands : In accepted (accepts xs)
   pub kind : ℕ
-  pub states : (c : Claim) → In c (claims p me msg) → c.statement ≡ statement p kind accepted.0.0 (digest_of accepted.1)
+  pub states : (c : Claim) → In c (claims p me msg) → c.statement ≡ statement p kind accepted.0.0 (digest_of p accepted.1)
 
 abbrev States : Params → ℕ → Slot × Batch → Word → Type 0
-States p me a msg = (kind : ℕ) × ((c : Claim) → In c (claims p me msg) → c.statement ≡ statement p kind a.0.0 (digest_of a.1))
+States p me a msg = (kind : ℕ) × ((c : Claim) → In c (claims p me msg) → c.statement ≡ statement p kind a.0.0 (digest_of p a.1))
 
 say-states : (p : Params) (me leaf : ℕ) (a : Slot × Batch) → States p me a (say p me leaf a)
 say-states p me leaf a = (1, λ c h. elim h [ inl e ↦ ap (λ (z : Claim). z.statement) e | inr k ↦ absurd k ])
@@ -225,19 +225,19 @@ pub record IsDecided (p : Params) (xs : List (Item Word)) (s : ℕ) (v : Value) 
   pub value : v ≡ Holds batch
   pub within : has_slot s p.slots ≡ true
   pub taken : taken s xs ≡ Some batch
-  pub echoed : is_echoed p s (digest_of batch) xs ≡ true
+  pub echoed : is_echoed p s (digest_of p batch) xs ≡ true
 
 pub decided-is : (p : Params) (me : ℕ) (xs : List (Item Word)) (s : ℕ) (v : Value) → decided p me xs s ≡ Some v → IsDecided p xs s v
 decided-is p me xs s v h = go (taken s xs) refl h
   where
     go : (o : Option Batch) → taken s xs ≡ o → decide p s xs o ≡ Some v → IsDecided p xs s v
     go None q r = absurd (cc)
-    go (Some b) q r = there (has_slot s p.slots && is_echoed p s (digest_of b) xs) refl r
+    go (Some b) q r = there (has_slot s p.slots && is_echoed p s (digest_of p b) xs) refl r
       where
-        there : (t : Bool) → (has_slot s p.slots && is_echoed p s (digest_of b) xs) ≡ t → (if t then Some (Holds b) else None) ≡ Some v → IsDecided p xs s v
+        there : (t : Bool) → (has_slot s p.slots && is_echoed p s (digest_of p b) xs) ≡ t → (if t then Some (Holds b) else None) ≡ Some v → IsDecided p xs s v
         there false u z = absurd (cc)
         there true u z =
-            let k = and-true (has_slot s p.slots) (is_echoed p s (digest_of b) xs) u in
+            let k = and-true (has_slot s p.slots) (is_echoed p s (digest_of p b) xs) u in
             record { batch = b; value = sym (some-injective (Holds b) v z); within = k.0; taken = q; echoed = k.1 }
 
 echoed-stays : (p : Params) (s : ℕ) (d : List ℕ) (y : Item Word) (xs : List (Item Word)) → is_echoed p s d xs ≡ true → is_echoed p s d (y ∷ xs) ≡ true
@@ -250,7 +250,7 @@ pub decided-stays : (p : Params) (me : ℕ) (xs : List (Item Word)) (y : Item Wo
 decided-stays p me xs y s v h =
     let d = decided-is p me xs s v h in
     let t : taken s xs ≡ Some d.batch = d.taken in
-    let e = echoed-stays p s (digest_of d.batch) y xs d.echoed in
+    let e = echoed-stays p s (digest_of p d.batch) y xs d.echoed in
     rw (t, d.within, e) (ap (λ (z : Value). Some z) (sym d.value))
 
 pub decided-start : (p : Params) (me s : ℕ) → decided p me [] s ≡ None

@@ -30,7 +30,7 @@ has_slot-In s (t ∷ slots) h = go (t.0 == s.0) refl (has_slot-In s slots) h
     go false q more k = inr (more k)
 
 named : (p : Params) (from : ℕ) (msg : Word) (c : Claim) → In c (claims p from msg) → (rest : List ℕ) × (c.statement ≡ statement_head p tag ++ rest)
-named p from (Say slot batch sig) c (inl e) = (1 ∷ (eight_bytes slot.0 ++ digest_of batch), ap (λ (z : Claim). z.statement) e)
+named p from (Say slot batch sig) c (inl e) = (1 ∷ (eight_bytes slot.0 ++ digest_of p batch), ap (λ (z : Claim). z.statement) e)
 named p from (Say slot batch sig) c (inr h) = absurd h
 named p from (Echo slot d sig) c (inl e) = (2 ∷ (eight_bytes slot.0 ++ d), ap (λ (z : Claim). z.statement) e)
 named p from (Echo slot d sig) c (inr h) = absurd h

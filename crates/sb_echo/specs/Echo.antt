@@ -4,6 +4,8 @@ use Rattle.std.specs.Prelude.{ℕ, zero, suc, ◌+◌, ◌*◌, ◌^◌, ◌==�
 use Rattle.std.specs.Int.{to_be_bytes, w32, w64}
 use Rattle.std.specs.List.{list_any}
 use Rattle.iss_base.specs.Lists.{first_of}
+use Rattle.iss_keys.specs.Directories.{node_secret}
+use Rattle.iss_keys.specs.Signatures.{signature_of}
 use Rattle.iss_request.specs.Digest.{digest}
 use Rattle.iss_request.specs.Formats.{is_signature, parse_signature, parse_value, spell_value}
 use Rattle.iss_request.specs.Parsing.{Parser, ◌>>=◌, block, byte, done, number, such_that}
@@ -26,11 +28,11 @@ use Rattle.sb_echo.specs.declared.word.Word.TheVariants.{Say, Echo}
 -- ---- digests and statements
 
 -- what is hashed of a batch: the string of the value that holds it
-abbrev pub value_string : Batch → List ℕ
-value_string b = 0x40 ∷ spell_value (Holds b)
+abbrev pub string_of : Params → Batch → List ℕ
+string_of p b = 0x40 ∷ spell_value (Holds b)
 
-abbrev pub digest_of : Batch → List ℕ
-digest_of b = digest (value_string b)
+abbrev pub digest_of : Params → Batch → List ℕ
+digest_of p b = digest (string_of p b)
 
 abbrev pub tag : ℕ
 tag = 6
@@ -44,18 +46,19 @@ claim by statement sig = record { by = record { 0 = by }; statement = statement;
 
 -- a message claims its own signature
 abbrev pub claims : Params → ℕ → Word → List Claim
-claims p from (Say slot batch sig) = claim from (statement p 1 slot.0 (digest_of batch)) sig ∷ []
+claims p from (Say slot batch sig) = claim from (statement p 1 slot.0 (digest_of p batch)) sig ∷ []
 claims p from (Echo slot d sig) = claim from (statement p 2 slot.0 d) sig ∷ []
 
--- what stands for a signature, in the shape of one: no law reads it
-abbrev pub signature : Params → ℕ → List ℕ
-signature p leaf = p.setup.keys ∷ to_be_bytes w32 leaf ++ replicate (32 * (67 + p.setup.keys)) 0
+-- node me's signature of a statement, by a leaf of its keys
+abbrev pub signature : Params → ℕ → ℕ → List ℕ → List ℕ
+signature p me leaf s = signature_of (node_secret me) p.setup.keys leaf s
 
+-- the messages that a node signs with a leaf
 abbrev pub say : Params → ℕ → ℕ → Slot × Batch → Word
-say p me leaf a = Say a.0 a.1 (signature p leaf)
+say p me leaf a = Say a.0 a.1 (signature p me leaf (statement p 1 a.0.0 (digest_of p a.1)))
 
 abbrev pub echo_of : Params → ℕ → ℕ → Slot × Batch → Word
-echo_of p me leaf a = Echo a.0 (digest_of a.1) (signature p leaf)
+echo_of p me leaf a = Echo a.0 (digest_of p a.1) (signature p me leaf (statement p 2 a.0.0 (digest_of p a.1)))
 
 -- ---- what a node took
 
@@ -97,7 +100,7 @@ words p me leaf false a = (To_all, echo_of p me leaf a) ∷ []
 
 abbrev pub made_of : Params → ℕ → ℕ → Bool → Option (Slot × Batch) → Made Word
 made_of p me leaf cast None = record { sends = []; accepted = None; strings = []; used = 0 }
-made_of p me leaf cast (Some a) = record { sends = words p me leaf cast a; accepted = Some a; strings = value_string a.1 ∷ []; used = cond cast 2 1 }
+made_of p me leaf cast (Some a) = record { sends = words p me leaf cast a; accepted = Some a; strings = string_of p a.1 ∷ []; used = cond cast 2 1 }
 
 abbrev pub makes : Params → ℕ → List (Item Word) → Input Word → ℕ → Made Word
 makes p me xs input leaf = made_of p me leaf (is_cast input) (asks p me xs input)
@@ -132,7 +135,7 @@ is_echoed p s d xs = nat_le p.setup.quorum (count_below (λ k. has_echo s d k xs
 
 abbrev pub decide : Params → ℕ → List (Item Word) → Option Batch → Option Value
 decide p s xs None = None
-decide p s xs (Some b) = if has_slot s p.slots && is_echoed p s (digest_of b) xs then Some (Holds b) else None
+decide p s xs (Some b) = if has_slot s p.slots && is_echoed p s (digest_of p b) xs then Some (Holds b) else None
 
 abbrev pub decided : Params → ℕ → List (Item Word) → ℕ → Option Value
 decided p me xs s = decide p s xs (taken s xs)

@@ -1,0 +1,178 @@
+//! The rules of echo, and that it is an ordering module.
+ghost use Rattle.std.specs.Prelude.{◌≡◌, ℕ, ◌+◌, ◌≤◌, List, IfOk, OnOk};
+ghost use Rattle.iss_keys.specs.KeyStates.{left_of};
+ghost use Rattle.iss_sb.specs.Calls.{IsGoodInput, IsGoodParams, IsStep, IsTaken};
+ghost use Rattle.iss_sb.specs.Evidence.{Item, and_then};
+ghost use Rattle.sb_echo.specs.declared.word.Word.{Word};
+ghost use Rattle.sb_echo.specs.Echo.{digest_of, echo, signature, statement};
+ghost use Rattle.sb_echo.specs.Stands.{AreKeysOf, HasTaken, HasCompleted, IsOfSegment, Stands, is_complete, is_free, is_heard, may_cast, may_take};
+
+use crate::echoes::Echoes;
+use crate::signing::{ECHO, SAY, digest_of, sign, string_of};
+use crate::word::Word;
+use iss_keys::Keys;
+use iss_request::{Batch, NoMemory, NodeId, Slot, Value};
+use iss_sb::{Effects, Params, To};
+use std::alloc::Global;
+use std::collections::BTreeMap;
+
+/// What a node has at a slot where it took a batch: the batch as a value, which waits for echoes of its digest, or that
+/// it was delivered.
+#[derive(Drop)]
+pub enum Place {
+    Waiting { digest: [u8; 32], value: Value },
+    Delivered,
+}
+
+/// A node's part in one instance: what it took at each slot, and the echoes that it heard.
+#[derive(Drop)]
+pub struct Echo {
+    me: NodeId,
+    places: BTreeMap<u64, Place>,
+    heard: Echoes,
+}
+
+impl Echo {
+    // Whether a batch may be taken at the slot: in the segment, once.
+    fn is_free(&self, p: &Params, slot: Slot) -> bool
+        ensures { result ≡ is_free self.now p.now slot.0 }
+    {
+        p.slots.as_slice().contains(&slot) && !self.places.contains_key(&slot.0)
+    }
+
+    // Whether a batch may be cast at the slot: by the leader.
+    fn may_cast(&self, p: &Params, slot: Slot) -> bool
+        ensures { result ≡ may_cast self.now p.now slot }
+    {
+        self.me == p.leader && self.is_free(p, slot)
+    }
+
+    // Whether the word of a node on the slot is to be taken: the leader's.
+    fn may_take(&self, p: &Params, from: NodeId, slot: Slot) -> bool
+        ensures { result ≡ may_take self.now p.now from slot }
+    {
+        from == p.leader && self.is_free(p, slot)
+    }
+
+    // Whether a quorum echoed the digest at the slot.
+    fn is_heard(&self, p: &Params, slot: Slot, digest: &[u8; 32]) -> bool
+        requires { IsGoodParams echo p.now }
+        ensures { result ≡ is_heard self.now p.now slot.0 digest.now }
+    {
+        self.heard.count(slot, digest, p.setup.n as u8) >= p.setup.quorum
+    }
+
+    // Whether what waits at the slot has its echoes.
+    fn is_complete(&self, p: &Params, slot: Slot) -> bool
+        requires { IsGoodParams echo p.now }
+        ensures { result ≡ is_complete self.now p.now slot.0 }
+    {
+        match self.places.get(&slot.0) {
+            Some(Place::Waiting { digest, .. }) => self.is_heard(p, slot, digest),
+            _ => false,
+        }
+    }
+
+    // Takes a batch at a free slot, and delivers it if its echoes came before it. The digest is that of the batch.
+    fn take(
+        &mut self,
+        alloc: Global,
+        p: &Params,
+        slot: Slot,
+        batch: Batch,
+    ) -> Result<([u8; 32], Effects<Word>), NoMemory>
+        requires { IsGoodParams echo p.now }
+        ensures { IfOk result (λ r. HasTaken p.now self.old self.new slot batch r.0 r.1) }
+    {
+        let mut effects = Effects::nothing(alloc);
+        let string = string_of(alloc, p, &batch)?;
+        let digest = digest_of(p, &batch, &string);
+        effects.hashed.push(string)?;
+        effects.accepted = Some((slot, batch.copy()?));
+        let value = Value::Batch(batch);
+        if self.is_heard(p, slot, &digest) {
+            self.places.insert(slot.0, Place::Delivered)?;
+            effects.delivers.push((slot, value))?;
+        } else {
+            self.places.insert(slot.0, Place::Waiting { digest, value })?;
+        }
+        Ok((digest, effects))
+    }
+
+    // Takes what waits at the slot out of it, where it has its echoes.
+    fn complete(&mut self, p: &Params, slot: Slot) -> Result<Option<Value>, NoMemory>
+        requires { IsGoodParams echo p.now }
+        ensures { IfOk result (λ v. HasCompleted p.now self.old self.new slot v) }
+    {
+        if !self.is_complete(p, slot) {
+            return Ok(None);
+        }
+        match self.places.insert(slot.0, Place::Delivered)? {
+            Some(Place::Waiting { value, .. }) => Ok(Some(value)),
+            _ => Ok(None),
+        }
+    }
+
+    /// The leader takes a batch that is cast to it, says it to all, and echoes it.
+    fn cast(
+        &mut self,
+        alloc: Global,
+        p: &Params,
+        slot: Slot,
+        batch: Batch,
+        keys: &mut Keys,
+    ) -> Result<Effects<Word>, NoMemory>
+    {
+        if !self.may_cast(p, slot) {
+            return Ok(Effects::nothing(alloc));
+        }
+        let said = batch.copy()?;
+        let (digest, mut effects) = self.take(alloc, p, slot, batch)?;
+        let sig = sign(alloc, p, SAY, slot, &digest, keys)?;
+        effects.sends.push((To::All, Word::Say { slot, batch: said, sig }))?;
+        let sig = sign(alloc, p, ECHO, slot, &digest, keys)?;
+        effects.sends.push((To::All, Word::Echo { slot, digest, sig }))?;
+        Ok(effects)
+    }
+
+    /// A node takes the leader's first word on a slot, and echoes its digest to all.
+    fn take_say(
+        &mut self,
+        alloc: Global,
+        p: &Params,
+        from: NodeId,
+        slot: Slot,
+        batch: Batch,
+        keys: &mut Keys,
+    ) -> Result<Effects<Word>, NoMemory>
+    {
+        if !self.may_take(p, from, slot) {
+            return Ok(Effects::nothing(alloc));
+        }
+        let (digest, mut effects) = self.take(alloc, p, slot, batch)?;
+        let sig = sign(alloc, p, ECHO, slot, &digest, keys)?;
+        effects.sends.push((To::All, Word::Echo { slot, digest, sig }))?;
+        Ok(effects)
+    }
+
+    /// A node hears an echo, and delivers what it took at the slot once a quorum echoed it.
+    fn take_echo(
+        &mut self,
+        alloc: Global,
+        p: &Params,
+        from: NodeId,
+        slot: Slot,
+        digest: [u8; 32],
+    ) -> Result<Effects<Word>, NoMemory>
+    {
+        if !p.slots.as_slice().contains(&slot) {
+            return Ok(Effects::nothing(alloc));
+        }
+        self.heard.hear(slot, digest, from)?;
+        let mut effects = Effects::nothing(alloc);
+        if let Some(value) = self.complete(p, slot)? {
+            effects.delivers.push((slot, value))?;
+        }
+        Ok(effects)
+    }
+}
