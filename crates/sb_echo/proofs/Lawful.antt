@@ -18,10 +18,10 @@ use Rattle.sb_echo.specs.Echo.{asks, claims, digest_of, echo, has_slot, is_cast,
 use Rattle.sb_echo.proofs.Bytes.{is-same, same-is}
 use Rattle.sb_echo.proofs.Facts.{IsOwn, Same, accepted-is, asked, decided-is}
 
-slot_eta : (a b : Slot) → a.0 ≡ b.0 → a ≡ b
+pub slot_eta : (a b : Slot) → a.0 ≡ b.0 → a ≡ b
 slot_eta a b h = ap (λ (n : ℕ). let s : Slot = record { 0 = n } in s) h
 
-has_slot-In : (s : Slot) (slots : List Slot) → has_slot s.0 slots ≡ true → In s slots
+pub has_slot-In : (s : Slot) (slots : List Slot) → has_slot s.0 slots ≡ true → In s slots
 has_slot-In s [] h = absurd (true≢false (sym h))
 has_slot-In s (t ∷ slots) h = go (t.0 == s.0) refl (has_slot-In s slots) h
   where

@@ -71,6 +71,11 @@ is_complete m p s = is_some (completed m p s)
 
 -- ---- what the parts of a rule do
 
+-- what is delivered at one slot
+abbrev pub one_at : Slot → Option Value → List (Slot × Value)
+one_at slot None = []
+one_at slot (Some x) = (slot, x) ∷ []
+
 -- a batch was taken at a slot: it waits, or is delivered where a quorum had echoed it
 pub record HasTaken (p : Params) (old new : Echo) (slot : Slot) (batch : Batch) (d : List ℕ) (e : Effects Word) : Type 0 where
   pub digest : d ≡ digest_of p batch

@@ -4,15 +4,15 @@ ghost use Rattle.iss_keys.specs.KeyStates.{left_of};
 ghost use Rattle.iss_sb.specs.Calls.{IsGoodInput, IsGoodParams, IsStep, IsTaken};
 ghost use Rattle.iss_sb.specs.Evidence.{Item, and_then};
 ghost use Rattle.sb_echo.specs.declared.word.Word.{Word};
-ghost use Rattle.sb_echo.specs.Echo.{digest_of, echo, signature, statement};
-ghost use Rattle.sb_echo.specs.Stands.{AreKeysOf, HasTaken, HasCompleted, IsOfSegment, Stands, is_complete, is_free, is_heard, may_cast, may_take};
+ghost use Rattle.sb_echo.specs.Echo.{digest_of, echo, has_slot, signature, statement};
+ghost use Rattle.sb_echo.specs.Stands.{AreKeysOf, HasTaken, HasCompleted, IsOfSegment, Stands, is_complete, is_free, is_heard, may_cast, may_take, one_at};
 
 use crate::echoes::Echoes;
 use crate::signing::{ECHO, SAY, digest_of, sign, string_of};
 use crate::word::Word;
 use iss_keys::Keys;
-use iss_request::{Batch, NoMemory, NodeId, Slot, Value};
-use iss_sb::{Effects, Params, To};
+use iss_request::{Batch, NoMemory, NodeId, Row, Slot, Value};
+use iss_sb::{Effects, Input, Params, To};
 use std::alloc::Global;
 use std::collections::BTreeMap;
 
@@ -32,12 +32,31 @@ pub struct Echo {
     heard: Echoes,
 }
 
+// Whether the slot is one of the segment.
+fn is_inside(p: &Params, slot: Slot) -> bool
+    ensures { result ≡ has_slot slot.0 p.now.slots }
+{
+    p.slots.as_slice().contains(&slot)
+}
+
+// What is delivered at a slot.
+fn one_at(alloc: Global, slot: Slot, value: Option<Value>) -> Result<Row<(Slot, Value)>, NoMemory>
+    ensures { IfOk result (λ all. all ≡ one_at slot value) }
+{
+    let mut all = Row::new(alloc);
+    let Some(value) = value else {
+        return Ok(all);
+    };
+    all.push((slot, value))?;
+    Ok(all)
+}
+
 impl Echo {
     // Whether a batch may be taken at the slot: in the segment, once.
     fn is_free(&self, p: &Params, slot: Slot) -> bool
         ensures { result ≡ is_free self.now p.now slot.0 }
     {
-        p.slots.as_slice().contains(&slot) && !self.places.contains_key(&slot.0)
+        is_inside(p, slot) && !self.places.contains_key(&slot.0)
     }
 
     // Whether a batch may be cast at the slot: by the leader.
@@ -93,9 +112,9 @@ impl Echo {
         if self.is_heard(p, slot, &digest) {
             self.places.insert(slot.0, Place::Delivered)?;
             effects.delivers.push((slot, value))?;
-        } else {
-            self.places.insert(slot.0, Place::Waiting { digest, value })?;
+            return Ok((digest, effects));
         }
+        self.places.insert(slot.0, Place::Waiting { digest, value })?;
         Ok((digest, effects))
     }
 
@@ -164,15 +183,17 @@ impl Echo {
         slot: Slot,
         digest: [u8; 32],
     ) -> Result<Effects<Word>, NoMemory>
+        requires { IsGoodParams echo p.now }
+        ensures stands { OnOk result ((me : ℕ) (xs : List (Item Word)) (leaf : ℕ) (sig : List ℕ) → Stands self.old p.now me xs →
+            Stands self.new p.now me (and_then echo p.now me xs (Input.Receive from (Word.Echo slot digest sig)) leaf)) }
     {
-        if !p.slots.as_slice().contains(&slot) {
+        if !is_inside(p, slot) {
             return Ok(Effects::nothing(alloc));
         }
         self.heard.hear(slot, digest, from)?;
+        let value = self.complete(p, slot)?;
         let mut effects = Effects::nothing(alloc);
-        if let Some(value) = self.complete(p, slot)? {
-            effects.delivers.push((slot, value))?;
-        }
+        effects.delivers = one_at(alloc, slot, value)?;
         Ok(effects)
     }
 }
