@@ -1,7 +1,7 @@
 -- Membership, longer lists, chains, and functions that are changed at one place.
-use Rattle.std.proofs.Common.{◌∙◌, append_assoc, ◌≡◌, ◌≢◌, ◌⊎◌, inl, inr, ℕ, zero, suc, ◌+◌, ◌≤◌, ◌<◌, Bool, true, false, cond, eqb, not, ◌&&◌, ◌||◌, List, [], ◌∷◌, ◌++◌, length, reverse, Option, Some, None, refl, sym, ap, subst, arith, length-append, true≢false}
+use Rattle.std.proofs.Common.{◌∙◌, append_assoc, ◌≡◌, ◌≢◌, ◌⊎◌, inl, inr, ℕ, zero, suc, ◌+◌, ◌≤◌, ◌<◌, Bool, true, false, cond, eqb, not, ◌&&◌, ◌||◌, List, [], ◌∷◌, ◌++◌, length, reverse, Option, Some, None, refl, sym, ap, ap₂, subst, arith, length-append, true≢false}
 use Rattle.std.proofs.lemmas.Bool.Decides.{eqb_tells, leb_tells, nat_tests}
-use Rattle.iss_base.specs.Lists.{In, Different, Extends, oldest, Chain, first_of, nth, over, set_at, set_at2}
+use Rattle.iss_base.specs.Lists.{In, Different, Extends, oldest, Chain, first_of, nth, over, same_bytes, set_at, set_at2}
 
 pub same_or_not : (a b : ℕ) → (a ≡ b) ⊎ (a ≢ b)
 same_or_not a b = elim (eqb_tells a b) [ inl h ↦ inl h.1 | inr h ↦ inr h.1 ]
@@ -49,6 +49,31 @@ not-true true h = absurd (true≢false (sym h))
 
 pub some-injective : {A : Type 0} (a b : A) → Some a ≡ Some b → a ≡ b
 some-injective a b h = cc
+
+pub same_bytes-is : (a b : List ℕ) → same_bytes a b ≡ true → a ≡ b
+same_bytes-is [] [] h = refl
+same_bytes-is [] (y ∷ ys) h = absurd (true≢false (sym h))
+same_bytes-is (x ∷ xs) [] h = absurd (true≢false (sym h))
+same_bytes-is (x ∷ xs) (y ∷ ys) h =
+    let k = and-true (eqb x y) (same_bytes xs ys) h in
+    let head : x ≡ y = is-eq x y k.0 in
+    let tail : xs ≡ ys = same_bytes-is xs ys k.1 in
+    cc
+
+pub same_bytes-refl : (a : List ℕ) → same_bytes a a ≡ true
+same_bytes-refl [] = refl
+same_bytes-refl (x ∷ xs) = both (eqb x x) (same_bytes xs xs) (eqb-same x) (same_bytes-refl xs)
+
+-- lists of equal lengths with anything behind them
+pub ends-same : {A : Type 0} (a b x y : List A) → length a ≡ length b → a ++ x ≡ b ++ y → (a ≡ b) × (x ≡ y)
+ends-same [] [] x y l h = (refl, h)
+ends-same [] (k ∷ b) x y l h = absurd (omega (arith, l))
+ends-same (j ∷ a) [] x y l h = absurd (omega (arith, l))
+ends-same {A} (j ∷ a) (k ∷ b) x y l h =
+    let head : j ≡ k = cc in
+    let tail : a ++ x ≡ b ++ y = cc in
+    let r = ends-same a b x y (omega (arith, l)) tail in
+    (ap₂ (λ (z : A) (zs : List A). z ∷ zs) head r.0, r.1)
 
 -- membership
 

@@ -1,5 +1,5 @@
 -- Lists that forget nothing are kept newest first: 'before' is a tail, and each definition has one case.
-use Rattle.std.specs.Prelude.{ℕ, zero, suc, List, [], ◌∷◌, ◌++◌, Bool, cond, Option, length, ◌≡◌, ◌⊎◌, leb, eqb, ◌&&◌}
+use Rattle.std.specs.Prelude.{ℕ, zero, suc, List, [], ◌∷◌, ◌++◌, Bool, true, false, cond, Option, length, ◌≡◌, ◌⊎◌, leb, eqb, ◌&&◌, ◌==◌}
 use Rattle.std.specs.declared.option.Option.TheVariants.{Some, None}
 
 -- x stands in the list
@@ -53,3 +53,10 @@ set_at2 f e l x d k = cond (eqb d e && eqb k l) x (f d k)
 abbrev pub below : ℕ → List ℕ
 below zero = []
 below (suc n) = below n ++ n ∷ []
+
+-- whether two lists of numbers are equal
+abbrev pub same_bytes : List ℕ → List ℕ → Bool
+same_bytes [] [] = true
+same_bytes [] (y ∷ ys) = false
+same_bytes (x ∷ xs) [] = false
+same_bytes (x ∷ xs) (y ∷ ys) = (x == y) && same_bytes xs ys

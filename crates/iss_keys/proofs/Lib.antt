@@ -2,4 +2,5 @@ pub mod ChainLemmas
 pub mod TreeLemmas
 pub mod VerifyLemmas
 pub mod ListedLemmas
+pub mod DirectoryLemmas
 pub mod Examples

@@ -36,3 +36,8 @@ VerifiesBy keys i s sig = IsSomeAnd (slice_get keys i) (λ key. Verifies key.roo
 -- key i of the list has the secret of number i and a tree of height h
 abbrev pub HasKeys : (ℕ → List ℕ) → ℕ → List KeyState → Type 0
 HasKeys secret_of h keys = (i : ℕ) (key : KeyState) → slice_get keys i ≡ Some key → (key.secret ≡ secret_of i) × (key.height ≡ h)
+
+-- the key of node me, with a tree of this height
+pub record AreKeysOf (me height : ℕ) (k : KeyState) : Type 0 where
+  pub own : k.secret ≡ node_secret me
+  pub tall : k.height ≡ height

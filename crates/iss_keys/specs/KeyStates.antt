@@ -12,13 +12,11 @@ pub record KeyState : Type 0 where
 abbrev pub left_of : KeyState → ℕ
 left_of k = 2 ^ k.height - k.used
 
--- what a key keeps: these fields, and the nodes of its tree
-pub record IsKey (secret : List ℕ) (h used : ℕ) (nodes : List (List ℕ)) : Type 0 where
+-- what heights and counts of used leaves there are
+pub record IsKey (h used : ℕ) : Type 0 where
   pub low : 2 ≤ h
   pub high : h ≤ 12
   pub within : used ≤ 2 ^ h
-  pub size : length nodes ≡ 2 ^ (h + 1)
-  pub tree : HasNodesFrom secret h 1 nodes
 
 -- the public key: the root of the tree, and its height
 pub record PublicKeyView : Type 0 where

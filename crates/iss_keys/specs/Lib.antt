@@ -6,3 +6,6 @@ pub mod KeyStates
 pub mod Directories
 pub mod Sources
 pub mod Questions
+pub mod VerifiedBy
+pub mod Homes
+pub mod Held

@@ -1,5 +1,5 @@
 -- The tree over the leaves of a secret. Its first byte 0x13 marks an inner node's hash.
-use Rattle.std.specs.Prelude.{◌≡◌, ℕ, zero, suc, ◌+◌, ◌-◌, ◌*◌, ◌/◌, ◌%◌, ◌^◌, ◌<◌, ◌≤◌, ◌==◌, List, [], ◌∷◌, ◌++◌, slice_index_or, if◌then◌else◌}
+use Rattle.std.specs.Prelude.{◌≡◌, ℕ, zero, suc, ◌+◌, ◌-◌, ◌*◌, ◌/◌, ◌%◌, ◌^◌, ◌<◌, ◌≤◌, ◌==◌, List, [], ◌∷◌, ◌++◌, length, slice_index_or, if◌then◌else◌}
 use Rattle.sha2.specs.Sha256.{sha256}
 use Rattle.iss_keys.specs.Chains.{leaf_value}
 
@@ -33,3 +33,13 @@ parent_of p x sibling = if p % 2 == 0 then inner x sibling else inner sibling x
 abbrev pub HasNodesFrom : List ℕ → ℕ → ℕ → List (List ℕ) → Type 0
 HasNodesFrom secret h i nodes = (k p : ℕ) → k ≤ h → p < 2 ^ (h - k) → i ≤ 2 ^ (h - k) + p
     → slice_index_or nodes (2 ^ (h - k) + p) [] ≡ node secret k p
+
+-- these are all its nodes
+pub record AreNodesOf (secret : List ℕ) (h : ℕ) (nodes : List (List ℕ)) : Type 0 where
+  pub size : length nodes ≡ 2 ^ (h + 1)
+  pub tree : HasNodesFrom secret h 1 nodes
+
+-- which tree: of which secret, and how high
+pub record KeyTree : Type 0 where
+  pub secret : List ℕ
+  pub height : ℕ

@@ -62,6 +62,18 @@ impl Directory {
         })
     }
 
+    /// The same directory without memory: what it makes it does not keep.
+    pub(crate) fn alone(alloc: Global, n: u32, clients: u32, height: u8) -> Directory
+        requires { height ≤ 12 }
+        ensures { result ≡ directory_of n clients height }
+    {
+        Directory {
+            nodes: Keyring::alone(alloc, NODE_SECRET, n, height),
+            clients: Keyring::alone(alloc, CLIENT_SECRET, clients, height),
+            answers: Answers::new(alloc),
+        }
+    }
+
     /// The directory of keys that are there. Where these are the nodes' and clients' own it is the one that
     /// `make` gives.
     pub fn of(alloc: Global, nodes: &[Keys], clients: &[Keys]) -> Result<Directory, NoMemory>

@@ -165,11 +165,29 @@ impl Keyring {
         })
     }
 
+    /// The same without memory: what is made is not kept.
+    pub fn alone(alloc: Global, kind: u8, count: u32, height: u8) -> Keyring
+        requires { height ≤ 12 }
+        ensures { result ≡ public_keys_of (λ i. sha256 (kind ∷ i ∷ [])) height count }
+    {
+        Keyring {
+            source: Source::Own(OwnKeys {
+                kind,
+                count,
+                height,
+                made: Vec::new(alloc),
+            }),
+        }
+    }
+
     /// The public keys of keys.
-    pub fn given(alloc: Global, keys: &[Keys]) -> Result<Keyring, AllocError>
+    pub fn given(alloc: Global, keys: &[Keys]) -> Result<Keyring, NoMemory>
         ensures { IfOk result (λ ring. ring ≡ map public_of keys.now) }
     {
-        let publics = keys.iter().map(|key| key.public()).collect(alloc)?;
+        let mut publics = Vec::with_capacity(alloc, keys.len())?;
+        'keys: for key in keys {
+            publics.push(key.public())?;
+        }
         Ok(Keyring {
             source: Source::Given(publics),
         })

@@ -15,8 +15,10 @@ mod chain;
 mod digits;
 mod directories;
 mod keyrings;
+mod late;
 pub mod laws;
 mod marks;
+mod shared;
 mod signing;
 #[cfg(test)]
 mod tests;
@@ -24,5 +26,6 @@ mod tree;
 mod verification;
 
 pub use directories::Directory;
+pub use shared::SharedDirectory;
 pub use signing::{Keys, NoMemory, SignError};
 pub use verification::{PublicKey, verify};

@@ -7,7 +7,8 @@ ghost use Rattle.iss_keys.specs.KeyStates.{KeyState, IsKey, left_of, public_of};
 
 use crate::chain::write_values;
 use crate::digits::digest_of_statement;
-use crate::tree::{tree_of, write_path};
+use crate::late::{LateTree, Tree};
+use crate::tree::write_path;
 use crate::verification::PublicKey;
 use std::alloc::{AllocError, AllocFailed, Global};
 use std::marker::Model;
@@ -71,25 +72,37 @@ fn signature_bytes(
     Ok(out)
 }
 
-/// A key: a secret, the tree over its leaves (64 bytes of memory a leaf), and how many leaves are used.
+// The signature of a statement by a leaf of a tree, which is made for it.
+fn signature_by(tree: &LateTree, leaf: u32, statement: &[u8]) -> Result<Vec<u8>, NoMemory>
+    requires { leaf < 2 ^ tree.now.height }
+    ensures exact { IfOk result (λ sig. sig.items ≡ signature_of tree.now.secret tree.now.height leaf statement.now) }
+    ensures verifies { IfOk result (λ sig. Verifies (root_of tree.now.secret tree.now.height) tree.now.height statement.now sig.items) }
+{
+    let nodes = tree.nodes()?;
+    let secret = tree.secret();
+    let height = tree.height();
+    signature_bytes(tree.alloc(), secret, height, nodes, leaf, statement)
+}
+
+/// A key: a secret, the tree over its leaves, which is made when it is first needed (64 bytes of memory a
+/// leaf), and how many leaves are used.
 #[derive(Drop)]
 pub struct Keys {
-    secret: [u8; 32],
-    height: u8,
+    tree: Tree,
     used: u32,
-    nodes: Vec<[u8; 32]>,
 }
 
 impl Model for Keys {
     ghost Value = { KeyState };
 
-    ghost view = { λ k. record { secret = k.secret; height = k.height; used = k.used } };
+    ghost view = { λ k. record { secret = k.tree.secret; height = k.tree.height; used = k.used } };
 
-    ghost invariant = { λ k. IsKey k.secret k.height k.used k.nodes.items };
+    ghost invariant = { λ k. IsKey k.tree.height k.used };
 }
 
 impl Keys {
-    /// The key of a secret with no leaf used. Making the tree takes 1,072 small hashes a leaf.
+    /// The key of a secret with no leaf used. Making its tree takes 1,072 small hashes a leaf: the first
+    /// signature does this, or the first call of `public`.
     pub fn make(alloc: Global, secret: [u8; 32], height: u8) -> Result<Keys, NoMemory>
         requires low { 2 ≤ height }
         requires high { height ≤ 12 }
@@ -98,19 +111,16 @@ impl Keys {
         Keys::make_at(alloc, secret, height, 0)
     }
 
-    /// The key of a secret with the leaves below `next` used.
+    /// The key of a secret of which the leaves below `next` are used.
     pub fn make_at(alloc: Global, secret: [u8; 32], height: u8, next: u32) -> Result<Keys, NoMemory>
         requires low { 2 ≤ height }
         requires high { height ≤ 12 }
         requires next { next ≤ 2 ^ height }
         ensures { IfOk result (λ keys. keys ≡ record { secret = secret; height = height; used = next }) }
     {
-        let nodes = tree_of(alloc, &secret, height)?;
         Ok(Keys {
-            secret,
-            height,
+            tree: Tree::own(LateTree::new(alloc, secret, height)),
             used: next,
-            nodes,
         })
     }
 
@@ -119,14 +129,15 @@ impl Keys {
         ensures value { result ≡ left_of self.now }
         ensures whole { result + self.now.used ≡ 2 ^ self.now.height }
     {
-        (1 << self.height) - self.used
+        (1 << self.tree.late().height()) - self.used
     }
 
     /// The public key.
     pub fn public(&self) -> PublicKey
         ensures { result ≡ public_of self.now }
     {
-        PublicKey::from_parts(self.nodes[1], self.height)
+        let tree = self.tree.late();
+        PublicKey::from_parts(tree.root(), tree.height())
     }
 
     /// Signs by a leaf of the caller's choice, and counts no leaf as used: no two statements may be signed
@@ -137,15 +148,7 @@ impl Keys {
         ensures verifies { IfOk result (λ sig. Verifies (root_of self.now.secret self.now.height) self.now.height statement.now sig.items) }
         ensures leaf { IfOk result (λ sig. leaf_number sig.items ≡ leaf) }
     {
-        let alloc = *self.nodes.allocator();
-        signature_bytes(
-            alloc,
-            &self.secret,
-            self.height,
-            &self.nodes,
-            leaf,
-            statement,
-        )
+        signature_by(self.tree.late(), leaf, statement)
     }
 
     /// Signs by the least leaf that is not used, which is used from then on. After either error the key is

@@ -1,12 +1,13 @@
 -- How packets are spelled in bytes, and how they are read.
 --
---   packet    version (1 byte, 1), kind (1), from (1), epoch (8), leader (1), length of the body (4, at most
+--   packet    version (1 byte: 1, in version 2 that number), kind (1), from (1), epoch (8), leader (1), length of the body (4, at most
 --             200,000,000), body
 --
 -- A module's message is from a node, in the instance of a node. A vote, an ask and a piece are from a node, and
 -- have leader 0. A request is from nobody: 255, epoch 0, leader 0.
 use Rattle.std.specs.Prelude.{ℕ, ◌^◌, List, [], ◌∷◌, ◌++◌, length, Bool, nat_le, nat_lt, ◌==◌, ◌&&◌, if◌then◌else◌}
 use Rattle.std.specs.Int.{w32, w64, to_be_bytes}
+use Rattle.iss_request.specs.Formats.{version_byte}
 use Rattle.iss_request.specs.Parsing.{Parser, ◌>>=◌, done, such_that, byte, number, block}
 use Rattle.iss_packet.specs.declared.packets.Packet.{Packet}
 use Rattle.iss_packet.specs.declared.packets.PacketKind.{PacketKind}
@@ -43,8 +44,8 @@ is_routed n p = is_routed_as n p.kind p.from p.epoch.0 p.leader
 abbrev pub is_spellable : Packet → Bool
 is_spellable p = nat_lt p.epoch.0 (2 ^ 64) && nat_le (length p.body) 200000000
 
-abbrev pub route_bytes : Packet → List ℕ
-route_bytes p = 1 ∷ kind_byte p.kind ∷ p.from ∷ to_be_bytes w64 p.epoch.0 ++ p.leader ∷ []
+abbrev pub route_bytes : ℕ → Packet → List ℕ
+route_bytes version p = version_byte version ∷ kind_byte p.kind ∷ p.from ∷ to_be_bytes w64 p.epoch.0 ++ p.leader ∷ []
 
 abbrev pub body_bytes : List ℕ → List ℕ
 body_bytes body = to_be_bytes w32 (length body) ++ body
@@ -52,13 +53,13 @@ body_bytes body = to_be_bytes w32 (length body) ++ body
 abbrev pub no_packet : List ℕ
 no_packet = 0 ∷ []
 
-unfoldable pub spell_packet : Packet → List ℕ
-spell_packet p = if is_spellable p then route_bytes p ++ body_bytes p.body else no_packet
+unfoldable pub spell_packet : ℕ → Packet → List ℕ
+spell_packet version p = if is_spellable p then route_bytes version p ++ body_bytes p.body else no_packet
 
 -- ---- reading
 
-unfoldable pub parse_version : Parser ℕ
-parse_version = such_that (λ v. v == 1) byte
+unfoldable pub parse_version : ℕ → Parser ℕ
+parse_version version = such_that (λ v. v == version_byte version) byte
 
 unfoldable pub parse_kind : Parser PacketKind
 parse_kind = do
@@ -68,9 +69,9 @@ parse_kind = do
 unfoldable pub parse_size : Parser ℕ
 parse_size = such_that (λ n. nat_le n 200000000) (number w32)
 
-unfoldable pub parse_parts : Parser Packet
-parse_parts = do
-  version ← parse_version
+unfoldable pub parse_parts : ℕ → Parser Packet
+parse_parts version = do
+  first ← parse_version version
   kind ← parse_kind
   from ← byte
   epoch ← number w64
@@ -79,6 +80,6 @@ parse_parts = do
   body ← block size
   done (record { kind = kind; from = from; epoch = record { 0 = epoch }; leader = leader; body = body })
 
--- a packet in a cluster of n nodes
-unfoldable pub parse_packet : ℕ → Parser Packet
-parse_packet n = such_that (is_routed n) parse_parts
+-- a packet of this version in a cluster of n nodes
+unfoldable pub parse_packet : ℕ → ℕ → Parser Packet
+parse_packet version n = such_that (is_routed n) (parse_parts version)

@@ -1,10 +1,10 @@
 //! Packets and their bytes. `specs/Packets.antt` has the table.
 ghost use Rattle.std.specs.Prelude.{true, ◌≡◌, ℕ, [], ◌∷◌, ◌++◌, ◌≤◌, length, IfOk, OnOk, Err};
-ghost use Rattle.iss_request.specs.Fields.{IsRead, IsUnreadable, IsGrammar, IsBad, Good};
+ghost use Rattle.iss_request.specs.Fields.{and_bytes, IsRead, IsUnreadable, IsGrammar, IsBad, Good};
 ghost use Rattle.iss_request.specs.Parsing.{all_of};
 ghost use Rattle.iss_packet.specs.Packets.{kind_byte, is_routed, is_spellable, route_bytes, body_bytes, spell_packet, parse_version, parse_kind, parse_size, parse_parts, parse_packet};
 
-use iss_request::{Bytes, DecodeError, Epoch, Fields, NoMemory, Writer};
+use iss_request::{Bytes, DecodeError, Epoch, Fields, NoMemory, Writer, version_byte};
 use std::alloc::Global;
 
 /// What a packet holds: a message of an ordering module, a vote on a checkpoint, an ask for a piece of the log, a
@@ -60,9 +60,6 @@ impl From<NoMemory> for PacketError {
     }
 }
 
-// The only version that there is.
-const VERSION: u8 = 1;
-
 // The most bytes of a body.
 const BODY_MAX: u32 = 200_000_000;
 
@@ -82,15 +79,16 @@ fn byte_of(kind: PacketKind) -> u8
 }
 
 fn read_version(f: &mut Fields) -> Result<u8, DecodeError>
-    ensures ok { IfOk result (λ v. IsRead parse_version f.old f.new v) }
-    ensures bad { (at : ℕ) → result ≡ Err (DecodeError.BadField at) → IsUnreadable parse_version f.old at }
+    ensures ok { IfOk result (λ v. IsRead (parse_version f.old.version) f.old f.new v) }
+    ensures bad { (at : ℕ) → result ≡ Err (DecodeError.BadField at) → IsUnreadable (parse_version f.old.version) f.old at }
 {
-    let no_version = f.bad_field();
-    let version = f.read_u8()?;
-    if version != VERSION {
-        return Err(no_version);
+    let other_version = f.bad_field();
+    let wanted = version_byte(f.version());
+    let first = f.read_u8()?;
+    if first != wanted {
+        return Err(other_version);
     }
-    Ok(version)
+    Ok(first)
 }
 
 fn read_kind(f: &mut Fields) -> Result<PacketKind, DecodeError>
@@ -128,10 +126,10 @@ fn copy_of(alloc: Global, bytes: &[u8]) -> Result<Bytes, NoMemory>
 }
 
 fn read_parts(alloc: Global, f: &mut Fields) -> Result<Packet, DecodeError>
-    ensures ok { IfOk result (λ p. IsRead parse_parts f.old f.new p) }
-    ensures bad { (at : ℕ) → result ≡ Err (DecodeError.BadField at) → IsUnreadable parse_parts f.old at }
+    ensures ok { IfOk result (λ p. IsRead (parse_parts f.old.version) f.old f.new p) }
+    ensures bad { (at : ℕ) → result ≡ Err (DecodeError.BadField at) → IsUnreadable (parse_parts f.old.version) f.old at }
 {
-    let _version = read_version(f)?;
+    let _first = read_version(f)?;
     let kind = read_kind(f)?;
     let from = f.read_u8()?;
     let epoch = f.read_u64()?;
@@ -162,14 +160,14 @@ impl Packet {
         }
     }
 
-    /// The packet that the bytes are, all of them, in a cluster of `n` nodes. `NotPacket` comes exactly where they are
-    /// none.
-    pub fn decode(alloc: Global, n: u32, bytes: &[u8]) -> Result<Packet, PacketError>
-        ensures ok { IfOk result (λ p. parse_packet n bytes.now ≡ Good p []) }
-        ensures bad { result ≡ Err PacketError.NotPacket → IsBad (all_of (parse_packet n) bytes.now) }
+    /// The packet that the bytes are by a version, all of them, in a cluster of `n` nodes. `NotPacket` comes exactly
+    /// where they are none.
+    pub fn decode(alloc: Global, version: u8, n: u32, bytes: &[u8]) -> Result<Packet, PacketError>
+        ensures ok { IfOk result (λ p. parse_packet version n bytes.now ≡ Good p []) }
+        ensures bad { result ≡ Err PacketError.NotPacket → IsBad (all_of (parse_packet version n) bytes.now) }
         ensures routed { IfOk result (λ p. is_routed n p ≡ true) }
     {
-        let mut f = Fields::over(bytes);
+        let mut f = Fields::over(version, bytes);
         let packet = read_parts(alloc, &mut f)?;
         if !packet.has_route(n) {
             return Err(PacketError::NotPacket);
@@ -190,9 +188,10 @@ impl Packet {
 
     // The fields before the body's length.
     fn put_route(&self, out: &mut Writer) -> Result<(), NoMemory>
-        ensures { OnOk result (out.new ≡ out.old ++ route_bytes self.now) }
+        ensures { OnOk result (out.new ≡ and_bytes out.old (route_bytes out.old.version self.now)) }
     {
-        out.put_u8(VERSION)?;
+        let first = version_byte(out.version());
+        out.put_u8(first)?;
         out.put_u8(byte_of(self.kind))?;
         out.put_u8(self.from)?;
         out.put_u64(self.epoch.0)?;
@@ -202,7 +201,7 @@ impl Packet {
 
     fn put_body(&self, out: &mut Writer) -> Result<(), NoMemory>
         requires { length self.now.body ≤ 200000000 }
-        ensures { OnOk result (out.new ≡ out.old ++ body_bytes self.now.body) }
+        ensures { OnOk result (out.new ≡ and_bytes out.old (body_bytes self.now.body)) }
     {
         out.put_u32(self.body.len() as u32)?;
         out.put_bytes(self.body.as_slice())?;
@@ -210,7 +209,7 @@ impl Packet {
     }
 
     fn write(&self, out: &mut Writer) -> Result<(), NoMemory>
-        ensures { OnOk result (out.new ≡ out.old ++ spell_packet self.now) }
+        ensures { OnOk result (out.new ≡ and_bytes out.old (spell_packet out.old.version self.now)) }
     {
         if self.has_spelling() {
             self.put_route(out)?;
@@ -220,19 +219,19 @@ impl Packet {
         }
     }
 
-    /// The packet's bytes. One whose body is longer than 200,000,000 bytes has no spelling, and gives bytes that are
+    /// The packet's bytes by a version. One whose body is longer than 200,000,000 bytes has no spelling, and gives bytes that are
     /// no packet's.
-    pub fn encode(&self, alloc: Global) -> Result<Bytes, NoMemory>
-        ensures { IfOk result (λ bytes. bytes ≡ spell_packet self.now) }
+    pub fn encode(&self, alloc: Global, version: u8) -> Result<Bytes, NoMemory>
+        ensures { IfOk result (λ bytes. bytes ≡ spell_packet version self.now) }
     {
-        let mut out = Writer::new(alloc);
+        let mut out = Writer::new(alloc, version);
         self.write(&mut out)?;
         Ok(out.into_bytes())
     }
 }
 
-/// In a cluster of any size a packet has at most one spelling, no spelling begins another one, and what has none is
+/// By each version and in a cluster of any size a packet has at most one spelling, no spelling begins another one, and what has none is
 /// written as bytes that are read as nothing, whatever stands behind them.
 pub fn packets_are_exact()
-    ensures { (n : ℕ) → IsGrammar spell_packet (parse_packet n) }
+    ensures { (version n : ℕ) → IsGrammar (spell_packet version) (parse_packet version n) }
 {}

@@ -2,31 +2,36 @@
 use Rattle.std.proofs.Common.{◌≡◌, ℕ, List, [], ◌∷◌, ◌++◌, refl}
 use Rattle.iss_request.specs.Fields.{Good, Bad}
 use Rattle.iss_request.specs.Parsing.{◌>>=◌, done, such_that, byte, number, block, digests, times, at_end, all_of}
-use Rattle.iss_request.specs.Formats.{spell_request, spell_batch, spell_value, parse_payload, parse_signature, parse_request, parse_batch, parse_rest, parse_value}
+use Rattle.iss_request.specs.Formats.{spell_count, spell_batch, spell_value, parse_payload, parse_signature, parse_request, count_field, parse_count, parse_batch, parse_rest, parse_value}
 use Rattle.iss_request.specs.declared.requests.Value.TheVariants.{Nil, Batch as Holds}
 
--- nil is one byte, and the empty batch is two
-nil_value : spell_value Nil ≡ 0 ∷ []
+-- nil is one byte, and the empty batch is two, by the second version three
+nil_value : (spell_value 1 Nil ≡ 0 ∷ []) × (spell_value 2 Nil ≡ 0 ∷ [])
 unfolding spell_value
-nil_value = refl
+nil_value = (refl, refl)
 
-empty_value : spell_value (Holds []) ≡ 1 ∷ 0 ∷ []
-unfolding spell_value spell_batch
-empty_value = refl
+empty_value : (spell_value 1 (Holds []) ≡ 1 ∷ 0 ∷ []) × (spell_value 2 (Holds []) ≡ 2 ∷ 0 ∷ 0 ∷ [])
+unfolding spell_value spell_batch spell_count
+empty_value = (refl, refl)
 
 -- an empty batch with a byte behind it
-empty_read : parse_value (1 ∷ 0 ∷ 9 ∷ []) ≡ Good (Holds []) (9 ∷ [])
-unfolding parse_value parse_rest parse_batch such_that byte times done ◌>>=◌
-empty_read = refl
+empty_read : (parse_value 1 (1 ∷ 0 ∷ 9 ∷ []) ≡ Good (Holds []) (9 ∷ [])) × (parse_value 2 (2 ∷ 0 ∷ 0 ∷ 9 ∷ []) ≡ Good (Holds []) (9 ∷ []))
+unfolding parse_value parse_rest parse_batch parse_count count_field such_that byte number times done ◌>>=◌
+empty_read = (refl, refl)
 
-trailing : all_of parse_value (1 ∷ 0 ∷ 9 ∷ []) ≡ Bad 2
-unfolding all_of at_end parse_value parse_rest parse_batch such_that byte times done ◌>>=◌
-trailing = refl
+trailing : (all_of (parse_value 1) (1 ∷ 0 ∷ 9 ∷ []) ≡ Bad 2) × (all_of (parse_value 2) (2 ∷ 0 ∷ 0 ∷ 9 ∷ []) ≡ Bad 3)
+unfolding all_of at_end parse_value parse_rest parse_batch parse_count count_field such_that byte number times done ◌>>=◌
+trailing = (refl, refl)
 
--- a count above 32 is itself the fault
-many : parse_value (1 ∷ 33 ∷ []) ≡ Bad 1
-unfolding parse_value parse_rest parse_batch such_that byte times done ◌>>=◌
-many = refl
+-- the other version's batch is refused at its first byte
+other_version : (parse_value 1 (2 ∷ 0 ∷ 0 ∷ []) ≡ Bad 0) × (parse_value 2 (1 ∷ 0 ∷ []) ≡ Bad 0)
+unfolding parse_value such_that byte ◌>>=◌
+other_version = (refl, refl)
+
+-- a count above 32, by the second version above 256, is itself the fault
+many : (parse_value 1 (1 ∷ 33 ∷ []) ≡ Bad 1) × (parse_value 2 (2 ∷ 1 ∷ 1 ∷ []) ≡ Bad 1)
+unfolding parse_value parse_rest parse_batch parse_count count_field such_that byte number times done ◌>>=◌
+many = (refl, refl)
 
 -- request 7.1 with payload aa: a missing signature, and one of height 13
 unsigned : parse_request (7 ∷ 0 ∷ 0 ∷ 0 ∷ 1 ∷ 0 ∷ 1 ∷ 0xaa ∷ []) ≡ Bad 8

@@ -1,20 +1,21 @@
 -- Requests and values have one spelling each.
-use Rattle.std.proofs.Common.{◌≡◌, ℕ, zero, suc, ◌+◌, ◌*◌, ◌^◌, ◌<◌, ◌≤◌, Bool, true, false, ltb, leb, eqb, ◌&&◌, List, [], ◌∷◌, ◌++◌, length, take, drop, refl, sym, ap, subst, ◌∙◌, append_assoc, arith, inl, inr, ◌⊎◌, eqb-true, eq-eqb, append-nil}
+use Rattle.std.proofs.Common.{◌≡◌, ℕ, zero, suc, ◌+◌, ◌*◌, ◌^◌, ◌<◌, ◌≤◌, Bool, true, false, cond, ltb, leb, eqb, ◌&&◌, ◌||◌, List, [], ◌∷◌, ◌++◌, length, take, drop, refl, sym, ap, subst, ◌∙◌, append_assoc, arith, inl, inr, ◌⊎◌, eqb-true, eq-eqb, append-nil}
 use Rattle.std.specs.Prelude.{◌↔◌}
 use Rattle.std.specs.List.{AllByRecursion, flat_map}
 use Rattle.std.specs.Int.{w16, w32, to_be_bytes}
-use Rattle.std.proofs.lemmas.Bool.{cases_lt, ltb-true, leb-true, lt-ltb, le-leb}
+use Rattle.std.proofs.lemmas.Bool.{cases_lt, ne_eqb, ltb-true, leb-true, lt-ltb, le-leb}
 use Rattle.std.proofs.lemmas.List.{take-append-drop, length-append, length-take, length-drop}
 use Rattle.iss_request.specs.Fields.{Good, Bad, IsBad, IsGrammar}
 use Rattle.iss_request.specs.Parsing.{Parser, done, such_that, byte, number, block, times}
-use Rattle.iss_request.specs.Formats.{HasSpelling, IsSpelledRequest, IsSpelledValue, is_height, is_signature, has_spelling, request_bytes, no_request, spell_request, spell_batch, spell_value, parse_payload, parse_signature, parse_request, parse_batch, parse_rest, parse_value}
+use Rattle.iss_request.specs.Formats.{is_second, version_byte, requests_most, HasSpelling, IsSpelledRequest, IsSpelledValue, is_height, is_signature, has_spelling, request_bytes, no_request, no_batch}
+use Rattle.iss_request.specs.Formats.{spell_request, spell_count, spell_batch, spell_value, parse_payload, parse_signature, parse_request, count_field, parse_count, parse_batch, is_first, parse_rest, parse_value}
 use Rattle.iss_request.specs.declared.requests.Request.{Request}
 use Rattle.iss_request.specs.declared.requests.Value.{Value}
 use Rattle.iss_request.specs.declared.requests.Value.TheVariants.{Nil, Batch as Holds}
 use Rattle.iss_request.proofs.ParserLemmas.{then_good, then_bad, first_bad, then_parts, done_parts, test_passed, test_failed, test_parts, byte_again, byte_parts, both_true, wide16, wide32, number_again, number_parts, block_again, block_parts, digests_again, digests_parts}
-use Rattle.iss_request.proofs.FormatLemmas.{request_spelled, request_unspelled, batch_spelled, batch_unspelled}
+use Rattle.iss_request.proofs.FormatLemmas.{request_spelled, request_unspelled, batch_first, batch_rest, batch_spelled, batch_unspelled}
 
-done_good : {A : Type 0} (x : A) (bytes : List ℕ) → done x bytes ≡ Good x bytes
+pub done_good : {A : Type 0} (x : A) (bytes : List ℕ) → done x bytes ≡ Good x bytes
 unfolding done
 done_good x bytes = refl
 
@@ -56,7 +57,7 @@ shaped h rest e =
     let both = both_true (is_height h) (eqb (length rest) (4 + 32 * (67 + h))) e in
     record { tall = both.0; long = eqb-true _ _ both.1 }
 
-signature_again : (sig rest : List ℕ) → is_signature sig ≡ true → parse_signature (sig ++ rest) ≡ Good sig rest
+pub signature_again : (sig rest : List ℕ) → is_signature sig ≡ true → parse_signature (sig ++ rest) ≡ Good sig rest
 unfolding parse_signature
 signature_again [] rest e = absurd cc
 signature_again (h ∷ tail) rest e =
@@ -75,11 +76,11 @@ signature_again (h ∷ tail) rest e =
     (then_good _ _ _ (nodes ++ rest) rest leaf (h ∷ tail) leaf_read
     (then_good _ _ _ rest rest nodes (h ∷ tail) nodes_read end_read))
 
-record IsSigned (bytes rest sig : List ℕ) : Type 0 where
+pub record IsSigned (bytes rest sig : List ℕ) : Type 0 where
   pub parts : bytes ≡ sig ++ rest
   pub shape : is_signature sig ≡ true
 
-signature_parts : (bytes rest sig : List ℕ) → parse_signature bytes ≡ Good sig rest → IsSigned bytes rest sig
+pub signature_parts : (bytes rest sig : List ℕ) → parse_signature bytes ≡ Good sig rest → IsSigned bytes rest sig
 unfolding parse_signature
 signature_parts bytes rest sig e =
     let a = then_parts _ _ bytes rest sig e in
@@ -164,7 +165,7 @@ request_grammar = record {
 -- ---- so many things
 
 -- all of them are read again, or none
-abbrev Whole : {A : Type 0} → (List ℕ) → Parser A → A → Type 0
+abbrev pub Whole : {A : Type 0} → List ℕ → Parser A → A → Type 0
 Whole spelling p x = ((rest : List ℕ) → p (spelling ++ rest) ≡ Good x rest) ⊎ ((rest : List ℕ) → IsBad (p (spelling ++ rest)))
 
 times_none : {A : Type 0} (p : Parser A) (rest : List ℕ) → times 0 p rest ≡ Good [] rest
@@ -183,11 +184,11 @@ times_rest_bad : {A : Type 0} (p : Parser A) (count : ℕ) (bytes mid : List ℕ
 unfolding times
 times_rest_bad p count bytes mid x e bad = (_, then_bad _ _ bytes mid x bad.0 e (first_bad _ _ mid bad.0 bad.1))
 
-record Times {A : Type 0} (spell : A → List ℕ) (count : ℕ) (bytes rest : List ℕ) (xs : List A) : Type 0 where
+pub record Times {A : Type 0} (spell : A → List ℕ) (count : ℕ) (bytes rest : List ℕ) (xs : List A) : Type 0 where
   pub parts : bytes ≡ flat_map spell xs ++ rest
   pub count_is : length xs ≡ count
 
-times_parts : {A : Type 0} (spell : A → List ℕ) (p : Parser A) → IsGrammar spell p → (count : ℕ) (bytes rest : List ℕ) (xs : List A) → times count p bytes ≡ Good xs rest → Times spell count bytes rest xs
+pub times_parts : {A : Type 0} (spell : A → List ℕ) (p : Parser A) → IsGrammar spell p → (count : ℕ) (bytes rest : List ℕ) (xs : List A) → times count p bytes ≡ Good xs rest → Times spell count bytes rest xs
 unfolding times
 times_parts {A} spell p g zero bytes rest xs e =
     let ends = done_parts [] xs bytes rest e in
@@ -201,7 +202,7 @@ times_parts {A} spell p g (suc count) bytes rest xs e =
     let whole : bytes ≡ flat_map spell (a.thing ∷ b.thing) ++ rest = first ∙ ap (λ (x : List ℕ). spell a.thing ++ x) (others.parts ∙ ap (λ (x : List ℕ). flat_map spell b.thing ++ x) ends.1) ∙ sym (append_assoc (spell a.thing) (flat_map spell b.thing) rest) in
     subst (λ (x : List A). Times spell (suc count) bytes rest x) ends.0 record { parts = whole; count_is = ap suc others.count_is }
 
-times_whole : {A : Type 0} (spell : A → List ℕ) (p : Parser A) → IsGrammar spell p → (xs : List A) → Whole (flat_map spell xs) (times (length xs) p) xs
+pub times_whole : {A : Type 0} (spell : A → List ℕ) (p : Parser A) → IsGrammar spell p → (xs : List A) → Whole (flat_map spell xs) (times (length xs) p) xs
 times_whole spell p g [] = inl (λ rest. times_none p rest)
 times_whole spell p g (x ∷ xs) =
     let split = λ (rest : List ℕ). append_assoc (spell x) (flat_map spell xs) rest in
@@ -213,102 +214,7 @@ times_whole spell p g (x ∷ xs) =
       ]
     ]
 
--- ---- batches
-
-abbrev few : ℕ → Bool
-few n = leb n 32
-
-count_read : (b : List Request) (rest : List ℕ) → length b ≤ 32 → such_that few byte (length b ∷ rest) ≡ Good (length b) rest
-count_read b rest le = test_passed few byte (length b ∷ rest) rest (length b) (byte_again (length b) rest) (le-leb (length b) 32 le)
-
-batch_good : (b : List Request) → length b ≤ 32 → ((rest : List ℕ) → times (length b) parse_request (flat_map spell_request b ++ rest) ≡ Good b rest) → (rest : List ℕ) → parse_batch (spell_batch b ++ rest) ≡ Good b rest
-unfolding parse_batch
-batch_good b le good rest = rw (batch_spelled b le) (then_good _ _ _ (flat_map spell_request b ++ rest) rest (length b) b (count_read b _ le) (good rest))
-
-batch_bad : (b : List Request) → length b ≤ 32 → ((rest : List ℕ) → IsBad (times (length b) parse_request (flat_map spell_request b ++ rest))) → (rest : List ℕ) → IsBad (parse_batch (spell_batch b ++ rest))
-unfolding parse_batch
-batch_bad b le bad rest = rw (batch_spelled b le) (_, then_bad _ _ _ (flat_map spell_request b ++ rest) (length b) (bad rest).0 (count_read b _ le) (bad rest).1)
-
-batch_long : (b : List Request) → 32 < length b → (rest : List ℕ) → IsBad (parse_batch (spell_batch b ++ rest))
-unfolding parse_batch
-batch_long b lt rest = rw (batch_unspelled b lt) (0, first_bad _ _ _ 0 (test_failed few byte (255 ∷ rest) rest 255 (byte_again 255 rest) refl))
-
-batch_whole : (b : List Request) → Whole (spell_batch b) parse_batch b
-batch_whole b =
-    elim (cases_lt 32 (length b)) [
-      | inl lt ↦ inr (batch_long b lt)
-      | inr le ↦ elim (times_whole spell_request parse_request request_grammar b) [
-        | inl good ↦ inl (batch_good b le good)
-        | inr bad ↦ inr (batch_bad b le bad)
-      ]
-    ]
-
-batch_only : (bytes rest : List ℕ) (b : List Request) → parse_batch bytes ≡ Good b rest → bytes ≡ spell_batch b ++ rest
-unfolding parse_batch
-batch_only bytes rest b e =
-    let a = then_parts _ _ bytes rest b e in
-    let count = test_parts few byte bytes a.mid a.thing a.first in
-    let requests = times_parts spell_request parse_request request_grammar a.thing a.mid rest b a.second in
-    let le : length b ≤ 32 = omega (arith, requests.count_is, leb-true a.thing 32 count.1) in
-    let front : bytes ≡ a.thing ∷ (flat_map spell_request b ++ rest) = byte_parts bytes a.mid a.thing count.0 ∙ ap (λ (x : List ℕ). a.thing ∷ x) requests.parts in
-    rw (batch_spelled b le, requests.count_is) front
-
-pub batch_grammar : IsGrammar spell_batch parse_batch
-batch_grammar = record { only = batch_only; whole = batch_whole }
-
--- ---- values
-
-abbrev known : ℕ → Bool
-known b = leb b 1
-
-first_read : (n : ℕ) (rest : List ℕ) → known n ≡ true → such_that known byte (n ∷ rest) ≡ Good n rest
-first_read n rest e = test_passed known byte (n ∷ rest) rest n (byte_again n rest) e
-
-nil_whole : (rest : List ℕ) → parse_value (0 ∷ rest) ≡ Good Nil rest
-unfolding parse_value parse_rest
-nil_whole rest = then_good _ _ _ rest rest 0 Nil (first_read 0 rest refl) (done_good Nil rest)
-
-holds_good : (b : List Request) (bytes rest : List ℕ) → parse_batch bytes ≡ Good b rest → parse_value (1 ∷ bytes) ≡ Good (Holds b) rest
-unfolding parse_value parse_rest
-holds_good b bytes rest e = then_good _ _ _ bytes rest 1 (Holds b) (first_read 1 bytes refl) (then_good _ _ bytes rest rest b (Holds b) e (done_good (Holds b) rest))
-
-holds_bad : (bytes : List ℕ) → IsBad (parse_batch bytes) → IsBad (parse_value (1 ∷ bytes))
-unfolding parse_value parse_rest
-holds_bad bytes bad = (_, then_bad _ _ _ bytes 1 bad.0 (first_read 1 bytes refl) (first_bad _ _ bytes bad.0 bad.1))
-
-value_whole : (v : Value) → Whole (spell_value v) parse_value v
-unfolding spell_value
-value_whole Nil = inl (λ rest. nil_whole rest)
-value_whole (Holds b) =
-    elim (batch_whole b) [
-      | inl good ↦ inl (λ rest. holds_good b (spell_batch b ++ rest) rest (good rest))
-      | inr bad ↦ inr (λ rest. holds_bad (spell_batch b ++ rest) (bad rest))
-    ]
-
-rest_only : (n : ℕ) (bytes rest : List ℕ) (v : Value) → n ≤ 1 → parse_rest n bytes ≡ Good v rest → n ∷ bytes ≡ spell_value v ++ rest
-unfolding parse_rest spell_value
-rest_only zero bytes rest v le e =
-    let ends = done_parts Nil v bytes rest e in
-    subst (λ (x : Value). 0 ∷ bytes ≡ spell_value x ++ rest) ends.0 (ap (λ (x : List ℕ). 0 ∷ x) ends.1)
-rest_only (suc n) bytes rest v le e =
-    let one : suc n ≡ 1 = omega arith in
-    let a = then_parts _ _ bytes rest v e in
-    let ends = done_parts (Holds a.thing) v a.mid rest a.second in
-    let batch = batch_only bytes a.mid a.thing a.first in
-    rw one (subst (λ (x : Value). 1 ∷ bytes ≡ spell_value x ++ rest) ends.0 (ap (λ (x : List ℕ). 1 ∷ x) (batch ∙ ap (λ (x : List ℕ). spell_batch a.thing ++ x) ends.1)))
-
-value_only : (bytes rest : List ℕ) (v : Value) → parse_value bytes ≡ Good v rest → bytes ≡ spell_value v ++ rest
-unfolding parse_value
-value_only bytes rest v e =
-    let a = then_parts _ _ bytes rest v e in
-    let first = test_parts known byte bytes a.mid a.thing a.first in
-    byte_parts bytes a.mid a.thing first.0 ∙ rest_only a.thing a.mid rest v (leb-true a.thing 1 first.1) a.second
-
-pub value_grammar : IsGrammar spell_value parse_value
-value_grammar = record { only = value_only; whole = value_whole }
-
--- ---- the relation between things and bytes
-
+-- what holds of each thing that is read holds of all
 times_all : {A : Type 0} (P : A → Type 0) (p : Parser A) → ((bytes rest : List ℕ) (x : A) → p bytes ≡ Good x rest → P x) → (count : ℕ) (bytes rest : List ℕ) (xs : List A) → times count p bytes ≡ Good xs rest → AllByRecursion P xs
 unfolding times
 times_all {A} P p each zero bytes rest xs e =
@@ -319,6 +225,161 @@ times_all {A} P p each (suc count) bytes rest xs e =
     let b = then_parts _ _ a.mid rest xs a.second in
     let ends = done_parts (a.thing ∷ b.thing) xs b.mid rest b.second in
     subst (λ (x : List A). AllByRecursion P x) ends.0 (each bytes a.mid a.thing a.first, times_all P p each count a.mid b.mid b.thing b.first)
+
+-- ---- counts
+
+abbrev few : Bool → ℕ → Bool
+few second n = leb n (cond second 256 32)
+
+count_of : (second : Bool) (n : ℕ) (rest : List ℕ) → n ≤ cond second 256 32 → such_that (few second) (cond second (number w16) byte) (cond second (to_be_bytes w16 n) (n ∷ []) ++ rest) ≡ Good n rest
+count_of true n rest le = test_passed (few true) (number w16) _ rest n (number_again w16 (2 ^ 16) wide16 n rest (omega (arith, le))) (le-leb n 256 le)
+count_of false n rest le = test_passed (few false) byte _ rest n (byte_again n rest) (le-leb n 32 le)
+
+count_again : (version n : ℕ) (rest : List ℕ) → n ≤ requests_most version → parse_count version (spell_count version n ++ rest) ≡ Good n rest
+unfolding parse_count count_field spell_count
+count_again version n rest le = count_of (is_second version) n rest le
+
+no_count_of : (second : Bool) (rest : List ℕ) → such_that (few second) (cond second (number w16) byte) (no_batch ++ rest) ≡ Bad 0
+no_count_of true rest = test_failed (few true) (number w16) _ rest 65535 (number_again w16 (2 ^ 16) wide16 65535 rest (omega arith)) refl
+no_count_of false rest = test_failed (few false) byte _ (255 ∷ rest) 255 (byte_again 255 (255 ∷ rest)) refl
+
+no_count : (version : ℕ) (rest : List ℕ) → parse_count version (no_batch ++ rest) ≡ Bad 0
+unfolding parse_count count_field
+no_count version rest = no_count_of (is_second version) rest
+
+record IsCount (spelled bytes rest : List ℕ) (most n : ℕ) : Type 0 where
+  pub parts : bytes ≡ spelled ++ rest
+  pub few : n ≤ most
+
+parts_of : (second : Bool) (bytes rest : List ℕ) (n : ℕ) → such_that (few second) (cond second (number w16) byte) bytes ≡ Good n rest → IsCount (cond second (to_be_bytes w16 n) (n ∷ [])) bytes rest (cond second 256 32) n
+parts_of true bytes rest n e =
+    let found = test_parts (few true) (number w16) bytes rest n e in
+    record { parts = (number_parts w16 (2 ^ 16) wide16 bytes rest n found.0).parts; few = leb-true n 256 found.1 }
+parts_of false bytes rest n e =
+    let found = test_parts (few false) byte bytes rest n e in
+    record { parts = byte_parts bytes rest n found.0; few = leb-true n 32 found.1 }
+
+count_parts : (version : ℕ) (bytes rest : List ℕ) (n : ℕ) → parse_count version bytes ≡ Good n rest → IsCount (spell_count version n) bytes rest (requests_most version) n
+unfolding parse_count count_field spell_count
+count_parts version bytes rest n e = parts_of (is_second version) bytes rest n e
+
+-- ---- batches
+
+-- the count of a batch, and behind it its requests
+regrouped : (version : ℕ) (b : List Request) (rest : List ℕ) → length b ≤ requests_most version → spell_batch version b ++ rest ≡ spell_count version (length b) ++ (flat_map spell_request b ++ rest)
+regrouped version b rest le = ap (λ (x : List ℕ). x ++ rest) (batch_spelled version b le) ∙ append_assoc (spell_count version (length b)) (flat_map spell_request b) rest
+
+batch_good : (version : ℕ) (b : List Request) → length b ≤ requests_most version → ((rest : List ℕ) → times (length b) parse_request (flat_map spell_request b ++ rest) ≡ Good b rest) → (rest : List ℕ) → parse_batch version (spell_batch version b ++ rest) ≡ Good b rest
+unfolding parse_batch
+batch_good version b le good rest =
+    ap (parse_batch version) (regrouped version b rest le) ∙ then_good _ _ _ (flat_map spell_request b ++ rest) rest (length b) b (count_again version (length b) _ le) (good rest)
+
+batch_bad : (version : ℕ) (b : List Request) → length b ≤ requests_most version → ((rest : List ℕ) → IsBad (times (length b) parse_request (flat_map spell_request b ++ rest))) → (rest : List ℕ) → IsBad (parse_batch version (spell_batch version b ++ rest))
+unfolding parse_batch
+batch_bad version b le bad rest =
+    (_, ap (parse_batch version) (regrouped version b rest le) ∙ then_bad _ _ _ (flat_map spell_request b ++ rest) (length b) (bad rest).0 (count_again version (length b) _ le) (bad rest).1)
+
+batch_long : (version : ℕ) (b : List Request) → requests_most version < length b → (rest : List ℕ) → IsBad (parse_batch version (spell_batch version b ++ rest))
+unfolding parse_batch
+batch_long version b lt rest = rw (batch_unspelled version b lt) (0, first_bad _ _ _ 0 (no_count version rest))
+
+batch_whole : (version : ℕ) (b : List Request) → Whole (spell_batch version b) (parse_batch version) b
+batch_whole version b =
+    elim (cases_lt (requests_most version) (length b)) [
+      | inl lt ↦ inr (batch_long version b lt)
+      | inr le ↦ elim (times_whole spell_request parse_request request_grammar b) [
+        | inl good ↦ inl (batch_good version b le good)
+        | inr bad ↦ inr (batch_bad version b le bad)
+      ]
+    ]
+
+record IsBatch (version : ℕ) (bytes rest : List ℕ) (b : List Request) : Type 0 where
+  pub parts : bytes ≡ spell_batch version b ++ rest
+  pub few : length b ≤ requests_most version
+  pub spelled : AllByRecursion HasSpelling b
+
+batch_parts : (version : ℕ) (bytes rest : List ℕ) (b : List Request) → parse_batch version bytes ≡ Good b rest → IsBatch version bytes rest b
+unfolding parse_batch
+batch_parts version bytes rest b e =
+    let a = then_parts _ _ bytes rest b e in
+    let count = count_parts version bytes a.mid a.thing a.first in
+    let requests = times_parts spell_request parse_request request_grammar a.thing a.mid rest b a.second in
+    let le : length b ≤ requests_most version = rw requests.count_is count.few in
+    record {
+      parts = count.parts ∙ ap (λ (n : ℕ). spell_count version n ++ a.mid) (sym requests.count_is) ∙ ap (λ (x : List ℕ). spell_count version (length b) ++ x) requests.parts ∙ sym (regrouped version b rest le);
+      few = le;
+      spelled = times_all HasSpelling parse_request (λ front back r d. (request_parts front back r d).spelled) a.thing a.mid rest b a.second;
+    }
+
+pub batch_grammar : (version : ℕ) → IsGrammar (spell_batch version) (parse_batch version)
+batch_grammar version = record { only = λ bytes rest b e. (batch_parts version bytes rest b e).parts; whole = batch_whole version }
+
+-- ---- values
+
+nil_whole : (version : ℕ) (rest : List ℕ) → parse_value version (0 ∷ rest) ≡ Good Nil rest
+unfolding parse_value parse_rest
+nil_whole version rest = then_good _ _ _ rest rest 0 Nil (test_passed (is_first version) byte _ rest 0 (byte_again 0 rest) refl) (done_good Nil rest)
+
+-- the first byte of a batch
+holds_first : (version : ℕ) (rest : List ℕ) → such_that (is_first version) byte (version_byte version ∷ rest) ≡ Good (version_byte version) rest
+holds_first version rest = test_passed (is_first version) byte _ rest (version_byte version) (byte_again (version_byte version) rest) (batch_first version)
+
+holds_good : (version : ℕ) (b : List Request) (bytes rest : List ℕ) → parse_batch version bytes ≡ Good b rest → parse_value version (version_byte version ∷ bytes) ≡ Good (Holds b) rest
+unfolding parse_value
+holds_good version b bytes rest e =
+    then_good _ _ _ bytes rest (version_byte version) (Holds b) (holds_first version bytes)
+    (ap (λ (p : Parser Value). p bytes) (batch_rest version) ∙ then_good _ _ bytes rest rest b (Holds b) e (done_good (Holds b) rest))
+
+holds_bad : (version : ℕ) (bytes : List ℕ) → IsBad (parse_batch version bytes) → IsBad (parse_value version (version_byte version ∷ bytes))
+unfolding parse_value
+holds_bad version bytes bad =
+    (_, then_bad _ _ _ bytes (version_byte version) bad.0 (holds_first version bytes) (ap (λ (p : Parser Value). p bytes) (batch_rest version) ∙ first_bad _ _ bytes bad.0 bad.1))
+
+value_whole : (version : ℕ) (v : Value) → Whole (spell_value version v) (parse_value version) v
+unfolding spell_value
+value_whole version Nil = inl (λ rest. nil_whole version rest)
+value_whole version (Holds b) =
+    elim (batch_whole version b) [
+      | inl good ↦ inl (λ rest. holds_good version b (spell_batch version b ++ rest) rest (good rest))
+      | inr bad ↦ inr (λ rest. holds_bad version (spell_batch version b ++ rest) (bad rest))
+    ]
+
+-- what a value is that was read
+abbrev IsValue : ℕ → List ℕ → List ℕ → Value → Type 0
+IsValue version bytes rest Nil = bytes ≡ 0 ∷ rest
+IsValue version bytes rest (Holds b) = (mid : List ℕ) × (bytes ≡ version_byte version ∷ mid) × IsBatch version mid rest b
+
+not_nil : (n m : ℕ) → (eqb (suc n) 0 || eqb (suc n) m) ≡ true → suc n ≡ m
+not_nil n m t = eqb-true (suc n) m (rw (ne_eqb (suc n) 0 (omega arith)) at t)
+
+rest_parts : (version n : ℕ) (bytes rest : List ℕ) (v : Value) → is_first version n ≡ true → parse_rest version n bytes ≡ Good v rest → IsValue version (n ∷ bytes) rest v
+unfolding parse_rest
+rest_parts version zero bytes rest v t e =
+    let ends = done_parts Nil v bytes rest e in
+    subst (λ (x : Value). IsValue version (0 ∷ bytes) rest x) ends.0 (ap (λ (x : List ℕ). 0 ∷ x) ends.1)
+rest_parts version (suc n) bytes rest v t e =
+    let a = then_parts _ _ bytes rest v e in
+    let ends = done_parts (Holds a.thing) v a.mid rest a.second in
+    let batch = subst (λ (x : List ℕ). IsBatch version bytes x a.thing) ends.1 (batch_parts version bytes a.mid a.thing a.first) in
+    let first : suc n ≡ version_byte version = not_nil n (version_byte version) t in
+    subst (λ (x : Value). IsValue version (suc n ∷ bytes) rest x) ends.0 (bytes, ap (λ (m : ℕ). m ∷ bytes) first, batch)
+
+value_parts : (version : ℕ) (bytes rest : List ℕ) (v : Value) → parse_value version bytes ≡ Good v rest → IsValue version bytes rest v
+unfolding parse_value
+value_parts version bytes rest v e =
+    let a = then_parts _ _ bytes rest v e in
+    let first = test_parts (is_first version) byte bytes a.mid a.thing a.first in
+    subst (λ (x : List ℕ). IsValue version x rest v) (sym (byte_parts bytes a.mid a.thing first.0)) (rest_parts version a.thing a.mid rest v first.1 a.second)
+
+value_only : (version : ℕ) (v : Value) (bytes rest : List ℕ) → IsValue version bytes rest v → bytes ≡ spell_value version v ++ rest
+unfolding spell_value
+value_only version Nil bytes rest is = is
+value_only version (Holds b) bytes rest is = is.1 ∙ ap (λ (x : List ℕ). version_byte version ∷ x) is.2.parts
+
+pub value_grammar : (version : ℕ) → IsGrammar (spell_value version) (parse_value version)
+value_grammar version = record { only = λ bytes rest v e. value_only version v bytes rest (value_parts version bytes rest v e); whole = value_whole version }
+
+-- ---- the relation between things and bytes
 
 all_spelled : (b : List Request) → AllByRecursion HasSpelling b → flat_map spell_request b ≡ flat_map request_bytes b
 all_spelled [] h = refl
@@ -337,48 +398,22 @@ request_related r bytes = (
   (λ h. ap parse_request (h.1 ∙ sym (append-nil (request_bytes r))) ∙ request_bytes_again r [] h.0),
 )
 
-nil_holds : (b : List Request) → Nil ≡ Holds b → ⊥
-nil_holds b e = cc
+-- a batch whose requests all have a spelling, in bytes
+batch_table : (version : ℕ) (b : List Request) → length b ≤ requests_most version → AllByRecursion HasSpelling b → spell_batch version b ≡ spell_count version (length b) ++ flat_map request_bytes b
+batch_table version b le h = batch_spelled version b le ∙ ap (λ (x : List ℕ). spell_count version (length b) ++ x) (all_spelled b h)
 
--- what a batch that was read holds
-batch_limits : (bytes rest : List ℕ) (b : List Request) → parse_batch bytes ≡ Good b rest → (length b ≤ 32) × AllByRecursion HasSpelling b
-unfolding parse_batch
-batch_limits bytes rest b e =
-    let a = then_parts _ _ bytes rest b e in
-    let count = test_parts few byte bytes a.mid a.thing a.first in
-    let requests = times_parts spell_request parse_request request_grammar a.thing a.mid rest b a.second in
-    (omega (arith, requests.count_is, leb-true a.thing 32 count.1), times_all HasSpelling parse_request (λ front back r d. (request_parts front back r d).spelled) a.thing a.mid rest b a.second)
+table_parts : (version : ℕ) (v : Value) (bytes : List ℕ) → IsValue version bytes [] v → IsSpelledValue version v bytes
+table_parts version Nil bytes is = is
+table_parts version (Holds b) bytes is =
+    let batch = is.2 in
+    let spelled : is.0 ≡ spell_count version (length b) ++ flat_map request_bytes b = batch.parts ∙ append-nil (spell_batch version b) ∙ batch_table version b batch.few batch.spelled in
+    (batch.few, batch.spelled, is.1 ∙ ap (λ (x : List ℕ). version_byte version ∷ x) spelled)
 
-holds_is : (b c : List Request) (v : Value) → Holds b ≡ v → v ≡ Holds c → b ≡ c
-holds_is b c v e d = cc
+table_again : (version : ℕ) (v : Value) (bytes : List ℕ) → IsSpelledValue version v bytes → parse_value version bytes ≡ Good v []
+table_again version Nil bytes h = ap (parse_value version) h ∙ nil_whole version []
+table_again version (Holds b) bytes h =
+    let spelled : bytes ≡ version_byte version ∷ (spell_batch version b ++ []) = h.2 ∙ ap (λ (x : List ℕ). version_byte version ∷ x) (sym (append-nil (spell_batch version b) ∙ batch_table version b h.0 h.1)) in
+    ap (parse_value version) spelled ∙ holds_good version b (spell_batch version b ++ []) [] (batch_good version b h.0 (times_again b h.1) [])
 
-rest_limits : (n : ℕ) (bytes rest : List ℕ) (b : List Request) → parse_rest n bytes ≡ Good (Holds b) rest → (length b ≤ 32) × AllByRecursion HasSpelling b
-unfolding parse_rest
-rest_limits zero bytes rest b e = absurd (nil_holds b (done_parts Nil (Holds b) bytes rest e).0)
-rest_limits (suc n) bytes rest b e =
-    let a = then_parts _ _ bytes rest (Holds b) e in
-    let ends = done_parts (Holds a.thing) (Holds b) a.mid rest a.second in
-    subst (λ (x : List Request). (length x ≤ 32) × AllByRecursion HasSpelling x) (holds_is a.thing b (Holds b) ends.0 refl) (batch_limits bytes a.mid a.thing a.first)
-
-batch_all : (bytes : List ℕ) (b : List Request) → parse_value bytes ≡ Good (Holds b) [] → (length b ≤ 32) × AllByRecursion HasSpelling b
-unfolding parse_value
-batch_all bytes b e =
-    let a = then_parts _ _ bytes [] (Holds b) e in
-    rest_limits a.thing a.mid [] b a.second
-
-value_parts : (v : Value) (bytes : List ℕ) → parse_value bytes ≡ Good v [] → IsSpelledValue v bytes
-unfolding spell_value
-value_parts Nil bytes e = value_only bytes [] Nil e
-value_parts (Holds b) bytes e =
-    let spelled = batch_all bytes b e in
-    let few_enough = spelled.0 in
-    (few_enough, spelled.1, value_only bytes [] (Holds b) e ∙ append-nil (1 ∷ spell_batch b) ∙ ap (λ (x : List ℕ). 1 ∷ x) (batch_spelled b few_enough ∙ ap (λ (x : List ℕ). length b ∷ x) (all_spelled b spelled.1)))
-
-value_again : (v : Value) (bytes : List ℕ) → IsSpelledValue v bytes → parse_value bytes ≡ Good v []
-value_again Nil bytes h = ap parse_value h ∙ nil_whole []
-value_again (Holds b) bytes h =
-    let whole : bytes ≡ 1 ∷ (spell_batch b ++ []) = h.2 ∙ ap (λ (x : List ℕ). 1 ∷ length b ∷ x) (sym (all_spelled b h.1)) ∙ ap (λ (x : List ℕ). 1 ∷ x) (sym (batch_spelled b h.0)) ∙ ap (λ (x : List ℕ). 1 ∷ x) (sym (append-nil (spell_batch b))) in
-    ap parse_value whole ∙ holds_good b (spell_batch b ++ []) [] (batch_good b h.0 (times_again b h.1) [])
-
-pub value_related : (v : Value) (bytes : List ℕ) → (parse_value bytes ≡ Good v []) ↔ IsSpelledValue v bytes
-value_related v bytes = (value_parts v bytes, value_again v bytes)
+pub value_related : (version : ℕ) (v : Value) (bytes : List ℕ) → (parse_value version bytes ≡ Good v []) ↔ IsSpelledValue version v bytes
+value_related version v bytes = ((λ e. table_parts version v bytes (value_parts version bytes [] v e)), table_again version v bytes)

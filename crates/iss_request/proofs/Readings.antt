@@ -16,6 +16,7 @@ use Rattle.iss_request.proofs.ParserLemmas
 pub read_then : {A B : Type 0} (p : Parser A) (q : A → Parser B) {a b c : Reading} {x : A} {y : B} → IsRead p a b x → IsRead (q x) b c y → IsRead (p >>= q) a c y
 read_then {A} {B} p q {a} {b} {c} {x} {y} r s = record {
   found = ParserLemmas.then_good p q (left a) (left b) (left c) x y r.found s.found;
+  version = s.version ∙ r.version;
   same = s.same ∙ r.same;
   forward = omega (arith, r.forward, s.forward);
   behind = s.behind ∙ r.behind;
@@ -33,10 +34,10 @@ unread_then {A} {B} p q {a} {b} {x} {at} r u = record {
 
 pub read_done : {A : Type 0} (x : A) (a : Reading) → IsRead (done x) a a x
 unfolding done
-read_done x a = record { found = refl; same = refl; forward = omega arith; behind = refl }
+read_done x a = record { found = refl; version = refl; same = refl; forward = omega arith; behind = refl }
 
 pub read_passed : {A : Type 0} (test : A → Bool) (p : Parser A) {a b : Reading} {x : A} → IsRead p a b x → test x ≡ true → IsRead (such_that test p) a b x
-read_passed {A} test p {a} {b} {x} r t = record { found = ParserLemmas.test_passed test p (left a) (left b) x r.found t; same = r.same; forward = r.forward; behind = r.behind }
+read_passed {A} test p {a} {b} {x} r t = record { found = ParserLemmas.test_passed test p (left a) (left b) x r.found t; version = r.version; same = r.same; forward = r.forward; behind = r.behind }
 
 pub unread_failed : {A : Type 0} (test : A → Bool) (p : Parser A) {a b : Reading} {x : A} → IsRead p a b x → test x ≡ false → IsUnreadable (such_that test p) a a.at
 unread_failed {A} test p {a} {b} {x} r t = record { after = 0; found = ParserLemmas.test_failed test p (left a) (left b) x r.found t; field = omega arith }
@@ -66,6 +67,7 @@ moved width a = record a { at = a.at + width }
 read_front : {A : Type 0} (p : Parser A) (a b : Reading) (x : A) (front : List ℕ) (width : ℕ) → p (left a) ≡ Good x (left b) → left a ≡ front ++ left b → length front ≡ width → b ≡ moved width a → IsRead p a b x
 read_front p a b x front width found parts len is = record {
   found = found;
+  version = ap (λ (r : Reading). r.version) is;
   same = ap (λ (r : Reading). r.all) is;
   forward = omega (arith, ap (λ (r : Reading). r.at) is);
   behind = omega (arith, ap (λ (r : Reading). r.at) is, ap length parts, length-append front (left b));
@@ -135,15 +137,15 @@ continues_end p total start count here got e c = rw append-nil at (c.all here []
 
 -- ---- all of the bytes
 
-abbrev pub front : List ℕ → Reading
-front bytes = record { all = bytes; at = 0 }
+abbrev pub front : ℕ → List ℕ → Reading
+front version bytes = record { version = version; all = bytes; at = 0 }
 
-pub unread_whole : {A : Type 0} (p : Parser A) (bytes : List ℕ) (start : Reading) (at : ℕ) → start ≡ front bytes → IsUnreadable p start at → all_of p bytes ≡ Bad at
+pub unread_whole : {A : Type 0} (p : ℕ → Parser A) (version : ℕ) (bytes : List ℕ) (start : Reading) (at : ℕ) → start ≡ front version bytes → IsUnreadable (p start.version) start at → all_of (p version) bytes ≡ Bad at
 unfolding all_of
-unread_whole p bytes start at is u =
-    let here = subst (λ (r : Reading). IsUnreadable p r at) is u in
+unread_whole p version bytes start at is u =
+    let here = subst (λ (r : Reading). IsUnreadable (p r.version) r at) is u in
     let same : at ≡ here.after = omega (arith, here.field) in
-    rw same (ParserLemmas.first_bad p at_end bytes here.after here.found)
+    rw same (ParserLemmas.first_bad (p version) at_end bytes here.after here.found)
 
 end_bad : {A : Type 0} (x : A) (rest : List ℕ) → 0 < length rest → at_end x rest ≡ Bad 0
 unfolding at_end
@@ -157,23 +159,23 @@ contradiction e = cc
 abbrev pub Tells : Bool → Reading → Type 0
 Tells b f = IsTrue b ↔ (length f.all ≤ f.at)
 
-pub left_over : {A : Type 0} (p : Parser A) (bytes : List ℕ) (start f : Reading) (x : A) → start ≡ front bytes → IsRead p start f x → Tells false f → all_of p bytes ≡ Bad f.at
+pub left_over : {A : Type 0} (p : ℕ → Parser A) (version : ℕ) (bytes : List ℕ) (start f : Reading) (x : A) → start ≡ front version bytes → IsRead (p start.version) start f x → Tells false f → all_of (p version) bytes ≡ Bad f.at
 unfolding all_of
-left_over p bytes start f x is r tells =
-    let here = subst (λ (s : Reading). IsRead p s f x) is r in
+left_over p version bytes start f x is r tells =
+    let here = subst (λ (s : Reading). IsRead (p s.version) s f x) is r in
     let lt : f.at < length f.all = elim (cases_lt f.at (length f.all)) [ inl lt ↦ lt | inr le ↦ absurd (contradiction (tells.1 le)) ] in
     let more : 0 < length (left f) = omega (arith, length-drop f.at f.all) in
     let same : f.at ≡ length bytes - length (left f) + 0 = omega (arith, here.behind) in
-    rw same (ParserLemmas.then_bad p at_end bytes (left f) x 0 here.found (end_bad x (left f) more))
+    rw same (ParserLemmas.then_bad (p version) at_end bytes (left f) x 0 here.found (end_bad x (left f) more))
 
-pub unread_end : {A T : Type 0} (p : Parser A) (bytes : List ℕ) (start f : Reading) (x : A) (d : DecodeError) (at : ℕ) → start ≡ front bytes → IsRead p start f x → Tells false f → d ≡ BadField f.at → ◌≡◌ {A = Result T DecodeError} (Err d) (Err (BadField at)) → all_of p bytes ≡ Bad at
-unread_end {A} {T} p bytes start f x d at is r tells made e =
+pub unread_end : {A T : Type 0} (p : ℕ → Parser A) (version : ℕ) (bytes : List ℕ) (start f : Reading) (x : A) (d : DecodeError) (at : ℕ) → start ≡ front version bytes → IsRead (p start.version) start f x → Tells false f → d ≡ BadField f.at → ◌≡◌ {A = Result T DecodeError} (Err d) (Err (BadField at)) → all_of (p version) bytes ≡ Bad at
+unread_end {A} {T} p version bytes start f x d at is r tells made e =
     let same_at : f.at ≡ at = cc in
-    left_over p bytes start f x is r tells ∙ ap Bad same_at
+    left_over p version bytes start f x is r tells ∙ ap Bad same_at
 
-pub read_whole : {A : Type 0} (p : Parser A) (bytes : List ℕ) (start f : Reading) (x : A) → start ≡ front bytes → IsRead p start f x → Tells true f → p bytes ≡ Good x []
-read_whole p bytes start f x is r tells =
-    let here = subst (λ (s : Reading). IsRead p s f x) is r in
+pub read_whole : {A : Type 0} (p : ℕ → Parser A) (version : ℕ) (bytes : List ℕ) (start f : Reading) (x : A) → start ≡ front version bytes → IsRead (p start.version) start f x → Tells true f → p version bytes ≡ Good x []
+read_whole p version bytes start f x is r tells =
+    let here = subst (λ (s : Reading). IsRead (p s.version) s f x) is r in
     let le : length f.all ≤ f.at = tells.0 refl in
     let none : left f ≡ [] = nil_from_length (left f) (omega (arith, length-drop f.at f.all)) in
     rw none at here.found

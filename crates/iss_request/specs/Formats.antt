@@ -2,14 +2,41 @@
 --
 --   request     client (1 byte), number (4), length of the payload (2, at most 256), payload, signature
 --   value       0 for nil; 1, count (1 byte, at most 32), requests
+--               in version 2: 0 for nil; 2, count (2 bytes, at most 256), requests
 --   signature   height of the key's tree (1 byte, 2 to 12), leaf (4), 67 + height digests of 32 bytes
-use Rattle.std.specs.Prelude.{◌≡◌, ◌≤◌, true, ℕ, zero, suc, ◌+◌, ◌*◌, ◌^◌, List, [], ◌∷◌, ◌++◌, length, Bool, false, nat_le, nat_lt, ◌==◌, ◌&&◌, if◌then◌else◌}
+--
+-- A version is any number: 2 is the second, and by every other number things are spelled as by the first.
+use Rattle.std.specs.Prelude.{◌≡◌, ◌≤◌, true, ℕ, zero, suc, ◌+◌, ◌*◌, ◌^◌, List, [], ◌∷◌, ◌++◌, length, Bool, false, nat_le, nat_lt, ◌==◌, ◌&&◌, ◌||◌, if◌then◌else◌}
 use Rattle.std.specs.List.{AllByRecursion, flat_map}
 use Rattle.std.specs.Int.{w16, w32, to_be_bytes}
 use Rattle.iss_request.specs.Parsing.{Parser, ◌>>=◌, done, such_that, byte, number, block, digests, times}
 use Rattle.iss_request.specs.declared.requests.Request.{Request}
 use Rattle.iss_request.specs.declared.requests.Value.{Value}
 use Rattle.iss_request.specs.declared.requests.Value.TheVariants.{Nil, Batch as Holds}
+
+-- ---- versions
+
+abbrev pub is_second : ℕ → Bool
+is_second version = version == 2
+
+-- the byte by which the version is known: the first of a packet, and of a value that is a batch
+abbrev pub version_byte : ℕ → ℕ
+version_byte version = if is_second version then 2 else 1
+
+-- the most requests of a batch
+abbrev pub requests_most : ℕ → ℕ
+requests_most version = if is_second version then 256 else 32
+
+-- ---- values
+
+abbrev pub is_batch : Value → Bool
+is_batch Nil = false
+is_batch (Holds b) = true
+
+-- the requests of a value: nil has none
+abbrev pub batch_of : Value → List Request
+batch_of Nil = []
+batch_of (Holds b) = b
 
 -- ---- what has a spelling
 
@@ -34,15 +61,23 @@ no_request = 0 ∷ 0 ∷ 0 ∷ 0 ∷ 0 ∷ 255 ∷ 255 ∷ []
 unfoldable pub spell_request : Request → List ℕ
 spell_request r = if has_spelling r then request_bytes r else no_request
 
+-- by either version a count that is too large
 abbrev pub no_batch : List ℕ
-no_batch = 255 ∷ []
+no_batch = 255 ∷ 255 ∷ []
 
-unfoldable pub spell_batch : List Request → List ℕ
-spell_batch b = if nat_le (length b) 32 then length b ∷ flat_map spell_request b else no_batch
+unfoldable pub spell_count : ℕ → ℕ → List ℕ
+spell_count version count = if is_second version then to_be_bytes w16 count else count ∷ []
 
-unfoldable pub spell_value : Value → List ℕ
-spell_value Nil = 0 ∷ []
-spell_value (Holds b) = 1 ∷ spell_batch b
+unfoldable pub spell_batch : ℕ → List Request → List ℕ
+spell_batch version b = if nat_le (length b) (requests_most version) then spell_count version (length b) ++ flat_map spell_request b else no_batch
+
+unfoldable pub spell_value : ℕ → Value → List ℕ
+spell_value version Nil = 0 ∷ []
+spell_value version (Holds b) = version_byte version ∷ spell_batch version b
+
+-- what is hashed as a value's digest
+abbrev pub value_string : ℕ → Value → List ℕ
+value_string version v = 0x40 ∷ spell_value version v
 
 -- ---- the table as a relation between things and bytes
 
@@ -52,9 +87,10 @@ HasSpelling r = has_spelling r ≡ true
 abbrev pub IsSpelledRequest : Request → List ℕ → Type 0
 IsSpelledRequest r bytes = HasSpelling r × (bytes ≡ request_bytes r)
 
-abbrev pub IsSpelledValue : Value → List ℕ → Type 0
-IsSpelledValue Nil bytes = bytes ≡ 0 ∷ []
-IsSpelledValue (Holds b) bytes = (length b ≤ 32) × AllByRecursion HasSpelling b × (bytes ≡ 1 ∷ length b ∷ flat_map request_bytes b)
+abbrev pub IsSpelledValue : ℕ → Value → List ℕ → Type 0
+IsSpelledValue version Nil bytes = bytes ≡ 0 ∷ []
+IsSpelledValue version (Holds b) bytes =
+    (length b ≤ requests_most version) × AllByRecursion HasSpelling b × (bytes ≡ version_byte version ∷ spell_count version (length b) ++ flat_map request_bytes b)
 
 -- ---- reading
 
@@ -78,19 +114,28 @@ parse_request = do
   sig ← parse_signature
   done (record { id = record { client = client; number = number }; payload = payload; sig = sig })
 
-unfoldable pub parse_batch : Parser (List Request)
-parse_batch = do
-  count ← such_that (λ n. nat_le n 32) byte
+unfoldable pub count_field : ℕ → Parser ℕ
+count_field version = if is_second version then number w16 else byte
+
+unfoldable pub parse_count : ℕ → Parser ℕ
+parse_count version = such_that (λ n. nat_le n (requests_most version)) (count_field version)
+
+unfoldable pub parse_batch : ℕ → Parser (List Request)
+parse_batch version = do
+  count ← parse_count version
   times count parse_request
 
 -- the first byte says which value it is
-unfoldable pub parse_rest : ℕ → Parser Value
-parse_rest zero = done Nil
-parse_rest (suc one) = do
-  batch ← parse_batch
+abbrev pub is_first : ℕ → ℕ → Bool
+is_first version b = (b == 0) || (b == version_byte version)
+
+unfoldable pub parse_rest : ℕ → ℕ → Parser Value
+parse_rest version zero = done Nil
+parse_rest version (suc b) = do
+  batch ← parse_batch version
   done (Holds batch)
 
-unfoldable pub parse_value : Parser Value
-parse_value = do
-  first ← such_that (λ b. nat_le b 1) byte
-  parse_rest first
+unfoldable pub parse_value : ℕ → Parser Value
+parse_value version = do
+  first ← such_that (is_first version) byte
+  parse_rest version first

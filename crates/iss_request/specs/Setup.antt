@@ -33,6 +33,8 @@ AreRising from n [] = Unit {0}
 AreRising from n (i ∷ is) = (from ≤ i.0) × (i.0 < n) × AreRising (suc i.0) n is
 
 pub record IsGoodSetup (s : Setup) : Type 0 where
+  -- the second is not there yet
+  pub version : s.version ≡ 1
   pub faults : s.f ≤ 3
   pub relay_faults : s.module ≡ 1 → s.f ≡ 0
   pub relay_kind : s.module ≡ 1 → s.kind ≡ Stopping

@@ -1,7 +1,8 @@
-//! A reader and a writer of fields. Numbers of several bytes are big-endian.
+//! A reader and a writer of fields. Numbers of several bytes are big-endian. Both know the version of the formats, so
+//! that what reads or writes a value by them knows it too.
 ghost use Rattle.std.specs.Prelude.{◌≡◌, ◌≢◌, ℕ, ◌+◌, ◌*◌, ◌/◌, ◌^◌, ◌<◌, ◌≤◌, [], ◌∷◌, ◌++◌, length, OnOk, OnErr, IfOk, IfSome, IfNone, IsTrue, ◌↔◌, Err};
 ghost use Rattle.std.specs.Int.{w16, w32, w64, to_be_bytes};
-ghost use Rattle.iss_request.specs.Fields.{Reading, left, IsRead, IsUnreadable};
+ghost use Rattle.iss_request.specs.Fields.{Reading, Written, and_bytes, left, IsRead, IsUnreadable};
 ghost use Rattle.iss_request.specs.Parsing.{byte, number, block, digests};
 
 use crate::bytes::Bytes;
@@ -12,6 +13,7 @@ use std::marker::Model;
 /// Bytes that are read from the front.
 #[derive(Drop)]
 pub struct Fields<'a> {
+    version: u8,
     all: &'a [u8],
     at: usize,
 }
@@ -22,17 +24,28 @@ impl<'a> Model for Fields<'a> {
 
     ghost Value = { Reading };
 
-    ghost view = { λ f. record { all = f.all.now; at = f.at } };
+    ghost view = { λ f. record { version = f.version; all = f.all.now; at = f.at } };
 
     ghost invariant = { λ f. f.at ≤ length f.all.now };
 }
 
 impl<'a> Fields<'a> {
-    /// A reader at the front of these bytes.
-    pub fn over(all: &'a [u8]) -> Fields<'a>
-        ensures { result ≡ record { all = all.now; at = 0 } }
+    /// A reader at the front of these bytes, by a version.
+    pub fn over(version: u8, all: &'a [u8]) -> Fields<'a>
+        ensures { result ≡ record { version = version; all = all.now; at = 0 } }
     {
-        Fields { all, at: 0 }
+        Fields {
+            version,
+            all,
+            at: 0,
+        }
+    }
+
+    /// The version by which it reads.
+    pub fn version(&self) -> u8
+        ensures { result ≡ self.now.version }
+    {
+        self.version
     }
 
     /// The offset of the next byte.
@@ -227,44 +240,53 @@ fn number_of(b: &[u8]) -> u64
 /// Bytes that are written at the end.
 #[derive(Drop)]
 pub struct Writer {
+    version: u8,
     out: Vec<u8>,
 }
 
 impl Model for Writer {
-    ghost use Rattle.std.specs.Prelude.{ℕ, List};
+    ghost use Rattle.iss_request.specs.Fields.{Written};
 
-    ghost Value = { List ℕ };
+    ghost Value = { Written };
 
-    ghost view = { λ w. w.out.items };
+    ghost view = { λ w. record { version = w.version; bytes = w.out.items } };
 }
 
 impl Writer {
-    /// Nothing written yet.
-    pub fn new(alloc: Global) -> Writer
-        ensures { result ≡ [] }
+    /// Nothing written yet, by a version.
+    pub fn new(alloc: Global, version: u8) -> Writer
+        ensures { result ≡ record { version = version; bytes = [] } }
     {
         Writer {
+            version,
             out: Vec::new(alloc),
         }
     }
 
+    /// The version by which it writes.
+    pub fn version(&self) -> u8
+        ensures { result ≡ self.now.version }
+    {
+        self.version
+    }
+
     /// What is written so far.
     pub fn as_slice(&self) -> &[u8]
-        ensures { result.now ≡ self.now }
+        ensures { result.now ≡ self.now.bytes }
     {
         self.out.as_slice()
     }
 
     /// All that was written.
     pub fn into_bytes(self) -> Bytes
-        ensures { result ≡ self }
+        ensures { result ≡ self.bytes }
     {
         Bytes::of(self.out)
     }
 
     /// One byte.
     pub fn put_u8(&mut self, byte: u8) -> Result<(), NoMemory>
-        ensures ok { OnOk result (self.new ≡ self.old ++ byte ∷ []) }
+        ensures ok { OnOk result (self.new ≡ and_bytes self.old (byte ∷ [])) }
         ensures err { OnErr result (self.new ≡ self.old) }
     {
         self.out.push(byte)?;
@@ -273,7 +295,7 @@ impl Writer {
 
     /// A number of two bytes.
     pub fn put_u16(&mut self, number: u16) -> Result<(), NoMemory>
-        ensures ok { OnOk result (self.new ≡ self.old ++ to_be_bytes w16 number) }
+        ensures ok { OnOk result (self.new ≡ and_bytes self.old (to_be_bytes w16 number)) }
         ensures err { OnErr result (self.new ≡ self.old) }
     {
         self.put_bytes(&number.to_be_bytes())
@@ -281,7 +303,7 @@ impl Writer {
 
     /// A number of four bytes.
     pub fn put_u32(&mut self, number: u32) -> Result<(), NoMemory>
-        ensures ok { OnOk result (self.new ≡ self.old ++ to_be_bytes w32 number) }
+        ensures ok { OnOk result (self.new ≡ and_bytes self.old (to_be_bytes w32 number)) }
         ensures err { OnErr result (self.new ≡ self.old) }
     {
         self.put_bytes(&number.to_be_bytes())
@@ -289,7 +311,7 @@ impl Writer {
 
     /// A number of eight bytes.
     pub fn put_u64(&mut self, number: u64) -> Result<(), NoMemory>
-        ensures ok { OnOk result (self.new ≡ self.old ++ to_be_bytes w64 number) }
+        ensures ok { OnOk result (self.new ≡ and_bytes self.old (to_be_bytes w64 number)) }
         ensures err { OnErr result (self.new ≡ self.old) }
     {
         self.put_bytes(&number.to_be_bytes())
@@ -297,7 +319,7 @@ impl Writer {
 
     /// Bytes as they are.
     pub fn put_bytes(&mut self, bytes: &[u8]) -> Result<(), NoMemory>
-        ensures ok { OnOk result (self.new ≡ self.old ++ bytes.now) }
+        ensures ok { OnOk result (self.new ≡ and_bytes self.old bytes.now) }
         ensures err { OnErr result (self.new ≡ self.old) }
     {
         self.out.extend_from_slice(bytes)?;

@@ -10,6 +10,7 @@ pub mod requests;
 pub mod rows;
 pub mod setups;
 pub mod values;
+pub mod versions;
 
 pub use bytes::Bytes;
 pub use errors::{DecodeError, NoMemory};
@@ -22,6 +23,7 @@ pub use values::{
     decode_value, digest_of, encode_value, formats_are_exact, read_request, read_signature,
     read_value, write_request, write_value,
 };
+pub use versions::{is_second, requests_most, version_byte};
 
 #[cfg(test)]
 mod tests;

@@ -65,10 +65,11 @@ impl Nodes {
     }
 }
 
-/// The set-up of a cluster. `epoch` is the number of slots of an epoch, `keys` the height of the key trees, `tag`
-/// the digest of the header, with which every statement of the cluster begins.
+/// The set-up of a cluster. `version` is that of its formats, `epoch` the number of slots of an epoch, `keys` the
+/// height of the key trees, `tag` the digest of the header, with which every statement of the cluster begins.
 #[derive(Drop, Clone, Debug)]
 pub struct Setup {
+    pub version: u8,
     pub module: u8,
     pub f: u32,
     pub epoch: u64,

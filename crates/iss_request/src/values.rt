@@ -1,11 +1,14 @@
-//! How requests and values are spelled in bytes, and their digests. `specs/Formats.antt` has the table.
+//! How requests and values are spelled in bytes, and their digests. `specs/Formats.antt` has the table. A reader and a
+//! writer know their version; a digest is told it.
 ghost use Rattle.std.specs.Prelude.{◌≡◌, ℕ, List, [], ◌∷◌, ◌++◌, ◌≤◌, length, ◌↔◌, IfOk, OnOk, Ok, Err};
 ghost use Rattle.std.specs.List.{flat_map};
 ghost use Rattle.sha2.specs.Hashers.{Holds256};
 ghost use Rattle.sha2.specs.Sha256.{sha256};
-ghost use Rattle.iss_request.specs.Fields.{IsRead, IsUnreadable, IsGrammar, Good, Bad};
+ghost use Rattle.iss_request.specs.Fields.{and_bytes, IsRead, IsUnreadable, IsGrammar, Good, Bad};
 ghost use Rattle.iss_request.specs.Parsing.{all_of, times};
-ghost use Rattle.iss_request.specs.Formats.{IsSpelledRequest, IsSpelledValue, is_height, is_signature, has_spelling, request_bytes, spell_request, spell_value, parse_payload, parse_signature, parse_request, parse_batch, parse_rest, parse_value, spell_batch};
+ghost use Rattle.iss_request.specs.Formats.{IsSpelledRequest, IsSpelledValue, is_height, is_signature, has_spelling, requests_most, request_bytes, value_string};
+ghost use Rattle.iss_request.specs.Formats.{spell_request, spell_count, spell_batch, spell_value};
+ghost use Rattle.iss_request.specs.Formats.{parse_payload, parse_signature, parse_request, count_field, parse_count, parse_batch, parse_rest, parse_value};
 ghost use Rattle.iss_request.specs.declared.requests.Request.{Request};
 ghost use Rattle.iss_request.specs.declared.requests.Value.{Value};
 
@@ -14,20 +17,18 @@ use crate::errors::{DecodeError, NoMemory};
 use crate::fields::{Fields, Writer};
 use crate::ids::ReqId;
 use crate::requests::{Batch, Request, Value};
+use crate::versions::{is_second, requests_most, version_byte};
 use sha2::{Digest, Sha256};
 use std::alloc::Global;
 
 // The most bytes of a payload.
 const PAYLOAD_MAX: u16 = 256;
 
-// The most requests of a batch.
-const REQUESTS_MAX: u8 = 32;
-
 // What stands for a request without a spelling: a length that is too large, and nothing behind it.
 const NO_REQUEST: [u8; 7] = [0, 0, 0, 0, 0, 255, 255];
 
-// What stands for a count that is too large, with nothing behind it.
-const NO_BATCH: u8 = 255;
+// What stands for a batch without a spelling: by either version a count that is too large, and nothing behind it.
+const NO_BATCH: [u8; 2] = [255, 255];
 
 fn is_tree_height(height: u8) -> bool
     ensures { result ≡ is_height height }
@@ -57,7 +58,7 @@ fn is_spellable(request: &Request) -> bool
 
 /// Writes a request. One that has no spelling is written as bytes that no reader takes.
 pub fn write_request(request: &Request, out: &mut Writer) -> Result<(), NoMemory>
-    ensures { OnOk result (out.new ≡ out.old ++ spell_request request.now) }
+    ensures { OnOk result (out.new ≡ and_bytes out.old (spell_request request.now)) }
 {
     if is_spellable(request) {
         put_request(request, out)
@@ -68,7 +69,7 @@ pub fn write_request(request: &Request, out: &mut Writer) -> Result<(), NoMemory
 
 fn put_request(request: &Request, out: &mut Writer) -> Result<(), NoMemory>
     requires { length request.now.payload ≤ 256 }
-    ensures { OnOk result (out.new ≡ out.old ++ request_bytes request.now) }
+    ensures { OnOk result (out.new ≡ and_bytes out.old (request_bytes request.now)) }
 {
     out.put_u8(request.id.client)?;
     out.put_u32(request.id.number)?;
@@ -81,17 +82,28 @@ fn put_request(request: &Request, out: &mut Writer) -> Result<(), NoMemory>
 /// Writes a batch as it stands in a value, behind the byte that says that the value is one. A batch that has no
 /// spelling is written as bytes that no reader takes.
 pub fn write_batch(batch: &Batch, out: &mut Writer) -> Result<(), NoMemory>
-    ensures { OnOk result (out.new ≡ out.old ++ spell_batch batch.now) }
+    ensures { OnOk result (out.new ≡ and_bytes out.old (spell_batch out.old.version batch.now)) }
 {
-    if batch.len() > REQUESTS_MAX as usize {
-        return out.put_u8(NO_BATCH);
+    if batch.len() > requests_most(out.version()) as usize {
+        return out.put_bytes(&NO_BATCH);
     }
-    out.put_u8(batch.len() as u8)?;
+    put_count(batch.len() as u16, out)?;
     write_requests(batch.as_slice(), out)
 }
 
+fn put_count(count: u16, out: &mut Writer) -> Result<(), NoMemory>
+    requires { count ≤ requests_most out.old.version }
+    ensures { OnOk result (out.new ≡ and_bytes out.old (spell_count out.old.version count)) }
+{
+    if is_second(out.version()) {
+        out.put_u16(count)
+    } else {
+        out.put_u8(count as u8)
+    }
+}
+
 fn write_requests(requests: &[Request], out: &mut Writer) -> Result<(), NoMemory>
-    ensures { OnOk result (out.new ≡ out.old ++ flat_map spell_request requests.now) }
+    ensures { OnOk result (out.new ≡ and_bytes out.old (flat_map spell_request requests.now)) }
 {
     for request in requests {
         write_request(request, out)?;
@@ -101,12 +113,13 @@ fn write_requests(requests: &[Request], out: &mut Writer) -> Result<(), NoMemory
 
 /// Writes a value. One that has no spelling is written as bytes that no reader takes.
 pub fn write_value(value: &Value, out: &mut Writer) -> Result<(), NoMemory>
-    ensures { OnOk result (out.new ≡ out.old ++ spell_value value.now) }
+    ensures { OnOk result (out.new ≡ and_bytes out.old (spell_value out.old.version value.now)) }
 {
     match value {
         Value::Nil => out.put_u8(0),
         Value::Batch(batch) => {
-            out.put_u8(1)?;
+            let first = version_byte(out.version());
+            out.put_u8(first)?;
             write_batch(batch, out)
         }
     }
@@ -135,11 +148,11 @@ fn copy_of(alloc: Global, bytes: &[u8]) -> Result<Bytes, NoMemory>
 fn joined(alloc: Global, height: u8, leaf: &[u8], digests: &[u8]) -> Result<Bytes, NoMemory>
     ensures { IfOk result (λ b. b ≡ height ∷ leaf.now ++ digests.now) }
 {
-    let mut out = Writer::new(alloc);
-    out.put_u8(height)?;
-    out.put_bytes(leaf)?;
-    out.put_bytes(digests)?;
-    Ok(out.into_bytes())
+    let mut all = Vec::new(alloc);
+    all.push(height)?;
+    all.extend_from_slice(leaf)?;
+    all.extend_from_slice(digests)?;
+    Ok(Bytes::of(all))
 }
 
 /// Reads a signature of any height from 2 to 12. Whether it verifies is not looked at.
@@ -174,19 +187,39 @@ pub fn read_request(alloc: Global, f: &mut Fields) -> Result<Request, DecodeErro
 }
 
 fn read_batch(alloc: Global, f: &mut Fields) -> Result<Batch, DecodeError>
-    ensures ok { IfOk result (λ b. IsRead parse_batch f.old f.new b) }
-    ensures bad { (at : ℕ) → result ≡ Err (DecodeError.BadField at) → IsUnreadable parse_batch f.old at }
+    ensures ok { IfOk result (λ b. IsRead (parse_batch f.old.version) f.old f.new b) }
+    ensures bad { (at : ℕ) → result ≡ Err (DecodeError.BadField at) → IsUnreadable (parse_batch f.old.version) f.old at }
 {
-    let too_many = f.bad_field();
-    let count = f.read_u8()?;
-    if count > REQUESTS_MAX {
-        return Err(too_many);
-    }
+    let count = read_count(f)?;
     let batch = read_requests(alloc, count, f)?;
     Ok(batch)
 }
 
-fn read_requests(alloc: Global, count: u8, f: &mut Fields) -> Result<Batch, DecodeError>
+fn read_count(f: &mut Fields) -> Result<u16, DecodeError>
+    ensures ok { IfOk result (λ n. IsRead (parse_count f.old.version) f.old f.new n) }
+    ensures bad { (at : ℕ) → result ≡ Err (DecodeError.BadField at) → IsUnreadable (parse_count f.old.version) f.old at }
+{
+    let too_many = f.bad_field();
+    let most = requests_most(f.version());
+    let count = read_any_count(f)?;
+    if count > most {
+        return Err(too_many);
+    }
+    Ok(count)
+}
+
+fn read_any_count(f: &mut Fields) -> Result<u16, DecodeError>
+    ensures ok { IfOk result (λ n. IsRead (count_field f.old.version) f.old f.new n) }
+    ensures bad { (at : ℕ) → result ≡ Err (DecodeError.BadField at) → IsUnreadable (count_field f.old.version) f.old at }
+{
+    if is_second(f.version()) {
+        return f.read_u16();
+    }
+    let count = f.read_u8()?;
+    Ok(count as u16)
+}
+
+fn read_requests(alloc: Global, count: u16, f: &mut Fields) -> Result<Batch, DecodeError>
     ensures ok { IfOk result (λ b. IsRead (times count parse_request) f.old f.new b) }
     ensures bad { (at : ℕ) → result ≡ Err (DecodeError.BadField at) → IsUnreadable (times count parse_request) f.old at }
 {
@@ -200,34 +233,38 @@ fn read_requests(alloc: Global, count: u8, f: &mut Fields) -> Result<Batch, Deco
 
 /// Reads the value at the front. `BadField` names the first field that does not fit.
 pub fn read_value(alloc: Global, f: &mut Fields) -> Result<Value, DecodeError>
-    ensures ok { IfOk result (λ v. IsRead parse_value f.old f.new v) }
-    ensures bad { (at : ℕ) → result ≡ Err (DecodeError.BadField at) → IsUnreadable parse_value f.old at }
+    ensures ok { IfOk result (λ v. IsRead (parse_value f.old.version) f.old f.new v) }
+    ensures bad { (at : ℕ) → result ≡ Err (DecodeError.BadField at) → IsUnreadable (parse_value f.old.version) f.old at }
 {
     let no_value = f.bad_field();
+    let batch_byte = version_byte(f.version());
     let first = f.read_u8()?;
-    match first {
-        0 => Ok(Value::Nil),
-        1 => Ok(Value::Batch(read_batch(alloc, f)?)),
-        _ => Err(no_value),
+    if first == 0 {
+        return Ok(Value::Nil);
     }
+    if first != batch_byte {
+        return Err(no_value);
+    }
+    let batch = read_batch(alloc, f)?;
+    Ok(Value::Batch(batch))
 }
 
 /// The bytes of a value. One that has no spelling gives bytes that are no value's.
-pub fn encode_value(alloc: Global, value: &Value) -> Result<Bytes, NoMemory>
-    ensures { IfOk result (λ bytes. bytes ≡ spell_value value.now) }
+pub fn encode_value(alloc: Global, version: u8, value: &Value) -> Result<Bytes, NoMemory>
+    ensures { IfOk result (λ bytes. bytes ≡ spell_value version value.now) }
 {
-    let mut out = Writer::new(alloc);
+    let mut out = Writer::new(alloc, version);
     write_value(value, &mut out)?;
     Ok(out.into_bytes())
 }
 
 /// The value that the bytes spell, all of them. `BadField` names the offset of the first field that does not fit;
 /// behind a value that is followed by more bytes that is the first of them.
-pub fn decode_value(alloc: Global, bytes: &[u8]) -> Result<Value, DecodeError>
-    ensures ok { IfOk result (λ v. parse_value bytes.now ≡ Good v []) }
-    ensures bad { (at : ℕ) → result ≡ Err (DecodeError.BadField at) → all_of parse_value bytes.now ≡ Bad at }
+pub fn decode_value(alloc: Global, version: u8, bytes: &[u8]) -> Result<Value, DecodeError>
+    ensures ok { IfOk result (λ v. parse_value version bytes.now ≡ Good v []) }
+    ensures bad { (at : ℕ) → result ≡ Err (DecodeError.BadField at) → all_of (parse_value version) bytes.now ≡ Bad at }
 {
-    let mut f = Fields::over(bytes);
+    let mut f = Fields::over(version, bytes);
     let value = read_value(alloc, &mut f)?;
     if !f.is_done() {
         return Err(f.bad_field());
@@ -258,15 +295,26 @@ fn hash_parts(request: &Request, hasher: &mut Sha256)
 }
 
 // Adds a batch's spelling to the message.
-fn hash_batch(batch: &Batch, hasher: &mut Sha256)
-    ensures { (m : List ℕ) → Holds256 hasher.old m → Holds256 hasher.new (m ++ spell_batch batch.now) }
+fn hash_batch(version: u8, batch: &Batch, hasher: &mut Sha256)
+    ensures { (m : List ℕ) → Holds256 hasher.old m → Holds256 hasher.new (m ++ spell_batch version batch.now) }
 {
-    if batch.len() > REQUESTS_MAX as usize {
-        hasher.update([NO_BATCH]);
+    if batch.len() > requests_most(version) as usize {
+        hasher.update(NO_BATCH);
         return;
     }
-    hasher.update([batch.len() as u8]);
+    hash_count(version, batch.len() as u16, hasher);
     hash_requests(batch.as_slice(), hasher);
+}
+
+fn hash_count(version: u8, count: u16, hasher: &mut Sha256)
+    requires { count ≤ requests_most version }
+    ensures { (m : List ℕ) → Holds256 hasher.old m → Holds256 hasher.new (m ++ spell_count version count) }
+{
+    if is_second(version) {
+        hasher.update(count.to_be_bytes());
+    } else {
+        hasher.update([count as u8]);
+    }
 }
 
 fn hash_requests(requests: &[Request], hasher: &mut Sha256)
@@ -278,27 +326,27 @@ fn hash_requests(requests: &[Request], hasher: &mut Sha256)
 }
 
 /// The digest of a value's spelling.
-pub fn digest_of(value: &Value) -> [u8; 32]
-    ensures { result ≡ sha256 (0x40 ∷ spell_value value.now) }
+pub fn digest_of(version: u8, value: &Value) -> [u8; 32]
+    ensures { result ≡ sha256 (value_string version value.now) }
 {
     let mut hasher = Sha256::new();
     hasher.update([0x40u8]);
     match value {
         Value::Nil => hasher.update([0u8]),
         Value::Batch(batch) => {
-            hasher.update([1u8]);
-            hash_batch(batch, &mut hasher);
+            hasher.update([version_byte(version)]);
+            hash_batch(version, batch, &mut hasher);
         }
     }
     hasher.finalize()
 }
 
-/// Each request and each value has at most one spelling, no spelling begins another one, and what has none is written
-/// as bytes that are read as nothing, whatever stands behind them.
+/// By each version each request and each value has at most one spelling, no spelling begins another one, and what has
+/// none is written as bytes that are read as nothing, whatever stands behind them.
 pub fn formats_are_exact()
     ensures request { IsGrammar spell_request parse_request }
-    ensures value { IsGrammar spell_value parse_value }
+    ensures value { (version : ℕ) → IsGrammar (spell_value version) (parse_value version) }
     // What is read of bytes, and all of them, is what the table relates to them.
     ensures request_table { (r : Request) (bytes : List ℕ) → (parse_request bytes ≡ Good r []) ↔ IsSpelledRequest r bytes }
-    ensures value_table { (v : Value) (bytes : List ℕ) → (parse_value bytes ≡ Good v []) ↔ IsSpelledValue v bytes }
+    ensures value_table { (version : ℕ) (v : Value) (bytes : List ℕ) → (parse_value version bytes ≡ Good v []) ↔ IsSpelledValue version v bytes }
 {}

@@ -2,13 +2,12 @@
 use Rattle.std.proofs.Common.{◌≡◌, ◌≤◌, ℕ, List, [], ◌∷◌, ◌++◌, length, refl, sym, ap, ◌∙◌, inl, inr}
 use Rattle.std.specs.List.{AllByRecursion, flat_map}
 use Rattle.iss_base.specs.Lists.{In}
-use Rattle.iss_request.specs.Fields.{Bad, Good, IsGrammar, Parsed}
-use Rattle.iss_request.specs.Formats.{HasSpelling, parse_value, request_bytes, spell_value}
+use Rattle.iss_request.specs.Fields.{Bad, Good, IsGrammar, IsReadAgain, Parsed}
+use Rattle.iss_request.specs.Formats.{HasSpelling, parse_value, request_bytes, requests_most, spell_count, spell_value, version_byte}
 use Rattle.iss_request.specs.declared.requests.Batch.{Batch}
 use Rattle.iss_request.specs.declared.requests.Request.{Request}
 use Rattle.iss_request.specs.declared.requests.Value.TheVariants.{Batch as Holds}
 use Rattle.iss_request.proofs.OneSpelling.{value_grammar, value_related}
-use Rattle.iss_sb.specs.Evidence.{IsReadAgain}
 
 bad-good : {A : Type 0} (x : A) (rest : List ℕ) (at : ℕ) → Bad at ≡ Good x rest → ⊥
 bad-good x rest at h = cc
@@ -23,7 +22,7 @@ each-spelled : (b : List Request) → ((q : Request) → In q b → HasSpelling 
 each-spelled [] h = tt
 each-spelled (q ∷ qs) h = (h q (inl refl), each-spelled qs (λ r i. h r (inr i)))
 
-pub batch-read : (b : Batch) → length b ≤ 32 → ((q : Request) → In q b → HasSpelling q) → IsReadAgain spell_value parse_value (Holds b)
-batch-read b few h =
-    let bytes = 1 ∷ length b ∷ flat_map request_bytes b in
-    read-again spell_value parse_value value_grammar bytes [] (Holds b) ((value_related (Holds b) bytes).1 (few, each-spelled b h, refl))
+pub batch-read : (version : ℕ) (b : Batch) → length b ≤ requests_most version → ((q : Request) → In q b → HasSpelling q) → IsReadAgain (spell_value version) (parse_value version) (Holds b)
+batch-read version b few h =
+    let bytes = version_byte version ∷ spell_count version (length b) ++ flat_map request_bytes b in
+    read-again (spell_value version) (parse_value version) (value_grammar version) bytes [] (Holds b) ((value_related version (Holds b) bytes).1 (few, each-spelled b h, refl))

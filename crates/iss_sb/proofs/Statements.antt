@@ -1,11 +1,12 @@
 -- Different numbers are spelled by different bytes, whatever stands before and behind them.
-use Rattle.std.proofs.Common.{◌≡◌, ℕ, zero, suc, ◌+◌, ◌*◌, ◌/◌, ◌%◌, ◌^◌, ◌<◌, List, [], ◌∷◌, ◌++◌, length, take, drop, fold, append_assoc, refl, sym, ap, ap₂, ◌∙◌, arith, pow-suc, mul_comm}
+use Rattle.std.proofs.Common.{◌≡◌, ℕ, zero, suc, ◌+◌, ◌*◌, ◌/◌, ◌%◌, ◌^◌, ◌<◌, List, [], ◌∷◌, ◌++◌, length, fold, append_assoc, refl, sym, ap, subst, ◌∙◌, arith, pow-suc, mul_comm}
 use Rattle.std.proofs.Math.Nat.{pow-le-pow_right}
 use Rattle.std.proofs.Math.Arith.{mod-mul}
 use Rattle.std.proofs.lemmas.List.{length-append}
 use Rattle.std.proofs.lemmas.Nat.{div_below}
-use Rattle.std.specs.Int.{byte_at, bytes_high_first, to_be_bytes, w64}
-use Rattle.iss_sb.specs.Statements.{eight_bytes, head_of}
+use Rattle.std.specs.Int.{byte_at, bytes_high_first, to_be_bytes, w16, w32, w64}
+use Rattle.iss_base.proofs.Lists.{ends-same}
+use Rattle.iss_sb.specs.Statements.{eight_bytes, four_bytes, head_of, two_bytes, wide_bytes}
 
 -- one more byte in front of the low k bytes
 byte_on : (k n high : ℕ) → (high * 256 + byte_at k n) * 256 ^ k + n % 256 ^ k ≡ high * 256 ^ suc k + n % 256 ^ suc k
@@ -25,55 +26,60 @@ abbrev value_of : List ℕ → ℕ
 value_of [] = 0
 value_of (b ∷ bs) = fold (λ h byte. h * 256 + byte) b bs
 
-eight-value : (n : ℕ) → value_of (eight_bytes n) ≡ n
-unfolding eight_bytes
-eight-value n = bytes_read 7 n (n / 256 ^ 7) ∙ omega arith
+wide-value : (low n : ℕ) → value_of (wide_bytes low n) ≡ n
+unfolding wide_bytes
+wide-value low n =
+    let some : 0 < 256 ^ low = pow-le-pow_right {n = 256} (omega arith) {i = 0} {j = low} (omega arith) in
+    bytes_read low n (n / 256 ^ low) ∙ whole n (256 ^ low) some
+  where
+    whole : (n c : ℕ) → 0 < c → n / c * c + n % c ≡ n
+    whole n c h = omega arith
 
-pub eight-length : (n : ℕ) → length (eight_bytes n) ≡ 8
-unfolding eight_bytes
-eight-length n = refl
+low-length : (low n : ℕ) → length (bytes_high_first low n) ≡ low
+low-length zero n = refl
+low-length (suc low) n = ap suc (low-length low n)
 
-eight-take : (n : ℕ) (x : List ℕ) → take 8 (eight_bytes n ++ x) ≡ eight_bytes n
-unfolding eight_bytes
-eight-take n x = refl
-
-eight-drop : (n : ℕ) (x : List ℕ) → drop 8 (eight_bytes n ++ x) ≡ x
-unfolding eight_bytes
-eight-drop n x = refl
+pub wide-length : (low n : ℕ) → length (wide_bytes low n) ≡ suc low
+unfolding wide_bytes
+wide-length low n = ap suc (low-length low n)
 
 -- with anything behind
-pub eight-same : (a b : ℕ) (x y : List ℕ) → eight_bytes a ++ x ≡ eight_bytes b ++ y → (a ≡ b) × (x ≡ y)
-eight-same a b x y h =
-    let front : eight_bytes a ≡ eight_bytes b = sym (eight-take a x) ∙ ap (λ (t : List ℕ). take 8 t) h ∙ eight-take b y in
-    let back : x ≡ y = sym (eight-drop a x) ∙ ap (λ (t : List ℕ). drop 8 t) h ∙ eight-drop b y in
-    (sym (eight-value a) ∙ ap value_of front ∙ eight-value b, back)
-
-pub ends-same : (a b x y : List ℕ) → length a ≡ length b → a ++ x ≡ b ++ y → (a ≡ b) × (x ≡ y)
-ends-same [] [] x y l h = (refl, h)
-ends-same [] (k ∷ b) x y l h = absurd (omega (arith, l))
-ends-same (j ∷ a) [] x y l h = absurd (omega (arith, l))
-ends-same (j ∷ a) (k ∷ b) x y l h =
-    let head : j ≡ k = cc in
-    let tail : a ++ x ≡ b ++ y = cc in
-    let m : length a ≡ length b = omega (arith, l) in
-    let r : (a ≡ b) × (x ≡ y) = ends-same a b x y m tail in
-    (ap₂ (λ (z : ℕ) (zs : List ℕ). z ∷ zs) head r.0, r.1)
+pub wide-same : (low a b : ℕ) (x y : List ℕ) → wide_bytes low a ++ x ≡ wide_bytes low b ++ y → (a ≡ b) × (x ≡ y)
+wide-same low a b x y h =
+    let k = ends-same (wide_bytes low a) (wide_bytes low b) x y (wide-length low a ∙ sym (wide-length low b)) h in
+    (sym (wide-value low a) ∙ ap value_of k.0 ∙ wide-value low b, k.1)
 
 -- with anything before
-pub eight-last : (a b : List ℕ) (q r : ℕ) → a ++ eight_bytes q ≡ b ++ eight_bytes r → (a ≡ b) × (q ≡ r)
-eight-last a b q r h =
-    let total : length a + 8 ≡ length b + 8 =
-    sym (length-append a (eight_bytes q) ∙ ap (λ (n : ℕ). length a + n) (eight-length q)) ∙ ap (λ (t : List ℕ). length t) h ∙ (length-append b (eight_bytes r) ∙ ap (λ (n : ℕ). length b + n) (eight-length r)) in
-    let k : (a ≡ b) × (eight_bytes q ≡ eight_bytes r) = ends-same a b (eight_bytes q) (eight_bytes r) (omega (arith, total)) h in
-    (k.0, sym (eight-value q) ∙ ap value_of k.1 ∙ eight-value r)
+pub wide-last : (low : ℕ) (a b : List ℕ) (q r : ℕ) → a ++ wide_bytes low q ≡ b ++ wide_bytes low r → (a ≡ b) × (q ≡ r)
+wide-last low a b q r h =
+    let total : length a + suc low ≡ length b + suc low =
+    sym (length-append a (wide_bytes low q) ∙ ap (λ (n : ℕ). length a + n) (wide-length low q)) ∙ ap (λ (t : List ℕ). length t) h ∙ (length-append b (wide_bytes low r) ∙ ap (λ (n : ℕ). length b + n) (wide-length low r)) in
+    let k = ends-same a b (wide_bytes low q) (wide_bytes low r) (omega (arith, total)) h in
+    (k.0, sym (wide-value low q) ∙ ap value_of k.1 ∙ wide-value low r)
 
--- below 2 ^ 64 they are the eight bytes
+within : (b : ℕ) → b < 256 → b ≡ b % 256
+within b h = omega arith
+
+byte-is : (low n : ℕ) → n / 256 ^ low < 256 → n / 256 ^ low ≡ byte_at low n
+byte-is zero n h = omega (arith, h)
+byte-is (suc low) n h = within (n / 256 ^ suc low) h
+
+-- a number that fits is spelled by its bytes
+pub wide-is : (low n : ℕ) → n < 256 ^ suc low → wide_bytes low n ≡ bytes_high_first (suc low) n
+unfolding wide_bytes
+wide-is low n lt =
+    let some : 0 < 256 ^ low = pow-le-pow_right {n = 256} (omega arith) {i = 0} {j = low} (omega arith) in
+    let high : n / 256 ^ low < 256 = div_below n (256 ^ low) 256 some (subst (λ (c : ℕ). n < c) (pow-suc 256 low ∙ mul_comm (256 ^ low) 256) lt) in
+    ap (λ (b : ℕ). b ∷ bytes_high_first low n) (byte-is low n high)
+
+pub two-is : (n : ℕ) → n < 2 ^ 16 → two_bytes n ≡ to_be_bytes w16 n
+two-is n lt = wide-is 1 n lt
+
+pub four-is : (n : ℕ) → n < 2 ^ 32 → four_bytes n ≡ to_be_bytes w32 n
+four-is n lt = wide-is 3 n lt
+
 pub eight-is : (n : ℕ) → n < 2 ^ 64 → eight_bytes n ≡ to_be_bytes w64 n
-unfolding eight_bytes
-eight-is n lt =
-    let low : n / 256 ^ 7 < 256 = div_below n (256 ^ 7) 256 (omega arith) lt in
-    let same : n / 256 ^ 7 ≡ n / 256 ^ 7 % 256 = omega (arith, low) in
-    ap (λ (b : ℕ). b ∷ bytes_high_first 7 n) same
+eight-is n lt = wide-is 7 n lt
 
 head-flat : (cluster : List ℕ) (e l tag : ℕ) (x : List ℕ) → head_of cluster e l tag ++ x ≡ cluster ++ (eight_bytes e ++ (l ∷ tag ∷ x))
 head-flat cluster e l tag x = append_assoc (cluster ++ eight_bytes e) (l ∷ tag ∷ []) x ∙ append_assoc cluster (eight_bytes e) (l ∷ tag ∷ x)
@@ -91,6 +97,6 @@ pub head-same : (cluster other : List ℕ) (e l tag d k mark : ℕ) (x y : List 
 head-same cluster other e l tag d k mark x y long h =
     let flat : cluster ++ (eight_bytes e ++ (l ∷ tag ∷ x)) ≡ other ++ (eight_bytes d ++ (k ∷ mark ∷ y)) = sym (head-flat cluster e l tag x) ∙ h ∙ head-flat other d k mark y in
     let q = ends-same cluster other (eight_bytes e ++ (l ∷ tag ∷ x)) (eight_bytes d ++ (k ∷ mark ∷ y)) long flat in
-    let r = eight-same e d (l ∷ tag ∷ x) (k ∷ mark ∷ y) q.1 in
+    let r = wide-same 7 e d (l ∷ tag ∷ x) (k ∷ mark ∷ y) q.1 in
     let rest : ◌≡◌ {A = List ℕ} (l ∷ tag ∷ x) (k ∷ mark ∷ y) = r.1 in
     record { one_cluster = q.0; epoch = r.0; leader = cc; module_tag = cc; behind = cc }

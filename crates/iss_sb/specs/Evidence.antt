@@ -2,7 +2,8 @@
 use Rattle.std.specs.Prelude.{◌≡◌, ◌≢◌, ℕ, ◌<◌, Bool, true, false, ◌&&◌, not, nat_lt, ◌==◌, ◌||◌, List, [], ◌∷◌, ◌++◌, Option, Some, None, ◌⊎◌}
 use Rattle.iss_base.specs.Lists.{In, first_of}
 use Rattle.iss_request.specs.Digest.{digest}
-use Rattle.iss_request.specs.Fields.{Good, Parsed}
+use Rattle.iss_keys.specs.Directories.{VerifiesBy}
+use Rattle.iss_request.specs.Fields.{IsReadAgain, Parsed}
 use Rattle.iss_request.specs.Formats.{parse_value, spell_value}
 use Rattle.iss_request.specs.declared.ids.NodeId.{NodeId}
 use Rattle.iss_request.specs.declared.ids.Slot.{Slot}
@@ -24,9 +25,10 @@ pub record Made (M : Type 0) : Type 0 where
   pub strings : List (List ℕ)
   pub used : ℕ
 
--- an input that a node took, and what was made at it
+-- an input that a node took, the least leaf of its keys that had not signed then, and what was made at it
 pub record Item (M : Type 0) : Type 0 where
   pub input : Input M
+  pub leaf : ℕ
   pub made : Made M
 
 -- the world of one instance: what each correct node took. Accept lists, what was sent, signed and hashed are read
@@ -45,16 +47,14 @@ pub record Module (M : Type 0) : Type 1 where
   pub stopping : Bool
   pub tag : ℕ
   pub signs : Params → ℕ
-  -- the bytes of a message, and the message at the front of bytes
-  pub spell : M → List ℕ
-  pub parse : List ℕ → Parsed M
+  -- by a version of the formats, the bytes of a message, and the message at the front of bytes
+  pub spell : ℕ → M → List ℕ
+  pub parse : ℕ → List ℕ → Parsed M
   pub claims : Params → ℕ → M → List Claim
   -- the batch that a node would accept with an input, what it makes at it with its next leaf, what it has decided
   pub asks : Params → ℕ → List (Item M) → Input M → Option (Slot × Batch)
   pub makes : Params → ℕ → List (Item M) → Input M → ℕ → Made M
   pub decided : Params → ℕ → List (Item M) → ℕ → Option Value
-  -- what holds of every world of an instance
-  pub Inv : Params → World M → Type 0
 
 -- the value that the shortest part of the list decides at the slot
 abbrev pub delivered : {M : Type 0} → Module M → Params → ℕ → List (Item M) → ℕ → Option Value
@@ -63,7 +63,7 @@ delivered m p me (x ∷ xs) s = first_of (delivered m p me xs s) (m.decided p me
 
 -- the list after one input more
 abbrev pub and_then : {M : Type 0} → Module M → Params → ℕ → List (Item M) → Input M → ℕ → List (Item M)
-and_then m p me xs input leaf = record { input = input; made = m.makes p me xs input leaf } ∷ xs
+and_then m p me xs input leaf = record { input = input; leaf = leaf; made = m.makes p me xs input leaf } ∷ xs
 
 abbrev pub one_or_none : {A : Type 0} → Option A → List A
 one_or_none None = []
@@ -120,19 +120,22 @@ IsString w string = (string ≡ []) ⊎ IsHashed w string
 abbrev pub Separate : (List ℕ → Type 0) → Type 0
 Separate Is = (a b : List ℕ) → Is a → Is b → digest a ≡ digest b → a ≡ b
 
--- what the verification of a claim gives. Until parameters hold the nodes' keys it is the least of it: a node signed
+-- the claim's signature is one of its statement by the key of the node that it names
 abbrev pub Verifies : Params → Claim → Type 0
-Verifies p c = c.by.0 < p.setup.n
+Verifies p c = VerifiesBy p.directory.nodes c.by.0 c.statement c.sig
 
--- a thing's bytes are read as it, whatever stands behind them
-abbrev pub IsReadAgain : {A : Type 0} → (A → List ℕ) → (List ℕ → Parsed A) → A → Type 0
-IsReadAgain spell parse x = (rest : List ℕ) → parse (spell x ++ rest) ≡ Good x rest
+-- a batch, and a message of the module, that are read again from their spelling: what came as bytes is
+abbrev pub IsReadBatch : Params → Batch → Type 0
+IsReadBatch p batch = IsReadAgain (spell_value p.setup.version) (parse_value p.setup.version) (Holds batch)
+
+abbrev pub IsReadMessage : {M : Type 0} → Module M → Params → M → Type 0
+IsReadMessage m p msg = IsReadAgain (m.spell p.setup.version) (m.parse p.setup.version) msg
 
 -- a message that may come from anywhere: under a node's name, read from bytes, each claim in it verified, and those of
 -- correct nodes signed by them
 pub record IsCredible {M : Type 0} (m : Module M) (p : Params) (Verified : Claim → Type 0) (Signed : ℕ → List ℕ → Type 0) (from : ℕ) (msg : M) : Type 0 where
   pub named : from < p.setup.n
-  pub read : IsReadAgain m.spell m.parse msg
+  pub read : IsReadMessage m p msg
   pub verified : (c : Claim) → In c (m.claims p from msg) → Verified c
   pub signed : (c : Claim) → In c (m.claims p from msg) → is_correct p.setup c.by.0 ≡ true → Signed c.by.0 c.statement
 
@@ -143,7 +146,7 @@ MayArrive false m p w i from msg = IsCredible m p (Verifies p) (IsSigned m p w) 
 
 -- what may come: the leader casts batches that have a spelling
 abbrev pub MayCome : {M : Type 0} → Module M → Params → World M → ℕ → Input M → Type 0
-MayCome m p w i (Cast slot batch) = (i ≡ p.leader.0) × IsReadAgain spell_value parse_value (Holds batch)
+MayCome m p w i (Cast slot batch) = (i ≡ p.leader.0) × IsReadBatch p batch
 MayCome m p w i (Receive from msg) = MayArrive m.stopping m p w i from.0 msg
 MayCome m p w i Timeout = Unit {0}
 

@@ -1,4 +1,5 @@
 //! What goes into a module and what comes out of it.
+use iss_keys::SharedDirectory;
 use iss_request::{Batch, Bytes, Epoch, NoMemory, NodeId, Row, Setup, Slot, Value};
 use std::alloc::Global;
 
@@ -25,13 +26,15 @@ pub struct Claim {
     pub sig: Bytes,
 }
 
-/// What an instance is started with: one epoch, one leader, and the slots of the leader's segment, ascending.
+/// What an instance is started with: one epoch, one leader, the slots of the leader's segment, ascending, and the public
+/// keys of nodes and clients.
 #[derive(Drop)]
 pub struct Params {
     pub setup: Setup,
     pub epoch: Epoch,
     pub leader: NodeId,
     pub slots: Row<Slot>,
+    pub directory: SharedDirectory,
 }
 
 /// Why a step was not made: fewer leaves are left than one step may sign with, or memory was wanting.

@@ -3,11 +3,9 @@
 #![tactic(auto)]
 
 pub mod effects;
-pub mod keys;
 pub mod laws;
 pub mod sequenced;
 
 pub use effects::{Claim, Effects, Input, Params, StepError, To};
-pub use keys::{Keys, node_secret};
 pub use laws::broadcast;
 pub use sequenced::Sequenced;

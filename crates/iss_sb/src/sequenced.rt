@@ -1,14 +1,14 @@
 //! The trait of an ordering module. Nothing above it knows more of a module than these clauses.
-ghost use Rattle.std.specs.Prelude.{◌≡◌, ℕ, ◌<◌, ◌≤◌, ◌↔◌, ◌++◌, List, [], Bool, IfOk, OnOk, IsTrue, Some};
+ghost use Rattle.std.specs.Prelude.{◌≡◌, ℕ, ◌<◌, ◌≤◌, ◌↔◌, List, [], Bool, IfOk, OnOk, IsTrue, Some};
 ghost use Rattle.iss_request.specs.declared.requests.Batch.{Batch};
 ghost use Rattle.iss_sb.specs.declared.effects.Params.{Params};
-ghost use Rattle.iss_request.specs.Fields.{IsGrammar, IsRead, IsUnreadable};
+ghost use Rattle.iss_request.specs.Fields.{IsGrammar, IsRead, IsUnreadable, and_bytes};
 ghost use Rattle.iss_sb.specs.Calls.{IsStep, IsGoodParams, IsGoodInput, named};
 ghost use Rattle.iss_sb.specs.Evidence.{Item, Module};
 ghost use Rattle.iss_sb.specs.Laws.{IsLawful, IsSafe};
 
 use crate::effects::{Claim, Effects, Input, Params, StepError};
-use crate::keys::Keys;
+use iss_keys::Keys;
 use iss_request::{Batch, DecodeError, Fields, NoMemory, NodeId, Row, Slot, Writer};
 use std::alloc::Global;
 
@@ -80,14 +80,14 @@ pub trait Sequenced: Drop + Sized {
         requires input { IsGoodInput p.now i }
         ensures { IsStep meaning stands p.now self.old self.new i verdict keys.old keys.new result };
 
-    /// Writes a message: its number, its fields, its signature.
+    /// Writes a message by the writer's version: its number, its fields, its signature.
     fn encode(m: &Self::Msg, out: &mut Writer) -> Result<(), NoMemory>
-        ensures { OnOk result (out.new ≡ out.old ++ meaning.spell m.now) };
+        ensures { OnOk result (out.new ≡ and_bytes out.old (meaning.spell out.old.version m.now)) };
 
-    /// Reads the message at the front.
+    /// Reads the message at the front, by the reader's version.
     fn decode(alloc: Global, f: &mut Fields) -> Result<Self::Msg, DecodeError>
-        ensures ok { IfOk result (λ m. IsRead meaning.parse f.old f.new m) }
-        ensures bad { (at : ℕ) → result ≡ Err (DecodeError.BadField at) → IsUnreadable meaning.parse f.old at };
+        ensures ok { IfOk result (λ m. IsRead (meaning.parse f.old.version) f.old f.new m) }
+        ensures bad { (at : ℕ) → result ≡ Err (DecodeError.BadField at) → IsUnreadable (meaning.parse f.old.version) f.old at };
 
     /// What a message says that nodes have signed, in the order of its bytes.
     fn claims(
@@ -104,7 +104,7 @@ pub trait Sequenced: Drop + Sized {
     fn laws()
         ensures tagged { meaning.tag ≡ TAG }
         ensures stopping { meaning.stopping ≡ STOPPING }
-        ensures grammar { IsGrammar meaning.spell meaning.parse }
+        ensures grammar { (version : ℕ) → IsGrammar (meaning.spell version) (meaning.parse version) }
         ensures lawful { IsLawful meaning }
         ensures safe { IsSafe meaning };
 }
