@@ -1,8 +1,8 @@
 -- What holds of one node's list, if each item is what the rules make.
 use Rattle.std.proofs.Common.{◌≡◌, ◌+◌, ℕ, Bool, true, false, ◌&&◌, ◌||◌, ◌==◌, not, if◌then◌else◌, List, [], ◌∷◌, Option, Some, None, is_some, refl, sym, ap, ◌∙◌, subst, inl, inr, ◌⊎◌, arith, true≢false}
 use Rattle.std.proofs.lemmas.Bool.{leb-true, le-leb}
-use Rattle.iss_base.specs.Lists.{In}
-use Rattle.iss_base.proofs.Lists.{and-true, some-injective}
+use Rattle.iss_base.specs.Lists.{In, same_bytes}
+use Rattle.iss_base.proofs.Lists.{and-true, same_bytes-is, some-injective}
 use Rattle.iss_request.specs.declared.ids.NodeId.{NodeId}
 use Rattle.iss_request.specs.declared.ids.Slot.{Slot}
 use Rattle.iss_request.specs.declared.requests.Batch.{Batch}
@@ -19,9 +19,9 @@ use Rattle.iss_sb.proofs.Delivered.{first_of-cases}
 use Rattle.iss_sb.proofs.Worlds.{accepts-cases, accepts-new, accepts-old}
 use Rattle.sb_echo.specs.declared.word.Word.{Word}
 use Rattle.sb_echo.specs.declared.word.Word.TheVariants.{Say, Echo}
-use Rattle.sb_echo.specs.Echo.{asks, batch_for, claims, decide, decided, digest_of, echo_of, has_echo, has_slot, is_cast, is_echo, is_echoed, is_open, made_of, makes, rules, same_bytes, say, statement, taken, string_of, words}
-use Rattle.sb_echo.proofs.Bytes.{is-same, same-is, same_bytes-is}
-use Rattle.sb_echo.proofs.Quorums.{count-more}
+use Rattle.sb_echo.specs.Echo.{asks, batch_for, claims, decide, decided, digest_of, echo, echo_of, has_echo, has_slot, is_cast, is_echo, is_echoed, is_open, made_of, makes, say, statement, taken, string_of, words}
+use Rattle.sb_echo.proofs.Bytes.{is-same, same-is}
+use Rattle.iss_base.proofs.Quorum.{count-mono}
 
 abbrev pub Same : Input Word → Input Word → Type 0
 Same x y = x ≡ y
@@ -85,10 +85,10 @@ pub accepted-is : (p : Params) (me leaf : ℕ) (cast : Bool) (o : Option (Slot �
 accepted-is p me leaf cast None = refl
 accepted-is p me leaf cast (Some a) = refl
 
-made-accepted : (p : Params) (me : ℕ) (x : Item Word) (xs : List (Item Word)) (a : Slot × Batch) → AreMade rules p me (x ∷ xs) → x.made.accepted ≡ Some a → asks p me xs x.input ≡ Some a
+made-accepted : (p : Params) (me : ℕ) (x : Item Word) (xs : List (Item Word)) (a : Slot × Batch) → AreMade echo p me (x ∷ xs) → x.made.accepted ≡ Some a → asks p me xs x.input ≡ Some a
 made-accepted p me x xs a made h =
-    let is : x.made ≡ makes p me xs x.input made.0.0 = made.0.1 in
-    sym (accepted-is p me made.0.0 (is_cast x.input) (asks p me xs x.input)) ∙ sym (ap (λ (z : Made Word). z.accepted) is) ∙ h
+    let is : x.made ≡ makes p me xs x.input x.leaf = made.0 in
+    sym (accepted-is p me x.leaf (is_cast x.input) (asks p me xs x.input)) ∙ sym (ap (λ (z : Made Word). z.accepted) is) ∙ h
 
 -- ---- what was taken
 
@@ -112,7 +112,7 @@ taken-accepted (x ∷ xs) s b h = elim (first_of-cases (taken s xs) (batch_for s
 ]
 
 -- and what is accepted was taken, since nothing had been
-pub accepted-taken : (p : Params) (me : ℕ) (xs : List (Item Word)) (a : Slot × Batch) → AreMade rules p me xs → In a (accepts xs) → taken a.0.0 xs ≡ Some a.1
+pub accepted-taken : (p : Params) (me : ℕ) (xs : List (Item Word)) (a : Slot × Batch) → AreMade echo p me xs → In a (accepts xs) → taken a.0.0 xs ≡ Some a.1
 accepted-taken p me [] a made h = absurd h
 accepted-taken p me (x ∷ xs) a made h = elim (accepts-cases x xs a h) [
   | inl q ↦
@@ -121,7 +121,7 @@ accepted-taken p me (x ∷ xs) a made h = elim (accepts-cases x xs a h) [
   | inr k ↦ let t : taken a.0.0 xs ≡ Some a.1 = accepted-taken p me xs a made.1 k in rw t refl
 ]
 
-pub once : (p : Params) (me : ℕ) (xs : List (Item Word)) (s : Slot) (b c : Batch) → AreMade rules p me xs → In {A = Slot × Batch} (s, b) (accepts xs) → In {A = Slot × Batch} (s, c) (accepts xs) → b ≡ c
+pub once : (p : Params) (me : ℕ) (xs : List (Item Word)) (s : Slot) (b c : Batch) → AreMade echo p me xs → In {A = Slot × Batch} (s, b) (accepts xs) → In {A = Slot × Batch} (s, c) (accepts xs) → b ≡ c
 once p me xs s b c made h k = some-injective b c (sym (accepted-taken p me xs (s, b) made h) ∙ accepted-taken p me xs (s, c) made k)
 
 -- ---- where what was accepted comes from, and what goes out with it
@@ -132,12 +132,12 @@ pub record IsAccepted (p : Params) (me : ℕ) (xs : List (Item Word)) (a : Slot 
   pub cause : IsOwn p me item.input a ⊎ IsTold p item.input a
   pub hashed : In (string_of p a.1) item.made.strings
 
-pub accepted-cause : (p : Params) (me : ℕ) (xs : List (Item Word)) (a : Slot × Batch) → AreMade rules p me xs → In a (accepts xs) → IsAccepted p me xs a
+pub accepted-cause : (p : Params) (me : ℕ) (xs : List (Item Word)) (a : Slot × Batch) → AreMade echo p me xs → In a (accepts xs) → IsAccepted p me xs a
 accepted-cause p me [] a made h = absurd h
 accepted-cause p me (x ∷ xs) a made h = elim (accepts-cases x xs a h) [
   | inl q ↦
       let ask = made-accepted p me x xs a made q in
-      let is : x.made ≡ made_of p me made.0.0 (is_cast x.input) (Some a) = made.0.1 ∙ ap (made_of p me made.0.0 (is_cast x.input)) ask in
+      let is : x.made ≡ made_of p me x.leaf (is_cast x.input) (Some a) = made.0 ∙ ap (made_of p me x.leaf (is_cast x.input)) ask in
       record { item = x; stands = inl refl; cause = (asked p me xs x.input a ask).cause; hashed = rw is (inl refl) }
   | inr k ↦ let r = accepted-cause p me xs a made.1 k in record { item = r.item; stands = inr r.stands; cause = r.cause; hashed = r.hashed }
 ]
@@ -165,7 +165,7 @@ words-state p me leaf true a to msg (inr (inr h)) = absurd h
 words-state p me leaf false a to msg (inl e) = subst (λ (z : To × Word). States p me a z.1) (sym e) (echo-states p me leaf a)
 words-state p me leaf false a to msg (inr h) = absurd h
 
-pub sent-for : (p : Params) (me : ℕ) (xs : List (Item Word)) (x : Item Word) (to : To) (msg : Word) → AreMade rules p me xs → In x xs → In {A = To × Word} (to, msg) x.made.sends → IsSentFor p me xs msg
+pub sent-for : (p : Params) (me : ℕ) (xs : List (Item Word)) (x : Item Word) (to : To) (msg : Word) → AreMade echo p me xs → In x xs → In {A = To × Word} (to, msg) x.made.sends → IsSentFor p me xs msg
 sent-for p me [] x to msg made h k = absurd h
 sent-for p me (y ∷ ys) x to msg made (inr h) k =
     let r = sent-for p me ys x to msg made.1 h k in
@@ -175,13 +175,13 @@ sent-for p me (y ∷ ys) x to msg made (inl e) k = go (asks p me ys y.input) ref
     go : (o : Option (Slot × Batch)) → asks p me ys y.input ≡ o → IsSentFor p me (y ∷ ys) msg
     go o q = by_case o is (subst (λ (z : Made Word). In {A = To × Word} (to, msg) z.sends) (ap (λ (z : Item Word). z.made) e ∙ is) k)
       where
-        is : y.made ≡ made_of p me made.0.0 (is_cast y.input) o
-        is = made.0.1 ∙ ap (made_of p me made.0.0 (is_cast y.input)) q
+        is : y.made ≡ made_of p me y.leaf (is_cast y.input) o
+        is = made.0 ∙ ap (made_of p me y.leaf (is_cast y.input)) q
 
-        by_case : (o : Option (Slot × Batch)) → y.made ≡ made_of p me made.0.0 (is_cast y.input) o → In {A = To × Word} (to, msg) (made_of p me made.0.0 (is_cast y.input) o).sends → IsSentFor p me (y ∷ ys) msg
+        by_case : (o : Option (Slot × Batch)) → y.made ≡ made_of p me y.leaf (is_cast y.input) o → In {A = To × Word} (to, msg) (made_of p me y.leaf (is_cast y.input) o).sends → IsSentFor p me (y ∷ ys) msg
         by_case None is h = absurd h
         by_case (Some a) is h =
-            let s = words-state p me made.0.0 (is_cast y.input) a to msg h in
+            let s = words-state p me y.leaf (is_cast y.input) a to msg h in
             record { accepted = a; stands = accepts-new y ys a (ap (λ (z : Made Word). z.accepted) is); kind = s.0; states = s.1 }
 
 -- ---- echoes
@@ -243,7 +243,7 @@ decided-is p me xs s v h = go (taken s xs) refl h
 echoed-stays : (p : Params) (s : ℕ) (d : List ℕ) (y : Item Word) (xs : List (Item Word)) → is_echoed p s d xs ≡ true → is_echoed p s d (y ∷ xs) ≡ true
 echoed-stays p s d y xs h =
     let a = leb-true _ _ h in
-    let b = count-more (λ k. has_echo s d k xs) (λ k. has_echo s d k (y ∷ xs)) p.setup.n (λ k e. or-right (is_echo s d k y.input) (has_echo s d k xs) e) in
+    let b = count-mono (λ k. has_echo s d k xs) (λ k. has_echo s d k (y ∷ xs)) p.setup.n (λ k l e. or-right (is_echo s d k y.input) (has_echo s d k xs) e) in
     le-leb _ _ (omega arith)
 
 pub decided-stays : (p : Params) (me : ℕ) (xs : List (Item Word)) (y : Item Word) (s : ℕ) (v : Value) → decided p me xs s ≡ Some v → decided p me (y ∷ xs) s ≡ Some v

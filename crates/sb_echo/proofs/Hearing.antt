@@ -5,7 +5,7 @@ use Rattle.std.specs.Ordering.{is_eq, nat_cmp, ordering_then}
 use Rattle.std.specs.declared.cmp.Ordering.{Ordering}
 use Rattle.std.specs.declared.cmp.Ordering.TheVariants.{Less, Equal, Greater}
 use Rattle.sb_echo.specs.declared.echoes.Heard.{Heard}
-use Rattle.sb_echo.specs.Echo.{same_bytes}
+use Rattle.iss_base.specs.Lists.{same_bytes}
 use Rattle.sb_echo.specs.Heard.{order}
 
 same_number : (a b : ℕ) → is_eq (nat_cmp a b) ≡ (a == b)

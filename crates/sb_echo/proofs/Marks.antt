@@ -1,7 +1,8 @@
 -- What echo's places and tests say of the lists that it stands for.
 use Rattle.std.proofs.Common.{◌≡◌, ◌≢◌, ℕ, zero, suc, ◌+◌, Bool, true, false, cond, not, ◌&&◌, ◌||◌, ◌==◌, if◌then◌else◌, List, [], ◌∷◌, Option, Some, None, is_some, refl, sym, ap, ◌∙◌, subst, inl, inr, arith, true≢false}
 use Rattle.std.specs.Prelude.{nat_le}
-use Rattle.iss_base.specs.Lists.{In, first_of}
+use Rattle.iss_base.specs.Lists.{In, first_of, same_bytes}
+use Rattle.iss_base.specs.Quorum.{count_below}
 use Rattle.iss_base.proofs.Lists.{and-true, not-true, same_or_not, some-injective}
 use Rattle.iss_request.specs.Slots.{AreAscending}
 use Rattle.iss_request.specs.declared.ids.NodeId.{NodeId}
@@ -22,9 +23,9 @@ use Rattle.sb_echo.specs.declared.echo.Place.{Place}
 use Rattle.sb_echo.specs.declared.echo.Place.TheVariants.{Waiting, Delivered}
 use Rattle.sb_echo.specs.declared.word.Word.{Word}
 use Rattle.sb_echo.specs.declared.word.Word.TheVariants.{Say, Echo as Echo_word}
-use Rattle.sb_echo.specs.Echo.{asks, batch_for, count_below, decide, decided, digest_of, echo, echo_of, has_echo, has_slot, is_cast, is_echo, is_echoed, is_open, made_of, makes, same_bytes, say, signature, statement, string_of, taken}
+use Rattle.sb_echo.specs.Echo.{asks, batch_for, decide, decided, digest_of, echo, echo_of, has_echo, has_slot, is_cast, is_echo, is_echoed, is_open, made_of, makes, say, statement, string_of, taken}
 use Rattle.sb_echo.specs.Heard.{has}
-use Rattle.sb_echo.specs.Stands.{HasCompleted, HasTaken, IsOfSegment, Stands, completed, completed_of, is_complete, is_free, is_heard, may_cast, may_take, one_at, place_at, place_for}
+use Rattle.sb_echo.specs.Stands.{HasCompleted, HasTaken, Stands, completed, completed_of, is_complete, is_free, is_heard, may_cast, may_take, one_at, place_at, place_for}
 use Rattle.sb_echo.proofs.Bytes.{is-same, same-is}
 use Rattle.sb_echo.proofs.Facts.{accepted-is, decided-is, decided-start, decided-stays}
 use Rattle.sb_echo.proofs.Lawful.{has_slot-In, slot_eta}

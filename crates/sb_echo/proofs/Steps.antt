@@ -1,7 +1,7 @@
 -- Each rule's step from a list that echo stands for.
 use Rattle.std.proofs.Common.{◌≡◌, ◌≢◌, ◌+◌, ℕ, Bool, true, false, not, ◌&&◌, ◌||◌, ◌==◌, if◌then◌else◌, List, [], ◌∷◌, Option, Some, None, is_some, refl, sym, ap, ◌∙◌, subst, inl, inr, true≢false}
 use Rattle.std.specs.Prelude.{nat_le}
-use Rattle.iss_base.specs.Lists.{In, first_of}
+use Rattle.iss_base.specs.Lists.{In, first_of, same_bytes}
 use Rattle.iss_base.proofs.Lists.{and-true}
 use Rattle.iss_request.specs.declared.ids.NodeId.{NodeId}
 use Rattle.iss_request.specs.declared.ids.Slot.{Slot}
@@ -20,7 +20,7 @@ use Rattle.sb_echo.specs.declared.echo.Place.{Place}
 use Rattle.sb_echo.specs.declared.echo.Place.TheVariants.{Waiting, Delivered}
 use Rattle.sb_echo.specs.declared.word.Word.{Word}
 use Rattle.sb_echo.specs.declared.word.Word.TheVariants.{Say, Echo as Echo_word}
-use Rattle.sb_echo.specs.Echo.{asks, batch_for, decide, decided, digest_of, echo, has_echo, has_slot, is_cast, is_echo, is_echoed, is_open, made_of, same_bytes, string_of, taken, words}
+use Rattle.sb_echo.specs.Echo.{asks, batch_for, decide, decided, digest_of, echo, has_echo, has_slot, is_cast, is_echo, is_echoed, is_open, made_of, string_of, taken, words}
 use Rattle.sb_echo.specs.Heard.{has}
 use Rattle.sb_echo.specs.Stands.{HasCompleted, HasTaken, Stands, completed, completed_of, is_free, is_heard, may_cast, may_take, one_at, place_at, place_for}
 use Rattle.sb_echo.proofs.Bytes.{is-same, same-is}
@@ -55,7 +55,7 @@ module _ (m : Echo) (p : Params) (me : ℕ) (xs : List (Item Word)) (st : Stands
   -- ---- one input more
 
   abbrev item : Input Word → ℕ → Item Word
-  item i leaf = record { input = i; made = made_of p me leaf (is_cast i) (asks p me xs i) }
+  item i leaf = record { input = i; leaf = leaf; made = made_of p me leaf (is_cast i) (asks p me xs i) }
 
   abbrev later : Input Word → ℕ → List (Item Word)
   later i leaf = item i leaf ∷ xs

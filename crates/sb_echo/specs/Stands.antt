@@ -2,9 +2,7 @@
 use Rattle.std.specs.Prelude.{◌≡◌, ℕ, ◌==◌, ◌&&◌, ◌∷◌, nat_le, Bool, true, false, not, List, [], Option, Some, None, is_some, IfSome, if◌then◌else◌}
 use Rattle.std.specs.BTreeMap.{get}
 use Rattle.std.specs.Ordering.{nat_cmp}
-use Rattle.iss_base.specs.Lists.{In}
-use Rattle.iss_keys.specs.Directories.{node_secret}
-use Rattle.iss_keys.specs.KeyStates.{KeyState}
+use Rattle.iss_base.specs.Quorum.{count_below}
 use Rattle.iss_request.specs.declared.ids.NodeId.{NodeId}
 use Rattle.iss_request.specs.declared.ids.Slot.{Slot}
 use Rattle.iss_request.specs.declared.requests.Batch.{Batch}
@@ -12,18 +10,13 @@ use Rattle.iss_request.specs.declared.requests.Value.{Value}
 use Rattle.iss_request.specs.declared.requests.Value.TheVariants.{Batch as Holds}
 use Rattle.iss_sb.specs.declared.effects.Effects.{Effects}
 use Rattle.iss_sb.specs.declared.effects.Params.{Params}
-use Rattle.iss_sb.specs.Calls.{AllIn, slots_of, AreToNodes}
 use Rattle.iss_sb.specs.Evidence.{Item}
 use Rattle.sb_echo.specs.declared.echo.Echo.{Echo}
 use Rattle.sb_echo.specs.declared.echo.Place.{Place}
 use Rattle.sb_echo.specs.declared.echo.Place.TheVariants.{Waiting, Delivered}
 use Rattle.sb_echo.specs.declared.word.Word.{Word}
-use Rattle.sb_echo.specs.Echo.{count_below, decided, digest_of, has_echo, has_slot, string_of, taken}
+use Rattle.sb_echo.specs.Echo.{decided, digest_of, has_echo, has_slot, string_of, taken}
 use Rattle.sb_echo.specs.Heard.{has}
-
-pub record AreKeysOf (me height : ℕ) (k : KeyState) : Type 0 where
-  pub own : k.secret ≡ node_secret me
-  pub tall : k.height ≡ height
 
 -- what stands at a slot
 abbrev pub place_at : ℕ → Echo → Option Place
@@ -93,9 +86,3 @@ pub record HasCompleted (p : Params) (old new : Echo) (slot : Slot) (v : Option 
   pub node : new.me ≡ old.me
   pub heard : new.heard ≡ old.heard
   pub places : (s : ℕ) → place_at s new ≡ (if (slot.0 == s) && is_some v then Some Delivered else place_at s old)
-
--- what is accepted and delivered is of the segment
-pub record IsOfSegment (p : Params) (e : Effects Word) : Type 0 where
-  pub delivered : AllIn (slots_of e.delivers) p.slots
-  pub accepted : IfSome e.accepted (λ a. In a.0 p.slots)
-  pub addressed : AreToNodes p.setup.n e.sends

@@ -1,18 +1,17 @@
 //! The rules of echo, and that it is an ordering module.
-ghost use Rattle.std.specs.Prelude.{◌≡◌, ℕ, ◌+◌, ◌≤◌, List, IfOk, OnOk};
-ghost use Rattle.iss_keys.specs.KeyStates.{left_of};
-ghost use Rattle.iss_sb.specs.Calls.{IsGoodInput, IsGoodParams, IsStep, IsTaken};
-ghost use Rattle.iss_sb.specs.Evidence.{Item, and_then};
-ghost use Rattle.sb_echo.specs.declared.word.Word.{Word};
-ghost use Rattle.sb_echo.specs.Echo.{digest_of, echo, has_slot, signature, statement};
-ghost use Rattle.sb_echo.specs.Stands.{AreKeysOf, HasTaken, HasCompleted, IsOfSegment, Stands, is_complete, is_free, is_heard, may_cast, may_take, one_at};
+ghost use Rattle.std.specs.Prelude.{◌≡◌, ℕ, ◌≤◌, List, IfOk};
+ghost use Rattle.iss_keys.specs.KeyStates.{KeyState, left_of};
+ghost use Rattle.iss_sb.specs.Calls.{IsGoodInput, IsGoodParams, IsStep, IsTrueStep};
+ghost use Rattle.sb_echo.specs.Echo.{echo, has_slot};
+ghost use Rattle.sb_echo.specs.Stands.{HasCompleted, HasTaken, Stands, is_complete, is_free, is_heard, may_cast, may_take, one_at};
 
 use crate::echoes::Echoes;
 use crate::signing::{ECHO, SAY, digest_of, sign, string_of};
+use crate::wire;
 use crate::word::Word;
 use iss_keys::Keys;
-use iss_request::{Batch, NoMemory, NodeId, Row, Slot, Value};
-use iss_sb::{Effects, Input, Params, To};
+use iss_request::{Batch, DecodeError, Fields, NoMemory, NodeId, Row, Slot, Value, Writer};
+use iss_sb::{Claim, Effects, Input, Params, Sequenced, StepError, To};
 use std::alloc::Global;
 use std::collections::BTreeMap;
 
@@ -132,7 +131,7 @@ impl Echo {
         }
     }
 
-    /// The leader takes a batch that is cast to it, says it to all, and echoes it.
+    // The leader takes a batch that is cast to it, says it to all, and echoes it.
     fn cast(
         &mut self,
         alloc: Global,
@@ -141,6 +140,9 @@ impl Echo {
         batch: Batch,
         keys: &mut Keys,
     ) -> Result<Effects<Word>, NoMemory>
+        requires good { IsGoodParams echo p.now }
+        requires enough { 2 ≤ left_of keys.old }
+        ensures { IfOk result (λ e. IsTrueStep echo Stands p.now self.old self.new (Input.Cast slot batch) keys.old keys.new e) }
     {
         if !self.may_cast(p, slot) {
             return Ok(Effects::nothing(alloc));
@@ -148,13 +150,15 @@ impl Echo {
         let said = batch.copy()?;
         let (digest, mut effects) = self.take(alloc, p, slot, batch)?;
         let sig = sign(alloc, p, SAY, slot, &digest, keys)?;
-        effects.sends.push((To::All, Word::Say { slot, batch: said, sig }))?;
-        let sig = sign(alloc, p, ECHO, slot, &digest, keys)?;
-        effects.sends.push((To::All, Word::Echo { slot, digest, sig }))?;
+        let own = sign(alloc, p, ECHO, slot, &digest, keys)?;
+        let word = Word::Say { slot, batch: said, sig };
+        effects.sends.push((To::All, word))?;
+        let word = Word::Echo { slot, digest, sig: own };
+        effects.sends.push((To::All, word))?;
         Ok(effects)
     }
 
-    /// A node takes the leader's first word on a slot, and echoes its digest to all.
+    // A node takes the leader's first word on a slot, and echoes its digest to all.
     fn take_say(
         &mut self,
         alloc: Global,
@@ -164,17 +168,21 @@ impl Echo {
         batch: Batch,
         keys: &mut Keys,
     ) -> Result<Effects<Word>, NoMemory>
+        requires good { IsGoodParams echo p.now }
+        requires enough { 2 ≤ left_of keys.old }
+        ensures { IfOk result (λ e. (sig : List ℕ) → IsTrueStep echo Stands p.now self.old self.new (Input.Receive from (Word.Say slot batch sig)) keys.old keys.new e) }
     {
         if !self.may_take(p, from, slot) {
             return Ok(Effects::nothing(alloc));
         }
         let (digest, mut effects) = self.take(alloc, p, slot, batch)?;
         let sig = sign(alloc, p, ECHO, slot, &digest, keys)?;
-        effects.sends.push((To::All, Word::Echo { slot, digest, sig }))?;
+        let word = Word::Echo { slot, digest, sig };
+        effects.sends.push((To::All, word))?;
         Ok(effects)
     }
 
-    /// A node hears an echo, and delivers what it took at the slot once a quorum echoed it.
+    // A node hears an echo, and delivers what it took at the slot once a quorum echoed it. It signs nothing.
     fn take_echo(
         &mut self,
         alloc: Global,
@@ -184,8 +192,8 @@ impl Echo {
         digest: [u8; 32],
     ) -> Result<Effects<Word>, NoMemory>
         requires { IsGoodParams echo p.now }
-        ensures stands { OnOk result ((me : ℕ) (xs : List (Item Word)) (leaf : ℕ) (sig : List ℕ) → Stands self.old p.now me xs →
-            Stands self.new p.now me (and_then echo p.now me xs (Input.Receive from (Word.Echo slot digest sig)) leaf)) }
+        ensures { IfOk result (λ e. (sig : List ℕ) (keys : KeyState) → 2 ≤ left_of keys →
+            IsTrueStep echo Stands p.now self.old self.new (Input.Receive from (Word.Echo slot digest sig)) keys keys e) }
     {
         if !is_inside(p, slot) {
             return Ok(Effects::nothing(alloc));
@@ -196,4 +204,108 @@ impl Echo {
         effects.delivers = one_at(alloc, slot, value)?;
         Ok(effects)
     }
+}
+
+impl Sequenced for Echo {
+    type Msg = Word;
+
+    const TAG: u8 = 6;
+
+    const STOPPING: bool = false;
+
+    ghost use Rattle.std.specs.Prelude.{false};
+
+    ghost TAG = { 6 };
+
+    ghost STOPPING = { false };
+
+    ghost meaning = { echo };
+
+    ghost stands = { Stands };
+
+    fn nodes_of(f: u32) -> u32 {
+        3 * f + 1
+    }
+
+    fn quorum_of(f: u32) -> u32 {
+        2 * f + 1
+    }
+
+    fn signs(_p: &Params) -> u32 {
+        2
+    }
+
+    fn start(alloc: Global, _p: &Params, me: NodeId) -> Result<Echo, NoMemory> {
+        Ok(Echo {
+            me,
+            places: BTreeMap::new(alloc),
+            heard: Echoes::new(alloc),
+        })
+    }
+
+    fn casts(&self, p: &Params, slot: Slot) -> bool {
+        self.may_cast(p, slot)
+    }
+
+    fn asks<'a>(&'a self, p: &Params, i: &'a Input<Word>) -> Option<(Slot, &'a Batch)> {
+        match i {
+            Input::Cast { slot, batch } => {
+                if self.may_cast(p, *slot) {
+                    Some((*slot, batch))
+                } else {
+                    None
+                }
+            }
+            Input::Receive { from, msg: Word::Say { slot, batch, .. } } => {
+                if self.may_take(p, *from, *slot) {
+                    Some((*slot, batch))
+                } else {
+                    None
+                }
+            }
+            _ => None,
+        }
+    }
+
+    fn step(
+        &mut self,
+        alloc: Global,
+        p: &Params,
+        i: Input<Word>,
+        verdict: bool,
+        keys: &mut Keys,
+    ) -> Result<Effects<Word>, StepError>
+        requires good { IsGoodParams echo p.now }
+        requires input { IsGoodInput p.now i }
+        ensures { IsStep echo Stands p.now self.old self.new i verdict keys.old keys.new result }
+    {
+        if keys.left() < 2 {
+            return Err(StepError::Spent);
+        }
+        if !verdict {
+            return Ok(Effects::nothing(alloc));
+        }
+        match i {
+            Input::Cast { slot, batch } => Ok(self.cast(alloc, p, slot, batch, keys)?),
+            Input::Receive { from, msg } => match msg {
+                Word::Say { slot, batch, .. } => Ok(self.take_say(alloc, p, from, slot, batch, keys)?),
+                Word::Echo { slot, digest, .. } => Ok(self.take_echo(alloc, p, from, slot, digest)?),
+            },
+            Input::Timeout => Ok(Effects::nothing(alloc)),
+        }
+    }
+
+    fn encode(m: &Word, out: &mut Writer) -> Result<(), NoMemory> {
+        wire::write(m, out)
+    }
+
+    fn decode(alloc: Global, f: &mut Fields) -> Result<Word, DecodeError> {
+        wire::read(alloc, f)
+    }
+
+    fn claims(alloc: Global, p: &Params, from: NodeId, m: &Word) -> Result<Row<Claim>, NoMemory> {
+        wire::claims(alloc, p, from, m)
+    }
+
+    fn laws() {}
 }

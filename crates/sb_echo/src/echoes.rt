@@ -1,7 +1,8 @@
 //! The echoes that a node heard.
 ghost use Rattle.std.specs.Prelude.{◌≡◌, ℕ, ◌≤◌, ◌&&◌, ◌||◌, ◌==◌, false, List, OnOk};
+ghost use Rattle.iss_base.specs.Lists.{same_bytes};
+ghost use Rattle.iss_base.specs.Quorum.{count_below};
 ghost use Rattle.sb_echo.specs.Heard.{has};
-ghost use Rattle.sb_echo.specs.Echo.{count_below, same_bytes};
 
 use iss_request::{NoMemory, NodeId, Slot};
 use std::alloc::Global;
@@ -24,7 +25,7 @@ pub struct Echoes {
 impl Echoes {
     /// None heard.
     pub fn new(alloc: Global) -> Echoes
-        ensures { (s k : ℕ) (d : List ℕ) → has result s d k ≡ false }
+        ensures { (s : ℕ) (d : List ℕ) (k : ℕ) → has result s d k ≡ false }
     {
         Echoes {
             all: BTreeSet::new(alloc),
@@ -45,7 +46,7 @@ impl Echoes {
 
     /// One echo more.
     pub fn hear(&mut self, slot: Slot, digest: [u8; 32], from: NodeId) -> Result<(), NoMemory>
-        ensures { OnOk result ((s k : ℕ) (d : List ℕ) → has self.new s d k ≡ (((from.0 == k) && ((slot.0 == s) && same_bytes digest d)) || has self.old s d k)) }
+        ensures { OnOk result ((s : ℕ) (d : List ℕ) (k : ℕ) → has self.new s d k ≡ (((from.0 == k) && ((slot.0 == s) && same_bytes digest d)) || has self.old s d k)) }
     {
         let heard = Heard {
             slot: slot.0,

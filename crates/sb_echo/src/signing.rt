@@ -1,18 +1,19 @@
 //! What is hashed and what is signed.
-ghost use Rattle.std.specs.Prelude.{◌≡◌, ℕ, ◌+◌, ◌<◌, List, ◌∷◌, ◌++◌, IfOk, OnOk};
-ghost use Rattle.std.specs.Int.{to_be_bytes, w64};
+ghost use Rattle.std.specs.Prelude.{◌≡◌, ℕ, ◌+◌, ◌<◌, IfOk, OnOk};
+ghost use Rattle.iss_keys.specs.Directories.{AreKeysOf};
 ghost use Rattle.iss_keys.specs.KeyStates.{left_of};
-ghost use Rattle.sb_echo.specs.Echo.{digest_of, signature, statement, string_of};
-ghost use Rattle.sb_echo.specs.Stands.{AreKeysOf};
+ghost use Rattle.iss_request.specs.Fields.{and_bytes};
+ghost use Rattle.iss_sb.specs.Statements.{signature, statement_head};
+ghost use Rattle.sb_echo.specs.Echo.{digest_of, statement, string_of};
 
 use iss_keys::{Keys, SignError};
 use iss_request::values::write_batch;
-use iss_request::{Batch, Bytes, NoMemory, Slot, Writer};
+use iss_request::{Batch, Bytes, NoMemory, Slot, Writer, version_byte};
 use iss_sb::Params;
 use sha2::{Digest, Sha256};
 use std::alloc::Global;
 
-/// The tag of the module in statements.
+/// The number of the module.
 pub const TAG: u8 = 6;
 
 /// The number of the leader's word, in bytes and in statements.
@@ -25,14 +26,15 @@ pub const ECHO: u8 = 2;
 pub fn string_of(alloc: Global, p: &Params, batch: &Batch) -> Result<Bytes, NoMemory>
     ensures { IfOk result (λ s. s ≡ string_of p.now batch.now) }
 {
-    let mut out = Writer::new(alloc);
+    let version = p.setup.version;
+    let mut out = Writer::new(alloc, version);
     out.put_u8(0x40)?;
-    out.put_u8(1)?;
+    out.put_u8(version_byte(version))?;
     write_batch(batch, &mut out)?;
     Ok(out.into_bytes())
 }
 
-/// The digest of a batch, of its string.
+/// The digest of a batch, by its string.
 pub fn digest_of(p: &Params, batch: &Batch, string: &Bytes) -> [u8; 32]
     requires { string.now ≡ string_of p.now batch.now }
     ensures { result ≡ digest_of p.now batch.now }
@@ -40,19 +42,32 @@ pub fn digest_of(p: &Params, batch: &Batch, string: &Bytes) -> [u8; 32]
     Sha256::digest(string.as_slice())
 }
 
+// What every statement of the instance begins with.
+fn put_head(p: &Params, out: &mut Writer) -> Result<(), NoMemory>
+    ensures { OnOk result (out.new ≡ and_bytes out.old (statement_head p.now 6)) }
+{
+    out.put_bytes(&p.setup.tag)?;
+    out.put_u64(p.epoch.0)?;
+    out.put_u8(p.leader.0)?;
+    out.put_u8(TAG)
+}
+
 /// The statement that a batch of this digest was said, or taken, at the slot.
-pub fn statement(alloc: Global, p: &Params, kind: u8, slot: Slot, digest: &[u8; 32]) -> Result<Bytes, NoMemory>
+pub fn statement(
+    alloc: Global,
+    p: &Params,
+    kind: u8,
+    slot: Slot,
+    digest: &[u8; 32],
+) -> Result<Bytes, NoMemory>
     ensures { IfOk result (λ s. s ≡ statement p.now kind slot.0 digest.now) }
 {
-    let mut out = Vec::with_capacity(alloc, 83)?;
-    out.extend_from_slice(&p.setup.tag)?;
-    out.extend_from_slice(&p.epoch.0.to_be_bytes())?;
-    out.push(p.leader.0)?;
-    out.push(TAG)?;
-    out.push(kind)?;
-    out.extend_from_slice(&slot.0.to_be_bytes())?;
-    out.extend_from_slice(digest)?;
-    Ok(Bytes::of(out))
+    let mut out = Writer::new(alloc, p.setup.version);
+    put_head(p, &mut out)?;
+    out.put_u8(kind)?;
+    out.put_u64(slot.0)?;
+    out.put_bytes(digest)?;
+    Ok(out.into_bytes())
 }
 
 /// Signs that a batch of this digest was said, or taken, at the slot, with the next leaf.
@@ -67,6 +82,7 @@ pub fn sign(
     requires { 0 < left_of keys.old }
     ensures sig { IfOk result (λ s. (me : ℕ) → AreKeysOf me p.now.setup.keys keys.old → s ≡ signature p.now me keys.old.used (statement p.now kind slot.0 digest.now)) }
     ensures used { OnOk result (keys.new ≡ record keys.old { used = keys.old.used + 1 }) }
+    ensures left { OnOk result (left_of keys.new + 1 ≡ left_of keys.old) }
 {
     let statement = statement(alloc, p, kind, slot, digest)?;
     match keys.sign(statement.as_slice()) {

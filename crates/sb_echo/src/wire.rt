@@ -2,15 +2,17 @@
 ghost use Rattle.std.specs.Prelude.{◌≡◌, ℕ, ◌∷◌, ◌++◌, [], IfOk, OnOk, Err};
 ghost use Rattle.std.specs.Int.{to_be_bytes, w64};
 ghost use Rattle.iss_request.specs.declared.requests.Value.TheVariants.{Batch as Holds};
-ghost use Rattle.iss_request.specs.Fields.{IsRead, IsUnreadable};
-ghost use Rattle.iss_request.specs.Formats.{is_signature, parse_value, spell_value};
+ghost use Rattle.iss_request.specs.Fields.{IsRead, IsUnreadable, and_bytes};
+ghost use Rattle.iss_request.specs.Formats.{is_batch, is_signature, parse_value, spell_value};
 ghost use Rattle.iss_request.specs.Parsing.{such_that};
-ghost use Rattle.sb_echo.specs.Echo.{claim, claims, is_batch, parse, parse_echo, parse_say, spell, statement};
+ghost use Rattle.sb_echo.specs.Echo.{claim, claims, parse, parse_echo, parse_say, spell, statement};
 
 use crate::signing::{ECHO, SAY, digest_of, statement, string_of};
 use crate::word::Word;
 use iss_request::values::write_batch;
-use iss_request::{Batch, Bytes, DecodeError, Fields, NoMemory, NodeId, Row, Slot, Value, Writer, read_signature, read_value};
+use iss_request::{
+    Batch, Bytes, DecodeError, Fields, NoMemory, NodeId, Row, Slot, Value, Writer, read_signature, read_value, version_byte,
+};
 use iss_sb::{Claim, Params};
 use std::alloc::Global;
 
@@ -32,36 +34,37 @@ fn has_shape(sig: &[u8]) -> bool
 /// Writes a message: its number, the slot, the batch as a value or the digest, the signature. One that has no
 /// spelling is written as bytes that no reader takes.
 pub fn write(msg: &Word, out: &mut Writer) -> Result<(), NoMemory>
-    ensures { OnOk result (out.new ≡ out.old ++ spell msg.now) }
+    ensures { OnOk result (out.new ≡ and_bytes out.old (spell out.old.version msg.now)) }
 {
     match msg {
         Word::Say { slot, batch, sig } => {
             if !has_shape(sig.as_slice()) {
                 return out.put_u8(NO_MESSAGE);
             }
-            write_say(slot, batch, sig, out)
+            write_say(*slot, batch, sig, out)
         }
         Word::Echo { slot, digest, sig } => {
             if !has_shape(sig.as_slice()) {
                 return out.put_u8(NO_MESSAGE);
             }
-            write_echo(slot, digest, sig, out)
+            write_echo(*slot, digest, sig, out)
         }
     }
 }
 
-fn write_say(slot: &Slot, batch: &Batch, sig: &Bytes, out: &mut Writer) -> Result<(), NoMemory>
-    ensures { OnOk result (out.new ≡ out.old ++ (1 ∷ to_be_bytes w64 slot.now.0 ++ spell_value (Holds batch.now) ++ sig.now)) }
+fn write_say(slot: Slot, batch: &Batch, sig: &Bytes, out: &mut Writer) -> Result<(), NoMemory>
+    ensures { OnOk result (out.new ≡ and_bytes out.old (1 ∷ to_be_bytes w64 slot.0 ++ spell_value out.old.version (Holds batch.now) ++ sig.now)) }
 {
     out.put_u8(SAY)?;
     out.put_u64(slot.0)?;
-    out.put_u8(1)?;
+    let first = version_byte(out.version());
+    out.put_u8(first)?;
     write_batch(batch, out)?;
     out.put_bytes(sig.as_slice())
 }
 
-fn write_echo(slot: &Slot, digest: &[u8; 32], sig: &Bytes, out: &mut Writer) -> Result<(), NoMemory>
-    ensures { OnOk result (out.new ≡ out.old ++ (2 ∷ to_be_bytes w64 slot.now.0 ++ digest.now ++ sig.now)) }
+fn write_echo(slot: Slot, digest: &[u8; 32], sig: &Bytes, out: &mut Writer) -> Result<(), NoMemory>
+    ensures { OnOk result (out.new ≡ and_bytes out.old (2 ∷ to_be_bytes w64 slot.0 ++ digest.now ++ sig.now)) }
 {
     out.put_u8(ECHO)?;
     out.put_u64(slot.0)?;
@@ -71,8 +74,8 @@ fn write_echo(slot: &Slot, digest: &[u8; 32], sig: &Bytes, out: &mut Writer) -> 
 
 /// Reads the message at the front. `BadField` names the first field that does not fit.
 pub fn read(alloc: Global, f: &mut Fields) -> Result<Word, DecodeError>
-    ensures ok { IfOk result (λ m. IsRead parse f.old f.new m) }
-    ensures bad { (at : ℕ) → result ≡ Err (DecodeError.BadField at) → IsUnreadable parse f.old at }
+    ensures ok { IfOk result (λ m. IsRead (parse f.old.version) f.old f.new m) }
+    ensures bad { (at : ℕ) → result ≡ Err (DecodeError.BadField at) → IsUnreadable (parse f.old.version) f.old at }
 {
     let no_message = f.bad_field();
     let number = f.read_u8()?;
@@ -84,8 +87,8 @@ pub fn read(alloc: Global, f: &mut Fields) -> Result<Word, DecodeError>
 }
 
 fn read_say(alloc: Global, f: &mut Fields) -> Result<Word, DecodeError>
-    ensures ok { IfOk result (λ m. IsRead parse_say f.old f.new m) }
-    ensures bad { (at : ℕ) → result ≡ Err (DecodeError.BadField at) → IsUnreadable parse_say f.old at }
+    ensures ok { IfOk result (λ m. IsRead (parse_say f.old.version) f.old f.new m) }
+    ensures bad { (at : ℕ) → result ≡ Err (DecodeError.BadField at) → IsUnreadable (parse_say f.old.version) f.old at }
 {
     let slot = Slot(f.read_u64()?);
     let batch = read_batch(alloc, f)?;
@@ -107,8 +110,8 @@ fn read_echo(alloc: Global, f: &mut Fields) -> Result<Word, DecodeError>
 
 // Reads a value that is a batch.
 fn read_batch(alloc: Global, f: &mut Fields) -> Result<Batch, DecodeError>
-    ensures ok { IfOk result (λ b. IsRead (such_that is_batch parse_value) f.old f.new (Holds b)) }
-    ensures bad { (at : ℕ) → result ≡ Err (DecodeError.BadField at) → IsUnreadable (such_that is_batch parse_value) f.old at }
+    ensures ok { IfOk result (λ b. IsRead (such_that is_batch (parse_value f.old.version)) f.old f.new (Holds b)) }
+    ensures bad { (at : ℕ) → result ≡ Err (DecodeError.BadField at) → IsUnreadable (such_that is_batch (parse_value f.old.version)) f.old at }
 {
     let no_batch = f.bad_field();
     match read_value(alloc, f)? {

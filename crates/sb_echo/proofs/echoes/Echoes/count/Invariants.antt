@@ -1,6 +1,6 @@
 use Rattle.std.proofs.Common.{◌≡◌, ◌≤◌}
 use Rattle.sb_echo.specs.Heard.{has}
-use Rattle.sb_echo.specs.Echo.{count_below}
+use Rattle.iss_base.specs.Quorum.{count_below}
 use Rattle.sb_echo.proofs.echoes.Echoes.count.Given as goal
 
 abbrev pub invariant-loop-from : goal.invariant-loop-from
