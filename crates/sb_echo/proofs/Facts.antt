@@ -2,7 +2,7 @@
 use Rattle.std.proofs.Common.{◌≡◌, ◌+◌, ℕ, Bool, true, false, ◌&&◌, ◌||◌, ◌==◌, not, if◌then◌else◌, List, [], ◌∷◌, Option, Some, None, is_some, refl, sym, ap, ◌∙◌, subst, inl, inr, ◌⊎◌, arith, true≢false}
 use Rattle.std.proofs.lemmas.Bool.{leb-true, le-leb}
 use Rattle.iss_base.specs.Lists.{In, same_bytes}
-use Rattle.iss_base.proofs.Lists.{and-true, same_bytes-is, some-injective}
+use Rattle.iss_base.proofs.Lists.{and-true, first-cases, same_bytes-is, some-injective}
 use Rattle.iss_request.specs.declared.ids.NodeId.{NodeId}
 use Rattle.iss_request.specs.declared.ids.Slot.{Slot}
 use Rattle.iss_request.specs.declared.requests.Batch.{Batch}
@@ -15,7 +15,6 @@ use Rattle.iss_sb.specs.declared.effects.Params.{Params}
 use Rattle.iss_sb.specs.declared.effects.To.{To}
 use Rattle.iss_sb.specs.Evidence.{Item, Made, accepts}
 use Rattle.iss_sb.specs.Legal.{AreMade}
-use Rattle.iss_sb.proofs.Delivered.{first_of-cases}
 use Rattle.iss_sb.proofs.Worlds.{accepts-cases, accepts-new, accepts-old}
 use Rattle.sb_echo.specs.declared.word.Word.{Word}
 use Rattle.sb_echo.specs.declared.word.Word.TheVariants.{Say, Echo}
@@ -106,7 +105,7 @@ batch_for-is s (Some a) b h = go (a.0.0 == s) refl h
 -- what was taken at a slot was accepted there
 pub taken-accepted : (xs : List (Item Word)) (s : ℕ) (b : Batch) → taken s xs ≡ Some b → In {A = Slot × Batch} (record { 0 = s }, b) (accepts xs)
 taken-accepted [] s b h = absurd (cc)
-taken-accepted (x ∷ xs) s b h = elim (first_of-cases (taken s xs) (batch_for s x.made.accepted) b h) [
+taken-accepted (x ∷ xs) s b h = elim (first-cases (taken s xs) (batch_for s x.made.accepted) b h) [
   | inl a ↦ accepts-old x xs (record { 0 = s }, b) (taken-accepted xs s b a)
   | inr a ↦ accepts-new x xs (record { 0 = s }, b) (batch_for-is s x.made.accepted b a.1)
 ]

@@ -20,7 +20,7 @@ use Rattle.sb_echo.specs.declared.echo.Place.{Place}
 use Rattle.sb_echo.specs.declared.echo.Place.TheVariants.{Waiting, Delivered}
 use Rattle.sb_echo.specs.declared.word.Word.{Word}
 use Rattle.sb_echo.specs.declared.word.Word.TheVariants.{Say, Echo as Echo_word}
-use Rattle.sb_echo.specs.Echo.{asks, batch_for, decide, decided, digest_of, echo, has_echo, has_slot, is_cast, is_echo, is_echoed, is_open, made_of, string_of, taken, words}
+use Rattle.sb_echo.specs.Echo.{asks, batch_for, decide, decided, digest_of, echo, has_echo, has_slot, is_cast, is_echo, is_echoed, is_open, made_of, makes, string_of, taken, words}
 use Rattle.sb_echo.specs.Heard.{has}
 use Rattle.sb_echo.specs.Stands.{HasCompleted, HasTaken, Stands, completed, completed_of, is_free, is_heard, may_cast, may_take, one_at, place_at, place_for}
 use Rattle.sb_echo.proofs.Bytes.{is-same, same-is}
@@ -189,10 +189,6 @@ module _ (m : Echo) (p : Params) (me : ℕ) (xs : List (Item Word)) (st : Stands
       heard = λ s d' k within. let no = quiet s d' k in let same = h.heard in rw (same, no) (st.heard s d' k within);
     }
 
-    delivered-one : (b : Bool) → (if b then (slot, Holds batch) ∷ [] else []) ≡ one_at slot (if b then Some (Holds batch) else None)
-    delivered-one true = refl
-    delivered-one false = refl
-
     not-yet : decided p me xs slot.0 ≡ None
     not-yet = ap (λ (o : Option Batch). decide p slot.0 xs o) free.fresh
 
@@ -204,7 +200,7 @@ module _ (m : Echo) (p : Params) (me : ℕ) (xs : List (Item Word)) (st : Stands
       delivers = delivers-at p me xs i leaf slot (if is_heard m p slot.0 (digest_of p batch) then Some (Holds batch) else None)
           (sym decided-here ∙ ap (λ (o : Option Value). newly o (decided p me (later i leaf) slot.0)) (sym not-yet))
           (λ s ne. decided-there s (other slot.0 s ne)) f.delivers
-          (delivers ∙ h.delivers ∙ ap (λ (z : List ℕ). if is_heard m p slot.0 z then (slot, Holds batch) ∷ [] else []) h.digest ∙ delivered-one (is_heard m p slot.0 (digest_of p batch)));
+          (delivers ∙ h.delivers ∙ ap (λ (z : List ℕ). one_at slot (if is_heard m p slot.0 z then Some (Holds batch) else None)) h.digest);
     }
 
   pub cast-stands : (slot : Slot) (batch : Batch) (leaf : ℕ) (n : Echo) (d : List ℕ) (e : Effects Word) → may_cast m p slot ≡ true → HasTaken p m n slot batch d e → Stands n p me (and_then echo p me xs (Cast slot batch) leaf)
@@ -298,3 +294,19 @@ module _ (m : Echo) (p : Params) (me : ℕ) (xs : List (Item Word)) (st : Stands
           (here.value ∙ ap (λ (o : Option Value). newly (decided p me xs slot.0) o) (sym decided-now))
           (λ s ne. elsewhere s (other slot.0 s ne)) e.delivers delivers;
     }
+
+  -- ---- how many leaves are used
+
+  pub cast-used : (slot : Slot) (batch : Batch) (leaf : ℕ) → (makes p me xs (Cast slot batch) leaf).used ≡ (if may_cast m p slot then 2 else 0)
+  cast-used slot batch leaf = ap (λ (o : Option (Slot × Batch)). (made_of p me leaf true o).used) (asks-cast slot batch) ∙ go (may_cast m p slot)
+    where
+      go : (b : Bool) → (made_of p me leaf true (if b then Some (slot, batch) else None)).used ≡ (if b then 2 else 0)
+      go true = refl
+      go false = refl
+
+  pub say-used : (from : NodeId) (slot : Slot) (batch : Batch) (sig : List ℕ) (leaf : ℕ) → (makes p me xs (Receive from (Say slot batch sig)) leaf).used ≡ (if may_take m p from slot then 1 else 0)
+  say-used from slot batch sig leaf = ap (λ (o : Option (Slot × Batch)). (made_of p me leaf false o).used) (asks-say from slot batch sig) ∙ go (may_take m p from slot)
+    where
+      go : (b : Bool) → (made_of p me leaf false (if b then Some (slot, batch) else None)).used ≡ (if b then 1 else 0)
+      go true = refl
+      go false = refl

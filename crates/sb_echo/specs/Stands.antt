@@ -78,7 +78,7 @@ pub record HasTaken (p : Params) (old new : Echo) (slot : Slot) (batch : Batch) 
   pub sends : e.sends ≡ []
   pub accepted : e.accepted ≡ Some (slot, batch)
   pub hashed : e.hashed ≡ string_of p batch ∷ []
-  pub delivers : e.delivers ≡ (if is_heard old p slot.0 d then (slot, Holds batch) ∷ [] else [])
+  pub delivers : e.delivers ≡ one_at slot (if is_heard old p slot.0 d then Some (Holds batch) else None)
 
 -- what waited at the slot was taken out, if a quorum had echoed it
 pub record HasCompleted (p : Params) (old new : Echo) (slot : Slot) (v : Option Value) : Type 0 where
