@@ -13,27 +13,23 @@ use Rattle.iss_sb.specs.declared.effects.Input.{Input}
 use Rattle.iss_sb.specs.declared.effects.Input.TheVariants.{Cast, Receive, Timeout}
 use Rattle.iss_sb.specs.declared.effects.Params.{Params}
 use Rattle.iss_sb.specs.declared.effects.To.{To}
+use Rattle.iss_sb.specs.Calls.{has_slot}
 use Rattle.iss_sb.specs.Evidence.{Item, Made, accepts}
 use Rattle.iss_sb.specs.Legal.{AreMade}
+use Rattle.iss_sb.proofs.Slots.{node-is, slot-is}
 use Rattle.iss_sb.proofs.Worlds.{accepts-cases, accepts-new, accepts-old}
 use Rattle.sb_echo.specs.declared.word.Word.{Word}
 use Rattle.sb_echo.specs.declared.word.Word.TheVariants.{Say, Echo}
-use Rattle.sb_echo.specs.Echo.{asks, batch_for, claims, decide, decided, digest_of, echo, echo_of, has_echo, has_slot, is_cast, is_echo, is_echoed, is_open, made_of, makes, say, statement, taken, string_of, words}
+use Rattle.sb_echo.specs.Echo.{asks, batch_for, claims, decide, decided, digest_of, echo, echo_of, has_echo, is_cast, is_echo, is_echoed, is_open, made_of, makes, say, statement, taken, string_of, words}
 use Rattle.sb_echo.proofs.Bytes.{is-same, same-is}
 use Rattle.iss_base.proofs.Quorum.{count-mono}
 
 abbrev pub Same : Input Word → Input Word → Type 0
 Same x y = x ≡ y
 
-slot_eta : (a b : Slot) → a.0 ≡ b.0 → a ≡ b
-slot_eta a b h = ap (λ (n : ℕ). let s : Slot = record { 0 = n } in s) h
-
-node_eta : (a b : NodeId) → a.0 ≡ b.0 → a ≡ b
-node_eta a b h = ap (λ (n : ℕ). let s : NodeId = record { 0 = n } in s) h
-
 -- ---- what is asked for
 
-none-is : {A : Type 0} (o : Option A) → not (is_some o) ≡ true → o ≡ None
+pub none-is : {A : Type 0} (o : Option A) → not (is_some o) ≡ true → o ≡ None
 none-is None h = refl
 none-is (Some x) h = absurd (true≢false (sym h))
 
@@ -74,7 +70,7 @@ asked p me xs (Receive from (Say slot batch sig)) a h = go ((from.0 == p.leader.
     go false q r = absurd (cc)
     go true q r =
         let t = and-true (from.0 == p.leader.0) (is_open p slot.0 xs) q in
-        let leader : from ≡ p.leader = node_eta from p.leader (is-same from.0 p.leader.0 t.0) in
+        let leader : from ≡ p.leader = node-is from p.leader (is-same from.0 p.leader.0 t.0) in
         subst (λ (z : Slot × Batch). IsAsked p me xs (Receive from (Say slot batch sig)) z) (some-injective {A = Slot × Batch} (slot, batch) a r)
         (record { free = open-is p slot.0 xs t.1; cause = inr (record { sig = sig; input = ap (λ (k : NodeId). Receive k (Say slot batch sig)) leader }) })
 
@@ -98,7 +94,7 @@ batch_for-is s (Some a) b h = go (a.0.0 == s) refl h
     go : (t : Bool) → (a.0.0 == s) ≡ t → (if t then Some a.1 else None) ≡ Some b → ◌≡◌ {A = Option (Slot × Batch)} (Some a) (Some (record { 0 = s }, b))
     go false q r = absurd (cc)
     go true q r =
-        let slots : a.0 ≡ record { 0 = s } = slot_eta a.0 (record { 0 = s }) (is-same a.0.0 s q) in
+        let slots : a.0 ≡ record { 0 = s } = slot-is a.0 (record { 0 = s }) (is-same a.0.0 s q) in
         let batches : a.1 ≡ b = some-injective a.1 b r in
         ap (λ (z : Slot). let o : Option (Slot × Batch) = Some (z, a.1) in o) slots ∙ ap (λ (z : Batch). let o : Option (Slot × Batch) = Some (record { 0 = s }, z) in o) batches
 

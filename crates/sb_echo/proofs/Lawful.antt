@@ -11,33 +11,18 @@ use Rattle.iss_sb.specs.declared.effects.Input.TheVariants.{Cast, Receive}
 use Rattle.iss_sb.specs.declared.effects.Params.{Params}
 use Rattle.iss_sb.specs.declared.effects.To.{To}
 use Rattle.iss_sb.specs.declared.effects.To.TheVariants.{All as To_all, One as To_one}
-use Rattle.iss_sb.specs.Calls.{AreBelow, IsGoodParams}
+use Rattle.iss_sb.specs.Calls.{IsGoodParams}
 use Rattle.iss_sb.specs.Evidence.{Item, IsReadBatch, IsReadMessage}
 use Rattle.iss_sb.specs.Laws.{IsHeard, IsLawful}
 use Rattle.iss_sb.specs.Statements.{eight_bytes, signature, statement_head}
 use Rattle.iss_sb.proofs.Signatures.{signature-shape}
+use Rattle.iss_sb.proofs.Slots.{below-In, has_slot-In}
 use Rattle.sb_echo.specs.declared.word.Word.{Word}
 use Rattle.sb_echo.specs.declared.word.Word.TheVariants.{Say, Echo}
-use Rattle.sb_echo.specs.Echo.{asks, claims, digest_of, echo, echo_of, has_slot, is_cast, made_of, makes, say, statement, string_of, tag, taken, words}
+use Rattle.sb_echo.specs.Echo.{asks, claims, digest_of, echo, echo_of, is_cast, made_of, makes, say, statement, string_of, tag, taken, words}
 use Rattle.sb_echo.proofs.Bytes.{is-same, same-is}
 use Rattle.sb_echo.proofs.Facts.{IsOwn, Same, accepted-is, asked, decided-is}
 use Rattle.sb_echo.proofs.Spelling.{echo-again, say-again, say-read}
-
-pub slot_eta : (a b : Slot) → a.0 ≡ b.0 → a ≡ b
-slot_eta a b h = ap (λ (n : ℕ). let s : Slot = record { 0 = n } in s) h
-
-pub has_slot-In : (s : Slot) (slots : List Slot) → has_slot s.0 slots ≡ true → In s slots
-has_slot-In s [] h = absurd (true≢false (sym h))
-has_slot-In s (t ∷ slots) h = go (t.0 == s.0) refl (has_slot-In s slots) h
-  where
-    go : (b : Bool) → (t.0 == s.0) ≡ b → (has_slot s.0 slots ≡ true → In s slots) → (b || has_slot s.0 slots) ≡ true → In s (t ∷ slots)
-    go true q more k = inl (slot_eta s t (sym (is-same t.0 s.0 q)))
-    go false q more k = inr (more k)
-
-pub below-In : (bound : ℕ) (s : Slot) (slots : List Slot) → AreBelow bound slots → In s slots → s.0 < bound
-below-In bound s [] low h = absurd h
-below-In bound s (t ∷ slots) low (inl e) = subst (λ (z : Slot). z.0 < bound) (sym e) low.0
-below-In bound s (t ∷ slots) low (inr h) = below-In bound s slots low.1 h
 
 named : (p : Params) (from : ℕ) (msg : Word) (c : Claim) → In c (claims p from msg) → (rest : List ℕ) × (c.statement ≡ statement_head p tag ++ rest)
 named p from (Say slot batch sig) c (inl e) = (1 ∷ (eight_bytes slot.0 ++ digest_of p batch), ap (λ (z : Claim). z.statement) e)

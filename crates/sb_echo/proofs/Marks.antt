@@ -15,20 +15,20 @@ use Rattle.iss_sb.specs.declared.effects.Input.{Input}
 use Rattle.iss_sb.specs.declared.effects.Input.TheVariants.{Cast, Receive, Timeout}
 use Rattle.iss_sb.specs.declared.effects.Params.{Params}
 use Rattle.iss_sb.specs.declared.effects.To.TheVariants.{All as To_all}
-use Rattle.iss_sb.specs.Calls.{AllIn, Delivers, IsNothing, IsTaken, slots_of}
+use Rattle.iss_sb.specs.Calls.{AllIn, Delivers, has_slot, slots_of}
 use Rattle.iss_sb.specs.Evidence.{Item, and_then, delivered}
+use Rattle.iss_sb.proofs.Slots.{slot-is}
 use Rattle.iss_sb.proofs.Delivered.{Delivers-from, delivered-decided}
 use Rattle.sb_echo.specs.declared.echo.Echo.{Echo}
 use Rattle.sb_echo.specs.declared.echo.Place.{Place}
 use Rattle.sb_echo.specs.declared.echo.Place.TheVariants.{Waiting, Delivered}
 use Rattle.sb_echo.specs.declared.word.Word.{Word}
 use Rattle.sb_echo.specs.declared.word.Word.TheVariants.{Say, Echo as Echo_word}
-use Rattle.sb_echo.specs.Echo.{asks, batch_for, decide, decided, digest_of, echo, echo_of, has_echo, has_slot, is_cast, is_echo, is_echoed, is_open, made_of, makes, say, statement, string_of, taken}
+use Rattle.sb_echo.specs.Echo.{asks, batch_for, decide, decided, digest_of, echo, echo_of, has_echo, is_cast, is_echo, is_echoed, is_open, made_of, makes, say, statement, string_of, taken}
 use Rattle.sb_echo.specs.Heard.{has}
 use Rattle.sb_echo.specs.Stands.{HasCompleted, HasTaken, Stands, completed, completed_of, is_complete, is_free, is_heard, may_cast, may_take, one_at, place_at, place_for}
 use Rattle.sb_echo.proofs.Bytes.{is-same, same-is}
 use Rattle.sb_echo.proofs.Facts.{accepted-is, decided-is, decided-start, decided-stays}
-use Rattle.sb_echo.proofs.Lawful.{has_slot-In, slot_eta}
 
 pub count-alike : (t u : ℕ → Bool) (n : ℕ) → ((k : ℕ) → t k ≡ u k) → count_below t n ≡ count_below u n
 count-alike t u zero h = refl
@@ -42,10 +42,6 @@ pub some-place : (p : Params) (o : Option Batch) (v : Option Value) → is_some 
 some-place p None v = refl
 some-place p (Some b) None = refl
 some-place p (Some b) (Some v) = refl
-
-pub none-is : {A : Type 0} (o : Option A) → not (is_some o) ≡ true → o ≡ None
-none-is None h = refl
-none-is (Some x) h = absurd (true≢false (sym h))
 
 -- a test that is not passed by an equal number is passed by none
 pub apart : (a s : ℕ) → (a == s) ≡ false → s ≢ a
@@ -107,7 +103,7 @@ one-within slot None slots h = tt
 one-within slot (Some x) slots h = (h, tt)
 
 pair-is : (s t : Slot) (x : Value) → s.0 ≡ t.0 → ◌≡◌ {A = Slot × Value} (s, x) (t, x)
-pair-is s t x h = ap (λ (z : Slot). let q : Slot × Value = (z, x) in q) (slot_eta s t h)
+pair-is s t x h = ap (λ (z : Slot). let q : Slot × Value = (z, x) in q) (slot-is s t h)
 
 module _ (p : Params) (me : ℕ) (xs : List (Item Word)) (i : Input Word) (leaf : ℕ) (slot : Slot) (v : Option Value) where
   abbrev later : List (Item Word)

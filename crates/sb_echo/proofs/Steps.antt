@@ -13,19 +13,19 @@ use Rattle.iss_sb.specs.declared.effects.Input.{Input}
 use Rattle.iss_sb.specs.declared.effects.Input.TheVariants.{Cast, Receive, Timeout}
 use Rattle.iss_sb.specs.declared.effects.Params.{Params}
 use Rattle.iss_sb.specs.declared.effects.To.{To}
-use Rattle.iss_sb.specs.Calls.{IsNothing, IsTaken}
+use Rattle.iss_sb.specs.Calls.{IsNothing, IsTaken, has_slot}
 use Rattle.iss_sb.specs.Evidence.{Item, and_then}
 use Rattle.sb_echo.specs.declared.echo.Echo.{Echo}
 use Rattle.sb_echo.specs.declared.echo.Place.{Place}
 use Rattle.sb_echo.specs.declared.echo.Place.TheVariants.{Waiting, Delivered}
 use Rattle.sb_echo.specs.declared.word.Word.{Word}
 use Rattle.sb_echo.specs.declared.word.Word.TheVariants.{Say, Echo as Echo_word}
-use Rattle.sb_echo.specs.Echo.{asks, batch_for, decide, decided, digest_of, echo, has_echo, has_slot, is_cast, is_echo, is_echoed, is_open, made_of, makes, string_of, taken, words}
+use Rattle.sb_echo.specs.Echo.{asks, batch_for, decide, decided, digest_of, echo, has_echo, is_cast, is_echo, is_echoed, is_open, made_of, makes, string_of, taken, words}
 use Rattle.sb_echo.specs.Heard.{has}
 use Rattle.sb_echo.specs.Stands.{HasCompleted, HasTaken, Stands, completed, completed_of, is_free, is_heard, may_cast, may_take, one_at, place_at, place_for}
 use Rattle.sb_echo.proofs.Bytes.{is-same, same-is}
-use Rattle.sb_echo.proofs.Facts.{accepted-is, decided-stays}
-use Rattle.sb_echo.proofs.Marks.{IsQuiet, apart, count-alike, decide-quiet, delivered-is, delivers-at, echo-apart, first_of-none, newly, none-is, other, some-place}
+use Rattle.sb_echo.proofs.Facts.{accepted-is, decided-stays, none-is}
+use Rattle.sb_echo.proofs.Marks.{IsQuiet, apart, count-alike, decide-quiet, delivered-is, delivers-at, echo-apart, first_of-none, newly, other, some-place}
 
 -- what was taken out of a slot is what is decided now, and was not before; what was taken there is o
 record IsAt (p : Params) (o : Option Batch) (before now out : Option Value) : Type 0 where

@@ -12,12 +12,12 @@ use Rattle.iss_sb.specs.declared.effects.Effects.{Effects}
 use Rattle.iss_sb.specs.declared.effects.Params.{Params}
 use Rattle.iss_sb.specs.declared.effects.To.{To}
 use Rattle.iss_sb.specs.declared.effects.To.TheVariants.{All as To_all}
-use Rattle.iss_sb.specs.Calls.{AllIn, AreToNodes, IsNothing, IsWithin, slots_of}
+use Rattle.iss_sb.specs.Calls.{AllIn, AreToNodes, IsNothing, IsWithin, has_slot, slots_of}
+use Rattle.iss_sb.proofs.Slots.{has_slot-In}
 use Rattle.sb_echo.specs.declared.echo.Echo.{Echo}
 use Rattle.sb_echo.specs.declared.word.Word.{Word}
-use Rattle.sb_echo.specs.Echo.{echo, has_slot}
+use Rattle.sb_echo.specs.Echo.{echo}
 use Rattle.sb_echo.specs.Stands.{HasTaken, is_free, may_cast, may_take, one_at, place_at}
-use Rattle.sb_echo.proofs.Lawful.{has_slot-In}
 use Rattle.sb_echo.proofs.Marks.{one-within}
 
 pub nothing-within : (p : Params) (k : KeyState) (e : Effects Word) → IsNothing e → IsWithin echo p k k e

@@ -2,7 +2,6 @@
 -- the echoes of a quorum decide what the node itself took there.
 use Rattle.std.specs.Prelude.{◌≡◌, ℕ, ◌+◌, ◌*◌, ◌^◌, ◌<◌, ◌==◌, ◌&&◌, ◌||◌, Bool, true, false, not, cond, nat_lt, nat_le, List, [], ◌∷◌, ◌++◌, length, Option, Some, None, is_some, if◌then◌else◌}
 use Rattle.std.specs.Int.{to_be_bytes, w64}
-use Rattle.std.specs.List.{list_any}
 use Rattle.iss_base.specs.Lists.{first_of, same_bytes}
 use Rattle.iss_base.specs.Quorum.{count_below}
 use Rattle.iss_request.specs.Digest.{digest}
@@ -18,6 +17,7 @@ use Rattle.iss_sb.specs.declared.effects.Input.TheVariants.{Cast, Receive, Timeo
 use Rattle.iss_sb.specs.declared.effects.Params.{Params}
 use Rattle.iss_sb.specs.declared.effects.To.{To}
 use Rattle.iss_sb.specs.declared.effects.To.TheVariants.{All as To_all}
+use Rattle.iss_sb.specs.Calls.{has_slot}
 use Rattle.iss_sb.specs.Evidence.{Item, Made, Module}
 use Rattle.iss_sb.specs.Statements.{eight_bytes, signature, statement_head}
 use Rattle.sb_echo.specs.declared.word.Word.{Word}
@@ -55,10 +55,6 @@ abbrev pub echo_of : Params → ℕ → ℕ → Slot × Batch → Word
 echo_of p me leaf a = Echo a.0 (digest_of p a.1) (signature p me leaf (statement p 2 a.0.0 (digest_of p a.1)))
 
 -- ---- what a node took
-
--- whether the slot of this number is among the slots
-abbrev pub has_slot : ℕ → List Slot → Bool
-has_slot s slots = list_any (λ t. t.0 == s) slots
 
 abbrev pub batch_for : ℕ → Option (Slot × Batch) → Option Batch
 batch_for s None = None

@@ -10,12 +10,13 @@ use Rattle.iss_request.specs.declared.requests.Value.{Value}
 use Rattle.iss_request.specs.declared.requests.Value.TheVariants.{Batch as Holds}
 use Rattle.iss_sb.specs.declared.effects.Effects.{Effects}
 use Rattle.iss_sb.specs.declared.effects.Params.{Params}
+use Rattle.iss_sb.specs.Calls.{has_slot}
 use Rattle.iss_sb.specs.Evidence.{Item}
 use Rattle.sb_echo.specs.declared.echo.Echo.{Echo}
 use Rattle.sb_echo.specs.declared.echo.Place.{Place}
 use Rattle.sb_echo.specs.declared.echo.Place.TheVariants.{Waiting, Delivered}
 use Rattle.sb_echo.specs.declared.word.Word.{Word}
-use Rattle.sb_echo.specs.Echo.{decided, digest_of, has_echo, has_slot, string_of, taken}
+use Rattle.sb_echo.specs.Echo.{decided, digest_of, has_echo, string_of, taken}
 use Rattle.sb_echo.specs.Heard.{has}
 
 -- what stands at a slot

@@ -1,8 +1,8 @@
 //! The rules of echo, and that it is an ordering module.
 ghost use Rattle.std.specs.Prelude.{◌≡◌, ℕ, ◌≤◌, List, IfOk};
 ghost use Rattle.iss_keys.specs.KeyStates.{KeyState, left_of};
-ghost use Rattle.iss_sb.specs.Calls.{IsGoodInput, IsGoodParams, IsStep, IsTrueStep};
-ghost use Rattle.sb_echo.specs.Echo.{echo, has_slot};
+ghost use Rattle.iss_sb.specs.Calls.{IsGoodInput, IsGoodParams, IsStep, IsTrueStep, has_slot};
+ghost use Rattle.sb_echo.specs.Echo.{echo};
 ghost use Rattle.sb_echo.specs.Stands.{HasCompleted, HasTaken, Stands, is_complete, is_free, is_heard, may_cast, may_take, one_at};
 
 use crate::echoes::Echoes;
