@@ -1,5 +1,5 @@
 -- Each rule's step from a list that echo stands for.
-use Rattle.std.proofs.Common.{◌≡◌, ◌≢◌, ◌+◌, ℕ, Bool, true, false, not, ◌&&◌, ◌||◌, ◌==◌, if◌then◌else◌, List, [], ◌∷◌, Option, Some, None, is_some, refl, sym, ap, ◌∙◌, subst, inl, inr, true≢false}
+use Rattle.std.proofs.Common.{◌≡◌, ◌≢◌, ◌+◌, ℕ, Bool, true, false, not, ◌&&◌, ◌||◌, ◌==◌, if◌then◌else◌, List, [], ◌∷◌, Option, Some, None, is_some, refl, sym, ap, ◌∙◌, subst, inl, inr, ◌↔◌, IsTrue, true≢false}
 use Rattle.std.specs.Prelude.{nat_le}
 use Rattle.iss_base.specs.Lists.{In, first_of, same_bytes}
 use Rattle.iss_base.proofs.Lists.{and-true}
@@ -13,14 +13,16 @@ use Rattle.iss_sb.specs.declared.effects.Input.{Input}
 use Rattle.iss_sb.specs.declared.effects.Input.TheVariants.{Cast, Receive, Timeout}
 use Rattle.iss_sb.specs.declared.effects.Params.{Params}
 use Rattle.iss_sb.specs.declared.effects.To.{To}
+use Rattle.iss_sb.specs.declared.effects.To.TheVariants.{All as To_all}
 use Rattle.iss_sb.specs.Calls.{IsNothing, IsTaken, has_slot}
 use Rattle.iss_sb.specs.Evidence.{Item, and_then}
+use Rattle.iss_sb.specs.Statements.{signature}
 use Rattle.sb_echo.specs.declared.echo.Echo.{Echo}
 use Rattle.sb_echo.specs.declared.echo.Place.{Place}
 use Rattle.sb_echo.specs.declared.echo.Place.TheVariants.{Waiting, Delivered}
 use Rattle.sb_echo.specs.declared.word.Word.{Word}
 use Rattle.sb_echo.specs.declared.word.Word.TheVariants.{Say, Echo as Echo_word}
-use Rattle.sb_echo.specs.Echo.{asks, batch_for, decide, decided, digest_of, echo, has_echo, is_cast, is_echo, is_echoed, is_open, made_of, makes, string_of, taken, words}
+use Rattle.sb_echo.specs.Echo.{asks, batch_for, decide, decided, digest_of, echo, has_echo, is_cast, is_echo, is_echoed, is_open, made_of, makes, statement, string_of, taken, words}
 use Rattle.sb_echo.specs.Heard.{has}
 use Rattle.sb_echo.specs.Stands.{HasCompleted, HasTaken, Stands, completed, completed_of, is_free, is_heard, may_cast, may_take, one_at, place_at, place_for}
 use Rattle.sb_echo.proofs.Bytes.{is-same, same-is}
@@ -297,16 +299,57 @@ module _ (m : Echo) (p : Params) (me : ℕ) (xs : List (Item Word)) (st : Stands
 
   -- ---- how many leaves are used
 
-  pub cast-used : (slot : Slot) (batch : Batch) (leaf : ℕ) → (makes p me xs (Cast slot batch) leaf).used ≡ (if may_cast m p slot then 2 else 0)
-  cast-used slot batch leaf = ap (λ (o : Option (Slot × Batch)). (made_of p me leaf true o).used) (asks-cast slot batch) ∙ go (may_cast m p slot)
+  pub cast-used : (slot : Slot) (batch : Batch) (leaf : ℕ) (b : Bool) → may_cast m p slot ≡ b → (makes p me xs (Cast slot batch) leaf).used ≡ (if b then 2 else 0)
+  cast-used slot batch leaf b h = ap (λ (o : Option (Slot × Batch)). (made_of p me leaf true o).used) (asks-as-cast slot batch b h) ∙ go b
     where
       go : (b : Bool) → (made_of p me leaf true (if b then Some (slot, batch) else None)).used ≡ (if b then 2 else 0)
       go true = refl
       go false = refl
 
-  pub say-used : (from : NodeId) (slot : Slot) (batch : Batch) (sig : List ℕ) (leaf : ℕ) → (makes p me xs (Receive from (Say slot batch sig)) leaf).used ≡ (if may_take m p from slot then 1 else 0)
-  say-used from slot batch sig leaf = ap (λ (o : Option (Slot × Batch)). (made_of p me leaf false o).used) (asks-say from slot batch sig) ∙ go (may_take m p from slot)
+  pub say-used : (from : NodeId) (slot : Slot) (batch : Batch) (sig : List ℕ) (leaf : ℕ) (b : Bool) → may_take m p from slot ≡ b → (makes p me xs (Receive from (Say slot batch sig)) leaf).used ≡ (if b then 1 else 0)
+  say-used from slot batch sig leaf b h = ap (λ (o : Option (Slot × Batch)). (made_of p me leaf false o).used) (asks-as-say from slot batch sig b h) ∙ go b
     where
       go : (b : Bool) → (made_of p me leaf false (if b then Some (slot, batch) else None)).used ≡ (if b then 1 else 0)
       go true = refl
       go false = refl
+
+  -- ---- what the trait's tests answer
+
+  no-some : (a : Slot × Batch) → ◌≡◌ {A = Option (Slot × Batch)} None (Some a) → ⊥
+  no-some a h = cc
+
+  pub casts-means : (slot : Slot) (batch : Batch) (b : Bool) → b ≡ may_cast m p slot → IsTrue b ↔ (asks p me xs (Cast slot batch) ≡ Some (slot, batch))
+  casts-means slot batch b e = (
+    (λ t. asks-as-cast slot batch true (sym e ∙ t)),
+    (λ h. e ∙ go (may_cast m p slot) refl h),
+  )
+    where
+      go : (t : Bool) → may_cast m p slot ≡ t → asks p me xs (Cast slot batch) ≡ Some (slot, batch) → t ≡ true
+      go true q h = refl
+      go false q h = absurd (no-some (slot, batch) (sym (asks-as-cast slot batch false q) ∙ h))
+
+  pub asks-of-cast : (i : Input Word) (slot : Slot) (batch : Batch) (b : Bool) → i ≡ Cast slot batch → may_cast m p slot ≡ b → asks p me xs i ≡ (if b then Some (slot, batch) else None)
+  asks-of-cast i slot batch b e h = ap (λ (i : Input Word). asks p me xs i) e ∙ asks-as-cast slot batch b h
+
+  pub asks-of-say : (i : Input Word) (from : NodeId) (msg : Word) (slot : Slot) (batch : Batch) (sig : List ℕ) (b : Bool) → i ≡ Receive from msg → msg ≡ Say slot batch sig → may_take m p from slot ≡ b → asks p me xs i ≡ (if b then Some (slot, batch) else None)
+  asks-of-say i from msg slot batch sig b e q h = ap (λ (i : Input Word). asks p me xs i) (e ∙ ap (λ (w : Word). Receive from w) q) ∙ asks-as-say from slot batch sig b h
+
+-- nothing taken yet
+pub start-stands : (m : Echo) (p : Params) (me : ℕ) → m.me.0 ≡ me → m.places.entries ≡ [] → ((s : ℕ) (d : List ℕ) (k : ℕ) → has m.heard s d k ≡ false) → Stands m p me []
+start-stands m p me same none unheard = record { node = same; places = λ s. rw none refl; heard = λ s d k within. unheard s d k }
+
+-- ---- what is sent
+
+pub echoed-words : (p : Params) (me leaf : ℕ) (slot : Slot) (batch : Batch) (d sig : List ℕ) → d ≡ digest_of p batch → sig ≡ signature p me leaf (statement p 2 slot.0 d) →
+    ◌≡◌ {A = List (To × Word)} ((To_all, Echo_word slot d sig) ∷ []) (words p me leaf false (slot, batch))
+echoed-words p me leaf slot batch d sig e h =
+    ap (λ (z : List ℕ). let l : List (To × Word) = (To_all, Echo_word slot d z) ∷ [] in l) h
+    ∙ ap (λ (z : List ℕ). let l : List (To × Word) = (To_all, Echo_word slot z (signature p me leaf (statement p 2 slot.0 z))) ∷ [] in l) e
+
+pub said-words : (p : Params) (me leaf : ℕ) (slot : Slot) (batch said : Batch) (d sig own : List ℕ) → said ≡ batch → d ≡ digest_of p batch → sig ≡ signature p me leaf (statement p 1 slot.0 d) → own ≡ signature p me (leaf + 1) (statement p 2 slot.0 d) →
+    ◌≡◌ {A = List (To × Word)} ((To_all, Say slot said sig) ∷ (To_all, Echo_word slot d own) ∷ []) (words p me leaf true (slot, batch))
+said-words p me leaf slot batch said d sig own s e h k =
+    ap (λ (z : Batch). let l : List (To × Word) = (To_all, Say slot z sig) ∷ (To_all, Echo_word slot d own) ∷ [] in l) s
+    ∙ ap (λ (z : List ℕ). let l : List (To × Word) = (To_all, Say slot batch z) ∷ (To_all, Echo_word slot d own) ∷ [] in l) h
+    ∙ ap (λ (z : List ℕ). let l : List (To × Word) = (To_all, Say slot batch (signature p me leaf (statement p 1 slot.0 d))) ∷ (To_all, Echo_word slot d z) ∷ [] in l) k
+    ∙ ap (λ (z : List ℕ). let l : List (To × Word) = (To_all, Say slot batch (signature p me leaf (statement p 1 slot.0 z))) ∷ (To_all, Echo_word slot z (signature p me (leaf + 1) (statement p 2 slot.0 z))) ∷ [] in l) e

@@ -3,6 +3,7 @@ use Rattle.std.proofs.Common.{◌≡◌, ◌≤◌, ◌+◌, ℕ, Bool, true, fa
 use Rattle.std.specs.Prelude.{IfSome}
 use Rattle.iss_base.specs.Lists.{In}
 use Rattle.iss_base.proofs.Lists.{and-true}
+use Rattle.iss_keys.specs.Directories.{AreKeysOf}
 use Rattle.iss_keys.specs.KeyStates.{KeyState}
 use Rattle.iss_request.specs.declared.ids.NodeId.{NodeId}
 use Rattle.iss_request.specs.declared.ids.Slot.{Slot}
@@ -44,7 +45,7 @@ echo-within p k e slot v within sends accepted delivers = record {
   few = omega arith;
 }
 
-abbrev with_used : KeyState → ℕ → KeyState
+abbrev pub with_used : KeyState → ℕ → KeyState
 with_used k count = record k { used = k.used + count }
 
 -- a step that takes a batch
@@ -64,3 +65,18 @@ taken-within p m n slot batch d e f before later count free h accepted delivers 
       leaves = rw used (omega arith);
       few = rw used (omega arith);
     }
+
+-- ---- leaves that are used
+
+pub none-used : (k u : ℕ) → u ≡ 0 → k ≡ k + u
+none-used k u h = omega (arith, h)
+
+pub some-used : (before later : KeyState) (count u : ℕ) → later ≡ with_used before count → u ≡ count → later.used ≡ before.used + u
+some-used before later count u h e = let used = ap (λ (k : KeyState). k.used) h in omega (arith, used, e)
+
+pub twice-used : (before mid later : KeyState) → mid ≡ with_used before 1 → later ≡ with_used mid 1 → later ≡ with_used before 2
+twice-used before mid later h k = let n : before.used + 1 + 1 ≡ before.used + 2 = omega arith in k ∙ ap (λ (z : KeyState). with_used z 1) h ∙ ap (λ (n : ℕ). record before { used = n }) n
+
+-- whose they are does not hang on how many are used
+pub same-owner : (me height : ℕ) (before later : KeyState) (count : ℕ) → later ≡ with_used before count → AreKeysOf me height before → AreKeysOf me height later
+same-owner me height before later count h own = record { own = ap (λ (k : KeyState). k.secret) h ∙ own.own; tall = ap (λ (k : KeyState). k.height) h ∙ own.tall }
