@@ -1,10 +1,9 @@
 //! The bytes of the messages, and what they claim that nodes have signed.
-ghost use Rattle.std.specs.Prelude.{◌≡◌, ℕ, ◌∷◌, ◌++◌, [], IfOk, OnOk, Err};
-ghost use Rattle.std.specs.Int.{to_be_bytes, w64};
+ghost use Rattle.std.specs.Prelude.{◌≡◌, ℕ, ◌∷◌, [], true, length, IfOk, OnOk, Err};
 ghost use Rattle.iss_request.specs.declared.requests.Value.TheVariants.{Batch as Holds};
 ghost use Rattle.iss_request.specs.Fields.{IsRead, IsUnreadable, and_bytes};
-ghost use Rattle.iss_request.specs.Formats.{is_batch, is_signature, parse_value, spell_value};
-ghost use Rattle.iss_request.specs.Parsing.{such_that};
+ghost use Rattle.iss_request.specs.Formats.{is_batch, is_signature, parse_value};
+ghost use Rattle.iss_request.specs.Parsing.{block, such_that};
 ghost use Rattle.sb_echo.specs.Echo.{claim, claims, parse, parse_echo, parse_say, spell, statement};
 
 use crate::signing::{ECHO, SAY, digest_of, statement, string_of};
@@ -53,7 +52,8 @@ pub fn write(msg: &Word, out: &mut Writer) -> Result<(), NoMemory>
 }
 
 fn write_say(slot: Slot, batch: &Batch, sig: &Bytes, out: &mut Writer) -> Result<(), NoMemory>
-    ensures { OnOk result (out.new ≡ and_bytes out.old (1 ∷ to_be_bytes w64 slot.0 ++ spell_value out.old.version (Holds batch.now) ++ sig.now)) }
+    requires { is_signature sig.now ≡ true }
+    ensures { OnOk result (out.new ≡ and_bytes out.old (spell out.old.version (Word.Say slot batch.now sig.now))) }
 {
     out.put_u8(SAY)?;
     out.put_u64(slot.0)?;
@@ -64,7 +64,8 @@ fn write_say(slot: Slot, batch: &Batch, sig: &Bytes, out: &mut Writer) -> Result
 }
 
 fn write_echo(slot: Slot, digest: &[u8; 32], sig: &Bytes, out: &mut Writer) -> Result<(), NoMemory>
-    ensures { OnOk result (out.new ≡ and_bytes out.old (2 ∷ to_be_bytes w64 slot.0 ++ digest.now ++ sig.now)) }
+    requires { is_signature sig.now ≡ true }
+    ensures { OnOk result (out.new ≡ and_bytes out.old (spell out.old.version (Word.Echo slot digest.now sig.now))) }
 {
     out.put_u8(ECHO)?;
     out.put_u64(slot.0)?;
@@ -101,11 +102,26 @@ fn read_echo(alloc: Global, f: &mut Fields) -> Result<Word, DecodeError>
     ensures bad { (at : ℕ) → result ≡ Err (DecodeError.BadField at) → IsUnreadable parse_echo f.old at }
 {
     let slot = Slot(f.read_u64()?);
-    let bytes = f.read_bytes(32)?;
-    let mut digest = [0; 32];
-    digest.copy_from_slice(bytes);
+    let digest = read_digest(f)?;
     let sig = read_signature(alloc, f)?;
     Ok(Word::Echo { slot, digest, sig })
+}
+
+fn read_digest(f: &mut Fields) -> Result<[u8; 32], DecodeError>
+    ensures ok { IfOk result (λ d. IsRead (block 32) f.old f.new d) }
+    ensures bad { (at : ℕ) → result ≡ Err (DecodeError.BadField at) → IsUnreadable (block 32) f.old at }
+{
+    let bytes = f.read_bytes(32)?;
+    Ok(array_of(bytes))
+}
+
+fn array_of(bytes: &[u8]) -> [u8; 32]
+    requires { length bytes.now ≡ 32 }
+    ensures { result ≡ bytes.now }
+{
+    let mut digest = [0; 32];
+    digest.copy_from_slice(bytes);
+    digest
 }
 
 // Reads a value that is a batch.
