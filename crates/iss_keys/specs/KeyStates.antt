@@ -1,6 +1,6 @@
 -- What contracts see of a key and of its public key.
-use Rattle.std.specs.Prelude.{◌≡◌, ℕ, ◌+◌, ◌-◌, ◌^◌, ◌≤◌, List, length}
-use Rattle.iss_keys.specs.Trees.{root_of, HasNodesFrom}
+use Rattle.std.specs.Prelude.{ℕ, ◌-◌, ◌^◌, ◌≤◌, List}
+use Rattle.iss_keys.specs.Trees.{root_of}
 
 -- a secret, the height of the tree over its leaves, and how many leaves are used: those below `used`
 pub record KeyState : Type 0 where

@@ -4,6 +4,7 @@ pub mod Trees
 pub mod Signatures
 pub mod KeyStates
 pub mod Directories
+pub mod Rings
 pub mod Sources
 pub mod Questions
 pub mod VerifiedBy

@@ -1,6 +1,6 @@
 //! The public keys of all nodes and clients.
 
-ghost use Rattle.std.specs.Prelude.{◌≡◌, ◌↔◌, ℕ, List, ◌≤◌, length, map, slice_get, IfOk, IsTrue};
+ghost use Rattle.std.specs.Prelude.{◌≡◌, ◌↔◌, ℕ, List, ◌<◌, ◌≤◌, length, map, slice_get, IfOk, IfSome, IsTrue};
 ghost use Rattle.iss_keys.specs.KeyStates.{public_of};
 ghost use Rattle.iss_keys.specs.Directories.{DirectoryView, directory_of, VerifiesBy, HasKeys, node_secret, client_secret};
 
@@ -58,19 +58,20 @@ impl Directory {
         Ok(Directory {
             nodes,
             clients,
-            answers: Answers::new(alloc),
+            answers: Answers::new(alloc, n as usize),
         })
     }
 
     /// The same directory without memory: what it makes it does not keep.
     pub(crate) fn alone(alloc: Global, n: u32, clients: u32, height: u8) -> Directory
-        requires { height ≤ 12 }
+        requires low { 2 ≤ height }
+        requires high { height ≤ 12 }
         ensures { result ≡ directory_of n clients height }
     {
         Directory {
             nodes: Keyring::alone(alloc, NODE_SECRET, n, height),
             clients: Keyring::alone(alloc, CLIENT_SECRET, clients, height),
-            answers: Answers::new(alloc),
+            answers: Answers::new(alloc, n as usize),
         }
     }
 
@@ -81,12 +82,13 @@ impl Directory {
         ensures made { (height : ℕ) → HasKeys node_secret height nodes.now → HasKeys client_secret height clients.now
             → IfOk result (λ d. d ≡ directory_of (length nodes.now) (length clients.now) height) }
     {
+        let n = nodes.len();
         let nodes = Keyring::given(alloc, nodes)?;
         let clients = Keyring::given(alloc, clients)?;
         Ok(Directory {
             nodes,
             clients,
-            answers: Answers::new(alloc),
+            answers: Answers::new(alloc, n),
         })
     }
 
@@ -102,6 +104,27 @@ impl Directory {
         ensures { result ≡ slice_get self.now.clients client }
     {
         self.clients.key(client)
+    }
+
+    /// The keys of a node, none of whose leaves is used. They share their tree with this directory, so that it
+    /// is made once, whoever needs it first.
+    pub fn keys_of_node(&self, alloc: Global, node: u8) -> Keys
+        requires { node < length self.now.nodes }
+        ensures own { IfSome (slice_get self.now.nodes node) (λ key. result ≡ record { secret = node_secret node; height = key.height; used = 0 }) }
+        ensures made { (n clients height : ℕ) → self.now ≡ directory_of n clients height
+            → result ≡ record { secret = node_secret node; height = height; used = 0 } }
+    {
+        self.nodes.keys(alloc, NODE_SECRET, node)
+    }
+
+    /// The keys of a client, likewise.
+    pub fn keys_of_client(&self, alloc: Global, client: u8) -> Keys
+        requires { client < length self.now.clients }
+        ensures own { IfSome (slice_get self.now.clients client) (λ key. result ≡ record { secret = client_secret client; height = key.height; used = 0 }) }
+        ensures made { (n clients height : ℕ) → self.now ≡ directory_of n clients height
+            → result ≡ record { secret = client_secret client; height = height; used = 0 } }
+    {
+        self.clients.keys(alloc, CLIENT_SECRET, client)
     }
 
     /// Whether `signature` is one of `statement` by a node. It is not where no node has this number.

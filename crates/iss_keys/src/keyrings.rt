@@ -1,19 +1,21 @@
 //! The public keys of all nodes, or of all clients: given ones, or those whose secrets follow from numbers.
 //! Of the latter each is made when it is first asked for.
 
-ghost use Rattle.std.specs.Prelude.{◌≡◌, ℕ, List, [], ◌∷◌, ◌≤◌, map, slice_get, IfOk, IfSome};
+ghost use Rattle.std.specs.Prelude.{◌≡◌, ℕ, List, [], ◌∷◌, ◌<◌, ◌≤◌, length, map, slice_get, IfOk, IfSome};
 ghost use Rattle.sha2.specs.Sha256.{sha256};
 ghost use Rattle.iss_keys.specs.Trees.{root_of};
 ghost use Rattle.iss_keys.specs.KeyStates.{PublicKeyView, public_of};
 ghost use Rattle.iss_keys.specs.Directories.{public_keys_of};
+ghost use Rattle.iss_keys.specs.Rings.{keys_of_ring, ring_tree};
 
+use crate::late::{LateTree, Tree};
 use crate::signing::{Keys, NoMemory};
 use crate::tree::root_of_secret;
 use crate::verification::PublicKey;
 use sha2::{Digest, Sha256};
-use std::alloc::{AllocError, Global};
-use std::cell::OnceCell;
+use std::alloc::Global;
 use std::marker::Model;
+use std::rc::Rc;
 
 // The secret of a number, `kind` saying whether it is a node's or a client's.
 fn secret_of(kind: u8, number: u8) -> [u8; 32]
@@ -22,111 +24,115 @@ fn secret_of(kind: u8, number: u8) -> [u8; 32]
     Sha256::digest([kind, number])
 }
 
-// A root that was made, and of which tree it is the root.
-#[derive(Clone, Copy)]
-struct MadeRoot {
-    kind: u8,
-    number: u8,
-    height: u8,
-    root: [u8; 32],
-    ghost is_own: { root ≡ root_of (sha256 (kind ∷ number ∷ [])) height },
-}
-
-// The root of a number's tree. It takes 1,072 small hashes a leaf, and no memory.
-fn make_root(kind: u8, number: u8, height: u8) -> MadeRoot
-    requires { height ≤ 12 }
-    ensures kind { result.kind ≡ kind }
-    ensures number { result.number ≡ number }
-    ensures height { result.height ≡ height }
-{
-    let secret = secret_of(kind, number);
-    let root = root_of_secret(&secret, height);
-    MadeRoot {
-        kind,
-        number,
-        height,
-        root,
-    }
-}
-
-// The root that a cell holds, if it is the one that is asked for.
-fn root_in(cell: &OnceCell<MadeRoot>, kind: u8, number: u8, height: u8) -> Option<[u8; 32]>
-    ensures { IfSome result (λ root. root ≡ root_of (sha256 (kind ∷ number ∷ [])) height) }
-{
-    let made = *cell.get()?;
-    if made.kind == kind && made.number == number && made.height == height {
-        Some(made.root)
-    } else {
-        None
-    }
-}
-
-// The root of a number's tree: from its cell, or made, and then put there.
-fn root_by(cell: &OnceCell<MadeRoot>, kind: u8, number: u8, height: u8) -> [u8; 32]
-    requires { height ≤ 12 }
-    ensures { result ≡ root_of (sha256 (kind ∷ number ∷ [])) height }
-{
-    if let Some(root) = root_in(cell, kind, number, height) {
-        return root;
-    }
-    let made = make_root(kind, number, height);
-    let _ = cell.set(made);
-    made.root
-}
-
-// The root of a number's tree, by the cells that there are.
-fn root_of_number(cells: &[OnceCell<MadeRoot>], kind: u8, number: u8, height: u8) -> [u8; 32]
-    requires { height ≤ 12 }
-    ensures { result ≡ root_of (sha256 (kind ∷ number ∷ [])) height }
-{
-    match cells.get(number as usize) {
-        Some(cell) => root_by(cell, kind, number, height),
-        None => make_root(kind, number, height).root,
-    }
-}
-
-// The public keys of the secrets of the numbers below `count`, with trees of one height.
+// The keys whose secrets follow from the numbers below `count`, with trees of one height. There may be fewer
+// places for trees than numbers: what has no place is made each time.
 #[derive(Drop)]
 struct OwnKeys {
     kind: u8,
     count: u32,
     height: u8,
-    made: Vec<OnceCell<MadeRoot>>,
+    trees: Vec<Rc<LateTree>>,
 }
 
 impl Model for OwnKeys {
-    ghost Value = { List PublicKeyView };
+    ghost use Rattle.std.specs.Prelude.{◌≡◌, length, map};
+    ghost use Rattle.iss_keys.specs.Rings.{OwnRing};
 
-    ghost view = { λ k. public_keys_of (λ i. sha256 (k.kind ∷ i ∷ [])) k.height k.count };
+    ghost Value = { OwnRing };
 
-    ghost invariant = { λ k. k.height ≤ 12 };
+    ghost use Rattle.iss_keys.specs.Rings.{IsRing};
+
+    ghost view = { λ k. record { kind = k.kind; count = k.count; height = k.height } };
+
+    ghost invariant = { λ k. IsRing k.kind k.height (map (λ tree. tree.value) k.trees.items) };
 }
 
 impl OwnKeys {
-    fn new(alloc: Global, kind: u8, count: u32, height: u8) -> Result<OwnKeys, NoMemory>
-        requires { height ≤ 12 }
-        ensures { IfOk result (λ keys. keys ≡ public_keys_of (λ i. sha256 (kind ∷ i ∷ [])) height count) }
+    // With no places.
+    fn alone(alloc: Global, kind: u8, count: u32, height: u8) -> OwnKeys
+        requires low { 2 ≤ height }
+        requires high { height ≤ 12 }
+        ensures { result ≡ record { kind = kind; count = count; height = height } }
     {
-        let mut made = Vec::with_capacity(alloc, count as usize)?;
-        for _i in 0..count {
-            made.push(OnceCell::new())?;
+        OwnKeys {
+            kind,
+            count,
+            height,
+            trees: Vec::new(alloc),
+        }
+    }
+
+    fn new(alloc: Global, kind: u8, count: u32, height: u8) -> Result<OwnKeys, NoMemory>
+        requires count { count ≤ 256 }
+        requires low { 2 ≤ height }
+        requires high { height ≤ 12 }
+        ensures { IfOk result (λ keys. keys ≡ record { kind = kind; count = count; height = height }) }
+    {
+        let mut trees = Vec::with_capacity(alloc, count as usize)?;
+        'numbers: for number in 0..count {
+            let secret = secret_of(kind, number as u8);
+            let tree = Rc::new(alloc, LateTree::new(alloc, secret, height))?;
+            trees.push(tree)?;
         }
         Ok(OwnKeys {
             kind,
             count,
             height,
-            made,
+            trees,
         })
     }
 
+    // The tree at the place of a number, if there is a place.
+    fn place(&self, number: u8) -> Option<&Rc<LateTree>>
+        ensures { IfSome result (λ tree. tree.now.value ≡ ring_tree self.now.kind self.now.height number) }
+    {
+        match self.trees.get(number as usize) {
+            Some(tree) => Some(tree),
+            None => None,
+        }
+    }
+
+    // The root of a number's tree.
+    fn root(&self, number: u8) -> [u8; 32]
+        ensures { result ≡ root_of (sha256 (self.now.kind ∷ number ∷ [])) self.now.height }
+    {
+        match self.place(number) {
+            Some(tree) => tree.root(),
+            None => root_of_secret(&secret_of(self.kind, number), self.height),
+        }
+    }
+
+    // The public key of a number, if there is one.
     fn key(&self, number: u8) -> Option<PublicKey>
-        ensures { result ≡ slice_get self.now number }
+        ensures { result ≡ slice_get (keys_of_ring self.now) number }
     {
         if u32::from(number) >= self.count {
             return None;
         }
-        let root = root_of_number(&self.made, self.kind, number, self.height);
-        Some(PublicKey::from_parts(root, self.height))
+        Some(PublicKey::from_parts(self.root(number), self.height))
+    }
+
+    // The tree of a number: the one that is here, so that it is made once.
+    fn tree(&self, alloc: Global, number: u8) -> Tree
+        ensures { result ≡ ring_tree self.now.kind self.now.height number }
+    {
+        if let Some(tree) = self.place(number) {
+            if let Ok(tree) = tree.clone() {
+                return Tree::shared(tree);
+            }
+        }
+        let secret = secret_of(self.kind, number);
+        Tree::own(LateTree::new(alloc, secret, self.height))
+    }
+
+    // The same of any kind: the tree is shared where the kind is the one here.
+    fn tree_of_kind(&self, alloc: Global, kind: u8, number: u8) -> Tree
+        ensures { result ≡ ring_tree kind self.now.height number }
+    {
+        if kind == self.kind {
+            return self.tree(alloc, number);
+        }
+        Tree::own(LateTree::new(alloc, secret_of(kind, number), self.height))
     }
 }
 
@@ -156,7 +162,9 @@ impl Model for Keyring {
 impl Keyring {
     /// The public keys of the secrets of the numbers below `count`, with trees of one height.
     pub fn own(alloc: Global, kind: u8, count: u32, height: u8) -> Result<Keyring, NoMemory>
-        requires { height ≤ 12 }
+        requires count { count ≤ 256 }
+        requires low { 2 ≤ height }
+        requires high { height ≤ 12 }
         ensures { IfOk result (λ ring. ring ≡ public_keys_of (λ i. sha256 (kind ∷ i ∷ [])) height count) }
     {
         let keys = OwnKeys::new(alloc, kind, count, height)?;
@@ -167,16 +175,12 @@ impl Keyring {
 
     /// The same without memory: what is made is not kept.
     pub fn alone(alloc: Global, kind: u8, count: u32, height: u8) -> Keyring
-        requires { height ≤ 12 }
+        requires low { 2 ≤ height }
+        requires high { height ≤ 12 }
         ensures { result ≡ public_keys_of (λ i. sha256 (kind ∷ i ∷ [])) height count }
     {
         Keyring {
-            source: Source::Own(OwnKeys {
-                kind,
-                count,
-                height,
-                made: Vec::new(alloc),
-            }),
+            source: Source::Own(OwnKeys::alone(alloc, kind, count, height)),
         }
     }
 
@@ -200,6 +204,20 @@ impl Keyring {
         match &self.source {
             Source::Given(keys) => keys.get(number as usize).copied(),
             Source::Own(keys) => keys.key(number),
+        }
+    }
+    /// The key of the secret of a number of this kind, as high as the public key of this number, with no leaf
+    /// used. Where this public key is its own, its tree is shared.
+    pub fn keys(&self, alloc: Global, kind: u8, number: u8) -> Keys
+        requires { number < length self.now }
+        ensures { IfSome (slice_get self.now number) (λ key. result ≡ record { secret = sha256 (kind ∷ number ∷ []); height = key.height; used = 0 }) }
+    {
+        match &self.source {
+            Source::Given(keys) => {
+                let height = keys[number as usize].levels();
+                Keys::of(Tree::own(LateTree::new(alloc, secret_of(kind, number), height)))
+            }
+            Source::Own(keys) => Keys::of(keys.tree_of_kind(alloc, kind, number)),
         }
     }
 }

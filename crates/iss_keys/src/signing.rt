@@ -124,6 +124,14 @@ impl Keys {
         })
     }
 
+    /// The key of a tree with no leaf used.
+    pub(crate) fn of(tree: Tree) -> Keys
+        ensures { result ≡ record { secret = tree.secret; height = tree.height; used = 0 } }
+    {
+        let _height = tree.late().height();
+        Keys { tree, used: 0 }
+    }
+
     /// How many leaves are left, so how many times `sign` can answer a signature.
     pub fn left(&self) -> u32
         ensures value { result ≡ left_of self.now }

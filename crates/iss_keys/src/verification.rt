@@ -21,7 +21,7 @@ impl Model for PublicKey {
 
     ghost view = { λ k. record { root = k.root; height = k.height } };
 
-    ghost invariant = { λ k. k.height ≤ 12 };
+    ghost invariant = { λ k. (2 ≤ k.height) × (k.height ≤ 12) };
 
     ghost inverse = { λ k. record { root = k.root; height = k.height } };
 }
@@ -29,7 +29,8 @@ impl Model for PublicKey {
 impl PublicKey {
     // The key with this root and height.
     pub(crate) fn from_parts(root: [u8; 32], height: u8) -> PublicKey
-        requires { height ≤ 12 }
+        requires low { 2 ≤ height }
+        requires high { height ≤ 12 }
         ensures { result ≡ record { root = root; height = height } }
     {
         PublicKey { root, height }
@@ -40,6 +41,15 @@ impl PublicKey {
         ensures { result ≡ self.now.root }
     {
         self.root
+    }
+
+    // The height, and its range.
+    pub(crate) fn levels(&self) -> u8
+        ensures value { result ≡ self.now.height }
+        ensures low { 2 ≤ result }
+        ensures high { result ≤ 12 }
+    {
+        self.height
     }
 
     /// The height of the tree, which has `2^height` leaves.

@@ -1,9 +1,11 @@
 -- A packet has one spelling.
-use Rattle.std.proofs.Common.{◌≡◌, ℕ, ◌^◌, ◌≤◌, Bool, true, false, ltb, leb, eqb, List, ◌∷◌, ◌++◌, length, refl, sym, ap, subst, ◌∙◌, append_assoc, arith, inl, inr, ◌⊎◌, eqb-true}
+use Rattle.std.proofs.Common.{◌≡◌, ℕ, ◌^◌, ◌≤◌, Bool, true, false, cond, ltb, leb, eqb, List, ◌∷◌, ◌++◌, length, refl, sym, ap, subst, ◌∙◌, append_assoc, arith, inl, inr, ◌⊎◌, eqb-true, eq-eqb}
 use Rattle.std.specs.Int.{w32, w64, to_be_bytes}
 use Rattle.std.proofs.lemmas.Bool.{ltb-true, leb-true, lt-ltb, le-leb}
 use Rattle.iss_request.specs.Fields.{Good, Bad, IsBad, IsGrammar}
+use Rattle.iss_request.specs.Formats.{is_second, version_byte}
 use Rattle.iss_request.specs.Parsing.{done, byte, number}
+use Rattle.iss_request.proofs.OneSpelling.{done_good, Whole}
 use Rattle.iss_request.proofs.ParserLemmas.{then_good, first_bad, then_parts, done_parts, test_passed, test_failed, test_bad, test_parts, byte_again, byte_parts, both_true, wide32, wide64, number_again, number_parts, block_again, block_parts}
 use Rattle.iss_packet.specs.declared.packets.Packet.{Packet}
 use Rattle.iss_packet.specs.declared.packets.PacketKind.{PacketKind}
@@ -38,10 +40,6 @@ kind_back n e =
       | inr (inr (inr (inr a))) ↦ subst P (sym a) refl
     ]
 
-done_good : {A : Type 0} (x : A) (bytes : List ℕ) → done x bytes ≡ Good x bytes
-unfolding done
-done_good x bytes = refl
-
 kind_read : (k : PacketKind) (rest : List ℕ) → parse_kind (kind_byte k ∷ rest) ≡ Good k rest
 unfolding parse_kind
 kind_read k rest =
@@ -59,25 +57,29 @@ kind_parts bytes rest k e =
 
 -- ---- the other fields
 
-abbrev first : ℕ → Bool
-first v = eqb v 1
+abbrev first : ℕ → ℕ → Bool
+first version v = eqb v (version_byte version)
 
 abbrev fits : ℕ → Bool
 fits n = leb n 200000000
 
-version_read : (rest : List ℕ) → parse_version (1 ∷ rest) ≡ Good 1 rest
+version_read : (version : ℕ) (rest : List ℕ) → parse_version version (version_byte version ∷ rest) ≡ Good (version_byte version) rest
 unfolding parse_version
-version_read rest = test_passed first byte _ rest 1 (byte_again 1 rest) refl
+version_read version rest = test_passed (first version) byte _ rest (version_byte version) (byte_again (version_byte version) rest) (eq-eqb _ _ refl)
 
-version_parts : (bytes rest : List ℕ) (v : ℕ) → parse_version bytes ≡ Good v rest → bytes ≡ 1 ∷ rest
+version_parts : (version : ℕ) (bytes rest : List ℕ) (v : ℕ) → parse_version version bytes ≡ Good v rest → bytes ≡ version_byte version ∷ rest
 unfolding parse_version
-version_parts bytes rest v e =
-    let found = test_parts first byte bytes rest v e in
-    rw (← eqb-true v 1 found.1) (byte_parts bytes rest v found.0)
+version_parts version bytes rest v e =
+    let found = test_parts (first version) byte bytes rest v e in
+    byte_parts bytes rest v found.0 ∙ ap (λ (n : ℕ). n ∷ rest) (eqb-true v (version_byte version) found.1)
 
-no_version : (rest : List ℕ) → parse_version (0 ∷ rest) ≡ Bad 0
+zero_of : (second : Bool) → eqb 0 (cond second 2 1) ≡ false
+zero_of true = refl
+zero_of false = refl
+
+no_version : (version : ℕ) (rest : List ℕ) → parse_version version (0 ∷ rest) ≡ Bad 0
 unfolding parse_version
-no_version rest = test_failed first byte _ rest 0 (byte_again 0 rest) refl
+no_version version rest = test_failed (first version) byte _ rest 0 (byte_again 0 rest) (zero_of (is_second version))
 
 size_read : (n : ℕ) (rest : List ℕ) → n ≤ 200000000 → parse_size (to_be_bytes w32 n ++ rest) ≡ Good n rest
 unfolding parse_size
@@ -95,19 +97,19 @@ size_parts bytes rest n e =
 
 -- ---- packets
 
-regrouped : (p : Packet) (rest : List ℕ) → (route_bytes p ++ body_bytes p.body) ++ rest ≡ 1 ∷ (kind_byte p.kind ∷ (p.from ∷ (to_be_bytes w64 p.epoch.0 ++ (p.leader ∷ (to_be_bytes w32 (length p.body) ++ (p.body ++ rest))))))
-regrouped p rest = simp append_assoc
+regrouped : (version : ℕ) (p : Packet) (rest : List ℕ) → (route_bytes version p ++ body_bytes p.body) ++ rest ≡ version_byte version ∷ (kind_byte p.kind ∷ (p.from ∷ (to_be_bytes w64 p.epoch.0 ++ (p.leader ∷ (to_be_bytes w32 (length p.body) ++ (p.body ++ rest))))))
+regrouped version p rest = simp append_assoc
 
-parts_again : (p : Packet) (rest : List ℕ) → is_spellable p ≡ true → parse_parts ((route_bytes p ++ body_bytes p.body) ++ rest) ≡ Good p rest
+parts_again : (version : ℕ) (p : Packet) (rest : List ℕ) → is_spellable p ≡ true → parse_parts version ((route_bytes version p ++ body_bytes p.body) ++ rest) ≡ Good p rest
 unfolding parse_parts
-parts_again p rest e =
+parts_again version p rest e =
     let both = both_true (ltb p.epoch.0 (2 ^ 64)) (fits (length p.body)) e in
     let tail = p.body ++ rest in
     let sized = to_be_bytes w32 (length p.body) ++ tail in
     let epoch = to_be_bytes w64 p.epoch.0 in
     let body_read = block_again p.body rest (length p.body) refl in
-    ap parse_parts (regrouped p rest) ∙
-    then_good _ _ _ (kind_byte p.kind ∷ (p.from ∷ (epoch ++ (p.leader ∷ sized)))) rest 1 p (version_read _)
+    ap (parse_parts version) (regrouped version p rest) ∙
+    then_good _ _ _ (kind_byte p.kind ∷ (p.from ∷ (epoch ++ (p.leader ∷ sized)))) rest (version_byte version) p (version_read version _)
     (then_good _ _ _ (p.from ∷ (epoch ++ (p.leader ∷ sized))) rest p.kind p (kind_read p.kind _)
     (then_good _ _ _ (epoch ++ (p.leader ∷ sized)) rest p.from p (byte_again p.from _)
     (then_good _ _ _ (p.leader ∷ sized) rest p.epoch.0 p (number_again w64 (2 ^ 64) wide64 p.epoch.0 _ (ltb-true _ _ both.0))
@@ -115,13 +117,13 @@ parts_again p rest e =
     (then_good _ _ _ tail rest (length p.body) p (size_read (length p.body) tail (leb-true _ _ both.1))
     (then_good _ _ _ rest rest p.body p body_read (done_good p rest)))))))
 
-record IsPacket (bytes rest : List ℕ) (p : Packet) : Type 0 where
-  pub parts : bytes ≡ (route_bytes p ++ body_bytes p.body) ++ rest
+record IsPacket (version : ℕ) (bytes rest : List ℕ) (p : Packet) : Type 0 where
+  pub parts : bytes ≡ (route_bytes version p ++ body_bytes p.body) ++ rest
   pub spelled : is_spellable p ≡ true
 
-parts_parts : (bytes rest : List ℕ) (p : Packet) → parse_parts bytes ≡ Good p rest → IsPacket bytes rest p
+parts_parts : (version : ℕ) (bytes rest : List ℕ) (p : Packet) → parse_parts version bytes ≡ Good p rest → IsPacket version bytes rest p
 unfolding parse_parts
-parts_parts bytes rest p e =
+parts_parts version bytes rest p e =
     let a = then_parts _ _ bytes rest p e in
     let b = then_parts _ _ a.mid rest p a.second in
     let c = then_parts _ _ b.mid rest p b.second in
@@ -136,33 +138,33 @@ parts_parts bytes rest p e =
     let body = block_parts g.thing g.mid h.mid h.thing h.first in
     let tail : f.mid ≡ to_be_bytes w32 (length h.thing) ++ (h.thing ++ rest) = size.parts ∙ ap (λ (n : ℕ). to_be_bytes w32 n ++ g.mid) (sym body.len) ∙ ap (λ (x : List ℕ). to_be_bytes w32 (length h.thing) ++ x) (body.parts ∙ ap (λ (x : List ℕ). h.thing ++ x) ends.1) in
     let behind : c.mid ≡ to_be_bytes w64 d.thing ++ (f.thing ∷ (to_be_bytes w32 (length h.thing) ++ (h.thing ++ rest))) = epoch.parts ∙ ap (λ (x : List ℕ). to_be_bytes w64 d.thing ++ x) (byte_parts d.mid f.mid f.thing f.first ∙ ap (λ (x : List ℕ). f.thing ∷ x) tail) in
-    let whole : bytes ≡ 1 ∷ (kind_byte b.thing ∷ (c.thing ∷ (to_be_bytes w64 d.thing ++ (f.thing ∷ (to_be_bytes w32 (length h.thing) ++ (h.thing ++ rest)))))) =
-    version_parts bytes a.mid a.thing a.first ∙ ap (λ (x : List ℕ). 1 ∷ x) (kind_parts a.mid b.mid b.thing b.first ∙ ap (λ (x : List ℕ). kind_byte b.thing ∷ x) (byte_parts b.mid c.mid c.thing c.first ∙ ap (λ (x : List ℕ). c.thing ∷ x) behind)) in
+    let whole : bytes ≡ version_byte version ∷ (kind_byte b.thing ∷ (c.thing ∷ (to_be_bytes w64 d.thing ++ (f.thing ∷ (to_be_bytes w32 (length h.thing) ++ (h.thing ++ rest)))))) =
+    version_parts version bytes a.mid a.thing a.first ∙ ap (λ (x : List ℕ). version_byte version ∷ x) (kind_parts a.mid b.mid b.thing b.first ∙ ap (λ (x : List ℕ). kind_byte b.thing ∷ x) (byte_parts b.mid c.mid c.thing c.first ∙ ap (λ (x : List ℕ). c.thing ∷ x) behind)) in
     let small : length h.thing ≤ 200000000 = omega (arith, body.len, size.small) in
-    subst (λ (x : Packet). IsPacket bytes rest x) ends.0 record {
-      parts = whole ∙ sym (regrouped made rest);
+    subst (λ (x : Packet). IsPacket version bytes rest x) ends.0 record {
+      parts = whole ∙ sym (regrouped version made rest);
       spelled = rw (lt-ltb d.thing (2 ^ 64) epoch.below, le-leb (length h.thing) 200000000 small) refl;
     }
 
-routed_whole : (n : ℕ) (p : Packet) (b : Bool) → is_routed n p ≡ b → is_spellable p ≡ true → ((rest : List ℕ) → parse_packet n (spell_packet p ++ rest) ≡ Good p rest) ⊎ ((rest : List ℕ) → IsBad (parse_packet n (spell_packet p ++ rest)))
+routed_whole : (version n : ℕ) (p : Packet) (b : Bool) → is_routed n p ≡ b → is_spellable p ≡ true → Whole (spell_packet version p) (parse_packet version n) p
 unfolding parse_packet
-routed_whole n p true r e = inl (λ rest. rw (packet_spelled p (sym e)) (test_passed (is_routed n) parse_parts _ rest p (parts_again p rest e) r))
-routed_whole n p false r e = inr (λ rest. rw (packet_spelled p (sym e)) (0, test_failed (is_routed n) parse_parts _ rest p (parts_again p rest e) r))
+routed_whole version n p true r e = inl (λ rest. rw (packet_spelled version p (sym e)) (test_passed (is_routed n) (parse_parts version) _ rest p (parts_again version p rest e) r))
+routed_whole version n p false r e = inr (λ rest. rw (packet_spelled version p (sym e)) (0, test_failed (is_routed n) (parse_parts version) _ rest p (parts_again version p rest e) r))
 
-no_packet_bad : (n : ℕ) (rest : List ℕ) → IsBad (parse_packet n (no_packet ++ rest))
+no_packet_bad : (version n : ℕ) (rest : List ℕ) → IsBad (parse_packet version n (no_packet ++ rest))
 unfolding parse_packet parse_parts
-no_packet_bad n rest = (0, test_bad (is_routed n) parse_parts _ 0 (first_bad _ _ _ 0 (no_version rest)))
+no_packet_bad version n rest = (0, test_bad (is_routed n) (parse_parts version) _ 0 (first_bad _ _ _ 0 (no_version version rest)))
 
-packet_whole : (n : ℕ) (p : Packet) (b : Bool) → is_spellable p ≡ b → ((rest : List ℕ) → parse_packet n (spell_packet p ++ rest) ≡ Good p rest) ⊎ ((rest : List ℕ) → IsBad (parse_packet n (spell_packet p ++ rest)))
-packet_whole n p true e = routed_whole n p (is_routed n p) refl e
-packet_whole n p false e = inr (λ rest. rw (packet_unspelled p (sym e)) (no_packet_bad n rest))
+packet_whole : (version n : ℕ) (p : Packet) (b : Bool) → is_spellable p ≡ b → Whole (spell_packet version p) (parse_packet version n) p
+packet_whole version n p true e = routed_whole version n p (is_routed n p) refl e
+packet_whole version n p false e = inr (λ rest. rw (packet_unspelled version p (sym e)) (no_packet_bad version n rest))
 
-packet_only : (n : ℕ) (bytes rest : List ℕ) (p : Packet) → parse_packet n bytes ≡ Good p rest → bytes ≡ spell_packet p ++ rest
+packet_only : (version n : ℕ) (bytes rest : List ℕ) (p : Packet) → parse_packet version n bytes ≡ Good p rest → bytes ≡ spell_packet version p ++ rest
 unfolding parse_packet
-packet_only n bytes rest p e =
-    let found = test_parts (is_routed n) parse_parts bytes rest p e in
-    let is = parts_parts bytes rest p found.0 in
-    rw (packet_spelled p (sym is.spelled)) is.parts
+packet_only version n bytes rest p e =
+    let found = test_parts (is_routed n) (parse_parts version) bytes rest p e in
+    let is = parts_parts version bytes rest p found.0 in
+    rw (packet_spelled version p (sym is.spelled)) is.parts
 
-pub packet_grammar : (n : ℕ) → IsGrammar spell_packet (parse_packet n)
-packet_grammar n = record { only = packet_only n; whole = λ p. packet_whole n p (is_spellable p) refl }
+pub packet_grammar : (version n : ℕ) → IsGrammar (spell_packet version) (parse_packet version n)
+packet_grammar version n = record { only = packet_only version n; whole = λ p. packet_whole version n p (is_spellable p) refl }

@@ -1,13 +1,12 @@
 -- Packets are read as they are spelled.
-use Rattle.std.proofs.Common.{◌≡◌, ◌≢◌, ℕ, ◌^◌, ◌<◌, ◌≤◌, Bool, true, false, ltb, leb, ◌&&◌, List, [], ◌∷◌, ◌++◌, length, refl, sym, ap, subst, ◌∙◌, append_assoc, arith, inl, inr}
-use Rattle.std.specs.Prelude.{Result, Ok, Err, OnOk}
+use Rattle.std.proofs.Common.{◌≡◌, ◌≢◌, ℕ, ◌^◌, ◌<◌, ◌≤◌, Bool, true, false, ltb, leb, ◌&&◌, List, [], ◌∷◌, ◌++◌, length, refl, sym, ap, subst, append_assoc, arith, inl, inr}
+use Rattle.std.specs.Prelude.{Result, Ok, Err}
 use Rattle.std.specs.Result.{IsErrAnd}
 use Rattle.std.proofs.lemmas.Bool.{cases_lt, leb-true, lt-ltb, lt-leb}
 use Rattle.iss_request.proofs.ParserLemmas.{both_true}
 use Rattle.iss_request.specs.declared.errors.DecodeError.{DecodeError}
 use Rattle.iss_request.specs.declared.errors.DecodeError.TheVariants as fields
-use Rattle.iss_request.specs.declared.errors.NoMemory.{NoMemory as MemoryError}
-use Rattle.iss_request.specs.Fields.{Reading, IsRead}
+use Rattle.iss_request.specs.Fields.{Reading, Written, and_bytes, IsRead}
 use Rattle.iss_request.specs.Parsing.{◌>>=◌, done, such_that, byte}
 use Rattle.iss_request.proofs.Readings.{read_then, read_done, read_passed}
 use Rattle.iss_packet.specs.declared.packets.Packet.{Packet}
@@ -46,19 +45,17 @@ spelling_test p b lt e = rw (lt-ltb p.epoch.0 (2 ^ 64) lt) e
 pub spellable_length : (p : Packet) → true ≡ is_spellable p → length p.body ≤ 200000000
 spellable_length p e = leb-true _ _ (both_true (ltb p.epoch.0 (2 ^ 64)) (leb (length p.body) 200000000) (sym e)).1
 
-pub packet_spelled : (p : Packet) → true ≡ is_spellable p → spell_packet p ≡ route_bytes p ++ body_bytes p.body
+pub packet_spelled : (version : ℕ) (p : Packet) → true ≡ is_spellable p → spell_packet version p ≡ route_bytes version p ++ body_bytes p.body
 unfolding spell_packet
-packet_spelled p e = rw (sym e) refl
+packet_spelled version p e = rw (sym e) refl
 
-pub packet_unspelled : (p : Packet) → false ≡ is_spellable p → spell_packet p ≡ no_packet
+pub packet_unspelled : (version : ℕ) (p : Packet) → false ≡ is_spellable p → spell_packet version p ≡ no_packet
 unfolding spell_packet
-packet_unspelled p e = rw (sym e) refl
+packet_unspelled version p e = rw (sym e) refl
 
--- a piece that is written behind a piece
-pub both_written : (r : Result (Unit {0}) MemoryError) (old mid new xs ys : List ℕ) → mid ≡ old ++ xs → OnOk r (new ≡ mid ++ ys) → OnOk r (new ≡ old ++ (xs ++ ys))
-both_written (Ok u) old mid new xs ys e h = h ∙ ap (λ (m : List ℕ). m ++ ys) e ∙ append_assoc old xs ys
-both_written (Err d) old mid new xs ys e h = h
+five_parts : (old : List ℕ) (v k f : ℕ) (epoch : List ℕ) (l : ℕ) → ((((old ++ v ∷ []) ++ k ∷ []) ++ f ∷ []) ++ epoch) ++ l ∷ [] ≡ old ++ (v ∷ k ∷ f ∷ (epoch ++ l ∷ []))
+five_parts old v k f epoch l = simp append_assoc
 
 -- the fields of the route, written one after another
-pub five_written : (old a b c d e : List ℕ) (v k f : ℕ) (epoch : List ℕ) (l : ℕ) → a ≡ old ++ v ∷ [] → b ≡ a ++ k ∷ [] → c ≡ b ++ f ∷ [] → d ≡ c ++ epoch → e ≡ d ++ l ∷ [] → e ≡ old ++ (v ∷ k ∷ f ∷ (epoch ++ l ∷ []))
-five_written old a b c d e v k f epoch l p q r s t = rw (t, s, r, q, p) (simp append_assoc)
+pub five_written : (old a b c d e : Written) (v k f : ℕ) (epoch : List ℕ) (l : ℕ) → a ≡ and_bytes old (v ∷ []) → b ≡ and_bytes a (k ∷ []) → c ≡ and_bytes b (f ∷ []) → d ≡ and_bytes c epoch → e ≡ and_bytes d (l ∷ []) → e ≡ and_bytes old (v ∷ k ∷ f ∷ (epoch ++ l ∷ []))
+five_written old a b c d e v k f epoch l p q r s t = rw (t, s, r, q, p) (ap (λ (z : List ℕ). record old { bytes = z }) (five_parts old.bytes v k f epoch l))

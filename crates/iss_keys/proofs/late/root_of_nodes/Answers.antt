@@ -1,6 +1,5 @@
-use Rattle.std.proofs.Common.{length, [], ◌∙◌}
-use Rattle.std.proofs.lemmas.List.{get_or_default}
-use Rattle.iss_keys.proofs.TreeLemmas.{has_root, has_a_root}
+use Rattle.std.proofs.Common.{length}
+use Rattle.iss_keys.proofs.TreeLemmas.{has_a_root}
 use Rattle.iss_keys.proofs.late.root_of_nodes.Goals as goal
 
 pub bounds-nodes-1 : goal.bounds-nodes-1

@@ -1,7 +1,4 @@
-use Rattle.std.proofs.Common.{◌≡◌, ◌^◌, ◌<◌, ◌≤◌}
 use Rattle.std.proofs.lemmas.Result.{IfOk-weaker}
-use Rattle.iss_keys.specs.Trees.{root_of}
-use Rattle.iss_keys.specs.Signatures.{Verifies, signature_of}
 use Rattle.iss_keys.proofs.VerifyLemmas.{made_verifies}
 use Rattle.iss_keys.proofs.signing.signature_by.Goals as goal
 
