@@ -1,5 +1,6 @@
 pub mod Delivered
 pub mod Worlds
+pub mod Slots
 pub mod Statements
 pub mod Legal
 pub mod Claims

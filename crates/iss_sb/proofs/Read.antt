@@ -1,8 +1,9 @@
 -- What was read of bytes is read again, and a batch of few requests that have spellings is.
-use Rattle.std.proofs.Common.{◌≡◌, ◌≤◌, ℕ, List, [], ◌∷◌, ◌++◌, length, refl, sym, ap, ◌∙◌, inl, inr}
+use Rattle.std.proofs.Common.{◌≡◌, ◌≤◌, ℕ, List, [], ◌∷◌, ◌++◌, length, refl, sym, ap, subst, ◌∙◌, inl, inr}
 use Rattle.std.specs.List.{AllByRecursion, flat_map}
 use Rattle.iss_base.specs.Lists.{In}
-use Rattle.iss_request.specs.Fields.{Bad, Good, IsGrammar, IsReadAgain, Parsed}
+use Rattle.iss_request.specs.Fields.{Bad, Good, IsGrammar, IsRead, IsReadAgain, IsUnreadable, Parsed, Reading}
+use Rattle.iss_request.specs.Parsing.{Parser}
 use Rattle.iss_request.specs.Formats.{HasSpelling, parse_value, request_bytes, requests_most, spell_count, spell_value, version_byte}
 use Rattle.iss_request.specs.declared.requests.Batch.{Batch}
 use Rattle.iss_request.specs.declared.requests.Request.{Request}
@@ -26,3 +27,10 @@ pub batch-read : (version : ℕ) (b : Batch) → length b ≤ requests_most vers
 batch-read version b few h =
     let bytes = version_byte version ∷ spell_count version (length b) ++ flat_map request_bytes b in
     read-again (spell_value version) (parse_value version) (value_grammar version) bytes [] (Holds b) ((value_related version (Holds b) bytes).1 (few, each-spelled b h, refl))
+
+-- what a reader reads by its version, a reader before it in the row reads by its own, which is the same
+pub read-by : {A : Type 0} (p : ℕ → Parser A) {v w : ℕ} {a b : Reading} {x : A} → v ≡ w → IsRead (p v) a b x → IsRead (p w) a b x
+read-by p {v} {w} {a} {b} {x} e r = subst (λ (n : ℕ). IsRead (p n) a b x) e r
+
+pub unread-by : {A : Type 0} (p : ℕ → Parser A) {v w : ℕ} {a : Reading} {at : ℕ} → v ≡ w → IsUnreadable (p v) a at → IsUnreadable (p w) a at
+unread-by p {v} {w} {a} {at} e u = subst (λ (n : ℕ). IsUnreadable (p n) a at) e u

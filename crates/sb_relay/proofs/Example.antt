@@ -1,5 +1,5 @@
 -- The relay on a worked example: node 0 leads the segment of the slots 0 and 3.
-use Rattle.std.proofs.Common.{◌≡◌, ℕ, List, [], ◌∷◌, Some, None, refl}
+use Rattle.std.proofs.Common.{◌≡◌, ℕ, List, [], ◌∷◌, ◌++◌, Some, None, refl}
 use Rattle.iss_request.specs.declared.ids.NodeId.{NodeId}
 use Rattle.iss_request.specs.declared.ids.Slot.{Slot}
 use Rattle.iss_request.specs.declared.requests.Batch.{Batch}
@@ -10,8 +10,11 @@ use Rattle.iss_sb.specs.declared.effects.Params.{Params}
 use Rattle.iss_sb.specs.declared.effects.To.TheVariants.{All as To_all}
 use Rattle.iss_sb.specs.Evidence.{Item, and_then, delivered}
 use Rattle.sb_relay.specs.declared.say.Say.{Say}
-use Rattle.iss_request.specs.Formats.{spell_batch, spell_value}
-use Rattle.sb_relay.specs.Relay.{asks, relay, spell}
+use Rattle.iss_keys.specs.Directories.{DirectoryView}
+use Rattle.iss_request.specs.Fields.{Good}
+use Rattle.iss_request.specs.Formats.{count_field, parse_batch, parse_count, parse_rest, parse_value, spell_batch, spell_count, spell_value}
+use Rattle.iss_request.specs.Parsing.{◌>>=◌, block, byte, done, number, such_that, times}
+use Rattle.sb_relay.specs.Relay.{asks, parse, relay, spell}
 
 abbrev slot : ℕ → Slot
 slot n = record { 0 = n }
@@ -22,15 +25,15 @@ node n = record { 0 = n }
 abbrev say : ℕ → Batch → Say
 say n batch = record { slot = slot n; batch = batch }
 
-module _ (setup : Setup) (b c : Batch) where
+module _ (setup : Setup) (directory : DirectoryView) (b c : Batch) where
   abbrev p : Params
-  p = record { setup = setup; epoch = record { 0 = 0 }; leader = node 0; slots = slot 0 ∷ slot 3 ∷ [] }
+  p = record { setup = setup; epoch = record { 0 = 0 }; leader = node 0; slots = slot 0 ∷ slot 3 ∷ []; directory = directory }
 
   -- the leader casts b at slot 0: it accepts it and says it to all
   abbrev after_cast : List (Item Say)
   after_cast = and_then relay p 0 [] (Cast (slot 0) b) 0
 
-  casts : after_cast ≡ record { input = Cast (slot 0) b; made = record { sends = (To_all, say 0 b) ∷ []; accepted = Some (slot 0, b); strings = []; used = 0 } } ∷ []
+  casts : after_cast ≡ record { input = Cast (slot 0) b; leaf = 0; made = record { sends = (To_all, say 0 b) ∷ []; accepted = Some (slot 0, b); strings = []; used = 0 } } ∷ []
   casts = refl
 
   -- the slot is cast once, and the other one is still free
@@ -67,7 +70,22 @@ module _ (setup : Setup) (b c : Batch) where
   no_word_yet : delivered relay p 0 (and_then relay p 0 after_cast Timeout 0) 0 ≡ None
   no_word_yet = refl
 
--- the number of the message, the slot, and a batch of no requests
-spelling : spell (say 259 []) ≡ 1 ∷ 0 ∷ 0 ∷ 0 ∷ 0 ∷ 0 ∷ 0 ∷ 1 ∷ 3 ∷ 1 ∷ 0 ∷ []
-unfolding spell_batch spell_value
+-- the number of the message, the slot, and a batch of no requests, by each version
+abbrev row : List ℕ
+row = 1 ∷ 0 ∷ 0 ∷ 0 ∷ 0 ∷ 0 ∷ 0 ∷ 1 ∷ 3 ∷ 1 ∷ 0 ∷ []
+
+abbrev second_row : List ℕ
+second_row = 1 ∷ 0 ∷ 0 ∷ 0 ∷ 0 ∷ 0 ∷ 0 ∷ 1 ∷ 3 ∷ 2 ∷ 0 ∷ 0 ∷ []
+
+spelling : spell 1 (say 259 []) ≡ row
+unfolding spell_batch spell_count spell_value
 spelling = refl
+
+second_spelling : spell 2 (say 259 []) ≡ second_row
+unfolding spell_batch spell_count spell_value
+second_spelling = refl
+
+-- and it is read again, with what stands behind left
+reading : parse 1 (row ++ 7 ∷ []) ≡ Good (say 259 []) (7 ∷ [])
+unfolding parse parse_value parse_rest parse_batch parse_count count_field times such_that byte number block done ◌>>=◌
+reading = refl

@@ -1,8 +1,9 @@
 -- What the relay's tests and marks say of the lists that it stands for.
 use Rattle.std.proofs.Common.{◌≡◌, ℕ, Bool, true, false, not, ◌+◌, ◌&&◌, ◌||◌, ◌==◌, if◌then◌else◌, List, [], ◌∷◌, ◌++◌, Option, Some, None, is_some, refl, sym, ap, ◌∙◌, subst, inl, inr, arith, true≢false}
-use Rattle.std.proofs.lemmas.Bool.Decides.{Decides-eqb}
+use Rattle.std.proofs.lemmas.Bool.{eq-eqb}
 use Rattle.std.proofs.lemmas.List.Folds.{list_any-append}
 use Rattle.iss_base.specs.Lists.{In, first_of}
+use Rattle.iss_base.proofs.Lists.{and-true, is-eq, not-true}
 use Rattle.iss_request.specs.declared.ids.NodeId.{NodeId}
 use Rattle.iss_request.specs.declared.ids.Slot.{Slot}
 use Rattle.iss_request.specs.declared.requests.Batch.{Batch}
@@ -13,42 +14,14 @@ use Rattle.iss_sb.specs.declared.effects.Input.{Input}
 use Rattle.iss_sb.specs.declared.effects.Input.TheVariants.{Cast, Receive, Timeout}
 use Rattle.iss_sb.specs.declared.effects.Params.{Params}
 use Rattle.iss_sb.specs.declared.effects.To.TheVariants.{All as To_all}
-use Rattle.iss_sb.specs.Calls.{IsNothing, IsTaken}
+use Rattle.iss_sb.specs.Calls.{IsNothing, IsTaken, has_slot}
 use Rattle.iss_sb.specs.Evidence.{Item, and_then, delivered}
 use Rattle.iss_sb.proofs.Delivered.{Delivers-from, Delivers-nothing, delivered-decided}
+use Rattle.iss_sb.proofs.Slots.{has_slot-In, slot-is}
 use Rattle.sb_relay.specs.declared.relay.Relay.{Relay}
 use Rattle.sb_relay.specs.declared.say.Say.{Say}
-use Rattle.sb_relay.specs.Relay.{asks, decided, has_slot, is_for, made_of, relay, said, says}
+use Rattle.sb_relay.specs.Relay.{asks, decided, is_for, made_of, relay, said, says}
 use Rattle.sb_relay.specs.Stands.{Stands, may_cast, may_deliver}
-
-pub both : (a b : Bool) → (a && b) ≡ true → (a ≡ true) × (b ≡ true)
-both true b h = (refl, h)
-both false b h = absurd (true≢false (sym h))
-
-pub opposite : (b : Bool) → not b ≡ true → b ≡ false
-opposite true h = absurd (true≢false (sym h))
-opposite false h = refl
-
-pub is-same : (a b : ℕ) → (a == b) ≡ true → a ≡ b
-is-same a b h = (Decides-eqb a b).0 h
-
-pub same-is : (a b : ℕ) → a ≡ b → (a == b) ≡ true
-same-is a b h = (Decides-eqb a b).1 h
-
-pub slot_eta : (a b : Slot) → a.0 ≡ b.0 → a ≡ b
-slot_eta a b h = ap (λ (n : ℕ). let s : Slot = record { 0 = n } in s) h
-
-pub node_eta : (a b : NodeId) → a.0 ≡ b.0 → a ≡ b
-node_eta a b h = ap (λ (n : ℕ). let s : NodeId = record { 0 = n } in s) h
-
--- a slot whose number is found stands in the list
-pub has_slot-In : (s : Slot) (slots : List Slot) → has_slot s.0 slots ≡ true → In s slots
-has_slot-In s [] h = absurd (true≢false (sym h))
-has_slot-In s (t ∷ slots) h = go (t.0 == s.0) refl (has_slot-In s slots) h
-  where
-    go : (b : Bool) → (t.0 == s.0) ≡ b → (has_slot s.0 slots ≡ true → In s slots) → (b || has_slot s.0 slots) ≡ true → In s (t ∷ slots)
-    go true q more k = inl (slot_eta s t (sym (is-same t.0 s.0 q)))
-    go false q more k = inr (more k)
 
 no_answer : {A : Type 0} (o : Option A) → is_some o ≡ false → o ≡ None
 no_answer None h = refl
@@ -116,13 +89,13 @@ word-is p s from msg x h = go (has_slot s p.slots) ((from.0 == p.leader.0) && (m
   where
     go : (a b : Bool) → has_slot s p.slots ≡ a → ((from.0 == p.leader.0) && (msg.slot.0 == s)) ≡ b → (if a then (if b then Some (Holds msg.batch) else None) else None) ≡ Some x → IsWord p s from msg x
     go true true q r k =
-        let t = both (from.0 == p.leader.0) (msg.slot.0 == s) r in
-        record { within = q; leads = is-same from.0 p.leader.0 t.0; slot = is-same msg.slot.0 s t.1; value = cc }
+        let t = and-true (from.0 == p.leader.0) (msg.slot.0 == s) r in
+        record { within = q; leads = is-eq from.0 p.leader.0 t.0; slot = is-eq msg.slot.0 s t.1; value = cc }
     go true false q r k = absurd (cc)
     go false b q r k = absurd (cc)
 
 pub is-word : (p : Params) (s : ℕ) (from : NodeId) (msg : Say) → has_slot s p.slots ≡ true → from.0 ≡ p.leader.0 → msg.slot.0 ≡ s → word p s (Receive from msg) ≡ Some (Holds msg.batch)
-is-word p s from msg within leads slot = rw (within, same-is from.0 p.leader.0 leads, same-is msg.slot.0 s slot) refl
+is-word p s from msg within leads slot = rw (within, eq-eqb from.0 p.leader.0 leads, eq-eqb msg.slot.0 s slot) refl
 
 no-word-cast : (p : Params) (s : ℕ) (slot : Slot) (batch : Batch) → word p s (Cast slot batch) ≡ None
 no-word-cast p s slot batch = decided-start p 0 s
@@ -138,17 +111,17 @@ pub record MayDeliver (m : Relay) (p : Params) (from : NodeId) (slot : Slot) : T
 
 deliver-test : (m : Relay) (p : Params) (from : NodeId) (slot : Slot) → may_deliver m p from slot ≡ true → MayDeliver m p from slot
 deliver-test m p from slot h =
-    let a = both (from.0 == p.leader.0) (has_slot slot.0 p.slots && not (has_slot slot.0 m.delivered)) h in
-    let b = both (has_slot slot.0 p.slots) (not (has_slot slot.0 m.delivered)) a.1 in
-    record { leads = is-same from.0 p.leader.0 a.0; within = b.0; fresh = opposite (has_slot slot.0 m.delivered) b.1 }
+    let a = and-true (from.0 == p.leader.0) (has_slot slot.0 p.slots && not (has_slot slot.0 m.delivered)) h in
+    let b = and-true (has_slot slot.0 p.slots) (not (has_slot slot.0 m.delivered)) a.1 in
+    record { leads = is-eq from.0 p.leader.0 a.0; within = b.0; fresh = not-true (has_slot slot.0 m.delivered) b.1 }
 
 test-deliver : (m : Relay) (p : Params) (from : NodeId) (slot : Slot) → MayDeliver m p from slot → may_deliver m p from slot ≡ true
-test-deliver m p from slot h = rw (same-is from.0 p.leader.0 h.leads, h.within, h.fresh) refl
+test-deliver m p from slot h = rw (eq-eqb from.0 p.leader.0 h.leads, h.within, h.fresh) refl
 
 pub cast-within : (m : Relay) (p : Params) (slot : Slot) → may_cast m p slot ≡ true → In slot p.slots
 cast-within m p slot h =
-    let a = both (m.me.0 == p.leader.0) (has_slot slot.0 p.slots && not (has_slot slot.0 m.cast)) h in
-    has_slot-In slot p.slots (both (has_slot slot.0 p.slots) (not (has_slot slot.0 m.cast)) a.1).0
+    let a = and-true (m.me.0 == p.leader.0) (has_slot slot.0 p.slots && not (has_slot slot.0 m.cast)) h in
+    has_slot-In slot p.slots (and-true (has_slot slot.0 p.slots) (not (has_slot slot.0 m.cast)) a.1).0
 
 pub deliver-within : (m : Relay) (p : Params) (from : NodeId) (slot : Slot) → may_deliver m p from slot ≡ true → In slot p.slots
 deliver-within m p from slot h = has_slot-In slot p.slots (deliver-test m p from slot h).within
@@ -173,7 +146,7 @@ module _ (m : Relay) (p : Params) (me : ℕ) (xs : List (Item Say)) (st : Stands
   stands-more i leaf n same casts delivers = record {
     node = ap (λ (a : NodeId). a.0) same ∙ st.node;
     cast = λ s. casts s ∙ ap (λ b. is_for s (made_of (asks p me xs i)).accepted || b) (st.cast s);
-    delivered = λ s. delivers s ∙ ap (λ b. b || is_some (word p s i)) (st.delivered s) ∙ sym (is_some-first (decided p me xs s) (word p s i)) ∙ ap (λ (o : Option Value). is_some o) (sym (decided-more p me (record { input = i; made = made_of (asks p me xs i) }) xs s));
+    delivered = λ s. delivers s ∙ ap (λ b. b || is_some (word p s i)) (st.delivered s) ∙ sym (is_some-first (decided p me xs s) (word p s i)) ∙ ap (λ (o : Option Value). is_some o) (sym (decided-more p me (record { input = i; leaf = leaf; made = made_of (asks p me xs i) }) xs s));
   }
 
   -- an input that accepts nothing and holds no word that is new
@@ -183,7 +156,7 @@ module _ (m : Relay) (p : Params) (me : ℕ) (xs : List (Item Say)) (st : Stands
   decided-new : (i : Input Say) (leaf s : ℕ) (x : Value) → decided p me (and_then relay p me xs i leaf) s ≡ Some x → delivered relay p me xs s ≡ None → word p s i ≡ Some x
   decided-new i leaf s x d none =
       let open' : decided p me xs s ≡ None = sym (delivered-is p me xs s) ∙ none in
-      let all : first_of (decided p me xs s) (word p s i) ≡ Some x = sym (decided-more p me (record { input = i; made = made_of (asks p me xs i) }) xs s) ∙ d in
+      let all : first_of (decided p me xs s) (word p s i) ≡ Some x = sym (decided-more p me (record { input = i; leaf = leaf; made = made_of (asks p me xs i) }) xs s) ∙ d in
       rw open' at all
 
   idle-taken : (i : Input Say) (leaf : ℕ) (e : Effects Say) → asks p me xs i ≡ None → ((s : Slot) (x : Value) → word p s.0 i ≡ Some x → delivered relay p me xs s.0 ≡ None → ⊥) → IsNothing e → IsTaken relay p me xs i leaf e
@@ -264,13 +237,13 @@ module _ (m : Relay) (p : Params) (me : ℕ) (xs : List (Item Say)) (st : Stands
       told : (s : ℕ) (b : Bool) → (msg.slot.0 == s) ≡ b → b ≡ is_some (word p s (Receive from msg))
       told s true q =
           let t = deliver-test m p from msg.slot h in
-          let same : msg.slot.0 ≡ s = is-same msg.slot.0 s q in
+          let same : msg.slot.0 ≡ s = is-eq msg.slot.0 s q in
           rw (is-word p s from msg (ap (λ n. has_slot n p.slots) (sym same) ∙ t.within) t.leads same) refl
       told s false q = sym (none (word p s (Receive from msg)) refl)
         where
           none : (o : Option Value) → word p s (Receive from msg) ≡ o → is_some o ≡ false
           none None r = refl
-          none (Some x) r = let k = word-is p s from msg x r in absurd (true≢false (sym (same-is msg.slot.0 s k.slot) ∙ q))
+          none (Some x) r = let k = word-is p s from msg x r in absurd (true≢false (sym (eq-eqb msg.slot.0 s k.slot) ∙ q))
 
   pub say-taken : (from : NodeId) (msg : Say) (leaf : ℕ) (e : Effects Say) → may_deliver m p from msg.slot ≡ true →
       e.sends ≡ [] → e.accepted ≡ None → e.delivers ≡ (msg.slot, Holds msg.batch) ∷ [] → e.hashed ≡ [] → IsTaken relay p me xs (Receive from msg) leaf e
@@ -286,7 +259,7 @@ module _ (m : Relay) (p : Params) (me : ℕ) (xs : List (Item Say)) (st : Stands
           let t = deliver-test m p from msg.slot h in
           let none = none-of msg.slot.0 t.fresh in
           let open' : decided p me xs msg.slot.0 ≡ None = sym (delivered-is p me xs msg.slot.0) ∙ none in
-          (decided-more p me (record { input = Receive from msg; made = made_of None }) xs msg.slot.0 ∙ rw open' (is-word p msg.slot.0 from msg t.within t.leads refl), none)
+          (decided-more p me (record { input = Receive from msg; leaf = leaf; made = made_of None }) xs msg.slot.0 ∙ rw open' (is-word p msg.slot.0 from msg t.within t.leads refl), none)
 
       one : (s : Slot) (x : Value) → In {A = Slot × Value} (s, x) ((msg.slot, Holds msg.batch) ∷ []) → (decided p me (and_then relay p me xs (Receive from msg) leaf) s.0 ≡ Some x) × (delivered relay p me xs s.0 ≡ None)
       one s x (inl q) = subst (λ (z : Slot × Value). (decided p me (and_then relay p me xs (Receive from msg) leaf) z.0.0 ≡ Some z.1) × (delivered relay p me xs z.0.0 ≡ None)) (sym q) now
@@ -295,4 +268,4 @@ module _ (m : Relay) (p : Params) (me : ℕ) (xs : List (Item Say)) (st : Stands
       only : (s : Slot) (x : Value) → (decided p me (and_then relay p me xs (Receive from msg) leaf) s.0 ≡ Some x) × (delivered relay p me xs s.0 ≡ None) → In {A = Slot × Value} (s, x) ((msg.slot, Holds msg.batch) ∷ [])
       only s x d =
           let k = word-is p s.0 from msg x (decided-new (Receive from msg) leaf s.0 x d.0 d.1) in
-          inl (ap (λ (t : Slot). let z : Slot × Value = (t, x) in z) (slot_eta s msg.slot (sym k.slot)) ∙ ap (λ (v : Value). let z : Slot × Value = (msg.slot, v) in z) k.value)
+          inl (ap (λ (t : Slot). let z : Slot × Value = (t, x) in z) (slot-is s msg.slot (sym k.slot)) ∙ ap (λ (v : Value). let z : Slot × Value = (msg.slot, v) in z) k.value)

@@ -1,30 +1,29 @@
 -- The relay is a broadcast: what is sent was accepted, what is taken was sent, and the leader accepts one batch a slot.
-use Rattle.std.proofs.Common.{◌≡◌, ◌<◌, ◌≤◌, ℕ, Bool, true, false, not, ◌&&◌, ◌||◌, ◌==◌, if◌then◌else◌, List, [], ◌∷◌, Option, Some, None, refl, sym, ap, ◌∙◌, subst, inl, inr, arith, true≢false}
-use Rattle.std.specs.Prelude.{nat_lt}
-use Rattle.std.proofs.lemmas.Bool.Decides.{Decides-ltb}
+use Rattle.std.proofs.Common.{◌≡◌, ◌<◌, ◌≤◌, ◌^◌, ℕ, Bool, true, false, not, ◌&&◌, ◌||◌, ◌==◌, if◌then◌else◌, List, [], ◌∷◌, Option, Some, None, refl, sym, ap, ◌∙◌, subst, inl, inr, arith, true≢false}
+use Rattle.std.proofs.lemmas.Bool.{eq-eqb}
 use Rattle.iss_base.specs.Lists.{In}
+use Rattle.iss_base.proofs.Lists.{and-true, first-cases, is-eq, not-true, some-injective}
 use Rattle.iss_request.specs.declared.ids.NodeId.{NodeId}
 use Rattle.iss_request.specs.declared.ids.Slot.{Slot}
 use Rattle.iss_request.specs.declared.requests.Batch.{Batch}
 use Rattle.iss_request.specs.declared.requests.Value.{Value}
 use Rattle.iss_request.specs.declared.requests.Value.TheVariants.{Batch as Holds}
-use Rattle.iss_request.specs.declared.setups.Kind.TheVariants.{Stopping}
 use Rattle.iss_sb.specs.declared.effects.Input.{Input}
 use Rattle.iss_sb.specs.declared.effects.Input.TheVariants.{Cast, Receive, Timeout}
 use Rattle.iss_sb.specs.declared.effects.Params.{Params}
 use Rattle.iss_sb.specs.declared.effects.To.{To}
 use Rattle.iss_sb.specs.declared.effects.To.TheVariants.{All as To_all, One as To_one}
-use Rattle.iss_sb.specs.Calls.{IsGoodParams}
-use Rattle.iss_sb.specs.Evidence.{Item, World, Move, MayCome, IsSent, accepts, delivered, is_correct}
-use Rattle.iss_sb.specs.Laws.{IsBroadcast, IsLawful, IsSafe}
-use Rattle.iss_sb.proofs.Delivered.{first_of-cases}
-use Rattle.iss_sb.proofs.Worlds.{accepts-cases, accepts-later, accepts-new, accepts-old, added, by_node}
+use Rattle.iss_sb.specs.Calls.{IsGoodParams, has_slot}
+use Rattle.iss_sb.specs.Evidence.{Item, Made, World, IsReadBatch, IsReadMessage, IsSent, MayCome, accepts, delivered}
+use Rattle.iss_sb.specs.Laws.{IsBroadcast, IsHeard, IsLawful, IsSafe}
+use Rattle.iss_sb.specs.Legal.{AreMade, IsLegal}
+use Rattle.iss_sb.proofs.Legal.{all-correct, safe-legal}
+use Rattle.iss_sb.proofs.Slots.{below-In, has_slot-In, node-is, slot-is}
+use Rattle.iss_sb.proofs.Worlds.{accepts-cases, accepts-new, accepts-old}
 use Rattle.sb_relay.specs.declared.say.Say.{Say}
-use Rattle.sb_relay.specs.Relay.{IsRelayed, asks, decided, has_slot, is_for, made_of, relay, said, says, was_cast}
-use Rattle.sb_relay.proofs.Marks.{both, opposite, is-same, same-is, slot_eta, node_eta, has_slot-In, delivered-is}
-
-some-is : {A : Type 0} (x t : A) → Some x ≡ Some t → x ≡ t
-some-is x t h = cc
+use Rattle.sb_relay.specs.Relay.{asks, decided, is_for, made_of, relay, said, says, was_cast}
+use Rattle.sb_relay.proofs.Marks.{delivered-is}
+use Rattle.sb_relay.proofs.Spelling.{say-again}
 
 holds-is : (b c : Batch) → Holds b ≡ Holds c → b ≡ c
 holds-is b c h = cc
@@ -47,16 +46,16 @@ asked p me xs (Cast s b) slot batch h = go ((me == p.leader.0) && (has_slot s.0 
     go : (t : Bool) → ((me == p.leader.0) && (has_slot s.0 p.slots && not (was_cast s.0 xs))) ≡ t → ◌≡◌ {A = Option (Slot × Batch)} (if t then Some (s, b) else None) (Some (slot, batch)) → IsAsked p me xs (Cast s b) slot batch
     go false q r = absurd (cc)
     go true q r =
-        let e = some-is {A = Slot × Batch} (s, b) (slot, batch) r in
+        let e = some-injective {A = Slot × Batch} (s, b) (slot, batch) r in
         let slots : s ≡ slot = ap (λ (x : Slot × Batch). x.0) e in
         let batches : b ≡ batch = ap (λ (x : Slot × Batch). x.1) e in
-        let t = both (me == p.leader.0) (has_slot s.0 p.slots && not (was_cast s.0 xs)) q in
-        let u = both (has_slot s.0 p.slots) (not (was_cast s.0 xs)) t.1 in
+        let t = and-true (me == p.leader.0) (has_slot s.0 p.slots && not (was_cast s.0 xs)) q in
+        let u = and-true (has_slot s.0 p.slots) (not (was_cast s.0 xs)) t.1 in
         record {
           cast = ap (Cast s) batches ∙ ap (λ (x : Slot). Cast x batch) slots;
-          leads = is-same me p.leader.0 t.0;
+          leads = is-eq me p.leader.0 t.0;
           within = ap (λ (x : Slot). has_slot x.0 p.slots) (sym slots) ∙ u.0;
-          fresh = ap (λ (x : Slot). was_cast x.0 xs) (sym slots) ∙ opposite (was_cast s.0 xs) u.1;
+          fresh = ap (λ (x : Slot). was_cast x.0 xs) (sym slots) ∙ not-true (was_cast s.0 xs) u.1;
         }
 
 accepted-is : (o : Option (Slot × Batch)) → (made_of o).accepted ≡ o
@@ -72,7 +71,7 @@ sent-is (Some a) to msg (inr h) = absurd h
 cast-of : (xs : List (Item Say)) (s : Slot) (b : Batch) → In {A = Slot × Batch} (s, b) (accepts xs) → was_cast s.0 xs ≡ true
 cast-of [] s b h = absurd h
 cast-of (x ∷ xs) s b h = elim (accepts-cases x xs (s, b) h) [
-  | inl q ↦ rw (q, same-is s.0 s.0 refl) refl
+  | inl q ↦ rw (q, eq-eqb s.0 s.0 refl) refl
   | inr k ↦ let more = cast-of xs s b k in rw more (or_true (is_for s.0 x.made.accepted))
 ]
   where
@@ -83,7 +82,7 @@ cast-of (x ∷ xs) s b h = elim (accepts-cases x xs (s, b) h) [
 -- the leader's word stands in the list
 said-told : (p : Params) (xs : List (Item Say)) (s : ℕ) (v : Value) → said p.leader.0 s xs ≡ Some v → (msg : Say) × (x : Item Say) × (v ≡ Holds msg.batch) × (msg.slot.0 ≡ s) × In x xs × (x.input ≡ Receive p.leader msg)
 said-told p [] s v h = absurd (cc)
-said-told p (x ∷ xs) s v h = elim (first_of-cases (said p.leader.0 s xs) (says p.leader.0 s x.input) v h) [
+said-told p (x ∷ xs) s v h = elim (first-cases (said p.leader.0 s xs) (says p.leader.0 s x.input) v h) [
   | inl a ↦ let r = said-told p xs s v a in (r.0, r.1, r.2, r.3, inr r.4, r.5)
   | inr a ↦ let r = word x.input refl a.1 in (r.0, x, r.1, r.2, inl refl, r.3)
 ]
@@ -96,9 +95,9 @@ said-told p (x ∷ xs) s v h = elim (first_of-cases (said p.leader.0 s xs) (says
         go : (t : Bool) → ((from.0 == p.leader.0) && (msg.slot.0 == s)) ≡ t → (if t then Some (Holds msg.batch) else None) ≡ Some v → (msg : Say) × (v ≡ Holds msg.batch) × (msg.slot.0 ≡ s) × (x.input ≡ Receive p.leader msg)
         go false t z = absurd (cc)
         go true t z =
-            let k = both (from.0 == p.leader.0) (msg.slot.0 == s) t in
-            let leads : from ≡ p.leader = node_eta from p.leader (is-same from.0 p.leader.0 k.0) in
-            (msg, sym (some-is _ v z), is-same msg.slot.0 s k.1, q ∙ ap (λ (y : NodeId). Receive y msg) leads)
+            let k = and-true (from.0 == p.leader.0) (msg.slot.0 == s) t in
+            let leads : from ≡ p.leader = node-is from p.leader (is-eq from.0 p.leader.0 k.0) in
+            (msg, sym (some-injective _ v z), is-eq msg.slot.0 s k.1, q ∙ ap (λ (y : NodeId). Receive y msg) leads)
 
 decided-said : (p : Params) (me : ℕ) (xs : List (Item Say)) (s : ℕ) (v : Value) → decided p me xs s ≡ Some v → (has_slot s p.slots ≡ true) × (said p.leader.0 s xs ≡ Some v)
 decided-said p me xs s v h = go (has_slot s p.slots) h
@@ -107,95 +106,67 @@ decided-said p me xs s v h = go (has_slot s p.slots) h
     go true k = (refl, k)
     go false k = absurd (cc)
 
--- what is delivered, the leader accepted at the slot
-owned : (p : Params) (w : World Say) → IsRelayed p w → (i s : ℕ) (v : Value) → delivered relay p i (w i) s ≡ Some v → (b : Batch) × (v ≡ Holds b) × In {A = Slot × Batch} (record { 0 = s }, b) (accepts (w p.leader.0))
-owned p w inv i s v d =
-    let h = decided-said p i (w i) s v (sym (delivered-is p i (w i) s) ∙ d) in
-    let t = said-told p (w i) s v h.1 in
-    let slot : t.0.slot ≡ record { 0 = s } = slot_eta t.0.slot (record { 0 = s }) t.3 in
-    (t.0.batch, t.2, subst (λ (x : Slot). In {A = Slot × Batch} (x, t.0.batch) (accepts (w p.leader.0))) slot (inv.told i t.1 t.0 t.4 t.5))
+-- what a node sends it had accepted
+sent-accepted : (p : Params) (me : ℕ) (xs : List (Item Say)) (x : Item Say) (to : To) (msg : Say) → AreMade relay p me xs → In x xs → In {A = To × Say} (to, msg) x.made.sends → In {A = Slot × Batch} (msg.slot, msg.batch) (accepts xs)
+sent-accepted p me [] x to msg made h sent = absurd h
+sent-accepted p me (y ∷ xs) x to msg made (inl e) sent =
+    let here = subst (λ (z : Item Say). In {A = To × Say} (to, msg) z.made.sends) e sent in
+    let asked_for = sent-is (asks p me xs y.input) to msg (subst (λ (z : Made Say). In {A = To × Say} (to, msg) z.sends) made.0 here) in
+    accepts-new y xs (msg.slot, msg.batch) (ap (λ (z : Made Say). z.accepted) made.0 ∙ accepted-is (asks p me xs y.input) ∙ asked_for)
+sent-accepted p me (y ∷ xs) x to msg made (inr h) sent = accepts-old y xs (msg.slot, msg.batch) (sent-accepted p me xs x to msg made.1 h sent)
 
--- the leader of good parameters is correct, since no node is faulty
-leader-correct : (p : Params) → IsGoodParams relay p → is_correct p.setup p.leader.0 ≡ true
-leader-correct p good =
-    let kind : p.setup.kind ≡ Stopping = good.kind in
-    let none : p.setup.faulty ≡ [] = rw kind at good.setup.few_faulty in
-    let leader = good.leader in
-    rw none (below-n p.leader.0 p.setup.n leader)
-  where
-    below-n : (a n : ℕ) → a < n → (nat_lt a n && not false) ≡ true
-    below-n a n h = let t : nat_lt a n ≡ true = (Decides-ltb a n).1 h in rw t refl
+-- where a batch is accepted, none was cast before
+fresh-at : (p : Params) (me : ℕ) (x : Item Say) (xs : List (Item Say)) (s : Slot) (b : Batch) → AreMade relay p me (x ∷ xs) → x.made.accepted ≡ Some (s, b) → was_cast s.0 xs ≡ false
+fresh-at p me x xs s b made h = (asked p me xs x.input s b (sym (accepted-is (asks p me xs x.input)) ∙ (sym (ap (λ (z : Made Say). z.accepted) made.0) ∙ h))).fresh
 
-module _ (p : Params) (w later : World Say) (inv : IsRelayed p w) (move : Move relay p w later) where
-  abbrev new : Item Say
-  new = added relay p w later move
+-- a node accepts one batch at a slot
+once : (p : Params) (me : ℕ) (xs : List (Item Say)) (s : Slot) (b c : Batch) → AreMade relay p me xs → In {A = Slot × Batch} (s, b) (accepts xs) → In {A = Slot × Batch} (s, c) (accepts xs) → b ≡ c
+once p me [] s b c made h k = absurd h
+once p me (x ∷ xs) s b c made h k = elim (accepts-cases x xs (s, b) h) [
+  | inl q ↦ elim (accepts-cases x xs (s, c) k) [
+    | inl r ↦ ap (λ (z : Slot × Batch). z.1) (some-injective {A = Slot × Batch} (s, b) (s, c) (sym q ∙ r))
+    | inr z ↦ absurd (true≢false (sym (cast-of xs s c z) ∙ fresh-at p me x xs s b made q))
+  ]
+  | inr y ↦ elim (accepts-cases x xs (s, c) k) [
+    | inl r ↦ absurd (true≢false (sym (cast-of xs s b y) ∙ fresh-at p me x xs s c made r))
+    | inr z ↦ once p me xs s b c made.1 y z
+  ]
+]
 
-  abbrev ask : Option (Slot × Batch)
-  ask = asks p move.node (w move.node) move.input
+module _ (p : Params) (w : World Say) (legal : IsLegal relay p w) where
+  -- what the leader told a node, it had accepted
+  told : (i : ℕ) (x : Item Say) (msg : Say) → In x (w i) → x.input ≡ Receive p.leader msg → In {A = Slot × Batch} (msg.slot, msg.batch) (accepts (w p.leader.0))
+  told i x msg h q =
+      let sent : IsSent w p.leader.0 i msg = subst (λ (y : Input Say). MayCome relay p w i y) q (legal.came i x h) in
+      sent-accepted p p.leader.0 (w p.leader.0) sent.item sent.to msg (legal.made p.leader.0) sent.taken sent.sent
 
-  kept : (j : ℕ) (e : Slot × Batch) → In e (accepts (w j)) → In e (accepts (later j))
-  kept j e h = accepts-later relay p w later move j e h
+  -- what is delivered, the leader accepted at the slot
+  owned : (i s : ℕ) (v : Value) → delivered relay p i (w i) s ≡ Some v → (b : Batch) × (v ≡ Holds b) × In {A = Slot × Batch} (record { 0 = s }, b) (accepts (w p.leader.0))
+  owned i s v d =
+      let h = decided-said p i (w i) s v (sym (delivered-is p i (w i) s) ∙ d) in
+      let t = said-told p (w i) s v h.1 in
+      let slot : t.0.slot ≡ record { 0 = s } = slot-is t.0.slot (record { 0 = s }) t.3 in
+      (t.0.batch, t.2, subst (λ (x : Slot). In {A = Slot × Batch} (x, t.0.batch) (accepts (w p.leader.0))) slot (told i t.1 t.0 t.4 t.5))
 
-  told_now : (msg : Say) → move.input ≡ Receive p.leader msg → In {A = Slot × Batch} (msg.slot, msg.batch) (accepts (later p.leader.0))
-  told_now msg q =
-      let sent : IsSent w p.leader.0 move.node msg = subst (λ (y : Input Say). MayCome relay p w move.node y) q move.may in
-      kept p.leader.0 (msg.slot, msg.batch) (inv.sent p.leader.0 sent.item sent.to msg sent.taken sent.sent)
-
-  asked_now : (s : Slot) (b : Batch) → new.made.accepted ≡ Some (s, b) → was_cast s.0 (w move.node) ≡ false
-  asked_now s b h = (asked p move.node (w move.node) move.input s b (sym (accepted-is ask) ∙ h)).fresh
-
-  inv-kept : IsRelayed p later
-  inv-kept = record {
-    told = λ i x msg. by_node relay p w later move (λ i xs. In x xs → x.input ≡ Receive p.leader msg → In {A = Slot × Batch} (msg.slot, msg.batch) (accepts (later p.leader.0)))
-        (λ h q. elim h [
-          | inl e ↦ told_now msg (sym (ap (λ (y : Item Say). y.input) e) ∙ q)
-          | inr k ↦ kept p.leader.0 (msg.slot, msg.batch) (inv.told move.node x msg k q)
-        ])
-        (λ j ne h q. kept p.leader.0 (msg.slot, msg.batch) (inv.told j x msg h q)) i;
-    sent = λ j x to msg. by_node relay p w later move (λ j xs. In x xs → In {A = To × Say} (to, msg) x.made.sends → In {A = Slot × Batch} (msg.slot, msg.batch) (accepts xs))
-        (λ h q. elim h [
-          | inl e ↦ accepts-new new (w move.node) (msg.slot, msg.batch) (accepted-is ask ∙ sent-is ask to msg (subst (λ (y : Item Say). In {A = To × Say} (to, msg) y.made.sends) e q))
-          | inr k ↦ accepts-old new (w move.node) (msg.slot, msg.batch) (inv.sent move.node x to msg k q)
-        ])
-        (λ j ne h q. inv.sent j x to msg h q) j;
-    once = λ j s b c. by_node relay p w later move (λ j xs. In {A = Slot × Batch} (s, b) (accepts xs) → In {A = Slot × Batch} (s, c) (accepts xs) → b ≡ c)
-        (λ h k. elim (accepts-cases new (w move.node) (s, b) h) [
-          | inl q ↦ elim (accepts-cases new (w move.node) (s, c) k) [
-            | inl r ↦ ap (λ (x : Slot × Batch). x.1) (some-is {A = Slot × Batch} (s, b) (s, c) (sym q ∙ r))
-            | inr z ↦ absurd (true≢false (sym (cast-of (w move.node) s c z) ∙ asked_now s b q))
-          ]
-          | inr y ↦ elim (accepts-cases new (w move.node) (s, c) k) [
-            | inl r ↦ absurd (true≢false (sym (cast-of (w move.node) s b y) ∙ asked_now s c r))
-            | inr z ↦ inv.once move.node s b c y z
-          ]
-        ])
-        (λ j ne. inv.once j s b c) j;
-  }
-
-module _ (p : Params) (w : World Say) (good : IsGoodParams relay p) (inv : IsRelayed p w) where
   -- a batch that is delivered, the leader accepted
   owned_batch : (i : ℕ) (s : Slot) (b : Batch) → delivered relay p i (w i) s.0 ≡ Some (Holds b) → In {A = Slot × Batch} (s, b) (accepts (w p.leader.0))
   owned_batch i s b d =
-      let a = owned p w inv i s.0 (Holds b) d in
+      let a = owned i s.0 (Holds b) d in
       let same : a.0 ≡ b = sym (holds-is b a.0 a.1) in
       subst (λ (x : Batch). In {A = Slot × Batch} (s, x) (accepts (w p.leader.0))) same a.2
 
-  is-broadcast : IsBroadcast relay p w
-  is-broadcast = record {
+  is-broadcast : IsGoodParams relay p → IsBroadcast relay p w
+  is-broadcast good = record {
     agreement = λ i j s x y _ _ d e.
-        let a = owned p w inv i s x d in
-        let b = owned p w inv j s y e in
-        a.1 ∙ ap (λ (t : Batch). Holds t) (inv.once p.leader.0 (record { 0 = s }) a.0 b.0 a.2 b.2) ∙ sym b.1;
-    shared = λ i j s t b c _ _ d e. record { node = p.leader.0; correct = leader-correct p good; first = owned_batch i s b d; second = owned_batch j t c e };
+        let a = owned i s x d in
+        let b = owned j s y e in
+        a.1 ∙ ap (λ (t : Batch). Holds t) (once p p.leader.0 (w p.leader.0) (record { 0 = s }) a.0 b.0 (legal.made p.leader.0) a.2 b.2) ∙ sym b.1;
+    shared = λ i j s t b c _ _ d e. record { node = p.leader.0; correct = all-correct relay p good refl p.leader.0 good.leader; first = owned_batch i s b d; second = owned_batch j t c e };
     integrity = λ i s b _ _ d. owned_batch i s b d;
   }
 
 pub relay-safe : IsSafe relay
-relay-safe = record {
-  starts = λ p good. record { told = λ i x msg h q. absurd h; sent = λ j x to msg h q. absurd h; once = λ j s b c h k. absurd h };
-  keeps = λ p w later good inv move sep. inv-kept p w later inv move;
-  gives = λ p w good inv sep. is-broadcast p w good inv;
-}
+relay-safe = safe-legal relay (λ p w good legal sep. is-broadcast p w legal good)
 
 cast-is : (s : Slot) (b : Batch) (x : Slot × Batch) → Same (Cast s b) (Cast x.0 x.1) → x ≡ (s, b)
 cast-is s b x h =
@@ -213,6 +184,14 @@ not-one None k msg n h = absurd h
 not-one (Some a) k msg n (inl e) = let to : To_one k ≡ To_all = ap (λ (z : To × Say). z.0) e in cc
 not-one (Some a) k msg n (inr h) = absurd h
 
+-- the batch of a cast that was heard is read again, and so is the Say of it
+sent-again : (p : Params) (me : ℕ) (xs : List (Item Say)) (i : Input Say) (to : To) (msg : Say) → IsGoodParams relay p → IsHeard relay p i → In {A = To × Say} (to, msg) (made_of (asks p me xs i)).sends → IsReadMessage relay p msg
+sent-again p me xs i to msg good heard sent =
+    let a = asked p me xs i msg.slot msg.batch (sent-is (asks p me xs i) to msg sent) in
+    let low : msg.slot.0 < 2 ^ 64 = below-In (2 ^ 64) msg.slot p.slots good.slots_low (has_slot-In msg.slot p.slots a.within) in
+    let batch : IsReadBatch p msg.batch = subst (λ (y : Input Say). IsHeard relay p y) a.cast heard in
+    say-again p.setup.version msg low batch
+
 pub relay-lawful : IsLawful relay
 relay-lawful = record {
   names = λ p from msg c h. absurd h;
@@ -220,10 +199,11 @@ relay-lawful = record {
   casts = λ p me xs s b x h. cast-is s b x (asked p me xs (Cast s b) x.0 x.1 h).cast;
   castable = λ p me xs s b c h.
       let a = asked p me xs (Cast s b) s b h in
-      rw (same-is me p.leader.0 a.leads, a.within, a.fresh) refl;
+      rw (eq-eqb me p.leader.0 a.leads, a.within, a.fresh) refl;
   asked_within = λ p me xs i x h. has_slot-In x.0 p.slots (asked p me xs i x.0 x.1 h).within;
   decided_within = λ p me xs s x h. has_slot-In s p.slots (decided-said p me xs s.0 x h).0;
   addressed = λ p me xs i leaf k msg good input h. not-one (asks p me xs i) k msg p.setup.n h;
+  read_again = λ p me xs i leaf to msg good below heard input sent. sent-again p me xs i to msg good input sent;
   few = λ p good. omega arith;
   uses = λ p me xs i leaf good input. no-leaves (asks p me xs i);
 }

@@ -1,25 +1,20 @@
 -- The relay: the leader says each batch that is cast to it to all, and a node takes the leader's first word on a slot.
-use Rattle.std.specs.Prelude.{◌≡◌, ℕ, ◌==◌, ◌&&◌, ◌||◌, Bool, true, false, not, nat_lt, ◌^◌, List, [], ◌∷◌, ◌++◌, Option, Some, None, if◌then◌else◌}
+use Rattle.std.specs.Prelude.{◌≡◌, ℕ, ◌==◌, ◌&&◌, ◌||◌, Bool, true, false, not, nat_lt, ◌^◌, ◌<◌, List, [], ◌∷◌, ◌++◌, Option, Some, None, if◌then◌else◌}
 use Rattle.std.specs.Int.{to_be_bytes, w64}
-use Rattle.std.specs.List.{list_any}
-use Rattle.iss_base.specs.Lists.{In, first_of}
-use Rattle.iss_request.specs.Formats.{parse_value, spell_value}
+use Rattle.iss_base.specs.Lists.{first_of}
+use Rattle.iss_request.specs.Formats.{IsSpelledValue, batch_of, is_batch, parse_value, spell_value}
 use Rattle.iss_request.specs.Parsing.{Parser, ◌>>=◌, byte, done, number, such_that}
 use Rattle.iss_request.specs.declared.ids.Slot.{Slot}
 use Rattle.iss_request.specs.declared.requests.Batch.{Batch}
 use Rattle.iss_request.specs.declared.requests.Value.{Value}
-use Rattle.iss_request.specs.declared.requests.Value.TheVariants.{Nil, Batch as Holds}
+use Rattle.iss_request.specs.declared.requests.Value.TheVariants.{Batch as Holds}
 use Rattle.iss_sb.specs.declared.effects.Input.{Input}
 use Rattle.iss_sb.specs.declared.effects.Input.TheVariants.{Cast, Receive, Timeout}
 use Rattle.iss_sb.specs.declared.effects.Params.{Params}
-use Rattle.iss_sb.specs.declared.effects.To.{To}
 use Rattle.iss_sb.specs.declared.effects.To.TheVariants.{All as To_all}
-use Rattle.iss_sb.specs.Evidence.{Item, Made, Module, World, accepts}
+use Rattle.iss_sb.specs.Calls.{has_slot}
+use Rattle.iss_sb.specs.Evidence.{Item, Made, Module}
 use Rattle.sb_relay.specs.declared.say.Say.{Say}
-
--- whether the slot of this number is among the slots
-abbrev pub has_slot : ℕ → List Slot → Bool
-has_slot s slots = list_any (λ t. t.0 == s) slots
 
 -- whether the batch that was accepted, if any, was for the slot
 abbrev pub is_for : ℕ → Option (Slot × Batch) → Bool
@@ -57,34 +52,25 @@ said leader s (x ∷ xs) = first_of (said leader s xs) (says leader s x.input)
 abbrev pub decided : Params → ℕ → List (Item Say) → ℕ → Option Value
 decided p me xs s = if has_slot s p.slots then said p.leader.0 s xs else None
 
--- what holds of every world of the relay
-pub record IsRelayed (p : Params) (w : World Say) : Type 0 where
-  -- what the leader told a node, it had accepted
-  pub told : (i : ℕ) (x : Item Say) (msg : Say) → In x (w i) → x.input ≡ Receive p.leader msg → In {A = Slot × Batch} (msg.slot, msg.batch) (accepts (w p.leader.0))
-  -- what a node sends it had accepted
-  pub sent : (j : ℕ) (x : Item Say) (to : To) (msg : Say) → In x (w j) → In {A = To × Say} (to, msg) x.made.sends → In {A = Slot × Batch} (msg.slot, msg.batch) (accepts (w j))
-  -- a node accepts one batch at a slot
-  pub once : (j : ℕ) (s : Slot) (b c : Batch) → In {A = Slot × Batch} (s, b) (accepts (w j)) → In {A = Slot × Batch} (s, c) (accepts (w j)) → b ≡ c
+-- ---- bytes
 
--- the bytes of the message: its number, the slot, the value, which is a batch. A slot that is too large has no
--- spelling, and is written as the number of no message
-abbrev pub spell : Say → List ℕ
-spell msg = if nat_lt msg.slot.0 (2 ^ 64) then 1 ∷ to_be_bytes w64 msg.slot.0 ++ spell_value (Holds msg.batch) else 0 ∷ []
+-- the message in bytes: its number, the slot, and a value, which is a batch
+abbrev pub IsSpelledSay : ℕ → Say → List ℕ → Type 0
+IsSpelledSay version msg bytes =
+    (msg.slot.0 < 2 ^ 64) × ((value : List ℕ) × IsSpelledValue version (Holds msg.batch) value × (bytes ≡ 1 ∷ to_be_bytes w64 msg.slot.0 ++ value))
 
-abbrev pub is_batch : Value → Bool
-is_batch Nil = false
-is_batch (Holds batch) = true
+-- one whose slot is too large has no spelling, and is written as the number of no message
+abbrev pub spell : ℕ → Say → List ℕ
+spell version msg = if nat_lt msg.slot.0 (2 ^ 64) then 1 ∷ to_be_bytes w64 msg.slot.0 ++ spell_value version (Holds msg.batch) else 0 ∷ []
 
-abbrev pub batch_of : Value → Batch
-batch_of Nil = []
-batch_of (Holds batch) = batch
-
-unfoldable pub parse : Parser Say
-parse = do
+unfoldable pub parse : ℕ → Parser Say
+parse version = do
   message ← such_that (λ n. n == 1) byte
   slot ← number w64
-  value ← such_that is_batch parse_value
+  value ← such_that is_batch (parse_value version)
   done (record { slot = record { 0 = slot }; batch = batch_of value })
+
+-- ---- the module
 
 -- three nodes, no faults, no signatures
 abbrev pub relay : Module Say
@@ -100,5 +86,4 @@ relay = record {
   asks = asks;
   makes = λ p me xs input leaf. made_of (asks p me xs input);
   decided = decided;
-  Inv = IsRelayed;
 }

@@ -5,11 +5,11 @@ use Rattle.iss_request.specs.declared.ids.NodeId.{NodeId}
 use Rattle.iss_request.specs.declared.ids.Slot.{Slot}
 use Rattle.iss_sb.specs.declared.effects.Effects.{Effects}
 use Rattle.iss_sb.specs.declared.effects.Params.{Params}
-use Rattle.iss_sb.specs.Calls.{AllIn, slots_of, AreToNodes}
+use Rattle.iss_sb.specs.Calls.{AllIn, AreToNodes, has_slot, slots_of}
 use Rattle.iss_sb.specs.Evidence.{Item}
 use Rattle.sb_relay.specs.declared.relay.Relay.{Relay}
 use Rattle.sb_relay.specs.declared.say.Say.{Say}
-use Rattle.sb_relay.specs.Relay.{decided, has_slot, was_cast}
+use Rattle.sb_relay.specs.Relay.{decided, was_cast}
 
 -- a relay stands for a list whose casts and decided slots it has marked
 pub record Stands (m : Relay) (p : Params) (me : ℕ) (xs : List (Item Say)) : Type 0 where

@@ -7,8 +7,9 @@ ghost use Rattle.sb_relay.specs.Relay.{relay};
 ghost use Rattle.sb_relay.specs.Stands.{IsOfSegment, Stands, may_cast, may_deliver};
 
 use crate::say::Say;
+use iss_keys::Keys;
 use iss_request::{Batch, DecodeError, Fields, NoMemory, NodeId, Row, Slot, Value, Writer};
-use iss_sb::{Claim, Effects, Input, Keys, Params, Sequenced, StepError, To};
+use iss_sb::{Claim, Effects, Input, Params, Sequenced, StepError, To};
 use std::alloc::Global;
 
 /// A node's part in one instance: which slots of the segment it cast, and which it delivered.
@@ -185,6 +186,7 @@ impl Sequenced for Relay {
 #[cfg(test)]
 mod tests {
     use super::*;
+    use iss_keys::SharedDirectory;
     use iss_request::{Epoch, Kind, Nodes, Policy, Setup};
     use iss_sb::broadcast;
     use std::test::Fail;
@@ -197,6 +199,7 @@ mod tests {
         slots.push(Slot(0))?;
         slots.push(Slot(3))?;
         let setup = Setup {
+            version: 1,
             module: 1,
             f: 0,
             epoch: 6,
@@ -212,11 +215,13 @@ mod tests {
             kind: Kind::Stopping,
             tag: [0; 32],
         };
+        let directory = SharedDirectory::make(alloc, 3, 1, 2).map_err(|_| NoMemory)?;
         Ok(Params {
             setup,
             epoch: Epoch(0),
             leader: NodeId(0),
             slots,
+            directory,
         })
     }
 
@@ -225,7 +230,7 @@ mod tests {
     fn a_cast_is_said_and_delivered(rt: HostRuntime) -> Result<(), Fail> {
         let alloc = rt.alloc();
         let p = instance(alloc)?;
-        let mut keys = Keys::make([0; 32], 2);
+        let mut keys = Keys::make(alloc, [0; 32], 2)?;
         let mut node = Relay::start(alloc, &p, NodeId(0))?;
         let cast = Input::Cast {
             slot: Slot(3),

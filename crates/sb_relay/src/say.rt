@@ -1,20 +1,19 @@
 //! The one message of the relay, and its bytes.
-ghost use Rattle.std.specs.Prelude.{◌≡◌, ℕ, ◌++◌, IfOk, OnOk, Err};
+ghost use Rattle.std.specs.Prelude.{◌≡◌, ◌↔◌, ℕ, List, [], IfOk, OnOk, Err};
 ghost use Rattle.iss_request.specs.declared.requests.Value.TheVariants.{Batch as Holds};
-ghost use Rattle.iss_request.specs.Fields.{IsRead, IsUnreadable};
-ghost use Rattle.iss_request.specs.Formats.{parse_value};
+ghost use Rattle.iss_request.specs.Fields.{Good, IsRead, IsUnreadable, and_bytes};
+ghost use Rattle.iss_request.specs.Formats.{is_batch, parse_value};
 ghost use Rattle.iss_request.specs.Parsing.{such_that};
-ghost use Rattle.sb_relay.specs.Relay.{is_batch, parse, spell};
+ghost use Rattle.sb_relay.specs.Relay.{IsSpelledSay, parse, spell};
 
 use iss_request::values::write_batch;
-use iss_request::{Batch, DecodeError, Fields, NoMemory, Slot, Value, Writer, read_value};
+use iss_request::{
+    Batch, DecodeError, Fields, NoMemory, Slot, Value, Writer, read_value, version_byte,
+};
 use std::alloc::Global;
 
 /// The number of the message.
 const SAY: u8 = 1;
-
-/// The first byte of a value that is a batch.
-const BATCH: u8 = 1;
 
 /// The leader's word that the slot holds this batch.
 #[derive(Drop, Debug)]
@@ -26,19 +25,20 @@ pub struct Say {
 impl Say {
     /// Writes the message: its number, the slot, the batch as a value.
     pub fn write(&self, out: &mut Writer) -> Result<(), NoMemory>
-        ensures { OnOk result (out.new ≡ out.old ++ spell self.now) }
+        ensures { OnOk result (out.new ≡ and_bytes out.old (spell out.old.version self.now)) }
     {
         out.put_u8(SAY)?;
         out.put_u64(self.slot.0)?;
-        out.put_u8(BATCH)?;
+        let first = version_byte(out.version());
+        out.put_u8(first)?;
         write_batch(&self.batch, out)
     }
 
     /// Reads the message at the front. `BadField` names the first field that does not fit: the number where it is
     /// another's, the value where it is nil.
     pub fn read(alloc: Global, f: &mut Fields) -> Result<Say, DecodeError>
-        ensures ok { IfOk result (λ m. IsRead parse f.old f.new m) }
-        ensures bad { (at : ℕ) → result ≡ Err (DecodeError.BadField at) → IsUnreadable parse f.old at }
+        ensures ok { IfOk result (λ m. IsRead (parse f.old.version) f.old f.new m) }
+        ensures bad { (at : ℕ) → result ≡ Err (DecodeError.BadField at) → IsUnreadable (parse f.old.version) f.old at }
     {
         let no_message = f.bad_field();
         let number = f.read_u8()?;
@@ -53,8 +53,8 @@ impl Say {
 
 /// Reads a value that is a batch.
 fn read_batch(alloc: Global, f: &mut Fields) -> Result<Batch, DecodeError>
-    ensures ok { IfOk result (λ b. IsRead (such_that is_batch parse_value) f.old f.new (Holds b)) }
-    ensures bad { (at : ℕ) → result ≡ Err (DecodeError.BadField at) → IsUnreadable (such_that is_batch parse_value) f.old at }
+    ensures ok { IfOk result (λ b. IsRead (such_that is_batch (parse_value f.old.version)) f.old f.new (Holds b)) }
+    ensures bad { (at : ℕ) → result ≡ Err (DecodeError.BadField at) → IsUnreadable (such_that is_batch (parse_value f.old.version)) f.old at }
 {
     let no_batch = f.bad_field();
     match read_value(alloc, f)? {
@@ -62,6 +62,12 @@ fn read_batch(alloc: Global, f: &mut Fields) -> Result<Batch, DecodeError>
         Value::Nil => Err(no_batch),
     }
 }
+
+/// The table of the message: what is read of bytes, and all of them, is what the table relates to them. It computes
+/// nothing: its contract is the theorem.
+pub fn say_is_exact()
+    ensures { (version : ℕ) (said : Say) (bytes : List ℕ) → (parse version bytes ≡ Good said []) ↔ IsSpelledSay version said bytes }
+{}
 
 #[cfg(test)]
 mod tests {
@@ -75,15 +81,15 @@ mod tests {
             slot: Slot(259),
             batch: Batch::new(alloc),
         };
-        let mut out = Writer::new(alloc);
+        let mut out = Writer::new(alloc, 1);
         said.write(&mut out)?;
         let bytes = [1, 0, 0, 0, 0, 0, 0, 1, 3, 1, 0];
         assert_eq!(rt; out.as_slice(), bytes.as_slice());
-        let mut fields = Fields::over(&bytes);
+        let mut fields = Fields::over(1, &bytes);
         let again = Say::read(alloc, &mut fields)?;
         assert_eq!(rt; again.slot, Slot(259));
         assert!(rt; fields.is_done());
-        let mut nil = Fields::over(&[1, 0, 0, 0, 0, 0, 0, 1, 3, 0]);
+        let mut nil = Fields::over(1, &[1, 0, 0, 0, 0, 0, 0, 1, 3, 0]);
         let refused = Say::read(alloc, &mut nil).err();
         assert_eq!(rt; refused, Some(DecodeError::BadField { at: 9 }));
         Ok(())

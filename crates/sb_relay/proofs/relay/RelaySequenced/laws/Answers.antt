@@ -1,10 +1,9 @@
-use Rattle.iss_request.proofs.OneSpelling.{value_grammar}
 use Rattle.sb_relay.proofs.Safe.{relay-lawful, relay-safe}
 use Rattle.sb_relay.proofs.Spelling.{say-grammar}
 use Rattle.sb_relay.proofs.relay.RelaySequenced.laws.Goals as goal
 
 pub returns-clause-grammar : goal.returns-clause-grammar
-returns-clause-grammar c = say-grammar value_grammar
+returns-clause-grammar c = say-grammar
 
 pub returns-clause-lawful : goal.returns-clause-lawful
 returns-clause-lawful c = relay-lawful

@@ -1,0 +1,28 @@
+-- Slots of a segment.
+use Rattle.std.proofs.Common.{◌≡◌, ◌<◌, ℕ, Bool, true, false, ◌||◌, ◌==◌, List, [], ◌∷◌, refl, sym, ap, subst, inl, inr, true≢false}
+use Rattle.iss_base.specs.Lists.{In}
+use Rattle.iss_base.proofs.Lists.{is-eq}
+use Rattle.iss_request.specs.declared.ids.NodeId.{NodeId}
+use Rattle.iss_request.specs.declared.ids.Slot.{Slot}
+use Rattle.iss_sb.specs.Calls.{AreBelow, has_slot}
+
+-- slots and nodes are their numbers
+pub slot-is : (a b : Slot) → a.0 ≡ b.0 → a ≡ b
+slot-is a b h = ap (λ (n : ℕ). let s : Slot = record { 0 = n } in s) h
+
+pub node-is : (a b : NodeId) → a.0 ≡ b.0 → a ≡ b
+node-is a b h = ap (λ (n : ℕ). let s : NodeId = record { 0 = n } in s) h
+
+-- a slot whose number is found stands in the list
+pub has_slot-In : (s : Slot) (slots : List Slot) → has_slot s.0 slots ≡ true → In s slots
+has_slot-In s [] h = absurd (true≢false (sym h))
+has_slot-In s (t ∷ slots) h = go (t.0 == s.0) refl (has_slot-In s slots) h
+  where
+    go : (b : Bool) → (t.0 == s.0) ≡ b → (has_slot s.0 slots ≡ true → In s slots) → (b || has_slot s.0 slots) ≡ true → In s (t ∷ slots)
+    go true q more k = inl (slot-is s t (sym (is-eq t.0 s.0 q)))
+    go false q more k = inr (more k)
+
+pub below-In : (bound : ℕ) (s : Slot) (slots : List Slot) → AreBelow bound slots → In s slots → s.0 < bound
+below-In bound s [] low h = absurd h
+below-In bound s (t ∷ slots) low (inl e) = subst (λ (z : Slot). z.0 < bound) (sym e) low.0
+below-In bound s (t ∷ slots) low (inr h) = below-In bound s slots low.1 h
