@@ -2,12 +2,11 @@
 use Rattle.std.proofs.Common.{◌≡◌, inl, inr, ℕ, ◌+◌, ◌-◌, ◌≤◌, true, List, [], ◌∷◌, length, Some, refl, sym, ap, subst, ◌∙◌, arith, le_trans}
 use Rattle.std.proofs.lemmas.Bool.Decides.{leb_tells}
 use Rattle.iss_base.specs.Lists.{Extends}
-use Rattle.iss_base.proofs.Lists.{chains-meet, first-cases, same_length, same_or_not}
+use Rattle.iss_base.proofs.Lists.{chains-meet, first-cases, same_length}
 use Rattle.iss_keys.specs.Directories.{DirectoryView, VerifiesBy, directory_of}
 use Rattle.iss_request.specs.declared.requests.Value.{Value}
 use Rattle.iss_request.specs.declared.setups.Setup.{Setup}
 use Rattle.iss_sb.specs.declared.effects.Claim.{Claim}
-use Rattle.iss_sb.specs.declared.effects.Params.{Params}
 use Rattle.iss_sb.specs.Calls.{IsGoodParams}
 use Rattle.iss_sb.specs.Evidence.{IsReached, IsString, Module, Separate, Verifies, delivered, is_correct}
 use Rattle.iss_sb.specs.Laws.{IsBroadcast, IsSafe}

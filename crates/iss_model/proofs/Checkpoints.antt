@@ -5,7 +5,7 @@ use Rattle.std.proofs.lemmas.Bool.Decides.{leb_tells}
 use Rattle.sha2.proofs.Facts256.{length-sha256}
 use Rattle.iss_base.specs.Lists.{In}
 use Rattle.iss_base.specs.Quorum.{all_below, distinct, mem}
-use Rattle.iss_base.proofs.Lists.{and-true, both, is-eq, not-true}
+use Rattle.iss_base.proofs.Lists.{and-true, both, ends-same, is-eq, not-true}
 use Rattle.iss_base.proofs.Quorum.{count-distinct, count-length, count-less, count-some}
 use Rattle.iss_request.specs.Digest.{digest}
 use Rattle.iss_request.specs.Fields.{Good, IsBad, Parsed}
@@ -19,7 +19,6 @@ use Rattle.iss_request.specs.declared.setups.Setup.{Setup}
 use Rattle.iss_request.proofs.OneSpelling.{value_grammar}
 use Rattle.iss_sb.specs.Evidence.{Module, Separate, has_node, is_correct}
 use Rattle.iss_sb.specs.Laws.{IsLawful, IsSafe}
-use Rattle.iss_sb.proofs.Statements.{ends-same}
 use Rattle.iss_model.specs.Checkpoints.{is_good, scheme_of}
 use Rattle.iss_model.specs.Cluster.{Cluster, Reach}
 use Rattle.iss_model.specs.Ordered.{Among, AreChained, IsExact, IsSoundRules, Ordered}

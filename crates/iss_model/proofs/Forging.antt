@@ -2,7 +2,7 @@
 -- in the faulty node's name, does not.
 use Rattle.std.proofs.Common.{◌≡◌, ℕ, List, [], ◌∷◌, Some, None, refl}
 use Rattle.std.specs.Prelude.{nat_lt}
-use Rattle.iss_request.specs.Formats.{spell_batch, spell_request, spell_value}
+use Rattle.iss_request.specs.Formats.{spell_batch, spell_count, spell_request, spell_value}
 use Rattle.iss_request.specs.declared.requests.Batch.{Batch}
 use Rattle.iss_request.specs.declared.setups.Kind.TheVariants.{Byzantine}
 use Rattle.iss_request.specs.declared.setups.Policy.TheVariants.{Simple}
@@ -39,28 +39,28 @@ claim leader = record { by = leader; statement = (claim_of ((rules_of four).para
 
 -- node 0 casts, and all take its message
 honest : (after (Asks_order 0 0 0 (170 ∷ []) ∷ Propose 0 ∷ Calm 5 ∷ [])).ended ≡ None
-unfolding wide_bytes spell_value spell_batch spell_request
+unfolding wide_bytes spell_value spell_batch spell_count spell_request
 honest = refl
 
 booked : (after (Asks_order 0 0 0 (170 ∷ []) ∷ Propose 0 ∷ Calm 5 ∷ [])).held.signed ≡ claim 0 ∷ []
-unfolding wide_bytes spell_value spell_batch spell_request
+unfolding wide_bytes spell_value spell_batch spell_count spell_request
 booked = refl
 
 -- the message again, from nowhere
 repeated : (after (Asks_order 0 0 0 (170 ∷ []) ∷ Propose 0 ∷ Bytes 1 (told 0) ∷ [])).ended ≡ None
-unfolding wide_bytes spell_value spell_batch spell_request
+unfolding wide_bytes spell_value spell_batch spell_count spell_request
 repeated = refl
 
 -- before node 0 has signed it, it is forged, and the run ends: what follows does not happen
 forged : (after (Bytes 1 (told 0) ∷ Asks_order 0 0 0 (170 ∷ []) ∷ Propose 0 ∷ [])).ended ≡ Some (Forged (claim_of ((rules_of four).params [] 0 0) 0 (record { 0 = 0 }, batch)))
-unfolding wide_bytes spell_value spell_batch spell_request
+unfolding wide_bytes spell_value spell_batch spell_count spell_request
 forged = refl
 
 ended : (after (Bytes 1 (told 0) ∷ Asks_order 0 0 0 (170 ∷ []) ∷ Propose 0 ∷ [])).event ≡ 1
-unfolding wide_bytes spell_value spell_batch spell_request
+unfolding wide_bytes spell_value spell_batch spell_count spell_request
 ended = refl
 
 -- the faulty node signs what it likes
 faulty : (after (Bytes 1 (told 3) ∷ [])).ended ≡ None
-unfolding wide_bytes spell_value spell_batch spell_request
+unfolding wide_bytes spell_value spell_batch spell_count spell_request
 faulty = refl

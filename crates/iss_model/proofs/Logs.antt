@@ -101,7 +101,7 @@ later-refl R c h = record { epoch = omega arith; here = λ l. ([], refl); there 
 pub takes-later : (R : Rules) {Msg : Type 0} (M : Module Msg) (me : ℕ) (c : Past Msg) (l : ℕ) (input : Input Msg) (leaf : ℕ) → Settled R c → Later R c (takes R M me c l input leaf)
 takes-later R M me c l input leaf h = record {
   epoch = omega arith;
-  here = set_at2-cons c.evidence c.epoch l (record { input = input; made = made_in R M me c l input leaf }) c.epoch;
+  here = set_at2-cons c.evidence c.epoch l (record { input = input; leaf = leaf; made = made_in R M me c l input leaf }) c.epoch;
   there = λ e k ne. set_at2-other c.evidence c.epoch l _ e k (inl ne);
   adopted = ([], refl);
   settled = h.all;

@@ -37,7 +37,7 @@ module _ {Msg : Type 0} (s : Setup) (S : Scheme) (R : Rules) (M : Module Msg) (s
   made = made_in R M i (v.pasts i) l input leaf
 
   abbrev item : Item Msg
-  item = record { input = input; made = made }
+  item = record { input = input; leaf = leaf; made = made }
 
   sep_v : Separate (Among v.strings)
   sep_v = separate-part (Among w.strings) (Among v.strings) mv.strings sep

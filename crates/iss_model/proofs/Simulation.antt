@@ -225,7 +225,7 @@ module _ {Msg : Type 0} (s : Setup) (F : Formats Msg) (R : Rules) (M : Module Ms
 
       fresh_string : (x : List ℕ) → In x made.strings → IsRunString s (pasts_of (next t)) x
       fresh_string x h =
-          let item : Item Msg = record { input = input; made = made } in
+          let item : Item Msg = record { input = input; leaf = leaf; made = made } in
           let evidence : (pasts_of (next t) i).evidence c.past.epoch l ≡ item ∷ c.past.evidence c.past.epoch l = ap (λ (d : Past Msg). d.evidence c.past.epoch l) (past-here t ∙ past) ∙ set_at2-same c.past.evidence c.past.epoch l (item ∷ c.past.evidence c.past.epoch l) in
           let there : In item (world_of s (pasts_of (next t)) c.past.epoch l i) = rw (correct-all i low) (rw evidence (inl refl)) in
           (c.past.epoch, l, inr (record { node = i; item = item; taken = there; hashed = h }))

@@ -6,7 +6,7 @@ use Rattle.iss_layout.proofs.FairLemmas.{few_nodes}
 use Rattle.iss_sb.specs.Calls.{IsGoodParams}
 use Rattle.iss_sb.specs.Evidence.{Module}
 use Rattle.iss_sb.specs.Statements.{eight_bytes}
-use Rattle.iss_sb.proofs.Statements.{eight-last, head-same}
+use Rattle.iss_sb.proofs.Statements.{head-same, wide-last}
 use Rattle.iss_model.specs.Cluster.{Names, vote_statement}
 use Rattle.iss_model.specs.Ordered.{IsSoundRules}
 use Rattle.iss_model.specs.Rules.{Rules}
@@ -29,7 +29,7 @@ votes s e d a b q r h =
     let k = head-same s.tag s.tag e 255 0 d 255 0 (0 ∷ (a ++ eight_bytes q)) (0 ∷ (b ++ eight_bytes r)) refl h in
     let rest : ◌≡◌ {A = List ℕ} (0 ∷ (a ++ eight_bytes q)) (0 ∷ (b ++ eight_bytes r)) = k.behind in
     let tails : a ++ eight_bytes q ≡ b ++ eight_bytes r = cc in
-    let t = eight-last a b q r tails in
+    let t = wide-last 7 a b q r tails in
     (k.epoch, t.0, t.1)
 
 -- who leads an epoch is a node, and there are few

@@ -29,7 +29,7 @@ module _ {Msg : Type 0} (s : Setup) (S : Scheme) (R : Rules) (M : Module Msg) (f
   more-signed a b sub from c l msg h = record { named = h.named; read = h.read; verified = h.verified; signed = λ d m ok. sub (record { by = d.by.0; statement = d.statement }) (h.signed d m ok) }
 
   may-take : (w : Cluster Msg) (c : Past Msg) (book : List Signed) → w.pasts i ≡ c → ((x : Signed) → In x book → In x w.book) → (l : ℕ) (input : Input Msg) → MayHear R M book i c l input → MayTake s R M w i l input
-  may-take w c book q sub l (Cast slot batch) h = h
+  may-take w c book q sub l (Cast slot batch) h = rw q h
   may-take w c book q sub l (Receive from msg) h = subst (λ (b : Bool). MayGet b s R M w i l from.0 msg) (sym fails) (rw q (more-signed book w.book sub from.0 c l msg h))
   may-take w c book q sub l Timeout h = tt
 

@@ -14,7 +14,8 @@ use Rattle.iss_sb.specs.declared.effects.To.{To}
 use Rattle.iss_sb.specs.Evidence.{IsCredible, IsReadBatch, Module, Reaches, World, delivered, is_correct}
 use Rattle.iss_sb.specs.Statements.{eight_bytes, head_of}
 use Rattle.iss_model.specs.Node.{verdict_in}
-use Rattle.iss_model.specs.Past.{Past, Piece, before, before_at, cut_at, epoch_at, leader_at, leads_in, log_of, made_in, newborn, params_at, params_of, start_of, takes}
+use Rattle.iss_model.specs.Past.{Past, Piece, before, before_at, cut_at, epoch_at, leader_at, leads_in, log_of, newborn}
+use Rattle.iss_model.specs.Past.{made_in, params_at, params_of, start_of, takes}
 use Rattle.iss_model.specs.Rules.{Rules}
 
 -- a message of a module, on its way

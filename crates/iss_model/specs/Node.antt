@@ -1,5 +1,6 @@
 -- One node: what it holds, and one step of it.
-use Rattle.std.specs.Prelude.{ℕ, suc, ◌+◌, ◌-◌, ◌==◌, nat_lt, cond, Bool, false, not, ◌&&◌, ◌||◌, List, [], ◌∷◌, ◌++◌, Option, Some, None, length, is_some, take}
+use Rattle.std.specs.Prelude.{ℕ, suc, ◌+◌, ◌-◌, ◌==◌, nat_lt, cond, Bool, false, not, ◌&&◌, ◌||◌}
+use Rattle.std.specs.Prelude.{List, [], ◌∷◌, ◌++◌, Option, Some, None, length, is_some, take}
 use Rattle.iss_buckets.specs.Waiting.{absent, cut, uncut}
 use Rattle.iss_keys.specs.KeyStates.{left_of}
 use Rattle.iss_request.specs.Log.{has_id, ids, log_ids}
