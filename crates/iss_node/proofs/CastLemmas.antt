@@ -2,13 +2,13 @@
 use Rattle.std.specs.Prelude.{is_some}
 use Rattle.std.proofs.Common.{slice_get, inl, inr, arith, ◌≡◌, ℕ, zero, suc, ◌+◌, ◌<◌, Bool, true, false, List, [], ◌∷◌, ◌++◌, cond, ◌==◌, ◌||◌, ◌&&◌, not, Option, Some, None, Result, Ok, Err, IfOk, length, drop, get_or, refl, sym, ap, ◌∙◌, subst, if◌then◌else◌, add-one, drop-cons}
 use Rattle.std.specs.List.{list_any}
-use Rattle.iss_buckets.specs.Waiting.{cut_of, left_of, may_cast}
+use Rattle.iss_buckets.specs.Waiting.{cut, may_cast, uncut}
 use Rattle.iss_ids.proofs.Members.{has_id-append}
 use Rattle.iss_layout.specs.Layout.{IsFair, Plan, bucket_of, bucket_owner, is_node, leads, plan_of, segment}
 use Rattle.iss_model.specs.Concrete.{number_of, rules_of}
 use Rattle.iss_model.specs.Formats.{formats_of}
 use Rattle.iss_model.specs.Judge.{marks}
-use Rattle.iss_model.specs.Node.{Dropped, Formats, Stepped, Taken, Turn, casts_at, cut, first_slot, has_slot, is_castable, flown, has_leaves, inputs, is_known, is_mine, next_slot, step, takes_request, uncut}
+use Rattle.iss_model.specs.Node.{Dropped, Formats, Stepped, Taken, Turn, casts_at, first_slot, has_slot, is_castable, flown, has_leaves, inputs, is_known, is_mine, next_slot, step, takes_request}
 use Rattle.iss_model.specs.Past.{log_of}
 use Rattle.iss_model.specs.declared.causes.NodeEvent.TheVariants.{Propose as Proposes}
 use Rattle.iss_model.specs.declared.causes.Why.TheVariants.{BadRequest, Known, NotLeader, NothingToCast, NoKeys}
@@ -35,27 +35,12 @@ use Rattle.iss_sb.specs.Evidence.{Item, Module, accepts, delivered}
 
 -- ---- the batch that is cut
 
-pub cut-is : (p r : Request → Bool) → ((q : Request) → p q ≡ r q) → (n : ℕ) (qs : List Request) → cut_of p n qs ≡ cut n r qs
-unfolding cut_of
-cut-is p r same zero [] = refl
-cut-is p r same zero (q ∷ qs) = refl
-cut-is p r same (suc n) [] = refl
-cut-is p r same (suc n) (q ∷ qs) = go (r q) (same q) (cut-is p r same n qs) (cut-is p r same (suc n) qs)
-  where
-    go : (b : Bool) → p q ≡ b → cut_of p n qs ≡ cut n r qs → cut_of p (suc n) qs ≡ cut (suc n) r qs → (if p q then q ∷ cut_of p n qs else cut_of p (suc n) qs) ≡ cond b (q ∷ cut n r qs) (cut (suc n) r qs)
-    go true e hit miss = ap (λ (b : Bool). if b then q ∷ cut_of p n qs else cut_of p (suc n) qs) e ∙ ap (λ xs. q ∷ xs) hit
-    go false e hit miss = ap (λ (b : Bool). if b then q ∷ cut_of p n qs else cut_of p (suc n) qs) e ∙ miss
+-- tests that agree everywhere cut the same
+pub cut-is : (p r : Request → Bool) → ((q : Request) → p q ≡ r q) → (n : ℕ) (qs : List Request) → cut n p qs ≡ cut n r qs
+cut-is p r same n qs = let tests : p ≡ r = λ i q. same q i in ap (λ (f : Request → Bool). cut n f qs) tests
 
-pub left-is : (p r : Request → Bool) → ((q : Request) → p q ≡ r q) → (n : ℕ) (qs : List Request) → left_of p n qs ≡ uncut n r qs
-unfolding left_of
-left-is p r same zero [] = refl
-left-is p r same zero (q ∷ qs) = refl
-left-is p r same (suc n) [] = refl
-left-is p r same (suc n) (q ∷ qs) = go (r q) (same q) (left-is p r same n qs) (left-is p r same (suc n) qs)
-  where
-    go : (b : Bool) → p q ≡ b → left_of p n qs ≡ uncut n r qs → left_of p (suc n) qs ≡ uncut (suc n) r qs → (if p q then left_of p n qs else q ∷ left_of p (suc n) qs) ≡ cond b (uncut n r qs) (q ∷ uncut (suc n) r qs)
-    go true e hit miss = ap (λ (b : Bool). if b then left_of p n qs else q ∷ left_of p (suc n) qs) e ∙ hit
-    go false e hit miss = ap (λ (b : Bool). if b then left_of p n qs else q ∷ left_of p (suc n) qs) e ∙ ap (λ xs. q ∷ xs) miss
+pub left-is : (p r : Request → Bool) → ((q : Request) → p q ≡ r q) → (n : ℕ) (qs : List Request) → uncut n p qs ≡ uncut n r qs
+left-is p r same n qs = let tests : p ≡ r = λ i q. same q i in ap (λ (f : Request → Bool). uncut n f qs) tests
 
 owner-is : (i : ℕ) (o : Option NodeId) (k : NodeId) → o ≡ Some k → is_node i o ≡ (number_of o == i)
 owner-is i o k e = ap (λ z. is_node i z) e ∙ sym (ap (λ z. number_of z == i) e)

@@ -2,10 +2,10 @@
 use Rattle.std.proofs.Common.{◌≡◌, Bool, true, false, List, [], ◌∷◌, ◌++◌, ◌||◌, length, reverse, refl, sym, ap, ◌∙◌, append_assoc}
 use Rattle.std.specs.Prelude.{fold}
 use Rattle.std.proofs.lemmas.List.{append-nil, reverse-append}
-use Rattle.iss_buckets.specs.Waiting.{without}
+use Rattle.iss_buckets.specs.Waiting.{absent}
 use Rattle.iss_ids.proofs.Members.{has_id-and_ids, has_id-append}
 use Rattle.iss_model.proofs.Casts.{joined-newer}
-use Rattle.iss_model.specs.Node.{absent, joined}
+use Rattle.iss_model.specs.Node.{joined}
 use Rattle.iss_node.specs.Growth.{and_values, waits_on}
 use Rattle.iss_node.specs.State.{SameIds}
 use Rattle.iss_request.specs.Log.{has_id, ids, log_ids, value_ids}
@@ -23,11 +23,11 @@ none-absent [] = refl
 none-absent (q ∷ qs) = ap (λ xs. q ∷ xs) (none-absent qs)
 
 -- to go without some, and then without others, is to go without all of them
-without-absent : (a b : List ReqId) (qs : List Request) → without a (absent b qs) ≡ absent (a ++ b) qs
-without-absent a b [] = refl
-without-absent a b (q ∷ qs) = go (has_id q.id b) refl (has_id q.id a) refl (without-absent a b qs) (has_id-append q.id a b)
+absent-both : (a b : List ReqId) (qs : List Request) → absent a (absent b qs) ≡ absent (a ++ b) qs
+absent-both a b [] = refl
+absent-both a b (q ∷ qs) = go (has_id q.id b) refl (has_id q.id a) refl (absent-both a b qs) (has_id-append q.id a b)
   where
-    go : (x : Bool) → has_id q.id b ≡ x → (y : Bool) → has_id q.id a ≡ y → without a (absent b qs) ≡ absent (a ++ b) qs → has_id q.id (a ++ b) ≡ (has_id q.id a || has_id q.id b) → without a (absent b (q ∷ qs)) ≡ absent (a ++ b) (q ∷ qs)
+    go : (x : Bool) → has_id q.id b ≡ x → (y : Bool) → has_id q.id a ≡ y → absent a (absent b qs) ≡ absent (a ++ b) qs → has_id q.id (a ++ b) ≡ (has_id q.id a || has_id q.id b) → absent a (absent b (q ∷ qs)) ≡ absent (a ++ b) (q ∷ qs)
     go true hb true ha more both = rw (both, ha, hb) more
     go true hb false ha more both = rw (both, ha, hb) more
     go false hb true ha more both = rw (both, ha, hb, ha) more
@@ -35,7 +35,7 @@ without-absent a b (q ∷ qs) = go (has_id q.id b) refl (has_id q.id a) refl (wi
 
 waits-absent : (v : Value) (g : List ReqId) (qs : List Request) → waits_on (absent g qs) v ≡ absent (value_ids v ++ g) qs
 waits-absent Nil g qs = refl
-waits-absent (Holds b) g qs = without-absent (ids b) g qs
+waits-absent (Holds b) g qs = absent-both (ids b) g qs
 
 turned : (v : Value) (vs : List Value) (g : List ReqId) → log_ids (reverse vs) ++ (value_ids v ++ g) ≡ log_ids (reverse (v ∷ vs)) ++ g
 turned v vs g =

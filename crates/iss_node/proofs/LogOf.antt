@@ -40,10 +40,10 @@ module _ (s : Setup) {Msg : Type 0} (m : Module Msg) (me : ℕ) (ev : ℕ → �
         | inr t ↦ rw t.0 refl
       ]
 
-  in_first : (n e : ℕ) (b : List Value) → e ≡ 0 → b ≡ [] → first_of (delivered m ((rules_of s).params b e ((rules_of s).leader b n)) me (ev e ((rules_of s).leader b n)) n) None ≡ slot_value (rules_of s) m me (ev 0) n
+  in_first : (n e : ℕ) (b : List Value) → e ≡ 0 → b ≡ [] → first_of (delivered m ((rules_of s).params b e ((rules_of s).leader b e n)) me (ev e ((rules_of s).leader b e n)) n) None ≡ slot_value (rules_of s) m me (ev 0) n
   in_first n e b he hb =
-      subst (λ (z : ℕ). first_of (delivered m ((rules_of s).params b z ((rules_of s).leader b n)) me (ev z ((rules_of s).leader b n)) n) None ≡ slot_value (rules_of s) m me (ev 0) n) (sym he)
-      (subst (λ (y : List Value). first_of (delivered m ((rules_of s).params y 0 ((rules_of s).leader y n)) me (ev 0 ((rules_of s).leader y n)) n) None ≡ slot_value (rules_of s) m me (ev 0) n) (sym hb)
+      subst (λ (z : ℕ). first_of (delivered m ((rules_of s).params b z ((rules_of s).leader b z n)) me (ev z ((rules_of s).leader b z n)) n) None ≡ slot_value (rules_of s) m me (ev 0) n) (sym he)
+      (subst (λ (y : List Value). first_of (delivered m ((rules_of s).params y 0 ((rules_of s).leader y 0 n)) me (ev 0 ((rules_of s).leader y 0 n)) n) None ≡ slot_value (rules_of s) m me (ev 0) n) (sym hb)
       (first-none (slot_value (rules_of s) m me (ev 0) n)))
 
   cell-is : (older : List Value) → length older < s.epoch → cell (rules_of s) m me (record { epoch = 0; evidence = ev; adopted = [] }) older ≡ slot_value (rules_of s) m me (ev 0) (length older)

@@ -8,10 +8,11 @@ use Rattle.iss_request.specs.Parsing.{Parser, all_of}
 use Rattle.iss_sb.specs.declared.effects.To.{To}
 
 -- what does not begin with a thing is not one whole
-pub bad-whole : {A : Type 0} (parse : List ℕ → Parsed A) (r : Reading) (bytes : List ℕ) (at : ℕ) → r ≡ record { all = bytes; at = 0 } → IsUnreadable parse r at → whole (parse bytes) ≡ None
-bad-whole parse r bytes at is h =
+pub bad-whole : {A : Type 0} (parse : ℕ → List ℕ → Parsed A) (r : Reading) (version : ℕ) (bytes : List ℕ) (at : ℕ) → r ≡ record { version = version; all = bytes; at = 0 } → IsUnreadable (parse r.version) r at → whole (parse version bytes) ≡ None
+bad-whole parse r version bytes at is h =
     let e : left r ≡ bytes = ap (λ (z : Reading). left z) is in
-    ap (λ p. whole p) (ap parse (sym e) ∙ h.found)
+    let by : r.version ≡ version = ap (λ (z : Reading). z.version) is in
+    ap (λ p. whole p) (ap (λ v. parse v bytes) (sym by) ∙ ap (λ bs. parse r.version bs) (sym e) ∙ h.found)
 
 all_of-good : {A : Type 0} (parse : Parser A) (bytes : List ℕ) (x : A) → parse bytes ≡ Good x [] → all_of parse bytes ≡ Good x []
 unfolding all_of parsing.◌>>=◌ parsing.at_end

@@ -21,7 +21,7 @@ use Rattle.iss_sb.specs.declared.effects.Input.{Input}
 use Rattle.iss_sb.specs.declared.effects.Params.{Params}
 use Rattle.iss_sb.specs.Calls.{IsTrueStep}
 use Rattle.iss_sb.specs.Evidence.{Item, Module, accepts, one_or_none}
-use Rattle.iss_sb.specs.Keys.{KeyState}
+use Rattle.iss_keys.specs.KeyStates.{KeyState}
 use Rattle.iss_sb.specs.Laws.{IsLawful}
 
 -- the judge sees the marks as a set
@@ -75,4 +75,5 @@ instance-taken m stands old ordering marked i before later e laws step marked_is
   effects = λ xs h own. step.effects old.me.0 xs h.ordering own;
   used = λ xs h own. step.used old.me.0 xs h.ordering own;
   within = step.within;
+  enough = step.enough;
 }

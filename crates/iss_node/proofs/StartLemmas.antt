@@ -1,10 +1,10 @@
 -- How a node starts, and whom a packet comes from.
-use Rattle.std.proofs.Common.{inl, inr, arith, ◌≡◌, ◌≢◌, ◌⊎◌, ℕ, zero, suc, ◌+◌, ◌<◌, Bool, true, false, List, [], ◌∷◌, ◌++◌, ◌&&◌, nat_lt, Option, Some, None, Result, Ok, Err, IfOk, IfSome, length, refl, sym, ap, ◌∙◌, subst, slice_get, length-append}
+use Rattle.std.proofs.Common.{inl, inr, arith, ◌≡◌, ◌≢◌, ◌⊎◌, ℕ, zero, suc, ◌+◌, ◌^◌, ◌<◌, Bool, true, false, List, [], ◌∷◌, ◌++◌, ◌&&◌, nat_lt, Option, Some, None, Result, Ok, Err, IfOk, IfSome, length, refl, sym, ap, ◌∙◌, subst, slice_get, length-append}
 use Rattle.std.proofs.lemmas.Bool.Decides.{nat_tests}
 use Rattle.iss_base.proofs.Lists.{in_left, in_right, same_or_not}
 use Rattle.iss_base.specs.Lists.{In}
 use Rattle.iss_layout.specs.Layout.{IsFair, Plan, node, nodes_below, plan_of, segment}
-use Rattle.iss_model.specs.Concrete.{rules_of}
+use Rattle.iss_model.specs.Concrete.{keys_of, rules_of}
 use Rattle.iss_model.specs.Runs.{IsSetupOf}
 use Rattle.iss_node.specs.Parcels.{IsFromNode}
 use Rattle.iss_node.specs.Shape.{AreStarted, IsNode}
@@ -14,7 +14,7 @@ use Rattle.iss_node.proofs.LogOf.{log-is}
 use Rattle.iss_node.specs.State.{IsInstance, NodeState, SegmentState, Stands}
 use Rattle.iss_request.specs.Log.{has_id, log_ids}
 use Rattle.iss_request.specs.declared.requests.Value.{Value}
-use Rattle.iss_keys.specs.Directories.{AreKeysOf}
+use Rattle.iss_keys.specs.Directories.{AreKeysOf, DirectoryView}
 use Rattle.iss_keys.specs.KeyStates.{KeyState}
 use Rattle.iss_node.specs.declared.parcels.Body.{Body}
 use Rattle.iss_node.specs.declared.parcels.Body.TheVariants.{Message as OfModule, Request as OfClient}
@@ -28,7 +28,7 @@ use Rattle.iss_request.specs.declared.ids.NodeId.{NodeId}
 use Rattle.iss_request.specs.declared.ids.Slot.{Slot}
 use Rattle.iss_request.specs.declared.setups.Setup.{Setup}
 use Rattle.iss_sb.specs.declared.effects.Params.{Params}
-use Rattle.iss_sb.specs.Calls.{IsGoodParams}
+use Rattle.iss_sb.specs.Calls.{AreBelow, IsGoodParams}
 use Rattle.iss_sb.specs.Evidence.{Item, Module, delivered}
 
 in-below : (n l : ℕ) → l < n → In (node l) (nodes_below n)
@@ -38,6 +38,10 @@ in-below (suc n) l lt = go (same_or_not l n) (in-below n l)
     go : (l ≡ n) ⊎ (l ≢ n) → (l < n → In (node l) (nodes_below n)) → In (node l) (nodes_below n ++ node n ∷ [])
     go (inl e) more = in_right (node l) (nodes_below n) (node n ∷ []) (inl (ap (λ (i : ℕ). node i) e))
     go (inr ne) more = let less : l < n = omega (arith, ne, lt) in in_left (node l) (nodes_below n) (node n ∷ []) (more less)
+
+below-all : (bound : ℕ) (ss : List Slot) → ((x : Slot) → In x ss → x.0 < bound) → AreBelow bound ss
+below-all bound [] h = tt
+below-all bound (x ∷ ss) h = (h x (inl refl), below-all bound ss (λ y i. h y (inr i)))
 
 pub good-params : {Msg : Type 0} (m : Module Msg) (s : Setup) (l : ℕ) → IsSetupOf m s → l < s.n → IsFair (plan_of s 0 0 []) → IsGoodParams m ((rules_of s).params [] 0 l)
 good-params m s l h lt fair = record {
@@ -50,13 +54,21 @@ good-params m s l h lt fair = record {
   some = (fair.segments l).some (in-below s.n l lt);
   few = (fair.segments l).few;
   rising = (fair.segments l).ascending;
+  slots_low = below-all (2 ^ 64) (segment (plan_of s 0 0 []) l) (λ x i.
+      let of_epoch = (((fair.segments l).slots x).0 i).0.1 in
+      let few = h.good.epoch_high in
+      omega (arith, of_epoch, few));
+  directory = refl;
 }
 
-pub good-copy : {Msg : Type 0} (m : Module Msg) (s t : Setup) (l : NodeId) (slots : List Slot) (plan : Plan) → IsSetupOf m s → l.0 < s.n → IsFair (plan_of s 0 0 []) → plan ≡ plan_of s 0 0 [] → t ≡ s → slots ≡ segment plan l.0 →
-    IsGoodParams m (record { setup = t; epoch = record { 0 = 0 }; leader = l; slots = slots })
-good-copy m s t l slots plan h lt fair plan_is t_is slots_are =
-    subst (λ (z : Setup). IsGoodParams m (record { setup = z; epoch = record { 0 = 0 }; leader = l; slots = slots })) (sym t_is)
-    (subst (λ (zs : List Slot). IsGoodParams m (record { setup = s; epoch = record { 0 = 0 }; leader = l; slots = zs })) (sym (slots_are ∙ ap (λ (p : Plan). segment p l.0) plan_is)) (good-params m s l.0 h lt fair))
+pub good-copy : {Msg : Type 0} (m : Module Msg) (s t : Setup) (l : NodeId) (slots : List Slot) (directory : DirectoryView) (plan : Plan) → IsSetupOf m s → l.0 < s.n → IsFair (plan_of s 0 0 []) → plan ≡ plan_of s 0 0 [] → t ≡ s → slots ≡ segment plan l.0 →
+    directory ≡ keys_of s → IsGoodParams m (record { setup = t; epoch = record { 0 = 0 }; leader = l; slots = slots; directory = directory })
+good-copy m s t l slots directory plan h lt fair plan_is t_is slots_are keys_are =
+    let made : Setup → List Slot → DirectoryView → Params = λ z zs d. record { setup = z; epoch = record { 0 = 0 }; leader = l; slots = zs; directory = d } in
+    let segment_is = slots_are ∙ ap (λ (p : Plan). segment p l.0) plan_is in
+    subst (λ (z : Setup). IsGoodParams m (made z slots directory)) (sym t_is)
+    (subst (λ (zs : List Slot). IsGoodParams m (made s zs directory)) (sym segment_is)
+    (subst (λ (d : DirectoryView). IsGoodParams m (made s (segment (plan_of s 0 0 []) l.0) d)) (sym keys_are) (good-params m s l.0 h lt fair)))
 
 get-append : {A : Type 0} (xs : List A) (x y : A) (k : ℕ) → slice_get (xs ++ x ∷ []) k ≡ Some y → (slice_get xs k ≡ Some y) ⊎ ((k ≡ length xs) × (x ≡ y))
 get-append [] x y zero h = inr (refl, (let e : Some x ≡ Some y = h in cc))

@@ -3,13 +3,13 @@ use Rattle.std.proofs.Common.{get_or, slice_set, inl, inr, arith, ◌≡◌, ◌
 use Rattle.std.specs.Prelude.{fold}
 use Rattle.std.proofs.lemmas.Bool.Decides.{nat_tests}
 use Rattle.std.proofs.lemmas.List.{length-reverse}
-use Rattle.std.proofs.Math.Nat.{div-eq_of_lt}
 use Rattle.iss_base.proofs.Lists.{same_or_not, set_at2-other, set_at2-same}
 use Rattle.iss_base.specs.Lists.{In, first_of, set_at2}
 use Rattle.iss_layout.specs.Layout.{IsFair, Plan, plan_of, segment, slot_leader}
 use Rattle.iss_log.specs.LogState.{LogState, value_at}
 use Rattle.iss_model.specs.Concrete.{number_of, rules_of}
-use Rattle.iss_model.specs.Node.{Formats, absent, flying, inputs, joined, packed}
+use Rattle.iss_buckets.specs.Waiting.{absent}
+use Rattle.iss_model.specs.Node.{Formats, flying, inputs, joined, packed}
 use Rattle.iss_model.specs.Past.{log_of}
 use Rattle.iss_node.proofs.GrowthLemmas.{logged-is, waiting-is}
 use Rattle.iss_node.proofs.LogOf.{log-is}
@@ -106,8 +106,7 @@ module _ (s : Setup) (fair : IsFair (plan_of s 0 0 [])) where
   own-slot k l h =
       let both = ((fair.segments l).slots (record { 0 = k })).0 h in
       let lt : k < s.epoch = omega (arith, both.0.1) in
-      let first : k / s.epoch ≡ 0 = div-eq_of_lt lt in
-      (lt, ap (λ (e : ℕ). number_of (slot_leader (plan_of s e []) k)) first ∙ ap (λ (o : Option NodeId). number_of o) both.1)
+      (lt, ap (λ (o : Option NodeId). number_of o) both.1)
 
 -- ---- the node
 
@@ -170,7 +169,7 @@ module _ {M Msg : Type 0} (m : Module Msg) (stands : M → Params → ℕ → Li
       go (inl q) =
           grown.values k
           ∙ ap (λ (o : Option Value). first_of o (given e.delivers k)) (tied.cells k lt ∙ ap (λ (i : ℕ). delivered m ((rules_of v.setup).params [] 0 i) v.me.0 (ev 0 i) k) q)
-          ∙ slot-next m ((rules_of v.setup).params [] 0 l) v.me.0 (ev 0 l) (record { input = input; made = m.makes ((rules_of v.setup).params [] 0 l) v.me.0 (ev 0 l) input v.keys.used }) e.delivers k
+          ∙ slot-next m ((rules_of v.setup).params [] 0 l) v.me.0 (ev 0 l) (record { input = input; leaf = v.keys.used; made = m.makes ((rules_of v.setup).params [] 0 l) v.me.0 (ev 0 l) input v.keys.used }) e.delivers k
           (λ x i. (took.delivers.exactly (record { 0 = k }) x).0 i)
           (λ x d n. (took.delivers.exactly (record { 0 = k }) x).1 (d, n))
           ∙ sym (ap (λ (ys : List (Item Msg)). delivered m ((rules_of v.setup).params [] 0 l) v.me.0 ys k) (set_at2-same ev 0 l (and_then m ((rules_of v.setup).params [] 0 l) v.me.0 (ev 0 l) input v.keys.used)))

@@ -1,7 +1,7 @@
 -- How a log grows by deliveries, and what that does to a node's requests.
 use Rattle.std.specs.Prelude.{◌≡◌, ℕ, List, ◌++◌, length, None}
 use Rattle.iss_base.specs.Lists.{first_of}
-use Rattle.iss_buckets.specs.Waiting.{without}
+use Rattle.iss_buckets.specs.Waiting.{absent}
 use Rattle.iss_ids.specs.Set.{and_ids}
 use Rattle.iss_log.specs.LogState.{LogState, value_at}
 use Rattle.iss_node.specs.Cells.{given}
@@ -23,7 +23,7 @@ pub record IsGrown (old : LogState) (ds : List (Slot × Value)) (new : LogState)
 -- the requests that wait once a value is in the log, and the identities of the log with it
 abbrev pub waits_on : List Request → Value → List Request
 waits_on qs Nil = qs
-waits_on qs (Holds b) = without (ids b) qs
+waits_on qs (Holds b) = absent (ids b) qs
 
 abbrev pub and_values : List ReqId → Value → List ReqId
 and_values xs Nil = xs

@@ -18,7 +18,8 @@ pub record IsNode {M Msg : Type 0} (m : Module Msg) (plan : Plan) (v : NodeState
   pub node : (l : ℕ) (g : SegmentState M) → slice_get v.segments l ≡ Some g → g.me ≡ v.me
 
 -- the instances of the first so many leaders, none of which has taken anything
-pub record AreStarted {M Msg : Type 0} (stands : M → Params → ℕ → List (Item Msg) → Type 0) (s : Setup) (me : NodeId) (leaders : ℕ) (gs : List (SegmentState M)) : Type 0 where
+pub record AreStarted {M Msg : Type 0} (stands : M → Params → ℕ → List (Item Msg) → Type 0)
+    (s : Setup) (me : NodeId) (leaders : ℕ) (gs : List (SegmentState M)) : Type 0 where
   pub as_many : length gs ≡ leaders
   pub params_are : (l : ℕ) (g : SegmentState M) → slice_get gs l ≡ Some g → g.params ≡ (rules_of s).params [] 0 l
   pub node_is : (l : ℕ) (g : SegmentState M) → slice_get gs l ≡ Some g → g.me ≡ me

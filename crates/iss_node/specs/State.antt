@@ -66,7 +66,8 @@ pub record IsInstance {M Msg : Type 0} (stands : M → Params → ℕ → List (
   pub marked : SameIds g.marked (marks (accepts xs))
 
 -- the node's parts stand for the evidence
-pub record IsTied {M Msg : Type 0} (m : Module Msg) (stands : M → Params → ℕ → List (Item Msg) → Type 0) (v : NodeState M) (evidence : ℕ → ℕ → List (Item Msg)) : Type 0 where
+pub record IsTied {M Msg : Type 0} (m : Module Msg) (stands : M → Params → ℕ → List (Item Msg) → Type 0)
+    (v : NodeState M) (evidence : ℕ → ℕ → List (Item Msg)) : Type 0 where
   pub instances : (l : ℕ) (g : SegmentState M) → slice_get v.segments l ≡ Some g → IsInstance stands g (evidence 0 l)
   pub cells : (s : ℕ) → s < v.setup.epoch → value_at v.log s ≡ slot_value (rules_of v.setup) m v.me.0 (evidence 0) s
   pub outside : (s : ℕ) → v.setup.epoch ≤ s → value_at v.log s ≡ None

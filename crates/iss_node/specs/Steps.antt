@@ -14,7 +14,8 @@ use Rattle.iss_sb.specs.Evidence.{Item, Module}
 
 -- the event was taken: the node stands for the core after the step, and hands out what the step sends, all of it to
 -- nodes
-pub record IsTurn {M Msg : Type 0} (m : Module Msg) (stands : M → Params → ℕ → List (Item Msg) → Type 0) (stepped : Stepped Msg) (new : NodeState M) (outcome : Outcome) : Type 0 where
+pub record IsTurn {M Msg : Type 0} (m : Module Msg) (stands : M → Params → ℕ → List (Item Msg) → Type 0)
+    (stepped : Stepped Msg) (new : NodeState M) (outcome : Outcome) : Type 0 where
   pub turn : Turn Msg
   pub step_is : stepped ≡ Was_taken turn
   pub stands_for : Stands m stands new turn.core
@@ -22,7 +23,8 @@ pub record IsTurn {M Msg : Type 0} (m : Module Msg) (stands : M → Params → �
   pub addressed : AreToNodes new.setup.n outcome.sends
 
 -- an input was taken: the same, of the turn that it makes
-pub record IsInputTurn {M Msg : Type 0} (m : Module Msg) (stands : M → Params → ℕ → List (Item Msg) → Type 0) (turn : Turn Msg) (new : NodeState M) (outcome : Outcome) : Type 0 where
+pub record IsInputTurn {M Msg : Type 0} (m : Module Msg) (stands : M → Params → ℕ → List (Item Msg) → Type 0)
+    (turn : Turn Msg) (new : NodeState M) (outcome : Outcome) : Type 0 where
   pub stands_for : Stands m stands new turn.core
   pub sends : outcome.sends ≡ turn.sends
   pub addressed : AreToNodes new.setup.n outcome.sends
@@ -34,7 +36,8 @@ IsNodeInput n (Receive from msg) = from.0 < n
 IsNodeInput n Timeout = Unit {0}
 
 -- the event was dropped: nothing has changed
-pub record IsDrop {M Msg : Type 0} (m : Module Msg) (stands : M → Params → ℕ → List (Item Msg) → Type 0) (c : Core Msg) (stepped : Stepped Msg) (new : NodeState M) (why : Why) : Type 0 where
+pub record IsDrop {M Msg : Type 0} (m : Module Msg) (stands : M → Params → ℕ → List (Item Msg) → Type 0) (c : Core Msg)
+    (stepped : Stepped Msg) (new : NodeState M) (why : Why) : Type 0 where
   pub step_is : stepped ≡ Not_taken why
   pub stands_for : Stands m stands new c
 

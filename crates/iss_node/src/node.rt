@@ -1,5 +1,6 @@
 //! The node.
-ghost use Rattle.std.specs.Prelude.{◌≡◌, ◌==◌, ◌<◌, ◌≤◌, ◌++◌, ◌∷◌, ℕ, List, [], IfOk, IsTrue, OnOk, drop, false, length, reverse};
+ghost use Rattle.std.specs.Prelude.{◌≡◌, ◌==◌, ◌<◌, ◌≤◌, ◌++◌, ◌∷◌};
+ghost use Rattle.std.specs.Prelude.{ℕ, List, [], IfOk, IsTrue, OnOk, drop, false, length, reverse};
 ghost use Rattle.iss_model.specs.Concrete.{keys_of, rules_of};
 ghost use Rattle.iss_model.specs.Formats.{formats_of};
 ghost use Rattle.iss_layout.specs.Layout.{leads, plan_of};
@@ -56,9 +57,27 @@ impl<M: Sequenced> Model for Node<M> {
 
     ghost Value = { NodeState M };
 
-    ghost view = { λ v. record { setup = v.setup; me = v.me; segments = v.segments.items; log = v.log; waiting = v.waiting; flight = v.flight.items; logged = v.logged; keys = v.keys } };
+    ghost view = { λ v. record {
+      setup = v.setup;
+      me = v.me;
+      segments = v.segments.items;
+      log = v.log;
+      waiting = v.waiting;
+      flight = v.flight.items;
+      logged = v.logged;
+      keys = v.keys;
+    } };
 
-    ghost invariant = { λ v. IsNode M.meaning v.layout (record { setup = v.setup; me = v.me; segments = v.segments.items; log = v.log; waiting = v.waiting; flight = v.flight.items; logged = v.logged; keys = v.keys }) };
+    ghost invariant = { λ v. IsNode M.meaning v.layout (record {
+      setup = v.setup;
+      me = v.me;
+      segments = v.segments.items;
+      log = v.log;
+      waiting = v.waiting;
+      flight = v.flight.items;
+      logged = v.logged;
+      keys = v.keys;
+    }) };
 }
 
 impl<M: Sequenced> Node<M> {
@@ -96,7 +115,8 @@ impl<M: Sequenced> Node<M> {
     /// Takes an event. Where it is dropped nothing changes; after want of memory nothing is promised.
     pub fn take(&mut self, alloc: Global, event: NodeEvent) -> Answer
         ensures answer { (c : Core M.Msg) → Stands M.meaning M.stands self.old c →
-            IsAnswer M.meaning M.stands c (step (formats_of self.old.setup M.meaning) (rules_of self.old.setup) M.meaning self.old.me.0 c event) self.new result }
+            IsAnswer M.meaning M.stands c
+                (step (formats_of self.old.setup M.meaning) (rules_of self.old.setup) M.meaning self.old.me.0 c event) self.new result }
         ensures same { (self.new.setup ≡ self.old.setup) × (self.new.me ≡ self.old.me) }
     {
         match event {
@@ -109,7 +129,9 @@ impl<M: Sequenced> Node<M> {
     // Takes bytes that came.
     fn take_bytes(&mut self, alloc: Global, bytes: &Bytes) -> Answer
         ensures answer { (c : Core M.Msg) → Stands M.meaning M.stands self.old c →
-            IsAnswer M.meaning M.stands c (takes_bytes (formats_of self.old.setup M.meaning) (rules_of self.old.setup) M.meaning self.old.me.0 c ((formats_of self.old.setup M.meaning).unwrap bytes.now)) self.new result }
+            IsAnswer M.meaning M.stands c
+                (takes_bytes (formats_of self.old.setup M.meaning) (rules_of self.old.setup) M.meaning self.old.me.0 c
+                    ((formats_of self.old.setup M.meaning).unwrap bytes.now)) self.new result }
         ensures same { (self.new.setup ≡ self.old.setup) × (self.new.me ≡ self.old.me) }
     {
         match unwrap::<M>(alloc, &self.setup, bytes.as_slice()) {
@@ -123,7 +145,9 @@ impl<M: Sequenced> Node<M> {
     fn take_parcel(&mut self, alloc: Global, parcel: Parcel<M::Msg>) -> Answer
         requires { IsFromNode self.old.setup.n parcel }
         ensures answer { (c : Core M.Msg) → Stands M.meaning M.stands self.old c →
-            IsAnswer M.meaning M.stands c (takes_parcel (formats_of self.old.setup M.meaning) (rules_of self.old.setup) M.meaning self.old.me.0 c parcel.from.0 parcel.epoch.0 (seen_body parcel.body)) self.new result }
+            IsAnswer M.meaning M.stands c
+                (takes_parcel (formats_of self.old.setup M.meaning) (rules_of self.old.setup) M.meaning self.old.me.0 c
+                    parcel.from.0 parcel.epoch.0 (seen_body parcel.body)) self.new result }
         ensures same { (self.new.setup ≡ self.old.setup) × (self.new.me ≡ self.old.me) }
     {
         let Parcel { from, epoch, body } = parcel;
@@ -161,7 +185,8 @@ impl<M: Sequenced> Node<M> {
     // Casts a batch of waiting requests at the next slot that is free for it.
     fn propose(&mut self, alloc: Global) -> Answer
         ensures answer { (c : Core M.Msg) → Stands M.meaning M.stands self.old c →
-            IsAnswer M.meaning M.stands c (step (formats_of self.old.setup M.meaning) (rules_of self.old.setup) M.meaning self.old.me.0 c NodeEvent.Propose) self.new result }
+            IsAnswer M.meaning M.stands c
+                (step (formats_of self.old.setup M.meaning) (rules_of self.old.setup) M.meaning self.old.me.0 c NodeEvent.Propose) self.new result }
         ensures same { (self.new.setup ≡ self.old.setup) × (self.new.me ≡ self.old.me) }
     {
         if !self.leads(self.me) {
@@ -194,7 +219,9 @@ impl<M: Sequenced> Node<M> {
     // Casts at a slot, which no test refuses.
     fn cast(&mut self, alloc: Global, slot: Slot) -> Result<Outcome, NoMemory>
         ensures taken { IfOk result (λ outcome. (evidence : ℕ → ℕ → List (Item M.Msg)) → IsTied M.meaning M.stands self.old evidence →
-            IsInputTurn M.meaning M.stands (casting (formats_of self.old.setup M.meaning) (rules_of self.old.setup) M.meaning self.old.me.0 (core_of self.old evidence) slot) self.new outcome) }
+            IsInputTurn M.meaning M.stands
+                (casting (formats_of self.old.setup M.meaning) (rules_of self.old.setup)
+                    M.meaning self.old.me.0 (core_of self.old evidence) slot) self.new outcome) }
         ensures same { (self.new.setup ≡ self.old.setup) × (self.new.me ≡ self.old.me) }
     {
         let batch = self.cut(alloc, slot)?;
@@ -267,7 +294,8 @@ impl<M: Sequenced> Node<M> {
         requires leader { leader.0 < self.now.setup.n }
         requires input { IsNodeInput self.now.setup.n input.now }
         ensures { (evidence : ℕ → ℕ → List (Item M.Msg)) → IsTied M.meaning M.stands self.now evidence →
-            result ≡ verdict (rules_of self.now.setup) [] 0 leader.0 (accepts (evidence 0 leader.0)) (M.meaning.asks ((rules_of self.now.setup).params [] 0 leader.0) self.now.me.0 (evidence 0 leader.0) input.now) }
+            result ≡ verdict (rules_of self.now.setup) [] 0 leader.0 (accepts (evidence 0 leader.0))
+                (M.meaning.asks ((rules_of self.now.setup).params [] 0 leader.0) self.now.me.0 (evidence 0 leader.0) input.now) }
     {
         let segment = &self.segments[leader.0 as usize];
         segment.refusal(&self.layout, input)
@@ -277,7 +305,8 @@ impl<M: Sequenced> Node<M> {
     fn at_instance(&mut self, alloc: Global, leader: NodeId, input: Input<M::Msg>) -> Answer
         requires { IsNodeInput self.old.setup.n input }
         ensures answer { (c : Core M.Msg) → Stands M.meaning M.stands self.old c →
-            IsAnswer M.meaning M.stands c (at_instance (formats_of self.old.setup M.meaning) (rules_of self.old.setup) M.meaning self.old.me.0 c leader.0 input) self.new result }
+            IsAnswer M.meaning M.stands c
+                (at_instance (formats_of self.old.setup M.meaning) (rules_of self.old.setup) M.meaning self.old.me.0 c leader.0 input) self.new result }
         ensures same { (self.new.setup ≡ self.old.setup) × (self.new.me ≡ self.old.me) }
     {
         if !self.leads(leader) {
@@ -305,7 +334,9 @@ impl<M: Sequenced> Node<M> {
         requires leader { leader.0 < self.old.setup.n }
         requires input { IsNodeInput self.old.setup.n input }
         ensures taken { IfOk result (λ outcome. (evidence : ℕ → ℕ → List (Item M.Msg)) → IsTied M.meaning M.stands self.old evidence →
-            IsInputTurn M.meaning M.stands (inputs (formats_of self.old.setup M.meaning) (rules_of self.old.setup) M.meaning self.old.me.0 (core_of self.old evidence) leader.0 input) self.new outcome) }
+            IsInputTurn M.meaning M.stands
+                (inputs (formats_of self.old.setup M.meaning) (rules_of self.old.setup)
+                    M.meaning self.old.me.0 (core_of self.old evidence) leader.0 input) self.new outcome) }
         ensures same { (self.new.setup ≡ self.old.setup) × (self.new.me ≡ self.old.me) }
     {
         epochs_are_fair();

@@ -169,7 +169,8 @@ fn wrap<M: Sequenced>(
     leader: NodeId,
     msg: &M::Msg,
 ) -> Result<Bytes, NoMemory>
-    ensures { IfOk result (λ bytes. (s : Setup) → s.version ≡ version → bytes ≡ (formats_of s M.meaning).wrap (record { from = me.0; epoch = 0; body = OfModule leader.0 msg.now })) }
+    ensures { IfOk result (λ bytes. (s : Setup) → s.version ≡ version →
+        bytes ≡ (formats_of s M.meaning).wrap (record { from = me.0; epoch = 0; body = OfModule leader.0 msg.now })) }
 {
     let mut out = Writer::new(alloc, version);
     M::encode(msg, &mut out)?;

@@ -8,6 +8,7 @@ use Rattle.iss_world.specs.Stands.{StandsFor}
 use Rattle.iss_world.specs.State.{WorldState}
 
 -- the world stands for the net, and the losses are the progress', oldest first
-pub record StandsForRun {M Msg : Type 0} (m : Module Msg) (stands : M → Params → ℕ → List (Item Msg) → Type 0) (world : WorldState M) (drops : List (ℕ × Why)) (p : Progress Msg) : Type 0 where
+pub record StandsForRun {M Msg : Type 0} (m : Module Msg) (stands : M → Params → ℕ → List (Item Msg) → Type 0)
+    (world : WorldState M) (drops : List (ℕ × Why)) (p : Progress Msg) : Type 0 where
   pub stands_for : StandsFor m stands world p.net
   pub drops_are : reverse drops ≡ p.drops

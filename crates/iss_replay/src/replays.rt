@@ -35,7 +35,8 @@ pub fn replay<M: Sequenced>(alloc: Global, schedule: &Schedule) -> Result<Report
     requires range { AreInRange schedule.now.setup schedule.now.events }
     ensures run { IfOk result (λ r. StandsForRun M.meaning M.stands r.world r.drops (run_of schedule.now.setup M.meaning schedule.now.events)) }
     ensures same { IfOk result (λ r. r.world.setup ≡ schedule.now.setup) }
-    ensures one_log { M.meaning.stopping ≡ true → IsSeparateRun schedule.now.setup M.meaning schedule.now.events → IsOneLog schedule.now.setup M.meaning schedule.now.events }
+    ensures one_log { M.meaning.stopping ≡ true → IsSeparateRun schedule.now.setup M.meaning schedule.now.events →
+        IsOneLog schedule.now.setup M.meaning schedule.now.events }
     ensures grows { M.meaning.stopping ≡ true → OnlyGrows schedule.now.setup M.meaning schedule.now.events }
 {
     composition::<M>();
@@ -70,7 +71,8 @@ fn go_on<M: Sequenced>(
     requires range { IsInRange world.old.setup event.now }
     requires standing { IsStanding M.meaning M.stands world.old }
     ensures went { OnOk result ((p : Progress M.Msg) → p.event ≡ number → StandsForRun M.meaning M.stands world.old drops.old p →
-        StandsForRun M.meaning M.stands world.new drops.new (goes_on world.old.setup (formats_of world.old.setup M.meaning) (rules_of world.old.setup) M.meaning p event.now)) }
+        StandsForRun M.meaning M.stands world.new drops.new
+            (goes_on world.old.setup (formats_of world.old.setup M.meaning) (rules_of world.old.setup) M.meaning p event.now)) }
     ensures same { world.new.setup ≡ world.old.setup }
 {
     let happened = world.event(alloc, event)?;

@@ -22,7 +22,8 @@ use std::alloc::Global;
 /// The text of a report: a line for each event that was lost, each node's block, and the last line. Where it is the
 /// report of a schedule, its logs are of one log, as `replay` says.
 pub fn text<M: Sequenced>(alloc: Global, report: &Report<M>) -> Result<Bytes, NoMemory>
-    ensures tells { IfOk result (λ bytes. (p : Progress M.Msg) → StandsForRun M.meaning M.stands report.now.world report.now.drops p → bytes ≡ text_of report.now.world.setup M.meaning p) }
+    ensures tells { IfOk result (λ bytes. (p : Progress M.Msg) → StandsForRun M.meaning M.stands report.now.world report.now.drops p →
+        bytes ≡ text_of report.now.world.setup M.meaning p) }
     ensures reports { IfOk result (λ bytes. IsSetupOf M.meaning report.now.world.setup → (events : List Event) → AreInRange report.now.world.setup events →
         StandsForRun M.meaning M.stands report.now.world report.now.drops (run_of report.now.world.setup M.meaning events) →
         IsReport report.now.world.setup M.meaning events bytes) }
@@ -34,7 +35,8 @@ pub fn text<M: Sequenced>(alloc: Global, report: &Report<M>) -> Result<Bytes, No
 
 // Writes the text.
 fn write<M: Sequenced>(alloc: Global, report: &Report<M>) -> Result<Bytes, NoMemory>
-    ensures { IfOk result (λ bytes. (p : Progress M.Msg) → StandsForRun M.meaning M.stands report.now.world report.now.drops p → bytes ≡ text_of report.now.world.setup M.meaning p) }
+    ensures { IfOk result (λ bytes. (p : Progress M.Msg) → StandsForRun M.meaning M.stands report.now.world report.now.drops p →
+        bytes ≡ text_of report.now.world.setup M.meaning p) }
 {
     let mut out = Vec::new(alloc);
     put_drops(&mut out, report.drops.as_slice())?;
@@ -55,7 +57,8 @@ fn put_drops(out: &mut Vec<u8>, drops: &[(u64, Why)]) -> Result<(), NoMemory>
 
 // Writes the block of each node, ascending.
 fn put_nodes<M: Sequenced>(out: &mut Vec<u8>, world: &World<M>) -> Result<(), NoMemory>
-    ensures { OnOk result ((w : Net M.Msg) → StandsFor M.meaning M.stands world.now w → out.new.items ≡ out.old.items ++ node_blocks world.now.setup M.meaning w world.now.setup.n) }
+    ensures { OnOk result ((w : Net M.Msg) → StandsFor M.meaning M.stands world.now w →
+        out.new.items ≡ out.old.items ++ node_blocks world.now.setup M.meaning w world.now.setup.n) }
 {
     let nodes = world.setup().n;
     for node in 0..nodes {

@@ -136,7 +136,7 @@ relay_parts : (s : Setup) → IsRelay s → s ≡ parts 1 1 s.f s.epoch s.bucket
 unfolding parts
 relay_parts s r =
     let kind = r.good.relay_kind r.relay in
-    ap (λ x. parts x s.«module» s.f s.epoch s.buckets s.batch s.window s.policy s.clients s.keys s.faulty s.n s.quorum s.kind s.tag) r.good.version
+    ap (λ v. parts v s.module s.f s.epoch s.buckets s.batch s.window s.policy s.clients s.keys s.faulty s.n s.quorum s.kind s.tag) r.good.version
     ∙ ap (λ x. parts 1 x s.f s.epoch s.buckets s.batch s.window s.policy s.clients s.keys s.faulty s.n s.quorum s.kind s.tag) r.relay
     ∙ ap (λ (x : Policy). parts 1 1 s.f s.epoch s.buckets s.batch s.window x s.clients s.keys s.faulty s.n s.quorum s.kind s.tag) r.good.simple
     ∙ ap (λ (x : List NodeId). parts 1 1 s.f s.epoch s.buckets s.batch s.window Simple s.clients s.keys x s.n s.quorum s.kind s.tag) (none_faulty s kind r.good.few_faulty)

@@ -25,7 +25,7 @@ use Rattle.iss_sb.specs.declared.effects.To.{To}
 use Rattle.iss_request.specs.declared.setups.Kind.TheVariants.{Byzantine}
 use Rattle.iss_sb.specs.Calls.{AreToNodes, kind_of}
 use Rattle.iss_sb.specs.Evidence.{Item, Module}
-use Rattle.iss_sb.specs.Keys.{KeyState}
+use Rattle.iss_keys.specs.KeyStates.{KeyState}
 use Rattle.iss_world.proofs.PostLemmas.{take-next}
 use Rattle.iss_world.specs.Shape.{AreForCores, IsNetworkOf, IsWorld}
 use Rattle.iss_world.specs.Stands.{AreFresh, HasHappened, IsFresh, StandsFor}

@@ -21,7 +21,8 @@ cause_of Done = None
 cause_of (Lost why) = Some why
 
 -- the world stands for what the event led to, and the cause is the event's
-pub record HasHappened {M Msg : Type 0} (m : Module Msg) (stands : M → Params → ℕ → List (Item Msg) → Type 0) (v : WorldState M) (h : Happening Msg) (r : Happened) : Type 0 where
+pub record HasHappened {M Msg : Type 0} (m : Module Msg) (stands : M → Params → ℕ → List (Item Msg) → Type 0)
+    (v : WorldState M) (h : Happening Msg) (r : Happened) : Type 0 where
   pub stands_for : StandsFor m stands v h.net
   pub lost : cause_of r ≡ h.lost
 
@@ -36,6 +37,7 @@ pub record IsFresh {M Msg : Type 0} (m : Module Msg) (stands : M → Params → 
   pub place : g.me.0 ≡ me
 
 -- the first n nodes, none of which has taken anything
-pub record AreFresh {M Msg : Type 0} (m : Module Msg) (stands : M → Params → ℕ → List (Item Msg) → Type 0) (s : Setup) (n : ℕ) (nodes : List (NodeState M)) : Type 0 where
+pub record AreFresh {M Msg : Type 0} (m : Module Msg) (stands : M → Params → ℕ → List (Item Msg) → Type 0)
+    (s : Setup) (n : ℕ) (nodes : List (NodeState M)) : Type 0 where
   pub count : length nodes ≡ n
   pub each : (i : ℕ) (g : NodeState M) → slice_get nodes i ≡ Some g → IsFresh m stands s i g

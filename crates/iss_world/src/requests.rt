@@ -19,7 +19,8 @@ pub fn request_packet<M: Sequenced>(
     payload: &Bytes,
 ) -> Result<Bytes, NoMemory>
     requires { setup.now.keys ≤ 12 }
-    ensures { IfOk result (λ bytes. bytes ≡ (formats_of setup.now M.meaning).wrap (record { from = 255; epoch = 0; body = OfRequest (request_of setup.now client number payload.now) })) }
+    ensures { IfOk result (λ bytes.
+        bytes ≡ (formats_of setup.now M.meaning).wrap (record { from = 255; epoch = 0; body = OfRequest (request_of setup.now client number payload.now) })) }
 {
     let request = Request {
         id: ReqId { client, number },
@@ -35,7 +36,8 @@ fn wrapped<M: Sequenced>(
     version: u8,
     request: &Request,
 ) -> Result<Bytes, NoMemory>
-    ensures { IfOk result (λ bytes. (s : Setup) → s.version ≡ version → bytes ≡ (formats_of s M.meaning).wrap (record { from = 255; epoch = 0; body = OfRequest request.now })) }
+    ensures { IfOk result (λ bytes. (s : Setup) → s.version ≡ version →
+        bytes ≡ (formats_of s M.meaning).wrap (record { from = 255; epoch = 0; body = OfRequest request.now })) }
 {
     let mut body = Writer::new(alloc, version);
     write_request(request, &mut body)?;

@@ -71,7 +71,8 @@ impl<M: Sequenced> World<M> {
         requires range { IsInRange self.old.setup event.now }
         requires standing { IsStanding M.meaning M.stands self.old }
         ensures happened { IfOk result (λ h. (w : Net M.Msg) → StandsFor M.meaning M.stands self.old w →
-            HasHappened M.meaning M.stands self.new (happens self.old.setup (formats_of self.old.setup M.meaning) (rules_of self.old.setup) M.meaning w event.now) h) }
+            HasHappened M.meaning M.stands self.new
+                (happens self.old.setup (formats_of self.old.setup M.meaning) (rules_of self.old.setup) M.meaning w event.now) h) }
         ensures same { self.new.setup ≡ self.old.setup }
     {
         match event {
@@ -107,7 +108,8 @@ impl<M: Sequenced> World<M> {
         requires core { core < self.old.setup.n }
         requires standing { IsStanding M.meaning M.stands self.old }
         ensures happened { IfOk result (λ h. (w : Net M.Msg) → StandsFor M.meaning M.stands self.old w →
-            HasHappened M.meaning M.stands self.new (at_core self.old.setup.n (formats_of self.old.setup M.meaning) (rules_of self.old.setup) M.meaning w core event) h) }
+            HasHappened M.meaning M.stands self.new
+                (at_core self.old.setup.n (formats_of self.old.setup M.meaning) (rules_of self.old.setup) M.meaning w core event) h) }
         ensures same { self.new.setup ≡ self.old.setup }
     {
         match self.nodes[core as usize].take(alloc, event) {
@@ -137,7 +139,9 @@ impl<M: Sequenced> World<M> {
         requires core { core < self.old.setup.n }
         requires standing { IsStanding M.meaning M.stands self.old }
         ensures happened { IfOk result (λ h. (w : Net M.Msg) → StandsFor M.meaning M.stands self.old w →
-            HasHappened M.meaning M.stands self.new (happens self.old.setup (formats_of self.old.setup M.meaning) (rules_of self.old.setup) M.meaning w (Event.Request core client number payload.now)) h) }
+            HasHappened M.meaning M.stands self.new
+                (happens self.old.setup (formats_of self.old.setup M.meaning) (rules_of self.old.setup) M.meaning w
+                (Event.Request core client number payload.now)) h) }
         ensures same { self.new.setup ≡ self.old.setup }
     {
         let packet = request_packet::<M>(alloc, &self.setup, client, number, payload)?;
@@ -148,7 +152,8 @@ impl<M: Sequenced> World<M> {
     fn deliver(&mut self, alloc: Global, packet: u64) -> Result<Happened, NoMemory>
         requires { IsStanding M.meaning M.stands self.old }
         ensures happened { IfOk result (λ h. (w : Net M.Msg) → StandsFor M.meaning M.stands self.old w →
-            HasHappened M.meaning M.stands self.new (delivers self.old.setup.n (formats_of self.old.setup M.meaning) (rules_of self.old.setup) M.meaning w packet) h) }
+            HasHappened M.meaning M.stands self.new
+                (delivers self.old.setup.n (formats_of self.old.setup M.meaning) (rules_of self.old.setup) M.meaning w packet) h) }
         ensures same { self.new.setup ≡ self.old.setup }
     {
         let Some(sent) = self.network.packet(packet) else {
@@ -193,7 +198,8 @@ impl<M: Sequenced> World<M> {
     fn deliver_each(&mut self, alloc: Global, packets: &[u64]) -> Result<(), NoMemory>
         requires { IsStanding M.meaning M.stands self.old }
         ensures taken { OnOk result ((w : Net M.Msg) → StandsFor M.meaning M.stands self.old w →
-            StandsFor M.meaning M.stands self.new (delivers_each self.old.setup.n (formats_of self.old.setup M.meaning) (rules_of self.old.setup) M.meaning w packets.now)) }
+            StandsFor M.meaning M.stands self.new
+                (delivers_each self.old.setup.n (formats_of self.old.setup M.meaning) (rules_of self.old.setup) M.meaning w packets.now)) }
         ensures same { self.new.setup ≡ self.old.setup }
     {
         for packet in packets {
@@ -256,7 +262,8 @@ impl<M: Sequenced> World<M> {
         requires core { core < self.old.setup.n }
         requires standing { IsStanding M.meaning M.stands self.old }
         ensures happened { IfOk result (λ h. (w : Net M.Msg) → StandsFor M.meaning M.stands self.old w →
-            HasHappened M.meaning M.stands self.new (injects self.old.setup.n (formats_of self.old.setup M.meaning) (rules_of self.old.setup) M.meaning w core bytes.now) h) }
+            HasHappened M.meaning M.stands self.new
+                (injects self.old.setup.n (formats_of self.old.setup M.meaning) (rules_of self.old.setup) M.meaning w core bytes.now) h) }
         ensures same { self.new.setup ≡ self.old.setup }
     {
         let _ = &self.setup;
