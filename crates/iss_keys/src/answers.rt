@@ -1,7 +1,7 @@
 //! Answers that are remembered. A signature goes round with what it signs, so the same question is asked
 //! again and again: each answer is walked to once, and found later by all bytes of its question.
 
-ghost use Rattle.std.specs.Prelude.{◌≡◌, ◌↔◌, ℕ, ◌<◌, length, slice_get, IfOk, IfSome, IsSome, IsTrue};
+ghost use Rattle.std.specs.Prelude.{◌≡◌, ◌↔◌, ℕ, ◌*◌, ◌<◌, ◌≤◌, length, slice_get, IfOk, IfSome, IsSome, IsTrue};
 ghost use Rattle.iss_keys.specs.Signatures.{Verifies};
 ghost use Rattle.iss_keys.specs.Questions.{Question};
 
@@ -9,9 +9,6 @@ use crate::verification::{PublicKey, verify};
 use std::alloc::{AllocError, AllocFailed, Global};
 use std::cell::RefCell;
 use std::marker::Model;
-
-// How many answers are remembered at most, in sets of four: a power of two.
-const PLACES: usize = 1024;
 
 // How many answers the questions of one hash have room for.
 const SET: usize = 4;
@@ -75,6 +72,17 @@ impl Answer {
     }
 }
 
+// How many sets there are among so many nodes. One message can bring the signatures of a quorum for each of
+// 64 slots, for each node of a quorum: there is room for twice as many, up to 16,384.
+fn sets_for(n: usize) -> usize
+    ensures low { 1 ≤ result }
+    ensures high { result ≤ 8192 }
+{
+    let quorum = 2 * (n.min(40) / 3) + 1;
+    let places = (128 * quorum * quorum).clamp(1024, 16_384);
+    places.next_power_of_two() / SET
+}
+
 // Goes on with a hash (FNV-1a) over up to `most` bytes.
 fn hash_on(hash: u64, bytes: &[u8], most: usize) -> u64 {
     let mut hash = hash;
@@ -86,13 +94,15 @@ fn hash_on(hash: u64, bytes: &[u8], most: usize) -> u64 {
 
 // Where the set of a question begins. Questions of different sets differ; whoever wants can make many
 // share one, and only the last few are then remembered.
-fn set_of(key: &PublicKey, statement: &[u8], signature: &[u8]) -> usize
-    ensures { result < 1024 }
+fn set_of(sets: usize, key: &PublicKey, statement: &[u8], signature: &[u8]) -> usize
+    requires low { 1 ≤ sets }
+    requires high { sets ≤ 8192 }
+    ensures { result < 4 * sets }
 {
     let hash = hash_on(0xcbf2_9ce4_8422_2325, &key.root(), 8);
     let hash = hash_on(hash, statement, 64);
     let hash = hash_on(hash, signature, 69);
-    (hash ^ (hash >> 32)) as usize % (PLACES / SET) * SET
+    (hash ^ (hash >> 32)) as usize % sets * SET
 }
 
 // The answer to a question, if it is among these.
@@ -126,8 +136,11 @@ fn put_first(answers: &mut [Option<Answer>], answer: Answer)
 }
 
 // Fills up the places with no answer, as far as memory goes.
-fn fill_places(places: &mut Vec<Option<Answer>>) -> Result<(), AllocFailed<Option<Answer>>> {
-    for _i in places.len()..PLACES {
+fn fill_places(
+    places: &mut Vec<Option<Answer>>,
+    most: usize,
+) -> Result<(), AllocFailed<Option<Answer>>> {
+    for _i in places.len()..most {
         places.push(None)?;
     }
     Ok(())
@@ -137,13 +150,15 @@ fn fill_places(places: &mut Vec<Option<Answer>>) -> Result<(), AllocFailed<Optio
 /// answer is not remembered.
 #[derive(Drop)]
 pub struct Answers {
+    n: usize,
     places: RefCell<Vec<Option<Answer>>>,
 }
 
 impl Answers {
-    /// No answers yet.
-    pub fn new(alloc: Global) -> Answers {
+    /// No answers yet, and how many nodes ask.
+    pub fn new(alloc: Global, n: usize) -> Answers {
         Answers {
+            n,
             places: RefCell::new(Vec::new(alloc)),
         }
     }
@@ -155,7 +170,7 @@ impl Answers {
         let Ok(places) = self.places.try_borrow() else {
             return None;
         };
-        let set = set_of(key, statement, signature);
+        let set = set_of(sets_for(self.n), key, statement, signature);
         match places.get(set..set + SET) {
             Some(answers) => find_answer(answers, key, statement, signature),
             None => None,
@@ -173,8 +188,9 @@ impl Answers {
         let Ok(answer) = Answer::to(alloc, key, statement, signature, verifies) else {
             return;
         };
-        let _ = fill_places(&mut places);
-        let set = set_of(key, statement, signature);
+        let sets = sets_for(self.n);
+        let _ = fill_places(&mut places, SET * sets);
+        let set = set_of(sets, key, statement, signature);
         if set + SET <= places.len() {
             put_first(&mut places[set..set + SET], answer);
         }

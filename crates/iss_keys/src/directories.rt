@@ -58,7 +58,7 @@ impl Directory {
         Ok(Directory {
             nodes,
             clients,
-            answers: Answers::new(alloc),
+            answers: Answers::new(alloc, n as usize),
         })
     }
 
@@ -71,7 +71,7 @@ impl Directory {
         Directory {
             nodes: Keyring::alone(alloc, NODE_SECRET, n, height),
             clients: Keyring::alone(alloc, CLIENT_SECRET, clients, height),
-            answers: Answers::new(alloc),
+            answers: Answers::new(alloc, n as usize),
         }
     }
 
@@ -82,12 +82,13 @@ impl Directory {
         ensures made { (height : ℕ) → HasKeys node_secret height nodes.now → HasKeys client_secret height clients.now
             → IfOk result (λ d. d ≡ directory_of (length nodes.now) (length clients.now) height) }
     {
+        let n = nodes.len();
         let nodes = Keyring::given(alloc, nodes)?;
         let clients = Keyring::given(alloc, clients)?;
         Ok(Directory {
             nodes,
             clients,
-            answers: Answers::new(alloc),
+            answers: Answers::new(alloc, n),
         })
     }
 

@@ -28,7 +28,6 @@ fn secret_of(kind: u8, number: u8) -> [u8; 32]
 // places for trees than numbers: what has no place is made each time.
 #[derive(Drop)]
 struct OwnKeys {
-    alloc: Global,
     kind: u8,
     count: u32,
     height: u8,
@@ -56,7 +55,6 @@ impl OwnKeys {
         ensures { result ≡ record { kind = kind; count = count; height = height } }
     {
         OwnKeys {
-            alloc,
             kind,
             count,
             height,
@@ -77,7 +75,6 @@ impl OwnKeys {
             trees.push(tree)?;
         }
         Ok(OwnKeys {
-            alloc,
             kind,
             count,
             height,
@@ -116,7 +113,7 @@ impl OwnKeys {
     }
 
     // The tree of a number: the one that is here, so that it is made once.
-    fn tree(&self, number: u8) -> Tree
+    fn tree(&self, alloc: Global, number: u8) -> Tree
         ensures { result ≡ ring_tree self.now.kind self.now.height number }
     {
         if let Some(tree) = self.place(number) {
@@ -125,17 +122,17 @@ impl OwnKeys {
             }
         }
         let secret = secret_of(self.kind, number);
-        Tree::own(LateTree::new(self.alloc, secret, self.height))
+        Tree::own(LateTree::new(alloc, secret, self.height))
     }
 
     // The same of any kind: the tree is shared where the kind is the one here.
-    fn tree_of_kind(&self, kind: u8, number: u8) -> Tree
+    fn tree_of_kind(&self, alloc: Global, kind: u8, number: u8) -> Tree
         ensures { result ≡ ring_tree kind self.now.height number }
     {
         if kind == self.kind {
-            return self.tree(number);
+            return self.tree(alloc, number);
         }
-        Tree::own(LateTree::new(self.alloc, secret_of(kind, number), self.height))
+        Tree::own(LateTree::new(alloc, secret_of(kind, number), self.height))
     }
 }
 
@@ -220,7 +217,7 @@ impl Keyring {
                 let height = keys[number as usize].levels();
                 Keys::of(Tree::own(LateTree::new(alloc, secret_of(kind, number), height)))
             }
-            Source::Own(keys) => Keys::of(keys.tree_of_kind(kind, number)),
+            Source::Own(keys) => Keys::of(keys.tree_of_kind(alloc, kind, number)),
         }
     }
 }

@@ -2,7 +2,8 @@
 ghost use Rattle.std.specs.Prelude.{true, ◌≡◌, ℕ, [], ◌∷◌, ◌++◌, ◌≤◌, length, IfOk, OnOk, Err};
 ghost use Rattle.iss_request.specs.Fields.{and_bytes, IsRead, IsUnreadable, IsGrammar, IsBad, Good};
 ghost use Rattle.iss_request.specs.Parsing.{all_of};
-ghost use Rattle.iss_packet.specs.Packets.{kind_byte, is_routed, is_spellable, route_bytes, body_bytes, spell_packet, parse_version, parse_kind, parse_size, parse_parts, parse_packet};
+ghost use Rattle.iss_packet.specs.Packets.{kind_byte, is_routed, is_spellable, route_bytes, body_bytes, spell_packet};
+ghost use Rattle.iss_packet.specs.Packets.{parse_version, parse_kind, parse_size, parse_parts, parse_packet};
 
 use iss_request::{Bytes, DecodeError, Epoch, Fields, NoMemory, Writer, version_byte};
 use std::alloc::Global;

@@ -1,5 +1,5 @@
 -- The definitions of the formats, on small examples.
-use Rattle.std.proofs.Common.{◌≡◌, ℕ, List, [], ◌∷◌, ◌++◌, refl}
+use Rattle.std.proofs.Common.{◌≡◌, [], ◌∷◌, refl}
 use Rattle.iss_request.specs.Fields.{Good, Bad}
 use Rattle.iss_request.specs.Parsing.{◌>>=◌, done, such_that, byte, number, block, digests, times, at_end, all_of}
 use Rattle.iss_request.specs.Formats.{spell_count, spell_batch, spell_value, parse_payload, parse_signature, parse_request, count_field, parse_count, parse_batch, parse_rest, parse_value}

@@ -6,7 +6,8 @@
 --   signature   height of the key's tree (1 byte, 2 to 12), leaf (4), 67 + height digests of 32 bytes
 --
 -- A version is any number: 2 is the second, and by every other number things are spelled as by the first.
-use Rattle.std.specs.Prelude.{◌≡◌, ◌≤◌, true, ℕ, zero, suc, ◌+◌, ◌*◌, ◌^◌, List, [], ◌∷◌, ◌++◌, length, Bool, false, nat_le, nat_lt, ◌==◌, ◌&&◌, ◌||◌, if◌then◌else◌}
+use Rattle.std.specs.Prelude.{◌≡◌, ◌≤◌, ℕ, zero, suc, ◌+◌, ◌*◌, ◌^◌, List, [], ◌∷◌, ◌++◌, length}
+use Rattle.std.specs.Prelude.{Bool, true, false, nat_le, nat_lt, ◌==◌, ◌&&◌, ◌||◌, if◌then◌else◌}
 use Rattle.std.specs.List.{AllByRecursion, flat_map}
 use Rattle.std.specs.Int.{w16, w32, to_be_bytes}
 use Rattle.iss_request.specs.Parsing.{Parser, ◌>>=◌, done, such_that, byte, number, block, digests, times}
@@ -87,10 +88,12 @@ HasSpelling r = has_spelling r ≡ true
 abbrev pub IsSpelledRequest : Request → List ℕ → Type 0
 IsSpelledRequest r bytes = HasSpelling r × (bytes ≡ request_bytes r)
 
+abbrev pub value_bytes : ℕ → List Request → List ℕ
+value_bytes version b = version_byte version ∷ spell_count version (length b) ++ flat_map request_bytes b
+
 abbrev pub IsSpelledValue : ℕ → Value → List ℕ → Type 0
 IsSpelledValue version Nil bytes = bytes ≡ 0 ∷ []
-IsSpelledValue version (Holds b) bytes =
-    (length b ≤ requests_most version) × AllByRecursion HasSpelling b × (bytes ≡ version_byte version ∷ spell_count version (length b) ++ flat_map request_bytes b)
+IsSpelledValue version (Holds b) bytes = (length b ≤ requests_most version) × AllByRecursion HasSpelling b × (bytes ≡ value_bytes version b)
 
 -- ---- reading
 

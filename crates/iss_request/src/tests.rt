@@ -70,6 +70,10 @@ fn many(alloc: Global, version: u8, count: usize) -> Result<Bytes, Fail> {
     Ok(encode_value(alloc, version, &Value::Batch(batch))?)
 }
 
+fn begins(bytes: &[u8], front: &[u8]) -> bool {
+    front.len() <= bytes.len() && &bytes[..front.len()] == front
+}
+
 // Whether bytes are read, and written again as they were.
 fn is_read_again(alloc: Global, version: u8, bytes: &[u8]) -> Result<bool, Fail> {
     let again = encode_value(alloc, version, &decode_value(alloc, version, bytes)?)?;
@@ -144,8 +148,8 @@ fn the_other_version_is_refused_at_its_byte(rt: HostRuntime) -> Result<(), Fail>
     let alloc = rt.alloc();
     let first = many(alloc, 1, 1)?;
     let second = many(alloc, 2, 1)?;
-    assert_eq!(rt; &first.as_slice()[..3], [1, 1, 7].as_slice());
-    assert_eq!(rt; &second.as_slice()[..4], [2, 0, 1, 7].as_slice());
+    assert!(rt; begins(first.as_slice(), &[1, 1, 7]));
+    assert!(rt; begins(second.as_slice(), &[2, 0, 1, 7]));
     assert_eq!(rt; fault(alloc, 2, first.as_slice()), Some(0));
     assert_eq!(rt; fault(alloc, 1, second.as_slice()), Some(0));
     // Any other number stands for the first version.
@@ -159,15 +163,15 @@ fn each_version_has_its_largest_batch(rt: HostRuntime) -> Result<(), Fail> {
     let alloc = rt.alloc();
     let first = many(alloc, 1, 32)?;
     assert_eq!(rt; first.len(), 2 + 32 * 2221);
-    assert_eq!(rt; &first.as_slice()[..3], [1, 32, 7].as_slice());
+    assert!(rt; begins(first.as_slice(), &[1, 32, 7]));
     assert!(rt; is_read_again(alloc, 1, first.as_slice())?);
     assert_eq!(rt; fault(alloc, 1, many(alloc, 1, 33)?.as_slice()), Some(1));
     let more = many(alloc, 2, 33)?;
-    assert_eq!(rt; &more.as_slice()[..4], [2, 0, 33, 7].as_slice());
+    assert!(rt; begins(more.as_slice(), &[2, 0, 33, 7]));
     assert!(rt; is_read_again(alloc, 2, more.as_slice())?);
     let most = many(alloc, 2, 256)?;
     assert_eq!(rt; most.len(), 3 + 256 * 2221);
-    assert_eq!(rt; &most.as_slice()[..4], [2, 1, 0, 7].as_slice());
+    assert!(rt; begins(most.as_slice(), &[2, 1, 0, 7]));
     assert!(rt; is_read_again(alloc, 2, most.as_slice())?);
     assert_eq!(rt; fault(alloc, 2, many(alloc, 2, 257)?.as_slice()), Some(1));
     Ok(())

@@ -6,7 +6,9 @@ use Rattle.std.proofs.lemmas.List.{length-append}
 use Rattle.std.proofs.lemmas.Nat.{div_below}
 use Rattle.std.specs.Int.{byte_at, bytes_high_first, to_be_bytes, w16, w32, w64}
 use Rattle.iss_base.proofs.Lists.{ends-same}
-use Rattle.iss_sb.specs.Statements.{eight_bytes, four_bytes, head_of, two_bytes, wide_bytes}
+use Rattle.iss_request.specs.Fields.{Written, and_bytes}
+use Rattle.iss_sb.specs.declared.effects.Params.{Params}
+use Rattle.iss_sb.specs.Statements.{eight_bytes, four_bytes, head_of, statement_head, two_bytes, wide_bytes}
 
 -- one more byte in front of the low k bytes
 byte_on : (k n high : ℕ) → (high * 256 + byte_at k n) * 256 ^ k + n % 256 ^ k ≡ high * 256 ^ suc k + n % 256 ^ suc k
@@ -100,3 +102,7 @@ head-same cluster other e l tag d k mark x y long h =
     let r = wide-same 7 e d (l ∷ tag ∷ x) (k ∷ mark ∷ y) q.1 in
     let rest : ◌≡◌ {A = List ℕ} (l ∷ tag ∷ x) (k ∷ mark ∷ y) = r.1 in
     record { one_cluster = q.0; epoch = r.0; leader = cc; module_tag = cc; behind = cc }
+
+-- fields that are written one after the other are the head
+pub head-written : (p : Params) (tag : ℕ) (a b c d e : Written) → p.epoch.0 < 2 ^ 64 → b ≡ and_bytes a p.setup.tag → c ≡ and_bytes b (to_be_bytes w64 p.epoch.0) → d ≡ and_bytes c (p.leader.0 ∷ []) → e ≡ and_bytes d (tag ∷ []) → e ≡ and_bytes a (statement_head p tag)
+head-written p tag a b c d e lt hb hc hd he = let same = eight-is p.epoch.0 lt in rw (he, hd, hc, hb, same) (simp append_assoc)

@@ -5,7 +5,9 @@
 pub mod effects;
 pub mod laws;
 pub mod sequenced;
+pub mod signing;
 
 pub use effects::{Claim, Effects, Input, Params, StepError, To};
 pub use laws::broadcast;
 pub use sequenced::Sequenced;
+pub use signing::{put_head, sign};

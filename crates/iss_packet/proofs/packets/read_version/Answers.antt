@@ -1,4 +1,4 @@
-use Rattle.std.proofs.Common.{ap, ◌∙◌, arith, eq-eqb}
+use Rattle.std.proofs.Common.{ap, ◌∙◌, eq-eqb}
 use Rattle.std.proofs.lemmas.Bool.{ne_eqb}
 use Rattle.iss_request.specs.Formats.{version_byte}
 use Rattle.iss_request.proofs.Readings.{exit, named, read_passed, unread_failed, unread_tested}

@@ -1,0 +1,58 @@
+//! What modules share of signing: the head of a statement, and a signature by the next leaf.
+ghost use Rattle.std.specs.Prelude.{◌≡◌, ℕ, ◌+◌, ◌<◌, IfOk, OnOk};
+ghost use Rattle.iss_keys.specs.Directories.{AreKeysOf};
+ghost use Rattle.iss_keys.specs.KeyStates.{left_of};
+ghost use Rattle.iss_request.specs.Fields.{and_bytes};
+ghost use Rattle.iss_sb.specs.declared.effects.Params.{Params};
+ghost use Rattle.iss_sb.specs.Statements.{signature, statement_head};
+
+use crate::effects::Params;
+use iss_keys::{Keys, SignError};
+use iss_request::{Bytes, NoMemory, Writer};
+
+/// Writes what each statement of an instance begins with, of the module with this number.
+pub fn put_head(p: &Params, module_tag: u8, out: &mut Writer) -> Result<(), NoMemory>
+    ensures { OnOk result (out.new ≡ and_bytes out.old (statement_head p.now module_tag)) }
+{
+    out.put_bytes(&p.setup.tag)?;
+    out.put_u64(p.epoch.0)?;
+    out.put_u8(p.leader.0)?;
+    out.put_u8(module_tag)
+}
+
+/// Signs a statement with the next leaf.
+pub fn sign(statement: &Bytes, keys: &mut Keys) -> Result<Bytes, NoMemory>
+    requires { 0 < left_of keys.old }
+    ensures sig { IfOk result (λ sig. (p : Params) (me : ℕ) → AreKeysOf me p.setup.keys keys.old → sig ≡ signature p me keys.old.used statement.now) }
+    ensures used { OnOk result (keys.new ≡ record keys.old { used = keys.old.used + 1 }) }
+    ensures left { OnOk result (left_of keys.new + 1 ≡ left_of keys.old) }
+{
+    match keys.sign(statement.as_slice()) {
+        Ok(sig) => Ok(Bytes::of(sig)),
+        Err(SignError::NoMemory) => Err(NoMemory),
+        Err(SignError::Spent) => unreachable!(),
+    }
+}
+
+#[cfg(test)]
+mod tests {
+    use super::*;
+    use iss_keys::{SharedDirectory, node_secret};
+    use std::test::Fail;
+
+    // A signature takes one leaf, and verifies by the directory.
+    #[test]
+    fn a_statement_is_signed(rt: HostRuntime) -> Result<(), Fail> {
+        let alloc = rt.alloc();
+        let directory = SharedDirectory::make(alloc, 2, 1, 2)?;
+        let mut keys = Keys::make(alloc, node_secret(1), 2)?;
+        let mut out = Writer::new(alloc, 1);
+        out.put_u8(7)?;
+        let statement = out.into_bytes();
+        let sig = sign(&statement, &mut keys)?;
+        assert_eq!(rt; keys.left(), 3);
+        assert!(rt; directory.directory().verify_node(1, statement.as_slice(), sig.as_slice()));
+        assert!(rt; !directory.directory().verify_node(0, statement.as_slice(), sig.as_slice()));
+        Ok(())
+    }
+}
