@@ -5,7 +5,7 @@
 
 ghost use Rattle.std.specs.Prelude.{◌<◌, ◌≤◌};
 
-use iss_keys::{Directory, Keys, PublicKey, SignError, verify};
+use iss_keys::{Directory, Keys, NoMemory, PublicKey, SharedDirectory, SignError, verify};
 use sha2::{Digest, Sha256};
 use std::alloc::Global;
 use std::io;
@@ -172,9 +172,10 @@ fn time_tree<R: Clock + Print>(rt: &R, alloc: Global, height: u8, rounds: u32) -
     let mut best = NONE_YET;
     for _round in 0..rounds {
         let start = Instant::now(rt)?;
-        let Ok(_keys) = Keys::make(alloc, [7; 32], height) else {
+        let Ok(keys) = Keys::make(alloc, [7; 32], height) else {
             return out_of_memory(rt);
         };
+        let _public = keys.public();
         let work = nanos_since(rt, start)?;
         best = best.note(work, time_digests(rt, digests_of_tree(height))?);
     }
@@ -333,6 +334,94 @@ fn time_directory<R: Clock + Print>(rt: &R, alloc: Global, height: u8) -> io::Re
     time_rounds(rt, &directory, &signatures)
 }
 
+// Checks of one signature by client 7, one by each owner of a directory.
+fn checks_by_all(owners: &[SharedDirectory], signature: &[u8]) -> u32 {
+    let mut verified = 0u32;
+    for owner in owners {
+        verified = verified.wrapping_add(checks(owner.directory(), 7, signature, 1));
+    }
+    verified
+}
+
+// An owner for each of ten nodes.
+fn ten_owners(alloc: Global, shared: &SharedDirectory) -> Result<Vec<SharedDirectory>, NoMemory> {
+    let mut owners = Vec::with_capacity(alloc, 10)?;
+    for _node in 0..10 {
+        owners.push(shared.share())?;
+    }
+    Ok(owners)
+}
+
+// In a new directory of 10 nodes and 256 clients one client signs, and each node checks it.
+fn sign_for_ten(alloc: Global, height: u8) -> Result<u32, SignError>
+    requires low { 2 ≤ height }
+    requires high { height ≤ 12 }
+{
+    let shared = SharedDirectory::make(alloc, 10, 256, height)?;
+    let mut keys = shared.directory().keys_of_client(alloc, 7);
+    let signature = keys.sign(STATEMENT)?;
+    let owners = ten_owners(alloc, &shared)?;
+    Ok(checks_by_all(&owners, &signature))
+}
+
+// The whole of it, beside the one tree that it needs.
+fn time_one_tree<R: Clock + Print>(rt: &R, alloc: Global, height: u8) -> io::Result<()>
+    requires low { 2 ≤ height }
+    requires high { height ≤ 12 }
+{
+    let mut whole = u64::MAX;
+    let mut tree = u64::MAX;
+    for _round in 0..5 {
+        let start = Instant::now(rt)?;
+        let Ok(10) = sign_for_ten(alloc, height) else {
+            return out_of_memory(rt);
+        };
+        whole = whole.min(nanos_since(rt, start)?);
+        let start = Instant::now(rt)?;
+        let Ok(keys) = Keys::make(alloc, Sha256::digest([0x21u8, 7]), height) else {
+            return out_of_memory(rt);
+        };
+        let _public = keys.public();
+        tree = tree.min(nanos_since(rt, start)?);
+    }
+    let percent = whole.saturating_mul(100) / tree.max(1);
+    println!(rt;
+        "one of 256 clients signs, ten nodes check, height {height}: {whole} ns, {percent} percent of one tree"
+    )
+}
+
+// Of two new signatures one is checked by one node, the other by all ten, again and again.
+fn time_ten_checks<R: Clock + Print>(rt: &R, alloc: Global) -> io::Result<()> {
+    let Ok(shared) = SharedDirectory::make(alloc, 10, 256, 8) else {
+        return out_of_memory(rt);
+    };
+    let Ok(owners) = ten_owners(alloc, &shared) else {
+        return out_of_memory(rt);
+    };
+    let Ok(mut keys) = Keys::make(alloc, Sha256::digest([0x21u8, 7]), 8) else {
+        return out_of_memory(rt);
+    };
+    let mut one = u64::MAX;
+    let mut ten = u64::MAX;
+    for round in 0..240u32 {
+        let Ok(signature) = keys.sign(STATEMENT) else {
+            return out_of_memory(rt);
+        };
+        let start = Instant::now(rt)?;
+        if round % 2 == 0 {
+            let _verified = checks(shared.directory(), 7, &signature, 1);
+            one = one.min(nanos_since(rt, start)?);
+        } else {
+            let _verified = checks_by_all(&owners, &signature);
+            ten = ten.min(nanos_since(rt, start)?);
+        }
+    }
+    let percent = ten.saturating_mul(100) / one.max(1);
+    println!(rt;
+        "one signature checked by ten nodes: {ten} ns, {percent} percent of one check"
+    )
+}
+
 fn time_all<R: Clock + Print>(rt: &R, alloc: Global) -> io::Result<()> {
     let digests = Digests {
         short: 1000,
@@ -352,7 +441,9 @@ fn time_all<R: Clock + Print>(rt: &R, alloc: Global) -> io::Result<()> {
     time_tree(rt, alloc, 12, 5)?;
     time_signing(rt, alloc, 5, 200)?;
     time_verifying(rt, alloc, 5, 200)?;
-    time_directory(rt, alloc, 12)
+    time_directory(rt, alloc, 12)?;
+    time_ten_checks(rt, alloc)?;
+    time_one_tree(rt, alloc, 12)
 }
 
 // What a small workload takes.
@@ -374,7 +465,11 @@ fn count_all<R: Print>(rt: &R, alloc: Global) -> io::Result<()> {
     println!(rt;
         "3 verifications: {:?}, verified: {verified}",
         digests_of_verifications(3, 2)
-    )
+    )?;
+    let Ok(by_nodes) = sign_for_ten(alloc, 2) else {
+        return out_of_memory(rt);
+    };
+    println!(rt; "checked by ten nodes: {by_nodes}")
 }
 
 fn main(rt: HostRuntime) -> io::Result<()> {
