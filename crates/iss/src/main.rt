@@ -2,12 +2,19 @@
 #![tactic(auto)]
 
 use iss_cli::{ReadSource, Status, WriteSink, run};
+use std::io::ErrorKind;
 use std::process::ExitCode;
 use std::{env, io};
 
-// The program's words, its name first.
+// The program's words, its name first. Where one of them is no text there are none, and so they are those of no call.
 fn words(rt: &HostRuntime) -> io::Result<Vec<String>> {
-    Ok(env::args(rt)?.collect(rt.alloc())?)
+    match env::args(rt) {
+        Ok(words) => Ok(words.collect(rt.alloc())?),
+        Err(error) => match error.kind() {
+            ErrorKind::InvalidData => Ok(Vec::new(rt.alloc())),
+            _ => Err(error),
+        },
+    }
 }
 
 fn main(rt: HostRuntime) -> ExitCode {

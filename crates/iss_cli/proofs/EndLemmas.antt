@@ -1,8 +1,8 @@
 -- Bytes that are taken and put piece by piece.
-use Rattle.std.proofs.Common.{◌∙◌, ◌≡◌, inl, inr, ℕ, ◌+◌, ◌<◌, ◌≤◌, Option, None, Some, List, [], ◌++◌, length, take, drop, refl, sym, ap, subst, arith, append_assoc, length-append, length-drop}
+use Rattle.std.proofs.Common.{◌∙◌, ◌≡◌, inl, inr, ℕ, ◌+◌, ◌<◌, ◌≤◌, Option, None, Some, Ok, IsErrOf, List, [], ◌++◌, length, take, drop, refl, sym, ap, subst, arith, append_assoc, length-append, length-drop}
 use Rattle.std.proofs.Math.Seq.{take-add}
 use Rattle.std.proofs.lemmas.List.{append-nil, drop-drop, take_at, take_all, length-take, length-take-le}
-use Rattle.iss_cli.specs.Ends.{Rose, HasCause, IfTold, Taken, Takes, Drains, and_more}
+use Rattle.iss_cli.specs.Ends.{IfTold, Taken, Takes, Drains, and_more}
 
 pub and_more_nil : (h : Option (List ℕ)) → and_more h [] ≡ h
 and_more_nil None = refl
@@ -17,12 +17,9 @@ pub and_more_piece : (h now next : Option (List ℕ)) (put n : ℕ) (bytes : Lis
 and_more_piece h now next put n bytes e f =
     f ∙ ap (λ o. and_more o (take n (drop put bytes))) e ∙ and_more_more h (take put bytes) (take n (drop put bytes)) ∙ ap (and_more h) (sym (take-add put n bytes))
 
-pub rose_later : (a b c : ℕ) → a ≤ b → Rose b c → Rose a c
-rose_later a b c h (inl l) = inl (omega arith)
-rose_later a b c h (inr e) = inr e
-
-pub cause_later : (a b c : ℕ) (F G : Type 0) → a ≤ b → HasCause b c F → (G → F) → HasCause a c G
-cause_later a b c F G h cause why = record { never_falls = omega (arith, cause.never_falls); rose = λ g. rose_later a b c h (cause.rose (why g)) }
+-- a call that is Ok gave no error
+pub no_error : {T E : Type 0} (x : T) (e : E) → IsErrOf {T = T} {E = E} (Ok x) e → ⊥
+no_error x e is = absurd (cc)
 
 -- what was read so far of all that was left
 abbrev pub IsRead : Option (List ℕ) → Option (List ℕ) → List ℕ → Type 0

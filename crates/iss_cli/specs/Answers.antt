@@ -85,3 +85,12 @@ IsAnswerStatus RefusedSchedule = Unit {0}
 IsAnswerStatus NoMemory = ⊥
 IsAnswerStatus SourceFailed = ⊥
 IsAnswerStatus SinkFailed = ⊥
+
+-- the answer was to an input, whether it was printed whole or the sink failed
+abbrev pub RestsOnInput : List (List ℕ) → Status → Type 0
+RestsOnInput words Done = AskReplay words
+RestsOnInput words RefusedSchedule = AskReplay words
+RestsOnInput words SinkFailed = AskReplay words
+RestsOnInput words NoMemory = ⊥
+RestsOnInput words RefusedWords = ⊥
+RestsOnInput words SourceFailed = ⊥

@@ -5,10 +5,11 @@ use Rattle.std.specs.Prelude.{◌≡◌, ◌⊎◌, ℕ, ◌-◌, ◌^◌, ◌<�
 abbrev pub Rose : ℕ → ℕ → Type 0
 Rose before now = (before < now) ⊎ (now ≡ 2 ^ 64 - 1)
 
--- a failure has a cause, which was counted; the count never falls
+-- A failure has a cause, which was counted; the count never falls, and where nothing failed it is as before.
 pub record HasCause (before now : ℕ) (failed : Type 0) : Type 0 where
   pub never_falls : before ≤ now
   pub rose : failed → Rose before now
+  pub still : ¬ failed → now ≡ before
 
 -- of bytes that are told
 abbrev pub IfTold : Option (List ℕ) → (List ℕ → Type 0) → Type 0
@@ -30,6 +31,11 @@ Takes n (Some left) left_now slice slice_now = Taken n left left_now slice slice
 abbrev pub Drains : ℕ → Option (List ℕ) → Option (List ℕ) → Type 0
 Drains most None left_now = left_now ≡ None
 Drains most (Some left) left_now = (n : ℕ) × (n ≤ most) × (left_now ≡ Some (drop n left))
+
+-- the first `most` bytes that were left are taken, and of fewer all: then nothing is left
+abbrev pub IsDrained : ℕ → Option (List ℕ) → Option (List ℕ) → Type 0
+IsDrained most None left_now = left_now ≡ None
+IsDrained most (Some left) left_now = left_now ≡ Some (drop most left)
 
 -- what is held after more bytes were put
 abbrev pub and_more : Option (List ℕ) → List ℕ → Option (List ℕ)

@@ -1,6 +1,6 @@
 //! Reading a source to its end.
-ghost use Rattle.std.specs.Prelude.{◌≡◌, ◌<◌, ◌≤◌, ◌++◌, length, take, IfOk, OnErr, IsErrOf};
-ghost use Rattle.iss_cli.specs.Ends.{HasCause, IfTold, Takes, Drains};
+ghost use Rattle.std.specs.Prelude.{◌≡◌, ◌<◌, ◌≤◌, ◌++◌, length, take, IfOk, OnOk, OnErr, IsErrOf};
+ghost use Rattle.iss_cli.specs.Ends.{HasCause, IfTold, Takes, Drains, IsDrained};
 
 use crate::ends::Source;
 use crate::errors::EndError;
@@ -15,6 +15,7 @@ pub fn read_up_to<I: Source>(
 ) -> Result<Vec<u8>, EndError>
     requires { 0 < piece }
     ensures bytes { IfOk result (λ bytes. IfTold (I.left input.old) (λ all. bytes.items ≡ take most all)) }
+    ensures end { OnOk result (IsDrained most (I.left input.old) (I.left input.new)) }
     ensures taken { Drains most (I.left input.old) (I.left input.new) }
     ensures cause { HasCause (I.faults input.old) (I.faults input.new) (IsErrOf result EndError.Failed) }
 {

@@ -1,7 +1,7 @@
 //! The top call.
-ghost use Rattle.std.specs.Prelude.{◌≡◌, map, string_bytes, IfOk, IsErrOf};
-ghost use Rattle.iss_cli.specs.Answers.{AskReplay, IsAnswered, IsAnswerStatus, Prints, Ends};
-ghost use Rattle.iss_cli.specs.Ends.{HasCause, Drains};
+ghost use Rattle.std.specs.Prelude.{◌≡◌, map, string_bytes, IfOk, OnOk, IsErrOf};
+ghost use Rattle.iss_cli.specs.Answers.{AskReplay, IsAnswered, IsAnswerStatus, Prints, Ends, RestsOnInput};
+ghost use Rattle.iss_cli.specs.Ends.{HasCause, Drains, IsDrained};
 ghost use Rattle.iss_model.specs.OneLog.{IsOneLog, OnlyGrows};
 ghost use Rattle.iss_schedule.specs.Schedules.{IsFine};
 ghost use Rattle.iss_schedule.specs.declared.schedules.Schedule.{Schedule};
@@ -37,6 +37,7 @@ pub fn run<I: Source, O: Sink>(
     ensures one_log { (s : Schedule) → IsFine s → IsOneLog s.setup relay s.events }
     ensures grows { (s : Schedule) → IsFine s → OnlyGrows s.setup relay s.events }
     ensures printed { Ends (map string_bytes words.now) (I.left input.old) (O.held out.old) (O.held out.new) result }
+    ensures end { RestsOnInput (map string_bytes words.now) result → IsDrained 16777217 (I.left input.old) (I.left input.new) }
     ensures taken { Drains 16777217 (I.left input.old) (I.left input.new) }
     ensures unread { ¬ AskReplay (map string_bytes words.now) → I.left input.new ≡ I.left input.old }
     ensures source { HasCause (I.faults input.old) (I.faults input.new) (result ≡ Status.SourceFailed) }
@@ -66,6 +67,7 @@ pub fn one_log()
 fn answer<I: Source>(alloc: Global, words: &[String], input: &mut I) -> Result<Answer, EndError>
     ensures ok { IfOk result (IsAnswered (map string_bytes words.now) (I.left input.old)) }
     ensures asked { IsErrOf result EndError.Failed → AskReplay (map string_bytes words.now) }
+    ensures end { OnOk result (AskReplay (map string_bytes words.now) → IsDrained 16777217 (I.left input.old) (I.left input.new)) }
     ensures taken { Drains 16777217 (I.left input.old) (I.left input.new) }
     ensures unread { ¬ AskReplay (map string_bytes words.now) → I.left input.new ≡ I.left input.old }
     ensures cause { HasCause (I.faults input.old) (I.faults input.new) (IsErrOf result EndError.Failed) }

@@ -14,14 +14,20 @@ pub bytes_eq_self : (name : List ℕ) → bytes_eq name name ≡ true
 bytes_eq_self name = (bytes_eq-Decides name name).1 refl
 
 pub memory_here : (disk : MemoryDisk) → history_of disk.file ≡ files_of disk disk.file.name.items
-memory_here disk = sym (cond-true (bytes_eq disk.file.name.items disk.file.name.items) (history_of disk.file) (history_among disk.others.items disk.file.name.items) (bytes_eq_self disk.file.name.items))
+memory_here disk =
+    let name = disk.file.name.items in
+    sym (cond-true (bytes_eq name name) (history_of disk.file) (history_among disk.others.items name) (bytes_eq_self name))
 
 among_readable : (files : List StoredFile) (name : List ℕ) (file : File) (past : List File) → history_among files name ≡ file ∷ past → Image file file.content
 among_readable [] name file past is = readable [] [] file past is
-among_readable (stored ∷ files) name file past is = elim (cases_Bool (bytes_eq stored.name.items name)) [
-  | inl same ↦ readable (reverse stored.calls.items) stored.written.items file past (sym (cond-true (bytes_eq stored.name.items name) (history_of stored) (history_among files name) same) ∙ is)
-  | inr other ↦ among_readable files name file past (sym (cond-false (bytes_eq stored.name.items name) (history_of stored) (history_among files name) other) ∙ is)
-]
+among_readable (stored ∷ files) name file past is =
+    let named = bytes_eq stored.name.items name in
+    let here = history_of stored in
+    let among = history_among files name in
+    elim (cases_Bool named) [
+      | inl same ↦ readable (reverse stored.calls.items) stored.written.items file past (sym (cond-true named here among same) ∙ is)
+      | inr other ↦ among_readable files name file past (sym (cond-false named here among other) ∙ is)
+    ]
 
 pub memory_read_is_image : (disk : MemoryDisk) (name : List ℕ) (file : File) (past : List File) → files_of disk name ≡ file ∷ past → Image file file.content
 memory_read_is_image disk name = among_readable (disk.file ∷ disk.others.items) name

@@ -10,16 +10,25 @@ use Rattle.iss_disk.specs.declared.call.Call.TheVariants.{Wrote, Cut, Synced, Re
 pub image_settled : (bytes : List ℕ) → Image (settled bytes) bytes
 image_settled bytes = record { long_enough = omega arith; short_enough = omega arith; others = λ i in_bytes below outside. refl }
 
-length-overwritten : (at : ℕ) (over bytes : List ℕ) → length (overwritten at over bytes) ≡ min at (length bytes) + length over + (length bytes - (at + length over))
+length-overwritten :
+    (at : ℕ) (over bytes : List ℕ)
+    → length (overwritten at over bytes) ≡ min at (length bytes) + length over + (length bytes - (at + length over))
 length-overwritten at over bytes =
-    omega (arith, length-append (take at bytes ++ over) (drop (at + length over) bytes), length-append (take at bytes) over, length-take at bytes, length-drop (at + length over) bytes)
+    let behind = at + length over in
+    let front = length-append (take at bytes) over in
+    let whole = length-append (take at bytes ++ over) (drop behind bytes) in
+    omega (arith, whole, front, length-take at bytes, length-drop behind bytes)
 
 -- outside its range a write changes nothing
-beside : (at : ℕ) (over bytes : List ℕ) (i : ℕ) → i < length bytes → (i < at) ⊎ (at + length over ≤ i) → get_or (overwritten at over bytes) i 0 ≡ get_or bytes i 0
+beside :
+    (at : ℕ) (over bytes : List ℕ) (i : ℕ) → i < length bytes → (i < at) ⊎ (at + length over ≤ i)
+    → get_or (overwritten at over bytes) i 0 ≡ get_or bytes i 0
 beside at over bytes i within (inl before) =
     let in_front : i < length (take at bytes) = omega (arith, length-take at bytes) in
     let in_both : i < length (take at bytes ++ over) = omega (arith, length-append (take at bytes) over, in_front) in
-    get_or_append_left (take at bytes ++ over) (drop (at + length over) bytes) 0 i in_both ∙ get_or_append_left (take at bytes) over 0 i in_front ∙ get_or-take at bytes i 0 before
+    get_or_append_left (take at bytes ++ over) (drop (at + length over) bytes) 0 i in_both
+    ∙ get_or_append_left (take at bytes) over 0 i in_front
+    ∙ get_or-take at bytes i 0 before
 beside at over bytes i within (inr behind) =
     let both : length (take at bytes ++ over) ≡ at + length over = omega (arith, length-append (take at bytes) over, length-take at bytes) in
     let there : at + length over + (i - (at + length over)) ≡ i = omega arith in
@@ -33,7 +42,8 @@ image_wrote at over file now = record {
   short_enough = omega (arith, length-overwritten at over file.content, now.short_enough);
   others = λ i in_bytes below outside.
       let parts = or_parts _ (is_written file.written i) outside in
-      let place : (i < at) ⊎ (at + length over ≤ i) = ⊎_elim (λ e. inl (leb-false at i e)) (λ e. inr (ltb-false i (at + length over) e)) (and_cases _ _ parts.0) in
+      let behind = at + length over in
+      let place : (i < at) ⊎ (behind ≤ i) = ⊎_elim (λ e. inl (leb-false at i e)) (λ e. inr (ltb-false i behind e)) (and_cases _ _ parts.0) in
       beside at over file.content i (omega (arith, below)) place ∙ now.others i (omega (arith, below)) (omega (arith, below)) parts.1;
 }
 
@@ -41,7 +51,9 @@ image_shortened : (n : ℕ) (file : File) → Image file file.content → Image 
 image_shortened n file now = record {
   long_enough = omega (arith, length-take n file.content, now.long_enough);
   short_enough = omega (arith, length-take n file.content, now.short_enough);
-  others = λ i in_bytes below outside. get_or-take n file.content i 0 (omega (arith, in_bytes, length-take n file.content)) ∙ now.others i (omega (arith, in_bytes, length-take n file.content)) below outside;
+  others = λ i in_bytes below outside.
+      let short = length-take n file.content in
+      get_or-take n file.content i 0 (omega (arith, in_bytes, short)) ∙ now.others i (omega (arith, in_bytes, short)) below outside;
 }
 
 -- of the newest state a read gives one of its images
@@ -49,13 +61,19 @@ abbrev IsReadable : List File → Type 0
 IsReadable [] = Unit {0}
 IsReadable (file ∷ past) = Image file file.content
 
-readable_after : (change : File → File) (files : List File) → ((file : File) → Image file file.content → Image (change file) (change file).content) → IsReadable files → IsReadable (after change files)
+readable_after :
+    (change : File → File) (files : List File)
+    → ((file : File) → Image file file.content → Image (change file) (change file).content)
+    → IsReadable files → IsReadable (after change files)
 readable_after change [] keeps now = tt
 readable_after change (file ∷ past) keeps now = keeps file now
 
 states_readable : (calls : List Call) (written : List ℕ) → IsReadable (states calls written)
 states_readable [] written = image_settled []
-states_readable (Wrote at len ∷ calls) written = readable_after (wrote at (drop (length written - len) written)) _ (image_wrote at (drop (length written - len) written)) (states_readable calls (take (length written - len) written))
+states_readable (Wrote at len ∷ calls) written =
+    let before = length written - len in
+    let bytes = drop before written in
+    readable_after (wrote at bytes) _ (image_wrote at bytes) (states_readable calls (take before written))
 states_readable (Cut len ∷ calls) written = readable_after (shortened len) _ (image_shortened len) (states_readable calls written)
 states_readable (Synced ∷ calls) written = readable_after synced _ (λ file now. image_settled file.content) (states_readable calls written)
 states_readable (Restarted ∷ calls) written = readable_after restarted _ (λ file now. image_settled file.kept) (states_readable calls written)

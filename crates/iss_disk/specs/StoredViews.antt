@@ -1,5 +1,5 @@
 -- What a stored file shows.
-use Rattle.std.specs.Prelude.{◌+◌, ◌-◌, min, List, reverse, vec_len, vec_capacity}
+use Rattle.std.specs.Prelude.{ℕ, ◌+◌, ◌-◌, min, List, reverse, vec_len, vec_capacity}
 use Rattle.iss_disk.specs.File.{File}
 use Rattle.iss_disk.specs.Calls.{Room}
 use Rattle.iss_disk.specs.States.{states}
@@ -9,9 +9,12 @@ use Rattle.iss_disk.specs.declared.stored.StoredFile.{StoredFile}
 abbrev pub history_of : StoredFile → List File
 history_of file = states (reverse file.calls.items) file.written.items
 
+-- the bytes for which there is room in all of its lists
+abbrev pub room_for_bytes : StoredFile → ℕ
+room_for_bytes file =
+    min (vec_capacity file.written - vec_len file.written)
+    (min (vec_capacity file.content - vec_len file.content) (vec_capacity file.kept - vec_len file.content))
+
 -- the room in its lists
 abbrev pub room_of : StoredFile → Room
-room_of file = record {
-  calls = vec_capacity file.calls - (vec_len file.calls + 1);
-  bytes = min (vec_capacity file.written - vec_len file.written) (min (vec_capacity file.content - vec_len file.content) (vec_capacity file.kept - vec_len file.content));
-}
+room_of file = record { calls = vec_capacity file.calls - (vec_len file.calls + 1); bytes = room_for_bytes file }

@@ -1,9 +1,9 @@
 -- A file that is read and brought to rest reads as before at each moment.
-use Rattle.std.proofs.Common.{◌≡◌, inl, inr, ℕ, ◌<◌, ◌≤◌, true, false, List, [], ◌∷◌, ◌++◌, length, refl, sym, ◌∙◌, ap, subst, arith, append_assoc, vec_len, vec_capacity}
+use Rattle.std.proofs.Common.{◌≡◌, inl, inr, ℕ, ◌+◌, ◌<◌, ◌≤◌, true, false, List, [], ◌∷◌, ◌++◌, length, take, refl, sym, ◌∙◌, ap, subst, arith, append_assoc, vec_len, vec_capacity}
 use Rattle.iss_disk.specs.File.{File, Image, settled, synced}
 use Rattle.iss_disk.specs.Calls.{IfTold, EachState, Moves, Stays, Room, Takes}
 use Rattle.iss_journal.specs.Frames.{frames, ClosesAfter, Reading, Reads, holds}
-use Rattle.iss_journal.specs.Promises.{OnlyLeaves, LeavesOnly, LeavesReading, LosesNothing, HoldsFirst, HoldsWithOrWithout, RestsOn}
+use Rattle.iss_journal.specs.Promises.{OnlyLeaves, LeavesOnly, LeavesReading, LosesNothing, HoldsFirst, HoldsWithOrWithout, RestsOn, ComesToRest}
 use Rattle.iss_journal.proofs.Crash.{only_settled, reads_closed}
 use Rattle.iss_journal.specs.EntryViews.{entries_in}
 use Rattle.iss_journal.specs.Sound.{HasRoom}
@@ -39,6 +39,16 @@ brief_reads h bytes told brief = told_so _ _ h told (λ file is. subst (λ (b : 
 
 pub whole_reads : (h : List File) (bytes : List ℕ) (entries : List (List ℕ)) → IfTold h (λ file. bytes ≡ file.content) → 1 < length bytes → ClosesAfter entries bytes → IfTold h (λ file. Reads file.content (holds entries))
 whole_reads h bytes entries told long ends = told_so _ _ h told (λ file is. subst (λ (b : List ℕ). Reads b (holds entries)) is (inr (long, ends)))
+
+-- what attaching makes of a file
+pub brief_rests : (h new : List File) (bytes : List ℕ) (entries : List (List ℕ)) → IfTold h (λ file. bytes ≡ file.content) → length bytes ≤ 1 → IfTold new (λ file. file ≡ settled (0 ∷ [])) → IfTold h (λ file. IfTold new (ComesToRest entries file.content))
+brief_rests h new bytes entries told brief made =
+    told_so _ _ h told (λ file is. told_so _ _ new made (λ now e. inl (subst (λ (b : List ℕ). length b ≤ 1) is brief, e)))
+
+pub whole_rests : (h new : List File) (bytes : List ℕ) (entries : List (List ℕ)) → IfTold h (λ file. bytes ≡ file.content) → 1 < length bytes → IfTold new (λ file. file ≡ settled (take (length (frames entries) + 1) bytes)) → IfTold h (λ file. IfTold new (ComesToRest entries file.content))
+whole_rests h new bytes entries told long made =
+    told_so _ _ h told (λ file is.
+    subst (λ (b : List ℕ). IfTold new (ComesToRest entries b)) is (told_so _ _ new made (λ now e. inr (long, e))))
 
 -- the first sync, and what follows it
 keeps_first : (entries : List (List ℕ)) (file : File) → Image file file.content → OnlyLeaves (HoldsFirst entries) file → OnlyLeaves (HoldsFirst entries) (synced file)

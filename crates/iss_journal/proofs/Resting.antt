@@ -1,6 +1,6 @@
 -- What a crash leaves while the end of a file is cut off, and while an empty journal is made.
 use Rattle.std.proofs.Common.{◌≡◌, inl, ℕ, ◌+◌, ◌<◌, ◌≤◌, Bool, true, List, [], ◌∷◌, ◌++◌, length, take, drop, get_or, refl, sym, ◌∙◌, ap, subst, arith, append_assoc, length-append}
-use Rattle.std.proofs.lemmas.List.{take_at, get_or_append_left, nil_from_length}
+use Rattle.std.proofs.lemmas.List.{take_at, take_all, get_or_append_left, nil_from_length}
 use Rattle.iss_disk.specs.File.{File, settled, wrote, shortened, synced}
 use Rattle.iss_disk.specs.Calls.{IfTold, Moves}
 use Rattle.iss_journal.specs.Frames.{frames, ClosesAfter, Reads, holds}
@@ -78,6 +78,17 @@ module _ (entries : List (List ℕ)) (bytes : List ℕ) (ends : ClosesAfter entr
       let made : h2 ≡ synced (shortened end file) ∷ shortened end file ∷ file ∷ past = subst (λ (l : List File). Moves synced true l h2) moves then in
       subst (λ (l : List File). IfTold l (RestsOn entries)) (sym made) (subst (λ (f : File). RestsOn entries (synced (shortened end f))) (sym is) rest_cut)
 
+  -- all up to the last gate is left
+  pub left_whole : (h : List File) → IfTold h (λ file. file ≡ settled bytes) → length bytes ≤ end → IfTold h (λ file. file ≡ settled (take end bytes))
+  left_whole [] is brief = tt
+  left_whole (file ∷ past) is brief = is ∙ ap settled (sym (take_all end bytes brief))
+
+  pub cut_file : (h0 h1 h2 : List File) → IfTold h0 (λ file. file ≡ settled bytes) → Moves (shortened end) true h0 h1 → Moves synced true h1 h2 → IfTold h2 (λ file. file ≡ settled (take end bytes))
+  cut_file [] h1 h2 is moves then = subst (λ (l : List File). IfTold l (λ file. file ≡ settled (take end bytes))) (sym (untold synced true h1 h2 moves then)) tt
+  cut_file (file ∷ past) h1 h2 is moves then =
+      let made : h2 ≡ synced (shortened end file) ∷ shortened end file ∷ file ∷ past = subst (λ (l : List File). Moves synced true l h2) moves then in
+      subst (λ (l : List File). IfTold l (λ file. file ≡ settled (take end bytes))) (sym made) (ap (λ (f : File). synced (shortened end f)) is)
+
   pub cut_within : (h : List File) → IfTold h (λ file. file ≡ settled bytes) → IfTold h (λ file. end ≤ length file.content)
   cut_within [] is = tt
   cut_within (file ∷ past) is = omega (arith, ap (λ (f : File). length f.content) is, end_within)
@@ -130,3 +141,9 @@ module _ (bytes : List ℕ) (brief : length bytes ≤ 1) where
   empty_done (file ∷ past) h1 h2 h3 is a b d =
       let made : h3 ≡ synced (gate (shortened 0 file)) ∷ gate (shortened 0 file) ∷ shortened 0 file ∷ file ∷ past = subst (λ (l : List File). Moves synced true l h3) (two file past h1 h2 a b) d in
       subst (λ (l : List File). IfTold l (RestsOn [])) (sym made) (subst (λ (f : File). RestsOn [] (synced (gate (shortened 0 f)))) (sym is) made_rests)
+
+  pub empty_file : (h0 h1 h2 h3 : List File) → IfTold h0 (λ file. file ≡ settled bytes) → Moves (shortened 0) true h0 h1 → Moves gate true h1 h2 → Moves synced true h2 h3 → IfTold h3 (λ file. file ≡ settled (0 ∷ []))
+  empty_file [] h1 h2 h3 is a b d = subst (λ (l : List File). IfTold l (λ file. file ≡ settled (0 ∷ []))) (sym (untold synced true h2 h3 (untold gate true h1 h2 a b) d)) tt
+  empty_file (file ∷ past) h1 h2 h3 is a b d =
+      let made : h3 ≡ synced (gate (shortened 0 file)) ∷ gate (shortened 0 file) ∷ shortened 0 file ∷ file ∷ past = subst (λ (l : List File). Moves synced true l h3) (two file past h1 h2 a b) d in
+      subst (λ (l : List File). IfTold l (λ file. file ≡ settled (0 ∷ []))) (sym made) (ap (λ (f : File). synced (gate (shortened 0 f))) is)

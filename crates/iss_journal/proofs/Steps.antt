@@ -5,7 +5,7 @@ use Rattle.std.proofs.lemmas.Bool.{true≢false, false≢true}
 use Rattle.iss_disk.specs.File.{File, Image, settled, wrote, synced}
 use Rattle.iss_disk.specs.Calls.{EachState, IfTold, IsBetween, Moves, StaysHere, Stays, HasCause, Passes, outcome, next, AtOutcome, Runs}
 use Rattle.iss_journal.specs.Frames.{frame, frames, max_entry, Reads, holds}
-use Rattle.iss_journal.specs.Promises.{OnlyLeaves, LeavesOnly, HoldsWithOrWithout, RestsOn}
+use Rattle.iss_journal.specs.Promises.{OnlyLeaves, LeavesOnly, HoldsWithOrWithout, RestsOn, EndsClosed}
 use Rattle.iss_journal.proofs.Crash as crash
 
 -- Passes
@@ -86,6 +86,7 @@ pub record Interrupted (entries : List (List ℕ)) (entry : List ℕ) (old new :
 pub record Appended (entries : List (List ℕ)) (entry : List ℕ) (old new : List File) : Type 0 where
   pub moment : LeavesOnly (HoldsWithOrWithout entries entry) old new
   pub rests : IfTold new (RestsOn (entries ++ entry ∷ []))
+  pub file : IfTold new (EndsClosed (entries ++ entry ∷ []))
 
 module _ (entries : List (List ℕ)) (entry : List ℕ) (fits : length entry ≤ max_entry) where
   abbrev last : ℕ
@@ -130,6 +131,9 @@ module _ (entries : List (List ℕ)) (entry : List ℕ) (fits : length entry ≤
 
     is_appended : RestsOn (entries ++ entry ∷ []) (synced (open_gate (synced (write file))))
     is_appended = subst (λ (f : File). RestsOn (entries ++ entry ∷ []) (synced (open_gate f))) (sym is_staged) (crash.rests entries entry rests.gate rests.short fits rests.closed)
+
+    is_closed : EndsClosed (entries ++ entry ∷ []) (synced (open_gate (synced (write file))))
+    is_closed = ap (λ (f : File). synced (open_gate f)) is_staged ∙ ap settled (crash.opened entries entry rests.gate rests.short fits rests.closed)
 
     in_place : OnlyLeaves P (synced (open_gate (synced (write file))))
     in_place c image = inr (reads_rest (entries ++ entry ∷ []) (synced (open_gate (synced (write file)))) is_appended c image)
@@ -184,10 +188,11 @@ module _ (entries : List (List ℕ)) (entry : List ℕ) (fits : length entry ≤
         let made = subst (λ (l : List File). Moves synced false l h4) (three h1 h2 h3 w s o) t in
         subst (λ (l : List File). IfTold l (λ f. K f.kept)) (sym made.1) (between_kept K made.0 (open_gate (synced (write file))) (synced (open_gate (synced (write file)))) (synced (write file) ∷ write file ∷ file ∷ past) made.2 kept_staged)
 
-    pub rests4 : (h1 h2 h3 h4 : List File) → Moves write true (file ∷ past) h1 → Moves synced true h1 h2 → Moves open_gate true h2 h3 → Moves synced true h3 h4 → IfTold h4 (RestsOn (entries ++ entry ∷ []))
-    rests4 h1 h2 h3 h4 w s o t =
+    -- what is true of the file after all four calls
+    pub after4 : (Q : File → Type 0) (h1 h2 h3 h4 : List File) → Moves write true (file ∷ past) h1 → Moves synced true h1 h2 → Moves open_gate true h2 h3 → Moves synced true h3 h4 → Q (synced (open_gate (synced (write file)))) → IfTold h4 Q
+    after4 Q h1 h2 h3 h4 w s o t is =
         let made : h4 ≡ synced (open_gate (synced (write file))) ∷ open_gate (synced (write file)) ∷ synced (write file) ∷ write file ∷ file ∷ past = subst (λ (l : List File). Moves synced true l h4) (three h1 h2 h3 w s o) t in
-        subst (λ (l : List File). IfTold l (RestsOn (entries ++ entry ∷ []))) (sym made) is_appended
+        subst (λ (l : List File). IfTold l Q) (sym made) is
 
   pub exit1 : (h0 h1 : List File) → IfTold h0 (RestsOn entries) → Moves write false h0 h1 → Interrupted entries entry h0 h1
   exit1 [] h1 rests w = nothing [] h1 refl w
@@ -208,8 +213,16 @@ module _ (entries : List (List ℕ)) (entry : List ℕ) (fits : length entry ≤
   pub finish : (h0 h1 h2 h3 h4 : List File) → IfTold h0 (RestsOn entries) → Moves write true h0 h1 → Moves synced true h1 h2 → Moves open_gate true h2 h3 → Moves synced true h3 h4 → Appended entries entry h0 h4
   finish [] h1 h2 h3 h4 rests w s o t =
       let none : h4 ≡ [] = untold synced true h3 h4 (untold open_gate true h2 h3 (untold synced true h1 h2 w s) o) t in
-      record { moment = none; rests = subst (λ (l : List File). IfTold l (RestsOn (entries ++ entry ∷ []))) (sym none) tt }
-  finish (file ∷ past) h1 h2 h3 h4 rests w s o t = record { moment = told4 file past rests true h1 h2 h3 h4 w s o t; rests = rests4 file past rests h1 h2 h3 h4 w s o t }
+      record {
+        moment = none;
+        rests = subst (λ (l : List File). IfTold l (RestsOn (entries ++ entry ∷ []))) (sym none) tt;
+        file = subst (λ (l : List File). IfTold l (EndsClosed (entries ++ entry ∷ []))) (sym none) tt;
+      }
+  finish (file ∷ past) h1 h2 h3 h4 rests w s o t = record {
+    moment = told4 file past rests true h1 h2 h3 h4 w s o t;
+    rests = after4 file past rests (RestsOn (entries ++ entry ∷ [])) h1 h2 h3 h4 w s o t (is_appended file past rests);
+    file = after4 file past rests (EndsClosed (entries ++ entry ∷ [])) h1 h2 h3 h4 w s o t (is_closed file past rests);
+  }
 
   -- the writes begin within the file
   pub first_within : (h0 : List File) → IfTold h0 (RestsOn entries) → IfTold h0 (λ file. last + 1 ≤ length file.content)

@@ -1,5 +1,5 @@
 -- What a journal promises of a file, whatever a crash makes of it.
-use Rattle.std.specs.Prelude.{◌≡◌, ◌≢◌, ◌⊎◌, ℕ, List, [], ◌∷◌, ◌++◌}
+use Rattle.std.specs.Prelude.{◌≡◌, ◌≢◌, ◌⊎◌, ℕ, ◌+◌, ◌<◌, ◌≤◌, List, [], ◌∷◌, ◌++◌, length, take}
 use Rattle.iss_disk.specs.File.{File, Image, settled}
 use Rattle.iss_disk.specs.Calls.{EachState, Passes, script}
 use Rattle.iss_journal.specs.Frames.{frames, AreShort, Reading, Reads, holds}
@@ -34,11 +34,26 @@ pub record RestsOn (entries : List (List ℕ)) (file : File) : Type 0 where
   pub is : file ≡ settled (frames entries ++ gate ∷ [])
   pub short : AreShort entries
 
+-- What attaching makes of a file that holds these entries: of at most one byte a closed gate alone, and of any other all
+-- up to its last gate, whatever byte that is. All of it is synced.
+abbrev pub ComesToRest : List (List ℕ) → List ℕ → File → Type 0
+ComesToRest entries bytes now =
+    ((length bytes ≤ 1) × (now ≡ settled (0 ∷ [])))
+    ⊎ ((1 < length bytes) × (now ≡ settled (take (length (frames entries) + 1) bytes)))
+
+-- what an append leaves: the entries and a closed gate, all of it synced
+abbrev pub EndsClosed : List (List ℕ) → File → Type 0
+EndsClosed entries file = file ≡ settled (frames entries ++ 0 ∷ [])
+
+-- a crash leaves only bytes that are read so
+abbrev pub OnlyReads : Reading → File → Type 0
+OnlyReads reading = OnlyLeaves (λ bytes. Reads bytes reading)
+
 -- a crash at any moment of a call leaves a file that reads as what a read gave before it
 abbrev pub LeavesReading : List File → List File → Type 0
 LeavesReading [] new = new ≡ []
 LeavesReading (file ∷ past) new = (added : List File) × (new ≡ added ++ file ∷ past)
-    × ((reading : Reading) → Reads file.content reading → OnlyLeaves (λ bytes. Reads bytes reading) file × EachState (OnlyLeaves (λ bytes. Reads bytes reading)) added)
+    × ((reading : Reading) → Reads file.content reading → OnlyReads reading file × EachState (OnlyReads reading) added)
 
 -- a disk of which all calls pass goes on so, and nothing fails
 abbrev pub Works : Passes → Passes → Type 0 → Type 0

@@ -23,7 +23,7 @@ impl<D: Disk> Journal<D> {
     ghost use Rattle.std.specs.Prelude.{slice_index_or, take};
     ghost use Rattle.iss_disk.specs.Calls.{IfTold, Stays, StaysHere, HasCause, Runs};
     ghost use Rattle.iss_journal.specs.Frames.{frames, max_entry, Reads, holds, damaged};
-    ghost use Rattle.iss_journal.specs.Promises.{OnlyLeaves, LeavesOnly, HoldsWithOrWithout, LosesNothing, Works};
+    ghost use Rattle.iss_journal.specs.Promises.{OnlyLeaves, LeavesOnly, HoldsWithOrWithout, LosesNothing, ComesToRest, EndsClosed, Works};
     ghost use Rattle.iss_journal.specs.EntryViews.{entries_in};
     ghost use Rattle.iss_journal.specs.Sound.{disk_of, entries_of, is_attached, reserved_of, IsSound, NothingChanged};
 
@@ -50,6 +50,8 @@ impl<D: Disk> Journal<D> {
         ensures damaged { (at : ℕ) → IsErrOf result (AttachError.Damaged at) → IfTold (D.history (disk_of self.old)) (λ file. Reads file.content (damaged at)) }
         ensures err { OnErr result (entries_of self.new ≡ entries_of self.old) }
         ensures attached { is_attached self.new ≡ is_ok result }
+        ensures file { OnOk result (IfTold (D.history (disk_of self.old)) (λ before.
+            IfTold (D.history (disk_of self.new)) (ComesToRest (entries_of self.new) before.content))) }
 
         // From then on each crash leaves the entries that were found, and one at any moment of the call loses no entry
         // that each crash before it would have left.
@@ -125,6 +127,7 @@ impl<D: Disk> Journal<D> {
         requires short { length entry.now ≤ max_entry }
         ensures entries { OnOk result (entries_of self.new ≡ entries_of self.old ++ entry.now ∷ []) }
         ensures err { OnErr result (entries_of self.new ≡ entries_of self.old) }
+        ensures file { OnOk result (IfTold (D.history (disk_of self.new)) (EndsClosed (entries_of self.new))) }
         ensures attached { OnOk result (is_attached self.new ≡ true) }
         ensures failed { IsErrOf result EndError.Failed → is_attached self.new ≡ false }
 

@@ -2,7 +2,7 @@
 ghost use Rattle.std.specs.Prelude.{◌≡◌, ◌+◌, ◌≤◌, ◌++◌, [], ◌∷◌, length, is_ok, OnOk, OnErr, IsErr};
 ghost use Rattle.iss_disk.specs.Calls.{IfTold, StaysHere, HasCause, Runs};
 ghost use Rattle.iss_journal.specs.Frames.{frame, frames, max_entry, Reads, holds};
-ghost use Rattle.iss_journal.specs.Promises.{LeavesOnly, HoldsWithOrWithout, RestsOn};
+ghost use Rattle.iss_journal.specs.Promises.{LeavesOnly, HoldsWithOrWithout, RestsOn, EndsClosed};
 ghost use Rattle.iss_journal.specs.EntryViews.{entries_in};
 
 use crate::entries::{Entries, OPEN};
@@ -24,6 +24,7 @@ pub(crate) fn keep_entry<D: Disk>(
     // A crash at any moment leaves the entries, with the new one or without.
     ensures any_moment { LeavesOnly (HoldsWithOrWithout (entries_in entries.now) entry.now) (D.history disk.old) (D.history disk.new) }
     ensures rests { OnOk result (IfTold (D.history disk.new) (RestsOn (entries_in entries.now ++ entry.now ∷ []))) }
+    ensures file { OnOk result (IfTold (D.history disk.new) (EndsClosed (entries_in entries.now ++ entry.now ∷ []))) }
     ensures kept { OnErr result (IfTold (D.history disk.new) (λ file. Reads file.kept (holds (entries_in entries.now)))) }
     ensures others { StaysHere (D.current disk.old) (D.current disk.new) (D.files disk.old) (D.files disk.new) }
     ensures cause { HasCause (D.faults disk.old) (D.faults disk.new) (IsErr result) }

@@ -1,8 +1,8 @@
 // Bringing a file that was read to rest.
-ghost use Rattle.std.specs.Prelude.{◌≡◌, ◌≤◌, [], ◌∷◌, length, OnOk, IsErr};
+ghost use Rattle.std.specs.Prelude.{◌≡◌, ◌+◌, ◌≤◌, [], ◌∷◌, length, take, OnOk, IsErr};
 ghost use Rattle.iss_disk.specs.File.{settled};
 ghost use Rattle.iss_disk.specs.Calls.{IfTold, StaysHere, HasCause};
-ghost use Rattle.iss_journal.specs.Frames.{ClosesAfter, Reads, holds};
+ghost use Rattle.iss_journal.specs.Frames.{frames, ClosesAfter, Reads, holds};
 ghost use Rattle.iss_journal.specs.Promises.{LeavesOnly, RestsOn, Works};
 ghost use Rattle.iss_journal.specs.EntryViews.{entries_in};
 
@@ -16,6 +16,7 @@ pub(crate) fn cut_tail<D: Disk>(disk: &mut D, entries: &Entries) -> Result<(), F
     requires calls { 2 ≤ (D.room disk.old).calls }
     ensures any_moment { LeavesOnly (λ bytes. Reads bytes (holds (entries_in entries.now))) (D.history disk.old) (D.history disk.new) }
     ensures rests { OnOk result (IfTold (D.history disk.new) (RestsOn (entries_in entries.now))) }
+    ensures file { OnOk result (IfTold (D.history disk.new) (λ file. file ≡ settled (take (length (frames (entries_in entries.now)) + 1) entries.now.bytes.items))) }
     ensures others { StaysHere (D.current disk.old) (D.current disk.new) (D.files disk.old) (D.files disk.new) }
     ensures cause { HasCause (D.faults disk.old) (D.faults disk.new) (IsErr result) }
     ensures works { Works (D.passes disk.old) (D.passes disk.new) (IsErr result) }
@@ -35,6 +36,7 @@ pub(crate) fn make_empty<D: Disk>(disk: &mut D, bytes: &[u8]) -> Result<(), Fail
     requires bytes { 1 ≤ (D.room disk.old).bytes }
     ensures any_moment { LeavesOnly (λ bytes. Reads bytes (holds [])) (D.history disk.old) (D.history disk.new) }
     ensures rests { OnOk result (IfTold (D.history disk.new) (RestsOn [])) }
+    ensures file { OnOk result (IfTold (D.history disk.new) (λ file. file ≡ settled (0 ∷ []))) }
     ensures others { StaysHere (D.current disk.old) (D.current disk.new) (D.files disk.old) (D.files disk.new) }
     ensures cause { HasCause (D.faults disk.old) (D.faults disk.new) (IsErr result) }
     ensures works { Works (D.passes disk.old) (D.passes disk.new) (IsErr result) }

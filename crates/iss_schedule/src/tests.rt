@@ -9,19 +9,28 @@ const HEADER: &str =
 // A line number, what is wrong there, and the line that stands there in place of a good one.
 const BAD_LINES: &str =
     "1 Form iss 2\n1 Form iss 01\n1 Form iss  1\n1 Form iss 1 \n1 Form \n1 Form Iss 1\n1 Form iss 1\r
-2 Form module raft\n2 Form module\n2 Form module relay x\n3 Range f 1\n3 Form f 00\n3 Form f\n3 Form f -0\n3 Form f 0x\n4 Range epoch 2\n4 Range epoch 65\n4 Form epoch +3
-5 Range buckets 0\n5 Range buckets 257\n5 Form bucket 1\n6 Range batch 33\n6 Range batch 0\n7 Range window 65\n7 Range window 99999999999999999999999999\n8 Form policy backoff
-8 Form policy Simple\n9 Range clients 257\n9 Range clients 0\n9 Form clients \n10 Range keys 1\n10 Range keys 13\n10 Form keys 4 4\n11 Faulty faulty 0\n11 Faulty faulty 1 0 7
-11 Form faulty\n11 Form faulty 01\n11 Form faulty none none\n11 Form faulty 0 none\n12 Form \n12 Form jump 0\n12 Form ask 0 1\n12 Form restart 0\n12 Form crash 0 1
-12 Form propose\n12 Form propose 0 0\n12 Form propose  0\n12 Form propose 00\n12 Form propose 0 \n12 Form  propose 0\n12 Form propose\t0\n12 Form Propose 0\n12 Form propose 0\r
-12 Range propose 3\n12 Range propose 18446744073709551616\n12 Form propose 018446744073709551616\n12 Form request 0 0 0\n12 Form request 0 0 0 AA\n12 Form request 0 0 0 a
+2 Form module raft\n2 Form module\n2 Form module relay x\n3 Range f 1\n3 Form f 00
+3 Form f\n3 Form f -0\n3 Form f 0x\n4 Range epoch 2\n4 Range epoch 65\n4 Form epoch +3
+5 Range buckets 0\n5 Range buckets 257\n5 Form bucket 1\n6 Range batch 33\n6 Range batch 0
+7 Range window 65\n7 Range window 99999999999999999999999999\n8 Form policy backoff
+8 Form policy Simple\n9 Range clients 257\n9 Range clients 0\n9 Form clients \n10 Range keys 1
+10 Range keys 13\n10 Form keys 4 4\n11 Faulty faulty 0\n11 Faulty faulty 1 0 7
+11 Form faulty\n11 Form faulty 01\n11 Form faulty none none\n11 Form faulty 0 none
+12 Form \n12 Form jump 0\n12 Form ask 0 1\n12 Form restart 0\n12 Form crash 0 1
+12 Form propose\n12 Form propose 0 0\n12 Form propose  0\n12 Form propose 00
+12 Form propose 0 \n12 Form  propose 0\n12 Form propose\t0\n12 Form Propose 0\n12 Form propose 0\r
+12 Range propose 3\n12 Range propose 18446744073709551616\n12 Form propose 018446744073709551616
+12 Form request 0 0 0\n12 Form request 0 0 0 AA\n12 Form request 0 0 0 a
 12 Form request 0 0 0 aa bb\n12 Form request 0 0 0 \n12 Form request 9 9 99 0g\n12 Range request 3 0 0 aa\n12 Range request 0 1 0 aa\n12 Range request 0 0 16 aa
-12 Range timeout 0 3\n12 Range timeout 3 0\n12 Form timeout 0\n12 Range deliver 18446744073709551616\n12 Form deliver -1\n12 Range lose 99999999999999999999\n12 Form pump 0
-12 Range calm 0\n12 Range calm 1001\n12 Range hold 3\n12 Range free 3\n12 Range drop 3\n12 Injected bytes 0 00\n12 Injected bytes 99999999999999999999 -\n12 Form bytes 0 0
+12 Range timeout 0 3\n12 Range timeout 3 0\n12 Form timeout 0\n12 Range deliver 18446744073709551616
+12 Form deliver -1\n12 Range lose 99999999999999999999\n12 Form pump 0
+12 Range calm 0\n12 Range calm 1001\n12 Range hold 3\n12 Range free 3\n12 Range drop 3
+12 Injected bytes 0 00\n12 Injected bytes 99999999999999999999 -\n12 Form bytes 0 0
 12 Form bytes 0\n12 Form bytes 00 00";
 
 const EVENTS: &str =
-    "request 0 0 0 aa\nrequest 2 0 15 -\nrequest 1 0 7 00ff10\npropose 0\ntimeout 1 2\ndeliver 18446744073709551615\nlose 0\npump\ncalm 1000\ncalm 1\nhold 2\nfree 2\ndrop 1\n";
+    "request 0 0 0 aa\nrequest 2 0 15 -\nrequest 1 0 7 00ff10\npropose 0\ntimeout 1 2\n\
+     deliver 18446744073709551615\nlose 0\npump\ncalm 1000\ncalm 1\nhold 2\nfree 2\ndrop 1\n";
 
 // The header of a worked schedule in which each node has two slots.
 const WIDE_HEADER: &str =

@@ -1,7 +1,7 @@
 use Rattle.std.proofs.Common.{◌≡◌, ◌∙◌, ◌≤◌, ◌-◌, ℕ, List, length, take, drop, ap, subst, arith, length-drop}
 use Rattle.std.proofs.lemmas.List.{take_all}
 use Rattle.iss_cli.specs.Ends.{and_more}
-use Rattle.iss_cli.proofs.EndLemmas.{and_more_piece}
+use Rattle.iss_cli.proofs.EndLemmas.{and_more_piece, no_error}
 use Rattle.iss_cli.proofs.output.write_all.Goals as goal
 
 pub loop-put-preserved : goal.loop-put-preserved
@@ -15,5 +15,5 @@ loop-put-preserved g c =
       within = omega (arith, bound, length-drop put bytes);
       held = and_more_piece (g.O.Sink.held c.args.out.now) (g.O.Sink.held c.loop-put.out) (g.O.Sink.held c.put.new.self) put n bytes c.loop-put.invariant.held
           (c.in_ok-put.ensures.held ∙ ap (λ xs. and_more (g.O.Sink.held c.loop-put.out) (take n xs)) rest);
-      never_falls = omega (arith, c.loop-put.invariant.never_falls, c.in_ok-put.ensures.cause.never_falls);
+      still = c.in_ok-put.ensures.cause.still (no_error _ _) ∙ c.loop-put.invariant.still;
     }

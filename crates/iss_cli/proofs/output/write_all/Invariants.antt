@@ -6,7 +6,7 @@ abbrev pub invariant-loop-put : goal.invariant-loop-put
 invariant-loop-put g l = record {
   within : l.put ≤ length l.bytes;
   held : g.O.Sink.held l.out ≡ and_more (g.O.Sink.held l.initial.out) (take l.put l.bytes);
-  never_falls : g.O.Sink.faults l.initial.out ≤ g.O.Sink.faults l.out;
+  still : g.O.Sink.faults l.out ≡ g.O.Sink.faults l.initial.out;
 }
 
 abbrev pub decreases-loop-put : goal.decreases-loop-put

@@ -98,3 +98,13 @@ returns-clause-rests g c =
     let o = same_write c.last-gate.result (length (frames (entries_in c.args.entries.now))) (1 ∷ []) (1 ∷ []) true (g.D.Disk.history c.sync.new.self) (g.D.Disk.history c.write_at-2.new.self) c.last-gate.ensures.offset refl c.in_ok-write_at-2.ensures.file in
     let t : Moves synced true (g.D.Disk.history c.write_at-2.new.self) (g.D.Disk.history c.sync-2.new.self) = c.in_ok-sync-2.ensures.file in
     (finish (entries_in c.args.entries.now) c.args.entry.now c.requires.short (g.D.Disk.history c.args.disk.now) (g.D.Disk.history c.write_at.new.self) (g.D.Disk.history c.sync.new.self) (g.D.Disk.history c.write_at-2.new.self) (g.D.Disk.history c.sync-2.new.self) c.requires.rests w s o t).rests
+
+pub returns-clause-file : goal.returns-clause-file
+returns-clause-file g c =
+    let bytes = is_body (entries_in c.args.entries.now) c.args.entry.now c.args.entries.now.bytes.items c.staged-staged.result.now c.requires.staged c.staged-staged.ensures in
+    let place = ap (λ (n : ℕ). n + 1) c.last-gate.ensures.offset in
+    let w = same_write (c.last-gate.result + 1) (length (frames (entries_in c.args.entries.now)) + 1) c.staged-staged.result.now (body c.args.entry.now) true (g.D.Disk.history c.args.disk.now) (g.D.Disk.history c.write_at.new.self) place bytes c.in_ok-write_at.ensures.file in
+    let s : Moves synced true (g.D.Disk.history c.write_at.new.self) (g.D.Disk.history c.sync.new.self) = c.in_ok-sync.ensures.file in
+    let o = same_write c.last-gate.result (length (frames (entries_in c.args.entries.now))) (1 ∷ []) (1 ∷ []) true (g.D.Disk.history c.sync.new.self) (g.D.Disk.history c.write_at-2.new.self) c.last-gate.ensures.offset refl c.in_ok-write_at-2.ensures.file in
+    let t : Moves synced true (g.D.Disk.history c.write_at-2.new.self) (g.D.Disk.history c.sync-2.new.self) = c.in_ok-sync-2.ensures.file in
+    (finish (entries_in c.args.entries.now) c.args.entry.now c.requires.short (g.D.Disk.history c.args.disk.now) (g.D.Disk.history c.write_at.new.self) (g.D.Disk.history c.sync.new.self) (g.D.Disk.history c.write_at-2.new.self) (g.D.Disk.history c.sync-2.new.self) c.requires.rests w s o t).file

@@ -2,7 +2,7 @@ use Rattle.std.proofs.Common.{sym, subst, List, ℕ}
 use Rattle.iss_disk.specs.File.{File}
 use Rattle.iss_disk.specs.Calls.{IfTold}
 use Rattle.iss_journal.specs.EntryViews.{entries_in}
-use Rattle.iss_journal.specs.Promises.{LeavesOnly, HoldsWithOrWithout, RestsOn}
+use Rattle.iss_journal.specs.Promises.{LeavesOnly, HoldsWithOrWithout, RestsOn, EndsClosed}
 use Rattle.iss_journal.proofs.Reading.{rests_durable, rests_start}
 use Rattle.iss_journal.proofs.journal.Journal.append.Goals as goal
 
@@ -16,3 +16,8 @@ pub returns-clause-durable : goal.returns-clause-durable
 returns-clause-durable g c =
     let h = g.D.Disk.history c.keep_entry.new.disk in
     rests_durable h (entries_in c.commit.new.self) (subst (λ (es : List (List ℕ)). IfTold h (RestsOn es)) (sym c.commit.ensures) c.in_ok-keep_entry.ensures.rests)
+
+pub returns-clause-file : goal.returns-clause-file
+returns-clause-file g c =
+    let h = g.D.Disk.history c.keep_entry.new.disk in
+    subst (λ (es : List (List ℕ)). IfTold h (EndsClosed es)) (sym c.commit.ensures) c.in_ok-keep_entry.ensures.file

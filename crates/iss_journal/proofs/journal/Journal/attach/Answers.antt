@@ -3,7 +3,7 @@ use Rattle.iss_disk.specs.File.{File, Image}
 use Rattle.iss_disk.specs.Calls.{IfTold}
 use Rattle.iss_journal.specs.Frames.{Reads, damaged}
 use Rattle.iss_journal.specs.EntryViews.{entries_in}
-use Rattle.iss_journal.specs.Promises.{LosesNothing}
+use Rattle.iss_journal.specs.Promises.{LosesNothing, ComesToRest}
 use Rattle.iss_journal.specs.declared.errors.AttachError.TheVariants.{Damaged}
 use Rattle.iss_journal.proofs.Reading.{loses_start, rests_durable, history_same, sync_fails, sync_then, before_sync}
 use Rattle.iss_journal.proofs.journal.Journal.attach.Goals as goal
@@ -58,3 +58,14 @@ returns-clause-any_moment g c =
 
 pub returns-clause-durable : goal.returns-clause-durable
 returns-clause-durable g c = rests_durable (g.D.Disk.history c.load.new.disk) (entries_in c.in_ok-self.field-0) c.in_ok-self.ensures.rests
+
+pub returns-clause-file : goal.returns-clause-file
+returns-clause-file g c =
+    let d0 = c.args.self.now.disk in
+    let d1 = c.reserve.new.self in
+    let same : g.D.Disk.history d1 ≡ g.D.Disk.history d0 =
+    history_same (g.D.Disk.history d0) (g.D.Disk.history d1) (g.D.Disk.files d0) (g.D.Disk.files d1) (g.D.Disk.current d0) (g.D.Disk.current d1) (g.met.D.Disk.here d0) (g.met.D.Disk.here d1) c.reserve.ensures.same in
+    let es = entries_in c.in_ok-self.field-0 in
+    let new = g.D.Disk.history c.load.new.disk in
+    subst (λ (h : List File). IfTold h (λ file. IfTold new (ComesToRest es file.content))) same
+    (before_sync (λ bytes. IfTold new (ComesToRest es bytes)) (g.D.Disk.history d1) (g.D.Disk.history c.sync.new.self) c.in_ok-sync.ensures.file c.in_ok-self.ensures.file)
