@@ -6,7 +6,7 @@ ghost use Rattle.sb_echo.specs.Echo.{echo};
 ghost use Rattle.sb_echo.specs.Stands.{HasCompleted, HasTaken, Stands, is_complete, is_free, is_heard, may_cast, may_take, one_at};
 
 use crate::echoes::Echoes;
-use crate::signing::{ECHO, SAY, digest_of, sign, string_of};
+use crate::signing::{ECHO, SAY, digest_of, sign_word, string_of};
 use crate::wire;
 use crate::word::Word;
 use iss_keys::Keys;
@@ -149,8 +149,8 @@ impl Echo {
         }
         let said = batch.copy()?;
         let (digest, mut effects) = self.take(alloc, p, slot, batch)?;
-        let sig = sign(alloc, p, SAY, slot, &digest, keys)?;
-        let own = sign(alloc, p, ECHO, slot, &digest, keys)?;
+        let sig = sign_word(alloc, p, SAY, slot, &digest, keys)?;
+        let own = sign_word(alloc, p, ECHO, slot, &digest, keys)?;
         let word = Word::Say { slot, batch: said, sig };
         effects.sends.push((To::All, word))?;
         let word = Word::Echo { slot, digest, sig: own };
@@ -176,7 +176,7 @@ impl Echo {
             return Ok(Effects::nothing(alloc));
         }
         let (digest, mut effects) = self.take(alloc, p, slot, batch)?;
-        let sig = sign(alloc, p, ECHO, slot, &digest, keys)?;
+        let sig = sign_word(alloc, p, ECHO, slot, &digest, keys)?;
         let word = Word::Echo { slot, digest, sig };
         effects.sends.push((To::All, word))?;
         Ok(effects)
