@@ -7,7 +7,8 @@ use crate::echo::Echo;
 use crate::word::Word;
 use iss_keys::{Keys, SharedDirectory, node_secret};
 use iss_request::{
-    Batch, Bytes, Epoch, Fields, Kind, NoMemory, NodeId, Nodes, Policy, Row, Setup, Slot, Value, Writer,
+    Batch, Bytes, Epoch, Fields, Kind, NoMemory, NodeId, Nodes, Policy, Row, Setup, Slot, Value,
+    Writer,
 };
 use iss_sb::{Effects, Input, Params, Sequenced, To, broadcast};
 use std::alloc::Global;
