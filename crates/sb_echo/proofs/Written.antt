@@ -21,9 +21,6 @@ pub string-written : (p : Params) (batch : Batch) (a b c : Written) (first : ℕ
 unfolding spell_value
 string-written p batch a b c first hf ha hb hc = rw (hc, hb, hf, ha) refl
 
-pub head-written : (p : Params) (a b c d e : Written) → p.epoch.0 < 2 ^ 64 → b ≡ and_bytes a p.setup.tag → c ≡ and_bytes b (to_be_bytes w64 p.epoch.0) → d ≡ and_bytes c (p.leader.0 ∷ []) → e ≡ and_bytes d (6 ∷ []) → e ≡ and_bytes a (statement_head p 6)
-head-written p a b c d e lt hb hc hd he = let same = eight-is p.epoch.0 lt in rw (he, hd, hc, hb, same) (simp append_assoc)
-
 pub statement-written : (p : Params) (kind s : ℕ) (digest : List ℕ) (version : ℕ) (a b c d : Written) → s < 2 ^ 64 → a ≡ and_bytes (start version) (statement_head p 6) → b ≡ and_bytes a (kind ∷ []) → c ≡ and_bytes b (to_be_bytes w64 s) → d ≡ and_bytes c digest → d.bytes ≡ statement p kind s digest
 statement-written p kind s digest version a b c d lt ha hb hc hd = let same = eight-is s lt in rw (hd, hc, hb, ha, same) (simp append_assoc)
 

@@ -6,7 +6,7 @@ ghost use Rattle.sb_echo.specs.Echo.{echo};
 ghost use Rattle.sb_echo.specs.Stands.{HasCompleted, HasTaken, Stands, is_complete, is_free, is_heard, may_cast, may_take, one_at};
 
 use crate::echoes::Echoes;
-use crate::signing::{ECHO, SAY, digest_of, sign, string_of};
+use crate::signing::{ECHO, SAY, digest_of, sign_word, string_of};
 use crate::wire;
 use crate::word::Word;
 use iss_keys::Keys;
@@ -113,7 +113,8 @@ impl Echo {
             effects.delivers.push((slot, value))?;
             return Ok((digest, effects));
         }
-        self.places.insert(slot.0, Place::Waiting { digest, value })?;
+        self.places
+            .insert(slot.0, Place::Waiting { digest, value })?;
         Ok((digest, effects))
     }
 
@@ -149,11 +150,19 @@ impl Echo {
         }
         let said = batch.copy()?;
         let (digest, mut effects) = self.take(alloc, p, slot, batch)?;
-        let sig = sign(alloc, p, SAY, slot, &digest, keys)?;
-        let own = sign(alloc, p, ECHO, slot, &digest, keys)?;
-        let word = Word::Say { slot, batch: said, sig };
+        let sig = sign_word(alloc, p, SAY, slot, &digest, keys)?;
+        let own = sign_word(alloc, p, ECHO, slot, &digest, keys)?;
+        let word = Word::Say {
+            slot,
+            batch: said,
+            sig,
+        };
         effects.sends.push((To::All, word))?;
-        let word = Word::Echo { slot, digest, sig: own };
+        let word = Word::Echo {
+            slot,
+            digest,
+            sig: own,
+        };
         effects.sends.push((To::All, word))?;
         Ok(effects)
     }
@@ -176,7 +185,7 @@ impl Echo {
             return Ok(Effects::nothing(alloc));
         }
         let (digest, mut effects) = self.take(alloc, p, slot, batch)?;
-        let sig = sign(alloc, p, ECHO, slot, &digest, keys)?;
+        let sig = sign_word(alloc, p, ECHO, slot, &digest, keys)?;
         let word = Word::Echo { slot, digest, sig };
         effects.sends.push((To::All, word))?;
         Ok(effects)
@@ -256,7 +265,10 @@ impl Sequenced for Echo {
                     None
                 }
             }
-            Input::Receive { from, msg: Word::Say { slot, batch, .. } } => {
+            Input::Receive {
+                from,
+                msg: Word::Say { slot, batch, .. },
+            } => {
                 if self.may_take(p, *from, *slot) {
                     Some((*slot, batch))
                 } else {
@@ -288,8 +300,12 @@ impl Sequenced for Echo {
         match i {
             Input::Cast { slot, batch } => Ok(self.cast(alloc, p, slot, batch, keys)?),
             Input::Receive { from, msg } => match msg {
-                Word::Say { slot, batch, .. } => Ok(self.take_say(alloc, p, from, slot, batch, keys)?),
-                Word::Echo { slot, digest, .. } => Ok(self.take_echo(alloc, p, from, slot, digest)?),
+                Word::Say { slot, batch, .. } => Ok(self.take_say(
+                    alloc, p, from, slot, batch, keys,
+                )?),
+                Word::Echo { slot, digest, .. } => Ok(self.take_echo(
+                    alloc, p, from, slot, digest,
+                )?),
             },
             Input::Timeout => Ok(Effects::nothing(alloc)),
         }

@@ -2,14 +2,13 @@
 ghost use Rattle.std.specs.Prelude.{◌≡◌, ℕ, ◌+◌, ◌<◌, IfOk, OnOk};
 ghost use Rattle.iss_keys.specs.Directories.{AreKeysOf};
 ghost use Rattle.iss_keys.specs.KeyStates.{left_of};
-ghost use Rattle.iss_request.specs.Fields.{and_bytes};
-ghost use Rattle.iss_sb.specs.Statements.{signature, statement_head};
+ghost use Rattle.iss_sb.specs.Statements.{signature};
 ghost use Rattle.sb_echo.specs.Echo.{digest_of, statement, string_of};
 
-use iss_keys::{Keys, SignError};
+use iss_keys::Keys;
 use iss_request::values::write_batch;
 use iss_request::{Batch, Bytes, NoMemory, Slot, Writer, version_byte};
-use iss_sb::Params;
+use iss_sb::{Params, put_head, sign};
 use sha2::{Digest, Sha256};
 use std::alloc::Global;
 
@@ -42,16 +41,6 @@ pub fn digest_of(p: &Params, batch: &Batch, string: &Bytes) -> [u8; 32]
     Sha256::digest(string.as_slice())
 }
 
-// What every statement of the instance begins with.
-fn put_head(p: &Params, out: &mut Writer) -> Result<(), NoMemory>
-    ensures { OnOk result (out.new ≡ and_bytes out.old (statement_head p.now 6)) }
-{
-    out.put_bytes(&p.setup.tag)?;
-    out.put_u64(p.epoch.0)?;
-    out.put_u8(p.leader.0)?;
-    out.put_u8(TAG)
-}
-
 /// The statement that a batch of this digest was said, or taken, at the slot.
 pub fn statement(
     alloc: Global,
@@ -63,7 +52,7 @@ pub fn statement(
     ensures { IfOk result (λ s. s ≡ statement p.now kind slot.0 digest.now) }
 {
     let mut out = Writer::new(alloc, p.setup.version);
-    put_head(p, &mut out)?;
+    put_head(p, TAG, &mut out)?;
     out.put_u8(kind)?;
     out.put_u64(slot.0)?;
     out.put_bytes(digest)?;
@@ -71,7 +60,7 @@ pub fn statement(
 }
 
 /// Signs that a batch of this digest was said, or taken, at the slot, with the next leaf.
-pub fn sign(
+pub fn sign_word(
     alloc: Global,
     p: &Params,
     kind: u8,
@@ -80,14 +69,11 @@ pub fn sign(
     keys: &mut Keys,
 ) -> Result<Bytes, NoMemory>
     requires { 0 < left_of keys.old }
-    ensures sig { IfOk result (λ s. (me : ℕ) → AreKeysOf me p.now.setup.keys keys.old → s ≡ signature p.now me keys.old.used (statement p.now kind slot.0 digest.now)) }
+    ensures sig { IfOk result (λ s. (me : ℕ) → AreKeysOf me p.now.setup.keys keys.old →
+        s ≡ signature p.now me keys.old.used (statement p.now kind slot.0 digest.now)) }
     ensures used { OnOk result (keys.new ≡ record keys.old { used = keys.old.used + 1 }) }
     ensures left { OnOk result (left_of keys.new + 1 ≡ left_of keys.old) }
 {
     let statement = statement(alloc, p, kind, slot, digest)?;
-    match keys.sign(statement.as_slice()) {
-        Ok(sig) => Ok(Bytes::of(sig)),
-        Err(SignError::NoMemory) => Err(NoMemory),
-        Err(SignError::Spent) => unreachable!(),
-    }
+    sign(&statement, keys)
 }

@@ -5,9 +5,10 @@ ghost use Rattle.sb_echo.specs.Echo.{echo};
 
 use crate::echo::Echo;
 use crate::word::Word;
-use iss_keys::{Keys, SharedDirectory};
+use iss_keys::{Keys, SharedDirectory, node_secret};
 use iss_request::{
-    Batch, Bytes, Epoch, Fields, Kind, NoMemory, NodeId, Nodes, Policy, Row, Setup, Slot, Value, Writer,
+    Batch, Bytes, Epoch, Fields, Kind, NoMemory, NodeId, Nodes, Policy, Row, Setup, Slot, Value,
+    Writer,
 };
 use iss_sb::{Effects, Input, Params, Sequenced, To, broadcast};
 use std::alloc::Global;
@@ -81,7 +82,7 @@ fn hear(
 fn cast(alloc: Global, p: &Params) -> Result<Row<(To, Word)>, Fail>
     requires { IsGoodParams echo p.now }
 {
-    let mut keys = Keys::make(alloc, [0; 32], 2)?;
+    let mut keys = Keys::make(alloc, node_secret(0), 2)?;
     let mut leader = Echo::start(alloc, p, NodeId(0))?;
     let batch = Batch::new(alloc);
     let input = Input::Cast {
@@ -97,7 +98,7 @@ fn cast(alloc: Global, p: &Params) -> Result<Row<(To, Word)>, Fail>
 fn three_echoes_deliver(rt: HostRuntime) -> Result<(), Fail> {
     let alloc = rt.alloc();
     let p = instance(alloc)?;
-    let mut keys = Keys::make(alloc, [1; 32], 2)?;
+    let mut keys = Keys::make(alloc, node_secret(1), 2)?;
     let mut node = Echo::start(alloc, &p, NodeId(1))?;
     let sends = cast(alloc, &p)?;
     assert_eq!(rt; sends.len(), 2);
@@ -127,7 +128,7 @@ fn three_echoes_deliver(rt: HostRuntime) -> Result<(), Fail> {
 fn echoes_before_the_word(rt: HostRuntime) -> Result<(), Fail> {
     let alloc = rt.alloc();
     let p = instance(alloc)?;
-    let mut keys = Keys::make(alloc, [1; 32], 2)?;
+    let mut keys = Keys::make(alloc, node_secret(1), 2)?;
     let mut node = Echo::start(alloc, &p, NodeId(1))?;
     let sends = cast(alloc, &p)?;
     let [(_, say), (_, echo)] = sends.as_slice() else {
@@ -170,7 +171,10 @@ fn claims_verify(rt: HostRuntime) -> Result<(), Fail> {
         assert_eq!(rt; claims.len(), 1);
         for claim in claims.as_slice() {
             assert_eq!(rt; claim.by, NodeId(0));
-            assert_eq!(rt; claim.statement.len(), 83);
+            let statement = claim.statement.as_slice();
+            let sig = claim.sig.as_slice();
+            assert!(rt; p.directory.directory().verify_node(0, statement, sig));
+            assert!(rt; !p.directory.directory().verify_node(1, statement, sig));
         }
     }
     let mut fields = Fields::over(1, &[3, 0, 0]);

@@ -10,7 +10,8 @@ use crate::signing::{ECHO, SAY, digest_of, statement, string_of};
 use crate::word::Word;
 use iss_request::values::write_batch;
 use iss_request::{
-    Batch, Bytes, DecodeError, Fields, NoMemory, NodeId, Row, Slot, Value, Writer, read_signature, read_value, version_byte,
+    Batch, Bytes, DecodeError, Fields, NoMemory, NodeId, Row, Slot, Value, Writer, read_signature,
+    read_value, version_byte,
 };
 use iss_sb::{Claim, Params};
 use std::alloc::Global;
