@@ -1,0 +1,4 @@
+mod EntryGrammar
+mod EntryTable
+mod Examples
+mod MessageGrammar

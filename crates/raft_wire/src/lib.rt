@@ -2,7 +2,9 @@
 #![tactic(auto)]
 
 pub mod entries;
+pub mod laws;
 pub mod messages;
 
 pub use entries::{Entry, What};
+pub use laws::messages_are_exact;
 pub use messages::Message;
