@@ -1,4 +1,5 @@
 mod EntryGrammar
 mod EntryTable
 mod Examples
-mod MessageGrammar
+pub mod MessageGrammar
+pub mod Readable
