@@ -1,6 +1,6 @@
 -- How a node casts, and how it knows a request.
 use Rattle.std.specs.Prelude.{is_some}
-use Rattle.std.proofs.Common.{slice_get, inl, inr, arith, ◌≡◌, ℕ, zero, suc, ◌+◌, ◌<◌, Bool, true, false, List, [], ◌∷◌, ◌++◌, cond, ◌==◌, ◌||◌, ◌&&◌, not, Option, Some, None, Result, Ok, Err, IfOk, length, drop, get_or, refl, sym, ap, ◌∙◌, subst, if◌then◌else◌, add-one, drop-cons}
+use Rattle.std.proofs.Common.{slice_get, inl, inr, arith, ◌≡◌, ℕ, suc, ◌+◌, ◌<◌, Bool, true, false, List, [], ◌∷◌, ◌++◌, cond, ◌==◌, ◌||◌, ◌&&◌, not, Option, Some, None, Result, Ok, Err, IfOk, length, drop, get_or, refl, sym, ap, ◌∙◌, subst, add-one, drop-cons}
 use Rattle.std.specs.List.{list_any}
 use Rattle.iss_buckets.specs.Waiting.{cut, may_cast, uncut}
 use Rattle.iss_ids.proofs.Members.{has_id-append}

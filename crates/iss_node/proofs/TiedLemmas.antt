@@ -1,11 +1,11 @@
 -- A node that took an input stands for the core after it.
-use Rattle.std.proofs.Common.{get_or, slice_set, inl, inr, arith, ◌≡◌, ◌≢◌, ◌⊎◌, ℕ, zero, suc, ◌+◌, ◌/◌, ◌<◌, ◌≤◌, Bool, true, false, List, [], ◌∷◌, ◌++◌, ◌==◌, Option, Some, None, length, drop, reverse, refl, sym, ap, ◌∙◌, subst, slice_get, if◌then◌else◌}
+use Rattle.std.proofs.Common.{get_or, slice_set, inl, inr, arith, ◌≡◌, ◌≢◌, ◌⊎◌, ℕ, zero, suc, ◌+◌, ◌<◌, ◌≤◌, Bool, true, false, List, [], ◌∷◌, ◌++◌, ◌==◌, Option, Some, None, length, drop, reverse, refl, sym, ap, ◌∙◌, subst, slice_get, if◌then◌else◌}
 use Rattle.std.specs.Prelude.{fold}
 use Rattle.std.proofs.lemmas.Bool.Decides.{nat_tests}
 use Rattle.std.proofs.lemmas.List.{length-reverse}
 use Rattle.iss_base.proofs.Lists.{same_or_not, set_at2-other, set_at2-same}
 use Rattle.iss_base.specs.Lists.{In, first_of, set_at2}
-use Rattle.iss_layout.specs.Layout.{IsFair, Plan, plan_of, segment, slot_leader}
+use Rattle.iss_layout.specs.Layout.{IsFair, Plan, plan_of, segment}
 use Rattle.iss_log.specs.LogState.{LogState, value_at}
 use Rattle.iss_model.specs.Concrete.{number_of, rules_of}
 use Rattle.iss_buckets.specs.Waiting.{absent}

@@ -116,7 +116,7 @@ impl<M: Sequenced> Node<M> {
     pub fn take(&mut self, alloc: Global, event: NodeEvent) -> Answer
         ensures answer { (c : Core M.Msg) → Stands M.meaning M.stands self.old c →
             IsAnswer M.meaning M.stands c
-                (step (formats_of self.old.setup M.meaning) (rules_of self.old.setup) M.meaning self.old.me.0 c event) self.new result }
+            (step (formats_of self.old.setup M.meaning) (rules_of self.old.setup) M.meaning self.old.me.0 c event) self.new result }
         ensures same { (self.new.setup ≡ self.old.setup) × (self.new.me ≡ self.old.me) }
     {
         match event {
@@ -130,8 +130,8 @@ impl<M: Sequenced> Node<M> {
     fn take_bytes(&mut self, alloc: Global, bytes: &Bytes) -> Answer
         ensures answer { (c : Core M.Msg) → Stands M.meaning M.stands self.old c →
             IsAnswer M.meaning M.stands c
-                (takes_bytes (formats_of self.old.setup M.meaning) (rules_of self.old.setup) M.meaning self.old.me.0 c
-                    ((formats_of self.old.setup M.meaning).unwrap bytes.now)) self.new result }
+            (takes_bytes (formats_of self.old.setup M.meaning) (rules_of self.old.setup) M.meaning self.old.me.0 c
+            ((formats_of self.old.setup M.meaning).unwrap bytes.now)) self.new result }
         ensures same { (self.new.setup ≡ self.old.setup) × (self.new.me ≡ self.old.me) }
     {
         match unwrap::<M>(alloc, &self.setup, bytes.as_slice()) {
@@ -146,8 +146,8 @@ impl<M: Sequenced> Node<M> {
         requires { IsFromNode self.old.setup.n parcel }
         ensures answer { (c : Core M.Msg) → Stands M.meaning M.stands self.old c →
             IsAnswer M.meaning M.stands c
-                (takes_parcel (formats_of self.old.setup M.meaning) (rules_of self.old.setup) M.meaning self.old.me.0 c
-                    parcel.from.0 parcel.epoch.0 (seen_body parcel.body)) self.new result }
+            (takes_parcel (formats_of self.old.setup M.meaning) (rules_of self.old.setup) M.meaning self.old.me.0 c
+            parcel.from.0 parcel.epoch.0 (seen_body parcel.body)) self.new result }
         ensures same { (self.new.setup ≡ self.old.setup) × (self.new.me ≡ self.old.me) }
     {
         let Parcel { from, epoch, body } = parcel;
@@ -186,7 +186,7 @@ impl<M: Sequenced> Node<M> {
     fn propose(&mut self, alloc: Global) -> Answer
         ensures answer { (c : Core M.Msg) → Stands M.meaning M.stands self.old c →
             IsAnswer M.meaning M.stands c
-                (step (formats_of self.old.setup M.meaning) (rules_of self.old.setup) M.meaning self.old.me.0 c NodeEvent.Propose) self.new result }
+            (step (formats_of self.old.setup M.meaning) (rules_of self.old.setup) M.meaning self.old.me.0 c NodeEvent.Propose) self.new result }
         ensures same { (self.new.setup ≡ self.old.setup) × (self.new.me ≡ self.old.me) }
     {
         if !self.leads(self.me) {
@@ -220,8 +220,8 @@ impl<M: Sequenced> Node<M> {
     fn cast(&mut self, alloc: Global, slot: Slot) -> Result<Outcome, NoMemory>
         ensures taken { IfOk result (λ outcome. (evidence : ℕ → ℕ → List (Item M.Msg)) → IsTied M.meaning M.stands self.old evidence →
             IsInputTurn M.meaning M.stands
-                (casting (formats_of self.old.setup M.meaning) (rules_of self.old.setup)
-                    M.meaning self.old.me.0 (core_of self.old evidence) slot) self.new outcome) }
+            (casting (formats_of self.old.setup M.meaning) (rules_of self.old.setup)
+            M.meaning self.old.me.0 (core_of self.old evidence) slot) self.new outcome) }
         ensures same { (self.new.setup ≡ self.old.setup) × (self.new.me ≡ self.old.me) }
     {
         let batch = self.cut(alloc, slot)?;
@@ -295,7 +295,7 @@ impl<M: Sequenced> Node<M> {
         requires input { IsNodeInput self.now.setup.n input.now }
         ensures { (evidence : ℕ → ℕ → List (Item M.Msg)) → IsTied M.meaning M.stands self.now evidence →
             result ≡ verdict (rules_of self.now.setup) [] 0 leader.0 (accepts (evidence 0 leader.0))
-                (M.meaning.asks ((rules_of self.now.setup).params [] 0 leader.0) self.now.me.0 (evidence 0 leader.0) input.now) }
+            (M.meaning.asks ((rules_of self.now.setup).params [] 0 leader.0) self.now.me.0 (evidence 0 leader.0) input.now) }
     {
         let segment = &self.segments[leader.0 as usize];
         segment.refusal(&self.layout, input)
@@ -306,7 +306,7 @@ impl<M: Sequenced> Node<M> {
         requires { IsNodeInput self.old.setup.n input }
         ensures answer { (c : Core M.Msg) → Stands M.meaning M.stands self.old c →
             IsAnswer M.meaning M.stands c
-                (at_instance (formats_of self.old.setup M.meaning) (rules_of self.old.setup) M.meaning self.old.me.0 c leader.0 input) self.new result }
+            (at_instance (formats_of self.old.setup M.meaning) (rules_of self.old.setup) M.meaning self.old.me.0 c leader.0 input) self.new result }
         ensures same { (self.new.setup ≡ self.old.setup) × (self.new.me ≡ self.old.me) }
     {
         if !self.leads(leader) {
@@ -335,8 +335,8 @@ impl<M: Sequenced> Node<M> {
         requires input { IsNodeInput self.old.setup.n input }
         ensures taken { IfOk result (λ outcome. (evidence : ℕ → ℕ → List (Item M.Msg)) → IsTied M.meaning M.stands self.old evidence →
             IsInputTurn M.meaning M.stands
-                (inputs (formats_of self.old.setup M.meaning) (rules_of self.old.setup)
-                    M.meaning self.old.me.0 (core_of self.old evidence) leader.0 input) self.new outcome) }
+            (inputs (formats_of self.old.setup M.meaning) (rules_of self.old.setup)
+            M.meaning self.old.me.0 (core_of self.old evidence) leader.0 input) self.new outcome) }
         ensures same { (self.new.setup ≡ self.old.setup) × (self.new.me ≡ self.old.me) }
     {
         epochs_are_fair();
@@ -444,7 +444,14 @@ fn start_segments<M: Sequenced>(
     epochs_are_fair();
     let mut segments = Vec::new(alloc);
     for leader in 0..setup.n {
-        let segment = start_segment::<M>(alloc, setup, directory, layout, NodeId(leader as u8), me)?;
+        let segment = start_segment::<M>(
+            alloc,
+            setup,
+            directory,
+            layout,
+            NodeId(leader as u8),
+            me,
+        )?;
         segments.push(segment)?;
     }
     Ok(segments)

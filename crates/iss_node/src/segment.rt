@@ -87,7 +87,7 @@ impl<M: Sequenced> Segment<M> {
         requires input { IsGoodInput self.now.params input.now }
         ensures { (xs : List (Item M.Msg)) → IsInstance M.stands self.now xs →
             result ≡ verdict (rules_of self.now.params.setup) [] 0 self.now.params.leader.0 (accepts xs)
-                (M.meaning.asks self.now.params self.now.me.0 xs input.now) }
+            (M.meaning.asks self.now.params self.now.me.0 xs input.now) }
     {
         match self.ordering.asks(&self.params, input) {
             Some((_, batch)) => judge::refusal(

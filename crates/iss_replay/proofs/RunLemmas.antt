@@ -1,6 +1,5 @@
 -- Runs, event by event.
 use Rattle.std.proofs.Common.{◌≡◌, ℕ, zero, suc, ◌+◌, ◌<◌, ◌≤◌, List, [], ◌∷◌, ◌++◌, length, take, get_or, refl, sym, ap, ◌∙◌, subst, arith, add-one, Option, Some, reverse, append_assoc}
-use Rattle.std.proofs.Math.Seq.{take-suc}
 use Rattle.std.proofs.lemmas.List.{append-nil, length-take, reverse-append}
 use Rattle.iss_model.specs.Concrete.{rules_of}
 use Rattle.iss_model.specs.Formats.{formats_of}
@@ -20,6 +19,8 @@ use Rattle.iss_request.specs.declared.setups.Kind.TheVariants.{Byzantine, Stoppi
 use Rattle.iss_request.specs.declared.setups.Setup.{Setup}
 use Rattle.iss_sb.specs.declared.effects.Params.{Params}
 use Rattle.iss_sb.specs.Evidence.{Item, Module}
+use Rattle.iss_network.proofs.Keeping.{any_default}
+use Rattle.iss_world.proofs.PostLemmas.{take-next}
 use Rattle.iss_world.specs.Stands.{HasHappened}
 use Rattle.iss_world.specs.State.{WorldState}
 use Rattle.iss_world.specs.declared.world.Happened.TheVariants.{Done, Lost}
@@ -32,9 +33,6 @@ in-range-get s (e ∷ es) (suc i) d h lt = in-range-get s es i d h.1 (omega arit
 pub in-range-at : (s t : Setup) (es : List Event) (i : ℕ) (e : Event) → t ≡ s → AreInRange s es → i < length es → e ≡ get_or es i e → IsInRange t e
 in-range-at s t es i e same h lt is =
     subst (λ (u : Setup). IsInRange u e) (sym same) (subst (λ (x : Event). IsInRange s x) (sym is) (in-range-get s es i e h lt))
-
-take-next : {A : Type 0} (xs : List A) (i : ℕ) (x : A) → i < length xs → x ≡ get_or xs i x → take (i + 1) xs ≡ take i xs ++ x ∷ []
-take-next {A} xs i x lt is = rw add-one (take-suc xs i x lt ∙ ap (λ (y : A). take i xs ++ y ∷ []) (sym is))
 
 -- a good set-up has few nodes
 few-of : (k : Kind) (f : ℕ) → f ≤ 3 → nodes_of_kind k f ≤ 10
@@ -54,15 +52,10 @@ lines-next out ds i d lt is =
     append_assoc out (drop_lines (reverse (take i ds))) (drop_line d.0 d.1)
     ∙ ap (λ t. out ++ t) (sym (ap (λ (xs : List (ℕ × Why)). drop_lines (reverse xs)) (take-next ds i d lt is) ∙ ap drop_lines (reverse-append (take i ds) (d ∷ []))))
 
-any-default : {A : Type 0} (xs : List A) (i : ℕ) (d e : A) → i < length xs → get_or xs i d ≡ get_or xs i e
-any-default [] i d e lt = absurd (omega arith)
-any-default (x ∷ xs) zero d e lt = refl
-any-default (x ∷ xs) (suc i) d e lt = any-default xs i d e (omega arith)
-
 pub one-line-more : (out now later : List ℕ) (ds : List (ℕ × Why)) (i : ℕ) (d : ℕ × Why) → i < length ds → now ≡ out ++ drop_lines (reverse (take i ds)) → later ≡ now ++ drop_line (get_or ds i d).0 (get_or ds i d).1 → later ≡ out ++ drop_lines (reverse (take (i + 1) ds))
 one-line-more out now later ds i d lt a b =
     b ∙ ap (λ (t : List ℕ). t ++ drop_line (get_or ds i d).0 (get_or ds i d).1) a
-    ∙ lines-next out ds i (get_or ds i d) lt (any-default ds i d (get_or ds i d) lt)
+    ∙ lines-next out ds i (get_or ds i d) lt (any_default ds i d (get_or ds i d) lt)
 
 module _ {M Msg : Type 0} (m : Module Msg) (stands : M → Params → ℕ → List (Item Msg) → Type 0) where
   run-append : (s : Setup) (F : Formats Msg) (R : Rules) (p : Progress Msg) (es fs : List Event) → run s F R m p (es ++ fs) ≡ run s F R m (run s F R m p es) fs

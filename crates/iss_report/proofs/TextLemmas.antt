@@ -1,17 +1,12 @@
-use Rattle.std.proofs.Common.{◌≡◌, ℕ, ◌+◌, ◌<◌, ◌≤◌, List, [], ◌∷◌, ◌++◌, length, take, reverse, get_or, Result, Ok, Err, refl, sym, ap, ◌∙◌, add-one, append_assoc, arith}
+use Rattle.std.proofs.Common.{◌≡◌, ℕ, ◌+◌, ◌<◌, ◌≤◌, List, [], ◌∷◌, ◌++◌, length, take, reverse, get_or, Result, Ok, Err, refl, sym, ap, ◌∙◌, append_assoc, arith}
 use Rattle.std.specs.Prelude.{OnOk}
-use Rattle.std.proofs.lemmas.List.{append-nil, length-reverse, length-take-le, reverse-append}
-use Rattle.std.proofs.Math.Seq.{take-suc}
+use Rattle.std.proofs.lemmas.List.{append-nil, length-reverse, length-take-le, reverse-append, take_more}
 use Rattle.iss_log.proofs.LogLemmas.{requests_more}
 use Rattle.iss_request.specs.Log.{requests, size_of}
 use Rattle.iss_request.specs.declared.requests.Request.{Request}
 use Rattle.iss_request.specs.declared.requests.Value.{Value}
 use Rattle.iss_request.specs.declared.errors.NoMemory.{NoMemory}
 use Rattle.iss_report.specs.Text.{node_block, node_line, request_word, request_words, slot_line, slot_lines}
-
--- the elements up to place i, and the one there
-pub take-next : {A : Type 0} (xs : List A) (i : ℕ) (x : A) → i < length xs → x ≡ get_or xs i x → take (i + 1) xs ≡ take i xs ++ x ∷ []
-take-next {A} xs i x lt is = rw add-one (take-suc xs i x lt ∙ ap (λ (y : A). take i xs ++ y ∷ []) (sym is))
 
 pub request_words-append : (xs ys : List Request) → request_words (xs ++ ys) ≡ request_words xs ++ request_words ys
 request_words-append [] ys = refl
@@ -20,8 +15,9 @@ request_words-append (x ∷ xs) ys = ap (λ t. request_word x ++ t) (request_wor
 -- what was written so far, and one request more
 pub words-next : (out : List ℕ) (qs : List Request) (i : ℕ) (q : Request) → i < length qs → q ≡ get_or qs i q → (out ++ request_words (take i qs)) ++ request_word q ≡ out ++ request_words (take (i + 1) qs)
 words-next out qs i q lt is =
+    let next : take (i + 1) qs ≡ take i qs ++ q ∷ [] = take_more qs i q lt ∙ ap (λ (y : Request). take i qs ++ y ∷ []) (sym is) in
     append_assoc out (request_words (take i qs)) (request_word q)
-    ∙ ap (λ t. out ++ t) (sym (ap request_words (take-next qs i q lt is) ∙ request_words-append (take i qs) (q ∷ []) ∙ ap (λ t. request_words (take i qs) ++ t) (append-nil (request_word q))))
+    ∙ ap (λ t. out ++ t) (sym (ap request_words next ∙ request_words-append (take i qs) (q ∷ []) ∙ ap (λ t. request_words (take i qs) ++ t) (append-nil (request_word q))))
 
 -- ---- slots
 
@@ -38,7 +34,8 @@ pub slots-next : (out : List ℕ) (vs : List Value) (i : ℕ) (v : Value) → i 
     → (out ++ slot_lines (reverse (take i vs))) ++ slot_line i (requests (take i vs)) v ≡ out ++ slot_lines (reverse (take (i + 1) vs))
 slots-next out vs i v lt is =
     let front = take i vs in
-    let turned : reverse (take (i + 1) vs) ≡ v ∷ reverse front = ap (λ (xs : List Value). reverse xs) (take-next vs i v lt is) ∙ reverse-append front (v ∷ []) in
+    let next : take (i + 1) vs ≡ front ++ v ∷ [] = take_more vs i v lt ∙ ap (λ (y : Value). front ++ y ∷ []) (sym is) in
+    let turned : reverse (take (i + 1) vs) ≡ v ∷ reverse front = ap (λ (xs : List Value). reverse xs) next ∙ reverse-append front (v ∷ []) in
     let within : i ≤ length vs = omega (arith, lt) in
     let count : length (reverse front) ≡ i = length-reverse front ∙ length-take-le i vs within in
     append_assoc out (slot_lines (reverse front)) (slot_line i (requests front) v)

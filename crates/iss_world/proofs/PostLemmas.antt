@@ -56,8 +56,3 @@ to-at n (y ∷ ys) (suc i) d h lt = to-at n ys i d h.1 (omega arith)
 
 pub to-node : (n : ℕ) (xs : List (To × List ℕ)) (i : ℕ) (x : To × List ℕ) → AreToNodes n xs → i < length xs → x ≡ get_or xs i x → IsToNode n x.0
 to-node n xs i x h lt is = subst (λ (y : To × List ℕ). IsToNode n y.0) (sym is) (to-at n xs i x h lt)
-
-pub any-default : {A : Type 0} (xs : List A) (i : ℕ) (d e : A) → i < length xs → get_or xs i d ≡ get_or xs i e
-any-default [] i d e lt = absurd (omega arith)
-any-default (x ∷ xs) zero d e lt = refl
-any-default (x ∷ xs) (suc i) d e lt = any-default xs i d e (omega arith)

@@ -3,7 +3,7 @@ use Rattle.std.proofs.Common.{inl, inr, ◌≡◌, ◌≢◌, ◌⊎◌, ℕ, ze
 use Rattle.std.specs.Prelude.{eqb}
 use Rattle.std.proofs.lemmas.Bool.Decides.{eqb_tells}
 use Rattle.iss_base.specs.Lists.{nth, set_at}
-use Rattle.iss_model.specs.Concrete.{rules_of}
+use Rattle.iss_model.specs.Concrete.{keys_of, rules_of}
 use Rattle.iss_model.specs.Formats.{formats_of}
 use Rattle.iss_model.specs.Node.{Core, Formats, Stepped, idle, step}
 use Rattle.iss_model.specs.Rules.{Rules}
@@ -25,13 +25,32 @@ use Rattle.iss_sb.specs.declared.effects.To.{To}
 use Rattle.iss_request.specs.declared.setups.Kind.TheVariants.{Byzantine}
 use Rattle.iss_sb.specs.Calls.{AreToNodes, kind_of}
 use Rattle.iss_sb.specs.Evidence.{Item, Module}
+use Rattle.iss_keys.specs.Directories.{AreKeysOf, DirectoryView, directory_of, node_secret}
 use Rattle.iss_keys.specs.KeyStates.{KeyState}
+use Rattle.iss_keys.proofs.DirectoryLemmas.{length-nodes}
 use Rattle.iss_world.proofs.PostLemmas.{take-next}
 use Rattle.iss_world.specs.Shape.{AreForCores, IsNetworkOf, IsWorld}
 use Rattle.iss_world.specs.Stands.{AreFresh, HasHappened, IsFresh, StandsFor}
 use Rattle.iss_world.specs.State.{WorldState}
 use Rattle.iss_world.specs.declared.world.Happened.{Happened}
 use Rattle.iss_world.specs.declared.world.Happened.TheVariants.{Done, Lost}
+
+-- ---- a node's keys of the cluster's directory
+
+pub own-number : (s : Setup) (i : ℕ) (d : DirectoryView) → d ≡ keys_of s → i < s.n → i < length d.nodes
+own-number s i d is lt =
+    let count = length-nodes s.n s.clients s.keys in
+    let same : length d.nodes ≡ length (keys_of s).nodes = ap (λ (z : DirectoryView). length z.nodes) is in
+    omega (arith, count, same, lt)
+
+pub own-keys : (s : Setup) (i : ℕ) (d : DirectoryView) (k : KeyState) → d ≡ keys_of s →
+    ((n clients height : ℕ) → d ≡ directory_of n clients height → k ≡ record { secret = node_secret i; height = height; used = 0 }) →
+    AreKeysOf i s.keys k × (k.used ≡ 0)
+own-keys s i d k is made =
+    let mine = made s.n s.clients s.keys is in
+    (record { own = ap (λ (z : KeyState). z.secret) mine; tall = ap (λ (z : KeyState). z.height) mine }, ap (λ (z : KeyState). z.used) mine)
+
+-- ---- worlds
 
 pub if-ok : {A E : Type 0} (P Q : A → Type 0) (r : Result A E) → IfOk r P → ((x : A) → P x → Q x) → IfOk r Q
 if-ok P Q (Ok x) h f = f x h

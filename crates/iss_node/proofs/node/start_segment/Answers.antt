@@ -1,4 +1,4 @@
-use Rattle.std.proofs.Common.{◌∙◌, arith, ◌+◌, ◌*◌, ◌^◌, ◌≤◌, []}
+use Rattle.std.proofs.Common.{◌∙◌, arith, ◌+◌, ◌^◌, ◌≤◌, []}
 use Rattle.iss_node.proofs.StartLemmas.{good-copy}
 use Rattle.iss_node.proofs.node.start_segment.Goals as goal
 

@@ -1,4 +1,4 @@
-use Rattle.std.proofs.Common.{arith, ◌∙◌, ap, ◌+◌, ◌*◌, ◌^◌, ◌≤◌, ◌++◌, ◌∷◌, []}
+use Rattle.std.proofs.Common.{arith, ◌∙◌, ap, ◌+◌, ◌^◌, ◌≤◌, ◌++◌, ◌∷◌, []}
 use Rattle.iss_layout.specs.Layout.{IsFair, plan_of}
 use Rattle.iss_node.proofs.CastLemmas.{cut-is, left-is, marks-of, mine-is}
 use Rattle.iss_node.proofs.node.Node.cut.Goals as goal

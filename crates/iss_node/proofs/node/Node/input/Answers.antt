@@ -1,4 +1,4 @@
-use Rattle.std.proofs.Common.{◌≡◌, ◌∙◌, ap, subst, arith, ◌+◌, ◌*◌, ◌^◌, ◌≤◌, []}
+use Rattle.std.proofs.Common.{◌≡◌, ◌∙◌, ap, subst, arith, ◌+◌, ◌^◌, ◌≤◌, []}
 use Rattle.std.specs.Prelude.{fold}
 use Rattle.iss_layout.specs.Layout.{IsFair, plan_of}
 use Rattle.iss_model.specs.Formats.{formats_of}

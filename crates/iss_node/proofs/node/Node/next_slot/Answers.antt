@@ -1,4 +1,4 @@
-use Rattle.std.proofs.Common.{arith, ◌∙◌, ap, ◌+◌, ◌*◌, ◌^◌, ◌≤◌, []}
+use Rattle.std.proofs.Common.{arith, ◌∙◌, ap, ◌+◌, ◌^◌, ◌≤◌, []}
 use Rattle.iss_layout.specs.Layout.{IsFair, plan_of}
 use Rattle.iss_node.proofs.CastLemmas.{next-is}
 use Rattle.iss_node.proofs.node.Node.next_slot.Goals as goal
