@@ -31,11 +31,7 @@ pub fn request_packet<M: Sequenced>(
 }
 
 // The packet of a request.
-fn wrapped<M: Sequenced>(
-    alloc: Global,
-    version: u8,
-    request: &Request,
-) -> Result<Bytes, NoMemory>
+fn wrapped<M: Sequenced>(alloc: Global, version: u8, request: &Request) -> Result<Bytes, NoMemory>
     ensures { IfOk result (λ bytes. (s : Setup) → s.version ≡ version →
         bytes ≡ (formats_of s M.meaning).wrap (record { from = 255; epoch = 0; body = OfRequest request.now })) }
 {

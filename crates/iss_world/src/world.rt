@@ -72,7 +72,7 @@ impl<M: Sequenced> World<M> {
         requires standing { IsStanding M.meaning M.stands self.old }
         ensures happened { IfOk result (λ h. (w : Net M.Msg) → StandsFor M.meaning M.stands self.old w →
             HasHappened M.meaning M.stands self.new
-                (happens self.old.setup (formats_of self.old.setup M.meaning) (rules_of self.old.setup) M.meaning w event.now) h) }
+            (happens self.old.setup (formats_of self.old.setup M.meaning) (rules_of self.old.setup) M.meaning w event.now) h) }
         ensures same { self.new.setup ≡ self.old.setup }
     {
         match event {
@@ -109,7 +109,7 @@ impl<M: Sequenced> World<M> {
         requires standing { IsStanding M.meaning M.stands self.old }
         ensures happened { IfOk result (λ h. (w : Net M.Msg) → StandsFor M.meaning M.stands self.old w →
             HasHappened M.meaning M.stands self.new
-                (at_core self.old.setup.n (formats_of self.old.setup M.meaning) (rules_of self.old.setup) M.meaning w core event) h) }
+            (at_core self.old.setup.n (formats_of self.old.setup M.meaning) (rules_of self.old.setup) M.meaning w core event) h) }
         ensures same { self.new.setup ≡ self.old.setup }
     {
         match self.nodes[core as usize].take(alloc, event) {
@@ -140,8 +140,8 @@ impl<M: Sequenced> World<M> {
         requires standing { IsStanding M.meaning M.stands self.old }
         ensures happened { IfOk result (λ h. (w : Net M.Msg) → StandsFor M.meaning M.stands self.old w →
             HasHappened M.meaning M.stands self.new
-                (happens self.old.setup (formats_of self.old.setup M.meaning) (rules_of self.old.setup) M.meaning w
-                (Event.Request core client number payload.now)) h) }
+            (happens self.old.setup (formats_of self.old.setup M.meaning) (rules_of self.old.setup) M.meaning w
+            (Event.Request core client number payload.now)) h) }
         ensures same { self.new.setup ≡ self.old.setup }
     {
         let packet = request_packet::<M>(alloc, &self.setup, client, number, payload)?;
@@ -153,7 +153,7 @@ impl<M: Sequenced> World<M> {
         requires { IsStanding M.meaning M.stands self.old }
         ensures happened { IfOk result (λ h. (w : Net M.Msg) → StandsFor M.meaning M.stands self.old w →
             HasHappened M.meaning M.stands self.new
-                (delivers self.old.setup.n (formats_of self.old.setup M.meaning) (rules_of self.old.setup) M.meaning w packet) h) }
+            (delivers self.old.setup.n (formats_of self.old.setup M.meaning) (rules_of self.old.setup) M.meaning w packet) h) }
         ensures same { self.new.setup ≡ self.old.setup }
     {
         let Some(sent) = self.network.packet(packet) else {
@@ -199,7 +199,7 @@ impl<M: Sequenced> World<M> {
         requires { IsStanding M.meaning M.stands self.old }
         ensures taken { OnOk result ((w : Net M.Msg) → StandsFor M.meaning M.stands self.old w →
             StandsFor M.meaning M.stands self.new
-                (delivers_each self.old.setup.n (formats_of self.old.setup M.meaning) (rules_of self.old.setup) M.meaning w packets.now)) }
+            (delivers_each self.old.setup.n (formats_of self.old.setup M.meaning) (rules_of self.old.setup) M.meaning w packets.now)) }
         ensures same { self.new.setup ≡ self.old.setup }
     {
         for packet in packets {
@@ -263,7 +263,7 @@ impl<M: Sequenced> World<M> {
         requires standing { IsStanding M.meaning M.stands self.old }
         ensures happened { IfOk result (λ h. (w : Net M.Msg) → StandsFor M.meaning M.stands self.old w →
             HasHappened M.meaning M.stands self.new
-                (injects self.old.setup.n (formats_of self.old.setup M.meaning) (rules_of self.old.setup) M.meaning w core bytes.now) h) }
+            (injects self.old.setup.n (formats_of self.old.setup M.meaning) (rules_of self.old.setup) M.meaning w core bytes.now) h) }
         ensures same { self.new.setup ≡ self.old.setup }
     {
         let _ = &self.setup;

@@ -11,3 +11,6 @@ returns-in-Timeout-clause-happened g c =
     subst (λ (e : Event). IfOk c.take-in-Timeout.result (λ h. (w : Net g.row.M-Msg.Denot) → StandsFor g.M.Sequenced.meaning g.M.Sequenced.stands c.args.self.now w →
     HasHappened g.M.Sequenced.meaning g.M.Sequenced.stands c.take-in-Timeout.new.self (happens c.args.self.now.setup (formats_of c.args.self.now.setup g.M.Sequenced.meaning) (rules_of c.args.self.now.setup) g.M.Sequenced.meaning w e) h))
     (sym c.in-Timeout.is) c.take-in-Timeout.ensures.happened
+
+pub returns-in-Propose-clause-happened : goal.returns-in-Propose-clause-happened
+returns-in-Propose-clause-happened g c = rw c.in-Propose.is c.take.ensures.happened
