@@ -1,4 +1,4 @@
-use Rattle.std.proofs.Common.{IsTrue, ◌↔◌, ⊎_elim, ◌≡◌, ◌≢◌, ℕ, zero, suc, ◌+◌, ◌<◌, ◌≤◌, Bool, true, false, cond, List, [], ◌∷◌, ◌++◌, length, take, refl, sym, ap, ◌∙◌, subst, arith, Option, Some, None, is_some, IsSome, slice_get, slice_index, append_assoc, length-append, eqb}
+use Rattle.std.proofs.Common.{IsTrue, ◌↔◌, ⊎_elim, ◌≡◌, ◌≢◌, ℕ, zero, suc, ◌+◌, ◌<◌, ◌≤◌, Bool, true, false, cond, List, [], ◌∷◌, ◌++◌, length, take, refl, sym, ap, ◌∙◌, subst, arith, Option, Some, None, Result, Ok, Err, OnErr, is_some, IsSome, slice_get, slice_index, append_assoc, length-append, eqb}
 use Rattle.std.proofs.lemmas.List.{append-nil}
 use Rattle.std.proofs.lemmas.Bool.{cases_lt}
 use Rattle.std.specs.Ordering.{is_eq, nat_cmp}
@@ -6,6 +6,11 @@ use Rattle.iss_base.specs.Lists.{first_of}
 use Rattle.iss_request.specs.Log.{requests, size_of}
 use Rattle.iss_request.specs.declared.requests.Value.{Value}
 use Rattle.iss_log.specs.LogState.{LogState, value_at, ahead_at, IsWithout, IsAdvanced, AreNumbered}
+
+-- what holds whatever the answer is
+pub on_err : {X E P : Type 0} (r : Result X E) → P → OnErr r P
+on_err (Ok x) p = tt
+on_err (Err e) p = p
 
 -- ---- lists at a place
 

@@ -60,6 +60,10 @@ pub record IsAdvanced (old new : LogState) (slots : ℕ) : Type 0 where
   pub values : (s : ℕ) → value_at new s ≡ value_at old s
   pub hole : value_at new (length new.entries) ≡ None
 
+-- a log begins with what it held
+abbrev pub GoesOn : List Value → List Value → Type 0
+GoesOn old new = (joined : List Value) × (new ≡ old ++ joined)
+
 -- the numbers that a log keeps beside its values: each slot's first one, and how many there are in all
 pub record AreNumbered (entries : List Value) (firsts : List ℕ) (count : ℕ) : Type 0 where
   pub size : length firsts ≡ length entries

@@ -1,7 +1,7 @@
 //! The log, and what its calls answer.
-ghost use Rattle.std.specs.Prelude.{◌≡◌, ◌+◌, ◌++◌, ◌∷◌, [], length, IfOk, IfNone, OnOk, IsTrue, IsSome, is_some, ◌↔◌, if◌then◌else◌};
+ghost use Rattle.std.specs.Prelude.{◌≡◌, ◌+◌, ◌++◌, ◌∷◌, [], length, IfOk, IfNone, OnOk, OnErr, IsTrue, IsSome, is_some, ◌↔◌, if◌then◌else◌};
 ghost use Rattle.iss_request.specs.Log.{requests, size_of};
-ghost use Rattle.iss_log.specs.LogState.{empty_log, value_at, ahead_at, first_number_of, IsFill, IsAdvanced, IsWithout};
+ghost use Rattle.iss_log.specs.LogState.{empty_log, value_at, ahead_at, first_number_of, IsFill, IsAdvanced, GoesOn, IsWithout};
 
 use iss_request::{NoMemory, Slot, Value};
 use std::alloc::Global;
@@ -70,9 +70,10 @@ impl Log {
     }
 
     /// Takes into the log all that follows it without a gap. Want of memory comes also where the number of requests
-    /// would pass 2^64 - 1.
+    /// would pass 2^64 - 1. What stood in the log before still does then, in front.
     pub fn advance(&mut self) -> Result<Joined, NoMemory>
-        ensures { IfOk result (λ joined. IsAdvanced self.old self.new joined.slots) }
+        ensures ok { IfOk result (λ joined. IsAdvanced self.old self.new joined.slots) }
+        ensures err { OnErr result (GoesOn self.old.entries self.new.entries) }
     {
         let before = self.values.len();
         'run: while let Some(value) = self.take_next() {
@@ -129,7 +130,8 @@ impl Log {
 
     // Puts a value at the end of the log.
     fn join(&mut self, value: Value) -> Result<(), NoMemory>
-        ensures { OnOk result (self.new ≡ record self.old { entries = self.old.entries ++ value ∷ [] }) }
+        ensures ok { OnOk result (self.new ≡ record self.old { entries = self.old.entries ++ value ∷ [] }) }
+        ensures err { OnErr result (self.new ≡ self.old) }
     {
         let count = self.count.checked_add(size(&value)).ok_or(NoMemory)?;
         self.firsts.reserve(1)?;

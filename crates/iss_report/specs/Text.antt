@@ -56,9 +56,8 @@ slot_lines [] = []
 slot_lines (v ∷ older) = slot_lines older ++ slot_line (length older) (requests older) v
 
 abbrev pub node_line : ℕ → ℕ → ℕ → ℕ → List ℕ
-node_line node epoch slots count =
-    codes "node " ++ decimal node ++ codes " epoch " ++ decimal epoch
-    ++ codes " slots " ++ decimal slots ++ codes " requests " ++ decimal count ++ 10 ∷ []
+node_line node epoch slots count = codes "node " ++ decimal node ++ codes " epoch " ++ decimal epoch ++ codes " slots " ++ decimal slots
+    ++ codes " requests " ++ decimal count ++ 10 ∷ []
 
 abbrev pub node_block : ℕ → ℕ → List Value → List ℕ
 node_block node epoch log = node_line node epoch (length log) (requests log) ++ slot_lines log

@@ -1,7 +1,6 @@
 -- What digests, strings and statements tell.
-use Rattle.std.proofs.Common.{◌≡◌, ℕ, true, ◌==◌, List, [], ◌∷◌, ◌++◌, refl, sym, ap, ◌∙◌, inl, inr, true≢false}
+use Rattle.std.proofs.Common.{◌≡◌, ℕ, true, ◌==◌, List, [], ◌∷◌, ◌++◌, refl, sym, ap, ◌∙◌, inl, inr}
 use Rattle.std.proofs.lemmas.Bool.Decides.{Decides-eqb}
-use Rattle.iss_base.proofs.Lists.{and-true}
 use Rattle.iss_request.specs.Fields.{Good, Bad}
 use Rattle.iss_request.specs.Formats.{parse_value, spell_value}
 use Rattle.iss_request.specs.declared.requests.Batch.{Batch}
@@ -9,29 +8,16 @@ use Rattle.iss_request.specs.declared.requests.Value.{Value}
 use Rattle.iss_request.specs.declared.requests.Value.TheVariants.{Batch as Holds}
 use Rattle.iss_request.proofs.OneSpelling.{value_grammar}
 use Rattle.iss_sb.specs.declared.effects.Params.{Params}
+use Rattle.iss_sb.specs.Evidence.{IsReadBatch}
 use Rattle.iss_sb.specs.Statements.{eight_bytes}
-use Rattle.iss_sb.proofs.Statements.{eight-same, head-same}
-use Rattle.sb_echo.specs.Echo.{same_bytes, statement, tag, value_string}
+use Rattle.iss_sb.proofs.Statements.{head-same, wide-same}
+use Rattle.sb_echo.specs.Echo.{statement, string_of, tag}
 
 pub is-same : (a b : ℕ) → (a == b) ≡ true → a ≡ b
 is-same a b h = (Decides-eqb a b).0 h
 
 pub same-is : (a b : ℕ) → a ≡ b → (a == b) ≡ true
 same-is a b h = (Decides-eqb a b).1 h
-
-pub same_bytes-is : (a b : List ℕ) → same_bytes a b ≡ true → a ≡ b
-same_bytes-is [] [] h = refl
-same_bytes-is [] (y ∷ ys) h = absurd (true≢false (sym h))
-same_bytes-is (x ∷ xs) [] h = absurd (true≢false (sym h))
-same_bytes-is (x ∷ xs) (y ∷ ys) h =
-    let t = and-true (x == y) (same_bytes xs ys) h in
-    let e : x ≡ y = is-same x y t.0 in
-    let r : xs ≡ ys = same_bytes-is xs ys t.1 in
-    cc
-
-pub same_bytes-refl : (a : List ℕ) → same_bytes a a ≡ true
-same_bytes-refl [] = refl
-same_bytes-refl (x ∷ xs) = rw (same-is x x refl) (same_bytes-refl xs)
 
 -- ---- strings
 
@@ -45,11 +31,12 @@ no-good : (v : Value) (x : List ℕ) (n : ℕ) → Good v x ≡ Bad n → ⊥
 no-good v x n h = cc
 
 -- one batch that is read as it is spelled is enough
-pub one-batch : (b c : Batch) → parse_value (spell_value (Holds b) ++ []) ≡ Good (Holds b) [] → value_string b ≡ value_string c → b ≡ c
-one-batch b c h e =
-    let same : spell_value (Holds b) ≡ spell_value (Holds c) = cc in
-    let read : parse_value (spell_value (Holds c) ++ []) ≡ Good (Holds b) [] = ap (λ (s : List ℕ). parse_value (s ++ [])) (sym same) ∙ h in
-    elim (value_grammar.whole (Holds c)) [
+pub one-batch : (p : Params) (b c : Batch) → IsReadBatch p b → string_of p b ≡ string_of p c → b ≡ c
+one-batch p b c h e =
+    let v : ℕ = p.setup.version in
+    let same : spell_value v (Holds b) ≡ spell_value v (Holds c) = cc in
+    let read : parse_value v (spell_value v (Holds c) ++ []) ≡ Good (Holds b) [] = ap (λ (s : List ℕ). parse_value v (s ++ [])) (sym same) ∙ h [] in
+    elim ((value_grammar v).whole (Holds c)) [
       | inl good ↦ good-holds b c [] [] (sym read ∙ good [])
       | inr bad ↦ let k = bad [] in absurd (no-good (Holds b) [] k.0 (sym read ∙ k.1))
     ]
@@ -66,5 +53,5 @@ statement-same p k l s t d e h =
     let a = (head-same p.setup.tag p.setup.tag p.epoch.0 p.leader.0 tag p.epoch.0 p.leader.0 tag (k ∷ (eight_bytes s ++ d)) (l ∷ (eight_bytes t ++ e)) refl h).behind in
     let kinds : k ≡ l = cc in
     let behind : eight_bytes s ++ d ≡ eight_bytes t ++ e = cc in
-    let b = eight-same s t d e behind in
+    let b = wide-same 7 s t d e behind in
     record { kind = kinds; slot = b.0; digest = b.1 }

@@ -1,8 +1,9 @@
 -- Echo on a worked example: four nodes, of which node 0 leads the slots 0 and 4.
-use Rattle.std.proofs.Common.{◌≡◌, ℕ, List, [], ◌∷◌, Some, None, refl}
+use Rattle.std.proofs.Common.{◌≡◌, ◌+◌, ◌*◌, ℕ, List, [], ◌∷◌, ◌++◌, Some, None, refl}
 use Rattle.std.specs.Prelude.{replicate}
 use Rattle.sha2.specs.Sha256.{sha256, digest_bytes, hash_after, compress, rounds, schedule, first_words}
-use Rattle.iss_request.specs.Formats.{spell_batch, spell_value}
+use Rattle.iss_keys.specs.Directories.{directory_of}
+use Rattle.iss_request.specs.Formats.{spell_batch, spell_count, spell_value}
 use Rattle.iss_request.specs.declared.ids.NodeId.{NodeId}
 use Rattle.iss_request.specs.declared.ids.Slot.{Slot}
 use Rattle.iss_request.specs.declared.requests.Batch.{Batch}
@@ -14,9 +15,10 @@ use Rattle.iss_sb.specs.declared.effects.Input.TheVariants.{Cast, Receive}
 use Rattle.iss_sb.specs.declared.effects.Params.{Params}
 use Rattle.iss_sb.specs.declared.effects.To.TheVariants.{All as To_all}
 use Rattle.iss_sb.specs.Evidence.{Item, and_then, delivered}
+use Rattle.iss_sb.specs.Statements.{eight_bytes, signature, wide_bytes}
 use Rattle.sb_echo.specs.declared.word.Word.{Word}
 use Rattle.sb_echo.specs.declared.word.Word.TheVariants.{Say, Echo}
-use Rattle.sb_echo.specs.Echo.{asks, claims, digest_of, echo, signature, statement, value_string}
+use Rattle.sb_echo.specs.Echo.{asks, claims, digest_of, echo, spell, statement, string_of}
 
 abbrev pub slot : ℕ → Slot
 slot n = record { 0 = n }
@@ -27,6 +29,7 @@ node n = record { 0 = n }
 -- node 3 is Byzantine
 abbrev pub setup : Setup
 setup = record {
+  version = 1;
   «module» = 6;
   f = 1;
   epoch = 8;
@@ -44,24 +47,24 @@ setup = record {
 }
 
 abbrev pub p : Params
-p = record { setup = setup; epoch = record { 0 = 2 }; leader = node 0; slots = slot 0 ∷ slot 4 ∷ [] }
-
--- what stands for a signature with a leaf
-abbrev pub sig : ℕ → List ℕ
-sig leaf = signature p leaf
+p = record { setup = setup; epoch = record { 0 = 2 }; leader = node 0; slots = slot 0 ∷ slot 4 ∷ []; directory = directory_of 4 1 4 }
 
 -- the batch of no requests
 abbrev pub b : Batch
 b = []
 
 abbrev pub d : List ℕ
-d = digest_of b
+d = digest_of p b
+
+-- a node's signature, by a leaf, of its word of this kind on slot 0
+abbrev pub sig : ℕ → ℕ → ℕ → List ℕ
+sig k kind leaf = signature p k leaf (statement p kind 0 d)
 
 -- the leader casts it at slot 0, with leaf 5 as its next
 abbrev pub cast : List (Item Word)
 cast = and_then echo p 0 [] (Cast (slot 0) b) 5
 
-casts : cast ≡ record { input = Cast (slot 0) b; made = record { sends = (To_all, Say (slot 0) b (sig 5)) ∷ (To_all, Echo (slot 0) d (sig 6)) ∷ []; accepted = Some (slot 0, b); strings = value_string b ∷ []; used = 2 } } ∷ []
+casts : cast ≡ record { input = Cast (slot 0) b; leaf = 5; made = record { sends = (To_all, Say (slot 0) b (sig 0 1 5)) ∷ (To_all, Echo (slot 0) d (sig 0 2 6)) ∷ []; accepted = Some (slot 0, b); strings = string_of p b ∷ []; used = 2 } } ∷ []
 casts = refl
 
 casts_once : asks p 0 cast (Cast (slot 0) b) ≡ None
@@ -71,14 +74,14 @@ casts_another : asks p 0 cast (Cast (slot 4) b) ≡ Some (slot 4, b)
 casts_another = refl
 
 -- its own word is none to it, since the cast was
-no_word_to_itself : asks p 0 cast (Receive (node 0) (Say (slot 0) b (sig 5))) ≡ None
+no_word_to_itself : asks p 0 cast (Receive (node 0) (Say (slot 0) b (sig 0 1 5))) ≡ None
 no_word_to_itself = refl
 
 -- node 1 takes the word, and echoes it
 abbrev pub word : List (Item Word)
-word = and_then echo p 1 [] (Receive (node 0) (Say (slot 0) b (sig 5))) 9
+word = and_then echo p 1 [] (Receive (node 0) (Say (slot 0) b (sig 0 1 5))) 9
 
-echoes : word ≡ record { input = Receive (node 0) (Say (slot 0) b (sig 5)); made = record { sends = (To_all, Echo (slot 0) d (sig 9)) ∷ []; accepted = Some (slot 0, b); strings = value_string b ∷ []; used = 1 } } ∷ []
+echoes : word ≡ record { input = Receive (node 0) (Say (slot 0) b (sig 0 1 5)); leaf = 9; made = record { sends = (To_all, Echo (slot 0) d (sig 1 2 9)) ∷ []; accepted = Some (slot 0, b); strings = string_of p b ∷ []; used = 1 } } ∷ []
 echoes = refl
 
 no_word_outside : asks p 1 [] (Receive (node 0) (Say (slot 1) b [])) ≡ None
@@ -92,19 +95,19 @@ states : claims p 1 (Echo (slot 4) (9 ∷ []) []) ≡ record { by = node 1; stat
 states = refl
 
 abbrev pub echo_from : ℕ → List (Item Word) → List (Item Word)
-echo_from k xs = and_then echo p 1 xs (Receive (node k) (Echo (slot 0) d (sig 0))) 0
+echo_from k xs = and_then echo p 1 xs (Receive (node k) (Echo (slot 0) d (sig k 2 0))) 0
 
 -- two echoes, one of them twice, decide nothing; the third decides, and the fourth changes nothing
 two : delivered echo p 1 (echo_from 1 (echo_from 0 (echo_from 0 word))) 0 ≡ None
-unfolding sha256 digest_bytes hash_after compress rounds schedule first_words spell_batch spell_value
+unfolding sha256 digest_bytes hash_after compress rounds schedule first_words spell_batch spell_count spell_value
 two = refl
 
 three : delivered echo p 1 (echo_from 2 (echo_from 1 (echo_from 0 word))) 0 ≡ Some (Holds b)
-unfolding sha256 digest_bytes hash_after compress rounds schedule first_words spell_batch spell_value
+unfolding sha256 digest_bytes hash_after compress rounds schedule first_words spell_batch spell_count spell_value
 three = refl
 
 four : delivered echo p 1 (echo_from 3 (echo_from 2 (echo_from 1 (echo_from 0 word)))) 0 ≡ Some (Holds b)
-unfolding sha256 digest_bytes hash_after compress rounds schedule first_words spell_batch spell_value
+unfolding sha256 digest_bytes hash_after compress rounds schedule first_words spell_batch spell_count spell_value
 four = refl
 
 -- echoes alone deliver nothing, nor a word alone
@@ -118,6 +121,30 @@ no_echo = refl
 abbrev many : ℕ → Batch
 many n = replicate n (record { id = record { client = 0; number = 0 }; payload = []; sig = [] })
 
-one-string : value_string (many 33) ≡ value_string (many 34)
-unfolding spell_batch spell_value
+one-string : string_of p (many 33) ≡ string_of p (many 34)
+unfolding spell_batch spell_count spell_value
 one-string = refl
+
+-- rows of bytes: a signature stands as zeros of its length
+abbrev blank : List ℕ
+blank = 2 ∷ replicate (4 + 32 * 69) 0
+
+say-bytes : spell 1 (Say (slot 259) [] blank) ≡ 1 ∷ 0 ∷ 0 ∷ 0 ∷ 0 ∷ 0 ∷ 0 ∷ 1 ∷ 3 ∷ 1 ∷ 0 ∷ blank
+unfolding spell_batch spell_count spell_value
+say-bytes = refl
+
+say-bytes-second : spell 2 (Say (slot 259) [] blank) ≡ 1 ∷ 0 ∷ 0 ∷ 0 ∷ 0 ∷ 0 ∷ 0 ∷ 1 ∷ 3 ∷ 2 ∷ 0 ∷ 0 ∷ blank
+unfolding spell_batch spell_count spell_value
+say-bytes-second = refl
+
+echo-bytes : spell 1 (Echo (slot 4) (replicate 32 9) blank) ≡ 2 ∷ 0 ∷ 0 ∷ 0 ∷ 0 ∷ 0 ∷ 0 ∷ 0 ∷ 4 ∷ replicate 32 9 ++ blank
+echo-bytes = refl
+
+-- a digest cut short has no spelling
+no-bytes : spell 1 (Echo (slot 4) (replicate 31 9) blank) ≡ 0 ∷ []
+no-bytes = refl
+
+-- the statement of an echo: the cluster, epoch 2, leader 0, the module, an echo, slot 4, the digest
+statement-bytes : statement p 2 4 (9 ∷ []) ≡ replicate 32 7 ++ (0 ∷ 0 ∷ 0 ∷ 0 ∷ 0 ∷ 0 ∷ 0 ∷ 2 ∷ 0 ∷ 6 ∷ 2 ∷ 0 ∷ 0 ∷ 0 ∷ 0 ∷ 0 ∷ 0 ∷ 0 ∷ 4 ∷ 9 ∷ [])
+unfolding wide_bytes
+statement-bytes = refl

@@ -1,36 +1,31 @@
 -- The laws of echo's single steps.
-use Rattle.std.proofs.Common.{◌≡◌, ◌≤◌, ℕ, Bool, true, false, ◌==◌, ◌||◌, List, [], ◌∷◌, ◌++◌, Option, Some, None, refl, sym, ap, ◌∙◌, inl, inr, arith, true≢false}
+use Rattle.std.proofs.Common.{◌≡◌, ◌≤◌, ◌<◌, ◌+◌, ◌^◌, ℕ, Bool, true, false, ◌==◌, ◌||◌, List, [], ◌∷◌, ◌++◌, length, Option, Some, None, refl, sym, ap, subst, ◌∙◌, inl, inr, arith, true≢false}
+use Rattle.sha2.proofs.Facts256.{length-sha256}
 use Rattle.iss_base.specs.Lists.{In}
 use Rattle.iss_request.specs.declared.ids.NodeId.{NodeId}
 use Rattle.iss_request.specs.declared.ids.Slot.{Slot}
 use Rattle.iss_request.specs.declared.requests.Batch.{Batch}
 use Rattle.iss_sb.specs.declared.effects.Claim.{Claim}
+use Rattle.iss_sb.specs.declared.effects.Input.{Input}
 use Rattle.iss_sb.specs.declared.effects.Input.TheVariants.{Cast, Receive}
 use Rattle.iss_sb.specs.declared.effects.Params.{Params}
 use Rattle.iss_sb.specs.declared.effects.To.{To}
 use Rattle.iss_sb.specs.declared.effects.To.TheVariants.{All as To_all, One as To_one}
-use Rattle.iss_sb.specs.Evidence.{Item}
-use Rattle.iss_sb.specs.Laws.{IsLawful}
-use Rattle.iss_sb.specs.Statements.{eight_bytes, statement_head}
+use Rattle.iss_sb.specs.Calls.{IsGoodParams}
+use Rattle.iss_sb.specs.Evidence.{Item, IsReadBatch, IsReadMessage}
+use Rattle.iss_sb.specs.Laws.{IsHeard, IsLawful}
+use Rattle.iss_sb.specs.Statements.{eight_bytes, signature, statement_head}
+use Rattle.iss_sb.proofs.Signatures.{signature-shape}
+use Rattle.iss_sb.proofs.Slots.{below-In, has_slot-In}
 use Rattle.sb_echo.specs.declared.word.Word.{Word}
 use Rattle.sb_echo.specs.declared.word.Word.TheVariants.{Say, Echo}
-use Rattle.sb_echo.specs.Echo.{asks, claims, digest_of, echo, has_slot, is_cast, made_of, tag, taken}
+use Rattle.sb_echo.specs.Echo.{asks, claims, digest_of, echo, echo_of, is_cast, made_of, makes, say, statement, string_of, tag, taken, words}
 use Rattle.sb_echo.proofs.Bytes.{is-same, same-is}
 use Rattle.sb_echo.proofs.Facts.{IsOwn, Same, accepted-is, asked, decided-is}
-
-slot_eta : (a b : Slot) → a.0 ≡ b.0 → a ≡ b
-slot_eta a b h = ap (λ (n : ℕ). let s : Slot = record { 0 = n } in s) h
-
-has_slot-In : (s : Slot) (slots : List Slot) → has_slot s.0 slots ≡ true → In s slots
-has_slot-In s [] h = absurd (true≢false (sym h))
-has_slot-In s (t ∷ slots) h = go (t.0 == s.0) refl (has_slot-In s slots) h
-  where
-    go : (b : Bool) → (t.0 == s.0) ≡ b → (has_slot s.0 slots ≡ true → In s slots) → (b || has_slot s.0 slots) ≡ true → In s (t ∷ slots)
-    go true q more k = inl (slot_eta s t (sym (is-same t.0 s.0 q)))
-    go false q more k = inr (more k)
+use Rattle.sb_echo.proofs.Spelling.{echo-again, say-again, say-read}
 
 named : (p : Params) (from : ℕ) (msg : Word) (c : Claim) → In c (claims p from msg) → (rest : List ℕ) × (c.statement ≡ statement_head p tag ++ rest)
-named p from (Say slot batch sig) c (inl e) = (1 ∷ (eight_bytes slot.0 ++ digest_of batch), ap (λ (z : Claim). z.statement) e)
+named p from (Say slot batch sig) c (inl e) = (1 ∷ (eight_bytes slot.0 ++ digest_of p batch), ap (λ (z : Claim). z.statement) e)
 named p from (Say slot batch sig) c (inr h) = absurd h
 named p from (Echo slot d sig) c (inl e) = (2 ∷ (eight_bytes slot.0 ++ d), ap (λ (z : Claim). z.statement) e)
 named p from (Echo slot d sig) c (inr h) = absurd h
@@ -75,6 +70,41 @@ to-all p me leaf true (Some a) k msg (inr (inr h)) = h
 to-all p me leaf false (Some a) k msg (inl e) = one-all k (ap (λ (z : To × Word). z.0) e)
 to-all p me leaf false (Some a) k msg (inr h) = h
 
+-- ---- what is sent is read again
+
+-- a batch that is asked for with an input that is read again is read again
+asked-read : (p : Params) (me : ℕ) (xs : List (Item Word)) (i : Input Word) (a : Slot × Batch) → IsHeard echo p i → asks p me xs i ≡ Some a → IsReadBatch p a.1
+asked-read p me xs i a heard h = elim (asked p me xs i a h).cause [
+  | inl own ↦ subst (λ (z : Input Word). IsHeard echo p z) own.input heard
+  | inr told ↦ let k : IsHeard echo p (Receive p.leader (Say a.0 a.1 told.sig)) = subst (λ (z : Input Word). IsHeard echo p z) told.input heard in say-read p.setup.version a.0 a.1 told.sig k.1
+]
+
+pub digest-length : (p : Params) (b : Batch) → length (digest_of p b) ≡ 32
+digest-length p b = length-sha256 (string_of p b)
+
+module _ (p : Params) (me : ℕ) (good : IsGoodParams echo p) (a : Slot × Batch) (low : a.0.0 < 2 ^ 64) (read : IsReadBatch p a.1) where
+  said-again : (leaf : ℕ) → IsReadMessage echo p (say p me leaf a)
+  said-again leaf = say-again p.setup.version a.0 a.1 (signature p me leaf (statement p 1 a.0.0 (digest_of p a.1))) low (signature-shape echo p good me leaf (statement p 1 a.0.0 (digest_of p a.1))) read
+
+  echoed-again : (leaf : ℕ) → IsReadMessage echo p (echo_of p me leaf a)
+  echoed-again leaf = echo-again p.setup.version a.0 (digest_of p a.1) (signature p me leaf (statement p 2 a.0.0 (digest_of p a.1))) low (digest-length p a.1) (signature-shape echo p good me leaf (statement p 2 a.0.0 (digest_of p a.1)))
+
+  words-again : (leaf : ℕ) (cast : Bool) (to : To) (msg : Word) → In {A = To × Word} (to, msg) (words p me leaf cast a) → IsReadMessage echo p msg
+  words-again leaf true to msg (inl e) = subst (λ (z : To × Word). IsReadMessage echo p z.1) (sym e) (said-again leaf)
+  words-again leaf true to msg (inr (inl e)) = subst (λ (z : To × Word). IsReadMessage echo p z.1) (sym e) (echoed-again (leaf + 1))
+  words-again leaf true to msg (inr (inr h)) = absurd h
+  words-again leaf false to msg (inl e) = subst (λ (z : To × Word). IsReadMessage echo p z.1) (sym e) (echoed-again leaf)
+  words-again leaf false to msg (inr h) = absurd h
+
+sent-again : (p : Params) (me : ℕ) (xs : List (Item Word)) (i : Input Word) (leaf : ℕ) (to : To) (msg : Word) → IsGoodParams echo p → IsHeard echo p i → In {A = To × Word} (to, msg) (makes p me xs i leaf).sends → IsReadMessage echo p msg
+sent-again p me xs i leaf to msg good heard h = go (asks p me xs i) refl h
+  where
+    go : (o : Option (Slot × Batch)) → asks p me xs i ≡ o → In {A = To × Word} (to, msg) (made_of p me leaf (is_cast i) o).sends → IsReadMessage echo p msg
+    go None q k = absurd k
+    go (Some a) q k =
+        let low = below-In (2 ^ 64) a.0 p.slots good.slots_low (has_slot-In a.0 p.slots (asked p me xs i a q).free.within) in
+        words-again p me good a low (asked-read p me xs i a heard q) leaf (is_cast i) to msg k
+
 pub echo-lawful : IsLawful echo
 echo-lawful = record {
   names = named;
@@ -84,6 +114,7 @@ echo-lawful = record {
   asked_within = λ p me xs i x h. has_slot-In x.0 p.slots (asked p me xs i x h).free.within;
   decided_within = λ p me xs s x h. has_slot-In s p.slots (decided-is p me xs s.0 x h).within;
   addressed = λ p me xs i leaf k msg good input h. absurd (to-all p me leaf (is_cast i) (asks p me xs i) k msg h);
+  read_again = λ p me xs i leaf to msg good below heard hears h. sent-again p me xs i leaf to msg good hears h;
   few = λ p good. omega arith;
   uses = λ p me xs i leaf good input. used-is p me leaf (is_cast i) (asks p me xs i);
 }

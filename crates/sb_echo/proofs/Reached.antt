@@ -1,14 +1,11 @@
 -- The premises can be met: a world that moves lead to, with a Byzantine node, in which claims were signed and a slot
 -- was delivered.
 use Rattle.std.proofs.Common.{◌≡◌, ◌<◌, ◌^◌, ◌==◌, ◌&&◌, ℕ, Bool, true, false, cond, eqb, List, [], ◌∷◌, ◌++◌, length, Some, refl, sym, ap, ◌∙◌, subst, inl, inr, arith, true≢false}
-use Rattle.std.specs.Prelude.{nat_lt}
-use Rattle.sha2.proofs.Facts256.{length-sha256}
 use Rattle.sha2.specs.Sha256.{sha256, digest_bytes, hash_after, compress, rounds, schedule, first_words}
-use Rattle.iss_base.specs.Lists.{In}
-use Rattle.iss_base.proofs.Lists.{eqb-other}
+use Rattle.iss_base.specs.Lists.{In, same_bytes}
+use Rattle.iss_base.proofs.Lists.{eqb-other, same_bytes-refl}
 use Rattle.iss_request.specs.Digest.{digest}
-use Rattle.iss_request.specs.Formats.{is_signature, parse_batch, parse_rest, parse_value, spell_batch, spell_value}
-use Rattle.iss_request.specs.Parsing.{◌>>=◌, byte, done, such_that, times}
+use Rattle.iss_request.specs.Formats.{spell_batch, spell_count, spell_value}
 use Rattle.iss_request.specs.Setup.{IsGoodSetup}
 use Rattle.iss_request.specs.declared.requests.Value.TheVariants.{Batch as Holds}
 use Rattle.iss_sb.specs.declared.effects.Claim.{Claim}
@@ -18,19 +15,21 @@ use Rattle.iss_sb.specs.declared.effects.Params.{Params}
 use Rattle.iss_sb.specs.declared.effects.To.{To}
 use Rattle.iss_sb.specs.declared.effects.To.TheVariants.{All as To_all}
 use Rattle.iss_sb.specs.Calls.{IsGoodParams}
-use Rattle.iss_sb.specs.Evidence.{Item, World, IsCredible, IsHashed, IsReached, IsReadAgain, at_start, after, IsSigned, IsString, MayCome, Move, Separate, Verifies, and_then, delivered, empty_world, is_correct}
+use Rattle.iss_sb.specs.Evidence.{Item, World, IsCredible, IsHashed, IsReached, IsReadBatch, IsReadMessage, at_start, after, IsSigned, IsString, MayCome, Move, Separate, Verifies, and_then, delivered, empty_world, is_correct}
 use Rattle.iss_sb.specs.Laws.{IsBroadcast}
-use Rattle.iss_sb.proofs.Worlds.{broadcast-reached}
+use Rattle.iss_sb.proofs.Read.{batch-read}
+use Rattle.iss_sb.proofs.Signatures.{signature-shape, signature-verifies}
 use Rattle.sb_echo.specs.declared.word.Word.{Word}
 use Rattle.sb_echo.specs.declared.word.Word.TheVariants.{Say, Echo}
-use Rattle.sb_echo.specs.Echo.{claim, claims, echo, parse, same_bytes, spell, statement, value_string}
-use Rattle.sb_echo.proofs.Bytes.{same_bytes-refl}
+use Rattle.sb_echo.specs.Echo.{claim, claims, echo, statement, string_of}
 use Rattle.sb_echo.proofs.Example.{b, cast, d, echo_from, node, p, setup, sig, slot, word}
 use Rattle.sb_echo.proofs.Safe.{echo-safe}
-use Rattle.sb_echo.proofs.Spelling.{echo-good, say-good}
+use Rattle.sb_echo.proofs.Lawful.{digest-length}
+use Rattle.sb_echo.proofs.Spelling.{echo-again, say-again}
 
 good-setup : IsGoodSetup setup
 good-setup = record {
+  version = refl;
   faults = omega arith;
   relay_faults = λ h. absurd (let k : 6 ≡ 1 = h in omega arith);
   relay_kind = λ h. absurd (let k : 6 ≡ 1 = h in omega arith);
@@ -64,6 +63,8 @@ good = record {
   some = omega arith;
   few = omega arith;
   rising = (omega arith, (omega arith, tt));
+  slots_low = (omega arith, (omega arith, tt));
+  directory = refl;
 }
 
 -- ---- worlds in which the nodes 0 and 1 took something
@@ -84,32 +85,29 @@ move-one xs ys input leaf may = record { node = 1; correct = refl; input = input
 -- ---- what may come
 
 abbrev IsRead : Word → Type 0
-IsRead msg = IsReadAgain spell parse msg
+IsRead msg = IsReadMessage echo p msg
 
-batch-read : IsReadAgain spell_value parse_value (Holds b)
-unfolding parse_value parse_rest parse_batch spell_value spell_batch ◌>>=◌ such_that byte times done
-batch-read rest = refl
+b-read : IsReadBatch p b
+b-read = batch-read 1 b (omega arith) (λ q h. absurd h)
 
-said-read : IsRead (Say (slot 0) b (sig 5))
-said-read rest = say-good (slot 0) b (sig 5) (omega arith) refl refl rest (batch-read (sig 5 ++ rest))
+said-read : IsRead (Say (slot 0) b (sig 0 1 5))
+said-read = say-again 1 (slot 0) b (sig 0 1 5) (omega arith) (signature-shape echo p good 0 5 (statement p 1 0 d)) b-read
 
-echo-read : IsRead (Echo (slot 0) d (sig 0))
-echo-read rest = echo-good (slot 0) d (sig 0) rest (omega arith) digest-long refl echo-fits
-  where
-    digest-long : length d ≡ 32
-    digest-long = length-sha256 (value_string b)
+echo-read : (k : ℕ) → IsRead (Echo (slot 0) d (sig k 2 0))
+echo-read k = echo-again 1 (slot 0) d (sig k 2 0) (omega arith) (digest-length p b) (signature-shape echo p good k 0 (statement p 2 0 d))
 
-    echo-fits : (nat_lt 0 (2 ^ 64) && ((length d == 32) && is_signature (sig 0))) ≡ true
-    echo-fits = rw digest-long refl
+-- what a key signs verifies
+verified-by : (k kind leaf : ℕ) → k < 4 → leaf < 2 ^ 4 → Verifies p (claim k (statement p kind 0 d) (sig k kind leaf))
+verified-by k kind leaf below few = signature-verifies echo p good k leaf (statement p kind 0 d) below few
 
 signed-by : (w : World Word) (k : ℕ) (x : Item Word) (msg : Word) (st sig : List ℕ) → In x (w k) → In {A = To × Word} (To_all, msg) x.made.sends → claims p k msg ≡ claim k st sig ∷ [] → IsSigned echo p w k st
 signed-by w k x msg st sig h s e = record { item = x; taken = h; to = To_all; msg = msg; sent = s; claim = claim k st sig; made = rw e (inl refl); by = refl; is = refl }
 
-claimed : (w : World Word) (k : ℕ) (msg : Word) (st sig : List ℕ) → k < 4 → claims p k msg ≡ claim k st sig ∷ [] → IsRead msg → (is_correct setup k ≡ true → IsSigned echo p w k st) → IsCredible echo p (Verifies p) (IsSigned echo p w) k msg
-claimed w k msg st sig l e r s = record { named = l; read = r; verified = λ c h. check c (rw e at h); signed = λ c h q. shown c (rw e at h) q }
+claimed : (w : World Word) (k : ℕ) (msg : Word) (st sig : List ℕ) → k < 4 → claims p k msg ≡ claim k st sig ∷ [] → IsRead msg → Verifies p (claim k st sig) → (is_correct setup k ≡ true → IsSigned echo p w k st) → IsCredible echo p (Verifies p) (IsSigned echo p w) k msg
+claimed w k msg st sig l e r v s = record { named = l; read = r; verified = λ c h. check c (rw e at h); signed = λ c h q. shown c (rw e at h) q }
   where
     check : (c : Claim) → In c (claim k st sig ∷ []) → Verifies p c
-    check c (inl q) = subst (λ (z : Claim). Verifies p z) (sym q) l
+    check c (inl q) = subst (λ (z : Claim). Verifies p z) (sym q) v
     check c (inr h) = absurd h
 
     shown : (c : Claim) → In c (claim k st sig ∷ []) → is_correct setup c.by.0 ≡ true → IsSigned echo p w c.by.0 c.statement
@@ -134,66 +132,66 @@ abbrev w5 : World Word
 w5 = world cast (echo_from 3 (echo_from 1 (echo_from 0 word)))
 
 abbrev said : Word
-said = Say (slot 0) b (sig 5)
+said = Say (slot 0) b (sig 0 1 5)
 
 said-signed : IsSigned echo p w1 0 (statement p 1 0 d)
-said-signed = signed-by w1 0 _ said (statement p 1 0 d) (sig 5) (inl refl) (inl refl) refl
+said-signed = signed-by w1 0 _ said (statement p 1 0 d) (sig 0 1 5) (inl refl) (inl refl) refl
 
 echo-signed : (ys : List (Item Word)) → IsSigned echo p (world cast ys) 0 (statement p 2 0 d)
-echo-signed ys = signed-by (world cast ys) 0 _ (Echo (slot 0) d (sig 6)) (statement p 2 0 d) (sig 6) (inl refl) (inr (inl refl)) refl
+echo-signed ys = signed-by (world cast ys) 0 _ (Echo (slot 0) d (sig 0 2 6)) (statement p 2 0 d) (sig 0 2 6) (inl refl) (inr (inl refl)) refl
 
 own-signed : IsSigned echo p w3 1 (statement p 2 0 d)
-own-signed = signed-by w3 1 _ (Echo (slot 0) d (sig 9)) (statement p 2 0 d) (sig 9) (inr (inl refl)) (inl refl) refl
+own-signed = signed-by w3 1 _ (Echo (slot 0) d (sig 1 2 9)) (statement p 2 0 d) (sig 1 2 9) (inr (inl refl)) (inl refl) refl
 
 -- what a Byzantine node claims nobody has to have signed
 none-signed : is_correct setup 3 ≡ true → IsSigned echo p w4 3 (statement p 2 0 d)
 none-signed h = absurd (true≢false (sym h))
 
 abbrev echo-of : ℕ → Input Word
-echo-of k = Receive (node k) (Echo (slot 0) d (sig 0))
+echo-of k = Receive (node k) (Echo (slot 0) d (sig k 2 0))
 
 reached : IsReached echo p w5
 reached =
-    let r1 : IsReached echo p w1 = after at_start (first-move (Cast (slot 0) b) 5 (refl, batch-read)) in
-    let r2 : IsReached echo p w2 = after r1 (move-one cast [] (Receive (node 0) said) 9 (claimed w1 0 said (statement p 1 0 d) (sig 5) (omega arith) refl said-read (λ q. said-signed))) in
-    let r3 : IsReached echo p w3 = after r2 (move-one cast word (echo-of 0) 0 (claimed w2 0 (Echo (slot 0) d (sig 0)) (statement p 2 0 d) (sig 0) (omega arith) refl echo-read (λ q. echo-signed word))) in
-    let r4 : IsReached echo p w4 = after r3 (move-one cast (echo_from 0 word) (echo-of 1) 0 (claimed w3 1 (Echo (slot 0) d (sig 0)) (statement p 2 0 d) (sig 0) (omega arith) refl echo-read (λ q. own-signed))) in
-    after r4 (move-one cast (echo_from 1 (echo_from 0 word)) (echo-of 3) 0 (claimed w4 3 (Echo (slot 0) d (sig 0)) (statement p 2 0 d) (sig 0) (omega arith) refl echo-read none-signed))
+    let r1 : IsReached echo p w1 = after at_start (first-move (Cast (slot 0) b) 5 (refl, b-read)) in
+    let r2 : IsReached echo p w2 = after r1 (move-one cast [] (Receive (node 0) said) 9 (claimed w1 0 said (statement p 1 0 d) (sig 0 1 5) (omega arith) refl said-read (verified-by 0 1 5 (omega arith) (omega arith)) (λ q. said-signed))) in
+    let r3 : IsReached echo p w3 = after r2 (move-one cast word (echo-of 0) 0 (claimed w2 0 (Echo (slot 0) d (sig 0 2 0)) (statement p 2 0 d) (sig 0 2 0) (omega arith) refl (echo-read 0) (verified-by 0 2 0 (omega arith) (omega arith)) (λ q. echo-signed word))) in
+    let r4 : IsReached echo p w4 = after r3 (move-one cast (echo_from 0 word) (echo-of 1) 0 (claimed w3 1 (Echo (slot 0) d (sig 1 2 0)) (statement p 2 0 d) (sig 1 2 0) (omega arith) refl (echo-read 1) (verified-by 1 2 0 (omega arith) (omega arith)) (λ q. own-signed))) in
+    after r4 (move-one cast (echo_from 1 (echo_from 0 word)) (echo-of 3) 0 (claimed w4 3 (Echo (slot 0) d (sig 3 2 0)) (statement p 2 0 d) (sig 3 2 0) (omega arith) refl (echo-read 3) (verified-by 3 2 0 (omega arith) (omega arith)) none-signed))
 
 delivers : delivered echo p 1 (w5 1) 0 ≡ Some (Holds b)
-unfolding sha256 digest_bytes hash_after compress rounds schedule first_words spell_batch spell_value
+unfolding sha256 digest_bytes hash_after compress rounds schedule first_words spell_batch spell_count spell_value
 delivers = refl
 
 -- ---- its strings are separate: it hashed one
 
 abbrev OnlyIn : List (List ℕ) → Type 0
 OnlyIn [] = Unit {0}
-OnlyIn (s ∷ ss) = (s ≡ value_string b) × OnlyIn ss
+OnlyIn (s ∷ ss) = (s ≡ string_of p b) × OnlyIn ss
 
 abbrev Only : List (Item Word) → Type 0
 Only [] = Unit {0}
 Only (x ∷ xs) = OnlyIn x.made.strings × Only xs
 
-only-in : (ss : List (List ℕ)) (s : List ℕ) → OnlyIn ss → In s ss → s ≡ value_string b
+only-in : (ss : List (List ℕ)) (s : List ℕ) → OnlyIn ss → In s ss → s ≡ string_of p b
 only-in [] s o h = absurd h
 only-in (t ∷ ss) s o (inl e) = e ∙ o.0
 only-in (t ∷ ss) s o (inr h) = only-in ss s o.1 h
 
-only : (xs : List (Item Word)) (x : Item Word) (s : List ℕ) → Only xs → In x xs → In s x.made.strings → s ≡ value_string b
+only : (xs : List (Item Word)) (x : Item Word) (s : List ℕ) → Only xs → In x xs → In s x.made.strings → s ≡ string_of p b
 only [] x s o h k = absurd h
 only (y ∷ xs) x s o (inl e) k = only-in y.made.strings s o.0 (subst (λ (z : Item Word). In s z.made.strings) e k)
 only (y ∷ xs) x s o (inr h) k = only xs x s o.1 h k
 
-one-string : (s : List ℕ) → IsHashed w5 s → s ≡ value_string b
+one-string : (s : List ℕ) → IsHashed w5 s → s ≡ string_of p b
 one-string s h = go (eqb h.node 0) (eqb h.node 1) h.taken
   where
-    go : (t u : Bool) → In h.item (cond t cast (cond u (echo_from 3 (echo_from 1 (echo_from 0 word))) [])) → s ≡ value_string b
+    go : (t u : Bool) → In h.item (cond t cast (cond u (echo_from 3 (echo_from 1 (echo_from 0 word))) [])) → s ≡ string_of p b
     go true u k = only cast h.item s ((refl, tt), tt) k h.hashed
     go false true k = only (echo_from 3 (echo_from 1 (echo_from 0 word))) h.item s (tt, (tt, (tt, ((refl, tt), tt)))) k h.hashed
     go false false k = absurd k
 
 no-empty : same_bytes (digest []) d ≡ false
-unfolding sha256 digest_bytes hash_after compress rounds schedule first_words spell_batch spell_value
+unfolding sha256 digest_bytes hash_after compress rounds schedule first_words spell_batch spell_count spell_value
 no-empty = refl
 
 not-empty : digest [] ≡ d → ⊥
@@ -221,4 +219,4 @@ premises-met = record { params = p; world_of = w5; are_good = good; is_reached =
 
 -- and what the laws give of it
 its-broadcast : IsBroadcast echo p w5
-its-broadcast = broadcast-reached echo echo-safe p good w5 reached separate
+its-broadcast = echo-safe p w5 good reached separate

@@ -1,36 +1,36 @@
 -- Echo: the leader says a batch to all, each node echoes the digest of the first batch that it took at a slot, and
 -- the echoes of a quorum decide what the node itself took there.
-use Rattle.std.specs.Prelude.{ℕ, zero, suc, ◌+◌, ◌*◌, ◌^◌, ◌==◌, ◌&&◌, ◌||◌, Bool, true, false, not, cond, nat_lt, nat_le, List, [], ◌∷◌, ◌++◌, length, replicate, Option, Some, None, is_some, if◌then◌else◌}
-use Rattle.std.specs.Int.{to_be_bytes, w32, w64}
-use Rattle.std.specs.List.{list_any}
-use Rattle.iss_base.specs.Lists.{first_of}
+use Rattle.std.specs.Prelude.{◌≡◌, ℕ, ◌+◌, ◌*◌, ◌^◌, ◌<◌, ◌==◌, ◌&&◌, ◌||◌, Bool, true, false, not, cond, nat_lt, nat_le, List, [], ◌∷◌, ◌++◌, length, Option, Some, None, is_some, if◌then◌else◌}
+use Rattle.std.specs.Int.{to_be_bytes, w64}
+use Rattle.iss_base.specs.Lists.{first_of, same_bytes}
+use Rattle.iss_base.specs.Quorum.{count_below}
 use Rattle.iss_request.specs.Digest.{digest}
-use Rattle.iss_request.specs.Formats.{is_signature, parse_signature, parse_value, spell_value}
+use Rattle.iss_request.specs.Formats.{IsSpelledValue, batch_of, is_batch, is_signature, parse_signature, parse_value, spell_value, value_string}
 use Rattle.iss_request.specs.Parsing.{Parser, ◌>>=◌, block, byte, done, number, such_that}
 use Rattle.iss_request.specs.declared.ids.Slot.{Slot}
 use Rattle.iss_request.specs.declared.requests.Batch.{Batch}
 use Rattle.iss_request.specs.declared.requests.Value.{Value}
-use Rattle.iss_request.specs.declared.requests.Value.TheVariants.{Nil, Batch as Holds}
+use Rattle.iss_request.specs.declared.requests.Value.TheVariants.{Batch as Holds}
 use Rattle.iss_sb.specs.declared.effects.Claim.{Claim}
 use Rattle.iss_sb.specs.declared.effects.Input.{Input}
 use Rattle.iss_sb.specs.declared.effects.Input.TheVariants.{Cast, Receive, Timeout}
 use Rattle.iss_sb.specs.declared.effects.Params.{Params}
 use Rattle.iss_sb.specs.declared.effects.To.{To}
 use Rattle.iss_sb.specs.declared.effects.To.TheVariants.{All as To_all}
+use Rattle.iss_sb.specs.Calls.{has_slot}
 use Rattle.iss_sb.specs.Evidence.{Item, Made, Module}
-use Rattle.iss_sb.specs.Legal.{by_lists}
-use Rattle.iss_sb.specs.Statements.{eight_bytes, statement_head}
+use Rattle.iss_sb.specs.Statements.{eight_bytes, signature, statement_head}
 use Rattle.sb_echo.specs.declared.word.Word.{Word}
 use Rattle.sb_echo.specs.declared.word.Word.TheVariants.{Say, Echo}
 
 -- ---- digests and statements
 
 -- what is hashed of a batch: the string of the value that holds it
-abbrev pub value_string : Batch → List ℕ
-value_string b = 0x40 ∷ spell_value (Holds b)
+abbrev pub string_of : Params → Batch → List ℕ
+string_of p b = value_string p.setup.version (Holds b)
 
-abbrev pub digest_of : Batch → List ℕ
-digest_of b = digest (value_string b)
+abbrev pub digest_of : Params → Batch → List ℕ
+digest_of p b = digest (string_of p b)
 
 abbrev pub tag : ℕ
 tag = 6
@@ -44,24 +44,17 @@ claim by statement sig = record { by = record { 0 = by }; statement = statement;
 
 -- a message claims its own signature
 abbrev pub claims : Params → ℕ → Word → List Claim
-claims p from (Say slot batch sig) = claim from (statement p 1 slot.0 (digest_of batch)) sig ∷ []
+claims p from (Say slot batch sig) = claim from (statement p 1 slot.0 (digest_of p batch)) sig ∷ []
 claims p from (Echo slot d sig) = claim from (statement p 2 slot.0 d) sig ∷ []
 
--- what stands for a signature, in the shape of one: no law reads it
-abbrev pub signature : Params → ℕ → List ℕ
-signature p leaf = p.setup.keys ∷ to_be_bytes w32 leaf ++ replicate (32 * (67 + p.setup.keys)) 0
-
+-- the messages that a node signs with a leaf
 abbrev pub say : Params → ℕ → ℕ → Slot × Batch → Word
-say p me leaf a = Say a.0 a.1 (signature p leaf)
+say p me leaf a = Say a.0 a.1 (signature p me leaf (statement p 1 a.0.0 (digest_of p a.1)))
 
 abbrev pub echo_of : Params → ℕ → ℕ → Slot × Batch → Word
-echo_of p me leaf a = Echo a.0 (digest_of a.1) (signature p leaf)
+echo_of p me leaf a = Echo a.0 (digest_of p a.1) (signature p me leaf (statement p 2 a.0.0 (digest_of p a.1)))
 
 -- ---- what a node took
-
--- whether the slot of this number is among the slots
-abbrev pub has_slot : ℕ → List Slot → Bool
-has_slot s slots = list_any (λ t. t.0 == s) slots
 
 abbrev pub batch_for : ℕ → Option (Slot × Batch) → Option Batch
 batch_for s None = None
@@ -97,18 +90,12 @@ words p me leaf false a = (To_all, echo_of p me leaf a) ∷ []
 
 abbrev pub made_of : Params → ℕ → ℕ → Bool → Option (Slot × Batch) → Made Word
 made_of p me leaf cast None = record { sends = []; accepted = None; strings = []; used = 0 }
-made_of p me leaf cast (Some a) = record { sends = words p me leaf cast a; accepted = Some a; strings = value_string a.1 ∷ []; used = cond cast 2 1 }
+made_of p me leaf cast (Some a) = record { sends = words p me leaf cast a; accepted = Some a; strings = string_of p a.1 ∷ []; used = cond cast 2 1 }
 
 abbrev pub makes : Params → ℕ → List (Item Word) → Input Word → ℕ → Made Word
 makes p me xs input leaf = made_of p me leaf (is_cast input) (asks p me xs input)
 
 -- ---- what is decided
-
-abbrev pub same_bytes : List ℕ → List ℕ → Bool
-same_bytes [] [] = true
-same_bytes [] (y ∷ ys) = false
-same_bytes (x ∷ xs) [] = false
-same_bytes (x ∷ xs) (y ∷ ys) = (x == y) && same_bytes xs ys
 
 -- whether an input is node k's echo of the digest at the slot
 abbrev pub is_echo : ℕ → List ℕ → ℕ → Input Word → Bool
@@ -121,41 +108,37 @@ abbrev pub has_echo : ℕ → List ℕ → ℕ → List (Item Word) → Bool
 has_echo s d k [] = false
 has_echo s d k (x ∷ xs) = is_echo s d k x.input || has_echo s d k xs
 
--- how many numbers below n pass the test
-abbrev pub count_below : (ℕ → Bool) → ℕ → ℕ
-count_below test zero = 0
-count_below test (suc n) = cond (test n) 1 0 + count_below test n
-
 -- whether a quorum echoed the digest at the slot
 abbrev pub is_echoed : Params → ℕ → List ℕ → List (Item Word) → Bool
 is_echoed p s d xs = nat_le p.setup.quorum (count_below (λ k. has_echo s d k xs) p.setup.n)
 
 abbrev pub decide : Params → ℕ → List (Item Word) → Option Batch → Option Value
 decide p s xs None = None
-decide p s xs (Some b) = if has_slot s p.slots && is_echoed p s (digest_of b) xs then Some (Holds b) else None
+decide p s xs (Some b) = if has_slot s p.slots && is_echoed p s (digest_of p b) xs then Some (Holds b) else None
 
 abbrev pub decided : Params → ℕ → List (Item Word) → ℕ → Option Value
 decided p me xs s = decide p s xs (taken s xs)
 
 -- ---- bytes
 
--- a message's number, its fields, its signature. One that has no spelling is written as the number of no message
-abbrev pub spell : Word → List ℕ
-spell (Say slot batch sig) = if nat_lt slot.0 (2 ^ 64) && is_signature sig then 1 ∷ to_be_bytes w64 slot.0 ++ spell_value (Holds batch) ++ sig else 0 ∷ []
-spell (Echo slot d sig) = if nat_lt slot.0 (2 ^ 64) && ((length d == 32) && is_signature sig) then 2 ∷ to_be_bytes w64 slot.0 ++ d ++ sig else 0 ∷ []
+-- the table: a message's number, the slot, a value that is a batch, or the digest, and the signature
+abbrev pub IsSpelledWord : ℕ → Word → List ℕ → Type 0
+IsSpelledWord version (Say slot batch sig) bytes =
+    (slot.0 < 2 ^ 64) × (is_signature sig ≡ true) × ((value : List ℕ) × IsSpelledValue version (Holds batch) value × (bytes ≡ 1 ∷ to_be_bytes w64 slot.0 ++ value ++ sig))
+IsSpelledWord version (Echo slot d sig) bytes =
+    (slot.0 < 2 ^ 64) × (length d ≡ 32) × (is_signature sig ≡ true) × (bytes ≡ 2 ∷ to_be_bytes w64 slot.0 ++ d ++ sig)
 
-abbrev pub is_batch : Value → Bool
-is_batch Nil = false
-is_batch (Holds batch) = true
+-- one that has no spelling is written as the number of no message
+abbrev pub spell : ℕ → Word → List ℕ
+spell version (Say slot batch sig) =
+    if nat_lt slot.0 (2 ^ 64) && is_signature sig then 1 ∷ to_be_bytes w64 slot.0 ++ spell_value version (Holds batch) ++ sig else 0 ∷ []
+spell version (Echo slot d sig) =
+    if nat_lt slot.0 (2 ^ 64) && ((length d == 32) && is_signature sig) then 2 ∷ to_be_bytes w64 slot.0 ++ d ++ sig else 0 ∷ []
 
-abbrev pub batch_of : Value → Batch
-batch_of Nil = []
-batch_of (Holds batch) = batch
-
-unfoldable pub parse_say : Parser Word
-parse_say = do
+unfoldable pub parse_say : ℕ → Parser Word
+parse_say version = do
   slot ← number w64
-  value ← such_that is_batch parse_value
+  value ← such_that is_batch (parse_value version)
   sig ← parse_signature
   done (Say (record { 0 = slot }) (batch_of value) sig)
 
@@ -166,16 +149,16 @@ parse_echo = do
   sig ← parse_signature
   done (Echo (record { 0 = slot }) d sig)
 
-unfoldable pub parse : Parser Word
-parse = do
+unfoldable pub parse : ℕ → Parser Word
+parse version = do
   message ← such_that (λ n. (n == 1) || (n == 2)) byte
-  if message == 1 then parse_say else parse_echo
+  if message == 1 then parse_say version else parse_echo
 
 -- ---- the module
 
--- with no invariant
-abbrev pub rules : Module Word
-rules = record {
+-- f Byzantine nodes of 3f+1
+abbrev pub echo : Module Word
+echo = record {
   nodes = λ f. 3 * f + 1;
   quorum = λ f. 2 * f + 1;
   stopping = false;
@@ -187,9 +170,4 @@ rules = record {
   asks = asks;
   makes = makes;
   decided = decided;
-  Inv = λ p w. Unit {0};
 }
-
--- f Byzantine nodes of 3f+1. What holds of every world is that its lists are legal
-abbrev pub echo : Module Word
-echo = by_lists rules

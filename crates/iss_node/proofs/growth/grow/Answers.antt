@@ -4,7 +4,7 @@ use Rattle.iss_node.proofs.growth.grow.Goals as goal
 pub returns : goal.returns
 returns c =
     let filled = c.in_ok-fill_all.ensures in
-    let advanced = c.in_ok-_joined.ensures in
+    let advanced = c.in_ok-_joined.ensures.ok in
     record {
       count = ap (λ xs. length xs) c.entries-held.ensures;
       joined = advanced.joined;

@@ -1,0 +1,5 @@
+mod EntryGrammar
+mod EntryTable
+mod Examples
+pub mod MessageGrammar
+pub mod Readable

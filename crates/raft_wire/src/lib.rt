@@ -1,0 +1,10 @@
+//! The messages of Raft and the entries of its logs, in bytes.
+#![tactic(auto)]
+
+pub mod entries;
+pub mod laws;
+pub mod messages;
+
+pub use entries::{Entry, What};
+pub use laws::messages_are_exact;
+pub use messages::Message;

@@ -1,0 +1,13 @@
+use Rattle.sb_echo.proofs.Lawful.{echo-lawful}
+use Rattle.sb_echo.proofs.Safe.{echo-safe}
+use Rattle.sb_echo.proofs.Spelling.{word-grammar}
+use Rattle.sb_echo.proofs.echo.EchoSequenced.laws.Goals as goal
+
+pub returns-clause-grammar : goal.returns-clause-grammar
+returns-clause-grammar c = word-grammar
+
+pub returns-clause-lawful : goal.returns-clause-lawful
+returns-clause-lawful c = echo-lawful
+
+pub returns-clause-safe : goal.returns-clause-safe
+returns-clause-safe c = echo-safe

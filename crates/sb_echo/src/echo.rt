@@ -1,0 +1,327 @@
+//! The rules of echo, and that it is an ordering module.
+ghost use Rattle.std.specs.Prelude.{◌≡◌, ℕ, ◌≤◌, List, IfOk};
+ghost use Rattle.iss_keys.specs.KeyStates.{KeyState, left_of};
+ghost use Rattle.iss_sb.specs.Calls.{IsGoodInput, IsGoodParams, IsStep, IsTrueStep, has_slot};
+ghost use Rattle.sb_echo.specs.Echo.{echo};
+ghost use Rattle.sb_echo.specs.Stands.{HasCompleted, HasTaken, Stands, is_complete, is_free, is_heard, may_cast, may_take, one_at};
+
+use crate::echoes::Echoes;
+use crate::signing::{ECHO, SAY, digest_of, sign_word, string_of};
+use crate::wire;
+use crate::word::Word;
+use iss_keys::Keys;
+use iss_request::{Batch, DecodeError, Fields, NoMemory, NodeId, Row, Slot, Value, Writer};
+use iss_sb::{Claim, Effects, Input, Params, Sequenced, StepError, To};
+use std::alloc::Global;
+use std::collections::BTreeMap;
+
+/// What a node has at a slot where it took a batch: the batch as a value, which waits for echoes of its digest, or that
+/// it was delivered.
+#[derive(Drop)]
+pub enum Place {
+    Waiting { digest: [u8; 32], value: Value },
+    Delivered,
+}
+
+/// A node's part in one instance: what it took at each slot, and the echoes that it heard.
+#[derive(Drop)]
+pub struct Echo {
+    me: NodeId,
+    places: BTreeMap<u64, Place>,
+    heard: Echoes,
+}
+
+// Whether the slot is one of the segment.
+fn is_inside(p: &Params, slot: Slot) -> bool
+    ensures { result ≡ has_slot slot.0 p.now.slots }
+{
+    p.slots.as_slice().contains(&slot)
+}
+
+// What is delivered at a slot.
+fn one_at(alloc: Global, slot: Slot, value: Option<Value>) -> Result<Row<(Slot, Value)>, NoMemory>
+    ensures { IfOk result (λ all. all ≡ one_at slot value) }
+{
+    let mut all = Row::new(alloc);
+    let Some(value) = value else {
+        return Ok(all);
+    };
+    all.push((slot, value))?;
+    Ok(all)
+}
+
+impl Echo {
+    // Whether a batch may be taken at the slot: in the segment, once.
+    fn is_free(&self, p: &Params, slot: Slot) -> bool
+        ensures { result ≡ is_free self.now p.now slot.0 }
+    {
+        is_inside(p, slot) && !self.places.contains_key(&slot.0)
+    }
+
+    // Whether a batch may be cast at the slot: by the leader.
+    fn may_cast(&self, p: &Params, slot: Slot) -> bool
+        ensures { result ≡ may_cast self.now p.now slot }
+    {
+        self.me == p.leader && self.is_free(p, slot)
+    }
+
+    // Whether the word of a node on the slot is to be taken: the leader's.
+    fn may_take(&self, p: &Params, from: NodeId, slot: Slot) -> bool
+        ensures { result ≡ may_take self.now p.now from slot }
+    {
+        from == p.leader && self.is_free(p, slot)
+    }
+
+    // Whether a quorum echoed the digest at the slot.
+    fn is_heard(&self, p: &Params, slot: Slot, digest: &[u8; 32]) -> bool
+        requires { IsGoodParams echo p.now }
+        ensures { result ≡ is_heard self.now p.now slot.0 digest.now }
+    {
+        self.heard.count(slot, digest, p.setup.n as u8) >= p.setup.quorum
+    }
+
+    // Whether what waits at the slot has its echoes.
+    fn is_complete(&self, p: &Params, slot: Slot) -> bool
+        requires { IsGoodParams echo p.now }
+        ensures { result ≡ is_complete self.now p.now slot.0 }
+    {
+        match self.places.get(&slot.0) {
+            Some(Place::Waiting { digest, .. }) => self.is_heard(p, slot, digest),
+            _ => false,
+        }
+    }
+
+    // Takes a batch at a free slot, and delivers it if its echoes came before it. The digest is that of the batch.
+    fn take(
+        &mut self,
+        alloc: Global,
+        p: &Params,
+        slot: Slot,
+        batch: Batch,
+    ) -> Result<([u8; 32], Effects<Word>), NoMemory>
+        requires { IsGoodParams echo p.now }
+        ensures { IfOk result (λ r. HasTaken p.now self.old self.new slot batch r.0 r.1) }
+    {
+        let mut effects = Effects::nothing(alloc);
+        let string = string_of(alloc, p, &batch)?;
+        let digest = digest_of(p, &batch, &string);
+        effects.hashed.push(string)?;
+        effects.accepted = Some((slot, batch.copy()?));
+        let value = Value::Batch(batch);
+        if self.is_heard(p, slot, &digest) {
+            self.places.insert(slot.0, Place::Delivered)?;
+            effects.delivers.push((slot, value))?;
+            return Ok((digest, effects));
+        }
+        self.places
+            .insert(slot.0, Place::Waiting { digest, value })?;
+        Ok((digest, effects))
+    }
+
+    // Takes what waits at the slot out of it, where it has its echoes.
+    fn complete(&mut self, p: &Params, slot: Slot) -> Result<Option<Value>, NoMemory>
+        requires { IsGoodParams echo p.now }
+        ensures { IfOk result (λ v. HasCompleted p.now self.old self.new slot v) }
+    {
+        if !self.is_complete(p, slot) {
+            return Ok(None);
+        }
+        match self.places.insert(slot.0, Place::Delivered)? {
+            Some(Place::Waiting { value, .. }) => Ok(Some(value)),
+            _ => Ok(None),
+        }
+    }
+
+    // The leader takes a batch that is cast to it, says it to all, and echoes it.
+    fn cast(
+        &mut self,
+        alloc: Global,
+        p: &Params,
+        slot: Slot,
+        batch: Batch,
+        keys: &mut Keys,
+    ) -> Result<Effects<Word>, NoMemory>
+        requires good { IsGoodParams echo p.now }
+        requires enough { 2 ≤ left_of keys.old }
+        ensures { IfOk result (λ e. IsTrueStep echo Stands p.now self.old self.new (Input.Cast slot batch) keys.old keys.new e) }
+    {
+        if !self.may_cast(p, slot) {
+            return Ok(Effects::nothing(alloc));
+        }
+        let said = batch.copy()?;
+        let (digest, mut effects) = self.take(alloc, p, slot, batch)?;
+        let sig = sign_word(alloc, p, SAY, slot, &digest, keys)?;
+        let own = sign_word(alloc, p, ECHO, slot, &digest, keys)?;
+        let word = Word::Say {
+            slot,
+            batch: said,
+            sig,
+        };
+        effects.sends.push((To::All, word))?;
+        let word = Word::Echo {
+            slot,
+            digest,
+            sig: own,
+        };
+        effects.sends.push((To::All, word))?;
+        Ok(effects)
+    }
+
+    // A node takes the leader's first word on a slot, and echoes its digest to all.
+    fn take_say(
+        &mut self,
+        alloc: Global,
+        p: &Params,
+        from: NodeId,
+        slot: Slot,
+        batch: Batch,
+        keys: &mut Keys,
+    ) -> Result<Effects<Word>, NoMemory>
+        requires good { IsGoodParams echo p.now }
+        requires enough { 2 ≤ left_of keys.old }
+        ensures { IfOk result (λ e. (sig : List ℕ) → IsTrueStep echo Stands p.now self.old self.new (Input.Receive from (Word.Say slot batch sig)) keys.old keys.new e) }
+    {
+        if !self.may_take(p, from, slot) {
+            return Ok(Effects::nothing(alloc));
+        }
+        let (digest, mut effects) = self.take(alloc, p, slot, batch)?;
+        let sig = sign_word(alloc, p, ECHO, slot, &digest, keys)?;
+        let word = Word::Echo { slot, digest, sig };
+        effects.sends.push((To::All, word))?;
+        Ok(effects)
+    }
+
+    // A node hears an echo, and delivers what it took at the slot once a quorum echoed it. It signs nothing.
+    fn take_echo(
+        &mut self,
+        alloc: Global,
+        p: &Params,
+        from: NodeId,
+        slot: Slot,
+        digest: [u8; 32],
+    ) -> Result<Effects<Word>, NoMemory>
+        requires { IsGoodParams echo p.now }
+        ensures { IfOk result (λ e. (sig : List ℕ) (keys : KeyState) → 2 ≤ left_of keys →
+            IsTrueStep echo Stands p.now self.old self.new (Input.Receive from (Word.Echo slot digest sig)) keys keys e) }
+    {
+        if !is_inside(p, slot) {
+            return Ok(Effects::nothing(alloc));
+        }
+        self.heard.hear(slot, digest, from)?;
+        let value = self.complete(p, slot)?;
+        let mut effects = Effects::nothing(alloc);
+        effects.delivers = one_at(alloc, slot, value)?;
+        Ok(effects)
+    }
+}
+
+impl Sequenced for Echo {
+    type Msg = Word;
+
+    const TAG: u8 = 6;
+
+    const STOPPING: bool = false;
+
+    ghost use Rattle.std.specs.Prelude.{false};
+
+    ghost TAG = { 6 };
+
+    ghost STOPPING = { false };
+
+    ghost meaning = { echo };
+
+    ghost stands = { Stands };
+
+    fn nodes_of(f: u32) -> u32 {
+        3 * f + 1
+    }
+
+    fn quorum_of(f: u32) -> u32 {
+        2 * f + 1
+    }
+
+    fn signs(_p: &Params) -> u32 {
+        2
+    }
+
+    fn start(alloc: Global, _p: &Params, me: NodeId) -> Result<Echo, NoMemory> {
+        Ok(Echo {
+            me,
+            places: BTreeMap::new(alloc),
+            heard: Echoes::new(alloc),
+        })
+    }
+
+    fn casts(&self, p: &Params, slot: Slot) -> bool {
+        self.may_cast(p, slot)
+    }
+
+    fn asks<'a>(&'a self, p: &Params, i: &'a Input<Word>) -> Option<(Slot, &'a Batch)> {
+        match i {
+            Input::Cast { slot, batch } => {
+                if self.may_cast(p, *slot) {
+                    Some((*slot, batch))
+                } else {
+                    None
+                }
+            }
+            Input::Receive {
+                from,
+                msg: Word::Say { slot, batch, .. },
+            } => {
+                if self.may_take(p, *from, *slot) {
+                    Some((*slot, batch))
+                } else {
+                    None
+                }
+            }
+            _ => None,
+        }
+    }
+
+    fn step(
+        &mut self,
+        alloc: Global,
+        p: &Params,
+        i: Input<Word>,
+        verdict: bool,
+        keys: &mut Keys,
+    ) -> Result<Effects<Word>, StepError>
+        requires good { IsGoodParams echo p.now }
+        requires input { IsGoodInput p.now i }
+        ensures { IsStep echo Stands p.now self.old self.new i verdict keys.old keys.new result }
+    {
+        if keys.left() < 2 {
+            return Err(StepError::Spent);
+        }
+        if !verdict {
+            return Ok(Effects::nothing(alloc));
+        }
+        match i {
+            Input::Cast { slot, batch } => Ok(self.cast(alloc, p, slot, batch, keys)?),
+            Input::Receive { from, msg } => match msg {
+                Word::Say { slot, batch, .. } => Ok(self.take_say(
+                    alloc, p, from, slot, batch, keys,
+                )?),
+                Word::Echo { slot, digest, .. } => Ok(self.take_echo(
+                    alloc, p, from, slot, digest,
+                )?),
+            },
+            Input::Timeout => Ok(Effects::nothing(alloc)),
+        }
+    }
+
+    fn encode(m: &Word, out: &mut Writer) -> Result<(), NoMemory> {
+        wire::write(m, out)
+    }
+
+    fn decode(alloc: Global, f: &mut Fields) -> Result<Word, DecodeError> {
+        wire::read(alloc, f)
+    }
+
+    fn claims(alloc: Global, p: &Params, from: NodeId, m: &Word) -> Result<Row<Claim>, NoMemory> {
+        wire::claims(alloc, p, from, m)
+    }
+
+    fn laws() {}
+}

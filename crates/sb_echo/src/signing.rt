@@ -1,0 +1,79 @@
+//! What is hashed and what is signed.
+ghost use Rattle.std.specs.Prelude.{◌≡◌, ℕ, ◌+◌, ◌<◌, IfOk, OnOk};
+ghost use Rattle.iss_keys.specs.Directories.{AreKeysOf};
+ghost use Rattle.iss_keys.specs.KeyStates.{left_of};
+ghost use Rattle.iss_sb.specs.Statements.{signature};
+ghost use Rattle.sb_echo.specs.Echo.{digest_of, statement, string_of};
+
+use iss_keys::Keys;
+use iss_request::values::write_batch;
+use iss_request::{Batch, Bytes, NoMemory, Slot, Writer, version_byte};
+use iss_sb::{Params, put_head, sign};
+use sha2::{Digest, Sha256};
+use std::alloc::Global;
+
+/// The number of the module.
+pub const TAG: u8 = 6;
+
+/// The number of the leader's word, in bytes and in statements.
+pub const SAY: u8 = 1;
+
+/// The number of an echo.
+pub const ECHO: u8 = 2;
+
+/// The string that is hashed of a batch.
+pub fn string_of(alloc: Global, p: &Params, batch: &Batch) -> Result<Bytes, NoMemory>
+    ensures { IfOk result (λ s. s ≡ string_of p.now batch.now) }
+{
+    let version = p.setup.version;
+    let mut out = Writer::new(alloc, version);
+    out.put_u8(0x40)?;
+    out.put_u8(version_byte(version))?;
+    write_batch(batch, &mut out)?;
+    Ok(out.into_bytes())
+}
+
+/// The digest of a batch, by its string.
+pub fn digest_of(p: &Params, batch: &Batch, string: &Bytes) -> [u8; 32]
+    requires { string.now ≡ string_of p.now batch.now }
+    ensures { result ≡ digest_of p.now batch.now }
+{
+    Sha256::digest(string.as_slice())
+}
+
+/// The statement that a batch of this digest was said, or taken, at the slot.
+pub fn statement(
+    alloc: Global,
+    p: &Params,
+    kind: u8,
+    slot: Slot,
+    digest: &[u8; 32],
+) -> Result<Bytes, NoMemory>
+    ensures { IfOk result (λ s. s ≡ statement p.now kind slot.0 digest.now) }
+{
+    let mut out = Writer::new(alloc, p.setup.version);
+    put_head(p, TAG, &mut out)?;
+    out.put_u8(kind)?;
+    out.put_u64(slot.0)?;
+    out.put_bytes(digest)?;
+    Ok(out.into_bytes())
+}
+
+/// Signs that a batch of this digest was said, or taken, at the slot, with the next leaf.
+pub fn sign_word(
+    alloc: Global,
+    p: &Params,
+    kind: u8,
+    slot: Slot,
+    digest: &[u8; 32],
+    keys: &mut Keys,
+) -> Result<Bytes, NoMemory>
+    requires { 0 < left_of keys.old }
+    ensures sig { IfOk result (λ s. (me : ℕ) → AreKeysOf me p.now.setup.keys keys.old →
+        s ≡ signature p.now me keys.old.used (statement p.now kind slot.0 digest.now)) }
+    ensures used { OnOk result (keys.new ≡ record keys.old { used = keys.old.used + 1 }) }
+    ensures left { OnOk result (left_of keys.new + 1 ≡ left_of keys.old) }
+{
+    let statement = statement(alloc, p, kind, slot, digest)?;
+    sign(&statement, keys)
+}

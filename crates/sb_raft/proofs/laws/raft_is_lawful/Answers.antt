@@ -1,0 +1,5 @@
+use Rattle.sb_raft.proofs.Lawful.{raft-lawful}
+use Rattle.sb_raft.proofs.laws.raft_is_lawful.Goals as goal
+
+pub returns : goal.returns
+returns c = raft-lawful
