@@ -1,4 +1,5 @@
 mod Agree
+mod Answered
 mod Ballots
 mod Batches
 mod Bounds
@@ -21,3 +22,4 @@ mod Reached
 mod Safe
 mod Sends
 mod Steps
+mod Worlds
