@@ -1,5 +1,5 @@
 -- A leader's matches are what other nodes answered while it led the term.
-use Rattle.std.proofs.Common.{◌≡◌, ℕ, zero, suc, ◌≤◌, ◌<◌, ◌==◌, ◌&&◌, ◌||◌, not, Bool, true, false, cond, if◌then◌else◌, List, [], ◌∷◌, length, refl, sym, subst, ap, ◌∙◌, inl, inr, ◌⊎◌, true≢false, eq-eqb, arith}
+use Rattle.std.proofs.Common.{◌≡◌, ℕ, ◌≤◌, ◌==◌, ◌&&◌, ◌||◌, not, Bool, true, false, cond, if◌then◌else◌, List, [], ◌∷◌, length, refl, sym, subst, ap, ◌∙◌, inl, inr, ◌⊎◌, true≢false, eq-eqb, arith}
 use Rattle.std.specs.Prelude.{max, nat_le, nat_lt}
 use Rattle.std.proofs.lemmas.Bool.{and_parts, cases_lt, eqb-true, le-leb, leb-true, ltb-true, or_cases}
 use Rattle.iss_base.specs.Lists.{set_at}
@@ -15,15 +15,15 @@ use Rattle.raft_wire.specs.declared.messages.Message.{Message}
 use Rattle.raft_wire.specs.declared.messages.Message.TheVariants.{Append, Reply, AskVote, Vote}
 use Rattle.sb_raft.specs.Committed.{another_answered, has_answered, is_answer, leads_term}
 use Rattle.sb_raft.specs.Raft.{raft_log, state}
-use Rattle.sb_raft.specs.Rules.{Role, Follower, Candidate, Leader, State, Step, advanced, is_leader, matched_at, on_not_ok, on_ok, on_reply, quiet, raised}
+use Rattle.sb_raft.specs.Rules.{Role, Follower, Candidate, Leader, State, Step, advanced, is_leader, on_ok, on_reply, quiet, raised}
 use Rattle.sb_raft.proofs.Effects.{Turn, follows, stands, runs, rules, wins, wins_alone, term_level, turn}
 use Rattle.sb_raft.proofs.Histories.{LeadIn, cand_never, lead_here, lead_term}
 use Rattle.sb_raft.proofs.Steps.{Raise, level, higher, next, up, advanced-state, with_match, Handled, none, down, copy, reply, back, grant, voted, win, casts, times, alone, Next, next_cases}
 
-same-is : (a b : ℕ) → a ≡ b → (a == b) ≡ true
+pub same-is : (a b : ℕ) → a ≡ b → (a == b) ≡ true
 same-is a b e = eq-eqb a b e
 
-leads-is : (r : Role) → r ≡ Leader → is_leader r ≡ true
+pub leads-is : (r : Role) → r ≡ Leader → is_leader r ≡ true
 leads-is r e = ap is_leader e
 
 leader-of : (r : Role) → is_leader r ≡ true → r ≡ Leader
@@ -32,10 +32,10 @@ leader-of Candidate h = absurd (true≢false (sym h))
 leader-of Leader h = refl
 
 -- two roles at once
-no-role : (r a b : Role) (A : Type 0) → r ≡ a → r ≡ b → is_leader a ≡ false → is_leader b ≡ true → A
+pub no-role : (r a b : Role) (A : Type 0) → r ≡ a → r ≡ b → is_leader a ≡ false → is_leader b ≡ true → A
 no-role r a b A h k f t = absurd (true≢false (sym t ∙ (ap is_leader (sym k ∙ h) ∙ f)))
 
-or_left_true : (a b : Bool) → a ≡ true → (a || b) ≡ true
+pub or_left_true : (a b : Bool) → a ≡ true → (a || b) ≡ true
 or_left_true a b e = ap (λ (z : Bool). z || b) e
 
 -- an answer, part by part

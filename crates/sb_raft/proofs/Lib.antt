@@ -10,6 +10,7 @@ mod Delivers
 mod Effects
 mod Elections
 mod Example
+mod Greatest
 mod Histories
 mod Inv
 mod Kept

@@ -1,6 +1,5 @@
 -- Raft is a broadcast in every world of legal lists and ballots, and both are kept.
 use Rattle.std.proofs.Common.{◌≡◌, ℕ, true, List, ◌∷◌, ◌++◌, take, drop, append_assoc, refl, sym, subst, ap, ◌∙◌, inl, inr, Option, Some, None, true≢false}
-use Rattle.std.proofs.lemmas.Bool.{eqb-true}
 use Rattle.iss_base.specs.Lists.{In}
 use Rattle.iss_request.specs.declared.ids.Slot.{Slot}
 use Rattle.iss_request.specs.declared.requests.Batch.{Batch}

@@ -1,6 +1,5 @@
 -- The facts that agreement stands on, of each world that moves lead to.
-use Rattle.std.proofs.Common.{◌≡◌, ℕ, zero, suc, ◌≤◌, ◌<◌, List, [], ◌∷◌, ◌++◌, length, take, drop, append_assoc, refl, sym, subst, ap, ◌∙◌, inl, inr, Option, Some, None, arith}
-use Rattle.iss_base.specs.Lists.{In}
+use Rattle.std.proofs.Common.{◌≡◌, ℕ, zero, suc, List, [], ◌∷◌, ◌++◌, length, take, drop, append_assoc, refl, sym, subst, ap, ◌∙◌, inl, inr, Some, arith}
 use Rattle.iss_request.specs.declared.ids.Slot.{Slot}
 use Rattle.iss_request.specs.declared.requests.Batch.{Batch}
 use Rattle.iss_sb.specs.declared.effects.Input.{Input}
@@ -19,7 +18,7 @@ use Rattle.sb_raft.specs.Rules.{may_cast}
 use Rattle.sb_raft.proofs.Agree.{agree, inv-of, keeps, starts}
 use Rattle.sb_raft.proofs.Ballots.{Ballots}
 use Rattle.sb_raft.proofs.Commits.{committed_kept, good_at, take_long, take_some}
-use Rattle.sb_raft.proofs.Core.{Good, matching}
+use Rattle.sb_raft.proofs.Core.{matching}
 use Rattle.sb_raft.proofs.Delivers.{room, take-drop}
 use Rattle.sb_raft.proofs.Effects.{cast-parts}
 use Rattle.sb_raft.proofs.Elections.{LeadOf, elected, facts, histories, later_term, one_lead, term_last}
@@ -27,7 +26,6 @@ use Rattle.sb_raft.proofs.Histories.{lead_front, lead_here}
 use Rattle.sb_raft.proofs.Inv.{Inv}
 use Rattle.sb_raft.proofs.Lawful.{some-only}
 use Rattle.sb_raft.proofs.Logs.{Prefix}
-use Rattle.sb_raft.proofs.Prefixes.{pre_length}
 use Rattle.sb_raft.proofs.Safe.{batch-owned, owned}
 
 ballots-reached : (p : Params) (w : World Message) → IsGoodParams raft p → IsReached raft p w → Ballots p w

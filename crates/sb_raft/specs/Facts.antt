@@ -52,7 +52,8 @@ pub record IsOwned (p : Params) (w : World Message) (front : List Entry) (b : Ba
   pub taken : In {A = Slot × Batch} (slot, b) (accepts (w p.leader.0))
 
 pub record AreByFirst (p : Params) (w : World Message) : Type 0 where
-  pub accepted : (i : ℕ) (x : Item Message) (before : List (Item Message)) (a : Slot × Batch) → Front (x ∷ before) (w i) → x.made.accepted ≡ Some a → IsByFirst p i before
+  pub accepted : (i : ℕ) (x : Item Message) (before : List (Item Message)) (a : Slot × Batch) →
+      Front (x ∷ before) (w i) → x.made.accepted ≡ Some a → IsByFirst p i before
   pub owned : (i : ℕ) (a : List (Item Message)) (front : List Entry) (e : Entry) (rest : List Entry) (b : Batch) → Front a (w i) →
       raft_log p i a ≡ front ++ (e ∷ rest) → e.what ≡ Holds b → IsOwned p w front b
 
@@ -63,4 +64,5 @@ AreAgreed p w = (i j s : ℕ) (x y : Value) → delivered raft p i (w i) s ≡ S
 
 -- all batches that are delivered, one node accepted: the segment's leader
 abbrev pub HaveOneAcceptor : Params → World Message → Type 0
-HaveOneAcceptor p w = (i : ℕ) (s : Slot) (b : Batch) → delivered raft p i (w i) s.0 ≡ Some (Value_batch b) → In {A = Slot × Batch} (s, b) (accepts (w p.leader.0))
+HaveOneAcceptor p w = (i : ℕ) (s : Slot) (b : Batch) → delivered raft p i (w i) s.0 ≡ Some (Value_batch b) →
+    In {A = Slot × Batch} (s, b) (accepts (w p.leader.0))
