@@ -104,57 +104,6 @@ fn cast(alloc: Global, p: &Params) -> Result<(Word, Word), Fail>
     }
 }
 
-// How many slots the node delivers with this message from these nodes, one after the other.
-fn delivered(
-    alloc: Global,
-    p: &Params,
-    node: &mut Echo,
-    from: &[u8],
-    word: &Word,
-) -> Result<usize, Fail>
-    requires { IsGoodParams echo p.now }
-{
-    let mut keys = keys_of(alloc, 1)?;
-    let mut count = 0usize;
-    for from in from {
-        if (*from as u32) < p.setup.n {
-            let effects = hear(alloc, p, node, &mut keys, *from, word)?;
-            count = count.saturating_add(effects.delivers.len());
-        }
-    }
-    Ok(count)
-}
-
-// A batch is delivered with the third node's echo, and not again with the fourth's.
-#[test]
-fn three_echoes_deliver(rt: HostRuntime) -> Result<(), Fail> {
-    let alloc = rt.alloc();
-    let p = instance(alloc)?;
-    let mut node = Echo::start(alloc, &p, NodeId(1))?;
-    let (say, echo) = cast(alloc, &p)?;
-    assert_eq!(rt; delivered(alloc, &p, &mut node, &[0], &say)?, 0);
-    assert_eq!(rt; delivered(alloc, &p, &mut node, &[0, 1], &echo)?, 0);
-    assert_eq!(rt; delivered(alloc, &p, &mut node, &[3], &echo)?, 1);
-    assert_eq!(rt; delivered(alloc, &p, &mut node, &[2], &echo)?, 0);
-    broadcast::<Echo>();
-    Ok(())
-}
-
-// An echo counts once, and a foreign digest that a node echoed first stands in nobody's way.
-#[test]
-fn an_echo_counts_once(rt: HostRuntime) -> Result<(), Fail> {
-    let alloc = rt.alloc();
-    let p = instance(alloc)?;
-    let mut node = Echo::start(alloc, &p, NodeId(1))?;
-    let (say, echo) = cast(alloc, &p)?;
-    let foreign = foreign(alloc)?;
-    assert_eq!(rt; delivered(alloc, &p, &mut node, &[2, 3, 0], &foreign)?, 0);
-    assert_eq!(rt; delivered(alloc, &p, &mut node, &[0], &say)?, 0);
-    assert_eq!(rt; delivered(alloc, &p, &mut node, &[2, 2, 2, 3], &echo)?, 0);
-    assert_eq!(rt; delivered(alloc, &p, &mut node, &[0], &echo)?, 1);
-    Ok(())
-}
-
 // An echo of another digest, in the shape of one that is signed.
 fn foreign(alloc: Global) -> Result<Word, Fail> {
     let mut keys = keys_of(alloc, 2)?;
@@ -166,15 +115,112 @@ fn foreign(alloc: Global) -> Result<Word, Fail> {
     })
 }
 
-// A word that comes after its echoes is delivered at once.
+// The leader's word, an echo of it, and an echo of another digest.
+#[derive(Drop)]
+struct Words {
+    say: Word,
+    echo: Word,
+    foreign: Word,
+}
+
+fn all_words(alloc: Global, p: &Params) -> Result<Words, Fail>
+    requires { IsGoodParams echo p.now }
+{
+    let (say, echo) = cast(alloc, p)?;
+    let foreign = foreign(alloc)?;
+    Ok(Words { say, echo, foreign })
+}
+
+#[derive(Clone, Copy)]
+enum Said {
+    Say,
+    Echo,
+    Foreign,
+}
+
+// What comes to node 1 and from whom, and how many slots it is to deliver then.
+#[derive(Clone, Copy)]
+struct Line(Said, u8, usize);
+
+// Whether a line goes as it says.
+fn goes(
+    alloc: Global,
+    p: &Params,
+    node: &mut Echo,
+    words: &Words,
+    line: &Line,
+) -> Result<bool, Fail>
+    requires { IsGoodParams echo p.now }
+{
+    let mut keys = keys_of(alloc, 1)?;
+    let Line(said, from, delivers) = line;
+    let word = match said {
+        Said::Say => &words.say,
+        Said::Echo => &words.echo,
+        Said::Foreign => &words.foreign,
+    };
+    if *from as u32 >= p.setup.n {
+        return Ok(false);
+    }
+    let effects = hear(alloc, p, node, &mut keys, *from, word)?;
+    Ok(effects.delivers.len() == *delivers)
+}
+
+// How many of the lines, one after the other, go as they say.
+fn right(alloc: Global, lines: &[Line]) -> Result<usize, Fail> {
+    let p = instance(alloc)?;
+    let words = all_words(alloc, &p)?;
+    let mut node = Echo::start(alloc, &p, NodeId(1))?;
+    let mut right = 0usize;
+    for line in lines {
+        if goes(alloc, &p, &mut node, &words, line)? {
+            right = right.saturating_add(1);
+        }
+    }
+    Ok(right)
+}
+
+// A batch is delivered with the third node's echo, and not again with the fourth's.
+#[test]
+fn three_echoes_deliver(rt: HostRuntime) -> Result<(), Fail> {
+    let lines = [
+        Line(Said::Say, 0, 0),
+        Line(Said::Echo, 0, 0),
+        Line(Said::Echo, 1, 0),
+        Line(Said::Echo, 3, 1),
+        Line(Said::Echo, 2, 0),
+    ];
+    assert_eq!(rt; right(rt.alloc(), &lines)?, 5);
+    broadcast::<Echo>();
+    Ok(())
+}
+
+// An echo counts once, and a foreign digest that a node echoed first stands in nobody's way.
+#[test]
+fn an_echo_counts_once(rt: HostRuntime) -> Result<(), Fail> {
+    let lines = [
+        Line(Said::Foreign, 2, 0),
+        Line(Said::Say, 0, 0),
+        Line(Said::Echo, 2, 0),
+        Line(Said::Echo, 2, 0),
+        Line(Said::Echo, 3, 0),
+        Line(Said::Echo, 0, 1),
+    ];
+    assert_eq!(rt; right(rt.alloc(), &lines)?, 6);
+    Ok(())
+}
+
+// A word that comes after its echoes is delivered at once, and the leader's alone is one.
 #[test]
 fn echoes_come_first(rt: HostRuntime) -> Result<(), Fail> {
-    let alloc = rt.alloc();
-    let p = instance(alloc)?;
-    let mut node = Echo::start(alloc, &p, NodeId(1))?;
-    let (say, echo) = cast(alloc, &p)?;
-    assert_eq!(rt; delivered(alloc, &p, &mut node, &[0, 2, 3], &echo)?, 0);
-    assert_eq!(rt; delivered(alloc, &p, &mut node, &[0], &say)?, 1);
+    let lines = [
+        Line(Said::Echo, 0, 0),
+        Line(Said::Echo, 2, 0),
+        Line(Said::Echo, 3, 0),
+        Line(Said::Say, 3, 0),
+        Line(Said::Say, 0, 1),
+    ];
+    assert_eq!(rt; right(rt.alloc(), &lines)?, 5);
     Ok(())
 }
 
@@ -195,13 +241,15 @@ fn verifies(alloc: Global, p: &Params, node: u8, word: &Word) -> Result<bool, Fa
 }
 
 // What a node sends claims its own signature, which verifies by its key and no other.
-#[test]
-fn claims_verify(rt: HostRuntime) -> Result<(), Fail> {
-    let alloc = rt.alloc();
+fn claims_own(alloc: Global) -> Result<bool, Fail> {
     let p = instance(alloc)?;
     let (say, echo) = cast(alloc, &p)?;
-    assert!(rt; verifies(alloc, &p, 0, &say)?);
-    assert!(rt; verifies(alloc, &p, 0, &echo)?);
-    assert!(rt; !verifies(alloc, &p, 1, &echo)?);
+    let own = verifies(alloc, &p, 0, &say)? && verifies(alloc, &p, 0, &echo)?;
+    Ok(own && !verifies(alloc, &p, 1, &echo)?)
+}
+
+#[test]
+fn claims_verify(rt: HostRuntime) -> Result<(), Fail> {
+    assert!(rt; claims_own(rt.alloc())?);
     Ok(())
 }
