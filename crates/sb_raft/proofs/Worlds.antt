@@ -8,10 +8,10 @@ use Rattle.iss_sb.specs.declared.effects.Params.{Params}
 use Rattle.iss_sb.specs.Calls.{IsGoodParams}
 use Rattle.iss_sb.specs.Evidence.{Item, Made, World, IsReached}
 use Rattle.iss_sb.specs.Legal.{Front, IsLegal}
-use Rattle.iss_sb.proofs.Legal.{front_trans, front_self, legal-reached, made-front, reached-keeps}
+use Rattle.iss_sb.proofs.Legal.{all-correct, front_trans, front_self, legal-reached, made-front, reached-keeps}
 use Rattle.raft_wire.specs.declared.entries.Entry.{Entry}
 use Rattle.raft_wire.specs.declared.messages.Message.{Message}
-use Rattle.sb_raft.specs.Facts.{AreAgreed, AreByFirst, AreKept, AreMatching, HaveOneAcceptor, HaveOneLeader, IsByFirst, Leads}
+use Rattle.sb_raft.specs.Facts.{AreAgreed, AreByFirst, AreKept, AreMatching, AreFromLeader, HaveOneLeader, HaveSharedAcceptor, IsByFirst, Leads}
 use Rattle.sb_raft.specs.Logs.{last_term}
 use Rattle.sb_raft.specs.Raft.{asks, raft, state}
 use Rattle.sb_raft.specs.Rules.{may_cast}
@@ -112,5 +112,8 @@ module _ (p : Params) (w : World Message) (good : IsGoodParams raft p) (reached 
   pub agreed : AreAgreed p w
   agreed i j s x y d e = agree p w good legal ballots i j s x y d e
 
-  pub one-acceptor : HaveOneAcceptor p w
-  one-acceptor i s b d = owned p w good legal ballots i s b d
+  pub from-leader : AreFromLeader p w
+  from-leader i s b d = owned p w good legal ballots i s b d
+
+  pub shared-acceptor : HaveSharedAcceptor p w
+  shared-acceptor i j s t b c d e = record { node = p.leader.0; correct = all-correct raft p good refl p.leader.0 good.leader; first = from-leader i s b d; second = from-leader j t c e }

@@ -8,6 +8,7 @@ use Rattle.iss_request.specs.declared.requests.Value.{Value}
 use Rattle.iss_request.specs.declared.requests.Value.TheVariants.{Batch as Value_batch}
 use Rattle.iss_sb.specs.declared.effects.Params.{Params}
 use Rattle.iss_sb.specs.Evidence.{Item, World, accepts, delivered}
+use Rattle.iss_sb.specs.Laws.{SharedAcceptor}
 use Rattle.iss_sb.specs.Legal.{Front}
 use Rattle.raft_wire.specs.declared.entries.Entry.{Entry}
 use Rattle.raft_wire.specs.declared.entries.What.TheVariants.{Holds}
@@ -62,7 +63,12 @@ pub record AreByFirst (p : Params) (w : World Message) : Type 0 where
 abbrev pub AreAgreed : Params → World Message → Type 0
 AreAgreed p w = (i j s : ℕ) (x y : Value) → delivered raft p i (w i) s ≡ Some x → delivered raft p j (w j) s ≡ Some y → x ≡ y
 
--- all batches that are delivered, one node accepted: the segment's leader
-abbrev pub HaveOneAcceptor : Params → World Message → Type 0
-HaveOneAcceptor p w = (i : ℕ) (s : Slot) (b : Batch) → delivered raft p i (w i) s.0 ≡ Some (Value_batch b) →
+-- any two batches that are delivered, at whatever slots and nodes, one node accepted at their slots
+abbrev pub HaveSharedAcceptor : Params → World Message → Type 0
+HaveSharedAcceptor p w = (i j : ℕ) (s t : Slot) (b c : Batch) →
+    delivered raft p i (w i) s.0 ≡ Some (Value_batch b) → delivered raft p j (w j) t.0 ≡ Some (Value_batch c) → SharedAcceptor p w s b t c
+
+-- a batch that is delivered the segment's leader accepted at that slot
+abbrev pub AreFromLeader : Params → World Message → Type 0
+AreFromLeader p w = (i : ℕ) (s : Slot) (b : Batch) → delivered raft p i (w i) s.0 ≡ Some (Value_batch b) →
     In {A = Slot × Batch} (s, b) (accepts (w p.leader.0))

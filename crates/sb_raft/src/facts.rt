@@ -4,7 +4,7 @@ ghost use Rattle.iss_sb.specs.Calls.{IsGoodParams};
 ghost use Rattle.iss_sb.specs.Evidence.{IsReached, World};
 ghost use Rattle.iss_sb.specs.declared.effects.Params.{Params};
 ghost use Rattle.raft_wire.specs.declared.messages.Message.{Message};
-ghost use Rattle.sb_raft.specs.Facts.{AreAgreed, AreByFirst, AreKept, AreMatching, HaveOneAcceptor, HaveOneLeader};
+ghost use Rattle.sb_raft.specs.Facts.{AreAgreed, AreByFirst, AreFromLeader, AreKept, AreMatching, HaveOneLeader, HaveSharedAcceptor};
 ghost use Rattle.sb_raft.specs.Raft.{raft};
 
 /// No two nodes lead one term.
@@ -32,8 +32,12 @@ pub fn nodes_agree()
     ensures { (p : Params) (w : World Message) → IsGoodParams raft p → IsReached raft p w → AreAgreed p w }
 {}
 
-/// Each batch that is delivered, at whatever slot and node, the segment's leader accepted at that slot: so all of them have
-/// one acceptor, and what is delivered was cast.
-pub fn what_is_delivered_was_accepted()
-    ensures { (p : Params) (w : World Message) → IsGoodParams raft p → IsReached raft p w → HaveOneAcceptor p w }
+/// Any two batches that are delivered have one node that accepted both.
+pub fn batches_share_an_acceptor()
+    ensures { (p : Params) (w : World Message) → IsGoodParams raft p → IsReached raft p w → HaveSharedAcceptor p w }
+{}
+
+/// A batch that is delivered, the segment's leader accepted at that slot.
+pub fn the_leader_accepted_what_is_delivered()
+    ensures { (p : Params) (w : World Message) → IsGoodParams raft p → IsReached raft p w → AreFromLeader p w }
 {}
