@@ -17,19 +17,22 @@ use iss_sb::{Input, Params, Sequenced, To};
 use iss_schedule::Event;
 use iss_world::{Happened, World};
 use sb_echo::{Echo, Word};
+use sha2::{Digest, Sha256};
 use std::alloc::Global;
 use std::test::Fail;
 
-// The liar leads slot 0.
-fn setup_of(alloc: Global) -> Result<Setup, NoMemory>
-    ensures good { IfOk result (λ s. IsSetupOf echo s) }
-    ensures cores { IfOk result (λ s. s.n ≡ 4) }
-    ensures kind { IfOk result (λ s. s.kind ≡ Kind.Byzantine) }
-    ensures keys { IfOk result (λ s. s.keys ≡ 4) }
+// The instance that the liar leads.
+fn instance(alloc: Global) -> Result<Params, NoMemory>
+    ensures good { IfOk result (λ p. IsGoodParams echo p) }
+    ensures setup { IfOk result (λ p. IsSetupOf echo p.setup) }
+    ensures cores { IfOk result (λ p. p.setup.n ≡ 4) }
+    ensures kind { IfOk result (λ p. p.setup.kind ≡ Kind.Byzantine) }
 {
+    let mut slots = Row::new(alloc);
+    slots.push(Slot(0))?;
     let mut faulty = Nodes::new(alloc);
     faulty.push(NodeId(0))?;
-    Ok(Setup {
+    let setup = Setup {
         version: 1,
         module: 6,
         f: 1,
@@ -45,16 +48,7 @@ fn setup_of(alloc: Global) -> Result<Setup, NoMemory>
         quorum: 3,
         kind: Kind::Byzantine,
         tag: [7; 32],
-    })
-}
-
-// The instance that the liar leads.
-fn instance(alloc: Global) -> Result<Params, NoMemory>
-    ensures { IfOk result (λ p. IsGoodParams echo p) }
-{
-    let mut slots = Row::new(alloc);
-    slots.push(Slot(0))?;
-    let setup = setup_of(alloc)?;
+    };
     let Ok(directory) = SharedDirectory::make(alloc, 4, 1, 4) else {
         return Err(NoMemory);
     };
@@ -110,17 +104,40 @@ fn packed(alloc: Global, word: &Word) -> Result<Bytes, NoMemory> {
 }
 
 // What node 0 says to no two nodes alike: its word and its echo of one batch, and then of another.
-fn lies(alloc: Global) -> Result<Vec<Bytes>, Fail> {
-    let p = instance(alloc)?;
-    let mut keys = p.directory.directory().keys_of_node(alloc, 0);
+fn lies(alloc: Global, p: &Params) -> Result<Vec<Bytes>, Fail>
+    requires { IsGoodParams echo p.now }
+{
+    let mut keys = Keys::make(alloc, Sha256::digest([0x20u8, 0]), 4)?;
     let mut packets = Vec::new(alloc);
     for number in [0, 4] {
         let batch = batch_of(alloc, number)?;
-        for word in words_on(alloc, &p, &mut keys, batch)?.as_slice() {
+        let words = words_on(alloc, p, &mut keys, batch)?;
+        for word in words.as_slice() {
             packets.push(packed(alloc, &word.1)?)?;
         }
     }
     Ok(packets)
+}
+
+// The same bytes, each of which is below 256.
+fn bytes_from(all: Vec<u8>) -> Bytes
+    ensures { IsBytes result }
+{
+    Bytes::of(all)
+}
+
+// Node `core` takes these bytes.
+fn inject(alloc: Global, world: &mut World<Echo>, core: u32, packet: &Bytes) -> Result<(), NoMemory>
+    requires kind { world.old.setup.kind ≡ Kind.Byzantine }
+    requires core { core < world.old.setup.n }
+    requires standing { IsStanding echo Stands world.old }
+    ensures standing { OnOk result (IsStanding echo Stands world.new) }
+    ensures same { world.new.setup ≡ world.old.setup }
+{
+    let bytes = bytes_from(Vec::from_slice(alloc, packet.as_slice())?);
+    let event = Event::Bytes { core, bytes };
+    let _happened = world.event(alloc, &event)?;
+    Ok(())
 }
 
 // Node `core` takes the packet of this place.
@@ -142,9 +159,7 @@ fn tell(
     if core >= world.setup().n {
         return Ok(());
     }
-    let bytes = packet.copy()?;
-    world.event(alloc, &Event::Bytes { core, bytes })?;
-    Ok(())
+    inject(alloc, world, core, packet)
 }
 
 // Who takes which packet, in this order: node 1 the one word, the others the other, and all of them both echoes.
@@ -181,8 +196,9 @@ fn tell_all(
 fn after_lies(alloc: Global) -> Result<World<Echo>, Fail>
     ensures { IfOk result (λ w. w.setup.n ≡ 4) }
 {
-    let packets = lies(alloc)?;
-    let mut world = World::<Echo>::start(alloc, &setup_of(alloc)?)?;
+    let p = instance(alloc)?;
+    let packets = lies(alloc, &p)?;
+    let mut world = World::<Echo>::start(alloc, &p.setup)?;
     tell_all(alloc, &mut world, &packets, &TOLD)?;
     world.event(alloc, &Event::Calm { pumps: 4 })?;
     Ok(world)
