@@ -352,12 +352,14 @@ fn ten_owners(alloc: Global, shared: &SharedDirectory) -> Result<Vec<SharedDirec
     Ok(owners)
 }
 
-// In a new directory of 10 nodes and 256 clients one client signs, and each node checks it.
-fn sign_for_ten(alloc: Global, height: u8) -> Result<u32, SignError>
+// In a new directory of 10 nodes and so many clients one client signs, and each node checks it.
+fn sign_for_ten(alloc: Global, clients: u32, height: u8) -> Result<u32, SignError>
+    requires few { 7 < clients }
+    requires clients { clients ≤ 256 }
     requires low { 2 ≤ height }
     requires high { height ≤ 12 }
 {
-    let shared = SharedDirectory::make(alloc, 10, 256, height)?;
+    let shared = SharedDirectory::make(alloc, 10, clients, height)?;
     let mut keys = shared.directory().keys_of_client(alloc, 7);
     let signature = keys.sign(STATEMENT)?;
     let owners = ten_owners(alloc, &shared)?;
@@ -365,7 +367,14 @@ fn sign_for_ten(alloc: Global, height: u8) -> Result<u32, SignError>
 }
 
 // The whole of it, beside the one tree that it needs.
-fn time_one_tree<R: Clock + Print>(rt: &R, alloc: Global, height: u8) -> io::Result<()>
+fn time_one_tree<R: Clock + Print>(
+    rt: &R,
+    alloc: Global,
+    clients: u32,
+    height: u8,
+) -> io::Result<()>
+    requires few { 7 < clients }
+    requires clients { clients ≤ 256 }
     requires low { 2 ≤ height }
     requires high { height ≤ 12 }
 {
@@ -373,7 +382,7 @@ fn time_one_tree<R: Clock + Print>(rt: &R, alloc: Global, height: u8) -> io::Res
     let mut tree = u64::MAX;
     for _round in 0..5 {
         let start = Instant::now(rt)?;
-        let Ok(10) = sign_for_ten(alloc, height) else {
+        let Ok(10) = sign_for_ten(alloc, clients, height) else {
             return out_of_memory(rt);
         };
         whole = whole.min(nanos_since(rt, start)?);
@@ -386,19 +395,28 @@ fn time_one_tree<R: Clock + Print>(rt: &R, alloc: Global, height: u8) -> io::Res
     }
     let percent = whole.saturating_mul(100) / tree.max(1);
     println!(rt;
-        "one of 256 clients signs, ten nodes check, height {height}: {whole} ns, {percent} percent of one tree"
+        "one of {clients} clients signs, ten nodes check, height {height}: {whole} ns, {percent} percent of one tree"
     )
 }
 
 // Of two new signatures one is checked by one node, the other by all ten, again and again.
-fn time_ten_checks<R: Clock + Print>(rt: &R, alloc: Global) -> io::Result<()> {
-    let Ok(shared) = SharedDirectory::make(alloc, 10, 256, 8) else {
+fn time_ten_checks<R: Clock + Print>(
+    rt: &R,
+    alloc: Global,
+    clients: u32,
+    height: u8,
+) -> io::Result<()>
+    requires clients { clients ≤ 256 }
+    requires low { 2 ≤ height }
+    requires high { height ≤ 12 }
+{
+    let Ok(shared) = SharedDirectory::make(alloc, 10, clients, height) else {
         return out_of_memory(rt);
     };
     let Ok(owners) = ten_owners(alloc, &shared) else {
         return out_of_memory(rt);
     };
-    let Ok(mut keys) = Keys::make(alloc, Sha256::digest([0x21u8, 7]), 8) else {
+    let Ok(mut keys) = Keys::make(alloc, Sha256::digest([0x21u8, 7]), height) else {
         return out_of_memory(rt);
     };
     let mut one = u64::MAX;
@@ -417,9 +435,7 @@ fn time_ten_checks<R: Clock + Print>(rt: &R, alloc: Global) -> io::Result<()> {
         }
     }
     let percent = ten.saturating_mul(100) / one.max(1);
-    println!(rt;
-        "one signature checked by ten nodes: {ten} ns, {percent} percent of one check"
-    )
+    println!(rt; "one signature checked by ten nodes: {ten} ns, {percent} percent of one check")
 }
 
 fn time_all<R: Clock + Print>(rt: &R, alloc: Global) -> io::Result<()> {
@@ -442,8 +458,8 @@ fn time_all<R: Clock + Print>(rt: &R, alloc: Global) -> io::Result<()> {
     time_signing(rt, alloc, 5, 200)?;
     time_verifying(rt, alloc, 5, 200)?;
     time_directory(rt, alloc, 12)?;
-    time_ten_checks(rt, alloc)?;
-    time_one_tree(rt, alloc, 12)
+    time_ten_checks(rt, alloc, 256, 8)?;
+    time_one_tree(rt, alloc, 256, 12)
 }
 
 // What a small workload takes.
@@ -466,7 +482,7 @@ fn count_all<R: Print>(rt: &R, alloc: Global) -> io::Result<()> {
         "3 verifications: {:?}, verified: {verified}",
         digests_of_verifications(3, 2)
     )?;
-    let Ok(by_nodes) = sign_for_ten(alloc, 2) else {
+    let Ok(by_nodes) = sign_for_ten(alloc, 256, 2) else {
         return out_of_memory(rt);
     };
     println!(rt; "checked by ten nodes: {by_nodes}")

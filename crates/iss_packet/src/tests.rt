@@ -100,7 +100,7 @@ fn the_other_version_is_refused(rt: HostRuntime) -> Result<(), Fail> {
     assert!(rt; is_refused(alloc, 1, second.as_slice()));
     assert_eq!(rt;
         Packet::decode(alloc, 2, 3, second.as_slice())?.body.len(),
-        5
+        2
     );
     Ok(())
 }

@@ -42,7 +42,8 @@ pub record IsSpelledEntry (version : ℕ) (e : Entry) (bytes : List ℕ) : Type 
 -- one entry behind the other
 abbrev pub AreSpelledEntries : ℕ → List Entry → List ℕ → Type 0
 AreSpelledEntries version [] bytes = bytes ≡ []
-AreSpelledEntries version (e ∷ es) bytes = (first : List ℕ) × (others : List ℕ) × IsSpelledEntry version e first × AreSpelledEntries version es others × (bytes ≡ first ++ others)
+AreSpelledEntries version (e ∷ es) bytes =
+    (first : List ℕ) × (others : List ℕ) × IsSpelledEntry version e first × AreSpelledEntries version es others × (bytes ≡ first ++ others)
 
 -- ---- reading
 

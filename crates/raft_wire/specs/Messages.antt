@@ -72,7 +72,8 @@ pub record IsSpelledAppend (version term previous previous_term commit : ℕ) (e
 abbrev pub IsSpelledMessage : ℕ → Message → List ℕ → Type 0
 IsSpelledMessage version (Append term previous previous_term commit es) bytes = IsSpelledAppend version term previous previous_term commit es bytes
 IsSpelledMessage version (Reply term ok index) bytes = (term < 2 ^ 16) × (index < 2 ^ 32) × (bytes ≡ reply_row term ok index)
-IsSpelledMessage version (AskVote term last last_term) bytes = (term < 2 ^ 16) × (last < 2 ^ 32) × (last_term < 2 ^ 16) × (bytes ≡ ask_row term last last_term)
+IsSpelledMessage version (AskVote term last last_term) bytes =
+    (term < 2 ^ 16) × (last < 2 ^ 32) × (last_term < 2 ^ 16) × (bytes ≡ ask_row term last last_term)
 IsSpelledMessage version (Vote term granted) bytes = (term < 2 ^ 16) × (bytes ≡ vote_row term granted)
 
 -- ---- reading

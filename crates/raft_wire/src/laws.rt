@@ -9,5 +9,6 @@ ghost use Rattle.raft_wire.specs.declared.messages.Message.{Message};
 pub fn messages_are_exact()
     ensures grammar { (version : ℕ) → IsGrammar (spell version) (parse version) }
     // What is read of bytes, and all of them, is what the table relates to them.
-    ensures message_table { (version : ℕ) (msg : Message) (bytes : List ℕ) → (parse version bytes ≡ Good msg []) ↔ IsSpelledMessage version msg bytes }
+    ensures message_table { (version : ℕ) (msg : Message) (bytes : List ℕ) →
+        (parse version bytes ≡ Good msg []) ↔ IsSpelledMessage version msg bytes }
 {}

@@ -15,7 +15,7 @@ use Rattle.iss_sb.specs.declared.effects.Input.TheVariants.{Cast, Receive}
 use Rattle.iss_sb.specs.declared.effects.Params.{Params}
 use Rattle.iss_sb.specs.declared.effects.To.TheVariants.{All as To_all}
 use Rattle.iss_sb.specs.Evidence.{Item, and_then, delivered}
-use Rattle.iss_sb.specs.Statements.{eight_bytes, signature, wide_bytes}
+use Rattle.iss_sb.specs.Statements.{signature, wide_bytes}
 use Rattle.sb_echo.specs.declared.word.Word.{Word}
 use Rattle.sb_echo.specs.declared.word.Word.TheVariants.{Say, Echo}
 use Rattle.sb_echo.specs.Echo.{asks, claims, digest_of, echo, spell, statement, string_of}

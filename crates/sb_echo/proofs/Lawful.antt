@@ -1,5 +1,5 @@
 -- The laws of echo's single steps.
-use Rattle.std.proofs.Common.{◌≡◌, ◌≤◌, ◌<◌, ◌+◌, ◌^◌, ℕ, Bool, true, false, ◌==◌, ◌||◌, List, [], ◌∷◌, ◌++◌, length, Option, Some, None, refl, sym, ap, subst, ◌∙◌, inl, inr, arith, true≢false}
+use Rattle.std.proofs.Common.{◌≡◌, ◌≤◌, ◌<◌, ◌+◌, ◌^◌, ℕ, Bool, true, false, List, ◌∷◌, ◌++◌, length, Option, Some, None, refl, sym, ap, subst, ◌∙◌, inl, inr, arith}
 use Rattle.sha2.proofs.Facts256.{length-sha256}
 use Rattle.iss_base.specs.Lists.{In}
 use Rattle.iss_request.specs.declared.ids.NodeId.{NodeId}
@@ -20,7 +20,7 @@ use Rattle.iss_sb.proofs.Slots.{below-In, has_slot-In}
 use Rattle.sb_echo.specs.declared.word.Word.{Word}
 use Rattle.sb_echo.specs.declared.word.Word.TheVariants.{Say, Echo}
 use Rattle.sb_echo.specs.Echo.{asks, claims, digest_of, echo, echo_of, is_cast, made_of, makes, say, statement, string_of, tag, taken, words}
-use Rattle.sb_echo.proofs.Bytes.{is-same, same-is}
+use Rattle.sb_echo.proofs.Bytes.{same-is}
 use Rattle.sb_echo.proofs.Facts.{IsOwn, Same, accepted-is, asked, decided-is}
 use Rattle.sb_echo.proofs.Spelling.{echo-again, say-again, say-read}
 

@@ -1,34 +1,27 @@
 -- What echo's places and tests say of the lists that it stands for.
-use Rattle.std.proofs.Common.{◌≡◌, ◌≢◌, ℕ, zero, suc, ◌+◌, Bool, true, false, cond, not, ◌&&◌, ◌||◌, ◌==◌, if◌then◌else◌, List, [], ◌∷◌, Option, Some, None, is_some, refl, sym, ap, ◌∙◌, subst, inl, inr, arith, true≢false}
-use Rattle.std.specs.Prelude.{nat_le}
+use Rattle.std.proofs.Common.{◌≡◌, ◌≢◌, ℕ, zero, suc, Bool, true, false, ◌&&◌, ◌==◌, if◌then◌else◌, List, ◌∷◌, Option, Some, None, is_some, refl, sym, ap, ◌∙◌, subst, inl, inr, arith, true≢false}
 use Rattle.iss_base.specs.Lists.{In, first_of, same_bytes}
 use Rattle.iss_base.specs.Quorum.{count_below}
-use Rattle.iss_base.proofs.Lists.{and-true, not-true, same_or_not, some-injective}
+use Rattle.iss_base.proofs.Lists.{same_or_not}
 use Rattle.iss_request.specs.Slots.{AreAscending}
 use Rattle.iss_request.specs.declared.ids.NodeId.{NodeId}
 use Rattle.iss_request.specs.declared.ids.Slot.{Slot}
 use Rattle.iss_request.specs.declared.requests.Batch.{Batch}
 use Rattle.iss_request.specs.declared.requests.Value.{Value}
 use Rattle.iss_request.specs.declared.requests.Value.TheVariants.{Batch as Holds}
-use Rattle.iss_sb.specs.declared.effects.Effects.{Effects}
 use Rattle.iss_sb.specs.declared.effects.Input.{Input}
-use Rattle.iss_sb.specs.declared.effects.Input.TheVariants.{Cast, Receive, Timeout}
+use Rattle.iss_sb.specs.declared.effects.Input.TheVariants.{Receive}
 use Rattle.iss_sb.specs.declared.effects.Params.{Params}
-use Rattle.iss_sb.specs.declared.effects.To.TheVariants.{All as To_all}
 use Rattle.iss_sb.specs.Calls.{AllIn, Delivers, has_slot, slots_of}
 use Rattle.iss_sb.specs.Evidence.{Item, and_then, delivered}
 use Rattle.iss_sb.proofs.Slots.{slot-is}
 use Rattle.iss_sb.proofs.Delivered.{Delivers-from, delivered-decided}
-use Rattle.sb_echo.specs.declared.echo.Echo.{Echo}
-use Rattle.sb_echo.specs.declared.echo.Place.{Place}
-use Rattle.sb_echo.specs.declared.echo.Place.TheVariants.{Waiting, Delivered}
 use Rattle.sb_echo.specs.declared.word.Word.{Word}
-use Rattle.sb_echo.specs.declared.word.Word.TheVariants.{Say, Echo as Echo_word}
-use Rattle.sb_echo.specs.Echo.{asks, batch_for, decide, decided, digest_of, echo, echo_of, has_echo, is_cast, is_echo, is_echoed, is_open, made_of, makes, say, statement, string_of, taken}
-use Rattle.sb_echo.specs.Heard.{has}
-use Rattle.sb_echo.specs.Stands.{HasCompleted, HasTaken, Stands, completed, completed_of, is_complete, is_free, is_heard, may_cast, may_take, one_at, place_at, place_for}
+use Rattle.sb_echo.specs.declared.word.Word.TheVariants.{Echo as Echo_word}
+use Rattle.sb_echo.specs.Echo.{decide, decided, digest_of, echo, has_echo, is_echo, is_echoed}
+use Rattle.sb_echo.specs.Stands.{one_at, place_for}
 use Rattle.sb_echo.proofs.Bytes.{is-same, same-is}
-use Rattle.sb_echo.proofs.Facts.{accepted-is, decided-is, decided-start, decided-stays}
+use Rattle.sb_echo.proofs.Facts.{decided-start, decided-stays}
 
 pub count-alike : (t u : ℕ → Bool) (n : ℕ) → ((k : ℕ) → t k ≡ u k) → count_below t n ≡ count_below u n
 count-alike t u zero h = refl

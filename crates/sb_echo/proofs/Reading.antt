@@ -1,7 +1,7 @@
 -- A message that is read field by field is what the parser finds.
 use Rattle.std.proofs.Common.{◌≡◌, ℕ, Bool, false, ◌==◌, ◌||◌, if◌then◌else◌, List, length, refl, subst}
 use Rattle.iss_request.specs.Fields.{IsRead, IsUnreadable, Reading, left}
-use Rattle.iss_request.specs.Parsing.{Parser, ◌>>=◌, block, byte, such_that}
+use Rattle.iss_request.specs.Parsing.{Parser, block, byte, such_that}
 use Rattle.iss_request.proofs.ParserLemmas.{block_parts}
 use Rattle.iss_request.proofs.Readings.{read_passed, read_then, unread_failed, unread_first, unread_tested, unread_then}
 use Rattle.sb_echo.specs.declared.word.Word.{Word}

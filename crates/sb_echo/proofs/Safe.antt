@@ -1,6 +1,6 @@
 -- Legal lists make a broadcast: a quorum of echoes decides, and two quorums share a correct node, which took one batch
 -- a slot.
-use Rattle.std.proofs.Common.{◌≡◌, ◌≤◌, ◌<◌, ◌+◌, ℕ, Bool, true, List, Some, refl, sym, ap, ◌∙◌, subst, inl, inr, arith}
+use Rattle.std.proofs.Common.{◌≡◌, ◌≤◌, ℕ, Bool, true, List, Some, refl, sym, ap, ◌∙◌, subst, inl, inr, arith}
 use Rattle.std.proofs.lemmas.Bool.{leb-true}
 use Rattle.iss_base.specs.Lists.{In}
 use Rattle.iss_base.specs.Quorum.{count_below}

@@ -1,5 +1,5 @@
 -- A message has one spelling.
-use Rattle.std.proofs.Common.{◌≡◌, ℕ, ◌+◌, ◌-◌, ◌*◌, ◌^◌, ◌<◌, ◌==◌, ◌&&◌, ◌||◌, Bool, true, false, if◌then◌else◌, List, [], ◌∷◌, ◌++◌, length, append_assoc, refl, sym, ap, ◌∙◌, subst, ◌⊎◌, ◌↔◌, inl, inr, true≢false, arith}
+use Rattle.std.proofs.Common.{◌≡◌, ℕ, ◌+◌, ◌-◌, ◌^◌, ◌<◌, ◌==◌, ◌&&◌, ◌||◌, Bool, true, false, if◌then◌else◌, List, [], ◌∷◌, ◌++◌, length, append_assoc, refl, sym, ap, ◌∙◌, subst, ◌⊎◌, ◌↔◌, inl, inr, true≢false}
 use Rattle.std.specs.Prelude.{nat_lt}
 use Rattle.std.specs.Int.{to_be_bytes, w64}
 use Rattle.std.proofs.lemmas.Bool.{lt-ltb, ltb-true}
@@ -7,7 +7,7 @@ use Rattle.std.proofs.lemmas.Bool.Decides.{Decides-eqb}
 use Rattle.std.proofs.lemmas.List.{append-nil}
 use Rattle.iss_base.proofs.Lists.{and-true}
 use Rattle.iss_request.specs.Fields.{Good, Bad, IsBad, IsGrammar, IsReadAgain}
-use Rattle.iss_request.specs.Formats.{IsSpelledValue, batch_of, is_batch, is_signature, parse_signature, parse_value, spell_value}
+use Rattle.iss_request.specs.Formats.{batch_of, is_batch, is_signature, parse_signature, parse_value, spell_value}
 use Rattle.iss_request.specs.Parsing.{Parser, ◌>>=◌, block, byte, done, number, such_that}
 use Rattle.iss_request.proofs.OneSpelling.{done_good, signature_again, signature_parts, value_grammar, value_related}
 use Rattle.iss_request.proofs.ParserLemmas.{block_again, block_parts, byte_again, byte_parts, done_parts, first_bad, number_again, number_parts, test_bad, test_failed, test_parts, test_passed, then_bad, then_good, then_parts, wide64}

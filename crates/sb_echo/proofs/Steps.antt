@@ -1,7 +1,7 @@
 -- Each rule's step from a list that echo stands for.
-use Rattle.std.proofs.Common.{◌≡◌, ◌≢◌, ◌+◌, ℕ, Bool, true, false, not, ◌&&◌, ◌||◌, ◌==◌, if◌then◌else◌, List, [], ◌∷◌, Option, Some, None, is_some, refl, sym, ap, ◌∙◌, subst, inl, inr, ◌↔◌, IsTrue, true≢false}
+use Rattle.std.proofs.Common.{◌≡◌, ◌+◌, ℕ, Bool, true, false, not, ◌&&◌, ◌||◌, ◌==◌, if◌then◌else◌, List, [], ◌∷◌, Option, Some, None, is_some, refl, sym, ap, ◌∙◌, subst, ◌↔◌, IsTrue, true≢false}
 use Rattle.std.specs.Prelude.{nat_le}
-use Rattle.iss_base.specs.Lists.{In, first_of, same_bytes}
+use Rattle.iss_base.specs.Lists.{first_of, same_bytes}
 use Rattle.iss_base.proofs.Lists.{and-true}
 use Rattle.iss_request.specs.declared.ids.NodeId.{NodeId}
 use Rattle.iss_request.specs.declared.ids.Slot.{Slot}
@@ -22,12 +22,12 @@ use Rattle.sb_echo.specs.declared.echo.Place.{Place}
 use Rattle.sb_echo.specs.declared.echo.Place.TheVariants.{Waiting, Delivered}
 use Rattle.sb_echo.specs.declared.word.Word.{Word}
 use Rattle.sb_echo.specs.declared.word.Word.TheVariants.{Say, Echo as Echo_word}
-use Rattle.sb_echo.specs.Echo.{asks, batch_for, decide, decided, digest_of, echo, has_echo, is_cast, is_echo, is_echoed, is_open, made_of, makes, statement, string_of, taken, words}
+use Rattle.sb_echo.specs.Echo.{asks, batch_for, decide, decided, digest_of, echo, has_echo, is_cast, is_echo, is_echoed, is_open, made_of, makes, statement, taken, words}
 use Rattle.sb_echo.specs.Heard.{has}
-use Rattle.sb_echo.specs.Stands.{HasCompleted, HasTaken, Stands, completed, completed_of, is_free, is_heard, may_cast, may_take, one_at, place_at, place_for}
+use Rattle.sb_echo.specs.Stands.{HasCompleted, HasTaken, Stands, completed_of, is_free, is_heard, may_cast, may_take, one_at, place_at, place_for}
 use Rattle.sb_echo.proofs.Bytes.{is-same, same-is}
 use Rattle.sb_echo.proofs.Facts.{accepted-is, decided-stays, none-is}
-use Rattle.sb_echo.proofs.Marks.{IsQuiet, apart, count-alike, decide-quiet, delivered-is, delivers-at, echo-apart, first_of-none, newly, other, some-place}
+use Rattle.sb_echo.proofs.Marks.{IsQuiet, count-alike, decide-quiet, delivers-at, echo-apart, first_of-none, newly, other, some-place}
 
 -- what was taken out of a slot is what is decided now, and was not before; what was taken there is o
 record IsAt (p : Params) (o : Option Batch) (before now out : Option Value) : Type 0 where

@@ -1,24 +1,20 @@
 -- What a step gives is of its segment, whatever echo holds.
-use Rattle.std.proofs.Common.{◌≡◌, ◌≤◌, ◌+◌, ℕ, Bool, true, false, ◌&&◌, ◌==◌, List, [], ◌∷◌, Option, Some, None, refl, sym, ap, ◌∙◌, subst, arith}
-use Rattle.std.specs.Prelude.{IfSome}
+use Rattle.std.proofs.Common.{◌≡◌, ◌≤◌, ◌+◌, ℕ, true, List, [], Option, Some, None, refl, ap, ◌∙◌, arith}
 use Rattle.iss_base.specs.Lists.{In}
 use Rattle.iss_base.proofs.Lists.{and-true}
 use Rattle.iss_keys.specs.Directories.{AreKeysOf}
 use Rattle.iss_keys.specs.KeyStates.{KeyState}
-use Rattle.iss_request.specs.declared.ids.NodeId.{NodeId}
 use Rattle.iss_request.specs.declared.ids.Slot.{Slot}
 use Rattle.iss_request.specs.declared.requests.Batch.{Batch}
 use Rattle.iss_request.specs.declared.requests.Value.{Value}
 use Rattle.iss_sb.specs.declared.effects.Effects.{Effects}
 use Rattle.iss_sb.specs.declared.effects.Params.{Params}
-use Rattle.iss_sb.specs.declared.effects.To.{To}
-use Rattle.iss_sb.specs.declared.effects.To.TheVariants.{All as To_all}
-use Rattle.iss_sb.specs.Calls.{AllIn, AreToNodes, IsNothing, IsWithin, has_slot, slots_of}
+use Rattle.iss_sb.specs.Calls.{AreToNodes, IsNothing, IsWithin, has_slot}
 use Rattle.iss_sb.proofs.Slots.{has_slot-In}
 use Rattle.sb_echo.specs.declared.echo.Echo.{Echo}
 use Rattle.sb_echo.specs.declared.word.Word.{Word}
 use Rattle.sb_echo.specs.Echo.{echo}
-use Rattle.sb_echo.specs.Stands.{HasTaken, is_free, may_cast, may_take, one_at, place_at}
+use Rattle.sb_echo.specs.Stands.{HasTaken, is_free, one_at}
 use Rattle.sb_echo.proofs.Marks.{one-within}
 
 pub nothing-within : (p : Params) (k : KeyState) (e : Effects Word) → IsNothing e → IsWithin echo p k k e

@@ -8,9 +8,8 @@ use Rattle.iss_request.specs.declared.ids.Slot.{Slot}
 use Rattle.iss_request.specs.declared.requests.Batch.{Batch}
 use Rattle.iss_request.specs.declared.requests.Value.TheVariants.{Batch as Holds}
 use Rattle.iss_sb.specs.declared.effects.Params.{Params}
-use Rattle.iss_sb.specs.Statements.{eight_bytes, statement_head}
+use Rattle.iss_sb.specs.Statements.{statement_head}
 use Rattle.iss_sb.proofs.Statements.{eight-is}
-use Rattle.sb_echo.specs.declared.word.Word.{Word}
 use Rattle.sb_echo.specs.declared.word.Word.TheVariants.{Say, Echo}
 use Rattle.sb_echo.specs.Echo.{spell, statement, string_of}
 

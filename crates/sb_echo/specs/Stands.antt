@@ -1,5 +1,5 @@
 -- What echo's code holds and tests.
-use Rattle.std.specs.Prelude.{◌≡◌, ℕ, ◌==◌, ◌&&◌, ◌∷◌, nat_le, Bool, true, false, not, List, [], Option, Some, None, is_some, IfSome, if◌then◌else◌}
+use Rattle.std.specs.Prelude.{◌≡◌, ℕ, ◌==◌, ◌&&◌, ◌∷◌, nat_le, Bool, true, not, List, [], Option, Some, None, is_some, if◌then◌else◌}
 use Rattle.std.specs.BTreeMap.{get}
 use Rattle.std.specs.Ordering.{nat_cmp}
 use Rattle.iss_base.specs.Quorum.{count_below}

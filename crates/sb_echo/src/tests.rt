@@ -5,12 +5,12 @@ ghost use Rattle.sb_echo.specs.Echo.{echo};
 
 use crate::echo::Echo;
 use crate::word::Word;
-use iss_keys::{Keys, SharedDirectory, node_secret};
+use iss_keys::{Keys, SharedDirectory};
 use iss_request::{
-    Batch, Bytes, Epoch, Fields, Kind, NoMemory, NodeId, Nodes, Policy, Row, Setup, Slot, Value,
-    Writer,
+    Batch, Bytes, Epoch, Fields, Kind, NoMemory, NodeId, Nodes, Policy, Row, Setup, Slot, Writer,
 };
-use iss_sb::{Effects, Input, Params, Sequenced, To, broadcast};
+use iss_sb::{Effects, Input, Params, Sequenced, broadcast};
+use sha2::{Digest, Sha256};
 use std::alloc::Global;
 use std::test::Fail;
 
@@ -50,6 +50,11 @@ fn instance(alloc: Global) -> Result<Params, NoMemory>
     })
 }
 
+// A node's keys: the secret follows from its number.
+fn keys_of(alloc: Global, node: u8) -> Result<Keys, Fail> {
+    Ok(Keys::make(alloc, Sha256::digest([0x20u8, node]), 2)?)
+}
+
 // The message once more, by way of its bytes.
 fn again(alloc: Global, word: &Word) -> Result<Word, Fail> {
     let mut out = Writer::new(alloc, 1);
@@ -79,10 +84,10 @@ fn hear(
 }
 
 // The leader's word on the empty batch at slot 4, and its echo.
-fn cast(alloc: Global, p: &Params) -> Result<Row<(To, Word)>, Fail>
+fn cast(alloc: Global, p: &Params) -> Result<(Word, Word), Fail>
     requires { IsGoodParams echo p.now }
 {
-    let mut keys = Keys::make(alloc, node_secret(0), 2)?;
+    let mut keys = keys_of(alloc, 0)?;
     let mut leader = Echo::start(alloc, p, NodeId(0))?;
     let batch = Batch::new(alloc);
     let input = Input::Cast {
@@ -90,94 +95,161 @@ fn cast(alloc: Global, p: &Params) -> Result<Row<(To, Word)>, Fail>
         batch,
     };
     let effects = leader.step(alloc, p, input, true, &mut keys)?;
-    Ok(effects.sends)
+    let mut sends = effects.sends.into_vec();
+    let echo = sends.pop();
+    let say = sends.pop();
+    match (say, echo) {
+        (Some((_, say)), Some((_, echo))) => Ok((say, echo)),
+        _ => Err(NoMemory)?,
+    }
 }
 
-// A batch is said and echoed, and delivered with the third of three nodes' echoes.
+// An echo of another digest, in the shape of one that is signed.
+fn foreign(alloc: Global) -> Result<Word, Fail> {
+    let mut keys = keys_of(alloc, 2)?;
+    let sig = Bytes::of(keys.sign(&[7])?);
+    Ok(Word::Echo {
+        slot: Slot(4),
+        digest: [9; 32],
+        sig,
+    })
+}
+
+// The leader's word, an echo of it, and an echo of another digest.
+#[derive(Drop)]
+struct Words {
+    say: Word,
+    echo: Word,
+    foreign: Word,
+}
+
+fn all_words(alloc: Global, p: &Params) -> Result<Words, Fail>
+    requires { IsGoodParams echo p.now }
+{
+    let (say, echo) = cast(alloc, p)?;
+    let foreign = foreign(alloc)?;
+    Ok(Words { say, echo, foreign })
+}
+
+#[derive(Clone, Copy)]
+enum Said {
+    Say,
+    Echo,
+    Foreign,
+}
+
+// What comes to node 1 and from whom, and how many slots it is to deliver then.
+#[derive(Clone, Copy)]
+struct Line(Said, u8, usize);
+
+// Whether a line goes as it says.
+fn goes(
+    alloc: Global,
+    p: &Params,
+    node: &mut Echo,
+    words: &Words,
+    line: &Line,
+) -> Result<bool, Fail>
+    requires { IsGoodParams echo p.now }
+{
+    let mut keys = keys_of(alloc, 1)?;
+    let Line(said, from, delivers) = line;
+    let word = match said {
+        Said::Say => &words.say,
+        Said::Echo => &words.echo,
+        Said::Foreign => &words.foreign,
+    };
+    if *from as u32 >= p.setup.n {
+        return Ok(false);
+    }
+    let effects = hear(alloc, p, node, &mut keys, *from, word)?;
+    Ok(effects.delivers.len() == *delivers)
+}
+
+// How many of the lines, one after the other, go as they say.
+fn right(alloc: Global, lines: &[Line]) -> Result<usize, Fail> {
+    let p = instance(alloc)?;
+    let words = all_words(alloc, &p)?;
+    let mut node = Echo::start(alloc, &p, NodeId(1))?;
+    let mut right = 0usize;
+    for line in lines {
+        if goes(alloc, &p, &mut node, &words, line)? {
+            right = right.saturating_add(1);
+        }
+    }
+    Ok(right)
+}
+
+// A batch is delivered with the third node's echo, and not again with the fourth's.
 #[test]
 fn three_echoes_deliver(rt: HostRuntime) -> Result<(), Fail> {
-    let alloc = rt.alloc();
-    let p = instance(alloc)?;
-    let mut keys = Keys::make(alloc, node_secret(1), 2)?;
-    let mut node = Echo::start(alloc, &p, NodeId(1))?;
-    let sends = cast(alloc, &p)?;
-    assert_eq!(rt; sends.len(), 2);
-    let [(_, say), (_, echo)] = sends.as_slice() else {
-        return Ok(());
-    };
-    let taken = hear(alloc, &p, &mut node, &mut keys, 0, say)?;
-    assert_eq!(rt; taken.sends.len(), 1);
-    assert_eq!(rt; taken.hashed.len(), 1);
-    assert!(rt; taken.accepted.is_some());
-    assert_eq!(rt; keys.left(), 3);
-    let first = hear(alloc, &p, &mut node, &mut keys, 0, echo)?;
-    assert_eq!(rt; first.delivers.len(), 0);
-    let second = hear(alloc, &p, &mut node, &mut keys, 1, echo)?;
-    assert_eq!(rt; second.delivers.len(), 0);
-    let third = hear(alloc, &p, &mut node, &mut keys, 3, echo)?;
-    assert_eq!(rt; third.delivers.len(), 1);
-    let fourth = hear(alloc, &p, &mut node, &mut keys, 2, echo)?;
-    assert_eq!(rt; fourth.delivers.len(), 0);
+    let lines = [
+        Line(Said::Say, 0, 0),
+        Line(Said::Echo, 0, 0),
+        Line(Said::Echo, 1, 0),
+        Line(Said::Echo, 3, 1),
+        Line(Said::Echo, 2, 0),
+    ];
+    assert_eq!(rt; right(rt.alloc(), &lines)?, 5);
     broadcast::<Echo>();
     Ok(())
 }
 
-// An echo counts once, another digest's first echo of a node stands in nobody's way, and echoes may come before the
-// word.
+// An echo counts once, and a foreign digest that a node echoed first stands in nobody's way.
 #[test]
-fn echoes_before_the_word(rt: HostRuntime) -> Result<(), Fail> {
-    let alloc = rt.alloc();
-    let p = instance(alloc)?;
-    let mut keys = Keys::make(alloc, node_secret(1), 2)?;
-    let mut node = Echo::start(alloc, &p, NodeId(1))?;
-    let sends = cast(alloc, &p)?;
-    let [(_, say), (_, echo)] = sends.as_slice() else {
-        return Ok(());
-    };
-    let Word::Echo { sig, .. } = echo else {
-        return Ok(());
-    };
-    let foreign = Word::Echo {
-        slot: Slot(4),
-        digest: [9; 32],
-        sig: sig.copy()?,
-    };
-    hear(alloc, &p, &mut node, &mut keys, 2, &foreign)?;
-    hear(alloc, &p, &mut node, &mut keys, 2, echo)?;
-    hear(alloc, &p, &mut node, &mut keys, 2, echo)?;
-    hear(alloc, &p, &mut node, &mut keys, 3, echo)?;
-    let word = hear(alloc, &p, &mut node, &mut keys, 0, say)?;
-    assert_eq!(rt; word.delivers.len(), 0);
-    let third = hear(alloc, &p, &mut node, &mut keys, 0, echo)?;
-    assert_eq!(rt; third.delivers.len(), 1);
-    let mut late = Echo::start(alloc, &p, NodeId(2))?;
-    hear(alloc, &p, &mut late, &mut keys, 0, echo)?;
-    hear(alloc, &p, &mut late, &mut keys, 1, echo)?;
-    hear(alloc, &p, &mut late, &mut keys, 3, echo)?;
-    let word = hear(alloc, &p, &mut late, &mut keys, 0, say)?;
-    assert_eq!(rt; word.delivers.len(), 1);
-    assert_eq!(rt; word.sends.len(), 1);
+fn an_echo_counts_once(rt: HostRuntime) -> Result<(), Fail> {
+    let lines = [
+        Line(Said::Foreign, 2, 0),
+        Line(Said::Say, 0, 0),
+        Line(Said::Echo, 2, 0),
+        Line(Said::Echo, 2, 0),
+        Line(Said::Echo, 3, 0),
+        Line(Said::Echo, 0, 1),
+    ];
+    assert_eq!(rt; right(rt.alloc(), &lines)?, 6);
     Ok(())
 }
 
-// A claim names its sender and verifies under its key; another number at the front is no message.
+// A word that comes after its echoes is delivered at once, and the leader's alone is one.
+#[test]
+fn echoes_come_first(rt: HostRuntime) -> Result<(), Fail> {
+    let lines = [
+        Line(Said::Echo, 0, 0),
+        Line(Said::Echo, 2, 0),
+        Line(Said::Echo, 3, 0),
+        Line(Said::Say, 3, 0),
+        Line(Said::Say, 0, 1),
+    ];
+    assert_eq!(rt; right(rt.alloc(), &lines)?, 5);
+    Ok(())
+}
+
+// Whether the one claim of the message verifies by the key of this node.
+fn verifies(alloc: Global, p: &Params, node: u8, word: &Word) -> Result<bool, Fail>
+    requires { IsGoodParams echo p.now }
+{
+    let claims = Echo::claims(alloc, p, NodeId(0), word)?;
+    let directory = p.directory.directory();
+    match claims.as_slice() {
+        [claim] => Ok(directory.verify_node(
+            node,
+            claim.statement.as_slice(),
+            claim.sig.as_slice(),
+        )),
+        _ => Ok(false),
+    }
+}
+
+// What a node sends claims its own signature, which verifies by its key and no other.
+fn claims_own(alloc: Global) -> Result<bool, Fail> {
+    let p = instance(alloc)?;
+    let (say, echo) = cast(alloc, &p)?;
+    let own = verifies(alloc, &p, 0, &say)? && verifies(alloc, &p, 0, &echo)?;
+    Ok(own && !verifies(alloc, &p, 1, &echo)?)
+}
+
 #[test]
 fn claims_verify(rt: HostRuntime) -> Result<(), Fail> {
-    let alloc = rt.alloc();
-    let p = instance(alloc)?;
-    let sends = cast(alloc, &p)?;
-    for (_, word) in sends.as_slice() {
-        let claims = Echo::claims(alloc, &p, NodeId(0), word)?;
-        assert_eq!(rt; claims.len(), 1);
-        for claim in claims.as_slice() {
-            assert_eq!(rt; claim.by, NodeId(0));
-            let statement = claim.statement.as_slice();
-            let sig = claim.sig.as_slice();
-            assert!(rt; p.directory.directory().verify_node(0, statement, sig));
-            assert!(rt; !p.directory.directory().verify_node(1, statement, sig));
-        }
-    }
-    let mut fields = Fields::over(1, &[3, 0, 0]);
-    assert!(rt; Echo::decode(alloc, &mut fields).is_err());
+    assert!(rt; claims_own(rt.alloc())?);
     Ok(())
 }

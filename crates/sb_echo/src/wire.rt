@@ -1,10 +1,11 @@
 //! The bytes of the messages, and what they claim that nodes have signed.
-ghost use Rattle.std.specs.Prelude.{◌≡◌, ℕ, ◌∷◌, [], true, length, IfOk, OnOk, Err};
+ghost use Rattle.std.specs.Prelude.{◌≡◌, ◌↔◌, ℕ, List, ◌∷◌, [], true, length, IfOk, OnOk, Err};
+ghost use Rattle.sb_echo.specs.declared.word.Word.{Word};
 ghost use Rattle.iss_request.specs.declared.requests.Value.TheVariants.{Batch as Holds};
-ghost use Rattle.iss_request.specs.Fields.{IsRead, IsUnreadable, and_bytes};
+ghost use Rattle.iss_request.specs.Fields.{Good, IsRead, IsUnreadable, and_bytes};
 ghost use Rattle.iss_request.specs.Formats.{is_batch, is_signature, parse_value};
 ghost use Rattle.iss_request.specs.Parsing.{block, such_that};
-ghost use Rattle.sb_echo.specs.Echo.{claim, claims, parse, parse_echo, parse_say, spell, statement};
+ghost use Rattle.sb_echo.specs.Echo.{IsSpelledWord, claim, claims, parse, parse_echo, parse_say, spell, statement};
 
 use crate::signing::{ECHO, SAY, digest_of, statement, string_of};
 use crate::word::Word;
@@ -171,3 +172,9 @@ fn one_claim(
     })?;
     Ok(all)
 }
+
+/// The table of the messages: what is read of bytes, and all of them, is what the table relates to them. It computes
+/// nothing: its contract is the theorem.
+pub fn words_are_exact()
+    ensures { (version : ℕ) (msg : Word) (bytes : List ℕ) → (parse version bytes ≡ Good msg []) ↔ IsSpelledWord version msg bytes }
+{}

@@ -16,7 +16,7 @@ use Rattle.iss_sb.specs.Legal.{Front}
 use Rattle.sb_raft.proofs.Inv.{Inv, MaySend, majority-is}
 use Rattle.sb_raft.proofs.Logs.{Prefix, Moment, Tail}
 use Rattle.sb_raft.proofs.Prefixes.{pre_refl, pre_trans, pre_compare, pre_short, pre_length, last_of}
-use Rattle.sb_raft.proofs.Core.{Copy, Committed, all_fine, all_lead, copied_has, leads, agreement, Good}
+use Rattle.sb_raft.proofs.Core.{Copy, Committed, all_fine, all_lead, copied_has, leads, agreement, completeness, Good}
 use Rattle.sb_raft.proofs.Steps.{next, with_copy}
 use Rattle.sb_raft.proofs.Effects.{Turn, follows, stands, runs, rules, wins, wins_alone, turn, next_term, fits_parts}
 use Rattle.iss_sb.proofs.Legal.{front_self, front_trans}
@@ -77,7 +77,7 @@ take_long zero xs h = refl
 take_long (suc c) [] h = absurd (omega arith)
 take_long (suc c) (x ∷ xs) h = ap suc (take_long c xs (omega arith))
 
-take_some : (c : ℕ) (xs : List Entry) → 1 ≤ c → c ≤ length xs → (P : List Entry) × (y : Entry) × (take c xs ≡ P ++ (y ∷ []))
+pub take_some : (c : ℕ) (xs : List Entry) → 1 ≤ c → c ≤ length xs → (P : List Entry) × (y : Entry) × (take c xs ≡ P ++ (y ∷ []))
 take_some zero xs h l = absurd (omega arith)
 take_some (suc c) [] h l = absurd (omega arith)
 take_some (suc c) (x ∷ xs) h l = last_of x (take c xs)
@@ -95,6 +95,7 @@ module _ (p : Params) (w : World Message) (inv : Inv p w) where
 
   pub record Sure (k : ℕ) (l : List (Item Message)) : Type 0 where
     pub term : ℕ
+    pub low : term ≤ (state p k l).term
     pub front : List Entry
     pub done : Done term front
     pub room : (state p k l).commit ≤ length (state p k l).log
@@ -103,7 +104,7 @@ module _ (p : Params) (w : World Message) (inv : Inv p w) where
   abbrev Ok : ℕ → List (Item Message) → Type 0
   Ok k l = ((state p k l).commit ≡ 0) ⊎ Sure k l
 
-  good_at : (k : ℕ) (l : List (Item Message)) → Front l (w k) → Good (LeadOf p w) (state p k l).log
+  pub good_at : (k : ℕ) (l : List (Item Message)) → Front l (w k) → Good (LeadOf p w) (state p k l).log
   good_at k l f = (all_fine p.setup.f (LeadOf p w) (histories p w) (facts p w inv) k (mom p k l) (older p k l) (front_tail p k l (w k) f)).good
 
   -- an Append that was taken is a front of the log then
@@ -207,8 +208,11 @@ module _ (p : Params) (w : World Message) (inv : Inv p w) where
   ok_same k i l e f (inr s) =
       let room = s.room in
       let len = pre_length (state p k l).log (state p k (i ∷ l)).log f in
+      let rises = next_term p k (state p k l) i.input in
+      let low = s.low in
       inr (record {
         term = s.term;
+        low = omega (arith, rises, low);
         front = s.front;
         done = s.done;
         room = omega arith;
@@ -220,6 +224,7 @@ module _ (p : Params) (w : World Message) (inv : Inv p w) where
       let d = counted_done k (i ∷ l) c f r one n lt q in
       inr (record {
         term = (state p k (i ∷ l)).term;
+        low = omega arith;
         front = take c (state p k (i ∷ l)).log;
         done = d;
         room = omega arith;
@@ -292,8 +297,11 @@ module _ (p : Params) (w : World Message) (inv : Inv p w) where
               let same_front = ap (λ (z : List Entry). take (state p k l).commit z) el ∙ (tk ∙ ap (λ (z : List Entry). take (state p k l).commit z) (sym td)) in
               let sl = stay_length (drop prev (state p k l).log) es in
               let ll = ap length el ∙ length_both (take prev (state p k l).log) (merge (drop prev (state p k l).log) es) in
+              let rises = next_term p k (state p k l) i.input in
+              let low = s.low in
               inr (record {
                 term = s.term;
+                low = omega (arith, rises, low);
                 front = s.front;
                 done = s.done;
                 room = omega arith;
@@ -331,8 +339,11 @@ module _ (p : Params) (w : World Message) (inv : Inv p w) where
                   let len = pre_length (state p j.0 src.0).log (state p k (i ∷ l)).log on in
                   let cut = take_pre (state p k (i ∷ l)).commit (state p j.0 src.0).log (state p k (i ∷ l)).log on (omega arith) in
                   let less = take_less (state p k (i ∷ l)).commit (state p j.0 src.0).commit (state p j.0 src.0).log (omega arith) in
+                  let low = s.low in
+                  let same_term = src.3 in
                   inr (record {
                     term = s.term;
+                    low = omega (arith, low, same_term);
                     front = s.front;
                     done = s.done;
                     room = omega arith;
@@ -342,6 +353,16 @@ module _ (p : Params) (w : World Message) (inv : Inv p w) where
   ok_below : (n : ℕ) → OkBelow n
   ok_below zero k l f lt = absurd (omega arith)
   ok_below (suc n) k l f lt = ok_at n (ok_below n) k l f lt
+
+  -- what a node has committed stands in the log of each leader of a later term
+  pub committed_kept : (i j : ℕ) (a : List (Item Message)) (t : ℕ) (m : List Entry) → Front a (w i) → LeadOf p w t j m → (state p i a).term < t → Prefix (take (state p i a).commit (state p i a).log) m
+  committed_kept i j a t m f lead later = go (ok_below (suc (state p i a).term) i a f (omega arith))
+    where
+      go : Ok i a → Prefix (take (state p i a).commit (state p i a).log) m
+      go (inl z) = subst (λ (c : ℕ). Prefix (take c (state p i a).log) m) (sym z) tt
+      go (inr x) =
+          let low = x.low in
+          pre_trans _ x.front m x.stands (completeness p.setup.f (LeadOf p w) (histories p w) (facts p w inv) x.term t j x.front m (omega (arith, low, later)) x.done lead)
 
   -- what two nodes have committed, at any two moments: the one is the front of the other
   pub committed_agree : (i j : ℕ) (a b : List (Item Message)) → Front a (w i) → Front b (w j) → Prefix (take (state p i a).commit (state p i a).log) (take (state p j b).commit (state p j b).log) ⊎ Prefix (take (state p j b).commit (state p j b).log) (take (state p i a).commit (state p i a).log)

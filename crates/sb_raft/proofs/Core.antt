@@ -147,7 +147,7 @@ module _ (f : ℕ) (Lead : ℕ → ℕ → List Entry → Type 0) (hist : ℕ �
   leads t i j m n a b = facts.chain t j m n (subst (λ (z : ℕ). Lead t z m) (facts.one t i j m n a b) a) b
 
   -- equal terms at equal places: equal fronts
-  matching : (P Q : List Entry) (x y : Entry) → Led Lead P x → Led Lead Q y → length P ≡ length Q → x.term ≡ y.term → (P ≡ Q) × (x ≡ y)
+  pub matching : (P Q : List Entry) (x y : Entry) → Led Lead P x → Led Lead Q y → length P ≡ length Q → x.term ≡ y.term → (P ≡ Q) × (x ≡ y)
   matching P Q x y a b l e =
       elim (leads x.term a.leader b.leader (P ++ (x ∷ a.rest)) (Q ++ (y ∷ b.rest)) a.lead (subst (λ (z : ℕ). Lead z b.leader (Q ++ (y ∷ b.rest))) (sym e) b.lead)) [
         | inl p ↦ let r = pre_rest _ _ p in same_split P Q x y (a.rest ++ r.0) b.rest (sym (append_assoc P (x ∷ a.rest) r.0) ∙ sym r.1) l

@@ -129,7 +129,7 @@ module _ (p : Params) (me : ℕ) where
 slot_eta : (a b : Slot) → a.0 ≡ b.0 → a ≡ b
 slot_eta a b h = ap (λ (n : ℕ). let s : Slot = record { 0 = n } in s) h
 
-some-only : {A : Type 0} (t : Bool) (x y : A) → (if t then Some x else None) ≡ Some y → (t ≡ true) × (y ≡ x)
+pub some-only : {A : Type 0} (t : Bool) (x y : A) → (if t then Some x else None) ≡ Some y → (t ≡ true) × (y ≡ x)
 some-only true x y h = (refl, cc)
 some-only false x y h = absurd cc
 

@@ -1,4 +1,5 @@
 mod Agree
+mod Answered
 mod Ballots
 mod Batches
 mod Bounds
@@ -9,6 +10,7 @@ mod Delivers
 mod Effects
 mod Elections
 mod Example
+mod Greatest
 mod Histories
 mod Inv
 mod Kept
@@ -21,3 +23,4 @@ mod Reached
 mod Safe
 mod Sends
 mod Steps
+mod Worlds

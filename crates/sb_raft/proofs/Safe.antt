@@ -1,15 +1,14 @@
 -- Raft is a broadcast in every world of legal lists and ballots, and both are kept.
-use Rattle.std.proofs.Common.{◌≡◌, ℕ, true, List, ◌∷◌, ◌++◌, take, drop, append_assoc, refl, sym, subst, ap, ◌∙◌, inl, inr, Option, Some}
-use Rattle.std.proofs.lemmas.Bool.{eqb-true}
+use Rattle.std.proofs.Common.{◌≡◌, ℕ, true, List, ◌∷◌, ◌++◌, take, drop, append_assoc, refl, sym, subst, ap, ◌∙◌, inl, inr, Option, Some, None, true≢false}
 use Rattle.iss_base.specs.Lists.{In}
 use Rattle.iss_request.specs.declared.ids.Slot.{Slot}
 use Rattle.iss_request.specs.declared.requests.Batch.{Batch}
 use Rattle.iss_request.specs.declared.requests.Value.TheVariants.{Batch as Value_batch}
 use Rattle.iss_sb.specs.declared.effects.Params.{Params}
 use Rattle.iss_sb.specs.Calls.{IsGoodParams}
-use Rattle.iss_sb.specs.Evidence.{World, accepts, delivered}
+use Rattle.iss_sb.specs.Evidence.{Item, World, accepts, delivered}
 use Rattle.iss_sb.specs.Laws.{IsBroadcast, IsSafe}
-use Rattle.iss_sb.specs.Legal.{IsLegal}
+use Rattle.iss_sb.specs.Legal.{Front, IsLegal}
 use Rattle.iss_sb.proofs.Legal.{accepts-front, all-correct, front_self, made-front, safe-kept}
 use Rattle.iss_base.proofs.Lists.{in_right}
 use Rattle.raft_wire.specs.declared.entries.Entry.{Entry}
@@ -17,6 +16,11 @@ use Rattle.raft_wire.specs.declared.messages.Message.{Message}
 use Rattle.sb_raft.specs.Raft.{decided, raft, state}
 use Rattle.sb_raft.specs.Rules.{is_slot}
 use Rattle.sb_raft.proofs.Ballots.{Ballots}
+use Rattle.raft_wire.specs.declared.entries.What.TheVariants.{Holds}
+use Rattle.sb_raft.specs.Facts.{IsOwned}
+use Rattle.sb_raft.specs.Logs.{filled}
+use Rattle.iss_base.specs.Lists.{nth}
+use Rattle.iss_base.proofs.Lists.{is-eq, some-injective}
 use Rattle.sb_raft.proofs.Core.{all_fine}
 use Rattle.sb_raft.proofs.Histories.{lead_at}
 use Rattle.sb_raft.proofs.Inv.{Inv}
@@ -29,34 +33,46 @@ use Rattle.sb_raft.proofs.Agree.{agree, inv-of, keeps, starts}
 slot_eta : (a b : Slot) → a.0 ≡ b.0 → a ≡ b
 slot_eta a b h = ap (λ (n : ℕ). let s : Slot = record { 0 = n } in s) h
 
+slot-some : (s : Slot) (o : Option Slot) → is_slot s.0 o ≡ true → o ≡ Some s
+slot-some s None h = absurd (true≢false (sym h))
+slot-some s (Some t) h = ap (λ (z : Slot). let o : Option Slot = Some z in o) (slot_eta t s (is-eq t.0 s.0 h))
+
 module _ (p : Params) (w : World Message) (good : IsGoodParams raft p) (legal : IsLegal raft p w) (b : Ballots p w) where
   inv : Inv p w
   inv = inv-of p w good legal b
 
+  -- a batch in a log was accepted by the first leader, at the slot that its place holds
+  pub batch-owned : (i : ℕ) (l : List (Item Message)) → Front l (w i) → (front : List Entry) (e : Entry) (rest : List Entry) (c : Batch) → (state p i l).log ≡ front ++ (e ∷ rest) → e.what ≡ Holds c → IsOwned p w front c
+  batch-owned i l f front e rest c whole holds =
+      let fine = all_fine p.setup.f (LeadOf p w) (histories p w) (facts p w inv) i (mom p i l) (older p i l) (front_tail p i l (w i) f) in
+      let led = fine.good front e rest whole in
+      let a = lead_at p led.leader (w led.leader) e.term (front ++ (e ∷ led.rest)) led.lead in
+      elim (elected p w inv led.leader a.0 a.1 a.2) [
+        | inl first ↦
+            let cast = first-cast p w inv led.leader a.0 (made-front raft p led.leader a.0 (w led.leader) a.1 (legal.made led.leader)) a.1 a.2 first.term front e led.rest c a.4 holds in
+            let there = accepts-front a.0 (w led.leader) (cast.slot, c) a.1 cast.taken in
+            record {
+              slot = cast.slot;
+              place = slot-some cast.slot (nth p.slots (filled front)) cast.place;
+              taken = subst (λ (z : ℕ). In {A = Slot × Batch} (cast.slot, c) (accepts (w z))) first.own there;
+            }
+        | inr later ↦
+            let t = later_term p w inv led.leader a.0 later.0 in
+            let stands_in : In e (state p led.leader a.0).log = subst (λ (z : List Entry). In e z) (sym a.4) (in_right e front (e ∷ led.rest) (inl refl)) in
+            absurd (later-plain p w inv led.leader a.0 a.1 a.2 t e c stands_in (sym a.3) holds)
+      ]
+
   -- what is delivered the leader accepted
-  owned : (i : ℕ) (s : Slot) (c : Batch) → delivered raft p i (w i) s.0 ≡ Some (Value_batch c) → In {A = Slot × Batch} (s, c) (accepts (w p.leader.0))
+  pub owned : (i : ℕ) (s : Slot) (c : Batch) → delivered raft p i (w i) s.0 ≡ Some (Value_batch c) → In {A = Slot × Batch} (s, c) (accepts (w p.leader.0))
   owned i s c d =
       let n = (state p i (w i)).commit in
       let log = (state p i (w i)).log in
       let dx : decided p i (w i) s.0 ≡ Some (Value_batch c) = sym (delivered-is p i (w i) s.0) ∙ d in
       let st = stands s.0 p.slots c (take n log) dx in
       let whole : log ≡ st.front ++ (st.entry ∷ (st.rest ++ drop n log)) = sym (take-drop n log) ∙ (ap (λ (z : List Entry). z ++ drop n log) st.is ∙ append_assoc st.front (st.entry ∷ st.rest) (drop n log)) in
-      let fine = all_fine p.setup.f (LeadOf p w) (histories p w) (facts p w inv) i (mom p i (w i)) (older p i (w i)) (front_tail p i (w i) (w i) (front_self (w i))) in
-      let led = fine.good st.front st.entry (st.rest ++ drop n log) whole in
-      let a = lead_at p led.leader (w led.leader) st.entry.term (st.front ++ (st.entry ∷ led.rest)) led.lead in
-      elim (elected p w inv led.leader a.0 a.1 a.2) [
-        | inl first ↦
-            let cast = first-cast p w inv led.leader a.0 (made-front raft p led.leader a.0 (w led.leader) a.1 (legal.made led.leader)) a.1 a.2 first.term st.front st.entry led.rest c a.4 st.holds in
-            let at : is_slot cast.slot.0 (Some st.slot) ≡ true = subst (λ (z : Option Slot). is_slot cast.slot.0 z ≡ true) st.place cast.place in
-            let same : cast.slot ≡ s = slot_eta cast.slot s (sym (eqb-true st.slot.0 cast.slot.0 at) ∙ st.same) in
-            let there = accepts-front a.0 (w led.leader) (cast.slot, c) a.1 cast.taken in
-            let here : In {A = Slot × Batch} (cast.slot, c) (accepts (w p.leader.0)) = subst (λ (z : ℕ). In {A = Slot × Batch} (cast.slot, c) (accepts (w z))) first.own there in
-            subst (λ (z : Slot). In {A = Slot × Batch} (z, c) (accepts (w p.leader.0))) same here
-        | inr later ↦
-            let t = later_term p w inv led.leader a.0 later.0 in
-            let stands_in : In st.entry (state p led.leader a.0).log = subst (λ (z : List Entry). In st.entry z) (sym a.4) (in_right st.entry st.front (st.entry ∷ led.rest) (inl refl)) in
-            absurd (later-plain p w inv led.leader a.0 a.1 a.2 t st.entry c stands_in (sym a.3) st.holds)
-      ]
+      let own = batch-owned i (w i) (front_self (w i)) st.front st.entry (st.rest ++ drop n log) c whole st.holds in
+      let same : own.slot ≡ st.slot = some-injective own.slot st.slot (sym own.place ∙ st.place) in
+      subst (λ (z : Slot). In {A = Slot × Batch} (z, c) (accepts (w p.leader.0))) (same ∙ slot_eta st.slot s st.same) own.taken
 
   is-broadcast : IsBroadcast raft p w
   is-broadcast = record {

@@ -1,5 +1,6 @@
 -- The rules of Raft: what one node's state becomes with one input, and what it sends. A function a rule.
-use Rattle.std.specs.Prelude.{ℕ, zero, suc, ◌+◌, ◌-◌, ◌==◌, ◌&&◌, ◌||◌, Bool, true, false, not, cond, nat_lt, nat_le, max, min, List, [], ◌∷◌, ◌++◌, length, drop, Option, Some, None, if◌then◌else◌}
+use Rattle.std.specs.Prelude.{ℕ, zero, suc, ◌+◌, ◌-◌, ◌==◌, ◌&&◌, ◌||◌, Bool, true, false, not, cond, ◌∷◌, ◌++◌, if◌then◌else◌}
+use Rattle.std.specs.Prelude.{nat_lt, nat_le, max, min, List, [], length, drop, Option, Some, None}
 use Rattle.iss_base.specs.Lists.{nth, set_at}
 use Rattle.iss_base.specs.Quorum.{count_below}
 use Rattle.iss_request.specs.declared.ids.Slot.{Slot}

@@ -2,6 +2,11 @@
 //! Ousterhout, "In Search of an Understandable Consensus Algorithm"; ISS, "Sequenced Broadcast").
 #![tactic(auto)]
 
+pub mod facts;
 pub mod laws;
 
-pub use laws::{raft_has_a_grammar, raft_is_lawful, raft_is_safe};
+pub use facts::{
+    batches_share_an_acceptor, later_leaders_keep_what_is_committed, logs_match, nodes_agree,
+    terms_have_one_leader, the_first_leader_accepts, the_leader_accepted_what_is_delivered,
+};
+pub use laws::{raft_has_a_grammar, raft_is_lawful, raft_is_safe, the_greatest_is_committed};

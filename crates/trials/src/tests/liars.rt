@@ -17,19 +17,22 @@ use iss_sb::{Input, Params, Sequenced, To};
 use iss_schedule::Event;
 use iss_world::{Happened, World};
 use sb_echo::{Echo, Word};
+use sha2::{Digest, Sha256};
 use std::alloc::Global;
 use std::test::Fail;
 
-// The liar leads slot 0.
-fn setup_of(alloc: Global) -> Result<Setup, NoMemory>
-    ensures good { IfOk result (λ s. IsSetupOf echo s) }
-    ensures cores { IfOk result (λ s. s.n ≡ 4) }
-    ensures kind { IfOk result (λ s. s.kind ≡ Kind.Byzantine) }
-    ensures keys { IfOk result (λ s. s.keys ≡ 4) }
+// The instance that the liar leads.
+fn instance(alloc: Global) -> Result<Params, NoMemory>
+    ensures good { IfOk result (λ p. IsGoodParams echo p) }
+    ensures setup { IfOk result (λ p. IsSetupOf echo p.setup) }
+    ensures cores { IfOk result (λ p. p.setup.n ≡ 4) }
+    ensures kind { IfOk result (λ p. p.setup.kind ≡ Kind.Byzantine) }
 {
+    let mut slots = Row::new(alloc);
+    slots.push(Slot(0))?;
     let mut faulty = Nodes::new(alloc);
     faulty.push(NodeId(0))?;
-    Ok(Setup {
+    let setup = Setup {
         version: 1,
         module: 6,
         f: 1,
@@ -45,16 +48,7 @@ fn setup_of(alloc: Global) -> Result<Setup, NoMemory>
         quorum: 3,
         kind: Kind::Byzantine,
         tag: [7; 32],
-    })
-}
-
-// The instance that the liar leads.
-fn instance(alloc: Global) -> Result<Params, NoMemory>
-    ensures { IfOk result (λ p. IsGoodParams echo p) }
-{
-    let mut slots = Row::new(alloc);
-    slots.push(Slot(0))?;
-    let setup = setup_of(alloc)?;
+    };
     let Ok(directory) = SharedDirectory::make(alloc, 4, 1, 4) else {
         return Err(NoMemory);
     };
@@ -109,41 +103,111 @@ fn packed(alloc: Global, word: &Word) -> Result<Bytes, NoMemory> {
     packet.encode(alloc, 1)
 }
 
-fn told(alloc: Global, world: &mut World<Echo>, core: u32, word: &Word) -> Result<bool, NoMemory>
+// What node 0 says to no two nodes alike: its word and its echo of one batch, and then of another.
+fn lies(alloc: Global, p: &Params) -> Result<Vec<Bytes>, Fail>
+    requires { IsGoodParams echo p.now }
+{
+    let mut keys = Keys::make(alloc, Sha256::digest([0x20u8, 0]), 4)?;
+    let mut packets = Vec::new(alloc);
+    for number in [0, 4] {
+        let batch = batch_of(alloc, number)?;
+        let words = words_on(alloc, p, &mut keys, batch)?;
+        for word in words.as_slice() {
+            packets.push(packed(alloc, &word.1)?)?;
+        }
+    }
+    Ok(packets)
+}
+
+// The same bytes, each of which is below 256.
+fn bytes_from(all: Vec<u8>) -> Bytes
+    ensures { IsBytes result }
+{
+    Bytes::of(all)
+}
+
+// Node `core` takes these bytes.
+fn inject(alloc: Global, world: &mut World<Echo>, core: u32, packet: &Bytes) -> Result<(), NoMemory>
     requires kind { world.old.setup.kind ≡ Kind.Byzantine }
     requires core { core < world.old.setup.n }
     requires standing { IsStanding echo Stands world.old }
     ensures standing { OnOk result (IsStanding echo Stands world.new) }
     ensures same { world.new.setup ≡ world.old.setup }
 {
-    let bytes = packed(alloc, word)?;
-    let happened = world.event(alloc, &Event::Bytes { core, bytes })?;
-    Ok(happened == Happened::Done)
+    let bytes = bytes_from(Vec::from_slice(alloc, packet.as_slice())?);
+    let event = Event::Bytes { core, bytes };
+    let _happened = world.event(alloc, &event)?;
+    Ok(())
+}
+
+// Node `core` takes the packet of this place.
+fn tell(
+    alloc: Global,
+    world: &mut World<Echo>,
+    core: u32,
+    packets: &[Bytes],
+    place: usize,
+) -> Result<(), NoMemory>
+    requires kind { world.old.setup.kind ≡ Kind.Byzantine }
+    requires standing { IsStanding echo Stands world.old }
+    ensures standing { OnOk result (IsStanding echo Stands world.new) }
+    ensures same { world.new.setup ≡ world.old.setup }
+{
+    let Some(packet) = packets.get(place) else {
+        return Ok(());
+    };
+    if core >= world.setup().n {
+        return Ok(());
+    }
+    inject(alloc, world, core, packet)
+}
+
+// Who takes which packet, in this order: node 1 the one word, the others the other, and all of them both echoes.
+const TOLD: [(u32, usize); 9] = [
+    (1, 0),
+    (2, 2),
+    (3, 2),
+    (1, 1),
+    (1, 3),
+    (2, 1),
+    (2, 3),
+    (3, 1),
+    (3, 3),
+];
+
+fn tell_all(
+    alloc: Global,
+    world: &mut World<Echo>,
+    packets: &[Bytes],
+    told: &[(u32, usize)],
+) -> Result<(), NoMemory>
+    requires kind { world.old.setup.kind ≡ Kind.Byzantine }
+    requires standing { IsStanding echo Stands world.old }
+    ensures standing { OnOk result (IsStanding echo Stands world.new) }
+    ensures same { world.new.setup ≡ world.old.setup }
+{
+    for (core, place) in told {
+        tell(alloc, world, *core, packets, *place)?;
+    }
+    Ok(())
+}
+
+// The world in which the liar has spoken, and all echoes have come.
+fn after_lies(alloc: Global) -> Result<World<Echo>, Fail>
+    ensures { IfOk result (λ w. w.setup.n ≡ 4) }
+{
+    let p = instance(alloc)?;
+    let packets = lies(alloc, &p)?;
+    let mut world = World::<Echo>::start(alloc, &p.setup)?;
+    tell_all(alloc, &mut world, &packets, &TOLD)?;
+    world.event(alloc, &Event::Calm { pumps: 4 })?;
+    Ok(world)
 }
 
 // The nodes 2 and 3 deliver the batch that they were told, node 1 none, and so no two deliver different ones.
 #[test]
 fn a_liar_makes_no_two_logs(rt: HostRuntime) -> Result<(), Fail> {
-    let alloc = rt.alloc();
-    let p = instance(alloc)?;
-    let mut keys = p.directory.directory().keys_of_node(alloc, 0);
-    let one = words_on(alloc, &p, &mut keys, batch_of(alloc, 0)?)?;
-    let other = words_on(alloc, &p, &mut keys, batch_of(alloc, 4)?)?;
-    let [(_, say_one), (_, echo_one)] = one.as_slice() else {
-        panic!(rt; "a word and an echo");
-    };
-    let [(_, say_other), (_, echo_other)] = other.as_slice() else {
-        panic!(rt; "a word and an echo");
-    };
-    let mut world = World::<Echo>::start(alloc, &setup_of(alloc)?)?;
-    assert!(rt; told(alloc, &mut world, 1, say_one)?);
-    assert!(rt; told(alloc, &mut world, 2, say_other)?);
-    assert!(rt; told(alloc, &mut world, 3, say_other)?);
-    for core in 1..4u32 {
-        assert!(rt; told(alloc, &mut world, core, echo_one)?);
-        assert!(rt; told(alloc, &mut world, core, echo_other)?);
-    }
-    world.event(alloc, &Event::Calm { pumps: 4 })?;
+    let world = after_lies(rt.alloc())?;
     let slots = [0, 0, 1, 1];
     for core in 0..4u32 {
         assert_eq!(rt;

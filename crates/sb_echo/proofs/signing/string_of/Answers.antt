@@ -1,4 +1,4 @@
-use Rattle.std.proofs.Common.{◌≡◌, ◌∙◌}
+use Rattle.std.proofs.Common.{◌∙◌}
 use Rattle.sb_echo.proofs.Written.{string-written}
 use Rattle.sb_echo.proofs.signing.string_of.Goals as goal
 

@@ -1,4 +1,3 @@
-use Rattle.std.proofs.Common.{◌∙◌}
 use Rattle.iss_request.specs.Formats.{is_batch, parse_value}
 use Rattle.iss_request.specs.Parsing.{such_that}
 use Rattle.iss_request.proofs.Readings.{exit, read_done, read_then, unread_first, unread_then}

@@ -1,6 +1,5 @@
-use Rattle.std.proofs.Common.{◌≡◌, ◌==◌, ◌+◌, ◌<◌, ◌∙◌, refl, sym, ap, arith}
+use Rattle.std.proofs.Common.{◌==◌, ◌∙◌, refl, sym, arith}
 use Rattle.iss_base.proofs.Lists.{and-true}
-use Rattle.iss_keys.specs.KeyStates.{KeyState}
 use Rattle.sb_echo.specs.Stands.{is_free}
 use Rattle.sb_echo.proofs.Steps.{cast-stands, cast-taken, cast-used, idle_cast-stands, idle_cast-taken, said-words}
 use Rattle.sb_echo.proofs.Within.{none-used, nothing-within, same-owner, some-used, taken-within, twice-used}

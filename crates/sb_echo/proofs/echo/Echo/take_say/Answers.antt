@@ -1,4 +1,4 @@
-use Rattle.std.proofs.Common.{◌≡◌, ◌==◌, ◌∙◌, refl, sym, arith}
+use Rattle.std.proofs.Common.{◌==◌, ◌∙◌, refl, sym, arith}
 use Rattle.iss_base.proofs.Lists.{and-true}
 use Rattle.sb_echo.specs.Stands.{is_free}
 use Rattle.sb_echo.proofs.Steps.{echoed-words, idle_say-stands, idle_say-taken, say-stands, say-taken, say-used}

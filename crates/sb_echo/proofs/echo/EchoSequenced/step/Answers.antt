@@ -1,4 +1,4 @@
-use Rattle.std.proofs.Common.{refl, arith}
+use Rattle.std.proofs.Common.{arith}
 use Rattle.sb_echo.proofs.Steps.{idle_timeout-stands, idle_timeout-taken}
 use Rattle.sb_echo.proofs.Within.{nothing-within}
 use Rattle.sb_echo.proofs.echo.EchoSequenced.step.Goals as goal

@@ -1,4 +1,3 @@
-use Rattle.std.proofs.Common.{◌≡◌}
 use Rattle.sb_echo.proofs.Hearing.{added, same_heard}
 use Rattle.sb_echo.proofs.echoes.Echoes.hear.Goals as goal
 

@@ -1,0 +1,5 @@
+use Rattle.sb_raft.proofs.Worlds.{logs-match}
+use Rattle.sb_raft.proofs.facts.logs_match.Goals as goal
+
+pub returns : goal.returns
+returns c = logs-match

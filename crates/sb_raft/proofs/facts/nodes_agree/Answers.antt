@@ -1,0 +1,5 @@
+use Rattle.sb_raft.proofs.Worlds.{agreed}
+use Rattle.sb_raft.proofs.facts.nodes_agree.Goals as goal
+
+pub returns : goal.returns
+returns c = agreed
