@@ -72,7 +72,7 @@ fn go_on<M: Sequenced>(
     requires standing { IsStanding M.meaning M.stands world.old }
     ensures went { OnOk result ((p : Progress M.Msg) → p.event ≡ number → StandsForRun M.meaning M.stands world.old drops.old p →
         StandsForRun M.meaning M.stands world.new drops.new
-            (goes_on world.old.setup (formats_of world.old.setup M.meaning) (rules_of world.old.setup) M.meaning p event.now)) }
+        (goes_on world.old.setup (formats_of world.old.setup M.meaning) (rules_of world.old.setup) M.meaning p event.now)) }
     ensures same { world.new.setup ≡ world.old.setup }
 {
     let happened = world.event(alloc, event)?;

@@ -74,10 +74,5 @@ fn put_block<M: Sequenced>(out: &mut Vec<u8>, world: &World<M>, node: u32) -> Re
         out.new.items ≡ out.old.items ++ node_block node (w.cores node).past.epoch (log_of (rules_of world.now.setup) M.meaning node (w.cores node).past)) }
 {
     let _setup = world.setup();
-    put_node(
-        out,
-        NodeId(node as u8),
-        world.epoch(node),
-        world.log(node),
-    )
+    put_node(out, NodeId(node as u8), world.epoch(node), world.log(node))
 }

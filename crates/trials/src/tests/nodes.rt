@@ -1,7 +1,9 @@
 //! Each event of one node. What is expected follows from the formats and the table of causes.
-ghost use Rattle.std.specs.Prelude.{◌≡◌, IfOk};
+ghost use Rattle.std.specs.Prelude.{◌≡◌, ◌<◌, IfOk};
 ghost use Rattle.iss_model.specs.Concrete.{keys_of};
+ghost use Rattle.iss_model.specs.Runs.{IsSetupOf};
 ghost use Rattle.iss_request.specs.Setup.{IsGoodSetup};
+ghost use Rattle.sb_relay.specs.Relay.{relay};
 
 use crate::tests::played::schedule_of;
 use iss_keys::SharedDirectory;
@@ -22,6 +24,7 @@ const LATER: &[u8] = b"\x01\x01\x00\0\0\0\0\0\0\0\x02\x00\0\0\0\x0b\x01\0\0\0\0\
 // The head of a packet of a request with a signature under a tree of two levels, which has 2,221 bytes.
 const ASKED: &[u8] = b"\x01\x05\xff\0\0\0\0\0\0\0\0\x00\0\0\x08\xad";
 
+// The keys of all nodes and clients.
 fn directory_of(alloc: Global, setup: &Setup) -> Result<SharedDirectory, NoMemory>
     requires { IsGoodSetup setup.now }
     ensures { IfOk result (λ directory. directory ≡ keys_of setup.now) }
@@ -32,12 +35,26 @@ fn directory_of(alloc: Global, setup: &Setup) -> Result<SharedDirectory, NoMemor
     }
 }
 
+// A node that has taken nothing, with its keys of the directory.
+fn started(
+    alloc: Global,
+    setup: &Setup,
+    directory: &SharedDirectory,
+    me: u8,
+) -> Result<Node<Relay>, NoMemory>
+    requires good { IsSetupOf relay setup.now }
+    requires directory { directory.now ≡ keys_of setup.now }
+    requires me { me < setup.now.n }
+{
+    let keys = directory.directory().keys_of_node(alloc, me);
+    Node::start(alloc, setup, directory, NodeId(me), keys)
+}
+
 fn node(rt: &impl Abort, alloc: Global, me: u8) -> Result<Node<Relay>, Fail> {
     let setup = schedule_of(alloc, "")?.setup;
     assert!(rt; (me as u32) < setup.n);
     let directory = directory_of(alloc, &setup)?;
-    let keys = directory.directory().keys_of_node(alloc, me);
-    Ok(Node::start(alloc, &setup, &directory, NodeId(me), keys)?)
+    Ok(started(alloc, &setup, &directory, me)?)
 }
 
 fn packet(alloc: Global, bytes: &[u8]) -> Result<NodeEvent, NoMemory> {
