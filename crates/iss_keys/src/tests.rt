@@ -128,24 +128,3 @@ fn keys_that_are_made_late_are_the_same(rt: HostRuntime) -> Result<(), Fail> {
     }
     Ok(())
 }
-
-#[test]
-fn owners_share_what_is_made(rt: HostRuntime) -> Result<(), Fail> {
-    let first = SharedDirectory::make(rt.alloc(), 1, 3, 2)?;
-    let second = first.share();
-    let mut client = first.directory().keys_of_client(rt.alloc(), 0);
-    let mut node = second.directory().keys_of_node(rt.alloc(), 0);
-    assert_eq!(rt; node.public().root(), ROOT_NODE_0);
-    let by_client = client.sign(&[0])?;
-    let by_node = node.sign(&[0])?;
-    drop(first);
-    for _round in 0..2 {
-        assert!(rt; second.directory().verify_client(0, &[0], &by_client));
-        assert!(rt; second.directory().verify_node(0, &[0], &by_node));
-        assert!(rt; !second.directory().verify_client(1, &[0], &by_client));
-        assert!(rt; !second.directory().verify_client(0, &[0], &by_node));
-    }
-    assert_eq!(rt; client.left(), 3);
-    assert_eq!(rt; second.directory().keys_of_client(rt.alloc(), 0).left(), 4);
-    Ok(())
-}
