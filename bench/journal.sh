@@ -3,5 +3,5 @@
 # Usage: bench/journal.sh [ENTRIES [APPENDS]]. It proves the program first, where that is not done, and runs the proved build.
 set -e
 top=$(cd "$(dirname "$0")/.." && pwd)
-cd "$top/crates/bench_journal"
-rt run -- "${TMPDIR:-/tmp}/iss_journal_bench" "${1:-1000000}" "${2:-100000}"
+cd "$top/crates/benches"
+rt run -- journal "${TMPDIR:-/tmp}/iss_journal_bench" "${1:-1000000}" "${2:-100000}"

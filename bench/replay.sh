@@ -1,6 +1,7 @@
 #!/bin/bash
-# Times the proved build of the program: schedules of 10,000, 100,000 and 1,000,000 lines, and 10,000 and 100,000
-# deliveries in random order. Prints events a second, and how much more ten times the input costs.
+# Times the proved build of the program: schedules of 10,000, 100,000 and 1,000,000 lines in one epoch and over many, 10,000 and
+# 100,000 deliveries of few packets, and of as many different packets, in random order. Prints events a second, and how much more
+# ten times the input costs.
 # The best of ROUNDS runs of each counts. The memory of each run is limited to 2 GB.
 top=$(cd "$(dirname "$0")/.." && pwd)
 build=$top/crates/iss/out/iss
@@ -29,6 +30,34 @@ random() {
         print "iss 1\nmodule relay\nf 0\nepoch 64\nbuckets 256\nbatch 32\nwindow 64\npolicy simple\nclients 256\nkeys 12\nfaulty none"
         for (i = 0; i < 66; i++) print "propose " i % 3
         for (i = 0; i < lines; i++) print "deliver " int(192 * rand())
+    }'
+}
+
+# So many lines over epochs of 64 slots: four requests, 64 proposals and a calm in each.
+epochs() {
+    awk -v lines="$1" 'BEGIN {
+        print "iss 1\nmodule relay\nf 0\nepoch 64\nbuckets 256\nbatch 32\nwindow 64\npolicy backoff\nclients 256\nkeys 12\nfaulty none"
+        for (i = 0; i < lines - 11; i++) {
+            k = i % 69
+            r = int(i / 69) * 4 + k
+            if (k < 4) print "request " r % 3, r % 256, int(r / 256), "-"
+            else if (k < 68) print "propose " (k - 4) % 3
+            else print "calm 2"
+        }
+    }'
+}
+
+# So many different packets, each delivered once: those of an epoch of 64 slots in random order.
+shuffled() {
+    awk -v packets="$1" 'BEGIN {
+        srand(1)
+        print "iss 1\nmodule relay\nf 0\nepoch 64\nbuckets 256\nbatch 32\nwindow 64\npolicy simple\nclients 256\nkeys 12\nfaulty none"
+        for (sent = 0; sent < packets; sent += 192) {
+            for (i = 0; i < 64; i++) print "propose " i % 3
+            for (i = 0; i < 192; i++) order[i] = i
+            for (i = 191; i > 0; i--) { j = int((i + 1) * rand()); k = order[i]; order[i] = order[j]; order[j] = k }
+            for (i = 0; i < 192; i++) print "deliver " sent + order[i]
+        }
     }'
 }
 
@@ -62,3 +91,5 @@ measure() {
 
 measure mixed 10000 100000 1000000
 measure random 10000 100000
+measure epochs 10000 100000 1000000
+measure shuffled 10000 100000

@@ -4,12 +4,12 @@
 # shared machine takes the same share, and every schedule takes memory of its own. They go by turns, each in a process of
 # its own, and the best of ROUNDS rounds counts.
 set -eu
-cd "$(dirname "$0")/../crates/bench_schedule"
+cd "$(dirname "$0")/../crates/benches"
 rt run > out.log 2>&1 || { cat out.log >&2; rm -f out.log; exit 1; }
 rm -f out.log
 for _ in $(seq "${ROUNDS:-21}"); do
-    echo small; taskset -c "${CPU:-0}" out/bench_schedule 50000 10
-    echo large; taskset -c "${CPU:-0}" out/bench_schedule 500000 1
+    echo small; taskset -c "${CPU:-0}" out/benches schedule 50000 10
+    echo large; taskset -c "${CPU:-0}" out/benches schedule 500000 1
 done | awk '
     NF == 1 { size = $1; next }
     { key = size " " $1; if (!(key in best) || $2 < best[key]) best[key] = $2 }

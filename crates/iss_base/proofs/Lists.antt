@@ -1,5 +1,5 @@
--- Membership, longer lists, chains, and functions that are changed at one place.
-use Rattle.std.proofs.Common.{◌∙◌, append_assoc, ◌≡◌, ◌≢◌, ◌⊎◌, inl, inr, ℕ, zero, suc, ◌+◌, ◌≤◌, ◌<◌, Bool, true, false, cond, eqb, not, ◌&&◌, ◌||◌, List, [], ◌∷◌, ◌++◌, length, reverse, Option, Some, None, refl, sym, ap, ap₂, subst, arith, length-append, true≢false}
+-- Tests that are joined, answers, membership, longer lists, chains, and functions that are changed at one place.
+use Rattle.std.proofs.Common.{◌∙◌, append_assoc, ◌≡◌, ◌≢◌, ◌⊎◌, inl, inr, ℕ, zero, suc, ◌+◌, ◌≤◌, ◌<◌, Bool, true, false, cond, eqb, not, ◌&&◌, ◌||◌, List, [], ◌∷◌, ◌++◌, length, Option, Some, None, refl, sym, ap, ap₂, subst, arith, length-append, true≢false}
 use Rattle.std.proofs.lemmas.Bool.Decides.{eqb_tells, leb_tells, nat_tests}
 use Rattle.iss_base.specs.Lists.{In, Different, Extends, oldest, Chain, first_of, nth, over, same_bytes, set_at, set_at2}
 
@@ -39,6 +39,24 @@ pub neither : (a b : Bool) → a ≡ false → b ≡ false → (a || b) ≡ fals
 neither false b p q = q
 neither true b p q = absurd (true≢false p)
 
+pub or-flip : (a b : Bool) → (a || b) ≡ (b || a)
+or-flip true true = refl
+or-flip true false = refl
+or-flip false true = refl
+or-flip false false = refl
+
+pub or-alone : (a : Bool) → (a || false) ≡ a
+or-alone true = refl
+or-alone false = refl
+
+pub or-assoc : (a b c : Bool) → (a || (b || c)) ≡ ((a || b) || c)
+or-assoc true b c = refl
+or-assoc false b c = refl
+
+pub or-cases : (a b : Bool) → (a || b) ≡ true → (a ≡ true) ⊎ (b ≡ true)
+or-cases true b h = inl refl
+or-cases false b h = inr h
+
 pub not-false : (a : Bool) → not a ≡ false → a ≡ true
 not-false true h = refl
 not-false false h = absurd (true≢false h)
@@ -49,6 +67,9 @@ not-true true h = absurd (true≢false (sym h))
 
 pub some-injective : {A : Type 0} (a b : A) → Some a ≡ Some b → a ≡ b
 some-injective a b h = cc
+
+pub none-some : {A : Type 0} (a : A) → None ≡ Some a → ⊥
+none-some a h = cc
 
 pub same_bytes-is : (a b : List ℕ) → same_bytes a b ≡ true → a ≡ b
 same_bytes-is [] [] h = refl
@@ -154,6 +175,10 @@ pub first-some : {A : Type 0} (a b c : Option A) (v : A) → c ≡ Some v → fi
 first-some None None c v h q = cc
 first-some None (Some x) c v h q = cc
 first-some (Some x) b c v h q = cc
+
+pub first_of-none : {A : Type 0} (o : Option A) → first_of o None ≡ o
+first_of-none None = refl
+first_of-none (Some x) = refl
 
 -- lists newest first: longer ones
 
@@ -280,3 +305,8 @@ pub nth-below : {A : Type 0} (xs : List A) (k : ℕ) (x : A) → nth xs k ≡ So
 nth-below [] k x h = absurd (cc)
 nth-below (y ∷ xs) zero x h = omega arith
 nth-below (y ∷ xs) (suc k) x h = omega (arith, nth-below xs k x h)
+
+pub nth-beyond : {A : Type 0} (xs : List A) (k : ℕ) → length xs ≤ k → nth xs k ≡ None
+nth-beyond [] k h = refl
+nth-beyond (x ∷ xs) zero h = absurd (omega arith)
+nth-beyond (x ∷ xs) (suc k) h = nth-beyond xs k (omega arith)

@@ -1,18 +1,11 @@
-use Rattle.std.proofs.Common.{◌≡◌, ⊎_elim, ℕ, zero, suc, ◌+◌, ◌<◌, Bool, true, false, cond, ◌&&◌, ◌||◌, not, eqb, List, [], ◌∷◌, ◌++◌, length, take, refl, sym, ap, ◌∙◌, subst, arith, Option, Some, None, is_some, slice_get, get_or}
-use Rattle.std.proofs.lemmas.Option.{same_Some}
+use Rattle.std.proofs.Common.{◌≡◌, ℕ, ◌+◌, ◌<◌, Bool, true, false, cond, ◌&&◌, ◌||◌, not, eqb, List, [], ◌∷◌, ◌++◌, length, take, refl, sym, ap, ◌∙◌, arith, get_or}
 use Rattle.std.proofs.lemmas.List.{take_more}
-use Rattle.std.proofs.lemmas.Map.Keys.{IsDistinct-head, IsDistinct-tail}
-use Rattle.std.specs.List.{remove, list_any, IsDistinct, AllByRecursion}
-use Rattle.std.specs.Map.{lookup, keys_of, values_of, remove_entry}
-use Rattle.iss_base.specs.Lists.{In, Different}
+use Rattle.std.specs.List.{list_any}
 use Rattle.iss_request.specs.Log.{same_id, has_id, ids}
 use Rattle.iss_request.specs.declared.ids.ReqId.{ReqId}
 use Rattle.iss_request.specs.declared.requests.Request.{Request}
 use Rattle.iss_layout.specs.Layout.{Plan, is_node, bucket_owner, bucket_of}
-use Rattle.iss_buckets.specs.Waiting.{waits, may_cast, cut, uncut, absent, AreKeyed}
-
-Entry : Type 0
-Entry = ReqId × Request
+use Rattle.iss_buckets.specs.Waiting.{may_cast, cut, uncut, absent}
 
 -- ---- identities
 
@@ -58,97 +51,7 @@ pub has_both : (id : ReqId) (xs ys : List ReqId) → has_id id (xs ++ ys) ≡ (h
 has_both id [] ys = refl
 has_both id (x ∷ xs) ys = ap (λ t. same_id id x || t) (has_both id xs ys) ∙ sym (or_assoc (same_id id x) (has_id id xs) (has_id id ys))
 
--- ---- entries under their identities
-
-pub lookup_waits : (id : ReqId) (es : List (ReqId × Request)) → AreKeyed es → is_some (lookup (λ k. same_id id k) es) ≡ waits id (values_of es)
-lookup_waits id [] h = refl
-lookup_waits id (e ∷ es) h =
-    subst (λ (k : ReqId). is_some (cond (same_id id k) (Some e.1) (lookup (λ k. same_id id k) es)) ≡ (same_id id e.1.id || waits id (values_of es))) (sym h.0)
-    (go (same_id id e.1.id) (lookup_waits id es h.1))
-  where
-    go : (b : Bool) → is_some (lookup (λ k. same_id id k) es) ≡ waits id (values_of es)
-        → is_some (cond b (Some e.1) (lookup (λ k. same_id id k) es)) ≡ (b || waits id (values_of es))
-    go true rest = refl
-    go false rest = rest
-
-pub none_of : (o : Option Request) → is_some o ≡ false → o ≡ None
-none_of None e = refl
-none_of (Some x) e = cc
-
-pub not_there : (id : ReqId) (es : List (ReqId × Request)) → AreKeyed es → waits id (values_of es) ≡ false → lookup (λ k. same_id id k) es ≡ None
-not_there id es keyed free = none_of (lookup (λ k. same_id id k) es) (lookup_waits id es keyed ∙ free)
-
-pub values_more : (es : List (ReqId × Request)) (k : ReqId) (q : Request) → values_of (es ++ (k, q) ∷ []) ≡ values_of es ++ q ∷ []
-values_more [] k q = refl
-values_more (e ∷ es) k q = ap (λ qs. e.1 ∷ qs) (values_more es k q)
-
-pub keyed_more : (es : List (ReqId × Request)) (q : Request) → AreKeyed es → AreKeyed (es ++ (q.id, q) ∷ [])
-keyed_more [] q h = (refl, tt)
-keyed_more (e ∷ es) q h = (h.0, keyed_more es q h.1)
-
-pub keyed_removed : (es : List (ReqId × Request)) (i : ℕ) → AreKeyed es → AreKeyed (remove es i)
-keyed_removed [] zero h = h
-keyed_removed [] (suc i) h = h
-keyed_removed (e ∷ es) zero h = h.1
-keyed_removed (e ∷ es) (suc i) h = (h.0, keyed_removed es i h.1)
-
-pub values_removed : (es : List (ReqId × Request)) (i : ℕ) → values_of (remove es i) ≡ remove (values_of es) i
-values_removed [] zero = refl
-values_removed [] (suc i) = refl
-values_removed (e ∷ es) zero = refl
-values_removed (e ∷ es) (suc i) = ap (λ qs. e.1 ∷ qs) (values_removed es i)
-
-pub value_at : (es : List (ReqId × Request)) (i : ℕ) (k : ReqId) (q : Request) → slice_get es i ≡ Some (k, q) → slice_get (values_of es) i ≡ Some q
-value_at [] i k q h = cc
-value_at (e ∷ es) zero k q h = ap (λ (x : ReqId × Request). Some x.1) (same_Some e (k, q) h)
-value_at (e ∷ es) (suc i) k q h = value_at es i k q h
-
--- ---- identities that are all different
-
-apart : (id : ReqId) (es : List (ReqId × Request)) → AreKeyed es → AllByRecursion (λ k. same_id id k ≡ false) (keys_of es) → In id (ids (values_of es)) → ⊥
-apart id [] h all there = there
-apart id (e ∷ es) h all there = ⊎_elim
-    (λ (same : id ≡ e.1.id).
-    let bad : true ≡ false = sym (same_self id) ∙ ap (λ k. same_id id k) (same ∙ sym h.0) ∙ all.0 in cc)
-    (λ (later : In id (ids (values_of es))). apart id es h.1 all.1 later)
-    there
-
-pub different : (es : List (ReqId × Request)) → AreKeyed es → IsDistinct (λ a b. same_id a b) (keys_of es) → Different (ids (values_of es))
-different [] h d = tt
-different (e ∷ es) h d = (
-  (λ there. apart e.0 es h.1 (IsDistinct-head (λ a b. same_id a b) e.0 (keys_of es) d) (subst (λ (k : ReqId). In k (ids (values_of es))) (sym h.0) there)),
-  different es h.1 (IsDistinct-tail (λ a b. same_id a b) e.0 (keys_of es) d),
-)
-
 -- ---- requests that are taken out by their identities
-
-test_same : (id : ReqId) (e : ReqId × Request) → e.0 ≡ e.1.id → (same_id e.1.id id || false) ≡ same_id id e.0
-test_same id e h = or_false (same_id e.1.id id) ∙ same_flip e.1.id id ∙ ap (λ k. same_id id k) (sym h)
-
-stay : (id : ReqId) (es : List (ReqId × Request)) → AreKeyed es → AllByRecursion (λ k. same_id id k ≡ false) (keys_of es) → absent (id ∷ []) (values_of es) ≡ values_of es
-stay id [] h all = refl
-stay id (e ∷ es) h all = rw (test_same id e h.0 ∙ all.0) (ap (λ qs. e.1 ∷ qs) (stay id es h.1 all.1))
-
-pub removed_one : (id : ReqId) (es : List (ReqId × Request)) → AreKeyed es → IsDistinct (λ a b. same_id a b) (keys_of es)
-    → values_of (remove_entry (λ k. same_id id k) es) ≡ absent (id ∷ []) (values_of es)
-removed_one id [] h d = refl
-removed_one id (e ∷ es) h d =
-    rw (test_same id e h.0) (go (same_id id e.0) refl (removed_one id es h.1 (IsDistinct-tail (λ a b. same_id a b) e.0 (keys_of es) d)))
-  where
-    go : (b : Bool) → same_id id e.0 ≡ b → values_of (remove_entry (λ k. same_id id k) es) ≡ absent (id ∷ []) (values_of es)
-        → values_of (cond b es (e ∷ remove_entry (λ k. same_id id k) es)) ≡ cond b (absent (id ∷ []) (values_of es)) (e.1 ∷ absent (id ∷ []) (values_of es))
-    go true is rest =
-        let here = same_means id e.0 is in
-        sym (stay id es h.1 (subst (λ (x : ReqId). AllByRecursion (λ k. same_id x k ≡ false) (keys_of es)) (sym here) (IsDistinct-head (λ a b. same_id a b) e.0 (keys_of es) d)))
-    go false is rest = ap (λ qs. e.1 ∷ qs) rest
-
-pub keyed_without : (id : ReqId) (es : List (ReqId × Request)) → AreKeyed es → AreKeyed (remove_entry (λ k. same_id id k) es)
-keyed_without id [] h = h
-keyed_without id (e ∷ es) h = go (same_id id e.0) (keyed_without id es h.1)
-  where
-    go : (b : Bool) → AreKeyed (remove_entry (λ k. same_id id k) es) → AreKeyed (cond b es (e ∷ remove_entry (λ k. same_id id k) es))
-    go true rest = h.1
-    go false rest = (h.0, rest)
 
 pub ids_more : (qs : List Request) (q : Request) → ids (qs ++ q ∷ []) ≡ ids qs ++ q.id ∷ []
 ids_more [] q = refl

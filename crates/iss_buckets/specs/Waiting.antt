@@ -33,8 +33,3 @@ absent gone (q ∷ qs) = cond (has_id q.id gone) (absent gone qs) (q ∷ absent 
 abbrev pub AreNew : List Request → List Request → Type 0
 AreNew waiting [] = Unit {0}
 AreNew waiting (q ∷ qs) = (waits q.id waiting ≡ false) × AreNew (waiting ++ q ∷ []) qs
-
--- each request stands under its own identity
-abbrev pub AreKeyed : List (ReqId × Request) → Type 0
-AreKeyed [] = Unit {0}
-AreKeyed (e ∷ es) = (e.0 ≡ e.1.id) × AreKeyed es

@@ -3,6 +3,8 @@
 #![tactic(auto)]
 
 pub mod pending;
+mod queues;
+mod shelf;
 #[cfg(test)]
 mod tests;
 

@@ -1,14 +1,17 @@
 //! The waiting requests.
-ghost use Rattle.std.specs.Prelude.{◌≡◌, ◌≤◌, ◌++◌, ◌∷◌, [], ◌↔◌, Ok, true, false, length, IfOk, OnOk, OnErr, vec_capacity};
-ghost use Rattle.std.specs.Map.{values_of};
+ghost use Rattle.std.specs.Prelude.{◌≡◌, ◌<◌, ◌≤◌, ◌++◌, ◌∷◌, [], ◌↔◌, ◌⊎◌, ◌+◌, Ok, ℕ, true, false, length, is_some, if◌then◌else◌, IfOk, IfSome, IfNone, OnOk, OnErr, vec_capacity};
+ghost use Rattle.std.specs.Map.{remove_entry, values_of};
+ghost use Rattle.std.specs.Ordering.{is_eq, nat_cmp};
 ghost use Rattle.iss_base.specs.Lists.{Different};
 ghost use Rattle.iss_request.specs.Log.{has_id, ids};
 ghost use Rattle.iss_request.specs.declared.ids.ReqId.{ReqId};
-ghost use Rattle.iss_buckets.specs.Waiting.{waits, may_cast, cut, uncut, absent, AreNew, AreKeyed};
+ghost use Rattle.iss_buckets.specs.Filed.{AreFiled, AreQueued, IsNext, IsSetAt, bucket_of_id, is_unmarked_in, kept_at, least_of, number_of};
+ghost use Rattle.iss_buckets.specs.Waiting.{waits, may_cast, cut, uncut, absent, AreNew};
 
-use indexmap::IndexMap;
+use crate::queues::{Queues, bucket_of};
+use crate::shelf::Shelf;
 use iss_layout::Layout;
-use iss_request::{Batch, NoMemory, NodeId, ReqId, Request};
+use iss_request::{Batch, NoMemory, NodeId, ReqId, Request, Row};
 use std::alloc::Global;
 use std::collections::HashSet;
 use std::marker::Model;
@@ -23,20 +26,22 @@ pub enum Added {
 /// The waiting requests in the order of arrival, no identity twice.
 #[derive(Drop)]
 pub struct Pending {
-    requests: IndexMap<ReqId, Request>,
+    shelf: Shelf,
+    // made when a batch is first cut, for as many buckets as the layout has then
+    queues: Queues,
 }
 
 impl Model for Pending {
     ghost use Rattle.std.specs.Prelude.{List};
     ghost use Rattle.std.specs.Map.{values_of};
     ghost use Rattle.iss_request.specs.declared.requests.Request.{Request};
-    ghost use Rattle.iss_buckets.specs.Waiting.{AreKeyed};
+    ghost use Rattle.iss_buckets.specs.Filed.{AreFiled, AreQueued};
 
     ghost Value = { List Request };
 
-    ghost view = { λ p. values_of p.requests.entries };
+    ghost view = { λ p. values_of p.shelf };
 
-    ghost invariant = { λ p. AreKeyed p.requests.entries };
+    ghost invariant = { λ p. AreFiled 0 p.shelf × AreQueued p.shelf p.queues };
 }
 
 impl Pending {
@@ -45,7 +50,8 @@ impl Pending {
         ensures { result ≡ [] }
     {
         Pending {
-            requests: IndexMap::new(alloc),
+            shelf: Shelf::new(alloc),
+            queues: Queues::none(alloc),
         }
     }
 
@@ -53,7 +59,7 @@ impl Pending {
     pub fn has(&self, id: ReqId) -> bool
         ensures { result ≡ waits id self.now }
     {
-        self.requests.contains_key(&id)
+        self.shelf.number_of(id).is_some()
     }
 
     /// Puts a request at the end, unless its identity waits already.
@@ -66,7 +72,7 @@ impl Pending {
         if self.has(request.id) {
             return Ok(Added::Known);
         }
-        push_new(&mut self.requests, request)?;
+        file(&mut self.shelf, &mut self.queues, request)?;
         Ok(Added::Added)
     }
 
@@ -86,7 +92,21 @@ impl Pending {
     {
         let marks = marks_of(alloc, marked)?;
         let mut out = Vec::with_capacity(alloc, max)?;
-        cut_from(&mut self.requests, layout, owner, &marks, max, &mut out);
+        prepare(
+            alloc,
+            &self.shelf,
+            &mut self.queues,
+            layout.buckets() as usize,
+        )?;
+        cut_from(
+            &mut self.shelf,
+            &mut self.queues,
+            layout,
+            owner,
+            &marks,
+            max,
+            &mut out,
+        );
         Ok(Batch::of(out))
     }
 
@@ -95,67 +115,151 @@ impl Pending {
         requires { AreNew self.old batch.now }
         ensures { OnOk result (self.new ≡ self.old ++ batch.now) }
     {
-        copy_all(&mut self.requests, batch.as_slice())
+        file_all(&mut self.shelf, &mut self.queues, batch.as_slice())
     }
 
     /// Takes out the requests that have an identity of the batch.
     pub fn drop_ordered(&mut self, batch: &Batch)
         ensures { self.new ≡ absent (ids batch.now) self.old }
     {
-        drop_all(&mut self.requests, batch.as_slice());
+        drop_all(&mut self.shelf, &mut self.queues, batch.as_slice());
     }
 
-    /// The requests that wait, in the order of arrival.
-    pub fn waiting(&self) -> &[Request]
-        ensures waiting { result.now ≡ self.now }
+    /// The identities that wait, in the order of arrival.
+    pub fn waiting(&self, alloc: Global) -> Result<Row<ReqId>, NoMemory>
+        ensures waiting { IfOk result (λ is. is ≡ ids self.now) }
         ensures different { Different (ids self.now) }
     {
-        self.requests.as_slice().values().as_slice()
+        Ok(Row::of(self.shelf.identities(alloc)?))
     }
 }
 
-// Puts a request that does not wait at the end.
-fn push_new(requests: &mut IndexMap<ReqId, Request>, request: Request) -> Result<(), NoMemory>
-    requires keyed { AreKeyed requests.old.entries }
-    requires new { waits request.id (values_of requests.old.entries) ≡ false }
-    ensures ok { OnOk result (values_of requests.new.entries ≡ values_of requests.old.entries ++ request ∷ []) }
-    ensures err { OnErr result (requests.new.entries ≡ requests.old.entries) }
-    ensures keyed { AreKeyed requests.new.entries }
+// Puts a request that does not wait at the end. Where its queue wants memory, the queues are given up: the next cut
+// makes them anew.
+fn file(shelf: &mut Shelf, queues: &mut Queues, request: Request) -> Result<(), NoMemory>
+    requires filed { AreFiled 0 shelf.old }
+    requires queued { AreQueued shelf.old queues.old }
+    requires new { waits request.id (values_of shelf.old) ≡ false }
+    ensures ok { OnOk result (values_of shelf.new ≡ values_of shelf.old ++ request ∷ []) }
+    ensures err { OnErr result (shelf.new ≡ shelf.old) }
+    ensures filed { AreFiled 0 shelf.new }
+    ensures queued { AreQueued shelf.new queues.new }
 {
-    requests.insert(request.id, request)?;
+    let id = request.id;
+    let number = shelf.push(request)?;
+    note(queues, id, number);
     Ok(())
 }
 
-fn copy_all(requests: &mut IndexMap<ReqId, Request>, batch: &[Request]) -> Result<(), NoMemory>
-    requires keyed { AreKeyed requests.old.entries }
-    requires new { AreNew (values_of requests.old.entries) batch.now }
-    ensures ok { OnOk result (values_of requests.new.entries ≡ values_of requests.old.entries ++ batch.now) }
-    ensures keyed { AreKeyed requests.new.entries }
+// Puts a number in the queue of its bucket, or gives up all queues.
+fn note(queues: &mut Queues, id: ReqId, number: u64)
+    ensures { (queues.new ≡ []) ⊎ IsSetAt queues.old queues.new (bucket_of_id (length queues.old) id) number true }
+{
+    let count = queues.count();
+    if count == 0 {
+        queues.clear();
+        return;
+    }
+    match queues.add(bucket_of(id, count), number) {
+        Ok(()) => {}
+        Err(_) => queues.clear(),
+    }
+}
+
+// Takes a number out of the queue of its bucket.
+fn forget(queues: &mut Queues, id: ReqId, number: u64)
+    ensures count { length queues.new ≡ length queues.old }
+    ensures set { 1 ≤ length queues.old → IsSetAt queues.old queues.new (bucket_of_id (length queues.old) id) number false }
+{
+    let count = queues.count();
+    if count == 0 {
+        return;
+    }
+    queues.remove(bucket_of(id, count), number);
+}
+
+// There are queues for so many buckets from now on.
+fn prepare(
+    alloc: Global,
+    shelf: &Shelf,
+    queues: &mut Queues,
+    buckets: usize,
+) -> Result<(), NoMemory>
+    requires some { 1 ≤ buckets }
+    requires queued { AreQueued shelf.now queues.old }
+    ensures count { OnOk result (length queues.new ≡ buckets) }
+    ensures queued { AreQueued shelf.now queues.new }
+{
+    if queues.count() == buckets {
+        return Ok(());
+    }
+    *queues = queued(alloc, shelf, buckets)?;
+    Ok(())
+}
+
+// The queues of so many buckets.
+fn queued(alloc: Global, shelf: &Shelf, buckets: usize) -> Result<Queues, NoMemory>
+    requires { 1 ≤ buckets }
+    ensures count { IfOk result (λ queues. length queues ≡ buckets) }
+    ensures queued { IfOk result (λ queues. AreQueued shelf.now queues) }
+{
+    let mut queues = Queues::empty(alloc, buckets)?;
+    shelf.file_in(&mut queues)?;
+    Ok(queues)
+}
+
+fn file_all(shelf: &mut Shelf, queues: &mut Queues, batch: &[Request]) -> Result<(), NoMemory>
+    requires filed { AreFiled 0 shelf.old }
+    requires queued { AreQueued shelf.old queues.old }
+    requires new { AreNew (values_of shelf.old) batch.now }
+    ensures ok { OnOk result (values_of shelf.new ≡ values_of shelf.old ++ batch.now) }
+    ensures filed { AreFiled 0 shelf.new }
+    ensures queued { AreQueued shelf.new queues.new }
 {
     for request in batch {
-        push_new(requests, request.copy()?)?;
+        file(shelf, queues, request.copy()?)?;
     }
     Ok(())
 }
 
-fn drop_all(requests: &mut IndexMap<ReqId, Request>, batch: &[Request])
-    requires { AreKeyed requests.old.entries }
-    ensures gone { values_of requests.new.entries ≡ absent (ids batch.now) (values_of requests.old.entries) }
-    ensures keyed { AreKeyed requests.new.entries }
+fn drop_all(shelf: &mut Shelf, queues: &mut Queues, batch: &[Request])
+    requires filed { AreFiled 0 shelf.old }
+    requires queued { AreQueued shelf.old queues.old }
+    ensures gone { values_of shelf.new ≡ absent (ids batch.now) (values_of shelf.old) }
+    ensures filed { AreFiled 0 shelf.new }
+    ensures queued { AreQueued shelf.new queues.new }
 {
     for request in batch {
-        drop_one(requests, request.id);
+        drop_one(shelf, queues, request.id);
     }
 }
 
-fn drop_one(requests: &mut IndexMap<ReqId, Request>, id: ReqId)
-    requires { AreKeyed requests.old.entries }
-    ensures gone { values_of requests.new.entries ≡ absent (id ∷ []) (values_of requests.old.entries) }
-    ensures keyed { AreKeyed requests.new.entries }
+fn drop_one(shelf: &mut Shelf, queues: &mut Queues, id: ReqId)
+    requires filed { AreFiled 0 shelf.old }
+    requires queued { AreQueued shelf.old queues.old }
+    ensures gone { values_of shelf.new ≡ absent (id ∷ []) (values_of shelf.old) }
+    ensures filed { AreFiled 0 shelf.new }
+    ensures queued { AreQueued shelf.new queues.new }
 {
-    // no key stands twice
-    let _count = requests.len();
-    let _gone = requests.shift_remove(&id);
+    if let Some(number) = shelf.number_of(id) {
+        let _gone = take_out(shelf, queues, number);
+    }
+}
+
+// Takes out the request under a number.
+fn take_out(shelf: &mut Shelf, queues: &mut Queues, number: u64) -> Option<Request>
+    requires filed { AreFiled 0 shelf.old }
+    requires queued { AreQueued shelf.old queues.old }
+    ensures value { result ≡ kept_at shelf.old number }
+    ensures left { shelf.new ≡ remove_entry (λ j. is_eq (nat_cmp number j)) shelf.old }
+    ensures fewer { length shelf.new + (if is_some result then 1 else 0) ≡ length shelf.old }
+    ensures count { length queues.new ≡ length queues.old }
+    ensures filed { AreFiled 0 shelf.new }
+    ensures queued { AreQueued shelf.new queues.new }
+{
+    let request = shelf.remove(number)?;
+    forget(queues, request.id, number);
+    Some(request)
 }
 
 fn marks_of(alloc: Global, marked: &[ReqId]) -> Result<HashSet<ReqId>, NoMemory>
@@ -168,41 +272,97 @@ fn marks_of(alloc: Global, marked: &[ReqId]) -> Result<HashSet<ReqId>, NoMemory>
     Ok(marks)
 }
 
-fn may_be_cast(layout: &Layout, owner: NodeId, marks: &HashSet<ReqId>, request: &Request) -> bool
-    ensures { result ≡ may_cast layout.now owner.0 marks.now.keys request.now }
-{
-    let id = request.id;
-    layout.owner_of(layout.bucket_of(id)) == owner && !marks.contains(&id)
-}
-
 fn cut_from(
-    requests: &mut IndexMap<ReqId, Request>,
+    shelf: &mut Shelf,
+    queues: &mut Queues,
     layout: &Layout,
     owner: NodeId,
     marks: &HashSet<ReqId>,
     max: usize,
     out: &mut Vec<Request>,
 )
-    requires keyed { AreKeyed requests.old.entries }
+    requires filed { AreFiled 0 shelf.old }
+    requires queued { AreQueued shelf.old queues.old }
+    requires count { length queues.old ≡ layout.now.buckets }
     requires empty { out.old.items ≡ [] }
     requires room { max ≤ vec_capacity out.old }
-    ensures taken { out.new.items ≡ cut max (may_cast layout.now owner.0 marks.now.keys) (values_of requests.old.entries) }
-    ensures left { values_of requests.new.entries ≡ uncut max (may_cast layout.now owner.0 marks.now.keys) (values_of requests.old.entries) }
-    ensures keyed { AreKeyed requests.new.entries }
+    ensures taken { out.new.items ≡ cut max (may_cast layout.now owner.0 marks.now.keys) (values_of shelf.old) }
+    ensures left { values_of shelf.new ≡ uncut max (may_cast layout.now owner.0 marks.now.keys) (values_of shelf.old) }
+    ensures filed { AreFiled 0 shelf.new }
+    ensures queued { AreQueued shelf.new queues.new }
 {
-    let mut i = 0;
-    'scan: while out.len() < max && i < requests.len() {
-        let Some((_, request)) = requests.get_index(i) else {
-            unreachable!();
+    let mut from = 0;
+    'scan: while out.len() < max {
+        let Some(number) = next_castable(shelf, queues, layout, owner, marks, from) else {
+            break;
         };
-        if may_be_cast(layout, owner, marks, request) {
-            if let Some((_, request)) = requests.shift_remove_index(i) {
-                if out.push(request).is_err() {
-                    unreachable!();
-                }
+        if let Some(request) = take_out(shelf, queues, number) {
+            if out.push(request).is_err() {
+                unreachable!();
             }
-        } else {
-            i += 1;
+        }
+        from = number;
+    }
+}
+
+// The next request, from a number on, that the owner may cast.
+fn next_castable(
+    shelf: &Shelf,
+    queues: &Queues,
+    layout: &Layout,
+    owner: NodeId,
+    marks: &HashSet<ReqId>,
+    from: u64,
+) -> Option<u64>
+    requires filed { AreFiled 0 shelf.now }
+    requires queued { AreQueued shelf.now queues.now }
+    requires count { length queues.now ≡ layout.now.buckets }
+    ensures { IsNext (may_cast layout.now owner.0 marks.now.keys) shelf.now from result }
+{
+    let mut first = None;
+    for bucket in 0..layout.buckets() {
+        if layout.owner_of(bucket) == owner {
+            first = least(
+                first,
+                next_unmarked(shelf, queues, marks, bucket as usize, from),
+            );
         }
     }
+    first
+}
+
+fn least(a: Option<u64>, b: Option<u64>) -> Option<u64>
+    ensures { result ≡ least_of a b }
+{
+    match (a, b) {
+        (Some(x), Some(y)) => Some(if x <= y { x } else { y }),
+        (Some(x), None) => Some(x),
+        (None, b) => b,
+    }
+}
+
+// The next request of a bucket, from a number on, that is not marked.
+fn next_unmarked(
+    shelf: &Shelf,
+    queues: &Queues,
+    marks: &HashSet<ReqId>,
+    bucket: usize,
+    from: u64,
+) -> Option<u64>
+    requires filed { AreFiled 0 shelf.now }
+    requires queued { AreQueued shelf.now queues.now }
+    requires bucket { bucket < length queues.now }
+    ensures { IsNext (is_unmarked_in (length queues.now) bucket marks.now.keys) shelf.now from result }
+{
+    let mut at = from;
+    'run: while let Some(number) = queues.next_from(bucket, at) {
+        let Some(request) = shelf.get(number) else {
+            unreachable!();
+        };
+        if !marks.contains(&request.id) {
+            return Some(number);
+        }
+        at = number + 1;
+    }
+    None
 }

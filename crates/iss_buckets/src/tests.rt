@@ -52,9 +52,9 @@ fn a_batch_is_cut(rt: HostRuntime) -> Result<(), Fail> {
     assert!(rt; batch.as_slice()[0].id == id(3));
     assert!(rt; !pending.has(id(6)));
     assert!(rt; pending.has(id(0)));
-    assert_eq!(rt; pending.waiting().len(), 2);
+    assert_eq!(rt; pending.waiting(alloc)?.len(), 2);
     pending.drop_ordered(&batch);
-    assert_eq!(rt; pending.waiting().len(), 2);
+    assert_eq!(rt; pending.waiting(alloc)?.len(), 2);
     Ok(())
 }
 

@@ -1,9 +1,6 @@
 -- What the calls of sources and sinks do. Of a source or a sink that tells nothing of its bytes, nothing is said.
-use Rattle.std.specs.Prelude.{◌≡◌, ◌⊎◌, ℕ, ◌-◌, ◌^◌, ◌<◌, ◌≤◌, Option, None, Some, List, [], ◌++◌, length, take, drop}
-
--- a count rose, or stands at its last value
-abbrev pub Rose : ℕ → ℕ → Type 0
-Rose before now = (before < now) ⊎ (now ≡ 2 ^ 64 - 1)
+use Rattle.std.specs.Prelude.{◌≡◌, ◌⊎◌, ℕ, ◌≤◌, Option, None, Some, List, [], ◌++◌, length, take, drop}
+pub use Rattle.iss_base.specs.Counts.{Rose}
 
 -- A failure has a cause, which was counted; the count never falls, and where nothing failed it is as before.
 pub record HasCause (before now : ℕ) (failed : Type 0) : Type 0 where

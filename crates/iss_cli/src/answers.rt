@@ -2,13 +2,17 @@
 ghost use Rattle.std.specs.Prelude.{◌≡◌, ◌↔◌, IsTrue, IfOk, map, string_bytes, codes};
 ghost use Rattle.iss_cli.specs.Answers.{AskReplay, IsAnswer, refused_words, refused_line, reported, why_word};
 ghost use Rattle.iss_schedule.specs.Events.{AreInRange};
-ghost use Rattle.iss_schedule.specs.Schedules.{IsRelay};
+ghost use Rattle.iss_cli.specs.Reports.{text_under};
+ghost use Rattle.iss_model.specs.Runs.{IsSetupOf};
+ghost use Rattle.iss_schedule.specs.Schedules.{IsKnown};
 
 use crate::status::Status;
 use iss_replay::{replay, text};
 use iss_report::words::{put_number, put_text};
 use iss_request::{Bytes, NoMemory};
+use iss_sb::Sequenced;
 use iss_schedule::{ReadError, Schedule, Why, read};
+use sb_raft::Raft;
 use sb_relay::Relay;
 use std::alloc::Global;
 
@@ -58,13 +62,26 @@ pub fn respond(alloc: Global, bytes: &[u8]) -> Result<Answer, NoMemory>
     }
 }
 
-// The report of a schedule's run.
+// The report of a schedule's run under its module.
 fn report(alloc: Global, schedule: &Schedule) -> Result<Answer, NoMemory>
-    requires relay { IsRelay schedule.now.setup }
+    requires known { IsKnown schedule.now.setup }
     requires range { AreInRange schedule.now.setup schedule.now.events }
     ensures { IfOk result (λ answer. answer ≡ reported schedule.now) }
 {
-    let report = replay::<Relay>(alloc, schedule)?;
+    match schedule.setup.module {
+        2 => report_under::<Raft>(alloc, schedule),
+        _ => report_under::<Relay>(alloc, schedule),
+    }
+}
+
+// The report of its run under this module.
+fn report_under<M: Sequenced>(alloc: Global, schedule: &Schedule) -> Result<Answer, NoMemory>
+    requires good { IsSetupOf M.meaning schedule.now.setup }
+    requires range { AreInRange schedule.now.setup schedule.now.events }
+    ensures printed { IfOk result (λ answer. answer.printed ≡ text_under M.meaning schedule.now) }
+    ensures done { IfOk result (λ answer. answer.status ≡ Status.Done) }
+{
+    let report = replay::<M>(alloc, schedule)?;
     Ok(Answer {
         printed: text(alloc, &report)?,
         status: Status::Done,

@@ -1,5 +1,6 @@
 -- What the calls of a disk have in common.
-use Rattle.std.specs.Prelude.{◌≡◌, ◌≢◌, ◌⊎◌, ℕ, zero, suc, ◌+◌, ◌-◌, ◌^◌, ◌<◌, ◌≤◌, Bool, true, false, Option, None, Some, List, [], ◌∷◌, ◌++◌}
+use Rattle.std.specs.Prelude.{◌≡◌, ◌≢◌, ◌⊎◌, ℕ, zero, suc, ◌+◌, ◌≤◌, Bool, true, false, Option, None, Some, List, [], ◌∷◌, ◌++◌}
+pub use Rattle.iss_base.specs.Counts.{Rose}
 use Rattle.iss_disk.specs.File.{File, Image, restarted}
 
 -- each of these states
@@ -40,10 +41,6 @@ pub record StaysHere (name_before name_now : List ℕ) (before now : List ℕ �
 pub record Stays (name_before name_now : List ℕ) (before now : List ℕ → List File) : Type 0 where
   pub name : name_now ≡ name_before
   pub all : (name : List ℕ) → now name ≡ before name
-
--- a count rose, or stands at its last value
-abbrev pub Rose : ℕ → ℕ → Type 0
-Rose before now = (before < now) ⊎ (now ≡ 2 ^ 64 - 1)
 
 -- a failure has a cause in the disk, whose count of faults never falls
 pub record HasCause (before now : ℕ) (failed : Type 0) : Type 0 where

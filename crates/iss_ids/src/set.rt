@@ -1,6 +1,7 @@
 //! The set.
-ghost use Rattle.std.specs.Prelude.{◌≡◌, ℕ, [], take, OnOk, OnErr};
-ghost use Rattle.iss_request.specs.Log.{has_id};
+ghost use Rattle.std.specs.Prelude.{◌≡◌, ◌&&◌, ℕ, [], not, take, OnOk, OnErr};
+ghost use Rattle.iss_request.specs.Log.{has_id, ids, same_id};
+ghost use Rattle.iss_request.specs.declared.ids.ReqId.{ReqId};
 ghost use Rattle.iss_ids.specs.Set.{and_id, and_ids};
 
 use indexmap::IndexSet;
@@ -65,5 +66,21 @@ impl Ids {
             self.add(request.id)?;
         }
         Ok(())
+    }
+
+    /// Takes the identities of these requests out.
+    pub fn drop_all(&mut self, requests: &[Request])
+        ensures { (x : ReqId) → has_id x self.new ≡ (has_id x self.old && not (has_id x (ids requests.now))) }
+    {
+        for request in requests {
+            self.remove(request.id);
+        }
+    }
+
+    // Takes one identity out.
+    fn remove(&mut self, id: ReqId)
+        ensures { (x : ReqId) → has_id x self.new ≡ (has_id x self.old && not (same_id x id)) }
+    {
+        let _gone = self.all.swap_remove(&id);
     }
 }

@@ -43,7 +43,8 @@ pub(crate) fn load<D: Disk>(alloc: Global, disk: &mut D) -> Result<Entries, Atta
     requires bytes { 1 ≤ (D.room disk.old).bytes }
     ensures entries { IfOk result (λ entries. IfTold (D.history disk.old) (λ file. Reads file.content (holds (entries_in entries)))) }
     ensures rests { IfOk result (λ entries. IfTold (D.history disk.new) (RestsOn (entries_in entries))) }
-    ensures file { IfOk result (λ entries. IfTold (D.history disk.old) (λ before. IfTold (D.history disk.new) (ComesToRest (entries_in entries) before.content))) }
+    ensures file { IfOk result (λ entries. IfTold (D.history disk.old)
+        (λ before. IfTold (D.history disk.new) (ComesToRest (entries_in entries) before.content))) }
     ensures damaged { (at : ℕ) → IsErrOf result (AttachError.Damaged at) → IfTold (D.history disk.old) (λ file. Reads file.content (damaged at)) }
     ensures any_moment { LeavesReading (D.history disk.old) (D.history disk.new) }
     ensures others { StaysHere (D.current disk.old) (D.current disk.new) (D.files disk.old) (D.files disk.new) }

@@ -16,7 +16,8 @@ pub(crate) fn cut_tail<D: Disk>(disk: &mut D, entries: &Entries) -> Result<(), F
     requires calls { 2 ≤ (D.room disk.old).calls }
     ensures any_moment { LeavesOnly (λ bytes. Reads bytes (holds (entries_in entries.now))) (D.history disk.old) (D.history disk.new) }
     ensures rests { OnOk result (IfTold (D.history disk.new) (RestsOn (entries_in entries.now))) }
-    ensures file { OnOk result (IfTold (D.history disk.new) (λ file. file ≡ settled (take (length (frames (entries_in entries.now)) + 1) entries.now.bytes.items))) }
+    ensures file { OnOk result (IfTold (D.history disk.new)
+        (λ file. file ≡ settled (take (length (frames (entries_in entries.now)) + 1) entries.now.bytes.items))) }
     ensures others { StaysHere (D.current disk.old) (D.current disk.new) (D.files disk.old) (D.files disk.new) }
     ensures cause { HasCause (D.faults disk.old) (D.faults disk.new) (IsErr result) }
     ensures works { Works (D.passes disk.old) (D.passes disk.new) (IsErr result) }

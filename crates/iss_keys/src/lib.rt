@@ -20,8 +20,6 @@ pub mod laws;
 mod marks;
 mod shared;
 mod signing;
-#[cfg(test)]
-mod tests;
 mod tree;
 mod verification;
 

@@ -12,7 +12,7 @@ use Rattle.iss_request.specs.declared.requests.Value.{Value}
 use Rattle.iss_request.specs.declared.setups.Kind.{Kind}
 use Rattle.iss_request.specs.declared.setups.Kind.TheVariants.{Byzantine, Stopping}
 use Rattle.iss_request.specs.declared.setups.Setup.{Setup}
-use Rattle.iss_layout.specs.Layout.{Plan, node, nodes_below, plan_of, leads, home, at_turn, slot_leader, is_node, is_slot_of_leader, slots_from, first_slot, segment, IsSlotOf, IsGoodPlan, HasOneLeader, HasOwner, IsFair}
+use Rattle.iss_layout.specs.Layout.{Conduct, Plan, conduct_of, epochs, leaders_by, may_lead, node, nodes_below, or_else, plan_by, plan_of, leads, home, at_turn, slot_leader, is_node, is_slot_of_leader, slots_from, first_slot, segment, IsSlotOf, IsGoodPlan, HasOneLeader, HasOwner, IsFair}
 
 pub eqb_means : (a b : ℕ) → eqb a b ≡ true → a ≡ b
 eqb_means a b h = grind arith
@@ -21,6 +21,14 @@ pub eqb_of : (a b : ℕ) → a ≡ b → eqb a b ≡ true
 eqb_of a b h = grind arith
 
 -- ---- good set-ups give good plans
+
+filter_shorter : {X : Type 0} (p : X → Bool) (xs : List X) → length (filter p xs) ≤ length xs
+filter_shorter p [] = omega arith
+filter_shorter {X} p (y ∷ xs) = go (p y) (filter_shorter p xs)
+  where
+    go : (b : Bool) → length (filter p xs) ≤ length xs → length (cond b (y ∷ filter p xs) (filter p xs)) ≤ suc (length xs)
+    go true le = omega arith
+    go false le = omega arith
 
 few_of_kind : (k : Kind) (f : ℕ) → f ≤ 3 → (1 ≤ nodes_of_kind k f) × (nodes_of_kind k f ≤ 10)
 few_of_kind Byzantine f h = (omega arith, omega arith)
@@ -45,21 +53,55 @@ pub rising_below : (n : ℕ) → AreRising 0 n (nodes_below n)
 rising_below zero = tt
 rising_below (suc n) = rising_more 0 n (nodes_below n) (rising_below n) (omega arith)
 
-pub good_plan : (s : Setup) (e start : ℕ) (log : List Value) → IsGoodSetup s → start + s.epoch ≤ 2 ^ 64 → IsGoodPlan (plan_of s e start log)
-good_plan s e start log good fits =
-    let few = few_nodes s good in
+rising_lower : (from low n : ℕ) (xs : List NodeId) → low ≤ from → AreRising from n xs → AreRising low n xs
+rising_lower from low n [] le h = tt
+rising_lower from low n (x ∷ xs) le h = let first = h.0 in (omega arith, h.1, h.2)
+
+rising_filter : (p : NodeId → Bool) (from n : ℕ) (xs : List NodeId) → AreRising from n xs → AreRising from n (filter p xs)
+rising_filter p from n [] h = tt
+rising_filter p from n (x ∷ xs) h = go (p x) (rising_filter p (suc x.0) n xs h.2)
+  where
+    go : (b : Bool) → AreRising (suc x.0) n (filter p xs) → AreRising from n (cond b (x ∷ filter p xs) (filter p xs))
+    go true rest = (h.0, h.1, rest)
+    go false rest = let first = h.0 in let le : from ≤ suc x.0 = omega arith in rising_lower (suc x.0) from n (filter p xs) le rest
+
+-- some lead, and no more than there are
+pub record AreLeaders (n : ℕ) (xs : List NodeId) : Type 0 where
+  pub rising : AreRising 0 n xs
+  pub some : 1 ≤ length xs
+  pub no_more : length xs ≤ n
+
+leaders_or : (n : ℕ) (xs all : List NodeId) → AreRising 0 n xs → length xs ≤ n → AreLeaders n all → AreLeaders n (or_else xs all)
+leaders_or n [] all rising few h = h
+leaders_or n (x ∷ xs) all rising few h = record { rising = rising; some = omega arith; no_more = few }
+
+pub good_leaders : (s : Setup) (c : ℕ → Conduct) → IsGoodSetup s → AreLeaders s.n (leaders_by s c)
+good_leaders s c good =
     let long = length_below s.n in
+    let nodes = few_nodes s good in
+    let shorter = filter_shorter (may_lead s.policy s c) (nodes_below s.n) in
+    leaders_or s.n (filter (may_lead s.policy s c) (nodes_below s.n)) (nodes_below s.n)
+    (rising_filter (may_lead s.policy s c) 0 s.n (nodes_below s.n) (rising_below s.n))
+    (omega (arith, long, shorter))
+    (record { rising = rising_below s.n; some = omega (arith, nodes.0, long); no_more = omega (arith, long) })
+
+pub good_plan_by : (s : Setup) (e start : ℕ) (c : ℕ → Conduct) → IsGoodSetup s → start + s.epoch ≤ 2 ^ 64 → IsGoodPlan (plan_by s e start c)
+good_plan_by s e start c good fits =
+    let lead = good_leaders s c good in
     record {
-      rising = rising_below s.n;
-      some = omega arith;
-      no_more = omega arith;
-      few_nodes = few.1;
+      rising = lead.rising;
+      some = lead.some;
+      no_more = lead.no_more;
+      few_nodes = (few_nodes s good).1;
       enough = good.epoch_low;
       few_slots = good.epoch_high;
       some_buckets = good.buckets_low;
       few_buckets = good.buckets_high;
       fits = fits;
     }
+
+pub good_plan : (s : Setup) (e start : ℕ) (log : List Value) → IsGoodSetup s → start + s.epoch ≤ 2 ^ 64 → IsGoodPlan (plan_of s e start log)
+good_plan s e start log good fits = good_plan_by s e start (conduct_of (epochs s e log)) good fits
 
 -- ---- lists
 
@@ -112,14 +154,6 @@ of_filter {X} p (y ∷ xs) x h = go (p y) refl h (λ later. of_filter p xs x lat
     go : (b : Bool) → p y ≡ b → In x (cond b (y ∷ filter p xs) (filter p xs)) → (In x (filter p xs) → In x xs × (p x ≡ true)) → In x (y ∷ xs) × (p x ≡ true)
     go true is k rest = ⊎_elim (λ (e : x ≡ y). (inl e, ap p e ∙ is)) (λ (later : In x (filter p xs)). (inr (rest later).0, (rest later).1)) k
     go false is k rest = (inr (rest k).0, (rest k).1)
-
-filter_shorter : {X : Type 0} (p : X → Bool) (xs : List X) → length (filter p xs) ≤ length xs
-filter_shorter p [] = omega arith
-filter_shorter {X} p (y ∷ xs) = go (p y) (filter_shorter p xs)
-  where
-    go : (b : Bool) → length (filter p xs) ≤ length xs → length (cond b (y ∷ filter p xs) (filter p xs)) ≤ suc (length xs)
-    go true le = omega arith
-    go false le = omega arith
 
 -- ---- the slots of an epoch
 

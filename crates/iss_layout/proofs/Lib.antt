@@ -1,3 +1,7 @@
 mod Examples
 pub mod FairLemmas
 pub mod LayoutLemmas
+mod ListedLemmas
+pub mod PastLemmas
+mod PolicyExamples
+pub mod StandingLemmas

@@ -1,14 +1,17 @@
 -- Which node leads which slots of an epoch, and which node owns which bucket of requests.
-use Rattle.std.specs.Prelude.{◌≡◌, ℕ, zero, suc, ◌+◌, ◌-◌, ◌%◌, ◌^◌, ◌<◌, ◌≤◌, ◌==◌}
-use Rattle.std.specs.Prelude.{Bool, false, List, [], ◌∷◌, ◌++◌, length, Option, Some, None, slice_get, if◌then◌else◌, ◌↔◌}
-use Rattle.std.specs.List.{filter, list_any}
+use Rattle.std.specs.Prelude.{◌≡◌, ℕ, zero, suc, ◌+◌, ◌-◌, ◌*◌, ◌%◌, ◌^◌, ◌<◌, ◌≤◌, ◌==◌, min, max, nat_lt, nat_le}
+use Rattle.std.specs.Prelude.{Bool, true, false, not, ◌&&◌, List, [], ◌∷◌, ◌++◌, length, Option, Some, None, get_or, slice_get, if◌then◌else◌, ◌↔◌}
+use Rattle.std.specs.List.{count_by, filter, list_any}
 use Rattle.iss_base.specs.Lists.{In}
+use Rattle.iss_request.specs.Formats.{is_batch}
 use Rattle.iss_request.specs.Setup.{AreRising}
 use Rattle.iss_request.specs.Slots.{AreAscending}
 use Rattle.iss_request.specs.declared.ids.NodeId.{NodeId}
 use Rattle.iss_request.specs.declared.ids.ReqId.{ReqId}
 use Rattle.iss_request.specs.declared.ids.Slot.{Slot}
 use Rattle.iss_request.specs.declared.requests.Value.{Value}
+use Rattle.iss_request.specs.declared.setups.Policy.{Policy}
+use Rattle.iss_request.specs.declared.setups.Policy.TheVariants.{Simple, Backoff, Blacklist}
 use Rattle.iss_request.specs.declared.setups.Setup.{Setup}
 
 -- what the division of an epoch depends on
@@ -30,15 +33,6 @@ node i = record { 0 = i }
 abbrev pub nodes_below : ℕ → List NodeId
 nodes_below zero = []
 nodes_below (suc n) = nodes_below n ++ node n ∷ []
-
--- who leads an epoch, given the log before it. The simple policy reads nothing of the log: all nodes lead
-abbrev pub leaders_of : Setup → ℕ → List Value → List NodeId
-leaders_of s e log = nodes_below s.n
-
--- the plan of an epoch that starts at a given slot
-abbrev pub plan_of : Setup → ℕ → ℕ → List Value → Plan
-plan_of s e start log =
-    record { epoch = e; start = start; nodes = s.n; slots = s.epoch; buckets = s.buckets; leaders = leaders_of s e log }
 
 -- the leader at turn k, where the leaders take turns in ascending order, round and round
 abbrev pub at_turn : List NodeId → ℕ → Option NodeId
@@ -84,6 +78,125 @@ is_slot_of_leader p i s = is_node i (slot_leader p s.0)
 -- a node's segment: the slots of the epoch that it leads, ascending
 abbrev pub segment : Plan → ℕ → List Slot
 segment p i = filter (is_slot_of_leader p i) (slots_from (first_slot p) p.slots)
+
+-- ---- who leads
+
+-- an epoch that has ended: how it was divided, and which of its slots became nil
+pub record Ended : Type 0 where
+  pub plan : Plan
+  pub nils : List Slot
+
+-- whether a slot of the epoch became nil under the node
+abbrev pub has_failed : Ended → ℕ → Bool
+has_failed x i = list_any (is_slot_of_leader x.plan i) x.nils
+
+-- what follows reads the epochs that have ended, newest first
+
+-- a leader's weight doubles with an epoch in which it fails, and goes down by one with any other that it leads
+abbrev pub doubled : ℕ → ℕ
+doubled w = if w == 0 then 1 else min (2 * w) 64
+
+abbrev pub weight : List Ended → ℕ → ℕ
+weight [] i = 0
+weight (x ∷ past) i = if leads x.plan i then (if has_failed x i then doubled (weight past i) else weight past i - 1) else weight past i
+
+-- for how many epochs the node does not lead: as many as it weighs, after one in which it failed
+abbrev pub ban : List Ended → ℕ → ℕ
+ban [] i = 0
+ban (x ∷ past) i = if leads x.plan i then (if has_failed x i then doubled (weight past i) else 0) else ban past i - 1
+
+-- the slots that ever became nil under the node
+abbrev pub nils_under : List Ended → ℕ → List Slot
+nils_under [] i = []
+nils_under (x ∷ past) i = filter (is_slot_of_leader x.plan i) x.nils ++ nils_under past i
+
+-- one more than the greatest of these slots, 0 where there is none
+abbrev pub past_all : List Slot → ℕ
+past_all [] = 0
+past_all (s ∷ ss) = max (suc s.0) (past_all ss)
+
+-- what the epochs say of a node
+pub record Conduct : Type 0 where
+  pub weight : ℕ
+  pub ban : ℕ
+  -- one more than the greatest slot that became nil under it, 0 where there is none
+  pub worst : ℕ
+
+abbrev pub conduct_of : List Ended → ℕ → Conduct
+conduct_of past i = record { weight = weight past i; ban = ban past i; worst = past_all (nils_under past i) }
+
+-- a node is on the list of the worst if a slot became nil under it, and at most f nodes, itself among them, have one as great
+abbrev pub is_listed : Setup → (ℕ → Conduct) → NodeId → Bool
+is_listed s c i = nat_lt 0 (c i.0).worst && nat_le (count_by (λ j. nat_le (c i.0).worst (c j.0).worst) (nodes_below s.n)) s.f
+
+abbrev pub may_lead : Policy → Setup → (ℕ → Conduct) → NodeId → Bool
+may_lead Simple s c i = true
+may_lead Backoff s c i = (c i.0).ban == 0
+may_lead Blacklist s c i = not (is_listed s c i)
+
+abbrev pub or_else : List NodeId → List NodeId → List NodeId
+or_else [] all = all
+or_else (l ∷ ls) all = l ∷ ls
+
+-- those lead that may; where none may, all do (under backoff alone can that be)
+abbrev pub leaders_by : Setup → (ℕ → Conduct) → List NodeId
+leaders_by s c = or_else (filter (may_lead s.policy s c) (nodes_below s.n)) (nodes_below s.n)
+
+abbrev pub plan_by : Setup → ℕ → ℕ → (ℕ → Conduct) → Plan
+plan_by s e start c =
+    record { epoch = e; start = start; nodes = s.n; slots = s.epoch; buckets = s.buckets; leaders = leaders_by s c }
+
+-- ---- the epochs of a log
+
+abbrev pub is_nil_at : List Value → ℕ → Bool
+is_nil_at [] slot = false
+is_nil_at (v ∷ older) slot = if slot == length older then not (is_batch v) else is_nil_at older slot
+
+-- the slots of an epoch that hold nil, ascending
+abbrev pub nils_in : Plan → List Value → List Slot
+nils_in p log = filter (λ s. is_nil_at log s.0) (slots_from p.start p.slots)
+
+-- how many slots these epochs have
+abbrev pub slots_in : List Ended → ℕ
+slots_in [] = 0
+slots_in (x ∷ past) = slots_in past + x.plan.slots
+
+-- the epoch that follows these, by a log that holds it
+abbrev pub next_ended : Setup → ℕ → List Value → List Ended → Ended
+next_ended s e log past =
+    let p = plan_by s e (slots_in past) (conduct_of past) in
+    record { plan = p; nils = nils_in p log }
+
+abbrev pub with_next : Setup → ℕ → List Value → List Ended → List Ended
+with_next s e log past = next_ended s e log past ∷ past
+
+-- the first e epochs of a log, newest first
+abbrev pub epochs : Setup → ℕ → List Value → List Ended
+epochs s zero log = []
+epochs s (suc e) log = with_next s e log (epochs s e log)
+
+-- who leads an epoch, given the log before it
+abbrev pub leaders_of : Setup → ℕ → List Value → List NodeId
+leaders_of s e log = leaders_by s (conduct_of (epochs s e log))
+
+-- how an epoch that starts at a given slot is divided, given the log before it
+abbrev pub plan_of : Setup → ℕ → ℕ → List Value → Plan
+plan_of s e start log = plan_by s e start (conduct_of (epochs s e log))
+
+-- an epoch's division hangs on the log before it alone, and it begins where those before it end
+pub record IsOfThePast (s : Setup) (e : ℕ) (log newer : List Value) : Type 0 where
+  pub same : epochs s e (newer ++ log) ≡ epochs s e log
+  pub plan : (start : ℕ) → plan_of s e start (newer ++ log) ≡ plan_of s e start log
+  pub starts : slots_in (epochs s e log) ≡ e * s.epoch
+
+-- what is carried from epoch to epoch in place of the log: the conduct of each node in turn
+abbrev pub carried : List Conduct → ℕ → Conduct
+carried cs i = get_or cs i (record { weight = 0; ban = 0; worst = 0 })
+
+abbrev pub IsStanding : Setup → List Ended → List Conduct → Type 0
+IsStanding s past cs = (i : ℕ) → i < s.n → carried cs i ≡ conduct_of past i
+
+-- ---- what holds of every epoch
 
 -- what holds of the plan of each epoch under a good set-up
 pub record IsGoodPlan (p : Plan) : Type 0 where

@@ -1,7 +1,8 @@
 //! The division of one epoch.
-ghost use Rattle.std.specs.Prelude.{◌≡◌, ◌+◌, ◌%◌, ◌^◌, ◌<◌, ◌≤◌, [], length, slice_get, IfOk, Some};
+ghost use Rattle.std.specs.Prelude.{◌≡◌, ◌+◌, ◌%◌, ◌^◌, ◌<◌, ◌≤◌, List, length, take, slice_get, IfOk, Some};
+ghost use Rattle.std.specs.List.{filter};
 ghost use Rattle.iss_request.specs.Setup.{IsGoodSetup};
-ghost use Rattle.iss_layout.specs.Layout.{IsSlotOf, plan_of, slot_leader, leads, bucket_owner, bucket_of, segment};
+ghost use Rattle.iss_layout.specs.Layout.{Ended, first_slot, IsSlotOf, IsStanding, carried, conduct_of, leaders_by, may_lead, nodes_below, plan_by, slot_leader, leads, bucket_owner, bucket_of, segment};
 
 use crate::standing::{MOST_NODES, Standing};
 use iss_request::{Epoch, NoMemory, NodeId, ReqId, Row, Setup, Slot};
@@ -48,22 +49,31 @@ impl Model for Layout {
 
 impl Layout {
     /// The division of an epoch that starts at a given slot and all of whose slots are below 2^64, by the standing
-    /// that earlier epochs left. The simple policy reads nothing of the log before the epoch, so the clause names an
-    /// empty one; any other says the same.
+    /// that the epochs before it left.
     pub fn of(setup: &Setup, epoch: Epoch, start: u64, standing: &Standing) -> Layout
         requires good { IsGoodSetup setup.now }
         requires fits { start + setup.now.epoch ≤ 2 ^ 64 }
-        ensures { result ≡ plan_of setup.now epoch.0 start [] }
+        ensures carried { result ≡ plan_by setup.now epoch.0 start (carried standing.now) }
+        ensures past { (past : List Ended) → IsStanding setup.now past standing.now →
+            result ≡ plan_by setup.now epoch.0 start (conduct_of past) }
     {
+        let (leaders, count) = leaders_by(setup, standing);
         Layout {
             epoch: epoch.0,
             start,
             nodes: setup.n,
             slots: setup.epoch,
             buckets: setup.buckets,
-            leaders: standing.leaders(setup.n),
-            count: setup.n as usize,
+            leaders,
+            count,
         }
+    }
+
+    /// The first slot of the epoch.
+    pub fn first(&self) -> Slot
+        ensures { result.0 ≡ first_slot self.now }
+    {
+        Slot(self.start)
     }
 
     /// The leaders, ascending.
@@ -115,12 +125,27 @@ impl Layout {
         }
     }
 
+    /// How many buckets there are.
+    pub fn buckets(&self) -> u32
+        ensures value { result ≡ self.now.buckets }
+        ensures some { 1 ≤ result }
+    {
+        self.buckets
+    }
+
     /// The bucket of a request.
     pub fn bucket_of(&self, id: ReqId) -> u32
         ensures value { result ≡ bucket_of self.now id }
         ensures below { result < self.now.buckets }
     {
         ((id.client as u64 + id.number as u64) % self.buckets as u64) as u32
+    }
+
+    /// The leader that owns a request's bucket.
+    pub fn owner_of_request(&self, id: ReqId) -> NodeId
+        ensures { bucket_owner self.now (bucket_of self.now id) ≡ Some result }
+    {
+        self.owner_of(self.bucket_of(id))
     }
 
     // The leader at a turn of the first round.
@@ -140,4 +165,46 @@ fn rotated(bucket: u32, epoch: u64, count: u64) -> u64
     ensures below { result < count }
 {
     (bucket as u64 % count + epoch % count) % count
+}
+
+// The leaders by the policy, ascending, and how many they are.
+fn leaders_by(setup: &Setup, standing: &Standing) -> ([NodeId; MOST_NODES], usize)
+    requires good { IsGoodSetup setup.now }
+    ensures leaders { take result.1 result.0 ≡ leaders_by setup.now (carried standing.now) }
+    ensures count { result.1 ≡ length (leaders_by setup.now (carried standing.now)) }
+{
+    let (leaders, count) = allowed(setup, standing);
+    if count == 0 {
+        return (all_nodes(setup.n), setup.n as usize);
+    }
+    (leaders, count)
+}
+
+// The nodes that may lead, ascending, and how many they are.
+fn allowed(setup: &Setup, standing: &Standing) -> ([NodeId; MOST_NODES], usize)
+    requires good { IsGoodSetup setup.now }
+    ensures leaders { take result.1 result.0 ≡ filter (may_lead setup.now.policy setup.now (carried standing.now)) (nodes_below setup.now.n) }
+    ensures count { result.1 ≡ length (filter (may_lead setup.now.policy setup.now (carried standing.now)) (nodes_below setup.now.n)) }
+{
+    let mut leaders = [NodeId(0); MOST_NODES];
+    let mut count = 0;
+    for i in 0..setup.n {
+        let node = NodeId(i as u8);
+        if standing.may_lead(setup, node) {
+            leaders[count] = node;
+            count += 1;
+        }
+    }
+    (leaders, count)
+}
+
+fn all_nodes(nodes: u32) -> [NodeId; MOST_NODES]
+    requires { nodes ≤ 10 }
+    ensures { take nodes result ≡ nodes_below nodes }
+{
+    let mut all = [NodeId(0); MOST_NODES];
+    for i in 0..nodes {
+        all[i as usize] = NodeId(i as u8);
+    }
+    all
 }

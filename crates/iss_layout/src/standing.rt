@@ -1,32 +1,205 @@
-//! What a policy carries from epoch to epoch.
-ghost use Rattle.std.specs.Prelude.{◌≡◌, ◌≤◌, take};
-ghost use Rattle.iss_layout.specs.Layout.{nodes_below};
+//! What the policies carry from epoch to epoch, in place of the log.
+ghost use Rattle.std.specs.Prelude.{◌≡◌, ◌<◌, ◌≤◌, ◌∷◌, ◌-◌, [], ℕ, suc, List, length, map, max, nat_le};
+ghost use Rattle.std.specs.List.{All, count_by, filter};
+ghost use Rattle.iss_request.specs.Setup.{IsGoodSetup};
+ghost use Rattle.iss_request.specs.declared.setups.Setup.{Setup};
+ghost use Rattle.iss_layout.specs.Layout.{Ended, IsSlotOf, IsStanding, carried, doubled, is_listed, is_slot_of_leader, leads, may_lead, nodes_below, past_all};
+ghost use Rattle.iss_layout.specs.Standings.{behind, changed, shown};
 
-use iss_request::NodeId;
+use crate::layout::Layout;
+use iss_request::{NodeId, Policy, Setup, Slot};
+use std::marker::Model;
 
 /// The most nodes that a good set-up has: of 3f+1 nodes at most three are faulty.
 pub const MOST_NODES: usize = 10;
 
-/// What is known of the nodes from the log of earlier epochs. The simple policy, under which all nodes lead, keeps
-/// nothing.
+// What is known of a node: its weight, its ban, and the greatest slot that became nil under it.
+#[derive(Clone, Copy, Debug)]
+pub(crate) struct Record {
+    weight: u32,
+    ban: u32,
+    worst: Option<Slot>,
+}
+
+/// What the epochs that have ended say of each node. Contracts see it as the conduct of each node in turn.
 #[derive(Drop, Debug)]
-pub struct Standing {}
+pub struct Standing {
+    nodes: [Record; MOST_NODES],
+}
+
+impl Model for Standing {
+    ghost use Rattle.std.specs.Prelude.{◌≡◌, List, length, map};
+    ghost use Rattle.iss_layout.specs.Layout.{Conduct};
+    ghost use Rattle.iss_layout.specs.Standings.{shown};
+
+    ghost Value = { List Conduct };
+
+    ghost view = { λ s. map shown s.nodes };
+
+    ghost invariant = { λ s. length s.nodes ≡ 10 };
+}
 
 impl Standing {
-    /// At the start nothing is known.
-    pub fn new() -> Standing {
-        Standing {}
+    /// Before the first epoch's end nothing is known of any node.
+    pub fn new() -> Standing
+        ensures { (s : Setup) → IsStanding s [] result }
+    {
+        Standing {
+            nodes: [Record {
+                weight: 0,
+                ban: 0,
+                worst: None,
+            }; MOST_NODES],
+        }
     }
 
-    // The leaders, of which the first `nodes` places hold one each.
-    pub(crate) fn leaders(&self, nodes: u32) -> [NodeId; MOST_NODES]
-        requires { nodes ≤ 10 }
-        ensures { take nodes result ≡ nodes_below nodes }
+    /// An epoch has ended: what it was divided into, and its slots that became nil.
+    pub fn advance(&mut self, setup: &Setup, layout: &Layout, nil_slots: &[Slot])
+        requires good { IsGoodSetup setup.now }
+        requires nil_slots { All (λ s. IsSlotOf layout.now s.0) nil_slots.now }
+        ensures { (past : List Ended) → IsStanding setup.now past self.old →
+            IsStanding setup.now (record { plan = layout.now; nils = nil_slots.now } ∷ past) self.new }
     {
-        let mut leaders = [NodeId(0); MOST_NODES];
-        for i in 0..nodes {
-            leaders[i as usize] = NodeId(i as u8);
+        change_all(&mut self.nodes, setup.n, layout, nil_slots);
+    }
+
+    // Whether a node leads by the policy alone.
+    pub(crate) fn may_lead(&self, setup: &Setup, node: NodeId) -> bool
+        requires good { IsGoodSetup setup.now }
+        requires node { node.0 < setup.now.n }
+        ensures { result ≡ may_lead setup.now.policy setup.now (carried self.now) node }
+    {
+        match setup.policy {
+            Policy::Simple => true,
+            Policy::Backoff => self.nodes[node.0 as usize].ban == 0,
+            Policy::Blacklist => !self.is_listed(setup, node),
         }
-        leaders
+    }
+
+    // Whether a node is among the at most f whose greatest slots that became nil are the greatest.
+    fn is_listed(&self, setup: &Setup, node: NodeId) -> bool
+        requires good { IsGoodSetup setup.now }
+        requires node { node.0 < setup.now.n }
+        ensures { result ≡ is_listed setup.now (carried self.now) node }
+    {
+        let Some(worst) = self.nodes[node.0 as usize].worst else {
+            return false;
+        };
+        as_bad(&self.nodes, setup.n, worst) <= setup.f
+    }
+}
+
+// How many of the nodes have a slot that became nil under them and is not before this one.
+fn as_bad(nodes: &[Record; MOST_NODES], count: u32, worst: Slot) -> u32
+    requires size { length nodes.now ≡ 10 }
+    requires few { count ≤ 10 }
+    ensures { result ≡ count_by (λ j. nat_le (suc worst.0) (carried (map shown nodes.now) j.0).worst) (nodes_below count) }
+{
+    let mut found = 0;
+    for i in 0..count {
+        if is_past(nodes[i as usize].worst, worst) {
+            found += 1;
+        }
+    }
+    found
+}
+
+// Whether there is a slot that is not before a given one.
+fn is_past(worst: Option<Slot>, slot: Slot) -> bool
+    ensures { result ≡ nat_le (suc slot.0) (behind worst) }
+{
+    match worst {
+        None => false,
+        Some(other) => slot.0 <= other.0,
+    }
+}
+
+// The later of two slots, of which the first may not be there.
+fn later(worst: Option<Slot>, slot: Slot) -> Option<Slot>
+    ensures { behind result ≡ max (suc slot.0) (behind worst) }
+{
+    if is_past(worst, slot) {
+        worst
+    } else {
+        Some(slot)
+    }
+}
+
+// The greatest of the slots that became nil under a node.
+fn worst_under(layout: &Layout, node: NodeId, nil_slots: &[Slot]) -> Option<Slot>
+    requires { All (λ s. IsSlotOf layout.now s.0) nil_slots.now }
+    ensures { behind result ≡ past_all (filter (is_slot_of_leader layout.now node.0) nil_slots.now) }
+{
+    let mut worst = None;
+    for slot in nil_slots {
+        if layout.segment_of(*slot) == node {
+            worst = later(worst, *slot);
+        }
+    }
+    worst
+}
+
+fn doubled(weight: u32) -> u32
+    ensures { result ≡ doubled weight }
+{
+    if weight == 0 {
+        1
+    } else if weight < 32 {
+        2 * weight
+    } else {
+        64
+    }
+}
+
+// What is known of a node after an epoch, by whether it led and by the greatest slot that became nil under it there.
+fn changed(known: Record, led: bool, worst: Option<Slot>) -> Record
+    ensures { shown result ≡ changed (shown known) led (behind worst) }
+{
+    let kept = match worst {
+        Some(slot) => later(known.worst, slot),
+        None => known.worst,
+    };
+    if !led {
+        return Record {
+            weight: known.weight,
+            ban: less(known.ban),
+            worst: kept,
+        };
+    }
+    if worst.is_none() {
+        return Record {
+            weight: less(known.weight),
+            ban: 0,
+            worst: kept,
+        };
+    }
+    let weight = doubled(known.weight);
+    Record {
+        weight,
+        ban: weight,
+        worst: kept,
+    }
+}
+
+fn less(count: u32) -> u32
+    ensures { result ≡ count - 1 }
+{
+    if count == 0 { 0 } else { count - 1 }
+}
+
+fn change_all(nodes: &mut [Record; MOST_NODES], count: u32, layout: &Layout, nil_slots: &[Slot])
+    requires size { length nodes.old ≡ 10 }
+    requires few { count ≤ 10 }
+    requires nil_slots { All (λ s. IsSlotOf layout.now s.0) nil_slots.now }
+    ensures size { length nodes.new ≡ 10 }
+    ensures changed { (i : ℕ) → i < count → carried (map shown nodes.new) i ≡
+        changed (carried (map shown nodes.old) i) (leads layout.now i) (past_all (filter (is_slot_of_leader layout.now i) nil_slots.now)) }
+{
+    for i in 0..count {
+        let node = NodeId(i as u8);
+        let led = layout.leads(node);
+        let worst = worst_under(layout, node, nil_slots);
+        let known = nodes[i as usize];
+        nodes[i as usize] = changed(known, led, worst);
     }
 }

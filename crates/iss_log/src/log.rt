@@ -1,5 +1,5 @@
 //! The log, and what its calls answer.
-ghost use Rattle.std.specs.Prelude.{◌≡◌, ◌+◌, ◌++◌, ◌∷◌, [], length, IfOk, IfNone, OnOk, OnErr, IsTrue, IsSome, is_some, ◌↔◌, if◌then◌else◌};
+ghost use Rattle.std.specs.Prelude.{◌≡◌, ◌≤◌, ◌+◌, take, ◌++◌, ◌∷◌, [], length, IfOk, IfNone, OnOk, OnErr, IsTrue, IsSome, is_some, ◌↔◌, if◌then◌else◌};
 ghost use Rattle.iss_request.specs.Log.{requests, size_of};
 ghost use Rattle.iss_log.specs.LogState.{empty_log, value_at, ahead_at, first_number_of, IsFill, IsAdvanced, GoesOn, IsWithout};
 
@@ -114,6 +114,19 @@ impl Log {
         ensures { result ≡ requests self.now.entries }
     {
         self.count
+    }
+
+    /// The log is its first slots from now on, and all slots behind them are empty.
+    pub fn cut(&mut self, slots: usize)
+        requires { slots ≤ length self.old.entries }
+        ensures { self.new ≡ record { entries = take slots self.old.entries; ahead = [] } }
+    {
+        if slots < self.values.len() {
+            self.count = self.firsts[slots];
+        }
+        self.values.truncate(slots);
+        self.firsts.truncate(slots);
+        self.ahead.clear();
     }
 
     // The value of the slot behind the log, taken out.

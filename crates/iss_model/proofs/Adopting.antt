@@ -22,7 +22,8 @@ use Rattle.iss_sb.specs.Evidence.{IsReadMessage, Item, Module, Separate, accepts
 use Rattle.iss_sb.specs.Laws.{IsHeard, IsLawful, IsSafe}
 use Rattle.iss_sb.proofs.Read.{batch-read}
 use Rattle.iss_model.specs.Checkpoints.{scheme_of}
-use Rattle.iss_model.specs.Cluster.{Adopted, AllSpelled, Cert, Cluster, IsHashedLog, MayTake, Reach, Scheme, Signed, adopt, adopts, advanced, begin, chain, chain_strings, ends, is_complete, move, vote_of}
+use Rattle.iss_model.specs.Cluster.{Adopted, AllSpelled, Cert, Cluster, IsHashedLog, MayTake, Reach, Scheme, Signed, adopt, begin, chain, chain_strings, ends, move, vote_of}
+use Rattle.iss_model.specs.Past.{adopts, advanced, is_complete}
 use Rattle.iss_model.specs.Concrete.{rules_of}
 use Rattle.iss_model.specs.Node.{own_claims, verdict}
 use Rattle.iss_model.specs.Ordered.{Among, Ordered}
@@ -99,7 +100,6 @@ setup-good = record {
   relay_kind = λ h. absurd (omega (arith, h));
   nodes = refl;
   majority = refl;
-  simple = refl;
   epoch_low = omega arith;
   epoch_high = omega arith;
   buckets_low = omega arith;

@@ -1,8 +1,8 @@
 -- Every core of a run is sound, and the judge accepts what a sound core casts.
-use Rattle.std.proofs.Common.{◌≡◌, ◌⊎◌, inl, inr, ℕ, suc, zero, ◌-◌, ◌≤◌, Bool, true, false, cond, eqb, not, List, [], ◌∷◌, ◌++◌, length, length-append, take, is_some, Option, Some, None, refl, sym, ap, ◌∙◌, subst, arith, true≢false}
+use Rattle.std.proofs.Common.{◌&&◌, nat_lt, ◌≡◌, ◌⊎◌, inl, inr, ℕ, suc, zero, ◌-◌, ◌≤◌, Bool, true, false, cond, eqb, not, List, [], ◌∷◌, ◌++◌, length, length-append, take, is_some, Option, Some, None, refl, sym, ap, ◌∙◌, subst, arith, true≢false}
 use Rattle.std.proofs.Math.Seq.{take-append_seam}
 use Rattle.iss_base.specs.Lists.{Extends, In}
-use Rattle.iss_base.proofs.Lists.{and-true, in_append, is-eq, not-true, oldest-part, or-false, set_at2-other}
+use Rattle.iss_base.proofs.Lists.{and-true, extends-length, extends-refl, extends-trans, in_append, in_left, in_right, is-eq, not-true, oldest-part, or-false, set_at2-other}
 use Rattle.iss_request.specs.Fields.{IsReadAgain}
 use Rattle.iss_request.specs.Formats.{HasSpelling, parse_value, requests_most, spell_value}
 use Rattle.iss_request.specs.Log.{has_id, ids, log_ids}
@@ -21,17 +21,21 @@ use Rattle.iss_sb.specs.Laws.{IsLawful}
 use Rattle.iss_sb.proofs.Read.{batch-read}
 use Rattle.iss_model.specs.declared.causes.NodeEvent.{NodeEvent}
 use Rattle.iss_model.specs.Judge.{judge, marks}
-use Rattle.iss_buckets.specs.Waiting.{cut, uncut}
-use Rattle.iss_model.specs.Node.{Core, Formats, OfRequest, Parcel, Taken, Turn, first_slot, flown, has_slot, idle, inputs, is_castable, is_mine, joined, next_slot, step, verdict}
-use Rattle.iss_model.specs.Past.{asked_in, before, grow, log_of, newborn, params_of, start_of, takes}
+use Rattle.iss_buckets.specs.Waiting.{absent, cut}
+use Rattle.iss_model.specs.Node.{Core, Early, Formats, OfRequest, Parcel, Taken, Turn, first_slot, flown, has_slot, idle, in_next_epoch, inputs, is_castable, is_mine, joined, next_slot, rests, returned, settles, step, verdict}
+use Rattle.iss_model.specs.Past.{Past, advanced, asked_in, before, grow, is_complete, log_of, newborn, params_of, start_of, takes}
 use Rattle.iss_model.specs.Rules.{Rules}
-use Rattle.iss_model.specs.Sound.{AreAllInside, IsReadyCore, IsSoundCore}
-use Rattle.iss_model.proofs.Cuts.{absent-ids, absent-in, absent-once, cut-few, cut-in, cut-once, uncut-ids, uncut-in, uncut-once}
-use Rattle.iss_model.proofs.Ids.{ids-append, ids-in, ids-once, in-ids, log_ids-append, log_ids-extends, not-has}
+use Rattle.iss_model.specs.Sound.{AreWindows, IsReadyCore, IsSoundCore, carried, held}
+use Rattle.iss_model.proofs.Cuts.{absent-ids, cut-few, cut-in, cut-once, uncut-ids}
+use Rattle.iss_model.proofs.Ending.{HasSlots, advanced-later, advanced-log, before-advanced, before-part, reached-advanced}
+use Rattle.iss_model.proofs.Epochs.{start-extends}
+use Rattle.iss_model.proofs.Flights.{casting-in, casting-once, ids-carried, ids-within, parts-of, refiled-in, refiled-once}
+use Rattle.iss_model.proofs.Ids.{ids-append, ids-in, ids-left, ids-once, ids-right, in-ids, log_ids-append, log_ids-extends, not-has}
 use Rattle.iss_model.proofs.Judged.{accepts-it}
-use Rattle.iss_model.proofs.Logs.{Settled, log-later, takes-later}
+use Rattle.iss_model.proofs.Logs.{Later, Settled, before-later, log-later, takes-later}
 use Rattle.iss_model.proofs.Longest.{Bounded}
-use Rattle.iss_model.proofs.Steps.{IsRequested, Took, asked, cast, casting, fired, next_batch, received, took}
+use Rattle.iss_model.proofs.Rows.{IsFit, settles-holds, then_takes}
+use Rattle.iss_model.proofs.Steps.{IsCast, IsRequested, Took, asked, cast, casting, fired, kept, next_batch, received, took}
 
 -- the newer part of a longer log
 pub joined-newer : (newer old : List Value) → joined (length old) (newer ++ old) ≡ newer
@@ -64,61 +68,189 @@ module _ {Msg : Type 0} (F : Formats Msg) (R : Rules) (M : Module Msg) (me : ℕ
       let old = log_of R M me c.past in
       let new = log_of R M me past in
       let gone = log_ids (joined (length old) new) in
-      let grown : Extends old new = log-later R M me c.past past (takes-later R M me c.past l input c.leaf (settled-core c h)) in
+      let later : Later R c.past past = takes-later R M me c.past l input c.leaf (settled-core c h) in
+      let grown : Extends old new = log-later R M me c.past past later in
+      let same : before R M me past c.past.epoch ≡ before R M me c.past c.past.epoch = before-later R M me c.past past c.past.epoch later h.reached in
+      let start : start_of R new c.past.epoch ≡ start_of R old c.past.epoch = start-extends R old new c.past.epoch grown h.reached in
+      let far : length old ≤ length new = extends-length old new grown in
+      let within : (q : Request) → In q (held (inputs F R M me c l input).core) → In q (held c) = refiled-in gone (log_ids new) new c.waiting c.flight in
+      let reached : start_of R old c.past.epoch ≤ length old = h.reached in
       record {
-        different = absent-once gone c.waiting h.different;
-        signed = λ q i. h.signed q (absent-in gone c.waiting q i).0;
-        unordered = λ x i j.
-            let k = absent-ids gone c.waiting x i in
-            elim (log_ids-joined x old new grown j) [ inl a ↦ k.1 a | inr a ↦ h.unordered x k.0 a ];
+        different = refiled-once gone (log_ids new) new c.waiting c.flight h.different;
+        signed = λ q i. h.signed q (within q i);
+        inside = λ x i none.
+            let was = h.inside x (ids-within (held (inputs F R M me c l input).core) (held c) within x i) (λ k. none (subst (λ (t : List Value). In x (log_ids t)) (sym grown.1) (log_ids-extends x grown.0 old k))) in
+            subst (λ (bf : List Value). R.inside bf c.past.epoch x ≡ true) (sym same) was;
+        unordered = λ x i j. elim (ids-append x (absent gone c.waiting) (absent (log_ids new) (returned new c.flight)) i) [
+          | inl a ↦
+              let k = absent-ids gone c.waiting x a in
+              elim (log_ids-joined x old new grown j) [ inl b ↦ k.1 b | inr b ↦ h.unordered x k.0 b ]
+          | inr a ↦ (absent-ids (log_ids new) (returned new c.flight) x a).1 j
+        ];
+        reached = let n : start_of R new c.past.epoch ≤ length new = omega (arith, start, far, reached) in n;
         settled = h.settled;
         unborn = λ e k lt. set_at2-other c.past.evidence c.past.epoch l _ e k (inl (omega (arith, lt))) ∙ h.unborn e k lt;
       }
 
-  requested-sound : (c : Core Msg) (q : Request) (t : Turn Msg) → IsSoundCore R M me c → IsRequested F R M me c q t → IsSoundCore R M me t.core
+  pub requested-sound : (c : Core Msg) (q : Request) (t : Turn Msg) → IsSoundCore R M me c → IsRequested F R M me c q t → IsSoundCore R M me t.core
   requested-sound c q t h r =
       let a = or-false (has_id q.id (ids c.waiting)) _ r.unknown in
       let b = or-false (has_id q.id (flown c.flight)) (has_id q.id (log_ids (log_of R M me c.past))) a.1 in
+      let p = parts-of c.waiting (carried c.flight) h.different in
+      let grounded : In q.id (ids (carried c.flight)) → ⊥ = λ i. not-has q.id (flown c.flight) b.0 (subst (λ (xs : List ReqId). In q.id xs) (ids-carried c.flight) i) in
+      let new : List Request = c.waiting ++ q ∷ [] in
+      let new-waits : (x : ReqId) → In x (ids new) → In x (ids c.waiting) ⊎ (x ≡ q.id) = λ x i. elim (ids-append x c.waiting (q ∷ []) i) [ inl k ↦ inl k | inr k ↦ elim k [ inl e ↦ inr e | inr j ↦ absurd j ] ] in
       rw r.is (record {
-        different = ids-once c.waiting (q ∷ []) h.different (λ i. i, tt) (λ x i. elim [ inl e ↦ not-has q.id (ids c.waiting) a.0 (rw (← e) i) | inr j ↦ absurd j ]);
-        signed = λ p i. elim (in_append p c.waiting (q ∷ []) i) [ inl k ↦ h.signed p k | inr k ↦ elim k [ inl e ↦ rw e r.signed | inr j ↦ absurd j ] ];
-        unordered = λ x i. elim (ids-append x c.waiting (q ∷ []) i) [ inl k ↦ h.unordered x k | inr k ↦ elim k [ inl e ↦ rw e (not-has q.id (log_ids (log_of R M me c.past)) b.1) | inr j ↦ absurd j ] ];
+        different = ids-once new (carried c.flight)
+            (ids-once c.waiting (q ∷ []) p.left (λ i. i, tt) (λ x i. elim [ inl e ↦ not-has q.id (ids c.waiting) a.0 (rw (← e) i) | inr j ↦ absurd j ])) p.right
+            (λ x i j. elim (new-waits x i) [ inl k ↦ p.apart x k j | inr e ↦ grounded (rw e at j) ]);
+        signed = λ y i. elim (in_append y new (carried c.flight) i) [
+          | inl k ↦ elim (in_append y c.waiting (q ∷ []) k) [
+            | inl m ↦ h.signed y (in_left y c.waiting (carried c.flight) m)
+            | inr m ↦ elim m [ inl e ↦ rw e r.signed | inr none ↦ absurd none ]
+          ]
+          | inr k ↦ h.signed y (in_right y c.waiting (carried c.flight) k)
+        ];
+        inside = λ x i none. elim (ids-append x new (carried c.flight) i) [
+          | inl k ↦ elim (new-waits x k) [ inl m ↦ h.inside x (ids-left x c.waiting (carried c.flight) m) none | inr e ↦ rw e r.inside ]
+          | inr k ↦ h.inside x (ids-right x c.waiting (carried c.flight) k) none
+        ];
+        unordered = λ x i. elim (new-waits x i) [ inl k ↦ h.unordered x k | inr e ↦ rw e (not-has q.id (log_ids (log_of R M me c.past)) b.1) ];
+        reached = h.reached;
         settled = h.settled;
         unborn = h.unborn;
       })
 
-  casting-sound : (c : Core Msg) (s : Slot) → IsSoundCore R M me c → IsSoundCore R M me (casting F R M me c s)
-  casting-sound c s h = record {
-    different = uncut-once R.batch (is_mine R M me c) c.waiting h.different;
-    signed = λ q i. h.signed q (uncut-in R.batch (is_mine R M me c) c.waiting q i);
-    unordered = λ x i. h.unordered x (uncut-ids R.batch (is_mine R M me c) c.waiting x i);
-    settled = h.settled;
-    unborn = h.unborn;
+  pub casting-sound : (c : Core Msg) (s : Slot) → IsSoundCore R M me c → IsSoundCore R M me (casting F R M me c s)
+  casting-sound c s h =
+      let within : (q : Request) → In q (held (casting F R M me c s)) → In q (held c) = casting-in R.batch (is_mine R M me c) s c.waiting c.flight in
+      record {
+        different = casting-once R.batch (is_mine R M me c) s c.waiting c.flight h.different;
+        signed = λ q i. h.signed q (within q i);
+        inside = λ x i none. h.inside x (ids-within (held (casting F R M me c s)) (held c) within x i) none;
+        unordered = λ x i. h.unordered x (uncut-ids R.batch (is_mine R M me c) c.waiting x i);
+        reached = h.reached;
+        settled = h.settled;
+        unborn = h.unborn;
+      }
+
+  pub inputs-ready : (c : Core Msg) (l : ℕ) (input : Input Msg) → IsReadyCore R M me c → IsReadyCore R M me (inputs F R M me c l input).core
+  inputs-ready c l input h =
+      let new = log_of R M me (takes R M me c.past l input c.leaf) in
+      record {
+        sound = inputs-sound c l input h.sound;
+        spelled = λ q i. h.spelled q (refiled-in (log_ids (joined (length (log_of R M me c.past)) new)) (log_ids new) new c.waiting c.flight q i);
+      }
+
+  pub casting-ready : (c : Core Msg) (s : Slot) → IsReadyCore R M me c → IsReadyCore R M me (casting F R M me c s)
+  casting-ready c s h = record { sound = casting-sound c s h.sound; spelled = λ q i. h.spelled q (casting-in R.batch (is_mine R M me c) s c.waiting c.flight q i) }
+
+  pub early-sound : (c : Core Msg) (xs : List (Early Msg)) → IsSoundCore R M me c → IsSoundCore R M me (record c { early = xs })
+  early-sound c xs h = record { different = h.different; signed = h.signed; inside = h.inside; unordered = h.unordered; reached = h.reached; settled = h.settled; unborn = h.unborn }
+
+  pub early-ready : (c : Core Msg) (xs : List (Early Msg)) → IsReadyCore R M me c → IsReadyCore R M me (record c { early = xs })
+  early-ready c xs h = record { sound = early-sound c xs h.sound; spelled = h.spelled }
+
+  pub requested-ready : (c : Core Msg) (q : Request) (t : Turn Msg) → IsReadyCore R M me c → HasSpelling q → IsRequested F R M me c q t → IsReadyCore R M me t.core
+  requested-ready c q t h good r = record {
+    sound = requested-sound c q t h.sound r;
+    spelled = λ y i. elim (in_append y (c.waiting ++ q ∷ []) (carried c.flight) (subst (λ (z : Turn Msg). In y (held z.core)) r.is i)) [
+      | inl k ↦ elim (in_append y c.waiting (q ∷ []) k) [
+        | inl m ↦ h.spelled y (in_left y c.waiting (carried c.flight) m)
+        | inr m ↦ elim m [ inl e ↦ rw e good | inr none ↦ absurd none ]
+      ]
+      | inr k ↦ h.spelled y (in_right y c.waiting (carried c.flight) k)
+    ];
   }
 
-  took-sound : (c : Core Msg) (event : NodeEvent) (t : Turn Msg) → IsSoundCore R M me c → Took F R M me c event t → IsSoundCore R M me t.core
-  took-sound c event t h (received k l msg u b e i) = rw i.is (inputs-sound c l _ h)
-  took-sound c event t h (asked k q u b r) = requested-sound c q t h r
-  took-sound c event t h (cast s i) = rw i.is (inputs-sound (casting F R M me c s) me _ (casting-sound c s h))
-  took-sound c event t h (fired l i) = rw i.is (inputs-sound c l.0 _ h)
+  module _ (slots : HasSlots R) (windows : AreWindows R) where
+    -- the end of an epoch keeps it
+    pub ends-sound : (c : Core Msg) → IsSoundCore R M me c → is_complete R M me c.past ≡ true → IsSoundCore R M me (in_next_epoch c)
+    ends-sound c h complete =
+        let old = log_of R M me c.past in
+        let new = log_of R M me (advanced c.past) in
+        let bounded = bounded-core c h in
+        let same : new ≡ old = advanced-log R slots M me c.past bounded in
+        let bf : before R M me (advanced c.past) (suc c.past.epoch) ≡ old = before-advanced R slots M me c.past bounded complete in
+        let past-by : Extends (before R M me c.past c.past.epoch) old = before-part R slots M me c.past bounded in
+        record {
+          different = h.different;
+          signed = h.signed;
+          inside = λ x i none.
+              let fresh : In x (log_ids old) → ⊥ = λ k. none (subst (λ (t : List Value). In x (log_ids t)) (sym same) k) in
+              let now : R.inside old (suc c.past.epoch) x ≡ true = windows.kept (before R M me c.past c.past.epoch) old c.past.epoch (suc c.past.epoch) x (h.inside x i fresh) past-by (omega arith) fresh in
+              subst (λ (t : List Value). R.inside t (suc c.past.epoch) x ≡ true) (sym bf) now;
+          unordered = λ x i k. h.unordered x i (subst (λ (t : List Value). In x (log_ids t)) same k);
+          reached = reached-advanced R slots M me c.past bounded complete;
+          settled = λ e k v q. let lt = h.settled e k v q in omega (arith, lt);
+          unborn = λ e l lt. h.unborn e l (omega (arith, lt));
+        }
 
-  -- each step keeps it
-  pub step-sound : (c : Core Msg) (event : NodeEvent) (t : Turn Msg) → IsSoundCore R M me c → step F R M me c event ≡ Taken t → IsSoundCore R M me t.core
-  step-sound c event t h q = took-sound c event t h (took F R M me c event t q)
+    pub ends-ready : (c : Core Msg) → IsReadyCore R M me c → is_complete R M me c.past ≡ true → IsReadyCore R M me (in_next_epoch c)
+    ends-ready c h complete = record { sound = ends-sound c h.sound complete; spelled = h.spelled }
 
-  took-spelled : (c : Core Msg) (event : NodeEvent) (t : Turn Msg) → ((q : Request) → In q c.waiting → HasSpelling q) → Took F R M me c event t →
-      ((bytes : List ℕ) (k : Parcel Msg) (q : Request) → F.unwrap bytes ≡ Some k → k.body ≡ OfRequest q → HasSpelling q) → (q : Request) → In q t.core.waiting → HasSpelling q
-  took-spelled c event t h (received k l msg u b e i) read q m = h q (absent-in _ c.waiting q (subst (λ (z : Turn Msg). In q z.core.waiting) i.is m)).0
-  took-spelled c event t h (asked {bytes} k r u b w) read q m = elim (in_append q c.waiting (r ∷ []) (subst (λ (z : Turn Msg). In q z.core.waiting) w.is m)) [
-    | inl old ↦ h q old
-    | inr new ↦ elim new [ inl e ↦ rw e (read bytes k r u b) | inr none ↦ absurd none ]
-  ]
-  took-spelled c event t h (cast s i) read q m = h q (uncut-in R.batch (is_mine R M me c) c.waiting q (absent-in _ (uncut R.batch (is_mine R M me c) c.waiting) q (subst (λ (z : Turn Msg). In q z.core.waiting) i.is m)).0)
-  took-spelled c event t h (fired l i) read q m = h q (absent-in _ c.waiting q (subst (λ (z : Turn Msg). In q z.core.waiting) i.is m)).0
+    settles-sound : (t : Turn Msg) → IsSoundCore R M me t.core → IsSoundCore R M me (settles F R M me t).core
+    settles-sound t h = settles-holds F R M me (λ t. IsSoundCore R M me t.core) (λ t l input. Unit {0})
+        (λ t l input k fit come. inputs-sound t.core l input k) (λ t k complete. ends-sound t.core k complete) t h (λ done u x i k q. tt)
 
-  -- and what waits has a spelling, where each request that is read has one
-  pub step-ready : ((bytes : List ℕ) (k : Parcel Msg) (q : Request) → F.unwrap bytes ≡ Some k → k.body ≡ OfRequest q → HasSpelling q) → (c : Core Msg) (event : NodeEvent) (t : Turn Msg) → IsReadyCore R M me c → step F R M me c event ≡ Taken t → IsReadyCore R M me t.core
-  step-ready read c event t h q = record { sound = step-sound c event t h.sound q; spelled = took-spelled c event t h.spelled (took F R M me c event t q) read }
+    settles-ready : (t : Turn Msg) → IsReadyCore R M me t.core → IsReadyCore R M me (settles F R M me t).core
+    settles-ready t h = settles-holds F R M me (λ t. IsReadyCore R M me t.core) (λ t l input. Unit {0})
+        (λ t l input k fit come. inputs-ready t.core l input k) (λ t k complete. ends-ready t.core k complete) t h (λ done u x i k q. tt)
+
+    took-sound : (c : Core Msg) (event : NodeEvent) (t : Turn Msg) → IsSoundCore R M me c → Took F R M me c event t → IsSoundCore R M me t.core
+    took-sound c event t h (received k l msg u un b e i q) = rw q (settles-sound u (rw i.is (inputs-sound c l _ h)))
+    took-sound c event t h (kept k l msg u b e i) = rw i.is (early-sound c _ h)
+    took-sound c event t h (asked k q u b r) = requested-sound c q t h r
+    took-sound c event t h (cast s u i q) = rw q (settles-sound u (rw i.is (inputs-sound (casting F R M me c s) me _ (casting-sound c s h))))
+    took-sound c event t h (fired l u i q) = rw q (settles-sound u (rw i.is (inputs-sound c l.0 _ h)))
+
+    -- each step keeps it
+    pub step-sound : (c : Core Msg) (event : NodeEvent) (t : Turn Msg) → IsSoundCore R M me c → step F R M me c event ≡ Taken t → IsSoundCore R M me t.core
+    step-sound c event t h q = took-sound c event t h (took F R M me c event t q)
+
+    took-ready : (c : Core Msg) (event : NodeEvent) (t : Turn Msg) → IsReadyCore R M me c → Took F R M me c event t →
+        ((bytes : List ℕ) (k : Parcel Msg) (q : Request) → F.unwrap bytes ≡ Some k → k.body ≡ OfRequest q → HasSpelling q) → IsReadyCore R M me t.core
+    took-ready c event t h (received k l msg u un b e i q) read = rw q (settles-ready u (rw i.is (inputs-ready c l _ h)))
+    took-ready c event t h (kept k l msg u b e i) read = rw i.is (early-ready c _ h)
+    took-ready c event t h (asked {bytes} k q u b r) read = requested-ready c q t h (read bytes k q u b) r
+    took-ready c event t h (cast s u i q) read = rw q (settles-ready u (rw i.is (inputs-ready (casting F R M me c s) me _ (casting-ready c s h))))
+    took-ready c event t h (fired l u i q) read = rw q (settles-ready u (rw i.is (inputs-ready c l.0 _ h)))
+
+    -- and what it holds has a spelling, where each request that is read has one
+    pub step-ready : ((bytes : List ℕ) (k : Parcel Msg) (q : Request) → F.unwrap bytes ≡ Some k → k.body ≡ OfRequest q → HasSpelling q) → (c : Core Msg) (event : NodeEvent) (t : Turn Msg) → IsReadyCore R M me c → step F R M me c event ≡ Taken t → IsReadyCore R M me t.core
+    step-ready read c event t h q = took-ready c event t h (took F R M me c event t q) read
+
+    -- logs only grow
+    record Grown (old : Past Msg) (t : Turn Msg) : Type 0 where
+      sound : IsSoundCore R M me t.core
+      logs : Extends (log_of R M me old) (log_of R M me t.core.past)
+
+    inputs-grown : (old : Past Msg) (t : Turn Msg) (l : ℕ) (input : Input Msg) → Grown old t → Grown old (then_takes F R M me t l input)
+    inputs-grown old t l input k = record {
+      sound = inputs-sound t.core l input k.sound;
+      logs = extends-trans _ _ _ k.logs (log-later R M me t.core.past (takes R M me t.core.past l input t.core.leaf) (takes-later R M me t.core.past l input t.core.leaf (settled-core t.core k.sound)));
+    }
+
+    settles-grown : (old : Past Msg) (t : Turn Msg) → Grown old t → Grown old (settles F R M me t)
+    settles-grown old t h = settles-holds F R M me (Grown old) (λ t l input. Unit {0}) (λ t l input k fit come. inputs-grown old t l input k)
+        (λ t k complete. record {
+          sound = ends-sound t.core k.sound complete;
+          logs = extends-trans _ _ _ k.logs (log-later R M me t.core.past (advanced t.core.past) (advanced-later R t.core.past (settled-core t.core k.sound)));
+        })
+        t h (λ done u x i k q. tt)
+
+    at-first : (c : Core Msg) → IsSoundCore R M me c → Grown c.past (rests c)
+    at-first c h = record { sound = h; logs = extends-refl (log_of R M me c.past) }
+
+    took-grown : (c : Core Msg) (event : NodeEvent) (t : Turn Msg) → IsSoundCore R M me c → Took F R M me c event t → Extends (log_of R M me c.past) (log_of R M me t.core.past)
+    took-grown c event t h (received k l msg u un b e i q) = rw q ((settles-grown c.past u (rw i.is (inputs-grown c.past (rests c) l _ (at-first c h)))).logs)
+    took-grown c event t h (kept k l msg u b e i) = rw i.is (extends-refl (log_of R M me c.past))
+    took-grown c event t h (asked k q u b r) = rw r.is (extends-refl (log_of R M me c.past))
+    took-grown c event t h (cast s u i q) = rw q ((settles-grown c.past u (rw i.is (inputs-grown c.past (rests (casting F R M me c s)) me _ (at-first (casting F R M me c s) (casting-sound c s h))))).logs)
+    took-grown c event t h (fired l u i q) = rw q ((settles-grown c.past u (rw i.is (inputs-grown c.past (rests c) l.0 _ (at-first c h)))).logs)
+
+    pub step-grown : (c : Core Msg) (event : NodeEvent) (t : Turn Msg) → IsSoundCore R M me c → step F R M me c event ≡ Taken t → Extends (log_of R M me c.past) (log_of R M me t.core.past)
+    step-grown c event t h q = took-grown c event t h (took F R M me c event t q)
 
 newborn-empty : (R : Rules) {Msg : Type 0} (M : Module Msg) (me n : ℕ) → grow R M me newborn n [] ≡ []
 newborn-empty R M me zero = refl
@@ -129,7 +261,7 @@ newborn-log R M me = newborn-empty R M me _
 
 -- a core that has taken nothing is sound
 pub idle-sound : {Msg : Type 0} (R : Rules) (M : Module Msg) (me : ℕ) → IsSoundCore R M me idle
-idle-sound R M me = record { different = tt; signed = λ q i. absurd i; unordered = λ x i. absurd i; settled = λ e k v h. absurd (cc); unborn = λ e l lt. refl }
+idle-sound R M me = record { different = tt; signed = λ q i. absurd i; inside = λ x i. absurd i; unordered = λ x i. absurd i; reached = omega arith; settled = λ e k v h. absurd (cc); unborn = λ e l lt. refl }
 
 pub idle-ready : {Msg : Type 0} (R : Rules) (M : Module Msg) (me : ℕ) → IsReadyCore R M me idle
 idle-ready R M me = record { sound = idle-sound R M me; spelled = λ q i. absurd i }
@@ -151,7 +283,9 @@ some-there (Some x) h = (x, refl)
 module _ {Msg : Type 0} (R : Rules) (M : Module Msg) (me : ℕ) (c : Core Msg) where
   -- the slot of the next cast is of the segment, and not in flight
   pub slot-free : (s : Slot) → next_slot R M me c ≡ Some s → In s (params_of R M me c.past me).slots × (is_castable M (params_of R M me c.past me) me (c.past.evidence c.past.epoch me) c.flight s ≡ true)
-  slot-free s h = slot-passes (is_castable M (params_of R M me c.past me) me (c.past.evidence c.past.epoch me) c.flight) (params_of R M me c.past me).slots s h
+  slot-free s h =
+      let k = slot-passes (λ (t : Slot). not (nat_lt t.0 (length (log_of R M me c.past))) && is_castable M (params_of R M me c.past me) me (c.past.evidence c.past.epoch me) c.flight t) (params_of R M me c.past me).slots s h in
+      (k.0, (and-true (not (nat_lt s.0 (length (log_of R M me c.past)))) _ k.1).1)
 
   -- the module takes any batch there
   pub cast-asked : IsLawful M → (s : Slot) → next_slot R M me c ≡ Some s → (b : Batch) → asked_in R M me c.past me (Cast s b) ≡ Some (s, b)
@@ -173,7 +307,7 @@ module _ {Msg : Type 0} (R : Rules) (M : Module Msg) (me : ℕ) (c : Core Msg) w
       let read = batch-read s.version batch (omega (arith, few, low)) (λ q i. h q (cut-in R.batch (is_mine R M me c) c.waiting q i).0) in
       subst (λ (t : Setup). IsReadAgain (spell_value t.version) (parse_value t.version) (Holds batch)) (sym setup) read
 
-  module _ (inside : AreAllInside R) (h : IsSoundCore R M me c) where
+  module _ (h : IsSoundCore R M me c) where
     abbrev bf : List Value
     bf = before R M me c.past c.past.epoch
 
@@ -200,16 +334,19 @@ module _ {Msg : Type 0} (R : Rules) (M : Module Msg) (me : ℕ) (c : Core Msg) w
         let r = ids-in x (cut R.batch mine c.waiting) i in
         rw r.2 (unmarked r.0 (cut-in R.batch mine c.waiting r.0 r.1).1)
 
+    waits : (q : Request) → In q (cut R.batch mine c.waiting) → In q c.waiting
+    waits q i = (cut-in R.batch mine c.waiting q i).0
+
     -- the judge accepts the batch that the core casts next
     pub cast-accepted : (F : Formats Msg) → judge R bf c.past.epoch me marked (next_batch F R M me c) ≡ None
     cast-accepted F = accepts-it R bf c.past.epoch me marked (next_batch F R M me c) (record {
       few = cut-few R.batch mine c.waiting;
       owner = λ q i. owned q (cut-in R.batch mine c.waiting q i).1;
-      signed = λ q i. h.signed q (cut-in R.batch mine c.waiting q i).0;
-      inside = λ q i. inside bf c.past.epoch q.id;
-      unordered = λ q i k. h.unordered q.id (in-ids q c.waiting (cut-in R.batch mine c.waiting q i).0) (earlier q.id k);
+      signed = λ q i. h.signed q (in_left q c.waiting (carried c.flight) (waits q i));
+      inside = λ q i. h.inside q.id (ids-left q.id c.waiting (carried c.flight) (in-ids q c.waiting (waits q i))) (h.unordered q.id (in-ids q c.waiting (waits q i)));
+      unordered = λ q i k. h.unordered q.id (in-ids q c.waiting (waits q i)) (earlier q.id k);
       unmarked = λ x i. unmarked-id x i;
-      different = cut-once R.batch mine c.waiting h.different;
+      different = cut-once R.batch mine c.waiting (parts-of c.waiting (carried c.flight) h.different).left;
     })
 
     -- so the step's own question to the judge is answered with yes
@@ -217,3 +354,7 @@ module _ {Msg : Type 0} (R : Rules) (M : Module Msg) (me : ℕ) (c : Core Msg) w
     cast-judged F law s k =
         let q = cast-asked law s k (next_batch F R M me c) in
         ap (λ (o : Option (Slot × Batch)). verdict R bf c.past.epoch me (accepts (c.past.evidence c.past.epoch me)) o) q ∙ cast-accepted F
+
+    -- and the cast is one that the core may take
+    pub cast-fit : (F : Formats Msg) → IsLawful M → (s : Slot) (t : Turn Msg) → IsCast F R M me c s t → IsFit F R M me (casting F R M me c s) me (Cast s (next_batch F R M me c))
+    cast-fit F law s t k = record { leads = k.leads; leaves = k.leaves; judged = cast-judged F law s k.free }

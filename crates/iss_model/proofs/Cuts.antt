@@ -92,3 +92,16 @@ uncut-once (suc n) mine (q ∷ qs) d = go (uncut-once n mine qs d.1) (uncut-once
     go : Different (ids (uncut n mine qs)) → Different (ids (uncut (suc n) mine qs)) → (b : Bool) → Different (ids (cond b (uncut n mine qs) (q ∷ uncut (suc n) mine qs)))
     go ih1 ih2 true = ih1
     go ih1 ih2 false = (λ k. d.0 (uncut-ids (suc n) mine qs q.id k), ih2)
+
+-- and the two have no identity in common
+pub cut-uncut-apart : (n : ℕ) (mine : Request → Bool) (qs : List Request) → Different (ids qs) → (x : ReqId) → In x (ids (cut n mine qs)) → In x (ids (uncut n mine qs)) → ⊥
+cut-uncut-apart n mine [] d x a b = a
+cut-uncut-apart zero mine (q ∷ qs) d x a b = a
+cut-uncut-apart (suc n) mine (q ∷ qs) d x a b = go (cut-uncut-apart n mine qs d.1 x) (cut-uncut-apart (suc n) mine qs d.1 x) (mine q) a b
+  where
+    go : (In x (ids (cut n mine qs)) → In x (ids (uncut n mine qs)) → ⊥) → (In x (ids (cut (suc n) mine qs)) → In x (ids (uncut (suc n) mine qs)) → ⊥) → (t : Bool) →
+        In x (ids (cond t (q ∷ cut n mine qs) (cut (suc n) mine qs))) → In x (ids (cond t (uncut n mine qs) (q ∷ uncut (suc n) mine qs))) → ⊥
+    go ih1 ih2 true (inl e) k = d.0 (uncut-ids n mine qs q.id (rw (← e) k))
+    go ih1 ih2 true (inr y) k = ih1 y k
+    go ih1 ih2 false y (inl e) = d.0 (cut-ids (suc n) mine qs q.id (rw (← e) y))
+    go ih1 ih2 false y (inr k) = ih2 y k

@@ -9,7 +9,8 @@ use Rattle.iss_request.specs.declared.requests.Value.{Value}
 use Rattle.iss_request.specs.declared.setups.Setup.{Setup}
 use Rattle.iss_sb.specs.Evidence.{IsHashed, IsReached, IsSent, Module, Separate, World, accepts, at_start, empty_world, has_node, is_correct}
 use Rattle.iss_sb.specs.Laws.{IsSafe}
-use Rattle.iss_model.specs.Cluster.{AllSpelled, Backed, Begun, Cluster, Ended, IsHashedLog, IsTrueLog, Message, Names, Quiet, Rested, Scheme, Signed, advanced, chain, ended_log, vote_statement, world_of}
+use Rattle.iss_model.specs.Cluster.{AllSpelled, Backed, Begun, Cluster, Ended, IsHashedLog, IsTrueLog, Message, Names, Quiet, Rested, Scheme, Signed, chain, vote_statement, world_of}
+use Rattle.iss_model.specs.Past.{advanced, ended_log}
 use Rattle.iss_model.specs.Judge.{Judged}
 use Rattle.iss_model.specs.Ordered.{Among, IsSoundRules}
 use Rattle.iss_model.specs.Past.{Past, Piece, adopted_at, before, log_of, start_of}

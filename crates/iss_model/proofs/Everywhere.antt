@@ -11,14 +11,16 @@ use Rattle.iss_sb.specs.declared.effects.Input.{Input}
 use Rattle.iss_sb.specs.Evidence.{Item, Module, Separate, and_then, is_correct}
 use Rattle.iss_model.specs.declared.causes.NodeEvent.{NodeEvent}
 use Rattle.iss_model.specs.declared.causes.NodeEvent.TheVariants.{Packet as Gets, Propose as Proposes, Timeout as Fires}
-use Rattle.iss_model.specs.Node.{Core, Dropped, Formats, OfRequest, Stepped, Taken, Turn, idle, step}
+use Rattle.iss_model.specs.Node.{Core, Dropped, Formats, OfRequest, Stepped, Taken, Turn, idle, settles, step}
 use Rattle.iss_model.specs.Past.{Past, params_of, takes}
 use Rattle.iss_model.specs.Rules.{Rules}
 use Rattle.iss_model.specs.Run.{Net, Progress, after_step, at_core, begin_run, calms, delivered_to, delivers, delivers_each, goes_on, happens, injects, loses, pumps, request_of, run}
 use Rattle.iss_model.specs.Runs.{HashesNothing, IsRunString, net_after, pasts_of}
-use Rattle.iss_model.specs.Sound.{IsSoundCore}
+use Rattle.iss_model.specs.Sound.{AreWindows, IsSoundCore}
 use Rattle.iss_model.proofs.Casts.{idle-sound, step-sound}
-use Rattle.iss_model.proofs.Steps.{Took, asked, cast, fired, received, took}
+use Rattle.iss_model.proofs.Ending.{HasSlots}
+use Rattle.iss_model.proofs.Rows.{settles-holds}
+use Rattle.iss_model.proofs.Steps.{Took, asked, cast, fired, kept, received, took}
 
 module _ {Msg : Type 0} (s : Setup) (F : Formats Msg) (R : Rules) (M : Module Msg) (P : ℕ → Core Msg → Type 0) (keeps : (j : ℕ) (c : Core Msg) (event : NodeEvent) (t : Turn Msg) → P j c → step F R M j c event ≡ Taken t → P j t.core) where
   abbrev pub Each : Net Msg → Type 0
@@ -78,8 +80,8 @@ module _ {Msg : Type 0} (s : Setup) (F : Formats Msg) (R : Rules) (M : Module Ms
   each-run start events = run-each events (begin_run s.n) start
 
 -- every core of every run is sound, whatever the module
-pub sound-core-run : {Msg : Type 0} (s : Setup) (F : Formats Msg) (R : Rules) (M : Module Msg) (events : List Event) (j : ℕ) → IsSoundCore R M j ((net_after s F R M events).cores j)
-sound-core-run s F R M = each-run s F R M (λ j c. IsSoundCore R M j c) (λ j c event t h q. step-sound F R M j c event t h q) (λ j. idle-sound R M j)
+pub sound-core-run : {Msg : Type 0} (s : Setup) (F : Formats Msg) (R : Rules) (M : Module Msg) → HasSlots R → AreWindows R → (events : List Event) (j : ℕ) → IsSoundCore R M j ((net_after s F R M events).cores j)
+sound-core-run s F R M slots windows = each-run s F R M (λ j c. IsSoundCore R M j c) (λ j c event t h q. step-sound F R M j slots windows c event t h q) (λ j. idle-sound R M j)
 
 -- where a module hashes nothing, no strings of a run are in the way
 
@@ -100,11 +102,16 @@ module _ {Msg : Type 0} (s : Setup) (F : Formats Msg) (R : Rules) (M : Module Ms
         ]
   ]
 
+  settles-unhashed : (me : ℕ) (t : Turn Msg) → IsUnhashed t.core.past → IsUnhashed (settles F R M me t).core.past
+  settles-unhashed me t h = settles-holds F R M me (λ t. IsUnhashed t.core.past) (λ t l input. Unit {0})
+      (λ t l input k fit come. takes-unhashed me t.core.past l input t.core.leaf k) (λ t k complete. k) t h (λ done u x i k q. tt)
+
   took-unhashed : (me : ℕ) (c : Core Msg) (event : NodeEvent) (t : Turn Msg) → IsUnhashed c.past → Took F R M me c event t → IsUnhashed t.core.past
-  took-unhashed me c event t h (received k l msg u b e i) = rw i.is (takes-unhashed me c.past l _ c.leaf h)
+  took-unhashed me c event t h (received k l msg u un b e i q) = rw q (settles-unhashed me u (rw i.is (takes-unhashed me c.past l _ c.leaf h)))
+  took-unhashed me c event t h (kept k l msg u b e i) = rw i.is h
   took-unhashed me c event t h (asked k q u b r) = rw r.is h
-  took-unhashed me c event t h (cast n i) = rw i.is (takes-unhashed me c.past me _ c.leaf h)
-  took-unhashed me c event t h (fired l i) = rw i.is (takes-unhashed me c.past l.0 _ c.leaf h)
+  took-unhashed me c event t h (cast n u i q) = rw q (settles-unhashed me u (rw i.is (takes-unhashed me c.past me _ c.leaf h)))
+  took-unhashed me c event t h (fired l u i q) = rw q (settles-unhashed me u (rw i.is (takes-unhashed me c.past l.0 _ c.leaf h)))
 
   unhashed-run : (events : List Event) (j : ℕ) → IsUnhashed (pasts_of (net_after s F R M events) j)
   unhashed-run = each-run s F R M (λ j c. IsUnhashed c.past) (λ j c event t h q. took-unhashed j c event t h (took F R M j c event t q)) (λ j e l item i. absurd i)

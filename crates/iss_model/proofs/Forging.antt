@@ -1,6 +1,6 @@
 -- Runs of four nodes that are computed, of which the last is faulty: what is forged ends a run, and what was signed, or is
 -- in the faulty node's name, does not.
-use Rattle.std.proofs.Common.{◌≡◌, ℕ, List, [], ◌∷◌, Some, None, refl}
+use Rattle.std.proofs.Common.{◌≡◌, ℕ, ◌+◌, List, [], ◌∷◌, length, Some, None, refl}
 use Rattle.std.specs.Prelude.{nat_lt}
 use Rattle.iss_request.specs.Formats.{spell_batch, spell_count, spell_request, spell_value}
 use Rattle.iss_request.specs.declared.requests.Batch.{Batch}
@@ -9,12 +9,13 @@ use Rattle.iss_request.specs.declared.setups.Policy.TheVariants.{Simple}
 use Rattle.iss_request.specs.declared.setups.Setup.{Setup}
 use Rattle.iss_schedule.specs.declared.schedules.Event.{Event}
 use Rattle.iss_schedule.specs.declared.schedules.Event.TheVariants.{Request as Asks_order, Propose, Calm, Bytes}
+use Rattle.iss_sb.specs.Evidence.{Module}
 use Rattle.iss_sb.specs.Statements.{wide_bytes}
 use Rattle.iss_model.specs.Cluster.{Signed}
 use Rattle.iss_model.specs.Concrete.{rules_of}
 use Rattle.iss_model.specs.Rules.{Rules}
 use Rattle.iss_model.specs.Tested.{Forged, Going, begin_tested, run_tested}
-use Rattle.iss_model.proofs.Example.{plain_request, short}
+use Rattle.iss_model.proofs.Example.{first_told, plain_request, short}
 use Rattle.iss_model.proofs.Signing.{Word, claim_of, signing}
 
 abbrev four : Setup
@@ -64,3 +65,40 @@ ended = refl
 faulty : (after (Bytes 1 (told 3) ∷ [])).ended ≡ None
 unfolding wide_bytes spell_value spell_batch spell_count spell_request
 faulty = refl
+
+-- what comes early is read as its epoch begins. For this each node takes what a leader tells, so that epochs end
+abbrev hearing : Module Word
+hearing = record signing { decided = λ p me xs s. first_told p.leader.0 s xs }
+
+abbrev heard : List Event → Going Word
+heard events = run_tested four short easy hearing (begin_tested 4) events
+
+-- a message for the next epoch, in the name of a node, in the instance of a leader at its slot
+abbrev early : ℕ → ℕ → List ℕ
+early from leader = 0 ∷ from ∷ 1 ∷ leader ∷ (4 + leader) ∷ 0 ∷ 0 ∷ 170 ∷ []
+
+abbrev whole_epoch : List Event
+whole_epoch = Propose 0 ∷ Propose 1 ∷ Propose 2 ∷ Propose 3 ∷ Calm 1 ∷ []
+
+-- a forged one ends the run then, and not as it comes
+waits : (heard (Bytes 1 (early 0 0) ∷ [])).ended ≡ None
+unfolding wide_bytes spell_value spell_batch spell_count spell_request
+waits = refl
+
+early_forged : (heard (Bytes 1 (early 0 0) ∷ whole_epoch)).ended ≡ Some (Forged (claim_of ((rules_of four).params [] 1 0) 0 (record { 0 = 4 }, batch)))
+unfolding wide_bytes spell_value spell_batch spell_count spell_request
+early_forged = refl
+
+-- the faulty node's is taken
+early_taken : length (((heard (Bytes 1 (early 3 3) ∷ whole_epoch)).held.net.cores 1).past.evidence 1 3) ≡ 1
+unfolding wide_bytes spell_value spell_batch spell_count spell_request
+early_taken = refl
+
+-- and one that does not verify is gone
+early_gone : length (((heard (Bytes 1 (early 5 3) ∷ whole_epoch)).held.net.cores 1).past.evidence 1 3) ≡ 0
+unfolding wide_bytes spell_value spell_batch spell_count spell_request
+early_gone = refl
+
+early_next : (((heard (Bytes 1 (early 5 3) ∷ whole_epoch)).held.net.cores 1).past.epoch) ≡ 1
+unfolding wide_bytes spell_value spell_batch spell_count spell_request
+early_next = refl

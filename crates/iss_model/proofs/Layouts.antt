@@ -13,15 +13,14 @@ use Rattle.iss_request.specs.declared.ids.NodeId.{NodeId}
 use Rattle.iss_request.specs.declared.ids.Slot.{Slot}
 use Rattle.iss_request.specs.declared.requests.Value.{Value}
 use Rattle.iss_request.specs.declared.setups.Setup.{Setup}
-use Rattle.iss_layout.specs.Layout.{Plan, first_slot, node, nodes_below, segment, slot_leader}
-use Rattle.iss_layout.proofs.FairLemmas.{few_nodes, leads_means, length_below, rising_below, segment_ascending, segment_few, segment_slots, some_slot, turn_in}
+use Rattle.iss_layout.specs.Layout.{IsGoodPlan, Plan, first_slot, leads, node, segment, slot_leader}
+use Rattle.iss_layout.proofs.FairLemmas.{few_nodes, good_plan, leads_means, segment_ascending, segment_few, segment_slots, some_slot, turn_in}
 use Rattle.iss_sb.specs.Calls.{AreBelow, IsGoodParams}
 use Rattle.iss_sb.specs.Evidence.{Module}
 use Rattle.iss_model.specs.Concrete.{keys_of, least, number_of, plan_at, rules_of, slots_at, start_at}
 use Rattle.iss_model.specs.Ordered.{IsSoundRules}
 use Rattle.iss_model.specs.Past.{before_at, epoch_at, start_by}
 use Rattle.iss_model.specs.Runs.{IsSetupOf}
-use Rattle.iss_model.specs.Sound.{AreAllInside}
 
 rising-low : (from n : ℕ) (ls : List NodeId) → AreRising from n ls → (l : NodeId) → In l ls → l.0 < n
 rising-low from n [] h l i = absurd i
@@ -72,28 +71,31 @@ own-verifies s k q statement high leaf number =
     (verified-by (keys_of s).nodes k statement (signature_of (node_secret k) s.keys q statement)).1 (node-verifies s.n s.clients s.keys k q statement high leaf number)
 
 module _ {Msg : Type 0} (M : Module Msg) (s : Setup) (h : IsSetupOf M s) where
-  some-nodes : 1 ≤ length (nodes_below s.n)
-  some-nodes = omega (arith, (few_nodes s h.good).0, length_below s.n)
+  -- each epoch is well divided, whoever leads it
+  well-divided : (log : List Value) (e : ℕ) → IsGoodPlan (plan_at s log e)
+  well-divided log e = good_plan s e (start_at s log e) log h.good (start-low s h.good.epoch_high log e)
 
   -- the leader of a slot leads its epoch
-  leader-leads : (e : ℕ) (log : List Value) (slot : ℕ) → list_any (λ (x : NodeId). eqb x.0 (number_of (slot_leader (plan_at s log e) slot))) (nodes_below s.n) ≡ true
+  leader-leads : (e : ℕ) (log : List Value) (slot : ℕ) → leads (plan_at s log e) (number_of (slot_leader (plan_at s log e) slot)) ≡ true
   leader-leads e log slot =
-      let r = turn_in (nodes_below s.n) (slot - first_slot (plan_at s log e)) some-nodes in
-      let q : slot_leader (plan_at s log e) slot ≡ Some r.0 = r.1.1 in
-      rw q (leads-of (nodes_below s.n) r.0 r.1.0)
+      let p = plan_at s log e in
+      let r = turn_in p.leaders (slot - first_slot p) (well-divided log e).some in
+      let q : slot_leader p slot ≡ Some r.0 = r.1.1 in
+      rw q (leads-of p.leaders r.0 r.1.0)
 
   good-params : (log : List Value) (e l : ℕ) → (rules_of s).leads log e l ≡ true → IsGoodParams M ((rules_of s).params log e l)
-  good-params log e l leads =
+  good-params log e l lead =
       let p = plan_at s log e in
-      let inside : In (node l) (nodes_below s.n) = leads_means l (nodes_below s.n) leads in
+      let plan = well-divided log e in
+      let inside : In (node l) p.leaders = leads_means l p.leaders lead in
       record {
         setup = h.good;
         tag = h.tag;
         kind = h.kind;
         nodes = h.nodes;
         majority = h.majority;
-        leader = rising-low 0 s.n (nodes_below s.n) (rising_below s.n) (node l) inside;
-        some = some_slot p (omega (arith, length_below s.n, h.good.epoch_low)) l inside;
+        leader = rising-low 0 s.n p.leaders plan.rising (node l) inside;
+        some = some_slot p (omega (arith, plan.no_more, plan.enough)) l inside;
         few = omega (arith, segment_few p l, h.good.epoch_high);
         rising = segment_ascending p l;
         slots_low = segment-low p l (2 ^ 64) (start-low s h.good.epoch_high log e);
@@ -112,6 +114,3 @@ module _ {Msg : Type 0} (M : Module Msg) (s : Setup) (h : IsSetupOf M s) where
     batch = subst (λ (v : ℕ). s.batch ≤ requests_most v) (sym h.good.version) h.good.batch_high;
     signers = λ k statement sig v. (verified-by (keys_of s).nodes k statement sig).0 v;
   }
-
-pub all-inside : (s : Setup) → AreAllInside (rules_of s)
-all-inside s before e x = refl

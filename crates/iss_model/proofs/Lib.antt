@@ -1,10 +1,13 @@
 pub mod Epochs
 pub mod Logs
 pub mod Longest
+pub mod Ending
 pub mod Ids
 pub mod Judged
 pub mod Steps
+pub mod Rows
 pub mod Cuts
+pub mod Flights
 pub mod Casts
 pub mod Good
 pub mod Kept
@@ -16,9 +19,11 @@ pub mod Ends
 pub mod Adopts
 pub mod Reached
 pub mod Posts
+pub mod Unvoted
 pub mod Simulation
 pub mod Printed
 pub mod Layouts
+pub mod Windows
 pub mod Example
 pub mod Written
 pub mod Ranges
@@ -28,6 +33,10 @@ pub mod Statements
 pub mod Checkpoints
 pub mod Signing
 pub mod Tests
+pub mod Sifting
+pub mod Refusing
+pub mod Told
+pub mod TestedTurns
 pub mod Tested
 pub mod FromNodes
 pub mod TestedLog
@@ -35,3 +44,8 @@ pub mod Forging
 pub mod Adopting
 pub mod Turns
 pub mod Shown
+pub mod Filed
+pub mod Places
+pub mod Conserved
+pub mod InPlaces
+pub mod ConservedTested

@@ -18,13 +18,14 @@ use Rattle.iss_model.specs.Printed.{IsSeparateRun, pasts_after}
 use Rattle.iss_model.specs.Rules.{Rules}
 use Rattle.iss_model.specs.Runs.{AreAtNodes, IsFaithful, IsRunString, IsSetupOf}
 use Rattle.iss_model.proofs.Agree.{separate-part}
-use Rattle.iss_model.proofs.Layouts.{all-inside, sound-rules}
+use Rattle.iss_model.proofs.Layouts.{sound-rules}
+use Rattle.iss_model.proofs.Windows.{are-windows}
 use Rattle.iss_model.proofs.Printed.{after-ok, once-turned, turned}
-use Rattle.iss_model.proofs.Simulation.{unvoted, unvoted-exact}
+use Rattle.iss_model.proofs.Unvoted.{unvoted, unvoted-exact}
 
 pub cluster-run : {Msg : Type 0} (s : Setup) (M : Module Msg) → IsSetupOf M s → M.stopping ≡ true → IsFaithful s (formats_of s M) M → IsLawful M → (events : List Event) → AreAtNodes s.n events → IsClusterRun s M events
 cluster-run s M h stops faithful law events low =
-    let k = after-ok s (formats_of s M) (rules_of s) M (sound-rules M s h) stops faithful law (all-inside s) events low in
+    let k = after-ok s (formats_of s M) (rules_of s) M (sound-rules M s h) stops faithful law (are-windows s) events low in
     record {
       scheme = unvoted;
       cluster = record { pasts = pasts_after s M events; messages = k.messages; book = []; strings = k.strings };

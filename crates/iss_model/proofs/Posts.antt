@@ -89,3 +89,8 @@ posted-in F n i d l (x ∷ xs) w p h = elim (posted-in F n i d l xs (posted_to w
     | inr b ↦ inr (record { to = x.0; msg = x.1; sent = inl refl; addressed = b.1; bytes = b.0; is_told = in_left _ (told_to i d l x.1 (addressees n x.0)) (told n i d l xs) (in-told_to i d l x.1 (addressees n x.0) p.to b.1) })
   ]
 ]
+
+-- sends in two parts
+pub posted-append : (n : ℕ) (w : Network) (from : ℕ) (xs ys : List (To × List ℕ)) → posted_all n w from (xs ++ ys) ≡ posted_all n (posted_all n w from xs) from ys
+posted-append n w from [] ys = refl
+posted-append n w from (x ∷ xs) ys = posted-append n (posted_to w from x.1 (addressees n x.0)) from xs ys

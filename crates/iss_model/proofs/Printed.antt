@@ -16,7 +16,7 @@ use Rattle.iss_model.specs.Past.{log_of}
 use Rattle.iss_model.specs.Rules.{Rules}
 use Rattle.iss_model.specs.Run.{Progress, begin_run, run}
 use Rattle.iss_model.specs.Runs.{AreAtNodes, IsFaithful, IsPrefix, log_after, net_after, pasts_of}
-use Rattle.iss_model.specs.Sound.{AreAllInside, IsSoundCore}
+use Rattle.iss_model.specs.Sound.{AreWindows, IsSoundCore}
 use Rattle.iss_model.proofs.Ids.{log_ids-append}
 use Rattle.iss_model.proofs.Simulation.{NetOk, run-ok, start-ok}
 
@@ -54,9 +54,9 @@ pub run-append : {Msg : Type 0} (s : Setup) (F : Formats Msg) (R : Rules) (M : M
 run-append s F R M [] fs p = refl
 run-append s F R M (e ∷ es) fs p = run-append s F R M es fs _
 
-module _ {Msg : Type 0} (s : Setup) (F : Formats Msg) (R : Rules) (M : Module Msg) (sound : IsSoundRules s M R) (stops : M.stopping ≡ true) (faithful : IsFaithful s F M) (law : IsLawful M) (inside : AreAllInside R) where
+module _ {Msg : Type 0} (s : Setup) (F : Formats Msg) (R : Rules) (M : Module Msg) (sound : IsSoundRules s M R) (stops : M.stopping ≡ true) (faithful : IsFaithful s F M) (law : IsLawful M) (windows : AreWindows R) where
   pub after-ok : (events : List Event) → AreAtNodes s.n events → NetOk s F R M sound stops faithful law (net_after s F R M events)
-  after-ok events low = (run-ok s F R M sound stops faithful law inside events (begin_run s.n) (start-ok s F R M sound stops faithful law inside) low).ok
+  after-ok events low = (run-ok s F R M sound stops faithful law windows events (begin_run s.n) (start-ok s F R M sound stops faithful law windows) low).ok
 
   -- every core of a run is sound
   pub sound-run : (events : List Event) → AreAtNodes s.n events → (i : ℕ) → IsSoundCore R M i ((net_after s F R M events).cores i)
@@ -65,6 +65,6 @@ module _ {Msg : Type 0} (s : Setup) (F : Formats Msg) (R : Rules) (M : Module Ms
   -- what is printed after more events begins with what was printed
   pub later-run : (events : List Event) → AreAtNodes s.n events → (more : List Event) → AreAtNodes s.n more → (i : ℕ) → IsPrefix (log_after s F R M events i) (log_after s F R M (events ++ more) i)
   later-run events low more low_more i =
-      let g = run-ok s F R M sound stops faithful law inside more (run s F R M (begin_run s.n) events) (after-ok events low) low_more in
+      let g = run-ok s F R M sound stops faithful law windows more (run s F R M (begin_run s.n) events) (after-ok events low) low_more in
       let p : Progress Msg = run s F R M (run s F R M (begin_run s.n) events) more in
       subst (λ (q : Progress Msg). IsPrefix (log_after s F R M events i) (reverse (log_of R M i (pasts_of q.net i)))) (sym (run-append s F R M events more (begin_run s.n))) (turned (log_of R M i (pasts_of (net_after s F R M events) i)) (log_of R M i (pasts_of p.net i)) (g.grows.logs i))

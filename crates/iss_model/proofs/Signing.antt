@@ -28,7 +28,8 @@ use Rattle.iss_sb.specs.Laws.{IsBroadcast, IsHeard, IsLawful, IsSafe}
 use Rattle.iss_sb.specs.Statements.{eight_bytes, signature, statement_head}
 use Rattle.iss_sb.proofs.Read.{batch-read}
 use Rattle.iss_model.specs.Checkpoints.{scheme_of}
-use Rattle.iss_model.specs.Cluster.{Cluster, Ended, Moved, Names, Reach, Scheme, Signed, advanced, begin, chain_strings, ends, move, vote_of, vote_statement}
+use Rattle.iss_model.specs.Cluster.{Cluster, Ended, Moved, Names, Reach, Scheme, Signed, begin, chain_strings, ends, move, vote_of, vote_statement}
+use Rattle.iss_model.specs.Past.{advanced}
 use Rattle.iss_model.specs.Concrete.{rules_of}
 use Rattle.iss_model.specs.Ordered.{Among, Ordered}
 use Rattle.iss_model.specs.Past.{Past, log_of, newborn, takes}
@@ -232,7 +233,6 @@ setup-good = record {
   relay_kind = λ h. absurd (omega (arith, h));
   nodes = refl;
   majority = refl;
-  simple = refl;
   epoch_low = omega arith;
   epoch_high = omega arith;
   buckets_low = omega arith;

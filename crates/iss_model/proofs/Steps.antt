@@ -1,5 +1,6 @@
 -- What a step did that took its event.
-use Rattle.std.proofs.Common.{◌≡◌, ℕ, Bool, true, false, cond, eqb, not, List, [], ◌∷◌, ◌++◌, Option, Some, None, refl}
+use Rattle.std.proofs.Common.{◌≡◌, inl, inr, ℕ, suc, ◌<◌, Bool, true, false, cond, eqb, not, List, [], ◌∷◌, ◌++◌, length, Option, Some, None, refl, sym, ap, ◌∙◌}
+use Rattle.std.proofs.lemmas.Bool.Decides.{leb_tells}
 use Rattle.iss_base.proofs.Lists.{is-eq, not-false}
 use Rattle.iss_request.specs.declared.ids.NodeId.{NodeId}
 use Rattle.iss_request.specs.declared.ids.Slot.{Slot}
@@ -12,9 +13,9 @@ use Rattle.iss_model.specs.declared.causes.NodeEvent.{NodeEvent}
 use Rattle.iss_model.specs.declared.causes.NodeEvent.TheVariants.{Packet as Gets, Propose as Proposes, Timeout as Fires}
 use Rattle.iss_model.specs.declared.causes.Refusal.{Refusal}
 use Rattle.iss_model.specs.declared.causes.Why.{Why}
-use Rattle.iss_model.specs.declared.causes.Why.TheVariants.{BadRequest, Known, NoKeys, NotLeader, OtherEpoch}
+use Rattle.iss_model.specs.declared.causes.Why.TheVariants.{BadRequest, EarlyFull, Known, NoKeys, NotLeader, OtherEpoch, OutOfWindow}
 use Rattle.iss_buckets.specs.Waiting.{cut, uncut}
-use Rattle.iss_model.specs.Node.{Body, Core, Dropped, Formats, OfModule, OfRequest, Parcel, Stepped, Taken, Turn, at_instance, by_verdict, casts_at, has_leaves, inputs, is_known, is_mine, next_slot, step, takes_bytes, takes_parcel, takes_request, verdict}
+use Rattle.iss_model.specs.Node.{Body, Core, Dropped, Early, Formats, OfModule, OfRequest, Parcel, Stepped, Taken, Turn, at_instance, by_verdict, casts_at, early_most, has_leaves, inputs, is_known, is_mine, keeps_early, next_slot, rests, settled, settles, step, takes_bytes, takes_parcel, takes_request, verdict}
 use Rattle.iss_model.specs.Past.{asked_in, before, params_of}
 use Rattle.iss_model.specs.Rules.{Rules}
 
@@ -41,7 +42,8 @@ module _ {Msg : Type 0} (F : Formats Msg) (R : Rules) (M : Module Msg) (me : ℕ
   pub record IsRequested (q : Request) (t : Turn Msg) : Type 0 where
     pub signed : R.signed q ≡ true
     pub unknown : is_known R M me c q.id ≡ false
-    pub is : t ≡ record { core = record c { waiting = c.waiting ++ q ∷ [] }; sends = []; own = []; strings = [] }
+    pub inside : R.inside (before R M me c.past c.past.epoch) c.past.epoch q.id ≡ true
+    pub is : t ≡ rests (record c { waiting = c.waiting ++ q ∷ [] })
 
   -- the batch that is cast, and the core that casts it at a slot
   abbrev pub next_batch : Batch
@@ -56,11 +58,18 @@ module _ {Msg : Type 0} (F : Formats Msg) (R : Rules) (M : Module Msg) (me : ℕ
     pub free : next_slot R M me c ≡ Some s
     pub is : t ≡ inputs F R M me (casting s) me (Cast s next_batch)
 
+  -- a message of the next epoch was kept
+  pub record IsKept (x : Early Msg) (t : Turn Msg) : Type 0 where
+    pub few : length c.early < early_most
+    pub is : t ≡ rests (record c { early = c.early ++ x ∷ [] })
+
+  -- what a taken event did first; an epoch may end of it
   pub data Took : NodeEvent → Turn Msg → Type 0 where
-    received : {bytes : List ℕ} {t : Turn Msg} (k : Parcel Msg) (l : ℕ) (msg : Msg) → F.unwrap bytes ≡ Some k → k.body ≡ OfModule l msg → k.epoch ≡ c.past.epoch → IsInput l (Receive (record { 0 = k.from }) msg) t → Took (Gets bytes) t
+    received : {bytes : List ℕ} {t : Turn Msg} (k : Parcel Msg) (l : ℕ) (msg : Msg) (u : Turn Msg) → F.unwrap bytes ≡ Some k → k.body ≡ OfModule l msg → k.epoch ≡ c.past.epoch → IsInput l (Receive (record { 0 = k.from }) msg) u → t ≡ settles F R M me u → Took (Gets bytes) t
+    kept : {bytes : List ℕ} {t : Turn Msg} (k : Parcel Msg) (l : ℕ) (msg : Msg) → F.unwrap bytes ≡ Some k → k.body ≡ OfModule l msg → k.epoch ≡ suc c.past.epoch → IsKept (record { from = k.from; leader = l; msg = msg }) t → Took (Gets bytes) t
     asked : {bytes : List ℕ} {t : Turn Msg} (k : Parcel Msg) (q : Request) → F.unwrap bytes ≡ Some k → k.body ≡ OfRequest q → IsRequested q t → Took (Gets bytes) t
-    cast : {t : Turn Msg} (s : Slot) → IsCast s t → Took Proposes t
-    fired : {t : Turn Msg} (l : NodeId) → IsInput l.0 Timeout t → Took (Fires l) t
+    cast : {t : Turn Msg} (s : Slot) (u : Turn Msg) → IsCast s u → t ≡ settles F R M me u → Took Proposes t
+    fired : {t : Turn Msg} (l : NodeId) (u : Turn Msg) → IsInput l.0 Timeout u → t ≡ settles F R M me u → Took (Fires l) t
 
   approved : (v : Option Refusal) (u t : Turn Msg) → by_verdict v u ≡ Taken t → (v ≡ None) × (t ≡ u)
   approved None u t h = (refl, turn-is u t h)
@@ -77,13 +86,25 @@ module _ {Msg : Type 0} (F : Formats Msg) (R : Rules) (M : Module Msg) (me : ℕ
   request-taken q t h =
       let a = undropped (not (R.signed q)) BadRequest _ t h in
       let b = undropped (is_known R M me c q.id) Known _ t a.1 in
-      record { signed = not-false _ a.0; unknown = b.0; is = turn-is _ t b.1 }
+      let d = undropped (not (R.inside (before R M me c.past c.past.epoch) c.past.epoch q.id)) OutOfWindow _ t b.1 in
+      record { signed = not-false _ a.0; unknown = b.0; inside = not-false _ d.0; is = turn-is _ t d.1 }
 
-  pub cast-taken : (o : Option Slot) (t : Turn Msg) → next_slot R M me c ≡ o → R.leads (before R M me c.past c.past.epoch) c.past.epoch me ≡ true → casts_at F R M me c o ≡ Taken t → (s : Slot) × IsCast s t
+  pub cast-taken : (o : Option Slot) (t : Turn Msg) → next_slot R M me c ≡ o → R.leads (before R M me c.past c.past.epoch) c.past.epoch me ≡ true → casts_at F R M me c o ≡ Taken t → Took Proposes t
   cast-taken None t q leads h = absurd (untaken _ t h)
   cast-taken (Some s) t q leads h =
       let a = undropped (not (has_leaves M (params_of R M me c.past me) c.leaf)) NoKeys _ t h in
-      (s, record { leads = leads; leaves = not-false _ a.0; free = q; is = turn-is _ t a.1 })
+      cast s (inputs F R M me (casting s) me (Cast s next_batch)) (record { leads = leads; leaves = not-false _ a.0; free = q; is = refl }) (turn-is _ t a.1)
+
+  -- what is settled was taken
+  settled-taken : (o : Stepped Msg) (t : Turn Msg) → settled F R M me o ≡ Taken t → (u : Turn Msg) × (o ≡ Taken u) × (t ≡ settles F R M me u)
+  settled-taken (Dropped why) t h = absurd (untaken why t h)
+  settled-taken (Taken u) t h = (u, refl, turn-is (settles F R M me u) t h)
+
+  kept-taken : (x : Early Msg) (t : Turn Msg) → keeps_early c x ≡ Taken t → IsKept x t
+  kept-taken x t h = elim (leb_tells (suc (length c.early)) early_most) [
+    | inl y ↦ record { few = y.1; is = turn-is _ t (sym (ap (λ (b : Bool). cond b (Taken (rests (record c { early = c.early ++ x ∷ [] }))) (Dropped EarlyFull)) y.0) ∙ h) }
+    | inr y ↦ absurd (untaken EarlyFull t (sym (ap (λ (b : Bool). cond b (Taken (rests (record c { early = c.early ++ x ∷ [] }))) (Dropped EarlyFull)) y.0) ∙ h))
+  ]
 
   bytes-taken : (bytes : List ℕ) (t : Turn Msg) (o : Option (Parcel Msg)) → F.unwrap bytes ≡ o → takes_bytes F R M me c o ≡ Taken t → Took (Gets bytes) t
   bytes-taken bytes t None u h = absurd (untaken _ t h)
@@ -91,14 +112,29 @@ module _ {Msg : Type 0} (F : Formats Msg) (R : Rules) (M : Module Msg) (me : ℕ
     where
       go : (b : Body Msg) → k.body ≡ b → takes_parcel F R M me c k.from k.epoch b ≡ Taken t → Took (Gets bytes) t
       go (OfRequest q) e h = asked k q u e (request-taken q t h)
-      go (OfModule l msg) e h =
-          let a = undropped (not (eqb k.epoch c.past.epoch)) OtherEpoch (at_instance F R M me c l (Receive (record { 0 = k.from }) msg)) t h in
-          received k l msg u e (is-eq k.epoch c.past.epoch (not-false _ a.0)) (input-taken l (Receive (record { 0 = k.from }) msg) t a.1)
+      go (OfModule l msg) e h = now (eqb k.epoch c.past.epoch) refl h
+        where
+          input : Input Msg
+          input = Receive (record { 0 = k.from }) msg
+
+          x : Early Msg
+          x = record { from = k.from; leader = l; msg = msg }
+
+          next : (b : Bool) → eqb k.epoch (suc c.past.epoch) ≡ b → cond b (keeps_early c x) (Dropped OtherEpoch) ≡ Taken t → Took (Gets bytes) t
+          next true q m = kept k l msg u e (is-eq k.epoch (suc c.past.epoch) q) (kept-taken x t m)
+          next false q m = absurd (untaken OtherEpoch t m)
+
+          now : (b : Bool) → eqb k.epoch c.past.epoch ≡ b → cond b (settled F R M me (at_instance F R M me c l input)) (cond (eqb k.epoch (suc c.past.epoch)) (keeps_early c x) (Dropped OtherEpoch)) ≡ Taken t → Took (Gets bytes) t
+          now true q m =
+              let r = settled-taken (at_instance F R M me c l input) t m in
+              received k l msg r.0 u e (is-eq k.epoch c.past.epoch q) (input-taken l input r.0 r.1) r.2
+          now false q m = next (eqb k.epoch (suc c.past.epoch)) refl m
 
   pub took : (event : NodeEvent) (t : Turn Msg) → step F R M me c event ≡ Taken t → Took event t
   took (Gets bytes) t h = bytes-taken bytes t (F.unwrap bytes) refl h
   took Proposes t h =
       let a = undropped (not (R.leads (before R M me c.past c.past.epoch) c.past.epoch me)) NotLeader (casts_at F R M me c (next_slot R M me c)) t h in
-      let r = cast-taken (next_slot R M me c) t refl (not-false _ a.0) a.1 in
-      cast r.0 r.1
-  took (Fires l) t h = fired l (input-taken l.0 Timeout t h)
+      cast-taken (next_slot R M me c) t refl (not-false _ a.0) a.1
+  took (Fires l) t h =
+      let r = settled-taken (at_instance F R M me c l.0 Timeout) t h in
+      fired l r.0 (input-taken l.0 Timeout r.0 r.1) r.2

@@ -11,17 +11,18 @@ use Rattle.iss_model.specs.Ordered.{Ordered}
 use Rattle.iss_model.specs.Past.{log_of}
 use Rattle.iss_model.specs.Runs.{AreAtNodes, IsFaithful, IsSetupOf}
 use Rattle.iss_model.specs.TestedLog.{IsOneTestedLog, IsTestedRun, tested_after, tested_pasts}
-use Rattle.iss_model.proofs.Layouts.{all-inside, sound-rules}
+use Rattle.iss_model.proofs.Layouts.{sound-rules}
+use Rattle.iss_model.proofs.Windows.{are-windows}
 use Rattle.iss_model.proofs.OneLog.{turned-cut}
 use Rattle.iss_model.proofs.Printed.{once-turned, turned}
-use Rattle.iss_model.proofs.Simulation.{unvoted}
+use Rattle.iss_model.proofs.Unvoted.{unvoted}
 use Rattle.iss_model.proofs.Tested.{exact, tested-grows, tested-ordered, tested-run}
 
 module _ {Msg : Type 0} (s : Setup) (M : Module Msg) (h : IsSetupOf M s) (faithful : IsFaithful s (formats_of s M) M) (law : IsLawful M) where
   pub is-tested : (events : List Event) → AreAtNodes s.n events → IsTestedRun s M events
   is-tested events low =
       let g = (tested_after s M events).held in
-      let ok = tested-run s (formats_of s M) (rules_of s) M (sound-rules M s h) faithful law (all-inside s) events low in
+      let ok = tested-run s (formats_of s M) (rules_of s) M (sound-rules M s h) faithful law (are-windows s) events low in
       record {
         scheme = unvoted;
         cluster = record { pasts = tested_pasts s M events; messages = ok.messages; book = g.signed; strings = g.hashed };
@@ -30,16 +31,16 @@ module _ {Msg : Type 0} (s : Setup) (M : Module Msg) (h : IsSetupOf M s) (faithf
         strings = refl;
         reached = ok.reach;
         sound = sound-rules M s h;
-        exact = exact s (formats_of s M) (rules_of s) M (sound-rules M s h) faithful law (all-inside s) g ok;
+        exact = exact s (formats_of s M) (rules_of s) M (sound-rules M s h) faithful law (are-windows s) g ok;
         separate = ok.separate;
       }
 
   pub one-tested : IsSafe M → (events : List Event) → AreAtNodes s.n events → IsOneTestedLog s M events
   one-tested safe events low =
-      let o : Ordered s (rules_of s) M (tested_pasts s M events) = tested-ordered s (formats_of s M) (rules_of s) M (sound-rules M s h) faithful law (all-inside s) safe events low in
+      let o : Ordered s (rules_of s) M (tested_pasts s M events) = tested-ordered s (formats_of s M) (rules_of s) M (sound-rules M s h) faithful law (are-windows s) safe events low in
       record {
         prefix = λ i j oki okj. elim (o.one i j oki okj) [ inl x ↦ inl (turned _ _ x) | inr x ↦ inr (turned _ _ x) ];
         once = λ i ok. once-turned (log_of (rules_of s) M i (tested_pasts s M events i)) (o.once i ok);
         valid = λ i ok front back b is. o.valid i ok (reverse front) b (turned-cut (log_of (rules_of s) M i (tested_pasts s M events i)) front back (Holds b) is);
-        grows = λ more low_more i. turned _ _ ((tested-grows s (formats_of s M) (rules_of s) M (sound-rules M s h) faithful law (all-inside s) events more low low_more).logs i);
+        grows = λ more low_more i. turned _ _ ((tested-grows s (formats_of s M) (rules_of s) M (sound-rules M s h) faithful law (are-windows s) events more low low_more).logs i);
       }

@@ -1,7 +1,7 @@
 -- What the tests of a delivery and of a step say: of claims, of strings, and of a node's own claims in what it sends.
-use Rattle.std.proofs.Common.{◌≡◌, inl, inr, ℕ, Bool, true, false, cond, eqb, not, ◌&&◌, List, [], ◌∷◌, Option, Some, None, refl, sym, ap, ap₂, ◌∙◌, subst, true≢false}
+use Rattle.std.proofs.Common.{◌≡◌, ◌⊎◌, inl, inr, ℕ, Bool, true, false, cond, eqb, not, ◌&&◌, List, [], ◌∷◌, ◌++◌, Option, Some, None, refl, sym, ap, ap₂, ◌∙◌, subst, true≢false}
 use Rattle.iss_base.specs.Lists.{In, first_of, over, same_bytes}
-use Rattle.iss_base.proofs.Lists.{and-true, in_append, is-eq, same_bytes-is, same_bytes-refl}
+use Rattle.iss_base.proofs.Lists.{and-true, in_append, in_left, is-eq, same_bytes-is, same_bytes-refl}
 use Rattle.iss_request.specs.Digest.{digest}
 use Rattle.iss_request.specs.declared.setups.Setup.{Setup}
 use Rattle.iss_sb.specs.declared.effects.Claim.{Claim}
@@ -12,7 +12,7 @@ use Rattle.iss_model.specs.Cluster.{IsOwn, Signed}
 use Rattle.iss_model.specs.Node.{only_by, own_claims}
 use Rattle.iss_model.specs.Ordered.{Among}
 use Rattle.iss_model.specs.Rules.{Rules}
-use Rattle.iss_model.specs.Tested.{all_verify, as_signed, collision_in, collision_with, first_forged, has_signed, is_collision, is_forged}
+use Rattle.iss_model.specs.Tested.{all_verify, as_signed, booked, collision_in, collision_with, first_forged, has_signed, is_collision, is_forged}
 
 -- tests on bytes, claims and strings
 
@@ -91,7 +91,15 @@ over-new x [] log h = absurd h
 over-new x (v ∷ vs) log (inl e) = over-old x vs (v ∷ log) (inl e)
 over-new x (v ∷ vs) log (inr h) = over-new x vs (v ∷ log) h
 
+pub over-append : {A : Type 0} (a b log : List A) → over (a ++ b) log ≡ over b (over a log)
+over-append [] b log = refl
+over-append (x ∷ a) b log = over-append a b (x ∷ log)
+
 -- a node's own claims in what it sends
+
+pub as_signed-append : (a b : List Claim) → as_signed (a ++ b) ≡ as_signed a ++ as_signed b
+as_signed-append [] b = refl
+as_signed-append (c ∷ a) b = ap (λ (xs : List Signed). record { by = c.by.0; statement = c.statement } ∷ xs) (as_signed-append a b)
 
 only-by : (i : ℕ) (cs : List Claim) (c : Claim) → In c (only_by i cs) → In c cs × (c.by.0 ≡ i)
 only-by i [] c h = absurd h
@@ -127,3 +135,18 @@ module _ {Msg : Type 0} (M : Module Msg) (p : Params) (i : ℕ) where
       let r = in-signed (own_claims M p i sends) x h in
       let o = own-claim sends r.0 r.1 in
       record { to = o.to; msg = o.msg; sent = o.sent; claim = r.0; made = o.made; by = o.by; is = r.2 ∙ ap (λ (n : ℕ). record { by = n; statement = r.0.statement }) o.by }
+
+-- the book after two parts of a turn
+module _ (s : Setup) (i : ℕ) (a b : List Claim) where
+  booked-append : booked s i (a ++ b) ≡ booked s i a ++ booked s i b
+  booked-append = go (is_correct s i)
+    where
+      go : (t : Bool) → cond t (as_signed (a ++ b)) [] ≡ cond t (as_signed a) [] ++ cond t (as_signed b) []
+      go true = as_signed-append a b
+      go false = refl
+
+  pub booked-split : (x : Signed) → In x (booked s i (a ++ b)) → In x (booked s i a) ⊎ In x (booked s i b)
+  booked-split x k = in_append x (booked s i a) (booked s i b) (subst (λ (xs : List Signed). In x xs) booked-append k)
+
+  pub booked-first : (x : Signed) → In x (booked s i a) → In x (booked s i (a ++ b))
+  booked-first x k = subst (λ (xs : List Signed). In x xs) (sym booked-append) (in_left x (booked s i a) (booked s i b) k)

@@ -6,7 +6,8 @@ use Rattle.iss_request.specs.declared.setups.Setup.{Setup}
 use Rattle.iss_sb.specs.declared.effects.Input.{Input}
 use Rattle.iss_sb.specs.declared.effects.Input.TheVariants.{Cast, Receive, Timeout}
 use Rattle.iss_sb.specs.Evidence.{IsCredible, Module, is_correct}
-use Rattle.iss_model.specs.Cluster.{AllSpelled, Cluster, IsBooked, IsVerified, MayGet, MayTake, Reach, Scheme, Signed, adopt, adopted_log, adopts, advanced, chain_strings, ends, move, vote_statement}
+use Rattle.iss_model.specs.Cluster.{AllSpelled, Cluster, IsBooked, IsVerified, MayGet, MayTake, Reach, Scheme, Signed, adopt, chain_strings, ends, move, vote_statement}
+use Rattle.iss_model.specs.Past.{adopted_log, adopts, advanced}
 use Rattle.iss_model.specs.Past.{Past, log_of, made_in, params_of, takes}
 use Rattle.iss_model.specs.Rules.{Rules}
 use Rattle.iss_model.specs.Turns.{Adopts, AreRight, Ends, IsRight, MayHear, Small, Takes, hashes_at, hashes_of, past_after, past_of, signs_at, signs_of}

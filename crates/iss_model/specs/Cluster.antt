@@ -1,7 +1,7 @@
 -- All nodes over all epochs, as far as logs depend on them, and what may happen to them. Nothing here runs: a run of
 -- the cluster is shown to be a chain of these moves.
-use Rattle.std.specs.Prelude.{◌≡◌, ◌≢◌, ◌⊎◌, ℕ, suc, ◌≤◌, Bool, true, false, cond, nat_le, List, [], ◌∷◌, ◌++◌, length, Some, None}
-use Rattle.iss_base.specs.Lists.{Chain, In, over}
+use Rattle.std.specs.Prelude.{◌≡◌, ◌≢◌, ◌⊎◌, ℕ, ◌≤◌, Bool, true, false, cond, List, [], ◌∷◌, ◌++◌, length, Some, None}
+use Rattle.iss_base.specs.Lists.{Chain, In}
 use Rattle.iss_request.specs.Digest.{digest}
 use Rattle.iss_request.specs.Log.{requests}
 use Rattle.iss_request.specs.declared.requests.Value.{Value}
@@ -14,8 +14,8 @@ use Rattle.iss_sb.specs.declared.effects.To.{To}
 use Rattle.iss_sb.specs.Evidence.{IsCredible, IsReadBatch, Module, Reaches, World, delivered, is_correct}
 use Rattle.iss_sb.specs.Statements.{eight_bytes, head_of}
 use Rattle.iss_model.specs.Node.{verdict_in}
-use Rattle.iss_model.specs.Past.{Past, Piece, before, before_at, cut_at, epoch_at, leader_at, leads_in, log_of, newborn}
-use Rattle.iss_model.specs.Past.{made_in, params_at, params_of, start_of, takes}
+use Rattle.iss_model.specs.Past.{Past, Piece, adopted_log, adopts, advanced, before, before_at, ended_log, epoch_at, is_complete}
+use Rattle.iss_model.specs.Past.{leader_at, leads_in, log_of, made_in, newborn, params_at, params_of, takes}
 use Rattle.iss_model.specs.Rules.{Rules}
 
 -- a message of a module, on its way
@@ -157,16 +157,6 @@ pub record Rested {Msg : Type 0} (s : Setup) (M : Module Msg) (v w : Cluster Msg
   pub quiet : Quiet M v w
   pub book : (x : Signed) → In x w.book → In x v.book
 
--- whether the log holds the node's whole epoch, the past in the next epoch, and the log at the end of the epoch
-abbrev pub is_complete : {Msg : Type 0} → Rules → Module Msg → ℕ → Past Msg → Bool
-is_complete R M me c = nat_le (start_of R (log_of R M me c) (suc c.epoch)) (length (log_of R M me c))
-
-abbrev pub advanced : {Msg : Type 0} → Past Msg → Past Msg
-advanced c = record { epoch = suc c.epoch; evidence = c.evidence; adopted = c.adopted }
-
-abbrev pub ended_log : {Msg : Type 0} → Rules → Module Msg → ℕ → Past Msg → List Value
-ended_log R M i c = cut_at R (log_of R M i c) (suc c.epoch)
-
 -- what a node votes for that ends its epoch
 abbrev pub vote_of : {Msg : Type 0} → Setup → Scheme → Rules → Module Msg → ℕ → Past Msg → List ℕ
 vote_of s S R M i c = vote_statement s c.epoch (chain S (ended_log R M i c)) (requests (ended_log R M i c))
@@ -195,14 +185,6 @@ pub record Cert : Type 0 where
 abbrev pub signers : List Signature → List ℕ
 signers [] = []
 signers (x ∷ xs) = x.by ∷ signers xs
-
--- the past with a piece, which ends its epoch
-abbrev pub adopts : {Msg : Type 0} → Past Msg → Piece → Past Msg
-adopts c p = record { epoch = suc c.epoch; evidence = c.evidence; adopted = p ∷ c.adopted }
-
--- the log that a piece leads to
-abbrev pub adopted_log : {Msg : Type 0} → Rules → Module Msg → ℕ → Past Msg → Piece → List Value
-adopted_log R M i c piece = over piece.values (before R M i c piece.epoch)
 
 -- the votes of correct nodes in a certificate are in the book
 abbrev pub AreVotes : Setup → List Signed → ℕ → Cert → Type 0

@@ -1,11 +1,13 @@
 -- The rules of a cluster under its set-up.
-use Rattle.std.specs.Prelude.{ℕ, zero, suc, ◌-◌, ◌^◌, List, cond, nat_le, nat_lt, true, Option, Some, None}
+use Rattle.std.specs.Prelude.{ℕ, zero, suc, ◌-◌, ◌^◌, List, cond, nat_le, nat_lt, Option, Some, None}
 use Rattle.iss_keys.specs.Directories.{DirectoryView, directory_of}
 use Rattle.iss_keys.specs.VerifiedBy.{is_verified_by}
 use Rattle.iss_layout.specs.Layout.{Plan, bucket_of, bucket_owner, leads, plan_of, segment, slot_leader}
+use Rattle.iss_request.specs.Log.{log_ids}
 use Rattle.iss_request.specs.declared.ids.NodeId.{NodeId}
 use Rattle.iss_request.specs.declared.requests.Value.{Value}
 use Rattle.iss_request.specs.declared.setups.Setup.{Setup}
+use Rattle.iss_window.specs.Window.{is_inside, place_of}
 use Rattle.iss_model.specs.Past.{start_by}
 use Rattle.iss_model.specs.Rules.{Rules}
 
@@ -34,8 +36,7 @@ plan_at s log e = plan_of s e (start_at s log e) log
 abbrev pub keys_of : Setup → DirectoryView
 keys_of s = directory_of s.n s.clients s.keys
 
--- epochs are divided by the layout, and nodes sign by their keys. A request is signed where its client exists, and windows
--- are not there yet, so each number is inside
+-- epochs are divided by the layout, and nodes sign by their keys. A request is signed where its client exists
 abbrev pub rules_of : Setup → Rules
 rules_of s =
     record {
@@ -45,7 +46,7 @@ rules_of s =
       leads = λ log e l. leads (plan_at s log e) l;
       owner = λ log e id. number_of (bucket_owner (plan_at s log e) (bucket_of (plan_at s log e) id));
       signed = λ q. nat_lt q.id.client s.clients;
-      inside = λ log e id. true;
+      inside = λ log e id. is_inside (place_of s.window (log_ids log) id);
       batch = s.batch;
       verifies = λ k statement sig. is_verified_by (keys_of s).nodes k statement sig;
       params = λ log e l. record {

@@ -8,6 +8,7 @@ pub mod Run
 pub mod Runs
 pub mod Sound
 pub mod Concrete
+pub mod Conserved
 pub mod Formats
 pub mod Printed
 pub mod OneLog
@@ -15,3 +16,4 @@ pub mod Checkpoints
 pub mod Tested
 pub mod TestedLog
 pub mod Turns
+pub mod Views

@@ -1,8 +1,9 @@
--- One node: what it holds, and one step of it.
+-- One node over all epochs: what it holds, and one step of it.
 use Rattle.std.specs.Prelude.{ℕ, suc, ◌+◌, ◌-◌, ◌==◌, nat_lt, cond, Bool, false, not, ◌&&◌, ◌||◌}
 use Rattle.std.specs.Prelude.{List, [], ◌∷◌, ◌++◌, Option, Some, None, length, is_some, take}
 use Rattle.iss_buckets.specs.Waiting.{absent, cut, uncut}
 use Rattle.iss_keys.specs.KeyStates.{left_of}
+pub use Rattle.iss_layout.specs.Layout.{is_nil_at}
 use Rattle.iss_request.specs.Log.{has_id, ids, log_ids}
 use Rattle.iss_request.specs.declared.ids.ReqId.{ReqId}
 use Rattle.iss_request.specs.declared.ids.Slot.{Slot}
@@ -19,9 +20,10 @@ use Rattle.iss_model.specs.declared.causes.NodeEvent.{NodeEvent}
 use Rattle.iss_model.specs.declared.causes.NodeEvent.TheVariants.{Packet as Gets, Propose as Proposes, Timeout as Fires}
 use Rattle.iss_model.specs.declared.causes.Refusal.{Refusal}
 use Rattle.iss_model.specs.declared.causes.Why.{Why}
-use Rattle.iss_model.specs.declared.causes.Why.TheVariants.{NotPacket, BadRequest, Known, OtherEpoch, NotLeader, NothingToCast, NoKeys, Refused}
+use Rattle.iss_model.specs.declared.causes.Why.TheVariants.{NotPacket, BadRequest, Known, OutOfWindow, OtherEpoch, EarlyFull}
+use Rattle.iss_model.specs.declared.causes.Why.TheVariants.{NotLeader, NothingToCast, NoKeys, Refused}
 use Rattle.iss_model.specs.Judge.{judge, marks}
-use Rattle.iss_model.specs.Past.{Past, asked_in, before_own, leads_in, log_of, made_in, newborn, params_of, taken_in, takes}
+use Rattle.iss_model.specs.Past.{Past, advanced, asked_in, before_own, is_complete, leads_in, log_of, made_in, newborn, params_of, taken_in, takes}
 use Rattle.iss_model.specs.Rules.{Rules}
 
 -- what a packet holds: a module's message in the instance of a leader, or a request
@@ -39,16 +41,24 @@ pub record Formats (Msg : Type 0) : Type 0 where
   pub wrap : Parcel Msg → List ℕ
   pub unwrap : List ℕ → Option (Parcel Msg)
 
+-- a module's message that came an epoch early
+pub record Early (Msg : Type 0) : Type 0 where
+  pub from : ℕ
+  pub leader : ℕ
+  pub msg : Msg
+
 pub record Core (Msg : Type 0) : Type 0 where
   pub past : Past Msg
   -- the requests that wait, in order of arrival, and the batches that were cast in slots that are not in the log
   pub waiting : List Request
   pub flight : List (Slot × Batch)
+  -- what came for the next epoch, in order of arrival
+  pub early : List (Early Msg)
   -- the next leaf to sign with
   pub leaf : ℕ
 
 abbrev pub idle : {Msg : Type 0} → Core Msg
-idle = record { past = newborn; waiting = []; flight = []; leaf = 0 }
+idle = record { past = newborn; waiting = []; flight = []; early = []; leaf = 0 }
 
 -- a node after a step, the packets that it made, in order, its own claims in them, and the strings that it hashed
 pub record Turn (Msg : Type 0) : Type 0 where
@@ -70,15 +80,22 @@ flying n (x ∷ xs) = cond (nat_lt x.0.0 n) (flying n xs) (x ∷ flying n xs)
 abbrev pub joined : ℕ → List Value → List Value
 joined n log = take (length log - n) log
 
--- a batch that enters the log waits no more and flies no more
+-- what was cast in slots that became nil, in the order of the casts
+abbrev pub returned : List Value → List (Slot × Batch) → List Request
+returned log [] = []
+returned log (x ∷ xs) = cond (is_nil_at log x.0.0) (x.1 ++ returned log xs) (returned log xs)
+
+-- a batch that enters the log waits no more and flies no more; what was cast in a slot that became nil waits again, behind all
+-- others, unless the log holds it
 abbrev pub refiled : {Msg : Type 0} → Rules → Module Msg → ℕ → Core Msg → Past Msg → ℕ → Core Msg
 refiled R M me c past leaf =
     let old = log_of R M me c.past in
     let log = log_of R M me past in
     record {
       past = past;
-      waiting = absent (log_ids (joined (length old) log)) c.waiting;
+      waiting = absent (log_ids (joined (length old) log)) c.waiting ++ absent (log_ids log) (returned log c.flight);
       flight = flying (length log) c.flight;
+      early = c.early;
       leaf = leaf;
     }
 
@@ -131,6 +148,49 @@ at_instance F R M me c l input =
     (cond (not (has_leaves M (params_of R M me c.past l) c.leaf)) (Dropped NoKeys)
     (by_verdict (verdict_in R M me c.past l input) (inputs F R M me c l input)))
 
+-- nothing happens to a core
+abbrev pub rests : {Msg : Type 0} → Core Msg → Turn Msg
+rests c = record { core = c; sends = []; own = []; strings = [] }
+
+-- a turn, and what follows of it
+abbrev pub onward : {Msg : Type 0} → Turn Msg → (Core Msg → Turn Msg) → Turn Msg
+onward t more =
+    let u = more t.core in
+    record { core = u.core; sends = t.sends ++ u.sends; own = t.own ++ u.own; strings = t.strings ++ u.strings }
+
+-- the epoch is over: the next one begins, for which nothing is kept any more
+abbrev pub in_next_epoch : {Msg : Type 0} → Core Msg → Core Msg
+in_next_epoch c = record c { past = advanced c.past; early = [] }
+
+-- an epoch ends where the log holds all of it
+abbrev pub ended : {Msg : Type 0} → Rules → Module Msg → ℕ → Turn Msg → Turn Msg
+ended R M me t = cond (is_complete R M me t.core.past) (record t { core = in_next_epoch t.core }) t
+
+abbrev pub tried : {Msg : Type 0} → Core Msg → Stepped Msg → Turn Msg
+tried c (Dropped why) = rests c
+tried c (Taken turn) = turn
+
+-- an early message, as if it came now; one that is refused is gone
+abbrev pub takes_early : {Msg : Type 0} → Formats Msg → Rules → Module Msg → ℕ → Core Msg → Early Msg → Turn Msg
+takes_early F R M me c x = ended R M me (tried c (at_instance F R M me c x.leader (Receive (record { 0 = x.from }) x.msg)))
+
+-- all of them in turn, as long as epoch e lasts
+abbrev pub takes_each : {Msg : Type 0} → Formats Msg → Rules → Module Msg → ℕ → ℕ → List (Early Msg) → Core Msg → Turn Msg
+takes_each F R M me e [] c = rests c
+takes_each F R M me e (x ∷ xs) c =
+    cond (c.past.epoch == e) (onward (takes_early F R M me c x) (takes_each F R M me e xs)) (rests c)
+
+-- where a turn fills the epoch, the next one begins with what came early for it
+abbrev pub settles : {Msg : Type 0} → Formats Msg → Rules → Module Msg → ℕ → Turn Msg → Turn Msg
+settles F R M me t =
+    cond (is_complete R M me t.core.past)
+    (onward (record t { core = in_next_epoch t.core }) (takes_each F R M me (suc t.core.past.epoch) t.core.early))
+    t
+
+abbrev pub settled : {Msg : Type 0} → Formats Msg → Rules → Module Msg → ℕ → Stepped Msg → Stepped Msg
+settled F R M me (Dropped why) = Dropped why
+settled F R M me (Taken turn) = Taken (settles F R M me turn)
+
 -- the identities of what was cast
 abbrev pub flown : List (Slot × Batch) → List ReqId
 flown [] = []
@@ -144,13 +204,26 @@ abbrev pub takes_request : {Msg : Type 0} → Rules → Module Msg → ℕ → C
 takes_request R M me c q =
     cond (not (R.signed q)) (Dropped BadRequest)
     (cond (is_known R M me c q.id) (Dropped Known)
-    (Taken (record { core = record c { waiting = c.waiting ++ q ∷ [] }; sends = []; own = []; strings = [] })))
+    (cond (not (R.inside (before_own R M me c.past) c.past.epoch q.id)) (Dropped OutOfWindow)
+    (Taken (rests (record c { waiting = c.waiting ++ q ∷ [] })))))
+
+-- how many early messages a node keeps
+abbrev pub early_most : ℕ
+early_most = 256
+
+abbrev pub keeps_early : {Msg : Type 0} → Core Msg → Early Msg → Stepped Msg
+keeps_early c x = cond (nat_lt (length c.early) early_most) (Taken (rests (record c { early = c.early ++ x ∷ [] }))) (Dropped EarlyFull)
+
+-- a message of the node's epoch is taken, one of the next is kept
+abbrev pub takes_message : {Msg : Type 0} → Formats Msg → Rules → Module Msg → ℕ → Core Msg → ℕ → ℕ → ℕ → Msg → Stepped Msg
+takes_message F R M me c from e l msg =
+    cond (e == c.past.epoch) (settled F R M me (at_instance F R M me c l (Receive (record { 0 = from }) msg)))
+    (cond (e == suc c.past.epoch) (keeps_early c (record { from = from; leader = l; msg = msg }))
+    (Dropped OtherEpoch))
 
 abbrev pub takes_parcel : {Msg : Type 0} → Formats Msg → Rules → Module Msg → ℕ → Core Msg → ℕ → ℕ → Body Msg → Stepped Msg
 takes_parcel F R M me c from e (OfRequest q) = takes_request R M me c q
-takes_parcel F R M me c from e (OfModule l msg) =
-    cond (not (e == c.past.epoch)) (Dropped OtherEpoch)
-    (at_instance F R M me c l (Receive (record { 0 = from }) msg))
+takes_parcel F R M me c from e (OfModule l msg) = takes_message F R M me c from e l msg
 
 abbrev pub takes_bytes : {Msg : Type 0} → Formats Msg → Rules → Module Msg → ℕ → Core Msg → Option (Parcel Msg) → Stepped Msg
 takes_bytes F R M me c None = Dropped NotPacket
@@ -173,10 +246,12 @@ abbrev pub first_slot : (Slot → Bool) → List Slot → Option Slot
 first_slot p [] = None
 first_slot p (s ∷ ss) = cond (p s) (Some s) (first_slot p ss)
 
+-- the first of them that the log does not hold
 abbrev pub next_slot : {Msg : Type 0} → Rules → Module Msg → ℕ → Core Msg → Option Slot
 next_slot R M me c =
     let p = params_of R M me c.past me in
-    first_slot (is_castable M p me (taken_in c.past me) c.flight) p.slots
+    let size = length (log_of R M me c.past) in
+    first_slot (λ s. not (nat_lt s.0 size) && is_castable M p me (taken_in c.past me) c.flight s) p.slots
 
 -- a batch of waiting requests is cast at the slot
 abbrev pub casts_at : {Msg : Type 0} → Formats Msg → Rules → Module Msg → ℕ → Core Msg → Option Slot → Stepped Msg
@@ -186,7 +261,7 @@ casts_at F R M me c (Some s) =
     let batch = cut R.batch mine c.waiting in
     let d = record c { waiting = uncut R.batch mine c.waiting; flight = c.flight ++ (s, batch) ∷ [] } in
     cond (not (has_leaves M (params_of R M me c.past me) c.leaf)) (Dropped NoKeys)
-    (Taken (inputs F R M me d me (Cast s batch)))
+    (Taken (settles F R M me (inputs F R M me d me (Cast s batch))))
 
 -- one step of a node
 abbrev pub step : {Msg : Type 0} → Formats Msg → Rules → Module Msg → ℕ → Core Msg → NodeEvent → Stepped Msg
@@ -194,4 +269,4 @@ step F R M me c (Gets bytes) = takes_bytes F R M me c (F.unwrap bytes)
 step F R M me c Proposes =
     cond (not (leads_in R M me c.past me)) (Dropped NotLeader)
     (casts_at F R M me c (next_slot R M me c))
-step F R M me c (Fires l) = at_instance F R M me c l.0 Timeout
+step F R M me c (Fires l) = settled F R M me (at_instance F R M me c l.0 Timeout)

@@ -1,6 +1,7 @@
 -- What a node's log rests on: what it took in each instance, and the log that follows.
-use Rattle.std.specs.Prelude.{◌≡◌, ℕ, zero, suc, ◌+◌, ◌-◌, ◌*◌, ◌==◌, nat_le, Bool, cond, List, [], ◌∷◌, Option, Some, None, length}
-use Rattle.iss_base.specs.Lists.{Chain, first_of, nth, oldest, set_at2}
+use Rattle.std.specs.Prelude.{◌≡◌, ℕ, zero, suc, ◌+◌, ◌-◌, ◌*◌, ◌==◌, nat_le, Bool, cond}
+use Rattle.std.specs.Prelude.{List, [], ◌∷◌, Option, Some, None, length}
+use Rattle.iss_base.specs.Lists.{Chain, first_of, nth, oldest, over, set_at2}
 use Rattle.iss_request.specs.declared.ids.Slot.{Slot}
 use Rattle.iss_request.specs.declared.requests.Batch.{Batch}
 use Rattle.iss_request.specs.declared.requests.Value.{Value}
@@ -115,3 +116,21 @@ takes R M me c l input leaf =
 -- nothing has been taken
 abbrev pub newborn : {Msg : Type 0} → Past Msg
 newborn = record { epoch = 0; evidence = λ e l. []; adopted = [] }
+
+-- whether the log holds the node's whole epoch, the past in the next epoch, and the log at the end of the epoch
+abbrev pub is_complete : {Msg : Type 0} → Rules → Module Msg → ℕ → Past Msg → Bool
+is_complete R M me c = nat_le (start_of R (log_of R M me c) (suc c.epoch)) (length (log_of R M me c))
+
+abbrev pub advanced : {Msg : Type 0} → Past Msg → Past Msg
+advanced c = record { epoch = suc c.epoch; evidence = c.evidence; adopted = c.adopted }
+
+abbrev pub ended_log : {Msg : Type 0} → Rules → Module Msg → ℕ → Past Msg → List Value
+ended_log R M i c = cut_at R (log_of R M i c) (suc c.epoch)
+
+-- the past with a piece, which ends its epoch
+abbrev pub adopts : {Msg : Type 0} → Past Msg → Piece → Past Msg
+adopts c p = record { epoch = suc c.epoch; evidence = c.evidence; adopted = p ∷ c.adopted }
+
+-- the log that a piece leads to
+abbrev pub adopted_log : {Msg : Type 0} → Rules → Module Msg → ℕ → Past Msg → Piece → List Value
+adopted_log R M i c piece = over piece.values (before R M i c piece.epoch)

@@ -1,30 +1,44 @@
 -- What holds of every core of every run, so that its own casts are accepted.
-use Rattle.std.specs.Prelude.{◌≡◌, ℕ, ◌<◌, List, [], true, Some}
-use Rattle.iss_base.specs.Lists.{Different, In}
+use Rattle.std.specs.Prelude.{◌≡◌, ℕ, ◌≤◌, ◌<◌, List, [], ◌∷◌, ◌++◌, length, true, Some}
+use Rattle.iss_base.specs.Lists.{Different, Extends, In}
 use Rattle.iss_request.specs.Formats.{HasSpelling}
 use Rattle.iss_request.specs.Log.{ids, log_ids}
 use Rattle.iss_request.specs.declared.ids.ReqId.{ReqId}
+use Rattle.iss_request.specs.declared.ids.Slot.{Slot}
+use Rattle.iss_request.specs.declared.requests.Batch.{Batch}
 use Rattle.iss_request.specs.declared.requests.Request.{Request}
 use Rattle.iss_request.specs.declared.requests.Value.{Value}
 use Rattle.iss_sb.specs.Evidence.{Module}
 use Rattle.iss_model.specs.Node.{Core}
-use Rattle.iss_model.specs.Past.{adopted_at, log_of}
+use Rattle.iss_model.specs.Past.{adopted_at, before_own, log_of, start_of}
 use Rattle.iss_model.specs.Rules.{Rules}
 
--- what waits is all different, signed, and not in the log; what was adopted is of earlier epochs, and nothing was
--- taken in later ones
+-- the requests of what was cast, and all that a core still holds: what waits, and what is in flight
+abbrev pub carried : List (Slot × Batch) → List Request
+carried [] = []
+carried (x ∷ xs) = x.1 ++ carried xs
+
+abbrev pub held : {Msg : Type 0} → Core Msg → List Request
+held c = c.waiting ++ carried c.flight
+
+-- what a core holds is all different, signed, and inside the windows of its epoch unless the log has it; what waits is not in
+-- the log. The log holds all before the core's epoch; what was adopted is of earlier epochs, and nothing was taken in later ones
 pub record IsSoundCore {Msg : Type 0} (R : Rules) (M : Module Msg) (me : ℕ) (c : Core Msg) : Type 0 where
-  pub different : Different (ids c.waiting)
-  pub signed : (q : Request) → In q c.waiting → R.signed q ≡ true
+  pub different : Different (ids (held c))
+  pub signed : (q : Request) → In q (held c) → R.signed q ≡ true
+  pub inside : (x : ReqId) → In x (ids (held c)) → (In x (log_ids (log_of R M me c.past)) → ⊥) →
+      R.inside (before_own R M me c.past) c.past.epoch x ≡ true
   pub unordered : (x : ReqId) → In x (ids c.waiting) → In x (log_ids (log_of R M me c.past)) → ⊥
+  pub reached : start_of R (log_of R M me c.past) c.past.epoch ≤ length (log_of R M me c.past)
   pub settled : (e k : ℕ) (v : Value) → adopted_at c.past.adopted e k ≡ Some v → e < c.past.epoch
   pub unborn : (e l : ℕ) → c.past.epoch < e → c.past.evidence e l ≡ []
 
--- and all that waits has a spelling
+-- and all that it holds has a spelling
 pub record IsReadyCore {Msg : Type 0} (R : Rules) (M : Module Msg) (me : ℕ) (c : Core Msg) : Type 0 where
   pub sound : IsSoundCore R M me c
-  pub spelled : (q : Request) → In q c.waiting → HasSpelling q
+  pub spelled : (q : Request) → In q (held c) → HasSpelling q
 
--- no number is outside of its window, as long as windows are not kept
-abbrev pub AreAllInside : Rules → Type 0
-AreAllInside R = (before : List Value) (e : ℕ) (x : ReqId) → R.inside before e x ≡ true
+-- windows move only past what the log holds
+pub record AreWindows (R : Rules) : Type 0 where
+  pub kept : (old new : List Value) (d e : ℕ) (x : ReqId) → R.inside old d x ≡ true → Extends old new → d ≤ e →
+      (In x (log_ids new) → ⊥) → R.inside new e x ≡ true

@@ -14,7 +14,7 @@ use Rattle.iss_model.specs.declared.causes.NodeEvent.TheVariants.{Packet as Gets
 use Rattle.iss_model.specs.declared.causes.Why.{Why}
 use Rattle.iss_model.specs.declared.causes.Why.TheVariants.{NoPacket, NotPacket}
 use Rattle.iss_model.specs.Cluster.{Signed}
-use Rattle.iss_model.specs.Node.{Body, Core, Dropped, Formats, OfModule, OfRequest, Parcel, Stepped, Taken, Turn, step}
+use Rattle.iss_model.specs.Node.{Body, Core, Dropped, Early, Formats, OfModule, OfRequest, Parcel, Stepped, Taken, Turn, step, takes_early}
 use Rattle.iss_model.specs.Past.{leads_in, params_of}
 use Rattle.iss_model.specs.Rules.{Rules}
 use Rattle.iss_model.specs.Run.{Net, begin_net, noted, posted_all, request_of}
@@ -61,6 +61,61 @@ abbrev pub all_verify : Rules → List Claim → Bool
 all_verify R [] = true
 all_verify R (c ∷ cs) = R.verifies c.by.0 c.statement c.sig && all_verify R cs
 
+-- the claims that an early message holds in the core's epoch
+abbrev pub early_claims : {Msg : Type 0} → Rules → Module Msg → ℕ → Core Msg → Early Msg → List Claim
+early_claims R M me c x = claims_of_body R M me c x.from c.past.epoch (OfModule x.leader x.msg)
+
+-- what follows of an early message: one of which a claim does not verify is gone
+abbrev pub after_early : {Msg : Type 0} → Formats Msg → Rules → Module Msg → ℕ → Core Msg → Early Msg → Core Msg
+after_early F R M me c x = cond (all_verify R (early_claims R M me c x)) (takes_early F R M me c x).core c
+
+-- the early messages that are tried, as long as epoch e lasts
+abbrev pub tried_in : {Msg : Type 0} → Formats Msg → Rules → Module Msg → ℕ → ℕ → List (Early Msg) → Core Msg → List (Early Msg)
+tried_in F R M me e [] c = []
+tried_in F R M me e (x ∷ xs) c = cond (c.past.epoch == e) (x ∷ tried_in F R M me e xs (after_early F R M me c x)) []
+
+-- those whose claims verify, and the claims of all
+abbrev pub verified : {Msg : Type 0} → Rules → Module Msg → ℕ → Core Msg → List (Early Msg) → List (Early Msg)
+verified R M me c [] = []
+verified R M me c (x ∷ xs) = cond (all_verify R (early_claims R M me c x)) (x ∷ verified R M me c xs) (verified R M me c xs)
+
+abbrev pub claims_of_early : {Msg : Type 0} → Rules → Module Msg → ℕ → Core Msg → List (Early Msg) → List Claim
+claims_of_early R M me c [] = []
+claims_of_early R M me c (x ∷ xs) = early_claims R M me c x ++ claims_of_early R M me c xs
+
+-- the core as its next epoch begins, before anything that came early is taken; none where the event ends no epoch
+abbrev pub begun_by : {Msg : Type 0} → ℕ → Stepped Msg → Option (Core Msg)
+begun_by e (Dropped why) = None
+begun_by e (Taken t) = cond (t.core.past.epoch == e) None (Some t.core)
+
+abbrev pub entered : {Msg : Type 0} → Formats Msg → Rules → Module Msg → ℕ → Core Msg → NodeEvent → Option (Core Msg)
+entered F R M me c event = begun_by c.past.epoch (step F R M me (record c { early = [] }) event)
+
+-- what came early to a core, as its next epoch begins: what is tried
+abbrev pub tried_at : {Msg : Type 0} → Formats Msg → Rules → Module Msg → ℕ → Core Msg → Core Msg → List (Early Msg)
+tried_at F R M me c d = tried_in F R M me d.past.epoch c.early d
+
+-- so of what came early there is taken what is tried and verifies
+abbrev pub sifted : {Msg : Type 0} → Formats Msg → Rules → Module Msg → ℕ → Core Msg → Option (Core Msg) → List (Early Msg)
+sifted F R M me c None = c.early
+sifted F R M me c (Some d) = verified R M me d (tried_at F R M me c d)
+
+abbrev pub tried_claims : {Msg : Type 0} → Formats Msg → Rules → Module Msg → ℕ → Core Msg → Option (Core Msg) → List Claim
+tried_claims F R M me c None = []
+tried_claims F R M me c (Some d) = claims_of_early R M me d (tried_at F R M me c d)
+
+-- a claim that does not verify drops the packet (until it has a cause of its own)
+abbrev pub tested_step : {Msg : Type 0} → Formats Msg → Rules → Module Msg → ℕ → Core Msg → NodeEvent → Stepped Msg
+tested_step F R M me c event =
+    cond (not (all_verify R (claims_at F R M me c event))) (Dropped NotPacket)
+    (step F R M me (record c { early = sifted F R M me c (entered F R M me c event) }) event)
+
+-- the claims that an event reads: those of what is delivered, then of what came early and is tried in it
+abbrev pub reads_at : {Msg : Type 0} → Formats Msg → Rules → Module Msg → ℕ → Core Msg → NodeEvent → List Claim
+reads_at F R M me c event =
+    claims_at F R M me c event ++
+    cond (all_verify R (claims_at F R M me c event)) (tried_claims F R M me c (entered F R M me c event)) []
+
 abbrev pub has_signed : ℕ → List ℕ → List Signed → Bool
 has_signed i statement [] = false
 has_signed i statement (x ∷ xs) = cond ((x.by == i) && same_bytes x.statement statement) true (has_signed i statement xs)
@@ -95,10 +150,6 @@ as_signed (c ∷ cs) = record { by = c.by.0; statement = c.statement } ∷ as_si
 abbrev pub booked : Setup → ℕ → List Claim → List Signed
 booked s i own = cond (is_correct s i) (as_signed own) []
 
--- a claim that does not verify drops the packet (until it has a cause of its own)
-abbrev pub tested_step : {Msg : Type 0} → Formats Msg → Rules → Module Msg → ℕ → Core Msg → NodeEvent → Stepped Msg
-tested_step F R M me c event = cond (not (all_verify R (claims_at F R M me c event))) (Dropped NotPacket) (step F R M me c event)
-
 abbrev pub turned_to : {Msg : Type 0} → Setup → Held Msg → ℕ → Turn Msg → Held Msg
 turned_to s h i t =
     record {
@@ -119,10 +170,10 @@ abbrev pub by_forged : {Msg : Type 0} → Option Claim → Held Msg → Course M
 by_forged None h course = course
 by_forged (Some claim) h course = record { held = h; lost = None; ended = Some (Forged claim) }
 
--- core i is handed an event: the claims are tested against the book before it
+-- core i is handed an event: the claims that it reads are tested against the book before it
 abbrev pub at_tested : {Msg : Type 0} → Setup → Formats Msg → Rules → Module Msg → Held Msg → ℕ → NodeEvent → Course Msg
 at_tested s F R M h i event =
-    by_forged (first_forged s R h.signed (claims_at F R M i (h.net.cores i) event)) h (after_tested s h i (tested_step F R M i (h.net.cores i) event))
+    by_forged (first_forged s R h.signed (reads_at F R M i (h.net.cores i) event)) h (after_tested s h i (tested_step F R M i (h.net.cores i) event))
 
 -- what follows happens where the run has not ended
 abbrev pub unless : {Msg : Type 0} → Option End → Course Msg → (Held Msg → Course Msg) → Course Msg

@@ -6,7 +6,8 @@ use Rattle.iss_sb.specs.declared.effects.Input.{Input}
 use Rattle.iss_sb.specs.declared.effects.Input.TheVariants.{Cast, Receive, Timeout}
 use Rattle.iss_sb.specs.Evidence.{IsCredible, IsReadBatch, Module}
 use Rattle.iss_model.specs.Cluster.{AllSpelled, AreVotes, Cert, IsBooked, IsVerified, Scheme, Signed}
-use Rattle.iss_model.specs.Cluster.{adopted_log, adopts, advanced, chain, chain_strings, is_complete, signers, vote_of}
+use Rattle.iss_model.specs.Cluster.{chain, chain_strings, signers, vote_of}
+use Rattle.iss_model.specs.Past.{adopted_log, adopts, advanced, is_complete}
 use Rattle.iss_model.specs.Node.{own_claims, verdict_in}
 use Rattle.iss_model.specs.Past.{Past, Piece, before, leads_in, log_of, made_in, params_of, takes}
 use Rattle.iss_model.specs.Rules.{Rules}

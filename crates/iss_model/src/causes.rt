@@ -37,9 +37,13 @@ pub enum Why {
     BadRequest,
     /// The request waits, is in flight, or is in the log.
     Known,
-    /// The message is of another epoch than the node's.
+    /// The request's number is outside the window of its client.
+    OutOfWindow,
+    /// The message is of an epoch that is past, or more than one ahead.
     OtherEpoch,
-    /// The node does not lead the epoch.
+    /// The message is of the next epoch, and as many are kept as a node keeps.
+    EarlyFull,
+    /// The leader does not lead the epoch.
     NotLeader,
     /// No slot of the node's segment is free to cast.
     NothingToCast,

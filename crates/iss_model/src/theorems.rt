@@ -5,6 +5,7 @@ ghost use Rattle.iss_sb.specs.Evidence.{Separate};
 ghost use Rattle.iss_schedule.specs.declared.schedules.Event.{Event};
 ghost use Rattle.iss_model.specs.Checkpoints.{scheme_of};
 ghost use Rattle.iss_model.specs.Cluster.{Cluster, Reach, Scheme};
+ghost use Rattle.iss_model.specs.Conserved.{AcceptsOnce, IsConserved, IsConservedWhereTested};
 ghost use Rattle.iss_model.specs.OneLog.{IsClusterRun, OnlyGrows};
 ghost use Rattle.iss_model.specs.Ordered.{Among, IsExact, IsSoundRules, Ordered};
 ghost use Rattle.iss_model.specs.Rules.{Rules};
@@ -48,6 +49,17 @@ pub fn separate_runs<M: Sequenced>()
 pub fn tested_runs<M: Sequenced>()
     ensures reached { (s : Setup) → IsSetupOf M.meaning s → (events : List Event) → AreAtNodes s.n events → IsTestedRun s M.meaning events }
     ensures one { (s : Setup) → IsSetupOf M.meaning s → (events : List Event) → AreAtNodes s.n events → IsOneTestedLog s M.meaning events }
+{
+    M::laws();
+}
+
+/// No request is lost and none is in two places, whatever happens: each one that a correct core took is in its log, waits at it,
+/// or is in flight. Where nodes only stop; and in each run that is tested, of either kind of module (ISS, "conservation").
+pub fn requests_are_conserved<M: Sequenced>()
+    ensures stopping { (s : Setup) → IsSetupOf M.meaning s → M.meaning.stopping ≡ true → AcceptsOnce M.meaning →
+        (events : List Event) → AreAtNodes s.n events → IsSeparateRun s M.meaning events → IsConserved s M.meaning events }
+    ensures tested { (s : Setup) → IsSetupOf M.meaning s → AcceptsOnce M.meaning →
+        (events : List Event) → AreAtNodes s.n events → IsConservedWhereTested s M.meaning events }
 {
     M::laws();
 }

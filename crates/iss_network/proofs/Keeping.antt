@@ -9,6 +9,7 @@ use Rattle.std.proofs.lemmas.List.{get_or-set_same, get_or-set_other, length-set
 use Rattle.std.proofs.lemmas.List.Elements.{filter-append}
 use Rattle.std.proofs.lemmas.List.Folds.{list_all-append}
 use Rattle.iss_base.specs.Lists.{nth, below}
+use Rattle.iss_base.proofs.Lists.{nth-beyond}
 use Rattle.iss_network.specs.declared.packets.Sent.{Sent}
 use Rattle.iss_network.specs.Network.{Network, flag_at, is_for, is_held, without, not_for, not_held, due}
 use Rattle.iss_network.specs.Kept.{is_set, flagged, cleared_flags, for_core, IsKept, gathered}
@@ -35,11 +36,6 @@ not_held_is packets held (x ∷ xs) =
     elim (is_held held (nth packets x)) as (λ b. cond b (not_held packets held xs) (x ∷ not_held packets held xs) ≡ cond (not b) (x ∷ filter (λ k. not (is_held held (nth packets k))) xs) (filter (λ k. not (is_held held (nth packets k))) xs)) [ true ↦ ih | false ↦ ap (λ l. x ∷ l) ih ]
 
 -- elements by their number
-
-nth_beyond : {A : Type 0} (xs : List A) (k : ℕ) → length xs ≤ k → nth xs k ≡ None
-nth_beyond [] k h = refl
-nth_beyond (x ∷ xs) zero h = absurd (omega arith)
-nth_beyond (x ∷ xs) (suc k) h = nth_beyond xs k (omega arith)
 
 nth_old : {A : Type 0} (xs : List A) (y : A) (k : ℕ) → k < length xs → nth (xs ++ y ∷ []) k ≡ nth xs k
 nth_old [] y k h = absurd (omega arith)
@@ -460,7 +456,7 @@ sorted_is_due packets flags queues held all found h is moved sorted =
         beyond (p ∷ ps) (suc j) f = omega (arith, beyond ps j f)
 
         unflagged : (j : ℕ) → nth packets j ≡ None → is_set flags j ≡ false
-        unflagged j f = ap flag_at (nth_beyond flags j (omega (arith, beyond packets j f, h.0)))
+        unflagged j f = ap flag_at (nth-beyond flags j (omega (arith, beyond packets j f, h.0)))
 
     same_at : (k : ℕ) (o : Option Sent) → nth packets k ≡ o → cond (for_below held (length held) o) (times k (flagged flags)) 0 ≡ cond (not (is_held held o)) (times k (flagged flags)) 0
     same_at k None e = sym (none_waits k e)

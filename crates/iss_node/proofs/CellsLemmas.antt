@@ -12,15 +12,6 @@ use Rattle.iss_request.specs.declared.ids.Slot.{Slot}
 use Rattle.iss_request.specs.declared.requests.Batch.{Batch}
 use Rattle.iss_request.specs.declared.requests.Value.{Value}
 
--- what flies is what a test of the slots lets through
-pub filter-flying : (n : ℕ) (xs : List (Slot × Batch)) → filter (λ (x : Slot × Batch). nat_le n x.0.0) xs ≡ flying n xs
-filter-flying n [] = refl
-filter-flying n (x ∷ xs) = go (nat_lt x.0.0 n) refl (filter-flying n xs)
-  where
-    go : (b : Bool) → nat_lt x.0.0 n ≡ b → filter (λ (y : Slot × Batch). nat_le n y.0.0) xs ≡ flying n xs → filter (λ (y : Slot × Batch). nat_le n y.0.0) (x ∷ xs) ≡ flying n (x ∷ xs)
-    go true h more = let k : nat_le n x.0.0 ≡ false = grind (arith, nat_tests) in rw (h, k) more
-    go false h more = let k : nat_le n x.0.0 ≡ true = grind (arith, nat_tests) in rw (h, k) (ap (λ t. x ∷ t) more)
-
 given-append : (ds : List (Slot × Value)) (d : Slot × Value) (s : ℕ) → given (ds ++ d ∷ []) s ≡ first_of (given ds s) (if d.0.0 == s then Some d.1 else None)
 given-append [] d s = refl
 given-append (e ∷ ds) d s = elim (e.0.0 == s) as (λ b. (if b then Some e.1 else given (ds ++ d ∷ []) s) ≡ first_of (if b then Some e.1 else given ds s) (if d.0.0 == s then Some d.1 else None)) [

@@ -7,14 +7,14 @@ use Rattle.iss_ids.proofs.Members.{has_id-and_ids, has_id-append}
 use Rattle.iss_model.proofs.Casts.{joined-newer}
 use Rattle.iss_model.specs.Node.{joined}
 use Rattle.iss_node.specs.Growth.{and_values, waits_on}
-use Rattle.iss_node.specs.State.{SameIds}
+use Rattle.iss_segment.specs.Instance.{SameIds}
 use Rattle.iss_request.specs.Log.{has_id, ids, log_ids, value_ids}
 use Rattle.iss_request.specs.declared.ids.ReqId.{ReqId}
 use Rattle.iss_request.specs.declared.requests.Request.{Request}
 use Rattle.iss_request.specs.declared.requests.Value.{Value}
 use Rattle.iss_request.specs.declared.requests.Value.TheVariants.{Nil, Batch as Holds}
 
-log_ids-append : (a b : List Value) → log_ids (a ++ b) ≡ log_ids a ++ log_ids b
+pub log_ids-append : (a b : List Value) → log_ids (a ++ b) ≡ log_ids a ++ log_ids b
 log_ids-append [] b = refl
 log_ids-append (v ∷ a) b = ap (λ xs. value_ids v ++ xs) (log_ids-append a b) ∙ sym (append_assoc (value_ids v) (log_ids a) (log_ids b))
 
@@ -70,7 +70,7 @@ or-last true false = refl
 or-last false true = refl
 or-last false false = refl
 
-note-all : (x : ReqId) (vs : List Value) (xs : List ReqId) → has_id x (fold and_values xs vs) ≡ (has_id x xs || has_id x (log_ids (reverse vs)))
+pub note-all : (x : ReqId) (vs : List Value) (xs : List ReqId) → has_id x (fold and_values xs vs) ≡ (has_id x xs || has_id x (log_ids (reverse vs)))
 note-all x [] xs = none (has_id x xs)
   where
     none : (b : Bool) → b ≡ (b || false)

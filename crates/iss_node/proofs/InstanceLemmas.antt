@@ -1,81 +1,157 @@
 -- What the tests before an input say of the model's step.
-use Rattle.std.proofs.Common.{get_or, arith, ◌≡◌, ℕ, zero, suc, ◌<◌, Bool, true, false, List, [], ◌∷◌, ◌++◌, cond, ◌==◌, ◌||◌, not, Option, Some, length, refl, sym, ap, ◌∙◌, subst, slice_get}
-use Rattle.std.specs.List.{list_any}
-use Rattle.std.proofs.lemmas.Bool.Decides.{nat_tests}
-use Rattle.iss_layout.specs.Layout.{Plan, leads, node, nodes_below, plan_of}
-use Rattle.iss_model.specs.Concrete.{rules_of}
-use Rattle.iss_model.specs.Node.{Core, Dropped, Formats, OfModule, takes_parcel, Stepped, Turn, at_instance, by_verdict, has_leaves, inputs, verdict}
-use Rattle.iss_model.specs.Past.{log_of}
+use Rattle.std.proofs.Common.{arith, ◌≡◌, ◌≢◌, ℕ, ◌<◌, Bool, true, false, List, [], ◌∷◌, ◌++◌, cond, not, Option, Some, None, Result, Ok, Err, IfOk, length, refl, sym, ap, ◌∙◌, subst, true≢false}
+use Rattle.std.specs.Prelude.{OnOk, is_some}
+use Rattle.iss_layout.specs.Layout.{Plan, leads}
+use Rattle.iss_log.specs.LogState.{GoesOn}
+use Rattle.iss_model.specs.Concrete.{plan_at, rules_of}
+use Rattle.iss_model.specs.Formats.{formats_of}
+use Rattle.iss_model.specs.Node.{Core, Dropped, Formats, Stepped, Taken, Turn, at_instance, by_verdict, has_leaves, inputs, packed, verdict, verdict_in}
+use Rattle.iss_model.specs.Past.{Past, asked_in, before_own, leads_in, params_of, taken_in}
 use Rattle.iss_model.specs.declared.causes.Refusal.{Refusal}
-use Rattle.iss_model.specs.declared.causes.Why.TheVariants.{NotLeader, NoKeys, OtherEpoch}
-use Rattle.iss_node.proofs.LogOf.{oldest-zero}
-use Rattle.iss_node.proofs.TiedLemmas.{get-of}
-use Rattle.iss_node.specs.Shape.{IsNode}
-use Rattle.iss_node.specs.State.{IsInstance, IsTied, NodeState, SegmentState, Stands, core_of}
-use Rattle.iss_node.specs.Steps.{IsAnswer}
-use Rattle.iss_node.specs.declared.answers.Answer.{Answer}
+use Rattle.iss_model.specs.declared.causes.Why.TheVariants.{NotLeader, NoKeys, Refused}
+use Rattle.iss_node.specs.Inputs.{IsAbsorbed, IsInputTaken, IsVerdictAt}
+use Rattle.iss_node.specs.Shape.{IsReplica}
+use Rattle.iss_node.specs.State.{AreParts, IsTied, ReplicaState, core_of, led}
+use Rattle.iss_node.specs.Steps.{IsLater, IsStepDropped, IsStepTaken, IsTurnOf, IsTurned}
+use Rattle.iss_node.specs.declared.answers.Outcome.{Outcome}
+use Rattle.iss_node.proofs.InputLemmas.{addressed-next, parts-next, sends-next}
 use Rattle.iss_request.specs.declared.ids.NodeId.{NodeId}
-use Rattle.iss_sb.specs.declared.effects.Input.{Input}
-use Rattle.iss_model.specs.Rules.{Rules}
-use Rattle.iss_sb.specs.declared.effects.Input.TheVariants.{Receive}
-use Rattle.iss_sb.specs.declared.effects.Params.{Params}
+use Rattle.iss_request.specs.declared.ids.Slot.{Slot}
+use Rattle.iss_request.specs.declared.requests.Batch.{Batch}
+use Rattle.iss_request.specs.declared.requests.Value.{Value}
+use Rattle.iss_keys.specs.Directories.{AreKeysOf}
+use Rattle.iss_keys.specs.KeyStates.{KeyState}
+use Rattle.iss_request.specs.declared.errors.NoMemory.{NoMemory}
+use Rattle.iss_sb.specs.Calls.{AreToNodes}
 use Rattle.iss_sb.specs.Evidence.{Item, Module, accepts}
+use Rattle.iss_sb.specs.Laws.{IsLawful}
+use Rattle.iss_sb.specs.declared.effects.Effects.{Effects}
+use Rattle.iss_sb.specs.declared.effects.Input.{Input}
+use Rattle.iss_sb.specs.declared.effects.Params.{Params}
+use Rattle.iss_sb.specs.declared.effects.To.{To}
+use Rattle.iss_segment.specs.Answers.{IsInstanceTaken}
+use Rattle.iss_segment.specs.Ground.{RestsOn}
+use Rattle.iss_segment.specs.Instance.{SegmentState}
 
--- who leads is a node
-any-append : {A : Type 0} (p : A → Bool) (xs ys : List A) → list_any p (xs ++ ys) ≡ (list_any p xs || list_any p ys)
-any-append p [] ys = refl
-any-append p (x ∷ xs) ys = elim (p x) as (λ b. (b || list_any p (xs ++ ys)) ≡ ((b || list_any p xs) || list_any p ys)) [ true ↦ refl | false ↦ any-append p xs ys ]
-
-pub leads-below : (n l : ℕ) → list_any (λ (k : NodeId). k.0 == l) (nodes_below n) ≡ true → l < n
-leads-below zero l h = cc
-leads-below (suc n) l h = go (list_any (λ (k : NodeId). k.0 == l) (nodes_below n)) refl (n == l) refl (leads-below n l)
+pub goes-trans : (a b c : List Value) → GoesOn a b → GoesOn b c → GoesOn a c
+goes-trans a b c g h = (g.0 ++ h.0, h.1 ∙ ap (λ (xs : List Value). xs ++ h.0) g.1 ∙ append_assoc a g.0 h.0)
   where
-    go : (a : Bool) → list_any (λ (k : NodeId). k.0 == l) (nodes_below n) ≡ a → (b : Bool) → (n == l) ≡ b → (list_any (λ (k : NodeId). k.0 == l) (nodes_below n) ≡ true → l < n) → l < suc n
-    go true ha b hb more = let lt : l < n = more ha in omega (arith, lt)
-    go false ha true hb more = let e : n ≡ l = grind (arith, nat_tests) in omega (arith, e)
-    go false ha false hb more =
-        let split = any-append (λ (k : NodeId). k.0 == l) (nodes_below n) (node n ∷ []) in
-        let both : (list_any (λ (k : NodeId). k.0 == l) (nodes_below n) || ((n == l) || false)) ≡ true = sym split ∙ h in
-        let none : false ≡ true = rw (ha, hb) at both in
-        cc
+    append_assoc : {A : Type 0} (x y z : List A) → (x ++ y) ++ z ≡ x ++ (y ++ z)
+    append_assoc [] y z = refl
+    append_assoc (w ∷ x) y z = ap (λ ws. w ∷ ws) (append_assoc x y z)
+
+append-none : (a : List Value) → a ≡ a ++ []
+append-none [] = refl
+append-none (x ∷ a) = ap (λ ys. x ∷ ys) (append-none a)
+
+pub goes-same : (a b : List Value) → b ≡ a → GoesOn a b
+goes-same a b e = ([], e ∙ append-none a)
+
+pub later-trans : {M Msg : Type 0} (u v w : ReplicaState M Msg) → IsLater u v → IsLater v w → IsLater u w
+later-trans u v w g h = record { setup = h.setup ∙ g.setup; me = h.me ∙ g.me; log = goes-trans u.log.entries v.log.entries w.log.entries g.log h.log }
+
+pub later-same : {M Msg : Type 0} (u v : ReplicaState M Msg) → v.setup ≡ u.setup → v.me ≡ u.me → v.log.entries ≡ u.log.entries → IsLater u v
+later-same u v s i l = record { setup = s; me = i; log = goes-same u.log.entries v.log.entries l }
+
+pub later-refl : {M Msg : Type 0} (u : ReplicaState M Msg) → IsLater u u
+later-refl u = later-same u u refl refl refl
 
 three : {Msg : Type 0} (a a' b b' : Bool) (w w' : Option Refusal) (turn : Turn Msg) → a ≡ a' → b ≡ b' → w ≡ w' →
     cond (not a) (Dropped NotLeader) (cond (not b) (Dropped NoKeys) (by_verdict w turn)) ≡ cond (not a') (Dropped NotLeader) (cond (not b') (Dropped NoKeys) (by_verdict w' turn))
 three a a' b b' w w' turn ha hb hw = rw (ha, hb, hw) refl
 
-module _ {M Msg : Type 0} (m : Module Msg) (stands : M → Params → ℕ → List (Item Msg) → Type 0) (F : Formats Msg) (v : NodeState M) (ev : ℕ → ℕ → List (Item Msg)) (l : ℕ) (input : Input Msg) where
-  pub instance-is : (a b : Bool) (w : Option Refusal) → leads (plan_of v.setup 0 0 []) l ≡ a → has_leaves m ((rules_of v.setup).params [] 0 l) v.keys.used ≡ b →
-      verdict (rules_of v.setup) [] 0 l (accepts (ev 0 l)) (m.asks ((rules_of v.setup).params [] 0 l) v.me.0 (ev 0 l) input) ≡ w →
-      at_instance F (rules_of v.setup) m v.me.0 (core_of v ev) l input ≡ cond (not a) (Dropped NotLeader) (cond (not b) (Dropped NoKeys) (by_verdict w (inputs F (rules_of v.setup) m v.me.0 (core_of v ev) l input)))
-  instance-is a b w ha hb hw =
-      three _ a _ b _ w (inputs F (rules_of v.setup) m v.me.0 (core_of v ev) l input) ha hb
-      (ap (λ bf. verdict (rules_of v.setup) bf 0 l (accepts (ev 0 l)) (m.asks ((rules_of v.setup).params [] 0 l) v.me.0 (ev 0 l) input)) (oldest-zero (log_of (rules_of v.setup) m v.me.0 (record { epoch = 0; evidence = ev; adopted = [] }))) ∙ hw)
+module _ {M Msg : Type 0} (m : Module Msg) (stands : M → Params → ℕ → List (Item Msg) → Type 0)
+    (v : ReplicaState M Msg) (past : Past Msg) (tied : IsTied m stands v past) (l : ℕ) where
+  pub leads-is : (b : Bool) → b ≡ is_some (led v.segments l) → leads_in (rules_of v.setup) m v.me.0 past l ≡ b
+  leads-is b e = sym (e ∙ tied.leading l ∙ ap (λ (p : Plan). leads p l) tied.rests.divided)
 
--- the model's answer at the core that the node stands for, whatever core that is
-pub at-core : {M Msg : Type 0} (m : Module Msg) (stands : M → Params → ℕ → List (Item Msg) → Type 0) (v new : NodeState M) (c : Core Msg) (answer : Answer) (step : Core Msg → Stepped Msg) → (h : Stands m stands v c) →
-    IsAnswer m stands (core_of v h.evidence) (step (core_of v h.evidence)) new answer → IsAnswer m stands c (step c) new answer
-at-core m stands v new c answer step h is = subst (λ (d : Core _). IsAnswer m stands d (step d) new answer) (sym h.core) is
+  pub leaves-is : (g : SegmentState M) → led v.segments l ≡ Some g → (b : Bool) → b ≡ has_leaves m g.params v.keys.used → has_leaves m (params_of (rules_of v.setup) m v.me.0 past l) v.keys.used ≡ b
+  leaves-is g at b e = sym (e ∙ ap (λ (p : Params). has_leaves m p v.keys.used) (tied.instances l g at).params)
+
+  pub verdict-is : (input : Input Msg) (g : SegmentState M) → led v.segments l ≡ Some g → (o : Option Refusal) → IsVerdictAt m stands v l input o → verdict_in (rules_of v.setup) m v.me.0 past l input ≡ o
+  verdict-is input g at o h =
+      let here = tied.instances l g at in
+      let bf = before_own (rules_of v.setup) m v.me.0 past in
+      let xs = taken_in past l in
+      subst (λ (p : Params). verdict (rules_of p.setup) bf p.epoch.0 p.leader.0 (accepts xs) (m.asks p v.me.0 xs input) ≡ o) here.params
+      (subst (λ (i : NodeId). verdict (rules_of g.params.setup) bf g.params.epoch.0 g.params.leader.0 (accepts xs) (m.asks g.params i.0 xs input) ≡ o) here.node
+      (h g at bf xs (subst (λ (p : Params). RestsOn p.setup bf p.epoch.0 v.plan v.windows) (sym here.params) tied.rests) here.instance))
+
+  module _ (F : Formats Msg) (input : Input Msg) where
+    pub instance-is : (a b : Bool) (w : Option Refusal) → leads_in (rules_of v.setup) m v.me.0 past l ≡ a → has_leaves m (params_of (rules_of v.setup) m v.me.0 past l) v.keys.used ≡ b → verdict_in (rules_of v.setup) m v.me.0 past l input ≡ w →
+        at_instance F (rules_of v.setup) m v.me.0 (core_of v past) l input ≡ cond (not a) (Dropped NotLeader) (cond (not b) (Dropped NoKeys) (by_verdict w (inputs F (rules_of v.setup) m v.me.0 (core_of v past) l input)))
+    instance-is a b w ha hb hw = three _ a _ b _ w (inputs F (rules_of v.setup) m v.me.0 (core_of v past) l input) ha hb hw
 
 -- nothing has changed
-pub same-stands : {M Msg : Type 0} (m : Module Msg) (stands : M → Params → ℕ → List (Item Msg) → Type 0) (v : NodeState M) (ev : ℕ → ℕ → List (Item Msg)) → IsTied m stands v ev → Stands m stands v (core_of v ev)
-same-stands m stands v ev tied = record { evidence = ev; core = refl; tied = tied }
+pub same-parts : {M Msg : Type 0} (m : Module Msg) (stands : M → Params → ℕ → List (Item Msg) → Type 0) (v : ReplicaState M Msg) (past : Past Msg) → IsTied m stands v past → AreParts m stands v (core_of v past)
+same-parts m stands v past tied = record { core = refl; tied = tied }
 
--- what an instance says of a refusal, the node says
-pub refusal-at : {M Msg : Type 0} (m : Module Msg) (stands : M → Params → ℕ → List (Item Msg) → Type 0) (plan : Plan) (v : NodeState M) (shape : IsNode m plan v) (l : ℕ) → l < v.setup.n → (g : SegmentState M) → g ≡ get_or v.segments l g → (ev : ℕ → ℕ → List (Item Msg)) → IsTied m stands v ev → (input : Input Msg) (r : Option Refusal) →
-    ((xs : List (Item Msg)) → IsInstance stands g xs → r ≡ verdict (rules_of g.params.setup) [] 0 g.params.leader.0 (accepts xs) (m.asks g.params g.me.0 xs input)) →
-    r ≡ verdict (rules_of v.setup) [] 0 l (accepts (ev 0 l)) (m.asks ((rules_of v.setup).params [] 0 l) v.me.0 (ev 0 l) input)
-refusal-at m stands plan v shape l lt g is ev tied input r h =
-    let n = shape.count in
-    let less : l < length v.segments = omega (arith, n, lt) in
-    let at : slice_get v.segments l ≡ Some g = get-of v.segments l g less is in
-    subst (λ (p : Params). r ≡ verdict (rules_of p.setup) [] 0 p.leader.0 (accepts (ev 0 l)) (m.asks p v.me.0 (ev 0 l) input)) (shape.params l g at)
-    (subst (λ (i : NodeId). r ≡ verdict (rules_of g.params.setup) [] 0 g.params.leader.0 (accepts (ev 0 l)) (m.asks g.params i.0 (ev 0 l) input)) (shape.node l g at)
-    (h (ev 0 l) (tied.instances l g at)))
+-- an input that was taken, and what it made, is the model's turn
+module _ {M Msg : Type 0} (m : Module Msg) (laws : IsLawful m) (stands : M → Params → ℕ → List (Item Msg) → Type 0)
+    (v : ReplicaState M Msg) (shape : IsReplica m v) (leader : NodeId) (input : Input Msg) (ef : Effects Msg) (w : ReplicaState M Msg) (outcome : Outcome)
+    (past : Past Msg) (tied : IsTied m stands v past) where
+  inner : (segments : List (Option (SegmentState M))) (keys : KeyState) (was is : SegmentState M) → led v.segments leader.0 ≡ Some was → led segments leader.0 ≡ Some is → ((k : ℕ) → k ≢ leader.0 → led segments k ≡ led v.segments k) →
+      IsInstanceTaken m stands was is input v.keys keys ef → IsAbsorbed (record v { segments = segments; keys = keys }) w leader ef → outcome.sends ≡ packed (formats_of v.setup m) v.me.0 v.epoch leader.0 ef.sends →
+      IsTurned m stands (inputs (formats_of v.setup m) (rules_of v.setup) m v.me.0 (core_of v past) leader.0 input) w outcome
+  inner segments keys was is at there others taken a sends =
+      let F = formats_of v.setup m in
+      let g = a.grown in
+      let parts = parts-next m stands v shape past tied laws leader input ef was is keys at taken w.log g.held g.grown segments w.accepted w.waiting w.flight w.logged
+      there others a.accepted g.logged g.landed.landed
+      (λ all before noted members new. g.landed.waiting all (record { before = before; noted = noted; members = members }) new) F in
+      let addressed = addressed-next m stands v shape past tied laws leader input ef was is keys at taken w.log g.held g.grown F outcome.sends sends in
+      record {
+        stands_for = subst (λ (z : ReplicaState M Msg). AreParts m stands z (inputs F (rules_of v.setup) m v.me.0 (core_of v past) leader.0 input).core) (sym g.rest) parts;
+        sends = sends-next m stands v shape past tied laws leader input ef was is keys at taken w.log g.held g.grown F outcome.sends sends;
+        addressed = subst (λ (z : ReplicaState M Msg). AreToNodes z.setup.n outcome.sends) (sym g.rest) addressed;
+      }
 
--- a message of the first epoch is an input of its instance
-pub parcel-at : {M Msg : Type 0} (m : Module Msg) (stands : M → Params → ℕ → List (Item Msg) → Type 0) (F : Formats Msg) (R : Rules) (me : ℕ) (v new : NodeState M) (d : Core Msg) (h : Stands m stands v d) (from : NodeId) (e leader : ℕ) (msg : Msg) (answer : Answer) → e ≡ 0 →
-    IsAnswer m stands d (at_instance F R m me d leader (Receive from msg)) new answer → IsAnswer m stands d (takes_parcel F R m me d from.0 e (OfModule leader msg)) new answer
-parcel-at m stands F R me v new d h from e leader msg answer zero_is is =
-    let first : d.past.epoch ≡ 0 = ap (λ (x : Core _). x.past.epoch) h.core in
-    let same : (e == d.past.epoch) ≡ true = grind (arith, nat_tests) in
-    subst (λ (b : Bool). IsAnswer m stands d (cond (not b) (Dropped OtherEpoch) (at_instance F R m me d leader (Receive from msg))) new answer) (sym same) is
+  pub turned : (u : ReplicaState M Msg) → IsInputTaken m stands v u leader.0 input ef → IsAbsorbed u w leader ef → outcome.sends ≡ packed (formats_of u.setup m) u.me.0 u.epoch leader.0 ef.sends →
+      IsTurned m stands (inputs (formats_of v.setup m) (rules_of v.setup) m v.me.0 (core_of v past) leader.0 input) w outcome
+  turned u i a sends =
+      inner u.segments u.keys i.was i.is i.at i.there i.others i.taken
+      (subst (λ (z : ReplicaState M Msg). IsAbsorbed z w leader ef) i.rest a)
+      (subst (λ (z : ReplicaState M Msg). outcome.sends ≡ packed (formats_of z.setup m) z.me.0 z.epoch leader.0 ef.sends) i.rest sends)
+
+-- ---- the three answers of an instance, and what each test found
+
+some-there : {A : Type 0} (o : Option A) → true ≡ is_some o → (x : A) × (o ≡ Some x)
+some-there None h = absurd (true≢false h)
+some-there (Some x) h = (x, refl)
+
+module _ {M Msg : Type 0} (m : Module Msg) (stands : M → Params → ℕ → List (Item Msg) → Type 0) (F : Formats Msg)
+    (v : ReplicaState M Msg) (l : ℕ) (input : Input Msg) (leading : true ≡ is_some (led v.segments l)) (past : Past Msg) (tied : IsTied m stands v past) where
+  pub drops-keys : ((g : SegmentState M) → led v.segments l ≡ Some g → AreKeysOf v.me.0 v.setup.keys v.keys → false ≡ has_leaves m g.params v.keys.used) →
+      IsStepDropped m stands (core_of v past) (at_instance F (rules_of v.setup) m v.me.0 (core_of v past) l input) v NoKeys
+  drops-keys leaves =
+      let g = some-there (led v.segments l) leading in
+      record {
+        step_is = instance-is m stands v past tied l F input true false _ (leads-is m stands v past tied l true leading) (leaves-is m stands v past tied l g.0 g.1 false (leaves g.0 g.1 tied.keys)) refl;
+        stands_for = same-parts m stands v past tied;
+      }
+
+  module _ (leaves : (g : SegmentState M) → led v.segments l ≡ Some g → AreKeysOf v.me.0 v.setup.keys v.keys → true ≡ has_leaves m g.params v.keys.used) where
+    pub drops-refused : (w : ReplicaState M Msg) (why : Refusal) → (w ≡ v) × IsVerdictAt m stands v l input (Some why) →
+        IsStepDropped m stands (core_of v past) (at_instance F (rules_of v.setup) m v.me.0 (core_of v past) l input) w (Refused why)
+    drops-refused w why h =
+        let g = some-there (led v.segments l) leading in
+        record {
+          step_is = instance-is m stands v past tied l F input true true (Some why) (leads-is m stands v past tied l true leading) (leaves-is m stands v past tied l g.0 g.1 true (leaves g.0 g.1 tied.keys)) (verdict-is m stands v past tied l input g.0 g.1 (Some why) h.1);
+          stands_for = subst (λ (z : ReplicaState M Msg). AreParts m stands z (core_of v past)) (sym h.0) (same-parts m stands v past tied);
+        }
+
+    pub takes-input : (w : ReplicaState M Msg) (o : Outcome) → IsVerdictAt m stands v l input None → IsTurned m stands (inputs F (rules_of v.setup) m v.me.0 (core_of v past) l input) w o →
+        IsStepTaken m stands (at_instance F (rules_of v.setup) m v.me.0 (core_of v past) l input) w o
+    takes-input w o h turn =
+        let g = some-there (led v.segments l) leading in
+        record {
+          turn = inputs F (rules_of v.setup) m v.me.0 (core_of v past) l input;
+          step_is = instance-is m stands v past tied l F input true true None (leads-is m stands v past tied l true leading) (leaves-is m stands v past tied l g.0 g.1 true (leaves g.0 g.1 tied.keys)) (verdict-is m stands v past tied l input g.0 g.1 None h);
+          turned = turn;
+        }
+
+pub input-turn : {M Msg : Type 0} (m : Module Msg) (laws : IsLawful m) (stands : M → Params → ℕ → List (Item Msg) → Type 0) (v u w : ReplicaState M Msg) (shape : IsReplica m v) (leader : NodeId) (input : Input Msg) (ef : Effects Msg) (r : Result Outcome NoMemory) →
+    IsInputTaken m stands v u leader.0 input ef → OnOk r (IsAbsorbed u w leader ef) → IfOk r (λ o. o.sends ≡ packed (formats_of u.setup m) u.me.0 u.epoch leader.0 ef.sends) →
+    IfOk r (λ o. IsTurnOf m stands v (λ F R me c. inputs F R m me c leader.0 input) w o)
+input-turn m laws stands v u w shape leader input ef (Err e) i a s = tt
+input-turn m laws stands v u w shape leader input ef (Ok o) i a s = λ past tied. turned m laws stands v shape leader input ef w o past tied u i a s

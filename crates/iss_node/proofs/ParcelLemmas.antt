@@ -27,11 +27,11 @@ all-whole {A} parse bytes h = go (parse bytes) refl
     go (Good thing (b ∷ rest)) e = refl
     go (Bad at) e = refl
 
-packed-append : {Msg : Type 0} (F : Formats Msg) (me l : ℕ) (xs ys : List (To × Msg)) → packed F me 0 l (xs ++ ys) ≡ packed F me 0 l xs ++ packed F me 0 l ys
-packed-append F me l [] ys = refl
-packed-append F me l (x ∷ xs) ys = ap (λ zs. (x.0, F.wrap (record { from = me; epoch = 0; body = OfModule l x.1 })) ∷ zs) (packed-append F me l xs ys)
+packed-append : {Msg : Type 0} (F : Formats Msg) (me e l : ℕ) (xs ys : List (To × Msg)) → packed F me e l (xs ++ ys) ≡ packed F me e l xs ++ packed F me e l ys
+packed-append F me e l [] ys = refl
+packed-append F me e l (x ∷ xs) ys = ap (λ zs. (x.0, F.wrap (record { from = me; epoch = e; body = OfModule l x.1 })) ∷ zs) (packed-append F me e l xs ys)
 
-pub packed-next : {Msg : Type 0} (F : Formats Msg) (me l : ℕ) (xs : List (To × Msg)) (i : ℕ) (x : To × Msg) → i < length xs → x ≡ get_or xs i x → packed F me 0 l (take i xs) ++ (x.0, F.wrap (record { from = me; epoch = 0; body = OfModule l x.1 })) ∷ [] ≡ packed F me 0 l (take (i + 1) xs)
-packed-next {Msg} F me l xs i x lt is =
-    let e : take (i + 1) xs ≡ take i xs ++ x ∷ [] = rw add-one (take-suc xs i x lt ∙ ap (λ (y : To × Msg). take i xs ++ y ∷ []) (sym is)) in
-    sym (ap (λ ys. packed F me 0 l ys) e ∙ packed-append F me l (take i xs) (x ∷ []))
+pub packed-next : {Msg : Type 0} (F : Formats Msg) (me e l : ℕ) (xs : List (To × Msg)) (i : ℕ) (x : To × Msg) → i < length xs → x ≡ get_or xs i x → packed F me e l (take i xs) ++ (x.0, F.wrap (record { from = me; epoch = e; body = OfModule l x.1 })) ∷ [] ≡ packed F me e l (take (i + 1) xs)
+packed-next {Msg} F me e l xs i x lt is =
+    let q : take (i + 1) xs ≡ take i xs ++ x ∷ [] = rw add-one (take-suc xs i x lt ∙ ap (λ (y : To × Msg). take i xs ++ y ∷ []) (sym is)) in
+    sym (ap (λ ys. packed F me e l ys) q ∙ packed-append F me e l (take i xs) (x ∷ []))

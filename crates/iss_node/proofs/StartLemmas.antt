@@ -1,178 +1,262 @@
--- How a node starts, and whom a packet comes from.
-use Rattle.std.proofs.Common.{inl, inr, arith, ◌≡◌, ◌≢◌, ◌⊎◌, ℕ, zero, suc, ◌+◌, ◌^◌, ◌<◌, Bool, true, false, List, [], ◌∷◌, ◌++◌, ◌&&◌, nat_lt, Option, Some, None, Result, Ok, Err, IfOk, IfSome, length, refl, sym, ap, ◌∙◌, subst, slice_get, length-append}
-use Rattle.std.proofs.lemmas.Bool.Decides.{nat_tests}
-use Rattle.iss_base.proofs.Lists.{in_left, in_right, same_or_not}
-use Rattle.iss_base.specs.Lists.{In}
-use Rattle.iss_layout.specs.Layout.{IsFair, Plan, node, nodes_below, plan_of, segment}
-use Rattle.iss_model.specs.Concrete.{keys_of, rules_of}
-use Rattle.iss_model.specs.Runs.{IsSetupOf}
-use Rattle.iss_node.specs.Parcels.{IsFromNode}
-use Rattle.iss_node.specs.Shape.{AreStarted, IsNode}
+-- How the instances of an epoch are started, and a node that has taken nothing.
+use Rattle.std.proofs.Common.{inl, inr, arith, ◌≡◌, ◌≢◌, ◌⊎◌, ℕ, zero, suc, ◌+◌, ◌*◌, ◌^◌, ◌<◌, ◌≤◌, Bool, true, false, List, [], ◌∷◌, ◌++◌, ◌==◌, ◌||◌, ◌&&◌, cond, Option, Some, None, IfSome, length, take, ◌-◌, reverse, refl, sym, ap, ◌∙◌, subst, slice_get, length-append, true≢false}
+use Rattle.std.specs.Prelude.{is_some}
+use Rattle.std.specs.List.{list_any}
+use Rattle.std.proofs.lemmas.Bool.Decides.{leb_tells, nat_tests}
+use Rattle.iss_base.proofs.Lists.{same_or_not}
+use Rattle.iss_base.specs.Lists.{In, oldest}
+use Rattle.iss_layout.proofs.FairLemmas.{fair, leads_means}
+use Rattle.iss_layout.specs.Layout.{Conduct, Ended, IsGoodPlan, IsStanding, Plan, conduct_of, epochs, leads, plan_by, segment}
 use Rattle.iss_log.specs.LogState.{empty_log}
-use Rattle.iss_model.specs.Past.{log_of}
-use Rattle.iss_node.proofs.LogOf.{log-is}
-use Rattle.iss_node.specs.State.{IsInstance, NodeState, SegmentState, Stands}
+use Rattle.iss_model.proofs.Casts.{idle-sound, newborn-log}
+use Rattle.iss_model.specs.Concrete.{keys_of, plan_at, rules_of}
+use Rattle.iss_model.specs.Node.{Core, idle, joined}
+use Rattle.iss_model.specs.Past.{Past, before_own, log_of, newborn, start_of}
+use Rattle.iss_model.specs.Runs.{IsSetupOf}
+use Rattle.iss_model.specs.Sound.{IsSoundCore}
+use Rattle.iss_node.specs.Epochs.{AreStarted, params_by}
+use Rattle.iss_node.specs.Flights.{FlightState}
+use Rattle.iss_node.specs.Shape.{IsReplica}
+use Rattle.iss_node.specs.State.{AreParts, IsLed, IsTiedOver, NodeState, ReplicaState, Stands, core_of, led, led_in}
 use Rattle.iss_request.specs.Log.{has_id, log_ids}
-use Rattle.iss_request.specs.declared.requests.Value.{Value}
-use Rattle.iss_keys.specs.Directories.{AreKeysOf, DirectoryView}
-use Rattle.iss_keys.specs.KeyStates.{KeyState}
-use Rattle.iss_node.specs.declared.parcels.Body.{Body}
-use Rattle.iss_node.specs.declared.parcels.Body.TheVariants.{Message as OfModule, Request as OfClient}
-use Rattle.iss_node.specs.declared.parcels.Parcel.{Parcel}
-use Rattle.iss_packet.specs.Packets.{is_routed, is_routed_as}
-use Rattle.iss_packet.specs.declared.packets.Packet.{Packet}
-use Rattle.iss_packet.specs.declared.packets.PacketKind.{PacketKind}
-use Rattle.iss_packet.specs.declared.packets.PacketKind.TheVariants.{Message}
-use Rattle.iss_request.specs.declared.errors.NoMemory.{NoMemory}
+use Rattle.iss_request.specs.Setup.{AreRising}
 use Rattle.iss_request.specs.declared.ids.NodeId.{NodeId}
 use Rattle.iss_request.specs.declared.ids.Slot.{Slot}
+use Rattle.iss_request.specs.declared.requests.Value.{Value}
 use Rattle.iss_request.specs.declared.setups.Setup.{Setup}
+use Rattle.iss_keys.specs.Directories.{AreKeysOf, DirectoryView}
+use Rattle.iss_keys.specs.KeyStates.{KeyState}
 use Rattle.iss_sb.specs.declared.effects.Params.{Params}
 use Rattle.iss_sb.specs.Calls.{AreBelow, IsGoodParams}
-use Rattle.iss_sb.specs.Evidence.{Item, Module, delivered}
+use Rattle.iss_sb.specs.Evidence.{Item, Module}
+use Rattle.iss_segment.specs.Ground.{noted_before}
+use Rattle.iss_segment.specs.Instance.{IsInstance, SegmentState}
+use Rattle.iss_window.specs.Kept.{Kept, StandsFor}
+use Rattle.iss_window.specs.Window.{none_noted}
 
-in-below : (n l : ℕ) → l < n → In (node l) (nodes_below n)
-in-below zero l lt = absurd (omega arith)
-in-below (suc n) l lt = go (same_or_not l n) (in-below n l)
-  where
-    go : (l ≡ n) ⊎ (l ≢ n) → (l < n → In (node l) (nodes_below n)) → In (node l) (nodes_below n ++ node n ∷ [])
-    go (inl e) more = in_right (node l) (nodes_below n) (node n ∷ []) (inl (ap (λ (i : ℕ). node i) e))
-    go (inr ne) more = let less : l < n = omega (arith, ne, lt) in in_left (node l) (nodes_below n) (node n ∷ []) (more less)
+-- ---- the parameters of an instance
 
 below-all : (bound : ℕ) (ss : List Slot) → ((x : Slot) → In x ss → x.0 < bound) → AreBelow bound ss
 below-all bound [] h = tt
 below-all bound (x ∷ ss) h = (h x (inl refl), below-all bound ss (λ y i. h y (inr i)))
 
-pub good-params : {Msg : Type 0} (m : Module Msg) (s : Setup) (l : ℕ) → IsSetupOf m s → l < s.n → IsFair (plan_of s 0 0 []) → IsGoodParams m ((rules_of s).params [] 0 l)
-good-params m s l h lt fair = record {
-  setup = h.good;
-  tag = h.tag;
-  kind = h.kind;
-  nodes = h.nodes;
-  majority = h.majority;
-  leader = lt;
-  some = (fair.segments l).some (in-below s.n l lt);
-  few = (fair.segments l).few;
-  rising = (fair.segments l).ascending;
-  slots_low = below-all (2 ^ 64) (segment (plan_of s 0 0 []) l) (λ x i.
-      let of_epoch = (((fair.segments l).slots x).0 i).0.1 in
-      let few = h.good.epoch_high in
-      omega (arith, of_epoch, few));
-  directory = refl;
-}
+pub good-params : {Msg : Type 0} (m : Module Msg) (s : Setup) (e : ℕ) (plan : Plan) (l : ℕ) → IsSetupOf m s → l < s.n → IsGoodPlan plan → leads plan l ≡ true → IsGoodParams m (params_by s e plan l)
+good-params m s e plan l h lt good leading =
+    let f = fair plan good in
+    record {
+      setup = h.good;
+      tag = h.tag;
+      kind = h.kind;
+      nodes = h.nodes;
+      majority = h.majority;
+      leader = lt;
+      some = (f.segments l).some (leads_means l plan.leaders leading);
+      few = (f.segments l).few;
+      rising = (f.segments l).ascending;
+      slots_low = below-all (2 ^ 64) (segment plan l) (λ x i.
+          let of_epoch = (((f.segments l).slots x).0 i).0.1 in
+          let fits = good.fits in
+          omega (arith, of_epoch, fits));
+      directory = refl;
+    }
 
-pub good-copy : {Msg : Type 0} (m : Module Msg) (s t : Setup) (l : NodeId) (slots : List Slot) (directory : DirectoryView) (plan : Plan) → IsSetupOf m s → l.0 < s.n → IsFair (plan_of s 0 0 []) → plan ≡ plan_of s 0 0 [] → t ≡ s → slots ≡ segment plan l.0 →
-    directory ≡ keys_of s → IsGoodParams m (record { setup = t; epoch = record { 0 = 0 }; leader = l; slots = slots; directory = directory })
-good-copy m s t l slots directory plan h lt fair plan_is t_is slots_are keys_are =
-    let made : Setup → List Slot → DirectoryView → Params = λ z zs d. record { setup = z; epoch = record { 0 = 0 }; leader = l; slots = zs; directory = d } in
-    let segment_is = slots_are ∙ ap (λ (p : Plan). segment p l.0) plan_is in
+pub good-copy : {Msg : Type 0} (m : Module Msg) (s t : Setup) (e : ℕ) (l : NodeId) (slots : List Slot) (directory : DirectoryView) (plan : Plan) → IsSetupOf m s → l.0 < s.n → IsGoodPlan plan → leads plan l.0 ≡ true → t ≡ s → slots ≡ segment plan l.0 →
+    directory ≡ keys_of s → IsGoodParams m (record { setup = t; epoch = record { 0 = e }; leader = l; slots = slots; directory = directory })
+good-copy m s t e l slots directory plan h lt good leading t_is slots_are keys_are =
+    let made : Setup → List Slot → DirectoryView → Params = λ z zs d. record { setup = z; epoch = record { 0 = e }; leader = l; slots = zs; directory = d } in
     subst (λ (z : Setup). IsGoodParams m (made z slots directory)) (sym t_is)
-    (subst (λ (zs : List Slot). IsGoodParams m (made s zs directory)) (sym segment_is)
-    (subst (λ (d : DirectoryView). IsGoodParams m (made s (segment (plan_of s 0 0 []) l.0) d)) (sym keys_are) (good-params m s l.0 h lt fair)))
+    (subst (λ (zs : List Slot). IsGoodParams m (made s zs directory)) (sym slots_are)
+    (subst (λ (d : DirectoryView). IsGoodParams m (made s (segment plan l.0) d)) (sym keys_are) (good-params m s e plan l.0 h lt good leading)))
 
-get-append : {A : Type 0} (xs : List A) (x y : A) (k : ℕ) → slice_get (xs ++ x ∷ []) k ≡ Some y → (slice_get xs k ≡ Some y) ⊎ ((k ≡ length xs) × (x ≡ y))
-get-append [] x y zero h = inr (refl, (let e : Some x ≡ Some y = h in cc))
-get-append [] x y (suc k) h = cc
-get-append (z ∷ xs) x y zero h = inl h
-get-append (z ∷ xs) x y (suc k) h = elim (get-append xs x y k h) [
-  | inl a ↦ inl a
-  | inr b ↦ inr (ap (λ (n : ℕ). suc n) b.0, b.1)
+pub copy-is : (s t : Setup) (e : ℕ) (l : NodeId) (slots : List Slot) (directory : DirectoryView) (plan : Plan) → t ≡ s → slots ≡ segment plan l.0 → directory ≡ keys_of s →
+    record { setup = t; epoch = record { 0 = e }; leader = l; slots = slots; directory = directory } ≡ params_by s e plan l.0
+copy-is s t e l slots directory plan t_is slots_are keys_are = λ i. record { setup = t_is i; epoch = record { 0 = e }; leader = l; slots = slots_are i; directory = (keys_are) i }
+
+-- ---- rows of instances
+
+led-front : {M : Type 0} (gs hs : List (Option (SegmentState M))) (l : ℕ) → l < length gs → led (gs ++ hs) l ≡ led gs l
+led-front [] hs l lt = absurd (omega (arith, lt))
+led-front (g ∷ gs) hs zero lt = refl
+led-front (g ∷ gs) hs (suc l) lt = led-front gs hs l (omega (arith, lt))
+
+led-end : {M : Type 0} (gs : List (Option (SegmentState M))) (o : Option (SegmentState M)) → led (gs ++ o ∷ []) (length gs) ≡ o
+led-end [] o = refl
+led-end (g ∷ gs) o = led-end gs o
+
+pub led-past : {M : Type 0} (gs : List (Option (SegmentState M))) (l : ℕ) → length gs ≤ l → led gs l ≡ None
+led-past [] l le = refl
+led-past (g ∷ gs) zero le = absurd (omega (arith, le))
+led-past (g ∷ gs) (suc l) le = led-past gs l (omega (arith, le))
+
+pub led-below : {M : Type 0} (gs : List (Option (SegmentState M))) (l : ℕ) (g : SegmentState M) → led gs l ≡ Some g → l < length gs
+led-below gs l g h = elim (leb_tells (length gs) l) [
+  | inl t ↦ let none = led-past gs l t.1 in let bad : None ≡ Some g = sym none ∙ h in absurd (cc)
+  | inr t ↦ t.1
 ]
 
-pub started-next : {M Msg : Type 0} (stands : M → Params → ℕ → List (Item Msg) → Type 0) (s : Setup) (me : NodeId) (l : ℕ) (gs : List (SegmentState M)) (g : SegmentState M) → AreStarted stands s me l gs → IsInstance stands g [] → (g.params ≡ (rules_of s).params [] 0 l) × (g.me ≡ me) → AreStarted stands s me (l + 1) (gs ++ g ∷ [])
-started-next {M} {Msg} stands s me l gs g h stood same = record {
-  as_many = let n = h.as_many in let e = length-append gs (g ∷ []) in omega (arith, n, e);
-  params_are = λ k x is. elim (get-append gs g x k is) [
-    | inl a ↦ h.params_are k x a
-    | inr b ↦ subst (λ (z : SegmentState M). z.params ≡ (rules_of s).params [] 0 k) b.1 (subst (λ (i : ℕ). g.params ≡ (rules_of s).params [] 0 i) (sym (b.0 ∙ h.as_many)) same.0)
-  ];
-  node_is = λ k x is. elim (get-append gs g x k is) [
-    | inl a ↦ h.node_is k x a
-    | inr b ↦ subst (λ (z : SegmentState M). z.me ≡ me) b.1 same.1
-  ];
-  instances = λ k x is. elim (get-append gs g x k is) [
-    | inl a ↦ h.instances k x a
-    | inr b ↦ subst (λ (z : SegmentState M). IsInstance stands z []) b.1 stood
-  ];
-}
+-- the instances of the first k nodes
+pub record AreBegun {M Msg : Type 0} (stands : M → Params → ℕ → List (Item Msg) → Type 0) (s : Setup) (me : NodeId) (e : ℕ) (plan : Plan) (k : ℕ)
+    (segments : List (Option (SegmentState M))) : Type 0 where
+  pub count : length segments ≡ k
+  pub leading : (l : ℕ) → l < k → is_some (led segments l) ≡ leads plan l
+  pub params : (l : ℕ) (g : SegmentState M) → led segments l ≡ Some g → g.params ≡ params_by s e plan l
+  pub node : (l : ℕ) (g : SegmentState M) → led segments l ≡ Some g → g.me ≡ me
+  pub instances : (l : ℕ) (g : SegmentState M) → led segments l ≡ Some g → IsInstance stands g []
 
-pub started-none : {M Msg : Type 0} (stands : M → Params → ℕ → List (Item Msg) → Type 0) (s : Setup) (me : NodeId) → AreStarted {M = M} stands s me 0 []
-started-none stands s me = record {
-  as_many = refl;
-  params_are = λ k x is. cc;
-  node_is = λ k x is. cc;
-  instances = λ k x is. absurd (let e : None ≡ Some x = is in cc);
-}
+module _ {M Msg : Type 0} (stands : M → Params → ℕ → List (Item Msg) → Type 0) (s : Setup) (me : NodeId) (e : ℕ) (plan : Plan) where
+  pub begun-none : AreBegun {M = M} stands s me e plan 0 []
+  begun-none = record {
+    count = refl;
+    leading = λ l lt. absurd (omega (arith, lt));
+    params = λ l g h. cc;
+    node = λ l g h. cc;
+    instances = λ l g h. absurd (let z : None ≡ Some g = h in cc);
+  }
 
--- ---- whom a packet comes from
+  pub begun-next : (k : ℕ) (gs : List (Option (SegmentState M))) (o : Option (SegmentState M)) → AreBegun stands s me e plan k gs → is_some o ≡ leads plan k → IfSome o (λ g. IsInstance stands g []) →
+      IfSome o (λ g. g.params ≡ params_by s e plan k) → IfSome o (λ g. g.me ≡ me) → AreBegun stands s me e plan (k + 1) (gs ++ o ∷ [])
+  begun-next k gs o h leading instance params node = record {
+    count = let n = h.count in let q = length-append gs (o ∷ []) in omega (arith, n, q);
+    leading = λ l lt. elim (same_or_not l k) [
+      | inl q ↦ at-end (λ i p. is_some p ≡ leads plan i) l q leading
+      | inr ne ↦ let n = h.count in let less : l < k = omega (arith, lt, ne) in let within : l < length gs = omega (arith, n, less) in ap (λ (p : Option (SegmentState M)). is_some p) (led-front gs (o ∷ []) l within) ∙ h.leading l less
+    ];
+    params = λ l g is. each (λ i x. x.params ≡ params_by s e plan i) params h.params l g is;
+    node = λ l g is. each (λ i x. x.me ≡ me) node h.node l g is;
+    instances = λ l g is. each (λ i x. IsInstance stands x []) instance h.instances l g is;
+  }
+    where
+      at-end : (Q : ℕ → Option (SegmentState M) → Type 0) (l : ℕ) → l ≡ k → Q k o → Q l (led (gs ++ o ∷ []) l)
+      at-end Q l q here =
+          let n = h.count in
+          subst (λ (i : ℕ). Q i (led (gs ++ o ∷ []) i)) (sym (q ∙ sym n))
+          (subst (λ (p : Option (SegmentState M)). Q (length gs) p) (sym (led-end gs o)) (subst (λ (i : ℕ). Q i o) (sym n) here))
 
-from-of : (a b : Bool) → (a && b) ≡ true → a ≡ true
-from-of true b h = refl
-from-of false b h = cc
+      some-of : (Q : SegmentState M → Type 0) (p : Option (SegmentState M)) (g : SegmentState M) → p ≡ Some g → IfSome p Q → Q g
+      some-of Q None g q k = absurd (let z : None ≡ Some g = q in cc)
+      some-of Q (Some x) g q k = let is : x ≡ g = cc in subst (λ (y : SegmentState M). Q y) is k
 
-body-from : {Msg : Type 0} (n : ℕ) (k : Parcel Msg) → k.from.0 < n → IsFromNode n k
-body-from {Msg} n k lt = go k.body
-  where
-    go : (b : Body Msg) → IsFromNode n (record { from = k.from; epoch = k.epoch; body = b })
-    go (OfModule leader msg) = lt
-    go (OfClient q) = tt
+      each : (Q : ℕ → SegmentState M → Type 0) → IfSome o (λ g. Q k g) → ((l : ℕ) (g : SegmentState M) → led gs l ≡ Some g → Q l g) → (l : ℕ) (g : SegmentState M) → led (gs ++ o ∷ []) l ≡ Some g → Q l g
+      each Q here old l g is =
+          let n = h.count in
+          let long = length-append gs (o ∷ []) in
+          let lt = led-below (gs ++ o ∷ []) l g is in
+          elim (same_or_not l (length gs)) [
+            | inl q ↦
+                let end : o ≡ Some g = sym (led-end gs o) ∙ ap (λ (i : ℕ). led (gs ++ o ∷ []) i) (sym q) ∙ is in
+                let there : Q k g = some-of (λ x. Q k x) o g end here in
+                subst (λ (i : ℕ). Q i g) (sym (q ∙ n)) there
+            | inr ne ↦ let less : l < length gs = omega (arith, lt, ne, long) in old l g (sym (led-front gs (o ∷ []) l less) ∙ is)
+          ]
 
-pub from-node : {Msg : Type 0} (n : ℕ) (p : Packet) (r : Result (Option (Parcel Msg)) NoMemory) → p.kind ≡ Message → is_routed n p ≡ true → IfOk r (λ o. IfSome o (λ k. k.from.0 ≡ p.from)) → IfOk r (λ o. IfSome o (IsFromNode n))
-unfolding is_routed
-from-node n p (Err e) kind routed h = tt
-from-node n p (Ok None) kind routed h = tt
-from-node n p (Ok (Some k)) kind routed h =
-    let as_node : is_routed_as n Message p.from p.epoch.0 p.leader ≡ true = subst (λ (z : PacketKind). is_routed_as n z p.from p.epoch.0 p.leader ≡ true) kind routed in
-    let first : nat_lt p.from n ≡ true = from-of _ _ as_node in
-    let lt : p.from < n = grind (arith, nat_tests) in
-    body-from n k (omega (arith, h, lt))
+  rising-less : (from n : ℕ) (ls : List NodeId) (l : ℕ) → AreRising from n ls → list_any (λ (k : NodeId). k.0 == l) ls ≡ true → l < n
+  rising-less from n [] l h some = absurd (true≢false (sym some))
+  rising-less from n (k ∷ ls) l h some = go (rising-less (suc k.0) n ls l h.2) (k.0 == l) refl some
+    where
+      go : (list_any (λ (k : NodeId). k.0 == l) ls ≡ true → l < n) → (b : Bool) → (k.0 == l) ≡ b → (b || list_any (λ (k : NodeId). k.0 == l) ls) ≡ true → l < n
+      go more true q x = let same : k.0 ≡ l = grind (arith, nat_tests) in omega (arith, same, h.1)
+      go more false q x = more x
 
-pub from-any : {Msg : Type 0} (n : ℕ) (r : Result (Option (Parcel Msg)) NoMemory) → IfOk r (λ o. IfSome o (IsFromNode 0)) → IfOk r (λ o. IfSome o (IsFromNode n))
-from-any {Msg} n (Err e) h = tt
-from-any {Msg} n (Ok None) h = tt
-from-any {Msg} n (Ok (Some k)) h = go k.body h
-  where
-    go : (b : Body Msg) → IsFromNode 0 (record { from = k.from; epoch = k.epoch; body = b }) → IsFromNode n (record { from = k.from; epoch = k.epoch; body = b })
-    go (OfModule leader msg) lt = absurd (omega (arith, lt))
-    go (OfClient q) lt = tt
+  pub begun-all : (n : ℕ) (gs : List (Option (SegmentState M))) → AreBegun stands s me e plan n gs → IsGoodPlan plan → plan.nodes ≡ n → AreStarted stands s me e plan gs
+  begun-all n gs h good nodes = record {
+    leading = λ l. elim (leb_tells n l) [
+      | inl t ↦
+          let m = h.count in
+          let le : length gs ≤ l = omega (arith, m, t.1) in
+          ap (λ (p : Option (SegmentState M)). is_some p) (led-past gs l le) ∙ sym (none l t.1 (leads plan l) refl)
+      | inr t ↦ h.leading l t.1
+    ];
+    params = h.params;
+    node = h.node;
+    instances = h.instances;
+  }
+    where
+      none : (l : ℕ) → n ≤ l → (b : Bool) → leads plan l ≡ b → leads plan l ≡ false
+      none l le true q = let lt = rising-less 0 plan.nodes plan.leaders l good.rising q in absurd (omega (arith, lt, nodes, le))
+      none l le false q = q
 
 -- ---- a node that has taken nothing
 
-nothing-delivered : {Msg : Type 0} (m : Module Msg) (p : Params) (me s : ℕ) → delivered m p me [] s ≡ None
-nothing-delivered m p me s = refl
-
-module _ {M Msg : Type 0} (m : Module Msg) (stands : M → Params → ℕ → List (Item Msg) → Type 0) (s t : Setup) (me : NodeId) (gs : List (SegmentState M)) (keys : KeyState)
-    (t_is : t ≡ s) (started : AreStarted stands s me s.n gs) where
-  abbrev begun : NodeState M
-  begun = record { setup = t; me = me; segments = gs; log = empty_log; waiting = []; flight = []; logged = []; keys = keys }
-
-  pub begun-shape : (plan : Plan) → IsSetupOf m s → me.0 < s.n → plan ≡ plan_of s 0 0 [] → IsNode m plan begun
-  begun-shape plan h lt plan_is = record {
-    good = subst (λ (z : Setup). IsSetupOf m z) (sym t_is) h;
-    me = subst (λ (z : Setup). me.0 < z.n) (sym t_is) lt;
-    layout = plan_is ∙ ap (λ (z : Setup). plan_of z 0 0 []) (sym t_is);
-    count = started.as_many ∙ ap (λ (z : Setup). z.n) (sym t_is);
-    params = λ l g at. started.params_are l g at ∙ ap (λ (z : Setup). (rules_of z).params [] 0 l) (sym t_is);
-    node = λ l g at. started.node_is l g at;
+module _ {M Msg : Type 0} (m : Module Msg) (stands : M → Params → ℕ → List (Item Msg) → Type 0) (s t : Setup) (me : NodeId) (directory : DirectoryView) (plan : Plan) (windows : Kept) (standing : List Conduct)
+    (gs : List (Option (SegmentState M))) (keys : KeyState) (h : IsSetupOf m s) (t_is : t ≡ s) (directory_is : directory ≡ keys_of s) (low : me.0 < s.n)
+    (divided : (p : List Ended) → IsStanding s p standing → plan ≡ plan_by s 0 0 (conduct_of p)) (stood : IsStanding s [] standing)
+    (noted : StandsFor windows none_noted) (width : windows.width ≡ s.window)
+    (started : AreStarted stands s me 0 plan gs) (count : length gs ≡ s.n) where
+  abbrev pub begun : ReplicaState M Msg
+  begun = record {
+    setup = t;
+    me = me;
+    directory = directory;
+    epoch = 0;
+    plan = plan;
+    windows = windows;
+    standing = standing;
+    segments = gs;
+    accepted = [];
+    log = empty_log;
+    waiting = [];
+    flight = record { casts = []; ids = [] };
+    early = [];
+    logged = [];
+    keys = keys;
   }
 
-  nothing : ℕ → ℕ → List (Item Msg)
-  nothing e l = []
+  plan-is : plan ≡ plan_by s 0 0 (conduct_of [])
+  plan-is = divided [] stood
 
-  no-log : log_of (rules_of t) m me.0 (record { epoch = 0; evidence = λ e l. []; adopted = [] }) ≡ []
-  no-log = log-is t m me.0 (λ e l. []) empty_log (λ k lt. refl) (λ k le. refl) refl
+  pub begun-shape : IsReplica m begun
+  begun-shape =
+      let high = h.good.epoch_high in
+      let start : plan.start ≡ 0 = ap (λ (p : Plan). p.start) plan-is in
+      record {
+        good = subst (λ (z : Setup). IsSetupOf m z) (sym t_is) h;
+        me = subst (λ (z : Setup). me.0 < z.n) (sym t_is) low;
+        directory = directory_is ∙ ap (λ (z : Setup). keys_of z) (sym t_is);
+        count = count ∙ ap (λ (z : Setup). z.n) (sym t_is);
+        slots = ap (λ (p : Plan). p.slots) plan-is ∙ ap (λ (z : Setup). z.epoch) (sym t_is);
+        nodes = ap (λ (p : Plan). p.nodes) plan-is ∙ ap (λ (z : Setup). z.n) (sym t_is);
+        fits = subst (λ (z : Setup). plan.start + z.epoch < 2 ^ 64) (sym t_is) (omega (arith, start, high));
+        segments = λ l g is. record {
+          setup = ap (λ (p : Params). p.setup) (started.params l g is) ∙ sym t_is;
+          leader = ap (λ (p : Params). p.leader.0) (started.params l g is);
+          node = started.node l g is;
+        };
+        early = tt;
+      }
 
-  pub begun-stands : AreKeysOf me.0 s.keys keys → Stands m stands begun (record { past = record { epoch = 0; evidence = λ e l. []; adopted = [] }; waiting = []; flight = []; leaf = keys.used })
+  no-log : log_of (rules_of t) m me.0 newborn ≡ []
+  no-log = newborn-log (rules_of t) m me.0
+
+  before-none : before_own (rules_of t) m me.0 newborn ≡ []
+  before-none = ap (λ (xs : List Value). oldest 0 xs) no-log
+
+  tied-first : (u : Setup) → u ≡ s → AreKeysOf me.0 s.keys keys → IsTiedOver m stands (record begun { setup = u }) newborn []
+  tied-first u u_is own =
+      let start : plan.start ≡ 0 = ap (λ (p : Plan). p.start) plan-is in
+      record {
+        epoch = refl;
+        log = newborn-log (rules_of u) m me.0;
+        rests = record { divided = plan-is ∙ ap (λ (z : Setup). plan_at z [] 0) (sym u_is); width = width ∙ ap (λ (z : Setup). z.window) (sym u_is); noted = noted };
+        standing = subst (λ (z : Setup). IsStanding z [] standing) (sym u_is) stood;
+        start = start ∙ (let q : 0 ≡ 0 * u.epoch = omega arith in q);
+        begun = omega (arith, start);
+        cells = λ k lo hi. refl;
+        outside = λ k le. refl;
+        hole = refl;
+        leading = started.leading;
+        instances = λ l g is. record { params = started.params l g is ∙ ap (λ (z : Setup). params_by z 0 plan l) (sym u_is) ∙ ap (λ (p : Plan). params_by u 0 p l) (plan-is ∙ ap (λ (z : Setup). plan_at z [] 0) (sym u_is)); node = started.node l g is; instance = started.instances l g is };
+        accepted = λ l. refl;
+        logged = λ x. sym (ap (λ (xs : List Value). has_id x (log_ids (joined plan.start xs))) (newborn-log (rules_of u) m me.0) ∙ ap (λ (k : ℕ). has_id x (log_ids (joined k []))) start);
+        flown = λ x. refl;
+        sound = early-leaf (idle-sound (rules_of u) m me.0);
+        keys = subst (λ (z : Setup). AreKeysOf me.0 z.keys keys) (sym u_is) own;
+      }
+    where
+      early-leaf : IsSoundCore (rules_of u) m me.0 idle → IsSoundCore (rules_of u) m me.0 (record idle { leaf = keys.used })
+      early-leaf k = record { different = k.different; signed = k.signed; inside = k.inside; unordered = k.unordered; reached = k.reached; settled = k.settled; unborn = k.unborn }
+
+  pub begun-stands : AreKeysOf me.0 s.keys keys → Stands m stands (record { parts = begun; stale = false }) (record idle { leaf = keys.used })
   begun-stands own = record {
-    evidence = λ e l. [];
-    core = refl;
-    tied = record {
-      instances = λ l g at. started.instances l g at;
-      cells = λ k lt. refl;
-      outside = λ k le. refl;
-      hole = refl;
-      logged = λ x. ap (λ (xs : List Value). has_id x (log_ids xs)) (sym no-log);
-      later = λ e l lt. refl;
-      keys = subst (λ (z : Setup). AreKeysOf me.0 z.keys keys) (sym t_is) own;
-    };
+    fresh = refl;
+    parts = record { core = refl; tied = subst (λ (xs : List Value). IsTiedOver m stands begun newborn xs) (sym before-none) (tied-first t t_is own) };
   }

@@ -1,8 +1,9 @@
-pub mod Answers
 pub mod Casts
 pub mod Cells
+pub mod Epochs
+pub mod Flights
 pub mod Growth
-pub mod Marks
+pub mod Inputs
 pub mod Parcels
 pub mod Shape
 pub mod State

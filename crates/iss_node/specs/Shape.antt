@@ -1,26 +1,38 @@
 -- What holds of every node, whatever it took.
-use Rattle.std.specs.Prelude.{◌≡◌, ℕ, ◌<◌, [], List, length, Some, slice_get}
-use Rattle.iss_layout.specs.Layout.{Plan, plan_of}
-use Rattle.iss_model.specs.Concrete.{rules_of}
+use Rattle.std.specs.Prelude.{◌≡◌, ◌⊎◌, ℕ, ◌+◌, ◌^◌, ◌<◌, true, List, [], ◌∷◌, length, Some}
+use Rattle.iss_model.specs.Concrete.{keys_of}
+use Rattle.iss_model.specs.Node.{Core}
 use Rattle.iss_model.specs.Runs.{IsSetupOf}
-use Rattle.iss_node.specs.State.{IsInstance, NodeState, SegmentState}
+use Rattle.iss_node.specs.State.{NodeState, ReplicaState, Stands, led}
+use Rattle.iss_node.specs.declared.answers.Early.{Early}
 use Rattle.iss_request.specs.declared.ids.NodeId.{NodeId}
 use Rattle.iss_request.specs.declared.setups.Setup.{Setup}
-use Rattle.iss_sb.specs.declared.effects.Params.{Params}
 use Rattle.iss_sb.specs.Evidence.{Item, Module}
+use Rattle.iss_sb.specs.declared.effects.Params.{Params}
+use Rattle.iss_segment.specs.Instance.{SegmentState}
 
-pub record IsNode {M Msg : Type 0} (m : Module Msg) (plan : Plan) (v : NodeState M) : Type 0 where
+-- an instance of this set-up, at this node
+pub record IsAt {M : Type 0} (s : Setup) (me : NodeId) (l : ℕ) (g : SegmentState M) : Type 0 where
+  pub setup : g.params.setup ≡ s
+  pub leader : g.params.leader.0 ≡ l
+  pub node : g.me ≡ me
+
+-- early messages come from nodes
+abbrev pub AreFrom : {Msg : Type 0} → ℕ → List (Early Msg) → Type 0
+AreFrom n [] = Unit {0}
+AreFrom n (x ∷ xs) = (x.from.0 < n) × AreFrom n xs
+
+pub record IsReplica {M Msg : Type 0} (m : Module Msg) (v : ReplicaState M Msg) : Type 0 where
   pub good : IsSetupOf m v.setup
   pub me : v.me.0 < v.setup.n
-  pub layout : plan ≡ plan_of v.setup 0 0 []
+  pub directory : v.directory ≡ keys_of v.setup
   pub count : length v.segments ≡ v.setup.n
-  pub params : (l : ℕ) (g : SegmentState M) → slice_get v.segments l ≡ Some g → g.params ≡ (rules_of v.setup).params [] 0 l
-  pub node : (l : ℕ) (g : SegmentState M) → slice_get v.segments l ≡ Some g → g.me ≡ v.me
+  pub slots : v.plan.slots ≡ v.setup.epoch
+  pub nodes : v.plan.nodes ≡ v.setup.n
+  pub fits : v.plan.start + v.setup.epoch < 2 ^ 64
+  pub segments : (l : ℕ) (g : SegmentState M) → led v.segments l ≡ Some g → IsAt v.setup v.me l g
+  pub early : AreFrom v.setup.n v.early
 
--- the instances of the first so many leaders, none of which has taken anything
-pub record AreStarted {M Msg : Type 0} (stands : M → Params → ℕ → List (Item Msg) → Type 0)
-    (s : Setup) (me : NodeId) (leaders : ℕ) (gs : List (SegmentState M)) : Type 0 where
-  pub as_many : length gs ≡ leaders
-  pub params_are : (l : ℕ) (g : SegmentState M) → slice_get gs l ≡ Some g → g.params ≡ (rules_of s).params [] 0 l
-  pub node_is : (l : ℕ) (g : SegmentState M) → slice_get gs l ≡ Some g → g.me ≡ me
-  pub instances : (l : ℕ) (g : SegmentState M) → slice_get gs l ≡ Some g → IsInstance stands g []
+-- a node stands for a core, or memory was wanting
+abbrev pub IsNode : {M Msg : Type 0} → Module Msg → (M → Params → ℕ → List (Item Msg) → Type 0) → NodeState M Msg → Type 0
+IsNode {Msg = Msg} m stands v = (v.stale ≡ true) ⊎ ((c : Core Msg) × Stands m stands v c)

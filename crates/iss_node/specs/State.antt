@@ -1,12 +1,19 @@
 -- What is seen of a node, and which model core it stands for.
-use Rattle.std.specs.Prelude.{◌≡◌, ℕ, ◌<◌, ◌≤◌, List, [], length, Option, Some, None, slice_get}
+use Rattle.std.specs.Prelude.{◌≡◌, ℕ, ◌+◌, ◌*◌, ◌<◌, ◌≤◌, ◌==◌, Bool, false, cond, is_some, List, [], ◌∷◌, length, reverse, Option, Some, None, slice_get}
+use Rattle.iss_base.specs.Lists.{Different}
+use Rattle.iss_keys.specs.Directories.{AreKeysOf, DirectoryView}
+use Rattle.iss_keys.specs.KeyStates.{KeyState}
+use Rattle.iss_layout.specs.Layout.{Conduct, IsStanding, Plan, epochs, leads}
 use Rattle.iss_log.specs.LogState.{LogState, value_at}
 use Rattle.iss_model.specs.Concrete.{rules_of}
-use Rattle.iss_model.specs.Judge.{marks}
-use Rattle.iss_model.specs.Node.{Core}
-use Rattle.iss_model.specs.Past.{log_of}
+use Rattle.iss_model.specs.Node.{Core, Early as Kept_early, flown, joined}
+use Rattle.iss_model.specs.Past.{Past, before_own, log_of, taken_in}
 use Rattle.iss_model.specs.Rules.{Rules}
-use Rattle.iss_request.specs.Log.{has_id, log_ids}
+use Rattle.iss_model.specs.Sound.{IsSoundCore}
+use Rattle.iss_node.specs.Flights.{FlightState}
+use Rattle.iss_node.specs.declared.answers.Accepted.{Accepted}
+use Rattle.iss_node.specs.declared.answers.Early.{Early}
+use Rattle.iss_request.specs.Log.{has_id, ids, log_ids}
 use Rattle.iss_request.specs.declared.ids.NodeId.{NodeId}
 use Rattle.iss_request.specs.declared.ids.ReqId.{ReqId}
 use Rattle.iss_request.specs.declared.ids.Slot.{Slot}
@@ -14,70 +21,111 @@ use Rattle.iss_request.specs.declared.requests.Batch.{Batch}
 use Rattle.iss_request.specs.declared.requests.Request.{Request}
 use Rattle.iss_request.specs.declared.requests.Value.{Value}
 use Rattle.iss_request.specs.declared.setups.Setup.{Setup}
-use Rattle.iss_sb.specs.declared.effects.Params.{Params}
 use Rattle.iss_sb.specs.Evidence.{Item, Module, accepts, delivered}
-use Rattle.iss_keys.specs.Directories.{AreKeysOf}
-use Rattle.iss_keys.specs.KeyStates.{KeyState}
+use Rattle.iss_sb.specs.declared.effects.Params.{Params}
+use Rattle.iss_segment.specs.Ground.{RestsOn}
+use Rattle.iss_segment.specs.Instance.{IsInstance, SameIds, SegmentState}
+use Rattle.iss_window.specs.Kept.{Kept}
 
--- one instance: its parameters, its node, its module, and the identities that it accepted
-pub record SegmentState (M : Type 0) : Type 0 where
-  pub params : Params
-  pub me : NodeId
-  pub ordering : M
-  pub marked : List ReqId
-
-pub record NodeState (M : Type 0) : Type 0 where
+-- the parts of a node in its epoch
+pub record ReplicaState (M Msg : Type 0) : Type 0 where
   pub setup : Setup
   pub me : NodeId
-  -- the instance of each leader, ascending
-  pub segments : List (SegmentState M)
+  pub directory : DirectoryView
+  pub epoch : ℕ
+  -- what the epoch rests on: its division, the windows, and what earlier epochs say of each node
+  pub plan : Plan
+  pub windows : Kept
+  pub standing : List Conduct
+  -- by node: the instance that it leads, if it leads
+  pub segments : List (Option (SegmentState M))
+  -- what they accepted, in the order of time
+  pub accepted : List Accepted
   pub log : LogState
   pub waiting : List Request
-  pub flight : List (Slot × Batch)
-  -- the identities of the log
+  pub flight : FlightState
+  pub early : List (Early Msg)
+  -- the identities of the log in the epoch
   pub logged : List ReqId
   pub keys : KeyState
 
--- what the instances of the first epoch took, by leader
-abbrev pub Took : Type 0 → Type 0
-Took Msg = ℕ → List (Item Msg)
+pub record NodeState (M Msg : Type 0) : Type 0 where
+  pub parts : ReplicaState M Msg
+  -- memory was wanting
+  pub stale : Bool
 
--- the core of a node that is in its first epoch and has adopted nothing
-abbrev pub core_of : {M Msg : Type 0} → NodeState M → (ℕ → ℕ → List (Item Msg)) → Core Msg
-core_of v evidence =
-    record {
-      past = record { epoch = 0; evidence = evidence; adopted = [] };
-      waiting = v.waiting;
-      flight = v.flight;
-      leaf = v.keys.used;
-    }
+-- the instance that a node leads
+abbrev pub led_in : {M : Type 0} → Option (Option (SegmentState M)) → Option (SegmentState M)
+led_in None = None
+led_in (Some o) = o
 
--- the value that the instances deliver in a slot of the first epoch
-abbrev pub slot_value : {Msg : Type 0} → Rules → Module Msg → ℕ → Took Msg → ℕ → Option Value
-slot_value R M me took s = delivered M (R.params [] 0 (R.leader [] 0 s)) me (took (R.leader [] 0 s)) s
+abbrev pub led : {M : Type 0} → List (Option (SegmentState M)) → ℕ → Option (SegmentState M)
+led segments l = led_in (slice_get segments l)
 
--- the same members
-abbrev pub SameIds : List ReqId → List ReqId → Type 0
-SameIds a b = (x : ReqId) → has_id x a ≡ has_id x b
+abbrev pub seen_one : {Msg : Type 0} → Early Msg → Kept_early Msg
+seen_one x = record { from = x.from.0; leader = x.leader.0; msg = x.msg }
 
--- an instance stands for what it took
-pub record IsInstance {M Msg : Type 0} (stands : M → Params → ℕ → List (Item Msg) → Type 0) (g : SegmentState M) (xs : List (Item Msg)) : Type 0 where
-  pub ordering : stands g.ordering g.params g.me.0 xs
-  pub marked : SameIds g.marked (marks (accepts xs))
+abbrev pub seen_early : {Msg : Type 0} → List (Early Msg) → List (Kept_early Msg)
+seen_early [] = []
+seen_early (x ∷ xs) = seen_one x ∷ seen_early xs
 
--- the node's parts stand for the evidence
-pub record IsTied {M Msg : Type 0} (m : Module Msg) (stands : M → Params → ℕ → List (Item Msg) → Type 0)
-    (v : NodeState M) (evidence : ℕ → ℕ → List (Item Msg)) : Type 0 where
-  pub instances : (l : ℕ) (g : SegmentState M) → slice_get v.segments l ≡ Some g → IsInstance stands g (evidence 0 l)
-  pub cells : (s : ℕ) → s < v.setup.epoch → value_at v.log s ≡ slot_value (rules_of v.setup) m v.me.0 (evidence 0) s
-  pub outside : (s : ℕ) → v.setup.epoch ≤ s → value_at v.log s ≡ None
+-- the batches that the instance of a leader accepted, in the order of time
+abbrev pub accepted_of : ℕ → List Accepted → List (Slot × Batch)
+accepted_of l [] = []
+accepted_of l (x ∷ xs) = cond (x.leader.0 == l) ((x.slot, x.batch) ∷ accepted_of l xs) (accepted_of l xs)
+
+-- the core whose past this is
+abbrev pub core_of : {M Msg : Type 0} → ReplicaState M Msg → Past Msg → Core Msg
+core_of v past =
+    record { past = past; waiting = v.waiting; flight = v.flight.casts; early = seen_early v.early; leaf = v.keys.used }
+
+-- the value that the instances of an epoch deliver in a slot
+abbrev pub slot_value : {Msg : Type 0} → Rules → Module Msg → ℕ → List Value → Past Msg → ℕ → Option Value
+slot_value R M me before past s =
+    let l = R.leader before past.epoch s in
+    delivered M (R.params before past.epoch l) me (taken_in past l) s
+
+-- the instance of a leader of the epoch stands for what the node took there
+pub record IsLed {M Msg : Type 0} (stands : M → Params → ℕ → List (Item Msg) → Type 0) (p : Params) (me : NodeId) (taken : List (Item Msg))
+    (g : SegmentState M) : Type 0 where
+  pub params : g.params ≡ p
+  pub node : g.me ≡ me
+  pub instance : IsInstance stands g taken
+
+-- the parts stand for the past, over the log before its epoch
+pub record IsTiedOver {M Msg : Type 0} (m : Module Msg) (stands : M → Params → ℕ → List (Item Msg) → Type 0)
+    (v : ReplicaState M Msg) (past : Past Msg) (before : List Value) : Type 0 where
+  pub epoch : v.epoch ≡ past.epoch
+  pub log : log_of (rules_of v.setup) m v.me.0 past ≡ reverse v.log.entries
+  -- the epoch's ground
+  pub rests : RestsOn v.setup before past.epoch v.plan v.windows
+  pub standing : IsStanding v.setup (epochs v.setup past.epoch before) v.standing
+  -- its slots: the log holds what comes before them, and nothing is there behind them
+  pub start : v.plan.start ≡ past.epoch * v.setup.epoch
+  pub begun : v.plan.start ≤ length v.log.entries
+  pub cells : (s : ℕ) → v.plan.start ≤ s → s < v.plan.start + v.setup.epoch → value_at v.log s ≡ slot_value (rules_of v.setup) m v.me.0 before past s
+  pub outside : (s : ℕ) → v.plan.start + v.setup.epoch ≤ s → value_at v.log s ≡ None
   pub hole : value_at v.log (length v.log.entries) ≡ None
-  pub logged : SameIds v.logged (log_ids (log_of (rules_of v.setup) m v.me.0 (record { epoch = 0; evidence = evidence; adopted = [] })))
-  pub later : (e l : ℕ) → 0 < e → evidence e l ≡ []
+  -- its instances
+  pub leading : (l : ℕ) → is_some (led v.segments l) ≡ leads v.plan l
+  pub instances : (l : ℕ) (g : SegmentState M) → led v.segments l ≡ Some g →
+      IsLed stands ((rules_of v.setup).params before past.epoch l) v.me (taken_in past l) g
+  pub accepted : (l : ℕ) → reverse (accepted_of l v.accepted) ≡ accepts (taken_in past l)
+  -- the requests that are known
+  pub logged : SameIds v.logged (log_ids (joined v.plan.start (log_of (rules_of v.setup) m v.me.0 past)))
+  pub flown : SameIds v.flight.ids (flown v.flight.casts)
+  pub sound : IsSoundCore (rules_of v.setup) m v.me.0 (core_of v past)
   pub keys : AreKeysOf v.me.0 v.setup.keys v.keys
 
+abbrev pub IsTied : {M Msg : Type 0} → Module Msg → (M → Params → ℕ → List (Item Msg) → Type 0) → ReplicaState M Msg → Past Msg → Type 0
+IsTied m stands v past = IsTiedOver m stands v past (before_own (rules_of v.setup) m v.me.0 past)
+
+-- the parts stand for a core. Of earlier epochs nothing is compared but the log
+pub record AreParts {M Msg : Type 0} (m : Module Msg) (stands : M → Params → ℕ → List (Item Msg) → Type 0) (v : ReplicaState M Msg) (c : Core Msg) : Type 0 where
+  pub core : c ≡ core_of v c.past
+  pub tied : IsTied m stands v c.past
+
 -- the node stands for a core
-pub record Stands {M Msg : Type 0} (m : Module Msg) (stands : M → Params → ℕ → List (Item Msg) → Type 0) (v : NodeState M) (c : Core Msg) : Type 0 where
-  pub evidence : ℕ → ℕ → List (Item Msg)
-  pub core : c ≡ core_of v evidence
-  pub tied : IsTied m stands v evidence
+pub record Stands {M Msg : Type 0} (m : Module Msg) (stands : M → Params → ℕ → List (Item Msg) → Type 0) (v : NodeState M Msg) (c : Core Msg) : Type 0 where
+  pub fresh : v.stale ≡ false
+  pub parts : AreParts m stands v.parts c

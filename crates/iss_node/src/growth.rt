@@ -1,9 +1,10 @@
 //! How the log grows, and what its growth does to the requests that a node knows of.
-ghost use Rattle.std.specs.Prelude.{◌≡◌, OnOk, IfOk, fold};
-ghost use Rattle.iss_ids.specs.Set.{and_ids};
+ghost use Rattle.std.specs.Prelude.{◌≡◌, OnOk, IfOk, fold, length, reverse};
+ghost use Rattle.iss_log.specs.LogState.{GoesOn};
 ghost use Rattle.iss_node.specs.Growth.{IsGrown, and_values, waits_on};
+ghost use Rattle.iss_node.specs.Cells.{AreFilled};
+ghost use Rattle.iss_model.specs.Node.{is_nil_at};
 
-use crate::cells::fill_all;
 use iss_buckets::Pending;
 use iss_ids::Ids;
 use iss_log::Log;
@@ -11,12 +12,24 @@ use iss_request::{NoMemory, Slot, Value};
 
 /// Puts what was delivered into the log, and lets the log go on as far as it can. Gives how many slots it held before.
 pub fn grow(log: &mut Log, delivers: Vec<(Slot, Value)>) -> Result<usize, NoMemory>
-    ensures { IfOk result (λ held. IsGrown log.old delivers.items log.new held) }
+    ensures grown { IfOk result (λ held. IsGrown log.old delivers.items log.new held) }
+    ensures goes_on { GoesOn log.old.entries log.new.entries }
 {
     let held = log.entries().len();
     fill_all(log, delivers)?;
     let _joined = log.advance()?;
     Ok(held)
+}
+
+// Puts delivered values into the log's slots. A slot that holds a value keeps it.
+fn fill_all(log: &mut Log, delivers: Vec<(Slot, Value)>) -> Result<(), NoMemory>
+    ensures filled { OnOk result (AreFilled log.old delivers.items log.new) }
+    ensures same { log.new.entries ≡ log.old.entries }
+{
+    for (slot, value) in delivers {
+        let _fill = log.fill(slot, value)?;
+    }
+    Ok(())
 }
 
 /// The requests of values that joined the log wait no more, and their identities are noted.
@@ -40,5 +53,18 @@ fn refile_one(value: &Value, waiting: &mut Pending, logged: &mut Ids) -> Result<
             waiting.drop_ordered(batch);
             logged.add_all(batch.as_slice())
         }
+    }
+}
+
+/// Whether a slot of the log holds nil.
+pub fn is_nil(log: &Log, slot: Slot) -> bool
+    ensures { result ≡ is_nil_at (reverse log.now.entries) slot.0 }
+{
+    if slot.0 >= log.entries().len() as u64 {
+        return false;
+    }
+    match &log.entries()[slot.0 as usize] {
+        Value::Nil => true,
+        Value::Batch(_) => false,
     }
 }

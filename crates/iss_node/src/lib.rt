@@ -1,13 +1,18 @@
-//! One node: its segments, its log, its waiting requests, and one step of it (ISS, the protocol of a node).
+//! One node: its instances, its log, its requests and its epochs, and one step of it (ISS, the protocol of a node).
 #![tactic(auto)]
 
 pub mod answers;
-pub mod cells;
+pub mod casting;
+pub mod epochs;
+pub mod flight;
 pub mod growth;
-pub mod judge;
+pub mod inputs;
 pub mod node;
+pub mod packets;
 pub mod parcels;
-pub mod segment;
+pub mod replica;
+pub mod requests;
+pub mod starting;
 
-pub use answers::{Answer, Outcome};
-pub use node::{Node, entries_are_the_log};
+pub use answers::{Accepted, Answer, Outcome};
+pub use node::Node;

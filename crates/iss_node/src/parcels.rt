@@ -147,37 +147,39 @@ fn read_request(alloc: Global, version: u8, bytes: &[u8]) -> Result<Option<Reque
 pub fn pack<M: Sequenced>(
     alloc: Global,
     setup: &Setup,
+    epoch: Epoch,
     me: NodeId,
     leader: NodeId,
     sends: &[(To, M::Msg)],
 ) -> Result<Row<(To, Bytes)>, NoMemory>
-    ensures { IfOk result (λ packets. packets ≡ packed (formats_of setup.now M.meaning) me.0 0 leader.0 sends.now) }
+    ensures { IfOk result (λ packets. packets ≡ packed (formats_of setup.now M.meaning) me.0 epoch.0 leader.0 sends.now) }
 {
     let version = setup.version;
     let mut packets = Row::new(alloc);
     for (to, msg) in sends {
-        packets.push((*to, wrap::<M>(alloc, version, me, leader, msg)?))?;
+        packets.push((*to, wrap::<M>(alloc, version, epoch, me, leader, msg)?))?;
     }
     Ok(packets)
 }
 
-// The packet of a message of the first epoch.
+// The packet of a message.
 fn wrap<M: Sequenced>(
     alloc: Global,
     version: u8,
+    epoch: Epoch,
     me: NodeId,
     leader: NodeId,
     msg: &M::Msg,
 ) -> Result<Bytes, NoMemory>
     ensures { IfOk result (λ bytes. (s : Setup) → s.version ≡ version →
-        bytes ≡ (formats_of s M.meaning).wrap (record { from = me.0; epoch = 0; body = OfModule leader.0 msg.now })) }
+        bytes ≡ (formats_of s M.meaning).wrap (record { from = me.0; epoch = epoch.0; body = OfModule leader.0 msg.now })) }
 {
     let mut out = Writer::new(alloc, version);
     M::encode(msg, &mut out)?;
     let packet = Packet {
         kind: PacketKind::Message,
         from: me.0,
-        epoch: Epoch(0),
+        epoch,
         leader: leader.0,
         body: out.into_bytes(),
     };

@@ -1,16 +1,18 @@
 -- A packet has one spelling.
-use Rattle.std.proofs.Common.{◌≡◌, ℕ, ◌^◌, ◌≤◌, Bool, true, false, cond, ltb, leb, eqb, List, ◌∷◌, ◌++◌, length, refl, sym, ap, subst, ◌∙◌, append_assoc, arith, inl, inr, ◌⊎◌, eqb-true, eq-eqb}
+use Rattle.std.proofs.Common.{◌≡◌, ℕ, ◌^◌, ◌≤◌, Bool, true, false, cond, ltb, leb, eqb, List, [], ◌∷◌, ◌++◌, length, refl, sym, ap, subst, ◌∙◌, append_assoc, append-nil, arith, inl, inr, ◌⊎◌, eqb-true, eq-eqb}
+use Rattle.std.specs.Prelude.{◌↔◌}
 use Rattle.std.specs.Int.{w32, w64, to_be_bytes}
 use Rattle.std.proofs.lemmas.Bool.{ltb-true, leb-true, lt-ltb, le-leb}
+use Rattle.iss_base.proofs.Lists.{and-true}
 use Rattle.iss_request.specs.Fields.{Good, Bad, IsBad, IsGrammar}
 use Rattle.iss_request.specs.Formats.{is_second, version_byte}
 use Rattle.iss_request.specs.Parsing.{done, byte, number}
 use Rattle.iss_request.proofs.OneSpelling.{done_good, Whole}
-use Rattle.iss_request.proofs.ParserLemmas.{then_good, first_bad, then_parts, done_parts, test_passed, test_failed, test_bad, test_parts, byte_again, byte_parts, both_true, wide32, wide64, number_again, number_parts, block_again, block_parts}
+use Rattle.iss_request.proofs.ParserLemmas.{then_good, first_bad, then_parts, done_parts, test_passed, test_failed, test_bad, test_parts, byte_again, byte_parts, wide32, wide64, number_again, number_parts, block_again, block_parts}
 use Rattle.iss_packet.specs.declared.packets.Packet.{Packet}
 use Rattle.iss_packet.specs.declared.packets.PacketKind.{PacketKind}
 use Rattle.iss_packet.specs.declared.packets.PacketKind.TheVariants.{Message, Vote, Ask, Piece, Request}
-use Rattle.iss_packet.specs.Packets.{kind_byte, is_kind, kind_at, is_routed, is_spellable, route_bytes, body_bytes, no_packet, spell_packet, parse_version, parse_kind, parse_size, parse_parts, parse_packet}
+use Rattle.iss_packet.specs.Packets.{kind_byte, is_kind, kind_at, is_routed, is_spellable, route_bytes, body_bytes, no_packet, spell_packet, IsSpelledPacket, parse_version, parse_kind, parse_size, parse_parts, parse_packet}
 use Rattle.iss_packet.proofs.PacketLemmas.{packet_spelled, packet_unspelled}
 
 -- ---- kinds
@@ -24,7 +26,7 @@ kind_again Request = (refl, refl)
 
 one_of_five : (n : ℕ) → is_kind n ≡ true → (n ≡ 1) ⊎ (n ≡ 2) ⊎ (n ≡ 3) ⊎ (n ≡ 4) ⊎ (n ≡ 5)
 one_of_five n e =
-    let both = both_true (leb 1 n) (leb n 5) e in
+    let both = and-true (leb 1 n) (leb n 5) e in
     let low : 1 ≤ n = leb-true 1 n both.0 in
     let high : n ≤ 5 = leb-true n 5 both.1 in
     grind arith
@@ -103,7 +105,7 @@ regrouped version p rest = simp append_assoc
 parts_again : (version : ℕ) (p : Packet) (rest : List ℕ) → is_spellable p ≡ true → parse_parts version ((route_bytes version p ++ body_bytes p.body) ++ rest) ≡ Good p rest
 unfolding parse_parts
 parts_again version p rest e =
-    let both = both_true (ltb p.epoch.0 (2 ^ 64)) (fits (length p.body)) e in
+    let both = and-true (ltb p.epoch.0 (2 ^ 64)) (fits (length p.body)) e in
     let tail = p.body ++ rest in
     let sized = to_be_bytes w32 (length p.body) ++ tail in
     let epoch = to_be_bytes w64 p.epoch.0 in
@@ -168,3 +170,21 @@ packet_only version n bytes rest p e =
 
 pub packet_grammar : (version n : ℕ) → IsGrammar (spell_packet version) (parse_packet version n)
 packet_grammar version n = record { only = packet_only version n; whole = λ p. packet_whole version n p (is_spellable p) refl }
+
+-- what is read of bytes, and all of them, is what the table relates to them
+pub packet_table : (version n : ℕ) (p : Packet) (bytes : List ℕ) → (parse_packet version n bytes ≡ Good p []) ↔ IsSpelledPacket version n p bytes
+unfolding parse_packet
+packet_table version n p bytes = (forth, back)
+  where
+    forth : parse_packet version n bytes ≡ Good p [] → IsSpelledPacket version n p bytes
+    forth e =
+        let found = test_parts (is_routed n) (parse_parts version) bytes [] p e in
+        let is = parts_parts version bytes [] p found.0 in
+        let both = and-true (ltb p.epoch.0 (2 ^ 64)) (fits (length p.body)) is.spelled in
+        (found.1, ltb-true _ _ both.0, leb-true _ _ both.1, is.parts ∙ append-nil (route_bytes version p ++ body_bytes p.body))
+
+    back : IsSpelledPacket version n p bytes → parse_packet version n bytes ≡ Good p []
+    back h =
+        let spelled : is_spellable p ≡ true = rw (lt-ltb p.epoch.0 (2 ^ 64) h.1, le-leb (length p.body) 200000000 h.2) refl in
+        let all : bytes ≡ (route_bytes version p ++ body_bytes p.body) ++ [] = h.3 ∙ sym (append-nil (route_bytes version p ++ body_bytes p.body)) in
+        test_passed (is_routed n) (parse_parts version) bytes [] p (ap (parse_parts version) all ∙ parts_again version p [] spelled) h.0

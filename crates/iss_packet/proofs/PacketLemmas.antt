@@ -3,7 +3,7 @@ use Rattle.std.proofs.Common.{◌≡◌, ◌≢◌, ℕ, ◌^◌, ◌<◌, ◌�
 use Rattle.std.specs.Prelude.{Result, Ok, Err}
 use Rattle.std.specs.Result.{IsErrAnd}
 use Rattle.std.proofs.lemmas.Bool.{cases_lt, leb-true, lt-ltb, lt-leb}
-use Rattle.iss_request.proofs.ParserLemmas.{both_true}
+use Rattle.iss_base.proofs.Lists.{and-true}
 use Rattle.iss_request.specs.declared.errors.DecodeError.{DecodeError}
 use Rattle.iss_request.specs.declared.errors.DecodeError.TheVariants as fields
 use Rattle.iss_request.specs.Fields.{Reading, Written, and_bytes, IsRead}
@@ -43,7 +43,7 @@ pub spelling_test : (p : Packet) (b : Bool) → p.epoch.0 < 2 ^ 64 → b ≡ leb
 spelling_test p b lt e = rw (lt-ltb p.epoch.0 (2 ^ 64) lt) e
 
 pub spellable_length : (p : Packet) → true ≡ is_spellable p → length p.body ≤ 200000000
-spellable_length p e = leb-true _ _ (both_true (ltb p.epoch.0 (2 ^ 64)) (leb (length p.body) 200000000) (sym e)).1
+spellable_length p e = leb-true _ _ (and-true (ltb p.epoch.0 (2 ^ 64)) (leb (length p.body) 200000000) (sym e)).1
 
 pub packet_spelled : (version : ℕ) (p : Packet) → true ≡ is_spellable p → spell_packet version p ≡ route_bytes version p ++ body_bytes p.body
 unfolding spell_packet

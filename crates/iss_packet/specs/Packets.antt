@@ -5,7 +5,7 @@
 --
 -- A module's message is from a node, in the instance of a node. A vote, an ask and a piece are from a node, and
 -- have leader 0. A request is from nobody: 255, epoch 0, leader 0.
-use Rattle.std.specs.Prelude.{ℕ, ◌^◌, List, [], ◌∷◌, ◌++◌, length, Bool, nat_le, nat_lt, ◌==◌, ◌&&◌, if◌then◌else◌}
+use Rattle.std.specs.Prelude.{◌≡◌, ℕ, ◌^◌, ◌<◌, ◌≤◌, List, [], ◌∷◌, ◌++◌, length, Bool, true, nat_le, nat_lt, ◌==◌, ◌&&◌, if◌then◌else◌}
 use Rattle.std.specs.Int.{w32, w64, to_be_bytes}
 use Rattle.iss_request.specs.Formats.{version_byte}
 use Rattle.iss_request.specs.Parsing.{Parser, ◌>>=◌, done, such_that, byte, number, block}
@@ -55,6 +55,12 @@ no_packet = 0 ∷ []
 
 unfoldable pub spell_packet : ℕ → Packet → List ℕ
 spell_packet version p = if is_spellable p then route_bytes version p ++ body_bytes p.body else no_packet
+
+-- ---- the table as a relation between packets of a cluster of n nodes and bytes
+
+abbrev pub IsSpelledPacket : ℕ → ℕ → Packet → List ℕ → Type 0
+IsSpelledPacket version n p bytes =
+    (is_routed n p ≡ true) × (p.epoch.0 < 2 ^ 64) × (length p.body ≤ 200000000) × (bytes ≡ route_bytes version p ++ body_bytes p.body)
 
 -- ---- reading
 

@@ -4,6 +4,3 @@
 pub mod packets;
 
 pub use packets::{Packet, PacketError, PacketKind, packets_are_exact};
-
-#[cfg(test)]
-mod tests;

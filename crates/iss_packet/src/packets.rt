@@ -1,9 +1,10 @@
 //! Packets and their bytes. `specs/Packets.antt` has the table.
-ghost use Rattle.std.specs.Prelude.{true, ◌≡◌, ℕ, [], ◌∷◌, ◌++◌, ◌≤◌, length, IfOk, OnOk, Err};
+ghost use Rattle.std.specs.Prelude.{true, ◌≡◌, ◌↔◌, ℕ, List, [], ◌∷◌, ◌++◌, ◌≤◌, length, IfOk, OnOk, Err};
 ghost use Rattle.iss_request.specs.Fields.{and_bytes, IsRead, IsUnreadable, IsGrammar, IsBad, Good};
 ghost use Rattle.iss_request.specs.Parsing.{all_of};
-ghost use Rattle.iss_packet.specs.Packets.{kind_byte, is_routed, is_spellable, route_bytes, body_bytes, spell_packet};
+ghost use Rattle.iss_packet.specs.Packets.{kind_byte, is_routed, is_spellable, route_bytes, body_bytes, spell_packet, IsSpelledPacket};
 ghost use Rattle.iss_packet.specs.Packets.{parse_version, parse_kind, parse_size, parse_parts, parse_packet};
+ghost use Rattle.iss_packet.specs.declared.packets.Packet.{Packet};
 
 use iss_request::{Bytes, DecodeError, Epoch, Fields, NoMemory, Writer, version_byte};
 use std::alloc::Global;
@@ -234,5 +235,7 @@ impl Packet {
 /// By each version and in a cluster of any size a packet has at most one spelling, no spelling begins another one, and what has none is
 /// written as bytes that are read as nothing, whatever stands behind them.
 pub fn packets_are_exact()
-    ensures { (version n : ℕ) → IsGrammar (spell_packet version) (parse_packet version n) }
+    ensures grammar { (version n : ℕ) → IsGrammar (spell_packet version) (parse_packet version n) }
+    // What is read of bytes, and all of them, is what the table relates to them.
+    ensures packet_table { (version n : ℕ) (p : Packet) (bytes : List ℕ) → (parse_packet version n bytes ≡ Good p []) ↔ IsSpelledPacket version n p bytes }
 {}

@@ -71,24 +71,24 @@ module _ {M Msg : Type 0} (m : Module Msg) (stands : M → Params → ℕ → Li
       run-count s (formats_of s m) (rules_of s) (begin_run s.n) (take i es) ∙ omega (arith, length-take i es)
 
   -- an event that is not lost, and one that is
-  pub went-on : (s : Setup) (F : Formats Msg) (R : Rules) (later : WorldState M) (drops : List (ℕ × Why)) (p : Progress Msg) (e : Event) → HasHappened m stands later (happens s F R m p.net e) Done → reverse drops ≡ p.drops → StandsForRun m stands later drops (goes_on s F R m p e)
+  pub went-on : (s : Setup) (F : Formats Msg) (R : Rules) (later : WorldState M Msg) (drops : List (ℕ × Why)) (p : Progress Msg) (e : Event) → HasHappened m stands later (happens s F R m p.net e) Done → reverse drops ≡ p.drops → StandsForRun m stands later drops (goes_on s F R m p e)
   went-on s F R later drops p e h d = record {
-    stands_for = h.stands_for;
-    drops_are = d ∙ ap (λ (o : Option Why). noted p.event o p.drops) h.lost;
+    stands_for = h.0;
+    drops_are = d ∙ ap (λ (o : Option Why). noted p.event o p.drops) (sym h.1);
   }
 
-  pub was-lost : (s : Setup) (F : Formats Msg) (R : Rules) (later : WorldState M) (old drops : List (ℕ × Why)) (p : Progress Msg) (e : Event) (k : ℕ) (why : Why) → HasHappened m stands later (happens s F R m p.net e) (Lost why) → p.event ≡ k → reverse old ≡ p.drops → drops ≡ old ++ (k, why) ∷ [] → StandsForRun m stands later drops (goes_on s F R m p e)
+  pub was-lost : (s : Setup) (F : Formats Msg) (R : Rules) (later : WorldState M Msg) (old drops : List (ℕ × Why)) (p : Progress Msg) (e : Event) (k : ℕ) (why : Why) → HasHappened m stands later (happens s F R m p.net e) (Lost why) → p.event ≡ k → reverse old ≡ p.drops → drops ≡ old ++ (k, why) ∷ [] → StandsForRun m stands later drops (goes_on s F R m p e)
   was-lost s F R later old drops p e k why h n d is = record {
-    stands_for = h.stands_for;
+    stands_for = h.0;
     drops_are =
         ap (λ (xs : List (ℕ × Why)). reverse xs) is ∙ reverse-append old ((k, why) ∷ [])
         ∙ ap (λ (xs : List (ℕ × Why)). (k, why) ∷ xs) d
         ∙ ap (λ (j : ℕ). noted j (Some why) p.drops) (sym n)
-        ∙ ap (λ (o : Option Why). noted p.event o p.drops) h.lost;
+        ∙ ap (λ (o : Option Why). noted p.event o p.drops) (sym h.1);
   }
 
   -- one event more
-  pub run-next : (s t : Setup) (later : WorldState M) (drops : List (ℕ × Why)) (es : List Event) (i : ℕ) (e : Event) → t ≡ s → i < length es → e ≡ get_or es i e →
+  pub run-next : (s t : Setup) (later : WorldState M Msg) (drops : List (ℕ × Why)) (es : List Event) (i : ℕ) (e : Event) → t ≡ s → i < length es → e ≡ get_or es i e →
       StandsForRun m stands later drops (goes_on t (formats_of t m) (rules_of t) m (run_of s m (take i es)) e) → StandsForRun m stands later drops (run_of s m (take (i + 1) es))
   run-next s t later drops es i e same lt is h =
       let there : StandsForRun m stands later drops (goes_on s (formats_of s m) (rules_of s) m (run_of s m (take i es)) e) =

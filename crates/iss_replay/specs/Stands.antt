@@ -9,6 +9,6 @@ use Rattle.iss_world.specs.State.{WorldState}
 
 -- the world stands for the net, and the losses are the progress', oldest first
 pub record StandsForRun {M Msg : Type 0} (m : Module Msg) (stands : M → Params → ℕ → List (Item Msg) → Type 0)
-    (world : WorldState M) (drops : List (ℕ × Why)) (p : Progress Msg) : Type 0 where
+    (world : WorldState M Msg) (drops : List (ℕ × Why)) (p : Progress Msg) : Type 0 where
   pub stands_for : StandsFor m stands world p.net
   pub drops_are : reverse drops ≡ p.drops

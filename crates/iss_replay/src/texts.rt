@@ -23,10 +23,10 @@ use std::alloc::Global;
 /// report of a schedule, its logs are of one log, as `replay` says.
 pub fn text<M: Sequenced>(alloc: Global, report: &Report<M>) -> Result<Bytes, NoMemory>
     ensures tells { IfOk result (λ bytes. (p : Progress M.Msg) → StandsForRun M.meaning M.stands report.now.world report.now.drops p →
-        bytes ≡ text_of report.now.world.setup M.meaning p) }
-    ensures reports { IfOk result (λ bytes. IsSetupOf M.meaning report.now.world.setup → (events : List Event) → AreInRange report.now.world.setup events →
-        StandsForRun M.meaning M.stands report.now.world report.now.drops (run_of report.now.world.setup M.meaning events) →
-        IsReport report.now.world.setup M.meaning events bytes) }
+        bytes ≡ text_of report.now.world.running.setup M.meaning p) }
+    ensures reports { IfOk result (λ bytes. IsSetupOf M.meaning report.now.world.running.setup → (events : List Event) → AreInRange report.now.world.running.setup events →
+        StandsForRun M.meaning M.stands report.now.world report.now.drops (run_of report.now.world.running.setup M.meaning events) →
+        IsReport report.now.world.running.setup M.meaning events bytes) }
 {
     composition::<M>();
     cluster_runs::<M>();
@@ -36,7 +36,7 @@ pub fn text<M: Sequenced>(alloc: Global, report: &Report<M>) -> Result<Bytes, No
 // Writes the text.
 fn write<M: Sequenced>(alloc: Global, report: &Report<M>) -> Result<Bytes, NoMemory>
     ensures { IfOk result (λ bytes. (p : Progress M.Msg) → StandsForRun M.meaning M.stands report.now.world report.now.drops p →
-        bytes ≡ text_of report.now.world.setup M.meaning p) }
+        bytes ≡ text_of report.now.world.running.setup M.meaning p) }
 {
     let mut out = Vec::new(alloc);
     put_drops(&mut out, report.drops.as_slice())?;
@@ -58,7 +58,7 @@ fn put_drops(out: &mut Vec<u8>, drops: &[(u64, Why)]) -> Result<(), NoMemory>
 // Writes the block of each node, ascending.
 fn put_nodes<M: Sequenced>(out: &mut Vec<u8>, world: &World<M>) -> Result<(), NoMemory>
     ensures { OnOk result ((w : Net M.Msg) → StandsFor M.meaning M.stands world.now w →
-        out.new.items ≡ out.old.items ++ node_blocks world.now.setup M.meaning w world.now.setup.n) }
+        out.new.items ≡ out.old.items ++ node_blocks world.now.running.setup M.meaning w world.now.running.setup.n) }
 {
     let nodes = world.setup().n;
     for node in 0..nodes {
@@ -69,9 +69,9 @@ fn put_nodes<M: Sequenced>(out: &mut Vec<u8>, world: &World<M>) -> Result<(), No
 
 // Writes the block of one node.
 fn put_block<M: Sequenced>(out: &mut Vec<u8>, world: &World<M>, node: u32) -> Result<(), NoMemory>
-    requires { node < world.now.setup.n }
+    requires { node < world.now.running.setup.n }
     ensures { OnOk result ((w : Net M.Msg) → StandsFor M.meaning M.stands world.now w →
-        out.new.items ≡ out.old.items ++ node_block node (w.cores node).past.epoch (log_of (rules_of world.now.setup) M.meaning node (w.cores node).past)) }
+        out.new.items ≡ out.old.items ++ node_block node (w.cores node).past.epoch (log_of (rules_of world.now.running.setup) M.meaning node (w.cores node).past)) }
 {
     let _setup = world.setup();
     put_node(out, NodeId(node as u8), world.epoch(node), world.log(node))

@@ -1,5 +1,6 @@
 mod Examples
 pub mod FormatLemmas
+pub mod Identities
 pub mod OneSpelling
 pub mod ParserLemmas
 pub mod Readings

@@ -5,6 +5,7 @@ use Rattle.std.specs.List.{AllByRecursion, flat_map}
 use Rattle.std.specs.Int.{w16, w32, to_be_bytes}
 use Rattle.std.proofs.lemmas.Bool.{cases_lt, ne_eqb, ltb-true, leb-true, lt-ltb, le-leb}
 use Rattle.std.proofs.lemmas.List.{take-append-drop, length-append, length-take, length-drop}
+use Rattle.iss_base.proofs.Lists.{and-true}
 use Rattle.iss_request.specs.Fields.{Good, Bad, IsBad, IsGrammar}
 use Rattle.iss_request.specs.Parsing.{Parser, done, such_that, byte, number, block, times}
 use Rattle.iss_request.specs.Formats.{is_second, version_byte, requests_most, HasSpelling, IsSpelledRequest, IsSpelledValue, is_height, is_signature, has_spelling, request_bytes, no_request, no_batch}
@@ -12,7 +13,7 @@ use Rattle.iss_request.specs.Formats.{spell_request, spell_count, spell_batch, s
 use Rattle.iss_request.specs.declared.requests.Request.{Request}
 use Rattle.iss_request.specs.declared.requests.Value.{Value}
 use Rattle.iss_request.specs.declared.requests.Value.TheVariants.{Nil, Batch as Holds}
-use Rattle.iss_request.proofs.ParserLemmas.{then_good, then_bad, first_bad, then_parts, done_parts, test_passed, test_failed, test_parts, byte_again, byte_parts, both_true, wide16, wide32, number_again, number_parts, block_again, block_parts, digests_again, digests_parts}
+use Rattle.iss_request.proofs.ParserLemmas.{then_good, then_bad, first_bad, then_parts, done_parts, test_passed, test_failed, test_parts, byte_again, byte_parts, wide16, wide32, number_again, number_parts, block_again, block_parts, digests_again, digests_parts}
 use Rattle.iss_request.proofs.FormatLemmas.{request_spelled, request_unspelled, batch_first, batch_rest, batch_spelled, batch_unspelled}
 
 pub done_good : {A : Type 0} (x : A) (bytes : List ℕ) → done x bytes ≡ Good x bytes
@@ -54,7 +55,7 @@ record IsShaped (height : ℕ) (rest : List ℕ) : Type 0 where
 
 shaped : (h : ℕ) (rest : List ℕ) → is_signature (h ∷ rest) ≡ true → IsShaped h rest
 shaped h rest e =
-    let both = both_true (is_height h) (eqb (length rest) (4 + 32 * (67 + h))) e in
+    let both = and-true (is_height h) (eqb (length rest) (4 + 32 * (67 + h))) e in
     record { tall = both.0; long = eqb-true _ _ both.1 }
 
 pub signature_again : (sig rest : List ℕ) → is_signature sig ≡ true → parse_signature (sig ++ rest) ≡ Good sig rest
@@ -103,8 +104,8 @@ signature_parts bytes rest sig e =
 request_bytes_again : (r : Request) (rest : List ℕ) → has_spelling r ≡ true → parse_request (request_bytes r ++ rest) ≡ Good r rest
 unfolding parse_request
 request_bytes_again r rest e =
-    let fits = both_true (ltb r.id.number (2 ^ 32)) (short (length r.payload) && is_signature r.sig) e in
-    let shape = both_true (short (length r.payload)) (is_signature r.sig) fits.1 in
+    let fits = and-true (ltb r.id.number (2 ^ 32)) (short (length r.payload) && is_signature r.sig) e in
+    let shape = and-true (short (length r.payload)) (is_signature r.sig) fits.1 in
     let tail = r.sig ++ rest in
     let size = to_be_bytes w16 (length r.payload) in
     let regrouped : request_bytes r ++ rest ≡ r.id.client ∷ (to_be_bytes w32 r.id.number ++ (size ++ (r.payload ++ tail))) = simp append_assoc in

@@ -1,10 +1,12 @@
 -- What parsers give on bytes whose front is known, and what is known of bytes that were read.
-use Rattle.std.proofs.Common.{◌≡◌, ℕ, zero, suc, ◌+◌, ◌-◌, ◌*◌, ◌/◌, ◌%◌, ◌^◌, ◌<◌, ◌≤◌, Bool, true, false, cond, ltb, leb, ◌&&◌, List, [], ◌∷◌, ◌++◌, length, get_or, take, drop, refl, sym, arith}
+use Rattle.std.proofs.Common.{◌≡◌, ℕ, zero, suc, ◌+◌, ◌-◌, ◌*◌, ◌/◌, ◌%◌, ◌^◌, ◌<◌, ◌≤◌, Bool, true, false, cond, ltb, leb, List, [], ◌∷◌, ◌++◌, length, get_or, take, drop, refl, sym, arith}
 use Rattle.std.specs.List.{list_all}
 use Rattle.std.specs.Int.{Width, w16, w32, w64, byte_len, from_be_bytes, to_be_bytes}
 use Rattle.std.proofs.lemmas.Bool.{ltb-true, lt-ltb, leb-true, le-leb, lt-leb}
 use Rattle.std.proofs.lemmas.List.{take_at, drop_at, take-append-drop, length-append, length-take, get_or_past}
 use Rattle.std.proofs.lemmas.Nat.{be_bytes_2, be_bytes_4, be_bytes_8, from_be_bytes-to_be_bytes_2, from_be_bytes-to_be_bytes_4, from_be_bytes-to_be_bytes_8}
+use Rattle.iss_base.proofs.Lists.{and-true}
+pub use Rattle.iss_base.proofs.Lists.{and-true as both_true}
 use Rattle.iss_request.specs.Fields.{Parsed, Good, Bad}
 use Rattle.iss_request.specs.Parsing.{Parser, ◌>>=◌, done, such_that, tested, shifted, followed, byte, has_bytes, number, block, digests}
 
@@ -92,10 +94,6 @@ byte_parts (a ∷ bytes) rest b e = cc
 
 -- ---- numbers
 
-pub both_true : (a b : Bool) → (a && b) ≡ true → (a ≡ true) × (b ≡ true)
-both_true true b e = (refl, e)
-both_true false b e = absurd cc
-
 abbrev is_byte : ℕ → Bool
 is_byte b = ltb b 256
 
@@ -104,8 +102,8 @@ none_at i = omega (arith, get_or_past {X = ℕ} [] i 0 (omega arith))
 
 all_at : (bs : List ℕ) → list_all is_byte bs ≡ true → (i : ℕ) → get_or bs i 0 < 256
 all_at [] e i = none_at i
-all_at (b ∷ bs) e zero = ltb-true b 256 (both_true (ltb b 256) (list_all is_byte bs) e).0
-all_at (b ∷ bs) e (suc i) = all_at bs (both_true (ltb b 256) (list_all is_byte bs) e).1 i
+all_at (b ∷ bs) e zero = ltb-true b 256 (and-true (ltb b 256) (list_all is_byte bs) e).0
+all_at (b ∷ bs) e (suc i) = all_at bs (and-true (ltb b 256) (list_all is_byte bs) e).1 i
 
 pub record IsWide (w : Width) (limit : ℕ) : Type 0 where
   pub len : (n : ℕ) → length (to_be_bytes w n) ≡ byte_len w
@@ -164,7 +162,7 @@ unfolding number
 number_parts w limit wide bytes rest n e =
     let front = take (byte_len w) bytes in
     let c = chosen_good (has_bytes (byte_len w) bytes) 0 (from_be_bytes w front) n (drop (byte_len w) bytes) rest e in
-    let b = both_true (leb (byte_len w) (length bytes)) (list_all is_byte front) c.0 in
+    let b = and-true (leb (byte_len w) (length bytes)) (list_all is_byte front) c.0 in
     let long : byte_len w ≤ length bytes = leb-true _ _ b.0 in
     let fits = all_at front b.1 in
     let is-n : from_be_bytes w front ≡ n = c.1 in

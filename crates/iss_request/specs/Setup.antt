@@ -3,7 +3,6 @@ use Rattle.std.specs.Prelude.{◌≡◌, ℕ, suc, ◌+◌, ◌*◌, ◌<◌, �
 use Rattle.iss_request.specs.declared.ids.NodeId.{NodeId}
 use Rattle.iss_request.specs.declared.setups.Kind.{Kind}
 use Rattle.iss_request.specs.declared.setups.Kind.TheVariants.{Byzantine, Stopping}
-use Rattle.iss_request.specs.declared.setups.Policy.TheVariants.{Simple}
 use Rattle.iss_request.specs.declared.setups.Setup.{Setup}
 
 -- how many nodes withstand f faults, and how many of them decide
@@ -40,8 +39,6 @@ pub record IsGoodSetup (s : Setup) : Type 0 where
   pub relay_kind : s.module ≡ 1 → s.kind ≡ Stopping
   pub nodes : s.n ≡ node_count s
   pub majority : s.quorum ≡ quorum_count s
-  -- the other policies are not there yet
-  pub simple : s.policy ≡ Simple
   pub epoch_low : s.n ≤ s.epoch
   pub epoch_high : s.epoch ≤ 64
   pub buckets_low : 1 ≤ s.buckets

@@ -24,6 +24,3 @@ pub use values::{
     read_value, write_request, write_value,
 };
 pub use versions::{is_second, requests_most, version_byte};
-
-#[cfg(test)]
-mod tests;

@@ -8,3 +8,4 @@ pub mod Quorums
 pub mod Read
 pub mod Signatures
 pub mod Heard
+pub mod Inputs

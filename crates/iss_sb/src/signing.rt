@@ -33,25 +33,3 @@ pub fn sign(statement: &Bytes, keys: &mut Keys) -> Result<Bytes, NoMemory>
         Err(SignError::Spent) => unreachable!(),
     }
 }
-
-#[cfg(test)]
-mod tests {
-    use super::*;
-    use iss_keys::verify;
-    use std::test::Fail;
-
-    // A signature takes one leaf, and verifies.
-    #[test]
-    fn a_statement_is_signed(rt: HostRuntime) -> Result<(), Fail> {
-        let alloc = rt.alloc();
-        let mut keys = Keys::make(alloc, [0; 32], 2)?;
-        let mut out = Writer::new(alloc, 1);
-        out.put_u8(7)?;
-        let statement = out.into_bytes();
-        let sig = sign(&statement, &mut keys)?;
-        assert_eq!(rt; keys.left(), 3);
-        let verifies = verify(&keys.public(), statement.as_slice(), sig.as_slice());
-        assert!(rt; verifies);
-        Ok(())
-    }
-}

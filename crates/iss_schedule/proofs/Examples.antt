@@ -1,9 +1,8 @@
 -- The definitions, run on worked schedules.
-use Rattle.std.proofs.Common.{◌≡◌, ◌∷◌, [], codes, refl, arith, inl}
+use Rattle.std.proofs.Common.{◌≡◌, ℕ, List, ◌∷◌, [], codes, refl, arith, inl}
 use Rattle.std.specs.Fmt.{digits}
 use Rattle.hex.specs.Hex.{encode_with}
 use Rattle.iss_schedule.specs.declared.errors.Why.TheVariants.{Cut}
-use Rattle.iss_schedule.specs.declared.header.Header.{Header}
 use Rattle.iss_schedule.specs.declared.schedules.Event.TheVariants.{Request, Propose, Timeout, Deliver, Lose, Pump, Calm, Hold, Free, Drop}
 use Rattle.iss_schedule.specs.declared.schedules.Schedule.{Schedule}
 use Rattle.iss_schedule.specs.BadLines.{IsFirstBad}
@@ -13,8 +12,8 @@ use Rattle.iss_schedule.specs.Words.{words_of}
 use Rattle.iss_schedule.proofs.Blanks.{lacks_by_test}
 use Rattle.iss_schedule.proofs.Fronts.{empty_schedule, fine_header}
 
-three : Header
-three = record { epoch = 3; buckets = 3; batch = 4; window = 8; clients = 1; keys = 4 }
+three : List ℕ
+three = 0 ∷ 0 ∷ 0 ∷ 3 ∷ 3 ∷ 4 ∷ 8 ∷ 0 ∷ 1 ∷ 4 ∷ 0 ∷ []
 
 -- one request, its proposal, and rounds of deliveries
 worked : Schedule
@@ -26,6 +25,16 @@ worked = record {
 worked_text : text_of worked ≡ codes "iss 1\nmodule relay\nf 0\nepoch 3\nbuckets 3\nbatch 4\nwindow 8\npolicy simple\nclients 1\nkeys 4\nfaulty none\nrequest 0 0 0 aa\npropose 0\ntimeout 1 2\ndeliver 12\nlose 0\npump\ncalm 10\nhold 2\nfree 2\ndrop 1\n"
 unfolding worked three digits encode_with
 worked_text = refl
+
+-- the same cluster with another policy
+backs_off : text_of (record { setup = setup_with (0 ∷ 0 ∷ 0 ∷ 3 ∷ 3 ∷ 4 ∷ 8 ∷ 1 ∷ 1 ∷ 4 ∷ 0 ∷ []) []; events = Pump ∷ [] }) ≡ codes "iss 1\nmodule relay\nf 0\nepoch 3\nbuckets 3\nbatch 4\nwindow 8\npolicy backoff\nclients 1\nkeys 4\nfaulty none\npump\n"
+unfolding digits
+backs_off = refl
+
+-- five nodes of Raft, of which two may stop
+of_raft : text_of (record { setup = setup_with (0 ∷ 1 ∷ 2 ∷ 5 ∷ 3 ∷ 4 ∷ 8 ∷ 0 ∷ 1 ∷ 4 ∷ 0 ∷ []) []; events = Pump ∷ [] }) ≡ codes "iss 1\nmodule raft\nf 2\nepoch 5\nbuckets 3\nbatch 4\nwindow 8\npolicy simple\nclients 1\nkeys 4\nfaulty none\npump\n"
+unfolding digits
+of_raft = refl
 
 -- words are parted by one space, so two spaces have an empty word between them
 two_spaces : words_of (codes "propose  0") ≡ codes "propose" ∷ [] ∷ codes "0" ∷ []
@@ -41,14 +50,25 @@ cut_text = record {
   number = refl;
   good = record {
     schedule = empty_schedule three;
-    fine = fine_header three (record {
-      epoch = (omega arith, omega arith);
-      buckets = (omega arith, omega arith);
-      batch = (omega arith, omega arith);
-      window = (omega arith, omega arith);
-      clients = (omega arith, omega arith);
-      keys = (omega arith, omega arith);
-    });
+    fine = fine_header three (
+      omega arith,
+      (
+        omega arith,
+        (
+          (omega arith, omega arith),
+          (
+            (omega arith, omega arith),
+            (
+              (omega arith, omega arith),
+              (
+                (omega arith, omega arith),
+                ((omega arith, omega arith), (omega arith, ((omega arith, omega arith), ((omega arith, omega arith), (refl, refl))))),
+              ),
+            ),
+          ),
+        ),
+      ),
+    );
     front = refl;
   };
   bad = (omega arith, lacks_by_test 10 (codes "iss 1") refl, inl (omega arith));

@@ -1,7 +1,9 @@
 -- The lines of a schedule in range: none holds a line feed, and each has the form of its place.
-use Rattle.std.proofs.Common.{◌≡◌, ◌≢◌, ℕ, zero, suc, ◌^◌, ◌<◌, ◌≤◌, true, List, [], ◌∷◌, ◌++◌, length, take, map, get_or, Some, codes, decimal, refl, sym, ap, ◌∙◌, arith, append_assoc, length-append, inl}
+use Rattle.std.proofs.Common.{◌≡◌, ◌≢◌, ℕ, zero, suc, ◌^◌, ◌<◌, ◌≤◌, List, [], ◌∷◌, ◌++◌, length, take, map, get_or, Option, Some, codes, refl, sym, ap, subst, ◌∙◌, arith, append_assoc, length-append, inl, inr}
 use Rattle.std.proofs.Math.Pow.{pow_mono}
+use Rattle.std.proofs.lemmas.Bool.Decides.{leb_tells}
 use Rattle.iss_base.specs.Lists.{nth}
+use Rattle.iss_base.proofs.Lists.{nth-below, some-injective}
 use Rattle.iss_request.specs.Setup.{IsGoodSetup}
 use Rattle.iss_request.specs.declared.setups.Setup.{Setup}
 use Rattle.iss_request.specs.declared.setups.Kind.TheVariants.{Byzantine}
@@ -10,15 +12,17 @@ use Rattle.iss_schedule.specs.declared.schedules.Event.{Event}
 use Rattle.iss_schedule.specs.declared.schedules.Event.TheVariants.{Request, Propose, Timeout, Deliver, Lose, Pump, Calm, Hold, Free, Drop, Bytes}
 use Rattle.iss_schedule.specs.declared.schedules.Schedule.{Schedule}
 use Rattle.iss_schedule.specs.Events.{event_words, spell_event, IsInRange, AreInRange}
-use Rattle.iss_schedule.specs.Forms.{HasForm, IsField, IsEventLine, IsInjection, NamesFaulty}
+use Rattle.iss_schedule.specs.Forms.{HasForm, IsEventLine, IsFormed, IsInjection, NamesFaulty}
+use Rattle.iss_schedule.specs.Headers.{HeaderField, FaultyNodes, header_fields, AreValues, IsGoodLine, lines_of, values_of}
 use Rattle.iss_schedule.specs.Names.{text_of_name}
-use Rattle.iss_schedule.specs.Schedules.{field, header_lines, schedule_lines, IsFine}
+use Rattle.iss_schedule.specs.Schedules.{header_lines, schedule_lines, IsFine, IsKnown}
 use Rattle.iss_schedule.specs.Words.{Lacks, words_of, ended}
-use Rattle.iss_schedule.proofs.Blanks.{feed, lacks_test, lacks_by_test, lacks_decimal, lacks_append, lacks_line, event_lacks, event_spelled}
+use Rattle.iss_schedule.proofs.Blanks.{feed, lacks_line, event_lacks, event_spelled}
 use Rattle.iss_schedule.proofs.Cuts.{cut_same}
-use Rattle.iss_schedule.proofs.Fronts.{fixed_fits}
+use Rattle.iss_schedule.proofs.Fields.{AreSound, IsAt, value_at, value_formed, value_whole}
 use Rattle.iss_schedule.proofs.Numbers.{decimal_is_number}
-use Rattle.iss_schedule.proofs.Refusals.{event_behind, same_kind}
+use Rattle.iss_schedule.proofs.Refusals.{event_behind, form_behind, same_kind}
+use Rattle.iss_schedule.proofs.Table.{fields_sound, values_in_range}
 
 -- ---- no line feed
 
@@ -35,60 +39,20 @@ whole_take zero xs h = tt
 whole_take (suc n) [] h = tt
 whole_take (suc n) (x ∷ xs) h = (h.0, whole_take n xs h.1)
 
-whole_field : (name : List ℕ) (n : ℕ) → lacks_test 10 name ≡ true → n < 2 ^ 64 → Lacks 10 (field name n)
-whole_field name n t fits = lacks_append 10 name (32 ∷ decimal n) (lacks_by_test 10 name t) ((λ e. omega arith), lacks_decimal 10 n (omega arith) fits)
+whole_values : (fs : List HeaderField) → AreSound fs → (above vs : List ℕ) → AreValues fs above vs → AreWhole (lines_of fs vs)
+whole_values [] sound above vs ok = tt
+whole_values (f ∷ fs) sound above [] ok = absurd ok
+whole_values (f ∷ fs) sound above (v ∷ vs) ok = (value_whole f sound.0 above v ok.0, whole_values fs sound.1 (above ++ v ∷ []) vs ok.1)
 
--- the numbers of a good set-up fit a word
-pub record Fits (s : Setup) : Type 0 where
-  pub f : s.f < 2 ^ 64
-  pub epoch : s.epoch < 2 ^ 64
-  pub buckets : s.buckets < 2 ^ 64
-  pub batch : s.batch < 2 ^ 64
-  pub window : s.window < 2 ^ 64
-  pub clients : s.clients < 2 ^ 64
-  pub keys : s.keys < 2 ^ 64
-
-pub setup_fits : (s : Setup) → IsGoodSetup s → Fits s
-setup_fits s g =
-    let a = g.faults in let b = g.epoch_high in let c = g.buckets_high in let d = g.batch_high in let e = g.window_high in let h = g.clients_high in let k = g.keys_high in
-    record { f = omega arith; epoch = omega arith; buckets = omega arith; batch = omega arith; window = omega arith; clients = omega arith; keys = omega arith }
-
-whole_header : (s : Setup) → Fits s → AreWhole (header_lines s)
-whole_header s fits = (
-  lacks_by_test 10 (codes "iss 1") refl,
-  (
-    lacks_by_test 10 (codes "module relay") refl,
-    (
-      whole_field (codes "f") s.f refl fits.f,
-      (
-        whole_field (codes "epoch") s.epoch refl fits.epoch,
-        (
-          whole_field (codes "buckets") s.buckets refl fits.buckets,
-          (
-            whole_field (codes "batch") s.batch refl fits.batch,
-            (
-              whole_field (codes "window") s.window refl fits.window,
-              (
-                lacks_by_test 10 (codes "policy simple") refl,
-                (
-                  whole_field (codes "clients") s.clients refl fits.clients,
-                  (whole_field (codes "keys") s.keys refl fits.keys, (lacks_by_test 10 (codes "faulty none") refl, tt)),
-                ),
-              ),
-            ),
-          ),
-        ),
-      ),
-    ),
-  ),
-)
+whole_header : (s : Setup) → IsKnown s → AreWhole (header_lines s)
+whole_header s known = whole_values header_fields fields_sound [] (values_of s) (values_in_range s known)
 
 whole_events : (s : Setup) (es : List Event) → IsGoodSetup s → AreInRange s es → AreWhole (map spell_event es)
 whole_events s [] good range = tt
 whole_events s (e ∷ es) good range = (lacks_line (event_words e) (event_lacks 10 s e feed good range.0), whole_events s es good range.1)
 
 pub whole_lines : (s : Schedule) → IsFine s → AreWhole (schedule_lines s)
-whole_lines s fine = whole_append (header_lines s.setup) (map spell_event s.events) (whole_header s.setup (setup_fits s.setup fine.setup.good)) (whole_events s.setup s.events fine.setup.good fine.events)
+whole_lines s fine = whole_append (header_lines s.setup) (map spell_event s.events) (whole_header s.setup fine.setup) (whole_events s.setup s.events fine.setup.good fine.events)
 
 -- ---- texts with one front
 
@@ -147,26 +111,32 @@ event_line s line (Bytes core bytes) good ok is = record {
   spelled = (decimal_is_number core (omega arith), (bytes, (ok.2, refl)));
 }
 
-field_form : (name : List ℕ) (n : ℕ) (line : List ℕ) → n < 2 ^ 64 → Some (field name n) ≡ Some line → IsField name line
-field_form name n line fits e = (decimal n, (fixed_fits (field name n) line e, decimal_is_number n fits))
+nth_left : (xs ys : List (List ℕ)) (k : ℕ) → k < length xs → nth (xs ++ ys) k ≡ nth xs k
+nth_left [] ys k lt = absurd (omega (arith, lt))
+nth_left (x ∷ xs) ys zero lt = refl
+nth_left (x ∷ xs) ys (suc k) lt = nth_left xs ys k (omega (arith, lt))
+
+-- a line of the header spells a value of its field
+header_at : (s : Schedule) (p : ℕ) (line : List ℕ) → IsFine s → p < 11 → nth (schedule_lines s) p ≡ Some line → IsAt header_fields p line
+header_at s p line fine lt e =
+    value_at header_fields fields_sound [] (values_of s.setup) (values_in_range s.setup fine.setup) p line
+    (sym (nth_left (header_lines s.setup) (map spell_event s.events) p lt) ∙ e)
 
 -- each line of a schedule in range has the form of its place
 pub formed : (s : Schedule) (p : ℕ) (line : List ℕ) → IsFine s → nth (schedule_lines s) p ≡ Some line → HasForm p line
-formed s zero line fine e = fixed_fits (codes "iss 1") line e
-formed s (suc zero) line fine e = fixed_fits (codes "module relay") line e
-formed s (suc (suc zero)) line fine e = field_form (codes "f") s.setup.f line (setup_fits s.setup fine.setup.good).f e
-formed s (suc (suc (suc zero))) line fine e = field_form (codes "epoch") s.setup.epoch line (setup_fits s.setup fine.setup.good).epoch e
-formed s (suc (suc (suc (suc zero)))) line fine e = field_form (codes "buckets") s.setup.buckets line (setup_fits s.setup fine.setup.good).buckets e
-formed s (suc (suc (suc (suc (suc zero))))) line fine e = field_form (codes "batch") s.setup.batch line (setup_fits s.setup fine.setup.good).batch e
-formed s (suc (suc (suc (suc (suc (suc zero)))))) line fine e = field_form (codes "window") s.setup.window line (setup_fits s.setup fine.setup.good).window e
-formed s (suc (suc (suc (suc (suc (suc (suc zero))))))) line fine e = fixed_fits (codes "policy simple") line e
-formed s (suc (suc (suc (suc (suc (suc (suc (suc zero)))))))) line fine e = field_form (codes "clients") s.setup.clients line (setup_fits s.setup fine.setup.good).clients e
-formed s (suc (suc (suc (suc (suc (suc (suc (suc (suc zero))))))))) line fine e = field_form (codes "keys") s.setup.keys line (setup_fits s.setup fine.setup.good).keys e
-formed s (suc (suc (suc (suc (suc (suc (suc (suc (suc (suc zero)))))))))) line fine e = inl (fixed_fits (codes "faulty none") line e)
-formed s (suc (suc (suc (suc (suc (suc (suc (suc (suc (suc (suc k))))))))))) line fine e =
-    let p = suc (suc (suc (suc (suc (suc (suc (suc (suc (suc (suc k)))))))))) in
-    let here = event_behind s p line fine (omega arith) e in
-    event_line s.setup line here.0 fine.setup.good here.1.0 here.1.1
+formed s p line fine e = elim (leb_tells 11 p) [
+  | inl le ↦ let here = event_behind s p line fine le.1 e in form_behind p line le.1 (event_line s.setup line here.0 fine.setup.good here.1.0 here.1.1)
+  | inr lt ↦
+      let here = header_at s p line fine lt.1 e in
+      subst (λ (o : Option HeaderField). IsFormed o line) (sym here.place) (value_formed here.field here.sound here.above line here.good)
+]
+
+-- no schedule has a faulty node
+pub no_faulty_line : (s : Schedule) (p : ℕ) (line : List ℕ) → IsFine s → nth header_fields p ≡ Some FaultyNodes → nth (schedule_lines s) p ≡ Some line → line ≡ codes "faulty none"
+no_faulty_line s p line fine place e =
+    let here = header_at s p line fine (nth-below header_fields p FaultyNodes place) e in
+    let same : here.field ≡ FaultyNodes = some-injective here.field FaultyNodes (sym here.place ∙ place) in
+    (subst (λ (f : HeaderField). IsGoodLine f here.above line) same here.good).1.1
 
 -- `none` is no number
 pub none_named : (line : List ℕ) → line ≡ codes "faulty none" → NamesFaulty line → ⊥
@@ -202,7 +172,7 @@ injected_event s (Free core) args ok is = absurd (other 102 (event_words (Free c
 injected_event s (Drop core) args ok is = absurd (other 100 (event_words (Drop core)) args refl (λ e. omega arith) is)
 injected_event s (Bytes core bytes) args ok is = ok.0
 
--- no schedule of a relay gives bytes to a core
+-- no schedule gives bytes to a core
 pub no_injection : (s : Schedule) (p : ℕ) (line : List ℕ) → IsFine s → 11 ≤ p → nth (schedule_lines s) p ≡ Some line → IsInjection line → ⊥
 no_injection s p line fine le e h =
     let here = event_behind s p line fine le e in

@@ -1,22 +1,24 @@
 -- Texts and the lines at their front.
-use Rattle.std.proofs.Common.{◌≡◌, ℕ, suc, ◌+◌, ◌<◌, ◌≤◌, List, [], ◌∷◌, ◌++◌, length, take, map, Some, refl, sym, ap, subst, ◌∙◌, arith, append_assoc, length-append, inl}
+use Rattle.std.proofs.Common.{◌≡◌, ℕ, suc, ◌+◌, ◌<◌, ◌≤◌, List, [], ◌∷◌, ◌++◌, length, take, drop, set, get_or, map, Option, Some, Result, refl, sym, ap, subst, ◌∙◌, arith, append_assoc, length-append, inl}
+use Rattle.std.proofs.Math.Seq.{drop-cons}
+use Rattle.std.proofs.lemmas.List.{length-take-le, take_more_set}
 use Rattle.sha2.specs.Sha256.{sha256}
 use Rattle.iss_base.specs.Lists.{nth}
-use Rattle.iss_request.specs.Setup.{IsGoodSetup}
+use Rattle.iss_base.proofs.Lists.{nth-below}
 use Rattle.iss_request.specs.declared.setups.Setup.{Setup}
 use Rattle.iss_schedule.specs.declared.errors.Why.{Why}
 use Rattle.iss_schedule.specs.declared.errors.Why.TheVariants.{Cut, Form, Faulty, Injected, Range, Size}
-use Rattle.iss_schedule.specs.declared.header.Header.{Header}
 use Rattle.iss_schedule.specs.declared.schedules.Schedule.{Schedule}
-use Rattle.iss_schedule.specs.BadLines.{IsBadRest, IsFirstBad}
+use Rattle.iss_schedule.specs.BadLines.{Begins, IsBadRest, IsFirstBad}
 use Rattle.iss_schedule.specs.declared.schedules.Event.{Event}
 use Rattle.iss_schedule.specs.Events.{spell_event, IsInRange, AreInRange}
-use Rattle.iss_schedule.specs.Forms.{HasForm}
-use Rattle.iss_schedule.specs.Headers.{setup_with, IsHeaderInRange}
-use Rattle.iss_schedule.specs.Places.{IsLineFault, IsFieldWithin, IsFaultyLineFault}
-use Rattle.iss_schedule.specs.Reads.{IsWithin}
-use Rattle.iss_schedule.specs.Schedules.{field, header_lines, schedule_lines, cluster_tag, IsRelay, IsFine, IsSchedule, most_events, most_bytes}
+use Rattle.iss_schedule.specs.Forms.{IsFormed}
+use Rattle.iss_schedule.specs.Headers.{HeaderField, OneOf, Number, FaultyNodes, header_fields, AreValues, IsGoodLine, IsValue, lines_of, next_field, setup_with, spell_value, values_of}
+use Rattle.iss_schedule.specs.Places.{Place, IsFieldFault, IsLineFault, IsFaultyLineFault, ReadsField}
+use Rattle.iss_schedule.specs.Schedules.{header_lines, cluster_tag, IsKnown, IsFine, IsSchedule, most_events, most_bytes}
 use Rattle.iss_schedule.specs.Words.{ended}
+use Rattle.iss_schedule.proofs.Fields.{AreSome, field_behind, front_of, gone_on, length_some, lines_more, next_good, some_more}
+use Rattle.iss_schedule.proofs.Table.{are_read, fields_fill, fields_sound, setup_made, known_read, values_back, values_in_range}
 
 pub ended-append : (xs ys : List (List ℕ)) → ended (xs ++ ys) ≡ ended xs ++ ended ys
 ended-append [] ys = refl
@@ -37,105 +39,108 @@ nth_behind (f ∷ fs) line (l ∷ ls) e = let tails : fs ++ line ∷ [] ≡ take
 
 -- ---- headers
 
--- the set-up and the schedule without events that a header's numbers give
-abbrev pub relay_of : Header → Setup
-relay_of h = setup_with h (cluster_tag (setup_with h []))
+-- the schedule without events whose header has these values
+abbrev pub empty_schedule : List ℕ → Schedule
+empty_schedule vs = record { setup = setup_made vs; events = [] }
 
-abbrev pub empty_schedule : Header → Schedule
-empty_schedule h = record { setup = relay_of h; events = [] }
+pub fine_header : (vs : List ℕ) → AreValues header_fields [] vs → IsFine (empty_schedule vs)
+fine_header vs ok = record { setup = known_read vs (are_read vs ok); events = tt; few = omega arith }
 
-pub good_header : (h : Header) (tag : List ℕ) → IsHeaderInRange h → IsGoodSetup (setup_with h tag)
-good_header h tag ok = record {
-  version = refl;
-  faults = omega arith;
-  relay_faults = λ _. refl;
-  relay_kind = λ _. refl;
-  nodes = refl;
-  majority = refl;
-  simple = refl;
-  epoch_low = ok.epoch.0;
-  epoch_high = omega arith;
-  buckets_low = ok.buckets.0;
-  buckets_high = omega arith;
-  batch_low = ok.batch.0;
-  batch_high = omega arith;
-  window_low = ok.window.0;
-  window_high = omega arith;
-  clients_low = ok.clients.0;
-  clients_high = omega arith;
-  keys_low = ok.keys.0;
-  keys_high = omega arith;
-  few_faulty = refl;
-  rising_faulty = tt;
-}
+-- lines of values in range begin a schedule
+begun : (vs : List ℕ) (left : List HeaderField) → AreSome header_fields [] vs left → Begins (lines_of header_fields vs)
+begun vs left some =
+    let rest = gone_on header_fields [] vs left fields_fill some in
+    let all : List ℕ = vs ++ rest.0 in
+    let back = values_back all (cluster_tag (setup_with all [])) (are_read all rest.1) in
+    record {
+      schedule = empty_schedule all;
+      fine = fine_header all rest.1;
+      front = subst (λ (z : List ℕ). lines_of header_fields vs ≡ take (length (lines_of header_fields vs)) (lines_of header_fields z ++ [])) (sym back) (front_of header_fields [] vs rest.0 left [] some);
+    }
 
-pub relay_header : (h : Header) → IsHeaderInRange h → IsRelay (relay_of h)
-relay_header h ok = record { good = good_header h (cluster_tag (setup_with h [])) ok; relay = refl; tag = refl }
-
-pub fine_header : (h : Header) → IsHeaderInRange h → IsFine (empty_schedule h)
-fine_header h ok = record { setup = relay_header h ok; events = tt; few = omega arith }
-
--- a relay has three nodes and no faults
-pub three_nodes : (s : Setup) → IsRelay s → s.n ≡ 3
-three_nodes s r = let e = r.good.nodes in let m = r.relay in grind (arith)
-
--- a bad line of the header
-pub first_bad : (p : ℕ) → p < 10 → (h : Header) → IsHeaderInRange h → (text rest : List ℕ) (front : List (List ℕ)) → length front ≡ p → front ≡ take (length front) (schedule_lines (empty_schedule h)) → text ≡ ended front ++ rest → (read : ℕ) → read ≡ suc p → (F G : List ℕ → Type 0) → ((line : List ℕ) → HasForm p line → F line) → ((line : List ℕ) → F line → HasForm p line) → ((s : Schedule) (line : List ℕ) → IsFine s → nth (schedule_lines s) p ≡ Some line → G line) → (why : Why) → IsLineFault F G rest why → IsFirstBad text read why
-first_bad p small h ok text rest front len begins e read count F G to from fits why fault = record {
-  front = front;
-  rest = rest;
-  text = e;
-  number = count ∙ ap suc (sym len);
-  good = record { schedule = empty_schedule h; fine = fine_header h ok; front = begins };
-  bad = bad_rest why fault;
-}
-  where
-    bad_rest : (why : Why) → IsLineFault F G rest why → IsBadRest front rest why
-    bad_rest Cut f = (omega arith, f, inl (omega arith))
-    bad_rest Form f = (omega arith, (f.0, (f.1.0, (λ has. f.1.1 (to f.0 (subst (λ k. HasForm k f.0) len has))))))
-    bad_rest Range f = (
-      omega arith,
+-- what is wrong with the next line of a header
+line_bad : (front : List (List ℕ)) (rest : List ℕ) (f : HeaderField) (G : List ℕ → Type 0) → length front < 11 → nth header_fields (length front) ≡ Some f → (Some f ≡ Some FaultyNodes → ⊥) → ((line : List ℕ) → Begins (front ++ line ∷ []) → G line) → (why : Why) → IsLineFault (IsFormed (Some f)) G rest why → IsBadRest front rest why
+line_bad front rest f G short place other fits Cut x = (omega (arith, short), x, inl short)
+line_bad front rest f G short place other fits Form x = (omega (arith, short), (x.0, (x.1.0, (λ has. x.1.1 (subst (λ (o : Option HeaderField). IsFormed o x.0) place has)))))
+line_bad front rest f G short place other fits Range x = (
+  omega (arith, short),
+  (
+    x.0,
+    (
+      x.1.0,
       (
-        f.0,
-        (
-          f.1.0,
-          (
-            subst (λ k. HasForm k f.0) (sym len) (from f.0 f.1.1),
-            (λ faulty. omega arith),
-            (λ injected. omega arith),
-            (λ begin. f.1.2 (fits begin.schedule f.0 begin.fine (subst (λ k. nth (schedule_lines begin.schedule) k ≡ Some f.0) len (nth_behind front f.0 (schedule_lines begin.schedule) begin.front)))),
-          ),
-        ),
+        subst (λ (o : Option HeaderField). IsFormed o x.0) (sym place) x.1.1,
+        (λ faulty. other (sym place ∙ faulty.0)),
+        (λ injected. omega (arith, injected.0, short)),
+        (λ begin. x.1.2 (fits x.0 begin)),
       ),
+    ),
+  ),
+)
+line_bad front rest f G short place other fits Faulty x = absurd x
+line_bad front rest f G short place other fits Injected x = absurd x
+line_bad front rest f G short place other fits Size x = absurd x
+
+faulty_bad : (front : List (List ℕ)) (rest : List ℕ) → length front < 11 → nth header_fields (length front) ≡ Some FaultyNodes → (why : Why) → IsFaultyLineFault rest why → IsBadRest front rest why
+faulty_bad front rest short place Cut x = (omega (arith, short), x, inl short)
+faulty_bad front rest short place Form x = (omega (arith, short), (x.0, (x.1.0, (λ has. x.1.1 (subst (λ (o : Option HeaderField). IsFormed o x.0) place has)))))
+faulty_bad front rest short place Faulty x = (omega (arith, short), (x.0, (x.1.0, (place, x.1.1))))
+faulty_bad front rest short place Range x = absurd x
+faulty_bad front rest short place Injected x = absurd x
+faulty_bad front rest short place Size x = absurd x
+
+field_rest : (front : List (List ℕ)) (rest above : List ℕ) (f : HeaderField) → length front < 11 → nth header_fields (length front) ≡ Some f → ((line : List ℕ) → Begins (front ++ line ∷ []) → IsGoodLine f above line) → (why : Why) → IsFieldFault f above rest why → IsBadRest front rest why
+field_rest front rest above (OneOf texts) short place fits why x = line_bad front rest (OneOf texts) (IsGoodLine (OneOf texts) above) short place (λ e. cc) fits why x
+field_rest front rest above (Number name low end) short place fits why x = line_bad front rest (Number name low end) (IsGoodLine (Number name low end) above) short place (λ e. cc) fits why x
+field_rest front rest above FaultyNodes short place fits why x = faulty_bad front rest short place why x
+
+-- behind values in range a field was read amiss
+pub field_bad : (vs : List ℕ) (f : HeaderField) (more : List HeaderField) → AreSome header_fields [] vs (f ∷ more) → (text rest : List ℕ) → text ≡ ended (lines_of header_fields vs) ++ rest → (read : ℕ) → read ≡ suc (length vs) → (why : Why) → IsFieldFault f vs rest why → IsFirstBad text read why
+field_bad vs f more some text rest e read count why fault =
+    let len = length_some header_fields [] vs (f ∷ more) some in
+    let place : nth header_fields (length (lines_of header_fields vs)) ≡ Some f = subst (λ k. nth header_fields k ≡ Some f) (sym len) (field_behind header_fields [] vs f more some) in
+    let short : length (lines_of header_fields vs) < 11 = nth-below header_fields (length (lines_of header_fields vs)) f place in
+    record {
+      front = lines_of header_fields vs;
+      rest = rest;
+      text = e;
+      number = count ∙ ap suc (sym len);
+      good = begun vs (f ∷ more) some;
+      bad = field_rest (lines_of header_fields vs) rest vs f short place
+          (λ line begin. next_good header_fields fields_sound [] vs (values_of begin.schedule.setup) f more line (map spell_event begin.schedule.events) some (values_in_range begin.schedule.setup begin.fine.setup) begin.front)
+          why fault;
+    }
+
+-- the values of so many lines, of which the next is to be read
+pub next_is : (all : List ℕ) (place : ℕ) → length all ≡ 11 → place < 11 → drop place header_fields ≡ next_field (take place all) ∷ drop (suc place) header_fields
+next_is all place size lt =
+    drop-cons header_fields place FaultyNodes lt
+    ∙ ap (λ k. get_or header_fields k FaultyNodes ∷ drop (suc place) header_fields) (sym (length-take-le place all (omega (arith, size, lt))))
+
+-- what was read as the field of this place was read as the next one
+pub read_at : (above : List ℕ) (old new : Place) (r : Result ℕ Why) (k : ℕ) (f : HeaderField) → length above ≡ k → f ≡ get_or header_fields k FaultyNodes → ReadsField f above old new r → ReadsField (next_field above) above old new r
+read_at above old new r k f e is h = subst (λ (z : HeaderField). ReadsField z above old new r) (is ∙ ap (λ n. get_or header_fields n FaultyNodes) (sym e)) h
+
+-- one value more
+pub one_more : (text all new : List ℕ) (place v : ℕ) (rest left : List ℕ) → length all ≡ 11 → place < 11 → AreSome header_fields [] (take place all) (drop place header_fields) → text ≡ ended (lines_of header_fields (take place all)) ++ rest → rest ≡ spell_value (next_field (take place all)) v ++ 10 ∷ left → IsValue (next_field (take place all)) (take place all) v → new ≡ set all place v → (text ≡ ended (lines_of header_fields (take (place + 1) new)) ++ left) × AreSome header_fields [] (take (place + 1) new) (drop (place + 1) header_fields)
+one_more text all new place v rest left size lt some e cut ok is =
+    let vs = take place all in
+    let f = next_field vs in
+    let more = drop (suc place) header_fields in
+    let here = subst (AreSome header_fields [] vs) (next_is all place size lt) some in
+    let grown : vs ++ v ∷ [] ≡ take (place + 1) new = sym (ap (λ (z : List ℕ). take (place + 1) z) is ∙ take_more_set all place v (omega (arith, size, lt))) in
+    let behind : suc place ≡ place + 1 = omega arith in (
+      past text (lines_of header_fields vs) (spell_value f v) rest left e cut
+          ∙ ap (λ (ls : List (List ℕ)). ended ls ++ left) (sym (lines_more header_fields [] vs v f more here))
+          ∙ ap (λ (z : List ℕ). ended (lines_of header_fields z) ++ left) grown,
+      subst (λ k. AreSome header_fields [] (take (place + 1) new) (drop k header_fields)) behind
+          (subst (λ (z : List ℕ). AreSome header_fields [] z more) grown (some_more header_fields [] vs v f more here ok)),
     )
-    bad_rest Faulty f = absurd f
-    bad_rest Injected f = absurd f
-    bad_rest Size f = absurd f
 
-pub faulty_bad : (h : Header) → IsHeaderInRange h → (text rest : List ℕ) (front : List (List ℕ)) → length front ≡ 10 → front ≡ take (length front) (schedule_lines (empty_schedule h)) → text ≡ ended front ++ rest → (read : ℕ) → read ≡ 11 → (why : Why) → IsFaultyLineFault rest why → IsFirstBad text read why
-faulty_bad h ok text rest front len begins e read count why fault = record {
-  front = front;
-  rest = rest;
-  text = e;
-  number = count ∙ ap suc (sym len);
-  good = record { schedule = empty_schedule h; fine = fine_header h ok; front = begins };
-  bad = bad_rest why fault;
-}
-  where
-    bad_rest : (why : Why) → IsFaultyLineFault rest why → IsBadRest front rest why
-    bad_rest Cut f = (omega arith, f, inl (omega arith))
-    bad_rest Form f = (omega arith, (f.0, (f.1.0, (λ has. f.1.1 (subst (λ k. HasForm k f.0) len has)))))
-    bad_rest Faulty f = (omega arith, (f.0, (f.1.0, (len, f.1.1))))
-    bad_rest Range f = absurd f
-    bad_rest Injected f = absurd f
-    bad_rest Size f = absurd f
-
--- what stands at each place of a schedule in range
-pub fixed_fits : (text line : List ℕ) → Some text ≡ Some line → line ≡ text
-fixed_fits text line e = cc
-
-pub field_fits : (name : List ℕ) (low end n : ℕ) (line : List ℕ) → IsWithin low end n → Some (field name n) ≡ Some line → IsFieldWithin name low end line
-field_fits name low end n line ok e = (n, (ok, fixed_fits (field name n) line e))
+pub read_amiss : (text all : List ℕ) (place : ℕ) (rest : List ℕ) → length all ≡ 11 → place < 11 → AreSome header_fields [] (take place all) (drop place header_fields) → text ≡ ended (lines_of header_fields (take place all)) ++ rest → (read : ℕ) → read ≡ place + 1 → (why : Why) → IsFieldFault (next_field (take place all)) (take place all) rest why → IsFirstBad text read why
+read_amiss text all place rest size lt some e read count why fault =
+    let long = length-take-le place all (omega (arith, size, lt)) in
+    field_bad (take place all) (next_field (take place all)) (drop (suc place) header_fields) (subst (AreSome header_fields [] (take place all)) (next_is all place size lt) some) text rest e read (omega (arith, count, long)) why fault
 
 -- ---- events
 
@@ -161,20 +166,23 @@ events_more s text es more e rest left pushed eq range ok cut =
     (past_event text es e rest left eq cut, in_range_push s es e range ok, length-append es (e ∷ []))
 
 -- the set-up that was made is that of the header that was read
-pub made : (h : Header) (bytes front rest rest' : List ℕ) (s : Setup) → s ≡ setup_with h (sha256 (67 ∷ front)) → ((read : List ℕ) → bytes ≡ read ++ rest' → front ≡ read) → rest' ≡ rest → bytes ≡ ended (header_lines (setup_with h [])) ++ rest → s ≡ relay_of h
-made h bytes front rest rest' s e front_is same text =
-    e ∙ ap (λ (t : List ℕ). setup_with h (sha256 (67 ∷ t))) (front_is (ended (header_lines (setup_with h []))) (text ∙ ap (λ (t : List ℕ). ended (header_lines (setup_with h [])) ++ t) (sym same)))
+pub made : (vs bytes front rest rest' : List ℕ) (s : Setup) → AreValues header_fields [] vs → s ≡ setup_with vs (sha256 (67 ∷ front)) → ((read : List ℕ) → bytes ≡ read ++ rest' → front ≡ read) → rest' ≡ rest → bytes ≡ ended (lines_of header_fields vs) ++ rest → s ≡ setup_made vs
+made vs bytes front rest rest' s ok e front_is same text =
+    e ∙ ap (λ (t : List ℕ). setup_with vs (sha256 (67 ∷ t))) (front_is (ended (lines_of header_fields vs)) (text ∙ ap (λ (t : List ℕ). ended (lines_of header_fields vs) ++ t) (sym same)))
+    ∙ ap (λ (z : List ℕ). setup_with vs (sha256 (67 ∷ ended (lines_of header_fields z)))) (sym (values_back vs [] (are_read vs ok)))
 
-pub relay_made : (h : Header) (s : Setup) → IsHeaderInRange h → s ≡ relay_of h → IsRelay s
-relay_made h s ok e = subst IsRelay (sym e) (relay_header h ok)
+pub known_made : (vs : List ℕ) (s : Setup) → AreValues header_fields [] vs → s ≡ setup_made vs → IsKnown s
+known_made vs s ok e = subst IsKnown (sym e) (known_read vs (are_read vs ok))
 
-pub text_made : (h : Header) (s : Setup) (bytes rest : List ℕ) → s ≡ relay_of h → bytes ≡ ended (header_lines (setup_with h [])) ++ rest → bytes ≡ ended (header_lines s) ++ rest
-text_made h s bytes rest e text = subst (λ (x : Setup). bytes ≡ ended (header_lines x) ++ rest) (sym e) text
+pub text_made : (vs : List ℕ) (s : Setup) (bytes rest : List ℕ) → AreValues header_fields [] vs → s ≡ setup_made vs → bytes ≡ ended (lines_of header_fields vs) ++ rest → bytes ≡ ended (header_lines s) ++ rest
+text_made vs s bytes rest ok e text =
+    subst (λ (x : Setup). bytes ≡ ended (header_lines x) ++ rest) (sym e)
+    (text ∙ ap (λ (z : List ℕ). ended (lines_of header_fields z) ++ rest) (sym (values_back vs (cluster_tag (setup_with vs [])) (are_read vs ok))))
 
 -- a header and events that were read are a schedule
-pub schedule_read : (s : Setup) (es : List Event) (bytes rest : List ℕ) → IsRelay s → bytes ≡ ended (header_lines s) ++ rest → rest ≡ ended (map spell_event es) → AreInRange s es → length es ≤ most_events → length bytes ≤ most_bytes → IsSchedule bytes (record { setup = s; events = es })
-schedule_read s es bytes rest relay text events range few short = record {
+pub schedule_read : (s : Setup) (es : List Event) (bytes rest : List ℕ) → IsKnown s → bytes ≡ ended (header_lines s) ++ rest → rest ≡ ended (map spell_event es) → AreInRange s es → length es ≤ most_events → length bytes ≤ most_bytes → IsSchedule bytes (record { setup = s; events = es })
+schedule_read s es bytes rest known text events range few short = record {
   text = text ∙ ap (λ (t : List ℕ). ended (header_lines s) ++ t) events ∙ sym (ended-append (header_lines s) (map spell_event es));
-  fine = record { setup = relay; events = range; few = few };
+  fine = record { setup = known; events = range; few = few };
   short = short;
 }

@@ -1,32 +1,24 @@
 -- A text is that of one schedule.
-use Rattle.std.proofs.Common.{◌≡◌, ℕ, ◌+◌, ◌*◌, ◌^◌, ◌<◌, ◌≤◌, List, [], ◌∷◌, ◌++◌, length, take, drop, map, get_or, false, cond, eqb, Some, Result, codes, decimal, refl, sym, ap, subst, ◌∙◌, arith, append_assoc}
+use Rattle.std.proofs.Common.{◌≡◌, ℕ, ◌+◌, ◌*◌, ◌^◌, ◌<◌, ◌≤◌, List, [], ◌∷◌, ◌++◌, length, take, drop, map, get_or, false, cond, eqb, Result, decimal, refl, sym, ap, subst, ◌∙◌, arith, append_assoc}
 use Rattle.std.proofs.Math.Pow.{pow_mono}
 use Rattle.std.specs.Result.{result_unwrap_or}
 use Rattle.std.specs.Str.Parse.{digits_value}
 use Rattle.std.proofs.lemmas.Fmt.{decimal_is_IsNumeral}
-use Rattle.sha2.specs.Sha256.{sha256}
 use Rattle.hex.specs.Hex.{IsBytes, decode_of, encode_with, lower_digits}
 use Rattle.hex.specs.declared.error.FromHexError.{FromHexError}
 use Rattle.hex.proofs.HexLemmas.{decode_of-encode_lower, length-encode_with}
-use Rattle.iss_base.specs.Lists.{nth}
-use Rattle.iss_request.specs.Setup.{IsGoodSetup, IsFewFaulty}
-use Rattle.iss_request.specs.declared.ids.NodeId.{NodeId}
-use Rattle.iss_request.specs.declared.setups.Kind.{Kind}
-use Rattle.iss_request.specs.declared.setups.Kind.TheVariants.{Stopping}
-use Rattle.iss_request.specs.declared.setups.Policy.{Policy}
-use Rattle.iss_request.specs.declared.setups.Policy.TheVariants.{Simple}
+use Rattle.iss_request.specs.Setup.{IsGoodSetup}
 use Rattle.iss_request.specs.declared.setups.Setup.{Setup}
 use Rattle.iss_schedule.specs.declared.schedules.Event.{Event}
 use Rattle.iss_schedule.specs.declared.schedules.Event.TheVariants.{Request, Propose, Timeout, Deliver, Lose, Pump, Calm, Hold, Free, Drop, Bytes}
 use Rattle.iss_schedule.specs.declared.schedules.Schedule.{Schedule}
 use Rattle.iss_schedule.specs.Events.{event_words, spell_event, IsInRange, AreInRange}
-use Rattle.iss_schedule.specs.Schedules.{field, header_lines, schedule_lines, IsRelay, IsFine, IsSchedule}
+use Rattle.iss_schedule.specs.Schedules.{header_lines, schedule_lines, IsFine, IsSchedule}
 use Rattle.iss_schedule.specs.Words.{word_of, ended}
 use Rattle.iss_schedule.proofs.Blanks.{event_spelled}
-use Rattle.iss_schedule.proofs.Forming.{whole_lines, Meets, Same, Left, Right, meets, setup_fits}
-use Rattle.iss_schedule.proofs.Fronts.{three_nodes}
+use Rattle.iss_schedule.proofs.Forming.{whole_lines, Meets, Same, Left, Right, meets}
 use Rattle.iss_schedule.proofs.OneLine.{nonempty, nothing}
-use Rattle.iss_schedule.proofs.Refusals.{field_same, some_same}
+use Rattle.iss_schedule.proofs.Table.{same_setup}
 
 -- ---- events back from their words
 
@@ -104,66 +96,6 @@ events_same s (x ∷ xs) (f ∷ fs) good r q e =
     let tails : map spell_event xs ≡ map spell_event fs = cc in
     ap (λ (t : List Event). x ∷ t) (events_same s xs fs good r.1 q.1 tails) ∙ ap (λ (y : Event). y ∷ fs) (spell_same s x f good r.0 q.0 heads)
 
--- ---- set-ups
-
-parts : (v m f e b ba w : ℕ) → Policy → (c k : ℕ) → List NodeId → (n q : ℕ) → Kind → List ℕ → Setup
-parts v m f e b ba w p c k faulty n q kind tag = record {
-  version = v;
-  «module» = m;
-  f = f;
-  epoch = e;
-  buckets = b;
-  batch = ba;
-  window = w;
-  policy = p;
-  clients = c;
-  keys = k;
-  faulty = faulty;
-  n = n;
-  quorum = q;
-  kind = kind;
-  tag = tag;
-}
-
-none_faulty : (s : Setup) → s.kind ≡ Stopping → IsFewFaulty s.kind s.f s.faulty → s.faulty ≡ []
-none_faulty s e h = subst (λ (k : Kind). IsFewFaulty k s.f s.faulty) e h
-
-two_decide : (s : Setup) → IsRelay s → s.quorum ≡ 2
-two_decide s r = let e = r.good.majority in let m = r.relay in grind (arith)
-
--- the set-up of a relay is given by seven numbers and its tag
-relay_parts : (s : Setup) → IsRelay s → s ≡ parts 1 1 s.f s.epoch s.buckets s.batch s.window Simple s.clients s.keys [] 3 2 Stopping s.tag
-unfolding parts
-relay_parts s r =
-    let kind = r.good.relay_kind r.relay in
-    ap (λ v. parts v s.module s.f s.epoch s.buckets s.batch s.window s.policy s.clients s.keys s.faulty s.n s.quorum s.kind s.tag) r.good.version
-    ∙ ap (λ x. parts 1 x s.f s.epoch s.buckets s.batch s.window s.policy s.clients s.keys s.faulty s.n s.quorum s.kind s.tag) r.relay
-    ∙ ap (λ (x : Policy). parts 1 1 s.f s.epoch s.buckets s.batch s.window x s.clients s.keys s.faulty s.n s.quorum s.kind s.tag) r.good.simple
-    ∙ ap (λ (x : List NodeId). parts 1 1 s.f s.epoch s.buckets s.batch s.window Simple s.clients s.keys x s.n s.quorum s.kind s.tag) (none_faulty s kind r.good.few_faulty)
-    ∙ ap (λ x. parts 1 1 s.f s.epoch s.buckets s.batch s.window Simple s.clients s.keys [] x s.quorum s.kind s.tag) (three_nodes s r)
-    ∙ ap (λ x. parts 1 1 s.f s.epoch s.buckets s.batch s.window Simple s.clients s.keys [] 3 x s.kind s.tag) (two_decide s r)
-    ∙ ap (λ (x : Kind). parts 1 1 s.f s.epoch s.buckets s.batch s.window Simple s.clients s.keys [] 3 2 x s.tag) kind
-
-field_at : (s t : Setup) (k : ℕ) (name : List ℕ) (m n : ℕ) → header_lines s ≡ header_lines t → nth (header_lines s) k ≡ Some (field name m) → nth (header_lines t) k ≡ Some (field name n) → m < 2 ^ 64 → n < 2 ^ 64 → m ≡ n
-field_at s t k name m n e a b fits fits' = field_same name m n fits fits' (some_same (field name m) (field name n) (sym a ∙ ap (λ (ls : List (List ℕ)). nth ls k) e ∙ b))
-
-setups_same : (s t : Setup) → IsRelay s → IsRelay t → header_lines s ≡ header_lines t → s ≡ t
-unfolding parts
-setups_same s t r q e =
-    let x = setup_fits s r.good in
-    let y = setup_fits t q.good in
-    let tags : s.tag ≡ t.tag = r.tag ∙ ap (λ (ls : List (List ℕ)). sha256 (67 ∷ ended ls)) e ∙ sym q.tag in
-    relay_parts s r
-    ∙ ap (λ z. parts 1 1 z s.epoch s.buckets s.batch s.window Simple s.clients s.keys [] 3 2 Stopping s.tag) (field_at s t 2 (codes "f") s.f t.f e refl refl x.f y.f)
-    ∙ ap (λ z. parts 1 1 t.f z s.buckets s.batch s.window Simple s.clients s.keys [] 3 2 Stopping s.tag) (field_at s t 3 (codes "epoch") s.epoch t.epoch e refl refl x.epoch y.epoch)
-    ∙ ap (λ z. parts 1 1 t.f t.epoch z s.batch s.window Simple s.clients s.keys [] 3 2 Stopping s.tag) (field_at s t 4 (codes "buckets") s.buckets t.buckets e refl refl x.buckets y.buckets)
-    ∙ ap (λ z. parts 1 1 t.f t.epoch t.buckets z s.window Simple s.clients s.keys [] 3 2 Stopping s.tag) (field_at s t 5 (codes "batch") s.batch t.batch e refl refl x.batch y.batch)
-    ∙ ap (λ z. parts 1 1 t.f t.epoch t.buckets t.batch z Simple s.clients s.keys [] 3 2 Stopping s.tag) (field_at s t 6 (codes "window") s.window t.window e refl refl x.window y.window)
-    ∙ ap (λ z. parts 1 1 t.f t.epoch t.buckets t.batch t.window Simple z s.keys [] 3 2 Stopping s.tag) (field_at s t 8 (codes "clients") s.clients t.clients e refl refl x.clients y.clients)
-    ∙ ap (λ z. parts 1 1 t.f t.epoch t.buckets t.batch t.window Simple t.clients z [] 3 2 Stopping s.tag) (field_at s t 9 (codes "keys") s.keys t.keys e refl refl x.keys y.keys)
-    ∙ ap (λ (z : List ℕ). parts 1 1 t.f t.epoch t.buckets t.batch t.window Simple t.clients t.keys [] 3 2 Stopping z) tags
-    ∙ sym (relay_parts t q)
-
 -- ---- schedules
 
 same_lines : (xs ys : List (List ℕ)) → Meets xs ys [] [] → xs ≡ ys
@@ -175,7 +107,7 @@ schedules_same : (s t : Schedule) → IsFine s → IsFine t → schedule_lines s
 schedules_same s t x y e =
     let header : header_lines s.setup ≡ header_lines t.setup = ap (λ (ls : List (List ℕ)). take 11 ls) e in
     let events : map spell_event s.events ≡ map spell_event t.events = ap (λ (ls : List (List ℕ)). drop 11 ls) e in
-    let setup = setups_same s.setup t.setup x.setup y.setup header in
+    let setup = same_setup s.setup t.setup x.setup y.setup header in
     let range : AreInRange s.setup t.events = subst (λ (u : Setup). AreInRange u t.events) (sym setup) y.events in
     both s.setup t.setup s.events t.events setup (events_same s.setup s.events t.events x.setup.good x.events range events)
   where

@@ -3,7 +3,7 @@ use Rattle.std.proofs.Common.{◌≡◌, ℕ, ◌+◌, ◌<◌, ◌≤◌, List,
 use Rattle.std.proofs.lemmas.List.{take_more, take_all}
 use Rattle.iss_schedule.specs.declared.schedules.Event.{Event}
 use Rattle.iss_schedule.specs.Events.{spell_event}
-use Rattle.iss_schedule.specs.Schedules.{field}
+use Rattle.iss_schedule.specs.Headers.{field}
 use Rattle.iss_schedule.specs.Words.{ended}
 use Rattle.iss_schedule.proofs.Fronts.{ended-append, map_push}
 

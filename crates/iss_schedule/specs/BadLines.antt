@@ -1,11 +1,13 @@
 -- The first bad line of a text, and what is wrong with it.
-use Rattle.std.specs.Prelude.{◌≡◌, ◌≢◌, ◌⊎◌, ◌<◌, ◌≤◌, ◌+◌, ℕ, suc, List, [], ◌∷◌, ◌++◌, length, take}
+use Rattle.std.specs.Prelude.{◌≡◌, ◌≢◌, ◌⊎◌, ◌<◌, ◌≤◌, ◌+◌, ℕ, suc, List, [], ◌∷◌, ◌++◌, length, take, Some}
+use Rattle.iss_base.specs.Lists.{nth}
 use Rattle.iss_schedule.specs.declared.errors.Why.{Why}
 use Rattle.iss_schedule.specs.declared.errors.Why.TheVariants.{Cut, Form, Faulty, Injected, Range, Size}
 use Rattle.iss_schedule.specs.declared.errors.ReadError.{ReadError}
 use Rattle.iss_schedule.specs.declared.errors.ReadError.TheVariants.{BadLine, NoMemory}
 use Rattle.iss_schedule.specs.declared.schedules.Schedule.{Schedule}
 use Rattle.iss_schedule.specs.Forms.{HasForm, IsInjection, NamesFaulty}
+use Rattle.iss_schedule.specs.Headers.{FaultyNodes, header_fields}
 use Rattle.iss_schedule.specs.Schedules.{IsFine, IsSchedule, schedule_lines, most_bytes, most_events}
 use Rattle.iss_schedule.specs.Words.{Lacks, ended}
 
@@ -21,9 +23,9 @@ pub record IsNext (line rest : List ℕ) : Type 0 where
   pub text : rest ≡ line ++ 10 ∷ more
   pub whole : Lacks 10 line
 
--- line 11 names faulty nodes; an event gives bytes to a core
+-- the line for faulty nodes names some; an event gives bytes to a core
 abbrev pub IsFaulty : List (List ℕ) → List ℕ → Type 0
-IsFaulty front line = (length front ≡ 10) × NamesFaulty line
+IsFaulty front line = (nth header_fields (length front) ≡ Some FaultyNodes) × NamesFaulty line
 
 abbrev pub IsInjected : List (List ℕ) → List ℕ → Type 0
 IsInjected front line = (11 ≤ length front) × IsInjection line

@@ -1,11 +1,12 @@
 -- How each line is spelled, whatever the size of its numbers.
-use Rattle.std.specs.Prelude.{◌≡◌, ◌⊎◌, ℕ, zero, suc, Bool, true, false, Option, Some, None, List, [], ◌∷◌, ◌++◌, codes}
+use Rattle.std.specs.Prelude.{◌≡◌, ◌⊎◌, ◌<◌, ℕ, zero, suc, Bool, true, false, Option, Some, None, List, [], ◌∷◌, ◌++◌, length, get_or, codes}
 use Rattle.hex.specs.Hex.{IsBytes}
 use Rattle.iss_base.specs.Lists.{nth}
 use Rattle.iss_schedule.specs.declared.errors.Why.{Why}
 use Rattle.iss_schedule.specs.declared.errors.Why.TheVariants.{Cut, Form, Faulty, Injected, Range, Size}
 use Rattle.iss_schedule.specs.declared.names.Name.{Name}
 use Rattle.iss_schedule.specs.declared.names.Name.TheVariants.{Request, Propose, Timeout, Deliver, Lose, Pump, Calm, Hold, Free, Drop, Bytes}
+use Rattle.iss_schedule.specs.Headers.{HeaderField, OneOf, Number, FaultyNodes, header_fields}
 use Rattle.iss_schedule.specs.Names.{text_of_name}
 use Rattle.iss_schedule.specs.Words.{words_of, word_of, IsNumber}
 
@@ -84,23 +85,13 @@ pub record NamesFaulty (line : List ℕ) : Type 0 where
   pub words : words_of line ≡ codes "faulty" ∷ first ∷ others
   pub numbers : AreNumbers (first ∷ others)
 
--- a line of a header is a text that stands fast, a field, or the line of faulty nodes
-pub data HeaderForm : Type 0 where
-  Fixed : (text : List ℕ) → HeaderForm
-  Field : (name : List ℕ) → HeaderForm
-  FaultyNodes : HeaderForm
-
-abbrev pub header_forms : List HeaderForm
-header_forms =
-    Fixed (codes "iss 1") ∷ Fixed (codes "module relay") ∷ Field (codes "f") ∷ Field (codes "epoch") ∷ Field (codes "buckets") ∷ Field (codes "batch")
-    ∷ Field (codes "window") ∷ Fixed (codes "policy simple") ∷ Field (codes "clients") ∷ Field (codes "keys") ∷ FaultyNodes ∷ []
-
--- the line at a place is spelled as that place asks; places count from 0, and behind the header stand events
-abbrev pub IsFormed : Option HeaderForm → List ℕ → Type 0
+-- the line is spelled as its field asks, whatever the size of its number; behind the header stand events
+abbrev pub IsFormed : Option HeaderField → List ℕ → Type 0
 IsFormed None line = IsEventLine line
-IsFormed (Some (Fixed text)) line = line ≡ text
-IsFormed (Some (Field name)) line = IsField name line
+IsFormed (Some (OneOf texts)) line = (v : ℕ) × ((v < length texts) × (line ≡ get_or texts v []))
+IsFormed (Some (Number name low end)) line = IsField name line
 IsFormed (Some FaultyNodes) line = (line ≡ codes "faulty none") ⊎ NamesFaulty line
 
+-- the line at a place is spelled as that place asks; places count from 0
 abbrev pub HasForm : ℕ → List ℕ → Type 0
-HasForm place line = IsFormed (nth header_forms place) line
+HasForm place line = IsFormed (nth header_fields place) line

@@ -1,36 +1,148 @@
--- The set-up that the numbers of a header give.
-use Rattle.std.specs.Prelude.{ℕ, List, []}
+-- The header: a table of its lines, and the set-up that their values give. A field, a module or a policy is one line more.
+use Rattle.std.specs.Prelude.{◌≡◌, ◌<◌, ◌==◌, ℕ, suc, List, [], ◌∷◌, ◌++◌, length, get_or, codes, if◌then◌else◌, decimal}
+use Rattle.iss_request.specs.Setup.{node_count, quorum_count}
+use Rattle.iss_request.specs.declared.setups.Kind.{Kind}
 use Rattle.iss_request.specs.declared.setups.Kind.TheVariants.{Stopping}
-use Rattle.iss_request.specs.declared.setups.Policy.TheVariants.{Simple}
+use Rattle.iss_request.specs.declared.setups.Policy.{Policy}
+use Rattle.iss_request.specs.declared.setups.Policy.TheVariants.{Simple, Backoff, Blacklist}
 use Rattle.iss_request.specs.declared.setups.Setup.{Setup}
-use Rattle.iss_schedule.specs.declared.header.Header.{Header}
 use Rattle.iss_schedule.specs.Reads.{IsWithin}
 
--- the first version, and three nodes that do not fail, of which two decide
-abbrev pub setup_with : Header → List ℕ → Setup
-setup_with h tag = record {
-  version = 1;
-  «module» = 1;
-  f = 0;
-  epoch = h.epoch;
-  buckets = h.buckets;
-  batch = h.batch;
-  window = h.window;
-  policy = Simple;
-  clients = h.clients;
-  keys = h.keys;
-  faulty = [];
-  n = 3;
-  quorum = 2;
-  kind = Stopping;
-  tag = tag;
-}
+-- ---- modules and policies
 
--- the ranges of the numbers of a header
-pub record IsHeaderInRange (h : Header) : Type 0 where
-  pub epoch : IsWithin 3 65 h.epoch
-  pub buckets : IsWithin 1 257 h.buckets
-  pub batch : IsWithin 1 33 h.batch
-  pub window : IsWithin 1 65 h.window
-  pub clients : IsWithin 1 257 h.clients
-  pub keys : IsWithin 2 13 h.keys
+-- a module that has a word: its line, its number, what it withstands, and how many faults are too many for it
+pub record ModuleRow : Type 0 where
+  pub line : List ℕ
+  pub number : ℕ
+  pub kind : Kind
+  pub too_many : ℕ
+
+abbrev pub relay_row : ModuleRow
+relay_row = record { line = codes "module relay"; number = 1; kind = Stopping; too_many = 1 }
+
+abbrev pub raft_row : ModuleRow
+raft_row = record { line = codes "module raft"; number = 2; kind = Stopping; too_many = 4 }
+
+abbrev pub module_rows : List ModuleRow
+module_rows = relay_row ∷ raft_row ∷ []
+
+abbrev pub lines_of_rows : List ModuleRow → List (List ℕ)
+lines_of_rows [] = []
+lines_of_rows (r ∷ rs) = r.line ∷ lines_of_rows rs
+
+-- the place of the module of this number, and the module of a place
+abbrev pub place_among : ℕ → List ModuleRow → ℕ
+place_among number [] = 0
+place_among number (r ∷ rs) = if r.number == number then 0 else suc (place_among number rs)
+
+abbrev pub row_at : ℕ → ModuleRow
+row_at place = get_or module_rows place relay_row
+
+-- the policies in the order of their lines
+abbrev pub policy_lines : List (List ℕ)
+policy_lines = codes "policy simple" ∷ codes "policy backoff" ∷ codes "policy blacklist" ∷ []
+
+abbrev pub place_of_policy : Policy → ℕ
+place_of_policy Simple = 0
+place_of_policy Backoff = 1
+place_of_policy Blacklist = 2
+
+abbrev pub policy_at : ℕ → Policy
+policy_at place = get_or (Simple ∷ Backoff ∷ Blacklist ∷ []) place Simple
+
+-- ---- values
+
+-- the value of the line of this number, from 0
+abbrev pub value : List ℕ → ℕ → ℕ
+value values k = get_or values k 0
+
+-- the set-up that the values of all lines give, with this module and tag; its nodes are counted as its kind asks
+abbrev pub counted : Setup → Setup
+counted s = record s { n = node_count s; quorum = quorum_count s }
+
+abbrev pub setup_of_row : ModuleRow → List ℕ → List ℕ → Setup
+setup_of_row row values tag = counted (record {
+  version = 1;
+  «module» = row.number;
+  f = value values 2;
+  epoch = value values 3;
+  buckets = value values 4;
+  batch = value values 5;
+  window = value values 6;
+  policy = policy_at (value values 7);
+  clients = value values 8;
+  keys = value values 9;
+  faulty = [];
+  n = 0;
+  quorum = 0;
+  kind = row.kind;
+  tag = tag;
+})
+
+abbrev pub setup_with : List ℕ → List ℕ → Setup
+setup_with values tag = setup_of_row (row_at (value values 1)) values tag
+
+-- and the values of a set-up
+abbrev pub values_of : Setup → List ℕ
+values_of s =
+    0 ∷ place_among s.module module_rows ∷ s.f ∷ s.epoch ∷ s.buckets ∷ s.batch ∷ s.window ∷ place_of_policy s.policy ∷ s.clients ∷ s.keys ∷ 0 ∷ []
+
+-- ---- lines
+
+-- a line of a header is one of some texts, whose value is its place among them, or a name and a number, from the first
+-- bound on and below the second, which may hang on the values above; the last names the faulty nodes, of whom a module
+-- that only stops has none
+pub data HeaderField : Type 0 where
+  OneOf : (texts : List (List ℕ)) → HeaderField
+  Number : (name : List ℕ) → (low end : List ℕ → ℕ) → HeaderField
+  FaultyNodes : HeaderField
+
+-- an epoch has a slot for each node
+abbrev pub header_fields : List HeaderField
+header_fields =
+    OneOf (codes "iss 1" ∷ [])
+    ∷ OneOf (lines_of_rows module_rows)
+    ∷ Number (codes "f") (λ above. 0) (λ above. (row_at (value above 1)).too_many)
+    ∷ Number (codes "epoch") (λ above. (setup_with above []).n) (λ above. 65)
+    ∷ Number (codes "buckets") (λ above. 1) (λ above. 257)
+    ∷ Number (codes "batch") (λ above. 1) (λ above. 33)
+    ∷ Number (codes "window") (λ above. 1) (λ above. 65)
+    ∷ OneOf policy_lines
+    ∷ Number (codes "clients") (λ above. 1) (λ above. 257)
+    ∷ Number (codes "keys") (λ above. 2) (λ above. 13)
+    ∷ FaultyNodes
+    ∷ []
+
+-- a name and a number
+abbrev pub field : List ℕ → ℕ → List ℕ
+field name n = name ++ 32 ∷ decimal n
+
+-- how a value is spelled, and whether it is in range behind the values above
+abbrev pub spell_value : HeaderField → ℕ → List ℕ
+spell_value (OneOf texts) v = get_or texts v []
+spell_value (Number name low end) v = field name v
+spell_value FaultyNodes v = codes "faulty none"
+
+abbrev pub IsValue : HeaderField → List ℕ → ℕ → Type 0
+IsValue (OneOf texts) above v = v < length texts
+IsValue (Number name low end) above v = IsWithin (low above) (end above) v
+IsValue FaultyNodes above v = v ≡ 0
+
+-- a line that spells a value in range
+abbrev pub IsGoodLine : HeaderField → List ℕ → List ℕ → Type 0
+IsGoodLine f above line = (v : ℕ) × (IsValue f above v × (line ≡ spell_value f v))
+
+-- a value in range for each field
+abbrev pub AreValues : List HeaderField → List ℕ → List ℕ → Type 0
+AreValues [] above vs = vs ≡ []
+AreValues (f ∷ fs) above [] = ⊥
+AreValues (f ∷ fs) above (v ∷ vs) = IsValue f above v × AreValues fs (above ++ v ∷ []) vs
+
+abbrev pub lines_of : List HeaderField → List ℕ → List (List ℕ)
+lines_of [] vs = []
+lines_of (f ∷ fs) [] = []
+lines_of (f ∷ fs) (v ∷ vs) = spell_value f v ∷ lines_of fs vs
+
+-- the field that stands below so many values
+abbrev pub next_field : List ℕ → HeaderField
+next_field above = get_or header_fields (length above) FaultyNodes

@@ -1,5 +1,5 @@
 -- Where a reader stands in the lines of a text.
-use Rattle.std.specs.Prelude.{◌≡◌, ◌≢◌, ◌⊎◌, ◌<◌, ◌≤◌, ◌+◌, ℕ, List, [], ◌∷◌, ◌++◌, codes, length, map}
+use Rattle.std.specs.Prelude.{◌≡◌, ◌≢◌, ◌⊎◌, ◌<◌, ◌≤◌, ◌+◌, ℕ, List, [], ◌∷◌, ◌++◌, length, map, Some, Result, Ok, Err}
 use Rattle.iss_request.specs.declared.setups.Setup.{Setup}
 use Rattle.iss_schedule.specs.declared.errors.ReadError.{ReadError}
 use Rattle.iss_schedule.specs.declared.errors.ReadError.TheVariants.{BadLine, NoMemory}
@@ -7,10 +7,10 @@ use Rattle.iss_schedule.specs.declared.schedules.Event.{Event}
 use Rattle.iss_schedule.specs.declared.errors.Why.{Why}
 use Rattle.iss_schedule.specs.declared.errors.Why.TheVariants.{Cut, Form, Faulty, Injected, Range, Size}
 use Rattle.iss_schedule.specs.BadLines.{IsNext}
-use Rattle.iss_schedule.specs.Forms.{NamesFaulty, IsEventFault}
+use Rattle.iss_schedule.specs.Forms.{IsFormed, NamesFaulty, IsEventFault}
+use Rattle.iss_schedule.specs.Headers.{HeaderField, OneOf, Number, FaultyNodes, spell_value, IsValue, IsGoodLine}
 use Rattle.iss_schedule.specs.Events.{spell_event, IsInRange, AreInRange}
-use Rattle.iss_schedule.specs.Reads.{IsWithin}
-use Rattle.iss_schedule.specs.Schedules.{field, most_events}
+use Rattle.iss_schedule.specs.Schedules.{most_events}
 use Rattle.iss_schedule.specs.Words.{Lacks, ended}
 
 -- what is still to be read, and how many lines were looked at
@@ -32,18 +32,24 @@ IsLineFault IsFormed IsGood rest Faulty = ⊥
 IsLineFault IsFormed IsGood rest Injected = ⊥
 IsLineFault IsFormed IsGood rest Size = ⊥
 
--- a name and a number in range
-abbrev pub IsFieldWithin : List ℕ → ℕ → ℕ → List ℕ → Type 0
-IsFieldWithin name low end line = (n : ℕ) × (IsWithin low end n × (line ≡ field name n))
-
--- the header's last line does not say that no node is faulty
+-- the line that should have named the faulty nodes names some, or is spelled otherwise
 abbrev pub IsFaultyLineFault : List ℕ → Why → Type 0
 IsFaultyLineFault rest Cut = Lacks 10 rest
-IsFaultyLineFault rest Form = (line : List ℕ) × (IsNext line rest × ¬ ((line ≡ codes "faulty none") ⊎ NamesFaulty line))
+IsFaultyLineFault rest Form = (line : List ℕ) × (IsNext line rest × ¬ IsFormed (Some FaultyNodes) line)
 IsFaultyLineFault rest Faulty = (line : List ℕ) × (IsNext line rest × NamesFaulty line)
 IsFaultyLineFault rest Injected = ⊥
 IsFaultyLineFault rest Range = ⊥
 IsFaultyLineFault rest Size = ⊥
+
+abbrev pub IsFieldFault : HeaderField → List ℕ → List ℕ → Why → Type 0
+IsFieldFault (OneOf texts) above rest why = IsLineFault (IsFormed (Some (OneOf texts))) (IsGoodLine (OneOf texts) above) rest why
+IsFieldFault (Number name low end) above rest why = IsLineFault (IsFormed (Some (Number name low end))) (IsGoodLine (Number name low end) above) rest why
+IsFieldFault FaultyNodes above rest why = IsFaultyLineFault rest why
+
+-- the reader went past a line that spells a value in range of the field, or says what is wrong with the line
+abbrev pub ReadsField : HeaderField → List ℕ → Place → Place → Result ℕ Why → Type 0
+ReadsField f above old new (Ok v) = GoesPast (spell_value f v) old new × IsValue f above v
+ReadsField f above old new (Err why) = IsFieldFault f above old.rest why
 
 -- the next line is no event in range: it is not whole, or it has a fault and no event in range is spelled so
 abbrev pub IsEventBad : Setup → List ℕ → Why → Type 0

@@ -1,23 +1,17 @@
 -- Schedules and their texts.
-use Rattle.std.specs.Prelude.{◌≡◌, ◌≤◌, ℕ, List, [], ◌∷◌, ◌++◌, length, map, codes, decimal}
+use Rattle.std.specs.Prelude.{◌≡◌, ◌⊎◌, ◌≤◌, ℕ, List, ◌∷◌, ◌++◌, length, map}
 use Rattle.sha2.specs.Sha256.{sha256}
 use Rattle.iss_request.specs.Setup.{IsGoodSetup}
+use Rattle.iss_request.specs.declared.setups.Kind.TheVariants.{Stopping}
 use Rattle.iss_request.specs.declared.setups.Setup.{Setup}
 use Rattle.iss_schedule.specs.declared.schedules.Schedule.{Schedule}
 use Rattle.iss_schedule.specs.Events.{spell_event, AreInRange}
+use Rattle.iss_schedule.specs.Headers.{header_fields, lines_of, raft_row, relay_row, values_of}
 use Rattle.iss_schedule.specs.Words.{ended}
 
--- a name and a number
-abbrev pub field : List ℕ → ℕ → List ℕ
-field name n = name ++ 32 ∷ decimal n
-
--- the eleven lines of a header: the relay is the only module so far, the simple policy the only policy, and the relay
--- has no faulty nodes
+-- the eleven lines of a header; a module that has no word yet has an empty line
 abbrev pub header_lines : Setup → List (List ℕ)
-header_lines s =
-    codes "iss 1" ∷ codes "module relay" ∷ field (codes "f") s.f ∷ field (codes "epoch") s.epoch ∷ field (codes "buckets") s.buckets
-    ∷ field (codes "batch") s.batch ∷ field (codes "window") s.window ∷ codes "policy simple" ∷ field (codes "clients") s.clients
-    ∷ field (codes "keys") s.keys ∷ codes "faulty none" ∷ []
+header_lines s = lines_of header_fields (values_of s)
 
 -- the tag of a cluster is the digest of a letter C and its header
 abbrev pub cluster_tag : Setup → List ℕ
@@ -37,15 +31,16 @@ most_bytes = 16777216
 abbrev pub most_events : ℕ
 most_events = 1048576
 
--- the set-up is that of a relay, and its tag its own
-pub record IsRelay (s : Setup) : Type 0 where
+-- the set-up is that of a module that has a word, the relay or Raft, whose nodes only stop, and its tag its own
+pub record IsKnown (s : Setup) : Type 0 where
   pub good : IsGoodSetup s
-  pub relay : s.module ≡ 1
+  pub known : (s.module ≡ relay_row.number) ⊎ (s.module ≡ raft_row.number)
+  pub stops : s.kind ≡ Stopping
   pub tag : s.tag ≡ cluster_tag s
 
 -- a schedule in range
 pub record IsFine (s : Schedule) : Type 0 where
-  pub setup : IsRelay s.setup
+  pub setup : IsKnown s.setup
   pub events : AreInRange s.setup s.events
   pub few : length s.events ≤ most_events
 

@@ -1,12 +1,10 @@
 //! The header of a schedule.
-ghost use Rattle.std.specs.Prelude.{◌≡◌, ◌≢◌, ◌↔◌, ◌<◌, ◌+◌, [], ◌∷◌, ◌++◌, ℕ, List, IsTrue, IfOk, IfErr, IfSome, IfNone, OnOk, codes};
+ghost use Rattle.std.specs.Prelude.{◌≡◌, ◌≢◌, ◌↔◌, ◌<◌, ◌+◌, [], ◌∷◌, ◌++◌, ℕ, List, length, IsTrue, IfOk, IfErr, IfSome, IfNone, OnOk};
 ghost use Rattle.sha2.specs.Sha256.{sha256};
 ghost use Rattle.iss_schedule.specs.BadLines.{IsFirstBad};
-ghost use Rattle.iss_schedule.specs.Forms.{IsField, AreNumbers, NamesFaulty};
-ghost use Rattle.iss_schedule.specs.Headers.{setup_with, IsHeaderInRange};
-ghost use Rattle.iss_schedule.specs.Places.{GoesPast, IsLineFault, IsFieldWithin, IsFaultyLineFault};
-ghost use Rattle.iss_schedule.specs.Reads.{IsWithin};
-ghost use Rattle.iss_schedule.specs.Schedules.{field, header_lines};
+ghost use Rattle.iss_schedule.specs.Forms.{AreNumbers, NamesFaulty};
+ghost use Rattle.iss_schedule.specs.Headers.{OneOf, Number, FaultyNodes, AreValues, header_fields, lines_of, lines_of_rows, module_rows, next_field, policy_at, policy_lines, row_at, setup_with, value};
+ghost use Rattle.iss_schedule.specs.Places.{ReadsField};
 ghost use Rattle.iss_schedule.specs.Words.{Lacks, ended};
 
 use crate::errors::Why;
@@ -18,27 +16,96 @@ use iss_request::versions::FIRST;
 use sha2::{Digest, Sha256};
 use std::alloc::Global;
 
-/// The numbers of a header.
-#[derive(Clone, Copy, Debug)]
-pub struct Header {
-    pub epoch: u32,
-    pub buckets: u32,
-    pub batch: u32,
-    pub window: u32,
-    pub clients: u32,
-    pub keys: u32,
-}
+/// How many lines a header has.
+pub const LINES: usize = 11;
 
-// Goes past a line that has to be this text.
-fn expect(lines: &mut Lines, text: &[u8]) -> Result<(), Why>
+// Goes past a line that has to be this text, the only one of its field.
+fn expect(lines: &mut Lines, text: &[u8]) -> Result<u32, Why>
     requires { lines.old.read < 11 }
     ensures read { lines.new.read ≡ lines.old.read + 1 }
-    ensures ok { OnOk result (GoesPast text.now lines.old lines.new) }
-    ensures bad { IfErr result (IsLineFault (λ line. line ≡ text.now) (λ line. line ≡ text.now) lines.old.rest) }
+    ensures reads { (above : List ℕ) → ReadsField (OneOf (text.now ∷ [])) above lines.old lines.new result }
 {
     let line = lines.next()?;
     if is_same(line, text) {
-        Ok(())
+        Ok(0)
+    } else {
+        Err(Why::Form)
+    }
+}
+
+// Goes past a line that has to name a module.
+fn module(lines: &mut Lines) -> Result<u32, Why>
+    requires { lines.old.read < 11 }
+    ensures read { lines.new.read ≡ lines.old.read + 1 }
+    ensures reads { (above : List ℕ) → ReadsField (OneOf (lines_of_rows module_rows)) above lines.old lines.new result }
+{
+    let line = lines.next()?;
+    if is_same(line, b"module relay") {
+        Ok(0)
+    } else if is_same(line, b"module raft") {
+        Ok(1)
+    } else {
+        Err(Why::Form)
+    }
+}
+
+// The number of the module whose line is at this place.
+fn number_of(place: u32) -> u8
+    ensures { result ≡ (row_at place).number }
+{
+    match place {
+        1 => 2,
+        _ => 1,
+    }
+}
+
+// How many faults are too many for it.
+fn too_many(place: u32) -> u32
+    ensures { result ≡ (row_at place).too_many }
+{
+    match place {
+        1 => 4,
+        _ => 1,
+    }
+}
+
+// How many nodes it is of, for so many faults.
+fn nodes_of(values: &[u32]) -> u32
+    requires long { 2 < length values.now }
+    requires few { value values.now 2 < 4 }
+    ensures { result ≡ (setup_with values.now []).n }
+{
+    match values[1] {
+        1 => 2 * values[2] + 1,
+        _ => 3,
+    }
+}
+
+// And how many of them decide.
+fn quorum_of(values: &[u32]) -> u32
+    requires long { 2 < length values.now }
+    requires few { value values.now 2 < 4 }
+    ensures { result ≡ (setup_with values.now []).quorum }
+{
+    match values[1] {
+        1 => values[2] + 1,
+        _ => 2,
+    }
+}
+
+// Goes past a line that has to name a policy.
+fn policy(lines: &mut Lines) -> Result<u32, Why>
+    requires { lines.old.read < 11 }
+    ensures read { lines.new.read ≡ lines.old.read + 1 }
+    ensures reads { (above : List ℕ) → ReadsField (OneOf policy_lines) above lines.old lines.new result }
+{
+    let line = lines.next()?;
+    if is_same(line, b"policy simple") {
+        Ok(0)
+    } else if is_same(line, b"policy backoff") {
+        Ok(1)
+    } else if is_same(line, b"policy blacklist") {
+        Ok(2)
     } else {
         Err(Why::Form)
     }
@@ -65,9 +132,7 @@ fn number(lines: &mut Lines, name: &[u8], low: u32, end: u32) -> Result<u32, Why
     requires few { lines.old.read < 11 }
     requires name { Lacks 32 name.now }
     ensures read { lines.new.read ≡ lines.old.read + 1 }
-    ensures ok { IfOk result (λ n. GoesPast (field name.now n) lines.old lines.new) }
-    ensures range { IfOk result (IsWithin low end) }
-    ensures bad { IfErr result (IsLineFault (IsField name.now) (IsFieldWithin name.now low end) lines.old.rest) }
+    ensures reads { (above : List ℕ) → ReadsField (Number name.now (λ _. low) (λ _. end)) above lines.old lines.new result }
 {
     let line = lines.next()?;
     let Some(word) = behind(line, name) else {
@@ -113,15 +178,14 @@ fn names_faulty(line: &[u8]) -> bool
 }
 
 // Goes past the line that says that no node is faulty.
-fn no_faulty(lines: &mut Lines) -> Result<(), Why>
+fn no_faulty(lines: &mut Lines) -> Result<u32, Why>
     requires { lines.old.read < 11 }
     ensures read { lines.new.read ≡ lines.old.read + 1 }
-    ensures ok { OnOk result (GoesPast (codes "faulty none") lines.old lines.new) }
-    ensures bad { IfErr result (IsFaultyLineFault lines.old.rest) }
+    ensures reads { (above : List ℕ) → ReadsField FaultyNodes above lines.old lines.new result }
 {
     let line = lines.next()?;
     if is_same(line, b"faulty none") {
-        return Ok(());
+        return Ok(0);
     }
     if names_faulty(line) {
         Err(Why::Faulty)
@@ -130,33 +194,44 @@ fn no_faulty(lines: &mut Lines) -> Result<(), Why>
     }
 }
 
-/// Reads the eleven lines of a header.
-pub fn read_header(lines: &mut Lines) -> Result<Header, Why>
+// Reads the line behind these values: the table of a header, a field on each line.
+fn read_field(lines: &mut Lines, above: &[u32]) -> Result<u32, Why>
+    requires lines { lines.old.read < 11 }
+    requires few { length above.now < 11 }
+    requires faults { value above.now 2 < 4 }
+    ensures read { lines.new.read ≡ lines.old.read + 1 }
+    ensures reads { ReadsField (next_field above.now) above.now lines.old lines.new result }
+{
+    match above.len() {
+        0 => expect(lines, b"iss 1"),
+        1 => module(lines),
+        2 => number(lines, b"f", 0, too_many(above[1])),
+        3 => number(lines, b"epoch", nodes_of(above), 65),
+        4 => number(lines, b"buckets", 1, 257),
+        5 => number(lines, b"batch", 1, 33),
+        6 => number(lines, b"window", 1, 65),
+        7 => policy(lines),
+        8 => number(lines, b"clients", 1, 257),
+        9 => number(lines, b"keys", 2, 13),
+        _ => no_faulty(lines),
+    }
+}
+
+/// Reads the lines of a header: their values.
+pub fn read_header(lines: &mut Lines) -> Result<[u32; 11], Why>
     requires { lines.old.read ≡ 0 }
     ensures read { OnOk result (lines.new.read ≡ 11) }
-    ensures ok { IfOk result (λ h. lines.old.rest ≡ ended (header_lines (setup_with h [])) ++ lines.new.rest) }
-    ensures range { IfOk result IsHeaderInRange }
+    ensures size { IfOk result (λ values. length values ≡ 11) }
+    ensures ok { IfOk result (λ values. lines.old.rest ≡ ended (lines_of header_fields values) ++ lines.new.rest) }
+    ensures range { IfOk result (AreValues header_fields []) }
     ensures bad { IfErr result (IsFirstBad lines.old.rest lines.new.read) }
 {
-    expect(lines, b"iss 1")?;
-    expect(lines, b"module relay")?;
-    number(lines, b"f", 0, 1)?;
-    let epoch = number(lines, b"epoch", 3, 65)?;
-    let buckets = number(lines, b"buckets", 1, 257)?;
-    let batch = number(lines, b"batch", 1, 33)?;
-    let window = number(lines, b"window", 1, 65)?;
-    expect(lines, b"policy simple")?;
-    let clients = number(lines, b"clients", 1, 257)?;
-    let keys = number(lines, b"keys", 2, 13)?;
-    no_faulty(lines)?;
-    Ok(Header {
-        epoch,
-        buckets,
-        batch,
-        window,
-        clients,
-        keys,
-    })
+    let mut values = [0u32; LINES];
+    for place in 0..LINES {
+        let value = read_field(lines, &values[..place])?;
+        values[place] = value;
+    }
+    Ok(values)
 }
 
 // The tag of the cluster with this header.
@@ -169,24 +244,37 @@ fn tag_of(header: &[u8]) -> [u8; 32]
     hasher.finalize()
 }
 
-/// The set-up of a relay whose header has these numbers and this text.
-pub fn setup_of(alloc: Global, header: Header, text: &[u8]) -> Setup
-    ensures { result ≡ setup_with header (sha256 (0x43 ∷ text.now)) }
+// The policy whose line is at this place.
+fn policy_of(place: u32) -> Policy
+    ensures { result ≡ policy_at place }
+{
+    match place {
+        1 => Policy::Backoff,
+        2 => Policy::Blacklist,
+        _ => Policy::Simple,
+    }
+}
+
+/// The set-up of the cluster whose header has these values and this text.
+pub fn setup_of(alloc: Global, values: &[u32], text: &[u8]) -> Setup
+    requires size { length values.now ≡ 11 }
+    requires range { AreValues header_fields [] values.now }
+    ensures { result ≡ setup_with values.now (sha256 (0x43 ∷ text.now)) }
 {
     Setup {
         version: FIRST,
-        module: 1,
-        f: 0,
-        epoch: u64::from(header.epoch),
-        buckets: header.buckets,
-        batch: header.batch,
-        window: header.window,
-        policy: Policy::Simple,
-        clients: header.clients,
-        keys: header.keys,
+        module: number_of(values[1]),
+        f: values[2],
+        epoch: u64::from(values[3]),
+        buckets: values[4],
+        batch: values[5],
+        window: values[6],
+        policy: policy_of(values[7]),
+        clients: values[8],
+        keys: values[9],
         faulty: Nodes::new(alloc),
-        n: 3,
-        quorum: 2,
+        n: nodes_of(values),
+        quorum: quorum_of(values),
         kind: Kind::Stopping,
         tag: tag_of(text),
     }

@@ -17,6 +17,3 @@ pub use errors::{ReadError, Why};
 pub use reading::{MOST_BYTES, MOST_EVENTS, read};
 pub use schedules::{Event, Schedule};
 pub use writing::write;
-
-#[cfg(test)]
-mod tests;

@@ -4,7 +4,7 @@ ghost use Rattle.iss_request.specs.Setup.{IsGoodSetup};
 ghost use Rattle.iss_schedule.specs.BadLines.{IsRefused, IsNoText};
 ghost use Rattle.iss_schedule.specs.Events.{spell_event, IsInRange, AreInRange};
 ghost use Rattle.iss_schedule.specs.Places.{GoesPast, IsEventRefused, IsEventsRefused};
-ghost use Rattle.iss_schedule.specs.Schedules.{IsSchedule, IsRelay, header_lines, most_events};
+ghost use Rattle.iss_schedule.specs.Schedules.{IsSchedule, IsKnown, header_lines, most_events};
 ghost use Rattle.iss_schedule.specs.Words.{ended};
 ghost use Rattle.iss_schedule.specs.declared.schedules.Schedule.{Schedule};
 
@@ -27,7 +27,7 @@ pub const MOST_EVENTS: usize = 1_048_576;
 
 // Reads the lines behind the header, each an event.
 fn read_events(alloc: Global, setup: &Setup, lines: &mut Lines) -> Result<Row<Event>, ReadError>
-    requires relay { IsRelay setup.now }
+    requires known { IsKnown setup.now }
     requires read { lines.old.read ≡ 11 }
     ensures text { IfOk result (λ es. lines.old.rest ≡ ended (map spell_event es)) }
     ensures range { IfOk result (AreInRange setup.now) }
@@ -50,7 +50,7 @@ fn read_events(alloc: Global, setup: &Setup, lines: &mut Lines) -> Result<Row<Ev
 
 // Reads the next line, an event.
 fn read_event(alloc: Global, setup: &Setup, lines: &mut Lines) -> Result<Event, ReadError>
-    requires relay { IsRelay setup.now }
+    requires known { IsKnown setup.now }
     requires read { lines.old.read < 2 ^ 32 - 1 }
     ensures ok { IfOk result (λ e. GoesPast (spell_event e) lines.old lines.new) }
     ensures range { IfOk result (IsInRange setup.now) }
@@ -100,11 +100,11 @@ fn read_text(alloc: Global, bytes: &[u8]) -> Result<Schedule, ReadError>
         });
     }
     let mut lines = Lines::of(bytes);
-    let header = match read_header(&mut lines) {
-        Ok(header) => header,
+    let values = match read_header(&mut lines) {
+        Ok(values) => values,
         Err(why) => return Err(bad_line(&lines, why)),
     };
-    let setup = setup_of(alloc, header, front(bytes, lines.rest()));
+    let setup = setup_of(alloc, &values, front(bytes, lines.rest()));
     let events = read_events(alloc, &setup, &mut lines)?;
     Ok(Schedule { setup, events })
 }

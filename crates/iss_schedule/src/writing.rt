@@ -1,16 +1,17 @@
 //! Writing a schedule's text.
-ghost use Rattle.std.specs.Prelude.{◌≡◌, ◌∷◌, ◌++◌, [], IfOk, OnOk, decimal, codes};
+ghost use Rattle.std.specs.Prelude.{◌≡◌, ◌∷◌, ◌++◌, [], IfOk, OnOk, decimal, get_or};
 ghost use Rattle.iss_request.specs.declared.setups.Setup.{Setup};
 ghost use Rattle.iss_schedule.specs.Events.{spell_event};
+ghost use Rattle.iss_schedule.specs.Headers.{field, lines_of_rows, module_rows, place_among, place_of_policy, policy_lines};
 ghost use Rattle.iss_schedule.specs.Names.{text_of_name};
-ghost use Rattle.iss_schedule.specs.Schedules.{field, header_lines, text_of};
+ghost use Rattle.iss_schedule.specs.Schedules.{header_lines, text_of};
 ghost use Rattle.iss_schedule.specs.Words.{ended, word_of};
 
 use crate::names::{self, Name};
 use crate::schedules::{Event, Schedule};
 use iss_request::bytes::Bytes;
 use iss_request::errors::NoMemory;
-use iss_request::setups::Setup;
+use iss_request::setups::{Policy, Setup};
 use itoa::Buffer;
 use std::alloc::Global;
 
@@ -43,6 +44,14 @@ fn put_bytes(alloc: Global, out: &mut Vec<u8>, bytes: &[u8]) -> Result<(), NoMem
     put(out, word.as_bytes())
 }
 
+// Appends a line.
+fn put_line(out: &mut Vec<u8>, line: &[u8]) -> Result<(), NoMemory>
+    ensures { OnOk result (out.new.items ≡ out.old.items ++ line.now ++ 10 ∷ []) }
+{
+    put(out, line)?;
+    put(out, b"\n")
+}
+
 // Appends a line of a header: a name and a number.
 fn put_field(out: &mut Vec<u8>, name: &[u8], number: u64) -> Result<(), NoMemory>
     ensures { OnOk result (out.new.items ≡ out.old.items ++ field name.now number ++ 10 ∷ []) }
@@ -52,20 +61,43 @@ fn put_field(out: &mut Vec<u8>, name: &[u8], number: u64) -> Result<(), NoMemory
     put(out, b"\n")
 }
 
+// The line that names a module.
+fn module_line(number: u8) -> &'static [u8]
+    ensures { result.now ≡ get_or (lines_of_rows module_rows) (place_among number module_rows) [] }
+{
+    match number {
+        1 => b"module relay",
+        2 => b"module raft",
+        _ => b"",
+    }
+}
+
+// The line that names a policy.
+fn policy_line(policy: Policy) -> &'static [u8]
+    ensures { result.now ≡ get_or policy_lines (place_of_policy policy) [] }
+{
+    match policy {
+        Policy::Simple => b"policy simple",
+        Policy::Backoff => b"policy backoff",
+        Policy::Blacklist => b"policy blacklist",
+    }
+}
+
 // Appends the lines of a header.
 fn put_header(out: &mut Vec<u8>, setup: &Setup) -> Result<(), NoMemory>
     ensures { OnOk result (out.new.items ≡ out.old.items ++ ended (header_lines setup.now)) }
 {
-    put(out, b"iss 1\nmodule relay\n")?;
+    put_line(out, b"iss 1")?;
+    put_line(out, module_line(setup.module))?;
     put_field(out, b"f", u64::from(setup.f))?;
     put_field(out, b"epoch", setup.epoch)?;
     put_field(out, b"buckets", u64::from(setup.buckets))?;
     put_field(out, b"batch", u64::from(setup.batch))?;
     put_field(out, b"window", u64::from(setup.window))?;
-    put(out, b"policy simple\n")?;
+    put_line(out, policy_line(setup.policy))?;
     put_field(out, b"clients", u64::from(setup.clients))?;
     put_field(out, b"keys", u64::from(setup.keys))?;
-    put(out, b"faulty none\n")
+    put_line(out, b"faulty none")
 }
 
 // Appends a name and a number.
@@ -111,8 +143,8 @@ fn put_event(alloc: Global, out: &mut Vec<u8>, event: &Event) -> Result<(), NoMe
     }
 }
 
-/// The one text of a schedule that has one. What has no text, as a module that has no word yet, is written as the
-/// relay would be.
+/// The one text of a schedule that has one. Of what has none, a module that has no word yet has an empty line, and faulty
+/// nodes are not named.
 pub fn write(alloc: Global, schedule: &Schedule) -> Result<Bytes, NoMemory>
     ensures { IfOk result (λ bytes. bytes ≡ text_of schedule.now) }
 {

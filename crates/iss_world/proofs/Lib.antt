@@ -1,2 +1,2 @@
 pub mod PostLemmas
-pub mod WorldLemmas
+pub mod RunningLemmas

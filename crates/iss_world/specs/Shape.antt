@@ -1,11 +1,13 @@
--- What holds of every world, whatever happened to it.
-use Rattle.std.specs.Prelude.{◌≡◌, ◌<◌, ℕ, List, [], ◌∷◌, length, Some, slice_get}
+-- What holds of running nodes and of every world, whatever happened to them.
+use Rattle.std.specs.Prelude.{◌≡◌, ◌<◌, ℕ, false, List, [], ◌∷◌, length, Some, slice_get}
 use Rattle.iss_model.specs.Runs.{IsSetupOf}
 use Rattle.iss_network.specs.Network.{Network}
 use Rattle.iss_network.specs.declared.packets.Sent.{Sent}
 use Rattle.iss_node.specs.State.{NodeState}
-use Rattle.iss_sb.specs.Evidence.{Module}
-use Rattle.iss_world.specs.State.{WorldState}
+use Rattle.iss_sb.specs.Evidence.{Item, Module}
+use Rattle.iss_world.specs.State.{RunningState, WorldState}
+use Rattle.iss_world.specs.Stands.{IsStanding}
+use Rattle.iss_sb.specs.declared.effects.Params.{Params}
 
 -- the packets are for cores below n
 abbrev pub AreForCores : ℕ → List Sent → Type 0
@@ -17,9 +19,13 @@ pub record IsNetworkOf (n : ℕ) (w : Network) : Type 0 where
   pub held : length w.held ≡ n
   pub packets : AreForCores n w.packets
 
-pub record IsWorld {M Msg : Type 0} (m : Module Msg) (v : WorldState M) : Type 0 where
+pub record IsRunning {M Msg : Type 0} (m : Module Msg) (v : RunningState M Msg) : Type 0 where
   pub good : IsSetupOf m v.setup
   pub count : length v.nodes ≡ v.setup.n
   pub network : IsNetworkOf v.setup.n v.network
-  pub setups : (i : ℕ) (g : NodeState M) → slice_get v.nodes i ≡ Some g → g.setup ≡ v.setup
-  pub places : (i : ℕ) (g : NodeState M) → slice_get v.nodes i ≡ Some g → g.me.0 ≡ i
+  pub setups : (i : ℕ) (g : NodeState M Msg) → slice_get v.nodes i ≡ Some g → g.parts.setup ≡ v.setup
+  pub places : (i : ℕ) (g : NodeState M Msg) → slice_get v.nodes i ≡ Some g → g.parts.me.0 ≡ i
+
+-- a world stands for some net, as long as memory was never wanting
+abbrev pub IsWorld : {M Msg : Type 0} → Module Msg → (M → Params → ℕ → List (Item Msg) → Type 0) → WorldState M Msg → Type 0
+IsWorld m stands v = v.stale ≡ false → IsStanding m stands v.running

@@ -3,6 +3,7 @@
 
 mod posting;
 mod requests;
+pub mod running;
 pub mod world;
 
 pub use world::{Happened, World};

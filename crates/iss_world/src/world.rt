@@ -1,54 +1,51 @@
-//! The world of a cluster.
-ghost use Rattle.std.specs.Prelude.{◌≡◌, ◌<◌, ℕ, IfOk, OnOk, reverse, true, false};
-ghost use Rattle.iss_base.specs.Lists.{nth};
-ghost use Rattle.iss_model.specs.Concrete.{keys_of, rules_of};
+//! The world of a cluster, which says of itself when memory was wanting.
+ghost use Rattle.std.specs.Prelude.{◌≡◌, ◌<◌, IfOk, reverse};
+ghost use Rattle.iss_model.specs.Concrete.{rules_of};
 ghost use Rattle.iss_model.specs.Formats.{formats_of};
 ghost use Rattle.iss_model.specs.Past.{log_of};
-ghost use Rattle.iss_model.specs.Run.{Net, at_core, begin_net, calms, delivers, delivers_each, done, happens, injects, loses, pumps};
+ghost use Rattle.iss_model.specs.Run.{Net, begin_net, happens};
 ghost use Rattle.iss_model.specs.Runs.{IsSetupOf};
-ghost use Rattle.iss_network.specs.Network.{cleared, held_to};
-ghost use Rattle.iss_request.specs.Setup.{IsGoodSetup};
 ghost use Rattle.iss_schedule.specs.Events.{IsInRange};
-ghost use Rattle.iss_world.specs.Stands.{AreFresh, HasHappened, IsFresh, IsStanding, StandsFor};
+ghost use Rattle.iss_world.specs.Stands.{HasHappened, IsStaleOr, StandsFor, told_as};
 
-use crate::posting::post_all;
-use crate::requests::request_packet;
-use iss_keys::SharedDirectory;
+use crate::running::{Change, Running};
 use iss_log::Log;
-use iss_model::{NodeEvent, Why};
-use iss_network::Network;
-use iss_node::{Answer, Node, entries_are_the_log};
-use iss_request::{Bytes, Epoch, Kind, NoMemory, NodeId, Setup, Value};
+use iss_model::Why;
+use iss_request::{Epoch, NoMemory, Setup, Value};
 use iss_sb::Sequenced;
 use iss_schedule::Event;
 use std::alloc::Global;
 use std::marker::Model;
 
-/// Whether an event changed anything: it was lost, and why, or not.
+/// What an event did.
 #[derive(Clone, Copy, Debug, PartialEq, Eq)]
 pub enum Happened {
     Done,
+    /// Nothing has changed, for this cause.
     Lost(Why),
+    /// Memory was wanting in the midst of it. The world is stale from now on.
+    NoMemory,
+    /// Memory was wanting in an earlier event. Nothing has changed.
+    Stale,
 }
 
 /// The nodes of a cluster, and the network between them.
 #[derive(Drop)]
 pub struct World<M: Sequenced> {
-    setup: Setup,
-    // node `i` is the `i`-th
-    nodes: Vec<Node<M>>,
-    network: Network,
+    running: Running<M>,
+    // set where memory was wanting: what an event left half done stands for nothing
+    stale: bool,
 }
 
 impl<M: Sequenced> Model for World<M> {
     ghost use Rattle.iss_world.specs.State.{WorldState};
     ghost use Rattle.iss_world.specs.Shape.{IsWorld};
 
-    ghost Value = { WorldState M };
+    ghost Value = { WorldState M M.Msg };
 
-    ghost view = { λ w. record { setup = w.setup; nodes = w.nodes.items; network = w.network } };
+    ghost view = { λ w. record { running = w.running; stale = w.stale } };
 
-    ghost invariant = { λ w. IsWorld M.meaning (record { setup = w.setup; nodes = w.nodes.items; network = w.network }) };
+    ghost invariant = { λ w. IsWorld M.meaning M.stands (record { running = w.running; stale = w.stale }) };
 }
 
 impl<M: Sequenced> World<M> {
@@ -56,298 +53,78 @@ impl<M: Sequenced> World<M> {
     pub fn start(alloc: Global, setup: &Setup) -> Result<World<M>, NoMemory>
         requires { IsSetupOf M.meaning setup.now }
         ensures stands { IfOk result (λ v. StandsFor M.meaning M.stands v (begin_net setup.now.n)) }
-        ensures same { IfOk result (λ v. v.setup ≡ setup.now) }
+        ensures same { IfOk result (λ v. v.running.setup ≡ setup.now) }
     {
-        let directory = directory_of(alloc, setup)?;
+        let running = Running::start(alloc, setup)?;
         Ok(World {
-            setup: setup.copy()?,
-            nodes: start_nodes(alloc, setup, &directory)?,
-            network: Network::new(alloc, setup.n)?,
+            running,
+            stale: false,
         })
     }
 
-    /// The event happens. After want of memory nothing is promised.
-    pub fn event(&mut self, alloc: Global, event: &Event) -> Result<Happened, NoMemory>
-        requires range { IsInRange self.old.setup event.now }
-        requires standing { IsStanding M.meaning M.stands self.old }
-        ensures happened { IfOk result (λ h. (w : Net M.Msg) → StandsFor M.meaning M.stands self.old w →
-            HasHappened M.meaning M.stands self.new
-            (happens self.old.setup (formats_of self.old.setup M.meaning) (rules_of self.old.setup) M.meaning w event.now) h) }
-        ensures same { self.new.setup ≡ self.old.setup }
-    {
-        match event {
-            Event::Request {
-                core,
-                client,
-                number,
-                payload,
-            } => self.request(alloc, *core, *client, *number, payload),
-            Event::Propose { core } => self.take(alloc, *core, NodeEvent::Propose),
-            Event::Timeout { core, leader } => {
-                self.take(alloc, *core, NodeEvent::Timeout(*leader))
-            }
-            Event::Deliver { packet } => self.deliver(alloc, *packet),
-            Event::Lose { packet } => Ok(self.lose(*packet)),
-            Event::Pump => {
-                self.pump(alloc)?;
-                Ok(Happened::Done)
-            }
-            Event::Calm { pumps } => {
-                self.calm(alloc, *pumps)?;
-                Ok(Happened::Done)
-            }
-            Event::Hold { core } => Ok(self.hold(*core)),
-            Event::Free { core } => Ok(self.free(*core)),
-            Event::Drop { core } => Ok(self.clear(*core)),
-            Event::Bytes { core, bytes } => self.inject(alloc, *core, bytes),
-        }
-    }
-
-    // A core takes an event, and what it sends is posted.
-    fn take(&mut self, alloc: Global, core: u32, event: NodeEvent) -> Result<Happened, NoMemory>
-        requires core { core < self.old.setup.n }
-        requires standing { IsStanding M.meaning M.stands self.old }
-        ensures happened { IfOk result (λ h. (w : Net M.Msg) → StandsFor M.meaning M.stands self.old w →
-            HasHappened M.meaning M.stands self.new
-            (at_core self.old.setup.n (formats_of self.old.setup M.meaning) (rules_of self.old.setup) M.meaning w core event) h) }
-        ensures same { self.new.setup ≡ self.old.setup }
-    {
-        match self.nodes[core as usize].take(alloc, event) {
-            Answer::Taken(outcome) => {
-                post_all(
-                    &mut self.network,
-                    self.setup.n,
-                    core,
-                    outcome.sends.as_slice(),
-                )?;
-                Ok(Happened::Done)
-            }
-            Answer::Dropped(why) => Ok(Happened::Lost(why)),
-            Answer::NoMemory => Err(NoMemory),
-        }
-    }
-
-    // A core takes the packet of a client's request.
-    fn request(
-        &mut self,
-        alloc: Global,
-        core: u32,
-        client: u8,
-        number: u32,
-        payload: &Bytes,
-    ) -> Result<Happened, NoMemory>
-        requires core { core < self.old.setup.n }
-        requires standing { IsStanding M.meaning M.stands self.old }
-        ensures happened { IfOk result (λ h. (w : Net M.Msg) → StandsFor M.meaning M.stands self.old w →
-            HasHappened M.meaning M.stands self.new
-            (happens self.old.setup (formats_of self.old.setup M.meaning) (rules_of self.old.setup) M.meaning w
-            (Event.Request core client number payload.now)) h) }
-        ensures same { self.new.setup ≡ self.old.setup }
-    {
-        let packet = request_packet::<M>(alloc, &self.setup, client, number, payload)?;
-        self.take(alloc, core, NodeEvent::Packet(packet))
-    }
-
-    // A packet is taken by its core, whether or not it waits.
-    fn deliver(&mut self, alloc: Global, packet: u64) -> Result<Happened, NoMemory>
-        requires { IsStanding M.meaning M.stands self.old }
-        ensures happened { IfOk result (λ h. (w : Net M.Msg) → StandsFor M.meaning M.stands self.old w →
-            HasHappened M.meaning M.stands self.new
-            (delivers self.old.setup.n (formats_of self.old.setup M.meaning) (rules_of self.old.setup) M.meaning w packet) h) }
-        ensures same { self.new.setup ≡ self.old.setup }
-    {
-        let Some(sent) = self.network.packet(packet) else {
-            return Ok(Happened::Lost(Why::NoPacket));
-        };
-        let core = sent.to;
-        let bytes = sent.bytes.copy()?;
-        self.network.settle(packet);
-        self.take(alloc, core, NodeEvent::Packet(bytes))
-    }
-
-    // A packet waits no more.
-    fn lose(&mut self, packet: u64) -> Happened
+    /// The event happens. After want of memory each further event answers that the world is stale.
+    pub fn event(&mut self, alloc: Global, event: &Event) -> Happened
+        requires { IsInRange self.old.running.setup event.now }
         ensures happened { (w : Net M.Msg) → StandsFor M.meaning M.stands self.old w →
-            HasHappened M.meaning M.stands self.new (loses w packet (nth w.network.packets packet)) result }
-        ensures same { self.new.setup ≡ self.old.setup }
-    {
-        match self.network.packet(packet) {
-            Some(_) => {
-                self.network.settle(packet);
-                Happened::Done
-            }
-            None => Happened::Lost(Why::NoPacket),
-        }
-    }
-
-    // What waits for cores that are not held is taken, ascending. Says whether anything waited.
-    fn pump(&mut self, alloc: Global) -> Result<bool, NoMemory>
-        requires { IsStanding M.meaning M.stands self.old }
-        ensures pumped { OnOk result ((w : Net M.Msg) → StandsFor M.meaning M.stands self.old w →
-            StandsFor M.meaning M.stands self.new (pumps self.old.setup.n (formats_of self.old.setup M.meaning) (rules_of self.old.setup) M.meaning w)) }
-        ensures quiet { IfOk result (λ any. any ≡ false → (w : Net M.Msg) → StandsFor M.meaning M.stands self.old w →
-            pumps self.old.setup.n (formats_of self.old.setup M.meaning) (rules_of self.old.setup) M.meaning w ≡ w) }
-        ensures same { self.new.setup ≡ self.old.setup }
-    {
-        let packets = self.network.due(alloc)?;
-        self.deliver_each(alloc, packets.as_slice())?;
-        Ok(packets.len() > 0)
-    }
-
-    // The packets are taken, in this order.
-    fn deliver_each(&mut self, alloc: Global, packets: &[u64]) -> Result<(), NoMemory>
-        requires { IsStanding M.meaning M.stands self.old }
-        ensures taken { OnOk result ((w : Net M.Msg) → StandsFor M.meaning M.stands self.old w →
-            StandsFor M.meaning M.stands self.new
-            (delivers_each self.old.setup.n (formats_of self.old.setup M.meaning) (rules_of self.old.setup) M.meaning w packets.now)) }
-        ensures same { self.new.setup ≡ self.old.setup }
-    {
-        for packet in packets {
-            self.deliver(alloc, *packet)?;
-        }
-        Ok(())
-    }
-
-    // So many pumps, fewer where one finds nothing.
-    fn calm(&mut self, alloc: Global, most: u32) -> Result<(), NoMemory>
-        requires { IsStanding M.meaning M.stands self.old }
-        ensures calmed { OnOk result ((w : Net M.Msg) → StandsFor M.meaning M.stands self.old w →
-            StandsFor M.meaning M.stands self.new (calms self.old.setup.n (formats_of self.old.setup M.meaning) (rules_of self.old.setup) M.meaning most w)) }
-        ensures same { self.new.setup ≡ self.old.setup }
-    {
-        for done in 0..most {
-            if !self.pump(alloc)? {
-                return Ok(());
-            }
-        }
-        Ok(())
-    }
-
-    // Pumps pass over a core from now on.
-    fn hold(&mut self, core: u32) -> Happened
-        requires { core < self.old.setup.n }
-        ensures happened { (w : Net M.Msg) → StandsFor M.meaning M.stands self.old w →
-            HasHappened M.meaning M.stands self.new (done (record w { network = held_to w.network core true })) result }
-        ensures same { self.new.setup ≡ self.old.setup }
-    {
-        self.network.hold(core);
-        Happened::Done
-    }
-
-    // Pumps pass over a core no longer.
-    fn free(&mut self, core: u32) -> Happened
-        requires { core < self.old.setup.n }
-        ensures happened { (w : Net M.Msg) → StandsFor M.meaning M.stands self.old w →
-            HasHappened M.meaning M.stands self.new (done (record w { network = held_to w.network core false })) result }
-        ensures same { self.new.setup ≡ self.old.setup }
-    {
-        self.network.free(core);
-        Happened::Done
-    }
-
-    // No packet for a core waits any more.
-    fn clear(&mut self, core: u32) -> Happened
-        requires { core < self.old.setup.n }
-        ensures happened { (w : Net M.Msg) → StandsFor M.meaning M.stands self.old w →
-            HasHappened M.meaning M.stands self.new (done (record w { network = cleared w.network core })) result }
-        ensures same { self.new.setup ≡ self.old.setup }
-    {
-        self.network.drop_for(core);
-        Happened::Done
-    }
-
-    // A core takes bytes from nowhere, where nodes may do anything.
-    fn inject(&mut self, alloc: Global, core: u32, bytes: &Bytes) -> Result<Happened, NoMemory>
-        requires kind { self.old.setup.kind ≡ Kind.Byzantine }
-        requires core { core < self.old.setup.n }
-        requires standing { IsStanding M.meaning M.stands self.old }
-        ensures happened { IfOk result (λ h. (w : Net M.Msg) → StandsFor M.meaning M.stands self.old w →
             HasHappened M.meaning M.stands self.new
-            (injects self.old.setup.n (formats_of self.old.setup M.meaning) (rules_of self.old.setup) M.meaning w core bytes.now) h) }
-        ensures same { self.new.setup ≡ self.old.setup }
+            (happens self.old.running.setup (formats_of self.old.running.setup M.meaning) (rules_of self.old.running.setup) M.meaning w event.now) result }
+        ensures stale { IsStaleOr self.old self.new result }
+        ensures same { self.new.running.setup ≡ self.old.running.setup }
     {
-        let _ = &self.setup;
-        let packet = bytes.copy()?;
-        self.take(alloc, core, NodeEvent::Packet(packet))
+        if self.stale {
+            return Happened::Stale;
+        }
+        self.stale = true;
+        match self.running.event(alloc, event) {
+            Ok(change) => {
+                self.stale = false;
+                told(change)
+            }
+            Err(_) => Happened::NoMemory,
+        }
     }
 
     /// The set-up of the cluster.
     pub fn setup(&self) -> &Setup
-        ensures same { result.now ≡ self.now.setup }
+        ensures same { result.now ≡ self.now.running.setup }
         ensures good { IsSetupOf M.meaning result.now }
     {
-        &self.setup
+        self.running.setup()
     }
 
     /// A node's log.
     pub fn log(&self, core: u32) -> &Log
-        requires { core < self.now.setup.n }
+        requires { core < self.now.running.setup.n }
         ensures { (w : Net M.Msg) → StandsFor M.meaning M.stands self.now w →
-            log_of (rules_of self.now.setup) M.meaning core (w.cores core).past ≡ reverse result.now.entries }
+            log_of (rules_of self.now.running.setup) M.meaning core (w.cores core).past ≡ reverse result.now.entries }
     {
-        entries_are_the_log::<M>();
-        self.nodes[core as usize].log()
+        self.running.log(core)
     }
 
     /// The values of a node's log, in the order of the slots.
     pub fn entries(&self, core: u32) -> &[Value]
-        requires { core < self.now.setup.n }
+        requires { core < self.now.running.setup.n }
         ensures { (w : Net M.Msg) → StandsFor M.meaning M.stands self.now w →
-            log_of (rules_of self.now.setup) M.meaning core (w.cores core).past ≡ reverse result.now }
+            log_of (rules_of self.now.running.setup) M.meaning core (w.cores core).past ≡ reverse result.now }
     {
-        self.log(core).entries()
+        self.running.entries(core)
     }
 
     /// A node's epoch.
     pub fn epoch(&self, core: u32) -> Epoch
-        requires { core < self.now.setup.n }
+        requires { core < self.now.running.setup.n }
         ensures { (w : Net M.Msg) → StandsFor M.meaning M.stands self.now w → result.0 ≡ (w.cores core).past.epoch }
     {
-        self.nodes[core as usize].epoch()
+        self.running.epoch(core)
     }
 }
 
-// The keys of all nodes and clients. No tree is made before it is needed.
-fn directory_of(alloc: Global, setup: &Setup) -> Result<SharedDirectory, NoMemory>
-    requires { IsGoodSetup setup.now }
-    ensures { IfOk result (λ directory. directory ≡ keys_of setup.now) }
+// The answer to an event for which there was memory.
+fn told(change: Change) -> Happened
+    ensures { result ≡ told_as change }
 {
-    match SharedDirectory::make(alloc, setup.n, setup.clients, setup.keys as u8) {
-        Ok(directory) => Ok(directory),
-        Err(_) => Err(NoMemory),
+    match change {
+        Change::Done => Happened::Done,
+        Change::Lost(why) => Happened::Lost(why),
     }
-}
-
-// The nodes of a cluster, ascending, each of which has taken nothing. All share the directory.
-fn start_nodes<M: Sequenced>(
-    alloc: Global,
-    setup: &Setup,
-    directory: &SharedDirectory,
-) -> Result<Vec<Node<M>>, NoMemory>
-    requires good { IsSetupOf M.meaning setup.now }
-    requires directory { directory.now ≡ keys_of setup.now }
-    ensures { IfOk result (λ nodes. AreFresh M.meaning M.stands setup.now setup.now.n nodes.items) }
-{
-    let mut nodes = Vec::new(alloc);
-    for me in 0..setup.n {
-        nodes.push(start_node(alloc, setup, directory, me)?)?;
-    }
-    Ok(nodes)
-}
-
-// A node that has taken nothing, with its keys of the directory.
-fn start_node<M: Sequenced>(
-    alloc: Global,
-    setup: &Setup,
-    directory: &SharedDirectory,
-    me: u32,
-) -> Result<Node<M>, NoMemory>
-    requires good { IsSetupOf M.meaning setup.now }
-    requires directory { directory.now ≡ keys_of setup.now }
-    requires me { me < setup.now.n }
-    ensures { IfOk result (λ node. IsFresh M.meaning M.stands setup.now me node) }
-{
-    let node = NodeId(me as u8);
-    let keys = directory.directory().keys_of_node(alloc, node.0);
-    Node::start(alloc, setup, directory, node, keys)
 }

@@ -3,3 +3,5 @@ mod EntryTable
 mod Examples
 pub mod MessageGrammar
 pub mod Readable
+mod Reading
+mod Written

@@ -1,5 +1,5 @@
 -- What the table relates to some bytes is read again, and what is read again it relates to some.
-use Rattle.std.proofs.Common.{◌≡◌, ◌<◌, ◌^◌, ℕ, List, [], ◌∷◌, ◌++◌, append-nil, refl, sym, ap, ◌∙◌, subst, inl, inr}
+use Rattle.std.proofs.Common.{◌<◌, ◌^◌, ℕ, List, [], ◌∷◌, ◌++◌, refl, sym, subst, inl, inr}
 use Rattle.iss_base.specs.Lists.{In}
 use Rattle.iss_request.specs.Fields.{IsReadAgain}
 use Rattle.iss_request.specs.Formats.{parse_value, spell_value}

@@ -4,7 +4,9 @@
 pub mod entries;
 pub mod laws;
 pub mod messages;
+pub mod wire;
 
 pub use entries::{Entry, What};
 pub use laws::messages_are_exact;
 pub use messages::Message;
+pub use wire::{read, write};

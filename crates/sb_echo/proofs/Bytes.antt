@@ -21,9 +21,6 @@ same-is a b h = (Decides-eqb a b).1 h
 
 -- ---- strings
 
-holds-injective : (b c : Batch) → Holds b ≡ Holds c → b ≡ c
-holds-injective b c h = cc
-
 good-holds : (b c : Batch) (x y : List ℕ) → Good (Holds b) x ≡ Good (Holds c) y → b ≡ c
 good-holds b c x y h = cc
 

@@ -1,8 +1,8 @@
 -- What holds of one node's list, if each item is what the rules make.
-use Rattle.std.proofs.Common.{◌≡◌, ◌+◌, ℕ, Bool, true, false, ◌&&◌, ◌||◌, ◌==◌, not, if◌then◌else◌, List, [], ◌∷◌, Option, Some, None, is_some, refl, sym, ap, ◌∙◌, subst, inl, inr, ◌⊎◌, arith, true≢false}
+use Rattle.std.proofs.Common.{◌≡◌, ◌+◌, ℕ, Bool, true, false, ◌&&◌, ◌==◌, not, if◌then◌else◌, List, [], ◌∷◌, Option, Some, None, is_some, refl, sym, ap, ◌∙◌, subst, inl, inr, ◌⊎◌, arith, true≢false}
 use Rattle.std.proofs.lemmas.Bool.{leb-true, le-leb}
 use Rattle.iss_base.specs.Lists.{In, same_bytes}
-use Rattle.iss_base.proofs.Lists.{and-true, first-cases, same_bytes-is, some-injective}
+use Rattle.iss_base.proofs.Lists.{and-true, first-cases, same_bytes-is, some-injective, or-cases}
 use Rattle.iss_request.specs.declared.ids.NodeId.{NodeId}
 use Rattle.iss_request.specs.declared.ids.Slot.{Slot}
 use Rattle.iss_request.specs.declared.requests.Batch.{Batch}
@@ -22,7 +22,7 @@ use Rattle.sb_echo.specs.declared.word.Word.{Word}
 use Rattle.sb_echo.specs.declared.word.Word.TheVariants.{Say, Echo}
 use Rattle.sb_echo.specs.Echo.{asks, batch_for, claims, decide, decided, digest_of, echo, echo_of, has_echo, is_cast, is_echo, is_echoed, is_open, made_of, makes, say, statement, taken, string_of, words}
 use Rattle.sb_echo.proofs.Bytes.{is-same, same-is}
-use Rattle.iss_base.proofs.Quorum.{count-mono}
+use Rattle.iss_base.proofs.Quorum.{count-mono, or_right_true}
 
 abbrev pub Same : Input Word → Input Word → Type 0
 Same x y = x ≡ y
@@ -198,14 +198,6 @@ echo-is s d k (Receive from (Echo slot e sig)) h =
     let u = and-true (slot.0 == s) (same_bytes e d) t.1 in
     record { from = from; slot = slot; sig = sig; input = ap (λ (z : List ℕ). Receive from (Echo slot z sig)) (same_bytes-is e d u.1); by = is-same from.0 k t.0; at_slot = is-same slot.0 s u.0 }
 
-or-cases : (a b : Bool) → (a || b) ≡ true → (a ≡ true) ⊎ (b ≡ true)
-or-cases true b h = inl refl
-or-cases false b h = inr h
-
-or-right : (a b : Bool) → b ≡ true → (a || b) ≡ true
-or-right true b h = refl
-or-right false b h = h
-
 pub has_echo-is : (s : ℕ) (d : List ℕ) (k : ℕ) (xs : List (Item Word)) → has_echo s d k xs ≡ true → (x : Item Word) × In x xs × IsEchoOf s d k x.input
 has_echo-is s d k [] h = absurd (true≢false (sym h))
 has_echo-is s d k (x ∷ xs) h = elim (or-cases (is_echo s d k x.input) (has_echo s d k xs) h) [
@@ -238,7 +230,7 @@ decided-is p me xs s v h = go (taken s xs) refl h
 echoed-stays : (p : Params) (s : ℕ) (d : List ℕ) (y : Item Word) (xs : List (Item Word)) → is_echoed p s d xs ≡ true → is_echoed p s d (y ∷ xs) ≡ true
 echoed-stays p s d y xs h =
     let a = leb-true _ _ h in
-    let b = count-mono (λ k. has_echo s d k xs) (λ k. has_echo s d k (y ∷ xs)) p.setup.n (λ k l e. or-right (is_echo s d k y.input) (has_echo s d k xs) e) in
+    let b = count-mono (λ k. has_echo s d k xs) (λ k. has_echo s d k (y ∷ xs)) p.setup.n (λ k l e. or_right_true (is_echo s d k y.input) (has_echo s d k xs) e) in
     le-leb _ _ (omega arith)
 
 pub decided-stays : (p : Params) (me : ℕ) (xs : List (Item Word)) (y : Item Word) (s : ℕ) (v : Value) → decided p me xs s ≡ Some v → decided p me (y ∷ xs) s ≡ Some v
@@ -247,6 +239,3 @@ decided-stays p me xs y s v h =
     let t : taken s xs ≡ Some d.batch = d.taken in
     let e = echoed-stays p s (digest_of p d.batch) y xs d.echoed in
     rw (t, d.within, e) (ap (λ (z : Value). Some z) (sym d.value))
-
-pub decided-start : (p : Params) (me s : ℕ) → decided p me [] s ≡ None
-decided-start p me s = refl

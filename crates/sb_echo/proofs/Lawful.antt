@@ -1,7 +1,8 @@
 -- The laws of echo's single steps.
-use Rattle.std.proofs.Common.{◌≡◌, ◌≤◌, ◌<◌, ◌+◌, ◌^◌, ℕ, Bool, true, false, List, ◌∷◌, ◌++◌, length, Option, Some, None, refl, sym, ap, subst, ◌∙◌, inl, inr, arith}
+use Rattle.std.proofs.Common.{◌≡◌, ◌≤◌, ◌<◌, ◌+◌, ◌^◌, ℕ, Bool, true, false, List, ◌∷◌, ◌++◌, length, Option, Some, None, refl, sym, ap, subst, inl, inr, arith}
 use Rattle.sha2.proofs.Facts256.{length-sha256}
 use Rattle.iss_base.specs.Lists.{In}
+use Rattle.iss_sb.proofs.Inputs.{cast-is}
 use Rattle.iss_request.specs.declared.ids.NodeId.{NodeId}
 use Rattle.iss_request.specs.declared.ids.Slot.{Slot}
 use Rattle.iss_request.specs.declared.requests.Batch.{Batch}
@@ -29,12 +30,6 @@ named p from (Say slot batch sig) c (inl e) = (1 ∷ (eight_bytes slot.0 ++ dige
 named p from (Say slot batch sig) c (inr h) = absurd h
 named p from (Echo slot d sig) c (inl e) = (2 ∷ (eight_bytes slot.0 ++ d), ap (λ (z : Claim). z.statement) e)
 named p from (Echo slot d sig) c (inr h) = absurd h
-
-cast-is : (s : Slot) (b : Batch) (x : Slot × Batch) → Same (Cast s b) (Cast x.0 x.1) → x ≡ (s, b)
-cast-is s b x h =
-    let slots : x.0 ≡ s = cc in
-    let batches : x.1 ≡ b = cc in
-    ap (λ (t : Slot). let z : Slot × Batch = (t, x.1) in z) slots ∙ ap (λ (c : Batch). let z : Slot × Batch = (s, c) in z) batches
 
 no-word : (s : Slot) (b : Batch) (from : NodeId) (msg : Word) → Same (Cast s b) (Receive from msg) → ⊥
 no-word s b from msg h = cc

@@ -1,6 +1,6 @@
 -- What echo's places and tests say of the lists that it stands for.
 use Rattle.std.proofs.Common.{◌≡◌, ◌≢◌, ℕ, zero, suc, Bool, true, false, ◌&&◌, ◌==◌, if◌then◌else◌, List, ◌∷◌, Option, Some, None, is_some, refl, sym, ap, ◌∙◌, subst, inl, inr, arith, true≢false}
-use Rattle.iss_base.specs.Lists.{In, first_of, same_bytes}
+use Rattle.iss_base.specs.Lists.{In, same_bytes}
 use Rattle.iss_base.specs.Quorum.{count_below}
 use Rattle.iss_base.proofs.Lists.{same_or_not}
 use Rattle.iss_request.specs.Slots.{AreAscending}
@@ -21,15 +21,11 @@ use Rattle.sb_echo.specs.declared.word.Word.TheVariants.{Echo as Echo_word}
 use Rattle.sb_echo.specs.Echo.{decide, decided, digest_of, echo, has_echo, is_echo, is_echoed}
 use Rattle.sb_echo.specs.Stands.{one_at, place_for}
 use Rattle.sb_echo.proofs.Bytes.{is-same, same-is}
-use Rattle.sb_echo.proofs.Facts.{decided-start, decided-stays}
+use Rattle.sb_echo.proofs.Facts.{decided-stays}
 
 pub count-alike : (t u : ℕ → Bool) (n : ℕ) → ((k : ℕ) → t k ≡ u k) → count_below t n ≡ count_below u n
 count-alike t u zero h = refl
 count-alike t u (suc n) h = let a = h n in let b = count-alike t u n h in rw (a, b) refl
-
-pub first_of-none : {A : Type 0} (o : Option A) → first_of o None ≡ o
-first_of-none None = refl
-first_of-none (Some x) = refl
 
 pub some-place : (p : Params) (o : Option Batch) (v : Option Value) → is_some (place_for p o v) ≡ is_some o
 some-place p None v = refl
@@ -75,7 +71,7 @@ echo-apart from slot d sig s e k h = rw h (never (from.0 == k))
     never false = refl
 
 pub delivered-is : (p : Params) (me : ℕ) (xs : List (Item Word)) (s : ℕ) → delivered echo p me xs s ≡ decided p me xs s
-delivered-is p me = delivered-decided echo p me (decided-start p me) (decided-stays p me)
+delivered-is p me = delivered-decided echo p me (λ s. refl) (decided-stays p me)
 
 -- ---- what is delivered: at one slot, what was not decided before
 

@@ -35,7 +35,6 @@ good-setup = record {
   relay_kind = λ h. absurd (let k : 6 ≡ 1 = h in omega arith);
   nodes = refl;
   majority = refl;
-  simple = refl;
   epoch_low = omega arith;
   epoch_high = omega arith;
   buckets_low = omega arith;

@@ -23,7 +23,7 @@ use Rattle.sb_echo.specs.declared.word.Word.{Word}
 use Rattle.sb_echo.specs.declared.word.Word.TheVariants.{Say, Echo}
 use Rattle.sb_echo.specs.Echo.{claim, digest_of, echo, has_echo, statement, string_of}
 use Rattle.sb_echo.proofs.Bytes.{one-batch, statement-same}
-use Rattle.sb_echo.proofs.Facts.{IsTold, accepted-cause, decided-is, decided-start, decided-stays, has_echo-is, once, sent-for, taken-accepted}
+use Rattle.sb_echo.proofs.Facts.{IsTold, accepted-cause, decided-is, decided-stays, has_echo-is, once, sent-for, taken-accepted}
 use Rattle.sb_echo.proofs.Spelling.{say-read}
 
 -- node k accepted a batch of this digest at the slot
@@ -100,7 +100,7 @@ module _ (p : Params) (w : World Word) (legal : IsLegal echo p w) where
 
     rests : (i s : ℕ) (v : Value) → delivered echo p i (w i) s ≡ Some v → Rests p w i s v
     rests i s v h =
-        let d = decided-is p i (w i) s v (sym (delivered-decided echo p i (decided-start p i) (decided-stays p i) (w i) s) ∙ h) in
+        let d = decided-is p i (w i) s v (sym (delivered-decided echo p i (λ s. refl) (decided-stays p i) (w i) s) ∙ h) in
         record { batch = d.batch; value = d.value; stands = taken-accepted (w i) s d.batch d.taken; enough = leb-true _ _ d.echoed }
 
     module _ (good : IsGoodParams echo p) where

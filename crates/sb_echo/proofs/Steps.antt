@@ -2,7 +2,7 @@
 use Rattle.std.proofs.Common.{◌≡◌, ◌+◌, ℕ, Bool, true, false, not, ◌&&◌, ◌||◌, ◌==◌, if◌then◌else◌, List, [], ◌∷◌, Option, Some, None, is_some, refl, sym, ap, ◌∙◌, subst, ◌↔◌, IsTrue, true≢false}
 use Rattle.std.specs.Prelude.{nat_le}
 use Rattle.iss_base.specs.Lists.{first_of, same_bytes}
-use Rattle.iss_base.proofs.Lists.{and-true}
+use Rattle.iss_base.proofs.Lists.{and-true, first_of-none}
 use Rattle.iss_request.specs.declared.ids.NodeId.{NodeId}
 use Rattle.iss_request.specs.declared.ids.Slot.{Slot}
 use Rattle.iss_request.specs.declared.requests.Batch.{Batch}
@@ -27,7 +27,7 @@ use Rattle.sb_echo.specs.Heard.{has}
 use Rattle.sb_echo.specs.Stands.{HasCompleted, HasTaken, Stands, completed_of, is_free, is_heard, may_cast, may_take, one_at, place_at, place_for}
 use Rattle.sb_echo.proofs.Bytes.{is-same, same-is}
 use Rattle.sb_echo.proofs.Facts.{accepted-is, decided-stays, none-is}
-use Rattle.sb_echo.proofs.Marks.{IsQuiet, count-alike, decide-quiet, delivers-at, echo-apart, first_of-none, newly, other, some-place}
+use Rattle.sb_echo.proofs.Marks.{IsQuiet, count-alike, decide-quiet, delivers-at, echo-apart, newly, other, some-place}
 
 -- what was taken out of a slot is what is decided now, and was not before; what was taken there is o
 record IsAt (p : Params) (o : Option Batch) (before now out : Option Value) : Type 0 where

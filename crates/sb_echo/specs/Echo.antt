@@ -124,7 +124,8 @@ decided p me xs s = decide p s xs (taken s xs)
 -- the table: a message's number, the slot, a value that is a batch, or the digest, and the signature
 abbrev pub IsSpelledWord : ℕ → Word → List ℕ → Type 0
 IsSpelledWord version (Say slot batch sig) bytes =
-    (slot.0 < 2 ^ 64) × (is_signature sig ≡ true) × ((value : List ℕ) × IsSpelledValue version (Holds batch) value × (bytes ≡ 1 ∷ to_be_bytes w64 slot.0 ++ value ++ sig))
+    (slot.0 < 2 ^ 64) × (is_signature sig ≡ true)
+    × ((value : List ℕ) × IsSpelledValue version (Holds batch) value × (bytes ≡ 1 ∷ to_be_bytes w64 slot.0 ++ value ++ sig))
 IsSpelledWord version (Echo slot d sig) bytes =
     (slot.0 < 2 ^ 64) × (length d ≡ 32) × (is_signature sig ≡ true) × (bytes ≡ 2 ∷ to_be_bytes w64 slot.0 ++ d ++ sig)
 

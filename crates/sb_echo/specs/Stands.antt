@@ -75,7 +75,8 @@ pub record HasTaken (p : Params) (old new : Echo) (slot : Slot) (batch : Batch) 
   pub digest : d ≡ digest_of p batch
   pub node : new.me ≡ old.me
   pub heard : new.heard ≡ old.heard
-  pub places : (s : ℕ) → place_at s new ≡ (if slot.0 == s then Some (if is_heard old p slot.0 d then Delivered else Waiting d (Holds batch)) else place_at s old)
+  pub places : (s : ℕ) →
+      place_at s new ≡ (if slot.0 == s then Some (if is_heard old p slot.0 d then Delivered else Waiting d (Holds batch)) else place_at s old)
   pub sends : e.sends ≡ []
   pub accepted : e.accepted ≡ Some (slot, batch)
   pub hashed : e.hashed ≡ string_of p batch ∷ []

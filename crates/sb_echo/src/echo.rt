@@ -179,7 +179,8 @@ impl Echo {
     ) -> Result<Effects<Word>, NoMemory>
         requires good { IsGoodParams echo p.now }
         requires enough { 2 ≤ left_of keys.old }
-        ensures { IfOk result (λ e. (sig : List ℕ) → IsTrueStep echo Stands p.now self.old self.new (Input.Receive from (Word.Say slot batch sig)) keys.old keys.new e) }
+        ensures { IfOk result (λ e. (sig : List ℕ) →
+            IsTrueStep echo Stands p.now self.old self.new (Input.Receive from (Word.Say slot batch sig)) keys.old keys.new e) }
     {
         if !self.may_take(p, from, slot) {
             return Ok(Effects::nothing(alloc));

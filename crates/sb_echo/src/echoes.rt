@@ -46,7 +46,8 @@ impl Echoes {
 
     /// One echo more.
     pub fn hear(&mut self, slot: Slot, digest: [u8; 32], from: NodeId) -> Result<(), NoMemory>
-        ensures { OnOk result ((s : ℕ) (d : List ℕ) (k : ℕ) → has self.new s d k ≡ (((from.0 == k) && ((slot.0 == s) && same_bytes digest d)) || has self.old s d k)) }
+        ensures { OnOk result ((s : ℕ) (d : List ℕ) (k : ℕ) →
+            has self.new s d k ≡ (((from.0 == k) && ((slot.0 == s) && same_bytes digest d)) || has self.old s d k)) }
     {
         let heard = Heard {
             slot: slot.0,

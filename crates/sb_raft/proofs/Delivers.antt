@@ -83,10 +83,14 @@ value-front s slots a b x f h =
     let e = ap contents r.1 ∙ contents-both a r.0 in
     subst (λ (z : List Value). value_at s slots z ≡ Some x) (sym e) (value-more s slots (contents a) (contents r.0) x h)
 
+-- what is committed now begins with what was
+pub grown : (p : Params) (me : ℕ) (xs : List (Item Message)) (y : Item Message) →
+    Prefix (take (state p me xs).commit (state p me xs).log) (take (state p me (y ∷ xs)).commit (state p me (y ∷ xs)).log)
+grown p me xs y = (on p me (state p me xs) y.input (state p me (y ∷ xs)) (room p me xs) (commit p me (state p me xs) y.input)).front
+
 decided-stays : (p : Params) (me : ℕ) (xs : List (Item Message)) (y : Item Message) (s : ℕ) (x : Value) → decided p me xs s ≡ Some x → decided p me (y ∷ xs) s ≡ Some x
 decided-stays p me xs y s x h =
-    value-front s p.slots (take (state p me xs).commit (state p me xs).log) (take (state p me (y ∷ xs)).commit (state p me (y ∷ xs)).log) x
-    (on p me (state p me xs) y.input (state p me (y ∷ xs)) (room p me xs) (commit p me (state p me xs) y.input)).front h
+    value-front s p.slots (take (state p me xs).commit (state p me xs).log) (take (state p me (y ∷ xs)).commit (state p me (y ∷ xs)).log) x (grown p me xs y) h
 
 decided-start : (p : Params) (me : ℕ) (s : ℕ) → decided p me [] s ≡ None
 decided-start p me s = go p.slots

@@ -133,7 +133,7 @@ pub some-only : {A : Type 0} (t : Bool) (x y : A) → (if t then Some x else Non
 some-only true x y h = (refl, cc)
 some-only false x y h = absurd cc
 
-nth-In : (s : Slot) (slots : List Slot) (k : ℕ) → is_slot s.0 (nth slots k) ≡ true → In s slots
+pub nth-In : (s : Slot) (slots : List Slot) (k : ℕ) → is_slot s.0 (nth slots k) ≡ true → In s slots
 nth-In s [] k h = absurd (true≢false (sym h))
 nth-In s (t ∷ slots) zero h = inl (slot_eta s t (sym ((Decides-eqb t.0 s.0).0 h)))
 nth-In s (t ∷ slots) (suc k) h = inr (nth-In s slots k h)

@@ -1,13 +1,11 @@
 -- The terms, indices and counts of a node that heard only what was read are in the ranges of the messages' fields, and
 -- its entries are read again. So is all that it sends.
-use Rattle.std.proofs.Common.{◌≡◌, ℕ, zero, suc, ◌+◌, ◌-◌, ◌^◌, ◌<◌, ◌≤◌, ◌==◌, Bool, true, false, cond, List, [], ◌∷◌, ◌++◌, length, take, drop, refl, sym, subst, ap, ◌∙◌, inl, inr, ◌⊎◌, true≢false, arith}
+use Rattle.std.proofs.Common.{◌≡◌, ℕ, zero, suc, ◌+◌, ◌-◌, ◌^◌, ◌<◌, ◌≤◌, ◌==◌, Bool, true, false, cond, List, [], ◌∷◌, ◌++◌, length, take, drop, refl, sym, subst, ap, ◌∙◌, inl, inr, ◌⊎◌, arith}
 use Rattle.std.specs.Prelude.{nat_lt}
 use Rattle.std.proofs.lemmas.List.{length-append, length-take}
-use Rattle.iss_base.specs.Lists.{In, nth}
+use Rattle.iss_base.specs.Lists.{In}
 use Rattle.iss_base.proofs.Lists.{in_append, in_left, in_right}
 use Rattle.iss_request.specs.declared.ids.NodeId.{NodeId}
-use Rattle.iss_request.specs.declared.ids.Slot.{Slot}
-use Rattle.iss_request.specs.declared.requests.Value.{Value}
 use Rattle.iss_sb.specs.declared.effects.Input.{Input}
 use Rattle.iss_sb.specs.declared.effects.Input.TheVariants.{Cast, Receive, Timeout}
 use Rattle.iss_sb.specs.declared.effects.Params.{Params}
@@ -17,18 +15,18 @@ use Rattle.iss_sb.specs.Calls.{IsGoodParams}
 use Rattle.iss_sb.specs.Evidence.{Item, IsReadMessage}
 use Rattle.iss_sb.specs.Laws.{AreHeard, IsHeard}
 use Rattle.raft_wire.specs.declared.entries.Entry.{Entry}
-use Rattle.raft_wire.specs.declared.entries.What.{What}
-use Rattle.raft_wire.specs.declared.entries.What.TheVariants.{Nil, Holds, Mark}
+use Rattle.raft_wire.specs.declared.entries.What.TheVariants.{Holds}
 use Rattle.raft_wire.specs.declared.messages.Message.{Message}
 use Rattle.raft_wire.specs.declared.messages.Message.TheVariants.{Append, Reply, AskVote, Vote}
 use Rattle.raft_wire.specs.Messages.{IsSpelledAppend, spell}
 use Rattle.raft_wire.proofs.Readable.{HasBytes, HaveBytes, batch-has, entries-have, have-entries, mark-has, nil-has, read-spelled, spelled-read}
-use Rattle.sb_raft.specs.Logs.{contents, content, entry, filled, last_term, merge, merged, nils}
+use Rattle.sb_raft.specs.Logs.{entry, filled, last_term, merge, merged, nils}
 use Rattle.sb_raft.specs.Raft.{raft, state}
-use Rattle.sb_raft.specs.Rules.{Role, Follower, Leader, State, candidate, filling, is_candidate, is_slot, raised, step}
+use Rattle.sb_raft.specs.Rules.{State, candidate, filling, is_candidate, raised, step}
 use Rattle.sb_raft.proofs.Bounds.{bounded}
-use Rattle.sb_raft.proofs.Delivers.{contents-both, merge-longer, room, room-next}
-use Rattle.sb_raft.proofs.Effects.{cast-parts, fits_parts}
+use Rattle.sb_raft.proofs.Delivers.{merge-longer, room, room-next}
+use Rattle.sb_raft.proofs.Effects.{fits_parts}
+use Rattle.sb_raft.proofs.Few.{Few, few, no-more}
 use Rattle.sb_raft.proofs.Inv.{May, node}
 use Rattle.sb_raft.proofs.Sends.{AllSent, IsOne, sends-may}
 use Rattle.sb_raft.proofs.Steps.{append_cases, ask_cases, by_test, cast_cases, raise, reply_cases, time_cases, up, vote_cases, Raise, level, higher, Handled, none, down, copy, reply, back, grant, voted, win, casts, times, alone, next, with_granted}
@@ -62,55 +60,11 @@ merged-in x log previous es h = elim (in_append x (take previous log) (merge (dr
   | inr k ↦ elim (merge-in x (drop previous log) es k) [ inl q ↦ inl (drop-in previous x log q) | inr q ↦ inr q ]
 ]
 
-filled-both : (a b : List Entry) → filled (a ++ b) ≡ filled a + filled b
-filled-both a b = ap (λ (vs : List Value). length vs) (contents-both a b) ∙ length-append (contents a) (contents b)
-
-content-low : (e : Entry) → length (content e.what) ≤ 1
-content-low e = go e.what
-  where
-    go : (w : What) → length (content w) ≤ 1
-    go Nil = omega arith
-    go (Holds b) = omega arith
-    go Mark = omega arith
-
--- a log fills no more slots than it has entries
-filled-low : (log : List Entry) → filled log ≤ length log
-filled-low [] = omega arith
-filled-low (e ∷ log) =
-    let r = filled-low log in
-    let c = content-low e in
-    let l = length-append (content e.what) (contents log) in
-    omega (arith, r, c, l)
-
-nils-long : (t k : ℕ) → length (nils t k) ≡ k
-nils-long t zero = refl
-nils-long t (suc k) = ap suc (nils-long t k)
-
-nils-fill : (t k : ℕ) → filled (nils t k) ≡ k
-nils-fill t zero = refl
-nils-fill t (suc k) = ap suc (nils-fill t k)
-
 -- the last term of a log is one of its terms, or 0
 last-low : (bound : ℕ) (log : List Entry) → 0 < bound → ((e : Entry) → In e log → e.term < bound) → last_term log < bound
 last-low bound [] some h = some
 last-low bound (e ∷ []) some h = h e (inl refl)
 last-low bound (e ∷ (d ∷ log)) some h = last-low bound (d ∷ log) some (λ x i. h x (inr i))
-
-slot-below : (s : ℕ) (slots : List Slot) (k : ℕ) → is_slot s (nth slots k) ≡ true → k < length slots
-slot-below s [] k h = absurd (true≢false (sym h))
-slot-below s (t ∷ slots) zero h = omega arith
-slot-below s (t ∷ slots) (suc k) h = let r = slot-below s slots k h in omega (arith, r)
-
-no-more : (c : Bool) (a x : ℕ) → a + cond c 1 0 ≤ x → a ≤ x
-no-more true a x h = omega (arith, h)
-no-more false a x h = omega (arith, h)
-
-one-more : (c : Bool) (a b t f g : ℕ) → a + cond c 1 0 ≤ 65600 + t + f → b ≡ suc a → g ≡ suc f → b + cond c 1 0 ≤ 65600 + t + g
-one-more true a b t f g h e d = omega (arith, h, e, d)
-one-more false a b t f g h e d = omega (arith, h, e, d)
-
-not-leader : (i : Input Message) (j : NodeId) (msg : Message) → i ≡ Receive j msg → i ≡ Timeout → ⊥
-not-leader i j msg h g = cc
 
 -- ---- states in their ranges
 
@@ -118,41 +72,28 @@ module _ (p : Params) where
   abbrev version : ℕ
   version = p.setup.version
 
-  -- the marks of a log are few: those of an Append, and one for each term since. A candidate has none of its term
   pub record Ranged (s : State) : Type 0 where
     pub term : s.term < 2 ^ 16
-    pub marks : length s.log + cond (is_candidate s.role) 1 0 ≤ 65600 + s.term + filled s.log
-    pub full : filled s.log ≤ 65600
     pub entries : HaveBytes version s.log
 
   -- a log has less than 2^32 entries
-  pub short : (s : State) → Ranged s → length s.log < 2 ^ 32
-  short s r =
-      let m = no-more (is_candidate s.role) (length s.log) (65600 + s.term + filled s.log) r.marks in
+  pub short : (s : State) → Few s → Ranged s → length s.log < 2 ^ 32
+  short s f r =
+      let m = no-more (is_candidate s.role) (length s.log) (65600 + s.term + filled s.log) f.marks in
       let t = r.term in
-      let f = r.full in
-      omega (arith, m, t, f)
+      let g = f.full in
+      omega (arith, m, t, g)
 
   ranged-start : (me : ℕ) → Ranged (state p me [])
-  ranged-start me = record { term = omega arith; marks = go (me == p.leader.0); full = omega arith; entries = λ e i. absurd i }
-    where
-      go : (b : Bool) → 0 + cond (is_candidate (cond b Leader Follower)) 1 0 ≤ 65600 + 1 + 0
-      go true = omega arith
-      go false = omega arith
+  ranged-start me = record { term = omega arith; entries = λ e i. absurd i }
 
-  -- a follower with that log and term
-  follows : (s v : State) → Ranged s → s.term ≤ v.term → v.term < 2 ^ 16 → v.role ≡ Follower → v.log ≡ s.log → Ranged v
-  follows s v r up low role log =
-      let m = no-more (is_candidate s.role) (length s.log) (65600 + s.term + filled s.log) r.marks in
-      let none : ◌≡◌ {A = ℕ} (cond (is_candidate v.role) 1 0) 0 = ap (λ (x : Role). cond (is_candidate x) 1 0) role in
-      let l = ap (λ (x : List Entry). length x) log in
-      let f = ap filled log in
-      record {
-        term = low;
-        marks = omega (arith, m, none, l, f, up);
-        full = let g = r.full in omega (arith, f, g);
-        entries = subst (λ (x : List Entry). HaveBytes version x) (sym log) r.entries;
-      }
+  -- the same log
+  keeps : (s v : State) → Ranged s → v.term < 2 ^ 16 → v.log ≡ s.log → Ranged v
+  keeps s v r low log = record { term = low; entries = subst (λ (x : List Entry). HaveBytes version x) (sym log) r.entries }
+
+  -- the same log and term
+  same-ranged : (s v : State) → Ranged s → v.term ≡ s.term → v.log ≡ s.log → Ranged v
+  same-ranged s v r term log = let t = r.term in keeps s v r (omega (arith, t, term)) log
 
   raised-low : (s : State) (t : ℕ) → t < 2 ^ 16 → s.term < 2 ^ 16 → (raised s t).term < 2 ^ 16
   raised-low s t a b = by_test (λ (z : State). z.term < 2 ^ 16) (nat_lt s.term t) (up s t) s (λ h. a) (λ h. b)
@@ -162,25 +103,15 @@ module _ (p : Params) where
     where
       go : Raise s (raised s t) → Ranged (raised s t)
       go (level e) = subst (λ (z : State). Ranged z) (sym e) r
-      go (higher u l e) =
-          let et : (raised s t).term ≡ u = ap (λ (z : State). z.term) e in
-          follows s (raised s t) r (omega (arith, et, l)) (raised-low s t low r.term) (ap (λ (z : State). z.role) e) (ap (λ (z : State). z.log) e)
+      go (higher u l e) = keeps s (raised s t) r (raised-low s t low r.term) (ap (λ (z : State). z.log) e)
 
   -- the log with a mark and the nils that are missing
-  fills : (good : IsGoodParams raft p) (s v : State) → v.term < 2 ^ 16 → length s.log + 1 ≤ 65600 + v.term + filled s.log → filled s.log ≤ 65600 → HaveBytes version s.log → v.role ≡ Leader → v.log ≡ s.log ++ filling p s → s.term ≡ v.term → Ranged v
-  fills good s v low marks full entries role log term =
+  fills : (s v : State) → v.term < 2 ^ 16 → HaveBytes version s.log → v.log ≡ s.log ++ filling p s → s.term ≡ v.term → Ranged v
+  fills s v low entries log term =
       let k = length p.slots - filled s.log in
-      let none : ◌≡◌ {A = ℕ} (cond (is_candidate v.role) 1 0) 0 = ap (λ (x : Role). cond (is_candidate x) 1 0) role in
-      let n = nils-long s.term k in
-      let l : length v.log ≡ length s.log + suc (length (nils s.term k)) = ap (λ (x : List Entry). length x) log ∙ length-append s.log (filling p s) in
-      let g = nils-fill s.term k in
-      let f : filled v.log ≡ filled s.log + filled (nils s.term k) = ap filled log ∙ filled-both s.log (filling p s) in
-      let few = good.few in
       let below : s.term < 2 ^ 16 = omega (arith, term, low) in
       record {
         term = low;
-        marks = omega (arith, none, n, l, g, f, marks);
-        full = omega (arith, g, f, few, full);
         entries = subst (λ (x : List Entry). HaveBytes version x) (sym log) (λ e i. elim (in_append e s.log (filling p s) i) [
           | inl h ↦ entries e h
           | inr (inl q) ↦ subst (λ (z : Entry). HasBytes version z) (sym q) (mark-has version s.term below)
@@ -193,18 +124,6 @@ module _ (p : Params) where
       of-nils t (suc k) e low (inl q) = subst (λ (z : Entry). HasBytes version z) (sym q) (nil-has version t low)
       of-nils t (suc k) e low (inr h) = of-nils t k e low h
 
-  -- the same log, term and role
-  same-ranged : (s v : State) → Ranged s → v.term ≡ s.term → v.role ≡ s.role → v.log ≡ s.log → Ranged v
-  same-ranged s v r term role log =
-      let t = r.term in
-      let m : length v.log + cond (is_candidate v.role) 1 0 ≤ 65600 + s.term + filled v.log = subst (λ (z : List Entry). length z + cond (is_candidate v.role) 1 0 ≤ 65600 + s.term + filled z) (sym log) (subst (λ (z : Role). length s.log + cond (is_candidate z) 1 0 ≤ 65600 + s.term + filled s.log) (sym role) r.marks) in
-      record {
-        term = omega (arith, t, term);
-        marks = subst (λ (z : ℕ). length v.log + cond (is_candidate v.role) 1 0 ≤ 65600 + z + filled v.log) (sym term) m;
-        full = subst (λ (z : List Entry). filled z ≤ 65600) (sym log) r.full;
-        entries = subst (λ (z : List Entry). HaveBytes version z) (sym log) r.entries;
-      }
-
   -- what an Append that was heard holds
   append-heard : (j : NodeId) (t prev pt c : ℕ) (es : List Entry) → IsHeard raft p (Receive j (Append t prev pt c es)) → IsSpelledAppend version t prev pt c es (spell version (Append t prev pt c es))
   append-heard j t prev pt c es h = read-spelled version (Append t prev pt c es) h.1
@@ -212,52 +131,33 @@ module _ (p : Params) where
   module _ (good : IsGoodParams raft p) (me : ℕ) where
     ranged-level : (u : State) (i : Input Message) (v : State) → IsHeard raft p i → Ranged u → Handled p me u i v → Ranged v
     ranged-level u i v h r (none e) = subst (λ (z : State). Ranged z) (sym e) r
-    ranged-level u i v h r (down e) = follows u v r (let t = ap (λ (z : State). z.term) e in omega (arith, t)) (let t = ap (λ (z : State). z.term) e in let l = r.term in omega (arith, t, l)) (ap (λ (z : State). z.role) e) (ap (λ (z : State). z.log) e)
+    ranged-level u i v h r (down e) = same-ranged u v r (ap (λ (z : State). z.term) e) (ap (λ (z : State). z.log) e)
     ranged-level u i v h r (copy j prev pt c es ei f fm e) =
-        let a = fits_parts u prev pt es f fm in
         let heard = append-heard j u.term prev pt c es (subst (λ (z : Input Message). IsHeard raft p z) ei h) in
-        let log : v.log ≡ merged u.log prev es = ap (λ (z : State). z.log) e in
         let t : v.term ≡ u.term = ap (λ (z : State). z.term) e in
-        let none : ◌≡◌ {A = ℕ} (cond (is_candidate v.role) 1 0) 0 = ap (λ (z : State). cond (is_candidate z.role) 1 0) e in
-        let l = ap (λ (x : List Entry). length x) log in
-        let f = filled-low v.log in
-        let s = a.short in
         let low = r.term in
         record {
           term = omega (arith, t, low);
-          marks = omega (arith, none, l, s);
-          full = omega (arith, l, s, f);
-          entries = subst (λ (x : List Entry). HaveBytes version x) (sym log) (λ x k. elim (merged-in x u.log prev es k) [
+          entries = subst (λ (x : List Entry). HaveBytes version x) (sym (ap (λ (z : State). z.log) e)) (λ x k. elim (merged-in x u.log prev es k) [
             | inl q ↦ r.entries x q
             | inr q ↦ entries-have version es heard.entries heard.spelled x q
           ]);
         }
-    ranged-level u i v h r (reply j x ei ru ne lx e) = same-ranged u v r (ap (λ (z : State). z.term) e) (ap (λ (z : State). z.role) e) (ap (λ (z : State). z.log) e)
-    ranged-level u i v h r (back j x ei ru nx lx e) = same-ranged u v r (ap (λ (z : State). z.term) e) (ap (λ (z : State). z.role) e) (ap (λ (z : State). z.log) e)
-    ranged-level u i v h r (grant j last lt ei g e) = same-ranged u v r (ap (λ (z : State). z.term) e) (ap (λ (z : State). z.role) e) (ap (λ (z : State). z.log) e)
-    ranged-level u i v h r (voted j ei ru e) = same-ranged u v r (ap (λ (z : State). z.term) e) (ap (λ (z : State). z.role) e) (ap (λ (z : State). z.log) e)
+    ranged-level u i v h r (reply j x ei ru ne lx e) = same-ranged u v r (ap (λ (z : State). z.term) e) (ap (λ (z : State). z.log) e)
+    ranged-level u i v h r (back j x ei ru nx lx e) = same-ranged u v r (ap (λ (z : State). z.term) e) (ap (λ (z : State). z.log) e)
+    ranged-level u i v h r (grant j last lt ei g e) = same-ranged u v r (ap (λ (z : State). z.term) e) (ap (λ (z : State). z.log) e)
+    ranged-level u i v h r (voted j ei ru e) = same-ranged u v r (ap (λ (z : State). z.term) e) (ap (λ (z : State). z.log) e)
     ranged-level u i v h r (win j ei ru n e) =
         let t : v.term ≡ u.term = ap (λ (z : State). z.term) e in
         let low = r.term in
-        let c : ◌≡◌ {A = ℕ} (cond (is_candidate u.role) 1 0) 1 = ap (λ (x : Role). cond (is_candidate x) 1 0) ru in
-        let m = r.marks in
-        fills good (with_granted u j.0) v (omega (arith, t, low)) (omega (arith, c, m, t)) r.full r.entries (ap (λ (z : State). z.role) e) (ap (λ (z : State). z.log) e) (sym t)
+        fills (with_granted u j.0) v (omega (arith, t, low)) r.entries (ap (λ (z : State). z.log) e) (sym t)
     ranged-level u i v h r (casts s b ei mc e) =
         let one = entry u.term (Holds b) in
-        let log : v.log ≡ u.log ++ one ∷ [] = ap (λ (z : State). z.log) e in
         let t : v.term ≡ u.term = ap (λ (z : State). z.term) e in
-        let role : v.role ≡ u.role = ap (λ (z : State). z.role) e in
-        let l : length v.log ≡ suc (length u.log) = ap (λ (x : List Entry). length x) log ∙ (let k = length-append u.log (one ∷ []) in omega (arith, k)) in
-        let f : filled v.log ≡ suc (filled u.log) = ap filled log ∙ (let k = filled-both u.log (one ∷ []) in omega (arith, k)) in
-        let room = slot-below s.0 p.slots (filled u.log) (cast-parts p u s.0 mc).next in
-        let few = good.few in
         let low = r.term in
-        let m : length v.log + cond (is_candidate v.role) 1 0 ≤ 65600 + u.term + filled v.log = subst (λ (x : Role). length v.log + cond (is_candidate x) 1 0 ≤ 65600 + u.term + filled v.log) (sym role) (one-more (is_candidate u.role) (length u.log) (length v.log) u.term (filled u.log) (filled v.log) r.marks l f) in
         record {
           term = omega (arith, t, low);
-          marks = subst (λ (z : ℕ). length v.log + cond (is_candidate v.role) 1 0 ≤ 65600 + z + filled v.log) (sym t) m;
-          full = omega (arith, f, room, few);
-          entries = subst (λ (x : List Entry). HaveBytes version x) (sym log) (λ x k. elim (in_append x u.log (one ∷ []) k) [
+          entries = subst (λ (x : List Entry). HaveBytes version x) (sym (ap (λ (z : State). z.log) e)) (λ x k. elim (in_append x u.log (one ∷ []) k) [
             | inl q ↦ r.entries x q
             | inr (inl q) ↦ subst (λ (z : Entry). HasBytes version z) (sym q) (batch-has version u.term b r.term (subst (λ (z : Input Message). IsHeard raft p z) ei h))
             | inr (inr q) ↦ absurd q
@@ -265,24 +165,12 @@ module _ (p : Params) where
         }
     ranged-level u i v h r (times ei ru e) =
         let t : v.term ≡ u.term + 1 = ap (λ (z : State). z.term) e in
-        let log : v.log ≡ u.log = ap (λ (z : State). z.log) e in
-        let one : ◌≡◌ {A = ℕ} (cond (is_candidate v.role) 1 0) 1 = ap (λ (z : State). cond (is_candidate z.role) 1 0) e in
-        let m = no-more (is_candidate u.role) (length u.log) (65600 + u.term + filled u.log) r.marks in
-        let l = ap (λ (x : List Entry). length x) log in
-        let f = ap filled log in
         let low = ei.1 in
-        let g = r.full in
-        record {
-          term = omega (arith, t, low);
-          marks = omega (arith, one, m, l, f, t);
-          full = omega (arith, f, g);
-          entries = subst (λ (x : List Entry). HaveBytes version x) (sym log) r.entries;
-        }
+        keeps u v r (omega (arith, t, low)) (ap (λ (z : State). z.log) e)
     ranged-level u i v h r (alone ei ru n e) =
         let t : v.term ≡ u.term + 1 = ap (λ (z : State). z.term) e in
-        let m = no-more (is_candidate u.role) (length u.log) (65600 + u.term + filled u.log) r.marks in
         let low = ei.1 in
-        fills good (candidate me u) v (omega (arith, t, low)) (omega (arith, m, t)) r.full r.entries (ap (λ (z : State). z.role) e) (ap (λ (z : State). z.log) e) (sym t)
+        fills (candidate me u) v (omega (arith, t, low)) r.entries (ap (λ (z : State). z.log) e) (sym t)
 
     ranged-next : (s : State) (i : Input Message) → IsHeard raft p i → Ranged s → Ranged (next p me s i)
     ranged-next s (Cast slot b) h r = ranged-level s (Cast slot b) _ h r (cast_cases p me s slot b)
@@ -305,11 +193,11 @@ module _ (p : Params) where
     entries-low : (log : List Entry) → HaveBytes version log → (e : Entry) → In e log → e.term < 2 ^ 16
     entries-low log h e i = (h e i).spelled.term
 
-    may-read : (s : State) (i : Input Message) (v : State) → Ranged v → v.commit ≤ length v.log → IsHeard raft p i → (k : ℕ) (msg : Message) → May s i v k msg → IsReadMessage raft p msg
-    may-read s i v r room h k (Append t prev pt c es) m =
+    may-read : (s : State) (i : Input Message) (v : State) → Few v → Ranged v → v.commit ≤ length v.log → IsHeard raft p i → (k : ℕ) (msg : Message) → May s i v k msg → IsReadMessage raft p msg
+    may-read s i v f r room h k (Append t prev pt c es) m =
         let front = m.3.0 in
         let log : v.log ≡ front ++ es = m.3.1 in
-        let long = short v r in
+        let long = short v f r in
         let l : length v.log ≡ length front + length es = ap (λ (x : List Entry). length x) log ∙ length-append front es in
         let here : (e : Entry) → In e (front ++ es) → HasBytes version e = λ e i. r.entries e (subst (λ (x : List Entry). In e x) (sym log) i) in
         let es-have = have-entries version es (λ e i. here e (in_right e front es i)) in
@@ -329,12 +217,12 @@ module _ (p : Params) where
           spelled = es-have.1;
           row = refl;
         })
-    may-read s i v r room h k (Reply t false x) m =
+    may-read s i v f r room h k (Reply t false x) m =
         let heard = append-heard (node k) m.0 x m.1 m.2 m.3 (subst (λ (z : Input Message). IsHeard raft p z) m.4 h) in
         let tv = m.5 in
         let low = r.term in
         spelled-read version (Reply t false x) _ (omega (arith, tv, low), heard.previous_fits, refl)
-    may-read s i v r room h k (Reply t true x) m =
+    may-read s i v f r room h k (Reply t true x) m =
         let heard = append-heard (node k) t m.0 m.1 m.2 m.3 (subst (λ (z : Input Message). IsHeard raft p z) m.4 h) in
         let a = fits_parts (raised s t) m.0 m.1 m.3 m.6 m.7 in
         let ml = merge-longer (drop m.0 (raised s t).log) m.3 in
@@ -344,16 +232,16 @@ module _ (p : Params) where
         let sh = a.short in
         let x-is = m.8 in
         spelled-read version (Reply t true x) _ (heard.term_fits, omega (arith, ml, tl, l, w, sh, x-is), refl)
-    may-read s i v r room h k (AskVote t last lt) m =
-        let long = short v r in
+    may-read s i v f r room h k (AskVote t last lt) m =
+        let long = short v f r in
         let low = r.term in
         let tv = m.1 in
         let lv = m.2 in
         let le = m.3 in
         let ll = last-low (2 ^ 16) v.log (omega arith) (entries-low v.log r.entries) in
         spelled-read version (AskVote t last lt) _ (omega (arith, tv, low), omega (arith, lv, long), omega (arith, le, ll), refl)
-    may-read s i v r room h k (Vote t false) m = let low = r.term in spelled-read version (Vote t false) _ (omega (arith, m, low), refl)
-    may-read s i v r room h k (Vote t true) m =
+    may-read s i v f r room h k (Vote t false) m = let low = r.term in spelled-read version (Vote t false) _ (omega (arith, m, low), refl)
+    may-read s i v f r room h k (Vote t true) m =
         let heard = read-spelled version (AskVote t m.0 m.1) (subst (λ (z : Input Message). IsHeard raft p z) m.2 h).1 in
         spelled-read version (Vote t true) _ (heard.0, refl)
 
@@ -373,4 +261,4 @@ module _ (p : Params) where
         let may = sends-may p me good.nodes good.majority s i (bounded p me xs) in
         let one = sent-one (May s i (next p me s i)) (step p me s i).sends to msg may h in
         let r = ranged-next s i hi (ranged xs heard) in
-        may-read s i (next p me s i) r (room-next p me s i (room p me xs)) hi one.0 msg one.1
+        may-read s i (next p me s i) (few p good me (record { input = i; leaf = 0; made = raft.makes p me xs i 0 } ∷ xs)) r (room-next p me s i (room p me xs)) hi one.0 msg one.1

@@ -27,7 +27,6 @@ good-setup = record {
   relay_kind = λ h. absurd (let k : 2 ≡ 1 = h in omega arith);
   nodes = refl;
   majority = refl;
-  simple = refl;
   epoch_low = omega arith;
   epoch_high = omega arith;
   buckets_low = omega arith;

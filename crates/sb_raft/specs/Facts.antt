@@ -58,6 +58,10 @@ pub record AreByFirst (p : Params) (w : World Message) : Type 0 where
   pub owned : (i : ℕ) (a : List (Item Message)) (front : List Entry) (e : Entry) (rest : List Entry) (b : Batch) → Front a (w i) →
       raft_log p i a ≡ front ++ (e ∷ rest) → e.what ≡ Holds b → IsOwned p w front b
 
+-- a node accepts one batch at a slot
+abbrev pub AreOnce : Params → World Message → Type 0
+AreOnce p w = (i : ℕ) (s : Slot) (b c : Batch) → In {A = Slot × Batch} (s, b) (accepts (w i)) → In {A = Slot × Batch} (s, c) (accepts (w i)) → b ≡ c
+
 -- ---- what is delivered
 
 abbrev pub AreAgreed : Params → World Message → Type 0

@@ -4,7 +4,7 @@ ghost use Rattle.iss_sb.specs.Calls.{IsGoodParams};
 ghost use Rattle.iss_sb.specs.Evidence.{IsReached, World};
 ghost use Rattle.iss_sb.specs.declared.effects.Params.{Params};
 ghost use Rattle.raft_wire.specs.declared.messages.Message.{Message};
-ghost use Rattle.sb_raft.specs.Facts.{AreAgreed, AreByFirst, AreFromLeader, AreKept, AreMatching, HaveOneLeader, HaveSharedAcceptor};
+ghost use Rattle.sb_raft.specs.Facts.{AreAgreed, AreByFirst, AreFromLeader, AreKept, AreMatching, AreOnce, HaveOneLeader, HaveSharedAcceptor};
 ghost use Rattle.sb_raft.specs.Raft.{raft};
 
 /// No two nodes lead one term.
@@ -25,6 +25,11 @@ pub fn later_leaders_keep_what_is_committed()
 /// Batches are accepted by the leader of term 1 alone, and each batch in a log was.
 pub fn the_first_leader_accepts()
     ensures { (p : Params) (w : World Message) → IsGoodParams raft p → IsReached raft p w → AreByFirst p w }
+{}
+
+/// Of a slot one batch is accepted, however often its leader is asked for it.
+pub fn batches_are_accepted_once()
+    ensures { (p : Params) (w : World Message) → IsGoodParams raft p → IsReached raft p w → AreOnce p w }
 {}
 
 /// Nodes that deliver a slot deliver the same there.

@@ -3,7 +3,7 @@ use Rattle.std.proofs.Common.{◌≡◌, ℕ, Bool, true, false, not, ◌+◌, �
 use Rattle.std.proofs.lemmas.Bool.{eq-eqb}
 use Rattle.std.proofs.lemmas.List.Folds.{list_any-append}
 use Rattle.iss_base.specs.Lists.{In, first_of}
-use Rattle.iss_base.proofs.Lists.{and-true, is-eq, not-true}
+use Rattle.iss_base.proofs.Lists.{and-true, is-eq, not-true, or-alone, or-flip}
 use Rattle.iss_request.specs.declared.ids.NodeId.{NodeId}
 use Rattle.iss_request.specs.declared.ids.Slot.{Slot}
 use Rattle.iss_request.specs.declared.requests.Batch.{Batch}
@@ -30,27 +30,13 @@ no_answer (Some x) h = absurd (true≢false h)
 an_answer : {A : Type 0} (o : Option A) → o ≡ None → is_some o ≡ false
 an_answer o h = rw h refl
 
-first_of-none : {A : Type 0} (o : Option A) → first_of o None ≡ o
-first_of-none None = refl
-first_of-none (Some x) = refl
-
 is_some-first : {A : Type 0} (a b : Option A) → is_some (first_of a b) ≡ (is_some a || is_some b)
 is_some-first None b = refl
 is_some-first (Some x) b = refl
 
-or_false : (b : Bool) → (b || false) ≡ b
-or_false true = refl
-or_false false = refl
-
-or_flip : (a b : Bool) → (a || b) ≡ (b || a)
-or_flip true true = refl
-or_flip true false = refl
-or_flip false true = refl
-or_flip false false = refl
-
 -- one mark more
 marked : (s : ℕ) (slots : List Slot) (slot : Slot) → has_slot s (slots ++ slot ∷ []) ≡ (has_slot s slots || (slot.0 == s))
-marked s slots slot = list_any-append (λ t. t.0 == s) slots (slot ∷ []) ∙ ap (λ b. has_slot s slots || b) (or_false (slot.0 == s))
+marked s slots slot = list_any-append (λ t. t.0 == s) slots (slot ∷ []) ∙ ap (λ b. has_slot s slots || b) (or-alone (slot.0 == s))
 
 -- the leader's word on a slot of the segment, in one input
 abbrev word : Params → ℕ → Input Say → Option Value
@@ -169,13 +155,13 @@ module _ (m : Relay) (p : Params) (me : ℕ) (xs : List (Item Say)) (st : Stands
 
   -- a cast that is not taken, and time that has run out
   pub idle_cast-stands : (slot : Slot) (batch : Batch) (leaf : ℕ) → may_cast m p slot ≡ false → Stands m p me (and_then relay p me xs (Cast slot batch) leaf)
-  idle_cast-stands slot batch leaf h = idle-stands (Cast slot batch) leaf (asks-as slot batch false h) (λ s. rw (no-word-cast p s slot batch) (or_false (has_slot s m.delivered)))
+  idle_cast-stands slot batch leaf h = idle-stands (Cast slot batch) leaf (asks-as slot batch false h) (λ s. rw (no-word-cast p s slot batch) (or-alone (has_slot s m.delivered)))
 
   pub idle_cast-taken : (slot : Slot) (batch : Batch) (leaf : ℕ) (e : Effects Say) → may_cast m p slot ≡ false → IsNothing e → IsTaken relay p me xs (Cast slot batch) leaf e
   idle_cast-taken slot batch leaf e h nothing = idle-taken (Cast slot batch) leaf e (asks-as slot batch false h) (λ s x w o. let n = no-word-cast p s.0 slot batch in absurd (cc)) nothing
 
   pub idle_timeout-stands : (leaf : ℕ) → Stands m p me (and_then relay p me xs Timeout leaf)
-  idle_timeout-stands leaf = idle-stands Timeout leaf refl (λ s. rw (no-word-timeout p s) (or_false (has_slot s m.delivered)))
+  idle_timeout-stands leaf = idle-stands Timeout leaf refl (λ s. rw (no-word-timeout p s) (or-alone (has_slot s m.delivered)))
 
   pub idle_timeout-taken : (leaf : ℕ) (e : Effects Say) → IsNothing e → IsTaken relay p me xs Timeout leaf e
   idle_timeout-taken leaf e nothing = idle-taken Timeout leaf e refl (λ s x w o. let n = no-word-timeout p s.0 in absurd (cc)) nothing
@@ -185,8 +171,8 @@ module _ (m : Relay) (p : Params) (me : ℕ) (xs : List (Item Say)) (st : Stands
   cast-stands slot batch leaf n h same casts delivers =
       let asked = asks-as slot batch true h in
       stands-more (Cast slot batch) leaf n same
-      (λ s. rw (asked, casts) (marked s m.cast slot ∙ or_flip (has_slot s m.cast) (slot.0 == s)))
-      (λ s. rw (delivers, no-word-cast p s slot batch) (sym (or_false (has_slot s m.delivered))))
+      (λ s. rw (asked, casts) (marked s m.cast slot ∙ or-flip (has_slot s m.cast) (slot.0 == s)))
+      (λ s. rw (delivers, no-word-cast p s slot batch) (sym (or-alone (has_slot s m.delivered))))
 
   pub cast-taken : (slot : Slot) (batch : Batch) (leaf : ℕ) (e : Effects Say) → may_cast m p slot ≡ true →
       e.sends ≡ (To_all, record { slot = slot; batch = batch }) ∷ [] → e.accepted ≡ Some (slot, batch) → e.delivers ≡ [] → e.hashed ≡ [] →

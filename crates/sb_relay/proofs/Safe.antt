@@ -3,6 +3,8 @@ use Rattle.std.proofs.Common.{◌≡◌, ◌<◌, ◌≤◌, ◌^◌, ℕ, Bool,
 use Rattle.std.proofs.lemmas.Bool.{eq-eqb}
 use Rattle.iss_base.specs.Lists.{In}
 use Rattle.iss_base.proofs.Lists.{and-true, first-cases, is-eq, not-true, some-injective}
+use Rattle.iss_sb.proofs.Inputs.{cast-is}
+use Rattle.iss_request.proofs.Identities.{holds-injective}
 use Rattle.iss_request.specs.declared.ids.NodeId.{NodeId}
 use Rattle.iss_request.specs.declared.ids.Slot.{Slot}
 use Rattle.iss_request.specs.declared.requests.Batch.{Batch}
@@ -24,9 +26,6 @@ use Rattle.sb_relay.specs.declared.say.Say.{Say}
 use Rattle.sb_relay.specs.Relay.{asks, decided, is_for, made_of, relay, said, says, was_cast}
 use Rattle.sb_relay.proofs.Marks.{delivered-is}
 use Rattle.sb_relay.proofs.Spelling.{say-again}
-
-holds-is : (b c : Batch) → Holds b ≡ Holds c → b ≡ c
-holds-is b c h = cc
 
 abbrev Same : Input Say → Input Say → Type 0
 Same x y = x ≡ y
@@ -120,7 +119,7 @@ fresh-at : (p : Params) (me : ℕ) (x : Item Say) (xs : List (Item Say)) (s : Sl
 fresh-at p me x xs s b made h = (asked p me xs x.input s b (sym (accepted-is (asks p me xs x.input)) ∙ (sym (ap (λ (z : Made Say). z.accepted) made.0) ∙ h))).fresh
 
 -- a node accepts one batch at a slot
-once : (p : Params) (me : ℕ) (xs : List (Item Say)) (s : Slot) (b c : Batch) → AreMade relay p me xs → In {A = Slot × Batch} (s, b) (accepts xs) → In {A = Slot × Batch} (s, c) (accepts xs) → b ≡ c
+pub once : (p : Params) (me : ℕ) (xs : List (Item Say)) (s : Slot) (b c : Batch) → AreMade relay p me xs → In {A = Slot × Batch} (s, b) (accepts xs) → In {A = Slot × Batch} (s, c) (accepts xs) → b ≡ c
 once p me [] s b c made h k = absurd h
 once p me (x ∷ xs) s b c made h k = elim (accepts-cases x xs (s, b) h) [
   | inl q ↦ elim (accepts-cases x xs (s, c) k) [
@@ -152,7 +151,7 @@ module _ (p : Params) (w : World Say) (legal : IsLegal relay p w) where
   owned_batch : (i : ℕ) (s : Slot) (b : Batch) → delivered relay p i (w i) s.0 ≡ Some (Holds b) → In {A = Slot × Batch} (s, b) (accepts (w p.leader.0))
   owned_batch i s b d =
       let a = owned i s.0 (Holds b) d in
-      let same : a.0 ≡ b = sym (holds-is b a.0 a.1) in
+      let same : a.0 ≡ b = sym (holds-injective b a.0 a.1) in
       subst (λ (x : Batch). In {A = Slot × Batch} (s, x) (accepts (w p.leader.0))) same a.2
 
   is-broadcast : IsGoodParams relay p → IsBroadcast relay p w
@@ -167,12 +166,6 @@ module _ (p : Params) (w : World Say) (legal : IsLegal relay p w) where
 
 pub relay-safe : IsSafe relay
 relay-safe = safe-legal relay (λ p w good legal sep. is-broadcast p w legal good)
-
-cast-is : (s : Slot) (b : Batch) (x : Slot × Batch) → Same (Cast s b) (Cast x.0 x.1) → x ≡ (s, b)
-cast-is s b x h =
-    let slots : x.0 ≡ s = cc in
-    let batches : x.1 ≡ b = cc in
-    ap (λ (t : Slot). let z : Slot × Batch = (t, x.1) in z) slots ∙ ap (λ (c : Batch). let z : Slot × Batch = (s, c) in z) batches
 
 no-leaves : (o : Option (Slot × Batch)) → (made_of o).used ≤ 0
 no-leaves None = omega arith

@@ -68,30 +68,3 @@ fn read_batch(alloc: Global, f: &mut Fields) -> Result<Batch, DecodeError>
 pub fn say_is_exact()
     ensures { (version : ℕ) (said : Say) (bytes : List ℕ) → (parse version bytes ≡ Good said []) ↔ IsSpelledSay version said bytes }
 {}
-
-#[cfg(test)]
-mod tests {
-    use super::*;
-    use std::test::Fail;
-
-    #[test]
-    fn a_message_is_written_and_read(rt: HostRuntime) -> Result<(), Fail> {
-        let alloc = rt.alloc();
-        let said = Say {
-            slot: Slot(259),
-            batch: Batch::new(alloc),
-        };
-        let mut out = Writer::new(alloc, 1);
-        said.write(&mut out)?;
-        let bytes = [1, 0, 0, 0, 0, 0, 0, 1, 3, 1, 0];
-        assert_eq!(rt; out.as_slice(), bytes.as_slice());
-        let mut fields = Fields::over(1, &bytes);
-        let again = Say::read(alloc, &mut fields)?;
-        assert_eq!(rt; again.slot, Slot(259));
-        assert!(rt; fields.is_done());
-        let mut nil = Fields::over(1, &[1, 0, 0, 0, 0, 0, 0, 1, 3, 0]);
-        let refused = Say::read(alloc, &mut nil).err();
-        assert_eq!(rt; refused, Some(DecodeError::BadField { at: 9 }));
-        Ok(())
-    }
-}

@@ -42,7 +42,6 @@ setup-good = record {
   relay_kind = λ h. absurd (omega (arith, h));
   nodes = refl;
   majority = refl;
-  simple = refl;
   epoch_low = omega arith;
   epoch_high = omega arith;
   buckets_low = omega arith;

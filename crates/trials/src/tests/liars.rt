@@ -3,7 +3,6 @@ ghost use Rattle.std.specs.Prelude.{◌≡◌, ◌<◌, ◌≤◌, ℕ, IfOk, On
 ghost use Rattle.hex.specs.Hex.{IsBytes};
 ghost use Rattle.iss_model.specs.Runs.{IsSetupOf};
 ghost use Rattle.iss_sb.specs.Calls.{IsGoodParams};
-ghost use Rattle.iss_world.specs.Stands.{IsStanding};
 ghost use Rattle.sb_echo.specs.Echo.{echo};
 ghost use Rattle.sb_echo.specs.Stands.{Stands};
 
@@ -128,16 +127,21 @@ fn bytes_from(all: Vec<u8>) -> Bytes
 
 // Node `core` takes these bytes.
 fn inject(alloc: Global, world: &mut World<Echo>, core: u32, packet: &Bytes) -> Result<(), NoMemory>
-    requires kind { world.old.setup.kind ≡ Kind.Byzantine }
-    requires core { core < world.old.setup.n }
-    requires standing { IsStanding echo Stands world.old }
-    ensures standing { OnOk result (IsStanding echo Stands world.new) }
-    ensures same { world.new.setup ≡ world.old.setup }
+    requires kind { world.old.running.setup.kind ≡ Kind.Byzantine }
+    requires core { core < world.old.running.setup.n }
+    ensures same { world.new.running.setup ≡ world.old.running.setup }
 {
     let bytes = bytes_from(Vec::from_slice(alloc, packet.as_slice())?);
     let event = Event::Bytes { core, bytes };
-    let _happened = world.event(alloc, &event)?;
-    Ok(())
+    enough(world.event(alloc, &event))
+}
+
+// There was memory for an event.
+fn enough(happened: Happened) -> Result<(), NoMemory> {
+    match happened {
+        Happened::Done | Happened::Lost(_) => Ok(()),
+        Happened::NoMemory | Happened::Stale => Err(NoMemory),
+    }
 }
 
 // Node `core` takes the packet of this place.
@@ -148,10 +152,8 @@ fn tell(
     packets: &[Bytes],
     place: usize,
 ) -> Result<(), NoMemory>
-    requires kind { world.old.setup.kind ≡ Kind.Byzantine }
-    requires standing { IsStanding echo Stands world.old }
-    ensures standing { OnOk result (IsStanding echo Stands world.new) }
-    ensures same { world.new.setup ≡ world.old.setup }
+    requires kind { world.old.running.setup.kind ≡ Kind.Byzantine }
+    ensures same { world.new.running.setup ≡ world.old.running.setup }
 {
     let Some(packet) = packets.get(place) else {
         return Ok(());
@@ -181,10 +183,8 @@ fn tell_all(
     packets: &[Bytes],
     told: &[(u32, usize)],
 ) -> Result<(), NoMemory>
-    requires kind { world.old.setup.kind ≡ Kind.Byzantine }
-    requires standing { IsStanding echo Stands world.old }
-    ensures standing { OnOk result (IsStanding echo Stands world.new) }
-    ensures same { world.new.setup ≡ world.old.setup }
+    requires kind { world.old.running.setup.kind ≡ Kind.Byzantine }
+    ensures same { world.new.running.setup ≡ world.old.running.setup }
 {
     for (core, place) in told {
         tell(alloc, world, *core, packets, *place)?;
@@ -194,13 +194,13 @@ fn tell_all(
 
 // The world in which the liar has spoken, and all echoes have come.
 fn after_lies(alloc: Global) -> Result<World<Echo>, Fail>
-    ensures { IfOk result (λ w. w.setup.n ≡ 4) }
+    ensures { IfOk result (λ w. w.running.setup.n ≡ 4) }
 {
     let p = instance(alloc)?;
     let packets = lies(alloc, &p)?;
     let mut world = World::<Echo>::start(alloc, &p.setup)?;
     tell_all(alloc, &mut world, &packets, &TOLD)?;
-    world.event(alloc, &Event::Calm { pumps: 4 })?;
+    enough(world.event(alloc, &Event::Calm { pumps: 4 }))?;
     Ok(world)
 }
 

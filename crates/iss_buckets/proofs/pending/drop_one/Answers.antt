@@ -1,16 +1,13 @@
-use Rattle.std.proofs.Common.{◌∙◌, ap, subst, sym, List}
+use Rattle.std.proofs.Common.{sym, ap, List, ℕ, ◌∙◌}
 use Rattle.std.specs.Map.{values_of}
-use Rattle.iss_request.specs.declared.ids.ReqId.{ReqId}
 use Rattle.iss_request.specs.declared.requests.Request.{Request}
-use Rattle.iss_buckets.specs.Waiting.{AreKeyed}
-use Rattle.iss_buckets.proofs.WaitingLemmas.{removed_one, keyed_without}
+use Rattle.iss_buckets.proofs.FiledLemmas.{absent_known, absent_none_known}
 use Rattle.iss_buckets.proofs.pending.drop_one.Goals as goal
 
-pub returns-clause-gone : goal.returns-clause-gone
-returns-clause-gone c =
-    let es = c.args.requests.now.entries in
-    ap (λ (xs : List (ReqId × Request)). values_of xs) c.shift_remove-gone.ensures.entries ∙ removed_one c.args.id es c.requires c.len-count.ensures.unique
+pub returns-in-Some-clause-gone : goal.returns-in-Some-clause-gone
+returns-in-Some-clause-gone c =
+    ap (λ (es : List (ℕ × Request)). values_of es) c.take_out-gone.ensures.left
+    ∙ absent_known 0 c.args.shelf.now c.args.id c.in-Some.number c.requires.filed (sym c.number_of.ensures.value ∙ c.in-Some.is)
 
-pub returns-clause-keyed : goal.returns-clause-keyed
-returns-clause-keyed c =
-    subst (λ (xs : List (ReqId × Request)). AreKeyed xs) (sym c.shift_remove-gone.ensures.entries) (keyed_without c.args.id c.args.requests.now.entries c.requires)
+pub returns-in_default-clause-gone : goal.returns-in_default-clause-gone
+returns-in_default-clause-gone c = absent_none_known c.args.shelf.now c.args.id (sym c.number_of.ensures.value ∙ c.in_default.is)

@@ -1,6 +1,7 @@
 use Rattle.iss_model.specs.Concrete.{rules_of}
 use Rattle.iss_model.specs.Formats.{formats_of}
-use Rattle.iss_model.proofs.Layouts.{all-inside, sound-rules}
+use Rattle.iss_model.proofs.Layouts.{sound-rules}
+use Rattle.iss_model.proofs.Windows.{are-windows}
 use Rattle.iss_model.proofs.OneLog.{cluster-run}
 use Rattle.iss_model.proofs.Printed.{later-run}
 use Rattle.iss_model.proofs.Written.{faithful}
@@ -12,5 +13,5 @@ returns g c =
     let laws = c.laws.ensures in
     record {
       reached = λ s h stops. cluster-run s M h stops (faithful s M laws.grammar) laws.lawful;
-      grows = λ s h stops. later-run s (formats_of s M) (rules_of s) M (sound-rules M s h) stops (faithful s M laws.grammar) laws.lawful (all-inside s);
+      grows = λ s h stops. later-run s (formats_of s M) (rules_of s) M (sound-rules M s h) stops (faithful s M laws.grammar) laws.lawful (are-windows s);
     }

@@ -1,9 +1,9 @@
 use Rattle.std.proofs.Common.{◌∙◌, ap, length, ◌++◌}
 use Rattle.iss_node.proofs.growth.grow.Goals as goal
 
-pub returns : goal.returns
-returns c =
-    let filled = c.in_ok-fill_all.ensures in
+pub returns-clause-grown : goal.returns-clause-grown
+returns-clause-grown c =
+    let filled = c.in_ok-fill_all.ensures.filled in
     let advanced = c.in_ok-_joined.ensures.ok in
     record {
       count = ap (λ xs. length xs) c.entries-held.ensures;

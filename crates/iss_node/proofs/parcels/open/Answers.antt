@@ -1,4 +1,4 @@
-use Rattle.iss_node.proofs.StartLemmas.{from-any, from-node}
+use Rattle.iss_node.proofs.SenderLemmas.{from-any, from-node}
 use Rattle.iss_node.proofs.parcels.open.Goals as goal
 
 pub returns-in-Message-clause-from : goal.returns-in-Message-clause-from

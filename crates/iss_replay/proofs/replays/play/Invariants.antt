@@ -6,5 +6,5 @@ use Rattle.iss_replay.proofs.replays.play.Given as goal
 abbrev pub invariant-loop-place : goal.invariant-loop-place
 invariant-loop-place g l = record {
   run : StandsForRun g.M.Sequenced.meaning g.M.Sequenced.stands l.world l.drops (run_of l.schedule.setup g.M.Sequenced.meaning (take l.place l.schedule.events));
-  same : l.world.setup ≡ l.schedule.setup;
+  same : l.world.running.setup ≡ l.schedule.setup;
 }

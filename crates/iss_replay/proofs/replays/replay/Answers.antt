@@ -12,3 +12,8 @@ pub returns-clause-grows : goal.returns-clause-grows
 returns-clause-grows g c = λ stops.
     let s = c.args.schedule.now.setup in
     c.cluster_runs.ensures.grows s c.requires.good stops c.args.schedule.now.events (at-nodes s c.args.schedule.now.events c.requires.range)
+
+pub returns-clause-conserved : goal.returns-clause-conserved
+returns-clause-conserved g c = λ stops once separate.
+    let s = c.args.schedule.now.setup in
+    c.requests_are_conserved.ensures.stopping s c.requires.good stops once c.args.schedule.now.events (at-nodes s c.args.schedule.now.events c.requires.range) separate

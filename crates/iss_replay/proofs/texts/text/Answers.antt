@@ -1,12 +1,12 @@
 use Rattle.iss_model.proofs.OneLog.{one-log, ordered-run}
 use Rattle.iss_model.proofs.Ranges.{at-nodes}
 use Rattle.iss_replay.specs.Report.{run_of}
-use Rattle.iss_world.proofs.WorldLemmas.{if-ok}
+use Rattle.iss_world.proofs.RunningLemmas.{if-ok}
 use Rattle.iss_replay.proofs.texts.text.Goals as goal
 
 pub returns-clause-reports : goal.returns-clause-reports
 returns-clause-reports g c =
-    let s = c.args.report.now.world.setup in
+    let s = c.args.report.now.world.running.setup in
     let m = g.M.Sequenced.meaning in
     if-ok _ _ c.write.result c.write.ensures (λ bytes told good events range stands. record {
       tells = told (run_of s m events) stands;

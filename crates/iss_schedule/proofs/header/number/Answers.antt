@@ -4,8 +4,8 @@ use Rattle.iss_schedule.specs.Words.{IsNumber}
 use Rattle.iss_schedule.proofs.Cuts.{behind_same}
 use Rattle.iss_schedule.proofs.header.number.Goals as goal
 
-pub returns-then-is_number-clause-bad : goal.returns-then-is_number-clause-bad
-returns-then-is_number-clause-bad c = (
+pub returns-then-is_number-clause-reads : goal.returns-then-is_number-clause-reads
+returns-then-is_number-clause-reads c = λ above. (
   c.in_ok-line.line.now,
   (
     record { more = c.next.new.self.rest; text = c.in_ok-line.ensures.ok.text; whole = c.in_ok-line.ensures.ok.whole },
@@ -14,8 +14,8 @@ returns-then-is_number-clause-bad c = (
   ),
 )
 
-pub returns-else-is_number-clause-bad : goal.returns-else-is_number-clause-bad
-returns-else-is_number-clause-bad c = (
+pub returns-else-is_number-clause-reads : goal.returns-else-is_number-clause-reads
+returns-else-is_number-clause-reads c = λ above. (
   c.in_ok-line.line.now,
   (
     record { more = c.next.new.self.rest; text = c.in_ok-line.ensures.ok.text; whole = c.in_ok-line.ensures.ok.whole },

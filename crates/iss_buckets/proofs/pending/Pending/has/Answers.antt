@@ -1,7 +1,7 @@
-use Rattle.std.proofs.Common.{◌∙◌, ap}
+use Rattle.std.proofs.Common.{◌∙◌, ap, Option, ℕ, is_some}
 use Rattle.iss_buckets.specs.Waiting.{waits}
-use Rattle.iss_buckets.proofs.WaitingLemmas.{lookup_waits}
+use Rattle.iss_buckets.proofs.FiledLemmas.{waits_known}
 use Rattle.iss_buckets.proofs.pending.Pending.has.Goals as goal
 
 pub returns : goal.returns
-returns c = c.contains_key.ensures ∙ lookup_waits c.args.id c.self.inside.requests.entries c.self.invariant ∙ ap (λ qs. waits c.args.id qs) c.self.view_is
+returns c = c.is_some.ensures ∙ ap (λ (o : Option ℕ). is_some o) c.number_of.ensures.value ∙ waits_known c.self.inside.shelf c.args.id ∙ ap (λ qs. waits c.args.id qs) c.self.view_is

@@ -1,6 +1,6 @@
 use Rattle.std.proofs.Common.{◌∙◌, ap}
 use Rattle.iss_request.specs.Log.{has_id}
-use Rattle.iss_ids.proofs.Members.{any-has_id}
+use Rattle.iss_request.proofs.Identities.{any-has_id}
 use Rattle.iss_ids.proofs.set.Ids.has.Goals as goal
 
 pub returns : goal.returns

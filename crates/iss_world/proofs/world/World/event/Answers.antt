@@ -1,16 +1,19 @@
-use Rattle.std.proofs.Common.{IfOk, subst, sym}
-use Rattle.iss_model.specs.Concrete.{rules_of}
-use Rattle.iss_model.specs.Formats.{formats_of}
-use Rattle.iss_model.specs.Run.{Net, happens}
-use Rattle.iss_schedule.specs.declared.schedules.Event.{Event}
-use Rattle.iss_world.specs.Stands.{HasHappened, StandsFor}
+use Rattle.std.proofs.Common.{false}
+use Rattle.iss_world.specs.State.{WorldState}
+use Rattle.iss_world.proofs.RunningLemmas.{told-fresh, told-happened}
 use Rattle.iss_world.proofs.world.World.event.Goals as goal
 
-pub returns-in-Timeout-clause-happened : goal.returns-in-Timeout-clause-happened
-returns-in-Timeout-clause-happened g c =
-    subst (λ (e : Event). IfOk c.take-in-Timeout.result (λ h. (w : Net g.row.M-Msg.Denot) → StandsFor g.M.Sequenced.meaning g.M.Sequenced.stands c.args.self.now w →
-    HasHappened g.M.Sequenced.meaning g.M.Sequenced.stands c.take-in-Timeout.new.self (happens c.args.self.now.setup (formats_of c.args.self.now.setup g.M.Sequenced.meaning) (rules_of c.args.self.now.setup) g.M.Sequenced.meaning w e) h))
-    (sym c.in-Timeout.is) c.take-in-Timeout.ensures.happened
+pub invariant_of-self : goal.invariant_of-self
+invariant_of-self g c = λ fresh.
+    let before = c.self.invariant c.if-self.false in
+    (_, (c.in-Ok.ensures.happened before.0 before.1).stands_for)
 
-pub returns-in-Propose-clause-happened : goal.returns-in-Propose-clause-happened
-returns-in-Propose-clause-happened g c = rw c.in-Propose.is c.take.ensures.happened
+pub returns-in-Ok-clause-happened : goal.returns-in-Ok-clause-happened
+returns-in-Ok-clause-happened g c =
+    rw (← c.self.view_is)
+    (λ w st. told-happened g.M.Sequenced.meaning g.M.Sequenced.stands c.event.new.self _ c.in-Ok.change c.told.result c.told.ensures (c.in-Ok.ensures.happened w st.running))
+
+pub returns-in-Ok-clause-stale : goal.returns-in-Ok-clause-stale
+returns-in-Ok-clause-stale g c =
+    rw (← c.self.view_is)
+    (told-fresh (record { running = c.self.inside.running; stale = c.self.inside.stale }) (record { running = c.event.new.self; stale = false }) c.in-Ok.change c.told.result c.told.ensures c.if-self.false)

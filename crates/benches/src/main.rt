@@ -1,0 +1,52 @@
+//! What the parts cost. The first word names what is timed: `keys`, `network`, `journal FILE ENTRIES APPENDS` or `schedule
+//! PAIRS TIMES`. With no words a small workload of each is run and what it makes is printed, the same on each machine.
+#![tactic(auto)]
+
+mod journal;
+mod keys;
+mod network;
+mod schedule;
+
+use std::env;
+use std::test::Fail;
+
+// The number that is the word at this place.
+fn number_at(words: &[String], place: usize) -> Result<u32, Fail> {
+    let word = words.get(place).ok_or("how many?")?;
+    Ok(word.as_str().parse::<u32>()?)
+}
+
+// Runs a small workload of each.
+fn count_all(rt: &HostRuntime) -> Result<(), Fail> {
+    keys::count_all(rt, rt.alloc())?;
+    journal::count_all(rt)?;
+    network::count_all(rt)?;
+    schedule::count_all(rt)
+}
+
+// Times what the words behind the program's name ask for.
+fn time(rt: &HostRuntime, what: &str, words: &[String]) -> Result<(), Fail> {
+    match what {
+        "keys" => Ok(keys::time_all(rt, rt.alloc())?),
+        "network" => network::time_all(rt),
+        "journal" => {
+            let name = words.get(2).ok_or("which file?")?;
+            journal::time_all(
+                rt,
+                name.as_str(),
+                number_at(words, 3)?,
+                number_at(words, 4)?,
+            )
+        }
+        "schedule" => schedule::time_all(rt, number_at(words, 2)?, number_at(words, 3)?),
+        _ => Err("what is to be timed?")?,
+    }
+}
+
+fn main(rt: HostRuntime) -> Result<(), Fail> {
+    let words: Vec<String> = env::args(&rt)?.collect(rt.alloc())?;
+    match words.get(1) {
+        Some(what) => time(&rt, what.as_str(), &words),
+        None => count_all(&rt),
+    }
+}

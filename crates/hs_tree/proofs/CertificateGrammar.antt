@@ -1,0 +1,262 @@
+-- A certificate has one spelling, and what is read is what the table relates to the bytes.
+use Rattle.std.proofs.Common.{◌≡◌, ◌≤◌, ◌<◌, ℕ, zero, suc, ◌^◌, ◌==◌, ◌&&◌, Bool, true, false, List, [], ◌∷◌, ◌++◌, length, refl, sym, ap, ◌∙◌, subst, inl, inr, arith}
+use Rattle.std.specs.Prelude.{nat_le, nat_lt}
+use Rattle.std.specs.Int.{to_be_bytes, w32}
+use Rattle.std.specs.List.{flat_map, list_all}
+use Rattle.std.proofs.lemmas.Bool.{le-leb, leb-true, lt-ltb, ltb-true}
+use Rattle.std.proofs.lemmas.Bool.Decides.{Decides-eqb}
+use Rattle.iss_base.proofs.Lists.{and-true, both}
+use Rattle.iss_request.specs.Fields.{Good, IsGrammar}
+use Rattle.iss_request.specs.Formats.{is_signature, parse_signature}
+use Rattle.iss_request.specs.Parsing.{Parser, ◌>>=◌, block, byte, done, number, such_that}
+use Rattle.iss_request.proofs.OneSpelling.{done_good, signature_parts}
+use Rattle.iss_request.proofs.ParserLemmas.{block_parts, byte_parts, done_parts, number_parts, test_parts, then_parts, wide32}
+use Rattle.hs_tree.specs.declared.certificates.Certificate.{Certificate}
+use Rattle.hs_tree.specs.declared.certificates.Certificate.TheVariants.{Root, Votes}
+use Rattle.hs_tree.specs.declared.certificates.Signed.{Signed}
+use Rattle.hs_tree.specs.Certificates.{AreRisingVotes, AreSpelledVotes, IsSpelledCertificate, are_votes, fits, is_phase, is_rising, is_signed, no_certificate, parse_certificate, parse_signed, parse_signers, parse_votes, root_row, spell_certificate, spell_signed, votes_row}
+use Rattle.hs_tree.proofs.Rows.{Again, Never, Whole, block-field, by-same, byte-field, byte-never, first-never, glue, last-again, never-same, number-field, signature-field, then-again, then-never}
+
+-- ---- nodes and signatures, rising
+
+abbrev pub from_on : ℕ → ℕ → Bool
+from_on from n = nat_le from n
+
+abbrev pub signed : ℕ → List ℕ → Signed
+signed by sig = record { by = record { 0 = by }; sig = sig }
+
+abbrev pub after_by : ℕ → Parser Signed
+after_by by = parse_signature >>= λ sig. done (signed by sig)
+
+pub parse_signed-is : (from : ℕ) → parse_signed from ≡ (such_that (from_on from) byte >>= after_by)
+unfolding parse_signed
+parse_signed-is from = refl
+
+abbrev pub after_vote : ℕ → Signed → Parser (List Signed)
+after_vote count vote = parse_signers count (suc vote.by.0) >>= λ others. done (vote ∷ others)
+
+pub parse_signers-is : (count from : ℕ) → parse_signers (suc count) from ≡ (parse_signed from >>= after_vote count)
+unfolding parse_signers
+parse_signers-is count from = refl
+
+pub parse_none-is : (from : ℕ) → parse_signers 0 from ≡ done []
+unfolding parse_signers
+parse_none-is from = refl
+
+signed-again : (from : ℕ) (v : Signed) → from ≤ v.by.0 → is_signature v.sig ≡ true → Again (spell_signed v) (parse_signed from) v
+signed-again from v le shape =
+    let sig = last-again parse_signature (λ sig. signed v.by.0 sig) v.sig v.sig (signature-field v.sig shape) in
+    by-same (spell_signed v) (parse_signed from) (such_that (from_on from) byte >>= after_by) v (parse_signed-is from)
+    (then-again (such_that (from_on from) byte) after_by (v.by.0 ∷ []) v.sig v.by.0 v (byte-field (from_on from) v.by.0 (le-leb from v.by.0 le)) sig)
+
+signers-again : (from : ℕ) (votes : List Signed) → AreRisingVotes from votes → Again (flat_map spell_signed votes) (parse_signers (length votes) from) votes
+signers-again from [] h = by-same [] (parse_signers 0 from) (done []) [] (parse_none-is from) (λ rest. done_good [] rest)
+signers-again from (v ∷ vs) h =
+    let text = flat_map spell_signed vs in
+    let others = last-again (parse_signers (length vs) (suc v.by.0)) (λ others. v ∷ others) text vs (signers-again (suc v.by.0) vs h.2) in
+    by-same (spell_signed v ++ text) (parse_signers (suc (length vs)) from) (parse_signed from >>= after_vote (length vs)) (v ∷ vs) (parse_signers-is (length vs) from)
+    (then-again (parse_signed from) (after_vote (length vs)) (spell_signed v) text v (v ∷ vs) (signed-again from v h.0 h.1) others)
+
+record IsSigner (from : ℕ) (bytes rest : List ℕ) (v : Signed) : Type 0 where
+  high : from ≤ v.by.0
+  shape : is_signature v.sig ≡ true
+  parts : bytes ≡ spell_signed v ++ rest
+
+signed-parts : (from : ℕ) (bytes rest : List ℕ) (v : Signed) → parse_signed from bytes ≡ Good v rest → IsSigner from bytes rest v
+signed-parts from bytes rest v h =
+    let a = then_parts (such_that (from_on from) byte) after_by bytes rest v (rw (parse_signed-is from) at h) in
+    let b = then_parts parse_signature (λ sig. done (signed a.thing sig)) a.mid rest v a.second in
+    let d = done_parts (signed a.thing b.thing) v b.mid rest b.second in
+    let by = test_parts (from_on from) byte bytes a.mid a.thing a.first in
+    let sig = signature_parts a.mid b.mid b.thing b.first in
+    subst (λ (z : Signed). IsSigner from bytes rest z) d.0 (record {
+      high = leb-true from a.thing by.1;
+      shape = sig.shape;
+      parts = byte_parts bytes a.mid a.thing by.0 ∙ ap (λ (x : List ℕ). a.thing ∷ x) (sig.parts ∙ ap (λ (x : List ℕ). b.thing ++ x) d.1);
+    })
+
+record AreSigners (from count : ℕ) (bytes rest : List ℕ) (votes : List Signed) : Type 0 where
+  rising : AreRisingVotes from votes
+  many : length votes ≡ count
+  parts : bytes ≡ flat_map spell_signed votes ++ rest
+
+signers-parts : (count from : ℕ) (bytes rest : List ℕ) (votes : List Signed) → parse_signers count from bytes ≡ Good votes rest → AreSigners from count bytes rest votes
+signers-parts zero from bytes rest votes h =
+    let none : done [] bytes ≡ Good votes rest = rw (parse_none-is from) at h in
+    let d = done_parts [] votes bytes rest none in
+    subst (λ (z : List Signed). AreSigners from 0 bytes rest z) d.0 (record { rising = tt; many = refl; parts = d.1 })
+signers-parts (suc count) from bytes rest votes h =
+    let a = then_parts (parse_signed from) (after_vote count) bytes rest votes (rw (parse_signers-is count from) at h) in
+    let c = then_parts (parse_signers count (suc a.thing.by.0)) (λ others. done (a.thing ∷ others)) a.mid rest votes a.second in
+    let d = done_parts (a.thing ∷ c.thing) votes c.mid rest c.second in
+    let v = signed-parts from bytes a.mid a.thing a.first in
+    let more = signers-parts count (suc a.thing.by.0) a.mid c.mid c.thing c.first in
+    subst (λ (z : List Signed). AreSigners from (suc count) bytes rest z) d.0 (record {
+      rising = (v.high, v.shape, more.rising);
+      many = ap suc more.many;
+      parts = glue (spell_signed a.thing) (flat_map spell_signed c.thing) bytes a.mid rest v.parts (more.parts ∙ ap (λ (x : List ℕ). flat_map spell_signed c.thing ++ x) d.1);
+    })
+
+pub rising-is : (from : ℕ) (votes : List Signed) → AreRisingVotes from votes → (is_rising from votes ≡ true) × (list_all is_signed votes ≡ true)
+rising-is from [] h = (refl, refl)
+rising-is from (v ∷ vs) h =
+    let more = rising-is (suc v.by.0) vs h.2 in
+    (both (nat_le from v.by.0) (is_rising (suc v.by.0) vs) (le-leb from v.by.0 h.0) more.0, both (is_signature v.sig) (list_all is_signed vs) h.1 more.1)
+
+rising-of : (from : ℕ) (votes : List Signed) → is_rising from votes ≡ true → list_all is_signed votes ≡ true → AreRisingVotes from votes
+rising-of from [] h g = tt
+rising-of from (v ∷ vs) h g =
+    let a = and-true (nat_le from v.by.0) (is_rising (suc v.by.0) vs) h in
+    let b = and-true (is_signature v.sig) (list_all is_signed vs) g in
+    (leb-true from v.by.0 a.0, b.0, rising-of (suc v.by.0) vs a.1 b.1)
+
+-- ---- what fits
+
+fits-is : (phases view phase : ℕ) (d : List ℕ) (votes : List Signed) (bytes : List ℕ) → AreSpelledVotes phases view phase d votes bytes → fits phases view phase d votes ≡ true
+fits-is phases view phase d votes bytes h =
+    let r = rising-is 0 votes h.rising in
+    both _ _ (both _ _ (lt-ltb 0 view h.view_low) (lt-ltb view (2 ^ 32) h.view_fits))
+    (both _ _ (both _ _ (both _ _ (le-leb 1 phase h.phase_low) (le-leb phase phases h.phase_fits)) ((Decides-eqb (length d) 32).1 h.digest_fits))
+    (both _ _ (lt-ltb (length votes) 256 h.count_fits) (both _ _ r.0 r.1)))
+
+fits-of : (phases view phase : ℕ) (d : List ℕ) (votes : List Signed) → fits phases view phase d votes ≡ true → AreSpelledVotes phases view phase d votes (votes_row view phase d votes)
+fits-of phases view phase d votes h =
+    let a = and-true (nat_lt 0 view && nat_lt view (2 ^ 32)) _ h in
+    let v = and-true (nat_lt 0 view) (nat_lt view (2 ^ 32)) a.0 in
+    let b = and-true (is_phase phases phase && (length d == 32)) (are_votes votes) a.1 in
+    let q = and-true (is_phase phases phase) (length d == 32) b.0 in
+    let k = and-true (nat_le 1 phase) (nat_le phase phases) q.0 in
+    let c = and-true (nat_lt (length votes) 256) (is_rising 0 votes && list_all is_signed votes) b.1 in
+    let n = and-true (is_rising 0 votes) (list_all is_signed votes) c.1 in
+    record {
+      view_low = ltb-true 0 view v.0;
+      view_fits = ltb-true view (2 ^ 32) v.1;
+      phase_low = leb-true 1 phase k.0;
+      phase_fits = leb-true phase phases k.1;
+      digest_fits = (Decides-eqb (length d) 32).0 q.1;
+      count_fits = ltb-true (length votes) 256 c.0;
+      rising = rising-of 0 votes n.0 n.1;
+      row = refl;
+    }
+
+-- ---- the parsers, field by field
+
+abbrev pub few : ℕ → Bool
+few n = nat_lt n 256
+
+module _ (phases : ℕ) where
+  abbrev pub make : ℕ → ℕ → List ℕ → List Signed → Certificate
+  make view phase d votes = Votes view phase d votes
+
+  abbrev pub after_count : ℕ → ℕ → List ℕ → ℕ → Parser Certificate
+  after_count view phase d count = parse_signers count 0 >>= λ votes. done (make view phase d votes)
+
+  abbrev pub after_digest : ℕ → ℕ → List ℕ → Parser Certificate
+  after_digest view phase d = such_that few byte >>= after_count view phase d
+
+  abbrev pub after_phase : ℕ → ℕ → Parser Certificate
+  after_phase view phase = block 32 >>= after_digest view phase
+
+  pub parse_votes-is : (less : ℕ) → parse_votes phases (suc less) ≡ (such_that (is_phase phases) byte >>= after_phase (suc less))
+  unfolding parse_votes
+  parse_votes-is less = refl
+
+  pub parse_root-is : parse_votes phases 0 ≡ done Root
+  unfolding parse_votes
+  parse_root-is = refl
+
+  pub parse_certificate-is : parse_certificate phases ≡ (number w32 >>= parse_votes phases)
+  unfolding parse_certificate
+  parse_certificate-is = refl
+
+  -- ---- what the table gives is read
+
+  behind-again : (less phase : ℕ) (d : List ℕ) (votes : List Signed) (bytes : List ℕ) → AreSpelledVotes phases (suc less) phase d votes bytes →
+      Again (phase ∷ d ++ length votes ∷ flat_map spell_signed votes) (parse_votes phases (suc less)) (Votes (suc less) phase d votes)
+  behind-again less phase d votes bytes h =
+      let c : Certificate = Votes (suc less) phase d votes in
+      let text = flat_map spell_signed votes in
+      let signers = last-again (parse_signers (length votes) 0) (make (suc less) phase d) text votes (signers-again 0 votes h.rising) in
+      let count = then-again (such_that few byte) (after_count (suc less) phase d) (length votes ∷ []) text (length votes) c (byte-field few (length votes) (lt-ltb (length votes) 256 h.count_fits)) signers in
+      let digest = then-again (block 32) (after_digest (suc less) phase) d (length votes ∷ text) d c (block-field 32 d h.digest_fits) count in
+      let is = both _ _ (le-leb 1 phase h.phase_low) (le-leb phase phases h.phase_fits) in
+      by-same (phase ∷ d ++ length votes ∷ text) (parse_votes phases (suc less)) _ c (parse_votes-is less) (then-again (such_that (is_phase phases) byte) (after_phase (suc less)) (phase ∷ []) (d ++ length votes ∷ text) phase c (byte-field (is_phase phases) phase is) digest)
+
+  votes-again : (view phase : ℕ) (d : List ℕ) (votes : List Signed) (bytes : List ℕ) → AreSpelledVotes phases view phase d votes bytes →
+      Again (phase ∷ d ++ length votes ∷ flat_map spell_signed votes) (parse_votes phases view) (Votes view phase d votes)
+  votes-again zero phase d votes bytes h = let low = h.view_low in absurd (omega (arith, low))
+  votes-again (suc less) phase d votes bytes h = behind-again less phase d votes bytes h
+
+  pub certificate-again : (c : Certificate) (bytes : List ℕ) → IsSpelledCertificate phases c bytes → Again bytes (parse_certificate phases) c
+  certificate-again Root bytes h =
+      let read = then-again (number w32) (parse_votes phases) root_row [] 0 Root (number-field w32 (2 ^ 32) wide32 0 (omega arith)) (by-same [] (parse_votes phases 0) (done Root) Root parse_root-is (λ rest. done_good Root rest)) in
+      subst (λ (z : List ℕ). Again z (parse_certificate phases) Root) (sym h) (by-same root_row (parse_certificate phases) _ Root parse_certificate-is read)
+  certificate-again (Votes view phase d votes) bytes h =
+      let c : Certificate = Votes view phase d votes in
+      let read = then-again (number w32) (parse_votes phases) (to_be_bytes w32 view) (phase ∷ d ++ length votes ∷ flat_map spell_signed votes) view c (number-field w32 (2 ^ 32) wide32 view h.view_fits) (votes-again view phase d votes bytes h) in
+      subst (λ (z : List ℕ). Again z (parse_certificate phases) c) (sym h.row) (by-same (votes_row view phase d votes) (parse_certificate phases) _ c parse_certificate-is read)
+
+  -- ---- what is read is of the table
+
+  pub record IsCertificate (bytes rest : List ℕ) (c : Certificate) : Type 0 where
+    pub front : List ℕ
+    pub spelled : IsSpelledCertificate phases c front
+    pub parts : bytes ≡ front ++ rest
+
+  behind-parts : (view : ℕ) (bytes mid rest : List ℕ) (c : Certificate) → view < 2 ^ 32 → bytes ≡ to_be_bytes w32 view ++ mid → parse_votes phases view mid ≡ Good c rest → IsCertificate bytes rest c
+  behind-parts zero bytes mid rest c below front h =
+      let none : done Root mid ≡ Good c rest = rw parse_root-is at h in
+      let d = done_parts Root c mid rest none in
+      subst (λ (z : Certificate). IsCertificate bytes rest z) d.0 (record { front = root_row; spelled = refl; parts = front ∙ ap (λ (x : List ℕ). root_row ++ x) d.1 })
+  behind-parts (suc less) bytes mid rest c below front h =
+      let a = then_parts (such_that (is_phase phases) byte) (after_phase (suc less)) mid rest c (rw (parse_votes-is less) at h) in
+      let b = then_parts (block 32) (after_digest (suc less) a.thing) a.mid rest c a.second in
+      let n = then_parts (such_that few byte) (after_count (suc less) a.thing b.thing) b.mid rest c b.second in
+      let v = then_parts (parse_signers n.thing 0) (λ votes. done (make (suc less) a.thing b.thing votes)) n.mid rest c n.second in
+      let d = done_parts (Votes (suc less) a.thing b.thing v.thing) c v.mid rest v.second in
+      let phase = test_parts (is_phase phases) byte mid a.mid a.thing a.first in
+      let range = and-true (nat_le 1 a.thing) (nat_le a.thing phases) phase.1 in
+      let digest = block_parts 32 a.mid b.mid b.thing b.first in
+      let count = test_parts few byte b.mid n.mid n.thing n.first in
+      let votes = signers-parts n.thing 0 n.mid v.mid v.thing v.first in
+      let text = flat_map spell_signed v.thing in
+      let small : length v.thing < 256 = subst (λ (k : ℕ). k < 256) (sym votes.many) (ltb-true n.thing 256 count.1) in
+      let counted : b.mid ≡ (length v.thing ∷ text) ++ rest = byte_parts b.mid n.mid n.thing count.0 ∙ ap (λ (k : ℕ). k ∷ n.mid) (sym votes.many) ∙ ap (λ (x : List ℕ). length v.thing ∷ x) (votes.parts ∙ ap (λ (x : List ℕ). text ++ x) d.1) in
+      let inner : mid ≡ (a.thing ∷ b.thing ++ length v.thing ∷ text) ++ rest = byte_parts mid a.mid a.thing phase.0 ∙ ap (λ (x : List ℕ). a.thing ∷ x) (glue b.thing (length v.thing ∷ text) a.mid b.mid rest digest.parts counted) in
+      subst (λ (z : Certificate). IsCertificate bytes rest z) d.0 (record {
+        front = votes_row (suc less) a.thing b.thing v.thing;
+        spelled = record { view_low = omega arith; view_fits = below; phase_low = leb-true 1 a.thing range.0; phase_fits = leb-true a.thing phases range.1; digest_fits = digest.len; count_fits = small; rising = votes.rising; row = refl };
+        parts = glue (to_be_bytes w32 (suc less)) (a.thing ∷ b.thing ++ length v.thing ∷ text) bytes mid rest front inner;
+      })
+
+  pub certificate-parts : (bytes rest : List ℕ) (c : Certificate) → parse_certificate phases bytes ≡ Good c rest → IsCertificate bytes rest c
+  certificate-parts bytes rest c h =
+      let a = then_parts (number w32) (parse_votes phases) bytes rest c (rw parse_certificate-is at h) in
+      let view = number_parts w32 (2 ^ 32) wide32 bytes a.mid a.thing a.first in
+      behind-parts a.thing bytes a.mid rest c view.below view.parts a.second
+
+  -- ---- what is spelled
+
+  pub certificate-spelled : (c : Certificate) (bytes : List ℕ) → IsSpelledCertificate phases c bytes → bytes ≡ spell_certificate phases c
+  certificate-spelled Root bytes h = h
+  certificate-spelled (Votes view phase d votes) bytes h = rw (fits-is phases view phase d votes bytes h) h.row
+
+  none : Never no_certificate (parse_certificate phases)
+  none =
+      let phase = first-never (such_that (is_phase phases) byte) (after_phase 1) (0 ∷ []) [] (byte-never (is_phase phases) 0 refl) in
+      never-same no_certificate (parse_certificate phases) _ parse_certificate-is
+      (then-never (number w32) (parse_votes phases) (to_be_bytes w32 1) (0 ∷ []) 1 (number-field w32 (2 ^ 32) wide32 1 (omega arith)) (never-same (0 ∷ []) (parse_votes phases 1) _ (parse_votes-is 0) phase))
+
+  pub certificate-whole : (c : Certificate) → Whole (spell_certificate phases c) (parse_certificate phases) c
+  certificate-whole Root = inl (certificate-again Root root_row refl)
+  certificate-whole (Votes view phase d votes) = go (fits phases view phase d votes) refl
+    where
+      go : (b : Bool) → fits phases view phase d votes ≡ b → Whole (spell_certificate phases (Votes view phase d votes)) (parse_certificate phases) (Votes view phase d votes)
+      go true q = inl (rw q (certificate-again (Votes view phase d votes) (votes_row view phase d votes) (fits-of phases view phase d votes q)))
+      go false q = inr (rw q none)
+
+  pub certificate-grammar : IsGrammar (spell_certificate phases) (parse_certificate phases)
+  certificate-grammar = record {
+    only = λ bytes rest c h. let r = certificate-parts bytes rest c h in r.parts ∙ ap (λ (x : List ℕ). x ++ rest) (certificate-spelled c r.front r.spelled);
+    whole = certificate-whole;
+  }

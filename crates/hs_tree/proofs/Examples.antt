@@ -1,0 +1,212 @@
+-- The definitions of the tree and of the messages, on rows of bytes and on a small tree.
+use Rattle.std.proofs.Common.{◌≡◌, ◌+◌, ◌*◌, ℕ, true, false, List, [], ◌∷◌, ◌++◌, Some, None, refl}
+use Rattle.std.specs.Prelude.{replicate}
+use Rattle.iss_keys.specs.Directories.{directory_of}
+use Rattle.iss_request.specs.Fields.{Good, Bad}
+use Rattle.iss_request.specs.Formats.{parse_signature, spell_batch, spell_count, spell_value}
+use Rattle.iss_request.specs.Parsing.{◌>>=◌, block, byte, digests, done, number, such_that}
+use Rattle.iss_request.specs.declared.ids.NodeId.{NodeId}
+use Rattle.iss_request.specs.declared.ids.Slot.{Slot}
+use Rattle.iss_request.specs.declared.requests.Value.TheVariants.{Nil as Value_nil, Batch as Value_batch}
+use Rattle.iss_request.specs.declared.setups.Kind.TheVariants.{Byzantine}
+use Rattle.iss_request.specs.declared.setups.Policy.TheVariants.{Simple}
+use Rattle.iss_request.specs.declared.setups.Setup.{Setup}
+use Rattle.iss_sb.specs.declared.effects.Params.{Params}
+use Rattle.iss_sb.specs.Statements.{wide_bytes}
+use Rattle.raft_wire.specs.declared.entries.What.TheVariants.{Nil, Holds, Mark}
+use Rattle.raft_wire.specs.Entries.{parse_what}
+use Rattle.hs_tree.specs.declared.certificates.Certificate.{Certificate}
+use Rattle.hs_tree.specs.declared.certificates.Certificate.TheVariants.{Root, Votes}
+use Rattle.hs_tree.specs.declared.certificates.Signed.{Signed}
+use Rattle.hs_tree.specs.declared.messages.Message.TheVariants.{NewView, Prepare, PreCommit, Commit, Decide, Vote}
+use Rattle.hs_tree.specs.Certificates.{is_quorum, parse_certificate, parse_signed, parse_signers, parse_votes, spell_certificate}
+use Rattle.hs_tree.specs.Messages.{parse, parse_prepare, parse_vote, spell}
+use Rattle.hs_tree.specs.Statements.{claims, own_statement}
+use Rattle.hs_tree.specs.Tree.{Node, basic, branch, chained, extends, filled, is_known, plain_string, root, value_at, value_at_slot, viewed_string}
+
+abbrev node : ℕ → NodeId
+node n = record { 0 = n }
+
+abbrev slot : ℕ → Slot
+slot n = record { 0 = n }
+
+-- a signature stands as zeros of its length
+abbrev blank : List ℕ
+blank = 2 ∷ replicate (4 + 32 * 69) 0
+
+abbrev d : List ℕ
+d = replicate 32 9
+
+abbrev by : ℕ → Signed
+by k = record { by = node k; sig = blank }
+
+-- two votes of the first phase, in turn 1 of round 1
+abbrev shown : Certificate
+shown = Votes 65537 1 d (by 0 ∷ by 3 ∷ [])
+
+-- ---- certificates
+
+root_spelled : spell_certificate 3 Root ≡ 0 ∷ 0 ∷ 0 ∷ 0 ∷ []
+root_spelled = refl
+
+shown_spelled : spell_certificate 3 shown ≡ 0 ∷ 1 ∷ 0 ∷ 1 ∷ 1 ∷ (d ++ (2 ∷ 0 ∷ (blank ++ (3 ∷ blank))))
+shown_spelled = refl
+
+-- in the second phase, with a node twice, with nodes that fall, and in view 0 none has a spelling there
+no_second_phase : spell_certificate 1 (Votes 65537 2 d []) ≡ 0 ∷ 0 ∷ 0 ∷ 1 ∷ 0 ∷ []
+no_second_phase = refl
+
+no_node_twice : spell_certificate 3 (Votes 65537 1 d (by 3 ∷ by 3 ∷ [])) ≡ 0 ∷ 0 ∷ 0 ∷ 1 ∷ 0 ∷ []
+no_node_twice = refl
+
+no_view : spell_certificate 3 (Votes 0 1 d []) ≡ 0 ∷ 0 ∷ 0 ∷ 1 ∷ 0 ∷ []
+no_view = refl
+
+-- the second of two nodes that fall is the field that does not fit: behind the view, the phase, the digest, the count, and the first
+-- node and its signature
+falling : parse_certificate 3 (0 ∷ 1 ∷ 0 ∷ 1 ∷ 1 ∷ (d ++ (2 ∷ 3 ∷ (blank ++ (3 ∷ blank))))) ≡ Bad (38 + (1 + 2213))
+unfolding parse_certificate parse_votes parse_signers parse_signed parse_signature such_that byte number block digests done ◌>>=◌
+falling = refl
+
+no_phase : parse_certificate 3 (0 ∷ 1 ∷ 0 ∷ 1 ∷ 4 ∷ d) ≡ Bad 4
+unfolding parse_certificate parse_votes such_that byte number ◌>>=◌
+no_phase = refl
+
+-- exactly a quorum's votes, of the phase and view that are asked for
+two_are_two : is_quorum 2 1 65537 shown ≡ true
+two_are_two = refl
+
+two_are_not_three : is_quorum 3 1 65537 shown ≡ false
+two_are_not_three = refl
+
+not_of_the_second : is_quorum 2 2 65537 shown ≡ false
+not_of_the_second = refl
+
+-- ---- messages
+
+vote_spelled : spell 3 1 (Vote 2 258 d blank) ≡ 6 ∷ 2 ∷ 0 ∷ 0 ∷ 1 ∷ 2 ∷ (d ++ blank)
+vote_spelled = refl
+
+vote_read : parse 3 1 (6 ∷ 2 ∷ 0 ∷ 0 ∷ 1 ∷ 2 ∷ (d ++ (blank ++ (7 ∷ [])))) ≡ Good (Vote 2 258 d blank) (7 ∷ [])
+unfolding parse parse_vote parse_signature such_that byte number block digests done ◌>>=◌
+vote_read = refl
+
+new_view_spelled : spell 3 1 (NewView 259 Root blank) ≡ 1 ∷ 1 ∷ 3 ∷ 0 ∷ 0 ∷ 0 ∷ 0 ∷ blank
+new_view_spelled = refl
+
+-- an empty batch by either version, and a mark
+prepare_spelled : spell 3 1 (Prepare 1 (Holds []) Root blank) ≡ 2 ∷ 0 ∷ 0 ∷ 0 ∷ 1 ∷ 1 ∷ 1 ∷ 0 ∷ 0 ∷ 0 ∷ 0 ∷ 0 ∷ blank
+unfolding spell_value spell_batch spell_count
+prepare_spelled = refl
+
+second_spelled : spell 3 2 (Prepare 1 (Holds []) Root blank) ≡ 2 ∷ 0 ∷ 0 ∷ 0 ∷ 1 ∷ 1 ∷ 2 ∷ 0 ∷ 0 ∷ 0 ∷ 0 ∷ 0 ∷ 0 ∷ blank
+unfolding spell_value spell_batch spell_count
+second_spelled = refl
+
+mark_read : parse 3 1 (2 ∷ 0 ∷ 0 ∷ 0 ∷ 1 ∷ 2 ∷ 0 ∷ 0 ∷ 0 ∷ 0 ∷ blank) ≡ Good (Prepare 1 Mark Root blank) []
+unfolding parse parse_prepare parse_what parse_certificate parse_votes parse_signature such_that byte number block digests done ◌>>=◌
+mark_read = refl
+
+shows_spelled : (spell 3 1 (PreCommit 1 Root blank) ≡ 3 ∷ 0 ∷ 0 ∷ 0 ∷ 1 ∷ 0 ∷ 0 ∷ 0 ∷ 0 ∷ blank) × (spell 3 1 (Commit 1 Root blank) ≡ 4 ∷ 0 ∷ 0 ∷ 0 ∷ 1 ∷ 0 ∷ 0 ∷ 0 ∷ 0 ∷ blank) × (spell 3 1 (Decide 1 Root blank) ≡ 5 ∷ 0 ∷ 0 ∷ 0 ∷ 1 ∷ 0 ∷ 0 ∷ 0 ∷ 0 ∷ blank)
+shows_spelled = (refl, refl, refl)
+
+-- with one phase there are no Decides, and no votes of the second phase
+no_decide : (spell 1 1 (Decide 1 Root blank) ≡ 0 ∷ []) × (parse 1 1 (5 ∷ 0 ∷ 0 ∷ 0 ∷ 1 ∷ 0 ∷ 0 ∷ 0 ∷ 0 ∷ blank) ≡ Bad 0)
+unfolding parse such_that byte ◌>>=◌
+no_decide = (refl, refl)
+
+no_second_vote : (spell 1 1 (Vote 2 258 d blank) ≡ 0 ∷ []) × (parse 1 1 (6 ∷ 2 ∷ []) ≡ Bad 1)
+unfolding parse parse_vote such_that byte ◌>>=◌
+no_second_vote = (refl, refl)
+
+no_number : (parse 3 1 (0 ∷ blank) ≡ Bad 0) × (parse 3 1 (7 ∷ blank) ≡ Bad 0)
+unfolding parse such_that byte ◌>>=◌
+no_number = (refl, refl)
+
+-- ---- statements and claims
+
+abbrev setup : Setup
+setup = record {
+  version = 1;
+  «module» = 4;
+  f = 1;
+  epoch = 8;
+  buckets = 4;
+  batch = 4;
+  window = 4;
+  policy = Simple;
+  clients = 1;
+  keys = 4;
+  faulty = [];
+  n = 4;
+  quorum = 3;
+  kind = Byzantine;
+  tag = replicate 32 7;
+}
+
+abbrev p : Params
+p = record { setup = setup; epoch = record { 0 = 2 }; leader = node 0; slots = slot 0 ∷ slot 4 ∷ []; directory = directory_of 4 1 4 }
+
+-- the cluster, epoch 2, leader 0
+abbrev head : List ℕ
+head = replicate 32 7 ++ (0 ∷ 0 ∷ 0 ∷ 0 ∷ 0 ∷ 0 ∷ 0 ∷ 2 ∷ 0 ∷ [])
+
+states_a_vote : own_statement basic p (Vote 2 258 d blank) ≡ head ++ (4 ∷ 6 ∷ 2 ∷ 0 ∷ 0 ∷ 1 ∷ 2 ∷ d)
+unfolding wide_bytes
+states_a_vote = refl
+
+-- of the chained form by its tag
+states_chained : own_statement chained p (Vote 1 258 d blank) ≡ head ++ (5 ∷ 6 ∷ 1 ∷ 0 ∷ 0 ∷ 1 ∷ 2 ∷ d)
+unfolding wide_bytes
+states_chained = refl
+
+states_a_round : own_statement basic p (NewView 259 shown blank) ≡ head ++ (4 ∷ 1 ∷ 1 ∷ 3 ∷ 0 ∷ 1 ∷ 0 ∷ 1 ∷ [])
+unfolding wide_bytes
+states_a_round = refl
+
+-- the votes of the certificate first, each over a vote's statement; then the sender's own signature
+claims_in_order : claims basic p 2 (Commit 65537 shown blank) ≡
+    record { by = node 0; statement = own_statement basic p (Vote 1 65537 d blank); sig = blank } ∷
+    record { by = node 3; statement = own_statement basic p (Vote 1 65537 d blank); sig = blank } ∷
+    record { by = node 2; statement = own_statement basic p (Commit 65537 shown blank); sig = blank } ∷ []
+claims_in_order = refl
+
+-- ---- nodes and branches
+
+-- the same node in another view has the same string, unless nodes have one view
+one_string : plain_string 1 5 d Mark ≡ plain_string 1 6 d Mark
+one_string = refl
+
+mark_string : plain_string 1 5 d Mark ≡ 0x41 ∷ (d ++ (2 ∷ replicate 32 0))
+mark_string = refl
+
+viewed : viewed_string 1 258 d Mark ≡ 0x44 ∷ 0 ∷ 0 ∷ 1 ∷ 2 ∷ (d ++ (2 ∷ replicate 32 0))
+unfolding wide_bytes
+viewed = refl
+
+-- nil on a batch on the root, a mark on the nil, and beside it a nil on the batch
+abbrev known : List Node
+known =
+    record { view = 4; digest = 4 ∷ []; from = 1; parent = 1 ∷ []; what = Nil } ∷
+    record { view = 3; digest = 3 ∷ []; from = 2; parent = 2 ∷ []; what = Mark } ∷
+    record { view = 2; digest = 2 ∷ []; from = 1; parent = 1 ∷ []; what = Nil } ∷
+    record { view = 1; digest = 1 ∷ []; from = 0; parent = root; what = Holds [] } ∷ []
+
+knows : (is_known known root ≡ true) × (is_known known (4 ∷ []) ≡ true) × (is_known known (5 ∷ []) ≡ false)
+knows = (refl, refl, refl)
+
+of_the_mark : branch known (3 ∷ []) ≡ Mark ∷ Nil ∷ Holds [] ∷ []
+of_the_mark = refl
+
+extends_itself : (extends known (3 ∷ []) (3 ∷ []) ≡ true) × (extends known (3 ∷ []) (1 ∷ []) ≡ true) × (extends known (3 ∷ []) root ≡ true) × (extends known (3 ∷ []) (4 ∷ []) ≡ false)
+extends_itself = (refl, refl, refl, refl)
+
+-- a mark holds no slot
+fills_two : filled (branch known (3 ∷ [])) ≡ 2
+fills_two = refl
+
+holds_in_order : (value_at (branch known (3 ∷ [])) 0 ≡ Some (Value_batch [])) × (value_at (branch known (3 ∷ [])) 1 ≡ Some Value_nil) × (value_at (branch known (3 ∷ [])) 2 ≡ None)
+holds_in_order = (refl, refl, refl)
+
+at_slots : (value_at_slot (branch known (3 ∷ [])) 0 p.slots 4 ≡ Some Value_nil) × (value_at_slot (branch known (3 ∷ [])) 0 p.slots 1 ≡ None)
+at_slots = (refl, refl)

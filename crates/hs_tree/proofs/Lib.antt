@@ -1,0 +1,10 @@
+mod Examples
+mod Reading
+pub mod CertificateGrammar
+pub mod Contents
+pub mod MessageGrammar
+pub mod Nodes
+pub mod Places
+pub mod Rows
+pub mod Signers
+mod Stated

@@ -1,0 +1,47 @@
+-- Fields that are written one after the other are the strings and statements.
+use Rattle.std.proofs.Common.{◌≡◌, ◌<◌, ◌^◌, ℕ, List, [], ◌∷◌, ◌++◌, append_assoc, refl, ap}
+use Rattle.std.specs.Int.{to_be_bytes, w16, w32}
+use Rattle.iss_request.specs.Fields.{Written, and_bytes}
+use Rattle.iss_request.specs.Formats.{spell_batch, spell_value, value_string, version_byte}
+use Rattle.iss_request.specs.declared.requests.Batch.{Batch}
+use Rattle.iss_request.specs.declared.requests.Value.TheVariants.{Nil as Value_nil, Batch as Value_batch}
+use Rattle.iss_sb.specs.declared.effects.Params.{Params}
+use Rattle.iss_sb.specs.Statements.{four_bytes, statement_head, two_bytes}
+use Rattle.iss_sb.proofs.Statements.{four-is, two-is}
+use Rattle.iss_sb.specs.declared.effects.Claim.{Claim}
+use Rattle.std.specs.List.{flat_map}
+use Rattle.hs_tree.specs.declared.certificates.Signed.{Signed}
+use Rattle.hs_tree.specs.Statements.{claim, statement, vote_claims, vote_statement}
+use Rattle.hs_tree.specs.Tree.{Form}
+
+abbrev start : ℕ → Written
+start version = record { version = version; bytes = [] }
+
+pub nil-written : (version : ℕ) (a b : Written) → a ≡ and_bytes (start version) (0x40 ∷ []) → b ≡ and_bytes a (0 ∷ []) → b.bytes ≡ value_string version Value_nil
+unfolding spell_value
+nil-written version a b ha hb = rw (hb, ha) refl
+
+pub batch-written : (version : ℕ) (batch : Batch) (a b c : Written) (first : ℕ) → first ≡ version_byte version → a ≡ and_bytes (start version) (0x40 ∷ []) → b ≡ and_bytes a (first ∷ []) → c ≡ and_bytes b (spell_batch b.version batch) → c.bytes ≡ value_string version (Value_batch batch)
+unfolding spell_value
+batch-written version batch a b c first hf ha hb hc = rw (hc, hb, hf, ha) refl
+
+pub vote-written : (p : Params) (form : Form) (tag phase view version : ℕ) (digest : List ℕ) (a b c d e : Written) → view < 2 ^ 32 → form.tag ≡ tag → a ≡ and_bytes (start version) (statement_head p tag) → b ≡ and_bytes a (6 ∷ []) → c ≡ and_bytes b (phase ∷ []) →
+    d ≡ and_bytes c (to_be_bytes w32 view) → e ≡ and_bytes d digest → e.bytes ≡ vote_statement form p phase view digest
+vote-written p form tag phase view version digest a b c d e lt et ha hb hc hd he = let same = four-is view lt in rw (he, hd, hc, hb, ha, same, et) (simp append_assoc)
+
+pub node-written : (p : Params) (form : Form) (tag kind view version : ℕ) (digest : List ℕ) (a b c d : Written) → view < 2 ^ 32 → form.tag ≡ tag → a ≡ and_bytes (start version) (statement_head p tag) → b ≡ and_bytes a (kind ∷ []) →
+    c ≡ and_bytes b (to_be_bytes w32 view) → d ≡ and_bytes c digest → d.bytes ≡ statement form p kind (four_bytes view ++ digest)
+node-written p form tag kind view version digest a b c d lt et ha hb hc hd = let same = four-is view lt in rw (hd, hc, hb, ha, same, et) (simp append_assoc)
+
+pub round-written : (p : Params) (form : Form) (tag round view version : ℕ) (a b c d : Written) → round < 2 ^ 16 → view < 2 ^ 32 → form.tag ≡ tag → a ≡ and_bytes (start version) (statement_head p tag) → b ≡ and_bytes a (1 ∷ []) →
+    c ≡ and_bytes b (to_be_bytes w16 round) → d ≡ and_bytes c (to_be_bytes w32 view) → d.bytes ≡ statement form p 1 (two_bytes round ++ four_bytes view)
+round-written p form tag round view version a b c d low lt et ha hb hc hd = let rounds = two-is round low in let views = four-is view lt in rw (hd, hc, hb, ha, rounds, views, et) (simp append_assoc)
+
+-- ---- claims
+
+abbrev pub one_claim : List ℕ → Signed → List Claim
+one_claim statement v = claim v.by.0 statement v.sig ∷ []
+
+pub claims-flat : (statement : List ℕ) (votes : List Signed) → flat_map (one_claim statement) votes ≡ vote_claims statement votes
+claims-flat statement [] = refl
+claims-flat statement (v ∷ vs) = ap (λ (z : List Claim). claim v.by.0 statement v.sig ∷ z) (claims-flat statement vs)

@@ -1,0 +1,5 @@
+pub mod Certificates
+pub mod Messages
+pub mod Paths
+pub mod Statements
+pub mod Tree

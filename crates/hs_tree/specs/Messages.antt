@@ -1,0 +1,153 @@
+-- How the messages of HotStuff are spelled in bytes, and how they are read. Numbers have their highest byte first.
+--
+--   message       its number (1 byte), its fields, and its signature
+--   NewView       1: round (2), certificate
+--   Prepare       2: view (4), what the node holds (as in an entry of Raft's log), certificate
+--   PreCommit, Commit, Decide     3, 4, 5: view (4), certificate; where nodes pass three phases
+--   Vote          6: phase (1), view (4), digest (32)
+use Rattle.std.specs.Prelude.{◌≡◌, ◌≤◌, ◌<◌, ℕ, ◌^◌, ◌==◌, ◌&&◌, ◌||◌, Bool, true, nat_lt, nat_le, List, [], ◌∷◌, ◌++◌, length, if◌then◌else◌}
+use Rattle.std.specs.Int.{to_be_bytes, w16, w32}
+use Rattle.iss_request.specs.Formats.{is_signature, parse_signature}
+use Rattle.iss_request.specs.Parsing.{Parser, ◌>>=◌, block, byte, done, number, such_that}
+use Rattle.raft_wire.specs.declared.entries.What.{What}
+use Rattle.raft_wire.specs.Entries.{IsSpelledWhat, parse_what, spell_what}
+use Rattle.hs_tree.specs.declared.certificates.Certificate.{Certificate}
+use Rattle.hs_tree.specs.declared.messages.Message.{Message}
+use Rattle.hs_tree.specs.declared.messages.Message.TheVariants.{NewView, Prepare, PreCommit, Commit, Decide, Vote}
+use Rattle.hs_tree.specs.Certificates.{IsSpelledCertificate, is_phase, parse_certificate, spell_certificate}
+
+-- ---- what has a spelling
+
+-- a node that passes one phase alone is decided with no PreCommit, Commit and Decide
+abbrev pub has_shows : ℕ → Bool
+has_shows phases = phases == 3
+
+abbrev pub is_view : ℕ → Bool
+is_view view = nat_lt view (2 ^ 32)
+
+abbrev pub fits_shown : ℕ → ℕ → List ℕ → Bool
+fits_shown phases view sig = has_shows phases && (is_view view && is_signature sig)
+
+abbrev pub fits_vote : ℕ → ℕ → ℕ → List ℕ → List ℕ → Bool
+fits_vote phases phase view d sig = is_phase phases phase && (is_view view && ((length d == 32) && is_signature sig))
+
+-- ---- spelling. What has none is written as the number of no message
+
+abbrev pub new_view_row : ℕ → List ℕ → List ℕ → List ℕ
+new_view_row round certificate sig = 1 ∷ to_be_bytes w16 round ++ certificate ++ sig
+
+abbrev pub prepare_row : ℕ → List ℕ → List ℕ → List ℕ → List ℕ
+prepare_row view what certificate sig = 2 ∷ to_be_bytes w32 view ++ (what ++ (certificate ++ sig))
+
+abbrev pub shown_row : ℕ → ℕ → List ℕ → List ℕ → List ℕ
+shown_row kind view certificate sig = kind ∷ to_be_bytes w32 view ++ certificate ++ sig
+
+abbrev pub vote_row : ℕ → ℕ → List ℕ → List ℕ → List ℕ
+vote_row phase view d sig = 6 ∷ phase ∷ to_be_bytes w32 view ++ d ++ sig
+
+abbrev pub no_message : List ℕ
+no_message = 0 ∷ []
+
+abbrev pub spell_shown : ℕ → ℕ → ℕ → Certificate → List ℕ → List ℕ
+spell_shown phases kind view shown sig = if fits_shown phases view sig then shown_row kind view (spell_certificate phases shown) sig else no_message
+
+abbrev pub spell : ℕ → ℕ → Message → List ℕ
+spell phases version (NewView round high sig) =
+    if nat_lt round (2 ^ 16) && is_signature sig then new_view_row round (spell_certificate phases high) sig else no_message
+spell phases version (Prepare view what just sig) =
+    if is_view view && is_signature sig then prepare_row view (spell_what version what) (spell_certificate phases just) sig else no_message
+spell phases version (PreCommit view shown sig) = spell_shown phases 3 view shown sig
+spell phases version (Commit view shown sig) = spell_shown phases 4 view shown sig
+spell phases version (Decide view shown sig) = spell_shown phases 5 view shown sig
+spell phases version (Vote phase view d sig) = if fits_vote phases phase view d sig then vote_row phase view d sig else no_message
+
+-- ---- the table as a relation between messages and bytes
+
+pub record IsSpelledNewView (phases round : ℕ) (high : Certificate) (sig bytes : List ℕ) : Type 0 where
+  pub round_fits : round < 2 ^ 16
+  pub certificate : List ℕ
+  pub spelled : IsSpelledCertificate phases high certificate
+  pub signed : is_signature sig ≡ true
+  pub row : bytes ≡ new_view_row round certificate sig
+
+pub record IsSpelledPrepare (phases version view : ℕ) (what : What) (just : Certificate) (sig bytes : List ℕ) : Type 0 where
+  pub view_fits : view < 2 ^ 32
+  pub behind : List ℕ
+  pub what_is : IsSpelledWhat version what behind
+  pub certificate : List ℕ
+  pub spelled : IsSpelledCertificate phases just certificate
+  pub signed : is_signature sig ≡ true
+  pub row : bytes ≡ prepare_row view behind certificate sig
+
+pub record IsSpelledShown (phases kind view : ℕ) (shown : Certificate) (sig bytes : List ℕ) : Type 0 where
+  pub three : phases ≡ 3
+  pub view_fits : view < 2 ^ 32
+  pub certificate : List ℕ
+  pub spelled : IsSpelledCertificate phases shown certificate
+  pub signed : is_signature sig ≡ true
+  pub row : bytes ≡ shown_row kind view certificate sig
+
+pub record IsSpelledVote (phases phase view : ℕ) (d sig bytes : List ℕ) : Type 0 where
+  pub phase_low : 1 ≤ phase
+  pub phase_fits : phase ≤ phases
+  pub view_fits : view < 2 ^ 32
+  pub digest_fits : length d ≡ 32
+  pub signed : is_signature sig ≡ true
+  pub row : bytes ≡ vote_row phase view d sig
+
+abbrev pub IsSpelledMessage : ℕ → ℕ → Message → List ℕ → Type 0
+IsSpelledMessage phases version (NewView round high sig) bytes = IsSpelledNewView phases round high sig bytes
+IsSpelledMessage phases version (Prepare view what just sig) bytes = IsSpelledPrepare phases version view what just sig bytes
+IsSpelledMessage phases version (PreCommit view shown sig) bytes = IsSpelledShown phases 3 view shown sig bytes
+IsSpelledMessage phases version (Commit view shown sig) bytes = IsSpelledShown phases 4 view shown sig bytes
+IsSpelledMessage phases version (Decide view shown sig) bytes = IsSpelledShown phases 5 view shown sig bytes
+IsSpelledMessage phases version (Vote phase view d sig) bytes = IsSpelledVote phases phase view d sig bytes
+
+-- ---- reading
+
+unfoldable pub parse_new_view : ℕ → Parser Message
+parse_new_view phases = do
+  round ← number w16
+  high ← parse_certificate phases
+  sig ← parse_signature
+  done (NewView round high sig)
+
+unfoldable pub parse_prepare : ℕ → ℕ → Parser Message
+parse_prepare phases version = do
+  view ← number w32
+  what ← parse_what version
+  just ← parse_certificate phases
+  sig ← parse_signature
+  done (Prepare view what just sig)
+
+unfoldable pub parse_shown : ℕ → (ℕ → Certificate → List ℕ → Message) → Parser Message
+parse_shown phases message = do
+  view ← number w32
+  shown ← parse_certificate phases
+  sig ← parse_signature
+  done (message view shown sig)
+
+unfoldable pub parse_vote : ℕ → Parser Message
+parse_vote phases = do
+  phase ← such_that (is_phase phases) byte
+  view ← number w32
+  d ← block 32
+  sig ← parse_signature
+  done (Vote phase view d sig)
+
+abbrev pub is_message : ℕ → ℕ → Bool
+is_message phases n = ((n == 1) || (n == 2)) || ((n == 6) || (has_shows phases && (nat_le 3 n && nat_le n 5)))
+
+abbrev pub fields_of : ℕ → ℕ → ℕ → Parser Message
+fields_of phases version n =
+    if n == 1 then parse_new_view phases else
+    (if n == 2 then parse_prepare phases version else
+    (if n == 3 then parse_shown phases PreCommit else
+    (if n == 4 then parse_shown phases Commit else
+    (if n == 5 then parse_shown phases Decide else parse_vote phases))))
+
+-- the message's number says which fields follow
+unfoldable pub parse : ℕ → ℕ → Parser Message
+parse phases version = do
+  message ← such_that (is_message phases) byte
+  fields_of phases version message

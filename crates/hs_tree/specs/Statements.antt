@@ -1,0 +1,80 @@
+-- What the sender of a message signs, and what a message claims that nodes signed.
+use Rattle.std.specs.Prelude.{ℕ, List, [], ◌∷◌, ◌++◌}
+use Rattle.iss_request.specs.Digest.{digest}
+use Rattle.iss_sb.specs.declared.effects.Claim.{Claim}
+use Rattle.iss_sb.specs.declared.effects.Params.{Params}
+use Rattle.iss_sb.specs.Statements.{four_bytes, statement_head, two_bytes}
+use Rattle.raft_wire.specs.declared.entries.What.{What}
+use Rattle.hs_tree.specs.declared.certificates.Certificate.{Certificate}
+use Rattle.hs_tree.specs.declared.certificates.Certificate.TheVariants.{Root, Votes}
+use Rattle.hs_tree.specs.declared.certificates.Signed.{Signed}
+use Rattle.hs_tree.specs.declared.messages.Message.{Message}
+use Rattle.hs_tree.specs.declared.messages.Message.TheVariants.{NewView, Prepare, PreCommit, Commit, Decide, Vote}
+use Rattle.hs_tree.specs.Certificates.{digest_of, view_of}
+use Rattle.hs_tree.specs.Tree.{Form}
+
+-- the string of the node that a proposal is of, and its digest
+abbrev pub node_string : Form → Params → ℕ → What → Certificate → List ℕ
+node_string form p view what just = form.string p.setup.version view (digest_of just) what
+
+abbrev pub node_digest : Form → Params → ℕ → What → Certificate → List ℕ
+node_digest form p view what just = digest (node_string form p view what just)
+
+-- ---- statements: the instance, the number of the message, its fields
+
+abbrev pub statement : Form → Params → ℕ → List ℕ → List ℕ
+statement form p kind fields = statement_head p form.tag ++ kind ∷ fields
+
+abbrev pub vote_statement : Form → Params → ℕ → ℕ → List ℕ → List ℕ
+vote_statement form p phase view d = statement form p 6 (phase ∷ four_bytes view ++ d)
+
+-- what the sender of a message signs
+abbrev pub own_statement : Form → Params → Message → List ℕ
+own_statement form p (NewView round high sig) = statement form p 1 (two_bytes round ++ four_bytes (view_of high))
+own_statement form p (Prepare view what just sig) = statement form p 2 (four_bytes view ++ node_digest form p view what just)
+own_statement form p (PreCommit view shown sig) = statement form p 3 (four_bytes view ++ digest_of shown)
+own_statement form p (Commit view shown sig) = statement form p 4 (four_bytes view ++ digest_of shown)
+own_statement form p (Decide view shown sig) = statement form p 5 (four_bytes view ++ digest_of shown)
+own_statement form p (Vote phase view d sig) = vote_statement form p phase view d
+
+abbrev pub signature_of : Message → List ℕ
+signature_of (NewView round high sig) = sig
+signature_of (Prepare view what just sig) = sig
+signature_of (PreCommit view shown sig) = sig
+signature_of (Commit view shown sig) = sig
+signature_of (Decide view shown sig) = sig
+signature_of (Vote phase view d sig) = sig
+
+abbrev pub with_signature : List ℕ → Message → Message
+with_signature sig (NewView round high old) = NewView round high sig
+with_signature sig (Prepare view what just old) = Prepare view what just sig
+with_signature sig (PreCommit view shown old) = PreCommit view shown sig
+with_signature sig (Commit view shown old) = Commit view shown sig
+with_signature sig (Decide view shown old) = Decide view shown sig
+with_signature sig (Vote phase view d old) = Vote phase view d sig
+
+-- the certificate inside a message, the root's where there is none
+abbrev pub inside : Message → Certificate
+inside (NewView round high sig) = high
+inside (Prepare view what just sig) = just
+inside (PreCommit view shown sig) = shown
+inside (Commit view shown sig) = shown
+inside (Decide view shown sig) = shown
+inside (Vote phase view d sig) = Root
+
+-- ---- claims, in the order of the bytes
+
+abbrev pub claim : ℕ → List ℕ → List ℕ → Claim
+claim by statement sig = record { by = record { 0 = by }; statement = statement; sig = sig }
+
+abbrev pub vote_claims : List ℕ → List Signed → List Claim
+vote_claims statement [] = []
+vote_claims statement (v ∷ vs) = claim v.by.0 statement v.sig ∷ vote_claims statement vs
+
+abbrev pub certificate_claims : Form → Params → Certificate → List Claim
+certificate_claims form p Root = []
+certificate_claims form p (Votes view phase d votes) = vote_claims (vote_statement form p phase view d) votes
+
+-- the votes of the certificate inside, then the message's own signature
+abbrev pub claims : Form → Params → ℕ → Message → List Claim
+claims form p from msg = certificate_claims form p (inside msg) ++ claim from (own_statement form p msg) (signature_of msg) ∷ []

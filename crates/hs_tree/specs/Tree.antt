@@ -1,0 +1,113 @@
+-- The tree: the string of a node, the nodes that a replica knows, and their branches.
+--
+-- A node stands on its parent and holds nil, a batch, or a mark, which holds no slot. The root has no content; its digest is
+-- that of the empty string.
+use Rattle.std.specs.Prelude.{ℕ, suc, ◌+◌, ◌==◌, ◌&&◌, ◌||◌, Bool, List, [], ◌∷◌, ◌++◌, replicate, Option, Some, None, if◌then◌else◌}
+use Rattle.iss_base.specs.Lists.{same_bytes}
+use Rattle.iss_request.specs.Digest.{digest}
+use Rattle.iss_request.specs.Formats.{value_string}
+use Rattle.iss_request.specs.declared.ids.Slot.{Slot}
+use Rattle.iss_request.specs.declared.requests.Value.{Value}
+use Rattle.iss_request.specs.declared.requests.Value.TheVariants.{Nil as Value_nil, Batch as Value_batch}
+use Rattle.iss_sb.specs.Statements.{four_bytes}
+use Rattle.raft_wire.specs.declared.entries.What.{What}
+use Rattle.raft_wire.specs.declared.entries.What.TheVariants.{Nil, Holds, Mark}
+
+-- ---- strings and digests
+
+-- a mark has no value
+abbrev pub value_of : What → Option Value
+value_of Nil = Some Value_nil
+value_of (Holds b) = Some (Value_batch b)
+value_of Mark = None
+
+abbrev pub kind_of : What → ℕ
+kind_of Nil = 0
+kind_of (Holds b) = 1
+kind_of Mark = 2
+
+abbrev pub strings_of : ℕ → Option Value → List (List ℕ)
+strings_of version None = []
+strings_of version (Some v) = value_string version v ∷ []
+
+-- zero for a mark
+abbrev pub value_digest : ℕ → Option Value → List ℕ
+value_digest version None = replicate 32 0
+value_digest version (Some v) = digest (value_string version v)
+
+abbrev pub root : List ℕ
+root = digest []
+
+-- what a node holds, as it stands in the node's string
+abbrev pub what_bytes : ℕ → What → List ℕ
+what_bytes version what = kind_of what ∷ value_digest version (value_of what)
+
+-- a node that is proposed again in another view is the same node
+abbrev pub plain_string : ℕ → ℕ → List ℕ → What → List ℕ
+plain_string version view parent what = 0x41 ∷ parent ++ what_bytes version what
+
+-- where a node has one view
+abbrev pub viewed_string : ℕ → ℕ → List ℕ → What → List ℕ
+viewed_string version view parent what = 0x44 ∷ four_bytes view ++ parent ++ what_bytes version what
+
+-- what HotStuff and its chained form differ in: the module's tag, how many phases a node passes, and, by a version, the
+-- string of the node of a view, a parent and a content
+pub record Form : Type 0 where
+  pub tag : ℕ
+  pub phases : ℕ
+  pub string : ℕ → ℕ → List ℕ → What → List ℕ
+
+abbrev pub basic : Form
+basic = record { tag = 4; phases = 3; string = plain_string }
+
+abbrev pub chained : Form
+chained = record { tag = 5; phases = 1; string = viewed_string }
+
+-- ---- known nodes, the newest first: each stands before its parent
+
+pub record Node : Type 0 where
+  pub view : ℕ
+  pub digest : List ℕ
+  -- its justification: view and digest of the parent
+  pub from : ℕ
+  pub parent : List ℕ
+  pub what : What
+
+abbrev pub is_known : List Node → List ℕ → Bool
+is_known [] d = same_bytes d root
+is_known (k ∷ ks) d = same_bytes k.digest d || is_known ks d
+
+-- what stands from the node up to the root
+abbrev pub branch : List Node → List ℕ → List What
+branch [] d = []
+branch (k ∷ ks) d = if same_bytes k.digest d then k.what ∷ branch ks k.parent else branch ks d
+
+-- whether e is the node d or an ancestor of it
+abbrev pub extends : List Node → List ℕ → List ℕ → Bool
+extends [] d e = same_bytes d e
+extends (k ∷ ks) d e = same_bytes d e || (if same_bytes k.digest d then extends ks k.parent e else extends ks d e)
+
+-- ---- the slots of a branch, which is kept newest first
+
+-- how many slots a node holds
+abbrev pub weight : What → ℕ
+weight Nil = 1
+weight (Holds b) = 1
+weight Mark = 0
+
+abbrev pub filled : List What → ℕ
+filled [] = 0
+filled (c ∷ cs) = weight c + filled cs
+
+abbrev pub value_here : ℕ → ℕ → What → Option Value → Option Value
+value_here k n c below = if (k == n) && (weight c == 1) then value_of c else below
+
+-- the value at the place, from 0 at the root on
+abbrev pub value_at : List What → ℕ → Option Value
+value_at [] k = None
+value_at (c ∷ cs) k = value_here k (filled cs) c (value_at cs k)
+
+-- the value at the slot of this number, where the first of the slots has place k
+abbrev pub value_at_slot : List What → ℕ → List Slot → ℕ → Option Value
+value_at_slot cs k [] s = None
+value_at_slot cs k (t ∷ ts) s = if t.0 == s then value_at cs k else value_at_slot cs (suc k) ts s

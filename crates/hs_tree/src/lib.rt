@@ -1,0 +1,17 @@
+//! What HotStuff orders and says: the tree of nodes, certificates, and messages in bytes (Yin, Malkhi, Reiter, Golan Gueta
+//! and Abraham, "HotStuff: BFT Consensus with Linearity and Responsiveness").
+#![tactic(auto)]
+
+pub mod certificates;
+pub mod laws;
+pub mod messages;
+pub mod signing;
+pub mod wire;
+
+pub use certificates::{Certificate, Signed};
+pub use laws::{certificates_count_nodes, messages_are_exact, one_digest_one_branch};
+pub use messages::Message;
+pub use wire::{read, write};
+
+#[cfg(test)]
+mod tests;

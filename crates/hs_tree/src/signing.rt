@@ -1,0 +1,202 @@
+//! What is hashed of a node of the tree, and what is signed.
+ghost use Rattle.std.specs.Prelude.{◌≡◌, ℕ, ◌++◌, IfOk, OnOk};
+ghost use Rattle.iss_request.specs.Formats.{value_string};
+ghost use Rattle.iss_request.specs.declared.requests.Value.TheVariants.{Nil as Value_nil, Batch as Value_batch};
+ghost use Rattle.iss_sb.specs.Evidence.{one_or_none};
+ghost use Rattle.iss_sb.specs.Statements.{four_bytes, two_bytes};
+ghost use Rattle.hs_tree.specs.Statements.{certificate_claims, claim, statement, vote_claims, vote_statement};
+ghost use Rattle.hs_tree.specs.Tree.{Form, kind_of, plain_string, strings_of, value_digest, value_of};
+
+use crate::certificates::{Certificate, Signed};
+use crate::wire::{NEW_VIEW, VOTE};
+use iss_request::values::write_batch;
+use iss_request::{Batch, Bytes, NoMemory, Row, Writer, version_byte};
+use iss_sb::{Claim, Params, put_head};
+use raft_wire::What;
+use sha2::{Digest, Sha256};
+use std::alloc::Global;
+
+// The byte before a value that is hashed, and before a node.
+const VALUE: u8 = 0x40;
+
+const NODE: u8 = 0x41;
+
+// ---- what is hashed
+
+fn nil_string(alloc: Global, version: u8) -> Result<Bytes, NoMemory>
+    ensures { IfOk result (λ s. s ≡ value_string version Value_nil) }
+{
+    let mut out = Writer::new(alloc, version);
+    out.put_u8(VALUE)?;
+    out.put_u8(0)?;
+    Ok(out.into_bytes())
+}
+
+fn batch_string(alloc: Global, version: u8, batch: &Batch) -> Result<Bytes, NoMemory>
+    ensures { IfOk result (λ s. s ≡ value_string version (Value_batch batch.now)) }
+{
+    let mut out = Writer::new(alloc, version);
+    out.put_u8(VALUE)?;
+    out.put_u8(version_byte(version))?;
+    write_batch(batch, &mut out)?;
+    Ok(out.into_bytes())
+}
+
+/// The string of the value that a node holds; a mark has none.
+pub fn held_string(alloc: Global, version: u8, what: &What) -> Result<Option<Bytes>, NoMemory>
+    ensures { IfOk result (λ s. one_or_none s ≡ strings_of version (value_of what.now)) }
+{
+    match what {
+        What::Nil => Ok(Some(nil_string(alloc, version)?)),
+        What::Holds(batch) => Ok(Some(batch_string(alloc, version, batch)?)),
+        What::Mark => Ok(None),
+    }
+}
+
+/// The digest of the value that a node holds, by its string; zeros for a mark.
+pub fn held_digest(version: u8, what: &What, string: &Option<Bytes>) -> [u8; 32]
+    requires { one_or_none string.now ≡ strings_of version (value_of what.now) }
+    ensures { result ≡ value_digest version (value_of what.now) }
+{
+    match string {
+        Some(bytes) => Sha256::digest(bytes.as_slice()),
+        None => [0; 32],
+    }
+}
+
+// What a node holds, as a number.
+fn kind_of(what: &What) -> u8
+    ensures { result ≡ kind_of what.now }
+{
+    match what {
+        What::Nil => 0,
+        What::Holds(_) => 1,
+        What::Mark => 2,
+    }
+}
+
+/// The string of the node with this content on a parent, by the digest of the content's value.
+pub fn node_string(
+    alloc: Global,
+    version: u8,
+    parent: &[u8; 32],
+    what: &What,
+    held: &[u8; 32],
+) -> Result<Bytes, NoMemory>
+    requires { held.now ≡ value_digest version (value_of what.now) }
+    ensures { IfOk result (λ s. (view : ℕ) → s ≡ plain_string version view parent.now what.now) }
+{
+    let mut out = Writer::new(alloc, version);
+    out.put_u8(NODE)?;
+    out.put_bytes(parent)?;
+    out.put_u8(kind_of(what))?;
+    out.put_bytes(held)?;
+    Ok(out.into_bytes())
+}
+
+// ---- what is signed, by the module of this number
+
+/// The statement of a vote.
+pub fn vote_statement(
+    alloc: Global,
+    p: &Params,
+    module_tag: u8,
+    phase: u8,
+    view: u32,
+    digest: &[u8; 32],
+) -> Result<Bytes, NoMemory>
+    ensures { IfOk result (λ s. (form : Form) → form.tag ≡ module_tag → s ≡ vote_statement form p.now phase view digest.now) }
+{
+    let mut out = Writer::new(alloc, p.setup.version);
+    put_head(p, module_tag, &mut out)?;
+    out.put_u8(VOTE)?;
+    out.put_u8(phase)?;
+    out.put_u32(view)?;
+    out.put_bytes(digest)?;
+    Ok(out.into_bytes())
+}
+
+/// The statement of a message of this kind on the node of a digest: a proposal, or one that shows a certificate.
+pub fn node_statement(
+    alloc: Global,
+    p: &Params,
+    module_tag: u8,
+    kind: u8,
+    view: u32,
+    digest: &[u8; 32],
+) -> Result<Bytes, NoMemory>
+    ensures { IfOk result (λ s. (form : Form) → form.tag ≡ module_tag → s ≡ statement form p.now kind (four_bytes view ++ digest.now)) }
+{
+    let mut out = Writer::new(alloc, p.setup.version);
+    put_head(p, module_tag, &mut out)?;
+    out.put_u8(kind)?;
+    out.put_u32(view)?;
+    out.put_bytes(digest)?;
+    Ok(out.into_bytes())
+}
+
+/// The statement of a word on a new round, with a certificate of this view.
+pub fn round_statement(
+    alloc: Global,
+    p: &Params,
+    module_tag: u8,
+    round: u16,
+    view: u32,
+) -> Result<Bytes, NoMemory>
+    ensures { IfOk result (λ s. (form : Form) → form.tag ≡ module_tag → s ≡ statement form p.now 1 (two_bytes round ++ four_bytes view)) }
+{
+    let mut out = Writer::new(alloc, p.setup.version);
+    put_head(p, module_tag, &mut out)?;
+    out.put_u8(NEW_VIEW)?;
+    out.put_u16(round)?;
+    out.put_u32(view)?;
+    Ok(out.into_bytes())
+}
+
+/// Puts what a certificate claims behind other claims: each of its votes.
+pub fn put_certificate_claims(
+    alloc: Global,
+    p: &Params,
+    module_tag: u8,
+    certificate: &Certificate,
+    all: &mut Row<Claim>,
+) -> Result<(), NoMemory>
+    ensures { OnOk result ((form : Form) → form.tag ≡ module_tag → all.new ≡ all.old ++ certificate_claims form p.now certificate.now) }
+{
+    match certificate {
+        Certificate::Root => Ok(()),
+        Certificate::Votes {
+            view,
+            phase,
+            digest,
+            votes,
+        } => {
+            let statement = vote_statement(alloc, p, module_tag, *phase, *view, digest)?;
+            put_vote_claims(&statement, votes.as_slice(), all)
+        }
+    }
+}
+
+fn put_vote_claims(
+    statement: &Bytes,
+    votes: &[Signed],
+    all: &mut Row<Claim>,
+) -> Result<(), NoMemory>
+    ensures { OnOk result (all.new ≡ all.old ++ vote_claims statement.now votes.now) }
+{
+    for vote in votes {
+        let claim = claim_of(statement, vote)?;
+        all.push(claim)?;
+    }
+    Ok(())
+}
+
+fn claim_of(statement: &Bytes, vote: &Signed) -> Result<Claim, NoMemory>
+    ensures { IfOk result (λ c. c ≡ claim vote.now.by.0 statement.now vote.now.sig) }
+{
+    Ok(Claim {
+        by: vote.by,
+        statement: statement.copy()?,
+        sig: vote.sig.copy()?,
+    })
+}

@@ -1,0 +1,264 @@
+//! The bytes of the messages.
+ghost use Rattle.std.specs.Prelude.{◌≡◌, ℕ, List, IfOk, OnOk, Err};
+ghost use Rattle.iss_request.specs.Fields.{IsRead, IsUnreadable, and_bytes};
+ghost use Rattle.hs_tree.specs.declared.certificates.Certificate.{Certificate};
+ghost use Rattle.hs_tree.specs.declared.messages.Message.{Message};
+ghost use Rattle.hs_tree.specs.Messages.{is_message, parse, parse_new_view, parse_prepare, parse_shown, parse_vote, spell, spell_shown};
+
+use crate::certificates::{
+    Certificate, has_shape, is_phase, read_certificate, read_digest, read_phase, write_certificate,
+};
+use crate::messages::Message;
+use iss_request::{Bytes, DecodeError, Fields, NoMemory, Writer, read_signature};
+use raft_wire::What;
+use raft_wire::entries::{read_what, write_what};
+use std::alloc::Global;
+
+const NO_MESSAGE: u8 = 0;
+
+/// The number of a word on a new round, in bytes and in statements.
+pub const NEW_VIEW: u8 = 1;
+
+/// The number of a proposal, in bytes and in statements.
+pub const PREPARE: u8 = 2;
+
+/// The number of a certificate of the first phase, in bytes and in statements.
+pub const PRE_COMMIT: u8 = 3;
+
+/// The number of a certificate of the second phase, in bytes and in statements.
+pub const COMMIT: u8 = 4;
+
+/// The number of a certificate of the third phase, in bytes and in statements.
+pub const DECIDE: u8 = 5;
+
+/// The number of a vote, in bytes and in statements.
+pub const VOTE: u8 = 6;
+
+// ---- writing
+
+/// Writes a message, where nodes pass so many phases: its number, its fields, its signature. One that has no spelling is
+/// written as bytes that no reader takes.
+pub fn write(phases: u8, msg: &Message, out: &mut Writer) -> Result<(), NoMemory>
+    ensures { OnOk result (out.new ≡ and_bytes out.old (spell phases out.old.version msg.now)) }
+{
+    match msg {
+        Message::NewView { round, high, sig } => write_new_view(phases, *round, high, sig, out),
+        Message::Prepare {
+            view,
+            what,
+            just,
+            sig,
+        } => write_prepare(phases, *view, what, just, sig, out),
+        Message::PreCommit { view, shown, sig } => {
+            write_shown(phases, PRE_COMMIT, *view, shown, sig, out)
+        }
+        Message::Commit { view, shown, sig } => {
+            write_shown(phases, COMMIT, *view, shown, sig, out)
+        }
+        Message::Decide { view, shown, sig } => {
+            write_shown(phases, DECIDE, *view, shown, sig, out)
+        }
+        Message::Vote {
+            phase,
+            view,
+            digest,
+            sig,
+        } => write_vote(phases, *phase, *view, digest, sig, out),
+    }
+}
+
+fn write_new_view(
+    phases: u8,
+    round: u16,
+    high: &Certificate,
+    sig: &Bytes,
+    out: &mut Writer,
+) -> Result<(), NoMemory>
+    ensures { OnOk result (out.new ≡ and_bytes out.old (spell phases out.old.version (Message.NewView round high.now sig.now))) }
+{
+    let sig = sig.as_slice();
+    if !has_shape(sig) {
+        return out.put_u8(NO_MESSAGE);
+    }
+    out.put_u8(NEW_VIEW)?;
+    out.put_u16(round)?;
+    write_certificate(phases, high, out)?;
+    out.put_bytes(sig)
+}
+
+fn write_prepare(
+    phases: u8,
+    view: u32,
+    what: &What,
+    just: &Certificate,
+    sig: &Bytes,
+    out: &mut Writer,
+) -> Result<(), NoMemory>
+    ensures { OnOk result (out.new ≡ and_bytes out.old (spell phases out.old.version (Message.Prepare view what.now just.now sig.now))) }
+{
+    let sig = sig.as_slice();
+    if !has_shape(sig) {
+        return out.put_u8(NO_MESSAGE);
+    }
+    out.put_u8(PREPARE)?;
+    out.put_u32(view)?;
+    write_what(what, out)?;
+    write_certificate(phases, just, out)?;
+    out.put_bytes(sig)
+}
+
+// A message that shows a certificate: only where nodes pass three phases.
+fn write_shown(
+    phases: u8,
+    kind: u8,
+    view: u32,
+    shown: &Certificate,
+    sig: &Bytes,
+    out: &mut Writer,
+) -> Result<(), NoMemory>
+    ensures { OnOk result (out.new ≡ and_bytes out.old (spell_shown phases kind view shown.now sig.now)) }
+{
+    let sig = sig.as_slice();
+    if phases != 3 || !has_shape(sig) {
+        return out.put_u8(NO_MESSAGE);
+    }
+    out.put_u8(kind)?;
+    out.put_u32(view)?;
+    write_certificate(phases, shown, out)?;
+    out.put_bytes(sig)
+}
+
+fn write_vote(
+    phases: u8,
+    phase: u8,
+    view: u32,
+    digest: &[u8; 32],
+    sig: &Bytes,
+    out: &mut Writer,
+) -> Result<(), NoMemory>
+    ensures { OnOk result (out.new ≡ and_bytes out.old (spell phases out.old.version (Message.Vote phase view digest.now sig.now))) }
+{
+    let sig = sig.as_slice();
+    if !is_phase(phases, phase) || !has_shape(sig) {
+        return out.put_u8(NO_MESSAGE);
+    }
+    out.put_u8(VOTE)?;
+    out.put_u8(phase)?;
+    out.put_u32(view)?;
+    out.put_bytes(digest)?;
+    out.put_bytes(sig)
+}
+
+// ---- reading
+
+// Whether there is a message of this number.
+fn is_message(phases: u8, number: u8) -> bool
+    ensures { result ≡ is_message phases number }
+{
+    match number {
+        NEW_VIEW | PREPARE | VOTE => true,
+        PRE_COMMIT | COMMIT | DECIDE => phases == 3,
+        _ => false,
+    }
+}
+
+/// Reads the message at the front, where nodes pass so many phases. `BadField` names the first field that does not fit.
+pub fn read(alloc: Global, phases: u8, f: &mut Fields) -> Result<Message, DecodeError>
+    ensures ok { IfOk result (λ m. IsRead (parse phases f.old.version) f.old f.new m) }
+    ensures bad { (at : ℕ) → result ≡ Err (DecodeError.BadField at) → IsUnreadable (parse phases f.old.version) f.old at }
+{
+    let no_message = f.bad_field();
+    let number = f.read_u8()?;
+    if !is_message(phases, number) {
+        return Err(no_message);
+    }
+    match number {
+        NEW_VIEW => read_new_view(alloc, phases, f),
+        PREPARE => read_prepare(alloc, phases, f),
+        PRE_COMMIT => {
+            let s = read_shown(alloc, phases, f)?;
+            Ok(Message::PreCommit {
+                view: s.view,
+                shown: s.shown,
+                sig: s.sig,
+            })
+        }
+        COMMIT => {
+            let s = read_shown(alloc, phases, f)?;
+            Ok(Message::Commit {
+                view: s.view,
+                shown: s.shown,
+                sig: s.sig,
+            })
+        }
+        DECIDE => {
+            let s = read_shown(alloc, phases, f)?;
+            Ok(Message::Decide {
+                view: s.view,
+                shown: s.shown,
+                sig: s.sig,
+            })
+        }
+        _ => read_vote(alloc, phases, f),
+    }
+}
+
+fn read_new_view(alloc: Global, phases: u8, f: &mut Fields) -> Result<Message, DecodeError>
+    ensures ok { IfOk result (λ m. IsRead (parse_new_view phases) f.old f.new m) }
+    ensures bad { (at : ℕ) → result ≡ Err (DecodeError.BadField at) → IsUnreadable (parse_new_view phases) f.old at }
+{
+    let round = f.read_u16()?;
+    let high = read_certificate(alloc, phases, f)?;
+    let sig = read_signature(alloc, f)?;
+    Ok(Message::NewView { round, high, sig })
+}
+
+fn read_prepare(alloc: Global, phases: u8, f: &mut Fields) -> Result<Message, DecodeError>
+    ensures ok { IfOk result (λ m. IsRead (parse_prepare phases f.old.version) f.old f.new m) }
+    ensures bad { (at : ℕ) → result ≡ Err (DecodeError.BadField at) → IsUnreadable (parse_prepare phases f.old.version) f.old at }
+{
+    let view = f.read_u32()?;
+    let what = read_what(alloc, f)?;
+    let just = read_certificate(alloc, phases, f)?;
+    let sig = read_signature(alloc, f)?;
+    Ok(Message::Prepare {
+        view,
+        what,
+        just,
+        sig,
+    })
+}
+
+// The fields of a message that shows a certificate.
+#[derive(Drop)]
+struct Shown {
+    view: u32,
+    shown: Certificate,
+    sig: Bytes,
+}
+
+fn read_shown(alloc: Global, phases: u8, f: &mut Fields) -> Result<Shown, DecodeError>
+    ensures ok { (message : ℕ → Certificate → List ℕ → Message) → IfOk result (λ s. IsRead (parse_shown phases message) f.old f.new (message s.view s.shown s.sig)) }
+    ensures bad { (message : ℕ → Certificate → List ℕ → Message) (at : ℕ) → result ≡ Err (DecodeError.BadField at) → IsUnreadable (parse_shown phases message) f.old at }
+{
+    let view = f.read_u32()?;
+    let shown = read_certificate(alloc, phases, f)?;
+    let sig = read_signature(alloc, f)?;
+    Ok(Shown { view, shown, sig })
+}
+
+fn read_vote(alloc: Global, phases: u8, f: &mut Fields) -> Result<Message, DecodeError>
+    ensures ok { IfOk result (λ m. IsRead (parse_vote phases) f.old f.new m) }
+    ensures bad { (at : ℕ) → result ≡ Err (DecodeError.BadField at) → IsUnreadable (parse_vote phases) f.old at }
+{
+    let phase = read_phase(phases, f)?;
+    let view = f.read_u32()?;
+    let digest = read_digest(f)?;
+    let sig = read_signature(alloc, f)?;
+    Ok(Message::Vote {
+        phase,
+        view,
+        digest,
+        sig,
+    })
+}

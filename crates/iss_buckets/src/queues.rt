@@ -1,0 +1,109 @@
+//! For each bucket the numbers of its requests.
+ghost use Rattle.std.specs.Prelude.{◌≡◌, ◌<◌, ◌≤◌, [], length, replicate, true, false, ℕ, None, IfOk, IfSome, IfNone, OnOk, OnErr};
+ghost use Rattle.std.specs.BTreeSet.{contains};
+ghost use Rattle.std.specs.Ordering.{nat_cmp};
+ghost use Rattle.iss_buckets.specs.Filed.{IsSetAt, bucket_of_id, has_number};
+
+use iss_request::{NoMemory, ReqId};
+use std::alloc::Global;
+use std::collections::BTreeSet;
+use std::marker::Model;
+
+/// As many queues as there are buckets, each with the numbers of the bucket's requests, ascending.
+#[derive(Drop)]
+pub(crate) struct Queues {
+    all: Vec<BTreeSet<u64>>,
+}
+
+impl Model for Queues {
+    ghost use Rattle.std.specs.Prelude.{List, ℕ, map};
+
+    ghost Value = { List (List ℕ) };
+
+    ghost view = { λ q. map (λ s. s.keys) q.all.items };
+}
+
+impl Queues {
+    /// No queues.
+    pub(crate) fn none(alloc: Global) -> Queues
+        ensures { result ≡ [] }
+    {
+        Queues {
+            all: Vec::new(alloc),
+        }
+    }
+
+    /// So many empty queues.
+    pub(crate) fn empty(alloc: Global, count: usize) -> Result<Queues, NoMemory>
+        ensures { IfOk result (λ q. q ≡ replicate count []) }
+    {
+        let mut all = Vec::with_capacity(alloc, count)?;
+        for _i in 0..count {
+            all.push(BTreeSet::new(alloc))?;
+        }
+        Ok(Queues { all })
+    }
+
+    /// How many there are.
+    pub(crate) fn count(&self) -> usize
+        ensures { result ≡ length self.now }
+    {
+        self.all.len()
+    }
+
+    /// Puts a number in a queue.
+    pub(crate) fn add(&mut self, bucket: usize, number: u64) -> Result<(), NoMemory>
+        requires { bucket < length self.old }
+        ensures ok { OnOk result (IsSetAt self.old self.new bucket number true) }
+        ensures err { OnErr result (self.new ≡ self.old) }
+    {
+        self.all[bucket].insert(number)?;
+        Ok(())
+    }
+
+    /// Takes a number out of a queue.
+    pub(crate) fn remove(&mut self, bucket: usize, number: u64)
+        requires { bucket < length self.old }
+        ensures { IsSetAt self.old self.new bucket number false }
+    {
+        self.all[bucket].remove(&number);
+    }
+
+    /// Gives up all queues.
+    pub(crate) fn clear(&mut self)
+        ensures { self.new ≡ [] }
+    {
+        self.all.clear();
+    }
+
+    /// The first number of a queue from a given one on.
+    pub(crate) fn next_from(&self, bucket: usize, from: u64) -> Option<u64>
+        requires { bucket < length self.now }
+        ensures some { IfSome result (λ k. (from ≤ k) × (has_number self.now bucket k ≡ true) ×
+            ((j : ℕ) → from ≤ j → has_number self.now bucket j ≡ true → k ≤ j)) }
+        ensures none { IfNone result ((j : ℕ) → from ≤ j → has_number self.now bucket j ≡ false) }
+    {
+        first_from(&self.all[bucket], from)
+    }
+}
+
+// The first number of a set from a given one on.
+fn first_from(set: &BTreeSet<u64>, from: u64) -> Option<u64>
+    ensures some { IfSome result (λ k. (from ≤ k) × (contains nat_cmp set.now k ≡ true) ×
+        ((j : ℕ) → from ≤ j → contains nat_cmp set.now j ≡ true → k ≤ j)) }
+    ensures none { IfNone result ((j : ℕ) → from ≤ j → contains nat_cmp set.now j ≡ false) }
+{
+    match set.range(from..).next() {
+        Some(number) => Some(*number),
+        None => None,
+    }
+}
+
+/// The bucket of an identity, of so many.
+pub(crate) fn bucket_of(id: ReqId, buckets: usize) -> usize
+    requires { 1 ≤ buckets }
+    ensures value { result ≡ bucket_of_id buckets id }
+    ensures below { result < buckets }
+{
+    (id.client as usize + id.number as usize) % buckets
+}

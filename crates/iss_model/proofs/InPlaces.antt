@@ -1,0 +1,63 @@
+-- Runs that are computed: where a request is from the event by which it is taken.
+use Rattle.std.proofs.Common.{◌≡◌, ℕ, List, [], ◌∷◌, inl, inr, refl}
+use Rattle.iss_request.specs.declared.ids.ReqId.{ReqId}
+use Rattle.iss_schedule.specs.declared.schedules.Event.{Event}
+use Rattle.iss_schedule.specs.declared.schedules.Event.TheVariants.{Request as Asks_order, Propose, Timeout as Times_out, Calm}
+use Rattle.iss_model.specs.Concrete.{rules_of}
+use Rattle.iss_model.specs.Conserved.{Asked, IsInOnePlace, first, second, third}
+use Rattle.iss_model.specs.Node.{Core}
+use Rattle.iss_model.specs.Run.{begin_run}
+use Rattle.iss_model.specs.Runs.{net_after}
+use Rattle.iss_model.proofs.Example.{Word, plain, short, telling}
+
+abbrev x : ReqId
+x = record { client = 0; number = 0 }
+
+core : List Event → ℕ → Core Word
+core events i = (net_after plain short (rules_of plain) telling events).cores i
+
+abbrev asks : Event
+asks = Asks_order 0 0 0 (170 ∷ [])
+
+-- it was taken, also where it is asked for again later
+taken : Asked plain short (rules_of plain) telling (begin_run 3) (asks ∷ Propose 0 ∷ asks ∷ []) 0 x
+taken = inl (inl refl)
+
+-- by node 0 alone
+not_taken : Asked plain short (rules_of plain) telling (begin_run 3) (asks ∷ Propose 0 ∷ asks ∷ []) 1 x → ⊥
+not_taken (inl h) = h
+not_taken (inr (inl h)) = h
+not_taken (inr (inr (inl h))) = h
+not_taken (inr (inr (inr h))) = h
+
+-- it waits
+waits : IsInOnePlace (rules_of plain) telling 0 (core (asks ∷ []) 0) x
+unfolding core
+waits = second (λ h. h) (inl refl) (λ h. h)
+
+-- it is cast
+flies : IsInOnePlace (rules_of plain) telling 0 (core (asks ∷ Propose 0 ∷ asks ∷ []) 0) x
+unfolding core
+flies = third (λ h. h) (λ h. h) (inl refl)
+
+-- it is ordered
+ordered : IsInOnePlace (rules_of plain) telling 0 (core (asks ∷ Propose 0 ∷ Calm 10 ∷ []) 0) x
+unfolding core
+ordered = first (inl refl) (λ h. h) (λ h. h)
+
+-- or its slot became nil, and it waits again
+returned : IsInOnePlace (rules_of plain) telling 0 (core (asks ∷ Propose 0 ∷ Times_out 0 (record { 0 = 0 }) ∷ []) 0) x
+unfolding core
+returned = second (λ h. h) (inl refl) (λ h. h)
+
+-- as it does in the next epoch, in which another node owns it
+abbrev next_epoch : List Event
+next_epoch = asks ∷ Propose 0 ∷ Times_out 0 (record { 0 = 0 }) ∷ Propose 1 ∷ Propose 2 ∷ Calm 10 ∷ Propose 0 ∷ Calm 10 ∷ []
+
+waits_on : IsInOnePlace (rules_of plain) telling 0 (core next_epoch 0) x
+unfolding core
+waits_on = second (λ h. h) (inl refl) (λ h. h)
+
+is_next : (core next_epoch 0).past.epoch ≡ 1
+unfolding core
+is_next = refl

@@ -1,0 +1,95 @@
+-- A turn is a row of small moves: inputs that are taken, and ends of epochs. What each of them keeps holds of what the event led to.
+use Rattle.std.proofs.Common.{◌≡◌, inl, inr, ℕ, suc, Bool, true, false, cond, eqb, List, [], ◌∷◌, ◌++◌, None, refl, sym, ap, ◌∙◌, subst, append_assoc}
+use Rattle.iss_base.specs.Lists.{In}
+use Rattle.iss_base.proofs.Lists.{is-eq}
+use Rattle.iss_sb.specs.declared.effects.Claim.{Claim}
+use Rattle.iss_sb.specs.declared.effects.Input.{Input}
+use Rattle.iss_sb.specs.declared.effects.Input.TheVariants.{Receive}
+use Rattle.iss_sb.specs.declared.effects.To.{To}
+use Rattle.iss_sb.specs.Evidence.{Module}
+use Rattle.iss_model.specs.Node.{Core, Dropped, Early, Formats, Stepped, Taken, Turn, at_instance, ended, has_leaves, in_next_epoch, inputs, onward, rests, settles, takes_each, takes_early, tried, verdict_in}
+use Rattle.iss_model.specs.Past.{is_complete, leads_in, params_of}
+use Rattle.iss_model.specs.Rules.{Rules}
+use Rattle.iss_model.proofs.Steps.{IsInput, input-taken}
+
+append-nothing : {A : Type 0} (xs : List A) → xs ++ [] ≡ xs
+append-nothing [] = refl
+append-nothing (x ∷ xs) = ap (λ ys. x ∷ ys) (append-nothing xs)
+
+turn-same : {Msg : Type 0} (c : Core Msg) (a b : List (To × List ℕ)) (d e : List Claim) (f g : List (List ℕ)) → a ≡ b → d ≡ e → f ≡ g →
+    ◌≡◌ {A = Turn Msg} (record { core = c; sends = a; own = d; strings = f }) (record { core = c; sends = b; own = e; strings = g })
+turn-same c a b d e f g p q r =
+    ap (λ (x : List (To × List ℕ)). record { core = c; sends = x; own = d; strings = f }) p
+    ∙ (ap (λ (y : List Claim). record { core = c; sends = b; own = y; strings = f }) q ∙ ap (λ (z : List (List ℕ)). record { core = c; sends = b; own = e; strings = z }) r)
+
+-- rows may be cut anywhere
+pub onward-rests : {Msg : Type 0} (t : Turn Msg) → onward t rests ≡ t
+onward-rests t = turn-same t.core (t.sends ++ []) t.sends (t.own ++ []) t.own (t.strings ++ []) t.strings (append-nothing t.sends) (append-nothing t.own) (append-nothing t.strings)
+
+pub onward-onward : {Msg : Type 0} (t : Turn Msg) (f g : Core Msg → Turn Msg) → onward t (λ c. onward (f c) g) ≡ onward (onward t f) g
+onward-onward t f g =
+    let u = f t.core in
+    let v = g u.core in
+    turn-same v.core (t.sends ++ (u.sends ++ v.sends)) ((t.sends ++ u.sends) ++ v.sends) (t.own ++ (u.own ++ v.own)) ((t.own ++ u.own) ++ v.own) (t.strings ++ (u.strings ++ v.strings)) ((t.strings ++ u.strings) ++ v.strings)
+    (sym (append_assoc t.sends u.sends v.sends)) (sym (append_assoc t.own u.own v.own)) (sym (append_assoc t.strings u.strings v.strings))
+
+module _ {Msg : Type 0} (F : Formats Msg) (R : Rules) (M : Module Msg) (me : ℕ) where
+  -- an input that the core takes in the instance of l
+  pub record IsFit (c : Core Msg) (l : ℕ) (input : Input Msg) : Type 0 where
+    pub leads : leads_in R M me c.past l ≡ true
+    pub leaves : has_leaves M (params_of R M me c.past l) c.leaf ≡ true
+    pub judged : verdict_in R M me c.past l input ≡ None
+
+  -- a turn goes on with an input, or with the end of its epoch
+  abbrev pub then_takes : Turn Msg → ℕ → Input Msg → Turn Msg
+  then_takes t l input = onward t (λ c. inputs F R M me c l input)
+
+  abbrev pub then_ends : Turn Msg → Turn Msg
+  then_ends t = record t { core = in_next_epoch t.core }
+
+  -- an early message, as it is taken
+  abbrev pub early_input : Early Msg → Input Msg
+  early_input x = Receive (record { 0 = x.from }) x.msg
+
+  module _ (P : Turn Msg → Type 0) (Comes : Turn Msg → ℕ → Input Msg → Type 0)
+      (takes : (t : Turn Msg) (l : ℕ) (input : Input Msg) → P t → IsFit t.core l input → Comes t l input → P (then_takes t l input))
+      (ends : (t : Turn Msg) → P t → is_complete R M me t.core.past ≡ true → P (then_ends t)) where
+    input-holds : (t : Turn Msg) (l : ℕ) (input : Input Msg) (v : Turn Msg) → P t → Comes t l input → IsInput F R M me t.core l input v → P (onward t (λ c. v))
+    input-holds t l input v h come i = subst (λ (z : Turn Msg). P (onward t (λ c. z))) (sym i.is) (takes t l input h (record { leads = i.leads; leaves = i.leaves; judged = i.judged }) come)
+
+    -- the first input of an event
+    pub first-holds : (c : Core Msg) (l : ℕ) (input : Input Msg) (v : Turn Msg) → P (rests c) → Comes (rests c) l input → IsInput F R M me c l input v → P v
+    first-holds c l input v h come i = input-holds (rests c) l input v h come i
+
+    tried-holds : (t : Turn Msg) (l : ℕ) (input : Input Msg) → P t → Comes t l input → (o : Stepped Msg) → at_instance F R M me t.core l input ≡ o → P (onward t (λ c. tried c o))
+    tried-holds t l input h come (Dropped why) q = subst P (sym (onward-rests t)) h
+    tried-holds t l input h come (Taken v) q = input-holds t l input v h come (input-taken F R M me t.core l input v q)
+
+    ended-holds : (t u : Turn Msg) → P (onward t (λ c. u)) → P (onward t (λ c. ended R M me u))
+    ended-holds t u h = go (is_complete R M me u.core.past) refl
+      where
+        go : (b : Bool) → is_complete R M me u.core.past ≡ b → P (onward t (λ c. cond b (record u { core = in_next_epoch u.core }) u))
+        go true q = ends (onward t (λ c. u)) h q
+        go false q = h
+
+    pub early-holds : (t : Turn Msg) (x : Early Msg) → P t → Comes t x.leader (early_input x) → P (onward t (λ c. takes_early F R M me c x))
+    early-holds t x h come =
+        let o = at_instance F R M me t.core x.leader (early_input x) in
+        ended-holds t (tried t.core o) (tried-holds t x.leader (early_input x) h come o refl)
+
+    -- what came early, as long as its epoch lasts
+    pub each-holds : (e : ℕ) (xs : List (Early Msg)) (t : Turn Msg) → P t → ((u : Turn Msg) (x : Early Msg) → In x xs → P u → u.core.past.epoch ≡ e → Comes u x.leader (early_input x)) → P (onward t (takes_each F R M me e xs))
+    each-holds e [] t h come = subst P (sym (onward-rests t)) h
+    each-holds e (x ∷ xs) t h come = go (λ u k. each-holds e xs u k (λ v y i. come v y (inr i))) (eqb t.core.past.epoch e) refl
+      where
+        go : ((u : Turn Msg) → P u → P (onward u (takes_each F R M me e xs))) → (b : Bool) → eqb t.core.past.epoch e ≡ b → P (onward t (λ c. cond b (onward (takes_early F R M me c x) (takes_each F R M me e xs)) (rests c)))
+        go ih true q = subst P (sym (onward-onward t (λ c. takes_early F R M me c x) (takes_each F R M me e xs))) (ih (onward t (λ c. takes_early F R M me c x)) (early-holds t x h (come t x (inl refl) h (is-eq t.core.past.epoch e q))))
+        go ih false q = subst P (sym (onward-rests t)) h
+
+    -- the end of an epoch, with all that follows
+    pub settles-holds : (t : Turn Msg) → P t → (is_complete R M me t.core.past ≡ true → (u : Turn Msg) (x : Early Msg) → In x t.core.early → P u → u.core.past.epoch ≡ suc t.core.past.epoch → Comes u x.leader (early_input x)) → P (settles F R M me t)
+    settles-holds t h come = go (is_complete R M me t.core.past) refl
+      where
+        go : (b : Bool) → is_complete R M me t.core.past ≡ b → P (cond b (onward (record t { core = in_next_epoch t.core }) (takes_each F R M me (suc t.core.past.epoch) t.core.early)) t)
+        go true q = each-holds (suc t.core.past.epoch) t.core.early (then_ends t) (ends t h q) (come q)
+        go false q = h

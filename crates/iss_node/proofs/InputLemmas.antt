@@ -1,0 +1,465 @@
+-- A node whose instance took an input stands for the core after it.
+use Rattle.std.proofs.Common.{arith, inl, inr, ◌≡◌, ◌≢◌, ◌⊎◌, ℕ, zero, suc, ◌+◌, ◌-◌, ◌*◌, ◌^◌, ◌<◌, ◌≤◌, Bool, true, false, List, [], ◌∷◌, ◌++◌, ◌==◌, ◌||◌, ◌&&◌, not, cond, Option, Some, None, length, length-append, take, reverse, refl, sym, ap, ◌∙◌, subst, if◌then◌else◌, append_assoc}
+use Rattle.std.specs.Prelude.{fold, is_some}
+use Rattle.std.proofs.lemmas.Bool.Decides.{nat_tests}
+use Rattle.std.proofs.lemmas.List.{length-reverse, reverse-append}
+use Rattle.iss_base.specs.Lists.{Different, Extends, In, first_of, oldest, set_at2}
+use Rattle.iss_base.proofs.Lists.{extends-length, oldest-part, same_or_not, set_at2-other, set_at2-same}
+use Rattle.iss_buckets.specs.Waiting.{AreNew, absent, waits}
+use Rattle.iss_keys.specs.Directories.{AreKeysOf}
+use Rattle.iss_keys.specs.KeyStates.{KeyState}
+use Rattle.iss_layout.proofs.FairLemmas.{fair, good_plan}
+use Rattle.iss_layout.specs.Layout.{IsFair, Plan, leads, segment}
+use Rattle.iss_log.specs.LogState.{LogState, value_at}
+use Rattle.iss_ids.proofs.Members.{has_id-append}
+use Rattle.iss_model.proofs.Casts.{inputs-sound, joined-newer, settled-core}
+use Rattle.iss_model.proofs.Epochs.{length-cut}
+use Rattle.iss_model.proofs.Flights.{AreParts as AreTwo, ids-carried, parts-of}
+use Rattle.iss_model.proofs.Ids.{has-not, ids-append, in-ids}
+use Rattle.iss_model.proofs.Logs.{Later, before-later, log-chain, log-kept, log-later, takes-later}
+use Rattle.iss_model.proofs.Longest.{Bounded}
+use Rattle.iss_model.specs.Concrete.{number_of, plan_at, rules_of, start_at}
+use Rattle.iss_model.specs.Node.{Core, Formats, Turn, flown, flying, inputs, joined, packed, returned}
+use Rattle.iss_model.specs.Past.{IsLog, Past, before_own, log_of, params_of, start_of, taken_in, takes}
+use Rattle.iss_model.specs.Rules.{Rules}
+use Rattle.iss_model.specs.Sound.{IsSoundCore, carried, held}
+use Rattle.iss_node.proofs.FlightLemmas.{still-flown}
+use Rattle.iss_node.proofs.GivenLemmas.{given-in, in-given, slot-in, slot-next}
+use Rattle.iss_node.proofs.GrowthLemmas.{log_ids-append, note-all, waiting-is}
+use Rattle.iss_node.proofs.OwnEpoch.{has-slots, log-is, start-at-is, start-is}
+use Rattle.iss_node.specs.Cells.{given}
+use Rattle.iss_node.specs.Flights.{FlightState, IsLanded, landed}
+use Rattle.iss_node.specs.Growth.{IsGrown, and_values, waits_on}
+use Rattle.iss_node.specs.Inputs.{and_accepted}
+use Rattle.iss_node.specs.Shape.{IsReplica}
+use Rattle.iss_node.specs.State.{AreParts, IsLed, IsTied, IsTiedOver, ReplicaState, accepted_of, core_of, led, slot_value}
+use Rattle.iss_node.specs.declared.answers.Accepted.{Accepted}
+use Rattle.iss_request.specs.Log.{has_id, ids, log_ids}
+use Rattle.iss_request.specs.declared.ids.NodeId.{NodeId}
+use Rattle.iss_request.specs.declared.ids.ReqId.{ReqId}
+use Rattle.iss_request.specs.declared.ids.Slot.{Slot}
+use Rattle.iss_request.specs.declared.requests.Batch.{Batch}
+use Rattle.iss_request.specs.declared.requests.Request.{Request}
+use Rattle.iss_request.specs.declared.requests.Value.{Value}
+use Rattle.iss_request.specs.declared.setups.Setup.{Setup}
+use Rattle.iss_sb.specs.Calls.{AllIn, AreToNodes, IsTaken, slots_of}
+use Rattle.iss_sb.specs.Evidence.{Item, Made, Module, accepts, and_then, delivered, one_or_none}
+use Rattle.iss_sb.specs.Laws.{IsLawful}
+use Rattle.iss_sb.specs.declared.effects.Effects.{Effects}
+use Rattle.iss_sb.specs.declared.effects.Input.{Input}
+use Rattle.iss_sb.specs.declared.effects.Params.{Params}
+use Rattle.iss_sb.specs.declared.effects.To.{To}
+use Rattle.iss_segment.specs.Answers.{IsInstanceTaken}
+use Rattle.iss_segment.specs.Ground.{noted_before}
+use Rattle.iss_segment.specs.Instance.{IsInstance, SameIds, SegmentState}
+use Rattle.iss_window.specs.Kept.{StandsFor}
+
+abbrev pub slot_at : ℕ → Slot
+slot_at k = record { 0 = k }
+
+-- ---- requests that are all different
+
+-- what stands behind a list, all identities being different, is new to it
+pub new-of : (qs w : List Request) → Different (ids (w ++ qs)) → AreNew w qs
+new-of [] w d = tt
+new-of (q ∷ qs) w d =
+    let p = parts-of w (q ∷ qs) d in
+    let none : waits q.id w ≡ false = has-not q.id (ids w) (λ i. p.apart q.id i (inl refl)) in
+    let rest : Different (ids ((w ++ q ∷ []) ++ qs)) = subst (λ (xs : List Request). Different (ids xs)) (sym (append_assoc w (q ∷ []) qs)) d in
+    (none, new-of qs (w ++ q ∷ []) rest)
+
+-- ---- the newest part of a log that goes on
+
+take-over : {A : Type 0} (newer old : List A) (n : ℕ) → take (length newer + n) (newer ++ old) ≡ newer ++ take n old
+take-over [] old n = ap (λ (k : ℕ). take k old) (let q : 0 + n ≡ n = omega arith in q)
+take-over (x ∷ newer) old n =
+    let q : suc (length newer) + n ≡ suc (length newer + n) = omega arith in
+    ap (λ (k : ℕ). take k (x ∷ (newer ++ old))) q ∙ ap (λ (xs : List _). x ∷ xs) (take-over newer old n)
+
+pub joined-more : (newer old : List Value) (n : ℕ) → n ≤ length old → joined n (newer ++ old) ≡ newer ++ joined n old
+joined-more newer old n le =
+    let long = length-append newer old in
+    let q : length (newer ++ old) - n ≡ length newer + (length old - n) = omega (arith, long, le) in
+    ap (λ (k : ℕ). take k (newer ++ old)) q ∙ take-over newer old (length old - n)
+
+-- a log is its newest part and what is below
+pub split-log : (all low : List Value) (n : ℕ) → n ≡ length low → Extends low all → all ≡ joined n all ++ low
+split-log all low n is x =
+    let q : joined n all ≡ x.0 = ap (λ (k : ℕ). joined k all) is ∙ ap (λ (ys : List Value). joined (length low) ys) x.1 ∙ joined-newer x.0 low in
+    x.1 ∙ ap (λ (ys : List Value). ys ++ low) (sym q)
+
+-- ---- lists by leader
+
+accepted-other : (l : ℕ) (k : NodeId) (xs : List Accepted) (a : Option (Slot × Batch)) → k.0 ≢ l → accepted_of l (and_accepted k xs a) ≡ accepted_of l xs
+accepted-other l k xs None ne = refl
+accepted-other l k [] (Some a) ne = let no : (k.0 == l) ≡ false = grind (arith, nat_tests) in rw no refl
+accepted-other l k (x ∷ xs) (Some a) ne = elim (x.leader.0 == l) as (λ b. cond b ((x.slot, x.batch) ∷ accepted_of l (xs ++ record { leader = k; slot = a.0; batch = a.1 } ∷ [])) (accepted_of l (xs ++ record { leader = k; slot = a.0; batch = a.1 } ∷ [])) ≡ cond b ((x.slot, x.batch) ∷ accepted_of l xs) (accepted_of l xs)) [
+  | true ↦ ap (λ (ys : List (Slot × Batch)). (x.slot, x.batch) ∷ ys) (accepted-other l k xs (Some a) ne)
+  | false ↦ accepted-other l k xs (Some a) ne
+]
+
+accepted-own : (k : NodeId) (xs : List Accepted) (a : Option (Slot × Batch)) → accepted_of k.0 (and_accepted k xs a) ≡ accepted_of k.0 xs ++ one_or_none a
+accepted-own k xs None = sym (append-nothing (accepted_of k.0 xs))
+  where
+    append-nothing : {A : Type 0} (ys : List A) → ys ++ [] ≡ ys
+    append-nothing [] = refl
+    append-nothing (y ∷ ys) = ap (λ zs. y ∷ zs) (append-nothing ys)
+accepted-own k [] (Some a) = let same : (k.0 == k.0) ≡ true = grind (arith, nat_tests) in rw same refl
+accepted-own k (x ∷ xs) (Some a) = elim (x.leader.0 == k.0) as (λ b. cond b ((x.slot, x.batch) ∷ accepted_of k.0 (xs ++ record { leader = k; slot = a.0; batch = a.1 } ∷ [])) (accepted_of k.0 (xs ++ record { leader = k; slot = a.0; batch = a.1 } ∷ [])) ≡ cond b ((x.slot, x.batch) ∷ accepted_of k.0 xs) (accepted_of k.0 xs) ++ a ∷ []) [
+  | true ↦ ap (λ (ys : List (Slot × Batch)). (x.slot, x.batch) ∷ ys) (accepted-own k xs (Some a))
+  | false ↦ accepted-own k xs (Some a)
+]
+
+reverse-one : (xs : List (Slot × Batch)) (a : Option (Slot × Batch)) → reverse (xs ++ one_or_none a) ≡ one_or_none a ++ reverse xs
+reverse-one xs None = ap (λ (ys : List (Slot × Batch)). reverse ys) (append-nothing xs)
+  where
+    append-nothing : {A : Type 0} (ys : List A) → ys ++ [] ≡ ys
+    append-nothing [] = refl
+    append-nothing (y ∷ ys) = ap (λ zs. y ∷ zs) (append-nothing ys)
+reverse-one xs (Some a) = reverse-append xs (a ∷ [])
+
+-- ---- a node in its epoch
+
+module _ {M Msg : Type 0} (m : Module Msg) (stands : M → Params → ℕ → List (Item Msg) → Type 0)
+    (v : ReplicaState M Msg) (shape : IsReplica m v) (past : Past Msg) (tied : IsTied m stands v past) where
+  abbrev pub bf : List Value
+  bf = before_own (rules_of v.setup) m v.me.0 past
+
+  pub bounded : Bounded past
+  bounded = record { evidence = tied.sound.unborn; adopted = tied.sound.settled }
+
+  pub reached : start_of (rules_of v.setup) (log_of (rules_of v.setup) m v.me.0 past) past.epoch ≤ length (log_of (rules_of v.setup) m v.me.0 past)
+  reached = tied.sound.reached
+
+  pub bf-long : length (before_own (rules_of v.setup) m v.me.0 past) ≡ past.epoch * v.setup.epoch
+  bf-long = length-cut (rules_of v.setup) (log_of (rules_of v.setup) m v.me.0 past) past.epoch reached ∙ start-is v.setup (log_of (rules_of v.setup) m v.me.0 past) past.epoch
+
+  pub begins : start_at v.setup (before_own (rules_of v.setup) m v.me.0 past) past.epoch ≡ past.epoch * v.setup.epoch
+  begins = let f = shape.fits in let q = tied.start in start-at-is v.setup (before_own (rules_of v.setup) m v.me.0 past) past.epoch (omega (arith, f, q))
+
+  pub own-fair : IsFair (plan_at v.setup (before_own (rules_of v.setup) m v.me.0 past) past.epoch)
+  own-fair =
+      let f = shape.fits in let q = tied.start in let b = begins in
+      let fits : start_at v.setup (before_own (rules_of v.setup) m v.me.0 past) past.epoch + v.setup.epoch ≤ 2 ^ 64 = omega (arith, f, q, b) in
+      fair (plan_at v.setup (before_own (rules_of v.setup) m v.me.0 past) past.epoch) (good_plan v.setup past.epoch (start_at v.setup (before_own (rules_of v.setup) m v.me.0 past) past.epoch) (before_own (rules_of v.setup) m v.me.0 past) shape.good.good fits)
+
+  -- a slot of a leader's segment
+  pub own-slot : (k l : ℕ) → In (slot_at k) (segment (plan_at v.setup (before_own (rules_of v.setup) m v.me.0 past) past.epoch) l) →
+      (past.epoch * v.setup.epoch ≤ k) × (k < past.epoch * v.setup.epoch + v.setup.epoch) × ((rules_of v.setup).leader (before_own (rules_of v.setup) m v.me.0 past) past.epoch k ≡ l)
+  own-slot k l h =
+      let both = ((own-fair.segments l).slots (record { 0 = k })).0 h in
+      let b = begins in
+      let low : past.epoch * v.setup.epoch ≤ k = omega (arith, both.0.0, b) in
+      let high : k < past.epoch * v.setup.epoch + v.setup.epoch = omega (arith, both.0.1, b) in
+      (low, high, ap (λ (o : Option NodeId). number_of o) both.1)
+
+  -- the log before the epoch stands in the log
+  pub bf-part : Extends (before_own (rules_of v.setup) m v.me.0 past) (reverse v.log.entries)
+  bf-part = subst (λ (xs : List Value). Extends (before_own (rules_of v.setup) m v.me.0 past) xs) tied.log (oldest-part (start_of (rules_of v.setup) (log_of (rules_of v.setup) m v.me.0 past) past.epoch) (log_of (rules_of v.setup) m v.me.0 past))
+
+  -- ---- the input of the instance of a leader
+
+  module _ (laws : IsLawful m) (leader : NodeId) (input : Input Msg) (ef : Effects Msg) (was is : SegmentState M) (keys : KeyState)
+      (at : led v.segments leader.0 ≡ Some was) (taken : IsInstanceTaken m stands was is input v.keys keys ef)
+      (log : LogState) (held : ℕ) (grown : IsGrown v.log ef.delivers log held) where
+    abbrev P : Params
+    P = (rules_of v.setup).params (before_own (rules_of v.setup) m v.me.0 past) past.epoch leader.0
+
+    abbrev xs : List (Item Msg)
+    xs = taken_in past leader.0
+
+    abbrev item : Item Msg
+    item = record { input = input; leaf = v.keys.used; made = m.makes P v.me.0 xs input v.keys.used }
+
+    abbrev pub next : Past Msg
+    next = takes (rules_of v.setup) m v.me.0 past leader.0 input v.keys.used
+
+    here : IsLed stands P v.me xs was
+    here = tied.instances leader.0 was at
+
+    own : AreKeysOf was.me.0 was.params.setup.keys v.keys
+    own =
+        subst (λ (p : Params). AreKeysOf was.me.0 p.setup.keys v.keys) (sym here.params)
+        (subst (λ (i : NodeId). AreKeysOf i.0 v.setup.keys v.keys) (sym here.node) tied.keys)
+
+    took : IsTaken m P v.me.0 xs input v.keys.used ef
+    took =
+        subst (λ (p : Params). IsTaken m p v.me.0 xs input v.keys.used ef) here.params
+        (subst (λ (i : NodeId). IsTaken m was.params i.0 xs input v.keys.used ef) here.node (taken.effects xs here.instance own))
+
+    inside : AllIn (slots_of ef.delivers) (segment (plan_at v.setup (before_own (rules_of v.setup) m v.me.0 past) past.epoch) leader.0)
+    inside = subst (λ (p : Params). AllIn (slots_of ef.delivers) p.slots) here.params taken.within.delivered
+
+    given-own : (k : ℕ) (x : Value) → given ef.delivers k ≡ Some x →
+        (past.epoch * v.setup.epoch ≤ k) × (k < past.epoch * v.setup.epoch + v.setup.epoch) × ((rules_of v.setup).leader (before_own (rules_of v.setup) m v.me.0 past) past.epoch k ≡ leader.0)
+    given-own k x h = own-slot k leader.0 (slot-in ef.delivers (segment (plan_at v.setup (before_own (rules_of v.setup) m v.me.0 past) past.epoch) leader.0) k x inside h)
+
+    none-given : (k : ℕ) → ((x : Value) → given ef.delivers k ≡ Some x → ⊥) → given ef.delivers k ≡ None
+    none-given k never = go (given ef.delivers k) refl
+      where
+        go : (o : Option Value) → given ef.delivers k ≡ o → given ef.delivers k ≡ None
+        go None h = h
+        go (Some x) h = absurd (never x h)
+
+    kept : (k : ℕ) (o : Option Value) → value_at v.log k ≡ o → given ef.delivers k ≡ None → value_at log k ≡ o
+    kept k o h none = grown.values k ∙ ap (λ (z : Option Value). first_of (value_at v.log k) z) none ∙ stays (value_at v.log k) ∙ h
+      where
+        stays : (a : Option Value) → first_of a None ≡ a
+        stays None = refl
+        stays (Some x) = refl
+
+    cells : (k : ℕ) → past.epoch * v.setup.epoch ≤ k → k < past.epoch * v.setup.epoch + v.setup.epoch →
+        value_at log k ≡ slot_value (rules_of v.setup) m v.me.0 (before_own (rules_of v.setup) m v.me.0 past) next k
+    cells k lo hi = go (same_or_not ((rules_of v.setup).leader (before_own (rules_of v.setup) m v.me.0 past) past.epoch k) leader.0)
+      where
+        old : value_at v.log k ≡ slot_value (rules_of v.setup) m v.me.0 (before_own (rules_of v.setup) m v.me.0 past) past k
+        old = let q = tied.start in tied.cells k (omega (arith, q, lo)) (omega (arith, q, hi))
+
+        go : ((rules_of v.setup).leader (before_own (rules_of v.setup) m v.me.0 past) past.epoch k ≡ leader.0) ⊎ ((rules_of v.setup).leader (before_own (rules_of v.setup) m v.me.0 past) past.epoch k ≢ leader.0) →
+            value_at log k ≡ slot_value (rules_of v.setup) m v.me.0 (before_own (rules_of v.setup) m v.me.0 past) next k
+        go (inl e) =
+            grown.values k
+            ∙ ap (λ (o : Option Value). first_of o (given ef.delivers k)) (old ∙ ap (λ (i : ℕ). delivered m ((rules_of v.setup).params (before_own (rules_of v.setup) m v.me.0 past) past.epoch i) v.me.0 (taken_in past i) k) e)
+            ∙ slot-next m P v.me.0 xs item ef.delivers k
+            (λ x i. (took.delivers.exactly (record { 0 = k }) x).0 i)
+            (λ x d n. (took.delivers.exactly (record { 0 = k }) x).1 (d, n))
+            ∙ sym (ap (λ (ys : List (Item Msg)). delivered m P v.me.0 ys k) (set_at2-same past.evidence past.epoch leader.0 (item ∷ xs)))
+            ∙ sym (ap (λ (i : ℕ). delivered m ((rules_of v.setup).params (before_own (rules_of v.setup) m v.me.0 past) past.epoch i) v.me.0 (next.evidence past.epoch i) k) e)
+        go (inr ne) =
+            kept k (slot_value (rules_of v.setup) m v.me.0 (before_own (rules_of v.setup) m v.me.0 past) past k) old (none-given k (λ x h. ne (given-own k x h).2))
+            ∙ sym (ap (λ (ys : List (Item Msg)). delivered m ((rules_of v.setup).params (before_own (rules_of v.setup) m v.me.0 past) past.epoch ((rules_of v.setup).leader (before_own (rules_of v.setup) m v.me.0 past) past.epoch k)) v.me.0 ys k)
+            (set_at2-other past.evidence past.epoch leader.0 (item ∷ xs) past.epoch ((rules_of v.setup).leader (before_own (rules_of v.setup) m v.me.0 past) past.epoch k) (inr ne)))
+
+    outside : (k : ℕ) → past.epoch * v.setup.epoch + v.setup.epoch ≤ k → value_at log k ≡ None
+    outside k le = let q = tied.start in kept k None (tied.outside k (omega (arith, q, le))) (none-given k (λ x h. let lt = (given-own k x h).1 in absurd (omega (arith, lt, le))))
+
+    turn-sound : (F : Formats Msg) → IsSoundCore (rules_of v.setup) m v.me.0 (inputs F (rules_of v.setup) m v.me.0 (core_of v past) leader.0 input).core
+    turn-sound F = inputs-sound F (rules_of v.setup) m v.me.0 (core_of v past) leader.0 input tied.sound
+
+    later : Later (rules_of v.setup) past next
+    later = takes-later (rules_of v.setup) m v.me.0 past leader.0 input v.keys.used (record { all = tied.sound.settled })
+
+    next-bounded : Bounded next
+    next-bounded = record {
+      evidence = λ e l lt. set_at2-other past.evidence past.epoch leader.0 (item ∷ xs) e l (inl (let ne : e ≢ past.epoch = omega (arith, lt) in ne)) ∙ tied.sound.unborn e l lt;
+      adopted = tied.sound.settled;
+    }
+
+    pub new-log : log_of (rules_of v.setup) m v.me.0 next ≡ reverse log.entries
+    new-log =
+        let was_log : IsLog (rules_of v.setup) m v.me.0 past (reverse v.log.entries) = subst (λ (ys : List Value). IsLog (rules_of v.setup) m v.me.0 past ys) tied.log (log-chain (rules_of v.setup) m v.me.0 past) in
+        log-is v.setup shape.good.good m v.me.0 next next-bounded (before_own (rules_of v.setup) m v.me.0 past) bf-long log cells outside grown.hole v.log.entries grown.joined grown.entries bf-part
+        (log-kept (rules_of v.setup) m v.me.0 past next later (reverse v.log.entries) was_log)
+
+    pub before-next : before_own (rules_of v.setup) m v.me.0 next ≡ before_own (rules_of v.setup) m v.me.0 past
+    before-next = before-later (rules_of v.setup) m v.me.0 past next past.epoch later reached
+
+    -- ---- the rest of the node after the input
+
+    module _ (segments : List (Option (SegmentState M))) (accepted : List Accepted) (waiting : List Request) (flight : FlightState) (logged : List ReqId)
+        (there : led segments leader.0 ≡ Some is) (others : (k : ℕ) → k ≢ leader.0 → led segments k ≡ led v.segments k)
+        (notes : accepted ≡ and_accepted leader v.accepted ef.accepted)
+        (joins : logged ≡ fold and_values v.logged grown.joined)
+        (lands : IsLanded v.flight flight (length log.entries))
+        (returns : (all : List ReqId) (before : List Value) → StandsFor v.windows (noted_before before) → ((x : ReqId) → has_id x all ≡ (has_id x logged || has_id x (log_ids before))) →
+        AreNew (fold waits_on v.waiting grown.joined) (absent all (returned (reverse log.entries) v.flight.casts)) →
+        waiting ≡ fold waits_on v.waiting grown.joined ++ absent all (returned (reverse log.entries) v.flight.casts)) where
+      abbrev pub after : ReplicaState M Msg
+      after = record {
+        setup = v.setup;
+        me = v.me;
+        directory = v.directory;
+        epoch = v.epoch;
+        plan = v.plan;
+        windows = v.windows;
+        standing = v.standing;
+        segments = segments;
+        accepted = accepted;
+        log = log;
+        waiting = waiting;
+        flight = flight;
+        early = v.early;
+        logged = logged;
+        keys = keys;
+      }
+
+      abbrev newer : List Value
+      newer = reverse grown.joined
+
+      log-more : reverse log.entries ≡ reverse grown.joined ++ reverse v.log.entries
+      log-more = ap (λ (ys : List Value). reverse ys) grown.entries ∙ reverse-append v.log.entries grown.joined
+
+      low : v.plan.start ≤ length (reverse v.log.entries)
+      low = let n = length-reverse v.log.entries in omega (arith, n, tied.begun)
+
+      noted : SameIds logged (log_ids (joined v.plan.start (log_of (rules_of v.setup) m v.me.0 next)))
+      noted = λ x.
+          ap (λ (ys : List ReqId). has_id x ys) joins
+          ∙ note-all x grown.joined v.logged
+          ∙ ap (λ b. b || has_id x (log_ids (reverse grown.joined))) (tied.logged x ∙ ap (λ (ys : List Value). has_id x (log_ids (joined v.plan.start ys))) tied.log)
+          ∙ or-turned (has_id x (log_ids (joined v.plan.start (reverse v.log.entries)))) (has_id x (log_ids (reverse grown.joined)))
+          ∙ sym (has_id-append x (log_ids (reverse grown.joined)) (log_ids (joined v.plan.start (reverse v.log.entries))))
+          ∙ ap (λ (ys : List ReqId). has_id x ys) (sym (log_ids-append (reverse grown.joined) (joined v.plan.start (reverse v.log.entries))))
+          ∙ ap (λ (ys : List Value). has_id x (log_ids ys)) (sym (joined-more (reverse grown.joined) (reverse v.log.entries) v.plan.start low) ∙ ap (λ (ys : List Value). joined v.plan.start ys) (sym log-more ∙ sym new-log))
+        where
+          or-turned : (a b : Bool) → (a || b) ≡ (b || a)
+          or-turned true true = refl
+          or-turned true false = refl
+          or-turned false true = refl
+          or-turned false false = refl
+
+      -- the whole log: that of the epoch, and what was before it
+      whole : log_of (rules_of v.setup) m v.me.0 next ≡ joined v.plan.start (log_of (rules_of v.setup) m v.me.0 next) ++ before_own (rules_of v.setup) m v.me.0 past
+      whole = let q = tied.start in split-log (log_of (rules_of v.setup) m v.me.0 next) (before_own (rules_of v.setup) m v.me.0 past) v.plan.start (q ∙ sym bf-long)
+          (subst (λ (ys : List Value). Extends (before_own (rules_of v.setup) m v.me.0 past) ys) (sym (new-log ∙ log-more)) (longer (before_own (rules_of v.setup) m v.me.0 past) (reverse v.log.entries) (reverse grown.joined) bf-part))
+        where
+          longer : (a b c : List Value) → Extends a b → Extends a (c ++ b)
+          longer a b c x = (c ++ x.0, ap (λ (ys : List Value). c ++ ys) x.1 ∙ sym (append_assoc c x.0 a))
+
+      members : (x : ReqId) → has_id x (log_ids (log_of (rules_of v.setup) m v.me.0 next)) ≡ (has_id x logged || has_id x (log_ids (before_own (rules_of v.setup) m v.me.0 past)))
+      members x =
+          ap (λ (ys : List Value). has_id x (log_ids ys)) whole
+          ∙ ap (λ (ys : List ReqId). has_id x ys) (log_ids-append (joined v.plan.start (log_of (rules_of v.setup) m v.me.0 next)) (before_own (rules_of v.setup) m v.me.0 past))
+          ∙ has_id-append x (log_ids (joined v.plan.start (log_of (rules_of v.setup) m v.me.0 next))) (log_ids (before_own (rules_of v.setup) m v.me.0 past))
+          ∙ ap (λ b. b || has_id x (log_ids (before_own (rules_of v.setup) m v.me.0 past))) (sym (noted x))
+
+      still-waits : fold waits_on v.waiting grown.joined ≡ absent (log_ids (joined (length (log_of (rules_of v.setup) m v.me.0 past)) (log_of (rules_of v.setup) m v.me.0 next))) v.waiting
+      still-waits =
+          waiting-is v.log.entries grown.joined v.waiting
+          ∙ ap (λ (ys : List Value). absent (log_ids (joined (length ys) (reverse (v.log.entries ++ grown.joined)))) v.waiting) (sym tied.log)
+          ∙ ap (λ (ys : List Value). absent (log_ids (joined (length (log_of (rules_of v.setup) m v.me.0 past)) ys)) v.waiting) (ap (λ (ys : List Value). reverse ys) (sym grown.entries) ∙ sym new-log)
+
+      back-is : absent (log_ids (log_of (rules_of v.setup) m v.me.0 next)) (returned (reverse log.entries) v.flight.casts) ≡ absent (log_ids (log_of (rules_of v.setup) m v.me.0 next)) (returned (log_of (rules_of v.setup) m v.me.0 next) v.flight.casts)
+      back-is = ap (λ (ys : List Value). absent (log_ids (log_of (rules_of v.setup) m v.me.0 next)) (returned ys v.flight.casts)) (sym new-log)
+
+      fresh : (F : Formats Msg) → AreNew (fold waits_on v.waiting grown.joined) (absent (log_ids (log_of (rules_of v.setup) m v.me.0 next)) (returned (reverse log.entries) v.flight.casts))
+      fresh F =
+          let turn = inputs F (rules_of v.setup) m v.me.0 (core_of v past) leader.0 input in
+          let p = parts-of turn.core.waiting (carried turn.core.flight) (turn-sound F).different in
+          let d = new-of (absent (log_ids (log_of (rules_of v.setup) m v.me.0 next)) (returned (log_of (rules_of v.setup) m v.me.0 next) v.flight.casts))
+          (absent (log_ids (joined (length (log_of (rules_of v.setup) m v.me.0 past)) (log_of (rules_of v.setup) m v.me.0 next))) v.waiting) p.left in
+          subst (λ (ys : List Request). AreNew ys (absent (log_ids (log_of (rules_of v.setup) m v.me.0 next)) (returned (reverse log.entries) v.flight.casts))) (sym still-waits)
+          (subst (λ (zs : List Request). AreNew (absent (log_ids (joined (length (log_of (rules_of v.setup) m v.me.0 past)) (log_of (rules_of v.setup) m v.me.0 next))) v.waiting) zs) (sym back-is) d)
+
+      waiting-core : (F : Formats Msg) → waiting ≡ (inputs F (rules_of v.setup) m v.me.0 (core_of v past) leader.0 input).core.waiting
+      waiting-core F =
+          returns (log_ids (log_of (rules_of v.setup) m v.me.0 next)) (before_own (rules_of v.setup) m v.me.0 past) tied.rests.noted members (fresh F)
+          ∙ ap (λ (ys : List Request). ys ++ absent (log_ids (log_of (rules_of v.setup) m v.me.0 next)) (returned (reverse log.entries) v.flight.casts)) still-waits
+          ∙ ap (λ (zs : List Request). absent (log_ids (joined (length (log_of (rules_of v.setup) m v.me.0 past)) (log_of (rules_of v.setup) m v.me.0 next))) v.waiting ++ zs) back-is
+
+      long-log : length log.entries ≡ length (log_of (rules_of v.setup) m v.me.0 next)
+      long-log = sym (ap (λ (ys : List Value). length ys) new-log ∙ length-reverse log.entries)
+
+      flight-core : flight.casts ≡ flying (length (log_of (rules_of v.setup) m v.me.0 next)) v.flight.casts
+      flight-core = lands.casts ∙ ap (λ (n : ℕ). flying n v.flight.casts) long-log
+
+      leaf-core : keys.used ≡ v.keys.used + (m.makes P v.me.0 xs input v.keys.used).used
+      leaf-core =
+          subst (λ (p : Params). keys.used ≡ v.keys.used + (m.makes p v.me.0 xs input v.keys.used).used) here.params
+          (subst (λ (i : NodeId). keys.used ≡ v.keys.used + (m.makes was.params i.0 xs input v.keys.used).used) here.node (taken.used xs here.instance own))
+
+      pub core-is : (F : Formats Msg) → (inputs F (rules_of v.setup) m v.me.0 (core_of v past) leader.0 input).core ≡ core_of after next
+      core-is F = λ t. record {
+        past = next;
+        waiting = sym (waiting-core F) t;
+        flight = sym flight-core t;
+        early = (core_of v past).early;
+        leaf = sym leaf-core t;
+      }
+
+      instances : (k : ℕ) (g : SegmentState M) → led segments k ≡ Some g → IsLed stands ((rules_of v.setup).params (before_own (rules_of v.setup) m v.me.0 past) past.epoch k) v.me (taken_in next k) g
+      instances k g at_k = go (same_or_not k leader.0)
+        where
+          stood : IsInstance stands is (item ∷ xs)
+          stood =
+              subst (λ (p : Params). IsInstance stands is (and_then m p v.me.0 xs input v.keys.used)) here.params
+              (subst (λ (i : NodeId). IsInstance stands is (and_then m was.params i.0 xs input v.keys.used)) here.node (taken.stands_for xs here.instance own))
+
+          mine : IsLed stands P v.me (taken_in next leader.0) is
+          mine = record {
+            params = taken.same_params ∙ here.params;
+            node = taken.same_node ∙ here.node;
+            instance = subst (λ (ys : List (Item Msg)). IsInstance stands is ys) (sym (set_at2-same past.evidence past.epoch leader.0 (item ∷ xs))) stood;
+          }
+
+          go : (k ≡ leader.0) ⊎ (k ≢ leader.0) → IsLed stands ((rules_of v.setup).params (before_own (rules_of v.setup) m v.me.0 past) past.epoch k) v.me (taken_in next k) g
+          go (inl q) =
+              let same : led segments leader.0 ≡ Some g = subst (λ (i : ℕ). led segments i ≡ Some g) q at_k in
+              let two : Some is ≡ Some g = sym there ∙ same in
+              let is_g : is ≡ g = cc in
+              subst (λ (z : SegmentState M). IsLed stands ((rules_of v.setup).params (before_own (rules_of v.setup) m v.me.0 past) past.epoch k) v.me (taken_in next k) z) is_g
+              (subst (λ (i : ℕ). IsLed stands ((rules_of v.setup).params (before_own (rules_of v.setup) m v.me.0 past) past.epoch i) v.me (taken_in next i) is) (sym q) mine)
+          go (inr ne) =
+              let old : led v.segments k ≡ Some g = sym (others k ne) ∙ at_k in
+              subst (λ (ys : List (Item Msg)). IsLed stands ((rules_of v.setup).params (before_own (rules_of v.setup) m v.me.0 past) past.epoch k) v.me ys g)
+              (sym (set_at2-other past.evidence past.epoch leader.0 (item ∷ xs) past.epoch k (inr ne))) (tied.instances k g old)
+
+      leading : (k : ℕ) → is_some (led segments k) ≡ leads v.plan k
+      leading k = go (same_or_not k leader.0)
+        where
+          go : (k ≡ leader.0) ⊎ (k ≢ leader.0) → is_some (led segments k) ≡ leads v.plan k
+          go (inl q) =
+              ap (λ (i : ℕ). is_some (led segments i)) q ∙ ap (λ (o : Option (SegmentState M)). is_some o) there ∙ sym (ap (λ (o : Option (SegmentState M)). is_some o) at)
+              ∙ sym (ap (λ (i : ℕ). is_some (led v.segments i)) q) ∙ tied.leading k
+          go (inr ne) = ap (λ (o : Option (SegmentState M)). is_some o) (others k ne) ∙ tied.leading k
+
+      accepted-is : (k : ℕ) → reverse (accepted_of k accepted) ≡ accepts (taken_in next k)
+      accepted-is k = go (same_or_not leader.0 k)
+        where
+          go : (leader.0 ≡ k) ⊎ (leader.0 ≢ k) → reverse (accepted_of k accepted) ≡ accepts (taken_in next k)
+          go (inl q) = subst (λ (i : ℕ). reverse (accepted_of i accepted) ≡ accepts (taken_in next i)) q
+              (ap (λ (ys : List Accepted). reverse (accepted_of leader.0 ys)) notes
+              ∙ ap (λ (ys : List (Slot × Batch)). reverse ys) (accepted-own leader v.accepted ef.accepted)
+              ∙ reverse-one (accepted_of leader.0 v.accepted) ef.accepted
+              ∙ ap (λ (ys : List (Slot × Batch)). one_or_none ef.accepted ++ ys) (tied.accepted leader.0)
+              ∙ ap (λ (o : Option (Slot × Batch)). one_or_none o ++ accepts xs) (took.accepted ∙ sym (laws.accepted P v.me.0 xs input v.keys.used))
+              ∙ sym (ap (λ (ys : List (Item Msg)). accepts ys) (set_at2-same past.evidence past.epoch leader.0 (item ∷ xs))))
+          go (inr ne) =
+              ap (λ (ys : List Accepted). reverse (accepted_of k ys)) notes
+              ∙ ap (λ (ys : List (Slot × Batch)). reverse ys) (accepted-other k leader v.accepted ef.accepted ne)
+              ∙ tied.accepted k
+              ∙ sym (ap (λ (ys : List (Item Msg)). accepts ys) (set_at2-other past.evidence past.epoch leader.0 (item ∷ xs) past.epoch k (inr (λ e. ne (sym e)))))
+
+      flown-is : SameIds flight.ids (flown flight.casts)
+      flown-is x =
+          let p = parts-of v.waiting (carried v.flight.casts) tied.sound.different in
+          lands.ids x
+          ∙ ap (λ b. b && not (has_id x (flown (landed (length log.entries) v.flight.casts)))) (tied.flown x)
+          ∙ sym (still-flown (length log.entries) v.flight.casts x p.right)
+          ∙ ap (λ (fs : List (Slot × Batch)). has_id x (flown fs)) (sym lands.casts)
+
+      tied-over : (F : Formats Msg) → IsTiedOver m stands after next (before_own (rules_of v.setup) m v.me.0 past)
+      tied-over F = record {
+        epoch = tied.epoch;
+        log = new-log;
+        rests = tied.rests;
+        standing = tied.standing;
+        start = tied.start;
+        begun = let b = tied.begun in let n = ap (λ (ys : List Value). length ys) grown.entries in let k = length-append v.log.entries grown.joined in omega (arith, b, n, k);
+        cells = λ k lo hi. let q = tied.start in cells k (omega (arith, q, lo)) (omega (arith, q, hi));
+        outside = λ k le. let q = tied.start in outside k (omega (arith, q, le));
+        hole = grown.hole;
+        leading = leading;
+        instances = instances;
+        accepted = accepted-is;
+        logged = noted;
+        flown = flown-is;
+        sound = subst (λ (c : Core Msg). IsSoundCore (rules_of v.setup) m v.me.0 c) (core-is F) (turn-sound F);
+        keys = record { own = taken.within.same_secret ∙ tied.keys.own; tall = taken.within.same_height ∙ tied.keys.tall };
+      }
+
+      pub parts-next : (F : Formats Msg) → AreParts m stands after (inputs F (rules_of v.setup) m v.me.0 (core_of v past) leader.0 input).core
+      parts-next F = record { core = core-is F; tied = subst (λ (ys : List Value). IsTiedOver m stands after next ys) (sym before-next) (tied-over F) }
+
+    pub sends-next : (F : Formats Msg) (sends : List (To × List ℕ)) → sends ≡ packed F v.me.0 v.epoch leader.0 ef.sends → sends ≡ (inputs F (rules_of v.setup) m v.me.0 (core_of v past) leader.0 input).sends
+    sends-next F sends e =
+        e ∙ ap (λ (k : ℕ). packed F v.me.0 k leader.0 ef.sends) tied.epoch ∙ ap (λ (ys : List (To × Msg)). packed F v.me.0 past.epoch leader.0 ys) took.sends
+
+    pub addressed-next : (F : Formats Msg) (sends : List (To × List ℕ)) → sends ≡ packed F v.me.0 v.epoch leader.0 ef.sends → AreToNodes v.setup.n sends
+    addressed-next F sends e =
+        let all : AreToNodes v.setup.n ef.sends = subst (λ (p : Params). AreToNodes p.setup.n ef.sends) here.params taken.within.addressed in
+        subst (λ (ys : List (To × List ℕ)). AreToNodes v.setup.n ys) (sym e) (to-nodes ef.sends all)
+      where
+        to-nodes : (ys : List (To × Msg)) → AreToNodes v.setup.n ys → AreToNodes v.setup.n (packed F v.me.0 v.epoch leader.0 ys)
+        to-nodes [] h = tt
+        to-nodes (y ∷ ys) h = (h.0, to-nodes ys h.1)

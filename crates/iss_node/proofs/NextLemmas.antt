@@ -1,0 +1,139 @@
+-- The next epoch begins.
+use Rattle.std.proofs.Common.{arith, ◌≡◌, ℕ, suc, ◌+◌, ◌^◌, ◌<◌, ◌≤◌, Bool, true, false, List, [], ◌∷◌, Option, Some, None, is_some, eqb, ◌≢◌, length, reverse, refl, sym, ap, ◌∙◌, subst, nat_le, true≢false}
+use Rattle.iss_base.proofs.Lists.{is-eq}
+use Rattle.std.specs.List.{filter}
+use Rattle.iss_layout.specs.Layout.{Conduct, Ended, IsStanding, Plan, conduct_of, plan_by, slots_from}
+use Rattle.iss_model.specs.Concrete.{rules_of}
+use Rattle.iss_model.specs.Formats.{formats_of}
+use Rattle.iss_model.specs.Node.{Core, Formats, Turn, at_instance, ended, in_next_epoch, is_nil_at, takes_early, tried}
+use Rattle.iss_model.specs.Past.{Past, is_complete}
+use Rattle.iss_node.proofs.EpochLemmas.{complete-is, parts-opened}
+use Rattle.iss_node.specs.Epochs.{AreStarted, HasClosed, HasOpened, notes}
+use Rattle.iss_node.specs.Shape.{AreFrom, IsReplica}
+use Rattle.iss_node.specs.State.{AreParts, IsTied, ReplicaState, core_of, led, seen_one}
+use Rattle.iss_node.proofs.SettleLemmas.{early-not, early-on}
+use Rattle.iss_node.specs.Casts.{IsCut}
+use Rattle.iss_node.specs.Steps.{IsLater, IsNextEpoch, IsTurnOf, IsTurned}
+use Rattle.iss_node.specs.declared.answers.Outcome.{Outcome}
+use Rattle.iss_sb.specs.declared.effects.Input.TheVariants.{Receive}
+use Rattle.iss_node.specs.declared.answers.Accepted.{Accepted}
+use Rattle.iss_node.specs.declared.answers.Early.{Early}
+use Rattle.iss_request.specs.declared.ids.ReqId.{ReqId}
+use Rattle.iss_request.specs.declared.requests.Batch.{Batch}
+use Rattle.iss_request.specs.declared.ids.NodeId.{NodeId}
+use Rattle.iss_request.specs.declared.ids.Slot.{Slot}
+use Rattle.iss_request.specs.declared.setups.Setup.{Setup}
+use Rattle.iss_sb.specs.Evidence.{Item, Module}
+use Rattle.iss_sb.specs.declared.effects.Params.{Params}
+use Rattle.iss_segment.specs.Instance.{SegmentState}
+use Rattle.iss_window.specs.Kept.{Kept, StandsFor}
+use Rattle.iss_window.specs.Window.{Noted, and_closed}
+
+-- the parts with fresh instances keep what holds of every node
+pub opened-shape : {M Msg : Type 0} (m : Module Msg) (stands : M → Params → ℕ → List (Item Msg) → Type 0) (v : ReplicaState M Msg) → IsReplica m v →
+    (e start : ℕ) (c : ℕ → Conduct) (plan : Plan) (gs : List (Option (SegmentState M))) → start + v.setup.epoch < 2 ^ 64 → plan ≡ plan_by v.setup e start c →
+    AreStarted stands v.setup v.me e plan gs → length gs ≡ v.setup.n → (accepted : List Accepted) (logged : List ReqId) →
+    IsReplica m (record v { epoch = e; plan = plan; segments = gs; accepted = accepted; logged = logged })
+opened-shape m stands v shape e start c plan gs fits is started count accepted logged =
+    let at : plan.start ≡ start = ap (λ (p : Plan). p.start) is in
+    record {
+      good = shape.good;
+      me = shape.me;
+      directory = shape.directory;
+      count = count;
+      slots = ap (λ (p : Plan). p.slots) is;
+      nodes = ap (λ (p : Plan). p.nodes) is;
+      fits = omega (arith, at, fits);
+      segments = λ l g h. record {
+        setup = ap (λ (p : Params). p.setup) (started.params l g h);
+        leader = ap (λ (p : Params). p.leader.0) (started.params l g h);
+        node = started.node l g h;
+      };
+      early = shape.early;
+    }
+
+-- nothing is kept for the epoch after the next one
+pub emptied-shape : {M Msg : Type 0} (m : Module Msg) (v : ReplicaState M Msg) → IsReplica m v → IsReplica m (record v { early = [] })
+emptied-shape m v h = record {
+  good = h.good;
+  me = h.me;
+  directory = h.directory;
+  count = h.count;
+  slots = h.slots;
+  nodes = h.nodes;
+  fits = h.fits;
+  segments = h.segments;
+  early = tt;
+}
+
+module _ {M Msg : Type 0} (m : Module Msg) (stands : M → Params → ℕ → List (Item Msg) → Type 0)
+    (v : ReplicaState M Msg) (shape : IsReplica m v) (past : Past Msg) (tied : IsTied m stands v past)
+    (complete : is_complete (rules_of v.setup) m v.me.0 past ≡ true) (epoch start : ℕ)
+    (epoch_is : epoch ≡ v.epoch + 1) (start_is : start ≡ v.plan.start + v.setup.epoch) (fits : start + v.setup.epoch < 2 ^ 64) where
+  inner : (standing : List Conduct) (windows : Kept) (w : ReplicaState M Msg) →
+      ((p : List Ended) → IsStanding v.setup p v.standing → IsStanding v.setup (record { plan = v.plan; nils = filter (λ (s : Slot). is_nil_at (reverse v.log.entries) s.0) (slots_from v.plan.start v.setup.epoch) } ∷ p) standing) →
+      ((n : Noted) → StandsFor v.windows n → StandsFor windows (and_closed (notes n v.logged))) → windows.width ≡ v.windows.width →
+      HasOpened stands (record v { standing = standing; windows = windows }) w epoch start → AreParts m stands (record w { early = [] }) (in_next_epoch (core_of v past))
+  inner standing windows w learned closed width o =
+      subst (λ (z : ReplicaState M Msg). AreParts m stands (record z { early = [] }) (in_next_epoch (core_of v past))) (sym o.rest)
+      (parts-opened m stands v shape past tied complete epoch start windows standing w.plan w.segments epoch_is start_is fits learned closed width o.plan o.started (formats_of v.setup m))
+
+  pub next-parts : (u w : ReplicaState M Msg) → HasClosed v u → u ≡ record v { standing = u.standing; windows = u.windows } → HasOpened stands u w epoch start → AreParts m stands (record w { early = [] }) (in_next_epoch (core_of v past))
+  next-parts u w h rest o = inner u.standing u.windows w h.standing h.windows h.width (subst (λ (z : ReplicaState M Msg). HasOpened stands z w epoch start) rest o)
+
+-- what the log's length says of the epoch
+pub is-over : {M Msg : Type 0} (m : Module Msg) (stands : M → Params → ℕ → List (Item Msg) → Type 0) (v : ReplicaState M Msg) (b c : Bool) → b ≡ nat_le (v.plan.start + v.setup.epoch) (length v.log.entries) → b ≡ c →
+    (past : Past Msg) → IsTied m stands v past → is_complete (rules_of v.setup) m v.me.0 past ≡ c
+is-over m stands v b c h k past tied = sym (complete-is m stands v past tied) ∙ sym h ∙ k
+
+-- numbers that are not equal
+pub apart : (a b : ℕ) → a ≢ b → eqb a b ≡ false
+apart a b ne = go (eqb a b) refl
+  where
+    go : (t : Bool) → eqb a b ≡ t → eqb a b ≡ false
+    go true q = absurd (ne (is-eq a b q))
+    go false q = q
+
+-- a list of no length is empty
+pub empty : {A : Type 0} (xs : List A) → length xs ≡ 0 → xs ≡ []
+empty [] h = refl
+empty (x ∷ xs) h = absurd (omega (arith, h))
+
+-- where there is something, this is it
+pub some-of : {A : Type 0} (o : Option A) → is_some o ≡ true → (x : A) × (o ≡ Some x)
+some-of None h = absurd (true≢false (sym h))
+some-of (Some x) h = (x, refl)
+
+-- what nothing was accepted in yet
+pub begun-so : {M Msg : Type 0} (v : ReplicaState M Msg) (e : ℕ) (plan : Plan) (gs : List (Option (SegmentState M))) (accepted : List Accepted) (logged : List ReqId) → accepted ≡ [] → logged ≡ [] →
+    record v { epoch = e; plan = plan; segments = gs; accepted = accepted; logged = logged } ≡ record v { epoch = e; plan = plan; segments = gs; accepted = []; logged = [] }
+begun-so v e plan gs accepted logged a l = λ i. record v { epoch = e; plan = plan; segments = gs; accepted = a i; logged = l i }
+
+-- a cut changes nothing of what holds of every node
+uncut-so : {M Msg : Type 0} (m : Module Msg) (v w : ReplicaState M Msg) → IsReplica m (record v { waiting = w.waiting; flight = w.flight }) → IsReplica m v
+uncut-so m v w h = record { good = h.good; me = h.me; directory = h.directory; count = h.count; slots = h.slots; nodes = h.nodes; fits = h.fits; segments = h.segments; early = h.early }
+
+pub uncut-shape : {M Msg : Type 0} (m : Module Msg) (v u : ReplicaState M Msg) (slot : Slot) (batch : Batch) → IsCut v u slot batch → IsReplica m u → IsReplica m v
+uncut-shape m v u slot batch h shape = uncut-so m v u (subst (λ (z : ReplicaState _ _). IsReplica m z) h.rest shape)
+
+-- ---- an early message, and what follows where it fills the epoch
+
+module _ {M Msg : Type 0} (m : Module Msg) (stands : M → Params → ℕ → List (Item Msg) → Type 0) (v u : ReplicaState M Msg) (later : IsLater v u) (x : Early Msg) (o : Outcome)
+    (b : Bool) (asked : b ≡ nat_le (u.plan.start + u.setup.epoch) (length u.log.entries))
+    (went : IsTurnOf m stands v (λ F R me c. tried c (at_instance F R m me c x.leader.0 (Receive x.from x.msg))) u o) where
+  same-rules : (t : Turn Msg) (w : ReplicaState M Msg) → IsTurned m stands (ended (rules_of u.setup) m u.me.0 t) w o → IsTurned m stands (ended (rules_of v.setup) m v.me.0 t) w o
+  same-rules t w h =
+      subst (λ (s : Setup). IsTurned m stands (ended (rules_of s) m v.me.0 t) w o) later.setup
+      (subst (λ (i : NodeId). IsTurned m stands (ended (rules_of u.setup) m i.0 t) w o) later.me h)
+
+  pub early-stays : (w : ReplicaState M Msg) → w ≡ u → b ≡ false → IsTurnOf m stands v (λ F R me c. takes_early F R m me c (seen_one x)) w o
+  early-stays w is q = λ past tied.
+      let t : Turn Msg = tried (core_of v past) (at_instance (formats_of v.setup m) (rules_of v.setup) m v.me.0 (core_of v past) x.leader.0 (Receive x.from x.msg)) in
+      subst (λ (z : ReplicaState M Msg). IsTurned m stands (ended (rules_of v.setup) m v.me.0 t) z o) (sym is)
+      (same-rules t u (early-not m stands u t o (is-over m stands u b false asked q) (went past tied)))
+
+  pub early-goes : (n w : ReplicaState M Msg) → w ≡ n → b ≡ true → (early : List (Early Msg)) → IsNextEpoch m stands u n early → IsLater u n → IsTurnOf m stands v (λ F R me c. takes_early F R m me c (seen_one x)) w o
+  early-goes n w is q early next after = λ past tied.
+      let t : Turn Msg = tried (core_of v past) (at_instance (formats_of v.setup m) (rules_of v.setup) m v.me.0 (core_of v past) x.leader.0 (Receive x.from x.msg)) in
+      subst (λ (z : ReplicaState M Msg). IsTurned m stands (ended (rules_of v.setup) m v.me.0 t) z o) (sym is)
+      (same-rules t n (early-on m stands u n t o early (is-over m stands u b true asked q) next after (went past tied)))

@@ -1,0 +1,216 @@
+-- What follows of a step: the end of the epoch, and early messages in turn.
+use Rattle.std.proofs.Common.{arith, inl, inr, ◌≡◌, ℕ, suc, ◌+◌, ◌<◌, Bool, true, false, List, [], ◌∷◌, ◌++◌, cond, eqb, not, Option, Some, None, Result, Ok, Err, IfOk, length, refl, sym, ap, ◌∙◌, subst, append_assoc, true≢false}
+use Rattle.std.proofs.lemmas.Bool.Decides.{nat_tests}
+use Rattle.iss_model.proofs.Rows.{onward-onward, onward-rests}
+use Rattle.iss_model.specs.Concrete.{rules_of}
+use Rattle.iss_model.specs.Formats.{formats_of}
+use Rattle.iss_model.specs.Node.{Core, Dropped, Early as Kept_early, Formats, Stepped, Taken, Turn, at_instance, ended, in_next_epoch, onward, rests, settled, settles, takes_each, takes_early, tried}
+use Rattle.iss_model.specs.Past.{Past, is_complete}
+use Rattle.iss_model.specs.Rules.{Rules}
+use Rattle.iss_node.specs.Shape.{AreFrom}
+use Rattle.iss_node.specs.State.{AreParts, IsTied, ReplicaState, core_of, seen_early, seen_one}
+use Rattle.iss_node.specs.Steps.{IsLater, IsNextEpoch, IsStep, IsStepDropped, IsStepTaken, IsTurnBehind, IsTurnOf, IsTurned}
+use Rattle.iss_node.specs.declared.answers.Early.{Early}
+use Rattle.iss_node.specs.declared.answers.Outcome.{Outcome}
+use Rattle.iss_node.specs.declared.answers.Stepped.{Stepped as Answered}
+use Rattle.iss_node.specs.declared.answers.Stepped.TheVariants.{Dropped as Drops, Taken as Takes}
+use Rattle.iss_request.specs.declared.setups.Setup.{Setup}
+use Rattle.iss_request.specs.declared.ids.NodeId.{NodeId}
+use Rattle.iss_sb.specs.Calls.{AreToNodes}
+use Rattle.iss_sb.specs.Evidence.{Item, Module}
+use Rattle.iss_sb.specs.declared.effects.Params.{Params}
+use Rattle.iss_sb.specs.declared.effects.To.{To}
+
+pub if-ok : {A E : Type 0} (r : Result A E) (P Q : A → Type 0) → IfOk r P → ((x : A) → P x → Q x) → IfOk r Q
+if-ok (Ok x) P Q h f = f x h
+if-ok (Err e) P Q h f = tt
+
+module _ {M Msg : Type 0} (m : Module Msg) (stands : M → Params → ℕ → List (Item Msg) → Type 0) where
+  -- what holds at the core of a past holds at each core that the parts stand for
+  pub at-core : (v : ReplicaState M Msg) (c : Core Msg) → AreParts m stands v c → (Q : Core Msg → Type 0) → ((past : Past Msg) → IsTied m stands v past → Q (core_of v past)) → Q c
+  at-core v c h Q all = subst (λ (d : Core Msg). Q d) (sym h.core) (all c.past h.tied)
+
+  -- ---- a step that was tried
+
+  pub tried-taken : (v w : ReplicaState M Msg) (c : Core Msg) (step : Stepped Msg) (o : Outcome) → IsStep m stands c step w (Takes o) → IsTurned m stands (tried c step) w o
+  tried-taken v w c step o h = subst (λ (z : Stepped Msg). IsTurned m stands (tried c z) w o) (sym h.step_is) h.turned
+
+  pub tried-dropped : (v w : ReplicaState M Msg) (c : Core Msg) (step : Stepped Msg) (why : _) (o : Outcome) → IsStep m stands c step w (Drops why) → o.sends ≡ [] → IsTurned m stands (tried c step) w o
+  tried-dropped v w c step why o h none = subst (λ (z : Stepped Msg). IsTurned m stands (tried c z) w o) (sym h.step_is) (record {
+    stands_for = h.stands_for;
+    sends = none;
+    addressed = subst (λ (xs : List (To × List ℕ)). AreToNodes w.setup.n xs) (sym none) tt;
+  })
+
+  -- ---- a turn that does not fill the epoch, and one that does
+
+  unfilled-is : (F : Formats Msg) (R : Rules) (me : ℕ) (t : Turn Msg) → is_complete R m me t.core.past ≡ false → settles F R m me t ≡ t
+  unfilled-is F R me t h = rw h refl
+
+  filled-is : (F : Formats Msg) (R : Rules) (me : ℕ) (t : Turn Msg) → is_complete R m me t.core.past ≡ true →
+      settles F R m me t ≡ onward (record t { core = in_next_epoch t.core }) (takes_each F R m me (suc t.core.past.epoch) t.core.early)
+  filled-is F R me t h = rw h refl
+
+  pub settles-not : (v : ReplicaState M Msg) (first : Outcome) → ((past : Past Msg) → IsTied m stands v past → is_complete (rules_of v.setup) m v.me.0 past ≡ false) →
+      IsTurnBehind m stands v (λ F R me t. settles F R m me t) first v first
+  settles-not v first lasting t h =
+      subst (λ (u : Turn Msg). IsTurned m stands u v first) (sym (unfilled-is (formats_of v.setup m) (rules_of v.setup) v.me.0 t (lasting t.core.past h.stands_for.tied))) h
+
+  pub settles-on : (v u w : ReplicaState M Msg) (first last : Outcome) (early : List (Early Msg)) → ((past : Past Msg) → IsTied m stands v past → is_complete (rules_of v.setup) m v.me.0 past ≡ true) →
+      IsNextEpoch m stands v u early → IsLater v u →
+      IsTurnBehind m stands u (λ F R me t. onward t (takes_each F R m me u.epoch (seen_early early))) first w last →
+      IsTurnBehind m stands v (λ F R me t. settles F R m me t) first w last
+  settles-on v u w first last early over next later each t h =
+      let c = t.core in
+      let tied = h.stands_for.tied in
+      let is : c ≡ core_of v c.past = h.stands_for.core in
+      let complete = over c.past tied in
+      let parts : AreParts m stands u (in_next_epoch c) = subst (λ (d : Core Msg). AreParts m stands u (in_next_epoch d)) (sym is) (next.stands_for c.past tied complete) in
+      let begun : Turn Msg = record t { core = in_next_epoch c } in
+      let turned : IsTurned m stands begun u first = record {
+        stands_for = parts;
+        sends = h.sends;
+        addressed = subst (λ (s : Setup). AreToNodes s.n first.sends) (sym later.setup) h.addressed;
+      } in
+      let went = each begun turned in
+      let epoch : u.epoch ≡ suc c.past.epoch = parts.tied.epoch in
+      let kept : seen_early early ≡ c.early = ap (λ (xs : List (Early Msg)). seen_early xs) next.kept ∙ sym (ap (λ (d : Core Msg). d.early) is) in
+      let there : IsTurned m stands (onward begun (takes_each (formats_of v.setup m) (rules_of v.setup) m v.me.0 (suc c.past.epoch) c.early)) w last =
+      subst (λ (xs : List (Kept_early Msg)). IsTurned m stands (onward begun (takes_each (formats_of v.setup m) (rules_of v.setup) m v.me.0 (suc c.past.epoch) xs)) w last) kept
+      (subst (λ (e : ℕ). IsTurned m stands (onward begun (takes_each (formats_of v.setup m) (rules_of v.setup) m v.me.0 e (seen_early early))) w last) epoch
+      (subst (λ (s : Setup). IsTurned m stands (onward begun (takes_each (formats_of s m) (rules_of s) m v.me.0 u.epoch (seen_early early))) w last) later.setup
+      (subst (λ (i : NodeId). IsTurned m stands (onward begun (takes_each (formats_of u.setup m) (rules_of u.setup) m i.0 u.epoch (seen_early early))) w last) later.me went))) in
+      subst (λ (z : Turn Msg). IsTurned m stands z w last) (sym (filled-is (formats_of v.setup m) (rules_of v.setup) v.me.0 t complete)) there
+
+  -- what is settled of a step
+  pub settled-taken : (v w : ReplicaState M Msg) (first last : Outcome) → IsTurnBehind m stands v (λ F R me t. settles F R m me t) first w last → (c : Core Msg) (step : Stepped Msg) →
+      IsStep m stands c step v (Takes first) → IsStep m stands c (settled (formats_of v.setup m) (rules_of v.setup) m v.me.0 step) w (Takes last)
+  settled-taken v w first last h c step s = record {
+    turn = settles (formats_of v.setup m) (rules_of v.setup) m v.me.0 s.turn;
+    step_is = ap (λ (z : Stepped Msg). settled (formats_of v.setup m) (rules_of v.setup) m v.me.0 z) s.step_is;
+    turned = h s.turn s.turned;
+  }
+
+  pub settled-dropped : (v : ReplicaState M Msg) (why : _) (c : Core Msg) (step : Stepped Msg) →
+      IsStep m stands c step v (Drops why) → IsStep m stands c (settled (formats_of v.setup m) (rules_of v.setup) m v.me.0 step) v (Drops why)
+  settled-dropped v why c step s = record { step_is = ap (λ (z : Stepped Msg). settled (formats_of v.setup m) (rules_of v.setup) m v.me.0 z) s.step_is; stands_for = s.stands_for }
+
+  -- ---- an early message
+
+  ended-not : (R : Rules) (me : ℕ) (t : Turn Msg) → is_complete R m me t.core.past ≡ false → ended R m me t ≡ t
+  ended-not R me t h = rw h refl
+
+  ended-on : (R : Rules) (me : ℕ) (t : Turn Msg) → is_complete R m me t.core.past ≡ true → ended R m me t ≡ record t { core = in_next_epoch t.core }
+  ended-on R me t h = rw h refl
+
+  pub early-not : (v : ReplicaState M Msg) (t : Turn Msg) (o : Outcome) → ((past : Past Msg) → IsTied m stands v past → is_complete (rules_of v.setup) m v.me.0 past ≡ false) →
+      IsTurned m stands t v o → IsTurned m stands (ended (rules_of v.setup) m v.me.0 t) v o
+  early-not v t o lasting h = subst (λ (z : Turn Msg). IsTurned m stands z v o) (sym (ended-not (rules_of v.setup) v.me.0 t (lasting t.core.past h.stands_for.tied))) h
+
+  pub early-on : (v u : ReplicaState M Msg) (t : Turn Msg) (o : Outcome) (early : List (Early Msg)) → ((past : Past Msg) → IsTied m stands v past → is_complete (rules_of v.setup) m v.me.0 past ≡ true) →
+      IsNextEpoch m stands v u early → IsLater v u → IsTurned m stands t v o → IsTurned m stands (ended (rules_of v.setup) m v.me.0 t) u o
+  early-on v u t o early over next later h =
+      let complete = over t.core.past h.stands_for.tied in
+      let parts : AreParts m stands u (in_next_epoch t.core) = subst (λ (d : Core Msg). AreParts m stands u (in_next_epoch d)) (sym h.stands_for.core) (next.stands_for t.core.past h.stands_for.tied complete) in
+      subst (λ (z : Turn Msg). IsTurned m stands z u o) (sym (ended-on (rules_of v.setup) v.me.0 t complete))
+      (record { stands_for = parts; sends = h.sends; addressed = subst (λ (s : Setup). AreToNodes s.n o.sends) (sym later.setup) h.addressed })
+
+  -- by the set-up that stays
+  pub ended-by : (v u w : ReplicaState M Msg) (t : Turn Msg) (o : Outcome) → IsLater v u → IsTurned m stands (ended (rules_of u.setup) m u.me.0 t) w o → IsTurned m stands (ended (rules_of v.setup) m v.me.0 t) w o
+  ended-by v u w t o later h =
+      subst (λ (s : Setup). IsTurned m stands (ended (rules_of s) m v.me.0 t) w o) later.setup
+      (subst (λ (i : NodeId). IsTurned m stands (ended (rules_of u.setup) m i.0 t) w o) later.me h)
+
+  -- ---- early messages in turn
+
+  -- what is left of the messages is owed by the turn so far
+  pub record Owes (start : ReplicaState M Msg) (first : Outcome) (now : ReplicaState M Msg) (sends : List (To × List ℕ)) (done : List (Early Msg)) (t : Turn Msg) : Type 0 where
+    pub so_far : Turn Msg
+    pub stands_for : AreParts m stands now so_far.core
+    pub sent : sends ≡ so_far.sends
+    pub addressed : AreToNodes now.setup.n sends
+    pub rest : (more : List (Early Msg)) →
+        onward t (takes_each (formats_of start.setup m) (rules_of start.setup) m start.me.0 start.epoch (seen_early (done ++ more)))
+        ≡ onward so_far (takes_each (formats_of start.setup m) (rules_of start.setup) m start.me.0 start.epoch (seen_early more))
+
+  pub owes-first : (v : ReplicaState M Msg) (first : Outcome) (t : Turn Msg) → IsTurned m stands t v first → Owes v first v first.sends [] t
+  owes-first v first t h = record { so_far = t; stands_for = h.stands_for; sent = h.sends; addressed = h.addressed; rest = λ more. refl }
+
+  append-nothing : {A : Type 0} (xs : List A) → xs ++ [] ≡ xs
+  append-nothing [] = refl
+  append-nothing (x ∷ xs) = ap (λ ys. x ∷ ys) (append-nothing xs)
+
+  pub owes-last : (start now : ReplicaState M Msg) (first : Outcome) (sends : List (To × List ℕ)) (all done : List (Early Msg)) → done ≡ all → (t : Turn Msg) → Owes start first now sends done t →
+      IsTurned m stands (onward t (takes_each (formats_of start.setup m) (rules_of start.setup) m start.me.0 start.epoch (seen_early all))) now (record { sends = sends })
+  owes-last start now first sends all done is t o =
+      let F = formats_of start.setup m in
+      let R = rules_of start.setup in
+      let e : onward t (takes_each F R m start.me.0 start.epoch (seen_early all)) ≡ o.so_far =
+      ap (λ (xs : List (Early Msg)). onward t (takes_each F R m start.me.0 start.epoch (seen_early xs))) (sym is ∙ sym (append-nothing done)) ∙ o.rest [] ∙ onward-rests o.so_far in
+      subst (λ (z : Turn Msg). IsTurned m stands z now (record { sends = sends })) (sym e) (record { stands_for = o.stands_for; sends = o.sent; addressed = o.addressed })
+
+  to-nodes : (n : ℕ) (xs ys : List (To × List ℕ)) → AreToNodes n xs → AreToNodes n ys → AreToNodes n (xs ++ ys)
+  to-nodes n [] ys h k = k
+  to-nodes n (x ∷ xs) ys h k = (h.0, to-nodes n xs ys h.1 k)
+
+  each-on : (F : Formats Msg) (R : Rules) (me e : ℕ) (x : Kept_early Msg) (xs : List (Kept_early Msg)) (c : Core Msg) → c.past.epoch ≡ e → takes_each F R m me e (x ∷ xs) c ≡ onward (takes_early F R m me c x) (takes_each F R m me e xs)
+  each-on F R me e x xs c h = let same : eqb c.past.epoch e ≡ true = grind (arith, nat_tests) in rw same refl
+
+  each-off : (F : Formats Msg) (R : Rules) (me e : ℕ) (xs : List (Kept_early Msg)) (c : Core Msg) → eqb c.past.epoch e ≡ false → takes_each F R m me e xs c ≡ rests c
+  each-off F R me e [] c h = refl
+  each-off F R me e (x ∷ xs) c h = rw h refl
+
+  -- the next message, while the epoch lasts
+  pub owes-next : (start now new : ReplicaState M Msg) (first : Outcome) (sends more : List (To × List ℕ)) (done : List (Early Msg)) (x : Early Msg) (t : Turn Msg) (later : IsLater start now) (after : IsLater now new) → now.epoch ≡ start.epoch →
+      IsTurnOf m stands now (λ F R me c. takes_early F R m me c (seen_one x)) new (record { sends = more }) → Owes start first now sends done t → Owes start first new (sends ++ more) (done ++ x ∷ []) t
+  owes-next start now new first sends more done x t later after lasts taken o =
+      let c = o.so_far.core in
+      let tied = o.stands_for.tied in
+      let F = formats_of start.setup m in
+      let R = rules_of start.setup in
+      let me = start.me.0 in
+      let turn : IsTurned m stands (takes_early F R m me c (seen_one x)) new (record { sends = more }) =
+      subst (λ (s : Setup). IsTurned m stands (takes_early (formats_of s m) (rules_of s) m me c (seen_one x)) new (record { sends = more })) later.setup
+      (subst (λ (i : NodeId). IsTurned m stands (takes_early (formats_of now.setup m) (rules_of now.setup) m i.0 c (seen_one x)) new (record { sends = more })) later.me
+      (at-core now c o.stands_for (λ d. IsTurned m stands (takes_early (formats_of now.setup m) (rules_of now.setup) m now.me.0 d (seen_one x)) new (record { sends = more })) (λ past h. taken past h))) in
+      let epoch : c.past.epoch ≡ start.epoch = sym tied.epoch ∙ lasts in
+      record {
+        so_far = onward o.so_far (λ d. takes_early F R m me d (seen_one x));
+        stands_for = turn.stands_for;
+        sent = ap (λ (ys : List (To × List ℕ)). ys ++ more) o.sent ∙ ap (λ (ys : List (To × List ℕ)). o.so_far.sends ++ ys) turn.sends;
+        addressed = to-nodes new.setup.n sends more (subst (λ (s : Setup). AreToNodes s.n sends) (sym after.setup) o.addressed) turn.addressed;
+        rest = λ ys.
+            let regroup : (done ++ x ∷ []) ++ ys ≡ done ++ x ∷ ys = append_assoc done (x ∷ []) ys in
+            ap (λ (zs : List (Early Msg)). onward t (takes_each F R m me start.epoch (seen_early zs))) regroup
+            ∙ o.rest (x ∷ ys)
+            ∙ onward-at o.so_far (takes_each F R m me start.epoch (seen_early (x ∷ ys))) (λ d. onward (takes_early F R m me d (seen_one x)) (takes_each F R m me start.epoch (seen_early ys))) (each-on F R me start.epoch (seen_one x) (seen_early ys) c epoch)
+            ∙ onward-onward o.so_far (λ d. takes_early F R m me d (seen_one x)) (takes_each F R m me start.epoch (seen_early ys));
+      }
+    where
+      onward-at : (u : Turn Msg) (f g : Core Msg → Turn Msg) → f u.core ≡ g u.core → onward u f ≡ onward u g
+      onward-at u f g h = ap (λ (z : Turn Msg). let y : Turn Msg = record { core = z.core; sends = u.sends ++ z.sends; own = u.own ++ z.own; strings = u.strings ++ z.strings } in y) h
+
+  -- and none once it is over
+  pub owes-none : (start now : ReplicaState M Msg) (first : Outcome) (sends : List (To × List ℕ)) (done : List (Early Msg)) (x : Early Msg) (t : Turn Msg) → eqb now.epoch start.epoch ≡ false →
+      Owes start first now sends done t → Owes start first now sends (done ++ x ∷ []) t
+  owes-none start now first sends done x t over o =
+      let c = o.so_far.core in
+      let F = formats_of start.setup m in
+      let R = rules_of start.setup in
+      let me = start.me.0 in
+      let gone : eqb c.past.epoch start.epoch ≡ false = ap (λ (k : ℕ). eqb k start.epoch) (sym o.stands_for.tied.epoch) ∙ over in
+      record {
+        so_far = o.so_far;
+        stands_for = o.stands_for;
+        sent = o.sent;
+        addressed = o.addressed;
+        rest = λ ys.
+            let regroup : (done ++ x ∷ []) ++ ys ≡ done ++ x ∷ ys = append_assoc done (x ∷ []) ys in
+            ap (λ (zs : List (Early Msg)). onward t (takes_each F R m me start.epoch (seen_early zs))) regroup
+            ∙ o.rest (x ∷ ys)
+            ∙ onward-at o.so_far (takes_each F R m me start.epoch (seen_early (x ∷ ys))) (takes_each F R m me start.epoch (seen_early ys))
+            (each-off F R me start.epoch (seen_early (x ∷ ys)) c gone ∙ sym (each-off F R me start.epoch (seen_early ys) c gone));
+      }
+    where
+      onward-at : (u : Turn Msg) (f g : Core Msg → Turn Msg) → f u.core ≡ g u.core → onward u f ≡ onward u g
+      onward-at u f g h = ap (λ (z : Turn Msg). let y : Turn Msg = record { core = z.core; sends = u.sends ++ z.sends; own = u.own ++ z.own; strings = u.strings ++ z.strings } in y) h

@@ -1,0 +1,41 @@
+use Rattle.std.proofs.Common.{◌≡◌, ◌∙◌, ◌++◌, ◌∷◌, [], List, ◌<◌, ◌≤◌, length, refl, sym, ap, subst, arith}
+use Rattle.iss_model.specs.Node.{rests}
+use Rattle.iss_node.proofs.InstanceLemmas.{same-parts}
+use Rattle.iss_node.proofs.QueryLemmas.{early-full, early-kept, early-parts, with-early}
+use Rattle.iss_node.specs.Shape.{IsReplica}
+use Rattle.iss_node.specs.State.{AreParts, ReplicaState, core_of, seen_early, seen_one}
+use Rattle.iss_node.specs.declared.answers.Early.{Early}
+use Rattle.iss_sb.specs.Calls.{AreToNodes}
+use Rattle.iss_node.proofs.replica.Replica.keep_early.Goals as goal
+
+pub returns-then-len-ge-EARLY_MOST-clause-answer : goal.returns-then-len-ge-EARLY_MOST-clause-answer
+returns-then-len-ge-EARLY_MOST-clause-answer g c = λ past tied.
+    let v = c.args.self.now in
+    let kept = ap (λ (z : ReplicaState g.row.M.Denot g.row.M-Msg.Denot). length z.early) c.self.view_is in
+    record {
+      step_is = early-full v past c.args.message (let le : 256 ≤ length v.early = omega (arith, c.if-len-ge-EARLY_MOST.true, c.len.ensures, kept) in le);
+      stands_for = same-parts g.M.Sequenced.meaning g.M.Sequenced.stands v past tied;
+    }
+
+pub invariant_of-self-2 : goal.invariant_of-self-2
+invariant_of-self-2 g c = with-early g.M.Sequenced.meaning _ c.args.message c.push.new.self.items c.self.invariant (rw (← c.self.view_is) at c.requires) c.in_ok-push.ensures.items
+
+pub returns-clause-answer : goal.returns-clause-answer
+returns-clause-answer g c = λ past tied.
+    let m = g.M.Sequenced.meaning in
+    let v = c.args.self.now in
+    let shape : IsReplica m v = subst (λ (z : ReplicaState g.row.M.Denot g.row.M-Msg.Denot). IsReplica m z) c.self.view_is c.self.invariant in
+    let kept = ap (λ (z : ReplicaState g.row.M.Denot g.row.M-Msg.Denot). length z.early) c.self.view_is in
+    let put : ReplicaState g.row.M.Denot g.row.M-Msg.Denot → ReplicaState g.row.M.Denot g.row.M-Msg.Denot = λ z. record z { early = c.push.new.self.items } in
+    let is = ap put c.self.view_is in
+    let grown = c.in_ok-push.ensures.items ∙ ap (λ (z : ReplicaState g.row.M.Denot g.row.M-Msg.Denot). z.early ++ c.args.message ∷ []) c.self.view_is in
+    record {
+      turn = rests (record (core_of v past) { early = seen_early v.early ++ seen_one c.args.message ∷ [] });
+      step_is = early-kept v past c.args.message (let lt : length v.early < 256 = omega (arith, c.if-len-ge-EARLY_MOST.false, c.len.ensures, kept) in lt);
+      turned = record {
+        stands_for = subst (λ (z : ReplicaState g.row.M.Denot g.row.M-Msg.Denot). AreParts m g.M.Sequenced.stands z (record (core_of v past) { early = seen_early v.early ++ seen_one c.args.message ∷ [] })) (sym is)
+            (early-parts m g.M.Sequenced.stands v shape past tied c.args.message c.push.new.self.items grown);
+        sends = c.new.ensures;
+        addressed = subst (λ xs. AreToNodes c.self.inside.setup.n xs) (sym c.new.ensures) tt;
+      };
+    }

@@ -1,0 +1,44 @@
+use Rattle.std.proofs.Common.{◌≡◌, ◌∙◌, ◌==◌, suc, ap, sym, subst, eqb, false, true, arith}
+use Rattle.std.proofs.lemmas.Result.{IfOk-weaker}
+use Rattle.iss_base.proofs.Lists.{is-eq}
+use Rattle.iss_model.specs.Node.{at_instance, keeps_early, settled, takes_message}
+use Rattle.iss_node.proofs.KeepLemmas.{next-step, now-is, other-is}
+use Rattle.iss_node.proofs.NextLemmas.{apart}
+use Rattle.iss_node.specs.Shape.{IsReplica}
+use Rattle.iss_node.specs.State.{ReplicaState, seen_one}
+use Rattle.iss_node.specs.Steps.{IsStepOf}
+use Rattle.iss_sb.specs.declared.effects.Input.TheVariants.{Receive}
+use Rattle.iss_node.proofs.replica.Replica.take_message.Goals as goal
+
+pub returns-then-epoch-self-clause-answer : goal.returns-then-epoch-self-clause-answer
+returns-then-epoch-self-clause-answer g c =
+    let m = g.M.Sequenced.meaning in
+    let v = c.args.self.now in
+    let shape : IsReplica m v = subst (λ (z : ReplicaState g.row.M.Denot g.row.M-Msg.Denot). IsReplica m z) c.self.view_is c.self.invariant in
+    let same = c.if-epoch-self.true ∙ ap (λ z. z.epoch) c.self.view_is in
+    IfOk-weaker c.take_now.result
+    (λ a. IsStepOf m g.M.Sequenced.stands v (λ F R me d. settled F R m me (at_instance F R m me d c.args.message.leader.0 (Receive c.args.message.from c.args.message.msg))) c.take_now.new.self a)
+    (λ a. IsStepOf m g.M.Sequenced.stands v (λ F R me d. takes_message F R m me d c.args.message.from.0 c.args.epoch.0 c.args.message.leader.0 c.args.message.msg) c.take_now.new.self a)
+    (λ a h past tied. now-is m g.M.Sequenced.stands v shape past tied c.take_now.new.self c.args.message.from.0 c.args.epoch.0 c.args.message.leader c.args.message.msg a same (h past tied))
+    c.take_now.ensures.answer
+
+pub returns-then-is_next-clause-answer : goal.returns-then-is_next-clause-answer
+returns-then-is_next-clause-answer g c =
+    let m = g.M.Sequenced.meaning in
+    let v = c.args.self.now in
+    let shape : IsReplica m v = subst (λ (z : ReplicaState g.row.M.Denot g.row.M-Msg.Denot). IsReplica m z) c.self.view_is c.self.invariant in
+    let next = is-eq c.args.epoch.0 (suc c.self.inside.epoch.0) (sym c.is_next.ensures ∙ c.if-is_next.true) ∙ ap (λ z. suc z.epoch) c.self.view_is in
+    IfOk-weaker c.keep_early.result
+    (λ a. IsStepOf m g.M.Sequenced.stands v (λ F R me d. keeps_early d (seen_one c.args.message)) c.keep_early.new.self a)
+    (λ a. IsStepOf m g.M.Sequenced.stands v (λ F R me d. takes_message F R m me d c.args.message.from.0 c.args.epoch.0 c.args.message.leader.0 c.args.message.msg) c.keep_early.new.self a)
+    (λ a h past tied. next-step m g.M.Sequenced.stands v shape past tied c.keep_early.new.self c.args.message.from.0 c.args.epoch.0 c.args.message.leader c.args.message.msg a next (h past tied))
+    c.keep_early.ensures.answer
+
+pub returns-clause-answer : goal.returns-clause-answer
+returns-clause-answer g c = λ past tied.
+    let m = g.M.Sequenced.meaning in
+    let v = c.args.self.now in
+    let shape : IsReplica m v = subst (λ (z : ReplicaState g.row.M.Denot g.row.M-Msg.Denot). IsReplica m z) c.self.view_is c.self.invariant in
+    let first = apart c.args.epoch.0 v.epoch (λ e. c.if-epoch-self.false (e ∙ sym (ap (λ z. z.epoch) c.self.view_is))) in
+    let second = ap (λ z. eqb c.args.epoch.0 (suc z.epoch)) (sym c.self.view_is) ∙ sym c.is_next.ensures ∙ c.if-is_next.false in
+    other-is m g.M.Sequenced.stands v shape past tied c.args.message.from.0 c.args.epoch.0 c.args.message.leader c.args.message.msg first second

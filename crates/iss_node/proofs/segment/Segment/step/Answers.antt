@@ -1,5 +1,0 @@
-use Rattle.iss_node.proofs.SegmentLemmas.{instance-taken}
-use Rattle.iss_node.proofs.segment.Segment.step.Goals as goal
-
-pub returns-clause-step : goal.returns-clause-step
-returns-clause-step g c = rw (← c.self.view_is) (instance-taken _ _ _ _ _ _ _ _ _ c.laws.ensures.lawful c.in_ok-effects.ensures c.in_ok-mark.ensures)

@@ -1,0 +1,23 @@
+-- What is in flight at a node.
+use Rattle.std.specs.Prelude.{◌≡◌, ℕ, ◌&&◌, not, nat_lt, cond, List, [], ◌∷◌}
+use Rattle.iss_model.specs.Node.{flown, flying}
+use Rattle.iss_request.specs.Log.{has_id}
+use Rattle.iss_request.specs.declared.ids.ReqId.{ReqId}
+use Rattle.iss_request.specs.declared.ids.Slot.{Slot}
+use Rattle.iss_request.specs.declared.requests.Batch.{Batch}
+
+pub record FlightState : Type 0 where
+  -- in the order of the casts
+  pub casts : List (Slot × Batch)
+  -- the identities in it, as a set
+  pub ids : List ReqId
+
+-- what was cast in slots below n
+abbrev pub landed : ℕ → List (Slot × Batch) → List (Slot × Batch)
+landed n [] = []
+landed n (x ∷ xs) = cond (nat_lt x.0.0 n) (x ∷ landed n xs) (landed n xs)
+
+-- what was cast below n is no more in flight
+pub record IsLanded (old new : FlightState) (n : ℕ) : Type 0 where
+  pub casts : new.casts ≡ flying n old.casts
+  pub ids : (x : ReqId) → has_id x new.ids ≡ (has_id x old.ids && not (has_id x (flown (landed n old.casts))))

@@ -1,0 +1,80 @@
+-- What the input of an instance does to the parts of a node.
+use Rattle.std.specs.Prelude.{◌≡◌, ◌≢◌, ℕ, ◌||◌, List, ◌++◌, [], ◌∷◌, Option, Some, None, Result, Ok, Err, fold, length, reverse}
+use Rattle.iss_buckets.specs.Waiting.{AreNew, absent}
+use Rattle.iss_ids.specs.Set.{and_ids}
+use Rattle.iss_model.specs.Node.{returned}
+use Rattle.iss_model.specs.declared.causes.Refusal.{Refusal}
+use Rattle.iss_node.specs.Flights.{IsLanded}
+use Rattle.iss_node.specs.Growth.{IsGrown, and_values, waits_on}
+use Rattle.iss_node.specs.State.{ReplicaState, led}
+use Rattle.iss_node.specs.declared.answers.Accepted.{Accepted}
+use Rattle.iss_request.specs.Log.{has_id, log_ids}
+use Rattle.iss_request.specs.declared.ids.NodeId.{NodeId}
+use Rattle.iss_request.specs.declared.ids.ReqId.{ReqId}
+use Rattle.iss_request.specs.declared.ids.Slot.{Slot}
+use Rattle.iss_request.specs.declared.requests.Batch.{Batch}
+use Rattle.iss_request.specs.declared.requests.Value.{Value}
+use Rattle.iss_sb.specs.Evidence.{Item, Module}
+use Rattle.iss_sb.specs.declared.effects.Effects.{Effects}
+use Rattle.iss_sb.specs.declared.effects.Input.{Input}
+use Rattle.iss_sb.specs.declared.effects.Params.{Params}
+use Rattle.iss_segment.specs.Answers.{IsInstanceTaken, IsVerdict}
+use Rattle.iss_segment.specs.Ground.{noted_before}
+use Rattle.iss_segment.specs.Instance.{SegmentState}
+use Rattle.iss_segment.specs.declared.segment.Halt.{Halt}
+use Rattle.iss_segment.specs.declared.segment.Halt.TheVariants.{Spent, Refused, NoMemory}
+use Rattle.iss_window.specs.Kept.{StandsFor}
+
+-- the instance of leader l took an input, and nothing else has changed but the keys
+pub record IsInputTaken {M Msg : Type 0} (m : Module Msg) (stands : M → Params → ℕ → List (Item Msg) → Type 0)
+    (old new : ReplicaState M Msg) (l : ℕ) (input : Input Msg) (e : Effects Msg) : Type 0 where
+  pub was : SegmentState M
+  pub is : SegmentState M
+  pub at : led old.segments l ≡ Some was
+  pub there : led new.segments l ≡ Some is
+  pub others : (k : ℕ) → k ≢ l → led new.segments k ≡ led old.segments k
+  pub taken : IsInstanceTaken m stands was is input old.keys new.keys e
+  pub rest : new ≡ record old { segments = new.segments; keys = new.keys }
+
+-- what the judge says of it
+abbrev pub IsVerdictAt : {M Msg : Type 0} → Module Msg → (M → Params → ℕ → List (Item Msg) → Type 0) → ReplicaState M Msg → ℕ → Input Msg → Option Refusal → Type 0
+IsVerdictAt {M = M} m stands v l input answer = (g : SegmentState M) → led v.segments l ≡ Some g → IsVerdict m stands v.plan v.windows g input answer
+
+-- an input that is judged first
+abbrev pub IsJudgedInput : {M Msg : Type 0} → Module Msg → (M → Params → ℕ → List (Item Msg) → Type 0) → ReplicaState M Msg → ReplicaState M Msg →
+    ℕ → Input Msg → Result (Effects Msg) Halt → Type 0
+IsJudgedInput m stands old new l input (Ok e) = IsInputTaken m stands old new l input e × IsVerdictAt m stands old l input None
+IsJudgedInput m stands old new l input (Err (Refused why)) = (new ≡ old) × IsVerdictAt m stands old l input (Some why)
+IsJudgedInput m stands old new l input (Err Spent) = Unit {0}
+IsJudgedInput m stands old new l input (Err NoMemory) = Unit {0}
+
+-- these are the identities of the log: of earlier epochs, which the windows noted, and of this one
+pub record AreLogged {M Msg : Type 0} (v : ReplicaState M Msg) (all : List ReqId) : Type 0 where
+  pub before : List Value
+  pub noted : StandsFor v.windows (noted_before before)
+  pub members : (x : ReqId) → has_id x all ≡ (has_id x v.logged || has_id x (log_ids before))
+
+abbrev pub and_accepted : NodeId → List Accepted → Option (Slot × Batch) → List Accepted
+and_accepted l xs None = xs
+and_accepted l xs (Some a) = xs ++ record { leader = l; slot = a.0; batch = a.1 } ∷ []
+
+-- what was cast in slots of the log is in flight no more; where the slot became nil it waits again, unless the log holds it
+pub record HasLanded {M Msg : Type 0} (old new : ReplicaState M Msg) : Type 0 where
+  pub landed : IsLanded old.flight new.flight (length old.log.entries)
+  pub waiting : (all : List ReqId) → AreLogged old all →
+      AreNew old.waiting (absent all (returned (reverse old.log.entries) old.flight.casts)) →
+      new.waiting ≡ old.waiting ++ absent all (returned (reverse old.log.entries) old.flight.casts)
+
+-- the log grew by what was delivered, as far as it goes
+pub record HasGrown {M Msg : Type 0} (old new : ReplicaState M Msg) (delivers : List (Slot × Value)) : Type 0 where
+  pub held : ℕ
+  pub grown : IsGrown old.log delivers new.log held
+  pub logged : new.logged ≡ fold and_values old.logged grown.joined
+  -- what joined waits no more
+  pub landed : HasLanded (record old { log = new.log; logged = new.logged; waiting = fold waits_on old.waiting grown.joined }) new
+  pub rest : new ≡ record old { log = new.log; logged = new.logged; flight = new.flight; waiting = new.waiting }
+
+-- what a step of an instance made is the node's
+pub record IsAbsorbed {M Msg : Type 0} (old new : ReplicaState M Msg) (l : NodeId) (e : Effects Msg) : Type 0 where
+  pub accepted : new.accepted ≡ and_accepted l old.accepted e.accepted
+  pub grown : HasGrown (record old { accepted = new.accepted }) new e.delivers

@@ -1,0 +1,114 @@
+//! How a node casts.
+ghost use Rattle.std.specs.Prelude.{◌≡◌, ◌<◌, Some, List, IfOk};
+ghost use Rattle.iss_model.specs.Concrete.{rules_of};
+ghost use Rattle.iss_model.specs.Node.{first_slot, next_slot, step};
+ghost use Rattle.iss_model.specs.Past.{Past};
+ghost use Rattle.iss_model.specs.Views.{is_castable_now};
+ghost use Rattle.iss_node.specs.Casts.{IsCut, casting, is_open};
+ghost use Rattle.iss_node.specs.State.{IsTied, core_of, led};
+ghost use Rattle.iss_node.specs.Steps.{IsLater, IsStepOf, IsTurnOf};
+ghost use Rattle.iss_sb.specs.Evidence.{Item};
+ghost use Rattle.iss_segment.specs.Instance.{IsInstance, SegmentState};
+
+use crate::answers::{Outcome, Stepped};
+use crate::flight::Flight;
+use crate::replica::Replica;
+use iss_log::Log;
+use iss_model::{NodeEvent, Why};
+use iss_request::{Batch, NoMemory, Slot};
+use iss_sb::{Input, Sequenced};
+use iss_segment::Segment;
+use std::alloc::Global;
+
+impl<M: Sequenced> Replica<M> {
+    /// Casts a batch of waiting requests at the next slot that is free for it.
+    pub(crate) fn propose(&mut self, alloc: Global) -> Result<Stepped, NoMemory>
+        ensures answer { IfOk result (λ a. IsStepOf M.meaning M.stands self.old (λ F R me c. step F R M.meaning me c NodeEvent.Propose) self.new a) }
+        ensures later { IsLater self.old self.new }
+    {
+        if !self.leads(self.me) {
+            return Ok(Stepped::Dropped(Why::NotLeader));
+        }
+        let Some(slot) = self.next_slot() else {
+            return Ok(Stepped::Dropped(Why::NothingToCast));
+        };
+        if !self.has_leaves(self.me) {
+            return Ok(Stepped::Dropped(Why::NoKeys));
+        }
+        let outcome = self.cast(alloc, slot)?;
+        Ok(Stepped::Taken(self.settles(alloc, outcome)?))
+    }
+
+    /// Whether a proposal would find a slot to cast in.
+    pub(crate) fn castable(&self) -> bool
+        ensures { (past : Past M.Msg) → IsTied M.meaning M.stands self.now past →
+            result ≡ is_castable_now (rules_of self.now.setup) M.meaning self.now.me.0 (core_of self.now past) }
+    {
+        self.leads(self.me) && self.next_slot().is_some()
+    }
+
+    // The first slot of the node's own segment that is neither cast nor filled and for which the module takes casts.
+    fn next_slot(&self) -> Option<Slot>
+        ensures { (past : Past M.Msg) (g : SegmentState M) → IsTied M.meaning M.stands self.now past → led self.now.segments self.now.me.0 ≡ Some g →
+            result ≡ next_slot (rules_of self.now.setup) M.meaning self.now.me.0 (core_of self.now past) }
+    {
+        M::laws();
+        let segment = self.segment(self.me)?;
+        let slots = segment.params().slots.as_slice();
+        first_castable(segment, &self.log, &self.flight, slots)
+    }
+
+    // Casts at a slot, which no test refuses.
+    fn cast(&mut self, alloc: Global, slot: Slot) -> Result<Outcome, NoMemory>
+        requires { self.old.me.0 < self.old.setup.n }
+        ensures taken { IfOk result (λ outcome. IsTurnOf M.meaning M.stands self.old (λ F R me c. casting F R M.meaning me c slot) self.new outcome) }
+        ensures later { IsLater self.old self.new }
+    {
+        let batch = self.cut(alloc, slot)?;
+        self.input(alloc, self.me, Input::Cast { slot, batch })
+    }
+
+    // Takes a batch of waiting requests, which are in flight then at the slot.
+    fn cut(&mut self, alloc: Global, slot: Slot) -> Result<Batch, NoMemory>
+        ensures cut { IfOk result (λ batch. IsCut self.old self.new slot batch) }
+        ensures later { IsLater self.old self.new }
+    {
+        let Some(segment) = &self.segments[self.me.0 as usize] else {
+            return Err(NoMemory);
+        };
+        let most = self.setup.batch as usize;
+        let marked = segment.marked().as_slice();
+        let batch = self
+            .waiting
+            .cut(alloc, &self.layout, self.me, marked, most)?;
+        self.flight.push(slot, batch.copy()?)?;
+        Ok(batch)
+    }
+}
+
+// The first slot of a segment that is neither cast nor filled and for which the module takes casts.
+fn first_castable<M: Sequenced>(
+    segment: &Segment<M>,
+    log: &Log,
+    flight: &Flight,
+    slots: &[Slot],
+) -> Option<Slot>
+    ensures { (xs : List (Item M.Msg)) → IsInstance M.stands segment.now xs →
+        result ≡ first_slot (is_open M.meaning segment.now.params segment.now.me.0 xs log.now flight.now.casts) slots.now }
+{
+    for slot in slots {
+        if is_open(segment, log, flight, *slot) {
+            return Some(*slot);
+        }
+    }
+    None
+}
+
+// Whether a slot is neither cast nor filled and the module takes casts there.
+fn is_open<M: Sequenced>(segment: &Segment<M>, log: &Log, flight: &Flight, slot: Slot) -> bool
+    ensures { (xs : List (Item M.Msg)) → IsInstance M.stands segment.now xs →
+        result ≡ is_open M.meaning segment.now.params segment.now.me.0 xs log.now flight.now.casts slot }
+{
+    M::laws();
+    !flight.is_cast(slot) && !log.filled(slot) && segment.casts(slot)
+}

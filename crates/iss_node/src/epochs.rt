@@ -1,0 +1,190 @@
+//! How a node's epoch ends, and the next one begins.
+ghost use Rattle.std.specs.Prelude.{◌≡◌, ◌<◌, ◌+◌, ◌^◌, ◌++◌, IfOk, OnOk, reverse};
+ghost use Rattle.std.specs.List.{filter};
+ghost use Rattle.iss_layout.specs.Layout.{slots_from};
+ghost use Rattle.iss_model.specs.Node.{at_instance, is_nil_at, onward, settles, takes_each, takes_early, tried};
+ghost use Rattle.iss_node.specs.Epochs.{HasClosed, HasOpened, notes};
+ghost use Rattle.iss_node.specs.Shape.{AreFrom};
+ghost use Rattle.iss_node.specs.State.{seen_early, seen_one};
+ghost use Rattle.iss_node.specs.Steps.{IsLater, IsNextEpoch, IsSettled, IsTurnBehind, IsTurnOf};
+ghost use Rattle.iss_window.specs.Kept.{StandsFor};
+ghost use Rattle.iss_window.specs.Window.{Noted};
+
+use crate::answers::{Early, Outcome, Stepped};
+use crate::growth::is_nil;
+use crate::replica::Replica;
+use crate::starting::start_segments;
+use iss_ids::Ids;
+use iss_layout::Layout;
+use iss_log::Log;
+use iss_request::{Bytes, Epoch, NoMemory, ReqId, Row, Slot};
+use iss_sb::{Input, Sequenced, To};
+use iss_window::Windows;
+use std::alloc::Global;
+use std::mem;
+
+impl<M: Sequenced> Replica<M> {
+    /// Where a step fills the epoch, the next one begins with what came early for it.
+    pub(crate) fn settled(&mut self, alloc: Global, step: Stepped) -> Result<Stepped, NoMemory>
+        ensures answer { IfOk result (λ a. IsSettled M.meaning M.stands self.old self.new step a) }
+        ensures later { IsLater self.old self.new }
+    {
+        match step {
+            Stepped::Taken(outcome) => Ok(Stepped::Taken(self.settles(alloc, outcome)?)),
+            Stepped::Dropped(why) => Ok(Stepped::Dropped(why)),
+        }
+    }
+
+    /// The same of a turn that was made.
+    pub(crate) fn settles(&mut self, alloc: Global, outcome: Outcome) -> Result<Outcome, NoMemory>
+        ensures turn { IfOk result (λ o. IsTurnBehind M.meaning M.stands self.old (λ F R me t. settles F R M.meaning me t) outcome self.new o) }
+        ensures later { IsLater self.old self.new }
+    {
+        if !self.is_complete() {
+            return Ok(outcome);
+        }
+        let early = self.next_epoch(alloc)?;
+        self.take_each(alloc, outcome, early)
+    }
+
+    // Takes early messages in turn, as long as the epoch lasts. What they send goes behind what was sent before.
+    fn take_each(
+        &mut self,
+        alloc: Global,
+        outcome: Outcome,
+        early: Vec<Early<M::Msg>>,
+    ) -> Result<Outcome, NoMemory>
+        requires { AreFrom self.old.setup.n early.items }
+        ensures turn { IfOk result (λ o. IsTurnBehind M.meaning M.stands self.old
+            (λ F R me t. onward t (takes_each F R M.meaning me self.old.epoch (seen_early early.items))) outcome self.new o) }
+        ensures later { IsLater self.old self.new }
+    {
+        let epoch = self.epoch;
+        let mut sends = outcome.sends;
+        for message in early {
+            if self.epoch.0 == epoch.0 {
+                let more = self.take_early(alloc, message)?;
+                append(&mut sends, more.sends)?;
+            }
+        }
+        Ok(Outcome { sends })
+    }
+
+    // Takes an early message, as if it came now. One that is refused is gone.
+    fn take_early(&mut self, alloc: Global, message: Early<M::Msg>) -> Result<Outcome, NoMemory>
+        requires { message.from.0 < self.old.setup.n }
+        ensures turn { IfOk result (λ o. IsTurnOf M.meaning M.stands self.old (λ F R me c. takes_early F R M.meaning me c (seen_one message)) self.new o) }
+        ensures later { IsLater self.old self.new }
+    {
+        let outcome = self.try_now(alloc, message)?;
+        if self.is_complete() {
+            let _gone = self.next_epoch(alloc)?;
+        }
+        Ok(outcome)
+    }
+
+    // Takes a message of the epoch, if it is not refused.
+    fn try_now(&mut self, alloc: Global, message: Early<M::Msg>) -> Result<Outcome, NoMemory>
+        requires { message.from.0 < self.old.setup.n }
+        ensures turn { IfOk result (λ o. IsTurnOf M.meaning M.stands self.old
+            (λ F R me c. tried c (at_instance F R M.meaning me c message.leader.0 (Input.Receive message.from message.msg))) self.new o) }
+        ensures later { IsLater self.old self.new }
+    {
+        let Early { from, leader, msg } = message;
+        match self.at_instance(alloc, leader, Input::Receive { from, msg })? {
+            Stepped::Taken(outcome) => Ok(outcome),
+            Stepped::Dropped(_) => Ok(Outcome {
+                sends: Row::new(alloc),
+            }),
+        }
+    }
+
+    // The epoch is over, and the next one begins with fresh instances. Gives the messages that came early for it. Want
+    // of memory comes also where slots would pass 2^64 - 1.
+    fn next_epoch(&mut self, alloc: Global) -> Result<Vec<Early<M::Msg>>, NoMemory>
+        ensures next { IfOk result (λ early. IsNextEpoch M.meaning M.stands self.old self.new early.items) }
+        ensures from { IfOk result (λ early. AreFrom self.new.setup.n early.items) }
+        ensures later { IsLater self.old self.new }
+    {
+        let Some(epoch) = self.epoch.0.checked_add(1) else {
+            return Err(NoMemory);
+        };
+        let start = self.layout.first().0 + self.setup.epoch;
+        if start >= u64::MAX - self.setup.epoch {
+            return Err(NoMemory);
+        }
+        self.close(alloc)?;
+        self.open(alloc, Epoch(epoch), start)?;
+        Ok(mem::replace(&mut self.early, Vec::new(alloc)))
+    }
+
+    // The policy learns which slots of the epoch became nil, and the windows move on.
+    fn close(&mut self, alloc: Global) -> Result<(), NoMemory>
+        ensures closed { OnOk result (HasClosed self.old self.new) }
+        ensures rest { self.new ≡ record self.old { standing = self.new.standing; windows = self.new.windows } }
+    {
+        let nils = nil_slots(alloc, &self.log, self.layout.first().0, self.setup.epoch)?;
+        self.standing
+            .advance(&self.setup, &self.layout, nils.as_slice());
+        note_all(&mut self.windows, self.logged.as_slice())?;
+        self.windows.close_epoch();
+        Ok(())
+    }
+
+    // An epoch begins, with fresh instances.
+    fn open(&mut self, alloc: Global, epoch: Epoch, start: u64) -> Result<(), NoMemory>
+        requires { start + self.old.setup.epoch < 2 ^ 64 }
+        ensures opened { OnOk result (HasOpened M.stands self.old self.new epoch.0 start) }
+        ensures later { IsLater self.old self.new }
+    {
+        let layout = Layout::of(&self.setup, epoch, start, &self.standing);
+        let segments = start_segments::<M>(
+            alloc,
+            &self.setup,
+            &self.directory,
+            epoch,
+            &layout,
+            self.me,
+        )?;
+        self.epoch = epoch;
+        self.layout = layout;
+        self.segments = segments;
+        self.accepted = Vec::new(alloc);
+        self.logged = Ids::new(alloc);
+        Ok(())
+    }
+}
+
+// The slots among so many from the first on that hold nil, ascending.
+fn nil_slots(alloc: Global, log: &Log, first: u64, count: u64) -> Result<Row<Slot>, NoMemory>
+    requires { first + count < 2 ^ 64 }
+    ensures { IfOk result (λ nils. nils ≡ filter (λ s. is_nil_at (reverse log.now.entries) s.0) (slots_from first count)) }
+{
+    let mut nils = Row::new(alloc);
+    for k in 0..count {
+        let slot = Slot(first + k);
+        if is_nil(log, slot) {
+            nils.push(slot)?;
+        }
+    }
+    Ok(nils)
+}
+
+fn note_all(windows: &mut Windows, ids: &[ReqId]) -> Result<(), NoMemory>
+    ensures noted { OnOk result ((n : Noted) → StandsFor windows.old n → StandsFor windows.new (notes n ids.now)) }
+    ensures width { windows.new.width ≡ windows.old.width }
+{
+    for id in ids {
+        windows.note(*id)?;
+    }
+    Ok(())
+}
+
+fn append(sends: &mut Row<(To, Bytes)>, more: Row<(To, Bytes)>) -> Result<(), NoMemory>
+    ensures { OnOk result (sends.new ≡ sends.old ++ more) }
+{
+    for send in more.into_vec() {
+        sends.push(send)?;
+    }
+    Ok(())
+}

@@ -1,0 +1,168 @@
+//! What a node's instances take.
+ghost use Rattle.std.specs.Prelude.{◌≡◌, ◌<◌, ◌≤◌, IfOk, OnOk, drop, length};
+ghost use Rattle.iss_model.specs.Formats.{formats_of};
+ghost use Rattle.iss_model.specs.Node.{at_instance, inputs, packed};
+ghost use Rattle.iss_node.specs.Inputs.{HasGrown, IsAbsorbed, IsInputTaken, IsJudgedInput, and_accepted};
+ghost use Rattle.iss_node.specs.Steps.{IsLater, IsNodeInput, IsStepOf, IsTurnOf};
+
+use crate::answers::{Accepted, Outcome, Stepped};
+use crate::growth::{grow, refile};
+use crate::parcels::pack;
+use crate::replica::Replica;
+use iss_model::Why;
+use iss_request::{Batch, NoMemory, NodeId, Slot, Value};
+use iss_sb::{Effects, Input, Sequenced};
+use iss_segment::Halt;
+use std::alloc::Global;
+
+impl<M: Sequenced> Replica<M> {
+    /// An input in the instance of a leader, where it leads, keys are left and the judge agrees.
+    pub(crate) fn at_instance(
+        &mut self,
+        alloc: Global,
+        leader: NodeId,
+        input: Input<M::Msg>,
+    ) -> Result<Stepped, NoMemory>
+        requires { IsNodeInput self.old.setup.n input }
+        ensures answer { IfOk result (λ a. IsStepOf M.meaning M.stands self.old (λ F R me c. at_instance F R M.meaning me c leader.0 input) self.new a) }
+        ensures later { IsLater self.old self.new }
+    {
+        M::laws();
+        let _setup = &self.setup;
+        if !self.leads(leader) {
+            return Ok(Stepped::Dropped(Why::NotLeader));
+        }
+        if !self.has_leaves(leader) {
+            return Ok(Stepped::Dropped(Why::NoKeys));
+        }
+        match self.step(alloc, leader, input) {
+            Ok(effects) => Ok(Stepped::Taken(self.absorb(alloc, leader, effects)?)),
+            Err(Halt::Refused(refusal)) => Ok(Stepped::Dropped(Why::Refused(refusal))),
+            Err(Halt::Spent | Halt::NoMemory) => Err(NoMemory),
+        }
+    }
+
+    /// An input in the instance of a leader, which no test refuses.
+    pub(crate) fn input(
+        &mut self,
+        alloc: Global,
+        leader: NodeId,
+        input: Input<M::Msg>,
+    ) -> Result<Outcome, NoMemory>
+        requires leader { leader.0 < self.old.setup.n }
+        requires input { IsNodeInput self.old.setup.n input }
+        ensures taken { IfOk result (λ outcome. IsTurnOf M.meaning M.stands self.old (λ F R me c. inputs F R M.meaning me c leader.0 input) self.new outcome) }
+        ensures later { IsLater self.old self.new }
+    {
+        M::laws();
+        let _setup = &self.setup;
+        let effects = self.take(alloc, leader, input)?;
+        self.absorb(alloc, leader, effects)
+    }
+
+    // The instance of a leader takes an input that the judge accepts.
+    fn step(
+        &mut self,
+        alloc: Global,
+        leader: NodeId,
+        input: Input<M::Msg>,
+    ) -> Result<Effects<M::Msg>, Halt>
+        requires leader { leader.0 < self.old.setup.n }
+        requires input { IsNodeInput self.old.setup.n input }
+        ensures step { IsJudgedInput M.meaning M.stands self.old self.new leader.0 input result }
+        ensures later { IsLater self.old self.new }
+    {
+        let Some(segment) = &mut self.segments[leader.0 as usize] else {
+            return Err(Halt::NoMemory);
+        };
+        segment.step(alloc, &self.layout, &self.windows, input, &mut self.keys)
+    }
+
+    // The instance of a leader takes an input that needs no judge.
+    fn take(
+        &mut self,
+        alloc: Global,
+        leader: NodeId,
+        input: Input<M::Msg>,
+    ) -> Result<Effects<M::Msg>, NoMemory>
+        requires leader { leader.0 < self.old.setup.n }
+        requires input { IsNodeInput self.old.setup.n input }
+        ensures taken { IfOk result (λ e. IsInputTaken M.meaning M.stands self.old self.new leader.0 input e) }
+        ensures later { IsLater self.old self.new }
+    {
+        let Some(segment) = &mut self.segments[leader.0 as usize] else {
+            return Err(NoMemory);
+        };
+        let Ok(effects) = segment.take(alloc, input, &mut self.keys) else {
+            return Err(NoMemory);
+        };
+        Ok(effects)
+    }
+
+    // What a step of an instance made is the node's.
+    fn absorb(
+        &mut self,
+        alloc: Global,
+        leader: NodeId,
+        effects: Effects<M::Msg>,
+    ) -> Result<Outcome, NoMemory>
+        ensures absorbed { OnOk result (IsAbsorbed self.old self.new leader effects) }
+        ensures sends { IfOk result (λ outcome. outcome.sends ≡ packed (formats_of self.old.setup M.meaning) self.old.me.0 self.old.epoch leader.0 effects.sends) }
+        ensures later { IsLater self.old self.new }
+    {
+        let Effects {
+            sends,
+            accepted,
+            delivers,
+            ..
+        } = effects;
+        self.accept(leader, accepted)?;
+        self.grow(alloc, delivers.into_vec())?;
+        let sends = pack::<M>(
+            alloc,
+            &self.setup,
+            self.epoch,
+            self.me,
+            leader,
+            sends.as_slice(),
+        )?;
+        Ok(Outcome { sends })
+    }
+
+    // Keeps a batch that an instance accepted.
+    fn accept(&mut self, leader: NodeId, accepted: Option<(Slot, Batch)>) -> Result<(), NoMemory>
+        ensures accepted { OnOk result (self.new ≡ record self.old { accepted = and_accepted leader self.old.accepted accepted }) }
+        ensures later { IsLater self.old self.new }
+    {
+        if let Some((slot, batch)) = accepted {
+            self.accepted.push(Accepted {
+                leader,
+                slot,
+                batch,
+            })?;
+        }
+        Ok(())
+    }
+
+    // The log grows by what was delivered: its requests wait no more, and what was cast in its slots is in flight no more.
+    fn grow(&mut self, alloc: Global, delivers: Vec<(Slot, Value)>) -> Result<(), NoMemory>
+        ensures grown { OnOk result (HasGrown self.old self.new delivers.items) }
+        ensures later { IsLater self.old self.new }
+    {
+        let held = grow(&mut self.log, delivers)?;
+        refile(
+            behind(self.log.entries(), held),
+            &mut self.waiting,
+            &mut self.logged,
+        )?;
+        self.land(alloc)
+    }
+}
+
+// The values from a place on.
+fn behind(values: &[Value], place: usize) -> &[Value]
+    requires { place ≤ length values.now }
+    ensures { result.now ≡ drop place values.now }
+{
+    &values[place..]
+}

@@ -1,0 +1,121 @@
+//! What becomes of clients' requests at a node.
+ghost use Rattle.std.specs.Prelude.{◌≡◌, ◌++◌, ◌∷◌, ◌||◌, [], List, IfOk, OnOk, false, length, reverse};
+ghost use Rattle.iss_buckets.specs.Waiting.{AreNew, absent};
+ghost use Rattle.iss_model.specs.Node.{returned, takes_request};
+ghost use Rattle.iss_node.specs.Flights.{IsLanded};
+ghost use Rattle.iss_node.specs.Inputs.{AreLogged, HasLanded};
+ghost use Rattle.iss_node.specs.Steps.{IsLater, IsStepOf};
+ghost use Rattle.iss_request.specs.Log.{has_id, ids};
+ghost use Rattle.iss_request.specs.declared.ids.ReqId.{ReqId as Identity};
+ghost use Rattle.iss_window.specs.Kept.{StandsFor};
+ghost use Rattle.iss_window.specs.Window.{Noted, is_inside, place_of};
+
+use crate::answers::{Outcome, Stepped};
+use crate::growth::is_nil;
+use crate::replica::Replica;
+use iss_model::Why;
+use iss_request::{Batch, NoMemory, ReqId, Request, Row, Slot};
+use iss_sb::Sequenced;
+use iss_segment::is_signed;
+use iss_window::{Place, Windows};
+use std::alloc::Global;
+
+impl<M: Sequenced> Replica<M> {
+    /// Takes a client's request: it waits, unless the node knows it or its number is outside the client's window.
+    pub(crate) fn take_request(
+        &mut self,
+        alloc: Global,
+        request: Request,
+    ) -> Result<Stepped, NoMemory>
+        ensures answer { IfOk result (λ a. IsStepOf M.meaning M.stands self.old (λ F R me c. takes_request R M.meaning me c request) self.new a) }
+        ensures later { IsLater self.old self.new }
+    {
+        if !is_signed(&self.setup, &request) {
+            return Ok(Stepped::Dropped(Why::BadRequest));
+        }
+        if self.knows(request.id) {
+            return Ok(Stepped::Dropped(Why::Known));
+        }
+        if !is_inside(&self.windows, request.id) {
+            return Ok(Stepped::Dropped(Why::OutOfWindow));
+        }
+        self.wait(request)?;
+        Ok(Stepped::Taken(Outcome {
+            sends: Row::new(alloc),
+        }))
+    }
+
+    // Whether a request waits, is in flight, or is in the log.
+    fn knows(&self, id: ReqId) -> bool
+        ensures { (all : List Identity) → AreLogged self.now all →
+            result ≡ (has_id id (ids self.now.waiting) || (has_id id self.now.flight.ids || has_id id all)) }
+    {
+        self.waiting.has(id) || self.flight.has(id) || self.is_logged(id)
+    }
+
+    // Whether a request is in the log: of this epoch, or of earlier ones.
+    fn is_logged(&self, id: ReqId) -> bool
+        ensures { (all : List Identity) → AreLogged self.now all → result ≡ has_id id all }
+    {
+        self.logged.has(id) || self.windows.ordered(id)
+    }
+
+    // Puts a request at the end of those that wait, unless it waits.
+    fn wait(&mut self, request: Request) -> Result<(), NoMemory>
+        ensures ok { OnOk result (has_id request.id (ids self.old.waiting) ≡ false → self.new ≡ record self.old { waiting = self.old.waiting ++ request ∷ [] }) }
+        ensures rest { self.new ≡ record self.old { waiting = self.new.waiting } }
+    {
+        let _added = self.waiting.add(request)?;
+        Ok(())
+    }
+
+    /// What was cast in slots of the log is no more in flight. Where such a slot became nil the requests wait again,
+    /// behind all others, unless the log holds them.
+    pub(crate) fn land(&mut self, alloc: Global) -> Result<(), NoMemory>
+        ensures landed { OnOk result (HasLanded self.old self.new) }
+        ensures rest { self.new ≡ record self.old { waiting = self.new.waiting; flight = self.new.flight } }
+    {
+        let slots = self.log.entries().len() as u64;
+        let casts = self.flight.land(alloc, slots)?;
+        self.give_back(casts)
+    }
+
+    // What was cast in slots that became nil waits again.
+    fn give_back(&mut self, casts: Vec<(Slot, Batch)>) -> Result<(), NoMemory>
+        ensures back { OnOk result ((all : List Identity) → AreLogged self.old all →
+            AreNew self.old.waiting (absent all (returned (reverse self.old.log.entries) casts.items)) →
+            self.new.waiting ≡ self.old.waiting ++ absent all (returned (reverse self.old.log.entries) casts.items)) }
+        ensures rest { self.new ≡ record self.old { waiting = self.new.waiting } }
+    {
+        for (slot, batch) in casts {
+            if is_nil(&self.log, slot) {
+                self.wait_again(batch)?;
+            }
+        }
+        Ok(())
+    }
+
+    // The requests of a batch wait again, unless the log holds them.
+    fn wait_again(&mut self, batch: Batch) -> Result<(), NoMemory>
+        ensures back { OnOk result ((all : List Identity) → AreLogged self.old all → AreNew self.old.waiting (absent all batch) →
+            self.new.waiting ≡ self.old.waiting ++ absent all batch) }
+        ensures rest { self.new ≡ record self.old { waiting = self.new.waiting } }
+    {
+        for request in batch.into_requests() {
+            if !self.is_logged(request.id) {
+                self.wait(request)?;
+            }
+        }
+        Ok(())
+    }
+}
+
+// Whether a request's number is inside its client's window.
+fn is_inside(windows: &Windows, id: ReqId) -> bool
+    ensures { (n : Noted) → StandsFor windows.now n → result ≡ is_inside (place_of windows.now.width n.closed id) }
+{
+    match windows.test(id) {
+        Place::Inside => true,
+        Place::Below | Place::Above => false,
+    }
+}

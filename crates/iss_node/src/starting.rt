@@ -1,0 +1,80 @@
+//! How the instances of an epoch are started.
+ghost use Rattle.std.specs.Prelude.{◌≡◌, ◌<◌, [], IfOk, IfSome, is_some, length};
+ghost use Rattle.iss_layout.specs.Layout.{IsGoodPlan, leads};
+ghost use Rattle.iss_model.specs.Concrete.{keys_of};
+ghost use Rattle.iss_model.specs.Runs.{IsSetupOf};
+ghost use Rattle.iss_node.specs.Epochs.{AreStarted, params_by};
+ghost use Rattle.iss_segment.specs.Instance.{IsInstance};
+
+use iss_keys::SharedDirectory;
+use iss_layout::Layout;
+use iss_request::{Epoch, NoMemory, NodeId, Setup};
+use iss_sb::{Params, Sequenced};
+use iss_segment::Segment;
+use std::alloc::Global;
+
+/// By node: the instance that it leads in this epoch, if it leads. None of them has taken anything.
+pub fn start_segments<M: Sequenced>(
+    alloc: Global,
+    setup: &Setup,
+    directory: &SharedDirectory,
+    epoch: Epoch,
+    layout: &Layout,
+    me: NodeId,
+) -> Result<Vec<Option<Segment<M>>>, NoMemory>
+    requires good { IsSetupOf M.meaning setup.now }
+    requires directory { directory.now ≡ keys_of setup.now }
+    requires me { me.0 < setup.now.n }
+    requires plan { IsGoodPlan layout.now }
+    requires nodes { layout.now.nodes ≡ setup.now.n }
+    ensures started { IfOk result (λ segments. AreStarted M.stands setup.now me epoch.0 layout.now segments.items) }
+    ensures count { IfOk result (λ segments. length segments.items ≡ setup.now.n) }
+{
+    let mut segments = Vec::new(alloc);
+    for node in 0..setup.n {
+        let segment = start_if_leader::<M>(
+            alloc,
+            setup,
+            directory,
+            epoch,
+            layout,
+            NodeId(node as u8),
+            me,
+        )?;
+        segments.push(segment)?;
+    }
+    Ok(segments)
+}
+
+// The instance of a node, if it leads.
+fn start_if_leader<M: Sequenced>(
+    alloc: Global,
+    setup: &Setup,
+    directory: &SharedDirectory,
+    epoch: Epoch,
+    layout: &Layout,
+    leader: NodeId,
+    me: NodeId,
+) -> Result<Option<Segment<M>>, NoMemory>
+    requires good { IsSetupOf M.meaning setup.now }
+    requires directory { directory.now ≡ keys_of setup.now }
+    requires leader { leader.0 < setup.now.n }
+    requires me { me.0 < setup.now.n }
+    requires plan { IsGoodPlan layout.now }
+    ensures leads { IfOk result (λ o. is_some o ≡ leads layout.now leader.0) }
+    ensures stands { IfOk result (λ o. IfSome o (λ g. IsInstance M.stands g [])) }
+    ensures params { IfOk result (λ o. IfSome o (λ g. g.params ≡ params_by setup.now epoch.0 layout.now leader.0)) }
+    ensures node { IfOk result (λ o. IfSome o (λ g. g.me ≡ me)) }
+{
+    if !layout.leads(leader) {
+        return Ok(None);
+    }
+    let params = Params {
+        setup: setup.copy()?,
+        epoch,
+        leader,
+        slots: layout.slots_of(alloc, leader)?,
+        directory: directory.share(),
+    };
+    Ok(Some(Segment::start(alloc, params, me)?))
+}

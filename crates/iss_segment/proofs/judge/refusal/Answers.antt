@@ -1,0 +1,42 @@
+use Rattle.std.proofs.Common.{◌≡◌, ◌∙◌, ◌≤◌, Bool, true, false, length, refl, sym, arith}
+use Rattle.std.specs.Prelude.{nat_lt}
+use Rattle.iss_model.specs.Judge.{any_marked}
+use Rattle.iss_request.specs.Log.{ids}
+use Rattle.iss_segment.proofs.MarksLemmas.{judged, not-large}
+use Rattle.iss_segment.proofs.judge.refusal.Goals as goal
+
+pub returns-then-is_any_ordered : goal.returns-then-is_any_ordered
+returns-then-is_any_ordered c =
+    let small : length c.args.batch.now ≤ c.args.setup.now.batch = omega (arith, c.if-batch-setup.false) in
+    judged c.args.setup.now c.args.layout.now c.args.windows.now c.args.leader.0 c.args.marked.now c.args.batch.now false false false false true (any_marked c.args.marked.now (ids c.args.batch.now)) (record {
+      large = not-large c.args.setup.now.batch (length c.args.batch.now) small;
+      foreign = sym c.is_any_foreign.ensures ∙ c.if-is_any_foreign.false;
+      unsigned = sym c.is_any_unsigned.ensures ∙ c.if-is_any_unsigned.false;
+      outside = λ before h. sym (c.is_any_outside.ensures before h) ∙ c.if-is_any_outside.false;
+      ordered = λ before h. sym (c.is_any_ordered.ensures before h) ∙ c.if-is_any_ordered.true;
+      doubled = refl;
+    })
+
+pub returns-then-is_any_marked : goal.returns-then-is_any_marked
+returns-then-is_any_marked c =
+    let small : length c.args.batch.now ≤ c.args.setup.now.batch = omega (arith, c.if-batch-setup.false) in
+    judged c.args.setup.now c.args.layout.now c.args.windows.now c.args.leader.0 c.args.marked.now c.args.batch.now false false false false false true (record {
+      large = not-large c.args.setup.now.batch (length c.args.batch.now) small;
+      foreign = sym c.is_any_foreign.ensures ∙ c.if-is_any_foreign.false;
+      unsigned = sym c.is_any_unsigned.ensures ∙ c.if-is_any_unsigned.false;
+      outside = λ before h. sym (c.is_any_outside.ensures before h) ∙ c.if-is_any_outside.false;
+      ordered = λ before h. sym (c.is_any_ordered.ensures before h) ∙ c.if-is_any_ordered.false;
+      doubled = sym c.is_any_marked.ensures ∙ c.if-is_any_marked.true;
+    })
+
+pub returns-else-is_any_marked : goal.returns-else-is_any_marked
+returns-else-is_any_marked c =
+    let small : length c.args.batch.now ≤ c.args.setup.now.batch = omega (arith, c.if-batch-setup.false) in
+    judged c.args.setup.now c.args.layout.now c.args.windows.now c.args.leader.0 c.args.marked.now c.args.batch.now false false false false false false (record {
+      large = not-large c.args.setup.now.batch (length c.args.batch.now) small;
+      foreign = sym c.is_any_foreign.ensures ∙ c.if-is_any_foreign.false;
+      unsigned = sym c.is_any_unsigned.ensures ∙ c.if-is_any_unsigned.false;
+      outside = λ before h. sym (c.is_any_outside.ensures before h) ∙ c.if-is_any_outside.false;
+      ordered = λ before h. sym (c.is_any_ordered.ensures before h) ∙ c.if-is_any_ordered.false;
+      doubled = sym c.is_any_marked.ensures ∙ c.if-is_any_marked.false;
+    })

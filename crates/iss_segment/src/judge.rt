@@ -1,0 +1,147 @@
+//! Whether a batch is accepted in a segment.
+ghost use Rattle.std.specs.Prelude.{◌≡◌, ◌<◌, ◌≤◌, ◌==◌, ◌||◌, ℕ, List, not, length, drop};
+ghost use Rattle.iss_segment.specs.Marks.{twice};
+ghost use Rattle.iss_layout.specs.Layout.{bucket_of, bucket_owner};
+ghost use Rattle.iss_model.specs.Concrete.{number_of, rules_of};
+ghost use Rattle.iss_model.specs.Judge.{any, any_marked, judge};
+ghost use Rattle.iss_request.specs.Log.{has_id, ids, log_ids, same_id};
+ghost use Rattle.iss_request.specs.declared.requests.Request.{Request};
+ghost use Rattle.iss_request.specs.declared.requests.Value.{Value};
+ghost use Rattle.iss_segment.specs.Ground.{RestsOn, noted_before};
+ghost use Rattle.iss_window.specs.Kept.{StandsFor};
+ghost use Rattle.iss_window.specs.Window.{is_inside, place_of};
+
+use iss_ids::Ids;
+use iss_layout::Layout;
+use iss_model::Refusal;
+use iss_request::{NodeId, ReqId, Request, Setup};
+use iss_window::{Place, Windows};
+
+/// The first refusal that holds of a batch in the segment of this leader; none where the batch is accepted. `marked`
+/// are the identities that were accepted there before.
+pub fn refusal(
+    setup: &Setup,
+    layout: &Layout,
+    windows: &Windows,
+    leader: NodeId,
+    marked: &Ids,
+    batch: &[Request],
+) -> Option<Refusal>
+    ensures { (before : List Value) (e : ℕ) → RestsOn setup.now before e layout.now windows.now →
+        result ≡ judge (rules_of setup.now) before e leader.0 marked.now batch.now }
+{
+    if batch.len() as u64 > setup.batch as u64 {
+        Some(Refusal::TooLarge)
+    } else if is_any_foreign(layout, leader, batch) {
+        Some(Refusal::ForeignBucket)
+    } else if is_any_unsigned(setup, batch) {
+        Some(Refusal::BadSignature)
+    } else if is_any_outside(windows, batch) {
+        Some(Refusal::OutOfWindow)
+    } else if is_any_ordered(windows, batch) {
+        Some(Refusal::Ordered)
+    } else if is_any_marked(marked, batch) {
+        Some(Refusal::Marked)
+    } else {
+        None
+    }
+}
+
+/// Whether the client of a request exists. What it signed is not verified yet.
+pub fn is_signed(setup: &Setup, request: &Request) -> bool
+    ensures { result ≡ (rules_of setup.now).signed request.now }
+{
+    (request.id.client as u32) < setup.clients
+}
+
+// Whether the bucket of a request is another node's.
+fn is_any_foreign(layout: &Layout, leader: NodeId, batch: &[Request]) -> bool
+    ensures { result ≡ any (λ (q : Request). not (number_of (bucket_owner layout.now (bucket_of layout.now q.id)) == leader.0)) batch.now }
+{
+    batch
+        .iter()
+        .any(|request| !is_owner(layout, leader, request.id))
+}
+
+// Whether the node owns the bucket of a request.
+fn is_owner(layout: &Layout, node: NodeId, id: ReqId) -> bool
+    ensures { result ≡ (number_of (bucket_owner layout.now (bucket_of layout.now id)) == node.0) }
+{
+    owner(layout, id).0 == node.0
+}
+
+// The owner of a request's bucket.
+fn owner(layout: &Layout, id: ReqId) -> NodeId
+    ensures { number_of (bucket_owner layout.now (bucket_of layout.now id)) ≡ result.0 }
+{
+    layout.owner_of(layout.bucket_of(id))
+}
+
+fn is_any_unsigned(setup: &Setup, batch: &[Request]) -> bool
+    ensures { result ≡ any (λ (q : Request). not ((rules_of setup.now).signed q)) batch.now }
+{
+    batch.iter().any(|request| !is_signed(setup, request))
+}
+
+// Whether a number is outside its client's window.
+fn is_any_outside(windows: &Windows, batch: &[Request]) -> bool
+    ensures { (before : List Value) → StandsFor windows.now (noted_before before) →
+        result ≡ any (λ (q : Request). not (is_inside (place_of windows.now.width (log_ids before) q.id))) batch.now }
+{
+    for request in batch {
+        if windows.test(request.id) != Place::Inside {
+            return true;
+        }
+    }
+    false
+}
+
+// Whether an identity stands in the log of earlier epochs.
+fn is_any_ordered(windows: &Windows, batch: &[Request]) -> bool
+    ensures { (before : List Value) → StandsFor windows.now (noted_before before) →
+        result ≡ any (λ (q : Request). has_id q.id (log_ids before)) batch.now }
+{
+    for request in batch {
+        if windows.ordered(request.id) {
+            return true;
+        }
+    }
+    false
+}
+
+// Whether an identity was accepted before, or stands twice in the batch.
+fn is_any_marked(marked: &Ids, batch: &[Request]) -> bool
+    ensures { result ≡ any_marked marked.now (ids batch.now) }
+{
+    is_any_among(marked, batch) || is_any_twice(batch)
+}
+
+fn is_any_among(marked: &Ids, batch: &[Request]) -> bool
+    ensures { result ≡ any (λ (q : Request). has_id q.id marked.now) batch.now }
+{
+    batch.iter().any(|request| marked.has(request.id))
+}
+
+fn is_any_twice(batch: &[Request]) -> bool
+    ensures { result ≡ twice (ids batch.now) }
+{
+    for place in 0..batch.len() {
+        if is_among(&batch[place], behind(batch, place + 1)) {
+            return true;
+        }
+    }
+    false
+}
+
+fn behind(batch: &[Request], place: usize) -> &[Request]
+    requires { place ≤ length batch.now }
+    ensures { result.now ≡ drop place batch.now }
+{
+    &batch[place..]
+}
+
+fn is_among(request: &Request, batch: &[Request]) -> bool
+    ensures { result ≡ any (λ (q : Request). same_id request.now.id q.id) batch.now }
+{
+    batch.iter().any(|other| request.id == other.id)
+}

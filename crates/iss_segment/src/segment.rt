@@ -1,0 +1,182 @@
+//! An instance of a module, with the identities of the batches that it accepted.
+ghost use Rattle.std.specs.Prelude.{◌≡◌, ◌<◌, ◌≤◌, ◌↔◌, ℕ, List, [], IfOk, OnOk, IsTrue, Some};
+ghost use Rattle.iss_keys.specs.KeyStates.{left_of};
+ghost use Rattle.iss_model.specs.Concrete.{rules_of};
+ghost use Rattle.iss_model.specs.Judge.{judge};
+ghost use Rattle.iss_model.specs.Node.{verdict};
+ghost use Rattle.iss_request.specs.declared.requests.Batch.{Batch};
+ghost use Rattle.iss_request.specs.declared.requests.Value.{Value};
+ghost use Rattle.iss_sb.specs.Calls.{IsGoodInput, IsGoodParams};
+ghost use Rattle.iss_sb.specs.Evidence.{Item, accepts};
+ghost use Rattle.iss_segment.specs.Answers.{IsInstanceStep, IsJudgedStep, IsVerdict};
+ghost use Rattle.iss_segment.specs.Ground.{RestsOn};
+ghost use Rattle.iss_segment.specs.Instance.{IsInstance, SegmentState};
+ghost use Rattle.iss_segment.specs.Marks.{and_marks};
+
+use crate::judge::refusal;
+use iss_ids::Ids;
+use iss_keys::Keys;
+use iss_layout::Layout;
+use iss_model::Refusal;
+use iss_request::{Batch, NoMemory, NodeId, Slot};
+use iss_sb::{Effects, Input, Params, Sequenced, StepError};
+use iss_window::Windows;
+use std::alloc::Global;
+use std::marker::Model;
+
+/// Why an instance took no input: fewer leaves are left than one step may sign with, the batch that the step would
+/// accept is refused, or memory was wanting.
+#[derive(Clone, Copy, Debug, PartialEq, Eq)]
+pub enum Halt {
+    Spent,
+    Refused(Refusal),
+    NoMemory,
+}
+
+/// The instance of one leader at this node.
+#[derive(Drop)]
+pub struct Segment<M: Sequenced> {
+    params: Params,
+    me: NodeId,
+    ordering: M,
+    marked: Ids,
+}
+
+impl<M: Sequenced> Model for Segment<M> {
+    ghost use Rattle.std.specs.Prelude.{◌<◌};
+    ghost use Rattle.iss_sb.specs.Calls.{IsGoodParams};
+    ghost use Rattle.iss_segment.specs.Instance.{SegmentState};
+
+    ghost Value = { SegmentState M };
+
+    ghost view = { λ s. record { params = s.params; me = s.me; ordering = s.ordering; marked = s.marked } };
+
+    ghost invariant = { λ s. IsGoodParams M.meaning s.params × (s.me.0 < s.params.setup.n) };
+}
+
+impl<M: Sequenced> Segment<M> {
+    /// An instance that has taken nothing.
+    pub fn start(alloc: Global, params: Params, me: NodeId) -> Result<Segment<M>, NoMemory>
+        requires good { IsGoodParams M.meaning params }
+        requires me { me.0 < params.setup.n }
+        ensures stands { IfOk result (λ s. IsInstance M.stands s []) }
+        ensures same { IfOk result (λ s. (s.params ≡ params) × (s.me ≡ me)) }
+    {
+        let ordering = M::start(alloc, &params, me)?;
+        Ok(Segment {
+            params,
+            me,
+            ordering,
+            marked: Ids::new(alloc),
+        })
+    }
+
+    /// What the instance was started with.
+    pub fn params(&self) -> &Params
+        ensures same { result.now ≡ self.now.params }
+        ensures good { IsGoodParams M.meaning result.now }
+    {
+        &self.params
+    }
+
+    /// The identities that the instance accepted.
+    pub fn marked(&self) -> &Ids
+        ensures { result.now ≡ self.now.marked }
+    {
+        &self.marked
+    }
+
+    /// Whether the module takes a cast at this slot.
+    pub fn casts(&self, slot: Slot) -> bool
+        ensures { (xs : List (Item M.Msg)) (batch : Batch) → IsInstance M.stands self.now xs →
+            (IsTrue result ↔ (M.meaning.asks self.now.params self.now.me.0 xs (Input.Cast slot batch) ≡ Some (slot, batch))) }
+    {
+        self.ordering.casts(&self.params, slot)
+    }
+
+    /// Why a batch is refused at a slot of the segment, if it is: the first cause that holds, by the division and the
+    /// windows of the segment's epoch. The slot plays no part.
+    pub fn judge(
+        &self,
+        layout: &Layout,
+        windows: &Windows,
+        _slot: Slot,
+        batch: &Batch,
+    ) -> Option<Refusal>
+        ensures { (before : List Value) → RestsOn self.now.params.setup before self.now.params.epoch.0 layout.now windows.now →
+            result ≡ judge (rules_of self.now.params.setup) before self.now.params.epoch.0 self.now.params.leader.0 self.now.marked batch.now }
+    {
+        refusal(
+            &self.params.setup,
+            layout,
+            windows,
+            self.params.leader,
+            &self.marked,
+            batch.as_slice(),
+        )
+    }
+
+    /// Takes an input whose batch, if it asks for one, the judge accepts.
+    pub fn step(
+        &mut self,
+        alloc: Global,
+        layout: &Layout,
+        windows: &Windows,
+        input: Input<M::Msg>,
+        keys: &mut Keys,
+    ) -> Result<Effects<M::Msg>, Halt>
+        requires { IsGoodInput self.old.params input }
+        ensures step { IsJudgedStep M.meaning M.stands layout.now windows.now self.old self.new input keys.old keys.new result }
+        ensures same { (self.new.params ≡ self.old.params) × (self.new.me ≡ self.old.me) }
+    {
+        if keys.left() < M::signs(&self.params) {
+            return Err(Halt::Spent);
+        }
+        if let Some(refusal) = self.verdict(layout, windows, &input) {
+            return Err(Halt::Refused(refusal));
+        }
+        match self.take(alloc, input, keys) {
+            Ok(effects) => Ok(effects),
+            Err(StepError::Spent) => Err(Halt::Spent),
+            Err(StepError::NoMemory) => Err(Halt::NoMemory),
+        }
+    }
+
+    /// Takes an input that the judge does not refuse.
+    pub fn take(
+        &mut self,
+        alloc: Global,
+        input: Input<M::Msg>,
+        keys: &mut Keys,
+    ) -> Result<Effects<M::Msg>, StepError>
+        requires { IsGoodInput self.old.params input }
+        ensures step { IsInstanceStep M.meaning M.stands self.old self.new input keys.old keys.new result }
+        ensures same { (self.new.params ≡ self.old.params) × (self.new.me ≡ self.old.me) }
+    {
+        M::laws();
+        let effects = self.ordering.step(alloc, &self.params, input, true, keys)?;
+        mark(&mut self.marked, &effects.accepted)?;
+        Ok(effects)
+    }
+
+    // Why the batch that this input asks for is refused, if it is.
+    fn verdict(&self, layout: &Layout, windows: &Windows, input: &Input<M::Msg>) -> Option<Refusal>
+        requires input { IsGoodInput self.now.params input.now }
+        ensures { IsVerdict M.meaning M.stands layout.now windows.now self.now input.now result }
+    {
+        match self.ordering.asks(&self.params, input) {
+            Some((slot, batch)) => self.judge(layout, windows, slot, batch),
+            None => None,
+        }
+    }
+}
+
+// Notes the identities of a batch that was accepted.
+fn mark(marked: &mut Ids, accepted: &Option<(Slot, Batch)>) -> Result<(), NoMemory>
+    ensures { OnOk result (marked.new ≡ and_marks marked.old accepted.now) }
+{
+    match accepted {
+        Some((_, batch)) => marked.add_all(batch.as_slice()),
+        None => Ok(()),
+    }
+}

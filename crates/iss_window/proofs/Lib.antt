@@ -1,0 +1,3 @@
+mod Examples
+pub mod KeptLemmas
+pub mod LowLemmas

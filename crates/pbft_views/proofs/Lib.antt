@@ -1,0 +1,5 @@
+pub mod Numbers
+pub mod Good
+pub mod Choices
+pub mod Statements
+pub mod Claims

@@ -1,0 +1,29 @@
+-- What a new view proposes at a slot, of the ViewChanges that it begins with.
+use Rattle.std.specs.Prelude.{ℕ, ◌==◌, cond, nat_lt, List, [], ◌∷◌, ◌++◌, Option, Some, None}
+use Rattle.iss_request.specs.declared.requests.Value.{Value}
+use Rattle.iss_request.specs.declared.requests.Value.TheVariants.{Nil}
+use Rattle.pbft_wire.specs.declared.messages.Certificate.{Certificate}
+use Rattle.pbft_wire.specs.declared.messages.Change.{Change}
+
+-- the one of the higher view, the first of two of one view
+abbrev pub higher : Certificate → Option Certificate → Option Certificate
+higher c None = Some c
+higher c (Some e) = cond (nat_lt c.view e.view) (Some e) (Some c)
+
+-- the certificate of slot s of the highest view, the first of these
+abbrev pub best : ℕ → List Certificate → Option Certificate
+best s [] = None
+best s (c ∷ cs) = cond (c.slot.0 == s) (higher c (best s cs)) (best s cs)
+
+abbrev pub certificates_of : List Change → List Certificate
+certificates_of [] = []
+certificates_of (x ∷ xs) = x.certificates ++ certificates_of xs
+
+abbrev pub value_or_nil : Option Certificate → Value
+value_or_nil None = Nil
+value_or_nil (Some c) = c.value
+
+-- the value of the certificate of the highest view, of the least node where several have that view, since the nodes
+-- ascend; nil where there is none
+abbrev pub choice : List Change → ℕ → Value
+choice xs s = value_or_nil (best s (certificates_of xs))

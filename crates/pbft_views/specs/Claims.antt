@@ -1,0 +1,49 @@
+-- What a message says that nodes have signed, in the order of its bytes: the signatures inside it, and then its own.
+use Rattle.std.specs.Prelude.{ℕ, List, [], ◌∷◌, ◌++◌}
+use Rattle.iss_request.specs.declared.ids.Slot.{Slot}
+use Rattle.iss_sb.specs.declared.effects.Claim.{Claim}
+use Rattle.iss_sb.specs.declared.effects.Params.{Params}
+use Rattle.pbft_wire.specs.declared.messages.Certificate.{Certificate}
+use Rattle.pbft_wire.specs.declared.messages.Change.{Change}
+use Rattle.pbft_wire.specs.declared.messages.Vote.{Vote}
+use Rattle.pbft_wire.specs.declared.messages.Message.{Message}
+use Rattle.pbft_wire.specs.declared.messages.Message.TheVariants.{PrePrepare, Prepare, Commit, ViewChange, NewView}
+use Rattle.pbft_wire.specs.Statements.{digest_of, state_at, state_change, state_new}
+use Rattle.pbft_views.specs.Choice.{choice}
+use Rattle.pbft_views.specs.Good.{primary}
+
+abbrev pub claim : ℕ → List ℕ → List ℕ → Claim
+claim by statement sig = record { by = record { 0 = by }; statement = statement; sig = sig }
+
+abbrev pub vote_claims : Params → ℕ → ℕ → List ℕ → List Vote → List Claim
+vote_claims p v s d [] = []
+vote_claims p v s d (x ∷ xs) = claim x.node.0 (state_at p 2 v s d) x.sig ∷ vote_claims p v s d xs
+
+-- of the primary's PrePrepare, and of the Prepares
+abbrev pub certificate_claims : Params → Certificate → List Claim
+certificate_claims p c =
+    claim (primary p c.view) (state_at p 1 c.view c.slot.0 (digest_of p c.value)) c.sig ∷ vote_claims p c.view c.slot.0 (digest_of p c.value) c.prepares
+
+abbrev pub certificates_claims : Params → List Certificate → List Claim
+certificates_claims p [] = []
+certificates_claims p (c ∷ cs) = certificate_claims p c ++ certificates_claims p cs
+
+abbrev pub change_claims : Params → ℕ → ℕ → List Certificate → List ℕ → List Claim
+change_claims p by v cs sig = certificates_claims p cs ++ claim by (state_change p v cs) sig ∷ []
+
+abbrev pub changes_claims : Params → List Change → List Claim
+changes_claims p [] = []
+changes_claims p (x ∷ xs) = change_claims p x.node.0 x.view x.certificates x.sig ++ changes_claims p xs
+
+-- the k-th signature of a PrePrepare is over the segment's k-th slot and its choice; those past the slots are no claims
+abbrev pub chosen_claims : Params → ℕ → ℕ → List Change → List Slot → List (List ℕ) → List Claim
+chosen_claims p by v xs [] sigs = []
+chosen_claims p by v xs (s ∷ ss) [] = []
+chosen_claims p by v xs (s ∷ ss) (sig ∷ sigs) = claim by (state_at p 1 v s.0 (digest_of p (choice xs s.0))) sig ∷ chosen_claims p by v xs ss sigs
+
+abbrev pub claims : Params → ℕ → Message → List Claim
+claims p by (PrePrepare v slot x sig) = claim by (state_at p 1 v slot.0 (digest_of p x)) sig ∷ []
+claims p by (Prepare v slot d sig) = claim by (state_at p 2 v slot.0 d) sig ∷ []
+claims p by (Commit v slot d sig) = claim by (state_at p 3 v slot.0 d) sig ∷ []
+claims p by (ViewChange v cs sig) = change_claims p by v cs sig
+claims p by (NewView v xs sigs sig) = changes_claims p xs ++ (chosen_claims p by v xs p.slots sigs ++ claim by (state_new p v) sig ∷ [])

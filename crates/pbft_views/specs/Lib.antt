@@ -1,0 +1,4 @@
+pub mod Claims
+pub mod Choice
+pub mod Good
+pub mod Laws

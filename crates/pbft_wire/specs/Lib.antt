@@ -1,0 +1,4 @@
+pub mod Rising
+pub mod Certificates
+pub mod Messages
+pub mod Statements

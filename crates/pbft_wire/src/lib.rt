@@ -1,0 +1,15 @@
+//! The messages of PBFT, in bytes, and what is signed of them.
+#![tactic(auto)]
+
+pub mod laws;
+pub mod messages;
+pub mod reading;
+pub mod writing;
+
+pub use laws::messages_are_exact;
+pub use messages::{Certificate, Change, Message, Vote};
+pub use reading::read;
+pub use writing::write;
+
+#[cfg(test)]
+mod tests;

@@ -1,0 +1,357 @@
+//! The messages from their bytes, field by field in the order of the parsers.
+ghost use Rattle.std.specs.Int.{w64};
+ghost use Rattle.std.specs.Prelude.{◌≡◌, ℕ, List, length, nat_le, IfOk, Err};
+ghost use Rattle.iss_request.specs.Fields.{IsRead, IsUnreadable};
+ghost use Rattle.iss_request.specs.Formats.{parse_signature};
+ghost use Rattle.iss_request.specs.Parsing.{block, byte, number, such_that, times};
+ghost use Rattle.iss_request.specs.declared.ids.Slot.{Slot};
+ghost use Rattle.pbft_wire.specs.Certificates.{after_node, after_slot};
+ghost use Rattle.pbft_wire.specs.Certificates.{count, parse_certificate, parse_certificates, parse_change, parse_vote, parse_votes};
+ghost use Rattle.pbft_wire.specs.Messages.{commit, parse, parse_at, parse_changes, parse_new_view, parse_node_change, parse_pre_prepare, parse_view_change, prepare};
+ghost use Rattle.pbft_wire.specs.declared.messages.Message.{Message};
+
+use crate::messages::{Certificate, Change, Message, Vote};
+use iss_request::{Bytes, DecodeError, Fields, NodeId, Row, Slot, read_signature, read_value};
+use std::alloc::Global;
+
+// The numbers of the messages.
+pub(crate) const PRE_PREPARE: u8 = 1;
+
+pub(crate) const PREPARE: u8 = 2;
+
+pub(crate) const COMMIT: u8 = 3;
+
+pub(crate) const VIEW_CHANGE: u8 = 4;
+
+pub(crate) const NEW_VIEW: u8 = 5;
+
+// ---- single fields
+
+fn read_count(f: &mut Fields) -> Result<u8, DecodeError>
+    ensures ok { IfOk result (λ n. IsRead count f.old f.new n) }
+    ensures bad { (at : ℕ) → result ≡ Err (DecodeError.BadField at) → IsUnreadable count f.old at }
+{
+    let count = f.read_u8()?;
+    Ok(count)
+}
+
+pub(crate) fn node_follows(last: Option<NodeId>, node: u8) -> bool
+    ensures { result ≡ nat_le (after_node last) node }
+{
+    match last {
+        None => true,
+        Some(last) => last.0 < node,
+    }
+}
+
+pub(crate) fn slot_follows(last: Option<Slot>, slot: u64) -> bool
+    ensures { result ≡ nat_le (after_slot last) slot }
+{
+    match last {
+        None => true,
+        Some(last) => last.0 < slot,
+    }
+}
+
+// The next node's number, where it rises.
+fn read_node(last: Option<NodeId>, f: &mut Fields) -> Result<u8, DecodeError>
+    ensures ok { IfOk result (λ k. IsRead (such_that (λ n. nat_le (after_node last) n) byte) f.old f.new k) }
+    ensures bad { (at : ℕ) → result ≡ Err (DecodeError.BadField at) → IsUnreadable (such_that (λ n. nat_le (after_node last) n) byte) f.old at }
+{
+    let no_node = f.bad_field();
+    let node = f.read_u8()?;
+    if !node_follows(last, node) {
+        return Err(no_node);
+    }
+    Ok(node)
+}
+
+// The next slot, where it rises.
+fn read_slot(last: Option<Slot>, f: &mut Fields) -> Result<u64, DecodeError>
+    ensures ok { IfOk result (λ s. IsRead (such_that (λ n. nat_le (after_slot last) n) (number w64)) f.old f.new s) }
+    ensures bad { (at : ℕ) → result ≡ Err (DecodeError.BadField at) → IsUnreadable (such_that (λ n. nat_le (after_slot last) n) (number w64)) f.old at }
+{
+    let no_slot = f.bad_field();
+    let slot = f.read_u64()?;
+    if !slot_follows(last, slot) {
+        return Err(no_slot);
+    }
+    Ok(slot)
+}
+
+fn read_digest(f: &mut Fields) -> Result<[u8; 32], DecodeError>
+    ensures ok { IfOk result (λ d. IsRead (block 32) f.old f.new d) }
+    ensures bad { (at : ℕ) → result ≡ Err (DecodeError.BadField at) → IsUnreadable (block 32) f.old at }
+{
+    let bytes = f.read_bytes(32)?;
+    Ok(array_of(bytes))
+}
+
+fn array_of(bytes: &[u8]) -> [u8; 32]
+    requires { length bytes.now ≡ 32 }
+    ensures { result ≡ bytes.now }
+{
+    let mut digest = [0; 32];
+    digest.copy_from_slice(bytes);
+    digest
+}
+
+// ---- votes, certificates, ViewChanges
+
+fn read_vote(alloc: Global, last: Option<NodeId>, f: &mut Fields) -> Result<Vote, DecodeError>
+    ensures ok { IfOk result (λ v. IsRead (parse_vote (after_node last)) f.old f.new v) }
+    ensures bad { (at : ℕ) → result ≡ Err (DecodeError.BadField at) → IsUnreadable (parse_vote (after_node last)) f.old at }
+{
+    let node = read_node(last, f)?;
+    let sig = read_signature(alloc, f)?;
+    Ok(Vote {
+        node: NodeId(node),
+        sig,
+    })
+}
+
+fn read_votes(alloc: Global, many: u8, f: &mut Fields) -> Result<Row<Vote>, DecodeError>
+    ensures ok { IfOk result (λ all. IsRead (parse_votes many 0) f.old f.new all) }
+    ensures bad { (at : ℕ) → result ≡ Err (DecodeError.BadField at) → IsUnreadable (parse_votes many 0) f.old at }
+{
+    let mut votes = Row::new(alloc);
+    let mut last = None;
+    for _ in 0..many {
+        let vote = read_vote(alloc, last, f)?;
+        last = Some(vote.node);
+        votes.push(vote)?;
+    }
+    Ok(votes)
+}
+
+fn read_certificate(
+    alloc: Global,
+    last: Option<Slot>,
+    f: &mut Fields,
+) -> Result<Certificate, DecodeError>
+    ensures ok { IfOk result (λ c. IsRead (parse_certificate f.old.version (after_slot last)) f.old f.new c) }
+    ensures bad { (at : ℕ) → result ≡ Err (DecodeError.BadField at) → IsUnreadable (parse_certificate f.old.version (after_slot last)) f.old at }
+{
+    let slot = read_slot(last, f)?;
+    let view = f.read_u16()?;
+    let value = read_value(alloc, f)?;
+    let sig = read_signature(alloc, f)?;
+    let many = read_count(f)?;
+    let prepares = read_votes(alloc, many, f)?;
+    Ok(Certificate {
+        slot: Slot(slot),
+        view,
+        value,
+        sig,
+        prepares,
+    })
+}
+
+fn read_certificates(
+    alloc: Global,
+    many: u8,
+    f: &mut Fields,
+) -> Result<Row<Certificate>, DecodeError>
+    ensures ok { IfOk result (λ all. IsRead (parse_certificates f.old.version many 0) f.old f.new all) }
+    ensures bad { (at : ℕ) → result ≡ Err (DecodeError.BadField at) → IsUnreadable (parse_certificates f.old.version many 0) f.old at }
+{
+    let mut certificates = Row::new(alloc);
+    let mut last = None;
+    for _ in 0..many {
+        let certificate = read_certificate(alloc, last, f)?;
+        last = Some(certificate.slot);
+        certificates.push(certificate)?;
+    }
+    Ok(certificates)
+}
+
+// The ViewChange of a node, behind the node's number.
+fn read_change(alloc: Global, node: NodeId, f: &mut Fields) -> Result<Change, DecodeError>
+    ensures ok { IfOk result (λ x. IsRead (parse_change f.old.version node.0) f.old f.new x) }
+    ensures bad { (at : ℕ) → result ≡ Err (DecodeError.BadField at) → IsUnreadable (parse_change f.old.version node.0) f.old at }
+{
+    let view = f.read_u16()?;
+    let many = read_count(f)?;
+    let certificates = read_certificates(alloc, many, f)?;
+    let sig = read_signature(alloc, f)?;
+    Ok(Change {
+        node,
+        view,
+        certificates,
+        sig,
+    })
+}
+
+fn read_node_change(
+    alloc: Global,
+    last: Option<NodeId>,
+    f: &mut Fields,
+) -> Result<Change, DecodeError>
+    ensures ok { IfOk result (λ x. IsRead (parse_node_change f.old.version (after_node last)) f.old f.new x) }
+    ensures bad { (at : ℕ) → result ≡ Err (DecodeError.BadField at) → IsUnreadable (parse_node_change f.old.version (after_node last)) f.old at }
+{
+    let node = read_node(last, f)?;
+    let change = read_change(alloc, NodeId(node), f)?;
+    Ok(change)
+}
+
+fn read_changes(alloc: Global, many: u8, f: &mut Fields) -> Result<Row<Change>, DecodeError>
+    ensures ok { IfOk result (λ all. IsRead (parse_changes f.old.version many 0) f.old f.new all) }
+    ensures bad { (at : ℕ) → result ≡ Err (DecodeError.BadField at) → IsUnreadable (parse_changes f.old.version many 0) f.old at }
+{
+    let mut changes = Row::new(alloc);
+    let mut last = None;
+    for _ in 0..many {
+        let change = read_node_change(alloc, last, f)?;
+        last = Some(change.node);
+        changes.push(change)?;
+    }
+    Ok(changes)
+}
+
+fn read_signatures(alloc: Global, many: u8, f: &mut Fields) -> Result<Row<Bytes>, DecodeError>
+    ensures ok { IfOk result (λ all. IsRead (times many parse_signature) f.old f.new all) }
+    ensures bad { (at : ℕ) → result ≡ Err (DecodeError.BadField at) → IsUnreadable (times many parse_signature) f.old at }
+{
+    let mut signatures = Row::new(alloc);
+    for _ in 0..many {
+        let sig = read_signature(alloc, f)?;
+        signatures.push(sig)?;
+    }
+    Ok(signatures)
+}
+
+// ---- messages
+
+/// Reads the message at the front. `BadField` names the first field that does not fit.
+pub fn read(alloc: Global, f: &mut Fields) -> Result<Message, DecodeError>
+    ensures ok { IfOk result (λ m. IsRead (parse f.old.version) f.old f.new m) }
+    ensures bad { (at : ℕ) → result ≡ Err (DecodeError.BadField at) → IsUnreadable (parse f.old.version) f.old at }
+{
+    let no_message = f.bad_field();
+    let number = f.read_u8()?;
+    match number {
+        PRE_PREPARE => read_pre_prepare(alloc, f),
+        PREPARE => read_prepare(alloc, f),
+        COMMIT => read_commit(alloc, f),
+        VIEW_CHANGE => read_view_change(alloc, f),
+        NEW_VIEW => read_new_view(alloc, f),
+        _ => Err(no_message),
+    }
+}
+
+fn read_pre_prepare(alloc: Global, f: &mut Fields) -> Result<Message, DecodeError>
+    ensures ok { IfOk result (λ m. IsRead (parse_pre_prepare f.old.version) f.old f.new m) }
+    ensures bad { (at : ℕ) → result ≡ Err (DecodeError.BadField at) → IsUnreadable (parse_pre_prepare f.old.version) f.old at }
+{
+    let view = f.read_u16()?;
+    let slot = f.read_u64()?;
+    let value = read_value(alloc, f)?;
+    let sig = read_signature(alloc, f)?;
+    Ok(Message::PrePrepare {
+        view,
+        slot: Slot(slot),
+        value,
+        sig,
+    })
+}
+
+// What a Prepare and a Commit say.
+#[derive(Drop)]
+struct At {
+    view: u16,
+    slot: Slot,
+    digest: [u8; 32],
+    sig: Bytes,
+}
+
+fn read_at(alloc: Global, f: &mut Fields) -> Result<At, DecodeError>
+    ensures ok { IfOk result (λ a. (make : ℕ → Slot → List ℕ → List ℕ → Message) → IsRead (parse_at make) f.old f.new (make a.view a.slot a.digest a.sig)) }
+    ensures bad { (at : ℕ) → result ≡ Err (DecodeError.BadField at) → (make : ℕ → Slot → List ℕ → List ℕ → Message) → IsUnreadable (parse_at make) f.old at }
+{
+    let view = f.read_u16()?;
+    let slot = f.read_u64()?;
+    let digest = read_digest(f)?;
+    let sig = read_signature(alloc, f)?;
+    Ok(At {
+        view,
+        slot: Slot(slot),
+        digest,
+        sig,
+    })
+}
+
+fn read_prepare(alloc: Global, f: &mut Fields) -> Result<Message, DecodeError>
+    ensures ok { IfOk result (λ m. IsRead (parse_at prepare) f.old f.new m) }
+    ensures bad { (at : ℕ) → result ≡ Err (DecodeError.BadField at) → IsUnreadable (parse_at prepare) f.old at }
+{
+    let at = read_at(alloc, f)?;
+    let At {
+        view,
+        slot,
+        digest,
+        sig,
+    } = at;
+    Ok(Message::Prepare {
+        view,
+        slot,
+        digest,
+        sig,
+    })
+}
+
+fn read_commit(alloc: Global, f: &mut Fields) -> Result<Message, DecodeError>
+    ensures ok { IfOk result (λ m. IsRead (parse_at commit) f.old f.new m) }
+    ensures bad { (at : ℕ) → result ≡ Err (DecodeError.BadField at) → IsUnreadable (parse_at commit) f.old at }
+{
+    let at = read_at(alloc, f)?;
+    let At {
+        view,
+        slot,
+        digest,
+        sig,
+    } = at;
+    Ok(Message::Commit {
+        view,
+        slot,
+        digest,
+        sig,
+    })
+}
+
+fn read_view_change(alloc: Global, f: &mut Fields) -> Result<Message, DecodeError>
+    ensures ok { IfOk result (λ m. IsRead (parse_view_change f.old.version) f.old f.new m) }
+    ensures bad { (at : ℕ) → result ≡ Err (DecodeError.BadField at) → IsUnreadable (parse_view_change f.old.version) f.old at }
+{
+    // Its sender's number stands outside of the message.
+    let change = read_change(alloc, NodeId(0), f)?;
+    let Change {
+        view,
+        certificates,
+        sig,
+        ..
+    } = change;
+    Ok(Message::ViewChange {
+        view,
+        certificates,
+        sig,
+    })
+}
+
+fn read_new_view(alloc: Global, f: &mut Fields) -> Result<Message, DecodeError>
+    ensures ok { IfOk result (λ m. IsRead (parse_new_view f.old.version) f.old f.new m) }
+    ensures bad { (at : ℕ) → result ≡ Err (DecodeError.BadField at) → IsUnreadable (parse_new_view f.old.version) f.old at }
+{
+    let view = f.read_u16()?;
+    let first = read_count(f)?;
+    let changes = read_changes(alloc, first, f)?;
+    let second = read_count(f)?;
+    let signatures = read_signatures(alloc, second, f)?;
+    let sig = read_signature(alloc, f)?;
+    Ok(Message::NewView {
+        view,
+        changes,
+        signatures,
+        sig,
+    })
+}

@@ -1,0 +1,154 @@
+-- Small facts: what stands behind a test, the cases of a state, statements told apart.
+use Rattle.std.proofs.Common.{◌≡◌, ◌≤◌, ℕ, ◌%◌, ◌==◌, ◌&&◌, not, Bool, true, false, if◌then◌else◌, List, ◌∷◌, ◌++◌, Option, Some, None, refl, sym, ◌∙◌, subst, true≢false, arith}
+use Rattle.std.specs.Prelude.{nat_le}
+use Rattle.std.proofs.lemmas.Bool.{leb-true}
+use Rattle.std.proofs.lemmas.Bool.Decides.{Decides-eqb}
+use Rattle.iss_base.proofs.Lists.{and-true}
+use Rattle.iss_sb.specs.declared.effects.Params.{Params}
+use Rattle.iss_sb.specs.Statements.{four_bytes, statement_head}
+use Rattle.iss_sb.proofs.Statements.{head-same, wide-same}
+use Rattle.raft_wire.specs.declared.entries.What.{What}
+use Rattle.hs_tree.specs.declared.certificates.Certificate.{Certificate}
+use Rattle.hs_tree.specs.declared.certificates.Certificate.TheVariants.{Root, Votes}
+use Rattle.hs_tree.specs.declared.messages.Message.{Message}
+use Rattle.hs_tree.specs.declared.messages.Message.TheVariants.{NewView, Prepare, PreCommit, Commit, Decide, Vote}
+use Rattle.hs_tree.specs.Certificates.{is_quorum, view_of}
+use Rattle.hs_tree.specs.Statements.{own_statement, vote_statement}
+use Rattle.hs_tree.specs.Tree.{basic}
+use Rattle.sb_hotstuff.specs.Rules.{State, is_good, is_shown, may_second, may_third, node_digest, turn_of}
+
+pub by-if : {A : Type 0} (P : A → Type 0) (t : Bool) (a b : A) → P a → P b → P (if t then a else b)
+by-if P true a b h g = h
+by-if P false a b h g = g
+
+pub by-test : {A : Type 0} (P : A → Type 0) (t : Bool) (a b : A) → (t ≡ true → P a) → P b → P (if t then a else b)
+by-test P true a b h g = h refl
+by-test P false a b h g = g
+
+pub by-both : {A : Type 0} (P : A → Type 0) (t : Bool) (a b : A) → (t ≡ true → P a) → (t ≡ false → P b) → P (if t then a else b)
+by-both P true a b h g = h refl
+by-both P false a b h g = g refl
+
+pub record IsIf {A : Type 0} (t : Bool) (a x : A) : Type 0 where
+  pub passed : t ≡ true
+  pub is : a ≡ x
+
+pub if-some : {A : Type 0} (t : Bool) (a x : A) → (if t then Some a else None) ≡ Some x → IsIf t a x
+if-some true a x h = record { passed = refl; is = cc }
+if-some false a x h = absurd cc
+
+pub record IsIn {A : Type 0} (t : Bool) (o : Option A) (x : A) : Type 0 where
+  pub passed : t ≡ true
+  pub is : o ≡ Some x
+
+pub if-in : {A : Type 0} (t : Bool) (o : Option A) (x : A) → (if t then o else None) ≡ Some x → IsIn t o x
+if-in true o x h = record { passed = refl; is = h }
+if-in false o x h = absurd cc
+
+pub if-not : {A : Type 0} (t : Bool) (o : Option A) (x : A) → (if t then None else o) ≡ Some x → o ≡ Some x
+if-not true o x h = absurd cc
+if-not false o x h = h
+
+pub is-same : (a b : ℕ) → (a == b) ≡ true → a ≡ b
+is-same a b h = (Decides-eqb a b).0 h
+
+pub not-same : (a b : ℕ) → (a == b) ≡ false → a ≡ b → ⊥
+not-same a b h e = true≢false (sym ((Decides-eqb a b).1 e) ∙ h)
+
+pub same-is : (a b : ℕ) → a ≡ b → (a == b) ≡ true
+same-is a b h = (Decides-eqb a b).1 h
+
+-- ---- good certificates
+
+pub record IsGood (p : Params) (phase view : ℕ) (c : Certificate) : Type 0 where
+  pub turn : 1 ≤ turn_of view
+  pub some : 1 ≤ view
+  pub view_is : view_of c ≡ view
+  pub quorum : is_quorum p.setup.quorum phase view c ≡ true
+
+some-view : (v : ℕ) → 1 ≤ v % 65536 → 1 ≤ v
+some-view v l = omega arith
+
+quorum-view : (quorum phase view : ℕ) (c : Certificate) → is_quorum quorum phase view c ≡ true → view_of c ≡ view
+quorum-view quorum phase view Root h = absurd (true≢false (sym h))
+quorum-view quorum phase view (Votes w q d votes) h = let a = and-true ((w == view) && (q == phase)) _ h in is-same w view (and-true (w == view) (q == phase) a.0).0
+
+pub good-is : (p : Params) (phase view : ℕ) (c : Certificate) → is_good p phase view c ≡ true → IsGood p phase view c
+good-is p phase view c h =
+    let a = and-true (nat_le 1 (turn_of view)) (is_quorum p.setup.quorum phase view c) h in
+    let t = leb-true 1 (turn_of view) a.0 in
+    record { turn = t; some = some-view view t; view_is = quorum-view p.setup.quorum phase view c a.1; quorum = a.1 }
+
+-- ---- certificates of the own view
+
+pub record IsShown (p : Params) (s : State) (phase view : ℕ) (c : Certificate) : Type 0 where
+  pub good : is_good p phase view c ≡ true
+  pub own : view ≡ s.view
+
+shown-is : (p : Params) (s : State) (phase view : ℕ) (c : Certificate) → is_shown p s phase view c ≡ true → IsShown p s phase view c
+shown-is p s phase view c h =
+    let a = and-true (is_good p phase view c && (view == s.view)) _ h in
+    let b = and-true (is_good p phase view c) (view == s.view) a.0 in
+    record { good = b.0; own = is-same view s.view b.1 }
+
+pub second-is : (p : Params) (s : State) (view : ℕ) (c : Certificate) → may_second p s view c ≡ true → IsShown p s 1 view c
+second-is p s view c h = shown-is p s 1 view c (and-true (is_shown p s 1 view c) (not s.second) h).0
+
+pub third-is : (p : Params) (s : State) (view : ℕ) (c : Certificate) → may_third p s view c ≡ true → IsShown p s 2 view c
+third-is p s view c h = shown-is p s 2 view c (and-true (is_shown p s 2 view c) (not s.third) h).0
+
+-- ---- what a statement tells
+
+pub behind : (p : Params) (k l : ℕ) (xs ys : List ℕ) → statement_head p 4 ++ k ∷ xs ≡ statement_head p 4 ++ l ∷ ys → k ∷ xs ≡ l ∷ ys
+behind p k l xs ys h = (head-same p.setup.tag p.setup.tag p.epoch.0 p.leader.0 4 p.epoch.0 p.leader.0 4 (k ∷ xs) (l ∷ ys) refl h).behind
+
+pub record SameVote (phase view : ℕ) (d : List ℕ) (q v : ℕ) (e : List ℕ) : Type 0 where
+  pub phase_is : phase ≡ q
+  pub view_is : view ≡ v
+  pub digest_is : d ≡ e
+
+pub vote-same : (p : Params) (phase view : ℕ) (d : List ℕ) (q v : ℕ) (e : List ℕ) → vote_statement basic p phase view d ≡ vote_statement basic p q v e → SameVote phase view d q v e
+vote-same p phase view d q v e h =
+    let a = behind p 6 6 (phase ∷ four_bytes view ++ d) (q ∷ four_bytes v ++ e) h in
+    let phases : phase ≡ q = cc in
+    let rest : four_bytes view ++ d ≡ four_bytes v ++ e = cc in
+    let b = wide-same 3 view v d e rest in
+    record { phase_is = phases; view_is = b.0; digest_is = b.1 }
+
+-- a message whose own statement is a vote's is that vote
+pub record IsVote (msg : Message) (phase view : ℕ) (d : List ℕ) : Type 0 where
+  pub sig : List ℕ
+  pub is : msg ≡ Vote phase view d sig
+
+pub own-vote : (p : Params) (msg : Message) (phase view : ℕ) (d : List ℕ) → own_statement basic p msg ≡ vote_statement basic p phase view d → IsVote msg phase view d
+own-vote p (NewView round high sig) phase view d h = let k = behind p 1 6 _ _ h in absurd cc
+own-vote p (Prepare v what just sig) phase view d h = let k = behind p 2 6 _ _ h in absurd cc
+own-vote p (PreCommit v shown sig) phase view d h = let k = behind p 3 6 _ _ h in absurd cc
+own-vote p (Commit v shown sig) phase view d h = let k = behind p 4 6 _ _ h in absurd cc
+own-vote p (Decide v shown sig) phase view d h = let k = behind p 5 6 _ _ h in absurd cc
+own-vote p (Vote q v e sig) phase view d h =
+    let s = vote-same p q v e phase view d h in
+    let x = s.phase_is in
+    let y = s.view_is in
+    let z = s.digest_is in
+    record { sig = sig; is = cc }
+
+-- one whose own statement is a proposal's is a proposal of that view and node
+pub record IsProposal (p : Params) (msg : Message) (view : ℕ) (d : List ℕ) : Type 0 where
+  pub what : What
+  pub just : Certificate
+  pub sig : List ℕ
+  pub is : msg ≡ Prepare view what just sig
+  pub digest_is : node_digest p view what just ≡ d
+
+pub own-proposal : (p : Params) (msg : Message) (view : ℕ) (d : List ℕ) → own_statement basic p msg ≡ statement_head p 4 ++ (2 ∷ (four_bytes view ++ d)) → IsProposal p msg view d
+own-proposal p (NewView round high sig) view d h = let k = behind p 1 2 _ _ h in absurd cc
+own-proposal p (PreCommit v shown sig) view d h = let k = behind p 3 2 _ _ h in absurd cc
+own-proposal p (Commit v shown sig) view d h = let k = behind p 4 2 _ _ h in absurd cc
+own-proposal p (Decide v shown sig) view d h = let k = behind p 5 2 _ _ h in absurd cc
+own-proposal p (Vote q v e sig) view d h = let k = behind p 6 2 _ _ h in absurd cc
+own-proposal p (Prepare v what just sig) view d h =
+    let k = behind p 2 2 (four_bytes v ++ node_digest p v what just) (four_bytes view ++ d) h in
+    let rest : four_bytes v ++ node_digest p v what just ≡ four_bytes view ++ d = cc in
+    let b = wide-same 3 v view (node_digest p v what just) d rest in
+    subst (λ (z : ℕ). IsProposal p (Prepare v what just sig) z d) b.0 (record { what = what; just = just; sig = sig; is = refl; digest_is = b.1 })

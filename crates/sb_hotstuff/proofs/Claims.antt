@@ -1,0 +1,289 @@
+-- What a node shows of others' votes, it heard: each claim in a certificate that it sends stood in a message that it took.
+use Rattle.std.proofs.Common.{◌≡◌, ℕ, zero, suc, ◌+◌, ◌*◌, ◌==◌, ◌&&◌, Bool, true, false, if◌then◌else◌, List, [], ◌∷◌, ◌++◌, length, Option, Some, None, refl, sym, ap, ◌∙◌, subst, inl, inr}
+use Rattle.std.specs.Prelude.{nat_lt}
+use Rattle.iss_base.specs.Lists.{In, nth}
+use Rattle.iss_base.proofs.Lists.{and-true, in_append, in_left, in_right, same_bytes-is}
+use Rattle.iss_base.specs.Lists.{same_bytes}
+use Rattle.iss_request.specs.declared.requests.Batch.{Batch}
+use Rattle.iss_sb.specs.declared.effects.Claim.{Claim}
+use Rattle.iss_sb.specs.declared.effects.Input.{Input}
+use Rattle.iss_sb.specs.declared.effects.Input.TheVariants.{Cast, Receive, Timeout}
+use Rattle.iss_sb.specs.declared.effects.Params.{Params}
+use Rattle.iss_sb.specs.declared.effects.To.{To}
+use Rattle.iss_sb.specs.Evidence.{Item, one_or_none}
+use Rattle.iss_sb.specs.Statements.{signature}
+use Rattle.iss_sb.proofs.Claims.{IsOld, PassesOn, Says, before, now}
+use Rattle.hs_tree.specs.declared.certificates.Certificate.{Certificate}
+use Rattle.hs_tree.specs.declared.certificates.Certificate.TheVariants.{Root, Votes}
+use Rattle.hs_tree.specs.declared.certificates.Signed.{Signed}
+use Rattle.hs_tree.specs.declared.messages.Message.{Message}
+use Rattle.hs_tree.specs.declared.messages.Message.TheVariants.{NewView, Prepare, PreCommit, Commit, Decide, Vote}
+use Rattle.raft_wire.specs.declared.entries.What.TheVariants.{Nil}
+use Rattle.hs_tree.specs.Certificates.{digest_of, view_of}
+use Rattle.hs_tree.specs.Statements.{certificate_claims, claim, inside, own_statement, signature_of, vote_claims, vote_statement, with_signature}
+use Rattle.hs_tree.specs.Tree.{basic, is_known}
+use Rattle.sb_hotstuff.specs.HotStuff.{answers, answers_heard, drafts, hotstuff, proposals, shows, sign_all, state, voted}
+use Rattle.sb_hotstuff.specs.Rules.{Kept, News, State, Turn, all_news, best, cast_turn, certificate, first_turn, heard, is_for, is_reached, is_ready, keeps_news, keeps_vote, kept, may_cast, may_end, may_prepare, may_second, may_third, news_of, next_turn, nil_or_mark, node_digest, proposed, round_of, slots_below, turn, turn_after, turn_on, vote_of, votes_of, with_cast, with_news, with_node, with_round, with_turn, with_vote}
+use Rattle.sb_hotstuff.proofs.Basics.{by-if, is-same}
+
+-- G k s: that node k signed the statement was heard
+module _ (p : Params) (G : ℕ → List ℕ → Type 0) where
+  abbrev AllSaid : List ℕ → List Signed → Type 0
+  AllSaid s [] = Unit {0}
+  AllSaid s (v ∷ vs) = G v.by.0 s × AllSaid s vs
+
+  abbrev Said : Certificate → Type 0
+  Said Root = Unit {0}
+  Said (Votes view phase d votes) = AllSaid (vote_statement basic p phase view d) votes
+
+  abbrev VotesSaid : List Kept → Type 0
+  VotesSaid [] = Unit {0}
+  VotesSaid (v ∷ vs) = G v.by (vote_statement basic p v.phase v.view v.digest) × VotesSaid vs
+
+  abbrev NewsSaid : List News → Type 0
+  NewsSaid [] = Unit {0}
+  NewsSaid (n ∷ ns) = Said n.high × NewsSaid ns
+
+  abbrev TurnSaid : Option Turn → Type 0
+  TurnSaid None = Unit {0}
+  TurnSaid (Some t) = Said t.just
+
+  record IsSaid (s : State) : Type 0 where
+    high : Said s.high
+    votes : VotesSaid s.votes
+    news : NewsSaid s.news
+
+  -- ---- from claims, and to claims
+
+  abbrev Comes : ℕ → Message → Type 0
+  Comes from msg = (k : ℕ) (s : List ℕ) → Says hotstuff p from msg k s → G k s
+
+  all-said : (s : List ℕ) (vs : List Signed) → ((c : Claim) → In c (vote_claims s vs) → G c.by.0 c.statement) → AllSaid s vs
+  all-said s [] h = tt
+  all-said s (v ∷ vs) h = (h (claim v.by.0 s v.sig) (inl refl), all-said s vs (λ c k. h c (inr k)))
+
+  said-by : (x : Certificate) → ((c : Claim) → In c (certificate_claims basic p x) → G c.by.0 c.statement) → Said x
+  said-by Root h = tt
+  said-by (Votes view phase d votes) h = all-said (vote_statement basic p phase view d) votes h
+
+  claims-said : (s : List ℕ) (vs : List Signed) → AllSaid s vs → (c : Claim) → In c (vote_claims s vs) → G c.by.0 c.statement
+  claims-said s [] h c k = absurd k
+  claims-said s (v ∷ vs) h c (inl e) = subst (λ (z : Claim). G z.by.0 z.statement) (sym e) h.0
+  claims-said s (v ∷ vs) h c (inr k) = claims-said s vs h.1 c k
+
+  said-claims : (x : Certificate) → Said x → (c : Claim) → In c (certificate_claims basic p x) → G c.by.0 c.statement
+  said-claims Root h c k = absurd k
+  said-claims (Votes view phase d votes) h c k = claims-said (vote_statement basic p phase view d) votes h c k
+
+  came-said : (from : ℕ) (msg : Message) → Comes from msg → Said (inside msg)
+  came-said from msg h = said-by (inside msg) (λ c k. h c.by.0 c.statement (record { claim = c; stands = in_left c (certificate_claims basic p (inside msg)) _ k; named = refl; is = refl }))
+
+  came-own : (from : ℕ) (msg : Message) → Comes from msg → G from (own_statement basic p msg)
+  came-own from msg h =
+      let c = claim from (own_statement basic p msg) (signature_of msg) in
+      h from (own_statement basic p msg) (record { claim = c; stands = in_right c (certificate_claims basic p (inside msg)) (c ∷ []) (inl refl); named = refl; is = refl })
+
+  -- ---- certificates of kept votes, and of kept words
+
+  for-said : (phase view : ℕ) (d : List ℕ) (k : ℕ) (v : Kept) → is_for phase view d k v ≡ true → G v.by (vote_statement basic p v.phase v.view v.digest) → G k (vote_statement basic p phase view d)
+  for-said phase view d k v h g =
+      let a = and-true ((v.by == k) && (v.phase == phase)) ((v.view == view) && same_bytes v.digest d) h in
+      let b = and-true (v.by == k) (v.phase == phase) a.0 in
+      let c = and-true (v.view == view) (same_bytes v.digest d) a.1 in
+      subst (λ (z : ℕ). G z (vote_statement basic p phase view d)) (is-same v.by k b.0)
+      (subst (λ (z : List ℕ). G v.by (vote_statement basic p phase view z)) (same_bytes-is v.digest d c.1)
+      (subst (λ (z : ℕ). G v.by (vote_statement basic p phase z v.digest)) (is-same v.view view c.0)
+      (subst (λ (z : ℕ). G v.by (vote_statement basic p z v.view v.digest)) (is-same v.phase phase b.1) g)))
+
+  one-said : (vs : List Kept) (phase view : ℕ) (d : List ℕ) (k : ℕ) → VotesSaid vs → AllSaid (vote_statement basic p phase view d) (one_or_none (vote_of vs phase view d k))
+  one-said [] phase view d k h = tt
+  one-said (v ∷ vs) phase view d k h = go (is_for phase view d k v) refl (one-said vs phase view d k h.1)
+    where
+      go : (b : Bool) → is_for phase view d k v ≡ b → AllSaid (vote_statement basic p phase view d) (one_or_none (vote_of vs phase view d k)) →
+          AllSaid (vote_statement basic p phase view d) (one_or_none (if b then Some (record { by = record { 0 = k }; sig = v.sig }) else vote_of vs phase view d k))
+      go true q more = (for-said phase view d k v q h.0, tt)
+      go false q more = more
+
+  said-append : (s : List ℕ) (xs ys : List Signed) → AllSaid s xs → AllSaid s ys → AllSaid s (xs ++ ys)
+  said-append s [] ys h g = g
+  said-append s (x ∷ xs) ys h g = (h.0, said-append s xs ys h.1 g)
+
+  votes-said : (n : ℕ) (vs : List Kept) (phase view : ℕ) (d : List ℕ) → VotesSaid vs → AllSaid (vote_statement basic p phase view d) (votes_of n vs phase view d)
+  votes-said zero vs phase view d h = tt
+  votes-said (suc k) vs phase view d h = said-append _ (votes_of k vs phase view d) _ (votes-said k vs phase view d h) (one-said vs phase view d k h)
+
+  certificate-said : (s : State) (phase view : ℕ) (d : List ℕ) → VotesSaid s.votes → Said (certificate p s phase view d)
+  certificate-said s phase view d h = votes-said p.setup.n s.votes phase view d h
+
+  abbrev EachSaid : List Certificate → Type 0
+  EachSaid [] = Unit {0}
+  EachSaid (c ∷ cs) = Said c × EachSaid cs
+
+  word-said : (ns : List News) (round k : ℕ) → NewsSaid ns → EachSaid (one_or_none (news_of ns round k))
+  word-said [] round k h = tt
+  word-said (n ∷ ns) round k h = by-if (λ (o : Option Certificate). EachSaid (one_or_none o)) ((n.by == k) && (n.round == round)) (Some n.high) (news_of ns round k) (h.0, tt) (word-said ns round k h.1)
+
+  each-append : (xs ys : List Certificate) → EachSaid xs → EachSaid ys → EachSaid (xs ++ ys)
+  each-append [] ys h g = g
+  each-append (x ∷ xs) ys h g = (h.0, each-append xs ys h.1 g)
+
+  news-said : (n : ℕ) (ns : List News) (round : ℕ) → NewsSaid ns → EachSaid (all_news n ns round)
+  news-said zero ns round h = tt
+  news-said (suc k) ns round h = each-append (all_news k ns round) _ (news-said k ns round h) (word-said ns round k h)
+
+  best-said : (c : Certificate) (cs : List Certificate) → Said c → EachSaid cs → Said (best c cs)
+  best-said c [] h g = h
+  best-said c (d ∷ ds) h g = by-if Said (nat_lt (view_of c) (view_of d)) (best d ds) (best c ds) (best-said d ds g.0 g.1) (best-said c ds h g.1)
+
+  -- ---- turns
+
+  cast-said : (view : ℕ) (just : Certificate) (slots : ℕ) (o : Option Batch) → Said just → TurnSaid (cast_turn p view just slots o)
+  cast-said view just slots None h = tt
+  cast-said view just slots (Some b) h = h
+
+  next-said : (s : State) (ts : List Turn) → IsSaid s → TurnSaid (next_turn p s ts)
+  next-said s [] h = by-if TurnSaid (round_of s.view == 0) (cast_turn p 1 Root 0 (nth s.casts 0)) None (cast-said 1 Root 0 (nth s.casts 0) tt) tt
+  next-said s (t ∷ ts) h =
+      let c = certificate-said s 1 t.view t.digest h.votes in
+      by-if TurnSaid (is_ready p s t) (turn_after p s t) None
+      (by-if TurnSaid (round_of t.view == 0) _ _ (cast-said (suc t.view) (certificate p s 1 t.view t.digest) t.slots (nth s.casts t.view) c)
+      (by-if TurnSaid (nat_lt t.slots (length p.slots)) (Some (turn p (suc t.view) (certificate p s 1 t.view t.digest) Nil t.slots)) None c tt)) tt
+
+  first-said : (s : State) (round : ℕ) → IsSaid s → TurnSaid (first_turn p s round)
+  first-said s round h =
+      let cs = all_news p.setup.n s.news round in
+      let high = best Root cs in
+      by-if TurnSaid _ (turn_on p s round high) None
+      (by-if TurnSaid (is_known s.tree (digest_of high)) (Some (turn p (round * 65536 + 1) high (nil_or_mark p (slots_below s high)) (slots_below s high))) None
+      (best-said Root cs tt (news-said p.setup.n s.news round h.news)) tt) tt
+
+  -- ---- the state
+
+  heard-said : (me : ℕ) (s : State) (from : ℕ) (msg : Message) → Comes from msg → IsSaid s → IsSaid (heard p me s from msg)
+  heard-said me s from (NewView round high sig) m h = by-if IsSaid (keeps_news p me s from round high) (with_news s from round high) s
+      (record { high = h.high; votes = h.votes; news = (came-said from (NewView round high sig) m, h.news) }) h
+  heard-said me s from (Prepare view what just sig) m h = by-if IsSaid (may_prepare p s from view what just) (with_node p s view what just) s (record { high = h.high; votes = h.votes; news = h.news }) h
+  heard-said me s from (PreCommit view shown sig) m h = by-if IsSaid (may_second p s view shown) (record s { high = shown; second = true }) s
+      (record { high = came-said from (PreCommit view shown sig) m; votes = h.votes; news = h.news }) h
+  heard-said me s from (Commit view shown sig) m h = by-if IsSaid (may_third p s view shown) (record s { lock = shown; third = true }) s (record { high = h.high; votes = h.votes; news = h.news }) h
+  heard-said me s from (Decide view shown sig) m h = h
+  heard-said me s from (Vote phase view d sig) m h = by-if IsSaid (keeps_vote p s from phase view d) (with_vote s from phase view d sig) s
+      (record { high = h.high; votes = (came-own from (Vote phase view d sig) m, h.votes); news = h.news }) h
+
+  abbrev ComesIn : Input Message → Type 0
+  ComesIn (Cast slot batch) = Unit {0}
+  ComesIn (Receive from msg) = Comes from.0 msg
+  ComesIn Timeout = Unit {0}
+
+  kept-said : (me : ℕ) (s : State) (i : Input Message) → ComesIn i → IsSaid s → IsSaid (kept p me s i)
+  kept-said me s (Cast slot batch) m h = by-if IsSaid (may_cast p me s slot.0) (with_cast s batch) s (record { high = h.high; votes = h.votes; news = h.news }) h
+  kept-said me s (Receive from msg) m h = heard-said me s from.0 msg m h
+  kept-said me s Timeout m h = by-if IsSaid (may_end s) (with_round s) s (record { high = h.high; votes = h.votes; news = h.news }) h
+
+  turn-said : (s : State) (o : Option Turn) → IsSaid s → IsSaid (with_turn s o)
+  turn-said s None h = h
+  turn-said s (Some t) h = record { high = h.high; votes = h.votes; news = h.news }
+
+  state-said : (me : ℕ) (xs : List (Item Message)) → ((x : Item Message) → In x xs → ComesIn x.input) → IsSaid (state p me xs)
+  state-said me [] m = record { high = tt; votes = tt; news = tt }
+  state-said me (x ∷ xs) m =
+      let k = kept-said me (state p me xs) x.input (m x (inl refl)) (state-said me xs (λ y q. m y (inr q))) in
+      turn-said (kept p me (state p me xs) x.input) (proposed p me (state p me xs) (kept p me (state p me xs) x.input) x.input) k
+
+  -- ---- what is sent
+
+  abbrev SendsSaid : List (To × Message) → Type 0
+  SendsSaid [] = Unit {0}
+  SendsSaid (x ∷ xs) = Said (inside x.1) × SendsSaid xs
+
+  sends-append : (xs ys : List (To × Message)) → SendsSaid xs → SendsSaid ys → SendsSaid (xs ++ ys)
+  sends-append [] ys h g = g
+  sends-append (x ∷ xs) ys h g = (h.0, sends-append xs ys h.1 g)
+
+  proposal-said : (o : Option Turn) → TurnSaid o → SendsSaid (proposals o)
+  proposal-said None h = tt
+  proposal-said (Some t) h = (h, tt)
+
+  shows-said : (phase view : ℕ) (c : Certificate) → Said c → Said (inside (shows phase view c))
+  shows-said phase view c h = by-if (λ (m : Message). Said (inside m)) (phase == 1) _ _ h (by-if (λ (m : Message). Said (inside m)) (phase == 2) _ _ h h)
+
+  answer-said : (s k : State) (from : ℕ) (msg : Message) → IsSaid k → SendsSaid (answers_heard p s k from msg)
+  answer-said s k from (NewView round high sig) h = tt
+  answer-said s k from (Prepare view what just sig) h = by-if SendsSaid (may_prepare p s from view what just) (voted p 1 view (node_digest p view what just)) [] (tt, tt) tt
+  answer-said s k from (PreCommit view shown sig) h = by-if SendsSaid (may_second p s view shown) (voted p 2 view (digest_of shown)) [] (tt, tt) tt
+  answer-said s k from (Commit view shown sig) h = by-if SendsSaid (may_third p s view shown) (voted p 3 view (digest_of shown)) [] (tt, tt) tt
+  answer-said s k from (Decide view shown sig) h = tt
+  answer-said s k from (Vote phase view d sig) h = by-if SendsSaid (keeps_vote p s from phase view d && is_reached p k phase view d) _ [] (shows-said phase view (certificate p k phase view d) (certificate-said k phase view d h.votes), tt) tt
+
+  answers-said : (s k : State) (i : Input Message) → IsSaid s → IsSaid k → SendsSaid (answers p s k i)
+  answers-said s k (Cast slot batch) h g = tt
+  answers-said s k (Receive from msg) h g = answer-said s k from.0 msg g
+  answers-said s k Timeout h g = by-if SendsSaid (may_end s) _ [] (h.high, tt) tt
+
+  proposed-said : (me : ℕ) (s k : State) (i : Input Message) → IsSaid k → TurnSaid (proposed p me s k i)
+  proposed-said me s k (Cast slot batch) h = by-if TurnSaid (may_cast p me s slot.0) (next_turn p k k.turns) None (next-said k k.turns h) tt
+  proposed-said me s k (Receive from (NewView round high sig)) h = by-if TurnSaid (keeps_news p me s from.0 round high) (first_turn p k round) None (first-said k round h) tt
+  proposed-said me s k (Receive from (Prepare view what just sig)) h = tt
+  proposed-said me s k (Receive from (PreCommit view shown sig)) h = tt
+  proposed-said me s k (Receive from (Commit view shown sig)) h = tt
+  proposed-said me s k (Receive from (Decide view shown sig)) h = tt
+  proposed-said me s k (Receive from (Vote phase view d sig)) h = by-if TurnSaid _ (next_turn p k k.turns) None (next-said k k.turns h) tt
+  proposed-said me s k Timeout h = tt
+
+  drafts-said : (me : ℕ) (s : State) (i : Input Message) → ComesIn i → IsSaid s → SendsSaid (drafts p me s i)
+  drafts-said me s i m h =
+      let k = kept p me s i in
+      let g = kept-said me s i m h in
+      sends-append (answers p s k i) (proposals (proposed p me s k i)) (answers-said s k i h g) (proposal-said (proposed p me s k i) (proposed-said me s k i g))
+
+  inside-same : (sig : List ℕ) (msg : Message) → inside (with_signature sig msg) ≡ inside msg
+  inside-same sig (NewView round high old) = refl
+  inside-same sig (Prepare view what just old) = refl
+  inside-same sig (PreCommit view shown old) = refl
+  inside-same sig (Commit view shown old) = refl
+  inside-same sig (Decide view shown old) = refl
+  inside-same sig (Vote phase view d old) = refl
+
+  sent-said : (me leaf : ℕ) (ds : List (To × Message)) → SendsSaid ds → (to : To) (msg : Message) → In {A = To × Message} (to, msg) (sign_all p me leaf ds) → Said (inside msg)
+  sent-said me leaf [] h to msg k = absurd k
+  sent-said me leaf (x ∷ ds) h to msg (inl e) =
+      let same : inside msg ≡ inside x.1 = ap (λ (z : To × Message). inside z.1) e ∙ inside-same (signature p me leaf (own_statement basic p x.1)) x.1 in
+      subst Said (sym same) h.0
+  sent-said me leaf (x ∷ ds) h to msg (inr k) = sent-said me (suc leaf) ds h.1 to msg k
+
+-- ---- what a message states of its own
+
+abbrev pub States : Params → ℕ → Message → List ℕ → Type 0
+States p i msg statement = own_statement basic p msg ≡ statement
+
+module _ (p : Params) where
+  abbrev Old : ℕ → List (Item Message) → Input Message → ℕ → List ℕ → Type 0
+  Old me xs input k s = IsOld hotstuff p me xs input k s
+
+  comes-now : (me : ℕ) (xs : List (Item Message)) (i : Input Message) → ComesIn p (Old me xs i) i
+  comes-now me xs (Cast slot batch) = tt
+  comes-now me xs (Receive from msg) = λ k s h. now from msg refl h
+  comes-now me xs Timeout = tt
+
+  comes-before : (me : ℕ) (xs : List (Item Message)) (i : Input Message) (x : Item Message) → In x xs → ComesIn p (Old me xs i) x.input
+  comes-before me xs i x q = go x.input refl
+    where
+      go : (y : Input Message) → x.input ≡ y → ComesIn p (Old me xs i) y
+      go (Cast slot batch) e = tt
+      go (Receive from msg) e = λ k s h. before x q from msg e h
+      go Timeout e = tt
+
+  pub passes-on : PassesOn hotstuff p (States p)
+  passes-on w legal me input leaf correct may to msg statement sent said =
+      let G : ℕ → List ℕ → Type 0 = Old me (w me) input in
+      let s = state p me (w me) in
+      let ds = drafts-said p G me s input (comes-now me (w me) input) (state-said p G me (w me) (λ x q. comes-before me (w me) input x q)) in
+      let shown = sent-said p G me leaf (drafts p me s input) ds to msg sent in
+      elim (in_append said.claim (certificate_claims basic p (inside msg)) (claim me (own_statement basic p msg) (signature_of msg) ∷ []) said.stands) [
+        | inl a ↦ inr (subst (λ (z : List ℕ). G me z) said.is (subst (λ (z : ℕ). G z said.claim.statement) said.named (said-claims p G (inside msg) shown said.claim a)))
+        | inr a ↦ inl (own a)
+      ]
+    where
+      own : In said.claim (claim me (own_statement basic p msg) (signature_of msg) ∷ []) → own_statement basic p msg ≡ statement
+      own (inl e) = sym (ap (λ (z : Claim). z.statement) e) ∙ said.is
+      own (inr none) = absurd none

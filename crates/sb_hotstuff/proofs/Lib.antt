@@ -1,0 +1,12 @@
+mod Basics
+mod Causes
+mod Claims
+mod Core
+mod Example
+mod Lawful
+mod Leader
+mod Locks
+mod Reached
+mod Readable
+mod Safe
+mod Single

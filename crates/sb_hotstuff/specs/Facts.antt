@@ -1,0 +1,115 @@
+-- What holds of a world of HotStuff that moves lead to: the facts that agreement stands on, in their order.
+use Rattle.std.specs.Prelude.{◌≡◌, ◌≢◌, ◌<◌, ◌≤◌, ◌⊎◌, ℕ, Bool, true, List, ◌∷◌, Some}
+use Rattle.iss_base.specs.Lists.{In}
+use Rattle.iss_base.specs.Quorum.{count_below}
+use Rattle.iss_request.specs.declared.ids.Slot.{Slot}
+use Rattle.iss_request.specs.declared.requests.Batch.{Batch}
+use Rattle.iss_request.specs.declared.requests.Value.{Value}
+use Rattle.iss_request.specs.declared.requests.Value.TheVariants.{Batch as Value_batch}
+use Rattle.iss_sb.specs.declared.effects.Params.{Params}
+use Rattle.iss_sb.specs.declared.effects.To.{To}
+use Rattle.iss_sb.specs.Evidence.{Item, IsString, World, accepts, delivered, is_correct}
+use Rattle.iss_sb.specs.Laws.{SharedAcceptor}
+use Rattle.iss_sb.specs.Legal.{Front}
+use Rattle.raft_wire.specs.declared.entries.What.{What}
+use Rattle.raft_wire.specs.declared.entries.What.TheVariants.{Holds}
+use Rattle.hs_tree.specs.declared.messages.Message.{Message}
+use Rattle.hs_tree.specs.declared.messages.Message.TheVariants.{Vote}
+use Rattle.hs_tree.specs.Paths.{Has, Path, hash}
+use Rattle.sb_hotstuff.specs.HotStuff.{hotstuff}
+
+-- ---- votes
+
+-- a vote was sent at this input
+pub record VotedIn (x : Item Message) (phase view : ℕ) (d : List ℕ) : Type 0 where
+  pub to : To
+  pub sig : List ℕ
+  pub sent : In {A = To × Message} (to, Vote phase view d sig) x.made.sends
+
+-- node i sent the vote
+pub record IsVoted (w : World Message) (i phase view : ℕ) (d : List ℕ) : Type 0 where
+  pub item : Item Message
+  pub taken : In item (w i)
+  pub vote : VotedIn item phase view d
+
+-- at an input a node votes once; later votes are of views that never fall, and of one view of other phases
+pub record VoteOnce (w : World Message) : Type 0 where
+  pub one : (i : ℕ) (x : Item Message) (phase view q v : ℕ) (d e : List ℕ) → In x (w i) → VotedIn x phase view d → VotedIn x q v e →
+      (phase ≡ q) × (view ≡ v) × (d ≡ e)
+  pub rising : (i : ℕ) (x y : Item Message) (before : List (Item Message)) (phase view q v : ℕ) (d e : List ℕ) → Front (x ∷ before) (w i) → In y before →
+      VotedIn x phase view d → VotedIn y q v e → (v < view) ⊎ ((v ≡ view) × (q ≢ phase))
+
+-- a good certificate stands for this: of a quorum's nodes each correct one sent the vote
+pub record IsCertified (p : Params) (w : World Message) (phase view : ℕ) (d : List ℕ) : Type 0 where
+  pub test : ℕ → Bool
+  pub many : p.setup.quorum ≤ count_below test p.setup.n
+  pub each : (k : ℕ) → test k ≡ true → is_correct p.setup k ≡ true → IsVoted w k phase view d
+
+-- votes of the second and the third phase rest on a good certificate of the phase before
+pub record AreRested (p : Params) (w : World Message) : Type 0 where
+  pub second : (i view : ℕ) (d : List ℕ) → IsVoted w i 2 view d → IsCertified p w 1 view d
+  pub third : (i view : ℕ) (d : List ℕ) → IsVoted w i 3 view d → IsCertified p w 2 view d
+
+-- ---- branches whose strings were hashed
+
+abbrev pub Leads : Params → World Message → List ℕ → List ℕ → List What → Type 0
+Leads p w d e cs = Path p.setup.version (IsString w) d e cs
+
+-- the node stands on one that has a certificate of the first phase in a view between these
+pub record StandsAbove (p : Params) (w : World Message) (low high : ℕ) (e : List ℕ) : Type 0 where
+  pub view : ℕ
+  pub parent : List ℕ
+  pub what : What
+  pub above : low < view
+  pub below : view < high
+  pub has : Has p.setup.version (IsString w) parent what
+  pub is : hash p.setup.version parent what ≡ e
+  pub certified : IsCertified p w 1 view parent
+
+-- the node e of a first vote in view v, after a third one in view u: there is a lock in view u or above, and the node extends the
+-- lock's, or stands on a certificate above it
+pub record IsSafeVote (p : Params) (w : World Message) (u v : ℕ) (e : List ℕ) : Type 0 where
+  pub view : ℕ
+  pub node : List ℕ
+  pub high : u ≤ view
+  pub low : view < v
+  pub lock : IsCertified p w 2 view node
+  pub safe : ((cs : List What) × Leads p w e node cs) ⊎ StandsAbove p w view v e
+
+abbrev pub AreSafeVotes : Params → World Message → Type 0
+AreSafeVotes p w = (i u v : ℕ) (d e : List ℕ) → IsVoted w i 3 u d → IsVoted w i 1 v e → u < v → IsSafeVote p w u v e
+
+-- ---- what certificates tell
+
+-- two certificates of the first phase in one view are of one node
+abbrev pub HaveOneNode : Params → World Message → Type 0
+HaveOneNode p w = (view : ℕ) (d e : List ℕ) → IsCertified p w 1 view d → IsCertified p w 1 view e → d ≡ e
+
+-- the node of a first phase's certificate, at or above the view of one of the third phase, extends that one's node
+abbrev pub AreExtending : Params → World Message → Type 0
+AreExtending p w = (u v : ℕ) (d e : List ℕ) → u ≤ v → IsCertified p w 3 u d → IsCertified p w 1 v e → (cs : List What) × Leads p w e d cs
+
+-- a delivered batch has a quorum of first votes for its node, and each correct node among them accepted it at the slot
+pub record IsBacked (p : Params) (w : World Message) (s : Slot) (b : Batch) : Type 0 where
+  pub view : ℕ
+  pub parent : List ℕ
+  pub has : Has p.setup.version (IsString w) parent (Holds b)
+  pub certified : IsCertified p w 1 view (hash p.setup.version parent (Holds b))
+  pub accepted : (k : ℕ) → certified.test k ≡ true → is_correct p.setup k ≡ true → In {A = Slot × Batch} (s, b) (accepts (w k))
+
+abbrev pub AreBacked : Params → World Message → Type 0
+AreBacked p w = (i : ℕ) (s : Slot) (b : Batch) → delivered hotstuff p i (w i) s.0 ≡ Some (Value_batch b) → IsBacked p w s b
+
+-- ---- what is delivered
+
+abbrev pub AreAgreed : Params → World Message → Type 0
+AreAgreed p w = (i j s : ℕ) (x y : Value) → delivered hotstuff p i (w i) s ≡ Some x → delivered hotstuff p j (w j) s ≡ Some y → x ≡ y
+
+abbrev pub HaveSharedAcceptor : Params → World Message → Type 0
+HaveSharedAcceptor p w = (i j : ℕ) (s t : Slot) (b c : Batch) →
+    delivered hotstuff p i (w i) s.0 ≡ Some (Value_batch b) → delivered hotstuff p j (w j) t.0 ≡ Some (Value_batch c) → SharedAcceptor p w s b t c
+
+-- where the segment's leader is correct, it accepted what is delivered
+abbrev pub AreFromLeader : Params → World Message → Type 0
+AreFromLeader p w = (i : ℕ) (s : Slot) (b : Batch) → is_correct p.setup p.leader.0 ≡ true →
+    delivered hotstuff p i (w i) s.0 ≡ Some (Value_batch b) → In {A = Slot × Batch} (s, b) (accepts (w p.leader.0))

@@ -1,0 +1,176 @@
+-- HotStuff as a module: its definitions over the list of what a node took.
+use Rattle.std.specs.Prelude.{ℕ, suc, ◌+◌, ◌*◌, ◌==◌, ◌&&◌, ◌||◌, Bool, true, false, List, [], ◌∷◌, ◌++◌, length, Option, Some, None, if◌then◌else◌}
+use Rattle.iss_base.specs.Lists.{first_of, nth, same_bytes}
+use Rattle.iss_request.specs.declared.ids.Slot.{Slot}
+use Rattle.iss_request.specs.declared.requests.Batch.{Batch}
+use Rattle.iss_request.specs.declared.requests.Request.{Request}
+use Rattle.iss_request.specs.declared.requests.Value.{Value}
+use Rattle.iss_sb.specs.declared.effects.Input.{Input}
+use Rattle.iss_sb.specs.declared.effects.Input.TheVariants.{Cast, Receive, Timeout}
+use Rattle.iss_sb.specs.declared.effects.Params.{Params}
+use Rattle.iss_sb.specs.declared.effects.To.{To}
+use Rattle.iss_sb.specs.declared.effects.To.TheVariants.{All as To_all, One as To_one}
+use Rattle.iss_sb.specs.Evidence.{Item, Made, Module, accepts}
+use Rattle.iss_sb.specs.Statements.{signature}
+use Rattle.raft_wire.specs.declared.entries.What.{What}
+use Rattle.raft_wire.specs.declared.entries.What.TheVariants.{Nil, Holds, Mark}
+use Rattle.hs_tree.specs.declared.certificates.Certificate.{Certificate}
+use Rattle.hs_tree.specs.declared.messages.Message.{Message}
+use Rattle.hs_tree.specs.declared.messages.Message.TheVariants.{NewView, Prepare, PreCommit, Commit, Decide, Vote}
+use Rattle.hs_tree.specs.Certificates.{digest_of}
+use Rattle.hs_tree.specs.Messages.{parse, spell}
+use Rattle.hs_tree.specs.Statements.{claims, node_string, own_statement, with_signature}
+use Rattle.hs_tree.specs.Tree.{basic, branch, is_known, strings_of, value_at_slot, value_of}
+use Rattle.sb_hotstuff.specs.Rules.{State, Turn, after, certificate, is_good, is_reached, keeps_vote, kept, leader_of, may_cast, may_end, may_prepare, may_second, may_third, node_digest, proposed, round_of, slots_below, start}
+
+-- the state of a node that took these inputs
+abbrev pub state : Params → ℕ → List (Item Message) → State
+state p me [] = start
+state p me (x ∷ xs) = after p me (state p me xs) x.input
+
+-- ---- what is accepted: a cast that is taken, and the batch of a proposal that is, where it was not accepted there already
+
+abbrev pub same_request : Request → Request → Bool
+same_request a b = ((a.id.client == b.id.client) && (a.id.number == b.id.number)) && (same_bytes a.payload b.payload && same_bytes a.sig b.sig)
+
+abbrev pub same_batch : List Request → List Request → Bool
+same_batch [] [] = true
+same_batch [] (y ∷ ys) = false
+same_batch (x ∷ xs) [] = false
+same_batch (x ∷ xs) (y ∷ ys) = same_request x y && same_batch xs ys
+
+abbrev pub was_accepted : ℕ → Batch → List (Slot × Batch) → Bool
+was_accepted s b [] = false
+was_accepted s b (a ∷ old) = ((a.0.0 == s) && same_batch a.1 b) || was_accepted s b old
+
+abbrev pub unless_accepted : List (Slot × Batch) → Batch → Option Slot → Option (Slot × Batch)
+unless_accepted old b None = None
+unless_accepted old b (Some s) = if was_accepted s.0 b old then None else Some (s, b)
+
+-- the batch stands at the slot behind those of the branch below it
+abbrev pub offered : Params → State → List (Slot × Batch) → What → Certificate → Option (Slot × Batch)
+offered p s old Nil just = None
+offered p s old (Holds b) just = unless_accepted old b (nth p.slots (slots_below s just))
+offered p s old Mark just = None
+
+abbrev pub asked_by : Params → State → List (Slot × Batch) → ℕ → Message → Option (Slot × Batch)
+asked_by p s old from (NewView round high sig) = None
+asked_by p s old from (Prepare view what just sig) = if may_prepare p s from view what just then offered p s old what just else None
+asked_by p s old from (PreCommit view shown sig) = None
+asked_by p s old from (Commit view shown sig) = None
+asked_by p s old from (Decide view shown sig) = None
+asked_by p s old from (Vote phase view d sig) = None
+
+abbrev pub asks : Params → ℕ → List (Item Message) → Input Message → Option (Slot × Batch)
+asks p me xs (Cast slot batch) = if may_cast p me (state p me xs) slot.0 then Some (slot, batch) else None
+asks p me xs (Receive from msg) = asked_by p (state p me xs) (accepts xs) from.0 msg
+asks p me xs Timeout = None
+
+-- ---- what is sent, not yet signed. Each answer before the proposal that the input leads to
+
+abbrev pub to_leader : Params → ℕ → To
+to_leader p round = To_one (record { 0 = leader_of p round })
+
+abbrev pub voted : Params → ℕ → ℕ → List ℕ → List (To × Message)
+voted p phase view d = (to_leader p (round_of view), Vote phase view d []) ∷ []
+
+-- a quorum of votes is shown to all
+abbrev pub shows : ℕ → ℕ → Certificate → Message
+shows phase view c = if phase == 1 then PreCommit view c [] else (if phase == 2 then Commit view c [] else Decide view c [])
+
+abbrev pub answers_heard : Params → State → State → ℕ → Message → List (To × Message)
+answers_heard p s k from (NewView round high sig) = []
+answers_heard p s k from (Prepare view what just sig) = if may_prepare p s from view what just then voted p 1 view (node_digest p view what just) else []
+answers_heard p s k from (PreCommit view shown sig) = if may_second p s view shown then voted p 2 view (digest_of shown) else []
+answers_heard p s k from (Commit view shown sig) = if may_third p s view shown then voted p 3 view (digest_of shown) else []
+answers_heard p s k from (Decide view shown sig) = []
+answers_heard p s k from (Vote phase view d sig) =
+    if keeps_vote p s from phase view d && is_reached p k phase view d then (To_all, shows phase view (certificate p k phase view d)) ∷ [] else []
+
+abbrev pub answers : Params → State → State → Input Message → List (To × Message)
+answers p s k (Cast slot batch) = []
+answers p s k (Receive from msg) = answers_heard p s k from.0 msg
+answers p s k Timeout = if may_end s then (to_leader p (suc (round_of s.view)), NewView (suc (round_of s.view)) s.high []) ∷ [] else []
+
+abbrev pub proposals : Option Turn → List (To × Message)
+proposals None = []
+proposals (Some t) = (To_all, Prepare t.view t.what t.just []) ∷ []
+
+abbrev pub drafts : Params → ℕ → State → Input Message → List (To × Message)
+drafts p me s i = answers p s (kept p me s i) i ++ proposals (proposed p me s (kept p me s i) i)
+
+-- each message takes the next leaf
+abbrev pub sign_all : Params → ℕ → ℕ → List (To × Message) → List (To × Message)
+sign_all p me leaf [] = []
+sign_all p me leaf (x ∷ xs) = (x.0, with_signature (signature p me leaf (own_statement basic p x.1)) x.1) ∷ sign_all p me (suc leaf) xs
+
+-- ---- what is hashed: of the node that is taken, and of the one that is proposed, the value's string and the node's
+
+abbrev pub strings_at : Params → ℕ → What → Certificate → List (List ℕ)
+strings_at p view what just = strings_of p.setup.version (value_of what) ++ node_string basic p view what just ∷ []
+
+abbrev pub taken_strings : Params → State → ℕ → Message → List (List ℕ)
+taken_strings p s from (NewView round high sig) = []
+taken_strings p s from (Prepare view what just sig) = if may_prepare p s from view what just then strings_at p view what just else []
+taken_strings p s from (PreCommit view shown sig) = []
+taken_strings p s from (Commit view shown sig) = []
+taken_strings p s from (Decide view shown sig) = []
+taken_strings p s from (Vote phase view d sig) = []
+
+abbrev pub taken_of : Params → State → Input Message → List (List ℕ)
+taken_of p s (Cast slot batch) = []
+taken_of p s (Receive from msg) = taken_strings p s from.0 msg
+taken_of p s Timeout = []
+
+abbrev pub turn_strings : Params → Option Turn → List (List ℕ)
+turn_strings p None = []
+turn_strings p (Some t) = strings_at p t.view t.what t.just
+
+abbrev pub strings : Params → ℕ → State → Input Message → List (List ℕ)
+strings p me s i = taken_of p s i ++ turn_strings p (proposed p me s (kept p me s i) i)
+
+abbrev pub makes : Params → ℕ → List (Item Message) → Input Message → ℕ → Made Message
+makes p me xs input leaf = record {
+  sends = sign_all p me leaf (drafts p me (state p me xs) input);
+  accepted = asks p me xs input;
+  strings = strings p me (state p me xs) input;
+  used = length (drafts p me (state p me xs) input);
+}
+
+-- ---- what is decided: the branch of a known node with a good certificate of the third phase
+
+abbrev pub decides_heard : Params → State → Message → ℕ → Option Value
+decides_heard p s (NewView round high sig) n = None
+decides_heard p s (Prepare view what just sig) n = None
+decides_heard p s (PreCommit view shown sig) n = None
+decides_heard p s (Commit view shown sig) n = None
+decides_heard p s (Decide view shown sig) n =
+    if is_good p 3 view shown && is_known s.tree (digest_of shown) then value_at_slot (branch s.tree (digest_of shown)) 0 p.slots n else None
+decides_heard p s (Vote phase view d sig) n = None
+
+abbrev pub decides : Params → State → Input Message → ℕ → Option Value
+decides p s (Cast slot batch) n = None
+decides p s (Receive from msg) n = decides_heard p s msg n
+decides p s Timeout n = None
+
+abbrev pub decided : Params → ℕ → List (Item Message) → ℕ → Option Value
+decided p me [] n = None
+decided p me (x ∷ xs) n = first_of (decided p me xs n) (decides p (state p me xs) x.input n)
+
+-- ---- the module
+
+-- f Byzantine nodes of 3f+1
+abbrev pub hotstuff : Module Message
+hotstuff = record {
+  nodes = λ f. 3 * f + 1;
+  quorum = λ f. 2 * f + 1;
+  stopping = false;
+  tag = basic.tag;
+  signs = λ p. 2;
+  spell = spell basic.phases;
+  parse = parse basic.phases;
+  claims = claims basic;
+  asks = asks;
+  makes = makes;
+  decided = decided;
+}

@@ -1,0 +1,16 @@
+//! HotStuff, an ordering module for f Byzantine nodes of 3f+1 over any number of rounds, as definitions and laws: a leader
+//! proposes nodes of a tree one after another, three phases of 2f+1 votes decide a node with its branch, and a node that
+//! voted in the third keeps a lock (Yin, Malkhi, Reiter, Golan Gueta and Abraham, "HotStuff: BFT Consensus with Linearity and
+//! Responsiveness"; ISS, "Sequenced Broadcast").
+#![tactic(auto)]
+
+pub mod facts;
+pub mod laws;
+
+pub use facts::{
+    a_quorum_accepted_what_is_delivered, batches_share_an_acceptor,
+    certified_nodes_extend_decided_ones, first_votes_respect_locks,
+    later_votes_rest_on_certificates, nodes_agree, the_leader_accepted_what_is_delivered,
+    views_have_one_node, votes_are_once_in_rising_views,
+};
+pub use laws::{hotstuff_has_a_grammar, hotstuff_is_lawful, hotstuff_is_safe};

@@ -1,0 +1,5 @@
+use Rattle.sb_pbft.proofs.Safe.{one-digest}
+use Rattle.sb_pbft.proofs.facts.certificates_of_a_view_agree.Goals as goal
+
+pub returns : goal.returns
+returns c = λ p w good reached. one-digest p good w reached

@@ -1,0 +1,5 @@
+use Rattle.sb_pbft.proofs.Safe.{quiet}
+use Rattle.sb_pbft.proofs.facts.nodes_commit_nothing_below.Goals as goal
+
+pub returns : goal.returns
+returns c = λ p w good reached. quiet p good w reached

@@ -1,0 +1,4 @@
+pub mod Rules
+pub mod Makes
+pub mod Pbft
+pub mod Facts

@@ -1,0 +1,215 @@
+-- What a node makes of its inputs, as functions of their list, the newest first: its view, its proposals, the votes
+-- and ViewChanges that it keeps.
+use Rattle.std.specs.Prelude.{ℕ, zero, suc, ◌+◌, ◌*◌, ◌==◌, ◌&&◌, ◌||◌, Bool, true, false, not, cond, nat_lt, nat_le, List, [], ◌∷◌, length, Option, Some, None}
+use Rattle.iss_base.specs.Lists.{first_of, same_bytes}
+use Rattle.iss_request.specs.declared.ids.Slot.{Slot}
+use Rattle.iss_request.specs.declared.requests.Batch.{Batch}
+use Rattle.iss_request.specs.declared.requests.Value.{Value}
+use Rattle.iss_request.specs.declared.requests.Value.TheVariants.{Nil, Batch as Holds}
+use Rattle.iss_sb.specs.declared.effects.Input.{Input}
+use Rattle.iss_sb.specs.declared.effects.Input.TheVariants.{Cast, Receive, Timeout}
+use Rattle.iss_sb.specs.declared.effects.Params.{Params}
+use Rattle.iss_sb.specs.Calls.{has_slot}
+use Rattle.pbft_wire.specs.declared.messages.Change.{Change}
+use Rattle.pbft_wire.specs.declared.messages.Vote.{Vote}
+use Rattle.pbft_wire.specs.declared.messages.Message.{Message}
+use Rattle.pbft_wire.specs.declared.messages.Message.TheVariants.{PrePrepare, Prepare, Commit, ViewChange, NewView}
+use Rattle.pbft_wire.specs.Statements.{digest_of}
+use Rattle.pbft_views.specs.Choice.{choice}
+use Rattle.pbft_views.specs.Good.{all_good, are_enough, primary}
+
+-- x, where the test passes
+abbrev pub when : {A : Type 0} → Bool → A → Option A
+when b x = cond b (Some x) None
+
+-- ---- the view
+
+pub record Mode : Type 0 where
+  pub view : ℕ
+  pub active : Bool
+
+-- a view above the own one, or the own one that is not active yet
+abbrev pub is_newer : Mode → ℕ → Bool
+is_newer m v = nat_lt m.view v || ((m.view == v) && not m.active)
+
+-- where a NewView is taken: of the primary of a newer view, with 2f+1 ViewChanges and a signature for each slot
+abbrev pub enters : Params → Mode → ℕ → ℕ → List Change → List (List ℕ) → Bool
+enters p m from v xs sigs = is_newer m v && (are_enough p v xs && ((from == primary p v) && (nat_lt 0 v && (length sigs == length p.slots))))
+
+-- where a Timeout is
+abbrev pub passes : Mode → Bool
+passes m = nat_lt m.view 65535
+
+abbrev pub mode_after : Params → Mode → Input Message → Mode
+mode_after p m (Cast slot batch) = m
+mode_after p m (Receive from (PrePrepare v slot x sig)) = m
+mode_after p m (Receive from (Prepare v slot d sig)) = m
+mode_after p m (Receive from (Commit v slot d sig)) = m
+mode_after p m (Receive from (ViewChange v cs sig)) = m
+mode_after p m (Receive from (NewView v xs sigs sig)) = cond (enters p m from.0 v xs sigs) (record { view = v; active = true }) m
+mode_after p m Timeout = cond (passes m) (record { view = m.view + 1; active = false }) m
+
+abbrev pub mode : Params → List (Input Message) → Mode
+mode p [] = record { view = 0; active = true }
+mode p (i ∷ l) = mode_after p (mode p l) i
+
+-- ---- proposals
+
+-- view 0, active, and a slot of the segment
+abbrev pub is_open : Params → Mode → ℕ → Bool
+is_open p m s = (m.view == 0) && (m.active && has_slot s p.slots)
+
+-- what an input proposes in view 0, but for that there may be a proposal already: the leader's cast, and its PrePrepare
+-- of a batch
+abbrev pub offer : Params → ℕ → Mode → Input Message → Option (Slot × Batch)
+offer p me m (Cast slot batch) = when ((me == p.leader.0) && is_open p m slot.0) (slot, batch)
+offer p me m (Receive from (PrePrepare v slot Nil sig)) = None
+offer p me m (Receive from (PrePrepare v slot (Holds b) sig)) =
+    when ((not (me == p.leader.0) && (from.0 == p.leader.0)) && ((v == 0) && is_open p m slot.0)) (slot, b)
+offer p me m (Receive from (Prepare v slot d sig)) = None
+offer p me m (Receive from (Commit v slot d sig)) = None
+offer p me m (Receive from (ViewChange v cs sig)) = None
+offer p me m (Receive from (NewView v xs sigs sig)) = None
+offer p me m Timeout = None
+
+-- the value that an offer gives to (v, s)
+abbrev pub offered : Option (Slot × Batch) → ℕ → ℕ → Option Value
+offered None v s = None
+offered (Some a) v s = when ((v == 0) && (s == a.0.0)) (Holds a.1)
+
+-- the value that an input gives to (v, s) as the choice of a new view
+abbrev pub chosen : Params → Mode → Input Message → ℕ → ℕ → Option Value
+chosen p m (Cast slot batch) v s = None
+chosen p m (Receive from (PrePrepare w slot x sig)) v s = None
+chosen p m (Receive from (Prepare w slot d sig)) v s = None
+chosen p m (Receive from (Commit w slot d sig)) v s = None
+chosen p m (Receive from (ViewChange w cs sig)) v s = None
+chosen p m (Receive from (NewView w xs sigs sig)) v s = when ((v == w) && (has_slot s p.slots && enters p m from.0 w xs sigs)) (choice xs s)
+chosen p m Timeout v s = None
+
+-- the node's own proposal at (v, s)
+abbrev pub proposal : Params → ℕ → List (Input Message) → ℕ → ℕ → Option Value
+proposal p me [] v s = None
+proposal p me (i ∷ l) v s = first_of (chosen p (mode p l) i v s) (first_of (proposal p me l v s) (offered (offer p me (mode p l) i) v s))
+
+-- what there is no proposal for yet
+abbrev pub unless : Option Value → Slot × Batch → Option (Slot × Batch)
+unless None a = Some a
+unless (Some x) a = None
+
+abbrev pub asked_of : Params → ℕ → List (Input Message) → Option (Slot × Batch) → Option (Slot × Batch)
+asked_of p me l None = None
+asked_of p me l (Some a) = unless (proposal p me l 0 a.0.0) a
+
+-- the batch that is accepted
+abbrev pub asked : Params → ℕ → List (Input Message) → Input Message → Option (Slot × Batch)
+asked p me l i = asked_of p me l (offer p me (mode p l) i)
+
+-- ---- votes
+
+-- the first Prepare and Commit of each node
+pub record Ballot : Type 0 where
+  pub digest : List ℕ
+  pub sig : List ℕ
+
+abbrev pub is_at : ℕ → ℕ → ℕ → ℕ → ℕ → ℕ → Bool
+is_at from w t v s k = (from == k) && ((v == w) && (s == t))
+
+abbrev pub prepare_in : Params → Input Message → ℕ → ℕ → ℕ → Option Ballot
+prepare_in p (Cast slot batch) v s k = None
+prepare_in p (Receive from (PrePrepare w slot x sig)) v s k = None
+prepare_in p (Receive from (Prepare w slot d sig)) v s k =
+    when (is_at from.0 w slot.0 v s k && (has_slot slot.0 p.slots && not (from.0 == primary p w))) (record { digest = d; sig = sig })
+prepare_in p (Receive from (Commit w slot d sig)) v s k = None
+prepare_in p (Receive from (ViewChange w cs sig)) v s k = None
+prepare_in p (Receive from (NewView w xs sigs sig)) v s k = None
+prepare_in p Timeout v s k = None
+
+abbrev pub prepare_of : Params → List (Input Message) → ℕ → ℕ → ℕ → Option Ballot
+prepare_of p [] v s k = None
+prepare_of p (i ∷ l) v s k = first_of (prepare_of p l v s k) (prepare_in p i v s k)
+
+abbrev pub commit_in : Params → Input Message → ℕ → ℕ → ℕ → Option Ballot
+commit_in p (Cast slot batch) v s k = None
+commit_in p (Receive from (PrePrepare w slot x sig)) v s k = None
+commit_in p (Receive from (Prepare w slot d sig)) v s k = None
+commit_in p (Receive from (Commit w slot d sig)) v s k = when (is_at from.0 w slot.0 v s k && has_slot slot.0 p.slots) (record { digest = d; sig = sig })
+commit_in p (Receive from (ViewChange w cs sig)) v s k = None
+commit_in p (Receive from (NewView w xs sigs sig)) v s k = None
+commit_in p Timeout v s k = None
+
+abbrev pub commit_of : Params → List (Input Message) → ℕ → ℕ → ℕ → Option Ballot
+commit_of p [] v s k = None
+commit_of p (i ∷ l) v s k = first_of (commit_of p l v s k) (commit_in p i v s k)
+
+-- the vote of node k put in front, if it is for the digest
+abbrev pub cons_vote : List ℕ → ℕ → Option Ballot → List Vote → List Vote
+cons_vote d k None xs = xs
+cons_vote d k (Some b) xs = cond (same_bytes d b.digest) (record { node = record { 0 = k }; sig = b.sig } ∷ xs) xs
+
+-- of the m nodes from k on those that voted for the digest
+abbrev pub voters : (ℕ → Option Ballot) → List ℕ → ℕ → ℕ → List Vote
+voters g d k zero = []
+voters g d k (suc m) = cons_vote d k (g k) (voters g d (suc k) m)
+
+abbrev pub prepares : Params → List (Input Message) → ℕ → ℕ → List ℕ → List Vote
+prepares p l v s d = voters (prepare_of p l v s) d 0 p.setup.n
+
+abbrev pub commits : Params → List (Input Message) → ℕ → ℕ → List ℕ → List Vote
+commits p l v s d = voters (commit_of p l v s) d 0 p.setup.n
+
+-- the value of the proposal with Prepares of 2f different nodes other than the primary
+abbrev pub prepared_with : Params → List (Input Message) → ℕ → ℕ → Option Value → Option Value
+prepared_with p l v s None = None
+prepared_with p l v s (Some x) = when (nat_le (2 * p.setup.f) (length (prepares p l v s (digest_of p x)))) x
+
+abbrev pub prepared : Params → ℕ → List (Input Message) → ℕ → ℕ → Option Value
+prepared p me l v s = prepared_with p l v s (proposal p me l v s)
+
+-- and with Commits of 2f+1 different nodes
+abbrev pub committed_with : Params → List (Input Message) → ℕ → ℕ → Option Value → Option Value
+committed_with p l v s None = None
+committed_with p l v s (Some x) = when (nat_le (2 * p.setup.f + 1) (length (commits p l v s (digest_of p x)))) x
+
+abbrev pub committed : Params → ℕ → List (Input Message) → ℕ → ℕ → Option Value
+committed p me l v s = committed_with p l v s (prepared p me l v s)
+
+-- the value that is committed in the lowest of the views up to v. There are no proposals above the own view
+abbrev pub lowest : (ℕ → Option Value) → ℕ → Option Value
+lowest in_view zero = in_view 0
+lowest in_view (suc v) = first_of (lowest in_view v) (in_view (suc v))
+
+-- ---- ViewChanges
+
+-- the first good ViewChange of each node
+abbrev pub change_in : Params → Input Message → ℕ → ℕ → Option Change
+change_in p (Cast slot batch) v k = None
+change_in p (Receive from (PrePrepare w slot x sig)) v k = None
+change_in p (Receive from (Prepare w slot d sig)) v k = None
+change_in p (Receive from (Commit w slot d sig)) v k = None
+change_in p (Receive from (ViewChange w cs sig)) v k =
+    when (((from.0 == k) && (v == w)) && all_good p w cs) (record { node = from; view = w; certificates = cs; sig = sig })
+change_in p (Receive from (NewView w xs sigs sig)) v k = None
+change_in p Timeout v k = None
+
+abbrev pub change_of : Params → List (Input Message) → ℕ → ℕ → Option Change
+change_of p [] v k = None
+change_of p (i ∷ l) v k = first_of (change_of p l v k) (change_in p i v k)
+
+abbrev pub cons_some : {A : Type 0} → Option A → List A → List A
+cons_some None xs = xs
+cons_some (Some x) xs = x ∷ xs
+
+abbrev pub changes_from : (ℕ → Option Change) → ℕ → ℕ → List Change
+changes_from g k zero = []
+changes_from g k (suc m) = cons_some (g k) (changes_from g (suc k) m)
+
+-- by ascending nodes
+abbrev pub changes : Params → List (Input Message) → ℕ → List Change
+changes p l v = changes_from (change_of p l v) 0 p.setup.n
+
+-- whether a ViewChange of view v makes the NewView: with it, and not before, 2f+1 are kept
+abbrev pub completes : Params → ℕ → List (Input Message) → Input Message → ℕ → Bool
+completes p me l i v =
+    ((me == primary p v) && nat_le (mode p l).view v) &&
+    (nat_lt (length (changes p l v)) (2 * p.setup.f + 1) && (length (changes p (i ∷ l) v) == 2 * p.setup.f + 1))

@@ -1,0 +1,13 @@
+//! PBFT, an ordering module for f Byzantine nodes of 3f+1 over any number of primaries, as definitions and laws (Castro and
+//! Liskov, "Practical Byzantine Fault Tolerance"; ISS, "Sequenced Broadcast").
+#![tactic(auto)]
+
+pub mod facts;
+pub mod laws;
+
+pub use facts::{
+    batches_come_from_a_quorum, certificates_of_a_view_agree, later_views_keep_what_is_decided,
+    nodes_commit_nothing_below, nodes_vote_once, proposals_are_choices,
+    view_changes_show_what_is_committed, what_is_delivered_was_decided,
+};
+pub use laws::{pbft_has_a_grammar, pbft_is_lawful, pbft_is_safe};

@@ -1,0 +1,6 @@
+use Rattle.sb_raft.specs.Stands.{held}
+use Rattle.sb_raft.proofs.Reaching.{IsMostOf}
+use Rattle.sb_raft.proofs.raft.Raft.held_by_quorum.Given as goal
+
+abbrev pub invariant-loop-k : goal.invariant-loop-k
+invariant-loop-k l = IsMostOf l.p l.self.me.0 (held l.self) l.k l.most

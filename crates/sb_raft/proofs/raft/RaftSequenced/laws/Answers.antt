@@ -1,0 +1,13 @@
+use Rattle.raft_wire.proofs.MessageGrammar.{message-grammar}
+use Rattle.sb_raft.proofs.Lawful.{raft-lawful}
+use Rattle.sb_raft.proofs.Safe.{raft-safe}
+use Rattle.sb_raft.proofs.raft.RaftSequenced.laws.Goals as goal
+
+pub returns-clause-grammar : goal.returns-clause-grammar
+returns-clause-grammar c = message-grammar
+
+pub returns-clause-lawful : goal.returns-clause-lawful
+returns-clause-lawful c = raft-lawful
+
+pub returns-clause-safe : goal.returns-clause-safe
+returns-clause-safe c = raft-safe

@@ -1,0 +1,103 @@
+//! Committing by counting who holds the log.
+ghost use Rattle.std.specs.Prelude.{◌≡◌, length, None, IfOk};
+ghost use Rattle.iss_base.specs.Quorum.{count_below};
+ghost use Rattle.iss_sb.specs.Calls.{AreToNodes, IsGoodParams};
+ghost use Rattle.sb_raft.specs.Raft.{raft};
+ghost use Rattle.sb_raft.specs.Rules.{advanced, greatest, holds, may_commit};
+ghost use Rattle.sb_raft.specs.Stands.{Does, Fits, IsMost, far, held};
+
+use crate::raft::Raft;
+use crate::sending::only;
+use iss_request::{NoMemory, NodeId, Row};
+use iss_sb::{Effects, Params, To};
+use raft_wire::Message;
+use std::alloc::Global;
+
+impl Raft {
+    // Whether a node is known to hold the log up to an index.
+    fn is_held(&self, node: NodeId, index: usize) -> bool
+        ensures { result ≡ holds self.now.me.0 (held self.now) index node.0 }
+    {
+        node == self.me || index <= self.matched.at(node)
+    }
+
+    // How many nodes hold the log up to an index.
+    fn holders(&self, p: &Params, index: usize) -> u32
+        requires { IsGoodParams raft p.now }
+        ensures { result ≡ count_below (holds self.now.me.0 (held self.now) index) p.now.setup.n }
+    {
+        let mut count = 0u32;
+        for k in 0..p.setup.n as u8 {
+            if self.is_held(NodeId(k), index) {
+                count += 1;
+            }
+        }
+        count
+    }
+
+    // How far a node is known to hold the log.
+    fn far(&self, node: NodeId) -> usize
+        ensures { result ≡ far self.now.me.0 (held self.now) node.0 }
+    {
+        if node == self.me {
+            self.log.len()
+        } else {
+            self.matched.at(node).min(self.log.len())
+        }
+    }
+
+    // The greatest index of the log that a quorum holds. Some node holds the log just so far.
+    fn held_by_quorum(&self, p: &Params) -> usize
+        requires { IsGoodParams raft p.now }
+        ensures { IsMost p.now self.now.me.0 (held self.now) result }
+    {
+        let mut most = 0usize;
+        for k in 0..p.setup.n as u8 {
+            let far = self.far(NodeId(k));
+            if far > most && self.holders(p, far) >= p.setup.quorum {
+                most = far;
+            }
+        }
+        most
+    }
+
+    // The greatest index above commit of an entry of the own term that a quorum holds, commit where there is none.
+    fn reach(&self, p: &Params) -> usize
+        requires { IsGoodParams raft p.now }
+        ensures { result ≡ greatest (may_commit p.now self.now.me.0 (held self.now)) self.now.log.commit (length self.now.log.entries) }
+    {
+        let commit = self.log.commit();
+        let mut index = self.held_by_quorum(p);
+        'down: while index > commit {
+            if self.log.term_at(index) == self.term {
+                return index;
+            }
+            index -= 1;
+        }
+        commit
+    }
+
+    // Commits what a quorum holds, and if that is more than before tells all others, behind what is sent.
+    pub(crate) fn advance(
+        &mut self,
+        alloc: Global,
+        p: &Params,
+        sends: Row<(To, Message)>,
+    ) -> Result<Effects<Message>, NoMemory>
+        requires good { IsGoodParams raft p.now }
+        requires addressed { AreToNodes p.now.setup.n sends }
+        ensures { IfOk result (λ e. Does p.now self.old.me (Fits (held self.old)) (held self.old) self.new
+            (advanced p.now self.old.me.0 (record { state = held self.old; sends = sends })) None e) }
+    {
+        let index = self.reach(p);
+        if index <= self.log.commit() {
+            return Ok(only(alloc, sends));
+        }
+        let delivers = self.log.commit_to(alloc, index, p.slots.as_slice())?;
+        let mut sends = sends;
+        self.append_to_others(alloc, p, &mut sends)?;
+        let mut effects = only(alloc, sends);
+        effects.delivers = delivers;
+        Ok(effects)
+    }
+}

@@ -1,0 +1,268 @@
+//! A node's log, and how much of it is committed.
+ghost use Rattle.std.specs.Prelude.{◌≡◌, ◌<◌, ◌≤◌, ◌+◌, ◌-◌, ◌^◌, ◌++◌, ◌∷◌, [], length, take, drop, max, option_to_list, IfOk, OnOk, if◌then◌else◌};
+ghost use Rattle.iss_request.specs.declared.requests.Value.{Value};
+ghost use Rattle.sb_raft.specs.Held.{is_mergeable, no_log, paired, same, starts_with, with_merged};
+ghost use Rattle.sb_raft.specs.Logs.{content, contents, filled, last_term, nils, term_at};
+
+use iss_request::{NoMemory, Row, Slot, Value};
+use raft_wire::{Entry, What};
+use std::alloc::Global;
+use std::marker::Model;
+
+/// A log has at most so many entries after a merge.
+const LOG_LIMIT: usize = 65_600;
+
+/// The entries, how many slots they fill, the committed index, and how many slots are filled up to it.
+#[derive(Drop)]
+pub struct Log {
+    entries: Vec<Entry>,
+    filled: usize,
+    commit: usize,
+    passed: usize,
+}
+
+impl Model for Log {
+    ghost use Rattle.sb_raft.specs.Held.{AreCounted, LogState};
+
+    ghost Value = { LogState };
+
+    ghost view = { λ l. record { entries = l.entries.items; commit = l.commit } };
+
+    ghost invariant = { λ l. AreCounted l.entries.items l.filled l.commit l.passed };
+}
+
+// What an entry holds for a slot, if it holds one.
+fn content_of(what: &What) -> Result<Option<Value>, NoMemory>
+    ensures { IfOk result (λ v. option_to_list v ≡ content what.now) }
+{
+    match what {
+        What::Nil => Ok(Some(Value::Nil)),
+        What::Holds(batch) => Ok(Some(Value::Batch(batch.copy()?))),
+        What::Mark => Ok(None),
+    }
+}
+
+// How many slots an entry fills.
+fn fills(what: &What) -> usize
+    ensures { result ≡ length (content what.now) }
+{
+    match what {
+        What::Mark => 0,
+        _ => 1,
+    }
+}
+
+// Puts the slot at this place of the segment, if there is one, with a value.
+fn put_slot(
+    slots: &[Slot],
+    place: usize,
+    value: Value,
+    fresh: &mut Row<(Slot, Value)>,
+) -> Result<(), NoMemory>
+    ensures { OnOk result (fresh.new ≡ fresh.old ++ paired (drop place slots.now) (value ∷ [])) }
+{
+    let Some(slot) = slots.get(place) else {
+        return Ok(());
+    };
+    fresh.push((*slot, value))
+}
+
+impl Log {
+    /// No entries.
+    pub fn new(alloc: Global) -> Log
+        ensures { result ≡ no_log }
+    {
+        Log {
+            entries: Vec::new(alloc),
+            filled: 0,
+            commit: 0,
+            passed: 0,
+        }
+    }
+
+    /// How many entries there are.
+    pub fn len(&self) -> usize
+        ensures value { result ≡ length self.now.entries }
+        ensures small { result < 2 ^ 63 }
+    {
+        self.entries.len()
+    }
+
+    /// The committed index, which the log reaches.
+    pub fn commit(&self) -> usize
+        ensures value { result ≡ self.now.commit }
+        ensures within { result ≤ length self.now.entries }
+    {
+        self.commit
+    }
+
+    /// How many slots the entries fill.
+    pub fn filled(&self) -> usize
+        ensures { result ≡ filled self.now.entries }
+    {
+        self.filled
+    }
+
+    /// The term at an index, that of the last entry past the log, and 0 at the front.
+    pub fn term_at(&self, index: usize) -> u16
+        ensures { result ≡ term_at self.now.entries index }
+    {
+        let last = index.min(self.entries.len());
+        if last == 0 {
+            return 0;
+        }
+        self.entries[last - 1].term
+    }
+
+    /// The term of the last entry, 0 where there is none.
+    pub fn last_term(&self) -> u16
+        ensures { result ≡ last_term self.now.entries }
+    {
+        self.term_at(self.entries.len())
+    }
+
+    /// Copies of the entries behind an index.
+    pub fn behind(&self, alloc: Global, index: usize) -> Result<Row<Entry>, NoMemory>
+        ensures { IfOk result (λ es. es ≡ drop index self.now.entries) }
+    {
+        let mut copies = Row::new(alloc);
+        for at in index..self.entries.len() {
+            let entry = self.entries[at].copy()?;
+            copies.push(entry)?;
+        }
+        Ok(copies)
+    }
+
+    /// One entry more.
+    pub fn push(&mut self, entry: Entry) -> Result<(), NoMemory>
+        ensures log { OnOk result (self.new ≡ record self.old { entries = self.old.entries ++ entry ∷ [] }) }
+        ensures within { self.old.commit ≤ length self.old.entries }
+    {
+        let more = fills(&entry.what);
+        self.entries.push(entry)?;
+        self.filled += more;
+        Ok(())
+    }
+
+    // Whether an entry of the term stands behind an index.
+    fn has_term(&self, index: usize, term: u16) -> bool
+        ensures { result ≡ starts_with (drop index self.now.entries) term }
+    {
+        index < self.entries.len() && self.entries[index].term == term
+    }
+
+    /// How many of the entries have the terms of those behind the index, from the first on.
+    pub fn same(&self, index: usize, entries: &[Entry]) -> usize
+        requires { index ≤ length self.now.entries }
+        ensures { result ≡ same (drop index self.now.entries) entries.now }
+    {
+        let _long = self.len();
+        for at in 0..entries.len() {
+            if !self.has_term(index + at, entries[at].term) {
+                return at;
+            }
+        }
+        entries.len()
+    }
+
+    // Takes the last entry off.
+    fn pop(&mut self)
+        requires { self.old.commit < length self.old.entries }
+        ensures { self.new ≡ record self.old { entries = take (length self.old.entries - 1) self.old.entries } }
+    {
+        let Some(entry) = self.entries.pop() else {
+            return;
+        };
+        self.filled -= fills(&entry.what);
+    }
+
+    /// Takes off the entries behind an index, none of which is committed.
+    pub fn cut(&mut self, index: usize)
+        requires { self.old.commit ≤ index }
+        ensures { self.new ≡ record self.old { entries = take index self.old.entries } }
+    {
+        'down: while index < self.entries.len() {
+            self.pop();
+        }
+    }
+
+    // The entries behind the first so many.
+    fn append(&mut self, entries: Vec<Entry>, skip: usize) -> Result<(), NoMemory>
+        ensures { OnOk result (self.new ≡ record self.old { entries = self.old.entries ++ drop skip entries.items }) }
+    {
+        for entry in entries.into_iter().skip(skip) {
+            self.push(entry)?;
+        }
+        Ok(())
+    }
+
+    /// So many entries of nil.
+    pub fn push_nils(&mut self, term: u16, count: usize) -> Result<(), NoMemory>
+        ensures { OnOk result (self.new ≡ record self.old { entries = self.old.entries ++ nils term count }) }
+    {
+        for _ in 0..count {
+            let what = What::Nil;
+            self.push(Entry { term, what })?;
+        }
+        Ok(())
+    }
+
+    /// Puts entries behind an index: those that stand there go from the first on that differs in term. Nothing is changed
+    /// where a committed one would go, or the log would be too long; the answer tells.
+    pub fn merge(&mut self, index: usize, entries: Row<Entry>) -> Result<bool, NoMemory>
+        requires { index ≤ length self.old.entries }
+        ensures tells { IfOk result (λ b. b ≡ is_mergeable self.old index entries) }
+        ensures log { IfOk result (λ b. self.new ≡ (if b then with_merged self.old index entries else self.old)) }
+    {
+        let same = self.same(index, entries.as_slice());
+        if same >= entries.len() {
+            return Ok(self.entries.len() <= LOG_LIMIT);
+        }
+        let stay = index + same;
+        if stay < self.commit {
+            return Ok(false);
+        }
+        if index.saturating_add(entries.len()) > LOG_LIMIT {
+            return Ok(false);
+        }
+        self.cut(stay);
+        self.append(entries.into_vec(), same)?;
+        Ok(true)
+    }
+
+    // Commits one entry more, and puts the slot that it fills with its value.
+    fn pass(&mut self, slots: &[Slot], fresh: &mut Row<(Slot, Value)>) -> Result<(), NoMemory>
+        requires { self.old.commit < length self.old.entries }
+        ensures log { OnOk result (self.new ≡ record self.old { commit = self.old.commit + 1 }) }
+        ensures fresh { OnOk result (fresh.new ≡ fresh.old ++ paired (drop (filled (take self.old.commit self.old.entries)) slots.now)
+            (contents (take 1 (drop self.old.commit self.old.entries)))) }
+    {
+        let value = content_of(&self.entries[self.commit].what)?;
+        self.commit += 1;
+        let Some(value) = value else {
+            return Ok(());
+        };
+        let place = self.passed;
+        self.passed += 1;
+        put_slot(slots, place, value, fresh)
+    }
+
+    /// Commits what stands up to an index, if it is not yet, and gives the slots that this fills, each with its value.
+    pub fn commit_to(
+        &mut self,
+        alloc: Global,
+        index: usize,
+        slots: &[Slot],
+    ) -> Result<Row<(Slot, Value)>, NoMemory>
+        requires { index ≤ length self.old.entries }
+        ensures log { OnOk result (self.new ≡ record self.old { commit = max self.old.commit index }) }
+        ensures filled { IfOk result (λ ds. ds ≡ paired (drop (filled (take self.old.commit self.old.entries)) slots.now)
+            (contents (drop self.old.commit (take index self.old.entries)))) }
+    {
+        let mut fresh = Row::new(alloc);
+        'up: while self.commit < index {
+            self.pass(slots, &mut fresh)?;
+        }
+        Ok(fresh)
+    }
+}

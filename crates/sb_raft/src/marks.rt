@@ -1,0 +1,59 @@
+//! What is kept for each node.
+ghost use Rattle.std.specs.Prelude.{◌≡◌, ℕ, OnOk};
+ghost use Rattle.iss_base.specs.Lists.{set_at};
+ghost use Rattle.iss_base.specs.Quorum.{count_below};
+ghost use Rattle.sb_raft.specs.Kept.{kept};
+
+use iss_request::{NoMemory, NodeId};
+use std::alloc::Global;
+use std::collections::BTreeMap;
+
+/// A thing for each node, the same for all but those that were set.
+#[derive(Drop)]
+pub struct Marks<T> {
+    pub(crate) set: BTreeMap<u8, T>,
+    pub(crate) others: T,
+}
+
+impl<T: Copy + Drop> Marks<T> {
+    /// The same for all.
+    pub fn all(alloc: Global, others: T) -> Marks<T>
+        ensures { (k : ℕ) → kept result k ≡ others }
+    {
+        Marks {
+            set: BTreeMap::new(alloc),
+            others,
+        }
+    }
+
+    /// What is kept for the node.
+    pub fn at(&self, node: NodeId) -> T
+        ensures { result ≡ kept self.now node.0 }
+    {
+        match self.set.get(&node.0) {
+            Some(thing) => *thing,
+            None => self.others,
+        }
+    }
+
+    /// Keeps another thing for the node.
+    pub fn put(&mut self, node: NodeId, thing: T) -> Result<(), NoMemory>
+        ensures { OnOk result ((k : ℕ) → kept self.new k ≡ set_at (kept self.old) node.0 thing k) }
+    {
+        self.set.insert(node.0, thing)?;
+        Ok(())
+    }
+}
+
+/// How many of the first `n` nodes are marked.
+pub fn count(marks: &Marks<bool>, n: u8) -> u32
+    ensures { result ≡ count_below (kept marks.now) n }
+{
+    let mut count = 0u32;
+    for node in 0..n {
+        if marks.at(NodeId(node)) {
+            count += 1;
+        }
+    }
+    count
+}

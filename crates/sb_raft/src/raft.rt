@@ -1,0 +1,228 @@
+//! A node's part in an instance of Raft, and that Raft is an ordering module.
+ghost use Rattle.std.specs.Prelude.{◌≡◌, ◌<◌, None, IfOk};
+ghost use Rattle.iss_sb.specs.Calls.{IsGoodInput, IsGoodParams, IsStep};
+ghost use Rattle.sb_raft.specs.Raft.{raft};
+ghost use Rattle.sb_raft.specs.Rules.{is_candidate, is_leader, on_message};
+ghost use Rattle.sb_raft.specs.Stands.{Does, IsLow, Stands, held, role_of};
+
+use crate::log::Log;
+use crate::marks::Marks;
+use iss_keys::Keys;
+use iss_request::{Batch, DecodeError, Fields, NoMemory, NodeId, Row, Slot, Writer};
+use iss_sb::{Claim, Effects, Input, Params, Sequenced, StepError};
+use raft_wire::Message;
+use std::alloc::Global;
+
+/// What a node is in its term.
+#[derive(Clone, Copy, Debug)]
+pub enum Part {
+    Follower,
+    Candidate,
+    Leader,
+}
+
+impl Part {
+    /// Whether it leads.
+    pub fn is_leader(self) -> bool
+        ensures { result ≡ is_leader (role_of self) }
+    {
+        match self {
+            Part::Leader => true,
+            _ => false,
+        }
+    }
+
+    /// Whether it stands for the term.
+    pub fn is_candidate(self) -> bool
+        ensures { result ≡ is_candidate (role_of self) }
+    {
+        match self {
+            Part::Candidate => true,
+            _ => false,
+        }
+    }
+}
+
+/// A node's part in one instance.
+#[derive(Drop)]
+pub struct Raft {
+    pub(crate) me: NodeId,
+    pub(crate) term: u16,
+    // whom it voted for in the term
+    pub(crate) vote: Option<u8>,
+    pub(crate) part: Part,
+    pub(crate) log: Log,
+    // of a leader, for each other node: the index to send from, and how far the node is known to hold the log
+    pub(crate) next: Marks<usize>,
+    pub(crate) matched: Marks<usize>,
+    // who granted a candidate its term, itself included
+    pub(crate) granted: Marks<bool>,
+}
+
+impl Raft {
+    // The term, which is in the range of its type.
+    fn term(&self) -> u16
+        ensures { result ≡ self.now.term }
+    {
+        self.term
+    }
+
+    // A message: a node that it shows a higher term takes the term first.
+    fn receive(
+        &mut self,
+        alloc: Global,
+        p: &Params,
+        from: NodeId,
+        msg: Message,
+    ) -> Result<Effects<Message>, NoMemory>
+        requires good { IsGoodParams raft p.now }
+        requires from { from.0 < p.now.setup.n }
+        ensures { IfOk result (λ e. Does p.now self.old.me (IsLow (held self.old)) (held self.old) self.new
+            (on_message p.now self.old.me.0 (held self.old) from.0 msg) None e) }
+    {
+        match msg {
+            Message::Append {
+                term,
+                previous,
+                previous_term,
+                commit,
+                entries,
+            } => {
+                self.raise(term);
+                self.take_append(
+                    alloc,
+                    p,
+                    from,
+                    term,
+                    previous,
+                    previous_term,
+                    commit,
+                    entries,
+                )
+            }
+            Message::Reply { term, ok, index } => {
+                self.raise(term);
+                self.take_reply(alloc, p, from, term, ok, index)
+            }
+            Message::AskVote {
+                term,
+                last,
+                last_term,
+            } => {
+                self.raise(term);
+                self.take_ask(alloc, p, from, term, last, last_term)
+            }
+            Message::Vote { term, granted } => {
+                self.raise(term);
+                self.take_vote(alloc, p, from, term, granted)
+            }
+        }
+    }
+}
+
+impl Sequenced for Raft {
+    type Msg = Message;
+
+    const TAG: u8 = 2;
+
+    const STOPPING: bool = true;
+
+    ghost use Rattle.std.specs.Prelude.{true};
+
+    ghost TAG = { 2 };
+
+    ghost STOPPING = { true };
+
+    ghost meaning = { raft };
+
+    ghost stands = { Stands };
+
+    fn nodes_of(f: u32) -> u32 {
+        2 * f + 1
+    }
+
+    fn quorum_of(f: u32) -> u32 {
+        f + 1
+    }
+
+    fn signs(_p: &Params) -> u32 {
+        0
+    }
+
+    fn start(alloc: Global, p: &Params, me: NodeId) -> Result<Raft, NoMemory> {
+        let part = if me == p.leader {
+            Part::Leader
+        } else {
+            Part::Follower
+        };
+        Ok(Raft {
+            me,
+            term: 1,
+            vote: Some(p.leader.0),
+            part,
+            log: Log::new(alloc),
+            next: Marks::all(alloc, 1),
+            matched: Marks::all(alloc, 0),
+            granted: Marks::all(alloc, false),
+        })
+    }
+
+    fn casts(&self, p: &Params, slot: Slot) -> bool {
+        self.may_cast(p, slot)
+    }
+
+    fn asks<'a>(&'a self, p: &Params, i: &'a Input<Message>) -> Option<(Slot, &'a Batch)> {
+        match i {
+            Input::Cast { slot, batch } => {
+                if self.may_cast(p, *slot) {
+                    Some((*slot, batch))
+                } else {
+                    None
+                }
+            }
+            _ => None,
+        }
+    }
+
+    fn step(
+        &mut self,
+        alloc: Global,
+        p: &Params,
+        i: Input<Message>,
+        verdict: bool,
+        keys: &mut Keys,
+    ) -> Result<Effects<Message>, StepError>
+        requires good { IsGoodParams raft p.now }
+        requires input { IsGoodInput p.now i }
+        ensures { IsStep raft Stands p.now self.old self.new i verdict keys.old keys.new result }
+    {
+        let _term = self.term();
+        if !verdict {
+            return Ok(Effects::nothing(alloc));
+        }
+        match i {
+            Input::Cast { slot, batch } => Ok(self.cast(alloc, p, slot, batch)?),
+            Input::Receive { from, msg } => Ok(self.receive(alloc, p, from, msg)?),
+            Input::Timeout => Ok(self.time_out(alloc, p)?),
+        }
+    }
+
+    fn encode(m: &Message, out: &mut Writer) -> Result<(), NoMemory> {
+        raft_wire::write(m, out)
+    }
+
+    fn decode(alloc: Global, f: &mut Fields) -> Result<Message, DecodeError> {
+        raft_wire::read(alloc, f)
+    }
+
+    fn claims(
+        alloc: Global,
+        _p: &Params,
+        _from: NodeId,
+        _m: &Message,
+    ) -> Result<Row<Claim>, NoMemory> {
+        Ok(Row::new(alloc))
+    }
+
+    fn laws() {}
+}

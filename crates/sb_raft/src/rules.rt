@@ -1,0 +1,375 @@
+//! The rules of Raft, a function a rule.
+ghost use Rattle.std.specs.Prelude.{◌≡◌, ◌<◌, ◌≤◌, ◌-◌, ◌^◌, ◌==◌, ◌&&◌, true, not, nat_le, OnOk, None, IfOk, length};
+ghost use Rattle.iss_base.specs.Lists.{nth};
+ghost use Rattle.iss_sb.specs.Calls.{AreToNodes, IsGoodParams};
+ghost use Rattle.sb_raft.specs.Kept.{kept};
+ghost use Rattle.sb_raft.specs.Logs.{fits_behind, up_to_date};
+ghost use Rattle.sb_raft.specs.Raft.{raft};
+ghost use Rattle.sb_raft.specs.Rules.{candidate, counted, free_for, grants, is_candidate, is_leader, is_slot, may_cast, on_append};
+ghost use Rattle.sb_raft.specs.Rules.{on_ask, on_cast, on_not_ok, on_ok, on_reply, on_timeout, on_vote, raised, stands_up, won};
+ghost use Rattle.sb_raft.specs.Stands.{Does, HasRoom, IsLow, cast_of, held, merges, role_of};
+
+use crate::marks::{Marks, count};
+use crate::raft::{Part, Raft};
+use crate::sending::{one, only, reply};
+use iss_request::{Batch, NoMemory, NodeId, Row, Slot};
+use iss_sb::{Effects, Params, To};
+use raft_wire::{Entry, Message, What};
+use std::alloc::Global;
+
+/// The last term that there is.
+const LAST_TERM: u16 = 65_535;
+
+impl Raft {
+    // ---- a message of a higher term: the node takes the term, has given no vote in it, and follows
+
+    pub(crate) fn raise(&mut self, term: u16)
+        ensures me { self.new.me ≡ self.old.me }
+        ensures state { held self.new ≡ raised (held self.old) term }
+    {
+        if self.term < term {
+            self.term = term;
+            self.vote = None;
+            self.part = Part::Follower;
+        }
+    }
+
+    // ---- casts: the leader of term 1 takes them in that term, each at the next slot
+
+    pub(crate) fn may_cast(&self, p: &Params, slot: Slot) -> bool
+        ensures { result ≡ may_cast p.now (held self.now) slot.0 }
+    {
+        self.part.is_leader() && self.term == 1 && is_next(p, self.log.filled(), slot)
+    }
+
+    pub(crate) fn cast(
+        &mut self,
+        alloc: Global,
+        p: &Params,
+        slot: Slot,
+        batch: Batch,
+    ) -> Result<Effects<Message>, NoMemory>
+        requires { IsGoodParams raft p.now }
+        ensures { IfOk result (λ e. Does p.now self.old.me (IsLow (held self.old)) (held self.old) self.new
+            (on_cast p.now self.old.me.0 (held self.old) slot.0 batch) (cast_of p.now (held self.old) slot batch) e) }
+    {
+        if !self.may_cast(p, slot) {
+            return Ok(Effects::nothing(alloc));
+        }
+        let what = What::Holds(batch.copy()?);
+        let term = self.term;
+        self.log.push(Entry { term, what })?;
+        let mut sends = Row::new(alloc);
+        self.append_to_others(alloc, p, &mut sends)?;
+        let mut effects = self.advance(alloc, p, sends)?;
+        effects.accepted = Some((slot, batch));
+        Ok(effects)
+    }
+
+    // ---- Appends. One of a lower term, or whose previous entry is not there, is answered not ok
+
+    pub(crate) fn take_append(
+        &mut self,
+        alloc: Global,
+        p: &Params,
+        from: NodeId,
+        term: u16,
+        previous: u32,
+        previous_term: u16,
+        commit: u32,
+        entries: Row<Entry>,
+    ) -> Result<Effects<Message>, NoMemory>
+        requires { from.0 < p.now.setup.n }
+        ensures { IfOk result (λ e. Does p.now self.old.me (IsLow (held self.old)) (held self.old) self.new
+            (on_append (held self.old) from.0 term previous previous_term commit entries) None e) }
+    {
+        if term != self.term {
+            return reply(alloc, from, self.term, false, previous as usize);
+        }
+        self.part = Part::Follower;
+        if !self.fits_behind(previous as usize, previous_term) {
+            return reply(alloc, from, self.term, false, previous as usize);
+        }
+        self.merge(alloc, p, from, previous as usize, commit as usize, entries)
+    }
+
+    // Whether the log reaches so far, and has that term there.
+    fn fits_behind(&self, previous: usize, term: u16) -> bool
+        ensures { result ≡ fits_behind self.now.log.entries previous term }
+    {
+        previous <= self.log.len() && self.log.term_at(previous) == term
+    }
+
+    // The entries behind an index that is there: those that differ in term from what was sent go. Nothing that is committed
+    // goes, and the log stays short enough; else there is no answer.
+    fn merge(
+        &mut self,
+        alloc: Global,
+        p: &Params,
+        from: NodeId,
+        previous: usize,
+        commit: usize,
+        entries: Row<Entry>,
+    ) -> Result<Effects<Message>, NoMemory>
+        requires from { from.0 < p.now.setup.n }
+        requires previous { previous ≤ length self.old.log.entries }
+        requires field { previous < 2 ^ 32 }
+        ensures { IfOk result (λ e. Does p.now self.old.me (IsLow (held self.old)) (held self.old) self.new
+            (merges (held self.old) from.0 previous commit entries) None e) }
+    {
+        let sent = previous.saturating_add(entries.len());
+        if !self.log.merge(previous, entries)? {
+            return Ok(Effects::nothing(alloc));
+        }
+        let told = sent.min(commit);
+        let delivers = self.log.commit_to(alloc, told, p.slots.as_slice())?;
+        let mut effects = reply(alloc, from, self.term, true, sent)?;
+        effects.delivers = delivers;
+        Ok(effects)
+    }
+
+    // ---- replies of other nodes at the leader, of its term
+
+    fn hears(&self, from: NodeId, term: u16) -> bool
+        ensures { result ≡ ((is_leader (role_of self.now.part) && (term == self.now.term)) && not (from.0 == self.now.me.0)) }
+    {
+        self.part.is_leader() && term == self.term && from != self.me
+    }
+
+    pub(crate) fn take_reply(
+        &mut self,
+        alloc: Global,
+        p: &Params,
+        from: NodeId,
+        term: u16,
+        ok: bool,
+        index: u32,
+    ) -> Result<Effects<Message>, NoMemory>
+        requires good { IsGoodParams raft p.now }
+        requires from { from.0 < p.now.setup.n }
+        ensures { IfOk result (λ e. Does p.now self.old.me (IsLow (held self.old)) (held self.old) self.new
+            (on_reply p.now self.old.me.0 (held self.old) from.0 term ok index) None e) }
+    {
+        if !self.hears(from, term) {
+            return Ok(Effects::nothing(alloc));
+        }
+        if ok {
+            self.take_ok(alloc, p, from, index as usize)
+        } else {
+            self.take_not_ok(alloc, p, from, index as usize)
+        }
+    }
+
+    // An ok within the log: the match rises.
+    fn take_ok(
+        &mut self,
+        alloc: Global,
+        p: &Params,
+        from: NodeId,
+        index: usize,
+    ) -> Result<Effects<Message>, NoMemory>
+        requires good { IsGoodParams raft p.now }
+        requires leads { is_leader (role_of self.old.part) ≡ true }
+        ensures { IfOk result (λ e. Does p.now self.old.me (IsLow (held self.old)) (held self.old) self.new
+            (on_ok p.now self.old.me.0 (held self.old) from.0 index) None e) }
+    {
+        if index > self.log.len() {
+            return Ok(Effects::nothing(alloc));
+        }
+        let held = self.matched.at(from).max(index);
+        self.matched.put(from, held)?;
+        self.next.put(from, held.saturating_add(1))?;
+        self.advance(alloc, p, Row::new(alloc))
+    }
+
+    fn was_sent_last(&self, node: NodeId, index: usize) -> bool
+        ensures { result ≡ ((index == kept self.now.next node.0 - 1) && nat_le 1 index) }
+    {
+        index == self.next.at(node).saturating_sub(1) && 1 <= index
+    }
+
+    // Not ok, of the Append that was sent last: one entry more is sent.
+    fn take_not_ok(
+        &mut self,
+        alloc: Global,
+        p: &Params,
+        from: NodeId,
+        index: usize,
+    ) -> Result<Effects<Message>, NoMemory>
+        requires from { from.0 < p.now.setup.n }
+        requires leads { is_leader (role_of self.old.part) ≡ true }
+        ensures { IfOk result (λ e. Does p.now self.old.me (IsLow (held self.old)) (held self.old) self.new
+            (on_not_ok (held self.old) from.0 index) None e) }
+    {
+        if !self.was_sent_last(from, index) {
+            return Ok(Effects::nothing(alloc));
+        }
+        self.next.put(from, index)?;
+        let msg = self.append_behind(alloc, index - 1)?;
+        one(alloc, from, msg)
+    }
+
+    // ---- votes: one a term, and only for an asker whose log is not behind the own
+
+    fn is_up_to_date(&self, last: u32, last_term: u16) -> bool
+        ensures { result ≡ up_to_date self.now.log.entries last last_term }
+    {
+        let own = self.log.last_term();
+        own < last_term || (own == last_term && self.log.len() <= last as usize)
+    }
+
+    fn is_free_for(&self, node: NodeId) -> bool
+        ensures { result ≡ free_for self.now.vote node.0 }
+    {
+        match self.vote {
+            Some(voted) => voted == node.0,
+            None => true,
+        }
+    }
+
+    fn grants(&self, from: NodeId, term: u16, last: u32, last_term: u16) -> bool
+        ensures { result ≡ grants (held self.now) from.0 term last last_term }
+    {
+        term == self.term && self.is_free_for(from) && self.is_up_to_date(last, last_term)
+    }
+
+    pub(crate) fn take_ask(
+        &mut self,
+        alloc: Global,
+        p: &Params,
+        from: NodeId,
+        term: u16,
+        last: u32,
+        last_term: u16,
+    ) -> Result<Effects<Message>, NoMemory>
+        requires { from.0 < p.now.setup.n }
+        ensures { IfOk result (λ e. Does p.now self.old.me (IsLow (held self.old)) (held self.old) self.new
+            (on_ask (held self.old) from.0 term last last_term) None e) }
+    {
+        let term_now = self.term;
+        if !self.grants(from, term, last, last_term) {
+            let refusal = Message::Vote {
+                term: term_now,
+                granted: false,
+            };
+            return one(alloc, from, refusal);
+        }
+        self.vote = Some(from.0);
+        let vote = Message::Vote {
+            term: term_now,
+            granted: true,
+        };
+        one(alloc, from, vote)
+    }
+
+    // ---- a candidate that a quorum granted its term leads it
+
+    fn counts(&self, term: u16, granted: bool) -> bool
+        ensures { result ≡ ((is_candidate (role_of self.now.part) && granted) && (term == self.now.term)) }
+    {
+        self.part.is_candidate() && granted && term == self.term
+    }
+
+    pub(crate) fn take_vote(
+        &mut self,
+        alloc: Global,
+        p: &Params,
+        from: NodeId,
+        term: u16,
+        granted: bool,
+    ) -> Result<Effects<Message>, NoMemory>
+        requires { IsGoodParams raft p.now }
+        ensures { IfOk result (λ e. Does p.now self.old.me (IsLow (held self.old)) (held self.old) self.new
+            (on_vote p.now self.old.me.0 (held self.old) from.0 term granted) None e) }
+    {
+        if !self.counts(term, granted) {
+            return Ok(Effects::nothing(alloc));
+        }
+        self.granted.put(from, true)?;
+        self.count_votes(alloc, p, Row::new(alloc))
+    }
+
+    // Leads if a quorum granted the term, and sends the log then, behind what is sent.
+    fn count_votes(
+        &mut self,
+        alloc: Global,
+        p: &Params,
+        sends: Row<(To, Message)>,
+    ) -> Result<Effects<Message>, NoMemory>
+        requires good { IsGoodParams raft p.now }
+        requires addressed { AreToNodes p.now.setup.n sends }
+        ensures { IfOk result (λ e. Does p.now self.old.me (HasRoom (held self.old)) (held self.old) self.new
+            (counted p.now self.old.me.0 (held self.old) sends) None e) }
+    {
+        if count(&self.granted, p.setup.n as u8) < p.setup.quorum {
+            return Ok(only(alloc, sends));
+        }
+        self.lead(alloc, p)?;
+        let mut sends = sends;
+        self.append_to_others(alloc, p, &mut sends)?;
+        self.advance(alloc, p, sends)
+    }
+
+    // Leads, with a mark of the term, and nil for each missing slot. What is sent next stands behind the old log.
+    fn lead(&mut self, alloc: Global, p: &Params) -> Result<(), NoMemory>
+        ensures within { self.old.log.commit ≤ length self.old.log.entries }
+        ensures me { OnOk result (self.new.me ≡ self.old.me) }
+        ensures state { OnOk result (held self.new ≡ won p.now (held self.old)) }
+    {
+        let missing = p.slots.len().saturating_sub(self.log.filled());
+        let term = self.term;
+        self.part = Part::Leader;
+        self.next = Marks::all(alloc, self.log.len().saturating_add(1));
+        self.matched = Marks::all(alloc, 0);
+        let what = What::Mark;
+        self.log.push(Entry { term, what })?;
+        self.log.push_nils(term, missing)
+    }
+
+    // ---- timeouts: a leader sends the log once more, another node stands for the next term, if there is one
+
+    pub(crate) fn time_out(
+        &mut self,
+        alloc: Global,
+        p: &Params,
+    ) -> Result<Effects<Message>, NoMemory>
+        requires { IsGoodParams raft p.now }
+        ensures { IfOk result (λ e. Does p.now self.old.me (IsLow (held self.old)) (held self.old) self.new
+            (on_timeout p.now self.old.me.0 (held self.old)) None e) }
+    {
+        if self.part.is_leader() {
+            let mut sends = Row::new(alloc);
+            self.append_to_others(alloc, p, &mut sends)?;
+            return Ok(only(alloc, sends));
+        }
+        if self.term >= LAST_TERM {
+            return Ok(Effects::nothing(alloc));
+        }
+        self.stand(alloc, p)
+    }
+
+    fn stand(&mut self, alloc: Global, p: &Params) -> Result<Effects<Message>, NoMemory>
+        requires good { IsGoodParams raft p.now }
+        requires term { self.old.term < 65535 }
+        ensures { IfOk result (λ e. Does p.now self.old.me (IsLow (held self.old)) (held self.old) self.new
+            (stands_up p.now self.old.me.0 (candidate self.old.me.0 (held self.old))) None e) }
+    {
+        self.term += 1;
+        self.vote = Some(self.me.0);
+        self.part = Part::Candidate;
+        self.granted = Marks::all(alloc, false);
+        self.granted.put(self.me, true)?;
+        let sends = self.ask_others(alloc, p)?;
+        self.count_votes(alloc, p, sends)
+    }
+}
+
+// Whether the slot is that of this place in the segment.
+fn is_next(p: &Params, place: usize, slot: Slot) -> bool
+    ensures { result ≡ is_slot slot.0 (nth p.now.slots place) }
+{
+    match p.slots.as_slice().get(place) {
+        Some(next) => *next == slot,
+        None => false,
+    }
+}

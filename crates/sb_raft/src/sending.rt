@@ -1,0 +1,143 @@
+//! What a node sends.
+ghost use Rattle.std.specs.Prelude.{◌≡◌, ◌<◌, ◌≤◌, ◌^◌, ◌++◌, ◌∷◌, [], ℕ, length, IfOk, OnOk};
+ghost use Rattle.iss_sb.specs.Calls.{AreToNodes, IsGoodParams};
+ghost use Rattle.sb_raft.specs.Raft.{raft};
+ghost use Rattle.sb_raft.specs.Rules.{append_behind, appends, ask_vote, others, append_to, to, to_each};
+ghost use Rattle.sb_raft.specs.Stands.{Fits, IsReply, OnlySends, held, other};
+
+use crate::raft::Raft;
+use iss_request::{NoMemory, NodeId, Row};
+use iss_sb::{Effects, Params, To};
+use raft_wire::Message;
+use std::alloc::Global;
+
+// An index as a field of a message. Each index that is sent fits.
+fn field_of(index: usize) -> u32
+    ensures { index < 2 ^ 32 → result ≡ index }
+{
+    if index > u32::MAX as usize {
+        return u32::MAX;
+    }
+    index as u32
+}
+
+/// These messages, and nothing else.
+pub fn only(alloc: Global, sends: Row<(To, Message)>) -> Effects<Message>
+    ensures { OnlySends sends result }
+{
+    let mut effects = Effects::nothing(alloc);
+    effects.sends = sends;
+    effects
+}
+
+/// One message to one node.
+pub fn one(alloc: Global, node: NodeId, msg: Message) -> Result<Effects<Message>, NoMemory>
+    ensures { IfOk result (λ e. OnlySends (to node.0 msg ∷ []) e) }
+{
+    let mut sends = Row::new(alloc);
+    sends.push((To::One(node), msg))?;
+    Ok(only(alloc, sends))
+}
+
+/// An answer that an index of the log is there or not, to one node.
+pub fn reply(
+    alloc: Global,
+    node: NodeId,
+    term: u16,
+    ok: bool,
+    index: usize,
+) -> Result<Effects<Message>, NoMemory>
+    ensures { IfOk result (λ e. IsReply node.0 term ok index e) }
+{
+    let index = field_of(index);
+    one(alloc, node, Message::Reply { term, ok, index })
+}
+
+impl Raft {
+    // The entries behind an index, with what stands before them.
+    pub(crate) fn append_behind(&self, alloc: Global, previous: usize) -> Result<Message, NoMemory>
+        ensures { IfOk result (λ m. length self.now.log.entries < 2 ^ 32 → previous ≤ length self.now.log.entries →
+            m ≡ append_behind (held self.now) previous) }
+    {
+        let entries = self.log.behind(alloc, previous)?;
+        Ok(Message::Append {
+            term: self.term,
+            previous: field_of(previous),
+            previous_term: self.log.term_at(previous),
+            commit: field_of(self.log.commit()),
+            entries,
+        })
+    }
+
+    // To each other node, behind the messages that are there, the entries from its next on.
+    pub(crate) fn append_to_others(
+        &self,
+        alloc: Global,
+        p: &Params,
+        sends: &mut Row<(To, Message)>,
+    ) -> Result<(), NoMemory>
+        requires { IsGoodParams raft p.now }
+        ensures appends { OnOk result (Fits (held self.now) → sends.new ≡ sends.old ++ appends p.now self.now.me.0 (held self.now)) }
+        ensures addressed { OnOk result (AreToNodes p.now.setup.n sends.old → AreToNodes p.now.setup.n sends.new) }
+    {
+        for k in 0..p.setup.n as u8 {
+            self.append_to(alloc, NodeId(k), sends)?;
+        }
+        Ok(())
+    }
+
+    // The entries from a node's next on, if it is another.
+    fn append_to(
+        &self,
+        alloc: Global,
+        node: NodeId,
+        sends: &mut Row<(To, Message)>,
+    ) -> Result<(), NoMemory>
+        ensures appends { OnOk result (Fits (held self.now) → sends.new ≡ sends.old ++ to_each (append_to (held self.now)) (other self.now.me.0 node.0)) }
+        ensures addressed { OnOk result ((n : ℕ) → node.0 < n → AreToNodes n sends.old → AreToNodes n sends.new) }
+    {
+        if node == self.me {
+            return Ok(());
+        }
+        let previous = self.next.at(node).saturating_sub(1);
+        let msg = self.append_behind(alloc, previous)?;
+        sends.push((To::One(node), msg))?;
+        Ok(())
+    }
+
+    // To each other node a candidate's question.
+    pub(crate) fn ask_others(
+        &self,
+        alloc: Global,
+        p: &Params,
+    ) -> Result<Row<(To, Message)>, NoMemory>
+        requires { IsGoodParams raft p.now }
+        ensures asks { IfOk result (λ sends. length self.now.log.entries < 2 ^ 32 →
+            sends ≡ to_each (ask_vote (held self.now)) (others self.now.me.0 p.now.setup.n)) }
+        ensures addressed { IfOk result (λ sends. AreToNodes p.now.setup.n sends) }
+    {
+        let mut sends = Row::new(alloc);
+        for k in 0..p.setup.n as u8 {
+            self.ask(NodeId(k), &mut sends)?;
+        }
+        Ok(sends)
+    }
+
+    // A candidate's question to a node, if it is another.
+    fn ask(&self, node: NodeId, sends: &mut Row<(To, Message)>) -> Result<(), NoMemory>
+        ensures asks { OnOk result (length self.now.log.entries < 2 ^ 32 →
+            sends.new ≡ sends.old ++ to_each (ask_vote (held self.now)) (other self.now.me.0 node.0)) }
+        ensures addressed { OnOk result ((n : ℕ) → node.0 < n → AreToNodes n sends.old → AreToNodes n sends.new) }
+    {
+        if node == self.me {
+            return Ok(());
+        }
+        let msg = Message::AskVote {
+            term: self.term,
+            last: field_of(self.log.len()),
+            last_term: self.log.last_term(),
+        };
+        sends.push((To::One(node), msg))?;
+        Ok(())
+    }
+}

@@ -1,0 +1,8 @@
+//! Tests over public calls of the crates below the model: formats, schedules, keys, disks, journals, the network and
+//! modules. What they expect comes from outside: other programs, and values worked out by hand.
+#![tactic(auto)]
+
+#[cfg(test)]
+mod instances;
+#[cfg(test)]
+mod tests;
