@@ -4,7 +4,5 @@
 #![tactic(auto)]
 
 pub mod log;
-#[cfg(test)]
-mod tests;
 
 pub use log::{Fill, Joined, Log};

@@ -13,7 +13,7 @@ use Rattle.pbft_wire.specs.declared.messages.Certificate.{Certificate}
 use Rattle.pbft_wire.specs.declared.messages.Change.{Change}
 use Rattle.pbft_wire.specs.declared.messages.Vote.{Vote}
 use Rattle.pbft_wire.specs.Certificates.{certificate_bytes, change_bytes, fits_certificate, fits_certificates, fits_change, fits_count, fits_from, fits_slot, fits_value, fits_view, fits_vote, fits_votes, node_of_vote, parse_certificate, parse_change, parse_vote, slot_of, vote_bytes}
-use Rattle.pbft_wire.proofs.Rising.{IsExact, rising-again, rising-parts}
+use Rattle.pbft_wire.proofs.Rising.{in-front, IsExact, rising-again, rising-parts}
 use Rattle.pbft_wire.proofs.Fields.{AreText, IsText, count-again, count-parts, slot-again, slot-parts, value-again, value-parts, view-again, view-parts}
 
 -- ---- regrouping
@@ -32,9 +32,6 @@ counted-four a b c d n v r = simp append_assoc
 
 pub counted-twice : (a : List ℕ) (n : ℕ) (b : List ℕ) (k : ℕ) (c d r : List ℕ) → (a ++ (n ∷ (b ++ (k ∷ (c ++ d))))) ++ r ≡ a ++ (n ∷ (b ++ (k ∷ (c ++ (d ++ r)))))
 counted-twice a n b k c d r = simp append_assoc
-
-pub in-front : (a : List ℕ) {x y : List ℕ} → x ≡ y → a ++ x ≡ a ++ y
-in-front a h = ap (λ (z : List ℕ). a ++ z) h
 
 -- ---- votes
 

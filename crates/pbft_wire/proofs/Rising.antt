@@ -10,7 +10,7 @@ use Rattle.iss_request.proofs.Readings.{read_done, read_then, unread_first, unre
 use Rattle.pbft_wire.specs.Rising.{all_rise, rising}
 use Rattle.pbft_wire.proofs.Fields.{AreText, IsText}
 
-in-front : (a : List ℕ) {x y : List ℕ} → x ≡ y → a ++ x ≡ a ++ y
+pub in-front : (a : List ℕ) {x y : List ℕ} → x ≡ y → a ++ x ≡ a ++ y
 in-front a h = ap (λ (z : List ℕ). a ++ z) h
 
 -- one thing that fits is read from its spelling, and from nothing else

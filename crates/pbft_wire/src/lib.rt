@@ -10,6 +10,3 @@ pub use laws::messages_are_exact;
 pub use messages::{Certificate, Change, Message, Vote};
 pub use reading::read;
 pub use writing::write;
-
-#[cfg(test)]
-mod tests;

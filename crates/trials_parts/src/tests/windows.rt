@@ -1,5 +1,5 @@
 //! A run of the calls with ample memory.
-use crate::{Place, Windows};
+use iss_window::{Place, Windows};
 use iss_request::{Kind, Nodes, Policy, ReqId, Setup};
 use std::test::Fail;
 

@@ -1,5 +1,5 @@
 //! A run of the calls with ample memory.
-use crate::{Fill, Joined, Log};
+use iss_log::{Fill, Joined, Log};
 use iss_request::{Batch, Bytes, ReqId, Request, Slot, Value};
 use std::alloc::Global;
 use std::test::Fail;

@@ -2,7 +2,7 @@ use Rattle.std.proofs.Common.{◌<◌, ◌≡◌, ◌∙◌, ℕ, length, ap, ar
 use Rattle.iss_keys.specs.Directories.{client_secret}
 use Rattle.iss_keys.specs.KeyStates.{public_key}
 use Rattle.iss_keys.proofs.ListedLemmas.{length-listed}
-use Rattle.benches.proofs.keys.sign_for_ten.Goals as goal
+use Rattle.benches.proofs.directories.sign_for_ten.Goals as goal
 
 -- the directory has a client 7
 pub keys_of_client-keys-requires : goal.keys_of_client-keys-requires

@@ -1,5 +1,5 @@
 //! A run of the calls with ample memory.
-use crate::{Added, Pending};
+use iss_buckets::{Added, Pending};
 use iss_layout::{Layout, Standing};
 use iss_request::{Batch, Bytes, Epoch, Kind, NodeId, Nodes, Policy, ReqId, Request, Setup};
 use std::alloc::Global;

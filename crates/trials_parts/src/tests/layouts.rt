@@ -1,5 +1,5 @@
 //! A run of the calls with ample memory.
-use crate::{Layout, Standing};
+use iss_layout::{Layout, Standing};
 use iss_request::{Epoch, Kind, NodeId, Nodes, Policy, ReqId, Setup, Slot};
 use std::test::Fail;
 

@@ -1,5 +1,5 @@
 //! Messages that are read from rows of bytes, and rows that are none.
-use crate::{Message, read};
+use pbft_wire::{Message, read};
 use iss_request::{DecodeError, Fields, NoMemory, Slot, Writer};
 use std::alloc::Global;
 use std::test::Fail;
