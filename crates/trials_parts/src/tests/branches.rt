@@ -1,4 +1,4 @@
-//! Messages in bytes: rows that were written by hand, every cut of a message, and the field that does not fit.
+//! HotStuff's messages in bytes: rows that were written by hand, every cut of a message, and the field that does not fit.
 use hs_tree::signing::{
     held_digest, held_string, node_statement, node_string, put_certificate_claims, round_statement,
     vote_statement,

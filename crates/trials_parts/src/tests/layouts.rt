@@ -1,27 +1,12 @@
-//! A run of the calls with ample memory.
+//! The division of an epoch, with ample memory.
+use crate::instances::three_nodes;
 use iss_layout::{Layout, Standing};
-use iss_request::{Epoch, Kind, NodeId, Nodes, Policy, ReqId, Setup, Slot};
+use iss_request::{Epoch, NodeId, ReqId, Slot};
 use std::test::Fail;
 
 #[test]
 fn an_epoch_of_three_nodes(rt: HostRuntime) -> Result<(), Fail> {
-    let setup = Setup {
-        version: 1,
-        module: 1,
-        f: 0,
-        epoch: 6,
-        buckets: 3,
-        batch: 4,
-        window: 8,
-        policy: Policy::Simple,
-        clients: 1,
-        keys: 4,
-        faulty: Nodes::new(rt.alloc()),
-        n: 3,
-        quorum: 2,
-        kind: Kind::Stopping,
-        tag: [0; 32],
-    };
+    let setup = three_nodes(rt.alloc());
     let layout = Layout::of(&setup, Epoch(1), 6, &Standing::new());
     assert_eq!(rt; layout.leaders().len(), 3);
     assert!(rt; layout.leads(NodeId(2)));

@@ -1,7 +1,8 @@
-//! A run of the calls with ample memory.
+//! Requests that wait, with ample memory.
+use crate::instances::three_nodes;
 use iss_buckets::{Added, Pending};
 use iss_layout::{Layout, Standing};
-use iss_request::{Batch, Bytes, Epoch, Kind, NodeId, Nodes, Policy, ReqId, Request, Setup};
+use iss_request::{Batch, Bytes, Epoch, NodeId, ReqId, Request};
 use std::alloc::Global;
 use std::test::Fail;
 
@@ -18,23 +19,7 @@ fn request(alloc: Global, number: u32) -> Request {
 }
 
 fn layout(alloc: Global) -> Layout {
-    let setup = Setup {
-        version: 1,
-        module: 1,
-        f: 0,
-        epoch: 6,
-        buckets: 3,
-        batch: 2,
-        window: 8,
-        policy: Policy::Simple,
-        clients: 1,
-        keys: 4,
-        faulty: Nodes::new(alloc),
-        n: 3,
-        quorum: 2,
-        kind: Kind::Stopping,
-        tag: [0; 32],
-    };
+    let setup = three_nodes(alloc);
     Layout::of(&setup, Epoch(0), 0, &Standing::new())
 }
 

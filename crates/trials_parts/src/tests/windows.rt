@@ -1,6 +1,7 @@
-//! A run of the calls with ample memory.
+//! Windows of requests, with ample memory.
+use crate::instances::three_nodes;
+use iss_request::ReqId;
 use iss_window::{Place, Windows};
-use iss_request::{Kind, Nodes, Policy, ReqId, Setup};
 use std::test::Fail;
 
 fn id(client: u8, number: u32) -> ReqId {
@@ -9,23 +10,7 @@ fn id(client: u8, number: u32) -> ReqId {
 
 #[test]
 fn windows_move_when_an_epoch_ends(rt: HostRuntime) -> Result<(), Fail> {
-    let setup = Setup {
-        version: 1,
-        module: 1,
-        f: 0,
-        epoch: 3,
-        buckets: 3,
-        batch: 4,
-        window: 8,
-        policy: Policy::Simple,
-        clients: 1,
-        keys: 4,
-        faulty: Nodes::new(rt.alloc()),
-        n: 3,
-        quorum: 2,
-        kind: Kind::Stopping,
-        tag: [0; 32],
-    };
+    let setup = three_nodes(rt.alloc());
     let mut windows = Windows::new(rt.alloc(), &setup)?;
     assert!(rt; windows.test(id(0, 7)) == Place::Inside);
     assert!(rt; windows.test(id(0, 8)) == Place::Above);
