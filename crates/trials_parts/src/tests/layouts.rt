@@ -1,5 +1,5 @@
 //! The division of an epoch, with ample memory.
-use crate::instances::three_nodes;
+use crate::setups::three_nodes;
 use iss_layout::{Layout, Standing};
 use iss_request::{Epoch, NodeId, ReqId, Slot};
 use std::test::Fail;

@@ -1,5 +1,5 @@
 //! Requests that wait, with ample memory.
-use crate::instances::three_nodes;
+use crate::setups::three_nodes;
 use iss_buckets::{Added, Pending};
 use iss_layout::{Layout, Standing};
 use iss_request::{Batch, Bytes, Epoch, NodeId, ReqId, Request};

@@ -1,5 +1,5 @@
 //! Windows of requests, with ample memory.
-use crate::instances::three_nodes;
+use crate::setups::three_nodes;
 use iss_request::ReqId;
 use iss_window::{Place, Windows};
 use std::test::Fail;

@@ -1,5 +1,4 @@
-//! Instances of a module that tests run, and a set-up. The instance's set-up is a parameter, since of literal counts the
-//! tactics list each key.
+//! Instances of a module that tests run. The set-up is a parameter, since of literal counts the tactics list each key.
 ghost use Rattle.std.specs.Prelude.{◌≡◌, ◌<◌, ◌≤◌, ◌^◌, IfOk, length};
 ghost use Rattle.iss_keys.specs.Directories.{directory_of};
 ghost use Rattle.iss_request.specs.Setup.{IsGoodSetup};
@@ -7,7 +6,7 @@ ghost use Rattle.iss_request.specs.Slots.{AreAscending};
 ghost use Rattle.iss_sb.specs.Calls.{AreBelow, IsGoodParams, kind_of};
 
 use iss_keys::SharedDirectory;
-use iss_request::{Epoch, Kind, NoMemory, NodeId, Nodes, Policy, Row, Setup, Slot};
+use iss_request::{Epoch, NoMemory, NodeId, Row, Setup, Slot};
 use iss_sb::{Params, Sequenced};
 use std::alloc::Global;
 
@@ -49,29 +48,4 @@ pub(crate) fn instance<M: Sequenced>(
         slots,
         directory,
     })
-}
-
-/// Three nodes that may crash, three buckets and epochs of six slots.
-pub(crate) fn three_nodes(alloc: Global) -> Setup
-    ensures good { IsGoodSetup result }
-    ensures slots { result.epoch ≡ 6 }
-    ensures buckets { result.buckets ≡ 3 }
-{
-    Setup {
-        version: 1,
-        module: 1,
-        f: 0,
-        epoch: 6,
-        buckets: 3,
-        batch: 4,
-        window: 8,
-        policy: Policy::Simple,
-        clients: 1,
-        keys: 4,
-        faulty: Nodes::new(alloc),
-        n: 3,
-        quorum: 2,
-        kind: Kind::Stopping,
-        tag: [0; 32],
-    }
 }
