@@ -33,7 +33,7 @@ pub struct Best {
 }
 
 impl Best {
-    pub fn note(self, work: u64, digests: u64) -> Best {
+    pub(crate) fn note(self, work: u64, digests: u64) -> Best {
         Best {
             work: self.work.min(work),
             digests: self.digests.min(digests),
@@ -68,7 +68,7 @@ fn take_all(digests: Digests) -> u8 {
 }
 
 /// Those of a tree of this height.
-pub fn digests_of_tree(height: u8) -> Digests
+pub(crate) fn digests_of_tree(height: u8) -> Digests
     requires { height ≤ 12 }
 {
     let leaves = 1u32 << height;
@@ -97,7 +97,7 @@ fn steps_signed(statement: &[u8]) -> u32 {
 }
 
 /// Those of so many signatures.
-pub fn digests_of_signatures(count: u32) -> Digests {
+pub(crate) fn digests_of_signatures(count: u32) -> Digests {
     let each = steps_signed(STATEMENT).wrapping_add(CHAINS + 1);
     Digests {
         short: count.wrapping_mul(each),
@@ -107,7 +107,7 @@ pub fn digests_of_signatures(count: u32) -> Digests {
 }
 
 /// Those of so many verifications under a tree of this height.
-pub fn digests_of_verifications(count: u32, height: u8) -> Digests {
+pub(crate) fn digests_of_verifications(count: u32, height: u8) -> Digests {
     let each = (CHAINS * STEPS + 1).saturating_sub(steps_signed(STATEMENT));
     Digests {
         short: count.wrapping_mul(each),
@@ -117,12 +117,12 @@ pub fn digests_of_verifications(count: u32, height: u8) -> Digests {
 }
 
 /// The nanoseconds since then.
-pub fn nanos_since(rt: &HostRuntime, start: Instant) -> Result<u64, Fail> {
+pub(crate) fn nanos_since(rt: &HostRuntime, start: Instant) -> Result<u64, Fail> {
     Ok(u64::try_from(start.elapsed(rt)?.as_nanos()).unwrap_or(u64::MAX))
 }
 
 /// The nanoseconds that digests take.
-pub fn time_digests(rt: &HostRuntime, digests: Digests) -> Result<u64, Fail> {
+pub(crate) fn time_digests(rt: &HostRuntime, digests: Digests) -> Result<u64, Fail> {
     let start = Instant::now(rt)?;
     let last = take_all(digests);
     let nanos = nanos_since(rt, start)?;
@@ -131,7 +131,12 @@ pub fn time_digests(rt: &HostRuntime, digests: Digests) -> Result<u64, Fail> {
 }
 
 /// Prints a line of times: of one piece of work, and how it compares with its digests.
-pub fn print_times(rt: &HostRuntime, what: &str, best: Best, count: u64) -> Result<(), Fail> {
+pub(crate) fn print_times(
+    rt: &HostRuntime,
+    what: &str,
+    best: Best,
+    count: u64,
+) -> Result<(), Fail> {
     let each = best.work / count.max(1);
     let a_second = 1_000_000_000u64.saturating_mul(count) / best.work.max(1);
     let percent = best.work.saturating_mul(100) / best.digests.max(1);

@@ -151,7 +151,7 @@ fn time_asking(rt: &HostRuntime, directory: &Directory, keys: &mut Keys, height:
 }
 
 /// A directory of so many nodes and clients, of which one is used: made, and asked.
-pub fn time_directory(rt: &HostRuntime, nodes: u32, clients: u32, height: u8) -> Timed<()>
+pub(crate) fn time_directory(rt: &HostRuntime, nodes: u32, clients: u32, height: u8) -> Timed<()>
     requires nodes { nodes ≤ 256 }
     requires clients { clients ≤ 256 }
     requires low { 2 ≤ height }
@@ -181,7 +181,7 @@ fn owners_of(alloc: Global, shared: &SharedDirectory, nodes: u32) -> Timed<Vec<S
 }
 
 /// In a new directory of so many nodes and clients one client signs, and ten nodes check it.
-pub fn sign_for_ten(alloc: Global, nodes: u32, clients: u32, height: u8) -> Timed<u32>
+pub(crate) fn sign_for_ten(alloc: Global, nodes: u32, clients: u32, height: u8) -> Timed<u32>
     requires nodes { nodes ≤ 256 }
     requires few { 7 < clients }
     requires clients { clients ≤ 256 }
@@ -221,7 +221,7 @@ fn time_tree_alone(rt: &HostRuntime, height: u8) -> Timed<u64>
 }
 
 /// The whole of it, beside the one tree that it needs.
-pub fn time_one_tree(rt: &HostRuntime, nodes: u32, clients: u32, height: u8) -> Timed<()>
+pub(crate) fn time_one_tree(rt: &HostRuntime, nodes: u32, clients: u32, height: u8) -> Timed<()>
     requires nodes { nodes ≤ 256 }
     requires few { 7 < clients }
     requires clients { clients ≤ 256 }
@@ -263,7 +263,7 @@ fn time_by_turns(rt: &HostRuntime, owners: &[SharedDirectory], keys: &mut Keys) 
 }
 
 /// What a signature costs that ten nodes check, who share a directory of so many nodes and clients.
-pub fn time_ten_checks(rt: &HostRuntime, nodes: u32, clients: u32, height: u8) -> Timed<()>
+pub(crate) fn time_ten_checks(rt: &HostRuntime, nodes: u32, clients: u32, height: u8) -> Timed<()>
     requires nodes { nodes ≤ 256 }
     requires clients { clients ≤ 256 }
     requires low { 2 ≤ height }

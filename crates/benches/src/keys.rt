@@ -26,7 +26,7 @@ fn key(alloc: Global, secret: [u8; 32], height: u8) -> Timed<Keys>
 }
 
 /// The key of a client.
-pub fn client_key(alloc: Global, client: u8, height: u8) -> Timed<Keys>
+pub(crate) fn client_key(alloc: Global, client: u8, height: u8) -> Timed<Keys>
     requires low { 2 ≤ height }
     requires high { height ≤ 12 }
 {
@@ -34,7 +34,7 @@ pub fn client_key(alloc: Global, client: u8, height: u8) -> Timed<Keys>
 }
 
 /// A signature of the statement.
-pub fn signature_by(keys: &mut Keys) -> Timed<Vec<u8>> {
+pub(crate) fn signature_by(keys: &mut Keys) -> Timed<Vec<u8>> {
     Ok(keys.sign(STATEMENT)?)
 }
 
@@ -141,7 +141,7 @@ fn time_trees(rt: &HostRuntime) -> Timed<()> {
 }
 
 /// Runs the whole workload and prints times.
-pub fn time_all(rt: &HostRuntime) -> Timed<()> {
+pub(crate) fn time_all(rt: &HostRuntime) -> Timed<()> {
     time_short_digests(rt, 1000)?;
     time_trees(rt)?;
     time_signing(rt, 5, 200)?;
@@ -174,7 +174,7 @@ fn count_verifications(rt: &HostRuntime, keys: &mut Keys) -> Timed<()> {
 }
 
 /// Prints what a small workload takes, which is the same on each machine.
-pub fn count_all(rt: &HostRuntime) -> Timed<()> {
+pub(crate) fn count_all(rt: &HostRuntime) -> Timed<()> {
     let mut keys = key(rt.alloc(), [7; 32], 2)?;
     println!(rt; "tree of height 2: {:?}", digests_of_tree(2))?;
     count_signatures(rt, &mut keys)?;
