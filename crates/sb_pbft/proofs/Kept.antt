@@ -138,16 +138,16 @@ tops-cover cs (t ∷ ts) s c i e (inr h) =
 
 -- ---- a ViewChange
 
-pub no-change-pre : (w : ℕ) (cs : List Certificate) (t : Slot) (x : Value) → SameDraft (DraftViewChange w cs) (DraftPrePrepare t x) → ⊥
+no-change-pre : (w : ℕ) (cs : List Certificate) (t : Slot) (x : Value) → SameDraft (DraftViewChange w cs) (DraftPrePrepare t x) → ⊥
 no-change-pre w cs t x h = cc
 
-pub no-change-prepare : (w v : ℕ) (cs : List Certificate) (t : Slot) (e : List ℕ) → SameDraft (DraftViewChange w cs) (DraftPrepare v t e) → ⊥
+no-change-prepare : (w v : ℕ) (cs : List Certificate) (t : Slot) (e : List ℕ) → SameDraft (DraftViewChange w cs) (DraftPrepare v t e) → ⊥
 no-change-prepare w v cs t e h = cc
 
-pub no-change-commit : (w v : ℕ) (cs : List Certificate) (t : Slot) (e : List ℕ) → SameDraft (DraftViewChange w cs) (DraftCommit v t e) → ⊥
+no-change-commit : (w v : ℕ) (cs : List Certificate) (t : Slot) (e : List ℕ) → SameDraft (DraftViewChange w cs) (DraftCommit v t e) → ⊥
 no-change-commit w v cs t e h = cc
 
-pub no-change-new : (w v : ℕ) (cs : List Certificate) (ys : List Change) → SameDraft (DraftViewChange w cs) (DraftNewView v ys) → ⊥
+no-change-new : (w v : ℕ) (cs : List Certificate) (ys : List Change) → SameDraft (DraftViewChange w cs) (DraftNewView v ys) → ⊥
 no-change-new w v cs ys h = cc
 
 same-change : (w v : ℕ) (cs ds : List Certificate) → SameDraft (DraftViewChange w cs) (DraftViewChange v ds) → (w ≡ v) × (cs ≡ ds)

@@ -2,7 +2,6 @@
 use Rattle.std.proofs.Common.{if◌then◌else◌, ◌||◌, ◌≡◌, ℕ, zero, suc, ◌+◌, ◌<◌, ◌≤◌, Bool, true, false, cond, List, [], ◌∷◌, ◌++◌, length, take, drop, arith, refl, inl, inr, ◌⊎◌, sym, ◌∙◌, subst, ap, None}
 use Rattle.std.specs.Prelude.{◌==◌, nat_lt, nat_le, min}
 use Rattle.std.proofs.lemmas.Bool.{cases_lt, eqb-true, leb-true, or_cases}
-use Rattle.std.proofs.lemmas.List.{length-take-le}
 use Rattle.iss_sb.specs.declared.effects.Input.{Input}
 use Rattle.iss_sb.specs.declared.effects.Params.{Params}
 use Rattle.raft_wire.specs.declared.entries.Entry.{Entry}
@@ -72,6 +71,11 @@ stay_length (x ∷ xs) (e ∷ es) = go (x.term == e.term) (stay_length xs es)
 pub length_both : (xs ys : List Entry) → length (xs ++ ys) ≡ length xs + length ys
 length_both [] ys = omega arith
 length_both (x ∷ xs) ys = let r = length_both xs ys in omega arith
+
+pub take_long : (c : ℕ) (xs : List Entry) → c ≤ length xs → length (take c xs) ≡ c
+take_long zero xs h = refl
+take_long (suc c) [] h = absurd (omega arith)
+take_long (suc c) (x ∷ xs) h = ap suc (take_long c xs (omega arith))
 
 pub take_some : (c : ℕ) (xs : List Entry) → 1 ≤ c → c ≤ length xs → (P : List Entry) × (y : Entry) × (take c xs ≡ P ++ (y ∷ []))
 take_some zero xs h l = absurd (omega arith)
@@ -185,7 +189,7 @@ module _ (p : Params) (w : World Message) (inv : Inv p w) where
                 let m' = x.3 in
                 let ex = z.1 in
                 let lm = m'.2 in
-                let long = length-take-le c (state p me l).log n in
+                let long = take_long c (state p me l).log n in
                 let fit : Prefix (take c (state p me l).log) m'.0 = elim (leads p.setup.f (LeadOf p w) (histories p w) (facts p w inv) (state p me l).term me me m'.0 (state p me l).log m'.1 here) [
                   | inl y ↦ elim (pre_compare (take c (state p me l).log) m'.0 (state p me l).log (pre_take c (state p me l).log) y) [
                     | inl v ↦ v
@@ -287,7 +291,7 @@ module _ (p : Params) (w : World Message) (inv : Inv p w) where
           kept : Ok k l → (state p k (i ∷ l)).commit ≡ (state p k l).commit → Ok k (i ∷ l)
           kept (inl z) e = inl (e ∙ z)
           kept (inr s) e =
-              let lp = length-take-le prev (state p k l).log a in
+              let lp = take_long prev (state p k l).log a in
               let tk = take_kept (state p k l).commit (take prev (state p k l).log) (drop prev (state p k l).log) es (omega arith) in
               let td = take_drop p w inv prev (state p k l).log in
               let same_front = ap (λ (z : List Entry). take (state p k l).commit z) el ∙ (tk ∙ ap (λ (z : List Entry). take (state p k l).commit z) (sym td)) in

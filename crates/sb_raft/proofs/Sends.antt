@@ -2,7 +2,7 @@
 use Rattle.std.proofs.Common.{◌≡◌, ℕ, zero, suc, ◌+◌, ◌-◌, ◌*◌, ◌≤◌, ◌==◌, ◌&&◌, not, Bool, true, false, cond, if◌then◌else◌, List, [], ◌∷◌, ◌++◌, length, take, refl, sym, subst, ap, ◌∙◌, inl, inr, Some, arith}
 use Rattle.std.specs.Prelude.{nat_lt, nat_le}
 use Rattle.std.proofs.lemmas.Bool.{eqb-true, leb-true, and_parts}
-use Rattle.std.proofs.lemmas.List.{length-take-le, take-append-drop}
+use Rattle.std.proofs.lemmas.List.{take-append-drop}
 use Rattle.iss_base.specs.Lists.{In, set_at}
 use Rattle.iss_request.specs.declared.ids.NodeId.{NodeId}
 use Rattle.iss_request.specs.declared.requests.Batch.{Batch}
@@ -49,6 +49,11 @@ sent-each : (P : ℕ → Message → Type 0) (msg : ℕ → Message) (ks : List 
 sent-each P msg [] h = tt
 sent-each P msg (k ∷ ks) h = (h k, sent-each P msg ks h)
 
+take-count : (n : ℕ) (xs : List Entry) → n ≤ length xs → length (take n xs) ≡ n
+take-count zero xs h = refl
+take-count (suc n) [] h = absurd (omega arith)
+take-count (suc n) (x ∷ xs) h = ap suc (take-count n xs (omega arith))
+
 -- ---- a node alone
 
 none-below : (me n : ℕ) → n ≤ me → count_below (λ k. k == me) n ≡ 0
@@ -80,7 +85,7 @@ module _ (p : Params) (me : ℕ) (nodes : p.setup.n ≡ 2 * p.setup.f + 1) (quor
 
   -- an Append of a state whose commit is not above that of the end
   append-may : (u v : State) (k prev : ℕ) → v.role ≡ Leader → v.term ≡ u.term → v.log ≡ u.log → u.commit ≤ v.commit → prev ≤ length u.log → May s i v k (append_behind u prev)
-  append-may u v k prev r t l c h = (r, sym t, c, (take prev u.log, l ∙ sym (take-append-drop prev u.log), length-take-le prev u.log h, refl))
+  append-may u v k prev r t l c h = (r, sym t, c, (take prev u.log, l ∙ sym (take-append-drop prev u.log), take-count prev u.log h, refl))
 
   appends-may : (u v : State) → v.role ≡ Leader → v.term ≡ u.term → v.log ≡ u.log → u.commit ≤ v.commit → Bounds u → AllSent (May s i v) (appends p me u)
   appends-may u v r t l c b = sent-each (May s i v) (append_to u) (others me p.setup.n) (λ k. append-may u v k (u.next k - 1) r t l c (b.next k))

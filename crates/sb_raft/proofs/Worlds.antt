@@ -1,6 +1,5 @@
 -- The facts that agreement stands on, of each world that moves lead to.
 use Rattle.std.proofs.Common.{◌≡◌, ℕ, zero, suc, List, [], ◌∷◌, ◌++◌, length, take, drop, append_assoc, refl, sym, subst, ap, ◌∙◌, inl, inr, Some, arith}
-use Rattle.std.proofs.lemmas.List.{length-take-le}
 use Rattle.iss_request.specs.declared.ids.Slot.{Slot}
 use Rattle.iss_request.specs.declared.requests.Batch.{Batch}
 use Rattle.iss_sb.specs.declared.effects.Input.{Input}
@@ -18,7 +17,7 @@ use Rattle.sb_raft.specs.Raft.{asks, raft, state}
 use Rattle.sb_raft.specs.Rules.{may_cast}
 use Rattle.sb_raft.proofs.Agree.{agree, inv-of, keeps, starts}
 use Rattle.sb_raft.proofs.Ballots.{Ballots}
-use Rattle.sb_raft.proofs.Commits.{committed_kept, good_at, take_some}
+use Rattle.sb_raft.proofs.Commits.{committed_kept, good_at, take_long, take_some}
 use Rattle.sb_raft.proofs.Core.{matching}
 use Rattle.sb_raft.proofs.Delivers.{room, take-drop}
 use Rattle.sb_raft.proofs.Effects.{cast-parts}
@@ -64,8 +63,8 @@ module _ (p : Params) (w : World Message) (good : IsGoodParams raft p) (reached 
       let t = take_some (suc k) (state p j b).log (omega arith) lb in
       let ls : length (take (suc k) (state p i a).log) ≡ suc (length s.0) = ap (λ (z : List Entry). length z) s.2 ∙ one-longer s.0 s.1 in
       let lt : length (take (suc k) (state p j b).log) ≡ suc (length t.0) = ap (λ (z : List Entry). length z) t.2 ∙ one-longer t.0 t.1 in
-      let ka = length-take-le (suc k) (state p i a).log la in
-      let kb = length-take-le (suc k) (state p j b).log lb in
+      let ka = take_long (suc k) (state p i a).log la in
+      let kb = take_long (suc k) (state p j b).log lb in
       let long : length s.0 ≡ length t.0 = omega (arith, ls, lt, ka, kb) in
       let terms : s.1.term ≡ t.1.term = sym (term_last p w inv s.0 s.1) ∙ (sym (ap last_term s.2) ∙ (e ∙ (ap last_term t.2 ∙ term_last p w inv t.0 t.1))) in
       let first = good_at p w inv i a f s.0 s.1 _ (split-at (suc k) (state p i a).log s.0 s.1 s.2) in
@@ -76,7 +75,7 @@ module _ (p : Params) (w : World Message) (good : IsGoodParams raft p) (reached 
   pub commits-kept : AreKept p w
   commits-kept i j t a b f h later =
       let k = committed_kept p w inv i j a t (state p j b).log f (led-in j t b h) later in
-      let long = length-take-le (state p i a).commit (state p i a).log (room p i a) in
+      let long = take_long (state p i a).commit (state p i a).log (room p i a) in
       cut (state p i a).commit (take (state p i a).commit (state p i a).log) (state p j b).log long k
     where
       cut : (c : ℕ) (C m : List Entry) → length C ≡ c → Prefix C m → C ≡ take c m
