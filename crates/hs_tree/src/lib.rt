@@ -12,3 +12,6 @@ pub use certificates::{Certificate, Signed};
 pub use laws::{certificates_count_nodes, messages_are_exact, one_digest_one_branch};
 pub use messages::Message;
 pub use wire::{read, write};
+
+#[cfg(test)]
+mod tests;

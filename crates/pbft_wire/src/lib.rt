@@ -10,3 +10,6 @@ pub use laws::messages_are_exact;
 pub use messages::{Certificate, Change, Message, Vote};
 pub use reading::read;
 pub use writing::write;
+
+#[cfg(test)]
+mod tests;

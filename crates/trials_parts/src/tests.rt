@@ -1,10 +1,12 @@
 //! Each crate's calls in a module of its own.
+mod echo;
 mod journals;
 mod keys;
 mod layouts;
 mod logs;
 mod network;
 mod packets;
+mod relay;
 mod requests;
 mod schedules;
 mod vectors;

@@ -21,7 +21,7 @@ fn directory(alloc: Global, setup: &Setup) -> Result<SharedDirectory, NoMemory>
 }
 
 /// The instance of epoch 0 in which node 0 leads these slots.
-pub(crate) fn instance<M: Sequenced>(
+pub fn instance<M: Sequenced>(
     alloc: Global,
     setup: Setup,
     slots: Row<Slot>,
