@@ -108,7 +108,13 @@ impl Tally {
     {
         let statement = vote_statement(&self.tag, vote.epoch.0, &vote.chain, vote.requests);
         let directory = self.directory.directory();
-        is_signed(directory, self.n, &statement, vote.by.0, vote.sig.as_slice())
+        is_signed(
+            directory,
+            self.n,
+            &statement,
+            vote.by.0,
+            vote.sig.as_slice(),
+        )
     }
 
     // How many votes say the same as this one, which is among them.
