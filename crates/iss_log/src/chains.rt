@@ -1,5 +1,5 @@
 //! The digests that stand for a log: each value's digest is linked to that of the log before it.
-ghost use Rattle.std.specs.Prelude.{◌≡◌, ◌≢◌, ◌++◌, ◌∷◌, [], List, IfOk, OnErr, OnOk, slice_get};
+ghost use Rattle.std.specs.Prelude.{◌≡◌, ◌≢◌, ◌+◌, length, ◌++◌, ◌∷◌, [], List, IfOk, OnErr, OnOk, slice_get};
 ghost use Rattle.iss_request.specs.Digest.{digest};
 ghost use Rattle.iss_request.specs.Formats.{value_string};
 ghost use Rattle.iss_request.specs.declared.requests.Value.{Value};
@@ -78,6 +78,13 @@ impl Chains {
         let end = link(self.alloc, self.version, &before, value, hashed)?;
         self.ends.push(end)?;
         Ok(())
+    }
+
+    /// How many values the log has.
+    pub fn slots(&self) -> usize
+        ensures { result + 1 ≡ length self.now.ends }
+    {
+        self.ends.len() - 1
     }
 
     /// What stands for the first so many values, `None` past the log.
