@@ -59,7 +59,7 @@ said-by-correct s d log e p hashed good h =
     let parts = and-true (p.epoch.0 == e) ((p.cert.epoch.0 == e) && (length p.values == s.epoch)) is.shape in
     let epoch = is-eq p.cert.epoch.0 e (and-true (p.cert.epoch.0 == e) (length p.values == s.epoch) parts.1).0 in
     let at : VerifiesBy d.nodes one.signer.by.0 (vote_statement s.tag e p.cert.chain p.cert.requests) one.signer.sig =
-        subst (λ (n : ℕ). VerifiesBy d.nodes one.signer.by.0 (vote_statement s.tag n p.cert.chain p.cert.requests) one.signer.sig) epoch one.signed in
+    subst (λ (n : ℕ). VerifiesBy d.nodes one.signer.by.0 (vote_statement s.tag n p.cert.chain p.cert.requests) one.signer.sig) epoch one.signed in
     record {
       node = one.signer.by.0;
       sig = one.signer.sig;
@@ -99,7 +99,7 @@ chains-same version all sep x y lx ly (v ∷ a) [] n sa sb ha hb h = absurd (ome
 chains-same version all sep x y lx ly (v ∷ a) (u ∷ b) n sa sb ha hb h =
     let shorter : length a ≡ length b = omega (arith, n) in
     let others = chains-same version all sep (linked version x v) (linked version y u) (digest-length (value_link version x v)) (digest-length (value_link version y u)) a b shorter
-        (λ z i. sa z (inr i)) (λ z i. sb z (inr i)) (λ t i. ha t (inr (inr i))) (λ t i. hb t (inr (inr i))) h in
+    (λ z i. sa z (inr i)) (λ z i. sb z (inr i)) (λ t i. ha t (inr (inr i))) (λ t i. hb t (inr (inr i))) h in
     let links : value_link version x v ≡ value_link version y u = sep (value_link version x v) (value_link version y u) (ha _ (inr (inl refl))) (hb _ (inr (inl refl))) others.starts in
     let parts = ends-same x y (digest (value_string version v)) (digest (value_string version u)) (lx ∙ sym ly) (tail-same 66 (x ++ digest (value_string version v)) (y ++ digest (value_string version u)) links) in
     let strings : value_string version v ≡ value_string version u = sep (value_string version v) (value_string version u) (ha _ (inl refl)) (hb _ (inl refl)) parts.1 in
@@ -154,7 +154,7 @@ pub is-adopted : (s : Setup) (w : Voters) (log : List Value) (e : ℕ) (p : Piec
     → ours ≡ end_of s.version (adopted_log s log e p) → theirs ≡ said_in p.cert → same_end ours theirs ≡ true → hashed ≡ strings_from s.version start.chain p.values → Adopt hashed ≡ adoption s w log e p
 is-adopted s w log e p start ours theirs hashed shape cert hs ho ht same hh =
     let ends : same_end (end_of s.version (adopted_log s log e p)) (said_in p.cert) ≡ true =
-        subst (λ (x : End). same_end x (said_in p.cert) ≡ true) ho (subst (λ (x : End). same_end ours x ≡ true) ht same) in
+    subst (λ (x : End). same_end x (said_in p.cert) ≡ true) ho (subst (λ (x : End). same_end ours x ≡ true) ht same) in
     let strings : hashed ≡ strings_from s.version (chain_of s.version (log_before s log e)) p.values = hh ∙ ap (λ (x : End). strings_from s.version x.chain p.values) hs in
     rw (shape, cert, ends, strings) refl
 
@@ -162,5 +162,5 @@ pub is-apart : (s : Setup) (w : Voters) (log : List Value) (e : ℕ) (p : Piece)
     → ours ≡ end_of s.version (adopted_log s log e p) → theirs ≡ said_in p.cert → same_end ours theirs ≡ false → WrongChain ours theirs ≡ adoption s w log e p
 is-apart s w log e p ours theirs shape cert ho ht same =
     let ends : same_end (end_of s.version (adopted_log s log e p)) (said_in p.cert) ≡ false =
-        subst (λ (x : End). same_end x (said_in p.cert) ≡ false) ho (subst (λ (x : End). same_end ours x ≡ false) ht same) in
+    subst (λ (x : End). same_end x (said_in p.cert) ≡ false) ho (subst (λ (x : End). same_end ours x ≡ false) ht same) in
     rw (shape, cert, ends) (ap₂ (λ (a : End) (b : End). WrongChain a b) ho ht)

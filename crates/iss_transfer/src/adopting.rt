@@ -1,6 +1,6 @@
 //! Whether the values of a piece are those that its certificate stands for.
 ghost use Rattle.std.specs.Prelude.{◌≡◌, ◌≤◌, ◌<◌, ◌*◌, ◌^◌, ◌++◌, List, length, take, IfOk, OnOk, if◌then◌else◌};
-ghost use Rattle.iss_checkpoint.specs.Votes.{voters_of};
+ghost use Rattle.iss_checkpoint.specs.Votes.{is_cert, voters_of};
 ghost use Rattle.iss_log.specs.Chains.{IsChainOf, end_from, end_of, strings_from};
 ghost use Rattle.iss_request.specs.declared.requests.Value.{Value};
 ghost use Rattle.iss_transfer.specs.Adoption.{adoption, has_shape, said_in, same_end};
@@ -29,6 +29,13 @@ fn has_shape(setup: &Setup, epoch: Epoch, piece: &Piece) -> bool
     piece.epoch.0 == epoch.0
         && piece.cert.epoch.0 == epoch.0
         && piece.values.len() as u64 == setup.epoch
+}
+
+// Whether the piece's certificate is true.
+fn is_certified(setup: &Setup, directory: &Directory, piece: &Piece) -> bool
+    ensures { result ≡ is_cert (voters_of setup.now directory.now) piece.now.cert }
+{
+    check(setup, directory, &piece.cert)
 }
 
 // What a certificate says of the log.
@@ -81,7 +88,7 @@ pub fn adopt(
     if !has_shape(setup, epoch, piece) {
         return Ok(Adoption::WrongEpoch);
     }
-    if !check(setup, directory, &piece.cert) {
+    if !is_certified(setup, directory, piece) {
         return Ok(Adoption::BadCert);
     }
     // Its range is part of the answer.
@@ -91,7 +98,13 @@ pub fn adopt(
     };
     let theirs = said_in(&piece.cert);
     let mut hashed = Row::new(alloc);
-    let ours = end_from(alloc, setup.version, start, piece.values.as_slice(), &mut hashed)?;
+    let ours = end_from(
+        alloc,
+        setup.version,
+        start,
+        piece.values.as_slice(),
+        &mut hashed,
+    )?;
     if !same_end(&ours, &theirs) {
         return Ok(Adoption::WrongChain { ours, theirs });
     }
