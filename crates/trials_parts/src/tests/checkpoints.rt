@@ -4,9 +4,7 @@ ghost use Rattle.std.specs.Prelude.{◌≡◌, ◌<◌, ◌≤◌, IfOk, length}
 use iss_checkpoint::{Added, Cert, Refusal, Tally, Vote, check, vote_statement};
 use iss_keys::{Keys, SharedDirectory};
 use iss_log::{Chains, End};
-use iss_request::{
-    Batch, Bytes, Epoch, Kind, NoMemory, NodeId, Nodes, Policy, Row, Setup, Value,
-};
+use iss_request::{Batch, Bytes, Epoch, Kind, NoMemory, NodeId, Nodes, Policy, Row, Setup, Value};
 use iss_transfer::{Adoption, Piece, adopt};
 use sha2::{Digest, Sha256};
 use std::alloc::Global;
@@ -14,11 +12,13 @@ use std::test::Fail;
 
 // The chain of three empty batches, and that of an empty batch, nil and an empty batch.
 const BATCHES: [u8; 32] = [
-    181, 191, 129, 2, 154, 140, 156, 142, 220, 220, 193, 197, 184, 124, 20, 15, 246, 188, 175, 62, 215, 219, 1, 67, 202, 57, 113, 19, 171, 42, 189, 203
+    181, 191, 129, 2, 154, 140, 156, 142, 220, 220, 193, 197, 184, 124, 20, 15, 246, 188, 175, 62,
+    215, 219, 1, 67, 202, 57, 113, 19, 171, 42, 189, 203,
 ];
 
 const NIL_BETWEEN: [u8; 32] = [
-    107, 100, 183, 125, 75, 59, 171, 147, 188, 11, 238, 217, 222, 220, 50, 40, 253, 92, 223, 21, 157, 204, 151, 243, 71, 11, 241, 113, 149, 143, 83, 35
+    107, 100, 183, 125, 75, 59, 171, 147, 188, 11, 238, 217, 222, 220, 50, 40, 253, 92, 223, 21,
+    157, 204, 151, 243, 71, 11, 241, 113, 149, 143, 83, 35,
 ];
 
 fn three(alloc: Global) -> Setup
@@ -89,7 +89,10 @@ fn a_vote_counts_once(rt: HostRuntime) -> Result<(), Fail> {
     let mut tally = Tally::new(alloc, &setup, keys, Epoch(0));
     assert_eq!(rt; add(&mut tally, vote_of(alloc, &setup, 0, 0)?)?, "counted");
     assert_eq!(rt; add(&mut tally, vote_of(alloc, &setup, 0, 0)?)?, "twice");
-    assert_eq!(rt; add(&mut tally, vote_of(alloc, &setup, 1, 0)?)?, "bad signature");
+    assert_eq!(rt;
+        add(&mut tally, vote_of(alloc, &setup, 1, 0)?)?,
+        "bad signature"
+    );
     Ok(())
 }
 
@@ -111,7 +114,10 @@ fn a_vote_on_another_epoch_is_refused(rt: HostRuntime) -> Result<(), Fail> {
     let setup = three(alloc);
     let keys = directory(alloc, setup.n)?;
     let mut tally = Tally::new(alloc, &setup, keys, Epoch(1));
-    assert_eq!(rt; add(&mut tally, vote_of(alloc, &setup, 0, 0)?)?, "other epoch");
+    assert_eq!(rt;
+        add(&mut tally, vote_of(alloc, &setup, 0, 0)?)?,
+        "other epoch"
+    );
     Ok(())
 }
 
@@ -191,7 +197,12 @@ fn strings(adoption: &Option<Adoption>) -> Option<usize> {
 
 fn apart(adoption: &Option<Adoption>, ours: End, theirs: End) -> bool {
     match adoption {
-        Some(Adoption::WrongChain { ours: one, theirs: other }) => *one == ours && *other == theirs,
+        Some(
+            Adoption::WrongChain {
+                ours: one,
+                theirs: other,
+            },
+        ) => *one == ours && *other == theirs,
         _ => false,
     }
 }
