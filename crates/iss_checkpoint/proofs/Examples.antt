@@ -1,13 +1,12 @@
 -- What the definitions say of four votes, of which three say the same.
-use Rattle.std.proofs.Common.{◌≡◌, ℕ, Bool, true, false, List, [], ◌∷◌, length, refl, Some, None, replicate}
-use Rattle.std.specs.Prelude.{Option}
+use Rattle.std.proofs.Common.{◌≡◌, ℕ, [], ◌∷◌, length, refl, Some, replicate}
 use Rattle.iss_keys.specs.VerifiedBy.{is_true_under, is_verified_by}
 use Rattle.iss_sb.specs.Statements.{wide_bytes}
 use Rattle.iss_checkpoint.specs.declared.votes.Signed.{Signed}
 use Rattle.iss_checkpoint.specs.declared.votes.Vote.{Vote}
 use Rattle.iss_checkpoint.specs.declared.tallies.Refusal.TheVariants.{OtherEpoch, BadSignature}
 use Rattle.iss_checkpoint.specs.Tallies.{TallyState, certificate, refusal, signed_below, vote_at, with_vote}
-use Rattle.iss_checkpoint.specs.Votes.{are_signed, is_cert, vote_statement}
+use Rattle.iss_checkpoint.specs.Votes.{vote_statement}
 
 abbrev vote : ℕ → ℕ → Vote
 vote by chain = record { epoch = record { 0 = 5 }; chain = replicate 32 chain; requests = 7; by = record { 0 = by }; sig = by ∷ [] }

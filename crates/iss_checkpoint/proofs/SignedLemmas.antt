@@ -1,9 +1,9 @@
 -- Signatures that are checked one after the other, and what follows of a certificate.
-use Rattle.std.proofs.Common.{◌≡◌, ◌↔◌, inl, inr, ℕ, suc, ◌<◌, ◌≤◌, ◌^◌, Bool, true, false, IsTrue, ◌&&◌, ◌||◌, ◌==◌, not, eqb, leb, List, [], ◌∷◌, ◌++◌, length, take, drop, zero, ◌+◌, refl, sym, ap, ◌∙◌, subst, arith, append_assoc, true≢false}
+use Rattle.std.proofs.Common.{◌≡◌, ◌↔◌, inl, inr, ℕ, suc, ◌<◌, ◌≤◌, ◌^◌, Bool, true, false, IsTrue, ◌&&◌, ◌||◌, ◌==◌, not, eqb, List, [], ◌∷◌, ◌++◌, length, take, drop, zero, refl, sym, ap, ◌∙◌, arith, append_assoc, true≢false}
 use Rattle.std.specs.Prelude.{nat_le, nat_lt}
 use Rattle.std.specs.Int.{to_be_bytes, w64}
 use Rattle.std.proofs.lemmas.Bool.{le-leb, leb-true, lt-leb, lt-ltb, ltb-true}
-use Rattle.std.proofs.lemmas.Bool.Decides.{Decides-eqb, leb_tells}
+use Rattle.std.proofs.lemmas.Bool.Decides.{Decides-eqb}
 use Rattle.std.proofs.lemmas.List.{append-nil, length-append}
 use borrow.Rule.Slice.PartMut.{put_mid}
 use Rattle.iss_base.specs.Lists.{In}

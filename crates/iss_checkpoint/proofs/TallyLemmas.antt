@@ -1,15 +1,15 @@
 -- Votes that are counted, and the certificate of those that say the same.
-use Rattle.std.proofs.Common.{◌≡◌, ◌≢◌, inl, inr, ℕ, zero, suc, ◌+◌, ◌<◌, ◌≤◌, Bool, true, false, cond, ◌&&◌, ◌==◌, not, eqb, List, [], ◌∷◌, ◌++◌, length, append-nil, refl, sym, ap, ◌∙◌, subst, arith, true≢false, Option, Some, None, is_some}
-use Rattle.std.specs.Prelude.{nat_le, nat_lt}
+use Rattle.std.proofs.Common.{◌≡◌, inl, inr, ℕ, zero, suc, ◌+◌, ◌<◌, ◌≤◌, Bool, true, false, cond, ◌&&◌, ◌==◌, eqb, List, [], ◌∷◌, ◌++◌, length, append-nil, refl, sym, ap, ◌∙◌, subst, arith, Option, Some, None}
+use Rattle.std.specs.Prelude.{nat_le}
 use Rattle.std.specs.Ordering.{is_eq, nat_cmp}
-use Rattle.std.proofs.lemmas.Bool.{le-leb, leb-true}
+use Rattle.std.proofs.lemmas.Bool.{le-leb}
 use Rattle.std.proofs.lemmas.List.{length-append}
 use Rattle.iss_base.specs.Lists.{In, same_bytes}
 use Rattle.iss_base.proofs.Lists.{and-true, both, in_append, is-eq, same_bytes-is, same_bytes-refl, eqb-same}
 use Rattle.iss_checkpoint.specs.declared.votes.Cert.{Cert}
 use Rattle.iss_checkpoint.specs.declared.votes.Signed.{Signed}
 use Rattle.iss_checkpoint.specs.declared.votes.Vote.{Vote}
-use Rattle.iss_checkpoint.specs.Votes.{Voters, are_signed, cert_statement, is_cert, is_signed, statement_of, vote_statement}
+use Rattle.iss_checkpoint.specs.Votes.{Voters, are_signed, cert_statement, is_cert, is_signed, statement_of}
 use Rattle.iss_checkpoint.specs.Tallies.{AreVotes, IsVoteOf, TallyState, certificate_by, refusal, say_same, signed_below, signed_if, vote_at, with_vote}
 
 pub same-node : (a b : ℕ) → is_eq (nat_cmp a b) ≡ eqb a b

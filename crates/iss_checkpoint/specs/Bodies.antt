@@ -1,7 +1,7 @@
 -- How a vote is spelled in the body of its packet, whose head names the node and the epoch.
 --
 --   vote     chain (32 bytes), number of requests (8), signature
-use Rattle.std.specs.Prelude.{◌≡◌, ℕ, ◌<◌, ◌^◌, nat_lt, ◌==◌, ◌&&◌, Bool, true, List, [], ◌∷◌, ◌++◌, length, if◌then◌else◌, replicate}
+use Rattle.std.specs.Prelude.{◌≡◌, ℕ, ◌<◌, ◌^◌, nat_lt, ◌==◌, ◌&&◌, Bool, true, List, ◌++◌, length, if◌then◌else◌, replicate}
 use Rattle.std.specs.Int.{to_be_bytes, w64}
 use Rattle.iss_request.specs.Formats.{is_signature, parse_signature}
 use Rattle.iss_request.specs.Parsing.{Parser, ◌>>=◌, block, done, number}

@@ -1,5 +1,5 @@
 -- The votes on one epoch that were counted, one of each node, and what becomes of a further one.
-use Rattle.std.specs.Prelude.{◌≡◌, ◌≢◌, ℕ, zero, suc, ◌==◌, ◌&&◌, not, Bool, true, false, if◌then◌else◌, List, [], ◌∷◌, ◌++◌, length, Option, Some, None, is_some, Result, Ok, Err}
+use Rattle.std.specs.Prelude.{◌≡◌, ◌≢◌, ℕ, zero, suc, ◌==◌, ◌&&◌, not, Bool, true, if◌then◌else◌, List, [], ◌∷◌, ◌++◌, length, Option, Some, None, is_some, Result, Ok, Err}
 use Rattle.std.specs.Map.{lookup}
 use Rattle.std.specs.Ordering.{is_eq, nat_cmp}
 use Rattle.iss_base.specs.Lists.{same_bytes}

@@ -1,12 +1,11 @@
 -- The chain of a log with one value more, and what is kept of it.
-use Rattle.std.proofs.Common.{◌≡◌, ◌≢◌, ℕ, zero, suc, ◌+◌, ◌<◌, ◌≤◌, List, [], ◌∷◌, ◌++◌, length, take, refl, sym, ap, ap₂, ◌∙◌, subst, arith, append_assoc, length-append, Option, Some, None, slice_get, ⊎_elim}
+use Rattle.std.proofs.Common.{◌≡◌, ℕ, zero, suc, ◌<◌, ◌≤◌, List, [], ◌∷◌, ◌++◌, length, take, refl, sym, ap, ◌∙◌, subst, arith, append_assoc, length-append, Some, slice_get, ⊎_elim}
 use Rattle.std.proofs.lemmas.List.{append-nil}
 use Rattle.std.proofs.lemmas.Bool.{cases_lt}
 use Rattle.iss_request.specs.Digest.{digest}
-use Rattle.iss_request.specs.Log.{requests, size_of}
 use Rattle.iss_request.specs.declared.requests.Value.{Value}
 use Rattle.iss_log.specs.declared.chains.End.{End}
-use Rattle.iss_log.specs.Chains.{ChainsState, IsChainOf, chain_from, chain_of, end_from, end_of, linked, next_end, strings_from, strings_of}
+use Rattle.iss_log.specs.Chains.{ChainsState, IsChainOf, chain_from, end_from, end_of, linked, next_end, strings_from, strings_of}
 use Rattle.iss_log.proofs.LogLemmas.{requests_more, take_front, take_whole}
 
 pub chain-append : (version : ℕ) (before : List ℕ) (a b : List Value) → chain_from version before (a ++ b) ≡ chain_from version (chain_from version before a) b

@@ -1,9 +1,8 @@
 -- What an adoption says, and why chains of one digest are of one log.
-use Rattle.std.proofs.Common.{◌≡◌, inl, inr, ℕ, zero, suc, ◌+◌, ◌*◌, ◌<◌, ◌≤◌, Bool, true, false, ◌==◌, ◌&&◌, not, List, [], ◌∷◌, ◌++◌, length, take, append-nil, append_assoc, refl, sym, ap, ap₂, ◌∙◌, subst, arith, true≢false, Some, None, slice_get, get_or}
-use Rattle.std.proofs.lemmas.List.{length-append}
+use Rattle.std.proofs.Common.{◌≡◌, inl, inr, ℕ, zero, suc, ◌+◌, ◌*◌, ◌<◌, ◌≤◌, Bool, true, false, ◌==◌, ◌&&◌, List, [], ◌∷◌, ◌++◌, length, take, append_assoc, refl, sym, ap, ap₂, ◌∙◌, subst, arith, Some, None, slice_get, get_or}
 use Rattle.sha2.proofs.Facts256.{length-sha256}
 use Rattle.iss_base.specs.Lists.{In, same_bytes}
-use Rattle.iss_base.proofs.Lists.{and-true, ends-same, in_append, in_left, in_right, is-eq, same_bytes-is, some-injective}
+use Rattle.iss_base.proofs.Lists.{and-true, ends-same, is-eq, same_bytes-is, some-injective}
 use Rattle.iss_keys.specs.Directories.{DirectoryView, VerifiesBy}
 use Rattle.iss_log.specs.Chains.{ChainsState, IsChainOf, chain_from, chain_of, end_from, end_of, linked, next_end, strings_from, strings_of, value_link}
 use Rattle.iss_log.specs.declared.chains.End.{End}
@@ -17,7 +16,6 @@ use Rattle.iss_request.specs.declared.setups.Setup.{Setup}
 use Rattle.iss_sb.specs.Evidence.{Separate}
 use Rattle.iss_checkpoint.specs.Votes.{Voters, is_cert, vote_statement, voters_of}
 use Rattle.iss_checkpoint.proofs.SignedLemmas.{correct-signer}
-use Rattle.iss_transfer.specs.declared.adopting.Adoption.{Adoption}
 use Rattle.iss_transfer.specs.declared.adopting.Adoption.TheVariants.{Adopt, WrongEpoch, BadCert, WrongChain}
 use Rattle.iss_transfer.specs.declared.pieces.Piece.{Piece}
 use Rattle.iss_transfer.specs.Adoption.{IsHashed, IsSaidByCorrect, adopted_log, adoption, has_shape, log_before, said_in, same_end}

@@ -1,4 +1,4 @@
-use Rattle.std.proofs.Common.{rules, ◌≡◌, ◌^◌, ◌<◌, ◌++◌, ◌∷◌, [], ◌∙◌, refl, arith}
+use Rattle.std.proofs.Common.{◌^◌, ◌<◌, ◌∙◌, refl, arith}
 use Rattle.iss_checkpoint.proofs.SignedLemmas.{statement-put}
 use Rattle.iss_checkpoint.proofs.votes.vote_statement.Goals as goal
 

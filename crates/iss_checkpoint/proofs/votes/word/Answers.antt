@@ -1,4 +1,4 @@
-use Rattle.std.proofs.Common.{rules, ◌≡◌, refl}
+use Rattle.std.proofs.Common.{rules, refl}
 use Rattle.std.specs.Int.{to_be_bytes, w64}
 use Rattle.iss_checkpoint.proofs.SignedLemmas.{two-parts}
 use Rattle.iss_checkpoint.proofs.votes.word.Goals as goal

@@ -1,5 +1,4 @@
-use Rattle.std.proofs.Common.{◌≡◌, ◌<◌, ◌*◌, ◌^◌, ◌++◌, ◌∙◌, ap, sym, true, false, arith, w64, Some}
-use Rattle.std.specs.Prelude.{slice_get}
+use Rattle.std.proofs.Common.{◌<◌, ◌*◌, ◌^◌, ◌++◌, ◌∙◌, ap, sym, arith, w64}
 use Rattle.std.proofs.Math.Facts.{Fits-of_lt}
 use Rattle.iss_log.specs.Chains.{end_from, strings_from}
 use Rattle.iss_transfer.proofs.AdoptionLemmas.{end-there, is-adopted, is-apart, ours-is, start-is}

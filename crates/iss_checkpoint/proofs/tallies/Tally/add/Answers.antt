@@ -1,6 +1,5 @@
-use Rattle.std.proofs.Common.{◌≡◌, ap, sym, subst, None, ◌∙◌, length, arith, rules, ℕ}
+use Rattle.std.proofs.Common.{◌≡◌, ap, sym, subst, None, ◌∙◌, length, arith, rules}
 use Rattle.iss_checkpoint.specs.Tallies.{AreVotes, TallyState, refusal}
-use Rattle.iss_checkpoint.specs.Votes.{voters_in}
 use Rattle.iss_checkpoint.proofs.TallyLemmas.{cert-true}
 use Rattle.iss_checkpoint.proofs.tallies.Tally.add.Goals as goal
 
