@@ -1,5 +1,4 @@
 //! Each crate's calls in a module of its own.
-mod checkpoints;
 mod echo;
 mod journals;
 mod keys;
