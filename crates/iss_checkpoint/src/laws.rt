@@ -20,7 +20,8 @@ pub fn certificates_have_a_correct_signer()
 /// as no vote, whatever stands behind them.
 pub fn votes_are_exact()
     ensures only { (by e : ℕ) (bytes rest : List ℕ) (v : Vote) → parse_vote by e bytes ≡ Good v rest → bytes ≡ spell_vote v ++ rest }
-    ensures whole { (v : Vote) → IsReadAgain spell_vote (parse_vote v.by.0 v.epoch.0) v ⊎ ((rest : List ℕ) → IsBad (parse_vote v.by.0 v.epoch.0 (spell_vote v ++ rest))) }
+    ensures whole { (v : Vote) → IsReadAgain spell_vote (parse_vote v.by.0 v.epoch.0) v
+        ⊎ ((rest : List ℕ) → IsBad (parse_vote v.by.0 v.epoch.0 (spell_vote v ++ rest))) }
     // What is read of bytes, and all of them, is what the table relates to them.
     ensures table { (by e : ℕ) (v : Vote) (bytes : List ℕ) → (parse_vote by e bytes ≡ Good v []) ↔ IsSpelledVote by e v bytes }
 {}

@@ -70,7 +70,8 @@ impl Chains {
     /// One value more, behind the others. The strings that are hashed for it are put behind others.
     pub fn join(&mut self, value: &Value, hashed: &mut Row<Bytes>) -> Result<(), NoMemory>
         ensures joined { OnOk result ((log : List Value) → IsChainOf self.old log → IsChainOf self.new (log ++ value.now ∷ [])) }
-        ensures hashed { OnOk result ((log : List Value) → IsChainOf self.old log → hashed.new ≡ hashed.old ++ strings_of self.old.version (chain_of self.old.version log) value.now) }
+        ensures hashed { OnOk result ((log : List Value) → IsChainOf self.old log
+            → hashed.new ≡ hashed.old ++ strings_of self.old.version (chain_of self.old.version log) value.now) }
         ensures version { self.new.version ≡ self.old.version }
         ensures err { OnErr result (self.new ≡ self.old) }
     {

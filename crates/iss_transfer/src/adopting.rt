@@ -83,7 +83,8 @@ pub fn adopt(
 ) -> Result<Adoption, NoMemory>
     requires version { chains.now.version ≡ setup.now.version }
     requires whole { epoch.0 * setup.now.epoch < length chains.now.ends }
-    ensures { (log : List Value) → IsChainOf chains.now log → IfOk result (λ a. a ≡ adoption setup.now (voters_of setup.now directory.now) log epoch.0 piece.now) }
+    ensures { (log : List Value) → IsChainOf chains.now log
+        → IfOk result (λ a. a ≡ adoption setup.now (voters_of setup.now directory.now) log epoch.0 piece.now) }
 {
     if !has_shape(setup, epoch, piece) {
         return Ok(Adoption::WrongEpoch);
