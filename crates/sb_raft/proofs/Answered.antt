@@ -18,18 +18,13 @@ use Rattle.sb_raft.specs.Raft.{raft_log, state}
 use Rattle.sb_raft.specs.Rules.{Role, Follower, Candidate, Leader, State, Step, advanced, is_leader, on_ok, on_reply, quiet, raised}
 use Rattle.sb_raft.proofs.Effects.{Turn, follows, stands, runs, rules, wins, wins_alone, term_level, turn}
 use Rattle.sb_raft.proofs.Histories.{LeadIn, cand_never, lead_here, lead_term}
-use Rattle.sb_raft.proofs.Steps.{Raise, level, higher, next, up, advanced-state, with_match, Handled, none, down, copy, reply, back, grant, voted, win, casts, times, alone, Next, next_cases}
+use Rattle.sb_raft.proofs.Steps.{Raise, leader_is, level, higher, next, up, advanced-state, with_match, Handled, none, down, copy, reply, back, grant, voted, win, casts, times, alone, Next, next_cases}
 
 pub same-is : (a b : ℕ) → a ≡ b → (a == b) ≡ true
 same-is a b e = eq-eqb a b e
 
 pub leads-is : (r : Role) → r ≡ Leader → is_leader r ≡ true
 leads-is r e = ap is_leader e
-
-leader-of : (r : Role) → is_leader r ≡ true → r ≡ Leader
-leader-of Follower h = absurd (true≢false (sym h))
-leader-of Candidate h = absurd (true≢false (sym h))
-leader-of Leader h = refl
 
 -- two roles at once
 pub no-role : (r a b : Role) (A : Type 0) → r ≡ a → r ≡ b → is_leader a ≡ false → is_leader b ≡ true → A
@@ -200,7 +195,7 @@ module _ (p : Params) (me : ℕ) where
     | inl a ↦
         let b = and_parts (leads_term p me xs t) (is_answer t i k (length (raft_log p me xs)) x.input) a in
         let c = and_parts (is_leader (state p me xs).role) ((state p me xs).term == t) b.0 in
-        let here = lead_here p me xs (leader-of (state p me xs).role c.0) in
+        let here = lead_here p me xs (leader_is (state p me xs).role c.0) in
         ((state p me xs).log, inr (subst (λ (z : ℕ). LeadIn p me xs z (state p me xs).log) (eqb-true (state p me xs).term t c.1) here))
     | inr a ↦ let r = answered-led t i k xs a in (r.0, inr r.1)
   ]
@@ -214,7 +209,7 @@ module _ (p : Params) (me : ℕ) where
             let b = and_parts (leads_term p me xs (state p me (x ∷ xs)).term) (is_answer (state p me (x ∷ xs)).term i k (length (raft_log p me xs)) x.input) a in
             let c = and_parts (is_leader (state p me xs).role) ((state p me xs).term == (state p me (x ∷ xs)).term) b.0 in
             let same = eqb-true (state p me xs).term (state p me (x ∷ xs)).term c.1 in
-            answers-now p me (state p me xs) i k x.input (leader-of (state p me xs).role c.0) ne (subst (λ (z : ℕ). is_answer z i k (length (raft_log p me xs)) x.input ≡ true) (sym same) b.1)
+            answers-now p me (state p me xs) i k x.input (leader_is (state p me xs).role c.0) ne (subst (λ (z : ℕ). is_answer z i k (length (raft_log p me xs)) x.input ≡ true) (sym same) b.1)
         | inr a ↦ old (answered-matched xs i k) (answered-led (state p me (x ∷ xs)).term i k xs a) a (turn p me (state p me xs) x.input)
       ]
     where

@@ -162,7 +162,7 @@ module _ (p : Params) (w : World Message) (inv : Inv p w) where
               by true = refl
               by false = refl
 
-  -- F6 commits
+  -- a leader counts who holds the log, and commits
   counted_done : (me : ℕ) (l : List (Item Message)) (c : ℕ) → Front l (w me) → (state p me l).role ≡ Leader → 1 ≤ c → c ≤ length (state p me l).log → last_term (take c (state p me l).log) ≡ (state p me l).term → p.setup.quorum ≤ count_below (λ k. (k == me) || nat_le c ((state p me l).matched k)) p.setup.n → Done (state p me l).term (take c (state p me l).log)
   counted_done me l c f r one n lt q =
       let e = take_some c (state p me l).log one n in

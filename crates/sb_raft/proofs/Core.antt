@@ -45,7 +45,7 @@ pub record Grow (Lead : ℕ → ℕ → List Entry → Type 0) (k : ℕ) (n o : 
   pub term : OfTerm n.term own
   pub lead : Lead n.term k n.log
 
--- F3: behind a place at which both logs have an entry of one term, or at the front
+-- an Append is taken behind a place at which both logs have an entry of one term, or at the front
 pub record Copy (Lead : ℕ → ℕ → List Entry → Type 0) (n o : Moment) : Type 0 where
   pub leader : ℕ
   pub old_front : List Entry

@@ -12,9 +12,9 @@ use Rattle.sb_raft.specs.Raft.{decided, state, value_at, raft}
 use Rattle.sb_raft.specs.Rules.{State}
 use Rattle.sb_raft.specs.Logs.{content, contents, merge}
 use Rattle.sb_raft.proofs.Logs.{Prefix}
-use Rattle.sb_raft.proofs.Prefixes.{pre_length, pre_refl, pre_rest, pre_trans}
+use Rattle.sb_raft.proofs.Prefixes.{pre_length, pre_rest, pre_trans}
 use Rattle.sb_raft.proofs.Steps.{next}
-use Rattle.sb_raft.proofs.Matches.{Commit, same, counted, copied, commit}
+use Rattle.sb_raft.proofs.Matches.{Commit, same, counted, copied, commit, front_same}
 use Rattle.sb_raft.proofs.Commits.{take_pre, take_less, take_kept, stay_length, length_both, take_long}
 
 pub merge-longer : (xs es : List Entry) → length es ≤ length (merge xs es)
@@ -35,16 +35,13 @@ record IsOn (a b : State) : Type 0 where
   pub room : b.commit ≤ length b.log
   pub front : Prefix (take a.commit a.log) (take b.commit b.log)
 
-same-front : (a b : List Entry) → b ≡ a → Prefix a b
-same-front a b e = subst (λ (z : List Entry). Prefix a z) (sym e) (pre_refl a)
-
 on : (p : Params) (me : ℕ) (s : State) (i : Input Message) (v : State) → s.commit ≤ length s.log → Commit p me s i v → IsOn s v
 on p me s i v room (same e f) =
     let l = pre_length s.log v.log f in
-    record { room = omega arith; front = same-front (take s.commit s.log) (take v.commit v.log) (ap (λ (z : ℕ). take z v.log) e ∙ take_pre s.commit s.log v.log f room) }
+    record { room = omega arith; front = front_same (take s.commit s.log) (take v.commit v.log) (ap (λ (z : ℕ). take z v.log) e ∙ take_pre s.commit s.log v.log f room) }
 on p me s i v room (counted c e one n lt q r f up) =
     let less = take_less s.commit v.commit v.log (omega arith) in
-    record { room = omega arith; front = pre_trans (take s.commit s.log) (take s.commit v.log) (take v.commit v.log) (same-front (take s.commit s.log) (take s.commit v.log) (take_pre s.commit s.log v.log f room)) less }
+    record { room = omega arith; front = pre_trans (take s.commit s.log) (take s.commit v.log) (take v.commit v.log) (front_same (take s.commit s.log) (take s.commit v.log) (take_pre s.commit s.log v.log f room)) less }
 on p me s i v room (copied j prev pt c es ei a b st el ec er) =
     let lp = take_long prev s.log a in
     let tk = take_kept s.commit (take prev s.log) (drop prev s.log) es (omega arith) in
@@ -53,7 +50,7 @@ on p me s i v room (copied j prev pt c es ei a b st el ec er) =
     let ml = merge-longer (drop prev s.log) es in
     let ll = ap length el ∙ length_both (take prev s.log) (merge (drop prev s.log) es) in
     let less = take_less s.commit v.commit v.log (omega arith) in
-    record { room = omega arith; front = pre_trans (take s.commit s.log) (take s.commit v.log) (take v.commit v.log) (same-front (take s.commit s.log) (take s.commit v.log) kept) less }
+    record { room = omega arith; front = pre_trans (take s.commit s.log) (take s.commit v.log) (take v.commit v.log) (front_same (take s.commit s.log) (take s.commit v.log) kept) less }
 
 pub room-next : (p : Params) (me : ℕ) (s : State) (i : Input Message) → s.commit ≤ length s.log → (next p me s i).commit ≤ length (next p me s i).log
 room-next p me s i h = (on p me s i (next p me s i) h (commit p me s i)).room

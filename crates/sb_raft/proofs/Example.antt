@@ -122,7 +122,7 @@ delivers_at_a_follower = refl
 commits_what_it_has : (state p 1 (take_in 1 copied (tell 0 (Append 1 0 0 7 [])))).commit ≡ 0
 commits_what_it_has = refl
 
--- ---- a gap, and F5
+-- ---- a gap, and the leader who sends one entry more after each refusal
 
 gap : sends 2 [] (tell 0 (Append 1 1 1 1 [])) ≡ to 0 (Reply 1 false 1) ∷ []
 gap = refl
@@ -192,11 +192,11 @@ says_again = refl
 no_cast_later : asks p 0 (take_in 0 cast (tell 1 (AskVote 2 1 1))) (Cast (slot 3) b) ≡ None
 no_cast_later = refl
 
--- F2
+-- an Append of a lower term
 of_the_past : sends 2 (take_in 2 [] (tell 1 (AskVote 2 1 1))) (tell 0 (Append 1 4 1 0 [])) ≡ to 0 (Reply 2 false 4) ∷ []
 of_the_past = refl
 
--- ---- F3 where a committed entry would go: no answer, and the term is taken
+-- ---- an Append by which a committed entry would go: no answer, and the term is taken
 
 abbrev pub silent : List (Item Message)
 silent = take_in 0 committed (tell 2 (Append 3 0 0 0 (entry 3 Mark ∷ [])))
@@ -223,6 +223,54 @@ removes = refl
 -- a late Append takes nothing away
 stays : (state p 1 (take_in 1 led (tell 2 (Append 3 0 0 0 (e1 ∷ []))))).log ≡ log2
 stays = refl
+
+-- ---- a log is repaired: node 2 has nothing, and refuses; it is sent one entry more, takes all, and the leader commits
+
+abbrev pub refused : List (Item Message)
+refused = take_in 1 led (tell 2 (Reply 2 false 1))
+
+refuses : sends 2 [] (tell 1 (Append 2 1 1 0 (entry 2 Mark ∷ entry 2 Nil ∷ []))) ≡ to 1 (Reply 2 false 1) ∷ []
+refuses = refl
+
+sends_one_more : sends 1 led (tell 2 (Reply 2 false 1)) ≡ to 2 (Append 2 0 0 0 log2) ∷ []
+sends_one_more = refl
+
+-- the same refusal once more, which is not of the Append that was sent last, and one of a lower term
+refused_once : (sends 1 refused (tell 2 (Reply 2 false 1)) ≡ []) × (sends 1 led (tell 2 (Reply 1 false 1)) ≡ [])
+refused_once = (refl, refl)
+
+abbrev pub repaired : List (Item Message)
+repaired = take_in 2 [] (tell 1 (Append 2 0 0 0 log2))
+
+repairs : (state p 2 repaired).log ≡ log2
+repairs = refl
+
+says_so : sends 2 [] (tell 1 (Append 2 0 0 0 log2)) ≡ to 1 (Reply 2 true 3) ∷ []
+says_so = refl
+
+commits_repaired : sends 1 refused (tell 2 (Reply 2 true 3)) ≡ to 0 (Append 2 1 1 3 (entry 2 Mark ∷ entry 2 Nil ∷ [])) ∷ to 2 (Append 2 3 2 3 []) ∷ []
+commits_repaired = refl
+
+-- and at node 0, where a second cast stands in the place of the mark, that cast goes
+abbrev pub cast_twice : List (Item Message)
+cast_twice = take_in 0 cast (Cast (slot 3) b)
+
+conflict : (state p 0 cast_twice).log ≡ e1 ∷ (entry 1 (Holds b) ∷ [])
+conflict = refl
+
+removed : (state p 0 (take_in 0 cast_twice (tell 1 (Append 2 1 1 0 (entry 2 Mark ∷ entry 2 Nil ∷ []))))).log ≡ log2
+removed = refl
+
+-- ---- the last term: in it a timeout changes nothing, and in the one before it leads there
+
+abbrev pub at_term : ℕ → List (Item Message)
+at_term t = take_in 2 [] (tell 1 (AskVote t 0 0))
+
+last_term_stays : (sends 2 (at_term 65535) Timeout ≡ []) × ((state p 2 (take_in 2 (at_term 65535) Timeout)).term ≡ 65535)
+last_term_stays = (refl, refl)
+
+last_term_comes : sends 2 (at_term 65534) Timeout ≡ to 0 (AskVote 65535 0 0) ∷ to 1 (AskVote 65535 0 0) ∷ []
+last_term_comes = refl
 
 -- ---- one node alone commits what it casts, and wins at once
 

@@ -43,10 +43,10 @@ pub data Commit (p : Params) (me : ℕ) (s : State) (i : Input Message) (v : Sta
   counted : (c : ℕ) → v.commit ≡ c → 1 ≤ c → c ≤ length v.log → last_term (take c v.log) ≡ v.term → p.setup.quorum ≤ count_below (λ k. (k == me) || nat_le c (v.matched k)) p.setup.n → v.role ≡ Leader → Prefix s.log v.log → s.commit < c → Commit p me s i v
   copied : (j : NodeId) (prev pt c : ℕ) (es : List Entry) → i ≡ Receive j (Append v.term prev pt c es) → prev ≤ length s.log → last_term (take prev s.log) ≡ pt → s.commit ≤ prev + stay (drop prev s.log) es → v.log ≡ take prev s.log ++ merge (drop prev s.log) es → v.commit ≡ max s.commit (min c (prev + length es)) → v.role ≡ Follower → Commit p me s i v
 
-front_same : (a b : List Entry) → b ≡ a → Prefix a b
+pub front_same : (a b : List Entry) → b ≡ a → Prefix a b
 front_same a b e = subst (λ (z : List Entry). Prefix a z) (sym e) (pre_refl a)
 
--- after F6 in a state u that keeps s's commit and extends its log
+-- after committing by counting in a state u that keeps s's commit and extends its log
 reach_commit : (p : Params) (me : ℕ) (s u : State) (i : Input Message) (v : State) → v ≡ with_reach p me u → u.commit ≡ s.commit → Prefix s.log u.log → u.role ≡ Leader → Commit p me s i v
 reach_commit p me s u i v e c f r =
     let el : v.log ≡ u.log = ap (λ (z : State). z.log) e in

@@ -22,6 +22,7 @@ use Rattle.sb_raft.specs.Logs.{entry, fits_behind}
 use Rattle.sb_raft.proofs.Steps.{by_test, leader_is, greatest-above, reach, with_cast, with_granted, with_match}
 use Rattle.sb_raft.proofs.Effects.{cast-parts}
 use Rattle.sb_raft.proofs.Bounds.{Bound, Bounds, cast-bounds, match-bounds, raised-bound, won-bounds}
+use Rattle.sb_raft.proofs.Commits.{take_long}
 use Rattle.sb_raft.proofs.Inv.{May}
 
 abbrev pub IsOne : (ℕ → Message → Type 0) → To → Message → Type 0
@@ -48,11 +49,6 @@ sent-append P (x ∷ a) b h k = (h.0, sent-append P a b h.1 k)
 sent-each : (P : ℕ → Message → Type 0) (msg : ℕ → Message) (ks : List ℕ) → ((k : ℕ) → P k (msg k)) → AllSent P (to_each msg ks)
 sent-each P msg [] h = tt
 sent-each P msg (k ∷ ks) h = (h k, sent-each P msg ks h)
-
-take-count : (n : ℕ) (xs : List Entry) → n ≤ length xs → length (take n xs) ≡ n
-take-count zero xs h = refl
-take-count (suc n) [] h = absurd (omega arith)
-take-count (suc n) (x ∷ xs) h = ap suc (take-count n xs (omega arith))
 
 -- ---- a node alone
 
@@ -85,12 +81,12 @@ module _ (p : Params) (me : ℕ) (nodes : p.setup.n ≡ 2 * p.setup.f + 1) (quor
 
   -- an Append of a state whose commit is not above that of the end
   append-may : (u v : State) (k prev : ℕ) → v.role ≡ Leader → v.term ≡ u.term → v.log ≡ u.log → u.commit ≤ v.commit → prev ≤ length u.log → May s i v k (append_behind u prev)
-  append-may u v k prev r t l c h = (r, sym t, c, (take prev u.log, l ∙ sym (take-append-drop prev u.log), take-count prev u.log h, refl))
+  append-may u v k prev r t l c h = (r, sym t, c, (take prev u.log, l ∙ sym (take-append-drop prev u.log), take_long prev u.log h, refl))
 
   appends-may : (u v : State) → v.role ≡ Leader → v.term ≡ u.term → v.log ≡ u.log → u.commit ≤ v.commit → Bounds u → AllSent (May s i v) (appends p me u)
   appends-may u v r t l c b = sent-each (May s i v) (append_to u) (others me p.setup.n) (λ k. append-may u v k (u.next k - 1) r t l c (b.next k))
 
-  -- F6, after what is fine whatever it commits
+  -- what a quorum holds is committed, after what is fine whatever that is
   advance-may : (made : Step) → made.state.role ≡ Leader → Bounds made.state → ((c : ℕ) → made.state.commit ≤ c → AllSent (May s i (record made.state { commit = c })) made.sends) → Fine (advanced p me made)
   advance-may made r b h =
       let g = reach p me made.state in
@@ -103,7 +99,7 @@ module _ (p : Params) (me : ℕ) (nodes : p.setup.n ≡ 2 * p.setup.f + 1) (quor
   spread-may : (u : State) → u.role ≡ Leader → Bounds u → Fine (spread p me u)
   spread-may u r b = advance-may (record { state = u; sends = appends p me u }) r b (λ c h. appends-may u (record u { commit = c }) r refl refl h b)
 
-  -- F8, where what was sent before is nothing, or the end is no leader
+  -- votes are counted, where what was sent before is nothing, or the end is no leader
   counted-may : (u : State) (sends : List (To × Message)) → (p.setup.quorum ≤ count_below u.granted p.setup.n → sends ≡ []) → AllSent (May s i u) sends → Fine (counted p me u sends)
   counted-may u sends none h =
       let v = won p u in

@@ -31,7 +31,7 @@ candidate_is Follower h = absurd (false≢true h)
 candidate_is Leader h = absurd (false≢true h)
 candidate_is Candidate h = refl
 
--- ---- F6
+-- ---- what a quorum holds is committed
 
 pub greatest-above : (test : ℕ → Bool) (low k : ℕ) → low ≤ greatest test low k
 greatest-above test low zero = omega arith
@@ -56,7 +56,7 @@ advanced-state p me made =
     by_test (λ (z : Step). z.state ≡ with_reach p me made.state) (nat_lt made.state.commit i) (risen p me (record made.state { commit = i }) made.sends) made
     (λ h. refl) (λ h. same_commit made.state i (not-above made.state.commit i h (greatest-above (may_commit p me made.state) made.state.commit (length made.state.log))))
 
--- ---- F0
+-- ---- a higher term is taken
 
 abbrev pub up : State → ℕ → State
 up s t = record s { term = t; vote = None; role = Follower }
