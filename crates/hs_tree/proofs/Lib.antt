@@ -1,3 +1,4 @@
+mod Branches
 mod Examples
 mod Reading
 pub mod CertificateGrammar
