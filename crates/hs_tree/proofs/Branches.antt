@@ -245,10 +245,10 @@ module _ (nodes : List Known) (here : Option ℕ) (from : ℕ) (ks : List Node) 
 
 -- ---- one node more
 
-same_number : (a b : ℕ) → is_eq (nat_cmp a b) ≡ (a == b)
+pub same_number : (a b : ℕ) → is_eq (nat_cmp a b) ≡ (a == b)
 same_number a b = grind arith
 
-both_equal : (a b : Ordering) → is_eq (ordering_then a b) ≡ (is_eq a && is_eq b)
+pub both_equal : (a b : Ordering) → is_eq (ordering_then a b) ≡ (is_eq a && is_eq b)
 both_equal Less b = refl
 both_equal Equal b = refl
 both_equal Greater b = refl

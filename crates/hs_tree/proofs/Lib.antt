@@ -1,4 +1,4 @@
-mod Branches
+pub mod Branches
 mod Examples
 mod Reading
 pub mod CertificateGrammar

@@ -10,3 +10,4 @@ mod Reached
 mod Readable
 mod Safe
 mod Single
+mod Tallying
