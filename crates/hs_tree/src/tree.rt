@@ -40,8 +40,8 @@ pub fn same(a: &[u8; 32], b: &[u8; 32]) -> bool
     a == b
 }
 
-// How many slots a content fills.
-fn weight(what: &What) -> usize
+/// How many slots a content fills.
+pub fn weight(what: &What) -> usize
     ensures { result ≡ weight what.now }
 {
     match what {

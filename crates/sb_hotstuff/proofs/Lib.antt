@@ -11,3 +11,4 @@ mod Readable
 mod Safe
 mod Single
 mod Tallying
+mod Drafting

@@ -89,7 +89,7 @@ count-is m vs (suc k) phase view d h =
     let rest = count-is m vs k phase view d h in
     let both = length-append (votes_of k vs phase view d) (one_or_none (vote_of vs phase view d k)) in
     let here = long-one (vote_of vs phase view d k) in
-    let same = ap (λ (b : Bool). cond b 1 0) (voted-is m vs k phase view d h) in
+    let same = ap {B = ℕ} (λ (b : Bool). cond b 1 0) (voted-is m vs k phase view d h) in
     omega (arith, rest, both, here, same)
 
 pub votes-are : (m : Ballots) (vs : List Kept) (n phase view : ℕ) (d : List ℕ) → AreVotes m vs → votes_at m n phase view d ≡ votes_of n vs phase view d
@@ -128,7 +128,7 @@ words-are m ws (suc k) round h =
     let rest = words-are m ws k round h in
     let both = length-append (all_news k ws round) (one_or_none (news_of ws round k)) in
     let here = long-word (news_of ws round k) in
-    let same = ap (λ (b : Bool). cond b 1 0) (word-is m ws k round h) in
+    let same = ap {B = ℕ} (λ (b : Bool). cond b 1 0) (word-is m ws k round h) in
     omega (arith, rest, both, here, same)
 
 best-more : (c : Certificate) (xs : List Certificate) (o : Option Certificate) → best c (xs ++ one_or_none o) ≡ better (best c xs) o

@@ -29,7 +29,7 @@ pub struct Ballots {
 
 // Puts a vote, if there is one, behind others.
 fn put_vote(by: u8, sig: Option<&Bytes>, votes: &mut Row<Signed>) -> Result<(), NoMemory>
-    ensures { OnOk result (votes.new ≡ votes.old ++ one_or_none (signed by (option_copied sig))) }
+    ensures { OnOk result (votes.new ≡ votes.old ++ one_or_none (signed by (option_copied sig.entry))) }
 {
     match sig {
         Some(sig) => {

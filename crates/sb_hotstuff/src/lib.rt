@@ -8,6 +8,10 @@ pub mod ballots;
 pub mod facts;
 pub mod laws;
 pub mod news;
+pub mod outcomes;
+pub mod proposing;
+pub mod signing;
+pub mod state;
 pub mod turns;
 
 pub use facts::{

@@ -29,7 +29,7 @@ fn better(
     found: Certificate,
     other: Option<&Certificate>,
 ) -> Result<Certificate, NoMemory>
-    ensures { IfOk result (λ c. c ≡ better found (option_copied other)) }
+    ensures { IfOk result (λ c. c ≡ better found (option_copied other.entry)) }
 {
     let Some(other) = other else {
         return Ok(found);

@@ -62,10 +62,12 @@ impl Turns {
     pub fn add(&mut self, turn: Last) -> Result<(), NoMemory>
         ensures { OnOk result ((t : Turn) (ts : List Turn) → own_of t ≡ turn → AreTurns self.old ts → AreTurns self.new (t ∷ ts)) }
     {
-        self.all.insert(Own {
+        let digest = turn.digest;
+        let own = Own {
             view: turn.view,
-            digest: turn.digest,
-        })?;
+            digest,
+        };
+        self.all.insert(own)?;
         self.last = Some(turn);
         Ok(())
     }
