@@ -44,7 +44,7 @@ extends-path (k ∷ ks) d e = go (same_bytes k.digest d) (extends-path ks k.pare
     go true up on = ap (λ (z : Bool). same_bytes d e || z) up
     go false up on = ap (λ (z : Bool). same_bytes d e || z) on ∙ or-twice (same_bytes d e) (meets e (path ks d))
 
-weight-few : (c : What) → weight c ≤ 1
+pub weight-few : (c : What) → weight c ≤ 1
 weight-few Nil = omega arith
 weight-few (Holds b) = omega arith
 weight-few Mark = omega arith

@@ -12,3 +12,4 @@ mod Safe
 mod Single
 mod Tallying
 mod Drafting
+mod Turning

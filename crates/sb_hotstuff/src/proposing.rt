@@ -1,11 +1,11 @@
 //! A leader's proposals.
-ghost use Rattle.std.specs.Prelude.{◌≡◌, ◌≤◌, ◌<◌, ◌+◌, ◌^◌, ◌%◌, ℕ, Some, IfOk};
+ghost use Rattle.std.specs.Prelude.{◌≡◌, ◌≤◌, ◌<◌, ◌+◌, ◌^◌, ◌%◌, Some, IfOk};
+ghost use Rattle.std.specs.Option.{option_copied};
 ghost use Rattle.iss_base.specs.Lists.{nth};
 ghost use Rattle.iss_sb.specs.Calls.{IsGoodParams};
-ghost use Rattle.hs_tree.specs.Tree.{weight};
 ghost use Rattle.sb_hotstuff.specs.HotStuff.{hotstuff};
-ghost use Rattle.sb_hotstuff.specs.Rules.{State, Turn, cast_turn, first_turn, is_ready, next_turn, nil_or_mark, turn};
-ghost use Rattle.sb_hotstuff.specs.Stands.{IsFor};
+ghost use Rattle.sb_hotstuff.specs.Rules.{State, Turn, cast_turn, first_turn, next_turn, nil_or_mark, turn, turn_after};
+ghost use Rattle.sb_hotstuff.specs.Stands.{IsFor, IsLow, is_last_ready};
 ghost use Rattle.sb_hotstuff.specs.Steps.{Proposes};
 ghost use Rattle.sb_hotstuff.specs.Tallies.{own_of};
 
@@ -16,7 +16,7 @@ use crate::turns::Last;
 use hs_tree::Certificate;
 use hs_tree::signing::hash_node;
 use hs_tree::tree::weight;
-use iss_request::NoMemory;
+use iss_request::{Batch, NoMemory};
 use iss_sb::Params;
 use raft_wire::What;
 use std::alloc::Global;
@@ -44,7 +44,7 @@ impl Node {
         slots: usize,
     ) -> Result<Outcome, NoMemory>
         ensures { IfOk result (λ o. (k : State) (t : Turn) → t ≡ turn p.now view just what slots → slots < 2 ^ 63 →
-            view % 65536 ≤ weight what + slots + 1 → IsFor self.old k → Proposes p.now self.old self.new k (Some t) o) }
+            IsLow (own_of t) → IsFor self.old k → Proposes p.now self.old self.new k (Some t) o) }
     {
         let parent = just.digest();
         let node = hash_node(alloc, p.setup.version, &parent, &what)?;
@@ -63,6 +63,13 @@ impl Node {
         })
     }
 
+    // The cast of this place.
+    fn cast_at(&self, place: usize) -> Option<&Batch>
+        ensures { option_copied result ≡ nth self.now.casts place }
+    {
+        self.casts.as_slice().get(place)
+    }
+
     // Proposes the cast of this place, if there is one.
     fn propose_cast(
         &mut self,
@@ -73,10 +80,10 @@ impl Node {
         slots: usize,
         place: usize,
     ) -> Result<Outcome, NoMemory>
-        ensures { IfOk result (λ o. (k : State) → slots < 2 ^ 63 → view % 65536 ≤ slots + 2 → IsFor self.old k →
+        ensures { IfOk result (λ o. (k : State) → slots < 2 ^ 63 → view % 65536 ≤ slots + 2 → slots + 1 ≤ view → IsFor self.old k →
             Proposes p.now self.old self.new k (cast_turn p.now view just slots (nth k.casts place)) o) }
     {
-        let Some(batch) = self.casts.as_slice().get(place) else {
+        let Some(batch) = self.cast_at(place) else {
             return Ok(Outcome::nothing(alloc));
         };
         let what = What::Holds(batch.copy()?);
@@ -86,7 +93,7 @@ impl Node {
     // Whether the last turn has shown the first quorum and the last one, and the node is in no later round.
     fn is_ready(&self, p: &Params, last: &Last) -> bool
         requires { IsGoodParams hotstuff p.now }
-        ensures { (s : State) (t : Turn) → own_of t ≡ last.now → IsFor self.now s → result ≡ is_ready p.now s t }
+        ensures { (s : State) → IsFor self.now s → result ≡ is_last_ready p.now s last.now }
     {
         self.is_reached(p, 1, last.view, &last.digest)
             && self.is_reached(p, PHASES, last.view, &last.digest)
@@ -118,6 +125,8 @@ impl Node {
         last: Last,
     ) -> Result<Outcome, NoMemory>
         requires { IsGoodParams hotstuff p.now }
+        ensures { IfOk result (λ o. (k : State) (t : Turn) → own_of t ≡ last → IsLow last → IsFor self.old k →
+            Proposes p.now self.old self.new k (turn_after p.now k t) o) }
     {
         let n = p.setup.n as u8;
         let just = self
@@ -140,7 +149,8 @@ impl Node {
         p: &Params,
         round: u16,
     ) -> Result<Outcome, NoMemory>
-        requires { IsGoodParams hotstuff p.now }
+        requires good { IsGoodParams hotstuff p.now }
+        requires round { 1 ≤ round }
         ensures { IfOk result (λ o. (k : State) → IsFor self.old k → Proposes p.now self.old self.new k (first_turn p.now k round) o) }
     {
         let n = p.setup.n as u8;

@@ -1,5 +1,5 @@
 //! What a node of HotStuff keeps, and the tests of its rules.
-ghost use Rattle.std.specs.Prelude.{◌≡◌, List, [], length, IfOk};
+ghost use Rattle.std.specs.Prelude.{◌≡◌, ◌/◌};
 ghost use Rattle.iss_base.specs.Lists.{nth};
 ghost use Rattle.iss_sb.specs.Calls.{IsGoodParams};
 ghost use Rattle.sb_hotstuff.specs.HotStuff.{hotstuff};
