@@ -13,3 +13,4 @@ mod Single
 mod Tallying
 mod Drafting
 mod Turning
+mod Taking

@@ -10,6 +10,7 @@ pub mod laws;
 pub mod news;
 pub mod outcomes;
 pub mod proposing;
+pub mod rules;
 pub mod signing;
 pub mod state;
 pub mod turns;
