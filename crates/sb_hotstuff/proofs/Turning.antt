@@ -47,6 +47,9 @@ module _ (p : Params) (m : Node) (k : State) (view slots : ℕ) (just : Certific
   pub node-is : (parent : List ℕ) (h : Hashed) → parent ≡ digest_of just → IsHashed p.setup.version view parent what h → h.digest ≡ node_digest p view what just
   node-is parent h hp hashed = hashed.digest_is ∙ ap (λ (z : List ℕ). digest (0x41 ∷ z ++ what_bytes p.setup.version what)) hp
 
+  pub strings-are : (parent : List ℕ) (h : Hashed) → parent ≡ digest_of just → IsHashed p.setup.version view parent what h → h.strings ≡ strings_at p view what just
+  strings-are parent h hp hashed = hashed.strings ∙ ap (λ (z : List ℕ). strings_of p.setup.version (value_of what) ++ (0x41 ∷ z ++ what_bytes p.setup.version what) ∷ []) hp
+
   -- what is kept of the turn
   pub last-is : (parent d : List ℕ) (h : Hashed) (full : ℕ) → parent ≡ digest_of just → IsHashed p.setup.version view parent what h → d ≡ h.digest → slots < 2 ^ 63 → (w : ℕ) → w ≡ weight what → w ≤ 1 →
       full ≡ min (slots + w) 18446744073709551615 → own_of t ≡ (let z : Last = record { view = view; digest = d; slots = full } in z)
@@ -74,7 +77,7 @@ module _ (p : Params) (m : Node) (k : State) (view slots : ℕ) (just : Certific
     };
     answer = refl;
     proposal = subst (λ (z : Turn). IsDraft p draft ((To_all, Prepare z.view z.what z.just []) ∷ [])) (sym is) drafted;
-    hashed = hashed.strings ∙ ap (λ (z : List ℕ). strings_of p.setup.version (value_of what) ++ (0x41 ∷ z ++ what_bytes p.setup.version what) ∷ []) hp
+    hashed = strings-are parent h hp hashed
         ∙ ap (λ (z : Turn). strings_at p z.view z.what z.just) (sym is);
   }
 
