@@ -270,8 +270,12 @@ module _ (t u : Tree) (k : Node) (ks : List Node) (n : Known) (h : Keeps t ks) (
   leads-add d = go (same_bytes k.digest d)
     where
       go : (b : Bool) → Leads more (cond b (Some (length t.nodes.items)) (place t d)) (if b then k ∷ path ks k.parent else path ks d)
-      go true = (n, last-get t.nodes.items n, record { parent = parent; what = what; depth = depth; slots = slots },
-          subst (λ (o : Option ℕ). Leads more o (path ks k.parent)) (sym above) (leads-more t.nodes.items n (place t k.parent) (path ks k.parent) (h.leads k.parent)))
+      go true = (
+        n,
+        last-get t.nodes.items n,
+        record { parent = parent; what = what; depth = depth; slots = slots },
+        subst (λ (o : Option ℕ). Leads more o (path ks k.parent)) (sym above) (leads-more t.nodes.items n (place t k.parent) (path ks k.parent) (h.leads k.parent)),
+      )
       go false = leads-more t.nodes.items n (place t d) (path ks d) (h.leads d)
 
   known-add : (d : List ℕ) → is_known (k ∷ ks) d ≡ (is_some (place u d) || same_bytes d root)
@@ -338,5 +342,5 @@ added t u k ks above depth slots weighs at h is n parent what up small deep full
     let one = weight-few k.what in
     keeps-add t u k ks n h items
     (λ q. places q ∙ ap (λ (z : Bool). let o : Option ℕ = cond z (Some at) (place t q) in o) (same_list k.digest q)
-        ∙ ap (λ (z : ℕ). let o : Option ℕ = cond (same_bytes k.digest q) (Some z) (place t q) in o) at_is)
+    ∙ ap (λ (z : ℕ). let o : Option ℕ = cond (same_bytes k.digest q) (Some z) (place t q) in o) at_is)
     (up ∙ is) parent what (omega (arith, depth_is, d, few, small)) (omega (arith, slots_is, s, light, fill, few, one, small))

@@ -104,7 +104,10 @@ impl Certificate {
         match self {
             Certificate::Root => false,
             Certificate::Votes {
-                view, phase, votes, ..
+                view,
+                phase,
+                votes,
+                ..
             } => {
                 *view == in_view
                     && *phase == in_phase

@@ -71,9 +71,17 @@ module _ (p : Params) (m : Node) (s : State) (h : IsFor m s) where
       let k : State = with_cast s batch in
       led p m n s (Cast slot batch) o mid k (next_turn p k k.turns) (when (may_cast p me s slot.0) k s t) (when (may_cast p me s slot.0) (next_turn p k k.turns) None t) refl refl same
       (d k (subst (λ (z : Node). IsFor z k) (sym hm) (record {
-        view = h.view; tree = h.tree; high = h.high; lock = h.lock; second = h.second; third = h.third;
+        view = h.view;
+        tree = h.tree;
+        high = h.high;
+        lock = h.lock;
+        second = h.second;
+        third = h.third;
         casts = hc ∙ ap (λ (z : List Batch). z ++ batch ∷ []) h.casts;
-        turns = h.turns; low = h.low; votes = h.votes; news = h.news;
+        turns = h.turns;
+        low = h.low;
+        votes = h.votes;
+        news = h.news;
       })))
 
   pub news-led : (from round : ℕ) (who : NodeId) (high : Certificate) (sig : List ℕ) (n : Node) (o : Outcome) (b : Bool) (words : Words) → who.0 ≡ from → b ≡ keeps_news p me s from round high → b ≡ true → AreNews words ((with_news s from round high).news) →
@@ -83,7 +91,16 @@ module _ (p : Params) (m : Node) (s : State) (h : IsFor m s) where
       let k : State = with_news s who.0 round high in
       led p m n s (Receive who (NewView round high sig)) o (record m { news = words }) k (first_turn p k round) (when (keeps_news p me s who.0 round high) k s t) (when (keeps_news p me s who.0 round high) (first_turn p k round) None t) refl refl refl
       (d k (record {
-        view = h.view; tree = h.tree; high = h.high; lock = h.lock; second = h.second; third = h.third; casts = h.casts; turns = h.turns; low = h.low; votes = h.votes;
+        view = h.view;
+        tree = h.tree;
+        high = h.high;
+        lock = h.lock;
+        second = h.second;
+        third = h.third;
+        casts = h.casts;
+        turns = h.turns;
+        low = h.low;
+        votes = h.votes;
         news = subst (λ (z : ℕ). AreNews words ((with_news s z round high).news)) (sym hw) more;
       }))
 
@@ -100,7 +117,15 @@ module _ (p : Params) (m : Node) (s : State) (h : IsFor m s) where
       (record {
         view = refl;
         tree = add (record { view = view; digest = node_digest p view what just; from = view_of just; parent = digest_of just; what = what }) s.tree (sym is) (sym hp) refl h.tree;
-        high = h.high; lock = h.lock; second = refl; third = refl; casts = h.casts; turns = h.turns; low = h.low; votes = h.votes; news = h.news;
+        high = h.high;
+        lock = h.lock;
+        second = refl;
+        third = refl;
+        casts = h.casts;
+        turns = h.turns;
+        low = h.low;
+        votes = h.votes;
+        news = h.news;
       })
       (subst (λ (z : List ℕ). AreDrafts p (Some draft) (voted p 1 view z)) is drafted) refl (strings ∙ sym (append-nil (strings_at p view what just)))
 
@@ -117,7 +142,15 @@ module _ (p : Params) (m : Node) (s : State) (h : IsFor m s) where
 
     pub voted-for : IsFor mid k
     voted-for = record {
-      view = h.view; tree = h.tree; high = h.high; lock = h.lock; second = h.second; third = h.third; casts = h.casts; turns = h.turns; low = h.low;
+      view = h.view;
+      tree = h.tree;
+      high = h.high;
+      lock = h.lock;
+      second = h.second;
+      third = h.third;
+      casts = h.casts;
+      turns = h.turns;
+      low = h.low;
       votes = add (record { by = from.0; phase = phase; view = view; digest = d; sig = sig }) s.votes refl h.votes;
       news = h.news;
     }

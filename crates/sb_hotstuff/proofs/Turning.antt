@@ -118,7 +118,7 @@ module _ (p : Params) (m n : Node) (k : State) (o : Outcome) (t : Turn) (last : 
       let made = d (omega (arith, hs, first, zero_round)) (omega (arith, hs, next, turns, zero_round)) (omega (arith, hs, next, first)) h in
       let test : (round_of last.view == 0) ≡ true = subst (λ (z : ℕ). (z == 0) ≡ true) (sym zero_round) refl in
       back (subst (λ (b : Bool). Proposes p m n k (if b then cast_turn p (suc last.view) (certificate p k 1 last.view last.digest) last.slots (nth k.casts last.view) else
-          (if nat_lt last.slots (length p.slots) then Some (turn p (suc last.view) (certificate p k 1 last.view last.digest) Nil last.slots) else None)) o) (sym test)
+      (if nat_lt last.slots (length p.slots) then Some (turn p (suc last.view) (certificate p k 1 last.view last.digest) Nil last.slots) else None)) o) (sym test)
       (subst (λ (c : Certificate). Proposes p m n k (cast_turn p (suc last.view) c last.slots (nth k.casts last.view)) o) cert
       (subst (λ (v : ℕ). Proposes p m n k (cast_turn p v just last.slots (nth k.casts last.view)) o) next
       (subst (λ (z : ℕ). Proposes p m n k (cast_turn p view just z (nth k.casts last.view)) o) hs made))))
@@ -132,7 +132,7 @@ module _ (p : Params) (m n : Node) (k : State) (o : Outcome) (t : Turn) (last : 
       let later : (round_of last.view == 0) ≡ false = other (last.view / 65536) (omega (arith, some, round_is)) in
       let room : nat_lt last.slots (length p.slots) ≡ true = lt-ltb last.slots (length p.slots) lt in
       back (subst (λ (b : Bool). Proposes p m n k (if b then cast_turn p (suc last.view) (certificate p k 1 last.view last.digest) last.slots (nth k.casts last.view) else
-          (if nat_lt last.slots (length p.slots) then Some (turn p (suc last.view) (certificate p k 1 last.view last.digest) Nil last.slots) else None)) o) (sym later)
+      (if nat_lt last.slots (length p.slots) then Some (turn p (suc last.view) (certificate p k 1 last.view last.digest) Nil last.slots) else None)) o) (sym later)
       (subst (λ (b : Bool). Proposes p m n k (if b then Some (turn p (suc last.view) (certificate p k 1 last.view last.digest) Nil last.slots) else None) o) (sym room)
       (subst (λ (c : Certificate). Proposes p m n k (Some (turn p (suc last.view) c Nil last.slots)) o) cert
       (subst (λ (v : ℕ). Proposes p m n k (Some (turn p v just Nil last.slots)) o) next made))))

@@ -34,7 +34,10 @@ fn put_vote(by: u8, sig: Option<&Bytes>, votes: &mut Row<Signed>) -> Result<(), 
     match sig {
         Some(sig) => {
             let sig = sig.copy()?;
-            votes.push(Signed { by: NodeId(by), sig })
+            votes.push(Signed {
+                by: NodeId(by),
+                sig,
+            })
         }
         None => Ok(()),
     }

@@ -118,12 +118,7 @@ impl Node {
     }
 
     // The turn behind one that is ready.
-    fn turn_after(
-        &mut self,
-        alloc: Global,
-        p: &Params,
-        last: Last,
-    ) -> Result<Outcome, NoMemory>
+    fn turn_after(&mut self, alloc: Global, p: &Params, last: Last) -> Result<Outcome, NoMemory>
         requires { IsGoodParams hotstuff p.now }
         ensures { IfOk result (λ o. (k : State) (t : Turn) → own_of t ≡ last → IsLow last → IsFor self.old k →
             Proposes p.now self.old self.new k (turn_after p.now k t) o) }

@@ -174,7 +174,10 @@ fn with_signature(msg: Message, new: Bytes) -> Message
             sig: new,
         },
         Message::Prepare {
-            view, what, just, ..
+            view,
+            what,
+            just,
+            ..
         } => Message::Prepare {
             view,
             what,
@@ -239,7 +242,10 @@ fn own_statement(alloc: Global, p: &Params, m: &Message) -> Result<Bytes, NoMemo
     match m {
         Message::NewView { round, high, .. } => round_statement(alloc, p, TAG, *round, high.view()),
         Message::Prepare {
-            view, what, just, ..
+            view,
+            what,
+            just,
+            ..
         } => {
             let node = hash_node(alloc, p.setup.version, &just.digest(), what)?;
             node_statement(alloc, p, TAG, PREPARE, *view, &node.digest)
@@ -277,12 +283,7 @@ fn signature_of(m: &Message) -> &Bytes
 }
 
 // Puts what the certificate inside a message claims behind other claims.
-fn put_inside(
-    alloc: Global,
-    p: &Params,
-    m: &Message,
-    all: &mut Row<Claim>,
-) -> Result<(), NoMemory>
+fn put_inside(alloc: Global, p: &Params, m: &Message, all: &mut Row<Claim>) -> Result<(), NoMemory>
     ensures { OnOk result (all.new ≡ all.old ++ certificate_claims basic p.now (inside m.now)) }
 {
     match m {
@@ -309,12 +310,7 @@ fn own_claim(alloc: Global, p: &Params, from: NodeId, m: &Message) -> Result<Cla
 }
 
 /// What a message claims that nodes signed: the votes of the certificate in it, then its sender's own signature.
-pub fn claims(
-    alloc: Global,
-    p: &Params,
-    from: NodeId,
-    m: &Message,
-) -> Result<Row<Claim>, NoMemory>
+pub fn claims(alloc: Global, p: &Params, from: NodeId, m: &Message) -> Result<Row<Claim>, NoMemory>
     ensures { IfOk result (λ all. all ≡ claims basic p.now from.0 m.now) }
 {
     let mut all = Row::new(alloc);

@@ -13,4 +13,4 @@ returns c v vs is h =
     let new : Ballots = record { all = c.insert.new.self } in
     votes-more c.args.self.now new key v vs (ap (λ (z : Kept). z.by) (sym is)) (ap (λ (z : Kept). z.phase) (sym is)) (ap (λ (z : Kept). z.view) (sym is)) (ap (λ (z : Kept). z.digest) (sym is)) h
     (λ k phase view d. c.in_ok-insert.ensures.updates.0 (record { by = k; phase = phase; view = view; digest = d })
-        ∙ ap (λ (z : Kept). let o : Option (List ℕ) = cond (is_eq (ballot_order key (record { by = k; phase = phase; view = view; digest = d }))) (Some z.sig) (vote_at c.args.self.now k phase view d) in o) (sym is))
+    ∙ ap (λ (z : Kept). let o : Option (List ℕ) = cond (is_eq (ballot_order key (record { by = k; phase = phase; view = view; digest = d }))) (Some z.sig) (vote_at c.args.self.now k phase view d) in o) (sym is))

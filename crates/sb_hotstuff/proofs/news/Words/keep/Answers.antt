@@ -14,4 +14,4 @@ returns c w ws is h =
     let new : Words = record { all = c.insert.new.self } in
     news-more c.args.self.now new key w ws (ap (λ (z : News). z.by) (sym is)) (ap (λ (z : News). z.round) (sym is)) h
     (λ k round. c.in_ok-insert.ensures.updates.0 (record { by = k; round = round })
-        ∙ ap (λ (z : News). let o : Option Certificate = cond (is_eq (sender_order key (record { by = k; round = round }))) (Some z.high) (word_at c.args.self.now k round) in o) (sym is))
+    ∙ ap (λ (z : News). let o : Option Certificate = cond (is_eq (sender_order key (record { by = k; round = round }))) (Some z.high) (word_at c.args.self.now k round) in o) (sym is))
