@@ -1,25 +1,24 @@
 -- What an input makes of the code's state.
-use Rattle.std.proofs.Common.{◌≡◌, ◌≤◌, ◌<◌, ℕ, ◌+◌, ◌*◌, ◌%◌, ◌/◌, ◌==◌, Bool, true, false, if◌then◌else◌, List, [], ◌∷◌, ◌++◌, Option, Some, None, refl, sym, ap, ◌∙◌, subst, append-nil}
+use Rattle.std.proofs.Common.{◌≡◌, ℕ, ◌==◌, Bool, true, false, if◌then◌else◌, List, [], ◌∷◌, ◌++◌, Option, Some, None, refl, sym, ap, ◌∙◌, subst, append-nil}
 use Rattle.std.specs.Prelude.{not, ◌&&◌}
-use Rattle.iss_request.specs.Digest.{digest}
 use Rattle.iss_request.specs.declared.ids.NodeId.{NodeId}
 use Rattle.iss_request.specs.declared.ids.Slot.{Slot}
 use Rattle.iss_request.specs.declared.requests.Batch.{Batch}
 use Rattle.iss_sb.specs.declared.effects.Input.{Input}
-use Rattle.iss_sb.specs.declared.effects.Input.TheVariants.{Cast, Receive, Timeout}
+use Rattle.iss_sb.specs.declared.effects.Input.TheVariants.{Cast, Receive}
 use Rattle.iss_sb.specs.declared.effects.Params.{Params}
 use Rattle.iss_sb.specs.declared.effects.To.{To}
 use Rattle.iss_sb.specs.declared.effects.To.TheVariants.{All as To_all}
 use Rattle.raft_wire.specs.declared.entries.What.{What}
 use Rattle.hs_tree.specs.declared.certificates.Certificate.{Certificate}
 use Rattle.hs_tree.specs.declared.messages.Message.{Message}
-use Rattle.hs_tree.specs.declared.messages.Message.TheVariants.{NewView, Prepare, PreCommit, Commit, Vote}
+use Rattle.hs_tree.specs.declared.messages.Message.TheVariants.{NewView, Prepare, Vote}
 use Rattle.sb_hotstuff.specs.declared.outcomes.Outcome.{Outcome}
 use Rattle.sb_hotstuff.specs.declared.signing.Draft.{Draft}
 use Rattle.sb_hotstuff.specs.declared.state.Node.{Node}
-use Rattle.sb_hotstuff.specs.Drafts.{AreDrafts, IsDraft}
-use Rattle.sb_hotstuff.specs.HotStuff.{answers, proposals, shows, strings_at, taken_of, to_leader, turn_strings, voted}
-use Rattle.sb_hotstuff.specs.Rules.{Kept, State, Turn, certificate, first_turn, is_reached, keeps_news, keeps_vote, kept, may_cast, may_end, may_prepare, may_second, may_third, next_turn, node_digest, proposed, round_of, turn, with_cast, with_news, with_node, with_round, with_turn, with_vote}
+use Rattle.sb_hotstuff.specs.Drafts.{AreDrafts}
+use Rattle.sb_hotstuff.specs.HotStuff.{answers, proposals, shows, strings_at, taken_of, turn_strings, voted}
+use Rattle.sb_hotstuff.specs.Rules.{Kept, State, Turn, certificate, first_turn, is_reached, keeps_news, keeps_vote, kept, may_cast, may_prepare, next_turn, node_digest, proposed, turn, with_cast, with_news, with_node, with_turn, with_vote}
 use Rattle.sb_hotstuff.specs.Stands.{IsFor}
 use Rattle.sb_hotstuff.specs.Steps.{Does, IsAnswer, IsQuiet, Proposes}
 use Rattle.sb_hotstuff.specs.Tallies.{AreNews, AreVotes}

@@ -1,14 +1,11 @@
 -- One vote, one word, one turn more, and what is counted of them.
-use Rattle.std.proofs.Common.{◌≡◌, ℕ, zero, suc, ◌+◌, Bool, true, false, cond, ◌==◌, ◌&&◌, ◌||◌, if◌then◌else◌, List, [], ◌∷◌, ◌++◌, length, Option, Some, None, is_some, refl, sym, ap, ◌∙◌, arith}
+use Rattle.std.proofs.Common.{◌≡◌, ℕ, zero, suc, Bool, true, false, cond, ◌==◌, ◌&&◌, ◌||◌, if◌then◌else◌, List, [], ◌∷◌, ◌++◌, length, Option, Some, None, is_some, refl, sym, ap, ◌∙◌, arith}
 use Rattle.std.specs.Prelude.{nat_lt}
 use Rattle.std.specs.BTreeSet.{contains}
 use Rattle.std.specs.Cmp.Lexicographic.{slice_cmp}
 use Rattle.std.specs.Ordering.{is_eq, nat_cmp, ordering_then}
-use Rattle.std.specs.declared.cmp.Ordering.{Ordering}
-use Rattle.std.specs.declared.cmp.Ordering.TheVariants.{Less, Equal, Greater}
 use Rattle.std.proofs.lemmas.List.{length-append}
 use Rattle.iss_base.specs.Lists.{same_bytes}
-use Rattle.iss_base.specs.Quorum.{count_below}
 use Rattle.iss_sb.specs.Evidence.{one_or_none}
 use Rattle.hs_tree.specs.declared.certificates.Certificate.{Certificate}
 use Rattle.hs_tree.specs.declared.certificates.Certificate.TheVariants.{Root}
@@ -22,8 +19,8 @@ use Rattle.sb_hotstuff.specs.declared.news.Words.{Words}
 use Rattle.sb_hotstuff.specs.declared.turns.Last.{Last}
 use Rattle.sb_hotstuff.specs.declared.turns.Own.{Own}
 use Rattle.sb_hotstuff.specs.declared.turns.Turns.{Turns}
-use Rattle.sb_hotstuff.specs.Rules.{Kept, News, Turn, all_news, best, is_for, is_own_turn, news_of, vote_of, votes_of}
-use Rattle.sb_hotstuff.specs.Tallies.{AreNews, AreTurns, AreVotes, ballot_order, best_at, better, count_at, last_of, own_of, own_order, sender_order, signed, vote_at, votes_at, word_at, words_at}
+use Rattle.sb_hotstuff.specs.Rules.{Kept, News, Turn, all_news, best, is_for, news_of, vote_of, votes_of}
+use Rattle.sb_hotstuff.specs.Tallies.{AreNews, AreTurns, AreVotes, ballot_order, best_at, better, count_at, own_of, own_order, sender_order, signed, vote_at, votes_at, word_at, words_at}
 
 -- ---- keys
 

@@ -3,19 +3,17 @@ use Rattle.std.proofs.Common.{◌≡◌, ◌≤◌, ◌<◌, ℕ, ◌+◌, ◌*�
 use Rattle.std.specs.Prelude.{min, suc, nat_lt, nat_le, length, ◌&&◌}
 use Rattle.iss_base.proofs.Lists.{eqb-same}
 use Rattle.std.proofs.lemmas.Bool.{lt-ltb, le-leb}
-use Rattle.hs_tree.specs.Known.{path, whats}
-use Rattle.hs_tree.proofs.Branches.{branch-path, filled-few, weight-few}
+use Rattle.hs_tree.specs.Known.{path}
+use Rattle.hs_tree.proofs.Branches.{branch-path, filled-few}
 use Rattle.iss_base.specs.Lists.{nth}
 use Rattle.iss_request.specs.Digest.{digest}
 use Rattle.iss_request.specs.declared.requests.Batch.{Batch}
 use Rattle.iss_sb.specs.declared.effects.Params.{Params}
-use Rattle.iss_sb.specs.declared.effects.To.{To}
 use Rattle.iss_sb.specs.declared.effects.To.TheVariants.{All as To_all}
 use Rattle.raft_wire.specs.declared.entries.What.{What}
 use Rattle.raft_wire.specs.declared.entries.What.TheVariants.{Nil, Holds}
 use Rattle.hs_tree.specs.declared.certificates.Certificate.{Certificate}
 use Rattle.hs_tree.specs.declared.certificates.Certificate.TheVariants.{Root}
-use Rattle.hs_tree.specs.declared.messages.Message.{Message}
 use Rattle.hs_tree.specs.declared.messages.Message.TheVariants.{Prepare}
 use Rattle.hs_tree.specs.declared.signing.Hashed.{Hashed}
 use Rattle.hs_tree.specs.Certificates.{digest_of}
@@ -27,8 +25,8 @@ use Rattle.sb_hotstuff.specs.declared.state.Node.{Node}
 use Rattle.sb_hotstuff.specs.declared.turns.Last.{Last}
 use Rattle.sb_hotstuff.specs.declared.turns.Turns.{Turns}
 use Rattle.sb_hotstuff.specs.Drafts.{AreDrafts, IsDraft}
-use Rattle.sb_hotstuff.specs.HotStuff.{proposals, strings_at, turn_strings}
-use Rattle.sb_hotstuff.specs.Rules.{State, Turn, all_news, best, cast_turn, certificate, first_turn, is_ready, next_turn, nil_or_mark, node_digest, round_of, slots_below, turn, turn_after, turn_on, with_turn}
+use Rattle.sb_hotstuff.specs.HotStuff.{strings_at}
+use Rattle.sb_hotstuff.specs.Rules.{State, Turn, all_news, best, cast_turn, certificate, first_turn, is_ready, next_turn, nil_or_mark, node_digest, round_of, slots_below, turn, turn_after, turn_on}
 use Rattle.sb_hotstuff.specs.Stands.{IsFor, IsLow, is_last_ready}
 use Rattle.sb_hotstuff.specs.Steps.{IsQuiet, Proposes}
 use Rattle.sb_hotstuff.specs.Tallies.{AreTurns, last_of, own_of}

@@ -1,5 +1,5 @@
 -- What the rules of HotStuff's code do, over any state that the code keeps.
-use Rattle.std.specs.Prelude.{◌≡◌, List, [], Option, Some, None}
+use Rattle.std.specs.Prelude.{◌≡◌, [], Option, Some, None}
 use Rattle.iss_sb.specs.declared.effects.Input.{Input}
 use Rattle.iss_sb.specs.declared.effects.Params.{Params}
 use Rattle.hs_tree.specs.declared.messages.Message.{Message}

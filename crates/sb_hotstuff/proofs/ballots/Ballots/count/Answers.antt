@@ -1,5 +1,4 @@
-use Rattle.std.proofs.Common.{◌≡◌, ◌∙◌, ℕ, length, subst, arith}
-use Rattle.sb_hotstuff.specs.Rules.{votes_of}
+use Rattle.std.proofs.Common.{◌≡◌, ◌∙◌, arith}
 use Rattle.sb_hotstuff.specs.Tallies.{count_at}
 use Rattle.sb_hotstuff.proofs.Tallying.{count-is}
 use Rattle.sb_hotstuff.proofs.ballots.Ballots.count.Goals as goal

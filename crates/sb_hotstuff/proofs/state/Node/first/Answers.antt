@@ -1,4 +1,3 @@
-use Rattle.std.proofs.Common.{refl, arith, sym, ◌∙◌}
 use Rattle.std.proofs.lemmas.Result.{IfOk-weaker}
 use Rattle.sb_hotstuff.proofs.Turning.{first-one}
 use Rattle.sb_hotstuff.proofs.state.Node.first.Goals as goal

@@ -1,4 +1,4 @@
-use Rattle.std.proofs.Common.{refl, arith, sym, ◌∙◌}
+use Rattle.std.proofs.Common.{arith}
 use Rattle.std.proofs.lemmas.Result.{IfOk-weaker}
 use Rattle.sb_hotstuff.proofs.Turning.{next-after, next-cast, next-idle}
 use Rattle.sb_hotstuff.proofs.state.Node.next.Goals as goal

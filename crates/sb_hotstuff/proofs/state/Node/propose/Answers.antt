@@ -1,4 +1,3 @@
-use Rattle.hs_tree.specs.declared.tree.Tree.{Tree}
 use Rattle.hs_tree.proofs.Branches.{weight-few}
 use Rattle.sb_hotstuff.proofs.Turning.{last-is, node-is, proposes-one}
 use Rattle.std.proofs.Common.{refl, sym, subst, ℕ, ◌≤◌}

@@ -1,6 +1,5 @@
 use Rattle.std.proofs.Common.{ℕ, ◌≡◌, ◌==◌, true, refl, sym, subst}
 use Rattle.iss_base.proofs.Lists.{eqb-other}
-use Rattle.sb_hotstuff.specs.declared.outcomes.Outcome.{Outcome}
 use Rattle.sb_hotstuff.specs.Rules.{with_vote}
 use Rattle.sb_hotstuff.proofs.Taking.{vote-kept, vote-led, vote-shown, voted-for}
 use Rattle.sb_hotstuff.proofs.state.Node.take_vote.Goals as goal
