@@ -4,8 +4,16 @@
 //! Responsiveness"; ISS, "Sequenced Broadcast").
 #![tactic(auto)]
 
+pub mod ballots;
 pub mod facts;
 pub mod laws;
+pub mod news;
+pub mod outcomes;
+pub mod proposing;
+pub mod rules;
+pub mod signing;
+pub mod state;
+pub mod turns;
 
 pub use facts::{
     a_quorum_accepted_what_is_delivered, batches_share_an_acceptor,
