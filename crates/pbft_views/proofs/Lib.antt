@@ -2,4 +2,4 @@ pub mod Numbers
 pub mod Good
 pub mod Choices
 pub mod Statements
-pub mod Claims
+pub mod Claimed

@@ -4,6 +4,7 @@
 
 pub mod facts;
 pub mod laws;
+pub mod proposals;
 
 pub use facts::{
     batches_come_from_a_quorum, certificates_of_a_view_agree, later_views_keep_what_is_decided,
