@@ -19,3 +19,5 @@ pub mod Safe
 pub mod Example
 pub mod Run
 pub mod Reached
+pub mod Tables
+pub mod Settled

@@ -97,11 +97,16 @@ newly_at p h v s = cond (h.done s) None (committed_at p h v s)
 
 -- ---- what follows at a slot where something came in view v
 
+-- the certificate is kept
+abbrev pub certified : Params → Held → Slot → Held
+certified p h slot = record h { top = set_at h.top slot.0 (first_of (certificate_of p h slot (ready_at p h slot.0)) (h.top slot.0)) }
+
+-- what is new is delivered
+abbrev pub handed : Params → Held → ℕ → ℕ → Held
+handed p h v s = record h { done = set_at h.done s (h.done s || is_some (newly_at p h v s)) }
+
 abbrev pub settled : Params → Held → ℕ → Slot → Held
-settled p h v slot = record h {
-  top = set_at h.top slot.0 (first_of (certificate_of p h slot (ready_at p h slot.0)) (h.top slot.0));
-  done = set_at h.done slot.0 (h.done slot.0 || is_some (newly_at p h v slot.0));
-}
+settled p h v slot = handed p (certified p h slot) v slot.0
 
 abbrev pub commits_to : ℕ → Slot → Option Proposal → List Draft
 commits_to v slot None = []
@@ -198,7 +203,7 @@ completes_at p me h u v =
     (nat_lt (length (changes_at p h v)) (2 * p.setup.f + 1) && (length (changes_at p u v) == 2 * p.setup.f + 1))
 
 abbrev pub changed : Params → ℕ → Held → Held → NodeId → ℕ → List Certificate → Turn
-changed p me h u from v cs = record idle u {
+changed p me h u from v cs = record (idle u) {
   drafts = cond (completes_at p me h u v) (DraftNewView v (changes_at p u v) ∷ []) [];
   strings =
       cond (all_good p v cs && not (is_some (h.change v from.0))) (value_strings p cs) [] ++
@@ -216,7 +221,7 @@ entered p h v xs sigs = record h {
 }
 
 abbrev pub begins : Params → ℕ → Held → ℕ → List Change → List (List ℕ) → Turn
-begins p me h v xs sigs = record at_slots p (entered p h v xs sigs) (not (me == primary p v)) v p.slots {
+begins p me h v xs sigs = record (at_slots p (entered p h v xs sigs) (not (me == primary p v)) v p.slots) {
   strings = value_strings p (certificates_of xs) ++ choice_strings p xs p.slots;
 }
 
@@ -225,7 +230,7 @@ tops_of top [] = []
 tops_of top (s ∷ ss) = cons_some (top s.0) (tops_of top ss)
 
 abbrev pub gives_up : Params → Held → Turn
-gives_up p h = record idle (record h { mode = record { view = h.mode.view + 1; active = false } }) {
+gives_up p h = record (idle (record h { mode = record { view = h.mode.view + 1; active = false } })) {
   drafts = DraftViewChange (h.mode.view + 1) (tops_of h.top p.slots) ∷ [];
 }
 
@@ -234,7 +239,7 @@ turn p me leaf h (Cast slot batch) = accepts_of p me leaf h (Cast slot batch) (a
 turn p me leaf h (Receive from (PrePrepare v slot x sig)) =
     accepts_of p me leaf h (Receive from (PrePrepare v slot x sig)) (asked_at p me h (Receive from (PrePrepare v slot x sig)))
 turn p me leaf h (Receive from (Prepare v slot d sig)) =
-    cond (has_slot slot.0 p.slots) (at_slots p (and_prepare p h (Receive from (Prepare v slot d sig))) false v (slot ∷ [])) (idle h)
+    cond (has_slot slot.0 p.slots && not (from.0 == primary p v)) (at_slots p (and_prepare p h (Receive from (Prepare v slot d sig))) false v (slot ∷ [])) (idle h)
 turn p me leaf h (Receive from (Commit v slot d sig)) =
     cond (has_slot slot.0 p.slots) (at_slots p (and_commit p h (Receive from (Commit v slot d sig))) false v (slot ∷ [])) (idle h)
 turn p me leaf h (Receive from (ViewChange v cs sig)) = changed p me h (and_change p h (Receive from (ViewChange v cs sig))) from v cs

@@ -1,0 +1,168 @@
+-- What the code's tables answer: equal places, and loops over nodes.
+use Rattle.std.proofs.Common.{◌≡◌, ◌≤◌, ◌<◌, ◌+◌, ℕ, zero, suc, Bool, true, false, cond, ◌==◌, ◌&&◌, nat_lt, List, [], ◌∷◌, ◌++◌, length, take, Option, Some, None, is_some, refl, sym, ap, ◌∙◌, arith, subst}
+use Rattle.std.specs.Ordering.{is_eq, nat_cmp, ordering_then}
+use Rattle.std.specs.declared.cmp.Ordering.{Ordering}
+use Rattle.std.specs.declared.cmp.Ordering.TheVariants.{Less, Equal, Greater}
+use Rattle.iss_base.specs.Lists.{first_of, same_bytes, set_at2}
+use Rattle.iss_request.specs.declared.ids.Slot.{Slot}
+use Rattle.pbft_wire.specs.declared.messages.Certificate.{Certificate}
+use Rattle.pbft_wire.specs.declared.messages.Change.{Change}
+use Rattle.pbft_wire.specs.declared.messages.Vote.{Vote}
+use Rattle.sb_pbft.specs.declared.changes.Maker.{Maker}
+use Rattle.sb_pbft.specs.declared.proposals.Place.{Place}
+use Rattle.sb_pbft.specs.declared.tallies.Mark.{Mark}
+use Rattle.sb_pbft.specs.Places.{by_maker, by_mark, by_place, has_voted, signature_in}
+use Rattle.sb_pbft.specs.Rules.{Ballot, changes_from, cons_some, cons_vote, is_at, voters}
+
+pub same_number : (a b : ℕ) → is_eq (nat_cmp a b) ≡ (a == b)
+same_number a b = grind arith
+
+both_equal : (a b : Ordering) → is_eq (ordering_then a b) ≡ (is_eq a && is_eq b)
+both_equal Less b = refl
+both_equal Equal b = refl
+both_equal Greater b = refl
+
+pub same_place : (a b : Place) → is_eq (by_place a b) ≡ ((a.view == b.view) && (a.slot == b.slot))
+same_place a b =
+    let views = same_number a.view b.view in
+    let slots = same_number a.slot b.slot in
+    both_equal (nat_cmp a.view b.view) (nat_cmp a.slot b.slot) ∙ rw (views, slots) refl
+
+pub same_maker : (a b : Maker) → is_eq (by_maker a b) ≡ ((a.view == b.view) && (a.node == b.node))
+same_maker a b =
+    let views = same_number a.view b.view in
+    let nodes = same_number a.node b.node in
+    both_equal (nat_cmp a.view b.view) (nat_cmp a.node b.node) ∙ rw (views, nodes) refl
+
+pub same_mark : (a b : Mark) → is_eq (by_mark a b) ≡ ((a.view == b.view) && ((a.slot == b.slot) && (a.node == b.node)))
+same_mark a b =
+    let views = same_number a.view b.view in
+    let slots = same_number a.slot b.slot in
+    let nodes = same_number a.node b.node in
+    both_equal (nat_cmp a.view b.view) (ordering_then (nat_cmp a.slot b.slot) (nat_cmp a.node b.node))
+    ∙ ap (λ t. is_eq (nat_cmp a.view b.view) && t) (both_equal (nat_cmp a.slot b.slot) (nat_cmp a.node b.node))
+    ∙ rw (views, slots, nodes) refl
+
+-- ---- one node more
+
+pub one-voter : (g : ℕ → Option Ballot) (d : List ℕ) (k m : ℕ) → voters g d k (suc m) ≡ voters g d k m ++ cons_vote d (k + m) (g (k + m)) []
+one-voter g d k zero = let e : k + 0 ≡ k = omega arith in rw e refl
+one-voter g d k (suc m) =
+    let e : suc k + m ≡ k + suc m = omega arith in
+    let more = one-voter g d (suc k) m in
+    ap (λ (xs : List Vote). cons_vote d k (g k) xs) (rw e at more) ∙ front-vote d k (g k) (voters g d (suc k) m) (cons_vote d (k + suc m) (g (k + suc m)) [])
+  where
+    front-vote : (d : List ℕ) (k : ℕ) (o : Option Ballot) (xs ys : List Vote) → cons_vote d k o (xs ++ ys) ≡ cons_vote d k o xs ++ ys
+    front-vote d k None xs ys = refl
+    front-vote d k (Some b) xs ys = go (same_bytes d b.digest)
+      where
+        go : (t : Bool) → cond t (record { node = record { 0 = k }; sig = b.sig } ∷ (xs ++ ys)) (xs ++ ys) ≡ cond t (record { node = record { 0 = k }; sig = b.sig } ∷ xs) xs ++ ys
+        go true = refl
+        go false = refl
+
+pub voter-next : (g : ℕ → Option Ballot) (d : List ℕ) (m : ℕ) → voters g d 0 (suc m) ≡ voters g d 0 m ++ cons_vote d m (g m) []
+voter-next g d m = let e : 0 + m ≡ m = omega arith in let h = one-voter g d 0 m in rw e at h
+
+vote-in : (d : List ℕ) (k : ℕ) (o : Option Ballot) → has_voted d o ≡ true → cons_vote d k o [] ≡ record { node = record { 0 = k }; sig = signature_in o } ∷ []
+vote-in d k None h = absurd cc
+vote-in d k (Some b) h = let e : same_bytes d b.digest ≡ true = h in rw e refl
+
+vote-out : (d : List ℕ) (k : ℕ) (o : Option Ballot) → has_voted d o ≡ false → cons_vote d k o [] ≡ []
+vote-out d k None h = refl
+vote-out d k (Some b) h = let e : same_bytes d b.digest ≡ false = h in rw e refl
+
+length-one : {A : Type 0} (xs : List A) (x : A) → length (xs ++ x ∷ []) ≡ suc (length xs)
+length-one [] x = refl
+length-one (y ∷ ys) x = ap suc (length-one ys x)
+
+same-end : {A : Type 0} (xs : List A) → xs ++ [] ≡ xs
+same-end [] = refl
+same-end (x ∷ xs) = ap (λ (l : List _). x ∷ l) (same-end xs)
+
+pub counted : (g : ℕ → Option Ballot) (d : List ℕ) (m n : ℕ) → has_voted d (g m) ≡ true → n ≡ length (voters g d 0 m) → n + 1 ≡ length (voters g d 0 (suc m))
+counted g d m n h e =
+    let a = voter-next g d m in
+    let b = vote-in d m (g m) h in
+    let c = length-one (voters g d 0 m) (record { node = record { 0 = m }; sig = signature_in (g m) }) in
+    rw (a, b, c) (omega (arith, e))
+
+pub uncounted : (g : ℕ → Option Ballot) (d : List ℕ) (m : ℕ) → has_voted d (g m) ≡ false → voters g d 0 (suc m) ≡ voters g d 0 m
+uncounted g d m h = let b = vote-out d m (g m) h in voter-next g d m ∙ rw b (same-end (voters g d 0 m))
+
+take-one : {A : Type 0} (n : ℕ) (xs : List A) (y : A) → length (take n xs) < n → take n (xs ++ y ∷ []) ≡ take n xs ++ y ∷ []
+take-one zero xs y h = omega (arith, h)
+take-one (suc zero) [] y h = refl
+take-one (suc (suc n)) [] y h = refl
+take-one (suc n) (x ∷ xs) y h = let k : length (take n xs) < n = omega (arith, h) in ap (λ (l : List _). x ∷ l) (take-one n xs y k)
+
+take-full : {A : Type 0} (n : ℕ) (xs ys : List A) → n ≤ length (take n xs) → take n (xs ++ ys) ≡ take n xs
+take-full zero xs ys h = refl
+take-full (suc n) [] ys h = omega (arith, h)
+take-full (suc n) (x ∷ xs) ys h = let k : n ≤ length (take n xs) = omega (arith, h) in ap (λ (l : List _). x ∷ l) (take-full n xs ys k)
+
+pub taken : (g : ℕ → Option Ballot) (d : List ℕ) (m most : ℕ) (vs : List Vote) → vs ≡ take most (voters g d 0 m) → length vs < most → has_voted d (g m) ≡ true →
+    vs ++ record { node = record { 0 = m }; sig = signature_in (g m) } ∷ [] ≡ take most (voters g d 0 (suc m))
+taken g d m most vs e few h =
+    let x : Vote = record { node = record { 0 = m }; sig = signature_in (g m) } in
+    let b = vote-in d m (g m) h in
+    let next = voter-next g d m in
+    let k : length (take most (voters g d 0 m)) < most = subst (λ (l : List Vote). length l < most) e few in
+    ap (λ (l : List Vote). l ++ x ∷ []) e ∙ sym (take-one most (voters g d 0 m) x k) ∙ ap (λ (l : List Vote). take most l) (sym (next ∙ ap (λ (l : List Vote). voters g d 0 m ++ l) b))
+
+pub not-taken : (g : ℕ → Option Ballot) (d : List ℕ) (m most : ℕ) (vs : List Vote) → vs ≡ take most (voters g d 0 m) → (nat_lt (length vs) most && has_voted d (g m)) ≡ false →
+    vs ≡ take most (voters g d 0 (suc m))
+not-taken g d m most vs e no = go (nat_lt (length vs) most) refl
+  where
+    go : (t : Bool) → nat_lt (length vs) most ≡ t → vs ≡ take most (voters g d 0 (suc m))
+    go true q =
+        let out : has_voted d (g m) ≡ false = rw q at no in
+        e ∙ ap (λ (l : List Vote). take most l) (sym (uncounted g d m out))
+    go false q =
+        let k : most ≤ length vs = grind (arith, q) in
+        let full : most ≤ length (take most (voters g d 0 m)) = subst (λ (l : List Vote). most ≤ length l) e k in
+        e ∙ sym (take-full most (voters g d 0 m) (cons_vote d m (g m) []) full) ∙ ap (λ (l : List Vote). take most l) (sym (voter-next g d m))
+
+-- ---- ViewChanges
+
+one-change : (g : ℕ → Option Change) (k m : ℕ) → changes_from g k (suc m) ≡ changes_from g k m ++ cons_some (g (k + m)) []
+one-change g k zero = let e : k + 0 ≡ k = omega arith in rw e refl
+one-change g k (suc m) =
+    let e : suc k + m ≡ k + suc m = omega arith in
+    let more = one-change g (suc k) m in
+    ap (λ (xs : List Change). cons_some (g k) xs) (rw e at more) ∙ front (g k) (changes_from g (suc k) m) (cons_some (g (k + suc m)) [])
+  where
+    front : (o : Option Change) (xs ys : List Change) → cons_some o (xs ++ ys) ≡ cons_some o xs ++ ys
+    front None xs ys = refl
+    front (Some x) xs ys = refl
+
+change-next : (g : ℕ → Option Change) (m : ℕ) → changes_from g 0 (suc m) ≡ changes_from g 0 m ++ cons_some (g m) []
+change-next g m = let e : 0 + m ≡ m = omega arith in let h = one-change g 0 m in rw e at h
+
+pub change-in : (g : ℕ → Option Change) (m : ℕ) (x : Change) (xs : List Change) → xs ≡ changes_from g 0 m → g m ≡ Some x → xs ++ x ∷ [] ≡ changes_from g 0 (suc m)
+change-in g m x xs e h = let n = change-next g m in rw (e, n, h) refl
+
+pub change-out : (g : ℕ → Option Change) (m : ℕ) → g m ≡ None → changes_from g 0 (suc m) ≡ changes_from g 0 m
+change-out g m h = let n = change-next g m in n ∙ rw h (same-end (changes_from g 0 m))
+
+pub change-counted : (g : ℕ → Option Change) (m n : ℕ) → is_some (g m) ≡ true → n ≡ length (changes_from g 0 m) → n + 1 ≡ length (changes_from g 0 (suc m))
+change-counted g m n h e = go (g m) refl
+  where
+    go : (o : Option Change) → g m ≡ o → n + 1 ≡ length (changes_from g 0 (suc m))
+    go None q = absurd (let k : false ≡ true = rw q at h in cc)
+    go (Some x) q =
+        let a = change-next g m in
+        let c = length-one (changes_from g 0 m) x in
+        rw (a, q, c) (omega (arith, e))
+
+pub change-uncounted : (g : ℕ → Option Change) (m : ℕ) → is_some (g m) ≡ false → changes_from g 0 (suc m) ≡ changes_from g 0 m
+change-uncounted g m h = go (g m) refl
+  where
+    go : (o : Option Change) → g m ≡ o → changes_from g 0 (suc m) ≡ changes_from g 0 m
+    go None q = change-out g m q
+    go (Some x) q = absurd (let k : true ≡ false = rw q at h in cc)
+
+-- ---- first of its place
+
+pub first-there : {A : Type 0} (o u : Option A) → is_some o ≡ true → o ≡ first_of o u
+first-there None u h = absurd cc
+first-there (Some x) u h = refl
