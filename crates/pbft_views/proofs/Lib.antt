@@ -3,3 +3,4 @@ pub mod Good
 pub mod Choices
 pub mod Statements
 pub mod Claims
+pub mod Chosen
