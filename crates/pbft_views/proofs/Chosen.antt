@@ -22,7 +22,7 @@ higher-along c (Some e) (Some g) = go (nat_lt c.view e.view) (nat_lt e.view g.vi
         let m = ltb-true e.view g.view u in
         let k : nat_lt c.view g.view ≡ true = lt-ltb c.view g.view (omega (arith, l, m)) in
         rw (t, u) (rw (u, k) refl)
-    go true false t u = rw (t, u) (rw (t, u) refl)
+    go true false t u = rw (t, u) (rw t refl)
     go false true t u = rw (t, u) refl
     go false false t u =
         let l = ltb-false c.view e.view t in

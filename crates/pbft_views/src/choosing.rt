@@ -13,7 +13,7 @@ fn further<'a>(
     first: Option<&'a Certificate>,
     second: Option<&'a Certificate>,
 ) -> Option<&'a Certificate>
-    ensures { option_copied result ≡ further (option_copied first) (option_copied second) }
+    ensures { option_copied result ≡ further (option_copied first.entry) (option_copied second.entry) }
 {
     match first {
         None => second,
@@ -22,7 +22,7 @@ fn further<'a>(
 }
 
 fn higher<'a>(first: &'a Certificate, second: Option<&'a Certificate>) -> &'a Certificate
-    ensures { Some result.now ≡ higher first.now (option_copied second) }
+    ensures { Some result.now ≡ higher first.now (option_copied second.entry) }
 {
     match second {
         None => first,

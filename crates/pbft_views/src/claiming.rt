@@ -1,9 +1,10 @@
 //! What a message says that nodes have signed.
-ghost use Rattle.std.specs.Prelude.{◌≡◌, ◌++◌, ◌∷◌, [], List, map, IfOk, OnOk};
+ghost use Rattle.std.specs.Prelude.{◌≡◌, ◌++◌, ◌∷◌, [], map, IfOk, OnOk};
 ghost use Rattle.iss_request.specs.Setup.{IsGoodSetup};
 ghost use Rattle.pbft_wire.specs.Marks.{mark_of};
-ghost use Rattle.pbft_wire.specs.Statements.{state_at};
+ghost use Rattle.pbft_wire.specs.Statements.{digest_of, state_at};
 ghost use Rattle.pbft_wire.specs.declared.messages.Message.TheVariants.{NewView, PrePrepare, ViewChange};
+ghost use Rattle.pbft_views.specs.Choice.{choice};
 ghost use Rattle.pbft_views.specs.Claims.{certificate_claims, certificates_claims, change_claims, changes_claims, chosen_claims, claim, claims, vote_claims};
 
 use crate::choosing::choice_digest;
