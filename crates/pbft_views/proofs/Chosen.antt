@@ -1,7 +1,7 @@
 -- The best of certificates that stand one behind the other.
-use Rattle.std.proofs.Common.{◌≡◌, ℕ, ◌+◌, ◌<◌, Bool, true, false, cond, List, [], ◌∷◌, ◌++◌, length, get_or, take, arith, refl, sym, ◌∙◌, ap, append_assoc, inl, inr, Option, Some, None}
+use Rattle.std.proofs.Common.{◌≡◌, ℕ, ◌+◌, ◌<◌, Bool, true, false, cond, List, [], ◌∷◌, ◌++◌, length, get_or, take, arith, refl, sym, ◌∙◌, ap, append_assoc, append-nil, inl, inr, Option, Some, None}
 use Rattle.std.specs.Prelude.{◌==◌, nat_lt}
-use Rattle.std.proofs.lemmas.Bool.{cases_Bool, eq-eqb, le-ltb, lt-ltb, ltb-true, ltb-false}
+use Rattle.std.proofs.lemmas.Bool.{cases_Bool, eq-eqb, le-ltb, ne_eqb, lt-ltb, ltb-true, ltb-false}
 use Rattle.std.proofs.lemmas.List.{take_more}
 use Rattle.pbft_wire.specs.declared.messages.Certificate.{Certificate}
 use Rattle.pbft_wire.specs.declared.messages.Change.{Change}
@@ -21,7 +21,7 @@ higher-along c (Some e) (Some g) = go (nat_lt c.view e.view) (nat_lt e.view g.vi
         let l = ltb-true c.view e.view t in
         let m = ltb-true e.view g.view u in
         let k : nat_lt c.view g.view ≡ true = lt-ltb c.view g.view (omega (arith, l, m)) in
-        rw (t, u) (rw (u, k) refl)
+        rw (t, u) (rw k refl)
     go true false t u = rw (t, u) (rw t refl)
     go false true t u = rw (t, u) refl
     go false false t u =
@@ -41,3 +41,22 @@ best-append s (c ∷ cs) ds = ap (λ (o : Option Certificate). cond (c.slot.0 ==
 pub certificates-append : (xs ys : List Change) → certificates_of (xs ++ ys) ≡ certificates_of xs ++ certificates_of ys
 certificates-append [] ys = refl
 certificates-append (x ∷ xs) ys = ap (λ (z : List Certificate). x.certificates ++ z) (certificates-append xs ys) ∙ sym (append_assoc x.certificates (certificates_of xs) (certificates_of ys))
+
+-- ---- one more of a row
+
+best-next : (s : ℕ) (cs : List Certificate) (i : ℕ) (c : Certificate) (o : Option Certificate) → i < length cs → c ≡ get_or cs i c → o ≡ best s (take i cs) → best s (take (i + 1) cs) ≡ further o (best s (c ∷ []))
+best-next s cs i c o lt is h =
+    ap (best s) (take_more cs i c lt ∙ ap (λ (z : Certificate). take i cs ++ z ∷ []) (sym is)) ∙ best-append s (take i cs) (c ∷ []) ∙ ap (λ (z : Option Certificate). further z (best s (c ∷ []))) (sym h)
+
+pub best-taken : (s : ℕ) (cs : List Certificate) (i : ℕ) (c : Certificate) (o : Option Certificate) → i < length cs → c ≡ get_or cs i c → c.slot.0 ≡ s → o ≡ best s (take i cs) → further o (Some c) ≡ best s (take (i + 1) cs)
+best-taken s cs i c o lt is at h = sym (best-next s cs i c o lt is h ∙ ap (λ (b : Bool). further o (cond b (Some c) None)) (eq-eqb c.slot.0 s at))
+
+pub best-passed : (s : ℕ) (cs : List Certificate) (i : ℕ) (c : Certificate) (o : Option Certificate) → i < length cs → c ≡ get_or cs i c → (c.slot.0 ≡ s → ⊥) → o ≡ best s (take i cs) → o ≡ best s (take (i + 1) cs)
+best-passed s cs i c o lt is off h = sym (best-next s cs i c o lt is h ∙ ap (λ (b : Bool). further o (cond b (Some c) None)) (ne_eqb c.slot.0 s off) ∙ further-none o)
+
+pub shown-more : (s : ℕ) (xs : List Change) (i : ℕ) (x : Change) (o : Option Certificate) → i < length xs → x ≡ get_or xs i x → o ≡ best s (certificates_of (take i xs)) → further o (best s x.certificates) ≡ best s (certificates_of (take (i + 1) xs))
+shown-more s xs i x o lt is h = sym (
+    ap (λ (z : List Change). best s (certificates_of z)) (take_more xs i x lt ∙ ap (λ (z : Change). take i xs ++ z ∷ []) (sym is)) ∙
+    ap (best s) (certificates-append (take i xs) (x ∷ [])) ∙ best-append s (certificates_of (take i xs)) (x.certificates ++ []) ∙
+    ap (λ (z : List Certificate). further (best s (certificates_of (take i xs))) (best s z)) (append-nil x.certificates) ∙
+    ap (λ (z : Option Certificate). further z (best s x.certificates)) (sym h))
