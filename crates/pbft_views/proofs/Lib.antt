@@ -3,3 +3,4 @@ pub mod Good
 pub mod Choices
 pub mod Statements
 pub mod Claimed
+pub mod Chosen

@@ -1,6 +1,6 @@
 //! What a new view proposes at a slot. Nothing is copied but the choice itself.
-ghost use Rattle.std.specs.Prelude.{◌≡◌, option_copied, IfOk};
-ghost use Rattle.pbft_views.specs.Choice.{best, certificates_of, choice};
+ghost use Rattle.std.specs.Prelude.{◌≡◌, Some, option_copied, IfOk};
+ghost use Rattle.pbft_views.specs.Choice.{best, certificates_of, choice, further, higher};
 ghost use Rattle.pbft_wire.specs.Statements.{digest_of, string_of};
 
 use iss_request::{Bytes, NoMemory, Slot, Value};
@@ -9,10 +9,30 @@ use pbft_wire::{Certificate, Change, digest_of, string_of};
 use std::alloc::Global;
 
 // The one of the higher view, the first of two of one view.
-fn higher<'a>(first: Option<&'a Certificate>, second: &'a Certificate) -> &'a Certificate {
+fn further<'a>(
+    first: Option<&'a Certificate>,
+    second: Option<&'a Certificate>,
+) -> Option<&'a Certificate>
+    ensures { option_copied result ≡ further (option_copied first.entry) (option_copied second.entry) }
+{
     match first {
-        Some(first) if first.view >= second.view => first,
-        _ => second,
+        None => second,
+        Some(first) => Some(higher(first, second)),
+    }
+}
+
+fn higher<'a>(first: &'a Certificate, second: Option<&'a Certificate>) -> &'a Certificate
+    ensures { Some result.now ≡ higher first.now (option_copied second.entry) }
+{
+    match second {
+        None => first,
+        Some(second) => {
+            if first.view < second.view {
+                second
+            } else {
+                first
+            }
+        }
     }
 }
 
@@ -22,8 +42,8 @@ pub fn best<'a>(slot: Slot, certificates: &'a [Certificate]) -> Option<&'a Certi
 {
     let mut found = None;
     for c in certificates {
-        if c.slot == slot {
-            found = Some(higher(found, c));
+        if c.slot.0 == slot.0 {
+            found = further(found, Some(c));
         }
     }
     found
@@ -35,9 +55,7 @@ pub fn best_shown<'a>(slot: Slot, changes: &'a [Change]) -> Option<&'a Certifica
 {
     let mut found = None;
     for x in changes {
-        if let Some(c) = best(slot, x.certificates.as_slice()) {
-            found = Some(higher(found, c));
-        }
+        found = further(found, best(slot, x.certificates.as_slice()));
     }
     found
 }

@@ -1,5 +1,5 @@
 //! Which certificates and ViewChanges are good by their shape.
-ghost use Rattle.std.specs.Prelude.{◌≡◌, ℕ};
+ghost use Rattle.std.specs.Prelude.{◌≡◌, ◌≤◌};
 ghost use Rattle.iss_request.specs.Formats.{is_batch};
 ghost use Rattle.iss_request.specs.Setup.{IsGoodSetup};
 ghost use Rattle.iss_sb.specs.Calls.{has_slot};
@@ -25,19 +25,21 @@ pub fn has_slot(p: &Params, slot: Slot) -> bool
     p.slots.as_slice().contains(&slot)
 }
 
-// Whether votes are of nodes other than this one, ascending.
-fn are_voters(p: &Params, but: NodeId, votes: &[Vote]) -> bool
-    ensures { result ≡ are_voters p.now but.0 0 votes.now }
+// Whether votes are of nodes other than this one, ascending from the first number that is allowed.
+fn are_voters(p: &Params, but: NodeId, from: u32, votes: &[Vote]) -> bool
+    requires { from ≤ 256 }
+    ensures { result ≡ are_voters p.now but.0 from votes.now }
 {
-    let mut from: u32 = 0;
-    for vote in votes {
-        let node = vote.node.0 as u32;
-        if node < from || node >= p.setup.n || vote.node == but {
-            return false;
+    match votes {
+        [] => true,
+        [first, others @ ..] => {
+            let node = first.node.0 as u32;
+            from <= node
+                && node < p.setup.n
+                && first.node.0 != but.0
+                && are_voters(p, but, node + 1, others)
         }
-        from = node + 1;
     }
-    true
 }
 
 fn is_batch(value: &Value) -> bool
@@ -57,7 +59,7 @@ pub fn is_good(p: &Params, c: &Certificate) -> bool
 {
     has_slot(p, c.slot)
         && c.prepares.len() == 2 * p.setup.f as usize
-        && are_voters(p, primary(p, c.view), c.prepares.as_slice())
+        && are_voters(p, primary(p, c.view), 0, c.prepares.as_slice())
         && (0 < c.view || is_batch(&c.value))
 }
 
@@ -66,31 +68,32 @@ pub fn all_good(p: &Params, view: u16, certificates: &[Certificate]) -> bool
     requires { IsGoodSetup p.now.setup }
     ensures { result ≡ all_good p.now view certificates.now }
 {
-    for c in certificates {
-        if !is_good(p, c) || c.view >= view {
-            return false;
+    match certificates {
+        [] => true,
+        [first, others @ ..] => {
+            is_good(p, first) && first.view < view && all_good(p, view, others)
         }
     }
-    true
 }
 
-// Whether they are ViewChanges of this view of different nodes, ascending, each with good certificates.
-fn are_changes(p: &Params, view: u16, changes: &[Change]) -> bool
-    requires { IsGoodSetup p.now.setup }
-    ensures { result ≡ are_changes p.now view 0 changes.now }
+// Whether they are ViewChanges of this view of different nodes, ascending from the first number that is allowed, each
+// with good certificates.
+fn are_changes(p: &Params, view: u16, from: u32, changes: &[Change]) -> bool
+    requires good { IsGoodSetup p.now.setup }
+    requires low { from ≤ 256 }
+    ensures { result ≡ are_changes p.now view from changes.now }
 {
-    let mut from: u32 = 0;
-    for x in changes {
-        let node = x.node.0 as u32;
-        if node < from || node >= p.setup.n || x.view != view {
-            return false;
+    match changes {
+        [] => true,
+        [first, others @ ..] => {
+            let node = first.node.0 as u32;
+            from <= node
+                && node < p.setup.n
+                && first.view == view
+                && all_good(p, view, first.certificates.as_slice())
+                && are_changes(p, view, node + 1, others)
         }
-        if !all_good(p, view, x.certificates.as_slice()) {
-            return false;
-        }
-        from = node + 1;
     }
-    true
 }
 
 /// Whether a view begins with these ViewChanges: 2f+1 of them.
@@ -98,5 +101,5 @@ pub fn are_enough(p: &Params, view: u16, changes: &[Change]) -> bool
     requires { IsGoodSetup p.now.setup }
     ensures { result ≡ are_enough p.now view changes.now }
 {
-    changes.len() == 2 * p.setup.f as usize + 1 && are_changes(p, view, changes)
+    changes.len() == 2 * p.setup.f as usize + 1 && are_changes(p, view, 0, changes)
 }

@@ -29,7 +29,7 @@ pub const VIEW_CHANGE: u8 = 4;
 /// The number of a NewView.
 pub const NEW_VIEW: u8 = 5;
 
-/// What a ViewChange signs of a certificate.
+/// A certificate's slot, its view, and its value's digest.
 #[derive(Drop)]
 pub struct Mark {
     pub slot: Slot,
@@ -57,8 +57,18 @@ pub fn digest_of(p: &Params, value: &Value) -> [u8; 32]
     iss_request::digest_of(p.setup.version, value)
 }
 
-/// What a ViewChange signs of each certificate. Each value is hashed once.
-pub fn marks_of(
+/// What a ViewChange signs of a certificate.
+pub fn mark_of(p: &Params, c: &Certificate) -> Mark
+    ensures { result ≡ mark_of p.now c.now }
+{
+    Mark {
+        slot: c.slot,
+        view: c.view,
+        digest: digest_of(p, &c.value),
+    }
+}
+
+fn marks_of(
     alloc: Global,
     p: &Params,
     certificates: &[Certificate],
@@ -67,12 +77,7 @@ pub fn marks_of(
 {
     let mut all = Row::new(alloc);
     for c in certificates {
-        let digest = digest_of(p, &c.value);
-        all.push(Mark {
-            slot: c.slot,
-            view: c.view,
-            digest,
-        })?;
+        all.push(mark_of(p, c))?;
     }
     Ok(all)
 }
@@ -135,8 +140,10 @@ pub fn state_marked(
 fn put_mark(mark: &Mark, out: &mut Writer) -> Result<(), NoMemory>
     ensures { OnOk result (out.new ≡ and_bytes out.old (mark_bytes mark.now)) }
 {
-    out.put_u64(mark.slot.0)?;
-    out.put_u16(mark.view)?;
+    let slot = mark.slot.0;
+    let view = mark.view;
+    out.put_u64(slot)?;
+    out.put_u16(view)?;
     out.put_bytes(&mark.digest)
 }
 
