@@ -1,10 +1,10 @@
 -- Fields that are written one after the other are the strings and statements.
-use Rattle.std.proofs.Common.{◌≡◌, ℕ, suc, ◌<◌, ◌^◌, List, [], ◌∷◌, ◌++◌, length, map, append_assoc, refl, sym, ap, ◌∙◌}
+use Rattle.std.proofs.Common.{◌≡◌, ℕ, suc, ◌<◌, ◌^◌, List, [], ◌∷◌, ◌++◌, length, map, append_assoc, refl, ap, ◌∙◌}
 use Rattle.std.specs.Int.{to_be_bytes, w16, w64}
 use Rattle.std.specs.List.{flat_map}
 use Rattle.iss_request.specs.Fields.{Written, and_bytes}
 use Rattle.iss_sb.specs.declared.effects.Params.{Params}
-use Rattle.iss_sb.specs.Statements.{eight_bytes, statement_head, two_bytes}
+use Rattle.iss_sb.specs.Statements.{statement_head}
 use Rattle.iss_sb.proofs.Statements.{eight-is, two-is}
 use Rattle.pbft_wire.specs.declared.messages.Certificate.{Certificate}
 use Rattle.pbft_wire.specs.declared.signing.Mark.{Mark}

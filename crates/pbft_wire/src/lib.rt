@@ -12,7 +12,9 @@ pub use copies::{copy_certificates, copy_changes, copy_votes};
 pub use laws::messages_are_exact;
 pub use messages::{Certificate, Change, Message, Vote};
 pub use reading::read;
-pub use signing::{Mark, digest_of, mark_of, state_at, state_change, state_marked, state_new, string_of};
+pub use signing::{
+    Mark, digest_of, mark_of, state_at, state_change, state_marked, state_new, string_of,
+};
 pub use writing::write;
 
 #[cfg(test)]

@@ -68,11 +68,7 @@ pub fn mark_of(p: &Params, c: &Certificate) -> Mark
     }
 }
 
-fn marks_of(
-    alloc: Global,
-    p: &Params,
-    certificates: &[Certificate],
-) -> Result<Row<Mark>, NoMemory>
+fn marks_of(alloc: Global, p: &Params, certificates: &[Certificate]) -> Result<Row<Mark>, NoMemory>
     ensures { IfOk result (λ all. all ≡ map (mark_of p.now) certificates.now) }
 {
     let mut all = Row::new(alloc);
@@ -119,12 +115,7 @@ pub fn state_change(
 }
 
 /// The statement of a ViewChange with certificates of these marks.
-pub fn state_marked(
-    alloc: Global,
-    p: &Params,
-    view: u16,
-    marks: &[Mark],
-) -> Result<Bytes, NoMemory>
+pub fn state_marked(alloc: Global, p: &Params, view: u16, marks: &[Mark]) -> Result<Bytes, NoMemory>
     requires { length marks.now ≤ 255 }
     ensures { IfOk result (λ s. (cs : List Certificate) → marks.now ≡ map (mark_of p.now) cs → s ≡ state_change p.now view cs) }
 {
