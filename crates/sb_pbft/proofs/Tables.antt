@@ -1,5 +1,7 @@
 -- What the code's tables answer: equal places, and loops over nodes.
-use Rattle.std.proofs.Common.{◌≡◌, ◌≤◌, ◌<◌, ◌+◌, ℕ, zero, suc, Bool, true, false, cond, ◌==◌, ◌&&◌, nat_lt, List, [], ◌∷◌, ◌++◌, length, take, Option, Some, None, is_some, refl, sym, ap, ◌∙◌, arith, subst}
+use Rattle.std.proofs.Common.{drop, get_or, ◌≡◌, ◌≤◌, ◌<◌, ◌+◌, ℕ, zero, suc, Bool, true, false, cond, ◌==◌, ◌&&◌, nat_eq, nat_lt, List, [], ◌∷◌, ◌++◌, length, take, Option, Some, None, is_some, refl, sym, ap, ◌∙◌, arith, subst}
+use Rattle.std.proofs.Math.Seq.{drop-cons}
+use Rattle.std.specs.Cmp.Lexicographic.{pointwise}
 use Rattle.std.specs.Ordering.{is_eq, nat_cmp, ordering_then}
 use Rattle.std.specs.declared.cmp.Ordering.{Ordering}
 use Rattle.std.specs.declared.cmp.Ordering.TheVariants.{Less, Equal, Greater}
@@ -12,6 +14,7 @@ use Rattle.sb_pbft.specs.declared.changes.Maker.{Maker}
 use Rattle.sb_pbft.specs.declared.proposals.Place.{Place}
 use Rattle.sb_pbft.specs.declared.tallies.Mark.{Mark}
 use Rattle.sb_pbft.specs.Places.{by_maker, by_mark, by_place, has_voted, signature_in}
+use Rattle.sb_pbft.specs.Turns.{tops_of}
 use Rattle.sb_pbft.specs.Rules.{Ballot, changes_from, cons_some, cons_vote, is_at, voters}
 
 pub same_number : (a b : ℕ) → is_eq (nat_cmp a b) ≡ (a == b)
@@ -79,8 +82,8 @@ same-end : {A : Type 0} (xs : List A) → xs ++ [] ≡ xs
 same-end [] = refl
 same-end (x ∷ xs) = ap (λ (l : List _). x ∷ l) (same-end xs)
 
-pub counted : (g : ℕ → Option Ballot) (d : List ℕ) (m n : ℕ) → has_voted d (g m) ≡ true → n ≡ length (voters g d 0 m) → n + 1 ≡ length (voters g d 0 (suc m))
-counted g d m n h e =
+counted-suc : (g : ℕ → Option Ballot) (d : List ℕ) (m n : ℕ) → has_voted d (g m) ≡ true → n ≡ length (voters g d 0 m) → n + 1 ≡ length (voters g d 0 (suc m))
+counted-suc g d m n h e =
     let a = voter-next g d m in
     let b = vote-in d m (g m) h in
     let c = length-one (voters g d 0 m) (record { node = record { 0 = m }; sig = signature_in (g m) }) in
@@ -90,15 +93,25 @@ pub uncounted : (g : ℕ → Option Ballot) (d : List ℕ) (m : ℕ) → has_vot
 uncounted g d m h = let b = vote-out d m (g m) h in voter-next g d m ∙ rw b (same-end (voters g d 0 m))
 
 take-one : {A : Type 0} (n : ℕ) (xs : List A) (y : A) → length (take n xs) < n → take n (xs ++ y ∷ []) ≡ take n xs ++ y ∷ []
-take-one zero xs y h = omega (arith, h)
+take-one zero xs y h = absurd (never (length (take 0 xs)) h)
+  where
+    never : (n : ℕ) → n < 0 → ⊥
+    never n h = omega (arith, h)
 take-one (suc zero) [] y h = refl
 take-one (suc (suc n)) [] y h = refl
 take-one (suc n) (x ∷ xs) y h = let k : length (take n xs) < n = omega (arith, h) in ap (λ (l : List _). x ∷ l) (take-one n xs y k)
 
 take-full : {A : Type 0} (n : ℕ) (xs ys : List A) → n ≤ length (take n xs) → take n (xs ++ ys) ≡ take n xs
 take-full zero xs ys h = refl
-take-full (suc n) [] ys h = omega (arith, h)
+take-full (suc n) [] ys h = absurd (never n h)
+  where
+    never : (n : ℕ) → suc n ≤ 0 → ⊥
+    never n h = omega (arith, h)
 take-full (suc n) (x ∷ xs) ys h = let k : n ≤ length (take n xs) = omega (arith, h) in ap (λ (l : List _). x ∷ l) (take-full n xs ys k)
+
+-- the next number, as loops write it
+next-is : (m : ℕ) → suc m ≡ m + 1
+next-is m = omega arith
 
 pub taken : (g : ℕ → Option Ballot) (d : List ℕ) (m most : ℕ) (vs : List Vote) → vs ≡ take most (voters g d 0 m) → length vs < most → has_voted d (g m) ≡ true →
     vs ++ record { node = record { 0 = m }; sig = signature_in (g m) } ∷ [] ≡ take most (voters g d 0 (suc m))
@@ -108,19 +121,6 @@ taken g d m most vs e few h =
     let next = voter-next g d m in
     let k : length (take most (voters g d 0 m)) < most = subst (λ (l : List Vote). length l < most) e few in
     ap (λ (l : List Vote). l ++ x ∷ []) e ∙ sym (take-one most (voters g d 0 m) x k) ∙ ap (λ (l : List Vote). take most l) (sym (next ∙ ap (λ (l : List Vote). voters g d 0 m ++ l) b))
-
-pub not-taken : (g : ℕ → Option Ballot) (d : List ℕ) (m most : ℕ) (vs : List Vote) → vs ≡ take most (voters g d 0 m) → (nat_lt (length vs) most && has_voted d (g m)) ≡ false →
-    vs ≡ take most (voters g d 0 (suc m))
-not-taken g d m most vs e no = go (nat_lt (length vs) most) refl
-  where
-    go : (t : Bool) → nat_lt (length vs) most ≡ t → vs ≡ take most (voters g d 0 (suc m))
-    go true q =
-        let out : has_voted d (g m) ≡ false = rw q at no in
-        e ∙ ap (λ (l : List Vote). take most l) (sym (uncounted g d m out))
-    go false q =
-        let k : most ≤ length vs = grind (arith, q) in
-        let full : most ≤ length (take most (voters g d 0 m)) = subst (λ (l : List Vote). most ≤ length l) e k in
-        e ∙ sym (take-full most (voters g d 0 m) (cons_vote d m (g m) []) full) ∙ ap (λ (l : List Vote). take most l) (sym (voter-next g d m))
 
 -- ---- ViewChanges
 
@@ -144,8 +144,8 @@ change-in g m x xs e h = let n = change-next g m in rw (e, n, h) refl
 pub change-out : (g : ℕ → Option Change) (m : ℕ) → g m ≡ None → changes_from g 0 (suc m) ≡ changes_from g 0 m
 change-out g m h = let n = change-next g m in n ∙ rw h (same-end (changes_from g 0 m))
 
-pub change-counted : (g : ℕ → Option Change) (m n : ℕ) → is_some (g m) ≡ true → n ≡ length (changes_from g 0 m) → n + 1 ≡ length (changes_from g 0 (suc m))
-change-counted g m n h e = go (g m) refl
+change-counted-suc : (g : ℕ → Option Change) (m n : ℕ) → is_some (g m) ≡ true → n ≡ length (changes_from g 0 m) → n + 1 ≡ length (changes_from g 0 (suc m))
+change-counted-suc g m n h e = go (g m) refl
   where
     go : (o : Option Change) → g m ≡ o → n + 1 ≡ length (changes_from g 0 (suc m))
     go None q = absurd (let k : false ≡ true = rw q at h in cc)
@@ -166,3 +166,93 @@ change-uncounted g m h = go (g m) refl
 pub first-there : {A : Type 0} (o u : Option A) → is_some o ≡ true → o ≡ first_of o u
 first-there None u h = absurd cc
 first-there (Some x) u h = refl
+
+same_digits : (a b : List ℕ) → pointwise nat_eq a b ≡ same_bytes a b
+same_digits [] [] = refl
+same_digits [] (y ∷ ys) = refl
+same_digits (x ∷ xs) [] = refl
+same_digits (x ∷ xs) (y ∷ ys) = ap (λ (t : Bool). (x == y) && t) (same_digits xs ys)
+
+pub voted-is : (d e : List ℕ) (t : Bool) → t ≡ pointwise nat_eq d e → t ≡ same_bytes d e
+voted-is d e t h = h ∙ same_digits d e
+
+-- ---- the steps of the loops
+
+pub count-step : (g : ℕ → Option Ballot) (d : List ℕ) (m n r : ℕ) (t : Bool) → t ≡ has_voted d (g m) → t ≡ true → (n ≡ length (voters g d 0 m)) × (n ≤ m) → r ≡ n + 1 →
+    (r ≡ length (voters g d 0 (m + 1))) × (r ≤ m + 1)
+count-step g d m n r t is here h e =
+    let k = h.1 in
+    (e ∙ subst (λ (z : ℕ). n + 1 ≡ length (voters g d 0 z)) (next-is m) (counted-suc g d m n (sym is ∙ here) h.0), omega (arith, e, k))
+
+pub count-still : (g : ℕ → Option Ballot) (d : List ℕ) (m n r : ℕ) (t : Bool) → t ≡ has_voted d (g m) → t ≡ false → (n ≡ length (voters g d 0 m)) × (n ≤ m) → r ≡ n →
+    (r ≡ length (voters g d 0 (m + 1))) × (r ≤ m + 1)
+count-still g d m n r t is gone h e =
+    let k = h.1 in
+    (e ∙ h.0 ∙ ap (λ (l : List Vote). length l) (sym (subst (λ (z : ℕ). voters g d 0 z ≡ voters g d 0 m) (next-is m) (uncounted g d m (sym is ∙ gone)))), omega (arith, e, k))
+
+pub votes-step : (g : ℕ → Option Ballot) (d : List ℕ) (m most : ℕ) (vs ws : List Vote) (x : Vote) (t : Bool) → vs ≡ take most (voters g d 0 m) →
+    length vs < most → t ≡ has_voted d (g m) → t ≡ true → x ≡ record { node = record { 0 = m }; sig = signature_in (g m) } → ws ≡ vs ++ x ∷ [] →
+    ws ≡ take most (voters g d 0 (m + 1))
+votes-step g d m most vs ws x t e few is here what h =
+    h ∙ ap (λ (y : Vote). vs ++ y ∷ []) what ∙ subst (λ (z : ℕ). vs ++ record { node = record { 0 = m }; sig = signature_in (g m) } ∷ [] ≡ take most (voters g d 0 z)) (next-is m)
+        (taken g d m most vs e few (sym is ∙ here))
+
+pub votes-out : (g : ℕ → Option Ballot) (d : List ℕ) (m most : ℕ) (vs ws : List Vote) (t : Bool) → vs ≡ take most (voters g d 0 m) → t ≡ has_voted d (g m) → t ≡ false → ws ≡ vs →
+    ws ≡ take most (voters g d 0 (m + 1))
+votes-out g d m most vs ws t e is gone h =
+    h ∙ e ∙ ap (λ (l : List Vote). take most l) (sym (subst (λ (z : ℕ). voters g d 0 z ≡ voters g d 0 m) (next-is m) (uncounted g d m (sym is ∙ gone))))
+
+pub votes-full : (g : ℕ → Option Ballot) (d : List ℕ) (m most : ℕ) (vs ws : List Vote) → vs ≡ take most (voters g d 0 m) → most ≤ length vs → ws ≡ vs →
+    ws ≡ take most (voters g d 0 (m + 1))
+votes-full g d m most vs ws e high h =
+    let at : most ≤ length (take most (voters g d 0 m)) = subst (λ (l : List Vote). most ≤ length l) e high in
+    let same : take most (voters g d 0 (suc m)) ≡ take most (voters g d 0 m) =
+        ap (λ (l : List Vote). take most l) (voter-next g d m) ∙ take-full most (voters g d 0 m) (cons_vote d m (g m) []) at in
+    h ∙ e ∙ sym (subst (λ (z : ℕ). take most (voters g d 0 z) ≡ take most (voters g d 0 m)) (next-is m) same)
+
+pub change-count-step : (g : ℕ → Option Change) (m n r : ℕ) (t : Bool) → t ≡ is_some (g m) → t ≡ true → (n ≡ length (changes_from g 0 m)) × (n ≤ m) → r ≡ n + 1 →
+    (r ≡ length (changes_from g 0 (m + 1))) × (r ≤ m + 1)
+change-count-step g m n r t is here h e =
+    let k = h.1 in
+    (e ∙ subst (λ (z : ℕ). n + 1 ≡ length (changes_from g 0 z)) (next-is m) (change-counted-suc g m n (sym is ∙ here) h.0), omega (arith, e, k))
+
+pub change-count-still : (g : ℕ → Option Change) (m n r : ℕ) (t : Bool) → t ≡ is_some (g m) → t ≡ false → (n ≡ length (changes_from g 0 m)) × (n ≤ m) → r ≡ n →
+    (r ≡ length (changes_from g 0 (m + 1))) × (r ≤ m + 1)
+change-count-still g m n r t is gone h e =
+    let k = h.1 in
+    (e ∙ h.0 ∙ ap (λ (l : List Change). length l) (sym (subst (λ (z : ℕ). changes_from g 0 z ≡ changes_from g 0 m) (next-is m) (change-uncounted g m (sym is ∙ gone)))), omega (arith, e, k))
+
+pub change-step : (g : ℕ → Option Change) (m : ℕ) (x y : Change) (xs ys : List Change) → xs ≡ changes_from g 0 m → g m ≡ Some x → y ≡ x → ys ≡ xs ++ y ∷ [] → ys ≡ changes_from g 0 (m + 1)
+change-step g m x y xs ys e h what is =
+    is ∙ ap (λ (z : Change). xs ++ z ∷ []) what ∙ subst (λ (z : ℕ). xs ++ x ∷ [] ≡ changes_from g 0 z) (next-is m) (change-in g m x xs e h)
+
+pub change-still : (g : ℕ → Option Change) (m : ℕ) (xs ys : List Change) → xs ≡ changes_from g 0 m → g m ≡ None → ys ≡ xs → ys ≡ changes_from g 0 (m + 1)
+change-still g m xs ys e h is = is ∙ e ∙ sym (subst (λ (z : ℕ). changes_from g 0 z ≡ changes_from g 0 m) (next-is m) (change-out g m h))
+
+-- ---- certificates
+
+grouped : {A : Type 0} (xs ys zs : List A) → (xs ++ ys) ++ zs ≡ xs ++ (ys ++ zs)
+grouped [] ys zs = refl
+grouped (x ∷ xs) ys zs = ap (λ (l : List _). x ∷ l) (grouped xs ys zs)
+
+tops-next : (top : ℕ → Option Certificate) (slots : List Slot) (i : ℕ) → i < length slots →
+    tops_of top (drop i slots) ≡ cons_some (top (get_or slots i (record { 0 = 0 })).0) (tops_of top (drop (i + 1) slots))
+tops-next top slots i h =
+    subst (λ (j : ℕ). tops_of top (drop i slots) ≡ cons_some (top (get_or slots i (record { 0 = 0 })).0) (tops_of top (drop j slots))) (next-is i)
+        (ap (λ (l : List Slot). tops_of top l) (drop-cons slots i (record { 0 = 0 }) h))
+
+pub tops-step : (top : ℕ → Option Certificate) (slots : List Slot) (i : ℕ) (x y : Certificate) (all more : List Certificate) → i < length slots →
+    tops_of top slots ≡ all ++ tops_of top (drop i slots) → top (get_or slots i (record { 0 = 0 })).0 ≡ Some x → y ≡ x → more ≡ all ++ y ∷ [] →
+    tops_of top slots ≡ more ++ tops_of top (drop (i + 1) slots)
+tops-step top slots i x y all more h inv at what is =
+    let rest = tops_of top (drop (i + 1) slots) in
+    inv ∙ ap (λ (l : List Certificate). all ++ l) (tops-next top slots i h ∙ ap (λ (o : Option Certificate). cons_some o rest) at)
+    ∙ sym (ap (λ (l : List Certificate). l ++ rest) (is ∙ ap (λ (z : Certificate). all ++ z ∷ []) what) ∙ grouped all (x ∷ []) rest)
+
+pub tops-still : (top : ℕ → Option Certificate) (slots : List Slot) (i : ℕ) (all more : List Certificate) → i < length slots →
+    tops_of top slots ≡ all ++ tops_of top (drop i slots) → top (get_or slots i (record { 0 = 0 })).0 ≡ None → more ≡ all →
+    tops_of top slots ≡ more ++ tops_of top (drop (i + 1) slots)
+tops-still top slots i all more h inv at is =
+    let rest = tops_of top (drop (i + 1) slots) in
+    inv ∙ ap (λ (l : List Certificate). all ++ l) (tops-next top slots i h ∙ ap (λ (o : Option Certificate). cons_some o rest) at)
+    ∙ ap (λ (l : List Certificate). l ++ rest) (sym is)

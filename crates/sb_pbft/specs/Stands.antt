@@ -63,16 +63,16 @@ value_in None = None
 value_in (Some q) = Some q.value
 
 -- a certificate was kept of what was ready at the slot, and its digest is told
-pub record HasCertified (p : Params) (old new : Pbft) (slot : Slot) (digest : Option (List ℕ)) : Type 0 where
+pub record HasCertified (p : Params) (old new : Pbft) (slot : Slot) (told : Option (List ℕ)) : Type 0 where
   pub node : new.me ≡ old.me
-  pub held : held new ≡ certified p (held old) slot
-  pub digest : digest ≡ digest_in (ready_at p (held old) slot.0)
+  pub holds : held new ≡ certified p (held old) slot
+  pub digest : told ≡ digest_in (ready_at p (held old) slot.0)
 
 -- what is new to deliver was taken
-pub record HasDelivered (p : Params) (old new : Pbft) (v s : ℕ) (value : Option Value) : Type 0 where
+pub record HasDelivered (p : Params) (old new : Pbft) (v s : ℕ) (taken : Option Value) : Type 0 where
   pub node : new.me ≡ old.me
-  pub held : held new ≡ handed p (held old) v s
-  pub value : value ≡ value_in (newly_at p (held old) v s)
+  pub holds : held new ≡ handed p (held old) v s
+  pub value : taken ≡ value_in (newly_at p (held old) v s)
 
 -- a Prepare for the proposal was sent, where the node answers
 pub record Answers (p : Params) (answers : Bool) (v : ℕ) (slot : Slot) (m : Pbft) (before later : KeyState) (e f : Effects Message) : Type 0 where
@@ -84,7 +84,7 @@ pub record Answers (p : Params) (answers : Bool) (v : ℕ) (slot : Slot) (m : Pb
 -- a certificate was kept of what was ready at the slot, and its Commit sent
 pub record Commits (p : Params) (slot : Slot) (old new : Pbft) (before later : KeyState) (e f : Effects Message) : Type 0 where
   pub node : new.me ≡ old.me
-  pub held : held new ≡ certified p (held old) slot
+  pub holds : held new ≡ certified p (held old) slot
   pub sent : Sent p (commits_to (held old).mode.view slot (ready_at p (held old) slot.0)) before later e.sends f.sends
   pub delivers : f.delivers ≡ e.delivers
   pub accepted : f.accepted ≡ e.accepted
@@ -93,7 +93,7 @@ pub record Commits (p : Params) (slot : Slot) (old new : Pbft) (before later : K
 -- what was new was delivered
 pub record HandsOver (p : Params) (v : ℕ) (slot : Slot) (old new : Pbft) (e f : Effects Message) : Type 0 where
   pub node : new.me ≡ old.me
-  pub held : held new ≡ handed p (held old) v slot.0
+  pub holds : held new ≡ handed p (held old) v slot.0
   pub sends : f.sends ≡ e.sends
   pub delivers : f.delivers ≡ e.delivers ++ delivery slot (newly_at p (held old) v slot.0)
   pub accepted : f.accepted ≡ e.accepted
@@ -102,7 +102,7 @@ pub record HandsOver (p : Params) (v : ℕ) (slot : Slot) (old new : Pbft) (e f 
 -- slot by slot what was due
 pub record Settles (p : Params) (answers : Bool) (v : ℕ) (slots : List Slot) (old new : Pbft) (before later : KeyState) (e f : Effects Message) : Type 0 where
   pub node : new.me ≡ old.me
-  pub held : held new ≡ settled_all p (held old) v slots
+  pub holds : held new ≡ settled_all p (held old) v slots
   pub sent : Sent p (drafts_all p (held old) answers v slots) before later e.sends f.sends
   pub delivers : f.delivers ≡ e.delivers ++ deliveries p (held old) v slots
   pub accepted : f.accepted ≡ e.accepted
@@ -110,7 +110,7 @@ pub record Settles (p : Params) (answers : Bool) (v : ℕ) (slots : List Slot) (
 
 -- what the definitions say of this turn, where the keys are the node's own
 pub record IsTurn (p : Params) (new : Pbft) (me leaf : ℕ) (t : Turn) (e : Effects Message) (before later : KeyState) : Type 0 where
-  pub held : held new ≡ t.held
+  pub holds : held new ≡ t.held
   pub sends : e.sends ≡ sign_all p me leaf t.drafts
   pub used : later.used ≡ leaf + uses_all p t.drafts
   pub accepted : e.accepted ≡ t.accepted

@@ -63,7 +63,8 @@ pub fn send_prepare(
         digest,
         sig,
     };
-    sends.push((To::All, msg))
+    sends.push((To::All, msg))?;
+    Ok(())
 }
 
 /// Sends a Commit to all.
@@ -87,5 +88,6 @@ pub fn send_commit(
         digest,
         sig,
     };
-    sends.push((To::All, msg))
+    sends.push((To::All, msg))?;
+    Ok(())
 }

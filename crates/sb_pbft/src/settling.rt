@@ -136,7 +136,8 @@ impl Pbft {
             return Ok(());
         };
         let digest = proposal.digest;
-        send_prepare(alloc, p, view, slot, digest, keys, &mut effects.sends)
+        send_prepare(alloc, p, view, slot, digest, keys, &mut effects.sends)?;
+        Ok(())
     }
 
     // A certificate of what is ready at the slot, and its Commit.
@@ -156,7 +157,8 @@ impl Pbft {
             return Ok(());
         };
         let own = self.view;
-        send_commit(alloc, p, own, slot, digest, keys, &mut effects.sends)
+        send_commit(alloc, p, own, slot, digest, keys, &mut effects.sends)?;
+        Ok(())
     }
 
     // Delivers what is to be delivered of the view at the slot.
@@ -173,7 +175,8 @@ impl Pbft {
         let Some(value) = self.deliver(p, view, slot)? else {
             return Ok(());
         };
-        effects.delivers.push((slot, value))
+        effects.delivers.push((slot, value))?;
+        Ok(())
     }
 
     // What is due at one slot where something came in the view.
@@ -193,7 +196,8 @@ impl Pbft {
     {
         self.answer(alloc, p, answers, view, slot, keys, effects)?;
         self.commit(alloc, p, slot, keys, effects)?;
-        self.hand_over(p, view, slot, effects)
+        self.hand_over(p, view, slot, effects)?;
+        Ok(())
     }
 
     // What is due at each of these slots, where something came in the view.

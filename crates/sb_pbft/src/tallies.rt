@@ -74,7 +74,7 @@ impl Votes {
             node,
         };
         match self.first.get(&mark) {
-            Some(vote) => vote.digest == *digest,
+            Some(vote) => *digest == vote.digest,
             None => false,
         }
     }
