@@ -237,9 +237,7 @@ fn claims_of_new_view(
     let mut all = Row::new(alloc);
     put_changes_claims(alloc, p, changes, &mut all)?;
     let slots = p.slots.as_slice();
-    put_chosen_claims(
-        alloc, p, from, view, changes, slots, signatures, &mut all,
-    )?;
+    put_chosen_claims(alloc, p, from, view, changes, slots, signatures, &mut all)?;
     let statement = state_new(alloc, p, view)?;
     put_claim(from, statement, sig, &mut all)?;
     Ok(all)
