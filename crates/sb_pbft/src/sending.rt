@@ -10,17 +10,9 @@ ghost use Rattle.sb_pbft.specs.Stands.{Sent};
 use iss_keys::Keys;
 use iss_request::{Bytes, NoMemory, Row, Slot};
 use iss_sb::{Params, To, sign};
+use pbft_wire::signing::{COMMIT, PREPARE};
 use pbft_wire::{Message, state_at};
 use std::alloc::Global;
-
-/// The number of a PrePrepare in statements.
-pub const PRE_PREPARE: u8 = 1;
-
-/// The number of a Prepare.
-pub const PREPARE: u8 = 2;
-
-/// The number of a Commit.
-pub const COMMIT: u8 = 3;
 
 /// Signs a PrePrepare, a Prepare or a Commit with the next leaf.
 pub fn sign_at(
