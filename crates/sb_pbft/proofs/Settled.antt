@@ -1,5 +1,5 @@
 -- What is due at one slot after another.
-use Rattle.std.proofs.Common.{◌≡◌, ◌≤◌, ◌<◌, ◌+◌, ◌-◌, ◌*◌, ◌^◌, drop, get_or, ℕ, zero, suc, Bool, true, false, cond, List, [], ◌∷◌, ◌++◌, length, Option, Some, None, is_some, refl, sym, ap, ◌∙◌, arith, subst}
+use Rattle.std.proofs.Common.{◌≡◌, ◌≤◌, ◌<◌, ◌+◌, ◌-◌, ◌*◌, ◌^◌, drop, get_or, ℕ, zero, suc, Bool, true, false, cond, List, [], ◌∷◌, ◌++◌, length, Option, Some, None, refl, sym, ap, ◌∙◌, arith, subst}
 use Rattle.std.proofs.Math.Seq.{drop-cons}
 use Rattle.iss_keys.specs.Directories.{AreKeysOf}
 use Rattle.iss_keys.specs.KeyStates.{KeyState, left_of}
@@ -14,8 +14,8 @@ use Rattle.pbft_wire.specs.declared.messages.Message.{Message}
 use Rattle.sb_pbft.specs.declared.pbft.Pbft.{Pbft}
 use Rattle.sb_pbft.specs.declared.proposals.Proposal.{Proposal}
 use Rattle.sb_pbft.specs.Makes.{Draft, sign, sign_all, uses, uses_all}
-use Rattle.sb_pbft.specs.Stands.{Answers, Commits, HandsOver, HasCertified, HasDelivered, Sent, Settles, digest_in, held, value_in}
-use Rattle.sb_pbft.specs.Turns.{Held, certified, commits_to, delivery, deliveries, drafts_all, drafts_at, handed, newly_at, prepares_to, ready_at, settled, settled_all}
+use Rattle.sb_pbft.specs.Stands.{Answers, Commits, HandsOver, Sent, Settles, held}
+use Rattle.sb_pbft.specs.Turns.{Held, commits_to, delivery, deliveries, drafts_all, drafts_at, handed, newly_at, prepares_to, ready_at, settled, settled_all}
 
 pub same-end : {A : Type 0} (xs : List A) → xs ++ [] ≡ xs
 same-end [] = refl
@@ -93,9 +93,9 @@ settles-more p answers v s ss m n o a b c e f g h k = record {
   holds = k.holds ∙ ap (λ (z : Held). settled_all p z v ss) h.holds;
   sent =
       let first : Sent p (drafts_at p (held m) answers v s) a b e.sends f.sends =
-          subst (λ (l : List Draft). Sent p l a b e.sends f.sends) (same-end (drafts_at p (held m) answers v s)) h.sent in
+      subst (λ (l : List Draft). Sent p l a b e.sends f.sends) (same-end (drafts_at p (held m) answers v s)) h.sent in
       let second : Sent p (drafts_all p (settled p (held m) v s) answers v ss) b c f.sends g.sends =
-          subst (λ (z : Held). Sent p (drafts_all p z answers v ss) b c f.sends g.sends) h.holds k.sent in
+      subst (λ (z : Held). Sent p (drafts_all p z answers v ss) b c f.sends g.sends) h.holds k.sent in
       sent-both p (drafts_at p (held m) answers v s) (drafts_all p (settled p (held m) v s) answers v ss) a b c e.sends f.sends g.sends first second;
   delivers =
       k.delivers ∙ ap (λ (z : Held). f.delivers ++ deliveries p z v ss) h.holds
@@ -114,7 +114,7 @@ settles-one p answers v s m n o a b c e f g i x y z = record {
   sent =
       let both = sent-both p (cond answers (prepares_to v s ((held m).proposal v s.0)) []) (commits_to (held m).mode.view s (ready_at p (held m) s.0)) a b c e.sends f.sends g.sends x.sent y.sent in
       subst (λ (l : List Draft). Sent p l a c e.sends i.sends) (sym (same-end (drafts_at p (held m) answers v s)))
-          (subst (λ (l : List (To × Message)). Sent p (drafts_at p (held m) answers v s) a c e.sends l) (sym z.sends) both);
+      (subst (λ (l : List (To × Message)). Sent p (drafts_at p (held m) answers v s) a c e.sends l) (sym z.sends) both);
   delivers =
       z.delivers ∙ ap (λ (h : Held). g.delivers ++ delivery s (newly_at p h v s.0)) y.holds
       ∙ ap (λ (l : List (Slot × Value)). l ++ delivery s (newly_at p (held m) v s.0)) (y.delivers ∙ x.delivers)
@@ -152,7 +152,7 @@ pub left-more : (p : Params) (answers : Bool) (v : ℕ) (s : Slot) (m n : Pbft) 
 left-more p answers v s m n a b e f all i h within done =
     let ds = drafts_all p (held m) answers v (s ∷ []) in
     subst (λ (z : KeyState). 2 * (all - (i + 1)) ≤ left_of z) (sym done.sent.used)
-        (low (2 ^ a.height) a.used (uses_all p ds) all i h (slot-few p (held m) answers v s) within)
+    (low (2 ^ a.height) a.used (uses_all p ds) all i h (slot-few p (held m) answers v s) within)
 
 -- what the rest of a row of slots owes
 abbrev pub Owes : Params → Bool → ℕ → List Slot → List Slot → Pbft → KeyState → Effects Message → Pbft → KeyState → Effects Message → Type 0
@@ -167,7 +167,7 @@ owes-more p answers v slots i m now next a b c e f g within owes done n k x rest
     let cut : drop i slots ≡ get_or slots i (record { 0 = 0 }) ∷ drop (suc i) slots = drop-cons slots i (record { 0 = 0 }) within in
     let row : Settles p answers v (drop (suc i) slots) next n c k g x = subst (λ (j : ℕ). Settles p answers v (drop j slots) next n c k g x) (sym step) rest in
     owes n k x (subst (λ (l : List Slot). Settles p answers v l now n b k f x) (sym cut)
-        (settles-more p answers v (get_or slots i (record { 0 = 0 })) (drop (suc i) slots) now next n b c k f g x done row))
+    (settles-more p answers v (get_or slots i (record { 0 = 0 })) (drop (suc i) slots) now next n b c k f g x done row))
 
 pub owes-none : (p : Params) (answers : Bool) (v : ℕ) (slots : List Slot) (i : ℕ) (m now : Pbft) (a b : KeyState) (e f : Effects Message) → length slots ≤ i →
     Owes p answers v slots (drop i slots) m a e now b f → Settles p answers v slots m now a b e f

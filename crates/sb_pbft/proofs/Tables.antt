@@ -1,50 +1,15 @@
--- What the code's tables answer: equal places, and loops over nodes.
-use Rattle.std.proofs.Common.{drop, get_or, ◌≡◌, ◌≤◌, ◌<◌, ◌+◌, ℕ, zero, suc, Bool, true, false, cond, ◌==◌, ◌&&◌, nat_eq, nat_lt, List, [], ◌∷◌, ◌++◌, length, take, Option, Some, None, is_some, refl, sym, ap, ◌∙◌, arith, subst}
+-- What the code's tables answer: loops over nodes and slots.
+use Rattle.std.proofs.Common.{drop, get_or, ◌≡◌, ◌≤◌, ◌<◌, ◌+◌, ℕ, zero, suc, Bool, true, false, cond, ◌==◌, ◌&&◌, nat_eq, List, [], ◌∷◌, ◌++◌, length, take, Option, Some, None, is_some, refl, sym, ap, ◌∙◌, arith, subst}
 use Rattle.std.proofs.Math.Seq.{drop-cons}
 use Rattle.std.specs.Cmp.Lexicographic.{pointwise}
-use Rattle.std.specs.Ordering.{is_eq, nat_cmp, ordering_then}
-use Rattle.std.specs.declared.cmp.Ordering.{Ordering}
-use Rattle.std.specs.declared.cmp.Ordering.TheVariants.{Less, Equal, Greater}
-use Rattle.iss_base.specs.Lists.{first_of, same_bytes, set_at2}
+use Rattle.iss_base.specs.Lists.{same_bytes}
 use Rattle.iss_request.specs.declared.ids.Slot.{Slot}
 use Rattle.pbft_wire.specs.declared.messages.Certificate.{Certificate}
 use Rattle.pbft_wire.specs.declared.messages.Change.{Change}
 use Rattle.pbft_wire.specs.declared.messages.Vote.{Vote}
-use Rattle.sb_pbft.specs.declared.changes.Maker.{Maker}
-use Rattle.sb_pbft.specs.declared.proposals.Place.{Place}
-use Rattle.sb_pbft.specs.declared.tallies.Mark.{Mark}
-use Rattle.sb_pbft.specs.Places.{by_maker, by_mark, by_place, has_voted, signature_in}
+use Rattle.sb_pbft.specs.Places.{has_voted, signature_in}
 use Rattle.sb_pbft.specs.Turns.{tops_of}
-use Rattle.sb_pbft.specs.Rules.{Ballot, changes_from, cons_some, cons_vote, is_at, voters}
-
-pub same_number : (a b : ℕ) → is_eq (nat_cmp a b) ≡ (a == b)
-same_number a b = grind arith
-
-both_equal : (a b : Ordering) → is_eq (ordering_then a b) ≡ (is_eq a && is_eq b)
-both_equal Less b = refl
-both_equal Equal b = refl
-both_equal Greater b = refl
-
-pub same_place : (a b : Place) → is_eq (by_place a b) ≡ ((a.view == b.view) && (a.slot == b.slot))
-same_place a b =
-    let views = same_number a.view b.view in
-    let slots = same_number a.slot b.slot in
-    both_equal (nat_cmp a.view b.view) (nat_cmp a.slot b.slot) ∙ rw (views, slots) refl
-
-pub same_maker : (a b : Maker) → is_eq (by_maker a b) ≡ ((a.view == b.view) && (a.node == b.node))
-same_maker a b =
-    let views = same_number a.view b.view in
-    let nodes = same_number a.node b.node in
-    both_equal (nat_cmp a.view b.view) (nat_cmp a.node b.node) ∙ rw (views, nodes) refl
-
-pub same_mark : (a b : Mark) → is_eq (by_mark a b) ≡ ((a.view == b.view) && ((a.slot == b.slot) && (a.node == b.node)))
-same_mark a b =
-    let views = same_number a.view b.view in
-    let slots = same_number a.slot b.slot in
-    let nodes = same_number a.node b.node in
-    both_equal (nat_cmp a.view b.view) (ordering_then (nat_cmp a.slot b.slot) (nat_cmp a.node b.node))
-    ∙ ap (λ t. is_eq (nat_cmp a.view b.view) && t) (both_equal (nat_cmp a.slot b.slot) (nat_cmp a.node b.node))
-    ∙ rw (views, slots, nodes) refl
+use Rattle.sb_pbft.specs.Rules.{Ballot, changes_from, cons_some, cons_vote, voters}
 
 -- ---- one node more
 
@@ -161,11 +126,7 @@ change-uncounted g m h = go (g m) refl
     go None q = change-out g m q
     go (Some x) q = absurd (let k : true ≡ false = rw q at h in cc)
 
--- ---- first of its place
-
-pub first-there : {A : Type 0} (o u : Option A) → is_some o ≡ true → o ≡ first_of o u
-first-there None u h = absurd cc
-first-there (Some x) u h = refl
+-- ---- digests that are equal
 
 same_digits : (a b : List ℕ) → pointwise nat_eq a b ≡ same_bytes a b
 same_digits [] [] = refl
@@ -195,7 +156,7 @@ pub votes-step : (g : ℕ → Option Ballot) (d : List ℕ) (m most : ℕ) (vs w
     ws ≡ take most (voters g d 0 (m + 1))
 votes-step g d m most vs ws x t e few is here what h =
     h ∙ ap (λ (y : Vote). vs ++ y ∷ []) what ∙ subst (λ (z : ℕ). vs ++ record { node = record { 0 = m }; sig = signature_in (g m) } ∷ [] ≡ take most (voters g d 0 z)) (next-is m)
-        (taken g d m most vs e few (sym is ∙ here))
+    (taken g d m most vs e few (sym is ∙ here))
 
 pub votes-out : (g : ℕ → Option Ballot) (d : List ℕ) (m most : ℕ) (vs ws : List Vote) (t : Bool) → vs ≡ take most (voters g d 0 m) → t ≡ has_voted d (g m) → t ≡ false → ws ≡ vs →
     ws ≡ take most (voters g d 0 (m + 1))
@@ -207,7 +168,7 @@ pub votes-full : (g : ℕ → Option Ballot) (d : List ℕ) (m most : ℕ) (vs w
 votes-full g d m most vs ws e high h =
     let at : most ≤ length (take most (voters g d 0 m)) = subst (λ (l : List Vote). most ≤ length l) e high in
     let same : take most (voters g d 0 (suc m)) ≡ take most (voters g d 0 m) =
-        ap (λ (l : List Vote). take most l) (voter-next g d m) ∙ take-full most (voters g d 0 m) (cons_vote d m (g m) []) at in
+    ap (λ (l : List Vote). take most l) (voter-next g d m) ∙ take-full most (voters g d 0 m) (cons_vote d m (g m) []) at in
     h ∙ e ∙ sym (subst (λ (z : ℕ). take most (voters g d 0 z) ≡ take most (voters g d 0 m)) (next-is m) same)
 
 pub change-count-step : (g : ℕ → Option Change) (m n r : ℕ) (t : Bool) → t ≡ is_some (g m) → t ≡ true → (n ≡ length (changes_from g 0 m)) × (n ≤ m) → r ≡ n + 1 →
@@ -239,7 +200,7 @@ tops-next : (top : ℕ → Option Certificate) (slots : List Slot) (i : ℕ) →
     tops_of top (drop i slots) ≡ cons_some (top (get_or slots i (record { 0 = 0 })).0) (tops_of top (drop (i + 1) slots))
 tops-next top slots i h =
     subst (λ (j : ℕ). tops_of top (drop i slots) ≡ cons_some (top (get_or slots i (record { 0 = 0 })).0) (tops_of top (drop j slots))) (next-is i)
-        (ap (λ (l : List Slot). tops_of top l) (drop-cons slots i (record { 0 = 0 }) h))
+    (ap (λ (l : List Slot). tops_of top l) (drop-cons slots i (record { 0 = 0 }) h))
 
 pub tops-step : (top : ℕ → Option Certificate) (slots : List Slot) (i : ℕ) (x y : Certificate) (all more : List Certificate) → i < length slots →
     tops_of top slots ≡ all ++ tops_of top (drop i slots) → top (get_or slots i (record { 0 = 0 })).0 ≡ Some x → y ≡ x → more ≡ all ++ y ∷ [] →

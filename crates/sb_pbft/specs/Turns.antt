@@ -21,7 +21,7 @@ use Rattle.pbft_views.specs.Good.{all_good, primary}
 use Rattle.sb_pbft.specs.declared.proposals.Proposal.{Proposal}
 use Rattle.sb_pbft.specs.Makes.{Draft, DraftCommit, DraftNewView, DraftPrepare, DraftViewChange, asked_strings, choice_strings, drafts, first_draft, first_sig, inputs, kept, or_empty, proposal_sig, sig_for, strings, value_strings}
 use Rattle.sb_pbft.specs.Pbft.{asks, pbft}
-use Rattle.sb_pbft.specs.Rules.{Ballot, Mode, change_in, change_of, changes_from, commit_in, commit_of, cons_some, enters, mode, mode_after, offer, passes, prepare_in, prepare_of, proposal, voters, when}
+use Rattle.sb_pbft.specs.Rules.{Ballot, Mode, change_in, change_of, changes_from, commit_in, commit_of, cons_some, enters, mode, offer, passes, prepare_in, prepare_of, proposal, voters, when}
 
 -- ---- what is held
 

@@ -80,13 +80,7 @@ impl Votes {
     }
 
     // The node's signature once more, nothing where it did not vote.
-    fn signature(
-        &self,
-        alloc: Global,
-        view: u16,
-        slot: Slot,
-        node: u8,
-    ) -> Result<Bytes, NoMemory>
+    fn signature(&self, alloc: Global, view: u16, slot: Slot, node: u8) -> Result<Bytes, NoMemory>
         ensures { IfOk result (λ sig. sig ≡ signature_in (vote_at self.now view slot.0 node)) }
     {
         let mark = Mark {

@@ -1,4 +1,4 @@
-use Rattle.std.proofs.Common.{◌≤◌, arith, length, get_or}
+use Rattle.std.proofs.Common.{arith, length, get_or}
 use Rattle.sb_pbft.proofs.Settled.{left-more, owes-more, owes-none}
 use Rattle.sb_pbft.proofs.pbft.Pbft.settle.Goals as goal
 
@@ -16,11 +16,12 @@ loop-slot-preserved c =
     let p = c.args.p.now in
     let slots = c.args.slots.now in
     let i = c.loop-slot.slot-index in
-    let done = c.in_ok-settle_at.ensures in
-    (left-more p c.args.answers c.args.view (get_or slots i (record { 0 = 0 })) c.loop-slot.self c.settle_at.new.self c.loop-slot.keys c.settle_at.new.keys c.loop-slot.effects c.settle_at.new.effects
-      (length slots) i c.loop-slot.invariant.0 c.loop-slot-test.true done,
-     owes-more p c.args.answers c.args.view slots i c.args.self.now c.loop-slot.self c.settle_at.new.self c.args.keys.now c.loop-slot.keys c.settle_at.new.keys c.args.effects.now c.loop-slot.effects
-      c.settle_at.new.effects c.loop-slot-test.true c.loop-slot.invariant.1 done)
+    let done = c.in_ok-settle_at.ensures in (
+      left-more p c.args.answers c.args.view (get_or slots i (record { 0 = 0 })) c.loop-slot.self c.settle_at.new.self c.loop-slot.keys c.settle_at.new.keys c.loop-slot.effects c.settle_at.new.effects
+          (length slots) i c.loop-slot.invariant.0 c.loop-slot-test.true done,
+      owes-more p c.args.answers c.args.view slots i c.args.self.now c.loop-slot.self c.settle_at.new.self c.args.keys.now c.loop-slot.keys c.settle_at.new.keys c.args.effects.now c.loop-slot.effects
+          c.settle_at.new.effects c.loop-slot-test.true c.loop-slot.invariant.1 done,
+    )
 
 pub returns : goal.returns
 returns c =

@@ -1,4 +1,4 @@
-use Rattle.std.proofs.Common.{◌≡◌, ◌∙◌, Bool, Option, ap, sym}
+use Rattle.std.proofs.Common.{◌∙◌, Option, ap}
 use Rattle.sb_pbft.specs.declared.tallies.Voted.{Voted}
 use Rattle.sb_pbft.specs.Places.{ballot_of, has_voted}
 use Rattle.sb_pbft.proofs.Tables.{voted-is}

@@ -14,8 +14,8 @@ loop-node-preserved c =
           votes-step g d c.loop-node.node c.args.most c.loop-node.votes c.if-len-most.votes _ _ c.loop-node.invariant (let few = w.if-len-most.true in let long = c.len.ensures in omega (arith, few, long))
           w.has_voted.ensures w.if-has_voted.true (ap (λ (s : List ℕ). let x : Vote = record { node = record { 0 = c.loop-node.node }; sig = s } in x) w.in_ok-sig.ensures) (w.votes-is ∙ w.in_ok-push.ensures.ok)
       | else-len-most w ↦ elim w.else-len-most.branch [
-          | else-len-most-via-then-len-most+else-has_voted x ↦ votes-out g d c.loop-node.node c.args.most c.loop-node.votes c.if-len-most.votes _ c.loop-node.invariant x.has_voted.ensures x.if-has_voted.false w.votes-is
-          | else-len-most-via-else-len-most x ↦
-              votes-full g d c.loop-node.node c.args.most c.loop-node.votes c.if-len-most.votes c.loop-node.invariant (let full = x.if-len-most.false in let long = c.len.ensures in omega (arith, full, long)) w.votes-is
-        ]
+        | else-len-most-via-then-len-most+else-has_voted x ↦ votes-out g d c.loop-node.node c.args.most c.loop-node.votes c.if-len-most.votes _ c.loop-node.invariant x.has_voted.ensures x.if-has_voted.false w.votes-is
+        | else-len-most-via-else-len-most x ↦
+            votes-full g d c.loop-node.node c.args.most c.loop-node.votes c.if-len-most.votes c.loop-node.invariant (let full = x.if-len-most.false in let long = c.len.ensures in omega (arith, full, long)) w.votes-is
+      ]
     ]
