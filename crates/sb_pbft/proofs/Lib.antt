@@ -21,3 +21,5 @@ pub mod Run
 pub mod Reached
 pub mod Tables
 pub mod Settled
+pub mod Doing
+pub mod Taken

@@ -7,16 +7,18 @@ use Rattle.iss_keys.specs.KeyStates.{KeyState}
 use Rattle.iss_request.specs.declared.ids.Slot.{Slot}
 use Rattle.iss_request.specs.declared.requests.Value.{Value}
 use Rattle.iss_sb.specs.declared.effects.Effects.{Effects}
+use Rattle.iss_sb.specs.declared.effects.Input.{Input}
 use Rattle.iss_sb.specs.declared.effects.Params.{Params}
 use Rattle.iss_sb.specs.declared.effects.To.{To}
-use Rattle.iss_sb.specs.Calls.{AreToNodes}
+use Rattle.iss_sb.specs.Calls.{AreToNodes, IsWithin}
 use Rattle.iss_sb.specs.Evidence.{Item}
 use Rattle.pbft_wire.specs.declared.messages.Message.{Message}
 use Rattle.sb_pbft.specs.declared.pbft.Pbft.{Pbft}
 use Rattle.sb_pbft.specs.declared.proposals.Proposal.{Proposal}
 use Rattle.sb_pbft.specs.Makes.{Draft, sign_all, uses_all}
+use Rattle.sb_pbft.specs.Pbft.{pbft}
 use Rattle.sb_pbft.specs.Places.{change_at, proposal_at, top_at, vote_at}
-use Rattle.sb_pbft.specs.Turns.{Held, certified, commits_to, deliveries, delivery, drafts_all, handed, model, newly_at, prepares_to, ready_at, settled_all}
+use Rattle.sb_pbft.specs.Turns.{Held, Turn, certified, commits_to, deliveries, delivery, drafts_all, handed, model, newly_at, prepares_to, ready_at, settled_all, turn}
 
 -- the code as what it holds
 abbrev pub held : Pbft → Held
@@ -98,3 +100,18 @@ pub record Settles (p : Params) (answers : Bool) (v : ℕ) (slots : List Slot) (
   pub delivers : f.delivers ≡ e.delivers ++ deliveries p (held old) v slots
   pub accepted : f.accepted ≡ e.accepted
   pub hashed : f.hashed ≡ e.hashed
+
+-- what the definitions say of this turn
+pub record IsTurn (p : Params) (new : Pbft) (me leaf : ℕ) (t : Turn) (e : Effects Message) (before later : KeyState) : Type 0 where
+  pub holds : held new ≡ t.held
+  pub sends : e.sends ≡ sign_all p me leaf t.drafts
+  pub used : later.used ≡ leaf + uses_all p t.drafts
+  pub accepted : e.accepted ≡ t.accepted
+  pub hashed : e.hashed ≡ t.strings
+  pub delivers : e.delivers ≡ t.delivers
+
+-- what a rule owes: where the keys are the node's own, the turn of what is held, and what it gives is of its segment in any case
+pub record Does (p : Params) (old new : Pbft) (i : Input Message) (before later : KeyState) (e : Effects Message) : Type 0 where
+  pub node : new.me ≡ old.me
+  pub turns : AreKeysOf old.me.0 p.setup.keys before → IsTurn p new old.me.0 before.used (turn p old.me.0 before.used (held old) i) e before later
+  pub within : IsWithin pbft p before later e

@@ -11,6 +11,7 @@ pub mod sending;
 pub mod settling;
 pub mod tallies;
 pub mod tops;
+pub mod voting;
 
 pub use facts::{
     batches_come_from_a_quorum, certificates_of_a_view_agree, later_views_keep_what_is_decided,
