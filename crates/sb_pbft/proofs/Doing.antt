@@ -1,25 +1,22 @@
 -- From what the code's parts did to what a rule owes.
-use Rattle.std.proofs.Common.{◌≡◌, ◌≤◌, ◌<◌, ◌+◌, ◌*◌, ℕ, zero, suc, Bool, true, false, not, cond, ◌&&◌, List, [], ◌∷◌, ◌++◌, length, Option, Some, None, IfSome, refl, sym, ap, ◌∙◌, arith, subst}
-use Rattle.iss_base.specs.Lists.{In, first_of}
+use Rattle.std.proofs.Common.{◌≡◌, ◌≤◌, ◌+◌, ◌*◌, ℕ, Bool, List, [], ◌∷◌, ◌++◌, length, Option, Some, None, IfSome, refl, sym, ap, ◌∙◌, arith, subst}
+use Rattle.iss_base.specs.Lists.{In}
 use Rattle.iss_keys.specs.Directories.{AreKeysOf}
-use Rattle.iss_keys.specs.KeyStates.{KeyState, left_of}
-use Rattle.iss_request.specs.declared.ids.NodeId.{NodeId}
+use Rattle.iss_keys.specs.KeyStates.{KeyState}
 use Rattle.iss_request.specs.declared.ids.Slot.{Slot}
 use Rattle.iss_request.specs.declared.requests.Batch.{Batch}
 use Rattle.iss_request.specs.declared.requests.Value.{Value}
 use Rattle.iss_sb.specs.declared.effects.Effects.{Effects}
 use Rattle.iss_sb.specs.declared.effects.Input.{Input}
 use Rattle.iss_sb.specs.declared.effects.Params.{Params}
-use Rattle.iss_sb.specs.declared.effects.To.{To}
-use Rattle.iss_sb.specs.Calls.{AllIn, AreToNodes, IsGoodParams, IsNothing, IsWithin, slots_of}
+use Rattle.iss_sb.specs.Calls.{AllIn, IsNothing, IsWithin, slots_of}
 use Rattle.pbft_wire.specs.declared.messages.Message.{Message}
 use Rattle.sb_pbft.specs.declared.pbft.Pbft.{Pbft}
 use Rattle.sb_pbft.specs.declared.proposals.Proposal.{Proposal}
-use Rattle.sb_pbft.specs.Makes.{Draft, sign_all, uses_all}
+use Rattle.sb_pbft.specs.Makes.{Draft, uses_all}
 use Rattle.sb_pbft.specs.Pbft.{pbft}
-use Rattle.sb_pbft.specs.Rules.{Ballot}
 use Rattle.sb_pbft.specs.Stands.{Does, IsTurn, Sent, Settles, held}
-use Rattle.sb_pbft.specs.Turns.{Held, Turn, commits_to, deliveries, delivery, drafts_all, drafts_at, idle, newly_at, settled, settled_all, turn}
+use Rattle.sb_pbft.specs.Turns.{Held, Turn, deliveries, delivery, drafts_all, drafts_at, idle, newly_at, settled, settled_all, turn}
 use Rattle.sb_pbft.proofs.Settled.{same-end, sent-both, slot-few, uses-both}
 
 -- ---- nothing
@@ -67,8 +64,8 @@ deliveries-in : (p : Params) (h : Held) (v : ℕ) (ss slots : List Slot) → All
 deliveries-in p h v [] slots all = tt
 deliveries-in p h v (s ∷ ss) slots all =
     subst (λ (l : List Slot). AllIn l slots) (sym (slots-both (delivery s (newly_at p h v s.0)) (deliveries p (settled p h v s) v ss)))
-        (in-both (slots_of (delivery s (newly_at p h v s.0))) (slots_of (deliveries p (settled p h v s) v ss)) slots (one-in s (newly_at p h v s.0) slots all.0)
-            (deliveries-in p (settled p h v s) v ss slots all.1))
+    (in-both (slots_of (delivery s (newly_at p h v s.0))) (slots_of (deliveries p (settled p h v s) v ss)) slots (one-in s (newly_at p h v s.0) slots all.0)
+    (deliveries-in p (settled p h v s) v ss slots all.1))
 
 drafts-few : (p : Params) (h : Held) (answers : Bool) (v : ℕ) (ss : List Slot) → uses_all p (drafts_all p h answers v ss) ≤ 2 * length ss
 drafts-few p h answers v [] = omega arith
@@ -92,7 +89,6 @@ turned p ds h answers v slots strings accepted = record {
 
 module _ (p : Params) (i : Input Message) (old mid new : Pbft) (b k l : KeyState) (e f : Effects Message) (ds : List Draft) (answers : Bool) (v : ℕ) (slots : List Slot) (h : Held)
     (strings : List (List ℕ)) (accepted : Option (Slot × Batch)) where
-
   settled-within : Sent p ds b k [] e.sends → e.delivers ≡ [] → e.accepted ≡ accepted → IfSome accepted (λ a. In a.0 p.slots) → Settles p answers v slots mid new k l e f →
       AllIn slots p.slots → uses_all p ds + 2 * length slots ≤ 2 * length p.slots + 1 → IsWithin pbft p b l f
   settled-within first none takes taken done inside few =

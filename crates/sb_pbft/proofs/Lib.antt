@@ -23,3 +23,4 @@ pub mod Tables
 pub mod Settled
 pub mod Doing
 pub mod Taken
+pub mod Proposed

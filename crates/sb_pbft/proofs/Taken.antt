@@ -1,13 +1,11 @@
 -- What is held after a vote was kept, or a proposal.
-use Rattle.std.proofs.Common.{◌≡◌, ◌==◌, ◌&&◌, ℕ, Bool, true, false, not, cond, List, [], ◌∷◌, Option, Some, None, refl, sym, ap, ◌∙◌, rules}
+use Rattle.std.proofs.Common.{◌≡◌, ◌==◌, ◌&&◌, ℕ, Bool, true, false, not, List, [], ◌∷◌, Option, None, refl, sym, ap, ◌∙◌}
 use Rattle.iss_base.specs.Lists.{first_of}
 use Rattle.iss_request.specs.declared.ids.NodeId.{NodeId}
 use Rattle.iss_request.specs.declared.ids.Slot.{Slot}
-use Rattle.iss_sb.specs.declared.effects.Input.{Input}
 use Rattle.iss_sb.specs.declared.effects.Input.TheVariants.{Receive}
 use Rattle.iss_sb.specs.declared.effects.Params.{Params}
 use Rattle.iss_sb.specs.Calls.{has_slot}
-use Rattle.pbft_wire.specs.declared.messages.Message.{Message}
 use Rattle.pbft_wire.specs.declared.messages.Message.TheVariants.{Prepare, Commit}
 use Rattle.pbft_views.specs.Good.{primary}
 use Rattle.sb_pbft.specs.declared.pbft.Pbft.{Pbft}
@@ -15,7 +13,7 @@ use Rattle.sb_pbft.specs.declared.tallies.Votes.{Votes}
 use Rattle.sb_pbft.specs.Places.{vote_at}
 use Rattle.sb_pbft.specs.Rules.{Ballot, is_at, when}
 use Rattle.sb_pbft.specs.Stands.{held}
-use Rattle.sb_pbft.specs.Turns.{and_commit, and_prepare, at_slots, bare, idle, turn}
+use Rattle.sb_pbft.specs.Turns.{and_commit, and_prepare, bare, idle, turn}
 use Rattle.sb_pbft.proofs.Doing.{turned}
 
 right-true : (t : Bool) → (t && true) ≡ t

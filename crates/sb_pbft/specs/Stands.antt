@@ -1,11 +1,13 @@
 -- What PBFT's code holds, and what its parts do.
-use Rattle.std.specs.Prelude.{◌≡◌, ℕ, ◌+◌, Bool, cond, List, [], ◌++◌, Option, Some, None}
+use Rattle.std.specs.Prelude.{◌≡◌, ℕ, ◌+◌, ◌==◌, ◌&&◌, Bool, cond, not, List, [], ◌∷◌, ◌++◌, Option, Some, None, is_some}
 use Rattle.std.specs.BTreeSet.{contains}
 use Rattle.std.specs.Ordering.{nat_cmp}
 use Rattle.iss_keys.specs.Directories.{AreKeysOf}
 use Rattle.iss_keys.specs.KeyStates.{KeyState}
 use Rattle.iss_request.specs.declared.ids.Slot.{Slot}
+use Rattle.iss_request.specs.declared.requests.Batch.{Batch}
 use Rattle.iss_request.specs.declared.requests.Value.{Value}
+use Rattle.iss_request.specs.declared.requests.Value.TheVariants.{Batch as Holds}
 use Rattle.iss_sb.specs.declared.effects.Effects.{Effects}
 use Rattle.iss_sb.specs.declared.effects.Input.{Input}
 use Rattle.iss_sb.specs.declared.effects.Params.{Params}
@@ -13,11 +15,13 @@ use Rattle.iss_sb.specs.declared.effects.To.{To}
 use Rattle.iss_sb.specs.Calls.{AreToNodes, IsWithin}
 use Rattle.iss_sb.specs.Evidence.{Item}
 use Rattle.pbft_wire.specs.declared.messages.Message.{Message}
+use Rattle.pbft_wire.specs.Statements.{digest_of, string_of}
 use Rattle.sb_pbft.specs.declared.pbft.Pbft.{Pbft}
 use Rattle.sb_pbft.specs.declared.proposals.Proposal.{Proposal}
 use Rattle.sb_pbft.specs.Makes.{Draft, sign_all, uses_all}
 use Rattle.sb_pbft.specs.Pbft.{pbft}
 use Rattle.sb_pbft.specs.Places.{change_at, proposal_at, top_at, vote_at}
+use Rattle.sb_pbft.specs.Rules.{is_open}
 use Rattle.sb_pbft.specs.Turns.{Held, Turn, certified, commits_to, deliveries, delivery, drafts_all, handed, model, newly_at, prepares_to, ready_at, settled_all, turn}
 
 -- the code as what it holds
@@ -36,6 +40,17 @@ held m = record {
 pub record Stands (m : Pbft) (p : Params) (me : ℕ) (xs : List (Item Message)) : Type 0 where
   pub node : m.me.0 ≡ me
   pub state : held m ≡ model p me xs
+
+-- ---- the code's tests
+
+abbrev pub is_free : Params → Held → ℕ → Bool
+is_free p h s = is_open p h.mode s && not (is_some (h.proposal 0 s))
+
+abbrev pub may_cast : Params → Pbft → ℕ → Bool
+may_cast p m s = (m.me.0 == p.leader.0) && is_free p (held m) s
+
+abbrev pub may_take : Params → Pbft → ℕ → ℕ → ℕ → Bool
+may_take p m from v s = (not (m.me.0 == p.leader.0) && (from == p.leader.0)) && ((v == 0) && is_free p (held m) s)
 
 -- ---- what is signed and sent
 
@@ -115,3 +130,12 @@ pub record Does (p : Params) (old new : Pbft) (i : Input Message) (before later 
   pub node : new.me ≡ old.me
   pub turns : AreKeysOf old.me.0 p.setup.keys before → IsTurn p new old.me.0 before.used (turn p old.me.0 before.used (held old) i) e before later
   pub within : IsWithin pbft p before later e
+
+-- the effects of a batch that is accepted at the slot, with its value and digest
+pub record HasAccepted (p : Params) (slot : Slot) (batch : Batch) (x : Value) (d : List ℕ) (e : Effects Message) : Type 0 where
+  pub value : x ≡ Holds batch
+  pub digest : d ≡ digest_of p (Holds batch)
+  pub sends : e.sends ≡ []
+  pub accepted : e.accepted ≡ Some (slot, batch)
+  pub hashed : e.hashed ≡ string_of p (Holds batch) ∷ []
+  pub delivers : e.delivers ≡ []

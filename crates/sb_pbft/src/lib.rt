@@ -7,6 +7,7 @@ pub mod facts;
 pub mod laws;
 pub mod pbft;
 pub mod proposals;
+pub mod proposing;
 pub mod sending;
 pub mod settling;
 pub mod tallies;

@@ -1,4 +1,4 @@
-use Rattle.std.proofs.Common.{arith, not, refl, sym, ◌==◌, ◌&&◌, [], ◌∷◌, false, None}
+use Rattle.std.proofs.Common.{arith, not, refl, sym, ◌==◌, [], ◌∷◌, false, None}
 use Rattle.iss_base.proofs.Lists.{and-true}
 use Rattle.iss_sb.specs.Calls.{has_slot}
 use Rattle.iss_sb.proofs.Slots.{has_slot-In}
