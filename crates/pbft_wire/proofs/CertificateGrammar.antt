@@ -1,5 +1,5 @@
 -- Certificates and ViewChanges have one spelling.
-use Rattle.std.proofs.Common.{zero, suc, ◌≡◌, ℕ, ◌&&◌, Bool, true, List, [], ◌∷◌, ◌++◌, length, append_assoc, refl, sym, ap, ◌∙◌, subst}
+use Rattle.std.proofs.Common.{◌≡◌, ℕ, ◌&&◌, Bool, true, List, ◌∷◌, ◌++◌, length, append_assoc, refl, sym, ap, ◌∙◌, subst}
 use Rattle.std.specs.Prelude.{nat_le}
 use Rattle.std.specs.Int.{to_be_bytes, w16, w64}
 use Rattle.std.specs.List.{flat_map}
@@ -14,7 +14,7 @@ use Rattle.pbft_wire.specs.declared.messages.Change.{Change}
 use Rattle.pbft_wire.specs.declared.messages.Vote.{Vote}
 use Rattle.pbft_wire.specs.Certificates.{certificate_bytes, change_bytes, fits_certificate, fits_certificates, fits_change, fits_count, fits_from, fits_slot, fits_value, fits_view, fits_vote, fits_votes, node_of_vote, parse_certificate, parse_change, parse_vote, slot_of, vote_bytes}
 use Rattle.pbft_wire.proofs.Rising.{in-front, IsExact, rising-again, rising-parts}
-use Rattle.pbft_wire.proofs.Fields.{AreText, IsText, count-again, count-parts, slot-again, slot-parts, value-again, value-parts, view-again, view-parts}
+use Rattle.pbft_wire.proofs.Fields.{IsText, count-again, count-parts, slot-again, slot-parts, value-again, value-parts, view-again, view-parts}
 
 -- ---- regrouping
 

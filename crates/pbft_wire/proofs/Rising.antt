@@ -1,5 +1,5 @@
 -- Rows of things whose numbers rise have one spelling, and are read one after the other.
-use Rattle.std.proofs.Common.{◌≡◌, ℕ, zero, suc, ◌+◌, ◌-◌, ◌<◌, Bool, true, List, [], ◌∷◌, ◌++◌, length, get_or, append_assoc, append-nil, refl, sym, ap, ◌∙◌, subst, arith}
+use Rattle.std.proofs.Common.{◌≡◌, ℕ, zero, suc, ◌<◌, Bool, true, List, [], ◌∷◌, ◌++◌, length, get_or, append_assoc, append-nil, refl, sym, ap, ◌∙◌, subst, arith}
 use Rattle.std.specs.List.{flat_map}
 use Rattle.iss_base.proofs.Lists.{and-true, both}
 use Rattle.iss_request.specs.Fields.{Good, IsRead, IsUnreadable, Reading}
