@@ -9,13 +9,14 @@ build=$top/crates/iss/out/iss
 work=$(mktemp -d)
 trap 'rm -rf "$work"' EXIT
 
-# A header, and then so many lines: a request of its own identity, a proposal, a delivery and a pump in turn.
+# A header, and then so many lines: a request, a proposal, a delivery and a pump in turn. There are as many identities as the windows
+# hold, so that clients' trees cost the same from there on.
 mixed() {
     awk -v lines="$1" 'BEGIN {
-        print "iss 1\nmodule relay\nf 0\nepoch 64\nbuckets 256\nbatch 32\nwindow 64\npolicy simple\nclients 256\nkeys 12\nfaulty none"
+        print "iss 1\nmodule relay\nf 0\nepoch 64\nbuckets 256\nbatch 32\nwindow 64\npolicy simple\nclients 256\nkeys 6\nfaulty none"
         for (i = 0; i < lines - 11; i++) {
             r = int(i / 4)
-            if (i % 4 == 0) print "request " r % 3, r % 256, int(r / 256), "-"
+            if (i % 4 == 0) print "request " r % 3, r % 256, int(r / 256) % 64, "-"
             else if (i % 4 == 1) print "propose " r % 3
             else if (i % 4 == 2) print "deliver " r % 192
             else print "pump"
@@ -33,10 +34,11 @@ random() {
     }'
 }
 
-# So many lines over epochs of 64 slots: four requests, 64 proposals and a calm in each.
+# So many lines over epochs of 64 slots: four requests, 64 proposals and a calm in each. Clients' trees are as high as their requests need.
 epochs() {
     awk -v lines="$1" 'BEGIN {
-        print "iss 1\nmodule relay\nf 0\nepoch 64\nbuckets 256\nbatch 32\nwindow 64\npolicy backoff\nclients 256\nkeys 12\nfaulty none"
+        for (keys = 2; 2 ^ keys < lines / 69 * 4 / 256 + 1; keys++);
+        print "iss 1\nmodule relay\nf 0\nepoch 64\nbuckets 256\nbatch 32\nwindow 64\npolicy backoff\nclients 256\nkeys " keys "\nfaulty none"
         for (i = 0; i < lines - 11; i++) {
             k = i % 69
             r = int(i / 69) * 4 + k
