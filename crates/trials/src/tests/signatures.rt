@@ -73,8 +73,8 @@ fn asked(
     count: usize,
     expected: bool,
 ) -> Result<(), Fail> {
-    let keys = key(alloc, 4)?;
-    let shared = directory(alloc, 3, 2, 4)?;
+    let keys = key(alloc, 2)?;
+    let shared = directory(alloc, 3, 2, 2)?;
     let mut request = signed(alloc, &keys, ID, payload(alloc, 0xbb, 256)?)?;
     request.id = id;
     request.payload = payload(alloc, 0xbb, count)?;
