@@ -13,18 +13,19 @@
 # shuffled  so many different packets, each delivered once, those of an epoch in random order
 # again     so many different packets of many epochs, which are then all delivered once more, in random order
 
-# A set-up of three nodes under this policy.
+# A set-up of three nodes under this policy, with keys of this height.
 header() {
-    printf '%s\n' "iss 1" "module relay" "f 0" "epoch 64" "buckets 256" "batch 32" "window 64" "policy $1" "clients 256" "keys 12" "faulty none"
+    printf '%s\n' "iss 1" "module relay" "f 0" "epoch 64" "buckets 256" "batch 32" "window 64" "policy $1" "clients 256" "keys $2" "faulty none"
 }
 
-# A request of its own identity, a proposal, a delivery and a pump in turn.
+# A request, a proposal, a delivery and a pump in turn. There are as many identities as the windows hold, so that clients' trees cost
+# the same from there on.
 mixed() {
-    header simple
+    header simple 6
     awk -v lines="$1" 'BEGIN {
         for (i = 0; i < lines - 11; i++) {
             r = int(i / 4)
-            if (i % 4 == 0) print "request " r % 3, r % 256, int(r / 256), "-"
+            if (i % 4 == 0) print "request " r % 3, r % 256, int(r / 256) % 64, "-"
             else if (i % 4 == 1) print "propose " r % 3
             else if (i % 4 == 2) print "deliver " r % 192
             else print "pump"
@@ -34,12 +35,12 @@ mixed() {
 
 # The same, but that the three packets of the last slot, 189 to 191, are lost, so that the epoch never ends.
 one() {
-    header simple
+    header simple 6
     awk -v lines="$1" 'BEGIN {
         for (i = 0; i < lines - 11; i++) {
             r = int(i / 4)
             if (i >= 254 && i <= 256) print "lose " i - 65
-            else if (i % 4 == 0) print "request " r % 3, r % 256, int(r / 256), "-"
+            else if (i % 4 == 0) print "request " r % 3, r % 256, int(r / 256) % 64, "-"
             else if (i % 4 == 1) print "propose " r % 3
             else if (i % 4 == 2) print "deliver " r % 189
             else print "pump"
@@ -49,7 +50,7 @@ one() {
 
 # 64 proposals, whose 192 packets are then delivered in random order, each again and again: so many deliveries.
 random() {
-    header simple
+    header simple 2
     awk -v lines="$1" 'BEGIN {
         srand(1)
         for (i = 0; i < 66; i++) print "propose " i % 3
@@ -57,9 +58,9 @@ random() {
     }'
 }
 
-# Four requests, 64 proposals and a calm in each epoch.
+# Four requests, 64 proposals and a calm in each epoch. Clients' trees are as high as their requests need.
 epochs() {
-    header backoff
+    header backoff "$(awk -v lines="$1" 'BEGIN { for (keys = 2; 2 ^ keys < lines / 69 * 4 / 256 + 1; keys++); print keys }')"
     awk -v lines="$1" 'BEGIN {
         for (i = 0; i < lines - 11; i++) {
             k = i % 69
@@ -73,7 +74,7 @@ epochs() {
 
 # 64 proposals in each epoch, whose 192 packets are delivered in random order.
 shuffled() {
-    header simple
+    header simple 2
     awk -v packets="$1" 'BEGIN {
         srand(1)
         for (sent = 0; sent < packets; sent += 192) {
@@ -87,7 +88,7 @@ shuffled() {
 
 # 64 proposals and a calm in each epoch until there are so many packets, and then each of them in random order.
 again() {
-    header simple
+    header simple 2
     awk -v packets="$1" 'BEGIN {
         srand(1)
         for (sent = 0; sent < packets; sent += 192) {
