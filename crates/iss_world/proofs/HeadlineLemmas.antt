@@ -3,6 +3,7 @@ use Rattle.std.proofs.Common.{inl, inr, ◌≡◌, ◌⊎◌, ℕ, suc, ◌+◌,
 use Rattle.std.specs.Prelude.{if◌then◌else◌, nat_lt}
 use Rattle.std.proofs.lemmas.Bool.{ltb-true}
 use Rattle.std.proofs.lemmas.List.{take-append-le}
+use Rattle.iss_base.proofs.Lists.{some-injective}
 use Rattle.iss_log.specs.LogState.{first_number_of}
 use Rattle.iss_model.proofs.OneLog.{one-log, ordered-run}
 use Rattle.iss_model.proofs.Ranges.{at-nodes}
@@ -57,7 +58,7 @@ module _ {M Msg : Type 0} (m : Module Msg) (stands : M → Params → ℕ → Li
 -- ---- numbers
 
 was-some : (b : Bool) (x k : ℕ) → (if b then Some x else None) ≡ Some k → (b ≡ true) × (x ≡ k)
-was-some true x k e = (refl, cc)
+was-some true x k e = (refl, some-injective x k e)
 was-some false x k e = absurd cc
 
 -- a log that goes on has the same numbers where it was
