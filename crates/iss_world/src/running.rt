@@ -7,6 +7,7 @@ ghost use Rattle.iss_model.specs.Past.{log_of};
 ghost use Rattle.iss_model.specs.Run.{Net, at_core, begin_net, calms, delivers, delivers_each, done, happens, injects, loses, pumps};
 ghost use Rattle.iss_model.specs.Runs.{IsSetupOf};
 ghost use Rattle.iss_network.specs.Network.{cleared, held_to};
+ghost use Rattle.iss_node.specs.State.{Stands};
 ghost use Rattle.iss_request.specs.Setup.{IsGoodSetup};
 ghost use Rattle.iss_schedule.specs.Events.{IsInRange};
 ghost use Rattle.iss_world.specs.Stands.{AreFresh, HasChanged, IsFresh, IsStanding, Runs};
@@ -288,6 +289,15 @@ impl<M: Sequenced> Running<M> {
         ensures good { IsSetupOf M.meaning result.now }
     {
         &self.setup
+    }
+
+    /// A node, whose calls show its core.
+    pub fn node(&self, core: u32) -> &Node<M>
+        requires { core < self.now.setup.n }
+        ensures stands { (w : Net M.Msg) → Runs M.meaning M.stands self.now w → Stands M.meaning M.stands result.now (w.cores core) }
+        ensures same { (result.now.parts.setup ≡ self.now.setup) × (result.now.parts.me.0 ≡ core) }
+    {
+        &self.nodes[core as usize]
     }
 
     /// A node's log.
