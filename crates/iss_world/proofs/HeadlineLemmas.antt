@@ -81,7 +81,7 @@ numbers-agree s m events o = λ i j slot k l oki okj ki lj.
 
 module _ {M Msg : Type 0} (m : Module Msg) (stands : M → Params → ℕ → List (Item Msg) → Type 0) (s : Setup) (good : IsSetupOf m s)
     (composed : (t : Setup) (S : Scheme) (R : Rules) → IsSoundRules t m R → (w : Cluster Msg) →
-        IsExact t S w → Separate (Among w.strings) → Reach t S R m w → Ordered t R m w.pasts)
+    IsExact t S w → Separate (Among w.strings) → Reach t S R m w → Ordered t R m w.pasts)
     (reached : m.stopping ≡ true → (events : List Event) → AreAtNodes s.n events → IsClusterRun s m events)
     (grows : m.stopping ≡ true → (events : List Event) → AreAtNodes s.n events → OnlyGrows s m events)
     (conserved : m.stopping ≡ true → AcceptsOnce m → (events : List Event) → AreAtNodes s.n events → IsSeparateRun s m events → IsConserved s m events) where
