@@ -22,7 +22,8 @@ use Rattle.sb_pbft.specs.Makes.{Draft, sign_all, uses_all}
 use Rattle.sb_pbft.specs.Pbft.{pbft}
 use Rattle.sb_pbft.specs.Places.{change_at, proposal_at, top_at, vote_at}
 use Rattle.sb_pbft.specs.Rules.{is_open}
-use Rattle.sb_pbft.specs.Turns.{Held, Turn, certified, commits_to, deliveries, delivery, drafts_all, handed, model, newly_at, prepares_to, ready_at, settled_all, turn}
+use Rattle.sb_pbft.specs.Turns.{Held, Turn, certified, commits_to, deliveries, delivery, drafts_all, handed, model, newly_at, prepares_to, ready_at}
+use Rattle.sb_pbft.specs.Turns.{settled_all, turn}
 
 -- the code as what it holds
 abbrev pub held : Pbft → Held

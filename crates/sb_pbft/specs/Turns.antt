@@ -1,5 +1,6 @@
 -- What a node holds, and what an input makes of it.
-use Rattle.std.specs.Prelude.{◌≡◌, ℕ, ◌+◌, ◌*◌, ◌==◌, ◌&&◌, ◌||◌, Bool, true, false, not, cond, nat_lt, nat_le, List, [], ◌∷◌, ◌++◌, length, take, Option, Some, None, is_some}
+use Rattle.std.specs.Prelude.{◌≡◌, ℕ, ◌+◌, ◌*◌, ◌==◌, ◌&&◌, ◌||◌, Bool, true, false, not, cond, nat_lt, nat_le, List, [], ◌∷◌, ◌++◌, length, take}
+use Rattle.std.specs.Prelude.{Option, Some, None, is_some}
 use Rattle.iss_base.specs.Lists.{first_of, set_at, set_at2}
 use Rattle.iss_request.specs.declared.ids.NodeId.{NodeId}
 use Rattle.iss_request.specs.declared.ids.Slot.{Slot}
@@ -19,9 +20,11 @@ use Rattle.pbft_wire.specs.Statements.{digest_of}
 use Rattle.pbft_views.specs.Choice.{best, certificates_of, choice}
 use Rattle.pbft_views.specs.Good.{all_good, primary}
 use Rattle.sb_pbft.specs.declared.proposals.Proposal.{Proposal}
-use Rattle.sb_pbft.specs.Makes.{Draft, DraftCommit, DraftNewView, DraftPrepare, DraftViewChange, asked_strings, choice_strings, drafts, first_draft, first_sig, inputs, kept, or_empty, proposal_sig, sig_for, strings, value_strings}
+use Rattle.sb_pbft.specs.Makes.{Draft, DraftCommit, DraftNewView, DraftPrepare, DraftViewChange, asked_strings, choice_strings, drafts, first_draft}
+use Rattle.sb_pbft.specs.Makes.{first_sig, inputs, kept, or_empty, proposal_sig, sig_for, strings, value_strings}
 use Rattle.sb_pbft.specs.Pbft.{asks, pbft}
-use Rattle.sb_pbft.specs.Rules.{Ballot, Mode, change_in, change_of, changes_from, commit_in, commit_of, cons_some, enters, mode, offer, passes, prepare_in, prepare_of, proposal, voters, when}
+use Rattle.sb_pbft.specs.Rules.{Ballot, Mode, change_in, change_of, changes_from, commit_in, commit_of, cons_some, enters, mode, offer, passes}
+use Rattle.sb_pbft.specs.Rules.{prepare_in, prepare_of, proposal, voters, when}
 
 -- ---- what is held
 
@@ -239,7 +242,8 @@ turn p me leaf h (Cast slot batch) = accepts_of p me leaf h (Cast slot batch) (a
 turn p me leaf h (Receive from (PrePrepare v slot x sig)) =
     accepts_of p me leaf h (Receive from (PrePrepare v slot x sig)) (asked_at p me h (Receive from (PrePrepare v slot x sig)))
 turn p me leaf h (Receive from (Prepare v slot d sig)) =
-    cond (has_slot slot.0 p.slots && not (from.0 == primary p v)) (at_slots p (and_prepare p h (Receive from (Prepare v slot d sig))) false v (slot ∷ [])) (idle h)
+    cond (has_slot slot.0 p.slots && not (from.0 == primary p v))
+    (at_slots p (and_prepare p h (Receive from (Prepare v slot d sig))) false v (slot ∷ [])) (idle h)
 turn p me leaf h (Receive from (Commit v slot d sig)) =
     cond (has_slot slot.0 p.slots) (at_slots p (and_commit p h (Receive from (Commit v slot d sig))) false v (slot ∷ [])) (idle h)
 turn p me leaf h (Receive from (ViewChange v cs sig)) = changed p me h (and_change p h (Receive from (ViewChange v cs sig))) from v cs
