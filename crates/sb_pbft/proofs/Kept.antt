@@ -31,7 +31,7 @@ certify-more : (p : Params) (me : ℕ) (xs : List (Item Message)) (s : Slot) (o 
 certify-more p me xs s None cs c h = h
 certify-more p me xs s (Some y) cs c h = inr h
 
-certified-in : (p : Params) (me : ℕ) (xs : List (Item Message)) (old : List Certificate) (ss : List Slot) (s : Slot) (x : Value) → In s ss → ready p me (inputs xs) old s.0 ≡ Some x → In (certificate p me xs (mode p (inputs xs)).view s x) (certified p me xs old ss)
+pub certified-in : (p : Params) (me : ℕ) (xs : List (Item Message)) (old : List Certificate) (ss : List Slot) (s : Slot) (x : Value) → In s ss → ready p me (inputs xs) old s.0 ≡ Some x → In (certificate p me xs (mode p (inputs xs)).view s x) (certified p me xs old ss)
 certified-in p me xs old [] s x h e = absurd h
 certified-in p me xs old (t ∷ ts) s x (inl q) e =
     subst (λ (z : Slot). In (certificate p me xs (mode p (inputs xs)).view s x) (certify p me xs z (ready p me (inputs xs) old z.0) (certified p me xs old ts))) q

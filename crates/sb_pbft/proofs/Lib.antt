@@ -24,3 +24,14 @@ pub mod Settled
 pub mod Doing
 pub mod Taken
 pub mod Proposed
+pub mod Topped
+pub mod Newly
+pub mod Modelled
+pub mod Slotwise
+pub mod Stepped
+pub mod Handed
+pub mod Answered
+pub mod Touched
+pub mod VoteTurns
+pub mod IdleTurns
+pub mod ChangeTurns
