@@ -35,3 +35,5 @@ pub mod Touched
 pub mod VoteTurns
 pub mod IdleTurns
 pub mod ChangeTurns
+pub mod Signed
+pub mod StillTurns
