@@ -14,11 +14,11 @@ use Rattle.pbft_wire.specs.declared.messages.Message.{Message}
 use Rattle.sb_pbft.specs.Makes.{Draft, answer, by_slot, commit_draft, inputs, kept, or_empty, proposal_sig, ready}
 use Rattle.sb_pbft.specs.Pbft.{pbft}
 use Rattle.sb_pbft.specs.Rules.{committed, mode}
-use Rattle.sb_pbft.specs.Turns.{Held, commits_to, committed_at, deliveries, delivery, drafts_all, newly_at, placed, prepares_to, ready_at}
+use Rattle.sb_pbft.specs.Turns.{Held, commits_to, committed_at, deliveries, delivery, drafts_all, model, newly_at, placed, prepares_to, ready_at, settled_all}
 use Rattle.sb_pbft.specs.declared.proposals.Proposal.{Proposal}
 use Rattle.sb_pbft.proofs.Newly.{newly-delivered, nothing-delivered}
 use Rattle.sb_pbft.proofs.Slotwise.{deliveries-each, deliveries_each, drafts-each, drafts_each}
-use Rattle.sb_pbft.proofs.Stepped.{Touches, committed-mid, mid, ready-mid, where-is}
+use Rattle.sb_pbft.proofs.Stepped.{Touches, committed-mid, held-is, mid, ready-mid, where-is}
 use Rattle.sb_pbft.proofs.Topped.{NotAt, above}
 
 abbrev Delivery : Type 0
@@ -109,3 +109,11 @@ module _ (p : Params) (me : ℕ) (x : Item Message) (xs : List (Item Message)) w
             value = refl;
           })
       back s y now before (inr off) = absurd (none-some y (sym before ∙ (sym (nothing-delivered p me x xs s.0 (touches.still s.0 off)) ∙ now)))
+
+  -- what is settled, of what is held with the input
+  pub settles : (v : ℕ) (ss : List Slot) (h : Held) → AreAscending 0 p.slots → Touches p me x xs v ss → h ≡ mid p me x xs →
+      (settled_all p h v ss ≡ model p me (x ∷ xs)) × Delivers pbft p me xs (x ∷ xs) (deliveries p h v ss)
+  settles v ss h rising t e = (
+    ap (λ (z : Held). settled_all p z v ss) e ∙ held-is p me x xs v ss rising t,
+    subst (λ (z : Held). Delivers pbft p me xs (x ∷ xs) (deliveries p z v ss)) (sym e) (delivers-is v ss t),
+  )

@@ -37,3 +37,6 @@ pub mod IdleTurns
 pub mod ChangeTurns
 pub mod Signed
 pub mod StillTurns
+pub mod OfferTurns
+pub mod NewViewTurns
+pub mod Turning

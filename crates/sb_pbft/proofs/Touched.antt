@@ -73,6 +73,15 @@ module _ (p : Params) where
   commit-apart from w t d sig l v s k off =
       ap (λ (b : Bool). first_of (commit_of p l v s k) (when (b && has_slot t.0 p.slots) (record { digest = d; sig = sig }))) (not-at from.0 w t.0 v s k off) ∙ first_of-none (commit_of p l v s k)
 
+  -- ---- of one slot
+
+  pub in-slots : (slot : Slot) → has_slot slot.0 p.slots ≡ true → (t : Slot) → In t (slot ∷ []) → In t p.slots
+  in-slots slot has t (inl e) = subst (λ (z : Slot). In z p.slots) (sym e) (has_slot-In slot p.slots has)
+  in-slots slot has t (inr h) = absurd h
+
+  pub at-slot : (slot : Slot) (s : ℕ) → NotAt s (slot ∷ []) → s ≢ slot.0
+  at-slot slot s off e = off slot (inl refl) (sym e)
+
   -- ---- what votes leave as it is
 
   module _ (me : ℕ) (i : Said) (l : List Said) where
@@ -82,13 +91,6 @@ module _ (p : Params) where
         ap (λ (o : Option Value). cond ((mode p l).active && not (has (mode p l).view s ks)) o None) h
 
   module _ (me : ℕ) (from : NodeId) (v : ℕ) (slot : Slot) (d sig : List ℕ) (leaf : ℕ) (made : Made Message) (xs : List (Item Message)) where
-    in-slots : has_slot slot.0 p.slots ≡ true → (t : Slot) → In t (slot ∷ []) → In t p.slots
-    in-slots has t (inl e) = subst (λ (z : Slot). In z p.slots) (sym e) (has_slot-In slot p.slots has)
-    in-slots has t (inr h) = absurd h
-
-    at-slot : (s : ℕ) → NotAt s (slot ∷ []) → s ≢ slot.0
-    at-slot s off e = off slot (inl refl) (sym e)
-
     commit-proposal : (w s : ℕ) → proposal p me (Receive from (Commit v slot d sig) ∷ inputs xs) w s ≡ proposal p me (inputs xs) w s
     commit-proposal w s = first_of-none (proposal p me (inputs xs) w s)
 
@@ -97,10 +99,10 @@ module _ (p : Params) where
 
     pub commit-touches : has_slot slot.0 p.slots ≡ true → Touches p me (record { input = Receive from (Commit v slot d sig); leaf = leaf; made = made }) xs v (slot ∷ [])
     commit-touches has = record {
-      within = in-slots has;
+      within = in-slots slot has;
       rising = (omega arith, tt);
       quiet = λ t i off. ready-same me (Receive from (Commit v slot d sig)) (inputs xs) (kept p me xs) t.0 refl (commit-prepared (mode p (inputs xs)).view t.0) ∙ calm p me xs t i;
-      still = λ s off w. committed-same me (Receive from (Commit v slot d sig)) (inputs xs) w s (commit-prepared w s) (λ k. commit-apart from v slot d sig (inputs xs) w s k (inr (at-slot s off)));
+      still = λ s off w. committed-same me (Receive from (Commit v slot d sig)) (inputs xs) w s (commit-prepared w s) (λ k. commit-apart from v slot d sig (inputs xs) w s k (inr (at-slot slot s off)));
       one = λ t i w off. committed-same me (Receive from (Commit v slot d sig)) (inputs xs) w t.0 (commit-prepared w t.0) (λ k. commit-apart from v slot d sig (inputs xs) w t.0 k (inl off));
     }
 
@@ -112,9 +114,9 @@ module _ (p : Params) where
 
     pub prepare-touches : has_slot slot.0 p.slots ≡ true → Touches p me (record { input = Receive from (Prepare v slot d sig); leaf = leaf; made = made }) xs v (slot ∷ [])
     prepare-touches has = record {
-      within = in-slots has;
+      within = in-slots slot has;
       rising = (omega arith, tt);
-      quiet = λ t i off. ready-same me (Receive from (Prepare v slot d sig)) (inputs xs) (kept p me xs) t.0 refl (prepare-prepared (mode p (inputs xs)).view t.0 (inr (at-slot t.0 off))) ∙ calm p me xs t i;
-      still = λ s off w. prepare-committed w s (inr (at-slot s off));
+      quiet = λ t i off. ready-same me (Receive from (Prepare v slot d sig)) (inputs xs) (kept p me xs) t.0 refl (prepare-prepared (mode p (inputs xs)).view t.0 (inr (at-slot slot t.0 off))) ∙ calm p me xs t i;
+      still = λ s off w. prepare-committed w s (inr (at-slot slot s off));
       one = λ t i w off. prepare-committed w t.0 (inl off);
     }

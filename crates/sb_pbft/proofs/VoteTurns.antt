@@ -20,26 +20,20 @@ use Rattle.sb_pbft.specs.Pbft.{pbft}
 use Rattle.sb_pbft.specs.Rules.{Ballot, change_of, commit_in, commit_of, prepare_in, prepare_of, proposal}
 use Rattle.sb_pbft.specs.Turns.{Held, Turn, TurnsTo, and_commit, and_prepare, at_slots, bare, deliveries, drafts_all, model, placed, settled_all}
 use Rattle.sb_pbft.proofs.Answered.{slot-said}
-use Rattle.sb_pbft.proofs.Handed.{delivers-is}
-use Rattle.sb_pbft.proofs.Stepped.{Touches, held-is, mid}
+use Rattle.sb_pbft.proofs.Handed.{settles}
+use Rattle.sb_pbft.proofs.Stepped.{mid}
 use Rattle.sb_pbft.proofs.Touched.{commit-touches, prepare-touches}
 
 bare-first : (a b : Option Ballot) → first_of (bare a) (bare b) ≡ bare (first_of a b)
 bare-first None b = refl
 bare-first (Some x) b = refl
 
+-- of one slot the others stand apart
+pub not-other : (slot u : Slot) → u.0 ≢ slot.0 → (w : Slot) → In w (slot ∷ []) → w.0 ≡ u.0 → ⊥
+not-other slot u off w (inl q) e = off (sym e ∙ ap (λ (z : Slot). z.0) q)
+not-other slot u off w (inr j) e = absurd j
+
 module _ (p : Params) (me : ℕ) (from : NodeId) (v : ℕ) (slot : Slot) (d sig : List ℕ) (leaf : ℕ) (xs : List (Item Message)) (rising : AreAscending 0 p.slots) (inside : has_slot slot.0 p.slots ≡ true) where
-  -- a turn whose held, before it is settled, is that with the input
-  pub settles : (x : Item Message) (h : Held) → h ≡ mid p me x xs → Touches p me x xs v (slot ∷ []) →
-      (settled_all p h v (slot ∷ []) ≡ model p me (x ∷ xs)) × Delivers pbft p me xs (x ∷ xs) (deliveries p h v (slot ∷ []))
-  settles x h e t =
-      (ap (λ (z : Held). settled_all p z v (slot ∷ [])) e ∙ held-is p me x xs v (slot ∷ []) rising t,
-      subst (λ (z : Held). Delivers pbft p me xs (x ∷ xs) (deliveries p z v (slot ∷ []))) (sym e) (delivers-is p me x xs v (slot ∷ []) t))
-
-  not-other : (u : Slot) → u.0 ≢ slot.0 → (w : Slot) → In w (slot ∷ []) → w.0 ≡ u.0 → ⊥
-  not-other u off w (inl q) e = off (sym e ∙ ap (λ (z : Slot). z.0) q)
-  not-other u off w (inr j) e = absurd j
-
   commit-mid : (made : Made Message) → and_commit p (model p me xs) (Receive from (Commit v slot d sig)) ≡ mid p me (record { input = Receive from (Commit v slot d sig); leaf = leaf; made = made }) xs
   commit-mid made = λ j. record (model p me xs) {
     proposal = λ w s. placed p (sym (first_of-none (proposal p me (inputs xs) w s)) j) (sym (first_of-none (proposal_sig p me xs w s)) j);
@@ -62,11 +56,11 @@ module _ (p : Params) (me : ℕ) (from : NodeId) (v : ℕ) (slot : Slot) (d sig 
       let made = pbft.makes p me xs (Receive from (Commit v slot d sig)) leaf in
       let x : Item Message = record { input = Receive from (Commit v slot d sig); leaf = leaf; made = made } in
       let t = commit-touches p me from v slot d sig leaf made xs inside in
-      let s = settles x (and_commit p (model p me xs) (Receive from (Commit v slot d sig))) (commit-mid made) t in
+      let s = settles p me x xs v (slot ∷ []) (and_commit p (model p me xs) (Receive from (Commit v slot d sig))) rising t (commit-mid made) in
       record {
         held = s.0;
         drafts = ap (λ (z : Held). drafts_all p z false v (slot ∷ [])) (commit-mid made) ∙
-            slot-said p me x xs v slot rising (has_slot-In slot p.slots inside) (λ u i. refl) (λ u i off. t.quiet u i (not-other u off));
+            slot-said p me x xs v slot rising (has_slot-In slot p.slots inside) (λ u i. refl) (λ u i off. t.quiet u i (not-other slot u off));
         strings = refl;
         accepted = refl;
         delivers = s.1;
@@ -77,11 +71,11 @@ module _ (p : Params) (me : ℕ) (from : NodeId) (v : ℕ) (slot : Slot) (d sig 
       let made = pbft.makes p me xs (Receive from (Prepare v slot d sig)) leaf in
       let x : Item Message = record { input = Receive from (Prepare v slot d sig); leaf = leaf; made = made } in
       let t = prepare-touches p me from v slot d sig leaf made xs inside in
-      let s = settles x (and_prepare p (model p me xs) (Receive from (Prepare v slot d sig))) (prepare-mid made) t in
+      let s = settles p me x xs v (slot ∷ []) (and_prepare p (model p me xs) (Receive from (Prepare v slot d sig))) rising t (prepare-mid made) in
       record {
         held = s.0;
         drafts = ap (λ (z : Held). drafts_all p z false v (slot ∷ [])) (prepare-mid made) ∙
-            slot-said p me x xs v slot rising (has_slot-In slot p.slots inside) (λ u i. refl) (λ u i off. t.quiet u i (not-other u off));
+            slot-said p me x xs v slot rising (has_slot-In slot p.slots inside) (λ u i. refl) (λ u i off. t.quiet u i (not-other slot u off));
         strings = refl;
         accepted = refl;
         delivers = s.1;
