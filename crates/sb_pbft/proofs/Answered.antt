@@ -1,5 +1,5 @@
 -- The drafts of a step, slot by slot, by what is held.
-use Rattle.std.proofs.Common.{◌≡◌, ◌≢◌, ◌∷◌, ◌++◌, ◌∙◌, ℕ, suc, Bool, true, false, cond, List, [], Option, Some, None, refl, sym, ap, subst, append_assoc, append-nil, inl, inr, arith}
+use Rattle.std.proofs.Common.{◌≡◌, ◌≢◌, ◌∷◌, ◌++◌, ◌∙◌, ℕ, suc, Bool, false, cond, List, [], Option, Some, None, refl, sym, ap, append_assoc, append-nil, inl, inr, arith}
 use Rattle.iss_base.specs.Lists.{In}
 use Rattle.iss_request.specs.Slots.{AreAscending}
 use Rattle.iss_request.specs.declared.ids.Slot.{Slot}
@@ -10,7 +10,6 @@ use Rattle.pbft_wire.specs.declared.messages.Message.{Message}
 use Rattle.sb_pbft.specs.Makes.{Draft, answer, by_slot, commit_draft, inputs, kept, proposal_sig, ready}
 use Rattle.sb_pbft.specs.Rules.{mode}
 use Rattle.sb_pbft.specs.Turns.{commits_to, drafts_all, placed, prepares_to, ready_at}
-use Rattle.sb_pbft.specs.declared.proposals.Proposal.{Proposal}
 use Rattle.sb_pbft.proofs.Slotwise.{drafts-each, drafts_each}
 use Rattle.sb_pbft.proofs.Stepped.{mid, ready-mid}
 use Rattle.sb_pbft.proofs.Topped.{above, nothing-left}

@@ -1,5 +1,5 @@
 -- The turn of a ViewChange, at which no slot is touched.
-use Rattle.std.proofs.Common.{◌≡◌, ◌≢◌, ◌∷◌, ◌++◌, ◌∙◌, ℕ, cond, List, [], Option, Some, None, refl, sym, ap, append-nil}
+use Rattle.std.proofs.Common.{◌≡◌, ◌∷◌, ◌++◌, ◌∙◌, ℕ, cond, List, [], None, refl, sym, ap, append-nil}
 use Rattle.iss_base.specs.Lists.{In, first_of}
 use Rattle.iss_base.proofs.Lists.{first_of-none}
 use Rattle.iss_request.specs.Slots.{AreAscending}
@@ -13,12 +13,12 @@ use Rattle.pbft_wire.specs.declared.messages.Message.{Message}
 use Rattle.pbft_wire.specs.declared.messages.Message.TheVariants.{ViewChange}
 use Rattle.sb_pbft.specs.Makes.{Draft, DraftNewView, inputs, kept, proposal_sig, ready}
 use Rattle.sb_pbft.specs.Pbft.{pbft}
-use Rattle.sb_pbft.specs.Rules.{change_in, change_of, changes, commit_of, committed, completes, mode, prepare_of, prepared, proposal}
+use Rattle.sb_pbft.specs.Rules.{change_in, change_of, changes, commit_of, completes, prepare_of, proposal}
 use Rattle.sb_pbft.specs.Turns.{TurnsTo, and_change, bare, changed, model, placed}
-use Rattle.sb_pbft.proofs.Answered.{calm, none-said}
+use Rattle.sb_pbft.proofs.Answered.{none-said}
 use Rattle.sb_pbft.proofs.Handed.{delivers-is}
 use Rattle.sb_pbft.proofs.Stepped.{Touches, held-is, mid}
-use Rattle.sb_pbft.proofs.Touched.{committed-same, prepared-same, ready-same}
+use Rattle.sb_pbft.proofs.Touched.{BringsNone, quiet-still, touches-none}
 use Rattle.sb_pbft.proofs.Views.{Said}
 
 module _ (p : Params) (me : ℕ) (from : NodeId) (v : ℕ) (cs : List Certificate) (sig : List ℕ) (leaf : ℕ) (xs : List (Item Message)) (rising : AreAscending 0 p.slots) where
@@ -28,23 +28,18 @@ module _ (p : Params) (me : ℕ) (from : NodeId) (v : ℕ) (cs : List Certificat
   abbrev item : Item Message
   item = record { input = said; leaf = leaf; made = pbft.makes p me xs said leaf }
 
-  prepared-on : (w s : ℕ) → prepared p me (said ∷ inputs xs) w s ≡ prepared p me (inputs xs) w s
-  prepared-on w s = prepared-same p me said (inputs xs) w s (first_of-none (proposal p me (inputs xs) w s)) (λ k. first_of-none (prepare_of p (inputs xs) w s k))
-
-  committed-on : (w s : ℕ) → committed p me (said ∷ inputs xs) w s ≡ committed p me (inputs xs) w s
-  committed-on w s = committed-same p me said (inputs xs) w s (prepared-on w s) (λ k. first_of-none (commit_of p (inputs xs) w s k))
+  none : BringsNone p me item xs
+  none = record {
+    values = λ w s. first_of-none (proposal p me (inputs xs) w s);
+    prepares = λ w s k. first_of-none (prepare_of p (inputs xs) w s k);
+    commits = λ w s k. first_of-none (commit_of p (inputs xs) w s k);
+  }
 
   quiet : (t : Slot) → In t p.slots → ready p me (said ∷ inputs xs) (kept p me xs) t.0 ≡ None
-  quiet t i = ready-same p me said (inputs xs) (kept p me xs) t.0 refl (prepared-on (mode p (inputs xs)).view t.0) ∙ calm p me xs t i
+  quiet = quiet-still p me item xs none refl
 
   touches : Touches p me item xs 0 []
-  touches = record {
-    within = λ t i. absurd i;
-    rising = tt;
-    quiet = λ t i off. quiet t i;
-    still = λ s off w. committed-on w s;
-    one = λ t i w off. absurd i;
-  }
+  touches = touches-none p me item xs none quiet
 
   with-change : and_change p (model p me xs) said ≡ mid p me item xs
   with-change = λ j. record (model p me xs) {

@@ -1,8 +1,8 @@
 -- What a step that touches some slots delivers, and the drafts that it makes slot by slot.
-use Rattle.std.proofs.Common.{◌≡◌, ◌≢◌, ◌⊎◌, ◌≤◌, ◌&&◌, ◌||◌, ◌∷◌, ◌++◌, ◌∙◌, ◌↔◌, ℕ, suc, Bool, true, false, not, cond, List, [], Option, Some, None, refl, sym, ap, subst, append_assoc, append-nil, inl, inr, arith}
+use Rattle.std.proofs.Common.{◌≡◌, ◌⊎◌, ◌≤◌, ◌∷◌, ◌++◌, ◌∙◌, ℕ, suc, cond, List, [], Option, Some, None, refl, sym, ap, subst, inl, inr, arith}
 use Rattle.std.specs.Prelude.{is_some}
 use Rattle.iss_base.specs.Lists.{In, first_of}
-use Rattle.iss_base.proofs.Lists.{in_append, in_left, in_right, none-some, same_or_not, some-injective}
+use Rattle.iss_base.proofs.Lists.{in_append, in_left, in_right, none-some, some-injective}
 use Rattle.iss_request.specs.Slots.{AreAscending}
 use Rattle.iss_request.specs.declared.ids.Slot.{Slot}
 use Rattle.iss_request.specs.declared.requests.Value.{Value}
@@ -11,15 +11,15 @@ use Rattle.iss_sb.specs.Evidence.{Item, delivered}
 use Rattle.iss_sb.specs.declared.effects.Params.{Params}
 use Rattle.pbft_wire.specs.Statements.{digest_of}
 use Rattle.pbft_wire.specs.declared.messages.Message.{Message}
-use Rattle.sb_pbft.specs.Makes.{Draft, answer, by_slot, commit_draft, inputs, kept, or_empty, proposal_sig, ready}
+use Rattle.sb_pbft.specs.Makes.{inputs, or_empty, proposal_sig}
 use Rattle.sb_pbft.specs.Pbft.{pbft}
-use Rattle.sb_pbft.specs.Rules.{committed, mode}
-use Rattle.sb_pbft.specs.Turns.{Held, commits_to, committed_at, deliveries, delivery, drafts_all, model, newly_at, placed, prepares_to, ready_at, settled_all}
+use Rattle.sb_pbft.specs.Rules.{committed}
+use Rattle.sb_pbft.specs.Turns.{Held, deliveries, delivery, model, newly_at, placed, settled_all}
 use Rattle.sb_pbft.specs.declared.proposals.Proposal.{Proposal}
 use Rattle.sb_pbft.proofs.Newly.{newly-delivered, nothing-delivered}
-use Rattle.sb_pbft.proofs.Slotwise.{deliveries-each, deliveries_each, drafts-each, drafts_each}
-use Rattle.sb_pbft.proofs.Stepped.{Touches, committed-mid, held-is, mid, ready-mid, where-is}
-use Rattle.sb_pbft.proofs.Topped.{NotAt, above}
+use Rattle.sb_pbft.proofs.Slotwise.{deliveries-each, deliveries_each}
+use Rattle.sb_pbft.proofs.Stepped.{Touches, committed-mid, held-is, mid, where-is}
+use Rattle.sb_pbft.proofs.Topped.{NotAt}
 
 abbrev Delivery : Type 0
 Delivery = Slot × Value

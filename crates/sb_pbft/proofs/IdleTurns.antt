@@ -1,24 +1,21 @@
 -- The turn of a Timeout, at which no slot is touched.
-use Rattle.std.proofs.Common.{◌≡◌, ◌≢◌, ◌+◌, ◌&&◌, ◌∷◌, ◌++◌, ◌∙◌, ℕ, Bool, true, false, not, cond, List, [], Option, Some, None, refl, sym, ap, subst, append-nil, inl, inr}
-use Rattle.iss_base.specs.Lists.{In, first_of}
+use Rattle.std.proofs.Common.{◌≡◌, ◌+◌, ◌&&◌, ◌∷◌, ◌++◌, ◌∙◌, ℕ, Bool, true, false, not, cond, List, [], None, refl, sym, ap, append-nil}
 use Rattle.iss_base.proofs.Lists.{first_of-none}
 use Rattle.iss_request.specs.Slots.{AreAscending}
 use Rattle.iss_request.specs.declared.ids.Slot.{Slot}
-use Rattle.iss_request.specs.declared.requests.Value.{Value}
-use Rattle.iss_sb.specs.Calls.{Delivers}
-use Rattle.iss_sb.specs.Evidence.{Item, Made}
+use Rattle.iss_sb.specs.Evidence.{Item}
 use Rattle.iss_sb.specs.declared.effects.Input.TheVariants.{Timeout}
 use Rattle.iss_sb.specs.declared.effects.Params.{Params}
 use Rattle.pbft_wire.specs.declared.messages.Certificate.{Certificate}
 use Rattle.pbft_wire.specs.declared.messages.Message.{Message}
-use Rattle.sb_pbft.specs.Makes.{Draft, DraftViewChange, by_slot, has, inputs, kept, proposal_sig, ready, tops}
+use Rattle.sb_pbft.specs.Makes.{Draft, DraftViewChange, has, inputs, kept, proposal_sig, ready, tops}
 use Rattle.sb_pbft.specs.Pbft.{pbft}
-use Rattle.sb_pbft.specs.Rules.{Mode, change_of, commit_of, committed, cons_some, mode, passes, prepare_of, prepared, proposal}
-use Rattle.sb_pbft.specs.Turns.{Held, TurnsTo, bare, gives_up, model, placed, tops_of}
+use Rattle.sb_pbft.specs.Rules.{Mode, change_of, commit_of, cons_some, mode, passes, prepare_of, prepared, proposal}
+use Rattle.sb_pbft.specs.Turns.{TurnsTo, bare, gives_up, model, placed, tops_of}
 use Rattle.sb_pbft.proofs.Answered.{none-said}
 use Rattle.sb_pbft.proofs.Handed.{delivers-is}
 use Rattle.sb_pbft.proofs.Stepped.{Touches, held-is, mid}
-use Rattle.sb_pbft.proofs.Touched.{committed-same, prepared-same}
+use Rattle.sb_pbft.proofs.Touched.{BringsNone, touches-none}
 
 -- the certificates that a ViewChange holds
 pub tops-same : (p : Params) (me : ℕ) (xs : List (Item Message)) (ss : List Slot) → tops_of (model p me xs).top ss ≡ tops (kept p me xs) ss
@@ -35,24 +32,19 @@ module _ (p : Params) (me leaf : ℕ) (xs : List (Item Message)) (rising : AreAs
   mode-next : mode p (inputs (item ∷ xs)) ≡ next
   mode-next = ap (λ (b : Bool). cond b next (mode p (inputs xs))) may
 
-  prepared-on : (w s : ℕ) → prepared p me (Timeout ∷ inputs xs) w s ≡ prepared p me (inputs xs) w s
-  prepared-on w s = prepared-same p me Timeout (inputs xs) w s (first_of-none (proposal p me (inputs xs) w s)) (λ k. first_of-none (prepare_of p (inputs xs) w s k))
-
-  committed-on : (w s : ℕ) → committed p me (Timeout ∷ inputs xs) w s ≡ committed p me (inputs xs) w s
-  committed-on w s = committed-same p me Timeout (inputs xs) w s (prepared-on w s) (λ k. first_of-none (commit_of p (inputs xs) w s k))
+  none : BringsNone p me item xs
+  none = record {
+    values = λ w s. first_of-none (proposal p me (inputs xs) w s);
+    prepares = λ w s k. first_of-none (prepare_of p (inputs xs) w s k);
+    commits = λ w s k. first_of-none (commit_of p (inputs xs) w s k);
+  }
 
   -- no node that has given its view up is ready
   quiet : (s : ℕ) → ready p me (inputs (item ∷ xs)) (kept p me xs) s ≡ None
   quiet s = ap (λ (z : Mode). cond (z.active && not (has z.view s (kept p me xs))) (prepared p me (inputs (item ∷ xs)) z.view s) None) mode-next
 
   touches : Touches p me item xs 0 []
-  touches = record {
-    within = λ t i. absurd i;
-    rising = tt;
-    quiet = λ t i off. quiet t.0;
-    still = λ s off w. committed-on w s;
-    one = λ t i w off. absurd i;
-  }
+  touches = touches-none p me item xs none (λ t i. quiet t.0)
 
   given-up : record (model p me xs) { mode = next } ≡ mid p me item xs
   given-up = λ j. record (model p me xs) {

@@ -1,5 +1,5 @@
 -- What is prepared, committed and ready, read off what is held, is what the list's functions say.
-use Rattle.std.proofs.Common.{◌≡◌, ◌≤◌, ◌+◌, ◌*◌, ◌&&◌, ◌∷◌, ◌∙◌, ℕ, zero, suc, Bool, true, false, not, cond, List, [], length, Option, Some, None, refl, sym, ap}
+use Rattle.std.proofs.Common.{◌≡◌, ◌+◌, ◌*◌, ◌&&◌, ◌∷◌, ◌∙◌, ℕ, zero, suc, Bool, true, false, not, cond, List, length, Option, Some, None, refl, sym, ap}
 use Rattle.std.specs.Prelude.{nat_le}
 use Rattle.iss_base.specs.Lists.{same_bytes}
 use Rattle.iss_request.specs.declared.requests.Value.{Value}
@@ -11,7 +11,7 @@ use Rattle.pbft_wire.specs.declared.messages.Message.{Message}
 use Rattle.pbft_views.specs.Choice.{best}
 use Rattle.sb_pbft.specs.Makes.{has, inputs, or_empty, proposal_sig, ready}
 use Rattle.sb_pbft.specs.Rules.{Ballot, commit_of, committed, committed_with, cons_vote, mode, prepare_of, prepared, prepared_with, proposal, voters, when}
-use Rattle.sb_pbft.specs.Turns.{bare, committed_at, is_of, model, only_if, placed, prepared_at, ready_at, voted}
+use Rattle.sb_pbft.specs.Turns.{bare, committed_at, is_of, model, only_if, placed, prepared_at, voted}
 use Rattle.sb_pbft.specs.declared.proposals.Proposal.{Proposal}
 use Rattle.sb_pbft.proofs.Topped.{AreLow, has-top}
 

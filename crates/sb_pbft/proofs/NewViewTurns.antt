@@ -1,5 +1,6 @@
 -- The turn of a NewView that is taken: all slots are touched, in its view.
-use Rattle.std.proofs.Common.{◌≡◌, ◌≢◌, ◌⊎◌, ◌&&◌, ◌∷◌, ◌++◌, ◌∙◌, ℕ, Bool, true, false, not, cond, List, [], Option, Some, None, refl, sym, ap, inl, inr}
+use mathlib.Core.Bool.{and-true as with-true}
+use Rattle.std.proofs.Common.{◌≡◌, ◌&&◌, ◌∷◌, ◌++◌, ◌∙◌, ℕ, Bool, true, false, not, cond, List, [], Option, Some, None, refl, sym, ap}
 use Rattle.std.proofs.lemmas.Bool.{and_left, and_right, eqb-true, false_from_ne_true, ne_eqb}
 use Rattle.std.specs.Prelude.{◌==◌}
 use Rattle.iss_base.specs.Lists.{In, first_of}
@@ -19,17 +20,15 @@ use Rattle.pbft_wire.specs.declared.messages.Message.{Message}
 use Rattle.pbft_wire.specs.declared.messages.Message.TheVariants.{NewView}
 use Rattle.pbft_views.specs.Choice.{certificates_of, choice}
 use Rattle.pbft_views.specs.Good.{primary}
-use Rattle.sb_pbft.specs.Makes.{Draft, DraftPrepare, answer, choice_strings, inputs, proposal_sig, sig_for, value_strings}
-use Rattle.sb_pbft.specs.Rules.{Mode, change_of, commit_of, committed, enters, mode, prepare_of, prepared, proposal, when}
-use Rattle.sb_pbft.specs.Turns.{Held, TurnsTo, bare, begins, chosen_at, drafts_all, entered, model, placed, prepares_to}
-use Rattle.sb_pbft.specs.declared.proposals.Proposal.{Proposal}
+use Rattle.sb_pbft.specs.Makes.{DraftPrepare, answer, choice_strings, inputs, proposal_sig, sig_for, value_strings}
+use Rattle.sb_pbft.specs.Rules.{Mode, change_of, commit_of, committed, enters, mode, prepare_of, proposal, when}
+use Rattle.sb_pbft.specs.Turns.{Held, TurnsTo, bare, begins, drafts_all, entered, model, placed, prepares_to}
 use Rattle.sb_pbft.proofs.Answered.{all-said}
 use Rattle.sb_pbft.proofs.Basics.{In-has, none-from}
 use Rattle.sb_pbft.proofs.Handed.{settles}
 use Rattle.sb_pbft.proofs.Signed.{unsigned}
 use Rattle.sb_pbft.proofs.Stepped.{Touches, mid}
 use Rattle.sb_pbft.proofs.StillTurns.{item}
-use Rattle.sb_pbft.proofs.Taken.{right-true}
 use Rattle.sb_pbft.proofs.Topped.{NotAt}
 use Rattle.sb_pbft.proofs.Touched.{committed-same, prepared-same}
 use Rattle.sb_pbft.proofs.Views.{Said, not-newer, proposed-choice, seen}
@@ -55,7 +54,7 @@ module _ (p : Params) (me leaf : ℕ) (xs : List (Item Message)) (rising : AreAs
   is-here w s = (w == v) && has_slot s p.slots
 
   here : (w s : ℕ) → ((w == v) && (has_slot s p.slots && enters p (mode p (inputs xs)) from.0 v vs sigs)) ≡ is-here w s
-  here w s = ap (λ (b : Bool). (w == v) && (has_slot s p.slots && b)) yes ∙ ap (λ (b : Bool). (w == v) && b) (right-true (has_slot s p.slots))
+  here w s = ap (λ (b : Bool). (w == v) && (has_slot s p.slots && b)) yes ∙ ap (λ (b : Bool). (w == v) && b) (with-true (has_slot s p.slots))
 
   proposal-on : (w s : ℕ) → proposal p me (said ∷ inputs xs) w s ≡ first_of (when (is-here w s) (choice vs s)) (proposal p me (inputs xs) w s)
   proposal-on w s = λ j. first_of (when (here w s j) (choice vs s)) (first_of-none (proposal p me (inputs xs) w s) j)

@@ -1,5 +1,5 @@
 -- What a step delivers: of the slots that were not delivered those that are committed in the view that it touched.
-use Rattle.std.proofs.Common.{◌≡◌, ◌≢◌, ◌⊎◌, ◌<◌, ◌≤◌, ◌+◌, ◌∷◌, ◌∙◌, ℕ, zero, suc, List, [], Option, Some, None, refl, sym, ap, inl, inr, arith}
+use Rattle.std.proofs.Common.{◌≡◌, ◌≢◌, ◌⊎◌, ◌<◌, ◌≤◌, ◌∷◌, ◌∙◌, ℕ, zero, suc, List, [], Option, Some, None, refl, sym, ap, inl, inr, arith}
 use Rattle.iss_base.specs.Lists.{first_of}
 use Rattle.iss_base.proofs.Lists.{first_of-none, same_or_not}
 use Rattle.iss_request.specs.declared.requests.Value.{Value}

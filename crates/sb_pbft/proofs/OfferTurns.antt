@@ -2,7 +2,7 @@
 use Rattle.std.proofs.Common.{◌≡◌, ◌≢◌, ◌⊎◌, ◌&&◌, ◌∷◌, ◌++◌, ◌∙◌, ℕ, Bool, true, false, cond, List, [], Option, Some, None, refl, sym, ap, subst, inl, inr, arith}
 use Rattle.std.proofs.lemmas.Bool.{and_left, and_right, cases_Bool, eqb-true, false≢true, ne_eqb}
 use Rattle.std.specs.Prelude.{is_some, ◌==◌}
-use Rattle.iss_base.specs.Lists.{first_of, set_at2}
+use Rattle.iss_base.specs.Lists.{first_of}
 use Rattle.iss_base.proofs.Lists.{and-true, first_of-none}
 use Rattle.iss_request.specs.Slots.{AreAscending}
 use Rattle.iss_request.specs.declared.ids.NodeId.{NodeId}
@@ -19,7 +19,7 @@ use Rattle.pbft_wire.specs.declared.messages.Message.{Message}
 use Rattle.pbft_wire.specs.declared.messages.Message.TheVariants.{PrePrepare}
 use Rattle.sb_pbft.specs.Makes.{Draft, answer, asked_strings, by_slot, chosen_sig, first_draft, first_sig, inputs, kept, lead, offered_sig, proposal_sig, strings}
 use Rattle.sb_pbft.specs.Rules.{Mode, asked, asked_of, change_in, change_of, chosen, commit_in, commit_of, committed, mode, mode_after, offer, offered, prepare_in, prepare_of, prepared, proposal, unless, when}
-use Rattle.sb_pbft.specs.Turns.{Held, TurnsTo, accepts_of, and_said, asked_at, at_slots, bare, drafts_all, first_proposal, free, idle, model, placed, with_proposal}
+use Rattle.sb_pbft.specs.Turns.{Held, TurnsTo, accepts_of, and_said, asked_at, at_slots, bare, drafts_all, first_proposal, free, model, placed, with_proposal}
 use Rattle.sb_pbft.specs.declared.proposals.Proposal.{Proposal}
 use Rattle.sb_pbft.proofs.Answered.{calm, slot-said}
 use Rattle.sb_pbft.proofs.Asked.{IsAsked, asked-is, offer-within}

@@ -1,5 +1,5 @@
 -- A step that touches some slots in one view: what is settled at these, of what its input gives, is what is held behind it.
-use Rattle.std.proofs.Common.{◌≡◌, ◌≢◌, ◌⊎◌, ◌≤◌, ◌&&◌, ◌||◌, ◌∷◌, ◌++◌, ◌∙◌, ℕ, Bool, true, false, not, cond, List, [], Option, Some, None, refl, sym, ap, subst, inl, inr, arith}
+use Rattle.std.proofs.Common.{◌≡◌, ◌≢◌, ◌⊎◌, ◌||◌, ◌∷◌, ◌∙◌, ℕ, cond, List, [], Option, Some, None, refl, sym, ap, subst, inl, inr, arith}
 use Rattle.std.specs.Prelude.{is_some}
 use Rattle.iss_base.specs.Lists.{In, first_of}
 use Rattle.iss_base.proofs.Lists.{same_or_not}
@@ -11,10 +11,10 @@ use Rattle.iss_sb.specs.declared.effects.Params.{Params}
 use Rattle.pbft_wire.specs.declared.messages.Certificate.{Certificate}
 use Rattle.pbft_wire.specs.declared.messages.Message.{Message}
 use Rattle.pbft_views.specs.Choice.{best}
-use Rattle.sb_pbft.specs.Makes.{certified, inputs, kept, proposal_sig, ready}
+use Rattle.sb_pbft.specs.Makes.{inputs, kept, proposal_sig, ready}
 use Rattle.sb_pbft.specs.Pbft.{pbft}
 use Rattle.sb_pbft.specs.Rules.{committed, mode}
-use Rattle.sb_pbft.specs.Turns.{Held, certificate_of, committed_at, model, newly_at, placed, ready_at, settled, settled_all}
+use Rattle.sb_pbft.specs.Turns.{Held, certificate_of, committed_at, model, placed, ready_at, settled, settled_all}
 use Rattle.sb_pbft.specs.declared.proposals.Proposal.{Proposal}
 use Rattle.sb_pbft.proofs.Modelled.{committed-model, ready-model}
 use Rattle.sb_pbft.proofs.Newly.{newly-delivered, nothing-delivered}

@@ -1,5 +1,5 @@
 -- The turns of inputs that change nothing: votes that do not count, a view that is not entered, a Timeout in the last one.
-use Rattle.std.proofs.Common.{◌≡◌, ◌+◌, ◌&&◌, ◌∷◌, ◌++◌, ◌∙◌, ℕ, Bool, true, false, not, cond, List, [], Option, Some, None, refl, sym, ap}
+use Rattle.std.proofs.Common.{◌≡◌, ◌+◌, ◌&&◌, ◌∷◌, ◌++◌, ◌∙◌, ℕ, Bool, true, false, not, cond, List, [], None, refl, sym, ap}
 use Rattle.std.proofs.lemmas.Bool.{and_right}
 use Rattle.std.specs.Prelude.{◌==◌}
 use Rattle.iss_base.specs.Lists.{In, first_of}
@@ -7,7 +7,6 @@ use Rattle.iss_base.proofs.Lists.{first_of-none}
 use Rattle.iss_request.specs.Slots.{AreAscending}
 use Rattle.iss_request.specs.declared.ids.NodeId.{NodeId}
 use Rattle.iss_request.specs.declared.ids.Slot.{Slot}
-use Rattle.iss_request.specs.declared.requests.Value.{Value}
 use Rattle.iss_sb.specs.Calls.{has_slot}
 use Rattle.iss_sb.specs.Evidence.{Item}
 use Rattle.iss_sb.specs.declared.effects.Input.TheVariants.{Receive, Timeout}
@@ -20,12 +19,12 @@ use Rattle.pbft_views.specs.Choice.{certificates_of, choice}
 use Rattle.pbft_views.specs.Good.{primary}
 use Rattle.sb_pbft.specs.Makes.{Draft, DraftPrepare, DraftViewChange, answer, by_slot, choice_strings, inputs, kept, lead, proposal_sig, ready, sig_for, strings, tops, value_strings}
 use Rattle.sb_pbft.specs.Pbft.{pbft}
-use Rattle.sb_pbft.specs.Rules.{Ballot, Mode, asked, change_of, commit_of, committed, enters, is_at, mode, passes, prepare_of, prepared, proposal, when}
+use Rattle.sb_pbft.specs.Rules.{Ballot, asked, change_of, commit_of, enters, is_at, mode, passes, prepare_of, proposal, when}
 use Rattle.sb_pbft.specs.Turns.{TurnsTo, bare, idle, model, placed}
-use Rattle.sb_pbft.proofs.Answered.{calm, none-said}
+use Rattle.sb_pbft.proofs.Answered.{none-said}
 use Rattle.sb_pbft.proofs.Handed.{delivers-is}
 use Rattle.sb_pbft.proofs.Stepped.{Touches, held-is, mid}
-use Rattle.sb_pbft.proofs.Touched.{committed-same, prepared-same, ready-same}
+use Rattle.sb_pbft.proofs.Touched.{BringsNone, quiet-still, touches-none}
 use Rattle.sb_pbft.proofs.Views.{Said}
 
 module _ (p : Params) (me leaf : ℕ) (xs : List (Item Message)) where
@@ -55,20 +54,14 @@ module _ (p : Params) (me leaf : ℕ) (xs : List (Item Message)) where
       delivers = delivers-is p me (item i) xs 0 [] touches;
     }
       where
-        prepared-on : (w s : ℕ) → prepared p me (i ∷ inputs xs) w s ≡ prepared p me (inputs xs) w s
-        prepared-on w s = prepared-same p me i (inputs xs) w s (c.values w s) (λ k. c.prepares w s k)
+        none : BringsNone p me (item i) xs
+        none = record { values = c.values; prepares = c.prepares; commits = c.commits }
 
         quiet : (t : Slot) → In t p.slots → ready p me (i ∷ inputs xs) (kept p me xs) t.0 ≡ None
-        quiet t j = ready-same p me i (inputs xs) (kept p me xs) t.0 c.stays (prepared-on (mode p (inputs xs)).view t.0) ∙ calm p me xs t j
+        quiet = quiet-still p me (item i) xs none c.stays
 
         touches : Touches p me (item i) xs 0 []
-        touches = record {
-          within = λ t j. absurd j;
-          rising = tt;
-          quiet = λ t j off. quiet t j;
-          still = λ s off w. committed-same p me i (inputs xs) w s (prepared-on w s) (λ k. c.commits w s k);
-          one = λ t j w off. absurd j;
-        }
+        touches = touches-none p me (item i) xs none quiet
 
         same : model p me xs ≡ mid p me (item i) xs
         same = λ j. record (model p me xs) {

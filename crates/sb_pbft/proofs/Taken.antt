@@ -16,7 +16,7 @@ use Rattle.sb_pbft.specs.Stands.{held}
 use Rattle.sb_pbft.specs.Turns.{and_commit, and_prepare, bare, idle, turn}
 use Rattle.sb_pbft.proofs.Doing.{turned}
 
-pub right-true : (t : Bool) → (t && true) ≡ t
+right-true : (t : Bool) → (t && true) ≡ t
 right-true true = refl
 right-true false = refl
 

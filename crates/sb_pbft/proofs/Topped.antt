@@ -1,7 +1,8 @@
 -- The certificates that a node keeps: none is of a view above the own one, of each slot the highest tells whether a
 -- Commit was sent in the own view, and behind a step nothing is ready that has none.
-use Rattle.std.proofs.Common.{◌≡◌, ◌⊎◌, ◌<◌, ◌≤◌, ◌+◌, ◌&&◌, ◌||◌, ◌∷◌, ◌++◌, ◌∙◌, ℕ, suc, Bool, true, false, not, cond, List, [], Option, Some, None, refl, sym, ap, subst, inl, inr, arith, true≢false}
-use Rattle.std.proofs.lemmas.Bool.{cases_Bool, eq-eqb, eqb-false, eqb-true, le-ltb, ltb-false, ltb-true, ne_eqb}
+use mathlib.Core.Bool.{and-false, and-true}
+use Rattle.std.proofs.Common.{◌≡◌, ◌⊎◌, ◌≤◌, ◌+◌, ◌&&◌, ◌||◌, ◌∷◌, ◌++◌, ◌∙◌, ℕ, suc, Bool, true, false, not, cond, List, [], Option, Some, None, refl, sym, ap, subst, inl, inr, arith, true≢false}
+use Rattle.std.proofs.lemmas.Bool.{cases_Bool, eq-eqb, eqb-false, eqb-true, le-ltb, ltb-false, ltb-true, ne_eqb, or_right}
 use Rattle.std.specs.Prelude.{◌==◌, nat_lt}
 use Rattle.iss_base.specs.Lists.{In, first_of}
 use Rattle.iss_base.proofs.Lists.{in_append, in_left, or-alone}
@@ -71,22 +72,14 @@ has-top v s [] low = refl
 has-top v s (c ∷ cs) low = let rest = has-top v s cs (λ e i. low e (inr i)) in elim (cases_Bool (c.slot.0 == s)) [
   | inl t ↦
       let at : (s == c.slot.0) ≡ true = eq-eqb s c.slot.0 (sym (eqb-true c.slot.0 s t)) in
-      ap (λ (b : Bool). ((v == c.view) && b) || has v s cs) at ∙ (ap (λ (b : Bool). b || has v s cs) (with-true (v == c.view)) ∙
+      ap (λ (b : Bool). ((v == c.view) && b) || has v s cs) at ∙ (ap (λ (b : Bool). b || has v s cs) (and-true (v == c.view)) ∙
       (ap (λ (b : Bool). (v == c.view) || b) rest ∙
       (front-of v c (best s cs) (low c (inl refl)) (λ e q. low e (inr (best-in s cs e q).0)) ∙ sym (ap (λ (b : Bool). is_of v (cond b (higher c (best s cs)) (best s cs))) t))))
   | inr t ↦
       let off : (s == c.slot.0) ≡ false = ne_eqb s c.slot.0 (λ q. eqb-false c.slot.0 s t (sym q)) in
-      ap (λ (b : Bool). ((v == c.view) && b) || has v s cs) off ∙ (ap (λ (b : Bool). b || has v s cs) (with-false (v == c.view)) ∙
+      ap (λ (b : Bool). ((v == c.view) && b) || has v s cs) off ∙ (ap (λ (b : Bool). b || has v s cs) (and-false (v == c.view)) ∙
       (rest ∙ sym (ap (λ (b : Bool). is_of v (cond b (higher c (best s cs)) (best s cs))) t)))
 ]
-  where
-    with-true : (b : Bool) → (b && true) ≡ b
-    with-true true = refl
-    with-true false = refl
-
-    with-false : (b : Bool) → (b && false) ≡ false
-    with-false true = refl
-    with-false false = refl
 
 -- ---- slots that ascend
 
@@ -107,19 +100,11 @@ has-here v s c (d ∷ ds) (inl q) e f =
     let views : (v == d.view) ≡ true = eq-eqb v d.view (sym e ∙ ap (λ (z : Certificate). z.view) q) in
     let slots : (s == d.slot.0) ≡ true = eq-eqb s d.slot.0 (sym f ∙ ap (λ (z : Certificate). z.slot.0) q) in
     rw (views, slots) refl
-has-here v s c (d ∷ ds) (inr h) e f = behind ((v == d.view) && (s == d.slot.0)) (has v s ds) (has-here v s c ds h e f)
-  where
-    behind : (a b : Bool) → b ≡ true → (a || b) ≡ true
-    behind true b q = refl
-    behind false b q = q
+has-here v s c (d ∷ ds) (inr h) e f = or_right ((v == d.view) && (s == d.slot.0)) (has v s ds) (has-here v s c ds h e f)
 
 has-behind : (v s : ℕ) (cs ds : List Certificate) → has v s ds ≡ true → has v s (cs ++ ds) ≡ true
 has-behind v s [] ds h = h
-has-behind v s (c ∷ cs) ds h = behind ((v == c.view) && (s == c.slot.0)) (has v s (cs ++ ds)) (has-behind v s cs ds h)
-  where
-    behind : (a b : Bool) → b ≡ true → (a || b) ≡ true
-    behind true b q = refl
-    behind false b q = q
+has-behind v s (c ∷ cs) ds h = or_right ((v == c.view) && (s == c.slot.0)) (has v s (cs ++ ds)) (has-behind v s cs ds h)
 
 module _ (p : Params) (me : ℕ) where
   abbrev ready-of : (l : List Said) (s : ℕ) → Bool → Option Value

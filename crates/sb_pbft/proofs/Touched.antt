@@ -1,9 +1,9 @@
 -- What a Prepare and a Commit touch: their slot, in their view.
-use Rattle.std.proofs.Common.{◌≡◌, ◌≢◌, ◌⊎◌, ◌≤◌, ◌+◌, ◌*◌, ◌&&◌, ◌∷◌, ◌∙◌, ℕ, Bool, true, false, not, cond, List, [], length, Option, Some, None, refl, sym, ap, subst, inl, inr, arith}
+use Rattle.std.proofs.Common.{◌≡◌, ◌≢◌, ◌⊎◌, ◌+◌, ◌*◌, ◌&&◌, ◌∷◌, ◌∙◌, ℕ, Bool, true, false, not, cond, List, [], length, Option, Some, None, refl, sym, ap, subst, inl, inr, arith}
 use Rattle.std.specs.Prelude.{◌==◌, nat_le}
-use Rattle.std.proofs.lemmas.Bool.{ne_eqb}
+use Rattle.std.proofs.lemmas.Bool.{and_left, and_right, ne_eqb}
 use Rattle.iss_base.specs.Lists.{In, first_of}
-use Rattle.iss_base.proofs.Lists.{and-true, first_of-none}
+use Rattle.iss_base.proofs.Lists.{first_of-none}
 use Rattle.iss_request.specs.declared.ids.NodeId.{NodeId}
 use Rattle.iss_request.specs.declared.ids.Slot.{Slot}
 use Rattle.iss_request.specs.declared.requests.Value.{Value}
@@ -18,7 +18,7 @@ use Rattle.pbft_wire.specs.declared.messages.Message.{Message}
 use Rattle.pbft_wire.specs.declared.messages.Message.TheVariants.{Commit, Prepare}
 use Rattle.pbft_views.specs.Good.{primary}
 use Rattle.sb_pbft.specs.Makes.{has, inputs, kept, ready}
-use Rattle.sb_pbft.specs.Rules.{Ballot, commit_in, commit_of, committed, committed_with, is_at, mode, prepare_in, prepare_of, prepared, prepared_with, proposal, voters, when}
+use Rattle.sb_pbft.specs.Rules.{Ballot, commit_of, committed, committed_with, is_at, mode, prepare_of, prepared, prepared_with, proposal, voters, when}
 use Rattle.sb_pbft.proofs.Answered.{calm}
 use Rattle.sb_pbft.proofs.Stepped.{Touches}
 use Rattle.sb_pbft.proofs.Topped.{NotAt}
@@ -53,17 +53,8 @@ module _ (p : Params) where
   -- ---- votes that are elsewhere
 
   not-at : (from w t v s k : ℕ) → (v ≢ w) ⊎ (s ≢ t) → is_at from w t v s k ≡ false
-  not-at from w t v s k (inl off) = ap (λ (b : Bool). (from == k) && (b && (s == t))) (ne_eqb v w off) ∙ with-false (from == k)
-    where
-      with-false : (b : Bool) → (b && false) ≡ false
-      with-false true = refl
-      with-false false = refl
-  not-at from w t v s k (inr off) = ap (λ (b : Bool). (from == k) && ((v == w) && b)) (ne_eqb s t off) ∙ two-false (from == k) (v == w)
-    where
-      two-false : (a b : Bool) → (a && (b && false)) ≡ false
-      two-false true true = refl
-      two-false true false = refl
-      two-false false b = refl
+  not-at from w t v s k (inl off) = and_right (from == k) _ (and_left (v == w) (s == t) (ne_eqb v w off))
+  not-at from w t v s k (inr off) = and_right (from == k) _ (and_right (v == w) (s == t) (ne_eqb s t off))
 
   prepare-apart : (from : NodeId) (w : ℕ) (t : Slot) (d sig : List ℕ) (l : List Said) (v s k : ℕ) → (v ≢ w) ⊎ (s ≢ t.0) → prepare_of p (Receive from (Prepare w t d sig) ∷ l) v s k ≡ prepare_of p l v s k
   prepare-apart from w t d sig l v s k off =
@@ -89,6 +80,33 @@ module _ (p : Params) where
     ready-same ks s m h =
         ap (λ z. cond (z.active && not (has z.view s ks)) (prepared p me (i ∷ l) z.view s) None) m ∙
         ap (λ (o : Option Value). cond ((mode p l).active && not (has (mode p l).view s ks)) o None) h
+
+  -- ---- an input that brings no vote and no proposal
+
+  module _ (me : ℕ) (x : Item Message) (xs : List (Item Message)) where
+    pub record BringsNone : Type 0 where
+      pub values : (v s : ℕ) → proposal p me (inputs (x ∷ xs)) v s ≡ proposal p me (inputs xs) v s
+      pub prepares : (v s k : ℕ) → prepare_of p (inputs (x ∷ xs)) v s k ≡ prepare_of p (inputs xs) v s k
+      pub commits : (v s k : ℕ) → commit_of p (inputs (x ∷ xs)) v s k ≡ commit_of p (inputs xs) v s k
+
+    module _ (none : BringsNone) where
+      prepared-still : (v s : ℕ) → prepared p me (inputs (x ∷ xs)) v s ≡ prepared p me (inputs xs) v s
+      prepared-still v s = prepared-same me x.input (inputs xs) v s (none.values v s) (λ k. none.prepares v s k)
+
+      -- in the own view nothing becomes ready
+      pub quiet-still : mode p (inputs (x ∷ xs)) ≡ mode p (inputs xs) → (t : Slot) → In t p.slots → ready p me (inputs (x ∷ xs)) (kept p me xs) t.0 ≡ None
+      quiet-still m t i = ready-same me x.input (inputs xs) (kept p me xs) t.0 m (prepared-still (mode p (inputs xs)).view t.0) ∙ calm p me xs t i
+
+      pub touches-none : ((t : Slot) → In t p.slots → ready p me (inputs (x ∷ xs)) (kept p me xs) t.0 ≡ None) → Touches p me x xs 0 []
+      touches-none quiet = record {
+        within = λ t i. absurd i;
+        rising = tt;
+        quiet = λ t i off. quiet t i;
+        still = λ s off w. committed-same me x.input (inputs xs) w s (prepared-still w s) (λ k. none.commits w s k);
+        one = λ t i w off. absurd i;
+      }
+
+  -- ---- votes
 
   module _ (me : ℕ) (from : NodeId) (v : ℕ) (slot : Slot) (d sig : List ℕ) (leaf : ℕ) (made : Made Message) (xs : List (Item Message)) where
     commit-proposal : (w s : ℕ) → proposal p me (Receive from (Commit v slot d sig) ∷ inputs xs) w s ≡ proposal p me (inputs xs) w s

@@ -1,5 +1,5 @@
 -- What an input makes of what is held is what the list's functions say.
-use Rattle.std.proofs.Common.{◌≡◌, ◌&&◌, ◌∷◌, ℕ, Bool, true, false, not, cond, List, [], refl}
+use Rattle.std.proofs.Common.{◌&&◌, ◌∷◌, ℕ, false, not, List, []}
 use Rattle.std.proofs.lemmas.Bool.{cond_both}
 use Rattle.std.specs.Prelude.{◌==◌}
 use Rattle.iss_base.proofs.Lists.{and-true}

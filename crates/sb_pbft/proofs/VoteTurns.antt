@@ -1,24 +1,21 @@
 -- The turns of a Prepare and of a Commit are what the list's functions say.
-use Rattle.std.proofs.Common.{◌≡◌, ◌≢◌, ◌⊎◌, ◌&&◌, ◌∷◌, ◌∙◌, ℕ, Bool, true, false, not, cond, List, [], Option, Some, None, refl, sym, ap, subst, inl, inr}
-use Rattle.std.specs.Prelude.{is_some, ◌==◌}
+use Rattle.std.proofs.Common.{◌≡◌, ◌≢◌, ◌∷◌, ◌∙◌, ℕ, true, false, List, [], Option, Some, None, refl, sym, ap, inl, inr}
 use Rattle.iss_base.specs.Lists.{In, first_of}
 use Rattle.iss_base.proofs.Lists.{first_of-none}
 use Rattle.iss_request.specs.Slots.{AreAscending}
 use Rattle.iss_request.specs.declared.ids.NodeId.{NodeId}
 use Rattle.iss_request.specs.declared.ids.Slot.{Slot}
-use Rattle.iss_request.specs.declared.requests.Value.{Value}
-use Rattle.iss_sb.specs.Calls.{Delivers, has_slot}
-use Rattle.iss_sb.specs.Evidence.{Item, Made, and_then, delivered}
+use Rattle.iss_sb.specs.Calls.{has_slot}
+use Rattle.iss_sb.specs.Evidence.{Item, Made}
 use Rattle.iss_sb.specs.declared.effects.Input.TheVariants.{Receive}
 use Rattle.iss_sb.specs.declared.effects.Params.{Params}
 use Rattle.iss_sb.proofs.Slots.{has_slot-In}
 use Rattle.pbft_wire.specs.declared.messages.Message.{Message}
 use Rattle.pbft_wire.specs.declared.messages.Message.TheVariants.{Commit, Prepare}
-use Rattle.pbft_views.specs.Choice.{best}
-use Rattle.sb_pbft.specs.Makes.{inputs, kept, proposal_sig}
+use Rattle.sb_pbft.specs.Makes.{inputs, proposal_sig}
 use Rattle.sb_pbft.specs.Pbft.{pbft}
 use Rattle.sb_pbft.specs.Rules.{Ballot, change_of, commit_in, commit_of, prepare_in, prepare_of, proposal}
-use Rattle.sb_pbft.specs.Turns.{Held, Turn, TurnsTo, and_commit, and_prepare, at_slots, bare, deliveries, drafts_all, model, placed, settled_all}
+use Rattle.sb_pbft.specs.Turns.{Held, TurnsTo, and_commit, and_prepare, at_slots, bare, drafts_all, model, placed}
 use Rattle.sb_pbft.proofs.Answered.{slot-said}
 use Rattle.sb_pbft.proofs.Handed.{settles}
 use Rattle.sb_pbft.proofs.Stepped.{mid}
