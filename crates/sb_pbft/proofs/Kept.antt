@@ -138,16 +138,16 @@ tops-cover cs (t ∷ ts) s c i e (inr h) =
 
 -- ---- a ViewChange
 
-no-change-pre : (w : ℕ) (cs : List Certificate) (t : Slot) (x : Value) → SameDraft (DraftViewChange w cs) (DraftPrePrepare t x) → ⊥
+pub no-change-pre : (w : ℕ) (cs : List Certificate) (t : Slot) (x : Value) → SameDraft (DraftViewChange w cs) (DraftPrePrepare t x) → ⊥
 no-change-pre w cs t x h = cc
 
-no-change-prepare : (w v : ℕ) (cs : List Certificate) (t : Slot) (e : List ℕ) → SameDraft (DraftViewChange w cs) (DraftPrepare v t e) → ⊥
+pub no-change-prepare : (w v : ℕ) (cs : List Certificate) (t : Slot) (e : List ℕ) → SameDraft (DraftViewChange w cs) (DraftPrepare v t e) → ⊥
 no-change-prepare w v cs t e h = cc
 
-no-change-commit : (w v : ℕ) (cs : List Certificate) (t : Slot) (e : List ℕ) → SameDraft (DraftViewChange w cs) (DraftCommit v t e) → ⊥
+pub no-change-commit : (w v : ℕ) (cs : List Certificate) (t : Slot) (e : List ℕ) → SameDraft (DraftViewChange w cs) (DraftCommit v t e) → ⊥
 no-change-commit w v cs t e h = cc
 
-no-change-new : (w v : ℕ) (cs : List Certificate) (ys : List Change) → SameDraft (DraftViewChange w cs) (DraftNewView v ys) → ⊥
+pub no-change-new : (w v : ℕ) (cs : List Certificate) (ys : List Change) → SameDraft (DraftViewChange w cs) (DraftNewView v ys) → ⊥
 no-change-new w v cs ys h = cc
 
 same-change : (w v : ℕ) (cs ds : List Certificate) → SameDraft (DraftViewChange w cs) (DraftViewChange v ds) → (w ≡ v) × (cs ≡ ds)

@@ -20,10 +20,6 @@ pub mod Example
 pub mod Run
 pub mod Reached
 pub mod Tables
-pub mod Settled
-pub mod Doing
-pub mod Taken
-pub mod Proposed
 pub mod Topped
 pub mod Newly
 pub mod Modelled
@@ -40,3 +36,7 @@ pub mod StillTurns
 pub mod OfferTurns
 pub mod NewViewTurns
 pub mod Turning
+pub mod Settled
+pub mod Doing
+pub mod Taken
+pub mod Proposed
