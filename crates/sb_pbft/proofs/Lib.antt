@@ -29,7 +29,7 @@ pub mod Handed
 pub mod Answered
 pub mod Touched
 pub mod VoteTurns
-pub mod IdleTurns
+pub mod TimeoutTurns
 pub mod ChangeTurns
 pub mod Signed
 pub mod StillTurns

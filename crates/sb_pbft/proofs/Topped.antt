@@ -1,7 +1,7 @@
 -- The certificates that a node keeps: none is of a view above the own one, of each slot the highest tells whether a
 -- Commit was sent in the own view, and behind a step nothing is ready that has none.
 use mathlib.Core.Bool.{and-false, and-true}
-use Rattle.std.proofs.Common.{◌≡◌, ◌⊎◌, ◌≤◌, ◌+◌, ◌&&◌, ◌||◌, ◌∷◌, ◌++◌, ◌∙◌, ℕ, suc, Bool, true, false, not, cond, List, [], Option, Some, None, refl, sym, ap, subst, inl, inr, arith, true≢false}
+use Rattle.std.proofs.Common.{◌≡◌, ◌⊎◌, ◌≤◌, ◌&&◌, ◌||◌, ◌∷◌, ◌++◌, ◌∙◌, ℕ, suc, Bool, true, false, not, cond, List, [], Option, Some, None, refl, sym, ap, subst, inl, inr, arith, true≢false}
 use Rattle.std.proofs.lemmas.Bool.{cases_Bool, eq-eqb, eqb-false, eqb-true, le-ltb, ltb-false, ltb-true, ne_eqb, or_right}
 use Rattle.std.specs.Prelude.{◌==◌, nat_lt}
 use Rattle.iss_base.specs.Lists.{In, first_of}

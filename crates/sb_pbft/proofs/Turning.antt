@@ -16,10 +16,10 @@ use Rattle.sb_pbft.specs.Pbft.{pbft}
 use Rattle.sb_pbft.specs.Rules.{enters, mode, passes}
 use Rattle.sb_pbft.specs.Turns.{Turn, TurnsTo, and_commit, and_prepare, at_slots, begins, gives_up, idle, model, turn}
 use Rattle.sb_pbft.proofs.ChangeTurns.{change-turns}
-use Rattle.sb_pbft.proofs.IdleTurns.{timeout-turns}
 use Rattle.sb_pbft.proofs.NewViewTurns.{new-view-turns}
 use Rattle.sb_pbft.proofs.OfferTurns.{cast-offers, offer-turns, told-offers}
 use Rattle.sb_pbft.proofs.StillTurns.{commit-nothing, new-view-nothing, prepare-nothing, still-turns, timeout-nothing}
+use Rattle.sb_pbft.proofs.TimeoutTurns.{timeout-turns}
 use Rattle.sb_pbft.proofs.VoteTurns.{commit-turns, prepare-turns}
 
 pub turn-is : (p : Params) (me : ℕ) (xs : List (Item Message)) (i : Input Message) (leaf : ℕ) → IsGoodParams pbft p → TurnsTo p me xs i leaf (turn p me leaf (model p me xs) i)
