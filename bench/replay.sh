@@ -1,21 +1,31 @@
 #!/bin/bash
-# Times the proved build of the program: schedules of 10,000, 100,000 and 1,000,000 lines in one epoch and over many, 10,000 and
-# 100,000 deliveries of few packets, and of as many different packets, in random order. Prints events a second, and how much more
-# ten times the input costs.
-# The best of ROUNDS runs of each counts. The memory of each run is limited to 2 GB.
-top=$(cd "$(dirname "$0")/.." && pwd)
-build=$top/crates/iss/out/iss
-[ -x "$build" ] || { echo "bench: prove and build first: cd crates/iss && rt run"; exit 1; }
-work=$(mktemp -d)
-trap 'rm -rf "$work"' EXIT
+# Times the proved build of the program on schedules of a kind and a size, and prints for each the events a second, the most memory
+# that was taken, and how many times the time of the size before. The best of ROUNDS runs counts, each in 2 GB of memory.
+#
+#   bench/replay.sh                     all kinds at the sizes below
+#   bench/replay.sh KIND SIZE..         one kind at these sizes
+#   bench/replay.sh --print KIND SIZE   the schedule itself
+#
+# one       requests, proposals, deliveries and pumps in turn, in one epoch that never ends
+# mixed     the same over as many epochs as come
+# epochs    so many lines over epochs of 64 slots, one epoch for each 69 lines
+# random    so many deliveries of few packets in random order
+# shuffled  so many different packets, each delivered once, those of an epoch in random order
+# again     so many different packets of many epochs, which are then all delivered once more, in random order
 
-# A header, and then so many lines: a request of its own identity, a proposal, a delivery and a pump in turn.
+# A set-up of three nodes under this policy, with keys of this height.
+header() {
+    printf '%s\n' "iss 1" "module relay" "f 0" "epoch 64" "buckets 256" "batch 32" "window 64" "policy $1" "clients 256" "keys $2" "faulty none"
+}
+
+# A request, a proposal, a delivery and a pump in turn. There are as many identities as the windows hold, so that clients' trees cost
+# the same from there on.
 mixed() {
+    header simple 6
     awk -v lines="$1" 'BEGIN {
-        print "iss 1\nmodule relay\nf 0\nepoch 64\nbuckets 256\nbatch 32\nwindow 64\npolicy simple\nclients 256\nkeys 12\nfaulty none"
         for (i = 0; i < lines - 11; i++) {
             r = int(i / 4)
-            if (i % 4 == 0) print "request " r % 3, r % 256, int(r / 256), "-"
+            if (i % 4 == 0) print "request " r % 3, r % 256, int(r / 256) % 64, "-"
             else if (i % 4 == 1) print "propose " r % 3
             else if (i % 4 == 2) print "deliver " r % 192
             else print "pump"
@@ -23,20 +33,35 @@ mixed() {
     }'
 }
 
+# The same, but that the three packets of the last slot, 189 to 191, are lost, so that the epoch never ends.
+one() {
+    header simple 6
+    awk -v lines="$1" 'BEGIN {
+        for (i = 0; i < lines - 11; i++) {
+            r = int(i / 4)
+            if (i >= 254 && i <= 256) print "lose " i - 65
+            else if (i % 4 == 0) print "request " r % 3, r % 256, int(r / 256) % 64, "-"
+            else if (i % 4 == 1) print "propose " r % 3
+            else if (i % 4 == 2) print "deliver " r % 189
+            else print "pump"
+        }
+    }'
+}
+
 # 64 proposals, whose 192 packets are then delivered in random order, each again and again: so many deliveries.
 random() {
+    header simple 2
     awk -v lines="$1" 'BEGIN {
         srand(1)
-        print "iss 1\nmodule relay\nf 0\nepoch 64\nbuckets 256\nbatch 32\nwindow 64\npolicy simple\nclients 256\nkeys 12\nfaulty none"
         for (i = 0; i < 66; i++) print "propose " i % 3
         for (i = 0; i < lines; i++) print "deliver " int(192 * rand())
     }'
 }
 
-# So many lines over epochs of 64 slots: four requests, 64 proposals and a calm in each.
+# Four requests, 64 proposals and a calm in each epoch. Clients' trees are as high as their requests need.
 epochs() {
+    header backoff "$(awk -v lines="$1" 'BEGIN { for (keys = 2; 2 ^ keys < lines / 69 * 4 / 256 + 1; keys++); print keys }')"
     awk -v lines="$1" 'BEGIN {
-        print "iss 1\nmodule relay\nf 0\nepoch 64\nbuckets 256\nbatch 32\nwindow 64\npolicy backoff\nclients 256\nkeys 12\nfaulty none"
         for (i = 0; i < lines - 11; i++) {
             k = i % 69
             r = int(i / 69) * 4 + k
@@ -47,11 +72,11 @@ epochs() {
     }'
 }
 
-# So many different packets, each delivered once: those of an epoch of 64 slots in random order.
+# 64 proposals in each epoch, whose 192 packets are delivered in random order.
 shuffled() {
+    header simple 2
     awk -v packets="$1" 'BEGIN {
         srand(1)
-        print "iss 1\nmodule relay\nf 0\nepoch 64\nbuckets 256\nbatch 32\nwindow 64\npolicy simple\nclients 256\nkeys 12\nfaulty none"
         for (sent = 0; sent < packets; sent += 192) {
             for (i = 0; i < 64; i++) print "propose " i % 3
             for (i = 0; i < 192; i++) order[i] = i
@@ -61,27 +86,45 @@ shuffled() {
     }'
 }
 
-# Prints the seconds of the best of ROUNDS runs.
-seconds() {
-    local start end best=""
+# 64 proposals and a calm in each epoch until there are so many packets, and then each of them in random order.
+again() {
+    header simple 2
+    awk -v packets="$1" 'BEGIN {
+        srand(1)
+        for (sent = 0; sent < packets; sent += 192) {
+            for (i = 0; i < 64; i++) print "propose " i % 3
+            print "calm 2"
+        }
+        for (i = 0; i < packets; i++) order[i] = i
+        for (i = packets - 1; i > 0; i--) { j = int((i + 1) * rand()); k = order[i]; order[i] = order[j]; order[j] = k }
+        for (i = 0; i < packets; i++) print "deliver " order[i]
+    }'
+}
+
+# The seconds of the best of ROUNDS runs, and the most memory of one in MB. Nothing where a run does not end well, as without memory.
+cost() {
+    local start end best="" most=0 kilobytes
     for _ in $(seq "${ROUNDS:-7}"); do
         start=$(date +%s%N)
-        (ulimit -v 2097152; exec "$build" replay < "$1" > "$work/out") || { echo "bench: status $?" >&2; exit 1; }
+        (ulimit -v 2097152; exec /usr/bin/time -q -f %M -o "$work/memory" "$build" replay < "$1" > "$work/out") || return
         end=$(date +%s%N)
+        kilobytes=$(cat "$work/memory")
+        [ "$kilobytes" -le "$most" ] || most=$kilobytes
         [ -n "$best" ] && [ $((end - start)) -ge "$best" ] || best=$((end - start))
     done
-    awk -v n="$best" 'BEGIN { printf "%.4f", n / 1e9 }'
+    awk -v n="$best" -v k="$most" 'BEGIN { printf "%.4f %.0f", n / 1e9, k / 1024 }'
 }
 
 # Runs a kind of schedule at each size.
 measure() {
-    local kind=$1 before="" size took
+    local kind=$1 before="" size took most
     shift
     for size in "$@"; do
         "$kind" "$size" > "$work/in"
-        took=$(seconds "$work/in")
-        awk -v kind="$kind" -v size="$size" -v took="$took" -v before="$before" 'BEGIN {
-            printf "%s: %d events in %s s, %d events a second", kind, size, took, size / took
+        read -r took most <<< "$(cost "$work/in")"
+        [ -n "$took" ] || { echo "$kind: $size not within 2 GB"; before=""; continue; }
+        awk -v kind="$kind" -v size="$size" -v took="$took" -v most="$most" -v before="$before" 'BEGIN {
+            printf "%s: %d in %s s, %d a second, %d MB", kind, size, took, size / took, most
             if (before != "") printf ", %.1f times the one before", took / before
             print ""
         }'
@@ -89,7 +132,23 @@ measure() {
     done
 }
 
+if [ "$1" = --print ]; then
+    "$2" "$3"
+    exit
+fi
+top=$(cd "$(dirname "$0")/.." && pwd)
+build=$top/crates/iss/out/iss
+[ -x "$build" ] || { echo "bench: prove and build first: cd crates/iss && rt run"; exit 1; }
+[ -x /usr/bin/time ] || { echo "bench: /usr/bin/time is wanted (Debian's package time)"; exit 1; }
+work=$(mktemp -d)
+trap 'rm -rf "$work"' EXIT
+if [ $# -gt 0 ]; then
+    measure "$@"
+    exit
+fi
+measure one 10000 100000 1000000
 measure mixed 10000 100000 1000000
-measure random 10000 100000
 measure epochs 10000 100000 1000000
+measure random 10000 100000
 measure shuffled 10000 100000
+measure again 10000 100000

@@ -27,7 +27,7 @@ fn journal_bytes(alloc: Global, entries: u32) -> Result<Vec<u8>> {
 }
 
 /// Appends a few entries in memory, and prints how many are found afterwards.
-pub fn count_all(rt: &HostRuntime) -> Result<()> {
+pub(crate) fn count_all(rt: &HostRuntime) -> Result<()> {
     let mut journal = Journal::over(rt.alloc(), MemoryDisk::new(rt.alloc())?);
     journal.attach()?;
     journal.append(b"first")?;
@@ -92,7 +92,7 @@ fn appending(rt: &HostRuntime, name: &str, appends: u32) -> Result<()> {
 }
 
 /// Times attaching a journal with so many entries of 64 bytes in the file of this name, and so many appends.
-pub fn time_all(rt: &HostRuntime, name: &str, entries: u32, appends: u32) -> Result<()> {
+pub(crate) fn time_all(rt: &HostRuntime, name: &str, entries: u32, appends: u32) -> Result<()> {
     attaching(rt, name, entries)?;
     appending(rt, name, appends)?;
     fs::remove_file(rt, name)?;

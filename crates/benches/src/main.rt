@@ -2,6 +2,8 @@
 //! PAIRS TIMES`. With no words a small workload of each is run and what it makes is printed, the same on each machine.
 #![tactic(auto)]
 
+mod digests;
+mod directories;
 mod journal;
 mod keys;
 mod network;
@@ -18,7 +20,7 @@ fn number_at(words: &[String], place: usize) -> Result<u32, Fail> {
 
 // Runs a small workload of each.
 fn count_all(rt: &HostRuntime) -> Result<(), Fail> {
-    keys::count_all(rt, rt.alloc())?;
+    keys::count_all(rt)?;
     journal::count_all(rt)?;
     network::count_all(rt)?;
     schedule::count_all(rt)
@@ -27,7 +29,7 @@ fn count_all(rt: &HostRuntime) -> Result<(), Fail> {
 // Times what the words behind the program's name ask for.
 fn time(rt: &HostRuntime, what: &str, words: &[String]) -> Result<(), Fail> {
     match what {
-        "keys" => Ok(keys::time_all(rt, rt.alloc())?),
+        "keys" => keys::time_all(rt),
         "network" => network::time_all(rt),
         "journal" => {
             let name = words.get(2).ok_or("which file?")?;

@@ -223,7 +223,7 @@ fn time_size(rt: &HostRuntime, count: u32, rounds: u32, times: u32, before: u64)
 ///
 /// First one network at a time, and then as many networks at once as have 1,000,000 packets together. What is then left
 /// of the difference does not come from the processor's caches.
-pub fn time_all(rt: &HostRuntime) -> Timed<()> {
+pub(crate) fn time_all(rt: &HostRuntime) -> Timed<()> {
     let mut before = 0u64;
     for (rounds, times) in [(500u32, 100u32), (5_000, 20), (50_000, 5)] {
         before = time_size(rt, 1, rounds, times, before)?;
@@ -236,7 +236,7 @@ pub fn time_all(rt: &HostRuntime) -> Timed<()> {
 }
 
 /// Runs a small workload and prints what was sent and delivered.
-pub fn count_all(rt: &HostRuntime) -> Timed<()> {
+pub(crate) fn count_all(rt: &HostRuntime) -> Timed<()> {
     let alloc = rt.alloc();
     let mut groups = groups(alloc, 2)?;
     let order = random_order(alloc, 2, 5)?;

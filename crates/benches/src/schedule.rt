@@ -62,7 +62,7 @@ fn time_writes(rt: &HostRuntime, schedules: &[Schedule]) -> Result<()> {
 }
 
 /// Reads and writes a small schedule, and prints how much that was.
-pub fn count_all(rt: &HostRuntime) -> Result<()> {
+pub(crate) fn count_all(rt: &HostRuntime) -> Result<()> {
     let text = text_of(rt.alloc(), 50)?;
     let schedule = read(rt.alloc(), text.as_bytes())?;
     let written = write(rt.alloc(), &schedule)?;
@@ -75,7 +75,7 @@ pub fn count_all(rt: &HostRuntime) -> Result<()> {
 
 /// Reads a text with so many pairs of events so many times over, keeps each schedule, so that each takes memory of its
 /// own, and prints microseconds.
-pub fn time_all(rt: &HostRuntime, pairs: u32, times: u32) -> Result<()> {
+pub(crate) fn time_all(rt: &HostRuntime, pairs: u32, times: u32) -> Result<()> {
     let text = text_of(rt.alloc(), pairs)?;
     time_digests(rt, text.as_bytes(), times)?;
     let schedules = time_reads(rt, text.as_bytes(), times)?;

@@ -1,3 +1,4 @@
+pub mod Branches
 mod Examples
 mod Reading
 pub mod CertificateGrammar

@@ -1,5 +1,9 @@
 -- Fields that are written one after the other are the strings and statements.
-use Rattle.std.proofs.Common.{◌≡◌, ◌<◌, ◌^◌, ℕ, List, [], ◌∷◌, ◌++◌, append_assoc, refl, ap}
+use Rattle.std.proofs.Common.{◌≡◌, ◌<◌, ◌^◌, ℕ, List, [], ◌∷◌, ◌++◌, append_assoc, Option, refl, ap, ◌∙◌}
+use Rattle.sha2.specs.Sha256.{sha256}
+use Rattle.iss_sb.specs.Evidence.{one_or_none}
+use Rattle.raft_wire.specs.declared.entries.What.{What}
+use Rattle.hs_tree.specs.Hashed.{IsHashed}
 use Rattle.std.specs.Int.{to_be_bytes, w16, w32}
 use Rattle.iss_request.specs.Fields.{Written, and_bytes}
 use Rattle.iss_request.specs.Formats.{spell_batch, spell_value, value_string, version_byte}
@@ -12,7 +16,7 @@ use Rattle.iss_sb.specs.declared.effects.Claim.{Claim}
 use Rattle.std.specs.List.{flat_map}
 use Rattle.hs_tree.specs.declared.certificates.Signed.{Signed}
 use Rattle.hs_tree.specs.Statements.{claim, statement, vote_claims, vote_statement}
-use Rattle.hs_tree.specs.Tree.{Form}
+use Rattle.hs_tree.specs.Tree.{Form, plain_string, strings_of, value_of}
 
 abbrev start : ℕ → Written
 start version = record { version = version; bytes = [] }
@@ -45,3 +49,12 @@ one_claim statement v = claim v.by.0 statement v.sig ∷ []
 pub claims-flat : (statement : List ℕ) (votes : List Signed) → flat_map (one_claim statement) votes ≡ vote_claims statement votes
 claims-flat statement [] = refl
 claims-flat statement (v ∷ vs) = ap (λ (z : List Claim). claim v.by.0 statement v.sig ∷ z) (claims-flat statement vs)
+
+-- ---- a node that is hashed
+
+pub hashed-node : (version view : ℕ) (parent : List ℕ) (what : What) (value : Option (List ℕ)) (node bytes : List ℕ) (none mid all : List (List ℕ)) (d : List ℕ) → none ≡ [] → one_or_none value ≡ strings_of version (value_of what) →
+    mid ≡ none ++ one_or_none value → all ≡ mid ++ node ∷ [] → node ≡ plain_string version view parent what → bytes ≡ node → d ≡ sha256 bytes → IsHashed version view parent what (record { strings = all; digest = d })
+hashed-node version view parent what value node bytes none mid all d hn hv hm ha is hb hd = record {
+  strings = ha ∙ ap (λ (z : List (List ℕ)). z ++ node ∷ []) (hm ∙ ap (λ (z : List (List ℕ)). z ++ one_or_none value) hn ∙ hv) ∙ ap (λ (z : List ℕ). strings_of version (value_of what) ++ z ∷ []) is;
+  digest_is = hd ∙ ap (λ (z : List ℕ). sha256 z) (hb ∙ is);
+}

@@ -1,4 +1,6 @@
 pub mod Certificates
+pub mod Hashed
+pub mod Known
 pub mod Messages
 pub mod Paths
 pub mod Statements

@@ -4,7 +4,7 @@ ghost use Rattle.std.specs.List.{flat_map, list_all};
 ghost use Rattle.iss_request.specs.Fields.{IsRead, IsUnreadable, and_bytes};
 ghost use Rattle.iss_request.specs.Formats.{is_signature};
 ghost use Rattle.iss_request.specs.Parsing.{block, byte, such_that};
-ghost use Rattle.hs_tree.specs.Certificates.{fits, is_phase, is_rising, is_signed, parse_certificate, parse_signed, parse_signers, parse_votes, spell_certificate, spell_signed, votes_row};
+ghost use Rattle.hs_tree.specs.Certificates.{digest_of, fits, is_phase, is_quorum, is_rising, is_signed, parse_certificate, parse_signed, parse_signers, parse_votes, spell_certificate, spell_signed, view_of, votes_row};
 
 use iss_request::{Bytes, DecodeError, Fields, NoMemory, NodeId, Row, Writer, read_signature};
 use std::alloc::Global;
@@ -29,6 +29,93 @@ pub enum Certificate {
         digest: [u8; 32],
         votes: Row<Signed>,
     },
+}
+
+impl Signed {
+    /// Another with equal content.
+    pub fn copy(&self) -> Result<Signed, NoMemory>
+        ensures { IfOk result (λ v. v ≡ self.now) }
+    {
+        let sig = self.sig.copy()?;
+        Ok(Signed { by: self.by, sig })
+    }
+}
+
+// Other votes with equal content.
+fn copy_votes(alloc: Global, votes: &[Signed]) -> Result<Row<Signed>, NoMemory>
+    ensures { IfOk result (λ vs. vs ≡ votes.now) }
+{
+    let mut copies = Row::new(alloc);
+    for vote in votes {
+        let copy = vote.copy()?;
+        copies.push(copy)?;
+    }
+    Ok(copies)
+}
+
+impl Certificate {
+    /// The view in which the nodes voted, 0 for the root.
+    pub fn view(&self) -> u32
+        ensures { result ≡ view_of self.now }
+    {
+        match self {
+            Certificate::Root => 0,
+            Certificate::Votes { view, .. } => *view,
+        }
+    }
+
+    /// The digest of the tree node.
+    pub fn digest(&self) -> [u8; 32]
+        ensures { result ≡ digest_of self.now }
+    {
+        match self {
+            Certificate::Root => [0; 32],
+            Certificate::Votes { digest, .. } => *digest,
+        }
+    }
+
+    /// Another with equal content.
+    pub fn copy(&self, alloc: Global) -> Result<Certificate, NoMemory>
+        ensures { IfOk result (λ c. c ≡ self.now) }
+    {
+        match self {
+            Certificate::Root => Ok(Certificate::Root),
+            Certificate::Votes {
+                view,
+                phase,
+                digest,
+                votes,
+            } => {
+                let votes = copy_votes(alloc, votes.as_slice())?;
+                Ok(Certificate::Votes {
+                    view: *view,
+                    phase: *phase,
+                    digest: *digest,
+                    votes,
+                })
+            }
+        }
+    }
+
+    /// Whether it holds exactly a quorum's votes for this phase in this view.
+    pub fn is_quorum(&self, quorum: u32, in_phase: u8, in_view: u32) -> bool
+        ensures { result ≡ is_quorum quorum in_phase in_view self.now }
+    {
+        match self {
+            Certificate::Root => false,
+            Certificate::Votes {
+                view,
+                phase,
+                votes,
+                ..
+            } => {
+                *view == in_view
+                    && *phase == in_phase
+                    && votes.len() == quorum as usize
+                    && are_rising(0, votes.as_slice())
+            }
+        }
+    }
 }
 
 /// Whether bytes have the shape of a signature: a height, a leaf, 67 digests and one for each level.

@@ -6,11 +6,13 @@ pub mod certificates;
 pub mod laws;
 pub mod messages;
 pub mod signing;
+pub mod tree;
 pub mod wire;
 
 pub use certificates::{Certificate, Signed};
 pub use laws::{certificates_count_nodes, messages_are_exact, one_digest_one_branch};
 pub use messages::Message;
+pub use tree::Tree;
 pub use wire::{read, write};
 
 #[cfg(test)]

@@ -4,6 +4,7 @@ ghost use Rattle.iss_request.specs.Formats.{value_string};
 ghost use Rattle.iss_request.specs.declared.requests.Value.TheVariants.{Nil as Value_nil, Batch as Value_batch};
 ghost use Rattle.iss_sb.specs.Evidence.{one_or_none};
 ghost use Rattle.iss_sb.specs.Statements.{four_bytes, two_bytes};
+ghost use Rattle.hs_tree.specs.Hashed.{IsHashed};
 ghost use Rattle.hs_tree.specs.Statements.{certificate_claims, claim, statement, vote_claims, vote_statement};
 ghost use Rattle.hs_tree.specs.Tree.{Form, kind_of, plain_string, strings_of, value_digest, value_of};
 
@@ -92,6 +93,42 @@ pub fn node_string(
     out.put_u8(kind_of(what))?;
     out.put_bytes(held)?;
     Ok(out.into_bytes())
+}
+
+/// The strings that are hashed of a node, the value's before the node's own, and its digest.
+#[derive(Drop)]
+pub struct Hashed {
+    pub strings: Row<Bytes>,
+    pub digest: [u8; 32],
+}
+
+/// Hashes the node with this content on a parent.
+pub fn hash_node(
+    alloc: Global,
+    version: u8,
+    parent: &[u8; 32],
+    what: &What,
+) -> Result<Hashed, NoMemory>
+    ensures { IfOk result (λ h. (view : ℕ) → IsHashed version view parent.now what.now h) }
+{
+    let value = held_string(alloc, version, what)?;
+    let held = held_digest(version, what, &value);
+    let node = node_string(alloc, version, parent, what, &held)?;
+    let digest = Sha256::digest(node.as_slice());
+    let mut strings = Row::new(alloc);
+    put_string(value, &mut strings)?;
+    strings.push(node)?;
+    Ok(Hashed { strings, digest })
+}
+
+// Puts a string, if there is one, behind others.
+fn put_string(string: Option<Bytes>, all: &mut Row<Bytes>) -> Result<(), NoMemory>
+    ensures { OnOk result (all.new ≡ all.old ++ one_or_none string) }
+{
+    match string {
+        Some(string) => all.push(string),
+        None => Ok(()),
+    }
 }
 
 // ---- what is signed, by the module of this number

@@ -238,8 +238,10 @@ struct Shown {
 }
 
 fn read_shown(alloc: Global, phases: u8, f: &mut Fields) -> Result<Shown, DecodeError>
-    ensures ok { (message : ℕ → Certificate → List ℕ → Message) → IfOk result (λ s. IsRead (parse_shown phases message) f.old f.new (message s.view s.shown s.sig)) }
-    ensures bad { (message : ℕ → Certificate → List ℕ → Message) (at : ℕ) → result ≡ Err (DecodeError.BadField at) → IsUnreadable (parse_shown phases message) f.old at }
+    ensures ok { (message : ℕ → Certificate → List ℕ → Message)
+        → IfOk result (λ s. IsRead (parse_shown phases message) f.old f.new (message s.view s.shown s.sig)) }
+    ensures bad { (message : ℕ → Certificate → List ℕ → Message) (at : ℕ)
+        → result ≡ Err (DecodeError.BadField at) → IsUnreadable (parse_shown phases message) f.old at }
 {
     let view = f.read_u32()?;
     let shown = read_certificate(alloc, phases, f)?;

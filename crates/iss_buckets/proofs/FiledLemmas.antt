@@ -8,9 +8,9 @@ use Rattle.iss_base.proofs.Lists.{eqb-same, eqb-other, is-eq, some-injective}
 use Rattle.iss_request.specs.Log.{same_id, ids}
 use Rattle.iss_request.specs.declared.ids.ReqId.{ReqId}
 use Rattle.iss_request.specs.declared.requests.Request.{Request}
+use Rattle.iss_request.proofs.Identities.{same_id-flip, same_id-self, same_id-tells}
 use Rattle.iss_buckets.specs.Filed.{AreFiled, kept_at, number_of}
 use Rattle.iss_buckets.specs.Waiting.{waits, absent}
-use Rattle.iss_buckets.proofs.WaitingLemmas.{same_flip, same_means, same_self}
 
 pub same_number : (a b : ℕ) → is_eq (nat_cmp a b) ≡ eqb a b
 same_number a b = grind arith
@@ -62,14 +62,14 @@ number_known from [] k q h is = cc
 number_known from (e ∷ es) k q h is = go (eqb k e.0) refl (number_known (suc e.0) es k q h.2)
   where
     later : (b : Bool) → same_id q.id e.1.id ≡ b → number_of es q.id ≡ Some k → number_of (e ∷ es) q.id ≡ Some k
-    later true same rest = absurd (let bad : None ≡ Some k = sym h.1 ∙ ap (λ (i : ReqId). number_of es i) (sym (same_means q.id e.1.id same)) ∙ rest in cc)
+    later true same rest = absurd (let bad : None ≡ Some k = sym h.1 ∙ ap (λ (i : ReqId). number_of es i) (sym (same_id-tells q.id e.1.id same)) ∙ rest in cc)
     later false same rest = number_later e es q.id same ∙ rest
 
     go : (b : Bool) → eqb k e.0 ≡ b → (kept_at es k ≡ Some q → number_of es q.id ≡ Some k) → number_of (e ∷ es) q.id ≡ Some k
     go true at rest =
         let here = is-eq k e.0 at in
         let same : e.1 ≡ q = some-injective e.1 q (sym (kept_here e es k here) ∙ is) in
-        number_here e es q.id (ap (λ (r : Request). same_id q.id r.id) same ∙ same_self q.id) ∙ ap (λ j. Some j) (sym here)
+        number_here e es q.id (ap (λ (r : Request). same_id q.id r.id) same ∙ same_id-self q.id) ∙ ap (λ j. Some j) (sym here)
     go false at rest =
         let ne : k ≢ e.0 = λ eq. let bad : true ≡ false = sym (eqb-same k) ∙ ap (λ j. eqb k j) eq ∙ at in cc in
         let kept : kept_at es k ≡ Some q = sym (kept_later e es k ne) ∙ is in
@@ -114,7 +114,7 @@ unknown_waits es id h = sym (waits_known es id) ∙ ap (λ (o : Option ℕ). is_
 apart_ids : (es : Entries) (id : ReqId) → number_of es id ≡ None → In id (ids (values_of es)) → ⊥
 apart_ids [] id none there = there
 apart_ids (e ∷ es) id none there = ⊎_elim
-    (λ (same : id ≡ e.1.id). let bad : None ≡ Some e.0 = sym none ∙ number_here e es id (ap (λ (x : ReqId). same_id id x) (sym same) ∙ same_self id) in cc)
+    (λ (same : id ≡ e.1.id). let bad : None ≡ Some e.0 = sym none ∙ number_here e es id (ap (λ (x : ReqId). same_id id x) (sym same) ∙ same_id-self id) in cc)
     (λ (later : In id (ids (values_of es))). go (same_id id e.1.id) refl (λ rest. apart_ids es id rest later))
     there
   where
@@ -177,17 +177,17 @@ filed_more from (e ∷ es) n q h below le none =
     go : (b : Bool) → same_id q.id e.1.id ≡ b → (number_of es q.id ≡ None → AreFiled (suc e.0) (es ++ (n, q) ∷ [])) → AreFiled from (e ∷ (es ++ (n, q) ∷ []))
     go true same rest = absurd (let bad : None ≡ Some e.0 = sym none ∙ number_here e es q.id same in cc)
     go false same rest =
-        let other : same_id e.1.id q.id ≡ false = same_flip e.1.id q.id ∙ same in (
+        let other : same_id e.1.id q.id ≡ false = same_id-flip e.1.id q.id ∙ same in (
           h.0,
           number_more es n q e.1.id ∙ ap (λ (b : Bool). first_of (number_of es e.1.id) (cond b (Some n) None)) other ∙ first_none (number_of es e.1.id) ∙ h.1,
           rest (sym (number_later e es q.id same) ∙ none),
         )
 
 pub known_more : (es : Entries) (n : ℕ) (q : Request) (id : ReqId) → number_of es q.id ≡ None → cond (same_id q.id id) (Some n) (number_of es id) ≡ number_of (es ++ (n, q) ∷ []) id
-known_more es n q id none = sym (number_more es n q id ∙ ap (λ (b : Bool). first_of (number_of es id) (cond b (Some n) None)) (same_flip id q.id) ∙ go (same_id q.id id) refl)
+known_more es n q id none = sym (number_more es n q id ∙ ap (λ (b : Bool). first_of (number_of es id) (cond b (Some n) None)) (same_id-flip id q.id) ∙ go (same_id q.id id) refl)
   where
     go : (b : Bool) → same_id q.id id ≡ b → first_of (number_of es id) (cond b (Some n) None) ≡ cond b (Some n) (number_of es id)
-    go true same = ap (λ (o : Option ℕ). first_of o (Some n)) (ap (λ (x : ReqId). number_of es x) (sym (same_means q.id id same)) ∙ none)
+    go true same = ap (λ (o : Option ℕ). first_of o (Some n)) (ap (λ (x : ReqId). number_of es x) (sym (same_id-tells q.id id same)) ∙ none)
     go false same = first_none (number_of es id)
 
 pub below_more : (es : Entries) (n : ℕ) (q : Request) → AreBelow es n → AreBelow (es ++ (n, q) ∷ []) (n + 1)
@@ -266,11 +266,11 @@ known_less from (e ∷ es) n q id h is = go (same_or n e.0) (same_id q.id id) re
         → cond b None (number_of (e ∷ es) id) ≡ number_of (without n (e ∷ es)) id
     go (inl a) true same rest =
         let here : e.1 ≡ q = some-injective e.1 q (sym (kept_here e es n a) ∙ is) in
-        let it : e.1.id ≡ id = ap (λ (r : Request). r.id) here ∙ same_means q.id id same in
+        let it : e.1.id ≡ id = ap (λ (r : Request). r.id) here ∙ same_id-tells q.id id same in
         sym (ap (λ (xs : Entries). number_of xs id) (without_here e es n a) ∙ ap (λ (x : ReqId). number_of es x) (sym it) ∙ h.1)
     go (inl a) false same rest =
         let here : e.1 ≡ q = some-injective e.1 q (sym (kept_here e es n a) ∙ is) in
-        let other : same_id id e.1.id ≡ false = same_flip id e.1.id ∙ ap (λ (r : Request). same_id r.id id) here ∙ same in
+        let other : same_id id e.1.id ≡ false = same_id-flip id e.1.id ∙ ap (λ (r : Request). same_id r.id id) here ∙ same in
         number_later e es id other ∙ ap (λ (xs : Entries). number_of xs id) (sym (without_here e es n a))
     go (inr a) b same rest =
         let kept : kept_at es n ≡ Some q = sym (kept_later e es n a) ∙ is in
@@ -282,7 +282,7 @@ known_less from (e ∷ es) n q id h is = go (same_or n e.0) (same_id q.id id) re
             → cond b None (number_of (e ∷ es) id) ≡ number_of (e ∷ without n es) id
         deep b same kept false at step = ap (λ (o : Option ℕ). cond b None o) (number_later e es id at) ∙ step ∙ sym (number_later e (without n es) id at)
         deep true same kept true at step =
-            let it : q.id ≡ e.1.id = same_means q.id id same ∙ same_means id e.1.id at in
+            let it : q.id ≡ e.1.id = same_id-tells q.id id same ∙ same_id-tells id e.1.id at in
             absurd (let bad : None ≡ Some n = sym h.1 ∙ ap (λ (x : ReqId). number_of es x) (sym it) ∙ number_known (suc e.0) es n q h.2 kept in cc)
         deep false same kept true at step = number_here e es id at ∙ sym (number_here e (without n es) id at)
 
@@ -302,7 +302,7 @@ absent_unknown (e ∷ es) id none = go (same_id id e.1.id) refl (λ rest. absent
     go : (b : Bool) → same_id id e.1.id ≡ b → (number_of es id ≡ None → absent (id ∷ []) (values_of es) ≡ values_of es) → absent (id ∷ []) (values_of (e ∷ es)) ≡ values_of (e ∷ es)
     go true same rest = absurd (let bad : None ≡ Some e.0 = sym none ∙ number_here e es id same in cc)
     go false same rest =
-        let test : (same_id e.1.id id || false) ≡ false = rw (same_flip e.1.id id ∙ same) refl in
+        let test : (same_id e.1.id id || false) ≡ false = rw (same_id-flip e.1.id id ∙ same) refl in
         rw test (ap (λ qs. e.1 ∷ qs) (rest (sym (number_later e es id same) ∙ none)))
 
 pub absent_none_known : (es : Entries) (id : ReqId) → number_of es id ≡ None → values_of es ≡ absent (id ∷ []) (values_of es)
@@ -315,12 +315,12 @@ absent_known from (e ∷ es) id n h is = go (same_id id e.1.id) refl (absent_kno
     go : (b : Bool) → same_id id e.1.id ≡ b → (number_of es id ≡ Some n → values_of (without n es) ≡ absent (id ∷ []) (values_of es)) → values_of (without n (e ∷ es)) ≡ absent (id ∷ []) (values_of (e ∷ es))
     go true same rest =
         let at : e.0 ≡ n = some-injective e.0 n (sym (number_here e es id same) ∙ is) in
-        let test : (same_id e.1.id id || false) ≡ true = rw (same_flip e.1.id id ∙ same) refl in
-        let none : number_of es id ≡ None = ap (λ (x : ReqId). number_of es x) (same_means id e.1.id same) ∙ h.1 in
+        let test : (same_id e.1.id id || false) ≡ true = rw (same_id-flip e.1.id id ∙ same) refl in
+        let none : number_of es id ≡ None = ap (λ (x : ReqId). number_of es x) (same_id-tells id e.1.id same) ∙ h.1 in
         ap (λ (xs : Entries). values_of xs) (without_here e es n (sym at)) ∙ absent_none_known es id none ∙ rw test refl
     go false same rest =
         let later : number_of es id ≡ Some n = sym (number_later e es id same) ∙ is in
         let f = number_found (suc e.0) es id n h.2 later in
         let ne : n ≢ e.0 = head_not e es from n f.request h f.kept in
-        let test : (same_id e.1.id id || false) ≡ false = rw (same_flip e.1.id id ∙ same) refl in
+        let test : (same_id e.1.id id || false) ≡ false = rw (same_id-flip e.1.id id ∙ same) refl in
         ap (λ (xs : Entries). values_of xs) (without_later e es n ne) ∙ ap (λ qs. e.1 ∷ qs) (rest later) ∙ rw test refl

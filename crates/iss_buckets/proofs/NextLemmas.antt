@@ -4,7 +4,8 @@ use Rattle.std.proofs.lemmas.Bool.Decides.{nat_tests}
 use Rattle.std.proofs.lemmas.List.{append-nil}
 use Rattle.std.proofs.lemmas.Nat.{mod_below}
 use Rattle.std.specs.Map.{values_of}
-use Rattle.iss_base.proofs.Lists.{eqb-same, is-eq, some-injective}
+use Rattle.iss_base.proofs.Lists.{eqb-same, is-eq, neither, or-flip, some-injective}
+use Rattle.iss_base.proofs.Quorum.{or_right_true}
 use Rattle.iss_request.specs.Log.{has_id}
 use Rattle.iss_request.specs.declared.ids.NodeId.{NodeId}
 use Rattle.iss_request.specs.declared.ids.ReqId.{ReqId}
@@ -154,33 +155,21 @@ next_same p t es from (Some n) same h = record {
   before = λ k q on lt is. sym (same q) ∙ h.before k q on lt is;
 }
 
-or_none : (a b : Bool) → a ≡ false → b ≡ false → (a || b) ≡ false
-or_none false b x y = y
-or_none true b x y = cc
-
-or_left : (a b : Bool) → a ≡ true → (a || b) ≡ true
-or_left true b x = refl
-or_left false b x = cc
-
-or_right : (a b : Bool) → b ≡ true → (a || b) ≡ true
-or_right true b x = refl
-or_right false b x = x
-
 pub next_both : (p t : Request → Bool) (es : List (ℕ × Request)) (from : ℕ) (a b : Option ℕ) → IsNext p es from a → IsNext t es from b → IsNext (λ q. p q || t q) es from (least_of a b)
-next_both p t es from None None x y = λ k q on is. or_none (p q) (t q) (x k q on is) (y k q on is)
+next_both p t es from None None x y = λ k q on is. neither (p q) (t q) (x k q on is) (y k q on is)
 next_both p t es from None (Some n) x y = record {
   request = y.request;
   from_on = y.from_on;
   kept = y.kept;
-  passes = or_right (p y.request) (t y.request) y.passes;
-  before = λ k q on lt is. or_none (p q) (t q) (x k q on is) (y.before k q on lt is);
+  passes = or_right_true (p y.request) (t y.request) y.passes;
+  before = λ k q on lt is. neither (p q) (t q) (x k q on is) (y.before k q on lt is);
 }
 next_both p t es from (Some m) None x y = record {
   request = x.request;
   from_on = x.from_on;
   kept = x.kept;
-  passes = or_left (p x.request) (t x.request) x.passes;
-  before = λ k q on lt is. or_none (p q) (t q) (x.before k q on lt is) (y k q on is);
+  passes = or-flip (p x.request) (t x.request) ∙ or_right_true (t x.request) (p x.request) x.passes;
+  before = λ k q on lt is. neither (p q) (t q) (x.before k q on lt is) (y k q on is);
 }
 next_both p t es from (Some m) (Some n) x y = ⊎_elim
     (λ (le : m ≤ n).
@@ -189,8 +178,8 @@ next_both p t es from (Some m) (Some n) x y = ⊎_elim
       request = x.request;
       from_on = x.from_on;
       kept = x.kept;
-      passes = or_left (p x.request) (t x.request) x.passes;
-      before = λ k q on lt is. or_none (p q) (t q) (x.before k q on lt is) (y.before k q on (omega (arith, lt, le)) is);
+      passes = or-flip (p x.request) (t x.request) ∙ or_right_true (t x.request) (p x.request) x.passes;
+      before = λ k q on lt is. neither (p q) (t q) (x.before k q on lt is) (y.before k q on (omega (arith, lt, le)) is);
     }))
     (λ (ge : n ≤ m).
     let least : min m n ≡ n = omega (arith, ge) in
@@ -198,8 +187,8 @@ next_both p t es from (Some m) (Some n) x y = ⊎_elim
       request = y.request;
       from_on = y.from_on;
       kept = y.kept;
-      passes = or_right (p y.request) (t y.request) y.passes;
-      before = λ k q on lt is. or_none (p q) (t q) (x.before k q on (omega (arith, lt, ge)) is) (y.before k q on lt is);
+      passes = or_right_true (p y.request) (t y.request) y.passes;
+      before = λ k q on lt is. neither (p q) (t q) (x.before k q on (omega (arith, lt, ge)) is) (y.before k q on lt is);
     }))
     (order m n)
   where

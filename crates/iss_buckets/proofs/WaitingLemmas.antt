@@ -1,55 +1,13 @@
 use Rattle.std.proofs.Common.{◌≡◌, ℕ, ◌+◌, ◌<◌, Bool, true, false, cond, ◌&&◌, ◌||◌, not, eqb, List, [], ◌∷◌, ◌++◌, length, take, refl, sym, ap, ◌∙◌, arith, get_or}
 use Rattle.std.proofs.lemmas.List.{take_more}
 use Rattle.std.specs.List.{list_any}
+use Rattle.iss_base.proofs.Lists.{or-alone}
 use Rattle.iss_request.specs.Log.{same_id, has_id, ids}
 use Rattle.iss_request.specs.declared.ids.ReqId.{ReqId}
 use Rattle.iss_request.specs.declared.requests.Request.{Request}
+use Rattle.iss_request.proofs.Identities.{any-has_id, has_id-append, same_id-flip}
 use Rattle.iss_layout.specs.Layout.{Plan, is_node, bucket_owner, bucket_of}
 use Rattle.iss_buckets.specs.Waiting.{may_cast, cut, uncut, absent}
-
--- ---- identities
-
-eqb_means : (a b : ℕ) → eqb a b ≡ true → a ≡ b
-eqb_means a b h = grind arith
-
-eqb_flip : (a b : ℕ) → eqb a b ≡ eqb b a
-eqb_flip a b = grind arith
-
-eqb_self : (a : ℕ) → eqb a a ≡ true
-eqb_self a = grind arith
-
-pub same_flip : (a b : ReqId) → same_id a b ≡ same_id b a
-same_flip a b = ap (λ t. t && eqb a.number b.number) (eqb_flip a.client b.client) ∙ ap (λ t. eqb b.client a.client && t) (eqb_flip a.number b.number)
-
-pub same_self : (a : ReqId) → same_id a a ≡ true
-same_self a = ap (λ t. t && eqb a.number a.number) (eqb_self a.client) ∙ eqb_self a.number
-
-both : (a b : Bool) → (a && b) ≡ true → (a ≡ true) × (b ≡ true)
-both true b h = (refl, h)
-both false b h = cc
-
-pub same_means : (a b : ReqId) → same_id a b ≡ true → a ≡ b
-same_means a b h =
-    let (client, number) = both (eqb a.client b.client) (eqb a.number b.number) h in
-    let c = eqb_means a.client b.client client in
-    let n = eqb_means a.number b.number number in
-    ap (λ (x : ℕ). record { client = x; number = a.number }) c ∙ ap (λ (x : ℕ). record { client = b.client; number = x }) n
-
-pub any_has : (id : ReqId) (ks : List ReqId) → list_any (λ k. same_id id k) ks ≡ has_id id ks
-any_has id [] = refl
-any_has id (k ∷ ks) = ap (λ t. same_id id k || t) (any_has id ks)
-
-or_false : (a : Bool) → (a || false) ≡ a
-or_false true = refl
-or_false false = refl
-
-or_assoc : (a b c : Bool) → (a || b || c) ≡ (a || (b || c))
-or_assoc true b c = refl
-or_assoc false b c = refl
-
-pub has_both : (id : ReqId) (xs ys : List ReqId) → has_id id (xs ++ ys) ≡ (has_id id xs || has_id id ys)
-has_both id [] ys = refl
-has_both id (x ∷ xs) ys = ap (λ t. same_id id x || t) (has_both id xs ys) ∙ sym (or_assoc (same_id id x) (has_id id xs) (has_id id ys))
 
 -- ---- requests that are taken out by their identities
 
@@ -63,7 +21,7 @@ absent_none (q ∷ qs) = ap (λ rest. q ∷ rest) (absent_none qs)
 
 pub absent_more : (gone : List ReqId) (x : ReqId) (qs : List Request) → absent (gone ++ x ∷ []) qs ≡ absent (x ∷ []) (absent gone qs)
 absent_more gone x [] = refl
-absent_more gone x (q ∷ qs) = rw (has_both q.id gone (x ∷ [])) (go (has_id q.id gone) (absent_more gone x qs))
+absent_more gone x (q ∷ qs) = rw (has_id-append q.id gone (x ∷ [])) (go (has_id q.id gone) (absent_more gone x qs))
   where
     go : (b : Bool) → absent (gone ++ x ∷ []) qs ≡ absent (x ∷ []) (absent gone qs)
         → cond (b || (same_id q.id x || false)) (absent (gone ++ x ∷ []) qs) (q ∷ absent (gone ++ x ∷ []) qs) ≡ absent (x ∷ []) (cond b (absent gone qs) (q ∷ absent gone qs))
@@ -75,8 +33,8 @@ absent_more gone x (q ∷ qs) = rw (has_both q.id gone (x ∷ [])) (go (has_id q
 pub marks_more : (keys now done : List ReqId) (x id : ReqId) → list_any (λ k. same_id id k) now ≡ cond (same_id x id) true (list_any (λ k. same_id id k) keys)
     → has_id id keys ≡ has_id id done → has_id id now ≡ has_id id (done ++ x ∷ [])
 marks_more keys now done x id is so_far =
-    sym (any_has id now) ∙ is ∙ ap (λ t. cond (same_id x id) true t) (any_has id keys ∙ so_far) ∙ swap (same_id x id) (has_id id done)
-    ∙ ap (λ t. has_id id done || t) (same_flip x id ∙ sym (or_false (same_id id x))) ∙ sym (has_both id done (x ∷ []))
+    sym (any-has_id id now) ∙ is ∙ ap (λ t. cond (same_id x id) true t) (any-has_id id keys ∙ so_far) ∙ swap (same_id x id) (has_id id done)
+    ∙ ap (λ t. has_id id done || t) (same_id-flip x id ∙ sym (or-alone (same_id id x))) ∙ sym (has_id-append id done (x ∷ []))
   where
     swap : (a b : Bool) → cond a true b ≡ (b || a)
     swap true true = refl

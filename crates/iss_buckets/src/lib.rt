@@ -5,7 +5,5 @@
 pub mod pending;
 mod queues;
 mod shelf;
-#[cfg(test)]
-mod tests;
 
 pub use pending::{Added, Pending};

@@ -9,6 +9,7 @@ use Rattle.iss_ids.specs.Set.{and_id, and_ids}
 use Rattle.iss_request.specs.Log.{has_id, ids, same_id}
 use Rattle.iss_request.specs.declared.ids.ReqId.{ReqId}
 use Rattle.iss_request.specs.declared.requests.Request.{Request}
+use Rattle.iss_request.proofs.Identities.{same_id-flip}
 
 -- the set's own search is membership, and its own insertion adds
 pub insert-and_id : (xs : List ReqId) (x : ReqId) → insert_key same_id xs x ≡ and_id xs x
@@ -40,14 +41,6 @@ has_id-and_ids x xs (q ∷ qs) =
     ∙ ap (λ b. b || has_id x (ids qs)) (has_id-and_id x q.id xs)
     ∙ sym (or-assoc (has_id x xs) (same_id x q.id) (has_id x (ids qs)))
 
-sym-same : (x y : ReqId) → same_id x y ≡ same_id y x
-sym-same x y = go (same_id x y) (same_id y x) refl refl
-  where
-    go : (a b : Bool) → same_id x y ≡ a → same_id y x ≡ b → same_id x y ≡ same_id y x
-    go true b e f = let h : x ≡ y = same_id-tells x y e in subst (λ (z : ReqId). same_id x z ≡ same_id z x) h refl
-    go false true e f = let h : y ≡ x = same_id-tells y x f in subst (λ (z : ReqId). same_id z y ≡ same_id y z) h refl
-    go false false e f = e ∙ sym f
-
 without : (t h : Bool) → cond t false h ≡ (h && not t)
 without true true = refl
 without true false = refl
@@ -59,7 +52,7 @@ pub has_id-removed : (x y : ReqId) (old new : List ReqId) → list_any (λ z. sa
 has_id-removed x y old new h =
     sym (any-has_id x new) ∙ h ∙ without (same_id y x) (list_any (λ z. same_id x z) old)
     ∙ ap (λ b. b && not (same_id y x)) (any-has_id x old)
-    ∙ ap (λ b. has_id x old && not b) (sym-same y x)
+    ∙ ap (λ b. has_id x old && not b) (same_id-flip y x)
 
 and-nor : (h a b : Bool) → ((h && not a) && not b) ≡ (h && not (a || b))
 and-nor true true b = refl

@@ -11,7 +11,7 @@ use Rattle.iss_request.specs.declared.setups.Setup.{Setup}
 use Rattle.iss_layout.specs.Layout.{Ended, IsOfThePast, Plan, conduct_of, epochs, is_nil_at, nils_in, plan_by, slots_from, slots_in, with_next}
 
 -- a slot that a log holds keeps its value in a longer one
-nil-kept : (newer log : List Value) (k : ℕ) → k < length log → is_nil_at (newer ++ log) k ≡ is_nil_at log k
+pub nil-kept : (newer log : List Value) (k : ℕ) → k < length log → is_nil_at (newer ++ log) k ≡ is_nil_at log k
 nil-kept [] log k within = refl
 nil-kept (v ∷ newer) log k within =
     let long = length-append newer log in

@@ -6,8 +6,6 @@
 pub mod laws;
 pub mod layout;
 pub mod standing;
-#[cfg(test)]
-mod tests;
 
 pub use layout::Layout;
 pub use standing::Standing;

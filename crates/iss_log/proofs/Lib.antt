@@ -1,2 +1,3 @@
+pub mod ChainLemmas
 mod Examples
 pub mod LogLemmas

@@ -3,8 +3,8 @@
 //! of the sizes of earlier batches).
 #![tactic(auto)]
 
+pub mod chains;
 pub mod log;
-#[cfg(test)]
-mod tests;
 
+pub use chains::{Chains, End, link, string_of};
 pub use log::{Fill, Joined, Log};

@@ -158,7 +158,7 @@ impl Log {
 }
 
 // How many requests a value holds.
-fn size(value: &Value) -> u64
+pub(crate) fn size(value: &Value) -> u64
     ensures { result ≡ size_of value.now }
 {
     match value {

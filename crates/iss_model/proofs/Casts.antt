@@ -268,7 +268,7 @@ idle-ready R M me = record { sound = idle-sound R M me; spelled = λ q i. absurd
 
 -- what a core casts
 
-slot-passes : (p : Slot → Bool) (ss : List Slot) (s : Slot) → first_slot p ss ≡ Some s → In s ss × (p s ≡ true)
+pub slot-passes : (p : Slot → Bool) (ss : List Slot) (s : Slot) → first_slot p ss ≡ Some s → In s ss × (p s ≡ true)
 slot-passes p [] s h = absurd (cc)
 slot-passes p (r ∷ ss) s h = go (slot-passes p ss s) (p r) refl h
   where
@@ -276,7 +276,7 @@ slot-passes p (r ∷ ss) s h = go (slot-passes p ss s) (p r) refl h
     go ih true q k = let e : s ≡ r = cc in (inl e, rw e q)
     go ih false q k = let z = ih k in (inr z.0, z.1)
 
-some-there : {A : Type 0} (o : Option A) → is_some o ≡ true → (x : A) × (o ≡ Some x)
+pub some-there : {A : Type 0} (o : Option A) → is_some o ≡ true → (x : A) × (o ≡ Some x)
 some-there None h = absurd (true≢false (sym h))
 some-there (Some x) h = (x, refl)
 

@@ -16,6 +16,7 @@ use Rattle.iss_model.specs.Node.{flown, flying, is_nil_at, joined, returned}
 use Rattle.iss_model.proofs.Casts.{joined-newer}
 use Rattle.iss_model.proofs.Flights.{nil-below}
 use Rattle.iss_model.proofs.Ids.{ids-append, ids-left, ids-once, ids-right, in-has, log_ids-extends}
+use Rattle.iss_layout.proofs.PastLemmas.{nil-kept}
 
 -- absent: each request is gone or left
 
@@ -59,14 +60,6 @@ joined-in x old new e i =
 
 pub in-longer : (x : ReqId) (old new : List Value) → Extends old new → In x (log_ids old) → In x (log_ids new)
 in-longer x old new e i = subst (λ (t : List Value). In x (log_ids t)) (sym e.1) (log_ids-extends x e.0 old i)
-
--- nil at a slot stays
-
-nil-kept : (newer a : List Value) (s : ℕ) → s < length a → is_nil_at (newer ++ a) s ≡ is_nil_at a s
-nil-kept [] a s lt = refl
-nil-kept (v ∷ newer) a s lt =
-    let other : eqb s (length (newer ++ a)) ≡ false = eqb-other s (length (newer ++ a)) (λ q. absurd (omega (arith, q, lt, length-append newer a))) in
-    rw other (nil-kept newer a s lt)
 
 -- what stood in a log stands in longer ones
 pub nil-stays : (a b : List Value) (s : ℕ) → Extends a b → s < length a → is_nil_at b s ≡ is_nil_at a s

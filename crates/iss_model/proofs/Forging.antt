@@ -1,6 +1,6 @@
 -- Runs of four nodes that are computed, of which the last is faulty: what is forged ends a run, and what was signed, or is
 -- in the faulty node's name, does not.
-use Rattle.std.proofs.Common.{◌≡◌, ℕ, ◌+◌, List, [], ◌∷◌, length, Some, None, refl}
+use Rattle.std.proofs.Common.{◌≡◌, ℕ, ◌+◌, List, [], ◌∷◌, length, Some, None, refl, true}
 use Rattle.std.specs.Prelude.{nat_lt}
 use Rattle.iss_request.specs.Formats.{spell_batch, spell_count, spell_request, spell_value}
 use Rattle.iss_request.specs.declared.requests.Batch.{Batch}
@@ -21,9 +21,9 @@ use Rattle.iss_model.proofs.Signing.{Word, claim_of, signing}
 abbrev four : Setup
 four = record { version = 1; «module» = 9; f = 1; epoch = 4; buckets = 4; batch = 4; window = 8; policy = Simple; clients = 1; keys = 4; faulty = record { 0 = 3 } ∷ []; n = 4; quorum = 3; kind = Byzantine; tag = [] }
 
--- what a node is said to have signed counts as verified, so that runs compute
+-- what a node or a client is said to have signed counts as verified, so that runs compute
 abbrev easy : Rules
-easy = record (rules_of four) { verifies = λ k statement sig. nat_lt k 4 }
+easy = record (rules_of four) { signed = λ q. true; verifies = λ k statement sig. nat_lt k 4 }
 
 abbrev batch : Batch
 batch = plain_request 0 0 (170 ∷ []) ∷ []

@@ -2,7 +2,7 @@
 use Rattle.std.proofs.Common.{◌≡◌, inl, inr, ℕ, suc, ◌<◌, true, ◌&&◌, List, [], ◌∷◌, Option, Some, None, refl, sym, ap, ◌∙◌, subst, true≢false}
 use Rattle.std.specs.Prelude.{nat_lt}
 use Rattle.std.proofs.lemmas.Bool.Decides.{leb_tells}
-use Rattle.iss_base.proofs.Lists.{and-true}
+use Rattle.iss_base.proofs.Lists.{and-true, none-some, some-injective}
 use Rattle.iss_packet.specs.Packets.{is_routed, is_routed_as, parse_packet, parse_parts}
 use Rattle.iss_packet.specs.declared.packets.Packet.{Packet}
 use Rattle.iss_packet.specs.declared.packets.PacketKind.{PacketKind}
@@ -18,20 +18,14 @@ use Rattle.iss_sb.proofs.Read.{read-again}
 use Rattle.iss_model.specs.Formats.{formats_of, message_in, parcel_in, parcel_of_kind, request_in, whole}
 use Rattle.iss_model.specs.Node.{Body, OfModule, OfRequest, Parcel}
 
-some-same : {A : Type 0} (x y : A) → Some x ≡ Some y → x ≡ y
-some-same x y h = cc
-
-none-there : {A : Type 0} (y : A) → None ≡ Some y → ⊥
-none-there y h = cc
-
 routed : (version n : ℕ) (bytes : List ℕ) (p : Packet) → whole (parse_packet version n bytes) ≡ Some p → is_routed n p ≡ true
 unfolding parse_packet
 routed version n bytes p = go (parse_packet version n bytes) refl
   where
     go : (r : Parsed Packet) → parse_packet version n bytes ≡ r → whole r ≡ Some p → is_routed n p ≡ true
-    go (Good q []) e h = subst (λ (z : Packet). is_routed n z ≡ true) (some-same q p h) (test_parts (is_routed n) (parse_parts version) bytes [] q e).1
-    go (Good q (b ∷ rest)) e h = absurd (none-there p h)
-    go (Bad at) e h = absurd (none-there p h)
+    go (Good q []) e h = subst (λ (z : Packet). is_routed n z ≡ true) (some-injective q p h) (test_parts (is_routed n) (parse_parts version) bytes [] q e).1
+    go (Good q (b ∷ rest)) e h = absurd (none-some p h)
+    go (Bad at) e h = absurd (none-some p h)
 
 sender : (n : ℕ) (p : Packet) → p.kind ≡ Message → is_routed n p ≡ true → p.from < n
 unfolding is_routed
@@ -44,9 +38,9 @@ again : {A : Type 0} (spell : A → List ℕ) (parse : List ℕ → Parsed A) �
 again {A} spell parse grammar bytes x h = go (parse bytes) refl h
   where
     go : (r : Parsed A) → parse bytes ≡ r → whole r ≡ Some x → IsReadAgain spell parse x
-    go (Good y []) e k = read-again spell parse grammar bytes [] x (subst (λ (z : A). parse bytes ≡ Good z []) (some-same y x k) e)
-    go (Good y (b ∷ more)) e k = absurd (none-there x k)
-    go (Bad at) e k = absurd (none-there x k)
+    go (Good y []) e k = read-again spell parse grammar bytes [] x (subst (λ (z : A). parse bytes ≡ Good z []) (some-injective y x k) e)
+    go (Good y (b ∷ more)) e k = absurd (none-some x k)
+    go (Bad at) e k = absurd (none-some x k)
 
 -- a request that is read has a spelling
 pub requests-spelled : {Msg : Type 0} (s : Setup) (M : Module Msg) (bytes : List ℕ) (k : Parcel Msg) (q : Request) → (formats_of s M).unwrap bytes ≡ Some k → k.body ≡ OfRequest q → HasSpelling q
@@ -59,29 +53,29 @@ requests-spelled {Msg} s M bytes k q u b = packet (whole (parse_packet s.version
     same-request r e = cc
 
     spelled : (body : List ℕ) (r : Request) (o : Parsed Request) → parse_request body ≡ o → whole o ≡ Some r → HasSpelling r
-    spelled body r (Good x []) e h = ((request_related r body).0 (subst (λ (z : Request). parse_request body ≡ Good z []) (some-same x r h) e)).0
-    spelled body r (Good x (y ∷ more)) e h = absurd (none-there r h)
-    spelled body r (Bad at) e h = absurd (none-there r h)
+    spelled body r (Good x []) e h = ((request_related r body).0 (subst (λ (z : Request). parse_request body ≡ Good z []) (some-injective x r h) e)).0
+    spelled body r (Good x (y ∷ more)) e h = absurd (none-some r h)
+    spelled body r (Bad at) e h = absurd (none-some r h)
 
     message : (p : Packet) (o : Option Msg) → message_in p o ≡ Some k → HasSpelling q
-    message p None h = absurd (none-there k h)
-    message p (Some msg) h = absurd (no-message p.leader msg (ap (λ (z : Parcel Msg). z.body) (some-same _ k h) ∙ b))
+    message p None h = absurd (none-some k h)
+    message p (Some msg) h = absurd (no-message p.leader msg (ap (λ (z : Parcel Msg). z.body) (some-injective _ k h) ∙ b))
 
     request : (p : Packet) (o : Option Request) → whole (parse_request p.body) ≡ o → request_in {Msg = Msg} p o ≡ Some k → HasSpelling q
-    request p None e h = absurd (none-there k h)
+    request p None e h = absurd (none-some k h)
     request p (Some r) e h =
-        let same : r ≡ q = same-request r (ap (λ (z : Parcel Msg). z.body) (some-same _ k h) ∙ b) in
+        let same : r ≡ q = same-request r (ap (λ (z : Parcel Msg). z.body) (some-injective _ k h) ∙ b) in
         subst (λ (z : Request). HasSpelling z) same (spelled p.body r (parse_request p.body) refl e)
 
     kind : (p : Packet) (kd : PacketKind) → parcel_of_kind M s.version p kd ≡ Some k → HasSpelling q
     kind p Message h = message p (whole (M.parse s.version p.body)) h
-    kind p Vote h = absurd (none-there k h)
-    kind p Ask h = absurd (none-there k h)
-    kind p Piece h = absurd (none-there k h)
+    kind p Vote h = absurd (none-some k h)
+    kind p Ask h = absurd (none-some k h)
+    kind p Piece h = absurd (none-some k h)
     kind p Asked h = request p (whole (parse_request p.body)) refl h
 
     packet : (o : Option Packet) → parcel_in M s.version o ≡ Some k → HasSpelling q
-    packet None h = absurd (none-there k h)
+    packet None h = absurd (none-some k h)
     packet (Some p) h = kind p p.kind h
 
 module _ {Msg : Type 0} (s : Setup) (M : Module Msg) (grammar : (version : ℕ) → IsGrammar (M.spell version) (M.parse version)) where
@@ -98,23 +92,23 @@ module _ {Msg : Type 0} (s : Setup) (M : Module Msg) (grammar : (version : ℕ) 
       same-message j m e = cc
 
       message : (p : Packet) (o : Option Msg) → whole (M.parse s.version p.body) ≡ o → is_routed s.n p ≡ true → p.kind ≡ Message → message_in p o ≡ Some k → Told k msg
-      message p None e r q h = absurd (none-there k h)
+      message p None e r q h = absurd (none-some k h)
       message p (Some m) e r q h = (
-        subst (λ (f : ℕ). f < s.n) (ap (λ (z : Parcel Msg). z.from) (some-same _ k h)) (sender s.n p q r),
-        again (M.spell s.version) (M.parse s.version) (grammar s.version) p.body msg (e ∙ ap (λ (z : Msg). Some z) (same-message p.leader m (ap (λ (z : Parcel Msg). z.body) (some-same _ k h) ∙ b))),
+        subst (λ (f : ℕ). f < s.n) (ap (λ (z : Parcel Msg). z.from) (some-injective _ k h)) (sender s.n p q r),
+        again (M.spell s.version) (M.parse s.version) (grammar s.version) p.body msg (e ∙ ap (λ (z : Msg). Some z) (same-message p.leader m (ap (λ (z : Parcel Msg). z.body) (some-injective _ k h) ∙ b))),
       )
 
       request : (p : Packet) (o : Option Request) → request_in {Msg = Msg} p o ≡ Some k → Told k msg
-      request p None h = absurd (none-there k h)
-      request p (Some q) h = absurd (no-request q (ap (λ (z : Parcel Msg). z.body) (some-same _ k h) ∙ b))
+      request p None h = absurd (none-some k h)
+      request p (Some q) h = absurd (no-request q (ap (λ (z : Parcel Msg). z.body) (some-injective _ k h) ∙ b))
 
       kind : (p : Packet) (kd : PacketKind) → is_routed s.n p ≡ true → p.kind ≡ kd → parcel_of_kind M s.version p kd ≡ Some k → Told k msg
       kind p Message r q h = message p (whole (M.parse s.version p.body)) refl r q h
-      kind p Vote r q h = absurd (none-there k h)
-      kind p Ask r q h = absurd (none-there k h)
-      kind p Piece r q h = absurd (none-there k h)
+      kind p Vote r q h = absurd (none-some k h)
+      kind p Ask r q h = absurd (none-some k h)
+      kind p Piece r q h = absurd (none-some k h)
       kind p Asked r q h = request p (whole (parse_request p.body)) h
 
       packet : (o : Option Packet) → whole (parse_packet s.version s.n bytes) ≡ o → parcel_in M s.version o ≡ Some k → Told k msg
-      packet None e h = absurd (none-there k h)
+      packet None e h = absurd (none-some k h)
       packet (Some p) e h = kind p p.kind (routed s.version s.n bytes p e) refl h

@@ -6,18 +6,11 @@ use Rattle.iss_request.specs.Log.{has_id, ids, log_ids, same_id, value_ids}
 use Rattle.iss_request.specs.declared.ids.ReqId.{ReqId}
 use Rattle.iss_request.specs.declared.requests.Request.{Request}
 use Rattle.iss_request.specs.declared.requests.Value.{Value}
-
-pub same-is : (a b : ReqId) → same_id a b ≡ true → a ≡ b
-same-is a b h =
-    let k = and-true (eqb a.client b.client) (eqb a.number b.number) h in
-    ap₂ (λ (c n : ℕ). record { client = c; number = n }) (is-eq a.client b.client k.0) (is-eq a.number b.number k.1)
-
-pub same-refl : (a : ReqId) → same_id a a ≡ true
-same-refl a = both (eqb a.client a.client) (eqb a.number a.number) (eqb-same a.client) (eqb-same a.number)
+use Rattle.iss_request.proofs.Identities.{same_id-self, same_id-tells}
 
 pub has-in : (x : ReqId) (xs : List ReqId) → In x xs → has_id x xs ≡ true
 has-in x [] h = absurd h
-has-in x (y ∷ ys) (inl e) = rw (← e, same-refl x) refl
+has-in x (y ∷ ys) (inl e) = rw (← e, same_id-self x) refl
 has-in x (y ∷ ys) (inr h) = let k : has_id x ys ≡ true = has-in x ys h in elim (same_id x y) as (λ b. (b || has_id x ys) ≡ true) [ true ↦ refl | false ↦ k ]
 
 pub in-has : (x : ReqId) (xs : List ReqId) → has_id x xs ≡ true → In x xs
@@ -25,7 +18,7 @@ in-has x [] h = absurd (true≢false (sym h))
 in-has x (y ∷ ys) h = go (in-has x ys) (same_id x y) refl h
   where
     go : (has_id x ys ≡ true → In x ys) → (b : Bool) → same_id x y ≡ b → (b || has_id x ys) ≡ true → In x (y ∷ ys)
-    go ih true q k = inl (same-is x y q)
+    go ih true q k = inl (same_id-tells x y q)
     go ih false q k = inr (ih k)
 
 pub not-has : (x : ReqId) (xs : List ReqId) → has_id x xs ≡ false → In x xs → ⊥

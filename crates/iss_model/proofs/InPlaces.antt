@@ -3,50 +3,49 @@ use Rattle.std.proofs.Common.{◌≡◌, ℕ, List, [], ◌∷◌, inl, inr, ref
 use Rattle.iss_request.specs.declared.ids.ReqId.{ReqId}
 use Rattle.iss_schedule.specs.declared.schedules.Event.{Event}
 use Rattle.iss_schedule.specs.declared.schedules.Event.TheVariants.{Request as Asks_order, Propose, Timeout as Times_out, Calm}
-use Rattle.iss_model.specs.Concrete.{rules_of}
 use Rattle.iss_model.specs.Conserved.{Asked, IsInOnePlace, first, second, third}
 use Rattle.iss_model.specs.Node.{Core}
 use Rattle.iss_model.specs.Run.{begin_run}
 use Rattle.iss_model.specs.Runs.{net_after}
-use Rattle.iss_model.proofs.Example.{Word, plain, short, telling}
+use Rattle.iss_model.proofs.Example.{Word, easy, plain, short, telling}
 
 abbrev x : ReqId
 x = record { client = 0; number = 0 }
 
 core : List Event → ℕ → Core Word
-core events i = (net_after plain short (rules_of plain) telling events).cores i
+core events i = (net_after plain short easy telling events).cores i
 
 abbrev asks : Event
 asks = Asks_order 0 0 0 (170 ∷ [])
 
 -- it was taken, also where it is asked for again later
-taken : Asked plain short (rules_of plain) telling (begin_run 3) (asks ∷ Propose 0 ∷ asks ∷ []) 0 x
+taken : Asked plain short easy telling (begin_run 3) (asks ∷ Propose 0 ∷ asks ∷ []) 0 x
 taken = inl (inl refl)
 
 -- by node 0 alone
-not_taken : Asked plain short (rules_of plain) telling (begin_run 3) (asks ∷ Propose 0 ∷ asks ∷ []) 1 x → ⊥
+not_taken : Asked plain short easy telling (begin_run 3) (asks ∷ Propose 0 ∷ asks ∷ []) 1 x → ⊥
 not_taken (inl h) = h
 not_taken (inr (inl h)) = h
 not_taken (inr (inr (inl h))) = h
 not_taken (inr (inr (inr h))) = h
 
 -- it waits
-waits : IsInOnePlace (rules_of plain) telling 0 (core (asks ∷ []) 0) x
+waits : IsInOnePlace easy telling 0 (core (asks ∷ []) 0) x
 unfolding core
 waits = second (λ h. h) (inl refl) (λ h. h)
 
 -- it is cast
-flies : IsInOnePlace (rules_of plain) telling 0 (core (asks ∷ Propose 0 ∷ asks ∷ []) 0) x
+flies : IsInOnePlace easy telling 0 (core (asks ∷ Propose 0 ∷ asks ∷ []) 0) x
 unfolding core
 flies = third (λ h. h) (λ h. h) (inl refl)
 
 -- it is ordered
-ordered : IsInOnePlace (rules_of plain) telling 0 (core (asks ∷ Propose 0 ∷ Calm 10 ∷ []) 0) x
+ordered : IsInOnePlace easy telling 0 (core (asks ∷ Propose 0 ∷ Calm 10 ∷ []) 0) x
 unfolding core
 ordered = first (inl refl) (λ h. h) (λ h. h)
 
 -- or its slot became nil, and it waits again
-returned : IsInOnePlace (rules_of plain) telling 0 (core (asks ∷ Propose 0 ∷ Times_out 0 (record { 0 = 0 }) ∷ []) 0) x
+returned : IsInOnePlace easy telling 0 (core (asks ∷ Propose 0 ∷ Times_out 0 (record { 0 = 0 }) ∷ []) 0) x
 unfolding core
 returned = second (λ h. h) (inl refl) (λ h. h)
 
@@ -54,7 +53,7 @@ returned = second (λ h. h) (inl refl) (λ h. h)
 abbrev next_epoch : List Event
 next_epoch = asks ∷ Propose 0 ∷ Times_out 0 (record { 0 = 0 }) ∷ Propose 1 ∷ Propose 2 ∷ Calm 10 ∷ Propose 0 ∷ Calm 10 ∷ []
 
-waits_on : IsInOnePlace (rules_of plain) telling 0 (core next_epoch 0) x
+waits_on : IsInOnePlace easy telling 0 (core next_epoch 0) x
 unfolding core
 waits_on = second (λ h. h) (inl refl) (λ h. h)
 

@@ -1,25 +1,31 @@
 -- The rules of a good set-up are sound.
-use Rattle.std.proofs.Common.{◌≡◌, inl, inr, ℕ, zero, suc, ◌-◌, ◌*◌, ◌+◌, ◌^◌, ◌<◌, ◌≤◌, true, false, eqb, ◌||◌, List, [], ◌∷◌, length, Some, refl, sym, subst, ◌∙◌, arith}
+use Rattle.std.proofs.Common.{◌≡◌, inl, inr, ℕ, zero, suc, ◌-◌, ◌*◌, ◌+◌, ◌^◌, ◌<◌, ◌≤◌, Bool, nat_le, true, false, eqb, ◌||◌, List, [], ◌∷◌, length, Some, refl, sym, subst, ◌∙◌, arith}
+use Rattle.std.proofs.lemmas.Bool.{le-leb}
 use Rattle.std.proofs.lemmas.Bool.Decides.{leb_tells}
 use Rattle.std.specs.List.{list_any}
 use Rattle.iss_base.specs.Lists.{In}
 use Rattle.iss_base.proofs.Lists.{eqb-same}
-use Rattle.iss_keys.specs.Directories.{node_secret}
+use Rattle.iss_keys.specs.Directories.{client_secret, node_secret}
 use Rattle.iss_keys.specs.Signatures.{signature_of}
-use Rattle.iss_keys.proofs.DirectoryLemmas.{node-verifies, verified-by}
+use Rattle.iss_keys.specs.VerifiedBy.{is_verified_by}
+use Rattle.iss_keys.proofs.DirectoryLemmas.{client-verifies, node-verifies, verified-by}
 use Rattle.iss_request.specs.Formats.{requests_most}
 use Rattle.iss_request.specs.Setup.{AreRising}
 use Rattle.iss_request.specs.declared.ids.NodeId.{NodeId}
+use Rattle.iss_request.specs.declared.ids.ReqId.{ReqId}
 use Rattle.iss_request.specs.declared.ids.Slot.{Slot}
+use Rattle.iss_request.specs.declared.requests.Request.{Request}
 use Rattle.iss_request.specs.declared.requests.Value.{Value}
 use Rattle.iss_request.specs.declared.setups.Setup.{Setup}
 use Rattle.iss_layout.specs.Layout.{IsGoodPlan, Plan, first_slot, leads, node, segment, slot_leader}
 use Rattle.iss_layout.proofs.FairLemmas.{few_nodes, good_plan, leads_means, segment_ascending, segment_few, segment_slots, some_slot, turn_in}
 use Rattle.iss_sb.specs.Calls.{AreBelow, IsGoodParams}
 use Rattle.iss_sb.specs.Evidence.{Module}
-use Rattle.iss_model.specs.Concrete.{keys_of, least, number_of, plan_at, rules_of, slots_at, start_at}
+use Rattle.iss_model.specs.Concrete.{keys_of, least, number_of, plan_at, request_statement, rules_of, slots_at, start_at}
 use Rattle.iss_model.specs.Ordered.{IsSoundRules}
 use Rattle.iss_model.specs.Past.{before_at, epoch_at, start_by}
+use Rattle.iss_model.specs.Rules.{Rules}
+use Rattle.iss_model.specs.Run.{request_of}
 use Rattle.iss_model.specs.Runs.{IsSetupOf}
 
 rising-low : (from n : ℕ) (ls : List NodeId) → AreRising from n ls → (l : NodeId) → In l ls → l.0 < n
@@ -114,3 +120,28 @@ module _ {Msg : Type 0} (M : Module Msg) (s : Setup) (h : IsSetupOf M s) where
     batch = subst (λ (v : ℕ). s.batch ≤ requests_most v) (sym h.good.version) h.good.batch_high;
     signers = λ k statement sig v. (verified-by (keys_of s).nodes k statement sig).0 v;
   }
+
+-- rules are as sound under another judgement of requests' signatures
+pub however-signed : {Msg : Type 0} (M : Module Msg) (s : Setup) (R : Rules) (signed : Request → Bool) → IsSoundRules s M R → IsSoundRules s M (record R { signed = signed })
+however-signed M s R signed h = record {
+  some_slots = h.some_slots;
+  most = h.most;
+  leads = h.leads;
+  good = h.good;
+  setup = h.setup;
+  epoch = h.epoch;
+  leader = h.leader;
+  batch = h.batch;
+  signers = h.signers;
+}
+
+-- what a client signs by the leaf of the request's number is signed
+pub request-signed : (s : Setup) (client number : ℕ) (payload : List ℕ) → s.keys ≤ 12 → client < s.clients → number < 2 ^ s.keys → length payload ≤ 256 →
+    (rules_of s).signed (request_of s client number payload) ≡ true
+request-signed s client number payload high below leaf few =
+    let id : ReqId = record { client = client; number = number } in
+    let statement : List ℕ = request_statement id payload in
+    let sig : List ℕ = signature_of (client_secret client) s.keys number statement in
+    let verified : is_verified_by (keys_of s).clients client statement sig ≡ true = (verified-by (keys_of s).clients client statement sig).1 (client-verifies s.n s.clients s.keys client number statement high leaf below) in
+    let short : nat_le (length payload) 256 ≡ true = le-leb (length payload) 256 few in
+    rw short verified

@@ -22,13 +22,13 @@ use Rattle.iss_model.specs.declared.causes.Why.TheVariants.{BadRequest, EarlyFul
 use Rattle.iss_model.specs.Node.{Body, Core, Dropped, Early, early_most, is_known, onward, Formats, OfModule, OfRequest, Parcel, Stepped, Taken, Turn, at_instance, by_verdict, casts_at, ended, first_slot, flown, flying, has_leaves, in_next_epoch, inputs, is_castable, is_mine, is_nil_at, joined, keeps_early, next_slot, returned, rests, settled, settles, step, takes_bytes, takes_each, takes_early, takes_parcel, takes_request, tried, verdict_in}
 use Rattle.iss_model.specs.Past.{Past, advanced, before, before_own, cut_at, is_complete, leads_in, log_of, made_in, params_of, start_of, taken_in, takes}
 use Rattle.iss_model.specs.Rules.{Rules}
-use Rattle.iss_model.proofs.Casts.{cast-asked, log_ids-joined}
+use Rattle.iss_model.proofs.Casts.{cast-asked, log_ids-joined, slot-passes}
 use Rattle.iss_model.proofs.Cuts.{absent-ids, absent-once, cut-ids, cut-once, cut-uncut-apart, uncut-ids, uncut-once}
 use Rattle.iss_model.proofs.Ending.{HasSlots, advanced-later, advanced-log}
 use Rattle.iss_model.proofs.Epochs.{length-cut, start-cut, start-extends, start-mono}
 use Rattle.iss_model.proofs.Filed.{absent-or, cut-or, flight-splits, flown-append, flown-flying, flown-left, flown-once, flown-right, flying-once, in-flying, in-longer, in-returned, joined-in, nil-stays, returned-apart, returned-once}
 use Rattle.iss_model.proofs.Ids.{ids-append, ids-left, ids-once, ids-right, not-has}
-use Rattle.iss_model.proofs.Steps.{undropped}
+use Rattle.iss_model.proofs.Steps.{turn-is, undropped, untaken}
 use Rattle.iss_model.proofs.Logs.{Later, Settled, before-later, evidence-later, log-later, takes-later}
 
 -- what epochs and segments owe: epochs have slots, a slot of a segment is led by its leader, and is of its epoch or an
@@ -41,20 +41,6 @@ pub record HasSegments (R : Rules) : Type 0 where
 pub accepts-append : {Msg : Type 0} (newer xs : List (Item Msg)) (f : Slot × Batch) → In f (accepts xs) → In f (accepts (newer ++ xs))
 accepts-append [] xs f h = h
 accepts-append (y ∷ newer) xs f h = in_right f (one_or_none y.made.accepted) (accepts (newer ++ xs)) (accepts-append newer xs f h)
-
-turn-is : {Msg : Type 0} (a b : Turn Msg) → Taken a ≡ Taken b → b ≡ a
-turn-is a b h = cc
-
-untaken : {Msg : Type 0} (why : Why) (t : Turn Msg) → Dropped why ≡ Taken t → ⊥
-untaken why t h = cc
-
-passes : (p : Slot → Bool) (ss : List Slot) (s : Slot) → first_slot p ss ≡ Some s → In s ss × (p s ≡ true)
-passes p [] s h = absurd (cc)
-passes p (r ∷ ss) s h = go (passes p ss s) (p r) refl h
-  where
-    go : (first_slot p ss ≡ Some s → In s ss × (p s ≡ true)) → (b : Bool) → p r ≡ b → cond b (Some r) (first_slot p ss) ≡ Some s → In s (r ∷ ss) × (p s ≡ true)
-    go ih true q k = let e : s ≡ r = cc in (inl e, rw e q)
-    go ih false q k = let z = ih k in (inr z.0, z.1)
 
 module _ {Msg : Type 0} (R : Rules) (M : Module Msg) (i : ℕ) where
   -- the batch that is cast next, and the core that casts it
@@ -376,7 +362,7 @@ module _ {Msg : Type 0} (R : Rules) (M : Module Msg) (i : ℕ) where
         -- the slot of a cast is of the segment, not in the log, and not cast
         free-slot : (c : Core Msg) (s : Slot) → next_slot R M i c ≡ Some s → In s (params_of R M i c.past i).slots × (length (log_of R M i c.past) ≤ s.0) × (is_castable M (params_of R M i c.past i) i (taken_in c.past i) c.flight s ≡ true)
         free-slot c s q =
-            let k = passes (open_at c) (params_of R M i c.past i).slots s q in
+            let k = slot-passes (open_at c) (params_of R M i c.past i).slots s q in
             let a = and-true (not (nat_lt s.0 (length (log_of R M i c.past)))) _ k.1 in
             let far : length (log_of R M i c.past) ≤ s.0 = elim (leb_tells (suc s.0) (length (log_of R M i c.past))) [ inl t ↦ absurd (true≢false (sym t.0 ∙ not-true _ a.0)) | inr t ↦ omega (arith, t.1) ] in
             (k.0, far, a.1)

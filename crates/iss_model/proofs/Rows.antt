@@ -1,5 +1,6 @@
 -- A turn is a row of small moves: inputs that are taken, and ends of epochs. What each of them keeps holds of what the event led to.
 use Rattle.std.proofs.Common.{◌≡◌, inl, inr, ℕ, suc, Bool, true, false, cond, eqb, List, [], ◌∷◌, ◌++◌, None, refl, sym, ap, ◌∙◌, subst, append_assoc}
+use Rattle.std.proofs.lemmas.List.{append-nil}
 use Rattle.iss_base.specs.Lists.{In}
 use Rattle.iss_base.proofs.Lists.{is-eq}
 use Rattle.iss_sb.specs.declared.effects.Claim.{Claim}
@@ -12,10 +13,6 @@ use Rattle.iss_model.specs.Past.{is_complete, leads_in, params_of}
 use Rattle.iss_model.specs.Rules.{Rules}
 use Rattle.iss_model.proofs.Steps.{IsInput, input-taken}
 
-append-nothing : {A : Type 0} (xs : List A) → xs ++ [] ≡ xs
-append-nothing [] = refl
-append-nothing (x ∷ xs) = ap (λ ys. x ∷ ys) (append-nothing xs)
-
 turn-same : {Msg : Type 0} (c : Core Msg) (a b : List (To × List ℕ)) (d e : List Claim) (f g : List (List ℕ)) → a ≡ b → d ≡ e → f ≡ g →
     ◌≡◌ {A = Turn Msg} (record { core = c; sends = a; own = d; strings = f }) (record { core = c; sends = b; own = e; strings = g })
 turn-same c a b d e f g p q r =
@@ -24,7 +21,7 @@ turn-same c a b d e f g p q r =
 
 -- rows may be cut anywhere
 pub onward-rests : {Msg : Type 0} (t : Turn Msg) → onward t rests ≡ t
-onward-rests t = turn-same t.core (t.sends ++ []) t.sends (t.own ++ []) t.own (t.strings ++ []) t.strings (append-nothing t.sends) (append-nothing t.own) (append-nothing t.strings)
+onward-rests t = turn-same t.core (t.sends ++ []) t.sends (t.own ++ []) t.own (t.strings ++ []) t.strings (append-nil t.sends) (append-nil t.own) (append-nil t.strings)
 
 pub onward-onward : {Msg : Type 0} (t : Turn Msg) (f g : Core Msg → Turn Msg) → onward t (λ c. onward (f c) g) ≡ onward (onward t f) g
 onward-onward t f g =

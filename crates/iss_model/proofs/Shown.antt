@@ -2,7 +2,7 @@
 -- the book has each claim that a correct node sent of its own.
 use Rattle.std.proofs.Common.{◌≡◌, inl, inr, ℕ, Bool, true, false, cond, eqb, not, ◌&&◌, List, [], ◌∷◌, ◌++◌, Some, refl, sym, ap, ◌∙◌, subst, true≢false}
 use Rattle.iss_base.specs.Lists.{In, over, same_bytes}
-use Rattle.iss_base.proofs.Lists.{and-true, eqb-same, first-cases, in_left, in_right, not-true, same_bytes-is, same_bytes-refl}
+use Rattle.iss_base.proofs.Lists.{and-true, eqb-same, first-cases, in_left, in_right, not-true, same_bytes-is, same_bytes-refl, some-injective}
 use Rattle.iss_request.specs.Digest.{digest}
 use Rattle.iss_request.specs.declared.setups.Setup.{Setup}
 use Rattle.iss_sb.specs.declared.effects.Claim.{Claim}
@@ -33,9 +33,6 @@ pub record IsForgery (s : Setup) (R : Rules) (book : List Signed) (claims : List
   pub correct : is_correct s c.by.0 ≡ true
   pub absent : In (record { by = c.by.0; statement = c.statement }) book → ⊥
 
-some-same : {A : Type 0} (x y : A) → Some x ≡ Some y → x ≡ y
-some-same x y h = cc
-
 pub forged-shown : (s : Setup) (R : Rules) (book : List Signed) (claims : List Claim) (c : Claim) → first_forged s R book claims ≡ Some c → IsForgery s R book claims c
 forged-shown s R book [] c h = absurd (cc)
 forged-shown s R book (d ∷ ds) c h = go (is_forged s R book d) refl h (forged-shown s R book ds c)
@@ -47,7 +44,7 @@ forged-shown s R book (d ∷ ds) c h = go (is_forged s R book d) refl h (forged-
         record { held = inl refl; verifies = a.0; correct = b.0; absent = λ k. true≢false (sym (in-has d.by.0 d.statement book k) ∙ not-true (has_signed d.by.0 d.statement book) b.1) }
 
     go : (b : Bool) → is_forged s R book d ≡ b → cond b (Some d) (first_forged s R book ds) ≡ Some c → (first_forged s R book ds ≡ Some c → IsForgery s R book ds c) → IsForgery s R book (d ∷ ds) c
-    go true q k ih = subst (λ (z : Claim). IsForgery s R book (d ∷ ds) z) (some-same d c k) (here q)
+    go true q k ih = subst (λ (z : Claim). IsForgery s R book (d ∷ ds) z) (some-injective d c k) (here q)
     go false q k ih = let r = ih k in record { held = inr r.held; verifies = r.verifies; correct = r.correct; absent = r.absent }
 
 -- two strings that end a run: the second is one of the step's, and the first stood in the book when it came
@@ -84,7 +81,7 @@ with-shown x (y ∷ book) a b h = go (is_collision y x) refl h (with-shown x boo
         }
 
     go : (t : Bool) → is_collision y x ≡ t → cond t (Some (Collision y x)) (collision_with x book) ≡ Some (Collision a b) → (collision_with x book ≡ Some (Collision a b) → Collides book x a b) → Collides (y ∷ book) x a b
-    go true q k ih = let e = ends-same y x a b (some-same _ _ k) in rw (← e.0, ← e.1) (here q)
+    go true q k ih = let e = ends-same y x a b (some-injective _ _ k) in rw (← e.0, ← e.1) (here q)
     go false q k ih = let r = ih k in record { is = r.is; booked = inr r.booked; same = r.same; different = r.different }
 
 pub collision-shown : (xs book : List (List ℕ)) (a b : List ℕ) → collision_in xs book ≡ Some (Collision a b) → AreColliding xs book a b

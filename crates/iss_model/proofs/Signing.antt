@@ -34,11 +34,10 @@ use Rattle.iss_model.specs.Concrete.{rules_of}
 use Rattle.iss_model.specs.Ordered.{Among, Ordered}
 use Rattle.iss_model.specs.Past.{Past, log_of, newborn, takes}
 use Rattle.iss_model.specs.Rules.{Rules}
-use Rattle.iss_model.specs.Run.{stand_in}
 use Rattle.iss_model.specs.Runs.{IsSetupOf}
 use Rattle.iss_model.proofs.Checkpoints.{exact-of}
 use Rattle.iss_model.proofs.Ends.{correct-below}
-use Rattle.iss_model.proofs.Layouts.{sound-rules}
+use Rattle.iss_model.proofs.Layouts.{however-signed, sound-rules}
 use Rattle.iss_model.proofs.Reached.{composition}
 
 abbrev pub Word : Type 0
@@ -252,8 +251,9 @@ setup-good = record {
 setup-of : IsSetupOf signing alone
 setup-of = record { good = setup-good; tag = refl; kind = refl; nodes = refl; majority = refl }
 
+-- every request counts as signed, since nothing computes with keys
 abbrev R : Rules
-R = rules_of alone
+R = record (rules_of alone) { signed = λ q. true }
 
 abbrev S : Scheme
 S = scheme_of alone
@@ -262,7 +262,7 @@ abbrev slot : Slot
 slot = record { 0 = 0 }
 
 abbrev batch : Batch
-batch = record { id = record { client = 0; number = 0 }; payload = 170 ∷ []; sig = stand_in 4 0 } ∷ []
+batch = record { id = record { client = 0; number = 0 }; payload = 170 ∷ []; sig = 4 ∷ replicate 2276 0 } ∷ []
 
 abbrev casts : Input Word
 casts = Cast slot batch
@@ -393,4 +393,4 @@ vote-booked = (inl refl, refl)
 
 -- what holds of every cluster that moves lead to holds of this one, whose log is one batch
 pub alone-ordered : Ordered alone R signing third_net.pasts × (log_of R signing 0 (third_net.pasts 0) ≡ Holds batch ∷ [])
-alone-ordered = (composition alone S R signing safe lawful (sound-rules signing alone setup-of) third_net (exact-of alone setup-good third_net) separate reached, log-end)
+alone-ordered = (composition alone S R signing safe lawful (however-signed signing alone (rules_of alone) R.signed (sound-rules signing alone setup-of)) third_net (exact-of alone setup-good third_net) separate reached, log-end)

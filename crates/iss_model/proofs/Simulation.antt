@@ -2,7 +2,7 @@
 use Rattle.std.proofs.Common.{◌≡◌, ◌≢◌, ◌⊎◌, inl, inr, ℕ, zero, suc, ◌<◌, Bool, true, false, cond, not, List, [], ◌∷◌, ◌++◌, Option, Some, None, refl, sym, ap, ◌∙◌, subst, arith, nat_lt, true≢false}
 use Rattle.std.proofs.lemmas.Bool.Decides.{leb_tells}
 use Rattle.iss_base.specs.Lists.{In, nth, set_at}
-use Rattle.iss_base.proofs.Lists.{both, in_append, in_left, in_right, nth-in, same_or_not, set_at-other, set_at-same, set_at2-same}
+use Rattle.iss_base.proofs.Lists.{both, in_append, in_left, in_right, none-some, nth-in, same_or_not, set_at-other, set_at-same, set_at2-same, some-injective}
 use Rattle.iss_network.specs.Network.{Network, cleared, due, held_to, settled}
 use Rattle.iss_network.specs.declared.packets.Sent.{Sent}
 use Rattle.iss_request.specs.Setup.{IsFewFaulty}
@@ -38,7 +38,7 @@ use Rattle.iss_model.proofs.Logs.{Later, Settled, later-refl, log-later, takes-l
 use Rattle.iss_model.proofs.Posts.{in-below, posted-append, posted-in, told, told-is}
 use Rattle.iss_model.proofs.Rows.{IsFit, first-holds, settles-holds, then_ends, then_takes}
 use Rattle.iss_model.proofs.Steps.{IsInput, Took, asked, cast, casting, fired, kept, next_batch, received, took}
-use Rattle.iss_model.proofs.Unvoted.{Grows, grows-same, grows-trans, none-some, run-string-later, some-is, unvoted, unvoted-strings}
+use Rattle.iss_model.proofs.Unvoted.{Grows, grows-same, grows-trans, run-string-later, unvoted, unvoted-strings}
 
 module _ {Msg : Type 0} (s : Setup) (F : Formats Msg) (R : Rules) (M : Module Msg) (sound : IsSoundRules s M R) (stops : M.stopping ≡ true) (faithful : IsFaithful s F M) (law : IsLawful M) where
   -- where nodes only stop, all are correct
@@ -387,14 +387,14 @@ module _ {Msg : Type 0} (s : Setup) (F : Formats Msg) (R : Rules) (M : Module Ms
     -- bytes that were written for a request give no message of a module
     request-legit : (w : Net Msg) (nk : NetOk w) (i : ℕ) (low : i < s.n) (q : Request) → Legit w nk i low (Gets (F.wrap (record { from = 255; epoch = 0; body = OfRequest q })))
     request-legit w nk i low q k l msg u b = elim (faithful.requests q) [
-      | inl y ↦ absurd (let e : k ≡ record { from = 255; epoch = 0; body = OfRequest q } = sym (some-is _ k (sym y ∙ u)) in let z : OfRequest q ≡ OfModule l msg = sym (ap (λ (p : Parcel Msg). p.body) e) ∙ b in cc)
+      | inl y ↦ absurd (let e : k ≡ record { from = 255; epoch = 0; body = OfRequest q } = sym (some-injective _ k (sym y ∙ u)) in let z : OfRequest q ≡ OfModule l msg = sym (ap (λ (p : Parcel Msg). p.body) e) ∙ b in cc)
       | inr y ↦ absurd (none-some k (sym y ∙ u))
     ]
 
     packet-legit : (w : Net Msg) (nk : NetOk w) (p : Sent) (h : IsWrapped nk.messages p) → Legit w nk p.to h.low_to (Gets p.bytes)
     packet-legit w nk p h k l msg u b = elim (faithful.messages h.from h.epoch h.leader h.msg h.low_from h.low_leader) [
       | inl y ↦
-          let e : k ≡ record { from = h.from; epoch = h.epoch; body = OfModule h.leader h.msg } = sym (some-is _ k (sym y ∙ (sym (ap F.unwrap h.bytes) ∙ u))) in
+          let e : k ≡ record { from = h.from; epoch = h.epoch; body = OfModule h.leader h.msg } = sym (some-injective _ k (sym y ∙ (sym (ap F.unwrap h.bytes) ∙ u))) in
           let z : OfModule h.leader h.msg ≡ OfModule l msg = sym (ap (λ (p : Parcel Msg). p.body) e) ∙ b in
           let l2 : h.leader ≡ l = cc in
           let m2 : h.msg ≡ msg = cc in

@@ -19,10 +19,10 @@ use Rattle.iss_model.specs.Node.{Body, Core, Dropped, Early, Formats, OfModule, 
 use Rattle.iss_model.specs.Past.{asked_in, before, params_of}
 use Rattle.iss_model.specs.Rules.{Rules}
 
-turn-is : {Msg : Type 0} (a b : Turn Msg) → Taken a ≡ Taken b → b ≡ a
+pub turn-is : {Msg : Type 0} (a b : Turn Msg) → Taken a ≡ Taken b → b ≡ a
 turn-is a b h = cc
 
-untaken : {Msg : Type 0} (why : Why) (t : Turn Msg) → Dropped why ≡ Taken t → ⊥
+pub untaken : {Msg : Type 0} (why : Why) (t : Turn Msg) → Dropped why ≡ Taken t → ⊥
 untaken why t h = cc
 
 -- a test that dropped nothing

@@ -1,7 +1,7 @@
 -- A run of a module that signs, as long as it has not ended, is a chain of moves of a cluster with that run's book.
 use Rattle.std.proofs.Common.{◌≡◌, inl, inr, ℕ, ◌<◌, zero, suc, Bool, true, false, cond, List, [], ◌∷◌, ◌++◌, Option, Some, None, refl, sym, ap, ◌∙◌, subst, true≢false}
 use Rattle.iss_base.specs.Lists.{In, nth}
-use Rattle.iss_base.proofs.Lists.{nth-in}
+use Rattle.iss_base.proofs.Lists.{none-some, nth-in, some-injective}
 use Rattle.iss_network.specs.Network.{Network, due, settled}
 use Rattle.iss_network.specs.declared.packets.Sent.{Sent}
 use Rattle.iss_request.specs.declared.requests.Request.{Request}
@@ -22,7 +22,7 @@ use Rattle.iss_model.specs.Sound.{AreWindows}
 use Rattle.iss_model.specs.Tested.{Course, End, Going, Held, at_tested, begin_tested, calms_tested, delivers_tested, delivers_tested_to, each_tested, goes_further, happens_tested, loses_tested, on_net, pumps_tested, run_tested, still, unless}
 use Rattle.iss_model.proofs.Casts.{idle-ready}
 use Rattle.iss_model.proofs.Reached.{composition}
-use Rattle.iss_model.proofs.Unvoted.{Grows, grows-trans, none-some, some-is, unvoted}
+use Rattle.iss_model.proofs.Unvoted.{Grows, grows-trans, unvoted}
 use Rattle.iss_model.proofs.Statements.{apart}
 use Rattle.iss_model.proofs.TestedTurns.{Comes-in, Fits as FitsBy, IsPosted, at-fits, at-grows, same-net, view}
 
@@ -74,7 +74,7 @@ module _ {Msg : Type 0} (s : Setup) (F : Formats Msg) (R : Rules) (M : Module Ms
       carried : (y : Posted ok.messages p) (k : Parcel Msg) (l : ℕ) (msg : Msg) → F.unwrap p.bytes ≡ Some k → k.body ≡ OfModule l msg → In (record { from = k.from; to = p.to; epoch = k.epoch; leader = l; msg = msg }) ok.messages
       carried y k l msg u b = elim (faithful.messages y.from y.epoch y.leader y.msg y.low_from y.low_leader) [
         | inl z ↦
-            let e : k ≡ record { from = y.from; epoch = y.epoch; body = OfModule y.leader y.msg } = sym (some-is _ k (sym z ∙ (sym (ap F.unwrap y.bytes) ∙ u))) in
+            let e : k ≡ record { from = y.from; epoch = y.epoch; body = OfModule y.leader y.msg } = sym (some-injective _ k (sym z ∙ (sym (ap F.unwrap y.bytes) ∙ u))) in
             let same : OfModule y.leader y.msg ≡ OfModule l msg = sym (ap (λ (x : Parcel Msg). x.body) e) ∙ b in
             let l2 : y.leader ≡ l = cc in
             let m2 : y.msg ≡ msg = cc in
@@ -87,7 +87,7 @@ module _ {Msg : Type 0} (s : Setup) (F : Formats Msg) (R : Rules) (M : Module Ms
   request-comes h ok i low q = record {
     low = λ st. low;
     legit = λ st k l msg u b. elim (faithful.requests q) [
-      | inl y ↦ absurd (let e : k ≡ record { from = 255; epoch = 0; body = OfRequest q } = sym (some-is _ k (sym y ∙ u)) in let z : OfRequest q ≡ OfModule l msg = sym (ap (λ (p : Parcel Msg). p.body) e) ∙ b in cc)
+      | inl y ↦ absurd (let e : k ≡ record { from = 255; epoch = 0; body = OfRequest q } = sym (some-injective _ k (sym y ∙ u)) in let z : OfRequest q ≡ OfModule l msg = sym (ap (λ (p : Parcel Msg). p.body) e) ∙ b in cc)
       | inr y ↦ absurd (none-some k (sym y ∙ u))
     ];
   }

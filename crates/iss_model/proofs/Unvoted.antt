@@ -29,12 +29,6 @@ unvoted-exact s pasts messages strings = record {
   quorums = λ ks h. absurd (true≢false (sym h));
 }
 
-pub some-is : {A : Type 0} (x t : A) → Some x ≡ Some t → x ≡ t
-some-is x t h = cc
-
-pub none-some : {A : Type 0} (t : A) → None ≡ Some t → ⊥
-none-some t h = cc
-
 -- strings of the instances stay
 pub run-string-later : {Msg : Type 0} (s : Setup) (R : Rules) (u v : ℕ → Past Msg) → ((j : ℕ) → Later R (u j) (v j)) → (x : List ℕ) → IsRunString s u x → IsRunString s v x
 run-string-later {Msg} s R u v later x (e, l, inl q) = (e, l, inl q)

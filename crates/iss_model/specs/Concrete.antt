@@ -1,10 +1,13 @@
 -- The rules of a cluster under its set-up.
-use Rattle.std.specs.Prelude.{ℕ, zero, suc, ◌-◌, ◌^◌, List, cond, nat_le, nat_lt, Option, Some, None}
+use Rattle.std.specs.Prelude.{ℕ, zero, suc, ◌-◌, ◌^◌, ◌&&◌, Bool, List, ◌∷◌, ◌++◌, length, cond, nat_le, Option, Some, None}
+use Rattle.std.specs.Int.{to_be_bytes, w16, w32}
 use Rattle.iss_keys.specs.Directories.{DirectoryView, directory_of}
 use Rattle.iss_keys.specs.VerifiedBy.{is_verified_by}
 use Rattle.iss_layout.specs.Layout.{Plan, bucket_of, bucket_owner, leads, plan_of, segment, slot_leader}
 use Rattle.iss_request.specs.Log.{log_ids}
 use Rattle.iss_request.specs.declared.ids.NodeId.{NodeId}
+use Rattle.iss_request.specs.declared.ids.ReqId.{ReqId}
+use Rattle.iss_request.specs.declared.requests.Request.{Request}
 use Rattle.iss_request.specs.declared.requests.Value.{Value}
 use Rattle.iss_request.specs.declared.setups.Setup.{Setup}
 use Rattle.iss_window.specs.Window.{is_inside, place_of}
@@ -36,7 +39,15 @@ plan_at s log e = plan_of s e (start_at s log e) log
 abbrev pub keys_of : Setup → DirectoryView
 keys_of s = directory_of s.n s.clients s.keys
 
--- epochs are divided by the layout, and nodes sign by their keys. A request is signed where its client exists
+-- what a client signs: a byte that no other statement begins with, who it is, the request's number, and the payload behind its length
+abbrev pub request_statement : ReqId → List ℕ → List ℕ
+request_statement id payload = 0x30 ∷ id.client ∷ to_be_bytes w32 id.number ++ to_be_bytes w16 (length payload) ++ payload
+
+-- whether a request is signed by its client. No statement has a payload of more than 256 bytes
+abbrev pub is_signed_by : DirectoryView → Request → Bool
+is_signed_by d q = nat_le (length q.payload) 256 && is_verified_by d.clients q.id.client (request_statement q.id q.payload) q.sig
+
+-- epochs are divided by the layout, and nodes and clients sign by their keys
 abbrev pub rules_of : Setup → Rules
 rules_of s =
     record {
@@ -45,7 +56,7 @@ rules_of s =
       leader = λ log e slot. number_of (slot_leader (plan_at s log e) slot);
       leads = λ log e l. leads (plan_at s log e) l;
       owner = λ log e id. number_of (bucket_owner (plan_at s log e) (bucket_of (plan_at s log e) id));
-      signed = λ q. nat_lt q.id.client s.clients;
+      signed = λ q. is_signed_by (keys_of s) q;
       inside = λ log e id. is_inside (place_of s.window (log_ids log) id);
       batch = s.batch;
       verifies = λ k statement sig. is_verified_by (keys_of s).nodes k statement sig;

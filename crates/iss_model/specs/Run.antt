@@ -1,9 +1,11 @@
 -- All cores over a whole schedule.
-use Rattle.std.specs.Prelude.{ℕ, zero, suc, ◌+◌, ◌*◌, cond, true, false, List, [], ◌∷◌, ◌++◌, Option, Some, None, replicate}
-use Rattle.std.specs.Int.{to_be_bytes, w32}
+use Rattle.std.specs.Prelude.{ℕ, zero, suc, cond, true, false, List, [], ◌∷◌, Option, Some, None}
 use Rattle.iss_base.specs.Lists.{below, nth, set_at}
+use Rattle.iss_keys.specs.Directories.{client_secret}
+use Rattle.iss_keys.specs.Signatures.{signature_of}
 use Rattle.iss_network.specs.Network.{Network, cleared, due, empty_network, held_to, posted, settled}
 use Rattle.iss_network.specs.declared.packets.Sent.{Sent}
+use Rattle.iss_request.specs.declared.ids.ReqId.{ReqId}
 use Rattle.iss_request.specs.declared.requests.Request.{Request}
 use Rattle.iss_request.specs.declared.setups.Setup.{Setup}
 use Rattle.iss_sb.specs.declared.effects.To.{To}
@@ -15,6 +17,7 @@ use Rattle.iss_model.specs.declared.causes.NodeEvent.{NodeEvent}
 use Rattle.iss_model.specs.declared.causes.NodeEvent.TheVariants.{Packet as Gets, Propose as Proposes, Timeout as Fires}
 use Rattle.iss_model.specs.declared.causes.Why.{Why}
 use Rattle.iss_model.specs.declared.causes.Why.TheVariants.{NoPacket}
+use Rattle.iss_model.specs.Concrete.{request_statement}
 use Rattle.iss_model.specs.Node.{Core, Formats, OfRequest, Stepped, Dropped, Taken, idle, step}
 use Rattle.iss_model.specs.Rules.{Rules}
 
@@ -76,12 +79,11 @@ abbrev pub loses : {Msg : Type 0} → Net Msg → ℕ → Option Sent → Happen
 loses w k None = record { net = w; lost = Some NoPacket }
 loses w k (Some p) = done (record w { network = settled w.network k })
 
--- until requests are signed: the shape of a signature, with the leaf's number and zero bytes
-abbrev pub stand_in : ℕ → ℕ → List ℕ
-stand_in height leaf = height ∷ to_be_bytes w32 leaf ++ replicate (2144 + 32 * height) 0
-
+-- a request that its client signed, by the leaf of the request's number
 abbrev pub request_of : Setup → ℕ → ℕ → List ℕ → Request
-request_of s client number payload = record { id = record { client = client; number = number }; payload = payload; sig = stand_in s.keys number }
+request_of s client number payload =
+    let id : ReqId = record { client = client; number = number } in
+    record { id = id; payload = payload; sig = signature_of (client_secret client) s.keys number (request_statement id payload) }
 
 -- bytes from nowhere reach a core only where nodes may do anything
 abbrev pub injects : {Msg : Type 0} → ℕ → Formats Msg → Rules → Module Msg → Net Msg → ℕ → List ℕ → Happening Msg

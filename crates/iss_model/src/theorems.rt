@@ -1,15 +1,18 @@
 //! The theorems of the whole, each as a call without a body: who calls it may use what it says.
-ghost use Rattle.std.specs.Prelude.{◌≡◌, true, List};
+ghost use Rattle.std.specs.Prelude.{◌≡◌, ◌<◌, ◌≤◌, ◌^◌, ℕ, true, List, length};
+ghost use Rattle.iss_request.specs.Setup.{IsGoodSetup};
 ghost use Rattle.iss_request.specs.declared.setups.Setup.{Setup};
 ghost use Rattle.iss_sb.specs.Evidence.{Separate};
 ghost use Rattle.iss_schedule.specs.declared.schedules.Event.{Event};
 ghost use Rattle.iss_model.specs.Checkpoints.{scheme_of};
 ghost use Rattle.iss_model.specs.Cluster.{Cluster, Reach, Scheme};
+ghost use Rattle.iss_model.specs.Concrete.{rules_of};
 ghost use Rattle.iss_model.specs.Conserved.{AcceptsOnce, IsConserved, IsConservedWhereTested};
 ghost use Rattle.iss_model.specs.OneLog.{IsClusterRun, OnlyGrows};
 ghost use Rattle.iss_model.specs.Ordered.{Among, IsExact, IsSoundRules, Ordered};
 ghost use Rattle.iss_model.specs.Rules.{Rules};
 ghost use Rattle.iss_model.specs.Printed.{IsSeparateRun};
+ghost use Rattle.iss_model.specs.Run.{request_of};
 ghost use Rattle.iss_model.specs.Runs.{AreAtNodes, HashesNothing, IsSetupOf};
 ghost use Rattle.iss_model.specs.TestedLog.{IsOneTestedLog, IsTestedRun};
 
@@ -63,3 +66,9 @@ pub fn requests_are_conserved<M: Sequenced>()
 {
     M::laws();
 }
+
+/// What a schedule asks for is signed: a node of the cluster refuses no such request for its signature.
+pub fn requests_are_signed()
+    ensures { (s : Setup) (client number : ℕ) (payload : List ℕ) → IsGoodSetup s → client < s.clients → number < 2 ^ s.keys → length payload ≤ 256 →
+        (rules_of s).signed (request_of s client number payload) ≡ true }
+{}

@@ -1,6 +1,7 @@
 //! What becomes of clients' requests at a node.
 ghost use Rattle.std.specs.Prelude.{◌≡◌, ◌++◌, ◌∷◌, ◌||◌, [], List, IfOk, OnOk, false, length, reverse};
 ghost use Rattle.iss_buckets.specs.Waiting.{AreNew, absent};
+ghost use Rattle.iss_model.specs.Concrete.{rules_of};
 ghost use Rattle.iss_model.specs.Node.{returned, takes_request};
 ghost use Rattle.iss_node.specs.Flights.{IsLanded};
 ghost use Rattle.iss_node.specs.Inputs.{AreLogged, HasLanded};
@@ -30,7 +31,7 @@ impl<M: Sequenced> Replica<M> {
         ensures answer { IfOk result (λ a. IsStepOf M.meaning M.stands self.old (λ F R me c. takes_request R M.meaning me c request) self.new a) }
         ensures later { IsLater self.old self.new }
     {
-        if !is_signed(&self.setup, &request) {
+        if !self.is_signed(&request) {
             return Ok(Stepped::Dropped(Why::BadRequest));
         }
         if self.knows(request.id) {
@@ -43,6 +44,13 @@ impl<M: Sequenced> Replica<M> {
         Ok(Stepped::Taken(Outcome {
             sends: Row::new(alloc),
         }))
+    }
+
+    // Whether a request's client signed it.
+    fn is_signed(&self, request: &Request) -> bool
+        ensures { result ≡ (rules_of self.now.setup).signed request.now }
+    {
+        is_signed(self.directory.directory(), request)
     }
 
     // Whether a request waits, is in flight, or is in the log.

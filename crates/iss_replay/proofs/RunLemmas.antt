@@ -20,6 +20,7 @@ use Rattle.iss_request.specs.declared.setups.Setup.{Setup}
 use Rattle.iss_sb.specs.declared.effects.Params.{Params}
 use Rattle.iss_sb.specs.Evidence.{Item, Module}
 use Rattle.iss_network.proofs.Keeping.{any_default}
+use Rattle.iss_world.proofs.HeadlineLemmas.{run-append}
 use Rattle.iss_world.proofs.PostLemmas.{take-next}
 use Rattle.iss_world.specs.Stands.{HasHappened}
 use Rattle.iss_world.specs.State.{WorldState}
@@ -58,10 +59,6 @@ one-line-more out now later ds i d lt a b =
     ∙ lines-next out ds i (get_or ds i d) lt (any_default ds i d (get_or ds i d) lt)
 
 module _ {M Msg : Type 0} (m : Module Msg) (stands : M → Params → ℕ → List (Item Msg) → Type 0) where
-  run-append : (s : Setup) (F : Formats Msg) (R : Rules) (p : Progress Msg) (es fs : List Event) → run s F R m p (es ++ fs) ≡ run s F R m (run s F R m p es) fs
-  run-append s F R p [] fs = refl
-  run-append s F R p (e ∷ es) fs = run-append s F R (goes_on s F R m p e) es fs
-
   run-count : (s : Setup) (F : Formats Msg) (R : Rules) (p : Progress Msg) (es : List Event) → (run s F R m p es).event ≡ p.event + length es
   run-count s F R p [] = omega arith
   run-count s F R p (e ∷ es) = run-count s F R (goes_on s F R m p e) es ∙ omega arith
@@ -94,7 +91,7 @@ module _ {M Msg : Type 0} (m : Module Msg) (stands : M → Params → ℕ → Li
       let there : StandsForRun m stands later drops (goes_on s (formats_of s m) (rules_of s) m (run_of s m (take i es)) e) =
       subst (λ (u : Setup). StandsForRun m stands later drops (goes_on u (formats_of u m) (rules_of u) m (run_of s m (take i es)) e)) same h in
       subst (λ (p : Progress Msg). StandsForRun m stands later drops p)
-      (sym (run-append s (formats_of s m) (rules_of s) (begin_run s.n) (take i es) (e ∷ [])) ∙ ap (λ (fs : List Event). run_of s m fs) (sym (take-next es i e lt is)))
+      (sym (run-append m s (formats_of s m) (rules_of s) (begin_run s.n) (take i es) (e ∷ [])) ∙ ap (λ (fs : List Event). run_of s m fs) (sym (take-next es i e lt is)))
       there
 
   -- one block more

@@ -140,5 +140,29 @@ judged s plan windows leader marked batch a b c d e f h before epoch r =
     (h.ordered before r.noted)
     h.doubled)
 
+module _ (s : Setup) (plan : Plan) (windows : Kept) (leader : ℕ) (marked : List ReqId) (batch : List Request)
+    (large : nat_lt s.batch (length batch) ≡ false)
+    (foreign : any (λ (q : Request). not (number_of (bucket_owner plan (bucket_of plan q.id)) == leader)) batch ≡ false) where
+  -- where a request is not signed, what is behind that test is not asked
+  pub judged-unsigned : any (λ (q : Request). not ((rules_of s).signed q)) batch ≡ true →
+      (before : List Value) (epoch : ℕ) → RestsOn s before epoch plan windows → Some BadSignature ≡ judge (rules_of s) before epoch leader marked batch
+  judged-unsigned unsigned before epoch r =
+      sym (first-cause _ false _ false _ true _ _ _ _ _ _
+      large
+      (subst (λ (p : Plan). any (λ (q : Request). not (number_of (bucket_owner p (bucket_of p q.id)) == leader)) batch ≡ false) r.divided foreign)
+      unsigned refl refl refl)
+
+  -- nor where a number is outside its window
+  pub judged-outside : any (λ (q : Request). not ((rules_of s).signed q)) batch ≡ false →
+      ((before : List Value) → StandsFor windows (noted_before before) → any (λ (q : Request). not (is_inside (place_of windows.width (log_ids before) q.id))) batch ≡ true) →
+      (before : List Value) (epoch : ℕ) → RestsOn s before epoch plan windows → Some OutOfWindow ≡ judge (rules_of s) before epoch leader marked batch
+  judged-outside signed outside before epoch r =
+      sym (first-cause _ false _ false _ false _ true _ _ _ _
+      large
+      (subst (λ (p : Plan). any (λ (q : Request). not (number_of (bucket_owner p (bucket_of p q.id)) == leader)) batch ≡ false) r.divided foreign)
+      signed
+      (subst (λ (w : ℕ). any (λ (q : Request). not (is_inside (place_of w (log_ids before) q.id))) batch ≡ true) r.width (outside before r.noted))
+      refl refl)
+
 pub not-large : (most n : ℕ) → n ≤ most → nat_lt most n ≡ false
 not-large most n small = grind (arith, nat_tests)

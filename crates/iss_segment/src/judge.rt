@@ -2,7 +2,7 @@
 ghost use Rattle.std.specs.Prelude.{◌≡◌, ◌<◌, ◌≤◌, ◌==◌, ◌||◌, ℕ, List, not, length, drop};
 ghost use Rattle.iss_segment.specs.Marks.{twice};
 ghost use Rattle.iss_layout.specs.Layout.{bucket_of, bucket_owner};
-ghost use Rattle.iss_model.specs.Concrete.{number_of, rules_of};
+ghost use Rattle.iss_model.specs.Concrete.{is_signed_by, keys_of, number_of, rules_of};
 ghost use Rattle.iss_model.specs.Judge.{any, any_marked, judge};
 ghost use Rattle.iss_request.specs.Log.{has_id, ids, log_ids, same_id};
 ghost use Rattle.iss_request.specs.declared.requests.Request.{Request};
@@ -11,7 +11,9 @@ ghost use Rattle.iss_segment.specs.Ground.{RestsOn, noted_before};
 ghost use Rattle.iss_window.specs.Kept.{StandsFor};
 ghost use Rattle.iss_window.specs.Window.{is_inside, place_of};
 
+use crate::signatures::is_signed;
 use iss_ids::Ids;
+use iss_keys::Directory;
 use iss_layout::Layout;
 use iss_model::Refusal;
 use iss_request::{NodeId, ReqId, Request, Setup};
@@ -21,12 +23,14 @@ use iss_window::{Place, Windows};
 /// are the identities that were accepted there before.
 pub fn refusal(
     setup: &Setup,
+    directory: &Directory,
     layout: &Layout,
     windows: &Windows,
     leader: NodeId,
     marked: &Ids,
     batch: &[Request],
 ) -> Option<Refusal>
+    requires { directory.now ≡ keys_of setup.now }
     ensures { (before : List Value) (e : ℕ) → RestsOn setup.now before e layout.now windows.now →
         result ≡ judge (rules_of setup.now) before e leader.0 marked.now batch.now }
 {
@@ -34,7 +38,7 @@ pub fn refusal(
         Some(Refusal::TooLarge)
     } else if is_any_foreign(layout, leader, batch) {
         Some(Refusal::ForeignBucket)
-    } else if is_any_unsigned(setup, batch) {
+    } else if is_any_unsigned(directory, batch) {
         Some(Refusal::BadSignature)
     } else if is_any_outside(windows, batch) {
         Some(Refusal::OutOfWindow)
@@ -45,13 +49,6 @@ pub fn refusal(
     } else {
         None
     }
-}
-
-/// Whether the client of a request exists. What it signed is not verified yet.
-pub fn is_signed(setup: &Setup, request: &Request) -> bool
-    ensures { result ≡ (rules_of setup.now).signed request.now }
-{
-    (request.id.client as u32) < setup.clients
 }
 
 // Whether the bucket of a request is another node's.
@@ -77,10 +74,11 @@ fn owner(layout: &Layout, id: ReqId) -> NodeId
     layout.owner_of(layout.bucket_of(id))
 }
 
-fn is_any_unsigned(setup: &Setup, batch: &[Request]) -> bool
-    ensures { result ≡ any (λ (q : Request). not ((rules_of setup.now).signed q)) batch.now }
+// Whether a request's signature is not its client's.
+fn is_any_unsigned(directory: &Directory, batch: &[Request]) -> bool
+    ensures { result ≡ any (λ (q : Request). not (is_signed_by directory.now q)) batch.now }
 {
-    batch.iter().any(|request| !is_signed(setup, request))
+    batch.iter().any(|request| !is_signed(directory, request))
 }
 
 // Whether a number is outside its client's window.

@@ -5,6 +5,7 @@
 
 pub mod judge;
 pub mod segment;
+pub mod signatures;
 
-pub use judge::is_signed;
 pub use segment::{Halt, Segment};
+pub use signatures::{is_signed, sign_request};

@@ -108,6 +108,7 @@ impl<M: Sequenced> Segment<M> {
     {
         refusal(
             &self.params.setup,
+            self.params.directory.directory(),
             layout,
             windows,
             self.params.leader,

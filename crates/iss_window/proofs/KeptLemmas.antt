@@ -3,9 +3,10 @@ use Rattle.std.proofs.Common.{◌≡◌, ◌≢◌, ⊎_elim, ℕ, zero, suc, �
 use Rattle.std.proofs.lemmas.Bool.Decides.{nat_tests}
 use Rattle.std.proofs.lemmas.List.{get_or-set_same, get_or-set_other, length-set}
 use Rattle.std.specs.List.{list_any}
-use Rattle.iss_base.proofs.Lists.{eqb-same, eqb-other, is-eq, same_or_not}
+use Rattle.iss_base.proofs.Lists.{eqb-same, eqb-other, is-eq, same_or_not, and-true}
 use Rattle.iss_request.specs.Log.{has_id, same_id}
 use Rattle.iss_request.specs.declared.ids.ReqId.{ReqId}
+use Rattle.iss_request.proofs.Identities.{any-has_id, same_id-flip, same_id-tells}
 use Rattle.iss_window.specs.declared.windows.Place.TheVariants.{Below, Inside, Above}
 use Rattle.iss_window.specs.Window.{IsLow, Noted, and_closed, and_noted, id_of, none_noted, place_of}
 use Rattle.iss_window.specs.Kept.{AreNumbers, AreTaken, IsTable, Kept, StandsFor, is_noted, is_taken}
@@ -13,29 +14,8 @@ use Rattle.iss_window.proofs.LowLemmas.{low-is, low-same}
 
 -- ---- identities
 
-pub any-has : (id : ReqId) (ks : List ReqId) → list_any (λ k. same_id id k) ks ≡ has_id id ks
-any-has id [] = refl
-any-has id (k ∷ ks) = ap (λ t. same_id id k || t) (any-has id ks)
-
-flip : (a b : ℕ) → eqb a b ≡ eqb b a
-flip a b = grind arith
-
-same-flip : (a b : ReqId) → same_id a b ≡ same_id b a
-same-flip a b = ap (λ t. t && eqb a.number b.number) (flip a.client b.client) ∙ ap (λ t. eqb b.client a.client && t) (flip a.number b.number)
-
-both : (a b : Bool) → (a && b) ≡ true → (a ≡ true) × (b ≡ true)
-both true b h = (refl, h)
-both false b h = cc
-
 pub same-number : (a b : ReqId) → same_id a b ≡ true → a.number ≡ b.number
-same-number a b h = is-eq a.number b.number (both (eqb a.client b.client) (eqb a.number b.number) h).1
-
-same-client : (a b : ReqId) → same_id a b ≡ true → a.client ≡ b.client
-same-client a b h = is-eq a.client b.client (both (eqb a.client b.client) (eqb a.number b.number) h).0
-
-same-means : (a b : ReqId) → same_id a b ≡ true → a ≡ b
-same-means a b h =
-    ap (λ (x : ℕ). record { client = x; number = a.number }) (same-client a b h) ∙ ap (λ (x : ℕ). record { client = b.client; number = x }) (same-number a b h)
+same-number a b h = is-eq a.number b.number (and-true (eqb a.client b.client) (eqb a.number b.number) h).1
 
 -- ---- a place to a window
 
@@ -64,7 +44,7 @@ is-above w closed id at h le =
 pub has-more : (old new : List ReqId) (x id : ReqId) → list_any (λ k. same_id id k) new ≡ cond (same_id x id) true (list_any (λ k. same_id id k) old)
     → has_id id new ≡ (same_id id x || has_id id old)
 has-more old new x id h =
-    sym (any-has id new) ∙ h ∙ ap (λ t. cond (same_id x id) true t) (any-has id old) ∙ as-or (same_id x id) (has_id id old) ∙ ap (λ t. t || has_id id old) (same-flip x id)
+    sym (any-has_id id new) ∙ h ∙ ap (λ t. cond (same_id x id) true t) (any-has_id id old) ∙ as-or (same_id x id) (has_id id old) ∙ ap (λ t. t || has_id id old) (same_id-flip x id)
   where
     as-or : (a b : Bool) → cond a true b ≡ (a || b)
     as-or true b = refl
@@ -78,7 +58,7 @@ numbers-more old new x h lt is = λ id there. go id (same_id id x) refl (sym (is
     go id false same k = h id k
 
 pub numbers-less : (old new : List ReqId) (x : ReqId) → AreNumbers old → ((id : ReqId) → list_any (λ k. same_id id k) new ≡ cond (same_id x id) false (list_any (λ k. same_id id k) old)) → AreNumbers new
-numbers-less old new x h is = λ id there. h id (unless (same_id x id) (has_id id old) (ap (λ t. cond (same_id x id) false t) (sym (any-has id old)) ∙ sym (is id) ∙ any-has id new ∙ there))
+numbers-less old new x h is = λ id there. h id (unless (same_id x id) (has_id id old) (ap (λ t. cond (same_id x id) false t) (sym (any-has_id id old)) ∙ sym (is id) ∙ any-has_id id new ∙ there))
   where
     unless : (b d : Bool) → cond b false d ≡ true → d ≡ true
     unless true d k = cc
@@ -104,7 +84,7 @@ noted-again k n x st there = record {
 }
   where
     go : (id : ReqId) (b : Bool) → same_id id x ≡ b → has_id id n.all ≡ (b || has_id id n.all)
-    go id true same = ap (λ y. has_id y n.all) (same-means id x same) ∙ there
+    go id true same = ap (λ y. has_id y n.all) (same_id-tells id x same) ∙ there
     go id false same = refl
 
 -- lists with the same identities serve alike
@@ -155,7 +135,7 @@ taken-more c low next old now new le h there is = record {
     was : (id : ReqId) (a : Bool) → is_taken c low next id ≡ a → (b : Bool) → same_id (id_of c next) id ≡ b → (a || b) ≡ true → has_id id old ≡ true
     was id true e b f k = h.were id e
     was id false e true f k =
-        let here : has_id id now ≡ true = ap (λ y. has_id y now) (sym (same-means (id_of c next) id f)) ∙ there in
+        let here : has_id id now ≡ true = ap (λ y. has_id y now) (sym (same_id-tells (id_of c next) id f)) ∙ there in
         unless (is_taken c low next id) (has_id id old) (sym (h.left id) ∙ here)
     was id false e false f k = cc
 

@@ -6,6 +6,3 @@ pub mod laws;
 pub mod windows;
 
 pub use windows::{Place, Windows};
-
-#[cfg(test)]
-mod tests;

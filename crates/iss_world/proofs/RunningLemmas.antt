@@ -1,13 +1,13 @@
 -- Worlds, and the nets that they stand for, as events happen.
-use Rattle.std.proofs.Common.{inl, inr, ◌≡◌, ◌≢◌, ◌⊎◌, ℕ, zero, suc, ◌+◌, ◌-◌, ◌<◌, ◌≤◌, Bool, true, false, List, [], ◌∷◌, ◌++◌, length, length-append, take, get_or, set, slice_get, Some, Option, Result, Ok, Err, IfOk, refl, sym, ap, ◌∙◌, subst, arith, cond, true≢false}
+use Rattle.std.proofs.Common.{inl, inr, ◌≡◌, ◌≢◌, ◌⊎◌, ℕ, zero, suc, ◌+◌, ◌-◌, ◌<◌, ◌≤◌, Bool, true, false, List, [], ◌∷◌, ◌++◌, length, length-append, take, get_or, set, slice_get, Some, Option, Result, Ok, Err, IfOk, refl, sym, ap, ap₂, ◌∙◌, subst, arith, cond, true≢false}
 use Rattle.std.specs.Prelude.{eqb}
 use Rattle.std.proofs.lemmas.Bool.Decides.{eqb_tells}
 use Rattle.iss_base.specs.Lists.{nth, set_at}
-use Rattle.iss_model.specs.Concrete.{keys_of, rules_of}
+use Rattle.iss_model.specs.Concrete.{keys_of, request_statement, rules_of}
 use Rattle.iss_model.specs.Formats.{formats_of}
 use Rattle.iss_model.specs.Node.{Core, Formats, Stepped, idle, step}
 use Rattle.iss_model.specs.Rules.{Rules}
-use Rattle.iss_model.specs.Run.{Happening, Net, after_step, at_core, begin_net, calms, delivered_to, delivers, delivers_each, done, injects, loses, posted_all, pumps}
+use Rattle.iss_model.specs.Run.{Happening, Net, after_step, at_core, begin_net, calms, delivered_to, delivers, delivers_each, done, injects, loses, posted_all, pumps, request_of}
 use Rattle.iss_model.specs.declared.causes.NodeEvent.{NodeEvent}
 use Rattle.iss_model.specs.declared.causes.NodeEvent.TheVariants.{Packet as Gets}
 use Rattle.iss_model.specs.declared.causes.Why.{Why}
@@ -19,15 +19,18 @@ use Rattle.iss_node.specs.State.{NodeState, Stands}
 use Rattle.iss_node.specs.Steps.{IsDrop, IsTurn}
 use Rattle.iss_node.specs.declared.answers.Outcome.{Outcome}
 use Rattle.iss_request.specs.declared.ids.NodeId.{NodeId}
+use Rattle.iss_request.specs.declared.ids.ReqId.{ReqId}
+use Rattle.iss_request.specs.declared.requests.Request.{Request}
 use Rattle.iss_request.specs.declared.setups.Setup.{Setup}
 use Rattle.iss_sb.specs.declared.effects.Params.{Params}
 use Rattle.iss_sb.specs.declared.effects.To.{To}
 use Rattle.iss_request.specs.declared.setups.Kind.TheVariants.{Byzantine}
 use Rattle.iss_sb.specs.Calls.{AreToNodes, kind_of}
 use Rattle.iss_sb.specs.Evidence.{Item, Module}
-use Rattle.iss_keys.specs.Directories.{AreKeysOf, DirectoryView, directory_of, node_secret}
+use Rattle.iss_keys.specs.Directories.{AreKeysOf, DirectoryView, client_secret, directory_of, node_secret}
 use Rattle.iss_keys.specs.KeyStates.{KeyState}
-use Rattle.iss_keys.proofs.DirectoryLemmas.{length-nodes}
+use Rattle.iss_keys.specs.Signatures.{signature_of}
+use Rattle.iss_keys.proofs.DirectoryLemmas.{length-clients, length-nodes}
 use Rattle.iss_world.proofs.PostLemmas.{take-next}
 use Rattle.iss_world.specs.Shape.{AreForCores, IsNetworkOf, IsRunning}
 use Rattle.iss_world.specs.Stands.{AreFresh, HasChanged, HasHappened, IsFresh, IsStaleOr, Runs, told_as}
@@ -37,7 +40,7 @@ use Rattle.iss_world.specs.declared.running.Change.TheVariants.{Done, Lost}
 use Rattle.iss_world.specs.declared.world.Happened.{Happened}
 use Rattle.iss_world.specs.declared.world.Happened.TheVariants.{Stale}
 
--- ---- a node's keys of the cluster's directory
+-- ---- the keys of nodes and clients in the cluster's directory
 
 pub own-number : (s : Setup) (i : ℕ) (d : DirectoryView) → d ≡ keys_of s → i < s.n → i < length d.nodes
 own-number s i d is lt =
@@ -51,6 +54,29 @@ pub own-keys : (s : Setup) (i : ℕ) (d : DirectoryView) (k : KeyState) → d �
 own-keys s i d k is made =
     let mine = made s.n s.clients s.keys is in
     (record { own = ap (λ (z : KeyState). z.secret) mine; tall = ap (λ (z : KeyState). z.height) mine }, ap (λ (z : KeyState). z.used) mine)
+
+pub client-number : (s : Setup) (i : ℕ) (d : DirectoryView) → d ≡ keys_of s → i < s.clients → i < length d.clients
+client-number s i d is lt =
+    let count = length-clients s.n s.clients s.keys in
+    let same : length d.clients ≡ length (keys_of s).clients = ap (λ (z : DirectoryView). length z.clients) is in
+    omega (arith, count, same, lt)
+
+-- a client's key, as the directory hands it out
+pub client-keys : (s : Setup) (i : ℕ) (d : DirectoryView) (k : KeyState) → d ≡ keys_of s →
+    ((n clients height : ℕ) → d ≡ directory_of n clients height → k ≡ record { secret = client_secret i; height = height; used = 0 }) →
+    k ≡ record { secret = client_secret i; height = s.keys; used = 0 }
+client-keys s i d k is made = made s.n s.clients s.keys is
+
+-- a request with its payload and signature is the one that its client signed
+pub signed-request : (s : Setup) (id : ReqId) (payload copy lent sig : List ℕ) (k : KeyState) →
+    k ≡ record { secret = client_secret id.client; height = s.keys; used = 0 } → copy ≡ payload → lent ≡ payload →
+    sig ≡ signature_of k.secret k.height id.number (request_statement id lent) →
+    record { id = id; payload = copy; sig = sig } ≡ request_of s id.client id.number payload
+signed-request s id payload copy lent sig k mine copied same is =
+    let signed : sig ≡ signature_of (client_secret id.client) s.keys id.number (request_statement id payload) =
+    is ∙ ap (λ (z : KeyState). signature_of z.secret z.height id.number (request_statement id lent)) mine
+    ∙ ap (λ (z : List ℕ). signature_of (client_secret id.client) s.keys id.number (request_statement id z)) same in
+    ap₂ (λ (p x : List ℕ). let q : Request = record { id = id; payload = p; sig = x } in q) copied signed
 
 -- ---- worlds
 

@@ -1,31 +1,38 @@
 //! A client's request, as a packet.
-ghost use Rattle.std.specs.Prelude.{◌≡◌, ◌≤◌, IfOk};
+ghost use Rattle.std.specs.Prelude.{◌≡◌, ◌<◌, ◌≤◌, ◌^◌, IfOk, length};
+ghost use Rattle.iss_model.specs.Concrete.{keys_of};
 ghost use Rattle.iss_model.specs.Formats.{formats_of};
 ghost use Rattle.iss_model.specs.Node.{OfRequest};
-ghost use Rattle.iss_model.specs.Run.{request_of, stand_in};
+ghost use Rattle.iss_model.specs.Run.{request_of};
 ghost use Rattle.iss_request.specs.declared.setups.Setup.{Setup};
 
+use iss_keys::Directory;
 use iss_packet::{Packet, PacketKind};
 use iss_request::{Bytes, Epoch, NoMemory, ReqId, Request, Setup, Writer, write_request};
 use iss_sb::Sequenced;
+use iss_segment::sign_request;
 use std::alloc::Global;
 
-/// The packet of a client's request. Its signature has the shape of one, with the leaf's number and zero bytes.
+/// The packet of a request that its client signs, by the leaf of the request's number.
 pub fn request_packet<M: Sequenced>(
     alloc: Global,
     setup: &Setup,
-    client: u8,
-    number: u32,
+    directory: &Directory,
+    id: ReqId,
     payload: &Bytes,
 ) -> Result<Bytes, NoMemory>
-    requires { setup.now.keys ≤ 12 }
+    requires directory { directory.now ≡ keys_of setup.now }
+    requires client { id.client < setup.now.clients }
+    requires leaf { id.number < 2 ^ setup.now.keys }
+    requires payload { length payload.now ≤ 256 }
     ensures { IfOk result (λ bytes.
-        bytes ≡ (formats_of setup.now M.meaning).wrap (record { from = 255; epoch = 0; body = OfRequest (request_of setup.now client number payload.now) })) }
+        bytes ≡ (formats_of setup.now M.meaning).wrap (record { from = 255; epoch = 0; body = OfRequest (request_of setup.now id.client id.number payload.now) })) }
 {
+    let keys = directory.keys_of_client(alloc, id.client);
     let request = Request {
-        id: ReqId { client, number },
+        id,
         payload: payload.copy()?,
-        sig: stand_in(alloc, setup.keys, number)?,
+        sig: sign_request(&keys, id, payload.as_slice())?,
     };
     Ok(wrapped::<M>(alloc, setup.version, &request)?)
 }
@@ -45,17 +52,4 @@ fn wrapped<M: Sequenced>(alloc: Global, version: u8, request: &Request) -> Resul
         body: body.into_bytes(),
     };
     packet.encode(alloc, version)
-}
-
-// The shape of a signature, under a tree of this height.
-fn stand_in(alloc: Global, height: u32, leaf: u32) -> Result<Bytes, NoMemory>
-    requires { height ≤ 12 }
-    ensures { IfOk result (λ sig. sig ≡ stand_in height leaf) }
-{
-    let zeros = vec![in alloc; 0u8; 2144 + 32 * height as usize]?;
-    let mut sig = Vec::new(alloc);
-    sig.push(height as u8)?;
-    sig.extend_from_slice(&leaf.to_be_bytes())?;
-    sig.extend_from_slice(zeros.as_slice())?;
-    Ok(Bytes::of(sig))
 }

@@ -7,6 +7,7 @@ ghost use Rattle.iss_model.specs.Past.{log_of};
 ghost use Rattle.iss_model.specs.Run.{Net, at_core, begin_net, calms, delivers, delivers_each, done, happens, injects, loses, pumps};
 ghost use Rattle.iss_model.specs.Runs.{IsSetupOf};
 ghost use Rattle.iss_network.specs.Network.{cleared, held_to};
+ghost use Rattle.iss_node.specs.State.{Stands};
 ghost use Rattle.iss_request.specs.Setup.{IsGoodSetup};
 ghost use Rattle.iss_schedule.specs.Events.{IsInRange};
 ghost use Rattle.iss_world.specs.Stands.{AreFresh, HasChanged, IsFresh, IsStanding, Runs};
@@ -18,7 +19,7 @@ use iss_log::Log;
 use iss_model::{NodeEvent, Why};
 use iss_network::Network;
 use iss_node::{Answer, Node};
-use iss_request::{Bytes, Epoch, Kind, NoMemory, NodeId, Setup, Value};
+use iss_request::{Bytes, Epoch, Kind, NoMemory, NodeId, ReqId, Setup, Value};
 use iss_sb::Sequenced;
 use iss_schedule::Event;
 use std::alloc::Global;
@@ -35,12 +36,16 @@ pub enum Change {
 #[derive(Drop)]
 pub struct Running<M: Sequenced> {
     setup: Setup,
+    // the keys of all nodes and clients
+    directory: SharedDirectory,
     // node `i` is the `i`-th
     nodes: Vec<Node<M>>,
     network: Network,
 }
 
 impl<M: Sequenced> Model for Running<M> {
+    ghost use Rattle.std.specs.Prelude.{◌≡◌};
+    ghost use Rattle.iss_model.specs.Concrete.{keys_of};
     ghost use Rattle.iss_world.specs.State.{RunningState};
     ghost use Rattle.iss_world.specs.Shape.{IsRunning};
 
@@ -48,7 +53,7 @@ impl<M: Sequenced> Model for Running<M> {
 
     ghost view = { λ w. record { setup = w.setup; nodes = w.nodes.items; network = w.network } };
 
-    ghost invariant = { λ w. IsRunning M.meaning (record { setup = w.setup; nodes = w.nodes.items; network = w.network }) };
+    ghost invariant = { λ w. IsRunning M.meaning (record { setup = w.setup; nodes = w.nodes.items; network = w.network }) × (w.directory ≡ keys_of w.setup) };
 }
 
 impl<M: Sequenced> Running<M> {
@@ -63,6 +68,7 @@ impl<M: Sequenced> Running<M> {
             setup: setup.copy()?,
             nodes: start_nodes(alloc, setup, &directory)?,
             network: Network::new(alloc, setup.n)?,
+            directory,
         })
     }
 
@@ -81,7 +87,13 @@ impl<M: Sequenced> Running<M> {
                 client,
                 number,
                 payload,
-            } => self.request(alloc, *core, *client, *number, payload),
+            } => {
+                let id = ReqId {
+                    client: *client,
+                    number: *number,
+                };
+                self.request(alloc, *core, id, payload)
+            }
             Event::Propose { core } => self.take(alloc, *core, NodeEvent::Propose),
             Event::Timeout { core, leader } => {
                 self.take(alloc, *core, NodeEvent::Timeout(*leader))
@@ -132,19 +144,19 @@ impl<M: Sequenced> Running<M> {
         &mut self,
         alloc: Global,
         core: u32,
-        client: u8,
-        number: u32,
+        id: ReqId,
         payload: &Bytes,
     ) -> Result<Change, NoMemory>
-        requires core { core < self.old.setup.n }
+        requires range { IsInRange self.old.setup (Event.Request core id.client id.number payload.now) }
         requires standing { IsStanding M.meaning M.stands self.old }
         ensures happened { IfOk result (λ h. (w : Net M.Msg) → Runs M.meaning M.stands self.old w →
             HasChanged M.meaning M.stands self.new
             (happens self.old.setup (formats_of self.old.setup M.meaning) (rules_of self.old.setup) M.meaning w
-            (Event.Request core client number payload.now)) h) }
+            (Event.Request core id.client id.number payload.now)) h) }
         ensures same { self.new.setup ≡ self.old.setup }
     {
-        let packet = request_packet::<M>(alloc, &self.setup, client, number, payload)?;
+        let directory = self.directory.directory();
+        let packet = request_packet::<M>(alloc, &self.setup, directory, id, payload)?;
         self.take(alloc, core, NodeEvent::Packet(packet))
     }
 
@@ -277,6 +289,15 @@ impl<M: Sequenced> Running<M> {
         ensures good { IsSetupOf M.meaning result.now }
     {
         &self.setup
+    }
+
+    /// A node, whose calls show its core.
+    pub fn node(&self, core: u32) -> &Node<M>
+        requires { core < self.now.setup.n }
+        ensures stands { (w : Net M.Msg) → Runs M.meaning M.stands self.now w → Stands M.meaning M.stands result.now (w.cores core) }
+        ensures same { (result.now.parts.setup ≡ self.now.setup) × (result.now.parts.me.0 ≡ core) }
+    {
+        &self.nodes[core as usize]
     }
 
     /// A node's log.

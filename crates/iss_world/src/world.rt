@@ -1,16 +1,20 @@
 //! The world of a cluster, which says of itself when memory was wanting.
-ghost use Rattle.std.specs.Prelude.{◌≡◌, ◌<◌, IfOk, reverse};
+ghost use Rattle.std.specs.Prelude.{◌≡◌, ◌<◌, ◌++◌, ◌∷◌, [], IfOk, List, reverse};
 ghost use Rattle.iss_model.specs.Concrete.{rules_of};
 ghost use Rattle.iss_model.specs.Formats.{formats_of};
 ghost use Rattle.iss_model.specs.Past.{log_of};
 ghost use Rattle.iss_model.specs.Run.{Net, begin_net, happens};
 ghost use Rattle.iss_model.specs.Runs.{IsSetupOf};
-ghost use Rattle.iss_schedule.specs.Events.{IsInRange};
+ghost use Rattle.iss_node.specs.State.{Stands};
+ghost use Rattle.iss_schedule.specs.Events.{AreInRange, IsInRange};
+ghost use Rattle.iss_schedule.specs.declared.schedules.Event.{Event as Happens};
+ghost use Rattle.iss_world.specs.Headline.{IsAnswered, IsHeadline, StandsAfter};
 ghost use Rattle.iss_world.specs.Stands.{HasHappened, IsStaleOr, StandsFor, told_as};
 
 use crate::running::{Change, Running};
 use iss_log::Log;
-use iss_model::Why;
+use iss_model::{Why, cluster_runs, composition, requests_are_conserved};
+use iss_node::Node;
 use iss_request::{Epoch, NoMemory, Setup, Value};
 use iss_sb::Sequenced;
 use iss_schedule::Event;
@@ -53,6 +57,7 @@ impl<M: Sequenced> World<M> {
     pub fn start(alloc: Global, setup: &Setup) -> Result<World<M>, NoMemory>
         requires { IsSetupOf M.meaning setup.now }
         ensures stands { IfOk result (λ v. StandsFor M.meaning M.stands v (begin_net setup.now.n)) }
+        ensures begun { IfOk result (λ v. StandsAfter setup.now M.meaning M.stands v []) }
         ensures same { IfOk result (λ v. v.running.setup ≡ setup.now) }
     {
         let running = Running::start(alloc, setup)?;
@@ -62,15 +67,25 @@ impl<M: Sequenced> World<M> {
         })
     }
 
-    /// The event happens. After want of memory each further event answers that the world is stale.
+    /// The event happens. After want of memory each further event answers that the world is stale. A world that stood for the
+    /// run of some events then stands for the run with this one more. Where nodes only stop, its logs only grow, the logs of
+    /// correct nodes are of one log, in which no request stands twice and each batch was accepted as valid by a correct node,
+    /// and each request that a correct node took is in its log, waits there or is in flight, as long as different strings that
+    /// the run hashed have different digests (ISS, whole protocol).
     pub fn event(&mut self, alloc: Global, event: &Event) -> Happened
         requires { IsInRange self.old.running.setup event.now }
         ensures happened { (w : Net M.Msg) → StandsFor M.meaning M.stands self.old w →
             HasHappened M.meaning M.stands self.new
             (happens self.old.running.setup (formats_of self.old.running.setup M.meaning) (rules_of self.old.running.setup) M.meaning w event.now) result }
+        ensures headline { (events : List Happens) → AreInRange self.old.running.setup events → StandsAfter self.old.running.setup M.meaning M.stands self.old events →
+            IsAnswered result → IsHeadline self.old.running.setup M.meaning M.stands self.new (events ++ event.now ∷ []) }
         ensures stale { IsStaleOr self.old self.new result }
         ensures same { self.new.running.setup ≡ self.old.running.setup }
     {
+        composition::<M>();
+        cluster_runs::<M>();
+        requests_are_conserved::<M>();
+        let _setup = self.running.setup();
         if self.stale {
             return Happened::Stale;
         }
@@ -90,6 +105,15 @@ impl<M: Sequenced> World<M> {
         ensures good { IsSetupOf M.meaning result.now }
     {
         self.running.setup()
+    }
+
+    /// A node, whose calls show its core: what it accepted, what waits and is in flight there, and whether it can cast.
+    pub fn node(&self, core: u32) -> &Node<M>
+        requires { core < self.now.running.setup.n }
+        ensures stands { (w : Net M.Msg) → StandsFor M.meaning M.stands self.now w → Stands M.meaning M.stands result.now (w.cores core) }
+        ensures same { (result.now.parts.setup ≡ self.now.running.setup) × (result.now.parts.me.0 ≡ core) }
+    {
+        self.running.node(core)
     }
 
     /// A node's log.

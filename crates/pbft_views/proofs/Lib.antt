@@ -2,4 +2,5 @@ pub mod Numbers
 pub mod Good
 pub mod Choices
 pub mod Statements
-pub mod Claims
+pub mod Claimed
+pub mod Chosen

@@ -10,6 +10,11 @@ abbrev pub higher : Certificate → Option Certificate → Option Certificate
 higher c None = Some c
 higher c (Some e) = cond (nat_lt c.view e.view) (Some e) (Some c)
 
+-- the same where there may be none in front
+abbrev pub further : Option Certificate → Option Certificate → Option Certificate
+further None e = e
+further (Some c) e = higher c e
+
 -- the certificate of slot s of the highest view, the first of these
 abbrev pub best : ℕ → List Certificate → Option Certificate
 best s [] = None

@@ -1,5 +1,5 @@
 -- Certificates and ViewChanges have one spelling.
-use Rattle.std.proofs.Common.{zero, suc, ◌≡◌, ℕ, ◌&&◌, Bool, true, List, [], ◌∷◌, ◌++◌, length, append_assoc, refl, sym, ap, ◌∙◌, subst}
+use Rattle.std.proofs.Common.{◌≡◌, ℕ, ◌&&◌, Bool, true, List, ◌∷◌, ◌++◌, length, append_assoc, refl, sym, ap, ◌∙◌, subst}
 use Rattle.std.specs.Prelude.{nat_le}
 use Rattle.std.specs.Int.{to_be_bytes, w16, w64}
 use Rattle.std.specs.List.{flat_map}
@@ -13,8 +13,8 @@ use Rattle.pbft_wire.specs.declared.messages.Certificate.{Certificate}
 use Rattle.pbft_wire.specs.declared.messages.Change.{Change}
 use Rattle.pbft_wire.specs.declared.messages.Vote.{Vote}
 use Rattle.pbft_wire.specs.Certificates.{certificate_bytes, change_bytes, fits_certificate, fits_certificates, fits_change, fits_count, fits_from, fits_slot, fits_value, fits_view, fits_vote, fits_votes, node_of_vote, parse_certificate, parse_change, parse_vote, slot_of, vote_bytes}
-use Rattle.pbft_wire.proofs.Rising.{IsExact, rising-again, rising-parts}
-use Rattle.pbft_wire.proofs.Fields.{AreText, IsText, count-again, count-parts, slot-again, slot-parts, value-again, value-parts, view-again, view-parts}
+use Rattle.pbft_wire.proofs.Rising.{in-front, IsExact, rising-again, rising-parts}
+use Rattle.pbft_wire.proofs.Fields.{IsText, count-again, count-parts, slot-again, slot-parts, value-again, value-parts, view-again, view-parts}
 
 -- ---- regrouping
 
@@ -32,9 +32,6 @@ counted-four a b c d n v r = simp append_assoc
 
 pub counted-twice : (a : List ℕ) (n : ℕ) (b : List ℕ) (k : ℕ) (c d r : List ℕ) → (a ++ (n ∷ (b ++ (k ∷ (c ++ d))))) ++ r ≡ a ++ (n ∷ (b ++ (k ∷ (c ++ (d ++ r)))))
 counted-twice a n b k c d r = simp append_assoc
-
-pub in-front : (a : List ℕ) {x y : List ℕ} → x ≡ y → a ++ x ≡ a ++ y
-in-front a h = ap (λ (z : List ℕ). a ++ z) h
 
 -- ---- votes
 

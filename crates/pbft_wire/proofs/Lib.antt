@@ -6,3 +6,4 @@ pub mod Numbered
 pub mod Written
 pub mod Table
 pub mod Examples
+pub mod Stated

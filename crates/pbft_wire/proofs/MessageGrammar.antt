@@ -18,9 +18,9 @@ use Rattle.pbft_wire.specs.declared.messages.Message.{Message}
 use Rattle.pbft_wire.specs.declared.messages.Message.TheVariants.{PrePrepare, Prepare, Commit, ViewChange, NewView}
 use Rattle.pbft_wire.specs.Certificates.{change_bytes, fits_change, fits_count, fits_slot, fits_value, fits_view}
 use Rattle.pbft_wire.specs.Messages.{as_is, at_bytes, commit, fields_of, fits, fits_at, fits_changes, is_known, message_bytes, node_change_bytes, parse, parse_at, parse_node_change, node_of_change, fits_node_change, parse_new_view, parse_pre_prepare, parse_view_change, prepare, spell}
-use Rattle.pbft_wire.proofs.Rising.{IsExact, rising-again, rising-parts}
+use Rattle.pbft_wire.proofs.Rising.{in-front, IsExact, rising-again, rising-parts}
 use Rattle.pbft_wire.proofs.Fields.{AreText, IsText, count-again, count-parts, slot-again, slot-parts, value-again, value-parts, view-again, view-parts}
-use Rattle.pbft_wire.proofs.CertificateGrammar.{change-again, change-parts, counted-twice, fits_one, four, in-front, text_one}
+use Rattle.pbft_wire.proofs.CertificateGrammar.{change-again, change-parts, counted-twice, fits_one, four, text_one}
 
 -- ---- signatures of PrePrepares
 

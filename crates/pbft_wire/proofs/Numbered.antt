@@ -1,5 +1,5 @@
 -- A message that is read field by field is what the parser finds.
-use Rattle.std.proofs.Common.{◌≡◌, ℕ, Bool, true, false, List, length, refl, subst}
+use Rattle.std.proofs.Common.{◌≡◌, ℕ, true, false, List, length, subst}
 use Rattle.iss_request.specs.Fields.{IsRead, IsUnreadable, Reading, left}
 use Rattle.iss_request.specs.Parsing.{block, byte}
 use Rattle.iss_request.proofs.ParserLemmas.{block_parts}

@@ -1,5 +1,5 @@
 -- Rows of things whose numbers rise have one spelling, and are read one after the other.
-use Rattle.std.proofs.Common.{◌≡◌, ℕ, zero, suc, ◌+◌, ◌-◌, ◌<◌, Bool, true, List, [], ◌∷◌, ◌++◌, length, get_or, append_assoc, append-nil, refl, sym, ap, ◌∙◌, subst, arith}
+use Rattle.std.proofs.Common.{◌≡◌, ℕ, zero, suc, ◌<◌, Bool, true, List, [], ◌∷◌, ◌++◌, length, get_or, append_assoc, append-nil, refl, sym, ap, ◌∙◌, subst, arith}
 use Rattle.std.specs.List.{flat_map}
 use Rattle.iss_base.proofs.Lists.{and-true, both}
 use Rattle.iss_request.specs.Fields.{Good, IsRead, IsUnreadable, Reading}
@@ -10,7 +10,7 @@ use Rattle.iss_request.proofs.Readings.{read_done, read_then, unread_first, unre
 use Rattle.pbft_wire.specs.Rising.{all_rise, rising}
 use Rattle.pbft_wire.proofs.Fields.{AreText, IsText}
 
-in-front : (a : List ℕ) {x y : List ℕ} → x ≡ y → a ++ x ≡ a ++ y
+pub in-front : (a : List ℕ) {x y : List ℕ} → x ≡ y → a ++ x ≡ a ++ y
 in-front a h = ap (λ (z : List ℕ). a ++ z) h
 
 -- one thing that fits is read from its spelling, and from nothing else

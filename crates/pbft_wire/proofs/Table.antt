@@ -15,8 +15,8 @@ use Rattle.pbft_wire.specs.declared.messages.Message.TheVariants.{PrePrepare, Pr
 use Rattle.pbft_wire.specs.Certificates.{AreSpelledCertificates, AreSpelledVotes, IsSpelledCertificate, IsSpelledChange, certificate_bytes, change_bytes, fits_certificate, fits_certificates, fits_change, fits_count, fits_slot, fits_value, fits_view, fits_votes, vote_bytes}
 use Rattle.pbft_wire.specs.Messages.{AreSpelledChanges, AreSpelledSignatures, IsSpelledAt, IsSpelledMessage, as_is, at_bytes, fits, fits_at, fits_changes, message_bytes, node_change_bytes, parse}
 use Rattle.pbft_wire.proofs.Fields.{value-bytes, value-fits, value-spelled}
-use Rattle.pbft_wire.proofs.CertificateGrammar.{in-front}
 use Rattle.pbft_wire.proofs.MessageGrammar.{message-again, message-parts}
+use Rattle.pbft_wire.proofs.Rising.{in-front}
 
 -- it has a spelling, which these bytes are
 pub record Spells (ok : Bool) (text bytes : List ℕ) : Type 0 where

@@ -2,3 +2,4 @@ pub mod Rising
 pub mod Certificates
 pub mod Messages
 pub mod Statements
+pub mod Marks

@@ -1,14 +1,20 @@
 //! The messages of PBFT, in bytes, and what is signed of them.
 #![tactic(auto)]
 
+pub mod copies;
 pub mod laws;
 pub mod messages;
 pub mod reading;
+pub mod signing;
 pub mod writing;
 
+pub use copies::{copy_certificates, copy_changes, copy_votes};
 pub use laws::messages_are_exact;
 pub use messages::{Certificate, Change, Message, Vote};
 pub use reading::read;
+pub use signing::{
+    Mark, digest_of, mark_of, state_at, state_change, state_marked, state_new, string_of,
+};
 pub use writing::write;
 
 #[cfg(test)]

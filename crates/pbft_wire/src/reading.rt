@@ -11,19 +11,9 @@ ghost use Rattle.pbft_wire.specs.Messages.{commit, parse, parse_at, parse_change
 ghost use Rattle.pbft_wire.specs.declared.messages.Message.{Message};
 
 use crate::messages::{Certificate, Change, Message, Vote};
+use crate::signing::{COMMIT, NEW_VIEW, PRE_PREPARE, PREPARE, VIEW_CHANGE};
 use iss_request::{Bytes, DecodeError, Fields, NodeId, Row, Slot, read_signature, read_value};
 use std::alloc::Global;
-
-// The numbers of the messages.
-pub(crate) const PRE_PREPARE: u8 = 1;
-
-pub(crate) const PREPARE: u8 = 2;
-
-pub(crate) const COMMIT: u8 = 3;
-
-pub(crate) const VIEW_CHANGE: u8 = 4;
-
-pub(crate) const NEW_VIEW: u8 = 5;
 
 // ---- single fields
 

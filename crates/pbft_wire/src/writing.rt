@@ -9,9 +9,8 @@ ghost use Rattle.pbft_wire.specs.declared.messages.Message.TheVariants.{NewView,
 ghost use Rattle.pbft_wire.specs.Messages.{as_is, at_bytes, fits, fits_at, fits_changes, message_bytes, new_bytes, node_change_bytes, spell};
 
 use crate::messages::{Certificate, Change, Message, Vote};
-use crate::reading::{
-    COMMIT, NEW_VIEW, PRE_PREPARE, PREPARE, VIEW_CHANGE, node_follows, slot_follows,
-};
+use crate::reading::{node_follows, slot_follows};
+use crate::signing::{COMMIT, NEW_VIEW, PRE_PREPARE, PREPARE, VIEW_CHANGE};
 use iss_request::{Bytes, NoMemory, Request, Slot, Value, Writer, requests_most, write_value};
 
 // ---- what has a spelling

@@ -10,3 +10,7 @@ mod Reached
 mod Readable
 mod Safe
 mod Single
+mod Tallying
+mod Drafting
+mod Turning
+mod Taking

@@ -1,3 +1,7 @@
 pub mod Facts
 pub mod HotStuff
 pub mod Rules
+pub mod Tallies
+pub mod Drafts
+pub mod Stands
+pub mod Steps

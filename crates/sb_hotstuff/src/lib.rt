@@ -1,11 +1,19 @@
-//! HotStuff, an ordering module for f Byzantine nodes of 3f+1 over any number of rounds, as definitions and laws: a leader
+//! HotStuff, an ordering module for f Byzantine nodes of 3f+1 over any number of rounds, as definitions, laws and rules: a leader
 //! proposes nodes of a tree one after another, three phases of 2f+1 votes decide a node with its branch, and a node that
 //! voted in the third keeps a lock (Yin, Malkhi, Reiter, Golan Gueta and Abraham, "HotStuff: BFT Consensus with Linearity and
 //! Responsiveness"; ISS, "Sequenced Broadcast").
 #![tactic(auto)]
 
+pub mod ballots;
 pub mod facts;
 pub mod laws;
+pub mod news;
+pub mod outcomes;
+pub mod proposing;
+pub mod rules;
+pub mod signing;
+pub mod state;
+pub mod turns;
 
 pub use facts::{
     a_quorum_accepted_what_is_delivered, batches_share_an_acceptor,

@@ -21,7 +21,7 @@ use Rattle.pbft_views.specs.Claims.{certificates_claims, change_claims, changes_
 use Rattle.pbft_views.specs.Good.{all_good, are_changes, are_enough, primary}
 use Rattle.pbft_views.specs.Laws.{nodes_of}
 use Rattle.pbft_views.proofs.Choices.{certificate-from}
-use Rattle.pbft_views.proofs.Claims.{certificate-claim, change-claim, claim-change}
+use Rattle.pbft_views.proofs.Claimed.{certificate-claim, change-claim, claim-change}
 use Rattle.pbft_views.proofs.Good.{all_good-at, change-at, good-votes}
 use Rattle.sb_pbft.specs.Facts.{AreTrue, IsCertificate, IsKnown}
 use Rattle.sb_pbft.specs.Makes.{choice_strings, inputs, makes, strings, value_strings}

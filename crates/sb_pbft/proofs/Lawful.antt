@@ -21,7 +21,7 @@ use Rattle.pbft_wire.specs.declared.messages.Message.{Message}
 use Rattle.pbft_wire.specs.declared.messages.Message.TheVariants.{Commit, NewView, PrePrepare, Prepare, ViewChange}
 use Rattle.pbft_views.specs.Choice.{choice}
 use Rattle.pbft_views.specs.Good.{primary}
-use Rattle.pbft_views.proofs.Claims.{named}
+use Rattle.pbft_views.proofs.Claimed.{named}
 use Rattle.sb_pbft.specs.Makes.{Draft, DraftNewView, DraftPrePrepare, DraftPrepare, DraftViewChange, answer, by_slot, commit_draft, drafts, first_draft, inputs, kept, lead, ready, sign_all, uses, uses_all}
 use Rattle.sb_pbft.specs.Pbft.{pbft}
 use Rattle.sb_pbft.specs.Rules.{Mode, asked, changes, completes, enters, mode, passes, proposal}

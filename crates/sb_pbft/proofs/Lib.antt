@@ -19,3 +19,8 @@ pub mod Safe
 pub mod Example
 pub mod Run
 pub mod Reached
+pub mod Tables
+pub mod Settled
+pub mod Doing
+pub mod Taken
+pub mod Proposed

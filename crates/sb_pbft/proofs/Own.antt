@@ -30,7 +30,7 @@ use Rattle.pbft_wire.specs.declared.messages.Vote.{Vote}
 use Rattle.pbft_views.specs.Choice.{choice}
 use Rattle.pbft_views.specs.Claims.{certificate_claims, certificates_claims, change_claims, changes_claims, chosen_claims, claim, claims}
 use Rattle.pbft_views.specs.Good.{primary}
-use Rattle.pbft_views.proofs.Claims.{chosen-claim, claim-certificate, claim-change, vote-claim}
+use Rattle.pbft_views.proofs.Claimed.{chosen-claim, claim-certificate, claim-change, vote-claim}
 use Rattle.sb_pbft.specs.Makes.{Draft, DraftCommit, DraftNewView, DraftPrePrepare, DraftPrepare, DraftViewChange, by_slot, certificate, choice_sigs, drafts, first_draft, inputs, kept, makes, sign, sign_all, tops}
 use Rattle.sb_pbft.specs.Pbft.{pbft}
 use Rattle.sb_pbft.specs.Rules.{Mode, asked, asked_of, change_of, changes, chosen, commit_of, commits, enters, mode, offer, offered, prepare_of, prepares, proposal, unless}

@@ -1,44 +1,34 @@
 -- A run with a Byzantine node, in which a slot is delivered and a view changes, with the certificate of what was committed.
-use Rattle.std.proofs.Common.{◌≡◌, ◌⊎◌, ◌<◌, ◌+◌, ◌*◌, ◌^◌, ◌&&◌, ℕ, Bool, true, false, cond, eqb, List, [], ◌∷◌, ◌++◌, length, Some, None, refl, sym, ap, ◌∙◌, subst, inl, inr, arith, true≢false}
+use Rattle.std.proofs.Common.{◌≡◌, ◌<◌, ◌^◌, ◌&&◌, ℕ, Bool, true, false, cond, eqb, List, [], ◌∷◌, ◌++◌, length, Some, refl, sym, ◌∙◌, subst, inl, inr, arith, true≢false}
 use Rattle.std.specs.Prelude.{◌==◌}
 use Rattle.std.proofs.lemmas.Bool.{eq-eqb}
 use Rattle.sha2.specs.Sha256.{sha256, digest_bytes, hash_after, compress, rounds, schedule, first_words}
-use Rattle.iss_base.specs.Lists.{In, same_bytes}
-use Rattle.iss_base.proofs.Lists.{both, eqb-other, in_append, same_bytes-refl}
-use Rattle.iss_request.specs.Digest.{digest}
+use Rattle.iss_base.specs.Lists.{In}
+use Rattle.iss_base.proofs.Lists.{both, eqb-other}
 use Rattle.iss_request.specs.Formats.{is_signature, spell_batch, spell_count, spell_value}
 use Rattle.iss_request.specs.Setup.{IsGoodSetup}
-use Rattle.iss_request.specs.declared.requests.Value.{Value}
 use Rattle.iss_request.specs.declared.requests.Value.TheVariants.{Nil, Batch as Holds}
 use Rattle.iss_sb.specs.declared.effects.Claim.{Claim}
 use Rattle.iss_sb.specs.declared.effects.Input.{Input}
-use Rattle.iss_sb.specs.declared.effects.Input.TheVariants.{Cast, Receive, Timeout}
-use Rattle.iss_sb.specs.declared.effects.Params.{Params}
+use Rattle.iss_sb.specs.declared.effects.Input.TheVariants.{Cast, Timeout}
 use Rattle.iss_sb.specs.declared.effects.To.{To}
 use Rattle.iss_sb.specs.declared.effects.To.TheVariants.{All as To_all}
 use Rattle.iss_sb.specs.Calls.{IsGoodParams}
-use Rattle.iss_sb.specs.Evidence.{Item, Made, World, IsCredible, IsHashed, IsReached, IsReadBatch, at_start, after, IsSigned, IsString, MayCome, Move, Separate, Verifies, and_then, delivered, empty_world, is_correct}
-use Rattle.iss_sb.specs.Laws.{IsBroadcast}
-use Rattle.iss_sb.specs.Legal.{Front}
+use Rattle.iss_sb.specs.Evidence.{Item, Made, World, IsCredible, IsReached, IsReadBatch, at_start, after, IsSigned, MayCome, Move, Verifies, delivered, empty_world, is_correct}
 use Rattle.iss_sb.specs.Statements.{signature}
 use Rattle.iss_sb.proofs.Read.{batch-read}
 use Rattle.iss_sb.proofs.Signatures.{signature-shape, signature-verifies}
-use Rattle.pbft_wire.specs.declared.messages.Certificate.{Certificate}
-use Rattle.pbft_wire.specs.declared.messages.Change.{Change}
 use Rattle.pbft_wire.specs.declared.messages.Message.{Message}
-use Rattle.pbft_wire.specs.declared.messages.Message.TheVariants.{PrePrepare, Prepare, Commit, ViewChange, NewView}
-use Rattle.pbft_wire.specs.Certificates.{fits_certificate, fits_change}
-use Rattle.pbft_wire.specs.Messages.{fits, fits_at}
-use Rattle.pbft_wire.specs.Statements.{digest_of, state_at, state_change, state_new, string_of}
+use Rattle.pbft_wire.specs.declared.messages.Message.TheVariants.{Prepare, Commit}
+use Rattle.pbft_wire.specs.Certificates.{fits_certificate}
+use Rattle.pbft_wire.specs.Messages.{fits}
+use Rattle.pbft_wire.specs.Statements.{state_at, state_change, state_new, string_of}
 use Rattle.pbft_wire.proofs.MessageGrammar.{fits-again}
 use Rattle.pbft_views.specs.Claims.{certificate_claims, claim, claims}
-use Rattle.pbft_views.specs.Good.{is_good}
 use Rattle.pbft_views.proofs.Statements.{digest-length}
-use Rattle.sb_pbft.specs.Facts.{HasVoted, IsCertificate, IsDecidedView, IsKnown, IsRooted}
 use Rattle.sb_pbft.specs.Makes.{makes}
 use Rattle.sb_pbft.specs.Pbft.{pbft}
-use Rattle.sb_pbft.proofs.Example.{b, certificate, changes, commit, d, from, give_up, next, nil, node, p, prepare, proposal, renewal, said, setup, sig, slot}
-use Rattle.sb_pbft.proofs.Safe.{decided-views, pbft-safe, roots}
+use Rattle.sb_pbft.proofs.Example.{b, certificate, commit, d, from, give_up, next, nil, p, prepare, proposal, renewal, said, setup, sig, slot}
 
 pub good-setup : IsGoodSetup setup
 good-setup = record {

@@ -1,9 +1,18 @@
-//! PBFT, an ordering module for f Byzantine nodes of 3f+1 over any number of primaries, as definitions and laws (Castro and
-//! Liskov, "Practical Byzantine Fault Tolerance"; ISS, "Sequenced Broadcast").
+//! PBFT, an ordering module for f Byzantine nodes of 3f+1 over any number of primaries (Castro and Liskov, "Practical
+//! Byzantine Fault Tolerance"; ISS, "Sequenced Broadcast").
 #![tactic(auto)]
 
+pub mod changes;
 pub mod facts;
 pub mod laws;
+pub mod pbft;
+pub mod proposals;
+pub mod proposing;
+pub mod sending;
+pub mod settling;
+pub mod tallies;
+pub mod tops;
+pub mod voting;
 
 pub use facts::{
     batches_come_from_a_quorum, certificates_of_a_view_agree, later_views_keep_what_is_decided,

@@ -2,4 +2,5 @@
 mod liars;
 mod played;
 mod replays;
+mod signatures;
 mod worlds;

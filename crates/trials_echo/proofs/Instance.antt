@@ -25,14 +25,14 @@ use Rattle.iss_model.specs.Past.{leads_in, log_of, made_in, newborn, params_of, 
 use Rattle.iss_model.specs.Rules.{Rules}
 use Rattle.iss_model.specs.Runs.{IsSetupOf}
 use Rattle.iss_model.specs.Tested.{as_signed, collision_in}
-use Rattle.iss_model.proofs.Layouts.{own-verifies, sound-rules}
+use Rattle.iss_model.proofs.Layouts.{however-signed, own-verifies, sound-rules}
 use Rattle.iss_model.proofs.Tests.{over-new, over-old, own-is, separate-more}
 use Rattle.sb_echo.specs.declared.word.Word.{Word}
 use Rattle.sb_echo.specs.declared.word.Word.TheVariants.{Say, Echo}
 use Rattle.sb_echo.specs.Echo.{claim, claims, digest_of, echo, statement, string_of}
 use Rattle.sb_echo.proofs.Lawful.{digest-length}
 use Rattle.sb_echo.proofs.Spelling.{echo-again, say-again}
-use Rattle.trials_echo.specs.Shown.{IsShown, batch, echoed, four, instance, said}
+use Rattle.trials_echo.specs.Shown.{IsShown, batch, echoed, four, instance, rules, said}
 
 setup-good : IsGoodSetup four
 setup-good = record {
@@ -62,13 +62,13 @@ setup-of : IsSetupOf echo four
 setup-of = record { good = setup-good; tag = refl; kind = refl; nodes = refl; majority = refl }
 
 abbrev R : Rules
-R = rules_of four
+R = rules
 
 abbrev S : Scheme
 S = scheme_of four
 
 pub rules-sound : IsSoundRules four echo R
-rules-sound = sound-rules echo four setup-of
+rules-sound = however-signed echo four (rules_of four) R.signed (sound-rules echo four setup-of)
 
 good : IsGoodParams echo instance
 good = rules-sound.good [] 0 0 refl

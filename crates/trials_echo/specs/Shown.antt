@@ -1,5 +1,5 @@
 -- What is shown of a cluster over echo: four nodes, of which the last is faulty, and epochs of four slots.
-use Rattle.std.specs.Prelude.{◌≡◌, ℕ, false, List, [], ◌∷◌, replicate}
+use Rattle.std.specs.Prelude.{◌≡◌, ℕ, true, false, List, [], ◌∷◌, replicate}
 use Rattle.iss_request.specs.declared.requests.Batch.{Batch}
 use Rattle.iss_request.specs.declared.requests.Value.TheVariants.{Batch as Holds}
 use Rattle.iss_request.specs.declared.setups.Kind.TheVariants.{Byzantine}
@@ -12,7 +12,7 @@ use Rattle.iss_model.specs.Cluster.{Cluster, IsBooked, Reach}
 use Rattle.iss_model.specs.Concrete.{rules_of}
 use Rattle.iss_model.specs.Ordered.{Among, IsSoundRules, Ordered}
 use Rattle.iss_model.specs.Past.{log_of}
-use Rattle.iss_model.specs.Run.{stand_in}
+use Rattle.iss_model.specs.Rules.{Rules}
 use Rattle.sb_echo.specs.declared.word.Word.{Word}
 use Rattle.sb_echo.specs.Echo.{digest_of, echo, statement}
 
@@ -36,13 +36,17 @@ four =
       tag = replicate 32 67;
     }
 
+-- the rules of this set-up, but that every request counts as signed: what a client signed cannot be computed here
+abbrev pub rules : Rules
+rules = record (rules_of four) { signed = λ q. true }
+
 -- one request, of the one client
 abbrev pub batch : Batch
-batch = record { id = record { client = 0; number = 0 }; payload = 170 ∷ []; sig = stand_in 4 0 } ∷ []
+batch = record { id = record { client = 0; number = 0 }; payload = 170 ∷ []; sig = 4 ∷ replicate 2276 0 } ∷ []
 
 -- the instance of node 0 in the first epoch, whose segment is slot 0
 abbrev pub instance : Params
-instance = (rules_of four).params [] 0 0
+instance = rules.params [] 0 0
 
 -- that the batch was said at slot 0, and that it was taken there
 abbrev pub said : List ℕ
@@ -54,8 +58,8 @@ echoed = statement instance 2 0 (digest_of instance batch)
 -- a cluster that moves lead to, and what is to be seen in it
 pub record IsShown : Type 0 where
   pub cluster : Cluster Word
-  pub reached : Reach four (scheme_of four) (rules_of four) echo cluster
-  pub sound : IsSoundRules four echo (rules_of four)
+  pub reached : Reach four (scheme_of four) rules echo cluster
+  pub sound : IsSoundRules four echo rules
   pub separate : Separate (Among cluster.strings)
   -- node 0 signed its word and its echo, and node 1 its echo
   pub word : IsBooked cluster.book 0 said
@@ -65,6 +69,6 @@ pub record IsShown : Type 0 where
   pub faulty : is_correct four 3 ≡ false
   pub unbooked : IsBooked cluster.book 3 echoed → ⊥
   -- by these three node 1 delivered the batch, and it is its log
-  pub log : log_of (rules_of four) echo 1 (cluster.pasts 1) ≡ Holds batch ∷ []
+  pub log : log_of rules echo 1 (cluster.pasts 1) ≡ Holds batch ∷ []
   -- and what the composition says of this cluster
-  pub ordered : Ordered four (rules_of four) echo cluster.pasts
+  pub ordered : Ordered four rules echo cluster.pasts

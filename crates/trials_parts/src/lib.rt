@@ -1,8 +1,10 @@
-//! Tests over public calls of the crates below the model: formats, schedules, keys, disks, journals, the network and
-//! modules. What they expect comes from outside: other programs, and values worked out by hand.
+//! Tests over public calls of the crates below the model: formats, schedules, keys, disks, journals, the parts of a
+//! node, the network and modules. What they expect comes from outside: other programs, and values worked out by hand.
 #![tactic(auto)]
 
 #[cfg(test)]
 mod instances;
+#[cfg(test)]
+mod setups;
 #[cfg(test)]
 mod tests;

@@ -2,9 +2,13 @@
 mod echo;
 mod journals;
 mod keys;
+mod layouts;
+mod logs;
 mod network;
 mod packets;
 mod relay;
 mod requests;
 mod schedules;
 mod vectors;
+mod waiting;
+mod windows;

@@ -14,6 +14,7 @@ use iss_request::{
 };
 use iss_sb::{Input, Params, Sequenced, To};
 use iss_schedule::Event;
+use iss_segment::sign_request;
 use iss_world::{Happened, World};
 use sb_echo::{Echo, Word};
 use sha2::{Digest, Sha256};
@@ -60,15 +61,24 @@ fn instance(alloc: Global) -> Result<Params, NoMemory>
     })
 }
 
+// What client 0 signs of a request without a payload.
+fn signature(alloc: Global, id: ReqId) -> Result<Bytes, Fail> {
+    let keys = Keys::make(alloc, Sha256::digest([0x21u8, 0]), 4)?;
+    if id.number >= keys.left() {
+        return Ok(Bytes::of(Vec::new(alloc)));
+    }
+    Ok(sign_request(&keys, id, &[])?)
+}
+
 // A batch of one request, of this number.
-fn batch_of(alloc: Global, number: u32) -> Result<Batch, NoMemory> {
-    let mut sig = vec![in alloc; 0u8; 2277]?;
-    sig[0] = 4;
+fn batch_of(alloc: Global, number: u32) -> Result<Batch, Fail> {
+    let id = ReqId { client: 0, number };
+    let sig = signature(alloc, id)?;
     let mut batch = Batch::new(alloc);
     batch.push(Request {
-        id: ReqId { client: 0, number },
+        id,
         payload: Bytes::of(Vec::new(alloc)),
-        sig: Bytes::of(sig),
+        sig,
     })?;
     Ok(batch)
 }

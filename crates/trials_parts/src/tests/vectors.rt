@@ -2,7 +2,7 @@
 //! that no goal holds their bytes.
 
 /// The root over 32 zero bytes, at height 2.
-pub fn root_2() -> [u8; 32] {
+pub(crate) fn root_2() -> [u8; 32] {
     [
         222, 130, 11, 121, 130, 145, 141, 172, 203, 113, 225, 94, 19, 213, 96, 109, 235, 195, 205,
         85, 183, 180, 235, 203, 126, 80, 78, 65, 182, 156, 147, 143,
@@ -10,7 +10,7 @@ pub fn root_2() -> [u8; 32] {
 }
 
 /// The root over 32 zero bytes, at height 4.
-pub fn root_4() -> [u8; 32] {
+pub(crate) fn root_4() -> [u8; 32] {
     [
         228, 151, 7, 3, 17, 77, 210, 185, 182, 151, 183, 133, 79, 237, 28, 110, 153, 151, 85, 101,
         34, 92, 23, 16, 189, 236, 89, 53, 50, 161, 36, 127,
@@ -18,7 +18,7 @@ pub fn root_4() -> [u8; 32] {
 }
 
 /// The root of node 0, at height 2.
-pub fn root_node_0() -> [u8; 32] {
+pub(crate) fn root_node_0() -> [u8; 32] {
     [
         150, 113, 8, 58, 245, 221, 83, 211, 187, 212, 39, 244, 112, 185, 186, 39, 230, 45, 212, 34,
         11, 37, 228, 28, 201, 91, 90, 15, 49, 253, 251, 31,
@@ -26,7 +26,7 @@ pub fn root_node_0() -> [u8; 32] {
 }
 
 /// The root of client 2, at height 2.
-pub fn root_client_2() -> [u8; 32] {
+pub(crate) fn root_client_2() -> [u8; 32] {
     [
         102, 140, 229, 149, 183, 137, 43, 251, 31, 31, 34, 13, 33, 6, 111, 223, 127, 222, 67, 124,
         207, 56, 68, 45, 39, 33, 111, 252, 54, 76, 179, 4,
@@ -146,6 +146,6 @@ static SIGNATURE: [u8; 2213] = [
 ];
 
 /// That signature.
-pub fn known() -> &'static [u8] {
+pub(crate) fn known() -> &'static [u8] {
     &SIGNATURE
 }

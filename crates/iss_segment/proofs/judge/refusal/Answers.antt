@@ -2,7 +2,8 @@ use Rattle.std.proofs.Common.{◌≡◌, ◌∙◌, ◌≤◌, Bool, true, false
 use Rattle.std.specs.Prelude.{nat_lt}
 use Rattle.iss_model.specs.Judge.{any_marked}
 use Rattle.iss_request.specs.Log.{ids}
-use Rattle.iss_segment.proofs.MarksLemmas.{judged, not-large}
+use Rattle.iss_segment.proofs.MarksLemmas.{judged, judged-outside, judged-unsigned, not-large}
+use Rattle.iss_segment.proofs.Signed.{under-setup}
 use Rattle.iss_segment.proofs.judge.refusal.Goals as goal
 
 pub returns-then-is_any_ordered : goal.returns-then-is_any_ordered
@@ -11,7 +12,7 @@ returns-then-is_any_ordered c =
     judged c.args.setup.now c.args.layout.now c.args.windows.now c.args.leader.0 c.args.marked.now c.args.batch.now false false false false true (any_marked c.args.marked.now (ids c.args.batch.now)) (record {
       large = not-large c.args.setup.now.batch (length c.args.batch.now) small;
       foreign = sym c.is_any_foreign.ensures ∙ c.if-is_any_foreign.false;
-      unsigned = sym c.is_any_unsigned.ensures ∙ c.if-is_any_unsigned.false;
+      unsigned = under-setup c.args.setup.now c.args.directory.now c.args.batch.now c.requires (sym c.is_any_unsigned.ensures ∙ c.if-is_any_unsigned.false);
       outside = λ before h. sym (c.is_any_outside.ensures before h) ∙ c.if-is_any_outside.false;
       ordered = λ before h. sym (c.is_any_ordered.ensures before h) ∙ c.if-is_any_ordered.true;
       doubled = refl;
@@ -23,7 +24,7 @@ returns-then-is_any_marked c =
     judged c.args.setup.now c.args.layout.now c.args.windows.now c.args.leader.0 c.args.marked.now c.args.batch.now false false false false false true (record {
       large = not-large c.args.setup.now.batch (length c.args.batch.now) small;
       foreign = sym c.is_any_foreign.ensures ∙ c.if-is_any_foreign.false;
-      unsigned = sym c.is_any_unsigned.ensures ∙ c.if-is_any_unsigned.false;
+      unsigned = under-setup c.args.setup.now c.args.directory.now c.args.batch.now c.requires (sym c.is_any_unsigned.ensures ∙ c.if-is_any_unsigned.false);
       outside = λ before h. sym (c.is_any_outside.ensures before h) ∙ c.if-is_any_outside.false;
       ordered = λ before h. sym (c.is_any_ordered.ensures before h) ∙ c.if-is_any_ordered.false;
       doubled = sym c.is_any_marked.ensures ∙ c.if-is_any_marked.true;
@@ -35,8 +36,25 @@ returns-else-is_any_marked c =
     judged c.args.setup.now c.args.layout.now c.args.windows.now c.args.leader.0 c.args.marked.now c.args.batch.now false false false false false false (record {
       large = not-large c.args.setup.now.batch (length c.args.batch.now) small;
       foreign = sym c.is_any_foreign.ensures ∙ c.if-is_any_foreign.false;
-      unsigned = sym c.is_any_unsigned.ensures ∙ c.if-is_any_unsigned.false;
+      unsigned = under-setup c.args.setup.now c.args.directory.now c.args.batch.now c.requires (sym c.is_any_unsigned.ensures ∙ c.if-is_any_unsigned.false);
       outside = λ before h. sym (c.is_any_outside.ensures before h) ∙ c.if-is_any_outside.false;
       ordered = λ before h. sym (c.is_any_ordered.ensures before h) ∙ c.if-is_any_ordered.false;
       doubled = sym c.is_any_marked.ensures ∙ c.if-is_any_marked.false;
     })
+
+pub returns-then-is_any_unsigned : goal.returns-then-is_any_unsigned
+returns-then-is_any_unsigned c =
+    let small : length c.args.batch.now ≤ c.args.setup.now.batch = omega (arith, c.if-batch-setup.false) in
+    judged-unsigned c.args.setup.now c.args.layout.now c.args.windows.now c.args.leader.0 c.args.marked.now c.args.batch.now
+    (not-large c.args.setup.now.batch (length c.args.batch.now) small)
+    (sym c.is_any_foreign.ensures ∙ c.if-is_any_foreign.false)
+    (under-setup c.args.setup.now c.args.directory.now c.args.batch.now c.requires (sym c.is_any_unsigned.ensures ∙ c.if-is_any_unsigned.true))
+
+pub returns-then-is_any_outside : goal.returns-then-is_any_outside
+returns-then-is_any_outside c =
+    let small : length c.args.batch.now ≤ c.args.setup.now.batch = omega (arith, c.if-batch-setup.false) in
+    judged-outside c.args.setup.now c.args.layout.now c.args.windows.now c.args.leader.0 c.args.marked.now c.args.batch.now
+    (not-large c.args.setup.now.batch (length c.args.batch.now) small)
+    (sym c.is_any_foreign.ensures ∙ c.if-is_any_foreign.false)
+    (under-setup c.args.setup.now c.args.directory.now c.args.batch.now c.requires (sym c.is_any_unsigned.ensures ∙ c.if-is_any_unsigned.false))
+    (λ before h. sym (c.is_any_outside.ensures before h) ∙ c.if-is_any_outside.true)

@@ -1,13 +1,22 @@
-use Rattle.std.proofs.Common.{◌∙◌, List, ℕ, ap, refl}
+use Rattle.std.proofs.Common.{◌<◌, ◌^◌, ◌∙◌, List, ℕ, ap, refl, subst, sym}
+use Rattle.iss_keys.specs.KeyStates.{KeyState}
 use Rattle.iss_model.specs.Formats.{formats_of}
 use Rattle.iss_model.specs.Node.{OfRequest}
 use Rattle.iss_request.specs.declared.requests.Request.{Request}
+use Rattle.iss_world.proofs.RunningLemmas.{client-keys, client-number, signed-request}
 use Rattle.iss_world.proofs.requests.request_packet.Goals as goal
+
+pub keys_of_client-keys-requires : goal.keys_of_client-keys-requires
+keys_of_client-keys-requires g c = client-number c.args.setup.now c.args.id.client c.args.directory.now c.requires.directory c.requires.client
+
+pub sign_request-requires-clause-leaf : goal.sign_request-requires-clause-leaf
+sign_request-requires-clause-leaf g c =
+    let mine = client-keys c.args.setup.now c.args.id.client c.args.directory.now c.keys_of_client-keys.result c.requires.directory c.keys_of_client-keys.ensures.made in
+    subst (λ (z : KeyState). c.args.id.number < 2 ^ z.height) (sym mine) c.requires.leaf
 
 pub returns : goal.returns
 returns g c =
     let wrapped : Request → List ℕ = λ q. (formats_of c.args.setup.now g.M.Sequenced.meaning).wrap (record { from = 255; epoch = 0; body = OfRequest q }) in
-    let with_parts : List ℕ → List ℕ → Request = λ payload sig. record { id = record { client = c.args.client; number = c.args.number }; payload = payload; sig = sig } in
+    let mine = client-keys c.args.setup.now c.args.id.client c.args.directory.now c.keys_of_client-keys.result c.requires.directory c.keys_of_client-keys.ensures.made in
     c.in_ok-wrapped.ensures c.args.setup.now refl
-    ∙ ap (λ (payload : List ℕ). wrapped (with_parts payload c.in_ok-stand_in.field-0)) c.in_ok-copy.ensures
-    ∙ ap (λ (sig : List ℕ). wrapped (with_parts c.args.payload.now sig)) c.in_ok-stand_in.ensures
+    ∙ ap wrapped (signed-request c.args.setup.now c.args.id c.args.payload.now c.in_ok-copy.field-0 c.as_slice.result.now c.in_ok-sign_request.field-0 c.keys_of_client-keys.result mine c.in_ok-copy.ensures c.as_slice.ensures c.in_ok-sign_request.ensures)

@@ -1,6 +1,6 @@
-use Rattle.std.proofs.Common.{suc, ◌+◌, ◌-◌, ◌∙◌, refl, arith}
+use Rattle.std.proofs.Common.{suc, ◌+◌, ◌-◌, refl, arith}
 use Rattle.iss_request.proofs.Readings.{exit}
-use Rattle.pbft_wire.specs.Certificates.{after_node, node_of_vote, parse_vote}
+use Rattle.pbft_wire.specs.Certificates.{node_of_vote, parse_vote}
 use Rattle.pbft_wire.proofs.Rising.{climbs-bad, climbs-end, climbs-next, climbs-start}
 use Rattle.pbft_wire.proofs.reading.read_votes.Goals as goal
 

@@ -19,7 +19,7 @@ returns-then-not-is_signed-clause-answer g c = λ past tied.
     let bf = before_own (rules_of v.setup) m v.me.0 past in
     let all = log_ids (log_of (rules_of v.setup) m v.me.0 past) in
     let logged = logged-all m g.M.Sequenced.stands v shape past tied in
-    let signed : (rules_of v.setup).signed q ≡ false = sym (subst (λ (z : ReplicaState g.row.M.Denot g.row.M-Msg.Denot). false ≡ (rules_of z.setup).signed q) c.self.view_is c.if-not-is_signed.ensures) in
+    let signed : (rules_of v.setup).signed q ≡ false = sym c.if-not-is_signed.ensures in
     record { step_is = request-is m g.M.Sequenced.stands v shape past tied q false _ _ signed refl refl; stands_for = same-parts m g.M.Sequenced.stands v past tied }
 
 pub returns-then-knows-clause-answer : goal.returns-then-knows-clause-answer
@@ -31,7 +31,7 @@ returns-then-knows-clause-answer g c = λ past tied.
     let bf = before_own (rules_of v.setup) m v.me.0 past in
     let all = log_ids (log_of (rules_of v.setup) m v.me.0 past) in
     let logged = logged-all m g.M.Sequenced.stands v shape past tied in
-    let signed : (rules_of v.setup).signed q ≡ true = sym (subst (λ (z : ReplicaState g.row.M.Denot g.row.M-Msg.Denot). true ≡ (rules_of z.setup).signed q) c.self.view_is c.if-not-is_signed.ensures) in
+    let signed : (rules_of v.setup).signed q ≡ true = sym c.if-not-is_signed.ensures in
     let known = known-is m g.M.Sequenced.stands v shape past tied q.id true (c.if-knows.ensures all logged) in
     record { step_is = request-is m g.M.Sequenced.stands v shape past tied q true true _ signed known refl; stands_for = same-parts m g.M.Sequenced.stands v past tied }
 
@@ -44,7 +44,7 @@ returns-then-not-is_inside-clause-answer g c = λ past tied.
     let bf = before_own (rules_of v.setup) m v.me.0 past in
     let all = log_ids (log_of (rules_of v.setup) m v.me.0 past) in
     let logged = logged-all m g.M.Sequenced.stands v shape past tied in
-    let signed : (rules_of v.setup).signed q ≡ true = sym (subst (λ (z : ReplicaState g.row.M.Denot g.row.M-Msg.Denot). true ≡ (rules_of z.setup).signed q) c.self.view_is c.if-not-is_signed.ensures) in
+    let signed : (rules_of v.setup).signed q ≡ true = sym c.if-not-is_signed.ensures in
     let known = known-is m g.M.Sequenced.stands v shape past tied q.id false (c.if-knows.ensures all logged) in
     let inside = inside-found m g.M.Sequenced.stands v shape past tied q.id false c.self.inside.windows (ap (λ (z : ReplicaState g.row.M.Denot g.row.M-Msg.Denot). z.windows) c.self.view_is) c.if-not-is_inside.ensures in
     record { step_is = request-is m g.M.Sequenced.stands v shape past tied q true false false signed known inside; stands_for = same-parts m g.M.Sequenced.stands v past tied }
@@ -58,7 +58,7 @@ returns-clause-answer g c = λ past tied.
     let bf = before_own (rules_of v.setup) m v.me.0 past in
     let all = log_ids (log_of (rules_of v.setup) m v.me.0 past) in
     let logged = logged-all m g.M.Sequenced.stands v shape past tied in
-    let signed : (rules_of v.setup).signed q ≡ true = sym (subst (λ (z : ReplicaState g.row.M.Denot g.row.M-Msg.Denot). true ≡ (rules_of z.setup).signed q) c.self.view_is c.if-not-is_signed.ensures) in
+    let signed : (rules_of v.setup).signed q ≡ true = sym c.if-not-is_signed.ensures in
     let found = c.if-knows.ensures all logged in
     let known = known-is m g.M.Sequenced.stands v shape past tied q.id false found in
     let inside = inside-found m g.M.Sequenced.stands v shape past tied q.id true c.self.inside.windows (ap (λ (z : ReplicaState g.row.M.Denot g.row.M-Msg.Denot). z.windows) c.self.view_is) c.if-not-is_inside.ensures in

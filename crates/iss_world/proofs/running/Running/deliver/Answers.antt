@@ -9,7 +9,7 @@ use Rattle.iss_world.proofs.RunningLemmas.{happened-delivered, if-ok, renetworke
 use Rattle.iss_world.proofs.running.Running.deliver.Goals as goal
 
 pub take-requires-clause-core : goal.take-requires-clause-core
-take-requires-clause-core g c = for-at c.self.inside.setup.n c.self.inside.network.packets c.args.packet c.in-Some.sent.now c.self.invariant.network.packets (sym c.in-Some.ensures)
+take-requires-clause-core g c = for-at c.self.inside.setup.n c.self.inside.network.packets c.args.packet c.in-Some.sent.now c.self.invariant.0.network.packets (sym c.in-Some.ensures)
 
 pub take-requires-clause-standing : goal.take-requires-clause-standing
 take-requires-clause-standing g c =

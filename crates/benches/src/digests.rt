@@ -1,0 +1,145 @@
+//! The digests that a piece of work over keys takes, and what they cost by themselves.
+
+ghost use Rattle.std.specs.Prelude.{◌<◌, ◌≤◌};
+
+use sha2::{Digest, Sha256};
+use std::test::Fail;
+use std::time::Instant;
+
+/// What is signed.
+pub const STATEMENT: &[u8; 16] = b"0123456789abcdef";
+
+// The chains of a signature, and the steps of each.
+const CHAINS: u32 = 67;
+
+const STEPS: u32 = 15;
+
+/// How many digests of each length a piece of work takes.
+#[derive(Clone, Copy, Debug)]
+pub struct Digests {
+    /// Of up to 55 bytes, one block: starts and steps of chains, statements.
+    pub short: u32,
+    /// Of 65 bytes, two blocks: inner nodes.
+    pub inner: u32,
+    /// Of 2,149 bytes, 34 blocks: leaves.
+    pub leaf: u32,
+}
+
+/// The best time of several, in nanoseconds: of the work, and of its digests alone.
+#[derive(Clone, Copy)]
+pub struct Best {
+    pub work: u64,
+    pub digests: u64,
+}
+
+impl Best {
+    pub(crate) fn note(self, work: u64, digests: u64) -> Best {
+        Best {
+            work: self.work.min(work),
+            digests: self.digests.min(digests),
+        }
+    }
+}
+
+/// No time is taken yet.
+pub const NONE_YET: Best = Best {
+    work: u64::MAX,
+    digests: u64::MAX,
+};
+
+// Takes `count` digests of `N` bytes, each of which changes with the one before.
+fn take_digests<const N: usize>(count: u32) -> u8
+    requires low { 0 < N }
+    requires high { N ≤ 4096 }
+{
+    let mut message = [0u8; N];
+    for _i in 0..count {
+        let digest = Sha256::digest(message);
+        message[0] = digest[0];
+    }
+    message[0]
+}
+
+fn take_all(digests: Digests) -> u8 {
+    let short = take_digests::<40>(digests.short);
+    let inner = take_digests::<65>(digests.inner);
+    let leaf = take_digests::<2149>(digests.leaf);
+    short ^ inner ^ leaf
+}
+
+/// Those of a tree of this height.
+pub(crate) fn digests_of_tree(height: u8) -> Digests
+    requires { height ≤ 12 }
+{
+    let leaves = 1u32 << height;
+    Digests {
+        short: leaves.wrapping_mul(CHAINS * (STEPS + 1)),
+        inner: leaves.wrapping_sub(1),
+        leaf: leaves,
+    }
+}
+
+// How many steps a signature of a statement has gone along its chains.
+fn steps_signed(statement: &[u8]) -> u32 {
+    let mut hasher = Sha256::new();
+    hasher.update([0x14u8]);
+    hasher.update(statement);
+    let mut sum = 0u32;
+    for byte in hasher.finalize() {
+        sum = sum
+            .wrapping_add(u32::from(byte / 16))
+            .wrapping_add(u32::from(byte % 16));
+    }
+    let check = 960u32.saturating_sub(sum);
+    sum.wrapping_add(check / 256)
+        .wrapping_add(check / 16 % 16)
+        .wrapping_add(check % 16)
+}
+
+/// Those of so many signatures.
+pub(crate) fn digests_of_signatures(count: u32) -> Digests {
+    let each = steps_signed(STATEMENT).wrapping_add(CHAINS + 1);
+    Digests {
+        short: count.wrapping_mul(each),
+        inner: 0,
+        leaf: 0,
+    }
+}
+
+/// Those of so many verifications under a tree of this height.
+pub(crate) fn digests_of_verifications(count: u32, height: u8) -> Digests {
+    let each = (CHAINS * STEPS + 1).saturating_sub(steps_signed(STATEMENT));
+    Digests {
+        short: count.wrapping_mul(each),
+        inner: count.wrapping_mul(u32::from(height)),
+        leaf: count,
+    }
+}
+
+/// The nanoseconds since then.
+pub(crate) fn nanos_since(rt: &HostRuntime, start: Instant) -> Result<u64, Fail> {
+    Ok(u64::try_from(start.elapsed(rt)?.as_nanos()).unwrap_or(u64::MAX))
+}
+
+/// The nanoseconds that digests take.
+pub(crate) fn time_digests(rt: &HostRuntime, digests: Digests) -> Result<u64, Fail> {
+    let start = Instant::now(rt)?;
+    let last = take_all(digests);
+    let nanos = nanos_since(rt, start)?;
+    // The digests are used, so that no compiler leaves them out.
+    Ok(nanos.saturating_add(u64::from(last / 255)))
+}
+
+/// Prints a line of times: of one piece of work, and how it compares with its digests.
+pub(crate) fn print_times(
+    rt: &HostRuntime,
+    what: &str,
+    best: Best,
+    count: u64,
+) -> Result<(), Fail> {
+    let each = best.work / count.max(1);
+    let a_second = 1_000_000_000u64.saturating_mul(count) / best.work.max(1);
+    let percent = best.work.saturating_mul(100) / best.digests.max(1);
+    println!(rt; "{what}: {each} ns each, {a_second} a second, {percent} percent of its digests")?;
+    Ok(())
+}

@@ -1,0 +1,276 @@
+//! Directories of keys: what it costs to make one and to check by it, and to check by several owners of one.
+
+ghost use Rattle.std.specs.Prelude.{◌<◌, ◌≤◌};
+
+use crate::digests::{
+    Best, NONE_YET, STATEMENT, digests_of_verifications, nanos_since, print_times, time_digests,
+};
+use crate::keys::{client_key, signature_by};
+use iss_keys::{Directory, Keys, SharedDirectory};
+use std::alloc::Global;
+use std::test::Fail;
+use std::time::Instant;
+
+type Timed<T> = Result<T, Fail>;
+
+// The client that signs.
+const CLIENT: u8 = 7;
+// How many signatures are checked by turns.
+const SIGNATURES: u32 = 200;
+
+// The directory of so many nodes and clients.
+fn directory_of(alloc: Global, nodes: u32, clients: u32, height: u8) -> Timed<Directory>
+    requires nodes { nodes ≤ 256 }
+    requires clients { clients ≤ 256 }
+    requires low { 2 ≤ height }
+    requires high { height ≤ 12 }
+{
+    Ok(Directory::make(alloc, nodes, clients, height)?)
+}
+
+// One that has several owners.
+fn shared_directory(alloc: Global, nodes: u32, clients: u32, height: u8) -> Timed<SharedDirectory>
+    requires nodes { nodes ≤ 256 }
+    requires clients { clients ≤ 256 }
+    requires low { 2 ≤ height }
+    requires high { height ≤ 12 }
+{
+    Ok(SharedDirectory::make(alloc, nodes, clients, height)?)
+}
+
+fn checks(directory: &Directory, signature: &[u8], count: u32) -> u32 {
+    let mut verified = 0u32;
+    for _i in 0..count {
+        if directory.verify_client(CLIENT, STATEMENT, signature) {
+            verified = verified.wrapping_add(1);
+        }
+    }
+    verified
+}
+
+// How long so many checks of a signature take; for ever, where it does not verify.
+fn time_checks(
+    rt: &HostRuntime,
+    directory: &Directory,
+    signature: &[u8],
+    count: u32,
+) -> Timed<u64> {
+    let start = Instant::now(rt)?;
+    let verified = checks(directory, signature, count);
+    let nanos = nanos_since(rt, start)?;
+    Ok(if verified == count { nanos } else { u64::MAX })
+}
+
+// Checks a new signature, beside the digests that it takes.
+fn time_signature(
+    rt: &HostRuntime,
+    directory: &Directory,
+    signature: &[u8],
+    height: u8,
+) -> Timed<Best> {
+    let work = time_checks(rt, directory, signature, 1)?;
+    let digests = time_digests(rt, digests_of_verifications(1, height))?;
+    Ok(Best { work, digests })
+}
+
+// Checks each signature, and then again and again.
+fn time_signatures(
+    rt: &HostRuntime,
+    directory: &Directory,
+    signatures: &[Vec<u8>],
+    height: u8,
+) -> Timed<()> {
+    let mut new = NONE_YET;
+    let mut again = u64::MAX;
+    for signature in signatures {
+        let best = time_signature(rt, directory, signature, height)?;
+        new = new.note(best.work, best.digests);
+        again = again.min(time_checks(rt, directory, signature, 100)?);
+    }
+    print_times(rt, "check of a new signature", new, 1)?;
+    println!(rt; "remembered check: {} ns each", again / 100)?;
+    Ok(())
+}
+
+// How long it takes to check each signature once; for ever, where one does not verify.
+fn time_round(rt: &HostRuntime, directory: &Directory, signatures: &[Vec<u8>]) -> Timed<u64> {
+    let start = Instant::now(rt)?;
+    let mut verified = 0u32;
+    for signature in signatures {
+        verified = verified.wrapping_add(checks(directory, signature, 1));
+    }
+    let nanos = nanos_since(rt, start)?;
+    Ok(if verified == SIGNATURES {
+        nanos
+    } else {
+        u64::MAX
+    })
+}
+
+// Many signatures, checked one after the other, again and again: some share their place in memory.
+fn time_rounds(rt: &HostRuntime, directory: &Directory, signatures: &[Vec<u8>]) -> Timed<()> {
+    let mut best = u64::MAX;
+    for _round in 0..20 {
+        best = best.min(time_round(rt, directory, signatures)?);
+    }
+    let each = best / u64::from(SIGNATURES);
+    println!(rt; "remembered checks of {SIGNATURES} signatures by turns: {each} ns each")?;
+    Ok(())
+}
+
+fn many_signatures(keys: &mut Keys, alloc: Global) -> Timed<Vec<Vec<u8>>> {
+    let mut all = Vec::new(alloc);
+    for _i in 0..SIGNATURES {
+        all.push(signature_by(keys)?)?;
+    }
+    Ok(all)
+}
+
+// How long it takes to make a directory.
+fn time_making(rt: &HostRuntime, nodes: u32, clients: u32, height: u8) -> Timed<Directory>
+    requires nodes { nodes ≤ 256 }
+    requires clients { clients ≤ 256 }
+    requires low { 2 ≤ height }
+    requires high { height ≤ 12 }
+{
+    let start = Instant::now(rt)?;
+    let directory = directory_of(rt.alloc(), nodes, clients, height)?;
+    let made = nanos_since(rt, start)?;
+    println!(rt; "directory of {nodes} nodes and {clients} clients, height {height}: {made} ns")?;
+    Ok(directory)
+}
+
+// A directory is asked for the first time (which makes the client's key), about other signatures, and about these again.
+fn time_asking(rt: &HostRuntime, directory: &Directory, keys: &mut Keys, height: u8) -> Timed<()> {
+    let signature = signature_by(keys)?;
+    let first = time_checks(rt, directory, &signature, 1)?;
+    println!(rt; "its first check: {first} ns")?;
+    let signatures = many_signatures(keys, rt.alloc())?;
+    time_signatures(rt, directory, &signatures, height)?;
+    time_rounds(rt, directory, &signatures)
+}
+
+/// A directory of so many nodes and clients, of which one is used: made, and asked.
+pub(crate) fn time_directory(rt: &HostRuntime, nodes: u32, clients: u32, height: u8) -> Timed<()>
+    requires nodes { nodes ≤ 256 }
+    requires clients { clients ≤ 256 }
+    requires low { 2 ≤ height }
+    requires high { height ≤ 12 }
+{
+    let directory = time_making(rt, nodes, clients, height)?;
+    let mut keys = client_key(rt.alloc(), CLIENT, height)?;
+    time_asking(rt, &directory, &mut keys, height)
+}
+
+// Checks of one signature, one by each owner of a directory.
+fn checks_by_all(owners: &[SharedDirectory], signature: &[u8]) -> u32 {
+    let mut verified = 0u32;
+    for owner in owners {
+        verified = verified.wrapping_add(checks(owner.directory(), signature, 1));
+    }
+    verified
+}
+
+// An owner for each of so many nodes.
+fn owners_of(alloc: Global, shared: &SharedDirectory, nodes: u32) -> Timed<Vec<SharedDirectory>> {
+    let mut owners = Vec::new(alloc);
+    for _node in 0..nodes {
+        owners.push(shared.share())?;
+    }
+    Ok(owners)
+}
+
+/// In a new directory of so many nodes and clients one client signs, and ten nodes check it.
+pub(crate) fn sign_for_ten(alloc: Global, nodes: u32, clients: u32, height: u8) -> Timed<u32>
+    requires nodes { nodes ≤ 256 }
+    requires few { 7 < clients }
+    requires clients { clients ≤ 256 }
+    requires low { 2 ≤ height }
+    requires high { height ≤ 12 }
+{
+    let shared = SharedDirectory::make(alloc, nodes, clients, height)?;
+    let mut keys = shared.directory().keys_of_client(alloc, CLIENT);
+    let signature = signature_by(&mut keys)?;
+    let owners = owners_of(alloc, &shared, 10)?;
+    Ok(checks_by_all(&owners, &signature))
+}
+
+// How long the whole of it takes.
+fn time_whole(rt: &HostRuntime, nodes: u32, clients: u32, height: u8) -> Timed<u64>
+    requires nodes { nodes ≤ 256 }
+    requires few { 7 < clients }
+    requires clients { clients ≤ 256 }
+    requires low { 2 ≤ height }
+    requires high { height ≤ 12 }
+{
+    let start = Instant::now(rt)?;
+    let verified = sign_for_ten(rt.alloc(), nodes, clients, height)?;
+    let nanos = nanos_since(rt, start)?;
+    Ok(if verified == 10 { nanos } else { u64::MAX })
+}
+
+// How long the one tree takes that it needs.
+fn time_tree_alone(rt: &HostRuntime, height: u8) -> Timed<u64>
+    requires low { 2 ≤ height }
+    requires high { height ≤ 12 }
+{
+    let start = Instant::now(rt)?;
+    let keys = client_key(rt.alloc(), CLIENT, height)?;
+    let _public = keys.public();
+    nanos_since(rt, start)
+}
+
+/// The whole of it, beside the one tree that it needs.
+pub(crate) fn time_one_tree(rt: &HostRuntime, nodes: u32, clients: u32, height: u8) -> Timed<()>
+    requires nodes { nodes ≤ 256 }
+    requires few { 7 < clients }
+    requires clients { clients ≤ 256 }
+    requires low { 2 ≤ height }
+    requires high { height ≤ 12 }
+{
+    let mut whole = u64::MAX;
+    let mut tree = u64::MAX;
+    for _round in 0..5 {
+        whole = whole.min(time_whole(rt, nodes, clients, height)?);
+        tree = tree.min(time_tree_alone(rt, height)?);
+    }
+    let percent = whole.saturating_mul(100) / tree.max(1);
+    println!(rt;
+        "one of {clients} clients signs, ten nodes check, height {height}: {whole} ns, {percent} percent of one tree"
+    )?;
+    Ok(())
+}
+
+// How long it takes that all owners check a new signature.
+fn time_all_checks(rt: &HostRuntime, owners: &[SharedDirectory], keys: &mut Keys) -> Timed<u64> {
+    let signature = signature_by(keys)?;
+    let start = Instant::now(rt)?;
+    let _verified = checks_by_all(owners, &signature);
+    nanos_since(rt, start)
+}
+
+// Of two new signatures one is checked by one owner, the other by all, again and again.
+fn time_by_turns(rt: &HostRuntime, owners: &[SharedDirectory], keys: &mut Keys) -> Timed<()> {
+    let mut one = u64::MAX;
+    let mut ten = u64::MAX;
+    for _round in 0..120u32 {
+        one = one.min(time_all_checks(rt, owners.get(..1).unwrap_or(&[]), keys)?);
+        ten = ten.min(time_all_checks(rt, owners, keys)?);
+    }
+    let percent = ten.saturating_mul(100) / one.max(1);
+    println!(rt; "one signature checked by ten nodes: {ten} ns, {percent} percent of one check")?;
+    Ok(())
+}
+
+/// What a signature costs that ten nodes check, who share a directory of so many nodes and clients.
+pub(crate) fn time_ten_checks(rt: &HostRuntime, nodes: u32, clients: u32, height: u8) -> Timed<()>
+    requires nodes { nodes ≤ 256 }
+    requires clients { clients ≤ 256 }
+    requires low { 2 ≤ height }
+    requires high { height ≤ 12 }
+{
+    let shared = shared_directory(rt.alloc(), nodes, clients, height)?;
+    let owners = owners_of(rt.alloc(), &shared, nodes)?;
+    let mut keys = client_key(rt.alloc(), CLIENT, height)?;
+    time_by_turns(rt, &owners, &mut keys)
+}

@@ -1,0 +1,9 @@
+use Rattle.std.proofs.Common.{sym}
+use Rattle.hs_tree.proofs.Branches.{slots-none, slots-some}
+use Rattle.hs_tree.proofs.tree.Tree.slots_from.Goals as goal
+
+pub returns-in-Some : goal.returns-in-Some
+returns-in-Some c ks h = slots-some c.args.self.now.nodes.items c.args.place c.in-Some.node.now ks h (sym c.in-Some.ensures)
+
+pub returns-in-None : goal.returns-in-None
+returns-in-None c ks h = slots-none c.args.self.now.nodes.items c.args.place ks h (sym c.in-None.ensures)

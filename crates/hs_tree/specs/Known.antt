@@ -1,0 +1,61 @@
+-- What the code keeps of the tree: the nodes in a row, each with the place of its parent, and of each digest the place of
+-- the newest node that has it.
+use Rattle.std.specs.Prelude.{◌≡◌, ◌≤◌, ℕ, suc, ◌+◌, ◌||◌, Bool, false, List, [], ◌∷◌, ◌++◌, map, length, slice_get, is_some, Option, Some, None, if◌then◌else◌}
+use Rattle.std.specs.BTreeMap.{get}
+use Rattle.std.specs.Cmp.Lexicographic.{slice_cmp}
+use Rattle.std.specs.Ordering.{nat_cmp}
+use Rattle.iss_base.specs.Lists.{same_bytes}
+use Rattle.iss_request.specs.declared.requests.Value.{Value}
+use Rattle.iss_sb.specs.Evidence.{one_or_none}
+use Rattle.raft_wire.specs.declared.entries.What.{What}
+use Rattle.hs_tree.specs.declared.tree.Known.{Known}
+use Rattle.hs_tree.specs.declared.tree.Tree.{Tree}
+use Rattle.hs_tree.specs.Tree.{Node, filled, is_known, root, value_of, weight}
+
+-- ---- branches as nodes
+
+-- the nodes from that of the digest up to the root
+abbrev pub path : List Node → List ℕ → List Node
+path [] d = []
+path (k ∷ ks) d = if same_bytes k.digest d then k ∷ path ks k.parent else path ks d
+
+abbrev pub whats : List Node → List What
+whats [] = []
+whats (k ∷ ks) = k.what ∷ whats ks
+
+-- what a branch holds for the slots, in their order. A mark holds no slot
+abbrev pub values : List What → List Value
+values [] = []
+values (c ∷ cs) = values cs ++ one_or_none (value_of c)
+
+-- whether one of the nodes stands on that of the digest
+abbrev pub meets : List ℕ → List Node → Bool
+meets e [] = false
+meets e (k ∷ ks) = same_bytes k.parent e || meets e ks
+
+-- ---- the code's row
+
+abbrev pub place : Tree → List ℕ → Option ℕ
+place t d = get (slice_cmp nat_cmp) t.places d
+
+abbrev pub known_at : List Known → Option ℕ → Option Known
+known_at nodes None = None
+known_at nodes (Some i) = slice_get nodes i
+
+-- what is kept of the node k, which stands on these
+pub record IsKept (n : Known) (k : Node) (ks : List Node) : Type 0 where
+  pub parent : n.parent ≡ k.parent
+  pub what : n.what ≡ k.what
+  pub depth : n.depth ≡ suc (length ks)
+  pub slots : n.slots ≡ weight k.what + filled (whats ks)
+
+-- from a place on these nodes stand one above the other
+abbrev pub Leads : List Known → Option ℕ → List Node → Type 0
+Leads nodes o [] = o ≡ None
+Leads nodes o (k ∷ ks) = (n : Known) × (known_at nodes o ≡ Some n) × IsKept n k ks × Leads nodes n.above ks
+
+-- the code keeps these nodes, the newest first
+pub record Keeps (t : Tree) (ks : List Node) : Type 0 where
+  pub leads : (d : List ℕ) → Leads t.nodes.items (place t d) (path ks d)
+  pub known : (d : List ℕ) → is_known ks d ≡ (is_some (place t d) || same_bytes d root)
+  pub few : (d : List ℕ) → length (path ks d) ≤ length t.nodes.items

@@ -1,0 +1,205 @@
+//! The tree as a replica knows it: its nodes in a row, each with the place of its parent, and a map from digests to places.
+//! A branch is walked from its node up, no further than what is asked for.
+ghost use Rattle.std.specs.Prelude.{◌≡◌, ℕ, List, [], ◌∷◌, ◌++◌, drop, length, reverse, IfOk, OnOk};
+ghost use Rattle.std.specs.Option.{option_copied};
+ghost use Rattle.iss_base.specs.Lists.{same_bytes};
+ghost use Rattle.iss_sb.specs.Evidence.{one_or_none};
+ghost use Rattle.hs_tree.specs.Known.{Keeps, Leads, known_at, meets, place, values, whats};
+ghost use Rattle.hs_tree.specs.Tree.{Node, branch, extends, filled, is_known, value_of, weight};
+
+use iss_request::{NoMemory, Row, Value};
+use raft_wire::What;
+use std::alloc::Global;
+use std::collections::BTreeMap;
+
+// The root's digest.
+const ROOT: [u8; 32] = [0; 32];
+
+/// A node that is known: its parent, what it holds, where the parent stands if it is not the root, how many nodes there are
+/// from this one up, and how many slots they hold.
+#[derive(Drop)]
+pub struct Known {
+    parent: [u8; 32],
+    what: What,
+    above: Option<usize>,
+    depth: usize,
+    slots: usize,
+}
+
+/// The nodes that are known.
+#[derive(Drop)]
+pub struct Tree {
+    nodes: Vec<Known>,
+    places: BTreeMap<[u8; 32], usize>,
+}
+
+/// Whether two digests are equal.
+pub fn same(a: &[u8; 32], b: &[u8; 32]) -> bool
+    ensures { result ≡ same_bytes a.now b.now }
+{
+    a == b
+}
+
+/// How many slots a content fills.
+pub fn weight(what: &What) -> usize
+    ensures { result ≡ weight what.now }
+{
+    match what {
+        What::Mark => 0,
+        _ => 1,
+    }
+}
+
+// Puts the value that a node holds behind others; a mark has none.
+fn put_value(what: &What, found: &mut Vec<Value>) -> Result<(), NoMemory>
+    ensures { OnOk result (found.new.items ≡ found.old.items ++ one_or_none (value_of what.now)) }
+{
+    match what {
+        What::Nil => Ok(found.push(Value::Nil)?),
+        What::Holds(batch) => Ok(found.push(Value::Batch(batch.copy()?))?),
+        What::Mark => Ok(()),
+    }
+}
+
+impl Tree {
+    /// The root alone.
+    pub fn new(alloc: Global) -> Tree
+        ensures { Keeps result [] }
+    {
+        Tree {
+            nodes: Vec::new(alloc),
+            places: BTreeMap::new(alloc),
+        }
+    }
+
+    // Where the newest node of the digest stands.
+    fn place(&self, d: &[u8; 32]) -> Option<usize>
+        ensures { result ≡ place self.now d.now }
+    {
+        match self.places.get(d) {
+            Some(place) => Some(*place),
+            None => None,
+        }
+    }
+
+    // The node that stands at a place.
+    fn at(&self, place: Option<usize>) -> Option<&Known>
+        ensures { option_copied result ≡ known_at self.now.nodes.items place }
+    {
+        match place {
+            Some(place) => self.nodes.get(place),
+            None => None,
+        }
+    }
+
+    // How many nodes there are from a place up to the root.
+    fn depth(&self, place: Option<usize>) -> usize
+        ensures { (ks : List Node) → Leads self.now.nodes.items place ks → result ≡ length ks }
+    {
+        match self.at(place) {
+            Some(node) => node.depth,
+            None => 0,
+        }
+    }
+
+    // How many slots the nodes from a place up to the root hold.
+    fn slots_from(&self, place: Option<usize>) -> usize
+        ensures { (ks : List Node) → Leads self.now.nodes.items place ks → result ≡ filled (whats ks) }
+    {
+        match self.at(place) {
+            Some(node) => node.slots,
+            None => 0,
+        }
+    }
+
+    // Whether a node from a place up stands on one of the digest.
+    fn stands_on(&self, place: Option<usize>, e: &[u8; 32]) -> bool
+        ensures { (ks : List Node) → Leads self.now.nodes.items place ks → result ≡ meets e.now ks }
+    {
+        let mut here = place;
+        for _ in 0..self.depth(place) {
+            let Some(node) = self.at(here) else {
+                return false;
+            };
+            if same(&node.parent, e) {
+                return true;
+            }
+            here = node.above;
+        }
+        false
+    }
+
+    // What the nodes from a place up hold behind the first so many slots, from the last on.
+    fn gather(
+        &self,
+        alloc: Global,
+        place: Option<usize>,
+        from: usize,
+    ) -> Result<Vec<Value>, NoMemory>
+        ensures { IfOk result (λ vs. (ks : List Node) → Leads self.now.nodes.items place ks → reverse vs.items ≡ drop from (values (whats ks))) }
+    {
+        let mut found = Vec::new(alloc);
+        let mut here = place;
+        for _ in 0..self.depth(place) {
+            let Some(node) = self.at(here) else {
+                return Ok(found);
+            };
+            if node.slots <= from {
+                return Ok(found);
+            }
+            put_value(&node.what, &mut found)?;
+            here = node.above;
+        }
+        Ok(found)
+    }
+
+    /// Whether the node of the digest is known.
+    pub fn has(&self, d: &[u8; 32]) -> bool
+        ensures { (ks : List Node) → Keeps self.now ks → result ≡ is_known ks d.now }
+    {
+        self.places.contains_key(d) || same(d, &ROOT)
+    }
+
+    /// How many slots the branch of the node holds.
+    pub fn slots(&self, d: &[u8; 32]) -> usize
+        ensures { (ks : List Node) → Keeps self.now ks → result ≡ filled (branch ks d.now) }
+    {
+        self.slots_from(self.place(d))
+    }
+
+    /// Whether the node e is the node d or an ancestor of it.
+    pub fn extends(&self, d: &[u8; 32], e: &[u8; 32]) -> bool
+        ensures { (ks : List Node) → Keeps self.now ks → result ≡ extends ks d.now e.now }
+    {
+        same(d, e) || self.stands_on(self.place(d), e)
+    }
+
+    /// What the branch of the node holds behind the first so many slots, in their order.
+    pub fn behind(&self, alloc: Global, d: &[u8; 32], from: usize) -> Result<Row<Value>, NoMemory>
+        ensures { IfOk result (λ vs. (ks : List Node) → Keeps self.now ks → vs ≡ drop from (values (branch ks d.now))) }
+    {
+        let mut found = self.gather(alloc, self.place(d), from)?;
+        found.reverse();
+        Ok(Row::of(found))
+    }
+
+    /// One node more, which stands on the newest of its parent's digest.
+    pub fn add(&mut self, digest: [u8; 32], parent: [u8; 32], what: What) -> Result<(), NoMemory>
+        ensures { OnOk result ((k : Node) (ks : List Node) → k.digest ≡ digest → k.parent ≡ parent → k.what ≡ what →
+            Keeps self.old ks → Keeps self.new (k ∷ ks)) }
+    {
+        let above = self.place(&parent);
+        let depth = self.depth(above).saturating_add(1);
+        let slots = self.slots_from(above).saturating_add(weight(&what));
+        let place = self.nodes.len();
+        self.nodes.push(Known {
+            parent,
+            what,
+            above,
+            depth,
+            slots,
+        })?;
+        self.places.insert(digest, place)?;
+        Ok(())
+    }
+}

@@ -1,0 +1,4 @@
+mod Examples
+pub mod SignedLemmas
+pub mod TallyLemmas
+pub mod VoteGrammar

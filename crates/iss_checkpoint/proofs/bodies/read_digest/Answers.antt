@@ -1,0 +1,5 @@
+use Rattle.iss_checkpoint.proofs.VoteGrammar.{digest-long}
+use Rattle.iss_checkpoint.proofs.bodies.read_digest.Goals as goal
+
+pub array_of-requires : goal.array_of-requires
+array_of-requires c = digest-long _ c.in_ok-bytes.ensures.ok

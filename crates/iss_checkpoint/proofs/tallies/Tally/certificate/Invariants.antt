@@ -1,0 +1,6 @@
+use Rattle.std.proofs.Common.{◌≡◌}
+use Rattle.iss_checkpoint.specs.Tallies.{signed_below, with_vote}
+use Rattle.iss_checkpoint.proofs.tallies.Tally.certificate.Given as goal
+
+abbrev pub invariant-loop-node : goal.invariant-loop-node
+invariant-loop-node l = l.signers ≡ signed_below (with_vote l.self.votes l.vote) l.vote l.node

@@ -1,0 +1,37 @@
+-- How a vote is spelled in the body of its packet, whose head names the node and the epoch.
+--
+--   vote     chain (32 bytes), number of requests (8), signature
+use Rattle.std.specs.Prelude.{◌≡◌, ℕ, ◌<◌, ◌^◌, nat_lt, ◌==◌, ◌&&◌, Bool, true, List, ◌++◌, length, if◌then◌else◌, replicate}
+use Rattle.std.specs.Int.{to_be_bytes, w64}
+use Rattle.iss_request.specs.Formats.{is_signature, parse_signature}
+use Rattle.iss_request.specs.Parsing.{Parser, ◌>>=◌, block, done, number}
+use Rattle.iss_checkpoint.specs.declared.votes.Vote.{Vote}
+
+abbrev pub fits : Vote → Bool
+fits v = (length v.chain == 32) && (nat_lt v.requests (2 ^ 64) && is_signature v.sig)
+
+abbrev pub vote_row : Vote → List ℕ
+vote_row v = v.chain ++ (to_be_bytes w64 v.requests ++ v.sig)
+
+-- one that has no spelling is written as one with a signature of height 0
+abbrev pub no_vote : List ℕ
+no_vote = replicate 41 0
+
+abbrev pub spell_vote : Vote → List ℕ
+spell_vote v = if fits v then vote_row v else no_vote
+
+-- the table as a relation between the votes of a node on an epoch and bytes
+pub record IsSpelledVote (by e : ℕ) (v : Vote) (bytes : List ℕ) : Type 0 where
+  pub own : v.by.0 ≡ by
+  pub epoch : v.epoch.0 ≡ e
+  pub chain_fits : length v.chain ≡ 32
+  pub count_fits : v.requests < 2 ^ 64
+  pub signed : is_signature v.sig ≡ true
+  pub row : bytes ≡ vote_row v
+
+unfoldable pub parse_vote : ℕ → ℕ → Parser Vote
+parse_vote by e = do
+  chain ← block 32
+  requests ← number w64
+  sig ← parse_signature
+  done (record { epoch = record { 0 = e }; chain = chain; requests = requests; by = record { 0 = by }; sig = sig })

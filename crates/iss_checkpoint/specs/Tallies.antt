@@ -1,0 +1,90 @@
+-- The votes on one epoch that were counted, one of each node, and what becomes of a further one.
+use Rattle.std.specs.Prelude.{◌≡◌, ◌≢◌, ℕ, zero, suc, ◌==◌, ◌&&◌, not, Bool, true, if◌then◌else◌, List, [], ◌∷◌, ◌++◌, length, Option, Some, None, is_some, Result, Ok, Err}
+use Rattle.std.specs.Map.{lookup}
+use Rattle.std.specs.Ordering.{is_eq, nat_cmp}
+use Rattle.iss_base.specs.Lists.{same_bytes}
+use Rattle.iss_request.specs.declared.errors.NoMemory.{NoMemory}
+use Rattle.iss_checkpoint.specs.declared.tallies.Added.{Added}
+use Rattle.iss_checkpoint.specs.declared.tallies.Added.TheVariants.{Counted, Stable, Refused}
+use Rattle.iss_checkpoint.specs.declared.tallies.Refusal.{Refusal}
+use Rattle.iss_checkpoint.specs.declared.tallies.Refusal.TheVariants.{OtherEpoch, BadSignature, Twice}
+use Rattle.iss_checkpoint.specs.declared.votes.Cert.{Cert}
+use Rattle.iss_checkpoint.specs.declared.votes.Signed.{Signed}
+use Rattle.iss_checkpoint.specs.declared.votes.Vote.{Vote}
+use Rattle.iss_checkpoint.specs.Votes.{Voters, is_cert, is_signed, statement_of}
+
+pub record TallyState : Type 0 where
+  pub voters : Voters
+  pub epoch : ℕ
+  -- by the node that signed
+  pub votes : List (ℕ × Vote)
+
+-- the vote of a node, if it was counted
+abbrev pub vote_at : List (ℕ × Vote) → ℕ → Option Vote
+vote_at votes k = lookup (λ j. is_eq (nat_cmp k j)) votes
+
+-- the votes with one more
+abbrev pub with_vote : List (ℕ × Vote) → Vote → ℕ → Option Vote
+with_vote votes v k = if v.by.0 == k then Some v else vote_at votes k
+
+-- ---- why a vote is not counted, by the first cause that holds
+
+abbrev pub refusal : TallyState → Vote → Option Refusal
+refusal t v =
+    if not (v.epoch.0 == t.epoch) then Some OtherEpoch
+    else if not (is_signed t.voters (statement_of t.voters v) v.by.0 v.sig) then Some BadSignature
+    else if is_some (vote_at t.votes v.by.0) then Some Twice
+    else None
+
+-- ---- a certificate of equal votes
+
+abbrev pub say_same : Vote → Vote → Bool
+say_same v w = (w.requests == v.requests) && same_bytes w.chain v.chain
+
+-- the signature of a vote that says the same as v
+abbrev pub signed_if : Vote → Option Vote → List Signed
+signed_if v None = []
+signed_if v (Some w) = if say_same v w then record { by = w.by; sig = w.sig } ∷ [] else []
+
+-- those of the nodes below a number, ascending
+abbrev pub signed_below : (ℕ → Option Vote) → Vote → ℕ → List Signed
+signed_below vote_of v zero = []
+signed_below vote_of v (suc k) = signed_below vote_of v k ++ signed_if v (vote_of k)
+
+abbrev pub certificate_by : (ℕ → Option Vote) → Vote → ℕ → Cert
+certificate_by vote_of v n = record { epoch = v.epoch; chain = v.chain; requests = v.requests; signers = signed_below vote_of v n }
+
+-- the certificate of all votes that say the same as v
+abbrev pub certificate : TallyState → Vote → Cert
+certificate t v = certificate_by (vote_at t.votes) v t.voters.n
+
+-- ---- what becomes of a vote
+
+-- one vote more, and nothing else has changed
+pub record IsCounted (old : TallyState) (v : Vote) (new : TallyState) : Type 0 where
+  pub sound : refusal old v ≡ None
+  pub votes : (k : ℕ) → vote_at new.votes k ≡ with_vote old.votes v k
+  pub others : new ≡ record old { votes = new.votes }
+
+-- the vote that makes its like a quorum gives their certificate; one that comes later gives none
+abbrev pub IsAdded : TallyState → Vote → TallyState → Result Added NoMemory → Type 0
+IsAdded old v new (Ok Counted) = IsCounted old v new × (length (certificate new v).signers ≢ old.voters.quorum)
+IsAdded old v new (Ok (Stable c)) = IsCounted old v new × (length (certificate new v).signers ≡ old.voters.quorum) × (c ≡ certificate new v)
+IsAdded old v new (Ok (Refused cause)) = (refusal old v ≡ Some cause) × (new ≡ old)
+IsAdded old v new (Err e) = new ≡ old
+
+abbrev pub IsChecked : Voters → Result Added NoMemory → Type 0
+IsChecked w (Ok Counted) = Unit {0}
+IsChecked w (Ok (Stable c)) = is_cert w c ≡ true
+IsChecked w (Ok (Refused cause)) = Unit {0}
+IsChecked w (Err e) = Unit {0}
+
+-- ---- what a tally holds is true: each vote stands at its node, which signed it on this epoch
+
+pub record IsVoteOf (w : Voters) (e k : ℕ) (v : Vote) : Type 0 where
+  pub own : v.by.0 ≡ k
+  pub epoch : v.epoch.0 ≡ e
+  pub signed : is_signed w (statement_of w v) v.by.0 v.sig ≡ true
+
+abbrev pub AreVotes : Voters → ℕ → List (ℕ × Vote) → Type 0
+AreVotes w e votes = (k : ℕ) (v : Vote) → vote_at votes k ≡ Some v → IsVoteOf w e k v

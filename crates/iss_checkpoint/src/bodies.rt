@@ -1,0 +1,90 @@
+//! Votes as bytes: the body of a packet that names the node and the epoch.
+ghost use Rattle.std.specs.Prelude.{◌≡◌, ℕ, length, IfOk, OnOk, Err};
+ghost use Rattle.iss_request.specs.Fields.{IsRead, IsUnreadable, and_bytes};
+ghost use Rattle.iss_request.specs.Formats.{is_signature};
+ghost use Rattle.iss_request.specs.Parsing.{block};
+ghost use Rattle.iss_checkpoint.specs.Bodies.{fits, parse_vote, spell_vote, vote_row};
+
+use crate::votes::Vote;
+use iss_request::{DecodeError, Epoch, Fields, NoMemory, NodeId, Writer, read_signature};
+use std::alloc::Global;
+
+// What stands for a vote without a spelling: a signature of height 0.
+const NO_VOTE: [u8; 41] = [0; 41];
+
+// Whether bytes have the shape of a signature: a height, a leaf, 67 digests and one for each level.
+fn has_shape(sig: &[u8]) -> bool
+    ensures { result ≡ is_signature sig.now }
+{
+    match sig {
+        [] => false,
+        [height, rest @ ..] => {
+            2 <= *height && *height <= 12 && rest.len() == 4 + 32 * (67 + *height as usize)
+        }
+    }
+}
+
+fn has_spelling(vote: &Vote) -> bool
+    ensures { result ≡ fits vote.now }
+{
+    // Its range is part of the answer.
+    let _requests = vote.requests;
+    has_shape(vote.sig.as_slice())
+}
+
+fn put_row(vote: &Vote, out: &mut Writer) -> Result<(), NoMemory>
+    ensures { OnOk result (out.new ≡ and_bytes out.old (vote_row vote.now)) }
+{
+    out.put_bytes(&vote.chain)?;
+    out.put_u64(vote.requests)?;
+    out.put_bytes(vote.sig.as_slice())
+}
+
+/// Writes a vote. One that has no spelling is written as bytes that no reader takes.
+pub fn write_vote(vote: &Vote, out: &mut Writer) -> Result<(), NoMemory>
+    ensures { OnOk result (out.new ≡ and_bytes out.old (spell_vote vote.now)) }
+{
+    if !has_spelling(vote) {
+        return out.put_bytes(&NO_VOTE);
+    }
+    put_row(vote, out)
+}
+
+fn array_of(bytes: &[u8]) -> [u8; 32]
+    requires { length bytes.now ≡ 32 }
+    ensures { result ≡ bytes.now }
+{
+    let mut digest = [0; 32];
+    digest.copy_from_slice(bytes);
+    digest
+}
+
+fn read_digest(f: &mut Fields) -> Result<[u8; 32], DecodeError>
+    ensures ok { IfOk result (λ d. IsRead (block 32) f.old f.new d) }
+    ensures bad { (at : ℕ) → result ≡ Err (DecodeError.BadField at) → IsUnreadable (block 32) f.old at }
+{
+    let bytes = f.read_bytes(32)?;
+    Ok(array_of(bytes))
+}
+
+/// Reads the vote of a node on an epoch. `BadField` names the first field that does not fit.
+pub fn read_vote(
+    alloc: Global,
+    by: NodeId,
+    epoch: Epoch,
+    f: &mut Fields,
+) -> Result<Vote, DecodeError>
+    ensures ok { IfOk result (λ v. IsRead (parse_vote by.0 epoch.0) f.old f.new v) }
+    ensures bad { (at : ℕ) → result ≡ Err (DecodeError.BadField at) → IsUnreadable (parse_vote by.0 epoch.0) f.old at }
+{
+    let chain = read_digest(f)?;
+    let requests = f.read_u64()?;
+    let sig = read_signature(alloc, f)?;
+    Ok(Vote {
+        epoch,
+        chain,
+        requests,
+        by,
+        sig,
+    })
+}

@@ -1,0 +1,14 @@
+//! Votes on the log at an epoch's end, and the certificates that a quorum of equal votes makes (PBFT and ISS: checkpoints).
+#![tactic(auto)]
+
+pub mod bodies;
+pub mod checking;
+pub mod laws;
+pub mod tallies;
+pub mod votes;
+
+pub use bodies::{read_vote, write_vote};
+pub use checking::check;
+pub use laws::{certificates_have_a_correct_signer, votes_are_exact};
+pub use tallies::{Added, Refusal, Tally};
+pub use votes::{Cert, Signed, Vote, vote_statement};

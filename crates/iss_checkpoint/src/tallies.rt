@@ -1,0 +1,201 @@
+//! Counting votes: one of each node, until a quorum of them says the same.
+ghost use Rattle.std.specs.Prelude.{◌≡◌, ◌≤◌, ◌++◌, ◌∷◌, [], length, if◌then◌else◌, IfOk, OnOk, OnErr, None};
+ghost use Rattle.iss_checkpoint.specs.Tallies.{IsAdded, IsChecked, IsCounted, certificate_by, refusal, say_same, signed_below, signed_if, with_vote};
+ghost use Rattle.iss_checkpoint.specs.Votes.{is_signed, statement_of, voters_of};
+
+use crate::checking::is_signed;
+use crate::votes::{Cert, Signed, Vote, vote_statement};
+use iss_keys::SharedDirectory;
+use iss_request::{Epoch, NoMemory, Row, Setup};
+use std::alloc::Global;
+use std::collections::BTreeMap;
+use std::marker::Model;
+
+/// Why a vote is not counted: it is on another epoch, its signature is not true, or its signer has a vote already.
+#[derive(Clone, Copy, Debug, PartialEq, Eq)]
+pub enum Refusal {
+    OtherEpoch,
+    BadSignature,
+    Twice,
+}
+
+/// What became of a vote: it was counted, it made its like a quorum, or it was refused.
+#[derive(Drop)]
+pub enum Added {
+    Counted,
+    Stable(Cert),
+    Refused(Refusal),
+}
+
+/// The votes on one epoch, one of each node.
+#[derive(Drop)]
+pub struct Tally {
+    alloc: Global,
+    epoch: Epoch,
+    tag: [u8; 32],
+    n: u32,
+    quorum: u32,
+    directory: SharedDirectory,
+    // by the node that signed
+    votes: BTreeMap<u8, Vote>,
+}
+
+impl Model for Tally {
+    ghost use Rattle.iss_checkpoint.specs.Tallies.{AreVotes, TallyState};
+    ghost use Rattle.iss_checkpoint.specs.Votes.{voters_in};
+    ghost use Rattle.std.specs.Prelude.{◌≤◌};
+
+    ghost Value = { TallyState };
+
+    ghost view = { λ t. record { voters = voters_in t.tag t.n t.quorum t.directory; epoch = t.epoch.0; votes = t.votes.entries } };
+
+    ghost invariant = { λ t. (t.n ≤ 256) × AreVotes (voters_in t.tag t.n t.quorum t.directory) t.epoch.0 t.votes.entries };
+}
+
+impl Tally {
+    /// No vote on this epoch yet.
+    pub fn new(alloc: Global, setup: &Setup, directory: SharedDirectory, epoch: Epoch) -> Tally
+        requires { setup.now.n ≤ 256 }
+        ensures { result ≡ record { voters = voters_of setup.now directory; epoch = epoch.0; votes = [] } }
+    {
+        Tally {
+            alloc,
+            epoch,
+            tag: setup.tag,
+            n: setup.n,
+            quorum: setup.quorum,
+            directory,
+            votes: BTreeMap::new(alloc),
+        }
+    }
+
+    /// Counts a vote, unless a cause refuses it. The vote that makes its like a quorum gives their certificate.
+    pub fn add(&mut self, vote: Vote) -> Result<Added, NoMemory>
+        ensures added { IsAdded self.old vote self.new result }
+        ensures checked { IsChecked self.old.voters result }
+    {
+        if let Some(cause) = self.refusal(&vote) {
+            return Ok(Added::Refused(cause));
+        }
+        if self.count(&vote) != self.quorum {
+            self.put(vote)?;
+            return Ok(Added::Counted);
+        }
+        let cert = self.certificate(&vote)?;
+        self.put(vote)?;
+        Ok(Added::Stable(cert))
+    }
+
+    // The first cause that refuses a vote.
+    fn refusal(&self, vote: &Vote) -> Option<Refusal>
+        ensures { result ≡ refusal self.now vote.now }
+    {
+        if vote.epoch.0 != self.epoch.0 {
+            return Some(Refusal::OtherEpoch);
+        }
+        if !self.is_true(vote) {
+            return Some(Refusal::BadSignature);
+        }
+        if self.votes.contains_key(&vote.by.0) {
+            return Some(Refusal::Twice);
+        }
+        None
+    }
+
+    // Whether the node signed the vote.
+    fn is_true(&self, vote: &Vote) -> bool
+        ensures { result ≡ is_signed self.now.voters (statement_of self.now.voters vote.now) vote.now.by.0 vote.now.sig }
+    {
+        let statement = vote_statement(&self.tag, vote.epoch.0, &vote.chain, vote.requests);
+        let directory = self.directory.directory();
+        is_signed(
+            directory,
+            self.n,
+            &statement,
+            vote.by.0,
+            vote.sig.as_slice(),
+        )
+    }
+
+    // How many votes say the same as this one, which is among them.
+    fn count(&self, vote: &Vote) -> u32
+        ensures { result ≡ length (signed_below (with_vote self.now.votes vote.now) vote.now self.now.voters.n) }
+    {
+        let mut count = 0u32;
+        for node in 0..self.n {
+            if self.agrees(vote, node as u8) {
+                count += 1;
+            }
+        }
+        count
+    }
+
+    // Whether a node's vote says the same.
+    fn agrees(&self, vote: &Vote, node: u8) -> bool
+        ensures { (if result then 1 else 0) ≡ length (signed_if vote.now (with_vote self.now.votes vote.now node)) }
+    {
+        if vote.by.0 == node {
+            return true;
+        }
+        match self.votes.get(&node) {
+            Some(other) => say_same(vote, other),
+            None => false,
+        }
+    }
+
+    // The certificate of the votes that say the same as this one, which is among them.
+    fn certificate(&self, vote: &Vote) -> Result<Cert, NoMemory>
+        ensures { IfOk result (λ c. c ≡ certificate_by (with_vote self.now.votes vote.now) vote.now self.now.voters.n) }
+    {
+        let mut signers = Row::new(self.alloc);
+        for node in 0..self.n {
+            self.put_signed(vote, node as u8, &mut signers)?;
+        }
+        Ok(Cert {
+            epoch: vote.epoch,
+            chain: vote.chain,
+            requests: vote.requests,
+            signers,
+        })
+    }
+
+    // Puts a node's signature behind the others, if its vote says the same.
+    fn put_signed(&self, vote: &Vote, node: u8, signers: &mut Row<Signed>) -> Result<(), NoMemory>
+        ensures { OnOk result (signers.new ≡ signers.old ++ signed_if vote.now (with_vote self.now.votes vote.now node)) }
+    {
+        if vote.by.0 == node {
+            return push_signed(vote, signers);
+        }
+        if let Some(other) = self.votes.get(&node)
+            && say_same(vote, other)
+        {
+            return push_signed(other, signers);
+        }
+        Ok(())
+    }
+
+    // One vote more, of a node that has none.
+    fn put(&mut self, vote: Vote) -> Result<(), NoMemory>
+        requires { refusal self.old vote ≡ None }
+        ensures ok { OnOk result (IsCounted self.old vote self.new) }
+        ensures err { OnErr result (self.new ≡ self.old) }
+    {
+        let by = vote.by.0;
+        self.votes.insert(by, vote)?;
+        Ok(())
+    }
+}
+
+// Whether two votes say the same.
+fn say_same(vote: &Vote, other: &Vote) -> bool
+    ensures { result ≡ say_same vote.now other.now }
+{
+    other.requests == vote.requests && other.chain == vote.chain
+}
+
+fn push_signed(vote: &Vote, signers: &mut Row<Signed>) -> Result<(), NoMemory>
+    ensures { OnOk result (signers.new ≡ signers.old ++ record { by = vote.now.by; sig = vote.now.sig } ∷ []) }
+{
+    let sig = vote.sig.copy()?;
+    signers.push(Signed { by: vote.by, sig })
+}

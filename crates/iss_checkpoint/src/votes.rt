@@ -1,0 +1,66 @@
+//! Votes, certificates, and what is signed.
+ghost use Rattle.std.specs.Prelude.{◌≡◌, ◌∷◌, ◌++◌, []};
+ghost use Rattle.std.specs.Int.{to_be_bytes, w64};
+ghost use Rattle.iss_checkpoint.specs.Votes.{vote_statement};
+
+use iss_request::{Bytes, Epoch, NodeId, Row};
+
+/// What a node says of its log at the end of an epoch, under its signature: the digest of the log's chain, and how many requests
+/// the log holds.
+#[derive(Drop)]
+pub struct Vote {
+    pub epoch: Epoch,
+    pub chain: [u8; 32],
+    pub requests: u64,
+    pub by: NodeId,
+    pub sig: Bytes,
+}
+
+/// A node's signature.
+#[derive(Drop)]
+pub struct Signed {
+    pub by: NodeId,
+    pub sig: Bytes,
+}
+
+/// What a quorum of nodes says alike of the log at the end of an epoch, with their signatures.
+#[derive(Drop)]
+pub struct Cert {
+    pub epoch: Epoch,
+    pub chain: [u8; 32],
+    pub requests: u64,
+    pub signers: Row<Signed>,
+}
+
+// The cluster, the epoch, and neither a leader nor a module.
+fn head(tag: &[u8; 32], epoch: u64) -> [u8; 43]
+    ensures { result ≡ tag.now ++ to_be_bytes w64 epoch ++ 255 ∷ 0 ∷ 0 ∷ [] }
+{
+    let [e0, e1, e2, e3, e4, e5, e6, e7] = epoch.to_be_bytes();
+    let mut head = [0u8; 43];
+    head[..32].copy_from_slice(tag);
+    head[32..].copy_from_slice(&[e0, e1, e2, e3, e4, e5, e6, e7, 255, 0, 0]);
+    head
+}
+
+// What is said of the log.
+fn word(chain: &[u8; 32], requests: u64) -> [u8; 40]
+    ensures { result ≡ chain.now ++ to_be_bytes w64 requests }
+{
+    let mut word = [0u8; 40];
+    word[..32].copy_from_slice(chain);
+    word[32..].copy_from_slice(&requests.to_be_bytes());
+    word
+}
+
+/// What a vote signs: the cluster, the epoch, no leader and no module, the chain and the count. It takes no memory.
+pub fn vote_statement(tag: &[u8; 32], epoch: u64, chain: &[u8; 32], requests: u64) -> [u8; 83]
+    ensures { result ≡ vote_statement tag.now epoch chain.now requests }
+{
+    let head = head(tag, epoch);
+    let word = word(chain, requests);
+    let mut statement = [0u8; 83];
+    statement[..43].copy_from_slice(&head);
+    statement[43..].copy_from_slice(&word);
+    statement
+}

@@ -1,0 +1,150 @@
+//! The digests that stand for a log: each value's digest is linked to that of the log before it.
+ghost use Rattle.std.specs.Prelude.{◌≡◌, ◌≢◌, ◌+◌, length, ◌++◌, ◌∷◌, [], List, IfOk, OnErr, OnOk, slice_get};
+ghost use Rattle.iss_request.specs.Digest.{digest};
+ghost use Rattle.iss_request.specs.Formats.{value_string};
+ghost use Rattle.iss_request.specs.declared.requests.Value.{Value};
+ghost use Rattle.iss_log.specs.Chains.{IsChainOf, chain_of, link_string, next_end, strings_of};
+
+use crate::log::size;
+use iss_request::{Bytes, NoMemory, Row, Value, Writer, write_value};
+use sha2::{Digest, Sha256};
+use std::alloc::Global;
+use std::marker::Model;
+
+// The byte before a value that is hashed, and before a link.
+const VALUE: u8 = 0x40;
+
+const LINK: u8 = 0x42;
+
+/// What stands for a log: the digest of its chain, and how many requests it holds.
+#[derive(Clone, Copy, Debug, PartialEq, Eq)]
+pub struct End {
+    pub chain: [u8; 32],
+    pub requests: u64,
+}
+
+/// The end that each front of a log has, from the empty one on, by a version of the formats.
+#[derive(Drop)]
+pub struct Chains {
+    alloc: Global,
+    version: u8,
+    ends: Vec<End>,
+}
+
+impl Model for Chains {
+    ghost use Rattle.std.specs.Prelude.{length, ◌≤◌};
+    ghost use Rattle.iss_log.specs.Chains.{ChainsState};
+
+    ghost Value = { ChainsState };
+
+    ghost view = { λ c. record { version = c.version; ends = c.ends.items } };
+
+    ghost invariant = { λ c. 1 ≤ length c.ends.items };
+}
+
+impl Chains {
+    /// The chain of no value.
+    pub fn new(alloc: Global, version: u8) -> Result<Chains, NoMemory>
+        ensures version { IfOk result (λ c. c.version ≡ version) }
+        ensures none { IfOk result (λ c. IsChainOf c []) }
+    {
+        let mut ends = Vec::new(alloc);
+        ends.push(End {
+            chain: [0; 32],
+            requests: 0,
+        })?;
+        Ok(Chains {
+            alloc,
+            version,
+            ends,
+        })
+    }
+
+    /// The version by which values are spelled.
+    pub fn version(&self) -> u8
+        ensures { result ≡ self.now.version }
+    {
+        self.version
+    }
+
+    /// One value more, behind the others. The strings that are hashed for it are put behind others.
+    pub fn join(&mut self, value: &Value, hashed: &mut Row<Bytes>) -> Result<(), NoMemory>
+        ensures joined { OnOk result ((log : List Value) → IsChainOf self.old log → IsChainOf self.new (log ++ value.now ∷ [])) }
+        ensures hashed { OnOk result ((log : List Value) → IsChainOf self.old log
+            → hashed.new ≡ hashed.old ++ strings_of self.old.version (chain_of self.old.version log) value.now) }
+        ensures version { self.new.version ≡ self.old.version }
+        ensures err { OnErr result (self.new ≡ self.old) }
+    {
+        let before = self.ends[self.ends.len() - 1];
+        let end = link(self.alloc, self.version, &before, value, hashed)?;
+        self.ends.push(end)?;
+        Ok(())
+    }
+
+    /// How many values the log has.
+    pub fn slots(&self) -> usize
+        ensures { result + 1 ≡ length self.now.ends }
+    {
+        self.ends.len() - 1
+    }
+
+    /// What stands for the first so many values, `None` past the log.
+    pub fn end_at(&self, slots: usize) -> Option<End>
+        ensures { result ≡ slice_get self.now.ends slots }
+    {
+        match self.ends.get(slots) {
+            Some(end) => Some(*end),
+            None => None,
+        }
+    }
+}
+
+/// The string of a value, by a version.
+pub fn string_of(alloc: Global, version: u8, value: &Value) -> Result<Bytes, NoMemory>
+    ensures { IfOk result (λ s. s ≡ value_string version value.now) }
+{
+    let mut out = Writer::new(alloc, version);
+    out.put_u8(VALUE)?;
+    write_value(value, &mut out)?;
+    Ok(out.into_bytes())
+}
+
+// The string of a link: the digest of the log before, and that of the value.
+fn link_of(alloc: Global, before: &[u8; 32], value: &[u8; 32]) -> Result<Bytes, NoMemory>
+    ensures { IfOk result (λ s. s ≡ link_string before.now value.now) }
+{
+    let mut all = Vec::new(alloc);
+    all.push(LINK)?;
+    all.extend_from_slice(before)?;
+    all.extend_from_slice(value)?;
+    Ok(Bytes::of(all))
+}
+
+// The digest of a string, which is not empty.
+fn digest_of(string: &Bytes) -> [u8; 32]
+    ensures { string.now ≢ [] → result ≡ digest string.now }
+{
+    Sha256::digest(string.as_slice())
+}
+
+/// What stands for a log and one value more. The strings that are hashed for it are put behind others: the value's and the link's.
+/// Want of memory comes also where the number of requests would pass 2^64 - 1.
+pub fn link(
+    alloc: Global,
+    version: u8,
+    before: &End,
+    value: &Value,
+    hashed: &mut Row<Bytes>,
+) -> Result<End, NoMemory>
+    ensures end { IfOk result (λ end. end ≡ next_end version before.now value.now) }
+    ensures hashed { OnOk result (hashed.new ≡ hashed.old ++ strings_of version before.now.chain value.now) }
+{
+    let requests = before.requests.checked_add(size(value)).ok_or(NoMemory)?;
+    let string = string_of(alloc, version, value)?;
+    let digest = digest_of(&string);
+    let link = link_of(alloc, &before.chain, &digest)?;
+    let chain = digest_of(&link);
+    hashed.push(string)?;
+    hashed.push(link)?;
+    Ok(End { chain, requests })
+}

@@ -1,0 +1,64 @@
+//! Requests as their clients sign them.
+ghost use Rattle.std.specs.Prelude.{◌≡◌, ◌+◌, ◌^◌, ◌<◌, ◌≤◌, IfOk, length, take};
+ghost use Rattle.iss_keys.specs.Signatures.{signature_of};
+ghost use Rattle.iss_model.specs.Concrete.{is_signed_by, request_statement};
+
+use iss_keys::{Directory, Keys};
+use iss_request::{Bytes, NoMemory, ReqId, Request};
+
+/// The most bytes of a payload, and what stands before it in a statement.
+const PAYLOAD_MOST: usize = 256;
+
+const HEAD: usize = 8;
+
+// What a client's statement begins with.
+const REQUEST: u8 = 0x30;
+
+/// Whether a request's client signed it. It takes no memory.
+pub fn is_signed(directory: &Directory, request: &Request) -> bool
+    ensures { result ≡ is_signed_by directory.now request.now }
+{
+    let payload = request.payload.as_slice();
+    if payload.len() > PAYLOAD_MOST {
+        return false;
+    }
+    let mut buffer = [0u8; HEAD + PAYLOAD_MOST];
+    put_statement(request.id, payload, &mut buffer);
+    let statement = front(&buffer, HEAD + payload.len());
+    directory.verify_client(request.id.client, statement, request.sig.as_slice())
+}
+
+/// The client's signature of a request, by the leaf of the request's number.
+pub fn sign_request(keys: &Keys, id: ReqId, payload: &[u8]) -> Result<Bytes, NoMemory>
+    requires leaf { id.number < 2 ^ keys.now.height }
+    requires payload { length payload.now ≤ 256 }
+    ensures { IfOk result (λ sig. sig ≡ signature_of keys.now.secret keys.now.height id.number (request_statement id payload.now)) }
+{
+    let mut buffer = [0u8; HEAD + PAYLOAD_MOST];
+    put_statement(id, payload, &mut buffer);
+    let statement = front(&buffer, HEAD + payload.len());
+    match keys.sign_at(id.number, statement) {
+        Ok(sig) => Ok(Bytes::of(sig)),
+        Err(_) => Err(NoMemory),
+    }
+}
+
+// Puts what a client signs at the front of a buffer.
+fn put_statement(id: ReqId, payload: &[u8], buffer: &mut [u8])
+    requires payload { length payload.now ≤ 256 }
+    requires room { 8 + length payload.now ≤ length buffer.old }
+    ensures { take (8 + length payload.now) buffer.new ≡ request_statement id payload.now }
+{
+    let [n0, n1, n2, n3] = id.number.to_be_bytes();
+    let [l0, l1] = (payload.len() as u16).to_be_bytes();
+    buffer[..8].copy_from_slice(&[REQUEST, id.client, n0, n1, n2, n3, l0, l1]);
+    buffer[8..8 + payload.len()].copy_from_slice(payload);
+}
+
+// The first bytes of a buffer.
+fn front(buffer: &[u8], count: usize) -> &[u8]
+    requires { count ≤ length buffer.now }
+    ensures { result.now ≡ take count buffer.now }
+{
+    &buffer[..count]
+}

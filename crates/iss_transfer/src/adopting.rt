@@ -1,0 +1,113 @@
+//! Whether the values of a piece are those that its certificate stands for.
+ghost use Rattle.std.specs.Prelude.{◌≡◌, ◌≤◌, ◌<◌, ◌*◌, ◌^◌, ◌++◌, List, length, take, IfOk, OnOk, if◌then◌else◌};
+ghost use Rattle.iss_checkpoint.specs.Votes.{is_cert, voters_of};
+ghost use Rattle.iss_log.specs.Chains.{IsChainOf, end_from, end_of, strings_from};
+ghost use Rattle.iss_request.specs.declared.requests.Value.{Value};
+ghost use Rattle.iss_transfer.specs.Adoption.{adoption, has_shape, said_in, same_end};
+
+use crate::pieces::Piece;
+use iss_checkpoint::{Cert, check};
+use iss_keys::Directory;
+use iss_log::{Chains, End, link};
+use iss_request::{Bytes, Epoch, NoMemory, Row, Setup, Value};
+use std::alloc::Global;
+
+/// What becomes of a piece. It is adopted, and these strings were hashed for its values; or it is of another epoch or has not the
+/// values of all its slots; or its certificate is not true; or its values lead to another end than its certificate says.
+#[derive(Drop)]
+pub enum Adoption {
+    Adopt { hashed: Row<Bytes> },
+    WrongEpoch,
+    BadCert,
+    WrongChain { ours: End, theirs: End },
+}
+
+/// Whether the piece is one of this epoch, with a value for each of its slots.
+fn has_shape(setup: &Setup, epoch: Epoch, piece: &Piece) -> bool
+    ensures { result ≡ has_shape setup.now epoch.0 piece.now }
+{
+    piece.epoch.0 == epoch.0
+        && piece.cert.epoch.0 == epoch.0
+        && piece.values.len() as u64 == setup.epoch
+}
+
+// Whether the piece's certificate is true.
+fn is_certified(setup: &Setup, directory: &Directory, piece: &Piece) -> bool
+    ensures { result ≡ is_cert (voters_of setup.now directory.now) piece.now.cert }
+{
+    check(setup, directory, &piece.cert)
+}
+
+// What a certificate says of the log.
+fn said_in(cert: &Cert) -> End
+    ensures { result ≡ said_in cert.now }
+{
+    End {
+        chain: cert.chain,
+        requests: cert.requests,
+    }
+}
+
+fn same_end(ours: &End, theirs: &End) -> bool
+    ensures { result ≡ same_end ours.now theirs.now }
+{
+    ours.requests == theirs.requests && ours.chain == theirs.chain
+}
+
+// What stands for a log and these values behind it.
+fn end_from(
+    alloc: Global,
+    version: u8,
+    start: End,
+    values: &[Value],
+    hashed: &mut Row<Bytes>,
+) -> Result<End, NoMemory>
+    ensures end { IfOk result (λ end. end ≡ end_from version start values.now) }
+    ensures hashed { OnOk result (hashed.new ≡ hashed.old ++ strings_from version start.chain values.now) }
+{
+    let mut end = start;
+    for value in values {
+        end = link(alloc, version, &end, value, hashed)?;
+    }
+    Ok(end)
+}
+
+/// Whether a node may take over a piece in an epoch, by the chain of its log before that epoch.
+pub fn adopt(
+    alloc: Global,
+    setup: &Setup,
+    directory: &Directory,
+    chains: &Chains,
+    epoch: Epoch,
+    piece: &Piece,
+) -> Result<Adoption, NoMemory>
+    requires version { chains.now.version ≡ setup.now.version }
+    requires whole { epoch.0 * setup.now.epoch < length chains.now.ends }
+    ensures { (log : List Value) → IsChainOf chains.now log
+        → IfOk result (λ a. a ≡ adoption setup.now (voters_of setup.now directory.now) log epoch.0 piece.now) }
+{
+    if !has_shape(setup, epoch, piece) {
+        return Ok(Adoption::WrongEpoch);
+    }
+    if !is_certified(setup, directory, piece) {
+        return Ok(Adoption::BadCert);
+    }
+    // Its range is part of the answer.
+    let _slots = chains.slots();
+    let Some(start) = chains.end_at((epoch.0 * setup.epoch) as usize) else {
+        unreachable!();
+    };
+    let theirs = said_in(&piece.cert);
+    let mut hashed = Row::new(alloc);
+    let ours = end_from(
+        alloc,
+        setup.version,
+        start,
+        piece.values.as_slice(),
+        &mut hashed,
+    )?;
+    if !same_end(&ours, &theirs) {
+        return Ok(Adoption::WrongChain { ours, theirs });
+    }
+    Ok(Adoption::Adopt { hashed })
+}

@@ -1,0 +1,17 @@
+//! What nodes send each other to catch up.
+use iss_checkpoint::Cert;
+use iss_request::{Epoch, Row, Value};
+
+/// A node asks for the values of an epoch.
+#[derive(Clone, Copy, Debug, PartialEq, Eq)]
+pub struct Ask {
+    pub epoch: Epoch,
+}
+
+/// The values of an epoch in the order of their slots, and the certificate of the log at its end.
+#[derive(Drop)]
+pub struct Piece {
+    pub epoch: Epoch,
+    pub values: Row<Value>,
+    pub cert: Cert,
+}

@@ -1,0 +1,291 @@
+//! What a message says that nodes have signed.
+ghost use Rattle.std.specs.Prelude.{◌≡◌, ◌++◌, ◌∷◌, [], map, IfOk, OnOk};
+ghost use Rattle.iss_request.specs.Setup.{IsGoodSetup};
+ghost use Rattle.pbft_wire.specs.Marks.{mark_of};
+ghost use Rattle.pbft_wire.specs.Statements.{digest_of, state_at};
+ghost use Rattle.pbft_wire.specs.declared.messages.Message.TheVariants.{NewView, PrePrepare, ViewChange};
+ghost use Rattle.pbft_views.specs.Choice.{choice};
+ghost use Rattle.pbft_views.specs.Claims.{certificate_claims, certificates_claims, change_claims, changes_claims, chosen_claims, claim, claims, vote_claims};
+
+use crate::choosing::choice_digest;
+use crate::goodness::primary;
+use iss_request::{Bytes, NoMemory, NodeId, Row, Slot, Value};
+use iss_sb::{Claim, Params};
+use pbft_wire::signing::{COMMIT, PRE_PREPARE, PREPARE};
+use pbft_wire::{
+    Certificate, Change, Mark, Message, Vote, digest_of, mark_of, state_at, state_marked, state_new,
+};
+use std::alloc::Global;
+
+// ---- what claims are put behind others
+
+fn put_claim(
+    by: NodeId,
+    statement: Bytes,
+    sig: &Bytes,
+    all: &mut Row<Claim>,
+) -> Result<(), NoMemory>
+    ensures { OnOk result (all.new ≡ all.old ++ claim by.0 statement sig.now ∷ []) }
+{
+    let sig = sig.copy()?;
+    all.push(Claim { by, statement, sig })
+}
+
+// The claims of Prepares for what is marked.
+fn put_vote_claims(
+    alloc: Global,
+    p: &Params,
+    mark: &Mark,
+    votes: &[Vote],
+    all: &mut Row<Claim>,
+) -> Result<(), NoMemory>
+    ensures { OnOk result (all.new ≡ all.old ++ vote_claims p.now mark.now.view mark.now.slot.0 mark.now.digest votes.now) }
+{
+    match votes {
+        [] => Ok(()),
+        [first, others @ ..] => {
+            let statement = state_at(alloc, p, PREPARE, mark.view, mark.slot, &mark.digest)?;
+            put_claim(first.node, statement, &first.sig, all)?;
+            put_vote_claims(alloc, p, mark, others, all)
+        }
+    }
+}
+
+fn put_certificate_claims(
+    alloc: Global,
+    p: &Params,
+    mark: &Mark,
+    c: &Certificate,
+    all: &mut Row<Claim>,
+) -> Result<(), NoMemory>
+    requires good { IsGoodSetup p.now.setup }
+    requires marked { mark.now ≡ mark_of p.now c.now }
+    ensures { OnOk result (all.new ≡ all.old ++ certificate_claims p.now c.now) }
+{
+    let statement = state_at(alloc, p, PRE_PREPARE, mark.view, mark.slot, &mark.digest)?;
+    put_claim(primary(p, mark.view), statement, &c.sig, all)?;
+    put_vote_claims(alloc, p, mark, c.prepares.as_slice(), all)
+}
+
+// Puts the marks of the certificates behind others, too.
+fn put_certificates_claims(
+    alloc: Global,
+    p: &Params,
+    certificates: &[Certificate],
+    marks: &mut Row<Mark>,
+    all: &mut Row<Claim>,
+) -> Result<(), NoMemory>
+    requires { IsGoodSetup p.now.setup }
+    ensures marked { OnOk result (marks.new ≡ marks.old ++ map (mark_of p.now) certificates.now) }
+    ensures claimed { OnOk result (all.new ≡ all.old ++ certificates_claims p.now certificates.now) }
+{
+    match certificates {
+        [] => Ok(()),
+        [first, others @ ..] => {
+            let mark = mark_of(p, first);
+            put_certificate_claims(alloc, p, &mark, first, all)?;
+            marks.push(mark)?;
+            put_certificates_claims(alloc, p, others, marks, all)
+        }
+    }
+}
+
+// A ViewChange of more certificates than a byte counts has no statement in bytes.
+fn put_change_claims(
+    alloc: Global,
+    p: &Params,
+    by: NodeId,
+    view: u16,
+    certificates: &[Certificate],
+    sig: &Bytes,
+    all: &mut Row<Claim>,
+) -> Result<(), NoMemory>
+    requires { IsGoodSetup p.now.setup }
+    ensures { OnOk result (all.new ≡ all.old ++ change_claims p.now by.0 view certificates.now sig.now) }
+{
+    let mut marks = Row::new(alloc);
+    put_certificates_claims(alloc, p, certificates, &mut marks, all)?;
+    if marks.len() > 255 {
+        return Err(NoMemory);
+    }
+    let statement = state_marked(alloc, p, view, marks.as_slice())?;
+    put_claim(by, statement, sig, all)
+}
+
+fn put_changes_claims(
+    alloc: Global,
+    p: &Params,
+    changes: &[Change],
+    all: &mut Row<Claim>,
+) -> Result<(), NoMemory>
+    requires { IsGoodSetup p.now.setup }
+    ensures { OnOk result (all.new ≡ all.old ++ changes_claims p.now changes.now) }
+{
+    match changes {
+        [] => Ok(()),
+        [x, others @ ..] => {
+            let certificates = x.certificates.as_slice();
+            put_change_claims(alloc, p, x.node, x.view, certificates, &x.sig, all)?;
+            put_changes_claims(alloc, p, others, all)
+        }
+    }
+}
+
+// The claim that a new primary's PrePrepare is of the choice.
+fn put_chosen_claim(
+    alloc: Global,
+    p: &Params,
+    by: NodeId,
+    view: u16,
+    changes: &[Change],
+    slot: Slot,
+    sig: &Bytes,
+    all: &mut Row<Claim>,
+) -> Result<(), NoMemory>
+    ensures { OnOk result (all.new ≡ all.old ++ claim by.0 (state_at p.now 1 view slot.0 (digest_of p.now (choice changes.now slot.0))) sig.now ∷ []) }
+{
+    let digest = choice_digest(p, slot, changes);
+    let statement = state_at(alloc, p, PRE_PREPARE, view, slot, &digest)?;
+    put_claim(by, statement, sig, all)
+}
+
+fn put_chosen_claims(
+    alloc: Global,
+    p: &Params,
+    by: NodeId,
+    view: u16,
+    changes: &[Change],
+    slots: &[Slot],
+    signatures: &[Bytes],
+    all: &mut Row<Claim>,
+) -> Result<(), NoMemory>
+    ensures { OnOk result (all.new ≡ all.old ++ chosen_claims p.now by.0 view changes.now slots.now signatures.now) }
+{
+    let [slot, slots @ ..] = slots else {
+        return Ok(());
+    };
+    let [sig, signatures @ ..] = signatures else {
+        return Ok(());
+    };
+    put_chosen_claim(alloc, p, by, view, changes, *slot, sig, all)?;
+    put_chosen_claims(alloc, p, by, view, changes, slots, signatures, all)
+}
+
+// ---- the claims of each kind of message
+
+fn claims_at(
+    alloc: Global,
+    p: &Params,
+    from: NodeId,
+    kind: u8,
+    view: u16,
+    slot: Slot,
+    digest: &[u8; 32],
+    sig: &Bytes,
+) -> Result<Row<Claim>, NoMemory>
+    ensures { IfOk result (λ all. all ≡ claim from.0 (state_at p.now kind view slot.0 digest.now) sig.now ∷ []) }
+{
+    let mut all = Row::new(alloc);
+    let statement = state_at(alloc, p, kind, view, slot, digest)?;
+    put_claim(from, statement, sig, &mut all)?;
+    Ok(all)
+}
+
+fn claims_of_proposal(
+    alloc: Global,
+    p: &Params,
+    from: NodeId,
+    view: u16,
+    slot: Slot,
+    value: &Value,
+    sig: &Bytes,
+) -> Result<Row<Claim>, NoMemory>
+    ensures { IfOk result (λ all. all ≡ claims p.now from.0 (PrePrepare view slot value.now sig.now)) }
+{
+    let digest = digest_of(p, value);
+    claims_at(alloc, p, from, PRE_PREPARE, view, slot, &digest, sig)
+}
+
+fn claims_of_change(
+    alloc: Global,
+    p: &Params,
+    from: NodeId,
+    view: u16,
+    certificates: &[Certificate],
+    sig: &Bytes,
+) -> Result<Row<Claim>, NoMemory>
+    requires { IsGoodSetup p.now.setup }
+    ensures { IfOk result (λ all. all ≡ claims p.now from.0 (ViewChange view certificates.now sig.now)) }
+{
+    let mut all = Row::new(alloc);
+    put_change_claims(alloc, p, from, view, certificates, sig, &mut all)?;
+    Ok(all)
+}
+
+fn claims_of_new_view(
+    alloc: Global,
+    p: &Params,
+    from: NodeId,
+    view: u16,
+    changes: &[Change],
+    signatures: &[Bytes],
+    sig: &Bytes,
+) -> Result<Row<Claim>, NoMemory>
+    requires { IsGoodSetup p.now.setup }
+    ensures { IfOk result (λ all. all ≡ claims p.now from.0 (NewView view changes.now signatures.now sig.now)) }
+{
+    let mut all = Row::new(alloc);
+    put_changes_claims(alloc, p, changes, &mut all)?;
+    let slots = p.slots.as_slice();
+    put_chosen_claims(alloc, p, from, view, changes, slots, signatures, &mut all)?;
+    let statement = state_new(alloc, p, view)?;
+    put_claim(from, statement, sig, &mut all)?;
+    Ok(all)
+}
+
+/// What a message says that nodes have signed, in the order of its bytes. A ViewChange of more certificates than a byte
+/// counts has no statement in bytes, which is answered as want of memory.
+pub fn claims(
+    alloc: Global,
+    p: &Params,
+    from: NodeId,
+    msg: &Message,
+) -> Result<Row<Claim>, NoMemory>
+    requires { IsGoodSetup p.now.setup }
+    ensures { IfOk result (λ all. all ≡ claims p.now from.0 msg.now) }
+{
+    match msg {
+        Message::PrePrepare {
+            view,
+            slot,
+            value,
+            sig,
+        } => claims_of_proposal(alloc, p, from, *view, *slot, value, sig),
+        Message::Prepare {
+            view,
+            slot,
+            digest,
+            sig,
+        } => claims_at(alloc, p, from, PREPARE, *view, *slot, digest, sig),
+        Message::Commit {
+            view,
+            slot,
+            digest,
+            sig,
+        } => claims_at(alloc, p, from, COMMIT, *view, *slot, digest, sig),
+        Message::ViewChange {
+            view,
+            certificates,
+            sig,
+        } => claims_of_change(alloc, p, from, *view, certificates.as_slice(), sig),
+        Message::NewView {
+            view,
+            changes,
+            signatures,
+            sig,
+        } => {
+            let signatures = signatures.as_slice();
+            claims_of_new_view(alloc, p, from, *view, changes.as_slice(), signatures, sig)
+        }
+    }
+}

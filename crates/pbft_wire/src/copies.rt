@@ -1,0 +1,83 @@
+//! Votes, certificates and ViewChanges once more.
+ghost use Rattle.std.specs.Prelude.{◌≡◌, IfOk};
+
+use crate::messages::{Certificate, Change, Vote};
+use iss_request::{NoMemory, Row};
+use std::alloc::Global;
+
+impl Vote {
+    /// The same vote once more.
+    pub fn copy(&self) -> Result<Vote, NoMemory>
+        ensures { IfOk result (λ x. x ≡ self.now) }
+    {
+        Ok(Vote {
+            node: self.node,
+            sig: self.sig.copy()?,
+        })
+    }
+}
+
+impl Certificate {
+    /// The same certificate once more.
+    pub fn copy(&self, alloc: Global) -> Result<Certificate, NoMemory>
+        ensures { IfOk result (λ c. c ≡ self.now) }
+    {
+        Ok(Certificate {
+            slot: self.slot,
+            view: self.view,
+            value: self.value.copy()?,
+            sig: self.sig.copy()?,
+            prepares: copy_votes(alloc, self.prepares.as_slice())?,
+        })
+    }
+}
+
+impl Change {
+    /// The same ViewChange once more.
+    pub fn copy(&self, alloc: Global) -> Result<Change, NoMemory>
+        ensures { IfOk result (λ x. x ≡ self.now) }
+    {
+        Ok(Change {
+            node: self.node,
+            view: self.view,
+            certificates: copy_certificates(alloc, self.certificates.as_slice())?,
+            sig: self.sig.copy()?,
+        })
+    }
+}
+
+/// The same votes once more.
+pub fn copy_votes(alloc: Global, votes: &[Vote]) -> Result<Row<Vote>, NoMemory>
+    ensures { IfOk result (λ xs. xs ≡ votes.now) }
+{
+    let mut all = Row::new(alloc);
+    for vote in votes {
+        all.push(vote.copy()?)?;
+    }
+    Ok(all)
+}
+
+/// The same certificates once more.
+pub fn copy_certificates(
+    alloc: Global,
+    certificates: &[Certificate],
+) -> Result<Row<Certificate>, NoMemory>
+    ensures { IfOk result (λ cs. cs ≡ certificates.now) }
+{
+    let mut all = Row::new(alloc);
+    for c in certificates {
+        all.push(c.copy(alloc)?)?;
+    }
+    Ok(all)
+}
+
+/// The same ViewChanges once more.
+pub fn copy_changes(alloc: Global, changes: &[Change]) -> Result<Row<Change>, NoMemory>
+    ensures { IfOk result (λ xs. xs ≡ changes.now) }
+{
+    let mut all = Row::new(alloc);
+    for x in changes {
+        all.push(x.copy(alloc)?)?;
+    }
+    Ok(all)
+}

@@ -1,0 +1,159 @@
+//! What is hashed of a value, and what is signed.
+ghost use Rattle.std.specs.Prelude.{◌≡◌, ◌≤◌, List, length, map, IfOk, OnOk};
+ghost use Rattle.std.specs.List.{flat_map};
+ghost use Rattle.iss_request.specs.Fields.{and_bytes};
+ghost use Rattle.pbft_wire.specs.Marks.{mark_bytes, mark_of};
+ghost use Rattle.pbft_wire.specs.Statements.{digest_of, state_at, state_change, state_new, string_of};
+ghost use Rattle.pbft_wire.specs.declared.messages.Certificate.{Certificate};
+
+use crate::messages::Certificate;
+use iss_request::{Bytes, NoMemory, Row, Slot, Value, Writer, write_value};
+use iss_sb::{Params, put_head};
+use std::alloc::Global;
+
+/// The number of the module.
+pub const TAG: u8 = 3;
+
+/// The number of a PrePrepare, in bytes and in statements.
+pub const PRE_PREPARE: u8 = 1;
+
+/// The number of a Prepare.
+pub const PREPARE: u8 = 2;
+
+/// The number of a Commit.
+pub const COMMIT: u8 = 3;
+
+/// The number of a ViewChange.
+pub const VIEW_CHANGE: u8 = 4;
+
+/// The number of a NewView.
+pub const NEW_VIEW: u8 = 5;
+
+/// A certificate's slot, its view, and its value's digest.
+#[derive(Drop)]
+pub struct Mark {
+    pub slot: Slot,
+    pub view: u16,
+    pub digest: [u8; 32],
+}
+
+// The byte before a value that is hashed.
+const VALUE: u8 = 0x40;
+
+/// The string that is hashed of a value.
+pub fn string_of(alloc: Global, p: &Params, value: &Value) -> Result<Bytes, NoMemory>
+    ensures { IfOk result (λ s. s ≡ string_of p.now value.now) }
+{
+    let mut out = Writer::new(alloc, p.setup.version);
+    out.put_u8(VALUE)?;
+    write_value(value, &mut out)?;
+    Ok(out.into_bytes())
+}
+
+/// The digest of a value.
+pub fn digest_of(p: &Params, value: &Value) -> [u8; 32]
+    ensures { result ≡ digest_of p.now value.now }
+{
+    iss_request::digest_of(p.setup.version, value)
+}
+
+/// What a ViewChange signs of a certificate.
+pub fn mark_of(p: &Params, c: &Certificate) -> Mark
+    ensures { result ≡ mark_of p.now c.now }
+{
+    Mark {
+        slot: c.slot,
+        view: c.view,
+        digest: digest_of(p, &c.value),
+    }
+}
+
+fn marks_of(alloc: Global, p: &Params, certificates: &[Certificate]) -> Result<Row<Mark>, NoMemory>
+    ensures { IfOk result (λ all. all ≡ map (mark_of p.now) certificates.now) }
+{
+    let mut all = Row::new(alloc);
+    for c in certificates {
+        all.push(mark_of(p, c))?;
+    }
+    Ok(all)
+}
+
+// ---- statements
+
+/// The statement of a PrePrepare, a Prepare or a Commit for the value of this digest.
+pub fn state_at(
+    alloc: Global,
+    p: &Params,
+    kind: u8,
+    view: u16,
+    slot: Slot,
+    digest: &[u8; 32],
+) -> Result<Bytes, NoMemory>
+    ensures { IfOk result (λ s. s ≡ state_at p.now kind view slot.0 digest.now) }
+{
+    let mut out = Writer::new(alloc, p.setup.version);
+    put_head(p, TAG, &mut out)?;
+    out.put_u8(kind)?;
+    out.put_u16(view)?;
+    out.put_u64(slot.0)?;
+    out.put_bytes(digest)?;
+    Ok(out.into_bytes())
+}
+
+/// The statement of a ViewChange.
+pub fn state_change(
+    alloc: Global,
+    p: &Params,
+    view: u16,
+    certificates: &[Certificate],
+) -> Result<Bytes, NoMemory>
+    requires { length certificates.now ≤ 255 }
+    ensures { IfOk result (λ s. s ≡ state_change p.now view certificates.now) }
+{
+    let marks = marks_of(alloc, p, certificates)?;
+    state_marked(alloc, p, view, marks.as_slice())
+}
+
+/// The statement of a ViewChange with certificates of these marks.
+pub fn state_marked(alloc: Global, p: &Params, view: u16, marks: &[Mark]) -> Result<Bytes, NoMemory>
+    requires { length marks.now ≤ 255 }
+    ensures { IfOk result (λ s. (cs : List Certificate) → marks.now ≡ map (mark_of p.now) cs → s ≡ state_change p.now view cs) }
+{
+    let mut out = Writer::new(alloc, p.setup.version);
+    put_head(p, TAG, &mut out)?;
+    out.put_u8(VIEW_CHANGE)?;
+    out.put_u16(view)?;
+    out.put_u8(marks.len() as u8)?;
+    put_marks(marks, &mut out)?;
+    Ok(out.into_bytes())
+}
+
+fn put_mark(mark: &Mark, out: &mut Writer) -> Result<(), NoMemory>
+    ensures { OnOk result (out.new ≡ and_bytes out.old (mark_bytes mark.now)) }
+{
+    let slot = mark.slot.0;
+    let view = mark.view;
+    out.put_u64(slot)?;
+    out.put_u16(view)?;
+    out.put_bytes(&mark.digest)
+}
+
+fn put_marks(marks: &[Mark], out: &mut Writer) -> Result<(), NoMemory>
+    ensures { OnOk result (out.new ≡ and_bytes out.old (flat_map mark_bytes marks.now)) }
+{
+    for mark in marks {
+        put_mark(mark, out)?;
+    }
+    Ok(())
+}
+
+/// The statement of a NewView.
+pub fn state_new(alloc: Global, p: &Params, view: u16) -> Result<Bytes, NoMemory>
+    ensures { IfOk result (λ s. s ≡ state_new p.now view) }
+{
+    let mut out = Writer::new(alloc, p.setup.version);
+    put_head(p, TAG, &mut out)?;
+    out.put_u8(NEW_VIEW)?;
+    out.put_u16(view)?;
+    Ok(out.into_bytes())
+}

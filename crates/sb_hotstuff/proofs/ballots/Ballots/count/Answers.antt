@@ -1,0 +1,11 @@
+use Rattle.std.proofs.Common.{◌≡◌, ◌∙◌, arith}
+use Rattle.sb_hotstuff.specs.Tallies.{count_at}
+use Rattle.sb_hotstuff.proofs.Tallying.{count-is}
+use Rattle.sb_hotstuff.proofs.ballots.Ballots.count.Goals as goal
+
+pub returns : goal.returns
+returns c vs h =
+    let end = c.loop-by-test.false in
+    let most = c.loop-by.auto.by-end in
+    let all : c.loop-by.by ≡ c.args.n = omega (arith, end, most) in
+    c.loop-by.invariant.0 ∙ (λ i. count_at c.args.self.now (all i) c.args.phase c.args.view c.args.digest.now) ∙ count-is c.args.self.now vs c.args.n c.args.phase c.args.view c.args.digest.now h

@@ -1,0 +1,11 @@
+use Rattle.std.proofs.Common.{◌≡◌, ◌∙◌, arith}
+use Rattle.sb_hotstuff.specs.Tallies.{votes_at}
+use Rattle.sb_hotstuff.proofs.Tallying.{votes-are}
+use Rattle.sb_hotstuff.proofs.ballots.Ballots.votes.Goals as goal
+
+pub returns : goal.returns
+returns c vs h =
+    let end = c.loop-by-test.false in
+    let most = c.loop-by.auto.by-end in
+    let all : c.loop-by.by ≡ c.args.n = omega (arith, end, most) in
+    c.loop-by.invariant ∙ (λ i. votes_at c.args.self.now (all i) c.args.phase c.args.view c.args.digest.now) ∙ votes-are c.args.self.now vs c.args.n c.args.phase c.args.view c.args.digest.now h

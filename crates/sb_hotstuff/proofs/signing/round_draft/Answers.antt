@@ -1,0 +1,9 @@
+use Rattle.std.proofs.Common.{refl}
+use Rattle.hs_tree.specs.Tree.{basic}
+use Rattle.sb_hotstuff.proofs.Drafting.{round-drafted}
+use Rattle.sb_hotstuff.proofs.signing.round_draft.Goals as goal
+
+pub returns : goal.returns
+returns c =
+    round-drafted c.args.p.now c.args.round c.view.result c.args.high c.leader_of-leader.result c.new-sig.result c.in_ok-statement.statement c.leader_of-leader.ensures c.new-sig.ensures c.view.ensures
+    (c.in_ok-statement.ensures basic refl)

@@ -1,0 +1,38 @@
+-- What the rules of HotStuff's code do, over any state that the code keeps.
+use Rattle.std.specs.Prelude.{◌≡◌, [], Option, Some, None}
+use Rattle.iss_sb.specs.declared.effects.Input.{Input}
+use Rattle.iss_sb.specs.declared.effects.Params.{Params}
+use Rattle.hs_tree.specs.declared.messages.Message.{Message}
+use Rattle.sb_hotstuff.specs.declared.outcomes.Outcome.{Outcome}
+use Rattle.sb_hotstuff.specs.declared.signing.Draft.{Draft}
+use Rattle.sb_hotstuff.specs.declared.state.Node.{Node}
+use Rattle.sb_hotstuff.specs.Drafts.{AreDrafts}
+use Rattle.sb_hotstuff.specs.HotStuff.{answers, proposals, strings, turn_strings}
+use Rattle.sb_hotstuff.specs.Rules.{State, Turn, after, kept, proposed, with_turn}
+use Rattle.sb_hotstuff.specs.Stands.{IsFor}
+
+pub record IsQuiet (o : Outcome) : Type 0 where
+  pub answer : o.answer ≡ None
+  pub proposal : o.proposal ≡ None
+  pub hashed : o.hashed ≡ []
+
+pub record IsAnswer (d : Draft) (o : Outcome) : Type 0 where
+  pub answer : o.answer ≡ Some d
+  pub proposal : o.proposal ≡ None
+  pub hashed : o.hashed ≡ []
+
+-- a turn, if there is one, was added to the state k
+pub record Proposes (p : Params) (old new : Node) (k : State) (t : Option Turn) (o : Outcome) : Type 0 where
+  pub node : new.me ≡ old.me
+  pub state : IsFor new (with_turn k t)
+  pub answer : o.answer ≡ None
+  pub proposal : AreDrafts p o.proposal (proposals t)
+  pub hashed : o.hashed ≡ turn_strings p t
+
+-- the input was taken in the state s
+pub record Does (p : Params) (old new : Node) (s : State) (i : Input Message) (o : Outcome) : Type 0 where
+  pub node : new.me ≡ old.me
+  pub state : IsFor new (after p old.me.0 s i)
+  pub answer : AreDrafts p o.answer (answers p s (kept p old.me.0 s i) i)
+  pub proposal : AreDrafts p o.proposal (proposals (proposed p old.me.0 s (kept p old.me.0 s i) i))
+  pub hashed : o.hashed ≡ strings p old.me.0 s i

@@ -1,0 +1,88 @@
+-- What the code keeps of a leader: votes, words on rounds, and turns.
+use Rattle.std.specs.Prelude.{◌≡◌, ℕ, zero, suc, List, [], ◌∷◌, ◌++◌, nat_lt, is_some, Option, Some, None, if◌then◌else◌}
+use Rattle.std.specs.BTreeMap.{get}
+use Rattle.std.specs.BTreeSet.{contains}
+use Rattle.std.specs.declared.cmp.Ordering.{Ordering}
+use Rattle.iss_base.specs.Quorum.{count_below}
+use Rattle.iss_sb.specs.Evidence.{one_or_none}
+use Rattle.hs_tree.specs.declared.certificates.Certificate.{Certificate}
+use Rattle.hs_tree.specs.declared.certificates.Certificate.TheVariants.{Root}
+use Rattle.hs_tree.specs.declared.certificates.Signed.{Signed}
+use Rattle.hs_tree.specs.Certificates.{view_of}
+use Rattle.sb_hotstuff.specs.declared.ballots.Ballot.{Ballot}
+use Rattle.sb_hotstuff.specs.declared.ballots.Ballots.{Ballots}
+use Rattle.sb_hotstuff.specs.declared.news.Sender.{Sender}
+use Rattle.sb_hotstuff.specs.declared.news.Words.{Words}
+use Rattle.sb_hotstuff.specs.declared.turns.Last.{Last}
+use Rattle.sb_hotstuff.specs.declared.turns.Own.{Own}
+use Rattle.sb_hotstuff.specs.declared.turns.Turns.{Turns}
+use Rattle.sb_hotstuff.specs.contracts.ballots.BallotOrd.TheImpl as ballot_ord
+use Rattle.sb_hotstuff.specs.contracts.news.SenderOrd.TheImpl as sender_ord
+use Rattle.sb_hotstuff.specs.contracts.turns.OwnOrd.TheImpl as own_ord
+use Rattle.sb_hotstuff.specs.Rules.{Kept, News, Turn, is_own_turn, news_of, vote_of}
+
+-- ---- votes
+
+abbrev pub ballot_order : Ballot → Ballot → Ordering
+ballot_order = (ballot_ord.ghosts).cmp
+
+abbrev pub vote_at : Ballots → ℕ → ℕ → ℕ → List ℕ → Option (List ℕ)
+vote_at m by phase view d = get ballot_order m.all (record { by = by; phase = phase; view = view; digest = d })
+
+-- a node's vote, by its signature
+abbrev pub signed : ℕ → Option (List ℕ) → Option Signed
+signed by None = None
+signed by (Some sig) = Some (record { by = record { 0 = by }; sig = sig })
+
+-- the code keeps these votes
+abbrev pub AreVotes : Ballots → List Kept → Type 0
+AreVotes m vs = (by phase view : ℕ) (d : List ℕ) → vote_of vs phase view d by ≡ signed by (vote_at m by phase view d)
+
+-- how many of the nodes below n voted so, and their votes
+abbrev pub count_at : Ballots → ℕ → ℕ → ℕ → List ℕ → ℕ
+count_at m n phase view d = count_below (λ k. is_some (vote_at m k phase view d)) n
+
+abbrev pub votes_at : Ballots → ℕ → ℕ → ℕ → List ℕ → List Signed
+votes_at m zero phase view d = []
+votes_at m (suc k) phase view d = votes_at m k phase view d ++ one_or_none (signed k (vote_at m k phase view d))
+
+-- ---- words
+
+abbrev pub sender_order : Sender → Sender → Ordering
+sender_order = (sender_ord.ghosts).cmp
+
+abbrev pub word_at : Words → ℕ → ℕ → Option Certificate
+word_at m by round = get sender_order m.all (record { by = by; round = round })
+
+abbrev pub AreNews : Words → List News → Type 0
+AreNews m ws = (by round : ℕ) → news_of ws round by ≡ word_at m by round
+
+-- the one with the higher view, the first where both have one
+abbrev pub better : Certificate → Option Certificate → Certificate
+better c None = c
+better c (Some d) = if nat_lt (view_of c) (view_of d) then d else c
+
+abbrev pub words_at : Words → ℕ → ℕ → ℕ
+words_at m n round = count_below (λ k. is_some (word_at m k round)) n
+
+-- the best of the nodes below n
+abbrev pub best_at : Words → ℕ → ℕ → Certificate
+best_at m zero round = Root
+best_at m (suc k) round = better (best_at m k round) (word_at m k round)
+
+-- ---- turns
+
+abbrev pub own_order : Own → Own → Ordering
+own_order = (own_ord.ghosts).cmp
+
+abbrev pub own_of : Turn → Last
+own_of t = record { view = t.view; digest = t.digest; slots = t.slots }
+
+abbrev pub last_of : List Turn → Option Last
+last_of [] = None
+last_of (t ∷ ts) = Some (own_of t)
+
+-- the code keeps these turns, the newest first
+pub record AreTurns (m : Turns) (ts : List Turn) : Type 0 where
+  pub has : (view : ℕ) (d : List ℕ) → contains own_order m.all (record { view = view; digest = d }) ≡ is_own_turn ts view d
+  pub last : m.last ≡ last_of ts

@@ -1,0 +1,164 @@
+//! A leader's proposals.
+ghost use Rattle.std.specs.Prelude.{◌≡◌, ◌≤◌, ◌<◌, ◌+◌, ◌^◌, ◌%◌, Some, IfOk};
+ghost use Rattle.std.specs.Option.{option_copied};
+ghost use Rattle.iss_base.specs.Lists.{nth};
+ghost use Rattle.iss_sb.specs.Calls.{IsGoodParams};
+ghost use Rattle.sb_hotstuff.specs.HotStuff.{hotstuff};
+ghost use Rattle.sb_hotstuff.specs.Rules.{State, Turn, cast_turn, first_turn, next_turn, nil_or_mark, turn, turn_after};
+ghost use Rattle.sb_hotstuff.specs.Stands.{IsFor, IsLow, is_last_ready};
+ghost use Rattle.sb_hotstuff.specs.Steps.{Proposes};
+ghost use Rattle.sb_hotstuff.specs.Tallies.{own_of};
+
+use crate::outcomes::Outcome;
+use crate::signing::proposal_draft;
+use crate::state::{Node, PHASES, round_of};
+use crate::turns::Last;
+use hs_tree::Certificate;
+use hs_tree::signing::hash_node;
+use hs_tree::tree::weight;
+use iss_request::{Batch, NoMemory};
+use iss_sb::Params;
+use raft_wire::What;
+use std::alloc::Global;
+
+// What is proposed behind so many slots where nothing is left to cast.
+fn nil_or_mark(p: &Params, slots: usize) -> What
+    ensures { result ≡ nil_or_mark p.now slots }
+{
+    if slots < p.slots.len() {
+        What::Nil
+    } else {
+        What::Mark
+    }
+}
+
+impl Node {
+    // Proposes a node on a certificate, behind so many slots.
+    fn propose(
+        &mut self,
+        alloc: Global,
+        p: &Params,
+        view: u32,
+        just: Certificate,
+        what: What,
+        slots: usize,
+    ) -> Result<Outcome, NoMemory>
+        ensures { IfOk result (λ o. (k : State) (t : Turn) → t ≡ turn p.now view just what slots → slots < 2 ^ 63 →
+            IsLow (own_of t) → IsFor self.old k → Proposes p.now self.old self.new k (Some t) o) }
+    {
+        let parent = just.digest();
+        let node = hash_node(alloc, p.setup.version, &parent, &what)?;
+        let digest = node.digest;
+        let slots = slots.saturating_add(weight(&what));
+        let draft = proposal_draft(alloc, p, view, what, just, &digest)?;
+        self.turns.add(Last {
+            view,
+            digest,
+            slots,
+        })?;
+        Ok(Outcome {
+            answer: None,
+            proposal: Some(draft),
+            hashed: node.strings,
+        })
+    }
+
+    // The cast of this place.
+    fn cast_at(&self, place: usize) -> Option<&Batch>
+        ensures { option_copied result ≡ nth self.now.casts place }
+    {
+        self.casts.as_slice().get(place)
+    }
+
+    // Proposes the cast of this place, if there is one.
+    fn propose_cast(
+        &mut self,
+        alloc: Global,
+        p: &Params,
+        view: u32,
+        just: Certificate,
+        slots: usize,
+        place: usize,
+    ) -> Result<Outcome, NoMemory>
+        ensures { IfOk result (λ o. (k : State) → slots < 2 ^ 63 → view % 65536 ≤ slots + 2 → slots + 1 ≤ view → IsFor self.old k →
+            Proposes p.now self.old self.new k (cast_turn p.now view just slots (nth k.casts place)) o) }
+    {
+        let Some(batch) = self.cast_at(place) else {
+            return Ok(Outcome::nothing(alloc));
+        };
+        let what = What::Holds(batch.copy()?);
+        self.propose(alloc, p, view, just, what, slots)
+    }
+
+    // Whether the last turn has shown the first quorum and the last one, and the node is in no later round.
+    fn is_ready(&self, p: &Params, last: &Last) -> bool
+        requires { IsGoodParams hotstuff p.now }
+        ensures { (s : State) → IsFor self.now s → result ≡ is_last_ready p.now s last.now }
+    {
+        self.is_reached(p, 1, last.view, &last.digest)
+            && self.is_reached(p, PHASES, last.view, &last.digest)
+            && round_of(self.view) <= round_of(last.view)
+    }
+
+    /// The turn behind the last one, if it is ready.
+    pub(crate) fn next(&mut self, alloc: Global, p: &Params) -> Result<Outcome, NoMemory>
+        requires { IsGoodParams hotstuff p.now }
+        ensures { IfOk result (λ o. (k : State) → IsFor self.old k → Proposes p.now self.old self.new k (next_turn p.now k k.turns) o) }
+    {
+        let Some(last) = self.turns.last() else {
+            if round_of(self.view) != 0 {
+                return Ok(Outcome::nothing(alloc));
+            }
+            return self.propose_cast(alloc, p, 1, Certificate::Root, 0, 0);
+        };
+        if !self.is_ready(p, &last) {
+            return Ok(Outcome::nothing(alloc));
+        }
+        self.turn_after(alloc, p, last)
+    }
+
+    // The turn behind one that is ready.
+    fn turn_after(&mut self, alloc: Global, p: &Params, last: Last) -> Result<Outcome, NoMemory>
+        requires { IsGoodParams hotstuff p.now }
+        ensures { IfOk result (λ o. (k : State) (t : Turn) → own_of t ≡ last → IsLow last → IsFor self.old k →
+            Proposes p.now self.old self.new k (turn_after p.now k t) o) }
+    {
+        let n = p.setup.n as u8;
+        let just = self
+            .votes
+            .certificate(alloc, n, 1, last.view, &last.digest)?;
+        let view = last.view.saturating_add(1);
+        if round_of(last.view) == 0 {
+            return self.propose_cast(alloc, p, view, just, last.slots, last.view as usize);
+        }
+        if last.slots >= p.slots.len() {
+            return Ok(Outcome::nothing(alloc));
+        }
+        self.propose(alloc, p, view, just, What::Nil, last.slots)
+    }
+
+    /// The first turn of a round, once a quorum's words on it are kept.
+    pub(crate) fn first(
+        &mut self,
+        alloc: Global,
+        p: &Params,
+        round: u16,
+    ) -> Result<Outcome, NoMemory>
+        requires good { IsGoodParams hotstuff p.now }
+        requires round { 1 ≤ round }
+        ensures { IfOk result (λ o. (k : State) → IsFor self.old k → Proposes p.now self.old self.new k (first_turn p.now k round) o) }
+    {
+        let n = p.setup.n as u8;
+        if self.news.count(n, round) != p.setup.quorum || round_of(self.view) > round {
+            return Ok(Outcome::nothing(alloc));
+        }
+        let just = self.news.best(alloc, n, round)?;
+        let parent = just.digest();
+        if !self.tree.has(&parent) {
+            return Ok(Outcome::nothing(alloc));
+        }
+        let slots = self.tree.slots(&parent);
+        let what = nil_or_mark(p, slots);
+        self.propose(alloc, p, round as u32 * 65536 + 1, just, what, slots)
+    }
+}

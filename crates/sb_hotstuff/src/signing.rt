@@ -1,0 +1,321 @@
+//! What nodes of HotStuff sign, and what messages claim that they signed.
+ghost use Rattle.std.specs.Prelude.{◌≡◌, ◌<◌, ◌+◌, ◌==◌, ◌++◌, ◌∷◌, [], ℕ, List, Some, length, IfOk, OnOk, if◌then◌else◌};
+ghost use Rattle.iss_keys.specs.Directories.{AreKeysOf};
+ghost use Rattle.iss_keys.specs.KeyStates.{left_of};
+ghost use Rattle.iss_sb.specs.Calls.{IsGoodParams};
+ghost use Rattle.iss_sb.specs.declared.effects.Params.{Params};
+ghost use Rattle.iss_sb.specs.declared.effects.To.{To};
+ghost use Rattle.iss_sb.specs.declared.effects.To.TheVariants.{All as To_all};
+ghost use Rattle.hs_tree.specs.declared.messages.Message.{Message};
+ghost use Rattle.hs_tree.specs.declared.messages.Message.TheVariants.{NewView, Prepare};
+ghost use Rattle.hs_tree.specs.Statements.{certificate_claims, claim, claims, inside, own_statement, signature_of, with_signature};
+ghost use Rattle.hs_tree.specs.Tree.{basic};
+ghost use Rattle.sb_hotstuff.specs.Drafts.{AreDrafts};
+ghost use Rattle.sb_hotstuff.specs.HotStuff.{hotstuff, shows, sign_all, to_leader, voted};
+ghost use Rattle.sb_hotstuff.specs.Rules.{leader_of, node_digest};
+
+use hs_tree::signing::{
+    hash_node, node_statement, put_certificate_claims, round_statement, vote_statement,
+};
+use hs_tree::wire::{COMMIT, DECIDE, PRE_COMMIT, PREPARE};
+use hs_tree::{Certificate, Message};
+use iss_keys::Keys;
+use iss_request::{Bytes, NoMemory, NodeId, Row};
+use iss_sb::{Claim, Params, To, sign};
+use raft_wire::What;
+use std::alloc::Global;
+
+/// The number of the module.
+pub const TAG: u8 = 4;
+
+/// A message before it is signed: to whom it goes, and what its sender is to sign.
+#[derive(Drop)]
+pub struct Draft {
+    pub to: To,
+    pub msg: Message,
+    pub statement: Bytes,
+}
+
+/// Who leads a round.
+pub fn leader_of(p: &Params, round: u16) -> NodeId
+    requires { IsGoodParams hotstuff p.now }
+    ensures { result.0 ≡ leader_of p.now round }
+{
+    let sum = p.leader.0 as u32 + round as u32;
+    NodeId((sum % p.setup.n) as u8)
+}
+
+// ---- drafts
+
+/// A vote, to the leader of the view's round.
+pub fn vote_draft(
+    alloc: Global,
+    p: &Params,
+    phase: u8,
+    view: u32,
+    digest: [u8; 32],
+) -> Result<Draft, NoMemory>
+    requires { IsGoodParams hotstuff p.now }
+    ensures { IfOk result (λ d. AreDrafts p.now (Some d) (voted p.now phase view digest)) }
+{
+    let statement = vote_statement(alloc, p, TAG, phase, view, &digest)?;
+    let leader = leader_of(p, (view / 65536) as u16);
+    let sig = Bytes::new(alloc);
+    Ok(Draft {
+        to: To::One(leader),
+        msg: Message::Vote {
+            phase,
+            view,
+            digest,
+            sig,
+        },
+        statement,
+    })
+}
+
+// The message that shows a quorum of votes, without its signature.
+fn shown_message(alloc: Global, phase: u8, view: u32, shown: Certificate) -> Message
+    ensures { result ≡ shows phase view shown }
+{
+    let sig = Bytes::new(alloc);
+    match phase {
+        1 => Message::PreCommit { view, shown, sig },
+        2 => Message::Commit { view, shown, sig },
+        _ => Message::Decide { view, shown, sig },
+    }
+}
+
+// The number of that message.
+fn shown_kind(phase: u8) -> u8
+    ensures { result ≡ (if phase == 1 then 3 else (if phase == 2 then 4 else 5)) }
+{
+    match phase {
+        1 => PRE_COMMIT,
+        2 => COMMIT,
+        _ => DECIDE,
+    }
+}
+
+/// A quorum of votes, to all.
+pub fn shown_draft(
+    alloc: Global,
+    p: &Params,
+    phase: u8,
+    view: u32,
+    shown: Certificate,
+) -> Result<Draft, NoMemory>
+    ensures { IfOk result (λ d. AreDrafts p.now (Some d) ((To_all, shows phase view shown) ∷ [])) }
+{
+    let digest = shown.digest();
+    let statement = node_statement(alloc, p, TAG, shown_kind(phase), view, &digest)?;
+    let msg = shown_message(alloc, phase, view, shown);
+    Ok(Draft {
+        to: To::All,
+        msg,
+        statement,
+    })
+}
+
+/// A proposal, to all, by the digest of its node.
+pub fn proposal_draft(
+    alloc: Global,
+    p: &Params,
+    view: u32,
+    what: What,
+    just: Certificate,
+    digest: &[u8; 32],
+) -> Result<Draft, NoMemory>
+    ensures { IfOk result (λ d. digest.now ≡ node_digest p.now view what just → AreDrafts p.now (Some d) ((To_all, Prepare view what just []) ∷ [])) }
+{
+    let statement = node_statement(alloc, p, TAG, PREPARE, view, digest)?;
+    let sig = Bytes::new(alloc);
+    Ok(Draft {
+        to: To::All,
+        msg: Message::Prepare {
+            view,
+            what,
+            just,
+            sig,
+        },
+        statement,
+    })
+}
+
+/// A word on the start of a round, to its leader.
+pub fn round_draft(
+    alloc: Global,
+    p: &Params,
+    round: u16,
+    high: Certificate,
+) -> Result<Draft, NoMemory>
+    requires { IsGoodParams hotstuff p.now }
+    ensures { IfOk result (λ d. AreDrafts p.now (Some d) ((to_leader p.now round, NewView round high []) ∷ [])) }
+{
+    let statement = round_statement(alloc, p, TAG, round, high.view())?;
+    let leader = leader_of(p, round);
+    let sig = Bytes::new(alloc);
+    Ok(Draft {
+        to: To::One(leader),
+        msg: Message::NewView { round, high, sig },
+        statement,
+    })
+}
+
+// ---- signing
+
+// The message with another signature.
+fn with_signature(msg: Message, new: Bytes) -> Message
+    ensures { result ≡ with_signature new msg }
+{
+    match msg {
+        Message::NewView { round, high, .. } => Message::NewView {
+            round,
+            high,
+            sig: new,
+        },
+        Message::Prepare {
+            view,
+            what,
+            just,
+            ..
+        } => Message::Prepare {
+            view,
+            what,
+            just,
+            sig: new,
+        },
+        Message::PreCommit { view, shown, .. } => Message::PreCommit {
+            view,
+            shown,
+            sig: new,
+        },
+        Message::Commit { view, shown, .. } => Message::Commit {
+            view,
+            shown,
+            sig: new,
+        },
+        Message::Decide { view, shown, .. } => Message::Decide {
+            view,
+            shown,
+            sig: new,
+        },
+        Message::Vote {
+            phase,
+            view,
+            digest,
+            ..
+        } => Message::Vote {
+            phase,
+            view,
+            digest,
+            sig: new,
+        },
+    }
+}
+
+/// Signs a message, if there is one, with the next leaf, and puts it behind others.
+pub fn send(
+    draft: Option<Draft>,
+    keys: &mut Keys,
+    sends: &mut Row<(To, Message)>,
+) -> Result<(), NoMemory>
+    requires { 0 < left_of keys.old }
+    ensures sends { OnOk result ((p : Params) (me : ℕ) (xs : List (To × Message)) → AreKeysOf me p.setup.keys keys.old → AreDrafts p draft xs →
+        sends.new ≡ sends.old ++ sign_all p me keys.old.used xs) }
+    ensures used { OnOk result ((p : Params) (xs : List (To × Message)) → AreDrafts p draft xs →
+        keys.new ≡ record keys.old { used = keys.old.used + length xs }) }
+{
+    let Some(draft) = draft else {
+        return Ok(());
+    };
+    let sig = sign(&draft.statement, keys)?;
+    let msg = with_signature(draft.msg, sig);
+    sends.push((draft.to, msg))
+}
+
+// ---- claims
+
+// What the sender of a message signs.
+fn own_statement(alloc: Global, p: &Params, m: &Message) -> Result<Bytes, NoMemory>
+    ensures { IfOk result (λ s. s ≡ own_statement basic p.now m.now) }
+{
+    match m {
+        Message::NewView { round, high, .. } => round_statement(alloc, p, TAG, *round, high.view()),
+        Message::Prepare {
+            view,
+            what,
+            just,
+            ..
+        } => {
+            let node = hash_node(alloc, p.setup.version, &just.digest(), what)?;
+            node_statement(alloc, p, TAG, PREPARE, *view, &node.digest)
+        }
+        Message::PreCommit { view, shown, .. } => {
+            node_statement(alloc, p, TAG, PRE_COMMIT, *view, &shown.digest())
+        }
+        Message::Commit { view, shown, .. } => {
+            node_statement(alloc, p, TAG, COMMIT, *view, &shown.digest())
+        }
+        Message::Decide { view, shown, .. } => {
+            node_statement(alloc, p, TAG, DECIDE, *view, &shown.digest())
+        }
+        Message::Vote {
+            phase,
+            view,
+            digest,
+            ..
+        } => vote_statement(alloc, p, TAG, *phase, *view, digest),
+    }
+}
+
+// The signature of a message.
+fn signature_of(m: &Message) -> &Bytes
+    ensures { result.now ≡ signature_of m.now }
+{
+    match m {
+        Message::NewView { sig, .. } => sig,
+        Message::Prepare { sig, .. } => sig,
+        Message::PreCommit { sig, .. } => sig,
+        Message::Commit { sig, .. } => sig,
+        Message::Decide { sig, .. } => sig,
+        Message::Vote { sig, .. } => sig,
+    }
+}
+
+// Puts what the certificate inside a message claims behind other claims.
+fn put_inside(alloc: Global, p: &Params, m: &Message, all: &mut Row<Claim>) -> Result<(), NoMemory>
+    ensures { OnOk result (all.new ≡ all.old ++ certificate_claims basic p.now (inside m.now)) }
+{
+    match m {
+        Message::NewView { high, .. } => put_certificate_claims(alloc, p, TAG, high, all),
+        Message::Prepare { just, .. } => put_certificate_claims(alloc, p, TAG, just, all),
+        Message::PreCommit { shown, .. } => put_certificate_claims(alloc, p, TAG, shown, all),
+        Message::Commit { shown, .. } => put_certificate_claims(alloc, p, TAG, shown, all),
+        Message::Decide { shown, .. } => put_certificate_claims(alloc, p, TAG, shown, all),
+        Message::Vote { .. } => Ok(()),
+    }
+}
+
+// That the sender of a message signed it.
+fn own_claim(alloc: Global, p: &Params, from: NodeId, m: &Message) -> Result<Claim, NoMemory>
+    ensures { IfOk result (λ c. c ≡ claim from.0 (own_statement basic p.now m.now) (signature_of m.now)) }
+{
+    let statement = own_statement(alloc, p, m)?;
+    let sig = signature_of(m).copy()?;
+    Ok(Claim {
+        by: from,
+        statement,
+        sig,
+    })
+}
+
+/// What a message claims that nodes signed: the votes of the certificate in it, then its sender's own signature.
+pub fn claims(alloc: Global, p: &Params, from: NodeId, m: &Message) -> Result<Row<Claim>, NoMemory>
+    ensures { IfOk result (λ all. all ≡ claims basic p.now from.0 m.now) }
+{
+    let mut all = Row::new(alloc);
+    put_inside(alloc, p, m, &mut all)?;
+    let own = own_claim(alloc, p, from, m)?;
+    all.push(own)?;
+    Ok(all)
+}

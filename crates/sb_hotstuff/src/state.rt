@@ -1,0 +1,182 @@
+//! What a node of HotStuff keeps, and the tests of its rules.
+ghost use Rattle.std.specs.Prelude.{◌≡◌, ◌/◌};
+ghost use Rattle.iss_base.specs.Lists.{nth};
+ghost use Rattle.iss_sb.specs.Calls.{IsGoodParams};
+ghost use Rattle.sb_hotstuff.specs.HotStuff.{hotstuff};
+ghost use Rattle.sb_hotstuff.specs.Rules.{State, is_allowed, is_good, is_just, is_reached, is_shown, is_slot, is_timely, keeps_news, keeps_vote, may_cast, may_second, may_third, start};
+ghost use Rattle.sb_hotstuff.specs.Stands.{IsFor};
+
+use crate::ballots::Ballots;
+use crate::news::Words;
+use crate::signing::leader_of;
+use crate::turns::Turns;
+use hs_tree::certificates::is_phase;
+use hs_tree::{Certificate, Tree};
+use iss_request::{Batch, NodeId, Row, Slot};
+use iss_sb::Params;
+use raft_wire::What;
+use std::alloc::Global;
+
+/// How many phases a node passes.
+pub const PHASES: u8 = 3;
+
+/// A node's part in one instance.
+#[derive(Drop)]
+pub struct Node {
+    pub(crate) me: NodeId,
+    pub(crate) view: u32,
+    pub(crate) tree: Tree,
+    // the highest certificate of the first phase, and the lock
+    pub(crate) high: Certificate,
+    pub(crate) lock: Certificate,
+    // whether it voted in the second and in the third phase of the view
+    pub(crate) second: bool,
+    pub(crate) third: bool,
+    // a leader's casts, turns, and the votes and words that it keeps
+    pub(crate) casts: Row<Batch>,
+    pub(crate) turns: Turns,
+    pub(crate) votes: Ballots,
+    pub(crate) news: Words,
+}
+
+/// The round of a view.
+pub fn round_of(view: u32) -> u16
+    ensures { result ≡ view / 65536 }
+{
+    (view / 65536) as u16
+}
+
+/// Whether a certificate is one of a quorum's votes for this phase in this view, which is that of a turn.
+pub fn is_good(p: &Params, phase: u8, view: u32, c: &Certificate) -> bool
+    ensures { result ≡ is_good p.now phase view c.now }
+{
+    view % 65536 >= 1 && c.is_quorum(p.setup.quorum, phase, view)
+}
+
+/// Whether a proposal in the view may stand on the certificate.
+pub fn is_just(p: &Params, view: u32, c: &Certificate) -> bool
+    ensures { result ≡ is_just p.now view c.now }
+{
+    match c {
+        Certificate::Root => true,
+        Certificate::Votes { view: voted, .. } => is_good(p, 1, *voted, c) && *voted < view,
+    }
+}
+
+/// What may stand behind so many slots.
+pub fn is_allowed(p: &Params, round: u16, slots: usize, what: &What) -> bool
+    ensures { result ≡ is_allowed p.now round slots what.now }
+{
+    match what {
+        What::Nil => round >= 1 && slots < p.slots.len(),
+        What::Holds(_) => round == 0 && slots < p.slots.len(),
+        What::Mark => round >= 1 && slots >= p.slots.len(),
+    }
+}
+
+// Whether the slot is that of this place in the segment.
+fn is_next(p: &Params, place: usize, slot: Slot) -> bool
+    ensures { result ≡ is_slot slot.0 (nth p.now.slots place) }
+{
+    match p.slots.as_slice().get(place) {
+        Some(next) => *next == slot,
+        None => false,
+    }
+}
+
+impl Node {
+    /// One that has taken nothing.
+    pub fn start(alloc: Global, me: NodeId) -> Node
+        ensures me { result.me ≡ me }
+        ensures state { IsFor result start }
+    {
+        Node {
+            me,
+            view: 0,
+            tree: Tree::new(alloc),
+            high: Certificate::Root,
+            lock: Certificate::Root,
+            second: false,
+            third: false,
+            casts: Row::new(alloc),
+            turns: Turns::new(alloc),
+            votes: Ballots::new(alloc),
+            news: Words::new(alloc),
+        }
+    }
+
+    /// Whether a batch may be cast at the slot: by the leader in the first round, at the next one.
+    pub fn may_cast(&self, p: &Params, slot: Slot) -> bool
+        ensures { (s : State) → IsFor self.now s → result ≡ may_cast p.now self.now.me.0 s slot.0 }
+    {
+        self.me == p.leader && round_of(self.view) == 0 && is_next(p, self.casts.len(), slot)
+    }
+
+    /// Whether a proposal is its view's leader's, in a view above the own.
+    pub fn is_timely(&self, p: &Params, from: NodeId, view: u32) -> bool
+        requires { IsGoodParams hotstuff p.now }
+        ensures { (s : State) → IsFor self.now s → result ≡ is_timely p.now s from.0 view }
+    {
+        from == leader_of(p, round_of(view)) && self.view < view && view % 65536 >= 1
+    }
+
+    // Whether a certificate of the own view is good for the phase, and on a known node.
+    fn is_shown(&self, p: &Params, phase: u8, view: u32, shown: &Certificate) -> bool
+        ensures { (s : State) → IsFor self.now s → result ≡ is_shown p.now s phase view shown.now }
+    {
+        is_good(p, phase, view, shown) && view == self.view && self.tree.has(&shown.digest())
+    }
+
+    /// Whether the node is to vote in the second phase of the view.
+    pub fn may_second(&self, p: &Params, view: u32, shown: &Certificate) -> bool
+        ensures { (s : State) → IsFor self.now s → result ≡ may_second p.now s view shown.now }
+    {
+        self.is_shown(p, 1, view, shown) && !self.second
+    }
+
+    /// Whether the node is to vote in the third phase of the view.
+    pub fn may_third(&self, p: &Params, view: u32, shown: &Certificate) -> bool
+        ensures { (s : State) → IsFor self.now s → result ≡ may_third p.now s view shown.now }
+    {
+        self.is_shown(p, 2, view, shown) && !self.third
+    }
+
+    /// Whether a vote is to be kept: for a turn of the own, the first of its sender, up to a quorum.
+    pub fn keeps_vote(
+        &self,
+        p: &Params,
+        from: NodeId,
+        phase: u8,
+        view: u32,
+        digest: &[u8; 32],
+    ) -> bool
+        requires { IsGoodParams hotstuff p.now }
+        ensures { (s : State) → IsFor self.now s → result ≡ keeps_vote p.now s from.0 phase view digest.now }
+    {
+        is_phase(PHASES, phase)
+            && self.turns.has(view, digest)
+            && !self.votes.has(from.0, phase, view, digest)
+            && self.votes.count(p.setup.n as u8, phase, view, digest) < p.setup.quorum
+    }
+
+    /// Whether just a quorum's votes are kept.
+    pub fn is_reached(&self, p: &Params, phase: u8, view: u32, digest: &[u8; 32]) -> bool
+        requires { IsGoodParams hotstuff p.now }
+        ensures { (s : State) → IsFor self.now s → result ≡ is_reached p.now s phase view digest.now }
+    {
+        self.votes.count(p.setup.n as u8, phase, view, digest) == p.setup.quorum
+    }
+
+    /// Whether a word on the start of a round is to be kept: of a round that the node leads, the first of its sender, up to
+    /// a quorum.
+    pub fn keeps_news(&self, p: &Params, from: NodeId, round: u16, high: &Certificate) -> bool
+        requires { IsGoodParams hotstuff p.now }
+        ensures { (s : State) → IsFor self.now s → result ≡ keeps_news p.now self.now.me.0 s from.0 round high.now }
+    {
+        round >= 1
+            && self.me == leader_of(p, round)
+            && is_just(p, round as u32 * 65536, high)
+            && !self.news.has(from.0, round)
+            && self.news.count(p.setup.n as u8, round) < p.setup.quorum
+    }
+}

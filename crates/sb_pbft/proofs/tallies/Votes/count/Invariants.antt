@@ -1,0 +1,7 @@
+use Rattle.std.proofs.Common.{◌≡◌, ◌≤◌, length}
+use Rattle.sb_pbft.specs.Places.{vote_at}
+use Rattle.sb_pbft.specs.Rules.{voters}
+use Rattle.sb_pbft.proofs.tallies.Votes.count.Given as goal
+
+abbrev pub invariant-loop-node : goal.invariant-loop-node
+invariant-loop-node l = (l.count ≡ length (voters (vote_at l.self l.view l.slot.0) l.digest 0 l.node)) × (l.count ≤ l.node)

@@ -1,0 +1,118 @@
+//! Proposals of view 0: the leader's casts, and its PrePrepares.
+ghost use Rattle.std.specs.Prelude.{◌≡◌, ◌≤◌, ◌*◌, ◌+◌, length, IfOk};
+ghost use Rattle.iss_keys.specs.KeyStates.{left_of};
+ghost use Rattle.iss_sb.specs.Calls.{IsGoodParams};
+ghost use Rattle.sb_pbft.specs.Pbft.{pbft};
+ghost use Rattle.sb_pbft.specs.Stands.{Does, HasAccepted, held, is_free, may_cast, may_take};
+
+use crate::pbft::Pbft;
+use crate::proposals::Proposal;
+use crate::sending::{send_prepare, sign_at};
+use iss_keys::Keys;
+use iss_request::{Batch, Bytes, NoMemory, NodeId, Slot, Value};
+use iss_sb::{Effects, Input, Params, To};
+use pbft_views::has_slot;
+use pbft_wire::signing::PRE_PREPARE;
+use pbft_wire::{Message, digest_of, string_of};
+use std::alloc::Global;
+
+// The effects of a batch that is accepted at a slot, with its value and the value's digest.
+fn accept(
+    alloc: Global,
+    p: &Params,
+    slot: Slot,
+    batch: Batch,
+) -> Result<(Value, [u8; 32], Effects<Message>), NoMemory>
+    ensures { IfOk result (λ r. HasAccepted p.now slot batch r.0 r.1 r.2) }
+{
+    let mut effects = Effects::nothing(alloc);
+    effects.accepted = Some((slot, batch.copy()?));
+    let value = Value::Batch(batch);
+    let digest = digest_of(p, &value);
+    effects.hashed.push(string_of(alloc, p, &value)?)?;
+    Ok((value, digest, effects))
+}
+
+impl Pbft {
+    // Whether a batch may be taken at the slot: view 0 stands, and has no proposal there.
+    fn is_free(&self, p: &Params, slot: Slot) -> bool
+        ensures { result ≡ is_free p.now (held self.now) slot.0 }
+    {
+        self.view == 0 && self.active && has_slot(p, slot) && self.proposals.get(0, slot).is_none()
+    }
+
+    /// Whether a batch may be cast at the slot: by the leader.
+    pub(crate) fn may_cast(&self, p: &Params, slot: Slot) -> bool
+        ensures { result ≡ may_cast p.now self.now slot.0 }
+    {
+        self.me == p.leader && self.is_free(p, slot)
+    }
+
+    /// Whether a PrePrepare of a batch may be taken: the leader's, in view 0.
+    pub(crate) fn may_take(&self, p: &Params, from: NodeId, view: u16, slot: Slot) -> bool
+        ensures { result ≡ may_take p.now self.now from.0 view slot.0 }
+    {
+        self.me != p.leader && from == p.leader && view == 0 && self.is_free(p, slot)
+    }
+
+    // The leader proposes a batch that is cast to it.
+    pub(crate) fn cast(
+        &mut self,
+        alloc: Global,
+        p: &Params,
+        slot: Slot,
+        batch: Batch,
+        keys: &mut Keys,
+    ) -> Result<Effects<Message>, NoMemory>
+        requires good { IsGoodParams pbft p.now }
+        requires enough { 2 * length p.now.slots + 1 ≤ left_of keys.old }
+        ensures { IfOk result (λ e. Does p.now self.old self.new (Input.Cast slot batch) keys.old keys.new e) }
+    {
+        if !self.may_cast(p, slot) {
+            return Ok(Effects::nothing(alloc));
+        }
+        let (value, digest, mut effects) = accept(alloc, p, slot, batch)?;
+        let sig = sign_at(alloc, p, PRE_PREPARE, 0, slot, &digest, keys)?;
+        let said = value.copy()?;
+        let tag = sig.copy()?;
+        let msg = Message::PrePrepare {
+            view: 0,
+            slot,
+            value: said,
+            sig: tag,
+        };
+        effects.sends.push((To::All, msg))?;
+        let proposal = Proposal { value, digest, sig };
+        self.proposals.put(0, slot, proposal)?;
+        self.settle_at(alloc, p, false, 0, slot, keys, &mut effects)?;
+        Ok(effects)
+    }
+
+    // Another node takes the leader's proposal, and prepares it.
+    pub(crate) fn take_pre_prepare(
+        &mut self,
+        alloc: Global,
+        p: &Params,
+        from: NodeId,
+        view: u16,
+        slot: Slot,
+        batch: Batch,
+        sig: Bytes,
+        keys: &mut Keys,
+    ) -> Result<Effects<Message>, NoMemory>
+        requires good { IsGoodParams pbft p.now }
+        requires enough { 2 * length p.now.slots + 1 ≤ left_of keys.old }
+        ensures { IfOk result (λ e. Does p.now self.old self.new
+            (Input.Receive from (Message.PrePrepare view slot (Value.Batch batch) sig)) keys.old keys.new e) }
+    {
+        if !self.may_take(p, from, view, slot) {
+            return Ok(Effects::nothing(alloc));
+        }
+        let (value, digest, mut effects) = accept(alloc, p, slot, batch)?;
+        send_prepare(alloc, p, 0, slot, digest, keys, &mut effects.sends)?;
+        let proposal = Proposal { value, digest, sig };
+        self.proposals.put(0, slot, proposal)?;
+        self.settle_at(alloc, p, false, 0, slot, keys, &mut effects)?;
+        Ok(effects)
+    }
+}

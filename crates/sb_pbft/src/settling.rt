@@ -1,0 +1,223 @@
+//! What is due at a slot where something came: a certificate with its Commit, and a delivery.
+ghost use Rattle.std.specs.Prelude.{◌≡◌, ◌≤◌, ◌*◌, ◌∷◌, [], length, is_some, true, IfOk, OnOk};
+ghost use Rattle.iss_keys.specs.KeyStates.{left_of};
+ghost use Rattle.iss_sb.specs.Calls.{IsGoodParams};
+ghost use Rattle.sb_pbft.specs.Pbft.{pbft};
+ghost use Rattle.sb_pbft.specs.Stands.{Answers, Commits, HandsOver, HasCertified, HasDelivered, Settles, held};
+ghost use Rattle.sb_pbft.specs.Turns.{committed_at, newly_at, prepared_at, ready_at};
+
+use crate::pbft::Pbft;
+use crate::sending::{send_commit, send_prepare};
+use iss_keys::Keys;
+use iss_request::{NoMemory, Slot, Value};
+use iss_sb::{Effects, Params};
+use pbft_wire::{Certificate, Message};
+use std::alloc::Global;
+
+impl Pbft {
+    // Whether 2f nodes prepared the own proposal.
+    fn is_prepared(&self, p: &Params, view: u16, slot: Slot) -> bool
+        requires { IsGoodParams pbft p.now }
+        ensures { result ≡ is_some (prepared_at p.now (held self.now) view slot.0) }
+    {
+        match self.proposals.get(view, slot) {
+            Some(proposal) => {
+                self.prepares
+                    .count(view, slot, &proposal.digest, p.setup.n as u8)
+                    >= 2 * p.setup.f
+            }
+            None => false,
+        }
+    }
+
+    // Whether 2f+1 nodes committed to it besides.
+    fn is_committed(&self, p: &Params, view: u16, slot: Slot) -> bool
+        requires { IsGoodParams pbft p.now }
+        ensures { result ≡ is_some (committed_at p.now (held self.now) view slot.0) }
+    {
+        if !self.is_prepared(p, view, slot) {
+            return false;
+        }
+        match self.proposals.get(view, slot) {
+            Some(proposal) => {
+                self.commits
+                    .count(view, slot, &proposal.digest, p.setup.n as u8)
+                    >= 2 * p.setup.f + 1
+            }
+            None => false,
+        }
+    }
+
+    // Whether a Commit is due in the own view.
+    fn is_ready(&self, p: &Params, slot: Slot) -> bool
+        requires { IsGoodParams pbft p.now }
+        ensures { result ≡ is_some (ready_at p.now (held self.now) slot.0) }
+    {
+        self.active && !self.tops.is_of(self.view, slot) && self.is_prepared(p, self.view, slot)
+    }
+
+    // Whether what is committed in the view is to be delivered.
+    fn is_new(&self, p: &Params, view: u16, slot: Slot) -> bool
+        requires { IsGoodParams pbft p.now }
+        ensures { result ≡ is_some (newly_at p.now (held self.now) view slot.0) }
+    {
+        !self.delivered.contains(&slot.0) && self.is_committed(p, view, slot)
+    }
+
+    // Keeps a certificate of what is ready at the slot, and tells its digest.
+    fn certify(
+        &mut self,
+        alloc: Global,
+        p: &Params,
+        slot: Slot,
+    ) -> Result<Option<[u8; 32]>, NoMemory>
+        requires { IsGoodParams pbft p.now }
+        ensures { IfOk result (λ digest. HasCertified p.now self.old self.new slot digest) }
+    {
+        if !self.is_ready(p, slot) {
+            return Ok(None);
+        }
+        let view = self.view;
+        let Some(proposal) = self.proposals.get(view, slot) else {
+            return Ok(None);
+        };
+        let digest = proposal.digest;
+        let value = proposal.value.copy()?;
+        let sig = proposal.sig.copy()?;
+        let nodes = p.setup.n as u8;
+        let most = 2 * p.setup.f;
+        let prepares = self
+            .prepares
+            .votes(alloc, view, slot, &digest, nodes, most)?;
+        self.tops.put(Certificate {
+            slot,
+            view,
+            value,
+            sig,
+            prepares,
+        })?;
+        Ok(Some(digest))
+    }
+
+    // Takes what is to be delivered of the view at the slot.
+    fn deliver(&mut self, p: &Params, view: u16, slot: Slot) -> Result<Option<Value>, NoMemory>
+        requires { IsGoodParams pbft p.now }
+        ensures { IfOk result (λ value. HasDelivered p.now self.old self.new view slot.0 value) }
+    {
+        if !self.is_new(p, view, slot) {
+            return Ok(None);
+        }
+        let Some(proposal) = self.proposals.get(view, slot) else {
+            return Ok(None);
+        };
+        let value = proposal.value.copy()?;
+        self.delivered.insert(slot.0)?;
+        Ok(Some(value))
+    }
+
+    // A Prepare for the proposal of the view, where the node answers.
+    fn answer(
+        &self,
+        alloc: Global,
+        p: &Params,
+        answers: bool,
+        view: u16,
+        slot: Slot,
+        keys: &mut Keys,
+        effects: &mut Effects<Message>,
+    ) -> Result<(), NoMemory>
+        requires { 2 ≤ left_of keys.old }
+        ensures { OnOk result (Answers p.now answers view slot self.now keys.old keys.new effects.old effects.new) }
+    {
+        if !answers {
+            return Ok(());
+        }
+        let Some(proposal) = self.proposals.get(view, slot) else {
+            return Ok(());
+        };
+        let digest = proposal.digest;
+        send_prepare(alloc, p, view, slot, digest, keys, &mut effects.sends)?;
+        Ok(())
+    }
+
+    // A certificate of what is ready at the slot, and its Commit.
+    fn commit(
+        &mut self,
+        alloc: Global,
+        p: &Params,
+        slot: Slot,
+        keys: &mut Keys,
+        effects: &mut Effects<Message>,
+    ) -> Result<(), NoMemory>
+        requires good { IsGoodParams pbft p.now }
+        requires enough { 1 ≤ left_of keys.old }
+        ensures { OnOk result (Commits p.now slot self.old self.new keys.old keys.new effects.old effects.new) }
+    {
+        let Some(digest) = self.certify(alloc, p, slot)? else {
+            return Ok(());
+        };
+        let own = self.view;
+        send_commit(alloc, p, own, slot, digest, keys, &mut effects.sends)?;
+        Ok(())
+    }
+
+    // Delivers what is to be delivered of the view at the slot.
+    fn hand_over(
+        &mut self,
+        p: &Params,
+        view: u16,
+        slot: Slot,
+        effects: &mut Effects<Message>,
+    ) -> Result<(), NoMemory>
+        requires { IsGoodParams pbft p.now }
+        ensures { OnOk result (HandsOver p.now view slot self.old self.new effects.old effects.new) }
+    {
+        let Some(value) = self.deliver(p, view, slot)? else {
+            return Ok(());
+        };
+        effects.delivers.push((slot, value))?;
+        Ok(())
+    }
+
+    // What is due at one slot where something came in the view.
+    pub(crate) fn settle_at(
+        &mut self,
+        alloc: Global,
+        p: &Params,
+        answers: bool,
+        view: u16,
+        slot: Slot,
+        keys: &mut Keys,
+        effects: &mut Effects<Message>,
+    ) -> Result<(), NoMemory>
+        requires good { IsGoodParams pbft p.now }
+        requires enough { 2 ≤ left_of keys.old }
+        ensures { OnOk result (Settles p.now answers view (slot ∷ []) self.old self.new keys.old keys.new effects.old effects.new) }
+    {
+        self.answer(alloc, p, answers, view, slot, keys, effects)?;
+        self.commit(alloc, p, slot, keys, effects)?;
+        self.hand_over(p, view, slot, effects)?;
+        Ok(())
+    }
+
+    // What is due at each of these slots, where something came in the view.
+    pub(crate) fn settle(
+        &mut self,
+        alloc: Global,
+        p: &Params,
+        answers: bool,
+        view: u16,
+        slots: &[Slot],
+        keys: &mut Keys,
+        effects: &mut Effects<Message>,
+    ) -> Result<(), NoMemory>
+        requires good { IsGoodParams pbft p.now }
+        requires enough { 2 * length slots.now ≤ left_of keys.old }
+        ensures { OnOk result (Settles p.now answers view slots.now self.old self.new keys.old keys.new effects.old effects.new) }
+    {
+        for slot in slots {
+            self.settle_at(alloc, p, answers, view, *slot, keys, effects)?;
+        }
+        Ok(())
+    }
+}

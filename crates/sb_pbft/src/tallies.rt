@@ -1,0 +1,134 @@
+//! The first vote of each node, by view and slot.
+ghost use Rattle.std.specs.Prelude.{◌≡◌, ℕ, length, take, None, IfOk, OnOk};
+ghost use Rattle.iss_base.specs.Lists.{first_of};
+ghost use Rattle.sb_pbft.specs.Rules.{Ballot, is_at, voters, when};
+ghost use Rattle.sb_pbft.specs.Places.{has_voted, signature_in, vote_at};
+
+use iss_request::{Bytes, NoMemory, NodeId, Row, Slot};
+use pbft_wire::Vote;
+use std::alloc::Global;
+use std::collections::BTreeMap;
+
+/// A node at a slot in a view.
+#[derive(PartialEq, Eq, PartialOrd, Ord, Drop)]
+pub struct Mark {
+    pub view: u16,
+    pub slot: u64,
+    pub node: u8,
+}
+
+/// What a node voted for, and its signature where that is kept.
+#[derive(Drop)]
+pub struct Voted {
+    pub digest: [u8; 32],
+    pub sig: Bytes,
+}
+
+/// The votes that were kept.
+#[derive(Drop)]
+pub struct Votes {
+    pub(crate) first: BTreeMap<Mark, Voted>,
+}
+
+impl Votes {
+    /// None kept.
+    pub fn new(alloc: Global) -> Votes
+        ensures { (v s k : ℕ) → vote_at result v s k ≡ None }
+    {
+        Votes {
+            first: BTreeMap::new(alloc),
+        }
+    }
+
+    /// Keeps a node's vote, if it is the node's first there.
+    pub fn keep(
+        &mut self,
+        view: u16,
+        slot: Slot,
+        node: NodeId,
+        digest: [u8; 32],
+        sig: Bytes,
+    ) -> Result<(), NoMemory>
+        ensures { OnOk result ((v s k : ℕ) → vote_at self.new v s k ≡
+            first_of (vote_at self.old v s k) (when (is_at node.0 view slot.0 v s k) (record { digest = digest; sig = sig }))) }
+    {
+        let mark = Mark {
+            view,
+            slot: slot.0,
+            node: node.0,
+        };
+        if self.first.contains_key(&mark) {
+            return Ok(());
+        }
+        self.first.insert(mark, Voted { digest, sig })?;
+        Ok(())
+    }
+
+    // Whether the node voted for the digest.
+    fn has_voted(&self, view: u16, slot: Slot, digest: &[u8; 32], node: u8) -> bool
+        ensures { result ≡ has_voted digest.now (vote_at self.now view slot.0 node) }
+    {
+        let mark = Mark {
+            view,
+            slot: slot.0,
+            node,
+        };
+        match self.first.get(&mark) {
+            Some(vote) => *digest == vote.digest,
+            None => false,
+        }
+    }
+
+    // The node's signature once more, nothing where it did not vote.
+    fn signature(&self, alloc: Global, view: u16, slot: Slot, node: u8) -> Result<Bytes, NoMemory>
+        ensures { IfOk result (λ sig. sig ≡ signature_in (vote_at self.now view slot.0 node)) }
+    {
+        let mark = Mark {
+            view,
+            slot: slot.0,
+            node,
+        };
+        match self.first.get(&mark) {
+            Some(vote) => vote.sig.copy(),
+            None => Ok(Bytes::new(alloc)),
+        }
+    }
+
+    /// How many of the first `n` nodes voted for the digest.
+    pub fn count(&self, view: u16, slot: Slot, digest: &[u8; 32], n: u8) -> u32
+        ensures { result ≡ length (voters (vote_at self.now view slot.0) digest.now 0 n) }
+    {
+        let mut count = 0u32;
+        for node in 0..n {
+            if self.has_voted(view, slot, digest, node) {
+                count += 1;
+            }
+        }
+        count
+    }
+
+    /// The votes for the digest of the first `n` nodes, so many at most, by ascending nodes.
+    pub fn votes(
+        &self,
+        alloc: Global,
+        view: u16,
+        slot: Slot,
+        digest: &[u8; 32],
+        n: u8,
+        most: u32,
+    ) -> Result<Row<Vote>, NoMemory>
+        ensures { IfOk result (λ votes. votes ≡ take most (voters (vote_at self.now view slot.0) digest.now 0 n)) }
+    {
+        let mut votes = Row::new(alloc);
+        for node in 0..n {
+            if votes.len() < most as usize && self.has_voted(view, slot, digest, node) {
+                let sig = self.signature(alloc, view, slot, node)?;
+                votes.push(Vote {
+                    node: NodeId(node),
+                    sig,
+                })?;
+            }
+        }
+        Ok(votes)
+    }
+}
