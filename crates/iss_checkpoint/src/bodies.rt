@@ -13,7 +13,7 @@ use std::alloc::Global;
 const NO_VOTE: [u8; 41] = [0; 41];
 
 // Whether bytes have the shape of a signature: a height, a leaf, 67 digests and one for each level.
-fn has_shape(sig: &[u8]) -> bool
+pub(crate) fn has_shape(sig: &[u8]) -> bool
     ensures { result ≡ is_signature sig.now }
 {
     match sig {
@@ -59,7 +59,7 @@ fn array_of(bytes: &[u8]) -> [u8; 32]
     digest
 }
 
-fn read_digest(f: &mut Fields) -> Result<[u8; 32], DecodeError>
+pub(crate) fn read_digest(f: &mut Fields) -> Result<[u8; 32], DecodeError>
     ensures ok { IfOk result (λ d. IsRead (block 32) f.old f.new d) }
     ensures bad { (at : ℕ) → result ≡ Err (DecodeError.BadField at) → IsUnreadable (block 32) f.old at }
 {
