@@ -7,7 +7,7 @@ use Rattle.std.proofs.lemmas.Bool.{le-leb, leb-true, lt-ltb, ltb-true}
 use Rattle.std.proofs.lemmas.Bool.Decides.{Decides-eqb}
 use Rattle.iss_base.proofs.Lists.{and-true, both}
 use Rattle.iss_request.specs.Fields.{Good, IsBad, IsReadAgain}
-use Rattle.iss_request.specs.Formats.{is_height, is_signature, parse_signature}
+use Rattle.iss_request.specs.Formats.{is_signature, parse_signature}
 use Rattle.iss_request.specs.Parsing.{Parser, ◌>>=◌, block, byte, done, number, such_that}
 use Rattle.iss_request.proofs.OneSpelling.{done_good, signature_again, signature_parts}
 use Rattle.iss_request.proofs.ParserLemmas.{block_again, block_parts, byte_again, byte_parts, done_parts, first_bad, number_again, number_parts, test_parts, test_passed, then_bad, then_good, then_parts, wide64}
@@ -190,9 +190,11 @@ one-never rest =
     let k = low-never 1 refl rest in
     let sig = first_bad parse_signature (λ sig. done (signed 1 sig)) (1 ∷ rest) k.0 k.1 in
     let by = test_passed (from_on 0) byte (1 ∷ (1 ∷ rest)) (1 ∷ rest) 1 (byte_again 1 (1 ∷ rest)) refl in
-    let signer = then_bad (such_that (from_on 0) byte) after_by (1 ∷ (1 ∷ rest)) (1 ∷ rest) 1 k.0 by sig in
-    (_, same-parser (parse_signers 1 0) (parse_signed 0 >>= after_first 0) (1 ∷ (1 ∷ rest)) (parse_signers-is 0 0)
-    ∙ first_bad (parse_signed 0) (after_first 0) (1 ∷ (1 ∷ rest)) _ (same-parser (parse_signed 0) (such_that (from_on 0) byte >>= after_by) (1 ∷ (1 ∷ rest)) (parse_signed-is 0) ∙ signer))
+    let signer = then_bad (such_that (from_on 0) byte) after_by (1 ∷ (1 ∷ rest)) (1 ∷ rest) 1 k.0 by sig in (
+      _,
+      same-parser (parse_signers 1 0) (parse_signed 0 >>= after_first 0) (1 ∷ (1 ∷ rest)) (parse_signers-is 0 0)
+          ∙ first_bad (parse_signed 0) (after_first 0) (1 ∷ (1 ∷ rest)) _ (same-parser (parse_signed 0) (such_that (from_on 0) byte >>= after_by) (1 ∷ (1 ∷ rest)) (parse_signed-is 0) ∙ signer),
+    )
 
 never : (e : ℕ) (rest : List ℕ) → IsBad (parse_cert e (no_cert ++ rest))
 never e rest =

@@ -1,8 +1,8 @@
 -- Signers that are read one after the other are what the parser of all of them finds.
-use Rattle.std.proofs.Common.{◌≡◌, ◌<◌, ℕ, zero, suc, List, [], ◌∷◌, ◌++◌, append_assoc, append-nil, arith}
+use Rattle.std.proofs.Common.{◌≡◌, ◌<◌, ℕ, suc, List, [], ◌∷◌, ◌++◌, append_assoc, append-nil}
 use Rattle.std.proofs.lemmas.Bool.{lt-ltb}
 use Rattle.iss_request.specs.Fields.{IsRead, IsUnreadable, Reading}
-use Rattle.iss_request.specs.Parsing.{Parser, ◌>>=◌, byte, done, such_that}
+use Rattle.iss_request.specs.Parsing.{byte, done, such_that}
 use Rattle.iss_request.proofs.Readings.{read_done, read_passed, read_then, unread_first, unread_tested, unread_then}
 use Rattle.iss_checkpoint.specs.declared.votes.Signed.{Signed}
 use Rattle.iss_checkpoint.specs.Certificates.{parse_signed, parse_signers}

@@ -1,15 +1,17 @@
 -- A piece has one spelling, and what is read is what the table relates to the bytes.
-use Rattle.std.proofs.Common.{◌≡◌, ◌↔◌, inl, inr, ℕ, zero, suc, ◌<◌, ◌==◌, ◌&&◌, ◌||◌, eqb, cond, Bool, true, false, List, [], ◌∷◌, ◌++◌, length, append_assoc, append-nil, refl, sym, ap, ap₂, ◌∙◌, subst, ◌⊎◌}
-use Rattle.std.specs.Prelude.{nat_lt}
+use Rattle.std.proofs.Common.{◌≡◌, ◌↔◌, inl, inr, ℕ, zero, suc, ◌+◌, ◌-◌, ◌<◌, ◌==◌, ◌||◌, eqb, cond, Bool, true, false, List, [], ◌∷◌, ◌++◌, length, append_assoc, append-nil, refl, sym, ap, ap₂, ◌∙◌, subst, ◌⊎◌, arith, true≢false}
+use Rattle.std.specs.Prelude.{nat_lt, Result, Err}
 use Rattle.std.specs.List.{flat_map}
 use Rattle.std.proofs.lemmas.Bool.{lt-ltb, ltb-true}
 use Rattle.std.proofs.lemmas.Bool.Decides.{Decides-eqb}
 use Rattle.iss_base.proofs.Lists.{and-true, both, is-eq}
-use Rattle.iss_request.specs.Fields.{Good, IsBad, IsReadAgain}
+use Rattle.iss_request.specs.declared.errors.DecodeError.{DecodeError}
+use Rattle.iss_request.specs.declared.errors.DecodeError.TheVariants.{BadField}
+use Rattle.iss_request.specs.Fields.{Bad, Good, IsBad, IsReadAgain}
 use Rattle.iss_request.specs.Formats.{IsSpelledValue, is_first, is_second, parse_value, spell_value}
-use Rattle.iss_request.specs.Parsing.{Parser, ◌>>=◌, byte, done, such_that, times}
+use Rattle.iss_request.specs.Parsing.{Parser, ◌>>=◌, all_of, at_end, byte, done, such_that, times}
 use Rattle.iss_request.specs.declared.requests.Value.{Value}
-use Rattle.iss_request.proofs.OneSpelling.{Whole, done_good, times_parts, times_whole, value_grammar, value_related}
+use Rattle.iss_request.proofs.OneSpelling.{done_good, times_parts, times_whole, value_grammar, value_related}
 use Rattle.iss_request.proofs.ParserLemmas.{byte_again, byte_parts, done_parts, first_bad, test_failed, test_parts, test_passed, then_bad, then_good, then_parts}
 use Rattle.iss_sb.proofs.Read.{read-again}
 use Rattle.iss_checkpoint.specs.declared.votes.Cert.{Cert}
@@ -35,6 +37,27 @@ ask-table e a bytes = (
   λ h. let d = done_parts (record { epoch = record { 0 = e } }) a bytes [] h in (sym (ap (λ (x : Ask). x.epoch.0) d.0), d.1),
   λ h. subst (λ (k : ℕ). done (record { epoch = record { 0 = k } }) bytes ≡ Good a []) h.0 (ap (done a) h.1 ∙ done_good a []),
 )
+
+ask-made : ℕ → Ask
+ask-made e = record { epoch = record { 0 = e } }
+
+pub ask-found : (e : ℕ) (bytes : List ℕ) → (length bytes == 0) ≡ true → parse_ask e bytes ≡ Good (record { epoch = record { 0 = e } }) []
+unfolding parse_ask
+ask-found e [] h = done_good (record { epoch = record { 0 = e } }) []
+ask-found e (b ∷ bytes) h = let none = is-eq (length (b ∷ bytes)) 0 h in absurd (omega (arith, none))
+
+ask-over : (e : ℕ) (bytes : List ℕ) → (length bytes == 0) ≡ false → all_of (parse_ask e) bytes ≡ Bad 0
+unfolding parse_ask all_of at_end ask-made
+ask-over e [] h = absurd (true≢false h)
+ask-over e (b ∷ bytes) h =
+    let none : length (b ∷ bytes) - length (b ∷ bytes) + 0 ≡ 0 = omega arith in
+    then_bad (parse_ask e) at_end (b ∷ bytes) (b ∷ bytes) (ask-made e) 0 (done_good (ask-made e) (b ∷ bytes)) refl ∙ ap Bad none
+
+-- what the error names
+pub ask-bad : (e at : ℕ) (bytes : List ℕ) → (length bytes == 0) ≡ false → ◌≡◌ {A = Result Ask DecodeError} (Err (BadField 0)) (Err (BadField at)) → all_of (parse_ask e) bytes ≡ Bad at
+ask-bad e at bytes h is =
+    let same : 0 ≡ at = cc in
+    ask-over e bytes h ∙ ap Bad same
 
 -- ---- the parsers, field by field
 
