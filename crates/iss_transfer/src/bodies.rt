@@ -41,8 +41,8 @@ fn put_row(piece: &Piece, out: &mut Writer) -> Result<(), NoMemory>
     write_cert(&piece.cert, out)
 }
 
-// Writes a piece. One that has no spelling is written as bytes that no reader takes.
-fn write_piece(piece: &Piece, out: &mut Writer) -> Result<(), NoMemory>
+/// Writes a piece. One that has no spelling is written as bytes that no reader takes.
+pub fn write_piece(piece: &Piece, out: &mut Writer) -> Result<(), NoMemory>
     ensures { OnOk result (out.new ≡ and_bytes out.old (spell_piece out.old.version piece.now)) }
 {
     if !has_spelling(piece) {
@@ -63,8 +63,8 @@ fn read_values(alloc: Global, count: u8, f: &mut Fields) -> Result<Row<Value>, D
     Ok(values)
 }
 
-// Reads a piece of an epoch.
-fn read_piece(alloc: Global, epoch: Epoch, f: &mut Fields) -> Result<Piece, DecodeError>
+/// Reads a piece of an epoch. `BadField` names the first field that does not fit.
+pub fn read_piece(alloc: Global, epoch: Epoch, f: &mut Fields) -> Result<Piece, DecodeError>
     ensures ok { IfOk result (λ p. IsRead (parse_piece f.old.version epoch.0) f.old f.new p) }
     ensures bad { (at : ℕ) → result ≡ Err (DecodeError.BadField at) → IsUnreadable (parse_piece f.old.version epoch.0) f.old at }
 {
