@@ -25,7 +25,8 @@ use Rattle.sb_pbft.specs.Makes.{Draft, DraftNewView, choice_strings, sig_for, si
 use Rattle.sb_pbft.specs.Pbft.{pbft}
 use Rattle.sb_pbft.specs.Places.{change_at, proposal_at, top_at, vote_at}
 use Rattle.sb_pbft.specs.Rules.{is_open}
-use Rattle.sb_pbft.specs.Turns.{Held, Turn, certified, changes_at, commits_to, deliveries, delivery, drafts_all, handed, model, newly_at, placed, prepares_to, ready_at}
+use Rattle.sb_pbft.specs.Turns.{Held, Turn, certified, changes_at, commits_to, deliveries, delivery}
+use Rattle.sb_pbft.specs.Turns.{drafts_all, handed, model, newly_at, placed, prepares_to, ready_at}
 use Rattle.sb_pbft.specs.Turns.{settled_all, turn}
 
 -- the code as what it holds

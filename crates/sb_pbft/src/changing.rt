@@ -1,10 +1,10 @@
 //! The change of views: ViewChanges, NewViews, timeouts.
-ghost use Rattle.std.specs.Prelude.{◌≡◌, ◌≤◌, ◌<◌, ◌*◌, ◌+◌, ◌&&◌, ℕ, List, length, not, is_some, IfOk, OnOk};
+ghost use Rattle.std.specs.Prelude.{◌≡◌, ◌≤◌, ◌<◌, ◌*◌, ◌+◌, ◌==◌, ◌&&◌, ℕ, List, length, not, is_some, IfOk, OnOk};
 ghost use Rattle.iss_base.specs.Lists.{first_of};
 ghost use Rattle.iss_keys.specs.KeyStates.{left_of};
 ghost use Rattle.iss_sb.specs.Calls.{IsGoodParams};
 ghost use Rattle.pbft_views.specs.Choice.{certificates_of};
-ghost use Rattle.pbft_views.specs.Good.{all_good};
+ghost use Rattle.pbft_views.specs.Good.{all_good, primary};
 ghost use Rattle.sb_pbft.specs.Makes.{choice_strings, value_strings};
 ghost use Rattle.sb_pbft.specs.Pbft.{pbft};
 ghost use Rattle.sb_pbft.specs.Places.{proposal_at};
@@ -53,7 +53,8 @@ fn hash_changes(
         return Ok(());
     };
     hash_values(alloc, p, first.certificates.as_slice(), effects)?;
-    hash_changes(alloc, p, others, effects)
+    hash_changes(alloc, p, others, effects)?;
+    Ok(())
 }
 
 // The strings of what these ViewChanges choose, slot by slot.
@@ -196,8 +197,15 @@ impl Pbft {
     {
         self.is_newer(view)
             && (are_enough(p, view, changes)
-                && (from == primary(p, view)
-                    && (0 < view && signatures.len() == p.slots.len())))
+                && (from == primary(p, view) && (0 < view && signatures.len() == p.slots.len())))
+    }
+
+    // Whether another node is the primary of the view.
+    fn follows(&self, p: &Params, view: u16) -> bool
+        requires { IsGoodParams pbft p.now }
+        ensures { result ≡ not (self.now.me.0 == primary p.now view) }
+    {
+        self.me != primary(p, view)
     }
 
     pub(crate) fn take_new_view(
@@ -216,18 +224,18 @@ impl Pbft {
             Does p.now self.old self.new (Input.Receive from (Message.NewView view changes signatures sig)) keys.old keys.new e) }
     {
         let mut effects = Effects::nothing(alloc);
-        let signatures = signatures.as_slice();
-        if !self.enters(p, from, view, changes.as_slice(), signatures) {
+        let shown = changes.as_slice();
+        let signed = signatures.as_slice();
+        if !self.enters(p, from, view, shown, signed) {
             return Ok(effects);
         }
         let slots = p.slots.as_slice();
-        hash_changes(alloc, p, changes.as_slice(), &mut effects)?;
-        hash_choices(alloc, p, changes.as_slice(), slots, &mut effects)?;
-        let proposals = &mut self.proposals;
-        put_choices(p, view, changes.as_slice(), slots, signatures, proposals)?;
+        hash_changes(alloc, p, shown, &mut effects)?;
+        hash_choices(alloc, p, shown, slots, &mut effects)?;
+        put_choices(p, view, shown, slots, signed, &mut self.proposals)?;
         self.view = view;
         self.active = true;
-        let answers = self.me != primary(p, view);
+        let answers = self.follows(p, view);
         self.settle(alloc, p, answers, view, slots, keys, &mut effects)?;
         Ok(effects)
     }

@@ -148,7 +148,15 @@ pub fn send_new_view(
 {
     let slots = p.slots.as_slice();
     let mut signatures = Row::new(alloc);
-    sign_choices(alloc, p, view, changes.as_slice(), slots, keys, &mut signatures)?;
+    sign_choices(
+        alloc,
+        p,
+        view,
+        changes.as_slice(),
+        slots,
+        keys,
+        &mut signatures,
+    )?;
     let statement = state_new(alloc, p, view)?;
     let sig = sign(&statement, keys)?;
     let msg = Message::NewView {
