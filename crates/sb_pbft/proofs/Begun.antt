@@ -177,7 +177,7 @@ module _ (p : Params) (m : Pbft) (x : Change) where
 
 -- ---- a NewView
 
-module _ (p : Params) (m : Pbft) (from : ℕ) (v : ℕ) (xs : List Change) (sigs : List (List ℕ)) where
+module _ (p : Params) (m : Pbft) (v : ℕ) (xs : List Change) (sigs : List (List ℕ)) where
   begun-held : (all : Proposals) → ((w s : ℕ) → proposal_at all w s ≡ first_of (chosen_among p v xs p.slots sigs w s) (proposal_at m.proposals w s)) →
       held (record m { view = v; active = true; proposals = all }) ≡ entered p (held m) v xs sigs
   begun-held all new = λ j. record (held m) { mode = record { view = v; active = true }; proposal = λ w s. new w s j }
