@@ -40,3 +40,4 @@ pub mod Settled
 pub mod Doing
 pub mod Taken
 pub mod Proposed
+pub mod Begun

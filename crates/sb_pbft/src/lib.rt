@@ -3,6 +3,7 @@
 #![tactic(auto)]
 
 pub mod changes;
+pub mod changing;
 pub mod facts;
 pub mod laws;
 pub mod pbft;
