@@ -109,6 +109,18 @@ module _ (p : Params) (good : IsGoodParams pbft p) (m : Pbft) (me : ℕ) (xs : L
       ∙ accepts-is p me 0 (model p me xs) (Receive from (PrePrepare v slot (Holds batch) sig)) (asked_at p me (model p me xs) (Receive from (PrePrepare v slot (Holds batch) sig)))
       ∙ sym (asked-so (Receive from (PrePrepare v slot (Holds batch) sig))) ∙ told-asked p m slot batch from v sig
 
+  pub asks-of-cast : (i : Input Message) (slot : Slot) (batch : Batch) (t : Bool) → i ≡ Cast slot batch → t ≡ may_cast p m slot.0 →
+      ◌≡◌ {A = Option (Slot × Batch)} (when {A = Slot × Batch} t (slot, batch)) (asks p me xs i)
+  asks-of-cast i slot batch t is may =
+      ap (λ (z : Bool). let x : Slot × Batch = (slot, batch) in when z x) may ∙ sym (asks-cast slot batch) ∙ ap (λ (z : Input Message). asks p me xs z) (sym is)
+
+  pub asks-of-told : (i : Input Message) (from : NodeId) (msg : Message) (v : ℕ) (slot : Slot) (x : Value) (batch : Batch) (sig : List ℕ) (t : Bool) → i ≡ Receive from msg →
+      msg ≡ PrePrepare v slot x sig → x ≡ Holds batch → t ≡ may_take p m from.0 v slot.0 → ◌≡◌ {A = Option (Slot × Batch)} (when {A = Slot × Batch} t (slot, batch)) (asks p me xs i)
+  asks-of-told i from msg v slot x batch sig t is says holds may =
+      ap (λ (z : Bool). let x : Slot × Batch = (slot, batch) in when z x) may ∙ sym (asks-told from v slot batch sig)
+      ∙ ap (λ (z : Value). asks p me xs (Receive from (PrePrepare v slot z sig))) (sym holds) ∙ ap (λ (z : Message). asks p me xs (Receive from z)) (sym says)
+      ∙ ap (λ (z : Input Message). asks p me xs z) (sym is)
+
   when-some : (t : Bool) (x : Slot × Batch) → t ≡ true → ◌≡◌ {A = Option (Slot × Batch)} (when t x) (Some x)
   when-some t x h = ap (λ (z : Bool). when {A = Slot × Batch} z x) h
 
