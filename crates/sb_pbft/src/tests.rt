@@ -40,6 +40,7 @@ fn instance(alloc: Global, f: u32) -> Result<Params, Fail> {
 }
 
 // Nodes, each with its keys, the packets that were sent, and how many slots were delivered.
+#[derive(Drop)]
 struct Cluster {
     nodes: Vec<Pbft>,
     keys: Vec<Keys>,
@@ -52,7 +53,7 @@ fn cluster(alloc: Global, p: &Params) -> Result<Cluster, Fail> {
     let mut keys = Vec::new(alloc);
     for k in 0..p.setup.n {
         nodes.push(Pbft::start(alloc, p, NodeId(k as u8))?)?;
-        keys.push(p.directory.keys_of_node(alloc, k as u8))?;
+        keys.push(p.directory.directory().keys_of_node(alloc, k as u8))?;
     }
     Ok(Cluster {
         nodes,
