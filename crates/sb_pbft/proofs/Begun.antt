@@ -60,11 +60,11 @@ cut (y ∷ ys) x is long =
 pub hashed-changes : (p : Params) (l : List Change) (x : Change) (cs : List Certificate) (e f g : Effects Message) → x ≡ get_or l 0 x → 1 ≤ length l →
     cs ≡ x.certificates →
     HasHashed (value_strings p cs) e f → HasHashed (value_strings p (certificates_of (take (length l - 1) (drop 1 l)))) f g →
-        HasHashed (value_strings p (certificates_of l)) e g
+    HasHashed (value_strings p (certificates_of l)) e g
 hashed-changes p l x cs e f g is long same first rest =
     subst (λ (z : List Change). HasHashed (value_strings p (certificates_of z)) e g) (cut l x is long)
     (hashed_both p x.certificates (certificates_of (take (length l - 1) (drop 1 l))) e f g (subst
-        (λ (z : List Certificate). HasHashed (value_strings p z) e f) same first) rest)
+    (λ (z : List Certificate). HasHashed (value_strings p z) e f) same first) rest)
 
 -- ---- a ViewChange
 
@@ -161,7 +161,7 @@ module _ (p : Params) (m : Pbft) (x : Change) where
 
     change-turn : (leaf : ℕ) → keeps ≡ true → before ≡ length (changes_at p (held m) x.view) → held kept ≡ then →
         turn p m.me.0 leaf (held m) (Receive x.node (ViewChange x.view x.certificates x.sig)) ≡ record
-            (idle (held kept)) { drafts = due-drafts; strings = due-strings }
+        (idle (held kept)) { drafts = due-drafts; strings = due-strings }
     change-turn leaf first count is =
         ap (λ (u : Held). changed p m.me.0 (held m) u x.node x.view x.certificates) (sym is)
         ∙ ap (λ (a : Bool). changed-by m.me.0 (held kept) a (completes_at p m.me.0 (held m) (held kept) x.view)) first
@@ -212,7 +212,7 @@ entered-turn : (p : Params) (m : Pbft) (leaf : ℕ) (node : NodeId) (v : ℕ) (x
     enters p (held m).mode node.0 v xs sigs ≡ true →
     turn p m.me.0 leaf (held m) (Receive node (NewView v xs sigs sig)) ≡
     turned p [] (entered p (held m) v xs sigs) (not (m.me.0 == primary p v)) v p.slots (value_strings p
-        (certificates_of xs) ++ choice_strings p xs p.slots) None
+    (certificates_of xs) ++ choice_strings p xs p.slots) None
 entered-turn p m leaf node v xs sigs sig may = rw may refl
 
 entered-idle : (p : Params) (m : Pbft) (leaf : ℕ) (node : NodeId) (v : ℕ) (xs : List Change) (sigs : List (List ℕ)) (sig : List ℕ) →
@@ -239,15 +239,15 @@ module _ (p : Params) (m new : Pbft) (from : NodeId) (v : ℕ) (xs : List Change
   begun-own sig some b =
       let strings = value_strings p (certificates_of xs) ++ choice_strings p xs p.slots in
       does-settled p (Receive from (NewView v xs sigs sig)) m (record m { view = v; active = true; proposals = all }) new k k l f g []
-          (not (m.me.0 == primary p v)) v p.slots
+      (not (m.me.0 == primary p v)) v p.slots
       (entered p (held m) v xs sigs) strings None refl (λ own. begun-held p m v xs sigs all b.proposed)
       (sent-none p k [] f.sends (b.choices.sends ∙ b.values.sends ∙ b.nothing.sends)) (b.choices.delivers ∙ b.values.delivers ∙ b.nothing.delivers)
       (b.choices.accepted ∙ b.values.accepted ∙ b.nothing.accepted)
       (b.choices.hashed ∙ ap (λ (z : List (List ℕ)). z ++ choice_strings p xs p.slots) (b.values.hashed
-          ∙ ap (λ (z : List (List ℕ)). z ++ value_strings p (certificates_of xs)) b.nothing.hashed))
+      ∙ ap (λ (z : List (List ℕ)). z ++ value_strings p (certificates_of xs)) b.nothing.hashed))
       tt (entered-turn p m k.used from v xs sigs sig b.entering)
       (subst (λ (z : Bool). Settles p z v p.slots (record m { view = v; active = true; proposals = all }) new k l f g) b.follows b.settles)
-          (all-inside p.slots) (omega arith)
+      (all-inside p.slots) (omega arith)
 
   pub begun-does : (ys : List Change) (ss : List (List ℕ)) (slots : List Slot) (sig : List ℕ) → 1 ≤ length p.slots → xs ≡ ys → sigs ≡ ss → slots ≡ p.slots →
       Began p m new from v xs sigs slots all answers k l none e f g → Does p m new (Receive from (NewView v ys ss sig)) k l g
@@ -284,12 +284,12 @@ change-does p m x cs all before k l none e f b =
     let held-then = change-held p m x all before good b.kept in
     let sends : e.sends ≡ [] = b.values.sends ∙ b.nothing.sends in
     let hashed : e.hashed ≡ value_strings p x.certificates = b.values.hashed ∙ ap (λ (z : List (List ℕ)). z ++ value_strings p cs) b.nothing.hashed
-        ∙ ap (λ (z : List Certificate). value_strings p z) b.shown in
+    ∙ ap (λ (z : List Certificate). value_strings p z) b.shown in
     does-sent p (Receive x.node (ViewChange x.view x.certificates x.sig)) m (record m { changes = all }) k l f (due-drafts p m x all before)
-        (due-strings p m x all before) refl
+    (due-strings p m x all before) refl
     (subst (λ (z : List (To × Message)). Sent p (due-drafts p m x all before) k l z f.sends) sends b.renews.sent)
-        (b.renews.delivers ∙ b.values.delivers ∙ b.nothing.delivers)
+    (b.renews.delivers ∙ b.values.delivers ∙ b.nothing.delivers)
     (b.renews.accepted ∙ b.values.accepted ∙ b.nothing.accepted)
     (b.renews.hashed ∙ ap (λ (z : List (List ℕ)). z ++ cond (is_due p (record m { changes = all }) x.view before)
-        (choice_strings p (changes_at p (held (record m { changes = all })) x.view) p.slots) []) hashed)
+    (choice_strings p (changes_at p (held (record m { changes = all })) x.view) p.slots) []) hashed)
     (change-turn p m x all before k.used b.keeps b.count held-then) (due-few p m x all before)

@@ -73,7 +73,7 @@ drafts-few p h answers v [] = omega arith
 drafts-few p h answers v (s ∷ ss) =
     let one = slot-few p h answers v s in
     let e : uses_all p (drafts_all p h answers v (s ∷ [])) ≡ uses_all p (drafts_at p h answers v s) = ap (λ (l : List Draft). uses_all p l)
-        (same-end (drafts_at p h answers v s)) in
+    (same-end (drafts_at p h answers v s)) in
     let rest = drafts-few p (settled p h v s) answers v ss in
     let both = uses-both p (drafts_at p h answers v s) (drafts_all p (settled p h v s) answers v ss) in
     omega (arith, one, e, rest, both)
@@ -101,7 +101,7 @@ module _ (p : Params) (i : Input Message) (old mid new : Pbft) (b k l : KeyState
       let rest = drafts-few p (held mid) answers v slots in
       let used : l.used ≡ b.used + uses_all p (ds ++ drafts_all p (held mid) answers v slots) = ap (λ (z : KeyState). z.used) sent.used in
       let delivers : f.delivers ≡ deliveries p (held mid) v slots = done.delivers ∙ ap (λ (x : List (Slot × Value)). x ++ deliveries p
-          (held mid) v slots) none in
+      (held mid) v slots) none in
       record {
         delivered = subst (λ (x : List (Slot × Value)). AllIn (slots_of x) p.slots) (sym delivers) (deliveries-in p (held mid) v slots p.slots inside);
         accepted = subst (λ (o : Option (Slot × Batch)). IfSome o (λ a. In a.0 p.slots)) (sym (done.accepted ∙ takes)) taken;
@@ -115,7 +115,7 @@ module _ (p : Params) (i : Input Message) (old mid new : Pbft) (b k l : KeyState
   pub does-settled : mid.me ≡ old.me → (AreKeysOf old.me.0 p.setup.keys b → held mid ≡ h) → Sent p ds b k [] e.sends → e.delivers ≡ [] →
       e.accepted ≡ accepted → e.hashed ≡ strings →
       IfSome accepted (λ a. In a.0 p.slots) → turn p old.me.0 b.used (held old) i ≡ turned p ds h answers v slots strings accepted →
-          Settles p answers v slots mid new k l e f →
+      Settles p answers v slots mid new k l e f →
       AllIn slots p.slots → uses_all p ds + 2 * length slots ≤ 2 * length p.slots + 1 → Does p old new i b l f
   does-settled node is first none takes hashes taken turns done inside few = record {
     node = done.node ∙ node;
@@ -123,7 +123,7 @@ module _ (p : Params) (i : Input Message) (old mid new : Pbft) (b k l : KeyState
         let same = is own in
         let sent = sent-both p ds (drafts_all p (held mid) answers v slots) b k l [] e.sends f.sends first done.sent in
         subst (λ (t : Turn). IsTurn p new old.me.0 b.used t f b l) (sym turns) (subst (λ (z : Held). IsTurn p new old.me.0 b.used
-            (turned p ds z answers v slots strings accepted) f b l) same (record {
+        (turned p ds z answers v slots strings accepted) f b l) same (record {
           holds = done.holds;
           sends = sent.sends old.me.0 own;
           used = ap (λ (z : KeyState). z.used) sent.used;
@@ -139,10 +139,10 @@ pub does-sent : (p : Params) (i : Input Message) (old new : Pbft) (b l : KeyStat
     new.me ≡ old.me →
     Sent p ds b l [] f.sends → f.delivers ≡ [] → f.accepted ≡ None → f.hashed ≡ strings →
     turn p old.me.0 b.used (held old) i ≡ record (idle (held new)) { drafts = ds; strings = strings } → uses_all p ds ≤ 2 * length p.slots + 1 →
-        Does p old new i b l f
+    Does p old new i b l f
 does-sent p i old new b l f ds strings node sent none takes hashes turns few =
     let same : turned p ds (held new) false 0 [] strings None ≡ record (idle (held new)) { drafts = ds; strings = strings } =
     ap (λ (x : List Draft). record (idle (held new)) { drafts = x; strings = strings }) (same-end ds) in
     does-settled p i old new new b l l f f ds false 0 [] (held new) strings None node (λ own. refl) sent none takes hashes tt (turns ∙ sym same)
-        (settles-none p false 0 new l f) tt
+    (settles-none p false 0 new l f) tt
     (let low = few in omega (arith, low))

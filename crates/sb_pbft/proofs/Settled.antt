@@ -111,7 +111,7 @@ settles-more p answers v s ss m n o a b c e f g h k = record {
   delivers =
       k.delivers ∙ ap (λ (z : Held). f.delivers ++ deliveries p z v ss) h.holds
       ∙ ap (λ (l : List (Slot × Value)). l ++ deliveries p (settled p (held m) v s) v ss) (h.delivers
-          ∙ ap (λ (l : List (Slot × Value)). e.delivers ++ l) (same-end (delivery s (newly_at p (held m) v s.0))))
+      ∙ ap (λ (l : List (Slot × Value)). e.delivers ++ l) (same-end (delivery s (newly_at p (held m) v s.0))))
       ∙ grouped e.delivers (delivery s (newly_at p (held m) v s.0)) (deliveries p (settled p (held m) v s) v ss);
   accepted = k.accepted ∙ h.accepted;
   hashed = k.hashed ∙ h.hashed;
@@ -125,7 +125,7 @@ settles-one p answers v s m n o a b c e f g i x y z = record {
   holds = z.holds ∙ ap (λ (h : Held). handed p h v s.0) y.holds;
   sent =
       let both = sent-both p (cond answers (prepares_to v s ((held m).proposal v s.0)) []) (commits_to (held m).mode.view s
-          (ready_at p (held m) s.0)) a b c e.sends f.sends g.sends x.sent y.sent in
+      (ready_at p (held m) s.0)) a b c e.sends f.sends g.sends x.sent y.sent in
       subst (λ (l : List Draft). Sent p l a c e.sends i.sends) (sym (same-end (drafts_at p (held m) answers v s)))
       (subst (λ (l : List (To × Message)). Sent p (drafts_at p (held m) answers v s) a c e.sends l) (sym z.sends) both);
   delivers =

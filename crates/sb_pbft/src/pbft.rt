@@ -1,8 +1,9 @@
 //! A node's part in an instance of PBFT, and that PBFT is an ordering module.
-ghost use Rattle.std.specs.Prelude.{◌≡◌, ◌≤◌, ◌*◌, ◌+◌, length, IfOk};
+ghost use Rattle.std.specs.Prelude.{◌≡◌, ◌≤◌, ◌*◌, ◌+◌, ℕ, List, length, IfOk};
 ghost use Rattle.iss_keys.specs.KeyStates.{left_of};
-ghost use Rattle.iss_sb.specs.Calls.{IsGoodInput, IsGoodParams, IsStep};
-ghost use Rattle.sb_pbft.specs.Pbft.{pbft};
+ghost use Rattle.iss_sb.specs.Calls.{IsGoodInput, IsGoodParams, IsStep, named};
+ghost use Rattle.iss_sb.specs.Evidence.{Item};
+ghost use Rattle.sb_pbft.specs.Pbft.{asks, pbft};
 ghost use Rattle.sb_pbft.specs.Stands.{Does, Stands};
 
 use crate::changes::Changes;
@@ -10,9 +11,7 @@ use crate::proposals::Proposals;
 use crate::tallies::Votes;
 use crate::tops::Tops;
 use iss_keys::Keys;
-use iss_request::{
-    Batch, Bytes, DecodeError, Fields, NoMemory, NodeId, Row, Slot, Value, Writer,
-};
+use iss_request::{Batch, Bytes, DecodeError, Fields, NoMemory, NodeId, Row, Slot, Value, Writer};
 use iss_sb::{Claim, Effects, Input, Params, Sequenced, StepError};
 use pbft_wire::{Change, Message};
 use std::alloc::Global;
@@ -67,6 +66,32 @@ impl Pbft {
         }
     }
 
+    // The batch that a message offers, where it would be taken.
+    fn offers<'a>(&'a self, p: &Params, from: NodeId, msg: &'a Message) -> Option<(Slot, &'a Batch)>
+        requires good { IsGoodParams pbft p.now }
+        ensures { (me : ℕ) (xs : List (Item Message)) → Stands self.now p.now me xs →
+            named result ≡ asks p.now me xs (Input.Receive from msg.now) }
+    {
+        match msg {
+            Message::PrePrepare {
+                view,
+                slot,
+                value,
+                ..
+            } => match value {
+                Value::Batch(batch) => {
+                    if self.may_take(p, from, *view, *slot) {
+                        Some((*slot, batch))
+                    } else {
+                        None
+                    }
+                }
+                Value::Nil => None,
+            },
+            _ => None,
+        }
+    }
+
     // A message, by its kind.
     fn receive(
         &mut self,
@@ -86,22 +111,19 @@ impl Pbft {
                 slot,
                 value,
                 sig,
-            } => Ok(self.take_proposal(
-                alloc, p, from, view, slot, value, sig, keys,
-            )?),
+            } => Ok(self.take_proposal(alloc, p, from, view, slot, value, sig, keys)?),
             Message::Prepare {
                 view,
                 slot,
                 digest,
                 sig,
-            } => Ok(self.take_prepare(
-                alloc, p, from, view, slot, digest, sig, keys,
-            )?),
+            } => Ok(self.take_prepare(alloc, p, from, view, slot, digest, sig, keys)?),
             Message::Commit {
-                view, slot, digest, ..
-            } => Ok(self.take_commit(
-                alloc, p, from, view, slot, digest, keys,
-            )?),
+                view,
+                slot,
+                digest,
+                ..
+            } => Ok(self.take_commit(alloc, p, from, view, slot, digest, keys)?),
             Message::ViewChange {
                 view,
                 certificates,
@@ -120,9 +142,7 @@ impl Pbft {
                 changes,
                 signatures,
                 ..
-            } => Ok(self.take_new_view(
-                alloc, p, from, view, changes, signatures, keys,
-            )?),
+            } => Ok(self.take_new_view(alloc, p, from, view, changes, signatures, keys)?),
         }
     }
 }
@@ -189,23 +209,8 @@ impl Sequenced for Pbft {
                     None
                 }
             }
-            Input::Receive {
-                from,
-                msg:
-                    Message::PrePrepare {
-                        view,
-                        slot,
-                        value: Value::Batch(batch),
-                        ..
-                    },
-            } => {
-                if self.may_take(p, *from, *view, *slot) {
-                    Some((*slot, batch))
-                } else {
-                    None
-                }
-            }
-            _ => None,
+            Input::Receive { from, msg } => self.offers(p, *from, msg),
+            Input::Timeout => None,
         }
     }
 

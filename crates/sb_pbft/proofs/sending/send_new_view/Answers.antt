@@ -25,9 +25,9 @@ returns c =
     (later ∙ ap (λ (z : KeyState). record z { used = z.used + 1 }) first ∙ ap (λ (u : ℕ). record keys { used = u }) total)
     (λ me own.
     ap (λ (l : List (List ℕ)). NewView v xs l c.in_ok-sig.sig) (c.in_ok-sign_choices.ensures.sigs me own
-        ∙ ap (λ (l : List (List ℕ)). l ++ choice_sigs p me keys.used v c.as_slice.result.now c.as_slice-slots.result.now) c.new-signatures.ensures
+    ∙ ap (λ (l : List (List ℕ)). l ++ choice_sigs p me keys.used v c.as_slice.result.now c.as_slice-slots.result.now) c.new-signatures.ensures
     ∙ ap (λ (l : List Change). choice_sigs p me keys.used v l c.as_slice-slots.result.now) c.as_slice.ensures
-        ∙ ap (λ (l : List Slot). choice_sigs p me keys.used v xs l) all)
+    ∙ ap (λ (l : List Slot). choice_sigs p me keys.used v xs l) all)
     ∙ ap (λ (s : List ℕ). NewView v xs (choice_sigs p me keys.used v xs p.slots) s)
     (c.in_ok-sig.ensures.sig p me (own-later p me n keys mid first own) ∙ ap (λ (s : List ℕ). signature p me mid.used s) c.in_ok-statement.ensures
     ∙ ap (λ (z : KeyState). signature p me z.used (state_new p v)) first))

@@ -14,7 +14,7 @@ returns-then-not-keeps c =
 pub returns : goal.returns
 returns c =
     change-does c.args.p.now c.args.self.now c.args.change c.as_slice.result.now c.keep.new.self c.count-before.result c.args.keys.now c.renew.new.keys
-        c.nothing-effects.result c.hash_values.new.effects
+    c.nothing-effects.result c.hash_values.new.effects
     c.renew.new.effects (record {
       keeps = sym c.if-not-keeps.ensures;
       nothing = c.nothing-effects.ensures;

@@ -26,5 +26,5 @@ returns c =
     let ds = DraftViewChange (old.view + 1) (tops_of (held old).top p.slots) ∷ [] in
     does-sent p Timeout old (record old { view = old.view + 1; active = false }) keys c.send_change.new.keys _ ds [] refl
     (timed-sent p (old.view + 1) _ (tops_of (held old).top p.slots) keys c.send_change.new.keys _ _
-        (c.in_ok-certificates.ensures ∙ ap (λ (l : List Slot). tops_of (held old).top l) c.as_slice.ensures) nothing.sends c.in_ok-send_change.ensures)
+    (c.in_ok-certificates.ensures ∙ ap (λ (l : List Slot). tops_of (held old).top l) c.as_slice.ensures) nothing.sends c.in_ok-send_change.ensures)
     nothing.delivers nothing.accepted nothing.hashed (passed p old keys.used (sym c.if-not-passes.ensures)) (omega arith)
