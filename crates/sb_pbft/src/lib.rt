@@ -12,8 +12,6 @@ pub mod proposing;
 pub mod sending;
 pub mod settling;
 pub mod tallies;
-#[cfg(test)]
-mod tests;
 pub mod tops;
 pub mod voting;
 
