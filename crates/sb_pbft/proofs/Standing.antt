@@ -1,5 +1,5 @@
 -- What the code of the trait's calls owes, where its rules did what the definitions of turns say.
-use Rattle.std.proofs.Common.{◌≡◌, ◌≤◌, ◌+◌, ◌*◌, ◌↔◌, ◌∷◌, ◌∙◌, ℕ, Bool, true, false, List, [], length, Option, Some, None, refl, sym, ap, subst}
+use Rattle.std.proofs.Common.{◌≡◌, ◌≤◌, ◌+◌, ◌*◌, ◌↔◌, ◌∙◌, ℕ, Bool, true, false, List, [], length, Option, Some, None, refl, sym, ap, subst}
 use Rattle.std.specs.BTreeSet.{contains}
 use Rattle.std.specs.Ordering.{nat_cmp}
 use Rattle.std.specs.Prelude.{IsTrue}
@@ -24,14 +24,14 @@ use Rattle.sb_pbft.specs.Pbft.{asks, pbft}
 use Rattle.sb_pbft.specs.Places.{change_at, proposal_at, top_at, vote_at}
 use Rattle.sb_pbft.specs.Rules.{when}
 use Rattle.sb_pbft.specs.Stands.{Does, IsTurn, Stands, held, may_cast, may_take}
-use Rattle.sb_pbft.specs.Turns.{Held, Turn, accepts_of, asked_at, idle, model, turn}
+use Rattle.sb_pbft.specs.Turns.{Held, accepts_of, asked_at, idle, model, turn}
 use Rattle.sb_pbft.proofs.Proposed.{cast-asked, told-asked}
 use Rattle.sb_pbft.proofs.Turning.{turn-is}
 
 -- ---- an instance that took nothing
 
-pub starts : (p : Params) (m : Pbft) → m.view ≡ 0 → m.active ≡ true → ((v s : ℕ) → proposal_at m.proposals v s ≡ None) → ((v s k : ℕ) → vote_at m.prepares v s k ≡ None) →
-    ((v s k : ℕ) → vote_at m.commits v s k ≡ None) → ((v k : ℕ) → change_at m.changes v k ≡ None) → ((s : ℕ) → top_at m.tops s ≡ None) →
+pub starts : (p : Params) (m : Pbft) → m.view ≡ 0 → m.active ≡ true → ((v s : ℕ) → proposal_at m.proposals v s ≡ None) →
+    ((v s k : ℕ) → vote_at m.prepares v s k ≡ None) → ((v s k : ℕ) → vote_at m.commits v s k ≡ None) → ((v k : ℕ) → change_at m.changes v k ≡ None) → ((s : ℕ) → top_at m.tops s ≡ None) →
     m.delivered.keys ≡ [] → Stands m p m.me.0 []
 starts p m view active proposals prepares commits changes tops empty = record {
   node = refl;
@@ -60,7 +60,8 @@ module _ (p : Params) (good : IsGoodParams pbft p) (old new : Pbft) (i : Input M
       (subst (λ (k : ℕ). IsTurn p new k b.used (turn p k b.used (held old) i) e b l) st.node
       (d.turns (subst (λ (k : ℕ). AreKeysOf k p.setup.keys b) (sym st.node) own)))
 
-  stands-then : (me : ℕ) (xs : List (Item Message)) → Stands old p me xs → AreKeysOf me p.setup.keys b → Stands new p me (and_then pbft p me xs i b.used)
+  stands-then : (me : ℕ) (xs : List (Item Message)) → Stands old p me xs → AreKeysOf me p.setup.keys b →
+      Stands new p me (and_then pbft p me xs i b.used)
   stands-then me xs st own = record {
     node = ap (λ (k : NodeId). k.0) d.node ∙ st.node;
     state = (turned-so me xs st own).holds ∙ (turn-is p me xs i b.used good).held;
@@ -88,7 +89,8 @@ module _ (p : Params) (good : IsGoodParams pbft p) (old new : Pbft) (i : Input M
 
 -- ---- what is asked for
 
-accepts-is : (p : Params) (me leaf : ℕ) (h : Held) (i : Input Message) (o : Option (Slot × Batch)) → ◌≡◌ {A = Option (Slot × Batch)} (accepts_of p me leaf h i o).accepted o
+accepts-is : (p : Params) (me leaf : ℕ) (h : Held) (i : Input Message) (o : Option (Slot × Batch)) →
+    ◌≡◌ {A = Option (Slot × Batch)} (accepts_of p me leaf h i o).accepted o
 accepts-is p me leaf h i None = refl
 accepts-is p me leaf h i (Some a) = refl
 
@@ -114,8 +116,9 @@ module _ (p : Params) (good : IsGoodParams pbft p) (m : Pbft) (me : ℕ) (xs : L
   asks-of-cast i slot batch t is may =
       ap (λ (z : Bool). let x : Slot × Batch = (slot, batch) in when z x) may ∙ sym (asks-cast slot batch) ∙ ap (λ (z : Input Message). asks p me xs z) (sym is)
 
-  pub asks-of-told : (i : Input Message) (from : NodeId) (msg : Message) (v : ℕ) (slot : Slot) (x : Value) (batch : Batch) (sig : List ℕ) (t : Bool) → i ≡ Receive from msg →
-      msg ≡ PrePrepare v slot x sig → x ≡ Holds batch → t ≡ may_take p m from.0 v slot.0 → ◌≡◌ {A = Option (Slot × Batch)} (when {A = Slot × Batch} t (slot, batch)) (asks p me xs i)
+  pub asks-of-told : (i : Input Message) (from : NodeId) (msg : Message) (v : ℕ) (slot : Slot) (x : Value) (batch : Batch) (sig : List ℕ) (t : Bool) →
+      i ≡ Receive from msg → msg ≡ PrePrepare v slot x sig → x ≡ Holds batch → t ≡ may_take p m from.0 v slot.0 →
+      ◌≡◌ {A = Option (Slot × Batch)} (when {A = Slot × Batch} t (slot, batch)) (asks p me xs i)
   asks-of-told i from msg v slot x batch sig t is says holds may =
       ap (λ (z : Bool). let x : Slot × Batch = (slot, batch) in when z x) may ∙ sym (asks-told from v slot batch sig)
       ∙ ap (λ (z : Value). asks p me xs (Receive from (PrePrepare v slot z sig))) (sym holds) ∙ ap (λ (z : Message). asks p me xs (Receive from z)) (sym says)
@@ -128,7 +131,8 @@ module _ (p : Params) (good : IsGoodParams pbft p) (m : Pbft) (me : ℕ) (xs : L
   some-when true x h = refl
   some-when false x h = absurd cc
 
-  pub casts-means : (slot : Slot) (batch : Batch) (b : Bool) → b ≡ may_cast p m slot.0 → IsTrue b ↔ (◌≡◌ {A = Option (Slot × Batch)} (asks p me xs (Cast slot batch)) (Some (slot, batch)))
+  pub casts-means : (slot : Slot) (batch : Batch) (b : Bool) → b ≡ may_cast p m slot.0 →
+      IsTrue b ↔ (◌≡◌ {A = Option (Slot × Batch)} (asks p me xs (Cast slot batch)) (Some (slot, batch)))
   casts-means slot batch b e = (
     (λ t. asks-cast slot batch ∙ when-some (may_cast p m slot.0) (slot, batch) (sym e ∙ t)),
     (λ h. e ∙ some-when (may_cast p m slot.0) (slot, batch) (sym (asks-cast slot batch) ∙ h)),
