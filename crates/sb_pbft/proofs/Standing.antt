@@ -31,7 +31,8 @@ use Rattle.sb_pbft.proofs.Turning.{turn-is}
 -- ---- an instance that took nothing
 
 pub starts : (p : Params) (m : Pbft) → m.view ≡ 0 → m.active ≡ true → ((v s : ℕ) → proposal_at m.proposals v s ≡ None) →
-    ((v s k : ℕ) → vote_at m.prepares v s k ≡ None) → ((v s k : ℕ) → vote_at m.commits v s k ≡ None) → ((v k : ℕ) → change_at m.changes v k ≡ None) → ((s : ℕ) → top_at m.tops s ≡ None) →
+    ((v s k : ℕ) → vote_at m.prepares v s k ≡ None) → ((v s k : ℕ) → vote_at m.commits v s k ≡ None) →
+    ((v k : ℕ) → change_at m.changes v k ≡ None) → ((s : ℕ) → top_at m.tops s ≡ None) →
     m.delivered.keys ≡ [] → Stands m p m.me.0 []
 starts p m view active proposals prepares commits changes tops empty = record {
   node = refl;
@@ -51,7 +52,8 @@ starts p m view active proposals prepares commits changes tops empty = record {
 
 -- ---- a step
 
-module _ (p : Params) (good : IsGoodParams pbft p) (old new : Pbft) (i : Input Message) (b l : KeyState) (e : Effects Message) (d : Does p old new i b l e) where
+module _ (p : Params) (good : IsGoodParams pbft p) (old new : Pbft) (i : Input Message) (b l : KeyState) (e : Effects Message)
+    (d : Does p old new i b l e) where
   -- the turn of the list that the old state stands for
   turned-so : (me : ℕ) (xs : List (Item Message)) → Stands old p me xs → AreKeysOf me p.setup.keys b →
       IsTurn p new me b.used (turn p me b.used (model p me xs) i) e b l
@@ -108,7 +110,8 @@ module _ (p : Params) (good : IsGoodParams pbft p) (m : Pbft) (me : ℕ) (xs : L
       ◌≡◌ {A = Option (Slot × Batch)} (asks p me xs (Receive from (PrePrepare v slot (Holds batch) sig))) (when (may_take p m from.0 v slot.0) (slot, batch))
   asks-told from v slot batch sig =
       sym (turn-is p me xs (Receive from (PrePrepare v slot (Holds batch) sig)) 0 good).accepted
-      ∙ accepts-is p me 0 (model p me xs) (Receive from (PrePrepare v slot (Holds batch) sig)) (asked_at p me (model p me xs) (Receive from (PrePrepare v slot (Holds batch) sig)))
+      ∙ accepts-is p me 0 (model p me xs) (Receive from (PrePrepare v slot (Holds batch) sig))
+      (asked_at p me (model p me xs) (Receive from (PrePrepare v slot (Holds batch) sig)))
       ∙ sym (asked-so (Receive from (PrePrepare v slot (Holds batch) sig))) ∙ told-asked p m slot batch from v sig
 
   pub asks-of-cast : (i : Input Message) (slot : Slot) (batch : Batch) (t : Bool) → i ≡ Cast slot batch → t ≡ may_cast p m slot.0 →
