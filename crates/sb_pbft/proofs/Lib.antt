@@ -41,3 +41,4 @@ pub mod Doing
 pub mod Taken
 pub mod Proposed
 pub mod Begun
+pub mod Standing

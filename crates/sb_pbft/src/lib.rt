@@ -21,3 +21,4 @@ pub use facts::{
     view_changes_show_what_is_committed, what_is_delivered_was_decided,
 };
 pub use laws::{pbft_has_a_grammar, pbft_is_lawful, pbft_is_safe, turns_are_as_defined};
+pub use pbft::Pbft;
