@@ -4,6 +4,7 @@
 //! Responsiveness"; ISS, "Sequenced Broadcast").
 #![tactic(auto)]
 
+pub mod accepted;
 pub mod ballots;
 pub mod facts;
 pub mod laws;
