@@ -14,3 +14,4 @@ mod Tallying
 mod Drafting
 mod Turning
 mod Taking
+mod Testing

@@ -3,6 +3,7 @@ pub mod Facts
 pub mod HotStuff
 pub mod Rules
 pub mod Tallies
+pub mod Delivered
 pub mod Drafts
 pub mod Stands
 pub mod Steps

@@ -6,10 +6,12 @@
 
 pub mod accepted;
 pub mod ballots;
+pub mod delivering;
 pub mod facts;
 pub mod laws;
 pub mod news;
 pub mod outcomes;
+pub mod preparing;
 pub mod proposing;
 pub mod rules;
 pub mod signing;
