@@ -15,3 +15,6 @@ mod Drafting
 mod Turning
 mod Taking
 mod Testing
+mod Paired
+mod Signed
+mod Standing

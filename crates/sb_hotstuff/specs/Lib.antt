@@ -1,6 +1,7 @@
 pub mod Accepted
 pub mod Facts
 pub mod HotStuff
+pub mod Instances
 pub mod Rules
 pub mod Tallies
 pub mod Delivered
