@@ -357,4 +357,4 @@ module _ {Msg : Type 0} (R : Rules) (M : Module Msg) (me : ℕ) (c : Core Msg) w
 
     -- and the cast is one that the core may take
     pub cast-fit : (F : Formats Msg) → IsLawful M → (s : Slot) (t : Turn Msg) → IsCast F R M me c s t → IsFit F R M me (casting F R M me c s) me (Cast s (next_batch F R M me c))
-    cast-fit F law s t k = record { leads = k.leads; leaves = k.leaves; judged = cast-judged F law s k.free }
+    cast-fit F law s t k = record { leads = k.leads; claims = refl; leaves = k.leaves; judged = cast-judged F law s k.free }

@@ -14,16 +14,16 @@ use Rattle.iss_sb.specs.Evidence.{Module}
 use Rattle.iss_sb.specs.Laws.{IsLawful, IsSafe}
 use Rattle.iss_model.specs.declared.causes.NodeEvent.{NodeEvent}
 use Rattle.iss_model.specs.declared.causes.NodeEvent.TheVariants.{Packet as Gets, Propose as Proposes, Timeout as Fires}
-use Rattle.iss_model.specs.declared.causes.Why.TheVariants.{NotPacket}
+use Rattle.iss_model.specs.declared.causes.Why.TheVariants.{BadClaim}
 use Rattle.iss_model.specs.Concrete.{rules_of}
 use Rattle.iss_model.specs.Conserved.{AcceptsOnce, IsConservedWhereTested, One, WasAsked, asked_in, unless_ended}
 use Rattle.iss_model.specs.Formats.{formats_of}
-use Rattle.iss_model.specs.Node.{Core, Dropped, Formats, OfRequest, Stepped, Taken, Turn, flown, step}
+use Rattle.iss_model.specs.Node.{Core, Dropped, Formats, OfRequest, Stepped, Taken, Turn, flown, step, all_verify}
 use Rattle.iss_model.specs.Past.{Past, log_of}
 use Rattle.iss_model.specs.Rules.{Rules}
 use Rattle.iss_model.specs.Run.{posted_all, request_of}
 use Rattle.iss_model.specs.Runs.{IsFaithful, IsReadBack, IsSetupOf}
-use Rattle.iss_model.specs.Tested.{Course, End, Going, Held, after_tested, all_verify, at_tested, begin_tested, by_collision, by_forged, calms_tested, claims_at, collision_in, delivers_tested, delivers_tested_to, each_tested, entered, first_forged, goes_further, happens_tested, loses_tested, on_net, pumps_tested, reads_at, run_tested, sifted, still, tested_step, turned_to, unless}
+use Rattle.iss_model.specs.Tested.{Course, End, Going, Held, after_tested, at_tested, begin_tested, by_collision, by_forged, calms_tested, claims_at, collision_in, delivers_tested, delivers_tested_to, each_tested, entered, first_forged, goes_further, happens_tested, loses_tested, on_net, pumps_tested, reads_at, run_tested, sifted, still, tested_step, turned_to, unless}
 use Rattle.iss_model.specs.TestedLog.{IsTestedRun, tested_after}
 use Rattle.iss_model.proofs.Conserved.{AllFiled, AllKept, all-filed, begin-filed, kept-refl, kept-trans, one-place, segments, set-kept, waits-at, waits-now}
 use Rattle.iss_model.proofs.Good.{Good}
@@ -44,7 +44,7 @@ module _ {Msg : Type 0} (s : Setup) (F : Formats Msg) (R : Rules) (M : Module Ms
   tested-keeps : (i : ℕ) (c : Core Msg) (event : NodeEvent) (t : Turn Msg) → FiledCore R M i c → tested_step F R M i c event ≡ Taken t → Keeps R M i c t.core
   tested-keeps i c event t h k =
       let d : Core Msg = record c { early = sifted F R M i c (entered F R M i c event) } in
-      let a = undropped (not (all_verify R (claims_at F R M i c event))) NotPacket (step F R M i d event) t k in
+      let a = undropped (not (all_verify R (claims_at F R M i c event))) BadClaim (step F R M i d event) t k in
       let r : Keeps R M i d t.core = step-keeps R M i F seg law d event t (record { settled = h.settled; unborn = h.unborn; reached = h.reached; waiting_once = h.waiting_once; flight_once = h.flight_once; apart = h.apart; unlogged = h.unlogged; cast = h.cast; open_slot = h.open_slot }) a.1 in
       record { filed = r.filed; kept = r.kept }
 
@@ -129,7 +129,7 @@ module _ {Msg : Type 0} (s : Setup) (F : Formats Msg) (R : Rules) (M : Module Ms
       turned : (t : Turn Msg) → tested_step F R M c (h.net.cores c) event ≡ Taken t → (o : Option End) → In x (asked_in i e (by_collision o h (turned_to s h c t))) → PlacedCore R M i ((by_collision o h (turned_to s h c t)).held.net.cores i) x
       turned t k None z =
           let d : Core Msg = record (h.net.cores c) { early = sifted F R M c (h.net.cores c) (entered F R M c (h.net.cores c) event) } in
-          let a = undropped (not (all_verify R (claims_at F R M c (h.net.cores c) event))) NotPacket (step F R M c d event) t k in
+          let a = undropped (not (all_verify R (claims_at F R M c (h.net.cores c) event))) BadClaim (step F R M c d event) t k in
           waits-at F R M seg h.net c q.id t.core (waits-now F R M seg d c q t (F.unwrap (F.wrap (record { from = 255; epoch = 0; body = OfRequest q }))) (requests q) a.1) i (eqb c i) refl x z
       turned t k (Some end) z = absurd z
 

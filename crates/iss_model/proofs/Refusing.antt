@@ -6,11 +6,11 @@ use Rattle.iss_base.proofs.Lists.{extends-refl, extends-trans, is-eq}
 use Rattle.iss_request.specs.declared.requests.Value.{Value}
 use Rattle.iss_sb.specs.declared.effects.Claim.{Claim}
 use Rattle.iss_sb.specs.Evidence.{Module}
-use Rattle.iss_model.specs.Node.{Core, Early, Formats, onward, rests, takes_each, takes_early}
+use Rattle.iss_model.specs.Node.{Core, Early, Formats, onward, rests, takes_each, takes_early, all_verify}
 use Rattle.iss_model.specs.Past.{advanced, cut_at, log_of, start_of, takes}
 use Rattle.iss_model.specs.Rules.{Rules}
 use Rattle.iss_model.specs.Sound.{AreWindows, IsSoundCore}
-use Rattle.iss_model.specs.Tested.{after_early, all_verify, early_claims, tried_at, tried_in, verified}
+use Rattle.iss_model.specs.Tested.{after_early, early_claims, tried_at, tried_in, verified}
 use Rattle.iss_model.proofs.Casts.{ends-sound, inputs-sound, settled-core}
 use Rattle.iss_model.proofs.Ending.{HasSlots, advanced-later}
 use Rattle.iss_model.proofs.Epochs.{cut-extends}

@@ -7,7 +7,7 @@ use Rattle.iss_sb.specs.declared.effects.Input.{Input}
 use Rattle.iss_sb.specs.declared.effects.Input.TheVariants.{Receive}
 use Rattle.iss_sb.specs.declared.effects.To.{To}
 use Rattle.iss_sb.specs.Evidence.{Module}
-use Rattle.iss_model.specs.Node.{Core, Dropped, Early, Formats, Stepped, Taken, Turn, at_instance, ended, has_leaves, in_next_epoch, inputs, onward, rests, settles, takes_each, takes_early, tried, verdict_in}
+use Rattle.iss_model.specs.Node.{Core, Dropped, Early, Formats, Stepped, Taken, Turn, at_instance, ended, has_leaves, in_next_epoch, inputs, onward, rests, settles, takes_each, takes_early, tried, verdict_in, all_verify, claims_of_input}
 use Rattle.iss_model.specs.Past.{is_complete, leads_in, params_of}
 use Rattle.iss_model.specs.Rules.{Rules}
 use Rattle.iss_model.proofs.Steps.{IsInput, input-taken}
@@ -37,6 +37,7 @@ module _ {Msg : Type 0} (F : Formats Msg) (R : Rules) (M : Module Msg) (me : ℕ
   -- an input that the core takes in the instance of l
   pub record IsFit (c : Core Msg) (l : ℕ) (input : Input Msg) : Type 0 where
     pub leads : leads_in R M me c.past l ≡ true
+    pub claims : all_verify R (claims_of_input M (params_of R M me c.past l) input) ≡ true
     pub leaves : has_leaves M (params_of R M me c.past l) c.leaf ≡ true
     pub judged : verdict_in R M me c.past l input ≡ None
 
@@ -55,7 +56,7 @@ module _ {Msg : Type 0} (F : Formats Msg) (R : Rules) (M : Module Msg) (me : ℕ
       (takes : (t : Turn Msg) (l : ℕ) (input : Input Msg) → P t → IsFit t.core l input → Comes t l input → P (then_takes t l input))
       (ends : (t : Turn Msg) → P t → is_complete R M me t.core.past ≡ true → P (then_ends t)) where
     input-holds : (t : Turn Msg) (l : ℕ) (input : Input Msg) (v : Turn Msg) → P t → Comes t l input → IsInput F R M me t.core l input v → P (onward t (λ c. v))
-    input-holds t l input v h come i = subst (λ (z : Turn Msg). P (onward t (λ c. z))) (sym i.is) (takes t l input h (record { leads = i.leads; leaves = i.leaves; judged = i.judged }) come)
+    input-holds t l input v h come i = subst (λ (z : Turn Msg). P (onward t (λ c. z))) (sym i.is) (takes t l input h (record { leads = i.leads; claims = i.claims; leaves = i.leaves; judged = i.judged }) come)
 
     -- the first input of an event
     pub first-holds : (c : Core Msg) (l : ℕ) (input : Input Msg) (v : Turn Msg) → P (rests c) → Comes (rests c) l input → IsInput F R M me c l input v → P v

@@ -12,11 +12,11 @@ use Rattle.iss_sb.specs.Evidence.{Module}
 use Rattle.iss_model.specs.declared.causes.NodeEvent.{NodeEvent}
 use Rattle.iss_model.specs.declared.causes.NodeEvent.TheVariants.{Packet as Gets, Propose as Proposes, Timeout as Fires}
 use Rattle.iss_model.specs.declared.causes.Refusal.{Refusal}
-use Rattle.iss_model.specs.declared.causes.Why.TheVariants.{NoKeys, NotLeader, OtherEpoch}
-use Rattle.iss_model.specs.Node.{Body, Core, Dropped, Early, Formats, OfModule, Parcel, Stepped, Taken, Turn, at_instance, by_verdict, casts_at, has_leaves, in_next_epoch, inputs, keeps_early, next_slot, onward, settled, settles, takes_bytes, takes_each, takes_parcel, verdict_in}
+use Rattle.iss_model.specs.declared.causes.Why.TheVariants.{BadClaim, NoKeys, NotLeader, OtherEpoch}
+use Rattle.iss_model.specs.Node.{Body, Core, Dropped, Early, Formats, OfModule, Parcel, Stepped, Taken, Turn, at_instance, by_verdict, casts_at, has_leaves, in_next_epoch, inputs, keeps_early, next_slot, onward, settled, settles, takes_bytes, takes_each, takes_parcel, verdict_in, all_verify, claims_of_input}
 use Rattle.iss_model.specs.Past.{before_own, is_complete, leads_in, params_of}
 use Rattle.iss_model.specs.Rules.{Rules}
-use Rattle.iss_model.specs.Tested.{after_early, all_verify, begun_by, claims_at, claims_of_early, early_claims, entered, reads_at, sifted, tried_at, tried_claims, tried_in, verified}
+use Rattle.iss_model.specs.Tested.{after_early, begun_by, claims_at, claims_of_early, early_claims, entered, reads_at, sifted, tried_at, tried_claims, tried_in, verified}
 use Rattle.iss_model.proofs.Rows.{IsFit}
 use Rattle.iss_model.proofs.Steps.{casting, next_batch}
 
@@ -39,9 +39,10 @@ module _ {Msg : Type 0} (F : Formats Msg) (R : Rules) (M : Module Msg) (me : ℕ
 
   at-bare : (c : Core Msg) (l : ℕ) (input : Input Msg) → IsFit F R M me c l input → at_instance F R M me (bare c) l input ≡ Taken (inputs F R M me (bare c) l input)
   at-bare c l input fit =
-      ap (λ (b : Bool). cond (not b) (Dropped NotLeader) (cond (not (has_leaves M (params_of R M me c.past l) c.leaf)) (Dropped NoKeys) (by_verdict (verdict_in R M me c.past l input) (inputs F R M me (bare c) l input)))) fit.leads
+      ap (λ (b : Bool). cond (not b) (Dropped NotLeader) (cond (not (all_verify R (claims_of_input M (params_of R M me c.past l) input))) (Dropped BadClaim) (cond (not (has_leaves M (params_of R M me c.past l) c.leaf)) (Dropped NoKeys) (by_verdict (verdict_in R M me c.past l input) (inputs F R M me (bare c) l input))))) fit.leads
+      ∙ (ap (λ (b : Bool). cond (not b) (Dropped BadClaim) (cond (not (has_leaves M (params_of R M me c.past l) c.leaf)) (Dropped NoKeys) (by_verdict (verdict_in R M me c.past l input) (inputs F R M me (bare c) l input)))) fit.claims
       ∙ (ap (λ (b : Bool). cond (not b) (Dropped NoKeys) (by_verdict (verdict_in R M me c.past l input) (inputs F R M me (bare c) l input))) fit.leaves
-      ∙ ap (λ (o : Option Refusal). by_verdict o (inputs F R M me (bare c) l input)) fit.judged)
+      ∙ ap (λ (o : Option Refusal). by_verdict o (inputs F R M me (bare c) l input)) fit.judged))
 
   module _ (c : Core Msg) where
     pub entered-received : (bytes : List ℕ) (k : Parcel Msg) (l : ℕ) (msg : Msg) → F.unwrap bytes ≡ Some k → k.body ≡ OfModule l msg → k.epoch ≡ c.past.epoch → IsFit F R M me c l (Receive (record { 0 = k.from }) msg) →

@@ -18,14 +18,14 @@ use Rattle.iss_sb.specs.Laws.{IsLawful}
 use Rattle.iss_model.specs.declared.causes.NodeEvent.{NodeEvent}
 use Rattle.iss_model.specs.declared.causes.NodeEvent.TheVariants.{Packet as Gets, Propose as Proposes, Timeout as Fires}
 use Rattle.iss_model.specs.Cluster.{Cluster, IsBooked, IsOneOf, IsOwn, IsVerified, Message, MayGet, MayTake, Names, Reach, Signed, ends, move, rest}
-use Rattle.iss_model.specs.Node.{Body, Core, Dropped, Early, Formats, OfModule, Parcel, Stepped, Taken, Turn, in_next_epoch, inputs, own_claims, packed, rests, settles, step, verdict_in}
+use Rattle.iss_model.specs.Node.{Body, Core, Dropped, Early, Formats, OfModule, Parcel, Stepped, Taken, Turn, in_next_epoch, inputs, own_claims, packed, rests, settles, step, verdict_in, all_verify}
 use Rattle.iss_model.specs.Ordered.{Among, IsSoundRules}
 use Rattle.iss_model.specs.Past.{Past, advanced, before, cut_at, is_complete, leads_in, log_of, made_in, params_of, takes}
 use Rattle.iss_model.specs.Rules.{Rules}
 use Rattle.iss_model.specs.Run.{Net, posted_all}
 use Rattle.iss_model.specs.Runs.{IsFaithful, pasts_of}
 use Rattle.iss_model.specs.Sound.{AreWindows, IsReadyCore, IsSoundCore, carried}
-use Rattle.iss_model.specs.Tested.{End, Held, after_tested, all_verify, as_signed, at_tested, booked, by_collision, by_forged, claims_at, claims_of_body, claims_of_parcel, collision_in, early_claims, entered, first_forged, reads_at, sifted, tested_step, turned_to}
+use Rattle.iss_model.specs.Tested.{End, Held, after_tested, as_signed, at_tested, booked, by_collision, by_forged, claims_at, claims_of_body, claims_of_parcel, collision_in, early_claims, entered, first_forged, reads_at, sifted, tested_step, turned_to}
 use Rattle.iss_model.proofs.Casts.{bounded-core, cast-fit, cast-read, casting-ready, early-ready, early-sound, ends-ready, inputs-ready, step-grown, step-ready}
 use Rattle.iss_model.proofs.Ending.{HasSlots, advanced-later, before-advanced, complete-far, ended-whole}
 use Rattle.iss_model.proofs.Epochs.{cut-extends}
@@ -355,9 +355,9 @@ module _ {Msg : Type 0} (s : Setup) (F : Formats Msg) (R : Rules) (M : Module Ms
         input-fits : (l : ℕ) (input : Input Msg) (u : Turn Msg) → IsInput F R M i c1 l input u → Comes (rests c1) l input →
             (IsFit F R M i c l input → is_complete R M i (inputs F R M i (record c { early = [] }) l input).core.past ≡ true → entered F R M i c event ≡ Some (in_next_epoch (inputs F R M i (record c { early = [] }) l input).core)) → Turned (settles F R M i u)
         input-fits l input u inp come begun =
-            let fit : IsFit F R M i c1 l input = record { leads = inp.leads; leaves = inp.leaves; judged = inp.judged } in
+            let fit : IsFit F R M i c1 l input = record { leads = inp.leads; claims = inp.claims; leaves = inp.leaves; judged = inp.judged } in
             let first : Turned (inputs F R M i c1 l input) = takes-fits (rests c1) l input base fit come in
-            let done : Turned (settles F R M i (inputs F R M i c1 l input)) = settled-fits (inputs F R M i c1 l input) first refl refl (λ complete. begun (record { leads = inp.leads; leaves = inp.leaves; judged = inp.judged }) complete) in
+            let done : Turned (settles F R M i (inputs F R M i c1 l input)) = settled-fits (inputs F R M i c1 l input) first refl refl (λ complete. begun (record { leads = inp.leads; claims = inp.claims; leaves = inp.leaves; judged = inp.judged }) complete) in
             subst (λ (z : Turn Msg). Turned (settles F R M i z)) (sym inp.is) done
 
         -- what the tests leave of a message that is taken

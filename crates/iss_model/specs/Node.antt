@@ -1,6 +1,7 @@
 -- One node over all epochs: what it holds, and one step of it.
 use Rattle.std.specs.Prelude.{ℕ, suc, ◌+◌, ◌-◌, ◌==◌, nat_lt, cond, Bool, false, not, ◌&&◌, ◌||◌}
 use Rattle.std.specs.Prelude.{List, [], ◌∷◌, ◌++◌, Option, Some, None, length, is_some, take}
+use Rattle.std.specs.List.{list_all}
 use Rattle.iss_buckets.specs.Waiting.{absent, cut, uncut}
 use Rattle.iss_keys.specs.KeyStates.{left_of}
 pub use Rattle.iss_layout.specs.Layout.{is_nil_at}
@@ -21,7 +22,7 @@ use Rattle.iss_model.specs.declared.causes.NodeEvent.TheVariants.{Packet as Gets
 use Rattle.iss_model.specs.declared.causes.Refusal.{Refusal}
 use Rattle.iss_model.specs.declared.causes.Why.{Why}
 use Rattle.iss_model.specs.declared.causes.Why.TheVariants.{NotPacket, BadRequest, Known, OutOfWindow, OtherEpoch, EarlyFull}
-use Rattle.iss_model.specs.declared.causes.Why.TheVariants.{NotLeader, NothingToCast, NoKeys, Refused}
+use Rattle.iss_model.specs.declared.causes.Why.TheVariants.{NotLeader, BadClaim, NothingToCast, NoKeys, Refused}
 use Rattle.iss_model.specs.Judge.{judge, marks}
 use Rattle.iss_model.specs.Past.{Past, advanced, asked_in, before_own, is_complete, leads_in, log_of, made_in, newborn, params_of, taken_in, takes}
 use Rattle.iss_model.specs.Rules.{Rules}
@@ -141,12 +142,23 @@ by_verdict (Some x) turn = Dropped (Refused x)
 abbrev pub has_leaves : {Msg : Type 0} → Module Msg → Params → ℕ → Bool
 has_leaves M p leaf = not (nat_lt (left_of (record { secret = []; height = p.setup.keys; used = leaf })) (suc (M.signs p)))
 
--- an input in the instance of leader l, where it leads, keys are left and the judge agrees
+-- whether each of these claims is one of the node that it names
+abbrev pub all_verify : Rules → List Claim → Bool
+all_verify R cs = list_all (λ (c : Claim). R.verifies c.by.0 c.statement c.sig) cs
+
+-- what an input claims that nodes signed
+abbrev pub claims_of_input : {Msg : Type 0} → Module Msg → Params → Input Msg → List Claim
+claims_of_input M p (Cast slot batch) = []
+claims_of_input M p (Receive from msg) = M.claims p from.0 msg
+claims_of_input M p Timeout = []
+
+-- an input in the instance of leader l, where it leads, what it claims verifies, keys are left and the judge agrees
 abbrev pub at_instance : {Msg : Type 0} → Formats Msg → Rules → Module Msg → ℕ → Core Msg → ℕ → Input Msg → Stepped Msg
 at_instance F R M me c l input =
     cond (not (leads_in R M me c.past l)) (Dropped NotLeader)
+    (cond (not (all_verify R (claims_of_input M (params_of R M me c.past l) input))) (Dropped BadClaim)
     (cond (not (has_leaves M (params_of R M me c.past l) c.leaf)) (Dropped NoKeys)
-    (by_verdict (verdict_in R M me c.past l input) (inputs F R M me c l input)))
+    (by_verdict (verdict_in R M me c.past l input) (inputs F R M me c l input))))
 
 -- nothing happens to a core
 abbrev pub rests : {Msg : Type 0} → Core Msg → Turn Msg

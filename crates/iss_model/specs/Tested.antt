@@ -12,9 +12,9 @@ use Rattle.iss_sb.specs.Evidence.{Module, is_correct}
 use Rattle.iss_model.specs.declared.causes.NodeEvent.{NodeEvent}
 use Rattle.iss_model.specs.declared.causes.NodeEvent.TheVariants.{Packet as Gets, Propose as Proposes, Timeout as Fires}
 use Rattle.iss_model.specs.declared.causes.Why.{Why}
-use Rattle.iss_model.specs.declared.causes.Why.TheVariants.{NoPacket, NotPacket}
+use Rattle.iss_model.specs.declared.causes.Why.TheVariants.{BadClaim, NoPacket}
 use Rattle.iss_model.specs.Cluster.{Signed}
-use Rattle.iss_model.specs.Node.{Body, Core, Dropped, Early, Formats, OfModule, OfRequest, Parcel, Stepped, Taken, Turn, step, takes_early}
+use Rattle.iss_model.specs.Node.{Body, Core, Dropped, Early, Formats, OfModule, OfRequest, Parcel, Stepped, Taken, Turn, all_verify, step, takes_early}
 use Rattle.iss_model.specs.Past.{leads_in, params_of}
 use Rattle.iss_model.specs.Rules.{Rules}
 use Rattle.iss_model.specs.Run.{Net, begin_net, noted, posted_all, request_of}
@@ -56,10 +56,6 @@ abbrev pub claims_at : {Msg : Type 0} → Formats Msg → Rules → Module Msg �
 claims_at F R M me c (Gets bytes) = claims_of_parcel R M me c (F.unwrap bytes)
 claims_at F R M me c Proposes = []
 claims_at F R M me c (Fires l) = []
-
-abbrev pub all_verify : Rules → List Claim → Bool
-all_verify R [] = true
-all_verify R (c ∷ cs) = R.verifies c.by.0 c.statement c.sig && all_verify R cs
 
 -- the claims that an early message holds in the core's epoch
 abbrev pub early_claims : {Msg : Type 0} → Rules → Module Msg → ℕ → Core Msg → Early Msg → List Claim
@@ -104,10 +100,10 @@ abbrev pub tried_claims : {Msg : Type 0} → Formats Msg → Rules → Module Ms
 tried_claims F R M me c None = []
 tried_claims F R M me c (Some d) = claims_of_early R M me d (tried_at F R M me c d)
 
--- a claim that does not verify drops the packet (until it has a cause of its own)
+-- a claim that does not verify drops the packet
 abbrev pub tested_step : {Msg : Type 0} → Formats Msg → Rules → Module Msg → ℕ → Core Msg → NodeEvent → Stepped Msg
 tested_step F R M me c event =
-    cond (not (all_verify R (claims_at F R M me c event))) (Dropped NotPacket)
+    cond (not (all_verify R (claims_at F R M me c event))) (Dropped BadClaim)
     (step F R M me (record c { early = sifted F R M me c (entered F R M me c event) }) event)
 
 -- the claims that an event reads: those of what is delivered, then of what came early and is tried in it

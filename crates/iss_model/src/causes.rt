@@ -33,7 +33,7 @@ pub enum Why {
     NoPacket,
     /// The bytes are no packet.
     NotPacket,
-    /// The request's client does not exist.
+    /// The request's client did not sign it.
     BadRequest,
     /// The request waits, is in flight, or is in the log.
     Known,
@@ -45,6 +45,8 @@ pub enum Why {
     EarlyFull,
     /// The leader does not lead the epoch.
     NotLeader,
+    /// A claim of the message is not one of the node that it names.
+    BadClaim,
     /// No slot of the node's segment is free to cast.
     NothingToCast,
     /// Too few leaves are left to sign with.

@@ -5,10 +5,10 @@ use Rattle.iss_layout.specs.Layout.{Plan, leads}
 use Rattle.iss_log.specs.LogState.{GoesOn}
 use Rattle.iss_model.specs.Concrete.{plan_at, rules_of}
 use Rattle.iss_model.specs.Formats.{formats_of}
-use Rattle.iss_model.specs.Node.{Core, Dropped, Formats, Stepped, Taken, Turn, at_instance, by_verdict, has_leaves, inputs, packed, verdict, verdict_in}
+use Rattle.iss_model.specs.Node.{Core, Dropped, Formats, Stepped, Taken, Turn, all_verify, at_instance, by_verdict, claims_of_input, has_leaves, inputs, packed, verdict, verdict_in}
 use Rattle.iss_model.specs.Past.{Past, asked_in, before_own, leads_in, params_of, taken_in}
 use Rattle.iss_model.specs.declared.causes.Refusal.{Refusal}
-use Rattle.iss_model.specs.declared.causes.Why.TheVariants.{NotLeader, NoKeys, Refused}
+use Rattle.iss_model.specs.declared.causes.Why.TheVariants.{NotLeader, BadClaim, NoKeys, Refused}
 use Rattle.iss_node.specs.Inputs.{IsAbsorbed, IsInputTaken, IsVerdictAt}
 use Rattle.iss_node.specs.Shape.{IsReplica}
 use Rattle.iss_node.specs.State.{AreParts, IsTied, ReplicaState, core_of, led}
@@ -56,9 +56,10 @@ later-same u v s i l = record { setup = s; me = i; log = goes-same u.log.entries
 pub later-refl : {M Msg : Type 0} (u : ReplicaState M Msg) → IsLater u u
 later-refl u = later-same u u refl refl refl
 
-three : {Msg : Type 0} (a a' b b' : Bool) (w w' : Option Refusal) (turn : Turn Msg) → a ≡ a' → b ≡ b' → w ≡ w' →
-    cond (not a) (Dropped NotLeader) (cond (not b) (Dropped NoKeys) (by_verdict w turn)) ≡ cond (not a') (Dropped NotLeader) (cond (not b') (Dropped NoKeys) (by_verdict w' turn))
-three a a' b b' w w' turn ha hb hw = rw (ha, hb, hw) refl
+four : {Msg : Type 0} (a a' d d' b b' : Bool) (w w' : Option Refusal) (turn : Turn Msg) → a ≡ a' → d ≡ d' → b ≡ b' → w ≡ w' →
+    cond (not a) (Dropped NotLeader) (cond (not d) (Dropped BadClaim) (cond (not b) (Dropped NoKeys) (by_verdict w turn)))
+    ≡ cond (not a') (Dropped NotLeader) (cond (not d') (Dropped BadClaim) (cond (not b') (Dropped NoKeys) (by_verdict w' turn)))
+four a a' d d' b b' w w' turn ha hd hb hw = rw (ha, hd, hb, hw) refl
 
 module _ {M Msg : Type 0} (m : Module Msg) (stands : M → Params → ℕ → List (Item Msg) → Type 0)
     (v : ReplicaState M Msg) (past : Past Msg) (tied : IsTied m stands v past) (l : ℕ) where
@@ -67,6 +68,10 @@ module _ {M Msg : Type 0} (m : Module Msg) (stands : M → Params → ℕ → Li
 
   pub leaves-is : (g : SegmentState M) → led v.segments l ≡ Some g → (b : Bool) → b ≡ has_leaves m g.params v.keys.used → has_leaves m (params_of (rules_of v.setup) m v.me.0 past l) v.keys.used ≡ b
   leaves-is g at b e = sym (e ∙ ap (λ (p : Params). has_leaves m p v.keys.used) (tied.instances l g at).params)
+
+  pub claims-are : (input : Input Msg) (g : SegmentState M) → led v.segments l ≡ Some g → (b : Bool) → b ≡ all_verify (rules_of v.setup) (claims_of_input m g.params input) →
+      all_verify (rules_of v.setup) (claims_of_input m (params_of (rules_of v.setup) m v.me.0 past l) input) ≡ b
+  claims-are input g at b e = sym (e ∙ ap (λ (p : Params). all_verify (rules_of v.setup) (claims_of_input m p input)) (tied.instances l g at).params)
 
   pub verdict-is : (input : Input Msg) (g : SegmentState M) → led v.segments l ≡ Some g → (o : Option Refusal) → IsVerdictAt m stands v l input o → verdict_in (rules_of v.setup) m v.me.0 past l input ≡ o
   verdict-is input g at o h =
@@ -78,9 +83,11 @@ module _ {M Msg : Type 0} (m : Module Msg) (stands : M → Params → ℕ → Li
       (h g at bf xs (subst (λ (p : Params). RestsOn p.setup bf p.epoch.0 v.plan v.windows) (sym here.params) tied.rests) here.instance))
 
   module _ (F : Formats Msg) (input : Input Msg) where
-    pub instance-is : (a b : Bool) (w : Option Refusal) → leads_in (rules_of v.setup) m v.me.0 past l ≡ a → has_leaves m (params_of (rules_of v.setup) m v.me.0 past l) v.keys.used ≡ b → verdict_in (rules_of v.setup) m v.me.0 past l input ≡ w →
-        at_instance F (rules_of v.setup) m v.me.0 (core_of v past) l input ≡ cond (not a) (Dropped NotLeader) (cond (not b) (Dropped NoKeys) (by_verdict w (inputs F (rules_of v.setup) m v.me.0 (core_of v past) l input)))
-    instance-is a b w ha hb hw = three _ a _ b _ w (inputs F (rules_of v.setup) m v.me.0 (core_of v past) l input) ha hb hw
+    pub instance-is : (a d b : Bool) (w : Option Refusal) → leads_in (rules_of v.setup) m v.me.0 past l ≡ a →
+        all_verify (rules_of v.setup) (claims_of_input m (params_of (rules_of v.setup) m v.me.0 past l) input) ≡ d → has_leaves m (params_of (rules_of v.setup) m v.me.0 past l) v.keys.used ≡ b → verdict_in (rules_of v.setup) m v.me.0 past l input ≡ w →
+        at_instance F (rules_of v.setup) m v.me.0 (core_of v past) l input ≡
+        cond (not a) (Dropped NotLeader) (cond (not d) (Dropped BadClaim) (cond (not b) (Dropped NoKeys) (by_verdict w (inputs F (rules_of v.setup) m v.me.0 (core_of v past) l input))))
+    instance-is a d b w ha hd hb hw = four _ a _ d _ b _ w (inputs F (rules_of v.setup) m v.me.0 (core_of v past) l input) ha hd hb hw
 
 -- nothing has changed
 pub same-parts : {M Msg : Type 0} (m : Module Msg) (stands : M → Params → ℕ → List (Item Msg) → Type 0) (v : ReplicaState M Msg) (past : Past Msg) → IsTied m stands v past → AreParts m stands v (core_of v past)
@@ -121,34 +128,44 @@ some-there (Some x) h = (x, refl)
 
 module _ {M Msg : Type 0} (m : Module Msg) (stands : M → Params → ℕ → List (Item Msg) → Type 0) (F : Formats Msg)
     (v : ReplicaState M Msg) (l : ℕ) (input : Input Msg) (leading : true ≡ is_some (led v.segments l)) (past : Past Msg) (tied : IsTied m stands v past) where
-  pub drops-keys : ((g : SegmentState M) → led v.segments l ≡ Some g → AreKeysOf v.me.0 v.setup.keys v.keys → false ≡ has_leaves m g.params v.keys.used) →
-      IsStepDropped m stands (core_of v past) (at_instance F (rules_of v.setup) m v.me.0 (core_of v past) l input) v NoKeys
-  drops-keys leaves =
+  pub drops-claims : ((g : SegmentState M) → led v.segments l ≡ Some g → false ≡ all_verify (rules_of v.setup) (claims_of_input m g.params input)) →
+      IsStepDropped m stands (core_of v past) (at_instance F (rules_of v.setup) m v.me.0 (core_of v past) l input) v BadClaim
+  drops-claims claims =
       let g = some-there (led v.segments l) leading in
       record {
-        step_is = instance-is m stands v past tied l F input true false _ (leads-is m stands v past tied l true leading) (leaves-is m stands v past tied l g.0 g.1 false (leaves g.0 g.1 tied.keys)) refl;
+        step_is = instance-is m stands v past tied l F input true false _ _ (leads-is m stands v past tied l true leading) (claims-are m stands v past tied l input g.0 g.1 false (claims g.0 g.1)) refl refl;
         stands_for = same-parts m stands v past tied;
       }
 
-  module _ (leaves : (g : SegmentState M) → led v.segments l ≡ Some g → AreKeysOf v.me.0 v.setup.keys v.keys → true ≡ has_leaves m g.params v.keys.used) where
-    pub drops-refused : (w : ReplicaState M Msg) (why : Refusal) → (w ≡ v) × IsVerdictAt m stands v l input (Some why) →
-        IsStepDropped m stands (core_of v past) (at_instance F (rules_of v.setup) m v.me.0 (core_of v past) l input) w (Refused why)
-    drops-refused w why h =
+  module _ (claims : (g : SegmentState M) → led v.segments l ≡ Some g → true ≡ all_verify (rules_of v.setup) (claims_of_input m g.params input)) where
+    pub drops-keys : ((g : SegmentState M) → led v.segments l ≡ Some g → AreKeysOf v.me.0 v.setup.keys v.keys → false ≡ has_leaves m g.params v.keys.used) →
+        IsStepDropped m stands (core_of v past) (at_instance F (rules_of v.setup) m v.me.0 (core_of v past) l input) v NoKeys
+    drops-keys leaves =
         let g = some-there (led v.segments l) leading in
         record {
-          step_is = instance-is m stands v past tied l F input true true (Some why) (leads-is m stands v past tied l true leading) (leaves-is m stands v past tied l g.0 g.1 true (leaves g.0 g.1 tied.keys)) (verdict-is m stands v past tied l input g.0 g.1 (Some why) h.1);
-          stands_for = subst (λ (z : ReplicaState M Msg). AreParts m stands z (core_of v past)) (sym h.0) (same-parts m stands v past tied);
+          step_is = instance-is m stands v past tied l F input true true false _ (leads-is m stands v past tied l true leading) (claims-are m stands v past tied l input g.0 g.1 true (claims g.0 g.1)) (leaves-is m stands v past tied l g.0 g.1 false (leaves g.0 g.1 tied.keys)) refl;
+          stands_for = same-parts m stands v past tied;
         }
 
-    pub takes-input : (w : ReplicaState M Msg) (o : Outcome) → IsVerdictAt m stands v l input None → IsTurned m stands (inputs F (rules_of v.setup) m v.me.0 (core_of v past) l input) w o →
-        IsStepTaken m stands (at_instance F (rules_of v.setup) m v.me.0 (core_of v past) l input) w o
-    takes-input w o h turn =
-        let g = some-there (led v.segments l) leading in
-        record {
-          turn = inputs F (rules_of v.setup) m v.me.0 (core_of v past) l input;
-          step_is = instance-is m stands v past tied l F input true true None (leads-is m stands v past tied l true leading) (leaves-is m stands v past tied l g.0 g.1 true (leaves g.0 g.1 tied.keys)) (verdict-is m stands v past tied l input g.0 g.1 None h);
-          turned = turn;
-        }
+    module _ (leaves : (g : SegmentState M) → led v.segments l ≡ Some g → AreKeysOf v.me.0 v.setup.keys v.keys → true ≡ has_leaves m g.params v.keys.used) where
+      pub drops-refused : (w : ReplicaState M Msg) (why : Refusal) → (w ≡ v) × IsVerdictAt m stands v l input (Some why) →
+          IsStepDropped m stands (core_of v past) (at_instance F (rules_of v.setup) m v.me.0 (core_of v past) l input) w (Refused why)
+      drops-refused w why h =
+          let g = some-there (led v.segments l) leading in
+          record {
+            step_is = instance-is m stands v past tied l F input true true true (Some why) (leads-is m stands v past tied l true leading) (claims-are m stands v past tied l input g.0 g.1 true (claims g.0 g.1)) (leaves-is m stands v past tied l g.0 g.1 true (leaves g.0 g.1 tied.keys)) (verdict-is m stands v past tied l input g.0 g.1 (Some why) h.1);
+            stands_for = subst (λ (z : ReplicaState M Msg). AreParts m stands z (core_of v past)) (sym h.0) (same-parts m stands v past tied);
+          }
+
+      pub takes-input : (w : ReplicaState M Msg) (o : Outcome) → IsVerdictAt m stands v l input None → IsTurned m stands (inputs F (rules_of v.setup) m v.me.0 (core_of v past) l input) w o →
+          IsStepTaken m stands (at_instance F (rules_of v.setup) m v.me.0 (core_of v past) l input) w o
+      takes-input w o h turn =
+          let g = some-there (led v.segments l) leading in
+          record {
+            turn = inputs F (rules_of v.setup) m v.me.0 (core_of v past) l input;
+            step_is = instance-is m stands v past tied l F input true true true None (leads-is m stands v past tied l true leading) (claims-are m stands v past tied l input g.0 g.1 true (claims g.0 g.1)) (leaves-is m stands v past tied l g.0 g.1 true (leaves g.0 g.1 tied.keys)) (verdict-is m stands v past tied l input g.0 g.1 None h);
+            turned = turn;
+          }
 
 pub input-turn : {M Msg : Type 0} (m : Module Msg) (laws : IsLawful m) (stands : M → Params → ℕ → List (Item Msg) → Type 0) (v u w : ReplicaState M Msg) (shape : IsReplica m v) (leader : NodeId) (input : Input Msg) (ef : Effects Msg) (r : Result Outcome NoMemory) →
     IsInputTaken m stands v u leader.0 input ef → OnOk r (IsAbsorbed u w leader ef) → IfOk r (λ o. o.sends ≡ packed (formats_of u.setup m) u.me.0 u.epoch leader.0 ef.sends) →

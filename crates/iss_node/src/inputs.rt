@@ -16,7 +16,7 @@ use iss_segment::Halt;
 use std::alloc::Global;
 
 impl<M: Sequenced> Replica<M> {
-    /// An input in the instance of a leader, where it leads, keys are left and the judge agrees.
+    /// An input in the instance of a leader, where it leads, what it claims verifies, keys are left and the judge agrees.
     pub(crate) fn at_instance(
         &mut self,
         alloc: Global,
@@ -31,6 +31,10 @@ impl<M: Sequenced> Replica<M> {
         let _setup = &self.setup;
         if !self.leads(leader) {
             return Ok(Stepped::Dropped(Why::NotLeader));
+        }
+        let credible = self.is_credible(alloc, leader, &input)?;
+        if !credible {
+            return Ok(Stepped::Dropped(Why::BadClaim));
         }
         if !self.has_leaves(leader) {
             return Ok(Stepped::Dropped(Why::NoKeys));

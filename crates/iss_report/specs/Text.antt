@@ -7,7 +7,7 @@ use Rattle.iss_request.specs.declared.requests.Value.TheVariants.{Nil, Batch as 
 use Rattle.iss_model.specs.declared.causes.Refusal.{Refusal}
 use Rattle.iss_model.specs.declared.causes.Refusal.TheVariants.{TooLarge, ForeignBucket, BadSignature, OutOfWindow, Ordered, Marked}
 use Rattle.iss_model.specs.declared.causes.Why.{Why}
-use Rattle.iss_model.specs.declared.causes.Why.TheVariants.{NoPacket, NotPacket, BadRequest, Known, OutOfWindow as Outside, OtherEpoch, EarlyFull, NotLeader, NothingToCast, NoKeys, Refused}
+use Rattle.iss_model.specs.declared.causes.Why.TheVariants.{NoPacket, NotPacket, BadRequest, Known, OutOfWindow as Outside, OtherEpoch, EarlyFull, NotLeader, BadClaim, NothingToCast, NoKeys, Refused}
 
 abbrev pub refusal_word : Refusal → List ℕ
 refusal_word TooLarge = codes "TooLarge"
@@ -26,6 +26,7 @@ why_word Outside = codes "OutOfWindow"
 why_word OtherEpoch = codes "OtherEpoch"
 why_word EarlyFull = codes "EarlyFull"
 why_word NotLeader = codes "NotLeader"
+why_word BadClaim = codes "BadClaim"
 why_word NothingToCast = codes "NothingToCast"
 why_word NoKeys = codes "NoKeys"
 why_word (Refused x) = codes "Refused " ++ refusal_word x

@@ -49,6 +49,7 @@ pub fn put_why(out: &mut Vec<u8>, why: Why) -> Result<(), NoMemory>
         Why::OtherEpoch => put_text(out, b"OtherEpoch"),
         Why::EarlyFull => put_text(out, b"EarlyFull"),
         Why::NotLeader => put_text(out, b"NotLeader"),
+        Why::BadClaim => put_text(out, b"BadClaim"),
         Why::NothingToCast => put_text(out, b"NothingToCast"),
         Why::NoKeys => put_text(out, b"NoKeys"),
         Why::Refused(refusal) => put_refused(out, refusal),
