@@ -6,7 +6,6 @@ use Rattle.std.proofs.lemmas.Nat.{mod_below}
 use Rattle.std.specs.Map.{values_of}
 use Rattle.iss_base.proofs.Lists.{eqb-same, is-eq, some-injective}
 use Rattle.iss_request.specs.Log.{has_id}
-use Rattle.iss_request.specs.declared.ids.NodeId.{NodeId}
 use Rattle.iss_request.specs.declared.ids.ReqId.{ReqId}
 use Rattle.iss_request.specs.declared.requests.Request.{Request}
 use Rattle.iss_layout.specs.Layout.{Plan, bucket_of, bucket_owner, is_node}
@@ -233,25 +232,37 @@ one_more a i b c h = grind (arith, nat_tests)
 none_more : (a i : ℕ) (b : Bool) → (a ≡ i → b ≡ false) → (nat_lt a i && b) ≡ (nat_lt a (i + 1) && b)
 none_more a i b h = grind (arith, nat_tests)
 
-pub own_bucket : (p : Plan) (owner : ℕ) (marked : List ReqId) (es : List (ℕ × Request)) (from i : ℕ) (l : NodeId) (a b : Option ℕ) → bucket_owner p i ≡ Some l → eqb l.0 owner ≡ true
+own_bucket : (p : Plan) (owner : ℕ) (marked : List ReqId) (es : List (ℕ × Request)) (from i : ℕ) (a b : Option ℕ) → is_node owner (bucket_owner p i) ≡ true
     → IsNext (castable_below p owner marked i) es from a → IsNext (is_unmarked_in p.buckets i marked) es from b → IsNext (castable_below p owner marked (i + 1)) es from (least_of a b)
-own_bucket p owner marked es from i l a b owned own x y =
+own_bucket p owner marked es from i a b own x y =
     next_same (λ q. castable_below p owner marked i q || is_unmarked_in p.buckets i marked q) (castable_below p owner marked (i + 1)) es from (least_of a b)
     (λ q. one_more (bucket_of p q.id) i (may_cast p owner marked q) (not (has_id q.id marked)) (λ at. own-test q at))
     (next_both (castable_below p owner marked i) (is_unmarked_in p.buckets i marked) es from a b x y)
   where
     own-test : (q : Request) → bucket_of p q.id ≡ i → may_cast p owner marked q ≡ not (has_id q.id marked)
     own-test q at =
-        let test : is_node owner (bucket_owner p (bucket_of p q.id)) ≡ true = ap (λ (j : ℕ). is_node owner (bucket_owner p j)) at ∙ ap (λ (o : Option NodeId). is_node owner o) owned ∙ own in
+        let test : is_node owner (bucket_owner p (bucket_of p q.id)) ≡ true = ap (λ (j : ℕ). is_node owner (bucket_owner p j)) at ∙ own in
         ap (λ (t : Bool). t && not (has_id q.id marked)) test
 
-pub other_bucket : (p : Plan) (owner : ℕ) (marked : List ReqId) (es : List (ℕ × Request)) (from i : ℕ) (l : NodeId) (a : Option ℕ) → bucket_owner p i ≡ Some l → eqb l.0 owner ≡ false
+other_bucket : (p : Plan) (owner : ℕ) (marked : List ReqId) (es : List (ℕ × Request)) (from i : ℕ) (a : Option ℕ) → is_node owner (bucket_owner p i) ≡ false
     → IsNext (castable_below p owner marked i) es from a → IsNext (castable_below p owner marked (i + 1)) es from a
-other_bucket p owner marked es from i l a owned other x =
+other_bucket p owner marked es from i a other x =
     next_same (castable_below p owner marked i) (castable_below p owner marked (i + 1)) es from a
     (λ q. none_more (bucket_of p q.id) i (may_cast p owner marked q) (λ at. other-test q at)) x
   where
     other-test : (q : Request) → bucket_of p q.id ≡ i → may_cast p owner marked q ≡ false
     other-test q at =
-        let test : is_node owner (bucket_owner p (bucket_of p q.id)) ≡ false = ap (λ (j : ℕ). is_node owner (bucket_owner p j)) at ∙ ap (λ (o : Option NodeId). is_node owner o) owned ∙ other in
+        let test : is_node owner (bucket_owner p (bucket_of p q.id)) ≡ false = ap (λ (j : ℕ). is_node owner (bucket_owner p j)) at ∙ other in
         ap (λ (t : Bool). t && not (has_id q.id marked)) test
+
+-- a bucket more, whosever it is
+pub bucket_more : (p : Plan) (owner : ℕ) (marked : List ReqId) (es : List (ℕ × Request)) (from i : ℕ) (t : Bool) (a b : Option ℕ) → is_node owner (bucket_owner p i) ≡ t
+    → IsNext (castable_below p owner marked i) es from a → IsNext (is_unmarked_in p.buckets i marked) es from b → IsNext (castable_below p owner marked (i + 1)) es from (cond t (least_of a b) a)
+bucket_more p owner marked es from i true a b own x y = own_bucket p owner marked es from i a b own x y
+bucket_more p owner marked es from i false a b other x y = other_bucket p owner marked es from i a other x
+
+-- where the bucket has none, the first stays
+pub none_found : (t : Bool) (a : Option ℕ) → a ≡ cond t (least_of a None) a
+none_found true None = refl
+none_found true (Some x) = refl
+none_found false a = refl

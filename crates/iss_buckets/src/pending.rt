@@ -1,10 +1,11 @@
 //! The waiting requests.
-ghost use Rattle.std.specs.Prelude.{◌≡◌, ◌<◌, ◌≤◌, ◌++◌, ◌∷◌, [], ◌↔◌, ◌⊎◌, ◌+◌, Ok, ℕ, true, false, length, is_some, if◌then◌else◌, IfOk, IfSome, IfNone, OnOk, OnErr, vec_capacity};
+ghost use Rattle.std.specs.Prelude.{◌≡◌, ◌<◌, ◌≤◌, ◌++◌, ◌∷◌, [], ◌↔◌, ◌⊎◌, ◌+◌, Ok, ℕ, true, false, cond, length, is_some, if◌then◌else◌, IfOk, IfSome, IfNone, OnOk, OnErr, vec_capacity};
 ghost use Rattle.std.specs.Map.{remove_entry, values_of};
 ghost use Rattle.std.specs.Ordering.{is_eq, nat_cmp};
 ghost use Rattle.iss_base.specs.Lists.{Different};
 ghost use Rattle.iss_request.specs.Log.{has_id, ids};
 ghost use Rattle.iss_request.specs.declared.ids.ReqId.{ReqId};
+ghost use Rattle.iss_layout.specs.Layout.{bucket_owner, is_node};
 ghost use Rattle.iss_buckets.specs.Filed.{AreFiled, AreQueued, IsNext, IsSetAt, bucket_of_id, is_unmarked_in, kept_at, least_of, number_of};
 ghost use Rattle.iss_buckets.specs.Waiting.{waits, may_cast, cut, uncut, absent, AreNew};
 
@@ -321,12 +322,26 @@ fn next_castable(
 {
     let mut first = None;
     for bucket in 0..layout.buckets() {
-        if layout.owner_of(bucket) == owner {
-            first = least(
-                first,
-                next_unmarked(shelf, queues, marks, bucket as usize, from),
-            );
-        }
+        let found = next_unmarked(shelf, queues, marks, bucket as usize, from);
+        first = or_earlier(layout, owner, bucket, first, found);
+    }
+    first
+}
+
+// The earlier of two requests, the second of which is of this bucket and counts where the owner has the bucket. Most
+// buckets have none, and then it is not looked whose they are.
+fn or_earlier(
+    layout: &Layout,
+    owner: NodeId,
+    bucket: u32,
+    first: Option<u64>,
+    found: Option<u64>,
+) -> Option<u64>
+    requires { bucket < layout.now.buckets }
+    ensures { result ≡ cond (is_node owner.0 (bucket_owner layout.now bucket)) (least_of first found) first }
+{
+    if found.is_some() && layout.owner_of(bucket) == owner {
+        return least(first, found);
     }
     first
 }

@@ -93,6 +93,9 @@ fn first_from(set: &BTreeSet<u64>, from: u64) -> Option<u64>
         ((j : ℕ) → from ≤ j → contains nat_cmp set.now j ≡ true → k ≤ j)) }
     ensures none { IfNone result ((j : ℕ) → from ≤ j → contains nat_cmp set.now j ≡ false) }
 {
+    if set.is_empty() {
+        return None;
+    }
     match set.range(from..).next() {
         Some(number) => Some(*number),
         None => None,

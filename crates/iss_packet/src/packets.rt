@@ -228,7 +228,7 @@ impl Packet {
     {
         let mut out = Writer::new(alloc, version);
         self.write(&mut out)?;
-        Ok(out.into_bytes())
+        out.into_shared(alloc)
     }
 }
 

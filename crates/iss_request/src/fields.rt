@@ -284,6 +284,13 @@ impl Writer {
         Bytes::of(self.out)
     }
 
+    /// All that was written, of which no copy copies any bytes.
+    pub fn into_shared(self, alloc: Global) -> Result<Bytes, NoMemory>
+        ensures { IfOk result (λ b. b ≡ self.bytes) }
+    {
+        Bytes::shared(alloc, self.out)
+    }
+
     /// One byte.
     pub fn put_u8(&mut self, byte: u8) -> Result<(), NoMemory>
         ensures ok { OnOk result (self.new ≡ and_bytes self.old (byte ∷ [])) }

@@ -1,7 +1,6 @@
-use Rattle.std.proofs.Common.{◌≡◌, ◌≤◌, ◌+◌, ◌∙◌, sym, subst, arith, ℕ, Option}
+use Rattle.std.proofs.Common.{◌≡◌, ◌≤◌, ◌+◌, refl, sym, subst, arith, ℕ, Option}
 use Rattle.iss_buckets.specs.Filed.{IsNext, is_unmarked_in}
-use Rattle.iss_buckets.proofs.NextLemmas.{all_below, castable_below, none_below, other_bucket, own_bucket}
-use Rattle.iss_buckets.proofs.pending.next_castable.Goals.{then-eq, else-eq}
+use Rattle.iss_buckets.proofs.NextLemmas.{all_below, bucket_more, castable_below, none_below}
 use Rattle.iss_buckets.proofs.pending.next_castable.Goals as goal
 
 pub loop-bucket-init : goal.loop-bucket-init
@@ -12,17 +11,11 @@ loop-bucket-preserved c =
     let p = c.args.layout.now in
     let marks = c.args.marks.now.keys in
     let i = c.loop-bucket.bucket in
-    elim c.if-eq.branch [
-      | then-eq w ↦
-          let found : IsNext (is_unmarked_in p.buckets i marks) c.args.shelf.now c.args.from w.next_unmarked.result =
-          subst (λ (n : ℕ). IsNext (is_unmarked_in n i marks) c.args.shelf.now c.args.from w.next_unmarked.result) c.requires.count w.next_unmarked.ensures
-          in
-          subst (λ (o : Option ℕ). IsNext (castable_below p c.args.owner.0 marks (i + 1)) c.args.shelf.now c.args.from o) (sym (w.first-is ∙ w.least-first.ensures))
-          (own_bucket p c.args.owner.0 marks c.args.shelf.now c.args.from i c.owner_of.result c.loop-bucket.first w.next_unmarked.result c.owner_of.ensures (sym c.eq.ensures ∙ w.if-eq.true) c.loop-bucket.invariant found)
-      | else-eq w ↦
-          subst (λ (o : Option ℕ). IsNext (castable_below p c.args.owner.0 marks (i + 1)) c.args.shelf.now c.args.from o) (sym w.first-is)
-          (other_bucket p c.args.owner.0 marks c.args.shelf.now c.args.from i c.owner_of.result c.loop-bucket.first c.owner_of.ensures (sym c.eq.ensures ∙ w.if-eq.false) c.loop-bucket.invariant)
-    ]
+    let found : IsNext (is_unmarked_in p.buckets i marks) c.args.shelf.now c.args.from c.next_unmarked-found.result =
+        subst (λ (n : ℕ). IsNext (is_unmarked_in n i marks) c.args.shelf.now c.args.from c.next_unmarked-found.result) c.requires.count c.next_unmarked-found.ensures
+    in
+    subst (λ (o : Option ℕ). IsNext (castable_below p c.args.owner.0 marks (i + 1)) c.args.shelf.now c.args.from o) (sym c.or_earlier-first.ensures)
+    (bucket_more p c.args.owner.0 marks c.args.shelf.now c.args.from i _ c.loop-bucket.first c.next_unmarked-found.result refl c.loop-bucket.invariant found)
 
 pub returns : goal.returns
 returns c =
