@@ -22,10 +22,6 @@ by-same p q e h = rw e h
 pub un-same : {A : Type 0} (p q : Parser A) {a : Reading} {at : ℕ} → p ≡ q → IsUnreadable q a at → IsUnreadable p a at
 un-same p q e h = rw e h
 
--- a digest that was read has its length
-pub digest-long : {a b : Reading} (d : List ℕ) → IsRead (block 32) a b d → length d ≡ 32
-digest-long {a} {b} d h = (block_parts 32 (left a) (left b) d h.found).len
-
 -- a byte is below 256
 pub count-read : {a b : Reading} (n : ℕ) → n < 256 → IsRead byte a b n → IsRead (such_that few byte) a b n
 count-read n lt h = read_passed few byte h (lt-ltb n 256 lt)

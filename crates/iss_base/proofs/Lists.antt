@@ -1,6 +1,7 @@
 -- Tests that are joined, answers, membership, longer lists, chains, and functions that are changed at one place.
-use Rattle.std.proofs.Common.{◌∙◌, append_assoc, ◌≡◌, ◌≢◌, ◌⊎◌, inl, inr, ℕ, zero, suc, ◌+◌, ◌≤◌, ◌<◌, Bool, true, false, cond, eqb, not, ◌&&◌, ◌||◌, List, [], ◌∷◌, ◌++◌, length, Option, Some, None, refl, sym, ap, ap₂, subst, arith, length-append, true≢false}
-use Rattle.std.proofs.lemmas.Bool.Decides.{eqb_tells, leb_tells, nat_tests}
+use Rattle.std.proofs.Common.{◌∙◌, append_assoc, ◌≡◌, ◌≢◌, ◌⊎◌, inl, inr, ℕ, zero, suc, ◌+◌, ◌≤◌, ◌<◌, Bool, true, false, cond, eqb, not, ◌&&◌, ◌||◌, ◌==◌, if◌then◌else◌, is_some, List, [], ◌∷◌, ◌++◌, length, Option, Some, None, refl, sym, ap, ap₂, subst, arith, length-append, true≢false}
+use Rattle.std.proofs.lemmas.Bool.Decides.{Decides-eqb, eqb_tells, leb_tells, nat_tests}
+use Rattle.std.specs.Ordering.{is_eq, nat_cmp}
 use Rattle.iss_base.specs.Lists.{In, Different, Extends, oldest, Chain, first_of, nth, over, same_bytes, set_at, set_at2}
 
 pub same_or_not : (a b : ℕ) → (a ≡ b) ⊎ (a ≢ b)
@@ -65,6 +66,33 @@ pub not-true : (a : Bool) → not a ≡ true → a ≡ false
 not-true false h = refl
 not-true true h = absurd (true≢false (sym h))
 
+pub and-nor : (h a b : Bool) → ((h && not a) && not b) ≡ (h && not (a || b))
+and-nor true true b = refl
+and-nor true false b = refl
+and-nor false a b = refl
+
+pub not-both : (a b : Bool) → (not a || not b) ≡ not (a && b)
+not-both true b = refl
+not-both false b = refl
+
+pub if-cases : {A : Type 0} (P : A → Type 0) (t : Bool) (x y : A) → (t ≡ true → P x) → (t ≡ false → P y) → P (if t then x else y)
+if-cases P true x y f g = f refl
+if-cases P false x y f g = g refl
+
+-- numbers
+
+pub not-equal : (a b : ℕ) → (a == b) ≡ false → a ≡ b → ⊥
+not-equal a b h e = true≢false (sym ((Decides-eqb a b).1 e) ∙ h)
+
+pub order-tells : (a b : ℕ) → is_eq (nat_cmp a b) ≡ eqb a b
+order-tells a b = grind arith
+
+-- options
+
+pub some-there : {A : Type 0} (o : Option A) → is_some o ≡ true → (x : A) × (o ≡ Some x)
+some-there None h = absurd (true≢false (sym h))
+some-there (Some x) h = (x, refl)
+
 pub some-injective : {A : Type 0} (a b : A) → Some a ≡ Some b → a ≡ b
 some-injective a b h = cc
 
@@ -84,6 +112,9 @@ same_bytes-is (x ∷ xs) (y ∷ ys) h =
 pub same_bytes-refl : (a : List ℕ) → same_bytes a a ≡ true
 same_bytes-refl [] = refl
 same_bytes-refl (x ∷ xs) = both (eqb x x) (same_bytes xs xs) (eqb-same x) (same_bytes-refl xs)
+
+pub same_bytes-apart : (a b : List ℕ) → same_bytes a b ≡ false → a ≡ b → ⊥
+same_bytes-apart a b h e = true≢false (sym (subst (λ (z : List ℕ). same_bytes a z ≡ true) e (same_bytes-refl a)) ∙ h)
 
 -- lists of equal lengths with anything behind them
 pub ends-same : {A : Type 0} (a b x y : List A) → length a ≡ length b → a ++ x ≡ b ++ y → (a ≡ b) × (x ≡ y)

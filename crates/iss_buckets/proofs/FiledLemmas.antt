@@ -4,16 +4,13 @@ use Rattle.std.specs.Map.{remove_entry, values_of}
 use Rattle.std.specs.BTreeMap.{insert_entry}
 use Rattle.std.specs.Ordering.{is_eq, nat_cmp}
 use Rattle.iss_base.specs.Lists.{In, Different, first_of}
-use Rattle.iss_base.proofs.Lists.{eqb-same, eqb-other, is-eq, some-injective}
+use Rattle.iss_base.proofs.Lists.{eqb-same, eqb-other, is-eq, some-injective, order-tells}
 use Rattle.iss_request.specs.Log.{same_id, ids}
 use Rattle.iss_request.specs.declared.ids.ReqId.{ReqId}
 use Rattle.iss_request.specs.declared.requests.Request.{Request}
 use Rattle.iss_request.proofs.Identities.{same_id-flip, same_id-self, same_id-tells}
 use Rattle.iss_buckets.specs.Filed.{AreFiled, kept_at, number_of}
 use Rattle.iss_buckets.specs.Waiting.{waits, absent}
-
-pub same_number : (a b : ℕ) → is_eq (nat_cmp a b) ≡ eqb a b
-same_number a b = grind arith
 
 abbrev Entries : Type 0
 Entries = List (ℕ × Request)
@@ -24,10 +21,10 @@ without k es = remove_entry (λ j. is_eq (nat_cmp k j)) es
 -- ---- the request under a number
 
 kept_here : (e : ℕ × Request) (es : Entries) (k : ℕ) → k ≡ e.0 → kept_at (e ∷ es) k ≡ Some e.1
-kept_here e es k is = rw (same_number k e.0 ∙ ap (λ j. eqb k j) (sym is) ∙ eqb-same k) refl
+kept_here e es k is = rw (order-tells k e.0 ∙ ap (λ j. eqb k j) (sym is) ∙ eqb-same k) refl
 
 pub kept_later : (e : ℕ × Request) (es : Entries) (k : ℕ) → k ≢ e.0 → kept_at (e ∷ es) k ≡ kept_at es k
-kept_later e es k ne = rw (same_number k e.0 ∙ eqb-other k e.0 ne) refl
+kept_later e es k ne = rw (order-tells k e.0 ∙ eqb-other k e.0 ne) refl
 
 pub not_below : (from : ℕ) (es : Entries) (k : ℕ) → AreFiled from es → k < from → kept_at es k ≡ None
 not_below from [] k h lt = refl
@@ -129,7 +126,7 @@ filed_different from (e ∷ es) h = (apart_ids es e.1.id h.1, filed_different (s
 -- ---- a request more
 
 pub kept_more : (es : Entries) (n : ℕ) (q : Request) (k : ℕ) → kept_at (es ++ (n, q) ∷ []) k ≡ first_of (kept_at es k) (cond (eqb k n) (Some q) None)
-kept_more [] n q k = rw (same_number k n) refl
+kept_more [] n q k = rw (order-tells k n) refl
 kept_more (e ∷ es) n q k = go (is_eq (nat_cmp k e.0)) (kept_more es n q k)
   where
     go : (b : Bool) → kept_at (es ++ (n, q) ∷ []) k ≡ first_of (kept_at es k) (cond (eqb k n) (Some q) None)
@@ -205,10 +202,10 @@ lower from low [] le h = tt
 lower from low (e ∷ es) le h = let first = h.0 in (omega (arith, first, le), h.1, h.2)
 
 pub without_here : (e : ℕ × Request) (es : Entries) (n : ℕ) → n ≡ e.0 → without n (e ∷ es) ≡ es
-without_here e es n is = rw (same_number n e.0 ∙ ap (λ j. eqb n j) (sym is) ∙ eqb-same n) refl
+without_here e es n is = rw (order-tells n e.0 ∙ ap (λ j. eqb n j) (sym is) ∙ eqb-same n) refl
 
 pub without_later : (e : ℕ × Request) (es : Entries) (n : ℕ) → n ≢ e.0 → without n (e ∷ es) ≡ e ∷ without n es
-without_later e es n ne = rw (same_number n e.0 ∙ eqb-other n e.0 ne) refl
+without_later e es n ne = rw (order-tells n e.0 ∙ eqb-other n e.0 ne) refl
 
 pub same_or : (a b : ℕ) → (a ≡ b) ⊎ (a ≢ b)
 same_or a b = go (eqb a b) refl

@@ -4,12 +4,12 @@ use Rattle.std.proofs.lemmas.List.{get_or-set_same, get_or-set_other, length-set
 use Rattle.std.specs.List.{list_any}
 use Rattle.std.specs.Ordering.{is_eq, nat_cmp}
 use Rattle.iss_base.specs.Lists.{first_of}
-use Rattle.iss_base.proofs.Lists.{eqb-other, eqb-same, is-eq, some-injective}
+use Rattle.iss_base.proofs.Lists.{eqb-other, eqb-same, is-eq, order-tells, some-injective}
 use Rattle.iss_request.specs.Log.{has_id}
 use Rattle.iss_request.specs.declared.ids.ReqId.{ReqId}
 use Rattle.iss_request.specs.declared.requests.Request.{Request}
 use Rattle.iss_buckets.specs.Filed.{AreFiled, AreQueued, FailBetween, IsNext, IsSetAt, bucket_of_id, has_number, is_in_bucket, is_unmarked_in, kept_at}
-use Rattle.iss_buckets.proofs.FiledLemmas.{kept_less, kept_more, same_number, same_or, without}
+use Rattle.iss_buckets.proofs.FiledLemmas.{kept_less, kept_more, same_or, without}
 
 pub queued_none : (es : List (ℕ × Request)) → AreQueued es []
 queued_none es = λ b k lt. absurd (omega (arith, lt))
@@ -179,7 +179,7 @@ set-number qs b number ks has within h = record {
       (λ (e : c ≡ b).
       let here : get_or (slice_set qs b ks) c [] ≡ ks = ap (λ (j : ℕ). get_or (slice_set qs b ks) j []) e ∙ get_or-set_same qs b ks [] within in
       ap (λ (xs : List ℕ). list_any (λ j. is_eq (nat_cmp k j)) xs) here ∙ h k
-      ∙ ap (λ (t : Bool). cond t has (list_any (λ j. is_eq (nat_cmp k j)) (get_or qs b []))) (same_number number k ∙ flip number k)
+      ∙ ap (λ (t : Bool). cond t has (list_any (λ j. is_eq (nat_cmp k j)) (get_or qs b []))) (order-tells number k ∙ flip number k)
       ∙ ap (λ (j : ℕ). cond (eqb k number) has (has_number qs j k)) (sym e)
       ∙ ap (λ (t : Bool). cond (t && eqb k number) has (has_number qs c k)) (sym (ap (λ (j : ℕ). eqb c j) (sym e) ∙ eqb-same c)))
       (λ ne. ap (λ (xs : List ℕ). list_any (λ j. is_eq (nat_cmp k j)) xs) (get_or-set_other qs b c ks [] ne)

@@ -3,7 +3,7 @@ use Rattle.std.specs.Prelude.{◌&&◌, not}
 use Rattle.std.proofs.Math.Seq.{take-suc}
 use Rattle.std.specs.List.{list_any}
 use Rattle.indexmap.specs.IndexSet.{insert_key}
-use Rattle.iss_base.proofs.Lists.{or-alone, or-assoc}
+use Rattle.iss_base.proofs.Lists.{and-nor, or-alone, or-assoc}
 pub use Rattle.iss_request.proofs.Identities.{any-has_id, has_id-append, same_id-tells}
 use Rattle.iss_ids.specs.Set.{and_id, and_ids}
 use Rattle.iss_request.specs.Log.{has_id, ids, same_id}
@@ -53,11 +53,6 @@ has_id-removed x y old new h =
     sym (any-has_id x new) ∙ h ∙ without (same_id y x) (list_any (λ z. same_id x z) old)
     ∙ ap (λ b. b && not (same_id y x)) (any-has_id x old)
     ∙ ap (λ b. has_id x old && not b) (same_id-flip y x)
-
-and-nor : (h a b : Bool) → ((h && not a) && not b) ≡ (h && not (a || b))
-and-nor true true b = refl
-and-nor true false b = refl
-and-nor false a b = refl
 
 all-of : (h : Bool) → h ≡ (h && not false)
 all-of true = refl

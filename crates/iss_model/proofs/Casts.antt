@@ -2,7 +2,7 @@
 use Rattle.std.proofs.Common.{◌&&◌, nat_lt, ◌≡◌, ◌⊎◌, inl, inr, ℕ, suc, zero, ◌-◌, ◌≤◌, Bool, true, false, cond, eqb, not, List, [], ◌∷◌, ◌++◌, length, length-append, take, is_some, Option, Some, None, refl, sym, ap, ◌∙◌, subst, arith, true≢false}
 use Rattle.std.proofs.Math.Seq.{take-append_seam}
 use Rattle.iss_base.specs.Lists.{Extends, In}
-use Rattle.iss_base.proofs.Lists.{and-true, extends-length, extends-refl, extends-trans, in_append, in_left, in_right, is-eq, not-true, oldest-part, or-false, set_at2-other}
+use Rattle.iss_base.proofs.Lists.{and-true, extends-length, extends-refl, extends-trans, in_append, in_left, in_right, is-eq, not-true, oldest-part, or-false, set_at2-other, some-there}
 use Rattle.iss_request.specs.Fields.{IsReadAgain}
 use Rattle.iss_request.specs.Formats.{HasSpelling, parse_value, requests_most, spell_value}
 use Rattle.iss_request.specs.Log.{has_id, ids, log_ids}
@@ -275,10 +275,6 @@ slot-passes p (r ∷ ss) s h = go (slot-passes p ss s) (p r) refl h
     go : (first_slot p ss ≡ Some s → In s ss × (p s ≡ true)) → (b : Bool) → p r ≡ b → cond b (Some r) (first_slot p ss) ≡ Some s → In s (r ∷ ss) × (p s ≡ true)
     go ih true q k = let e : s ≡ r = cc in (inl e, rw e q)
     go ih false q k = let z = ih k in (inr z.0, z.1)
-
-pub some-there : {A : Type 0} (o : Option A) → is_some o ≡ true → (x : A) × (o ≡ Some x)
-some-there None h = absurd (true≢false (sym h))
-some-there (Some x) h = (x, refl)
 
 module _ {Msg : Type 0} (R : Rules) (M : Module Msg) (me : ℕ) (c : Core Msg) where
   -- the slot of the next cast is of the segment, and not in flight

@@ -18,9 +18,10 @@ use Rattle.iss_model.specs.Concrete.{keys_of, plan_at, rules_of, start_at}
 use Rattle.iss_model.specs.Node.{Core, Formats, in_next_epoch, is_nil_at, joined}
 use Rattle.iss_model.specs.Past.{Past, advanced, before_own, is_complete, log_of, start_of, taken_in}
 use Rattle.iss_model.specs.Sound.{IsSoundCore}
+use Rattle.iss_model.proofs.Layouts.{start-times}
 use Rattle.iss_node.proofs.GrowthLemmas.{log_ids-append}
 use Rattle.iss_node.proofs.InputLemmas.{bf-long, bf-part, bounded, split-log}
-use Rattle.iss_node.proofs.OwnEpoch.{has-slots, start-at-is, start-is}
+use Rattle.iss_node.proofs.OwnEpoch.{has-slots, start-is}
 use Rattle.iss_node.specs.Epochs.{AreStarted, HasClosed, notes, params_by}
 use Rattle.iss_node.specs.Flights.{FlightState}
 use Rattle.iss_node.specs.Shape.{IsReplica}
@@ -96,7 +97,7 @@ module _ {M Msg : Type 0} (m : Module Msg) (stands : M → Params → ℕ → Li
   begins = let q = tied.start in omega (arith, start_is, q)
 
   room : start_at v.setup (reverse v.log.entries) (suc past.epoch) ≡ suc past.epoch * v.setup.epoch
-  room = let b = begins in start-at-is v.setup (reverse v.log.entries) (suc past.epoch) (omega (arith, fits, b))
+  room = let b = begins in start-times v.setup (reverse v.log.entries) (suc past.epoch) (omega (arith, fits, b))
 
   log-same : log_of (rules_of v.setup) m v.me.0 (advanced past) ≡ reverse v.log.entries
   log-same = advanced-log (rules_of v.setup) (has-slots v.setup shape.good.good) m v.me.0 past (bounded m stands v shape past tied) ∙ tied.log
@@ -123,7 +124,7 @@ module _ {M Msg : Type 0} (m : Module Msg) (stands : M → Params → ℕ → Li
   old-plan : v.plan ≡ plan_by v.setup past.epoch (slots_in (epochs v.setup past.epoch (reverse v.log.entries))) (conduct_of (epochs v.setup past.epoch (reverse v.log.entries)))
   old-plan =
       let f = shape.fits in let q = tied.start in
-      let first : start_at v.setup (before_own (rules_of v.setup) m v.me.0 past) past.epoch ≡ past.epoch * v.setup.epoch = start-at-is v.setup (before_own (rules_of v.setup) m v.me.0 past) past.epoch (omega (arith, f, q)) in
+      let first : start_at v.setup (before_own (rules_of v.setup) m v.me.0 past) past.epoch ≡ past.epoch * v.setup.epoch = start-times v.setup (before_own (rules_of v.setup) m v.me.0 past) past.epoch (omega (arith, f, q)) in
       tied.rests.divided
       ∙ ap (λ (k : ℕ). plan_by v.setup past.epoch k (conduct_of (epochs v.setup past.epoch (before_own (rules_of v.setup) m v.me.0 past)))) (first ∙ sym (slots-in v.setup past.epoch (reverse v.log.entries)))
       ∙ ap (λ (p : List Ended). plan_by v.setup past.epoch (slots_in (epochs v.setup past.epoch (reverse v.log.entries))) (conduct_of p)) (sym same-epochs)

@@ -2,9 +2,10 @@
 use Rattle.std.proofs.Common.{arith, ◌≡◌, ◌⊎◌, inl, inr, ℕ, suc, ◌+◌, ◌<◌, ◌≤◌, Bool, true, false, cond, List, [], ◌∷◌, ◌++◌, ◌||◌, ◌&&◌, not, length, refl, sym, ap, ◌∙◌, subst, true≢false}
 use Rattle.std.specs.Prelude.{nat_lt}
 use Rattle.std.proofs.lemmas.Bool.Decides.{nat_tests}
+use Rattle.std.proofs.lemmas.List.{append-nil}
 use Rattle.iss_base.specs.Lists.{Different, In}
 use Rattle.iss_ids.proofs.Members.{has_id-append}
-use Rattle.iss_base.proofs.Lists.{in_append, in_left, in_right}
+use Rattle.iss_base.proofs.Lists.{and-nor, in_append, in_left, in_right}
 use Rattle.iss_model.proofs.Flights.{AreParts, flying-ids, ids-carried, ids-within, nil-below, parts-of}
 use Rattle.iss_model.proofs.Ids.{ids-append, in-has}
 use Rattle.iss_model.specs.Node.{flown, flying, is_nil_at, returned}
@@ -24,10 +25,6 @@ landed-more n (y ∷ xs) x = elim (nat_lt y.0.0 n) as (λ b. cond b (y ∷ lande
   | false ↦ landed-more n xs x
 ]
 
-append-nothing : {A : Type 0} (xs : List A) → xs ++ [] ≡ xs
-append-nothing [] = refl
-append-nothing (x ∷ xs) = ap (λ ys. x ∷ ys) (append-nothing xs)
-
 pub flying-more : (n : ℕ) (xs : List (Slot × Batch)) (x : Slot × Batch) → flying n (xs ++ x ∷ []) ≡ flying n xs ++ cond (nat_lt x.0.0 n) [] (x ∷ [])
 flying-more n [] x = elim (nat_lt x.0.0 n) as (λ b. cond b [] (x ∷ []) ≡ cond b [] (x ∷ [])) [ true ↦ refl | false ↦ refl ]
 flying-more n (y ∷ xs) x = elim (nat_lt y.0.0 n) as (λ b. cond b (flying n (xs ++ x ∷ [])) (y ∷ flying n (xs ++ x ∷ [])) ≡ cond b (flying n xs) (y ∷ flying n xs) ++ cond (nat_lt x.0.0 n) [] (x ∷ [])) [
@@ -45,11 +42,6 @@ flown-append (y ∷ xs) ys x =
     or-assoc : (a b c : Bool) → (a || (b || c)) ≡ ((a || b) || c)
     or-assoc true b c = refl
     or-assoc false b c = refl
-
-and-nor : (h a b : Bool) → ((h && not a) && not b) ≡ (h && not (a || b))
-and-nor true true b = refl
-and-nor true false b = refl
-and-nor false a b = refl
 
 all-of : (h : Bool) → h ≡ (h && not false)
 all-of true = refl
@@ -71,7 +63,7 @@ module _ (n : ℕ) (done : List (Slot × Batch)) (slot : Slot) (batch : Batch) (
   pub landed-left : slot.0 < n → left ≡ flying n (done ++ (slot, batch) ∷ [])
   landed-left lt =
       let below : nat_lt slot.0 n ≡ true = grind (arith, nat_tests) in
-      left_is ∙ sym (flying-more n done (slot, batch) ∙ ap (λ b. flying n done ++ cond b [] ((slot, batch) ∷ [])) below ∙ append-nothing (flying n done))
+      left_is ∙ sym (flying-more n done (slot, batch) ∙ ap (λ b. flying n done ++ cond b [] ((slot, batch) ∷ [])) below ∙ append-nil (flying n done))
 
   pub landed-ids : slot.0 < n → ((x : ReqId) → has_id x new ≡ (has_id x now && not (has_id x (ids batch)))) → (x : ReqId) → has_id x new ≡ (has_id x all && not (has_id x (flown (landed n (done ++ (slot, batch) ∷ [])))))
   landed-ids lt h x =
@@ -85,7 +77,7 @@ module _ (n : ℕ) (done : List (Slot × Batch)) (slot : Slot) (batch : Batch) (
   pub kept-gone : n ≤ slot.0 → gone ≡ landed n (done ++ (slot, batch) ∷ [])
   kept-gone le =
       let above : nat_lt slot.0 n ≡ false = grind (arith, nat_tests) in
-      gone_is ∙ sym (landed-more n done (slot, batch) ∙ ap (λ b. landed n done ++ cond b ((slot, batch) ∷ []) []) above ∙ append-nothing (landed n done))
+      gone_is ∙ sym (landed-more n done (slot, batch) ∙ ap (λ b. landed n done ++ cond b ((slot, batch) ∷ []) []) above ∙ append-nil (landed n done))
 
   pub kept-left : n ≤ slot.0 → left ++ (slot, batch) ∷ [] ≡ flying n (done ++ (slot, batch) ∷ [])
   kept-left le =
@@ -94,9 +86,6 @@ module _ (n : ℕ) (done : List (Slot × Batch)) (slot : Slot) (batch : Batch) (
 
   pub kept-ids : n ≤ slot.0 → (x : ReqId) → has_id x now ≡ (has_id x all && not (has_id x (flown (landed n (done ++ (slot, batch) ∷ [])))))
   kept-ids le x = now_is x ∙ ap (λ (xs : List (Slot × Batch)). has_id x all && not (has_id x (flown xs))) (sym gone_is ∙ kept-gone le)
-
-pub none-landed : (x : ReqId) (all : List ReqId) → has_id x all ≡ (has_id x all && not (has_id x []))
-none-landed x all = all-of (has_id x all)
 
 -- ---- the set of what stays
 

@@ -23,10 +23,11 @@ use Rattle.iss_model.specs.Node.{Core, Formats, Turn, flown, flying, inputs, joi
 use Rattle.iss_model.specs.Past.{IsLog, Past, before_own, log_of, params_of, start_of, taken_in, takes}
 use Rattle.iss_model.specs.Rules.{Rules}
 use Rattle.iss_model.specs.Sound.{IsSoundCore, carried, held}
+use Rattle.iss_model.proofs.Layouts.{start-times}
 use Rattle.iss_node.proofs.FlightLemmas.{still-flown}
 use Rattle.iss_node.proofs.GivenLemmas.{given-in, in-given, slot-in, slot-next}
 use Rattle.iss_node.proofs.GrowthLemmas.{log_ids-append, note-all, waiting-is}
-use Rattle.iss_node.proofs.OwnEpoch.{has-slots, log-is, start-at-is, start-is}
+use Rattle.iss_node.proofs.OwnEpoch.{has-slots, log-is, start-is}
 use Rattle.iss_node.specs.Cells.{given}
 use Rattle.iss_node.specs.Flights.{FlightState, IsLanded, landed}
 use Rattle.iss_node.specs.Growth.{IsGrown, and_values, waits_on}
@@ -135,7 +136,7 @@ module _ {M Msg : Type 0} (m : Module Msg) (stands : M → Params → ℕ → Li
   bf-long = length-cut (rules_of v.setup) (log_of (rules_of v.setup) m v.me.0 past) past.epoch reached ∙ start-is v.setup (log_of (rules_of v.setup) m v.me.0 past) past.epoch
 
   pub begins : start_at v.setup (before_own (rules_of v.setup) m v.me.0 past) past.epoch ≡ past.epoch * v.setup.epoch
-  begins = let f = shape.fits in let q = tied.start in start-at-is v.setup (before_own (rules_of v.setup) m v.me.0 past) past.epoch (omega (arith, f, q))
+  begins = let f = shape.fits in let q = tied.start in start-times v.setup (before_own (rules_of v.setup) m v.me.0 past) past.epoch (omega (arith, f, q))
 
   pub own-fair : IsFair (plan_at v.setup (before_own (rules_of v.setup) m v.me.0 past) past.epoch)
   own-fair =

@@ -22,11 +22,11 @@ use Rattle.iss_sb.specs.declared.effects.Input.TheVariants.{Receive}
 use Rattle.iss_sb.specs.declared.effects.Params.{Params}
 use Rattle.iss_sb.specs.declared.effects.To.{To}
 
-seen-more : {Msg : Type 0} (xs : List (Early Msg)) (x : Early Msg) → seen_early (xs ++ x ∷ []) ≡ seen_early xs ++ seen_one x ∷ []
+pub seen-more : {Msg : Type 0} (xs : List (Early Msg)) (x : Early Msg) → seen_early (xs ++ x ∷ []) ≡ seen_early xs ++ seen_one x ∷ []
 seen-more [] x = refl
 seen-more (y ∷ xs) x = ap (λ (ys : List (Kept_early _)). seen_one y ∷ ys) (seen-more xs x)
 
-seen-long : {Msg : Type 0} (xs : List (Early Msg)) → length (seen_early xs) ≡ length xs
+pub seen-long : {Msg : Type 0} (xs : List (Early Msg)) → length (seen_early xs) ≡ length xs
 seen-long [] = refl
 seen-long (x ∷ xs) = ap suc (seen-long xs)
 

@@ -99,11 +99,6 @@ pub empty : {A : Type 0} (xs : List A) → length xs ≡ 0 → xs ≡ []
 empty [] h = refl
 empty (x ∷ xs) h = absurd (omega (arith, h))
 
--- where there is something, this is it
-pub some-of : {A : Type 0} (o : Option A) → is_some o ≡ true → (x : A) × (o ≡ Some x)
-some-of None h = absurd (true≢false (sym h))
-some-of (Some x) h = (x, refl)
-
 -- what nothing was accepted in yet
 pub begun-so : {M Msg : Type 0} (v : ReplicaState M Msg) (e : ℕ) (plan : Plan) (gs : List (Option (SegmentState M))) (accepted : List Accepted) (logged : List ReqId) → accepted ≡ [] → logged ≡ [] →
     record v { epoch = e; plan = plan; segments = gs; accepted = accepted; logged = logged } ≡ record v { epoch = e; plan = plan; segments = gs; accepted = []; logged = [] }

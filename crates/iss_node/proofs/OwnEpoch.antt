@@ -3,7 +3,7 @@ use Rattle.std.proofs.Common.{arith, inl, inr, ◌≡◌, ℕ, zero, suc, ◌+�
 use Rattle.std.proofs.lemmas.Bool.Decides.{leb_tells}
 use Rattle.std.proofs.lemmas.List.{append-nil, length-reverse, reverse-append}
 use Rattle.iss_base.specs.Lists.{Chain, Extends, first_of, oldest}
-use Rattle.iss_base.proofs.Lists.{chain-part, extends-cons, extends-length, extends-next, oldest-all, oldest-extends}
+use Rattle.iss_base.proofs.Lists.{chain-part, extends-cons, extends-length, extends-next, first_of-none, oldest-all, oldest-extends}
 use Rattle.iss_layout.proofs.FairLemmas.{few_nodes}
 use Rattle.iss_log.specs.LogState.{LogState, ahead_at, value_at}
 use Rattle.iss_model.specs.Concrete.{rules_of, start_at}
@@ -24,11 +24,6 @@ pub start-is : (s : Setup) (log : List Value) (e : ℕ) → start_of (rules_of s
 start-is s log zero = omega arith
 start-is s log (suc e) = let h = start-is s log e in omega (arith, h)
 
-pub start-at-is : (s : Setup) (log : List Value) (e : ℕ) → e * s.epoch + s.epoch ≤ 2 ^ 64 → start_at s log e ≡ e * s.epoch
-start-at-is s log zero fits = omega arith
-start-at-is s log (suc e) fits = elim (leb_tells (start_of (rules_of s) log (suc e)) (2 ^ 64 - s.epoch)) [
-  | inl t ↦ rw t.0 (start-is s log (suc e))
-  | inr t ↦ let h = start-is s log (suc e) in absurd (omega (arith, t.1, h, fits))
 ]
 
 pub has-slots : (s : Setup) → IsGoodSetup s → HasSlots (rules_of s)
@@ -36,10 +31,6 @@ has-slots s good = record {
   some = λ log e. let few = few_nodes s good in let low = good.epoch_low in let some : 0 < s.epoch = omega (arith, few.0, low) in some;
   most = λ log e. let most : s.epoch ≤ s.epoch = omega arith in most;
 }
-
-first-none : {A : Type 0} (o : Option A) → first_of o None ≡ o
-first-none None = refl
-first-none (Some x) = refl
 
 at_end : {A : Type 0} (xs : List A) (y : A) (ys : List A) → slice_get (xs ++ y ∷ ys) (length xs) ≡ Some y
 at_end [] y ys = refl
@@ -60,7 +51,7 @@ module _ (s : Setup) (good : IsGoodSetup s) {Msg : Type 0} (m : Module Msg) (me 
   in-epoch k i e f he hf =
       subst (λ (z : ℕ). first_of (delivered m ((rules_of s).params f z ((rules_of s).leader f z k)) me (d.evidence z ((rules_of s).leader f z k)) k) (adopted_at d.adopted z i) ≡ slot_value (rules_of s) m me bf d k) (sym he)
       (subst (λ (y : List Value). first_of (delivered m ((rules_of s).params y d.epoch ((rules_of s).leader y d.epoch k)) me (d.evidence d.epoch ((rules_of s).leader y d.epoch k)) k) (adopted_at d.adopted d.epoch i) ≡ slot_value (rules_of s) m me bf d k) (sym hf)
-      (ap (λ (o : Option Value). first_of (slot_value (rules_of s) m me bf d k) o) (nothing-adopted i) ∙ first-none (slot_value (rules_of s) m me bf d k)))
+      (ap (λ (o : Option Value). first_of (slot_value (rules_of s) m me bf d k) o) (nothing-adopted i) ∙ first_of-none (slot_value (rules_of s) m me bf d k)))
 
   pub own-cell : (older : List Value) → Extends bf older → length older < d.epoch * s.epoch + s.epoch → cell (rules_of s) m me d older ≡ slot_value (rules_of s) m me bf d (length older)
   own-cell older x lt =

@@ -5,6 +5,7 @@ use Rattle.std.specs.List.{filter, list_any}
 use Rattle.std.proofs.lemmas.Bool.Decides.{nat_tests}
 use Rattle.std.proofs.lemmas.List.Elements.{filter-append}
 use Rattle.iss_base.specs.Lists.{In, below}
+use Rattle.iss_base.proofs.Lists.{not-both}
 use Rattle.iss_log.specs.LogState.{LogState, value_at}
 use Rattle.iss_model.proofs.Casts.{early-sound}
 use Rattle.iss_model.specs.Concrete.{rules_of}
@@ -20,6 +21,7 @@ use Rattle.iss_node.proofs.RequestLemmas.{moved}
 use Rattle.iss_node.specs.Shape.{AreFrom, IsReplica}
 use Rattle.iss_node.specs.State.{AreParts, IsTied, ReplicaState, core_of, led, seen_early, seen_one}
 use Rattle.iss_node.specs.declared.answers.Early.{Early}
+use Rattle.iss_node.proofs.KeepLemmas.{from-more, seen-long, seen-more}
 use Rattle.iss_request.specs.declared.ids.NodeId.{NodeId}
 use Rattle.iss_request.specs.declared.ids.Slot.{Slot}
 use Rattle.iss_request.specs.declared.requests.Value.{Value}
@@ -28,18 +30,6 @@ use Rattle.iss_sb.specs.declared.effects.Params.{Params}
 use Rattle.iss_segment.specs.Instance.{SegmentState}
 
 -- ---- early messages
-
-length-seen : {Msg : Type 0} (xs : List (Early Msg)) → length (seen_early xs) ≡ length xs
-length-seen [] = refl
-length-seen (x ∷ xs) = ap suc (length-seen xs)
-
-seen-more : {Msg : Type 0} (xs : List (Early Msg)) (x : Early Msg) → seen_early (xs ++ x ∷ []) ≡ seen_early xs ++ seen_one x ∷ []
-seen-more [] x = refl
-seen-more (y ∷ xs) x = ap (λ (ys : List (Kept_early _)). seen_one y ∷ ys) (seen-more xs x)
-
-pub from-more : {Msg : Type 0} (n : ℕ) (xs : List (Early Msg)) (x : Early Msg) → AreFrom n xs → x.from.0 < n → AreFrom n (xs ++ x ∷ [])
-from-more n [] x h lt = (lt, tt)
-from-more n (y ∷ xs) x h lt = (h.0, from-more n xs x h.1 lt)
 
 pub with-early : {M Msg : Type 0} (m : Module Msg) (v : ReplicaState M Msg) (x : Early Msg) (early : List (Early Msg)) → IsReplica m v → x.from.0 < v.setup.n → early ≡ v.early ++ x ∷ [] → IsReplica m (record v { early = early })
 with-early m v x early h lt is = record {
@@ -63,12 +53,12 @@ room-at n lt = grind (arith, nat_tests)
 pub early-full : {M Msg : Type 0} (v : ReplicaState M Msg) (past : Past Msg) (x : Early Msg) → 256 ≤ length v.early → keeps_early (core_of v past) (seen_one x) ≡ Dropped EarlyFull
 early-full {Msg = Msg} v past x le =
     let none : Stepped Msg = Dropped EarlyFull in
-    ap (λ (b : Bool). cond b (Taken (rests (record (core_of v past) { early = seen_early v.early ++ seen_one x ∷ [] }))) none) (ap (λ (n : ℕ). nat_lt n 256) (length-seen v.early) ∙ full-at (length v.early) le)
+    ap (λ (b : Bool). cond b (Taken (rests (record (core_of v past) { early = seen_early v.early ++ seen_one x ∷ [] }))) none) (ap (λ (n : ℕ). nat_lt n 256) (seen-long v.early) ∙ full-at (length v.early) le)
 
 pub early-kept : {M Msg : Type 0} (v : ReplicaState M Msg) (past : Past Msg) (x : Early Msg) → length v.early < 256 → keeps_early (core_of v past) (seen_one x) ≡ Taken (rests (record (core_of v past) { early = seen_early v.early ++ seen_one x ∷ [] }))
 early-kept {Msg = Msg} v past x lt =
     let none : Stepped Msg = Dropped EarlyFull in
-    ap (λ (b : Bool). cond b (Taken (rests (record (core_of v past) { early = seen_early v.early ++ seen_one x ∷ [] }))) none) (ap (λ (n : ℕ). nat_lt n 256) (length-seen v.early) ∙ room-at (length v.early) lt)
+    ap (λ (b : Bool). cond b (Taken (rests (record (core_of v past) { early = seen_early v.early ++ seen_one x ∷ [] }))) none) (ap (λ (n : ℕ). nat_lt n 256) (seen-long v.early) ∙ room-at (length v.early) lt)
 
 pub early-parts : {M Msg : Type 0} (m : Module Msg) (stands : M → Params → ℕ → List (Item Msg) → Type 0) (v : ReplicaState M Msg) (shape : IsReplica m v) (past : Past Msg) (tied : IsTied m stands v past) (x : Early Msg) (early : List (Early Msg)) → early ≡ v.early ++ x ∷ [] →
     AreParts m stands (record v { early = early }) (record (core_of v past) { early = seen_early v.early ++ seen_one x ∷ [] })
@@ -80,17 +70,13 @@ early-parts m stands v shape past tied x early is =
 
 -- ---- leaders whose segment is not filled
 
-or-not : (a b : Bool) → (not a || not b) ≡ not (a && b)
-or-not true b = refl
-or-not false b = refl
-
 any-empty : {Msg : Type 0} (log : LogState) (m : Module Msg) (p : Params) (me : ℕ) (xs : List (Item Msg)) (slots : List Slot) → ((s : Slot) → In s slots → value_at log s.0 ≡ delivered m p me xs s.0) →
     list_any (λ (s : Slot). not (is_some (value_at log s.0))) slots ≡ not (are_filled m p me xs slots)
 any-empty log m p me xs [] h = refl
 any-empty log m p me xs (s ∷ ss) h =
     ap (λ (o : Option Value). not (is_some o) || list_any (λ (s : Slot). not (is_some (value_at log s.0))) ss) (h s (inl refl))
     ∙ ap (λ b. not (is_some (delivered m p me xs s.0)) || b) (any-empty log m p me xs ss (λ t i. h t (inr i)))
-    ∙ or-not (is_some (delivered m p me xs s.0)) (are_filled m p me xs ss)
+    ∙ not-both (is_some (delivered m p me xs s.0)) (are_filled m p me xs ss)
 
 module _ {M Msg : Type 0} (m : Module Msg) (stands : M → Params → ℕ → List (Item Msg) → Type 0) (v : ReplicaState M Msg) (shape : IsReplica m v) (past : Past Msg) (tied : IsTied m stands v past) (l : ℕ) where
   pub unfilled-led : (g : SegmentState M) → led v.segments l ≡ Some g → (slots : List Slot) → slots ≡ g.params.slots → (b : Bool) → b ≡ list_any (λ (s : Slot). not (is_some (value_at v.log s.0))) slots → b ≡ is_unfilled (rules_of v.setup) m v.me.0 past l

@@ -3,6 +3,7 @@ use Rattle.std.proofs.Common.{arith, inl, inr, ◌≡◌, ℕ, zero, suc, ◌+�
 use Rattle.std.specs.Prelude.{is_some}
 use Rattle.std.specs.List.{filter, list_any}
 use Rattle.iss_base.specs.Lists.{In, below}
+use Rattle.iss_base.proofs.Lists.{not-both}
 use Rattle.iss_log.specs.LogState.{LogState, value_at}
 use Rattle.iss_model.specs.Concrete.{rules_of}
 use Rattle.iss_model.specs.Node.{Core, next_slot}
@@ -20,10 +21,6 @@ use Rattle.iss_sb.specs.Evidence.{Item, Module, delivered}
 use Rattle.iss_sb.specs.declared.effects.Params.{Params}
 use Rattle.iss_segment.specs.Instance.{SegmentState}
 
-not-all : (a b : Bool) → (not a || not b) ≡ not (a && b)
-not-all true b = refl
-not-all false b = refl
-
 module _ {M Msg : Type 0} (m : Module Msg) (stands : M → Params → ℕ → List (Item Msg) → Type 0)
     (v : ReplicaState M Msg) (shape : IsReplica m v) (past : Past Msg) (tied : IsTied m stands v past) (l : ℕ) where
   any-empty : (ss : List Slot) → ((s : Slot) → In s ss → In s (params_of (rules_of v.setup) m v.me.0 past l).slots) →
@@ -34,7 +31,7 @@ module _ {M Msg : Type 0} (m : Module Msg) (stands : M → Params → ℕ → Li
       let xs = taken_in past l in
       ap (λ o. not (is_some o) || list_any (λ (t : Slot). not (is_some (value_at v.log t.0))) ss) (value-is m stands v shape past tied l s (sub s (inl refl)))
       ∙ ap (λ b. not (is_some (delivered m p v.me.0 xs s.0)) || b) (any-empty ss (λ t i. sub t (inr i)))
-      ∙ not-all (is_some (delivered m p v.me.0 xs s.0)) (are_filled m p v.me.0 xs ss)
+      ∙ not-both (is_some (delivered m p v.me.0 xs s.0)) (are_filled m p v.me.0 xs ss)
 
   pub unfilled-some : (g : SegmentState M) → led v.segments l ≡ Some g → (b : Bool) (slots : List Slot) → slots ≡ g.params.slots → b ≡ list_any (λ (s : Slot). not (is_some (value_at v.log s.0))) slots →
       b ≡ is_unfilled (rules_of v.setup) m v.me.0 past l

@@ -179,3 +179,36 @@ read_whole p version bytes start f x is r tells =
     let le : length f.all ≤ f.at = tells.0 refl in
     let none : left f ≡ [] = nil_from_length (left f) (omega (arith, length-drop f.at f.all)) in
     rw none at here.found
+
+-- ---- blocks, and answers of two kinds
+
+-- a block that was read has its length
+pub block-long : (width : ℕ) {a b : Reading} (d : List ℕ) → IsRead (block width) a b d → length d ≡ width
+block-long width {a} {b} d h = (ParserLemmas.block_parts width (left a) (left b) d h.found).len
+
+pub good-bad : {A : Type 0} (x : A) (rest : List ℕ) (at : ℕ) → Good x rest ≡ Bad at → ⊥
+good-bad x rest at h = cc
+
+-- ---- a thing behind its number
+
+-- a known number stands in front, and says which fields follow
+pub record IsNumbered {A : Type 0} (p : Parser A) (known : ℕ → Bool) (fields : ℕ → Parser A) : Type 0 where
+  pub is : p ≡ (such_that known byte >>= fields)
+
+pub number-unread : {A : Type 0} {p : Parser A} {known : ℕ → Bool} {fields : ℕ → Parser A} → IsNumbered p known fields → {a : Reading} {at : ℕ} → IsUnreadable byte a at → IsUnreadable p a at
+number-unread {A} {p} {known} {fields} n {a} {at} h = subst (λ (q : Parser A). IsUnreadable q a at) (sym n.is) (unread_first (such_that known byte) fields (unread_tested known byte h))
+
+pub unknown-unread : {A : Type 0} {p : Parser A} {known : ℕ → Bool} {fields : ℕ → Parser A} → IsNumbered p known fields → {a b : Reading} (k : ℕ) → known k ≡ false → IsRead byte a b k → IsUnreadable p a a.at
+unknown-unread {A} {p} {known} {fields} n {a} {b} k no h = subst (λ (q : Parser A). IsUnreadable q a a.at) (sym n.is) (unread_first (such_that known byte) fields (unread_failed known byte h no))
+
+pub fields-read : {A : Type 0} {p : Parser A} {known : ℕ → Bool} {fields : ℕ → Parser A} → IsNumbered p known fields →
+    {a b c : Reading} (j k : ℕ) (x : A) → j ≡ k → known k ≡ true → IsRead byte a b j → IsRead (fields k) b c x → IsRead p a c x
+fields-read {A} {p} {known} {fields} n {a} {b} {c} j k x e yes_known h r =
+    let number : IsRead byte a b k = subst (λ (z : ℕ). IsRead byte a b z) e h in
+    subst (λ (q : Parser A). IsRead q a c x) (sym n.is) (read_then (such_that known byte) fields (read_passed known byte number yes_known) r)
+
+pub fields-unread : {A : Type 0} {p : Parser A} {known : ℕ → Bool} {fields : ℕ → Parser A} → IsNumbered p known fields →
+    {a b : Reading} (j k : ℕ) {at : ℕ} → j ≡ k → known k ≡ true → IsRead byte a b j → IsUnreadable (fields k) b at → IsUnreadable p a at
+fields-unread {A} {p} {known} {fields} n {a} {b} j k {at} e yes_known h u =
+    let number : IsRead byte a b k = subst (λ (z : ℕ). IsRead byte a b z) e h in
+    subst (λ (q : Parser A). IsUnreadable q a at) (sym n.is) (unread_then (such_that known byte) fields (read_passed known byte number yes_known) u)

@@ -16,6 +16,7 @@ use Rattle.iss_window.specs.Kept.{Kept, StandsFor}
 use Rattle.iss_window.specs.Window.{is_inside, place_of}
 use Rattle.iss_request.specs.declared.ids.ReqId.{ReqId}
 use Rattle.iss_request.specs.declared.requests.Request.{Request}
+use Rattle.iss_request.proofs.Identities.{same_id-flip}
 
 -- some identity of ys stands in xs
 abbrev meets : List ReqId → List ReqId → Bool
@@ -28,20 +29,12 @@ or-shuffle false true true d = refl
 or-shuffle false true false d = refl
 or-shuffle false false c d = refl
 
-sym-same : (x y : ReqId) → same_id x y ≡ same_id y x
-sym-same x y = go (same_id x y) (same_id y x) refl refl
-  where
-    go : (a b : Bool) → same_id x y ≡ a → same_id y x ≡ b → same_id x y ≡ same_id y x
-    go true b e f = let h : x ≡ y = same_id-tells x y e in subst (λ (z : ReqId). same_id x z ≡ same_id z x) h refl
-    go false true e f = let h : y ≡ x = same_id-tells y x f in subst (λ (z : ReqId). same_id z y ≡ same_id y z) h refl
-    go false false e f = e ∙ sym f
-
 -- one mark more: an identity meets the marks if it is the new one, or meets the old ones
 meets-cons : (x : ReqId) (xs ys : List ReqId) → meets (x ∷ xs) ys ≡ (has_id x ys || meets xs ys)
 meets-cons x xs [] = refl
 meets-cons x xs (y ∷ ys) =
     ap (λ b. (same_id y x || has_id y xs) || b) (meets-cons x xs ys)
-    ∙ ap (λ b. (b || has_id y xs) || (has_id x ys || meets xs ys)) (sym-same y x)
+    ∙ ap (λ b. (b || has_id y xs) || (has_id x ys || meets xs ys)) (same_id-flip y x)
     ∙ turn (same_id x y) (has_id y xs) (has_id x ys) (meets xs ys)
   where
     turn : (a b c d : Bool) → ((a || b) || (c || d)) ≡ ((a || c) || (b || d))

@@ -3,6 +3,7 @@ use Rattle.std.proofs.Common.{◌≡◌, ℕ, zero, suc, ◌+◌, ◌<◌, Bool,
 use Rattle.std.proofs.Math.Seq.{take-suc}
 use Rattle.iss_base.specs.Lists.{below, nth}
 use Rattle.iss_model.specs.Run.{addressees, posted_all, posted_to}
+use Rattle.iss_model.proofs.Posts.{posted-append}
 use Rattle.iss_network.specs.Network.{Network, posted}
 use Rattle.iss_network.specs.declared.packets.Sent.{Sent}
 use Rattle.iss_sb.specs.declared.effects.To.{To}
@@ -34,10 +35,6 @@ each-next w now later from b k e l =
     ∙ sym (posted_to-append w from b (below k) (k ∷ []))
     ∙ ap (λ (m : ℕ). posted_to w from b (below m)) (sym (add-one k))
 
-posted_all-append : (n : ℕ) (w : Network) (from : ℕ) (xs ys : List (To × List ℕ)) → posted_all n w from (xs ++ ys) ≡ posted_all n (posted_all n w from xs) from ys
-posted_all-append n w from [] ys = refl
-posted_all-append n w from (x ∷ xs) ys = posted_all-append n (posted_to w from x.1 (addressees n x.0)) from xs ys
-
 -- the elements up to place i, and the one there
 pub take-next : {A : Type 0} (xs : List A) (i : ℕ) (x : A) → i < length xs → x ≡ get_or xs i x → take (i + 1) xs ≡ take i xs ++ x ∷ []
 take-next {A} xs i x lt is = rw add-one (take-suc xs i x lt ∙ ap (λ (y : A). take i xs ++ y ∷ []) (sym is))
@@ -46,7 +43,7 @@ take-next {A} xs i x lt is = rw add-one (take-suc xs i x lt ∙ ap (λ (y : A). 
 pub all-next : (n : ℕ) (w now later : Network) (from : ℕ) (xs : List (To × List ℕ)) (i : ℕ) (x : To × List ℕ) → i < length xs → x ≡ get_or xs i x → now ≡ posted_all n w from (take i xs) → later ≡ posted_to now from x.1 (addressees n x.0) → later ≡ posted_all n w from (take (i + 1) xs)
 all-next n w now later from xs i x lt is e l =
     l ∙ ap (λ (u : Network). posted_to u from x.1 (addressees n x.0)) e
-    ∙ sym (posted_all-append n w from (take i xs) (x ∷ []))
+    ∙ sym (posted-append n w from (take i xs) (x ∷ []))
     ∙ ap (λ (ys : List (To × List ℕ)). posted_all n w from ys) (sym (take-next xs i x lt is))
 
 to-at : (n : ℕ) (xs : List (To × List ℕ)) (i : ℕ) (d : To × List ℕ) → AreToNodes n xs → i < length xs → IsToNode n (get_or xs i d).0

@@ -3,7 +3,7 @@ use Rattle.std.proofs.Common.{◌≡◌, ℕ, Bool, false, ◌==◌, ◌||◌, i
 use Rattle.iss_request.specs.Fields.{IsRead, IsUnreadable, Reading, left}
 use Rattle.iss_request.specs.Parsing.{Parser, block, byte, such_that}
 use Rattle.iss_request.proofs.ParserLemmas.{block_parts}
-use Rattle.iss_request.proofs.Readings.{read_passed, read_then, unread_failed, unread_first, unread_tested, unread_then}
+use Rattle.iss_request.proofs.Readings.{IsNumbered, read_passed, read_then, unread_then}
 use Rattle.sb_echo.specs.declared.word.Word.{Word}
 use Rattle.sb_echo.specs.Echo.{parse, parse_echo, parse_say}
 
@@ -13,13 +13,9 @@ known n = (n == 1) || (n == 2)
 abbrev after_message : ℕ → ℕ → Parser Word
 after_message version message = if message == 1 then parse_say version else parse_echo
 
-pub number-unread : (v : ℕ) {a : Reading} {at : ℕ} → IsUnreadable byte a at → IsUnreadable (parse v) a at
+pub numbered : (v : ℕ) → IsNumbered (parse v) known (after_message v)
 unfolding parse
-number-unread v h = unread_first (such_that known byte) (after_message v) (unread_tested known byte h)
-
-pub other-unread : (v : ℕ) {a b : Reading} (n : ℕ) → known n ≡ false → IsRead byte a b n → IsUnreadable (parse v) a a.at
-unfolding parse
-other-unread v n k h = unread_first (such_that known byte) (after_message v) (unread_failed known byte h k)
+numbered v = record { is = refl }
 
 pub say-read-then : (v : ℕ) {a b c : Reading} (n : ℕ) (m : Word) → n ≡ 1 → IsRead byte a b n → IsRead (parse_say v) b c m → IsRead (parse v) a c m
 unfolding parse
@@ -36,7 +32,3 @@ echo-read-then v {a} {b} n m e h k = read_then (such_that known byte) (after_mes
 pub echo-unread-then : (v : ℕ) {a b : Reading} (n : ℕ) {at : ℕ} → n ≡ 2 → IsRead byte a b n → IsUnreadable parse_echo b at → IsUnreadable (parse v) a at
 unfolding parse
 echo-unread-then v {a} {b} n e h k = unread_then (such_that known byte) (after_message v) (read_passed known byte (subst (λ (n : ℕ). IsRead byte a b n) e h) refl) k
-
--- a digest that was read has its length
-pub digest-long : {a b : Reading} (d : List ℕ) → IsRead (block 32) a b d → length d ≡ 32
-digest-long {a} {b} d h = (block_parts 32 (left a) (left b) d h.found).len

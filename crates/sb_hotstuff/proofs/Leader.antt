@@ -3,7 +3,7 @@ use Rattle.std.proofs.Common.{◌≡◌, ◌≤◌, ℕ, zero, suc, ◌+◌, ◌
 use Rattle.std.specs.Prelude.{nat_lt}
 use Rattle.std.proofs.lemmas.Bool.{leb-true}
 use Rattle.iss_base.specs.Lists.{In, nth}
-use Rattle.iss_base.proofs.Lists.{and-true, in_append, in_right}
+use Rattle.iss_base.proofs.Lists.{and-true, if-cases, in_append, in_right, not-equal}
 use Rattle.iss_request.specs.declared.ids.Slot.{Slot}
 use Rattle.iss_request.specs.declared.requests.Batch.{Batch}
 use Rattle.iss_sb.specs.declared.effects.Input.{Input}
@@ -32,7 +32,7 @@ use Rattle.hs_tree.proofs.Contents.{what-table}
 use Rattle.sb_hotstuff.specs.Facts.{Leads}
 use Rattle.sb_hotstuff.specs.HotStuff.{answers, asks, drafts, hotstuff, makes, proposals, shows, sign_all, state, strings_at, taken_of, turn_strings, voted}
 use Rattle.sb_hotstuff.specs.Rules.{State, Turn, all_news, best, cast_turn, certificate, first_turn, heard, is_reached, is_ready, is_slot, keeps_news, keeps_vote, kept, may_cast, may_end, may_prepare, may_second, may_third, next_turn, nil_or_mark, node_digest, proposed, round_of, slots_below, turn, turn_after, turn_on, with_cast, with_news, with_node, with_round, with_turn, with_vote}
-use Rattle.sb_hotstuff.proofs.Basics.{by-both, by-if, by-test, is-same, not-same}
+use Rattle.sb_hotstuff.proofs.Basics.{by-if, by-test, is-same}
 use Rattle.sb_hotstuff.proofs.Readable.{MayTurn, digest-length, heard-is, kept-fits, proposed-new, state-fits}
 use Rattle.sb_hotstuff.proofs.Single.{AreVoted, acc, hashed-has}
 
@@ -174,7 +174,7 @@ module _ (p : Params) (w : World Message) (good : IsGoodParams hotstuff p) (lega
   mark-none b h = cc
 
   after-ok : (s : State) (t : Turn) → LeaderOk s → TurnOk t → Holder (digest_of t.just) t.what → MayOk (turn_after p s t)
-  after-ok s t h ok has = by-both MayOk (round_of t.view == 0) (cast_turn p (suc t.view) (certificate p s 1 t.view t.digest) t.slots (nth s.casts t.view)) _ (λ q. first (ok.early (is-same (round_of t.view) 0 q))) (λ q. later (not-same (round_of t.view) 0 q))
+  after-ok s t h ok has = if-cases MayOk (round_of t.view == 0) (cast_turn p (suc t.view) (certificate p s 1 t.view t.digest) t.slots (nth s.casts t.view)) _ (λ q. first (ok.early (is-same (round_of t.view) 0 q))) (λ q. later (not-equal (round_of t.view) 0 q))
     where
       first : CastTurn t → MayOk (cast_turn p (suc t.view) (certificate p s 1 t.view t.digest) t.slots (nth s.casts t.view))
       first c =

@@ -4,7 +4,7 @@ use Rattle.std.specs.Prelude.{◌==◌}
 use Rattle.std.proofs.lemmas.Bool.{eq-eqb}
 use Rattle.sha2.specs.Sha256.{sha256, digest_bytes, hash_after, compress, rounds, schedule, first_words}
 use Rattle.iss_base.specs.Lists.{In, same_bytes}
-use Rattle.iss_base.proofs.Lists.{both, eqb-other, in_append, same_bytes-refl}
+use Rattle.iss_base.proofs.Lists.{both, eqb-other, in_append, same_bytes-apart, same_bytes-refl}
 use Rattle.iss_request.specs.Digest.{digest}
 use Rattle.iss_request.specs.Formats.{is_signature, spell_batch, spell_count, spell_value}
 use Rattle.iss_request.specs.Setup.{IsGoodSetup}
@@ -82,9 +82,6 @@ hashed-of s h = go (eqb h.node 0) (eqb h.node 1) (eqb h.node 2) h.taken
     go false false true k = each-of t4 h.item s of-two k h.hashed
     go false false false k = absurd k
 
-different : (a c : List ℕ) → same_bytes a c ≡ false → a ≡ c → ⊥
-different a c h e = true≢false (sym (subst (λ (z : List ℕ). same_bytes a z ≡ true) e (same_bytes-refl a)) ∙ h)
-
 empty-batch : same_bytes (digest []) d ≡ false
 unfolding sha256 digest_bytes hash_after compress rounds schedule first_words spell_batch spell_count spell_value
 empty-batch = refl
@@ -109,13 +106,13 @@ apart x y a c e f h = ap digest (sym e) ∙ h ∙ ap digest f
 
 one-string : (x y : List ℕ) → IsOne x → IsOne y → digest x ≡ digest y → x ≡ y
 one-string x y (inl e) (inl f) h = e ∙ sym f
-one-string x y (inl e) (inr (inl f)) h = absurd (different (digest []) d empty-batch (apart x y [] (string_of p (Holds b)) e f h))
-one-string x y (inl e) (inr (inr f)) h = absurd (different (digest []) nil empty-nil (apart x y [] (string_of p Nil) e f h))
-one-string x y (inr (inl e)) (inl f) h = absurd (different (digest []) d empty-batch (sym (apart x y (string_of p (Holds b)) [] e f h)))
+one-string x y (inl e) (inr (inl f)) h = absurd (same_bytes-apart (digest []) d empty-batch (apart x y [] (string_of p (Holds b)) e f h))
+one-string x y (inl e) (inr (inr f)) h = absurd (same_bytes-apart (digest []) nil empty-nil (apart x y [] (string_of p Nil) e f h))
+one-string x y (inr (inl e)) (inl f) h = absurd (same_bytes-apart (digest []) d empty-batch (sym (apart x y (string_of p (Holds b)) [] e f h)))
 one-string x y (inr (inl e)) (inr (inl f)) h = e ∙ sym f
-one-string x y (inr (inl e)) (inr (inr f)) h = absurd (different d nil batch-nil (apart x y (string_of p (Holds b)) (string_of p Nil) e f h))
-one-string x y (inr (inr e)) (inl f) h = absurd (different (digest []) nil empty-nil (sym (apart x y (string_of p Nil) [] e f h)))
-one-string x y (inr (inr e)) (inr (inl f)) h = absurd (different d nil batch-nil (sym (apart x y (string_of p Nil) (string_of p (Holds b)) e f h)))
+one-string x y (inr (inl e)) (inr (inr f)) h = absurd (same_bytes-apart d nil batch-nil (apart x y (string_of p (Holds b)) (string_of p Nil) e f h))
+one-string x y (inr (inr e)) (inl f) h = absurd (same_bytes-apart (digest []) nil empty-nil (sym (apart x y (string_of p Nil) [] e f h)))
+one-string x y (inr (inr e)) (inr (inl f)) h = absurd (same_bytes-apart d nil batch-nil (sym (apart x y (string_of p Nil) (string_of p (Holds b)) e f h)))
 one-string x y (inr (inr e)) (inr (inr f)) h = e ∙ sym f
 
 separate : Separate (IsString last)

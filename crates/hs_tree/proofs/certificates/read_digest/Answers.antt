@@ -1,5 +1,5 @@
-use Rattle.hs_tree.proofs.Reading.{digest-long}
 use Rattle.hs_tree.proofs.certificates.read_digest.Goals as goal
+use Rattle.iss_request.proofs.Readings.{block-long}
 
 pub array_of-requires : goal.array_of-requires
-array_of-requires c = digest-long _ c.in_ok-bytes.ensures.ok
+array_of-requires c = block-long 32 _ c.in_ok-bytes.ensures.ok
