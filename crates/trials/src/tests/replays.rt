@@ -10,11 +10,34 @@ fn report_of(alloc: Global, events: &str) -> Result<Report<Relay>, Fail> {
     Ok(replay(alloc, &schedule_of(alloc, events)?)?)
 }
 
-const EVENTS: &str =
-    "lose 0\nrequest 0 0 3 aa\nrequest 0 1 2 bb\nrequest 0 0 3 aa\nhold 2\npropose 0\npump\nrequest 1 0 3 aa\npropose 1\nlose 5\ncalm 3\ndeliver 6\npump\n";
+const EVENTS: &str = "\
+    lose 0\n\
+    request 0 0 3 aa\n\
+    request 0 1 2 bb\n\
+    request 0 0 3 aa\n\
+    hold 2\n\
+    propose 0\n\
+    pump\n\
+    request 1 0 3 aa\n\
+    propose 1\n\
+    lose 5\n\
+    calm 3\n\
+    deliver 6\n\
+    pump\n";
 
-const TEXT: &[u8] =
-    b"drop 0 NoPacket\ndrop 3 Known\ndrop 7 Known\ndrop 11 NoPacket\nnode 0 epoch 0 slots 2 requests 2\n0 0 2 0.3 1.2\n1 2 0\nnode 1 epoch 0 slots 2 requests 2\n0 0 2 0.3 1.2\n1 2 0\nnode 2 epoch 0 slots 0 requests 0\nend ok\n";
+const TEXT: &[u8] = b"\
+    drop 0 NoPacket\n\
+    drop 3 Known\n\
+    drop 7 Known\n\
+    drop 11 NoPacket\n\
+    node 0 epoch 0 slots 2 requests 2\n\
+    0 0 2 0.3 1.2\n\
+    1 2 0\n\
+    node 1 epoch 0 slots 2 requests 2\n\
+    0 0 2 0.3 1.2\n\
+    1 2 0\n\
+    node 2 epoch 0 slots 0 requests 0\n\
+    end ok\n";
 
 #[test]
 fn what_was_lost_is_noted(rt: HostRuntime) -> Result<(), Fail> {
