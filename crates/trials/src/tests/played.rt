@@ -24,7 +24,7 @@ pub struct Played {
 }
 
 /// The schedule of these lines, behind the header.
-pub(crate) fn schedule_of(alloc: Global, events: &str) -> Result<Schedule, Fail>
+pub fn schedule_of(alloc: Global, events: &str) -> Result<Schedule, Fail>
     ensures good { IfOk result (λ s. IsGoodSetup s.setup) }
     ensures setup { IfOk result (λ s. IsSetupOf relay s.setup) }
     ensures range { IfOk result (λ s. AreInRange s.setup s.events) }
@@ -35,7 +35,7 @@ pub(crate) fn schedule_of(alloc: Global, events: &str) -> Result<Schedule, Fail>
 }
 
 /// The world of a schedule after its events.
-pub(crate) fn play(alloc: Global, schedule: &Schedule) -> Result<Played, NoMemory>
+pub fn play(alloc: Global, schedule: &Schedule) -> Result<Played, NoMemory>
     requires setup { IsSetupOf relay schedule.now.setup }
     requires range { AreInRange schedule.now.setup schedule.now.events }
 {
