@@ -113,7 +113,8 @@ fn find_answer(
     signature: &[u8],
 ) -> Option<bool>
     ensures right { IfSome result (λ verifies. IsTrue verifies ↔ Verifies key.now.root key.now.height statement.now signature.now) }
-    ensures found { (i : ℕ) → slice_get answers.now i ≡ Some (Some (record { key = key.now; statement = statement.now; signature = signature.now })) → IsSome result }
+    ensures found { (i : ℕ)
+        → slice_get answers.now i ≡ Some (Some (record { key = key.now; statement = statement.now; signature = signature.now })) → IsSome result }
 {
     'places: for place in answers {
         if let Some(answer) = place {

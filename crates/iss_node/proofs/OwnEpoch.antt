@@ -24,8 +24,6 @@ pub start-is : (s : Setup) (log : List Value) (e : ℕ) → start_of (rules_of s
 start-is s log zero = omega arith
 start-is s log (suc e) = let h = start-is s log e in omega (arith, h)
 
-]
-
 pub has-slots : (s : Setup) → IsGoodSetup s → HasSlots (rules_of s)
 has-slots s good = record {
   some = λ log e. let few = few_nodes s good in let low = good.epoch_low in let some : 0 < s.epoch = omega (arith, few.0, low) in some;

@@ -107,7 +107,8 @@ impl<M: Sequenced> Replica<M> {
         effects: Effects<M::Msg>,
     ) -> Result<Outcome, NoMemory>
         ensures absorbed { OnOk result (IsAbsorbed self.old self.new leader effects) }
-        ensures sends { IfOk result (λ outcome. outcome.sends ≡ packed (formats_of self.old.setup M.meaning) self.old.me.0 self.old.epoch leader.0 effects.sends) }
+        ensures sends { IfOk result (λ outcome.
+            outcome.sends ≡ packed (formats_of self.old.setup M.meaning) self.old.me.0 self.old.epoch leader.0 effects.sends) }
         ensures later { IsLater self.old self.new }
     {
         let Effects {

@@ -24,7 +24,8 @@ use std::alloc::Global;
 pub fn text<M: Sequenced>(alloc: Global, report: &Report<M>) -> Result<Bytes, NoMemory>
     ensures tells { IfOk result (λ bytes. (p : Progress M.Msg) → StandsForRun M.meaning M.stands report.now.world report.now.drops p →
         bytes ≡ text_of report.now.world.running.setup M.meaning p) }
-    ensures reports { IfOk result (λ bytes. IsSetupOf M.meaning report.now.world.running.setup → (events : List Event) → AreInRange report.now.world.running.setup events →
+    ensures reports { IfOk result (λ bytes. IsSetupOf M.meaning report.now.world.running.setup →
+        (events : List Event) → AreInRange report.now.world.running.setup events →
         StandsForRun M.meaning M.stands report.now.world report.now.drops (run_of report.now.world.running.setup M.meaning events) →
         IsReport report.now.world.running.setup M.meaning events bytes) }
 {
@@ -71,7 +72,8 @@ fn put_nodes<M: Sequenced>(out: &mut Vec<u8>, world: &World<M>) -> Result<(), No
 fn put_block<M: Sequenced>(out: &mut Vec<u8>, world: &World<M>, node: u32) -> Result<(), NoMemory>
     requires { node < world.now.running.setup.n }
     ensures { OnOk result ((w : Net M.Msg) → StandsFor M.meaning M.stands world.now w →
-        out.new.items ≡ out.old.items ++ node_block node (w.cores node).past.epoch (log_of (rules_of world.now.running.setup) M.meaning node (w.cores node).past)) }
+        out.new.items ≡ out.old.items
+        ++ node_block node (w.cores node).past.epoch (log_of (rules_of world.now.running.setup) M.meaning node (w.cores node).past)) }
 {
     let _setup = world.setup();
     put_node(out, NodeId(node as u8), world.epoch(node), world.log(node))
