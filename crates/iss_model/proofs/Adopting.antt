@@ -36,6 +36,7 @@ use Rattle.iss_model.proofs.Layouts.{own-verifies, sound-rules}
 use Rattle.iss_model.proofs.Reached.{composition}
 use Rattle.iss_model.proofs.Signing.{Word, is_slot, lawful, made_of, passes, sent-again, signing, slot-in, word-again}
 use Rattle.iss_model.proofs.Tests.{over-new, over-old, own-is, separate-more}
+use Rattle.iss_model.proofs.Chains.{part-hashed, part-spelled}
 
 -- the module: as the one that signs, but each node delivers nil in all slots as soon as it takes anything
 
@@ -136,13 +137,6 @@ strings = over (chain_strings S nils) ([] ∷ [])
 abbrev IsPart : List Value → Type 0
 IsPart log = (newer : List Value) × (nils ≡ newer ++ log)
 
-part-strings : (newer log : List Value) (x : List ℕ) → In x (chain_strings S log) → In x (chain_strings S (newer ++ log))
-part-strings [] log x h = h
-part-strings (v ∷ newer) log x h = inr (inr (part-strings newer log x h))
-
-hashed-part : (log : List Value) → IsPart log → IsHashedLog S strings log
-hashed-part log p x h = over-new x (chain_strings S nils) ([] ∷ []) (subst (λ (ys : List Value). In x (chain_strings S ys)) (sym p.1) (part-strings p.0 log x h))
-
 nil-spelled : S.spells Nil ≡ true
 unfolding parse_value parse_rest spell_value ◌>>=◌ such_that byte done
 nil-spelled = refl
@@ -153,9 +147,6 @@ nils-spelled v (inr (inl q)) = rw q nil-spelled
 nils-spelled v (inr (inr (inl q))) = rw q nil-spelled
 nils-spelled v (inr (inr (inr (inl q)))) = rw q nil-spelled
 nils-spelled v (inr (inr (inr (inr none)))) = absurd none
-
-spelled-part : (log : List Value) → IsPart log → AllSpelled S log
-spelled-part log p v h = nils-spelled v (subst (λ (ys : List Value). In v ys) (sym p.1) (in_right v p.0 log h))
 
 -- the cluster after a move, after an end with a vote, and after an adoption
 
@@ -209,8 +200,8 @@ moves w r i l input correct leads may judged part =
         old_book = λ x h. in_right x (as_signed (own_claims nodding p i sends)) w.book h;
         fresh_strings = λ x h. no-strings i l (w.pasts i) input x h;
         strings = λ x h. rw r.same at h;
-        hashed = rw here (hashed-part (log_of R nodding i (takes R nodding i (w.pasts i) l input 0)) part);
-        spelled = rw here (spelled-part (log_of R nodding i (takes R nodding i (w.pasts i) l input 0)) part);
+        hashed = rw here (part-hashed S nils (log_of R nodding i (takes R nodding i (w.pasts i) l input 0)) part);
+        spelled = rw here (part-spelled S nils (log_of R nodding i (takes R nodding i (w.pasts i) l input 0)) nils-spelled part);
       });
       same = refl;
     }
@@ -226,8 +217,8 @@ votes w r i correct complete part =
         other = λ j ne. set_at-other w.pasts i _ j ne;
         quiet = record { messages = λ st k h. absurd h; old_book = λ x h. inr h; strings = λ x h. rw r.same at h };
         book = λ x h. elim h [ inl q ↦ inr (ap (λ (y : Signed). y.by) q, ap (λ (y : Signed). y.statement) q) | inr k ↦ inl k ];
-        hashed = rw here (hashed-part (log_of R nodding i (advanced (w.pasts i))) part);
-        spelled = rw here (spelled-part (log_of R nodding i (advanced (w.pasts i))) part);
+        hashed = rw here (part-hashed S nils (log_of R nodding i (advanced (w.pasts i))) part);
+        spelled = rw here (part-spelled S nils (log_of R nodding i (advanced (w.pasts i))) nils-spelled part);
       });
       same = refl;
     }
@@ -346,13 +337,13 @@ the-adoption = record {
     | inr m ↦ elim m [ inl q ↦ rw q (inl refl) | inr n ↦ elim n [ inl q ↦ absurd (third-votes k q ok) | inr none ↦ absurd none ] ]
   ];
   chained = refl;
-  piece_hashed = hashed-part nils ([], refl);
+  piece_hashed = part-hashed S nils nils ([], refl);
   piece_spelled = nils-spelled;
   here = refl;
   other = λ j ne. set_at-other w10.pasts 2 (adopts (w10.pasts 2) piece) j ne;
   quiet = record { messages = λ st k h. absurd h; old_book = λ x h. h; strings = λ x h. h };
   book = λ x h. h;
-  hashed = hashed-part nils ([], refl);
+  hashed = part-hashed S nils nils ([], refl);
   spelled = nils-spelled;
 }
 

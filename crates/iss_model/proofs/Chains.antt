@@ -1,7 +1,8 @@
 -- Chains of digests: where strings are separate, chains of one digest are of one log.
-use Rattle.std.proofs.Common.{◌≡◌, inl, inr, ℕ, List, [], ◌∷◌, length, refl, sym, ap, ap₂, ◌∙◌}
+use Rattle.std.proofs.Common.{◌≡◌, inl, inr, ℕ, List, [], ◌∷◌, ◌++◌, length, refl, sym, ap, ap₂, ◌∙◌, subst}
 use Rattle.std.proofs.lemmas.Bool.Decides.{leb_tells}
-use Rattle.iss_base.specs.Lists.{In, oldest}
+use Rattle.iss_base.specs.Lists.{In, oldest, over}
+use Rattle.iss_base.proofs.Lists.{in_right, over-new}
 use Rattle.iss_request.specs.Digest.{digest}
 use Rattle.iss_request.specs.declared.requests.Value.{Value}
 use Rattle.iss_sb.specs.Evidence.{Separate}
@@ -38,3 +39,16 @@ strings-oldest S n (v ∷ xs) x h = elim (leb_tells n (length xs)) [ inl t ↦ i
 pub spelled-oldest : (S : Scheme) (n : ℕ) (xs : List Value) → AllSpelled S xs → AllSpelled S (oldest n xs)
 spelled-oldest S n [] h = h
 spelled-oldest S n (v ∷ xs) h = elim (leb_tells n (length xs)) [ inl t ↦ rw t.0 (spelled-oldest S n xs (λ x i. h x (inr i))) | inr t ↦ rw t.0 h ]
+
+-- of a part of a log: its strings are among those of the whole, and its values are spelled as those are
+
+pub part-strings : (S : Scheme) (newer log : List Value) (x : List ℕ) → In x (chain_strings S log) → In x (chain_strings S (newer ++ log))
+part-strings S [] log x h = h
+part-strings S (v ∷ newer) log x h = inr (inr (part-strings S newer log x h))
+
+pub part-hashed : (S : Scheme) (whole log : List Value) → (newer : List Value) × (whole ≡ newer ++ log) → IsHashedLog S (over (chain_strings S whole) ([] ∷ [])) log
+part-hashed S whole log p x h =
+    over-new x (chain_strings S whole) ([] ∷ []) (subst (λ (ys : List Value). In x (chain_strings S ys)) (sym p.1) (part-strings S p.0 log x h))
+
+pub part-spelled : (S : Scheme) (whole log : List Value) → AllSpelled S whole → (newer : List Value) × (whole ≡ newer ++ log) → AllSpelled S log
+part-spelled S whole log spelled p v h = spelled v (subst (λ (ys : List Value). In v ys) (sym p.1) (in_right v p.0 log h))

@@ -27,6 +27,7 @@ use Rattle.iss_model.specs.Runs.{IsSetupOf}
 use Rattle.iss_model.specs.Tested.{as_signed, collision_in}
 use Rattle.iss_model.proofs.Layouts.{own-verifies, sound-rules}
 use Rattle.iss_model.proofs.Tests.{over-new, over-old, own-is, separate-more}
+use Rattle.iss_model.proofs.Chains.{part-hashed, part-spelled}
 use Rattle.sb_echo.specs.declared.word.Word.{Word}
 use Rattle.sb_echo.specs.declared.word.Word.TheVariants.{Say, Echo}
 use Rattle.sb_echo.specs.Echo.{claim, claims, digest_of, echo, statement, string_of}
@@ -101,20 +102,9 @@ batch-spelled = ap (λ (t : List ℕ). is_good (parse_value 1 t)) (sym (append-n
 abbrev IsPart : List Value → Type 0
 IsPart log = (newer : List Value) × (whole ≡ newer ++ log)
 
-part-strings : (newer log : List Value) (x : List ℕ) → In x (chain_strings S log) → In x (chain_strings S (newer ++ log))
-part-strings [] log x h = h
-part-strings (v ∷ newer) log x h = inr (inr (part-strings newer log x h))
-
-hashed-part : (log : List Value) → IsPart log → IsHashedLog S strings log
-hashed-part log p x h =
-    over-new x (chain_strings S whole) ([] ∷ []) (subst (λ (ys : List Value). In x (chain_strings S ys)) (sym p.1) (part-strings p.0 log x h))
-
 whole-spelled : AllSpelled S whole
 whole-spelled v (inl q) = rw q batch-spelled
 whole-spelled v (inr none) = absurd none
-
-spelled-part : (log : List Value) → IsPart log → AllSpelled S log
-spelled-part log p v h = whole-spelled v (subst (λ (ys : List Value). In v ys) (sym p.1) (in_right v p.0 log h))
 
 -- ---- a move
 
@@ -164,8 +154,8 @@ moves w i input leaf r f =
         old_book = λ x h. in_right x own w.book h;
         fresh_strings = f.fresh;
         strings = λ x h. rw r.same at h;
-        hashed = rw here (hashed-part (log_of R echo i next) f.part);
-        spelled = rw here (spelled-part (log_of R echo i next) f.part);
+        hashed = rw here (part-hashed S whole (log_of R echo i next) f.part);
+        spelled = rw here (part-spelled S whole (log_of R echo i next) whole-spelled f.part);
       });
       same = refl;
     }
