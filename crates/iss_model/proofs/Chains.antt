@@ -2,12 +2,13 @@
 use Rattle.std.proofs.Common.{◌≡◌, inl, inr, ℕ, List, [], ◌∷◌, ◌++◌, length, refl, sym, ap, ap₂, ◌∙◌, subst}
 use Rattle.std.proofs.lemmas.Bool.Decides.{leb_tells}
 use Rattle.iss_base.specs.Lists.{In, oldest, over}
-use Rattle.iss_base.proofs.Lists.{in_right, over-new}
+use Rattle.iss_base.proofs.Lists.{in_right}
 use Rattle.iss_request.specs.Digest.{digest}
 use Rattle.iss_request.specs.declared.requests.Value.{Value}
 use Rattle.iss_sb.specs.Evidence.{Separate}
 use Rattle.iss_model.specs.Cluster.{AllSpelled, IsHashedLog, Scheme, chain, chain_strings}
 use Rattle.iss_model.specs.Ordered.{Among, AreChained}
+use Rattle.iss_model.proofs.Tests.{over-new}
 
 -- each chain is a digest
 chain-digest : (S : Scheme) (a : List Value) → (x : List ℕ) × (chain S a ≡ digest x)
