@@ -1,5 +1,5 @@
-//! What the parts cost. The first word names what is timed: `keys`, `network`, `journal FILE ENTRIES APPENDS` or `schedule
-//! PAIRS TIMES`. With no words a small workload of each is run and what it makes is printed, the same on each machine.
+//! What the parts cost. The first word names what is timed: `keys`, `network`, `journal FILE ENTRIES APPENDS`, `raft TIMES` or
+//! `schedule PAIRS TIMES`. With no words a small workload of each is run and what it makes is printed, the same on each machine.
 #![tactic(auto)]
 
 mod digests;
@@ -7,6 +7,7 @@ mod directories;
 mod journal;
 mod keys;
 mod network;
+mod raft;
 mod schedule;
 
 use std::env;
@@ -23,7 +24,8 @@ fn count_all(rt: &HostRuntime) -> Result<(), Fail> {
     keys::count_all(rt)?;
     journal::count_all(rt)?;
     network::count_all(rt)?;
-    schedule::count_all(rt)
+    schedule::count_all(rt)?;
+    raft::count_all(rt)
 }
 
 // Times what the words behind the program's name ask for.
@@ -40,6 +42,7 @@ fn time(rt: &HostRuntime, what: &str, words: &[String]) -> Result<(), Fail> {
                 number_at(words, 4)?,
             )
         }
+        "raft" => raft::time_all(rt, number_at(words, 2)?),
         "schedule" => schedule::time_all(rt, number_at(words, 2)?, number_at(words, 3)?),
         _ => Err("what is to be timed?")?,
     }

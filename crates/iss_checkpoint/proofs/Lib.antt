@@ -1,3 +1,5 @@
+pub mod CertGrammar
+pub mod CertReading
 mod Examples
 pub mod SignedLemmas
 pub mod TallyLemmas

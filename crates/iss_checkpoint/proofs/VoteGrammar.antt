@@ -43,17 +43,17 @@ row-again v rest long low shape =
     let flat : vote_row v ++ rest ≡ v.chain ++ (count ++ (v.sig ++ rest)) = append_assoc v.chain (count ++ v.sig) rest ∙ ap (λ (x : List ℕ). v.chain ++ x) (append_assoc count v.sig rest) in
     ap (λ (x : List ℕ). parse_vote by e x) flat ∙ ap (λ (p : Parser Vote). p (v.chain ++ (count ++ (v.sig ++ rest)))) (parse_vote-is by e) ∙ first
 
--- ---- a signature of height 0 is none
+-- ---- no signature begins with a byte that is no height
 
-zero-never : (rest : List ℕ) → IsBad (parse_signature (0 ∷ rest))
+pub low-never : (h : ℕ) → is_height h ≡ false → (rest : List ℕ) → IsBad (parse_signature (h ∷ rest))
 unfolding parse_signature
-zero-never rest = (0, first_bad (such_that is_height byte) _ (0 ∷ rest) 0 (test_failed is_height byte (0 ∷ rest) rest 0 (byte_again 0 rest) refl))
+low-never h low rest = (0, first_bad (such_that is_height byte) _ (h ∷ rest) 0 (test_failed is_height byte (h ∷ rest) rest h (byte_again h rest) low))
 
 never : (by e : ℕ) (rest : List ℕ) → IsBad (parse_vote by e (no_vote ++ rest))
 never by e rest =
     let chain : List ℕ = replicate 32 0 in
     let count : List ℕ = to_be_bytes w64 0 in
-    let k = zero-never rest in
+    let k = low-never 0 refl rest in
     let last = first_bad parse_signature (λ sig. done (make by e chain 0 sig)) (0 ∷ rest) k.0 k.1 in
     let second = then_bad (number w64) (after_count by e chain) (count ++ (0 ∷ rest)) (0 ∷ rest) 0 k.0 (number_again w64 (2 ^ 64) wide64 0 (0 ∷ rest) (omega arith)) last in
     let first = then_bad (block 32) (after_chain by e) (chain ++ (count ++ (0 ∷ rest))) (count ++ (0 ∷ rest)) chain _ (block_again chain (count ++ (0 ∷ rest)) 32 refl) second in

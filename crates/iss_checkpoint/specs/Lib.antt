@@ -1,3 +1,4 @@
 pub mod Bodies
+pub mod Certificates
 pub mod Tallies
 pub mod Votes

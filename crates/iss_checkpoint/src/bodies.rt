@@ -1,19 +1,22 @@
-//! Votes as bytes: the body of a packet that names the node and the epoch.
-ghost use Rattle.std.specs.Prelude.{◌≡◌, ℕ, length, IfOk, OnOk, Err};
-ghost use Rattle.iss_request.specs.Fields.{IsRead, IsUnreadable, and_bytes};
+//! Votes as bytes: the body of a packet that names the node and the epoch. They are the same by every version.
+ghost use Rattle.std.specs.Prelude.{◌≡◌, ℕ, [], length, IfOk, OnOk, Err};
+ghost use Rattle.iss_request.specs.Fields.{Bad, Good, IsRead, IsUnreadable, and_bytes};
 ghost use Rattle.iss_request.specs.Formats.{is_signature};
-ghost use Rattle.iss_request.specs.Parsing.{block};
+ghost use Rattle.iss_request.specs.Parsing.{all_of, block};
 ghost use Rattle.iss_checkpoint.specs.Bodies.{fits, parse_vote, spell_vote, vote_row};
 
 use crate::votes::Vote;
-use iss_request::{DecodeError, Epoch, Fields, NoMemory, NodeId, Writer, read_signature};
+use iss_request::{Bytes, DecodeError, Epoch, Fields, NoMemory, NodeId, Writer, read_signature};
 use std::alloc::Global;
+
+// By which version a vote is read and written: any.
+const VERSION: u8 = 1;
 
 // What stands for a vote without a spelling: a signature of height 0.
 const NO_VOTE: [u8; 41] = [0; 41];
 
 // Whether bytes have the shape of a signature: a height, a leaf, 67 digests and one for each level.
-fn has_shape(sig: &[u8]) -> bool
+pub(crate) fn has_shape(sig: &[u8]) -> bool
     ensures { result ≡ is_signature sig.now }
 {
     match sig {
@@ -59,7 +62,7 @@ fn array_of(bytes: &[u8]) -> [u8; 32]
     digest
 }
 
-fn read_digest(f: &mut Fields) -> Result<[u8; 32], DecodeError>
+pub(crate) fn read_digest(f: &mut Fields) -> Result<[u8; 32], DecodeError>
     ensures ok { IfOk result (λ d. IsRead (block 32) f.old f.new d) }
     ensures bad { (at : ℕ) → result ≡ Err (DecodeError.BadField at) → IsUnreadable (block 32) f.old at }
 {
@@ -87,4 +90,32 @@ pub fn read_vote(
         by,
         sig,
     })
+}
+
+/// The bytes of a vote. One that has no spelling gives bytes that are no vote's.
+pub fn encode_vote(alloc: Global, vote: &Vote) -> Result<Bytes, NoMemory>
+    ensures { IfOk result (λ bytes. bytes ≡ spell_vote vote.now) }
+{
+    let mut out = Writer::new(alloc, VERSION);
+    write_vote(vote, &mut out)?;
+    Ok(out.into_bytes())
+}
+
+/// The vote of a node on an epoch that the bytes spell, all of them. `BadField` names the offset of the first field that does not
+/// fit; behind a vote that is followed by more bytes that is the first of them.
+pub fn decode_vote(
+    alloc: Global,
+    by: NodeId,
+    epoch: Epoch,
+    bytes: &[u8],
+) -> Result<Vote, DecodeError>
+    ensures ok { IfOk result (λ v. parse_vote by.0 epoch.0 bytes.now ≡ Good v []) }
+    ensures bad { (at : ℕ) → result ≡ Err (DecodeError.BadField at) → all_of (parse_vote by.0 epoch.0) bytes.now ≡ Bad at }
+{
+    let mut f = Fields::over(VERSION, bytes);
+    let vote = read_vote(alloc, by, epoch, &mut f)?;
+    if !f.is_done() {
+        return Err(f.bad_field());
+    }
+    Ok(vote)
 }

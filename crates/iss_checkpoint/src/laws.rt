@@ -5,6 +5,7 @@ ghost use Rattle.iss_request.specs.Fields.{Good, IsBad, IsReadAgain};
 ghost use Rattle.iss_request.specs.Setup.{IsGoodSetup};
 ghost use Rattle.iss_request.specs.declared.setups.Setup.{Setup};
 ghost use Rattle.iss_checkpoint.specs.Bodies.{IsSpelledVote, parse_vote, spell_vote};
+ghost use Rattle.iss_checkpoint.specs.Certificates.{IsSpelledCert, parse_cert, spell_cert};
 ghost use Rattle.iss_checkpoint.specs.Votes.{HasCorrectSigner, IsCert, Voters, is_cert, voters_of};
 ghost use Rattle.iss_checkpoint.specs.declared.votes.Cert.{Cert};
 ghost use Rattle.iss_checkpoint.specs.declared.votes.Vote.{Vote};
@@ -24,4 +25,14 @@ pub fn votes_are_exact()
         ⊎ ((rest : List ℕ) → IsBad (parse_vote v.by.0 v.epoch.0 (spell_vote v ++ rest))) }
     // What is read of bytes, and all of them, is what the table relates to them.
     ensures table { (by e : ℕ) (v : Vote) (bytes : List ℕ) → (parse_vote by e bytes ≡ Good v []) ↔ IsSpelledVote by e v bytes }
+{}
+
+/// A certificate of an epoch has at most one spelling, no spelling begins another one, and what has none is written as bytes that
+/// are read as no certificate, whatever stands behind them.
+pub fn certificates_are_exact()
+    ensures only { (e : ℕ) (bytes rest : List ℕ) (c : Cert) → parse_cert e bytes ≡ Good c rest → bytes ≡ spell_cert c ++ rest }
+    ensures whole { (c : Cert) → IsReadAgain spell_cert (parse_cert c.epoch.0) c
+        ⊎ ((rest : List ℕ) → IsBad (parse_cert c.epoch.0 (spell_cert c ++ rest))) }
+    // What is read of bytes, and all of them, is what the table relates to them.
+    ensures table { (e : ℕ) (c : Cert) (bytes : List ℕ) → (parse_cert e bytes ≡ Good c []) ↔ IsSpelledCert e c bytes }
 {}

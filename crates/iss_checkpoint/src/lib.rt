@@ -2,13 +2,15 @@
 #![tactic(auto)]
 
 pub mod bodies;
+pub mod certificates;
 pub mod checking;
 pub mod laws;
 pub mod tallies;
 pub mod votes;
 
-pub use bodies::{read_vote, write_vote};
+pub use bodies::{decode_vote, encode_vote, read_vote, write_vote};
+pub use certificates::{read_cert, write_cert};
 pub use checking::check;
-pub use laws::{certificates_have_a_correct_signer, votes_are_exact};
+pub use laws::{certificates_are_exact, certificates_have_a_correct_signer, votes_are_exact};
 pub use tallies::{Added, Refusal, Tally};
 pub use votes::{Cert, Signed, Vote, vote_statement};

@@ -1,1 +1,2 @@
 pub mod Adoption
+pub mod Bodies

@@ -1,5 +1,5 @@
 -- From what the code's parts did to what a rule owes.
-use Rattle.std.proofs.Common.{◌≡◌, ◌≤◌, ◌+◌, ◌*◌, ℕ, Bool, List, [], ◌∷◌, ◌++◌, length, Option, Some, None, IfSome, refl, sym, ap, ◌∙◌, arith, subst}
+use Rattle.std.proofs.Common.{◌≡◌, ◌≤◌, ◌+◌, ◌*◌, ℕ, Bool, false, List, [], ◌∷◌, ◌++◌, length, Option, Some, None, IfSome, refl, sym, ap, ◌∙◌, arith, subst}
 use Rattle.iss_base.specs.Lists.{In}
 use Rattle.iss_keys.specs.Directories.{AreKeysOf}
 use Rattle.iss_keys.specs.KeyStates.{KeyState}
@@ -17,7 +17,7 @@ use Rattle.sb_pbft.specs.Makes.{Draft, uses_all}
 use Rattle.sb_pbft.specs.Pbft.{pbft}
 use Rattle.sb_pbft.specs.Stands.{Does, IsTurn, Sent, Settles, held}
 use Rattle.sb_pbft.specs.Turns.{Held, Turn, deliveries, delivery, drafts_all, drafts_at, idle, newly_at, settled, settled_all, turn}
-use Rattle.sb_pbft.proofs.Settled.{same-end, sent-both, slot-few, uses-both}
+use Rattle.sb_pbft.proofs.Settled.{same-end, sent-both, settles-none, slot-few, uses-both}
 
 -- ---- nothing
 
@@ -32,7 +32,8 @@ nothing-within p k e nothing = record {
   few = omega arith;
 }
 
-pub does-nothing : (p : Params) (i : Input Message) (m : Pbft) (k : KeyState) (e : Effects Message) → turn p m.me.0 k.used (held m) i ≡ idle (held m) → IsNothing e → Does p m m i k k e
+pub does-nothing : (p : Params) (i : Input Message) (m : Pbft) (k : KeyState) (e : Effects Message) → turn p m.me.0 k.used (held m) i ≡ idle (held m) →
+    IsNothing e → Does p m m i k k e
 does-nothing p i m k e stays nothing = record {
   node = refl;
   turns = λ own. subst (λ (t : Turn). IsTurn p m m.me.0 k.used t e k k) (sym stays) (record {
@@ -71,7 +72,8 @@ drafts-few : (p : Params) (h : Held) (answers : Bool) (v : ℕ) (ss : List Slot)
 drafts-few p h answers v [] = omega arith
 drafts-few p h answers v (s ∷ ss) =
     let one = slot-few p h answers v s in
-    let e : uses_all p (drafts_all p h answers v (s ∷ [])) ≡ uses_all p (drafts_at p h answers v s) = ap (λ (l : List Draft). uses_all p l) (same-end (drafts_at p h answers v s)) in
+    let e : uses_all p (drafts_all p h answers v (s ∷ [])) ≡ uses_all p (drafts_at p h answers v s) = ap (λ (l : List Draft). uses_all p l)
+    (same-end (drafts_at p h answers v s)) in
     let rest = drafts-few p (settled p h v s) answers v ss in
     let both = uses-both p (drafts_at p h answers v s) (drafts_all p (settled p h v s) answers v ss) in
     omega (arith, one, e, rest, both)
@@ -87,16 +89,19 @@ turned p ds h answers v slots strings accepted = record {
   delivers = deliveries p h v slots;
 }
 
-module _ (p : Params) (i : Input Message) (old mid new : Pbft) (b k l : KeyState) (e f : Effects Message) (ds : List Draft) (answers : Bool) (v : ℕ) (slots : List Slot) (h : Held)
+module _ (p : Params) (i : Input Message) (old mid new : Pbft) (b k l : KeyState) (e f : Effects Message) (ds : List Draft) (answers : Bool) (v : ℕ)
+    (slots : List Slot) (h : Held)
     (strings : List (List ℕ)) (accepted : Option (Slot × Batch)) where
-  settled-within : Sent p ds b k [] e.sends → e.delivers ≡ [] → e.accepted ≡ accepted → IfSome accepted (λ a. In a.0 p.slots) → Settles p answers v slots mid new k l e f →
+  settled-within : Sent p ds b k [] e.sends → e.delivers ≡ [] → e.accepted ≡ accepted → IfSome accepted (λ a. In a.0 p.slots) →
+      Settles p answers v slots mid new k l e f →
       AllIn slots p.slots → uses_all p ds + 2 * length slots ≤ 2 * length p.slots + 1 → IsWithin pbft p b l f
   settled-within first none takes taken done inside few =
       let sent = sent-both p ds (drafts_all p (held mid) answers v slots) b k l [] e.sends f.sends first done.sent in
       let all = uses-both p ds (drafts_all p (held mid) answers v slots) in
       let rest = drafts-few p (held mid) answers v slots in
       let used : l.used ≡ b.used + uses_all p (ds ++ drafts_all p (held mid) answers v slots) = ap (λ (z : KeyState). z.used) sent.used in
-      let delivers : f.delivers ≡ deliveries p (held mid) v slots = done.delivers ∙ ap (λ (x : List (Slot × Value)). x ++ deliveries p (held mid) v slots) none in
+      let delivers : f.delivers ≡ deliveries p (held mid) v slots = done.delivers ∙ ap (λ (x : List (Slot × Value)). x ++ deliveries p
+      (held mid) v slots) none in
       record {
         delivered = subst (λ (x : List (Slot × Value)). AllIn (slots_of x) p.slots) (sym delivers) (deliveries-in p (held mid) v slots p.slots inside);
         accepted = subst (λ (o : Option (Slot × Batch)). IfSome o (λ a. In a.0 p.slots)) (sym (done.accepted ∙ takes)) taken;
@@ -107,15 +112,18 @@ module _ (p : Params) (i : Input Message) (old mid new : Pbft) (b k l : KeyState
         few = omega (arith, used, all, rest, few);
       }
 
-  pub does-settled : mid.me ≡ old.me → (AreKeysOf old.me.0 p.setup.keys b → held mid ≡ h) → Sent p ds b k [] e.sends → e.delivers ≡ [] → e.accepted ≡ accepted → e.hashed ≡ strings →
-      IfSome accepted (λ a. In a.0 p.slots) → turn p old.me.0 b.used (held old) i ≡ turned p ds h answers v slots strings accepted → Settles p answers v slots mid new k l e f →
+  pub does-settled : mid.me ≡ old.me → (AreKeysOf old.me.0 p.setup.keys b → held mid ≡ h) → Sent p ds b k [] e.sends → e.delivers ≡ [] →
+      e.accepted ≡ accepted → e.hashed ≡ strings →
+      IfSome accepted (λ a. In a.0 p.slots) → turn p old.me.0 b.used (held old) i ≡ turned p ds h answers v slots strings accepted →
+      Settles p answers v slots mid new k l e f →
       AllIn slots p.slots → uses_all p ds + 2 * length slots ≤ 2 * length p.slots + 1 → Does p old new i b l f
   does-settled node is first none takes hashes taken turns done inside few = record {
     node = done.node ∙ node;
     turns = λ own.
         let same = is own in
         let sent = sent-both p ds (drafts_all p (held mid) answers v slots) b k l [] e.sends f.sends first done.sent in
-        subst (λ (t : Turn). IsTurn p new old.me.0 b.used t f b l) (sym turns) (subst (λ (z : Held). IsTurn p new old.me.0 b.used (turned p ds z answers v slots strings accepted) f b l) same (record {
+        subst (λ (t : Turn). IsTurn p new old.me.0 b.used t f b l) (sym turns) (subst (λ (z : Held). IsTurn p new old.me.0 b.used
+        (turned p ds z answers v slots strings accepted) f b l) same (record {
           holds = done.holds;
           sends = sent.sends old.me.0 own;
           used = ap (λ (z : KeyState). z.used) sent.used;
@@ -125,3 +133,16 @@ module _ (p : Params) (i : Input Message) (old mid new : Pbft) (b k l : KeyState
         }));
     within = settled-within first none takes taken done inside few;
   }
+
+-- what was sent alone, where nothing was due at slots
+pub does-sent : (p : Params) (i : Input Message) (old new : Pbft) (b l : KeyState) (f : Effects Message) (ds : List Draft) (strings : List (List ℕ)) →
+    new.me ≡ old.me →
+    Sent p ds b l [] f.sends → f.delivers ≡ [] → f.accepted ≡ None → f.hashed ≡ strings →
+    turn p old.me.0 b.used (held old) i ≡ record (idle (held new)) { drafts = ds; strings = strings } → uses_all p ds ≤ 2 * length p.slots + 1 →
+    Does p old new i b l f
+does-sent p i old new b l f ds strings node sent none takes hashes turns few =
+    let same : turned p ds (held new) false 0 [] strings None ≡ record (idle (held new)) { drafts = ds; strings = strings } =
+    ap (λ (x : List Draft). record (idle (held new)) { drafts = x; strings = strings }) (same-end ds) in
+    does-settled p i old new new b l l f f ds false 0 [] (held new) strings None node (λ own. refl) sent none takes hashes tt (turns ∙ sym same)
+    (settles-none p false 0 new l f) tt
+    (let low = few in omega (arith, low))

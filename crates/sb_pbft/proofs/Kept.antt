@@ -31,7 +31,7 @@ certify-more : (p : Params) (me : ℕ) (xs : List (Item Message)) (s : Slot) (o 
 certify-more p me xs s None cs c h = h
 certify-more p me xs s (Some y) cs c h = inr h
 
-certified-in : (p : Params) (me : ℕ) (xs : List (Item Message)) (old : List Certificate) (ss : List Slot) (s : Slot) (x : Value) → In s ss → ready p me (inputs xs) old s.0 ≡ Some x → In (certificate p me xs (mode p (inputs xs)).view s x) (certified p me xs old ss)
+pub certified-in : (p : Params) (me : ℕ) (xs : List (Item Message)) (old : List Certificate) (ss : List Slot) (s : Slot) (x : Value) → In s ss → ready p me (inputs xs) old s.0 ≡ Some x → In (certificate p me xs (mode p (inputs xs)).view s x) (certified p me xs old ss)
 certified-in p me xs old [] s x h e = absurd h
 certified-in p me xs old (t ∷ ts) s x (inl q) e =
     subst (λ (z : Slot). In (certificate p me xs (mode p (inputs xs)).view s x) (certify p me xs z (ready p me (inputs xs) old z.0) (certified p me xs old ts))) q
@@ -138,16 +138,16 @@ tops-cover cs (t ∷ ts) s c i e (inr h) =
 
 -- ---- a ViewChange
 
-no-change-pre : (w : ℕ) (cs : List Certificate) (t : Slot) (x : Value) → SameDraft (DraftViewChange w cs) (DraftPrePrepare t x) → ⊥
+pub no-change-pre : (w : ℕ) (cs : List Certificate) (t : Slot) (x : Value) → SameDraft (DraftViewChange w cs) (DraftPrePrepare t x) → ⊥
 no-change-pre w cs t x h = cc
 
-no-change-prepare : (w v : ℕ) (cs : List Certificate) (t : Slot) (e : List ℕ) → SameDraft (DraftViewChange w cs) (DraftPrepare v t e) → ⊥
+pub no-change-prepare : (w v : ℕ) (cs : List Certificate) (t : Slot) (e : List ℕ) → SameDraft (DraftViewChange w cs) (DraftPrepare v t e) → ⊥
 no-change-prepare w v cs t e h = cc
 
-no-change-commit : (w v : ℕ) (cs : List Certificate) (t : Slot) (e : List ℕ) → SameDraft (DraftViewChange w cs) (DraftCommit v t e) → ⊥
+pub no-change-commit : (w v : ℕ) (cs : List Certificate) (t : Slot) (e : List ℕ) → SameDraft (DraftViewChange w cs) (DraftCommit v t e) → ⊥
 no-change-commit w v cs t e h = cc
 
-no-change-new : (w v : ℕ) (cs : List Certificate) (ys : List Change) → SameDraft (DraftViewChange w cs) (DraftNewView v ys) → ⊥
+pub no-change-new : (w v : ℕ) (cs : List Certificate) (ys : List Change) → SameDraft (DraftViewChange w cs) (DraftNewView v ys) → ⊥
 no-change-new w v cs ys h = cc
 
 same-change : (w v : ℕ) (cs ds : List Certificate) → SameDraft (DraftViewChange w cs) (DraftViewChange v ds) → (w ≡ v) × (cs ≡ ds)

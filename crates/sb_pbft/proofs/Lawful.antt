@@ -27,6 +27,7 @@ use Rattle.sb_pbft.specs.Pbft.{pbft}
 use Rattle.sb_pbft.specs.Rules.{Mode, asked, changes, completes, enters, mode, passes, proposal}
 use Rattle.sb_pbft.proofs.Asked.{asked-is, cast-when, cast_test, decided-is, offer-within, proposal-within}
 use Rattle.sb_pbft.proofs.Readable.{sent-again}
+use Rattle.sb_pbft.proofs.Settled.{uses-both}
 
 casts : (p : Params) (me : ℕ) (xs : List (Item Message)) (s : Slot) (b : Batch) (x : Slot × Batch) → ◌≡◌ {A = Option (Slot × Batch)} (asked p me (inputs xs) (Cast s b)) (Some x) → ◌≡◌ {A = Slot × Batch} x (s, b)
 casts p me xs s b x h = sym (cast-when p me (mode p (inputs xs)) s b x (asked-is p me (inputs xs) (Cast s b) x h).offered).is
@@ -48,10 +49,6 @@ to-all p me leaf [] k msg h = h
 to-all p me leaf (d ∷ ds) k msg (inl e) = one-all k (ap (λ (z : To × Message). z.0) e)
 to-all p me leaf (d ∷ ds) k msg (inr h) = to-all p me (leaf + uses p d) ds k msg h
 
-uses-append : (p : Params) (ds es : List Draft) → uses_all p (ds ++ es) ≡ uses_all p ds + uses_all p es
-uses-append p [] es = omega arith
-uses-append p (d ∷ ds) es = let r = uses-append p ds es in omega (arith, r)
-
 commit-uses : (p : Params) (v : ℕ) (s : Slot) (o : Option Value) → uses_all p (commit_draft p v s o) ≤ 1
 commit-uses p v s None = omega arith
 commit-uses p v s (Some x) = omega arith
@@ -64,8 +61,8 @@ commit_at p me xs i s = commit_draft p (mode p (i ∷ inputs xs)).view s (ready 
 
 slot-uses : (p : Params) (me : ℕ) (xs : List (Item Message)) (i : Input Message) (s : Slot) (ss : List Slot) → uses_all p (by_slot p me xs i (s ∷ ss)) ≤ uses_all p (answers p me xs i s) + 1 + uses_all p (by_slot p me xs i ss)
 slot-uses p me xs i s ss =
-    let a = uses-append p (answers p me xs i s) (commit_at p me xs i s ++ by_slot p me xs i ss) in
-    let b = uses-append p (commit_at p me xs i s) (by_slot p me xs i ss) in
+    let a = uses-both p (answers p me xs i s) (commit_at p me xs i s ++ by_slot p me xs i ss) in
+    let b = uses-both p (commit_at p me xs i s) (by_slot p me xs i ss) in
     let c = commit-uses p (mode p (i ∷ inputs xs)).view s (ready p me (i ∷ inputs xs) (kept p me xs) s.0) in
     omega (arith, a, b, c)
 
@@ -99,7 +96,7 @@ when-uses p true d = omega arith
 when-uses p false d = omega arith
 
 both-uses : (p : Params) (me : ℕ) (xs : List (Item Message)) (i : Input Message) (a b : ℕ) → uses_all p (lead p me xs i) ≤ a → uses_all p (by_slot p me xs i p.slots) ≤ b → uses_all p (drafts p me xs i) ≤ a + b
-both-uses p me xs i a b h k = let r = uses-append p (lead p me xs i) (by_slot p me xs i p.slots) in omega (arith, r, h, k)
+both-uses p me xs i a b h k = let r = uses-both p (lead p me xs i) (by_slot p me xs i p.slots) in omega (arith, r, h, k)
 
 up-to : (p : Params) (ds : List Draft) (a b : ℕ) → uses_all p ds ≤ a + b → a + b ≤ 2 * length p.slots + 1 → uses_all p ds ≤ 2 * length p.slots + 1
 up-to p ds a b h k = omega (arith, h, k)

@@ -1,5 +1,6 @@
 -- What is due at one slot after another.
-use Rattle.std.proofs.Common.{◌≡◌, ◌≤◌, ◌<◌, ◌+◌, ◌-◌, ◌*◌, ◌^◌, drop, get_or, ℕ, zero, suc, Bool, true, false, cond, List, [], ◌∷◌, ◌++◌, length, Option, Some, None, refl, sym, ap, ◌∙◌, arith, subst}
+use Rattle.std.proofs.Common.{◌≡◌, ◌≤◌, ◌<◌, ◌+◌, ◌-◌, ◌*◌, ◌^◌, drop, get_or, ℕ, zero, suc, Bool, true, false}
+use Rattle.std.proofs.Common.{cond, List, [], ◌∷◌, ◌++◌, length, Option, Some, None, refl, sym, ap, ◌∙◌, arith, subst}
 use Rattle.std.proofs.Math.Seq.{drop-cons}
 use Rattle.iss_keys.specs.Directories.{AreKeysOf}
 use Rattle.iss_keys.specs.KeyStates.{KeyState, left_of}
@@ -31,7 +32,8 @@ pub uses-both : (p : Params) (ds es : List Draft) → uses_all p (ds ++ es) ≡ 
 uses-both p [] es = omega arith
 uses-both p (d ∷ ds) es = let h = uses-both p ds es in omega (arith, h)
 
-pub signed-both : (p : Params) (me leaf : ℕ) (ds es : List Draft) → sign_all p me leaf (ds ++ es) ≡ sign_all p me leaf ds ++ sign_all p me (leaf + uses_all p ds) es
+pub signed-both : (p : Params) (me leaf : ℕ) (ds es : List Draft) → sign_all p me leaf (ds ++ es) ≡ sign_all p me leaf ds ++ sign_all p me
+    (leaf + uses_all p ds) es
 signed-both p me leaf [] es = let e : leaf + 0 ≡ leaf = omega arith in rw e refl
 signed-both p me leaf (d ∷ ds) es =
     let e : leaf + uses p d + uses_all p ds ≡ leaf + (uses p d + uses_all p ds) = omega arith in
@@ -45,14 +47,18 @@ sent-none p k s t e = record {
   addressed = λ n h. subst (λ (l : List (To × Message)). AreToNodes n l) (sym e) h;
 }
 
-pub sent-both : (p : Params) (ds es : List Draft) (a b c : KeyState) (s t u : List (To × Message)) → Sent p ds a b s t → Sent p es b c t u → Sent p (ds ++ es) a c s u
+pub own-later : (p : Params) (me n : ℕ) (a b : KeyState) → b ≡ record a { used = a.used + n } → AreKeysOf me p.setup.keys a → AreKeysOf me p.setup.keys b
+own-later p me n a b e own = record { own = ap (λ (z : KeyState). z.secret) e ∙ own.own; tall = ap (λ (z : KeyState). z.height) e ∙ own.tall }
+
+pub sent-both : (p : Params) (ds es : List Draft) (a b c : KeyState) (s t u : List (To × Message)) → Sent p ds a b s t → Sent p es b c t u →
+    Sent p (ds ++ es) a c s u
 sent-both p ds es a b c s t u h k = record {
   used =
       let n : a.used + uses_all p ds + uses_all p es ≡ a.used + (uses_all p ds + uses_all p es) = omega arith in
       k.used ∙ ap (λ (z : KeyState). record z { used = z.used + uses_all p es }) h.used
       ∙ ap (λ (n : ℕ). record a { used = n }) (n ∙ ap (λ (z : ℕ). a.used + z) (sym (uses-both p ds es)));
   sends = λ me own.
-      let later : AreKeysOf me p.setup.keys b = record { own = ap (λ (z : KeyState). z.secret) h.used ∙ own.own; tall = ap (λ (z : KeyState). z.height) h.used ∙ own.tall } in
+      let later = own-later p me (uses_all p ds) a b h.used own in
       let leaf : b.used ≡ a.used + uses_all p ds = ap (λ (z : KeyState). z.used) h.used in
       k.sends me later ∙ ap (λ (l : List (To × Message)). l ++ sign_all p me b.used es) (h.sends me own)
       ∙ grouped s (sign_all p me a.used ds) (sign_all p me b.used es)
@@ -61,11 +67,11 @@ sent-both p ds es a b c s t u h k = record {
   addressed = λ n at. k.addressed n (h.addressed n at);
 }
 
--- one message, signed with the next leaf
-pub sent-one : (p : Params) (d : Draft) (msg : Message) (k l : KeyState) (s t : List (To × Message)) → l ≡ record k { used = k.used + 1 } →
-    ((me : ℕ) → AreKeysOf me p.setup.keys k → msg ≡ sign p me k.used d) → uses p d ≡ 1 → t ≡ s ++ (To_all, msg) ∷ [] → Sent p (d ∷ []) k l s t
-sent-one p d msg k l s t used is one e = record {
-  used = let n : k.used + 1 ≡ k.used + (uses p d + 0) = omega (arith, one) in used ∙ ap (λ (n : ℕ). record k { used = n }) n;
+-- one message, signed with the next leaves
+pub sent-by : (p : Params) (d : Draft) (msg : Message) (k l : KeyState) (s t : List (To × Message)) → l ≡ record k { used = k.used + uses p d } →
+    ((me : ℕ) → AreKeysOf me p.setup.keys k → msg ≡ sign p me k.used d) → t ≡ s ++ (To_all, msg) ∷ [] → Sent p (d ∷ []) k l s t
+sent-by p d msg k l s t used is e = record {
+  used = let n : k.used + uses p d ≡ k.used + (uses p d + 0) = omega arith in used ∙ ap (λ (n : ℕ). record k { used = n }) n;
   sends = λ me own. e ∙ ap (λ (m : Message). s ++ (To_all, m) ∷ []) (is me own);
   addressed = λ n h. subst (λ (l : List (To × Message)). AreToNodes n l) (sym e) (and-one n s h);
 }
@@ -73,6 +79,11 @@ sent-one p d msg k l s t used is one e = record {
     and-one : (n : ℕ) (s : List (To × Message)) → AreToNodes n s → AreToNodes n (s ++ (To_all, msg) ∷ [])
     and-one n [] h = (tt, tt)
     and-one n (x ∷ xs) h = (h.0, and-one n xs h.1)
+
+-- with the next leaf alone
+pub sent-one : (p : Params) (d : Draft) (msg : Message) (k l : KeyState) (s t : List (To × Message)) → l ≡ record k { used = k.used + 1 } →
+    ((me : ℕ) → AreKeysOf me p.setup.keys k → msg ≡ sign p me k.used d) → uses p d ≡ 1 → t ≡ s ++ (To_all, msg) ∷ [] → Sent p (d ∷ []) k l s t
+sent-one p d msg k l s t used is one e = sent-by p d msg k l s t (used ∙ ap (λ (n : ℕ). record k { used = k.used + n }) (sym one)) is e
 
 -- ---- one slot, and the rest
 
@@ -99,7 +110,8 @@ settles-more p answers v s ss m n o a b c e f g h k = record {
       sent-both p (drafts_at p (held m) answers v s) (drafts_all p (settled p (held m) v s) answers v ss) a b c e.sends f.sends g.sends first second;
   delivers =
       k.delivers ∙ ap (λ (z : Held). f.delivers ++ deliveries p z v ss) h.holds
-      ∙ ap (λ (l : List (Slot × Value)). l ++ deliveries p (settled p (held m) v s) v ss) (h.delivers ∙ ap (λ (l : List (Slot × Value)). e.delivers ++ l) (same-end (delivery s (newly_at p (held m) v s.0))))
+      ∙ ap (λ (l : List (Slot × Value)). l ++ deliveries p (settled p (held m) v s) v ss) (h.delivers
+      ∙ ap (λ (l : List (Slot × Value)). e.delivers ++ l) (same-end (delivery s (newly_at p (held m) v s.0))))
       ∙ grouped e.delivers (delivery s (newly_at p (held m) v s.0)) (deliveries p (settled p (held m) v s) v ss);
   accepted = k.accepted ∙ h.accepted;
   hashed = k.hashed ∙ h.hashed;
@@ -112,7 +124,8 @@ settles-one p answers v s m n o a b c e f g i x y z = record {
   node = z.node ∙ y.node;
   holds = z.holds ∙ ap (λ (h : Held). handed p h v s.0) y.holds;
   sent =
-      let both = sent-both p (cond answers (prepares_to v s ((held m).proposal v s.0)) []) (commits_to (held m).mode.view s (ready_at p (held m) s.0)) a b c e.sends f.sends g.sends x.sent y.sent in
+      let both = sent-both p (cond answers (prepares_to v s ((held m).proposal v s.0)) []) (commits_to (held m).mode.view s
+      (ready_at p (held m) s.0)) a b c e.sends f.sends g.sends x.sent y.sent in
       subst (λ (l : List Draft). Sent p l a c e.sends i.sends) (sym (same-end (drafts_at p (held m) answers v s)))
       (subst (λ (l : List (To × Message)). Sent p (drafts_at p (held m) answers v s) a c e.sends l) (sym z.sends) both);
   delivers =
@@ -159,7 +172,8 @@ abbrev pub Owes : Params → Bool → ℕ → List Slot → List Slot → Pbft �
 Owes p answers v slots rest m a e now b f =
     (n : Pbft) (k : KeyState) (g : Effects Message) → Settles p answers v rest now n b k f g → Settles p answers v slots m n a k e g
 
-pub owes-more : (p : Params) (answers : Bool) (v : ℕ) (slots : List Slot) (i : ℕ) (m now next : Pbft) (a b c : KeyState) (e f g : Effects Message) → i < length slots →
+pub owes-more : (p : Params) (answers : Bool) (v : ℕ) (slots : List Slot) (i : ℕ) (m now next : Pbft) (a b c : KeyState) (e f g : Effects Message) →
+    i < length slots →
     Owes p answers v slots (drop i slots) m a e now b f → Settles p answers v (get_or slots i (record { 0 = 0 }) ∷ []) now next b c f g →
     Owes p answers v slots (drop (i + 1) slots) m a e next c g
 owes-more p answers v slots i m now next a b c e f g within owes done n k x rest =

@@ -1,5 +1,5 @@
 -- What the code's tables answer: loops over nodes and slots.
-use Rattle.std.proofs.Common.{drop, get_or, ◌≡◌, ◌≤◌, ◌<◌, ◌+◌, ℕ, zero, suc, Bool, true, false, cond, ◌==◌, ◌&&◌, nat_eq, List, [], ◌∷◌, ◌++◌, length, take, Option, Some, None, is_some, refl, sym, ap, ◌∙◌, arith, subst}
+use Rattle.std.proofs.Common.{drop, get_or, ◌≡◌, ◌≤◌, ◌<◌, ◌+◌, ℕ, zero, suc, Bool, true, false, cond, ◌==◌, ◌&&◌, nat_eq, List, [], ◌∷◌, ◌++◌, length, take, Option, Some, None, is_some, append-nil, append_assoc, refl, sym, ap, ◌∙◌, arith, subst}
 use Rattle.std.proofs.Math.Seq.{drop-cons}
 use Rattle.std.specs.Cmp.Lexicographic.{pointwise}
 use Rattle.iss_base.specs.Lists.{same_bytes}
@@ -43,10 +43,6 @@ length-one : {A : Type 0} (xs : List A) (x : A) → length (xs ++ x ∷ []) ≡ 
 length-one [] x = refl
 length-one (y ∷ ys) x = ap suc (length-one ys x)
 
-same-end : {A : Type 0} (xs : List A) → xs ++ [] ≡ xs
-same-end [] = refl
-same-end (x ∷ xs) = ap (λ (l : List _). x ∷ l) (same-end xs)
-
 counted-suc : (g : ℕ → Option Ballot) (d : List ℕ) (m n : ℕ) → has_voted d (g m) ≡ true → n ≡ length (voters g d 0 m) → n + 1 ≡ length (voters g d 0 (suc m))
 counted-suc g d m n h e =
     let a = voter-next g d m in
@@ -55,7 +51,7 @@ counted-suc g d m n h e =
     rw (a, b, c) (omega (arith, e))
 
 pub uncounted : (g : ℕ → Option Ballot) (d : List ℕ) (m : ℕ) → has_voted d (g m) ≡ false → voters g d 0 (suc m) ≡ voters g d 0 m
-uncounted g d m h = let b = vote-out d m (g m) h in voter-next g d m ∙ rw b (same-end (voters g d 0 m))
+uncounted g d m h = let b = vote-out d m (g m) h in voter-next g d m ∙ rw b (append-nil (voters g d 0 m))
 
 take-one : {A : Type 0} (n : ℕ) (xs : List A) (y : A) → length (take n xs) < n → take n (xs ++ y ∷ []) ≡ take n xs ++ y ∷ []
 take-one zero xs y h = absurd (never (length (take 0 xs)) h)
@@ -107,7 +103,7 @@ pub change-in : (g : ℕ → Option Change) (m : ℕ) (x : Change) (xs : List Ch
 change-in g m x xs e h = let n = change-next g m in rw (e, n, h) refl
 
 pub change-out : (g : ℕ → Option Change) (m : ℕ) → g m ≡ None → changes_from g 0 (suc m) ≡ changes_from g 0 m
-change-out g m h = let n = change-next g m in n ∙ rw h (same-end (changes_from g 0 m))
+change-out g m h = let n = change-next g m in n ∙ rw h (append-nil (changes_from g 0 m))
 
 change-counted-suc : (g : ℕ → Option Change) (m n : ℕ) → is_some (g m) ≡ true → n ≡ length (changes_from g 0 m) → n + 1 ≡ length (changes_from g 0 (suc m))
 change-counted-suc g m n h e = go (g m) refl
@@ -192,10 +188,6 @@ change-still g m xs ys e h is = is ∙ e ∙ sym (subst (λ (z : ℕ). changes_f
 
 -- ---- certificates
 
-grouped : {A : Type 0} (xs ys zs : List A) → (xs ++ ys) ++ zs ≡ xs ++ (ys ++ zs)
-grouped [] ys zs = refl
-grouped (x ∷ xs) ys zs = ap (λ (l : List _). x ∷ l) (grouped xs ys zs)
-
 tops-next : (top : ℕ → Option Certificate) (slots : List Slot) (i : ℕ) → i < length slots →
     tops_of top (drop i slots) ≡ cons_some (top (get_or slots i (record { 0 = 0 })).0) (tops_of top (drop (i + 1) slots))
 tops-next top slots i h =
@@ -208,7 +200,7 @@ pub tops-step : (top : ℕ → Option Certificate) (slots : List Slot) (i : ℕ)
 tops-step top slots i x y all more h inv at what is =
     let rest = tops_of top (drop (i + 1) slots) in
     inv ∙ ap (λ (l : List Certificate). all ++ l) (tops-next top slots i h ∙ ap (λ (o : Option Certificate). cons_some o rest) at)
-    ∙ sym (ap (λ (l : List Certificate). l ++ rest) (is ∙ ap (λ (z : Certificate). all ++ z ∷ []) what) ∙ grouped all (x ∷ []) rest)
+    ∙ sym (ap (λ (l : List Certificate). l ++ rest) (is ∙ ap (λ (z : Certificate). all ++ z ∷ []) what) ∙ append_assoc all (x ∷ []) rest)
 
 pub tops-still : (top : ℕ → Option Certificate) (slots : List Slot) (i : ℕ) (all more : List Certificate) → i < length slots →
     tops_of top slots ≡ all ++ tops_of top (drop i slots) → top (get_or slots i (record { 0 = 0 })).0 ≡ None → more ≡ all →

@@ -186,7 +186,7 @@ pub record Seen (m : Mode) (v : ℕ) : Type 0 where
 seen-on : (m u : Mode) (v : ℕ) → Grows m u → Seen m v → Seen u v
 seen-on m u v g s = let a = g.view in let b = s.view in record { view = omega arith; active = λ e. g.active (omega arith) (s.active (omega arith)) }
 
-not-newer : (m : Mode) (v : ℕ) → Seen m v → IsNewer m v → ⊥
+pub not-newer : (m : Mode) (v : ℕ) → Seen m v → IsNewer m v → ⊥
 not-newer m v h (inl l) = let a = h.view in absurd (omega arith)
 not-newer m v h (inr e) = true≢false (sym (h.active (sym e.0)) ∙ e.1)
 

@@ -19,7 +19,7 @@ use Rattle.pbft_wire.specs.declared.messages.Message.TheVariants.{NewView}
 use Rattle.pbft_views.specs.Choice.{choice}
 use Rattle.sb_pbft.specs.Makes.{DraftCommit, DraftNewView, DraftPrePrepare, DraftPrepare, DraftViewChange, drafts, inputs, kept}
 use Rattle.sb_pbft.specs.Rules.{enters, mode, proposal}
-use Rattle.sb_pbft.proofs.Kept.{commit-rule}
+use Rattle.sb_pbft.proofs.Kept.{commit-rule, no-change-commit, no-change-new, no-change-pre, no-change-prepare}
 use Rattle.sb_pbft.proofs.Readable.{ready-is}
 use Rattle.sb_pbft.proofs.Sends.{Asked, Proposed, Rule, SameDraft, by_cast, by_changes, by_proposal, by_timeout, by_view, by_votes, drafted, no-change, no-commit, no-new, no-pre, proposed-on, rule-of, same-prepare}
 use Rattle.sb_pbft.proofs.Views.{Said, SameInput, proposed-offer}
@@ -82,24 +82,12 @@ first-proposed p me (y ∷ ys) s x h = elim (in_append (DraftPrePrepare s x) (dr
   | inr k ↦ proposed-on p me (inputs ys) y.input 0 s.0 (digest_of p x) (first-proposed p me ys s x k)
 ]
 
-no-change-first : (v : ℕ) (cs : List Certificate) (s : Slot) (x : Value) → SameDraft (DraftViewChange v cs) (DraftPrePrepare s x) → ⊥
-no-change-first v cs s x h = cc
-
-no-change-prepare : (v u : ℕ) (cs : List Certificate) (s : Slot) (d : List ℕ) → SameDraft (DraftViewChange v cs) (DraftPrepare u s d) → ⊥
-no-change-prepare v u cs s d h = cc
-
-no-change-commit : (v u : ℕ) (cs : List Certificate) (s : Slot) (d : List ℕ) → SameDraft (DraftViewChange v cs) (DraftCommit u s d) → ⊥
-no-change-commit v u cs s d h = cc
-
-no-change-new : (v u : ℕ) (cs : List Certificate) (ys : List Change) → SameDraft (DraftViewChange v cs) (DraftNewView u ys) → ⊥
-no-change-new v u cs ys h = cc
-
 same-view-change : (v u : ℕ) (cs ds : List Certificate) → SameDraft (DraftViewChange v cs) (DraftViewChange u ds) → v ≡ u
 same-view-change v u cs ds h = cc
 
 -- nobody gives up for view 0
 pub change-above : (p : Params) (me : ℕ) (xs : List (Item Message)) (i : Said) (v : ℕ) (cs : List Certificate) → Rule p me xs i (DraftViewChange v cs) → 0 < v
-change-above p me xs i v cs (by_cast a q b e) = absurd (no-change-first v cs a.0 (Holds a.1) e)
+change-above p me xs i v cs (by_cast a q b e) = absurd (no-change-pre v cs a.0 (Holds a.1) e)
 change-above p me xs i v cs (by_proposal a q b e) = absurd (no-change-prepare v 0 cs a.0 (digest_of p (Holds a.1)) e)
 change-above p me xs i v cs (by_votes t y w q e) = absurd (no-change-commit v _ cs t (digest_of p y) e)
 change-above p me xs i v cs (by_timeout a b e) = let k = same-view-change v ((mode p (inputs xs)).view + 1) cs _ e in omega (arith, k)

@@ -1,5 +1,5 @@
 -- What PBFT's code holds, and what its parts do.
-use Rattle.std.specs.Prelude.{◌≡◌, ℕ, ◌+◌, ◌==◌, ◌&&◌, Bool, cond, not, List, [], ◌∷◌, ◌++◌, Option, Some, None, is_some}
+use Rattle.std.specs.Prelude.{◌≡◌, ℕ, ◌+◌, ◌*◌, ◌==◌, ◌&&◌, Bool, cond, not, nat_le, nat_lt, List, [], ◌∷◌, ◌++◌, length, Option, Some, None, is_some}
 use Rattle.std.specs.BTreeSet.{contains}
 use Rattle.std.specs.Ordering.{nat_cmp}
 use Rattle.iss_keys.specs.Directories.{AreKeysOf}
@@ -12,17 +12,21 @@ use Rattle.iss_sb.specs.declared.effects.Effects.{Effects}
 use Rattle.iss_sb.specs.declared.effects.Input.{Input}
 use Rattle.iss_sb.specs.declared.effects.Params.{Params}
 use Rattle.iss_sb.specs.declared.effects.To.{To}
-use Rattle.iss_sb.specs.Calls.{AreToNodes, IsWithin}
+use Rattle.iss_sb.specs.Calls.{AreToNodes, IsWithin, has_slot}
 use Rattle.iss_sb.specs.Evidence.{Item}
+use Rattle.pbft_wire.specs.declared.messages.Change.{Change}
 use Rattle.pbft_wire.specs.declared.messages.Message.{Message}
+use Rattle.pbft_views.specs.Choice.{choice}
+use Rattle.pbft_views.specs.Good.{primary}
 use Rattle.pbft_wire.specs.Statements.{digest_of, string_of}
 use Rattle.sb_pbft.specs.declared.pbft.Pbft.{Pbft}
 use Rattle.sb_pbft.specs.declared.proposals.Proposal.{Proposal}
-use Rattle.sb_pbft.specs.Makes.{Draft, sign_all, uses_all}
+use Rattle.sb_pbft.specs.Makes.{Draft, DraftNewView, choice_strings, sig_for, sign_all, uses_all}
 use Rattle.sb_pbft.specs.Pbft.{pbft}
 use Rattle.sb_pbft.specs.Places.{change_at, proposal_at, top_at, vote_at}
 use Rattle.sb_pbft.specs.Rules.{is_open}
-use Rattle.sb_pbft.specs.Turns.{Held, Turn, certified, commits_to, deliveries, delivery, drafts_all, handed, model, newly_at, prepares_to, ready_at}
+use Rattle.sb_pbft.specs.Turns.{Held, Turn, certified, changes_at, commits_to, deliveries, delivery}
+use Rattle.sb_pbft.specs.Turns.{drafts_all, handed, model, newly_at, placed, prepares_to, ready_at}
 use Rattle.sb_pbft.specs.Turns.{settled_all, turn}
 
 -- the code as what it holds
@@ -140,3 +144,27 @@ pub record HasAccepted (p : Params) (slot : Slot) (batch : Batch) (x : Value) (d
   pub accepted : e.accepted ≡ Some (slot, batch)
   pub hashed : e.hashed ≡ string_of p (Holds batch) ∷ []
   pub delivers : e.delivers ≡ []
+
+-- these strings were hashed behind the others
+pub record HasHashed (strings : List (List ℕ)) (e f : Effects Message) : Type 0 where
+  pub hashed : f.hashed ≡ e.hashed ++ strings
+  pub sends : f.sends ≡ e.sends
+  pub accepted : f.accepted ≡ e.accepted
+  pub delivers : f.delivers ≡ e.delivers
+
+-- whether a NewView is due where so many ViewChanges of the view were held before
+abbrev pub is_due : Params → Pbft → ℕ → ℕ → Bool
+is_due p m v before =
+    ((m.me.0 == primary p v) && nat_le m.view v) &&
+    (nat_lt before (2 * p.setup.f + 1) && (length (changes_at p (held m) v) == 2 * p.setup.f + 1))
+
+-- where it is due, the NewView of the ViewChanges that are held was sent, and what they choose hashed
+pub record Renews (p : Params) (due : Bool) (m : Pbft) (v : ℕ) (before later : KeyState) (e f : Effects Message) : Type 0 where
+  pub sent : Sent p (cond due (DraftNewView v (changes_at p (held m) v) ∷ []) []) before later e.sends f.sends
+  pub hashed : f.hashed ≡ e.hashed ++ cond due (choice_strings p (changes_at p (held m) v) p.slots) []
+  pub accepted : f.accepted ≡ e.accepted
+  pub delivers : f.delivers ≡ e.delivers
+
+-- what these ViewChanges choose at these slots of a view, each with its signature
+abbrev pub chosen_among : Params → ℕ → List Change → List Slot → List (List ℕ) → ℕ → ℕ → Option Proposal
+chosen_among p v xs slots sigs w s = cond ((w == v) && has_slot s slots) (placed p (Some (choice xs s)) (sig_for s slots sigs)) None

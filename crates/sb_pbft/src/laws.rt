@@ -1,8 +1,14 @@
 //! The laws of PBFT. The functions compute nothing: their contracts are the theorems.
-ghost use Rattle.std.specs.Prelude.{◌≡◌, ℕ, false};
+ghost use Rattle.std.specs.Prelude.{◌≡◌, ℕ, false, List};
 ghost use Rattle.iss_request.specs.Fields.{IsGrammar};
+ghost use Rattle.iss_sb.specs.Calls.{IsGoodParams};
+ghost use Rattle.iss_sb.specs.Evidence.{Item};
 ghost use Rattle.iss_sb.specs.Laws.{IsLawful, IsSafe};
+ghost use Rattle.iss_sb.specs.declared.effects.Input.{Input};
+ghost use Rattle.iss_sb.specs.declared.effects.Params.{Params};
+ghost use Rattle.pbft_wire.specs.declared.messages.Message.{Message};
 ghost use Rattle.sb_pbft.specs.Pbft.{pbft};
+ghost use Rattle.sb_pbft.specs.Turns.{TurnsTo, model, turn};
 
 /// Every world that moves lead to is a broadcast, over any number of views, whatever the faulty nodes say.
 pub fn pbft_is_safe()
@@ -19,4 +25,10 @@ pub fn pbft_has_a_grammar()
     ensures tagged { pbft.tag ≡ 3 }
     ensures stopping { pbft.stopping ≡ false }
     ensures grammar { (version : ℕ) → IsGrammar (pbft.spell version) (pbft.parse version) }
+{}
+
+/// What a node holds, in place of its list, tells what each input makes of it.
+pub fn turns_are_as_defined()
+    ensures { (p : Params) (me : ℕ) (xs : List (Item Message)) (i : Input Message) (leaf : ℕ) → IsGoodParams pbft p →
+        TurnsTo p me xs i leaf (turn p me leaf (model p me xs) i) }
 {}

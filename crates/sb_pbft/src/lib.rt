@@ -3,6 +3,7 @@
 #![tactic(auto)]
 
 pub mod changes;
+pub mod changing;
 pub mod facts;
 pub mod laws;
 pub mod pbft;
@@ -19,4 +20,5 @@ pub use facts::{
     nodes_commit_nothing_below, nodes_vote_once, proposals_are_choices,
     view_changes_show_what_is_committed, what_is_delivered_was_decided,
 };
-pub use laws::{pbft_has_a_grammar, pbft_is_lawful, pbft_is_safe};
+pub use laws::{pbft_has_a_grammar, pbft_is_lawful, pbft_is_safe, turns_are_as_defined};
+pub use pbft::Pbft;

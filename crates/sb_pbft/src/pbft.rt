@@ -1,9 +1,20 @@
 //! A node's part in an instance of PBFT, and that PBFT is an ordering module.
+ghost use Rattle.std.specs.Prelude.{◌≡◌, ◌≤◌, ◌*◌, ◌+◌, ℕ, List, length, IfOk};
+ghost use Rattle.iss_keys.specs.KeyStates.{left_of};
+ghost use Rattle.iss_sb.specs.Calls.{IsGoodInput, IsGoodParams, IsStep, named};
+ghost use Rattle.iss_sb.specs.Evidence.{Item};
+ghost use Rattle.sb_pbft.specs.Pbft.{asks, pbft};
+ghost use Rattle.sb_pbft.specs.Stands.{Does, Stands};
+
 use crate::changes::Changes;
 use crate::proposals::Proposals;
 use crate::tallies::Votes;
 use crate::tops::Tops;
-use iss_request::NodeId;
+use iss_keys::Keys;
+use iss_request::{Batch, Bytes, DecodeError, Fields, NoMemory, NodeId, Row, Slot, Value, Writer};
+use iss_sb::{Claim, Effects, Input, Params, Sequenced, StepError};
+use pbft_wire::{Change, Message};
+use std::alloc::Global;
 use std::collections::BTreeSet;
 
 /// A node's part in one instance.
@@ -20,4 +31,230 @@ pub struct Pbft {
     pub(crate) changes: Changes,
     pub(crate) tops: Tops,
     pub(crate) delivered: BTreeSet<u64>,
+}
+
+// The most leaves that a step takes: a Prepare and a Commit for each slot, or a PrePrepare and the NewView.
+fn most_leaves(p: &Params) -> u32
+    requires { IsGoodParams pbft p.now }
+    ensures { result ≡ 2 * length p.now.slots + 1 }
+{
+    2 * p.slots.len() as u32 + 1
+}
+
+impl Pbft {
+    // A PrePrepare: one of nil is no offer.
+    fn take_proposal(
+        &mut self,
+        alloc: Global,
+        p: &Params,
+        from: NodeId,
+        view: u16,
+        slot: Slot,
+        value: Value,
+        sig: Bytes,
+        keys: &mut Keys,
+    ) -> Result<Effects<Message>, NoMemory>
+        requires good { IsGoodParams pbft p.now }
+        requires enough { 2 * length p.now.slots + 1 ≤ left_of keys.old }
+        ensures { IfOk result (λ e. Does p.now self.old self.new (Input.Receive from (Message.PrePrepare view slot value sig)) keys.old keys.new e) }
+    {
+        match value {
+            Value::Nil => Ok(Effects::nothing(alloc)),
+            Value::Batch(batch) => Ok(self.take_pre_prepare(
+                alloc, p, from, view, slot, batch, sig, keys,
+            )?),
+        }
+    }
+
+    // The batch that a message offers, where it would be taken.
+    fn offers<'a>(&'a self, p: &Params, from: NodeId, msg: &'a Message) -> Option<(Slot, &'a Batch)>
+        requires good { IsGoodParams pbft p.now }
+        ensures { (me : ℕ) (xs : List (Item Message)) → Stands self.now p.now me xs →
+            named result ≡ asks p.now me xs (Input.Receive from msg.now) }
+    {
+        match msg {
+            Message::PrePrepare {
+                view,
+                slot,
+                value,
+                ..
+            } => match value {
+                Value::Batch(batch) => {
+                    if self.may_take(p, from, *view, *slot) {
+                        Some((*slot, batch))
+                    } else {
+                        None
+                    }
+                }
+                Value::Nil => None,
+            },
+            _ => None,
+        }
+    }
+
+    // A message, by its kind.
+    fn receive(
+        &mut self,
+        alloc: Global,
+        p: &Params,
+        from: NodeId,
+        msg: Message,
+        keys: &mut Keys,
+    ) -> Result<Effects<Message>, NoMemory>
+        requires good { IsGoodParams pbft p.now }
+        requires enough { 2 * length p.now.slots + 1 ≤ left_of keys.old }
+        ensures { IfOk result (λ e. Does p.now self.old self.new (Input.Receive from msg) keys.old keys.new e) }
+    {
+        match msg {
+            Message::PrePrepare {
+                view,
+                slot,
+                value,
+                sig,
+            } => Ok(self.take_proposal(alloc, p, from, view, slot, value, sig, keys)?),
+            Message::Prepare {
+                view,
+                slot,
+                digest,
+                sig,
+            } => Ok(self.take_prepare(alloc, p, from, view, slot, digest, sig, keys)?),
+            Message::Commit {
+                view,
+                slot,
+                digest,
+                ..
+            } => Ok(self.take_commit(alloc, p, from, view, slot, digest, keys)?),
+            Message::ViewChange {
+                view,
+                certificates,
+                sig,
+            } => {
+                let change = Change {
+                    node: from,
+                    view,
+                    certificates,
+                    sig,
+                };
+                Ok(self.take_change(alloc, p, change, keys)?)
+            }
+            Message::NewView {
+                view,
+                changes,
+                signatures,
+                ..
+            } => Ok(self.take_new_view(alloc, p, from, view, changes, signatures, keys)?),
+        }
+    }
+}
+
+impl Sequenced for Pbft {
+    type Msg = Message;
+
+    const TAG: u8 = 3;
+
+    const STOPPING: bool = false;
+
+    ghost use Rattle.std.specs.Prelude.{false};
+
+    ghost TAG = { 3 };
+
+    ghost STOPPING = { false };
+
+    ghost meaning = { pbft };
+
+    ghost stands = { Stands };
+
+    fn nodes_of(f: u32) -> u32 {
+        3 * f + 1
+    }
+
+    fn quorum_of(f: u32) -> u32 {
+        2 * f + 1
+    }
+
+    fn signs(p: &Params) -> u32 {
+        most_leaves(p)
+    }
+
+    fn start(alloc: Global, _p: &Params, me: NodeId) -> Result<Pbft, NoMemory> {
+        let proposals = Proposals::new(alloc);
+        let prepares = Votes::new(alloc);
+        let commits = Votes::new(alloc);
+        let changes = Changes::new(alloc);
+        let tops = Tops::new(alloc);
+        let delivered = BTreeSet::new(alloc);
+        Ok(Pbft {
+            me,
+            view: 0,
+            active: true,
+            proposals,
+            prepares,
+            commits,
+            changes,
+            tops,
+            delivered,
+        })
+    }
+
+    fn casts(&self, p: &Params, slot: Slot) -> bool {
+        self.may_cast(p, slot)
+    }
+
+    fn asks<'a>(&'a self, p: &Params, i: &'a Input<Message>) -> Option<(Slot, &'a Batch)> {
+        match i {
+            Input::Cast { slot, batch } => {
+                if self.may_cast(p, *slot) {
+                    Some((*slot, batch))
+                } else {
+                    None
+                }
+            }
+            Input::Receive { from, msg } => self.offers(p, *from, msg),
+            Input::Timeout => None,
+        }
+    }
+
+    fn step(
+        &mut self,
+        alloc: Global,
+        p: &Params,
+        i: Input<Message>,
+        verdict: bool,
+        keys: &mut Keys,
+    ) -> Result<Effects<Message>, StepError>
+        requires good { IsGoodParams pbft p.now }
+        requires input { IsGoodInput p.now i }
+        ensures { IsStep pbft Stands p.now self.old self.new i verdict keys.old keys.new result }
+    {
+        if keys.left() < most_leaves(p) {
+            return Err(StepError::Spent);
+        }
+        if !verdict {
+            return Ok(Effects::nothing(alloc));
+        }
+        match i {
+            Input::Cast { slot, batch } => Ok(self.cast(alloc, p, slot, batch, keys)?),
+            Input::Receive { from, msg } => Ok(self.receive(alloc, p, from, msg, keys)?),
+            Input::Timeout => Ok(self.time_out(alloc, p, keys)?),
+        }
+    }
+
+    fn encode(m: &Message, out: &mut Writer) -> Result<(), NoMemory> {
+        pbft_wire::write(m, out)
+    }
+
+    fn decode(alloc: Global, f: &mut Fields) -> Result<Message, DecodeError> {
+        pbft_wire::read(alloc, f)
+    }
+
+    fn claims(
+        alloc: Global,
+        p: &Params,
+        from: NodeId,
+        m: &Message,
+    ) -> Result<Row<Claim>, NoMemory> {
+        pbft_views::claims(alloc, p, from, m)
+    }
+
+    fn laws() {}
 }

@@ -1,17 +1,18 @@
 //! What a node signs and sends to all.
-ghost use Rattle.std.specs.Prelude.{◌≡◌, ◌<◌, ℕ, ◌∷◌, [], ◌+◌, IfOk, OnOk};
+ghost use Rattle.std.specs.Prelude.{◌≡◌, ◌<◌, ◌≤◌, ℕ, ◌∷◌, ◌++◌, [], ◌+◌, length, IfOk, OnOk};
 ghost use Rattle.iss_keys.specs.Directories.{AreKeysOf};
 ghost use Rattle.iss_keys.specs.KeyStates.{left_of};
 ghost use Rattle.iss_sb.specs.Statements.{signature};
 ghost use Rattle.pbft_wire.specs.Statements.{state_at};
-ghost use Rattle.sb_pbft.specs.Makes.{DraftCommit, DraftPrepare};
+ghost use Rattle.sb_pbft.specs.Makes.{DraftCommit, DraftNewView, DraftPrepare, DraftViewChange, choice_sigs};
 ghost use Rattle.sb_pbft.specs.Stands.{Sent};
 
 use iss_keys::Keys;
 use iss_request::{Bytes, NoMemory, Row, Slot};
 use iss_sb::{Params, To, sign};
-use pbft_wire::signing::{COMMIT, PREPARE};
-use pbft_wire::{Message, state_at};
+use pbft_views::choice_digest;
+use pbft_wire::signing::{COMMIT, PRE_PREPARE, PREPARE};
+use pbft_wire::{Certificate, Change, Message, state_at, state_change, state_new};
 use std::alloc::Global;
 
 /// Signs a PrePrepare, a Prepare or a Commit with the next leaf.
@@ -78,6 +79,90 @@ pub fn send_commit(
         view,
         slot,
         digest,
+        sig,
+    };
+    sends.push((To::All, msg))?;
+    Ok(())
+}
+
+/// Sends a ViewChange with these certificates to all.
+pub fn send_change(
+    alloc: Global,
+    p: &Params,
+    view: u16,
+    certificates: Row<Certificate>,
+    keys: &mut Keys,
+    sends: &mut Row<(To, Message)>,
+) -> Result<(), NoMemory>
+    requires few { length certificates ≤ 255 }
+    requires enough { 0 < left_of keys.old }
+    ensures { OnOk result (Sent p.now (DraftViewChange view certificates ∷ []) keys.old keys.new sends.old sends.new) }
+{
+    let statement = state_change(alloc, p, view, certificates.as_slice())?;
+    let sig = sign(&statement, keys)?;
+    let msg = Message::ViewChange {
+        view,
+        certificates,
+        sig,
+    };
+    sends.push((To::All, msg))?;
+    Ok(())
+}
+
+// Signs a PrePrepare of what these ViewChanges choose, slot by slot, each with the next leaf.
+fn sign_choices(
+    alloc: Global,
+    p: &Params,
+    view: u16,
+    changes: &[Change],
+    slots: &[Slot],
+    keys: &mut Keys,
+    all: &mut Row<Bytes>,
+) -> Result<(), NoMemory>
+    requires { length slots.now ≤ left_of keys.old }
+    ensures sigs { OnOk result ((me : ℕ) → AreKeysOf me p.now.setup.keys keys.old →
+        all.new ≡ all.old ++ choice_sigs p.now me keys.old.used view changes.now slots.now) }
+    ensures used { OnOk result (keys.new ≡ record keys.old { used = keys.old.used + length slots.now }) }
+    ensures left { OnOk result (left_of keys.new + length slots.now ≡ left_of keys.old) }
+{
+    let [slot, others @ ..] = slots else {
+        return Ok(());
+    };
+    let digest = choice_digest(p, *slot, changes);
+    let sig = sign_at(alloc, p, PRE_PREPARE, view, *slot, &digest, keys)?;
+    all.push(sig)?;
+    sign_choices(alloc, p, view, changes, others, keys, all)
+}
+
+/// Sends the NewView that begins with these ViewChanges to all.
+pub fn send_new_view(
+    alloc: Global,
+    p: &Params,
+    view: u16,
+    changes: Row<Change>,
+    keys: &mut Keys,
+    sends: &mut Row<(To, Message)>,
+) -> Result<(), NoMemory>
+    requires { length p.now.slots + 1 ≤ left_of keys.old }
+    ensures { OnOk result (Sent p.now (DraftNewView view changes ∷ []) keys.old keys.new sends.old sends.new) }
+{
+    let slots = p.slots.as_slice();
+    let mut signatures = Row::new(alloc);
+    sign_choices(
+        alloc,
+        p,
+        view,
+        changes.as_slice(),
+        slots,
+        keys,
+        &mut signatures,
+    )?;
+    let statement = state_new(alloc, p, view)?;
+    let sig = sign(&statement, keys)?;
+    let msg = Message::NewView {
+        view,
+        changes,
+        signatures,
         sig,
     };
     sends.push((To::All, msg))?;

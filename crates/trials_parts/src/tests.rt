@@ -1,4 +1,5 @@
 //! Each crate's calls in a module of its own.
+mod checkpoints;
 mod echo;
 mod journals;
 mod keys;

@@ -1,4 +1,4 @@
-use Rattle.std.proofs.Common.{◌<◌, ◌≡◌, ◌∙◌, ℕ, length, ap, arith}
+use Rattle.std.proofs.Common.{◌∙◌, length, ap, arith}
 use Rattle.iss_keys.specs.Directories.{client_secret}
 use Rattle.iss_keys.specs.KeyStates.{public_key}
 use Rattle.iss_keys.proofs.ListedLemmas.{length-listed}

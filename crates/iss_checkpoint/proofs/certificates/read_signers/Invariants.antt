@@ -1,0 +1,6 @@
+use Rattle.std.proofs.Common.{◌≤◌, ◌-◌}
+use Rattle.iss_checkpoint.proofs.CertReading.{Continues}
+use Rattle.iss_checkpoint.proofs.certificates.read_signers.Given as goal
+
+abbrev pub invariant-loop : goal.invariant-loop
+invariant-loop l = (l.from ≤ 256) × Continues l.count l.fn.f (l.count - l.counter) l.from l.f l.signers

@@ -1,0 +1,127 @@
+//! Asks and pieces as bytes: the bodies of packets that name the epoch.
+ghost use Rattle.std.specs.Prelude.{◌≡◌, ◌≢◌, ◌<◌, ℕ, [], length, IfOk, OnOk, Err};
+ghost use Rattle.std.specs.List.{flat_map};
+ghost use Rattle.iss_request.specs.Fields.{Bad, Good, IsRead, IsUnreadable, and_bytes};
+ghost use Rattle.iss_request.specs.Formats.{parse_value, spell_value};
+ghost use Rattle.iss_request.specs.Parsing.{all_of, times};
+ghost use Rattle.iss_transfer.specs.Bodies.{fits, parse_ask, parse_piece, piece_row, spell_ask, spell_piece};
+
+use crate::pieces::{Ask, Piece};
+use iss_checkpoint::{read_cert, write_cert};
+use iss_request::{
+    Bytes, DecodeError, Epoch, Fields, NoMemory, Row, Value, Writer, read_value, write_value,
+};
+use std::alloc::Global;
+
+// What stands for a piece without a spelling: one value, which is neither nil nor a batch.
+const NO_PIECE: [u8; 2] = [1, 3];
+
+// Whether the piece is of its certificate's epoch, and has no more values than are counted.
+fn has_spelling(piece: &Piece) -> bool
+    ensures { result ≡ fits piece.now }
+{
+    piece.cert.epoch.0 == piece.epoch.0 && piece.values.len() < 256
+}
+
+fn put_values(values: &[Value], out: &mut Writer) -> Result<(), NoMemory>
+    ensures { OnOk result (out.new ≡ and_bytes out.old (flat_map (spell_value out.old.version) values.now)) }
+{
+    for value in values {
+        write_value(value, out)?;
+    }
+    Ok(())
+}
+
+fn put_row(piece: &Piece, out: &mut Writer) -> Result<(), NoMemory>
+    requires { length piece.now.values < 256 }
+    ensures { OnOk result (out.new ≡ and_bytes out.old (piece_row out.old.version piece.now)) }
+{
+    out.put_u8(piece.values.len() as u8)?;
+    put_values(piece.values.as_slice(), out)?;
+    write_cert(&piece.cert, out)
+}
+
+/// Writes a piece. One that has no spelling is written as bytes that no reader takes.
+pub fn write_piece(piece: &Piece, out: &mut Writer) -> Result<(), NoMemory>
+    ensures { OnOk result (out.new ≡ and_bytes out.old (spell_piece out.old.version piece.now)) }
+{
+    if !has_spelling(piece) {
+        return out.put_bytes(&NO_PIECE);
+    }
+    put_row(piece, out)
+}
+
+fn read_values(alloc: Global, count: u8, f: &mut Fields) -> Result<Row<Value>, DecodeError>
+    ensures ok { IfOk result (λ vs. IsRead (times count (parse_value f.old.version)) f.old f.new vs) }
+    ensures bad { (at : ℕ) → result ≡ Err (DecodeError.BadField at) → IsUnreadable (times count (parse_value f.old.version)) f.old at }
+{
+    let mut values = Row::new(alloc);
+    for _ in 0..count {
+        let value = read_value(alloc, f)?;
+        values.push(value)?;
+    }
+    Ok(values)
+}
+
+/// Reads a piece of an epoch. `BadField` names the first field that does not fit.
+pub fn read_piece(alloc: Global, epoch: Epoch, f: &mut Fields) -> Result<Piece, DecodeError>
+    ensures ok { IfOk result (λ p. IsRead (parse_piece f.old.version epoch.0) f.old f.new p) }
+    ensures bad { (at : ℕ) → result ≡ Err (DecodeError.BadField at) → IsUnreadable (parse_piece f.old.version epoch.0) f.old at }
+{
+    let count = f.read_u8()?;
+    let values = read_values(alloc, count, f)?;
+    let cert = read_cert(alloc, epoch, f)?;
+    Ok(Piece {
+        epoch,
+        values,
+        cert,
+    })
+}
+
+/// The bytes of an ask: none. It takes no memory.
+pub fn encode_ask(alloc: Global, ask: &Ask) -> Bytes
+    ensures { result ≡ spell_ask ask.now }
+{
+    let _epoch = ask.epoch;
+    Bytes::new(alloc)
+}
+
+/// The ask that bytes spell, all of them. There is none but that of no bytes, so what stands there does not fit. It takes no memory.
+pub fn decode_ask(epoch: Epoch, bytes: &[u8]) -> Result<Ask, DecodeError>
+    ensures ok { IfOk result (λ a. parse_ask epoch.0 bytes.now ≡ Good a []) }
+    ensures bad { (at : ℕ) → result ≡ Err (DecodeError.BadField at) → all_of (parse_ask epoch.0) bytes.now ≡ Bad at }
+    ensures enough { result ≢ Err DecodeError.NoMemory }
+{
+    if !bytes.is_empty() {
+        return Err(DecodeError::BadField { at: 0 });
+    }
+    Ok(Ask { epoch })
+}
+
+/// The bytes of a piece. One that has no spelling gives bytes that are no piece's.
+pub fn encode_piece(alloc: Global, version: u8, piece: &Piece) -> Result<Bytes, NoMemory>
+    ensures { IfOk result (λ bytes. bytes ≡ spell_piece version piece.now) }
+{
+    let mut out = Writer::new(alloc, version);
+    write_piece(piece, &mut out)?;
+    Ok(out.into_bytes())
+}
+
+/// The piece of an epoch that the bytes spell, all of them. `BadField` names the offset of the first field that does not fit;
+/// behind a piece that is followed by more bytes that is the first of them.
+pub fn decode_piece(
+    alloc: Global,
+    version: u8,
+    epoch: Epoch,
+    bytes: &[u8],
+) -> Result<Piece, DecodeError>
+    ensures ok { IfOk result (λ p. parse_piece version epoch.0 bytes.now ≡ Good p []) }
+    ensures bad { (at : ℕ) → result ≡ Err (DecodeError.BadField at) → all_of (parse_piece version epoch.0) bytes.now ≡ Bad at }
+{
+    let mut f = Fields::over(version, bytes);
+    let piece = read_piece(alloc, epoch, &mut f)?;
+    if !f.is_done() {
+        return Err(f.bad_field());
+    }
+    Ok(piece)
+}

@@ -1,0 +1,13 @@
+use Rattle.pbft_wire.proofs.MessageGrammar.{message-grammar}
+use Rattle.sb_pbft.proofs.Lawful.{pbft-lawful}
+use Rattle.sb_pbft.proofs.Safe.{pbft-safe}
+use Rattle.sb_pbft.proofs.pbft.PbftSequenced.laws.Goals as goal
+
+pub returns-clause-grammar : goal.returns-clause-grammar
+returns-clause-grammar c = message-grammar
+
+pub returns-clause-lawful : goal.returns-clause-lawful
+returns-clause-lawful c = pbft-lawful
+
+pub returns-clause-safe : goal.returns-clause-safe
+returns-clause-safe c = pbft-safe

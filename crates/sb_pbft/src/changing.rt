@@ -1,0 +1,273 @@
+//! The change of views: ViewChanges, NewViews, timeouts.
+ghost use Rattle.std.specs.Prelude.{◌≡◌, ◌≤◌, ◌<◌, ◌*◌, ◌+◌, ◌==◌, ◌&&◌, ℕ, List, length, not, is_some, IfOk, OnOk};
+ghost use Rattle.iss_base.specs.Lists.{first_of};
+ghost use Rattle.iss_keys.specs.KeyStates.{left_of};
+ghost use Rattle.iss_sb.specs.Calls.{IsGoodParams};
+ghost use Rattle.pbft_views.specs.Choice.{certificates_of};
+ghost use Rattle.pbft_views.specs.Good.{all_good, primary};
+ghost use Rattle.sb_pbft.specs.Makes.{choice_strings, value_strings};
+ghost use Rattle.sb_pbft.specs.Pbft.{pbft};
+ghost use Rattle.sb_pbft.specs.Places.{proposal_at};
+ghost use Rattle.sb_pbft.specs.Rules.{enters, is_newer, passes};
+ghost use Rattle.sb_pbft.specs.Stands.{Does, HasHashed, Renews, chosen_among, held, is_due};
+
+use crate::pbft::Pbft;
+use crate::proposals::{Proposal, Proposals};
+use crate::sending::{send_change, send_new_view};
+use iss_keys::Keys;
+use iss_request::{Bytes, NoMemory, NodeId, Row, Slot};
+use iss_sb::{Effects, Input, Params};
+use pbft_views::{all_good, are_enough, choice, choice_string, primary};
+use pbft_wire::{Certificate, Change, Message, digest_of, string_of};
+use std::alloc::Global;
+
+// ---- what is hashed
+
+// The strings of these certificates' values, behind what was hashed.
+fn hash_values(
+    alloc: Global,
+    p: &Params,
+    certificates: &[Certificate],
+    effects: &mut Effects<Message>,
+) -> Result<(), NoMemory>
+    ensures { OnOk result (HasHashed (value_strings p.now certificates.now) effects.old effects.new) }
+{
+    let [first, others @ ..] = certificates else {
+        return Ok(());
+    };
+    let string = string_of(alloc, p, &first.value)?;
+    effects.hashed.push(string)?;
+    hash_values(alloc, p, others, effects)
+}
+
+// The strings of the values of all their certificates.
+fn hash_changes(
+    alloc: Global,
+    p: &Params,
+    changes: &[Change],
+    effects: &mut Effects<Message>,
+) -> Result<(), NoMemory>
+    ensures { OnOk result (HasHashed (value_strings p.now (certificates_of changes.now)) effects.old effects.new) }
+{
+    let [first, others @ ..] = changes else {
+        return Ok(());
+    };
+    hash_values(alloc, p, first.certificates.as_slice(), effects)?;
+    hash_changes(alloc, p, others, effects)?;
+    Ok(())
+}
+
+// The strings of what these ViewChanges choose, slot by slot.
+fn hash_choices(
+    alloc: Global,
+    p: &Params,
+    changes: &[Change],
+    slots: &[Slot],
+    effects: &mut Effects<Message>,
+) -> Result<(), NoMemory>
+    ensures { OnOk result (HasHashed (choice_strings p.now changes.now slots.now) effects.old effects.new) }
+{
+    let [slot, others @ ..] = slots else {
+        return Ok(());
+    };
+    let string = choice_string(alloc, p, *slot, changes)?;
+    effects.hashed.push(string)?;
+    hash_choices(alloc, p, changes, others, effects)
+}
+
+// ---- what a new view proposes
+
+// Puts what these ViewChanges choose at these slots, each with its signature.
+fn put_choices(
+    p: &Params,
+    view: u16,
+    changes: &[Change],
+    slots: &[Slot],
+    signatures: &[Bytes],
+    proposals: &mut Proposals,
+) -> Result<(), NoMemory>
+    requires { length signatures.now ≡ length slots.now }
+    ensures { OnOk result ((w s : ℕ) → proposal_at proposals.new w s ≡
+        first_of (chosen_among p.now view changes.now slots.now signatures.now w s) (proposal_at proposals.old w s)) }
+{
+    let [slot, slots @ ..] = slots else {
+        return Ok(());
+    };
+    let [sig, signatures @ ..] = signatures else {
+        return Ok(());
+    };
+    put_choices(p, view, changes, slots, signatures, proposals)?;
+    let value = choice(*slot, changes)?;
+    let digest = digest_of(p, &value);
+    let sig = sig.copy()?;
+    let proposal = Proposal { value, digest, sig };
+    proposals.put(view, *slot, proposal)
+}
+
+impl Pbft {
+    // ---- ViewChanges, and the NewView of the primary for which they are enough
+
+    // Whether a ViewChange is kept: its node's first that is good.
+    fn keeps(&self, p: &Params, change: &Change) -> bool
+        requires { IsGoodParams pbft p.now }
+        ensures { result ≡ (all_good p.now change.now.view change.now.certificates &&
+            not (is_some ((held self.now).change change.now.view change.now.node.0))) }
+    {
+        all_good(p, change.view, change.certificates.as_slice())
+            && !self.changes.has(change.view, change.node)
+    }
+
+    // Whether a NewView is due where so many ViewChanges of the view were kept before.
+    fn is_due(&self, p: &Params, view: u16, before: u32) -> bool
+        requires { IsGoodParams pbft p.now }
+        ensures { result ≡ is_due p.now self.now view before }
+    {
+        let enough = 2 * p.setup.f + 1;
+        (self.me == primary(p, view) && self.view <= view)
+            && (before < enough && self.changes.count(view, p.setup.n as u8) == enough)
+    }
+
+    // The NewView of the ViewChanges that are kept, where it is due.
+    fn renew(
+        &self,
+        alloc: Global,
+        p: &Params,
+        view: u16,
+        before: u32,
+        keys: &mut Keys,
+        effects: &mut Effects<Message>,
+    ) -> Result<(), NoMemory>
+        requires good { IsGoodParams pbft p.now }
+        requires enough { length p.now.slots + 1 ≤ left_of keys.old }
+        ensures { OnOk result (Renews p.now (is_due p.now self.now view before) self.now view keys.old keys.new effects.old effects.new) }
+    {
+        if !self.is_due(p, view, before) {
+            return Ok(());
+        }
+        let changes = self.changes.all(alloc, view, p.setup.n as u8)?;
+        hash_choices(alloc, p, changes.as_slice(), p.slots.as_slice(), effects)?;
+        send_new_view(alloc, p, view, changes, keys, &mut effects.sends)?;
+        Ok(())
+    }
+
+    pub(crate) fn take_change(
+        &mut self,
+        alloc: Global,
+        p: &Params,
+        change: Change,
+        keys: &mut Keys,
+    ) -> Result<Effects<Message>, NoMemory>
+        requires good { IsGoodParams pbft p.now }
+        requires enough { 2 * length p.now.slots + 1 ≤ left_of keys.old }
+        ensures { IfOk result (λ e. Does p.now self.old self.new
+            (Input.Receive change.node (Message.ViewChange change.view change.certificates change.sig)) keys.old keys.new e) }
+    {
+        let view = change.view;
+        let mut effects = Effects::nothing(alloc);
+        if !self.keeps(p, &change) {
+            return Ok(effects);
+        }
+        let before = self.changes.count(view, p.setup.n as u8);
+        hash_values(alloc, p, change.certificates.as_slice(), &mut effects)?;
+        self.changes.keep(change)?;
+        self.renew(alloc, p, view, before, keys, &mut effects)?;
+        Ok(effects)
+    }
+
+    // ---- NewViews
+
+    // Whether the view is above the own one, or the own one that did not begin.
+    fn is_newer(&self, view: u16) -> bool
+        ensures { result ≡ is_newer (held self.now).mode view }
+    {
+        self.view < view || (self.view == view && !self.active)
+    }
+
+    // Whether a NewView is taken.
+    fn enters(
+        &self,
+        p: &Params,
+        from: NodeId,
+        view: u16,
+        changes: &[Change],
+        signatures: &[Bytes],
+    ) -> bool
+        requires { IsGoodParams pbft p.now }
+        ensures { result ≡ enters p.now (held self.now).mode from.0 view changes.now signatures.now }
+    {
+        self.is_newer(view)
+            && (are_enough(p, view, changes)
+                && (from == primary(p, view) && (0 < view && signatures.len() == p.slots.len())))
+    }
+
+    // Whether another node is the primary of the view.
+    fn follows(&self, p: &Params, view: u16) -> bool
+        requires { IsGoodParams pbft p.now }
+        ensures { result ≡ not (self.now.me.0 == primary p.now view) }
+    {
+        self.me != primary(p, view)
+    }
+
+    pub(crate) fn take_new_view(
+        &mut self,
+        alloc: Global,
+        p: &Params,
+        from: NodeId,
+        view: u16,
+        changes: Row<Change>,
+        signatures: Row<Bytes>,
+        keys: &mut Keys,
+    ) -> Result<Effects<Message>, NoMemory>
+        requires good { IsGoodParams pbft p.now }
+        requires enough { 2 * length p.now.slots + 1 ≤ left_of keys.old }
+        ensures { IfOk result (λ e. (sig : List ℕ) →
+            Does p.now self.old self.new (Input.Receive from (Message.NewView view changes signatures sig)) keys.old keys.new e) }
+    {
+        let mut effects = Effects::nothing(alloc);
+        let shown = changes.as_slice();
+        let signed = signatures.as_slice();
+        if !self.enters(p, from, view, shown, signed) {
+            return Ok(effects);
+        }
+        let slots = p.slots.as_slice();
+        hash_changes(alloc, p, shown, &mut effects)?;
+        hash_choices(alloc, p, shown, slots, &mut effects)?;
+        put_choices(p, view, shown, slots, signed, &mut self.proposals)?;
+        self.view = view;
+        self.active = true;
+        let answers = self.follows(p, view);
+        self.settle(alloc, p, answers, view, slots, keys, &mut effects)?;
+        Ok(effects)
+    }
+
+    // ---- timeouts
+
+    // Whether there is a view above the own one.
+    fn passes(&self) -> bool
+        ensures { result ≡ passes (held self.now).mode }
+    {
+        self.view < u16::MAX
+    }
+
+    pub(crate) fn time_out(
+        &mut self,
+        alloc: Global,
+        p: &Params,
+        keys: &mut Keys,
+    ) -> Result<Effects<Message>, NoMemory>
+        requires good { IsGoodParams pbft p.now }
+        requires enough { 2 * length p.now.slots + 1 ≤ left_of keys.old }
+        ensures { IfOk result (λ e. Does p.now self.old self.new Input.Timeout keys.old keys.new e) }
+    {
+        let mut effects = Effects::nothing(alloc);
+        if !self.passes() {
+            return Ok(effects);
+        }
+        let view = self.view + 1;
+        let certificates = self.tops.of_slots(alloc, p.slots.as_slice())?;
+        send_change(alloc, p, view, certificates, keys, &mut effects.sends)?;
+        self.view = view;
+        self.active = false;
+        Ok(effects)
+    }
+}
