@@ -3,6 +3,7 @@
 #![tactic(auto)]
 
 pub mod certificates;
+pub mod hashing;
 pub mod laws;
 pub mod messages;
 pub mod signing;
