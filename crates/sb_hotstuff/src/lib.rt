@@ -28,6 +28,3 @@ pub use facts::{
 };
 pub use hotstuff::HotStuff;
 pub use laws::{hotstuff_has_a_grammar, hotstuff_is_lawful, hotstuff_is_safe};
-
-#[cfg(test)]
-mod tests;
