@@ -3,7 +3,7 @@ use Rattle.std.proofs.Common.{◌≡◌, ℕ, zero, suc, ◌≤◌, ◌<◌, ◌
 use Rattle.std.proofs.Math.Seq.{drop-cons}
 use Rattle.std.proofs.lemmas.List.{append-nil}
 use Rattle.iss_base.specs.Lists.{In, nth}
-use Rattle.iss_base.proofs.Lists.{eqb-other, eqb-same, is-eq, nth-beyond}
+use Rattle.iss_base.proofs.Lists.{eqb-other, eqb-same, is-eq, nth-beyond, same_or_not}
 use Rattle.iss_request.specs.Slots.{AreAscending}
 use Rattle.iss_request.specs.declared.ids.Slot.{Slot}
 use Rattle.iss_request.specs.declared.requests.Value.{Value}
@@ -52,6 +52,11 @@ module _ (ss : List Slot) (all fresh : List (Slot × Value)) (place : ℕ) (rest
 pub no-more : (xs : List Value) (n : ℕ) → n ≡ 0 → n ≡ length xs → xs ≡ []
 no-more [] n e h = refl
 no-more (x ∷ xs) n e h = absurd (omega (arith, e, h))
+
+pub slot-inside : (ss : List Slot) (k : ℕ) (d : Slot) → k < length ss → In (get_or ss k d) ss
+slot-inside [] k d h = absurd (omega (arith, h))
+slot-inside (s ∷ ss) zero d h = inl refl
+slot-inside (s ∷ ss) (suc k) d h = inr (slot-inside ss k d (omega (arith, h)))
 
 -- ---- a pair, and the value with its slot
 
@@ -188,13 +193,23 @@ fresh-within k ss ws = all-paired (drop k ss) ss ws (λ s i. drop-slot s k ss i)
 
 -- ---- the values of a branch
 
+suc-same : (k l : ℕ) → (suc k == suc l) ≡ (k == l)
+suc-same k l = elim (same_or_not k l) [
+  | inl h ↦ rw h (eqb-same (suc l) ∙ sym (eqb-same l))
+  | inr h ↦ eqb-other (suc k) (suc l) (λ e. h (omega (arith, e))) ∙ sym (eqb-other k l h)
+]
+
 nth-one : (xs : List Value) (o : Option Value) (k : ℕ) → nth (xs ++ one_or_none o) k ≡ (if k == length xs then o else nth xs k)
 nth-one [] None zero = refl
-nth-one [] None (suc k) = refl
+nth-one [] None (suc k) = same (suc k == 0)
+  where
+    same : (b : Bool) → ◌≡◌ {A = Option Value} None (if b then None else None)
+    same true = refl
+    same false = refl
 nth-one [] (Some v) zero = refl
-nth-one [] (Some v) (suc k) = refl
-nth-one (x ∷ xs) o zero = refl
-nth-one (x ∷ xs) o (suc k) = nth-one xs o k
+nth-one [] (Some v) (suc k) = rw (eqb-other (suc k) 0 (λ e. omega (arith, e))) refl
+nth-one (x ∷ xs) o zero = rw (eqb-other 0 (suc (length xs)) (λ e. omega (arith, e))) refl
+nth-one (x ∷ xs) o (suc k) = nth-one xs o k ∙ ap (λ (b : Bool). if b then o else nth xs k) (sym (suc-same k (length xs)))
 
 value-nth : (cs : List What) (k : ℕ) → value_at cs k ≡ nth (values cs) k
 value-nth [] k = refl
@@ -215,7 +230,7 @@ value-nth (c ∷ cs) k =
     here Mark e = mark e (k == filled cs) refl
 
 -- what stands behind the first so many values
-front : Option Value → List Value → List Value
+abbrev front : Option Value → List Value → List Value
 front None vs = []
 front (Some v) vs = v ∷ vs
 

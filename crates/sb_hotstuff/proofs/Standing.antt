@@ -127,7 +127,7 @@ module _ (p : Params) (m n : HotStuff) (i : Input Message) (o : Outcome) (a : Op
 
 -- ---- a step that only delivers, or does nothing
 
-record IsIdle (p : Params) (me : ℕ) (s : State) (i : Input Message) : Type 0 where
+pub record IsIdle (p : Params) (me : ℕ) (s : State) (i : Input Message) : Type 0 where
   pub drafts_none : drafts p me s i ≡ []
   pub strings_none : strings p me s i ≡ []
   pub state : after p me s i ≡ s

@@ -6,7 +6,7 @@ ghost use Rattle.iss_request.specs.declared.requests.Batch.{Batch};
 ghost use Rattle.iss_sb.specs.Calls.{IsGoodInput, IsGoodParams, IsStep, IsTrueStep, named};
 ghost use Rattle.hs_tree.specs.declared.messages.Message.TheVariants.{NewView, Prepare, PreCommit, Commit, Decide, Vote};
 ghost use Rattle.sb_hotstuff.specs.Accepted.{AreAccepted};
-ghost use Rattle.sb_hotstuff.specs.HotStuff.{hotstuff, offered};
+ghost use Rattle.sb_hotstuff.specs.HotStuff.{asked_by, hotstuff, offered};
 ghost use Rattle.sb_hotstuff.specs.Instances.{Stands};
 ghost use Rattle.sb_hotstuff.specs.Rules.{State, may_prepare};
 ghost use Rattle.sb_hotstuff.specs.Stands.{IsFor};
@@ -56,6 +56,23 @@ impl HotStuff {
             return None;
         };
         Some((slot, batch))
+    }
+
+    // The batch that a message would have the node accept.
+    fn asked<'a>(&'a self, p: &Params, from: NodeId, msg: &'a Message) -> Option<(Slot, &'a Batch)>
+        requires { IsGoodParams hotstuff p.now }
+        ensures { (s : State) (old : List (Slot × Batch)) → IsFor self.now.node s → AreAccepted self.now.accepted old →
+            named result ≡ asked_by p.now s old from.0 msg.now }
+    {
+        match msg {
+            Message::Prepare {
+                view,
+                what,
+                just,
+                ..
+            } => self.offered(p, from, *view, what, just),
+            _ => None,
+        }
     }
 
     // The leader takes a batch that is cast to it.
@@ -309,17 +326,8 @@ impl Sequenced for HotStuff {
                     None
                 }
             }
-            Input::Receive {
-                from,
-                msg:
-                    Message::Prepare {
-                        view,
-                        what,
-                        just,
-                        ..
-                    },
-            } => self.offered(p, *from, *view, what, just),
-            _ => None,
+            Input::Receive { from, msg } => self.asked(p, *from, msg),
+            Input::Timeout => None,
         }
     }
 

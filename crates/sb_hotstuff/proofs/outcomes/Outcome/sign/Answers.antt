@@ -5,8 +5,8 @@ use Rattle.iss_sb.specs.declared.effects.To.{To}
 use Rattle.hs_tree.specs.declared.messages.Message.{Message}
 use Rattle.sb_hotstuff.proofs.outcomes.Outcome.sign.Goals as goal
 
-pub send-2-requires-left : goal.send-2-requires-left
-send-2-requires-left c = left-enough c.args.keys.now c.send.new.keys c.args.self.answer c.requires.enough c.in_ok-send.ensures.used
+pub send-requires-2-clause-left : goal.send-requires-2-clause-left
+send-requires-2-clause-left c = left-enough c.args.keys.now c.send.new.keys c.args.self.answer c.requires.enough c.in_ok-send.ensures.used
 
 pub returns : goal.returns
 returns c =
