@@ -1,6 +1,6 @@
 //! Instances in which node 0 leads the slots 0 and 4. The set-up is a parameter, since of literal counts the tactics list
 //! each key.
-ghost use Rattle.std.specs.Prelude.{◌≡◌, ◌≤◌, [], ◌∷◌, IfOk};
+ghost use Rattle.std.specs.Prelude.{◌≡◌, ◌≤◌, ◌+◌, ◌*◌, [], ◌∷◌, IfOk};
 ghost use Rattle.iss_keys.specs.Directories.{directory_of};
 ghost use Rattle.iss_request.specs.Setup.{IsGoodSetup};
 ghost use Rattle.iss_request.specs.declared.setups.Kind.TheVariants.{Byzantine};
@@ -34,7 +34,7 @@ fn directory(alloc: Global, setup: &Setup) -> Result<SharedDirectory, NoMemory>
 
 fn instance(alloc: Global, setup: Setup) -> Result<Params, NoMemory>
     requires good { IsGoodSetup setup }
-    requires tag { setup.module ≡ 4 }
+    requires tag { setup.«module» ≡ 4 }
     requires kind { setup.kind ≡ Byzantine }
     requires nodes { setup.n ≡ 3 * setup.f + 1 }
     requires majority { setup.quorum ≡ 2 * setup.f + 1 }
@@ -58,7 +58,7 @@ fn setup(alloc: Global, f: u32, n: u32, quorum: u32) -> Setup
     requires nodes { n ≡ 3 * f + 1 }
     requires majority { quorum ≡ 2 * f + 1 }
     ensures good { IsGoodSetup result }
-    ensures tag { result.module ≡ 4 }
+    ensures tag { result.«module» ≡ 4 }
     ensures kind { result.kind ≡ Byzantine }
     ensures faults { result.f ≡ f }
     ensures nodes { result.n ≡ n }
