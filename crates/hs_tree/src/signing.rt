@@ -18,9 +18,9 @@ use sha2::{Digest, Sha256};
 use std::alloc::Global;
 
 // The byte before a value that is hashed, and before a node.
-const VALUE: u8 = 0x40;
+pub(crate) const VALUE: u8 = 0x40;
 
-const NODE: u8 = 0x41;
+pub(crate) const NODE: u8 = 0x41;
 
 // ---- what is hashed
 
@@ -66,7 +66,7 @@ pub fn held_digest(version: u8, what: &What, string: &Option<Bytes>) -> [u8; 32]
 }
 
 // What a node holds, as a number.
-fn kind_of(what: &What) -> u8
+pub(crate) fn kind_of(what: &What) -> u8
     ensures { result ≡ kind_of what.now }
 {
     match what {

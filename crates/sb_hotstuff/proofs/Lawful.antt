@@ -74,7 +74,7 @@ module _ (p : Params) (me : ℕ) (xs : List (Item Message)) where
   castable : (s : Slot) (b c : Batch) → asks p me xs (Cast s b) ≡ Some (s, b) → asks p me xs (Cast s c) ≡ Some (s, c)
   castable s b c h = rw ((cast-is s b (s, b) h).passed) refl
 
-slot-In : (slots : List Slot) (k : ℕ) (s : Slot) → is_slot s.0 (nth slots k) ≡ true → In s slots
+pub slot-In : (slots : List Slot) (k : ℕ) (s : Slot) → is_slot s.0 (nth slots k) ≡ true → In s slots
 slot-In slots k s h = go (nth slots k) refl h
   where
     go : (o : Option Slot) → nth slots k ≡ o → is_slot s.0 o ≡ true → In s slots

@@ -14,3 +14,7 @@ mod Tallying
 mod Drafting
 mod Turning
 mod Taking
+mod Testing
+mod Paired
+mod Signed
+mod Standing

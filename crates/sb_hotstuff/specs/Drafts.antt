@@ -1,15 +1,28 @@
 -- Messages before they are signed, as the code makes them.
-use Rattle.std.specs.Prelude.{◌≡◌, List, [], ◌∷◌, Option, Some, None}
+use Rattle.std.specs.Prelude.{◌≡◌, ℕ, List, [], ◌∷◌, Option, Some, None}
 use Rattle.iss_sb.specs.declared.effects.Params.{Params}
 use Rattle.iss_sb.specs.declared.effects.To.{To}
+use Rattle.iss_sb.specs.declared.effects.To.TheVariants.{All as To_all}
 use Rattle.hs_tree.specs.declared.messages.Message.{Message}
 use Rattle.hs_tree.specs.Statements.{own_statement}
 use Rattle.hs_tree.specs.Tree.{basic}
 use Rattle.sb_hotstuff.specs.declared.signing.Draft.{Draft}
+use Rattle.sb_hotstuff.specs.declared.signing.Whom.{Whom}
+use Rattle.sb_hotstuff.specs.declared.signing.Whom.TheVariants.{All as Whom_all, Leader}
+use Rattle.sb_hotstuff.specs.HotStuff.{to_leader}
+
+-- the nodes that are meant
+abbrev pub to_nodes : Params → Whom → To
+to_nodes p Whom_all = To_all
+to_nodes p (Leader round) = to_leader p round
+
+abbrev pub count_of : Option Draft → ℕ
+count_of None = 0
+count_of (Some d) = 1
 
 -- a draft is of this message, and of what its sender signs
 pub record IsDraft (p : Params) (d : Draft) (xs : List (To × Message)) : Type 0 where
-  pub message : xs ≡ (d.to, d.msg) ∷ []
+  pub message : xs ≡ (to_nodes p d.to, d.msg) ∷ []
   pub statement : d.statement ≡ own_statement basic p d.msg
 
 -- these messages, at most one

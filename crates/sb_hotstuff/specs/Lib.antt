@@ -1,7 +1,10 @@
+pub mod Accepted
 pub mod Facts
 pub mod HotStuff
+pub mod Instances
 pub mod Rules
 pub mod Tallies
+pub mod Delivered
 pub mod Drafts
 pub mod Stands
 pub mod Steps

@@ -4,11 +4,16 @@
 //! Responsiveness"; ISS, "Sequenced Broadcast").
 #![tactic(auto)]
 
+pub mod accepted;
+pub mod accepting;
 pub mod ballots;
+pub mod delivering;
 pub mod facts;
+pub mod hotstuff;
 pub mod laws;
 pub mod news;
 pub mod outcomes;
+pub mod preparing;
 pub mod proposing;
 pub mod rules;
 pub mod signing;
@@ -21,4 +26,5 @@ pub use facts::{
     later_votes_rest_on_certificates, nodes_agree, the_leader_accepted_what_is_delivered,
     views_have_one_node, votes_are_once_in_rising_views,
 };
+pub use hotstuff::HotStuff;
 pub use laws::{hotstuff_has_a_grammar, hotstuff_is_lawful, hotstuff_is_safe};

@@ -1,9 +1,16 @@
 //! What a rule makes.
-ghost use Rattle.std.specs.Prelude.{◌≡◌, Some};
+ghost use Rattle.std.specs.Prelude.{◌≡◌, ◌≤◌, Some, IfOk};
+ghost use Rattle.iss_keys.specs.KeyStates.{left_of};
+ghost use Rattle.iss_sb.specs.Calls.{IsGoodParams};
+ghost use Rattle.sb_hotstuff.specs.HotStuff.{hotstuff};
+ghost use Rattle.sb_hotstuff.specs.Instances.{IsSigned};
 ghost use Rattle.sb_hotstuff.specs.Steps.{IsAnswer, IsQuiet};
 
-use crate::signing::Draft;
-use iss_request::{Bytes, Row};
+use crate::signing::{Draft, send};
+use hs_tree::Message;
+use iss_keys::Keys;
+use iss_request::{Batch, Bytes, NoMemory, Row, Slot};
+use iss_sb::{Effects, Params};
 use std::alloc::Global;
 
 /// An answer and a proposal, each as it is before it is signed, and the strings that were hashed.
@@ -35,5 +42,29 @@ impl Outcome {
             proposal: None,
             hashed: Row::new(alloc),
         }
+    }
+
+    /// The messages, each signed with the next leaf, the answer first, with the batch that was accepted.
+    pub fn sign(
+        self,
+        alloc: Global,
+        p: &Params,
+        accepted: Option<(Slot, Batch)>,
+        keys: &mut Keys,
+    ) -> Result<Effects<Message>, NoMemory>
+        requires good { IsGoodParams hotstuff p.now }
+        requires enough { 2 ≤ left_of keys.old }
+        ensures { IfOk result (λ e. IsSigned p.now self accepted keys.old keys.new e) }
+    {
+        let mut sends = Row::new(alloc);
+        send(p, self.answer, keys, &mut sends)?;
+        send(p, self.proposal, keys, &mut sends)?;
+        let delivers = Row::new(alloc);
+        Ok(Effects {
+            sends,
+            accepted,
+            delivers,
+            hashed: self.hashed,
+        })
     }
 }

@@ -2,18 +2,18 @@
 ghost use Rattle.std.specs.Prelude.{◌≡◌, ◌<◌, ◌+◌, ◌==◌, ◌++◌, ◌∷◌, [], ℕ, List, Some, length, IfOk, OnOk, if◌then◌else◌};
 ghost use Rattle.iss_keys.specs.Directories.{AreKeysOf};
 ghost use Rattle.iss_keys.specs.KeyStates.{left_of};
-ghost use Rattle.iss_sb.specs.Calls.{IsGoodParams};
-ghost use Rattle.iss_sb.specs.declared.effects.Params.{Params};
+ghost use Rattle.iss_sb.specs.Calls.{AreToNodes, IsGoodParams, IsToNode};
 ghost use Rattle.iss_sb.specs.declared.effects.To.{To};
 ghost use Rattle.iss_sb.specs.declared.effects.To.TheVariants.{All as To_all};
 ghost use Rattle.hs_tree.specs.declared.messages.Message.{Message};
 ghost use Rattle.hs_tree.specs.declared.messages.Message.TheVariants.{NewView, Prepare};
 ghost use Rattle.hs_tree.specs.Statements.{certificate_claims, claim, claims, inside, own_statement, signature_of, with_signature};
 ghost use Rattle.hs_tree.specs.Tree.{basic};
-ghost use Rattle.sb_hotstuff.specs.Drafts.{AreDrafts};
+ghost use Rattle.sb_hotstuff.specs.Drafts.{AreDrafts, count_of, to_nodes};
 ghost use Rattle.sb_hotstuff.specs.HotStuff.{hotstuff, shows, sign_all, to_leader, voted};
 ghost use Rattle.sb_hotstuff.specs.Rules.{leader_of, node_digest};
 
+use crate::state::round_of;
 use hs_tree::signing::{
     hash_node, node_statement, put_certificate_claims, round_statement, vote_statement,
 };
@@ -28,10 +28,17 @@ use std::alloc::Global;
 /// The number of the module.
 pub const TAG: u8 = 4;
 
+/// Whom a message goes to: all nodes, or who leads a round.
+#[derive(Clone, Copy, Debug)]
+pub enum Whom {
+    All,
+    Leader(u16),
+}
+
 /// A message before it is signed: to whom it goes, and what its sender is to sign.
 #[derive(Drop)]
 pub struct Draft {
-    pub to: To,
+    pub to: Whom,
     pub msg: Message,
     pub statement: Bytes,
 }
@@ -39,10 +46,23 @@ pub struct Draft {
 /// Who leads a round.
 pub fn leader_of(p: &Params, round: u16) -> NodeId
     requires { IsGoodParams hotstuff p.now }
-    ensures { result.0 ≡ leader_of p.now round }
+    ensures leader { result.0 ≡ leader_of p.now round }
+    ensures node { result.0 < p.now.setup.n }
 {
     let sum = p.leader.0 as u32 + round as u32;
     NodeId((sum % p.setup.n) as u8)
+}
+
+// The nodes that are meant.
+fn to_nodes(p: &Params, to: Whom) -> To
+    requires { IsGoodParams hotstuff p.now }
+    ensures to { result ≡ to_nodes p.now to }
+    ensures node { IsToNode p.now.setup.n result }
+{
+    match to {
+        Whom::All => To::All,
+        Whom::Leader(round) => To::One(leader_of(p, round)),
+    }
 }
 
 // ---- drafts
@@ -55,14 +75,13 @@ pub fn vote_draft(
     view: u32,
     digest: [u8; 32],
 ) -> Result<Draft, NoMemory>
-    requires { IsGoodParams hotstuff p.now }
     ensures { IfOk result (λ d. AreDrafts p.now (Some d) (voted p.now phase view digest)) }
 {
     let statement = vote_statement(alloc, p, TAG, phase, view, &digest)?;
-    let leader = leader_of(p, (view / 65536) as u16);
+    let round = round_of(view);
     let sig = Bytes::new(alloc);
     Ok(Draft {
-        to: To::One(leader),
+        to: Whom::Leader(round),
         msg: Message::Vote {
             phase,
             view,
@@ -110,7 +129,7 @@ pub fn shown_draft(
     let statement = node_statement(alloc, p, TAG, shown_kind(phase), view, &digest)?;
     let msg = shown_message(alloc, phase, view, shown);
     Ok(Draft {
-        to: To::All,
+        to: Whom::All,
         msg,
         statement,
     })
@@ -130,7 +149,7 @@ pub fn proposal_draft(
     let statement = node_statement(alloc, p, TAG, PREPARE, view, digest)?;
     let sig = Bytes::new(alloc);
     Ok(Draft {
-        to: To::All,
+        to: Whom::All,
         msg: Message::Prepare {
             view,
             what,
@@ -148,14 +167,12 @@ pub fn round_draft(
     round: u16,
     high: Certificate,
 ) -> Result<Draft, NoMemory>
-    requires { IsGoodParams hotstuff p.now }
     ensures { IfOk result (λ d. AreDrafts p.now (Some d) ((to_leader p.now round, NewView round high []) ∷ [])) }
 {
     let statement = round_statement(alloc, p, TAG, round, high.view())?;
-    let leader = leader_of(p, round);
     let sig = Bytes::new(alloc);
     Ok(Draft {
-        to: To::One(leader),
+        to: Whom::Leader(round),
         msg: Message::NewView { round, high, sig },
         statement,
     })
@@ -215,22 +232,25 @@ fn with_signature(msg: Message, new: Bytes) -> Message
 
 /// Signs a message, if there is one, with the next leaf, and puts it behind others.
 pub fn send(
+    p: &Params,
     draft: Option<Draft>,
     keys: &mut Keys,
     sends: &mut Row<(To, Message)>,
 ) -> Result<(), NoMemory>
-    requires { 0 < left_of keys.old }
-    ensures sends { OnOk result ((p : Params) (me : ℕ) (xs : List (To × Message)) → AreKeysOf me p.setup.keys keys.old → AreDrafts p draft xs →
-        sends.new ≡ sends.old ++ sign_all p me keys.old.used xs) }
-    ensures used { OnOk result ((p : Params) (xs : List (To × Message)) → AreDrafts p draft xs →
-        keys.new ≡ record keys.old { used = keys.old.used + length xs }) }
+    requires good { IsGoodParams hotstuff p.now }
+    requires left { 0 < left_of keys.old }
+    ensures sends { OnOk result ((me : ℕ) (xs : List (To × Message)) → AreKeysOf me p.now.setup.keys keys.old → AreDrafts p.now draft xs →
+        sends.new ≡ sends.old ++ sign_all p.now me keys.old.used xs) }
+    ensures used { OnOk result (keys.new ≡ record keys.old { used = keys.old.used + count_of draft }) }
+    ensures addressed { OnOk result (AreToNodes p.now.setup.n sends.old → AreToNodes p.now.setup.n sends.new) }
 {
     let Some(draft) = draft else {
         return Ok(());
     };
+    let to = to_nodes(p, draft.to);
     let sig = sign(&draft.statement, keys)?;
     let msg = with_signature(draft.msg, sig);
-    sends.push((draft.to, msg))
+    sends.push((to, msg))
 }
 
 // ---- claims

@@ -1,6 +1,8 @@
 //! What a node of HotStuff keeps, and the tests of its rules.
-ghost use Rattle.std.specs.Prelude.{◌≡◌, ◌/◌};
-ghost use Rattle.iss_base.specs.Lists.{nth};
+ghost use Rattle.std.specs.Prelude.{◌≡◌, ◌/◌, ◌&&◌, IsTrue};
+ghost use Rattle.iss_base.specs.Lists.{In, nth};
+ghost use Rattle.hs_tree.specs.Certificates.{digest_of};
+ghost use Rattle.hs_tree.specs.Tree.{is_known};
 ghost use Rattle.iss_sb.specs.Calls.{IsGoodParams};
 ghost use Rattle.sb_hotstuff.specs.HotStuff.{hotstuff};
 ghost use Rattle.sb_hotstuff.specs.Rules.{State, is_allowed, is_good, is_just, is_reached, is_shown, is_slot, is_timely, keeps_news, keeps_vote, may_cast, may_second, may_third, start};
@@ -107,9 +109,13 @@ impl Node {
 
     /// Whether a batch may be cast at the slot: by the leader in the first round, at the next one.
     pub fn may_cast(&self, p: &Params, slot: Slot) -> bool
-        ensures { (s : State) → IsFor self.now s → result ≡ may_cast p.now self.now.me.0 s slot.0 }
+        ensures may { (s : State) → IsFor self.now s → result ≡ may_cast p.now self.now.me.0 s slot.0 }
+        ensures inside { IsTrue result → In slot p.now.slots }
     {
-        self.me == p.leader && round_of(self.view) == 0 && is_next(p, self.casts.len(), slot)
+        if self.me != p.leader || round_of(self.view) != 0 {
+            return false;
+        }
+        is_next(p, self.casts.len(), slot)
     }
 
     /// Whether a proposal is its view's leader's, in a view above the own.
@@ -139,6 +145,13 @@ impl Node {
         ensures { (s : State) → IsFor self.now s → result ≡ may_third p.now s view shown.now }
     {
         self.is_shown(p, 2, view, shown) && !self.third
+    }
+
+    /// Whether the certificate decides the branch of its node.
+    pub fn may_deliver(&self, p: &Params, view: u32, shown: &Certificate) -> bool
+        ensures { (s : State) → IsFor self.now s → result ≡ (is_good p.now 3 view shown.now && is_known s.tree (digest_of shown.now)) }
+    {
+        is_good(p, PHASES, view, shown) && self.tree.has(&shown.digest())
     }
 
     /// Whether a vote is to be kept: for a turn of the own, the first of its sender, up to a quorum.

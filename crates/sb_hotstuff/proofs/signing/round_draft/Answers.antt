@@ -5,5 +5,5 @@ use Rattle.sb_hotstuff.proofs.signing.round_draft.Goals as goal
 
 pub returns : goal.returns
 returns c =
-    round-drafted c.args.p.now c.args.round c.view.result c.args.high c.leader_of-leader.result c.new-sig.result c.in_ok-statement.statement c.leader_of-leader.ensures c.new-sig.ensures c.view.ensures
+    round-drafted c.args.p.now c.args.round c.view.result c.args.high c.new-sig.result c.in_ok-statement.statement c.new-sig.ensures c.view.ensures
     (c.in_ok-statement.ensures basic refl)

@@ -5,5 +5,5 @@ use Rattle.sb_hotstuff.proofs.signing.vote_draft.Goals as goal
 
 pub returns : goal.returns
 returns c =
-    vote-drafted c.args.p.now c.args.phase c.args.view c.args.digest c.leader_of-leader.result c.new-sig.result c.in_ok-statement.statement c.leader_of-leader.ensures c.new-sig.ensures
+    vote-drafted c.args.p.now c.args.phase c.args.view c.round_of-round.result c.args.digest c.new-sig.result c.in_ok-statement.statement c.round_of-round.ensures c.new-sig.ensures
     (c.in_ok-statement.ensures basic refl)

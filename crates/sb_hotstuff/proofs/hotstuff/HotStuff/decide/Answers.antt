@@ -1,0 +1,29 @@
+use Rattle.std.proofs.Common.{◌∙◌, ap, drop, List}
+use Rattle.iss_request.specs.declared.ids.Slot.{Slot}
+use Rattle.iss_request.specs.declared.requests.Value.{Value}
+use Rattle.sb_hotstuff.specs.Delivered.{paired}
+use Rattle.sb_hotstuff.proofs.Standing.{high-step, low-step, undecided-step}
+use Rattle.sb_hotstuff.proofs.hotstuff.HotStuff.decide.Goals as goal
+
+pub returns-then-not-may_deliver : goal.returns-then-not-may_deliver
+returns-then-not-may_deliver c from sig keys enough =
+    let e = c.nothing-effects.ensures in
+    undecided-step c.args.p.now c.requires c.args.self.now keys _ enough e.sends e.accepted e.hashed from c.args.view c.args.shown sig c.may_deliver.result (λ s h. c.may_deliver.ensures s h) c.if-not-may_deliver.true e.delivers
+
+pub returns-then-slots-self : goal.returns-then-slots-self
+returns-then-slots-self c from sig keys enough =
+    let e = c.nothing-effects.ensures in
+    let m = c.args.self.now in
+    low-step c.args.p.now c.requires m keys _ enough e.sends e.accepted e.hashed from c.args.view c.args.shown sig c.may_deliver.result (λ s h. c.may_deliver.ensures s h) c.if-not-may_deliver.false
+    c.digest-digest.result c.in_ok-values.values c.slots-slots.result c.digest-digest.ensures
+    (c.in_ok-effects.ensures ∙ (λ i. paired (drop m.delivered (c.as_slice.ensures i)) (c.into_vec.ensures i)))
+    (λ ks h. c.in_ok-values.ensures ks h) (λ ks h. c.slots-slots.ensures ks h) c.if-slots-self.true
+
+pub returns : goal.returns
+returns c from sig keys enough =
+    let e = c.nothing-effects.ensures in
+    let m = c.args.self.now in
+    high-step c.args.p.now c.requires m keys _ enough e.sends e.accepted e.hashed from c.args.view c.args.shown sig c.may_deliver.result (λ s h. c.may_deliver.ensures s h) c.if-not-may_deliver.false
+    c.digest-digest.result c.in_ok-values.values c.slots-slots.result c.digest-digest.ensures
+    (c.in_ok-effects.ensures ∙ (λ i. paired (drop m.delivered (c.as_slice.ensures i)) (c.into_vec.ensures i)))
+    (λ ks h. c.in_ok-values.ensures ks h) (λ ks h. c.slots-slots.ensures ks h) c.if-slots-self.false

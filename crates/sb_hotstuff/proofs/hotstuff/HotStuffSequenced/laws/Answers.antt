@@ -1,0 +1,13 @@
+use Rattle.hs_tree.proofs.MessageGrammar.{message-grammar}
+use Rattle.sb_hotstuff.proofs.Lawful.{hotstuff-lawful}
+use Rattle.sb_hotstuff.proofs.Safe.{hotstuff-safe}
+use Rattle.sb_hotstuff.proofs.hotstuff.HotStuffSequenced.laws.Goals as goal
+
+pub returns-clause-grammar : goal.returns-clause-grammar
+returns-clause-grammar c = message-grammar 3
+
+pub returns-clause-lawful : goal.returns-clause-lawful
+returns-clause-lawful c = hotstuff-lawful
+
+pub returns-clause-safe : goal.returns-clause-safe
+returns-clause-safe c = hotstuff-safe

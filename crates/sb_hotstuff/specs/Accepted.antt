@@ -1,0 +1,24 @@
+-- What the code keeps of the batches that it accepted.
+use Rattle.std.specs.Prelude.{◌≡◌, ℕ, Bool, List, [], Option, Some, None}
+use Rattle.std.specs.BTreeMap.{get}
+use Rattle.std.specs.List.{list_any}
+use Rattle.std.specs.Ordering.{nat_cmp}
+use Rattle.iss_request.specs.declared.ids.Slot.{Slot}
+use Rattle.iss_request.specs.declared.requests.Batch.{Batch}
+use Rattle.sb_hotstuff.specs.declared.accepted.Accepted.{Accepted}
+use Rattle.sb_hotstuff.specs.HotStuff.{same_batch, was_accepted}
+
+abbrev pub is_among : Batch → List Batch → Bool
+is_among b cs = list_any (λ c. same_batch c b) cs
+
+abbrev pub batches_in : Option (List Batch) → List Batch
+batches_in None = []
+batches_in (Some cs) = cs
+
+-- the batches that are kept at a slot
+abbrev pub batches_at : Accepted → ℕ → List Batch
+batches_at m s = batches_in (get nat_cmp m.all s)
+
+-- the code tells the batches that were accepted at each slot
+abbrev pub AreAccepted : Accepted → List (Slot × Batch) → Type 0
+AreAccepted m old = (s : ℕ) (b : Batch) → is_among b (batches_at m s) ≡ was_accepted s b old

@@ -1,0 +1,52 @@
+-- What the code of an instance stands for, and what the parts of its steps give.
+use Rattle.std.specs.Prelude.{◌≡◌, ℕ, ◌+◌, List, [], ◌++◌, take, Option, Some, None, is_some}
+use Rattle.iss_keys.specs.Directories.{AreKeysOf}
+use Rattle.iss_keys.specs.KeyStates.{KeyState}
+use Rattle.iss_request.specs.declared.ids.Slot.{Slot}
+use Rattle.iss_request.specs.declared.requests.Batch.{Batch}
+use Rattle.iss_sb.specs.declared.effects.Effects.{Effects}
+use Rattle.iss_sb.specs.declared.effects.Params.{Params}
+use Rattle.iss_sb.specs.declared.effects.To.{To}
+use Rattle.iss_sb.specs.Calls.{AreToNodes, has_slot}
+use Rattle.iss_sb.specs.Evidence.{Item, accepts}
+use Rattle.raft_wire.specs.declared.entries.What.{What}
+use Rattle.raft_wire.specs.declared.entries.What.TheVariants.{Nil, Holds, Mark}
+use Rattle.hs_tree.specs.declared.messages.Message.{Message}
+use Rattle.sb_hotstuff.specs.declared.accepted.Accepted.{Accepted}
+use Rattle.sb_hotstuff.specs.declared.hotstuff.HotStuff.{HotStuff}
+use Rattle.sb_hotstuff.specs.declared.outcomes.Outcome.{Outcome}
+use Rattle.sb_hotstuff.specs.Accepted.{AreAccepted}
+use Rattle.sb_hotstuff.specs.Drafts.{AreDrafts, count_of}
+use Rattle.sb_hotstuff.specs.HotStuff.{decided, sign_all, state}
+use Rattle.sb_hotstuff.specs.Stands.{IsFor}
+
+-- the value stands for the list: it keeps its state and its batches, and has delivered the first slots, all that are decided
+pub record Stands (m : HotStuff) (p : Params) (me : ℕ) (xs : List (Item Message)) : Type 0 where
+  pub node : m.node.me.0 ≡ me
+  pub keeps : IsFor m.node (state p me xs)
+  pub batches : AreAccepted m.accepted (accepts xs)
+  pub reached : (n : ℕ) → is_some (decided p me xs n) ≡ has_slot n (take m.delivered p.slots)
+
+-- a batch, where there is a slot for it
+abbrev pub at_slot : Batch → Option Slot → Option (Slot × Batch)
+at_slot b None = None
+at_slot b (Some s) = Some (s, b)
+
+abbrev pub what_at : What → Option Slot → Option (Slot × Batch)
+what_at Nil o = None
+what_at (Holds b) o = at_slot b o
+what_at Mark o = None
+
+-- these batches were kept in front of the older ones
+abbrev pub Adds : Accepted → Accepted → List (Slot × Batch) → Type 0
+Adds old new more = (before : List (Slot × Batch)) → AreAccepted old before → AreAccepted new (more ++ before)
+
+-- an outcome's messages, each signed with the next leaf
+pub record IsSigned (p : Params) (o : Outcome) (accepted : Option (Slot × Batch)) (before later : KeyState) (e : Effects Message) : Type 0 where
+  pub sends : (me : ℕ) (xs ys : List (To × Message)) → AreKeysOf me p.setup.keys before → AreDrafts p o.answer xs → AreDrafts p o.proposal ys →
+      e.sends ≡ sign_all p me before.used (xs ++ ys)
+  pub addressed : AreToNodes p.setup.n e.sends
+  pub accepts : e.accepted ≡ accepted
+  pub delivers : e.delivers ≡ []
+  pub hashed : e.hashed ≡ o.hashed
+  pub used : later ≡ record before { used = before.used + (count_of o.answer + count_of o.proposal) }

@@ -1,0 +1,99 @@
+//! What a node accepts: the batch of a proposal, where it was not accepted there.
+ghost use Rattle.std.specs.Prelude.{◌≡◌, List, Some, None, IfOk, IfSome, OnOk, if◌then◌else◌};
+ghost use Rattle.iss_base.specs.Lists.{In, nth};
+ghost use Rattle.iss_request.specs.declared.ids.Slot.{Slot};
+ghost use Rattle.iss_request.specs.declared.requests.Batch.{Batch};
+ghost use Rattle.iss_sb.specs.Evidence.{one_or_none};
+ghost use Rattle.sb_hotstuff.specs.Accepted.{AreAccepted};
+ghost use Rattle.sb_hotstuff.specs.HotStuff.{offered, unless_accepted};
+ghost use Rattle.sb_hotstuff.specs.Instances.{Adds, at_slot, what_at};
+ghost use Rattle.sb_hotstuff.specs.Rules.{State, may_cast, slots_below};
+ghost use Rattle.sb_hotstuff.specs.Stands.{IsFor};
+
+use crate::accepted::Accepted;
+use crate::state::Node;
+use hs_tree::Certificate;
+use iss_request::{Batch, NoMemory, Slot};
+use iss_sb::Params;
+use raft_wire::What;
+use std::alloc::Global;
+
+// The slot at this place of the segment, unless the batch was accepted there.
+fn free_slot(accepted: &Accepted, p: &Params, place: usize, batch: &Batch) -> Option<Slot>
+    ensures free { (old : List (Slot × Batch)) → AreAccepted accepted.now old → at_slot batch.now result ≡ unless_accepted old batch.now (nth p.now.slots place) }
+    ensures inside { IfSome result (λ s. In s p.now.slots) }
+{
+    let Some(slot) = p.slots.as_slice().get(place) else {
+        return None;
+    };
+    if accepted.has(*slot, batch) {
+        return None;
+    }
+    Some(*slot)
+}
+
+/// The slot of a cast that may be taken.
+pub fn cast_slot(node: &Node, p: &Params, slot: Slot) -> Option<Slot>
+    ensures cast { (s : State) (batch : Batch) → IsFor node.now s →
+        at_slot batch result ≡ (if may_cast p.now node.now.me.0 s slot.0 then Some (slot, batch) else None) }
+    ensures inside { IfSome result (λ s. In s p.now.slots) }
+{
+    if !node.may_cast(p, slot) {
+        return None;
+    }
+    Some(slot)
+}
+
+/// The slot behind the branch of the certificate's node, where a batch is to stand there that was not accepted there.
+pub fn offered_slot(
+    node: &Node,
+    accepted: &Accepted,
+    p: &Params,
+    what: &What,
+    just: &Certificate,
+) -> Option<Slot>
+    ensures offered { (s : State) (old : List (Slot × Batch)) → IsFor node.now s → AreAccepted accepted.now old →
+        what_at what.now result ≡ offered p.now s old what.now just.now }
+    ensures inside { IfSome result (λ s. In s p.now.slots) }
+{
+    let What::Holds(batch) = what else {
+        return None;
+    };
+    let place = node.tree.slots(&just.digest());
+    free_slot(accepted, p, place, batch)
+}
+
+/// Keeps a batch, where there is a slot for it, and gives both.
+pub fn keep_at(
+    accepted: &mut Accepted,
+    alloc: Global,
+    slot: Option<Slot>,
+    batch: &Batch,
+) -> Result<Option<(Slot, Batch)>, NoMemory>
+    ensures is { IfOk result (λ a. a ≡ at_slot batch.now slot) }
+    ensures kept { OnOk result (Adds accepted.old accepted.new (one_or_none (at_slot batch.now slot))) }
+{
+    let Some(slot) = slot else {
+        return Ok(None);
+    };
+    let given = batch.copy()?;
+    let kept = batch.copy()?;
+    accepted.keep(alloc, slot, kept)?;
+    Ok(Some((slot, given)))
+}
+
+/// Keeps the batch that a node holds, where there is a slot for it.
+pub fn keep_what(
+    accepted: &mut Accepted,
+    alloc: Global,
+    slot: Option<Slot>,
+    what: &What,
+) -> Result<Option<(Slot, Batch)>, NoMemory>
+    ensures is { IfOk result (λ a. a ≡ what_at what.now slot) }
+    ensures kept { OnOk result (Adds accepted.old accepted.new (one_or_none (what_at what.now slot))) }
+{
+    match what {
+        What::Holds(batch) => keep_at(accepted, alloc, slot, batch),
+        _ => Ok(None),
+    }
+}

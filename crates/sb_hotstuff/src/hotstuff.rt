@@ -1,0 +1,377 @@
+//! A node's part in an instance of HotStuff, and that HotStuff is an ordering module.
+ghost use Rattle.std.specs.Prelude.{◌≡◌, ◌≤◌, ℕ, List, IfOk, None, if◌then◌else◌};
+ghost use Rattle.iss_keys.specs.KeyStates.{KeyState, left_of};
+ghost use Rattle.iss_request.specs.declared.ids.Slot.{Slot};
+ghost use Rattle.iss_request.specs.declared.requests.Batch.{Batch};
+ghost use Rattle.iss_sb.specs.Calls.{IsGoodInput, IsGoodParams, IsStep, IsTrueStep, named};
+ghost use Rattle.hs_tree.specs.declared.messages.Message.TheVariants.{NewView, Prepare, PreCommit, Commit, Decide, Vote};
+ghost use Rattle.sb_hotstuff.specs.Accepted.{AreAccepted};
+ghost use Rattle.sb_hotstuff.specs.HotStuff.{asked_by, hotstuff, offered};
+ghost use Rattle.sb_hotstuff.specs.Instances.{Stands};
+ghost use Rattle.sb_hotstuff.specs.Rules.{State, may_prepare};
+ghost use Rattle.sb_hotstuff.specs.Stands.{IsFor};
+
+use crate::accepted::Accepted;
+use crate::accepting::{cast_slot, keep_at, keep_what, offered_slot};
+use crate::delivering::pair;
+use crate::signing::claims;
+use crate::state::{Node, PHASES};
+use hs_tree::{Certificate, Message};
+use iss_keys::Keys;
+use iss_request::{Batch, Bytes, DecodeError, Fields, NoMemory, NodeId, Row, Slot, Writer};
+use iss_sb::{Claim, Effects, Input, Params, Sequenced, StepError};
+use raft_wire::What;
+use std::alloc::Global;
+
+/// A node's part in one instance: what it keeps for its rules, the batches that it accepted, and how many slots of the
+/// segment it delivered.
+#[derive(Drop)]
+pub struct HotStuff {
+    pub(crate) node: Node,
+    pub(crate) accepted: Accepted,
+    pub(crate) delivered: usize,
+}
+
+impl HotStuff {
+    // The batch of a proposal that is to be taken, where it was not accepted there.
+    fn offered<'a>(
+        &'a self,
+        p: &Params,
+        from: NodeId,
+        view: u32,
+        what: &'a What,
+        just: &'a Certificate,
+    ) -> Option<(Slot, &'a Batch)>
+        requires { IsGoodParams hotstuff p.now }
+        ensures { (s : State) (old : List (Slot × Batch)) → IsFor self.now.node s → AreAccepted self.now.accepted old →
+            named result ≡ (if may_prepare p.now s from.0 view what.now just.now then offered p.now s old what.now just.now else None) }
+    {
+        if !self.node.may_prepare(p, from, view, what, just) {
+            return None;
+        }
+        let Some(slot) = offered_slot(&self.node, &self.accepted, p, what, just) else {
+            return None;
+        };
+        let What::Holds(batch) = what else {
+            return None;
+        };
+        Some((slot, batch))
+    }
+
+    // The batch that a message would have the node accept.
+    fn asked<'a>(&'a self, p: &Params, from: NodeId, msg: &'a Message) -> Option<(Slot, &'a Batch)>
+        requires { IsGoodParams hotstuff p.now }
+        ensures { (s : State) (old : List (Slot × Batch)) → IsFor self.now.node s → AreAccepted self.now.accepted old →
+            named result ≡ asked_by p.now s old from.0 msg.now }
+    {
+        match msg {
+            Message::Prepare {
+                view,
+                what,
+                just,
+                ..
+            } => self.offered(p, from, *view, what, just),
+            _ => None,
+        }
+    }
+
+    // The leader takes a batch that is cast to it.
+    fn cast(
+        &mut self,
+        alloc: Global,
+        p: &Params,
+        slot: Slot,
+        batch: Batch,
+        keys: &mut Keys,
+    ) -> Result<Effects<Message>, NoMemory>
+        requires good { IsGoodParams hotstuff p.now }
+        requires enough { 2 ≤ left_of keys.old }
+        ensures { IfOk result (λ e. IsTrueStep hotstuff Stands p.now self.old self.new (Input.Cast slot batch) keys.old keys.new e) }
+    {
+        let free = cast_slot(&self.node, p, slot);
+        let accepted = keep_at(&mut self.accepted, alloc, free, &batch)?;
+        let outcome = self.node.take_cast(alloc, p, slot, batch)?;
+        outcome.sign(alloc, p, accepted, keys)
+    }
+
+    // A proposal that passes its test is taken, and its batch accepted.
+    fn prepare(
+        &mut self,
+        alloc: Global,
+        p: &Params,
+        from: NodeId,
+        view: u32,
+        what: What,
+        just: Certificate,
+        keys: &mut Keys,
+    ) -> Result<Effects<Message>, NoMemory>
+        requires good { IsGoodParams hotstuff p.now }
+        requires enough { 2 ≤ left_of keys.old }
+        ensures { IfOk result (λ e. (sig : List ℕ) →
+            IsTrueStep hotstuff Stands p.now self.old self.new (Input.Receive from (Prepare view what just sig)) keys.old keys.new e) }
+    {
+        if !self.node.may_prepare(p, from, view, &what, &just) {
+            return Ok(Effects::nothing(alloc));
+        }
+        let slot = offered_slot(&self.node, &self.accepted, p, &what, &just);
+        let accepted = keep_what(&mut self.accepted, alloc, slot, &what)?;
+        let outcome = self.node.take_node(alloc, p, view, what, &just)?;
+        outcome.sign(alloc, p, accepted, keys)
+    }
+
+    // What the branch of a decided node holds for slots that are not delivered is delivered.
+    fn decide(
+        &mut self,
+        alloc: Global,
+        p: &Params,
+        view: u32,
+        shown: Certificate,
+    ) -> Result<Effects<Message>, NoMemory>
+        requires { IsGoodParams hotstuff p.now }
+        ensures { IfOk result (λ e. (from : NodeId) (sig : List ℕ) (keys : KeyState) → 2 ≤ left_of keys →
+            IsTrueStep hotstuff Stands p.now self.old self.new (Input.Receive from (Decide view shown sig)) keys keys e) }
+    {
+        let mut effects = Effects::nothing(alloc);
+        if !self.node.may_deliver(p, view, &shown) {
+            return Ok(effects);
+        }
+        let digest = shown.digest();
+        let values = self.node.tree.behind(alloc, &digest, self.delivered)?;
+        effects.delivers = pair(alloc, p.slots.as_slice(), self.delivered, values.into_vec())?;
+        let slots = self.node.tree.slots(&digest);
+        if slots <= self.delivered {
+            return Ok(effects);
+        }
+        self.delivered = slots;
+        Ok(effects)
+    }
+
+    // A word on the start of a round.
+    fn new_view(
+        &mut self,
+        alloc: Global,
+        p: &Params,
+        from: NodeId,
+        round: u16,
+        high: Certificate,
+        keys: &mut Keys,
+    ) -> Result<Effects<Message>, NoMemory>
+        requires good { IsGoodParams hotstuff p.now }
+        requires enough { 2 ≤ left_of keys.old }
+        ensures { IfOk result (λ e. (sig : List ℕ) →
+            IsTrueStep hotstuff Stands p.now self.old self.new (Input.Receive from (NewView round high sig)) keys.old keys.new e) }
+    {
+        let outcome = self.node.take_new_view(alloc, p, from, round, high)?;
+        outcome.sign(alloc, p, None, keys)
+    }
+
+    // A certificate of the first phase.
+    fn pre_commit(
+        &mut self,
+        alloc: Global,
+        p: &Params,
+        from: NodeId,
+        view: u32,
+        shown: Certificate,
+        keys: &mut Keys,
+    ) -> Result<Effects<Message>, NoMemory>
+        requires good { IsGoodParams hotstuff p.now }
+        requires enough { 2 ≤ left_of keys.old }
+        ensures { IfOk result (λ e. (sig : List ℕ) →
+            IsTrueStep hotstuff Stands p.now self.old self.new (Input.Receive from (PreCommit view shown sig)) keys.old keys.new e) }
+    {
+        let outcome = self.node.take_pre_commit(alloc, p, view, shown)?;
+        outcome.sign(alloc, p, None, keys)
+    }
+
+    // A certificate of the second phase.
+    fn commit(
+        &mut self,
+        alloc: Global,
+        p: &Params,
+        from: NodeId,
+        view: u32,
+        shown: Certificate,
+        keys: &mut Keys,
+    ) -> Result<Effects<Message>, NoMemory>
+        requires good { IsGoodParams hotstuff p.now }
+        requires enough { 2 ≤ left_of keys.old }
+        ensures { IfOk result (λ e. (sig : List ℕ) →
+            IsTrueStep hotstuff Stands p.now self.old self.new (Input.Receive from (Commit view shown sig)) keys.old keys.new e) }
+    {
+        let outcome = self.node.take_commit(alloc, p, view, shown)?;
+        outcome.sign(alloc, p, None, keys)
+    }
+
+    // A vote.
+    fn vote(
+        &mut self,
+        alloc: Global,
+        p: &Params,
+        from: NodeId,
+        phase: u8,
+        view: u32,
+        digest: [u8; 32],
+        sig: Bytes,
+        keys: &mut Keys,
+    ) -> Result<Effects<Message>, NoMemory>
+        requires good { IsGoodParams hotstuff p.now }
+        requires enough { 2 ≤ left_of keys.old }
+        ensures { IfOk result (λ e. IsTrueStep hotstuff Stands p.now self.old self.new (Input.Receive from (Vote phase view digest sig)) keys.old keys.new e) }
+    {
+        let outcome = self
+            .node
+            .take_vote(alloc, p, from, phase, view, digest, sig)?;
+        outcome.sign(alloc, p, None, keys)
+    }
+
+    // A message.
+    fn receive(
+        &mut self,
+        alloc: Global,
+        p: &Params,
+        from: NodeId,
+        msg: Message,
+        keys: &mut Keys,
+    ) -> Result<Effects<Message>, NoMemory>
+        requires good { IsGoodParams hotstuff p.now }
+        requires enough { 2 ≤ left_of keys.old }
+        ensures { IfOk result (λ e. IsTrueStep hotstuff Stands p.now self.old self.new (Input.Receive from msg) keys.old keys.new e) }
+    {
+        match msg {
+            Message::NewView { round, high, .. } => self.new_view(alloc, p, from, round, high, keys),
+            Message::Prepare {
+                view,
+                what,
+                just,
+                ..
+            } => self.prepare(alloc, p, from, view, what, just, keys),
+            Message::PreCommit { view, shown, .. } => {
+                self.pre_commit(alloc, p, from, view, shown, keys)
+            }
+            Message::Commit { view, shown, .. } => self.commit(alloc, p, from, view, shown, keys),
+            Message::Decide { view, shown, .. } => self.decide(alloc, p, view, shown),
+            Message::Vote {
+                phase,
+                view,
+                digest,
+                sig,
+            } => self.vote(alloc, p, from, phase, view, digest, sig, keys),
+        }
+    }
+
+    // The round ends.
+    fn time_out(
+        &mut self,
+        alloc: Global,
+        p: &Params,
+        keys: &mut Keys,
+    ) -> Result<Effects<Message>, NoMemory>
+        requires good { IsGoodParams hotstuff p.now }
+        requires enough { 2 ≤ left_of keys.old }
+        ensures { IfOk result (λ e. IsTrueStep hotstuff Stands p.now self.old self.new Input.Timeout keys.old keys.new e) }
+    {
+        let outcome = self.node.time_out(alloc, p)?;
+        outcome.sign(alloc, p, None, keys)
+    }
+}
+
+impl Sequenced for HotStuff {
+    type Msg = Message;
+
+    const TAG: u8 = 4;
+
+    const STOPPING: bool = false;
+
+    ghost use Rattle.std.specs.Prelude.{false};
+
+    ghost TAG = { 4 };
+
+    ghost STOPPING = { false };
+
+    ghost meaning = { hotstuff };
+
+    ghost stands = { Stands };
+
+    fn nodes_of(f: u32) -> u32 {
+        3 * f + 1
+    }
+
+    fn quorum_of(f: u32) -> u32 {
+        2 * f + 1
+    }
+
+    fn signs(_p: &Params) -> u32 {
+        2
+    }
+
+    fn start(alloc: Global, _p: &Params, me: NodeId) -> Result<HotStuff, NoMemory> {
+        Ok(HotStuff {
+            node: Node::start(alloc, me),
+            accepted: Accepted::new(alloc),
+            delivered: 0,
+        })
+    }
+
+    fn casts(&self, p: &Params, slot: Slot) -> bool {
+        self.node.may_cast(p, slot)
+    }
+
+    fn asks<'a>(&'a self, p: &Params, i: &'a Input<Message>) -> Option<(Slot, &'a Batch)> {
+        match i {
+            Input::Cast { slot, batch } => {
+                if self.node.may_cast(p, *slot) {
+                    Some((*slot, batch))
+                } else {
+                    None
+                }
+            }
+            Input::Receive { from, msg } => self.asked(p, *from, msg),
+            Input::Timeout => None,
+        }
+    }
+
+    fn step(
+        &mut self,
+        alloc: Global,
+        p: &Params,
+        i: Input<Message>,
+        verdict: bool,
+        keys: &mut Keys,
+    ) -> Result<Effects<Message>, StepError>
+        requires good { IsGoodParams hotstuff p.now }
+        requires input { IsGoodInput p.now i }
+        ensures { IsStep hotstuff Stands p.now self.old self.new i verdict keys.old keys.new result }
+    {
+        if keys.left() < 2 {
+            return Err(StepError::Spent);
+        }
+        if !verdict {
+            return Ok(Effects::nothing(alloc));
+        }
+        match i {
+            Input::Cast { slot, batch } => Ok(self.cast(alloc, p, slot, batch, keys)?),
+            Input::Receive { from, msg } => Ok(self.receive(alloc, p, from, msg, keys)?),
+            Input::Timeout => Ok(self.time_out(alloc, p, keys)?),
+        }
+    }
+
+    fn encode(m: &Message, out: &mut Writer) -> Result<(), NoMemory> {
+        hs_tree::write(PHASES, m, out)
+    }
+
+    fn decode(alloc: Global, f: &mut Fields) -> Result<Message, DecodeError> {
+        hs_tree::read(alloc, PHASES, f)
+    }
+
+    fn claims(
+        alloc: Global,
+        p: &Params,
+        from: NodeId,
+        m: &Message,
+    ) -> Result<Row<Claim>, NoMemory> {
+        claims(alloc, p, from, m)
+    }
+
+    fn laws() {}
+}
