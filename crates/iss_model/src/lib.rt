@@ -6,7 +6,4 @@ pub mod causes;
 pub mod theorems;
 
 pub use causes::{NodeEvent, Refusal, Why};
-pub use theorems::{
-    cluster_runs, composition, requests_are_conserved, requests_are_signed, separate_runs,
-    tested_runs,
-};
+pub use theorems::{cluster_runs, composition, requests_are_conserved, requests_are_signed};

@@ -7,14 +7,12 @@ ghost use Rattle.iss_schedule.specs.declared.schedules.Event.{Event};
 ghost use Rattle.iss_model.specs.Checkpoints.{scheme_of};
 ghost use Rattle.iss_model.specs.Cluster.{Cluster, Reach, Scheme};
 ghost use Rattle.iss_model.specs.Concrete.{rules_of};
-ghost use Rattle.iss_model.specs.Conserved.{AcceptsOnce, IsConserved, IsConservedWhereTested};
-ghost use Rattle.iss_model.specs.OneLog.{IsClusterRun, OnlyGrows};
+ghost use Rattle.iss_model.specs.Conserved.{AcceptsOnce, IsConserved};
+ghost use Rattle.iss_model.specs.OneLog.{IsClusterRun, IsOneLog};
 ghost use Rattle.iss_model.specs.Ordered.{Among, IsExact, IsSoundRules, Ordered};
 ghost use Rattle.iss_model.specs.Rules.{Rules};
-ghost use Rattle.iss_model.specs.Printed.{IsSeparateRun};
 ghost use Rattle.iss_model.specs.Run.{request_of};
-ghost use Rattle.iss_model.specs.Runs.{AreAtNodes, HashesNothing, IsSetupOf};
-ghost use Rattle.iss_model.specs.TestedLog.{IsOneTestedLog, IsTestedRun};
+ghost use Rattle.iss_model.specs.Runs.{AreAtCores, IsSetupOf};
 
 use iss_sb::Sequenced;
 
@@ -30,39 +28,21 @@ pub fn composition<M: Sequenced>()
     M::laws();
 }
 
-/// Every list of events is such a run, where nodes only stop: it leads to what the moves of a cluster lead to, and more
-/// events only make the printed logs longer. So `composition` holds of it (ISS, whole protocol).
+/// Every list of events is such a run: up to the delivery that shows a forged claim or a collision, at which it ends, what the
+/// cores took is what moves of a cluster lead to, with the run's books (`reached`). So the logs that correct nodes print are of
+/// one log, and more events only make them longer (`one_log`; ISS, whole protocol).
 pub fn cluster_runs<M: Sequenced>()
-    ensures reached { (s : Setup) → IsSetupOf M.meaning s → M.meaning.stopping ≡ true →
-        (events : List Event) → AreAtNodes s.n events → IsClusterRun s M.meaning events }
-    ensures grows { (s : Setup) → IsSetupOf M.meaning s → M.meaning.stopping ≡ true →
-        (events : List Event) → AreAtNodes s.n events → OnlyGrows s M.meaning events }
-{
-    M::laws();
-}
-
-/// Where a module hashes nothing, the run of every list of events is separate, so that nothing has to be
-/// assumed of digests.
-pub fn separate_runs<M: Sequenced>()
-    ensures { (s : Setup) → HashesNothing M.meaning → (events : List Event) → IsSeparateRun s M.meaning events }
-{}
-
-/// Every list of events, of either kind of module: up to the delivery that shows a forged claim or a collision, at which the
-/// run ends, the logs that correct nodes print are of one log, and more events only make them longer (ISS, whole protocol).
-pub fn tested_runs<M: Sequenced>()
-    ensures reached { (s : Setup) → IsSetupOf M.meaning s → (events : List Event) → AreAtNodes s.n events → IsTestedRun s M.meaning events }
-    ensures one { (s : Setup) → IsSetupOf M.meaning s → (events : List Event) → AreAtNodes s.n events → IsOneTestedLog s M.meaning events }
+    ensures reached { (s : Setup) → IsSetupOf M.meaning s → (events : List Event) → AreAtCores s events → IsClusterRun s M.meaning events }
+    ensures one_log { (s : Setup) → IsSetupOf M.meaning s → (events : List Event) → AreAtCores s events → IsOneLog s M.meaning events }
 {
     M::laws();
 }
 
 /// No request is lost and none is in two places, whatever happens: each one that a correct core took is in its log, waits at it,
-/// or is in flight. Where nodes only stop; and in each run that is tested, of either kind of module (ISS, "conservation").
+/// or is in flight (ISS, "conservation").
 pub fn requests_are_conserved<M: Sequenced>()
-    ensures stopping { (s : Setup) → IsSetupOf M.meaning s → M.meaning.stopping ≡ true → AcceptsOnce M.meaning →
-        (events : List Event) → AreAtNodes s.n events → IsSeparateRun s M.meaning events → IsConserved s M.meaning events }
-    ensures tested { (s : Setup) → IsSetupOf M.meaning s → AcceptsOnce M.meaning →
-        (events : List Event) → AreAtNodes s.n events → IsConservedWhereTested s M.meaning events }
+    ensures { (s : Setup) → IsSetupOf M.meaning s → AcceptsOnce M.meaning →
+        (events : List Event) → AreAtCores s events → IsConserved s M.meaning events }
 {
     M::laws();
 }
