@@ -25,6 +25,14 @@ pub mod Statements
 pub mod Checkpoints
 pub mod Tests
 pub mod Told
+pub mod Twins
+pub mod Posts
+pub mod Unvoted
+pub mod Printed
+pub mod Fits
+pub mod Turned
+pub mod Runs
+pub mod OneLog
 pub mod Ranges
 pub mod FromNodes
 pub mod Turns
