@@ -36,3 +36,10 @@ pub mod OneLog
 pub mod Ranges
 pub mod FromNodes
 pub mod Turns
+pub mod Shown
+pub mod Filed
+pub mod Places
+pub mod OnePlace
+pub mod Conserved
+pub mod Signing
+pub mod Adopting
