@@ -43,3 +43,6 @@ pub mod OnePlace
 pub mod Conserved
 pub mod Signing
 pub mod Adopting
+pub mod Example
+pub mod InPlaces
+pub mod Forging
