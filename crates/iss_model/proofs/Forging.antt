@@ -18,7 +18,7 @@ use Rattle.iss_model.specs.Run.{Forged, Progress, begin_run, run}
 use Rattle.iss_model.proofs.Example.{first_told, plain_request, short}
 use Rattle.iss_model.proofs.Signing.{Word, claim_of, signing}
 
-abbrev four : Setup
+abbrev pub four : Setup
 four = record { version = 1; «module» = 9; f = 1; epoch = 4; buckets = 4; batch = 4; window = 8; policy = Simple; clients = 1; keys = 4; faulty = record { 0 = 3 } ∷ []; n = 4; quorum = 3; kind = Byzantine; tag = [] }
 
 -- what a node or a client is said to have signed counts as verified, so that runs compute
@@ -28,14 +28,14 @@ easy = record (rules_of four) { signed = λ q. true; verifies = λ k statement s
 abbrev batch : Batch
 batch = plain_request 0 0 (170 ∷ []) ∷ []
 
-abbrev after : List Event → Progress Word
+abbrev pub after : List Event → Progress Word
 after events = run four short easy signing (begin_run four) events
 
 -- a message in the instance of a leader, under its name: slot and batch
 abbrev told : ℕ → List ℕ
 told leader = 0 ∷ leader ∷ 0 ∷ leader ∷ leader ∷ 0 ∷ 0 ∷ 170 ∷ []
 
-abbrev claim : ℕ → Signed
+abbrev pub claim : ℕ → Signed
 claim leader = record { by = leader; statement = (claim_of ((rules_of four).params [] 0 leader) leader (record { 0 = leader }, batch)).statement }
 
 -- node 0 casts, and all take its message
@@ -70,7 +70,7 @@ faulty = refl
 abbrev hearing : Module Word
 hearing = record signing { decided = λ p me xs s. first_told p.leader.0 s xs }
 
-abbrev heard : List Event → Progress Word
+abbrev pub heard : List Event → Progress Word
 heard events = run four short easy hearing (begin_run four) events
 
 -- a message for the next epoch, in the name of a node, in the instance of a leader at its slot

@@ -46,3 +46,4 @@ pub mod Adopting
 pub mod Example
 pub mod InPlaces
 pub mod Forging
+pub mod Doubles
