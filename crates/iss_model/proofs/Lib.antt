@@ -47,3 +47,6 @@ pub mod Example
 pub mod InPlaces
 pub mod Forging
 pub mod Doubles
+pub mod Instances
+pub mod Booked
+pub mod Evidence
