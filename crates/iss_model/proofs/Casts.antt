@@ -189,24 +189,9 @@ module _ {Msg : Type 0} (F : Formats Msg) (R : Rules) (M : Module Msg) (me : ℕ
     pub ends-ready : (c : Core Msg) → IsReadyCore R M me c → is_complete R M me c.past ≡ true → IsReadyCore R M me (in_next_epoch c)
     ends-ready c h complete = record { sound = ends-sound c h.sound complete; spelled = h.spelled }
 
-    settles-sound : (t : Turn Msg) → IsSoundCore R M me t.core → IsSoundCore R M me (settles F R M me t).core
-    settles-sound t h = settles-holds F R M me (λ t. IsSoundCore R M me t.core) (λ t l input. Unit {0})
-        (λ t l input k fit come. inputs-sound t.core l input k) (λ t k complete. ends-sound t.core k complete) (λ t claims k. k) t h (λ done u x i k q r. tt)
-
     settles-ready : (t : Turn Msg) → IsReadyCore R M me t.core → IsReadyCore R M me (settles F R M me t).core
     settles-ready t h = settles-holds F R M me (λ t. IsReadyCore R M me t.core) (λ t l input. Unit {0})
         (λ t l input k fit come. inputs-ready t.core l input k) (λ t k complete. ends-ready t.core k complete) (λ t claims k. k) t h (λ done u x i k q r. tt)
-
-    took-sound : (c : Core Msg) (event : NodeEvent) (t : Turn Msg) → IsSoundCore R M me c → Took F R M me c event t → IsSoundCore R M me t.core
-    took-sound c event t h (received k l msg u un b e i q) = rw q (settles-sound u (rw i.is (inputs-sound c l _ h)))
-    took-sound c event t h (kept k l msg u b e i) = rw i.is (early-sound c _ h)
-    took-sound c event t h (asked k q u b r) = requested-sound c q t h r
-    took-sound c event t h (cast s u i q) = rw q (settles-sound u (rw i.is (inputs-sound (casting F R M me c s) me _ (casting-sound c s h))))
-    took-sound c event t h (fired l u i q) = rw q (settles-sound u (rw i.is (inputs-sound c l.0 _ h)))
-
-    -- each step keeps it
-    pub step-sound : (c : Core Msg) (event : NodeEvent) (t : Turn Msg) → IsSoundCore R M me c → step F R M me c event ≡ Taken t → IsSoundCore R M me t.core
-    step-sound c event t h q = took-sound c event t h (took F R M me c event t q)
 
     took-ready : (c : Core Msg) (event : NodeEvent) (t : Turn Msg) → IsReadyCore R M me c → Took F R M me c event t →
         ((bytes : List ℕ) (k : Parcel Msg) (q : Request) → F.unwrap bytes ≡ Some k → k.body ≡ OfRequest q → HasSpelling q) → IsReadyCore R M me t.core
@@ -216,7 +201,7 @@ module _ {Msg : Type 0} (F : Formats Msg) (R : Rules) (M : Module Msg) (me : ℕ
     took-ready c event t h (cast s u i q) read = rw q (settles-ready u (rw i.is (inputs-ready (casting F R M me c s) me _ (casting-ready c s h))))
     took-ready c event t h (fired l u i q) read = rw q (settles-ready u (rw i.is (inputs-ready c l.0 _ h)))
 
-    -- and what it holds has a spelling, where each request that is read has one
+    -- each step keeps it, where each request that is read has a spelling
     pub step-ready : ((bytes : List ℕ) (k : Parcel Msg) (q : Request) → F.unwrap bytes ≡ Some k → k.body ≡ OfRequest q → HasSpelling q) → (c : Core Msg) (event : NodeEvent) (t : Turn Msg) → IsReadyCore R M me c → step F R M me c event ≡ Taken t → IsReadyCore R M me t.core
     step-ready read c event t h q = took-ready c event t h (took F R M me c event t q) read
 

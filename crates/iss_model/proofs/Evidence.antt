@@ -8,7 +8,7 @@ use Rattle.iss_request.specs.declared.setups.Setup.{Setup}
 use Rattle.iss_schedule.specs.declared.schedules.Event.{Event}
 use Rattle.iss_schedule.specs.declared.schedules.Event.TheVariants.{Request as Asks_order, Propose, Timeout as Times_out, Deliver, Lose, Pump, Calm, Hold, Free, Drop, Bytes}
 use Rattle.iss_sb.specs.declared.effects.Claim.{Claim}
-use Rattle.iss_sb.specs.Evidence.{Module, is_correct}
+use Rattle.iss_sb.specs.Evidence.{Module}
 use Rattle.iss_sb.specs.Laws.{IsLawful}
 use Rattle.iss_model.specs.declared.causes.NodeEvent.{NodeEvent}
 use Rattle.iss_model.specs.declared.causes.NodeEvent.TheVariants.{Packet as Gets, Propose as Proposes, Timeout as Fires}
@@ -57,8 +57,13 @@ module _ {Msg : Type 0} (s : Setup) (F : Formats Msg) (R : Rules) (M : Module Ms
     forged-tells (Some claim) k = λ other e.
         let r = forged-shown s R h.signed reads claim k in
         let shown : IsForgery s F R M h claim = record {
-          core = c; event = event; read = r.held; verifies = r.verifies; by_key = sound.signers claim.by.0 claim.statement claim.sig r.verifies;
-          correct = r.correct; unsent = r.absent;
+          core = c;
+          event = event;
+          read = r.held;
+          verifies = r.verifies;
+          by_key = sound.signers claim.by.0 claim.statement claim.sig r.verifies;
+          correct = r.correct;
+          unsent = r.absent;
         } in
         subst (λ (z : End). Shows s F R M h z) (some-injective (Forged claim) other e) shown
 

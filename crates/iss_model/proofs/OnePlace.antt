@@ -4,7 +4,6 @@ use Rattle.std.proofs.lemmas.Bool.Decides.{leb_tells}
 use Rattle.iss_base.specs.Lists.{Chain, Extends, In}
 use Rattle.iss_base.proofs.Lists.{chain-part, extends-length, in_left}
 use Rattle.iss_layout.proofs.FairLemmas.{segment_slots}
-use Rattle.iss_network.specs.Network.{settled}
 use Rattle.iss_request.specs.Log.{ids, log_ids}
 use Rattle.iss_request.specs.declared.ids.ReqId.{ReqId}
 use Rattle.iss_request.specs.declared.ids.Slot.{Slot}

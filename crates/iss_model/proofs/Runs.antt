@@ -16,7 +16,7 @@ use Rattle.iss_model.specs.Cluster.{Cluster, Message, begin}
 use Rattle.iss_model.specs.Node.{Formats, OfModule, OfRequest, Parcel}
 use Rattle.iss_model.specs.Ordered.{IsExact, IsSoundRules, Ordered}
 use Rattle.iss_model.specs.Rules.{Rules}
-use Rattle.iss_model.specs.Run.{End, Happening, Held, Net, Progress, at_core, begin_run, calms, cores_of, delivered_to, delivers, delivers_each, done, goes_further, happens, injects, loses, pumps, node_of, request_of, run, unless, with_network}
+use Rattle.iss_model.specs.Run.{End, Happening, Held, Progress, at_core, begin_run, calms, cores_of, delivered_to, delivers, delivers_each, done, goes_further, happens, loses, pumps, node_of, request_of, run, unless, with_network}
 use Rattle.iss_model.specs.Runs.{AreAtCores, IsAtCore, IsFaithful, pasts_of}
 use Rattle.iss_model.specs.Sound.{AreWindows}
 use Rattle.iss_model.proofs.Casts.{idle-ready}
@@ -52,8 +52,16 @@ module _ {Msg : Type 0} (s : Setup) (F : Formats Msg) (R : Rules) (M : Module Ms
   -- which packets wait and who is held changes nothing
   network-fits : (h : Held Msg) (net : Network) → net.packets ≡ h.net.network.packets → Fits h → Fits (with_network h net)
   network-fits h net q ok = record {
-    messages = ok.messages; posted = λ st p m. ok.posted st p (rw q at m); reach = ok.reach; root = ok.root; cores = ok.cores; told = ok.told;
-    sent = ok.sent; named = ok.named; booked = ok.booked; separate = ok.separate;
+    messages = ok.messages;
+    posted = λ st p m. ok.posted st p (rw q at m);
+    reach = ok.reach;
+    root = ok.root;
+    cores = ok.cores;
+    told = ok.told;
+    sent = ok.sent;
+    named = ok.named;
+    booked = ok.booked;
+    separate = ok.separate;
   }
 
   -- what an event leads to

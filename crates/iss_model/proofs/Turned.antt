@@ -18,25 +18,25 @@ use Rattle.iss_model.specs.declared.causes.NodeEvent.{NodeEvent}
 use Rattle.iss_model.specs.declared.causes.NodeEvent.TheVariants.{Packet as Gets, Propose as Proposes, Timeout as Fires}
 use Rattle.iss_model.specs.Cluster.{Cluster, IsBooked, IsOneOf, IsOwn, IsVerified, Message, MayGet, MayTake, Names, Reach, Signed, ends, move, rest}
 use Rattle.iss_model.specs.Ends.{AreBooked}
-use Rattle.iss_model.specs.Node.{Body, Core, Dropped, Early, Formats, OfModule, Parcel, Stepped, Taken, Turn, all_verify, claims_of_input, inputs, own_claims, packed, rests, settles, step, verdict_in}
+use Rattle.iss_model.specs.Node.{Body, Core, Dropped, Early, Formats, OfModule, Parcel, Stepped, Taken, Turn, all_verify, inputs, own_claims, packed, rests, settles, step, verdict_in}
 use Rattle.iss_model.specs.Ordered.{Among, IsSoundRules}
 use Rattle.iss_model.specs.Past.{Past, advanced, before, is_complete, leads_in, log_of, made_in, params_of, takes}
 use Rattle.iss_model.specs.Rules.{Rules}
-use Rattle.iss_model.specs.Run.{End, Happening, Held, after_step, as_signed, at_core, booked, by_collision, by_forged, claims_at, collision_in, cores_of, early_of, first_forged, node_of, posted_all, turned_to}
+use Rattle.iss_model.specs.Run.{End, Held, after_step, as_signed, at_core, booked, by_collision, by_forged, claims_at, collision_in, early_of, first_forged, node_of, posted_all, turned_to}
 use Rattle.iss_model.specs.Runs.{IsFaithful, pasts_of}
 use Rattle.iss_model.specs.Sound.{AreWindows, IsReadyCore, carried}
 use Rattle.iss_model.specs.Views.{claims_of_body, claims_of_parcel}
 use Rattle.iss_model.proofs.Booked.{ends-booked, takes-booked}
-use Rattle.iss_model.proofs.Casts.{cast-fit, cast-read, casting-ready, early-ready, ends-ready, inputs-ready, step-grown, step-ready}
+use Rattle.iss_model.proofs.Casts.{cast-fit, cast-read, casting-ready, ends-ready, inputs-ready, step-grown, step-ready}
 use Rattle.iss_model.proofs.Ending.{HasSlots}
 use Rattle.iss_model.proofs.Fits.{AreSent as AreSentBy, Fits as FitsBy, IsNamed as IsNamedBy, IsPosted as IsPostedBy, more-posted, view}
 use Rattle.iss_model.proofs.Posts.{posted-append, posted-in, told, told-is}
 use Rattle.iss_model.proofs.Rows.{IsFit, claims_early, settles-holds, then_ends, then_reads, then_takes}
 use Rattle.iss_model.proofs.Statements.{leader-far}
-use Rattle.iss_model.proofs.Steps.{IsInput, Took, asked, cast, casting, fired, kept, next_batch, received, took}
+use Rattle.iss_model.proofs.Steps.{Took, asked, cast, casting, fired, kept, next_batch, received, took}
 use Rattle.iss_model.proofs.Tests.{booked-first, booked-last, booked-split, each-verifies, over-append, over-new, over-old, own-is, separate-more, unforged}
 use Rattle.iss_model.proofs.Told.{AreTold, took-told}
-use Rattle.iss_model.proofs.Twins.{addressee-core, core-correct, core-low, correct-is, correct-low, faultless, leader-below}
+use Rattle.iss_model.proofs.Twins.{addressee-core, core-correct, core-low, correct-is, correct-below, faultless, leader-below}
 use Rattle.iss_model.proofs.Unvoted.{Grows, grows-same, unvoted, unvoted-strings}
 
 module _ {Msg : Type 0} (s : Setup) (F : Formats Msg) (R : Rules) (M : Module Msg) (sound : IsSoundRules s M R) (faithful : IsFaithful s F M)
@@ -107,7 +107,7 @@ module _ {Msg : Type 0} (s : Setup) (F : Formats Msg) (R : Rules) (M : Module Ms
         let none : M.stopping ≡ true → ⊥ = λ st. true≢false (sym (core-correct s (faultless s R M sound st) i (low st)) ∙ faulty) in
         let unsigned : (x : Signed) → In x (booked s i t.own) → ⊥ = λ x k. subst (λ (b : Bool). In x (cond b (as_signed t.own) [])) faulty k in
         let old : (x : Signed) → In x (booked s i t.own ++ h.signed) → In x h.signed =
-            λ x k. elim (in_append x (booked s i t.own) h.signed k) [ inl a ↦ absurd (unsigned x a) | inr b ↦ b ] in
+        λ x k. elim (in_append x (booked s i t.own) h.signed k) [ inl a ↦ absurd (unsigned x a) | inr b ↦ b ] in
         record {
           messages = ok.messages;
           posted = λ st. absurd (none st);
@@ -197,7 +197,9 @@ module _ {Msg : Type 0} (s : Setup) (F : Formats Msg) (R : Rules) (M : Module Ms
       more-signed : (book : List Signed) → ((x : Signed) → In x h.signed → In x book) → (p : Params) (from : ℕ) (msg : Msg) →
           IsCredible M p (IsVerified R) (IsBooked h.signed) from msg → IsCredible M p (IsVerified R) (IsBooked book) from msg
       more-signed book sub p from msg k = record {
-        named = k.named; read = k.read; verified = k.verified;
+        named = k.named;
+        read = k.read;
+        verified = k.verified;
         signed = λ d m good. sub (record { by = d.by.0; statement = d.statement }) (k.signed d m good);
       }
 
@@ -229,22 +231,24 @@ module _ {Msg : Type 0} (s : Setup) (F : Formats Msg) (R : Rules) (M : Module Ms
           let fresh : List (Message Msg) = told s i e l made.sends in
           let net : Network = posted_all s h.net.network i t.sends in
           let is_own : (x : Signed) → In x (booked s i own) → IsOwn M p i made.sends x =
-              λ x m. own-is M p i made.sends x (subst (λ (b : Bool). In x (cond b (as_signed own) [])) correct m) in
+          λ x m. own-is M p i made.sends x (subst (λ (b : Bool). In x (cond b (as_signed own) [])) correct m) in
           let is_named : (x : Signed) → IsOwn M p i made.sends x → IsNamed x = λ x o. record {
-            epoch = e; leader = l; far = leader-far s M R sound bf e l fit.leads;
+            epoch = e;
+            leader = l;
+            far = leader-far s M R sound bf e l fit.leads;
             names = subst (λ (y : Signed). Names s M e l y.statement) (sym o.is) (claim-names bf e l i o.msg o.claim o.made);
           } in
           let over-both : over u.strings h.hashed ≡ over made.strings (over t.strings h.hashed) = over-append t.strings made.strings h.hashed in
           let fresh_string : (x : List ℕ) → In x made.strings → In x (over u.strings h.hashed) =
-              λ x m. subst (λ (xs : List (List ℕ)). In x xs) (sym over-both) (over-new x made.strings (over t.strings h.hashed) m) in
+          λ x m. subst (λ (xs : List (List ℕ)). In x xs) (sym over-both) (over-new x made.strings (over t.strings h.hashed) m) in
           let old_string : (x : List ℕ) → In x (over t.strings h.hashed) → In x (over u.strings h.hashed) =
-              λ x m. subst (λ (xs : List (List ℕ)). In x xs) (sym over-both) (over-old x made.strings (over t.strings h.hashed) m) in
+          λ x m. subst (λ (xs : List (List ℕ)). In x xs) (sym over-both) (over-old x made.strings (over t.strings h.hashed) m) in
           let older : (x : Signed) → In x (booked s i t.own ++ h.signed) → In x (booked s i u.own ++ h.signed) = λ x m. elim (in_append x (booked s i t.own) h.signed m) [
             | inl a ↦ in_left x (booked s i u.own) h.signed (booked-first s i t.own own x a)
             | inr b ↦ in_right x (booked s i u.own) h.signed b
           ] in
           let newer : (x : Signed) → In x (as_signed own) → In x (booked s i u.own ++ h.signed) = λ x m.
-              in_left x (booked s i u.own) h.signed (booked-last s i t.own own x (subst (λ (b : Bool). In x (cond b (as_signed own) [])) (sym correct) m)) in
+          in_left x (booked s i u.own) h.signed (booked-last s i t.own own x (subst (λ (b : Bool). In x (cond b (as_signed own) [])) (sym correct) m)) in
           record {
             messages = fresh ++ k.messages;
             reach = move i l input t.core.leaf k.reach (record {
@@ -269,7 +273,7 @@ module _ {Msg : Type 0} (s : Setup) (F : Formats Msg) (R : Rules) (M : Module Ms
             });
             posted = λ st q m.
                 let m2 : In q (posted_all s net i (packed F i e l made.sends)).packets =
-                    subst (λ (v : Network). In q v.packets) (posted-append s h.net.network i t.sends (packed F i e l made.sends)) m in
+                subst (λ (v : Network). In q v.packets) (posted-append s h.net.network i t.sends (packed F i e l made.sends)) m in
                 elim (posted-in s F i e l made.sends net q m2) [
                   | inl a ↦ more-posted s F R M fresh k.messages q (k.posted st q a)
                   | inr r ↦ record {
@@ -277,7 +281,7 @@ module _ {Msg : Type 0} (s : Setup) (F : Formats Msg) (R : Rules) (M : Module Ms
                     epoch = e;
                     leader = l;
                     msg = r.msg;
-                    low_from = correct-low s i correct;
+                    low_from = correct-below s i correct;
                     low_leader = leader-below s R M sound bf e l fit.leads;
                     low_to = core-low s (faultless s R M sound st) q.to (addressee-core s r.to q.to r.addressed);
                     bytes = r.bytes;
@@ -317,13 +321,20 @@ module _ {Msg : Type 0} (s : Setup) (F : Formats Msg) (R : Rules) (M : Module Ms
 
       reads-fits : (t : Turn Msg) (claims : List Claim) → Turned t → Turned (then_reads F R M i t claims)
       reads-fits t claims k = record {
-        messages = k.messages; reach = k.reach; posted = k.posted; ready = k.ready; named = k.named; booked = k.booked; early = k.early; old = k.old;
+        messages = k.messages;
+        reach = k.reach;
+        posted = k.posted;
+        ready = k.ready;
+        named = k.named;
+        booked = k.booked;
+        early = k.early;
+        old = k.old;
       }
 
       -- a message that was read is credible in an instance where its claims verify and none of them is forged
       credible : (d : Past Msg) (l from : ℕ) (msg : Msg) → from < s.n → IsReadAgain (M.spell s.version) (M.parse s.version) msg →
           ((y : Claim) → In y (M.claims (params_of R M i d l) from msg) → R.verifies y.by.0 y.statement y.sig ≡ true → is_correct s y.by.0 ≡ true →
-              In (record { by = y.by.0; statement = y.statement }) h.signed) →
+          In (record { by = y.by.0; statement = y.statement }) h.signed) →
           all_verify R (M.claims (params_of R M i d l) from msg) ≡ true → Credible d l from msg
       credible d l from msg low read unf ver =
           let p : Params = params_of R M i d l in
@@ -373,16 +384,16 @@ module _ {Msg : Type 0} (s : Setup) (F : Formats Msg) (R : Rules) (M : Module Ms
             let told = faithful.told bytes k l msg un b in
             let p : Params = params_of R M i c.past l in
             let are : claims_at F R M i c (Gets bytes) ≡ M.claims p k.from msg =
-                ap (λ (o : Option (Parcel Msg)). claims_of_parcel R M i c o) un ∙
-                (ap (λ (y : Body Msg). claims_of_body R M i c k.from k.epoch y) b ∙
-                (ap (λ (n : ℕ). claims_of_body R M i c k.from n (OfModule l msg)) e ∙ here l msg k.from inp.leads)) in
+            ap (λ (o : Option (Parcel Msg)). claims_of_parcel R M i c o) un ∙
+            (ap (λ (y : Body Msg). claims_of_body R M i c k.from k.epoch y) b ∙
+            (ap (λ (n : ℕ). claims_of_body R M i c k.from n (OfModule l msg)) e ∙ here l msg k.from inp.leads)) in
             let sent : M.stopping ≡ true → In (record { from = k.from; to = i; epoch = c.past.epoch; leader = l; msg = msg }) ok.messages =
-                λ st. subst (λ (n : ℕ). In (record { from = k.from; to = i; epoch = n; leader = l; msg = msg }) ok.messages) e (comes.legit st k l msg un b) in
+            λ st. subst (λ (n : ℕ). In (record { from = k.from; to = i; epoch = n; leader = l; msg = msg }) ok.messages) e (comes.legit st k l msg un b) in
             let cred : leads_in R M i c.past l ≡ true → all_verify R (M.claims p k.from msg) ≡ true → Credible c.past l k.from msg =
-                λ leads ver. credible c.past l k.from msg told.0 told.1
-                (λ y n v good. unforged s R h.signed reads unf y (first y (subst (λ (ys : List Claim). In y ys) (sym are) n)) v good) ver in
+            λ leads ver. credible c.past l k.from msg told.0 told.1
+            (λ y n v good. unforged s R h.signed reads unf y (first y (subst (λ (ys : List Claim). In y ys) (sym are) n)) v good) ver in
             subst Turned (sym q) (input-fits c l (Receive (record { 0 = k.from }) msg) u refl refl (base was)
-                (record { leads = inp.leads; claims = inp.claims; leaves = inp.leaves; judged = inp.judged }) (sent, cred) inp.is (subst AreRead q read))
+            (record { leads = inp.leads; claims = inp.claims; leaves = inp.leaves; judged = inp.judged }) (sent, cred) inp.is (subst AreRead q read))
           where
             here : (l : ℕ) (msg : Msg) (from : ℕ) → leads_in R M i c.past l ≡ true →
                 claims_of_body R M i c from c.past.epoch (OfModule l msg) ≡ M.claims (params_of R M i c.past l) from msg
@@ -405,12 +416,12 @@ module _ {Msg : Type 0} (s : Setup) (F : Formats Msg) (R : Rules) (M : Module Ms
             let d : Core Msg = casting F R M i c n in
             let batch : Batch = next_batch F R M i c in
             let read_batch = cast-read R M i c F s (params_of R M i c.past i) (sound.setup _ _ _) sound.batch
-                (λ y m. was.spelled y (in_left y c.waiting (carried c.flight) m)) in
+            (λ y m. was.spelled y (in_left y c.waiting (carried c.flight) m)) in
             let base2 : Turned (rests d) = still-fits d refl (casting-ready F R M i c n was) (λ st. ok.sent st i) in
             subst Turned (sym q) (input-fits d i (Cast n batch) u refl refl base2 (cast-fit R M i c was.sound F law n u r) (refl, read_batch) r.is (subst AreRead q read))
         took-fits event t comes first read was core (fired l u inp q) =
             subst Turned (sym q) (input-fits c l.0 Timeout u refl refl (base was)
-                (record { leads = inp.leads; claims = inp.claims; leaves = inp.leaves; judged = inp.judged }) tt inp.is (subst AreRead q read))
+            (record { leads = inp.leads; claims = inp.claims; leaves = inp.leaves; judged = inp.judged }) tt inp.is (subst AreRead q read))
 
     turn-fits : (event : NodeEvent) (t : Turn Msg) → Comes-in event → first_forged s R h.signed (claims_at F R M (node_of s i) c event ++ t.early) ≡ None →
         step F R M (node_of s i) c event ≡ Taken t → Separate (Among (over t.strings h.hashed)) → Fits (turned_to s h i t)
@@ -475,7 +486,7 @@ module _ {Msg : Type 0} (s : Setup) (F : Formats Msg) (R : Rules) (M : Module Ms
               let good2 : is_correct s i ≡ true = subst (λ (n : ℕ). is_correct s n ≡ true) z good in
               let is : node_of s i ≡ i = correct-is s i good2 in
               let longer = subst (λ (n : ℕ). Extends (log_of R M n (h.net.cores i).past) (log_of R M n t.core.past)) is
-                  (step-grown F R M (node_of s i) slots windows (h.net.cores i) event t (ok.cores i).sound q) in
+              (step-grown F R M (node_of s i) slots windows (h.net.cores i) event t (ok.cores i).sound q) in
               rw (z, past-here h ok i t) longer
           | inr ne ↦ rw (past-there h ok i t j ne) (extends-refl (log_of R M j (pasts_of h.net j)))
         ];
