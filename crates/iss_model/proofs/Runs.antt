@@ -21,10 +21,12 @@ use Rattle.iss_model.specs.Runs.{AreAtCores, IsAtCore, IsFaithful, pasts_of}
 use Rattle.iss_model.specs.Sound.{AreWindows}
 use Rattle.iss_model.proofs.Casts.{idle-ready}
 use Rattle.iss_model.proofs.Reached.{composition}
-use Rattle.iss_model.proofs.Unvoted.{Grows, grows-trans, unvoted}
+use Rattle.iss_model.proofs.Ending.{HasSlots}
+use Rattle.iss_model.proofs.Grown.{Grows, at-grows, grows-trans, same-net}
+use Rattle.iss_model.proofs.Unvoted.{unvoted}
 use Rattle.iss_model.proofs.Statements.{apart}
 use Rattle.iss_model.proofs.Fits.{Fits as FitsBy, IsPosted, view}
-use Rattle.iss_model.proofs.Turned.{Comes-in, at-fits, at-grows, same-net}
+use Rattle.iss_model.proofs.Turned.{Comes-in, at-fits}
 use Rattle.iss_model.proofs.Twins.{core-low, faultless}
 
 pub run-append : {Msg : Type 0} (s : Setup) (F : Formats Msg) (R : Rules) (M : Module Msg) (es fs : List Event) (p : Progress Msg) →
@@ -47,7 +49,7 @@ module _ {Msg : Type 0} (s : Setup) (F : Formats Msg) (R : Rules) (M : Module Ms
   seen h messages = view s F R M h messages
 
   same : (w v : Held Msg) → v.net.cores ≡ w.net.cores → Grows s R M w.net v.net
-  same w v q = same-net s F R M sound faithful law windows w v q
+  same w v q = same-net s R M w v q
 
   -- which packets wait and who is held changes nothing
   network-fits : (h : Held Msg) (net : Network) → net.packets ≡ h.net.network.packets → Fits h → Fits (with_network h net)
@@ -76,7 +78,7 @@ module _ {Msg : Type 0} (s : Setup) (F : Formats Msg) (R : Rules) (M : Module Ms
   leads-trans h g k a f = let b = f a.fits in record { fits = b.fits; grows = grows-trans s R M h.net g.net k.net a.grows b.grows }
 
   leads-at : (h : Held Msg) (ok : Fits h) (i : ℕ) (event : NodeEvent) → Arrives h ok i event → Leads h (at_core s F R M h i event).held
-  leads-at h ok i event comes = record { fits = at-fits s F R M sound faithful law windows h ok i event comes; grows = at-grows s F R M sound faithful law windows h ok i event }
+  leads-at h ok i event comes = record { fits = at-fits s F R M sound faithful law windows h ok i event comes; grows = at-grows s F R M (record { some = sound.some_slots; most = sound.most }) windows h ok.cores i event }
 
   leads-network : (h : Held Msg) (net : Network) → net.packets ≡ h.net.network.packets → Fits h → Leads h (with_network h net)
   leads-network h net q ok = record { fits = network-fits h net q ok; grows = same h (with_network h net) refl }

@@ -1,7 +1,7 @@
 -- An event at one core leads on: what a run holds stays what moves of a cluster lead to.
 use Rattle.std.proofs.Common.{◌≡◌, ◌≢◌, ◌⊎◌, inl, inr, ℕ, ◌<◌, suc, Bool, true, false, cond, List, [], ◌∷◌, ◌++◌, Option, Some, None, refl, sym, ap, ◌∙◌, subst, true≢false}
-use Rattle.iss_base.specs.Lists.{Extends, In, over}
-use Rattle.iss_base.proofs.Lists.{eqb-same, extends-refl, in_append, in_left, in_right, same_or_not, set_at-other, set_at-same}
+use Rattle.iss_base.specs.Lists.{In, over}
+use Rattle.iss_base.proofs.Lists.{eqb-same, in_append, in_left, in_right, same_or_not, set_at-other, set_at-same}
 use Rattle.iss_network.specs.Network.{Network}
 use Rattle.iss_network.specs.declared.packets.Sent.{Sent}
 use Rattle.iss_request.specs.Fields.{IsReadAgain}
@@ -27,7 +27,7 @@ use Rattle.iss_model.specs.Runs.{IsFaithful, pasts_of}
 use Rattle.iss_model.specs.Sound.{AreWindows, IsReadyCore, carried}
 use Rattle.iss_model.specs.Views.{claims_of_body, claims_of_parcel}
 use Rattle.iss_model.proofs.Booked.{ends-booked, takes-booked}
-use Rattle.iss_model.proofs.Casts.{cast-fit, cast-read, casting-ready, ends-ready, inputs-ready, step-grown, step-ready}
+use Rattle.iss_model.proofs.Casts.{cast-fit, cast-read, casting-ready, ends-ready, inputs-ready, step-ready}
 use Rattle.iss_model.proofs.Ending.{HasSlots}
 use Rattle.iss_model.proofs.Fits.{AreSent as AreSentBy, Fits as FitsBy, IsNamed as IsNamedBy, IsPosted as IsPostedBy, more-posted, view}
 use Rattle.iss_model.proofs.Posts.{posted-append, posted-in, told, told-is}
@@ -37,7 +37,7 @@ use Rattle.iss_model.proofs.Steps.{Took, asked, cast, casting, fired, kept, next
 use Rattle.iss_model.proofs.Tests.{booked-first, booked-last, booked-split, each-verifies, over-append, over-new, over-old, own-is, separate-more, unforged}
 use Rattle.iss_model.proofs.Told.{AreTold, took-told}
 use Rattle.iss_model.proofs.Twins.{addressee-core, core-correct, core-low, correct-is, correct-below, faultless, leader-below}
-use Rattle.iss_model.proofs.Unvoted.{Grows, grows-same, unvoted, unvoted-strings}
+use Rattle.iss_model.proofs.Unvoted.{unvoted, unvoted-strings}
 
 module _ {Msg : Type 0} (s : Setup) (F : Formats Msg) (R : Rules) (M : Module Msg) (sound : IsSoundRules s M R) (faithful : IsFaithful s F M)
     (law : IsLawful M) (windows : AreWindows R) where
@@ -471,35 +471,3 @@ module _ {Msg : Type 0} (s : Setup) (F : Formats Msg) (R : Rules) (M : Module Ms
 
         stepped : (o : Stepped Msg) → step F R M (node_of s i) c event ≡ o → Fits (by_forged (first_forged s R h.signed (reads o)) h (after_step s h i o)).held
         stepped o st = forged (first_forged s R h.signed (reads o)) o st refl
-
-  pub same-net : (w v : Held Msg) → v.net.cores ≡ w.net.cores → Grows s R M w.net v.net
-  same-net w v q = grows-same s R M w.net v.net (λ j. ap (λ (f : ℕ → Core Msg). (f j).past) q)
-
-  -- what was taken makes logs longer, or leaves them as they are
-  pub at-grows : (h : Held Msg) → Fits h → (i : ℕ) (event : NodeEvent) → Grows s R M h.net (at_core s F R M h i event).held.net
-  at-grows h ok i event = forged (first_forged s R h.signed _) (step F R M (node_of s i) (h.net.cores i) event) refl
-    where
-      grown : (t : Turn Msg) → step F R M (node_of s i) (h.net.cores i) event ≡ Taken t → Grows s R M h.net (turned_to s h i t).net
-      grown t q = record {
-        logs = λ j good. elim (same_or_not j i) [
-          | inl z ↦
-              let good2 : is_correct s i ≡ true = subst (λ (n : ℕ). is_correct s n ≡ true) z good in
-              let is : node_of s i ≡ i = correct-is s i good2 in
-              let longer = subst (λ (n : ℕ). Extends (log_of R M n (h.net.cores i).past) (log_of R M n t.core.past)) is
-              (step-grown F R M (node_of s i) slots windows (h.net.cores i) event t (ok.cores i).sound q) in
-              rw (z, past-here h ok i t) longer
-          | inr ne ↦ rw (past-there h ok i t j ne) (extends-refl (log_of R M j (pasts_of h.net j)))
-        ];
-      }
-
-      collided : (o : Option End) (t : Turn Msg) → step F R M (node_of s i) (h.net.cores i) event ≡ Taken t → Grows s R M h.net (by_collision o h (turned_to s h i t)).held.net
-      collided (Some end) t q = same-net h h refl
-      collided None t q = grown t q
-
-      after : (o : Stepped Msg) → step F R M (node_of s i) (h.net.cores i) event ≡ o → Grows s R M h.net (after_step s h i o).held.net
-      after (Dropped why) q = same-net h h refl
-      after (Taken t) q = collided (collision_in t.strings h.hashed) t q
-
-      forged : (f : Option Claim) (o : Stepped Msg) → step F R M (node_of s i) (h.net.cores i) event ≡ o → Grows s R M h.net (by_forged f h (after_step s h i o)).held.net
-      forged (Some claim) o q = same-net h h refl
-      forged None o q = after o q
