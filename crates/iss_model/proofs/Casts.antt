@@ -189,24 +189,9 @@ module _ {Msg : Type 0} (F : Formats Msg) (R : Rules) (M : Module Msg) (me : ℕ
     pub ends-ready : (c : Core Msg) → IsReadyCore R M me c → is_complete R M me c.past ≡ true → IsReadyCore R M me (in_next_epoch c)
     ends-ready c h complete = record { sound = ends-sound c h.sound complete; spelled = h.spelled }
 
-    settles-sound : (t : Turn Msg) → IsSoundCore R M me t.core → IsSoundCore R M me (settles F R M me t).core
-    settles-sound t h = settles-holds F R M me (λ t. IsSoundCore R M me t.core) (λ t l input. Unit {0})
-        (λ t l input k fit come. inputs-sound t.core l input k) (λ t k complete. ends-sound t.core k complete) t h (λ done u x i k q. tt)
-
     settles-ready : (t : Turn Msg) → IsReadyCore R M me t.core → IsReadyCore R M me (settles F R M me t).core
     settles-ready t h = settles-holds F R M me (λ t. IsReadyCore R M me t.core) (λ t l input. Unit {0})
-        (λ t l input k fit come. inputs-ready t.core l input k) (λ t k complete. ends-ready t.core k complete) t h (λ done u x i k q. tt)
-
-    took-sound : (c : Core Msg) (event : NodeEvent) (t : Turn Msg) → IsSoundCore R M me c → Took F R M me c event t → IsSoundCore R M me t.core
-    took-sound c event t h (received k l msg u un b e i q) = rw q (settles-sound u (rw i.is (inputs-sound c l _ h)))
-    took-sound c event t h (kept k l msg u b e i) = rw i.is (early-sound c _ h)
-    took-sound c event t h (asked k q u b r) = requested-sound c q t h r
-    took-sound c event t h (cast s u i q) = rw q (settles-sound u (rw i.is (inputs-sound (casting F R M me c s) me _ (casting-sound c s h))))
-    took-sound c event t h (fired l u i q) = rw q (settles-sound u (rw i.is (inputs-sound c l.0 _ h)))
-
-    -- each step keeps it
-    pub step-sound : (c : Core Msg) (event : NodeEvent) (t : Turn Msg) → IsSoundCore R M me c → step F R M me c event ≡ Taken t → IsSoundCore R M me t.core
-    step-sound c event t h q = took-sound c event t h (took F R M me c event t q)
+        (λ t l input k fit come. inputs-ready t.core l input k) (λ t k complete. ends-ready t.core k complete) (λ t claims k. k) t h (λ done u x i k q r. tt)
 
     took-ready : (c : Core Msg) (event : NodeEvent) (t : Turn Msg) → IsReadyCore R M me c → Took F R M me c event t →
         ((bytes : List ℕ) (k : Parcel Msg) (q : Request) → F.unwrap bytes ≡ Some k → k.body ≡ OfRequest q → HasSpelling q) → IsReadyCore R M me t.core
@@ -216,7 +201,7 @@ module _ {Msg : Type 0} (F : Formats Msg) (R : Rules) (M : Module Msg) (me : ℕ
     took-ready c event t h (cast s u i q) read = rw q (settles-ready u (rw i.is (inputs-ready (casting F R M me c s) me _ (casting-ready c s h))))
     took-ready c event t h (fired l u i q) read = rw q (settles-ready u (rw i.is (inputs-ready c l.0 _ h)))
 
-    -- and what it holds has a spelling, where each request that is read has one
+    -- each step keeps it, where each request that is read has a spelling
     pub step-ready : ((bytes : List ℕ) (k : Parcel Msg) (q : Request) → F.unwrap bytes ≡ Some k → k.body ≡ OfRequest q → HasSpelling q) → (c : Core Msg) (event : NodeEvent) (t : Turn Msg) → IsReadyCore R M me c → step F R M me c event ≡ Taken t → IsReadyCore R M me t.core
     step-ready read c event t h q = took-ready c event t h (took F R M me c event t q) read
 
@@ -237,7 +222,8 @@ module _ {Msg : Type 0} (F : Formats Msg) (R : Rules) (M : Module Msg) (me : ℕ
           sound = ends-sound t.core k.sound complete;
           logs = extends-trans _ _ _ k.logs (log-later R M me t.core.past (advanced t.core.past) (advanced-later R t.core.past (settled-core t.core k.sound)));
         })
-        t h (λ done u x i k q. tt)
+        (λ t claims k. record { sound = k.sound; logs = k.logs })
+        t h (λ done u x i k q r. tt)
 
     at-first : (c : Core Msg) → IsSoundCore R M me c → Grown c.past (rests c)
     at-first c h = record { sound = h; logs = extends-refl (log_of R M me c.past) }
@@ -357,4 +343,4 @@ module _ {Msg : Type 0} (R : Rules) (M : Module Msg) (me : ℕ) (c : Core Msg) w
 
     -- and the cast is one that the core may take
     pub cast-fit : (F : Formats Msg) → IsLawful M → (s : Slot) (t : Turn Msg) → IsCast F R M me c s t → IsFit F R M me (casting F R M me c s) me (Cast s (next_batch F R M me c))
-    cast-fit F law s t k = record { leads = k.leads; leaves = k.leaves; judged = cast-judged F law s k.free }
+    cast-fit F law s t k = record { leads = k.leads; claims = refl; leaves = k.leaves; judged = cast-judged F law s k.free }

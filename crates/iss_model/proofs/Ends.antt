@@ -1,5 +1,5 @@
 -- The start, the end of an epoch, and rest keep the invariant.
-use Rattle.std.proofs.Common.{◌≡◌, ◌≢◌, ◌⊎◌, inl, inr, ℕ, suc, zero, ◌≤◌, ◌<◌, Bool, true, false, cond, not, leb, ◌&&◌, List, [], ◌++◌, length, Some, refl, sym, ap, ◌∙◌, subst, ap₂, arith, le_trans, true≢false}
+use Rattle.std.proofs.Common.{◌≡◌, ◌≢◌, ◌⊎◌, inl, inr, ℕ, suc, zero, ◌≤◌, ◌<◌, Bool, true, false, cond, leb, ◌&&◌, List, [], ◌++◌, length, Some, refl, sym, ap, ◌∙◌, subst, ap₂, arith, le_trans, true≢false}
 use Rattle.std.proofs.lemmas.Bool.Decides.{leb_tells}
 use mathlib.Core.Path.{fun_ext}
 use Rattle.iss_base.specs.Lists.{Extends, In}
@@ -7,7 +7,7 @@ use Rattle.iss_base.proofs.Lists.{and-true, chain-oldest, extends-length, same_o
 use Rattle.iss_request.specs.Log.{requests}
 use Rattle.iss_request.specs.declared.requests.Value.{Value}
 use Rattle.iss_request.specs.declared.setups.Setup.{Setup}
-use Rattle.iss_sb.specs.Evidence.{IsHashed, IsReached, IsSent, Module, Separate, World, accepts, at_start, empty_world, has_node, is_correct}
+use Rattle.iss_sb.specs.Evidence.{IsHashed, IsReached, IsSent, Module, Separate, World, accepts, at_start, empty_world, is_correct}
 use Rattle.iss_sb.specs.Laws.{IsSafe}
 use Rattle.iss_model.specs.Cluster.{AllSpelled, Backed, Begun, Cluster, Ended, IsHashedLog, IsTrueLog, Message, Names, Quiet, Rested, Scheme, Signed, chain, vote_statement, world_of}
 use Rattle.iss_model.specs.Past.{advanced, ended_log}
@@ -23,6 +23,7 @@ use Rattle.iss_model.proofs.Good.{Good, IsClaimed, IsTrue, Voted}
 use Rattle.iss_model.proofs.Kept.{adopted-later, claimed-later, is_true-later, sent-later, settled-of, voted-later, world-same}
 use Rattle.iss_model.proofs.Logs.{Later, Settled, before-later, later-refl, log-chain, log-later}
 use Rattle.iss_model.proofs.Statements.{apart, votes}
+use Rattle.iss_model.proofs.Twins.{correct-below}
 
 -- the next epoch, with more pieces
 abbrev pub turned : {Msg : Type 0} → Past Msg → List Piece → Past Msg
@@ -94,10 +95,6 @@ some_or_none b (suc n) = go (some_or_none b n) (b n) refl
     go (inl x) t q = inl x
     go (inr x) true q = inl (n, q)
     go (inr x) false q = inr (λ j lt. elim (same_or_not j n) [ inl y ↦ rw y q | inr y ↦ x j (omega (arith, y)) ])
-
--- correct nodes are below n
-pub correct-below : (s : Setup) (j : ℕ) → is_correct s j ≡ true → j < s.n
-correct-below s j ok = elim (leb_tells (suc j) s.n) [ inl t ↦ t.1 | inr t ↦ absurd (true≢false (sym (and-true (leb (suc j) s.n) (not (has_node j s.faulty)) ok).0 ∙ t.0)) ]
 
 -- a correct node is in epoch d or past it, or none is
 in_epoch : {Msg : Type 0} (s : Setup) (v : Cluster Msg) (d : ℕ) → ((j : ℕ) × (is_correct s j ≡ true) × (d ≤ (v.pasts j).epoch)) ⊎ ((j : ℕ) → is_correct s j ≡ true → (v.pasts j).epoch < d)

@@ -1,8 +1,8 @@
 -- Lists of requests that wait, fly and return: no part of a step loses one or has it twice.
-use Rattle.std.proofs.Common.{◌≡◌, ◌⊎◌, inl, inr, ℕ, suc, zero, ◌≤◌, ◌<◌, Bool, true, false, cond, eqb, if◌then◌else◌, nat_lt, not, List, [], ◌∷◌, ◌++◌, length, length-append, refl, sym, ap, ◌∙◌, subst, arith, true≢false}
+use Rattle.std.proofs.Common.{◌≡◌, ◌⊎◌, inl, inr, ℕ, suc, zero, ◌≤◌, ◌<◌, Bool, true, false, cond, eqb, if◌then◌else◌, nat_lt, not, List, [], ◌∷◌, ◌++◌, length, refl, sym, ap, ◌∙◌, subst, arith, true≢false}
 use Rattle.std.proofs.lemmas.Bool.Decides.{leb_tells}
 use Rattle.iss_base.specs.Lists.{Different, Extends, In}
-use Rattle.iss_base.proofs.Lists.{different-append, different-apart, different-left, different-right, eqb-other, eqb-same, extends-cons, extends-refl, in_append, in_left, in_right, is-eq}
+use Rattle.iss_base.proofs.Lists.{different-append, different-apart, different-left, different-right, eqb-same, extends-cons, extends-refl, in_append, in_left, in_right, is-eq}
 use Rattle.iss_buckets.specs.Waiting.{absent, cut, uncut}
 use Rattle.iss_request.specs.Formats.{is_batch}
 use Rattle.iss_request.specs.Log.{has_id, ids, log_ids}

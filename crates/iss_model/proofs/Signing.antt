@@ -36,9 +36,9 @@ use Rattle.iss_model.specs.Past.{Past, log_of, newborn, takes}
 use Rattle.iss_model.specs.Rules.{Rules}
 use Rattle.iss_model.specs.Runs.{IsSetupOf}
 use Rattle.iss_model.proofs.Checkpoints.{exact-of}
-use Rattle.iss_model.proofs.Ends.{correct-below}
 use Rattle.iss_model.proofs.Layouts.{however-signed, sound-rules}
 use Rattle.iss_model.proofs.Reached.{composition}
+use Rattle.iss_model.proofs.Twins.{correct-below}
 
 abbrev pub Word : Type 0
 Word = Slot × Batch
