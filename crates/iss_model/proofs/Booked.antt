@@ -41,13 +41,17 @@ module _ {Msg : Type 0} (R : Rules) (M : Module Msg) (i : ℕ) (c : Core Msg) (s
       AreBooked R M i (takes R M i c.past l input leaf) book
   takes-booked l input leaf book ok new e k item m x own = elim (same_or_not e c.past.epoch) [
     | inl q ↦ elim (same_or_not k l) [
-      | inl r ↦ elim (subst (λ (xs : List (Item Msg)). In item xs) (set_at2-at c.past.evidence c.past.epoch l (made ∷ c.past.evidence c.past.epoch l) e k q r) m) [
-        | inl z ↦ new x (own-all M p i made.made.sends x (here q r (subst (λ (y : Item Msg). IsOwn M (R.params (before R M i d e) e k) i y.made.sends x) z own)))
-        | inr z ↦ old-booked book ok d later e k item (rw (q, r) z) x own
-      ]
-      | inr ne ↦ old-booked book ok d later e k item (subst (λ (xs : List (Item Msg)). In item xs) (set_at2-other c.past.evidence c.past.epoch l _ e k (inr ne)) m) x own
+      | inl r ↦ elim (subst (λ (xs : List (Item Msg)). In item xs)
+          (set_at2-at c.past.evidence c.past.epoch l (made ∷ c.past.evidence c.past.epoch l) e k q r) m) [
+            | inl z ↦ new x (own-all M p i made.made.sends x
+                (here q r (subst (λ (y : Item Msg). IsOwn M (R.params (before R M i d e) e k) i y.made.sends x) z own)))
+            | inr z ↦ old-booked book ok d later e k item (rw (q, r) z) x own
+          ]
+      | inr ne ↦ old-booked book ok d later e k item
+          (subst (λ (xs : List (Item Msg)). In item xs) (set_at2-other c.past.evidence c.past.epoch l _ e k (inr ne)) m) x own
     ]
-    | inr ne ↦ old-booked book ok d later e k item (subst (λ (xs : List (Item Msg)). In item xs) (set_at2-other c.past.evidence c.past.epoch l _ e k (inl ne)) m) x own
+    | inr ne ↦ old-booked book ok d later e k item
+        (subst (λ (xs : List (Item Msg)). In item xs) (set_at2-other c.past.evidence c.past.epoch l _ e k (inl ne)) m) x own
   ]
     where
       d : Past Msg

@@ -194,7 +194,8 @@ module _ {Msg : Type 0} (s : Setup) (F : Formats Msg) (R : Rules) (M : Module Ms
       taken (Dropped why) k z = absurd z
       taken (Taken t) k z = turned t k (collision_in t.strings h.hashed) z
 
-      honest : (f : Option Claim) (o : Stepped Msg) → step F R M (node_of s c) (h.net.cores c) event ≡ o → In x (asked_in i e (by_forged f h (after_step s h c o))) →
+      honest : (f : Option Claim) (o : Stepped Msg) → step F R M (node_of s c) (h.net.cores c) event ≡ o →
+          In x (asked_in i e (by_forged f h (after_step s h c o))) →
           PlacedCore R M (node_of s i) ((by_forged f h (after_step s h c o)).held.net.cores i) x
       honest None o k z = taken o k z
       honest (Some claim) o k z = absurd z

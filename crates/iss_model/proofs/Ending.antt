@@ -46,7 +46,8 @@ module _ (R : Rules) (h : HasSlots R) {Msg : Type 0} (M : Module Msg) (me : ℕ)
           elim (leb_tells (start_of R (v ∷ older) (suc c.epoch)) (length older)) [
             | inr t ↦ omega (arith, t.1)
             | inl t ↦
-                let same : start_of R (v ∷ older) (suc c.epoch) ≡ start_of R older (suc c.epoch) = start-within R older (v ∷ older) (suc c.epoch) (v ∷ [], refl) t.1 in
+                let same : start_of R (v ∷ older) (suc c.epoch) ≡ start_of R older (suc c.epoch) =
+                start-within R older (v ∷ older) (suc c.epoch) (v ∷ [], refl) t.1 in
                 absurd (omega (arith, t.1, same, high, mono))
           ]
 

@@ -41,7 +41,8 @@ module _ {Msg : Type 0} (s : Setup) (F : Formats Msg) (R : Rules) (M : Module Ms
     collided-tells t q (Some end) k other e =
         let w = collided-with t.strings h.hashed end k in
         let is : Collision w.0 w.1 ≡ other = sym w.2 ∙ some-injective end other e in
-        let shown : HasCollided s F R M h w.0 w.1 = record { core = c; event = event; turn = t; taken = q; strings = collision-shown t.strings h.hashed w.0 w.1 (k ∙ ap (λ (z : End). Some z) w.2) } in
+        let shown : HasCollided s F R M h w.0 w.1 =
+        record { core = c; event = event; turn = t; taken = q; strings = collision-shown t.strings h.hashed w.0 w.1 (k ∙ ap (λ (z : End). Some z) w.2) } in
         subst (λ (z : End). Shows s F R M h z) is shown
 
     after-tells : (o : Stepped Msg) → step F R M (node_of s c) (h.net.cores c) event ≡ o → Tells (after_step s h c o)
@@ -74,7 +75,8 @@ module _ {Msg : Type 0} (s : Setup) (F : Formats Msg) (R : Rules) (M : Module Ms
   delivered-tells h k None = still-tells h
   delivered-tells h k (Some p) = at-tells (with_network h (settled h.net.network k)) p.to (Gets p.bytes)
 
-  unless-tells : (d : Happening Msg) (more : Held Msg → Happening Msg) → Tells d → ((g : Held Msg) → Tells (more g)) → (o : Option End) → Tells (unless o d more)
+  unless-tells : (d : Happening Msg) (more : Held Msg → Happening Msg) → Tells d → ((g : Held Msg) → Tells (more g)) → (o : Option End) →
+      Tells (unless o d more)
   unless-tells d more a b None = b d.held
   unless-tells d more a b (Some end) = a
 

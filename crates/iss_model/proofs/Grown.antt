@@ -1,5 +1,5 @@
 -- What a core takes makes its log longer, or leaves it as it is.
-use Rattle.std.proofs.Common.{◌≡◌, inl, inr, ℕ, true, List, Option, Some, None, refl, ap, subst}
+use Rattle.std.proofs.Common.{◌≡◌, inl, inr, ℕ, true, Option, Some, None, refl, ap, subst}
 use Rattle.iss_base.specs.Lists.{Extends}
 use Rattle.iss_base.proofs.Lists.{extends-refl, extends-trans, same_or_not, set_at-other, set_at-same}
 use Rattle.iss_request.specs.declared.setups.Setup.{Setup}
@@ -38,7 +38,7 @@ module _ {Msg : Type 0} (s : Setup) (F : Formats Msg) (R : Rules) (M : Module Ms
           let good2 : is_correct s i ≡ true = subst (λ (n : ℕ). is_correct s n ≡ true) z good in
           let here : pasts_of (turned_to s h i t).net i ≡ t.core.past = ap (λ (d : Core Msg). d.past) (set_at-same h.net.cores i t.core) in
           let longer = subst (λ (n : ℕ). Extends (log_of R M n (h.net.cores i).past) (log_of R M n t.core.past)) (correct-is s i good2)
-              (step-grown F R M (node_of s i) slots windows (h.net.cores i) event t (ready i).sound q) in
+          (step-grown F R M (node_of s i) slots windows (h.net.cores i) event t (ready i).sound q) in
           rw (z, here) longer
       | inr ne ↦
           let there : pasts_of (turned_to s h i t).net j ≡ pasts_of h.net j = ap (λ (d : Core Msg). d.past) (set_at-other h.net.cores i t.core j ne) in

@@ -73,7 +73,8 @@ module _ {Msg : Type 0} (F : Formats Msg) (R : Rules) (M : Module Msg) (me : ℕ
         let fit : IsFit t.core l input = record { leads = i.leads; claims = i.claims; leaves = i.leaves; judged = i.judged } in
         subst (λ (z : Turn Msg). P (onward t (λ c. z))) (sym i.is) (takes t l input h fit come)
 
-    tried-holds : (t : Turn Msg) (l : ℕ) (input : Input Msg) → P t → Comes t l input → (o : Stepped Msg) → at_instance F R M me t.core l input ≡ o → P (onward t (λ c. tried c o))
+    tried-holds : (t : Turn Msg) (l : ℕ) (input : Input Msg) → P t → Comes t l input → (o : Stepped Msg) → at_instance F R M me t.core l input ≡ o →
+        P (onward t (λ c. tried c o))
     tried-holds t l input h come (Dropped why) q = subst P (sym (onward-rests t)) h
     tried-holds t l input h come (Taken v) q = input-holds t l input v h come (input-taken F R M me t.core l input v q)
 

@@ -61,7 +61,8 @@ module _ {Msg : Type 0} (s : Setup) (F : Formats Msg) (R : Rules) (M : Module Ms
       let p = R.params bf e l in
       let n = law.names p from msg c h in
       subst (λ (t : Setup). Names t M e l c.statement) (sound.setup bf e l)
-      (subst (λ (d : ℕ). Names p.setup M d l c.statement) (sound.epoch bf e l) (subst (λ (k : ℕ). Names p.setup M p.epoch.0 k c.statement) (sound.leader bf e l) n))
+      (subst (λ (d : ℕ). Names p.setup M d l c.statement) (sound.epoch bf e l)
+      (subst (λ (k : ℕ). Names p.setup M p.epoch.0 k c.statement) (sound.leader bf e l) n))
 
   slots : HasSlots R
   slots = record { some = sound.some_slots; most = sound.most }
@@ -156,7 +157,8 @@ module _ {Msg : Type 0} (s : Setup) (F : Formats Msg) (R : Rules) (M : Module Ms
         reach = k.reach;
         posted = k.posted;
         root = root-of t;
-        cores = each-core (λ j d. IsReadyCore R M (node_of s j) d) t (subst (λ (n : ℕ). IsReadyCore R M n t.core) (sym (correct-is s i correct)) k.ready) ok.cores;
+        cores = each-core (λ j d. IsReadyCore R M (node_of s j) d) t
+            (subst (λ (n : ℕ). IsReadyCore R M n t.core) (sym (correct-is s i correct)) k.ready) ok.cores;
         told = each-core (λ j d. AreTold s M d) t told ok.told;
         sent = λ st. each-core (λ j d. AreSent k.messages j d) t (k.early st) (λ j x m. k.old _ (ok.sent st j x m));
         named = λ x m. elim (in_append x (booked s i t.own) h.signed m) [ inl a ↦ k.named x a | inr b ↦ ok.named x b ];
@@ -219,7 +221,8 @@ module _ {Msg : Type 0} (s : Setup) (F : Formats Msg) (R : Rules) (M : Module Ms
       may-take t k l Timeout fit m = tt
 
       -- an input is taken in the instance of l
-      takes-fits : (t : Turn Msg) (l : ℕ) (input : Input Msg) → Turned t → IsFit F R M i t.core l input → Comes t l input → Turned (then_takes F R M i t l input)
+      takes-fits : (t : Turn Msg) (l : ℕ) (input : Input Msg) → Turned t → IsFit F R M i t.core l input → Comes t l input →
+          Turned (then_takes F R M i t l input)
       takes-fits t l input k fit come =
           let d : Past Msg = t.core.past in
           let e : ℕ = d.epoch in
@@ -243,7 +246,8 @@ module _ {Msg : Type 0} (s : Setup) (F : Formats Msg) (R : Rules) (M : Module Ms
           λ x m. subst (λ (xs : List (List ℕ)). In x xs) (sym over-both) (over-new x made.strings (over t.strings h.hashed) m) in
           let old_string : (x : List ℕ) → In x (over t.strings h.hashed) → In x (over u.strings h.hashed) =
           λ x m. subst (λ (xs : List (List ℕ)). In x xs) (sym over-both) (over-old x made.strings (over t.strings h.hashed) m) in
-          let older : (x : Signed) → In x (booked s i t.own ++ h.signed) → In x (booked s i u.own ++ h.signed) = λ x m. elim (in_append x (booked s i t.own) h.signed m) [
+          let older : (x : Signed) → In x (booked s i t.own ++ h.signed) → In x (booked s i u.own ++ h.signed) =
+          λ x m. elim (in_append x (booked s i t.own) h.signed m) [
             | inl a ↦ in_left x (booked s i u.own) h.signed (booked-first s i t.own own x a)
             | inr b ↦ in_right x (booked s i u.own) h.signed b
           ] in
@@ -260,7 +264,8 @@ module _ {Msg : Type 0} (s : Setup) (F : Formats Msg) (R : Rules) (M : Module Ms
               other = λ j ne. past-there u j ne ∙ sym (past-there t j ne);
               messages = λ st m z. there t (λ (y : Past Msg). IsOneOf i y.epoch l (made_in R M i y l input t.core.leaf).sends m ⊎ In m k.messages)
                   (elim (in_append m fresh k.messages z) [ inl a ↦ inl (told-is s (faultless s R M sound st) i e l made.sends m a) | inr b ↦ inr b ]);
-              book = λ x m. there t (λ (y : Past Msg). IsOwn M (params_of R M i y l) i (made_in R M i y l input t.core.leaf).sends x ⊎ In x (booked s i t.own ++ h.signed))
+              book = λ x m. there t
+                  (λ (y : Past Msg). IsOwn M (params_of R M i y l) i (made_in R M i y l input t.core.leaf).sends x ⊎ In x (booked s i t.own ++ h.signed))
                   (elim (in_append x (booked s i u.own) h.signed m) [
                     | inl a ↦ elim (booked-split s i t.own own x a) [ inl y ↦ inr (in_left x (booked s i t.own) h.signed y) | inr y ↦ inl (is_own x y) ]
                     | inr b ↦ inr (in_right x (booked s i t.own) h.signed b)
@@ -290,7 +295,8 @@ module _ {Msg : Type 0} (s : Setup) (F : Formats Msg) (R : Rules) (M : Module Ms
                 ];
             ready = inputs-ready F R M i t.core l input k.ready;
             named = λ x m. elim (booked-split s i t.own own x m) [ inl a ↦ k.named x a | inr b ↦ is_named x (is_own x b) ];
-            booked = takes-booked R M i t.core k.ready.sound l input t.core.leaf (booked s i u.own ++ h.signed) (λ a b y z x o. older x (k.booked a b y z x o)) newer;
+            booked = takes-booked R M i t.core k.ready.sound l input t.core.leaf (booked s i u.own ++ h.signed)
+                (λ a b y z x o. older x (k.booked a b y z x o)) newer;
             early = λ st x m. in_right _ fresh k.messages (k.early st x m);
             old = λ m z. in_right m fresh k.messages (k.old m z);
           }
@@ -352,14 +358,16 @@ module _ {Msg : Type 0} (s : Setup) (F : Formats Msg) (R : Rules) (M : Module Ms
         AreRead t = (y : Claim) → In y t.early → In y reads
 
         -- what is settled, of a core of this epoch
-        settled-fits : (u : Turn Msg) → Turned u → u.core.early ≡ c.early → u.core.past.epoch ≡ c.past.epoch → AreRead (settles F R M i u) → Turned (settles F R M i u)
+        settled-fits : (u : Turn Msg) → Turned u → u.core.early ≡ c.early → u.core.past.epoch ≡ c.past.epoch → AreRead (settles F R M i u) →
+            Turned (settles F R M i u)
         settled-fits u k early epoch read =
             settles-holds F R M i Turned Comes (λ t l input z fit come. takes-fits t l input z fit come) (λ t z complete. ends-fits t z complete) reads-fits u k
             (λ complete v x m z q r.
             let was : In x c.early = subst (λ (xs : List (Early Msg)). In x xs) early m in
             let told = ok.told i x was in
             let next : v.core.past.epoch ≡ suc c.past.epoch = q ∙ ap (λ (n : ℕ). suc n) epoch in (
-              λ st. subst (λ (n : ℕ). In (record { from = x.from; to = i; epoch = n; leader = x.leader; msg = x.msg }) ok.messages) (sym next) (ok.sent st i x was),
+              λ st. subst (λ (n : ℕ). In (record { from = x.from; to = i; epoch = n; leader = x.leader; msg = x.msg }) ok.messages) (sym next)
+                  (ok.sent st i x was),
               λ leads ver.
                   let p : Params = params_of R M i v.core.past x.leader in
                   let are : claims_early F R M i v.core x ≡ M.claims p x.from x.msg = ap (λ (b : Bool). cond b (M.claims p x.from x.msg) []) leads in
@@ -405,20 +413,25 @@ module _ {Msg : Type 0} (s : Setup) (F : Formats Msg) (R : Rules) (M : Module Ms
             let early : M.stopping ≡ true → AreSent ok.messages i (record c { early = c.early ++ x ∷ [] }) = λ st y m. elim (in_append y c.early (x ∷ []) m) [
               | inl a ↦ ok.sent st i y a
               | inr a ↦ elim a [
-                | inl z ↦ rw z (subst (λ (n : ℕ). In (record { from = k.from; to = i; epoch = n; leader = l; msg = msg }) ok.messages) e (comes.legit st k l msg un b))
+                | inl z ↦ rw z (subst (λ (n : ℕ). In (record { from = k.from; to = i; epoch = n; leader = l; msg = msg }) ok.messages) e
+                    (comes.legit st k l msg un b))
                 | inr none ↦ absurd none
               ]
             ] in
-            subst Turned (sym r.is) (still-fits (record c { early = c.early ++ x ∷ [] }) refl (subst (λ (z : Turn Msg). IsReadyCore R M i z.core) r.is core) early)
+            subst Turned (sym r.is)
+            (still-fits (record c { early = c.early ++ x ∷ [] }) refl (subst (λ (z : Turn Msg). IsReadyCore R M i z.core) r.is core) early)
         took-fits event t comes first read was core (asked k q un b r) =
-            subst Turned (sym r.is) (still-fits (record c { waiting = c.waiting ++ q ∷ [] }) refl (subst (λ (z : Turn Msg). IsReadyCore R M i z.core) r.is core) (λ st. ok.sent st i))
+            subst Turned (sym r.is)
+            (still-fits (record c { waiting = c.waiting ++ q ∷ [] }) refl (subst (λ (z : Turn Msg). IsReadyCore R M i z.core) r.is core)
+            (λ st. ok.sent st i))
         took-fits event t comes first read was core (cast n u r q) =
             let d : Core Msg = casting F R M i c n in
             let batch : Batch = next_batch F R M i c in
             let read_batch = cast-read R M i c F s (params_of R M i c.past i) (sound.setup _ _ _) sound.batch
             (λ y m. was.spelled y (in_left y c.waiting (carried c.flight) m)) in
             let base2 : Turned (rests d) = still-fits d refl (casting-ready F R M i c n was) (λ st. ok.sent st i) in
-            subst Turned (sym q) (input-fits d i (Cast n batch) u refl refl base2 (cast-fit R M i c was.sound F law n u r) (refl, read_batch) r.is (subst AreRead q read))
+            subst Turned (sym q)
+            (input-fits d i (Cast n batch) u refl refl base2 (cast-fit R M i c was.sound F law n u r) (refl, read_batch) r.is (subst AreRead q read))
         took-fits event t comes first read was core (fired l u inp q) =
             subst Turned (sym q) (input-fits c l.0 Timeout u refl refl (base was)
             (record { leads = inp.leads; claims = inp.claims; leaves = inp.leaves; judged = inp.judged }) tt inp.is (subst AreRead q read))
@@ -443,7 +456,8 @@ module _ {Msg : Type 0} (s : Setup) (F : Formats Msg) (R : Rules) (M : Module Ms
             let first = claims_at F R M i c event in
             took-fits correct (first ++ t.early) (subst (λ (n : ℕ). first_forged s R h.signed (claims_at F R M n c event ++ t.early) ≡ None) e unf)
             event t comes (λ y m. in_left y first t.early m) (λ y m. in_right y first t.early m)
-            (subst (λ (n : ℕ). IsReadyCore R M n c) e was) (subst (λ (n : ℕ). IsReadyCore R M n t.core) e core) (subst (λ (n : ℕ). Took F R M n c event t) e did)
+            (subst (λ (n : ℕ). IsReadyCore R M n c) e was) (subst (λ (n : ℕ). IsReadyCore R M n t.core) e core)
+            (subst (λ (n : ℕ). Took F R M n c event t) e did)
 
         go : (b : Bool) → is_correct s i ≡ b → Fits (turned_to s h i t)
         go true good = turned-fits good t (as_node good (node_of s i) (correct-is s i good) (ok.cores i) core did unf) told sep

@@ -73,7 +73,8 @@ module _ {Msg : Type 0} (s : Setup) (R : Rules) (M : Module Msg) (sound : IsSoun
   faultless stops =
       let good : IsGoodParams M (params_at R []) = sound.good (before_at R []) (epoch_at R []) (leader_at R []) (sound.leads []) in
       let kind : (params_at R []).setup.kind ≡ Stopping = good.kind ∙ ap kind_of stops in
-      let none : (params_at R []).setup.faulty ≡ [] = subst (λ (k : Kind). IsFewFaulty k (params_at R []).setup.f (params_at R []).setup.faulty) kind good.setup.few_faulty in
+      let none : (params_at R []).setup.faulty ≡ [] =
+      subst (λ (k : Kind). IsFewFaulty k (params_at R []).setup.f (params_at R []).setup.faulty) kind good.setup.few_faulty in
       subst (λ (t : Setup). t.faulty ≡ []) (sound.setup (before_at R []) (epoch_at R []) (leader_at R [])) none
 
   pub leader-below : (log : List _) (e l : ℕ) → R.leads log e l ≡ true → l < s.n

@@ -1,15 +1,8 @@
 -- Clusters in which nobody votes.
 use Rattle.std.proofs.Common.{◌≡◌, inl, inr, ℕ, true, false, List, [], ◌∷◌}
-use Rattle.iss_base.specs.Lists.{Extends, In}
-use Rattle.iss_base.proofs.Lists.{extends-refl, extends-trans}
+use Rattle.iss_base.specs.Lists.{In}
 use Rattle.iss_request.specs.declared.requests.Value.{Value}
-use Rattle.iss_request.specs.declared.setups.Setup.{Setup}
-use Rattle.iss_sb.specs.Evidence.{Module, is_correct}
 use Rattle.iss_model.specs.Cluster.{Scheme, chain_strings}
-use Rattle.iss_model.specs.Past.{log_of}
-use Rattle.iss_model.specs.Rules.{Rules}
-use Rattle.iss_model.specs.Run.{Net}
-use Rattle.iss_model.specs.Runs.{pasts_of}
 
 -- the scheme of a cluster in which nobody votes
 abbrev pub unvoted : Scheme
