@@ -239,7 +239,9 @@ impl HotStuff {
         ensures { IfOk result (λ e. IsTrueStep hotstuff Stands p.now self.old self.new (Input.Receive from msg) keys.old keys.new e) }
     {
         match msg {
-            Message::NewView { round, high, .. } => self.new_view(alloc, p, from, round, high, keys),
+            Message::NewView { round, high, .. } => self.new_view(
+                alloc, p, from, round, high, keys,
+            ),
             Message::Prepare {
                 view,
                 what,

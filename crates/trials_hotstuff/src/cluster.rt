@@ -30,18 +30,16 @@ struct Core {
     delivered: Vec<(u64, bool)>,
 }
 
-/// The nodes, what they said and nobody took yet, the oldest first, and how many messages claimed a signature that does not
-/// verify.
+/// The nodes, and what they said and nobody took yet, the oldest first.
 #[derive(Drop)]
 pub struct Cluster {
     cores: Vec<Core>,
     said: VecDeque<Packet>,
-    forged: usize,
 }
 
 // A node's keys: the secret follows from its number.
 fn keys_of(alloc: Global, node: u8) -> Result<Keys, Fail> {
-    Ok(Keys::make(alloc, Sha256::digest([0x20u8, node]), 5)?)
+    Ok(Keys::make(alloc, Sha256::digest([0x20u8, node]), 4)?)
 }
 
 // A node that has taken nothing.
@@ -76,12 +74,21 @@ fn bytes_of(alloc: Global, msg: &Message) -> Result<Bytes, Fail> {
     Ok(out.into_bytes())
 }
 
-// Whether each signature that a message claims verifies.
-fn is_signed(alloc: Global, p: &Params, from: NodeId, msg: &Message) -> Result<bool, Fail>
-    requires good { IsGoodParams hotstuff p.now }
-    requires from { from.0 < p.now.setup.n }
+// The message that is read from bytes.
+fn message_of(alloc: Global, bytes: &Bytes) -> Result<Message, Fail> {
+    let mut fields = Fields::over(1, bytes.as_slice());
+    Ok(HotStuff::decode(alloc, &mut fields)?)
+}
+
+// Whether each signature that a packet's message claims verifies.
+fn is_signed(alloc: Global, p: &Params, packet: &Packet) -> Result<bool, Fail>
+    requires { IsGoodParams hotstuff p.now }
 {
-    let claims = HotStuff::claims(alloc, p, from, msg)?;
+    if packet.from as u32 >= p.setup.n {
+        return Ok(false);
+    }
+    let msg = message_of(alloc, &packet.bytes)?;
+    let claims = HotStuff::claims(alloc, p, NodeId(packet.from), &msg)?;
     let directory = p.directory.directory();
     let mut all = true;
     for claim in claims.as_slice() {
@@ -103,7 +110,6 @@ impl Cluster {
         Ok(Cluster {
             cores,
             said: VecDeque::new(alloc),
-            forged: 0,
         })
     }
 
@@ -174,30 +180,26 @@ impl Cluster {
         Ok(())
     }
 
-    fn hear(&mut self, alloc: Global, p: &Params, packet: &Packet) -> Result<(), Fail>
+    fn take_packet(&mut self, alloc: Global, p: &Params, packet: &Packet) -> Result<(), Fail>
         requires { IsGoodParams hotstuff p.now }
     {
-        let mut fields = Fields::over(1, packet.bytes.as_slice());
-        let msg = HotStuff::decode(alloc, &mut fields)?;
         if packet.from as u32 >= p.setup.n {
             return Ok(());
         }
         let from = NodeId(packet.from);
-        if !is_signed(alloc, p, from, &msg)? {
-            self.forged = self.forged.saturating_add(1);
-        }
+        let msg = message_of(alloc, &packet.bytes)?;
         self.take(alloc, p, packet.to, Input::Receive { from, msg })
     }
 
     /// So many messages are taken, or as many as there are.
-    pub fn hear_some(&mut self, alloc: Global, p: &Params, most: u32) -> Result<(), Fail>
+    pub fn hear(&mut self, alloc: Global, p: &Params, most: u32) -> Result<(), Fail>
         requires { IsGoodParams hotstuff p.now }
     {
         for _ in 0..most {
             let Some(packet) = self.said.pop_front() else {
                 return Ok(());
             };
-            self.hear(alloc, p, &packet)?;
+            self.take_packet(alloc, p, &packet)?;
         }
         Ok(())
     }
@@ -212,9 +214,17 @@ impl Cluster {
         self.said.len()
     }
 
-    /// How many messages claimed a signature that does not verify.
-    pub fn forged(&self) -> usize {
-        self.forged
+    /// How many of the messages that wait claim signatures which all verify.
+    pub fn signed(&self, alloc: Global, p: &Params) -> Result<usize, Fail>
+        requires { IsGoodParams hotstuff p.now }
+    {
+        let mut count = 0usize;
+        for packet in self.said.iter() {
+            if is_signed(alloc, p, packet)? {
+                count = count.saturating_add(1);
+            }
+        }
+        Ok(count)
     }
 
     /// How many nodes accepted so many batches, and delivered just these slots in this order.

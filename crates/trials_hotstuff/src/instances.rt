@@ -74,7 +74,7 @@ fn setup(alloc: Global, f: u32, n: u32, quorum: u32) -> Setup
         window: 4,
         policy: Policy::Simple,
         clients: 1,
-        keys: 5,
+        keys: 4,
         faulty: Nodes::new(alloc),
         n,
         quorum,
