@@ -109,7 +109,7 @@ fn copying(rt: &HostRuntime, messages: &[Bytes]) -> Timed<(u64, u64)> {
 
 // Clones a batch so many times for each slot. Each node's log keeps one of them, and the others are dropped at once, as what was delivered, sent
 // again or cast is.
-fn clone_all(alloc: Global, batch: &Batch, each: u64) -> Timed<()> {
+fn clone_all(alloc: Global, batch: &Batch, each: u64) -> Timed<Vec<Batch>> {
     let mut logs = Vec::new(alloc);
     for _ in 0..SLOTS {
         for at in 0..each {
@@ -119,14 +119,14 @@ fn clone_all(alloc: Global, batch: &Batch, each: u64) -> Timed<()> {
             }
         }
     }
-    Ok(())
+    Ok(logs)
 }
 
 // How long cloning takes so many batches of so many requests.
 fn cloning(rt: &HostRuntime, requests: u32, batches: u64) -> Timed<u64> {
     let batch = batch(rt.alloc(), requests)?;
     let start = Instant::now(rt)?;
-    clone_all(rt.alloc(), &batch, batches / SLOTS)?;
+    let _logs = clone_all(rt.alloc(), &batch, batches / SLOTS)?;
     nanos_since(rt, start)
 }
 
@@ -155,8 +155,8 @@ fn requests_of(what: Work) -> u32 {
     }
 }
 
-// What copying costs, by what was seen in a run of the work.
-fn cost_of_copies(rt: &HostRuntime, what: Work, cluster: &Cluster) -> Timed<Cost> {
+// What copying bytes costs, by what was seen in a run of the work.
+fn cost_of_copies(rt: &HostRuntime, cluster: &Cluster) -> Timed<Cost> {
     let Some(seen) = &cluster.seen else {
         return Ok(NONE_YET);
     };
@@ -168,18 +168,24 @@ fn cost_of_copies(rt: &HostRuntime, what: Work, cluster: &Cluster) -> Timed<Cost
         entries: seen.entries,
         copying,
         batches: seen.batches,
-        cloning: cloning(rt, requests_of(what), seen.batches)?,
+        cloning: u64::MAX,
     })
 }
 
-// The same work twice: what is seen in the first run tells what is copied, and the second one is timed.
+// The same work twice: what is seen in the first run tells what is copied, and the second one is timed. Each of the three begins with its
+// memory given back by the one before.
 fn cost_once(rt: &HostRuntime, p: &Params, what: Work) -> Timed<Cost>
     requires good { IsGoodParams raft p.now }
     requires nodes { p.now.setup.n ≡ 7 }
 {
     let copies = copies_once(rt, p, what)?;
+    let cloning = cloning(rt, requests_of(what), copies.batches)?;
     let (nanos, _) = work_once(rt, p, what, false)?;
-    Ok(Cost { nanos, ..copies })
+    Ok(Cost {
+        nanos,
+        cloning,
+        ..copies
+    })
 }
 
 fn copies_once(rt: &HostRuntime, p: &Params, what: Work) -> Timed<Cost>
@@ -187,7 +193,7 @@ fn copies_once(rt: &HostRuntime, p: &Params, what: Work) -> Timed<Cost>
     requires nodes { p.now.setup.n ≡ 7 }
 {
     let (_, cluster) = work_once(rt, p, what, true)?;
-    cost_of_copies(rt, what, &cluster)
+    cost_of_copies(rt, &cluster)
 }
 
 // The best of several times.
