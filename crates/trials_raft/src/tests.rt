@@ -3,13 +3,13 @@ ghost use Rattle.std.specs.Prelude.{◌≡◌, ◌<◌, IfOk};
 ghost use Rattle.iss_sb.specs.Calls.{IsGoodInput, IsGoodParams};
 ghost use Rattle.sb_raft.specs.Raft.{raft};
 
-use crate::raft::Raft;
 use iss_keys::{Keys, SharedDirectory};
 use iss_request::{
     Batch, Epoch, Fields, Kind, NoMemory, NodeId, Nodes, Policy, Row, Setup, Slot, Writer,
 };
 use iss_sb::{Input, Params, Sequenced, broadcast};
 use raft_wire::{Entry, Message, What};
+use sb_raft::Raft;
 use std::alloc::Global;
 use std::test::Fail;
 
