@@ -1,5 +1,5 @@
 -- What the code of a step owes, where its rule did what the definitions do.
-use Rattle.std.proofs.Common.{◌≡◌, ℕ, ◌+◌, ◌<◌, ◌≤◌, ◌==◌, ◌&&◌, ◌||◌, Bool, true, false, if◌then◌else◌, List, [], ◌∷◌, ◌++◌, length, take, drop, Option, Some, None, is_some, refl, sym, ap, subst, ◌∙◌, inl, inr, true≢false, arith}
+use Rattle.std.proofs.Common.{◌≡◌, ℕ, ◌+◌, ◌<◌, ◌≤◌, ◌&&◌, ◌||◌, Bool, true, false, if◌then◌else◌, List, [], ◌++◌, length, take, drop, Option, Some, None, is_some, refl, sym, ap, subst, ◌∙◌, true≢false, arith}
 use Rattle.std.specs.Prelude.{IfSome, IsTrue, ◌↔◌}
 use Rattle.std.proofs.lemmas.List.{length-append}
 use Rattle.iss_base.specs.Lists.{In, first_of}
@@ -15,7 +15,7 @@ use Rattle.iss_sb.specs.declared.effects.Input.{Input}
 use Rattle.iss_sb.specs.declared.effects.Input.TheVariants.{Cast, Receive}
 use Rattle.iss_sb.specs.declared.effects.Params.{Params}
 use Rattle.iss_sb.specs.declared.effects.To.{To}
-use Rattle.iss_sb.specs.Calls.{AllIn, AreToNodes, Delivers, IsGoodParams, IsNothing, IsTaken, IsTrueStep, IsWithin, has_slot, slots_of}
+use Rattle.iss_sb.specs.Calls.{AllIn, AreToNodes, Delivers, IsGoodParams, IsNothing, IsTaken, IsTrueStep, has_slot, slots_of}
 use Rattle.iss_sb.specs.Evidence.{Item, accepts, and_then, delivered, one_or_none}
 use Rattle.iss_sb.proofs.Delivered.{Delivers-from, Delivers-nothing, delivered-decided}
 use Rattle.raft_wire.specs.declared.entries.What.{What}

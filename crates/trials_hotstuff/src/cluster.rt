@@ -43,7 +43,7 @@ fn keys_of(alloc: Global, node: u8) -> Result<Keys, Fail> {
 }
 
 // A node that has taken nothing.
-fn core(alloc: Global, p: &Params, node: u8) -> Result<Core, Fail>
+fn new_core(alloc: Global, p: &Params, node: u8) -> Result<Core, Fail>
     requires good { IsGoodParams hotstuff p.now }
     requires node { node < p.now.setup.n }
 {
@@ -105,7 +105,7 @@ impl Cluster {
     {
         let mut cores = Vec::new(alloc);
         for node in 0..p.setup.n as u8 {
-            cores.push(core(alloc, p, node)?)?;
+            cores.push(new_core(alloc, p, node)?)?;
         }
         Ok(Cluster {
             cores,

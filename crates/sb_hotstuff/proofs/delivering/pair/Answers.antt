@@ -1,4 +1,3 @@
-use Rattle.std.proofs.Common.{sym}
 use Rattle.sb_hotstuff.proofs.Paired.{no-more, no-values}
 use Rattle.sb_hotstuff.proofs.delivering.pair.Goals as goal
 

@@ -1,6 +1,4 @@
-use Rattle.std.proofs.Common.{◌∙◌, ap, drop, List}
-use Rattle.iss_request.specs.declared.ids.Slot.{Slot}
-use Rattle.iss_request.specs.declared.requests.Value.{Value}
+use Rattle.std.proofs.Common.{◌∙◌, drop}
 use Rattle.sb_hotstuff.specs.Delivered.{paired}
 use Rattle.sb_hotstuff.proofs.Standing.{high-step, low-step, undecided-step}
 use Rattle.sb_hotstuff.proofs.hotstuff.HotStuff.decide.Goals as goal

@@ -1,4 +1,4 @@
-use Rattle.std.proofs.Common.{[], subst, sym, ap, List}
+use Rattle.std.proofs.Common.{subst, sym, List}
 use Rattle.sb_hotstuff.proofs.Signed.{both-signed, left-enough}
 use Rattle.iss_sb.specs.Calls.{AreToNodes}
 use Rattle.iss_sb.specs.declared.effects.To.{To}

@@ -1,4 +1,4 @@
-use Rattle.std.proofs.Common.{length, sym, ◌∙◌}
+use Rattle.std.proofs.Common.{sym, ◌∙◌}
 use Rattle.sb_hotstuff.proofs.Lawful.{slot-In}
 use Rattle.sb_hotstuff.proofs.state.Node.may_cast.Goals as goal
 
