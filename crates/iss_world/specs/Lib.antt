@@ -1,3 +1,4 @@
+pub mod Books
 pub mod Headline
 pub mod Shape
 pub mod Stands
