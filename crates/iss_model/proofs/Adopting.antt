@@ -30,7 +30,7 @@ use Rattle.iss_model.specs.Ordered.{Among, Ordered}
 use Rattle.iss_model.specs.Past.{Past, Piece, asked_in, before, log_of, made_in, newborn, params_of, takes}
 use Rattle.iss_model.specs.Rules.{Rules}
 use Rattle.iss_model.specs.Runs.{IsSetupOf}
-use Rattle.iss_model.specs.Tested.{as_signed, collision_in}
+use Rattle.iss_model.specs.Run.{as_signed, collision_in}
 use Rattle.iss_model.proofs.Checkpoints.{exact-of}
 use Rattle.iss_model.proofs.Layouts.{own-verifies, sound-rules}
 use Rattle.iss_model.proofs.Reached.{composition}

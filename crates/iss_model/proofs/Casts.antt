@@ -191,11 +191,11 @@ module _ {Msg : Type 0} (F : Formats Msg) (R : Rules) (M : Module Msg) (me : ℕ
 
     settles-sound : (t : Turn Msg) → IsSoundCore R M me t.core → IsSoundCore R M me (settles F R M me t).core
     settles-sound t h = settles-holds F R M me (λ t. IsSoundCore R M me t.core) (λ t l input. Unit {0})
-        (λ t l input k fit come. inputs-sound t.core l input k) (λ t k complete. ends-sound t.core k complete) t h (λ done u x i k q. tt)
+        (λ t l input k fit come. inputs-sound t.core l input k) (λ t k complete. ends-sound t.core k complete) (λ t claims k. k) t h (λ done u x i k q r. tt)
 
     settles-ready : (t : Turn Msg) → IsReadyCore R M me t.core → IsReadyCore R M me (settles F R M me t).core
     settles-ready t h = settles-holds F R M me (λ t. IsReadyCore R M me t.core) (λ t l input. Unit {0})
-        (λ t l input k fit come. inputs-ready t.core l input k) (λ t k complete. ends-ready t.core k complete) t h (λ done u x i k q. tt)
+        (λ t l input k fit come. inputs-ready t.core l input k) (λ t k complete. ends-ready t.core k complete) (λ t claims k. k) t h (λ done u x i k q r. tt)
 
     took-sound : (c : Core Msg) (event : NodeEvent) (t : Turn Msg) → IsSoundCore R M me c → Took F R M me c event t → IsSoundCore R M me t.core
     took-sound c event t h (received k l msg u un b e i q) = rw q (settles-sound u (rw i.is (inputs-sound c l _ h)))
@@ -237,7 +237,8 @@ module _ {Msg : Type 0} (F : Formats Msg) (R : Rules) (M : Module Msg) (me : ℕ
           sound = ends-sound t.core k.sound complete;
           logs = extends-trans _ _ _ k.logs (log-later R M me t.core.past (advanced t.core.past) (advanced-later R t.core.past (settled-core t.core k.sound)));
         })
-        t h (λ done u x i k q. tt)
+        (λ t claims k. record { sound = k.sound; logs = k.logs })
+        t h (λ done u x i k q r. tt)
 
     at-first : (c : Core Msg) → IsSoundCore R M me c → Grown c.past (rests c)
     at-first c h = record { sound = h; logs = extends-refl (log_of R M me c.past) }
@@ -357,4 +358,4 @@ module _ {Msg : Type 0} (R : Rules) (M : Module Msg) (me : ℕ) (c : Core Msg) w
 
     -- and the cast is one that the core may take
     pub cast-fit : (F : Formats Msg) → IsLawful M → (s : Slot) (t : Turn Msg) → IsCast F R M me c s t → IsFit F R M me (casting F R M me c s) me (Cast s (next_batch F R M me c))
-    cast-fit F law s t k = record { leads = k.leads; leaves = k.leaves; judged = cast-judged F law s k.free }
+    cast-fit F law s t k = record { leads = k.leads; claims = refl; leaves = k.leaves; judged = cast-judged F law s k.free }

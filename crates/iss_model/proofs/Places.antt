@@ -18,8 +18,8 @@ use Rattle.iss_model.specs.declared.causes.NodeEvent.{NodeEvent}
 use Rattle.iss_model.specs.declared.causes.NodeEvent.TheVariants.{Packet as Gets, Propose as Proposes, Timeout as Fires}
 use Rattle.iss_model.specs.declared.causes.Refusal.{Refusal}
 use Rattle.iss_model.specs.declared.causes.Why.{Why}
-use Rattle.iss_model.specs.declared.causes.Why.TheVariants.{BadRequest, EarlyFull, Known, NoKeys, NotLeader, OtherEpoch, OutOfWindow}
-use Rattle.iss_model.specs.Node.{Body, Core, Dropped, Early, early_most, is_known, onward, Formats, OfModule, OfRequest, Parcel, Stepped, Taken, Turn, at_instance, by_verdict, casts_at, ended, first_slot, flown, flying, has_leaves, in_next_epoch, inputs, is_castable, is_mine, is_nil_at, joined, keeps_early, next_slot, returned, rests, settled, settles, step, takes_bytes, takes_each, takes_early, takes_parcel, takes_request, tried, verdict_in}
+use Rattle.iss_model.specs.declared.causes.Why.TheVariants.{BadClaim, BadRequest, EarlyFull, Known, NoKeys, NotLeader, OtherEpoch, OutOfWindow}
+use Rattle.iss_model.specs.Node.{Body, Core, Dropped, Early, early_most, is_known, onward, Formats, OfModule, OfRequest, Parcel, Stepped, Taken, Turn, at_instance, by_verdict, casts_at, ended, first_slot, flown, flying, has_leaves, in_next_epoch, inputs, is_castable, is_mine, is_nil_at, joined, keeps_early, next_slot, returned, rests, settled, settles, step, takes_bytes, takes_each, takes_early, takes_parcel, takes_request, tried, verdict_in, all_verify, claims_of_input}
 use Rattle.iss_model.specs.Past.{Past, advanced, before, before_own, cut_at, is_complete, leads_in, log_of, made_in, params_of, start_of, taken_in, takes}
 use Rattle.iss_model.specs.Rules.{Rules}
 use Rattle.iss_model.proofs.Casts.{cast-asked, log_ids-joined, slot-passes}
@@ -250,7 +250,8 @@ module _ {Msg : Type 0} (R : Rules) (M : Module Msg) (i : ℕ) where
       pub at-inputs : (c : Core Msg) (l : ℕ) (input : Input Msg) (t : Turn Msg) → at_instance F R M i c l input ≡ Taken t → t ≡ inputs F R M i c l input
       at-inputs c l input t h =
           let a = undropped (not (leads_in R M i c.past l)) NotLeader _ t h in
-          let b = undropped (not (has_leaves M (params_of R M i c.past l) c.leaf)) NoKeys _ t a.1 in
+          let v = undropped (not (all_verify R (claims_of_input M (params_of R M i c.past l) input))) BadClaim _ t a.1 in
+          let b = undropped (not (has_leaves M (params_of R M i c.past l) c.leaf)) NoKeys _ t v.1 in
           judged (verdict_in R M i c.past l input) b.1
         where
           judged : (v : Option Refusal) → by_verdict v (inputs F R M i c l input) ≡ Taken t → t ≡ inputs F R M i c l input

@@ -12,7 +12,7 @@ use Rattle.iss_sb.specs.Evidence.{Module, is_correct}
 use Rattle.iss_model.specs.Cluster.{IsOwn, Signed}
 use Rattle.iss_model.specs.Node.{only_by, own_claims}
 use Rattle.iss_model.specs.Rules.{Rules}
-use Rattle.iss_model.specs.Tested.{Collision, as_signed, collision_in, collision_with, first_forged, has_signed, is_collision, is_forged}
+use Rattle.iss_model.specs.Run.{Collision, as_signed, collision_in, collision_with, first_forged, has_signed, is_collision, is_forged}
 
 in-has : (i : ℕ) (statement : List ℕ) (xs : List Signed) → In (record { by = i; statement = statement }) xs → has_signed i statement xs ≡ true
 in-has i statement [] h = absurd h

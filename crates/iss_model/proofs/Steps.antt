@@ -13,9 +13,9 @@ use Rattle.iss_model.specs.declared.causes.NodeEvent.{NodeEvent}
 use Rattle.iss_model.specs.declared.causes.NodeEvent.TheVariants.{Packet as Gets, Propose as Proposes, Timeout as Fires}
 use Rattle.iss_model.specs.declared.causes.Refusal.{Refusal}
 use Rattle.iss_model.specs.declared.causes.Why.{Why}
-use Rattle.iss_model.specs.declared.causes.Why.TheVariants.{BadRequest, EarlyFull, Known, NoKeys, NotLeader, OtherEpoch, OutOfWindow}
+use Rattle.iss_model.specs.declared.causes.Why.TheVariants.{BadClaim, BadRequest, EarlyFull, Known, NoKeys, NotLeader, OtherEpoch, OutOfWindow}
 use Rattle.iss_buckets.specs.Waiting.{cut, uncut}
-use Rattle.iss_model.specs.Node.{Body, Core, Dropped, Early, Formats, OfModule, OfRequest, Parcel, Stepped, Taken, Turn, at_instance, by_verdict, casts_at, early_most, has_leaves, inputs, is_known, is_mine, keeps_early, next_slot, rests, settled, settles, step, takes_bytes, takes_parcel, takes_request, verdict}
+use Rattle.iss_model.specs.Node.{Body, Core, Dropped, Early, Formats, OfModule, OfRequest, Parcel, Stepped, Taken, Turn, at_instance, by_verdict, casts_at, early_most, has_leaves, inputs, is_known, is_mine, keeps_early, next_slot, rests, settled, settles, step, takes_bytes, takes_parcel, takes_request, verdict, all_verify, claims_of_input}
 use Rattle.iss_model.specs.Past.{asked_in, before, params_of}
 use Rattle.iss_model.specs.Rules.{Rules}
 
@@ -34,6 +34,7 @@ module _ {Msg : Type 0} (F : Formats Msg) (R : Rules) (M : Module Msg) (me : ℕ
   -- an input was taken
   pub record IsInput (l : ℕ) (input : Input Msg) (t : Turn Msg) : Type 0 where
     pub leads : R.leads (before R M me c.past c.past.epoch) c.past.epoch l ≡ true
+    pub claims : all_verify R (claims_of_input M (params_of R M me c.past l) input) ≡ true
     pub leaves : has_leaves M (params_of R M me c.past l) c.leaf ≡ true
     pub judged : verdict R (before R M me c.past c.past.epoch) c.past.epoch l (accepts (c.past.evidence c.past.epoch l)) (asked_in R M me c.past l input) ≡ None
     pub is : t ≡ inputs F R M me c l input
@@ -78,9 +79,10 @@ module _ {Msg : Type 0} (F : Formats Msg) (R : Rules) (M : Module Msg) (me : ℕ
   pub input-taken : (l : ℕ) (input : Input Msg) (t : Turn Msg) → at_instance F R M me c l input ≡ Taken t → IsInput l input t
   input-taken l input t h =
       let a = undropped (not (R.leads (before R M me c.past c.past.epoch) c.past.epoch l)) NotLeader _ t h in
-      let b = undropped (not (has_leaves M (params_of R M me c.past l) c.leaf)) NoKeys _ t a.1 in
+      let v = undropped (not (all_verify R (claims_of_input M (params_of R M me c.past l) input))) BadClaim _ t a.1 in
+      let b = undropped (not (has_leaves M (params_of R M me c.past l) c.leaf)) NoKeys _ t v.1 in
       let d = approved _ _ t b.1 in
-      record { leads = not-false _ a.0; leaves = not-false _ b.0; judged = d.0; is = d.1 }
+      record { leads = not-false _ a.0; claims = not-false _ v.0; leaves = not-false _ b.0; judged = d.0; is = d.1 }
 
   pub request-taken : (q : Request) (t : Turn Msg) → takes_request R M me c q ≡ Taken t → IsRequested q t
   request-taken q t h =

@@ -9,10 +9,10 @@ use Rattle.iss_sb.specs.declared.effects.Params.{Params}
 use Rattle.iss_sb.specs.declared.effects.To.{To}
 use Rattle.iss_sb.specs.Evidence.{Module, Separate, is_correct}
 use Rattle.iss_model.specs.Cluster.{IsOwn, Signed}
-use Rattle.iss_model.specs.Node.{only_by, own_claims}
+use Rattle.iss_model.specs.Node.{all_verify, only_by, own_claims}
 use Rattle.iss_model.specs.Ordered.{Among}
 use Rattle.iss_model.specs.Rules.{Rules}
-use Rattle.iss_model.specs.Tested.{all_verify, as_signed, booked, collision_in, collision_with, first_forged, has_signed, is_collision, is_forged}
+use Rattle.iss_model.specs.Run.{as_signed, booked, collision_in, collision_with, first_forged, has_signed, is_collision, is_forged}
 
 -- tests on bytes, claims and strings
 
