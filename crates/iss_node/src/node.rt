@@ -131,7 +131,7 @@ impl<M: Sequenced> Node<M> {
         ensures { IfOk result (λ claims. (c : Core M.Msg) → Stands M.meaning M.stands self.now c →
             claims ≡ claims_of_bytes (formats_of self.now.parts.setup M.meaning) (rules_of self.now.parts.setup) M.meaning self.now.parts.me.0 c bytes.now) }
     {
-        Err(NoMemory)
+        self.parts.claims_of_bytes(alloc, bytes)
     }
 
     /// Gives up what came after the first slots: the log is these, and the epoch the given one. The node is stale from then on.

@@ -1,0 +1,97 @@
+-- What the node says of claims is what the model says.
+use Rattle.std.proofs.Common.{◌≡◌, ◌∙◌, ℕ, ◌+◌, ◌<◌, Bool, true, false, ◌==◌, eqb, cond, List, [], ◌∷◌, ◌++◌, append_assoc, Option, Some, None, length, take, get_or, refl, sym, ap, subst, add-one, arith, true≢false}
+use Rattle.std.proofs.Math.Seq.{take-suc}
+use Rattle.std.proofs.lemmas.Bool.Decides.{nat_tests}
+use Rattle.std.specs.Prelude.{is_some}
+use Rattle.iss_layout.specs.Layout.{Plan, leads}
+use Rattle.iss_model.specs.Concrete.{keys_of, rules_of}
+use Rattle.iss_model.specs.Formats.{formats_of, message_in, whole}
+use Rattle.iss_model.specs.Node.{claims_in, only_by, own_claims, packed}
+use Rattle.iss_model.specs.Past.{Past, leads_in, params_of}
+use Rattle.iss_model.specs.Views.{claims_of_parcel}
+use Rattle.iss_node.proofs.InstanceLemmas.{leads-is}
+use Rattle.iss_node.specs.Inputs.{IsHandedOut}
+use Rattle.iss_node.specs.Shape.{IsReplica}
+use Rattle.iss_node.specs.State.{IsTied, ReplicaState, core_of, led}
+use Rattle.iss_node.specs.declared.answers.Outcome.{Outcome}
+use Rattle.iss_packet.specs.declared.packets.Packet.{Packet}
+use Rattle.iss_request.specs.declared.ids.NodeId.{NodeId}
+use Rattle.iss_request.specs.declared.setups.Setup.{Setup}
+use Rattle.iss_sb.specs.Evidence.{Item, Module}
+use Rattle.iss_sb.specs.declared.effects.Claim.{Claim}
+use Rattle.iss_sb.specs.declared.effects.Params.{Params}
+use Rattle.iss_sb.specs.declared.effects.To.{To}
+use Rattle.iss_segment.specs.Instance.{SegmentState}
+
+-- a node of the cluster is one of an instance's
+pub below : {M Msg : Type 0} (m : Module Msg) (v : ReplicaState M Msg) → IsReplica m v → (l k : ℕ) (g : SegmentState M) → Some g ≡ led v.segments l → k < v.setup.n → k < g.params.setup.n
+below m v shape l k g at lt = subst (λ (s : Setup). k < s.n) (sym (shape.segments l g (sym at)).setup) lt
+
+module _ {M Msg : Type 0} (m : Module Msg) (stands : M → Params → ℕ → List (Item Msg) → Type 0)
+    (v : ReplicaState M Msg) (past : Past Msg) (tied : IsTied m stands v past) (from l : ℕ) (msg : Msg) where
+  -- the claims of a message whose leader leads, and of one whose leader does not
+  pub claims-led : (g : SegmentState M) → Some g ≡ led v.segments l → (claims : List Claim) → claims ≡ m.claims g.params from msg → claims ≡ claims_in (rules_of v.setup) m v.me.0 past from l msg
+  claims-led g at claims is =
+      let lead : leads_in (rules_of v.setup) m v.me.0 past l ≡ true = leads-is m stands v past tied l true (ap (λ (o : Option (SegmentState M)). is_some o) at) in
+      let same : claims ≡ m.claims (params_of (rules_of v.setup) m v.me.0 past l) from msg = is ∙ ap (λ (p : Params). m.claims p from msg) (tied.instances l g (sym at)).params in
+      same ∙ sym (ap (λ (b : Bool). cond b (m.claims (params_of (rules_of v.setup) m v.me.0 past l) from msg) []) lead)
+
+  pub claims-none : None ≡ led v.segments l → (claims : List Claim) → claims ≡ [] → claims ≡ claims_in (rules_of v.setup) m v.me.0 past from l msg
+  claims-none at claims is =
+      let lead : leads_in (rules_of v.setup) m v.me.0 past l ≡ false = leads-is m stands v past tied l false (ap (λ (o : Option (SegmentState M)). is_some o) at) in
+      is ∙ sym (ap (λ (b : Bool). cond b (m.claims (params_of (rules_of v.setup) m v.me.0 past l) from msg) []) lead)
+
+  -- where the leader leads, they are those of the instance
+  pub claims-there : leads_in (rules_of v.setup) m v.me.0 past l ≡ true → claims_in (rules_of v.setup) m v.me.0 past from l msg ≡ m.claims (params_of (rules_of v.setup) m v.me.0 past l) from msg
+  claims-there lead = ap (λ (b : Bool). cond b (m.claims (params_of (rules_of v.setup) m v.me.0 past l) from msg) []) lead
+
+-- what the message of a packet claims that is of the node's epoch, and of one that is not
+pub packet-now : {M Msg : Type 0} (m : Module Msg) (stands : M → Params → ℕ → List (Item Msg) → Type 0) (v : ReplicaState M Msg) (past : Past Msg) (tied : IsTied m stands v past) (p : Packet) (msg : Msg) → p.epoch.0 ≡ v.epoch →
+    (claims : List Claim) → claims ≡ claims_in (rules_of v.setup) m v.me.0 past p.from p.leader msg → claims ≡ claims_of_parcel (rules_of v.setup) m v.me.0 (core_of v past) (message_in p (Some msg))
+packet-now m stands v past tied p msg is claims same =
+    let q = tied.epoch in
+    let now : eqb p.epoch.0 past.epoch ≡ true = grind (arith, nat_tests, q, is) in
+    same ∙ sym (ap (λ (b : Bool). cond b (claims_in (rules_of v.setup) m v.me.0 past p.from p.leader msg) []) now)
+
+pub packet-other : {M Msg : Type 0} (m : Module Msg) (stands : M → Params → ℕ → List (Item Msg) → Type 0) (v : ReplicaState M Msg) (past : Past Msg) (tied : IsTied m stands v past) (p : Packet) (o : Option Msg) → eqb p.epoch.0 v.epoch ≡ false →
+    (claims : List Claim) → claims ≡ [] → claims ≡ claims_of_parcel (rules_of v.setup) m v.me.0 (core_of v past) (message_in p o)
+packet-other m stands v past tied p None other claims none = none
+packet-other m stands v past tied p (Some msg) other claims none =
+    let over : eqb p.epoch.0 past.epoch ≡ false = ap (λ (k : ℕ). eqb p.epoch.0 k) (sym tied.epoch) ∙ other in
+    none ∙ sym (ap (λ (b : Bool). cond b (claims_in (rules_of v.setup) m v.me.0 past p.from p.leader msg) []) over)
+
+-- ---- own claims
+
+pub only-more : (me : ℕ) (xs : List Claim) (x : Claim) → only_by me (xs ++ x ∷ []) ≡ only_by me xs ++ cond (eqb x.by.0 me) (x ∷ []) []
+only-more me [] x = refl
+only-more me (y ∷ xs) x = go (eqb y.by.0 me) refl
+  where
+    go : (b : Bool) → eqb y.by.0 me ≡ b → cond (eqb y.by.0 me) (y ∷ only_by me (xs ++ x ∷ [])) (only_by me (xs ++ x ∷ [])) ≡ cond (eqb y.by.0 me) (y ∷ only_by me xs) (only_by me xs) ++ cond (eqb x.by.0 me) (x ∷ []) []
+    go true q = rw q (ap (λ (ys : List Claim). y ∷ ys) (only-more me xs x))
+    go false q = rw q (only-more me xs x)
+
+own-append : {Msg : Type 0} (m : Module Msg) (p : Params) (me : ℕ) (xs : List (To × Msg)) (x : To × Msg) → own_claims m p me (xs ++ x ∷ []) ≡ own_claims m p me xs ++ only_by me (m.claims p me x.1)
+own-append m p me [] x = append-none (only_by me (m.claims p me x.1))
+  where
+    append-none : (ys : List Claim) → ys ++ [] ≡ ys
+    append-none [] = refl
+    append-none (y ∷ ys) = ap (λ (zs : List Claim). y ∷ zs) (append-none ys)
+own-append m p me (y ∷ xs) x =
+    ap (λ (zs : List Claim). only_by me (m.claims p me y.1) ++ zs) (own-append m p me xs x)
+    ∙ sym (append_assoc (only_by me (m.claims p me y.1)) (own_claims m p me xs) (only_by me (m.claims p me x.1)))
+
+pub own-next : {Msg : Type 0} (m : Module Msg) (p : Params) (me : ℕ) (xs : List (To × Msg)) (i : ℕ) (x : To × Msg) → i < length xs → x ≡ get_or xs i x →
+    own_claims m p me (take i xs) ++ only_by me (m.claims p me x.1) ≡ own_claims m p me (take (i + 1) xs)
+own-next {Msg} m p me xs i x lt is =
+    let q : take (i + 1) xs ≡ take i xs ++ x ∷ [] = rw add-one (take-suc xs i x lt ∙ ap (λ (y : To × Msg). take i xs ++ y ∷ []) (sym is)) in
+    sym (ap (λ (ys : List (To × Msg)). own_claims m p me ys) q ∙ own-append m p me (take i xs) x)
+
+-- what is handed out goes by the parts that an input leaves as they are
+pub handed-same : {M Msg : Type 0} (m : Module Msg) (v w : ReplicaState M Msg) (l : ℕ) (sends : List (To × Msg)) (hashed : List (List ℕ)) (o : Outcome) →
+    w.setup ≡ v.setup → w.me ≡ v.me → w.epoch ≡ v.epoch → w.segments ≡ v.segments → IsHandedOut m w l sends hashed o → IsHandedOut m v l sends hashed o
+handed-same m v w l sends hashed o s i e g h = record {
+  sent = h.sent ∙ ap (λ (z : Setup). packed (formats_of z m) w.me.0 w.epoch l sends) s ∙ ap (λ (z : NodeId). packed (formats_of v.setup m) z.0 w.epoch l sends) i ∙ ap (λ (z : ℕ). packed (formats_of v.setup m) v.me.0 z l sends) e;
+  own = λ x at. h.own x (ap (λ (gs : List (Option (SegmentState _))). led gs l) g ∙ at) ∙ ap (λ (z : NodeId). own_claims m x.params z.0 sends) i;
+  early = h.early;
+  hashed_is = h.hashed_is;
+}
