@@ -1,12 +1,12 @@
 -- What the books of a world hold.
-use Rattle.std.specs.Prelude.{◌≡◌, ℕ, Bool, List, ◌∷◌, Option, Some}
+use Rattle.std.specs.Prelude.{◌≡◌, ℕ, Bool, cond, List, ◌∷◌, Option, Some, None}
 use Rattle.std.specs.BTreeMap.{get}
 use Rattle.std.specs.BTreeSet.{contains}
 use Rattle.std.specs.Cmp.Lexicographic.{slice_cmp}
 use Rattle.std.specs.Ordering.{nat_cmp}
-use Rattle.iss_base.specs.Lists.{In}
+use Rattle.iss_base.specs.Lists.{In, same_bytes}
 use Rattle.iss_model.specs.Cluster.{Signed}
-use Rattle.iss_model.specs.Run.{has_signed}
+use Rattle.iss_model.specs.Run.{End, Collision, has_signed}
 use Rattle.iss_request.specs.Digest.{digest}
 use Rattle.iss_world.specs.declared.claims.Claims.{Claims}
 use Rattle.iss_world.specs.declared.strings.Strings.{Strings}
@@ -27,3 +27,7 @@ string_at v d = get (slice_cmp nat_cmp) v.all d
 pub record AreHashed (v : Strings) (book : List (List ℕ)) : Type 0 where
   pub found : (x : List ℕ) → In x book → string_at v (digest x) ≡ Some x
   pub only : (d x : List ℕ) → string_at v d ≡ Some x → In x book × (digest x ≡ d)
+
+-- what two strings of one digest show
+abbrev pub difference : List ℕ → List ℕ → Option End
+difference first second = cond (same_bytes first second) None (Some (Collision first second))

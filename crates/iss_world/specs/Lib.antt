@@ -3,3 +3,4 @@ pub mod Headline
 pub mod Shape
 pub mod Stands
 pub mod State
+pub mod Steps

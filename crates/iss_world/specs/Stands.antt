@@ -1,5 +1,5 @@
 -- Which run of the model the running cores and a world stand for, and what an event made of it.
-use Rattle.std.specs.Prelude.{◌≡◌, ◌↔◌, ℕ, true, false, List, ◌∷◌, length, Option, Some, None, option_map, reverse, slice_get}
+use Rattle.std.specs.Prelude.{◌≡◌, ◌⊎◌, ◌↔◌, ℕ, true, false, List, ◌∷◌, length, Option, Some, None, option_map, reverse, slice_get}
 use Rattle.iss_model.specs.Concrete.{rules_of}
 use Rattle.iss_model.specs.Node.{idle}
 use Rattle.iss_model.specs.Past.{log_of}
@@ -30,6 +30,10 @@ pub record Shows {M Msg : Type 0} (m : Module Msg) (v : RunningState M Msg) (h :
   pub log : (i : ℕ) (g : NodeState M Msg) → slice_get v.nodes i ≡ Some g →
       log_of (rules_of v.setup) m (node_of v.setup i) (h.net.cores i).past ≡ reverse g.parts.log.entries
   pub epoch : (i : ℕ) (g : NodeState M Msg) → slice_get v.nodes i ≡ Some g → g.parts.epoch ≡ (h.net.cores i).past.epoch
+
+-- they show the logs and epochs of what is held: they stand for it, or stopped there
+abbrev pub IsShown : {M Msg : Type 0} → Module Msg → (M → Params → ℕ → List (Item Msg) → Type 0) → RunningState M Msg → Held Msg → Type 0
+IsShown m stands v h = Runs m stands v h ⊎ Shows m v h
 
 -- what the code kept of an end
 abbrev pub end_of : Kept → End
@@ -77,6 +81,15 @@ StandsThen m stands v h (Some at) = HasEnded m v h at.1
 -- the world stands for a run so far, whether or not it has ended
 abbrev pub StandsAt : {M Msg : Type 0} → Module Msg → (M → Params → ℕ → List (Item Msg) → Type 0) → WorldState M Msg → Progress Msg → Type 0
 StandsAt m stands v p = StandsThen m stands v p.held p.ended
+
+-- a world whose memory sufficed
+abbrev pub awake : {M Msg : Type 0} → RunningState M Msg → Option Kept → WorldState M Msg
+awake v end = record { running = v; ended = end; stale = false }
+
+-- the answer of a run that has ended
+abbrev pub told_as : Kept → Happened
+told_as (Kept_forged claim) = Was_forged claim.by claim.statement claim.sig
+told_as (Kept_collision first second) = Was_collision first second
 
 abbrev pub why_ended : Option (ℕ × End) → Option End
 why_ended None = None

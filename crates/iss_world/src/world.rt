@@ -1,5 +1,5 @@
 //! The world of a cluster, which says of itself when its run has ended, and when memory was wanting.
-ghost use Rattle.std.specs.Prelude.{◌≡◌, ◌<◌, ◌++◌, ◌∷◌, [], IfOk, List, None, Some, reverse};
+ghost use Rattle.std.specs.Prelude.{◌≡◌, ◌<◌, ◌++◌, ◌∷◌, [], IfOk, List, None, OnOk, reverse};
 ghost use Rattle.iss_model.specs.Concrete.{rules_of};
 ghost use Rattle.iss_model.specs.Formats.{formats_of};
 ghost use Rattle.iss_model.specs.Past.{log_of};
@@ -9,7 +9,8 @@ ghost use Rattle.iss_node.specs.State.{Stands};
 ghost use Rattle.iss_schedule.specs.Events.{AreInRange, IsInRange};
 ghost use Rattle.iss_schedule.specs.declared.schedules.Event.{Event as Happens};
 ghost use Rattle.iss_world.specs.Headline.{IsAnswered, IsHeadline, StandsAfter};
-ghost use Rattle.iss_world.specs.Stands.{HasHappened, IsOverOr, IsStaleOr, StandsAt, StandsFor, end_of};
+ghost use Rattle.iss_world.specs.Shape.{IsWorld};
+ghost use Rattle.iss_world.specs.Stands.{HasHappened, IsOverOr, IsStaleOr, IsStanding, StandsAt, StandsFor, awake, told_as};
 
 use crate::ends::{Change, End};
 use crate::running::Running;
@@ -106,7 +107,7 @@ impl<M: Sequenced> World<M> {
             return Happened::Stale;
         }
         self.stale = true;
-        match self.goes(alloc, event) {
+        match goes_on(alloc, &mut self.running, &mut self.ended, event) {
             Ok(happened) => {
                 self.stale = false;
                 happened
@@ -157,5 +158,53 @@ impl<M: Sequenced> World<M> {
         ensures { (p : Progress M.Msg) → StandsAt M.meaning M.stands self.now p → result.0 ≡ (p.held.net.cores core).past.epoch }
     {
         self.running.epoch(core)
+    }
+}
+
+// The event happens, if the run goes on; if it has ended, its end is told again.
+fn goes_on<M: Sequenced>(
+    alloc: Global,
+    running: &mut Running<M>,
+    ended: &mut Option<End>,
+    event: &Event,
+) -> Result<Happened, NoMemory>
+    requires range { IsInRange running.old.setup event.now }
+    requires standing { ended.old ≡ None → IsStanding M.meaning M.stands running.old }
+    ensures happened { IfOk result (λ r. (p : Progress M.Msg) → StandsAt M.meaning M.stands (awake running.old ended.old) p →
+        HasHappened M.meaning M.stands (awake running.new ended.new) p
+        (goes_further p.ended running.old.setup (formats_of running.old.setup M.meaning) (rules_of running.old.setup) M.meaning p event.now) r) }
+    ensures answered { IfOk result (λ r. IsAnswered r) }
+    ensures world { OnOk result (IsWorld M.meaning M.stands (awake running.new ended.new)) }
+    ensures over { IsOverOr (awake running.old ended.old) (awake running.new ended.new) }
+    ensures same { running.new.setup ≡ running.old.setup }
+{
+    if let Some(end) = ended {
+        return told(end);
+    }
+    match running.event(alloc, event)? {
+        Change::Done => Ok(Happened::Done),
+        Change::Lost(why) => Ok(Happened::Lost(why)),
+        Change::Ended(end) => {
+            let happened = told(&end)?;
+            *ended = Some(end);
+            Ok(happened)
+        }
+    }
+}
+
+// The answer to an event of a run that has ended.
+fn told(end: &End) -> Result<Happened, NoMemory>
+    ensures { IfOk result (λ r. r ≡ told_as end.now) }
+{
+    match end {
+        End::Forged(claim) => Ok(Happened::Forged {
+            by: claim.by,
+            statement: claim.statement.copy()?,
+            sig: claim.sig.copy()?,
+        }),
+        End::Collision { first, second } => Ok(Happened::Collision {
+            first: first.copy()?,
+            second: second.copy()?,
+        }),
     }
 }
