@@ -3,9 +3,10 @@ use Rattle.std.proofs.Common.{◌≡◌, ℕ, List, ◌∷◌, [], codes, refl, 
 use Rattle.std.specs.Fmt.{digits}
 use Rattle.hex.specs.Hex.{encode_with}
 use Rattle.iss_schedule.specs.declared.errors.Why.TheVariants.{Cut}
-use Rattle.iss_schedule.specs.declared.schedules.Event.TheVariants.{Request, Propose, Timeout, Deliver, Lose, Pump, Calm, Hold, Free, Drop}
+use Rattle.iss_schedule.specs.declared.schedules.Event.TheVariants.{Request, Propose, Timeout, Deliver, Lose, Pump, Calm, Hold, Free, Drop, Bytes}
 use Rattle.iss_schedule.specs.declared.schedules.Schedule.{Schedule}
 use Rattle.iss_schedule.specs.BadLines.{IsFirstBad}
+use Rattle.iss_schedule.specs.Cores.{cores_of}
 use Rattle.iss_schedule.specs.Headers.{setup_with}
 use Rattle.iss_schedule.specs.Schedules.{text_of}
 use Rattle.iss_schedule.specs.Words.{words_of}
@@ -13,12 +14,12 @@ use Rattle.iss_schedule.proofs.Blanks.{lacks_by_test}
 use Rattle.iss_schedule.proofs.Fronts.{empty_schedule, fine_header}
 
 three : List ℕ
-three = 0 ∷ 0 ∷ 0 ∷ 3 ∷ 3 ∷ 4 ∷ 8 ∷ 0 ∷ 1 ∷ 4 ∷ 0 ∷ []
+three = 0 ∷ 0 ∷ 0 ∷ 3 ∷ 3 ∷ 4 ∷ 8 ∷ 0 ∷ 1 ∷ 4 ∷ []
 
 -- one request, its proposal, and rounds of deliveries
 worked : Schedule
 worked = record {
-  setup = setup_with three [];
+  setup = setup_with three [] [];
   events = Request 0 0 0 (170 ∷ []) ∷ Propose 0 ∷ Timeout 1 (record { 0 = 2 }) ∷ Deliver 12 ∷ Lose 0 ∷ Pump ∷ Calm 10 ∷ Hold 2 ∷ Free 2 ∷ Drop 1 ∷ [];
 }
 
@@ -27,14 +28,22 @@ unfolding worked three digits encode_with
 worked_text = refl
 
 -- the same cluster with another policy
-backs_off : text_of (record { setup = setup_with (0 ∷ 0 ∷ 0 ∷ 3 ∷ 3 ∷ 4 ∷ 8 ∷ 1 ∷ 1 ∷ 4 ∷ 0 ∷ []) []; events = Pump ∷ [] }) ≡ codes "iss 1\nmodule relay\nf 0\nepoch 3\nbuckets 3\nbatch 4\nwindow 8\npolicy backoff\nclients 1\nkeys 4\nfaulty none\npump\n"
+backs_off : text_of (record { setup = setup_with (0 ∷ 0 ∷ 0 ∷ 3 ∷ 3 ∷ 4 ∷ 8 ∷ 1 ∷ 1 ∷ 4 ∷ []) [] []; events = Pump ∷ [] }) ≡ codes "iss 1\nmodule relay\nf 0\nepoch 3\nbuckets 3\nbatch 4\nwindow 8\npolicy backoff\nclients 1\nkeys 4\nfaulty none\npump\n"
 unfolding digits
 backs_off = refl
 
 -- five nodes of Raft, of which two may stop
-of_raft : text_of (record { setup = setup_with (0 ∷ 1 ∷ 2 ∷ 5 ∷ 3 ∷ 4 ∷ 8 ∷ 0 ∷ 1 ∷ 4 ∷ 0 ∷ []) []; events = Pump ∷ [] }) ≡ codes "iss 1\nmodule raft\nf 2\nepoch 5\nbuckets 3\nbatch 4\nwindow 8\npolicy simple\nclients 1\nkeys 4\nfaulty none\npump\n"
+of_raft : text_of (record { setup = setup_with (0 ∷ 1 ∷ 2 ∷ 5 ∷ 3 ∷ 4 ∷ 8 ∷ 0 ∷ 1 ∷ 4 ∷ []) [] []; events = Pump ∷ [] }) ≡ codes "iss 1\nmodule raft\nf 2\nepoch 5\nbuckets 3\nbatch 4\nwindow 8\npolicy simple\nclients 1\nkeys 4\nfaulty none\npump\n"
 unfolding digits
 of_raft = refl
+
+-- seven nodes of PBFT, of which two do as they like: node 6's second core is core 8
+of_pbft : text_of (record { setup = setup_with (0 ∷ 2 ∷ 2 ∷ 7 ∷ 3 ∷ 4 ∷ 8 ∷ 0 ∷ 1 ∷ 4 ∷ []) (record { 0 = 1 } ∷ record { 0 = 6 } ∷ []) []; events = Propose 8 ∷ Bytes 0 [] ∷ [] }) ≡ codes "iss 1\nmodule pbft\nf 2\nepoch 7\nbuckets 3\nbatch 4\nwindow 8\npolicy simple\nclients 1\nkeys 4\nfaulty 1 6\npropose 8\nbytes 0 -\n"
+unfolding digits
+of_pbft = refl
+
+nine_cores : cores_of (setup_with (0 ∷ 2 ∷ 2 ∷ 7 ∷ 3 ∷ 4 ∷ 8 ∷ 0 ∷ 1 ∷ 4 ∷ []) (record { 0 = 1 } ∷ record { 0 = 6 } ∷ []) []) ≡ 9
+nine_cores = refl
 
 -- words are parted by one space, so two spaces have an empty word between them
 two_spaces : words_of (codes "propose  0") ≡ codes "propose" ∷ [] ∷ codes "0" ∷ []
@@ -62,7 +71,7 @@ cut_text = record {
               (omega arith, omega arith),
               (
                 (omega arith, omega arith),
-                ((omega arith, omega arith), (omega arith, ((omega arith, omega arith), ((omega arith, omega arith), (refl, refl))))),
+                ((omega arith, omega arith), (omega arith, ((omega arith, omega arith), ((omega arith, omega arith), refl)))),
               ),
             ),
           ),

@@ -1,7 +1,7 @@
 use Rattle.std.proofs.Common.{length}
 use Rattle.std.specs.Prelude.{◌↔◌}
 use Rattle.iss_schedule.specs.Forms.{AreNumbers}
-use Rattle.iss_schedule.proofs.header.are_numbers.Given as goal
+use Rattle.iss_schedule.proofs.faulty.are_numbers.Given as goal
 
 abbrev pub invariant-loop-word : goal.invariant-loop-word
 invariant-loop-word l = AreNumbers l.initial.words ↔ AreNumbers l.words

@@ -1,7 +1,7 @@
 use Rattle.std.proofs.Common.{rules, sym, ◌∙◌}
 use Rattle.std.proofs.lemmas.Bool.{iff_false}
 use Rattle.iss_schedule.proofs.Arguments.{faulty_words}
-use Rattle.iss_schedule.proofs.header.names_faulty.Goals as goal
+use Rattle.iss_schedule.proofs.faulty.names_faulty.Goals as goal
 
 pub returns : goal.returns
 returns c =
