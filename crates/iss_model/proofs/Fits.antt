@@ -4,8 +4,9 @@ use Rattle.iss_base.specs.Lists.{In}
 use Rattle.iss_base.proofs.Lists.{in_right}
 use Rattle.iss_network.specs.declared.packets.Sent.{Sent}
 use Rattle.iss_request.specs.declared.setups.Setup.{Setup}
-use Rattle.iss_sb.specs.Evidence.{Module, Separate}
+use Rattle.iss_sb.specs.Evidence.{Module, Separate, is_correct}
 use Rattle.iss_model.specs.Cluster.{Cluster, Message, Names, Reach, Signed}
+use Rattle.iss_model.specs.Ends.{AreBooked}
 use Rattle.iss_model.specs.Node.{Core, Early, Formats, OfModule}
 use Rattle.iss_model.specs.Ordered.{Among}
 use Rattle.iss_model.specs.Rules.{Rules}
@@ -59,4 +60,5 @@ module _ {Msg : Type 0} (s : Setup) (F : Formats Msg) (R : Rules) (M : Module Ms
     pub told : (j : ℕ) → AreTold s M (h.net.cores j)
     pub sent : M.stopping ≡ true → (j : ℕ) → AreSent messages j (h.net.cores j)
     pub named : (x : Signed) → In x h.signed → IsNamed x
+    pub booked : (j : ℕ) → is_correct s j ≡ true → AreBooked R M j (h.net.cores j).past h.signed
     pub separate : Separate (Among h.hashed)

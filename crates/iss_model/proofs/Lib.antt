@@ -43,3 +43,10 @@ pub mod OnePlace
 pub mod Conserved
 pub mod Signing
 pub mod Adopting
+pub mod Example
+pub mod InPlaces
+pub mod Forging
+pub mod Doubles
+pub mod Instances
+pub mod Booked
+pub mod Evidence

@@ -53,7 +53,7 @@ module _ {Msg : Type 0} (s : Setup) (F : Formats Msg) (R : Rules) (M : Module Ms
   network-fits : (h : Held Msg) (net : Network) → net.packets ≡ h.net.network.packets → Fits h → Fits (with_network h net)
   network-fits h net q ok = record {
     messages = ok.messages; posted = λ st p m. ok.posted st p (rw q at m); reach = ok.reach; root = ok.root; cores = ok.cores; told = ok.told;
-    sent = ok.sent; named = ok.named; separate = ok.separate;
+    sent = ok.sent; named = ok.named; booked = ok.booked; separate = ok.separate;
   }
 
   -- what an event leads to
@@ -167,6 +167,7 @@ module _ {Msg : Type 0} (s : Setup) (F : Formats Msg) (R : Rules) (M : Module Ms
     told = λ j x m. absurd m;
     sent = λ st j x m. absurd m;
     named = λ x h. absurd h;
+    booked = λ j ok e l item m. absurd m;
     separate = λ a b ia ib q. elim ia [ inl x ↦ elim ib [ inl y ↦ x ∙ sym y | inr none ↦ absurd none ] | inr none ↦ absurd none ];
   }
 

@@ -10,9 +10,10 @@ use Rattle.iss_sb.specs.declared.effects.Params.{Params}
 use Rattle.iss_sb.specs.declared.effects.To.{To}
 use Rattle.iss_sb.specs.Evidence.{Module, is_correct}
 use Rattle.iss_model.specs.Cluster.{IsOwn, Signed}
+use Rattle.iss_model.specs.Ends.{AreColliding}
 use Rattle.iss_model.specs.Node.{only_by, own_claims}
 use Rattle.iss_model.specs.Rules.{Rules}
-use Rattle.iss_model.specs.Run.{Collision, as_signed, collision_in, collision_with, first_forged, has_signed, is_collision, is_forged}
+use Rattle.iss_model.specs.Run.{Collision, End, as_signed, collision_in, collision_with, first_forged, has_signed, is_collision, is_forged}
 
 in-has : (i : ℕ) (statement : List ℕ) (xs : List Signed) → In (record { by = i; statement = statement }) xs → has_signed i statement xs ≡ true
 in-has i statement [] h = absurd h
@@ -26,35 +27,26 @@ in-has i statement (x ∷ xs) (inr h) = go (eqb x.by i && same_bytes x.statement
     go true k = refl
     go false k = k
 
--- a claim that ends a run
-pub record IsForgery (s : Setup) (R : Rules) (book : List Signed) (claims : List Claim) (c : Claim) : Type 0 where
+-- a claim that is found to be forged
+pub record IsUnsent (s : Setup) (R : Rules) (book : List Signed) (claims : List Claim) (c : Claim) : Type 0 where
   pub held : In c claims
   pub verifies : R.verifies c.by.0 c.statement c.sig ≡ true
   pub correct : is_correct s c.by.0 ≡ true
   pub absent : In (record { by = c.by.0; statement = c.statement }) book → ⊥
 
-pub forged-shown : (s : Setup) (R : Rules) (book : List Signed) (claims : List Claim) (c : Claim) → first_forged s R book claims ≡ Some c → IsForgery s R book claims c
+pub forged-shown : (s : Setup) (R : Rules) (book : List Signed) (claims : List Claim) (c : Claim) → first_forged s R book claims ≡ Some c → IsUnsent s R book claims c
 forged-shown s R book [] c h = absurd (cc)
 forged-shown s R book (d ∷ ds) c h = go (is_forged s R book d) refl h (forged-shown s R book ds c)
   where
-    here : is_forged s R book d ≡ true → IsForgery s R book (d ∷ ds) d
+    here : is_forged s R book d ≡ true → IsUnsent s R book (d ∷ ds) d
     here q =
         let a = and-true (R.verifies d.by.0 d.statement d.sig) (is_correct s d.by.0 && not (has_signed d.by.0 d.statement book)) q in
         let b = and-true (is_correct s d.by.0) (not (has_signed d.by.0 d.statement book)) a.1 in
         record { held = inl refl; verifies = a.0; correct = b.0; absent = λ k. true≢false (sym (in-has d.by.0 d.statement book k) ∙ not-true (has_signed d.by.0 d.statement book) b.1) }
 
-    go : (b : Bool) → is_forged s R book d ≡ b → cond b (Some d) (first_forged s R book ds) ≡ Some c → (first_forged s R book ds ≡ Some c → IsForgery s R book ds c) → IsForgery s R book (d ∷ ds) c
-    go true q k ih = subst (λ (z : Claim). IsForgery s R book (d ∷ ds) z) (some-injective d c k) (here q)
+    go : (b : Bool) → is_forged s R book d ≡ b → cond b (Some d) (first_forged s R book ds) ≡ Some c → (first_forged s R book ds ≡ Some c → IsUnsent s R book ds c) → IsUnsent s R book (d ∷ ds) c
+    go true q k ih = subst (λ (z : Claim). IsUnsent s R book (d ∷ ds) z) (some-injective d c k) (here q)
     go false q k ih = let r = ih k in record { held = inr r.held; verifies = r.verifies; correct = r.correct; absent = r.absent }
-
--- two strings that end a run: the second is one of the step's, and the first stood in the book when it came
-pub record AreColliding (strings book : List (List ℕ)) (first second : List ℕ) : Type 0 where
-  pub earlier : List (List ℕ)
-  pub later : List (List ℕ)
-  pub is : strings ≡ earlier ++ second ∷ later
-  pub booked : In first (over earlier book)
-  pub same : digest first ≡ digest second
-  pub different : first ≡ second → ⊥
 
 ends-same : (a b c d : List ℕ) → Collision a b ≡ Collision c d → (a ≡ c) × (b ≡ d)
 ends-same a b c d h = (cc, cc)
@@ -83,6 +75,23 @@ with-shown x (y ∷ book) a b h = go (is_collision y x) refl h (with-shown x boo
     go : (t : Bool) → is_collision y x ≡ t → cond t (Some (Collision y x)) (collision_with x book) ≡ Some (Collision a b) → (collision_with x book ≡ Some (Collision a b) → Collides book x a b) → Collides (y ∷ book) x a b
     go true q k ih = let e = ends-same y x a b (some-injective _ _ k) in rw (← e.0, ← e.1) (here q)
     go false q k ih = let r = ih k in record { is = r.is; booked = inr r.booked; same = r.same; different = r.different }
+
+-- what ends a run by the strings of a step is a collision
+with-collided : (x : List ℕ) (book : List (List ℕ)) (end : End) → collision_with x book ≡ Some end → (a : List ℕ) × (b : List ℕ) × (end ≡ Collision a b)
+with-collided x [] end h = absurd (cc)
+with-collided x (y ∷ book) end h = go (is_collision y x) h (with-collided x book end)
+  where
+    go : (t : Bool) → cond t (Some (Collision y x)) (collision_with x book) ≡ Some end →
+        (collision_with x book ≡ Some end → (a : List ℕ) × (b : List ℕ) × (end ≡ Collision a b)) → (a : List ℕ) × (b : List ℕ) × (end ≡ Collision a b)
+    go true k ih = (y, x, sym (some-injective (Collision y x) end k))
+    go false k ih = ih k
+
+pub collided-with : (xs book : List (List ℕ)) (end : End) → collision_in xs book ≡ Some end → (a : List ℕ) × (b : List ℕ) × (end ≡ Collision a b)
+collided-with [] book end h = absurd (cc)
+collided-with (x ∷ xs) book end h = elim (first-cases (collision_with x book) (collision_in xs (x ∷ book)) end h) [
+  | inl k ↦ with-collided x book end k
+  | inr k ↦ collided-with xs (x ∷ book) end k.1
+]
 
 pub collision-shown : (xs book : List (List ℕ)) (a b : List ℕ) → collision_in xs book ≡ Some (Collision a b) → AreColliding xs book a b
 collision-shown [] book a b h = absurd (cc)

@@ -1,7 +1,7 @@
 -- What the tests of a delivery and of a step say: of claims, of strings, and of a node's own claims in what it sends.
 use Rattle.std.proofs.Common.{◌≡◌, ◌⊎◌, inl, inr, ℕ, Bool, true, false, cond, eqb, not, ◌&&◌, List, [], ◌∷◌, ◌++◌, Option, Some, None, refl, sym, ap, ap₂, ◌∙◌, subst, true≢false}
 use Rattle.iss_base.specs.Lists.{In, first_of, over, same_bytes}
-use Rattle.iss_base.proofs.Lists.{and-true, in_append, in_left, is-eq, same_bytes-is, same_bytes-refl}
+use Rattle.iss_base.proofs.Lists.{and-true, in_append, in_left, in_right, is-eq, same_bytes-is, same_bytes-refl}
 use Rattle.iss_request.specs.Digest.{digest}
 use Rattle.iss_request.specs.declared.setups.Setup.{Setup}
 use Rattle.iss_sb.specs.declared.effects.Claim.{Claim}
@@ -150,3 +150,6 @@ module _ (s : Setup) (i : ℕ) (a b : List Claim) where
 
   pub booked-first : (x : Signed) → In x (booked s i a) → In x (booked s i (a ++ b))
   booked-first x k = subst (λ (xs : List Signed). In x xs) (sym booked-append) (in_left x (booked s i a) (booked s i b) k)
+
+  pub booked-last : (x : Signed) → In x (booked s i b) → In x (booked s i (a ++ b))
+  booked-last x k = subst (λ (xs : List Signed). In x xs) (sym booked-append) (in_right x (booked s i a) (booked s i b) k)

@@ -17,6 +17,7 @@ use Rattle.iss_sb.specs.Laws.{IsLawful}
 use Rattle.iss_model.specs.declared.causes.NodeEvent.{NodeEvent}
 use Rattle.iss_model.specs.declared.causes.NodeEvent.TheVariants.{Packet as Gets, Propose as Proposes, Timeout as Fires}
 use Rattle.iss_model.specs.Cluster.{Cluster, IsBooked, IsOneOf, IsOwn, IsVerified, Message, MayGet, MayTake, Names, Reach, Signed, ends, move, rest}
+use Rattle.iss_model.specs.Ends.{AreBooked}
 use Rattle.iss_model.specs.Node.{Body, Core, Dropped, Early, Formats, OfModule, Parcel, Stepped, Taken, Turn, all_verify, claims_of_input, inputs, own_claims, packed, rests, settles, step, verdict_in}
 use Rattle.iss_model.specs.Ordered.{Among, IsSoundRules}
 use Rattle.iss_model.specs.Past.{Past, advanced, before, is_complete, leads_in, log_of, made_in, params_of, takes}
@@ -25,6 +26,7 @@ use Rattle.iss_model.specs.Run.{End, Happening, Held, after_step, as_signed, at_
 use Rattle.iss_model.specs.Runs.{IsFaithful, pasts_of}
 use Rattle.iss_model.specs.Sound.{AreWindows, IsReadyCore, carried}
 use Rattle.iss_model.specs.Views.{claims_of_body, claims_of_parcel}
+use Rattle.iss_model.proofs.Booked.{ends-booked, takes-booked}
 use Rattle.iss_model.proofs.Casts.{cast-fit, cast-read, casting-ready, early-ready, ends-ready, inputs-ready, step-grown, step-ready}
 use Rattle.iss_model.proofs.Ending.{HasSlots}
 use Rattle.iss_model.proofs.Fits.{AreSent as AreSentBy, Fits as FitsBy, IsNamed as IsNamedBy, IsPosted as IsPostedBy, more-posted, view}
@@ -32,7 +34,7 @@ use Rattle.iss_model.proofs.Posts.{posted-append, posted-in, told, told-is}
 use Rattle.iss_model.proofs.Rows.{IsFit, claims_early, settles-holds, then_ends, then_reads, then_takes}
 use Rattle.iss_model.proofs.Statements.{leader-far}
 use Rattle.iss_model.proofs.Steps.{IsInput, Took, asked, cast, casting, fired, kept, next_batch, received, took}
-use Rattle.iss_model.proofs.Tests.{booked-first, booked-split, each-verifies, over-append, over-new, over-old, own-is, separate-more, unforged}
+use Rattle.iss_model.proofs.Tests.{booked-first, booked-last, booked-split, each-verifies, over-append, over-new, over-old, own-is, separate-more, unforged}
 use Rattle.iss_model.proofs.Told.{AreTold, took-told}
 use Rattle.iss_model.proofs.Twins.{addressee-core, core-correct, core-low, correct-is, correct-low, faultless, leader-below}
 use Rattle.iss_model.proofs.Unvoted.{Grows, grows-same, unvoted, unvoted-strings}
@@ -123,6 +125,9 @@ module _ {Msg : Type 0} (s : Setup) (F : Formats Msg) (R : Rules) (M : Module Ms
           told = each-core (λ j d. AreTold s M d) t told ok.told;
           sent = λ st. absurd (none st);
           named = λ x k. ok.named x (old x k);
+          booked = λ j good.
+              let ne : j ≢ i = λ q. true≢false (sym (subst (λ (n : ℕ). is_correct s n ≡ true) q good) ∙ faulty) in
+              rw (past-there t j ne) (λ e l item m x o. in_right x (booked s i t.own) h.signed (ok.booked j good e l item m x o));
           separate = sep;
         }
 
@@ -141,6 +146,7 @@ module _ {Msg : Type 0} (s : Setup) (F : Formats Msg) (R : Rules) (M : Module Ms
         pub posted : M.stopping ≡ true → (p : Sent) → In p (turned_to s h i t).net.network.packets → IsPosted messages p
         pub ready : IsReadyCore R M i t.core
         pub named : (x : Signed) → In x (booked s i t.own) → IsNamed x
+        pub booked : AreBooked R M i t.core.past (booked s i t.own ++ h.signed)
         pub early : M.stopping ≡ true → AreSent messages i t.core
         pub old : (k : Message Msg) → In k ok.messages → In k messages
 
@@ -154,6 +160,8 @@ module _ {Msg : Type 0} (s : Setup) (F : Formats Msg) (R : Rules) (M : Module Ms
         told = each-core (λ j d. AreTold s M d) t told ok.told;
         sent = λ st. each-core (λ j d. AreSent k.messages j d) t (k.early st) (λ j x m. k.old _ (ok.sent st j x m));
         named = λ x m. elim (in_append x (booked s i t.own) h.signed m) [ inl a ↦ k.named x a | inr b ↦ ok.named x b ];
+        booked = each-core (λ j d. is_correct s j ≡ true → AreBooked R M j d.past (booked s i t.own ++ h.signed)) t (λ good. k.booked)
+            (λ j good e l item m x o. in_right x (booked s i t.own) h.signed (ok.booked j good e l item m x o));
         separate = sep;
       }
 
@@ -169,6 +177,8 @@ module _ {Msg : Type 0} (s : Setup) (F : Formats Msg) (R : Rules) (M : Module Ms
         posted = ok.posted;
         ready = core;
         named = λ x k. absurd (no-own x k);
+        booked = subst (λ (y : Past Msg). AreBooked R M i y (booked s i [] ++ h.signed)) (sym q)
+            (λ e l item m x o. in_right x (booked s i []) h.signed (ok.booked i correct e l item m x o));
         early = early;
         old = λ k m. m;
       }
@@ -229,6 +239,12 @@ module _ {Msg : Type 0} (s : Setup) (F : Formats Msg) (R : Rules) (M : Module Ms
               λ x m. subst (λ (xs : List (List ℕ)). In x xs) (sym over-both) (over-new x made.strings (over t.strings h.hashed) m) in
           let old_string : (x : List ℕ) → In x (over t.strings h.hashed) → In x (over u.strings h.hashed) =
               λ x m. subst (λ (xs : List (List ℕ)). In x xs) (sym over-both) (over-old x made.strings (over t.strings h.hashed) m) in
+          let older : (x : Signed) → In x (booked s i t.own ++ h.signed) → In x (booked s i u.own ++ h.signed) = λ x m. elim (in_append x (booked s i t.own) h.signed m) [
+            | inl a ↦ in_left x (booked s i u.own) h.signed (booked-first s i t.own own x a)
+            | inr b ↦ in_right x (booked s i u.own) h.signed b
+          ] in
+          let newer : (x : Signed) → In x (as_signed own) → In x (booked s i u.own ++ h.signed) = λ x m.
+              in_left x (booked s i u.own) h.signed (booked-last s i t.own own x (subst (λ (b : Bool). In x (cond b (as_signed own) [])) (sym correct) m)) in
           record {
             messages = fresh ++ k.messages;
             reach = move i l input t.core.leaf k.reach (record {
@@ -245,10 +261,7 @@ module _ {Msg : Type 0} (s : Setup) (F : Formats Msg) (R : Rules) (M : Module Ms
                     | inl a ↦ elim (booked-split s i t.own own x a) [ inl y ↦ inr (in_left x (booked s i t.own) h.signed y) | inr y ↦ inl (is_own x y) ]
                     | inr b ↦ inr (in_right x (booked s i t.own) h.signed b)
                   ]);
-              old_book = λ x m. elim (in_append x (booked s i t.own) h.signed m) [
-                | inl a ↦ in_left x (booked s i u.own) h.signed (booked-first s i t.own own x a)
-                | inr b ↦ in_right x (booked s i u.own) h.signed b
-              ];
+              old_book = older;
               fresh_strings = λ x m. fresh_string x (subst (λ (y : Past Msg). In x (made_in R M i y l input t.core.leaf).strings) (past-here t) m);
               strings = old_string;
               hashed = λ x m. rw (unvoted-strings (log_of R M i (pasts_of (turned_to s h i u).net i)) x m) (root-of u);
@@ -273,6 +286,7 @@ module _ {Msg : Type 0} (s : Setup) (F : Formats Msg) (R : Rules) (M : Module Ms
                 ];
             ready = inputs-ready F R M i t.core l input k.ready;
             named = λ x m. elim (booked-split s i t.own own x m) [ inl a ↦ k.named x a | inr b ↦ is_named x (is_own x b) ];
+            booked = takes-booked R M i t.core k.ready.sound l input t.core.leaf (booked s i u.own ++ h.signed) (λ a b y z x o. older x (k.booked a b y z x o)) newer;
             early = λ st x m. in_right _ fresh k.messages (k.early st x m);
             old = λ m z. in_right m fresh k.messages (k.old m z);
           }
@@ -296,12 +310,15 @@ module _ {Msg : Type 0} (s : Setup) (F : Formats Msg) (R : Rules) (M : Module Ms
             posted = k.posted;
             ready = ends-ready F R M i slots windows t.core k.ready complete;
             named = k.named;
+            booked = ends-booked R M i t.core k.ready.sound (booked s i t.own ++ h.signed) k.booked;
             early = λ st x m. absurd m;
             old = k.old;
           }
 
       reads-fits : (t : Turn Msg) (claims : List Claim) → Turned t → Turned (then_reads F R M i t claims)
-      reads-fits t claims k = record { messages = k.messages; reach = k.reach; posted = k.posted; ready = k.ready; named = k.named; early = k.early; old = k.old }
+      reads-fits t claims k = record {
+        messages = k.messages; reach = k.reach; posted = k.posted; ready = k.ready; named = k.named; booked = k.booked; early = k.early; old = k.old;
+      }
 
       -- a message that was read is credible in an instance where its claims verify and none of them is forged
       credible : (d : Past Msg) (l from : ℕ) (msg : Msg) → from < s.n → IsReadAgain (M.spell s.version) (M.parse s.version) msg →

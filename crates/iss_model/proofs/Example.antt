@@ -1,0 +1,256 @@
+-- Runs that are computed: three nodes, epochs of three slots, and a module by which the leader tells all what it casts, and
+-- its slots become nil where its time runs out. Packets are spelled as short as these runs allow.
+use Rattle.std.proofs.Common.{◌≡◌, ℕ, zero, suc, ◌==◌, ◌&&◌, cond, true, false, List, [], ◌∷◌, ◌++◌, Option, Some, None, reverse, refl}
+use Rattle.iss_request.specs.declared.ids.Slot.{Slot}
+use Rattle.iss_request.specs.declared.requests.Batch.{Batch}
+use Rattle.iss_request.specs.declared.requests.Request.{Request}
+use Rattle.iss_request.specs.declared.requests.Value.{Value}
+use Rattle.iss_request.specs.declared.requests.Value.TheVariants.{Batch as Holds, Nil}
+use Rattle.iss_request.specs.declared.setups.Kind.TheVariants.{Stopping}
+use Rattle.iss_request.specs.declared.setups.Policy.TheVariants.{Backoff, Simple}
+use Rattle.iss_request.specs.declared.setups.Setup.{Setup}
+use Rattle.iss_request.specs.Fields.{Bad}
+use Rattle.iss_schedule.specs.declared.schedules.Event.{Event}
+use Rattle.iss_schedule.specs.declared.schedules.Event.TheVariants.{Request as Asks_order, Propose, Timeout as Times_out, Deliver, Calm, Pump}
+use Rattle.iss_sb.specs.declared.effects.Input.{Input}
+use Rattle.iss_sb.specs.declared.effects.Input.TheVariants.{Cast, Receive, Timeout}
+use Rattle.iss_sb.specs.declared.effects.Params.{Params}
+use Rattle.iss_sb.specs.declared.effects.To.TheVariants.{All as To_all}
+use Rattle.iss_sb.specs.Evidence.{Item, Made, Module}
+use Rattle.iss_base.specs.Lists.{first_of}
+use Rattle.iss_model.specs.Concrete.{rules_of}
+use Rattle.iss_model.specs.Node.{Body, Core, Early, Formats, OfModule, OfRequest, Parcel, Stepped, Dropped, Taken, step}
+use Rattle.iss_model.specs.Rules.{Rules}
+use Rattle.iss_model.specs.Past.{leads_in, log_of}
+use Rattle.iss_model.specs.Run.{Progress, begin_run, run}
+use Rattle.iss_model.specs.Views.{accepted_by, is_castable_now, unfilled}
+use Rattle.iss_model.specs.declared.causes.NodeEvent.TheVariants.{Packet as Gets}
+
+abbrev pub Word : Type 0
+Word = Slot × Batch
+
+abbrev pub plain : Setup
+plain = record { version = 1; «module» = 1; f = 0; epoch = 3; buckets = 3; batch = 4; window = 8; policy = Simple; clients = 1; keys = 4; faulty = []; n = 3; quorum = 2; kind = Stopping; tag = [] }
+
+abbrev asks : Params → ℕ → Input Word → Option Word
+asks p me (Cast slot batch) = cond (me == p.leader.0) (Some (slot, batch)) None
+asks p me (Receive from word) = None
+asks p me Timeout = None
+
+abbrev made_of : Option Word → Made Word
+made_of None = record { sends = []; accepted = None; strings = []; used = 0 }
+made_of (Some w) = record { sends = (To_all, w) ∷ []; accepted = Some w; strings = []; used = 0 }
+
+abbrev pub told : ℕ → ℕ → Input Word → Option Value
+told leader s (Cast slot batch) = None
+told leader s (Receive from word) = cond ((from.0 == leader) && (word.0.0 == s)) (Some (Holds word.1)) None
+told leader s Timeout = Some Nil
+
+abbrev pub first_told : ℕ → ℕ → List (Item Word) → Option Value
+first_told leader s [] = None
+first_told leader s (x ∷ xs) = first_of (first_told leader s xs) (told leader s x.input)
+
+abbrev pub telling : Module Word
+telling = record {
+  nodes = λ f. 3;
+  quorum = λ f. 2;
+  stopping = true;
+  tag = 1;
+  signs = λ p. 0;
+  spell = λ version w. [];
+  parse = λ version bytes. Bad 0;
+  claims = λ p from w. [];
+  asks = λ p me xs input. asks p me input;
+  makes = λ p me xs input leaf. made_of (asks p me input);
+  decided = λ p me xs s. first_told p.leader.0 s xs;
+}
+
+-- at most one request in a batch, and no signatures
+abbrev pub plain_request : ℕ → ℕ → List ℕ → Request
+plain_request client number payload = record { id = record { client = client; number = number }; payload = payload; sig = [] }
+
+abbrev pub spell_batch : Batch → List ℕ
+spell_batch [] = []
+spell_batch (q ∷ qs) = q.id.client ∷ q.id.number ∷ q.payload
+
+abbrev pub read_batch : List ℕ → Batch
+read_batch (client ∷ number ∷ payload) = plain_request client number payload ∷ []
+read_batch _ = []
+
+abbrev pub spell : ℕ → ℕ → Body Word → List ℕ
+spell from epoch (OfModule leader w) = 0 ∷ from ∷ epoch ∷ leader ∷ w.0.0 ∷ spell_batch w.1
+spell from epoch (OfRequest q) = 1 ∷ q.id.client ∷ q.id.number ∷ q.payload
+
+abbrev pub read : List ℕ → Option (Parcel Word)
+read (zero ∷ from ∷ epoch ∷ leader ∷ slot ∷ batch) = Some (record { from = from; epoch = epoch; body = OfModule leader (record { 0 = slot }, read_batch batch) })
+read (suc one ∷ client ∷ number ∷ payload) = Some (record { from = 255; epoch = 0; body = OfRequest (plain_request client number payload) })
+read _ = None
+
+abbrev pub short : Formats Word
+short = record { wrap = λ k. spell k.from k.epoch k.body; unwrap = read }
+
+-- every request counts as signed, since nothing computes with keys
+abbrev pub easy : Rules
+easy = record (rules_of plain) { signed = λ q. true }
+
+abbrev run_of : List Event → Progress Word
+run_of events = run plain short easy telling (begin_run plain) events
+
+after : List Event → ℕ → List Value
+after events i = reverse (log_of easy telling i ((run_of events).held.net.cores i).past)
+
+abbrev q : Request
+q = plain_request 0 0 (170 ∷ [])
+
+-- one request, which node 0 casts, and everything delivered
+abbrev first_run : List Event
+first_run = Asks_order 0 0 0 (170 ∷ []) ∷ Propose 0 ∷ Calm 10 ∷ []
+
+one : after first_run 0 ≡ Holds (q ∷ []) ∷ []
+unfolding after
+one = refl
+
+two : after first_run 1 ≡ Holds (q ∷ []) ∷ []
+unfolding after
+two = refl
+
+three : after first_run 2 ≡ Holds (q ∷ []) ∷ []
+unfolding after
+three = refl
+
+-- delivered to node 1 alone, and twice
+late : after (Asks_order 0 0 0 (170 ∷ []) ∷ Propose 0 ∷ Deliver 1 ∷ Deliver 1 ∷ []) 2 ≡ []
+unfolding after
+late = refl
+
+early : after (Asks_order 0 0 0 (170 ∷ []) ∷ Propose 0 ∷ Deliver 1 ∷ Deliver 1 ∷ []) 1 ≡ Holds (q ∷ []) ∷ []
+unfolding after
+early = refl
+
+-- the core of a node after events
+core_after : List Event → ℕ → Core Word
+core_after events i = (run_of events).held.net.cores i
+
+-- each leader casts, with nothing to order, and epoch 0 ends in the middle of a pump
+abbrev whole_epoch : List Event
+whole_epoch = Propose 0 ∷ Propose 1 ∷ Propose 2 ∷ Pump ∷ []
+
+ends : (core_after whole_epoch 1).past.epoch ≡ 1
+unfolding core_after
+ends = refl
+
+filled : after whole_epoch 1 ≡ Holds [] ∷ Holds [] ∷ Holds [] ∷ []
+unfolding after
+filled = refl
+
+-- node 0 takes what ends the epoch and casts in the next; to node 1, which is not there yet, that is early
+abbrev ahead : List Event
+ahead = Propose 0 ∷ Propose 1 ∷ Propose 2 ∷ Deliver 0 ∷ Deliver 3 ∷ Deliver 6 ∷ Propose 0 ∷ Deliver 10 ∷ []
+
+kept : (core_after ahead 1).early ≡ record { from = 0; leader = 0; msg = (record { 0 = 3 }, []) } ∷ []
+unfolding core_after
+kept = refl
+
+-- which it takes as it ends the epoch itself
+caught_up : after (ahead ++ Deliver 1 ∷ Deliver 4 ∷ Deliver 7 ∷ []) 1 ≡ Holds [] ∷ Holds [] ∷ Holds [] ∷ Holds [] ∷ []
+unfolding after
+caught_up = refl
+
+gone : (core_after (ahead ++ Deliver 1 ∷ Deliver 4 ∷ Deliver 7 ∷ []) 1).early ≡ []
+unfolding core_after
+gone = refl
+
+-- early messages fill the next epoch: it ends too, and what is left of them is gone
+abbrev early_word : ℕ → ℕ → Early Word
+early_word leader slot = record { from = leader; leader = leader; msg = (record { 0 = slot }, []) }
+
+abbrev prepared : Core Word
+prepared = record (core_after (Propose 0 ∷ Propose 1 ∷ Propose 2 ∷ Deliver 2 ∷ Deliver 5 ∷ []) 2) { early = early_word 2 5 ∷ early_word 1 4 ∷ early_word 0 3 ∷ early_word 0 3 ∷ [] }
+
+abbrev epoch_of : Stepped Word → Option ℕ
+epoch_of (Dropped why) = None
+epoch_of (Taken t) = Some t.core.past.epoch
+
+abbrev early_of : Stepped Word → List (Early Word)
+early_of (Dropped why) = []
+early_of (Taken t) = t.core.early
+
+abbrev last_told : Stepped Word
+last_told = step short easy telling 2 prepared (Gets (spell 2 0 (OfModule 2 (record { 0 = 2 }, []))))
+
+two_ended : epoch_of last_told ≡ Some 2
+unfolding core_after
+two_ended = refl
+
+none_left : early_of last_told ≡ []
+unfolding core_after
+none_left = refl
+
+-- a request that was cast in a slot that became nil waits again
+abbrev timed_out : List Event
+timed_out = Asks_order 0 0 0 (170 ∷ []) ∷ Propose 0 ∷ Times_out 0 (record { 0 = 0 }) ∷ []
+
+nil : after timed_out 0 ≡ Nil ∷ []
+unfolding after
+nil = refl
+
+back : (core_after timed_out 0).waiting ≡ q ∷ []
+unfolding core_after
+back = refl
+
+landed : (core_after timed_out 0).flight ≡ []
+unfolding core_after
+landed = refl
+
+-- a number is inside the window of an epoch by the log before it: number 8 once number 0 is in the log, and its epoch over
+outside : (core_after (Asks_order 0 0 8 (170 ∷ []) ∷ []) 0).waiting ≡ []
+unfolding core_after
+outside = refl
+
+still_outside : (core_after (first_run ++ Asks_order 0 0 8 (170 ∷ []) ∷ []) 0).waiting ≡ []
+unfolding core_after
+still_outside = refl
+
+inside : (core_after (Asks_order 0 0 0 (170 ∷ []) ∷ whole_epoch ++ Asks_order 0 0 8 (170 ∷ []) ∷ []) 0).waiting ≡ plain_request 0 8 (170 ∷ []) ∷ []
+unfolding core_after
+inside = refl
+
+-- what a node shows: whom it waits for, whether it may cast, and what it accepted
+waits_for_all : unfilled easy telling 3 0 (core_after [] 0).past ≡ 0 ∷ 1 ∷ 2 ∷ []
+unfolding core_after
+waits_for_all = refl
+
+waits_for_two : unfilled easy telling 3 0 (core_after (Propose 0 ∷ Deliver 0 ∷ []) 0).past ≡ 1 ∷ 2 ∷ []
+unfolding core_after
+waits_for_two = refl
+
+may_cast : is_castable_now easy telling 0 (core_after [] 0) ≡ true
+unfolding core_after
+may_cast = refl
+
+has_cast : is_castable_now easy telling 0 (core_after (Propose 0 ∷ []) 0) ≡ false
+unfolding core_after
+has_cast = refl
+
+accepted : accepted_by (core_after (Asks_order 0 0 0 (170 ∷ []) ∷ Propose 0 ∷ []) 0) 0 ≡ (record { 0 = 0 }, q ∷ []) ∷ []
+unfolding core_after
+accepted = refl
+
+-- under backoff a leader under which a slot became nil does not lead the next epoch; the log before it says so
+abbrev backing : Setup
+backing = record plain { policy = Backoff }
+
+abbrev core_backing : List Event → ℕ → Core Word
+core_backing events i = (run backing short (rules_of backing) telling (begin_run backing) events).held.net.cores i
+
+abbrev one_failed : List Event
+one_failed = Times_out 0 (record { 0 = 1 }) ∷ Propose 0 ∷ Propose 2 ∷ Pump ∷ []
+
+left_out : leads_in (rules_of backing) telling 0 (core_backing one_failed 0).past 1 ≡ false
+left_out = refl
+
+leads_on : leads_in (rules_of backing) telling 0 (core_backing one_failed 0).past 2 ≡ true
+leads_on = refl
+
+next_epoch : (core_backing one_failed 0).past.epoch ≡ 1
+next_epoch = refl
