@@ -1,6 +1,7 @@
 -- The report of a schedule's run under its module, and what is promised of the run.
 use Rattle.std.specs.Prelude.{◌≡◌, ℕ, Option, Some, None}
 use Rattle.iss_model.specs.Conserved.{IsConserved}
+use Rattle.iss_model.specs.Ends.{HasEvidence}
 use Rattle.iss_model.specs.OneLog.{IsOneLog, run_after}
 use Rattle.iss_model.specs.Run.{End, Forged, Collision}
 use Rattle.iss_replay.specs.Report.{text_of}
@@ -37,9 +38,10 @@ IsReported s a = Under s.setup.module (λ M. a ≡ reported M s)
 
 -- The logs of correct nodes are of one log, in which no request stands twice and each batch was accepted as valid by a
 -- correct node, and which more events only make longer; each request that a correct node took is in its log, waits there, or
--- is in flight, in one place.
+-- is in flight, in one place. Where the run ends before its last event, it shows evidence of a forged claim or a collision.
 pub record IsKept {Msg : Type 0} (M : Module Msg) (s : Schedule) : Type 0 where
   pub one_log : IsOneLog s.setup M s.events
+  pub evidence : HasEvidence s.setup M s.events
   pub conserved : IsConserved s.setup M s.events
 
 -- of its run

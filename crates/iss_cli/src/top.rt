@@ -15,7 +15,7 @@ use crate::errors::EndError;
 use crate::input::read_up_to;
 use crate::output::write_all;
 use crate::status::Status;
-use iss_model::{cluster_runs, requests_are_conserved};
+use iss_model::{cluster_runs, requests_are_conserved, runs_end_with_evidence};
 use iss_sb::Sequenced;
 use sb_pbft::Pbft;
 use sb_raft::Raft;
@@ -75,6 +75,7 @@ fn kept<M: Sequenced>()
     ensures { AcceptsOnce M.meaning → (s : Schedule) → IsSetupOf M.meaning s.setup → AreInRange s.setup s.events → IsKept M.meaning s }
 {
     cluster_runs::<M>();
+    runs_end_with_evidence::<M>();
     requests_are_conserved::<M>();
 }
 

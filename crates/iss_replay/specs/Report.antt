@@ -2,6 +2,7 @@
 use Rattle.std.specs.Prelude.{◌≡◌, ℕ, zero, suc, cond, List, [], ◌∷◌, ◌++◌}
 use Rattle.iss_model.specs.Concrete.{rules_of}
 use Rattle.iss_model.specs.Conserved.{AcceptsOnce, IsConserved}
+use Rattle.iss_model.specs.Ends.{HasEvidence}
 use Rattle.iss_model.specs.OneLog.{IsOneLog, run_after}
 use Rattle.iss_model.specs.Past.{log_of}
 use Rattle.iss_model.specs.Run.{Net, Progress}
@@ -30,9 +31,10 @@ node_blocks s M w (suc n) = node_blocks s M w n ++ block_of s M w n
 abbrev pub text_of : {Msg : Type 0} → Setup → Module Msg → Progress Msg → List ℕ
 text_of s M p = drop_lines p.drops ++ node_blocks s M p.held.net s.n ++ end_line p.ended
 
--- The bytes report these events: they are the text of their run, up to its end. Its logs are of one log, which more events only
--- make longer, and each request that a correct node took is in one place.
+-- The bytes report these events: they are the text of their run, up to its end, which it shows evidence for. Its logs are of one
+-- log, which more events only make longer, and each request that a correct node took is in one place.
 pub record IsReport {Msg : Type 0} (s : Setup) (M : Module Msg) (events : List Event) (bytes : List ℕ) : Type 0 where
   pub tells : bytes ≡ text_of s M (run_after s M events)
   pub one_log : IsOneLog s M events
+  pub evidence : HasEvidence s M events
   pub conserved : AcceptsOnce M → IsConserved s M events

@@ -3,13 +3,14 @@ ghost use Rattle.std.specs.Prelude.{◌≡◌, IfOk, None};
 ghost use Rattle.iss_model.specs.Concrete.{rules_of};
 ghost use Rattle.iss_model.specs.Formats.{formats_of};
 ghost use Rattle.iss_model.specs.Conserved.{AcceptsOnce, IsConserved};
+ghost use Rattle.iss_model.specs.Ends.{HasEvidence};
 ghost use Rattle.iss_model.specs.OneLog.{IsOneLog, run_after};
 ghost use Rattle.iss_model.specs.Run.{Progress, goes_on};
 ghost use Rattle.iss_model.specs.Runs.{IsSetupOf};
 ghost use Rattle.iss_replay.specs.Stands.{StandsForRun, numbered};
 ghost use Rattle.iss_schedule.specs.Events.{AreInRange, IsInRange};
 
-use iss_model::{Why, cluster_runs, requests_are_conserved};
+use iss_model::{Why, cluster_runs, requests_are_conserved, runs_end_with_evidence};
 use iss_request::{NoMemory, Row};
 use iss_sb::{Claim, Sequenced};
 use iss_schedule::{Event, Schedule};
@@ -36,9 +37,11 @@ pub fn replay<M: Sequenced>(alloc: Global, schedule: &Schedule) -> Result<Report
     ensures run { IfOk result (λ r. StandsForRun M.meaning M.stands r.world r.drops r.ended (run_after schedule.now.setup M.meaning schedule.now.events)) }
     ensures same { IfOk result (λ r. r.world.running.setup ≡ schedule.now.setup) }
     ensures one_log { IsOneLog schedule.now.setup M.meaning schedule.now.events }
+    ensures evidence { HasEvidence schedule.now.setup M.meaning schedule.now.events }
     ensures conserved { AcceptsOnce M.meaning → IsConserved schedule.now.setup M.meaning schedule.now.events }
 {
     cluster_runs::<M>();
+    runs_end_with_evidence::<M>();
     requests_are_conserved::<M>();
     play(alloc, schedule)
 }
