@@ -1,16 +1,16 @@
 -- The book has each claim that a node sent of its own: what an input adds to the node's past, its step puts into the book.
-use Rattle.std.proofs.Common.{◌≡◌, inl, inr, ℕ, ◌≤◌, ◌<◌, List, [], ◌∷◌, length, sym, subst, arith, le_trans, le_refl}
+use Rattle.std.proofs.Common.{◌≡◌, inl, inr, ℕ, ◌≤◌, List, ◌∷◌, subst, arith, le_trans}
 use Rattle.std.proofs.lemmas.Bool.Decides.{leb_tells}
 use Rattle.iss_base.specs.Lists.{In}
 use Rattle.iss_base.proofs.Lists.{same_or_not, set_at2-at, set_at2-other}
 use Rattle.iss_request.specs.declared.requests.Value.{Value}
 use Rattle.iss_sb.specs.declared.effects.Input.{Input}
 use Rattle.iss_sb.specs.declared.effects.Params.{Params}
-use Rattle.iss_sb.specs.Evidence.{Item, Made, Module}
+use Rattle.iss_sb.specs.Evidence.{Item, Module}
 use Rattle.iss_model.specs.Cluster.{IsOwn, Signed}
 use Rattle.iss_model.specs.Ends.{AreBooked}
 use Rattle.iss_model.specs.Node.{Core, own_claims}
-use Rattle.iss_model.specs.Past.{Past, advanced, before, log_of, made_in, params_of, start_of, takes}
+use Rattle.iss_model.specs.Past.{Past, advanced, before, log_of, made_in, params_of, takes}
 use Rattle.iss_model.specs.Rules.{Rules}
 use Rattle.iss_model.specs.Run.{as_signed}
 use Rattle.iss_model.specs.Sound.{IsSoundCore}
@@ -41,13 +41,17 @@ module _ {Msg : Type 0} (R : Rules) (M : Module Msg) (i : ℕ) (c : Core Msg) (s
       AreBooked R M i (takes R M i c.past l input leaf) book
   takes-booked l input leaf book ok new e k item m x own = elim (same_or_not e c.past.epoch) [
     | inl q ↦ elim (same_or_not k l) [
-      | inl r ↦ elim (subst (λ (xs : List (Item Msg)). In item xs) (set_at2-at c.past.evidence c.past.epoch l (made ∷ c.past.evidence c.past.epoch l) e k q r) m) [
-        | inl z ↦ new x (own-all M p i made.made.sends x (here q r (subst (λ (y : Item Msg). IsOwn M (R.params (before R M i d e) e k) i y.made.sends x) z own)))
-        | inr z ↦ old-booked book ok d later e k item (rw (q, r) z) x own
-      ]
-      | inr ne ↦ old-booked book ok d later e k item (subst (λ (xs : List (Item Msg)). In item xs) (set_at2-other c.past.evidence c.past.epoch l _ e k (inr ne)) m) x own
+      | inl r ↦ elim (subst (λ (xs : List (Item Msg)). In item xs)
+          (set_at2-at c.past.evidence c.past.epoch l (made ∷ c.past.evidence c.past.epoch l) e k q r) m) [
+            | inl z ↦ new x (own-all M p i made.made.sends x
+                (here q r (subst (λ (y : Item Msg). IsOwn M (R.params (before R M i d e) e k) i y.made.sends x) z own)))
+            | inr z ↦ old-booked book ok d later e k item (rw (q, r) z) x own
+          ]
+      | inr ne ↦ old-booked book ok d later e k item
+          (subst (λ (xs : List (Item Msg)). In item xs) (set_at2-other c.past.evidence c.past.epoch l _ e k (inr ne)) m) x own
     ]
-    | inr ne ↦ old-booked book ok d later e k item (subst (λ (xs : List (Item Msg)). In item xs) (set_at2-other c.past.evidence c.past.epoch l _ e k (inl ne)) m) x own
+    | inr ne ↦ old-booked book ok d later e k item
+        (subst (λ (xs : List (Item Msg)). In item xs) (set_at2-other c.past.evidence c.past.epoch l _ e k (inl ne)) m) x own
   ]
     where
       d : Past Msg
@@ -65,7 +69,7 @@ module _ {Msg : Type 0} (R : Rules) (M : Module Msg) (i : ℕ) (c : Core Msg) (s
       here : e ≡ c.past.epoch → k ≡ l → IsOwn M (R.params (before R M i d e) e k) i made.made.sends x → IsOwn M p i made.made.sends x
       here q r own =
           let a : IsOwn M (R.params (before R M i d c.past.epoch) c.past.epoch k) i made.made.sends x =
-              subst (λ (n : ℕ). IsOwn M (R.params (before R M i d n) n k) i made.made.sends x) q own in
+          subst (λ (n : ℕ). IsOwn M (R.params (before R M i d n) n k) i made.made.sends x) q own in
           let b : IsOwn M (R.params (before R M i c.past c.past.epoch) c.past.epoch k) i made.made.sends x =
-              subst (λ (bf : List Value). IsOwn M (R.params bf c.past.epoch k) i made.made.sends x) (before-stays d later c.past.epoch (omega arith)) a in
+          subst (λ (bf : List Value). IsOwn M (R.params bf c.past.epoch k) i made.made.sends x) (before-stays d later c.past.epoch (omega arith)) a in
           subst (λ (n : ℕ). IsOwn M (R.params (before R M i c.past c.past.epoch) c.past.epoch n) i made.made.sends x) r b

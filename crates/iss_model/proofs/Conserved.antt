@@ -1,5 +1,5 @@
 -- Conservation: in every run each identity that a correct core took is in one place.
-use Rattle.std.proofs.Common.{◌≡◌, ◌⊎◌, inl, inr, ℕ, zero, suc, Bool, true, false, cond, eqb, List, [], ◌∷◌, ◌++◌, Option, Some, None, refl, sym, subst, arith}
+use Rattle.std.proofs.Common.{◌≡◌, ◌⊎◌, inl, inr, ℕ, zero, suc, Bool, true, false, cond, eqb, List, [], ◌∷◌, Option, Some, None, refl, sym, subst, arith}
 use Rattle.iss_base.specs.Lists.{In, nth, set_at}
 use Rattle.iss_base.proofs.Lists.{is-eq, same_or_not, set_at-other, set_at-same}
 use Rattle.iss_network.specs.Network.{Network, due, settled}
@@ -194,7 +194,8 @@ module _ {Msg : Type 0} (s : Setup) (F : Formats Msg) (R : Rules) (M : Module Ms
       taken (Dropped why) k z = absurd z
       taken (Taken t) k z = turned t k (collision_in t.strings h.hashed) z
 
-      honest : (f : Option Claim) (o : Stepped Msg) → step F R M (node_of s c) (h.net.cores c) event ≡ o → In x (asked_in i e (by_forged f h (after_step s h c o))) →
+      honest : (f : Option Claim) (o : Stepped Msg) → step F R M (node_of s c) (h.net.cores c) event ≡ o →
+          In x (asked_in i e (by_forged f h (after_step s h c o))) →
           PlacedCore R M (node_of s i) ((by_forged f h (after_step s h c o)).held.net.cores i) x
       honest None o k z = taken o k z
       honest (Some claim) o k z = absurd z
@@ -236,14 +237,14 @@ conserved {Msg} s M h faithful law safe once events c i ok x asked =
     let core = (run_after s M events).held.net.cores i in
     let is : node_of s i ≡ i = correct-is s i ok in
     let filed : FiledCore R M i core = subst (λ (n : ℕ). FiledCore R M n core) is
-        (run-kept s F R M law seg faithful.requests events (begin_run s) (begin-filed s R M) i).filed in
+    (run-kept s F R M law seg faithful.requests events (begin_run s) (begin-filed s R M) i).filed in
     let placed : PlacedCore R M i core x = subst (λ (n : ℕ). PlacedCore R M n core x) is
-        (asked-placed s F R M law seg faithful.requests events (begin_run s) (begin-filed s R M) i x asked) in
+    (asked-placed s F R M law seg faithful.requests events (begin_run s) (begin-filed s R M) i x asked) in
     let good : Good s R M w c.scheme = good-reach s c.scheme R M safe law c.sound w c.exact c.separate c.reached in
     let filed_there : Filed R M i (w.pasts i) core.waiting core.flight =
-        subst (λ (pasts : ℕ → Past Msg). Filed R M i (pasts i) core.waiting core.flight) (sym c.pasts) filed in
+    subst (λ (pasts : ℕ → Past Msg). Filed R M i (pasts i) core.waiting core.flight) (sym c.pasts) filed in
     let placed_there : IsPlaced R M i (w.pasts i) core.waiting core.flight x =
-        subst (λ (pasts : ℕ → Past Msg). IsPlaced R M i (pasts i) core.waiting core.flight x) (sym c.pasts) placed in
+    subst (λ (pasts : ℕ → Past Msg). IsPlaced R M i (pasts i) core.waiting core.flight x) (sym c.pasts) placed in
     let one : One (In x (log_ids (log_of R M i (w.pasts i)))) (In x (ids core.waiting)) (In x (flown core.flight)) =
-        one-place s c.scheme R M safe once c.sound seg w c.separate good i ok core.waiting core.flight filed_there x placed_there in
+    one-place s c.scheme R M safe once c.sound seg w c.separate good i ok core.waiting core.flight filed_there x placed_there in
     subst (λ (pasts : ℕ → Past Msg). One (In x (log_ids (log_of R M i (pasts i)))) (In x (ids core.waiting)) (In x (flown core.flight))) c.pasts one

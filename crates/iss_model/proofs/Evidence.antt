@@ -8,7 +8,7 @@ use Rattle.iss_request.specs.declared.setups.Setup.{Setup}
 use Rattle.iss_schedule.specs.declared.schedules.Event.{Event}
 use Rattle.iss_schedule.specs.declared.schedules.Event.TheVariants.{Request as Asks_order, Propose, Timeout as Times_out, Deliver, Lose, Pump, Calm, Hold, Free, Drop, Bytes}
 use Rattle.iss_sb.specs.declared.effects.Claim.{Claim}
-use Rattle.iss_sb.specs.Evidence.{Module, is_correct}
+use Rattle.iss_sb.specs.Evidence.{Module}
 use Rattle.iss_sb.specs.Laws.{IsLawful}
 use Rattle.iss_model.specs.declared.causes.NodeEvent.{NodeEvent}
 use Rattle.iss_model.specs.declared.causes.NodeEvent.TheVariants.{Packet as Gets, Propose as Proposes, Timeout as Fires}
@@ -41,7 +41,8 @@ module _ {Msg : Type 0} (s : Setup) (F : Formats Msg) (R : Rules) (M : Module Ms
     collided-tells t q (Some end) k other e =
         let w = collided-with t.strings h.hashed end k in
         let is : Collision w.0 w.1 ≡ other = sym w.2 ∙ some-injective end other e in
-        let shown : HasCollided s F R M h w.0 w.1 = record { core = c; event = event; turn = t; taken = q; strings = collision-shown t.strings h.hashed w.0 w.1 (k ∙ ap (λ (z : End). Some z) w.2) } in
+        let shown : HasCollided s F R M h w.0 w.1 =
+        record { core = c; event = event; turn = t; taken = q; strings = collision-shown t.strings h.hashed w.0 w.1 (k ∙ ap (λ (z : End). Some z) w.2) } in
         subst (λ (z : End). Shows s F R M h z) is shown
 
     after-tells : (o : Stepped Msg) → step F R M (node_of s c) (h.net.cores c) event ≡ o → Tells (after_step s h c o)
@@ -57,8 +58,13 @@ module _ {Msg : Type 0} (s : Setup) (F : Formats Msg) (R : Rules) (M : Module Ms
     forged-tells (Some claim) k = λ other e.
         let r = forged-shown s R h.signed reads claim k in
         let shown : IsForgery s F R M h claim = record {
-          core = c; event = event; read = r.held; verifies = r.verifies; by_key = sound.signers claim.by.0 claim.statement claim.sig r.verifies;
-          correct = r.correct; unsent = r.absent;
+          core = c;
+          event = event;
+          read = r.held;
+          verifies = r.verifies;
+          by_key = sound.signers claim.by.0 claim.statement claim.sig r.verifies;
+          correct = r.correct;
+          unsent = r.absent;
         } in
         subst (λ (z : End). Shows s F R M h z) (some-injective (Forged claim) other e) shown
 
@@ -69,7 +75,8 @@ module _ {Msg : Type 0} (s : Setup) (F : Formats Msg) (R : Rules) (M : Module Ms
   delivered-tells h k None = still-tells h
   delivered-tells h k (Some p) = at-tells (with_network h (settled h.net.network k)) p.to (Gets p.bytes)
 
-  unless-tells : (d : Happening Msg) (more : Held Msg → Happening Msg) → Tells d → ((g : Held Msg) → Tells (more g)) → (o : Option End) → Tells (unless o d more)
+  unless-tells : (d : Happening Msg) (more : Held Msg → Happening Msg) → Tells d → ((g : Held Msg) → Tells (more g)) → (o : Option End) →
+      Tells (unless o d more)
   unless-tells d more a b None = b d.held
   unless-tells d more a b (Some end) = a
 

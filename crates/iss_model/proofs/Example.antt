@@ -30,7 +30,24 @@ abbrev pub Word : Type 0
 Word = Slot × Batch
 
 abbrev pub plain : Setup
-plain = record { version = 1; «module» = 1; f = 0; epoch = 3; buckets = 3; batch = 4; window = 8; policy = Simple; clients = 1; keys = 4; faulty = []; n = 3; quorum = 2; kind = Stopping; tag = [] }
+plain = record {
+  version = 1;
+  «module» = 1;
+  f = 0;
+  epoch = 3;
+  buckets = 3;
+  batch = 4;
+  window = 8;
+  policy = Simple;
+  clients = 1;
+  keys = 4;
+  faulty = [];
+  n =
+      3;
+  quorum = 2;
+  kind = Stopping;
+  tag = [];
+}
 
 abbrev asks : Params → ℕ → Input Word → Option Word
 asks p me (Cast slot batch) = cond (me == p.leader.0) (Some (slot, batch)) None
@@ -82,7 +99,8 @@ spell from epoch (OfModule leader w) = 0 ∷ from ∷ epoch ∷ leader ∷ w.0.0
 spell from epoch (OfRequest q) = 1 ∷ q.id.client ∷ q.id.number ∷ q.payload
 
 abbrev pub read : List ℕ → Option (Parcel Word)
-read (zero ∷ from ∷ epoch ∷ leader ∷ slot ∷ batch) = Some (record { from = from; epoch = epoch; body = OfModule leader (record { 0 = slot }, read_batch batch) })
+read (zero ∷ from ∷ epoch ∷ leader ∷ slot ∷ batch) =
+    Some (record { from = from; epoch = epoch; body = OfModule leader (record { 0 = slot }, read_batch batch) })
 read (suc one ∷ client ∷ number ∷ payload) = Some (record { from = 255; epoch = 0; body = OfRequest (plain_request client number payload) })
 read _ = None
 
@@ -165,7 +183,8 @@ abbrev early_word : ℕ → ℕ → Early Word
 early_word leader slot = record { from = leader; leader = leader; msg = (record { 0 = slot }, []) }
 
 abbrev prepared : Core Word
-prepared = record (core_after (Propose 0 ∷ Propose 1 ∷ Propose 2 ∷ Deliver 2 ∷ Deliver 5 ∷ []) 2) { early = early_word 2 5 ∷ early_word 1 4 ∷ early_word 0 3 ∷ early_word 0 3 ∷ [] }
+prepared = record (core_after (Propose 0 ∷ Propose 1 ∷ Propose 2 ∷ Deliver 2 ∷ Deliver 5 ∷ []) 2)
+    { early = early_word 2 5 ∷ early_word 1 4 ∷ early_word 0 3 ∷ early_word 0 3 ∷ [] }
 
 abbrev epoch_of : Stepped Word → Option ℕ
 epoch_of (Dropped why) = None

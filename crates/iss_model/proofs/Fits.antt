@@ -34,8 +34,15 @@ module _ {Msg : Type 0} (s : Setup) (F : Formats Msg) (R : Rules) (M : Module Ms
 
   pub more-posted : (a b : List (Message Msg)) (p : Sent) → IsPosted b p → IsPosted (a ++ b) p
   more-posted a b p h = record {
-    from = h.from; epoch = h.epoch; leader = h.leader; msg = h.msg; low_from = h.low_from; low_leader = h.low_leader; low_to = h.low_to;
-    bytes = h.bytes; sent = in_right _ a b h.sent;
+    from = h.from;
+    epoch = h.epoch;
+    leader = h.leader;
+    msg = h.msg;
+    low_from = h.low_from;
+    low_leader = h.low_leader;
+    low_to = h.low_to;
+    bytes = h.bytes;
+    sent = in_right _ a b h.sent;
   }
 
   -- a statement that names the instance of a node

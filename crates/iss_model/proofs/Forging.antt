@@ -19,7 +19,24 @@ use Rattle.iss_model.proofs.Example.{first_told, plain_request, short}
 use Rattle.iss_model.proofs.Signing.{Word, claim_of, signing}
 
 abbrev pub four : Setup
-four = record { version = 1; «module» = 9; f = 1; epoch = 4; buckets = 4; batch = 4; window = 8; policy = Simple; clients = 1; keys = 4; faulty = record { 0 = 3 } ∷ []; n = 4; quorum = 3; kind = Byzantine; tag = [] }
+four = record {
+  version = 1;
+  «module» = 9;
+  f = 1;
+  epoch = 4;
+  buckets = 4;
+  batch = 4;
+  window = 8;
+  policy = Simple;
+  clients = 1;
+  keys = 4;
+  faulty =
+      record { 0 = 3 } ∷ [];
+  n = 4;
+  quorum = 3;
+  kind = Byzantine;
+  tag = [];
+}
 
 -- what a node or a client is said to have signed counts as verified, so that runs compute
 abbrev easy : Rules
@@ -53,7 +70,8 @@ unfolding wide_bytes spell_value spell_batch spell_count spell_request
 repeated = refl
 
 -- before node 0 has signed it, it is forged, and the run ends: what follows does not happen
-forged : (after (Bytes 1 (told 0) ∷ Asks_order 0 0 0 (170 ∷ []) ∷ Propose 0 ∷ [])).ended ≡ Some (0, Forged (claim_of ((rules_of four).params [] 0 0) 0 (record { 0 = 0 }, batch)))
+forged : (after (Bytes 1 (told 0) ∷ Asks_order 0 0 0 (170 ∷ []) ∷ Propose 0 ∷ [])).ended ≡ Some
+    (0, Forged (claim_of ((rules_of four).params [] 0 0) 0 (record { 0 = 0 }, batch)))
 unfolding wide_bytes spell_value spell_batch spell_count spell_request
 forged = refl
 

@@ -28,6 +28,7 @@ pub mod Told
 pub mod Twins
 pub mod Posts
 pub mod Unvoted
+pub mod Grown
 pub mod Printed
 pub mod Fits
 pub mod Turned

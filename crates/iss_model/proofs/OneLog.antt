@@ -37,11 +37,12 @@ module _ {Msg : Type 0} (s : Setup) (M : Module Msg) (h : IsSetupOf M s) (faithf
   pub one-log : IsSafe M → (events : List Event) → AreAtCores s events → IsOneLog s M events
   one-log safe events low =
       let o : Ordered s (rules_of s) M (pasts_after s M events) =
-          run-ordered s (formats_of s M) (rules_of s) M (sound-rules M s h) faithful law (are-windows s) safe events low in
+      run-ordered s (formats_of s M) (rules_of s) M (sound-rules M s h) faithful law (are-windows s) safe events low in
       record {
         prefix = λ i j oki okj. elim (o.one i j oki okj) [ inl x ↦ inl (turned _ _ x) | inr x ↦ inr (turned _ _ x) ];
         once = λ i ok. once-turned (log_of (rules_of s) M i (pasts_after s M events i)) (o.once i ok);
-        valid = λ i ok front back b is. o.valid i ok (reverse front) b (turned-cut (log_of (rules_of s) M i (pasts_after s M events i)) front back (Holds b) is);
+        valid = λ i ok front back b is. o.valid i ok (reverse front) b
+            (turned-cut (log_of (rules_of s) M i (pasts_after s M events i)) front back (Holds b) is);
         grows = λ more low_more i ok. turned _ _
             ((run-grows s (formats_of s M) (rules_of s) M (sound-rules M s h) faithful law (are-windows s) events more low low_more).logs i ok);
       }

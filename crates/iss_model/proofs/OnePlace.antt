@@ -4,7 +4,6 @@ use Rattle.std.proofs.lemmas.Bool.Decides.{leb_tells}
 use Rattle.iss_base.specs.Lists.{Chain, Extends, In}
 use Rattle.iss_base.proofs.Lists.{chain-part, extends-length, in_left}
 use Rattle.iss_layout.proofs.FairLemmas.{segment_slots}
-use Rattle.iss_network.specs.Network.{settled}
 use Rattle.iss_request.specs.Log.{ids, log_ids}
 use Rattle.iss_request.specs.declared.ids.ReqId.{ReqId}
 use Rattle.iss_request.specs.declared.ids.Slot.{Slot}
@@ -37,7 +36,8 @@ use Rattle.iss_model.proofs.Once.{Found, Valid, find, in-before, valid}
 use Rattle.iss_model.proofs.Places.{Filed, Gone, HasSegments, IsPlaced, WasCast}
 
 module _ {Msg : Type 0} (s : Setup) (S : Scheme) (R : Rules) (M : Module Msg) (safe : IsSafe M) (once : AcceptsOnce M)
-    (sound : IsSoundRules s M R) (seg : HasSegments R) (w : Cluster Msg) (sep : Separate (Among w.strings)) (g : Good s R M w S) (i : ℕ) (ok : is_correct s i ≡ true) where
+    (sound : IsSoundRules s M R) (seg : HasSegments R) (w : Cluster Msg) (sep : Separate (Among w.strings)) (g : Good s R M w S) (i : ℕ)
+    (ok : is_correct s i ≡ true) where
   abbrev past : Past Msg
   past = w.pasts i
 
@@ -53,7 +53,8 @@ module _ {Msg : Type 0} (s : Setup) (S : Scheme) (R : Rules) (M : Module Msg) (s
     pub start : before_at R older ≡ before R M i past e
     pub leader : leader_at R older ≡ i
 
-  own-place : (older : List Value) → Extends older log → (e : ℕ) → e ≤ past.epoch → (f : Slot × Batch) → WasCast R M i past e f → length older ≡ f.0.0 → IsOwn older e
+  own-place : (older : List Value) → Extends older log → (e : ℕ) → e ≤ past.epoch → (f : Slot × Batch) → WasCast R M i past e f → length older ≡ f.0.0 →
+      IsOwn older e
   own-place older part e le f cast at =
       let far : start_of R log e ≤ length log = far-start s S R M safe sound w sep g i ok e le in
       let begun = cast.begun in
@@ -92,9 +93,12 @@ module _ {Msg : Type 0} (s : Setup) (S : Scheme) (R : Rules) (M : Module Msg) (s
 
     there-here : there ≡ here
     there-here =
-        let at_i : there ≡ accepts (world_of s w.pasts (epoch_at R older) (leader_at R older) i) = ap (λ (n : ℕ). accepts (world_of s w.pasts (epoch_at R older) (leader_at R older) n)) leader-is in
-        let plain : accepts (world_of s w.pasts (epoch_at R older) (leader_at R older) i) ≡ accepts (past.evidence (epoch_at R older) (leader_at R older)) = ap (λ xs. accepts xs) (world-at s w (epoch_at R older) (leader_at R older) i ok) in
-        let led : accepts (past.evidence (epoch_at R older) (leader_at R older)) ≡ accepts (past.evidence (epoch_at R older) i) = ap (λ (n : ℕ). accepts (past.evidence (epoch_at R older) n)) own.leader in
+        let at_i : there ≡ accepts (world_of s w.pasts (epoch_at R older) (leader_at R older) i) =
+        ap (λ (n : ℕ). accepts (world_of s w.pasts (epoch_at R older) (leader_at R older) n)) leader-is in
+        let plain : accepts (world_of s w.pasts (epoch_at R older) (leader_at R older) i) ≡ accepts (past.evidence (epoch_at R older) (leader_at R older)) =
+        ap (λ xs. accepts xs) (world-at s w (epoch_at R older) (leader_at R older) i ok) in
+        let led : accepts (past.evidence (epoch_at R older) (leader_at R older)) ≡ accepts (past.evidence (epoch_at R older) i) =
+        ap (λ (n : ℕ). accepts (past.evidence (epoch_at R older) n)) own.leader in
         at_i ∙ plain ∙ led ∙ ap (λ (n : ℕ). accepts (past.evidence n i)) own.epoch
 
     abbrev at : Slot
@@ -104,7 +108,9 @@ module _ {Msg : Type 0} (s : Setup) (S : Scheme) (R : Rules) (M : Module Msg) (s
     own-accepted : (b : Batch) → Backed s R M w.pasts older (Holds b) → In {A = Slot × Batch} (at, b) here
     own-accepted b st =
         let delivered = in-world s S R M safe sound w sep g older st.node st.correct (length older) (Holds b) st.is in
-        let told : In {A = Slot × Batch} (at, b) there = (placed s S R M safe sound w sep g older (Holds b) st).integrity st.node at b leader-correct (right s S R M safe sound w sep g older st.node st.correct) delivered in
+        let told : In {A = Slot × Batch} (at, b) there =
+        (placed s S R M safe sound w sep g older (Holds b) st).integrity st.node at b leader-correct
+        (right s S R M safe sound w sep g older st.node st.correct) delivered in
         subst (λ (xs : List (Slot × Batch)). In (at, b) xs) there-here told
 
     -- and nothing else
@@ -114,13 +120,16 @@ module _ {Msg : Type 0} (s : Setup) (S : Scheme) (R : Rules) (M : Module Msg) (s
         let l = leader_at R older in
         let lead : R.leads (before_at R older) d l ≡ true = sound.leads older in
         let reached : IsReached M (params_at R older) (world_of s w.pasts d l) = rw st.start at (g.inv st.node d l st.correct st.begun (rw st.start lead)) in
-        let apart : Separate (IsString (world_of s w.pasts d l)) = separate-part (Among w.strings) (IsString (world_of s w.pasts d l)) (strings-are s S R M w g d l) sep in
+        let apart : Separate (IsString (world_of s w.pasts d l)) =
+        separate-part (Among w.strings) (IsString (world_of s w.pasts d l)) (strings-are s S R M w g d l) sep in
         let good = sound.good (before_at R older) d l lead in
-        let back : (z : Batch) → In {A = Slot × Batch} (at, z) here → In {A = Slot × Batch} (at, z) there = λ z k. subst (λ (xs : List (Slot × Batch)). In (at, z) xs) (sym there-here) k in
+        let back : (z : Batch) → In {A = Slot × Batch} (at, z) here → In {A = Slot × Batch} (at, z) there =
+        λ z k. subst (λ (xs : List (Slot × Batch)). In (at, z) xs) (sym there-here) k in
         once (params_at R older) (world_of s w.pasts d l) good reached apart leader-correct at c b (back c held) (back b (own-accepted b st))
 
   stood-backed : (n : ℕ) (st : Stood log n) → Backed s R M w.pasts st.older (Holds st.batch)
-  stood-backed n st = (chain-part (Backed s R M w.pasts) st.part.0 (Holds st.batch) st.older (subst (λ (t : List Value). IsTrueLog s R M w.pasts t) st.part.1 true_log)).1
+  stood-backed n st = (chain-part (Backed s R M w.pasts) st.part.0 (Holds st.batch) st.older
+      (subst (λ (t : List Value). IsTrueLog s R M w.pasts t) st.part.1 true_log)).1
 
   lower : (older : List Value) (v : Value) → Extends (v ∷ older) log → Extends older log
   lower older v part = (part.0 ++ (v ∷ []), part.1 ∙ sym (append_assoc part.0 (v ∷ []) older))
@@ -135,7 +144,8 @@ module _ {Msg : Type 0} (s : Setup) (S : Scheme) (R : Rules) (M : Module Msg) (s
       subst (λ (z : Slot). In {A = Slot × Batch} (z, gone.entry.1) (accepts (past.evidence gone.epoch i))) slot gone.cast.held in
       let same : gone.entry.1 ≡ st.batch = own-batch st.older gone.epoch own st.batch (stood-backed gone.entry.0.0 st) gone.entry.1 held in
       let within : In x (ids st.batch) = subst (λ (b : Batch). In x (ids b)) same gone.within in
-      subst (λ (t : List Value). In x (log_ids t)) (sym st.part.1) (log_ids-extends x st.part.0 (Holds st.batch ∷ st.older) (in_left x (ids st.batch) (log_ids st.older) within))
+      subst (λ (t : List Value). In x (log_ids t)) (sym st.part.1)
+      (log_ids-extends x st.part.0 (Holds st.batch ∷ st.older) (in_left x (ids st.batch) (log_ids st.older) within))
 
   -- what is in flight is not in the log
   module _ (waiting : List Request) (flight : List (Slot × Batch)) (h : Filed R M i past waiting flight) where
@@ -176,7 +186,8 @@ module _ {Msg : Type 0} (s : Setup) (S : Scheme) (R : Rules) (M : Module Msg) (s
                     let st : start_of R log e ≡ start_of R low e = start-within R low log e part y.1 in
                     absurd (omega (arith, st, y.1, start-mono R low (suc (epoch_at R low)) e t.1, epoch-high R seg.slots.some low))
               ] in
-              unordered-of R bf e i (marks j.1) f.0.1 mine x f.2 (in-before (start_of R log e) (Holds found.batch ∷ low) log x found.part below (in_left x (ids found.batch) (log_ids low) found.within))
+              unordered-of R bf e i (marks j.1) f.0.1 mine x f.2
+              (in-before (start_of R log e) (Holds found.batch ∷ low) log x found.part below (in_left x (ids found.batch) (log_ids low) found.within))
           | inl t ↦
               -- of this epoch: its owner is this node, which accepted it at one slot
               let begun : epoch_at R low ≤ e = begun-here low found.batch found.part in
@@ -184,18 +195,23 @@ module _ {Msg : Type 0} (s : Setup) (S : Scheme) (R : Rules) (M : Module Msg) (s
               let start : before_at R low ≡ bf = sym (cut-extends R low log (epoch_at R low) part (epoch-low R low)) ∙ ap (λ (n : ℕ). cut_at R log n) ee in
               let v : Valid s S R M safe sound w sep g low found.batch = valid s S R M safe sound w sep g low found.batch found.stands in
               let o1 : R.owner bf e x ≡ i = owner-of R bf e i (marks j.1) f.0.1 mine x f.2 in
-              let o2 : R.owner (before_at R low) (epoch_at R low) x ≡ leader_at R low = owner-of R (before_at R low) (epoch_at R low) (leader_at R low) (marks v.earlier) found.batch v.is x found.within in
-              let o3 : R.owner bf e x ≡ leader_at R low = subst (λ (n : ℕ). R.owner bf n x ≡ leader_at R low) ee (subst (λ (k : List Value). R.owner k (epoch_at R low) x ≡ leader_at R low) start o2) in
+              let o2 : R.owner (before_at R low) (epoch_at R low) x ≡ leader_at R low =
+              owner-of R (before_at R low) (epoch_at R low) (leader_at R low) (marks v.earlier) found.batch v.is x found.within in
+              let o3 : R.owner bf e x ≡ leader_at R low =
+              subst (λ (n : ℕ). R.owner bf n x ≡ leader_at R low) ee
+              (subst (λ (k : List Value). R.owner k (epoch_at R low) x ≡ leader_at R low) start o2) in
               let own : IsOwn low e = record { epoch = ee; start = start; leader = sym o3 ∙ o1 } in
               let accepted_low = own-accepted low e own found.batch found.stands.is in
               let longer : suc (length low) ≤ length log = extends-length (Holds found.batch ∷ low) log found.part in
               let opens : length log ≤ f.0.0.0 = h.open_slot f.0 f.1 in
-              one-slot R bf e i held_here judged f.0 (record { 0 = length low }, found.batch) cast.held accepted_low (λ q. absurd (omega (arith, q, opens, longer))) x f.2 found.within
+              one-slot R bf e i held_here judged f.0 (record { 0 = length low }, found.batch) cast.held accepted_low
+              (λ q. absurd (omega (arith, q, opens, longer))) x f.2 found.within
         ]
 
     pub one-place : (x : ReqId) → IsPlaced R M i past waiting flight x → One (In x (log_ids log)) (In x (ids waiting)) (In x (flown flight))
     one-place x k =
-        let in_log : In x (log_ids log) → One (In x (log_ids log)) (In x (ids waiting)) (In x (flown flight)) = λ a. first a (λ b. h.unlogged x b a) (λ b. unlanded x b a) in
+        let in_log : In x (log_ids log) → One (In x (log_ids log)) (In x (ids waiting)) (In x (flown flight)) =
+        λ a. first a (λ b. h.unlogged x b a) (λ b. unlanded x b a) in
         elim k [
           | inl a ↦ in_log a
           | inr a ↦ elim a [

@@ -73,11 +73,8 @@ module _ {Msg : Type 0} (F : Formats Msg) (R : Rules) (M : Module Msg) (me : ℕ
         let fit : IsFit t.core l input = record { leads = i.leads; claims = i.claims; leaves = i.leaves; judged = i.judged } in
         subst (λ (z : Turn Msg). P (onward t (λ c. z))) (sym i.is) (takes t l input h fit come)
 
-    -- the first input of an event
-    pub first-holds : (c : Core Msg) (l : ℕ) (input : Input Msg) (v : Turn Msg) → P (rests c) → Comes (rests c) l input → IsInput F R M me c l input v → P v
-    first-holds c l input v h come i = input-holds (rests c) l input v h come i
-
-    tried-holds : (t : Turn Msg) (l : ℕ) (input : Input Msg) → P t → Comes t l input → (o : Stepped Msg) → at_instance F R M me t.core l input ≡ o → P (onward t (λ c. tried c o))
+    tried-holds : (t : Turn Msg) (l : ℕ) (input : Input Msg) → P t → Comes t l input → (o : Stepped Msg) → at_instance F R M me t.core l input ≡ o →
+        P (onward t (λ c. tried c o))
     tried-holds t l input h come (Dropped why) q = subst P (sym (onward-rests t)) h
     tried-holds t l input h come (Taken v) q = input-holds t l input v h come (input-taken F R M me t.core l input v q)
 
@@ -98,7 +95,7 @@ module _ {Msg : Type 0} (F : Formats Msg) (R : Rules) (M : Module Msg) (me : ℕ
     -- what came early, as long as its epoch lasts
     pub each-holds : (e : ℕ) (xs : List (Early Msg)) (t : Turn Msg) → P t →
         ((u : Turn Msg) (x : Early Msg) → In x xs → P u → u.core.past.epoch ≡ e →
-            ((y : Claim) → In y (claims_early u.core x) → In y (takes_each F R M me e xs t.core).early) → Comes u x.leader (early_input x)) →
+        ((y : Claim) → In y (claims_early u.core x) → In y (takes_each F R M me e xs t.core).early) → Comes u x.leader (early_input x)) →
         P (onward t (takes_each F R M me e xs))
     each-holds e [] t h come = subst P (sym (onward-rests t)) h
     each-holds e (x ∷ xs) t h come = go (eqb t.core.past.epoch e) refl (λ u. each-holds e xs u) come
@@ -108,10 +105,10 @@ module _ {Msg : Type 0} (F : Formats Msg) (R : Rules) (M : Module Msg) (me : ℕ
 
         go : (b : Bool) → eqb t.core.past.epoch e ≡ b →
             ((u : Turn Msg) → P u → ((v : Turn Msg) (y : Early Msg) → In y xs → P v → v.core.past.epoch ≡ e →
-                ((z : Claim) → In z (claims_early v.core y) → In z (takes_each F R M me e xs u.core).early) → Comes v y.leader (early_input y)) →
-                P (onward u (takes_each F R M me e xs))) →
+            ((z : Claim) → In z (claims_early v.core y) → In z (takes_each F R M me e xs u.core).early) → Comes v y.leader (early_input y)) →
+            P (onward u (takes_each F R M me e xs))) →
             ((u : Turn Msg) (y : Early Msg) → In y (x ∷ xs) → P u → u.core.past.epoch ≡ e →
-                ((z : Claim) → In z (claims_early u.core y) → In z (row b t.core).early) → Comes u y.leader (early_input y)) →
+            ((z : Claim) → In z (claims_early u.core y) → In z (row b t.core).early) → Comes u y.leader (early_input y)) →
             P (onward t (row b))
         go true q ih come =
             let first : Turn Msg = takes_early F R M me t.core x in
@@ -119,14 +116,14 @@ module _ {Msg : Type 0} (F : Formats Msg) (R : Rules) (M : Module Msg) (me : ℕ
             let here : Comes t x.leader (early_input x) = come t x (inl refl) h (is-eq t.core.past.epoch e q) (λ z m. in_left z first.early later.early m) in
             let done : P (onward t (λ c. first)) = early-holds t x h here in
             let rest : P (onward (onward t (λ c. first)) (takes_each F R M me e xs)) =
-                ih (onward t (λ c. first)) done (λ v y m k w r. come v y (inr m) k w (λ z i. in_right z first.early later.early (r z i))) in
+            ih (onward t (λ c. first)) done (λ v y m k w r. come v y (inr m) k w (λ z i. in_right z first.early later.early (r z i))) in
             subst P (sym (onward-onward t (λ c. takes_early F R M me c x) (takes_each F R M me e xs))) rest
         go false q ih come = subst P (sym (onward-rests t)) h
 
     -- the end of an epoch, with all that follows
     pub settles-holds : (t : Turn Msg) → P t →
         (is_complete R M me t.core.past ≡ true → (u : Turn Msg) (x : Early Msg) → In x t.core.early → P u → u.core.past.epoch ≡ suc t.core.past.epoch →
-            ((y : Claim) → In y (claims_early u.core x) → In y (settles F R M me t).early) → Comes u x.leader (early_input x)) →
+        ((y : Claim) → In y (claims_early u.core x) → In y (settles F R M me t).early) → Comes u x.leader (early_input x)) →
         P (settles F R M me t)
     settles-holds t h come = go (is_complete R M me t.core.past) refl come
       where
@@ -138,7 +135,7 @@ module _ {Msg : Type 0} (F : Formats Msg) (R : Rules) (M : Module Msg) (me : ℕ
 
         go : (b : Bool) → is_complete R M me t.core.past ≡ b →
             (b ≡ true → (u : Turn Msg) (x : Early Msg) → In x t.core.early → P u → u.core.past.epoch ≡ suc t.core.past.epoch →
-                ((y : Claim) → In y (claims_early u.core x) → In y (row b).early) → Comes u x.leader (early_input x)) →
+            ((y : Claim) → In y (claims_early u.core x) → In y (row b).early) → Comes u x.leader (early_input x)) →
             P (row b)
         go true q come =
             each-holds (suc t.core.past.epoch) t.core.early (then_ends t) (ends t h q)

@@ -16,15 +16,16 @@ use Rattle.iss_model.specs.Cluster.{Cluster, Message, begin}
 use Rattle.iss_model.specs.Node.{Formats, OfModule, OfRequest, Parcel}
 use Rattle.iss_model.specs.Ordered.{IsExact, IsSoundRules, Ordered}
 use Rattle.iss_model.specs.Rules.{Rules}
-use Rattle.iss_model.specs.Run.{End, Happening, Held, Net, Progress, at_core, begin_run, calms, cores_of, delivered_to, delivers, delivers_each, done, goes_further, happens, injects, loses, pumps, node_of, request_of, run, unless, with_network}
+use Rattle.iss_model.specs.Run.{End, Happening, Held, Progress, at_core, begin_run, calms, cores_of, delivered_to, delivers, delivers_each, done, goes_further, happens, loses, pumps, node_of, request_of, run, unless, with_network}
 use Rattle.iss_model.specs.Runs.{AreAtCores, IsAtCore, IsFaithful, pasts_of}
 use Rattle.iss_model.specs.Sound.{AreWindows}
 use Rattle.iss_model.proofs.Casts.{idle-ready}
 use Rattle.iss_model.proofs.Reached.{composition}
-use Rattle.iss_model.proofs.Unvoted.{Grows, grows-trans, unvoted}
+use Rattle.iss_model.proofs.Grown.{Grows, at-grows, grows-trans, same-net}
+use Rattle.iss_model.proofs.Unvoted.{unvoted}
 use Rattle.iss_model.proofs.Statements.{apart}
 use Rattle.iss_model.proofs.Fits.{Fits as FitsBy, IsPosted, view}
-use Rattle.iss_model.proofs.Turned.{Comes-in, at-fits, at-grows, same-net}
+use Rattle.iss_model.proofs.Turned.{Comes-in, at-fits}
 use Rattle.iss_model.proofs.Twins.{core-low, faultless}
 
 pub run-append : {Msg : Type 0} (s : Setup) (F : Formats Msg) (R : Rules) (M : Module Msg) (es fs : List Event) (p : Progress Msg) →
@@ -47,13 +48,21 @@ module _ {Msg : Type 0} (s : Setup) (F : Formats Msg) (R : Rules) (M : Module Ms
   seen h messages = view s F R M h messages
 
   same : (w v : Held Msg) → v.net.cores ≡ w.net.cores → Grows s R M w.net v.net
-  same w v q = same-net s F R M sound faithful law windows w v q
+  same w v q = same-net s R M w v q
 
   -- which packets wait and who is held changes nothing
   network-fits : (h : Held Msg) (net : Network) → net.packets ≡ h.net.network.packets → Fits h → Fits (with_network h net)
   network-fits h net q ok = record {
-    messages = ok.messages; posted = λ st p m. ok.posted st p (rw q at m); reach = ok.reach; root = ok.root; cores = ok.cores; told = ok.told;
-    sent = ok.sent; named = ok.named; booked = ok.booked; separate = ok.separate;
+    messages = ok.messages;
+    posted = λ st p m. ok.posted st p (rw q at m);
+    reach = ok.reach;
+    root = ok.root;
+    cores = ok.cores;
+    told = ok.told;
+    sent = ok.sent;
+    named = ok.named;
+    booked = ok.booked;
+    separate = ok.separate;
   }
 
   -- what an event leads to
@@ -68,12 +77,18 @@ module _ {Msg : Type 0} (s : Setup) (F : Formats Msg) (R : Rules) (M : Module Ms
   leads-trans h g k a f = let b = f a.fits in record { fits = b.fits; grows = grows-trans s R M h.net g.net k.net a.grows b.grows }
 
   leads-at : (h : Held Msg) (ok : Fits h) (i : ℕ) (event : NodeEvent) → Arrives h ok i event → Leads h (at_core s F R M h i event).held
-  leads-at h ok i event comes = record { fits = at-fits s F R M sound faithful law windows h ok i event comes; grows = at-grows s F R M sound faithful law windows h ok i event }
+  leads-at h ok i event comes =
+      record {
+        fits = at-fits s F R M sound faithful law windows h ok i event comes;
+        grows =
+            at-grows s F R M (record { some = sound.some_slots; most = sound.most }) windows h ok.cores i event;
+      }
 
   leads-network : (h : Held Msg) (net : Network) → net.packets ≡ h.net.network.packets → Fits h → Leads h (with_network h net)
   leads-network h net q ok = record { fits = network-fits h net q ok; grows = same h (with_network h net) refl }
 
-  leads-unless : (h : Held Msg) (o : Option End) (d : Happening Msg) (more : Held Msg → Happening Msg) → Leads h d.held → ((g : Held Msg) → Fits g → Leads g (more g).held) → Leads h (unless o d more).held
+  leads-unless : (h : Held Msg) (o : Option End) (d : Happening Msg) (more : Held Msg → Happening Msg) → Leads h d.held →
+      ((g : Held Msg) → Fits g → Leads g (more g).held) → Leads h (unless o d more).held
   leads-unless h None d more ok f = leads-trans h d.held (more d.held).held ok (f d.held)
   leads-unless h (Some end) d more ok f = ok
 
@@ -81,10 +96,12 @@ module _ {Msg : Type 0} (s : Setup) (F : Formats Msg) (R : Rules) (M : Module Ms
   packet-comes : (h : Held Msg) (ok : Fits h) (p : Sent) → (M.stopping ≡ true → Posted ok.messages p) → Arrives h ok p.to (Gets p.bytes)
   packet-comes h ok p posted = record { low = λ st. (posted st).low_to; legit = λ st k l msg u b. carried (posted st) k l msg u b }
     where
-      carried : (y : Posted ok.messages p) (k : Parcel Msg) (l : ℕ) (msg : Msg) → F.unwrap p.bytes ≡ Some k → k.body ≡ OfModule l msg → In (record { from = k.from; to = p.to; epoch = k.epoch; leader = l; msg = msg }) ok.messages
+      carried : (y : Posted ok.messages p) (k : Parcel Msg) (l : ℕ) (msg : Msg) → F.unwrap p.bytes ≡ Some k → k.body ≡ OfModule l msg →
+          In (record { from = k.from; to = p.to; epoch = k.epoch; leader = l; msg = msg }) ok.messages
       carried y k l msg u b = elim (faithful.messages y.from y.epoch y.leader y.msg y.low_from y.low_leader) [
         | inl z ↦
-            let e : k ≡ record { from = y.from; epoch = y.epoch; body = OfModule y.leader y.msg } = sym (some-injective _ k (sym z ∙ (sym (ap F.unwrap y.bytes) ∙ u))) in
+            let e : k ≡ record { from = y.from; epoch = y.epoch; body = OfModule y.leader y.msg } =
+            sym (some-injective _ k (sym z ∙ (sym (ap F.unwrap y.bytes) ∙ u))) in
             let same : OfModule y.leader y.msg ≡ OfModule l msg = sym (ap (λ (x : Parcel Msg). x.body) e) ∙ b in
             let l2 : y.leader ≡ l = cc in
             let m2 : y.msg ≡ msg = cc in
@@ -97,11 +114,13 @@ module _ {Msg : Type 0} (s : Setup) (F : Formats Msg) (R : Rules) (M : Module Ms
   is-node i low st = core-low s (faultless s R M sound st) i low
 
   -- bytes that were written for a request give no message of a module
-  request-comes : (h : Held Msg) (ok : Fits h) (i : ℕ) → i < cores_of s → (q : Request) → Arrives h ok i (Gets (F.wrap (record { from = 255; epoch = 0; body = OfRequest q })))
+  request-comes : (h : Held Msg) (ok : Fits h) (i : ℕ) → i < cores_of s → (q : Request) →
+      Arrives h ok i (Gets (F.wrap (record { from = 255; epoch = 0; body = OfRequest q })))
   request-comes h ok i low q = record {
     low = λ st. is-node i low st;
     legit = λ st k l msg u b. elim (faithful.requests q) [
-      | inl y ↦ absurd (let e : k ≡ record { from = 255; epoch = 0; body = OfRequest q } = sym (some-injective _ k (sym y ∙ u)) in let z : OfRequest q ≡ OfModule l msg = sym (ap (λ (p : Parcel Msg). p.body) e) ∙ b in cc)
+      | inl y ↦ absurd (let e : k ≡ record { from = 255; epoch = 0; body = OfRequest q } = sym (some-injective _ k (sym y ∙ u)) in
+          let z : OfRequest q ≡ OfModule l msg = sym (ap (λ (p : Parcel Msg). p.body) e) ∙ b in cc)
       | inr y ↦ absurd (none-some k (sym y ∙ u))
     ];
   }
@@ -132,10 +151,13 @@ module _ {Msg : Type 0} (s : Setup) (F : Formats Msg) (R : Rules) (M : Module Ms
   leads-injects : (h : Held Msg) → Fits h → (i : ℕ) (bytes : List ℕ) (b : Bool) → M.stopping ≡ b →
       Leads h (cond b (done h) (at_core s F R M h i (Gets bytes))).held
   leads-injects h ok i bytes true q = leads-same h ok
-  leads-injects h ok i bytes false q = leads-at h ok i (Gets bytes) (record { low = λ st. absurd (true≢false (sym st ∙ q)); legit = λ st. absurd (true≢false (sym st ∙ q)) })
+  leads-injects h ok i bytes false q =
+      leads-at h ok i (Gets bytes) (record { low = λ st. absurd (true≢false (sym st ∙ q)); legit = λ st. absurd (true≢false (sym st ∙ q)) })
 
   pub leads-happens : (h : Held Msg) → Fits h → (e : Event) → IsAtCore s e → Leads h (happens s F R M h e).held
-  leads-happens h ok (Asks_order i client number payload) low = leads-at h ok i (Gets (F.wrap (record { from = 255; epoch = 0; body = OfRequest (request_of s client number payload) }))) (request-comes h ok i low (request_of s client number payload))
+  leads-happens h ok (Asks_order i client number payload) low =
+      leads-at h ok i (Gets (F.wrap (record { from = 255; epoch = 0; body = OfRequest (request_of s client number payload) })))
+      (request-comes h ok i low (request_of s client number payload))
   leads-happens h ok (Propose i) low = leads-at h ok i Proposes (record { low = is-node i low; legit = λ st. tt })
   leads-happens h ok (Times_out i l) low = leads-at h ok i (Fires l) (record { low = is-node i low; legit = λ st. tt })
   leads-happens h ok (Deliver k) low = leads-delivers h ok k (nth h.net.network.packets k) refl

@@ -1,7 +1,7 @@
 -- An event at one core leads on: what a run holds stays what moves of a cluster lead to.
 use Rattle.std.proofs.Common.{◌≡◌, ◌≢◌, ◌⊎◌, inl, inr, ℕ, ◌<◌, suc, Bool, true, false, cond, List, [], ◌∷◌, ◌++◌, Option, Some, None, refl, sym, ap, ◌∙◌, subst, true≢false}
-use Rattle.iss_base.specs.Lists.{Extends, In, over}
-use Rattle.iss_base.proofs.Lists.{eqb-same, extends-refl, in_append, in_left, in_right, same_or_not, set_at-other, set_at-same}
+use Rattle.iss_base.specs.Lists.{In, over}
+use Rattle.iss_base.proofs.Lists.{eqb-same, in_append, in_left, in_right, same_or_not, set_at-other, set_at-same}
 use Rattle.iss_network.specs.Network.{Network}
 use Rattle.iss_network.specs.declared.packets.Sent.{Sent}
 use Rattle.iss_request.specs.Fields.{IsReadAgain}
@@ -18,26 +18,26 @@ use Rattle.iss_model.specs.declared.causes.NodeEvent.{NodeEvent}
 use Rattle.iss_model.specs.declared.causes.NodeEvent.TheVariants.{Packet as Gets, Propose as Proposes, Timeout as Fires}
 use Rattle.iss_model.specs.Cluster.{Cluster, IsBooked, IsOneOf, IsOwn, IsVerified, Message, MayGet, MayTake, Names, Reach, Signed, ends, move, rest}
 use Rattle.iss_model.specs.Ends.{AreBooked}
-use Rattle.iss_model.specs.Node.{Body, Core, Dropped, Early, Formats, OfModule, Parcel, Stepped, Taken, Turn, all_verify, claims_of_input, inputs, own_claims, packed, rests, settles, step, verdict_in}
+use Rattle.iss_model.specs.Node.{Body, Core, Dropped, Early, Formats, OfModule, Parcel, Stepped, Taken, Turn, all_verify, inputs, own_claims, packed, rests, settles, step, verdict_in}
 use Rattle.iss_model.specs.Ordered.{Among, IsSoundRules}
 use Rattle.iss_model.specs.Past.{Past, advanced, before, is_complete, leads_in, log_of, made_in, params_of, takes}
 use Rattle.iss_model.specs.Rules.{Rules}
-use Rattle.iss_model.specs.Run.{End, Happening, Held, after_step, as_signed, at_core, booked, by_collision, by_forged, claims_at, collision_in, cores_of, early_of, first_forged, node_of, posted_all, turned_to}
+use Rattle.iss_model.specs.Run.{End, Held, after_step, as_signed, at_core, booked, by_collision, by_forged, claims_at, collision_in, early_of, first_forged, node_of, posted_all, turned_to}
 use Rattle.iss_model.specs.Runs.{IsFaithful, pasts_of}
 use Rattle.iss_model.specs.Sound.{AreWindows, IsReadyCore, carried}
 use Rattle.iss_model.specs.Views.{claims_of_body, claims_of_parcel}
 use Rattle.iss_model.proofs.Booked.{ends-booked, takes-booked}
-use Rattle.iss_model.proofs.Casts.{cast-fit, cast-read, casting-ready, early-ready, ends-ready, inputs-ready, step-grown, step-ready}
+use Rattle.iss_model.proofs.Casts.{cast-fit, cast-read, casting-ready, ends-ready, inputs-ready, step-ready}
 use Rattle.iss_model.proofs.Ending.{HasSlots}
 use Rattle.iss_model.proofs.Fits.{AreSent as AreSentBy, Fits as FitsBy, IsNamed as IsNamedBy, IsPosted as IsPostedBy, more-posted, view}
 use Rattle.iss_model.proofs.Posts.{posted-append, posted-in, told, told-is}
 use Rattle.iss_model.proofs.Rows.{IsFit, claims_early, settles-holds, then_ends, then_reads, then_takes}
 use Rattle.iss_model.proofs.Statements.{leader-far}
-use Rattle.iss_model.proofs.Steps.{IsInput, Took, asked, cast, casting, fired, kept, next_batch, received, took}
+use Rattle.iss_model.proofs.Steps.{Took, asked, cast, casting, fired, kept, next_batch, received, took}
 use Rattle.iss_model.proofs.Tests.{booked-first, booked-last, booked-split, each-verifies, over-append, over-new, over-old, own-is, separate-more, unforged}
 use Rattle.iss_model.proofs.Told.{AreTold, took-told}
-use Rattle.iss_model.proofs.Twins.{addressee-core, core-correct, core-low, correct-is, correct-low, faultless, leader-below}
-use Rattle.iss_model.proofs.Unvoted.{Grows, grows-same, unvoted, unvoted-strings}
+use Rattle.iss_model.proofs.Twins.{addressee-core, core-correct, core-low, correct-is, correct-below, faultless, leader-below}
+use Rattle.iss_model.proofs.Unvoted.{unvoted, unvoted-strings}
 
 module _ {Msg : Type 0} (s : Setup) (F : Formats Msg) (R : Rules) (M : Module Msg) (sound : IsSoundRules s M R) (faithful : IsFaithful s F M)
     (law : IsLawful M) (windows : AreWindows R) where
@@ -61,7 +61,8 @@ module _ {Msg : Type 0} (s : Setup) (F : Formats Msg) (R : Rules) (M : Module Ms
       let p = R.params bf e l in
       let n = law.names p from msg c h in
       subst (λ (t : Setup). Names t M e l c.statement) (sound.setup bf e l)
-      (subst (λ (d : ℕ). Names p.setup M d l c.statement) (sound.epoch bf e l) (subst (λ (k : ℕ). Names p.setup M p.epoch.0 k c.statement) (sound.leader bf e l) n))
+      (subst (λ (d : ℕ). Names p.setup M d l c.statement) (sound.epoch bf e l)
+      (subst (λ (k : ℕ). Names p.setup M p.epoch.0 k c.statement) (sound.leader bf e l) n))
 
   slots : HasSlots R
   slots = record { some = sound.some_slots; most = sound.most }
@@ -107,7 +108,7 @@ module _ {Msg : Type 0} (s : Setup) (F : Formats Msg) (R : Rules) (M : Module Ms
         let none : M.stopping ≡ true → ⊥ = λ st. true≢false (sym (core-correct s (faultless s R M sound st) i (low st)) ∙ faulty) in
         let unsigned : (x : Signed) → In x (booked s i t.own) → ⊥ = λ x k. subst (λ (b : Bool). In x (cond b (as_signed t.own) [])) faulty k in
         let old : (x : Signed) → In x (booked s i t.own ++ h.signed) → In x h.signed =
-            λ x k. elim (in_append x (booked s i t.own) h.signed k) [ inl a ↦ absurd (unsigned x a) | inr b ↦ b ] in
+        λ x k. elim (in_append x (booked s i t.own) h.signed k) [ inl a ↦ absurd (unsigned x a) | inr b ↦ b ] in
         record {
           messages = ok.messages;
           posted = λ st. absurd (none st);
@@ -156,7 +157,8 @@ module _ {Msg : Type 0} (s : Setup) (F : Formats Msg) (R : Rules) (M : Module Ms
         reach = k.reach;
         posted = k.posted;
         root = root-of t;
-        cores = each-core (λ j d. IsReadyCore R M (node_of s j) d) t (subst (λ (n : ℕ). IsReadyCore R M n t.core) (sym (correct-is s i correct)) k.ready) ok.cores;
+        cores = each-core (λ j d. IsReadyCore R M (node_of s j) d) t
+            (subst (λ (n : ℕ). IsReadyCore R M n t.core) (sym (correct-is s i correct)) k.ready) ok.cores;
         told = each-core (λ j d. AreTold s M d) t told ok.told;
         sent = λ st. each-core (λ j d. AreSent k.messages j d) t (k.early st) (λ j x m. k.old _ (ok.sent st j x m));
         named = λ x m. elim (in_append x (booked s i t.own) h.signed m) [ inl a ↦ k.named x a | inr b ↦ ok.named x b ];
@@ -197,7 +199,9 @@ module _ {Msg : Type 0} (s : Setup) (F : Formats Msg) (R : Rules) (M : Module Ms
       more-signed : (book : List Signed) → ((x : Signed) → In x h.signed → In x book) → (p : Params) (from : ℕ) (msg : Msg) →
           IsCredible M p (IsVerified R) (IsBooked h.signed) from msg → IsCredible M p (IsVerified R) (IsBooked book) from msg
       more-signed book sub p from msg k = record {
-        named = k.named; read = k.read; verified = k.verified;
+        named = k.named;
+        read = k.read;
+        verified = k.verified;
         signed = λ d m good. sub (record { by = d.by.0; statement = d.statement }) (k.signed d m good);
       }
 
@@ -217,7 +221,8 @@ module _ {Msg : Type 0} (s : Setup) (F : Formats Msg) (R : Rules) (M : Module Ms
       may-take t k l Timeout fit m = tt
 
       -- an input is taken in the instance of l
-      takes-fits : (t : Turn Msg) (l : ℕ) (input : Input Msg) → Turned t → IsFit F R M i t.core l input → Comes t l input → Turned (then_takes F R M i t l input)
+      takes-fits : (t : Turn Msg) (l : ℕ) (input : Input Msg) → Turned t → IsFit F R M i t.core l input → Comes t l input →
+          Turned (then_takes F R M i t l input)
       takes-fits t l input k fit come =
           let d : Past Msg = t.core.past in
           let e : ℕ = d.epoch in
@@ -229,22 +234,25 @@ module _ {Msg : Type 0} (s : Setup) (F : Formats Msg) (R : Rules) (M : Module Ms
           let fresh : List (Message Msg) = told s i e l made.sends in
           let net : Network = posted_all s h.net.network i t.sends in
           let is_own : (x : Signed) → In x (booked s i own) → IsOwn M p i made.sends x =
-              λ x m. own-is M p i made.sends x (subst (λ (b : Bool). In x (cond b (as_signed own) [])) correct m) in
+          λ x m. own-is M p i made.sends x (subst (λ (b : Bool). In x (cond b (as_signed own) [])) correct m) in
           let is_named : (x : Signed) → IsOwn M p i made.sends x → IsNamed x = λ x o. record {
-            epoch = e; leader = l; far = leader-far s M R sound bf e l fit.leads;
+            epoch = e;
+            leader = l;
+            far = leader-far s M R sound bf e l fit.leads;
             names = subst (λ (y : Signed). Names s M e l y.statement) (sym o.is) (claim-names bf e l i o.msg o.claim o.made);
           } in
           let over-both : over u.strings h.hashed ≡ over made.strings (over t.strings h.hashed) = over-append t.strings made.strings h.hashed in
           let fresh_string : (x : List ℕ) → In x made.strings → In x (over u.strings h.hashed) =
-              λ x m. subst (λ (xs : List (List ℕ)). In x xs) (sym over-both) (over-new x made.strings (over t.strings h.hashed) m) in
+          λ x m. subst (λ (xs : List (List ℕ)). In x xs) (sym over-both) (over-new x made.strings (over t.strings h.hashed) m) in
           let old_string : (x : List ℕ) → In x (over t.strings h.hashed) → In x (over u.strings h.hashed) =
-              λ x m. subst (λ (xs : List (List ℕ)). In x xs) (sym over-both) (over-old x made.strings (over t.strings h.hashed) m) in
-          let older : (x : Signed) → In x (booked s i t.own ++ h.signed) → In x (booked s i u.own ++ h.signed) = λ x m. elim (in_append x (booked s i t.own) h.signed m) [
+          λ x m. subst (λ (xs : List (List ℕ)). In x xs) (sym over-both) (over-old x made.strings (over t.strings h.hashed) m) in
+          let older : (x : Signed) → In x (booked s i t.own ++ h.signed) → In x (booked s i u.own ++ h.signed) =
+          λ x m. elim (in_append x (booked s i t.own) h.signed m) [
             | inl a ↦ in_left x (booked s i u.own) h.signed (booked-first s i t.own own x a)
             | inr b ↦ in_right x (booked s i u.own) h.signed b
           ] in
           let newer : (x : Signed) → In x (as_signed own) → In x (booked s i u.own ++ h.signed) = λ x m.
-              in_left x (booked s i u.own) h.signed (booked-last s i t.own own x (subst (λ (b : Bool). In x (cond b (as_signed own) [])) (sym correct) m)) in
+          in_left x (booked s i u.own) h.signed (booked-last s i t.own own x (subst (λ (b : Bool). In x (cond b (as_signed own) [])) (sym correct) m)) in
           record {
             messages = fresh ++ k.messages;
             reach = move i l input t.core.leaf k.reach (record {
@@ -256,7 +264,8 @@ module _ {Msg : Type 0} (s : Setup) (F : Formats Msg) (R : Rules) (M : Module Ms
               other = λ j ne. past-there u j ne ∙ sym (past-there t j ne);
               messages = λ st m z. there t (λ (y : Past Msg). IsOneOf i y.epoch l (made_in R M i y l input t.core.leaf).sends m ⊎ In m k.messages)
                   (elim (in_append m fresh k.messages z) [ inl a ↦ inl (told-is s (faultless s R M sound st) i e l made.sends m a) | inr b ↦ inr b ]);
-              book = λ x m. there t (λ (y : Past Msg). IsOwn M (params_of R M i y l) i (made_in R M i y l input t.core.leaf).sends x ⊎ In x (booked s i t.own ++ h.signed))
+              book = λ x m. there t
+                  (λ (y : Past Msg). IsOwn M (params_of R M i y l) i (made_in R M i y l input t.core.leaf).sends x ⊎ In x (booked s i t.own ++ h.signed))
                   (elim (in_append x (booked s i u.own) h.signed m) [
                     | inl a ↦ elim (booked-split s i t.own own x a) [ inl y ↦ inr (in_left x (booked s i t.own) h.signed y) | inr y ↦ inl (is_own x y) ]
                     | inr b ↦ inr (in_right x (booked s i t.own) h.signed b)
@@ -269,7 +278,7 @@ module _ {Msg : Type 0} (s : Setup) (F : Formats Msg) (R : Rules) (M : Module Ms
             });
             posted = λ st q m.
                 let m2 : In q (posted_all s net i (packed F i e l made.sends)).packets =
-                    subst (λ (v : Network). In q v.packets) (posted-append s h.net.network i t.sends (packed F i e l made.sends)) m in
+                subst (λ (v : Network). In q v.packets) (posted-append s h.net.network i t.sends (packed F i e l made.sends)) m in
                 elim (posted-in s F i e l made.sends net q m2) [
                   | inl a ↦ more-posted s F R M fresh k.messages q (k.posted st q a)
                   | inr r ↦ record {
@@ -277,7 +286,7 @@ module _ {Msg : Type 0} (s : Setup) (F : Formats Msg) (R : Rules) (M : Module Ms
                     epoch = e;
                     leader = l;
                     msg = r.msg;
-                    low_from = correct-low s i correct;
+                    low_from = correct-below s i correct;
                     low_leader = leader-below s R M sound bf e l fit.leads;
                     low_to = core-low s (faultless s R M sound st) q.to (addressee-core s r.to q.to r.addressed);
                     bytes = r.bytes;
@@ -286,7 +295,8 @@ module _ {Msg : Type 0} (s : Setup) (F : Formats Msg) (R : Rules) (M : Module Ms
                 ];
             ready = inputs-ready F R M i t.core l input k.ready;
             named = λ x m. elim (booked-split s i t.own own x m) [ inl a ↦ k.named x a | inr b ↦ is_named x (is_own x b) ];
-            booked = takes-booked R M i t.core k.ready.sound l input t.core.leaf (booked s i u.own ++ h.signed) (λ a b y z x o. older x (k.booked a b y z x o)) newer;
+            booked = takes-booked R M i t.core k.ready.sound l input t.core.leaf (booked s i u.own ++ h.signed)
+                (λ a b y z x o. older x (k.booked a b y z x o)) newer;
             early = λ st x m. in_right _ fresh k.messages (k.early st x m);
             old = λ m z. in_right m fresh k.messages (k.old m z);
           }
@@ -317,13 +327,20 @@ module _ {Msg : Type 0} (s : Setup) (F : Formats Msg) (R : Rules) (M : Module Ms
 
       reads-fits : (t : Turn Msg) (claims : List Claim) → Turned t → Turned (then_reads F R M i t claims)
       reads-fits t claims k = record {
-        messages = k.messages; reach = k.reach; posted = k.posted; ready = k.ready; named = k.named; booked = k.booked; early = k.early; old = k.old;
+        messages = k.messages;
+        reach = k.reach;
+        posted = k.posted;
+        ready = k.ready;
+        named = k.named;
+        booked = k.booked;
+        early = k.early;
+        old = k.old;
       }
 
       -- a message that was read is credible in an instance where its claims verify and none of them is forged
       credible : (d : Past Msg) (l from : ℕ) (msg : Msg) → from < s.n → IsReadAgain (M.spell s.version) (M.parse s.version) msg →
           ((y : Claim) → In y (M.claims (params_of R M i d l) from msg) → R.verifies y.by.0 y.statement y.sig ≡ true → is_correct s y.by.0 ≡ true →
-              In (record { by = y.by.0; statement = y.statement }) h.signed) →
+          In (record { by = y.by.0; statement = y.statement }) h.signed) →
           all_verify R (M.claims (params_of R M i d l) from msg) ≡ true → Credible d l from msg
       credible d l from msg low read unf ver =
           let p : Params = params_of R M i d l in
@@ -341,14 +358,16 @@ module _ {Msg : Type 0} (s : Setup) (F : Formats Msg) (R : Rules) (M : Module Ms
         AreRead t = (y : Claim) → In y t.early → In y reads
 
         -- what is settled, of a core of this epoch
-        settled-fits : (u : Turn Msg) → Turned u → u.core.early ≡ c.early → u.core.past.epoch ≡ c.past.epoch → AreRead (settles F R M i u) → Turned (settles F R M i u)
+        settled-fits : (u : Turn Msg) → Turned u → u.core.early ≡ c.early → u.core.past.epoch ≡ c.past.epoch → AreRead (settles F R M i u) →
+            Turned (settles F R M i u)
         settled-fits u k early epoch read =
             settles-holds F R M i Turned Comes (λ t l input z fit come. takes-fits t l input z fit come) (λ t z complete. ends-fits t z complete) reads-fits u k
             (λ complete v x m z q r.
             let was : In x c.early = subst (λ (xs : List (Early Msg)). In x xs) early m in
             let told = ok.told i x was in
             let next : v.core.past.epoch ≡ suc c.past.epoch = q ∙ ap (λ (n : ℕ). suc n) epoch in (
-              λ st. subst (λ (n : ℕ). In (record { from = x.from; to = i; epoch = n; leader = x.leader; msg = x.msg }) ok.messages) (sym next) (ok.sent st i x was),
+              λ st. subst (λ (n : ℕ). In (record { from = x.from; to = i; epoch = n; leader = x.leader; msg = x.msg }) ok.messages) (sym next)
+                  (ok.sent st i x was),
               λ leads ver.
                   let p : Params = params_of R M i v.core.past x.leader in
                   let are : claims_early F R M i v.core x ≡ M.claims p x.from x.msg = ap (λ (b : Bool). cond b (M.claims p x.from x.msg) []) leads in
@@ -373,16 +392,16 @@ module _ {Msg : Type 0} (s : Setup) (F : Formats Msg) (R : Rules) (M : Module Ms
             let told = faithful.told bytes k l msg un b in
             let p : Params = params_of R M i c.past l in
             let are : claims_at F R M i c (Gets bytes) ≡ M.claims p k.from msg =
-                ap (λ (o : Option (Parcel Msg)). claims_of_parcel R M i c o) un ∙
-                (ap (λ (y : Body Msg). claims_of_body R M i c k.from k.epoch y) b ∙
-                (ap (λ (n : ℕ). claims_of_body R M i c k.from n (OfModule l msg)) e ∙ here l msg k.from inp.leads)) in
+            ap (λ (o : Option (Parcel Msg)). claims_of_parcel R M i c o) un ∙
+            (ap (λ (y : Body Msg). claims_of_body R M i c k.from k.epoch y) b ∙
+            (ap (λ (n : ℕ). claims_of_body R M i c k.from n (OfModule l msg)) e ∙ here l msg k.from inp.leads)) in
             let sent : M.stopping ≡ true → In (record { from = k.from; to = i; epoch = c.past.epoch; leader = l; msg = msg }) ok.messages =
-                λ st. subst (λ (n : ℕ). In (record { from = k.from; to = i; epoch = n; leader = l; msg = msg }) ok.messages) e (comes.legit st k l msg un b) in
+            λ st. subst (λ (n : ℕ). In (record { from = k.from; to = i; epoch = n; leader = l; msg = msg }) ok.messages) e (comes.legit st k l msg un b) in
             let cred : leads_in R M i c.past l ≡ true → all_verify R (M.claims p k.from msg) ≡ true → Credible c.past l k.from msg =
-                λ leads ver. credible c.past l k.from msg told.0 told.1
-                (λ y n v good. unforged s R h.signed reads unf y (first y (subst (λ (ys : List Claim). In y ys) (sym are) n)) v good) ver in
+            λ leads ver. credible c.past l k.from msg told.0 told.1
+            (λ y n v good. unforged s R h.signed reads unf y (first y (subst (λ (ys : List Claim). In y ys) (sym are) n)) v good) ver in
             subst Turned (sym q) (input-fits c l (Receive (record { 0 = k.from }) msg) u refl refl (base was)
-                (record { leads = inp.leads; claims = inp.claims; leaves = inp.leaves; judged = inp.judged }) (sent, cred) inp.is (subst AreRead q read))
+            (record { leads = inp.leads; claims = inp.claims; leaves = inp.leaves; judged = inp.judged }) (sent, cred) inp.is (subst AreRead q read))
           where
             here : (l : ℕ) (msg : Msg) (from : ℕ) → leads_in R M i c.past l ≡ true →
                 claims_of_body R M i c from c.past.epoch (OfModule l msg) ≡ M.claims (params_of R M i c.past l) from msg
@@ -394,23 +413,28 @@ module _ {Msg : Type 0} (s : Setup) (F : Formats Msg) (R : Rules) (M : Module Ms
             let early : M.stopping ≡ true → AreSent ok.messages i (record c { early = c.early ++ x ∷ [] }) = λ st y m. elim (in_append y c.early (x ∷ []) m) [
               | inl a ↦ ok.sent st i y a
               | inr a ↦ elim a [
-                | inl z ↦ rw z (subst (λ (n : ℕ). In (record { from = k.from; to = i; epoch = n; leader = l; msg = msg }) ok.messages) e (comes.legit st k l msg un b))
+                | inl z ↦ rw z (subst (λ (n : ℕ). In (record { from = k.from; to = i; epoch = n; leader = l; msg = msg }) ok.messages) e
+                    (comes.legit st k l msg un b))
                 | inr none ↦ absurd none
               ]
             ] in
-            subst Turned (sym r.is) (still-fits (record c { early = c.early ++ x ∷ [] }) refl (subst (λ (z : Turn Msg). IsReadyCore R M i z.core) r.is core) early)
+            subst Turned (sym r.is)
+            (still-fits (record c { early = c.early ++ x ∷ [] }) refl (subst (λ (z : Turn Msg). IsReadyCore R M i z.core) r.is core) early)
         took-fits event t comes first read was core (asked k q un b r) =
-            subst Turned (sym r.is) (still-fits (record c { waiting = c.waiting ++ q ∷ [] }) refl (subst (λ (z : Turn Msg). IsReadyCore R M i z.core) r.is core) (λ st. ok.sent st i))
+            subst Turned (sym r.is)
+            (still-fits (record c { waiting = c.waiting ++ q ∷ [] }) refl (subst (λ (z : Turn Msg). IsReadyCore R M i z.core) r.is core)
+            (λ st. ok.sent st i))
         took-fits event t comes first read was core (cast n u r q) =
             let d : Core Msg = casting F R M i c n in
             let batch : Batch = next_batch F R M i c in
             let read_batch = cast-read R M i c F s (params_of R M i c.past i) (sound.setup _ _ _) sound.batch
-                (λ y m. was.spelled y (in_left y c.waiting (carried c.flight) m)) in
+            (λ y m. was.spelled y (in_left y c.waiting (carried c.flight) m)) in
             let base2 : Turned (rests d) = still-fits d refl (casting-ready F R M i c n was) (λ st. ok.sent st i) in
-            subst Turned (sym q) (input-fits d i (Cast n batch) u refl refl base2 (cast-fit R M i c was.sound F law n u r) (refl, read_batch) r.is (subst AreRead q read))
+            subst Turned (sym q)
+            (input-fits d i (Cast n batch) u refl refl base2 (cast-fit R M i c was.sound F law n u r) (refl, read_batch) r.is (subst AreRead q read))
         took-fits event t comes first read was core (fired l u inp q) =
             subst Turned (sym q) (input-fits c l.0 Timeout u refl refl (base was)
-                (record { leads = inp.leads; claims = inp.claims; leaves = inp.leaves; judged = inp.judged }) tt inp.is (subst AreRead q read))
+            (record { leads = inp.leads; claims = inp.claims; leaves = inp.leaves; judged = inp.judged }) tt inp.is (subst AreRead q read))
 
     turn-fits : (event : NodeEvent) (t : Turn Msg) → Comes-in event → first_forged s R h.signed (claims_at F R M (node_of s i) c event ++ t.early) ≡ None →
         step F R M (node_of s i) c event ≡ Taken t → Separate (Among (over t.strings h.hashed)) → Fits (turned_to s h i t)
@@ -432,7 +456,8 @@ module _ {Msg : Type 0} (s : Setup) (F : Formats Msg) (R : Rules) (M : Module Ms
             let first = claims_at F R M i c event in
             took-fits correct (first ++ t.early) (subst (λ (n : ℕ). first_forged s R h.signed (claims_at F R M n c event ++ t.early) ≡ None) e unf)
             event t comes (λ y m. in_left y first t.early m) (λ y m. in_right y first t.early m)
-            (subst (λ (n : ℕ). IsReadyCore R M n c) e was) (subst (λ (n : ℕ). IsReadyCore R M n t.core) e core) (subst (λ (n : ℕ). Took F R M n c event t) e did)
+            (subst (λ (n : ℕ). IsReadyCore R M n c) e was) (subst (λ (n : ℕ). IsReadyCore R M n t.core) e core)
+            (subst (λ (n : ℕ). Took F R M n c event t) e did)
 
         go : (b : Bool) → is_correct s i ≡ b → Fits (turned_to s h i t)
         go true good = turned-fits good t (as_node good (node_of s i) (correct-is s i good) (ok.cores i) core did unf) told sep
@@ -460,35 +485,3 @@ module _ {Msg : Type 0} (s : Setup) (F : Formats Msg) (R : Rules) (M : Module Ms
 
         stepped : (o : Stepped Msg) → step F R M (node_of s i) c event ≡ o → Fits (by_forged (first_forged s R h.signed (reads o)) h (after_step s h i o)).held
         stepped o st = forged (first_forged s R h.signed (reads o)) o st refl
-
-  pub same-net : (w v : Held Msg) → v.net.cores ≡ w.net.cores → Grows s R M w.net v.net
-  same-net w v q = grows-same s R M w.net v.net (λ j. ap (λ (f : ℕ → Core Msg). (f j).past) q)
-
-  -- what was taken makes logs longer, or leaves them as they are
-  pub at-grows : (h : Held Msg) → Fits h → (i : ℕ) (event : NodeEvent) → Grows s R M h.net (at_core s F R M h i event).held.net
-  at-grows h ok i event = forged (first_forged s R h.signed _) (step F R M (node_of s i) (h.net.cores i) event) refl
-    where
-      grown : (t : Turn Msg) → step F R M (node_of s i) (h.net.cores i) event ≡ Taken t → Grows s R M h.net (turned_to s h i t).net
-      grown t q = record {
-        logs = λ j good. elim (same_or_not j i) [
-          | inl z ↦
-              let good2 : is_correct s i ≡ true = subst (λ (n : ℕ). is_correct s n ≡ true) z good in
-              let is : node_of s i ≡ i = correct-is s i good2 in
-              let longer = subst (λ (n : ℕ). Extends (log_of R M n (h.net.cores i).past) (log_of R M n t.core.past)) is
-                  (step-grown F R M (node_of s i) slots windows (h.net.cores i) event t (ok.cores i).sound q) in
-              rw (z, past-here h ok i t) longer
-          | inr ne ↦ rw (past-there h ok i t j ne) (extends-refl (log_of R M j (pasts_of h.net j)))
-        ];
-      }
-
-      collided : (o : Option End) (t : Turn Msg) → step F R M (node_of s i) (h.net.cores i) event ≡ Taken t → Grows s R M h.net (by_collision o h (turned_to s h i t)).held.net
-      collided (Some end) t q = same-net h h refl
-      collided None t q = grown t q
-
-      after : (o : Stepped Msg) → step F R M (node_of s i) (h.net.cores i) event ≡ o → Grows s R M h.net (after_step s h i o).held.net
-      after (Dropped why) q = same-net h h refl
-      after (Taken t) q = collided (collision_in t.strings h.hashed) t q
-
-      forged : (f : Option Claim) (o : Stepped Msg) → step F R M (node_of s i) (h.net.cores i) event ≡ o → Grows s R M h.net (by_forged f h (after_step s h i o)).held.net
-      forged (Some claim) o q = same-net h h refl
-      forged None o q = after o q

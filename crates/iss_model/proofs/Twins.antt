@@ -1,5 +1,5 @@
 -- Cores and nodes: a correct core is a node, and where nodes only stop each core is one, and is correct.
-use Rattle.std.proofs.Common.{◌≡◌, inl, inr, ℕ, zero, suc, ◌+◌, ◌-◌, ◌<◌, Bool, true, false, cond, not, List, [], ◌∷◌, ◌++◌, length, refl, sym, ap, ◌∙◌, subst, arith, nat_lt}
+use Rattle.std.proofs.Common.{◌≡◌, inl, inr, ℕ, zero, suc, ◌-◌, ◌<◌, Bool, true, false, cond, not, List, [], ◌∷◌, length, refl, sym, ap, ◌∙◌, subst, arith, nat_lt}
 use Rattle.std.proofs.lemmas.Bool.Decides.{leb_tells}
 use Rattle.std.proofs.lemmas.Bool.{ltb-true}
 use Rattle.std.specs.List.{filter}
@@ -26,11 +26,11 @@ below-n i n lt = elim (leb_tells (suc i) n) [ inl t ↦ t.0 | inr t ↦ absurd (
 pub node-is : (s : Setup) (c : ℕ) → c < s.n → node_of s c ≡ c
 node-is s c lt = ap (λ (b : Bool). cond b c (number_at (nth s.faulty (c - s.n)))) (below-n c s.n lt)
 
-pub correct-low : (s : Setup) (c : ℕ) → is_correct s c ≡ true → c < s.n
-correct-low s c h = ltb-true c s.n (and-true (nat_lt c s.n) (not (has_node c s.faulty)) h).0
+pub correct-below : (s : Setup) (c : ℕ) → is_correct s c ≡ true → c < s.n
+correct-below s c h = ltb-true c s.n (and-true (nat_lt c s.n) (not (has_node c s.faulty)) h).0
 
 pub correct-is : (s : Setup) (c : ℕ) → is_correct s c ≡ true → node_of s c ≡ c
-correct-is s c h = node-is s c (correct-low s c h)
+correct-is s c h = node-is s c (correct-below s c h)
 
 in-filter : (p : ℕ → Bool) (xs : List ℕ) (x : ℕ) → In x (filter p xs) → In x xs × (p x ≡ true)
 in-filter p [] x h = absurd h
@@ -73,7 +73,8 @@ module _ {Msg : Type 0} (s : Setup) (R : Rules) (M : Module Msg) (sound : IsSoun
   faultless stops =
       let good : IsGoodParams M (params_at R []) = sound.good (before_at R []) (epoch_at R []) (leader_at R []) (sound.leads []) in
       let kind : (params_at R []).setup.kind ≡ Stopping = good.kind ∙ ap kind_of stops in
-      let none : (params_at R []).setup.faulty ≡ [] = subst (λ (k : Kind). IsFewFaulty k (params_at R []).setup.f (params_at R []).setup.faulty) kind good.setup.few_faulty in
+      let none : (params_at R []).setup.faulty ≡ [] =
+      subst (λ (k : Kind). IsFewFaulty k (params_at R []).setup.f (params_at R []).setup.faulty) kind good.setup.few_faulty in
       subst (λ (t : Setup). t.faulty ≡ []) (sound.setup (before_at R []) (epoch_at R []) (leader_at R [])) none
 
   pub leader-below : (log : List _) (e l : ℕ) → R.leads log e l ≡ true → l < s.n

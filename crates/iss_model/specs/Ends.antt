@@ -11,7 +11,7 @@ use Rattle.iss_model.specs.declared.causes.NodeEvent.{NodeEvent}
 use Rattle.iss_model.specs.Cluster.{IsOwn, Signed}
 use Rattle.iss_model.specs.Concrete.{rules_of}
 use Rattle.iss_model.specs.Formats.{formats_of}
-use Rattle.iss_model.specs.Node.{Core, Formats, Taken, Turn, step}
+use Rattle.iss_model.specs.Node.{Formats, Taken, Turn, step}
 use Rattle.iss_model.specs.OneLog.{pasts_after, run_after}
 use Rattle.iss_model.specs.Past.{Past, before}
 use Rattle.iss_model.specs.Rules.{Rules}
