@@ -1,3 +1,0 @@
-pub mod HeadlineLemmas
-pub mod PostLemmas
-pub mod RunningLemmas

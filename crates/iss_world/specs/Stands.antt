@@ -65,7 +65,7 @@ pub record AreFresh {M Msg : Type 0} (m : Module Msg) (stands : M → Params →
 -- the world stands for what is held: its run goes on, and memory was never wanting
 pub record StandsFor {M Msg : Type 0} (m : Module Msg) (stands : M → Params → ℕ → List (Item Msg) → Type 0) (v : WorldState M Msg) (h : Held Msg) : Type 0 where
   pub fresh : v.stale ≡ false
-  pub open : v.ended ≡ None
+  pub goes_on : v.ended ≡ None
   pub running : Runs m stands v.running h
 
 -- its run has ended so, and it shows what was held before

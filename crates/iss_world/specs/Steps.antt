@@ -29,11 +29,11 @@ ends_by s h t = first_of (forged_in (first_forged s (rules_of s) h.signed t.earl
 -- core c has taken a turn, of which nothing is tested, booked or posted yet: all else stands for what is held, where the core
 -- had so many slots, and was in this epoch
 pub record IsBehind {M Msg : Type 0} (m : Module Msg) (stands : M → Params → ℕ → List (Item Msg) → Type 0)
-    (v : RunningState M Msg) (h : Held Msg) (c : ℕ) (t : Turn Msg) (slots epoch : ℕ) : Type 0 where
+    (v : RunningState M Msg) (h : Held Msg) (c : ℕ) (t : Turn Msg) (slots at : ℕ) : Type 0 where
   pub cores : (i : ℕ) (g : NodeState M Msg) → slice_get v.nodes i ≡ Some g → Stands m stands g (set_at h.net.cores c t.core i)
   pub network : v.network ≡ h.net.network
   pub signed : AreSigned v.signed h.signed
   pub hashed : AreHashed v.hashed h.hashed
   pub log : (g : NodeState M Msg) → slice_get v.nodes c ≡ Some g →
       log_of (rules_of v.setup) m (node_of v.setup c) (h.net.cores c).past ≡ reverse (take slots g.parts.log.entries)
-  pub epoch : epoch ≡ (h.net.cores c).past.epoch
+  pub epoch : at ≡ (h.net.cores c).past.epoch
