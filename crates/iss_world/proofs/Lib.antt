@@ -1,0 +1,5 @@
+pub mod BookLemmas
+pub mod CoreLemmas
+pub mod KeyLemmas
+pub mod PostLemmas
+pub mod StepLemmas
