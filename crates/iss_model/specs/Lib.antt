@@ -14,3 +14,5 @@ pub mod OneLog
 pub mod Checkpoints
 pub mod Turns
 pub mod Views
+pub mod Ends
+pub mod Instances

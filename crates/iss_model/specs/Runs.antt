@@ -1,5 +1,5 @@
 -- What a run of a module takes: its set-up, its formats, and where its events happen.
-use Rattle.std.specs.Prelude.{◌≡◌, ◌⊎◌, ℕ, ◌<◌, List, [], ◌∷◌, ◌++◌, Some, None, reverse}
+use Rattle.std.specs.Prelude.{◌≡◌, ◌⊎◌, ℕ, ◌<◌, List, [], ◌∷◌, ◌++◌, Some, None}
 use Rattle.iss_request.specs.Fields.{IsReadAgain}
 use Rattle.iss_request.specs.Formats.{HasSpelling}
 use Rattle.iss_request.specs.Setup.{IsGoodSetup}

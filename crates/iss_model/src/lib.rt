@@ -6,4 +6,7 @@ pub mod causes;
 pub mod theorems;
 
 pub use causes::{NodeEvent, Refusal, Why};
-pub use theorems::{cluster_runs, composition, requests_are_conserved, requests_are_signed};
+pub use theorems::{
+    claims_are_of_one_instance, cluster_runs, composition, requests_are_conserved,
+    requests_are_signed, runs_end_with_evidence,
+};

@@ -1,13 +1,19 @@
 //! The theorems of the whole, each as a call without a body: who calls it may use what it says.
-ghost use Rattle.std.specs.Prelude.{◌≡◌, ◌<◌, ◌≤◌, ◌^◌, ℕ, true, List, length};
+ghost use Rattle.std.specs.Prelude.{◌≡◌, ◌<◌, ◌≤◌, ◌^◌, ℕ, true, List, ◌++◌, length};
+ghost use Rattle.iss_base.specs.Lists.{In};
 ghost use Rattle.iss_request.specs.Setup.{IsGoodSetup};
 ghost use Rattle.iss_request.specs.declared.setups.Setup.{Setup};
 ghost use Rattle.iss_sb.specs.Evidence.{Separate};
+ghost use Rattle.iss_sb.specs.Statements.{head_of};
+ghost use Rattle.iss_sb.specs.declared.effects.Claim.{Claim};
+ghost use Rattle.iss_sb.specs.declared.effects.Params.{Params};
 ghost use Rattle.iss_schedule.specs.declared.schedules.Event.{Event};
 ghost use Rattle.iss_model.specs.Checkpoints.{scheme_of};
 ghost use Rattle.iss_model.specs.Cluster.{Cluster, Reach, Scheme};
 ghost use Rattle.iss_model.specs.Concrete.{rules_of};
 ghost use Rattle.iss_model.specs.Conserved.{AcceptsOnce, IsConserved};
+ghost use Rattle.iss_model.specs.Ends.{HasEvidence};
+ghost use Rattle.iss_model.specs.Instances.{IsInstance};
 ghost use Rattle.iss_model.specs.OneLog.{IsClusterRun, IsOneLog};
 ghost use Rattle.iss_model.specs.Ordered.{Among, IsExact, IsSoundRules, Ordered};
 ghost use Rattle.iss_model.specs.Rules.{Rules};
@@ -34,6 +40,29 @@ pub fn composition<M: Sequenced>()
 pub fn cluster_runs<M: Sequenced>()
     ensures reached { (s : Setup) → IsSetupOf M.meaning s → (events : List Event) → AreAtCores s events → IsClusterRun s M.meaning events }
     ensures one_log { (s : Setup) → IsSetupOf M.meaning s → (events : List Event) → AreAtCores s events → IsOneLog s M.meaning events }
+{
+    M::laws();
+}
+
+/// A run ends with evidence. A forged claim verifies under the key of a correct node that never sent it; a collision is of two
+/// different strings of one digest, of which one was hashed before the other. What comes later changes nothing, and the book
+/// misses no claim that a correct node sent of its own.
+pub fn runs_end_with_evidence<M: Sequenced>()
+    ensures { (s : Setup) → IsSetupOf M.meaning s → (events : List Event) → AreAtCores s events → HasEvidence s M.meaning events }
+{
+    M::laws();
+}
+
+/// What a node signed in one instance says nothing in another. Claims of one statement are of one epoch and leader, and of one
+/// cluster (`one`); and a statement that begins with a head is a claim of no instance but the one which that head names, nor of
+/// another module (`head`). The digests of clusters are of one length.
+pub fn claims_are_of_one_instance<M: Sequenced>()
+    ensures one { (p q : Params) (i j : ℕ) (a b : M.Msg) (c d : Claim) → In c (M.meaning.claims p i a) → In d (M.meaning.claims q j b) →
+        length p.setup.tag ≡ length q.setup.tag → c.statement ≡ d.statement →
+        IsInstance q M.meaning.tag p.setup.tag p.epoch.0 p.leader.0 M.meaning.tag }
+    ensures head { (p : Params) (i : ℕ) (a : M.Msg) (c : Claim) → In c (M.meaning.claims p i a) →
+        (cluster : List ℕ) (e l tag : ℕ) (rest : List ℕ) → length cluster ≡ length p.setup.tag →
+        c.statement ≡ head_of cluster e l tag ++ rest → IsInstance p M.meaning.tag cluster e l tag }
 {
     M::laws();
 }
