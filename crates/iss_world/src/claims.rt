@@ -1,11 +1,12 @@
 //! The book of what correct nodes sent as signed of their own, and what is tested against it.
-ghost use Rattle.std.specs.Prelude.{◌≡◌, ◌∷◌, ◌++◌, [], List, IfOk, OnOk, Some, nat_eq, refl};
+ghost use Rattle.std.specs.Prelude.{◌≡◌, ◌==◌, ◌∷◌, ◌++◌, [], List, IfOk, OnOk, Some, nat_eq, refl};
+ghost use Rattle.std.specs.List.{list_any};
 ghost use Rattle.std.specs.Cmp.Lexicographic.{pointwise, slice_cmp, nat_list_eq_equiv, nat_list_cmp_total, texts_ties, texts_po};
 ghost use Rattle.std.specs.Cmp.{partial_equiv_from_equiv};
 ghost use Rattle.std.specs.Ordering.{nat_cmp};
 ghost use Rattle.iss_model.specs.Cluster.{Signed};
 ghost use Rattle.iss_model.specs.Concrete.{keys_of, rules_of};
-ghost use Rattle.iss_model.specs.Run.{as_signed, first_forged, is_forged};
+ghost use Rattle.iss_model.specs.Run.{as_signed, booked, first_forged, is_forged};
 ghost use Rattle.iss_sb.specs.Evidence.{is_correct};
 ghost use Rattle.iss_world.specs.Books.{AreSigned, is_booked};
 
@@ -87,6 +88,14 @@ pub struct Claims {
     all: BTreeSet<Entry>,
 }
 
+impl Model for Claims {
+    ghost use Rattle.std.specs.Prelude.{ℕ, List};
+
+    ghost Value = { List (List ℕ) };
+
+    ghost view = { λ v. v.all.keys };
+}
+
 impl Claims {
     /// None was sent.
     pub fn new(alloc: Global) -> Claims
@@ -164,9 +173,32 @@ impl Claims {
     }
 }
 
+/// Books the claims of a core's step, if its node is correct.
+pub fn book_own(
+    alloc: Global,
+    setup: &Setup,
+    core: u32,
+    own: &[Claim],
+    signed: &mut Claims,
+) -> Result<(), NoMemory>
+    ensures { OnOk result ((book : List Signed) → AreSigned signed.old book → AreSigned signed.new (booked setup.now core own.now ++ book)) }
+{
+    if !is_correct(setup, core) {
+        return Ok(());
+    }
+    signed.book(alloc, own)
+}
+
+// Whether a node is one of these.
+fn is_among(nodes: &[NodeId], node: u32) -> bool
+    ensures { result ≡ list_any (λ k. node == k.0) nodes.now }
+{
+    nodes.iter().any(|other| node == other.0 as u32)
+}
+
 /// Whether a node is one that is not faulty.
 pub fn is_correct(setup: &Setup, node: u32) -> bool
     ensures { result ≡ is_correct setup.now node }
 {
-    node < setup.n && !setup.faulty.as_slice().iter().any(|faulty| faulty.0 as u32 == node)
+    node < setup.n && !is_among(setup.faulty.as_slice(), node)
 }

@@ -277,6 +277,9 @@ impl<M: Sequenced> Running<M> {
     pub fn node(&self, core: u32) -> &Node<M>
         requires { core < cores_of self.now.setup }
         ensures at { slice_get self.now.nodes core ≡ Some result.now }
+        ensures log { (h : Held M.Msg) → IsShown M.meaning M.stands self.now h →
+            log_of (rules_of self.now.setup) M.meaning (node_of self.now.setup core) (h.net.cores core).past ≡ reverse result.now.parts.log.entries }
+        ensures epoch { (h : Held M.Msg) → IsShown M.meaning M.stands self.now h → result.now.parts.epoch ≡ (h.net.cores core).past.epoch }
         ensures same { (result.now.parts.setup ≡ self.now.setup) × (result.now.parts.me.0 ≡ node_of self.now.setup core) }
     {
         &self.nodes[core as usize]

@@ -12,7 +12,7 @@ ghost use Rattle.iss_world.specs.Books.{AreHashed, AreSigned};
 ghost use Rattle.iss_world.specs.Stands.{HasChanged, IsStanding, Runs, end_of};
 ghost use Rattle.iss_world.specs.Steps.{IsBehind, ends_by, stepped_to};
 
-use crate::claims::is_correct;
+use crate::claims::book_own;
 use crate::ends::{Change, End};
 use crate::posting::post_all;
 use crate::running::Running;
@@ -103,9 +103,7 @@ impl<M: Sequenced> Running<M> {
             self.nodes[core as usize].retreat(slots, epoch);
             return Ok(Change::Ended(end));
         }
-        if is_correct(&self.setup, core) {
-            self.signed.book(alloc, outcome.own.as_slice())?;
-        }
+        book_own(alloc, &self.setup, core, outcome.own.as_slice(), &mut self.signed)?;
         post_all(&mut self.network, &self.setup, core, outcome.sends.as_slice())?;
         Ok(Change::Done)
     }

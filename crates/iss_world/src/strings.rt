@@ -1,6 +1,6 @@
 //! The book of what was hashed, which shows different strings of one digest.
 ghost use Rattle.std.specs.Prelude.{◌≡◌, ◌∷◌, [], ℕ, List, None, IfOk, option_map};
-ghost use Rattle.iss_base.specs.Lists.{over};
+ghost use Rattle.iss_base.specs.Lists.{over, same_bytes};
 ghost use Rattle.iss_model.specs.Run.{collision_in, collision_with};
 ghost use Rattle.iss_request.specs.Digest.{digest};
 ghost use Rattle.iss_world.specs.Books.{AreHashed, difference};
@@ -11,11 +11,20 @@ use iss_request::{Bytes, NoMemory};
 use sha2::{Digest, Sha256};
 use std::alloc::Global;
 use std::collections::BTreeMap;
+use std::marker::Model;
 
 /// The strings that were hashed, each by its digest.
 #[derive(Drop)]
 pub struct Strings {
     all: BTreeMap<[u8; 32], Bytes>,
+}
+
+impl Model for Strings {
+    ghost use Rattle.std.specs.Prelude.{ℕ, List};
+
+    ghost Value = { List (List ℕ × List ℕ) };
+
+    ghost view = { λ v. v.all.entries };
 }
 
 // The digest of a string. The empty one has 32 zero bytes.
@@ -65,11 +74,18 @@ impl Strings {
     }
 }
 
+// Whether two strings are equal.
+fn same(a: &[u8], b: &[u8]) -> bool
+    ensures { result ≡ same_bytes a.now b.now }
+{
+    a == b
+}
+
 // The collision of two strings of one digest, if they differ.
 fn collision(first: &Bytes, second: &Bytes) -> Result<Option<End>, NoMemory>
     ensures { IfOk result (λ end. option_map end_of end ≡ difference first.now second.now) }
 {
-    if first.as_slice() == second.as_slice() {
+    if same(first.as_slice(), second.as_slice()) {
         return Ok(None);
     }
     Ok(Some(End::Collision {

@@ -1,0 +1,5 @@
+use Rattle.std.proofs.Common.{◌∙◌}
+use Rattle.iss_world.proofs.running.Running.epoch.Goals as goal
+
+pub returns : goal.returns
+returns g c = λ h k. c.epoch.ensures.shown ∙ c.node.ensures.epoch h k
