@@ -2,12 +2,13 @@
 use Rattle.std.proofs.Common.{◌≡◌, ℕ, List, ◌∷◌, [], codes, refl, arith, inl}
 use Rattle.std.specs.Fmt.{digits}
 use Rattle.hex.specs.Hex.{encode_with}
+use Rattle.iss_request.specs.declared.ids.NodeId.{NodeId}
 use Rattle.iss_schedule.specs.declared.errors.Why.TheVariants.{Cut}
-use Rattle.iss_schedule.specs.declared.schedules.Event.TheVariants.{Request, Propose, Timeout, Deliver, Lose, Pump, Calm, Hold, Free, Drop, Bytes}
+use Rattle.iss_schedule.specs.declared.schedules.Event.TheVariants.{Request, Propose, Timeout, Deliver, Lose, Pump, Calm, Hold, Free, Drop}
 use Rattle.iss_schedule.specs.declared.schedules.Schedule.{Schedule}
 use Rattle.iss_schedule.specs.BadLines.{IsFirstBad}
 use Rattle.iss_schedule.specs.Cores.{cores_of}
-use Rattle.iss_schedule.specs.Headers.{setup_with}
+use Rattle.iss_schedule.specs.Headers.{faulty_line, setup_with}
 use Rattle.iss_schedule.specs.Schedules.{text_of}
 use Rattle.iss_schedule.specs.Words.{words_of}
 use Rattle.iss_schedule.proofs.Blanks.{lacks_by_test}
@@ -37,13 +38,17 @@ of_raft : text_of (record { setup = setup_with (0 ∷ 1 ∷ 2 ∷ 5 ∷ 3 ∷ 4 
 unfolding digits
 of_raft = refl
 
--- seven nodes of PBFT, of which two do as they like: node 6's second core is core 8
-of_pbft : text_of (record { setup = setup_with (0 ∷ 2 ∷ 2 ∷ 7 ∷ 3 ∷ 4 ∷ 8 ∷ 0 ∷ 1 ∷ 4 ∷ []) (record { 0 = 1 } ∷ record { 0 = 6 } ∷ []) []; events = Propose 8 ∷ Bytes 0 [] ∷ [] }) ≡ codes "iss 1\nmodule pbft\nf 2\nepoch 7\nbuckets 3\nbatch 4\nwindow 8\npolicy simple\nclients 1\nkeys 4\nfaulty 1 6\npropose 8\nbytes 0 -\n"
-unfolding digits
-of_pbft = refl
+-- two nodes that do as they like, and their second cores behind the three nodes
+two_faulty : List NodeId
+two_faulty = record { 0 = 1 } ∷ record { 0 = 2 } ∷ []
 
-nine_cores : cores_of (setup_with (0 ∷ 2 ∷ 2 ∷ 7 ∷ 3 ∷ 4 ∷ 8 ∷ 0 ∷ 1 ∷ 4 ∷ []) (record { 0 = 1 } ∷ record { 0 = 6 } ∷ []) []) ≡ 9
-nine_cores = refl
+names_two : faulty_line two_faulty ≡ codes "faulty 1 2"
+unfolding two_faulty digits
+names_two = refl
+
+five_cores : cores_of (setup_with three two_faulty []) ≡ 5
+unfolding three two_faulty
+five_cores = refl
 
 -- words are parted by one space, so two spaces have an empty word between them
 two_spaces : words_of (codes "propose  0") ≡ codes "propose" ∷ [] ∷ codes "0" ∷ []

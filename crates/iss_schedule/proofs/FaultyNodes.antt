@@ -1,5 +1,5 @@
 -- The line of the faulty nodes: its words are theirs, and it is that of one list.
-use Rattle.std.proofs.Common.{◌≡◌, ◌≢◌, ◌∙◌, inl, inr, ℕ, suc, ◌+◌, ◌^◌, ◌<◌, ◌≤◌, List, [], ◌∷◌, ◌++◌, length, get_or, codes, decimal, Option, Some, None, Result, Ok, Err, refl, sym, ap, subst, arith, length-append, append_assoc}
+use Rattle.std.proofs.Common.{◌≡◌, ◌≢◌, ◌∙◌, inl, inr, ℕ, suc, ◌+◌, ◌^◌, ◌<◌, ◌≤◌, List, [], ◌∷◌, ◌++◌, length, get_or, codes, decimal, Option, Some, None, Result, Ok, Err, refl, sym, ap, subst, arith, length-append}
 use Rattle.std.specs.Prelude.{IfOk}
 use Rattle.std.proofs.lemmas.Fmt.{decimal_injective}
 use Rattle.std.proofs.lemmas.List.Splits.{join_with_byte-slice_split}
@@ -158,8 +158,7 @@ pub one_node : (n from x : ℕ) (is more : List NodeId) (all words rest : List (
     (all ≡ node_words more ++ rest) × AreRising 0 n more × (x + 1 ≡ after 0 more) × (length more ≡ length is + 1)
 one_node n from x is more all words rest word pushed cut spelled within text rising here =
     let i : NodeId = record { 0 = x } in
-    subst (λ (js : List NodeId). (all ≡ node_words js ++ rest) × AreRising 0 n js × (x + 1 ≡ after 0 js) × (length js ≡ length is + 1)) (sym pushed)
-    (
+    subst (λ (js : List NodeId). (all ≡ node_words js ++ rest) × AreRising 0 n js × (x + 1 ≡ after 0 js) × (length js ≡ length is + 1)) (sym pushed) (
       text ∙ ap (λ (ws : List (List ℕ)). node_words is ++ ws) (cut ∙ ap (λ (w : List ℕ). w ∷ rest) spelled) ∙ sym (words_push is i rest),
       rising_push 0 n is i rising (omega (arith, here, within.0)) within.1,
       omega (arith, after_push 0 is i),

@@ -144,11 +144,11 @@ pub formed : (s : Schedule) (p : ℕ) (line : List ℕ) → IsFine s → nth (sc
 formed s p line fine e = elim (leb_tells 11 p) [
   | inl le ↦ let here = event_behind s p line fine le.1 e in form_behind p line le.1 (event_line s.setup line here.0 fine.setup.good here.1.0 here.1.1)
   | inr lt ↦ elim (leb_tells 10 p) [
-      | inl ten ↦ last_at s p line fine (omega (arith, lt.1, ten.1)) e
-      | inr below ↦
-          let here = header_at s p line fine below.1 e in
-          subst (λ (o : Option LineForm). IsFormed o line) (sym (form_at header_fields p here.field here.place)) (value_formed here.field here.sound here.above line here.good)
-    ]
+    | inl ten ↦ last_at s p line fine (omega (arith, lt.1, ten.1)) e
+    | inr below ↦
+        let here = header_at s p line fine below.1 e in
+        subst (λ (o : Option LineForm). IsFormed o line) (sym (form_at header_fields p here.field here.place)) (value_formed here.field here.sound here.above line here.good)
+  ]
 ]
 
 -- the first letter of a line

@@ -1,8 +1,7 @@
 -- The table of modules: what each row keeps, and where a row stands. Nothing here grows with the table.
-use Rattle.std.proofs.Common.{◌≡◌, ◌∙◌, ◌⊎◌, inl, inr, ℕ, zero, suc, ◌<◌, ◌≤◌, Bool, true, false, not, ◌&&◌, cond, eqb, leb, List, [], ◌∷◌, length, get_or, refl, sym, ap, subst, arith}
+use Rattle.std.proofs.Common.{◌≡◌, ◌∙◌, inl, inr, ℕ, zero, suc, ◌<◌, ◌≤◌, Bool, true, false, not, ◌&&◌, cond, eqb, leb, List, [], ◌∷◌, length, get_or, refl, sym, ap, subst, arith}
 use Rattle.std.specs.List.{list_all}
 use Rattle.iss_base.proofs.Lists.{and-true, not-true}
-use Rattle.iss_request.specs.declared.setups.Kind.{Kind}
 use Rattle.iss_request.specs.declared.setups.Kind.TheVariants.{Byzantine, Stopping}
 use Rattle.iss_schedule.specs.declared.modules.Module.{Module}
 use Rattle.iss_schedule.specs.Headers.{IsOneOf, ModuleRow, lines_of_rows, module_rows, place_among, relay_row, row_at, see, see_all}

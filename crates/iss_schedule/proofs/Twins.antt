@@ -1,5 +1,5 @@
 -- How many cores there are.
-use Rattle.std.proofs.Common.{◌≡◌, ℕ, ◌≤◌, List, length, ap, arith}
+use Rattle.std.proofs.Common.{ℕ, ◌≤◌, List, length, ap, arith}
 use Rattle.iss_request.specs.Setup.{IsFewFaulty, IsGoodSetup}
 use Rattle.iss_request.specs.declared.ids.NodeId.{NodeId}
 use Rattle.iss_request.specs.declared.setups.Kind.{Kind}

@@ -63,7 +63,7 @@ node_after w is k n d a b c lt same so_far next =
     let front = take k is in
     let i = get_or is k d in
     let line : line_of (w ∷ node_words (take (k + 1) is)) ≡ line_of (w ∷ node_words front) ++ 32 ∷ decimal i.0 =
-        ap (λ (js : List NodeId). line_of (w ∷ node_words js)) (take_more is k d lt) ∙ ap (λ (ws : List (List ℕ)). line_of (w ∷ ws)) (words_end front i) ∙ line_push w (node_words front) (decimal i.0) in
+    ap (λ (js : List NodeId). line_of (w ∷ node_words js)) (take_more is k d lt) ∙ ap (λ (ws : List (List ℕ)). line_of (w ∷ ws)) (words_end front i) ∙ line_push w (node_words front) (decimal i.0) in
     text_before a b c (line_of (w ∷ node_words front)) (32 ∷ decimal i.0) so_far (next ∙ ap (λ m. b ++ 32 ∷ decimal m) same) ∙ ap (λ (t : List ℕ). a ++ t) (sym line)
 
 pub nodes_all : (w : List ℕ) (is : List NodeId) (k : ℕ) (a b : List ℕ) → length is ≤ k → b ≡ a ++ line_of (w ∷ node_words (take k is)) → b ≡ a ++ line_of (w ∷ node_words is)

@@ -112,7 +112,8 @@ setup_with values faulty tag = setup_of_row (row_at (value values 1)) values fau
 -- and the values of a set-up
 abbrev pub values_of : Setup → List ℕ
 values_of s =
-    0 ∷ place_among s.module module_rows ∷ s.f ∷ s.epoch ∷ s.buckets ∷ s.batch ∷ s.window ∷ place_of_policy s.policy ∷ s.clients ∷ s.keys ∷ []
+    0 ∷ place_among s.module module_rows ∷ s.f ∷ s.epoch ∷ s.buckets ∷ s.batch ∷ s.window
+    ∷ place_of_policy s.policy ∷ s.clients ∷ s.keys ∷ []
 
 -- ---- lines
 

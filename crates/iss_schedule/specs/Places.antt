@@ -57,7 +57,8 @@ most_faulty Stopping f = 0
 abbrev pub IsFaultyLineFault : ℕ → ℕ → List ℕ → Why → Type 0
 IsFaultyLineFault most n rest Cut = Lacks 10 rest
 IsFaultyLineFault most n rest Form = (line : List ℕ) × (IsNext line rest × ¬ IsFaultyFormed line)
-IsFaultyLineFault most n rest Faulty = (line : List ℕ) × (IsNext line rest × IsFaultyFormed line × ((is : List NodeId) → AreFew most n is → line ≢ faulty_line is))
+IsFaultyLineFault most n rest Faulty =
+    (line : List ℕ) × (IsNext line rest × IsFaultyFormed line × ((is : List NodeId) → AreFew most n is → line ≢ faulty_line is))
 IsFaultyLineFault most n rest Injected = ⊥
 IsFaultyLineFault most n rest Range = ⊥
 IsFaultyLineFault most n rest Size = ⊥

@@ -54,8 +54,8 @@ impl From<AllocError> for ReadError {
     }
 }
 
-/// The line that was read last is bad.
-pub fn bad_line(lines: &Lines, why: Why) -> ReadError
+// The line that was read last is bad.
+pub(crate) fn bad_line(lines: &Lines, why: Why) -> ReadError
     ensures { result ≡ BadLine lines.now.read why }
 {
     ReadError::BadLine {

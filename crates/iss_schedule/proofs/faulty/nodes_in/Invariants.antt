@@ -1,4 +1,4 @@
-use Rattle.std.proofs.Common.{◌≡◌, ◌+◌, ◌≤◌, ◌++◌, length}
+use Rattle.std.proofs.Common.{◌≡◌, ◌+◌, ◌++◌, length}
 use Rattle.iss_request.specs.Setup.{AreRising}
 use Rattle.iss_schedule.specs.Headers.{node_words}
 use Rattle.iss_schedule.proofs.FaultyNodes.{after}

@@ -1,4 +1,4 @@
-use Rattle.std.proofs.Common.{◌≡◌, ◌<◌, ℕ, [], get_or}
+use Rattle.std.proofs.Common.{◌≡◌, ◌<◌, ℕ, get_or}
 use Rattle.iss_schedule.specs.declared.modules.Module.{Module}
 use Rattle.iss_schedule.proofs.modules.line_in.Given as goal
 

@@ -1,4 +1,4 @@
-use Rattle.std.proofs.Common.{◌≡◌, ◌≢◌, ◌<◌, ℕ, [], get_or}
+use Rattle.std.proofs.Common.{◌≢◌, ◌<◌, ℕ, [], get_or}
 use Rattle.iss_schedule.specs.Headers.{lines_of_rows, see_all}
 use Rattle.iss_schedule.proofs.modules.place_in.Given as goal
 

@@ -1,4 +1,4 @@
-use Rattle.std.proofs.Common.{◌≡◌, ◌++◌, ◌∙◌, ap, arith, subst, sym}
+use Rattle.std.proofs.Common.{◌≡◌, ◌++◌, ◌∙◌, ap, subst, sym}
 use Rattle.std.proofs.lemmas.Result.{err_from_is_err_and}
 use Rattle.iss_schedule.specs.Headers.{faulty_line, header_fields, lines_of, row_at, value}
 use Rattle.iss_schedule.specs.Places.{AreFew, Place, most_faulty}
