@@ -1,5 +1,5 @@
 -- What a turn made, and what is handed out of it.
-use Rattle.std.proofs.Common.{◌≡◌, ℕ, List, [], ◌++◌, refl, ap, ◌∙◌, subst}
+use Rattle.std.proofs.Common.{◌≡◌, ℕ, List, [], ◌++◌, ap, sym, ◌∙◌, subst}
 use Rattle.iss_model.specs.Node.{Core, Turn, onward, rests}
 use Rattle.iss_node.specs.Epochs.{both}
 use Rattle.iss_node.specs.Steps.{IsMade}
@@ -21,7 +21,7 @@ nothing-made c o is = record {
 }
 
 pub nothing-sent : (n : ℕ) (o : Outcome) → o ≡ nothing → AreToNodes n o.sends
-nothing-sent n o is = subst (λ (xs : List (To × List ℕ)). AreToNodes n xs) (λ i. (is (~ i)).sends) tt
+nothing-sent n o is = subst (λ (xs : List (To × List ℕ)). AreToNodes n xs) (sym (ap (λ (z : Outcome). z.sends) is)) tt
 
 -- a later core changes nothing of what was made
 pub still-made : {Msg : Type 0} (t : Turn Msg) (c : Core Msg) (o : Outcome) → IsMade t o → IsMade (record t { core = c }) o
@@ -39,7 +39,6 @@ early-made t o p claims read same is h = record {
 -- one turn behind another
 pub both-made : {Msg : Type 0} (t : Turn Msg) (more : Core Msg → Turn Msg) (o p : Outcome) → IsMade t o → IsMade (more t.core) p → IsMade (onward t more) (both o p)
 both-made t more o p h k =
-    let u = more t.core in
     record {
       sends = ap (λ (xs : List (To × List ℕ)). xs ++ p.sends) h.sends ∙ ap (λ (xs : List (To × List ℕ)). t.sends ++ xs) k.sends;
       own = ap (λ (xs : List Claim). xs ++ p.own) h.own ∙ ap (λ (xs : List Claim). t.own ++ xs) k.own;

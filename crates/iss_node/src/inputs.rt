@@ -30,7 +30,8 @@ impl<M: Sequenced> Replica<M> {
         if !self.leads(leader) {
             return Ok(Stepped::Dropped(Why::NotLeader));
         }
-        if !self.is_credible(alloc, leader, &input)? {
+        let credible = self.is_credible(alloc, leader, &input)?;
+        if !credible {
             return Ok(Stepped::Dropped(Why::BadClaim));
         }
         if !self.has_leaves(leader) {

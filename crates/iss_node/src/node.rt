@@ -105,7 +105,7 @@ impl<M: Sequenced> Node<M> {
         if self.stale {
             return Answer::Stale;
         }
-        let slots = self.parts.log.entries().len();
+        let held = self.parts.log.entries().len();
         let epoch = self.parts.epoch;
         // a turn that wants memory midway leaves it so
         self.stale = true;
@@ -119,7 +119,7 @@ impl<M: Sequenced> Node<M> {
                 Answer::Dropped(why)
             }
             Err(_) => {
-                self.parts.log.cut(slots);
+                self.parts.log.cut(held);
                 self.parts.epoch = epoch;
                 Answer::NoMemory
             }
