@@ -82,7 +82,8 @@ fn report(alloc: Global, schedule: &Schedule) -> Result<Answer, NoMemory>
 fn report_under<M: Sequenced>(alloc: Global, schedule: &Schedule) -> Result<Answer, NoMemory>
     requires good { IsSetupOf M.meaning schedule.now.setup }
     requires range { AreInRange schedule.now.setup schedule.now.events }
-    ensures { IfOk result (λ answer. answer ≡ reported M.meaning schedule.now) }
+    ensures printed { IfOk result (λ answer. answer.printed ≡ (reported M.meaning schedule.now).printed) }
+    ensures status { IfOk result (λ answer. answer.status ≡ (reported M.meaning schedule.now).status) }
 {
     let report = replay::<M>(alloc, schedule)?;
     Ok(Answer {
