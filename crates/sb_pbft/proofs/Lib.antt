@@ -42,3 +42,4 @@ pub mod Taken
 pub mod Proposed
 pub mod Begun
 pub mod Standing
+pub mod Once

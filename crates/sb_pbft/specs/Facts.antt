@@ -115,6 +115,10 @@ pub record IsRooted (p : Params) (w : World Message) (s : ℕ) (b : Batch) : Typ
   pub quorum : IsQuorum p (λ j. In {A = Slot × Batch} (record { 0 = s }, b) (accepts (w j)))
   pub led : mem p.leader.0 quorum.nodes ≡ true
 
+-- of a slot a node accepts one batch
+abbrev pub AreOnce : Params → World Message → Type 0
+AreOnce p w = (i : ℕ) (s : Slot) (b c : Batch) → In {A = Slot × Batch} (s, b) (accepts (w i)) → In {A = Slot × Batch} (s, c) (accepts (w i)) → b ≡ c
+
 -- a good certificate with a batch leads down to such a quorum of view 0
 abbrev pub AreRooted : Params → World Message → Type 0
 AreRooted p w = (c : Certificate) (b : Batch) → IsCertificate p w c → c.value ≡ Holds b → IsRooted p w c.slot.0 b

@@ -4,7 +4,7 @@ ghost use Rattle.iss_sb.specs.Calls.{IsGoodParams};
 ghost use Rattle.iss_sb.specs.Evidence.{IsReached, IsString, Separate, World};
 ghost use Rattle.iss_sb.specs.declared.effects.Params.{Params};
 ghost use Rattle.pbft_wire.specs.declared.messages.Message.{Message};
-ghost use Rattle.sb_pbft.specs.Facts.{AreChosen, AreDecided, AreFixed, AreQuiet, AreRooted, AreShown, HaveOneDigest, HaveOneVote};
+ghost use Rattle.sb_pbft.specs.Facts.{AreChosen, AreDecided, AreFixed, AreOnce, AreQuiet, AreRooted, AreShown, HaveOneDigest, HaveOneVote};
 ghost use Rattle.sb_pbft.specs.Pbft.{pbft};
 
 /// A correct node signs one PrePrepare, one Prepare and one Commit a view and slot.
@@ -45,4 +45,9 @@ pub fn what_is_delivered_was_decided()
 /// A certificate with a batch leads down to a quorum of view 0 that accepted it.
 pub fn batches_come_from_a_quorum()
     ensures { (p : Params) (w : World Message) → IsGoodParams pbft p → IsReached pbft p w → Separate (IsString w) → AreRooted p w }
+{}
+
+/// Of a slot a node accepts one batch, however often it is asked for it.
+pub fn batches_are_accepted_once()
+    ensures { (p : Params) (w : World Message) → IsGoodParams pbft p → IsReached pbft p w → AreOnce p w }
 {}

@@ -16,7 +16,7 @@ pub mod tops;
 pub mod voting;
 
 pub use facts::{
-    batches_come_from_a_quorum, certificates_of_a_view_agree, later_views_keep_what_is_decided,
+    batches_are_accepted_once, batches_come_from_a_quorum, certificates_of_a_view_agree, later_views_keep_what_is_decided,
     nodes_commit_nothing_below, nodes_vote_once, proposals_are_choices,
     view_changes_show_what_is_committed, what_is_delivered_was_decided,
 };
