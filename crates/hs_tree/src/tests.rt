@@ -1,9 +1,9 @@
 //! Messages in bytes: rows that were written by hand, every cut of a message, and the field that does not fit.
-use hs_tree::signing::{
+use crate::signing::{
     held_digest, held_string, node_statement, node_string, put_certificate_claims, round_statement,
     vote_statement,
 };
-use hs_tree::{Certificate, Message, Signed, read, write};
+use crate::{Certificate, Message, Signed, read, write};
 use iss_keys::SharedDirectory;
 use iss_request::{
     Batch, Bytes, DecodeError, Epoch, Fields, Kind, NoMemory, NodeId, Nodes, Policy, Row, Setup,
