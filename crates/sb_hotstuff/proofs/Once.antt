@@ -1,6 +1,6 @@
 -- A correct leader accepts one batch at a slot: what it accepts there is its cast at the slot's place, also where it takes a
 -- proposal, which is its own.
-use Rattle.std.proofs.Common.{◌≡◌, ◌≤◌, ℕ, zero, suc, Bool, true, if◌then◌else◌, List, [], ◌∷◌, length, Option, Some, None, refl, sym, ap, ◌∙◌, subst, inl, inr, arith}
+use Rattle.std.proofs.Common.{◌≡◌, ◌≤◌, ℕ, zero, suc, true, List, [], ◌∷◌, length, Option, Some, None, refl, sym, ap, ◌∙◌, subst, inl, inr, arith}
 use Rattle.iss_base.specs.Lists.{In, nth}
 use Rattle.iss_base.proofs.Lists.{and-true, nth-in, some-injective}
 use Rattle.iss_request.specs.Slots.{AreAscending}
@@ -12,7 +12,7 @@ use Rattle.iss_sb.specs.declared.effects.Input.TheVariants.{Cast, Receive, Timeo
 use Rattle.iss_sb.specs.declared.effects.Params.{Params}
 use Rattle.iss_sb.specs.Calls.{IsGoodParams}
 use Rattle.iss_sb.specs.Evidence.{IsReached, IsString, Item, Made, Separate, World, accepts, is_correct}
-use Rattle.iss_sb.specs.Legal.{AreMade, Front, IsLegal}
+use Rattle.iss_sb.specs.Legal.{Front, IsLegal}
 use Rattle.iss_sb.proofs.Legal.{front-in, front_self, front_trans, legal-reached, made-front}
 use Rattle.iss_sb.proofs.Worlds.{accepts-cases}
 use Rattle.raft_wire.specs.declared.entries.What.{What}
