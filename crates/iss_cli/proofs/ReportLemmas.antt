@@ -14,6 +14,7 @@ use Rattle.iss_model.specs.Runs.{IsSetupOf}
 use Rattle.iss_sb.specs.Evidence.{Module}
 use Rattle.iss_schedule.specs.Headers.{row_of}
 use Rattle.iss_schedule.specs.Schedules.{IsKnown}
+use Rattle.sb_hotstuff.specs.HotStuff.{hotstuff}
 use Rattle.sb_pbft.specs.Pbft.{pbft}
 use Rattle.sb_raft.specs.Raft.{raft}
 use Rattle.sb_relay.specs.Relay.{relay}
@@ -52,9 +53,20 @@ setup_of_pbft s h is =
       majority = h.good.majority ∙ rw (is, lies) refl;
     }
 
+pub setup_of_hotstuff : (s : Setup) → IsKnown s → s.module ≡ 4 → IsSetupOf hotstuff s
+setup_of_hotstuff s h is =
+    let lies : s.kind ≡ Byzantine = h.kind ∙ ap (λ (k : ℕ). (row_of k).kind) is in
+    record {
+      good = h.good;
+      tag = is;
+      kind = lies;
+      nodes = h.good.nodes ∙ rw (is, lies) refl;
+      majority = h.good.majority ∙ rw (is, lies) refl;
+    }
+
 -- a module that is none of the others is the relay
-pub other_than : (s : Setup) → IsKnown s → (s.module ≡ 2 → ⊥) → (s.module ≡ 3 → ⊥) → s.module ≡ 1
-other_than s h two three = elim h.known [ inl a ↦ a | inr b ↦ elim b [ inl c ↦ absurd (two c) | inr d ↦ absurd (three d) ] ]
+pub other_than : (s : Setup) → IsKnown s → (s.module ≡ 2 → ⊥) → (s.module ≡ 3 → ⊥) → (s.module ≡ 4 → ⊥) → s.module ≡ 1
+other_than s h two three four = elim h.known [ inl a ↦ a | inr b ↦ elim b [ inl c ↦ absurd (two c) | inr d ↦ elim d [ inl e ↦ absurd (three e) | inr f ↦ absurd (four f) ] ] ]
 
 pub relay_accepts_once : AcceptsOnce relay
 relay_accepts_once = λ p w good reached separate correct slot b c. once p p.leader.0 (w p.leader.0) slot b c ((legal-reached relay p w reached).made p.leader.0)
@@ -75,6 +87,7 @@ of_relay s (Ok a) is printed status = record {
   of_relay = λ it. with_parts relay s a printed status;
   of_raft = apart s.setup.module 1 2 refl is;
   of_pbft = apart s.setup.module 1 3 refl is;
+  of_hotstuff = apart s.setup.module 1 4 refl is;
 }
 of_relay s (Err e) is printed status = tt
 
@@ -83,6 +96,7 @@ of_raft s (Ok a) is printed status = record {
   of_relay = apart s.setup.module 2 1 refl is;
   of_raft = λ it. with_parts raft s a printed status;
   of_pbft = apart s.setup.module 2 3 refl is;
+  of_hotstuff = apart s.setup.module 2 4 refl is;
 }
 of_raft s (Err e) is printed status = tt
 
@@ -91,5 +105,15 @@ of_pbft s (Ok a) is printed status = record {
   of_relay = apart s.setup.module 3 1 refl is;
   of_raft = apart s.setup.module 3 2 refl is;
   of_pbft = λ it. with_parts pbft s a printed status;
+  of_hotstuff = apart s.setup.module 3 4 refl is;
 }
 of_pbft s (Err e) is printed status = tt
+
+pub of_hotstuff : (s : Schedule) (r : Result Answer NoMemory) → s.setup.module ≡ 4 → IfOk r (λ a. a.printed ≡ (reported hotstuff s).printed) → IfOk r (λ a. a.status ≡ (reported hotstuff s).status) → IfOk r (IsReported s)
+of_hotstuff s (Ok a) is printed status = record {
+  of_relay = apart s.setup.module 4 1 refl is;
+  of_raft = apart s.setup.module 4 2 refl is;
+  of_pbft = apart s.setup.module 4 3 refl is;
+  of_hotstuff = λ it. with_parts hotstuff s a printed status;
+}
+of_hotstuff s (Err e) is printed status = tt

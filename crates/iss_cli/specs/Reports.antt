@@ -7,6 +7,7 @@ use Rattle.iss_model.specs.Run.{End, Forged, Collision}
 use Rattle.iss_replay.specs.Report.{text_of}
 use Rattle.iss_sb.specs.Evidence.{Module}
 use Rattle.iss_schedule.specs.declared.schedules.Schedule.{Schedule}
+use Rattle.sb_hotstuff.specs.HotStuff.{hotstuff}
 use Rattle.sb_pbft.specs.Pbft.{pbft}
 use Rattle.sb_raft.specs.Raft.{raft}
 use Rattle.sb_relay.specs.Relay.{relay}
@@ -19,6 +20,7 @@ pub record Under (number : ℕ) (Holds : {Msg : Type 0} → Module Msg → Type 
   pub of_relay : number ≡ relay.tag → Holds relay
   pub of_raft : number ≡ raft.tag → Holds raft
   pub of_pbft : number ≡ pbft.tag → Holds pbft
+  pub of_hotstuff : number ≡ hotstuff.tag → Holds hotstuff
 
 -- how a run's end is told to who called
 abbrev pub status_of : Option (ℕ × End) → Status

@@ -14,6 +14,7 @@ use iss_request::{Bytes, NoMemory};
 use iss_sb::Sequenced;
 use iss_schedule::{ReadError, Schedule, Why, read};
 use iss_world::ends::End;
+use sb_hotstuff::HotStuff;
 use sb_pbft::Pbft;
 use sb_raft::Raft;
 use sb_relay::Relay;
@@ -74,6 +75,7 @@ fn report(alloc: Global, schedule: &Schedule) -> Result<Answer, NoMemory>
     match schedule.setup.module {
         2 => report_under::<Raft>(alloc, schedule),
         3 => report_under::<Pbft>(alloc, schedule),
+        4 => report_under::<HotStuff>(alloc, schedule),
         _ => report_under::<Relay>(alloc, schedule),
     }
 }

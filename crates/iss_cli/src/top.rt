@@ -17,6 +17,7 @@ use crate::output::write_all;
 use crate::status::Status;
 use iss_model::{cluster_runs, requests_are_conserved, runs_end_with_evidence};
 use iss_sb::Sequenced;
+use sb_hotstuff::HotStuff;
 use sb_pbft::Pbft;
 use sb_raft::Raft;
 use sb_relay::Relay;
@@ -68,6 +69,8 @@ pub fn one_log()
     sb_raft::batches_are_accepted_once();
     kept::<Pbft>();
     sb_pbft::batches_are_accepted_once();
+    kept::<HotStuff>();
+    sb_hotstuff::batches_are_accepted_once();
 }
 
 // What is promised of the run of every schedule under a module whose correct leaders accept one batch at a slot.

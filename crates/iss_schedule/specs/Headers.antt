@@ -33,6 +33,7 @@ module_rows =
     relay_row
     ∷ row (codes "module raft") 2 Stopping 3
     ∷ row (codes "module pbft") 3 Byzantine 3
+    ∷ row (codes "module hotstuff") 4 Byzantine 3
     ∷ []
 
 abbrev pub lines_of_rows : List ModuleRow → List (List ℕ)

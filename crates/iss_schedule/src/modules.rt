@@ -22,6 +22,7 @@ const MODULES: &[Module] = &[
     Module { line: b"module relay", number: 1, kind: Kind::Stopping, most_faults: 0 },
     Module { line: b"module raft", number: 2, kind: Kind::Stopping, most_faults: 3 },
     Module { line: b"module pbft", number: 3, kind: Kind::Byzantine, most_faults: 3 },
+    Module { line: b"module hotstuff", number: 4, kind: Kind::Byzantine, most_faults: 3 },
 ];
 
 fn modules() -> &'static [Module]

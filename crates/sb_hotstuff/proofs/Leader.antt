@@ -31,8 +31,9 @@ use Rattle.hs_tree.specs.Tree.{basic, filled, is_known, root, weight}
 use Rattle.hs_tree.proofs.Contents.{what-table}
 use Rattle.sb_hotstuff.specs.Facts.{Leads}
 use Rattle.sb_hotstuff.specs.HotStuff.{answers, asks, drafts, hotstuff, makes, proposals, shows, sign_all, state, strings_at, taken_of, turn_strings, voted}
-use Rattle.sb_hotstuff.specs.Rules.{State, Turn, all_news, best, cast_turn, certificate, first_turn, heard, is_reached, is_ready, is_slot, keeps_news, keeps_vote, kept, may_cast, may_end, may_prepare, may_second, may_third, next_turn, nil_or_mark, node_digest, proposed, round_of, slots_below, turn, turn_after, turn_on, with_cast, with_news, with_node, with_round, with_turn, with_vote}
+use Rattle.sb_hotstuff.specs.Rules.{State, Turn, all_news, best, cast_turn, certificate, first_turn, heard, is_reached, is_ready, is_slot, keeps_news, keeps_vote, kept, may_cast, may_end, may_prepare, may_second, may_third, next_turn, nil_or_mark, node_digest, proposed, round_of, slots_below, turn, turn_after, turn_on, with_cast, with_round, with_turn}
 use Rattle.sb_hotstuff.proofs.Basics.{by-both, by-if, by-test, is-same, not-same}
+use Rattle.sb_hotstuff.proofs.Casts.{Same, after-kept, heard-same, state-more}
 use Rattle.sb_hotstuff.proofs.Readable.{MayTurn, digest-length, heard-is, kept-fits, proposed-new, state-fits}
 use Rattle.sb_hotstuff.proofs.Single.{AreVoted, acc, hashed-has}
 
@@ -122,13 +123,22 @@ module _ (p : Params) (w : World Message) (good : IsGoodParams hotstuff p) (lega
   abbrev Holder : List ℕ → What → Type 0
   Holder a c = Has p.setup.version (IsString w) a c
 
-  -- a turn that proposes a cast: the place of the cast, which was accepted there, is that of the node on its branch
+  -- a cast that the node has in the end too
+  abbrev pub Later : List Batch → Type 0
+  Later cs = (k : ℕ) (b : Batch) → nth cs k ≡ Some b → nth (state p me (w me)).casts k ≡ Some b
+
+  -- a cast of the node, which was accepted at its place
+  pub record IsCast (k : ℕ) (b : Batch) : Type 0 where
+    pub accepted : acc p w me k b
+    pub cast : nth (state p me (w me)).casts k ≡ Some b
+
+  -- a turn that proposes a cast: the place of the cast is that of the node on its branch
   pub record CastTurn (t : Turn) : Type 0 where
     pub batch : Batch
     pub holds : t.what ≡ Holds batch
     pub place : ℕ
     pub view_is : t.view ≡ suc place
-    pub accepted : acc p w me place batch
+    pub cast : IsCast place batch
     pub below : List What
     pub leads : Leads p w (digest_of t.just) root below
     pub full : filled below ≡ place
@@ -152,15 +162,15 @@ module _ (p : Params) (w : World Message) (good : IsGoodParams hotstuff p) (lega
 
   record LeaderOk (s : State) : Type 0 where
     turns : AllOk s.turns
-    casts : (k : ℕ) (b : Batch) → nth s.casts k ≡ Some b → acc p w me k b
+    casts : (k : ℕ) (b : Batch) → nth s.casts k ≡ Some b → IsCast k b
 
   -- ---- the next turn
 
-  cast-ok : (view : ℕ) (just : Certificate) (slots place : ℕ) (o : Option Batch) (below : List What) → view ≡ suc place → ((b : Batch) → o ≡ Some b → acc p w me place b) → Leads p w (digest_of just) root below → filled below ≡ place →
+  cast-ok : (view : ℕ) (just : Certificate) (slots place : ℕ) (o : Option Batch) (below : List What) → view ≡ suc place → ((b : Batch) → o ≡ Some b → IsCast place b) → Leads p w (digest_of just) root below → filled below ≡ place →
       MayOk (cast_turn p view just slots o)
   cast-ok view just slots place None below v h l f = tt
   cast-ok view just slots place (Some b) below v h l f =
-      let c : CastTurn (turn p view just (Holds b) slots) = record { batch = b; holds = refl; place = place; view_is = v; accepted = h b refl; below = below; leads = l; full = f } in
+      let c : CastTurn (turn p view just (Holds b) slots) = record { batch = b; holds = refl; place = place; view_is = v; cast = h b refl; below = below; leads = l; full = f } in
       record { digest_is = refl; early = λ z. c; batch = λ x q. c }
 
   -- a turn of a later round proposes no batch
@@ -237,19 +247,8 @@ module _ (p : Params) (w : World Message) (good : IsGoodParams hotstuff p) (lega
 
   -- ---- the state
 
-  abbrev Same : State → State → Type 0
-  Same s t = (t.turns ≡ s.turns) × (t.casts ≡ s.casts)
-
   same-ok : (s t : State) → Same s t → LeaderOk s → LeaderOk t
-  same-ok s t e h = record { turns = subst AllOk (sym e.0) h.turns; casts = subst (λ (cs : List Batch). (k : ℕ) (b : Batch) → nth cs k ≡ Some b → acc p w me k b) (sym e.1) h.casts }
-
-  heard-same : (s : State) (from : ℕ) (msg : Message) → Same s (heard p me s from msg)
-  heard-same s from (NewView round high sig) = by-if (Same s) (keeps_news p me s from round high) (with_news s from round high) s (refl, refl) (refl, refl)
-  heard-same s from (Prepare view what just sig) = by-if (Same s) (may_prepare p s from view what just) (with_node p s view what just) s (refl, refl) (refl, refl)
-  heard-same s from (PreCommit view shown sig) = by-if (Same s) (may_second p s view shown) (record s { high = shown; second = true }) s (refl, refl) (refl, refl)
-  heard-same s from (Commit view shown sig) = by-if (Same s) (may_third p s view shown) (record s { lock = shown; third = true }) s (refl, refl) (refl, refl)
-  heard-same s from (Decide view shown sig) = (refl, refl)
-  heard-same s from (Vote phase view d sig) = by-if (Same s) (keeps_vote p s from phase view d) (with_vote s from phase view d sig) s (refl, refl) (refl, refl)
+  same-ok s t e h = record { turns = subst AllOk (sym e.0) h.turns; casts = subst (λ (cs : List Batch). (k : ℕ) (b : Batch) → nth cs k ≡ Some b → IsCast k b) (sym e.1) h.casts }
 
   -- the last of a longer list is the new one
   nth-last : (cs : List Batch) (c b : Batch) (k : ℕ) → nth (cs ++ c ∷ []) k ≡ Some b → (nth cs k ≡ Some b) ⊎ ((k ≡ length cs) × (c ≡ b))
@@ -258,28 +257,28 @@ module _ (p : Params) (w : World Message) (good : IsGoodParams hotstuff p) (lega
   nth-last (a ∷ cs) c b zero h = inl h
   nth-last (a ∷ cs) c b (suc k) h = elim (nth-last cs c b k h) [ inl q ↦ inl q | inr q ↦ inr (ap suc q.0, q.1) ]
 
-  slot-of : (k : ℕ) (slot : Slot) → is_slot slot.0 (nth p.slots k) ≡ true → nth p.slots k ≡ Some slot
+  pub slot-of : (k : ℕ) (slot : Slot) → is_slot slot.0 (nth p.slots k) ≡ true → nth p.slots k ≡ Some slot
   slot-of k slot h = go (nth p.slots k) refl h
     where
       go : (o : Option Slot) → nth p.slots k ≡ o → is_slot slot.0 o ≡ true → nth p.slots k ≡ Some slot
       go None q e = absurd (true≢false (sym e))
       go (Some t) q e = q ∙ ap (λ (z : Slot). Some z) (slot-is t slot (is-same t.0 slot.0 e))
 
-  cast-kept : (s : State) (slot : Slot) (b : Batch) → may_cast p me s slot.0 ≡ true → In {A = Slot × Batch} (slot, b) (accepts (w me)) → LeaderOk s → LeaderOk (with_cast s b)
-  cast-kept s slot b q a h = record {
+  cast-kept : (s : State) (slot : Slot) (b : Batch) → may_cast p me s slot.0 ≡ true → In {A = Slot × Batch} (slot, b) (accepts (w me)) → Later (with_cast s b).casts → LeaderOk s → LeaderOk (with_cast s b)
+  cast-kept s slot b q a l h = record {
     turns = h.turns;
     casts = λ k c e. elim (nth-last s.casts b c k e) [
       | inl old ↦ h.casts k c old
       | inr new ↦
           let there = slot-of (length s.casts) slot (and-true _ (is_slot slot.0 (nth p.slots (length s.casts))) q).1 in
-          (slot, ap (λ (n : ℕ). nth p.slots n) new.0 ∙ there, subst (λ (z : Batch). In {A = Slot × Batch} (slot, z) (accepts (w me))) new.1 a)
+          record { accepted = (slot, ap (λ (n : ℕ). nth p.slots n) new.0 ∙ there, subst (λ (z : Batch). In {A = Slot × Batch} (slot, z) (accepts (w me))) new.1 a); cast = l k c e }
     ];
   }
 
-  kept-ok : (s : State) (i : Input Message) → ((slot : Slot) (b : Batch) → i ≡ Cast slot b → may_cast p me s slot.0 ≡ true → In {A = Slot × Batch} (slot, b) (accepts (w me))) → LeaderOk s → LeaderOk (kept p me s i)
-  kept-ok s (Cast slot batch) a h = by-test LeaderOk (may_cast p me s slot.0) (with_cast s batch) s (λ q. cast-kept s slot batch q (a slot batch refl q) h) h
-  kept-ok s (Receive from msg) a h = same-ok s (heard p me s from.0 msg) (heard-same s from.0 msg) h
-  kept-ok s Timeout a h = by-if LeaderOk (may_end s) (with_round s) s (record { turns = h.turns; casts = h.casts }) h
+  kept-ok : (s : State) (i : Input Message) → ((slot : Slot) (b : Batch) → i ≡ Cast slot b → may_cast p me s slot.0 ≡ true → In {A = Slot × Batch} (slot, b) (accepts (w me))) → Later (kept p me s i).casts → LeaderOk s → LeaderOk (kept p me s i)
+  kept-ok s (Cast slot batch) a l h = by-test (λ (z : State). Later z.casts → LeaderOk z) (may_cast p me s slot.0) (with_cast s batch) s (λ q m. cast-kept s slot batch q (a slot batch refl q) m h) (λ m. h) l
+  kept-ok s (Receive from msg) a l h = same-ok s (heard p me s from.0 msg) (heard-same p me s from.0 msg) h
+  kept-ok s Timeout a l h = by-if LeaderOk (may_end s) (with_round s) s (record { turns = h.turns; casts = h.casts }) h
 
   turn-ok : (s : State) (o : Option Turn) → LeaderOk s → MayOk o → MayHold o → LeaderOk (with_turn s o)
   turn-ok s None h g m = h
@@ -290,9 +289,10 @@ module _ (p : Params) (w : World Message) (good : IsGoodParams hotstuff p) (lega
     pub heard : AreHeard hotstuff p me xs
     pub here : (x : Item Message) → In x xs → In x (w me)
     pub accepted : (e : Slot × Batch) → In e (accepts xs) → In e (accepts (w me))
+    pub later : Later (state p me xs).casts
 
   pub part-older : (x : Item Message) (xs : List (Item Message)) → IsPart (x ∷ xs) → IsPart xs
-  part-older x xs h = record { heard = h.heard.2; here = λ y q. h.here y (inr q); accepted = λ e q. h.accepted e (accepts-old x xs e q) }
+  part-older x xs h = record { heard = h.heard.2; here = λ y q. h.here y (inr q); accepted = λ e q. h.accepted e (accepts-old x xs e q); later = λ k b e. h.later k b (state-more p me x xs k b e) }
 
   casts-accepted : (x : Item Message) (xs : List (Item Message)) → IsPart (x ∷ xs) → (slot : Slot) (b : Batch) → x.input ≡ Cast slot b → may_cast p me (state p me xs) slot.0 ≡ true → In {A = Slot × Batch} (slot, b) (accepts (w me))
   casts-accepted x xs h slot b e q =
@@ -301,7 +301,7 @@ module _ (p : Params) (w : World Message) (good : IsGoodParams hotstuff p) (lega
       h.accepted (slot, b) (accepts-new x xs (slot, b) (asked ∙ ap (λ (z : Input Message). asks p me xs z) e ∙ at))
 
   step-ok : (x : Item Message) (xs : List (Item Message)) → IsPart (x ∷ xs) → LeaderOk (state p me xs) → LeaderOk (kept p me (state p me xs) x.input)
-  step-ok x xs h ok = kept-ok (state p me xs) x.input (casts-accepted x xs h) ok
+  step-ok x xs h ok = kept-ok (state p me xs) x.input (casts-accepted x xs h) (λ k b e. h.later k b (after-kept p me x xs k b e)) ok
 
   step-holds : (x : Item Message) (xs : List (Item Message)) → IsPart (x ∷ xs) → MayHold (proposed p me (state p me xs) (kept p me (state p me xs) x.input) x.input)
   step-holds x xs h =

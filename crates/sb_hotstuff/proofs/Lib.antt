@@ -1,4 +1,5 @@
 mod Basics
+mod Casts
 mod Causes
 mod Claims
 mod Core
@@ -6,6 +7,7 @@ mod Example
 mod Lawful
 mod Leader
 mod Locks
+mod Once
 mod Reached
 mod Readable
 mod Safe

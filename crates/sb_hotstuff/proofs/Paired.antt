@@ -75,7 +75,7 @@ drop-slot s zero ss h = h
 drop-slot s (suc k) [] h = absurd h
 drop-slot s (suc k) (t ∷ ss) h = inr (drop-slot s k ss h)
 
-ascending-above : (low : ℕ) (s : Slot) (ss : List Slot) → AreAscending low ss → In s ss → low ≤ s.0
+pub ascending-above : (low : ℕ) (s : Slot) (ss : List Slot) → AreAscending low ss → In s ss → low ≤ s.0
 ascending-above low s [] a h = absurd h
 ascending-above low s (t ∷ ss) a (inl e) = let q = ap (λ (z : Slot). z.0) e in let l = a.0 in omega (arith, q, l)
 ascending-above low s (t ∷ ss) a (inr h) = let r = ascending-above (suc t.0) s ss a.1 h in let l = a.0 in omega (arith, r, l)

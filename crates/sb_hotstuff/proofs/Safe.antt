@@ -3,10 +3,12 @@ use Rattle.std.proofs.Common.{◌≡◌, ◌<◌, ℕ, suc, ◌+◌, ◌%◌, �
 use Rattle.std.proofs.Math.Nat.{mod-eq_of_lt}
 use Rattle.iss_base.specs.Lists.{In, nth}
 use Rattle.iss_base.proofs.Lists.{and-true, in_right}
+use Rattle.iss_request.specs.declared.ids.NodeId.{NodeId}
 use Rattle.iss_request.specs.declared.ids.Slot.{Slot}
 use Rattle.iss_request.specs.declared.requests.Batch.{Batch}
 use Rattle.iss_request.specs.declared.requests.Value.{Value}
 use Rattle.iss_request.specs.declared.requests.Value.TheVariants.{Batch as Value_batch}
+use Rattle.iss_sb.specs.declared.effects.Input.TheVariants.{Receive}
 use Rattle.iss_sb.specs.declared.effects.Params.{Params}
 use Rattle.iss_sb.specs.declared.effects.To.{To}
 use Rattle.iss_sb.specs.Calls.{IsGoodParams}
@@ -28,13 +30,14 @@ use Rattle.hs_tree.specs.Statements.{certificate_claims, claim, own_statement, v
 use Rattle.hs_tree.specs.Tree.{basic, filled, root, value_at, value_at_slot}
 use Rattle.sb_hotstuff.specs.Facts.{AreAgreed, AreBacked, AreExtending, AreFromLeader, AreRested, AreSafeVotes, HaveOneNode, HaveSharedAcceptor, IsVoted, Leads, VoteOnce}
 use Rattle.sb_hotstuff.specs.HotStuff.{hotstuff, state}
-use Rattle.sb_hotstuff.specs.Rules.{is_allowed, is_timely, leader_of, node_digest, round_of, slots_below}
+use Rattle.sb_hotstuff.specs.Rules.{State, is_timely, leader_of, may_prepare, node_digest, round_of, slots_below}
 use Rattle.sb_hotstuff.proofs.Basics.{is-same, own-proposal, own-vote}
+use Rattle.sb_hotstuff.proofs.Casts.{front-more}
 use Rattle.sb_hotstuff.proofs.Causes.{vote-one, votes-rise}
 use Rattle.sb_hotstuff.proofs.Claims.{States, passes-on}
 use Rattle.sb_hotstuff.proofs.Core.{Accepted, Facts, First, accepted-root, agree, extends-it, one-node, same-branch, same-node, share, some, third-first}
 use Rattle.sb_hotstuff.proofs.Lawful.{hotstuff-lawful}
-use Rattle.sb_hotstuff.proofs.Leader.{IsPart, proposal-why}
+use Rattle.sb_hotstuff.proofs.Leader.{IsCast, IsPart, proposal-why}
 use Rattle.sb_hotstuff.proofs.Locks.{Shown, delivered-shown, locked-why}
 use Rattle.sb_hotstuff.proofs.Single.{AreVoted, acc, allowed-low, came, first-cause, first-why, is-taken, one-why, parts, second-why, spot, taken-has, third-why}
 
@@ -87,10 +90,10 @@ voted-reached p w reached i phase view d correct signed =
     record { item = s.item; taken = s.taken; vote = record { to = s.to; sig = v.sig; sent = subst (λ (z : Message). In {A = To × Message} (s.to, z) s.item.made.sends) v.is s.sent } }
 
 module _ (p : Params) (w : World Message) (good : IsGoodParams hotstuff p) (reached : IsReached hotstuff p w) where
-  legal : IsLegal hotstuff p w
+  pub legal : IsLegal hotstuff p w
   legal = legal-reached hotstuff p w reached
 
-  voted : AreVoted p w
+  pub voted : AreVoted p w
   voted = voted-reached p w reached
 
   -- ---- one vote a phase and view
@@ -186,28 +189,30 @@ module _ (p : Params) (w : World Message) (good : IsGoodParams hotstuff p) (reac
       parent_is : digest_of just ≡ parent
       signed : is_correct p.setup p.leader.0 ≡ true → IsSigned hotstuff p w p.leader.0 (own_statement basic p (Prepare view (Holds b) just []))
 
+    -- a proposal of a batch that a node takes, a correct leader of the segment signed
+    pub leader-signed : (k : ℕ) (x : Item Message) (s : State) (from : NodeId) (v : ℕ) (b : Batch) (just : Certificate) (sig : List ℕ) → In x (w k) → x.input ≡ Receive from (Prepare v (Holds b) just sig) →
+        may_prepare p s from.0 v (Holds b) just ≡ true → is_correct p.setup p.leader.0 ≡ true → IsSigned hotstuff p w p.leader.0 (own_statement basic p (Prepare v (Holds b) just []))
+    leader-signed k x s from v b just sig h e may correct =
+        let ps = parts p w good legal voted s from.0 v (Holds b) just may in
+        let early = allowed-low p w good legal voted (round_of v) (slots_below s just) b ps.allowed in
+        let timely = (and-true (is_timely p s from.0 v) _ (and-true _ _ may).0).0 in
+        let sender : from.0 ≡ leader_of p (round_of v) = is-same from.0 (leader_of p (round_of v)) (and-true (from.0 == leader_of p (round_of v)) _ timely).0 in
+        let leader : from.0 ≡ p.leader.0 = sender ∙ ap (λ (z : ℕ). leader_of p z) early.0 ∙ first-leader p.setup.n p.leader.0 good.leader in
+        let m = came p w good legal voted k x from (Prepare v (Holds b) just sig) h e in
+        let own = claim from.0 (own_statement basic p (Prepare v (Holds b) just sig)) sig in
+        let given = m.signed own (in_right own (certificate_claims basic p just) (own ∷ []) (inl refl)) (ap (λ (z : ℕ). is_correct p.setup z) leader ∙ correct) in
+        subst (λ (z : ℕ). IsSigned hotstuff p w z (own_statement basic p (Prepare v (Holds b) just []))) leader given
+
     leads-first : (k v : ℕ) (d : List ℕ) (h : IsVoted w k 1 v d) (b : Batch) (parent : List ℕ) → Has p.setup.version (IsString w) parent (Holds b) → d ≡ hash p.setup.version parent (Holds b) → IsProposal b parent
     leads-first k v d h b parent has e =
         let sp = spot p k (w k) h.item (legal.made k) h.taken in
         let s = state p k sp.older in
         let f = first-cause p w good legal voted sep k v d h in
-        let ps = parts p w good legal voted s f.from.0 v f.what f.just f.may in
         let mine = taken-has p w good legal voted k h.item v f.what f.just h.taken (is-taken p w good legal voted k h.item sp.older f.from v f.what f.just f.sig h.taken sp.made f.is f.may) in
         let same = same-node p w (acc p w) good facts sep (digest_of f.just) parent f.what (Holds b) mine has (sym f.digest_is ∙ e) in
-        let early = allowed-low p w good legal voted (round_of v) (slots_below s f.just) b (subst (λ (z : What). is_allowed p (round_of v) (slots_below s f.just) z ≡ true) same.1 ps.allowed) in
-        let timely = (and-true (is_timely p s f.from.0 v) _ (and-true _ _ f.may).0).0 in
-        let from : f.from.0 ≡ leader_of p (round_of v) = is-same f.from.0 (leader_of p (round_of v)) (and-true (f.from.0 == leader_of p (round_of v)) _ timely).0 in
-        let leader : f.from.0 ≡ p.leader.0 = from ∙ ap (λ (z : ℕ). leader_of p z) early.0 ∙ first-leader p.setup.n p.leader.0 good.leader in
-        let m = came p w good legal voted k h.item f.from (Prepare v f.what f.just f.sig) h.taken f.is in
-        let own = claim f.from.0 (own_statement basic p (Prepare v f.what f.just f.sig)) f.sig in
-        record {
-          view = v;
-          just = f.just;
-          parent_is = same.0;
-          signed = λ correct.
-              let given = m.signed own (in_right own (certificate_claims basic p f.just) (own ∷ []) (inl refl)) (ap (λ (z : ℕ). is_correct p.setup z) leader ∙ correct) in
-              subst (λ (z : What). IsSigned hotstuff p w p.leader.0 (own_statement basic p (Prepare v z f.just []))) same.1 (subst (λ (z : ℕ). IsSigned hotstuff p w z (own_statement basic p (Prepare v f.what f.just []))) leader given);
-        }
+        let is : h.item.input ≡ Receive f.from (Prepare v (Holds b) f.just f.sig) = subst (λ (z : What). h.item.input ≡ Receive f.from (Prepare v z f.just f.sig)) same.1 f.is in
+        let may = subst (λ (z : What). may_prepare p s f.from.0 v z f.just ≡ true) same.1 f.may in
+        record { view = v; just = f.just; parent_is = same.0; signed = leader-signed k h.item s f.from v b f.just f.sig h.taken is may }
 
     -- what a node took up to an item of its list
     part : (k : ℕ) (x : Item Message) (older : List (Item Message)) → Front (x ∷ older) (w k) → IsPart p w good legal voted k (x ∷ older)
@@ -215,6 +220,7 @@ module _ (p : Params) (w : World Message) (good : IsGoodParams hotstuff p) (reac
       heard = front-heard k (x ∷ older) (w k) f (heard-reached hotstuff hotstuff-lawful p good w reached k);
       here = λ y q. front-in y (x ∷ older) (w k) f q;
       accepted = λ e q. accepts-front (x ∷ older) (w k) e f q;
+      later = λ n b e. front-more p k (x ∷ older) (w k) f n b e;
     }
       where
         front-heard : (me : ℕ) (a l : List (Item Message)) → Front a l → AreHeard hotstuff p me l → AreHeard hotstuff p me a
@@ -222,9 +228,10 @@ module _ (p : Params) (w : World Message) (good : IsGoodParams hotstuff p) (reac
         front-heard me a (y ∷ l) (inl q) h = subst (λ (z : List (Item Message)). AreHeard hotstuff p me z) (sym q) h
         front-heard me a (y ∷ l) (inr g) h = front-heard me a l g h.2
 
-    proposed-accepted : (l v : ℕ) (just : Certificate) (b : Batch) (parent : List ℕ) (below : List What) → is_correct p.setup l ≡ true → IsSigned hotstuff p w l (own_statement basic p (Prepare v (Holds b) just [])) →
-        digest_of just ≡ parent → Has p.setup.version (IsString w) parent (Holds b) → Leads p w parent root below → acc p w l (filled below) b
-    proposed-accepted l v just b parent below correct signed e has leads =
+    -- what a correct leader signed as a proposal is its cast at the place behind the node's branch
+    pub proposed-cast : (l v : ℕ) (just : Certificate) (b : Batch) (parent : List ℕ) (below : List What) → is_correct p.setup l ≡ true → IsSigned hotstuff p w l (own_statement basic p (Prepare v (Holds b) just [])) →
+        digest_of just ≡ parent → Has p.setup.version (IsString w) parent (Holds b) → Leads p w parent root below → IsCast p w good legal voted l (filled below) b
+    proposed-cast l v just b parent below correct signed e has leads =
         let s = signed-stated hotstuff p (States p) refl (passes-on p) w reached l (own_statement basic p (Prepare v (Holds b) just [])) correct signed in
         let mine = own-proposal p s.msg v (node_digest p v (Holds b) just) s.states in
         let at = made-at hotstuff p l s.item (w l) (legal.made l) s.taken in
@@ -238,7 +245,7 @@ module _ (p : Params) (w : World Message) (good : IsGoodParams hotstuff p) (reac
         let at_place : c.place ≡ filled below = sym c.full ∙ ap filled paths in
         let held : Holds c.batch ≡ Holds b = sym c.holds ∙ same.1 in
         let batches : c.batch ≡ b = cc in
-        subst (λ (n : ℕ). acc p w l n b) at_place (subst (λ (z : Batch). acc p w l c.place z) batches c.accepted)
+        subst (λ (n : ℕ). IsCast p w good legal voted l n b) at_place (subst (λ (z : Batch). IsCast p w good legal voted l c.place z) batches c.cast)
 
     pub from-leader : AreFromLeader p w
     from-leader i s b correct h =
@@ -246,8 +253,8 @@ module _ (p : Params) (w : World Message) (good : IsGoodParams hotstuff p) (reac
         let a = r.accepted in
         let k = some p w (acc p w) good facts 1 a.view (hash p.setup.version a.parent (Holds b)) a.certified in
         let t = leads-first k.0 a.view (hash p.setup.version a.parent (Holds b)) k.2 b a.parent a.has refl in
-        let g = proposed-accepted p.leader.0 t.view t.just b a.parent a.below correct (t.signed correct) t.parent_is a.has a.leads in
-        acc-at p.leader.0 r.place s b r.slot (subst (λ (n : ℕ). acc p w p.leader.0 n b) (sym a.place) g)
+        let g = proposed-cast p.leader.0 t.view t.just b a.parent a.below correct (t.signed correct) t.parent_is a.has a.leads in
+        acc-at p.leader.0 r.place s b r.slot (subst (λ (n : ℕ). acc p w p.leader.0 n b) (sym a.place) g.accepted)
 
 pub hotstuff-safe : IsSafe hotstuff
 hotstuff-safe p w good reached sep = record {

@@ -113,3 +113,7 @@ HaveSharedAcceptor p w = (i j : ℕ) (s t : Slot) (b c : Batch) →
 abbrev pub AreFromLeader : Params → World Message → Type 0
 AreFromLeader p w = (i : ℕ) (s : Slot) (b : Batch) → is_correct p.setup p.leader.0 ≡ true →
     delivered hotstuff p i (w i) s.0 ≡ Some (Value_batch b) → In {A = Slot × Batch} (s, b) (accepts (w p.leader.0))
+
+-- and accepts one batch at a slot
+abbrev pub AreOnce : Params → World Message → Type 0
+AreOnce p w = is_correct p.setup p.leader.0 ≡ true → (slot : Slot) (b c : Batch) → In {A = Slot × Batch} (slot, b) (accepts (w p.leader.0)) → In {A = Slot × Batch} (slot, c) (accepts (w p.leader.0)) → b ≡ c

@@ -4,7 +4,7 @@ ghost use Rattle.hs_tree.specs.declared.messages.Message.{Message};
 ghost use Rattle.iss_sb.specs.Calls.{IsGoodParams};
 ghost use Rattle.iss_sb.specs.Evidence.{IsReached, IsString, Separate, World};
 ghost use Rattle.iss_sb.specs.declared.effects.Params.{Params};
-ghost use Rattle.sb_hotstuff.specs.Facts.{AreAgreed, AreBacked, AreExtending, AreFromLeader, AreRested, AreSafeVotes, HaveOneNode, HaveSharedAcceptor, VoteOnce};
+ghost use Rattle.sb_hotstuff.specs.Facts.{AreAgreed, AreBacked, AreExtending, AreFromLeader, AreOnce, AreRested, AreSafeVotes, HaveOneNode, HaveSharedAcceptor, VoteOnce};
 ghost use Rattle.sb_hotstuff.specs.HotStuff.{hotstuff};
 
 /// A node votes once for a phase of a view, in views that never fall.
@@ -52,4 +52,9 @@ pub fn batches_share_an_acceptor()
 /// A batch that is delivered, the segment's leader accepted at that slot, if it is correct.
 pub fn the_leader_accepted_what_is_delivered()
     ensures { (p : Params) (w : World Message) → IsGoodParams hotstuff p → IsReached hotstuff p w → Separate (IsString w) → AreFromLeader p w }
+{}
+
+/// Where the segment's leader is correct, it accepts one batch at a slot.
+pub fn batches_are_accepted_once()
+    ensures { (p : Params) (w : World Message) → IsGoodParams hotstuff p → IsReached hotstuff p w → Separate (IsString w) → AreOnce p w }
 {}

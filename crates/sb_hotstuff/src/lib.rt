@@ -21,7 +21,7 @@ pub mod state;
 pub mod turns;
 
 pub use facts::{
-    a_quorum_accepted_what_is_delivered, batches_share_an_acceptor,
+    a_quorum_accepted_what_is_delivered, batches_are_accepted_once, batches_share_an_acceptor,
     certified_nodes_extend_decided_ones, first_votes_respect_locks,
     later_votes_rest_on_certificates, nodes_agree, the_leader_accepted_what_is_delivered,
     views_have_one_node, votes_are_once_in_rising_views,
