@@ -150,6 +150,7 @@ fn inject(alloc: Global, world: &mut World<Echo>, core: u32, packet: &Bytes) -> 
 fn enough(happened: Happened) -> Result<(), NoMemory> {
     match happened {
         Happened::Done | Happened::Lost(_) => Ok(()),
+        Happened::Forged { .. } | Happened::Collision { .. } => Ok(()),
         Happened::NoMemory | Happened::Stale => Err(NoMemory),
     }
 }
