@@ -1,6 +1,6 @@
 -- The books, as claims and strings are tested against them and put into them.
 use Rattle.std.proofs.Common.{inl, inr, ◌≡◌, ◌≢◌, ◌⊎◌, ℕ, zero, suc, ◌+◌, ◌<◌, Bool, true, false, cond, not, IsTrue, ◌↔◌, ◌==◌, ◌&&◌, ◌||◌, List, [], ◌∷◌, ◌++◌, length, take, get_or, Option, Some, None, Result, Ok, Err, IfOk, refl, sym, ap, ◌∙◌, subst, arith, true≢false}
-use Rattle.std.specs.Prelude.{nat_lt, option_map}
+use Rattle.std.specs.Prelude.{is_some, nat_lt, option_map}
 use Rattle.std.specs.List.{list_any}
 use Rattle.std.specs.Cmp.Lexicographic.{slice_cmp}
 use Rattle.std.specs.Ordering.{is_eq, nat_cmp, ordering_then}
@@ -23,6 +23,8 @@ use Rattle.iss_sb.specs.Evidence.{has_node, is_correct}
 use Rattle.iss_sb.specs.declared.effects.Claim.{Claim}
 use Rattle.iss_world.proofs.PostLemmas.{take-next}
 use Rattle.iss_world.specs.Books.{AreHashed, AreSigned, difference, is_booked, string_at}
+use Rattle.iss_world.specs.Stands.{end_of}
+use Rattle.iss_world.specs.declared.ends.End.{End as Kept}
 
 -- ---- lists of bytes as keys
 
@@ -346,3 +348,25 @@ none-booked s c own v book no' h = subst (λ (b : Bool). AreSigned v (cond b (as
 
 pub all-booked : (s : Setup) (c : ℕ) (own : List Claim) (v : List (List ℕ)) (book : List Signed) → is_correct s c ≡ true → AreSigned v (as_signed own ++ book) → AreSigned v (booked s c own ++ book)
 all-booked s c own v book yes' h = subst (λ (b : Bool). AreSigned v (cond b (as_signed own) [] ++ book)) (sym yes') h
+
+some-end : (o : Option Kept) (p : Option End) → is_some o ≡ true → option_map end_of o ≡ p → (e : End) × (p ≡ Some e)
+some-end (Some x) p q h = (end_of x, sym h)
+some-end None p q h = absurd (true≢false (sym q))
+
+pub not-some : (o : Option Kept) → is_some o ≡ false → o ≡ None
+not-some None q = refl
+not-some (Some x) q = absurd (true≢false q)
+
+pub was-some : (o : Option Kept) → is_some o ≡ true → o ≡ None → ⊥
+was-some o q e = true≢false (sym q ∙ ap (λ (z : Option Kept). is_some z) e)
+
+-- the string at place k is the first that collides
+pub collision-told : (xs : List (List ℕ)) (k : ℕ) (x : List ℕ) (book : List (List ℕ)) (o : Option Kept) → k < length xs → x ≡ get_or xs k x → collision_in (take k xs) book ≡ None →
+    is_some o ≡ true → option_map end_of o ≡ collision_with x (over (take k xs) book) → option_map end_of o ≡ collision_in xs book
+collision-told xs k x book o lt is none some h =
+    let e = some-end o (collision_with x (over (take k xs) book)) some h in
+    let here : collision_with (get_or xs k x) (over (take k xs) book) ≡ Some e.0 = ap (λ (z : List ℕ). collision_with z (over (take k xs) book)) (sym is) ∙ e.1 in
+    h ∙ e.1 ∙ sym (collision-here xs k x book e.0 lt none here)
+
+pub no-collision-at : (x : List ℕ) (book : List (List ℕ)) (o : Option Kept) → is_some o ≡ false → option_map end_of o ≡ collision_with x book → collision_with x book ≡ None
+no-collision-at x book o no' h = sym h ∙ ap (λ (z : Option Kept). option_map end_of z) (not-some o no')

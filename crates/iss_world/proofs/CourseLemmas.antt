@@ -37,6 +37,10 @@ parted [] i d lt = absurd (omega (arith, lt))
 parted (x ∷ xs) zero d lt = refl
 parted (x ∷ xs) (suc i) d lt = ap (λ ys. x ∷ ys) (parted xs i d (omega (arith, lt)))
 
+pub no-packets : (xs : List ℕ) → length xs ≡ 0 → xs ≡ []
+no-packets [] e = refl
+no-packets (x ∷ xs) e = absurd (omega (arith, e))
+
 unless-append : {Msg : Type 0} (o : Option End) (d : Happening Msg) → d.ended ≡ o → (f g more : Held Msg → Happening Msg) →
     ((h : Held Msg) → f h ≡ unless (g h).ended (g h) more) → unless o d f ≡ unless (unless o d g).ended (unless o d g) more
 unless-append None d e f g more h = h d.held
@@ -130,15 +134,15 @@ module _ {M Msg : Type 0} (m : Module Msg) (stands : M → Params → ℕ → Li
         subst (λ (e : Happening Msg). HasChanged m stands later e Done) (sym all) (on.0, refl, refl)
 
     -- the packet ends the run
-    pub each-ended : (packets : List ℕ) (i k : ℕ) (end : Kept) → i < length packets → k ≡ get_or packets i k → (delivers_each s (formats_of s m) (rules_of s) m (take i packets) h).ended ≡ None →
-        HasChanged m stands later (delivers t (formats_of t m) (rules_of t) m (delivers_each s (formats_of s m) (rules_of s) m (take i packets) h).held k) (Ended end) →
+    pub each-ended : (packets : List ℕ) (i k : ℕ) (r : Change) (end : Kept) → r ≡ Ended end → i < length packets → k ≡ get_or packets i k → (delivers_each s (formats_of s m) (rules_of s) m (take i packets) h).ended ≡ None →
+        HasChanged m stands later (delivers t (formats_of t m) (rules_of t) m (delivers_each s (formats_of s m) (rules_of s) m (take i packets) h).held k) r →
         HasChanged m stands later (delivers_each s (formats_of s m) (rules_of s) m packets h) (Ended end)
-    each-ended packets i k end lt is open' d =
+    each-ended packets i k r end was lt is open' d =
         let F = formats_of s m in
         let R = rules_of s in
         let now = delivers_each s F R m (take i packets) h in
         let one = delivers s F R m now.held k in
-        let there = there-delivered now.held k (Ended end) d in
+        let there : HasChanged m stands later one (Ended end) = subst (λ (x : Change). HasChanged m stands later one x) was (there-delivered now.held k r d) in
         let rest = drop (suc i) packets in
         let parts : packets ≡ take i packets ++ k ∷ rest = parted packets i k lt ∙ ap (λ (z : ℕ). take i packets ++ z ∷ rest) (sym is) in
         let all : delivers_each s F R m packets h ≡ one =
@@ -165,13 +169,13 @@ module _ {M Msg : Type 0} (m : Module Msg) (stands : M → Params → ℕ → Li
         subst (λ (z : Happening Msg). HasChanged m stands later z Done) (sym all) (on.0, refl, refl)
 
     -- a pump ends the run
-    pub calms-ended : (i most : ℕ) (packets : List ℕ) (end : Kept) (u : Held Msg) → i < most → calms s (formats_of s m) (rules_of s) m i h ≡ done u → packets ≡ due u.net.network →
-        HasChanged m stands later (delivers_each t (formats_of t m) (rules_of t) m packets u) (Ended end) →
+    pub calms-ended : (i most : ℕ) (packets : List ℕ) (r : Change) (end : Kept) (u : Held Msg) → r ≡ Ended end → i < most → calms s (formats_of s m) (rules_of s) m i h ≡ done u → packets ≡ due u.net.network →
+        HasChanged m stands later (delivers_each t (formats_of t m) (rules_of t) m packets u) r →
         HasChanged m stands later (calms s (formats_of s m) (rules_of s) m most h) (Ended end)
-    calms-ended i most packets end u lt now e d =
+    calms-ended i most packets r end u was lt now e d =
         let F = formats_of s m in
         let R = rules_of s in
-        let there = there-pumped u packets (Ended end) e d in
+        let there : HasChanged m stands later (pumps s F R m u) (Ended end) = subst (λ (x : Change). HasChanged m stands later (pumps s F R m u) x) was (there-pumped u packets r e d) in
         let rest : ℕ = most - suc i in
         let whole : most ≡ i + suc rest = omega (arith, lt) in
         let all : calms s F R m most h ≡ pumps s F R m u =

@@ -7,6 +7,8 @@ use Rattle.iss_base.proofs.Lists.{some-injective}
 use Rattle.iss_log.specs.LogState.{first_number_of}
 use Rattle.iss_model.specs.Concrete.{rules_of}
 use Rattle.iss_model.specs.Conserved.{AcceptsOnce, IsConserved}
+use Rattle.iss_model.proofs.Ranges.{at-cores}
+use Rattle.iss_model.specs.Ends.{HasEvidence}
 use Rattle.iss_model.specs.Formats.{formats_of}
 use Rattle.iss_model.specs.Node.{Formats}
 use Rattle.iss_model.specs.OneLog.{IsOneLog, printed, run_after}
@@ -53,7 +55,7 @@ module _ {M Msg : Type 0} (m : Module Msg) (stands : M → Params → ℕ → Li
       HasHappened m stands v (run_after s m es) (goes_further (run_after s m es).ended s (formats_of s m) (rules_of s) m (run_after s m es) e) x → IsAnswered x →
       StandsAfter s m stands v (es ++ e ∷ [])
   stands-more v es e x h a =
-      subst (λ (p : Progress Msg). StandsAt m stands v p) (sym (run-more es e)) (stands-there v (run_after s m es) _ x h a)
+      subst (λ (p : Progress Msg). StandsAt m stands v p) (sym (run-more es e)) (stands-there v (run_after s m es) (goes_further (run_after s m es).ended s (formats_of s m) (rules_of s) m (run_after s m es) e) x h a)
 
 -- ---- numbers
 
@@ -80,15 +82,16 @@ numbers-agree s m events o = λ i j slot k l oki okj ki lj.
 -- ---- the headline
 
 module _ {M Msg : Type 0} (m : Module Msg) (stands : M → Params → ℕ → List (Item Msg) → Type 0) (s : Setup) (good : IsSetupOf m s)
-    (at-cores : (events : List Event) → AreInRange s events → AreAtCores s events)
-    (one_log : (events : List Event) → AreAtCores s events → IsOneLog s m events)
-    (conserved : AcceptsOnce m → (events : List Event) → AreAtCores s events → IsConserved s m events) where
+    (are_one_log : (events : List Event) → AreAtCores s events → IsOneLog s m events)
+    (once_conserved : AcceptsOnce m → (events : List Event) → AreAtCores s events → IsConserved s m events)
+    (with_evidence : (events : List Event) → AreAtCores s events → HasEvidence s m events) where
   headline-of : (v : WorldState M Msg) (events : List Event) → AreInRange s events → StandsAfter s m stands v events → IsHeadline s m stands v events
   headline-of v events range h = record {
     run = h;
-    one_log = one_log events (at-cores events range);
-    numbers = numbers-agree s m events (one_log events (at-cores events range));
-    conserved = λ once. conserved once events (at-cores events range);
+    one_log = are_one_log events (at-cores s events range);
+    numbers = numbers-agree s m events (are_one_log events (at-cores s events range));
+    conserved = λ once. once_conserved once events (at-cores s events range);
+    evidence = with_evidence events (at-cores s events range);
   }
 
   pub headline-more : (v : WorldState M Msg) (es : List Event) (e : Event) (x : Happened) → AreInRange s es → IsInRange s e →

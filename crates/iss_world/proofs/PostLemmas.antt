@@ -77,19 +77,8 @@ filter-append P (x ∷ xs) ys = put (P x) x (filter P (xs ++ ys)) (filter P xs) 
 pub node-first : (s : Setup) (c : ℕ) → c < s.n → node_of s c ≡ c
 node-first s c lt = let t : nat_lt c s.n ≡ true = lt-ltb c s.n lt in ap (λ (b : Bool). cond b c (number_at (nth s.faulty (c - s.n)))) t
 
-pub node-twin : (s : Setup) (j : ℕ) → node_of s (s.n + j) ≡ number_at (nth s.faulty j)
-node-twin s j =
-    let t : nat_lt (s.n + j) s.n ≡ false = lt-leb (suc (s.n + j)) s.n (omega arith) in
-    let d : s.n + j - s.n ≡ j = omega arith in
-    ap (λ (b : Bool). cond b (s.n + j) (number_at (nth s.faulty (s.n + j - s.n)))) t ∙ ap (λ (k : ℕ). number_at (nth s.faulty k)) d
-
 keep-one : (b : Bool) (P : ℕ → Bool) (c : ℕ) → P c ≡ b → filter P (c ∷ []) ≡ cond b (c ∷ []) []
 keep-one b P c e = ap (λ (t : Bool). cond t (c ∷ []) []) e
-
--- one core more
-pub filter-more : (P : ℕ → Bool) (c : ℕ) (b : Bool) → P c ≡ b → filter P (below (c + 1)) ≡ filter P (below c) ++ cond b (c ∷ []) []
-filter-more P c b e =
-    ap (λ (m : ℕ). filter P (below m)) (add-one c) ∙ filter-append P (below c) (c ∷ []) ∙ ap (λ (zs : List ℕ). filter P (below c) ++ zs) (keep-one b P c e)
 
 none-below : (s : Setup) (k m : ℕ) → m ≤ k → k < s.n → filter (λ c. node_of s c == k) (below m) ≡ []
 none-below s k zero le lt = refl
@@ -117,23 +106,27 @@ one-below s k (suc i) lt le =
 pub own-core : (s : Setup) (k : ℕ) → k < s.n → filter (λ c. node_of s c == k) (below s.n) ≡ k ∷ []
 own-core s k lt = one-below s k s.n lt (omega arith)
 
-pub node-at : (s : Setup) (j : ℕ) (x : NodeId) → nth s.faulty j ≡ Some x → node_of s (s.n + j) ≡ x.0
-node-at s j x e = node-twin s j ∙ ap (λ (o : Option NodeId). number_at o) e
+pub own-posted : (s : Setup) (w later : Network) (from : ℕ) (b : List ℕ) (k : ℕ) → k < s.n → later ≡ posted w (record { from = from; to = k; bytes = b }) →
+    later ≡ posted_to w from b (filter (λ c. node_of s c == k) (below s.n))
+own-posted s w later from b k lt e = e ∙ ap (λ (zs : List ℕ). posted_to w from b zs) (sym (own-core s k lt))
 
--- the twin of this place is posted to, or passed over
-pub twin-next : (s : Setup) (w now later : Network) (from : ℕ) (b : List ℕ) (k j : ℕ) (mine : Bool) → (node_of s (s.n + j) == k) ≡ mine →
-    now ≡ posted_to w from b (filter (λ c. node_of s c == k) (below (s.n + j))) → later ≡ posted_to now from b (cond mine ((s.n + j) ∷ []) []) →
-    later ≡ posted_to w from b (filter (λ c. node_of s c == k) (below (s.n + (j + 1))))
-twin-next s w now later from b k j mine is e l =
+-- one core more is posted to, or passed over
+pub core-next : (s : Setup) (w now later : Network) (from : ℕ) (b : List ℕ) (k c : ℕ) → now ≡ posted_to w from b (filter (λ c. node_of s c == k) (below c)) →
+    later ≡ posted_to now from b (filter (λ c. node_of s c == k) (c ∷ [])) → later ≡ posted_to w from b (filter (λ c. node_of s c == k) (below (c + 1)))
+core-next s w now later from b k c e l =
     let P : ℕ → Bool = λ c. node_of s c == k in
-    let far : s.n + j + 1 ≡ s.n + (j + 1) = omega arith in
-    l ∙ ap (λ (u : Network). posted_to u from b (cond mine ((s.n + j) ∷ []) [])) e
-    ∙ sym (posted_to-append w from b (filter P (below (s.n + j))) (cond mine ((s.n + j) ∷ []) []))
-    ∙ ap (λ (zs : List ℕ). posted_to w from b zs) (sym (filter-more P (s.n + j) mine is))
-    ∙ ap (λ (m : ℕ). posted_to w from b (filter P (below m))) far
+    l ∙ ap (λ (u : Network). posted_to u from b (filter P (c ∷ []))) e
+    ∙ sym (posted_to-append w from b (filter P (below c)) (filter P (c ∷ [])))
+    ∙ ap (λ (zs : List ℕ). posted_to w from b zs) (sym (filter-append P (below c) (c ∷ [])))
+    ∙ ap (λ (m : ℕ). posted_to w from b (filter P (below m))) (sym (add-one c))
 
-pub own-posted : (s : Setup) (w later : Network) (from : ℕ) (b : List ℕ) (k j : ℕ) → k < s.n → j ≡ 0 → later ≡ posted w (record { from = from; to = k; bytes = b }) →
-    later ≡ posted_to w from b (filter (λ c. node_of s c == k) (below (s.n + j)))
-own-posted s w later from b k j lt z e =
-    let all : s.n ≡ s.n + j = omega (arith, z) in
-    e ∙ ap (λ (zs : List ℕ). posted_to w from b zs) (sym (own-core s k lt)) ∙ ap (λ (m : ℕ). posted_to w from b (filter (λ c. node_of s c == k) (below m))) all
+pub passed-over : (s : Setup) (w : Network) (from : ℕ) (b : List ℕ) (k c n : ℕ) → n ≡ node_of s c → n ≢ k → w ≡ posted_to w from b (filter (λ c. node_of s c == k) (c ∷ []))
+passed-over s w from b k c n is ne =
+    let other : (node_of s c == k) ≡ false = ap (λ (i : ℕ). i == k) (sym is) ∙ eqb-other n k ne in
+    ap (λ (t : Bool). posted_to w from b (cond t (c ∷ []) [])) (sym other)
+
+pub posted-if : (s : Setup) (w later : Network) (from : ℕ) (b : List ℕ) (k c n : ℕ) → n ≡ node_of s c → n ≡ k → later ≡ posted w (record { from = from; to = c; bytes = b }) →
+    later ≡ posted_to w from b (filter (λ c. node_of s c == k) (c ∷ []))
+posted-if s w later from b k c n is e p =
+    let mine : (node_of s c == k) ≡ true = ap (λ (i : ℕ). i == k) (sym is ∙ e) ∙ eqb-same k in
+    p ∙ ap (λ (t : Bool). posted_to w from b (cond t (c ∷ []) [])) (sym mine)

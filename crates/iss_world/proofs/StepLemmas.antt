@@ -1,12 +1,11 @@
 -- One step of a core, and the run that the cores stand for.
 use Rattle.std.proofs.Common.{inl, inr, ◌≡◌, ◌≢◌, ◌⊎◌, ℕ, zero, suc, ◌+◌, ◌<◌, ◌≤◌, Bool, true, false, cond, List, [], ◌∷◌, ◌++◌, length, length-append, take, set, slice_get, Option, Some, None, reverse, refl, sym, ap, ◌∙◌, subst, arith}
-use Rattle.std.specs.Prelude.{eqb, option_map}
+use Rattle.std.specs.Prelude.{◌*◌, ◌==◌, eqb, if◌then◌else◌, option_map}
 use Rattle.std.proofs.lemmas.Bool.Decides.{eqb_tells}
 use Rattle.std.proofs.lemmas.List.{length-reverse, reverse-append, reverse-reverse, take-append-le}
 use Rattle.std.proofs.Math.Seq.{take-append_seam}
 use Rattle.iss_base.specs.Lists.{Extends, first_of, over, set_at}
 use Rattle.iss_base.proofs.Lists.{none-some, some-injective}
-use Rattle.iss_layout.proofs.FairLemmas.{few_nodes}
 use Rattle.iss_model.proofs.Casts.{step-grown}
 use Rattle.iss_model.proofs.Ending.{HasSlots}
 use Rattle.iss_model.proofs.Rows.{settles-holds}
@@ -19,16 +18,21 @@ use Rattle.iss_model.specs.Node.{Core, Dropped, Formats, Stepped, Taken, Turn, s
 use Rattle.iss_model.specs.Past.{log_of}
 use Rattle.iss_model.specs.Rules.{Rules}
 use Rattle.iss_model.specs.Run.{End, Forged, Happening, Held, after_step, at_core, booked, by_collision, by_forged, claims_at, collision_in, done, early_of, ended_by, first_forged, is_forged, node_of, posted_all, turned_to}
+use Rattle.iss_model.specs.Sound.{IsSoundCore}
 use Rattle.iss_model.specs.declared.causes.NodeEvent.{NodeEvent}
 use Rattle.iss_model.specs.declared.causes.Why.{Why}
 use Rattle.iss_network.specs.Network.{Network}
 use Rattle.iss_node.specs.State.{NodeState, Stands}
-use Rattle.iss_node.specs.Steps.{HasRetreated, IsDrop, IsMade, IsTurn}
+use Rattle.iss_node.specs.Steps.{HasRetreated, IsAnswer, IsDrop, IsMade, IsTurn}
+use Rattle.iss_node.specs.declared.answers.Answer.{Answer}
+use Rattle.iss_node.specs.declared.answers.Answer.TheVariants.{Dropped as Was_dropped, Taken as Was_taken}
 use Rattle.iss_node.specs.declared.answers.Outcome.{Outcome}
 use Rattle.iss_request.specs.declared.ids.NodeId.{NodeId}
 use Rattle.iss_request.specs.declared.requests.Value.{Value}
 use Rattle.iss_request.specs.declared.setups.Setup.{Setup}
-use Rattle.iss_request.specs.Setup.{IsGoodSetup}
+use Rattle.iss_request.specs.Setup.{IsGoodSetup, nodes_of_kind}
+use Rattle.iss_request.specs.declared.setups.Kind.{Kind}
+use Rattle.iss_request.specs.declared.setups.Kind.TheVariants.{Byzantine, Stopping}
 use Rattle.iss_sb.specs.declared.effects.Claim.{Claim}
 use Rattle.iss_sb.specs.declared.effects.Params.{Params}
 use Rattle.iss_sb.specs.declared.effects.To.{To}
@@ -112,9 +116,14 @@ module _ {Msg : Type 0} (F : Formats Msg) (R : Rules) (M : Module Msg) (me : ℕ
   pub step-epoch : (c : Core Msg) (event : NodeEvent) (t : Turn Msg) → step F R M me c event ≡ Taken t → c.past.epoch ≤ t.core.past.epoch
   step-epoch c event t q = took-epoch c event t (took F R M me c event t q)
 
+some-nodes : (b : Bool) (k : Kind) (f n : ℕ) → n ≡ (if b then 3 else nodes_of_kind k f) → 1 ≤ n
+some-nodes true k f n e = omega (arith, e)
+some-nodes false Byzantine f n e = omega (arith, e)
+some-nodes false Stopping f n e = omega (arith, e)
+
 has-slots : (s : Setup) → IsGoodSetup s → HasSlots (rules_of s)
 has-slots s good = record {
-  some = λ log e. let few = few_nodes s good in let low = good.epoch_low in let some : 0 < s.epoch = omega (arith, few.0, low) in some;
+  some = λ log e. let n = some-nodes (s.«module» == 1) s.kind s.f s.n good.nodes in let low = good.epoch_low in let some : 0 < s.epoch = omega (arith, n, low) in some;
   most = λ log e. le-refl s.epoch;
 }
 
@@ -159,32 +168,40 @@ going None (Some x) h next q = absurd (none-some x (sym q))
 going None None h next q = refl
 
 module _ {Msg : Type 0} (s : Setup) (h : Held Msg) (c : ℕ) (t : Turn Msg) where
-  pub turn-ends : (e : End) → ends_by s h t ≡ Some e → stepped_to s h c (Taken t) ≡ ended_by h e
+  turn-ends : (e : End) → ends_by s h.signed h.hashed t.early t.strings ≡ Some e → stepped_to s h c (Taken t) ≡ ended_by h e
   turn-ends e q = ending (first_forged s (rules_of s) h.signed t.early) (collision_in t.strings h.hashed) h (turned_to s h c t) e q
 
-  pub turn-done : ends_by s h t ≡ None → stepped_to s h c (Taken t) ≡ done (turned_to s h c t)
+  turn-done : ends_by s h.signed h.hashed t.early t.strings ≡ None → stepped_to s h c (Taken t) ≡ done (turned_to s h c t)
   turn-done q = going (first_forged s (rules_of s) h.signed t.early) (collision_in t.strings h.hashed) h (turned_to s h c t) q
 
-kept-some : (o : Option Kept) (e : Kept) → o ≡ Some e → (p : Option End) → option_map end_of o ≡ p → p ≡ Some (end_of e)
-kept-some o e q p h = sym h ∙ ap (λ (z : Option Kept). option_map end_of z) q
+pub kept-end : (o : Option Kept) (e : Kept) (p : Option End) → o ≡ Some e → option_map end_of o ≡ p → Some (end_of e) ≡ p
+kept-end o e p q h = sym (ap (λ (z : Option Kept). option_map end_of z) q) ∙ h
+
+pub no-end : (o : Option Kept) (p : Option End) → o ≡ None → option_map end_of o ≡ p → p ≡ None
+no-end o p q h = sym h ∙ ap (λ (z : Option Kept). option_map end_of z) q
 
 -- why a step ends the run, by its early claims, and by its strings
-pub ends-forged : (s : Setup) {Msg : Type 0} (h : Held Msg) (t : Turn Msg) (early : List Claim) (claim : Claim) → early ≡ t.early →
-    Some claim ≡ first_forged s (rules_of s) h.signed early → Some (Forged claim) ≡ ends_by s h t
-ends-forged s h t early claim same is =
-    let one : Some claim ≡ first_forged s (rules_of s) h.signed t.early = is ∙ ap (λ (cs : List Claim). first_forged s (rules_of s) h.signed cs) same in
-    ap (λ (o : Option Claim). first_of (forged_in o) (collision_in t.strings h.hashed)) one
+pub ends-forged : (s : Setup) (signed : List Signed) (hashed strings : List (List ℕ)) (early lent : List Claim) (claim : Claim) (o : Option Claim) → lent ≡ early → o ≡ Some claim →
+    o ≡ first_forged s (rules_of s) signed lent → Some (Forged claim) ≡ ends_by s signed hashed early strings
+ends-forged s signed hashed strings early lent claim o same some is =
+    let one : Some claim ≡ first_forged s (rules_of s) signed early = sym some ∙ is ∙ ap (λ (cs : List Claim). first_forged s (rules_of s) signed cs) same in
+    ap (λ (q : Option Claim). first_of (forged_in q) (collision_in strings hashed)) one
 
-pub ends-collided : (s : Setup) {Msg : Type 0} (h : Held Msg) (t : Turn Msg) (early : List Claim) (strings : List (List ℕ)) (end : Option End) → early ≡ t.early → strings ≡ t.strings →
-    None ≡ first_forged s (rules_of s) h.signed early → end ≡ collision_in strings h.hashed → end ≡ ends_by s h t
-ends-collided s h t early strings end same same-strings none is =
-    let no : None ≡ first_forged s (rules_of s) h.signed t.early = none ∙ ap (λ (cs : List Claim). first_forged s (rules_of s) h.signed cs) same in
-    is ∙ ap (λ (xs : List (List ℕ)). collision_in xs h.hashed) same-strings ∙ ap (λ (o : Option Claim). first_of (forged_in o) (collision_in t.strings h.hashed)) no
+pub ends-collided : (s : Setup) (signed : List Signed) (hashed strings lent-strings : List (List ℕ)) (early lent : List Claim) (o : Option Claim) (end : Option End) → lent ≡ early → lent-strings ≡ strings →
+    o ≡ None → o ≡ first_forged s (rules_of s) signed lent → end ≡ collision_in lent-strings hashed → end ≡ ends_by s signed hashed early strings
+ends-collided s signed hashed strings lent-strings early lent o end same same-strings none is e =
+    let no' : None ≡ first_forged s (rules_of s) signed early = sym none ∙ is ∙ ap (λ (cs : List Claim). first_forged s (rules_of s) signed cs) same in
+    e ∙ ap (λ (xs : List (List ℕ)). collision_in xs hashed) same-strings ∙ ap (λ (q : Option Claim). first_of (forged_in q) (collision_in strings hashed)) no'
+
+-- a turn's claims and strings are those that are handed out
+made-ends : (s : Setup) {Msg : Type 0} (h : Held Msg) (t : Turn Msg) (o : Outcome) → IsMade t o → ends_by s h.signed h.hashed o.early o.hashed ≡ ends_by s h.signed h.hashed t.early t.strings
+made-ends s h t o made =
+    ap (λ (cs : List Claim). ends_by s h.signed h.hashed cs o.hashed) made.early ∙ ap (λ (xs : List (List ℕ)). ends_by s h.signed h.hashed t.early xs) made.hashed
 
 module _ {M Msg : Type 0} (m : Module Msg) (stands : M → Params → ℕ → List (Item Msg) → Type 0) where
   -- ---- what the cores show
 
-  runs-show : (v : RunningState M Msg) (h : Held Msg) → IsRunning m v → Runs m stands v h → Shows m v h
+  pub runs-show : (v : RunningState M Msg) (h : Held Msg) → IsRunning m v → Runs m stands v h → Shows m v h
   runs-show v h r st = record {
     log = λ i g at.
         subst (λ (k : ℕ). log_of (rules_of v.setup) m k (h.net.cores i).past ≡ reverse g.parts.log.entries) (r.places i g at)
@@ -237,8 +254,21 @@ module _ {M Msg : Type 0} (m : Module Msg) (stands : M → Params → ℕ → Li
         subst (λ (k : ℕ). claims ≡ claims_at (formats_of v.setup m) (rules_of v.setup) m k (h.net.cores i) event) (r.places i g at)
         (subst (λ (s : Setup). claims ≡ claims_at (formats_of s m) (rules_of s) m g.parts.me.0 (h.net.cores i) event) (r.setups i g at) (f (h.net.cores i) (st.cores i g at)))
 
+    -- the answer in its arms
+    pub answer-taken : (later : NodeState M Msg) (a : Answer) (outcome : Outcome) → a ≡ Was_taken outcome →
+        ((c : Core Msg) → Stands m stands g c → IsAnswer m stands c (step (formats_of g.parts.setup m) (rules_of g.parts.setup) m g.parts.me.0 c event) later a) →
+        (c : Core Msg) → Stands m stands g c → IsTurn m stands (step (formats_of g.parts.setup m) (rules_of g.parts.setup) m g.parts.me.0 c event) later outcome
+    answer-taken later a outcome e f c st =
+        subst (λ (z : Answer). IsAnswer m stands c (step (formats_of g.parts.setup m) (rules_of g.parts.setup) m g.parts.me.0 c event) later z) e (f c st)
+
+    pub answer-dropped : (later : NodeState M Msg) (a : Answer) (why : Why) → a ≡ Was_dropped why →
+        ((c : Core Msg) → Stands m stands g c → IsAnswer m stands c (step (formats_of g.parts.setup m) (rules_of g.parts.setup) m g.parts.me.0 c event) later a) →
+        (c : Core Msg) → Stands m stands g c → IsDrop m stands c (step (formats_of g.parts.setup m) (rules_of g.parts.setup) m g.parts.me.0 c event) later why
+    answer-dropped later a why e f c st =
+        subst (λ (z : Answer). IsAnswer m stands c (step (formats_of g.parts.setup m) (rules_of g.parts.setup) m g.parts.me.0 c event) later z) e (f c st)
+
     module _ (later : NodeState M Msg) (lt : i < length v.nodes) where
-      turn-at : (outcome : Outcome) → ((c : Core Msg) → Stands m stands g c → IsTurn m stands (step (formats_of g.parts.setup m) (rules_of g.parts.setup) m g.parts.me.0 c event) later outcome) →
+      pub turn-at : (outcome : Outcome) → ((c : Core Msg) → Stands m stands g c → IsTurn m stands (step (formats_of g.parts.setup m) (rules_of g.parts.setup) m g.parts.me.0 c event) later outcome) →
           (h : Held Msg) → Runs m stands v h → IsTurn m stands (step (formats_of v.setup m) (rules_of v.setup) m (node_of v.setup i) (h.net.cores i) event) later outcome
       turn-at outcome f h st =
           subst (λ (k : ℕ). IsTurn m stands (step (formats_of v.setup m) (rules_of v.setup) m k (h.net.cores i) event) later outcome) (r.places i g at)
@@ -282,7 +312,8 @@ module _ {M Msg : Type 0} (m : Module Msg) (stands : M → Params → ℕ → Li
             let parts = (st.cores i g at).parts in
             let sound = parts.tied.sound in
             let slots : HasSlots (rules_of s) = subst (λ (z : Setup). HasSlots (rules_of z)) (sym (r.setups i g at)) (has-slots v.setup r.good.good) in
-            let up = step-grown (formats_of s m) (rules_of s) m g.parts.me.0 slots (are-windows s) c event turn.turn (rw parts.core sound) turn.step_is in
+            let up = step-grown (formats_of s m) (rules_of s) m g.parts.me.0 slots (are-windows s) c event turn.turn
+            (subst (λ (z : Core Msg). IsSoundCore (rules_of s) m g.parts.me.0 z) (sym parts.core) sound) turn.step_is in
             let late = turn.stands_for.parts.tied.log in
             let there : log_of (rules_of s) m g.parts.me.0 turn.turn.core.past ≡ reverse later.parts.log.entries =
             subst (λ (k : ℕ). log_of (rules_of s) m k turn.turn.core.past ≡ reverse later.parts.log.entries) (ap (λ (z : NodeId). z.0) em)
@@ -307,7 +338,7 @@ module _ {M Msg : Type 0} (m : Module Msg) (stands : M → Params → ℕ → Li
             subst (λ (z : NodeState M Msg). epoch ≤ z.parts.epoch) (sym same) (omega (arith, is, up, before, after))
 
         -- the core has taken its turn, and all else stands as it stood
-        pub behind : (h : Held Msg) → Runs m stands v h → (slots epoch : ℕ) → slots ≡ length g.parts.log.entries → epoch ≡ g.parts.epoch →
+        pub behind : (h : Held Msg) (st : Runs m stands v h) (slots epoch : ℕ) → slots ≡ length g.parts.log.entries → epoch ≡ g.parts.epoch →
             IsBehind m stands (record { setup = v.setup; nodes = set v.nodes i later; network = v.network; signed = v.signed; hashed = v.hashed }) h i (turn-at outcome f h st).turn slots epoch
         behind h st slots epoch is ise =
             let t = turn-at outcome f h st in
@@ -367,23 +398,24 @@ module _ {M Msg : Type 0} (m : Module Msg) (stands : M → Params → ℕ → Li
       ];
     }
 
-    pub turn-ended : (g later : NodeState M Msg) (net : Network) (signed : List (List ℕ)) (hashed : List (List ℕ × List ℕ)) (end : Kept) → slice_get v.nodes i ≡ Some g → HasRetreated g later slots epoch →
-        Some (end_of end) ≡ ends_by v.setup h t →
+    pub turn-ended : (outcome : Outcome) (g later : NodeState M Msg) (net : Network) (signed : List (List ℕ)) (hashed : List (List ℕ × List ℕ)) (end : Kept) → IsMade t outcome →
+        slice_get v.nodes i ≡ Some g → HasRetreated g later slots epoch → Some (end_of end) ≡ ends_by v.setup h.signed h.hashed outcome.early outcome.hashed →
         HasChanged m stands (record { setup = v.setup; nodes = set v.nodes i later; network = net; signed = signed; hashed = hashed }) (stepped_to v.setup h i (Taken t)) (Ended end)
-    turn-ended g later net signed hashed end at back is =
+    turn-ended outcome g later net signed hashed end made at back is =
         subst (λ (d : Happening Msg). HasChanged m stands (record { setup = v.setup; nodes = set v.nodes i later; network = net; signed = signed; hashed = hashed }) d (Ended end))
-        (sym (turn-ends v.setup h i t (end_of end) (sym is)))
+        (sym (turn-ends v.setup h i t (end_of end) (sym (is ∙ made-ends v.setup h t outcome made))))
         (shows-before g later net signed hashed at back, refl, refl)
 
-    pub turn-stands : (outcome : Outcome) (net : Network) (signed : List (List ℕ)) (hashed : List (List ℕ × List ℕ)) → IsMade t outcome → ends_by v.setup h t ≡ None →
-        net ≡ posted_all v.setup v.network i outcome.sends → AreSigned signed (booked v.setup i outcome.own ++ h.signed) → AreHashed hashed (over t.strings h.hashed) →
+    pub turn-stands : (outcome : Outcome) (net : Network) (signed : List (List ℕ)) (hashed : List (List ℕ × List ℕ)) → IsMade t outcome →
+        ends_by v.setup h.signed h.hashed outcome.early outcome.hashed ≡ None →
+        net ≡ posted_all v.setup v.network i outcome.sends → AreSigned signed (booked v.setup i outcome.own ++ h.signed) → AreHashed hashed (over outcome.hashed h.hashed) →
         HasChanged m stands (record { setup = v.setup; nodes = v.nodes; network = net; signed = signed; hashed = hashed }) (stepped_to v.setup h i (Taken t)) Done
     turn-stands outcome net signed hashed made none en es eh =
         subst (λ (d : Happening Msg). HasChanged m stands (record { setup = v.setup; nodes = v.nodes; network = net; signed = signed; hashed = hashed }) d Done)
-        (sym (turn-done v.setup h i t none))
+        (sym (turn-done v.setup h i t (sym (made-ends v.setup h t outcome made) ∙ none)))
         (record {
           cores = b.cores;
           network = en ∙ ap (λ (u : Network). posted_all v.setup u i outcome.sends) b.network ∙ ap (λ (xs : List (To × List ℕ)). posted_all v.setup h.net.network i xs) made.sends;
           signed = subst (λ (cs : List Claim). AreSigned signed (booked v.setup i cs ++ h.signed)) made.own es;
-          hashed = eh;
+          hashed = subst (λ (xs : List (List ℕ)). AreHashed hashed (over xs h.hashed)) made.hashed eh;
         }, refl, refl)

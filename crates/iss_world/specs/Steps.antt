@@ -1,6 +1,7 @@
 -- One step of a core, from the test of what it claims to what is booked and posted.
 use Rattle.std.specs.Prelude.{◌≡◌, ℕ, List, Option, Some, None, reverse, slice_get, take}
 use Rattle.iss_base.specs.Lists.{first_of, set_at}
+use Rattle.iss_model.specs.Cluster.{Signed}
 use Rattle.iss_model.specs.Concrete.{rules_of}
 use Rattle.iss_model.specs.Node.{Stepped, Turn}
 use Rattle.iss_model.specs.Past.{log_of}
@@ -22,9 +23,9 @@ abbrev pub forged_in : Option Claim → Option End
 forged_in None = None
 forged_in (Some claim) = Some (Forged claim)
 
--- why a turn ends the run, if it does
-abbrev pub ends_by : {Msg : Type 0} → Setup → Held Msg → Turn Msg → Option End
-ends_by s h t = first_of (forged_in (first_forged s (rules_of s) h.signed t.early)) (collision_in t.strings h.hashed)
+-- why a turn ends the run, if it does: by the claims of what had come early, or by its strings
+abbrev pub ends_by : Setup → List Signed → List (List ℕ) → List Claim → List (List ℕ) → Option End
+ends_by s signed hashed early strings = first_of (forged_in (first_forged s (rules_of s) signed early)) (collision_in strings hashed)
 
 -- core c has taken a turn, of which nothing is tested, booked or posted yet: all else stands for what is held, where the core
 -- had so many slots, and was in this epoch

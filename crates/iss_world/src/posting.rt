@@ -1,5 +1,5 @@
 //! Posting what a step of a core sends.
-ghost use Rattle.std.specs.Prelude.{◌≡◌, ◌<◌, ◌==◌, ℕ, length, OnOk};
+ghost use Rattle.std.specs.Prelude.{◌≡◌, ◌<◌, ◌==◌, ◌∷◌, [], ℕ, length, OnOk};
 ghost use Rattle.std.specs.List.{filter};
 ghost use Rattle.iss_base.specs.Lists.{below};
 ghost use Rattle.iss_model.specs.Run.{addressees, cores_of, node_of, posted_all, posted_to};
@@ -8,7 +8,7 @@ ghost use Rattle.iss_request.specs.Setup.{IsGoodSetup};
 ghost use Rattle.iss_sb.specs.Calls.{AreToNodes, IsToNode};
 ghost use Rattle.iss_world.specs.Shape.{IsNetworkOf};
 
-use crate::cores::cores_of;
+use crate::cores::{cores_of, node_of};
 use iss_network::Network;
 use iss_request::{Bytes, NoMemory, NodeId, Setup};
 use iss_sb::To;
@@ -80,13 +80,32 @@ fn post_to_node(
 {
     let n = cores_of(setup);
     post_to(network, n, from, node.0 as u32, bytes)?;
-    let faulty = setup.faulty.as_slice();
-    for place in 0..faulty.len() {
-        if faulty[place].0 == node.0 {
-            post_to(network, n, from, setup.n + place as u32, bytes)?;
-        }
+    for core in setup.n..n {
+        post_if_runs(network, setup, from, node, core, bytes)?;
     }
     Ok(())
+}
+
+// Posts a packet to a core, if it runs this node.
+fn post_if_runs(
+    network: &mut Network,
+    setup: &Setup,
+    from: u32,
+    node: NodeId,
+    core: u32,
+    bytes: &Bytes,
+) -> Result<(), NoMemory>
+    requires good { IsGoodSetup setup.now }
+    requires between { IsNetworkOf (cores_of setup.now) network.old }
+    requires core { core < cores_of setup.now }
+    ensures posted { OnOk result (network.new ≡ posted_to network.old from bytes.now (filter (λ c. node_of setup.now c == node.0) (core ∷ []))) }
+    ensures between { IsNetworkOf (cores_of setup.now) network.new }
+{
+    let runs = node_of(setup, core);
+    if runs.0 != node.0 {
+        return Ok(());
+    }
+    post_to(network, cores_of(setup), from, core, bytes)
 }
 
 // Posts a packet to one core of the `n`.

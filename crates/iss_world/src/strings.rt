@@ -66,8 +66,9 @@ impl Strings {
         ensures booked { IfOk result (λ end. (book : List (List ℕ)) → AreHashed self.old book → end ≡ None → AreHashed self.new (over strings.now book)) }
     {
         for string in strings {
-            if let Some(end) = self.add(string)? {
-                return Ok(Some(end));
+            let end = self.add(string)?;
+            if end.is_some() {
+                return Ok(end);
             }
         }
         Ok(None)

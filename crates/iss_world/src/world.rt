@@ -15,7 +15,9 @@ ghost use Rattle.iss_world.specs.Stands.{HasHappened, IsOverOr, IsStaleOr, IsSta
 use crate::ends::{Change, End};
 use crate::running::Running;
 use iss_log::Log;
-use iss_model::{Why, cluster_runs, composition, requests_are_conserved};
+use iss_model::{
+    Why, cluster_runs, composition, requests_are_conserved, runs_end_with_evidence,
+};
 use iss_node::Node;
 use iss_request::{Bytes, Epoch, NoMemory, NodeId, Setup, Value};
 use iss_sb::Sequenced;
@@ -102,6 +104,7 @@ impl<M: Sequenced> World<M> {
         composition::<M>();
         cluster_runs::<M>();
         requests_are_conserved::<M>();
+        runs_end_with_evidence::<M>();
         let _setup = self.running.setup();
         if self.stale {
             return Happened::Stale;
