@@ -79,11 +79,11 @@ module _ {Msg : Type 0} (s : Setup) (F : Formats Msg) (R : Rules) (M : Module Ms
   abbrev IsToldOnce : Happening Msg → Type 0
   IsToldOnce d = (end : End) → d.ended ≡ Some end → d.lost ≡ None
 
-  open-once : (d : Happening Msg) → d.ended ≡ None → IsToldOnce d
-  open-once d open end q = absurd (cc)
+  untold : (d : Happening Msg) → d.ended ≡ None → IsToldOnce d
+  untold d going end q = absurd (cc)
 
   after-once : (h : Held Msg) (c : ℕ) (o : Stepped Msg) → IsToldOnce (after_step s h c o)
-  after-once h c (Dropped why) = open-once (after_step s h c (Dropped why)) refl
+  after-once h c (Dropped why) = untold (after_step s h c (Dropped why)) refl
   after-once h c (Taken t) = λ end q. go (collision_in t.strings h.hashed)
     where
       go : (o : Option End) → (by_collision o h (turned_to s h c t)).lost ≡ None
@@ -101,7 +101,7 @@ module _ {Msg : Type 0} (s : Setup) (F : Formats Msg) (R : Rules) (M : Module Ms
       go (Some claim) k = λ end q. refl
 
   delivered-once : (h : Held Msg) (k : ℕ) (o : Option Sent) → IsToldOnce (delivered_to s F R M h k o)
-  delivered-once h k None = open-once (delivered_to s F R M h k None) refl
+  delivered-once h k None = untold (delivered_to s F R M h k None) refl
   delivered-once h k (Some p) = at-once (with_network h (settled h.net.network k)) p.to (Gets p.bytes)
 
   unless-once : (d : Happening Msg) (more : Held Msg → Happening Msg) → IsToldOnce d → ((g : Held Msg) → IsToldOnce (more g)) → (o : Option End) → IsToldOnce (unless o d more)
@@ -109,23 +109,23 @@ module _ {Msg : Type 0} (s : Setup) (F : Formats Msg) (R : Rules) (M : Module Ms
   unless-once d more a b (Some end) = a
 
   each-once : (ks : List ℕ) (h : Held Msg) → IsToldOnce (delivers_each s F R M ks h)
-  each-once [] h = open-once (done h) refl
+  each-once [] h = untold (done h) refl
   each-once (k ∷ ks) h =
       let d = delivers s F R M h k in
       unless-once d (delivers_each s F R M ks) (delivered-once h k (nth h.net.network.packets k)) (λ g. each-once ks g) d.ended
 
   calms-once : (k : ℕ) (h : Held Msg) → IsToldOnce (calms s F R M k h)
-  calms-once zero h = open-once (done h) refl
+  calms-once zero h = untold (done h) refl
   calms-once (suc k) h =
       let d = pumps s F R M h in
       unless-once d (calms s F R M k) (each-once (due h.net.network) h) (λ g. calms-once k g) d.ended
 
   loses-once : (h : Held Msg) (k : ℕ) (o : Option Sent) → IsToldOnce (loses h k o)
-  loses-once h k None = open-once (loses h k None) refl
-  loses-once h k (Some p) = open-once (loses h k (Some p)) refl
+  loses-once h k None = untold (loses h k None) refl
+  loses-once h k (Some p) = untold (loses h k (Some p)) refl
 
   injects-once : (h : Held Msg) (c : ℕ) (bytes : List ℕ) (b : Bool) → IsToldOnce (cond b (done h) (at_core s F R M h c (Gets bytes)))
-  injects-once h c bytes true = open-once (done h) refl
+  injects-once h c bytes true = untold (done h) refl
   injects-once h c bytes false = at-once h c (Gets bytes)
 
   told-once : (h : Held Msg) (e : Event) → IsToldOnce (happens s F R M h e)
@@ -137,9 +137,9 @@ module _ {Msg : Type 0} (s : Setup) (F : Formats Msg) (R : Rules) (M : Module Ms
   told-once h (Lose k) = loses-once h k (nth h.net.network.packets k)
   told-once h Pump = each-once (due h.net.network) h
   told-once h (Calm k) = calms-once k h
-  told-once h (Hold c) = open-once (happens s F R M h (Hold c)) refl
-  told-once h (Free c) = open-once (happens s F R M h (Free c)) refl
-  told-once h (Clear c) = open-once (happens s F R M h (Clear c)) refl
+  told-once h (Hold c) = untold (happens s F R M h (Hold c)) refl
+  told-once h (Free c) = untold (happens s F R M h (Free c)) refl
+  told-once h (Clear c) = untold (happens s F R M h (Clear c)) refl
   told-once h (Bytes c bytes) = injects-once h c bytes M.stopping
 
 -- ---- runs, event by event
@@ -150,25 +150,25 @@ why-is k (Some other) end q = q
 
 module _ {M Msg : Type 0} (m : Module Msg) (stands : M → Params → ℕ → List (Item Msg) → Type 0) where
   further-is : (s : Setup) (F : Formats Msg) (R : Rules) (p : Progress Msg) (e : Event) → end_kept None ≡ p.ended → goes_further p.ended s F R m p e ≡ goes_on s F R m p e
-  further-is s F R p e open = ap (λ (o : Option (ℕ × End)). goes_further o s F R m p e) (sym open)
+  further-is s F R p e going = ap (λ (o : Option (ℕ × End)). goes_further o s F R m p e) (sym going)
 
   happened-on : (s : Setup) (F : Formats Msg) (R : Rules) (later : WorldState M Msg) (p : Progress Msg) (e : Event) (r : Happened) → end_kept None ≡ p.ended →
       HasHappened m stands later p (goes_further p.ended s F R m p e) r → HasHappened m stands later p (goes_on s F R m p e) r
-  happened-on s F R later p e r open h = subst (λ (q : Progress Msg). HasHappened m stands later p q r) (further-is s F R p e open) h
+  happened-on s F R later p e r going h = subst (λ (q : Progress Msg). HasHappened m stands later p q r) (further-is s F R p e going) h
 
   -- an event that is not lost, one that is, and one in which the run ends
   pub went-on : (s : Setup) (F : Formats Msg) (R : Rules) (later : WorldState M Msg) (drops : List (ℕ × Why)) (p : Progress Msg) (e : Event) →
       HasHappened m stands later p (goes_further p.ended s F R m p e) Done → end_kept None ≡ p.ended → reverse drops ≡ p.drops →
       StandsForRun m stands later drops None (goes_on s F R m p e)
-  went-on s F R later drops p e h open d =
-      let r = happened-on s F R later p e Done open h in
+  went-on s F R later drops p e h going d =
+      let r = happened-on s F R later p e Done going h in
       record { stands_for = r.0; drops_are = d ∙ sym r.2; end_is = sym r.1 }
 
   pub was-lost : (s : Setup) (F : Formats Msg) (R : Rules) (later : WorldState M Msg) (old drops : List (ℕ × Why)) (p : Progress Msg) (e : Event) (k : ℕ) (why : Why) →
       HasHappened m stands later p (goes_further p.ended s F R m p e) (Lost why) → end_kept None ≡ p.ended → p.event ≡ k → reverse old ≡ p.drops → drops ≡ old ++ (k, why) ∷ [] →
       StandsForRun m stands later drops None (goes_on s F R m p e)
-  was-lost s F R later old drops p e k why h open n d is =
-      let r = happened-on s F R later p e (Lost why) open h in
+  was-lost s F R later old drops p e k why h going n d is =
+      let r = happened-on s F R later p e (Lost why) going h in
       record {
         stands_for = r.0;
         drops_are =
@@ -193,37 +193,37 @@ module _ {M Msg : Type 0} (m : Module Msg) (stands : M → Params → ℕ → Li
   pub was-forged : (s : Setup) (F : Formats Msg) (R : Rules) (later : WorldState M Msg) (drops : List (ℕ × Why)) (p : Progress Msg) (e : Event) (k : ℕ) (by : NodeId) (statement sig : List ℕ) →
       HasHappened m stands later p (goes_further p.ended s F R m p e) (Was_forged by statement sig) → end_kept None ≡ p.ended → p.event ≡ k → reverse drops ≡ p.drops →
       StandsForRun m stands later drops (numbered k (Some (Kept_forged (record { by = by; statement = statement; sig = sig })))) (goes_on s F R m p e)
-  was-forged s F R later drops p e k by statement sig h open n d =
-      let r = happened-on s F R later p e (Was_forged by statement sig) open h in
+  was-forged s F R later drops p e k by statement sig h going n d =
+      let r = happened-on s F R later p e (Was_forged by statement sig) going h in
       has-ended s F R later drops p e k (Kept_forged (record { by = by; statement = statement; sig = sig })) r.0 r.1 n d
 
   pub has-collided : (s : Setup) (F : Formats Msg) (R : Rules) (later : WorldState M Msg) (drops : List (ℕ × Why)) (p : Progress Msg) (e : Event) (k : ℕ) (first second : List ℕ) →
       HasHappened m stands later p (goes_further p.ended s F R m p e) (Was_collision first second) → end_kept None ≡ p.ended → p.event ≡ k → reverse drops ≡ p.drops →
       StandsForRun m stands later drops (numbered k (Some (Kept_collision first second))) (goes_on s F R m p e)
-  has-collided s F R later drops p e k first second h open n d =
-      let r = happened-on s F R later p e (Was_collision first second) open h in
+  has-collided s F R later drops p e k first second h going n d =
+      let r = happened-on s F R later p e (Was_collision first second) going h in
       has-ended s F R later drops p e k (Kept_collision first second) r.0 r.1 n d
 
   -- one event more
   next-run : (s : Setup) (es : List Event) (i : ℕ) (e : Event) → i < length es → e ≡ get_or es i e → end_kept None ≡ (run_after s m (take i es)).ended →
       run_after s m (take (i + 1) es) ≡ goes_on s (formats_of s m) (rules_of s) m (run_after s m (take i es)) e
-  next-run s es i e lt is open =
+  next-run s es i e lt is going =
       ap (λ (fs : List Event). run_after s m fs) (take-next es i e lt is)
       ∙ run-append s (formats_of s m) (rules_of s) m (take i es) (e ∷ []) (begin_run s)
-      ∙ further-is s (formats_of s m) (rules_of s) (run_after s m (take i es)) e open
+      ∙ further-is s (formats_of s m) (rules_of s) (run_after s m (take i es)) e going
 
   pub run-next : (s t : Setup) (later : WorldState M Msg) (drops : List (ℕ × Why)) (ended : Option (ℕ × Kept)) (es : List Event) (i : ℕ) (e : Event) →
       t ≡ s → i < length es → e ≡ get_or es i e → end_kept None ≡ (run_after s m (take i es)).ended →
       StandsForRun m stands later drops ended (goes_on t (formats_of t m) (rules_of t) m (run_after s m (take i es)) e) → StandsForRun m stands later drops ended (run_after s m (take (i + 1) es))
-  run-next s t later drops ended es i e same lt is open h =
+  run-next s t later drops ended es i e same lt is going h =
       let there : StandsForRun m stands later drops ended (goes_on s (formats_of s m) (rules_of s) m (run_after s m (take i es)) e) =
       subst (λ (u : Setup). StandsForRun m stands later drops ended (goes_on u (formats_of u m) (rules_of u) m (run_after s m (take i es)) e)) same h in
-      subst (λ (p : Progress Msg). StandsForRun m stands later drops ended p) (sym (next-run s es i e lt is open)) there
+      subst (λ (p : Progress Msg). StandsForRun m stands later drops ended p) (sym (next-run s es i e lt is going)) there
 
   pub number-next : (s : Setup) (es : List Event) (i : ℕ) (e : Event) → i < length es → e ≡ get_or es i e → end_kept None ≡ (run_after s m (take i es)).ended →
       (run_after s m (take i es)).event ≡ i → (run_after s m (take (i + 1) es)).event ≡ i + 1
-  number-next s es i e lt is open n =
-      let next : (run_after s m (take (i + 1) es)).event ≡ suc (run_after s m (take i es)).event = ap (λ (p : Progress Msg). p.event) (next-run s es i e lt is open) in
+  number-next s es i e lt is going n =
+      let next : (run_after s m (take (i + 1) es)).event ≡ suc (run_after s m (take i es)).event = ap (λ (p : Progress Msg). p.event) (next-run s es i e lt is going) in
       omega (arith, next, n)
 
   -- what comes after the end changes nothing
