@@ -93,7 +93,11 @@ fn go_on<M: Sequenced>(
             drops.push((number, why))?;
             Ok(None)
         }
-        Happened::Forged { by, statement, sig } => Ok(Some(End::Forged(Claim { by, statement, sig }))),
+        Happened::Forged { by, statement, sig } => Ok(Some(End::Forged(Claim {
+            by,
+            statement,
+            sig,
+        }))),
         Happened::Collision { first, second } => Ok(Some(End::Collision { first, second })),
         Happened::NoMemory | Happened::Stale => Err(NoMemory),
     }

@@ -82,11 +82,7 @@ fn put_block<M: Sequenced>(out: &mut Vec<u8>, world: &World<M>, node: u32) -> Re
 }
 
 // Writes how the run ended.
-fn put_end(
-    alloc: Global,
-    out: &mut Vec<u8>,
-    ended: &Option<(u64, End)>,
-) -> Result<(), NoMemory>
+fn put_end(alloc: Global, out: &mut Vec<u8>, ended: &Option<(u64, End)>) -> Result<(), NoMemory>
     ensures { OnOk result (out.new.items ≡ out.old.items ++ end_line (end_kept ended.now)) }
 {
     match ended {

@@ -54,16 +54,20 @@ module _ {M Msg : Type 0} (m : Module Msg) (stands : M → Params → ℕ → Li
       | inl a ↦
           let d = happens s F R m p.held e in
           let c : HasChanged m stands v d Done = subst (λ (y : Change). HasChanged m stands v d y) a.0 h in
-          subst (λ (y : Happened). HasHappened m stands (awake v end) p (goes_on s F R m p e) y) (sym a.2)
-          (subst (λ (z : Option End). StandsThen m stands (awake v end) d.held (ended_at p.event z)) (sym c.2) (record { fresh = refl; goes_on = a.1; running = c.0 }),
-          ap (λ (z : Option End). ended_at p.event z) c.2, ap (λ (z : Option Why). noted p.event z p.drops) c.1)
+          subst (λ (y : Happened). HasHappened m stands (awake v end) p (goes_on s F R m p e) y) (sym a.2) (
+            subst (λ (z : Option End). StandsThen m stands (awake v end) d.held (ended_at p.event z)) (sym c.2) (record { fresh = refl; goes_on = a.1; running = c.0 }),
+            ap (λ (z : Option End). ended_at p.event z) c.2,
+            ap (λ (z : Option Why). noted p.event z p.drops) c.1,
+          )
       | inr b ↦ elim b [
         | inl a ↦
             let d = happens s F R m p.held e in
             let c : HasChanged m stands v d (Lost a.0) = subst (λ (y : Change). HasChanged m stands v d y) a.1 h in
-            subst (λ (y : Happened). HasHappened m stands (awake v end) p (goes_on s F R m p e) y) (sym a.3)
-            (subst (λ (z : Option End). StandsThen m stands (awake v end) d.held (ended_at p.event z)) (sym c.2) (record { fresh = refl; goes_on = a.2; running = c.0 }),
-            ap (λ (z : Option End). ended_at p.event z) c.2, ap (λ (z : Option Why). noted p.event z p.drops) c.1)
+            subst (λ (y : Happened). HasHappened m stands (awake v end) p (goes_on s F R m p e) y) (sym a.3) (
+              subst (λ (z : Option End). StandsThen m stands (awake v end) d.held (ended_at p.event z)) (sym c.2) (record { fresh = refl; goes_on = a.2; running = c.0 }),
+              ap (λ (z : Option End). ended_at p.event z) c.2,
+              ap (λ (z : Option Why). noted p.event z p.drops) c.1,
+            )
         | inr a ↦
             let d = happens s F R m p.held e in
             let c : HasChanged m stands v d (Ended a.0) = subst (λ (y : Change). HasChanged m stands v d y) a.1 h in

@@ -269,10 +269,16 @@ fn a_forged_claim_ends_a_run(rt: HostRuntime) -> Result<(), Fail> {
     let mut world = World::<Echo>::start(alloc, &p.setup)?;
     assert!(rt; packets.len() == 2 && world.setup().n == 4);
     let bad = damaged(alloc, &packets[0])?;
-    assert_eq!(rt; inject(alloc, &mut world, 2, &bad)?, Told::Lost(Why::BadClaim));
+    assert_eq!(rt;
+        inject(alloc, &mut world, 2, &bad)?,
+        Told::Lost(Why::BadClaim)
+    );
     assert_eq!(rt; inject(alloc, &mut world, 2, &packets[0])?, Told::Forged);
     assert_eq!(rt; inject(alloc, &mut world, 3, &bad)?, Told::Forged);
-    assert_eq!(rt; told(&world.event(alloc, &Event::Propose { core: 1 })), Told::Forged);
+    assert_eq!(rt;
+        told(&world.event(alloc, &Event::Propose { core: 1 })),
+        Told::Forged
+    );
     for core in 0..4u32 {
         assert_eq!(rt; world.entries(core).len(), 0, "at {core}");
     }
@@ -286,12 +292,18 @@ fn a_repeat_does_not_end_a_run(rt: HostRuntime) -> Result<(), Fail> {
     let p = instance(alloc, 1)?;
     let mut world = World::<Echo>::start(alloc, &p.setup)?;
     assert!(rt; world.setup().n == 4);
-    assert_eq!(rt; told(&world.event(alloc, &Event::Propose { core: 1 })), Told::Done);
+    assert_eq!(rt;
+        told(&world.event(alloc, &Event::Propose { core: 1 })),
+        Told::Done
+    );
     for _ in 0..3 {
         let event = Event::Deliver { packet: 2 };
         assert_eq!(rt; told(&world.event(alloc, &event)), Told::Done);
     }
-    assert_eq!(rt; told(&world.event(alloc, &Event::Calm { pumps: 9 })), Told::Done);
+    assert_eq!(rt;
+        told(&world.event(alloc, &Event::Calm { pumps: 9 })),
+        Told::Done
+    );
     for core in 0..4u32 {
         assert_eq!(rt; world.entries(core).len(), 0, "at {core}");
     }
