@@ -21,7 +21,7 @@ invariant_of-self g c =
     (node-taken m g.M.Sequenced.stands v c.turn.new.self false c.args.event c.in-Ok-Taken.outcome taken refl was)
 
 pub returns-in-Ok-Taken-clause-answer : goal.returns-in-Ok-Taken-clause-answer
-returns-in-Ok-Taken-clause-answer g c = λ d st.
+returns-in-Ok-Taken-clause-answer g c = rw c.in-Ok-Taken.field-0-is (λ d st.
     let m = g.M.Sequenced.meaning in
     let v = c.self.inside.parts in
     let fresh : c.self.inside.stale ≡ false = search rules in
@@ -29,6 +29,8 @@ returns-in-Ok-Taken-clause-answer g c = λ d st.
     let there = subst (λ (s : Bool). Stands m g.M.Sequenced.stands (record { parts = v; stale = s }) d) fresh here in
     let answer = rw c.in-Ok-Taken.field-0-is at c.in-Ok-Taken.ensures.answer in
     let taken : IsStepOf m g.M.Sequenced.stands v (λ F R me e. step F R m me e c.args.event) c.turn.new.self (Takes c.in-Ok-Taken.outcome) = rw (← c.self-inside.view_is) answer in
-    subst (λ (n : NodeState g.row.M.Denot g.row.M-Msg.Denot). IsTurn m g.M.Sequenced.stands (step (formats_of n.parts.setup m) (rules_of n.parts.setup) m n.parts.me.0 d c.args.event) _ _) c.self.view_is
-    (subst (λ (z : ReplicaState g.row.M.Denot g.row.M-Msg.Denot). IsTurn m g.M.Sequenced.stands (step (formats_of v.setup m) (rules_of v.setup) m v.me.0 d c.args.event) (record { parts = z; stale = false }) c.in-Ok-Taken.outcome) (sym (ap (λ z. z.parts) c.self-inside-2.view_is))
-    (answer-taken m g.M.Sequenced.stands v c.turn.new.self false c.args.event c.in-Ok-Taken.outcome taken d there))
+    subst (λ (z : ReplicaState g.row.M.Denot g.row.M-Msg.Denot). IsTurn m g.M.Sequenced.stands (step (formats_of c.args.self.now.parts.setup m) (rules_of c.args.self.now.parts.setup) m c.args.self.now.parts.me.0 d c.args.event) (record { parts = z; stale = false }) c.in-Ok-Taken.outcome)
+    (sym (ap (λ z. z.parts) c.self-inside-2.view_is))
+    (subst (λ (n : NodeState g.row.M.Denot g.row.M-Msg.Denot). IsTurn m g.M.Sequenced.stands (step (formats_of n.parts.setup m) (rules_of n.parts.setup) m n.parts.me.0 d c.args.event) (record { parts = c.turn.new.self; stale = false }) c.in-Ok-Taken.outcome)
+    c.self.view_is
+    (answer-taken m g.M.Sequenced.stands v c.turn.new.self false c.args.event c.in-Ok-Taken.outcome taken d there)))
