@@ -70,13 +70,13 @@ packet-other m stands v past tied p (Some msg) other claims none =
 
 -- ---- own claims
 
-pub only-more : (me : ℕ) (xs : List Claim) (x : Claim) → only_by me (xs ++ x ∷ []) ≡ only_by me xs ++ cond (eqb x.by.0 me) (x ∷ []) []
+pick : (b : Bool) (y : Claim) (xs ys zs : List Claim) → xs ≡ ys ++ zs → cond b (y ∷ xs) xs ≡ cond b (y ∷ ys) ys ++ zs
+pick true y xs ys zs h = ap (λ (ws : List Claim). y ∷ ws) h
+pick false y xs ys zs h = h
+
+only-more : (me : ℕ) (xs : List Claim) (x : Claim) → only_by me (xs ++ x ∷ []) ≡ only_by me xs ++ cond (eqb x.by.0 me) (x ∷ []) []
 only-more me [] x = refl
-only-more me (y ∷ xs) x = go (eqb y.by.0 me) refl
-  where
-    go : (b : Bool) → eqb y.by.0 me ≡ b → cond (eqb y.by.0 me) (y ∷ only_by me (xs ++ x ∷ [])) (only_by me (xs ++ x ∷ [])) ≡ cond (eqb y.by.0 me) (y ∷ only_by me xs) (only_by me xs) ++ cond (eqb x.by.0 me) (x ∷ []) []
-    go true q = rw q (ap (λ (ys : List Claim). y ∷ ys) (only-more me xs x))
-    go false q = rw q (only-more me xs x)
+only-more me (y ∷ xs) x = pick (eqb y.by.0 me) y (only_by me (xs ++ x ∷ [])) (only_by me xs) (cond (eqb x.by.0 me) (x ∷ []) []) (only-more me xs x)
 
 own-append : {Msg : Type 0} (m : Module Msg) (p : Params) (me : ℕ) (xs : List (To × Msg)) (x : To × Msg) → own_claims m p me (xs ++ x ∷ []) ≡ own_claims m p me xs ++ only_by me (m.claims p me x.1)
 own-append m p me [] x = append-none (only_by me (m.claims p me x.1))

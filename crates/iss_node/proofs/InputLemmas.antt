@@ -19,6 +19,7 @@ use Rattle.iss_model.proofs.Ids.{has-not, ids-append, in-ids}
 use Rattle.iss_model.proofs.Logs.{Later, before-later, log-chain, log-kept, log-later, takes-later}
 use Rattle.iss_model.proofs.Longest.{Bounded}
 use Rattle.iss_model.specs.Concrete.{number_of, plan_at, rules_of, start_at}
+use Rattle.iss_model.specs.Formats.{formats_of}
 use Rattle.iss_model.specs.Node.{Core, Formats, Turn, flown, flying, inputs, joined, own_claims, packed, returned}
 use Rattle.iss_model.specs.Past.{IsLog, Past, before_own, log_of, params_of, start_of, taken_in, takes}
 use Rattle.iss_model.specs.Rules.{Rules}

@@ -1,5 +1,6 @@
 -- What a turn made, and what is handed out of it.
-use Rattle.std.proofs.Common.{◌≡◌, ℕ, List, [], ◌++◌, ap, sym, ◌∙◌, subst}
+use Rattle.std.proofs.Common.{◌≡◌, ℕ, List, [], ◌++◌, Result, Ok, Err, ap, sym, ◌∙◌, subst}
+use Rattle.std.specs.Prelude.{OnOk}
 use Rattle.iss_model.specs.Node.{Core, Turn, onward, rests}
 use Rattle.iss_node.specs.Epochs.{both}
 use Rattle.iss_node.specs.Steps.{IsMade}
@@ -7,6 +8,11 @@ use Rattle.iss_node.specs.declared.answers.Outcome.{Outcome}
 use Rattle.iss_sb.specs.Calls.{AreToNodes}
 use Rattle.iss_sb.specs.declared.effects.Claim.{Claim}
 use Rattle.iss_sb.specs.declared.effects.To.{To}
+
+-- what holds in any case holds where the answer is good
+pub on-ok : {A E : Type 0} (r : Result A E) (P : Type 0) → P → OnOk r P
+on-ok (Ok x) P h = h
+on-ok (Err e) P h = tt
 
 abbrev pub nothing : Outcome
 nothing = record { sends = []; own = []; early = []; hashed = [] }

@@ -48,8 +48,10 @@ impl<M: Sequenced> Replica<M> {
         input: &Input<M::Msg>,
     ) -> Result<bool, NoMemory>
         requires { IsNodeInput self.now.setup.n input.now }
-        ensures { IfOk result (λ b. (past : Past M.Msg) → IsTied M.meaning M.stands self.now past → leads_in (rules_of self.now.setup) M.meaning self.now.me.0 past leader.0 ≡ true →
-            b ≡ all_verify (rules_of self.now.setup) (claims_of_input M.meaning (params_of (rules_of self.now.setup) M.meaning self.now.me.0 past leader.0) input.now)) }
+        ensures { IfOk result (λ b. (past : Past M.Msg) → IsTied M.meaning M.stands self.now past →
+            leads_in (rules_of self.now.setup) M.meaning self.now.me.0 past leader.0 ≡ true →
+            b ≡ all_verify (rules_of self.now.setup)
+            (claims_of_input M.meaning (params_of (rules_of self.now.setup) M.meaning self.now.me.0 past leader.0) input.now)) }
     {
         match input {
             Input::Receive { from, msg } => {
@@ -87,7 +89,8 @@ impl<M: Sequenced> Replica<M> {
         leader: NodeId,
         sends: &[(To, M::Msg)],
     ) -> Result<Row<Claim>, NoMemory>
-        ensures { IfOk result (λ own. (g : SegmentState M) → led self.now.segments leader.0 ≡ Some g → own ≡ own_claims M.meaning g.params self.now.me.0 sends.now) }
+        ensures { IfOk result (λ own. (g : SegmentState M) → led self.now.segments leader.0 ≡ Some g →
+            own ≡ own_claims M.meaning g.params self.now.me.0 sends.now) }
     {
         let _setup = &self.setup;
         match self.segment(leader) {
