@@ -1,10 +1,10 @@
 -- One step of a core, and the run that the cores stand for.
 use Rattle.std.proofs.Common.{inl, inr, ◌≡◌, ◌≢◌, ◌⊎◌, ℕ, zero, suc, ◌+◌, ◌<◌, ◌≤◌, Bool, true, false, cond, List, [], ◌∷◌, ◌++◌, length, length-append, take, set, slice_get, Option, Some, None, reverse, refl, sym, ap, ◌∙◌, subst, arith}
-use Rattle.std.specs.Prelude.{◌*◌, ◌==◌, eqb, if◌then◌else◌, option_map}
+use Rattle.std.specs.Prelude.{◌==◌, eqb, if◌then◌else◌, option_map}
 use Rattle.std.proofs.lemmas.Bool.Decides.{eqb_tells}
-use Rattle.std.proofs.lemmas.List.{length-reverse, reverse-append, reverse-reverse, take-append-le}
+use Rattle.std.proofs.lemmas.List.{length-reverse, reverse-append, reverse-reverse}
 use Rattle.std.proofs.Math.Seq.{take-append_seam}
-use Rattle.iss_base.specs.Lists.{Extends, first_of, over, set_at}
+use Rattle.iss_base.specs.Lists.{first_of, over}
 use Rattle.iss_base.proofs.Lists.{none-some, some-injective}
 use Rattle.iss_model.proofs.Casts.{step-grown}
 use Rattle.iss_model.proofs.Ending.{HasSlots}
@@ -14,7 +14,7 @@ use Rattle.iss_model.proofs.Windows.{are-windows}
 use Rattle.iss_model.specs.Cluster.{Signed}
 use Rattle.iss_model.specs.Concrete.{rules_of}
 use Rattle.iss_model.specs.Formats.{formats_of}
-use Rattle.iss_model.specs.Node.{Core, Dropped, Formats, Stepped, Taken, Turn, settles, step}
+use Rattle.iss_model.specs.Node.{Core, Formats, Stepped, Taken, Turn, settles, step}
 use Rattle.iss_model.specs.Past.{log_of}
 use Rattle.iss_model.specs.Rules.{Rules}
 use Rattle.iss_model.specs.Run.{End, Forged, Happening, Held, after_step, at_core, booked, by_collision, by_forged, claims_at, collision_in, done, early_of, ended_by, first_forged, is_forged, node_of, posted_all, turned_to}
@@ -47,7 +47,6 @@ use Rattle.iss_world.specs.Steps.{IsBehind, ends_by, forged_in, stepped_to}
 use Rattle.iss_world.specs.declared.ends.Change.{Change}
 use Rattle.iss_world.specs.declared.ends.Change.TheVariants.{Done, Lost, Ended}
 use Rattle.iss_world.specs.declared.ends.End.{End as Kept}
-use Rattle.iss_world.specs.declared.ends.End.TheVariants.{Forged as Kept_forged}
 
 -- ---- lists of cores
 

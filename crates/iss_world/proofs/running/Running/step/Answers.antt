@@ -1,4 +1,4 @@
-use Rattle.std.proofs.Common.{◌<◌, ◌∙◌, length, arith, ap, refl, sym, subst}
+use Rattle.std.proofs.Common.{◌<◌, length, arith, ap, refl, sym, subst}
 use Rattle.std.proofs.lemmas.Option.{slice_get_read}
 use Rattle.iss_model.specs.Run.{cores_of}
 use Rattle.iss_world.specs.Stands.{Runs}
