@@ -134,9 +134,9 @@ IsLeft old new NoMemory = IsSpoiled old new
 IsLeft old new Stale = (old.stale ≡ true) × (new ≡ old)
 
 -- the node gave up what came after the first slots, and its epoch is this one; it takes nothing more
-pub record HasRetreated {M Msg : Type 0} (old new : NodeState M Msg) (slots epoch : ℕ) : Type 0 where
+pub record HasRetreated {M Msg : Type 0} (old new : NodeState M Msg) (slots e : ℕ) : Type 0 where
   pub stale : new.stale ≡ true
   pub log : new.parts.log.entries ≡ take slots old.parts.log.entries
-  pub epoch : new.parts.epoch ≡ epoch
+  pub epoch : new.parts.epoch ≡ e
   pub setup : new.parts.setup ≡ old.parts.setup
   pub me : new.parts.me ≡ old.parts.me

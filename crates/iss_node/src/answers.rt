@@ -2,6 +2,7 @@
 use iss_model::Why;
 use iss_request::{Batch, Bytes, NodeId, Row, Slot};
 use iss_sb::{Claim, To};
+use std::alloc::Global;
 
 /// What an event made that was taken.
 #[derive(Drop)]
@@ -14,6 +15,22 @@ pub struct Outcome {
     pub early: Row<Claim>,
     /// The strings that were hashed, in the order in which they were.
     pub hashed: Row<Bytes>,
+}
+
+impl Outcome {
+    ghost use Rattle.std.specs.Prelude.{◌≡◌, []};
+
+    /// Nothing was made.
+    pub fn nothing(alloc: Global) -> Outcome
+        ensures { result ≡ record { sends = []; own = []; early = []; hashed = [] } }
+    {
+        Outcome {
+            sends: Row::new(alloc),
+            own: Row::new(alloc),
+            early: Row::new(alloc),
+            hashed: Row::new(alloc),
+        }
+    }
 }
 
 /// What a node answers to an event. `Stale` comes exactly where an earlier event was answered by want of memory, or after

@@ -105,7 +105,7 @@ impl<M: Sequenced> Node<M> {
         if self.stale {
             return Answer::Stale;
         }
-        let slots = self.parts.log.entries().len();
+        let held = self.parts.log.entries().len();
         let epoch = self.parts.epoch;
         // a turn that wants memory midway leaves it so
         self.stale = true;
@@ -119,7 +119,7 @@ impl<M: Sequenced> Node<M> {
                 Answer::Dropped(why)
             }
             Err(_) => {
-                self.parts.log.cut(slots);
+                self.parts.log.cut(held);
                 self.parts.epoch = epoch;
                 Answer::NoMemory
             }
@@ -131,7 +131,7 @@ impl<M: Sequenced> Node<M> {
         ensures { IfOk result (λ claims. (c : Core M.Msg) → Stands M.meaning M.stands self.now c →
             claims ≡ claims_of_bytes (formats_of self.now.parts.setup M.meaning) (rules_of self.now.parts.setup) M.meaning self.now.parts.me.0 c bytes.now) }
     {
-        Err(NoMemory)
+        self.parts.claims_of_bytes(alloc, bytes)
     }
 
     /// Gives up what came after the first slots: the log is these, and the epoch the given one. The node is stale from then on.
