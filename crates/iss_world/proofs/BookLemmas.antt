@@ -1,5 +1,5 @@
 -- The books, as claims and strings are tested against them and put into them.
-use Rattle.std.proofs.Common.{inl, inr, ◌≡◌, ◌≢◌, ◌⊎◌, ℕ, zero, suc, ◌+◌, ◌<◌, Bool, true, false, cond, not, IsTrue, ◌↔◌, ◌==◌, ◌&&◌, ◌||◌, List, [], ◌∷◌, ◌++◌, length, take, get_or, Option, Some, None, Result, Ok, Err, IfOk, refl, sym, ap, ◌∙◌, subst, arith, true≢false}
+use Rattle.std.proofs.Common.{inl, inr, ◌≡◌, ◌⊎◌, ℕ, zero, suc, ◌+◌, ◌<◌, Bool, true, false, cond, not, IsTrue, ◌↔◌, ◌==◌, ◌&&◌, ◌||◌, List, [], ◌∷◌, ◌++◌, length, take, get_or, Option, Some, None, Result, Ok, Err, IfOk, refl, sym, ap, ◌∙◌, subst, arith, true≢false}
 use Rattle.std.specs.Prelude.{is_some, nat_lt, option_map}
 use Rattle.std.specs.List.{list_any}
 use Rattle.std.specs.Cmp.Lexicographic.{slice_cmp}
@@ -8,7 +8,7 @@ use Rattle.std.specs.declared.cmp.Ordering.{Ordering}
 use Rattle.std.specs.declared.cmp.Ordering.TheVariants.{Less, Equal, Greater}
 use Rattle.std.proofs.lemmas.Bool.{lt-ltb}
 use Rattle.iss_base.specs.Lists.{In, first_of, over, same_bytes}
-use Rattle.iss_base.proofs.Lists.{none-some, not-false, same_bytes-is, same_bytes-refl, some-injective}
+use Rattle.iss_base.proofs.Lists.{none-some, same_bytes-is, same_bytes-refl, some-injective}
 use Rattle.iss_keys.proofs.DirectoryLemmas.{verified-by}
 use Rattle.iss_keys.specs.Directories.{DirectoryView, VerifiesBy}
 use Rattle.iss_keys.specs.VerifiedBy.{is_verified_by}
@@ -22,7 +22,7 @@ use Rattle.iss_request.specs.declared.setups.Setup.{Setup}
 use Rattle.iss_sb.specs.Evidence.{has_node, is_correct}
 use Rattle.iss_sb.specs.declared.effects.Claim.{Claim}
 use Rattle.iss_world.proofs.PostLemmas.{take-next}
-use Rattle.iss_world.specs.Books.{AreHashed, AreSigned, difference, is_booked, string_at}
+use Rattle.iss_world.specs.Books.{AreHashed, AreSigned, difference, string_at}
 use Rattle.iss_world.specs.Stands.{end_of}
 use Rattle.iss_world.specs.declared.ends.End.{End as Kept}
 

@@ -1,8 +1,10 @@
 -- Which node a core runs, and cores at their start.
-use Rattle.std.proofs.Common.{inl, inr, ◌≡◌, ◌⊎◌, ℕ, zero, suc, ◌+◌, ◌-◌, ◌<◌, ◌≤◌, false, List, [], ◌∷◌, ◌++◌, length, length-append, slice_get, Some, None, refl, sym, ap, ◌∙◌, subst, arith, slice_index_or}
+use Rattle.std.proofs.Common.{inl, inr, ◌≡◌, ◌⊎◌, ℕ, zero, suc, ◌+◌, ◌-◌, ◌<◌, ◌≤◌, false, List, [], ◌∷◌, ◌++◌, length, length-append, slice_get, Some, refl, sym, ap, ◌∙◌, subst, arith, slice_index_or}
+
 use Rattle.std.proofs.lemmas.List.{length-replicate}
+
 use Rattle.iss_keys.specs.KeyStates.{KeyState}
-use Rattle.iss_model.specs.Node.{Core, idle}
+use Rattle.iss_model.specs.Node.{idle}
 use Rattle.iss_model.specs.Run.{begin_held, cores_of, node_of}
 use Rattle.iss_model.specs.Runs.{IsSetupOf}
 use Rattle.iss_network.specs.Network.{Network, empty_network}
@@ -17,7 +19,6 @@ use Rattle.iss_sb.specs.Evidence.{Item, Module}
 use Rattle.iss_world.specs.Books.{AreHashed, AreSigned}
 use Rattle.iss_world.specs.Shape.{AreForCores, IsRunning}
 use Rattle.iss_world.specs.Stands.{AreFresh, IsFresh, Runs}
-use Rattle.iss_world.specs.State.{RunningState}
 
 few : (k : Kind) (f : ℕ) (xs : List NodeId) → IsFewFaulty k f xs → length xs ≤ f
 few Byzantine f xs h = h

@@ -1,14 +1,13 @@
 -- Packets that are posted one by one.
-use Rattle.std.proofs.Common.{inl, inr, ◌≡◌, ◌≢◌, ◌⊎◌, ℕ, zero, suc, ◌+◌, ◌<◌, ◌≤◌, Bool, true, false, List, [], ◌∷◌, ◌++◌, length, take, get_or, refl, sym, ap, ◌∙◌, subst, arith, add-one, if◌then◌else◌, Some, Option}
-use Rattle.std.specs.Prelude.{◌==◌, ◌-◌, cond, nat_lt, slice_get}
+use Rattle.std.proofs.Common.{inl, inr, ◌≡◌, ◌≢◌, ℕ, zero, suc, ◌+◌, ◌<◌, ◌≤◌, Bool, true, false, List, [], ◌∷◌, ◌++◌, length, take, get_or, refl, sym, ap, ◌∙◌, subst, arith, add-one, if◌then◌else◌, Some}
+use Rattle.std.specs.Prelude.{◌==◌, ◌-◌, cond, nat_lt}
 use Rattle.std.specs.List.{filter}
 use Rattle.std.proofs.Math.Seq.{take-suc}
-use Rattle.std.proofs.lemmas.Bool.{lt-leb, lt-ltb}
+use Rattle.std.proofs.lemmas.Bool.{lt-ltb}
 use Rattle.iss_base.proofs.Lists.{eqb-other, eqb-same, same_or_not}
-use Rattle.iss_request.specs.declared.ids.NodeId.{NodeId}
 use Rattle.iss_request.specs.declared.setups.Setup.{Setup}
 use Rattle.iss_base.specs.Lists.{below, nth}
-use Rattle.iss_model.specs.Run.{addressees, cores_of, node_of, number_at, posted_all, posted_to}
+use Rattle.iss_model.specs.Run.{addressees, node_of, number_at, posted_all, posted_to}
 use Rattle.iss_network.specs.Network.{Network, posted}
 use Rattle.iss_network.specs.declared.packets.Sent.{Sent}
 use Rattle.iss_sb.specs.declared.effects.To.{To}

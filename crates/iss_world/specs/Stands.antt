@@ -5,7 +5,6 @@ use Rattle.iss_model.specs.Node.{idle}
 use Rattle.iss_model.specs.Past.{log_of}
 use Rattle.iss_model.specs.Run.{End, Forged, Collision, Happening, Held, Progress, node_of}
 use Rattle.iss_request.specs.declared.setups.Setup.{Setup}
-use Rattle.iss_model.specs.declared.causes.Why.{Why}
 use Rattle.iss_node.specs.State.{NodeState, Stands}
 use Rattle.iss_sb.specs.declared.effects.Params.{Params}
 use Rattle.iss_sb.specs.Evidence.{Item, Module}

@@ -1,4 +1,4 @@
-use Rattle.std.proofs.Common.{◌∙◌, List, ℕ, ap, sym, subst}
+use Rattle.std.proofs.Common.{List, ℕ, subst}
 use Rattle.iss_base.specs.Lists.{over}
 use Rattle.iss_world.specs.Books.{AreHashed}
 use Rattle.iss_world.proofs.BookLemmas.{if-ok}

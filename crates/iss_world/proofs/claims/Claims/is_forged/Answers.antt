@@ -1,4 +1,4 @@
-use Rattle.std.proofs.Common.{◌∙◌, sym}
+use Rattle.std.proofs.Common.{◌∙◌}
 use Rattle.iss_world.proofs.BookLemmas.{forged-is}
 use Rattle.iss_world.proofs.claims.Claims.is_forged.Goals as goal
 

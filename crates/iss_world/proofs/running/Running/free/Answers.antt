@@ -1,4 +1,4 @@
-use Rattle.std.proofs.Common.{true, false, ap, ◌∙◌}
+use Rattle.std.proofs.Common.{false, ap, ◌∙◌}
 use Rattle.iss_network.specs.Network.{Network, held_to}
 use Rattle.iss_world.specs.State.{RunningState}
 use Rattle.iss_world.proofs.CourseLemmas.{netted}

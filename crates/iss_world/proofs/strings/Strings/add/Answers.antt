@@ -1,4 +1,4 @@
-use Rattle.std.proofs.Common.{◌∙◌, List, Some, None, sym, ap, Option}
+use Rattle.std.proofs.Common.{◌∙◌, Some, None, sym, ap, Option}
 use Rattle.std.specs.Prelude.{option_map}
 use Rattle.iss_world.proofs.BookLemmas.{at-digest, found-with, fresh-with, hashed-again, hashed-more, if-ok, put-digest}
 use Rattle.iss_world.specs.Stands.{end_of}

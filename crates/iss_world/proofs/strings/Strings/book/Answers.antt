@@ -1,6 +1,6 @@
 use Rattle.std.proofs.Common.{◌<◌, ◌∙◌, length, arith, sym, take}
 use Rattle.iss_base.specs.Lists.{over}
-use Rattle.iss_world.proofs.BookLemmas.{apart-next, collision-told, no-collision-at, not-some, was-some}
+use Rattle.iss_world.proofs.BookLemmas.{apart-next, collision-told, no-collision-at, not-some}
 use Rattle.iss_world.proofs.strings.Strings.book.Goals as goal
 
 pub returns-then-is_some-clause-told : goal.returns-then-is_some-clause-told

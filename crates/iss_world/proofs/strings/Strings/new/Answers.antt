@@ -1,4 +1,4 @@
-use Rattle.std.proofs.Common.{◌≡◌, ◌∙◌, List, ℕ, Option, Some, None, cond, ap, replicate}
+use Rattle.std.proofs.Common.{◌∙◌, List, ℕ, Option, Some, cond, ap, replicate}
 use Rattle.std.specs.Cmp.Lexicographic.{slice_cmp}
 use Rattle.std.specs.Ordering.{is_eq, nat_cmp}
 use Rattle.iss_world.specs.Books.{string_at}
