@@ -1,8 +1,6 @@
 -- Which node a core runs, and cores at their start.
 use Rattle.std.proofs.Common.{inl, inr, ◌≡◌, ◌⊎◌, ℕ, zero, suc, ◌+◌, ◌-◌, ◌<◌, ◌≤◌, false, List, [], ◌∷◌, ◌++◌, length, length-append, slice_get, Some, refl, sym, ap, ◌∙◌, subst, arith, slice_index_or}
-
 use Rattle.std.proofs.lemmas.List.{length-replicate}
-
 use Rattle.iss_keys.specs.KeyStates.{KeyState}
 use Rattle.iss_model.specs.Node.{idle}
 use Rattle.iss_model.specs.Run.{begin_held, cores_of, node_of}

@@ -72,9 +72,12 @@ written : {A : Type 0} (xs : List A) (i j : ℕ) (a g : A) → i < length xs →
     ((eqb j i ≡ true) × (j ≡ i) × (g ≡ a)) ⊎ ((eqb j i ≡ false) × (slice_get xs j ≡ Some g))
 written {A} xs i j a g lt h =
     elim (eqb_tells j i) [
-      | inl t ↦ inl (t.0, t.1,
-            let k : slice_get (set xs i a) i ≡ Some g = subst (λ (k : ℕ). slice_get (set xs i a) k ≡ Some g) t.1 h in
-            let s : slice_get (set xs i a) i ≡ Some a = get-set_same xs i a lt in cc)
+      | inl t ↦ inl (
+        t.0,
+        t.1,
+        let k : slice_get (set xs i a) i ≡ Some g = subst (λ (k : ℕ). slice_get (set xs i a) k ≡ Some g) t.1 h in
+            let s : slice_get (set xs i a) i ≡ Some a = get-set_same xs i a lt in cc,
+      )
       | inr t ↦ inr (t.0, sym (get-set_other xs i j a t.1) ∙ h)
     ]
 
@@ -286,16 +289,19 @@ module _ {M Msg : Type 0} (m : Module Msg) (stands : M → Params → ℕ → Li
       step-dropped why f h st =
           let t = drop-at why f h st in
           subst (λ (s : Stepped Msg). HasChanged m stands (record { setup = v.setup; nodes = set v.nodes i later; network = v.network; signed = v.signed; hashed = v.hashed })
-          (stepped_to v.setup h i s) (Lost why)) (sym t.step_is)
-          (record {
-            cores = λ j k e. elim (written v.nodes i j later k lt e) [
-              | inl w ↦ subst (λ (x : ℕ). Stands m stands k (h.net.cores x)) (sym w.1) (subst (λ (z : NodeState M Msg). Stands m stands z (h.net.cores i)) (sym w.2) t.stands_for)
-              | inr w ↦ st.cores j k w.1
-            ];
-            network = st.network;
-            signed = st.signed;
-            hashed = st.hashed;
-          }, refl, refl)
+          (stepped_to v.setup h i s) (Lost why)) (sym t.step_is) (
+            record {
+              cores = λ j k e. elim (written v.nodes i j later k lt e) [
+                | inl w ↦ subst (λ (x : ℕ). Stands m stands k (h.net.cores x)) (sym w.1) (subst (λ (z : NodeState M Msg). Stands m stands z (h.net.cores i)) (sym w.2) t.stands_for)
+                | inr w ↦ st.cores j k w.1
+              ];
+              network = st.network;
+              signed = st.signed;
+              hashed = st.hashed;
+            },
+            refl,
+            refl,
+          )
 
       module _ (outcome : Outcome) (es : later.parts.setup ≡ g.parts.setup) (em : later.parts.me ≡ g.parts.me)
           (f : (c : Core Msg) → Stands m stands g c → IsTurn m stands (step (formats_of g.parts.setup m) (rules_of g.parts.setup) m g.parts.me.0 c event) later outcome) where
@@ -411,10 +417,13 @@ module _ {M Msg : Type 0} (m : Module Msg) (stands : M → Params → ℕ → Li
         HasChanged m stands (record { setup = v.setup; nodes = v.nodes; network = net; signed = signed; hashed = hashed }) (stepped_to v.setup h i (Taken t)) Done
     turn-stands outcome net signed hashed made none en es eh =
         subst (λ (d : Happening Msg). HasChanged m stands (record { setup = v.setup; nodes = v.nodes; network = net; signed = signed; hashed = hashed }) d Done)
-        (sym (turn-done v.setup h i t (sym (made-ends v.setup h t outcome made) ∙ none)))
-        (record {
-          cores = b.cores;
-          network = en ∙ ap (λ (u : Network). posted_all v.setup u i outcome.sends) b.network ∙ ap (λ (xs : List (To × List ℕ)). posted_all v.setup h.net.network i xs) made.sends;
-          signed = subst (λ (cs : List Claim). AreSigned signed (booked v.setup i cs ++ h.signed)) made.own es;
-          hashed = subst (λ (xs : List (List ℕ)). AreHashed hashed (over xs h.hashed)) made.hashed eh;
-        }, refl, refl)
+        (sym (turn-done v.setup h i t (sym (made-ends v.setup h t outcome made) ∙ none))) (
+          record {
+            cores = b.cores;
+            network = en ∙ ap (λ (u : Network). posted_all v.setup u i outcome.sends) b.network ∙ ap (λ (xs : List (To × List ℕ)). posted_all v.setup h.net.network i xs) made.sends;
+            signed = subst (λ (cs : List Claim). AreSigned signed (booked v.setup i cs ++ h.signed)) made.own es;
+            hashed = subst (λ (xs : List (List ℕ)). AreHashed hashed (over xs h.hashed)) made.hashed eh;
+          },
+          refl,
+          refl,
+        )

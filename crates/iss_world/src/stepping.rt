@@ -159,7 +159,12 @@ impl<M: Sequenced> Running<M> {
             None => {
                 let own = outcome.own.as_slice();
                 book_own(alloc, &self.setup, core, own, &mut self.signed)?;
-                post_all(&mut self.network, &self.setup, core, outcome.sends.as_slice())?;
+                post_all(
+                    &mut self.network,
+                    &self.setup,
+                    core,
+                    outcome.sends.as_slice(),
+                )?;
                 Ok(Change::Done)
             }
         }

@@ -15,9 +15,7 @@ ghost use Rattle.iss_world.specs.Stands.{HasHappened, IsOverOr, IsStaleOr, IsSta
 use crate::ends::{Change, End};
 use crate::running::Running;
 use iss_log::Log;
-use iss_model::{
-    Why, cluster_runs, composition, requests_are_conserved, runs_end_with_evidence,
-};
+use iss_model::{Why, cluster_runs, composition, requests_are_conserved, runs_end_with_evidence};
 use iss_node::Node;
 use iss_request::{Bytes, Epoch, NoMemory, NodeId, Setup, Value};
 use iss_sb::Sequenced;
@@ -39,7 +37,10 @@ pub enum Happened {
         sig: Bytes,
     },
     /// The run has ended, in this event or before: two different strings were hashed, of one digest; `first` was hashed before.
-    Collision { first: Bytes, second: Bytes },
+    Collision {
+        first: Bytes,
+        second: Bytes,
+    },
     /// Memory was wanting in the midst of it. The world is stale from now on.
     NoMemory,
     /// Memory was wanting in an earlier event. Nothing has changed.

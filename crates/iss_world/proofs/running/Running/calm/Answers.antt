@@ -47,16 +47,16 @@ returns-in-Ended-clause-happened g c = λ h st.
 pub loop-done-preserved : goal.loop-done-preserved
 loop-done-preserved g c = record {
   calmed = λ h st.
-    let m = g.M.Sequenced.meaning in
-    let s = c.args.self.now.setup in
-    let lt : c.loop-done.done < c.args.most = omega (arith, c.loop-done-test.true) in
-    let now = c.loop-done.invariant.calmed h st in
-    let u = (calms s (formats_of s m) (rules_of s) m c.loop-done.done h).held in
-    let is = done-is m g.M.Sequenced.stands (calms s (formats_of s m) (rules_of s) m c.loop-done.done h) now.1 now.2 in
-    let due-is = c.in_ok-packets.ensures.found ∙ ap (λ (w : Network). due w) now.0.network in
-    let there = subst (λ (z : RunningState _ _). Runs m g.M.Sequenced.stands z u) (sym c.due.ensures.same) now.0 in
-    calms-next g.M.Sequenced.meaning g.M.Sequenced.stands s c.due.new.self.setup c.deliver_each.new.self h (ap (λ (z : RunningState _ _). z.setup) c.due.ensures.same ∙ c.loop-done.invariant.same) c.loop-done.done c.as_slice.result.now c.in_ok-end.field-0 u is
-    (c.as_slice.ensures.value ∙ due-is) (c.in_ok-end.ensures.happened u there) c.in_default.not-Ended;
+      let m = g.M.Sequenced.meaning in
+      let s = c.args.self.now.setup in
+      let lt : c.loop-done.done < c.args.most = omega (arith, c.loop-done-test.true) in
+      let now = c.loop-done.invariant.calmed h st in
+      let u = (calms s (formats_of s m) (rules_of s) m c.loop-done.done h).held in
+      let is = done-is m g.M.Sequenced.stands (calms s (formats_of s m) (rules_of s) m c.loop-done.done h) now.1 now.2 in
+      let due-is = c.in_ok-packets.ensures.found ∙ ap (λ (w : Network). due w) now.0.network in
+      let there = subst (λ (z : RunningState _ _). Runs m g.M.Sequenced.stands z u) (sym c.due.ensures.same) now.0 in
+      calms-next g.M.Sequenced.meaning g.M.Sequenced.stands s c.due.new.self.setup c.deliver_each.new.self h (ap (λ (z : RunningState _ _). z.setup) c.due.ensures.same ∙ c.loop-done.invariant.same) c.loop-done.done c.as_slice.result.now c.in_ok-end.field-0 u is
+      (c.as_slice.ensures.value ∙ due-is) (c.in_ok-end.ensures.happened u there) c.in_default.not-Ended;
   same = c.deliver_each.ensures.same ∙ (ap (λ (z : RunningState _ _). z.setup) c.due.ensures.same ∙ c.loop-done.invariant.same);
 }
 

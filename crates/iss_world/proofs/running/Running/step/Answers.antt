@@ -11,8 +11,7 @@ pub invariant_of-self : goal.invariant_of-self
 invariant_of-self g c =
     let v : RunningState g.row.M.Denot g.row.M-Msg.Denot = record { setup = c.self.inside.setup; nodes = c.self.inside.nodes.items; network = c.self.inside.network; signed = c.self.inside.signed; hashed = c.self.inside.hashed } in
     let lt : c.args.core < length c.self.inside.nodes.items = omega (arith, ap (λ (z : RunningState _ _). cores_of z.setup) c.self.view_is, c.self.invariant.0.count) in
-    let at = slice_get_read c.self.inside.nodes.items _ c.args.core c.index_mut.result.now refl lt c.index_mut.ensures.value in
-    (
+    let at = slice_get_read c.self.inside.nodes.items _ c.args.core c.index_mut.result.now refl lt c.index_mut.ensures.value in (
       still-running g.M.Sequenced.meaning g.M.Sequenced.stands v c.args.core c.index_mut.result.now c.take_at-answer.new.node c.self.inside.network c.self.inside.signed c.self.inside.hashed c.self.invariant.0 lt at c.take_at-answer.ensures.same.0 c.take_at-answer.ensures.same.1
           (same-network g.M.Sequenced.meaning g.M.Sequenced.stands v c.self.invariant.0),
       c.self.invariant.1,
@@ -22,8 +21,7 @@ pub invariant_of-self-in-Dropped : goal.invariant_of-self-in-Dropped
 invariant_of-self-in-Dropped g c =
     let v : RunningState g.row.M.Denot g.row.M-Msg.Denot = record { setup = c.self.inside.setup; nodes = c.self.inside.nodes.items; network = c.self.inside.network; signed = c.self.inside.signed; hashed = c.self.inside.hashed } in
     let lt : c.args.core < length c.self.inside.nodes.items = omega (arith, ap (λ (z : RunningState _ _). cores_of z.setup) c.self.view_is, c.self.invariant.0.count) in
-    let at = slice_get_read c.self.inside.nodes.items _ c.args.core c.index_mut.result.now refl lt c.index_mut.ensures.value in
-    (
+    let at = slice_get_read c.self.inside.nodes.items _ c.args.core c.index_mut.result.now refl lt c.index_mut.ensures.value in (
       still-running g.M.Sequenced.meaning g.M.Sequenced.stands v c.args.core c.index_mut.result.now c.take_at-answer.new.node c.self.inside.network c.self.inside.signed c.self.inside.hashed c.self.invariant.0 lt at c.take_at-answer.ensures.same.0 c.take_at-answer.ensures.same.1
           (same-network g.M.Sequenced.meaning g.M.Sequenced.stands v c.self.invariant.0),
       c.self.invariant.1,
@@ -33,8 +31,7 @@ pub invariant_of-self-in-NoMemory : goal.invariant_of-self-in-NoMemory
 invariant_of-self-in-NoMemory g c =
     let v : RunningState g.row.M.Denot g.row.M-Msg.Denot = record { setup = c.self.inside.setup; nodes = c.self.inside.nodes.items; network = c.self.inside.network; signed = c.self.inside.signed; hashed = c.self.inside.hashed } in
     let lt : c.args.core < length c.self.inside.nodes.items = omega (arith, ap (λ (z : RunningState _ _). cores_of z.setup) c.self.view_is, c.self.invariant.0.count) in
-    let at = slice_get_read c.self.inside.nodes.items _ c.args.core c.index_mut.result.now refl lt c.index_mut.ensures.value in
-    (
+    let at = slice_get_read c.self.inside.nodes.items _ c.args.core c.index_mut.result.now refl lt c.index_mut.ensures.value in (
       still-running g.M.Sequenced.meaning g.M.Sequenced.stands v c.args.core c.index_mut.result.now c.take_at-answer.new.node c.self.inside.network c.self.inside.signed c.self.inside.hashed c.self.invariant.0 lt at c.take_at-answer.ensures.same.0 c.take_at-answer.ensures.same.1
           (same-network g.M.Sequenced.meaning g.M.Sequenced.stands v c.self.invariant.0),
       c.self.invariant.1,

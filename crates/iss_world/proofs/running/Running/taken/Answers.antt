@@ -10,8 +10,7 @@ use Rattle.iss_world.proofs.running.Running.taken.Goals as goal
 
 pub invariant_of-self : goal.invariant_of-self
 invariant_of-self g c =
-    let v : RunningState g.row.M.Denot g.row.M-Msg.Denot = record { setup = c.self.inside.setup; nodes = c.self.inside.nodes.items; network = c.self.inside.network; signed = c.self.inside.signed; hashed = c.self.inside.hashed } in
-    (
+    let v : RunningState g.row.M.Denot g.row.M-Msg.Denot = record { setup = c.self.inside.setup; nodes = c.self.inside.nodes.items; network = c.self.inside.network; signed = c.self.inside.signed; hashed = c.self.inside.hashed } in (
       with-network g.M.Sequenced.meaning g.M.Sequenced.stands v c.self.inside.network c.self.inside.signed c.ends.new.hashed c.self.invariant.0 (same-network g.M.Sequenced.meaning g.M.Sequenced.stands v c.self.invariant.0),
       c.self.invariant.1,
     )
@@ -20,8 +19,7 @@ pub invariant_of-self-in-Some : goal.invariant_of-self-in-Some
 invariant_of-self-in-Some g c =
     let v : RunningState g.row.M.Denot g.row.M-Msg.Denot = record { setup = c.self.inside.setup; nodes = c.self.inside.nodes.items; network = c.self.inside.network; signed = c.self.inside.signed; hashed = c.self.inside.hashed } in
     let lt : c.args.core < length c.self.inside.nodes.items = omega (arith, ap (λ (z : RunningState _ _). cores_of z.setup) c.self.view_is, c.self.invariant.0.count) in
-    let at = slice_get_read c.self.inside.nodes.items _ c.args.core c.index_mut.result.now refl lt c.index_mut.ensures.value in
-    (
+    let at = slice_get_read c.self.inside.nodes.items _ c.args.core c.index_mut.result.now refl lt c.index_mut.ensures.value in (
       still-running g.M.Sequenced.meaning g.M.Sequenced.stands v c.args.core c.index_mut.result.now c.retreat.new.self c.self.inside.network c.self.inside.signed c.ends.new.hashed c.self.invariant.0 lt at c.retreat.ensures.setup c.retreat.ensures.me
           (same-network g.M.Sequenced.meaning g.M.Sequenced.stands v c.self.invariant.0),
       c.self.invariant.1,
