@@ -1,5 +1,5 @@
 -- A schedule that was read is one for a module that has a word. The leaders of each accept one batch a slot.
-use Rattle.std.proofs.Common.{◌≡◌, ◌∙◌, ◌⊎◌, inl, inr, ℕ, ◌==◌, Bool, true, false, List, Option, Some, None, Result, Ok, Err, [], refl, ap, sym, arith}
+use Rattle.std.proofs.Common.{◌≡◌, ◌∙◌, ℕ, ◌==◌, Bool, true, false, List, Option, Some, None, Result, Ok, Err, [], refl, ap, sym, arith}
 use Rattle.std.proofs.lemmas.Bool.{eq-eqb}
 use Rattle.std.specs.Prelude.{IfOk}
 use Rattle.iss_request.specs.declared.errors.NoMemory.{NoMemory}
@@ -63,10 +63,6 @@ setup_of_hotstuff s h is =
       nodes = h.good.nodes ∙ rw (is, lies) refl;
       majority = h.good.majority ∙ rw (is, lies) refl;
     }
-
--- a module that is none of the others is the relay
-pub other_than : (s : Setup) → IsKnown s → (s.module ≡ 2 → ⊥) → (s.module ≡ 3 → ⊥) → (s.module ≡ 4 → ⊥) → s.module ≡ 1
-other_than s h two three four = elim h.known [ inl a ↦ a | inr b ↦ elim b [ inl c ↦ absurd (two c) | inr d ↦ elim d [ inl e ↦ absurd (three e) | inr f ↦ absurd (four f) ] ] ]
 
 pub relay_accepts_once : AcceptsOnce relay
 relay_accepts_once = λ p w good reached separate correct slot b c. once p p.leader.0 (w p.leader.0) slot b c ((legal-reached relay p w reached).made p.leader.0)

@@ -73,10 +73,12 @@ fn report(alloc: Global, schedule: &Schedule) -> Result<Answer, NoMemory>
     ensures { IfOk result (IsReported schedule.now) }
 {
     match schedule.setup.module {
+        1 => report_under::<Relay>(alloc, schedule),
         2 => report_under::<Raft>(alloc, schedule),
         3 => report_under::<Pbft>(alloc, schedule),
         4 => report_under::<HotStuff>(alloc, schedule),
-        _ => report_under::<Relay>(alloc, schedule),
+        // never: a schedule that was read names one of these
+        _ => Err(NoMemory),
     }
 }
 
