@@ -15,10 +15,10 @@ use Rattle.iss_cli.specs.declared.status.Status.{Status}
 use Rattle.iss_cli.specs.declared.status.Status.TheVariants.{Done, Forged as Was_forged, Collision as Has_collision}
 
 -- What holds of the module of this number: a line for each module that a schedule can name.
-pub record Under (number : ℕ) (Holds : {Msg : Type 0} → Module Msg → Type 0) : Type 0 where
-  pub of_relay : number ≡ relay.tag → Holds relay
-  pub of_raft : number ≡ raft.tag → Holds raft
-  pub of_pbft : number ≡ pbft.tag → Holds pbft
+pub record Under (number : ℕ) (Holds : (Msg : Type 0) → Module Msg → Type 0) : Type 0 where
+  pub of_relay : number ≡ relay.tag → Holds _ relay
+  pub of_raft : number ≡ raft.tag → Holds _ raft
+  pub of_pbft : number ≡ pbft.tag → Holds _ pbft
 
 -- how a run's end is told to who called
 abbrev pub status_of : Option (ℕ × End) → Status
@@ -34,7 +34,7 @@ reported M s =
 
 -- the answer is the report of its run
 abbrev pub IsReported : Schedule → Answer → Type 0
-IsReported s a = Under s.setup.module (λ M. a ≡ reported M s)
+IsReported s a = Under s.setup.module (λ Msg M. a ≡ reported M s)
 
 -- The logs of correct nodes are of one log, in which no request stands twice and each batch was accepted as valid by a
 -- correct node, and which more events only make longer; each request that a correct node took is in its log, waits there, or
@@ -46,4 +46,4 @@ pub record IsKept {Msg : Type 0} (M : Module Msg) (s : Schedule) : Type 0 where
 
 -- of its run
 abbrev pub IsPromised : Schedule → Type 0
-IsPromised s = Under s.setup.module (λ M. IsKept M s)
+IsPromised s = Under s.setup.module (λ Msg M. IsKept M s)
