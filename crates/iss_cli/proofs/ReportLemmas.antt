@@ -1,5 +1,5 @@
 -- A schedule that was read is one for a module that has a word. The leaders of each accept one batch a slot.
-use Rattle.std.proofs.Common.{◌≡◌, ◌∙◌, ℕ, ◌==◌, Bool, true, false, List, Option, Some, None, Result, Ok, Err, [], refl, ap, sym, arith}
+use Rattle.std.proofs.Common.{◌≡◌, ◌∙◌, ◌⊎◌, inl, inr, ℕ, ◌==◌, Bool, true, false, List, Option, Some, None, Result, Ok, Err, [], refl, ap, sym, subst, arith}
 use Rattle.std.proofs.lemmas.Bool.{eq-eqb}
 use Rattle.std.specs.Prelude.{IfOk}
 use Rattle.iss_request.specs.declared.errors.NoMemory.{NoMemory}
@@ -7,7 +7,10 @@ use Rattle.iss_request.specs.declared.setups.Kind.TheVariants.{Byzantine, Stoppi
 use Rattle.iss_request.specs.declared.setups.Setup.{Setup}
 use Rattle.iss_cli.specs.declared.answers.Answer.{Answer}
 use Rattle.iss_cli.specs.declared.status.Status.{Status}
-use Rattle.iss_cli.specs.Reports.{IsReported, reported}
+use Rattle.iss_cli.specs.Answers.{IsAnswer, IsAnswerStatus, IsAnswered, refused_line, refused_words}
+use Rattle.iss_cli.specs.Reports.{IsReported, reported, status_of}
+use Rattle.iss_model.specs.OneLog.{run_after}
+use Rattle.iss_model.specs.Run.{Collision, End, Forged}
 use Rattle.iss_schedule.specs.declared.schedules.Schedule.{Schedule}
 use Rattle.iss_model.specs.Conserved.{AcceptsOnce}
 use Rattle.iss_model.specs.Runs.{IsSetupOf}
@@ -113,3 +116,32 @@ of_hotstuff s (Ok a) is printed status = record {
   of_hotstuff = λ it. with_parts hotstuff s a printed status;
 }
 of_hotstuff s (Err e) is printed status = tt
+
+-- ---- an answer has a status with which it is printed whole
+
+end_told : (o : Option (ℕ × End)) → IsAnswerStatus (status_of o)
+end_told None = tt
+end_told (Some (event, Forged claim)) = tt
+end_told (Some (event, Collision first second)) = tt
+
+whole : (a b : Answer) → a ≡ b → IsAnswerStatus b.status → IsAnswerStatus a.status
+whole a b is h = subst (λ (r : Answer). IsAnswerStatus r.status) (sym is) h
+
+told_by : {Msg : Type 0} (M : Module Msg) (s : Schedule) (a : Answer) → a ≡ reported M s → IsAnswerStatus a.status
+told_by M s a is = whole a (reported M s) is (end_told (run_after s.setup M s.events).ended)
+
+told : (s : Schedule) (a : Answer) → IsKnown s.setup → IsReported s a → IsAnswerStatus a.status
+told s a h r = elim h.known [
+  | inl is ↦ told_by relay s a (r.of_relay is)
+  | inr others ↦ elim others [
+    | inl is ↦ told_by raft s a (r.of_raft is)
+    | inr more ↦ elim more [ inl is ↦ told_by pbft s a (r.of_pbft is) | inr is ↦ told_by hotstuff s a (r.of_hotstuff is) ]
+  ]
+]
+
+told_input : (bytes : List ℕ) (a : Answer) → IsAnswer bytes a → IsAnswerStatus a.status
+told_input bytes a (inl (s, (is, r))) = told s a is.fine.setup r
+told_input bytes a (inr (line, (why, (bad, is)))) = whole a (refused_line line why) is tt
+
+pub told_whole : (words : List (List ℕ)) (left : Option (List ℕ)) (a : Answer) → IsAnswered words left a → IsAnswerStatus a.status
+told_whole words left a h = elim h.right [ inl asked ↦ told_input h.input a asked.1 | inr none ↦ whole a refused_words none.1 tt ]
