@@ -1,16 +1,16 @@
 -- The next epoch begins.
-use Rattle.std.proofs.Common.{arith, ◌≡◌, ℕ, suc, ◌+◌, ◌^◌, ◌<◌, ◌≤◌, Bool, true, false, List, [], ◌∷◌, Option, Some, None, is_some, eqb, ◌≢◌, length, reverse, refl, sym, ap, ◌∙◌, subst, nat_le, true≢false}
+use Rattle.std.proofs.Common.{arith, ◌≡◌, ℕ, ◌+◌, ◌^◌, ◌<◌, Bool, true, false, List, [], ◌∷◌, Option, Some, None, is_some, eqb, ◌≢◌, length, reverse, refl, sym, ap, ◌∙◌, subst, nat_le, true≢false}
 use Rattle.iss_base.proofs.Lists.{is-eq}
 use Rattle.std.specs.List.{filter}
-use Rattle.iss_layout.specs.Layout.{Conduct, Ended, IsStanding, Plan, conduct_of, plan_by, slots_from}
+use Rattle.iss_layout.specs.Layout.{Conduct, Ended, IsStanding, Plan, plan_by, slots_from}
 use Rattle.iss_model.specs.Concrete.{rules_of}
 use Rattle.iss_model.specs.Formats.{formats_of}
-use Rattle.iss_model.specs.Node.{Core, Formats, Turn, at_instance, claims_in, ended, in_next_epoch, is_nil_at, takes_early, tried}
+use Rattle.iss_model.specs.Node.{Turn, at_instance, claims_in, ended, in_next_epoch, is_nil_at, takes_early, tried}
 use Rattle.iss_model.specs.Past.{Past, is_complete}
 use Rattle.iss_node.proofs.EpochLemmas.{complete-is, parts-opened}
 use Rattle.iss_node.specs.Epochs.{AreStarted, HasClosed, HasOpened, notes}
-use Rattle.iss_node.specs.Shape.{AreFrom, IsReplica}
-use Rattle.iss_node.specs.State.{AreParts, IsTied, ReplicaState, core_of, led, seen_one}
+use Rattle.iss_node.specs.Shape.{IsReplica}
+use Rattle.iss_node.specs.State.{AreParts, IsTied, ReplicaState, core_of, seen_one}
 use Rattle.iss_node.proofs.MadeLemmas.{early-made}
 use Rattle.iss_node.proofs.SettleLemmas.{early-not, early-on}
 use Rattle.iss_node.specs.Casts.{IsCut}

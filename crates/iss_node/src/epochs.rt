@@ -184,7 +184,10 @@ fn with_early(outcome: Outcome, claims: Row<Claim>) -> Outcome
     ensures { result ≡ record outcome { early = claims } }
 {
     let Outcome {
-        sends, own, hashed, ..
+        sends,
+        own,
+        hashed,
+        ..
     } = outcome;
     Outcome {
         sends,

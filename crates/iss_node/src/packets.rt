@@ -41,7 +41,8 @@ impl<M: Sequenced> Replica<M> {
         bytes: &[u8],
     ) -> Result<Row<Claim>, NoMemory>
         ensures { IfOk result (λ claims. (past : Past M.Msg) → IsTied M.meaning M.stands self.now past →
-            claims ≡ claims_of_bytes (formats_of self.now.setup M.meaning) (rules_of self.now.setup) M.meaning self.now.me.0 (core_of self.now past) bytes.now) }
+            claims ≡ claims_of_bytes (formats_of self.now.setup M.meaning) (rules_of self.now.setup) M.meaning self.now.me.0
+            (core_of self.now past) bytes.now) }
     {
         match Packet::decode(alloc, self.setup.version, self.setup.n, bytes) {
             Ok(packet) => self.claims_of_packet(alloc, &packet),
