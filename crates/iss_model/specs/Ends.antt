@@ -55,7 +55,7 @@ AreBooked {Msg} R M i c book =
     (e l : ℕ) (item : Item Msg) → In item (c.evidence e l) → (x : Signed) → IsOwn M (R.params (before R M i c e) e l) i item.made.sends x → In x book
 
 -- Where the run has ended, that is shown by what it holds; what comes later changes nothing; and the book misses no claim
--- that a correct node sent of its own, so that no honest message ends a run.
+-- that a correct node sent of its own, so that a claim which is not there was not sent.
 pub record HasEvidence {Msg : Type 0} (s : Setup) (M : Module Msg) (events : List Event) : Type 0 where
   pub shown : (k : ℕ) (end : End) → (run_after s M events).ended ≡ Some (k, end) → Shows s (formats_of s M) (rules_of s) M (run_after s M events).held end
   pub stays : (k : ℕ) (end : End) → (run_after s M events).ended ≡ Some (k, end) → (more : List Event) → run_after s M (events ++ more) ≡ run_after s M events
