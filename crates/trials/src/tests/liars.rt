@@ -6,7 +6,7 @@ ghost use Rattle.iss_sb.specs.Calls.{IsGoodParams};
 ghost use Rattle.sb_echo.specs.Echo.{echo};
 ghost use Rattle.sb_echo.specs.Stands.{Stands};
 
-use crate::tests::played::{Told, told};
+use crate::tests::played::{Told, in_brief};
 use iss_keys::{Keys, SharedDirectory};
 use iss_model::Why;
 use iss_packet::{Packet, PacketKind};
@@ -151,7 +151,7 @@ fn inject(
 {
     let bytes = bytes_from(Vec::from_slice(alloc, packet.as_slice())?);
     let event = Event::Bytes { core, bytes };
-    Ok(told(&world.event(alloc, &event)))
+    Ok(in_brief(&world.event(alloc, &event)))
 }
 
 // The run goes on, and there was memory for an event.
@@ -218,7 +218,7 @@ fn after_lies(alloc: Global) -> Result<World<Echo>, Fail>
     let packets = lies(alloc, &p)?;
     let mut world = World::<Echo>::start(alloc, &p.setup)?;
     tell_all(alloc, &mut world, &packets, &TOLD)?;
-    enough(told(&world.event(alloc, &Event::Calm { pumps: 4 })))?;
+    enough(in_brief(&world.event(alloc, &Event::Calm { pumps: 4 })))?;
     Ok(world)
 }
 
@@ -276,7 +276,7 @@ fn a_forged_claim_ends_a_run(rt: HostRuntime) -> Result<(), Fail> {
     assert_eq!(rt; inject(alloc, &mut world, 2, &packets[0])?, Told::Forged);
     assert_eq!(rt; inject(alloc, &mut world, 3, &bad)?, Told::Forged);
     assert_eq!(rt;
-        told(&world.event(alloc, &Event::Propose { core: 1 })),
+        in_brief(&world.event(alloc, &Event::Propose { core: 1 })),
         Told::Forged
     );
     for core in 0..4u32 {
@@ -293,15 +293,15 @@ fn a_repeat_does_not_end_a_run(rt: HostRuntime) -> Result<(), Fail> {
     let mut world = World::<Echo>::start(alloc, &p.setup)?;
     assert!(rt; world.setup().n == 4);
     assert_eq!(rt;
-        told(&world.event(alloc, &Event::Propose { core: 1 })),
+        in_brief(&world.event(alloc, &Event::Propose { core: 1 })),
         Told::Done
     );
     for _ in 0..3 {
         let event = Event::Deliver { packet: 2 };
-        assert_eq!(rt; told(&world.event(alloc, &event)), Told::Done);
+        assert_eq!(rt; in_brief(&world.event(alloc, &event)), Told::Done);
     }
     assert_eq!(rt;
-        told(&world.event(alloc, &Event::Calm { pumps: 9 })),
+        in_brief(&world.event(alloc, &Event::Calm { pumps: 9 })),
         Told::Done
     );
     for core in 0..4u32 {

@@ -28,7 +28,7 @@ pub enum Told {
 }
 
 /// A world's answer, without the evidence.
-pub fn told(happened: &Happened) -> Told {
+pub fn in_brief(happened: &Happened) -> Told {
     match happened {
         Happened::Done => Told::Done,
         Happened::Lost(why) => Told::Lost(*why),
@@ -66,7 +66,7 @@ pub fn play(alloc: Global, schedule: &Schedule) -> Result<Played, NoMemory>
     let mut answers = Vec::new(alloc);
     for place in 0..events.len() {
         let answer = world.event(alloc, &events[place]);
-        answers.push(told(&answer))?;
+        answers.push(in_brief(&answer))?;
     }
     Ok(Played { world, answers })
 }
