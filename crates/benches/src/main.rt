@@ -8,6 +8,7 @@ mod journal;
 mod keys;
 mod network;
 mod raft;
+mod raft_costs;
 mod schedule;
 
 use std::env;
@@ -25,7 +26,7 @@ fn count_all(rt: &HostRuntime) -> Result<(), Fail> {
     journal::count_all(rt)?;
     network::count_all(rt)?;
     schedule::count_all(rt)?;
-    raft::count_all(rt)
+    raft_costs::count_all(rt)
 }
 
 // Times what the words behind the program's name ask for.
@@ -42,7 +43,7 @@ fn time(rt: &HostRuntime, what: &str, words: &[String]) -> Result<(), Fail> {
                 number_at(words, 4)?,
             )
         }
-        "raft" => raft::time_all(rt, number_at(words, 2)?),
+        "raft" => raft_costs::time_all(rt, number_at(words, 2)?),
         "schedule" => schedule::time_all(rt, number_at(words, 2)?, number_at(words, 3)?),
         _ => Err("what is to be timed?")?,
     }

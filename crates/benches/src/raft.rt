@@ -1,5 +1,4 @@
-//! Raft: what a message costs in a segment of 64 slots over seven nodes, and what it costs to repair the log of a node that
-//! missed many elections.
+//! Seven nodes of Raft, and the messages between them: a segment of 64 slots, and a node that misses many elections.
 ghost use Rattle.std.specs.Prelude.{◌≡◌, ◌≤◌, ◌^◌, IfOk, length};
 ghost use Rattle.iss_request.specs.Slots.{AreAscending};
 ghost use Rattle.iss_sb.specs.Calls.{AreBelow, IsGoodInput, IsGoodParams};
@@ -8,24 +7,23 @@ ghost use Rattle.sb_raft.specs.Raft.{raft};
 use iss_keys::{Keys, SharedDirectory};
 use iss_request::{
     Batch, Bytes, Epoch, Kind, NoMemory, NodeId, Nodes, Policy, ReqId, Request, Row, Setup, Slot,
-    Writer,
+    Value, Writer,
 };
-use iss_sb::{Input, Params, Sequenced, To};
-use raft_wire::Message;
+use iss_sb::{Effects, Input, Params, Sequenced, To};
+use raft_wire::{Entry, Message, What};
 use sb_raft::Raft;
 use std::alloc::Global;
 use std::collections::VecDeque;
 use std::test::Fail;
-use std::time::Instant;
 
-type Timed<T> = Result<T, Fail>;
+pub type Timed<T> = Result<T, Fail>;
 
-const NODES: u8 = 7;
+pub const NODES: u8 = 7;
 
 // The node that misses the elections.
 const LAST: u8 = 6;
 
-const SLOTS: u64 = 64;
+pub const SLOTS: u64 = 64;
 
 // No more messages than these are taken at once.
 const MOST: u32 = 100_000_000;
@@ -83,7 +81,7 @@ fn instance(alloc: Global, slots: Row<Slot>) -> Result<Params, NoMemory>
 }
 
 // The instance in which node 0 leads the slots below this number.
-fn segment(alloc: Global, count: u64) -> Result<Params, NoMemory>
+pub fn segment(alloc: Global, count: u64) -> Result<Params, NoMemory>
     requires some { 1 ≤ count }
     requires few { count ≤ 64 }
     ensures good { IfOk result (λ p. IsGoodParams raft p) }
@@ -94,7 +92,7 @@ fn segment(alloc: Global, count: u64) -> Result<Params, NoMemory>
 }
 
 // A batch of so many requests with payloads of 64 bytes.
-fn batch(alloc: Global, requests: u32) -> Result<Batch, NoMemory> {
+pub fn batch(alloc: Global, requests: u32) -> Result<Batch, NoMemory> {
     let mut batch = Batch::new(alloc);
     for number in 0..requests {
         let mut sig = Writer::new(alloc, 1);
@@ -123,25 +121,90 @@ struct Post {
     msg: Message,
 }
 
+/// The nodes, what is on its way between them, and what was seen of it.
 #[derive(Drop)]
-struct Cluster {
+pub struct Cluster {
     nodes: Vec<Raft>,
     keys: Keys,
     waiting: VecDeque<Post>,
     // whether nothing comes to the last node
     is_cut: bool,
-    taken: u64,
-    // the bytes of each message that was taken, if they are kept
-    kept: Option<Vec<Bytes>>,
+    pub taken: u64,
+    // what was seen of each message and step, if it is kept
+    pub seen: Option<Seen>,
 }
 
-// Where messages are kept, if they are.
-fn kept(alloc: Global, keeps: bool) -> Option<Vec<Bytes>> {
-    if keeps { Some(Vec::new(alloc)) } else { None }
+/// The bytes of each message that was taken, and how many entries and batches were copied.
+#[derive(Drop)]
+pub struct Seen {
+    pub messages: Vec<Bytes>,
+    // entries in Appends that were sent
+    pub entries: u64,
+    // batches: those in entries that were sent, those that were delivered, and two a cast: the one that is cast, and the leader's entry
+    pub batches: u64,
+}
+
+// Where what is seen is kept, if it is: nothing as yet.
+fn nothing_seen(alloc: Global, keeps: bool) -> Option<Seen> {
+    if keeps {
+        Some(Seen {
+            messages: Vec::new(alloc),
+            entries: 0,
+            batches: 0,
+        })
+    } else {
+        None
+    }
+}
+
+// How many of the entries hold a batch.
+fn batches_in(entries: &[Entry]) -> u64 {
+    let mut count = 0u64;
+    for entry in entries {
+        if let What::Holds(_) = &entry.what {
+            count = count.wrapping_add(1);
+        }
+    }
+    count
+}
+
+impl Seen {
+    fn see_message(&mut self, alloc: Global, msg: &Message) -> Timed<()> {
+        let mut out = Writer::new(alloc, 1);
+        Raft::encode(msg, &mut out)?;
+        self.messages.push(out.into_bytes())?;
+        Ok(())
+    }
+
+    fn see_send(&mut self, msg: &Message) {
+        if let Message::Append { entries, .. } = msg {
+            self.entries = self.entries.wrapping_add(entries.len() as u64);
+            self.batches = self.batches.wrapping_add(batches_in(entries.as_slice()));
+        }
+    }
+
+    fn see_value(&mut self, value: &Value) {
+        if let Value::Batch(_) = value {
+            self.batches = self.batches.wrapping_add(1);
+        }
+    }
+
+    fn see(&mut self, effects: &Effects<Message>) {
+        for (_, msg) in effects.sends.as_slice() {
+            self.see_send(msg);
+        }
+        for (_, value) in effects.delivers.as_slice() {
+            self.see_value(value);
+        }
+        if effects.accepted.is_some() {
+            self.batches = self.batches.wrapping_add(2);
+        }
+    }
 }
 
 impl Cluster {
-    fn new(alloc: Global, p: &Params, keeps: bool) -> Timed<Cluster>
+    /// Fresh nodes. It keeps what it sees, or not.
+    pub fn new(alloc: Global, p: &Params, keeps: bool) -> Timed<Cluster>
         requires good { IsGoodParams raft p.now }
         requires nodes { p.now.setup.n ≡ 7 }
     {
@@ -155,15 +218,20 @@ impl Cluster {
             waiting: VecDeque::new(alloc),
             is_cut: false,
             taken: 0,
-            kept: kept(alloc, keeps),
+            seen: nothing_seen(alloc, keeps),
         })
     }
 
-    // From now on all messages come to the last node, and are counted.
-    fn reconnect(&mut self, alloc: Global, keeps: bool) {
+    /// From now on nothing comes to the last node.
+    pub fn cut(&mut self) {
+        self.is_cut = true;
+    }
+
+    /// From now on all messages come to the last node, and are counted.
+    pub fn reconnect(&mut self, alloc: Global, keeps: bool) {
         self.is_cut = false;
         self.taken = 0;
-        self.kept = kept(alloc, keeps);
+        self.seen = nothing_seen(alloc, keeps);
     }
 
     fn post(&mut self, from: u8, to: To, msg: Message) -> Timed<()> {
@@ -187,19 +255,20 @@ impl Cluster {
             return Ok(());
         };
         let effects = node.step(alloc, p, input, true, &mut self.keys)?;
+        if let Some(seen) = &mut self.seen {
+            seen.see(&effects);
+        }
         for (to, msg) in effects.sends.into_vec() {
             self.post(at, to, msg)?;
         }
         Ok(())
     }
 
-    fn keep(&mut self, alloc: Global, msg: &Message) -> Timed<()> {
-        if let Some(kept) = &mut self.kept {
-            let mut out = Writer::new(alloc, 1);
-            Raft::encode(msg, &mut out)?;
-            kept.push(out.into_bytes())?;
+    fn see_taken(&mut self, alloc: Global, msg: &Message) -> Timed<()> {
+        match &mut self.seen {
+            Some(seen) => seen.see_message(alloc, msg),
+            None => Ok(()),
         }
-        Ok(())
     }
 
     fn deliver(&mut self, alloc: Global, p: &Params, post: Post) -> Timed<()>
@@ -211,7 +280,7 @@ impl Cluster {
             return Ok(());
         }
         self.taken = self.taken.wrapping_add(1);
-        self.keep(alloc, &msg)?;
+        self.see_taken(alloc, &msg)?;
         let from = NodeId(from);
         self.take(alloc, p, to, Input::Receive { from, msg })
     }
@@ -230,8 +299,8 @@ impl Cluster {
         Ok(())
     }
 
-    // The leader casts in each slot, and the messages of each cast are taken before the next one.
-    fn cast_all(&mut self, alloc: Global, p: &Params, batch: &Batch) -> Timed<()>
+    /// The leader casts in each slot, and the messages of each cast are taken before the next one.
+    pub fn cast_all(&mut self, alloc: Global, p: &Params, batch: &Batch) -> Timed<()>
         requires good { IsGoodParams raft p.now }
         requires nodes { p.now.setup.n ≡ 7 }
     {
@@ -244,7 +313,8 @@ impl Cluster {
         Ok(())
     }
 
-    fn time_out(&mut self, alloc: Global, p: &Params, at: u8) -> Timed<()>
+    /// Time runs out at a node.
+    pub fn time_out(&mut self, alloc: Global, p: &Params, at: u8) -> Timed<()>
         requires good { IsGoodParams raft p.now }
         requires nodes { p.now.setup.n ≡ 7 }
     {
@@ -252,8 +322,8 @@ impl Cluster {
         self.settle(alloc, p)
     }
 
-    // The nodes 1 and 2 win by turns.
-    fn elect(&mut self, alloc: Global, p: &Params, elections: u32) -> Timed<()>
+    /// The nodes 1 and 2 win by turns.
+    pub fn elect(&mut self, alloc: Global, p: &Params, elections: u32) -> Timed<()>
         requires good { IsGoodParams raft p.now }
         requires nodes { p.now.setup.n ≡ 7 }
     {
@@ -262,221 +332,4 @@ impl Cluster {
         }
         Ok(())
     }
-}
-
-// ---- what it costs
-
-/// Messages that were taken, the nanoseconds that it took, the bytes of the messages, and how long copying these takes.
-#[derive(Clone, Copy)]
-struct Cost {
-    messages: u64,
-    nanos: u64,
-    bytes: u64,
-    copying: u64,
-}
-
-fn nanos_since(rt: &HostRuntime, start: Instant) -> Timed<u64> {
-    Ok(u64::try_from(start.elapsed(rt)?.as_nanos()).unwrap_or(u64::MAX))
-}
-
-// Copies each of these into one buffer, and answers how many bytes that are.
-fn copy_all(rows: &[Bytes], buffer: &mut Vec<u8>) -> Timed<u64> {
-    let mut bytes = 0u64;
-    for row in rows {
-        buffer.clear();
-        buffer.extend_from_slice(row.as_slice())?;
-        bytes = bytes.wrapping_add(buffer.len() as u64);
-    }
-    Ok(bytes)
-}
-
-// Of two costs of one work the lower ones.
-fn lower(a: Cost, b: Cost) -> Cost {
-    Cost {
-        messages: b.messages,
-        nanos: a.nanos.min(b.nanos),
-        bytes: b.bytes,
-        copying: a.copying.min(b.copying),
-    }
-}
-
-const NONE_YET: Cost = Cost {
-    messages: 0,
-    nanos: u64::MAX,
-    bytes: 0,
-    copying: u64::MAX,
-};
-
-// A segment in its normal case.
-fn order(rt: &HostRuntime, p: &Params, requests: u32, keeps: bool) -> Timed<(u64, Cluster)>
-    requires good { IsGoodParams raft p.now }
-    requires nodes { p.now.setup.n ≡ 7 }
-{
-    let alloc = rt.alloc();
-    let batch = batch(alloc, requests)?;
-    let mut cluster = Cluster::new(alloc, p, keeps)?;
-    let start = Instant::now(rt)?;
-    cluster.cast_all(alloc, p, &batch)?;
-    Ok((nanos_since(rt, start)?, cluster))
-}
-
-// A cluster whose last node missed all slots, and so many elections.
-fn behind(alloc: Global, p: &Params, elections: u32) -> Timed<Cluster>
-    requires good { IsGoodParams raft p.now }
-    requires nodes { p.now.setup.n ≡ 7 }
-{
-    let mut cluster = Cluster::new(alloc, p, false)?;
-    cluster.is_cut = true;
-    cluster.cast_all(alloc, p, &Batch::new(alloc))?;
-    cluster.elect(alloc, p, elections)?;
-    Ok(cluster)
-}
-
-// The leader times out, and the last node gets what it missed.
-fn repair(rt: &HostRuntime, p: &Params, elections: u32, keeps: bool) -> Timed<(u64, Cluster)>
-    requires good { IsGoodParams raft p.now }
-    requires nodes { p.now.setup.n ≡ 7 }
-{
-    let mut cluster = behind(rt.alloc(), p, elections)?;
-    cluster.reconnect(rt.alloc(), keeps);
-    let start = Instant::now(rt)?;
-    cluster.time_out(rt.alloc(), p, if elections % 2 == 0 { 1 } else { 2 })?;
-    Ok((nanos_since(rt, start)?, cluster))
-}
-
-// How long copying takes what was kept.
-fn copying(rt: &HostRuntime, cluster: &Cluster) -> Timed<(u64, u64)> {
-    let Some(kept) = &cluster.kept else {
-        return Ok((0, 0));
-    };
-    let mut buffer = Vec::new(rt.alloc());
-    let _warm = copy_all(kept.as_slice(), &mut buffer)?;
-    let start = Instant::now(rt)?;
-    let bytes = copy_all(kept.as_slice(), &mut buffer)?;
-    Ok((nanos_since(rt, start)?, bytes))
-}
-
-// What is worked: a segment with so many requests a batch, or a repair after so many elections.
-#[derive(Clone, Copy)]
-enum Work {
-    Order(u32),
-    Repair(u32),
-}
-
-fn work_once(rt: &HostRuntime, p: &Params, what: Work, keeps: bool) -> Timed<(u64, Cluster)>
-    requires good { IsGoodParams raft p.now }
-    requires nodes { p.now.setup.n ≡ 7 }
-{
-    match what {
-        Work::Order(requests) => order(rt, p, requests, keeps),
-        Work::Repair(elections) => repair(rt, p, elections, keeps),
-    }
-}
-
-// The same once more, to copy its messages.
-fn copying_of(rt: &HostRuntime, p: &Params, what: Work) -> Timed<(u64, u64)>
-    requires good { IsGoodParams raft p.now }
-    requires nodes { p.now.setup.n ≡ 7 }
-{
-    let (_, cluster) = work_once(rt, p, what, true)?;
-    copying(rt, &cluster)
-}
-
-fn cost_once(rt: &HostRuntime, p: &Params, what: Work) -> Timed<Cost>
-    requires good { IsGoodParams raft p.now }
-    requires nodes { p.now.setup.n ≡ 7 }
-{
-    let (copying, bytes) = copying_of(rt, p, what)?;
-    let (nanos, cluster) = work_once(rt, p, what, false)?;
-    Ok(Cost {
-        messages: cluster.taken,
-        nanos,
-        bytes,
-        copying,
-    })
-}
-
-// The best of several times.
-fn best(rt: &HostRuntime, p: &Params, what: Work, times: u32) -> Timed<Cost>
-    requires good { IsGoodParams raft p.now }
-    requires nodes { p.now.setup.n ≡ 7 }
-{
-    let mut best = NONE_YET;
-    for _ in 0..times {
-        best = lower(best, cost_once(rt, p, what)?);
-    }
-    Ok(best)
-}
-
-fn print(rt: &HostRuntime, what: Work, cost: Cost) -> Timed<()> {
-    match what {
-        Work::Order(requests) => print!(rt; "64 slots, {requests} requests in a batch: ")?,
-        Work::Repair(elections) => print!(rt; "a repair after {elections} elections: ")?,
-    }
-    let messages = cost.messages.max(1);
-    let each = cost.nanos / messages;
-    let copying = cost.copying / messages;
-    println!(rt;
-        "{} messages of {} bytes in {} us, {each} ns a message, of which copying its bytes takes {copying}",
-        cost.messages,
-        cost.bytes,
-        cost.nanos / 1000
-    )?;
-    Ok(())
-}
-
-fn time_one(rt: &HostRuntime, p: &Params, what: Work, times: u32) -> Timed<()>
-    requires good { IsGoodParams raft p.now }
-    requires nodes { p.now.setup.n ≡ 7 }
-{
-    let cost = best(rt, p, what, times)?;
-    print(rt, what, cost)
-}
-
-fn time_these(rt: &HostRuntime, p: &Params, times: u32) -> Timed<()>
-    requires good { IsGoodParams raft p.now }
-    requires nodes { p.now.setup.n ≡ 7 }
-{
-    time_one(rt, p, Work::Order(0), times)?;
-    time_one(rt, p, Work::Order(4), times)?;
-    time_one(rt, p, Work::Order(32), times)?;
-    time_one(rt, p, Work::Repair(250), times)?;
-    time_one(rt, p, Work::Repair(500), times)?;
-    time_one(rt, p, Work::Repair(1_000), times)?;
-    time_one(rt, p, Work::Repair(2_000), times)
-}
-
-/// Times segments in their normal case, and repairs; of each the best of so many times counts.
-pub fn time_all(rt: &HostRuntime, times: u32) -> Timed<()> {
-    let p = segment(rt.alloc(), SLOTS)?;
-    time_these(rt, &p, times)
-}
-
-// How many messages a work takes.
-fn messages_of(rt: &HostRuntime, p: &Params, what: Work) -> Timed<u64>
-    requires good { IsGoodParams raft p.now }
-    requires nodes { p.now.setup.n ≡ 7 }
-{
-    let (_, cluster) = work_once(rt, p, what, false)?;
-    Ok(cluster.taken)
-}
-
-fn print_counts(rt: &HostRuntime, ordered: u64, repaired: u64) -> Timed<()> {
-    println!(rt; "64 slots in {ordered} messages, a repair in {repaired}")?;
-    Ok(())
-}
-
-fn count_these(rt: &HostRuntime, p: &Params) -> Timed<()>
-    requires good { IsGoodParams raft p.now }
-    requires nodes { p.now.setup.n ≡ 7 }
-{
-    let ordered = messages_of(rt, p, Work::Order(1))?;
-    let repaired = messages_of(rt, p, Work::Repair(3))?;
-    print_counts(rt, ordered, repaired)
-}
-
-/// Orders a segment and repairs a log, and prints how many messages that takes.
-pub fn count_all(rt: &HostRuntime) -> Timed<()> {
-    let p = segment(rt.alloc(), SLOTS)?;
-    count_these(rt, &p)
 }

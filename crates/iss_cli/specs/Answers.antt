@@ -7,9 +7,9 @@ use Rattle.iss_schedule.specs.BadLines.{IsBadLine}
 use Rattle.iss_schedule.specs.Schedules.{IsSchedule}
 use Rattle.iss_cli.specs.declared.answers.Answer.{Answer}
 use Rattle.iss_cli.specs.declared.status.Status.{Status}
-use Rattle.iss_cli.specs.declared.status.Status.TheVariants.{Done, NoMemory, RefusedWords, RefusedSchedule, SourceFailed, SinkFailed}
+use Rattle.iss_cli.specs.declared.status.Status.TheVariants.{Done, NoMemory, RefusedWords, RefusedSchedule, SourceFailed, SinkFailed, Forged, Collision}
 use Rattle.iss_cli.specs.Ends.{IfTold, and_more}
-use Rattle.iss_cli.specs.Reports.{report_text}
+use Rattle.iss_cli.specs.Reports.{IsReported}
 
 -- there are two words, the program's name and `replay`
 abbrev pub AskReplay : List (List ℕ) → Type 0
@@ -32,13 +32,10 @@ why_word Size = codes "Size"
 abbrev pub refused_line : ℕ → Why → Answer
 refused_line line why = record { printed = codes "refused line " ++ decimal line ++ codes " " ++ why_word why ++ 10 ∷ []; status = RefusedSchedule }
 
-abbrev pub reported : Schedule → Answer
-reported s = record { printed = report_text s; status = Done }
-
 -- the answer to an input: the report of the run where the bytes are those of a schedule, and else the first bad line
 abbrev pub IsAnswer : List ℕ → Answer → Type 0
 IsAnswer bytes a =
-    ((s : Schedule) × (IsSchedule bytes s × (a ≡ reported s)))
+    ((s : Schedule) × (IsSchedule bytes s × IsReported s a))
     ⊎ ((line : ℕ) × ((why : Why) × (IsBadLine bytes line why × (a ≡ refused_line line why))))
 
 -- the answer to words and an input
@@ -66,6 +63,8 @@ Prints answer held held_now SourceFailed = ⊥
 Prints answer held held_now Done = Printed answer held held_now Done
 Prints answer held held_now RefusedWords = Printed answer held held_now RefusedWords
 Prints answer held held_now RefusedSchedule = Printed answer held held_now RefusedSchedule
+Prints answer held held_now Forged = Printed answer held held_now Forged
+Prints answer held held_now Collision = Printed answer held held_now Collision
 
 -- Nothing is printed where the source fails, and maybe where memory is wanting. Else there is an answer, and it is
 -- printed, or a first part of it where the sink fails or memory is wanting.
@@ -76,12 +75,16 @@ Ends words left held held_now SinkFailed = (answer : Answer) × (IsAnswered word
 Ends words left held held_now Done = (answer : Answer) × (IsAnswered words left answer × Prints answer held held_now Done)
 Ends words left held held_now RefusedWords = (answer : Answer) × (IsAnswered words left answer × Prints answer held held_now RefusedWords)
 Ends words left held held_now RefusedSchedule = (answer : Answer) × (IsAnswered words left answer × Prints answer held held_now RefusedSchedule)
+Ends words left held held_now Forged = (answer : Answer) × (IsAnswered words left answer × Prints answer held held_now Forged)
+Ends words left held held_now Collision = (answer : Answer) × (IsAnswered words left answer × Prints answer held held_now Collision)
 
 -- the statuses of an answer that is printed whole
 abbrev pub IsAnswerStatus : Status → Type 0
 IsAnswerStatus Done = Unit {0}
 IsAnswerStatus RefusedWords = Unit {0}
 IsAnswerStatus RefusedSchedule = Unit {0}
+IsAnswerStatus Forged = Unit {0}
+IsAnswerStatus Collision = Unit {0}
 IsAnswerStatus NoMemory = ⊥
 IsAnswerStatus SourceFailed = ⊥
 IsAnswerStatus SinkFailed = ⊥
@@ -90,6 +93,8 @@ IsAnswerStatus SinkFailed = ⊥
 abbrev pub RestsOnInput : List (List ℕ) → Status → Type 0
 RestsOnInput words Done = AskReplay words
 RestsOnInput words RefusedSchedule = AskReplay words
+RestsOnInput words Forged = AskReplay words
+RestsOnInput words Collision = AskReplay words
 RestsOnInput words SinkFailed = AskReplay words
 RestsOnInput words NoMemory = ⊥
 RestsOnInput words RefusedWords = ⊥

@@ -1,30 +1,51 @@
 -- The report of a schedule's run under its module, and what is promised of the run.
-use Rattle.std.specs.Prelude.{◌≡◌, ℕ, ◌==◌, if◌then◌else◌, List}
+use Rattle.std.specs.Prelude.{◌≡◌, ℕ, Option, Some, None}
 use Rattle.iss_model.specs.Conserved.{IsConserved}
-use Rattle.iss_model.specs.OneLog.{IsOneLog, OnlyGrows}
-use Rattle.iss_replay.specs.Report.{run_of, text_of}
+use Rattle.iss_model.specs.Ends.{HasEvidence}
+use Rattle.iss_model.specs.OneLog.{IsOneLog, run_after}
+use Rattle.iss_model.specs.Run.{End, Forged, Collision}
+use Rattle.iss_replay.specs.Report.{text_of}
 use Rattle.iss_sb.specs.Evidence.{Module}
 use Rattle.iss_schedule.specs.declared.schedules.Schedule.{Schedule}
+use Rattle.sb_hotstuff.specs.HotStuff.{hotstuff}
+use Rattle.sb_pbft.specs.Pbft.{pbft}
 use Rattle.sb_raft.specs.Raft.{raft}
 use Rattle.sb_relay.specs.Relay.{relay}
+use Rattle.iss_cli.specs.declared.answers.Answer.{Answer}
+use Rattle.iss_cli.specs.declared.status.Status.{Status}
+use Rattle.iss_cli.specs.declared.status.Status.TheVariants.{Done, Forged as Was_forged, Collision as Has_collision}
 
--- the text of the run of its events under a module
-abbrev pub text_under : {Msg : Type 0} → Module Msg → Schedule → List ℕ
-text_under M s = text_of s.setup M (run_of s.setup M s.events)
+-- What holds of the module of this number: a line for each module that a schedule can name.
+pub record Under (number : ℕ) (Holds : (Msg : Type 0) → Module Msg → Type 0) : Type 0 where
+  pub of_relay : number ≡ relay.tag → Holds _ relay
+  pub of_raft : number ≡ raft.tag → Holds _ raft
+  pub of_pbft : number ≡ pbft.tag → Holds _ pbft
+  pub of_hotstuff : number ≡ hotstuff.tag → Holds _ hotstuff
 
--- under the module that its word names
-abbrev pub report_text : Schedule → List ℕ
-report_text s = if s.setup.module == raft.tag then text_under raft s else text_under relay s
+-- how a run's end is told to who called
+abbrev pub status_of : Option (ℕ × End) → Status
+status_of None = Done
+status_of (Some (event, Forged claim)) = Was_forged
+status_of (Some (event, Collision first second)) = Has_collision
+
+-- the text of the run of a schedule's events under a module, and how that ended
+abbrev pub reported : {Msg : Type 0} → Module Msg → Schedule → Answer
+reported M s =
+    let p = run_after s.setup M s.events in
+    record { printed = text_of s.setup M p; status = status_of p.ended }
+
+-- the answer is the report of its run
+abbrev pub IsReported : Schedule → Answer → Type 0
+IsReported s a = Under s.setup.module (λ Msg M. a ≡ reported M s)
 
 -- The logs of correct nodes are of one log, in which no request stands twice and each batch was accepted as valid by a
--- correct node; more events only make logs longer; each request that a node took is in its log, waits there, or is in
--- flight, in one place.
+-- correct node, and which more events only make longer; each request that a correct node took is in its log, waits there, or
+-- is in flight, in one place. Where the run ends before its last event, it shows evidence of a forged claim or a collision.
 pub record IsKept {Msg : Type 0} (M : Module Msg) (s : Schedule) : Type 0 where
   pub one_log : IsOneLog s.setup M s.events
-  pub grows : OnlyGrows s.setup M s.events
+  pub evidence : HasEvidence s.setup M s.events
   pub conserved : IsConserved s.setup M s.events
 
--- of its run under the module that its word names
-pub record IsPromised (s : Schedule) : Type 0 where
-  pub of_relay : s.setup.module ≡ relay.tag → IsKept relay s
-  pub of_raft : s.setup.module ≡ raft.tag → IsKept raft s
+-- of its run
+abbrev pub IsPromised : Schedule → Type 0
+IsPromised s = Under s.setup.module (λ Msg M. IsKept M s)

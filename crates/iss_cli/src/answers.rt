@@ -1,9 +1,10 @@
 //! What is answered to words and an input.
 ghost use Rattle.std.specs.Prelude.{◌≡◌, ◌↔◌, IsTrue, IfOk, map, string_bytes, codes};
-ghost use Rattle.iss_cli.specs.Answers.{AskReplay, IsAnswer, refused_words, refused_line, reported, why_word};
+ghost use Rattle.iss_cli.specs.Answers.{AskReplay, IsAnswer, refused_words, refused_line, why_word};
 ghost use Rattle.iss_schedule.specs.Events.{AreInRange};
-ghost use Rattle.iss_cli.specs.Reports.{text_under};
+ghost use Rattle.iss_cli.specs.Reports.{IsReported, reported, status_of};
 ghost use Rattle.iss_model.specs.Runs.{IsSetupOf};
+ghost use Rattle.iss_replay.specs.Stands.{end_kept};
 ghost use Rattle.iss_schedule.specs.Schedules.{IsKnown};
 
 use crate::status::Status;
@@ -12,6 +13,9 @@ use iss_report::words::{put_number, put_text};
 use iss_request::{Bytes, NoMemory};
 use iss_sb::Sequenced;
 use iss_schedule::{ReadError, Schedule, Why, read};
+use iss_world::ends::End;
+use sb_hotstuff::HotStuff;
+use sb_pbft::Pbft;
 use sb_raft::Raft;
 use sb_relay::Relay;
 use std::alloc::Global;
@@ -66,11 +70,15 @@ pub fn respond(alloc: Global, bytes: &[u8]) -> Result<Answer, NoMemory>
 fn report(alloc: Global, schedule: &Schedule) -> Result<Answer, NoMemory>
     requires known { IsKnown schedule.now.setup }
     requires range { AreInRange schedule.now.setup schedule.now.events }
-    ensures { IfOk result (λ answer. answer ≡ reported schedule.now) }
+    ensures { IfOk result (IsReported schedule.now) }
 {
     match schedule.setup.module {
+        1 => report_under::<Relay>(alloc, schedule),
         2 => report_under::<Raft>(alloc, schedule),
-        _ => report_under::<Relay>(alloc, schedule),
+        3 => report_under::<Pbft>(alloc, schedule),
+        4 => report_under::<HotStuff>(alloc, schedule),
+        // never: a schedule that was read names one of these
+        _ => Err(NoMemory),
     }
 }
 
@@ -78,14 +86,25 @@ fn report(alloc: Global, schedule: &Schedule) -> Result<Answer, NoMemory>
 fn report_under<M: Sequenced>(alloc: Global, schedule: &Schedule) -> Result<Answer, NoMemory>
     requires good { IsSetupOf M.meaning schedule.now.setup }
     requires range { AreInRange schedule.now.setup schedule.now.events }
-    ensures printed { IfOk result (λ answer. answer.printed ≡ text_under M.meaning schedule.now) }
-    ensures done { IfOk result (λ answer. answer.status ≡ Status.Done) }
+    ensures printed { IfOk result (λ answer. answer.printed ≡ (reported M.meaning schedule.now).printed) }
+    ensures status { IfOk result (λ answer. answer.status ≡ (reported M.meaning schedule.now).status) }
 {
     let report = replay::<M>(alloc, schedule)?;
     Ok(Answer {
         printed: text(alloc, &report)?,
-        status: Status::Done,
+        status: status_of(&report.ended),
     })
+}
+
+// How a run's end is told.
+fn status_of(ended: &Option<(u64, End)>) -> Status
+    ensures { result ≡ status_of (end_kept ended.now) }
+{
+    match ended {
+        None => Status::Done,
+        Some((_, End::Forged(_))) => Status::Forged,
+        Some((_, End::Collision { .. })) => Status::Collision,
+    }
 }
 
 // The answer to an input whose first bad line is this one.

@@ -17,6 +17,10 @@ pub enum Status {
     SourceFailed,
     /// The sink failed. The first part of what was to be printed may have been.
     SinkFailed,
+    /// The run ended in an event that showed a claim that its node never made.
+    Forged,
+    /// The run ended in an event that showed two strings of one digest.
+    Collision,
 }
 
 impl Status {
@@ -31,6 +35,8 @@ impl Status {
             Status::RefusedSchedule => 3,
             Status::SourceFailed => 4,
             Status::SinkFailed => 5,
+            Status::Forged => 6,
+            Status::Collision => 7,
         }
     }
 }

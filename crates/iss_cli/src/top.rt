@@ -1,10 +1,10 @@
 //! The top call.
-ghost use Rattle.std.specs.Prelude.{◌≡◌, true, map, string_bytes, IfOk, OnOk, IsErrOf};
+ghost use Rattle.std.specs.Prelude.{◌≡◌, map, string_bytes, IfOk, OnOk, IsErrOf};
 ghost use Rattle.iss_cli.specs.Answers.{AskReplay, IsAnswered, IsAnswerStatus, Prints, Ends, RestsOnInput};
 ghost use Rattle.iss_cli.specs.Ends.{HasCause, Drains, IsDrained};
 ghost use Rattle.iss_cli.specs.Reports.{IsKept, IsPromised};
 ghost use Rattle.iss_model.specs.Conserved.{AcceptsOnce};
-ghost use Rattle.iss_model.specs.Runs.{HashesNothing, IsSetupOf};
+ghost use Rattle.iss_model.specs.Runs.{IsSetupOf};
 ghost use Rattle.iss_schedule.specs.Events.{AreInRange};
 ghost use Rattle.iss_schedule.specs.Schedules.{IsFine};
 ghost use Rattle.iss_schedule.specs.declared.schedules.Schedule.{Schedule};
@@ -15,9 +15,11 @@ use crate::errors::EndError;
 use crate::input::read_up_to;
 use crate::output::write_all;
 use crate::status::Status;
-use iss_model::{cluster_runs, composition, requests_are_conserved, separate_runs};
+use iss_model::{cluster_runs, requests_are_conserved, runs_end_with_evidence};
 use iss_sb::Sequenced;
-use sb_raft::{Raft, batches_are_accepted_once};
+use sb_hotstuff::HotStuff;
+use sb_pbft::Pbft;
+use sb_raft::Raft;
 use sb_relay::Relay;
 use std::alloc::Global;
 
@@ -28,8 +30,9 @@ pub const MOST_TAKEN: usize = 16_777_217;
 const PIECE: usize = 65_536;
 
 /// Does what the words ask for, and says how it ended. `replay` reads the input to its end and prints the report of the
-/// schedule that it is, or its first bad line. Of every schedule, under the module that it names: the logs of its report are
-/// of one log, more events only make them longer, and no request that a node took is lost (`promised`).
+/// schedule that it is, or its first bad line. A run that shows a claim that its node never made, or two strings of one
+/// digest, ends there, and its report with the evidence. Of every schedule, under the module that it names: the logs of its
+/// report are of one log, more events only make them longer, and no request that a correct node took is lost (`promised`).
 ///
 /// Causes are met in the order words, source, input, printing; want of memory may come anywhere.
 pub fn run<I: Source, O: Sink>(
@@ -56,25 +59,26 @@ pub fn run<I: Source, O: Sink>(
 
 /// What is promised of the run of every schedule: the logs of correct nodes are of one log, in which no request stands
 /// twice and each batch was accepted as valid by a correct node; more events only make logs longer; and each request that a
-/// node took is in its log, waits there, or is in flight, in one place (ISS, whole protocol). It takes no premise on digests,
-/// since neither the relay nor Raft hashes anything.
+/// correct node took is in its log, waits there, or is in flight, in one place (ISS, whole protocol). It takes no premise on
+/// signatures or digests, since a run ends with the evidence where one does not hold.
 pub fn one_log()
     ensures promised { (s : Schedule) → IsFine s → IsPromised s }
 {
     kept::<Relay>();
     kept::<Raft>();
-    batches_are_accepted_once();
+    sb_raft::batches_are_accepted_once();
+    kept::<Pbft>();
+    sb_pbft::batches_are_accepted_once();
+    kept::<HotStuff>();
+    sb_hotstuff::batches_are_accepted_once();
 }
 
-// What is promised of the run of every schedule under a module whose nodes only stop, which hashes nothing, and whose
-// leaders accept one batch at a slot.
+// What is promised of the run of every schedule under a module whose correct leaders accept one batch at a slot.
 fn kept<M: Sequenced>()
-    ensures { M.meaning.stopping ≡ true → HashesNothing M.meaning → AcceptsOnce M.meaning →
-        (s : Schedule) → IsSetupOf M.meaning s.setup → AreInRange s.setup s.events → IsKept M.meaning s }
+    ensures { AcceptsOnce M.meaning → (s : Schedule) → IsSetupOf M.meaning s.setup → AreInRange s.setup s.events → IsKept M.meaning s }
 {
-    composition::<M>();
     cluster_runs::<M>();
-    separate_runs::<M>();
+    runs_end_with_evidence::<M>();
     requests_are_conserved::<M>();
 }
 

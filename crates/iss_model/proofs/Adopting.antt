@@ -30,7 +30,7 @@ use Rattle.iss_model.specs.Ordered.{Among, Ordered}
 use Rattle.iss_model.specs.Past.{Past, Piece, asked_in, before, log_of, made_in, newborn, params_of, takes}
 use Rattle.iss_model.specs.Rules.{Rules}
 use Rattle.iss_model.specs.Runs.{IsSetupOf}
-use Rattle.iss_model.specs.Tested.{as_signed, collision_in}
+use Rattle.iss_model.specs.Run.{as_signed, collision_in}
 use Rattle.iss_model.proofs.Checkpoints.{exact-of}
 use Rattle.iss_model.proofs.Layouts.{own-verifies, sound-rules}
 use Rattle.iss_model.proofs.Reached.{composition}
@@ -47,7 +47,20 @@ abbrev nodding : Module Word
 nodding = record signing { decided = λ p me xs s. cond (is_slot s p.slots) (nil_if xs) None }
 
 as-signing : (p : Params) → IsGoodParams nodding p → IsGoodParams signing p
-as-signing p good = record { setup = good.setup; tag = good.tag; kind = good.kind; nodes = good.nodes; majority = good.majority; leader = good.leader; some = good.some; few = good.few; rising = good.rising; slots_low = good.slots_low; directory = good.directory }
+as-signing p good = record {
+  setup = good.setup;
+  tag = good.tag;
+  kind = good.kind;
+  nodes = good.nodes;
+  majority = good.majority;
+  leader = good.leader;
+  some =
+      good.some;
+  few = good.few;
+  rising = good.rising;
+  slots_low = good.slots_low;
+  directory = good.directory;
+}
 
 as-heard : (p : Params) (i : Input Word) → IsHeard nodding p i → IsHeard signing p i
 as-heard p (Cast slot batch) h = h
@@ -90,7 +103,24 @@ nodding-safe p w good reached sep = record {
 }
 
 abbrev four : Setup
-four = record { version = 1; «module» = 9; f = 1; epoch = 4; buckets = 4; batch = 4; window = 8; policy = Simple; clients = 1; keys = 4; faulty = record { 0 = 3 } ∷ []; n = 4; quorum = 3; kind = Byzantine; tag = [] }
+four = record {
+  version = 1;
+  «module» = 9;
+  f = 1;
+  epoch = 4;
+  buckets = 4;
+  batch = 4;
+  window = 8;
+  policy = Simple;
+  clients = 1;
+  keys = 4;
+  faulty =
+      record { 0 = 3 } ∷ [];
+  n = 4;
+  quorum = 3;
+  kind = Byzantine;
+  tag = [];
+}
 
 setup-good : IsGoodSetup four
 setup-good = record {
@@ -141,7 +171,8 @@ part-strings [] log x h = h
 part-strings (v ∷ newer) log x h = inr (inr (part-strings newer log x h))
 
 hashed-part : (log : List Value) → IsPart log → IsHashedLog S strings log
-hashed-part log p x h = over-new x (chain_strings S nils) ([] ∷ []) (subst (λ (ys : List Value). In x (chain_strings S ys)) (sym p.1) (part-strings p.0 log x h))
+hashed-part log p x h =
+    over-new x (chain_strings S nils) ([] ∷ []) (subst (λ (ys : List Value). In x (chain_strings S ys)) (sym p.1) (part-strings p.0 log x h))
 
 nil-spelled : S.spells Nil ≡ true
 unfolding parse_value parse_rest spell_value ◌>>=◌ such_that byte done
@@ -189,8 +220,10 @@ no-strings i l c input x h = go (nodding.asks (params_of R nodding i c l) i (c.e
     go None k = absurd k
     go (Some w) k = absurd k
 
-moves : (w : Net) → Reached w → (i l : ℕ) (input : Input Word) → is_correct four i ≡ true → R.leads (before R nodding i (w.pasts i) (w.pasts i).epoch) (w.pasts i).epoch l ≡ true → MayTake four R nodding w i l input →
-    verdict R (before R nodding i (w.pasts i) (w.pasts i).epoch) (w.pasts i).epoch l (accepts ((w.pasts i).evidence (w.pasts i).epoch l)) (asked_in R nodding i (w.pasts i) l input) ≡ None →
+moves : (w : Net) → Reached w → (i l : ℕ) (input : Input Word) → is_correct four i ≡ true →
+    R.leads (before R nodding i (w.pasts i) (w.pasts i).epoch) (w.pasts i).epoch l ≡ true → MayTake four R nodding w i l input →
+    verdict R (before R nodding i (w.pasts i) (w.pasts i).epoch) (w.pasts i).epoch l (accepts ((w.pasts i).evidence (w.pasts i).epoch l))
+    (asked_in R nodding i (w.pasts i) l input) ≡ None →
     IsPart (log_of R nodding i (takes R nodding i (w.pasts i) l input 0)) → Reached (after_move w i l input)
 moves w r i l input correct leads may judged part =
     let p : Params = params_of R nodding i (w.pasts i) l in
@@ -215,7 +248,8 @@ moves w r i l input correct leads may judged part =
       same = refl;
     }
 
-votes : (w : Net) → Reached w → (i : ℕ) → is_correct four i ≡ true → is_complete R nodding i (w.pasts i) ≡ true → IsPart (log_of R nodding i (advanced (w.pasts i))) → Reached (after_end w i)
+votes : (w : Net) → Reached w → (i : ℕ) → is_correct four i ≡ true → is_complete R nodding i (w.pasts i) ≡ true →
+    IsPart (log_of R nodding i (advanced (w.pasts i))) → Reached (after_end w i)
 votes w r i correct complete part =
     let here : (after_end w i).pasts i ≡ advanced (w.pasts i) = set_at-same w.pasts i _ in
     record {
@@ -277,7 +311,11 @@ abbrev pub w10 : Net
 w10 = after_end w9 1
 
 r0 : Reached w0
-r0 = record { reach = begin (record { pasts = λ j ok. refl; messages = λ k h. h; book = λ x h. h; root = over-old [] (chain_strings S nils) ([] ∷ []) (inl refl) }); same = refl }
+r0 = record {
+  reach =
+      begin (record { pasts = λ j ok. refl; messages = λ k h. h; book = λ x h. h; root = over-old [] (chain_strings S nils) ([] ∷ []) (inl refl) });
+  same = refl;
+}
 
 r1 : Reached w1
 r1 = moves w0 r0 0 0 casts refl refl (refl, batch-read 1 [] (omega arith) (λ q i. absurd i)) refl (Nil ∷ Nil ∷ Nil ∷ [], refl)
@@ -377,4 +415,5 @@ pub log-adopted : log_of R nodding 2 (last_net.pasts 2) ≡ nils
 log-adopted = refl
 
 pub four-ordered : Ordered four R nodding last_net.pasts
-four-ordered = composition four S R nodding nodding-safe nodding-lawful (sound-rules nodding four setup-of) last_net (exact-of four setup-good last_net) separate reached
+four-ordered = composition four S R nodding nodding-safe nodding-lawful (sound-rules nodding four setup-of) last_net
+    (exact-of four setup-good last_net) separate reached

@@ -19,7 +19,9 @@ use Rattle.iss_model.proofs.Good.{Good, IsTrue, Voted}
 use Rattle.iss_model.proofs.Kept.{settled-of}
 use Rattle.iss_model.proofs.Logs.{Settled, grow-far, log-chain, log-kept, log-later, logs-meet}
 
-module _ {Msg : Type 0} (s : Setup) (S : Scheme) (R : Rules) (M : Module Msg) (safe : IsSafe M) (sound : IsSoundRules s M R) (v w : Cluster Msg) (exact : IsExact s S w) (sep : Separate (Among w.strings)) (g : Good s R M v S) (i : ℕ) (piece : Piece) (cert : Cert) (ad : Adopted s S R M v w i piece cert) where
+module _ {Msg : Type 0} (s : Setup) (S : Scheme) (R : Rules) (M : Module Msg) (safe : IsSafe M) (sound : IsSoundRules s M R) (v w : Cluster Msg)
+    (exact : IsExact s S w) (sep : Separate (Among w.strings)) (g : Good s R M v S) (i : ℕ) (piece : Piece) (cert : Cert)
+    (ad : Adopted s S R M v w i piece cert) where
   abbrev c : Past Msg
   c = v.pasts i
 
@@ -53,7 +55,8 @@ module _ {Msg : Type 0} (s : Setup) (S : Scheme) (R : Rules) (M : Module Msg) (s
   chained = exact.chained vote piece.epoch cert.chain cert.number (ad.quiet.old_book vote in_book) refl
 
   same : voted.log ≡ whole
-  same = chain-injective S chained w.strings sep (ad.quiet.strings [] g.root) voted.log whole voted.spelled ad.piece_spelled (λ x h. ad.quiet.strings x (voted.hashed x h)) ad.piece_hashed (sym voted.chained ∙ ad.chained)
+  same = chain-injective S chained w.strings sep (ad.quiet.strings [] g.root) voted.log whole voted.spelled ad.piece_spelled
+      (λ x h. ad.quiet.strings x (voted.hashed x h)) ad.piece_hashed (sym voted.chained ∙ ad.chained)
 
   whole_true : IsTrueLog s R M v.pasts whole
   whole_true = rw same at voted.is
@@ -69,11 +72,15 @@ module _ {Msg : Type 0} (s : Setup) (S : Scheme) (R : Rules) (M : Module Msg) (s
   start_start = start-cut R (log_of R M i c) piece.epoch reached_e
 
   -- a log that holds the epoch's start and not yet its end
-  in_epoch : (xs : List Value) → Extends start_log xs → length xs < length start_log + length piece.values → (start_of R xs piece.epoch ≡ length start_log) × (epoch_at R xs ≡ piece.epoch)
+  in_epoch : (xs : List Value) → Extends start_log xs → length xs < length start_log + length piece.values →
+      (start_of R xs piece.epoch ≡ length start_log) × (epoch_at R xs ≡ piece.epoch)
   in_epoch xs x lt =
       let st : start_of R xs piece.epoch ≡ length start_log = start-extends R start_log xs piece.epoch x (omega (arith, start_start)) ∙ start_start in
-      let cut : oldest (start_of R xs piece.epoch) xs ≡ start_log = ap (λ (n : ℕ). oldest n xs) st ∙ (oldest-extends (length start_log) start_log xs x (omega arith) ∙ oldest-all (length start_log) start_log (omega arith)) in
-      let next : start_of R xs (suc piece.epoch) ≡ length start_log + R.slots start_log piece.epoch = ap₂ (λ (n : ℕ) (ys : List Value). n + R.slots ys piece.epoch) st cut in
+      let cut : oldest (start_of R xs piece.epoch) xs ≡ start_log =
+      ap (λ (n : ℕ). oldest n xs) st ∙
+      (oldest-extends (length start_log) start_log xs x (omega arith) ∙ oldest-all (length start_log) start_log (omega arith)) in
+      let next : start_of R xs (suc piece.epoch) ≡ length start_log + R.slots start_log piece.epoch =
+      ap₂ (λ (n : ℕ) (ys : List Value). n + R.slots ys piece.epoch) st cut in
       let long : length start_log ≤ length xs = extends-length start_log xs x in
       (st, epoch-unique R sound.some_slots xs piece.epoch (omega (arith, st, long)) (omega (arith, next, lt, ad.whole)))
 
@@ -117,10 +124,15 @@ module _ {Msg : Type 0} (s : Setup) (S : Scheme) (R : Rules) (M : Module Msg) (s
             let longer : Extends log xs = logs-meet R M i t log xs logt h (omega (arith, y.1)) in
             let part : Extends start_log xs = extends-trans start_log log xs (oldest-part (start_of R log piece.epoch) log) longer in
             let e = in_epoch xs part lt in
-            let bf : length (before_at R xs) ≡ length start_log = length-cut R xs (epoch_at R xs) (epoch-low R xs) ∙ (ap (λ (n : ℕ). start_of R xs n) e.1 ∙ e.0) in
+            let bf : length (before_at R xs) ≡ length start_log =
+            length-cut R xs (epoch_at R xs) (epoch-low R xs) ∙ (ap (λ (n : ℕ). start_of R xs n) e.1 ∙ e.0) in
             let n = nth-some piece.values (length xs - length (before_at R xs)) (omega (arith, bf, lt, extends-length start_log xs part)) in
-            let here : cond (eqb piece.epoch (epoch_at R xs)) (nth piece.values (length xs - length (before_at R xs))) None ≡ Some n.0 = subst (λ (b : Bool). cond b (nth piece.values (length xs - length (before_at R xs))) None ≡ Some n.0) (sym (ap (λ (n : ℕ). eqb piece.epoch n) e.1 ∙ eqb-same piece.epoch)) n.1 in
-            first-some (delivered M (params_at R xs) i (c.evidence (epoch_at R xs) (leader_at R xs)) (length xs)) (adopted_at c.adopted (epoch_at R xs) (length xs - length (before_at R xs))) (cond (eqb piece.epoch (epoch_at R xs)) (nth piece.values (length xs - length (before_at R xs))) None) n.0 here none
+            let here : cond (eqb piece.epoch (epoch_at R xs)) (nth piece.values (length xs - length (before_at R xs))) None ≡ Some n.0 =
+            subst (λ (b : Bool). cond b (nth piece.values (length xs - length (before_at R xs))) None ≡ Some n.0)
+            (sym (ap (λ (n : ℕ). eqb piece.epoch n) e.1 ∙ eqb-same piece.epoch)) n.1 in
+            first-some (delivered M (params_at R xs) i (c.evidence (epoch_at R xs) (leader_at R xs)) (length xs))
+            (adopted_at c.adopted (epoch_at R xs) (length xs - length (before_at R xs)))
+            (cond (eqb piece.epoch (epoch_at R xs)) (nth piece.values (length xs - length (before_at R xs))) None) n.0 here none
       ]
 
   reach_end : end ≤ length (log_of R M i t)
@@ -128,16 +140,20 @@ module _ {Msg : Type 0} (s : Setup) (S : Scheme) (R : Rules) (M : Module Msg) (s
       (let a : start_of R (log_of R M i c) piece.epoch ≤ piece.epoch * R.most = start-most R sound.most (log_of R M i c) piece.epoch in
       let b : R.slots start_log piece.epoch ≤ R.most = sound.most start_log piece.epoch in
       let d : piece.epoch * R.most ≡ c.epoch * R.most = ap (λ (n : ℕ). n * R.most) ad.epoch in
-      let f : suc (suc c.epoch) * R.most ≡ c.epoch * R.most + R.most + R.most = suc-mul (suc c.epoch) R.most ∙ ap (λ (n : ℕ). n + R.most) (suc-mul c.epoch R.most) in
+      let f : suc (suc c.epoch) * R.most ≡ c.epoch * R.most + R.most + R.most =
+      suc-mul (suc c.epoch) R.most ∙ ap (λ (n : ℕ). n + R.most) (suc-mul c.epoch R.most) in
       omega (arith, a, b, d, f, start_length, ad.whole))
 
   far : start_of R (log_of R M i t) (suc c.epoch) ≤ length (log_of R M i t)
   far =
       let grown : Extends (log_of R M i c) (log_of R M i t) = log-later R M i c t (turned-later R c (piece ∷ []) settled) in
-      let st : start_of R (log_of R M i t) piece.epoch ≡ start_of R (log_of R M i c) piece.epoch = start-extends R (log_of R M i c) (log_of R M i t) piece.epoch grown reached_e in
+      let st : start_of R (log_of R M i t) piece.epoch ≡ start_of R (log_of R M i c) piece.epoch =
+      start-extends R (log_of R M i c) (log_of R M i t) piece.epoch grown reached_e in
       let cut : cut_at R (log_of R M i t) piece.epoch ≡ start_log = cut-extends R (log_of R M i c) (log_of R M i t) piece.epoch grown reached_e in
-      let next : start_of R (log_of R M i t) (suc piece.epoch) ≡ start_of R (log_of R M i c) piece.epoch + R.slots start_log piece.epoch = ap₂ (λ (n : ℕ) (ys : List Value). n + R.slots ys piece.epoch) st cut in
+      let next : start_of R (log_of R M i t) (suc piece.epoch) ≡ start_of R (log_of R M i c) piece.epoch + R.slots start_log piece.epoch =
+      ap₂ (λ (n : ℕ) (ys : List Value). n + R.slots ys piece.epoch) st cut in
       subst (λ (n : ℕ). start_of R (log_of R M i t) (suc n) ≤ length (log_of R M i t)) ad.epoch (omega (arith, next, reach_end, start_length, ad.whole))
 
   pub good-adopted : Good s R M w S
-  good-adopted = good-turned s S R M safe sound v w sep g i ad.correct (piece ∷ []) ad.here ad.other ad.quiet (λ x e l low h named. ad.book x h) ad.hashed ad.spelled far pieces_true (λ x e d q h okx st. g.voted x e d q (ad.book x h) okx st)
+  good-adopted = good-turned s S R M safe sound v w sep g i ad.correct (piece ∷ []) ad.here ad.other ad.quiet
+      (λ x e l low h named. ad.book x h) ad.hashed ad.spelled far pieces_true (λ x e d q h okx st. g.voted x e d q (ad.book x h) okx st)

@@ -79,7 +79,8 @@ module _ {Msg : Type 0} (F : Formats Msg) (R : Rules) (M : Module Msg) (me : ℕ
         different = refiled-once gone (log_ids new) new c.waiting c.flight h.different;
         signed = λ q i. h.signed q (within q i);
         inside = λ x i none.
-            let was = h.inside x (ids-within (held (inputs F R M me c l input).core) (held c) within x i) (λ k. none (subst (λ (t : List Value). In x (log_ids t)) (sym grown.1) (log_ids-extends x grown.0 old k))) in
+            let was = h.inside x (ids-within (held (inputs F R M me c l input).core) (held c) within x i)
+            (λ k. none (subst (λ (t : List Value). In x (log_ids t)) (sym grown.1) (log_ids-extends x grown.0 old k))) in
             subst (λ (bf : List Value). R.inside bf c.past.epoch x ≡ true) (sym same) was;
         unordered = λ x i j. elim (ids-append x (absent gone c.waiting) (absent (log_ids new) (returned new c.flight)) i) [
           | inl a ↦
@@ -97,9 +98,11 @@ module _ {Msg : Type 0} (F : Formats Msg) (R : Rules) (M : Module Msg) (me : ℕ
       let a = or-false (has_id q.id (ids c.waiting)) _ r.unknown in
       let b = or-false (has_id q.id (flown c.flight)) (has_id q.id (log_ids (log_of R M me c.past))) a.1 in
       let p = parts-of c.waiting (carried c.flight) h.different in
-      let grounded : In q.id (ids (carried c.flight)) → ⊥ = λ i. not-has q.id (flown c.flight) b.0 (subst (λ (xs : List ReqId). In q.id xs) (ids-carried c.flight) i) in
+      let grounded : In q.id (ids (carried c.flight)) → ⊥ =
+      λ i. not-has q.id (flown c.flight) b.0 (subst (λ (xs : List ReqId). In q.id xs) (ids-carried c.flight) i) in
       let new : List Request = c.waiting ++ q ∷ [] in
-      let new-waits : (x : ReqId) → In x (ids new) → In x (ids c.waiting) ⊎ (x ≡ q.id) = λ x i. elim (ids-append x c.waiting (q ∷ []) i) [ inl k ↦ inl k | inr k ↦ elim k [ inl e ↦ inr e | inr j ↦ absurd j ] ] in
+      let new-waits : (x : ReqId) → In x (ids new) → In x (ids c.waiting) ⊎ (x ≡ q.id) =
+      λ x i. elim (ids-append x c.waiting (q ∷ []) i) [ inl k ↦ inl k | inr k ↦ elim k [ inl e ↦ inr e | inr j ↦ absurd j ] ] in
       rw r.is (record {
         different = ids-once new (carried c.flight)
             (ids-once c.waiting (q ∷ []) p.left (λ i. i, tt) (λ x i. elim [ inl e ↦ not-has q.id (ids c.waiting) a.0 (rw (← e) i) | inr j ↦ absurd j ])) p.right
@@ -143,15 +146,27 @@ module _ {Msg : Type 0} (F : Formats Msg) (R : Rules) (M : Module Msg) (me : ℕ
       }
 
   pub casting-ready : (c : Core Msg) (s : Slot) → IsReadyCore R M me c → IsReadyCore R M me (casting F R M me c s)
-  casting-ready c s h = record { sound = casting-sound c s h.sound; spelled = λ q i. h.spelled q (casting-in R.batch (is_mine R M me c) s c.waiting c.flight q i) }
+  casting-ready c s h =
+      record { sound = casting-sound c s h.sound; spelled = λ q i. h.spelled q (casting-in R.batch (is_mine R M me c) s c.waiting c.flight q i) }
 
   pub early-sound : (c : Core Msg) (xs : List (Early Msg)) → IsSoundCore R M me c → IsSoundCore R M me (record c { early = xs })
-  early-sound c xs h = record { different = h.different; signed = h.signed; inside = h.inside; unordered = h.unordered; reached = h.reached; settled = h.settled; unborn = h.unborn }
+  early-sound c xs h =
+      record {
+        different = h.different;
+        signed = h.signed;
+        inside = h.inside;
+        unordered = h.unordered;
+        reached = h.reached;
+        settled = h.settled;
+        unborn =
+            h.unborn;
+      }
 
   pub early-ready : (c : Core Msg) (xs : List (Early Msg)) → IsReadyCore R M me c → IsReadyCore R M me (record c { early = xs })
   early-ready c xs h = record { sound = early-sound c xs h.sound; spelled = h.spelled }
 
-  pub requested-ready : (c : Core Msg) (q : Request) (t : Turn Msg) → IsReadyCore R M me c → HasSpelling q → IsRequested F R M me c q t → IsReadyCore R M me t.core
+  pub requested-ready : (c : Core Msg) (q : Request) (t : Turn Msg) → IsReadyCore R M me c → HasSpelling q → IsRequested F R M me c q t →
+      IsReadyCore R M me t.core
   requested-ready c q t h good r = record {
     sound = requested-sound c q t h.sound r;
     spelled = λ y i. elim (in_append y (c.waiting ++ q ∷ []) (carried c.flight) (subst (λ (z : Turn Msg). In y (held z.core)) r.is i)) [
@@ -178,7 +193,8 @@ module _ {Msg : Type 0} (F : Formats Msg) (R : Rules) (M : Module Msg) (me : ℕ
           signed = h.signed;
           inside = λ x i none.
               let fresh : In x (log_ids old) → ⊥ = λ k. none (subst (λ (t : List Value). In x (log_ids t)) (sym same) k) in
-              let now : R.inside old (suc c.past.epoch) x ≡ true = windows.kept (before R M me c.past c.past.epoch) old c.past.epoch (suc c.past.epoch) x (h.inside x i fresh) past-by (omega arith) fresh in
+              let now : R.inside old (suc c.past.epoch) x ≡ true =
+              windows.kept (before R M me c.past c.past.epoch) old c.past.epoch (suc c.past.epoch) x (h.inside x i fresh) past-by (omega arith) fresh in
               subst (λ (t : List Value). R.inside t (suc c.past.epoch) x ≡ true) (sym bf) now;
           unordered = λ x i k. h.unordered x i (subst (λ (t : List Value). In x (log_ids t)) same k);
           reached = reached-advanced R slots M me c.past bounded complete;
@@ -189,24 +205,9 @@ module _ {Msg : Type 0} (F : Formats Msg) (R : Rules) (M : Module Msg) (me : ℕ
     pub ends-ready : (c : Core Msg) → IsReadyCore R M me c → is_complete R M me c.past ≡ true → IsReadyCore R M me (in_next_epoch c)
     ends-ready c h complete = record { sound = ends-sound c h.sound complete; spelled = h.spelled }
 
-    settles-sound : (t : Turn Msg) → IsSoundCore R M me t.core → IsSoundCore R M me (settles F R M me t).core
-    settles-sound t h = settles-holds F R M me (λ t. IsSoundCore R M me t.core) (λ t l input. Unit {0})
-        (λ t l input k fit come. inputs-sound t.core l input k) (λ t k complete. ends-sound t.core k complete) t h (λ done u x i k q. tt)
-
     settles-ready : (t : Turn Msg) → IsReadyCore R M me t.core → IsReadyCore R M me (settles F R M me t).core
     settles-ready t h = settles-holds F R M me (λ t. IsReadyCore R M me t.core) (λ t l input. Unit {0})
-        (λ t l input k fit come. inputs-ready t.core l input k) (λ t k complete. ends-ready t.core k complete) t h (λ done u x i k q. tt)
-
-    took-sound : (c : Core Msg) (event : NodeEvent) (t : Turn Msg) → IsSoundCore R M me c → Took F R M me c event t → IsSoundCore R M me t.core
-    took-sound c event t h (received k l msg u un b e i q) = rw q (settles-sound u (rw i.is (inputs-sound c l _ h)))
-    took-sound c event t h (kept k l msg u b e i) = rw i.is (early-sound c _ h)
-    took-sound c event t h (asked k q u b r) = requested-sound c q t h r
-    took-sound c event t h (cast s u i q) = rw q (settles-sound u (rw i.is (inputs-sound (casting F R M me c s) me _ (casting-sound c s h))))
-    took-sound c event t h (fired l u i q) = rw q (settles-sound u (rw i.is (inputs-sound c l.0 _ h)))
-
-    -- each step keeps it
-    pub step-sound : (c : Core Msg) (event : NodeEvent) (t : Turn Msg) → IsSoundCore R M me c → step F R M me c event ≡ Taken t → IsSoundCore R M me t.core
-    step-sound c event t h q = took-sound c event t h (took F R M me c event t q)
+        (λ t l input k fit come. inputs-ready t.core l input k) (λ t k complete. ends-ready t.core k complete) (λ t claims k. k) t h (λ done u x i k q r. tt)
 
     took-ready : (c : Core Msg) (event : NodeEvent) (t : Turn Msg) → IsReadyCore R M me c → Took F R M me c event t →
         ((bytes : List ℕ) (k : Parcel Msg) (q : Request) → F.unwrap bytes ≡ Some k → k.body ≡ OfRequest q → HasSpelling q) → IsReadyCore R M me t.core
@@ -216,8 +217,9 @@ module _ {Msg : Type 0} (F : Formats Msg) (R : Rules) (M : Module Msg) (me : ℕ
     took-ready c event t h (cast s u i q) read = rw q (settles-ready u (rw i.is (inputs-ready (casting F R M me c s) me _ (casting-ready c s h))))
     took-ready c event t h (fired l u i q) read = rw q (settles-ready u (rw i.is (inputs-ready c l.0 _ h)))
 
-    -- and what it holds has a spelling, where each request that is read has one
-    pub step-ready : ((bytes : List ℕ) (k : Parcel Msg) (q : Request) → F.unwrap bytes ≡ Some k → k.body ≡ OfRequest q → HasSpelling q) → (c : Core Msg) (event : NodeEvent) (t : Turn Msg) → IsReadyCore R M me c → step F R M me c event ≡ Taken t → IsReadyCore R M me t.core
+    -- each step keeps it, where each request that is read has a spelling
+    pub step-ready : ((bytes : List ℕ) (k : Parcel Msg) (q : Request) → F.unwrap bytes ≡ Some k → k.body ≡ OfRequest q → HasSpelling q) →
+        (c : Core Msg) (event : NodeEvent) (t : Turn Msg) → IsReadyCore R M me c → step F R M me c event ≡ Taken t → IsReadyCore R M me t.core
     step-ready read c event t h q = took-ready c event t h (took F R M me c event t q) read
 
     -- logs only grow
@@ -228,7 +230,9 @@ module _ {Msg : Type 0} (F : Formats Msg) (R : Rules) (M : Module Msg) (me : ℕ
     inputs-grown : (old : Past Msg) (t : Turn Msg) (l : ℕ) (input : Input Msg) → Grown old t → Grown old (then_takes F R M me t l input)
     inputs-grown old t l input k = record {
       sound = inputs-sound t.core l input k.sound;
-      logs = extends-trans _ _ _ k.logs (log-later R M me t.core.past (takes R M me t.core.past l input t.core.leaf) (takes-later R M me t.core.past l input t.core.leaf (settled-core t.core k.sound)));
+      logs = extends-trans _ _ _ k.logs
+          (log-later R M me t.core.past (takes R M me t.core.past l input t.core.leaf)
+          (takes-later R M me t.core.past l input t.core.leaf (settled-core t.core k.sound)));
     }
 
     settles-grown : (old : Past Msg) (t : Turn Msg) → Grown old t → Grown old (settles F R M me t)
@@ -237,19 +241,24 @@ module _ {Msg : Type 0} (F : Formats Msg) (R : Rules) (M : Module Msg) (me : ℕ
           sound = ends-sound t.core k.sound complete;
           logs = extends-trans _ _ _ k.logs (log-later R M me t.core.past (advanced t.core.past) (advanced-later R t.core.past (settled-core t.core k.sound)));
         })
-        t h (λ done u x i k q. tt)
+        (λ t claims k. record { sound = k.sound; logs = k.logs })
+        t h (λ done u x i k q r. tt)
 
     at-first : (c : Core Msg) → IsSoundCore R M me c → Grown c.past (rests c)
     at-first c h = record { sound = h; logs = extends-refl (log_of R M me c.past) }
 
-    took-grown : (c : Core Msg) (event : NodeEvent) (t : Turn Msg) → IsSoundCore R M me c → Took F R M me c event t → Extends (log_of R M me c.past) (log_of R M me t.core.past)
+    took-grown : (c : Core Msg) (event : NodeEvent) (t : Turn Msg) → IsSoundCore R M me c → Took F R M me c event t →
+        Extends (log_of R M me c.past) (log_of R M me t.core.past)
     took-grown c event t h (received k l msg u un b e i q) = rw q ((settles-grown c.past u (rw i.is (inputs-grown c.past (rests c) l _ (at-first c h)))).logs)
     took-grown c event t h (kept k l msg u b e i) = rw i.is (extends-refl (log_of R M me c.past))
     took-grown c event t h (asked k q u b r) = rw r.is (extends-refl (log_of R M me c.past))
-    took-grown c event t h (cast s u i q) = rw q ((settles-grown c.past u (rw i.is (inputs-grown c.past (rests (casting F R M me c s)) me _ (at-first (casting F R M me c s) (casting-sound c s h))))).logs)
+    took-grown c event t h (cast s u i q) =
+        rw q ((settles-grown c.past u
+        (rw i.is (inputs-grown c.past (rests (casting F R M me c s)) me _ (at-first (casting F R M me c s) (casting-sound c s h))))).logs)
     took-grown c event t h (fired l u i q) = rw q ((settles-grown c.past u (rw i.is (inputs-grown c.past (rests c) l.0 _ (at-first c h)))).logs)
 
-    pub step-grown : (c : Core Msg) (event : NodeEvent) (t : Turn Msg) → IsSoundCore R M me c → step F R M me c event ≡ Taken t → Extends (log_of R M me c.past) (log_of R M me t.core.past)
+    pub step-grown : (c : Core Msg) (event : NodeEvent) (t : Turn Msg) → IsSoundCore R M me c → step F R M me c event ≡ Taken t →
+        Extends (log_of R M me c.past) (log_of R M me t.core.past)
     step-grown c event t h q = took-grown c event t h (took F R M me c event t q)
 
 newborn-empty : (R : Rules) {Msg : Type 0} (M : Module Msg) (me n : ℕ) → grow R M me newborn n [] ≡ []
@@ -261,7 +270,16 @@ newborn-log R M me = newborn-empty R M me _
 
 -- a core that has taken nothing is sound
 pub idle-sound : {Msg : Type 0} (R : Rules) (M : Module Msg) (me : ℕ) → IsSoundCore R M me idle
-idle-sound R M me = record { different = tt; signed = λ q i. absurd i; inside = λ x i. absurd i; unordered = λ x i. absurd i; reached = omega arith; settled = λ e k v h. absurd (cc); unborn = λ e l lt. refl }
+idle-sound R M me = record {
+  different = tt;
+  signed = λ q i. absurd i;
+  inside = λ x i. absurd i;
+  unordered = λ x i. absurd i;
+  reached =
+      omega arith;
+  settled = λ e k v h. absurd (cc);
+  unborn = λ e l lt. refl;
+}
 
 pub idle-ready : {Msg : Type 0} (R : Rules) (M : Module Msg) (me : ℕ) → IsReadyCore R M me idle
 idle-ready R M me = record { sound = idle-sound R M me; spelled = λ q i. absurd i }
@@ -282,9 +300,11 @@ some-there (Some x) h = (x, refl)
 
 module _ {Msg : Type 0} (R : Rules) (M : Module Msg) (me : ℕ) (c : Core Msg) where
   -- the slot of the next cast is of the segment, and not in flight
-  pub slot-free : (s : Slot) → next_slot R M me c ≡ Some s → In s (params_of R M me c.past me).slots × (is_castable M (params_of R M me c.past me) me (c.past.evidence c.past.epoch me) c.flight s ≡ true)
+  pub slot-free : (s : Slot) → next_slot R M me c ≡ Some s →
+      In s (params_of R M me c.past me).slots × (is_castable M (params_of R M me c.past me) me (c.past.evidence c.past.epoch me) c.flight s ≡ true)
   slot-free s h =
-      let k = slot-passes (λ (t : Slot). not (nat_lt t.0 (length (log_of R M me c.past))) && is_castable M (params_of R M me c.past me) me (c.past.evidence c.past.epoch me) c.flight t) (params_of R M me c.past me).slots s h in
+      let k = slot-passes (λ (t : Slot). not (nat_lt t.0 (length (log_of R M me c.past))) && is_castable M (params_of R M me c.past me) me
+      (c.past.evidence c.past.epoch me) c.flight t) (params_of R M me c.past me).slots s h in
       (k.0, (and-true (not (nat_lt s.0 (length (log_of R M me c.past)))) _ k.1).1)
 
   -- the module takes any batch there
@@ -299,7 +319,8 @@ module _ {Msg : Type 0} (R : Rules) (M : Module Msg) (me : ℕ) (c : Core Msg) w
       law.castable p me xs s [] b (r.1 ∙ ap (λ (z : Slot × Batch). Some z) q)
 
   -- a batch of requests that have spellings has one
-  pub cast-read : (F : Formats Msg) (s : Setup) (p : Params) → p.setup ≡ s → R.batch ≤ requests_most s.version → ((q : Request) → In q c.waiting → HasSpelling q) →
+  pub cast-read : (F : Formats Msg) (s : Setup) (p : Params) → p.setup ≡ s → R.batch ≤ requests_most s.version →
+      ((q : Request) → In q c.waiting → HasSpelling q) →
       IsReadBatch p (next_batch F R M me c)
   cast-read F s p setup low h =
       let few = cut-few R.batch (is_mine R M me c) c.waiting in
@@ -343,18 +364,21 @@ module _ {Msg : Type 0} (R : Rules) (M : Module Msg) (me : ℕ) (c : Core Msg) w
       few = cut-few R.batch mine c.waiting;
       owner = λ q i. owned q (cut-in R.batch mine c.waiting q i).1;
       signed = λ q i. h.signed q (in_left q c.waiting (carried c.flight) (waits q i));
-      inside = λ q i. h.inside q.id (ids-left q.id c.waiting (carried c.flight) (in-ids q c.waiting (waits q i))) (h.unordered q.id (in-ids q c.waiting (waits q i)));
+      inside = λ q i. h.inside q.id (ids-left q.id c.waiting (carried c.flight) (in-ids q c.waiting (waits q i)))
+          (h.unordered q.id (in-ids q c.waiting (waits q i)));
       unordered = λ q i k. h.unordered q.id (in-ids q c.waiting (waits q i)) (earlier q.id k);
       unmarked = λ x i. unmarked-id x i;
       different = cut-once R.batch mine c.waiting (parts-of c.waiting (carried c.flight) h.different).left;
     })
 
     -- so the step's own question to the judge is answered with yes
-    pub cast-judged : (F : Formats Msg) → IsLawful M → (s : Slot) → next_slot R M me c ≡ Some s → verdict R bf c.past.epoch me (accepts (c.past.evidence c.past.epoch me)) (asked_in R M me c.past me (Cast s (next_batch F R M me c))) ≡ None
+    pub cast-judged : (F : Formats Msg) → IsLawful M → (s : Slot) → next_slot R M me c ≡ Some s →
+        verdict R bf c.past.epoch me (accepts (c.past.evidence c.past.epoch me)) (asked_in R M me c.past me (Cast s (next_batch F R M me c))) ≡ None
     cast-judged F law s k =
         let q = cast-asked law s k (next_batch F R M me c) in
         ap (λ (o : Option (Slot × Batch)). verdict R bf c.past.epoch me (accepts (c.past.evidence c.past.epoch me)) o) q ∙ cast-accepted F
 
     -- and the cast is one that the core may take
-    pub cast-fit : (F : Formats Msg) → IsLawful M → (s : Slot) (t : Turn Msg) → IsCast F R M me c s t → IsFit F R M me (casting F R M me c s) me (Cast s (next_batch F R M me c))
-    cast-fit F law s t k = record { leads = k.leads; leaves = k.leaves; judged = cast-judged F law s k.free }
+    pub cast-fit : (F : Formats Msg) → IsLawful M → (s : Slot) (t : Turn Msg) → IsCast F R M me c s t →
+        IsFit F R M me (casting F R M me c s) me (Cast s (next_batch F R M me c))
+    cast-fit F law s t k = record { leads = k.leads; claims = refl; leaves = k.leaves; judged = cast-judged F law s k.free }

@@ -54,7 +54,8 @@ are-chained s = record {
   values = λ v u sv su h.
       let same : spell_value s.version v ≡ spell_value s.version u = tail-same 64 (spell_value s.version v) (spell_value s.version u) h in
       good-same v u [] [] (sym (read-back s.version v sv) ∙ ap (λ (t : List ℕ). parse_value s.version t) same ∙ read-back s.version u su);
-  links = λ a b c d h. ends-same (digest a) (digest c) (digest b) (digest d) (digest-length a ∙ sym (digest-length c)) (tail-same 66 (digest a ++ digest b) (digest c ++ digest d) h);
+  links = λ a b c d h. ends-same (digest a) (digest c) (digest b) (digest d) (digest-length a ∙ sym (digest-length c))
+      (tail-same 66 (digest a ++ digest b) (digest c ++ digest d) h);
   some_link = λ a b h. cc;
 }
 
@@ -122,7 +123,10 @@ pub exact-of : {Msg : Type 0} (s : Setup) → IsGoodSetup s → (w : Cluster Msg
 exact-of s good w = record { chained = λ x e a q h is. are-chained s; quorums = quorums s good }
 
 -- so of a cluster that chains and votes so nothing is asked but that its strings are separate
-pub composition-whole : {Msg : Type 0} (s : Setup) (R : Rules) (M : Module Msg) → IsSafe M → IsLawful M → IsSoundRules s M R → (w : Cluster Msg) → Separate (Among w.strings) → Reach s (scheme_of s) R M w → Ordered s R M w.pasts
+pub composition-whole : {Msg : Type 0} (s : Setup) (R : Rules) (M : Module Msg) → IsSafe M → IsLawful M → IsSoundRules s M R → (w : Cluster Msg) →
+    Separate (Among w.strings) → Reach s (scheme_of s) R M w → Ordered s R M w.pasts
 composition-whole s R M safe law sound w sep r =
-    let good : IsGoodSetup s = subst (λ (t : Setup). IsGoodSetup t) (sound.setup (before_at R []) (epoch_at R []) (leader_at R [])) (sound.good (before_at R []) (epoch_at R []) (leader_at R []) (sound.leads [])).setup in
+    let good : IsGoodSetup s =
+    subst (λ (t : Setup). IsGoodSetup t) (sound.setup (before_at R []) (epoch_at R []) (leader_at R []))
+    (sound.good (before_at R []) (epoch_at R []) (leader_at R []) (sound.leads [])).setup in
     composition s (scheme_of s) R M safe law sound w (exact-of s good w) sep r

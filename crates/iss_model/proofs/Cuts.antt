@@ -13,7 +13,8 @@ pub absent-in : (gone : List ReqId) (qs : List Request) (q : Request) → In q (
 absent-in gone [] q h = absurd h
 absent-in gone (r ∷ qs) q h = go (absent-in gone qs q) (has_id r.id gone) refl h
   where
-    go : (In q (absent gone qs) → In q qs × (In q.id gone → ⊥)) → (b : Bool) → has_id r.id gone ≡ b → In q (cond b (absent gone qs) (r ∷ absent gone qs)) → In q (r ∷ qs) × (In q.id gone → ⊥)
+    go : (In q (absent gone qs) → In q qs × (In q.id gone → ⊥)) → (b : Bool) → has_id r.id gone ≡ b → In q (cond b (absent gone qs) (r ∷ absent gone qs)) →
+        In q (r ∷ qs) × (In q.id gone → ⊥)
     go ih true e k = let z = ih k in (inr z.0, z.1)
     go ih false e (inl y) = (inl y, λ z. true≢false (sym (has-in q.id gone z) ∙ (ap (λ (x : Request). has_id x.id gone) y ∙ e)))
     go ih false e (inr k) = let z = ih k in (inr z.0, z.1)
@@ -39,7 +40,8 @@ cut-in n mine [] q h = absurd h
 cut-in zero mine (r ∷ qs) q h = absurd h
 cut-in (suc n) mine (r ∷ qs) q h = go (cut-in n mine qs q) (cut-in (suc n) mine qs q) (mine r) refl h
   where
-    go : (In q (cut n mine qs) → In q qs × (mine q ≡ true)) → (In q (cut (suc n) mine qs) → In q qs × (mine q ≡ true)) → (b : Bool) → mine r ≡ b → In q (cond b (r ∷ cut n mine qs) (cut (suc n) mine qs)) → In q (r ∷ qs) × (mine q ≡ true)
+    go : (In q (cut n mine qs) → In q qs × (mine q ≡ true)) → (In q (cut (suc n) mine qs) → In q qs × (mine q ≡ true)) → (b : Bool) → mine r ≡ b →
+        In q (cond b (r ∷ cut n mine qs) (cut (suc n) mine qs)) → In q (r ∷ qs) × (mine q ≡ true)
     go ih1 ih2 true e (inl y) = (inl y, rw y e)
     go ih1 ih2 true e (inr k) = let z = ih1 k in (inr z.0, z.1)
     go ih1 ih2 false e k = let z = ih2 k in (inr z.0, z.1)
@@ -63,7 +65,8 @@ cut-once n mine [] d = tt
 cut-once zero mine (q ∷ qs) d = tt
 cut-once (suc n) mine (q ∷ qs) d = go (cut-once n mine qs d.1) (cut-once (suc n) mine qs d.1) (mine q)
   where
-    go : Different (ids (cut n mine qs)) → Different (ids (cut (suc n) mine qs)) → (b : Bool) → Different (ids (cond b (q ∷ cut n mine qs) (cut (suc n) mine qs)))
+    go : Different (ids (cut n mine qs)) → Different (ids (cut (suc n) mine qs)) → (b : Bool) →
+        Different (ids (cond b (q ∷ cut n mine qs) (cut (suc n) mine qs)))
     go ih1 ih2 true = (λ k. d.0 (cut-ids n mine qs q.id k), ih1)
     go ih1 ih2 false = ih2
 
@@ -74,7 +77,8 @@ uncut-in n mine [] q h = absurd h
 uncut-in zero mine (r ∷ qs) q h = h
 uncut-in (suc n) mine (r ∷ qs) q h = go (uncut-in n mine qs q) (uncut-in (suc n) mine qs q) (mine r) h
   where
-    go : (In q (uncut n mine qs) → In q qs) → (In q (uncut (suc n) mine qs) → In q qs) → (b : Bool) → In q (cond b (uncut n mine qs) (r ∷ uncut (suc n) mine qs)) → In q (r ∷ qs)
+    go : (In q (uncut n mine qs) → In q qs) → (In q (uncut (suc n) mine qs) → In q qs) → (b : Bool) →
+        In q (cond b (uncut n mine qs) (r ∷ uncut (suc n) mine qs)) → In q (r ∷ qs)
     go ih1 ih2 true k = inr (ih1 k)
     go ih1 ih2 false (inl y) = inl y
     go ih1 ih2 false (inr k) = inr (ih2 k)
@@ -89,17 +93,20 @@ uncut-once n mine [] d = tt
 uncut-once zero mine (q ∷ qs) d = d
 uncut-once (suc n) mine (q ∷ qs) d = go (uncut-once n mine qs d.1) (uncut-once (suc n) mine qs d.1) (mine q)
   where
-    go : Different (ids (uncut n mine qs)) → Different (ids (uncut (suc n) mine qs)) → (b : Bool) → Different (ids (cond b (uncut n mine qs) (q ∷ uncut (suc n) mine qs)))
+    go : Different (ids (uncut n mine qs)) → Different (ids (uncut (suc n) mine qs)) → (b : Bool) →
+        Different (ids (cond b (uncut n mine qs) (q ∷ uncut (suc n) mine qs)))
     go ih1 ih2 true = ih1
     go ih1 ih2 false = (λ k. d.0 (uncut-ids (suc n) mine qs q.id k), ih2)
 
 -- and the two have no identity in common
-pub cut-uncut-apart : (n : ℕ) (mine : Request → Bool) (qs : List Request) → Different (ids qs) → (x : ReqId) → In x (ids (cut n mine qs)) → In x (ids (uncut n mine qs)) → ⊥
+pub cut-uncut-apart : (n : ℕ) (mine : Request → Bool) (qs : List Request) → Different (ids qs) → (x : ReqId) → In x (ids (cut n mine qs)) →
+    In x (ids (uncut n mine qs)) → ⊥
 cut-uncut-apart n mine [] d x a b = a
 cut-uncut-apart zero mine (q ∷ qs) d x a b = a
 cut-uncut-apart (suc n) mine (q ∷ qs) d x a b = go (cut-uncut-apart n mine qs d.1 x) (cut-uncut-apart (suc n) mine qs d.1 x) (mine q) a b
   where
-    go : (In x (ids (cut n mine qs)) → In x (ids (uncut n mine qs)) → ⊥) → (In x (ids (cut (suc n) mine qs)) → In x (ids (uncut (suc n) mine qs)) → ⊥) → (t : Bool) →
+    go : (In x (ids (cut n mine qs)) → In x (ids (uncut n mine qs)) → ⊥) → (In x (ids (cut (suc n) mine qs)) → In x (ids (uncut (suc n) mine qs)) → ⊥) →
+        (t : Bool) →
         In x (ids (cond t (q ∷ cut n mine qs) (cut (suc n) mine qs))) → In x (ids (cond t (uncut n mine qs) (q ∷ uncut (suc n) mine qs))) → ⊥
     go ih1 ih2 true (inl e) k = d.0 (uncut-ids n mine qs q.id (rw (← e) k))
     go ih1 ih2 true (inr y) k = ih1 y k

@@ -1,13 +1,13 @@
 -- The end of an epoch: the log stays as it is, and the next epoch starts where it ends.
-use Rattle.std.proofs.Common.{◌≡◌, inl, inr, ℕ, suc, ◌+◌, ◌≤◌, ◌<◌, true, false, List, [], ◌∷◌, ◌++◌, length, length-append, refl, sym, ap, ◌∙◌, subst, arith, le_antisymm, true≢false}
+use Rattle.std.proofs.Common.{◌≡◌, inl, inr, ℕ, suc, ◌+◌, ◌≤◌, ◌<◌, true, List, [], ◌∷◌, ◌++◌, length, length-append, refl, sym, ap, ◌∙◌, subst, arith, le_antisymm, true≢false}
 use Rattle.std.proofs.lemmas.Bool.Decides.{leb_tells}
 use Rattle.iss_base.specs.Lists.{Extends}
 use Rattle.iss_base.proofs.Lists.{extends-length, oldest-all, oldest-part}
 use Rattle.iss_request.specs.declared.requests.Value.{Value}
 use Rattle.iss_sb.specs.Evidence.{Module}
-use Rattle.iss_model.specs.Past.{IsLog, Past, advanced, before_at, before_own, cut_at, ended_log, epoch_at, is_complete, log_of, start_of}
+use Rattle.iss_model.specs.Past.{IsLog, Past, advanced, before_own, cut_at, ended_log, epoch_at, is_complete, log_of, start_of}
 use Rattle.iss_model.specs.Rules.{Rules}
-use Rattle.iss_model.proofs.Epochs.{cut-extends, epoch-high, epoch-low, epoch-unique, start-extends, start-mono, start-within}
+use Rattle.iss_model.proofs.Epochs.{epoch-high, start-mono, start-within}
 use Rattle.iss_model.proofs.Logs.{Later, Settled, log-chain, log-later}
 use Rattle.iss_model.proofs.Longest.{Bounded, cell-epoch, longest}
 
@@ -46,7 +46,8 @@ module _ (R : Rules) (h : HasSlots R) {Msg : Type 0} (M : Module Msg) (me : ℕ)
           elim (leb_tells (start_of R (v ∷ older) (suc c.epoch)) (length older)) [
             | inr t ↦ omega (arith, t.1)
             | inl t ↦
-                let same : start_of R (v ∷ older) (suc c.epoch) ≡ start_of R older (suc c.epoch) = start-within R older (v ∷ older) (suc c.epoch) (v ∷ [], refl) t.1 in
+                let same : start_of R (v ∷ older) (suc c.epoch) ≡ start_of R older (suc c.epoch) =
+                start-within R older (v ∷ older) (suc c.epoch) (v ∷ [], refl) t.1 in
                 absurd (omega (arith, t.1, same, high, mono))
           ]
 
@@ -72,31 +73,6 @@ module _ (R : Rules) (h : HasSlots R) {Msg : Type 0} (M : Module Msg) (me : ℕ)
     pub reached-advanced : start_of R (log_of R M me (advanced c)) (suc c.epoch) ≤ length (log_of R M me (advanced c))
     reached-advanced = subst (λ (log : List Value). start_of R log (suc c.epoch) ≤ length log) (sym advanced-log) complete-far
 
-  -- the slot behind the log is of the node's epoch, as long as that is not over
-  module _ (unfilled : is_complete R M me c ≡ false) (reached : start_of R (log_of R M me c) c.epoch ≤ length (log_of R M me c)) where
-    pub own-epoch : epoch_at R (log_of R M me c) ≡ c.epoch
-    own-epoch = elim (leb_tells (start_of R (log_of R M me c) (suc c.epoch)) (length (log_of R M me c))) [
-      | inl t ↦ absurd (true≢false (sym t.0 ∙ unfilled))
-      | inr t ↦ epoch-unique R h.some (log_of R M me c) c.epoch reached t.1
-    ]
-
-    pub own-before : before_at R (log_of R M me c) ≡ before_own R M me c
-    own-before = ap (λ (e : ℕ). cut_at R (log_of R M me c) e) own-epoch
-
-  -- each slot of the node's epoch is of it, in any part of its log
-  pub part-epoch : (part : List Value) → Extends part (log_of R M me c) → start_of R (log_of R M me c) c.epoch ≤ length part → length part < start_of R (log_of R M me c) (suc c.epoch) → epoch_at R part ≡ c.epoch
-  part-epoch part x low high =
-      let log = log_of R M me c in
-      let first : start_of R log c.epoch ≡ start_of R part c.epoch = start-within R part log c.epoch x low in
-      elim (leb_tells (start_of R part (suc c.epoch)) (length part)) [
-        | inl t ↦ let same : start_of R log (suc c.epoch) ≡ start_of R part (suc c.epoch) = start-extends R part log (suc c.epoch) x t.1 in absurd (omega (arith, same, t.1, high))
-        | inr t ↦ epoch-unique R h.some part c.epoch (omega (arith, first, low)) t.1
-      ]
-
-  -- what stands before a slot of the node's epoch, in any part of its log
-  pub part-before : (part : List Value) → Extends part (log_of R M me c) → epoch_at R part ≡ c.epoch → before_at R part ≡ before_own R M me c
-  part-before part x q = sym (cut-extends R part (log_of R M me c) (epoch_at R part) x (epoch-low R part)) ∙ ap (λ (e : ℕ). cut_at R (log_of R M me c) e) q
-
-  -- and it stands in the log
+  -- what stands before the node's epoch stands in the log
   pub before-part : Extends (before_own R M me c) (log_of R M me c)
   before-part = oldest-part (start_of R (log_of R M me c) c.epoch) (log_of R M me c)

@@ -1,5 +1,5 @@
 -- The start, the end of an epoch, and rest keep the invariant.
-use Rattle.std.proofs.Common.{◌≡◌, ◌≢◌, ◌⊎◌, inl, inr, ℕ, suc, zero, ◌≤◌, ◌<◌, Bool, true, false, cond, not, leb, ◌&&◌, List, [], ◌++◌, length, Some, refl, sym, ap, ◌∙◌, subst, ap₂, arith, le_trans, true≢false}
+use Rattle.std.proofs.Common.{◌≡◌, ◌≢◌, ◌⊎◌, inl, inr, ℕ, suc, zero, ◌≤◌, ◌<◌, Bool, true, false, cond, leb, ◌&&◌, List, [], ◌++◌, length, Some, refl, sym, ap, ◌∙◌, subst, ap₂, arith, le_trans, true≢false}
 use Rattle.std.proofs.lemmas.Bool.Decides.{leb_tells}
 use mathlib.Core.Path.{fun_ext}
 use Rattle.iss_base.specs.Lists.{Extends, In}
@@ -7,7 +7,7 @@ use Rattle.iss_base.proofs.Lists.{and-true, chain-oldest, extends-length, same_o
 use Rattle.iss_request.specs.Log.{requests}
 use Rattle.iss_request.specs.declared.requests.Value.{Value}
 use Rattle.iss_request.specs.declared.setups.Setup.{Setup}
-use Rattle.iss_sb.specs.Evidence.{IsHashed, IsReached, IsSent, Module, Separate, World, accepts, at_start, empty_world, has_node, is_correct}
+use Rattle.iss_sb.specs.Evidence.{IsHashed, IsReached, IsSent, Module, Separate, World, accepts, at_start, empty_world, is_correct}
 use Rattle.iss_sb.specs.Laws.{IsSafe}
 use Rattle.iss_model.specs.Cluster.{AllSpelled, Backed, Begun, Cluster, Ended, IsHashedLog, IsTrueLog, Message, Names, Quiet, Rested, Scheme, Signed, chain, vote_statement, world_of}
 use Rattle.iss_model.specs.Past.{advanced, ended_log}
@@ -23,6 +23,7 @@ use Rattle.iss_model.proofs.Good.{Good, IsClaimed, IsTrue, Voted}
 use Rattle.iss_model.proofs.Kept.{adopted-later, claimed-later, is_true-later, sent-later, settled-of, voted-later, world-same}
 use Rattle.iss_model.proofs.Logs.{Later, Settled, before-later, later-refl, log-chain, log-later}
 use Rattle.iss_model.proofs.Statements.{apart, votes}
+use Rattle.iss_model.proofs.Twins.{correct-below}
 
 -- the next epoch, with more pieces
 abbrev pub turned : {Msg : Type 0} → Past Msg → List Piece → Past Msg
@@ -32,7 +33,10 @@ pub turned-later : (R : Rules) {Msg : Type 0} (c : Past Msg) (pieces : List Piec
 turned-later R c pieces h = record { epoch = omega arith; here = λ l. ([], refl); there = λ e l ne. refl; adopted = (pieces, refl); settled = h.all }
 
 -- messages, claims and strings where evidence stays
-module _ {Msg : Type 0} (s : Setup) (S : Scheme) (R : Rules) (M : Module Msg) (v w : Cluster Msg) (g : Good s R M v S) (later : (j : ℕ) → is_correct s j ≡ true → Later R (v.pasts j) (w.pasts j)) (quiet : Quiet M v w) (named : (x : Signed) (e l : ℕ) → l ≢ 255 → In x w.book → Names s M e l x.statement → In x v.book) (same : (j e l : ℕ) → is_correct s j ≡ true → (w.pasts j).evidence e l ≡ (v.pasts j).evidence e l) where
+module _ {Msg : Type 0} (s : Setup) (S : Scheme) (R : Rules) (M : Module Msg) (v w : Cluster Msg) (g : Good s R M v S)
+    (later : (j : ℕ) → is_correct s j ≡ true → Later R (v.pasts j) (w.pasts j)) (quiet : Quiet M v w)
+    (named : (x : Signed) (e l : ℕ) → l ≢ 255 → In x w.book → Names s M e l x.statement → In x v.book)
+    (same : (j e l : ℕ) → is_correct s j ≡ true → (w.pasts j).evidence e l ≡ (v.pasts j).evidence e l) where
   pub sent-quiet : M.stopping ≡ true → (k : Message Msg) → In k w.messages → IsSent (world_of s w.pasts k.epoch k.leader) k.from k.to k.msg
   sent-quiet st k h = sent-later s S R M v w g later quiet.strings k.epoch k.leader k.from k.to k.msg (g.sent st k (quiet.messages st k h))
 
@@ -44,8 +48,10 @@ module _ {Msg : Type 0} (s : Setup) (S : Scheme) (R : Rules) (M : Module Msg) (v
 
 pub good-rested : {Msg : Type 0} (s : Setup) (S : Scheme) (R : Rules) (M : Module Msg) (v w : Cluster Msg) → Good s R M v S → Rested s M v w → Good s R M w S
 good-rested s S R M v w g rs =
-    let later : (j : ℕ) → is_correct s j ≡ true → Later R (v.pasts j) (w.pasts j) = λ j ok. rw (rs.same j ok) (later-refl R (v.pasts j) (settled-of s S R M v g j ok)) in
-    let same : (j e l : ℕ) → is_correct s j ≡ true → (w.pasts j).evidence e l ≡ (v.pasts j).evidence e l = λ j e l ok. ap (λ (c : Past _). c.evidence e l) (rs.same j ok) in
+    let later : (j : ℕ) → is_correct s j ≡ true → Later R (v.pasts j) (w.pasts j) =
+    λ j ok. rw (rs.same j ok) (later-refl R (v.pasts j) (settled-of s S R M v g j ok)) in
+    let same : (j e l : ℕ) → is_correct s j ≡ true → (w.pasts j).evidence e l ≡ (v.pasts j).evidence e l =
+    λ j e l ok. ap (λ (c : Past _). c.evidence e l) (rs.same j ok) in
     record {
       reached = λ j ok. rw (rs.same j ok) (g.reached j ok);
       inv = λ j d k ok. rw (rs.same j ok, world-same s v w d k (λ j ok. same j d k ok)) (g.inv j d k ok);
@@ -62,7 +68,8 @@ good-rested s S R M v w g rs =
     }
 
 -- a world in which no correct node has evidence
-pub empty-world : {Msg : Type 0} (s : Setup) (w : Cluster Msg) (e l : ℕ) → ((j : ℕ) → is_correct s j ≡ true → (w.pasts j).evidence e l ≡ []) → world_of s w.pasts e l ≡ empty_world
+pub empty-world : {Msg : Type 0} (s : Setup) (w : Cluster Msg) (e l : ℕ) → ((j : ℕ) → is_correct s j ≡ true → (w.pasts j).evidence e l ≡ []) →
+    world_of s w.pasts e l ≡ empty_world
 empty-world s w e l h = fun_ext (λ j. go j (is_correct s j) refl)
   where
     go : (j : ℕ) (b : Bool) → is_correct s j ≡ b → cond b ((w.pasts j).evidence e l) [] ≡ []
@@ -95,23 +102,26 @@ some_or_none b (suc n) = go (some_or_none b n) (b n) refl
     go (inr x) true q = inl (n, q)
     go (inr x) false q = inr (λ j lt. elim (same_or_not j n) [ inl y ↦ rw y q | inr y ↦ x j (omega (arith, y)) ])
 
--- correct nodes are below n
-pub correct-below : (s : Setup) (j : ℕ) → is_correct s j ≡ true → j < s.n
-correct-below s j ok = elim (leb_tells (suc j) s.n) [ inl t ↦ t.1 | inr t ↦ absurd (true≢false (sym (and-true (leb (suc j) s.n) (not (has_node j s.faulty)) ok).0 ∙ t.0)) ]
-
 -- a correct node is in epoch d or past it, or none is
-in_epoch : {Msg : Type 0} (s : Setup) (v : Cluster Msg) (d : ℕ) → ((j : ℕ) × (is_correct s j ≡ true) × (d ≤ (v.pasts j).epoch)) ⊎ ((j : ℕ) → is_correct s j ≡ true → (v.pasts j).epoch < d)
+in_epoch : {Msg : Type 0} (s : Setup) (v : Cluster Msg) (d : ℕ) →
+    ((j : ℕ) × (is_correct s j ≡ true) × (d ≤ (v.pasts j).epoch)) ⊎ ((j : ℕ) → is_correct s j ≡ true → (v.pasts j).epoch < d)
 in_epoch s v d = elim (some_or_none (λ j. is_correct s j && leb d (v.pasts j).epoch) s.n) [
-  | inl x ↦ let y = and-true (is_correct s x.0) (leb d (v.pasts x.0).epoch) x.1 in inl (x.0, y.0, elim (leb_tells d (v.pasts x.0).epoch) [ inl t ↦ t.1 | inr t ↦ absurd (true≢false (sym y.1 ∙ t.0)) ])
-  | inr x ↦ inr (λ j ok. elim (leb_tells d (v.pasts j).epoch) [ inl t ↦ absurd (true≢false (sym (ap₂ (λ a b. a && b) ok t.0) ∙ x j (correct-below s j ok))) | inr t ↦ t.1 ])
+  | inl x ↦ let y = and-true (is_correct s x.0) (leb d (v.pasts x.0).epoch) x.1 in
+      inl (x.0, y.0, elim (leb_tells d (v.pasts x.0).epoch) [ inl t ↦ t.1 | inr t ↦ absurd (true≢false (sym y.1 ∙ t.0)) ])
+  | inr x ↦ inr (λ j ok.
+      elim (leb_tells d (v.pasts j).epoch) [ inl t ↦ absurd (true≢false (sym (ap₂ (λ a b. a && b) ok t.0) ∙ x j (correct-below s j ok))) | inr t ↦ t.1 ])
 ]
 
 -- node i goes into the next epoch, perhaps with more pieces
-module _ {Msg : Type 0} (s : Setup) (S : Scheme) (R : Rules) (M : Module Msg) (safe : IsSafe M) (sound : IsSoundRules s M R) (v w : Cluster Msg) (sep : Separate (Among w.strings)) (g : Good s R M v S) (i : ℕ) (ok : is_correct s i ≡ true) (pieces : List Piece)
-    (here : w.pasts i ≡ turned (v.pasts i) pieces) (other : (j : ℕ) → j ≢ i → w.pasts j ≡ v.pasts j) (quiet : Quiet M v w) (named : (x : Signed) (e l : ℕ) → l ≢ 255 → In x w.book → Names s M e l x.statement → In x v.book) (hashed : IsHashedLog S w.strings (log_of R M i (w.pasts i))) (spelled : AllSpelled S (log_of R M i (w.pasts i)))
+module _ {Msg : Type 0} (s : Setup) (S : Scheme) (R : Rules) (M : Module Msg) (safe : IsSafe M) (sound : IsSoundRules s M R) (v w : Cluster Msg)
+    (sep : Separate (Among w.strings)) (g : Good s R M v S) (i : ℕ) (ok : is_correct s i ≡ true) (pieces : List Piece)
+    (here : w.pasts i ≡ turned (v.pasts i) pieces) (other : (j : ℕ) → j ≢ i → w.pasts j ≡ v.pasts j) (quiet : Quiet M v w)
+    (named : (x : Signed) (e l : ℕ) → l ≢ 255 → In x w.book → Names s M e l x.statement → In x v.book)
+    (hashed : IsHashedLog S w.strings (log_of R M i (w.pasts i))) (spelled : AllSpelled S (log_of R M i (w.pasts i)))
     (far : start_of R (log_of R M i (turned (v.pasts i) pieces)) (suc (v.pasts i).epoch) ≤ length (log_of R M i (turned (v.pasts i) pieces)))
     (pieces_true : (e k : ℕ) (x : Value) → adopted_at (pieces ++ (v.pasts i).adopted) e k ≡ Some x → (e < suc (v.pasts i).epoch) × IsTrue s R M v e k x)
-    (votes : (x : Signed) (e : ℕ) (d : List ℕ) (q : ℕ) → In x w.book → is_correct s x.by ≡ true → x.statement ≡ vote_statement s e d q → Voted s R M v S e d q) where
+    (votes : (x : Signed) (e : ℕ) (d : List ℕ) (q : ℕ) → In x w.book → is_correct s x.by ≡ true → x.statement ≡ vote_statement s e d q →
+    Voted s R M v S e d q) where
   abbrev c : Past Msg
   c = v.pasts i
 
@@ -128,18 +138,22 @@ module _ {Msg : Type 0} (s : Setup) (S : Scheme) (R : Rules) (M : Module Msg) (s
   turned_later = turned-later R c pieces (settled-of s S R M v g i ok)
 
   later : (j : ℕ) → is_correct s j ≡ true → Later R (v.pasts j) (w.pasts j)
-  later = by_node (λ j x. is_correct s j ≡ true → Later R (v.pasts j) x) (λ _. turned_later) (λ j ne okj. later-refl R (v.pasts j) (settled-of s S R M v g j okj))
+  later = by_node (λ j x. is_correct s j ≡ true → Later R (v.pasts j) x) (λ _. turned_later)
+      (λ j ne okj. later-refl R (v.pasts j) (settled-of s S R M v g j okj))
 
   same_before : (d : ℕ) → d ≤ c.epoch → before R M i t d ≡ before R M i c d
   same_before d le = before-later R M i c t d turned_later (far-start s S R M safe sound v sep_v g i ok d le)
 
   turned_true : IsTrueLog s R M v.pasts (log_of R M i t)
-  turned_true = log-true s S R M safe sound v sep_v g i ok t turned_later (λ e l. refl) (λ e k x h. (pieces_true e k x h).1) (log_of R M i t) (log-chain R M i t)
+  turned_true = log-true s S R M safe sound v sep_v g i ok t turned_later (λ e l. refl) (λ e k x h. (pieces_true e k x h).1) (log_of R M i t)
+      (log-chain R M i t)
 
-  inv_new : (k : ℕ) → R.leads (before R M i t (suc c.epoch)) (suc c.epoch) k ≡ true → IsReached M (R.params (before R M i t (suc c.epoch)) (suc c.epoch) k) (world_of s v.pasts (suc c.epoch) k)
+  inv_new : (k : ℕ) → R.leads (before R M i t (suc c.epoch)) (suc c.epoch) k ≡ true →
+      IsReached M (R.params (before R M i t (suc c.epoch)) (suc c.epoch) k) (world_of s v.pasts (suc c.epoch) k)
   inv_new k lead = elim (in_epoch s v (suc c.epoch)) [
     | inl x ↦
-        let same : before R M x.0 (v.pasts x.0) (suc c.epoch) ≡ before R M i t (suc c.epoch) = before-true s S R M safe sound v sep_v g x.0 x.1 (suc c.epoch) x.2 (log_of R M i t) turned_true far in
+        let same : before R M x.0 (v.pasts x.0) (suc c.epoch) ≡ before R M i t (suc c.epoch) =
+        before-true s S R M safe sound v sep_v g x.0 x.1 (suc c.epoch) x.2 (log_of R M i t) turned_true far in
         rw (← same) (g.inv x.0 (suc c.epoch) k x.1 x.2 (rw same lead))
     | inr none ↦ rw (empty-world s v (suc c.epoch) k (λ j okj. g.unborn j (suc c.epoch) k okj (none j okj))) at_start
   ]
@@ -150,13 +164,16 @@ module _ {Msg : Type 0} (s : Setup) (S : Scheme) (R : Rules) (M : Module Msg) (s
   pub good-turned : Good s R M w S
   good-turned = record {
     reached = by_node (λ j x. is_correct s j ≡ true → start_of R (log_of R M j x) x.epoch ≤ length (log_of R M j x)) (λ _. far) (λ j ne okj. g.reached j okj);
-    inv = λ j d k. rw (world-same s v w d k (λ j okj. same_evidence j d k okj)) (by_node (λ j x. is_correct s j ≡ true → d ≤ x.epoch → R.leads (before R M j x d) d k ≡ true → IsReached M (R.params (before R M j x d) d k) (world_of s v.pasts d k))
+    inv = λ j d k. rw (world-same s v w d k (λ j okj. same_evidence j d k okj))
+        (by_node (λ j x. is_correct s j ≡ true → d ≤ x.epoch → R.leads (before R M j x d) d k ≡ true →
+        IsReached M (R.params (before R M j x d) d k) (world_of s v.pasts d k))
         (λ _ le lead. elim (leb_tells d c.epoch) [
           | inl y ↦ rw (same_before d y.1) (g.inv i d k ok y.1 (rw (same_before d y.1) at lead))
           | inr y ↦ let q : d ≡ suc c.epoch = omega (arith, le, y.1) in rw q (inv_new k (rw q at lead))
         ])
         (λ j ne okj. g.inv j d k okj) j);
-    unborn = λ j d k. by_node (λ j x. is_correct s j ≡ true → x.epoch < d → x.evidence d k ≡ []) (λ _ lt. g.unborn i d k ok (omega (arith, lt))) (λ j ne okj. g.unborn j d k okj) j;
+    unborn = λ j d k. by_node (λ j x. is_correct s j ≡ true → x.epoch < d → x.evidence d k ≡ []) (λ _ lt. g.unborn i d k ok (omega (arith, lt)))
+        (λ j ne okj. g.unborn j d k okj) j;
     judged = λ j d k. by_node (λ j x. is_correct s j ≡ true → d ≤ x.epoch → Judged R (before R M j x d) d k (accepts (x.evidence d k)))
         (λ _ le. elim (leb_tells d c.epoch) [
           | inl y ↦ rw (same_before d y.1) (g.judged i d k ok y.1)
@@ -182,17 +199,27 @@ module _ {Msg : Type 0} (s : Setup) (S : Scheme) (R : Rules) (M : Module Msg) (s
   }
 
 -- an epoch ends by itself
-pub good-ended : {Msg : Type 0} (s : Setup) (S : Scheme) (R : Rules) (M : Module Msg) → IsSafe M → IsSoundRules s M R → (v w : Cluster Msg) → Separate (Among w.strings) → Good s R M v S → (i : ℕ) → Ended s S R M v w i → Good s R M w S
+pub good-ended : {Msg : Type 0} (s : Setup) (S : Scheme) (R : Rules) (M : Module Msg) → IsSafe M → IsSoundRules s M R → (v w : Cluster Msg) →
+    Separate (Among w.strings) → Good s R M v S → (i : ℕ) → Ended s S R M v w i → Good s R M w S
 good-ended s S R M safe sound v w sep g i en =
     let c = v.pasts i in
     let t = advanced c in
     let sep_v : Separate (Among v.strings) = separate-part (Among w.strings) (Among v.strings) en.quiet.strings sep in
-    let here_far : start_of R (log_of R M i c) (suc c.epoch) ≤ length (log_of R M i c) = elim (leb_tells (start_of R (log_of R M i c) (suc c.epoch)) (length (log_of R M i c))) [ inl y ↦ y.1 | inr y ↦ absurd (true≢false (sym en.complete ∙ y.0)) ] in
+    let here_far : start_of R (log_of R M i c) (suc c.epoch) ≤ length (log_of R M i c) =
+    elim (leb_tells (start_of R (log_of R M i c) (suc c.epoch)) (length (log_of R M i c)))
+    [ inl y ↦ y.1 | inr y ↦ absurd (true≢false (sym en.complete ∙ y.0)) ] in
     let grown : Extends (log_of R M i c) (log_of R M i t) = log-later R M i c t (turned-later R c [] (settled-of s S R M v g i en.correct)) in
-    let same_start : start_of R (log_of R M i t) (suc c.epoch) ≡ start_of R (log_of R M i c) (suc c.epoch) = start-extends R (log_of R M i c) (log_of R M i t) (suc c.epoch) grown here_far in
-    let far : start_of R (log_of R M i t) (suc c.epoch) ≤ length (log_of R M i t) = rw same_start (le_trans here_far (extends-length (log_of R M i c) (log_of R M i t) grown)) in
+    let same_start : start_of R (log_of R M i t) (suc c.epoch) ≡ start_of R (log_of R M i c) (suc c.epoch) =
+    start-extends R (log_of R M i c) (log_of R M i t) (suc c.epoch) grown here_far in
+    let far : start_of R (log_of R M i t) (suc c.epoch) ≤ length (log_of R M i t) =
+    rw same_start (le_trans here_far (extends-length (log_of R M i c) (log_of R M i t) grown)) in
     good-turned s S R M safe sound v w sep g i en.correct [] en.here en.other en.quiet
-    (λ x d k low h named. elim (en.book x h) [ inl a ↦ a | inr a ↦ absurd (apart s M x.statement d k c.epoch (chain S (ended_log R M i c)) (requests (ended_log R M i c)) low named a.1) ])
+    (λ x d k low h named.
+    elim (en.book x h) [
+      | inl a ↦ a
+      | inr a ↦ absurd
+          (apart s M x.statement d k c.epoch (chain S (ended_log R M i c)) (requests (ended_log R M i c)) low named a.1)
+    ])
     en.hashed en.spelled far
     (λ d k x h. let a = g.adopted i d k x en.correct h in (omega (arith, a.0), a.1))
     (λ x e d q h okx st. elim (en.book x h) [
@@ -202,7 +229,8 @@ good-ended s S R M safe sound v w sep g i en =
           record {
             log = ended_log R M i c;
             whole = rw same.0 (start-cut R (log_of R M i c) (suc c.epoch) here_far);
-            is = chain-oldest (Backed s R M v.pasts) (start_of R (log_of R M i c) (suc c.epoch)) (log_of R M i c) (own-true s S R M safe sound v sep_v g i en.correct);
+            is = chain-oldest (Backed s R M v.pasts) (start_of R (log_of R M i c) (suc c.epoch)) (log_of R M i c)
+                (own-true s S R M safe sound v sep_v g i en.correct);
             chained = same.1;
             number = same.2;
             hashed = λ y k. g.hashed i en.correct y (strings-oldest S (start_of R (log_of R M i c) (suc c.epoch)) (log_of R M i c) y k);

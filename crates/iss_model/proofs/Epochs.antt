@@ -24,7 +24,8 @@ start-agree R newer a zero h = refl
 start-agree R newer a (suc e) h =
     let le : start_of R a e ≤ length a = le_trans (start-next R a e) h in
     let ih : start_of R (newer ++ a) e ≡ start_of R a e = start-agree R newer a e le in
-    let cut : oldest (start_of R (newer ++ a) e) (newer ++ a) ≡ oldest (start_of R a e) a = ap (λ (n : ℕ). oldest n (newer ++ a)) ih ∙ oldest-append (start_of R a e) newer a le in
+    let cut : oldest (start_of R (newer ++ a) e) (newer ++ a) ≡ oldest (start_of R a e) a =
+    ap (λ (n : ℕ). oldest n (newer ++ a)) ih ∙ oldest-append (start_of R a e) newer a le in
     ap₂ (λ (n : ℕ) (xs : List Value). n + R.slots xs e) ih cut
 
 pub start-back : (R : Rules) (newer a : List Value) (e : ℕ) → start_of R (newer ++ a) e ≤ length a → start_of R (newer ++ a) e ≡ start_of R a e
@@ -32,7 +33,8 @@ start-back R newer a zero h = refl
 start-back R newer a (suc e) h =
     let le : start_of R (newer ++ a) e ≤ length a = le_trans (start-next R (newer ++ a) e) h in
     let ih : start_of R (newer ++ a) e ≡ start_of R a e = start-back R newer a e le in
-    let cut : oldest (start_of R (newer ++ a) e) (newer ++ a) ≡ oldest (start_of R a e) a = oldest-append (start_of R (newer ++ a) e) newer a le ∙ ap (λ (n : ℕ). oldest n a) ih in
+    let cut : oldest (start_of R (newer ++ a) e) (newer ++ a) ≡ oldest (start_of R a e) a =
+    oldest-append (start_of R (newer ++ a) e) newer a le ∙ ap (λ (n : ℕ). oldest n a) ih in
     ap₂ (λ (n : ℕ) (xs : List Value). n + R.slots xs e) ih cut
 
 pub start-extends : (R : Rules) (a b : List Value) (e : ℕ) → Extends a b → start_of R a e ≤ length a → start_of R b e ≡ start_of R a e
@@ -90,8 +92,10 @@ module _ (R : Rules) (some : (log : List Value) (e : ℕ) → 0 < R.slots log e)
   epoch-mono low older x = elim (leb_tells (epoch_at R low) (epoch_at R older)) [
     | inl t ↦ t.1
     | inr t ↦
-        let in_low : start_of R low (suc (epoch_at R older)) ≤ length low = le_trans (start-mono R low (suc (epoch_at R older)) (epoch_at R low) t.1) (epoch-low R low) in
-        let same : start_of R older (suc (epoch_at R older)) ≡ start_of R low (suc (epoch_at R older)) = start-extends R low older (suc (epoch_at R older)) x in_low in
+        let in_low : start_of R low (suc (epoch_at R older)) ≤ length low =
+        le_trans (start-mono R low (suc (epoch_at R older)) (epoch_at R low) t.1) (epoch-low R low) in
+        let same : start_of R older (suc (epoch_at R older)) ≡ start_of R low (suc (epoch_at R older)) =
+        start-extends R low older (suc (epoch_at R older)) x in_low in
         absurd (omega (arith, epoch-high older, same, in_low, extends-length low older x))
   ]
 

@@ -1,6 +1,6 @@
 -- Runs that are computed: three nodes, epochs of three slots, and a module by which the leader tells all what it casts, and
 -- its slots become nil where its time runs out. Packets are spelled as short as these runs allow.
-use Rattle.std.proofs.Common.{◌≡◌, ℕ, zero, suc, ◌==◌, ◌&&◌, cond, true, false, List, [], ◌∷◌, ◌++◌, Option, Some, None, refl}
+use Rattle.std.proofs.Common.{◌≡◌, ℕ, zero, suc, ◌==◌, ◌&&◌, cond, true, false, List, [], ◌∷◌, ◌++◌, Option, Some, None, reverse, refl}
 use Rattle.iss_request.specs.declared.ids.Slot.{Slot}
 use Rattle.iss_request.specs.declared.requests.Batch.{Batch}
 use Rattle.iss_request.specs.declared.requests.Request.{Request}
@@ -20,9 +20,9 @@ use Rattle.iss_sb.specs.Evidence.{Item, Made, Module}
 use Rattle.iss_base.specs.Lists.{first_of}
 use Rattle.iss_model.specs.Concrete.{rules_of}
 use Rattle.iss_model.specs.Node.{Body, Core, Early, Formats, OfModule, OfRequest, Parcel, Stepped, Dropped, Taken, step}
-use Rattle.iss_model.specs.Past.{leads_in}
 use Rattle.iss_model.specs.Rules.{Rules}
-use Rattle.iss_model.specs.Runs.{log_after, net_after}
+use Rattle.iss_model.specs.Past.{leads_in, log_of}
+use Rattle.iss_model.specs.Run.{Progress, begin_run, run}
 use Rattle.iss_model.specs.Views.{accepted_by, is_castable_now, unfilled}
 use Rattle.iss_model.specs.declared.causes.NodeEvent.TheVariants.{Packet as Gets}
 
@@ -30,7 +30,24 @@ abbrev pub Word : Type 0
 Word = Slot × Batch
 
 abbrev pub plain : Setup
-plain = record { version = 1; «module» = 1; f = 0; epoch = 3; buckets = 3; batch = 4; window = 8; policy = Simple; clients = 1; keys = 4; faulty = []; n = 3; quorum = 2; kind = Stopping; tag = [] }
+plain = record {
+  version = 1;
+  «module» = 1;
+  f = 0;
+  epoch = 3;
+  buckets = 3;
+  batch = 4;
+  window = 8;
+  policy = Simple;
+  clients = 1;
+  keys = 4;
+  faulty = [];
+  n =
+      3;
+  quorum = 2;
+  kind = Stopping;
+  tag = [];
+}
 
 abbrev asks : Params → ℕ → Input Word → Option Word
 asks p me (Cast slot batch) = cond (me == p.leader.0) (Some (slot, batch)) None
@@ -82,7 +99,8 @@ spell from epoch (OfModule leader w) = 0 ∷ from ∷ epoch ∷ leader ∷ w.0.0
 spell from epoch (OfRequest q) = 1 ∷ q.id.client ∷ q.id.number ∷ q.payload
 
 abbrev pub read : List ℕ → Option (Parcel Word)
-read (zero ∷ from ∷ epoch ∷ leader ∷ slot ∷ batch) = Some (record { from = from; epoch = epoch; body = OfModule leader (record { 0 = slot }, read_batch batch) })
+read (zero ∷ from ∷ epoch ∷ leader ∷ slot ∷ batch) =
+    Some (record { from = from; epoch = epoch; body = OfModule leader (record { 0 = slot }, read_batch batch) })
 read (suc one ∷ client ∷ number ∷ payload) = Some (record { from = 255; epoch = 0; body = OfRequest (plain_request client number payload) })
 read _ = None
 
@@ -93,8 +111,11 @@ short = record { wrap = λ k. spell k.from k.epoch k.body; unwrap = read }
 abbrev pub easy : Rules
 easy = record (rules_of plain) { signed = λ q. true }
 
+abbrev run_of : List Event → Progress Word
+run_of events = run plain short easy telling (begin_run plain) events
+
 after : List Event → ℕ → List Value
-after events i = log_after plain short easy telling events i
+after events i = reverse (log_of easy telling i ((run_of events).held.net.cores i).past)
 
 abbrev q : Request
 q = plain_request 0 0 (170 ∷ [])
@@ -126,7 +147,7 @@ early = refl
 
 -- the core of a node after events
 core_after : List Event → ℕ → Core Word
-core_after events i = (net_after plain short easy telling events).cores i
+core_after events i = (run_of events).held.net.cores i
 
 -- each leader casts, with nothing to order, and epoch 0 ends in the middle of a pump
 abbrev whole_epoch : List Event
@@ -162,7 +183,8 @@ abbrev early_word : ℕ → ℕ → Early Word
 early_word leader slot = record { from = leader; leader = leader; msg = (record { 0 = slot }, []) }
 
 abbrev prepared : Core Word
-prepared = record (core_after (Propose 0 ∷ Propose 1 ∷ Propose 2 ∷ Deliver 2 ∷ Deliver 5 ∷ []) 2) { early = early_word 2 5 ∷ early_word 1 4 ∷ early_word 0 3 ∷ early_word 0 3 ∷ [] }
+prepared = record (core_after (Propose 0 ∷ Propose 1 ∷ Propose 2 ∷ Deliver 2 ∷ Deliver 5 ∷ []) 2)
+    { early = early_word 2 5 ∷ early_word 1 4 ∷ early_word 0 3 ∷ early_word 0 3 ∷ [] }
 
 abbrev epoch_of : Stepped Word → Option ℕ
 epoch_of (Dropped why) = None
@@ -238,7 +260,7 @@ abbrev backing : Setup
 backing = record plain { policy = Backoff }
 
 abbrev core_backing : List Event → ℕ → Core Word
-core_backing events i = (net_after backing short (rules_of backing) telling events).cores i
+core_backing events i = (run backing short (rules_of backing) telling (begin_run backing) events).held.net.cores i
 
 abbrev one_failed : List Event
 one_failed = Times_out 0 (record { 0 = 1 }) ∷ Propose 0 ∷ Propose 2 ∷ Pump ∷ []

@@ -94,7 +94,8 @@ pub nil-below : (log : List Value) (s : ℕ) → is_nil_at log s ≡ true → s 
 nil-below [] s h = absurd (true≢false (sym h))
 nil-below (v ∷ older) s h = go (nil-below older s) (eqb s (length older)) refl h
   where
-    go : (is_nil_at older s ≡ true → s < length older) → (b : Bool) → eqb s (length older) ≡ b → cond b (not (is_batch v)) (is_nil_at older s) ≡ true → s < suc (length older)
+    go : (is_nil_at older s ≡ true → s < length older) → (b : Bool) → eqb s (length older) ≡ b → cond b (not (is_batch v)) (is_nil_at older s) ≡ true →
+        s < suc (length older)
     go ih true q k = let e = is-eq s (length older) q in omega (arith, e)
     go ih false q k = let lt = ih k in omega (arith, lt)
 
@@ -102,7 +103,8 @@ lt-is : (a b : ℕ) → a < b → nat_lt a b ≡ true
 lt-is a b h = elim (leb_tells (suc a) b) [ inl t ↦ t.0 | inr t ↦ absurd (omega (arith, t.1, h)) ]
 
 -- so what comes back flies no more
-pub returned-apart : (log : List Value) (fs : List (Slot × Batch)) → Different (ids (carried fs)) → (x : ReqId) → In x (ids (returned log fs)) → In x (ids (carried (flying (length log) fs))) → ⊥
+pub returned-apart : (log : List Value) (fs : List (Slot × Batch)) → Different (ids (carried fs)) → (x : ReqId) → In x (ids (returned log fs)) →
+    In x (ids (carried (flying (length log) fs))) → ⊥
 returned-apart log [] d x a b = a
 returned-apart log (f ∷ fs) d x a b =
     let p = parts-of f.1 (carried fs) d in
@@ -111,12 +113,15 @@ returned-apart log (f ∷ fs) d x a b =
     n : ℕ
     n = length log
 
-    go : AreParts f.1 (carried fs) → (In x (ids (returned log fs)) → In x (ids (carried (flying (length log) fs))) → ⊥) → (b1 : Bool) → is_nil_at log f.0.0 ≡ b1 → (b2 : Bool) → nat_lt f.0.0 (length log) ≡ b2 →
-        In x (ids (cond b1 (f.1 ++ returned log fs) (returned log fs))) → In x (ids (carried (cond b2 (flying (length log) fs) (f ∷ flying (length log) fs)))) → ⊥
+    go : AreParts f.1 (carried fs) → (In x (ids (returned log fs)) → In x (ids (carried (flying (length log) fs))) → ⊥) → (b1 : Bool) →
+        is_nil_at log f.0.0 ≡ b1 → (b2 : Bool) → nat_lt f.0.0 (length log) ≡ b2 →
+        In x (ids (cond b1 (f.1 ++ returned log fs) (returned log fs))) →
+        In x (ids (carried (cond b2 (flying (length log) fs) (f ∷ flying (length log) fs)))) → ⊥
     go p ih true e true r k m = elim (ids-append x f.1 (returned log fs) k) [ inl y ↦ p.apart x y (flying-ids (length log) fs x m) | inr y ↦ ih y m ]
     go p ih true e false r k m = true≢false (sym (lt-is f.0.0 (length log) (nil-below log f.0.0 e)) ∙ r)
     go p ih false e true r k m = ih k m
-    go p ih false e false r k m = elim (ids-append x f.1 (carried (flying (length log) fs)) m) [ inl y ↦ p.apart x y (returned-ids log fs x k) | inr y ↦ ih k y ]
+    go p ih false e false r k m =
+        elim (ids-append x f.1 (carried (flying (length log) fs)) m) [ inl y ↦ p.apart x y (returned-ids log fs x k) | inr y ↦ ih k y ]
 
 -- what a core holds after its log has grown: what entered is gone, and what became nil waits again
 
@@ -171,7 +176,9 @@ module _ (n : ℕ) (mine : Request → Bool) (s : Slot) (w : List Request) (fs :
       let back = append-nothing (cut n mine w) in
       let tail : Different (ids (cut n mine w ++ [])) = subst (λ (qs : List Request). Different (ids qs)) (sym back) (cut-once n mine w p.left) in
       let split = carried-append fs ((s, cut n mine w) ∷ []) in
-      let far : Different (ids (carried fs ++ (cut n mine w ++ []))) = ids-once (carried fs) (cut n mine w ++ []) p.right tail (λ x a b. p.apart x (cut-ids n mine w x (subst (λ (qs : List Request). In x (ids qs)) back b)) a) in
+      let far : Different (ids (carried fs ++ (cut n mine w ++ []))) =
+      ids-once (carried fs) (cut n mine w ++ []) p.right tail
+      (λ x a b. p.apart x (cut-ids n mine w x (subst (λ (qs : List Request). In x (ids qs)) back b)) a) in
       ids-once (uncut n mine w) (carried flies) (uncut-once n mine w p.left) (subst (λ (qs : List Request). Different (ids qs)) (sym split) far)
       (λ x a b.
       let c : In x (ids (carried fs ++ (cut n mine w ++ []))) = subst (λ (qs : List Request). In x (ids qs)) split b in

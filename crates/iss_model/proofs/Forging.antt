@@ -14,12 +14,29 @@ use Rattle.iss_sb.specs.Statements.{wide_bytes}
 use Rattle.iss_model.specs.Cluster.{Signed}
 use Rattle.iss_model.specs.Concrete.{rules_of}
 use Rattle.iss_model.specs.Rules.{Rules}
-use Rattle.iss_model.specs.Tested.{Forged, Going, begin_tested, run_tested}
+use Rattle.iss_model.specs.Run.{Forged, Progress, begin_run, run}
 use Rattle.iss_model.proofs.Example.{first_told, plain_request, short}
 use Rattle.iss_model.proofs.Signing.{Word, claim_of, signing}
 
-abbrev four : Setup
-four = record { version = 1; «module» = 9; f = 1; epoch = 4; buckets = 4; batch = 4; window = 8; policy = Simple; clients = 1; keys = 4; faulty = record { 0 = 3 } ∷ []; n = 4; quorum = 3; kind = Byzantine; tag = [] }
+abbrev pub four : Setup
+four = record {
+  version = 1;
+  «module» = 9;
+  f = 1;
+  epoch = 4;
+  buckets = 4;
+  batch = 4;
+  window = 8;
+  policy = Simple;
+  clients = 1;
+  keys = 4;
+  faulty =
+      record { 0 = 3 } ∷ [];
+  n = 4;
+  quorum = 3;
+  kind = Byzantine;
+  tag = [];
+}
 
 -- what a node or a client is said to have signed counts as verified, so that runs compute
 abbrev easy : Rules
@@ -28,14 +45,14 @@ easy = record (rules_of four) { signed = λ q. true; verifies = λ k statement s
 abbrev batch : Batch
 batch = plain_request 0 0 (170 ∷ []) ∷ []
 
-abbrev after : List Event → Going Word
-after events = run_tested four short easy signing (begin_tested 4) events
+abbrev pub after : List Event → Progress Word
+after events = run four short easy signing (begin_run four) events
 
 -- a message in the instance of a leader, under its name: slot and batch
 abbrev told : ℕ → List ℕ
 told leader = 0 ∷ leader ∷ 0 ∷ leader ∷ leader ∷ 0 ∷ 0 ∷ 170 ∷ []
 
-abbrev claim : ℕ → Signed
+abbrev pub claim : ℕ → Signed
 claim leader = record { by = leader; statement = (claim_of ((rules_of four).params [] 0 leader) leader (record { 0 = leader }, batch)).statement }
 
 -- node 0 casts, and all take its message
@@ -53,7 +70,8 @@ unfolding wide_bytes spell_value spell_batch spell_count spell_request
 repeated = refl
 
 -- before node 0 has signed it, it is forged, and the run ends: what follows does not happen
-forged : (after (Bytes 1 (told 0) ∷ Asks_order 0 0 0 (170 ∷ []) ∷ Propose 0 ∷ [])).ended ≡ Some (Forged (claim_of ((rules_of four).params [] 0 0) 0 (record { 0 = 0 }, batch)))
+forged : (after (Bytes 1 (told 0) ∷ Asks_order 0 0 0 (170 ∷ []) ∷ Propose 0 ∷ [])).ended ≡ Some
+    (0, Forged (claim_of ((rules_of four).params [] 0 0) 0 (record { 0 = 0 }, batch)))
 unfolding wide_bytes spell_value spell_batch spell_count spell_request
 forged = refl
 
@@ -70,8 +88,8 @@ faulty = refl
 abbrev hearing : Module Word
 hearing = record signing { decided = λ p me xs s. first_told p.leader.0 s xs }
 
-abbrev heard : List Event → Going Word
-heard events = run_tested four short easy hearing (begin_tested 4) events
+abbrev pub heard : List Event → Progress Word
+heard events = run four short easy hearing (begin_run four) events
 
 -- a message for the next epoch, in the name of a node, in the instance of a leader at its slot
 abbrev early : ℕ → ℕ → List ℕ
@@ -85,7 +103,7 @@ waits : (heard (Bytes 1 (early 0 0) ∷ [])).ended ≡ None
 unfolding wide_bytes spell_value spell_batch spell_count spell_request
 waits = refl
 
-early_forged : (heard (Bytes 1 (early 0 0) ∷ whole_epoch)).ended ≡ Some (Forged (claim_of ((rules_of four).params [] 1 0) 0 (record { 0 = 4 }, batch)))
+early_forged : (heard (Bytes 1 (early 0 0) ∷ whole_epoch)).ended ≡ Some (5, Forged (claim_of ((rules_of four).params [] 1 0) 0 (record { 0 = 4 }, batch)))
 unfolding wide_bytes spell_value spell_batch spell_count spell_request
 early_forged = refl
 

@@ -34,7 +34,8 @@ sender n p q h =
     elim (leb_tells (suc p.from) n) [ inl t ↦ t.1 | inr t ↦ absurd (true≢false (sym (and-true (nat_lt p.from n) (nat_lt p.leader n) k).0 ∙ t.0)) ]
 
 -- what was read of bytes is read again, whatever stands behind it
-again : {A : Type 0} (spell : A → List ℕ) (parse : List ℕ → Parsed A) → IsGrammar spell parse → (bytes : List ℕ) (x : A) → whole (parse bytes) ≡ Some x → IsReadAgain spell parse x
+again : {A : Type 0} (spell : A → List ℕ) (parse : List ℕ → Parsed A) → IsGrammar spell parse → (bytes : List ℕ) (x : A) → whole (parse bytes) ≡ Some x →
+    IsReadAgain spell parse x
 again {A} spell parse grammar bytes x h = go (parse bytes) refl h
   where
     go : (r : Parsed A) → parse bytes ≡ r → whole r ≡ Some x → IsReadAgain spell parse x
@@ -43,7 +44,8 @@ again {A} spell parse grammar bytes x h = go (parse bytes) refl h
     go (Bad at) e k = absurd (none-some x k)
 
 -- a request that is read has a spelling
-pub requests-spelled : {Msg : Type 0} (s : Setup) (M : Module Msg) (bytes : List ℕ) (k : Parcel Msg) (q : Request) → (formats_of s M).unwrap bytes ≡ Some k → k.body ≡ OfRequest q → HasSpelling q
+pub requests-spelled : {Msg : Type 0} (s : Setup) (M : Module Msg) (bytes : List ℕ) (k : Parcel Msg) (q : Request) → (formats_of s M).unwrap bytes ≡ Some k →
+    k.body ≡ OfRequest q → HasSpelling q
 requests-spelled {Msg} s M bytes k q u b = packet (whole (parse_packet s.version s.n bytes)) u
   where
     no-message : (l : ℕ) (msg : Msg) → OfModule l msg ≡ OfRequest q → ⊥
@@ -91,11 +93,13 @@ module _ {Msg : Type 0} (s : Setup) (M : Module Msg) (grammar : (version : ℕ) 
       same-message : (j : ℕ) (m : Msg) → OfModule j m ≡ OfModule l msg → m ≡ msg
       same-message j m e = cc
 
-      message : (p : Packet) (o : Option Msg) → whole (M.parse s.version p.body) ≡ o → is_routed s.n p ≡ true → p.kind ≡ Message → message_in p o ≡ Some k → Told k msg
+      message : (p : Packet) (o : Option Msg) → whole (M.parse s.version p.body) ≡ o → is_routed s.n p ≡ true → p.kind ≡ Message → message_in p o ≡ Some k →
+          Told k msg
       message p None e r q h = absurd (none-some k h)
       message p (Some m) e r q h = (
         subst (λ (f : ℕ). f < s.n) (ap (λ (z : Parcel Msg). z.from) (some-injective _ k h)) (sender s.n p q r),
-        again (M.spell s.version) (M.parse s.version) (grammar s.version) p.body msg (e ∙ ap (λ (z : Msg). Some z) (same-message p.leader m (ap (λ (z : Parcel Msg). z.body) (some-injective _ k h) ∙ b))),
+        again (M.spell s.version) (M.parse s.version) (grammar s.version) p.body msg
+            (e ∙ ap (λ (z : Msg). Some z) (same-message p.leader m (ap (λ (z : Parcel Msg). z.body) (some-injective _ k h) ∙ b))),
       )
 
       request : (p : Packet) (o : Option Request) → request_in {Msg = Msg} p o ≡ Some k → Told k msg

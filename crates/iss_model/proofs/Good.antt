@@ -39,7 +39,8 @@ module _ {Msg : Type 0} (s : Setup) (R : Rules) (M : Module Msg) (w : Cluster Ms
 
     pub record Good : Type 0 where
       pub reached : (i : ℕ) → is_correct s i ≡ true → start_of R (log_of R M i (w.pasts i)) (w.pasts i).epoch ≤ length (log_of R M i (w.pasts i))
-      pub inv : (i e l : ℕ) → is_correct s i ≡ true → e ≤ (w.pasts i).epoch → R.leads (before R M i (w.pasts i) e) e l ≡ true → IsReached M (R.params (before R M i (w.pasts i) e) e l) (world_of s w.pasts e l)
+      pub inv : (i e l : ℕ) → is_correct s i ≡ true → e ≤ (w.pasts i).epoch → R.leads (before R M i (w.pasts i) e) e l ≡ true →
+          IsReached M (R.params (before R M i (w.pasts i) e) e l) (world_of s w.pasts e l)
       pub unborn : (i e l : ℕ) → is_correct s i ≡ true → (w.pasts i).epoch < e → (w.pasts i).evidence e l ≡ []
       pub judged : (i e l : ℕ) → is_correct s i ≡ true → e ≤ (w.pasts i).epoch → Judged R (before R M i (w.pasts i) e) e l (accepts ((w.pasts i).evidence e l))
       pub sent : M.stopping ≡ true → (k : Message Msg) → In k w.messages → IsSent (world_of s w.pasts k.epoch k.leader) k.from k.to k.msg

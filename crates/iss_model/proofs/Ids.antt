@@ -1,7 +1,7 @@
 -- Tests on identities tell what they say.
-use Rattle.std.proofs.Common.{◌≡◌, ◌⊎◌, inl, inr, ℕ, Bool, true, false, eqb, ◌||◌, List, [], ◌∷◌, ◌++◌, refl, sym, ap, ap₂, ◌∙◌, true≢false}
+use Rattle.std.proofs.Common.{◌≡◌, ◌⊎◌, inl, inr, Bool, true, false, ◌||◌, List, [], ◌∷◌, ◌++◌, refl, sym, ap, ◌∙◌, true≢false}
 use Rattle.iss_base.specs.Lists.{In, Different}
-use Rattle.iss_base.proofs.Lists.{and-true, both, eqb-same, in_append, in_left, in_right, is-eq}
+use Rattle.iss_base.proofs.Lists.{in_append, in_left, in_right}
 use Rattle.iss_request.specs.Log.{has_id, ids, log_ids, same_id, value_ids}
 use Rattle.iss_request.specs.declared.ids.ReqId.{ReqId}
 use Rattle.iss_request.specs.declared.requests.Request.{Request}

@@ -3,27 +3,26 @@ use Rattle.std.proofs.Common.{◌≡◌, ℕ, List, [], ◌∷◌, inl, inr, ref
 use Rattle.iss_request.specs.declared.ids.ReqId.{ReqId}
 use Rattle.iss_schedule.specs.declared.schedules.Event.{Event}
 use Rattle.iss_schedule.specs.declared.schedules.Event.TheVariants.{Request as Asks_order, Propose, Timeout as Times_out, Calm}
-use Rattle.iss_model.specs.Conserved.{Asked, IsInOnePlace, first, second, third}
+use Rattle.iss_model.specs.Conserved.{IsInOnePlace, WasAsked, first, second, third}
 use Rattle.iss_model.specs.Node.{Core}
-use Rattle.iss_model.specs.Run.{begin_run}
-use Rattle.iss_model.specs.Runs.{net_after}
+use Rattle.iss_model.specs.Run.{begin_run, run}
 use Rattle.iss_model.proofs.Example.{Word, easy, plain, short, telling}
 
 abbrev x : ReqId
 x = record { client = 0; number = 0 }
 
 core : List Event → ℕ → Core Word
-core events i = (net_after plain short easy telling events).cores i
+core events i = (run plain short easy telling (begin_run plain) events).held.net.cores i
 
 abbrev asks : Event
 asks = Asks_order 0 0 0 (170 ∷ [])
 
 -- it was taken, also where it is asked for again later
-taken : Asked plain short easy telling (begin_run 3) (asks ∷ Propose 0 ∷ asks ∷ []) 0 x
+taken : WasAsked plain short easy telling (begin_run plain) (asks ∷ Propose 0 ∷ asks ∷ []) 0 x
 taken = inl (inl refl)
 
 -- by node 0 alone
-not_taken : Asked plain short easy telling (begin_run 3) (asks ∷ Propose 0 ∷ asks ∷ []) 1 x → ⊥
+not_taken : WasAsked plain short easy telling (begin_run plain) (asks ∷ Propose 0 ∷ asks ∷ []) 1 x → ⊥
 not_taken (inl h) = h
 not_taken (inr (inl h)) = h
 not_taken (inr (inr (inl h))) = h

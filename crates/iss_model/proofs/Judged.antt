@@ -105,17 +105,21 @@ module _ (R : Rules) (before : List Value) (e l : ℕ) (marked : List ReqId) (ba
       (pass _ _ _ (none-any old batch (λ q i. has-not q.id (log_ids before) (a.unordered q i)))
       (pass _ _ _ (are-unmarked marked (ids batch) a.unmarked a.different) refl)))))
 
-pub owner-of : (R : Rules) (before : List Value) (e l : ℕ) (marked : List ReqId) (batch : Batch) → Accepted R before e l marked batch → (x : ReqId) → In x (ids batch) → R.owner before e x ≡ l
+pub owner-of : (R : Rules) (before : List Value) (e l : ℕ) (marked : List ReqId) (batch : Batch) → Accepted R before e l marked batch → (x : ReqId) →
+    In x (ids batch) → R.owner before e x ≡ l
 owner-of R before e l marked batch a x i = let r = ids-in x batch i in rw r.2 (a.owner r.0 r.1)
 
-pub unordered-of : (R : Rules) (before : List Value) (e l : ℕ) (marked : List ReqId) (batch : Batch) → Accepted R before e l marked batch → (x : ReqId) → In x (ids batch) → In x (log_ids before) → ⊥
+pub unordered-of : (R : Rules) (before : List Value) (e l : ℕ) (marked : List ReqId) (batch : Batch) → Accepted R before e l marked batch → (x : ReqId) →
+    In x (ids batch) → In x (log_ids before) → ⊥
 unordered-of R before e l marked batch a x i = let r = ids-in x batch i in rw r.2 (a.unordered r.0 r.1)
 
 -- over the marks of the older entries
-pub entry-judged : (R : Rules) (before : List Value) (e l : ℕ) (xs : List (Slot × Batch)) → Judged R before e l xs → (x : Slot × Batch) → In x xs → (newer : List (Slot × Batch)) × (older : List (Slot × Batch)) × (xs ≡ newer ++ (x ∷ older)) × (judge R before e l (marks older) x.1 ≡ None)
+pub entry-judged : (R : Rules) (before : List Value) (e l : ℕ) (xs : List (Slot × Batch)) → Judged R before e l xs → (x : Slot × Batch) → In x xs →
+    (newer : List (Slot × Batch)) × (older : List (Slot × Batch)) × (xs ≡ newer ++ (x ∷ older)) × (judge R before e l (marks older) x.1 ≡ None)
 entry-judged R before e l [] j x i = absurd i
 entry-judged R before e l (y ∷ ys) j x (inl q) = ([], ys, ap (λ (z : Slot × Batch). z ∷ ys) (sym q), rw q j.1)
-entry-judged R before e l (y ∷ ys) j x (inr i) = let r = entry-judged R before e l ys j.0 x i in (y ∷ r.0, r.1, ap (λ (zs : List (Slot × Batch)). y ∷ zs) r.2, r.3)
+entry-judged R before e l (y ∷ ys) j x (inr i) = let r = entry-judged R before e l ys j.0 x i in
+    (y ∷ r.0, r.1, ap (λ (zs : List (Slot × Batch)). y ∷ zs) r.2, r.3)
 
 in-marks : (z : ReqId) (x : Slot × Batch) (xs : List (Slot × Batch)) → In x xs → In z (ids x.1) → In z (marks xs)
 in-marks z x [] i h = absurd i
@@ -123,7 +127,8 @@ in-marks z x (y ∷ ys) (inl q) h = in_left z (ids y.1) (marks ys) (rw (← q) h
 in-marks z x (y ∷ ys) (inr i) h = in_right z (ids y.1) (marks ys) (in-marks z x ys i h)
 
 -- an identity stands at one slot of a judged list
-pub one-slot : (R : Rules) (before : List Value) (e l : ℕ) (xs : List (Slot × Batch)) → Judged R before e l xs → (x y : Slot × Batch) → In x xs → In y xs → x.0.0 ≢ y.0.0 → (z : ReqId) → In z (ids x.1) → In z (ids y.1) → ⊥
+pub one-slot : (R : Rules) (before : List Value) (e l : ℕ) (xs : List (Slot × Batch)) → Judged R before e l xs → (x y : Slot × Batch) → In x xs → In y xs →
+    x.0.0 ≢ y.0.0 → (z : ReqId) → In z (ids x.1) → In z (ids y.1) → ⊥
 one-slot R before e l [] j x y ix iy ne z zx zy = absurd ix
 one-slot R before e l (h ∷ hs) j x y (inl p) (inl q) ne z zx zy = ne (ap (λ (t : Slot × Batch). t.0.0) (p ∙ sym q))
 one-slot R before e l (h ∷ hs) j x y (inl p) (inr i) ne z zx zy = (accepted R before e l (marks hs) h.1 j.1).unmarked z (rw p at zx) (in-marks z y hs i zy)

@@ -36,7 +36,8 @@ rising-low from n (x ∷ ls) h l (inr i) = rising-low (suc x.0) n ls h.2 l i
 leads-of : (ls : List NodeId) (l : NodeId) → In l ls → list_any (λ (x : NodeId). eqb x.0 l.0) ls ≡ true
 leads-of [] l i = absurd i
 leads-of (x ∷ ls) l (inl e) = rw (← e, eqb-same l.0) refl
-leads-of (x ∷ ls) l (inr i) = let k : list_any (λ (x : NodeId). eqb x.0 l.0) ls ≡ true = leads-of ls l i in elim (eqb x.0 l.0) as (λ b. (b || list_any (λ (x : NodeId). eqb x.0 l.0) ls) ≡ true) [ true ↦ refl | false ↦ k ]
+leads-of (x ∷ ls) l (inr i) = let k : list_any (λ (x : NodeId). eqb x.0 l.0) ls ≡ true = leads-of ls l i in
+    elim (eqb x.0 l.0) as (λ b. (b || list_any (λ (x : NodeId). eqb x.0 l.0) ls) ≡ true) [ true ↦ refl | false ↦ k ]
 
 least-is : (a b : ℕ) → a ≤ b → least a b ≡ a
 least-is a b h = elim (leb_tells a b) [ inl t ↦ rw t.0 refl | inr t ↦ absurd (omega (arith, t.1, h)) ]
@@ -72,9 +73,11 @@ segment-low p l bound fits = below-all bound (segment p l)
     (λ x i. let within = ((segment_slots p l x).0 i).0 in let high = within.1 in omega (arith, high, fits))
 
 -- what a node signs verifies by the rules
-pub own-verifies : (s : Setup) (k q : ℕ) (statement : List ℕ) → s.keys ≤ 12 → q < 2 ^ s.keys → k < s.n → (rules_of s).verifies k statement (signature_of (node_secret k) s.keys q statement) ≡ true
+pub own-verifies : (s : Setup) (k q : ℕ) (statement : List ℕ) → s.keys ≤ 12 → q < 2 ^ s.keys → k < s.n →
+    (rules_of s).verifies k statement (signature_of (node_secret k) s.keys q statement) ≡ true
 own-verifies s k q statement high leaf number =
-    (verified-by (keys_of s).nodes k statement (signature_of (node_secret k) s.keys q statement)).1 (node-verifies s.n s.clients s.keys k q statement high leaf number)
+    (verified-by (keys_of s).nodes k statement (signature_of (node_secret k) s.keys q statement)).1
+    (node-verifies s.n s.clients s.keys k q statement high leaf number)
 
 module _ {Msg : Type 0} (M : Module Msg) (s : Setup) (h : IsSetupOf M s) where
   -- each epoch is well divided, whoever leads it
@@ -122,7 +125,8 @@ module _ {Msg : Type 0} (M : Module Msg) (s : Setup) (h : IsSetupOf M s) where
   }
 
 -- rules are as sound under another judgement of requests' signatures
-pub however-signed : {Msg : Type 0} (M : Module Msg) (s : Setup) (R : Rules) (signed : Request → Bool) → IsSoundRules s M R → IsSoundRules s M (record R { signed = signed })
+pub however-signed : {Msg : Type 0} (M : Module Msg) (s : Setup) (R : Rules) (signed : Request → Bool) → IsSoundRules s M R →
+    IsSoundRules s M (record R { signed = signed })
 however-signed M s R signed h = record {
   some_slots = h.some_slots;
   most = h.most;
@@ -142,6 +146,7 @@ request-signed s client number payload high below leaf few =
     let id : ReqId = record { client = client; number = number } in
     let statement : List ℕ = request_statement id payload in
     let sig : List ℕ = signature_of (client_secret client) s.keys number statement in
-    let verified : is_verified_by (keys_of s).clients client statement sig ≡ true = (verified-by (keys_of s).clients client statement sig).1 (client-verifies s.n s.clients s.keys client number statement high leaf below) in
+    let verified : is_verified_by (keys_of s).clients client statement sig ≡ true =
+    (verified-by (keys_of s).clients client statement sig).1 (client-verifies s.n s.clients s.keys client number statement high leaf below) in
     let short : nat_le (length payload) 256 ≡ true = le-leb (length payload) 256 few in
     rw short verified

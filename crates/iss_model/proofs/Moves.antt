@@ -23,7 +23,9 @@ use Rattle.iss_model.proofs.Kept.{adopted-later, befores, claimed-later, reached
 use Rattle.iss_model.proofs.Logs.{Later, later-refl, takes-later}
 use Rattle.iss_model.proofs.Statements.{apart, heads, leader-far}
 
-module _ {Msg : Type 0} (s : Setup) (S : Scheme) (R : Rules) (M : Module Msg) (safe : IsSafe M) (law : IsLawful M) (sound : IsSoundRules s M R) (v w : Cluster Msg) (sep : Separate (Among w.strings)) (g : Good s R M v S) (i l : ℕ) (input : Input Msg) (leaf : ℕ) (mv : Moved s S R M v w i l input leaf) where
+module _ {Msg : Type 0} (s : Setup) (S : Scheme) (R : Rules) (M : Module Msg) (safe : IsSafe M) (law : IsLawful M) (sound : IsSoundRules s M R)
+    (v w : Cluster Msg) (sep : Separate (Among w.strings)) (g : Good s R M v S) (i l : ℕ) (input : Input Msg) (leaf : ℕ)
+    (mv : Moved s S R M v w i l input leaf) where
   abbrev e : ℕ
   e = (v.pasts i).epoch
 
@@ -50,7 +52,8 @@ module _ {Msg : Type 0} (s : Setup) (S : Scheme) (R : Rules) (M : Module Msg) (s
   epochs = by_node (λ j c. c.epoch ≡ (v.pasts j).epoch) refl (λ j ne. refl)
 
   later : (j : ℕ) → is_correct s j ≡ true → Later R (v.pasts j) (w.pasts j)
-  later = by_node (λ j c. is_correct s j ≡ true → Later R (v.pasts j) c) (λ ok. takes-later R M i (v.pasts i) l input leaf (settled-of s S R M v g i ok)) (λ j ne ok. later-refl R (v.pasts j) (settled-of s S R M v g j ok))
+  later = by_node (λ j c. is_correct s j ≡ true → Later R (v.pasts j) c) (λ ok. takes-later R M i (v.pasts i) l input leaf (settled-of s S R M v g i ok))
+      (λ j ne ok. later-refl R (v.pasts j) (settled-of s S R M v g j ok))
 
   befores_are : (j d : ℕ) → is_correct s j ≡ true → d ≤ (v.pasts j).epoch → before R M j (w.pasts j) d ≡ before R M j (v.pasts j) d
   befores_are = befores s S R M v w g later mv.strings
@@ -60,13 +63,17 @@ module _ {Msg : Type 0} (s : Setup) (S : Scheme) (R : Rules) (M : Module Msg) (s
   evidence_i = ap (λ (c : Past Msg). c.evidence e l) mv.here ∙ set_at2-same (v.pasts i).evidence e l (item ∷ (v.pasts i).evidence e l)
 
   evidence_there : (j d k : ℕ) → (d ≢ e) ⊎ (k ≢ l) → (w.pasts j).evidence d k ≡ (v.pasts j).evidence d k
-  evidence_there j d k ne = by_node (λ j c. c.evidence d k ≡ (v.pasts j).evidence d k) (set_at2-other (v.pasts i).evidence e l (item ∷ (v.pasts i).evidence e l) d k ne) (λ j nej. refl) j
+  evidence_there j d k ne =
+      by_node (λ j c. c.evidence d k ≡ (v.pasts j).evidence d k) (set_at2-other (v.pasts i).evidence e l (item ∷ (v.pasts i).evidence e l) d k ne)
+      (λ j nej. refl) j
 
   -- what the instance's claims begin with
   claim_names : (from : ℕ) (msg : Msg) (c : Claim) → In c (M.claims p from msg) → Names s M e l c.statement
   claim_names from msg c inside =
       let n = law.names p from msg c inside in
-      subst (λ (t : Setup). Names t M e l c.statement) (sound.setup bf e l) (subst (λ (d : ℕ). Names p.setup M d l c.statement) (sound.epoch bf e l) (subst (λ (k : ℕ). Names p.setup M p.epoch.0 k c.statement) (sound.leader bf e l) n))
+      subst (λ (t : Setup). Names t M e l c.statement) (sound.setup bf e l)
+      (subst (λ (d : ℕ). Names p.setup M d l c.statement) (sound.epoch bf e l)
+      (subst (λ (k : ℕ). Names p.setup M p.epoch.0 k c.statement) (sound.leader bf e l) n))
 
   far : l ≢ 255
   far = leader-far s M R sound bf e l mv.leads
@@ -77,13 +84,15 @@ module _ {Msg : Type 0} (s : Setup) (S : Scheme) (R : Rules) (M : Module Msg) (s
       let q : before R M h.node (v.pasts h.node) e ≡ bf = befores-agree s S R M safe sound v sep_v g h.node i h.correct mv.correct e h.begun (omega arith) in
       rw q at h.signed
 
-  arrives : (stops : Bool) → M.stopping ≡ stops → (from : ℕ) (msg : Msg) → MayGet stops s R M v i l from msg → MayArrive stops M p (world_of s v.pasts e l) i from msg
+  arrives : (stops : Bool) → M.stopping ≡ stops → (from : ℕ) (msg : Msg) → MayGet stops s R M v i l from msg →
+      MayArrive stops M p (world_of s v.pasts e l) i from msg
   arrives true st from msg k = g.sent st (record { from = from; to = i; epoch = e; leader = l; msg = msg }) k
   arrives false st from msg k = record {
     named = k.named;
     read = k.read;
     verified = λ c inside. verifies-there s M R sound bf e l mv.leads c (k.verified c inside);
-    signed = λ c inside ok. claim_old (record { by = c.by.0; statement = c.statement }) (g.signed (record { by = c.by.0; statement = c.statement }) e l far (k.signed c inside ok) (claim_names from msg c inside));
+    signed = λ c inside ok. claim_old (record { by = c.by.0; statement = c.statement })
+        (g.signed (record { by = c.by.0; statement = c.statement }) e l far (k.signed c inside ok) (claim_names from msg c inside));
   }
 
   may_come : (x : Input Msg) → MayTake s R M v i l x → MayCome M p (world_of s v.pasts e l) i x
@@ -103,13 +112,15 @@ module _ {Msg : Type 0} (s : Setup) (S : Scheme) (R : Rules) (M : Module Msg) (s
   }
 
   reached' : (j : ℕ) → is_correct s j ≡ true → start_of R (log_of R M j (w.pasts j)) (w.pasts j).epoch ≤ length (log_of R M j (w.pasts j))
-  reached' j ok = subst (λ (n : ℕ). start_of R (log_of R M j (w.pasts j)) n ≤ length (log_of R M j (w.pasts j))) (sym (epochs j)) (reached-later s S R M v w g later mv.strings j (v.pasts j).epoch ok (omega arith))
+  reached' j ok = subst (λ (n : ℕ). start_of R (log_of R M j (w.pasts j)) n ≤ length (log_of R M j (w.pasts j))) (sym (epochs j))
+      (reached-later s S R M v w g later mv.strings j (v.pasts j).epoch ok (omega arith))
 
   -- what a world has is old, or the item of the move
   new_or_old : (d k j : ℕ) (x : Item Msg) → In x (world_of s w.pasts d k j) → In x (world_of s v.pasts d k j) ⊎ (x ≡ item)
   new_or_old d k j x = go (is_correct s j)
     where
-      old : (b : Bool) → (w.pasts j).evidence d k ≡ (v.pasts j).evidence d k → In x (cond b ((w.pasts j).evidence d k) []) → In x (cond b ((v.pasts j).evidence d k) []) ⊎ (x ≡ item)
+      old : (b : Bool) → (w.pasts j).evidence d k ≡ (v.pasts j).evidence d k → In x (cond b ((w.pasts j).evidence d k) []) →
+          In x (cond b ((v.pasts j).evidence d k) []) ⊎ (x ≡ item)
       old b q h = inl (rw q at h)
 
       go : (b : Bool) → In x (cond b ((w.pasts j).evidence d k) []) → In x (cond b ((v.pasts j).evidence d k) []) ⊎ (x ≡ item)
@@ -119,7 +130,9 @@ module _ {Msg : Type 0} (s : Setup) (S : Scheme) (R : Rules) (M : Module Msg) (s
         | inl q ↦ elim (same_pair d k e l) [
           | inr ne ↦ old true (evidence_there j d k ne) h
           | inl r ↦
-              let h2 : In x ((w.pasts i).evidence e l) = subst (λ (n : ℕ). In x ((w.pasts i).evidence e n)) r.1 (subst (λ (n : ℕ). In x ((w.pasts i).evidence n k)) r.0 (subst (λ (n : ℕ). In x ((w.pasts n).evidence d k)) q h)) in
+              let h2 : In x ((w.pasts i).evidence e l) =
+              subst (λ (n : ℕ). In x ((w.pasts i).evidence e n)) r.1
+              (subst (λ (n : ℕ). In x ((w.pasts i).evidence n k)) r.0 (subst (λ (n : ℕ). In x ((w.pasts n).evidence d k)) q h)) in
               let h3 : In x (item ∷ (v.pasts i).evidence e l) = rw evidence_i at h2 in
               elim h3 [ inl a ↦ inr a | inr a ↦ inl (rw (q, r.0, r.1) a) ]
         ]
@@ -153,22 +166,26 @@ module _ {Msg : Type 0} (s : Setup) (S : Scheme) (R : Rules) (M : Module Msg) (s
           begun = omega (arith, epochs i);
           signed = record { item = item; taken = taken_i; to = a.to; msg = a.msg; sent = a.sent; claim = a.claim; made = made2; by = a.by; is = refl };
         } in
-        subst (λ (n : ℕ). IsClaimed s R M w x n k) pair.0 (subst (λ (n : ℕ). IsClaimed s R M w x e n) pair.1 (subst (λ (y : Signed). IsClaimed s R M w y e l) (sym a.is) here))
+        subst (λ (n : ℕ). IsClaimed s R M w x n k) pair.0
+        (subst (λ (n : ℕ). IsClaimed s R M w x e n) pair.1 (subst (λ (y : Signed). IsClaimed s R M w y e l) (sym a.is) here))
     | inr b ↦ claimed-later s S R M v w g later mv.strings x d k (g.signed x d k low b named)
   ]
 
   inv_here : IsReached M p (world_of s w.pasts e l)
   inv_here = after (g.inv i e l mv.correct (omega arith) mv.leads) the_move
 
-  inv' : (j d k : ℕ) → is_correct s j ≡ true → d ≤ (w.pasts j).epoch → R.leads (before R M j (w.pasts j) d) d k ≡ true → IsReached M (R.params (before R M j (w.pasts j) d) d k) (world_of s w.pasts d k)
+  inv' : (j d k : ℕ) → is_correct s j ≡ true → d ≤ (w.pasts j).epoch → R.leads (before R M j (w.pasts j) d) d k ≡ true →
+      IsReached M (R.params (before R M j (w.pasts j) d) d k) (world_of s w.pasts d k)
   inv' j d k ok le lead =
       let le_v : d ≤ (v.pasts j).epoch = subst (λ (n : ℕ). d ≤ n) (epochs j) le in
       let bq : before R M j (w.pasts j) d ≡ before R M j (v.pasts j) d = befores_are j d ok le_v in
       let lead_v : R.leads (before R M j (v.pasts j) d) d k ≡ true = rw bq at lead in
       elim (same_pair d k e l) [
         | inl q ↦
-            let same : before R M j (v.pasts j) e ≡ bf = befores-agree s S R M safe sound v sep_v g j i ok mv.correct e (subst (λ (n : ℕ). n ≤ (v.pasts j).epoch) q.0 le_v) (omega arith) in
-            rw bq (subst (λ (n : ℕ). IsReached M (R.params (before R M j (v.pasts j) d) d n) (world_of s w.pasts d n)) (sym q.1) (subst (λ (n : ℕ). IsReached M (R.params (before R M j (v.pasts j) n) n l) (world_of s w.pasts n l)) (sym q.0) (rw same inv_here)))
+            let same : before R M j (v.pasts j) e ≡ bf =
+            befores-agree s S R M safe sound v sep_v g j i ok mv.correct e (subst (λ (n : ℕ). n ≤ (v.pasts j).epoch) q.0 le_v) (omega arith) in
+            rw bq (subst (λ (n : ℕ). IsReached M (R.params (before R M j (v.pasts j) d) d n) (world_of s w.pasts d n)) (sym q.1)
+            (subst (λ (n : ℕ). IsReached M (R.params (before R M j (v.pasts j) n) n l) (world_of s w.pasts n l)) (sym q.0) (rw same inv_here)))
         | inr ne ↦ rw (bq, world-same s v w d k (λ j ok. evidence_there j d k ne)) (g.inv j d k ok le_v lead_v)
       ]
 
@@ -186,7 +203,8 @@ module _ {Msg : Type 0} (s : Setup) (S : Scheme) (R : Rules) (M : Module Msg) (s
   judged' : (j d k : ℕ) → is_correct s j ≡ true → d ≤ (w.pasts j).epoch → Judged R (before R M j (w.pasts j) d) d k (accepts ((w.pasts j).evidence d k))
   judged' j d k ok le =
       let le_v : d ≤ (v.pasts j).epoch = subst (λ (n : ℕ). d ≤ n) (epochs j) le in
-      rw (befores_are j d ok le_v) (by_node (λ j c. is_correct s j ≡ true → d ≤ (v.pasts j).epoch → Judged R (before R M j (v.pasts j) d) d k (accepts (c.evidence d k)))
+      rw (befores_are j d ok le_v)
+      (by_node (λ j c. is_correct s j ≡ true → d ≤ (v.pasts j).epoch → Judged R (before R M j (v.pasts j) d) d k (accepts (c.evidence d k)))
       (λ ok2 le2. elim (same_pair d k e l) [
         | inl q ↦ rw (q.0, q.1, set_at2-same (v.pasts i).evidence e l _) (judged_more made.accepted refl)
         | inr ne ↦ rw (set_at2-other (v.pasts i).evidence e l _ d k ne) (g.judged i d k ok2 le2)
@@ -194,11 +212,13 @@ module _ {Msg : Type 0} (s : Setup) (S : Scheme) (R : Rules) (M : Module Msg) (s
       (λ j nej ok2 le2. g.judged j d k ok2 le2) j ok le_v)
 
   adopted' : (j d k : ℕ) (x : Value) → is_correct s j ≡ true → adopted_at (w.pasts j).adopted d k ≡ Some x → (d < (w.pasts j).epoch) × IsTrue s R M w d k x
-  adopted' j d k x ok h = adopted-later s S R M v w g later mv.strings j d k x ok (rw (by_node (λ j c. c.adopted ≡ (v.pasts j).adopted) refl (λ j ne. refl) j) at h)
+  adopted' j d k x ok h =
+      adopted-later s S R M v w g later mv.strings j d k x ok (rw (by_node (λ j c. c.adopted ≡ (v.pasts j).adopted) refl (λ j ne. refl) j) at h)
 
   voted' : (x : Signed) (d : ℕ) (a : List ℕ) (q : ℕ) → In x w.book → is_correct s x.by ≡ true → x.statement ≡ vote_statement s d a q → Voted s R M w S d a q
   voted' x d a q h ok is = elim (mv.book x h) [
-    | inl own ↦ absurd (apart s M x.statement e l d a q far (subst (λ (y : Signed). Names s M e l y.statement) (sym own.is) (claim_names i own.msg own.claim own.made)) is)
+    | inl own ↦ absurd (apart s M x.statement e l d a q far
+        (subst (λ (y : Signed). Names s M e l y.statement) (sym own.is) (claim_names i own.msg own.claim own.made)) is)
     | inr b ↦ voted-later s S R M v w g later mv.strings d a q (g.voted x d a q b ok is)
   ]
 
@@ -215,4 +235,18 @@ module _ {Msg : Type 0} (s : Setup) (S : Scheme) (R : Rules) (M : Module Msg) (s
   ]
 
   pub good-moved : Good s R M w S
-  good-moved = record { reached = reached'; inv = inv'; unborn = unborn'; judged = judged'; sent = sent'; signed = signed'; strings = strings'; adopted = adopted'; voted = voted'; hashed = hashed'; spelled = spelled'; root = mv.strings [] g.root }
+  good-moved = record {
+    reached = reached';
+    inv = inv';
+    unborn = unborn';
+    judged = judged';
+    sent = sent';
+    signed = signed';
+    strings = strings';
+    adopted =
+        adopted';
+    voted = voted';
+    hashed = hashed';
+    spelled = spelled';
+    root = mv.strings [] g.root;
+  }

@@ -29,7 +29,8 @@ in-before n a b z x h i =
     let y : Extends a (oldest n b) = rw x.1 (oldest-holds n x.0 a h) in
     rw y.1 (log_ids-extends z y.0 a i)
 
-module _ {Msg : Type 0} (s : Setup) (S : Scheme) (R : Rules) (M : Module Msg) (safe : IsSafe M) (sound : IsSoundRules s M R) (w : Cluster Msg) (sep : Separate (Among w.strings)) (g : Good s R M w S) where
+module _ {Msg : Type 0} (s : Setup) (S : Scheme) (R : Rules) (M : Module Msg) (safe : IsSafe M) (sound : IsSoundRules s M R) (w : Cluster Msg)
+    (sep : Separate (Among w.strings)) (g : Good s R M w S) where
   abbrev at : List Value → Slot
   at older = record { 0 = length older }
 
@@ -52,19 +53,24 @@ module _ {Msg : Type 0} (s : Setup) (S : Scheme) (R : Rules) (M : Module Msg) (s
   left_over : (older : List Value) (i : ℕ) → is_correct (params_at R older).setup i ≡ true → is_correct s i ≡ true
   left_over older i ok = subst (λ (t : Setup). is_correct t i ≡ true) (sound.setup (before_at R older) (epoch_at R older) (leader_at R older)) ok
 
-  pub taken : (older : List Value) (b : Batch) → Stands older (Holds b) → (j : ℕ) (n : Slot) (c : Batch) → is_correct s j ≡ true → delivered M (params_at R older) j ((w.pasts j).evidence (epoch_at R older) (leader_at R older)) n.0 ≡ Some (Holds c) → Taken older (at older) n b c
+  pub taken : (older : List Value) (b : Batch) → Stands older (Holds b) → (j : ℕ) (n : Slot) (c : Batch) → is_correct s j ≡ true →
+      delivered M (params_at R older) j ((w.pasts j).evidence (epoch_at R older) (leader_at R older)) n.0 ≡ Some (Holds c) → Taken older (at older) n b c
   taken older b st j n c okj h =
       let e = epoch_at R older in
       let l = leader_at R older in
       let i = st.is.node in
       let db = in-world s S R M safe sound w sep g older i st.is.correct (length older) (Holds b) st.is.is in
       let dc = in-world s S R M safe sound w sep g older j okj n.0 (Holds c) h in
-      let sh : SharedAcceptor (params_at R older) (world_of s w.pasts e l) (at older) b n c = (placed s S R M safe sound w sep g older (Holds b) st.is).shared i j (at older) n b c (right s S R M safe sound w sep g older i st.is.correct) (right s S R M safe sound w sep g older j okj) db dc in
+      let sh : SharedAcceptor (params_at R older) (world_of s w.pasts e l) (at older) b n c =
+      (placed s S R M safe sound w sep g older (Holds b) st.is).shared i j (at older) n b c (right s S R M safe sound w sep g older i st.is.correct)
+      (right s S R M safe sound w sep g older j okj) db dc in
       let ok : is_correct s sh.node ≡ true = left_over older sh.node sh.correct in
       let first : In {A = Slot × Batch} (at older, b) (accepts ((w.pasts sh.node).evidence e l)) = rw (world-at s w e l sh.node ok) at sh.first in
       let second : In {A = Slot × Batch} (n, c) (accepts ((w.pasts sh.node).evidence e l)) = rw (world-at s w e l sh.node ok) at sh.second in
-      let ek : e ≤ (w.pasts sh.node).epoch = elim (leb_tells e (w.pasts sh.node).epoch) [ inl q ↦ q.1 | inr q ↦ absurd (rw (g.unborn sh.node e l ok q.1) at first) ] in
-      let start : before R M sh.node (w.pasts sh.node) e ≡ before_at R older = before-true s S R M safe sound w sep g sh.node ok e ek older st.log (epoch-low R older) in
+      let ek : e ≤ (w.pasts sh.node).epoch =
+      elim (leb_tells e (w.pasts sh.node).epoch) [ inl q ↦ q.1 | inr q ↦ absurd (rw (g.unborn sh.node e l ok q.1) at first) ] in
+      let start : before R M sh.node (w.pasts sh.node) e ≡ before_at R older =
+      before-true s S R M safe sound w sep g sh.node ok e ek older st.log (epoch-low R older) in
       record { node = sh.node; correct = ok; begun = ek; start = start; judged = rw start at (g.judged sh.node e l ok ek); first = first; second = second }
 
   -- a batch of the log was accepted by a correct node, over what stands before its epoch
@@ -82,7 +88,17 @@ module _ {Msg : Type 0} (s : Setup) (S : Scheme) (R : Rules) (M : Module Msg) (s
   valid older b st =
       let t : Taken older (at older) (at older) b b = taken older b st st.is.node (at older) b st.is.correct st.is.is in
       let a = entry-judged R (before_at R older) (epoch_at R older) (leader_at R older) _ t.judged (at older, b) t.first in
-      record { node = t.node; correct = t.correct; start = t.start; newer = a.0; earlier = a.1; held = a.2; judged = a.3; is = accepted R (before_at R older) (epoch_at R older) (leader_at R older) (marks a.1) b a.3 }
+      record {
+        node = t.node;
+        correct = t.correct;
+        start = t.start;
+        newer = a.0;
+        earlier = a.1;
+        held = a.2;
+        judged = a.3;
+        is =
+            accepted R (before_at R older) (epoch_at R older) (leader_at R older) (marks a.1) b a.3;
+      }
 
   owned : (older : List Value) (b : Batch) → Valid older b → (z : ReqId) → In z (ids b) → R.owner (before_at R older) (epoch_at R older) z ≡ leader_at R older
   owned older b v = owner-of R (before_at R older) (epoch_at R older) (leader_at R older) (marks v.earlier) b v.is
@@ -108,7 +124,8 @@ module _ {Msg : Type 0} (s : Setup) (S : Scheme) (R : Rules) (M : Module Msg) (s
   ]
 
   -- the value over `low`, in the same epoch, has another batch
-  same-epoch : (older low : List Value) (b c : Batch) (z : ReqId) → Stands older (Holds b) → Stands low (Holds c) → length low < length older → Extends low older → epoch_at R low ≡ epoch_at R older → In z (ids b) → In z (ids c) → ⊥
+  same-epoch : (older low : List Value) (b c : Batch) (z : ReqId) → Stands older (Holds b) → Stands low (Holds c) → length low < length older →
+      Extends low older → epoch_at R low ≡ epoch_at R older → In z (ids b) → In z (ids c) → ⊥
   same-epoch older low b c z st sl lt x ee zb zc =
       let e = epoch_at R older in
       let bf : before_at R low ≡ before_at R older = before-same R sound.some_slots low older x ee in
@@ -116,12 +133,16 @@ module _ {Msg : Type 0} (s : Setup) (S : Scheme) (R : Rules) (M : Module Msg) (s
       let vc : Valid low c = valid low c sl in
       let ob : R.owner (before_at R older) e z ≡ leader_at R older = owned older b vb z zb in
       let oc : R.owner (before_at R low) (epoch_at R low) z ≡ leader_at R low = owned low c vc z zc in
-      let oc1 : R.owner (before_at R older) e z ≡ leader_at R low = subst (λ (n : ℕ). R.owner (before_at R older) n z ≡ leader_at R low) ee (subst (λ (k : List Value). R.owner k (epoch_at R low) z ≡ leader_at R low) bf oc) in
+      let oc1 : R.owner (before_at R older) e z ≡ leader_at R low =
+      subst (λ (n : ℕ). R.owner (before_at R older) n z ≡ leader_at R low) ee
+      (subst (λ (k : List Value). R.owner k (epoch_at R low) z ≡ leader_at R low) bf oc) in
       let ll : leader_at R low ≡ leader_at R older = sym oc1 ∙ ob in
       let j = sl.is.node in
       let P1 : List Value → ℕ → ℕ → Type 0 = λ k n l. delivered M (R.params k n l) j ((w.pasts j).evidence n l) (length low) ≡ Some (Holds c) in
       let d0 : P1 (before_at R low) (epoch_at R low) (leader_at R low) = sl.is.is in
-      let d1 : P1 (before_at R older) e (leader_at R older) = subst (λ (l : ℕ). P1 (before_at R older) e l) ll (subst (λ (n : ℕ). P1 (before_at R older) n (leader_at R low)) ee (subst (λ (k : List Value). P1 k (epoch_at R low) (leader_at R low)) bf d0)) in
+      let d1 : P1 (before_at R older) e (leader_at R older) =
+      subst (λ (l : ℕ). P1 (before_at R older) e l) ll
+      (subst (λ (n : ℕ). P1 (before_at R older) n (leader_at R low)) ee (subst (λ (k : List Value). P1 k (epoch_at R low) (leader_at R low)) bf d0)) in
       let t : Taken older (at older) (at low) b c = taken older b st j (at low) c sl.is.correct d1 in
       one-slot R (before_at R older) e (leader_at R older) _ t.judged (at older, b) (at low, c) t.first t.second (λ q. absurd (omega (arith, q, lt))) z zb zc
 
@@ -137,7 +158,9 @@ module _ {Msg : Type 0} (s : Setup) (S : Scheme) (R : Rules) (M : Module Msg) (s
             same-epoch older f.older b f.batch z st f.stands len x (omega (arith, mono, t.1)) zb f.within
         | inr t ↦
             let below : length f.older < start_of R older (epoch_at R older) = epoch-below R sound.some_slots f.older older x t.1 in
-            unordered-of R (before_at R older) (epoch_at R older) (leader_at R older) (marks vb.earlier) b vb.is z zb (in-before (start_of R older (epoch_at R older)) (Holds f.batch ∷ f.older) older z f.part below (in_left z (ids f.batch) (log_ids f.older) f.within))
+            unordered-of R (before_at R older) (epoch_at R older) (leader_at R older) (marks vb.earlier) b vb.is z zb
+            (in-before (start_of R older (epoch_at R older)) (Holds f.batch ∷ f.older) older z f.part below
+            (in_left z (ids f.batch) (log_ids f.older) f.within))
       ]
 
   pub once : (log : List Value) → IsTrueLog s R M w.pasts log → Once log

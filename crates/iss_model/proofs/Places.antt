@@ -17,9 +17,8 @@ use Rattle.iss_sb.specs.Laws.{IsLawful}
 use Rattle.iss_model.specs.declared.causes.NodeEvent.{NodeEvent}
 use Rattle.iss_model.specs.declared.causes.NodeEvent.TheVariants.{Packet as Gets, Propose as Proposes, Timeout as Fires}
 use Rattle.iss_model.specs.declared.causes.Refusal.{Refusal}
-use Rattle.iss_model.specs.declared.causes.Why.{Why}
-use Rattle.iss_model.specs.declared.causes.Why.TheVariants.{BadRequest, EarlyFull, Known, NoKeys, NotLeader, OtherEpoch, OutOfWindow}
-use Rattle.iss_model.specs.Node.{Body, Core, Dropped, Early, early_most, is_known, onward, Formats, OfModule, OfRequest, Parcel, Stepped, Taken, Turn, at_instance, by_verdict, casts_at, ended, first_slot, flown, flying, has_leaves, in_next_epoch, inputs, is_castable, is_mine, is_nil_at, joined, keeps_early, next_slot, returned, rests, settled, settles, step, takes_bytes, takes_each, takes_early, takes_parcel, takes_request, tried, verdict_in}
+use Rattle.iss_model.specs.declared.causes.Why.TheVariants.{BadClaim, BadRequest, EarlyFull, Known, NoKeys, NotLeader, OtherEpoch, OutOfWindow}
+use Rattle.iss_model.specs.Node.{Body, Core, Dropped, Early, early_most, is_known, onward, Formats, OfModule, OfRequest, Parcel, Stepped, Taken, Turn, at_instance, by_verdict, casts_at, ended, flown, flying, has_leaves, in_next_epoch, inputs, is_castable, is_mine, is_nil_at, joined, keeps_early, next_slot, returned, rests, settled, settles, step, takes_bytes, takes_each, takes_early, takes_parcel, takes_request, tried, verdict_in, all_verify, claims_of_input}
 use Rattle.iss_model.specs.Past.{Past, advanced, before, before_own, cut_at, is_complete, leads_in, log_of, made_in, params_of, start_of, taken_in, takes}
 use Rattle.iss_model.specs.Rules.{Rules}
 use Rattle.iss_model.proofs.Casts.{cast-asked, log_ids-joined, slot-passes}
@@ -98,7 +97,8 @@ module _ {Msg : Type 0} (R : Rules) (M : Module Msg) (i : ℕ) where
   keeps-trans c d e a f = let b = f a.filed in record { filed = b.filed; kept = λ x k. b.kept x (a.kept x k) }
 
   -- later casts and gone identities are still that
-  cast-later : (c d : Past Msg) → Later R c d → start_of R (log_of R M i c) c.epoch ≤ length (log_of R M i c) → (e : ℕ) → e ≤ c.epoch → (f : Slot × Batch) → WasCast c e f → WasCast d e f
+  cast-later : (c d : Past Msg) → Later R c d → start_of R (log_of R M i c) c.epoch ≤ length (log_of R M i c) → (e : ℕ) → e ≤ c.epoch → (f : Slot × Batch) →
+      WasCast c e f → WasCast d e f
   cast-later c d later reached e le f h =
       let far : start_of R (log_of R M i c) e ≤ length (log_of R M i c) = le_trans (start-mono R (log_of R M i c) e c.epoch le) reached in
       let g = evidence-later R c d later e i in
@@ -167,7 +167,8 @@ module _ {Msg : Type 0} (R : Rules) (M : Module Msg) (i : ℕ) where
       open_slot = λ f h. (in-flying (length log) flight f h).1;
     }
 
-    refile-kept : ((f : Slot × Batch) → In f flight → WasCast new new.epoch f) → (x : ReqId) → IsPlaced old waiting flight x → IsPlaced new (left ++ back) (flying (length log) flight) x
+    refile-kept : ((f : Slot × Batch) → In f flight → WasCast new new.epoch f) → (x : ReqId) → IsPlaced old waiting flight x →
+        IsPlaced new (left ++ back) (flying (length log) flight) x
     refile-kept cast x (inl a) = inl (in-longer x before_log log grown a)
     refile-kept cast x (inr (inl a)) = elim (absent-or gone waiting x a) [
       | inl y ↦ inl (joined-in x before_log log grown y)
@@ -177,13 +178,15 @@ module _ {Msg : Type 0} (R : Rules) (M : Module Msg) (i : ℕ) where
       | inl y ↦ elim (absent-or (log_ids log) (returned log flight) x y) [ inl z ↦ inl z | inr z ↦ inr (inl (ids-right x left back z)) ]
       | inr y ↦ elim y [
         | inl z ↦ inr (inr (inl z))
-        | inr z ↦ inr (inr (inr (record { epoch = new.epoch; begun = omega arith; entry = z.entry; cast = cast z.entry z.flew; within = z.within; low = z.low; is = z.is })))
+        | inr z ↦ inr (inr (inr
+            (record { epoch = new.epoch; begun = omega arith; entry = z.entry; cast = cast z.entry z.flew; within = z.within; low = z.low; is = z.is })))
       ]
     ]
     refile-kept cast x (inr (inr (inr a))) = inr (inr (inr (gone-later old new later reached x a)))
 
   module _ (F : Formats Msg) where
-    takes-unborn : (c : Past Msg) (l : ℕ) (input : Input Msg) (leaf : ℕ) → ((e k : ℕ) → c.epoch < e → c.evidence e k ≡ []) → (e k : ℕ) → c.epoch < e → (takes R M i c l input leaf).evidence e k ≡ []
+    takes-unborn : (c : Past Msg) (l : ℕ) (input : Input Msg) (leaf : ℕ) → ((e k : ℕ) → c.epoch < e → c.evidence e k ≡ []) → (e k : ℕ) → c.epoch < e →
+        (takes R M i c l input leaf).evidence e k ≡ []
     takes-unborn c l input leaf h e k lt = set_at2-other c.evidence c.epoch l _ e k (inl (omega (arith, lt))) ∙ h e k lt
 
     -- an input
@@ -191,16 +194,20 @@ module _ {Msg : Type 0} (R : Rules) (M : Module Msg) (i : ℕ) where
     inputs-keep c l input h =
         let new : Past Msg = takes R M i c.past l input c.leaf in
         let later : Later R c.past new = takes-later R M i c.past l input c.leaf h.settled in
-        let cast : (f : Slot × Batch) → In f c.flight → WasCast new new.epoch f = λ f k. cast-later c.past new later h.reached c.past.epoch (omega arith) f (h.cast f k) in
+        let cast : (f : Slot × Batch) → In f c.flight → WasCast new new.epoch f =
+        λ f k. cast-later c.past new later h.reached c.past.epoch (omega arith) f (h.cast f k) in
         record {
-          filed = refile-filed c.past new c.waiting c.flight later refl h.reached (record { all = h.settled.all }) (takes-unborn c.past l input c.leaf h.unborn) h.waiting_once h.flight_once h.apart h.unlogged cast;
+          filed = refile-filed c.past new c.waiting c.flight later refl h.reached (record { all = h.settled.all })
+              (takes-unborn c.past l input c.leaf h.unborn) h.waiting_once h.flight_once h.apart h.unlogged cast;
           kept = refile-kept c.past new c.waiting c.flight later refl h.reached cast;
         }
 
     -- the end of an epoch
     module _ (seg : HasSegments R) where
       whole : (c : Past Msg) → is_complete R M i c ≡ true → start_of R (log_of R M i c) (suc c.epoch) ≤ length (log_of R M i c)
-      whole c complete = elim (leb_tells (start_of R (log_of R M i c) (suc c.epoch)) (length (log_of R M i c))) [ inl y ↦ y.1 | inr y ↦ absurd (true≢false (sym complete ∙ y.0)) ]
+      whole c complete =
+          elim (leb_tells (start_of R (log_of R M i c) (suc c.epoch)) (length (log_of R M i c)))
+          [ inl y ↦ y.1 | inr y ↦ absurd (true≢false (sym complete ∙ y.0)) ]
 
       -- nothing is in flight any more
       none-flies : (c : Core Msg) → FiledCore c → is_complete R M i c.past ≡ true → (f : Slot × Batch) → In f c.flight → ⊥
@@ -217,7 +224,8 @@ module _ {Msg : Type 0} (R : Rules) (M : Module Msg) (i : ℕ) where
 
       pub end-keeps : (c : Core Msg) → FiledCore c → is_complete R M i c.past ≡ true → Keeps c (in_next_epoch c)
       end-keeps c h complete =
-          let same : log_of R M i (advanced c.past) ≡ log_of R M i c.past = advanced-log R seg.slots M i c.past (record { evidence = h.unborn; adopted = h.settled.all }) in
+          let same : log_of R M i (advanced c.past) ≡ log_of R M i c.past =
+          advanced-log R seg.slots M i c.past (record { evidence = h.unborn; adopted = h.settled.all }) in
           record {
             filed = record {
               settled = record { all = λ d k v q. let lt = h.settled.all d k v q in omega (arith, lt) };
@@ -250,7 +258,8 @@ module _ {Msg : Type 0} (R : Rules) (M : Module Msg) (i : ℕ) where
       pub at-inputs : (c : Core Msg) (l : ℕ) (input : Input Msg) (t : Turn Msg) → at_instance F R M i c l input ≡ Taken t → t ≡ inputs F R M i c l input
       at-inputs c l input t h =
           let a = undropped (not (leads_in R M i c.past l)) NotLeader _ t h in
-          let b = undropped (not (has_leaves M (params_of R M i c.past l) c.leaf)) NoKeys _ t a.1 in
+          let v = undropped (not (all_verify R (claims_of_input M (params_of R M i c.past l) input))) BadClaim _ t a.1 in
+          let b = undropped (not (has_leaves M (params_of R M i c.past l) c.leaf)) NoKeys _ t v.1 in
           judged (verdict_in R M i c.past l input) b.1
         where
           judged : (v : Option Refusal) → by_verdict v (inputs F R M i c l input) ≡ Taken t → t ≡ inputs F R M i c l input
@@ -268,10 +277,12 @@ module _ {Msg : Type 0} (R : Rules) (M : Module Msg) (i : ℕ) where
       each-keeps e [] c h = keeps-refl c h
       each-keeps e (x ∷ xs) c h =
           let input : Input Msg = Receive (record { 0 = x.from }) x.msg in
-          let first : Keeps c (takes_early F R M i c x).core = ended-keeps c (tried c (at_instance F R M i c x.leader input)) (tried-keeps c x.leader input h) in
+          let first : Keeps c (takes_early F R M i c x).core =
+          ended-keeps c (tried c (at_instance F R M i c x.leader input)) (tried-keeps c x.leader input h) in
           go (each-keeps e xs (takes_early F R M i c x).core) first (eqb c.past.epoch e)
         where
-          go : (FiledCore (takes_early F R M i c x).core → Keeps (takes_early F R M i c x).core (takes_each F R M i e xs (takes_early F R M i c x).core).core) → Keeps c (takes_early F R M i c x).core →
+          go : (FiledCore (takes_early F R M i c x).core →
+              Keeps (takes_early F R M i c x).core (takes_each F R M i e xs (takes_early F R M i c x).core).core) → Keeps c (takes_early F R M i c x).core →
               (b : Bool) → Keeps c (cond b (onward (takes_early F R M i c x) (takes_each F R M i e xs)) (rests c)).core
           go ih first true = keeps-trans c (takes_early F R M i c x).core _ first ih
           go ih first false = keeps-refl c h
@@ -282,11 +293,14 @@ module _ {Msg : Type 0} (R : Rules) (M : Module Msg) (i : ℕ) where
           e : ℕ
           e = suc t.core.past.epoch
 
-          go : (b : Bool) → is_complete R M i t.core.past ≡ b → Keeps c (cond b (onward (record t { core = in_next_epoch t.core }) (takes_each F R M i e t.core.early)) t).core
-          go true q = keeps-trans c (in_next_epoch t.core) _ (keeps-trans c t.core (in_next_epoch t.core) h (λ f. end-keeps t.core f q)) (λ f. each-keeps e t.core.early (in_next_epoch t.core) f)
+          go : (b : Bool) → is_complete R M i t.core.past ≡ b →
+              Keeps c (cond b (onward (record t { core = in_next_epoch t.core }) (takes_each F R M i e t.core.early)) t).core
+          go true q = keeps-trans c (in_next_epoch t.core) _ (keeps-trans c t.core (in_next_epoch t.core) h (λ f. end-keeps t.core f q))
+              (λ f. each-keeps e t.core.early (in_next_epoch t.core) f)
           go false q = h
 
-      settled-keeps : (c : Core Msg) (l : ℕ) (input : Input Msg) (t : Turn Msg) → FiledCore c → settled F R M i (at_instance F R M i c l input) ≡ Taken t → Keeps c t.core
+      settled-keeps : (c : Core Msg) (l : ℕ) (input : Input Msg) (t : Turn Msg) → FiledCore c → settled F R M i (at_instance F R M i c l input) ≡ Taken t →
+          Keeps c t.core
       settled-keeps c l input t h = go (at_instance F R M i c l input) refl
         where
           go : (o : Stepped Msg) → at_instance F R M i c l input ≡ o → settled F R M i o ≡ Taken t → Keeps c t.core
@@ -305,10 +319,15 @@ module _ {Msg : Type 0} (R : Rules) (M : Module Msg) (i : ℕ) where
               settled = h.settled;
               unborn = h.unborn;
               reached = h.reached;
-              waiting_once = ids-once c.waiting (q ∷ []) h.waiting_once (λ k. k, tt) (λ x y. elim [ inl e ↦ not-has q.id (ids c.waiting) a.0 (rw (← e) y) | inr k ↦ absurd k ]);
+              waiting_once = ids-once c.waiting (q ∷ []) h.waiting_once (λ k. k, tt)
+                  (λ x y. elim [ inl e ↦ not-has q.id (ids c.waiting) a.0 (rw (← e) y) | inr k ↦ absurd k ]);
               flight_once = h.flight_once;
-              apart = λ x y f. elim (ids-append x c.waiting (q ∷ []) y) [ inl k ↦ h.apart x k f | inr k ↦ elim k [ inl e ↦ not-has q.id (flown c.flight) b.0 (rw (← e) f) | inr z ↦ absurd z ] ];
-              unlogged = λ x y g. elim (ids-append x c.waiting (q ∷ []) y) [ inl k ↦ h.unlogged x k g | inr k ↦ elim k [ inl e ↦ not-has q.id (log_ids (log_of R M i c.past)) b.1 (rw (← e) g) | inr z ↦ absurd z ] ];
+              apart = λ x y f.
+                  elim (ids-append x c.waiting (q ∷ []) y)
+                  [ inl k ↦ h.apart x k f | inr k ↦ elim k [ inl e ↦ not-has q.id (flown c.flight) b.0 (rw (← e) f) | inr z ↦ absurd z ] ];
+              unlogged = λ x y g.
+                  elim (ids-append x c.waiting (q ∷ []) y)
+                  [ inl k ↦ h.unlogged x k g | inr k ↦ elim k [ inl e ↦ not-has q.id (log_ids (log_of R M i c.past)) b.1 (rw (← e) g) | inr z ↦ absurd z ] ];
               cast = h.cast;
               open_slot = h.open_slot;
             };
@@ -316,7 +335,8 @@ module _ {Msg : Type 0} (R : Rules) (M : Module Msg) (i : ℕ) where
           }
 
       -- a request that was taken waits
-      pub request-waits : (c : Core Msg) (q : Request) (t : Turn Msg) → takes_request R M i c q ≡ Taken t → (is_known R M i c q.id ≡ false) × (t.core ≡ record c { waiting = c.waiting ++ q ∷ [] })
+      pub request-waits : (c : Core Msg) (q : Request) (t : Turn Msg) → takes_request R M i c q ≡ Taken t →
+          (is_known R M i c q.id ≡ false) × (t.core ≡ record c { waiting = c.waiting ++ q ∷ [] })
       request-waits c q t h =
           let a = undropped (not (R.signed q)) BadRequest _ t h in
           let b = undropped (is_known R M i c q.id) Known _ t a.1 in
@@ -346,7 +366,8 @@ module _ {Msg : Type 0} (R : Rules) (M : Module Msg) (i : ℕ) where
           next true k = early-keeps c early t h k
           next false k = absurd (untaken _ t k)
 
-          now : (b : Bool) → cond b (settled F R M i (at_instance F R M i c l input)) (cond (eqb e (suc c.past.epoch)) (keeps_early c early) (Dropped OtherEpoch)) ≡ Taken t → Keeps c t.core
+          now : (b : Bool) → cond b (settled F R M i (at_instance F R M i c l input))
+              (cond (eqb e (suc c.past.epoch)) (keeps_early c early) (Dropped OtherEpoch)) ≡ Taken t → Keeps c t.core
           now true k = settled-keeps c l input t h k
           now false k = next (eqb e (suc c.past.epoch)) k
 
@@ -360,14 +381,19 @@ module _ {Msg : Type 0} (R : Rules) (M : Module Msg) (i : ℕ) where
         open_at c s = not (nat_lt s.0 (length (log_of R M i c.past))) && is_castable M (params_of R M i c.past i) i (taken_in c.past i) c.flight s
 
         -- the slot of a cast is of the segment, not in the log, and not cast
-        free-slot : (c : Core Msg) (s : Slot) → next_slot R M i c ≡ Some s → In s (params_of R M i c.past i).slots × (length (log_of R M i c.past) ≤ s.0) × (is_castable M (params_of R M i c.past i) i (taken_in c.past i) c.flight s ≡ true)
+        free-slot : (c : Core Msg) (s : Slot) → next_slot R M i c ≡ Some s →
+            In s (params_of R M i c.past i).slots × (length (log_of R M i c.past) ≤ s.0) ×
+            (is_castable M (params_of R M i c.past i) i (taken_in c.past i) c.flight s ≡ true)
         free-slot c s q =
             let k = slot-passes (open_at c) (params_of R M i c.past i).slots s q in
             let a = and-true (not (nat_lt s.0 (length (log_of R M i c.past)))) _ k.1 in
-            let far : length (log_of R M i c.past) ≤ s.0 = elim (leb_tells (suc s.0) (length (log_of R M i c.past))) [ inl t ↦ absurd (true≢false (sym t.0 ∙ not-true _ a.0)) | inr t ↦ omega (arith, t.1) ] in
+            let far : length (log_of R M i c.past) ≤ s.0 =
+            elim (leb_tells (suc s.0) (length (log_of R M i c.past)))
+            [ inl t ↦ absurd (true≢false (sym t.0 ∙ not-true _ a.0)) | inr t ↦ omega (arith, t.1) ] in
             (k.0, far, a.1)
 
-        cast-keeps : (c : Core Msg) (s : Slot) → FiledCore c → next_slot R M i c ≡ Some s → Keeps c (inputs F R M i (casting c s) i (Cast s (next_batch c))).core
+        cast-keeps : (c : Core Msg) (s : Slot) → FiledCore c → next_slot R M i c ≡ Some s →
+            Keeps c (inputs F R M i (casting c s) i (Cast s (next_batch c))).core
         cast-keeps c s h q =
             let opens : length (log_of R M i c.past) ≤ s.0 = (free-slot c s q).1 in
             let mine = is_mine R M i c in
@@ -377,11 +403,15 @@ module _ {Msg : Type 0} (R : Rules) (M : Module Msg) (i : ℕ) where
             let flies = c.flight ++ more in
             let new : Past Msg = takes R M i c.past i (Cast s batch) c.leaf in
             let later : Later R c.past new = takes-later R M i c.past i (Cast s batch) c.leaf h.settled in
-            let accepted : (made_in R M i c.past i (Cast s batch) c.leaf).accepted ≡ Some (s, batch) = law.accepted (params_of R M i c.past i) i (taken_in c.past i) (Cast s batch) c.leaf ∙ cast-asked R M i c law s q batch in
+            let accepted : (made_in R M i c.past i (Cast s batch) c.leaf).accepted ≡ Some (s, batch) =
+            law.accepted (params_of R M i c.past i) i (taken_in c.past i) (Cast s batch) c.leaf ∙ cast-asked R M i c law s q batch in
             let fresh : WasCast new new.epoch (s, batch) = record {
-              held = subst (λ (xs : List (Item Msg)). In (s, batch) (accepts xs)) (sym (set_at2-same c.past.evidence c.past.epoch i _)) (rw accepted (inl refl));
-              inside = subst (λ (t : List Value). In s (R.params t c.past.epoch i).slots) (sym (before-later R M i c.past new c.past.epoch later h.reached)) (free-slot c s q).0;
-              begun = let same = start-extends R (log_of R M i c.past) (log_of R M i new) c.past.epoch (log-later R M i c.past new later) h.reached in let far = h.reached in omega (arith, same, far, opens);
+              held = subst (λ (xs : List (Item Msg)). In (s, batch) (accepts xs)) (sym (set_at2-same c.past.evidence c.past.epoch i _))
+                  (rw accepted (inl refl));
+              inside = subst (λ (t : List Value). In s (R.params t c.past.epoch i).slots) (sym (before-later R M i c.past new c.past.epoch later h.reached))
+                  (free-slot c s q).0;
+              begun = let same = start-extends R (log_of R M i c.past) (log_of R M i new) c.past.epoch (log-later R M i c.past new later) h.reached in
+                  let far = h.reached in omega (arith, same, far, opens);
             } in
             let cast : (f : Slot × Batch) → In f flies → WasCast new new.epoch f = λ f k. elim (in_append f c.flight more k) [
               | inl a ↦ cast-later c.past new later h.reached c.past.epoch (omega arith) f (h.cast f a)
@@ -400,10 +430,15 @@ module _ {Msg : Type 0} (R : Rules) (M : Module Msg) (i : ℕ) where
               ])
             ] in
             record {
-              filed = refile-filed c.past new rest flies later refl h.reached (record { all = h.settled.all }) (takes-unborn c.past i (Cast s batch) c.leaf h.unborn)
+              filed = refile-filed c.past new rest flies later refl h.reached (record { all = h.settled.all })
+                  (takes-unborn c.past i (Cast s batch) c.leaf h.unborn)
                   (uncut-once R.batch mine c.waiting h.waiting_once)
                   (flown-once c.flight more h.flight_once once (λ x a b. h.apart x (cut-ids R.batch mine c.waiting x (only x b)) a))
-                  (λ x a b. elim (flown-append x c.flight more b) [ inl y ↦ h.apart x (uncut-ids R.batch mine c.waiting x a) y | inr y ↦ cut-uncut-apart R.batch mine c.waiting h.waiting_once x (only x y) a ])
+                  (λ x a b. elim (flown-append x c.flight more b) [
+                    | inl y ↦ h.apart x (uncut-ids R.batch mine c.waiting x a) y
+                    | inr y ↦ cut-uncut-apart R.batch mine c.waiting h.waiting_once x
+                        (only x y) a
+                  ])
                   (λ x a. h.unlogged x (uncut-ids R.batch mine c.waiting x a)) cast;
               kept = λ x k. refile-kept c.past new rest flies later refl h.reached cast x (kept x k);
             }

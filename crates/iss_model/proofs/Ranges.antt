@@ -1,24 +1,24 @@
--- Events that a cluster may meet happen at its nodes.
+-- Events that a cluster may meet happen at its cores.
 use Rattle.std.proofs.Common.{List, [], ◌∷◌}
 use Rattle.iss_request.specs.declared.setups.Setup.{Setup}
 use Rattle.iss_schedule.specs.Events.{AreInRange, IsInRange}
 use Rattle.iss_schedule.specs.declared.schedules.Event.{Event}
 use Rattle.iss_schedule.specs.declared.schedules.Event.TheVariants.{Request as Asks_order, Propose, Timeout, Deliver, Lose, Pump, Calm, Hold, Free, Drop, Bytes}
-use Rattle.iss_model.specs.Runs.{AreAtNodes, IsAtNode}
+use Rattle.iss_model.specs.Runs.{AreAtCores, IsAtCore}
 
-at-node : (s : Setup) (e : Event) → IsInRange s e → IsAtNode s.n e
-at-node s (Asks_order c client number payload) h = h.0
-at-node s (Propose c) h = h
-at-node s (Timeout c l) h = h.0
-at-node s (Deliver k) h = tt
-at-node s (Lose k) h = tt
-at-node s Pump h = tt
-at-node s (Calm m) h = tt
-at-node s (Hold c) h = tt
-at-node s (Free c) h = tt
-at-node s (Drop c) h = tt
-at-node s (Bytes c bytes) h = tt
+at-core : (s : Setup) (e : Event) → IsInRange s e → IsAtCore s e
+at-core s (Asks_order c client number payload) h = h.0
+at-core s (Propose c) h = h
+at-core s (Timeout c l) h = h.0
+at-core s (Deliver k) h = tt
+at-core s (Lose k) h = tt
+at-core s Pump h = tt
+at-core s (Calm m) h = tt
+at-core s (Hold c) h = tt
+at-core s (Free c) h = tt
+at-core s (Drop c) h = tt
+at-core s (Bytes c bytes) h = tt
 
-pub at-nodes : (s : Setup) (events : List Event) → AreInRange s events → AreAtNodes s.n events
-at-nodes s [] h = tt
-at-nodes s (e ∷ events) h = (at-node s e h.0, at-nodes s events h.1)
+pub at-cores : (s : Setup) (events : List Event) → AreInRange s events → AreAtCores s events
+at-cores s [] h = tt
+at-cores s (e ∷ events) h = (at-core s e h.0, at-cores s events h.1)

@@ -28,10 +28,18 @@ exact-part s S v w sub exact = record {
 module _ {Msg : Type 0} (s : Setup) (S : Scheme) (R : Rules) (M : Module Msg) (safe : IsSafe M) (law : IsLawful M) (sound : IsSoundRules s M R) where
   pub good-reach : (w : Cluster Msg) → IsExact s S w → Separate (Among w.strings) → Reach s S R M w → Good s R M w S
   good-reach w exact sep (begin b) = good-begun s S R M w b
-  good-reach w exact sep (move {v} i l input leaf r mv) = good-moved s S R M safe law sound v w sep (good-reach v (exact-part s S v w mv.old_book exact) (separate-part (Among w.strings) (Among v.strings) mv.strings sep) r) i l input leaf mv
-  good-reach w exact sep (ends {v} i r en) = good-ended s S R M safe sound v w sep (good-reach v (exact-part s S v w en.quiet.old_book exact) (separate-part (Among w.strings) (Among v.strings) en.quiet.strings sep) r) i en
-  good-reach w exact sep (adopt {v} i piece cert r ad) = good-adopted s S R M safe sound v w exact sep (good-reach v (exact-part s S v w ad.quiet.old_book exact) (separate-part (Among w.strings) (Among v.strings) ad.quiet.strings sep) r) i piece cert ad
-  good-reach w exact sep (rest {v} r rs) = good-rested s S R M v w (good-reach v (exact-part s S v w rs.quiet.old_book exact) (separate-part (Among w.strings) (Among v.strings) rs.quiet.strings sep) r) rs
+  good-reach w exact sep (move {v} i l input leaf r mv) =
+      good-moved s S R M safe law sound v w sep
+      (good-reach v (exact-part s S v w mv.old_book exact) (separate-part (Among w.strings) (Among v.strings) mv.strings sep) r) i l input leaf mv
+  good-reach w exact sep (ends {v} i r en) =
+      good-ended s S R M safe sound v w sep
+      (good-reach v (exact-part s S v w en.quiet.old_book exact) (separate-part (Among w.strings) (Among v.strings) en.quiet.strings sep) r) i en
+  good-reach w exact sep (adopt {v} i piece cert r ad) =
+      good-adopted s S R M safe sound v w exact sep
+      (good-reach v (exact-part s S v w ad.quiet.old_book exact) (separate-part (Among w.strings) (Among v.strings) ad.quiet.strings sep) r) i piece cert ad
+  good-reach w exact sep (rest {v} r rs) =
+      good-rested s S R M v w
+      (good-reach v (exact-part s S v w rs.quiet.old_book exact) (separate-part (Among w.strings) (Among v.strings) rs.quiet.strings sep) r) rs
 
   pub ordered : (w : Cluster Msg) → Separate (Among w.strings) → Good s R M w S → Ordered s R M w.pasts
   ordered w sep g = record {

@@ -2,38 +2,45 @@
 use Rattle.std.proofs.Common.{◌≡◌, inl, inr, ℕ, suc, Bool, true, false, cond, eqb, List, [], ◌∷◌, ◌++◌, None, refl, sym, ap, ◌∙◌, subst, append_assoc}
 use Rattle.std.proofs.lemmas.List.{append-nil}
 use Rattle.iss_base.specs.Lists.{In}
-use Rattle.iss_base.proofs.Lists.{is-eq}
+use Rattle.iss_base.proofs.Lists.{in_left, in_right, is-eq}
 use Rattle.iss_sb.specs.declared.effects.Claim.{Claim}
 use Rattle.iss_sb.specs.declared.effects.Input.{Input}
 use Rattle.iss_sb.specs.declared.effects.Input.TheVariants.{Receive}
 use Rattle.iss_sb.specs.declared.effects.To.{To}
 use Rattle.iss_sb.specs.Evidence.{Module}
-use Rattle.iss_model.specs.Node.{Core, Dropped, Early, Formats, Stepped, Taken, Turn, at_instance, ended, has_leaves, in_next_epoch, inputs, onward, rests, settles, takes_each, takes_early, tried, verdict_in}
+use Rattle.iss_model.specs.Node.{Core, Dropped, Early, Formats, Stepped, Taken, Turn, at_instance, ended, has_leaves, in_next_epoch, inputs, onward, rests, settles, takes_each, takes_early, tried, all_verify, claims_in, claims_of_input, verdict_in}
 use Rattle.iss_model.specs.Past.{is_complete, leads_in, params_of}
 use Rattle.iss_model.specs.Rules.{Rules}
 use Rattle.iss_model.proofs.Steps.{IsInput, input-taken}
 
-turn-same : {Msg : Type 0} (c : Core Msg) (a b : List (To × List ℕ)) (d e : List Claim) (f g : List (List ℕ)) → a ≡ b → d ≡ e → f ≡ g →
-    ◌≡◌ {A = Turn Msg} (record { core = c; sends = a; own = d; strings = f }) (record { core = c; sends = b; own = e; strings = g })
-turn-same c a b d e f g p q r =
-    ap (λ (x : List (To × List ℕ)). record { core = c; sends = x; own = d; strings = f }) p
-    ∙ (ap (λ (y : List Claim). record { core = c; sends = b; own = y; strings = f }) q ∙ ap (λ (z : List (List ℕ)). record { core = c; sends = b; own = e; strings = z }) r)
+turn-same : {Msg : Type 0} (c : Core Msg) (a b : List (To × List ℕ)) (d e x y : List Claim) (f g : List (List ℕ)) → a ≡ b → d ≡ e → x ≡ y → f ≡ g →
+    ◌≡◌ {A = Turn Msg} (record { core = c; sends = a; own = d; early = x; strings = f }) (record { core = c; sends = b; own = e; early = y; strings = g })
+turn-same c a b d e x y f g p q o r =
+    ap (λ (z : List (To × List ℕ)). record { core = c; sends = z; own = d; early = x; strings = f }) p
+    ∙ (ap (λ (z : List Claim). record { core = c; sends = b; own = z; early = x; strings = f }) q
+    ∙ (ap (λ (z : List Claim). record { core = c; sends = b; own = e; early = z; strings = f }) o
+    ∙ ap (λ (z : List (List ℕ)). record { core = c; sends = b; own = e; early = y; strings = z }) r))
 
 -- rows may be cut anywhere
 pub onward-rests : {Msg : Type 0} (t : Turn Msg) → onward t rests ≡ t
-onward-rests t = turn-same t.core (t.sends ++ []) t.sends (t.own ++ []) t.own (t.strings ++ []) t.strings (append-nil t.sends) (append-nil t.own) (append-nil t.strings)
+onward-rests t =
+    turn-same t.core (t.sends ++ []) t.sends (t.own ++ []) t.own (t.early ++ []) t.early (t.strings ++ []) t.strings
+    (append-nil t.sends) (append-nil t.own) (append-nil t.early) (append-nil t.strings)
 
 pub onward-onward : {Msg : Type 0} (t : Turn Msg) (f g : Core Msg → Turn Msg) → onward t (λ c. onward (f c) g) ≡ onward (onward t f) g
 onward-onward t f g =
     let u = f t.core in
     let v = g u.core in
-    turn-same v.core (t.sends ++ (u.sends ++ v.sends)) ((t.sends ++ u.sends) ++ v.sends) (t.own ++ (u.own ++ v.own)) ((t.own ++ u.own) ++ v.own) (t.strings ++ (u.strings ++ v.strings)) ((t.strings ++ u.strings) ++ v.strings)
-    (sym (append_assoc t.sends u.sends v.sends)) (sym (append_assoc t.own u.own v.own)) (sym (append_assoc t.strings u.strings v.strings))
+    turn-same v.core (t.sends ++ (u.sends ++ v.sends)) ((t.sends ++ u.sends) ++ v.sends) (t.own ++ (u.own ++ v.own)) ((t.own ++ u.own) ++ v.own)
+    (t.early ++ (u.early ++ v.early)) ((t.early ++ u.early) ++ v.early) (t.strings ++ (u.strings ++ v.strings)) ((t.strings ++ u.strings) ++ v.strings)
+    (sym (append_assoc t.sends u.sends v.sends)) (sym (append_assoc t.own u.own v.own))
+    (sym (append_assoc t.early u.early v.early)) (sym (append_assoc t.strings u.strings v.strings))
 
 module _ {Msg : Type 0} (F : Formats Msg) (R : Rules) (M : Module Msg) (me : ℕ) where
   -- an input that the core takes in the instance of l
   pub record IsFit (c : Core Msg) (l : ℕ) (input : Input Msg) : Type 0 where
     pub leads : leads_in R M me c.past l ≡ true
+    pub claims : all_verify R (claims_of_input M (params_of R M me c.past l) input) ≡ true
     pub leaves : has_leaves M (params_of R M me c.past l) c.leaf ≡ true
     pub judged : verdict_in R M me c.past l input ≡ None
 
@@ -48,17 +55,26 @@ module _ {Msg : Type 0} (F : Formats Msg) (R : Rules) (M : Module Msg) (me : ℕ
   abbrev pub early_input : Early Msg → Input Msg
   early_input x = Receive (record { 0 = x.from }) x.msg
 
+  -- or claims were read in it
+  abbrev pub then_reads : Turn Msg → List Claim → Turn Msg
+  then_reads t claims = record t { early = claims }
+
+  -- what is read of an early message
+  abbrev pub claims_early : Core Msg → Early Msg → List Claim
+  claims_early c x = claims_in R M me c.past x.from x.leader x.msg
+
+  -- An early message may come that was tried, with all its claims among those that the turn read.
   module _ (P : Turn Msg → Type 0) (Comes : Turn Msg → ℕ → Input Msg → Type 0)
       (takes : (t : Turn Msg) (l : ℕ) (input : Input Msg) → P t → IsFit t.core l input → Comes t l input → P (then_takes t l input))
-      (ends : (t : Turn Msg) → P t → is_complete R M me t.core.past ≡ true → P (then_ends t)) where
+      (ends : (t : Turn Msg) → P t → is_complete R M me t.core.past ≡ true → P (then_ends t))
+      (reads : (t : Turn Msg) (claims : List Claim) → P t → P (then_reads t claims)) where
     input-holds : (t : Turn Msg) (l : ℕ) (input : Input Msg) (v : Turn Msg) → P t → Comes t l input → IsInput F R M me t.core l input v → P (onward t (λ c. v))
-    input-holds t l input v h come i = subst (λ (z : Turn Msg). P (onward t (λ c. z))) (sym i.is) (takes t l input h (record { leads = i.leads; leaves = i.leaves; judged = i.judged }) come)
+    input-holds t l input v h come i =
+        let fit : IsFit t.core l input = record { leads = i.leads; claims = i.claims; leaves = i.leaves; judged = i.judged } in
+        subst (λ (z : Turn Msg). P (onward t (λ c. z))) (sym i.is) (takes t l input h fit come)
 
-    -- the first input of an event
-    pub first-holds : (c : Core Msg) (l : ℕ) (input : Input Msg) (v : Turn Msg) → P (rests c) → Comes (rests c) l input → IsInput F R M me c l input v → P v
-    first-holds c l input v h come i = input-holds (rests c) l input v h come i
-
-    tried-holds : (t : Turn Msg) (l : ℕ) (input : Input Msg) → P t → Comes t l input → (o : Stepped Msg) → at_instance F R M me t.core l input ≡ o → P (onward t (λ c. tried c o))
+    tried-holds : (t : Turn Msg) (l : ℕ) (input : Input Msg) → P t → Comes t l input → (o : Stepped Msg) → at_instance F R M me t.core l input ≡ o →
+        P (onward t (λ c. tried c o))
     tried-holds t l input h come (Dropped why) q = subst P (sym (onward-rests t)) h
     tried-holds t l input h come (Taken v) q = input-holds t l input v h come (input-taken F R M me t.core l input v q)
 
@@ -72,21 +88,56 @@ module _ {Msg : Type 0} (F : Formats Msg) (R : Rules) (M : Module Msg) (me : ℕ
     pub early-holds : (t : Turn Msg) (x : Early Msg) → P t → Comes t x.leader (early_input x) → P (onward t (λ c. takes_early F R M me c x))
     early-holds t x h come =
         let o = at_instance F R M me t.core x.leader (early_input x) in
-        ended-holds t (tried t.core o) (tried-holds t x.leader (early_input x) h come o refl)
+        let u : Turn Msg = ended R M me (tried t.core o) in
+        let done : P (onward t (λ c. u)) = ended-holds t (tried t.core o) (tried-holds t x.leader (early_input x) h come o refl) in
+        reads (onward t (λ c. u)) (t.early ++ claims_early t.core x) done
 
     -- what came early, as long as its epoch lasts
-    pub each-holds : (e : ℕ) (xs : List (Early Msg)) (t : Turn Msg) → P t → ((u : Turn Msg) (x : Early Msg) → In x xs → P u → u.core.past.epoch ≡ e → Comes u x.leader (early_input x)) → P (onward t (takes_each F R M me e xs))
+    pub each-holds : (e : ℕ) (xs : List (Early Msg)) (t : Turn Msg) → P t →
+        ((u : Turn Msg) (x : Early Msg) → In x xs → P u → u.core.past.epoch ≡ e →
+        ((y : Claim) → In y (claims_early u.core x) → In y (takes_each F R M me e xs t.core).early) → Comes u x.leader (early_input x)) →
+        P (onward t (takes_each F R M me e xs))
     each-holds e [] t h come = subst P (sym (onward-rests t)) h
-    each-holds e (x ∷ xs) t h come = go (λ u k. each-holds e xs u k (λ v y i. come v y (inr i))) (eqb t.core.past.epoch e) refl
+    each-holds e (x ∷ xs) t h come = go (eqb t.core.past.epoch e) refl (λ u. each-holds e xs u) come
       where
-        go : ((u : Turn Msg) → P u → P (onward u (takes_each F R M me e xs))) → (b : Bool) → eqb t.core.past.epoch e ≡ b → P (onward t (λ c. cond b (onward (takes_early F R M me c x) (takes_each F R M me e xs)) (rests c)))
-        go ih true q = subst P (sym (onward-onward t (λ c. takes_early F R M me c x) (takes_each F R M me e xs))) (ih (onward t (λ c. takes_early F R M me c x)) (early-holds t x h (come t x (inl refl) h (is-eq t.core.past.epoch e q))))
-        go ih false q = subst P (sym (onward-rests t)) h
+        row : Bool → Core Msg → Turn Msg
+        row b c = cond b (onward (takes_early F R M me c x) (takes_each F R M me e xs)) (rests c)
+
+        go : (b : Bool) → eqb t.core.past.epoch e ≡ b →
+            ((u : Turn Msg) → P u → ((v : Turn Msg) (y : Early Msg) → In y xs → P v → v.core.past.epoch ≡ e →
+            ((z : Claim) → In z (claims_early v.core y) → In z (takes_each F R M me e xs u.core).early) → Comes v y.leader (early_input y)) →
+            P (onward u (takes_each F R M me e xs))) →
+            ((u : Turn Msg) (y : Early Msg) → In y (x ∷ xs) → P u → u.core.past.epoch ≡ e →
+            ((z : Claim) → In z (claims_early u.core y) → In z (row b t.core).early) → Comes u y.leader (early_input y)) →
+            P (onward t (row b))
+        go true q ih come =
+            let first : Turn Msg = takes_early F R M me t.core x in
+            let later : Turn Msg = takes_each F R M me e xs first.core in
+            let here : Comes t x.leader (early_input x) = come t x (inl refl) h (is-eq t.core.past.epoch e q) (λ z m. in_left z first.early later.early m) in
+            let done : P (onward t (λ c. first)) = early-holds t x h here in
+            let rest : P (onward (onward t (λ c. first)) (takes_each F R M me e xs)) =
+            ih (onward t (λ c. first)) done (λ v y m k w r. come v y (inr m) k w (λ z i. in_right z first.early later.early (r z i))) in
+            subst P (sym (onward-onward t (λ c. takes_early F R M me c x) (takes_each F R M me e xs))) rest
+        go false q ih come = subst P (sym (onward-rests t)) h
 
     -- the end of an epoch, with all that follows
-    pub settles-holds : (t : Turn Msg) → P t → (is_complete R M me t.core.past ≡ true → (u : Turn Msg) (x : Early Msg) → In x t.core.early → P u → u.core.past.epoch ≡ suc t.core.past.epoch → Comes u x.leader (early_input x)) → P (settles F R M me t)
-    settles-holds t h come = go (is_complete R M me t.core.past) refl
+    pub settles-holds : (t : Turn Msg) → P t →
+        (is_complete R M me t.core.past ≡ true → (u : Turn Msg) (x : Early Msg) → In x t.core.early → P u → u.core.past.epoch ≡ suc t.core.past.epoch →
+        ((y : Claim) → In y (claims_early u.core x) → In y (settles F R M me t).early) → Comes u x.leader (early_input x)) →
+        P (settles F R M me t)
+    settles-holds t h come = go (is_complete R M me t.core.past) refl come
       where
-        go : (b : Bool) → is_complete R M me t.core.past ≡ b → P (cond b (onward (record t { core = in_next_epoch t.core }) (takes_each F R M me (suc t.core.past.epoch) t.core.early)) t)
-        go true q = each-holds (suc t.core.past.epoch) t.core.early (then_ends t) (ends t h q) (come q)
-        go false q = h
+        each : Core Msg → Turn Msg
+        each c = takes_each F R M me (suc t.core.past.epoch) t.core.early c
+
+        row : Bool → Turn Msg
+        row b = cond b (onward (record t { core = in_next_epoch t.core }) (takes_each F R M me (suc t.core.past.epoch) t.core.early)) t
+
+        go : (b : Bool) → is_complete R M me t.core.past ≡ b →
+            (b ≡ true → (u : Turn Msg) (x : Early Msg) → In x t.core.early → P u → u.core.past.epoch ≡ suc t.core.past.epoch →
+            ((y : Claim) → In y (claims_early u.core x) → In y (row b).early) → Comes u x.leader (early_input x)) →
+            P (row b)
+        go true q come =
+            each-holds (suc t.core.past.epoch) t.core.early (then_ends t) (ends t h q)
+            (λ u x m k w r. come refl u x m k w (λ y i. in_right y t.early (each (in_next_epoch t.core)).early (r y i)))
+        go false q come = h

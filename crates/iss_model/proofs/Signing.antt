@@ -36,9 +36,9 @@ use Rattle.iss_model.specs.Past.{Past, log_of, newborn, takes}
 use Rattle.iss_model.specs.Rules.{Rules}
 use Rattle.iss_model.specs.Runs.{IsSetupOf}
 use Rattle.iss_model.proofs.Checkpoints.{exact-of}
-use Rattle.iss_model.proofs.Ends.{correct-below}
 use Rattle.iss_model.proofs.Layouts.{however-signed, sound-rules}
 use Rattle.iss_model.proofs.Reached.{composition}
+use Rattle.iss_model.proofs.Twins.{correct-below}
 
 abbrev pub Word : Type 0
 Word = Slot × Batch
@@ -113,7 +113,8 @@ passes false o x h = absurd (cc)
 asked : (p : Params) (me : ℕ) (input : Input Word) (x : Word) → asks p me input ≡ Some x → In x.0 p.slots
 asked p me (Cast slot batch) x h =
     let k = passes ((me == p.leader.0) && is_slot slot.0 p.slots) (Some (slot, batch)) x h in
-    subst (λ (y : Word). In y.0 p.slots) (some-injective (slot, batch) x k.1) (slot-in slot p.slots (and-true (me == p.leader.0) (is_slot slot.0 p.slots) k.0).1)
+    subst (λ (y : Word). In y.0 p.slots) (some-injective (slot, batch) x k.1)
+    (slot-in slot p.slots (and-true (me == p.leader.0) (is_slot slot.0 p.slots) k.0).1)
 asked p me (Receive from word) x h = absurd (cc)
 asked p me Timeout x h = absurd (cc)
 
@@ -141,7 +142,8 @@ to_all (Some w) k msg n (inl q) = absurd (to_one (ap (λ (x : To × Word). x.0) 
 to_all (Some w) k msg n (inr h) = absurd h
 
 -- a word whose batch is read again is
-pub word-again : (version : ℕ) (s : Slot) (b : Batch) → IsReadAgain (spell_value version) (parse_value version) (Holds b) → IsReadAgain (signing.spell version) (signing.parse version) (s, b)
+pub word-again : (version : ℕ) (s : Slot) (b : Batch) → IsReadAgain (spell_value version) (parse_value version) (Holds b) →
+    IsReadAgain (signing.spell version) (signing.parse version) (s, b)
 word-again version s b h rest = ap (word_in s.0) (h rest)
 
 cast-sent : (t : Bool) (w : Word) (to : To) (msg : Word) → In {A = To × Word} (to, msg) (made_of (cond t (Some w) None)).sends → msg ≡ w
@@ -149,7 +151,8 @@ cast-sent true w to msg (inl q) = ap (λ (x : To × Word). x.1) q
 cast-sent true w to msg (inr none) = absurd none
 cast-sent false w to msg h = absurd h
 
-pub sent-again : (p : Params) (me : ℕ) (i : Input Word) (to : To) (msg : Word) → IsHeard signing p i → In {A = To × Word} (to, msg) (made_of (asks p me i)).sends → IsReadMessage signing p msg
+pub sent-again : (p : Params) (me : ℕ) (i : Input Word) (to : To) (msg : Word) → IsHeard signing p i →
+    In {A = To × Word} (to, msg) (made_of (asks p me i)).sends → IsReadMessage signing p msg
 sent-again p me (Cast slot batch) to msg heard h =
     let is = cast-sent ((me == p.leader.0) && is_slot slot.0 p.slots) (slot, batch) to msg h in
     subst (λ (w : Word). IsReadMessage signing p w) (sym is) (word-again p.setup.version slot batch heard)
@@ -166,7 +169,8 @@ lawful = record {
   casts = λ p me xs s b x h. sym (some-injective (s, b) x (passes ((me == p.leader.0) && is_slot s.0 p.slots) (Some (s, b)) x h).1);
   castable = λ p me xs s b c h. open_to_any ((me == p.leader.0) && is_slot s.0 p.slots) s b c h;
   asked_within = λ p me xs i x h. asked p me i x h;
-  decided_within = λ p me xs s x h. slot-in s p.slots (and-true (me == p.leader.0) (is_slot s.0 p.slots) (passes ((me == p.leader.0) && is_slot s.0 p.slots) (found s.0 (accepts xs)) x h).0).1;
+  decided_within = λ p me xs s x h. slot-in s p.slots
+      (and-true (me == p.leader.0) (is_slot s.0 p.slots) (passes ((me == p.leader.0) && is_slot s.0 p.slots) (found s.0 (accepts xs)) x h).0).1;
   addressed = λ p me xs i leaf k msg good fits h. to_all (asks p me i) k msg p.setup.n h;
   read_again = λ p me xs i leaf to msg good low heard came h. sent-again p me i to msg came h;
   few = λ p good. omega arith;
@@ -180,7 +184,8 @@ found-in s (x ∷ xs) b h = go (eqb x.0.0 s.0) refl h (found-in s xs b)
     same : (c : Batch) → Some (Holds c) ≡ Some (Holds b) → c ≡ b
     same c e = cc
 
-    go : (t : Bool) → eqb x.0.0 s.0 ≡ t → cond t (Some (Holds x.1)) (found s.0 xs) ≡ Some (Holds b) → (found s.0 xs ≡ Some (Holds b) → In {A = Word} (s, b) xs) → In {A = Word} (s, b) (x ∷ xs)
+    go : (t : Bool) → eqb x.0.0 s.0 ≡ t → cond t (Some (Holds x.1)) (found s.0 xs) ≡ Some (Holds b) →
+        (found s.0 xs ≡ Some (Holds b) → In {A = Word} (s, b) xs) → In {A = Word} (s, b) (x ∷ xs)
     go true q k ih = inl (ap₂ (λ (n : ℕ) (c : Batch). (record { 0 = n }, c)) (sym (is-eq x.0.0 s.0 q)) (sym (same x.1 k)))
     go false q k ih = inr (ih k)
 
@@ -189,10 +194,12 @@ delivers-leader : (p : Params) (me : ℕ) (xs : List (Item Word)) (s : ℕ) (v :
 delivers-leader p me [] s v h = absurd (cc)
 delivers-leader p me (x ∷ xs) s v h = elim (first-cases (delivered signing p me xs s) (signing.decided p me (x ∷ xs) s) v h) [
   | inl a ↦ delivers-leader p me xs s v a
-  | inr a ↦ is-eq me p.leader.0 (and-true (eqb me p.leader.0) (is_slot s p.slots) (passes (eqb me p.leader.0 && is_slot s p.slots) (found s (accepts (x ∷ xs))) v a.1).0).0
+  | inr a ↦ is-eq me p.leader.0
+      (and-true (eqb me p.leader.0) (is_slot s p.slots) (passes (eqb me p.leader.0 && is_slot s p.slots) (found s (accepts (x ∷ xs))) v a.1).0).0
 ]
 
-delivers-accepted : (p : Params) (me : ℕ) (xs : List (Item Word)) (s : Slot) (b : Batch) → delivered signing p me xs s.0 ≡ Some (Holds b) → In {A = Word} (s, b) (accepts xs)
+delivers-accepted : (p : Params) (me : ℕ) (xs : List (Item Word)) (s : Slot) (b : Batch) → delivered signing p me xs s.0 ≡ Some (Holds b) →
+    In {A = Word} (s, b) (accepts xs)
 delivers-accepted p me [] s b h = absurd (cc)
 delivers-accepted p me (x ∷ xs) s b h = elim (first-cases (delivered signing p me xs s.0) (signing.decided p me (x ∷ xs) s.0) (Holds b) h) [
   | inl a ↦ in_right (s, b) (one_or_none x.made.accepted) (accepts xs) (delivers-accepted p me xs s b a)
@@ -213,7 +220,8 @@ gives p w = record {
         first = delivers-accepted p i (w i) s b hi;
         second = subst (λ (n : ℕ). In {A = Word} (t, c) (accepts (w n))) q (delivers-accepted p j (w j) t c hj);
       };
-  integrity = λ i s b okl oki h. subst (λ (n : ℕ). In {A = Word} (s, b) (accepts (w n))) (delivers-leader p i (w i) s.0 (Holds b) h) (delivers-accepted p i (w i) s b h);
+  integrity = λ i s b okl oki h. subst (λ (n : ℕ). In {A = Word} (s, b) (accepts (w n))) (delivers-leader p i (w i) s.0 (Holds b) h)
+      (delivers-accepted p i (w i) s b h);
 }
 
 pub safe : IsSafe signing
@@ -222,7 +230,24 @@ safe p w good reached sep = gives p w
 -- a cluster of one node, whose epochs have one slot
 
 abbrev pub alone : Setup
-alone = record { version = 1; «module» = 9; f = 0; epoch = 1; buckets = 1; batch = 4; window = 8; policy = Simple; clients = 1; keys = 4; faulty = []; n = 1; quorum = 1; kind = Byzantine; tag = replicate 32 67 }
+alone = record {
+  version = 1;
+  «module» = 9;
+  f = 0;
+  epoch = 1;
+  buckets = 1;
+  batch = 4;
+  window = 8;
+  policy = Simple;
+  clients = 1;
+  keys = 4;
+  faulty = [];
+  n =
+      1;
+  quorum = 1;
+  kind = Byzantine;
+  tag = replicate 32 67;
+}
 
 pub setup-good : IsGoodSetup alone
 setup-good = record {
@@ -302,7 +327,8 @@ begun : Reach alone S R signing first_net
 begun = begin (record { pasts = λ j ok. refl; messages = λ k h. h; book = λ x h. h; root = inl refl })
 
 cast-spelled : S.spells (Holds batch) ≡ true
-unfolding parse_value parse_rest parse_batch parse_count count_field spell_count parse_request parse_payload parse_signature spell_value spell_batch spell_request ◌>>=◌ such_that byte number block digests times done
+unfolding parse_value parse_rest parse_batch parse_count count_field spell_count parse_request parse_payload parse_signature spell_value spell_batch
+    spell_request ◌>>=◌ such_that byte number block digests times done
 cast-spelled = refl
 
 the-cast : Moved alone S R signing first_net second_net 0 0 casts 0
@@ -315,7 +341,16 @@ the-cast = record {
   other = λ j ne. set_at-other first_net.pasts 0 after_cast j ne;
   messages = λ st k h. absurd h;
   book = λ x h. elim h [
-    | inl q ↦ inl (record { to = To_all; msg = (slot, batch); sent = inl refl; claim = claim_of (R.params [] 0 0) 0 (slot, batch); made = inl refl; by = refl; is = q })
+    | inl q ↦ inl (record {
+      to = To_all;
+      msg = (slot, batch);
+      sent = inl refl;
+      claim = claim_of (R.params [] 0 0) 0 (slot, batch);
+      made = inl refl;
+      by =
+          refl;
+      is = q;
+    })
     | inr none ↦ absurd none
   ];
   old_book = λ x h. absurd h;
@@ -393,4 +428,9 @@ vote-booked = (inl refl, refl)
 
 -- what holds of every cluster that moves lead to holds of this one, whose log is one batch
 pub alone-ordered : Ordered alone R signing third_net.pasts × (log_of R signing 0 (third_net.pasts 0) ≡ Holds batch ∷ [])
-alone-ordered = (composition alone S R signing safe lawful (however-signed signing alone (rules_of alone) R.signed (sound-rules signing alone setup-of)) third_net (exact-of alone setup-good third_net) separate reached, log-end)
+alone-ordered = (
+  composition alone S R signing safe lawful
+      (however-signed signing alone (rules_of alone) R.signed (sound-rules signing alone setup-of)) third_net
+      (exact-of alone setup-good third_net) separate reached,
+  log-end,
+)

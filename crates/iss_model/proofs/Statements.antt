@@ -18,7 +18,8 @@ heads s M x e l d k a b =
     (r.epoch, r.leader)
 
 -- what names an instance is no vote
-pub apart : {Msg : Type 0} (s : Setup) (M : Module Msg) (x : List ℕ) (e l d : ℕ) (a : List ℕ) (q : ℕ) → l ≢ 255 → Names s M e l x → x ≡ vote_statement s d a q → ⊥
+pub apart : {Msg : Type 0} (s : Setup) (M : Module Msg) (x : List ℕ) (e l d : ℕ) (a : List ℕ) (q : ℕ) → l ≢ 255 → Names s M e l x →
+    x ≡ vote_statement s d a q → ⊥
 apart s M x e l d a q far named is =
     let r = head-same s.tag s.tag e l M.tag d 255 0 named.0 (0 ∷ (a ++ eight_bytes q)) refl (sym named.1 ∙ is) in
     far r.leader

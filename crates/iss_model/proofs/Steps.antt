@@ -13,9 +13,9 @@ use Rattle.iss_model.specs.declared.causes.NodeEvent.{NodeEvent}
 use Rattle.iss_model.specs.declared.causes.NodeEvent.TheVariants.{Packet as Gets, Propose as Proposes, Timeout as Fires}
 use Rattle.iss_model.specs.declared.causes.Refusal.{Refusal}
 use Rattle.iss_model.specs.declared.causes.Why.{Why}
-use Rattle.iss_model.specs.declared.causes.Why.TheVariants.{BadRequest, EarlyFull, Known, NoKeys, NotLeader, OtherEpoch, OutOfWindow}
+use Rattle.iss_model.specs.declared.causes.Why.TheVariants.{BadClaim, BadRequest, EarlyFull, Known, NoKeys, NotLeader, OtherEpoch, OutOfWindow}
 use Rattle.iss_buckets.specs.Waiting.{cut, uncut}
-use Rattle.iss_model.specs.Node.{Body, Core, Dropped, Early, Formats, OfModule, OfRequest, Parcel, Stepped, Taken, Turn, at_instance, by_verdict, casts_at, early_most, has_leaves, inputs, is_known, is_mine, keeps_early, next_slot, rests, settled, settles, step, takes_bytes, takes_parcel, takes_request, verdict}
+use Rattle.iss_model.specs.Node.{Body, Core, Dropped, Early, Formats, OfModule, OfRequest, Parcel, Stepped, Taken, Turn, at_instance, by_verdict, casts_at, early_most, has_leaves, inputs, is_known, is_mine, keeps_early, next_slot, rests, settled, settles, step, takes_bytes, takes_parcel, takes_request, verdict, all_verify, claims_of_input}
 use Rattle.iss_model.specs.Past.{asked_in, before, params_of}
 use Rattle.iss_model.specs.Rules.{Rules}
 
@@ -34,6 +34,7 @@ module _ {Msg : Type 0} (F : Formats Msg) (R : Rules) (M : Module Msg) (me : ℕ
   -- an input was taken
   pub record IsInput (l : ℕ) (input : Input Msg) (t : Turn Msg) : Type 0 where
     pub leads : R.leads (before R M me c.past c.past.epoch) c.past.epoch l ≡ true
+    pub claims : all_verify R (claims_of_input M (params_of R M me c.past l) input) ≡ true
     pub leaves : has_leaves M (params_of R M me c.past l) c.leaf ≡ true
     pub judged : verdict R (before R M me c.past c.past.epoch) c.past.epoch l (accepts (c.past.evidence c.past.epoch l)) (asked_in R M me c.past l input) ≡ None
     pub is : t ≡ inputs F R M me c l input
@@ -65,9 +66,12 @@ module _ {Msg : Type 0} (F : Formats Msg) (R : Rules) (M : Module Msg) (me : ℕ
 
   -- what a taken event did first; an epoch may end of it
   pub data Took : NodeEvent → Turn Msg → Type 0 where
-    received : {bytes : List ℕ} {t : Turn Msg} (k : Parcel Msg) (l : ℕ) (msg : Msg) (u : Turn Msg) → F.unwrap bytes ≡ Some k → k.body ≡ OfModule l msg → k.epoch ≡ c.past.epoch → IsInput l (Receive (record { 0 = k.from }) msg) u → t ≡ settles F R M me u → Took (Gets bytes) t
-    kept : {bytes : List ℕ} {t : Turn Msg} (k : Parcel Msg) (l : ℕ) (msg : Msg) → F.unwrap bytes ≡ Some k → k.body ≡ OfModule l msg → k.epoch ≡ suc c.past.epoch → IsKept (record { from = k.from; leader = l; msg = msg }) t → Took (Gets bytes) t
-    asked : {bytes : List ℕ} {t : Turn Msg} (k : Parcel Msg) (q : Request) → F.unwrap bytes ≡ Some k → k.body ≡ OfRequest q → IsRequested q t → Took (Gets bytes) t
+    received : {bytes : List ℕ} {t : Turn Msg} (k : Parcel Msg) (l : ℕ) (msg : Msg) (u : Turn Msg) → F.unwrap bytes ≡ Some k → k.body ≡ OfModule l msg →
+        k.epoch ≡ c.past.epoch → IsInput l (Receive (record { 0 = k.from }) msg) u → t ≡ settles F R M me u → Took (Gets bytes) t
+    kept : {bytes : List ℕ} {t : Turn Msg} (k : Parcel Msg) (l : ℕ) (msg : Msg) → F.unwrap bytes ≡ Some k → k.body ≡ OfModule l msg →
+        k.epoch ≡ suc c.past.epoch → IsKept (record { from = k.from; leader = l; msg = msg }) t → Took (Gets bytes) t
+    asked : {bytes : List ℕ} {t : Turn Msg} (k : Parcel Msg) (q : Request) → F.unwrap bytes ≡ Some k → k.body ≡ OfRequest q → IsRequested q t →
+        Took (Gets bytes) t
     cast : {t : Turn Msg} (s : Slot) (u : Turn Msg) → IsCast s u → t ≡ settles F R M me u → Took Proposes t
     fired : {t : Turn Msg} (l : NodeId) (u : Turn Msg) → IsInput l.0 Timeout u → t ≡ settles F R M me u → Took (Fires l) t
 
@@ -78,9 +82,10 @@ module _ {Msg : Type 0} (F : Formats Msg) (R : Rules) (M : Module Msg) (me : ℕ
   pub input-taken : (l : ℕ) (input : Input Msg) (t : Turn Msg) → at_instance F R M me c l input ≡ Taken t → IsInput l input t
   input-taken l input t h =
       let a = undropped (not (R.leads (before R M me c.past c.past.epoch) c.past.epoch l)) NotLeader _ t h in
-      let b = undropped (not (has_leaves M (params_of R M me c.past l) c.leaf)) NoKeys _ t a.1 in
+      let v = undropped (not (all_verify R (claims_of_input M (params_of R M me c.past l) input))) BadClaim _ t a.1 in
+      let b = undropped (not (has_leaves M (params_of R M me c.past l) c.leaf)) NoKeys _ t v.1 in
       let d = approved _ _ t b.1 in
-      record { leads = not-false _ a.0; leaves = not-false _ b.0; judged = d.0; is = d.1 }
+      record { leads = not-false _ a.0; claims = not-false _ v.0; leaves = not-false _ b.0; judged = d.0; is = d.1 }
 
   pub request-taken : (q : Request) (t : Turn Msg) → takes_request R M me c q ≡ Taken t → IsRequested q t
   request-taken q t h =
@@ -89,7 +94,8 @@ module _ {Msg : Type 0} (F : Formats Msg) (R : Rules) (M : Module Msg) (me : ℕ
       let d = undropped (not (R.inside (before R M me c.past c.past.epoch) c.past.epoch q.id)) OutOfWindow _ t b.1 in
       record { signed = not-false _ a.0; unknown = b.0; inside = not-false _ d.0; is = turn-is _ t d.1 }
 
-  pub cast-taken : (o : Option Slot) (t : Turn Msg) → next_slot R M me c ≡ o → R.leads (before R M me c.past c.past.epoch) c.past.epoch me ≡ true → casts_at F R M me c o ≡ Taken t → Took Proposes t
+  pub cast-taken : (o : Option Slot) (t : Turn Msg) → next_slot R M me c ≡ o → R.leads (before R M me c.past c.past.epoch) c.past.epoch me ≡ true →
+      casts_at F R M me c o ≡ Taken t → Took Proposes t
   cast-taken None t q leads h = absurd (untaken _ t h)
   cast-taken (Some s) t q leads h =
       let a = undropped (not (has_leaves M (params_of R M me c.past me) c.leaf)) NoKeys _ t h in
@@ -102,8 +108,13 @@ module _ {Msg : Type 0} (F : Formats Msg) (R : Rules) (M : Module Msg) (me : ℕ
 
   kept-taken : (x : Early Msg) (t : Turn Msg) → keeps_early c x ≡ Taken t → IsKept x t
   kept-taken x t h = elim (leb_tells (suc (length c.early)) early_most) [
-    | inl y ↦ record { few = y.1; is = turn-is _ t (sym (ap (λ (b : Bool). cond b (Taken (rests (record c { early = c.early ++ x ∷ [] }))) (Dropped EarlyFull)) y.0) ∙ h) }
-    | inr y ↦ absurd (untaken EarlyFull t (sym (ap (λ (b : Bool). cond b (Taken (rests (record c { early = c.early ++ x ∷ [] }))) (Dropped EarlyFull)) y.0) ∙ h))
+    | inl y ↦ record {
+      few = y.1;
+      is =
+          turn-is _ t (sym (ap (λ (b : Bool). cond b (Taken (rests (record c { early = c.early ++ x ∷ [] }))) (Dropped EarlyFull)) y.0) ∙ h);
+    }
+    | inr y ↦ absurd (untaken EarlyFull t
+        (sym (ap (λ (b : Bool). cond b (Taken (rests (record c { early = c.early ++ x ∷ [] }))) (Dropped EarlyFull)) y.0) ∙ h))
   ]
 
   bytes-taken : (bytes : List ℕ) (t : Turn Msg) (o : Option (Parcel Msg)) → F.unwrap bytes ≡ o → takes_bytes F R M me c o ≡ Taken t → Took (Gets bytes) t
@@ -124,7 +135,9 @@ module _ {Msg : Type 0} (F : Formats Msg) (R : Rules) (M : Module Msg) (me : ℕ
           next true q m = kept k l msg u e (is-eq k.epoch (suc c.past.epoch) q) (kept-taken x t m)
           next false q m = absurd (untaken OtherEpoch t m)
 
-          now : (b : Bool) → eqb k.epoch c.past.epoch ≡ b → cond b (settled F R M me (at_instance F R M me c l input)) (cond (eqb k.epoch (suc c.past.epoch)) (keeps_early c x) (Dropped OtherEpoch)) ≡ Taken t → Took (Gets bytes) t
+          now : (b : Bool) → eqb k.epoch c.past.epoch ≡ b →
+              cond b (settled F R M me (at_instance F R M me c l input))
+              (cond (eqb k.epoch (suc c.past.epoch)) (keeps_early c x) (Dropped OtherEpoch)) ≡ Taken t → Took (Gets bytes) t
           now true q m =
               let r = settled-taken (at_instance F R M me c l input) t m in
               received k l msg r.0 u e (is-eq k.epoch c.past.epoch q) (input-taken l input r.0 r.1) r.2

@@ -1,7 +1,7 @@
 -- What the tests of a delivery and of a step say: of claims, of strings, and of a node's own claims in what it sends.
 use Rattle.std.proofs.Common.{◌≡◌, ◌⊎◌, inl, inr, ℕ, Bool, true, false, cond, eqb, not, ◌&&◌, List, [], ◌∷◌, ◌++◌, Option, Some, None, refl, sym, ap, ap₂, ◌∙◌, subst, true≢false}
 use Rattle.iss_base.specs.Lists.{In, first_of, over, same_bytes}
-use Rattle.iss_base.proofs.Lists.{and-true, in_append, in_left, is-eq, same_bytes-is, same_bytes-refl}
+use Rattle.iss_base.proofs.Lists.{and-true, in_append, in_left, in_right, is-eq, same_bytes-is, same_bytes-refl}
 use Rattle.iss_request.specs.Digest.{digest}
 use Rattle.iss_request.specs.declared.setups.Setup.{Setup}
 use Rattle.iss_sb.specs.declared.effects.Claim.{Claim}
@@ -9,10 +9,10 @@ use Rattle.iss_sb.specs.declared.effects.Params.{Params}
 use Rattle.iss_sb.specs.declared.effects.To.{To}
 use Rattle.iss_sb.specs.Evidence.{Module, Separate, is_correct}
 use Rattle.iss_model.specs.Cluster.{IsOwn, Signed}
-use Rattle.iss_model.specs.Node.{only_by, own_claims}
+use Rattle.iss_model.specs.Node.{all_verify, only_by, own_claims}
 use Rattle.iss_model.specs.Ordered.{Among}
 use Rattle.iss_model.specs.Rules.{Rules}
-use Rattle.iss_model.specs.Tested.{all_verify, as_signed, booked, collision_in, collision_with, first_forged, has_signed, is_collision, is_forged}
+use Rattle.iss_model.specs.Run.{as_signed, booked, collision_in, collision_with, first_forged, has_signed, is_collision, is_forged}
 
 -- tests on bytes, claims and strings
 
@@ -20,7 +20,8 @@ pub has-booked : (i : ℕ) (statement : List ℕ) (xs : List Signed) → has_sig
 has-booked i statement [] h = absurd (true≢false (sym h))
 has-booked i statement (x ∷ xs) h = go (eqb x.by i && same_bytes x.statement statement) refl h (has-booked i statement xs)
   where
-    go : (b : Bool) → (eqb x.by i && same_bytes x.statement statement) ≡ b → cond b true (has_signed i statement xs) ≡ true → (has_signed i statement xs ≡ true → In (record { by = i; statement = statement }) xs) → In (record { by = i; statement = statement }) (x ∷ xs)
+    go : (b : Bool) → (eqb x.by i && same_bytes x.statement statement) ≡ b → cond b true (has_signed i statement xs) ≡ true →
+        (has_signed i statement xs ≡ true → In (record { by = i; statement = statement }) xs) → In (record { by = i; statement = statement }) (x ∷ xs)
     go true q k ih =
         let y = and-true (eqb x.by i) (same_bytes x.statement statement) q in
         inl (ap₂ (λ (n : ℕ) (t : List ℕ). record { by = n; statement = t }) (sym (is-eq x.by i y.0)) (sym (same_bytes-is x.statement statement y.1)))
@@ -40,7 +41,8 @@ not-forged true true false h ha hb = absurd (true≢false h)
 not-forged true false c h ha hb = absurd (true≢false (sym hb))
 not-forged false b c h ha hb = absurd (true≢false (sym ha))
 
-pub unforged : (s : Setup) (R : Rules) (book : List Signed) (cs : List Claim) → first_forged s R book cs ≡ None → (c : Claim) → In c cs → R.verifies c.by.0 c.statement c.sig ≡ true → is_correct s c.by.0 ≡ true → In (record { by = c.by.0; statement = c.statement }) book
+pub unforged : (s : Setup) (R : Rules) (book : List Signed) (cs : List Claim) → first_forged s R book cs ≡ None → (c : Claim) → In c cs →
+    R.verifies c.by.0 c.statement c.sig ≡ true → is_correct s c.by.0 ≡ true → In (record { by = c.by.0; statement = c.statement }) book
 unforged s R book [] h c i v ok = absurd i
 unforged s R book (d ∷ cs) h c (inl q) v ok =
     let k = none-left (is_forged s R book d) d (first_forged s R book cs) h in
@@ -54,7 +56,9 @@ each-verifies R (d ∷ cs) h c (inl q) = rw q (and-true (R.verifies d.by.0 d.sta
 each-verifies R (d ∷ cs) h c (inr i) = each-verifies R cs (and-true (R.verifies d.by.0 d.statement d.sig) (all_verify R cs) h).1 c i
 
 no-collision : (a b : List ℕ) → is_collision a b ≡ false → digest a ≡ digest b → a ≡ b
-no-collision a b h q = same_bytes-is a b (not-apart (same_bytes (digest a) (digest b)) (same_bytes a b) h (subst (λ (t : List ℕ). same_bytes (digest a) t ≡ true) q (same_bytes-refl (digest a))))
+no-collision a b h q =
+    same_bytes-is a b (not-apart (same_bytes (digest a) (digest b)) (same_bytes a b) h
+    (subst (λ (t : List ℕ). same_bytes (digest a) t ≡ true) q (same_bytes-refl (digest a))))
   where
     not-apart : (x y : Bool) → (x && not y) ≡ false → x ≡ true → y ≡ true
     not-apart true true h q = refl
@@ -105,7 +109,8 @@ only-by : (i : ℕ) (cs : List Claim) (c : Claim) → In c (only_by i cs) → In
 only-by i [] c h = absurd h
 only-by i (d ∷ cs) c h = go (eqb d.by.0 i) refl h (only-by i cs c)
   where
-    go : (b : Bool) → eqb d.by.0 i ≡ b → In c (cond b (d ∷ only_by i cs) (only_by i cs)) → (In c (only_by i cs) → In c cs × (c.by.0 ≡ i)) → In c (d ∷ cs) × (c.by.0 ≡ i)
+    go : (b : Bool) → eqb d.by.0 i ≡ b → In c (cond b (d ∷ only_by i cs) (only_by i cs)) → (In c (only_by i cs) → In c cs × (c.by.0 ≡ i)) →
+        In c (d ∷ cs) × (c.by.0 ≡ i)
     go true q (inl e) ih = (inl e, ap (λ (z : Claim). z.by.0) e ∙ is-eq d.by.0 i q)
     go true q (inr k) ih = let r = ih k in (inr r.0, r.1)
     go false q k ih = let r = ih k in (inr r.0, r.1)
@@ -134,7 +139,16 @@ module _ {Msg : Type 0} (M : Module Msg) (p : Params) (i : ℕ) where
   own-is sends x h =
       let r = in-signed (own_claims M p i sends) x h in
       let o = own-claim sends r.0 r.1 in
-      record { to = o.to; msg = o.msg; sent = o.sent; claim = r.0; made = o.made; by = o.by; is = r.2 ∙ ap (λ (n : ℕ). record { by = n; statement = r.0.statement }) o.by }
+      record {
+        to = o.to;
+        msg = o.msg;
+        sent = o.sent;
+        claim = r.0;
+        made = o.made;
+        by = o.by;
+        is =
+            r.2 ∙ ap (λ (n : ℕ). record { by = n; statement = r.0.statement }) o.by;
+      }
 
 -- the book after two parts of a turn
 module _ (s : Setup) (i : ℕ) (a b : List Claim) where
@@ -150,3 +164,6 @@ module _ (s : Setup) (i : ℕ) (a b : List Claim) where
 
   pub booked-first : (x : Signed) → In x (booked s i a) → In x (booked s i (a ++ b))
   booked-first x k = subst (λ (xs : List Signed). In x xs) (sym booked-append) (in_left x (booked s i a) (booked s i b) k)
+
+  pub booked-last : (x : Signed) → In x (booked s i b) → In x (booked s i (a ++ b))
+  booked-last x k = subst (λ (xs : List Signed). In x xs) (sym booked-append) (in_right x (booked s i a) (booked s i b) k)

@@ -18,7 +18,8 @@ AreTold {Msg} s M d = (x : Early Msg) → In x d.early → (x.from < s.n) × IsR
 
 module _ {Msg : Type 0} (s : Setup) (F : Formats Msg) (R : Rules) (M : Module Msg) (faithful : IsFaithful s F M) (i : ℕ) where
   settles-told : (t : Turn Msg) → AreTold s M t.core → AreTold s M (settles F R M i t).core
-  settles-told t k = settles-holds F R M i (λ t. AreTold s M t.core) (λ t l input. Unit {0}) (λ t l input z fit come. z) (λ t z complete x m. absurd m) t k (λ done u x m z q. tt)
+  settles-told t k = settles-holds F R M i (λ t. AreTold s M t.core) (λ t l input. Unit {0}) (λ t l input z fit come. z) (λ t z complete x m. absurd m)
+      (λ t claims z. z) t k (λ done u x m z q r. tt)
 
   pub took-told : (b : Core Msg) (event : NodeEvent) (t : Turn Msg) → AreTold s M b → Took F R M i b event t → AreTold s M t.core
   took-told b event t z (received k l msg u un y e inp q) = rw q (settles-told u (rw inp.is z))

@@ -26,15 +26,26 @@ module _ {Msg : Type 0} (s : Setup) (S : Scheme) (R : Rules) (M : Module Msg) (f
     pub book : cluster.book ≡ signed ++ w.book
     pub strings : cluster.strings ≡ hashed ++ w.strings
 
-  more-signed : (a b : List Signed) → ((x : Signed) → In x a → In x b) → (from : ℕ) (c : Past Msg) (l : ℕ) (msg : Msg) → IsCredible M (params_of R M i c l) (IsVerified R) (IsBooked a) from msg → IsCredible M (params_of R M i c l) (IsVerified R) (IsBooked b) from msg
-  more-signed a b sub from c l msg h = record { named = h.named; read = h.read; verified = h.verified; signed = λ d m ok. sub (record { by = d.by.0; statement = d.statement }) (h.signed d m ok) }
+  more-signed : (a b : List Signed) → ((x : Signed) → In x a → In x b) → (from : ℕ) (c : Past Msg) (l : ℕ) (msg : Msg) →
+      IsCredible M (params_of R M i c l) (IsVerified R) (IsBooked a) from msg → IsCredible M (params_of R M i c l) (IsVerified R) (IsBooked b) from msg
+  more-signed a b sub from c l msg h =
+      record {
+        named = h.named;
+        read = h.read;
+        verified = h.verified;
+        signed =
+            λ d m ok. sub (record { by = d.by.0; statement = d.statement }) (h.signed d m ok);
+      }
 
-  may-take : (w : Cluster Msg) (c : Past Msg) (book : List Signed) → w.pasts i ≡ c → ((x : Signed) → In x book → In x w.book) → (l : ℕ) (input : Input Msg) → MayHear R M book i c l input → MayTake s R M w i l input
+  may-take : (w : Cluster Msg) (c : Past Msg) (book : List Signed) → w.pasts i ≡ c → ((x : Signed) → In x book → In x w.book) → (l : ℕ) (input : Input Msg) →
+      MayHear R M book i c l input → MayTake s R M w i l input
   may-take w c book q sub l (Cast slot batch) h = rw q h
-  may-take w c book q sub l (Receive from msg) h = subst (λ (b : Bool). MayGet b s R M w i l from.0 msg) (sym fails) (rw q (more-signed book w.book sub from.0 c l msg h))
+  may-take w c book q sub l (Receive from msg) h =
+      subst (λ (b : Bool). MayGet b s R M w i l from.0 msg) (sym fails) (rw q (more-signed book w.book sub from.0 c l msg h))
   may-take w c book q sub l Timeout h = tt
 
-  one : (w : Cluster Msg) → Reach s S R M w → (book : List Signed) → ((x : Signed) → In x book → In x w.book) → (x : Small Msg) → IsRight s S R M book i (w.pasts i) x → AllSpelled S (log_of R M i (past_after R M i (w.pasts i) x)) →
+  one : (w : Cluster Msg) → Reach s S R M w → (book : List Signed) → ((x : Signed) → In x book → In x w.book) → (x : Small Msg) →
+      IsRight s S R M book i (w.pasts i) x → AllSpelled S (log_of R M i (past_after R M i (w.pasts i) x)) →
       Reach s S R M (after w (past_after R M i (w.pasts i) x) (signs_at s S R M i (w.pasts i) x) (hashes_at S R M i (w.pasts i) x))
   one w r book sub (Takes l input leaf) right spelled =
       let c : Past Msg = w.pasts i in
@@ -56,7 +67,8 @@ module _ {Msg : Type 0} (s : Setup) (S : Scheme) (R : Rules) (M : Module Msg) (f
         old_book = λ y h. in_right y own w.book h;
         fresh_strings = λ y h. in_left y hashed w.strings (in_left y made.strings (chain_strings S (log_of R M i d)) h);
         strings = λ y h. in_right y hashed w.strings h;
-        hashed = λ y h. in_left y hashed w.strings (in_right y made.strings (chain_strings S (log_of R M i d)) (subst (λ (p : Past Msg). In y (chain_strings S (log_of R M i p))) here h));
+        hashed = λ y h. in_left y hashed w.strings
+            (in_right y made.strings (chain_strings S (log_of R M i d)) (subst (λ (p : Past Msg). In y (chain_strings S (log_of R M i p))) here h));
         spelled = subst (λ (p : Past Msg). AllSpelled S (log_of R M i p)) (sym here) spelled;
       })
   one w r book sub Ends right spelled =
@@ -71,7 +83,12 @@ module _ {Msg : Type 0} (s : Setup) (S : Scheme) (R : Rules) (M : Module Msg) (f
         complete = right;
         here = here;
         other = λ j ne. set_at-other w.pasts i d j ne;
-        quiet = record { messages = λ st k h. absurd (true≢false (sym st ∙ fails)); old_book = λ y h. in_right y own w.book h; strings = λ y h. in_right y hashed w.strings h };
+        quiet = record {
+          messages = λ st k h. absurd (true≢false (sym st ∙ fails));
+          old_book = λ y h. in_right y own w.book h;
+          strings =
+              λ y h. in_right y hashed w.strings h;
+        };
         book = λ y h. elim h [ inl q ↦ inr (ap (λ (z : Signed). z.by) q, ap (λ (z : Signed). z.statement) q) | inr k ↦ inl k ];
         hashed = λ y h. in_left y hashed w.strings (subst (λ (p : Past Msg). In y (chain_strings S (log_of R M i p))) here h);
         spelled = subst (λ (p : Past Msg). AllSpelled S (log_of R M i p)) (sym here) spelled;
@@ -96,12 +113,14 @@ module _ {Msg : Type 0} (s : Setup) (S : Scheme) (R : Rules) (M : Module Msg) (f
         other = λ j ne. set_at-other w.pasts i d j ne;
         quiet = record { messages = λ st k h. absurd (true≢false (sym st ∙ fails)); old_book = λ y h. h; strings = λ y h. in_right y hashed w.strings h };
         book = λ y h. h;
-        hashed = λ y h. in_left y hashed w.strings (in_right y (chain_strings S whole) (chain_strings S (log_of R M i d)) (subst (λ (p : Past Msg). In y (chain_strings S (log_of R M i p))) here h));
+        hashed = λ y h. in_left y hashed w.strings
+            (in_right y (chain_strings S whole) (chain_strings S (log_of R M i d)) (subst (λ (p : Past Msg). In y (chain_strings S (log_of R M i p))) here h));
         spelled = subst (λ (p : Past Msg). AllSpelled S (log_of R M i p)) (sym here) spelled;
       })
 
   -- the row of an event, its claims read against a book before it
-  pub row : (xs : List (Small Msg)) (w : Cluster Msg) → Reach s S R M w → (book : List Signed) → ((x : Signed) → In x book → In x w.book) → (c : Past Msg) → w.pasts i ≡ c → AreRight s S R M book i c xs →
+  pub row : (xs : List (Small Msg)) (w : Cluster Msg) → Reach s S R M w → (book : List Signed) → ((x : Signed) → In x book → In x w.book) → (c : Past Msg) →
+      w.pasts i ≡ c → AreRight s S R M book i c xs →
       Stands w (past_of R M i c xs) (signs_of s S R M i c xs) (hashes_of S R M i c xs)
   row [] w r book sub c q right = record { cluster = w; reached = r; here = q; other = λ j ne. refl; book = refl; strings = refl }
   row (x ∷ xs) w r book sub c q right =
@@ -110,7 +129,8 @@ module _ {Msg : Type 0} (s : Setup) (S : Scheme) (R : Rules) (M : Module Msg) (f
       let hashed = hashes_at S R M i c x in
       let v : Cluster Msg = after w d own hashed in
       let rv : Reach s S R M v = subst (λ (p : Past Msg). Reach s S R M (after w (past_after R M i p x) (signs_at s S R M i p x) (hashes_at S R M i p x))) q
-      (one w r book sub x (subst (λ (p : Past Msg). IsRight s S R M book i p x) (sym q) right.0) (subst (λ (p : Past Msg). AllSpelled S (log_of R M i (past_after R M i p x))) (sym q) right.1)) in
+      (one w r book sub x (subst (λ (p : Past Msg). IsRight s S R M book i p x) (sym q) right.0)
+      (subst (λ (p : Past Msg). AllSpelled S (log_of R M i (past_after R M i p x))) (sym q) right.1)) in
       let y = row xs v rv book (λ z h. in_right z own w.book (sub z h)) d (set_at-same w.pasts i d) right.2 in
       record {
         cluster = y.cluster;

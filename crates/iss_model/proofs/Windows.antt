@@ -15,7 +15,8 @@ use Rattle.iss_model.specs.Sound.{AreWindows}
 use Rattle.iss_model.proofs.Ids.{has-in, in-has, log_ids-extends}
 
 -- a number that is inside a window
-pub inside-at : (w : ℕ) (ids : List ReqId) (x : ReqId) (at : ℕ) → IsLow ids x.client at → is_inside (place_of w ids x) ≡ true → (at ≤ x.number) × (x.number < at + w)
+pub inside-at : (w : ℕ) (ids : List ReqId) (x : ReqId) (at : ℕ) → IsLow ids x.client at → is_inside (place_of w ids x) ≡ true →
+    (at ≤ x.number) × (x.number < at + w)
 inside-at w ids x at least h = elim (leb_tells (suc x.number) at) [
   | inl t ↦ absurd (true≢false (sym (ap (λ (p : Place). is_inside p) (is-below w ids x at least (omega (arith, t.1))) ∙ h)))
   | inr t ↦ elim (leb_tells (at + w) x.number) [
@@ -40,7 +41,8 @@ are-windows s = record {
       let moved : a ≤ b = elim (leb_tells (suc b) a) [
         | inl t ↦
             let there : In (id_of c b) (log_ids old) = in-has (id_of c b) (log_ids old) (first.below b (omega (arith, t.1))) in
-            let still : In (id_of c b) (log_ids new) = subst (λ (l : List Value). In (id_of c b) (log_ids l)) (sym longer.1) (log_ids-extends (id_of c b) longer.0 old there) in
+            let still : In (id_of c b) (log_ids new) =
+            subst (λ (l : List Value). In (id_of c b) (log_ids l)) (sym longer.1) (log_ids-extends (id_of c b) longer.0 old there) in
             absurd (true≢false (sym (has-in (id_of c b) (log_ids new) still) ∙ next.absent))
         | inr t ↦ omega (arith, t.1)
       ] in

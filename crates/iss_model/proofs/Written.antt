@@ -14,14 +14,16 @@ use Rattle.iss_model.specs.Runs.{IsFaithful, IsReadBack}
 use Rattle.iss_model.proofs.FromNodes.{are-read, requests-spelled}
 
 -- a thing that is spelled is read as itself, or not at all
-whole-spelled : {A : Type 0} (spell : A → List ℕ) (parse : List ℕ → Parsed A) → IsGrammar spell parse → (x : A) → (whole (parse (spell x)) ≡ Some x) ⊎ (whole (parse (spell x)) ≡ None)
+whole-spelled : {A : Type 0} (spell : A → List ℕ) (parse : List ℕ → Parsed A) → IsGrammar spell parse → (x : A) →
+    (whole (parse (spell x)) ≡ Some x) ⊎ (whole (parse (spell x)) ≡ None)
 whole-spelled spell parse grammar x = elim (grammar.whole x) [
   | inl good ↦ inl (ap whole (ap parse (sym (append-nil (spell x))) ∙ good []))
   | inr bad ↦ let b = bad [] in inr (ap whole (ap parse (sym (append-nil (spell x))) ∙ b.1))
 ]
 
 module _ {Msg : Type 0} (s : Setup) (M : Module Msg) (grammar : (version : ℕ) → IsGrammar (M.spell version) (M.parse version)) where
-  read-again : (p : Packet) → (whole (parse_packet s.version s.n (spell_packet s.version p)) ≡ Some p) ⊎ (whole (parse_packet s.version s.n (spell_packet s.version p)) ≡ None)
+  read-again : (p : Packet) →
+      (whole (parse_packet s.version s.n (spell_packet s.version p)) ≡ Some p) ⊎ (whole (parse_packet s.version s.n (spell_packet s.version p)) ≡ None)
   read-again p = whole-spelled (spell_packet s.version) (parse_packet s.version s.n) (packet_grammar s.version s.n) p
 
   -- of every parcel, in the bounds or not

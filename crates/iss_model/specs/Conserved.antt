@@ -17,10 +17,8 @@ use Rattle.iss_model.specs.Formats.{formats_of}
 use Rattle.iss_model.specs.Node.{Core, Formats, flown}
 use Rattle.iss_model.specs.Past.{log_of}
 use Rattle.iss_model.specs.Rules.{Rules}
-use Rattle.iss_model.specs.Run.{Progress, begin_run, goes_on, happens}
-use Rattle.iss_model.specs.Runs.{net_after}
-use Rattle.iss_model.specs.Tested.{Course, End, Going, begin_tested, goes_further, happens_tested}
-use Rattle.iss_model.specs.TestedLog.{tested_after}
+use Rattle.iss_model.specs.OneLog.{run_after}
+use Rattle.iss_model.specs.Run.{Happening, Progress, begin_run, goes_further, happens}
 
 -- the identity of a request event at core i that was not lost
 abbrev pub asked_by : ℕ → Event → Option Why → List ReqId
@@ -37,10 +35,20 @@ asked_by i (Free c) lost = []
 asked_by i (Drop c) lost = []
 asked_by i (Bytes c bytes) lost = []
 
+-- what is asked for in the event in which a run ends, or later, is not taken
+abbrev pub unless_ended : {A : Type 0} → Option A → List ReqId → List ReqId
+unless_ended None xs = xs
+unless_ended (Some end) xs = []
+
+abbrev pub asked_in : {Msg : Type 0} → ℕ → Event → Happening Msg → List ReqId
+asked_in i e d = unless_ended d.ended (asked_by i e d.lost)
+
 -- the core took the identity by a request event in the course of these events
-abbrev pub Asked : {Msg : Type 0} → Setup → Formats Msg → Rules → Module Msg → Progress Msg → List Event → ℕ → ReqId → Type 0
-Asked s F R M p [] i x = ⊥
-Asked s F R M p (e ∷ es) i x = In x (asked_by i e (happens s F R M p.net e).lost) ⊎ Asked s F R M (goes_on s F R M p e) es i x
+abbrev pub WasAsked : {Msg : Type 0} → Setup → Formats Msg → Rules → Module Msg → Progress Msg → List Event → ℕ → ReqId → Type 0
+WasAsked s F R M p [] i x = ⊥
+WasAsked s F R M p (e ∷ es) i x =
+    In x (unless_ended p.ended (asked_in i e (happens s F R M p.held e))) ⊎
+    WasAsked s F R M (goes_further p.ended s F R M p e) es i x
 
 -- exactly one of three
 pub data One (A B C : Type 0) : Type 0 where
@@ -61,24 +69,5 @@ AcceptsOnce {Msg} m =
 -- each request that a correct core took is still there, once
 abbrev pub IsConserved : {Msg : Type 0} → Setup → Module Msg → List Event → Type 0
 IsConserved s M events =
-    (i : ℕ) → is_correct s i ≡ true → (x : ReqId) → Asked s (formats_of s M) (rules_of s) M (begin_run s.n) events i x →
-    IsInOnePlace (rules_of s) M i ((net_after s (formats_of s M) (rules_of s) M events).cores i) x
-
--- the same of a run that is tested: what is asked for in the event in which it ends, or later, is not taken
-abbrev pub unless_ended : Option End → List ReqId → List ReqId
-unless_ended None xs = xs
-unless_ended (Some end) xs = []
-
-abbrev pub asked_in : {Msg : Type 0} → ℕ → Event → Course Msg → List ReqId
-asked_in i e d = unless_ended d.ended (asked_by i e d.lost)
-
-abbrev pub WasAsked : {Msg : Type 0} → Setup → Formats Msg → Rules → Module Msg → Going Msg → List Event → ℕ → ReqId → Type 0
-WasAsked s F R M p [] i x = ⊥
-WasAsked s F R M p (e ∷ es) i x =
-    In x (unless_ended p.ended (asked_in i e (happens_tested s F R M p.held e))) ⊎
-    WasAsked s F R M (goes_further p.ended s F R M p e) es i x
-
-abbrev pub IsConservedWhereTested : {Msg : Type 0} → Setup → Module Msg → List Event → Type 0
-IsConservedWhereTested s M events =
-    (i : ℕ) → is_correct s i ≡ true → (x : ReqId) → WasAsked s (formats_of s M) (rules_of s) M (begin_tested s.n) events i x →
-    IsInOnePlace (rules_of s) M i ((tested_after s M events).held.net.cores i) x
+    (i : ℕ) → is_correct s i ≡ true → (x : ReqId) → WasAsked s (formats_of s M) (rules_of s) M (begin_run s) events i x →
+    IsInOnePlace (rules_of s) M i ((run_after s M events).held.net.cores i) x

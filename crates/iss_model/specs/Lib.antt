@@ -10,10 +10,9 @@ pub mod Sound
 pub mod Concrete
 pub mod Conserved
 pub mod Formats
-pub mod Printed
 pub mod OneLog
 pub mod Checkpoints
-pub mod Tested
-pub mod TestedLog
 pub mod Turns
 pub mod Views
+pub mod Ends
+pub mod Instances

@@ -1,6 +1,7 @@
 -- One node over all epochs: what it holds, and one step of it.
 use Rattle.std.specs.Prelude.{ℕ, suc, ◌+◌, ◌-◌, ◌==◌, nat_lt, cond, Bool, false, not, ◌&&◌, ◌||◌}
 use Rattle.std.specs.Prelude.{List, [], ◌∷◌, ◌++◌, Option, Some, None, length, is_some, take}
+use Rattle.std.specs.List.{list_all}
 use Rattle.iss_buckets.specs.Waiting.{absent, cut, uncut}
 use Rattle.iss_keys.specs.KeyStates.{left_of}
 pub use Rattle.iss_layout.specs.Layout.{is_nil_at}
@@ -21,7 +22,7 @@ use Rattle.iss_model.specs.declared.causes.NodeEvent.TheVariants.{Packet as Gets
 use Rattle.iss_model.specs.declared.causes.Refusal.{Refusal}
 use Rattle.iss_model.specs.declared.causes.Why.{Why}
 use Rattle.iss_model.specs.declared.causes.Why.TheVariants.{NotPacket, BadRequest, Known, OutOfWindow, OtherEpoch, EarlyFull}
-use Rattle.iss_model.specs.declared.causes.Why.TheVariants.{NotLeader, NothingToCast, NoKeys, Refused}
+use Rattle.iss_model.specs.declared.causes.Why.TheVariants.{NotLeader, BadClaim, NothingToCast, NoKeys, Refused}
 use Rattle.iss_model.specs.Judge.{judge, marks}
 use Rattle.iss_model.specs.Past.{Past, advanced, asked_in, before_own, is_complete, leads_in, log_of, made_in, newborn, params_of, taken_in, takes}
 use Rattle.iss_model.specs.Rules.{Rules}
@@ -60,11 +61,13 @@ pub record Core (Msg : Type 0) : Type 0 where
 abbrev pub idle : {Msg : Type 0} → Core Msg
 idle = record { past = newborn; waiting = []; flight = []; early = []; leaf = 0 }
 
--- a node after a step, the packets that it made, in order, its own claims in them, and the strings that it hashed
+-- a node after a step, the packets that it made, in order, its own claims in them, the claims that it read of what had come
+-- early, and the strings that it hashed
 pub record Turn (Msg : Type 0) : Type 0 where
   pub core : Core Msg
   pub sends : List (To × List ℕ)
   pub own : List Claim
+  pub early : List Claim
   pub strings : List (List ℕ)
 
 pub data Stepped (Msg : Type 0) : Type 0 where
@@ -120,6 +123,7 @@ inputs F R M me c l input =
       core = refiled R M me c (takes R M me c.past l input c.leaf) (c.leaf + made.used);
       sends = packed F me c.past.epoch l made.sends;
       own = own_claims M (params_of R M me c.past l) me made.sends;
+      early = [];
       strings = made.strings;
     }
 
@@ -141,22 +145,37 @@ by_verdict (Some x) turn = Dropped (Refused x)
 abbrev pub has_leaves : {Msg : Type 0} → Module Msg → Params → ℕ → Bool
 has_leaves M p leaf = not (nat_lt (left_of (record { secret = []; height = p.setup.keys; used = leaf })) (suc (M.signs p)))
 
--- an input in the instance of leader l, where it leads, keys are left and the judge agrees
+-- whether each of these claims is one of the node that it names
+abbrev pub all_verify : Rules → List Claim → Bool
+all_verify R cs = list_all (λ (c : Claim). R.verifies c.by.0 c.statement c.sig) cs
+
+-- what an input claims that nodes signed
+abbrev pub claims_of_input : {Msg : Type 0} → Module Msg → Params → Input Msg → List Claim
+claims_of_input M p (Cast slot batch) = []
+claims_of_input M p (Receive from msg) = M.claims p from.0 msg
+claims_of_input M p Timeout = []
+
+-- an input in the instance of leader l, where it leads, what it claims verifies, keys are left and the judge agrees
 abbrev pub at_instance : {Msg : Type 0} → Formats Msg → Rules → Module Msg → ℕ → Core Msg → ℕ → Input Msg → Stepped Msg
 at_instance F R M me c l input =
     cond (not (leads_in R M me c.past l)) (Dropped NotLeader)
+    (cond (not (all_verify R (claims_of_input M (params_of R M me c.past l) input))) (Dropped BadClaim)
     (cond (not (has_leaves M (params_of R M me c.past l) c.leaf)) (Dropped NoKeys)
-    (by_verdict (verdict_in R M me c.past l input) (inputs F R M me c l input)))
+    (by_verdict (verdict_in R M me c.past l input) (inputs F R M me c l input))))
+
+-- the claims that a message in the instance of leader l holds, where that leads the node's epoch
+abbrev pub claims_in : {Msg : Type 0} → Rules → Module Msg → ℕ → Past Msg → ℕ → ℕ → Msg → List Claim
+claims_in R M me c from l msg = cond (leads_in R M me c l) (M.claims (params_of R M me c l) from msg) []
 
 -- nothing happens to a core
 abbrev pub rests : {Msg : Type 0} → Core Msg → Turn Msg
-rests c = record { core = c; sends = []; own = []; strings = [] }
+rests c = record { core = c; sends = []; own = []; early = []; strings = [] }
 
 -- a turn, and what follows of it
 abbrev pub onward : {Msg : Type 0} → Turn Msg → (Core Msg → Turn Msg) → Turn Msg
 onward t more =
     let u = more t.core in
-    record { core = u.core; sends = t.sends ++ u.sends; own = t.own ++ u.own; strings = t.strings ++ u.strings }
+    record { core = u.core; sends = t.sends ++ u.sends; own = t.own ++ u.own; early = t.early ++ u.early; strings = t.strings ++ u.strings }
 
 -- the epoch is over: the next one begins, for which nothing is kept any more
 abbrev pub in_next_epoch : {Msg : Type 0} → Core Msg → Core Msg
@@ -170,9 +189,11 @@ abbrev pub tried : {Msg : Type 0} → Core Msg → Stepped Msg → Turn Msg
 tried c (Dropped why) = rests c
 tried c (Taken turn) = turn
 
--- an early message, as if it came now; one that is refused is gone
+-- an early message, as if it came now; one that is refused is gone, but its claims were read
 abbrev pub takes_early : {Msg : Type 0} → Formats Msg → Rules → Module Msg → ℕ → Core Msg → Early Msg → Turn Msg
-takes_early F R M me c x = ended R M me (tried c (at_instance F R M me c x.leader (Receive (record { 0 = x.from }) x.msg)))
+takes_early F R M me c x =
+    let t = ended R M me (tried c (at_instance F R M me c x.leader (Receive (record { 0 = x.from }) x.msg))) in
+    record t { early = claims_in R M me c.past x.from x.leader x.msg }
 
 -- all of them in turn, as long as epoch e lasts
 abbrev pub takes_each : {Msg : Type 0} → Formats Msg → Rules → Module Msg → ℕ → ℕ → List (Early Msg) → Core Msg → Turn Msg

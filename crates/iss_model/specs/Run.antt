@@ -1,83 +1,193 @@
--- All cores over a whole schedule.
-use Rattle.std.specs.Prelude.{ℕ, zero, suc, cond, true, false, List, [], ◌∷◌, Option, Some, None}
-use Rattle.iss_base.specs.Lists.{below, nth, set_at}
+-- All cores over a whole schedule: each event, up to the delivery that shows a forged claim or the step that shows a collision.
+use Rattle.std.specs.Prelude.{ℕ, zero, suc, ◌-◌, ◌==◌, ◌&&◌, nat_lt, not, cond, Bool, true, false, List, [], ◌∷◌, ◌++◌, Option, Some, None}
+use Rattle.std.specs.List.{filter}
+use Rattle.iss_base.specs.Lists.{below, first_of, nth, over, same_bytes, set_at}
 use Rattle.iss_keys.specs.Directories.{client_secret}
 use Rattle.iss_keys.specs.Signatures.{signature_of}
 use Rattle.iss_network.specs.Network.{Network, cleared, due, empty_network, held_to, posted, settled}
 use Rattle.iss_network.specs.declared.packets.Sent.{Sent}
+use Rattle.iss_request.specs.Digest.{digest}
+use Rattle.iss_request.specs.declared.ids.NodeId.{NodeId}
 use Rattle.iss_request.specs.declared.ids.ReqId.{ReqId}
 use Rattle.iss_request.specs.declared.requests.Request.{Request}
 use Rattle.iss_request.specs.declared.setups.Setup.{Setup}
+pub use Rattle.iss_schedule.specs.Cores.{cores_of}
+use Rattle.iss_sb.specs.declared.effects.Claim.{Claim}
 use Rattle.iss_sb.specs.declared.effects.To.{To}
 use Rattle.iss_sb.specs.declared.effects.To.TheVariants.{All as To_all, One as To_one}
-use Rattle.iss_sb.specs.Evidence.{Module}
+use Rattle.iss_sb.specs.Evidence.{Module, is_correct}
 use Rattle.iss_schedule.specs.declared.schedules.Event.{Event}
 use Rattle.iss_schedule.specs.declared.schedules.Event.TheVariants.{Request as Asks_order, Propose, Timeout, Deliver, Lose, Pump, Calm, Hold, Free, Drop, Bytes}
 use Rattle.iss_model.specs.declared.causes.NodeEvent.{NodeEvent}
 use Rattle.iss_model.specs.declared.causes.NodeEvent.TheVariants.{Packet as Gets, Propose as Proposes, Timeout as Fires}
 use Rattle.iss_model.specs.declared.causes.Why.{Why}
 use Rattle.iss_model.specs.declared.causes.Why.TheVariants.{NoPacket}
+use Rattle.iss_model.specs.Cluster.{Signed}
 use Rattle.iss_model.specs.Concrete.{request_statement}
-use Rattle.iss_model.specs.Node.{Core, Formats, OfRequest, Stepped, Dropped, Taken, idle, step}
+use Rattle.iss_model.specs.Node.{Core, Formats, OfRequest, Stepped, Dropped, Taken, Turn, idle, step}
 use Rattle.iss_model.specs.Rules.{Rules}
+use Rattle.iss_model.specs.Views.{claims_of_bytes}
+
+-- core i is node i; behind the nodes each faulty one has a second core, its twin, with the same keys
+abbrev pub number_at : Option NodeId → ℕ
+number_at None = 0
+number_at (Some k) = k.0
+
+abbrev pub node_of : Setup → ℕ → ℕ
+node_of s c = cond (nat_lt c s.n) c (number_at (nth s.faulty (c - s.n)))
 
 pub record Net (Msg : Type 0) : Type 0 where
   pub cores : ℕ → Core Msg
   pub network : Network
 
--- what an event leads to, and why it was lost, if it was
-pub record Happening (Msg : Type 0) : Type 0 where
+-- why a run ended: a claim that its node never made, or different strings of one digest, of which the first was hashed before
+pub data End : Type 0 where
+  Forged : (claim : Claim) → End
+  Collision : (first second : List ℕ) → End
+
+-- a net, the book of what correct nodes sent as signed of their own, and the book of what was hashed, newest first
+pub record Held (Msg : Type 0) : Type 0 where
   pub net : Net Msg
+  pub signed : List Signed
+  pub hashed : List (List ℕ)
+
+-- what an event leads to: why it was lost, or why the run ended in it, with what stood before the delivery that ended it
+pub record Happening (Msg : Type 0) : Type 0 where
+  pub held : Held Msg
   pub lost : Option Why
+  pub ended : Option End
 
-abbrev pub done : {Msg : Type 0} → Net Msg → Happening Msg
-done w = record { net = w; lost = None }
+abbrev pub done : {Msg : Type 0} → Held Msg → Happening Msg
+done h = record { held = h; lost = None; ended = None }
 
--- a send to all makes a packet for each core, ascending; a send to a node one for its core
-abbrev pub addressees : ℕ → To → List ℕ
-addressees n To_all = below n
-addressees n (To_one k) = k.0 ∷ []
+abbrev pub lost_by : {Msg : Type 0} → Held Msg → Why → Happening Msg
+lost_by h why = record { held = h; lost = Some why; ended = None }
+
+abbrev pub ended_by : {Msg : Type 0} → Held Msg → End → Happening Msg
+ended_by h end = record { held = h; lost = None; ended = Some end }
+
+-- the network changes, and nothing else
+abbrev pub with_network : {Msg : Type 0} → Held Msg → Network → Held Msg
+with_network h network = record { net = record { cores = h.net.cores; network = network }; signed = h.signed; hashed = h.hashed }
+
+-- a send to all makes a packet for each core, ascending; a send to a node one for each of its cores
+abbrev pub addressees : Setup → To → List ℕ
+addressees s To_all = below (cores_of s)
+addressees s (To_one k) = filter (λ c. node_of s c == k.0) (below (cores_of s))
 
 abbrev pub posted_to : Network → ℕ → List ℕ → List ℕ → Network
 posted_to w from bytes [] = w
 posted_to w from bytes (c ∷ cs) = posted_to (posted w (record { from = from; to = c; bytes = bytes })) from bytes cs
 
-abbrev pub posted_all : ℕ → Network → ℕ → List (To × List ℕ) → Network
-posted_all n w from [] = w
-posted_all n w from (x ∷ xs) = posted_all n (posted_to w from x.1 (addressees n x.0)) from xs
+abbrev pub posted_all : Setup → Network → ℕ → List (To × List ℕ) → Network
+posted_all s w from [] = w
+posted_all s w from (x ∷ xs) = posted_all s (posted_to w from x.1 (addressees s x.0)) from xs
 
-abbrev pub after_step : {Msg : Type 0} → ℕ → Net Msg → ℕ → Stepped Msg → Happening Msg
-after_step n w c (Dropped why) = record { net = w; lost = Some why }
-after_step n w c (Taken t) = done (record { cores = set_at w.cores c t.core; network = posted_all n w.network c t.sends })
+-- the claims that an event reads before its step, and those that the step read of what had come early
+abbrev pub claims_at : {Msg : Type 0} → Formats Msg → Rules → Module Msg → ℕ → Core Msg → NodeEvent → List Claim
+claims_at F R M me c (Gets bytes) = claims_of_bytes F R M me c bytes
+claims_at F R M me c Proposes = []
+claims_at F R M me c (Fires l) = []
 
--- core c takes an event
-abbrev pub at_core : {Msg : Type 0} → ℕ → Formats Msg → Rules → Module Msg → Net Msg → ℕ → NodeEvent → Happening Msg
-at_core n F R M w c event = after_step n w c (step F R M c (w.cores c) event)
+abbrev pub early_of : {Msg : Type 0} → Stepped Msg → List Claim
+early_of (Dropped why) = []
+early_of (Taken t) = t.early
+
+abbrev pub has_signed : ℕ → List ℕ → List Signed → Bool
+has_signed i statement [] = false
+has_signed i statement (x ∷ xs) = cond ((x.by == i) && same_bytes x.statement statement) true (has_signed i statement xs)
+
+-- it verifies, is of a correct node, and is not in the book
+abbrev pub is_forged : Setup → Rules → List Signed → Claim → Bool
+is_forged s R book c = R.verifies c.by.0 c.statement c.sig && (is_correct s c.by.0 && not (has_signed c.by.0 c.statement book))
+
+abbrev pub first_forged : Setup → Rules → List Signed → List Claim → Option Claim
+first_forged s R book [] = None
+first_forged s R book (c ∷ cs) = cond (is_forged s R book c) (Some c) (first_forged s R book cs)
+
+-- different strings of one digest
+abbrev pub is_collision : List ℕ → List ℕ → Bool
+is_collision a b = same_bytes (digest a) (digest b) && not (same_bytes a b)
+
+-- a string against those that were hashed before it, of which the one with its digest is named first
+abbrev pub collision_with : List ℕ → List (List ℕ) → Option End
+collision_with x [] = None
+collision_with x (b ∷ book) = cond (is_collision b x) (Some (Collision b x)) (collision_with x book)
+
+-- the strings of a step, in order, each put on top of the book after it was tested
+abbrev pub collision_in : List (List ℕ) → List (List ℕ) → Option End
+collision_in [] book = None
+collision_in (x ∷ xs) book = first_of (collision_with x book) (collision_in xs (x ∷ book))
+
+abbrev pub as_signed : List Claim → List Signed
+as_signed [] = []
+as_signed (c ∷ cs) = record { by = c.by.0; statement = c.statement } ∷ as_signed cs
+
+-- what goes into the book of a step of core c: of a faulty node's cores nothing
+abbrev pub booked : Setup → ℕ → List Claim → List Signed
+booked s c own = cond (is_correct s c) (as_signed own) []
+
+abbrev pub turned_to : {Msg : Type 0} → Setup → Held Msg → ℕ → Turn Msg → Held Msg
+turned_to s h c t =
+    record {
+      net = record { cores = set_at h.net.cores c t.core; network = posted_all s h.net.network c t.sends };
+      signed = booked s c t.own ++ h.signed;
+      hashed = over t.strings h.hashed;
+    }
+
+abbrev pub by_collision : {Msg : Type 0} → Option End → Held Msg → Held Msg → Happening Msg
+by_collision None h next = done next
+by_collision (Some end) h next = ended_by h end
+
+abbrev pub after_step : {Msg : Type 0} → Setup → Held Msg → ℕ → Stepped Msg → Happening Msg
+after_step s h c (Dropped why) = lost_by h why
+after_step s h c (Taken t) = by_collision (collision_in t.strings h.hashed) h (turned_to s h c t)
+
+abbrev pub by_forged : {Msg : Type 0} → Option Claim → Held Msg → Happening Msg → Happening Msg
+by_forged None h next = next
+by_forged (Some claim) h next = ended_by h (Forged claim)
+
+-- core c takes an event. The claims of what it takes, then those of what had come early, are tested against the book before it
+abbrev pub at_core : {Msg : Type 0} → Setup → Formats Msg → Rules → Module Msg → Held Msg → ℕ → NodeEvent → Happening Msg
+at_core s F R M h c event =
+    let core = h.net.cores c in
+    let stepped = step F R M (node_of s c) core event in
+    by_forged (first_forged s R h.signed (claims_at F R M (node_of s c) core event ++ early_of stepped)) h (after_step s h c stepped)
+
+-- what follows happens where the run has not ended
+abbrev pub unless : {Msg : Type 0} → Option End → Happening Msg → (Held Msg → Happening Msg) → Happening Msg
+unless None d more = more d.held
+unless (Some end) d more = d
 
 -- packet k is taken by its core, and waits no more
-abbrev pub delivered_to : {Msg : Type 0} → ℕ → Formats Msg → Rules → Module Msg → Net Msg → ℕ → Option Sent → Happening Msg
-delivered_to n F R M w k None = record { net = w; lost = Some NoPacket }
-delivered_to n F R M w k (Some p) = at_core n F R M (record w { network = settled w.network k }) p.to (Gets p.bytes)
+abbrev pub delivered_to : {Msg : Type 0} → Setup → Formats Msg → Rules → Module Msg → Held Msg → ℕ → Option Sent → Happening Msg
+delivered_to s F R M h k None = lost_by h NoPacket
+delivered_to s F R M h k (Some p) = at_core s F R M (with_network h (settled h.net.network k)) p.to (Gets p.bytes)
 
-abbrev pub delivers : {Msg : Type 0} → ℕ → Formats Msg → Rules → Module Msg → Net Msg → ℕ → Happening Msg
-delivers n F R M w k = delivered_to n F R M w k (nth w.network.packets k)
+abbrev pub delivers : {Msg : Type 0} → Setup → Formats Msg → Rules → Module Msg → Held Msg → ℕ → Happening Msg
+delivers s F R M h k = delivered_to s F R M h k (nth h.net.network.packets k)
 
-abbrev pub delivers_each : {Msg : Type 0} → ℕ → Formats Msg → Rules → Module Msg → Net Msg → List ℕ → Net Msg
-delivers_each n F R M w [] = w
-delivers_each n F R M w (k ∷ ks) = delivers_each n F R M (delivers n F R M w k).net ks
+-- one after the other, whether or not one is lost
+abbrev pub delivers_each : {Msg : Type 0} → Setup → Formats Msg → Rules → Module Msg → List ℕ → Held Msg → Happening Msg
+delivers_each s F R M [] h = done h
+delivers_each s F R M (k ∷ ks) h =
+    let d = delivers s F R M h k in
+    unless d.ended d (delivers_each s F R M ks)
 
 -- what waits as the pump begins, and whose core is not held, is taken in order
-abbrev pub pumps : {Msg : Type 0} → ℕ → Formats Msg → Rules → Module Msg → Net Msg → Net Msg
-pumps n F R M w = delivers_each n F R M w (due w.network)
+abbrev pub pumps : {Msg : Type 0} → Setup → Formats Msg → Rules → Module Msg → Held Msg → Happening Msg
+pumps s F R M h = delivers_each s F R M (due h.net.network) h
 
 -- so many pumps; a pump that finds nothing changes nothing
-abbrev pub calms : {Msg : Type 0} → ℕ → Formats Msg → Rules → Module Msg → ℕ → Net Msg → Net Msg
-calms n F R M zero w = w
-calms n F R M (suc m) w = calms n F R M m (pumps n F R M w)
+abbrev pub calms : {Msg : Type 0} → Setup → Formats Msg → Rules → Module Msg → ℕ → Held Msg → Happening Msg
+calms s F R M zero h = done h
+calms s F R M (suc m) h =
+    let d = pumps s F R M h in
+    unless d.ended d (calms s F R M m)
 
-abbrev pub loses : {Msg : Type 0} → Net Msg → ℕ → Option Sent → Happening Msg
-loses w k None = record { net = w; lost = Some NoPacket }
-loses w k (Some p) = done (record w { network = settled w.network k })
+abbrev pub loses : {Msg : Type 0} → Held Msg → ℕ → Option Sent → Happening Msg
+loses h k None = lost_by h NoPacket
+loses h k (Some p) = done (with_network h (settled h.net.network k))
 
 -- a request that its client signed, by the leaf of the request's number
 abbrev pub request_of : Setup → ℕ → ℕ → List ℕ → Request
@@ -86,44 +196,59 @@ request_of s client number payload =
     record { id = id; payload = payload; sig = signature_of (client_secret client) s.keys number (request_statement id payload) }
 
 -- bytes from nowhere reach a core only where nodes may do anything
-abbrev pub injects : {Msg : Type 0} → ℕ → Formats Msg → Rules → Module Msg → Net Msg → ℕ → List ℕ → Happening Msg
-injects n F R M w c bytes = cond M.stopping (done w) (at_core n F R M w c (Gets bytes))
+abbrev pub injects : {Msg : Type 0} → Setup → Formats Msg → Rules → Module Msg → Held Msg → ℕ → List ℕ → Happening Msg
+injects s F R M h c bytes = cond M.stopping (done h) (at_core s F R M h c (Gets bytes))
 
-abbrev pub happens : {Msg : Type 0} → Setup → Formats Msg → Rules → Module Msg → Net Msg → Event → Happening Msg
-happens s F R M w (Asks_order c client number payload) =
-    at_core s.n F R M w c (Gets (F.wrap (record { from = 255; epoch = 0; body = OfRequest (request_of s client number payload) })))
-happens s F R M w (Propose c) = at_core s.n F R M w c Proposes
-happens s F R M w (Timeout c l) = at_core s.n F R M w c (Fires l)
-happens s F R M w (Deliver k) = delivers s.n F R M w k
-happens s F R M w (Lose k) = loses w k (nth w.network.packets k)
-happens s F R M w Pump = done (pumps s.n F R M w)
-happens s F R M w (Calm m) = done (calms s.n F R M m w)
-happens s F R M w (Hold c) = done (record w { network = held_to w.network c true })
-happens s F R M w (Free c) = done (record w { network = held_to w.network c false })
-happens s F R M w (Drop c) = done (record w { network = cleared w.network c })
-happens s F R M w (Bytes c bytes) = injects s.n F R M w c bytes
+abbrev pub happens : {Msg : Type 0} → Setup → Formats Msg → Rules → Module Msg → Held Msg → Event → Happening Msg
+happens s F R M h (Asks_order c client number payload) =
+    at_core s F R M h c (Gets (F.wrap (record { from = 255; epoch = 0; body = OfRequest (request_of s client number payload) })))
+happens s F R M h (Propose c) = at_core s F R M h c Proposes
+happens s F R M h (Timeout c l) = at_core s F R M h c (Fires l)
+happens s F R M h (Deliver k) = delivers s F R M h k
+happens s F R M h (Lose k) = loses h k (nth h.net.network.packets k)
+happens s F R M h Pump = pumps s F R M h
+happens s F R M h (Calm m) = calms s F R M m h
+happens s F R M h (Hold c) = done (with_network h (held_to h.net.network c true))
+happens s F R M h (Free c) = done (with_network h (held_to h.net.network c false))
+happens s F R M h (Drop c) = done (with_network h (cleared h.net.network c))
+happens s F R M h (Bytes c bytes) = injects s F R M h c bytes
 
-abbrev pub begin_net : {Msg : Type 0} → ℕ → Net Msg
-begin_net n = record { cores = λ i. idle; network = empty_network n }
+-- nothing was taken; the empty string counts as hashed
+abbrev pub begin_net : {Msg : Type 0} → Setup → Net Msg
+begin_net s = record { cores = λ i. idle; network = empty_network (cores_of s) }
 
--- a run so far: its net, the number of the next event, and the events that were lost, newest first
+abbrev pub begin_held : {Msg : Type 0} → Setup → Held Msg
+begin_held s = record { net = begin_net s; signed = []; hashed = [] ∷ [] }
+
+-- a run so far: what it holds, the number of the next event, the events that were lost, newest first, and the event in which
+-- it ended, if it ended
 pub record Progress (Msg : Type 0) : Type 0 where
-  pub net : Net Msg
+  pub held : Held Msg
   pub event : ℕ
   pub drops : List (ℕ × Why)
+  pub ended : Option (ℕ × End)
 
-abbrev pub begin_run : {Msg : Type 0} → ℕ → Progress Msg
-begin_run n = record { net = begin_net n; event = 0; drops = [] }
+abbrev pub begin_run : {Msg : Type 0} → Setup → Progress Msg
+begin_run s = record { held = begin_held s; event = 0; drops = []; ended = None }
 
 abbrev pub noted : ℕ → Option Why → List (ℕ × Why) → List (ℕ × Why)
 noted k None drops = drops
 noted k (Some why) drops = (k, why) ∷ drops
 
+abbrev pub ended_at : ℕ → Option End → Option (ℕ × End)
+ended_at k None = None
+ended_at k (Some end) = Some (k, end)
+
 abbrev pub goes_on : {Msg : Type 0} → Setup → Formats Msg → Rules → Module Msg → Progress Msg → Event → Progress Msg
 goes_on s F R M p e =
-    let h = happens s F R M p.net e in
-    record { net = h.net; event = suc p.event; drops = noted p.event h.lost p.drops }
+    let d = happens s F R M p.held e in
+    record { held = d.held; event = suc p.event; drops = noted p.event d.lost p.drops; ended = ended_at p.event d.ended }
+
+-- a run that has ended goes no further
+abbrev pub goes_further : {Msg : Type 0} → Option (ℕ × End) → Setup → Formats Msg → Rules → Module Msg → Progress Msg → Event → Progress Msg
+goes_further None s F R M p e = goes_on s F R M p e
+goes_further (Some end) s F R M p e = p
 
 abbrev pub run : {Msg : Type 0} → Setup → Formats Msg → Rules → Module Msg → Progress Msg → List Event → Progress Msg
 run s F R M p [] = p
-run s F R M p (e ∷ es) = run s F R M (goes_on s F R M p e) es
+run s F R M p (e ∷ es) = run s F R M (goes_further p.ended s F R M p e) es

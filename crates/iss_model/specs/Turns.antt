@@ -11,7 +11,7 @@ use Rattle.iss_model.specs.Past.{adopted_log, adopts, advanced, is_complete}
 use Rattle.iss_model.specs.Node.{own_claims, verdict_in}
 use Rattle.iss_model.specs.Past.{Past, Piece, before, leads_in, log_of, made_in, params_of, takes}
 use Rattle.iss_model.specs.Rules.{Rules}
-use Rattle.iss_model.specs.Tested.{as_signed}
+use Rattle.iss_model.specs.Run.{as_signed}
 
 pub data Small (Msg : Type 0) : Type 0 where
   Takes : (leader : ℕ) → (input : Input Msg) → (leaf : ℕ) → Small Msg

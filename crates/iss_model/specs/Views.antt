@@ -1,12 +1,13 @@
 -- What a node shows of its core.
-use Rattle.std.specs.Prelude.{ℕ, Bool, true, ◌&&◌, not, is_some, List, [], ◌∷◌}
+use Rattle.std.specs.Prelude.{ℕ, Bool, true, cond, ◌&&◌, ◌==◌, not, is_some, List, [], ◌∷◌, Option, Some, None}
 use Rattle.std.specs.List.{filter}
 use Rattle.iss_base.specs.Lists.{below}
 use Rattle.iss_request.specs.declared.ids.Slot.{Slot}
 use Rattle.iss_request.specs.declared.requests.Batch.{Batch}
 use Rattle.iss_sb.specs.declared.effects.Params.{Params}
 use Rattle.iss_sb.specs.Evidence.{Item, Module, accepts, delivered}
-use Rattle.iss_model.specs.Node.{Core, next_slot}
+use Rattle.iss_sb.specs.declared.effects.Claim.{Claim}
+use Rattle.iss_model.specs.Node.{Body, Core, Formats, OfModule, OfRequest, Parcel, claims_in, next_slot}
 use Rattle.iss_model.specs.Past.{Past, leads_in, params_of, taken_in}
 use Rattle.iss_model.specs.Rules.{Rules}
 
@@ -32,3 +33,15 @@ unfilled R M n me c = filter (is_unfilled R M me c) (below n)
 -- whether a proposal would find a slot to cast in
 abbrev pub is_castable_now : {Msg : Type 0} → Rules → Module Msg → ℕ → Core Msg → Bool
 is_castable_now R M me c = leads_in R M me c.past me && is_some (next_slot R M me c)
+
+-- the claims that bytes hold which come to a node: those of a module's message of its epoch, whose leader leads there
+abbrev pub claims_of_body : {Msg : Type 0} → Rules → Module Msg → ℕ → Core Msg → ℕ → ℕ → Body Msg → List Claim
+claims_of_body R M me c from e (OfRequest q) = []
+claims_of_body R M me c from e (OfModule l msg) = cond (e == c.past.epoch) (claims_in R M me c.past from l msg) []
+
+abbrev pub claims_of_parcel : {Msg : Type 0} → Rules → Module Msg → ℕ → Core Msg → Option (Parcel Msg) → List Claim
+claims_of_parcel R M me c None = []
+claims_of_parcel R M me c (Some k) = claims_of_body R M me c k.from k.epoch k.body
+
+abbrev pub claims_of_bytes : {Msg : Type 0} → Formats Msg → Rules → Module Msg → ℕ → Core Msg → List ℕ → List Claim
+claims_of_bytes F R M me c bytes = claims_of_parcel R M me c (F.unwrap bytes)

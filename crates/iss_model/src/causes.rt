@@ -45,6 +45,8 @@ pub enum Why {
     EarlyFull,
     /// The leader does not lead the epoch.
     NotLeader,
+    /// The message holds a claim that does not verify under the key of the node that it names.
+    BadClaim,
     /// No slot of the node's segment is free to cast.
     NothingToCast,
     /// Too few leaves are left to sign with.

@@ -7,6 +7,6 @@ pub mod theorems;
 
 pub use causes::{NodeEvent, Refusal, Why};
 pub use theorems::{
-    cluster_runs, composition, requests_are_conserved, requests_are_signed, separate_runs,
-    tested_runs,
+    claims_are_of_one_instance, cluster_runs, composition, requests_are_conserved,
+    requests_are_signed, runs_end_with_evidence,
 };

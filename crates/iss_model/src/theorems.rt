@@ -1,20 +1,24 @@
 //! The theorems of the whole, each as a call without a body: who calls it may use what it says.
-ghost use Rattle.std.specs.Prelude.{◌≡◌, ◌<◌, ◌≤◌, ◌^◌, ℕ, true, List, length};
+ghost use Rattle.std.specs.Prelude.{◌≡◌, ◌<◌, ◌≤◌, ◌^◌, ℕ, true, List, ◌++◌, length};
+ghost use Rattle.iss_base.specs.Lists.{In};
 ghost use Rattle.iss_request.specs.Setup.{IsGoodSetup};
 ghost use Rattle.iss_request.specs.declared.setups.Setup.{Setup};
 ghost use Rattle.iss_sb.specs.Evidence.{Separate};
+ghost use Rattle.iss_sb.specs.Statements.{head_of};
+ghost use Rattle.iss_sb.specs.declared.effects.Claim.{Claim};
+ghost use Rattle.iss_sb.specs.declared.effects.Params.{Params};
 ghost use Rattle.iss_schedule.specs.declared.schedules.Event.{Event};
 ghost use Rattle.iss_model.specs.Checkpoints.{scheme_of};
 ghost use Rattle.iss_model.specs.Cluster.{Cluster, Reach, Scheme};
 ghost use Rattle.iss_model.specs.Concrete.{rules_of};
-ghost use Rattle.iss_model.specs.Conserved.{AcceptsOnce, IsConserved, IsConservedWhereTested};
-ghost use Rattle.iss_model.specs.OneLog.{IsClusterRun, OnlyGrows};
+ghost use Rattle.iss_model.specs.Conserved.{AcceptsOnce, IsConserved};
+ghost use Rattle.iss_model.specs.Ends.{HasEvidence};
+ghost use Rattle.iss_model.specs.Instances.{IsInstance};
+ghost use Rattle.iss_model.specs.OneLog.{IsClusterRun, IsOneLog};
 ghost use Rattle.iss_model.specs.Ordered.{Among, IsExact, IsSoundRules, Ordered};
 ghost use Rattle.iss_model.specs.Rules.{Rules};
-ghost use Rattle.iss_model.specs.Printed.{IsSeparateRun};
 ghost use Rattle.iss_model.specs.Run.{request_of};
-ghost use Rattle.iss_model.specs.Runs.{AreAtNodes, HashesNothing, IsSetupOf};
-ghost use Rattle.iss_model.specs.TestedLog.{IsOneTestedLog, IsTestedRun};
+ghost use Rattle.iss_model.specs.Runs.{AreAtCores, IsSetupOf};
 
 use iss_sb::Sequenced;
 
@@ -30,39 +34,44 @@ pub fn composition<M: Sequenced>()
     M::laws();
 }
 
-/// Every list of events is such a run, where nodes only stop: it leads to what the moves of a cluster lead to, and more
-/// events only make the printed logs longer. So `composition` holds of it (ISS, whole protocol).
+/// Every list of events is such a run: up to the delivery that shows a forged claim or a collision, at which it ends, what the
+/// cores took is what moves of a cluster lead to, with the run's books (`reached`). So the logs that correct nodes print are of
+/// one log, and more events only make them longer (`one_log`; ISS, whole protocol).
 pub fn cluster_runs<M: Sequenced>()
-    ensures reached { (s : Setup) → IsSetupOf M.meaning s → M.meaning.stopping ≡ true →
-        (events : List Event) → AreAtNodes s.n events → IsClusterRun s M.meaning events }
-    ensures grows { (s : Setup) → IsSetupOf M.meaning s → M.meaning.stopping ≡ true →
-        (events : List Event) → AreAtNodes s.n events → OnlyGrows s M.meaning events }
+    ensures reached { (s : Setup) → IsSetupOf M.meaning s → (events : List Event) → AreAtCores s events → IsClusterRun s M.meaning events }
+    ensures one_log { (s : Setup) → IsSetupOf M.meaning s → (events : List Event) → AreAtCores s events → IsOneLog s M.meaning events }
 {
     M::laws();
 }
 
-/// Where a module hashes nothing, the run of every list of events is separate, so that nothing has to be
-/// assumed of digests.
-pub fn separate_runs<M: Sequenced>()
-    ensures { (s : Setup) → HashesNothing M.meaning → (events : List Event) → IsSeparateRun s M.meaning events }
-{}
+/// A run ends with evidence. A forged claim verifies under the key of a correct node that never sent it; a collision is of two
+/// different strings of one digest, of which one was hashed before the other. What comes later changes nothing, and the book
+/// misses no claim that a correct node sent of its own.
+pub fn runs_end_with_evidence<M: Sequenced>()
+    ensures { (s : Setup) → IsSetupOf M.meaning s → (events : List Event) → AreAtCores s events → HasEvidence s M.meaning events }
+{
+    M::laws();
+}
 
-/// Every list of events, of either kind of module: up to the delivery that shows a forged claim or a collision, at which the
-/// run ends, the logs that correct nodes print are of one log, and more events only make them longer (ISS, whole protocol).
-pub fn tested_runs<M: Sequenced>()
-    ensures reached { (s : Setup) → IsSetupOf M.meaning s → (events : List Event) → AreAtNodes s.n events → IsTestedRun s M.meaning events }
-    ensures one { (s : Setup) → IsSetupOf M.meaning s → (events : List Event) → AreAtNodes s.n events → IsOneTestedLog s M.meaning events }
+/// What a node signed in one instance says nothing in another. Claims of one statement are of one epoch and leader, and of one
+/// cluster (`one`); and a statement that begins with a head is a claim of no instance but the one which that head names, nor of
+/// another module (`head`). The digests of clusters are of one length.
+pub fn claims_are_of_one_instance<M: Sequenced>()
+    ensures one { (p q : Params) (i j : ℕ) (a b : M.Msg) (c d : Claim) → In c (M.meaning.claims p i a) → In d (M.meaning.claims q j b) →
+        length p.setup.tag ≡ length q.setup.tag → c.statement ≡ d.statement →
+        IsInstance q M.meaning.tag p.setup.tag p.epoch.0 p.leader.0 M.meaning.tag }
+    ensures head { (p : Params) (i : ℕ) (a : M.Msg) (c : Claim) → In c (M.meaning.claims p i a) →
+        (cluster : List ℕ) (e l tag : ℕ) (rest : List ℕ) → length cluster ≡ length p.setup.tag →
+        c.statement ≡ head_of cluster e l tag ++ rest → IsInstance p M.meaning.tag cluster e l tag }
 {
     M::laws();
 }
 
 /// No request is lost and none is in two places, whatever happens: each one that a correct core took is in its log, waits at it,
-/// or is in flight. Where nodes only stop; and in each run that is tested, of either kind of module (ISS, "conservation").
+/// or is in flight (ISS, "conservation").
 pub fn requests_are_conserved<M: Sequenced>()
-    ensures stopping { (s : Setup) → IsSetupOf M.meaning s → M.meaning.stopping ≡ true → AcceptsOnce M.meaning →
-        (events : List Event) → AreAtNodes s.n events → IsSeparateRun s M.meaning events → IsConserved s M.meaning events }
-    ensures tested { (s : Setup) → IsSetupOf M.meaning s → AcceptsOnce M.meaning →
-        (events : List Event) → AreAtNodes s.n events → IsConservedWhereTested s M.meaning events }
+    ensures { (s : Setup) → IsSetupOf M.meaning s → AcceptsOnce M.meaning →
+        (events : List Event) → AreAtCores s events → IsConserved s M.meaning events }
 {
     M::laws();
 }

@@ -19,7 +19,8 @@ use Rattle.iss_model.proofs.Ids.{has-not, ids-append, in-ids}
 use Rattle.iss_model.proofs.Logs.{Later, before-later, log-chain, log-kept, log-later, takes-later}
 use Rattle.iss_model.proofs.Longest.{Bounded}
 use Rattle.iss_model.specs.Concrete.{number_of, plan_at, rules_of, start_at}
-use Rattle.iss_model.specs.Node.{Core, Formats, Turn, flown, flying, inputs, joined, packed, returned}
+use Rattle.iss_model.specs.Formats.{formats_of}
+use Rattle.iss_model.specs.Node.{Core, Formats, Turn, flown, flying, inputs, joined, own_claims, packed, returned}
 use Rattle.iss_model.specs.Past.{IsLog, Past, before_own, log_of, params_of, start_of, taken_in, takes}
 use Rattle.iss_model.specs.Rules.{Rules}
 use Rattle.iss_model.specs.Sound.{IsSoundCore, carried, held}
@@ -33,7 +34,9 @@ use Rattle.iss_node.specs.Growth.{IsGrown, and_values, waits_on}
 use Rattle.iss_node.specs.Inputs.{and_accepted}
 use Rattle.iss_node.specs.Shape.{IsReplica}
 use Rattle.iss_node.specs.State.{AreParts, IsLed, IsTied, IsTiedOver, ReplicaState, accepted_of, core_of, led, slot_value}
+use Rattle.iss_node.specs.Steps.{IsMade}
 use Rattle.iss_node.specs.declared.answers.Accepted.{Accepted}
+use Rattle.iss_node.specs.declared.answers.Outcome.{Outcome}
 use Rattle.iss_request.specs.Log.{has_id, ids, log_ids}
 use Rattle.iss_request.specs.declared.ids.NodeId.{NodeId}
 use Rattle.iss_request.specs.declared.ids.ReqId.{ReqId}
@@ -451,9 +454,21 @@ module _ {M Msg : Type 0} (m : Module Msg) (stands : M → Params → ℕ → Li
       pub parts-next : (F : Formats Msg) → AreParts m stands after (inputs F (rules_of v.setup) m v.me.0 (core_of v past) leader.0 input).core
       parts-next F = record { core = core-is F; tied = subst (λ (ys : List Value). IsTiedOver m stands after next ys) (sym before-next) (tied-over F) }
 
-    pub sends-next : (F : Formats Msg) (sends : List (To × List ℕ)) → sends ≡ packed F v.me.0 v.epoch leader.0 ef.sends → sends ≡ (inputs F (rules_of v.setup) m v.me.0 (core_of v past) leader.0 input).sends
+    sends-next : (F : Formats Msg) (sends : List (To × List ℕ)) → sends ≡ packed F v.me.0 v.epoch leader.0 ef.sends → sends ≡ (inputs F (rules_of v.setup) m v.me.0 (core_of v past) leader.0 input).sends
     sends-next F sends e =
         e ∙ ap (λ (k : ℕ). packed F v.me.0 k leader.0 ef.sends) tied.epoch ∙ ap (λ (ys : List (To × Msg)). packed F v.me.0 past.epoch leader.0 ys) took.sends
+
+    -- what is handed out is what the model's step made
+    pub made-next : (o : Outcome) → o.sends ≡ packed (formats_of v.setup m) v.me.0 v.epoch leader.0 ef.sends → o.own ≡ own_claims m is.params v.me.0 ef.sends → o.early ≡ [] → o.hashed ≡ ef.hashed →
+        IsMade (inputs (formats_of v.setup m) (rules_of v.setup) m v.me.0 (core_of v past) leader.0 input) o
+    made-next o sent own early hashed = record {
+      sends = sends-next (formats_of v.setup m) o.sends sent;
+      own = own
+          ∙ ap (λ (p : Params). own_claims m p v.me.0 ef.sends) (taken.same_params ∙ here.params)
+          ∙ ap (λ (ys : List (To × Msg)). own_claims m (params_of (rules_of v.setup) m v.me.0 past leader.0) v.me.0 ys) took.sends;
+      early = early;
+      hashed = hashed ∙ took.hashed;
+    }
 
     pub addressed-next : (F : Formats Msg) (sends : List (To × List ℕ)) → sends ≡ packed F v.me.0 v.epoch leader.0 ef.sends → AreToNodes v.setup.n sends
     addressed-next F sends e =

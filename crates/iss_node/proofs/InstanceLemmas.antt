@@ -5,16 +5,16 @@ use Rattle.iss_layout.specs.Layout.{Plan, leads}
 use Rattle.iss_log.specs.LogState.{GoesOn}
 use Rattle.iss_model.specs.Concrete.{plan_at, rules_of}
 use Rattle.iss_model.specs.Formats.{formats_of}
-use Rattle.iss_model.specs.Node.{Core, Dropped, Formats, Stepped, Taken, Turn, at_instance, by_verdict, has_leaves, inputs, packed, verdict, verdict_in}
+use Rattle.iss_model.specs.Node.{Core, Dropped, Formats, Stepped, Taken, Turn, all_verify, at_instance, by_verdict, claims_of_input, has_leaves, inputs, verdict, verdict_in}
 use Rattle.iss_model.specs.Past.{Past, asked_in, before_own, leads_in, params_of, taken_in}
 use Rattle.iss_model.specs.declared.causes.Refusal.{Refusal}
-use Rattle.iss_model.specs.declared.causes.Why.TheVariants.{NotLeader, NoKeys, Refused}
-use Rattle.iss_node.specs.Inputs.{IsAbsorbed, IsInputTaken, IsVerdictAt}
+use Rattle.iss_model.specs.declared.causes.Why.TheVariants.{BadClaim, NotLeader, NoKeys, Refused}
+use Rattle.iss_node.specs.Inputs.{IsAbsorbed, IsHandedOut, IsInputTaken, IsVerdictAt}
 use Rattle.iss_node.specs.Shape.{IsReplica}
 use Rattle.iss_node.specs.State.{AreParts, IsTied, ReplicaState, core_of, led}
 use Rattle.iss_node.specs.Steps.{IsLater, IsStepDropped, IsStepTaken, IsTurnOf, IsTurned}
 use Rattle.iss_node.specs.declared.answers.Outcome.{Outcome}
-use Rattle.iss_node.proofs.InputLemmas.{addressed-next, parts-next, sends-next}
+use Rattle.iss_node.proofs.InputLemmas.{addressed-next, made-next, parts-next}
 use Rattle.iss_request.specs.declared.ids.NodeId.{NodeId}
 use Rattle.iss_request.specs.declared.ids.Slot.{Slot}
 use Rattle.iss_request.specs.declared.requests.Batch.{Batch}
@@ -56,9 +56,10 @@ later-same u v s i l = record { setup = s; me = i; log = goes-same u.log.entries
 pub later-refl : {M Msg : Type 0} (u : ReplicaState M Msg) → IsLater u u
 later-refl u = later-same u u refl refl refl
 
-three : {Msg : Type 0} (a a' b b' : Bool) (w w' : Option Refusal) (turn : Turn Msg) → a ≡ a' → b ≡ b' → w ≡ w' →
-    cond (not a) (Dropped NotLeader) (cond (not b) (Dropped NoKeys) (by_verdict w turn)) ≡ cond (not a') (Dropped NotLeader) (cond (not b') (Dropped NoKeys) (by_verdict w' turn))
-three a a' b b' w w' turn ha hb hw = rw (ha, hb, hw) refl
+four : {Msg : Type 0} (a a' d d' b b' : Bool) (w w' : Option Refusal) (turn : Turn Msg) → a ≡ a' → d ≡ d' → b ≡ b' → w ≡ w' →
+    cond (not a) (Dropped NotLeader) (cond (not d) (Dropped BadClaim) (cond (not b) (Dropped NoKeys) (by_verdict w turn)))
+    ≡ cond (not a') (Dropped NotLeader) (cond (not d') (Dropped BadClaim) (cond (not b') (Dropped NoKeys) (by_verdict w' turn)))
+four a a' d d' b b' w w' turn ha hd hb hw = rw (ha, hd, hb, hw) refl
 
 module _ {M Msg : Type 0} (m : Module Msg) (stands : M → Params → ℕ → List (Item Msg) → Type 0)
     (v : ReplicaState M Msg) (past : Past Msg) (tied : IsTied m stands v past) (l : ℕ) where
@@ -78,9 +79,12 @@ module _ {M Msg : Type 0} (m : Module Msg) (stands : M → Params → ℕ → Li
       (h g at bf xs (subst (λ (p : Params). RestsOn p.setup bf p.epoch.0 v.plan v.windows) (sym here.params) tied.rests) here.instance))
 
   module _ (F : Formats Msg) (input : Input Msg) where
-    pub instance-is : (a b : Bool) (w : Option Refusal) → leads_in (rules_of v.setup) m v.me.0 past l ≡ a → has_leaves m (params_of (rules_of v.setup) m v.me.0 past l) v.keys.used ≡ b → verdict_in (rules_of v.setup) m v.me.0 past l input ≡ w →
-        at_instance F (rules_of v.setup) m v.me.0 (core_of v past) l input ≡ cond (not a) (Dropped NotLeader) (cond (not b) (Dropped NoKeys) (by_verdict w (inputs F (rules_of v.setup) m v.me.0 (core_of v past) l input)))
-    instance-is a b w ha hb hw = three _ a _ b _ w (inputs F (rules_of v.setup) m v.me.0 (core_of v past) l input) ha hb hw
+    pub instance-is : (a d b : Bool) (w : Option Refusal) → leads_in (rules_of v.setup) m v.me.0 past l ≡ a →
+        all_verify (rules_of v.setup) (claims_of_input m (params_of (rules_of v.setup) m v.me.0 past l) input) ≡ d →
+        has_leaves m (params_of (rules_of v.setup) m v.me.0 past l) v.keys.used ≡ b → verdict_in (rules_of v.setup) m v.me.0 past l input ≡ w →
+        at_instance F (rules_of v.setup) m v.me.0 (core_of v past) l input ≡
+        cond (not a) (Dropped NotLeader) (cond (not d) (Dropped BadClaim) (cond (not b) (Dropped NoKeys) (by_verdict w (inputs F (rules_of v.setup) m v.me.0 (core_of v past) l input))))
+    instance-is a d b w ha hd hb hw = four _ a _ d _ b _ w (inputs F (rules_of v.setup) m v.me.0 (core_of v past) l input) ha hd hb hw
 
 -- nothing has changed
 pub same-parts : {M Msg : Type 0} (m : Module Msg) (stands : M → Params → ℕ → List (Item Msg) → Type 0) (v : ReplicaState M Msg) (past : Past Msg) → IsTied m stands v past → AreParts m stands v (core_of v past)
@@ -91,29 +95,29 @@ module _ {M Msg : Type 0} (m : Module Msg) (laws : IsLawful m) (stands : M → P
     (v : ReplicaState M Msg) (shape : IsReplica m v) (leader : NodeId) (input : Input Msg) (ef : Effects Msg) (w : ReplicaState M Msg) (outcome : Outcome)
     (past : Past Msg) (tied : IsTied m stands v past) where
   inner : (segments : List (Option (SegmentState M))) (keys : KeyState) (was is : SegmentState M) → led v.segments leader.0 ≡ Some was → led segments leader.0 ≡ Some is → ((k : ℕ) → k ≢ leader.0 → led segments k ≡ led v.segments k) →
-      IsInstanceTaken m stands was is input v.keys keys ef → IsAbsorbed (record v { segments = segments; keys = keys }) w leader ef → outcome.sends ≡ packed (formats_of v.setup m) v.me.0 v.epoch leader.0 ef.sends →
+      IsInstanceTaken m stands was is input v.keys keys ef → IsAbsorbed (record v { segments = segments; keys = keys }) w leader ef → IsHandedOut m (record v { segments = segments; keys = keys }) leader.0 ef.sends ef.hashed outcome →
       IsTurned m stands (inputs (formats_of v.setup m) (rules_of v.setup) m v.me.0 (core_of v past) leader.0 input) w outcome
-  inner segments keys was is at there others taken a sends =
+  inner segments keys was is at there others taken a made =
       let F = formats_of v.setup m in
       let g = a.grown in
       let parts = parts-next m stands v shape past tied laws leader input ef was is keys at taken w.log g.held g.grown segments w.accepted w.waiting w.flight w.logged
       there others a.accepted g.logged g.landed.landed
       (λ all before noted members new. g.landed.waiting all (record { before = before; noted = noted; members = members }) new) F in
-      let addressed = addressed-next m stands v shape past tied laws leader input ef was is keys at taken w.log g.held g.grown F outcome.sends sends in
+      let addressed = addressed-next m stands v shape past tied laws leader input ef was is keys at taken w.log g.held g.grown F outcome.sends made.sent in
       record {
         stands_for = subst (λ (z : ReplicaState M Msg). AreParts m stands z (inputs F (rules_of v.setup) m v.me.0 (core_of v past) leader.0 input).core) (sym g.rest) parts;
-        sends = sends-next m stands v shape past tied laws leader input ef was is keys at taken w.log g.held g.grown F outcome.sends sends;
+        made = made-next m stands v shape past tied laws leader input ef was is keys at taken w.log g.held g.grown outcome made.sent (made.own is there) made.early made.hashed_is;
         addressed = subst (λ (z : ReplicaState M Msg). AreToNodes z.setup.n outcome.sends) (sym g.rest) addressed;
       }
 
-  pub turned : (u : ReplicaState M Msg) → IsInputTaken m stands v u leader.0 input ef → IsAbsorbed u w leader ef → outcome.sends ≡ packed (formats_of u.setup m) u.me.0 u.epoch leader.0 ef.sends →
+  pub turned : (u : ReplicaState M Msg) → IsInputTaken m stands v u leader.0 input ef → IsAbsorbed u w leader ef → IsHandedOut m u leader.0 ef.sends ef.hashed outcome →
       IsTurned m stands (inputs (formats_of v.setup m) (rules_of v.setup) m v.me.0 (core_of v past) leader.0 input) w outcome
-  turned u i a sends =
+  turned u i a made =
       inner u.segments u.keys i.was i.is i.at i.there i.others i.taken
       (subst (λ (z : ReplicaState M Msg). IsAbsorbed z w leader ef) i.rest a)
-      (subst (λ (z : ReplicaState M Msg). outcome.sends ≡ packed (formats_of z.setup m) z.me.0 z.epoch leader.0 ef.sends) i.rest sends)
+      (subst (λ (z : ReplicaState M Msg). IsHandedOut m z leader.0 ef.sends ef.hashed outcome) i.rest made)
 
--- ---- the three answers of an instance, and what each test found
+-- ---- the answers of an instance, and what each test found
 
 some-there : {A : Type 0} (o : Option A) → true ≡ is_some o → (x : A) × (o ≡ Some x)
 some-there None h = absurd (true≢false h)
@@ -121,37 +125,45 @@ some-there (Some x) h = (x, refl)
 
 module _ {M Msg : Type 0} (m : Module Msg) (stands : M → Params → ℕ → List (Item Msg) → Type 0) (F : Formats Msg)
     (v : ReplicaState M Msg) (l : ℕ) (input : Input Msg) (leading : true ≡ is_some (led v.segments l)) (past : Past Msg) (tied : IsTied m stands v past) where
-  pub drops-keys : ((g : SegmentState M) → led v.segments l ≡ Some g → AreKeysOf v.me.0 v.setup.keys v.keys → false ≡ has_leaves m g.params v.keys.used) →
-      IsStepDropped m stands (core_of v past) (at_instance F (rules_of v.setup) m v.me.0 (core_of v past) l input) v NoKeys
-  drops-keys leaves =
-      let g = some-there (led v.segments l) leading in
-      record {
-        step_is = instance-is m stands v past tied l F input true false _ (leads-is m stands v past tied l true leading) (leaves-is m stands v past tied l g.0 g.1 false (leaves g.0 g.1 tied.keys)) refl;
-        stands_for = same-parts m stands v past tied;
-      }
+  pub drops-claims : false ≡ all_verify (rules_of v.setup) (claims_of_input m (params_of (rules_of v.setup) m v.me.0 past l) input) →
+      IsStepDropped m stands (core_of v past) (at_instance F (rules_of v.setup) m v.me.0 (core_of v past) l input) v BadClaim
+  drops-claims claims = record {
+    step_is = instance-is m stands v past tied l F input true false _ _ (leads-is m stands v past tied l true leading) (sym claims) refl refl;
+    stands_for = same-parts m stands v past tied;
+  }
 
-  module _ (leaves : (g : SegmentState M) → led v.segments l ≡ Some g → AreKeysOf v.me.0 v.setup.keys v.keys → true ≡ has_leaves m g.params v.keys.used) where
-    pub drops-refused : (w : ReplicaState M Msg) (why : Refusal) → (w ≡ v) × IsVerdictAt m stands v l input (Some why) →
-        IsStepDropped m stands (core_of v past) (at_instance F (rules_of v.setup) m v.me.0 (core_of v past) l input) w (Refused why)
-    drops-refused w why h =
+  module _ (claims : true ≡ all_verify (rules_of v.setup) (claims_of_input m (params_of (rules_of v.setup) m v.me.0 past l) input)) where
+    pub drops-keys : ((g : SegmentState M) → led v.segments l ≡ Some g → AreKeysOf v.me.0 v.setup.keys v.keys → false ≡ has_leaves m g.params v.keys.used) →
+        IsStepDropped m stands (core_of v past) (at_instance F (rules_of v.setup) m v.me.0 (core_of v past) l input) v NoKeys
+    drops-keys leaves =
         let g = some-there (led v.segments l) leading in
         record {
-          step_is = instance-is m stands v past tied l F input true true (Some why) (leads-is m stands v past tied l true leading) (leaves-is m stands v past tied l g.0 g.1 true (leaves g.0 g.1 tied.keys)) (verdict-is m stands v past tied l input g.0 g.1 (Some why) h.1);
-          stands_for = subst (λ (z : ReplicaState M Msg). AreParts m stands z (core_of v past)) (sym h.0) (same-parts m stands v past tied);
+          step_is = instance-is m stands v past tied l F input true true false _ (leads-is m stands v past tied l true leading) (sym claims) (leaves-is m stands v past tied l g.0 g.1 false (leaves g.0 g.1 tied.keys)) refl;
+          stands_for = same-parts m stands v past tied;
         }
 
-    pub takes-input : (w : ReplicaState M Msg) (o : Outcome) → IsVerdictAt m stands v l input None → IsTurned m stands (inputs F (rules_of v.setup) m v.me.0 (core_of v past) l input) w o →
-        IsStepTaken m stands (at_instance F (rules_of v.setup) m v.me.0 (core_of v past) l input) w o
-    takes-input w o h turn =
-        let g = some-there (led v.segments l) leading in
-        record {
-          turn = inputs F (rules_of v.setup) m v.me.0 (core_of v past) l input;
-          step_is = instance-is m stands v past tied l F input true true None (leads-is m stands v past tied l true leading) (leaves-is m stands v past tied l g.0 g.1 true (leaves g.0 g.1 tied.keys)) (verdict-is m stands v past tied l input g.0 g.1 None h);
-          turned = turn;
-        }
+    module _ (leaves : (g : SegmentState M) → led v.segments l ≡ Some g → AreKeysOf v.me.0 v.setup.keys v.keys → true ≡ has_leaves m g.params v.keys.used) where
+      pub drops-refused : (w : ReplicaState M Msg) (why : Refusal) → (w ≡ v) × IsVerdictAt m stands v l input (Some why) →
+          IsStepDropped m stands (core_of v past) (at_instance F (rules_of v.setup) m v.me.0 (core_of v past) l input) w (Refused why)
+      drops-refused w why h =
+          let g = some-there (led v.segments l) leading in
+          record {
+            step_is = instance-is m stands v past tied l F input true true true (Some why) (leads-is m stands v past tied l true leading) (sym claims) (leaves-is m stands v past tied l g.0 g.1 true (leaves g.0 g.1 tied.keys)) (verdict-is m stands v past tied l input g.0 g.1 (Some why) h.1);
+            stands_for = subst (λ (z : ReplicaState M Msg). AreParts m stands z (core_of v past)) (sym h.0) (same-parts m stands v past tied);
+          }
+
+      pub takes-input : (w : ReplicaState M Msg) (o : Outcome) → IsVerdictAt m stands v l input None → IsTurned m stands (inputs F (rules_of v.setup) m v.me.0 (core_of v past) l input) w o →
+          IsStepTaken m stands (at_instance F (rules_of v.setup) m v.me.0 (core_of v past) l input) w o
+      takes-input w o h turn =
+          let g = some-there (led v.segments l) leading in
+          record {
+            turn = inputs F (rules_of v.setup) m v.me.0 (core_of v past) l input;
+            step_is = instance-is m stands v past tied l F input true true true None (leads-is m stands v past tied l true leading) (sym claims) (leaves-is m stands v past tied l g.0 g.1 true (leaves g.0 g.1 tied.keys)) (verdict-is m stands v past tied l input g.0 g.1 None h);
+            turned = turn;
+          }
 
 pub input-turn : {M Msg : Type 0} (m : Module Msg) (laws : IsLawful m) (stands : M → Params → ℕ → List (Item Msg) → Type 0) (v u w : ReplicaState M Msg) (shape : IsReplica m v) (leader : NodeId) (input : Input Msg) (ef : Effects Msg) (r : Result Outcome NoMemory) →
-    IsInputTaken m stands v u leader.0 input ef → OnOk r (IsAbsorbed u w leader ef) → IfOk r (λ o. o.sends ≡ packed (formats_of u.setup m) u.me.0 u.epoch leader.0 ef.sends) →
+    IsInputTaken m stands v u leader.0 input ef → OnOk r (IsAbsorbed u w leader ef) → IfOk r (IsHandedOut m u leader.0 ef.sends ef.hashed) →
     IfOk r (λ o. IsTurnOf m stands v (λ F R me c. inputs F R m me c leader.0 input) w o)
 input-turn m laws stands v u w shape leader input ef (Err e) i a s = tt
 input-turn m laws stands v u w shape leader input ef (Ok o) i a s = λ past tied. turned m laws stands v shape leader input ef w o past tied u i a s

@@ -8,6 +8,7 @@ use Rattle.iss_model.specs.Node.{Core, Dropped, Early as Kept_early, Formats, St
 use Rattle.iss_model.specs.Past.{Past}
 use Rattle.iss_model.specs.Sound.{IsSoundCore}
 use Rattle.iss_model.specs.declared.causes.Why.TheVariants.{EarlyFull, OtherEpoch}
+use Rattle.iss_node.proofs.MadeLemmas.{nothing, nothing-made, nothing-sent}
 use Rattle.iss_node.proofs.RequestLemmas.{moved}
 use Rattle.iss_node.specs.Shape.{AreFrom, IsReplica}
 use Rattle.iss_node.specs.State.{AreParts, IsTied, ReplicaState, core_of, seen_early, seen_one}
@@ -57,7 +58,7 @@ module _ {M Msg : Type 0} (m : Module Msg) (stands : M → Params → ℕ → Li
       let over : nat_lt (length (seen_early v.early)) early_most ≡ false = grind (arith, nat_tests, long, le) in
       record { step_is = rw over refl; stands_for = record { core = refl; tied = tied } }
 
-  pub keep-one : (x : Early Msg) (xs : List (Early Msg)) (o : Outcome) → length v.early < 256 → xs ≡ v.early ++ x ∷ [] → o.sends ≡ [] →
+  pub keep-one : (x : Early Msg) (xs : List (Early Msg)) (o : Outcome) → length v.early < 256 → xs ≡ v.early ++ x ∷ [] → o ≡ nothing →
       IsStep m stands (core_of v past) (keeps_early (core_of v past) (seen_one x)) (record v { early = xs }) (Takes o)
   keep-one x xs o lt is none =
       let long = seen-long v.early in
@@ -72,8 +73,8 @@ module _ {M Msg : Type 0} (m : Module Msg) (stands : M → Params → ℕ → Li
         step_is = rw under refl;
         turned = record {
           stands_for = subst (λ (c : Core Msg). AreParts m stands w c) (sym core) (record { core = refl; tied = moved m stands v shape past tied w refl sound });
-          sends = none;
-          addressed = subst (λ (ys : List (To × List ℕ)). AreToNodes v.setup.n ys) (sym none) tt;
+          made = nothing-made (record (core_of v past) { early = seen_early v.early ++ seen_one x ∷ [] }) o none;
+          addressed = nothing-sent v.setup.n o none;
         };
       }
 

@@ -1,5 +1,6 @@
 pub mod CastLemmas
 pub mod CellsLemmas
+pub mod ClaimLemmas
 pub mod EndLemmas
 pub mod EpochLemmas
 pub mod FlightLemmas
@@ -8,6 +9,7 @@ pub mod GrowthLemmas
 pub mod InputLemmas
 pub mod InstanceLemmas
 pub mod KeepLemmas
+pub mod MadeLemmas
 pub mod NextLemmas
 pub mod NilLemmas
 pub mod NodeLemmas

@@ -5,12 +5,13 @@ use Rattle.std.specs.List.{filter}
 use Rattle.iss_layout.specs.Layout.{Conduct, Ended, IsStanding, Plan, conduct_of, plan_by, slots_from}
 use Rattle.iss_model.specs.Concrete.{rules_of}
 use Rattle.iss_model.specs.Formats.{formats_of}
-use Rattle.iss_model.specs.Node.{Core, Formats, Turn, at_instance, ended, in_next_epoch, is_nil_at, takes_early, tried}
+use Rattle.iss_model.specs.Node.{Core, Formats, Turn, at_instance, claims_in, ended, in_next_epoch, is_nil_at, takes_early, tried}
 use Rattle.iss_model.specs.Past.{Past, is_complete}
 use Rattle.iss_node.proofs.EpochLemmas.{complete-is, parts-opened}
 use Rattle.iss_node.specs.Epochs.{AreStarted, HasClosed, HasOpened, notes}
 use Rattle.iss_node.specs.Shape.{AreFrom, IsReplica}
 use Rattle.iss_node.specs.State.{AreParts, IsTied, ReplicaState, core_of, led, seen_one}
+use Rattle.iss_node.proofs.MadeLemmas.{early-made}
 use Rattle.iss_node.proofs.SettleLemmas.{early-not, early-on}
 use Rattle.iss_node.specs.Casts.{IsCut}
 use Rattle.iss_node.specs.Steps.{IsLater, IsNextEpoch, IsTurnOf, IsTurned}
@@ -23,7 +24,9 @@ use Rattle.iss_request.specs.declared.requests.Batch.{Batch}
 use Rattle.iss_request.specs.declared.ids.NodeId.{NodeId}
 use Rattle.iss_request.specs.declared.ids.Slot.{Slot}
 use Rattle.iss_request.specs.declared.setups.Setup.{Setup}
+use Rattle.iss_sb.specs.Calls.{AreToNodes}
 use Rattle.iss_sb.specs.Evidence.{Item, Module}
+use Rattle.iss_sb.specs.declared.effects.Claim.{Claim}
 use Rattle.iss_sb.specs.declared.effects.Params.{Params}
 use Rattle.iss_segment.specs.Instance.{SegmentState}
 use Rattle.iss_window.specs.Kept.{Kept, StandsFor}
@@ -126,14 +129,27 @@ module _ {M Msg : Type 0} (m : Module Msg) (stands : M → Params → ℕ → Li
       subst (λ (s : Setup). IsTurned m stands (ended (rules_of s) m v.me.0 t) w o) later.setup
       (subst (λ (i : NodeId). IsTurned m stands (ended (rules_of u.setup) m i.0 t) w o) later.me h)
 
-  pub early-stays : (w : ReplicaState M Msg) → w ≡ u → b ≡ false → IsTurnOf m stands v (λ F R me c. takes_early F R m me c (seen_one x)) w o
-  early-stays w is q = λ past tied.
-      let t : Turn Msg = tried (core_of v past) (at_instance (formats_of v.setup m) (rules_of v.setup) m v.me.0 (core_of v past) x.leader.0 (Receive x.from x.msg)) in
-      subst (λ (z : ReplicaState M Msg). IsTurned m stands (ended (rules_of v.setup) m v.me.0 t) z o) (sym is)
-      (same-rules t u (early-not m stands u t o (is-over m stands u b false asked q) (went past tied)))
+  -- the turn of one whose claims were read
+  with-claims : (past : Past Msg) (w : ReplicaState M Msg) (claims : List Claim) (p : Outcome) → claims ≡ claims_in (rules_of v.setup) m v.me.0 past x.from.0 x.leader.0 x.msg → p ≡ record o { early = claims } →
+      IsTurned m stands (ended (rules_of v.setup) m v.me.0 (tried (core_of v past) (at_instance (formats_of v.setup m) (rules_of v.setup) m v.me.0 (core_of v past) x.leader.0 (Receive x.from x.msg)))) w o →
+      IsTurned m stands (takes_early (formats_of v.setup m) (rules_of v.setup) m v.me.0 (core_of v past) (seen_one x)) w p
+  with-claims past w claims p read is h = record {
+    stands_for = h.stands_for;
+    made = early-made _ o p claims _ read is h.made;
+    addressed = subst (λ (z : Outcome). AreToNodes w.setup.n z.sends) (sym is) h.addressed;
+  }
 
-  pub early-goes : (n w : ReplicaState M Msg) → w ≡ n → b ≡ true → (early : List (Early Msg)) → IsNextEpoch m stands u n early → IsLater u n → IsTurnOf m stands v (λ F R me c. takes_early F R m me c (seen_one x)) w o
-  early-goes n w is q early next after = λ past tied.
-      let t : Turn Msg = tried (core_of v past) (at_instance (formats_of v.setup m) (rules_of v.setup) m v.me.0 (core_of v past) x.leader.0 (Receive x.from x.msg)) in
-      subst (λ (z : ReplicaState M Msg). IsTurned m stands (ended (rules_of v.setup) m v.me.0 t) z o) (sym is)
-      (same-rules t n (early-on m stands u n t o early (is-over m stands u b true asked q) next after (went past tied)))
+  module _ (claims : List Claim) (read : (past : Past Msg) → IsTied m stands v past → claims ≡ claims_in (rules_of v.setup) m v.me.0 past x.from.0 x.leader.0 x.msg) (p : Outcome) (with_early : p ≡ record o { early = claims }) where
+    pub early-stays : (w : ReplicaState M Msg) → w ≡ u → b ≡ false → IsTurnOf m stands v (λ F R me c. takes_early F R m me c (seen_one x)) w p
+    early-stays w is q = λ past tied.
+        let t : Turn Msg = tried (core_of v past) (at_instance (formats_of v.setup m) (rules_of v.setup) m v.me.0 (core_of v past) x.leader.0 (Receive x.from x.msg)) in
+        with-claims past w claims p (read past tied) with_early
+        (subst (λ (z : ReplicaState M Msg). IsTurned m stands (ended (rules_of v.setup) m v.me.0 t) z o) (sym is)
+        (same-rules t u (early-not m stands u t o (is-over m stands u b false asked q) (went past tied))))
+
+    pub early-goes : (n w : ReplicaState M Msg) → w ≡ n → b ≡ true → (early : List (Early Msg)) → IsNextEpoch m stands u n early → IsLater u n → IsTurnOf m stands v (λ F R me c. takes_early F R m me c (seen_one x)) w p
+    early-goes n w is q early next after = λ past tied.
+        let t : Turn Msg = tried (core_of v past) (at_instance (formats_of v.setup m) (rules_of v.setup) m v.me.0 (core_of v past) x.leader.0 (Receive x.from x.msg)) in
+        with-claims past w claims p (read past tied) with_early
+        (subst (λ (z : ReplicaState M Msg). IsTurned m stands (ended (rules_of v.setup) m v.me.0 t) z o) (sym is)
+        (same-rules t n (early-on m stands u n t o early (is-over m stands u b true asked q) next after (went past tied))))

@@ -22,7 +22,7 @@ module _ {M Msg : Type 0} (m : Module Msg) (stands : M → Params → ℕ → Li
       IsAnswer m stands c (step (formats_of v.setup m) (rules_of v.setup) m v.me.0 c event) (record { parts = w; stale = s }) (Take o)
   answer-taken o h c st =
       let all = at-core m stands v c st.parts (λ d. IsStep m stands d (step (formats_of v.setup m) (rules_of v.setup) m v.me.0 d event) w (Takes o)) h in
-      record { turn = all.turn; step_is = all.step_is; stands_for = record { fresh = st.fresh; parts = all.turned.stands_for }; sends = all.turned.sends; addressed = all.turned.addressed }
+      record { turn = all.turn; step_is = all.step_is; stands_for = record { fresh = st.fresh; parts = all.turned.stands_for }; made = all.turned.made; addressed = all.turned.addressed }
 
   pub answer-dropped : (why : Why) → IsStepOf m stands v (λ F R me c. step F R m me c event) w (Drops why) → (c : Core Msg) → Stands m stands (record { parts = v; stale = s }) c →
       IsAnswer m stands c (step (formats_of v.setup m) (rules_of v.setup) m v.me.0 c event) (record { parts = w; stale = s }) (Drop why)

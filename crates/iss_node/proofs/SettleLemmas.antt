@@ -7,9 +7,11 @@ use Rattle.iss_model.specs.Formats.{formats_of}
 use Rattle.iss_model.specs.Node.{Core, Dropped, Early as Kept_early, Formats, Stepped, Taken, Turn, at_instance, ended, in_next_epoch, onward, rests, settled, settles, takes_each, takes_early, tried}
 use Rattle.iss_model.specs.Past.{Past, is_complete}
 use Rattle.iss_model.specs.Rules.{Rules}
+use Rattle.iss_node.proofs.MadeLemmas.{both-made, nothing, nothing-made, nothing-sent, still-made}
+use Rattle.iss_node.specs.Epochs.{both}
 use Rattle.iss_node.specs.Shape.{AreFrom}
 use Rattle.iss_node.specs.State.{AreParts, IsTied, ReplicaState, core_of, seen_early, seen_one}
-use Rattle.iss_node.specs.Steps.{IsLater, IsNextEpoch, IsStep, IsStepDropped, IsStepTaken, IsTurnBehind, IsTurnOf, IsTurned}
+use Rattle.iss_node.specs.Steps.{IsLater, IsMade, IsNextEpoch, IsStep, IsStepDropped, IsStepTaken, IsTurnBehind, IsTurnOf, IsTurned}
 use Rattle.iss_node.specs.declared.answers.Early.{Early}
 use Rattle.iss_node.specs.declared.answers.Outcome.{Outcome}
 use Rattle.iss_node.specs.declared.answers.Stepped.{Stepped as Answered}
@@ -35,11 +37,11 @@ module _ {M Msg : Type 0} (m : Module Msg) (stands : M → Params → ℕ → Li
   pub tried-taken : (v w : ReplicaState M Msg) (c : Core Msg) (step : Stepped Msg) (o : Outcome) → IsStep m stands c step w (Takes o) → IsTurned m stands (tried c step) w o
   tried-taken v w c step o h = subst (λ (z : Stepped Msg). IsTurned m stands (tried c z) w o) (sym h.step_is) h.turned
 
-  pub tried-dropped : (v w : ReplicaState M Msg) (c : Core Msg) (step : Stepped Msg) (why : _) (o : Outcome) → IsStep m stands c step w (Drops why) → o.sends ≡ [] → IsTurned m stands (tried c step) w o
+  pub tried-dropped : (v w : ReplicaState M Msg) (c : Core Msg) (step : Stepped Msg) (why : _) (o : Outcome) → IsStep m stands c step w (Drops why) → o ≡ nothing → IsTurned m stands (tried c step) w o
   tried-dropped v w c step why o h none = subst (λ (z : Stepped Msg). IsTurned m stands (tried c z) w o) (sym h.step_is) (record {
     stands_for = h.stands_for;
-    sends = none;
-    addressed = subst (λ (xs : List (To × List ℕ)). AreToNodes w.setup.n xs) (sym none) tt;
+    made = nothing-made c o none;
+    addressed = nothing-sent w.setup.n o none;
   })
 
   -- ---- a turn that does not fill the epoch, and one that does
@@ -69,7 +71,7 @@ module _ {M Msg : Type 0} (m : Module Msg) (stands : M → Params → ℕ → Li
       let begun : Turn Msg = record t { core = in_next_epoch c } in
       let turned : IsTurned m stands begun u first = record {
         stands_for = parts;
-        sends = h.sends;
+        made = still-made t (in_next_epoch c) first h.made;
         addressed = subst (λ (s : Setup). AreToNodes s.n first.sends) (sym later.setup) h.addressed;
       } in
       let went = each begun turned in
@@ -113,7 +115,7 @@ module _ {M Msg : Type 0} (m : Module Msg) (stands : M → Params → ℕ → Li
       let complete = over t.core.past h.stands_for.tied in
       let parts : AreParts m stands u (in_next_epoch t.core) = subst (λ (d : Core Msg). AreParts m stands u (in_next_epoch d)) (sym h.stands_for.core) (next.stands_for t.core.past h.stands_for.tied complete) in
       subst (λ (z : Turn Msg). IsTurned m stands z u o) (sym (ended-on (rules_of v.setup) v.me.0 t complete))
-      (record { stands_for = parts; sends = h.sends; addressed = subst (λ (s : Setup). AreToNodes s.n o.sends) (sym later.setup) h.addressed })
+      (record { stands_for = parts; made = still-made t (in_next_epoch t.core) o h.made; addressed = subst (λ (s : Setup). AreToNodes s.n o.sends) (sym later.setup) h.addressed })
 
   -- by the set-up that stays
   pub ended-by : (v u w : ReplicaState M Msg) (t : Turn Msg) (o : Outcome) → IsLater v u → IsTurned m stands (ended (rules_of u.setup) m u.me.0 t) w o → IsTurned m stands (ended (rules_of v.setup) m v.me.0 t) w o
@@ -124,30 +126,30 @@ module _ {M Msg : Type 0} (m : Module Msg) (stands : M → Params → ℕ → Li
   -- ---- early messages in turn
 
   -- what is left of the messages is owed by the turn so far
-  pub record Owes (start : ReplicaState M Msg) (first : Outcome) (now : ReplicaState M Msg) (sends : List (To × List ℕ)) (done : List (Early Msg)) (t : Turn Msg) : Type 0 where
+  pub record Owes (start : ReplicaState M Msg) (now : ReplicaState M Msg) (all : Outcome) (done : List (Early Msg)) (t : Turn Msg) : Type 0 where
     pub so_far : Turn Msg
     pub stands_for : AreParts m stands now so_far.core
-    pub sent : sends ≡ so_far.sends
-    pub addressed : AreToNodes now.setup.n sends
+    pub made : IsMade so_far all
+    pub addressed : AreToNodes now.setup.n all.sends
     pub rest : (more : List (Early Msg)) →
         onward t (takes_each (formats_of start.setup m) (rules_of start.setup) m start.me.0 start.epoch (seen_early (done ++ more)))
         ≡ onward so_far (takes_each (formats_of start.setup m) (rules_of start.setup) m start.me.0 start.epoch (seen_early more))
 
-  pub owes-first : (v : ReplicaState M Msg) (first : Outcome) (t : Turn Msg) → IsTurned m stands t v first → Owes v first v first.sends [] t
-  owes-first v first t h = record { so_far = t; stands_for = h.stands_for; sent = h.sends; addressed = h.addressed; rest = λ more. refl }
+  pub owes-first : (v : ReplicaState M Msg) (first : Outcome) (t : Turn Msg) → IsTurned m stands t v first → Owes v v first [] t
+  owes-first v first t h = record { so_far = t; stands_for = h.stands_for; made = h.made; addressed = h.addressed; rest = λ more. refl }
 
   append-nothing : {A : Type 0} (xs : List A) → xs ++ [] ≡ xs
   append-nothing [] = refl
   append-nothing (x ∷ xs) = ap (λ ys. x ∷ ys) (append-nothing xs)
 
-  pub owes-last : (start now : ReplicaState M Msg) (first : Outcome) (sends : List (To × List ℕ)) (all done : List (Early Msg)) → done ≡ all → (t : Turn Msg) → Owes start first now sends done t →
-      IsTurned m stands (onward t (takes_each (formats_of start.setup m) (rules_of start.setup) m start.me.0 start.epoch (seen_early all))) now (record { sends = sends })
-  owes-last start now first sends all done is t o =
+  pub owes-last : (start now : ReplicaState M Msg) (last : Outcome) (all done : List (Early Msg)) → done ≡ all → (t : Turn Msg) → Owes start now last done t →
+      IsTurned m stands (onward t (takes_each (formats_of start.setup m) (rules_of start.setup) m start.me.0 start.epoch (seen_early all))) now last
+  owes-last start now last all done is t o =
       let F = formats_of start.setup m in
       let R = rules_of start.setup in
       let e : onward t (takes_each F R m start.me.0 start.epoch (seen_early all)) ≡ o.so_far =
       ap (λ (xs : List (Early Msg)). onward t (takes_each F R m start.me.0 start.epoch (seen_early xs))) (sym is ∙ sym (append-nothing done)) ∙ o.rest [] ∙ onward-rests o.so_far in
-      subst (λ (z : Turn Msg). IsTurned m stands z now (record { sends = sends })) (sym e) (record { stands_for = o.stands_for; sends = o.sent; addressed = o.addressed })
+      subst (λ (z : Turn Msg). IsTurned m stands z now last) (sym e) (record { stands_for = o.stands_for; made = o.made; addressed = o.addressed })
 
   to-nodes : (n : ℕ) (xs ys : List (To × List ℕ)) → AreToNodes n xs → AreToNodes n ys → AreToNodes n (xs ++ ys)
   to-nodes n [] ys h k = k
@@ -161,24 +163,24 @@ module _ {M Msg : Type 0} (m : Module Msg) (stands : M → Params → ℕ → Li
   each-off F R me e (x ∷ xs) c h = rw h refl
 
   -- the next message, while the epoch lasts
-  pub owes-next : (start now new : ReplicaState M Msg) (first : Outcome) (sends more : List (To × List ℕ)) (done : List (Early Msg)) (x : Early Msg) (t : Turn Msg) (later : IsLater start now) (after : IsLater now new) → now.epoch ≡ start.epoch →
-      IsTurnOf m stands now (λ F R me c. takes_early F R m me c (seen_one x)) new (record { sends = more }) → Owes start first now sends done t → Owes start first new (sends ++ more) (done ++ x ∷ []) t
-  owes-next start now new first sends more done x t later after lasts taken o =
+  pub owes-next : (start now new : ReplicaState M Msg) (all more : Outcome) (done : List (Early Msg)) (x : Early Msg) (t : Turn Msg) (later : IsLater start now) (after : IsLater now new) → now.epoch ≡ start.epoch →
+      IsTurnOf m stands now (λ F R me c. takes_early F R m me c (seen_one x)) new more → Owes start now all done t → Owes start new (both all more) (done ++ x ∷ []) t
+  owes-next start now new all more done x t later after lasts taken o =
       let c = o.so_far.core in
       let tied = o.stands_for.tied in
       let F = formats_of start.setup m in
       let R = rules_of start.setup in
       let me = start.me.0 in
-      let turn : IsTurned m stands (takes_early F R m me c (seen_one x)) new (record { sends = more }) =
-      subst (λ (s : Setup). IsTurned m stands (takes_early (formats_of s m) (rules_of s) m me c (seen_one x)) new (record { sends = more })) later.setup
-      (subst (λ (i : NodeId). IsTurned m stands (takes_early (formats_of now.setup m) (rules_of now.setup) m i.0 c (seen_one x)) new (record { sends = more })) later.me
-      (at-core now c o.stands_for (λ d. IsTurned m stands (takes_early (formats_of now.setup m) (rules_of now.setup) m now.me.0 d (seen_one x)) new (record { sends = more })) (λ past h. taken past h))) in
+      let turn : IsTurned m stands (takes_early F R m me c (seen_one x)) new more =
+      subst (λ (s : Setup). IsTurned m stands (takes_early (formats_of s m) (rules_of s) m me c (seen_one x)) new more) later.setup
+      (subst (λ (i : NodeId). IsTurned m stands (takes_early (formats_of now.setup m) (rules_of now.setup) m i.0 c (seen_one x)) new more) later.me
+      (at-core now c o.stands_for (λ d. IsTurned m stands (takes_early (formats_of now.setup m) (rules_of now.setup) m now.me.0 d (seen_one x)) new more) (λ past h. taken past h))) in
       let epoch : c.past.epoch ≡ start.epoch = sym tied.epoch ∙ lasts in
       record {
         so_far = onward o.so_far (λ d. takes_early F R m me d (seen_one x));
         stands_for = turn.stands_for;
-        sent = ap (λ (ys : List (To × List ℕ)). ys ++ more) o.sent ∙ ap (λ (ys : List (To × List ℕ)). o.so_far.sends ++ ys) turn.sends;
-        addressed = to-nodes new.setup.n sends more (subst (λ (s : Setup). AreToNodes s.n sends) (sym after.setup) o.addressed) turn.addressed;
+        made = both-made o.so_far (λ d. takes_early F R m me d (seen_one x)) all more o.made turn.made;
+        addressed = to-nodes new.setup.n all.sends more.sends (subst (λ (s : Setup). AreToNodes s.n all.sends) (sym after.setup) o.addressed) turn.addressed;
         rest = λ ys.
             let regroup : (done ++ x ∷ []) ++ ys ≡ done ++ x ∷ ys = append_assoc done (x ∷ []) ys in
             ap (λ (zs : List (Early Msg)). onward t (takes_each F R m me start.epoch (seen_early zs))) regroup
@@ -188,12 +190,12 @@ module _ {M Msg : Type 0} (m : Module Msg) (stands : M → Params → ℕ → Li
       }
     where
       onward-at : (u : Turn Msg) (f g : Core Msg → Turn Msg) → f u.core ≡ g u.core → onward u f ≡ onward u g
-      onward-at u f g h = ap (λ (z : Turn Msg). let y : Turn Msg = record { core = z.core; sends = u.sends ++ z.sends; own = u.own ++ z.own; strings = u.strings ++ z.strings } in y) h
+      onward-at u f g h = ap (λ (z : Turn Msg). let y : Turn Msg = record { core = z.core; sends = u.sends ++ z.sends; own = u.own ++ z.own; early = u.early ++ z.early; strings = u.strings ++ z.strings } in y) h
 
   -- and none once it is over
-  pub owes-none : (start now : ReplicaState M Msg) (first : Outcome) (sends : List (To × List ℕ)) (done : List (Early Msg)) (x : Early Msg) (t : Turn Msg) → eqb now.epoch start.epoch ≡ false →
-      Owes start first now sends done t → Owes start first now sends (done ++ x ∷ []) t
-  owes-none start now first sends done x t over o =
+  pub owes-none : (start now : ReplicaState M Msg) (all : Outcome) (done : List (Early Msg)) (x : Early Msg) (t : Turn Msg) → eqb now.epoch start.epoch ≡ false →
+      Owes start now all done t → Owes start now all (done ++ x ∷ []) t
+  owes-none start now all done x t over o =
       let c = o.so_far.core in
       let F = formats_of start.setup m in
       let R = rules_of start.setup in
@@ -202,7 +204,7 @@ module _ {M Msg : Type 0} (m : Module Msg) (stands : M → Params → ℕ → Li
       record {
         so_far = o.so_far;
         stands_for = o.stands_for;
-        sent = o.sent;
+        made = o.made;
         addressed = o.addressed;
         rest = λ ys.
             let regroup : (done ++ x ∷ []) ++ ys ≡ done ++ x ∷ ys = append_assoc done (x ∷ []) ys in
@@ -213,4 +215,4 @@ module _ {M Msg : Type 0} (m : Module Msg) (stands : M → Params → ℕ → Li
       }
     where
       onward-at : (u : Turn Msg) (f g : Core Msg → Turn Msg) → f u.core ≡ g u.core → onward u f ≡ onward u g
-      onward-at u f g h = ap (λ (z : Turn Msg). let y : Turn Msg = record { core = z.core; sends = u.sends ++ z.sends; own = u.own ++ z.own; strings = u.strings ++ z.strings } in y) h
+      onward-at u f g h = ap (λ (z : Turn Msg). let y : Turn Msg = record { core = z.core; sends = u.sends ++ z.sends; own = u.own ++ z.own; early = u.early ++ z.early; strings = u.strings ++ z.strings } in y) h

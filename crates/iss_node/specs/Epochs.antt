@@ -1,10 +1,11 @@
 -- How an epoch's end changes the parts of a node.
-use Rattle.std.specs.Prelude.{◌≡◌, ℕ, [], ◌∷◌, List, Some, is_some, reverse, Option}
+use Rattle.std.specs.Prelude.{◌≡◌, ℕ, [], ◌∷◌, ◌++◌, List, Some, is_some, reverse, Option}
 use Rattle.std.specs.List.{filter}
 use Rattle.iss_layout.specs.Layout.{Ended, IsStanding, Plan, conduct_of, leads, plan_by, segment, slots_from}
 use Rattle.iss_model.specs.Concrete.{keys_of}
 use Rattle.iss_model.specs.Node.{is_nil_at}
 use Rattle.iss_node.specs.State.{ReplicaState, led}
+use Rattle.iss_node.specs.declared.answers.Outcome.{Outcome}
 use Rattle.iss_request.specs.declared.ids.NodeId.{NodeId}
 use Rattle.iss_request.specs.declared.ids.ReqId.{ReqId}
 use Rattle.iss_request.specs.declared.setups.Setup.{Setup}
@@ -13,6 +14,10 @@ use Rattle.iss_sb.specs.declared.effects.Params.{Params}
 use Rattle.iss_segment.specs.Instance.{IsInstance, SegmentState}
 use Rattle.iss_window.specs.Kept.{StandsFor}
 use Rattle.iss_window.specs.Window.{Noted, and_closed, and_noted}
+
+-- what was made later, behind what was made before
+abbrev pub both : Outcome → Outcome → Outcome
+both a b = record { sends = a.sends ++ b.sends; own = a.own ++ b.own; early = a.early ++ b.early; hashed = a.hashed ++ b.hashed }
 
 -- these identities were noted, one after the other
 abbrev pub notes : Noted → List ReqId → Noted

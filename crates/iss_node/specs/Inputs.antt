@@ -2,12 +2,14 @@
 use Rattle.std.specs.Prelude.{◌≡◌, ◌≢◌, ℕ, ◌||◌, List, ◌++◌, [], ◌∷◌, Option, Some, None, Result, Ok, Err, fold, length, reverse}
 use Rattle.iss_buckets.specs.Waiting.{AreNew, absent}
 use Rattle.iss_ids.specs.Set.{and_ids}
-use Rattle.iss_model.specs.Node.{returned}
+use Rattle.iss_model.specs.Formats.{formats_of}
+use Rattle.iss_model.specs.Node.{own_claims, packed, returned}
 use Rattle.iss_model.specs.declared.causes.Refusal.{Refusal}
 use Rattle.iss_node.specs.Flights.{IsLanded}
 use Rattle.iss_node.specs.Growth.{IsGrown, and_values, waits_on}
 use Rattle.iss_node.specs.State.{ReplicaState, led}
 use Rattle.iss_node.specs.declared.answers.Accepted.{Accepted}
+use Rattle.iss_node.specs.declared.answers.Outcome.{Outcome}
 use Rattle.iss_request.specs.Log.{has_id, log_ids}
 use Rattle.iss_request.specs.declared.ids.NodeId.{NodeId}
 use Rattle.iss_request.specs.declared.ids.ReqId.{ReqId}
@@ -18,6 +20,7 @@ use Rattle.iss_sb.specs.Evidence.{Item, Module}
 use Rattle.iss_sb.specs.declared.effects.Effects.{Effects}
 use Rattle.iss_sb.specs.declared.effects.Input.{Input}
 use Rattle.iss_sb.specs.declared.effects.Params.{Params}
+use Rattle.iss_sb.specs.declared.effects.To.{To}
 use Rattle.iss_segment.specs.Answers.{IsInstanceTaken, IsVerdict}
 use Rattle.iss_segment.specs.Ground.{noted_before}
 use Rattle.iss_segment.specs.Instance.{SegmentState}
@@ -73,6 +76,14 @@ pub record HasGrown {M Msg : Type 0} (old new : ReplicaState M Msg) (delivers : 
   -- what joined waits no more
   pub landed : HasLanded (record old { log = new.log; logged = new.logged; waiting = fold waits_on old.waiting grown.joined }) new
   pub rest : new ≡ record old { log = new.log; logged = new.logged; flight = new.flight; waiting = new.waiting }
+
+-- what a step of leader l's instance made, as the node hands it out: packets, its own claims in them, and what was hashed
+pub record IsHandedOut {M Msg : Type 0} (m : Module Msg) (v : ReplicaState M Msg) (l : ℕ) (sends : List (To × Msg)) (hashed : List (List ℕ))
+    (o : Outcome) : Type 0 where
+  pub sent : o.sends ≡ packed (formats_of v.setup m) v.me.0 v.epoch l sends
+  pub own : (g : SegmentState M) → led v.segments l ≡ Some g → o.own ≡ own_claims m g.params v.me.0 sends
+  pub early : o.early ≡ []
+  pub hashed_is : o.hashed ≡ hashed
 
 -- what a step of an instance made is the node's
 pub record IsAbsorbed {M Msg : Type 0} (old new : ReplicaState M Msg) (l : NodeId) (e : Effects Msg) : Type 0 where

@@ -1,5 +1,5 @@
 -- What a node's answer to an event says of the model's step.
-use Rattle.std.specs.Prelude.{◌≡◌, ◌<◌, ℕ, true, List, Result, Ok, Err}
+use Rattle.std.specs.Prelude.{◌≡◌, ◌<◌, ℕ, true, List, Result, Ok, Err, take}
 use Rattle.iss_log.specs.LogState.{GoesOn}
 use Rattle.iss_model.specs.Concrete.{rules_of}
 use Rattle.iss_model.specs.Formats.{formats_of}
@@ -20,11 +20,19 @@ use Rattle.iss_sb.specs.declared.effects.Input.{Input}
 use Rattle.iss_sb.specs.declared.effects.Input.TheVariants.{Cast, Receive, Timeout}
 use Rattle.iss_sb.specs.declared.effects.Params.{Params}
 
--- a turn of the model was made: the parts stand for its core, and what it sends is handed out, all of it to nodes
+-- what a turn of the model made is handed out: what it sends, its own claims in that, the claims that it read of what had come
+-- early, and the strings that it hashed
+pub record IsMade {Msg : Type 0} (turn : Turn Msg) (outcome : Outcome) : Type 0 where
+  pub sends : outcome.sends ≡ turn.sends
+  pub own : outcome.own ≡ turn.own
+  pub early : outcome.early ≡ turn.early
+  pub hashed : outcome.hashed ≡ turn.strings
+
+-- a turn of the model was made: the parts stand for its core, and what it made is handed out, all of it sent to nodes
 pub record IsTurned {M Msg : Type 0} (m : Module Msg) (stands : M → Params → ℕ → List (Item Msg) → Type 0)
     (turn : Turn Msg) (new : ReplicaState M Msg) (outcome : Outcome) : Type 0 where
   pub stands_for : AreParts m stands new turn.core
-  pub sends : outcome.sends ≡ turn.sends
+  pub made : IsMade turn outcome
   pub addressed : AreToNodes new.setup.n outcome.sends
 
 -- the model takes the event too, by this turn
@@ -89,14 +97,14 @@ IsNodeInput n Timeout = Unit {0}
 
 -- ---- what the node answers
 
--- the event was taken: the node stands for the core after the step, and hands out what the step sends, all of it to
+-- the event was taken: the node stands for the core after the step, and hands out what the step made, all of it sent to
 -- nodes
 pub record IsTurn {M Msg : Type 0} (m : Module Msg) (stands : M → Params → ℕ → List (Item Msg) → Type 0)
     (stepped : Stepped Msg) (new : NodeState M Msg) (outcome : Outcome) : Type 0 where
   pub turn : Turn Msg
   pub step_is : stepped ≡ Was_taken turn
   pub stands_for : Stands m stands new turn.core
-  pub sends : outcome.sends ≡ turn.sends
+  pub made : IsMade turn outcome
   pub addressed : AreToNodes new.parts.setup.n outcome.sends
 
 -- the event was dropped: nothing has changed
@@ -124,3 +132,11 @@ IsLeft old new (Taken outcome) = Unit {0}
 IsLeft old new (Dropped why) = Unit {0}
 IsLeft old new NoMemory = IsSpoiled old new
 IsLeft old new Stale = (old.stale ≡ true) × (new ≡ old)
+
+-- the node gave up what came after the first slots, and its epoch is this one; it takes nothing more
+pub record HasRetreated {M Msg : Type 0} (old new : NodeState M Msg) (slots e : ℕ) : Type 0 where
+  pub stale : new.stale ≡ true
+  pub log : new.parts.log.entries ≡ take slots old.parts.log.entries
+  pub epoch : new.parts.epoch ≡ e
+  pub setup : new.parts.setup ≡ old.parts.setup
+  pub me : new.parts.me ≡ old.parts.me

@@ -1,15 +1,40 @@
 //! What a node answers.
 use iss_model::Why;
 use iss_request::{Batch, Bytes, NodeId, Row, Slot};
-use iss_sb::To;
+use iss_sb::{Claim, To};
+use std::alloc::Global;
 
-/// What an event made that was taken: packets, in the order in which they were made.
+/// What an event made that was taken.
 #[derive(Drop)]
 pub struct Outcome {
+    /// Packets, in the order in which they were made.
     pub sends: Row<(To, Bytes)>,
+    /// The node's own claims in them.
+    pub own: Row<Claim>,
+    /// The claims of what had come early and was tried, also where it was refused then.
+    pub early: Row<Claim>,
+    /// The strings that were hashed, in the order in which they were.
+    pub hashed: Row<Bytes>,
 }
 
-/// What a node answers to an event. `Stale` comes exactly where an earlier event was answered by want of memory.
+impl Outcome {
+    ghost use Rattle.std.specs.Prelude.{◌≡◌, []};
+
+    /// Nothing was made.
+    pub fn nothing(alloc: Global) -> Outcome
+        ensures { result ≡ record { sends = []; own = []; early = []; hashed = [] } }
+    {
+        Outcome {
+            sends: Row::new(alloc),
+            own: Row::new(alloc),
+            early: Row::new(alloc),
+            hashed: Row::new(alloc),
+        }
+    }
+}
+
+/// What a node answers to an event. `Stale` comes exactly where an earlier event was answered by want of memory, or after
+/// `retreat`.
 #[derive(Drop)]
 pub enum Answer {
     Taken(Outcome),

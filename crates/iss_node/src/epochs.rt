@@ -3,7 +3,7 @@ ghost use Rattle.std.specs.Prelude.{◌≡◌, ◌<◌, ◌+◌, ◌^◌, ◌++�
 ghost use Rattle.std.specs.List.{filter};
 ghost use Rattle.iss_layout.specs.Layout.{slots_from};
 ghost use Rattle.iss_model.specs.Node.{at_instance, is_nil_at, onward, settles, takes_each, takes_early, tried};
-ghost use Rattle.iss_node.specs.Epochs.{HasClosed, HasOpened, notes};
+ghost use Rattle.iss_node.specs.Epochs.{HasClosed, HasOpened, both, notes};
 ghost use Rattle.iss_node.specs.Shape.{AreFrom};
 ghost use Rattle.iss_node.specs.State.{seen_early, seen_one};
 ghost use Rattle.iss_node.specs.Steps.{IsLater, IsNextEpoch, IsSettled, IsTurnBehind, IsTurnOf};
@@ -17,8 +17,8 @@ use crate::starting::start_segments;
 use iss_ids::Ids;
 use iss_layout::Layout;
 use iss_log::Log;
-use iss_request::{Bytes, Epoch, NoMemory, ReqId, Row, Slot};
-use iss_sb::{Input, Sequenced, To};
+use iss_request::{Epoch, NoMemory, ReqId, Row, Slot};
+use iss_sb::{Claim, Input, Sequenced};
 use iss_window::Windows;
 use std::alloc::Global;
 use std::mem;
@@ -47,7 +47,7 @@ impl<M: Sequenced> Replica<M> {
         self.take_each(alloc, outcome, early)
     }
 
-    // Takes early messages in turn, as long as the epoch lasts. What they send goes behind what was sent before.
+    // Takes early messages in turn, as long as the epoch lasts. What they make goes behind what was made before.
     fn take_each(
         &mut self,
         alloc: Global,
@@ -60,27 +60,28 @@ impl<M: Sequenced> Replica<M> {
         ensures later { IsLater self.old self.new }
     {
         let epoch = self.epoch;
-        let mut sends = outcome.sends;
+        let mut all = outcome;
         for message in early {
             if self.epoch.0 == epoch.0 {
                 let more = self.take_early(alloc, message)?;
-                append(&mut sends, more.sends)?;
+                put_behind(&mut all, more)?;
             }
         }
-        Ok(Outcome { sends })
+        Ok(all)
     }
 
-    // Takes an early message, as if it came now. One that is refused is gone.
+    // Takes an early message, as if it came now. One that is refused is gone, but its claims were read.
     fn take_early(&mut self, alloc: Global, message: Early<M::Msg>) -> Result<Outcome, NoMemory>
         requires { message.from.0 < self.old.setup.n }
         ensures turn { IfOk result (λ o. IsTurnOf M.meaning M.stands self.old (λ F R me c. takes_early F R M.meaning me c (seen_one message)) self.new o) }
         ensures later { IsLater self.old self.new }
     {
+        let claims = self.claims_in(alloc, message.leader, message.from, &message.msg)?;
         let outcome = self.try_now(alloc, message)?;
         if self.is_complete() {
             let _gone = self.next_epoch(alloc)?;
         }
-        Ok(outcome)
+        Ok(with_early(outcome, claims))
     }
 
     // Takes a message of the epoch, if it is not refused.
@@ -93,9 +94,7 @@ impl<M: Sequenced> Replica<M> {
         let Early { from, leader, msg } = message;
         match self.at_instance(alloc, leader, Input::Receive { from, msg })? {
             Stepped::Taken(outcome) => Ok(outcome),
-            Stepped::Dropped(_) => Ok(Outcome {
-                sends: Row::new(alloc),
-            }),
+            Stepped::Dropped(_) => Ok(Outcome::nothing(alloc)),
         }
     }
 
@@ -180,11 +179,39 @@ fn note_all(windows: &mut Windows, ids: &[ReqId]) -> Result<(), NoMemory>
     Ok(())
 }
 
-fn append(sends: &mut Row<(To, Bytes)>, more: Row<(To, Bytes)>) -> Result<(), NoMemory>
-    ensures { OnOk result (sends.new ≡ sends.old ++ more) }
+// A turn's outcome with these claims of what had come early.
+fn with_early(outcome: Outcome, claims: Row<Claim>) -> Outcome
+    ensures { result ≡ record outcome { early = claims } }
 {
-    for send in more.into_vec() {
-        sends.push(send)?;
+    let Outcome {
+        sends,
+        own,
+        hashed,
+        ..
+    } = outcome;
+    Outcome {
+        sends,
+        own,
+        early: claims,
+        hashed,
+    }
+}
+
+// Puts what was made later behind what was made before.
+fn put_behind(all: &mut Outcome, more: Outcome) -> Result<(), NoMemory>
+    ensures { OnOk result (all.new ≡ both all.old more) }
+{
+    append(&mut all.sends, more.sends)?;
+    append(&mut all.own, more.own)?;
+    append(&mut all.early, more.early)?;
+    append(&mut all.hashed, more.hashed)
+}
+
+fn append<T: Drop>(row: &mut Row<T>, more: Row<T>) -> Result<(), NoMemory>
+    ensures { OnOk result (row.new ≡ row.old ++ more) }
+{
+    for thing in more.into_vec() {
+        row.push(thing)?;
     }
     Ok(())
 }

@@ -1,13 +1,11 @@
 //! What a node's instances take.
 ghost use Rattle.std.specs.Prelude.{◌≡◌, ◌<◌, ◌≤◌, IfOk, OnOk, drop, length};
-ghost use Rattle.iss_model.specs.Formats.{formats_of};
-ghost use Rattle.iss_model.specs.Node.{at_instance, inputs, packed};
-ghost use Rattle.iss_node.specs.Inputs.{HasGrown, IsAbsorbed, IsInputTaken, IsJudgedInput, and_accepted};
+ghost use Rattle.iss_model.specs.Node.{at_instance, inputs};
+ghost use Rattle.iss_node.specs.Inputs.{HasGrown, IsAbsorbed, IsHandedOut, IsInputTaken, IsJudgedInput, and_accepted};
 ghost use Rattle.iss_node.specs.Steps.{IsLater, IsNodeInput, IsStepOf, IsTurnOf};
 
 use crate::answers::{Accepted, Outcome, Stepped};
 use crate::growth::{grow, refile};
-use crate::parcels::pack;
 use crate::replica::Replica;
 use iss_model::Why;
 use iss_request::{Batch, NoMemory, NodeId, Slot, Value};
@@ -16,7 +14,7 @@ use iss_segment::Halt;
 use std::alloc::Global;
 
 impl<M: Sequenced> Replica<M> {
-    /// An input in the instance of a leader, where it leads, keys are left and the judge agrees.
+    /// An input in the instance of a leader, where it leads, what it claims verifies, keys are left and the judge agrees.
     pub(crate) fn at_instance(
         &mut self,
         alloc: Global,
@@ -31,6 +29,10 @@ impl<M: Sequenced> Replica<M> {
         let _setup = &self.setup;
         if !self.leads(leader) {
             return Ok(Stepped::Dropped(Why::NotLeader));
+        }
+        let credible = self.is_credible(alloc, leader, &input)?;
+        if !credible {
+            return Ok(Stepped::Dropped(Why::BadClaim));
         }
         if !self.has_leaves(leader) {
             return Ok(Stepped::Dropped(Why::NoKeys));
@@ -107,26 +109,18 @@ impl<M: Sequenced> Replica<M> {
         effects: Effects<M::Msg>,
     ) -> Result<Outcome, NoMemory>
         ensures absorbed { OnOk result (IsAbsorbed self.old self.new leader effects) }
-        ensures sends { IfOk result (λ outcome. outcome.sends ≡ packed (formats_of self.old.setup M.meaning) self.old.me.0 self.old.epoch leader.0 effects.sends) }
+        ensures made { IfOk result (IsHandedOut M.meaning self.old leader.0 effects.sends effects.hashed) }
         ensures later { IsLater self.old self.new }
     {
         let Effects {
             sends,
             accepted,
             delivers,
-            ..
+            hashed,
         } = effects;
         self.accept(leader, accepted)?;
         self.grow(alloc, delivers.into_vec())?;
-        let sends = pack::<M>(
-            alloc,
-            &self.setup,
-            self.epoch,
-            self.me,
-            leader,
-            sends.as_slice(),
-        )?;
-        Ok(Outcome { sends })
+        self.hand_out(alloc, leader, sends.as_slice(), hashed)
     }
 
     // Keeps a batch that an instance accepted.

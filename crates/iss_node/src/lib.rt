@@ -3,6 +3,7 @@
 
 pub mod answers;
 pub mod casting;
+pub mod claims;
 pub mod epochs;
 pub mod flight;
 pub mod growth;

@@ -1,5 +1,5 @@
 //! The node.
-ghost use Rattle.std.specs.Prelude.{◌≡◌, ◌<◌, ℕ, IfOk, is_some, map, not, reverse};
+ghost use Rattle.std.specs.Prelude.{◌≡◌, ◌<◌, ◌≤◌, ℕ, IfOk, is_some, length, map, not, reverse};
 ghost use Rattle.std.specs.List.{list_any};
 ghost use Rattle.iss_keys.specs.Directories.{AreKeysOf};
 ghost use Rattle.iss_log.specs.LogState.{value_at};
@@ -8,10 +8,10 @@ ghost use Rattle.iss_model.specs.Formats.{formats_of};
 ghost use Rattle.iss_model.specs.Node.{Core, idle, step};
 ghost use Rattle.iss_model.specs.Past.{Past, log_of};
 ghost use Rattle.iss_model.specs.Runs.{IsSetupOf};
-ghost use Rattle.iss_model.specs.Views.{accepted_by, is_castable_now, is_unfilled, unfilled};
+ghost use Rattle.iss_model.specs.Views.{accepted_by, claims_of_bytes, is_castable_now, is_unfilled, unfilled};
 ghost use Rattle.iss_node.specs.State.{IsTied, Stands, accepted_of};
 ghost use Rattle.iss_request.specs.Log.{ids};
-ghost use Rattle.iss_node.specs.Steps.{IsAnswer, IsLater, IsLeft, IsStepOf};
+ghost use Rattle.iss_node.specs.Steps.{HasRetreated, IsAnswer, IsLater, IsLeft, IsStepOf};
 
 use crate::answers::{Accepted, Answer, Stepped};
 use crate::flight::Flight;
@@ -25,13 +25,14 @@ use iss_layout::{Layout, Standing};
 use iss_log::Log;
 use iss_model::NodeEvent;
 use iss_request::{Batch, Epoch, NoMemory, NodeId, ReqId, Row, Setup, Slot};
-use iss_sb::{Input, Sequenced};
+use iss_sb::{Claim, Input, Sequenced};
 use iss_segment::Segment;
 use iss_window::Windows;
 use std::alloc::Global;
 use std::marker::Model;
 
-/// One node. Once memory was wanting it is stale: it shows the log and the epoch that it had, and takes nothing more.
+/// One node. Once memory was wanting it is stale: it shows the log and the epoch that it had, and takes nothing more. So does
+/// one that has retreated.
 #[derive(Drop)]
 pub struct Node<M: Sequenced> {
     parts: Replica<M>,
@@ -104,7 +105,7 @@ impl<M: Sequenced> Node<M> {
         if self.stale {
             return Answer::Stale;
         }
-        let slots = self.parts.log.entries().len();
+        let held = self.parts.log.entries().len();
         let epoch = self.parts.epoch;
         // a turn that wants memory midway leaves it so
         self.stale = true;
@@ -118,14 +119,33 @@ impl<M: Sequenced> Node<M> {
                 Answer::Dropped(why)
             }
             Err(_) => {
-                self.parts.log.cut(slots);
+                self.parts.log.cut(held);
                 self.parts.epoch = epoch;
                 Answer::NoMemory
             }
         }
     }
 
-    /// Whether memory was wanting.
+    /// What these bytes claim that nodes signed, where they are a message of the node's epoch, whose leader leads there.
+    pub fn claims_of(&self, alloc: Global, bytes: &[u8]) -> Result<Row<Claim>, NoMemory>
+        ensures { IfOk result (λ claims. (c : Core M.Msg) → Stands M.meaning M.stands self.now c →
+            claims ≡ claims_of_bytes (formats_of self.now.parts.setup M.meaning) (rules_of self.now.parts.setup) M.meaning self.now.parts.me.0 c bytes.now) }
+    {
+        self.parts.claims_of_bytes(alloc, bytes)
+    }
+
+    /// Gives up what came after the first slots: the log is these, and the epoch the given one. The node is stale from then on.
+    pub fn retreat(&mut self, slots: usize, epoch: Epoch)
+        requires slots { slots ≤ length self.old.parts.log.entries }
+        requires epoch { epoch.0 ≤ self.old.parts.epoch }
+        ensures { HasRetreated self.old self.new slots epoch.0 }
+    {
+        self.stale = true;
+        self.parts.log.cut(slots);
+        self.parts.epoch = epoch;
+    }
+
+    /// Whether memory was wanting, or the node has retreated.
     pub fn is_stale(&self) -> bool
         ensures { result ≡ self.now.stale }
     {

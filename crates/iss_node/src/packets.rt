@@ -1,16 +1,22 @@
 //! What comes to a node from others.
-ghost use Rattle.std.specs.Prelude.{◌≡◌, ◌<◌, ◌==◌, suc, IfOk};
+ghost use Rattle.std.specs.Prelude.{◌≡◌, ◌<◌, ◌==◌, suc, true, IfOk};
+ghost use Rattle.iss_model.specs.Concrete.{rules_of};
+ghost use Rattle.iss_model.specs.Formats.{formats_of, message_in, parcel_of_kind, whole};
 ghost use Rattle.iss_model.specs.Node.{at_instance, keeps_early, settled, takes_bytes, takes_message, takes_parcel};
+ghost use Rattle.iss_model.specs.Past.{Past};
+ghost use Rattle.iss_model.specs.Views.{claims_of_bytes, claims_of_parcel};
 ghost use Rattle.iss_node.specs.Parcels.{IsFromNode, seen_body};
-ghost use Rattle.iss_node.specs.State.{seen_one};
+ghost use Rattle.iss_node.specs.State.{IsTied, core_of, seen_one};
 ghost use Rattle.iss_node.specs.Steps.{IsLater, IsStepOf};
+ghost use Rattle.iss_packet.specs.Packets.{is_routed};
 
 use crate::answers::{Early, Outcome, Stepped};
-use crate::parcels::{Body, Parcel, unwrap};
+use crate::parcels::{Body, Parcel, read_message, unwrap};
 use crate::replica::Replica;
 use iss_model::Why;
-use iss_request::{Bytes, Epoch, NoMemory, Row};
-use iss_sb::{Input, Sequenced};
+use iss_packet::{Packet, PacketError, PacketKind};
+use iss_request::{Bytes, Epoch, NoMemory, NodeId, Row};
+use iss_sb::{Claim, Input, Sequenced};
 use std::alloc::Global;
 
 /// How many messages of the next epoch a node keeps.
@@ -25,6 +31,57 @@ impl<M: Sequenced> Replica<M> {
         match unwrap::<M>(alloc, &self.setup, bytes.as_slice())? {
             Some(parcel) => self.take_parcel(alloc, parcel),
             None => Ok(Stepped::Dropped(Why::NotPacket)),
+        }
+    }
+
+    /// What bytes claim that come to the node.
+    pub(crate) fn claims_of_bytes(
+        &self,
+        alloc: Global,
+        bytes: &[u8],
+    ) -> Result<Row<Claim>, NoMemory>
+        ensures { IfOk result (λ claims. (past : Past M.Msg) → IsTied M.meaning M.stands self.now past →
+            claims ≡ claims_of_bytes (formats_of self.now.setup M.meaning) (rules_of self.now.setup) M.meaning self.now.me.0 (core_of self.now past) bytes.now) }
+    {
+        match Packet::decode(alloc, self.setup.version, self.setup.n, bytes) {
+            Ok(packet) => self.claims_of_packet(alloc, &packet),
+            Err(PacketError::NotPacket) => Ok(Row::new(alloc)),
+            Err(PacketError::NoMemory) => Err(NoMemory),
+        }
+    }
+
+    // What a packet claims. Its body is read only where it is a message of the node's epoch.
+    fn claims_of_packet(&self, alloc: Global, packet: &Packet) -> Result<Row<Claim>, NoMemory>
+        requires { is_routed self.now.setup.n packet.now ≡ true }
+        ensures { IfOk result (λ claims. (past : Past M.Msg) → IsTied M.meaning M.stands self.now past →
+            claims ≡ claims_of_parcel (rules_of self.now.setup) M.meaning self.now.me.0 (core_of self.now past)
+            (parcel_of_kind M.meaning self.now.setup.version packet.now packet.now.kind)) }
+    {
+        match packet.kind {
+            PacketKind::Message => self.claims_of_message(alloc, packet),
+            PacketKind::Vote | PacketKind::Ask | PacketKind::Piece | PacketKind::Request => {
+                Ok(Row::new(alloc))
+            }
+        }
+    }
+
+    // What the packet of a module's message claims.
+    fn claims_of_message(&self, alloc: Global, packet: &Packet) -> Result<Row<Claim>, NoMemory>
+        requires { packet.now.from < self.now.setup.n }
+        ensures { IfOk result (λ claims. (past : Past M.Msg) → IsTied M.meaning M.stands self.now past →
+            claims ≡ claims_of_parcel (rules_of self.now.setup) M.meaning self.now.me.0 (core_of self.now past)
+            (message_in packet.now (whole (M.meaning.parse self.now.setup.version packet.now.body)))) }
+    {
+        if packet.epoch.0 != self.epoch.0 {
+            return Ok(Row::new(alloc));
+        }
+        let body = packet.body.as_slice();
+        match read_message::<M>(alloc, self.setup.version, body)? {
+            Some(msg) => {
+                let leader = NodeId(packet.leader);
+                self.claims_in(alloc, leader, NodeId(packet.from), &msg)
+            }
+            None => Ok(Row::new(alloc)),
         }
     }
 
@@ -87,9 +144,7 @@ impl<M: Sequenced> Replica<M> {
             return Ok(Stepped::Dropped(Why::EarlyFull));
         }
         self.early.push(message)?;
-        Ok(Stepped::Taken(Outcome {
-            sends: Row::new(alloc),
-        }))
+        Ok(Stepped::Taken(Outcome::nothing(alloc)))
     }
 }
 

@@ -85,8 +85,8 @@ fn open_message<M: Sequenced>(
     }))
 }
 
-// The message that takes up all of the bytes, if one does.
-fn read_message<M: Sequenced>(
+/// The message that takes up all of the bytes, if one does.
+pub fn read_message<M: Sequenced>(
     alloc: Global,
     version: u8,
     bytes: &[u8],

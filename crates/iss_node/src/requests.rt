@@ -15,7 +15,7 @@ use crate::answers::{Outcome, Stepped};
 use crate::growth::is_nil;
 use crate::replica::Replica;
 use iss_model::Why;
-use iss_request::{Batch, NoMemory, ReqId, Request, Row, Slot};
+use iss_request::{Batch, NoMemory, ReqId, Request, Slot};
 use iss_sb::Sequenced;
 use iss_segment::is_signed;
 use iss_window::{Place, Windows};
@@ -41,9 +41,7 @@ impl<M: Sequenced> Replica<M> {
             return Ok(Stepped::Dropped(Why::OutOfWindow));
         }
         self.wait(request)?;
-        Ok(Stepped::Taken(Outcome {
-            sends: Row::new(alloc),
-        }))
+        Ok(Stepped::Taken(Outcome::nothing(alloc)))
     }
 
     // Whether a request's client signed it.

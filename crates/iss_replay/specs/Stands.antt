@@ -1,14 +1,27 @@
 -- Which progress of the model a report stands for.
-use Rattle.std.specs.Prelude.{◌≡◌, ℕ, List, reverse}
-use Rattle.iss_model.specs.Run.{Progress}
+use Rattle.std.specs.Prelude.{◌≡◌, ℕ, List, Option, option_map, reverse}
+use Rattle.iss_model.specs.Run.{End, Progress}
 use Rattle.iss_model.specs.declared.causes.Why.{Why}
 use Rattle.iss_sb.specs.declared.effects.Params.{Params}
 use Rattle.iss_sb.specs.Evidence.{Item, Module}
-use Rattle.iss_world.specs.Stands.{StandsFor}
+use Rattle.iss_world.specs.Stands.{StandsAt, end_of}
 use Rattle.iss_world.specs.State.{WorldState}
+use Rattle.iss_world.specs.declared.ends.End.{End as Kept}
 
--- the world stands for the net, and the losses are the progress', oldest first
+-- the event in which a run ended, and why
+abbrev pub end_at : ℕ × Kept → ℕ × End
+end_at x = (x.0, end_of x.1)
+
+-- the end of a run, where it ends in the event of this number
+abbrev pub numbered : ℕ → Option Kept → Option (ℕ × Kept)
+numbered k end = option_map (λ x. (k, x)) end
+
+abbrev pub end_kept : Option (ℕ × Kept) → Option (ℕ × End)
+end_kept ended = option_map end_at ended
+
+-- the world stands for the run so far, the losses are the run's, oldest first, and so is its end
 pub record StandsForRun {M Msg : Type 0} (m : Module Msg) (stands : M → Params → ℕ → List (Item Msg) → Type 0)
-    (world : WorldState M Msg) (drops : List (ℕ × Why)) (p : Progress Msg) : Type 0 where
-  pub stands_for : StandsFor m stands world p.net
+    (world : WorldState M Msg) (drops : List (ℕ × Why)) (ended : Option (ℕ × Kept)) (p : Progress Msg) : Type 0 where
+  pub stands_for : StandsAt m stands world p
   pub drops_are : reverse drops ≡ p.drops
+  pub end_is : end_kept ended ≡ p.ended

@@ -1,47 +1,49 @@
 //! The text of a report.
 ghost use Rattle.std.specs.Prelude.{◌≡◌, ◌<◌, ◌++◌, IfOk, List, OnOk, reverse};
-ghost use Rattle.iss_model.specs.Concrete.{rules_of};
-ghost use Rattle.iss_model.specs.Past.{log_of};
-ghost use Rattle.iss_model.specs.Run.{Net, Progress};
+ghost use Rattle.iss_model.specs.OneLog.{run_after};
+ghost use Rattle.iss_model.specs.Run.{Progress};
 ghost use Rattle.iss_model.specs.Runs.{IsSetupOf};
-ghost use Rattle.iss_replay.specs.Report.{IsReport, drop_lines, node_blocks, run_of, text_of};
-ghost use Rattle.iss_replay.specs.Stands.{StandsForRun};
-ghost use Rattle.iss_report.specs.Text.{node_block};
+ghost use Rattle.iss_replay.specs.Report.{IsReport, block_of, drop_lines, node_blocks, text_of};
+ghost use Rattle.iss_replay.specs.Stands.{StandsForRun, end_kept};
+ghost use Rattle.iss_report.specs.Text.{end_line};
 ghost use Rattle.iss_schedule.specs.Events.{AreInRange};
 ghost use Rattle.iss_schedule.specs.declared.schedules.Event.{Event};
-ghost use Rattle.iss_world.specs.Stands.{StandsFor};
+ghost use Rattle.iss_world.specs.Stands.{StandsAt};
 
 use crate::replays::Report;
-use iss_model::{Why, cluster_runs, composition};
-use iss_report::{put_drop, put_end, put_node};
+use iss_model::{Why, cluster_runs, requests_are_conserved, runs_end_with_evidence};
+use iss_report::{put_collision, put_drop, put_forged, put_node, put_ok};
 use iss_request::{Bytes, NoMemory, NodeId};
 use iss_sb::Sequenced;
 use iss_world::World;
+use iss_world::claims::is_correct;
+use iss_world::ends::End;
 use std::alloc::Global;
 
-/// The text of a report: a line for each event that was lost, each node's block, and the last line. Where it is the
-/// report of a schedule, its logs are of one log, as `replay` says.
+/// The text of a report: a line for each event that was lost, the block of each correct node, and the last line. Where it is
+/// the report of a schedule, its logs are of one log and its requests are conserved, as `replay` says.
 pub fn text<M: Sequenced>(alloc: Global, report: &Report<M>) -> Result<Bytes, NoMemory>
-    ensures tells { IfOk result (λ bytes. (p : Progress M.Msg) → StandsForRun M.meaning M.stands report.now.world report.now.drops p →
+    ensures tells { IfOk result (λ bytes. (p : Progress M.Msg) → StandsForRun M.meaning M.stands report.now.world report.now.drops report.now.ended p →
         bytes ≡ text_of report.now.world.running.setup M.meaning p) }
     ensures reports { IfOk result (λ bytes. IsSetupOf M.meaning report.now.world.running.setup → (events : List Event) → AreInRange report.now.world.running.setup events →
-        StandsForRun M.meaning M.stands report.now.world report.now.drops (run_of report.now.world.running.setup M.meaning events) →
+        StandsForRun M.meaning M.stands report.now.world report.now.drops report.now.ended (run_after report.now.world.running.setup M.meaning events) →
         IsReport report.now.world.running.setup M.meaning events bytes) }
 {
-    composition::<M>();
     cluster_runs::<M>();
+    runs_end_with_evidence::<M>();
+    requests_are_conserved::<M>();
     write(alloc, report)
 }
 
 // Writes the text.
 fn write<M: Sequenced>(alloc: Global, report: &Report<M>) -> Result<Bytes, NoMemory>
-    ensures { IfOk result (λ bytes. (p : Progress M.Msg) → StandsForRun M.meaning M.stands report.now.world report.now.drops p →
+    ensures { IfOk result (λ bytes. (p : Progress M.Msg) → StandsForRun M.meaning M.stands report.now.world report.now.drops report.now.ended p →
         bytes ≡ text_of report.now.world.running.setup M.meaning p) }
 {
     let mut out = Vec::new(alloc);
     put_drops(&mut out, report.drops.as_slice())?;
     put_nodes(&mut out, &report.world)?;
-    put_end(&mut out)?;
+    put_end(alloc, &mut out, &report.ended)?;
     Ok(Bytes::of(out))
 }
 
@@ -55,10 +57,10 @@ fn put_drops(out: &mut Vec<u8>, drops: &[(u64, Why)]) -> Result<(), NoMemory>
     Ok(())
 }
 
-// Writes the block of each node, ascending.
+// Writes the block of each correct node, ascending.
 fn put_nodes<M: Sequenced>(out: &mut Vec<u8>, world: &World<M>) -> Result<(), NoMemory>
-    ensures { OnOk result ((w : Net M.Msg) → StandsFor M.meaning M.stands world.now w →
-        out.new.items ≡ out.old.items ++ node_blocks world.now.running.setup M.meaning w world.now.running.setup.n) }
+    ensures { OnOk result ((p : Progress M.Msg) → StandsAt M.meaning M.stands world.now p →
+        out.new.items ≡ out.old.items ++ node_blocks world.now.running.setup M.meaning p.held.net world.now.running.setup.n) }
 {
     let nodes = world.setup().n;
     for node in 0..nodes {
@@ -67,12 +69,27 @@ fn put_nodes<M: Sequenced>(out: &mut Vec<u8>, world: &World<M>) -> Result<(), No
     Ok(())
 }
 
-// Writes the block of one node.
+// Writes the block of one node, where it is correct.
 fn put_block<M: Sequenced>(out: &mut Vec<u8>, world: &World<M>, node: u32) -> Result<(), NoMemory>
     requires { node < world.now.running.setup.n }
-    ensures { OnOk result ((w : Net M.Msg) → StandsFor M.meaning M.stands world.now w →
-        out.new.items ≡ out.old.items ++ node_block node (w.cores node).past.epoch (log_of (rules_of world.now.running.setup) M.meaning node (w.cores node).past)) }
+    ensures { OnOk result ((p : Progress M.Msg) → StandsAt M.meaning M.stands world.now p →
+        out.new.items ≡ out.old.items ++ block_of world.now.running.setup M.meaning p.held.net node) }
 {
-    let _setup = world.setup();
+    if !is_correct(world.setup(), node) {
+        return Ok(());
+    }
     put_node(out, NodeId(node as u8), world.epoch(node), world.log(node))
+}
+
+// Writes how the run ended.
+fn put_end(alloc: Global, out: &mut Vec<u8>, ended: &Option<(u64, End)>) -> Result<(), NoMemory>
+    ensures { OnOk result (out.new.items ≡ out.old.items ++ end_line (end_kept ended.now)) }
+{
+    match ended {
+        None => put_ok(out),
+        Some((event, End::Forged(claim))) => put_forged(alloc, out, *event, claim),
+        Some((event, End::Collision { first, second })) => {
+            put_collision(alloc, out, *event, first.as_slice(), second.as_slice())
+        }
+    }
 }

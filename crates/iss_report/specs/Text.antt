@@ -1,13 +1,16 @@
 -- The text of a report, line by line. Logs are newest first; numbers are in decimal digits.
-use Rattle.std.specs.Prelude.{ℕ, List, [], ◌∷◌, ◌++◌, length, codes, decimal}
+use Rattle.std.specs.Prelude.{ℕ, List, [], ◌∷◌, ◌++◌, length, codes, decimal, Option, Some, None}
 use Rattle.iss_request.specs.Log.{requests}
 use Rattle.iss_request.specs.declared.requests.Request.{Request}
 use Rattle.iss_request.specs.declared.requests.Value.{Value}
 use Rattle.iss_request.specs.declared.requests.Value.TheVariants.{Nil, Batch as Holds}
+use Rattle.iss_schedule.specs.Words.{word_of}
+use Rattle.iss_sb.specs.declared.effects.Claim.{Claim}
+use Rattle.iss_model.specs.Run.{End, Forged, Collision}
 use Rattle.iss_model.specs.declared.causes.Refusal.{Refusal}
 use Rattle.iss_model.specs.declared.causes.Refusal.TheVariants.{TooLarge, ForeignBucket, BadSignature, OutOfWindow, Ordered, Marked}
 use Rattle.iss_model.specs.declared.causes.Why.{Why}
-use Rattle.iss_model.specs.declared.causes.Why.TheVariants.{NoPacket, NotPacket, BadRequest, Known, OutOfWindow as Outside, OtherEpoch, EarlyFull, NotLeader, NothingToCast, NoKeys, Refused}
+use Rattle.iss_model.specs.declared.causes.Why.TheVariants.{NoPacket, NotPacket, BadRequest, Known, OutOfWindow as Outside, OtherEpoch, EarlyFull, NotLeader, BadClaim, NothingToCast, NoKeys, Refused}
 
 abbrev pub refusal_word : Refusal → List ℕ
 refusal_word TooLarge = codes "TooLarge"
@@ -26,6 +29,7 @@ why_word Outside = codes "OutOfWindow"
 why_word OtherEpoch = codes "OtherEpoch"
 why_word EarlyFull = codes "EarlyFull"
 why_word NotLeader = codes "NotLeader"
+why_word BadClaim = codes "BadClaim"
 why_word NothingToCast = codes "NothingToCast"
 why_word NoKeys = codes "NoKeys"
 why_word (Refused x) = codes "Refused " ++ refusal_word x
@@ -34,8 +38,20 @@ why_word (Refused x) = codes "Refused " ++ refusal_word x
 abbrev pub drop_line : ℕ → Why → List ℕ
 drop_line event why = codes "drop " ++ decimal event ++ codes " " ++ why_word why ++ 10 ∷ []
 
-abbrev pub end_line : List ℕ
-end_line = codes "end ok" ++ 10 ∷ []
+-- a claim: its node, its statement and its signature
+abbrev pub claim_words : Claim → List ℕ
+claim_words c = codes " " ++ decimal c.by.0 ++ codes " " ++ word_of c.statement ++ codes " " ++ word_of c.sig
+
+-- the run ended in this event: by a claim that its node never made, or by two strings of one digest
+abbrev pub evidence_line : ℕ → End → List ℕ
+evidence_line event (Forged c) = codes "end forged " ++ decimal event ++ claim_words c ++ 10 ∷ []
+evidence_line event (Collision first second) =
+    codes "end collision " ++ decimal event ++ codes " " ++ word_of first ++ codes " " ++ word_of second ++ 10 ∷ []
+
+-- the last line
+abbrev pub end_line : Option (ℕ × End) → List ℕ
+end_line None = codes "end ok" ++ 10 ∷ []
+end_line (Some at) = evidence_line at.0 at.1
 
 abbrev pub request_word : Request → List ℕ
 request_word q = codes " " ++ decimal q.id.client ++ codes "." ++ decimal q.id.number

@@ -4,4 +4,4 @@
 pub mod lines;
 pub mod words;
 
-pub use lines::{put_drop, put_end, put_node};
+pub use lines::{put_collision, put_drop, put_forged, put_node, put_ok};

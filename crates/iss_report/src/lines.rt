@@ -1,12 +1,16 @@
 //! Lines of a report. After want of memory a part may have been written.
-ghost use Rattle.std.specs.Prelude.{◌≡◌, ◌<◌, ◌++◌, OnOk, length, reverse, take};
+ghost use Rattle.std.specs.Prelude.{◌≡◌, ◌<◌, ◌++◌, None, OnOk, Some, codes, length, reverse, take};
+ghost use Rattle.iss_model.specs.Run.{Collision, Forged};
 ghost use Rattle.iss_request.specs.Log.{requests};
-ghost use Rattle.iss_report.specs.Text.{drop_line, end_line, node_block, node_line, request_word, request_words, slot_line, slot_lines, value_words};
+ghost use Rattle.iss_schedule.specs.Words.{word_of};
+ghost use Rattle.iss_report.specs.Text.{claim_words, drop_line, end_line, node_block, node_line, request_word, request_words, slot_line, slot_lines, value_words};
 
-use crate::words::{put_number, put_text, put_why};
+use crate::words::{put_bytes, put_number, put_text, put_why};
 use iss_log::Log;
 use iss_model::Why;
 use iss_request::{Epoch, NoMemory, NodeId, Request, Slot, Value};
+use iss_sb::Claim;
+use std::alloc::Global;
 
 /// Writes the line of an event that was lost.
 pub fn put_drop(out: &mut Vec<u8>, event: u64, why: Why) -> Result<(), NoMemory>
@@ -19,11 +23,61 @@ pub fn put_drop(out: &mut Vec<u8>, event: u64, why: Why) -> Result<(), NoMemory>
     put_text(out, b"\n")
 }
 
-/// Writes the last line.
-pub fn put_end(out: &mut Vec<u8>) -> Result<(), NoMemory>
-    ensures { OnOk result (out.new.items ≡ out.old.items ++ end_line) }
+/// Writes the last line of a run that did not end before its last event.
+pub fn put_ok(out: &mut Vec<u8>) -> Result<(), NoMemory>
+    ensures { OnOk result (out.new.items ≡ out.old.items ++ end_line None) }
 {
     put_text(out, b"end ok\n")
+}
+
+/// Writes the last line of a run that ended in this event by a claim that its node never made.
+pub fn put_forged(
+    alloc: Global,
+    out: &mut Vec<u8>,
+    event: u64,
+    claim: &Claim,
+) -> Result<(), NoMemory>
+    ensures { OnOk result (out.new.items ≡ out.old.items ++ end_line (Some (event, Forged claim.now))) }
+{
+    put_text(out, b"end forged ")?;
+    put_number(out, event)?;
+    put_claim(alloc, out, claim)?;
+    put_text(out, b"\n")
+}
+
+// Writes a claim: its node, its statement and its signature.
+fn put_claim(alloc: Global, out: &mut Vec<u8>, claim: &Claim) -> Result<(), NoMemory>
+    ensures { OnOk result (out.new.items ≡ out.old.items ++ claim_words claim.now) }
+{
+    put_text(out, b" ")?;
+    put_number(out, claim.by.0 as u64)?;
+    put_word(alloc, out, claim.statement.as_slice())?;
+    put_word(alloc, out, claim.sig.as_slice())
+}
+
+// Writes a word of bytes behind a space.
+fn put_word(alloc: Global, out: &mut Vec<u8>, bytes: &[u8]) -> Result<(), NoMemory>
+    ensures { OnOk result (out.new.items ≡ out.old.items ++ codes " " ++ word_of bytes.now) }
+{
+    put_text(out, b" ")?;
+    put_bytes(alloc, out, bytes)
+}
+
+/// Writes the last line of a run that ended in this event by two strings of one digest, of which the first was hashed before.
+pub fn put_collision(
+    alloc: Global,
+    out: &mut Vec<u8>,
+    event: u64,
+    first: &[u8],
+    second: &[u8],
+) -> Result<(), NoMemory>
+    ensures { OnOk result (out.new.items ≡ out.old.items ++ end_line (Some (event, Collision first.now second.now))) }
+{
+    put_text(out, b"end collision ")?;
+    put_number(out, event)?;
+    put_word(alloc, out, first)?;
+    put_word(alloc, out, second)?;
+    put_text(out, b"\n")
 }
 
 /// Writes a node's block: its line, and a line for each slot of its log.

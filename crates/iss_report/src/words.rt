@@ -1,10 +1,12 @@
 //! Words of a report. After want of memory a part may have been written.
 ghost use Rattle.std.specs.Prelude.{◌≡◌, ◌++◌, OnOk, decimal};
 ghost use Rattle.iss_report.specs.Text.{refusal_word, why_word};
+ghost use Rattle.iss_schedule.specs.Words.{word_of};
 
 use iss_model::{Refusal, Why};
 use iss_request::NoMemory;
 use itoa::Buffer;
+use std::alloc::Global;
 
 /// Writes text.
 pub fn put_text(out: &mut Vec<u8>, text: &[u8]) -> Result<(), NoMemory>
@@ -20,6 +22,17 @@ pub fn put_number(out: &mut Vec<u8>, number: u64) -> Result<(), NoMemory>
 {
     let mut buffer = Buffer::new();
     put_text(out, buffer.format(number).as_bytes())
+}
+
+/// Writes bytes in lower-case hexadecimal digits, and `-` for none.
+pub fn put_bytes(alloc: Global, out: &mut Vec<u8>, bytes: &[u8]) -> Result<(), NoMemory>
+    ensures { OnOk result (out.new.items ≡ out.old.items ++ word_of bytes.now) }
+{
+    if bytes.is_empty() {
+        return put_text(out, b"-");
+    }
+    let word = hex::encode(alloc, bytes)?;
+    put_text(out, word.as_bytes())
 }
 
 /// Writes the name of a refusal.
@@ -49,6 +62,7 @@ pub fn put_why(out: &mut Vec<u8>, why: Why) -> Result<(), NoMemory>
         Why::OtherEpoch => put_text(out, b"OtherEpoch"),
         Why::EarlyFull => put_text(out, b"EarlyFull"),
         Why::NotLeader => put_text(out, b"NotLeader"),
+        Why::BadClaim => put_text(out, b"BadClaim"),
         Why::NothingToCast => put_text(out, b"NothingToCast"),
         Why::NoKeys => put_text(out, b"NoKeys"),
         Why::Refused(refusal) => put_refused(out, refusal),

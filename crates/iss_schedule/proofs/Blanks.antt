@@ -15,11 +15,13 @@ use Rattle.iss_schedule.specs.declared.names.Name.{Name}
 use Rattle.iss_schedule.specs.declared.names.Name.TheVariants as name
 use Rattle.iss_schedule.specs.declared.schedules.Event.{Event}
 use Rattle.iss_schedule.specs.declared.schedules.Event.TheVariants.{Request, Propose, Timeout, Deliver, Lose, Pump, Calm, Hold, Free, Drop, Bytes}
+use Rattle.iss_schedule.specs.Cores.{cores_of}
 use Rattle.iss_schedule.specs.Events.{event_words, spell_event, IsInRange}
 use Rattle.iss_schedule.specs.Names.{text_of_name}
 use Rattle.iss_schedule.specs.Reads.{Reads}
 use Rattle.iss_schedule.specs.Words.{Lacks, words_of, line_of, word_of}
 use Rattle.iss_schedule.proofs.Cuts.{lacks_all, words_at, words_none}
+use Rattle.iss_schedule.proofs.Twins.{cores_fit}
 
 -- a line has a word, and the byte stands in none of them
 abbrev pub AllLack : ℕ → List (List ℕ) → Type 0
@@ -97,19 +99,22 @@ pub lacks_word : (c : ℕ) (bytes : List ℕ) → IsBlank c → IsBytes bytes �
 lacks_word c [] blank fits = ((λ e. omega (arith, blank.low)), tt)
 lacks_word c (b ∷ bs) blank fits = lacks_digits c (b ∷ bs) blank.no_digit fits
 
+core_lacks : (c : ℕ) (s : Setup) (core : ℕ) → IsBlank c → IsGoodSetup s → core < cores_of s → Lacks c (decimal core)
+core_lacks c s core blank good ok = lacks_decimal c core (omega (arith, blank.low)) (omega (arith, cores_fit s good, ok))
+
 -- the words of an event in range
 pub event_lacks : (c : ℕ) (s : Setup) (e : Event) → IsBlank c → IsGoodSetup s → IsInRange s e → AllLack c (event_words e)
-event_lacks c s (Request core client number payload) blank good ok = let leaves : 2 ^ s.keys ≤ 2 ^ 12 = pow_mono good.keys_high in (blank.names name.Request, (lacks_decimal c core (omega (arith, blank.low)) (omega arith), (lacks_decimal c client (omega (arith, blank.low)) (omega arith), (lacks_decimal c number (omega (arith, blank.low)) (omega arith), lacks_word c payload blank ok.3.0))))
-event_lacks c s (Propose core) blank good ok = (blank.names name.Propose, lacks_decimal c core (omega (arith, blank.low)) (omega arith))
-event_lacks c s (Timeout core leader) blank good ok = (blank.names name.Timeout, (lacks_decimal c core (omega (arith, blank.low)) (omega arith), lacks_decimal c leader.0 (omega (arith, blank.low)) (omega arith)))
+event_lacks c s (Request core client number payload) blank good ok = let leaves : 2 ^ s.keys ≤ 2 ^ 12 = pow_mono good.keys_high in (blank.names name.Request, (core_lacks c s core blank good ok.0, (lacks_decimal c client (omega (arith, blank.low)) (omega arith), (lacks_decimal c number (omega (arith, blank.low)) (omega arith), lacks_word c payload blank ok.3.0))))
+event_lacks c s (Propose core) blank good ok = (blank.names name.Propose, core_lacks c s core blank good ok)
+event_lacks c s (Timeout core leader) blank good ok = (blank.names name.Timeout, (core_lacks c s core blank good ok.0, lacks_decimal c leader.0 (omega (arith, blank.low)) (omega arith)))
 event_lacks c s (Deliver packet) blank good ok = (blank.names name.Deliver, lacks_decimal c packet (omega (arith, blank.low)) ok)
 event_lacks c s (Lose packet) blank good ok = (blank.names name.Lose, lacks_decimal c packet (omega (arith, blank.low)) ok)
 event_lacks c s Pump blank good ok = blank.names name.Pump
 event_lacks c s (Calm pumps) blank good ok = (blank.names name.Calm, lacks_decimal c pumps (omega (arith, blank.low)) (omega arith))
-event_lacks c s (Hold core) blank good ok = (blank.names name.Hold, lacks_decimal c core (omega (arith, blank.low)) (omega arith))
-event_lacks c s (Free core) blank good ok = (blank.names name.Free, lacks_decimal c core (omega (arith, blank.low)) (omega arith))
-event_lacks c s (Drop core) blank good ok = (blank.names name.Drop, lacks_decimal c core (omega (arith, blank.low)) (omega arith))
-event_lacks c s (Bytes core bytes) blank good ok = (blank.names name.Bytes, (lacks_decimal c core (omega (arith, blank.low)) (omega arith), lacks_word c bytes blank ok.2))
+event_lacks c s (Hold core) blank good ok = (blank.names name.Hold, core_lacks c s core blank good ok)
+event_lacks c s (Free core) blank good ok = (blank.names name.Free, core_lacks c s core blank good ok)
+event_lacks c s (Drop core) blank good ok = (blank.names name.Drop, core_lacks c s core blank good ok)
+event_lacks c s (Bytes core bytes) blank good ok = (blank.names name.Bytes, (core_lacks c s core blank good ok.1, lacks_word c bytes blank ok.2))
 
 -- each event's line begins with a name
 pub name_first : (e : Event) → (n : Name) × ((ws : List (List ℕ)) × (event_words e ≡ text_of_name n ∷ ws))

@@ -2,23 +2,25 @@
 use Rattle.std.proofs.Common.{◌≡◌, ℕ, List, ◌∷◌, [], codes, refl, arith, inl}
 use Rattle.std.specs.Fmt.{digits}
 use Rattle.hex.specs.Hex.{encode_with}
+use Rattle.iss_request.specs.declared.ids.NodeId.{NodeId}
 use Rattle.iss_schedule.specs.declared.errors.Why.TheVariants.{Cut}
 use Rattle.iss_schedule.specs.declared.schedules.Event.TheVariants.{Request, Propose, Timeout, Deliver, Lose, Pump, Calm, Hold, Free, Drop}
 use Rattle.iss_schedule.specs.declared.schedules.Schedule.{Schedule}
 use Rattle.iss_schedule.specs.BadLines.{IsFirstBad}
-use Rattle.iss_schedule.specs.Headers.{setup_with}
+use Rattle.iss_schedule.specs.Cores.{cores_of}
+use Rattle.iss_schedule.specs.Headers.{faulty_line, setup_with}
 use Rattle.iss_schedule.specs.Schedules.{text_of}
 use Rattle.iss_schedule.specs.Words.{words_of}
 use Rattle.iss_schedule.proofs.Blanks.{lacks_by_test}
 use Rattle.iss_schedule.proofs.Fronts.{empty_schedule, fine_header}
 
 three : List ℕ
-three = 0 ∷ 0 ∷ 0 ∷ 3 ∷ 3 ∷ 4 ∷ 8 ∷ 0 ∷ 1 ∷ 4 ∷ 0 ∷ []
+three = 0 ∷ 0 ∷ 0 ∷ 3 ∷ 3 ∷ 4 ∷ 8 ∷ 0 ∷ 1 ∷ 4 ∷ []
 
 -- one request, its proposal, and rounds of deliveries
 worked : Schedule
 worked = record {
-  setup = setup_with three [];
+  setup = setup_with three [] [];
   events = Request 0 0 0 (170 ∷ []) ∷ Propose 0 ∷ Timeout 1 (record { 0 = 2 }) ∷ Deliver 12 ∷ Lose 0 ∷ Pump ∷ Calm 10 ∷ Hold 2 ∷ Free 2 ∷ Drop 1 ∷ [];
 }
 
@@ -27,14 +29,26 @@ unfolding worked three digits encode_with
 worked_text = refl
 
 -- the same cluster with another policy
-backs_off : text_of (record { setup = setup_with (0 ∷ 0 ∷ 0 ∷ 3 ∷ 3 ∷ 4 ∷ 8 ∷ 1 ∷ 1 ∷ 4 ∷ 0 ∷ []) []; events = Pump ∷ [] }) ≡ codes "iss 1\nmodule relay\nf 0\nepoch 3\nbuckets 3\nbatch 4\nwindow 8\npolicy backoff\nclients 1\nkeys 4\nfaulty none\npump\n"
+backs_off : text_of (record { setup = setup_with (0 ∷ 0 ∷ 0 ∷ 3 ∷ 3 ∷ 4 ∷ 8 ∷ 1 ∷ 1 ∷ 4 ∷ []) [] []; events = Pump ∷ [] }) ≡ codes "iss 1\nmodule relay\nf 0\nepoch 3\nbuckets 3\nbatch 4\nwindow 8\npolicy backoff\nclients 1\nkeys 4\nfaulty none\npump\n"
 unfolding digits
 backs_off = refl
 
 -- five nodes of Raft, of which two may stop
-of_raft : text_of (record { setup = setup_with (0 ∷ 1 ∷ 2 ∷ 5 ∷ 3 ∷ 4 ∷ 8 ∷ 0 ∷ 1 ∷ 4 ∷ 0 ∷ []) []; events = Pump ∷ [] }) ≡ codes "iss 1\nmodule raft\nf 2\nepoch 5\nbuckets 3\nbatch 4\nwindow 8\npolicy simple\nclients 1\nkeys 4\nfaulty none\npump\n"
+of_raft : text_of (record { setup = setup_with (0 ∷ 1 ∷ 2 ∷ 5 ∷ 3 ∷ 4 ∷ 8 ∷ 0 ∷ 1 ∷ 4 ∷ []) [] []; events = Pump ∷ [] }) ≡ codes "iss 1\nmodule raft\nf 2\nepoch 5\nbuckets 3\nbatch 4\nwindow 8\npolicy simple\nclients 1\nkeys 4\nfaulty none\npump\n"
 unfolding digits
 of_raft = refl
+
+-- two nodes that do as they like, and their second cores behind the three nodes
+two_faulty : List NodeId
+two_faulty = record { 0 = 1 } ∷ record { 0 = 2 } ∷ []
+
+names_two : faulty_line two_faulty ≡ codes "faulty 1 2"
+unfolding two_faulty digits
+names_two = refl
+
+five_cores : cores_of (setup_with three two_faulty []) ≡ 5
+unfolding three two_faulty
+five_cores = refl
 
 -- words are parted by one space, so two spaces have an empty word between them
 two_spaces : words_of (codes "propose  0") ≡ codes "propose" ∷ [] ∷ codes "0" ∷ []
@@ -62,7 +76,7 @@ cut_text = record {
               (omega arith, omega arith),
               (
                 (omega arith, omega arith),
-                ((omega arith, omega arith), (omega arith, ((omega arith, omega arith), ((omega arith, omega arith), (refl, refl))))),
+                ((omega arith, omega arith), (omega arith, ((omega arith, omega arith), ((omega arith, omega arith), refl)))),
               ),
             ),
           ),

@@ -1,11 +1,11 @@
 -- Tables of header fields: a text has one list of values, and values that are in range so far can be gone on with.
-use Rattle.std.proofs.Common.{◌≡◌, ◌∙◌, ℕ, zero, suc, ◌^◌, ◌<◌, ◌≤◌, Bool, true, not, ◌&&◌, List, [], ◌∷◌, ◌++◌, length, take, get_or, Some, codes, decimal, refl, sym, ap, subst, arith, append_assoc, append-nil, true≢false, inl}
+use Rattle.std.proofs.Common.{◌≡◌, ◌∙◌, ℕ, zero, suc, ◌^◌, ◌<◌, ◌≤◌, Bool, true, not, ◌&&◌, List, [], ◌∷◌, ◌++◌, length, take, get_or, Some, decimal, refl, sym, ap, subst, arith, append_assoc, append-nil, true≢false}
 use Rattle.std.specs.List.{list_all}
 use Rattle.std.proofs.lemmas.Fmt.{decimal_injective}
 use Rattle.iss_base.specs.Lists.{nth, same_bytes}
 use Rattle.iss_base.proofs.Lists.{and-true, not-true, same_bytes-refl, some-injective}
-use Rattle.iss_schedule.specs.Forms.{IsFormed}
-use Rattle.iss_schedule.specs.Headers.{HeaderField, OneOf, Number, FaultyNodes, IsValue, IsGoodLine, AreValues, spell_value, lines_of}
+use Rattle.iss_schedule.specs.Forms.{IsFieldFormed}
+use Rattle.iss_schedule.specs.Headers.{HeaderField, OneOf, Number, IsValue, IsGoodLine, AreValues, spell_value, lines_of}
 use Rattle.iss_schedule.specs.Words.{Lacks}
 use Rattle.iss_schedule.proofs.Blanks.{lacks_test, lacks_by_test, lacks_decimal, lacks_append}
 use Rattle.iss_schedule.proofs.Numbers.{decimal_is_number}
@@ -19,7 +19,6 @@ all_differ (x ∷ xs) = list_all (λ y. not (same_bytes x y)) xs && all_differ x
 abbrev pub IsSoundField : HeaderField → Type 0
 IsSoundField (OneOf texts) = (all_differ texts ≡ true) × (list_all (lacks_test 10) texts ≡ true)
 IsSoundField (Number name low end) = (lacks_test 10 name ≡ true) × ((above : List ℕ) → end above ≤ 2 ^ 64)
-IsSoundField FaultyNodes = Unit {0}
 
 abbrev pub AreSound : List HeaderField → Type 0
 AreSound [] = Unit {0}
@@ -60,7 +59,6 @@ field_same (b ∷ bs) m n fits fits' e = let tails : bs ++ 32 ∷ decimal m ≡ 
 one_value : (f : HeaderField) → IsSoundField f → (above : List ℕ) (v w : ℕ) → IsValue f above v → IsValue f above w → spell_value f v ≡ spell_value f w → v ≡ w
 one_value (OneOf texts) s above v w p q e = one_text texts s.0 v w p q e
 one_value (Number name low end) s above v w p q e = let b = s.1 above in field_same name v w (omega (arith, p.1, b)) (omega (arith, q.1, b)) e
-one_value FaultyNodes s above v w p q e = p ∙ sym q
 
 text_whole : (texts : List (List ℕ)) → list_all (lacks_test 10) texts ≡ true → (v : ℕ) → v < length texts → Lacks 10 (get_or texts v [])
 text_whole [] t v lt = absurd (omega (arith, lt))
@@ -73,12 +71,10 @@ value_whole (Number name low end) s above v ok =
     let b = s.1 above in
     let fits : v < 2 ^ 64 = omega (arith, ok.1, b) in
     lacks_append 10 name (32 ∷ decimal v) (lacks_by_test 10 name s.0) ((λ e. omega arith), lacks_decimal 10 v (omega arith) fits)
-value_whole FaultyNodes s above v ok = lacks_by_test 10 (codes "faulty none") refl
 
-pub value_formed : (f : HeaderField) → IsSoundField f → (above line : List ℕ) → IsGoodLine f above line → IsFormed (Some f) line
+pub value_formed : (f : HeaderField) → IsSoundField f → (above line : List ℕ) → IsGoodLine f above line → IsFieldFormed f line
 value_formed (OneOf texts) s above line g = (g.0, (g.1.0, g.1.1))
 value_formed (Number name low end) s above line g = let b = s.1 above in (decimal g.0, (g.1.1, decimal_is_number g.0 (omega (arith, g.1.0.1, b))))
-value_formed FaultyNodes s above line g = inl g.1.1
 
 -- ---- all fields
 
@@ -160,6 +156,13 @@ some_all [] above [] h = refl
 some_all (f ∷ fs) above [] h = absurd cc
 some_all [] above (v ∷ vs) h = absurd h
 some_all (f ∷ fs) above (v ∷ vs) h = (h.0, some_all fs (above ++ v ∷ []) vs h.1)
+
+-- values in range are so many as there are fields
+pub all_some : (fs : List HeaderField) (above vs : List ℕ) → AreValues fs above vs → AreSome fs above vs []
+all_some [] above [] ok = refl
+all_some [] above (v ∷ vs) ok = absurd (let none : v ∷ vs ≡ [] = ok in cc)
+all_some (f ∷ fs) above [] ok = absurd ok
+all_some (f ∷ fs) above (v ∷ vs) ok = (ok.0, all_some fs (above ++ v ∷ []) vs ok.1)
 
 -- ---- values so far are gone on with
 

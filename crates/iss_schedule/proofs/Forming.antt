@@ -1,9 +1,9 @@
 -- The lines of a schedule in range: none holds a line feed, and each has the form of its place.
-use Rattle.std.proofs.Common.{◌≡◌, ◌≢◌, ℕ, zero, suc, ◌^◌, ◌<◌, ◌≤◌, List, [], ◌∷◌, ◌++◌, length, take, map, get_or, Option, Some, codes, refl, sym, ap, subst, ◌∙◌, arith, append_assoc, length-append, inl, inr}
+use Rattle.std.proofs.Common.{◌≡◌, ◌≢◌, ℕ, zero, suc, ◌^◌, ◌<◌, ◌≤◌, List, [], ◌∷◌, ◌++◌, length, take, map, get_or, Option, Some, decimal, refl, sym, ap, subst, ◌∙◌, arith, append_assoc, length-append, inl, inr}
 use Rattle.std.proofs.Math.Pow.{pow_mono}
 use Rattle.std.proofs.lemmas.Bool.Decides.{leb_tells}
 use Rattle.iss_base.specs.Lists.{nth}
-use Rattle.iss_base.proofs.Lists.{nth-below, some-injective}
+use Rattle.iss_base.proofs.Lists.{some-injective}
 use Rattle.iss_request.specs.Setup.{IsGoodSetup}
 use Rattle.iss_request.specs.declared.setups.Setup.{Setup}
 use Rattle.iss_request.specs.declared.setups.Kind.TheVariants.{Byzantine}
@@ -11,18 +11,22 @@ use Rattle.iss_schedule.specs.declared.names.Name.TheVariants as name
 use Rattle.iss_schedule.specs.declared.schedules.Event.{Event}
 use Rattle.iss_schedule.specs.declared.schedules.Event.TheVariants.{Request, Propose, Timeout, Deliver, Lose, Pump, Calm, Hold, Free, Drop, Bytes}
 use Rattle.iss_schedule.specs.declared.schedules.Schedule.{Schedule}
+use Rattle.iss_schedule.specs.Cores.{cores_of}
 use Rattle.iss_schedule.specs.Events.{event_words, spell_event, IsInRange, AreInRange}
-use Rattle.iss_schedule.specs.Forms.{HasForm, IsEventLine, IsFormed, IsInjection, NamesFaulty}
-use Rattle.iss_schedule.specs.Headers.{HeaderField, FaultyNodes, header_fields, AreValues, IsGoodLine, lines_of, values_of}
+use Rattle.iss_schedule.specs.Forms.{HasForm, IsEventLine, IsFaultyFormed, IsFormed, IsInjection, LineForm}
+use Rattle.iss_schedule.specs.Headers.{HeaderField, AreValues, faulty_line, header_fields, lines_of, values_of}
 use Rattle.iss_schedule.specs.Names.{text_of_name}
 use Rattle.iss_schedule.specs.Schedules.{header_lines, schedule_lines, IsFine, IsKnown}
-use Rattle.iss_schedule.specs.Words.{Lacks, words_of, ended}
+use Rattle.iss_schedule.specs.Words.{IsNumber, Lacks, ended}
 use Rattle.iss_schedule.proofs.Blanks.{feed, lacks_line, event_lacks, event_spelled}
 use Rattle.iss_schedule.proofs.Cuts.{cut_same}
+use Rattle.iss_schedule.proofs.FaultyNodes.{faulty_formed, faulty_whole}
 use Rattle.iss_schedule.proofs.Fields.{AreSound, IsAt, value_at, value_formed, value_whole}
+use Rattle.iss_schedule.proofs.Fronts.{form_at}
 use Rattle.iss_schedule.proofs.Numbers.{decimal_is_number}
-use Rattle.iss_schedule.proofs.Refusals.{event_behind, form_behind, same_kind}
-use Rattle.iss_schedule.proofs.Table.{fields_sound, values_in_range}
+use Rattle.iss_schedule.proofs.Refusals.{event_behind, form_behind}
+use Rattle.iss_schedule.proofs.Table.{fields_sound, same_setup, small_faulty, values_in_range}
+use Rattle.iss_schedule.proofs.Twins.{cores_fit}
 
 -- ---- no line feed
 
@@ -45,7 +49,9 @@ whole_values (f ∷ fs) sound above [] ok = absurd ok
 whole_values (f ∷ fs) sound above (v ∷ vs) ok = (value_whole f sound.0 above v ok.0, whole_values fs sound.1 (above ++ v ∷ []) vs ok.1)
 
 whole_header : (s : Setup) → IsKnown s → AreWhole (header_lines s)
-whole_header s known = whole_values header_fields fields_sound [] (values_of s) (values_in_range s known)
+whole_header s known =
+    whole_append (lines_of header_fields (values_of s)) (faulty_line s.faulty ∷ []) (whole_values header_fields fields_sound [] (values_of s) (values_in_range s known))
+    (faulty_whole s.faulty (small_faulty s known.good), tt)
 
 whole_events : (s : Setup) (es : List Event) → IsGoodSetup s → AreInRange s es → AreWhole (map spell_event es)
 whole_events s [] good range = tt
@@ -80,6 +86,9 @@ meets (x ∷ xs) (y ∷ ys) r t h k e =
 
 -- ---- forms
 
+core_number : (s : Setup) (core : ℕ) → IsGoodSetup s → core < cores_of s → IsNumber (decimal core)
+core_number s core good ok = decimal_is_number core (omega (arith, cores_fit s good, ok))
+
 -- an event in range is spelled as its name asks
 pub event_line : (s : Setup) (line : List ℕ) (e : Event) → IsGoodSetup s → IsInRange s e → line ≡ spell_event e → IsEventLine line
 event_line s line (Request core client number payload) good ok is =
@@ -88,27 +97,27 @@ event_line s line (Request core client number payload) good ok is =
       name = name.Request;
       arguments = _;
       words = event_spelled s line (Request core client number payload) good ok is;
-      spelled = (decimal_is_number core (omega (arith, good.nodes)), (decimal_is_number client (omega arith), (decimal_is_number number (omega arith), (payload, (ok.3.0, refl)))));
+      spelled = (core_number s core good ok.0, (decimal_is_number client (omega arith), (decimal_is_number number (omega arith), (payload, (ok.3.0, refl)))));
     }
-event_line s line (Propose core) good ok is = record { name = name.Propose; arguments = _; words = event_spelled s line (Propose core) good ok is; spelled = (decimal_is_number core (omega arith), refl) }
+event_line s line (Propose core) good ok is = record { name = name.Propose; arguments = _; words = event_spelled s line (Propose core) good ok is; spelled = (core_number s core good ok, refl) }
 event_line s line (Timeout core leader) good ok is = record {
   name = name.Timeout;
   arguments = _;
   words = event_spelled s line (Timeout core leader) good ok is;
-  spelled = (decimal_is_number core (omega arith), (decimal_is_number leader.0 (omega arith), refl));
+  spelled = (core_number s core good ok.0, (decimal_is_number leader.0 (omega arith), refl));
 }
 event_line s line (Deliver packet) good ok is = record { name = name.Deliver; arguments = _; words = event_spelled s line (Deliver packet) good ok is; spelled = (decimal_is_number packet ok, refl) }
 event_line s line (Lose packet) good ok is = record { name = name.Lose; arguments = _; words = event_spelled s line (Lose packet) good ok is; spelled = (decimal_is_number packet ok, refl) }
 event_line s line Pump good ok is = record { name = name.Pump; arguments = _; words = event_spelled s line Pump good ok is; spelled = refl }
 event_line s line (Calm pumps) good ok is = record { name = name.Calm; arguments = _; words = event_spelled s line (Calm pumps) good ok is; spelled = (decimal_is_number pumps (omega arith), refl) }
-event_line s line (Hold core) good ok is = record { name = name.Hold; arguments = _; words = event_spelled s line (Hold core) good ok is; spelled = (decimal_is_number core (omega arith), refl) }
-event_line s line (Free core) good ok is = record { name = name.Free; arguments = _; words = event_spelled s line (Free core) good ok is; spelled = (decimal_is_number core (omega arith), refl) }
-event_line s line (Drop core) good ok is = record { name = name.Drop; arguments = _; words = event_spelled s line (Drop core) good ok is; spelled = (decimal_is_number core (omega arith), refl) }
+event_line s line (Hold core) good ok is = record { name = name.Hold; arguments = _; words = event_spelled s line (Hold core) good ok is; spelled = (core_number s core good ok, refl) }
+event_line s line (Free core) good ok is = record { name = name.Free; arguments = _; words = event_spelled s line (Free core) good ok is; spelled = (core_number s core good ok, refl) }
+event_line s line (Drop core) good ok is = record { name = name.Drop; arguments = _; words = event_spelled s line (Drop core) good ok is; spelled = (core_number s core good ok, refl) }
 event_line s line (Bytes core bytes) good ok is = record {
   name = name.Bytes;
   arguments = _;
   words = event_spelled s line (Bytes core bytes) good ok is;
-  spelled = (decimal_is_number core (omega arith), (bytes, (ok.2, refl)));
+  spelled = (core_number s core good ok.1, (bytes, (ok.2, refl)));
 }
 
 nth_left : (xs ys : List (List ℕ)) (k : ℕ) → k < length xs → nth (xs ++ ys) k ≡ nth xs k
@@ -117,39 +126,30 @@ nth_left (x ∷ xs) ys zero lt = refl
 nth_left (x ∷ xs) ys (suc k) lt = nth_left xs ys k (omega (arith, lt))
 
 -- a line of the header spells a value of its field
-header_at : (s : Schedule) (p : ℕ) (line : List ℕ) → IsFine s → p < 11 → nth (schedule_lines s) p ≡ Some line → IsAt header_fields p line
+header_at : (s : Schedule) (p : ℕ) (line : List ℕ) → IsFine s → p < 10 → nth (schedule_lines s) p ≡ Some line → IsAt header_fields p line
 header_at s p line fine lt e =
     value_at header_fields fields_sound [] (values_of s.setup) (values_in_range s.setup fine.setup) p line
-    (sym (nth_left (header_lines s.setup) (map spell_event s.events) p lt) ∙ e)
+    (sym (nth_left (lines_of header_fields (values_of s.setup)) (faulty_line s.setup.faulty ∷ map spell_event s.events) p lt) ∙ e)
+
+-- and the last names its faulty nodes
+last_at : (s : Schedule) (p : ℕ) (line : List ℕ) → IsFine s → p ≡ 10 → nth (schedule_lines s) p ≡ Some line → HasForm p line
+last_at s p line fine is e =
+    let ten : Some (faulty_line s.setup.faulty) ≡ Some line = subst (λ k. nth (schedule_lines s) k ≡ Some line) is e in
+    let same : faulty_line s.setup.faulty ≡ line = some-injective (faulty_line s.setup.faulty) line ten in
+    let here : IsFaultyFormed line = subst IsFaultyFormed same (faulty_formed s.setup.faulty (small_faulty s.setup fine.setup.good)) in
+    subst (λ k. HasForm k line) (sym is) here
 
 -- each line of a schedule in range has the form of its place
 pub formed : (s : Schedule) (p : ℕ) (line : List ℕ) → IsFine s → nth (schedule_lines s) p ≡ Some line → HasForm p line
 formed s p line fine e = elim (leb_tells 11 p) [
   | inl le ↦ let here = event_behind s p line fine le.1 e in form_behind p line le.1 (event_line s.setup line here.0 fine.setup.good here.1.0 here.1.1)
-  | inr lt ↦
-      let here = header_at s p line fine lt.1 e in
-      subst (λ (o : Option HeaderField). IsFormed o line) (sym here.place) (value_formed here.field here.sound here.above line here.good)
+  | inr lt ↦ elim (leb_tells 10 p) [
+    | inl ten ↦ last_at s p line fine (omega (arith, lt.1, ten.1)) e
+    | inr below ↦
+        let here = header_at s p line fine below.1 e in
+        subst (λ (o : Option LineForm). IsFormed o line) (sym (form_at header_fields p here.field here.place)) (value_formed here.field here.sound here.above line here.good)
+  ]
 ]
-
--- no schedule has a faulty node
-pub no_faulty_line : (s : Schedule) (p : ℕ) (line : List ℕ) → IsFine s → nth header_fields p ≡ Some FaultyNodes → nth (schedule_lines s) p ≡ Some line → line ≡ codes "faulty none"
-no_faulty_line s p line fine place e =
-    let here = header_at s p line fine (nth-below header_fields p FaultyNodes place) e in
-    let same : here.field ≡ FaultyNodes = some-injective here.field FaultyNodes (sym here.place ∙ place) in
-    (subst (λ (f : HeaderField). IsGoodLine f here.above line) same here.good).1.1
-
--- `none` is no number
-pub none_named : (line : List ℕ) → line ≡ codes "faulty none" → NamesFaulty line → ⊥
-none_named line e h =
-    let both : codes "faulty" ∷ codes "none" ∷ [] ≡ codes "faulty" ∷ h.first ∷ h.others = ap words_of (sym e) ∙ h.words in
-    let digits = h.numbers.0.0 0 h.numbers.0.1 in
-    let letter : 110 ≡ get_or h.first 0 0 = ap (λ (ws : List (List ℕ)). second ws) both in
-    omega (arith, digits, letter)
-  where
-    second : List (List ℕ) → ℕ
-    second [] = 0
-    second (v ∷ []) = 0
-    second (v ∷ w ∷ ws) = get_or w 0 0
 
 -- the first letter of a line
 abbrev letter : List (List ℕ) → ℕ
@@ -172,8 +172,20 @@ injected_event s (Free core) args ok is = absurd (other 102 (event_words (Free c
 injected_event s (Drop core) args ok is = absurd (other 100 (event_words (Drop core)) args refl (λ e. omega arith) is)
 injected_event s (Bytes core bytes) args ok is = ok.0
 
--- no schedule gives bytes to a core
-pub no_injection : (s : Schedule) (p : ℕ) (line : List ℕ) → IsFine s → 11 ≤ p → nth (schedule_lines s) p ≡ Some line → IsInjection line → ⊥
-no_injection s p line fine le e h =
+-- a schedule that gives bytes to a core is of a module that withstands them
+pub injection_of : (s : Schedule) (p : ℕ) (line : List ℕ) → IsFine s → 11 ≤ p → nth (schedule_lines s) p ≡ Some line → IsInjection line → s.setup.kind ≡ Byzantine
+injection_of s p line fine le e h =
     let here = event_behind s p line fine le e in
-    same_kind s.setup fine.setup (injected_event s.setup here.0 h.arguments here.1.0 (sym (event_spelled s.setup line here.0 fine.setup.good here.1.0 here.1.1) ∙ h.words))
+    injected_event s.setup here.0 h.arguments here.1.0 (sym (event_spelled s.setup line here.0 fine.setup.good here.1.0 here.1.1) ∙ h.words)
+
+take_take : (n k : ℕ) (xs : List (List ℕ)) → n ≤ k → take n (take k xs) ≡ take n xs
+take_take zero k xs le = refl
+take_take (suc n) zero xs le = absurd (omega (arith, le))
+take_take (suc n) (suc k) [] le = refl
+take_take (suc n) (suc k) (x ∷ xs) le = ap (λ (t : List (List ℕ)). x ∷ t) (take_take n k xs (omega (arith, le)))
+
+-- schedules that begin with the same header have the same set-up
+pub same_front : (s t : Schedule) (front : List (List ℕ)) → IsFine s → IsFine t → 11 ≤ length front → front ≡ take (length front) (schedule_lines s) → front ≡ take (length front) (schedule_lines t) → s.setup ≡ t.setup
+same_front s t front x y le e f =
+    same_setup s.setup t.setup x.setup y.setup
+    (sym (take_take 11 (length front) (schedule_lines s) le) ∙ ap (λ (ls : List (List ℕ)). take 11 ls) (sym e ∙ f) ∙ take_take 11 (length front) (schedule_lines t) le)

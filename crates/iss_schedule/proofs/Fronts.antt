@@ -1,24 +1,27 @@
 -- Texts and the lines at their front.
-use Rattle.std.proofs.Common.{◌≡◌, ℕ, suc, ◌+◌, ◌<◌, ◌≤◌, List, [], ◌∷◌, ◌++◌, length, take, drop, set, get_or, map, Option, Some, Result, refl, sym, ap, subst, ◌∙◌, arith, append_assoc, length-append, inl}
+use Rattle.std.proofs.Common.{◌≡◌, ℕ, zero, suc, ◌+◌, ◌<◌, ◌≤◌, List, [], ◌∷◌, ◌++◌, length, take, drop, set, get_or, map, codes, Option, Some, None, Result, refl, sym, ap, subst, ◌∙◌, arith, append_assoc, length-append, inl, inr}
 use Rattle.std.proofs.Math.Seq.{drop-cons}
 use Rattle.std.proofs.lemmas.List.{length-take-le, take_more_set}
 use Rattle.sha2.specs.Sha256.{sha256}
 use Rattle.iss_base.specs.Lists.{nth}
-use Rattle.iss_base.proofs.Lists.{nth-below}
+use Rattle.iss_base.proofs.Lists.{nth-below, some-injective}
+use Rattle.iss_request.specs.declared.ids.NodeId.{NodeId}
 use Rattle.iss_request.specs.declared.setups.Setup.{Setup}
 use Rattle.iss_schedule.specs.declared.errors.Why.{Why}
 use Rattle.iss_schedule.specs.declared.errors.Why.TheVariants.{Cut, Form, Faulty, Injected, Range, Size}
+use Rattle.iss_schedule.specs.declared.errors.ReadError.{ReadError}
+use Rattle.iss_schedule.specs.declared.errors.ReadError.TheVariants.{BadLine, NoMemory}
 use Rattle.iss_schedule.specs.declared.schedules.Schedule.{Schedule}
-use Rattle.iss_schedule.specs.BadLines.{Begins, IsBadRest, IsFirstBad}
+use Rattle.iss_schedule.specs.BadLines.{Begins, IsBadRest, IsFirstBad, IsRefused}
 use Rattle.iss_schedule.specs.declared.schedules.Event.{Event}
 use Rattle.iss_schedule.specs.Events.{spell_event, IsInRange, AreInRange}
-use Rattle.iss_schedule.specs.Forms.{IsFormed}
-use Rattle.iss_schedule.specs.Headers.{HeaderField, OneOf, Number, FaultyNodes, header_fields, AreValues, IsGoodLine, IsValue, lines_of, next_field, setup_with, spell_value, values_of}
-use Rattle.iss_schedule.specs.Places.{Place, IsFieldFault, IsLineFault, IsFaultyLineFault, ReadsField}
-use Rattle.iss_schedule.specs.Schedules.{header_lines, cluster_tag, IsKnown, IsFine, IsSchedule, most_events, most_bytes}
+use Rattle.iss_schedule.specs.Forms.{Field, HasForm, IsFieldFormed, IsFaultyFormed, IsFormed, LineForm, forms_of}
+use Rattle.iss_schedule.specs.Headers.{HeaderField, OneOf, header_fields, AreValues, IsGoodLine, IsValue, faulty_line, lines_of, next_field, row_at, setup_with, spell_value, value, values_of}
+use Rattle.iss_schedule.specs.Places.{AreFew, Place, IsFieldFault, IsLineFault, IsFaultyLineFault, IsFaultyRefused, ReadsField, most_faulty}
+use Rattle.iss_schedule.specs.Schedules.{header_lines, schedule_lines, cluster_tag, IsKnown, IsFine, IsSchedule, most_events, most_bytes}
 use Rattle.iss_schedule.specs.Words.{ended}
-use Rattle.iss_schedule.proofs.Fields.{AreSome, field_behind, front_of, gone_on, length_some, lines_more, next_good, some_more}
-use Rattle.iss_schedule.proofs.Table.{are_read, fields_fill, fields_sound, setup_made, known_read, values_back, values_in_range}
+use Rattle.iss_schedule.proofs.Fields.{AreSome, all_some, field_behind, front_of, gone_on, length_lines, length_some, lines_more, next_good, some_more}
+use Rattle.iss_schedule.proofs.Table.{MayFail, are_read, fields_fill, fields_sound, setup_made, known_faulty, known_read, same_header_lines, values_back, values_in_range}
 
 pub ended-append : (xs ys : List (List ℕ)) → ended (xs ++ ys) ≡ ended xs ++ ended ys
 ended-append [] ys = refl
@@ -39,90 +42,85 @@ nth_behind (f ∷ fs) line (l ∷ ls) e = let tails : fs ++ line ∷ [] ≡ take
 
 -- ---- headers
 
--- the schedule without events whose header has these values
+-- the schedule without events whose header has these values, and no faulty node
 abbrev pub empty_schedule : List ℕ → Schedule
-empty_schedule vs = record { setup = setup_made vs; events = [] }
+empty_schedule vs = record { setup = setup_made vs []; events = [] }
 
 pub fine_header : (vs : List ℕ) → AreValues header_fields [] vs → IsFine (empty_schedule vs)
-fine_header vs ok = record { setup = known_read vs (are_read vs ok); events = tt; few = omega arith }
+fine_header vs ok = record { setup = known_read vs [] (are_read vs ok) (omega arith, tt); events = tt; few = omega arith }
 
 -- lines of values in range begin a schedule
-begun : (vs : List ℕ) (left : List HeaderField) → AreSome header_fields [] vs left → Begins (lines_of header_fields vs)
+pub begun : (vs : List ℕ) (left : List HeaderField) → AreSome header_fields [] vs left → Begins (lines_of header_fields vs)
 begun vs left some =
     let rest = gone_on header_fields [] vs left fields_fill some in
     let all : List ℕ = vs ++ rest.0 in
-    let back = values_back all (cluster_tag (setup_with all [])) (are_read all rest.1) in
+    let back = values_back all [] (cluster_tag (setup_with all [] [])) (are_read all rest.1) in
     record {
       schedule = empty_schedule all;
       fine = fine_header all rest.1;
-      front = subst (λ (z : List ℕ). lines_of header_fields vs ≡ take (length (lines_of header_fields vs)) (lines_of header_fields z ++ [])) (sym back) (front_of header_fields [] vs rest.0 left [] some);
+      front = subst (λ (z : List ℕ). lines_of header_fields vs ≡ take (length (lines_of header_fields vs)) (lines_of header_fields z ++ codes "faulty none" ∷ [])) (sym back)
+          (front_of header_fields [] vs rest.0 left (codes "faulty none" ∷ []) some);
     }
 
+-- the form of a field's line is that of its place
+pub form_at : (fs : List HeaderField) (k : ℕ) (f : HeaderField) → nth fs k ≡ Some f → nth (forms_of fs) k ≡ Some (Field f)
+form_at [] k f e = absurd (let none : None ≡ Some f = e in cc)
+form_at (g ∷ fs) zero f e = let same : Some g ≡ Some f = e in ap (λ (z : HeaderField). Some (Field z)) (some-injective g f same)
+form_at (g ∷ fs) (suc k) f e = form_at fs k f e
+
 -- what is wrong with the next line of a header
-line_bad : (front : List (List ℕ)) (rest : List ℕ) (f : HeaderField) (G : List ℕ → Type 0) → length front < 11 → nth header_fields (length front) ≡ Some f → (Some f ≡ Some FaultyNodes → ⊥) → ((line : List ℕ) → Begins (front ++ line ∷ []) → G line) → (why : Why) → IsLineFault (IsFormed (Some f)) G rest why → IsBadRest front rest why
-line_bad front rest f G short place other fits Cut x = (omega (arith, short), x, inl short)
-line_bad front rest f G short place other fits Form x = (omega (arith, short), (x.0, (x.1.0, (λ has. x.1.1 (subst (λ (o : Option HeaderField). IsFormed o x.0) place has)))))
-line_bad front rest f G short place other fits Range x = (
+line_bad : (front : List (List ℕ)) (rest : List ℕ) (f : HeaderField) (G : List ℕ → Type 0) → length front < 10 → nth header_fields (length front) ≡ Some f → ((line : List ℕ) → Begins (front ++ line ∷ []) → G line) → (why : Why) → IsLineFault (IsFieldFormed f) G rest why → IsBadRest front rest why
+line_bad front rest f G short place fits Cut x = (omega (arith, short), x, inl (omega (arith, short)))
+line_bad front rest f G short place fits Form x = (omega (arith, short), (x.0, (x.1.0, (λ has. x.1.1 (subst (λ (o : Option LineForm). IsFormed o x.0) (form_at header_fields (length front) f place) has)))))
+line_bad front rest f G short place fits Range x = (
   omega (arith, short),
   (
     x.0,
     (
       x.1.0,
       (
-        subst (λ (o : Option HeaderField). IsFormed o x.0) (sym place) x.1.1,
-        (λ faulty. other (sym place ∙ faulty.0)),
+        subst (λ (o : Option LineForm). IsFormed o x.0) (sym (form_at header_fields (length front) f place)) x.1.1,
+        (λ last. omega (arith, last, short)),
         (λ injected. omega (arith, injected.0, short)),
         (λ begin. x.1.2 (fits x.0 begin)),
       ),
     ),
   ),
 )
-line_bad front rest f G short place other fits Faulty x = absurd x
-line_bad front rest f G short place other fits Injected x = absurd x
-line_bad front rest f G short place other fits Size x = absurd x
-
-faulty_bad : (front : List (List ℕ)) (rest : List ℕ) → length front < 11 → nth header_fields (length front) ≡ Some FaultyNodes → (why : Why) → IsFaultyLineFault rest why → IsBadRest front rest why
-faulty_bad front rest short place Cut x = (omega (arith, short), x, inl short)
-faulty_bad front rest short place Form x = (omega (arith, short), (x.0, (x.1.0, (λ has. x.1.1 (subst (λ (o : Option HeaderField). IsFormed o x.0) place has)))))
-faulty_bad front rest short place Faulty x = (omega (arith, short), (x.0, (x.1.0, (place, x.1.1))))
-faulty_bad front rest short place Range x = absurd x
-faulty_bad front rest short place Injected x = absurd x
-faulty_bad front rest short place Size x = absurd x
-
-field_rest : (front : List (List ℕ)) (rest above : List ℕ) (f : HeaderField) → length front < 11 → nth header_fields (length front) ≡ Some f → ((line : List ℕ) → Begins (front ++ line ∷ []) → IsGoodLine f above line) → (why : Why) → IsFieldFault f above rest why → IsBadRest front rest why
-field_rest front rest above (OneOf texts) short place fits why x = line_bad front rest (OneOf texts) (IsGoodLine (OneOf texts) above) short place (λ e. cc) fits why x
-field_rest front rest above (Number name low end) short place fits why x = line_bad front rest (Number name low end) (IsGoodLine (Number name low end) above) short place (λ e. cc) fits why x
-field_rest front rest above FaultyNodes short place fits why x = faulty_bad front rest short place why x
+line_bad front rest f G short place fits Faulty x = absurd x
+line_bad front rest f G short place fits Injected x = absurd x
+line_bad front rest f G short place fits Size x = absurd x
 
 -- behind values in range a field was read amiss
 pub field_bad : (vs : List ℕ) (f : HeaderField) (more : List HeaderField) → AreSome header_fields [] vs (f ∷ more) → (text rest : List ℕ) → text ≡ ended (lines_of header_fields vs) ++ rest → (read : ℕ) → read ≡ suc (length vs) → (why : Why) → IsFieldFault f vs rest why → IsFirstBad text read why
 field_bad vs f more some text rest e read count why fault =
     let len = length_some header_fields [] vs (f ∷ more) some in
     let place : nth header_fields (length (lines_of header_fields vs)) ≡ Some f = subst (λ k. nth header_fields k ≡ Some f) (sym len) (field_behind header_fields [] vs f more some) in
-    let short : length (lines_of header_fields vs) < 11 = nth-below header_fields (length (lines_of header_fields vs)) f place in
+    let short : length (lines_of header_fields vs) < 10 = nth-below header_fields (length (lines_of header_fields vs)) f place in
     record {
       front = lines_of header_fields vs;
       rest = rest;
       text = e;
       number = count ∙ ap suc (sym len);
       good = begun vs (f ∷ more) some;
-      bad = field_rest (lines_of header_fields vs) rest vs f short place
-          (λ line begin. next_good header_fields fields_sound [] vs (values_of begin.schedule.setup) f more line (map spell_event begin.schedule.events) some (values_in_range begin.schedule.setup begin.fine.setup) begin.front)
+      bad = line_bad (lines_of header_fields vs) rest f (IsGoodLine f vs) short place
+          (λ line begin. next_good header_fields fields_sound [] vs (values_of begin.schedule.setup) f more line
+          (faulty_line begin.schedule.setup.faulty ∷ map spell_event begin.schedule.events) some (values_in_range begin.schedule.setup begin.fine.setup) begin.front)
           why fault;
     }
 
 -- the values of so many lines, of which the next is to be read
-pub next_is : (all : List ℕ) (place : ℕ) → length all ≡ 11 → place < 11 → drop place header_fields ≡ next_field (take place all) ∷ drop (suc place) header_fields
+pub next_is : (all : List ℕ) (place : ℕ) → length all ≡ 10 → place < 10 → drop place header_fields ≡ next_field (take place all) ∷ drop (suc place) header_fields
 next_is all place size lt =
-    drop-cons header_fields place FaultyNodes lt
-    ∙ ap (λ k. get_or header_fields k FaultyNodes ∷ drop (suc place) header_fields) (sym (length-take-le place all (omega (arith, size, lt))))
+    drop-cons header_fields place (OneOf []) lt
+    ∙ ap (λ k. get_or header_fields k (OneOf []) ∷ drop (suc place) header_fields) (sym (length-take-le place all (omega (arith, size, lt))))
 
 -- what was read as the field of this place was read as the next one
-pub read_at : (above : List ℕ) (old new : Place) (r : Result ℕ Why) (k : ℕ) (f : HeaderField) → length above ≡ k → f ≡ get_or header_fields k FaultyNodes → ReadsField f above old new r → ReadsField (next_field above) above old new r
-read_at above old new r k f e is h = subst (λ (z : HeaderField). ReadsField z above old new r) (is ∙ ap (λ n. get_or header_fields n FaultyNodes) (sym e)) h
+pub read_at : (above : List ℕ) (old new : Place) (r : Result ℕ Why) (k : ℕ) (f : HeaderField) → length above ≡ k → f ≡ get_or header_fields k (OneOf []) → ReadsField f above old new r → ReadsField (next_field above) above old new r
+read_at above old new r k f e is h = subst (λ (z : HeaderField). ReadsField z above old new r) (is ∙ ap (λ n. get_or header_fields n (OneOf [])) (sym e)) h
 
 -- one value more
-pub one_more : (text all new : List ℕ) (place v : ℕ) (rest left : List ℕ) → length all ≡ 11 → place < 11 → AreSome header_fields [] (take place all) (drop place header_fields) → text ≡ ended (lines_of header_fields (take place all)) ++ rest → rest ≡ spell_value (next_field (take place all)) v ++ 10 ∷ left → IsValue (next_field (take place all)) (take place all) v → new ≡ set all place v → (text ≡ ended (lines_of header_fields (take (place + 1) new)) ++ left) × AreSome header_fields [] (take (place + 1) new) (drop (place + 1) header_fields)
+pub one_more : (text all new : List ℕ) (place v : ℕ) (rest left : List ℕ) → length all ≡ 10 → place < 10 → AreSome header_fields [] (take place all) (drop place header_fields) → text ≡ ended (lines_of header_fields (take place all)) ++ rest → rest ≡ spell_value (next_field (take place all)) v ++ 10 ∷ left → IsValue (next_field (take place all)) (take place all) v → new ≡ set all place v → (text ≡ ended (lines_of header_fields (take (place + 1) new)) ++ left) × AreSome header_fields [] (take (place + 1) new) (drop (place + 1) header_fields)
 one_more text all new place v rest left size lt some e cut ok is =
     let vs = take place all in
     let f = next_field vs in
@@ -137,7 +135,7 @@ one_more text all new place v rest left size lt some e cut ok is =
           (subst (λ (z : List ℕ). AreSome header_fields [] z more) grown (some_more header_fields [] vs v f more here ok)),
     )
 
-pub read_amiss : (text all : List ℕ) (place : ℕ) (rest : List ℕ) → length all ≡ 11 → place < 11 → AreSome header_fields [] (take place all) (drop place header_fields) → text ≡ ended (lines_of header_fields (take place all)) ++ rest → (read : ℕ) → read ≡ place + 1 → (why : Why) → IsFieldFault (next_field (take place all)) (take place all) rest why → IsFirstBad text read why
+pub read_amiss : (text all : List ℕ) (place : ℕ) (rest : List ℕ) → length all ≡ 10 → place < 10 → AreSome header_fields [] (take place all) (drop place header_fields) → text ≡ ended (lines_of header_fields (take place all)) ++ rest → (read : ℕ) → read ≡ place + 1 → (why : Why) → IsFieldFault (next_field (take place all)) (take place all) rest why → IsFirstBad text read why
 read_amiss text all place rest size lt some e read count why fault =
     let long = length-take-le place all (omega (arith, size, lt)) in
     field_bad (take place all) (next_field (take place all)) (drop (suc place) header_fields) (subst (AreSome header_fields [] (take place all)) (next_is all place size lt) some) text rest e read (omega (arith, count, long)) why fault
@@ -165,19 +163,68 @@ events_more s text es more e rest left pushed eq range ok cut =
     subst (λ (m : List Event). (text ≡ ended (map spell_event m) ++ left) × AreInRange s m × (length m ≡ length es + 1)) (sym pushed)
     (past_event text es e rest left eq cut, in_range_push s es e range ok, length-append es (e ∷ []))
 
+-- ---- the line of the faulty nodes
+
+-- behind ten lines of values in range that line was read amiss
+pub faulty_bad : (vs : List ℕ) (text rest : List ℕ) (read most n : ℕ) → AreValues header_fields [] vs → text ≡ ended (lines_of header_fields vs) ++ rest → read ≡ 11 → most ≡ most_faulty (row_at (value vs 1)).kind (value vs 2) → n ≡ (setup_with vs [] []).n → (why : Why) → IsFaultyLineFault most n rest why → IsFirstBad text read why
+faulty_bad vs text rest read most n ok e count is nodes why fault =
+    let len = length_lines header_fields [] vs ok in
+    record {
+      front = lines_of header_fields vs;
+      rest = rest;
+      text = e;
+      number = omega (arith, count, len);
+      good = begun vs [] (all_some header_fields [] vs ok);
+      bad = bad why fault;
+    }
+  where
+    size : length (lines_of header_fields vs) ≡ 10
+    size = length_lines header_fields [] vs ok
+
+    formed : (line : List ℕ) → IsFaultyFormed line → HasForm (length (lines_of header_fields vs)) line
+    formed line h = subst (λ k. HasForm k line) (sym size) h
+
+    unformed : (line : List ℕ) → HasForm (length (lines_of header_fields vs)) line → IsFaultyFormed line
+    unformed line h = subst (λ k. HasForm k line) size h
+
+    -- a schedule that goes on with a line names its faulty nodes there
+    taken : (line : List ℕ) → Begins (lines_of header_fields vs ++ line ∷ []) → (js : List NodeId) × (AreFew most n js × (line ≡ faulty_line js))
+    taken line b =
+        let s = b.schedule.setup in
+        let known = b.fine.setup in
+        let long : length (lines_of header_fields vs ++ line ∷ []) ≡ 11 = omega (arith, length-append (lines_of header_fields vs) (line ∷ []), size) in
+        let lines : lines_of header_fields vs ++ line ∷ [] ≡ lines_of header_fields (values_of s) ++ faulty_line s.faulty ∷ [] = b.front ∙ ap (λ k. take k (schedule_lines b.schedule)) long in
+        let same = same_header_lines vs (values_of s) line (faulty_line s.faulty) ok (values_in_range s known) lines in
+        let may : MayFail vs s.faulty = subst (λ (z : List ℕ). MayFail z s.faulty) (sym same.0) (known_faulty s known) in
+        (s.faulty, (subst (λ k. AreFew k n s.faulty) (sym is) (subst (λ k. AreFew (most_faulty (row_at (value vs 1)).kind (value vs 2)) k s.faulty) (sym nodes) may), same.1))
+
+    bad : (why : Why) → IsFaultyLineFault most n rest why → IsBadRest (lines_of header_fields vs) rest why
+    bad Cut x = (omega (arith, size), x, inl (omega (arith, size)))
+    bad Form x = (omega (arith, size), (x.0, (x.1.0, (λ has. x.1.1 (unformed x.0 has)))))
+    bad Faulty x = (omega (arith, size), (x.0, (x.1.0, (formed x.0 x.1.1, size, (λ b. let t = taken x.0 b in x.1.2 t.0 t.1.0 t.1.1)))))
+    bad Range x = absurd x
+    bad Injected x = absurd x
+    bad Size x = absurd x
+
+pub faulty_refused : (vs : List ℕ) (bytes : List ℕ) (old : Place) (most n : ℕ) (e : ReadError) → AreValues header_fields [] vs → bytes ≡ ended (lines_of header_fields vs) ++ old.rest → old.read ≡ 10 → length bytes ≤ most_bytes → most ≡ most_faulty (row_at (value vs 1)).kind (value vs 2) → n ≡ (setup_with vs [] []).n → IsFaultyRefused most n old e → IsRefused bytes e
+faulty_refused vs bytes old most n (BadLine line why) ok text read short is nodes h = inr (short, faulty_bad vs bytes old.rest line most n ok text (omega (arith, h.0, read)) is nodes why h.1)
+faulty_refused vs bytes old most n NoMemory ok text read short is nodes h = tt
+
+-- ---- the header
+
 -- the set-up that was made is that of the header that was read
-pub made : (vs bytes front rest rest' : List ℕ) (s : Setup) → AreValues header_fields [] vs → s ≡ setup_with vs (sha256 (67 ∷ front)) → ((read : List ℕ) → bytes ≡ read ++ rest' → front ≡ read) → rest' ≡ rest → bytes ≡ ended (lines_of header_fields vs) ++ rest → s ≡ setup_made vs
-made vs bytes front rest rest' s ok e front_is same text =
-    e ∙ ap (λ (t : List ℕ). setup_with vs (sha256 (67 ∷ t))) (front_is (ended (lines_of header_fields vs)) (text ∙ ap (λ (t : List ℕ). ended (lines_of header_fields vs) ++ t) (sym same)))
-    ∙ ap (λ (z : List ℕ). setup_with vs (sha256 (67 ∷ ended (lines_of header_fields z)))) (sym (values_back vs [] (are_read vs ok)))
+pub made : (vs : List ℕ) (is : List NodeId) (bytes front rest rest' : List ℕ) (s : Setup) → AreValues header_fields [] vs → s ≡ setup_with vs is (sha256 (67 ∷ front)) → ((read : List ℕ) → bytes ≡ read ++ rest' → front ≡ read) → rest' ≡ rest → bytes ≡ ended (lines_of header_fields vs ++ faulty_line is ∷ []) ++ rest → s ≡ setup_made vs is
+made vs is bytes front rest rest' s ok e front_is same text =
+    e ∙ ap (λ (t : List ℕ). setup_with vs is (sha256 (67 ∷ t))) (front_is (ended (lines_of header_fields vs ++ faulty_line is ∷ [])) (text ∙ ap (λ (t : List ℕ). ended (lines_of header_fields vs ++ faulty_line is ∷ []) ++ t) (sym same)))
+    ∙ ap (λ (z : List ℕ). setup_with vs is (sha256 (67 ∷ ended (lines_of header_fields z ++ faulty_line is ∷ [])))) (sym (values_back vs is [] (are_read vs ok)))
 
-pub known_made : (vs : List ℕ) (s : Setup) → AreValues header_fields [] vs → s ≡ setup_made vs → IsKnown s
-known_made vs s ok e = subst IsKnown (sym e) (known_read vs (are_read vs ok))
+pub known_made : (vs : List ℕ) (is : List NodeId) (s : Setup) → AreValues header_fields [] vs → MayFail vs is → s ≡ setup_made vs is → IsKnown s
+known_made vs is s ok few e = subst IsKnown (sym e) (known_read vs is (are_read vs ok) few)
 
-pub text_made : (vs : List ℕ) (s : Setup) (bytes rest : List ℕ) → AreValues header_fields [] vs → s ≡ setup_made vs → bytes ≡ ended (lines_of header_fields vs) ++ rest → bytes ≡ ended (header_lines s) ++ rest
-text_made vs s bytes rest ok e text =
+pub text_made : (vs : List ℕ) (is : List NodeId) (s : Setup) (bytes rest : List ℕ) → AreValues header_fields [] vs → s ≡ setup_made vs is → bytes ≡ ended (lines_of header_fields vs ++ faulty_line is ∷ []) ++ rest → bytes ≡ ended (header_lines s) ++ rest
+text_made vs is s bytes rest ok e text =
     subst (λ (x : Setup). bytes ≡ ended (header_lines x) ++ rest) (sym e)
-    (text ∙ ap (λ (z : List ℕ). ended (lines_of header_fields z) ++ rest) (sym (values_back vs (cluster_tag (setup_with vs [])) (are_read vs ok))))
+    (text ∙ ap (λ (z : List ℕ). ended (lines_of header_fields z ++ faulty_line is ∷ []) ++ rest) (sym (values_back vs is (cluster_tag (setup_with vs is [])) (are_read vs ok))))
 
 -- a header and events that were read are a schedule
 pub schedule_read : (s : Setup) (es : List Event) (bytes rest : List ℕ) → IsKnown s → bytes ≡ ended (header_lines s) ++ rest → rest ≡ ended (map spell_event es) → AreInRange s es → length es ≤ most_events → length bytes ≤ most_bytes → IsSchedule bytes (record { setup = s; events = es })

@@ -1,7 +1,9 @@
 pub mod Arguments
 pub mod Blanks
 pub mod Cuts
+pub mod Decided
 mod Examples
+pub mod FaultyNodes
 pub mod Fields
 pub mod Forming
 pub mod Fronts
@@ -10,5 +12,7 @@ pub mod Numbers
 pub mod OneLine
 pub mod OneSchedule
 pub mod Refusals
+pub mod Rows
 pub mod Table
+pub mod Twins
 pub mod Written

@@ -1,19 +1,19 @@
 -- A text with a bad line is that of no schedule, and has one first bad line with one reason.
-use Rattle.std.proofs.Common.{◌≡◌, ◌≢◌, ℕ, zero, suc, ◌+◌, ◌<◌, List, [], ◌∷◌, ◌++◌, length, take, drop, map, Option, Some, refl, sym, ap, subst, ◌∙◌, arith, append_assoc, length-append, inl, inr}
+use Rattle.std.proofs.Common.{◌≡◌, ◌≢◌, ℕ, zero, suc, ◌+◌, ◌<◌, List, [], ◌∷◌, ◌++◌, length, take, drop, map, Some, refl, sym, ap, subst, ◌∙◌, arith, append_assoc, length-append, inl, inr}
 use Rattle.iss_base.specs.Lists.{nth}
-use Rattle.iss_base.proofs.Lists.{nth-below}
+use Rattle.iss_request.specs.declared.setups.Kind.{Kind}
+use Rattle.iss_request.specs.declared.setups.Kind.TheVariants.{Byzantine, Stopping}
+use Rattle.iss_request.specs.declared.setups.Setup.{Setup}
 use Rattle.iss_schedule.specs.declared.errors.Why.{Why}
 use Rattle.iss_schedule.specs.declared.errors.Why.TheVariants.{Cut, Form, Faulty, Injected, Range, Size}
 use Rattle.iss_schedule.specs.declared.names.Name.TheVariants as name
 use Rattle.iss_schedule.specs.declared.schedules.Schedule.{Schedule}
 use Rattle.iss_schedule.specs.BadLines.{Begins, IsNext, IsFault, IsBadRest, IsBadLine}
 use Rattle.iss_schedule.specs.Events.{spell_event}
-use Rattle.iss_schedule.specs.Forms.{IsFormed}
-use Rattle.iss_schedule.specs.Headers.{HeaderField, FaultyNodes, header_fields}
 use Rattle.iss_schedule.specs.Schedules.{header_lines, schedule_lines, IsFine, IsSchedule, most_events}
 use Rattle.iss_schedule.specs.Words.{Lacks, ended}
 use Rattle.iss_schedule.proofs.Cuts.{cut_same, no_cut}
-use Rattle.iss_schedule.proofs.Forming.{AreWhole, whole_take, whole_lines, Meets, Same, Left, Right, meets, formed, none_named, no_faulty_line, no_injection}
+use Rattle.iss_schedule.proofs.Forming.{AreWhole, whole_take, whole_lines, Meets, Same, Left, Right, meets, formed, injection_of, same_front}
 use Rattle.iss_schedule.proofs.Refusals.{form_behind, length_spelled}
 
 nth_at : (xs : List (List ℕ)) (y : List ℕ) (ys : List (List ℕ)) → nth (xs ++ y ∷ ys) (length xs) ≡ Some y
@@ -37,16 +37,24 @@ nonempty line more e = omega (arith, ap length e, length-append line (10 ∷ mor
 
 -- ---- a schedule in range goes on behind the front with the line m
 
+begins_more : (s : Schedule) (front ms : List (List ℕ)) (m : List ℕ) → IsFine s → schedule_lines s ≡ front ++ m ∷ ms → Begins (front ++ m ∷ [])
+begins_more s front ms m fine is =
+    let all : schedule_lines s ≡ (front ++ m ∷ []) ++ ms = is ∙ sym (append_assoc front (m ∷ []) ms) in
+    record { schedule = s; fine = fine; front = subst (λ (ls : List (List ℕ)). front ++ m ∷ [] ≡ take (length (front ++ m ∷ [])) ls) (sym all) (take_front (front ++ m ∷ []) ms) }
+
+two_kinds : (k : Kind) → k ≡ Byzantine → k ≡ Stopping → ⊥
+two_kinds k e f = let both : Byzantine ≡ Stopping = sym e ∙ f in cc
+
 fault_none : (s : Schedule) (front ms : List (List ℕ)) (m : List ℕ) (why : Why) → IsFine s → schedule_lines s ≡ front ++ m ∷ ms → IsFault front m why → ⊥
 fault_none s front ms m Form fine is f = f (formed s (length front) m fine (subst (λ (ls : List (List ℕ)). nth ls (length front) ≡ Some m) (sym is) (nth_at front m ms)))
-fault_none s front ms m Faulty fine is f =
-    let at : nth (schedule_lines s) (length front) ≡ Some m = subst (λ (ls : List (List ℕ)). nth ls (length front) ≡ Some m) (sym is) (nth_at front m ms) in
-    none_named m (no_faulty_line s (length front) m fine f.0 at) f.1
+fault_none s front ms m Faulty fine is f = f.2 (begins_more s front ms m fine is)
 fault_none s front ms m Injected fine is f =
-    no_injection s (length front) m fine f.0 (subst (λ (ls : List (List ℕ)). nth ls (length front) ≡ Some m) (sym is) (nth_at front m ms)) f.1
-fault_none s front ms m Range fine is f =
-    let all : schedule_lines s ≡ (front ++ m ∷ []) ++ ms = is ∙ sym (append_assoc front (m ∷ []) ms) in
-    f.3 (record { schedule = s; fine = fine; front = subst (λ (ls : List (List ℕ)). front ++ m ∷ [] ≡ take (length (front ++ m ∷ [])) ls) (sym all) (take_front (front ++ m ∷ []) ms) })
+    let b = f.2.begins in
+    let byzantine = injection_of s (length front) m fine f.0 (subst (λ (ls : List (List ℕ)). nth ls (length front) ≡ Some m) (sym is) (nth_at front m ms)) f.1 in
+    let own : front ≡ take (length front) (schedule_lines s) = subst (λ (ls : List (List ℕ)). front ≡ take (length front) ls) (sym is) (take_front front (m ∷ ms)) in
+    let same = same_front s b.schedule front fine b.fine f.0 own b.front in
+    two_kinds s.setup.kind byzantine (subst (λ (u : Setup). u.kind ≡ Stopping) (sym same) f.2.stops)
+fault_none s front ms m Range fine is f = f.3 (begins_more s front ms m fine is)
 fault_none s front ms m Cut fine is f = f
 fault_none s front ms m Size fine is f = f
 
@@ -111,19 +119,19 @@ refused_none b line why s (inr first) h =
 -- two faults of one line are one
 same_fault : (front : List (List ℕ)) (line : List ℕ) (v w : Why) → IsFault front line v → IsFault front line w → v ≡ w
 same_fault front line Form Form f g = refl
-same_fault front line Form Faulty f g = absurd (f (subst (λ (o : Option HeaderField). IsFormed o line) (sym g.0) (inr g.1)))
+same_fault front line Form Faulty f g = absurd (f g.0)
 same_fault front line Form Injected f g = absurd (f (form_behind (length front) line g.0 (record { name = name.Bytes; arguments = g.1.arguments; words = g.1.words; spelled = g.1.spelled })))
 same_fault front line Form Range f g = absurd (f g.0)
-same_fault front line Faulty Form f g = absurd (g (subst (λ (o : Option HeaderField). IsFormed o line) (sym f.0) (inr f.1)))
+same_fault front line Faulty Form f g = absurd (g f.0)
 same_fault front line Faulty Faulty f g = refl
-same_fault front line Faulty Injected f g = absurd (omega (arith, nth-below header_fields (length front) FaultyNodes f.0, g.0))
-same_fault front line Faulty Range f g = absurd (g.1 f)
+same_fault front line Faulty Injected f g = absurd (omega (arith, f.1, g.0))
+same_fault front line Faulty Range f g = absurd (g.1 f.1)
 same_fault front line Injected Form f g = absurd (g (form_behind (length front) line f.0 (record { name = name.Bytes; arguments = f.1.arguments; words = f.1.words; spelled = f.1.spelled })))
-same_fault front line Injected Faulty f g = absurd (omega (arith, nth-below header_fields (length front) FaultyNodes g.0, f.0))
+same_fault front line Injected Faulty f g = absurd (omega (arith, g.1, f.0))
 same_fault front line Injected Injected f g = refl
 same_fault front line Injected Range f g = absurd (g.2 f)
 same_fault front line Range Form f g = absurd (g f.0)
-same_fault front line Range Faulty f g = absurd (f.1 g)
+same_fault front line Range Faulty f g = absurd (f.1 g.1)
 same_fault front line Range Injected f g = absurd (f.2 g)
 same_fault front line Range Range f g = refl
 same_fault front line Cut w f g = absurd f

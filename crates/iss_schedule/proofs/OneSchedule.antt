@@ -12,6 +12,7 @@ use Rattle.iss_request.specs.declared.setups.Setup.{Setup}
 use Rattle.iss_schedule.specs.declared.schedules.Event.{Event}
 use Rattle.iss_schedule.specs.declared.schedules.Event.TheVariants.{Request, Propose, Timeout, Deliver, Lose, Pump, Calm, Hold, Free, Drop, Bytes}
 use Rattle.iss_schedule.specs.declared.schedules.Schedule.{Schedule}
+use Rattle.iss_schedule.specs.Cores.{cores_of}
 use Rattle.iss_schedule.specs.Events.{event_words, spell_event, IsInRange, AreInRange}
 use Rattle.iss_schedule.specs.Schedules.{header_lines, schedule_lines, IsFine, IsSchedule}
 use Rattle.iss_schedule.specs.Words.{word_of, ended}
@@ -19,6 +20,7 @@ use Rattle.iss_schedule.proofs.Blanks.{event_spelled}
 use Rattle.iss_schedule.proofs.Forming.{whole_lines, Meets, Same, Left, Right, meets}
 use Rattle.iss_schedule.proofs.OneLine.{nonempty, nothing}
 use Rattle.iss_schedule.proofs.Table.{same_setup}
+use Rattle.iss_schedule.proofs.Twins.{cores_fit}
 
 -- ---- events back from their words
 
@@ -64,22 +66,25 @@ back_event (w ∷ ws) =
     cond (eqb key 7114) (four ws) (cond (eqb key 7112) (one Propose ws) (cond (eqb key 7116) (two_numbers ws) (cond (eqb key 7100) (one Deliver ws) (cond (eqb key 4108) (one Lose ws)
     (cond (eqb key 4099) (one Calm ws) (cond (eqb key 4104) (one Hold ws) (cond (eqb key 4102) (one Free ws) (cond (eqb key 4100) (one Drop ws) (cond (eqb key 5098) (number_bytes ws) Pump)))))))))
 
+core_back : (s : Setup) (core : ℕ) → IsGoodSetup s → core < cores_of s → back_number (decimal core) ≡ core
+core_back s core good ok = number_back core (omega (arith, cores_fit s good, ok))
+
 event_back : (s : Setup) (e : Event) → IsGoodSetup s → IsInRange s e → back_event (event_words e) ≡ e
 event_back s (Request core client number payload) good ok =
     let leaves : 2 ^ s.keys ≤ 2 ^ 12 = pow_mono good.keys_high in
-    let a = number_back core (omega arith) in let b = number_back client (omega arith) in let c = number_back number (omega arith) in let d = bytes_back payload ok.3.0 in cc
-event_back s (Propose core) good ok = ap Propose (number_back core (omega arith))
+    let a = core_back s core good ok.0 in let b = number_back client (omega arith) in let c = number_back number (omega arith) in let d = bytes_back payload ok.3.0 in cc
+event_back s (Propose core) good ok = ap Propose (core_back s core good ok)
 event_back s (Timeout core leader) good ok =
-    ap (λ n. Timeout n (record { 0 = back_number (decimal leader.0) })) (number_back core (omega arith)) ∙ ap (λ n. Timeout core (record { 0 = n })) (number_back leader.0 (omega arith))
+    ap (λ n. Timeout n (record { 0 = back_number (decimal leader.0) })) (core_back s core good ok.0) ∙ ap (λ n. Timeout core (record { 0 = n })) (number_back leader.0 (omega arith))
 event_back s (Deliver packet) good ok = ap Deliver (number_back packet ok)
 event_back s (Lose packet) good ok = ap Lose (number_back packet ok)
 event_back s Pump good ok = refl
 event_back s (Calm pumps) good ok = ap Calm (number_back pumps (omega arith))
-event_back s (Hold core) good ok = ap Hold (number_back core (omega arith))
-event_back s (Free core) good ok = ap Free (number_back core (omega arith))
-event_back s (Drop core) good ok = ap Drop (number_back core (omega arith))
+event_back s (Hold core) good ok = ap Hold (core_back s core good ok)
+event_back s (Free core) good ok = ap Free (core_back s core good ok)
+event_back s (Drop core) good ok = ap Drop (core_back s core good ok)
 event_back s (Bytes core bytes) good ok =
-    ap (λ n. Bytes n (back_bytes (word_of bytes))) (number_back core (omega arith)) ∙ ap (λ (x : List ℕ). Bytes core x) (bytes_back bytes ok.2)
+    ap (λ n. Bytes n (back_bytes (word_of bytes))) (core_back s core good ok.1) ∙ ap (λ (x : List ℕ). Bytes core x) (bytes_back bytes ok.2)
 
 spell_same : (s : Setup) (e f : Event) → IsGoodSetup s → IsInRange s e → IsInRange s f → spell_event e ≡ spell_event f → e ≡ f
 spell_same s e f good ok ok' is =

@@ -1,13 +1,12 @@
 -- The first bad line of a text, and what is wrong with it.
-use Rattle.std.specs.Prelude.{◌≡◌, ◌≢◌, ◌⊎◌, ◌<◌, ◌≤◌, ◌+◌, ℕ, suc, List, [], ◌∷◌, ◌++◌, length, take, Some}
-use Rattle.iss_base.specs.Lists.{nth}
+use Rattle.std.specs.Prelude.{◌≡◌, ◌≢◌, ◌⊎◌, ◌<◌, ◌≤◌, ◌+◌, ℕ, suc, List, [], ◌∷◌, ◌++◌, length, take}
+use Rattle.iss_request.specs.declared.setups.Kind.TheVariants.{Stopping}
 use Rattle.iss_schedule.specs.declared.errors.Why.{Why}
 use Rattle.iss_schedule.specs.declared.errors.Why.TheVariants.{Cut, Form, Faulty, Injected, Range, Size}
 use Rattle.iss_schedule.specs.declared.errors.ReadError.{ReadError}
 use Rattle.iss_schedule.specs.declared.errors.ReadError.TheVariants.{BadLine, NoMemory}
 use Rattle.iss_schedule.specs.declared.schedules.Schedule.{Schedule}
-use Rattle.iss_schedule.specs.Forms.{HasForm, IsInjection, NamesFaulty}
-use Rattle.iss_schedule.specs.Headers.{FaultyNodes, header_fields}
+use Rattle.iss_schedule.specs.Forms.{HasForm, IsInjection}
 use Rattle.iss_schedule.specs.Schedules.{IsFine, IsSchedule, schedule_lines, most_bytes, most_events}
 use Rattle.iss_schedule.specs.Words.{Lacks, ended}
 
@@ -23,19 +22,22 @@ pub record IsNext (line rest : List ℕ) : Type 0 where
   pub text : rest ≡ line ++ 10 ∷ more
   pub whole : Lacks 10 line
 
--- the line for faulty nodes names some; an event gives bytes to a core
-abbrev pub IsFaulty : List (List ℕ) → List ℕ → Type 0
-IsFaulty front line = (nth header_fields (length front) ≡ Some FaultyNodes) × NamesFaulty line
+-- of a module whose nodes only stop
+pub record BeginsStopping (lines : List (List ℕ)) : Type 0 where
+  pub begins : Begins lines
+  pub stops : begins.schedule.setup.kind ≡ Stopping
 
+-- an event gives bytes to a core of a module whose nodes only stop
 abbrev pub IsInjected : List (List ℕ) → List ℕ → Type 0
-IsInjected front line = (11 ≤ length front) × IsInjection line
+IsInjected front line = (11 ≤ length front) × IsInjection line × BeginsStopping front
 
--- what is wrong with a line behind the good lines of the front; of several reasons the first counts
+-- what is wrong with a line behind the good lines of the front; of several reasons the first counts. The eleventh line
+-- names the faulty nodes, and is out of their rule where no schedule in range goes on so
 abbrev pub IsFault : List (List ℕ) → List ℕ → Why → Type 0
 IsFault front line Form = ¬ HasForm (length front) line
-IsFault front line Faulty = IsFaulty front line
+IsFault front line Faulty = HasForm (length front) line × (length front ≡ 10) × ¬ Begins (front ++ line ∷ [])
 IsFault front line Injected = IsInjected front line
-IsFault front line Range = HasForm (length front) line × ¬ IsFaulty front line × ¬ IsInjected front line × ¬ Begins (front ++ line ∷ [])
+IsFault front line Range = HasForm (length front) line × (length front ≢ 10) × ¬ IsInjected front line × ¬ Begins (front ++ line ∷ [])
 IsFault front line Cut = ⊥
 IsFault front line Size = ⊥
 

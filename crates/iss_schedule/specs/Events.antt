@@ -6,6 +6,7 @@ use Rattle.iss_request.specs.declared.setups.Setup.{Setup}
 use Rattle.iss_schedule.specs.declared.names.Name.TheVariants as name
 use Rattle.iss_schedule.specs.declared.schedules.Event.{Event}
 use Rattle.iss_schedule.specs.declared.schedules.Event.TheVariants.{Request, Propose, Timeout, Deliver, Lose, Pump, Calm, Hold, Free, Drop, Bytes}
+use Rattle.iss_schedule.specs.Cores.{cores_of}
 use Rattle.iss_schedule.specs.Names.{text_of_name}
 use Rattle.iss_schedule.specs.Words.{line_of, word_of}
 
@@ -30,20 +31,20 @@ spell_event e = line_of (event_words e)
 abbrev pub IsPayload : List ℕ → Type 0
 IsPayload payload = IsBytes payload × (length payload ≤ 256)
 
--- which events a cluster of this set-up may meet: its cores are its nodes, a client signs with a leaf of its tree,
--- and only a module that withstands any fault meets bytes of no node
+-- which events a cluster of this set-up may meet: a core is one of its cores, a leader is a node, a client signs with a
+-- leaf of its tree, and only a module that withstands any fault meets bytes of no node
 abbrev pub IsInRange : Setup → Event → Type 0
-IsInRange s (Request core client number payload) = (core < s.n) × (client < s.clients) × (number < 2 ^ s.keys) × IsPayload payload
-IsInRange s (Propose core) = core < s.n
-IsInRange s (Timeout core leader) = (core < s.n) × (leader.0 < s.n)
+IsInRange s (Request core client number payload) = (core < cores_of s) × (client < s.clients) × (number < 2 ^ s.keys) × IsPayload payload
+IsInRange s (Propose core) = core < cores_of s
+IsInRange s (Timeout core leader) = (core < cores_of s) × (leader.0 < s.n)
 IsInRange s (Deliver packet) = packet < 2 ^ 64
 IsInRange s (Lose packet) = packet < 2 ^ 64
 IsInRange s Pump = Unit {0}
 IsInRange s (Calm pumps) = (1 ≤ pumps) × (pumps ≤ 1000)
-IsInRange s (Hold core) = core < s.n
-IsInRange s (Free core) = core < s.n
-IsInRange s (Drop core) = core < s.n
-IsInRange s (Bytes core bytes) = (s.kind ≡ Byzantine) × (core < s.n) × IsBytes bytes
+IsInRange s (Hold core) = core < cores_of s
+IsInRange s (Free core) = core < cores_of s
+IsInRange s (Drop core) = core < cores_of s
+IsInRange s (Bytes core bytes) = (s.kind ≡ Byzantine) × (core < cores_of s) × IsBytes bytes
 
 abbrev pub AreInRange : Setup → List Event → Type 0
 AreInRange s [] = Unit {0}

@@ -2,11 +2,13 @@
 use Rattle.std.specs.Prelude.{◌≡◌, ◌⊎◌, ◌<◌, ℕ, zero, suc, Bool, true, false, Option, Some, None, List, [], ◌∷◌, ◌++◌, length, get_or, codes}
 use Rattle.hex.specs.Hex.{IsBytes}
 use Rattle.iss_base.specs.Lists.{nth}
+use Rattle.iss_request.specs.declared.setups.Kind.TheVariants.{Stopping}
+use Rattle.iss_request.specs.declared.setups.Setup.{Setup}
 use Rattle.iss_schedule.specs.declared.errors.Why.{Why}
 use Rattle.iss_schedule.specs.declared.errors.Why.TheVariants.{Cut, Form, Faulty, Injected, Range, Size}
 use Rattle.iss_schedule.specs.declared.names.Name.{Name}
 use Rattle.iss_schedule.specs.declared.names.Name.TheVariants.{Request, Propose, Timeout, Deliver, Lose, Pump, Calm, Hold, Free, Drop, Bytes}
-use Rattle.iss_schedule.specs.Headers.{HeaderField, OneOf, Number, FaultyNodes, header_fields}
+use Rattle.iss_schedule.specs.Headers.{HeaderField, OneOf, Number, header_fields}
 use Rattle.iss_schedule.specs.Names.{text_of_name}
 use Rattle.iss_schedule.specs.Words.{words_of, word_of, IsNumber}
 
@@ -59,14 +61,15 @@ pub record IsInjection (line : List ℕ) : Type 0 where
   pub words : words_of line ≡ text_of_name Bytes ∷ arguments
   pub spelled : AreArguments 1 true arguments
 
--- of a line that is no event in range: it is spelled wrongly, or gives bytes to a core, or a number is out of range
-abbrev pub IsEventFault : List ℕ → Why → Type 0
-IsEventFault line Form = ¬ IsEventLine line
-IsEventFault line Injected = IsInjection line
-IsEventFault line Range = IsEventLine line × ¬ IsInjection line
-IsEventFault line Cut = ⊥
-IsEventFault line Faulty = ⊥
-IsEventFault line Size = ⊥
+-- of a line that is no event in range: it is spelled wrongly, or gives bytes to a core where nodes only stop, or a number
+-- is out of range
+abbrev pub IsEventFault : Setup → List ℕ → Why → Type 0
+IsEventFault s line Form = ¬ IsEventLine line
+IsEventFault s line Injected = IsInjection line × (s.kind ≡ Stopping)
+IsEventFault s line Range = IsEventLine line × ¬ (IsInjection line × (s.kind ≡ Stopping))
+IsEventFault s line Cut = ⊥
+IsEventFault s line Faulty = ⊥
+IsEventFault s line Size = ⊥
 
 -- ---- the lines of a header
 
@@ -85,13 +88,32 @@ pub record NamesFaulty (line : List ℕ) : Type 0 where
   pub words : words_of line ≡ codes "faulty" ∷ first ∷ others
   pub numbers : AreNumbers (first ∷ others)
 
--- the line is spelled as its field asks, whatever the size of its number; behind the header stand events
-abbrev pub IsFormed : Option HeaderField → List ℕ → Type 0
+-- the line is spelled as its field asks, whatever the size of its number
+abbrev pub IsFieldFormed : HeaderField → List ℕ → Type 0
+IsFieldFormed (OneOf texts) line = (v : ℕ) × ((v < length texts) × (line ≡ get_or texts v []))
+IsFieldFormed (Number name low end) line = IsField name line
+
+-- the line says that no node is faulty, or names some, whatever their numbers
+abbrev pub IsFaultyFormed : List ℕ → Type 0
+IsFaultyFormed line = (line ≡ codes "faulty none") ⊎ NamesFaulty line
+
+-- ---- the lines of a schedule
+
+-- a header's line is a field's, and the last that of the faulty nodes
+pub data LineForm : Type 0 where
+  Field : HeaderField → LineForm
+  FaultyNodes : LineForm
+
+abbrev pub forms_of : List HeaderField → List LineForm
+forms_of [] = FaultyNodes ∷ []
+forms_of (f ∷ fs) = Field f ∷ forms_of fs
+
+-- behind the header stand events
+abbrev pub IsFormed : Option LineForm → List ℕ → Type 0
 IsFormed None line = IsEventLine line
-IsFormed (Some (OneOf texts)) line = (v : ℕ) × ((v < length texts) × (line ≡ get_or texts v []))
-IsFormed (Some (Number name low end)) line = IsField name line
-IsFormed (Some FaultyNodes) line = (line ≡ codes "faulty none") ⊎ NamesFaulty line
+IsFormed (Some (Field f)) line = IsFieldFormed f line
+IsFormed (Some FaultyNodes) line = IsFaultyFormed line
 
 -- the line at a place is spelled as that place asks; places count from 0
 abbrev pub HasForm : ℕ → List ℕ → Type 0
-HasForm place line = IsFormed (nth header_fields place) line
+HasForm place line = IsFormed (nth (forms_of header_fields) place) line

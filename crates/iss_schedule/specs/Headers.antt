@@ -1,34 +1,52 @@
 -- The header: a table of its lines, and the set-up that their values give. A field, a module or a policy is one line more.
-use Rattle.std.specs.Prelude.{◌≡◌, ◌<◌, ◌==◌, ℕ, suc, List, [], ◌∷◌, ◌++◌, length, get_or, codes, if◌then◌else◌, decimal}
+-- Its last line names the faulty nodes.
+use Rattle.std.specs.Prelude.{◌≡◌, ◌⊎◌, ◌<◌, ◌==◌, ℕ, suc, List, [], ◌∷◌, ◌++◌, length, get_or, codes, if◌then◌else◌, decimal}
 use Rattle.iss_request.specs.Setup.{node_count, quorum_count}
 use Rattle.iss_request.specs.declared.setups.Kind.{Kind}
-use Rattle.iss_request.specs.declared.setups.Kind.TheVariants.{Stopping}
+use Rattle.iss_request.specs.declared.setups.Kind.TheVariants.{Byzantine, Stopping}
 use Rattle.iss_request.specs.declared.setups.Policy.{Policy}
 use Rattle.iss_request.specs.declared.setups.Policy.TheVariants.{Simple, Backoff, Blacklist}
 use Rattle.iss_request.specs.declared.setups.Setup.{Setup}
+use Rattle.iss_request.specs.declared.ids.NodeId.{NodeId}
+use Rattle.iss_schedule.specs.declared.modules.Module.{Module}
 use Rattle.iss_schedule.specs.Reads.{IsWithin}
+use Rattle.iss_schedule.specs.Words.{line_of}
 
 -- ---- modules and policies
 
--- a module that has a word: its line, its number, what it withstands, and how many faults are too many for it
+-- a module that has a word: its line, its number, what it withstands, and the most faults that it is asked to withstand
 pub record ModuleRow : Type 0 where
   pub line : List ℕ
   pub number : ℕ
   pub kind : Kind
-  pub too_many : ℕ
+  pub most_faults : ℕ
+
+abbrev pub row : List ℕ → ℕ → Kind → ℕ → ModuleRow
+row line number kind most_faults = record { line = line; number = number; kind = kind; most_faults = most_faults }
 
 abbrev pub relay_row : ModuleRow
-relay_row = record { line = codes "module relay"; number = 1; kind = Stopping; too_many = 1 }
+relay_row = row (codes "module relay") 1 Stopping 0
 
-abbrev pub raft_row : ModuleRow
-raft_row = record { line = codes "module raft"; number = 2; kind = Stopping; too_many = 4 }
-
+-- the modules that have a word; one that has none is a line less, here and in the table of the code
 abbrev pub module_rows : List ModuleRow
-module_rows = relay_row ∷ raft_row ∷ []
+module_rows =
+    relay_row
+    ∷ row (codes "module raft") 2 Stopping 3
+    ∷ row (codes "module pbft") 3 Byzantine 3
+    ∷ row (codes "module hotstuff") 4 Byzantine 3
+    ∷ []
 
 abbrev pub lines_of_rows : List ModuleRow → List (List ℕ)
 lines_of_rows [] = []
 lines_of_rows (r ∷ rs) = r.line ∷ lines_of_rows rs
+
+-- the code's table, seen as rows
+abbrev pub see : Module → ModuleRow
+see m = row m.line.now m.number m.kind m.most_faults
+
+abbrev pub see_all : List Module → List ModuleRow
+see_all [] = []
+see_all (m ∷ ms) = see m ∷ see_all ms
 
 -- the place of the module of this number, and the module of a place
 abbrev pub place_among : ℕ → List ModuleRow → ℕ
@@ -37,6 +55,15 @@ place_among number (r ∷ rs) = if r.number == number then 0 else suc (place_amo
 
 abbrev pub row_at : ℕ → ModuleRow
 row_at place = get_or module_rows place relay_row
+
+abbrev pub row_of : ℕ → ModuleRow
+row_of number = row_at (place_among number module_rows)
+
+-- the module of this number has a row
+abbrev pub IsOneOf : ℕ → List ModuleRow → Type 0
+IsOneOf number [] = ⊥
+IsOneOf number (r ∷ []) = number ≡ r.number
+IsOneOf number (r ∷ q ∷ rs) = (number ≡ r.number) ⊎ IsOneOf number (q ∷ rs)
 
 -- the policies in the order of their lines
 abbrev pub policy_lines : List (List ℕ)
@@ -56,14 +83,14 @@ policy_at place = get_or (Simple ∷ Backoff ∷ Blacklist ∷ []) place Simple
 abbrev pub value : List ℕ → ℕ → ℕ
 value values k = get_or values k 0
 
--- the set-up that the values of all lines give, with this module and tag; its nodes are counted as its kind asks
+-- the set-up that these values give, with these faulty nodes and this tag; its nodes are counted as its kind asks
 abbrev pub counted : Setup → Setup
 counted s = record s { n = node_count s; quorum = quorum_count s }
 
-abbrev pub setup_of_row : ModuleRow → List ℕ → List ℕ → Setup
-setup_of_row row values tag = counted (record {
+abbrev pub setup_of_row : ModuleRow → List ℕ → List NodeId → List ℕ → Setup
+setup_of_row r values faulty tag = counted (record {
   version = 1;
-  «module» = row.number;
+  «module» = r.number;
   f = value values 2;
   epoch = value values 3;
   buckets = value values 4;
@@ -72,45 +99,43 @@ setup_of_row row values tag = counted (record {
   policy = policy_at (value values 7);
   clients = value values 8;
   keys = value values 9;
-  faulty = [];
+  faulty = faulty;
   n = 0;
   quorum = 0;
-  kind = row.kind;
+  kind = r.kind;
   tag = tag;
 })
 
-abbrev pub setup_with : List ℕ → List ℕ → Setup
-setup_with values tag = setup_of_row (row_at (value values 1)) values tag
+abbrev pub setup_with : List ℕ → List NodeId → List ℕ → Setup
+setup_with values faulty tag = setup_of_row (row_at (value values 1)) values faulty tag
 
 -- and the values of a set-up
 abbrev pub values_of : Setup → List ℕ
 values_of s =
-    0 ∷ place_among s.module module_rows ∷ s.f ∷ s.epoch ∷ s.buckets ∷ s.batch ∷ s.window ∷ place_of_policy s.policy ∷ s.clients ∷ s.keys ∷ 0 ∷ []
+    0 ∷ place_among s.module module_rows ∷ s.f ∷ s.epoch ∷ s.buckets ∷ s.batch ∷ s.window
+    ∷ place_of_policy s.policy ∷ s.clients ∷ s.keys ∷ []
 
 -- ---- lines
 
 -- a line of a header is one of some texts, whose value is its place among them, or a name and a number, from the first
--- bound on and below the second, which may hang on the values above; the last names the faulty nodes, of whom a module
--- that only stops has none
+-- bound on and below the second, which may hang on the values above
 pub data HeaderField : Type 0 where
   OneOf : (texts : List (List ℕ)) → HeaderField
   Number : (name : List ℕ) → (low end : List ℕ → ℕ) → HeaderField
-  FaultyNodes : HeaderField
 
 -- an epoch has a slot for each node
 abbrev pub header_fields : List HeaderField
 header_fields =
     OneOf (codes "iss 1" ∷ [])
     ∷ OneOf (lines_of_rows module_rows)
-    ∷ Number (codes "f") (λ above. 0) (λ above. (row_at (value above 1)).too_many)
-    ∷ Number (codes "epoch") (λ above. (setup_with above []).n) (λ above. 65)
+    ∷ Number (codes "f") (λ above. 0) (λ above. suc (row_at (value above 1)).most_faults)
+    ∷ Number (codes "epoch") (λ above. (setup_with above [] []).n) (λ above. 65)
     ∷ Number (codes "buckets") (λ above. 1) (λ above. 257)
     ∷ Number (codes "batch") (λ above. 1) (λ above. 33)
     ∷ Number (codes "window") (λ above. 1) (λ above. 65)
     ∷ OneOf policy_lines
     ∷ Number (codes "clients") (λ above. 1) (λ above. 257)
     ∷ Number (codes "keys") (λ above. 2) (λ above. 13)
-    ∷ FaultyNodes
     ∷ []
 
 -- a name and a number
@@ -121,12 +146,10 @@ field name n = name ++ 32 ∷ decimal n
 abbrev pub spell_value : HeaderField → ℕ → List ℕ
 spell_value (OneOf texts) v = get_or texts v []
 spell_value (Number name low end) v = field name v
-spell_value FaultyNodes v = codes "faulty none"
 
 abbrev pub IsValue : HeaderField → List ℕ → ℕ → Type 0
 IsValue (OneOf texts) above v = v < length texts
 IsValue (Number name low end) above v = IsWithin (low above) (end above) v
-IsValue FaultyNodes above v = v ≡ 0
 
 -- a line that spells a value in range
 abbrev pub IsGoodLine : HeaderField → List ℕ → List ℕ → Type 0
@@ -145,4 +168,15 @@ lines_of (f ∷ fs) (v ∷ vs) = spell_value f v ∷ lines_of fs vs
 
 -- the field that stands below so many values
 abbrev pub next_field : List ℕ → HeaderField
-next_field above = get_or header_fields (length above) FaultyNodes
+next_field above = get_or header_fields (length above) (OneOf [])
+
+-- ---- the last line
+
+abbrev pub node_words : List NodeId → List (List ℕ)
+node_words [] = []
+node_words (i ∷ is) = decimal i.0 ∷ node_words is
+
+-- it names the faulty nodes
+abbrev pub faulty_line : List NodeId → List ℕ
+faulty_line [] = codes "faulty none"
+faulty_line (i ∷ is) = line_of (codes "faulty" ∷ node_words (i ∷ is))

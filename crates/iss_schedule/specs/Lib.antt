@@ -1,4 +1,5 @@
 pub mod BadLines
+pub mod Cores
 pub mod Events
 pub mod Forms
 pub mod Headers

@@ -1,5 +1,9 @@
 -- Where a reader stands in the lines of a text.
-use Rattle.std.specs.Prelude.{◌≡◌, ◌≢◌, ◌⊎◌, ◌<◌, ◌≤◌, ◌+◌, ℕ, List, [], ◌∷◌, ◌++◌, length, map, Some, Result, Ok, Err}
+use Rattle.std.specs.Prelude.{◌≡◌, ◌≢◌, ◌⊎◌, ◌<◌, ◌≤◌, ◌+◌, ℕ, List, [], ◌∷◌, ◌++◌, length, map, Result, Ok, Err}
+use Rattle.iss_request.specs.Setup.{AreRising}
+use Rattle.iss_request.specs.declared.ids.NodeId.{NodeId}
+use Rattle.iss_request.specs.declared.setups.Kind.{Kind}
+use Rattle.iss_request.specs.declared.setups.Kind.TheVariants.{Byzantine, Stopping}
 use Rattle.iss_request.specs.declared.setups.Setup.{Setup}
 use Rattle.iss_schedule.specs.declared.errors.ReadError.{ReadError}
 use Rattle.iss_schedule.specs.declared.errors.ReadError.TheVariants.{BadLine, NoMemory}
@@ -7,8 +11,8 @@ use Rattle.iss_schedule.specs.declared.schedules.Event.{Event}
 use Rattle.iss_schedule.specs.declared.errors.Why.{Why}
 use Rattle.iss_schedule.specs.declared.errors.Why.TheVariants.{Cut, Form, Faulty, Injected, Range, Size}
 use Rattle.iss_schedule.specs.BadLines.{IsNext}
-use Rattle.iss_schedule.specs.Forms.{IsFormed, NamesFaulty, IsEventFault}
-use Rattle.iss_schedule.specs.Headers.{HeaderField, OneOf, Number, FaultyNodes, spell_value, IsValue, IsGoodLine}
+use Rattle.iss_schedule.specs.Forms.{IsFieldFormed, IsFaultyFormed, IsEventFault}
+use Rattle.iss_schedule.specs.Headers.{HeaderField, faulty_line, spell_value, IsValue, IsGoodLine}
 use Rattle.iss_schedule.specs.Events.{spell_event, IsInRange, AreInRange}
 use Rattle.iss_schedule.specs.Schedules.{most_events}
 use Rattle.iss_schedule.specs.Words.{Lacks, ended}
@@ -32,29 +36,41 @@ IsLineFault IsFormed IsGood rest Faulty = ⊥
 IsLineFault IsFormed IsGood rest Injected = ⊥
 IsLineFault IsFormed IsGood rest Size = ⊥
 
--- the line that should have named the faulty nodes names some, or is spelled otherwise
-abbrev pub IsFaultyLineFault : List ℕ → Why → Type 0
-IsFaultyLineFault rest Cut = Lacks 10 rest
-IsFaultyLineFault rest Form = (line : List ℕ) × (IsNext line rest × ¬ IsFormed (Some FaultyNodes) line)
-IsFaultyLineFault rest Faulty = (line : List ℕ) × (IsNext line rest × NamesFaulty line)
-IsFaultyLineFault rest Injected = ⊥
-IsFaultyLineFault rest Range = ⊥
-IsFaultyLineFault rest Size = ⊥
-
 abbrev pub IsFieldFault : HeaderField → List ℕ → List ℕ → Why → Type 0
-IsFieldFault (OneOf texts) above rest why = IsLineFault (IsFormed (Some (OneOf texts))) (IsGoodLine (OneOf texts) above) rest why
-IsFieldFault (Number name low end) above rest why = IsLineFault (IsFormed (Some (Number name low end))) (IsGoodLine (Number name low end) above) rest why
-IsFieldFault FaultyNodes above rest why = IsFaultyLineFault rest why
+IsFieldFault f above rest why = IsLineFault (IsFieldFormed f) (IsGoodLine f above) rest why
 
 -- the reader went past a line that spells a value in range of the field, or says what is wrong with the line
 abbrev pub ReadsField : HeaderField → List ℕ → Place → Place → Result ℕ Why → Type 0
 ReadsField f above old new (Ok v) = GoesPast (spell_value f v) old new × IsValue f above v
 ReadsField f above old new (Err why) = IsFieldFault f above old.rest why
 
+-- so many nodes at most, ascending, with numbers below n
+abbrev pub AreFew : ℕ → ℕ → List NodeId → Type 0
+AreFew most n nodes = (length nodes ≤ most) × AreRising 0 n nodes
+
+-- how many nodes may be faulty: f, and none where nodes only stop
+abbrev pub most_faulty : Kind → ℕ → ℕ
+most_faulty Byzantine f = f
+most_faulty Stopping f = 0
+
+-- the line that should have named faulty nodes names others, or is spelled otherwise
+abbrev pub IsFaultyLineFault : ℕ → ℕ → List ℕ → Why → Type 0
+IsFaultyLineFault most n rest Cut = Lacks 10 rest
+IsFaultyLineFault most n rest Form = (line : List ℕ) × (IsNext line rest × ¬ IsFaultyFormed line)
+IsFaultyLineFault most n rest Faulty =
+    (line : List ℕ) × (IsNext line rest × IsFaultyFormed line × ((is : List NodeId) → AreFew most n is → line ≢ faulty_line is))
+IsFaultyLineFault most n rest Injected = ⊥
+IsFaultyLineFault most n rest Range = ⊥
+IsFaultyLineFault most n rest Size = ⊥
+
+abbrev pub IsFaultyRefused : ℕ → ℕ → Place → ReadError → Type 0
+IsFaultyRefused most n old (BadLine line why) = (line ≡ old.read + 1) × IsFaultyLineFault most n old.rest why
+IsFaultyRefused most n old NoMemory = Unit {0}
+
 -- the next line is no event in range: it is not whole, or it has a fault and no event in range is spelled so
 abbrev pub IsEventBad : Setup → List ℕ → Why → Type 0
 IsEventBad s rest Cut = Lacks 10 rest
-IsEventBad s rest why = (line : List ℕ) × (IsNext line rest × IsEventFault line why × ((e : Event) → IsInRange s e → line ≢ spell_event e))
+IsEventBad s rest why = (line : List ℕ) × (IsNext line rest × IsEventFault s line why × ((e : Event) → IsInRange s e → line ≢ spell_event e))
 
 -- the reader of one event says so of the line that it looks at
 abbrev pub IsEventRefused : Setup → Place → ReadError → Type 0

@@ -1,17 +1,16 @@
 -- Schedules and their texts.
-use Rattle.std.specs.Prelude.{◌≡◌, ◌⊎◌, ◌≤◌, ℕ, List, ◌∷◌, ◌++◌, length, map}
+use Rattle.std.specs.Prelude.{◌≡◌, ◌≤◌, ℕ, List, [], ◌∷◌, ◌++◌, length, map}
 use Rattle.sha2.specs.Sha256.{sha256}
 use Rattle.iss_request.specs.Setup.{IsGoodSetup}
-use Rattle.iss_request.specs.declared.setups.Kind.TheVariants.{Stopping}
 use Rattle.iss_request.specs.declared.setups.Setup.{Setup}
 use Rattle.iss_schedule.specs.declared.schedules.Schedule.{Schedule}
 use Rattle.iss_schedule.specs.Events.{spell_event, AreInRange}
-use Rattle.iss_schedule.specs.Headers.{header_fields, lines_of, raft_row, relay_row, values_of}
+use Rattle.iss_schedule.specs.Headers.{IsOneOf, faulty_line, header_fields, lines_of, module_rows, row_of, values_of}
 use Rattle.iss_schedule.specs.Words.{ended}
 
 -- the eleven lines of a header; a module that has no word yet has an empty line
 abbrev pub header_lines : Setup → List (List ℕ)
-header_lines s = lines_of header_fields (values_of s)
+header_lines s = lines_of header_fields (values_of s) ++ faulty_line s.faulty ∷ []
 
 -- the tag of a cluster is the digest of a letter C and its header
 abbrev pub cluster_tag : Setup → List ℕ
@@ -31,11 +30,12 @@ most_bytes = 16777216
 abbrev pub most_events : ℕ
 most_events = 1048576
 
--- the set-up is that of a module that has a word, the relay or Raft, whose nodes only stop, and its tag its own
+-- the set-up is that of a module that has a word, as its row says, and its tag its own
 pub record IsKnown (s : Setup) : Type 0 where
   pub good : IsGoodSetup s
-  pub known : (s.module ≡ relay_row.number) ⊎ (s.module ≡ raft_row.number)
-  pub stops : s.kind ≡ Stopping
+  pub known : IsOneOf s.module module_rows
+  pub kind : s.kind ≡ (row_of s.module).kind
+  pub faults : s.f ≤ (row_of s.module).most_faults
   pub tag : s.tag ≡ cluster_tag s
 
 -- a schedule in range

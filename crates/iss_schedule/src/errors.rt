@@ -1,4 +1,8 @@
 //! Why a text is no schedule.
+ghost use Rattle.std.specs.Prelude.{◌≡◌};
+ghost use Rattle.iss_schedule.specs.declared.errors.ReadError.TheVariants.{BadLine};
+
+use crate::lines::Lines;
 use iss_request::errors::NoMemory as WantOfMemory;
 use std::alloc::AllocError;
 
@@ -9,9 +13,9 @@ pub enum Why {
     Cut,
     /// The line is not spelled as its place asks.
     Form,
-    /// The header names faulty nodes, which a module that only stops does not have.
+    /// The header names faulty nodes out of their rule: ascending, below n, at most f, and none where nodes only stop.
     Faulty,
-    /// The line gives bytes of its own to a core, which a module that only stops does not withstand.
+    /// The line gives bytes of its own to a core, which a module whose nodes only stop does not withstand.
     Injected,
     /// A number or a payload is out of range.
     Range,
@@ -47,5 +51,15 @@ impl From<AllocError> for ReadError {
 
     fn from(_error: AllocError) -> ReadError {
         ReadError::NoMemory
+    }
+}
+
+// The line that was read last is bad.
+pub(crate) fn bad_line(lines: &Lines, why: Why) -> ReadError
+    ensures { result ≡ BadLine lines.now.read why }
+{
+    ReadError::BadLine {
+        line: lines.read(),
+        why,
     }
 }

@@ -2,6 +2,7 @@
 ghost use Rattle.std.specs.Prelude.{◌≡◌, ◌≢◌, ◌<◌, ◌≤◌, ◌^◌, ◌+◌, ℕ, List, [], ◌∷◌, IfOk, IfSome, IfNone, IsTrue, ◌↔◌, decimal, option_map};
 ghost use Rattle.hex.specs.Hex.{IsBytes};
 ghost use Rattle.iss_request.specs.Setup.{IsGoodSetup};
+ghost use Rattle.iss_schedule.specs.Cores.{cores_of};
 ghost use Rattle.iss_schedule.specs.Events.{event_words, spell_event, IsInRange, IsPayload};
 ghost use Rattle.iss_schedule.specs.Names.{text_of_name};
 ghost use Rattle.iss_schedule.specs.Reads.{Reads, IsWithin, last_number};
@@ -68,11 +69,20 @@ pub fn bytes_in(alloc: Global, words: &mut Words) -> Result<Option<Bytes>, NoMem
     }
 }
 
-// The core, numbered as its node, that the last word names.
-fn core_in(setup: &Setup, words: &mut Words) -> Option<u32>
-    ensures { Reads last_number (λ core. core < setup.now.n) words.old result }
+// How many cores the cluster has.
+fn count_of_cores(setup: &Setup) -> u32
+    requires good { IsGoodSetup setup.now }
+    ensures { result ≡ cores_of setup.now }
 {
-    last_number_in(words, 0, setup.n)
+    setup.n + setup.faulty.as_slice().len() as u32
+}
+
+// The core that the last word names.
+fn core_in(setup: &Setup, words: &mut Words) -> Option<u32>
+    requires good { IsGoodSetup setup.now }
+    ensures { Reads last_number (λ core. core < cores_of setup.now) words.old result }
+{
+    last_number_in(words, 0, count_of_cores(setup))
 }
 
 // How many pumps the last word asks for.
@@ -87,8 +97,8 @@ fn timeout_in(setup: &Setup, words: &mut Words) -> Option<Event>
     requires good { IsGoodSetup setup.now }
     ensures { Reads event_words (IsInRange setup.now) (text_of_name Name.Timeout ∷ words.old) result }
 {
-    let core = number_in(words, 0, setup.n)?;
-    let leader = core_in(setup, words)?;
+    let core = number_in(words, 0, count_of_cores(setup))?;
+    let leader = last_number_in(words, 0, setup.n)?;
     Some(Event::Timeout {
         core,
         leader: NodeId(leader as u8),
@@ -114,7 +124,7 @@ fn request_in(alloc: Global, setup: &Setup, words: &mut Words) -> Result<Option<
     requires good { IsGoodSetup setup.now }
     ensures { IfOk result (Reads event_words (IsInRange setup.now) (text_of_name Name.Request ∷ words.old)) }
 {
-    let Some(core) = number_in(words, 0, setup.n) else {
+    let Some(core) = number_in(words, 0, count_of_cores(setup)) else {
         return Ok(None);
     };
     let Some(client) = number_in(words, 0, setup.clients) else {
@@ -136,12 +146,13 @@ fn request_in(alloc: Global, setup: &Setup, words: &mut Words) -> Result<Option<
 
 // Bytes for a core, behind their name.
 fn injection_in(alloc: Global, setup: &Setup, words: &mut Words) -> Result<Option<Event>, NoMemory>
+    requires good { IsGoodSetup setup.now }
     ensures { IfOk result (Reads event_words (IsInRange setup.now) (text_of_name Name.Bytes ∷ words.old)) }
 {
     if is_stopping(setup) {
         return Ok(None);
     }
-    let Some(core) = number_in(words, 0, setup.n) else {
+    let Some(core) = number_in(words, 0, count_of_cores(setup)) else {
         return Ok(None);
     };
     let Some(bytes) = bytes_in(alloc, words)? else {

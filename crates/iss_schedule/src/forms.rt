@@ -3,11 +3,11 @@ ghost use Rattle.std.specs.Prelude.{◌≡◌, ◌↔◌, IsTrue, true, IfOk};
 ghost use Rattle.iss_schedule.specs.Forms.{number_count, has_bytes, AreArguments, IsEventFault};
 
 use crate::errors::Why;
-use crate::events::bytes_in;
+use crate::events::{bytes_in, is_stopping};
 use crate::names::{Name, name_of};
 use crate::words::{Words, is_number};
 use iss_request::errors::NoMemory;
-use iss_request::setups::{Kind, Setup};
+use iss_request::setups::Setup;
 use std::alloc::Global;
 
 // How many numbers follow a name.
@@ -61,8 +61,7 @@ fn are_bytes(alloc: Global, words: &mut Words) -> Result<bool, NoMemory>
 
 /// What is wrong with the line of an event that does not read as an event in range.
 pub fn fault_of(alloc: Global, setup: &Setup, line: &[u8]) -> Result<Why, NoMemory>
-    requires { setup.now.kind ≡ Kind.Stopping }
-    ensures { IfOk result (IsEventFault line.now) }
+    ensures { IfOk result (IsEventFault setup.now line.now) }
 {
     let mut words = Words::of(line);
     let Some(word) = words.next() else {
@@ -79,7 +78,7 @@ pub fn fault_of(alloc: Global, setup: &Setup, line: &[u8]) -> Result<Why, NoMemo
     )? {
         return Ok(Why::Form);
     }
-    if is_injection(name) {
+    if is_injection(name) && is_stopping(setup) {
         Ok(Why::Injected)
     } else {
         Ok(Why::Range)

@@ -1,23 +1,25 @@
 //! The header of a schedule.
-ghost use Rattle.std.specs.Prelude.{◌≡◌, ◌≢◌, ◌↔◌, ◌<◌, ◌+◌, [], ◌∷◌, ◌++◌, ℕ, List, length, IsTrue, IfOk, IfErr, IfSome, IfNone, OnOk};
+ghost use Rattle.std.specs.Prelude.{◌≡◌, ◌≢◌, ◌↔◌, ◌<◌, ◌≤◌, ◌+◌, suc, [], ◌∷◌, ◌++◌, ℕ, List, length, IsTrue, IfOk, IfErr, IfSome, IfNone, OnOk};
 ghost use Rattle.sha2.specs.Sha256.{sha256};
 ghost use Rattle.iss_schedule.specs.BadLines.{IsFirstBad};
-ghost use Rattle.iss_schedule.specs.Forms.{AreNumbers, NamesFaulty};
-ghost use Rattle.iss_schedule.specs.Headers.{OneOf, Number, FaultyNodes, AreValues, header_fields, lines_of, lines_of_rows, module_rows, next_field, policy_at, policy_lines, row_at, setup_with, value};
-ghost use Rattle.iss_schedule.specs.Places.{ReadsField};
+ghost use Rattle.iss_schedule.specs.Headers.{OneOf, Number, AreValues, header_fields, lines_of, lines_of_rows, module_rows, next_field, policy_at, policy_lines, row_at, see, setup_of_row, setup_with, value};
+ghost use Rattle.iss_schedule.specs.Places.{ReadsField, most_faulty as faults_of_kind};
 ghost use Rattle.iss_schedule.specs.Words.{Lacks, ended};
 
 use crate::errors::Why;
 use crate::lines::Lines;
+use crate::modules::{Module, module_at, place_of};
 use crate::names::is_same;
-use crate::words::{Words, cut_at, is_number, number_within};
+use crate::words::{cut_at, is_number, number_within};
 use iss_request::setups::{Kind, Nodes, Policy, Setup};
 use iss_request::versions::FIRST;
 use sha2::{Digest, Sha256};
-use std::alloc::Global;
 
-/// How many lines a header has.
-pub const LINES: usize = 11;
+// The relay's number.
+const RELAY: u8 = 1;
+
+/// How many lines of a header have a value.
+pub const FIELDS: usize = 10;
 
 // Goes past a line that has to be this text, the only one of its field.
 fn expect(lines: &mut Lines, text: &[u8]) -> Result<u32, Why>
@@ -40,56 +42,77 @@ fn module(lines: &mut Lines) -> Result<u32, Why>
     ensures reads { (above : List ℕ) → ReadsField (OneOf (lines_of_rows module_rows)) above lines.old lines.new result }
 {
     let line = lines.next()?;
-    if is_same(line, b"module relay") {
-        Ok(0)
-    } else if is_same(line, b"module raft") {
-        Ok(1)
-    } else {
-        Err(Why::Form)
+    match place_of(line) {
+        Some(place) => Ok(place),
+        None => Err(Why::Form),
     }
 }
 
-// The number of the module whose line is at this place.
-fn number_of(place: u32) -> u8
-    ensures { result ≡ (row_at place).number }
-{
-    match place {
-        1 => 2,
-        _ => 1,
-    }
-}
-
-// How many faults are too many for it.
+// How many faults are too many for the module of this place.
 fn too_many(place: u32) -> u32
-    ensures { result ≡ (row_at place).too_many }
+    ensures { result ≡ suc (row_at place).most_faults }
 {
-    match place {
-        1 => 4,
-        _ => 1,
+    module_at(place).most_faults + 1
+}
+
+// How many nodes a module is of, for so many faults: the relay of three.
+fn nodes_for(row: &Module, f: u32) -> u32
+    requires { f < 4 }
+    ensures nodes { result ≡ (setup_of_row (see row.now) (0 ∷ 0 ∷ f ∷ []) [] []).n }
+    ensures few { result ≤ 10 }
+{
+    if row.number == RELAY {
+        return 3;
+    }
+    match row.kind {
+        Kind::Byzantine => 3 * f + 1,
+        Kind::Stopping => 2 * f + 1,
     }
 }
 
-// How many nodes it is of, for so many faults.
-fn nodes_of(values: &[u32]) -> u32
+// And how many of them decide: of the relay's, two.
+fn quorum_for(row: &Module, f: u32) -> u32
+    requires { f < 4 }
+    ensures { result ≡ (setup_of_row (see row.now) (0 ∷ 0 ∷ f ∷ []) [] []).quorum }
+{
+    if row.number == RELAY {
+        return 2;
+    }
+    match row.kind {
+        Kind::Byzantine => 2 * f + 1,
+        Kind::Stopping => f + 1,
+    }
+}
+
+/// How many nodes the cluster is of whose header has these values.
+pub fn nodes_of(values: &[u32]) -> u32
     requires long { 2 < length values.now }
     requires few { value values.now 2 < 4 }
-    ensures { result ≡ (setup_with values.now []).n }
+    ensures nodes { result ≡ (setup_with values.now [] []).n }
+    ensures few { result ≤ 10 }
 {
-    match values[1] {
-        1 => 2 * values[2] + 1,
-        _ => 3,
-    }
+    nodes_for(module_at(values[1]), values[2])
 }
 
 // And how many of them decide.
 fn quorum_of(values: &[u32]) -> u32
     requires long { 2 < length values.now }
     requires few { value values.now 2 < 4 }
-    ensures { result ≡ (setup_with values.now []).quorum }
+    ensures { result ≡ (setup_with values.now [] []).quorum }
 {
-    match values[1] {
-        1 => values[2] + 1,
-        _ => 2,
+    quorum_for(module_at(values[1]), values[2])
+}
+
+/// How many of them may be faulty.
+pub fn most_faulty(values: &[u32]) -> u32
+    requires long { 2 < length values.now }
+    requires few { value values.now 2 < 4 }
+    ensures few { result < 4 }
+    ensures most { result ≡ faults_of_kind (row_at (value values.now 1)).kind (value values.now 2) }
+{
+    match module_at(values[1]).kind {
+        Kind::Byzantine => values[2],
+        Kind::Stopping => 0,
     }
 }
 
@@ -148,56 +171,10 @@ fn number(lines: &mut Lines, name: &[u8], low: u32, end: u32) -> Result<u32, Why
     }
 }
 
-// Whether the words are numbers.
-fn are_numbers(words: &mut Words) -> bool
-    ensures { IsTrue result ↔ AreNumbers words.old }
-{
-    while let Some(word) = words.next() {
-        if !is_number(word) {
-            return false;
-        }
-    }
-    true
-}
-
-// Whether the line names faulty nodes.
-fn names_faulty(line: &[u8]) -> bool
-    ensures { IsTrue result ↔ NamesFaulty line.now }
-{
-    let mut words = Words::of(line);
-    let Some(word) = words.next() else {
-        return false;
-    };
-    if !is_same(word, b"faulty") {
-        return false;
-    }
-    if words.is_done() {
-        return false;
-    }
-    are_numbers(&mut words)
-}
-
-// Goes past the line that says that no node is faulty.
-fn no_faulty(lines: &mut Lines) -> Result<u32, Why>
-    requires { lines.old.read < 11 }
-    ensures read { lines.new.read ≡ lines.old.read + 1 }
-    ensures reads { (above : List ℕ) → ReadsField FaultyNodes above lines.old lines.new result }
-{
-    let line = lines.next()?;
-    if is_same(line, b"faulty none") {
-        return Ok(0);
-    }
-    if names_faulty(line) {
-        Err(Why::Faulty)
-    } else {
-        Err(Why::Form)
-    }
-}
-
 // Reads the line behind these values: the table of a header, a field on each line.
 fn read_field(lines: &mut Lines, above: &[u32]) -> Result<u32, Why>
     requires lines { lines.old.read < 11 }
-    requires few { length above.now < 11 }
+    requires few { length above.now < 10 }
     requires faults { value above.now 2 < 4 }
     ensures read { lines.new.read ≡ lines.old.read + 1 }
     ensures reads { ReadsField (next_field above.now) above.now lines.old lines.new result }
@@ -212,22 +189,21 @@ fn read_field(lines: &mut Lines, above: &[u32]) -> Result<u32, Why>
         6 => number(lines, b"window", 1, 65),
         7 => policy(lines),
         8 => number(lines, b"clients", 1, 257),
-        9 => number(lines, b"keys", 2, 13),
-        _ => no_faulty(lines),
+        _ => number(lines, b"keys", 2, 13),
     }
 }
 
 /// Reads the lines of a header: their values.
-pub fn read_header(lines: &mut Lines) -> Result<[u32; 11], Why>
+pub fn read_header(lines: &mut Lines) -> Result<[u32; 10], Why>
     requires { lines.old.read ≡ 0 }
-    ensures read { OnOk result (lines.new.read ≡ 11) }
-    ensures size { IfOk result (λ values. length values ≡ 11) }
+    ensures read { OnOk result (lines.new.read ≡ 10) }
+    ensures size { IfOk result (λ values. length values ≡ 10) }
     ensures ok { IfOk result (λ values. lines.old.rest ≡ ended (lines_of header_fields values) ++ lines.new.rest) }
     ensures range { IfOk result (AreValues header_fields []) }
     ensures bad { IfErr result (IsFirstBad lines.old.rest lines.new.read) }
 {
-    let mut values = [0u32; LINES];
-    for place in 0..LINES {
+    let mut values = [0u32; FIELDS];
+    for place in 0..FIELDS {
         let value = read_field(lines, &values[..place])?;
         values[place] = value;
     }
@@ -255,15 +231,16 @@ fn policy_of(place: u32) -> Policy
     }
 }
 
-/// The set-up of the cluster whose header has these values and this text.
-pub fn setup_of(alloc: Global, values: &[u32], text: &[u8]) -> Setup
-    requires size { length values.now ≡ 11 }
+/// The set-up of the cluster whose header has these values, these faulty nodes and this text.
+pub fn setup_of(values: &[u32], faulty: Nodes, text: &[u8]) -> Setup
+    requires size { length values.now ≡ 10 }
     requires range { AreValues header_fields [] values.now }
-    ensures { result ≡ setup_with values.now (sha256 (0x43 ∷ text.now)) }
+    ensures { result ≡ setup_with values.now faulty (sha256 (0x43 ∷ text.now)) }
 {
+    let module = module_at(values[1]);
     Setup {
         version: FIRST,
-        module: number_of(values[1]),
+        module: module.number,
         f: values[2],
         epoch: u64::from(values[3]),
         buckets: values[4],
@@ -272,10 +249,10 @@ pub fn setup_of(alloc: Global, values: &[u32], text: &[u8]) -> Setup
         policy: policy_of(values[7]),
         clients: values[8],
         keys: values[9],
-        faulty: Nodes::new(alloc),
+        faulty,
         n: nodes_of(values),
         quorum: quorum_of(values),
-        kind: Kind::Stopping,
+        kind: module.kind,
         tag: tag_of(text),
     }
 }

@@ -3,10 +3,12 @@
 
 pub mod errors;
 mod events;
+mod faulty;
 mod forms;
 mod header;
 pub mod laws;
 mod lines;
+mod modules;
 mod names;
 mod reading;
 pub mod schedules;

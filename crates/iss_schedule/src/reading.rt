@@ -4,14 +4,15 @@ ghost use Rattle.iss_request.specs.Setup.{IsGoodSetup};
 ghost use Rattle.iss_schedule.specs.BadLines.{IsRefused, IsNoText};
 ghost use Rattle.iss_schedule.specs.Events.{spell_event, IsInRange, AreInRange};
 ghost use Rattle.iss_schedule.specs.Places.{GoesPast, IsEventRefused, IsEventsRefused};
-ghost use Rattle.iss_schedule.specs.Schedules.{IsSchedule, IsKnown, header_lines, most_events};
+ghost use Rattle.iss_schedule.specs.Schedules.{IsSchedule, IsKnown, header_lines, most_bytes, most_events};
 ghost use Rattle.iss_schedule.specs.Words.{ended};
 ghost use Rattle.iss_schedule.specs.declared.schedules.Schedule.{Schedule};
 
-use crate::errors::{ReadError, Why};
+use crate::errors::{ReadError, Why, bad_line};
 use crate::events::event_of;
+use crate::faulty::read_faulty;
 use crate::forms::fault_of;
-use crate::header::{read_header, setup_of};
+use crate::header::{most_faulty, nodes_of, read_header, setup_of};
 use crate::laws::texts_and_schedules;
 use crate::lines::Lines;
 use crate::schedules::{Event, Schedule};
@@ -70,22 +71,29 @@ fn read_event(alloc: Global, setup: &Setup, lines: &mut Lines) -> Result<Event, 
     }
 }
 
-// The line that was read last is bad.
-fn bad_line(lines: &Lines, why: Why) -> ReadError
-    ensures { result ≡ ReadError.BadLine lines.now.read why }
-{
-    ReadError::BadLine {
-        line: lines.read(),
-        why,
-    }
-}
-
 // The text in front of what is still to be read.
 fn front<'a>(text: &'a [u8], rest: &[u8]) -> &'a [u8]
     requires { length rest.now ≤ length text.now }
     ensures { (read : List ℕ) → text.now ≡ read ++ rest.now → result.now ≡ read }
 {
     &text[..text.len() - rest.len()]
+}
+
+// The set-up that the header of these bytes gives.
+fn read_setup(alloc: Global, bytes: &[u8], lines: &mut Lines) -> Result<Setup, ReadError>
+    requires all { lines.old ≡ record { rest = bytes.now; read = 0 } }
+    requires short { length bytes.now ≤ most_bytes }
+    ensures known { IfOk result IsKnown }
+    ensures text { IfOk result (λ s. bytes.now ≡ ended (header_lines s) ++ lines.new.rest) }
+    ensures read { OnOk result (lines.new.read ≡ 11) }
+    ensures bad { IfErr result (IsRefused bytes.now) }
+{
+    let values = match read_header(lines) {
+        Ok(values) => values,
+        Err(why) => return Err(bad_line(lines, why)),
+    };
+    let faulty = read_faulty(alloc, lines, most_faulty(&values), nodes_of(&values))?;
+    Ok(setup_of(&values, faulty, front(bytes, lines.rest())))
 }
 
 // The schedule whose text these bytes are, or the first bad line.
@@ -100,11 +108,7 @@ fn read_text(alloc: Global, bytes: &[u8]) -> Result<Schedule, ReadError>
         });
     }
     let mut lines = Lines::of(bytes);
-    let values = match read_header(&mut lines) {
-        Ok(values) => values,
-        Err(why) => return Err(bad_line(&lines, why)),
-    };
-    let setup = setup_of(alloc, &values, front(bytes, lines.rest()));
+    let setup = read_setup(alloc, bytes, &mut lines)?;
     let events = read_events(alloc, &setup, &mut lines)?;
     Ok(Schedule { setup, events })
 }

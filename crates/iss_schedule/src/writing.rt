@@ -1,16 +1,18 @@
 //! Writing a schedule's text.
-ghost use Rattle.std.specs.Prelude.{◌≡◌, ◌∷◌, ◌++◌, [], IfOk, OnOk, decimal, get_or};
+ghost use Rattle.std.specs.Prelude.{◌≡◌, ◌∷◌, ◌++◌, [], IfOk, OnOk, codes, decimal, drop, get_or, take};
 ghost use Rattle.iss_request.specs.declared.setups.Setup.{Setup};
 ghost use Rattle.iss_schedule.specs.Events.{spell_event};
-ghost use Rattle.iss_schedule.specs.Headers.{field, lines_of_rows, module_rows, place_among, place_of_policy, policy_lines};
+ghost use Rattle.iss_schedule.specs.Headers.{faulty_line, field, node_words, place_of_policy, policy_lines};
 ghost use Rattle.iss_schedule.specs.Names.{text_of_name};
 ghost use Rattle.iss_schedule.specs.Schedules.{header_lines, text_of};
-ghost use Rattle.iss_schedule.specs.Words.{ended, word_of};
+ghost use Rattle.iss_schedule.specs.Words.{ended, line_of, word_of};
 
+use crate::modules;
 use crate::names::{self, Name};
 use crate::schedules::{Event, Schedule};
 use iss_request::bytes::Bytes;
 use iss_request::errors::NoMemory;
+use iss_request::ids::NodeId;
 use iss_request::setups::{Policy, Setup};
 use itoa::Buffer;
 use std::alloc::Global;
@@ -61,17 +63,6 @@ fn put_field(out: &mut Vec<u8>, name: &[u8], number: u64) -> Result<(), NoMemory
     put(out, b"\n")
 }
 
-// The line that names a module.
-fn module_line(number: u8) -> &'static [u8]
-    ensures { result.now ≡ get_or (lines_of_rows module_rows) (place_among number module_rows) [] }
-{
-    match number {
-        1 => b"module relay",
-        2 => b"module raft",
-        _ => b"",
-    }
-}
-
 // The line that names a policy.
 fn policy_line(policy: Policy) -> &'static [u8]
     ensures { result.now ≡ get_or policy_lines (place_of_policy policy) [] }
@@ -83,21 +74,57 @@ fn policy_line(policy: Policy) -> &'static [u8]
     }
 }
 
-// Appends the lines of a header.
-fn put_header(out: &mut Vec<u8>, setup: &Setup) -> Result<(), NoMemory>
-    ensures { OnOk result (out.new.items ≡ out.old.items ++ ended (header_lines setup.now)) }
+// Appends the first lines of a header.
+fn put_front(out: &mut Vec<u8>, setup: &Setup) -> Result<(), NoMemory>
+    ensures { OnOk result (out.new.items ≡ out.old.items ++ ended (take 5 (header_lines setup.now))) }
 {
     put_line(out, b"iss 1")?;
-    put_line(out, module_line(setup.module))?;
+    put_line(out, modules::line_of(setup.module))?;
     put_field(out, b"f", u64::from(setup.f))?;
     put_field(out, b"epoch", setup.epoch)?;
-    put_field(out, b"buckets", u64::from(setup.buckets))?;
+    put_field(out, b"buckets", u64::from(setup.buckets))
+}
+
+// Appends the next ones.
+fn put_middle(out: &mut Vec<u8>, setup: &Setup) -> Result<(), NoMemory>
+    ensures { OnOk result (out.new.items ≡ out.old.items ++ ended (take 5 (drop 5 (header_lines setup.now)))) }
+{
     put_field(out, b"batch", u64::from(setup.batch))?;
     put_field(out, b"window", u64::from(setup.window))?;
     put_line(out, policy_line(setup.policy))?;
     put_field(out, b"clients", u64::from(setup.clients))?;
-    put_field(out, b"keys", u64::from(setup.keys))?;
-    put_line(out, b"faulty none")
+    put_field(out, b"keys", u64::from(setup.keys))
+}
+
+// Appends the line that names faulty nodes, of which there are some.
+fn put_nodes(out: &mut Vec<u8>, nodes: &[NodeId]) -> Result<(), NoMemory>
+    ensures { OnOk result (out.new.items ≡ out.old.items ++ line_of (codes "faulty" ∷ node_words nodes.now)) }
+{
+    put(out, b"faulty")?;
+    for node in nodes {
+        put_number(out, u64::from(node.0))?;
+    }
+    Ok(())
+}
+
+// Appends the line of the faulty nodes.
+fn put_faulty(out: &mut Vec<u8>, nodes: &[NodeId]) -> Result<(), NoMemory>
+    ensures { OnOk result (out.new.items ≡ out.old.items ++ faulty_line nodes.now ++ 10 ∷ []) }
+{
+    if nodes.is_empty() {
+        return put_line(out, b"faulty none");
+    }
+    put_nodes(out, nodes)?;
+    put(out, b"\n")
+}
+
+// Appends the lines of a header.
+fn put_header(out: &mut Vec<u8>, setup: &Setup) -> Result<(), NoMemory>
+    ensures { OnOk result (out.new.items ≡ out.old.items ++ ended (header_lines setup.now)) }
+{
+    put_front(out, setup)?;
+    put_middle(out, setup)?;
+    put_faulty(out, setup.faulty.as_slice())
 }
 
 // Appends a name and a number.
@@ -143,8 +170,7 @@ fn put_event(alloc: Global, out: &mut Vec<u8>, event: &Event) -> Result<(), NoMe
     }
 }
 
-/// The one text of a schedule that has one. Of what has none, a module that has no word yet has an empty line, and faulty
-/// nodes are not named.
+/// The one text of a schedule that has one. Of what has none, a module that has no word has an empty line.
 pub fn write(alloc: Global, schedule: &Schedule) -> Result<Bytes, NoMemory>
     ensures { IfOk result (λ bytes. bytes ≡ text_of schedule.now) }
 {

@@ -1,59 +1,61 @@
 -- A world that stands for a run goes on to stand for the run with one event more, of which the theorems of the model hold.
-use Rattle.std.proofs.Common.{inl, inr, ◌≡◌, ◌⊎◌, ℕ, suc, ◌+◌, ◌<◌, ◌≤◌, Bool, true, false, List, [], ◌∷◌, ◌++◌, length, length-append, take, Option, Some, None, refl, sym, ap, ◌∙◌, subst, arith}
+use Rattle.std.proofs.Common.{inl, inr, ◌≡◌, ℕ, ◌<◌, Bool, true, false, List, [], ◌∷◌, ◌++◌, length, take, Some, None, refl, sym, ap, ◌∙◌, subst, arith}
 use Rattle.std.specs.Prelude.{if◌then◌else◌, nat_lt}
 use Rattle.std.proofs.lemmas.Bool.{ltb-true}
 use Rattle.std.proofs.lemmas.List.{take-append-le}
 use Rattle.iss_base.proofs.Lists.{some-injective}
 use Rattle.iss_log.specs.LogState.{first_number_of}
-use Rattle.iss_model.proofs.OneLog.{one-log, ordered-run}
-use Rattle.iss_model.proofs.Ranges.{at-nodes}
-use Rattle.iss_model.specs.Cluster.{Cluster, Reach, Scheme}
 use Rattle.iss_model.specs.Concrete.{rules_of}
 use Rattle.iss_model.specs.Conserved.{AcceptsOnce, IsConserved}
+use Rattle.iss_model.proofs.Ranges.{at-cores}
+use Rattle.iss_model.specs.Ends.{HasEvidence}
 use Rattle.iss_model.specs.Formats.{formats_of}
 use Rattle.iss_model.specs.Node.{Formats}
-use Rattle.iss_model.specs.OneLog.{IsClusterRun, IsOneLog, OnlyGrows}
-use Rattle.iss_model.specs.Ordered.{Among, IsExact, IsSoundRules, Ordered}
-use Rattle.iss_model.specs.Printed.{IsSeparateRun, printed}
+use Rattle.iss_model.specs.OneLog.{IsOneLog, printed, run_after}
 use Rattle.iss_model.specs.Rules.{Rules}
-use Rattle.iss_model.specs.Run.{Net, Progress, begin_run, goes_on, happens, run}
-use Rattle.iss_model.specs.Runs.{AreAtNodes, IsPrefix, IsSetupOf, net_after}
+use Rattle.iss_model.specs.Run.{Progress, begin_run, goes_further, run}
+use Rattle.iss_model.specs.Runs.{AreAtCores, IsPrefix, IsSetupOf}
 use Rattle.iss_request.specs.Log.{requests}
 use Rattle.iss_request.specs.declared.requests.Value.{Value}
 use Rattle.iss_request.specs.declared.setups.Setup.{Setup}
 use Rattle.iss_schedule.specs.Events.{AreInRange, IsInRange}
 use Rattle.iss_schedule.specs.declared.schedules.Event.{Event}
 use Rattle.iss_sb.specs.declared.effects.Params.{Params}
-use Rattle.iss_sb.specs.Evidence.{Item, Module, Separate}
+use Rattle.iss_sb.specs.Evidence.{Item, Module}
 use Rattle.iss_world.specs.Headline.{AgreeOnNumbers, IsAnswered, IsHeadline, StandsAfter}
-use Rattle.iss_world.specs.Stands.{HasHappened, StandsFor}
+use Rattle.iss_world.specs.Stands.{HasHappened, StandsAt}
 use Rattle.iss_world.specs.State.{WorldState}
 use Rattle.iss_world.specs.declared.world.Happened.{Happened}
-use Rattle.iss_world.specs.declared.world.Happened.TheVariants.{Done, Lost, NoMemory, Stale}
+use Rattle.iss_world.specs.declared.world.Happened.TheVariants.{Done, Lost, Forged, Collision, NoMemory, Stale}
 
 -- ---- one event more
 
-pub run-append : {Msg : Type 0} (m : Module Msg) (s : Setup) (F : Formats Msg) (R : Rules) (p : Progress Msg) (es fs : List Event) →
+run-append : {Msg : Type 0} (m : Module Msg) (s : Setup) (F : Formats Msg) (R : Rules) (p : Progress Msg) (es fs : List Event) →
     run s F R m p (es ++ fs) ≡ run s F R m (run s F R m p es) fs
 run-append m s F R p [] fs = refl
-run-append m s F R p (e ∷ es) fs = run-append m s F R (goes_on s F R m p e) es fs
+run-append m s F R p (e ∷ es) fs = run-append m s F R (goes_further p.ended s F R m p e) es fs
 
 in-range-more : (s : Setup) (es : List Event) (e : Event) → AreInRange s es → IsInRange s e → AreInRange s (es ++ e ∷ [])
 in-range-more s [] e h k = (k, tt)
 in-range-more s (x ∷ es) e h k = (h.0, in-range-more s es e h.1 k)
 
 module _ {M Msg : Type 0} (m : Module Msg) (stands : M → Params → ℕ → List (Item Msg) → Type 0) (s : Setup) where
-  net-more : (es : List Event) (e : Event) →
-      net_after s (formats_of s m) (rules_of s) m (es ++ e ∷ []) ≡ (happens s (formats_of s m) (rules_of s) m (net_after s (formats_of s m) (rules_of s) m es) e).net
-  net-more es e = ap (λ (p : Progress Msg). p.net) (run-append m s (formats_of s m) (rules_of s) (begin_run s.n) es (e ∷ []))
+  run-more : (es : List Event) (e : Event) → run_after s m (es ++ e ∷ []) ≡ goes_further (run_after s m es).ended s (formats_of s m) (rules_of s) m (run_after s m es) e
+  run-more es e = run-append m s (formats_of s m) (rules_of s) (begin_run s) es (e ∷ [])
+
+  stands-there : (v : WorldState M Msg) (old new : Progress Msg) (x : Happened) → HasHappened m stands v old new x → IsAnswered x → StandsAt m stands v new
+  stands-there v old new Done h a = h.0
+  stands-there v old new (Lost why) h a = h.0
+  stands-there v old new (Forged by statement sig) h a = h.0
+  stands-there v old new (Collision first second) h a = h.0
+  stands-there v old new NoMemory h a = absurd a
+  stands-there v old new Stale h a = absurd a
 
   stands-more : (v : WorldState M Msg) (es : List Event) (e : Event) (x : Happened) →
-      HasHappened m stands v (happens s (formats_of s m) (rules_of s) m (net_after s (formats_of s m) (rules_of s) m es) e) x → IsAnswered x →
+      HasHappened m stands v (run_after s m es) (goes_further (run_after s m es).ended s (formats_of s m) (rules_of s) m (run_after s m es) e) x → IsAnswered x →
       StandsAfter s m stands v (es ++ e ∷ [])
-  stands-more v es e Done h a = subst (λ (w : Net Msg). StandsFor m stands v w) (sym (net-more es e)) h.0
-  stands-more v es e (Lost why) h a = subst (λ (w : Net Msg). StandsFor m stands v w) (sym (net-more es e)) h.0
-  stands-more v es e NoMemory h a = absurd a
-  stands-more v es e Stale h a = absurd a
+  stands-more v es e x h a =
+      subst (λ (p : Progress Msg). StandsAt m stands v p) (sym (run-more es e)) (stands-there v (run_after s m es) (goes_further (run_after s m es).ended s (formats_of s m) (rules_of s) m (run_after s m es) e) x h a)
 
 -- ---- numbers
 
@@ -80,24 +82,19 @@ numbers-agree s m events o = λ i j slot k l oki okj ki lj.
 -- ---- the headline
 
 module _ {M Msg : Type 0} (m : Module Msg) (stands : M → Params → ℕ → List (Item Msg) → Type 0) (s : Setup) (good : IsSetupOf m s)
-    (composed : (t : Setup) (S : Scheme) (R : Rules) → IsSoundRules t m R → (w : Cluster Msg) →
-    IsExact t S w → Separate (Among w.strings) → Reach t S R m w → Ordered t R m w.pasts)
-    (reached : m.stopping ≡ true → (events : List Event) → AreAtNodes s.n events → IsClusterRun s m events)
-    (grows : m.stopping ≡ true → (events : List Event) → AreAtNodes s.n events → OnlyGrows s m events)
-    (conserved : m.stopping ≡ true → AcceptsOnce m → (events : List Event) → AreAtNodes s.n events → IsSeparateRun s m events → IsConserved s m events) where
-  one-log-of : (events : List Event) → AreInRange s events → m.stopping ≡ true → IsSeparateRun s m events → IsOneLog s m events
-  one-log-of events range stops separate = one-log s m events (ordered-run s m events composed (reached stops events (at-nodes s events range)) separate)
-
+    (are_one_log : (events : List Event) → AreAtCores s events → IsOneLog s m events)
+    (once_conserved : AcceptsOnce m → (events : List Event) → AreAtCores s events → IsConserved s m events)
+    (with_evidence : (events : List Event) → AreAtCores s events → HasEvidence s m events) where
   headline-of : (v : WorldState M Msg) (events : List Event) → AreInRange s events → StandsAfter s m stands v events → IsHeadline s m stands v events
   headline-of v events range h = record {
     run = h;
-    grows = λ stops. grows stops events (at-nodes s events range);
-    one_log = λ stops separate. one-log-of events range stops separate;
-    numbers = λ stops separate. numbers-agree s m events (one-log-of events range stops separate);
-    conserved = λ stops once separate. conserved stops once events (at-nodes s events range) separate;
+    one_log = are_one_log events (at-cores s events range);
+    numbers = numbers-agree s m events (are_one_log events (at-cores s events range));
+    conserved = λ once. once_conserved once events (at-cores s events range);
+    evidence = with_evidence events (at-cores s events range);
   }
 
   pub headline-more : (v : WorldState M Msg) (es : List Event) (e : Event) (x : Happened) → AreInRange s es → IsInRange s e →
-      HasHappened m stands v (happens s (formats_of s m) (rules_of s) m (net_after s (formats_of s m) (rules_of s) m es) e) x → IsAnswered x →
+      HasHappened m stands v (run_after s m es) (goes_further (run_after s m es).ended s (formats_of s m) (rules_of s) m (run_after s m es) e) x → IsAnswered x →
       IsHeadline s m stands v (es ++ e ∷ [])
   headline-more v es e x range inside h a = headline-of v (es ++ e ∷ []) (in-range-more s es e range inside) (stands-more m stands s v es e x h a)

@@ -1,3 +1,8 @@
+pub mod BookLemmas
+pub mod CoreLemmas
+pub mod CourseLemmas
 pub mod HeadlineLemmas
+pub mod KeyLemmas
 pub mod PostLemmas
-pub mod RunningLemmas
+pub mod StepLemmas
+pub mod WorldLemmas

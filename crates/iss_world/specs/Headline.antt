@@ -1,29 +1,28 @@
 -- What an event promises of a world that stood for the run of the events before it.
 use Rattle.std.specs.Prelude.{◌≡◌, ℕ, true, List, Some}
 use Rattle.iss_log.specs.LogState.{first_number_of}
-use Rattle.iss_model.specs.Concrete.{rules_of}
 use Rattle.iss_model.specs.Conserved.{AcceptsOnce, IsConserved}
-use Rattle.iss_model.specs.Formats.{formats_of}
-use Rattle.iss_model.specs.OneLog.{IsOneLog, OnlyGrows}
-use Rattle.iss_model.specs.Printed.{IsSeparateRun, printed}
-use Rattle.iss_model.specs.Runs.{net_after}
+use Rattle.iss_model.specs.Ends.{HasEvidence}
+use Rattle.iss_model.specs.OneLog.{IsOneLog, printed, run_after}
 use Rattle.iss_request.specs.declared.setups.Setup.{Setup}
 use Rattle.iss_schedule.specs.declared.schedules.Event.{Event}
 use Rattle.iss_sb.specs.declared.effects.Params.{Params}
 use Rattle.iss_sb.specs.Evidence.{Item, Module, is_correct}
-use Rattle.iss_world.specs.Stands.{StandsFor}
+use Rattle.iss_world.specs.Stands.{StandsAt}
 use Rattle.iss_world.specs.State.{WorldState}
 use Rattle.iss_world.specs.declared.world.Happened.{Happened}
-use Rattle.iss_world.specs.declared.world.Happened.TheVariants.{Done, Lost, NoMemory, Stale}
+use Rattle.iss_world.specs.declared.world.Happened.TheVariants.{Done, Lost, Forged, Collision, NoMemory, Stale}
 
 -- the world stands for what these events make of a cluster that has taken nothing
 abbrev pub StandsAfter : {M Msg : Type 0} → Setup → Module Msg → (M → Params → ℕ → List (Item Msg) → Type 0) → WorldState M Msg → List Event → Type 0
-StandsAfter s m stands v events = StandsFor m stands v (net_after s (formats_of s m) (rules_of s) m events)
+StandsAfter s m stands v events = StandsAt m stands v (run_after s m events)
 
 -- there was memory for the event
 abbrev pub IsAnswered : Happened → Type 0
 IsAnswered Done = Unit {0}
 IsAnswered (Lost why) = Unit {0}
+IsAnswered (Forged by statement sig) = Unit {0}
+IsAnswered (Collision first second) = Unit {0}
 IsAnswered NoMemory = ⊥
 IsAnswered Stale = ⊥
 
@@ -33,13 +32,12 @@ AgreeOnNumbers s m events =
     (i j slot k l : ℕ) → is_correct s i ≡ true → is_correct s j ≡ true → first_number_of (printed s m events i) slot ≡ Some k →
     first_number_of (printed s m events j) slot ≡ Some l → k ≡ l
 
--- The world stands for the run of these events. Where nodes only stop, more events only make its logs longer; and as long as
--- different strings that the run hashed have different digests, the logs of its correct nodes are of one log, with the same
--- numbers, and each request that a correct node took is in one place.
+-- The world stands for the run of these events, up to its end if it has ended. The logs of its correct nodes are of one log,
+-- with the same numbers, and each request that a correct node took is in one place. If the run has ended, there is evidence of it.
 pub record IsHeadline {M Msg : Type 0} (s : Setup) (m : Module Msg) (stands : M → Params → ℕ → List (Item Msg) → Type 0)
     (v : WorldState M Msg) (events : List Event) : Type 0 where
   pub run : StandsAfter s m stands v events
-  pub grows : m.stopping ≡ true → OnlyGrows s m events
-  pub one_log : m.stopping ≡ true → IsSeparateRun s m events → IsOneLog s m events
-  pub numbers : m.stopping ≡ true → IsSeparateRun s m events → AgreeOnNumbers s m events
-  pub conserved : m.stopping ≡ true → AcceptsOnce m → IsSeparateRun s m events → IsConserved s m events
+  pub one_log : IsOneLog s m events
+  pub numbers : AgreeOnNumbers s m events
+  pub conserved : AcceptsOnce m → IsConserved s m events
+  pub evidence : HasEvidence s m events

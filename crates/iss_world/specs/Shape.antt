@@ -1,5 +1,6 @@
--- What holds of running nodes and of every world, whatever happened to them.
-use Rattle.std.specs.Prelude.{◌≡◌, ◌<◌, ℕ, false, List, [], ◌∷◌, length, Some, slice_get}
+-- What holds of running cores and of every world, whatever happened to them.
+use Rattle.std.specs.Prelude.{◌≡◌, ◌<◌, ℕ, false, List, [], ◌∷◌, length, None, Some, slice_get}
+use Rattle.iss_model.specs.Run.{cores_of, node_of}
 use Rattle.iss_model.specs.Runs.{IsSetupOf}
 use Rattle.iss_network.specs.Network.{Network}
 use Rattle.iss_network.specs.declared.packets.Sent.{Sent}
@@ -21,11 +22,11 @@ pub record IsNetworkOf (n : ℕ) (w : Network) : Type 0 where
 
 pub record IsRunning {M Msg : Type 0} (m : Module Msg) (v : RunningState M Msg) : Type 0 where
   pub good : IsSetupOf m v.setup
-  pub count : length v.nodes ≡ v.setup.n
-  pub network : IsNetworkOf v.setup.n v.network
+  pub count : length v.nodes ≡ cores_of v.setup
+  pub network : IsNetworkOf (cores_of v.setup) v.network
   pub setups : (i : ℕ) (g : NodeState M Msg) → slice_get v.nodes i ≡ Some g → g.parts.setup ≡ v.setup
-  pub places : (i : ℕ) (g : NodeState M Msg) → slice_get v.nodes i ≡ Some g → g.parts.me.0 ≡ i
+  pub places : (i : ℕ) (g : NodeState M Msg) → slice_get v.nodes i ≡ Some g → g.parts.me.0 ≡ node_of v.setup i
 
--- a world stands for some net, as long as memory was never wanting
+-- a world stands for some run, as long as that goes on and memory was never wanting
 abbrev pub IsWorld : {M Msg : Type 0} → Module Msg → (M → Params → ℕ → List (Item Msg) → Type 0) → WorldState M Msg → Type 0
-IsWorld m stands v = v.stale ≡ false → IsStanding m stands v.running
+IsWorld m stands v = v.stale ≡ false → v.ended ≡ None → IsStanding m stands v.running

@@ -1,16 +1,23 @@
 -- What is seen of a world.
-use Rattle.std.specs.Prelude.{Bool, List}
+use Rattle.std.specs.Prelude.{ℕ, Bool, List, Option}
 use Rattle.iss_network.specs.Network.{Network}
 use Rattle.iss_node.specs.State.{NodeState}
 use Rattle.iss_request.specs.declared.setups.Setup.{Setup}
+use Rattle.iss_world.specs.declared.ends.End.{End}
 
 pub record RunningState (M Msg : Type 0) : Type 0 where
   pub setup : Setup
-  -- the nodes, ascending
+  -- the cores, ascending
   pub nodes : List (NodeState M Msg)
   pub network : Network
+  -- the claims that correct nodes sent as their own, each behind its node's number, and the strings that were hashed, each with
+  -- its digest
+  pub signed : List (List ℕ)
+  pub hashed : List (List ℕ × List ℕ)
 
 pub record WorldState (M Msg : Type 0) : Type 0 where
   pub running : RunningState M Msg
+  -- why the run ended, if it has
+  pub ended : Option End
   -- whether memory was wanting in an event: then nothing is said of the rest
   pub stale : Bool

@@ -1,43 +1,54 @@
-//! Posting what a step of a node sends.
-ghost use Rattle.std.specs.Prelude.{◌≡◌, ◌<◌, ℕ, length, OnOk};
+//! Posting what a step of a core sends.
+ghost use Rattle.std.specs.Prelude.{◌≡◌, ◌<◌, ◌==◌, ◌∷◌, [], ℕ, length, OnOk};
+ghost use Rattle.std.specs.List.{filter};
 ghost use Rattle.iss_base.specs.Lists.{below};
-ghost use Rattle.iss_model.specs.Run.{addressees, posted_all, posted_to};
+ghost use Rattle.iss_model.specs.Run.{addressees, cores_of, node_of, posted_all, posted_to};
 ghost use Rattle.iss_network.specs.Network.{posted};
+ghost use Rattle.iss_request.specs.Setup.{IsGoodSetup};
 ghost use Rattle.iss_sb.specs.Calls.{AreToNodes, IsToNode};
 ghost use Rattle.iss_world.specs.Shape.{IsNetworkOf};
 
+use crate::cores::{cores_of, node_of};
 use iss_network::Network;
-use iss_request::{Bytes, NoMemory};
+use iss_request::{Bytes, NoMemory, NodeId, Setup};
 use iss_sb::To;
 
-/// Posts the packets that a node's step made, in their order: for a send to all one to each core, ascending.
+/// Posts the packets that a core's step made, in their order: for a send to all one to each core, for a send to a node one to
+/// each of its cores, ascending.
 pub fn post_all(
     network: &mut Network,
-    n: u32,
+    setup: &Setup,
     from: u32,
     sends: &[(To, Bytes)],
 ) -> Result<(), NoMemory>
-    requires between { IsNetworkOf n network.old }
-    requires addressed { AreToNodes n sends.now }
-    ensures posted { OnOk result (network.new ≡ posted_all n network.old from sends.now) }
-    ensures between { IsNetworkOf n network.new }
+    requires good { IsGoodSetup setup.now }
+    requires between { IsNetworkOf (cores_of setup.now) network.old }
+    requires addressed { AreToNodes setup.now.n sends.now }
+    ensures posted { OnOk result (network.new ≡ posted_all setup.now network.old from sends.now) }
+    ensures between { IsNetworkOf (cores_of setup.now) network.new }
 {
     for send in sends {
-        post_send(network, n, from, send)?;
+        post_send(network, setup, from, send)?;
     }
     Ok(())
 }
 
 // Posts the packets of one send.
-fn post_send(network: &mut Network, n: u32, from: u32, send: &(To, Bytes)) -> Result<(), NoMemory>
-    requires between { IsNetworkOf n network.old }
-    requires addressed { IsToNode n send.now.0 }
-    ensures posted { OnOk result (network.new ≡ posted_to network.old from send.now.1 (addressees n send.now.0)) }
-    ensures between { IsNetworkOf n network.new }
+fn post_send(
+    network: &mut Network,
+    setup: &Setup,
+    from: u32,
+    send: &(To, Bytes),
+) -> Result<(), NoMemory>
+    requires good { IsGoodSetup setup.now }
+    requires between { IsNetworkOf (cores_of setup.now) network.old }
+    requires addressed { IsToNode setup.now.n send.now.0 }
+    ensures posted { OnOk result (network.new ≡ posted_to network.old from send.now.1 (addressees setup.now send.now.0)) }
+    ensures between { IsNetworkOf (cores_of setup.now) network.new }
 {
     match send.0 {
-        To::All => post_to_each(network, n, from, &send.1),
-        To::One(node) => post_to(network, n, from, node.0 as u32, &send.1),
+        To::All => post_to_each(network, cores_of(setup), from, &send.1),
+        To::One(node) => post_to_node(network, setup, from, node, &send.1),
     }
 }
 
@@ -51,6 +62,50 @@ fn post_to_each(network: &mut Network, n: u32, from: u32, bytes: &Bytes) -> Resu
         post_to(network, n, from, core, bytes)?;
     }
     Ok(())
+}
+
+// Posts a packet to each core of a node: the first one, and its twins.
+fn post_to_node(
+    network: &mut Network,
+    setup: &Setup,
+    from: u32,
+    node: NodeId,
+    bytes: &Bytes,
+) -> Result<(), NoMemory>
+    requires good { IsGoodSetup setup.now }
+    requires between { IsNetworkOf (cores_of setup.now) network.old }
+    requires addressed { node.0 < setup.now.n }
+    ensures posted { OnOk result (network.new ≡ posted_to network.old from bytes.now (filter (λ c. node_of setup.now c == node.0) (below (cores_of setup.now)))) }
+    ensures between { IsNetworkOf (cores_of setup.now) network.new }
+{
+    let n = cores_of(setup);
+    post_to(network, n, from, node.0 as u32, bytes)?;
+    for core in setup.n..n {
+        post_if_runs(network, setup, from, node, core, bytes)?;
+    }
+    Ok(())
+}
+
+// Posts a packet to a core, if it runs this node.
+fn post_if_runs(
+    network: &mut Network,
+    setup: &Setup,
+    from: u32,
+    node: NodeId,
+    core: u32,
+    bytes: &Bytes,
+) -> Result<(), NoMemory>
+    requires good { IsGoodSetup setup.now }
+    requires between { IsNetworkOf (cores_of setup.now) network.old }
+    requires core { core < cores_of setup.now }
+    ensures posted { OnOk result (network.new ≡ posted_to network.old from bytes.now (filter (λ c. node_of setup.now c == node.0) (core ∷ []))) }
+    ensures between { IsNetworkOf (cores_of setup.now) network.new }
+{
+    let runs = node_of(setup, core);
+    if runs.0 != node.0 {
+        return Ok(());
+    }
+    post_to(network, cores_of(setup), from, core, bytes)
 }
 
 // Posts a packet to one core of the `n`.

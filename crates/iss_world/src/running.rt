@@ -1,46 +1,43 @@
-//! The running nodes of a cluster and the network between them, as long as there is memory.
-ghost use Rattle.std.specs.Prelude.{◌≡◌, ◌<◌, ℕ, IfOk, OnOk, reverse, true, false};
+//! The running cores of a cluster and the network between them, as long as there is memory.
+ghost use Rattle.std.specs.Prelude.{◌≡◌, ◌<◌, IfOk, Some, reverse, slice_get, true, false};
 ghost use Rattle.iss_base.specs.Lists.{nth};
-ghost use Rattle.iss_model.specs.Concrete.{keys_of, rules_of};
+ghost use Rattle.iss_model.specs.Concrete.{rules_of};
 ghost use Rattle.iss_model.specs.Formats.{formats_of};
 ghost use Rattle.iss_model.specs.Past.{log_of};
-ghost use Rattle.iss_model.specs.Run.{Net, at_core, begin_net, calms, delivers, delivers_each, done, happens, injects, loses, pumps};
+ghost use Rattle.iss_model.specs.Run.{Held, begin_held, calms, cores_of, delivers, delivers_each, done, happens, injects, loses, node_of, pumps, with_network};
 ghost use Rattle.iss_model.specs.Runs.{IsSetupOf};
-ghost use Rattle.iss_network.specs.Network.{cleared, held_to};
-ghost use Rattle.iss_node.specs.State.{Stands};
-ghost use Rattle.iss_request.specs.Setup.{IsGoodSetup};
+ghost use Rattle.iss_network.specs.Network.{cleared, due, held_to};
 ghost use Rattle.iss_schedule.specs.Events.{IsInRange};
-ghost use Rattle.iss_world.specs.Stands.{AreFresh, HasChanged, IsFresh, IsStanding, Runs};
+ghost use Rattle.iss_world.specs.Stands.{HasChanged, IsShown, IsStanding, Runs};
 
-use crate::posting::post_all;
+use crate::claims::Claims;
+use crate::cores::{cores_of, directory_of, start_cores};
+use crate::ends::Change;
 use crate::requests::request_packet;
+use crate::strings::Strings;
 use iss_keys::SharedDirectory;
 use iss_log::Log;
 use iss_model::{NodeEvent, Why};
 use iss_network::Network;
-use iss_node::{Answer, Node};
-use iss_request::{Bytes, Epoch, Kind, NoMemory, NodeId, ReqId, Setup, Value};
+use iss_node::Node;
+use iss_request::{Bytes, Epoch, Kind, NoMemory, ReqId, Setup, Value};
 use iss_sb::Sequenced;
 use iss_schedule::Event;
 use std::alloc::Global;
 use std::marker::Model;
 
-// Whether an event changed anything: it was lost, and why, or not.
-#[derive(Clone, Copy, Debug, PartialEq, Eq)]
-pub enum Change {
-    Done,
-    Lost(Why),
-}
-
-/// The nodes of a cluster, and the network between them.
+/// The cores of a cluster, the network between them, and the books of what was signed and hashed.
 #[derive(Drop)]
 pub struct Running<M: Sequenced> {
-    setup: Setup,
+    pub(crate) setup: Setup,
     // the keys of all nodes and clients
-    directory: SharedDirectory,
-    // node `i` is the `i`-th
-    nodes: Vec<Node<M>>,
-    network: Network,
+    pub(crate) directory: SharedDirectory,
+    // core `i` is the `i`-th
+    pub(crate) nodes: Vec<Node<M>>,
+    pub(crate) network: Network,
+    // what correct nodes sent as signed of their own, and what was hashed
+    pub(crate) signed: Claims,
+    pub(crate) hashed: Strings,
 }
 
 impl<M: Sequenced> Model for Running<M> {
@@ -51,34 +48,36 @@ impl<M: Sequenced> Model for Running<M> {
 
     ghost Value = { RunningState M M.Msg };
 
-    ghost view = { λ w. record { setup = w.setup; nodes = w.nodes.items; network = w.network } };
+    ghost view = { λ w. record { setup = w.setup; nodes = w.nodes.items; network = w.network; signed = w.signed; hashed = w.hashed } };
 
-    ghost invariant = { λ w. IsRunning M.meaning (record { setup = w.setup; nodes = w.nodes.items; network = w.network }) × (w.directory ≡ keys_of w.setup) };
+    ghost invariant = { λ w. IsRunning M.meaning (record { setup = w.setup; nodes = w.nodes.items; network = w.network; signed = w.signed; hashed = w.hashed }) × (w.directory ≡ keys_of w.setup) };
 }
 
 impl<M: Sequenced> Running<M> {
-    /// Nodes that have taken nothing, each with its own keys, and no packets.
+    /// Cores that have taken nothing, each with its node's keys, no packets, and nothing in the books but the empty string.
     pub fn start(alloc: Global, setup: &Setup) -> Result<Running<M>, NoMemory>
         requires { IsSetupOf M.meaning setup.now }
-        ensures stands { IfOk result (λ v. Runs M.meaning M.stands v (begin_net setup.now.n)) }
+        ensures stands { IfOk result (λ v. Runs M.meaning M.stands v (begin_held setup.now)) }
         ensures same { IfOk result (λ v. v.setup ≡ setup.now) }
     {
         let directory = directory_of(alloc, setup)?;
         Ok(Running {
             setup: setup.copy()?,
-            nodes: start_nodes(alloc, setup, &directory)?,
-            network: Network::new(alloc, setup.n)?,
+            nodes: start_cores(alloc, setup, &directory)?,
+            network: Network::new(alloc, cores_of(setup))?,
+            signed: Claims::new(alloc),
+            hashed: Strings::new(alloc)?,
             directory,
         })
     }
 
-    /// The event happens. After want of memory nothing is said of the nodes.
+    /// The event happens. After want of memory nothing is said of the cores.
     pub fn event(&mut self, alloc: Global, event: &Event) -> Result<Change, NoMemory>
         requires range { IsInRange self.old.setup event.now }
         requires standing { IsStanding M.meaning M.stands self.old }
-        ensures happened { IfOk result (λ h. (w : Net M.Msg) → Runs M.meaning M.stands self.old w →
+        ensures happened { IfOk result (λ r. (h : Held M.Msg) → Runs M.meaning M.stands self.old h →
             HasChanged M.meaning M.stands self.new
-            (happens self.old.setup (formats_of self.old.setup M.meaning) (rules_of self.old.setup) M.meaning w event.now) h) }
+            (happens self.old.setup (formats_of self.old.setup M.meaning) (rules_of self.old.setup) M.meaning h event.now) r) }
         ensures same { self.new.setup ≡ self.old.setup }
     {
         match event {
@@ -100,42 +99,12 @@ impl<M: Sequenced> Running<M> {
             }
             Event::Deliver { packet } => self.deliver(alloc, *packet),
             Event::Lose { packet } => Ok(self.lose(*packet)),
-            Event::Pump => {
-                self.pump(alloc)?;
-                Ok(Change::Done)
-            }
-            Event::Calm { pumps } => {
-                self.calm(alloc, *pumps)?;
-                Ok(Change::Done)
-            }
+            Event::Pump => self.pump(alloc),
+            Event::Calm { pumps } => self.calm(alloc, *pumps),
             Event::Hold { core } => Ok(self.hold(*core)),
             Event::Free { core } => Ok(self.free(*core)),
             Event::Drop { core } => Ok(self.clear(*core)),
             Event::Bytes { core, bytes } => self.inject(alloc, *core, bytes),
-        }
-    }
-
-    // A core takes an event, and what it sends is posted.
-    fn take(&mut self, alloc: Global, core: u32, event: NodeEvent) -> Result<Change, NoMemory>
-        requires core { core < self.old.setup.n }
-        requires standing { IsStanding M.meaning M.stands self.old }
-        ensures happened { IfOk result (λ h. (w : Net M.Msg) → Runs M.meaning M.stands self.old w →
-            HasChanged M.meaning M.stands self.new
-            (at_core self.old.setup.n (formats_of self.old.setup M.meaning) (rules_of self.old.setup) M.meaning w core event) h) }
-        ensures same { self.new.setup ≡ self.old.setup }
-    {
-        match self.nodes[core as usize].take(alloc, event) {
-            Answer::Taken(outcome) => {
-                post_all(
-                    &mut self.network,
-                    self.setup.n,
-                    core,
-                    outcome.sends.as_slice(),
-                )?;
-                Ok(Change::Done)
-            }
-            Answer::Dropped(why) => Ok(Change::Lost(why)),
-            Answer::NoMemory | Answer::Stale => Err(NoMemory),
         }
     }
 
@@ -149,10 +118,10 @@ impl<M: Sequenced> Running<M> {
     ) -> Result<Change, NoMemory>
         requires range { IsInRange self.old.setup (Event.Request core id.client id.number payload.now) }
         requires standing { IsStanding M.meaning M.stands self.old }
-        ensures happened { IfOk result (λ h. (w : Net M.Msg) → Runs M.meaning M.stands self.old w →
+        ensures happened { IfOk result (λ r. (h : Held M.Msg) → Runs M.meaning M.stands self.old h →
             HasChanged M.meaning M.stands self.new
-            (happens self.old.setup (formats_of self.old.setup M.meaning) (rules_of self.old.setup) M.meaning w
-            (Event.Request core id.client id.number payload.now)) h) }
+            (happens self.old.setup (formats_of self.old.setup M.meaning) (rules_of self.old.setup) M.meaning h
+            (Event.Request core id.client id.number payload.now)) r) }
         ensures same { self.new.setup ≡ self.old.setup }
     {
         let directory = self.directory.directory();
@@ -163,9 +132,9 @@ impl<M: Sequenced> Running<M> {
     // A packet is taken by its core, whether or not it waits.
     fn deliver(&mut self, alloc: Global, packet: u64) -> Result<Change, NoMemory>
         requires { IsStanding M.meaning M.stands self.old }
-        ensures happened { IfOk result (λ h. (w : Net M.Msg) → Runs M.meaning M.stands self.old w →
+        ensures happened { IfOk result (λ r. (h : Held M.Msg) → Runs M.meaning M.stands self.old h →
             HasChanged M.meaning M.stands self.new
-            (delivers self.old.setup.n (formats_of self.old.setup M.meaning) (rules_of self.old.setup) M.meaning w packet) h) }
+            (delivers self.old.setup (formats_of self.old.setup M.meaning) (rules_of self.old.setup) M.meaning h packet) r) }
         ensures same { self.new.setup ≡ self.old.setup }
     {
         let Some(sent) = self.network.packet(packet) else {
@@ -179,8 +148,8 @@ impl<M: Sequenced> Running<M> {
 
     // A packet waits no more.
     fn lose(&mut self, packet: u64) -> Change
-        ensures happened { (w : Net M.Msg) → Runs M.meaning M.stands self.old w →
-            HasChanged M.meaning M.stands self.new (loses w packet (nth w.network.packets packet)) result }
+        ensures happened { (h : Held M.Msg) → Runs M.meaning M.stands self.old h →
+            HasChanged M.meaning M.stands self.new (loses h packet (nth h.net.network.packets packet)) result }
         ensures same { self.new.setup ≡ self.old.setup }
     {
         match self.network.packet(packet) {
@@ -192,54 +161,67 @@ impl<M: Sequenced> Running<M> {
         }
     }
 
-    // What waits for cores that are not held is taken, ascending. Says whether anything waited.
-    fn pump(&mut self, alloc: Global) -> Result<bool, NoMemory>
-        requires { IsStanding M.meaning M.stands self.old }
-        ensures pumped { OnOk result ((w : Net M.Msg) → Runs M.meaning M.stands self.old w →
-            Runs M.meaning M.stands self.new (pumps self.old.setup.n (formats_of self.old.setup M.meaning) (rules_of self.old.setup) M.meaning w)) }
-        ensures quiet { IfOk result (λ any. any ≡ false → (w : Net M.Msg) → Runs M.meaning M.stands self.old w →
-            pumps self.old.setup.n (formats_of self.old.setup M.meaning) (rules_of self.old.setup) M.meaning w ≡ w) }
-        ensures same { self.new.setup ≡ self.old.setup }
+    // What waits for cores that are not held, ascending.
+    fn due(&mut self, alloc: Global) -> Result<Vec<u64>, NoMemory>
+        ensures same { self.new ≡ self.old }
+        ensures found { IfOk result (λ packets. packets.items ≡ due self.old.network) }
     {
-        let packets = self.network.due(alloc)?;
-        self.deliver_each(alloc, packets.as_slice())?;
-        Ok(packets.len() > 0)
+        self.network.due(alloc)
     }
 
-    // The packets are taken, in this order.
-    fn deliver_each(&mut self, alloc: Global, packets: &[u64]) -> Result<(), NoMemory>
+    // What waits for cores that are not held is taken, ascending, up to a delivery that ends the run.
+    fn pump(&mut self, alloc: Global) -> Result<Change, NoMemory>
         requires { IsStanding M.meaning M.stands self.old }
-        ensures taken { OnOk result ((w : Net M.Msg) → Runs M.meaning M.stands self.old w →
-            Runs M.meaning M.stands self.new
-            (delivers_each self.old.setup.n (formats_of self.old.setup M.meaning) (rules_of self.old.setup) M.meaning w packets.now)) }
+        ensures happened { IfOk result (λ r. (h : Held M.Msg) → Runs M.meaning M.stands self.old h →
+            HasChanged M.meaning M.stands self.new
+            (pumps self.old.setup (formats_of self.old.setup M.meaning) (rules_of self.old.setup) M.meaning h) r) }
+        ensures same { self.new.setup ≡ self.old.setup }
+    {
+        let packets = self.due(alloc)?;
+        self.deliver_each(alloc, packets.as_slice())
+    }
+
+    // The packets are taken, in this order, up to a delivery that ends the run.
+    fn deliver_each(&mut self, alloc: Global, packets: &[u64]) -> Result<Change, NoMemory>
+        requires { IsStanding M.meaning M.stands self.old }
+        ensures happened { IfOk result (λ r. (h : Held M.Msg) → Runs M.meaning M.stands self.old h →
+            HasChanged M.meaning M.stands self.new
+            (delivers_each self.old.setup (formats_of self.old.setup M.meaning) (rules_of self.old.setup) M.meaning packets.now h) r) }
         ensures same { self.new.setup ≡ self.old.setup }
     {
         for packet in packets {
-            self.deliver(alloc, *packet)?;
+            if let Change::Ended(end) = self.deliver(alloc, *packet)? {
+                return Ok(Change::Ended(end));
+            }
         }
-        Ok(())
+        Ok(Change::Done)
     }
 
-    // So many pumps, fewer where one finds nothing.
-    fn calm(&mut self, alloc: Global, most: u32) -> Result<(), NoMemory>
+    // So many pumps, fewer where one finds nothing, or ends the run.
+    fn calm(&mut self, alloc: Global, most: u32) -> Result<Change, NoMemory>
         requires { IsStanding M.meaning M.stands self.old }
-        ensures calmed { OnOk result ((w : Net M.Msg) → Runs M.meaning M.stands self.old w →
-            Runs M.meaning M.stands self.new (calms self.old.setup.n (formats_of self.old.setup M.meaning) (rules_of self.old.setup) M.meaning most w)) }
+        ensures happened { IfOk result (λ r. (h : Held M.Msg) → Runs M.meaning M.stands self.old h →
+            HasChanged M.meaning M.stands self.new
+            (calms self.old.setup (formats_of self.old.setup M.meaning) (rules_of self.old.setup) M.meaning most h) r) }
         ensures same { self.new.setup ≡ self.old.setup }
     {
         for done in 0..most {
-            if !self.pump(alloc)? {
-                return Ok(());
+            let packets = self.due(alloc)?;
+            if packets.len() == 0 {
+                return Ok(Change::Done);
+            }
+            if let Change::Ended(end) = self.deliver_each(alloc, packets.as_slice())? {
+                return Ok(Change::Ended(end));
             }
         }
-        Ok(())
+        Ok(Change::Done)
     }
 
     // Pumps pass over a core from now on.
     fn hold(&mut self, core: u32) -> Change
-        requires { core < self.old.setup.n }
-        ensures happened { (w : Net M.Msg) → Runs M.meaning M.stands self.old w →
-            HasChanged M.meaning M.stands self.new (done (record w { network = held_to w.network core true })) result }
+        requires { core < cores_of self.old.setup }
+        ensures happened { (h : Held M.Msg) → Runs M.meaning M.stands self.old h →
+            HasChanged M.meaning M.stands self.new (done (with_network h (held_to h.net.network core true))) result }
         ensures same { self.new.setup ≡ self.old.setup }
     {
         self.network.hold(core);
@@ -248,9 +230,9 @@ impl<M: Sequenced> Running<M> {
 
     // Pumps pass over a core no longer.
     fn free(&mut self, core: u32) -> Change
-        requires { core < self.old.setup.n }
-        ensures happened { (w : Net M.Msg) → Runs M.meaning M.stands self.old w →
-            HasChanged M.meaning M.stands self.new (done (record w { network = held_to w.network core false })) result }
+        requires { core < cores_of self.old.setup }
+        ensures happened { (h : Held M.Msg) → Runs M.meaning M.stands self.old h →
+            HasChanged M.meaning M.stands self.new (done (with_network h (held_to h.net.network core false))) result }
         ensures same { self.new.setup ≡ self.old.setup }
     {
         self.network.free(core);
@@ -259,9 +241,9 @@ impl<M: Sequenced> Running<M> {
 
     // No packet for a core waits any more.
     fn clear(&mut self, core: u32) -> Change
-        requires { core < self.old.setup.n }
-        ensures happened { (w : Net M.Msg) → Runs M.meaning M.stands self.old w →
-            HasChanged M.meaning M.stands self.new (done (record w { network = cleared w.network core })) result }
+        requires { core < cores_of self.old.setup }
+        ensures happened { (h : Held M.Msg) → Runs M.meaning M.stands self.old h →
+            HasChanged M.meaning M.stands self.new (done (with_network h (cleared h.net.network core))) result }
         ensures same { self.new.setup ≡ self.old.setup }
     {
         self.network.drop_for(core);
@@ -271,11 +253,11 @@ impl<M: Sequenced> Running<M> {
     // A core takes bytes from nowhere, where nodes may do anything.
     fn inject(&mut self, alloc: Global, core: u32, bytes: &Bytes) -> Result<Change, NoMemory>
         requires kind { self.old.setup.kind ≡ Kind.Byzantine }
-        requires core { core < self.old.setup.n }
+        requires core { core < cores_of self.old.setup }
         requires standing { IsStanding M.meaning M.stands self.old }
-        ensures happened { IfOk result (λ h. (w : Net M.Msg) → Runs M.meaning M.stands self.old w →
+        ensures happened { IfOk result (λ r. (h : Held M.Msg) → Runs M.meaning M.stands self.old h →
             HasChanged M.meaning M.stands self.new
-            (injects self.old.setup.n (formats_of self.old.setup M.meaning) (rules_of self.old.setup) M.meaning w core bytes.now) h) }
+            (injects self.old.setup (formats_of self.old.setup M.meaning) (rules_of self.old.setup) M.meaning h core bytes.now) r) }
         ensures same { self.new.setup ≡ self.old.setup }
     {
         let _ = &self.setup;
@@ -291,83 +273,41 @@ impl<M: Sequenced> Running<M> {
         &self.setup
     }
 
-    /// A node, whose calls show its core.
+    /// The node that a core runs.
     pub fn node(&self, core: u32) -> &Node<M>
-        requires { core < self.now.setup.n }
-        ensures stands { (w : Net M.Msg) → Runs M.meaning M.stands self.now w → Stands M.meaning M.stands result.now (w.cores core) }
-        ensures same { (result.now.parts.setup ≡ self.now.setup) × (result.now.parts.me.0 ≡ core) }
+        requires { core < cores_of self.now.setup }
+        ensures at { slice_get self.now.nodes core ≡ Some result.now }
+        ensures log { (h : Held M.Msg) → IsShown M.meaning M.stands self.now h →
+            log_of (rules_of self.now.setup) M.meaning (node_of self.now.setup core) (h.net.cores core).past ≡ reverse result.now.parts.log.entries }
+        ensures epoch { (h : Held M.Msg) → IsShown M.meaning M.stands self.now h → result.now.parts.epoch ≡ (h.net.cores core).past.epoch }
+        ensures same { (result.now.parts.setup ≡ self.now.setup) × (result.now.parts.me.0 ≡ node_of self.now.setup core) }
     {
         &self.nodes[core as usize]
     }
 
-    /// A node's log.
+    /// A core's log.
     pub fn log(&self, core: u32) -> &Log
-        requires { core < self.now.setup.n }
-        ensures { (w : Net M.Msg) → Runs M.meaning M.stands self.now w →
-            log_of (rules_of self.now.setup) M.meaning core (w.cores core).past ≡ reverse result.now.entries }
+        requires { core < cores_of self.now.setup }
+        ensures { (h : Held M.Msg) → IsShown M.meaning M.stands self.now h →
+            log_of (rules_of self.now.setup) M.meaning (node_of self.now.setup core) (h.net.cores core).past ≡ reverse result.now.entries }
     {
-        self.nodes[core as usize].log()
+        self.node(core).log()
     }
 
-    /// The values of a node's log, in the order of the slots.
+    /// The values of a core's log, in the order of the slots.
     pub fn entries(&self, core: u32) -> &[Value]
-        requires { core < self.now.setup.n }
-        ensures { (w : Net M.Msg) → Runs M.meaning M.stands self.now w →
-            log_of (rules_of self.now.setup) M.meaning core (w.cores core).past ≡ reverse result.now }
+        requires { core < cores_of self.now.setup }
+        ensures { (h : Held M.Msg) → IsShown M.meaning M.stands self.now h →
+            log_of (rules_of self.now.setup) M.meaning (node_of self.now.setup core) (h.net.cores core).past ≡ reverse result.now }
     {
         self.log(core).entries()
     }
 
-    /// A node's epoch.
+    /// A core's epoch.
     pub fn epoch(&self, core: u32) -> Epoch
-        requires { core < self.now.setup.n }
-        ensures { (w : Net M.Msg) → Runs M.meaning M.stands self.now w → result.0 ≡ (w.cores core).past.epoch }
+        requires { core < cores_of self.now.setup }
+        ensures { (h : Held M.Msg) → IsShown M.meaning M.stands self.now h → result.0 ≡ (h.net.cores core).past.epoch }
     {
-        self.nodes[core as usize].epoch()
+        self.node(core).epoch()
     }
-}
-
-// The keys of all nodes and clients. No tree is made before it is needed.
-fn directory_of(alloc: Global, setup: &Setup) -> Result<SharedDirectory, NoMemory>
-    requires { IsGoodSetup setup.now }
-    ensures { IfOk result (λ directory. directory ≡ keys_of setup.now) }
-{
-    match SharedDirectory::make(alloc, setup.n, setup.clients, setup.keys as u8) {
-        Ok(directory) => Ok(directory),
-        Err(_) => Err(NoMemory),
-    }
-}
-
-// The nodes of a cluster, ascending, each of which has taken nothing. All share the directory.
-fn start_nodes<M: Sequenced>(
-    alloc: Global,
-    setup: &Setup,
-    directory: &SharedDirectory,
-) -> Result<Vec<Node<M>>, NoMemory>
-    requires good { IsSetupOf M.meaning setup.now }
-    requires directory { directory.now ≡ keys_of setup.now }
-    ensures { IfOk result (λ nodes. AreFresh M.meaning M.stands setup.now setup.now.n nodes.items) }
-{
-    let mut nodes = Vec::new(alloc);
-    for me in 0..setup.n {
-        nodes.push(start_node(alloc, setup, directory, me)?)?;
-    }
-    Ok(nodes)
-}
-
-// A node that has taken nothing, with its keys of the directory.
-fn start_node<M: Sequenced>(
-    alloc: Global,
-    setup: &Setup,
-    directory: &SharedDirectory,
-    me: u32,
-) -> Result<Node<M>, NoMemory>
-    requires good { IsSetupOf M.meaning setup.now }
-    requires directory { directory.now ≡ keys_of setup.now }
-    requires me { me < setup.now.n }
-    ensures { IfOk result (λ node. IsFresh M.meaning M.stands setup.now me node) }
-{
-    let node = NodeId(me as u8);
-    let keys = directory.directory().keys_of_node(alloc, node.0);
-    Node::start(alloc, setup, directory, node, keys)
 }

@@ -1,42 +1,59 @@
-//! The world of a cluster, which says of itself when memory was wanting.
-ghost use Rattle.std.specs.Prelude.{◌≡◌, ◌<◌, ◌++◌, ◌∷◌, [], IfOk, List, reverse};
+//! The world of a cluster, which says of itself when its run has ended, and when memory was wanting.
+ghost use Rattle.std.specs.Prelude.{◌≡◌, ◌<◌, ◌++◌, ◌∷◌, [], IfOk, List, None, OnOk, reverse};
 ghost use Rattle.iss_model.specs.Concrete.{rules_of};
 ghost use Rattle.iss_model.specs.Formats.{formats_of};
 ghost use Rattle.iss_model.specs.Past.{log_of};
-ghost use Rattle.iss_model.specs.Run.{Net, begin_net, happens};
+ghost use Rattle.iss_model.specs.Run.{Held, Progress, begin_held, cores_of, goes_further, node_of};
 ghost use Rattle.iss_model.specs.Runs.{IsSetupOf};
 ghost use Rattle.iss_node.specs.State.{Stands};
 ghost use Rattle.iss_schedule.specs.Events.{AreInRange, IsInRange};
 ghost use Rattle.iss_schedule.specs.declared.schedules.Event.{Event as Happens};
 ghost use Rattle.iss_world.specs.Headline.{IsAnswered, IsHeadline, StandsAfter};
-ghost use Rattle.iss_world.specs.Stands.{HasHappened, IsStaleOr, StandsFor, told_as};
+ghost use Rattle.iss_world.specs.Shape.{IsWorld};
+ghost use Rattle.iss_world.specs.Stands.{HasHappened, IsOverOr, IsStaleOr, IsStanding, StandsAt, StandsFor, awake, told_as};
 
-use crate::running::{Change, Running};
+use crate::ends::{Change, End};
+use crate::running::Running;
 use iss_log::Log;
-use iss_model::{Why, cluster_runs, composition, requests_are_conserved};
+use iss_model::{Why, cluster_runs, composition, requests_are_conserved, runs_end_with_evidence};
 use iss_node::Node;
-use iss_request::{Epoch, NoMemory, Setup, Value};
+use iss_request::{Bytes, Epoch, NoMemory, NodeId, Setup, Value};
 use iss_sb::Sequenced;
 use iss_schedule::Event;
 use std::alloc::Global;
 use std::marker::Model;
 
 /// What an event did.
-#[derive(Clone, Copy, Debug, PartialEq, Eq)]
+#[derive(Drop)]
 pub enum Happened {
     Done,
     /// Nothing has changed, for this cause.
     Lost(Why),
+    /// The run has ended, in this event or before: a claim of a correct node was read, with a signature that verifies, which the
+    /// node never sent as its own.
+    Forged {
+        by: NodeId,
+        statement: Bytes,
+        sig: Bytes,
+    },
+    /// The run has ended, in this event or before: two different strings were hashed, of one digest; `first` was hashed before.
+    Collision {
+        first: Bytes,
+        second: Bytes,
+    },
     /// Memory was wanting in the midst of it. The world is stale from now on.
     NoMemory,
     /// Memory was wanting in an earlier event. Nothing has changed.
     Stale,
 }
 
-/// The nodes of a cluster, and the network between them.
+/// The cores of a cluster, and the network between them. Core `i` is node `i`; behind these each faulty node has a second core,
+/// its twin, with the same keys.
 #[derive(Drop)]
 pub struct World<M: Sequenced> {
     running: Running<M>,
+    // why the run ended, if it has: nothing happens any more
+    ended: Option<End>,
     // set where memory was wanting: what an event left half done stands for nothing
     stale: bool,
 }
@@ -47,53 +64,57 @@ impl<M: Sequenced> Model for World<M> {
 
     ghost Value = { WorldState M M.Msg };
 
-    ghost view = { λ w. record { running = w.running; stale = w.stale } };
+    ghost view = { λ w. record { running = w.running; ended = w.ended; stale = w.stale } };
 
-    ghost invariant = { λ w. IsWorld M.meaning M.stands (record { running = w.running; stale = w.stale }) };
+    ghost invariant = { λ w. IsWorld M.meaning M.stands (record { running = w.running; ended = w.ended; stale = w.stale }) };
 }
 
 impl<M: Sequenced> World<M> {
-    /// Nodes that have taken nothing, each with its own keys, and no packets.
+    /// Cores that have taken nothing, each with its node's keys, and no packets.
     pub fn start(alloc: Global, setup: &Setup) -> Result<World<M>, NoMemory>
         requires { IsSetupOf M.meaning setup.now }
-        ensures stands { IfOk result (λ v. StandsFor M.meaning M.stands v (begin_net setup.now.n)) }
+        ensures stands { IfOk result (λ v. StandsFor M.meaning M.stands v (begin_held setup.now)) }
         ensures begun { IfOk result (λ v. StandsAfter setup.now M.meaning M.stands v []) }
         ensures same { IfOk result (λ v. v.running.setup ≡ setup.now) }
     {
         let running = Running::start(alloc, setup)?;
         Ok(World {
             running,
+            ended: None,
             stale: false,
         })
     }
 
-    /// The event happens. After want of memory each further event answers that the world is stale. A world that stood for the
-    /// run of some events then stands for the run with this one more. Where nodes only stop, its logs only grow, the logs of
-    /// correct nodes are of one log, in which no request stands twice and each batch was accepted as valid by a correct node,
-    /// and each request that a correct node took is in its log, waits there or is in flight, as long as different strings that
-    /// the run hashed have different digests (ISS, whole protocol).
+    /// The event happens. It ends the run where a claim of a correct node is read that verifies and that the node never sent as its
+    /// own, or where two different strings were hashed that have one digest: then the world shows what it showed before the
+    /// delivery that did so, and answers each further event by the same evidence. After want of memory each further event answers
+    /// that the world is stale. A world that stood for the run of some events then stands for the run with this one more: the
+    /// logs of correct nodes are of one log, in which no request stands twice and each batch was accepted as valid by a correct
+    /// node, and each request that a correct node took is in its log, waits there or is in flight (ISS, whole protocol).
     pub fn event(&mut self, alloc: Global, event: &Event) -> Happened
         requires { IsInRange self.old.running.setup event.now }
-        ensures happened { (w : Net M.Msg) → StandsFor M.meaning M.stands self.old w →
-            HasHappened M.meaning M.stands self.new
-            (happens self.old.running.setup (formats_of self.old.running.setup M.meaning) (rules_of self.old.running.setup) M.meaning w event.now) result }
+        ensures happened { (p : Progress M.Msg) → StandsAt M.meaning M.stands self.old p →
+            HasHappened M.meaning M.stands self.new p
+            (goes_further p.ended self.old.running.setup (formats_of self.old.running.setup M.meaning) (rules_of self.old.running.setup) M.meaning p event.now) result }
         ensures headline { (events : List Happens) → AreInRange self.old.running.setup events → StandsAfter self.old.running.setup M.meaning M.stands self.old events →
             IsAnswered result → IsHeadline self.old.running.setup M.meaning M.stands self.new (events ++ event.now ∷ []) }
         ensures stale { IsStaleOr self.old self.new result }
+        ensures over { IsOverOr self.old self.new }
         ensures same { self.new.running.setup ≡ self.old.running.setup }
     {
         composition::<M>();
         cluster_runs::<M>();
         requests_are_conserved::<M>();
+        runs_end_with_evidence::<M>();
         let _setup = self.running.setup();
         if self.stale {
             return Happened::Stale;
         }
         self.stale = true;
-        match self.running.event(alloc, event) {
-            Ok(change) => {
+        match goes_on(alloc, &mut self.running, &mut self.ended, event) {
+            Ok(happened) => {
                 self.stale = false;
-                told(change)
+                happened
             }
             Err(_) => Happened::NoMemory,
         }
@@ -107,48 +128,87 @@ impl<M: Sequenced> World<M> {
         self.running.setup()
     }
 
-    /// A node, whose calls show its core: what it accepted, what waits and is in flight there, and whether it can cast.
+    /// The node that a core runs, whose calls show the core as long as the run goes on: what it accepted, what waits and is in
+    /// flight there, and whether it can cast.
     pub fn node(&self, core: u32) -> &Node<M>
-        requires { core < self.now.running.setup.n }
-        ensures stands { (w : Net M.Msg) → StandsFor M.meaning M.stands self.now w → Stands M.meaning M.stands result.now (w.cores core) }
-        ensures same { (result.now.parts.setup ≡ self.now.running.setup) × (result.now.parts.me.0 ≡ core) }
+        requires { core < cores_of self.now.running.setup }
+        ensures stands { (h : Held M.Msg) → StandsFor M.meaning M.stands self.now h → Stands M.meaning M.stands result.now (h.net.cores core) }
+        ensures same { (result.now.parts.setup ≡ self.now.running.setup) × (result.now.parts.me.0 ≡ node_of self.now.running.setup core) }
     {
         self.running.node(core)
     }
 
-    /// A node's log.
+    /// A core's log.
     pub fn log(&self, core: u32) -> &Log
-        requires { core < self.now.running.setup.n }
-        ensures { (w : Net M.Msg) → StandsFor M.meaning M.stands self.now w →
-            log_of (rules_of self.now.running.setup) M.meaning core (w.cores core).past ≡ reverse result.now.entries }
+        requires { core < cores_of self.now.running.setup }
+        ensures { (p : Progress M.Msg) → StandsAt M.meaning M.stands self.now p →
+            log_of (rules_of self.now.running.setup) M.meaning (node_of self.now.running.setup core) (p.held.net.cores core).past ≡ reverse result.now.entries }
     {
         self.running.log(core)
     }
 
-    /// The values of a node's log, in the order of the slots.
+    /// The values of a core's log, in the order of the slots.
     pub fn entries(&self, core: u32) -> &[Value]
-        requires { core < self.now.running.setup.n }
-        ensures { (w : Net M.Msg) → StandsFor M.meaning M.stands self.now w →
-            log_of (rules_of self.now.running.setup) M.meaning core (w.cores core).past ≡ reverse result.now }
+        requires { core < cores_of self.now.running.setup }
+        ensures { (p : Progress M.Msg) → StandsAt M.meaning M.stands self.now p →
+            log_of (rules_of self.now.running.setup) M.meaning (node_of self.now.running.setup core) (p.held.net.cores core).past ≡ reverse result.now }
     {
         self.running.entries(core)
     }
 
-    /// A node's epoch.
+    /// A core's epoch.
     pub fn epoch(&self, core: u32) -> Epoch
-        requires { core < self.now.running.setup.n }
-        ensures { (w : Net M.Msg) → StandsFor M.meaning M.stands self.now w → result.0 ≡ (w.cores core).past.epoch }
+        requires { core < cores_of self.now.running.setup }
+        ensures { (p : Progress M.Msg) → StandsAt M.meaning M.stands self.now p → result.0 ≡ (p.held.net.cores core).past.epoch }
     {
         self.running.epoch(core)
     }
 }
 
-// The answer to an event for which there was memory.
-fn told(change: Change) -> Happened
-    ensures { result ≡ told_as change }
+// The event happens, if the run goes on; if it has ended, its end is told again.
+fn goes_on<M: Sequenced>(
+    alloc: Global,
+    running: &mut Running<M>,
+    ended: &mut Option<End>,
+    event: &Event,
+) -> Result<Happened, NoMemory>
+    requires range { IsInRange running.old.setup event.now }
+    requires standing { ended.old ≡ None → IsStanding M.meaning M.stands running.old }
+    ensures happened { IfOk result (λ r. (p : Progress M.Msg) → StandsAt M.meaning M.stands (awake running.old ended.old) p →
+        HasHappened M.meaning M.stands (awake running.new ended.new) p
+        (goes_further p.ended running.old.setup (formats_of running.old.setup M.meaning) (rules_of running.old.setup) M.meaning p event.now) r) }
+    ensures answered { IfOk result (λ r. IsAnswered r) }
+    ensures world { OnOk result (IsWorld M.meaning M.stands (awake running.new ended.new)) }
+    ensures over { IsOverOr (awake running.old ended.old) (awake running.new ended.new) }
+    ensures same { running.new.setup ≡ running.old.setup }
 {
-    match change {
-        Change::Done => Happened::Done,
-        Change::Lost(why) => Happened::Lost(why),
+    if let Some(end) = ended {
+        return told(end);
+    }
+    match running.event(alloc, event)? {
+        Change::Done => Ok(Happened::Done),
+        Change::Lost(why) => Ok(Happened::Lost(why)),
+        Change::Ended(end) => {
+            let happened = told(&end)?;
+            *ended = Some(end);
+            Ok(happened)
+        }
+    }
+}
+
+// The answer to an event of a run that has ended.
+fn told(end: &End) -> Result<Happened, NoMemory>
+    ensures { IfOk result (λ r. r ≡ told_as end.now) }
+{
+    match end {
+        End::Forged(claim) => Ok(Happened::Forged {
+            by: claim.by,
+            statement: claim.statement.copy()?,
+            sig: claim.sig.copy()?,
+        }),
+        End::Collision { first, second } => Ok(Happened::Collision {
+            first: first.copy()?,
+            second: second.copy()?,
+        }),
     }
 }

@@ -10,8 +10,6 @@ pub mod marks;
 pub mod raft;
 pub mod rules;
 pub mod sending;
-#[cfg(test)]
-mod tests;
 
 pub use facts::{
     batches_are_accepted_once, batches_share_an_acceptor, later_leaders_keep_what_is_committed,

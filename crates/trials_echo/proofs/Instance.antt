@@ -24,7 +24,7 @@ use Rattle.iss_model.specs.Ordered.{Among, IsSoundRules, Ordered}
 use Rattle.iss_model.specs.Past.{leads_in, log_of, made_in, newborn, params_of, takes}
 use Rattle.iss_model.specs.Rules.{Rules}
 use Rattle.iss_model.specs.Runs.{IsSetupOf}
-use Rattle.iss_model.specs.Tested.{as_signed, collision_in}
+use Rattle.iss_model.specs.Run.{as_signed, collision_in}
 use Rattle.iss_model.proofs.Layouts.{however-signed, own-verifies, sound-rules}
 use Rattle.iss_model.proofs.Tests.{over-new, over-old, own-is, separate-more}
 use Rattle.sb_echo.specs.declared.word.Word.{Word}

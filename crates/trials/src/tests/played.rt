@@ -5,6 +5,7 @@ ghost use Rattle.iss_request.specs.Setup.{IsGoodSetup};
 ghost use Rattle.iss_schedule.specs.Events.{AreInRange};
 ghost use Rattle.sb_relay.specs.Relay.{relay};
 
+use iss_model::Why;
 use iss_request::NoMemory;
 use iss_schedule::{Schedule, read};
 use iss_world::{Happened, World};
@@ -16,11 +17,32 @@ use std::test::Fail;
 const HEADER: &str =
     "iss 1\nmodule relay\nf 0\nepoch 6\nbuckets 3\nbatch 2\nwindow 8\npolicy simple\nclients 2\nkeys 4\nfaulty none\n";
 
+/// What a world answered, without the evidence.
+#[derive(Clone, Copy, Debug, PartialEq, Eq)]
+pub enum Told {
+    Done,
+    Lost(Why),
+    Forged,
+    Collision,
+    NoMemory,
+}
+
+/// A world's answer, without the evidence.
+pub fn in_brief(happened: &Happened) -> Told {
+    match happened {
+        Happened::Done => Told::Done,
+        Happened::Lost(why) => Told::Lost(*why),
+        Happened::Forged { .. } => Told::Forged,
+        Happened::Collision { .. } => Told::Collision,
+        Happened::NoMemory | Happened::Stale => Told::NoMemory,
+    }
+}
+
 /// A world after events, and what it answered to each.
 #[derive(Drop)]
 pub struct Played {
     pub world: World<Relay>,
-    pub answers: Vec<Happened>,
+    pub answers: Vec<Told>,
 }
 
 /// The schedule of these lines, behind the header.
@@ -44,7 +66,7 @@ pub fn play(alloc: Global, schedule: &Schedule) -> Result<Played, NoMemory>
     let mut answers = Vec::new(alloc);
     for place in 0..events.len() {
         let answer = world.event(alloc, &events[place]);
-        answers.push(answer)?;
+        answers.push(in_brief(&answer))?;
     }
     Ok(Played { world, answers })
 }

@@ -1,8 +1,8 @@
 //! Each event of a world. What is expected is what another program says of the same schedule.
+use crate::tests::played::Told::{self, Done, Lost};
 use crate::tests::played::{play, schedule_of};
 use iss_model::Why;
 use iss_request::{Epoch, ReqId, Request, Value};
-use iss_world::Happened::{self, Done, Lost};
 use std::alloc::Global;
 use std::process::Abort;
 use std::test::Fail;
@@ -12,7 +12,7 @@ fn goes(
     rt: &impl Abort,
     alloc: Global,
     events: &str,
-    answers: &[Happened],
+    answers: &[Told],
     slots: [usize; 3],
 ) -> Result<(), Fail> {
     let played = play(alloc, &schedule_of(alloc, events)?)?;

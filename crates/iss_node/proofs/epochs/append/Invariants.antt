@@ -1,5 +1,5 @@
 use Rattle.std.proofs.Common.{◌≡◌, ◌++◌}
 use Rattle.iss_node.proofs.epochs.append.Given as goal
 
-abbrev pub invariant-loop-send : goal.invariant-loop-send
-invariant-loop-send l = l.sends ≡ l.fn.sends ++ l.yielded
+abbrev pub invariant-loop-thing : goal.invariant-loop-thing
+invariant-loop-thing g l = l.row ≡ l.fn.row ++ l.yielded

@@ -1,15 +1,15 @@
-use Rattle.iss_model.proofs.OneLog.{one-log, ordered-run}
-use Rattle.iss_model.proofs.Ranges.{at-nodes}
-use Rattle.iss_replay.specs.Report.{run_of}
-use Rattle.iss_world.proofs.RunningLemmas.{if-ok}
+use Rattle.iss_model.specs.OneLog.{run_after}
+use Rattle.iss_model.proofs.Ranges.{at-cores}
+use Rattle.iss_node.proofs.SettleLemmas.{if-ok}
 use Rattle.iss_replay.proofs.texts.text.Goals as goal
 
 pub returns-clause-reports : goal.returns-clause-reports
 returns-clause-reports g c =
     let s = c.args.report.now.world.running.setup in
     let m = g.M.Sequenced.meaning in
-    if-ok _ _ c.write.result c.write.ensures (λ bytes told good events range stands. record {
-      tells = told (run_of s m events) stands;
-      one_log = λ stops separate. one-log s m events (ordered-run s m events c.composition.ensures.part (c.cluster_runs.ensures.reached s good stops events (at-nodes s events range)) separate);
-      grows = λ stops. c.cluster_runs.ensures.grows s good stops events (at-nodes s events range);
+    if-ok c.write.result _ _ c.write.ensures (λ bytes told good events range stands. record {
+      tells = told (run_after s m events) stands;
+      one_log = c.cluster_runs.ensures.one_log s good events (at-cores s events range);
+      evidence = c.runs_end_with_evidence.ensures s good events (at-cores s events range);
+      conserved = λ once. c.requests_are_conserved.ensures s good once events (at-cores s events range);
     })

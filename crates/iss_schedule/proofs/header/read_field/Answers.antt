@@ -1,7 +1,7 @@
-use Rattle.std.proofs.Common.{◌≡◌, ◌∙◌, ℕ, List, [], Result, Ok, Err, refl, ap, subst, arith, codes, get_or}
+use Rattle.std.proofs.Common.{◌≡◌, ◌∙◌, ℕ, suc, List, [], Result, Ok, Err, refl, ap, subst, arith, codes, get_or}
 use Rattle.iss_schedule.specs.declared.errors.Why.{Why}
 use Rattle.iss_schedule.specs.declared.errors.Why.TheVariants.{Cut, Form, Faulty, Injected, Range, Size}
-use Rattle.iss_schedule.specs.Headers.{Number, FaultyNodes, header_fields, row_at, setup_with, value}
+use Rattle.iss_schedule.specs.Headers.{Number, OneOf, header_fields, row_at, setup_with, value}
 use Rattle.iss_schedule.specs.Places.{Place, ReadsField}
 use Rattle.iss_schedule.proofs.Fronts.{read_at}
 use Rattle.iss_schedule.proofs.header.read_field.Goals as goal
@@ -24,13 +24,13 @@ number_at name low end l e above old new r is is' h =
     go (Ok v) h = h
     go (Err why) h = bad why h
 
-pub faults_at : (above : List ℕ) (old new : Place) (r : Result ℕ Why) (place end : ℕ) → place ≡ value above 1 → end ≡ (row_at place).too_many →
-    ReadsField (Number (codes "f") (λ _. 0) (λ _. end)) above old new r → ReadsField (get_or header_fields 2 FaultyNodes) above old new r
-faults_at above old new r place end here is = number_at (codes "f") (λ above. 0) (λ above. (row_at (value above 1)).too_many) 0 end above old new r refl (is ∙ ap (λ k. (row_at k).too_many) here)
+pub faults_at : (above : List ℕ) (old new : Place) (r : Result ℕ Why) (place end : ℕ) → place ≡ value above 1 → end ≡ suc (row_at place).most_faults →
+    ReadsField (Number (codes "f") (λ _. 0) (λ _. end)) above old new r → ReadsField (get_or header_fields 2 (OneOf [])) above old new r
+faults_at above old new r place end here is = number_at (codes "f") (λ above. 0) (λ above. suc (row_at (value above 1)).most_faults) 0 end above old new r refl (is ∙ ap (λ k. suc (row_at k).most_faults) here)
 
-pub epoch_at : (above : List ℕ) (old new : Place) (r : Result ℕ Why) (low : ℕ) → low ≡ (setup_with above []).n →
-    ReadsField (Number (codes "epoch") (λ _. low) (λ _. 65)) above old new r → ReadsField (get_or header_fields 3 FaultyNodes) above old new r
-epoch_at above old new r low is = number_at (codes "epoch") (λ above. (setup_with above []).n) (λ above. 65) low 65 above old new r is refl
+pub epoch_at : (above : List ℕ) (old new : Place) (r : Result ℕ Why) (low : ℕ) → low ≡ (setup_with above [] []).n →
+    ReadsField (Number (codes "epoch") (λ _. low) (λ _. 65)) above old new r → ReadsField (get_or header_fields 3 (OneOf [])) above old new r
+epoch_at above old new r low is = number_at (codes "epoch") (λ above. (setup_with above [] []).n) (λ above. 65) low 65 above old new r is refl
 
 pub returns-in-0-clause-reads : goal.returns-in-0-clause-reads
 returns-in-0-clause-reads c = read_at c.args.above.now c.args.lines.now c.expect.new.lines c.expect.result 0 _ c.in-0.is refl (c.expect.ensures.reads c.args.above.now)
@@ -42,7 +42,7 @@ pub returns-in-2-clause-reads : goal.returns-in-2-clause-reads
 returns-in-2-clause-reads c = read_at c.args.above.now c.args.lines.now c.number.new.lines c.number.result 2 _ c.in-2.is refl (faults_at c.args.above.now c.args.lines.now c.number.new.lines c.number.result _ _ refl c.too_many.ensures (c.number.ensures.reads c.args.above.now))
 
 pub returns-in-3-clause-reads : goal.returns-in-3-clause-reads
-returns-in-3-clause-reads c = read_at c.args.above.now c.args.lines.now c.number-in-3.new.lines c.number-in-3.result 3 _ c.in-3.is refl (epoch_at c.args.above.now c.args.lines.now c.number-in-3.new.lines c.number-in-3.result _ c.nodes_of.ensures (c.number-in-3.ensures.reads c.args.above.now))
+returns-in-3-clause-reads c = read_at c.args.above.now c.args.lines.now c.number-in-3.new.lines c.number-in-3.result 3 _ c.in-3.is refl (epoch_at c.args.above.now c.args.lines.now c.number-in-3.new.lines c.number-in-3.result _ c.nodes_of.ensures.nodes (c.number-in-3.ensures.reads c.args.above.now))
 
 pub returns-in-4-clause-reads : goal.returns-in-4-clause-reads
 returns-in-4-clause-reads c = read_at c.args.above.now c.args.lines.now c.number-in-4.new.lines c.number-in-4.result 4 _ c.in-4.is refl (c.number-in-4.ensures.reads c.args.above.now)
@@ -59,8 +59,5 @@ returns-in-7-clause-reads c = read_at c.args.above.now c.args.lines.now c.policy
 pub returns-in-8-clause-reads : goal.returns-in-8-clause-reads
 returns-in-8-clause-reads c = read_at c.args.above.now c.args.lines.now c.number-in-8.new.lines c.number-in-8.result 8 _ c.in-8.is refl (c.number-in-8.ensures.reads c.args.above.now)
 
-pub returns-in-9-clause-reads : goal.returns-in-9-clause-reads
-returns-in-9-clause-reads c = read_at c.args.above.now c.args.lines.now c.number-in-9.new.lines c.number-in-9.result 9 _ c.in-9.is refl (c.number-in-9.ensures.reads c.args.above.now)
-
 pub returns-in_default-clause-reads : goal.returns-in_default-clause-reads
-returns-in_default-clause-reads c = read_at c.args.above.now c.args.lines.now c.no_faulty.new.lines c.no_faulty.result 10 _ (omega (arith, c.requires.few)) refl (c.no_faulty.ensures.reads c.args.above.now)
+returns-in_default-clause-reads c = read_at c.args.above.now c.args.lines.now c.number-in_default.new.lines c.number-in_default.result 9 _ (omega (arith, c.requires.few)) refl (c.number-in_default.ensures.reads c.args.above.now)

@@ -1,10 +1,10 @@
 use Rattle.std.proofs.Common.{◌≡◌, take}
-use Rattle.iss_model.specs.Run.{posted_all}
+use Rattle.iss_model.specs.Run.{cores_of, posted_all}
 use Rattle.iss_world.specs.Shape.{IsNetworkOf}
 use Rattle.iss_world.proofs.posting.post_all.Given as goal
 
 abbrev pub invariant-loop-send : goal.invariant-loop-send
 invariant-loop-send l = record {
-  posted : l.network ≡ posted_all l.n l.fn.network l.from (take l.send-index l.sends);
-  between : IsNetworkOf l.n l.network;
+  posted : l.network ≡ posted_all l.setup l.fn.network l.from (take l.send-index l.sends);
+  between : IsNetworkOf (cores_of l.setup) l.network;
 }

@@ -3,7 +3,7 @@ use Rattle.iss_keys.specs.KeyStates.{KeyState}
 use Rattle.iss_model.specs.Formats.{formats_of}
 use Rattle.iss_model.specs.Node.{OfRequest}
 use Rattle.iss_request.specs.declared.requests.Request.{Request}
-use Rattle.iss_world.proofs.RunningLemmas.{client-keys, client-number, signed-request}
+use Rattle.iss_world.proofs.KeyLemmas.{client-keys, client-number, signed-request}
 use Rattle.iss_world.proofs.requests.request_packet.Goals as goal
 
 pub keys_of_client-keys-requires : goal.keys_of_client-keys-requires

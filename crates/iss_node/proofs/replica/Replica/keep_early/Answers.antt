@@ -1,11 +1,11 @@
 use Rattle.std.proofs.Common.{◌≡◌, ◌∙◌, ◌++◌, ◌∷◌, [], List, ◌<◌, ◌≤◌, length, refl, sym, ap, subst, arith}
 use Rattle.iss_model.specs.Node.{rests}
 use Rattle.iss_node.proofs.InstanceLemmas.{same-parts}
+use Rattle.iss_node.proofs.MadeLemmas.{nothing-made, nothing-sent}
 use Rattle.iss_node.proofs.QueryLemmas.{early-full, early-kept, early-parts, with-early}
 use Rattle.iss_node.specs.Shape.{IsReplica}
 use Rattle.iss_node.specs.State.{AreParts, ReplicaState, core_of, seen_early, seen_one}
 use Rattle.iss_node.specs.declared.answers.Early.{Early}
-use Rattle.iss_sb.specs.Calls.{AreToNodes}
 use Rattle.iss_node.proofs.replica.Replica.keep_early.Goals as goal
 
 pub returns-then-len-ge-EARLY_MOST-clause-answer : goal.returns-then-len-ge-EARLY_MOST-clause-answer
@@ -35,7 +35,7 @@ returns-clause-answer g c = λ past tied.
       turned = record {
         stands_for = subst (λ (z : ReplicaState g.row.M.Denot g.row.M-Msg.Denot). AreParts m g.M.Sequenced.stands z (record (core_of v past) { early = seen_early v.early ++ seen_one c.args.message ∷ [] })) (sym is)
             (early-parts m g.M.Sequenced.stands v shape past tied c.args.message c.push.new.self.items grown);
-        sends = c.new.ensures;
-        addressed = subst (λ xs. AreToNodes c.self.inside.setup.n xs) (sym c.new.ensures) tt;
+        made = nothing-made (record (core_of v past) { early = seen_early v.early ++ seen_one c.args.message ∷ [] }) c.nothing.result c.nothing.ensures;
+        addressed = nothing-sent c.self.inside.setup.n c.nothing.result c.nothing.ensures;
       };
     }

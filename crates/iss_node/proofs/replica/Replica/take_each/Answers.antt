@@ -35,15 +35,15 @@ loop-message-preserved-in-Continue-branch-2 g c =
     let from = subst (λ (xs : List (Early g.row.M-Msg.Denot)). AreFrom c.args.self.now.setup.n xs) c.in-Some.ensures.steps.0 h.from in
     let lasts = sym (ap (λ z. z.epoch) c.self-in-loop-message.view_is) ∙ c.if-self-epoch.true ∙ ap (λ z. z.epoch) c.self.view_is in
     record {
-      owes = λ t k. subst (λ xs. Owes m g.M.Sequenced.stands c.args.self.now c.args.outcome c.take_early.new.self xs (c.loop-message.yielded ++ c.in-Some.message ∷ []) t) (sym c.in_ok-append.ensures)
-          (owes-next m g.M.Sequenced.stands c.args.self.now c.loop-message.self c.take_early.new.self c.args.outcome c.loop-message.sends c.in_ok-more.more.sends c.loop-message.yielded c.in-Some.message t h.later c.take_early.ensures.later lasts c.in_ok-more.ensures.turn (h.owes t k));
+      owes = λ t k. subst (λ o. Owes m g.M.Sequenced.stands c.args.self.now c.take_early.new.self o (c.loop-message.yielded ++ c.in-Some.message ∷ []) t) (sym c.in_ok-put_behind.ensures)
+          (owes-next m g.M.Sequenced.stands c.args.self.now c.loop-message.self c.take_early.new.self c.loop-message.all c.in_ok-more.more c.loop-message.yielded c.in-Some.message t h.later c.take_early.ensures.later lasts c.in_ok-more.ensures.turn (h.owes t k));
       later = later-trans c.args.self.now c.loop-message.self c.take_early.new.self h.later c.take_early.ensures.later;
       from = from.1;
       whole = whole-next c.args.early.items c.loop-message.yielded c.in-Some.message _ _ h.whole c.in-Some.ensures.steps.0;
     }
 
-pub returns-in_err-append-clause-later : goal.returns-in_err-append-clause-later
-returns-in_err-append-clause-later g c = later-trans c.args.self.now c.loop-message.self c.take_early.new.self c.loop-message.invariant.later c.take_early.ensures.later
+pub returns-in_err-put_behind-clause-later : goal.returns-in_err-put_behind-clause-later
+returns-in_err-put_behind-clause-later g c = later-trans c.args.self.now c.loop-message.self c.take_early.new.self c.loop-message.invariant.later c.take_early.ensures.later
 
 pub loop-message-preserved : goal.loop-message-preserved
 loop-message-preserved g c =
@@ -52,7 +52,7 @@ loop-message-preserved g c =
     let from = subst (λ (xs : List (Early g.row.M-Msg.Denot)). AreFrom c.args.self.now.setup.n xs) c.in-Some.ensures.steps.0 h.from in
     let over = apart c.loop-message.self.epoch c.args.self.now.epoch (λ e. c.if-self-epoch.false (ap (λ z. z.epoch) c.self-in-loop-message.view_is ∙ e ∙ sym (ap (λ z. z.epoch) c.self.view_is))) in
     record {
-      owes = λ t k. owes-none m g.M.Sequenced.stands c.args.self.now c.loop-message.self c.args.outcome c.loop-message.sends c.loop-message.yielded c.in-Some.message t over (h.owes t k);
+      owes = λ t k. owes-none m g.M.Sequenced.stands c.args.self.now c.loop-message.self c.loop-message.all c.loop-message.yielded c.in-Some.message t over (h.owes t k);
       later = h.later;
       from = from.1;
       whole = whole-next c.args.early.items c.loop-message.yielded c.in-Some.message _ _ h.whole c.in-Some.ensures.steps.0;
@@ -64,7 +64,7 @@ returns-clause-turn g c = λ t k.
     let left = c.loop-message.message-iterator.rest in
     let none : left.items ≡ [] = empty left.items (omega (arith, left.ok.0, c.in-None.ensures.steps.0)) in
     let all : c.loop-message.yielded ≡ c.args.early.items = sym (h.whole ∙ ap (λ xs. c.loop-message.yielded ++ xs) none ∙ append-nil c.loop-message.yielded) in
-    owes-last g.M.Sequenced.meaning g.M.Sequenced.stands c.args.self.now c.loop-message.self c.args.outcome c.loop-message.sends c.args.early.items c.loop-message.yielded all t (h.owes t k)
+    owes-last g.M.Sequenced.meaning g.M.Sequenced.stands c.args.self.now c.loop-message.self c.loop-message.all c.args.early.items c.loop-message.yielded all t (h.owes t k)
 
 pub returns-clause-later : goal.returns-clause-later
 returns-clause-later g c = c.loop-message.invariant.later

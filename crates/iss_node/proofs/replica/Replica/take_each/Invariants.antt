@@ -8,7 +8,7 @@ use Rattle.iss_node.proofs.replica.Replica.take_each.Given as goal
 abbrev pub invariant-loop-message : goal.invariant-loop-message
 invariant-loop-message g l = record {
   owes : (t : Turn g.row.M-Msg.Denot) → IsTurned g.M.Sequenced.meaning g.M.Sequenced.stands t l.fn.self l.fn.outcome →
-      Owes g.M.Sequenced.meaning g.M.Sequenced.stands l.fn.self l.fn.outcome l.self l.sends l.yielded t;
+      Owes g.M.Sequenced.meaning g.M.Sequenced.stands l.fn.self l.self l.all l.yielded t;
   later : IsLater l.fn.self l.self;
   from : AreFrom l.fn.self.setup.n l.message-iterator.rest.items;
   whole : l.fn.early.items ≡ l.yielded ++ l.message-iterator.rest.items;

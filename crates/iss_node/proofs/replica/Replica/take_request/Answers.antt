@@ -3,11 +3,11 @@ use Rattle.iss_model.specs.Concrete.{rules_of}
 use Rattle.iss_model.specs.Node.{is_known, rests}
 use Rattle.iss_model.specs.Past.{before_own, log_of}
 use Rattle.iss_node.proofs.InstanceLemmas.{same-parts}
+use Rattle.iss_node.proofs.MadeLemmas.{nothing-made, nothing-sent}
 use Rattle.iss_node.proofs.RequestLemmas.{inside-found, known-is, known-waits, logged-all, request-is, waits-parts}
 use Rattle.iss_node.specs.Shape.{IsReplica}
 use Rattle.iss_node.specs.State.{ReplicaState, core_of}
 use Rattle.iss_request.specs.Log.{log_ids}
-use Rattle.iss_sb.specs.Calls.{AreToNodes}
 use Rattle.iss_node.proofs.replica.Replica.take_request.Goals as goal
 
 pub returns-then-not-is_signed-clause-answer : goal.returns-then-not-is_signed-clause-answer
@@ -67,7 +67,7 @@ returns-clause-answer g c = λ past tied.
       step_is = request-is m g.M.Sequenced.stands v shape past tied q true false true signed known inside;
       turned = record {
         stands_for = waits-parts m g.M.Sequenced.stands v shape past tied q c.wait.new.self (c.in_ok-wait.ensures.ok (known-waits _ _ (sym found))) signed known inside;
-        sends = c.new.ensures;
-        addressed = subst (λ xs. AreToNodes c.wait.new.self.setup.n xs) (sym c.new.ensures) tt;
+        made = nothing-made (record (core_of v past) { waiting = v.waiting ++ q ∷ [] }) c.nothing.result c.nothing.ensures;
+        addressed = nothing-sent c.wait.new.self.setup.n c.nothing.result c.nothing.ensures;
       };
     }

@@ -21,5 +21,5 @@ returns-in-Dropped-clause-turn g c = λ past tied.
     let m = g.M.Sequenced.meaning in
     let v = c.args.self.now in
     let step = at_instance (formats_of v.setup m) (rules_of v.setup) m v.me.0 (core_of v past) c.args.message.leader.0 (Receive c.args.message.from c.args.message.msg) in
-    tried-dropped m g.M.Sequenced.stands v c.at_instance.new.self (core_of v past) step c.in-Dropped.field-0 (record { sends = c.new.result })
-    (subst (λ a. IsStep m g.M.Sequenced.stands (core_of v past) step c.at_instance.new.self a) c.in-Dropped.is (c.in_ok-outcome.ensures.answer past tied)) c.new.ensures
+    tried-dropped m g.M.Sequenced.stands v c.at_instance.new.self (core_of v past) step c.in-Dropped.field-0 c.nothing.result
+    (subst (λ a. IsStep m g.M.Sequenced.stands (core_of v past) step c.at_instance.new.self a) c.in-Dropped.is (c.in_ok-outcome.ensures.answer past tied)) c.nothing.ensures

@@ -1,13 +1,15 @@
 use Rattle.std.proofs.Common.{◌≡◌, take}
 use Rattle.iss_model.specs.Concrete.{rules_of}
 use Rattle.iss_model.specs.Formats.{formats_of}
-use Rattle.iss_model.specs.Run.{Net, delivers_each}
-use Rattle.iss_world.specs.Stands.{Runs}
+use Rattle.iss_model.specs.Run.{Held, delivers_each}
+use Rattle.iss_world.specs.Stands.{HasChanged, Runs}
+use Rattle.iss_world.specs.declared.ends.Change.TheVariants.{Done}
 use Rattle.iss_world.proofs.running.Running.deliver_each.Given as goal
 
 abbrev pub invariant-loop-packet : goal.invariant-loop-packet
 invariant-loop-packet g l = record {
-  taken : (w : Net g.row.M-Msg.Denot) → Runs g.M.Sequenced.meaning g.M.Sequenced.stands l.fn.self w →
-      Runs g.M.Sequenced.meaning g.M.Sequenced.stands l.self (delivers_each l.fn.self.setup.n (formats_of l.fn.self.setup g.M.Sequenced.meaning) (rules_of l.fn.self.setup) g.M.Sequenced.meaning w (take l.packet-index l.packets));
+  taken : (h : Held g.row.M-Msg.Denot) → Runs g.M.Sequenced.meaning g.M.Sequenced.stands l.fn.self h →
+      HasChanged g.M.Sequenced.meaning g.M.Sequenced.stands l.self
+      (delivers_each l.fn.self.setup (formats_of l.fn.self.setup g.M.Sequenced.meaning) (rules_of l.fn.self.setup) g.M.Sequenced.meaning (take l.packet-index l.packets) h) Done;
   same : l.self.setup ≡ l.fn.self.setup;
 }

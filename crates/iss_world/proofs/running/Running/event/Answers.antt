@@ -1,15 +1,15 @@
 use Rattle.std.proofs.Common.{IfOk, subst, sym}
 use Rattle.iss_model.specs.Concrete.{rules_of}
 use Rattle.iss_model.specs.Formats.{formats_of}
-use Rattle.iss_model.specs.Run.{Net, happens}
+use Rattle.iss_model.specs.Run.{Held, happens}
 use Rattle.iss_schedule.specs.declared.schedules.Event.{Event}
 use Rattle.iss_world.specs.Stands.{HasChanged, Runs}
 use Rattle.iss_world.proofs.running.Running.event.Goals as goal
 
 pub returns-in-Timeout-clause-happened : goal.returns-in-Timeout-clause-happened
 returns-in-Timeout-clause-happened g c =
-    subst (λ (e : Event). IfOk c.take-in-Timeout.result (λ h. (w : Net g.row.M-Msg.Denot) → Runs g.M.Sequenced.meaning g.M.Sequenced.stands c.args.self.now w →
-    HasChanged g.M.Sequenced.meaning g.M.Sequenced.stands c.take-in-Timeout.new.self (happens c.args.self.now.setup (formats_of c.args.self.now.setup g.M.Sequenced.meaning) (rules_of c.args.self.now.setup) g.M.Sequenced.meaning w e) h))
+    subst (λ (e : Event). IfOk c.take-in-Timeout.result (λ r. (h : Held g.row.M-Msg.Denot) → Runs g.M.Sequenced.meaning g.M.Sequenced.stands c.args.self.now h →
+    HasChanged g.M.Sequenced.meaning g.M.Sequenced.stands c.take-in-Timeout.new.self (happens c.args.self.now.setup (formats_of c.args.self.now.setup g.M.Sequenced.meaning) (rules_of c.args.self.now.setup) g.M.Sequenced.meaning h e) r))
     (sym c.in-Timeout.is) c.take-in-Timeout.ensures.happened
 
 pub returns-in-Propose-clause-happened : goal.returns-in-Propose-clause-happened

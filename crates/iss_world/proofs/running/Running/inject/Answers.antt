@@ -2,7 +2,8 @@ use Rattle.std.proofs.Common.{sym, ◌∙◌, ◌≡◌, false, ap}
 use Rattle.iss_model.specs.Concrete.{rules_of}
 use Rattle.iss_model.specs.Formats.{formats_of}
 use Rattle.iss_world.specs.State.{RunningState}
-use Rattle.iss_world.proofs.RunningLemmas.{happened-injected, if-ok, not-stopping}
+use Rattle.iss_world.proofs.BookLemmas.{if-ok}
+use Rattle.iss_world.proofs.CourseLemmas.{happened-injected, not-stopping}
 use Rattle.iss_world.proofs.running.Running.inject.Goals as goal
 
 pub returns-clause-happened : goal.returns-clause-happened
@@ -10,5 +11,5 @@ returns-clause-happened g c =
     let s = c.args.self.now.setup in
     let running : g.M.Sequenced.meaning.stopping ≡ false =
     not-stopping g.M.Sequenced.meaning.stopping (sym (ap (λ (v : RunningState _ _). v.setup.kind) c.self.view_is ∙ c.requires.kind) ∙ c.self.invariant.0.good.kind) in
-    if-ok _ _ c.take.result c.take.ensures.happened (λ h f w st.
-    happened-injected g.M.Sequenced.meaning g.M.Sequenced.stands s.n (formats_of s g.M.Sequenced.meaning) (rules_of s) c.args.self.now c.take.new.self w h st c.args.core c.args.bytes.now c.in_ok-packet.packet running c.in_ok-packet.ensures (f w st))
+    if-ok _ _ c.take.result c.take.ensures.happened (λ r f h st.
+    happened-injected g.M.Sequenced.meaning g.M.Sequenced.stands s (formats_of s g.M.Sequenced.meaning) (rules_of s) c.args.self.now c.take.new.self h r st c.args.core c.args.bytes.now c.in_ok-packet.packet running c.in_ok-packet.ensures (f h st))

@@ -1,0 +1,7 @@
+use Rattle.iss_model.proofs.Instances.{claim-head, claims-same}
+use Rattle.iss_model.proofs.theorems.claims_are_of_one_instance.Goals as goal
+
+pub returns : goal.returns
+returns g c =
+    let M = g.M.Sequenced.meaning in
+    record { one = claims-same M c.laws.ensures.lawful; head = claim-head M c.laws.ensures.lawful }

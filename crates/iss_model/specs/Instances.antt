@@ -1,0 +1,10 @@
+-- Which instance a statement names.
+use Rattle.std.specs.Prelude.{◌≡◌, ℕ, List}
+use Rattle.iss_sb.specs.declared.effects.Params.{Params}
+
+-- the instance of a module with these parameters is the one in that cluster (by its digest), epoch and leader, of that tag
+pub record IsInstance (p : Params) (mark : ℕ) (domain : List ℕ) (e l tag : ℕ) : Type 0 where
+  pub cluster : domain ≡ p.setup.tag
+  pub epoch : e ≡ p.epoch.0
+  pub leader : l ≡ p.leader.0
+  pub module_tag : tag ≡ mark

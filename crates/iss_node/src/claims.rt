@@ -1,0 +1,147 @@
+//! What messages claim that nodes have signed.
+ghost use Rattle.std.specs.Prelude.{◌≡◌, ◌<◌, ◌++◌, Some, true, IfOk, OnOk};
+ghost use Rattle.std.specs.List.{list_all};
+ghost use Rattle.iss_keys.specs.VerifiedBy.{is_verified_by};
+ghost use Rattle.iss_model.specs.Concrete.{rules_of};
+ghost use Rattle.iss_model.specs.Node.{all_verify, claims_in, claims_of_input, only_by, own_claims};
+ghost use Rattle.iss_model.specs.Past.{Past, leads_in, params_of};
+ghost use Rattle.iss_node.specs.Inputs.{IsHandedOut};
+ghost use Rattle.iss_node.specs.State.{IsTied, led};
+ghost use Rattle.iss_node.specs.Steps.{IsNodeInput};
+ghost use Rattle.iss_sb.specs.Calls.{IsGoodParams};
+ghost use Rattle.iss_sb.specs.declared.effects.Claim.{Claim as SaidToSign};
+ghost use Rattle.iss_segment.specs.Instance.{SegmentState};
+
+use crate::answers::Outcome;
+use crate::parcels::pack;
+use crate::replica::Replica;
+use iss_keys::Directory;
+use iss_request::{Bytes, NoMemory, NodeId, Row};
+use iss_sb::{Claim, Input, Params, Sequenced, To};
+use std::alloc::Global;
+
+impl<M: Sequenced> Replica<M> {
+    /// What a message in the instance of a leader claims, where that leads the epoch.
+    pub(crate) fn claims_in(
+        &self,
+        alloc: Global,
+        leader: NodeId,
+        from: NodeId,
+        msg: &M::Msg,
+    ) -> Result<Row<Claim>, NoMemory>
+        requires { from.0 < self.now.setup.n }
+        ensures { IfOk result (λ claims. (past : Past M.Msg) → IsTied M.meaning M.stands self.now past →
+            claims ≡ claims_in (rules_of self.now.setup) M.meaning self.now.me.0 past from.0 leader.0 msg.now) }
+    {
+        let _setup = &self.setup;
+        match self.segment(leader) {
+            Some(segment) => M::claims(alloc, segment.params(), from, msg),
+            None => Ok(Row::new(alloc)),
+        }
+    }
+
+    /// Whether each claim of an input in the instance of a leader of the epoch is one of the node that it names.
+    pub(crate) fn is_credible(
+        &self,
+        alloc: Global,
+        leader: NodeId,
+        input: &Input<M::Msg>,
+    ) -> Result<bool, NoMemory>
+        requires { IsNodeInput self.now.setup.n input.now }
+        ensures { IfOk result (λ b. (past : Past M.Msg) → IsTied M.meaning M.stands self.now past →
+            leads_in (rules_of self.now.setup) M.meaning self.now.me.0 past leader.0 ≡ true →
+            b ≡ all_verify (rules_of self.now.setup)
+            (claims_of_input M.meaning (params_of (rules_of self.now.setup) M.meaning self.now.me.0 past leader.0) input.now)) }
+    {
+        match input {
+            Input::Receive { from, msg } => {
+                let claims = self.claims_in(alloc, leader, *from, msg)?;
+                Ok(all_verify(self.directory.directory(), claims.as_slice()))
+            }
+            Input::Cast { .. } | Input::Timeout => Ok(true),
+        }
+    }
+
+    /// What a step of the instance of a leader made, as the node hands it out.
+    pub(crate) fn hand_out(
+        &self,
+        alloc: Global,
+        leader: NodeId,
+        sends: &[(To, M::Msg)],
+        hashed: Row<Bytes>,
+    ) -> Result<Outcome, NoMemory>
+        ensures { IfOk result (IsHandedOut M.meaning self.now leader.0 sends.now hashed) }
+    {
+        let own = self.own_in(alloc, leader, sends)?;
+        let packets = pack::<M>(alloc, &self.setup, self.epoch, self.me, leader, sends)?;
+        Ok(Outcome {
+            sends: packets,
+            own,
+            early: Row::new(alloc),
+            hashed,
+        })
+    }
+
+    // The node's own claims in what the instance of a leader sends.
+    fn own_in(
+        &self,
+        alloc: Global,
+        leader: NodeId,
+        sends: &[(To, M::Msg)],
+    ) -> Result<Row<Claim>, NoMemory>
+        ensures { IfOk result (λ own. (g : SegmentState M) → led self.now.segments leader.0 ≡ Some g →
+            own ≡ own_claims M.meaning g.params self.now.me.0 sends.now) }
+    {
+        let _setup = &self.setup;
+        match self.segment(leader) {
+            Some(segment) => own_claims::<M>(alloc, segment.params(), self.me, sends),
+            None => Ok(Row::new(alloc)),
+        }
+    }
+}
+
+// A node's own claims in what it sends.
+fn own_claims<M: Sequenced>(
+    alloc: Global,
+    p: &Params,
+    me: NodeId,
+    sends: &[(To, M::Msg)],
+) -> Result<Row<Claim>, NoMemory>
+    requires good { IsGoodParams M.meaning p.now }
+    requires me { me.0 < p.now.setup.n }
+    ensures { IfOk result (λ own. own ≡ own_claims M.meaning p.now me.0 sends.now) }
+{
+    let mut own = Row::new(alloc);
+    for (_, msg) in sends {
+        let claims = M::claims(alloc, p, me, msg)?;
+        put_own(&mut own, me, claims)?;
+    }
+    Ok(own)
+}
+
+// Puts those of a node at the end.
+fn put_own(own: &mut Row<Claim>, me: NodeId, claims: Row<Claim>) -> Result<(), NoMemory>
+    ensures { OnOk result (own.new ≡ own.old ++ only_by me.0 claims) }
+{
+    for claim in claims.into_vec() {
+        if claim.by.0 == me.0 {
+            own.push(claim)?;
+        }
+    }
+    Ok(())
+}
+
+// Whether each of these claims is one of the node that it names.
+fn all_verify(directory: &Directory, claims: &[Claim]) -> bool
+    ensures { result ≡ list_all (λ (c : SaidToSign). is_verified_by directory.now.nodes c.by.0 c.statement c.sig) claims.now }
+{
+    claims.iter().all(|claim| verifies(directory, claim))
+}
+
+// Whether a claim is one of the node that it names.
+fn verifies(directory: &Directory, claim: &Claim) -> bool
+    ensures { result ≡ is_verified_by directory.now.nodes claim.now.by.0 claim.now.statement claim.now.sig }
+{
+    let statement = claim.statement.as_slice();
+    directory.verify_node(claim.by.0, statement, claim.sig.as_slice())
+}

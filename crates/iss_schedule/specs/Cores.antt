@@ -1,0 +1,7 @@
+-- The cores of a set-up.
+use Rattle.std.specs.Prelude.{ℕ, ◌+◌, length}
+use Rattle.iss_request.specs.declared.setups.Setup.{Setup}
+
+-- a node's first core has its number; behind all of these stands a second core, a twin, for each faulty node in order
+abbrev pub cores_of : Setup → ℕ
+cores_of s = s.n + length s.faulty

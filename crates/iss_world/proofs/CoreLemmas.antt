@@ -1,0 +1,93 @@
+-- Which node a core runs, and cores at their start.
+use Rattle.std.proofs.Common.{inl, inr, ◌≡◌, ◌⊎◌, ℕ, zero, suc, ◌+◌, ◌-◌, ◌<◌, ◌≤◌, false, List, [], ◌∷◌, ◌++◌, length, length-append, slice_get, Some, refl, sym, ap, ◌∙◌, subst, arith, slice_index_or}
+use Rattle.std.proofs.lemmas.List.{length-replicate}
+use Rattle.iss_keys.specs.KeyStates.{KeyState}
+use Rattle.iss_model.specs.Node.{idle}
+use Rattle.iss_model.specs.Run.{begin_held, cores_of, node_of}
+use Rattle.iss_model.specs.Runs.{IsSetupOf}
+use Rattle.iss_network.specs.Network.{Network, empty_network}
+use Rattle.iss_node.specs.State.{NodeState, Stands}
+use Rattle.iss_request.specs.Setup.{AreRising, IsFewFaulty, IsGoodSetup}
+use Rattle.iss_request.specs.declared.ids.NodeId.{NodeId}
+use Rattle.iss_request.specs.declared.setups.Kind.{Kind}
+use Rattle.iss_request.specs.declared.setups.Kind.TheVariants.{Byzantine, Stopping}
+use Rattle.iss_request.specs.declared.setups.Setup.{Setup}
+use Rattle.iss_sb.specs.declared.effects.Params.{Params}
+use Rattle.iss_sb.specs.Evidence.{Item, Module}
+use Rattle.iss_world.specs.Books.{AreHashed, AreSigned}
+use Rattle.iss_world.specs.Shape.{AreForCores, IsRunning}
+use Rattle.iss_world.specs.Stands.{AreFresh, IsFresh, Runs}
+
+few : (k : Kind) (f : ℕ) (xs : List NodeId) → IsFewFaulty k f xs → length xs ≤ f
+few Byzantine f xs h = h
+few Stopping f xs h = let none : length xs ≡ 0 = ap (λ (ys : List NodeId). length ys) h in omega (arith, none)
+
+pub few-faulty : (s : Setup) → IsGoodSetup s → length s.faulty ≤ 3
+few-faulty s good = let h = few s.kind s.f s.faulty good.few_faulty in let f = good.faults in omega (arith, h, f)
+
+rising-at : (from n : ℕ) (xs : List NodeId) (j : ℕ) (d : NodeId) → AreRising from n xs → j < length xs → (slice_index_or xs j d).0 < n
+rising-at from n [] j d h lt = absurd (omega (arith, lt))
+rising-at from n (x ∷ xs) zero d h lt = h.1
+rising-at from n (x ∷ xs) (suc j) d h lt = rising-at (suc x.0) n xs j d h.2 (omega (arith, lt))
+
+-- a faulty node is one of the nodes
+pub twin-below : (s : Setup) (good : IsGoodSetup s) (faulty : List NodeId) (core j : ℕ) (d : NodeId) → faulty ≡ s.faulty → core < cores_of s → s.n ≤ core → j ≡ core - s.n →
+    (slice_index_or faulty j d).0 < s.n
+twin-below s good faulty core j d e lt le is =
+    let far : j < length s.faulty = omega (arith, lt, le, is) in
+    subst (λ (xs : List NodeId). (slice_index_or xs j d).0 < s.n) (sym e) (rising-at 0 s.n s.faulty j d good.rising_faulty far)
+
+at-end : {A : Type 0} (xs : List A) (x g : A) (i : ℕ) → slice_get (xs ++ x ∷ []) i ≡ Some g → (slice_get xs i ≡ Some g) ⊎ ((i ≡ length xs) × (g ≡ x))
+at-end [] x g zero e = inr (refl, cc)
+at-end [] x g (suc i) e = absurd cc
+at-end (y ∷ ys) x g zero e = inl e
+at-end (y ∷ ys) x g (suc i) e = elim (at-end ys x g i e) [
+  | inl h ↦ inl h
+  | inr h ↦ inr (ap suc h.0, h.1)
+]
+
+module _ {M Msg : Type 0} (m : Module Msg) (stands : M → Params → ℕ → List (Item Msg) → Type 0) where
+  pub fresh : (s : Setup) (c : ℕ) (me : NodeId) (k : KeyState) (g : NodeState M Msg) → Stands m stands g (record { past = (idle {Msg = Msg}).past; waiting = []; flight = []; early = []; leaf = k.used }) →
+      k.used ≡ 0 → g.parts.setup ≡ s → g.parts.me ≡ me → me.0 ≡ node_of s c → IsFresh m stands s c g
+  fresh s c me k g st e es em is = record {
+    stands_for = subst (λ (leaf : ℕ). Stands m stands g (record { past = (idle {Msg = Msg}).past; waiting = []; flight = []; early = []; leaf = leaf })) e st;
+    setup = es;
+    place = ap (λ (z : NodeId). z.0) em ∙ is;
+  }
+
+  pub fresh-more : (s : Setup) (n : ℕ) (xs : List (NodeState M Msg)) (x : NodeState M Msg) → AreFresh m stands s n xs → IsFresh m stands s n x → AreFresh m stands s (n + 1) (xs ++ x ∷ [])
+  fresh-more s n xs x h f = record {
+    count = length-append xs (x ∷ []) ∙ ap (λ k. k + 1) h.count;
+    each = λ i g e. elim (at-end xs x g i e) [
+      | inl t ↦ h.each i g t
+      | inr t ↦ subst (λ (k : ℕ). IsFresh m stands s k g) (sym (t.0 ∙ h.count)) (subst (λ (z : NodeState M Msg). IsFresh m stands s n z) (sym t.1) f)
+    ];
+  }
+
+  pub fresh-running : (s t : Setup) (nodes : List (NodeState M Msg)) (net : Network) (signed : List (List ℕ)) (hashed : List (List ℕ × List ℕ)) (cores : ℕ) → IsSetupOf m s → t ≡ s →
+      cores ≡ cores_of s → AreFresh m stands s (cores_of s) nodes → net ≡ empty_network cores →
+      IsRunning m (record { setup = t; nodes = nodes; network = net; signed = signed; hashed = hashed })
+  fresh-running s t nodes net signed hashed cores good e ec h en =
+      let here : net ≡ empty_network (cores_of s) = en ∙ ap (λ (k : ℕ). empty_network k) ec in
+      let P : Setup → Type 0 = λ u. IsRunning m (record { setup = u; nodes = nodes; network = net; signed = signed; hashed = hashed }) in
+      subst P (sym e) (record {
+        good = good;
+        count = h.count;
+        network = record {
+          held = ap (λ (u : Network). length u.held) here ∙ length-replicate (cores_of s) false;
+          packets = subst (λ (u : Network). AreForCores (cores_of s) u.packets) (sym here) tt;
+        };
+        setups = λ i g at. (h.each i g at).setup;
+        places = λ i g at. (h.each i g at).place;
+      })
+
+  -- fresh cores with no packets, and books with the empty string alone, stand for the start of a run
+  pub fresh-runs : (s t : Setup) (nodes : List (NodeState M Msg)) (net : Network) (signed : List (List ℕ)) (hashed : List (List ℕ × List ℕ)) (cores : ℕ) → cores ≡ cores_of s →
+      AreFresh m stands s (cores_of s) nodes → net ≡ empty_network cores → AreSigned signed [] → AreHashed hashed ([] ∷ []) →
+      Runs m stands (record { setup = t; nodes = nodes; network = net; signed = signed; hashed = hashed }) (begin_held s)
+  fresh-runs s t nodes net signed hashed cores ec h e es eh = record {
+    cores = λ i g at. (h.each i g at).stands_for;
+    network = e ∙ ap (λ (k : ℕ). empty_network k) ec;
+    signed = es;
+    hashed = eh;
+  }

@@ -1,0 +1,9 @@
+use Rattle.std.proofs.Common.{◌≡◌, List, None, take}
+use Rattle.iss_model.specs.Cluster.{Signed}
+use Rattle.iss_model.specs.Concrete.{rules_of}
+use Rattle.iss_model.specs.Run.{first_forged}
+use Rattle.iss_world.specs.Books.{AreSigned}
+use Rattle.iss_world.proofs.claims.Claims.first_forged.Given as goal
+
+abbrev pub invariant-loop-claim : goal.invariant-loop-claim
+invariant-loop-claim l = (book : List Signed) → AreSigned l.self book → first_forged l.setup (rules_of l.setup) book (take l.claim-index l.claims) ≡ None

@@ -1,0 +1,10 @@
+use Rattle.std.proofs.Common.{subst, sym, List, ◌+◌}
+use Rattle.iss_node.specs.State.{NodeState}
+use Rattle.iss_world.specs.Stands.{AreFresh}
+use Rattle.iss_world.proofs.CoreLemmas.{fresh-more}
+use Rattle.iss_world.proofs.cores.start_cores.Goals as goal
+
+pub loop-core-preserved : goal.loop-core-preserved
+loop-core-preserved g c =
+    subst (λ (xs : List (NodeState g.row.M.Denot g.row.M-Msg.Denot)). AreFresh g.M.Sequenced.meaning g.M.Sequenced.stands c.args.setup.now (c.loop-core.core + 1) xs) (sym c.in_ok-push.ensures.items)
+    (fresh-more g.M.Sequenced.meaning g.M.Sequenced.stands c.args.setup.now c.loop-core.core c.loop-core.nodes.items c.in_ok-start_core.field-0 c.loop-core.invariant c.in_ok-start_core.ensures)

@@ -1,0 +1,7 @@
+use Rattle.iss_world.proofs.WorldLemmas.{shown-at}
+use Rattle.iss_world.proofs.world.World.log.Goals as goal
+
+pub returns : goal.returns
+returns g c =
+    rw (← c.self.view_is)
+    (λ p k. c.log.ensures p.held (shown-at g.M.Sequenced.meaning g.M.Sequenced.stands (record { running = c.self.inside.running; ended = c.self.inside.ended; stale = c.self.inside.stale }) p k))

@@ -1,0 +1,204 @@
+//! The book of what correct nodes sent as signed of their own, and what is tested against it.
+ghost use Rattle.std.specs.Prelude.{◌≡◌, ◌==◌, ◌∷◌, ◌++◌, [], List, IfOk, OnOk, Some, nat_eq, refl};
+ghost use Rattle.std.specs.List.{list_any};
+ghost use Rattle.std.specs.Cmp.Lexicographic.{pointwise, slice_cmp, nat_list_eq_equiv, nat_list_cmp_total, texts_ties, texts_po};
+ghost use Rattle.std.specs.Cmp.{partial_equiv_from_equiv};
+ghost use Rattle.std.specs.Ordering.{nat_cmp};
+ghost use Rattle.iss_model.specs.Cluster.{Signed};
+ghost use Rattle.iss_model.specs.Concrete.{keys_of, rules_of};
+ghost use Rattle.iss_model.specs.Run.{as_signed, booked, first_forged, is_forged};
+ghost use Rattle.iss_sb.specs.Evidence.{is_correct};
+ghost use Rattle.iss_world.specs.Books.{AreSigned, is_booked};
+
+use crate::ends::copy_of;
+use iss_keys::Directory;
+use iss_request::{NoMemory, NodeId, Setup};
+use iss_sb::Claim;
+use std::alloc::Global;
+use std::cmp::Ordering;
+use std::collections::BTreeSet;
+use std::marker::Model;
+
+/// A node's number, and behind it a statement that it signed.
+#[derive(Drop)]
+pub struct Entry {
+    bytes: Vec<u8>,
+}
+
+impl Model for Entry {
+    ghost use Rattle.std.specs.Prelude.{ℕ, List};
+
+    ghost Value = { List ℕ };
+
+    ghost view = { λ e. e.bytes.items };
+}
+
+impl Entry {
+    fn of(alloc: Global, by: NodeId, statement: &[u8]) -> Result<Entry, NoMemory>
+        ensures { IfOk result (λ e. e ≡ by.0 ∷ statement.now) }
+    {
+        let mut bytes = Vec::new(alloc);
+        bytes.push(by.0)?;
+        bytes.extend_from_slice(statement)?;
+        Ok(Entry { bytes })
+    }
+}
+
+impl PartialEq for Entry {
+    ghost eq = { λ x y. pointwise nat_eq x y };
+
+    ghost laws = { partial_equiv_from_equiv nat_list_eq_equiv };
+
+    fn eq(&self, other: &Self) -> bool {
+        self.bytes.as_slice() == other.bytes.as_slice()
+    }
+}
+
+impl Eq for Entry {
+    ghost laws = { nat_list_eq_equiv };
+}
+
+impl PartialOrd for Entry {
+    ghost partial_cmp = { λ x y. Some (slice_cmp nat_cmp x y) };
+
+    ghost laws = { texts_po };
+
+    fn partial_cmp(&self, other: &Self) -> Option<Ordering> {
+        Some(self.cmp(other))
+    }
+}
+
+impl Ord for Entry {
+    ghost cmp = { λ x y. slice_cmp nat_cmp x y };
+
+    ghost total = { nat_list_cmp_total };
+
+    ghost matches_partial_cmp = { λ x y. refl };
+
+    ghost matches_eq = { λ x y. texts_ties x y };
+
+    fn cmp(&self, other: &Self) -> Ordering {
+        self.bytes.as_slice().cmp(other.bytes.as_slice())
+    }
+}
+
+/// The claims that correct nodes sent as their own, each once.
+#[derive(Drop)]
+pub struct Claims {
+    all: BTreeSet<Entry>,
+}
+
+impl Model for Claims {
+    ghost use Rattle.std.specs.Prelude.{ℕ, List};
+
+    ghost Value = { List (List ℕ) };
+
+    ghost view = { λ v. v.all.keys };
+}
+
+impl Claims {
+    /// None was sent.
+    pub fn new(alloc: Global) -> Claims
+        ensures { AreSigned result [] }
+    {
+        Claims {
+            all: BTreeSet::new(alloc),
+        }
+    }
+
+    // Whether a claim is of the node that it names, which sent it.
+    fn has(&self, alloc: Global, claim: &Claim) -> Result<bool, NoMemory>
+        ensures { IfOk result (λ has. has ≡ is_booked self.now claim.now.by.0 claim.now.statement) }
+    {
+        let entry = Entry::of(alloc, claim.by, claim.statement.as_slice())?;
+        Ok(self.all.contains(&entry))
+    }
+
+    // One claim more.
+    fn add(&mut self, alloc: Global, claim: &Claim) -> Result<(), NoMemory>
+        ensures { OnOk result ((book : List Signed) → AreSigned self.old book →
+            AreSigned self.new (record { by = claim.now.by.0; statement = claim.now.statement } ∷ book)) }
+    {
+        let entry = Entry::of(alloc, claim.by, claim.statement.as_slice())?;
+        self.all.insert(entry)?;
+        Ok(())
+    }
+
+    /// Books the claims of a step.
+    pub fn book(&mut self, alloc: Global, own: &[Claim]) -> Result<(), NoMemory>
+        ensures { OnOk result ((book : List Signed) → AreSigned self.old book → AreSigned self.new (as_signed own.now ++ book)) }
+    {
+        for claim in own {
+            self.add(alloc, claim)?;
+        }
+        Ok(())
+    }
+
+    // Whether a claim is forged: it is not booked, of a correct node, and verifies.
+    fn is_forged(
+        &self,
+        alloc: Global,
+        setup: &Setup,
+        directory: &Directory,
+        claim: &Claim,
+    ) -> Result<bool, NoMemory>
+        requires { directory.now ≡ keys_of setup.now }
+        ensures { IfOk result (λ forged. (book : List Signed) → AreSigned self.now book →
+            forged ≡ is_forged setup.now (rules_of setup.now) book claim.now) }
+    {
+        if self.has(alloc, claim)? || !is_correct(setup, claim.by.0 as u32) {
+            return Ok(false);
+        }
+        Ok(directory.verify_node(claim.by.0, claim.statement.as_slice(), claim.sig.as_slice()))
+    }
+
+    /// The first claim that is forged: it is of a correct node, verifies, and is not booked.
+    pub fn first_forged(
+        &self,
+        alloc: Global,
+        setup: &Setup,
+        directory: &Directory,
+        claims: &[Claim],
+    ) -> Result<Option<Claim>, NoMemory>
+        requires { directory.now ≡ keys_of setup.now }
+        ensures { IfOk result (λ forged. (book : List Signed) → AreSigned self.now book →
+            forged ≡ first_forged setup.now (rules_of setup.now) book claims.now) }
+    {
+        for claim in claims {
+            if self.is_forged(alloc, setup, directory, claim)? {
+                return Ok(Some(copy_of(claim)?));
+            }
+        }
+        Ok(None)
+    }
+}
+
+/// Books the claims of a core's step, if its node is correct.
+pub fn book_own(
+    alloc: Global,
+    setup: &Setup,
+    core: u32,
+    own: &[Claim],
+    signed: &mut Claims,
+) -> Result<(), NoMemory>
+    ensures { OnOk result ((book : List Signed) → AreSigned signed.old book → AreSigned signed.new (booked setup.now core own.now ++ book)) }
+{
+    if !is_correct(setup, core) {
+        return Ok(());
+    }
+    signed.book(alloc, own)
+}
+
+// Whether a node is one of these.
+fn is_among(nodes: &[NodeId], node: u32) -> bool
+    ensures { result ≡ list_any (λ k. node == k.0) nodes.now }
+{
+    nodes.iter().any(|other| node == other.0 as u32)
+}
+
+/// Whether a node is one that is not faulty.
+pub fn is_correct(setup: &Setup, node: u32) -> bool
+    ensures { result ≡ is_correct setup.now node }
+{
+    node < setup.n && !is_among(setup.faulty.as_slice(), node)
+}

@@ -1,0 +1,79 @@
+//! Which node each core runs, and cores at their start.
+ghost use Rattle.std.specs.Prelude.{◌≡◌, ◌<◌, ◌≤◌, ◌+◌, length, IfOk};
+ghost use Rattle.iss_model.specs.Concrete.{keys_of};
+ghost use Rattle.iss_model.specs.Run.{cores_of, node_of};
+ghost use Rattle.iss_model.specs.Runs.{IsSetupOf};
+ghost use Rattle.iss_request.specs.Setup.{IsGoodSetup};
+ghost use Rattle.iss_world.specs.Stands.{AreFresh, IsFresh};
+
+use iss_keys::SharedDirectory;
+use iss_node::Node;
+use iss_request::{NoMemory, NodeId, Setup};
+use iss_sb::Sequenced;
+use std::alloc::Global;
+
+/// How many cores there are: one for each node, and a second one for each that is faulty.
+pub fn cores_of(setup: &Setup) -> u32
+    requires { IsGoodSetup setup.now }
+    ensures { result ≡ cores_of setup.now }
+{
+    setup.n + setup.faulty.as_slice().len() as u32
+}
+
+/// The node that a core runs.
+pub fn node_of(setup: &Setup, core: u32) -> NodeId
+    requires good { IsGoodSetup setup.now }
+    requires core { core < cores_of setup.now }
+    ensures is { result.0 ≡ node_of setup.now core }
+    ensures below { result.0 < setup.now.n }
+{
+    if core < setup.n {
+        return NodeId(core as u8);
+    }
+    setup.faulty.as_slice()[(core - setup.n) as usize]
+}
+
+/// The keys of all nodes and clients. No tree is made before it is needed.
+pub fn directory_of(alloc: Global, setup: &Setup) -> Result<SharedDirectory, NoMemory>
+    requires { IsGoodSetup setup.now }
+    ensures { IfOk result (λ directory. directory ≡ keys_of setup.now) }
+{
+    match SharedDirectory::make(alloc, setup.n, setup.clients, setup.keys as u8) {
+        Ok(directory) => Ok(directory),
+        Err(_) => Err(NoMemory),
+    }
+}
+
+/// The cores of a cluster, ascending, each of which has taken nothing. All share the directory.
+pub fn start_cores<M: Sequenced>(
+    alloc: Global,
+    setup: &Setup,
+    directory: &SharedDirectory,
+) -> Result<Vec<Node<M>>, NoMemory>
+    requires good { IsSetupOf M.meaning setup.now }
+    requires directory { directory.now ≡ keys_of setup.now }
+    ensures { IfOk result (λ nodes. AreFresh M.meaning M.stands setup.now (cores_of setup.now) nodes.items) }
+{
+    let mut nodes = Vec::new(alloc);
+    for core in 0..cores_of(setup) {
+        nodes.push(start_core(alloc, setup, directory, core)?)?;
+    }
+    Ok(nodes)
+}
+
+// A core that has taken nothing, with the keys of its node from the directory.
+fn start_core<M: Sequenced>(
+    alloc: Global,
+    setup: &Setup,
+    directory: &SharedDirectory,
+    core: u32,
+) -> Result<Node<M>, NoMemory>
+    requires good { IsSetupOf M.meaning setup.now }
+    requires directory { directory.now ≡ keys_of setup.now }
+    requires core { core < cores_of setup.now }
+    ensures { IfOk result (λ node. IsFresh M.meaning M.stands setup.now core node) }
+{
+    let node = node_of(setup, core);
+    let keys = directory.directory().keys_of_node(alloc, node.0);
+    Node::start(alloc, setup, directory, node, keys)
+}

@@ -1,0 +1,172 @@
+//! One event at a core: what it claims is tested, the core takes it, and what it made is tested, booked and posted.
+ghost use Rattle.std.specs.Prelude.{◌≡◌, ◌<◌, ◌≤◌, ℕ, IfOk, List, None, Some, length, option_map, slice_get};
+ghost use Rattle.iss_base.specs.Lists.{over};
+ghost use Rattle.iss_model.specs.Cluster.{Signed};
+ghost use Rattle.iss_model.specs.Concrete.{keys_of, rules_of};
+ghost use Rattle.iss_model.specs.Formats.{formats_of};
+ghost use Rattle.iss_model.specs.Node.{Core, Taken, Turn, step};
+ghost use Rattle.iss_model.specs.Run.{Held, at_core, claims_at, cores_of, node_of};
+ghost use Rattle.iss_node.specs.State.{NodeState, Stands};
+ghost use Rattle.iss_node.specs.Steps.{IsAnswer, IsMade};
+ghost use Rattle.iss_sb.specs.Calls.{AreToNodes};
+ghost use Rattle.iss_world.specs.Books.{AreHashed, AreSigned};
+ghost use Rattle.iss_world.specs.Stands.{HasChanged, IsStanding, Runs, end_of};
+ghost use Rattle.iss_world.specs.Steps.{IsBehind, ends_by, stepped_to};
+
+use crate::claims::{Claims, book_own};
+use crate::ends::{Change, End};
+use crate::posting::post_all;
+use crate::running::Running;
+use crate::strings::Strings;
+use iss_keys::Directory;
+use iss_model::NodeEvent;
+use iss_node::{Answer, Node, Outcome};
+use iss_request::{Epoch, NoMemory, Row, Setup};
+use iss_sb::{Claim, Sequenced};
+use std::alloc::Global;
+
+// What an event claims that nodes signed, as its core reads it.
+fn claims_at<M: Sequenced>(
+    alloc: Global,
+    node: &Node<M>,
+    event: &NodeEvent,
+) -> Result<Row<Claim>, NoMemory>
+    ensures { IfOk result (λ claims. (c : Core M.Msg) → Stands M.meaning M.stands node.now c →
+        claims ≡ claims_at (formats_of node.now.parts.setup M.meaning) (rules_of node.now.parts.setup) M.meaning node.now.parts.me.0 c event.now) }
+{
+    match event {
+        NodeEvent::Packet(bytes) => node.claims_of(alloc, bytes.as_slice()),
+        NodeEvent::Propose => Ok(Row::new(alloc)),
+        NodeEvent::Timeout(_) => Ok(Row::new(alloc)),
+    }
+}
+
+// A core takes an event. The number of slots of its log and its epoch from before it are told too.
+fn take_at<M: Sequenced>(
+    alloc: Global,
+    node: &mut Node<M>,
+    event: NodeEvent,
+) -> (Answer, usize, Epoch)
+    ensures answer { (c : Core M.Msg) → Stands M.meaning M.stands node.old c →
+        IsAnswer M.meaning M.stands c
+        (step (formats_of node.old.parts.setup M.meaning) (rules_of node.old.parts.setup) M.meaning node.old.parts.me.0 c event) node.new result.0 }
+    ensures slots { result.1 ≡ length node.old.parts.log.entries }
+    ensures epoch { result.2.0 ≡ node.old.parts.epoch }
+    ensures same { (node.new.parts.setup ≡ node.old.parts.setup) × (node.new.parts.me ≡ node.old.parts.me) }
+{
+    let slots = node.log().entries().len();
+    let epoch = node.epoch();
+    (node.take(alloc, event), slots, epoch)
+}
+
+// Why a step ends the run, if it does: by a claim of what had come early, or by a string. Where it does not, its strings are
+// booked.
+fn ends(
+    alloc: Global,
+    setup: &Setup,
+    directory: &Directory,
+    signed: &Claims,
+    hashed: &mut Strings,
+    outcome: &Outcome,
+) -> Result<Option<End>, NoMemory>
+    requires { directory.now ≡ keys_of setup.now }
+    ensures told { IfOk result (λ end. (claims : List Signed) (strings : List (List ℕ)) → AreSigned signed.now claims → AreHashed hashed.old strings →
+        option_map end_of end ≡ ends_by setup.now claims strings outcome.now.early outcome.now.hashed) }
+    ensures booked { IfOk result (λ end. (strings : List (List ℕ)) → AreHashed hashed.old strings → end ≡ None →
+        AreHashed hashed.new (over outcome.now.hashed strings)) }
+{
+    let early = outcome.early.as_slice();
+    match signed.first_forged(alloc, setup, directory, early)? {
+        Some(claim) => Ok(Some(End::Forged(claim))),
+        None => hashed.book(outcome.hashed.as_slice()),
+    }
+}
+
+impl<M: Sequenced> Running<M> {
+    // A core takes an event, unless what it claims is forged.
+    pub(crate) fn take(
+        &mut self,
+        alloc: Global,
+        core: u32,
+        event: NodeEvent,
+    ) -> Result<Change, NoMemory>
+        requires core { core < cores_of self.old.setup }
+        requires standing { IsStanding M.meaning M.stands self.old }
+        ensures happened { IfOk result (λ r. (h : Held M.Msg) → Runs M.meaning M.stands self.old h →
+            HasChanged M.meaning M.stands self.new
+            (at_core self.old.setup (formats_of self.old.setup M.meaning) (rules_of self.old.setup) M.meaning h core event) r) }
+        ensures same { self.new.setup ≡ self.old.setup }
+    {
+        let claims = claims_at(alloc, &self.nodes[core as usize], &event)?;
+        let directory = self.directory.directory();
+        let forged = self
+            .signed
+            .first_forged(alloc, &self.setup, directory, claims.as_slice())?;
+        match forged {
+            Some(claim) => Ok(Change::Ended(End::Forged(claim))),
+            None => self.step(alloc, core, event),
+        }
+    }
+
+    // A core takes an event whose claims were tested.
+    fn step(&mut self, alloc: Global, core: u32, event: NodeEvent) -> Result<Change, NoMemory>
+        requires core { core < cores_of self.old.setup }
+        requires standing { IsStanding M.meaning M.stands self.old }
+        ensures happened { IfOk result (λ r. (h : Held M.Msg) → Runs M.meaning M.stands self.old h →
+            HasChanged M.meaning M.stands self.new (stepped_to self.old.setup h core
+            (step (formats_of self.old.setup M.meaning) (rules_of self.old.setup) M.meaning (node_of self.old.setup core) (h.net.cores core) event)) r) }
+        ensures same { self.new.setup ≡ self.old.setup }
+    {
+        let (answer, slots, epoch) = take_at(alloc, &mut self.nodes[core as usize], event);
+        match answer {
+            Answer::Taken(outcome) => self.taken(alloc, core, &outcome, slots, epoch),
+            Answer::Dropped(why) => Ok(Change::Lost(why)),
+            Answer::NoMemory | Answer::Stale => Err(NoMemory),
+        }
+    }
+
+    // A core has taken a step, which ends the run or is done.
+    fn taken(
+        &mut self,
+        alloc: Global,
+        core: u32,
+        outcome: &Outcome,
+        slots: usize,
+        epoch: Epoch,
+    ) -> Result<Change, NoMemory>
+        requires core { core < cores_of self.old.setup }
+        requires addressed { AreToNodes self.old.setup.n outcome.now.sends }
+        requires slots { (g : NodeState M M.Msg) → slice_get self.old.nodes core ≡ Some g → slots ≤ length g.parts.log.entries }
+        requires epoch { (g : NodeState M M.Msg) → slice_get self.old.nodes core ≡ Some g → epoch.0 ≤ g.parts.epoch }
+        ensures happened { IfOk result (λ r. (h : Held M.Msg) (t : Turn M.Msg) → IsBehind M.meaning M.stands self.old h core t slots epoch.0 → IsMade t outcome.now →
+            HasChanged M.meaning M.stands self.new (stepped_to self.old.setup h core (Taken t)) r) }
+        ensures same { self.new.setup ≡ self.old.setup }
+    {
+        let directory = self.directory.directory();
+        let ended = ends(
+            alloc,
+            &self.setup,
+            directory,
+            &self.signed,
+            &mut self.hashed,
+            outcome,
+        )?;
+        match ended {
+            Some(end) => {
+                self.nodes[core as usize].retreat(slots, epoch);
+                Ok(Change::Ended(end))
+            }
+            None => {
+                let own = outcome.own.as_slice();
+                book_own(alloc, &self.setup, core, own, &mut self.signed)?;
+                post_all(
+                    &mut self.network,
+                    &self.setup,
+                    core,
+                    outcome.sends.as_slice(),
+                )?;
+                Ok(Change::Done)
+            }
+        }
+    }
+}

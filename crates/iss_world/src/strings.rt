@@ -1,0 +1,96 @@
+//! The book of what was hashed, which shows different strings of one digest.
+ghost use Rattle.std.specs.Prelude.{◌≡◌, ◌∷◌, [], ℕ, List, None, IfOk, option_map};
+ghost use Rattle.iss_base.specs.Lists.{over, same_bytes};
+ghost use Rattle.iss_model.specs.Run.{collision_in, collision_with};
+ghost use Rattle.iss_request.specs.Digest.{digest};
+ghost use Rattle.iss_world.specs.Books.{AreHashed, difference};
+ghost use Rattle.iss_world.specs.Stands.{end_of};
+
+use crate::ends::End;
+use iss_request::{Bytes, NoMemory};
+use sha2::{Digest, Sha256};
+use std::alloc::Global;
+use std::collections::BTreeMap;
+use std::marker::Model;
+
+/// The strings that were hashed, each by its digest.
+#[derive(Drop)]
+pub struct Strings {
+    all: BTreeMap<[u8; 32], Bytes>,
+}
+
+impl Model for Strings {
+    ghost use Rattle.std.specs.Prelude.{ℕ, List};
+
+    ghost Value = { List (List ℕ × List ℕ) };
+
+    ghost view = { λ v. v.all.entries };
+}
+
+// The digest of a string. The empty one has 32 zero bytes.
+fn digest(string: &[u8]) -> [u8; 32]
+    ensures { result ≡ digest string.now }
+{
+    if string.is_empty() {
+        return [0; 32];
+    }
+    Sha256::digest(string)
+}
+
+impl Strings {
+    /// The empty string alone.
+    pub fn new(alloc: Global) -> Result<Strings, NoMemory>
+        ensures { IfOk result (λ v. AreHashed v ([] ∷ [])) }
+    {
+        let mut all = BTreeMap::new(alloc);
+        all.insert([0; 32], Bytes::new(alloc))?;
+        Ok(Strings { all })
+    }
+
+    // One string more, unless a different one of its digest is there.
+    fn add(&mut self, string: &Bytes) -> Result<Option<End>, NoMemory>
+        ensures told { IfOk result (λ end. (book : List (List ℕ)) → AreHashed self.old book → option_map end_of end ≡ collision_with string.now book) }
+        ensures booked { IfOk result (λ end. (book : List (List ℕ)) → AreHashed self.old book → end ≡ None → AreHashed self.new (string.now ∷ book)) }
+    {
+        let digest = digest(string.as_slice());
+        if let Some(first) = self.all.get(&digest) {
+            return collision(first, string);
+        }
+        self.all.insert(digest, string.copy()?)?;
+        Ok(None)
+    }
+
+    /// Books the strings of a step, one after the other, up to one that differs from a string of its digest.
+    pub fn book(&mut self, strings: &[Bytes]) -> Result<Option<End>, NoMemory>
+        ensures told { IfOk result (λ end. (book : List (List ℕ)) → AreHashed self.old book → option_map end_of end ≡ collision_in strings.now book) }
+        ensures booked { IfOk result (λ end. (book : List (List ℕ)) → AreHashed self.old book → end ≡ None → AreHashed self.new (over strings.now book)) }
+    {
+        for string in strings {
+            let end = self.add(string)?;
+            if end.is_some() {
+                return Ok(end);
+            }
+        }
+        Ok(None)
+    }
+}
+
+// Whether two strings are equal.
+fn same(a: &[u8], b: &[u8]) -> bool
+    ensures { result ≡ same_bytes a.now b.now }
+{
+    a == b
+}
+
+// The collision of two strings of one digest, if they differ.
+fn collision(first: &Bytes, second: &Bytes) -> Result<Option<End>, NoMemory>
+    ensures { IfOk result (λ end. option_map end_of end ≡ difference first.now second.now) }
+{
+    if same(first.as_slice(), second.as_slice()) {
+        return Ok(None);
+    }
+    Ok(Some(End::Collision {
+        first: first.copy()?,
+        second: second.copy()?,
+    }))
+}
