@@ -80,23 +80,64 @@ fn message_of(alloc: Global, bytes: &Bytes) -> Result<Message, Fail> {
     Ok(HotStuff::decode(alloc, &mut fields)?)
 }
 
-// Whether each signature that a packet's message claims verifies.
-fn is_signed(alloc: Global, p: &Params, packet: &Packet) -> Result<bool, Fail>
+// The message that these bytes are, if they are one.
+fn whole(alloc: Global, bytes: &[u8]) -> Option<Message> {
+    let mut fields = Fields::over(1, bytes);
+    let Ok(msg) = HotStuff::decode(alloc, &mut fields) else {
+        return None;
+    };
+    if !fields.is_done() {
+        return None;
+    }
+    Some(msg)
+}
+
+// Whether each signature that a message claims verifies.
+fn is_signed(alloc: Global, p: &Params, from: u8, msg: &Message) -> Result<bool, Fail>
     requires { IsGoodParams hotstuff p.now }
 {
-    if packet.from as u32 >= p.setup.n {
+    if from as u32 >= p.setup.n {
         return Ok(false);
     }
-    let msg = message_of(alloc, &packet.bytes)?;
-    let claims = HotStuff::claims(alloc, p, NodeId(packet.from), &msg)?;
+    let claims = HotStuff::claims(alloc, p, NodeId(from), msg)?;
     let directory = p.directory.directory();
-    let mut all = true;
     for claim in claims.as_slice() {
-        let sig = claim.sig.as_slice();
-        all = all && directory.verify_node(claim.by.0, claim.statement.as_slice(), sig);
+        let statement = claim.statement.as_slice();
+        if !directory.verify_node(claim.by.0, statement, claim.sig.as_slice()) {
+            return Ok(false);
+        }
     }
-    Ok(all)
+    Ok(true)
 }
+
+// The same bytes, but for a bit of the one at this place.
+fn with_a_bit_changed(alloc: Global, bytes: &[u8], place: usize) -> Result<Bytes, Fail> {
+    let mut changed = Vec::new(alloc);
+    for at in 0..bytes.len() {
+        let bit = if at == place { 1u8 } else { 0u8 };
+        changed.push(bytes[at] ^ bit)?;
+    }
+    Ok(Bytes::of(changed))
+}
+
+// Whether the bytes of a packet, with a bit changed at this place, are a message whose claims all verify.
+fn passes_damaged(alloc: Global, p: &Params, packet: &Packet, place: usize) -> Result<bool, Fail>
+    requires { IsGoodParams hotstuff p.now }
+{
+    let bytes = with_a_bit_changed(alloc, packet.bytes.as_slice(), place)?;
+    match whole(alloc, bytes.as_slice()) {
+        Some(msg) => is_signed(alloc, p, packet.from, &msg),
+        None => Ok(false),
+    }
+}
+
+// Where a bit is changed: in each field before the votes' signatures, and in the parts of the last signature, by the distance
+// from its end.
+const FRONT: [usize; 24] = [
+    0, 1, 2, 3, 4, 5, 6, 7, 8, 9, 10, 11, 12, 13, 14, 20, 40, 43, 44, 45, 46, 47, 51, 60,
+];
+
+const BACK: [usize; 5] = [2277, 2276, 2273, 2272, 1];
 
 impl Cluster {
     /// The nodes of an instance, which took nothing.
@@ -220,7 +261,37 @@ impl Cluster {
     {
         let mut count = 0usize;
         for packet in self.said.iter() {
-            if is_signed(alloc, p, packet)? {
+            let msg = message_of(alloc, &packet.bytes)?;
+            if is_signed(alloc, p, packet.from, &msg)? {
+                count = count.saturating_add(1);
+            }
+        }
+        Ok(count)
+    }
+
+    /// How many bits of the next message may be changed, and it is still one whose claims all verify. It has to be such a one of
+    /// this kind as it is.
+    pub fn unseen(&self, alloc: Global, p: &Params, kind: u8) -> Result<usize, Fail>
+        requires { IsGoodParams hotstuff p.now }
+    {
+        let Some(packet) = self.said.front() else {
+            return Ok(1);
+        };
+        let msg = message_of(alloc, &packet.bytes)?;
+        if packet.bytes.as_slice().first() != Some(&kind)
+            || !is_signed(alloc, p, packet.from, &msg)?
+        {
+            return Ok(1);
+        }
+        let mut count = 0usize;
+        for place in FRONT {
+            if passes_damaged(alloc, p, packet, place)? {
+                count = count.saturating_add(1);
+            }
+        }
+        for back in BACK {
+            let place = packet.bytes.len().saturating_sub(back);
+            if passes_damaged(alloc, p, packet, place)? {
                 count = count.saturating_add(1);
             }
         }

@@ -1,4 +1,6 @@
 //! Runs through the calls of the trait: each message goes by way of its bytes.
+ghost use Rattle.std.specs.Prelude.{◌≤◌};
+
 use crate::cluster::Cluster;
 use crate::instances::withstands;
 use iss_sb::broadcast;
@@ -38,10 +40,12 @@ fn slots_follow_each_other(rt: HostRuntime) -> Result<(), Fail> {
     Ok(())
 }
 
-// Slot 0 is cast among four nodes and so many messages are heard. What is said then is lost, the round ends, and so many
-// are heard of the next one.
-fn changed(alloc: Global, before: u32, later: u32) -> Result<Cluster, Fail> {
-    let p = withstands(alloc, 1)?;
+// Slot 0 is cast among nodes of which f may be faulty, and so many messages are heard. What is said then is lost, the round
+// ends, and so many are heard of the next one.
+fn changed(alloc: Global, f: u32, before: u32, later: u32) -> Result<Cluster, Fail>
+    requires { f ≤ 3 }
+{
+    let p = withstands(alloc, f)?;
     let mut cluster = Cluster::new(alloc, &p)?;
     cluster.cast(alloc, &p, 0)?;
     cluster.hear(alloc, &p, before)?;
@@ -54,7 +58,7 @@ fn changed(alloc: Global, before: u32, later: u32) -> Result<Cluster, Fail> {
 // The batch was decided, and the next round fills the slot behind it with nil.
 #[test]
 fn a_round_fills_what_is_open(rt: HostRuntime) -> Result<(), Fail> {
-    let cluster = changed(rt.alloc(), 28, 100)?;
+    let cluster = changed(rt.alloc(), 1, 28, 100)?;
     assert_eq!(rt; cluster.agree(1, &[(0, true), (4, false)]), 4);
     assert_eq!(rt; cluster.waiting(), 0);
     Ok(())
@@ -63,15 +67,24 @@ fn a_round_fills_what_is_open(rt: HostRuntime) -> Result<(), Fail> {
 // The batch has the first certificate alone when the round ends: the next leader proposes on it, and it is delivered.
 #[test]
 fn a_certificate_is_carried_over(rt: HostRuntime) -> Result<(), Fail> {
-    let cluster = changed(rt.alloc(), 12, 100)?;
+    let cluster = changed(rt.alloc(), 1, 12, 100)?;
     assert_eq!(rt; cluster.agree(1, &[(0, true), (4, false)]), 4);
+    Ok(())
+}
+
+// The same among seven nodes.
+#[test]
+fn seven_nodes_carry_a_certificate_over(rt: HostRuntime) -> Result<(), Fail> {
+    let cluster = changed(rt.alloc(), 2, 21, 200)?;
+    assert_eq!(rt; cluster.agree(1, &[(0, true), (4, false)]), 7);
+    assert_eq!(rt; cluster.waiting(), 0);
     Ok(())
 }
 
 // The batch was proposed and has no certificate when the round ends: its slot gets nil.
 #[test]
 fn a_proposal_alone_is_left_out(rt: HostRuntime) -> Result<(), Fail> {
-    let cluster = changed(rt.alloc(), 4, 32)?;
+    let cluster = changed(rt.alloc(), 1, 4, 32)?;
     assert_eq!(rt; cluster.agree(1, &[(0, false)]), 4);
     Ok(())
 }
