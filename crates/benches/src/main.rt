@@ -1,9 +1,11 @@
-//! What the parts cost. The first word names what is timed: `keys`, `network`, `journal FILE ENTRIES APPENDS`, `raft TIMES` or
-//! `schedule PAIRS TIMES`. With no words a small workload of each is run and what it makes is printed, the same on each machine.
+//! What the parts cost. The first word names what is timed: `keys`, `network`, `journal FILE ENTRIES APPENDS`, `raft TIMES`,
+//! `hotstuff TIMES` or `schedule PAIRS TIMES`. With no words a small workload of each is run and what it makes is printed, the same on each machine.
 #![tactic(auto)]
 
 mod digests;
 mod directories;
+mod hotstuff;
+mod hotstuff_costs;
 mod journal;
 mod keys;
 mod network;
@@ -26,7 +28,8 @@ fn count_all(rt: &HostRuntime) -> Result<(), Fail> {
     journal::count_all(rt)?;
     network::count_all(rt)?;
     schedule::count_all(rt)?;
-    raft_costs::count_all(rt)
+    raft_costs::count_all(rt)?;
+    hotstuff_costs::count_all(rt)
 }
 
 // Times what the words behind the program's name ask for.
@@ -43,6 +46,7 @@ fn time(rt: &HostRuntime, what: &str, words: &[String]) -> Result<(), Fail> {
                 number_at(words, 4)?,
             )
         }
+        "hotstuff" => hotstuff_costs::time_all(rt, number_at(words, 2)?),
         "raft" => raft_costs::time_all(rt, number_at(words, 2)?),
         "schedule" => schedule::time_all(rt, number_at(words, 2)?, number_at(words, 3)?),
         _ => Err("what is to be timed?")?,
