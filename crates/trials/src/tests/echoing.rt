@@ -196,14 +196,7 @@ pub fn message(
     body.put_bytes(said)?;
     body.put_bytes(sig)?;
     let body = body.into_bytes();
-    packet(
-        alloc,
-        1,
-        from,
-        place.epoch,
-        place.leader,
-        body.as_slice(),
-    )
+    packet(alloc, 1, from, place.epoch, place.leader, body.as_slice())
 }
 
 /// A client's request with three bytes, signed by the leaf of its number.

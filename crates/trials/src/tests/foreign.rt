@@ -6,6 +6,7 @@ use crate::tests::echoing::{
     world,
 };
 use crate::tests::played::Told;
+use iss_keys::Keys;
 use iss_model::Why;
 use iss_request::{Bytes, Epoch, Kind};
 use iss_world::World;
@@ -15,24 +16,28 @@ use std::process::Abort;
 use std::test::Fail;
 
 // A node's word at this place on the empty batch, with what its key signs of this statement by its last leaf.
-fn word(alloc: Global, from: u8, place: &Stated, signed: &Stated) -> Result<Bytes, Fail> {
+fn word(
+    alloc: Global,
+    keys: &Keys,
+    from: u8,
+    place: &Stated,
+    signed: &Stated,
+) -> Result<Bytes, Fail> {
     let value = batch(alloc, None)?;
-    let keys = key(alloc, 0x20, from)?;
-    let sig = signature(alloc, &keys, 15, signed, value.as_slice())?;
-    Ok(message(
-        alloc,
-        from,
-        place,
-        value.as_slice(),
-        sig.as_slice(),
-    )?)
+    let sig = signature(alloc, keys, 15, signed, value.as_slice())?;
+    Ok(message(alloc, from, place, value.as_slice(), sig.as_slice())?)
 }
 
 // A node's echo of the empty batch, likewise.
-fn echo(alloc: Global, from: u8, place: &Stated, signed: &Stated) -> Result<Bytes, Fail> {
+fn echo(
+    alloc: Global,
+    keys: &Keys,
+    from: u8,
+    place: &Stated,
+    signed: &Stated,
+) -> Result<Bytes, Fail> {
     let value = batch(alloc, None)?;
-    let keys = key(alloc, 0x20, from)?;
-    let sig = signature(alloc, &keys, 15, signed, value.as_slice())?;
+    let sig = signature(alloc, keys, 15, signed, value.as_slice())?;
     let digest = digest_of(value.as_slice());
     Ok(message(alloc, from, place, &digest, sig.as_slice())?)
 }
@@ -45,48 +50,59 @@ fn elsewhere(leader: u8, kind: u8) -> [Stated; 6] {
         Stated { epoch: 1, ..here },
         Stated { leader: 3, ..here },
         Stated { module: 3, ..here },
-        Stated { kind: 3 - kind, ..here },
+        Stated {
+            kind: 3 - kind,
+            ..here
+        },
         Stated { slot: 5, ..here },
     ]
 }
 
-// Node 2 takes these bytes in a new world, and answers so.
-fn goes(rt: &impl Abort, alloc: Global, packet: &Bytes, expected: Told) -> Result<(), Fail> {
-    let mut world = world(alloc)?;
-    assert_eq!(rt; take(alloc, &mut world, 2, packet.as_slice())?, expected);
+// Node 2 takes a node's word and its echo, each signed as something else, and lets none of them count.
+fn signed_elsewhere(
+    rt: &impl Abort,
+    alloc: Global,
+    world: &mut World<Echo>,
+    keys: &Keys,
+    node: u8,
+) -> Result<(), Fail>
+    requires kind { world.old.running.setup.kind ≡ Kind.Byzantine }
+    requires nodes { world.old.running.setup.n ≡ 4 }
+    ensures same { world.new.running.setup ≡ world.old.running.setup }
+{
+    let refused = Told::Lost(Why::BadClaim);
+    for other in elsewhere(node, SAY) {
+        let packet = word(alloc, keys, node, &stated(node, SAY), &other)?;
+        let told = take(alloc, world, 2, packet.as_slice())?;
+        assert_eq!(rt; told, refused, "a word of {node} with {other:?}");
+    }
+    for other in elsewhere(node, ECHO) {
+        let packet = echo(alloc, keys, node, &stated(node, ECHO), &other)?;
+        let told = take(alloc, world, 2, packet.as_slice())?;
+        assert_eq!(rt; told, refused, "an echo of {node} with {other:?}");
+    }
     Ok(())
 }
 
-// A word and an echo of a node are answered so where they are signed as what they are.
+// After these node 2 takes a node's echo, signed as what it is, and then its word, and answers so.
 fn signed_here(rt: &impl Abort, alloc: Global, node: u8, expected: Told) -> Result<(), Fail> {
-    let say = stated(node, SAY);
-    goes(rt, alloc, &word(alloc, node, &say, &say)?, expected)?;
-    let echoed = stated(node, ECHO);
-    goes(rt, alloc, &echo(alloc, node, &echoed, &echoed)?, expected)
-}
-
-// None of them verifies where it was signed as something else.
-fn signed_elsewhere(rt: &impl Abort, alloc: Global, node: u8) -> Result<(), Fail> {
-    let expected = Told::Lost(Why::BadClaim);
-    for other in elsewhere(node, SAY) {
-        let packet = word(alloc, node, &stated(node, SAY), &other)?;
-        goes(rt, alloc, &packet, expected)?;
-    }
-    for other in elsewhere(node, ECHO) {
-        let packet = echo(alloc, node, &stated(node, ECHO), &other)?;
-        goes(rt, alloc, &packet, expected)?;
-    }
+    let keys = key(alloc, 0x20, node)?;
+    let mut world = world(alloc)?;
+    signed_elsewhere(rt, alloc, &mut world, &keys, node)?;
+    let place = stated(node, ECHO);
+    let packet = echo(alloc, &keys, node, &place, &place)?;
+    assert_eq!(rt; take(alloc, &mut world, 2, packet.as_slice())?, expected);
+    let place = stated(node, SAY);
+    let packet = word(alloc, &keys, node, &place, &place)?;
+    assert_eq!(rt; take(alloc, &mut world, 2, packet.as_slice())?, expected);
     Ok(())
 }
 
 // What node 1 signs is forged, since it never sent it; node 0 may lie, and so its claims are no evidence.
 #[test]
 fn a_claim_is_of_what_was_signed(rt: HostRuntime) -> Result<(), Fail> {
-    let alloc = rt.alloc();
-    signed_elsewhere(&rt, alloc, 1)?;
-    signed_elsewhere(&rt, alloc, 0)?;
-    signed_here(&rt, alloc, 1, Told::Forged)?;
-    signed_here(&rt, alloc, 0, Told::Done)
+    signed_here(&rt, rt.alloc(), 1, Told::Forged)?;
+    signed_here(&rt, rt.alloc(), 0, Told::Done)
 }
 
 // No node answers for what another one signed: this is of node 0, which may lie, under the name of node 1.
@@ -98,7 +114,10 @@ fn a_claim_is_checked_under_the_key_of_whom_it_names(rt: HostRuntime) -> Result<
     let keys = key(alloc, 0x20, 0)?;
     let sig = signature(alloc, &keys, 0, &place, value.as_slice())?;
     let packet = message(alloc, 1, &place, value.as_slice(), sig.as_slice())?;
-    goes(&rt, alloc, &packet, Told::Lost(Why::BadClaim))
+    let mut world = world(alloc)?;
+    let told = take(alloc, &mut world, 2, packet.as_slice())?;
+    assert_eq!(rt; told, Told::Lost(Why::BadClaim));
+    Ok(())
 }
 
 // What was truly sent in one instance is no claim of another, nor what was said one that was echoed; as it was sent it may come again.
@@ -167,12 +186,14 @@ fn are_at(rt: &impl Abort, world: &World<Echo>, epoch: u64, slots: usize) -> Res
 fn early_claims_that_are_no_evidence(rt: HostRuntime) -> Result<(), Fail> {
     let alloc = rt.alloc();
     let mut first = world(alloc)?;
-    let packet = word(alloc, 1, &early(1), &stated(1, SAY))?;
+    let keys = key(alloc, 0x20, 1)?;
+    let packet = word(alloc, &keys, 1, &early(1), &stated(1, SAY))?;
     let told = into_the_next_epoch(&rt, alloc, &mut first, &packet)?;
     assert_eq!(rt; told, Told::Done);
     are_at(&rt, &first, 1, 4)?;
     let mut second = world(alloc)?;
-    let packet = word(alloc, 0, &early(0), &early(0))?;
+    let keys = key(alloc, 0x20, 0)?;
+    let packet = word(alloc, &keys, 0, &early(0), &early(0))?;
     let told = into_the_next_epoch(&rt, alloc, &mut second, &packet)?;
     assert_eq!(rt; told, Told::Done);
     are_at(&rt, &second, 1, 4)
@@ -183,7 +204,8 @@ fn early_claims_that_are_no_evidence(rt: HostRuntime) -> Result<(), Fail> {
 fn an_early_claim_that_is_forged(rt: HostRuntime) -> Result<(), Fail> {
     let alloc = rt.alloc();
     let mut world = world(alloc)?;
-    let packet = word(alloc, 1, &early(1), &early(1))?;
+    let keys = key(alloc, 0x20, 1)?;
+    let packet = word(alloc, &keys, 1, &early(1), &early(1))?;
     let told = into_the_next_epoch(&rt, alloc, &mut world, &packet)?;
     assert_eq!(rt; told, Told::Forged);
     assert!(rt; world.setup().n == 4);

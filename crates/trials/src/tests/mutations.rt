@@ -154,7 +154,11 @@ fn try_at(
     for mask in masks_at(part_at(&case.fields, place), place) {
         let packet = changed(alloc, case.packet.as_slice(), place, *mask)?;
         let told = take(alloc, world, 2, &packet)?;
-        assert_eq!(rt; told, expected(case, &packet, place), "byte {place}, bits {mask}");
+        assert_eq!(rt;
+            told,
+            expected(case, &packet, place),
+            "byte {place}, bits {mask}"
+        );
     }
     Ok(())
 }
@@ -271,13 +275,7 @@ fn lie(alloc: Global, keys: &Keys, request: &[u8]) -> Result<Bytes, Fail> {
     let value = batch(alloc, Some(request))?;
     let place = stated(0, SAY);
     let sig = signature(alloc, keys, 0, &place, value.as_slice())?;
-    Ok(message(
-        alloc,
-        0,
-        &place,
-        value.as_slice(),
-        sig.as_slice(),
-    )?)
+    Ok(message(alloc, 0, &place, value.as_slice(), sig.as_slice())?)
 }
 
 // What a batch is answered whose request has another byte at this place: node 0 owns the buckets whose numbers it divides, which
@@ -312,7 +310,11 @@ fn try_lie(
         let other = changed(alloc, request, place, *mask)?;
         let packet = lie(alloc, keys, &other)?;
         let told = take(alloc, world, 2, packet.as_slice())?;
-        assert_eq!(rt; told, judged(&fields, &other, place), "byte {place}, bits {mask}");
+        assert_eq!(rt;
+            told,
+            judged(&fields, &other, place),
+            "byte {place}, bits {mask}"
+        );
     }
     Ok(())
 }
