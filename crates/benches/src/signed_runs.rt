@@ -14,42 +14,72 @@ use std::time::Instant;
 
 type Timed<T> = Result<T, Fail>;
 
-// Four nodes with four slots each in an epoch, for which two clients ask for as many requests as its batches hold.
-const HEADER: &[u8] =
-    b"\nf 1\nepoch 16\nbuckets 4\nbatch 4\nwindow 64\npolicy simple\nclients 2\nkeys 8\nfaulty none\n";
-
 const NODES: u32 = 4;
 
-const CLIENTS: u32 = 2;
-
+// Of an epoch, four for each node.
 const SLOTS: u32 = 16;
 
 const HEIGHT: u8 = 8;
 
-// How many requests of each client an epoch has.
-const ASKED: u32 = 32;
-
-/// A module, how many signatures it makes for a slot, and for how many epochs its nodes have leaves.
+/// A kind of run: a module and how many signatures it makes for a slot; how many requests a batch holds, how many clients ask for how many
+/// requests each in an epoch, so that all batches are full; and for how many epochs nodes and clients have leaves.
 #[derive(Clone, Copy)]
-struct Module {
-    name: &'static str,
-    a_slot: u32,
+struct Plan {
+    module: &'static str,
+    for_a_slot: u32,
+    batch: u32,
+    clients: u32,
+    asked: u32,
     epochs: u32,
 }
 
 // The leader's PrePrepare, three Prepares and four Commits.
-const PBFT: Module = Module {
-    name: "pbft",
-    a_slot: 8,
+const PBFT: Plan = Plan {
+    module: "pbft",
+    for_a_slot: 8,
+    batch: 4,
+    clients: 2,
+    asked: 32,
     epochs: 7,
 };
 
 // Three votes of each node, and the leader's Prepare, PreCommit, Commit and Decide.
-const HOTSTUFF: Module = Module {
-    name: "hotstuff",
-    a_slot: 16,
+const HOTSTUFF: Plan = Plan {
+    module: "hotstuff",
+    for_a_slot: 16,
+    batch: 4,
+    clients: 2,
+    asked: 32,
     epochs: 3,
 };
+
+// The same with batches of 32 requests.
+fn with_large_batches(plan: Plan) -> Plan {
+    Plan {
+        batch: 32,
+        clients: 8,
+        asked: 64,
+        epochs: plan.epochs.min(4),
+        ..plan
+    }
+}
+
+// A line with a number.
+fn put_line(text: &mut Vec<u8>, word: &[u8], number: u32) -> Result<(), NoMemory> {
+    put_text(text, word)?;
+    put_number(text, u64::from(number))?;
+    put_text(text, b"\n")
+}
+
+fn put_header(text: &mut Vec<u8>, plan: Plan) -> Result<(), NoMemory> {
+    put_text(text, b"iss 1\nmodule ")?;
+    put_text(text, plan.module.as_bytes())?;
+    put_text(text, b"\nf 1\nepoch 16\nbuckets 4\n")?;
+    put_line(text, b"batch ", plan.batch)?;
+    put_text(text, b"window 64\npolicy simple\n")?;
+    put_line(text, b"clients ", plan.clients)?;
+    put_text(text, b"keys 8\nfaulty none\n")
+}
 
 // The line of a request to the node that owns its bucket in the epoch.
 fn put_request(text: &mut Vec<u8>, epoch: u32, client: u32, number: u32) -> Result<(), NoMemory> {
@@ -64,10 +94,10 @@ fn put_request(text: &mut Vec<u8>, epoch: u32, client: u32, number: u32) -> Resu
 }
 
 // The events of an epoch: all that is asked, four proposals of each node, and then all packets.
-fn put_epoch(text: &mut Vec<u8>, epoch: u32) -> Result<(), NoMemory> {
-    for client in 0..CLIENTS {
-        for turn in 0..ASKED {
-            let number = epoch.wrapping_mul(ASKED).wrapping_add(turn);
+fn put_epoch(text: &mut Vec<u8>, plan: Plan, epoch: u32) -> Result<(), NoMemory> {
+    for client in 0..plan.clients {
+        for turn in 0..plan.asked {
+            let number = epoch.wrapping_mul(plan.asked).wrapping_add(turn);
             put_request(text, epoch, client, number)?;
         }
     }
@@ -78,13 +108,11 @@ fn put_epoch(text: &mut Vec<u8>, epoch: u32) -> Result<(), NoMemory> {
 }
 
 // The schedule of so many epochs.
-fn text_of(alloc: Global, module: Module, epochs: u32) -> Result<Vec<u8>, NoMemory> {
+fn text_of(alloc: Global, plan: Plan, epochs: u32) -> Result<Vec<u8>, NoMemory> {
     let mut text = Vec::new(alloc);
-    put_text(&mut text, b"iss 1\nmodule ")?;
-    put_text(&mut text, module.name.as_bytes())?;
-    put_text(&mut text, HEADER)?;
+    put_header(&mut text, plan)?;
     for epoch in 0..epochs {
-        put_epoch(&mut text, epoch)?;
+        put_epoch(&mut text, plan, epoch)?;
     }
     Ok(text)
 }
@@ -125,9 +153,9 @@ fn time_once(rt: &HostRuntime, text: &[u8], epochs: u32) -> Timed<u64> {
 }
 
 // How many signatures nodes and clients make.
-fn signatures_of(module: Module, epochs: u32) -> u32 {
-    let a_node = module.a_slot.wrapping_mul(SLOTS);
-    epochs.wrapping_mul(a_node.wrapping_add(CLIENTS.wrapping_mul(ASKED)))
+fn signatures_of(plan: Plan, epochs: u32) -> u32 {
+    let of_nodes = plan.for_a_slot.wrapping_mul(SLOTS);
+    epochs.wrapping_mul(of_nodes.wrapping_add(plan.clients.wrapping_mul(plan.asked)))
 }
 
 fn total_of(digests: Digests) -> u32 {
@@ -139,59 +167,66 @@ fn total_of(digests: Digests) -> u32 {
 
 // How many digests that are: of the trees of all nodes and clients, and of each signature as it is made and as it is checked. What is short in
 // making one is long in checking it, so that both together take as many of any statement.
-fn digests_of(module: Module, epochs: u32) -> u32 {
-    let signatures = signatures_of(module, epochs);
+fn digests_of(plan: Plan, epochs: u32) -> u32 {
+    let signatures = signatures_of(plan, epochs);
     total_of(digests_of_tree(HEIGHT))
-        .wrapping_mul(NODES + CLIENTS)
+        .wrapping_mul(NODES.wrapping_add(plan.clients))
         .wrapping_add(total_of(digests_of_signatures(signatures)))
         .wrapping_add(total_of(digests_of_verifications(signatures, HEIGHT)))
 }
 
-// Runs of a module, each beside its digests, each of which is taken of 40 bytes.
-fn time_module(rt: &HostRuntime, module: Module, rounds: u32) -> Timed<()> {
-    let text = text_of(rt.alloc(), module, module.epochs)?;
-    let short = digests_of(module, module.epochs);
-    let digests = Digests {
-        short,
+// So many digests, each of 40 bytes.
+fn short_digests(count: u32) -> Digests {
+    Digests {
+        short: count,
         inner: 0,
         leaf: 0,
-    };
+    }
+}
+
+// Runs of one kind, each beside its digests.
+fn time_plan(rt: &HostRuntime, plan: Plan, rounds: u32) -> Timed<()> {
+    let text = text_of(rt.alloc(), plan, plan.epochs)?;
+    let count = digests_of(plan, plan.epochs);
     let mut best = NONE_YET;
     for _ in 0..rounds {
-        let work = time_once(rt, &text, module.epochs)?;
-        best = best.note(work, time_digests(rt, digests)?);
+        let work = time_once(rt, &text, plan.epochs)?;
+        best = best.note(work, time_digests(rt, short_digests(count))?);
     }
     let percent = best.work.saturating_mul(100) / best.digests.max(1);
     println!(rt;
-        "{} signatures under {}: {} ns, {percent} percent of {short} digests",
-        signatures_of(module, module.epochs),
-        module.name,
+        "{}, {} in a batch, {} signatures: {} ns, {percent} percent of {count} digests",
+        plan.module,
+        plan.batch,
+        signatures_of(plan, plan.epochs),
         best.work
     )?;
     Ok(())
 }
 
-/// Runs of the modules that sign, so many times each.
+/// Runs under the modules that sign, so many times each.
 pub(crate) fn time_all(rt: &HostRuntime, rounds: u32) -> Timed<()> {
-    time_module(rt, PBFT, rounds)?;
-    time_module(rt, HOTSTUFF, rounds)
+    time_plan(rt, PBFT, rounds)?;
+    time_plan(rt, with_large_batches(PBFT), rounds)?;
+    time_plan(rt, HOTSTUFF, rounds)?;
+    time_plan(rt, with_large_batches(HOTSTUFF), rounds)
 }
 
-fn count_module(rt: &HostRuntime, module: Module) -> Timed<()> {
-    let text = text_of(rt.alloc(), module, 1)?;
+fn count_plan(rt: &HostRuntime, plan: Plan) -> Timed<()> {
+    let text = text_of(rt.alloc(), plan, 1)?;
     let lines = replayed(rt.alloc(), &text)?;
     println!(rt;
         "{}: {lines} lines of {}, {} signatures, {} digests",
-        module.name,
+        plan.module,
         lines_wanted(1),
-        signatures_of(module, 1),
-        digests_of(module, 1)
+        signatures_of(plan, 1),
+        digests_of(plan, 1)
     )?;
     Ok(())
 }
 
-/// One epoch of each, and what it takes.
+/// One epoch of each module, and what it takes.
 pub(crate) fn count_all(rt: &HostRuntime) -> Timed<()> {
-    count_module(rt, PBFT)?;
-    count_module(rt, HOTSTUFF)
+    count_plan(rt, PBFT)?;
+    count_plan(rt, HOTSTUFF)
 }
