@@ -1,5 +1,5 @@
-//! What the parts cost. The first word names what is timed: `keys`, `network`, `journal FILE ENTRIES APPENDS`, `raft TIMES`,
-//! `schedule PAIRS TIMES` or `signed TIMES`. With no words a small workload of each is run and what it makes is printed, the same on each machine.
+//! What the parts cost. The first word names what is timed: `keys`, `network`, `journal FILE ENTRIES APPENDS`, `raft TIMES` or
+//! `schedule PAIRS TIMES`. With no words a small workload of each is run and what it makes is printed, the same on each machine.
 #![tactic(auto)]
 
 mod digests;
@@ -10,7 +10,6 @@ mod network;
 mod raft;
 mod raft_costs;
 mod schedule;
-mod signed_runs;
 
 use std::env;
 use std::test::Fail;
@@ -27,8 +26,7 @@ fn count_all(rt: &HostRuntime) -> Result<(), Fail> {
     journal::count_all(rt)?;
     network::count_all(rt)?;
     schedule::count_all(rt)?;
-    raft_costs::count_all(rt)?;
-    signed_runs::count_all(rt)
+    raft_costs::count_all(rt)
 }
 
 // Times what the words behind the program's name ask for.
@@ -46,7 +44,6 @@ fn time(rt: &HostRuntime, what: &str, words: &[String]) -> Result<(), Fail> {
             )
         }
         "raft" => raft_costs::time_all(rt, number_at(words, 2)?),
-        "signed" => signed_runs::time_all(rt, number_at(words, 2)?),
         "schedule" => schedule::time_all(rt, number_at(words, 2)?, number_at(words, 3)?),
         _ => Err("what is to be timed?")?,
     }
