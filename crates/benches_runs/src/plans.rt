@@ -44,7 +44,7 @@ pub const HOTSTUFF: Plan = Plan {
 };
 
 /// The same with batches of 32 requests.
-pub fn with_large_batches(plan: Plan) -> Plan {
+pub(crate) fn with_large_batches(plan: Plan) -> Plan {
     Plan {
         batch: 32,
         clients: 8,
@@ -56,14 +56,14 @@ pub fn with_large_batches(plan: Plan) -> Plan {
 
 impl Plan {
     /// How many signatures nodes and clients make.
-    pub fn signatures(self, epochs: u32) -> u32 {
+    pub(crate) fn signatures(self, epochs: u32) -> u32 {
         let of_nodes = self.for_a_slot.wrapping_mul(SLOTS);
         let of_clients = self.clients.wrapping_mul(self.asked);
         epochs.wrapping_mul(of_nodes.wrapping_add(of_clients))
     }
 
     /// How many digests that are: of the tree of each node and client, and of each signature as it is made and as it is checked.
-    pub fn digests(self, epochs: u32) -> u32 {
+    pub(crate) fn digests(self, epochs: u32) -> u32 {
         let trees = NODES.wrapping_add(self.clients);
         let of_signatures = self
             .signatures(epochs)
@@ -74,7 +74,7 @@ impl Plan {
     }
 
     /// The lines of a report where nothing was lost and all slots were filled: for each node its own and one for each slot, and the last.
-    pub fn lines(self, epochs: u32) -> u32 {
+    pub(crate) fn lines(self, epochs: u32) -> u32 {
         let of_a_node = epochs.wrapping_mul(SLOTS).wrapping_add(1);
         NODES.wrapping_mul(of_a_node).wrapping_add(1)
     }

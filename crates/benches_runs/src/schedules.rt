@@ -49,7 +49,7 @@ fn put_epoch(text: &mut Vec<u8>, plan: Plan, epoch: u32) -> Result<(), NoMemory>
 }
 
 /// The schedule of so many epochs.
-pub fn text_of(alloc: Global, plan: Plan, epochs: u32) -> Result<Vec<u8>, NoMemory> {
+pub(crate) fn text_of(alloc: Global, plan: Plan, epochs: u32) -> Result<Vec<u8>, NoMemory> {
     let mut text = Vec::new(alloc);
     put_header(&mut text, plan)?;
     for epoch in 0..epochs {

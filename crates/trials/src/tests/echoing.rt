@@ -108,7 +108,7 @@ pub const SAY: u8 = 1;
 pub const ECHO: u8 = 2;
 
 /// What the leader of the first epoch's slot states.
-pub fn stated(leader: u8, kind: u8) -> Stated {
+pub(crate) fn stated(leader: u8, kind: u8) -> Stated {
     Stated {
         cluster: 7,
         epoch: 0,
@@ -140,12 +140,12 @@ fn sign(alloc: Global, keys: &Keys, leaf: u32, statement: &[u8]) -> Result<Bytes
 }
 
 /// The key of node (0x20) or client (0x21) so and so.
-pub fn key(alloc: Global, owner: u8, number: u8) -> Result<Keys, Fail> {
+pub(crate) fn key(alloc: Global, owner: u8, number: u8) -> Result<Keys, Fail> {
     Ok(Keys::make(alloc, Sha256::digest([owner, number]), 4)?)
 }
 
 /// The digest of a value with this spelling.
-pub fn digest_of(value: &[u8]) -> [u8; 32] {
+pub(crate) fn digest_of(value: &[u8]) -> [u8; 32] {
     let mut hasher = Sha256::new();
     hasher.update([0x40u8]);
     hasher.update(value);
@@ -153,7 +153,7 @@ pub fn digest_of(value: &[u8]) -> [u8; 32] {
 }
 
 /// What a node signs of a value by this leaf.
-pub fn signature(
+pub(crate) fn signature(
     alloc: Global,
     keys: &Keys,
     leaf: u32,
@@ -183,7 +183,7 @@ fn packet(
 }
 
 /// A node's message of this number in the instance of a leader, about a slot: the batch or the digest, and the signature behind it.
-pub fn message(
+pub(crate) fn message(
     alloc: Global,
     from: u8,
     place: &Stated,
@@ -200,7 +200,7 @@ pub fn message(
 }
 
 /// A client's request with three bytes, signed by the leaf of its number.
-pub fn request(alloc: Global, client: u8, number: u32) -> Result<Bytes, Fail> {
+pub(crate) fn request(alloc: Global, client: u8, number: u32) -> Result<Bytes, Fail> {
     let mut out = Writer::new(alloc, 1);
     out.put_u8(0x30)?;
     out.put_u8(client)?;
@@ -216,12 +216,12 @@ pub fn request(alloc: Global, client: u8, number: u32) -> Result<Bytes, Fail> {
 }
 
 /// The packet of a request.
-pub fn request_packet(alloc: Global, request: &[u8]) -> Result<Bytes, NoMemory> {
+pub(crate) fn request_packet(alloc: Global, request: &[u8]) -> Result<Bytes, NoMemory> {
     packet(alloc, 5, 255, 0, 0, request)
 }
 
 /// The batch with a request, as a value; the empty one with none.
-pub fn batch(alloc: Global, request: Option<&[u8]>) -> Result<Bytes, NoMemory> {
+pub(crate) fn batch(alloc: Global, request: Option<&[u8]>) -> Result<Bytes, NoMemory> {
     let mut out = Writer::new(alloc, 1);
     out.put_u8(1)?;
     match request {
