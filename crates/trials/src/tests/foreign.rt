@@ -1,0 +1,217 @@
+//! Claims of another cluster, epoch, instance, module or kind, and such as no node ever made.
+ghost use Rattle.std.specs.Prelude.{◌≡◌, ◌<◌, IfOk};
+
+use crate::tests::echoing::{
+    ECHO, SAY, Stated, batch, calm, digest_of, key, message, propose, signature, stated, take,
+    world,
+};
+use crate::tests::played::Told;
+use iss_keys::Keys;
+use iss_model::Why;
+use iss_request::{Bytes, Epoch, Kind};
+use iss_world::World;
+use sb_echo::Echo;
+use std::alloc::Global;
+use std::process::Abort;
+use std::test::Fail;
+
+// A node's word at this place on the empty batch, with what its key signs of this statement by its last leaf.
+fn word(
+    alloc: Global,
+    keys: &Keys,
+    from: u8,
+    place: &Stated,
+    signed: &Stated,
+) -> Result<Bytes, Fail> {
+    let value = batch(alloc, None)?;
+    let sig = signature(alloc, keys, 15, signed, value.as_slice())?;
+    Ok(message(alloc, from, place, value.as_slice(), sig.as_slice())?)
+}
+
+// A node's echo of the empty batch, likewise.
+fn echo(
+    alloc: Global,
+    keys: &Keys,
+    from: u8,
+    place: &Stated,
+    signed: &Stated,
+) -> Result<Bytes, Fail> {
+    let value = batch(alloc, None)?;
+    let sig = signature(alloc, keys, 15, signed, value.as_slice())?;
+    let digest = digest_of(value.as_slice());
+    Ok(message(alloc, from, place, &digest, sig.as_slice())?)
+}
+
+// What a leader of the first epoch states of its slot but for one thing, each in its turn.
+fn elsewhere(leader: u8, kind: u8) -> [Stated; 6] {
+    let here = stated(leader, kind);
+    [
+        Stated { cluster: 8, ..here },
+        Stated { epoch: 1, ..here },
+        Stated { leader: 3, ..here },
+        Stated { module: 3, ..here },
+        Stated {
+            kind: 3 - kind,
+            ..here
+        },
+        Stated { slot: 5, ..here },
+    ]
+}
+
+// Node 2 takes a node's word and its echo, each signed as something else, and lets none of them count.
+fn signed_elsewhere(
+    rt: &impl Abort,
+    alloc: Global,
+    world: &mut World<Echo>,
+    keys: &Keys,
+    node: u8,
+) -> Result<(), Fail>
+    requires kind { world.old.running.setup.kind ≡ Kind.Byzantine }
+    requires nodes { world.old.running.setup.n ≡ 4 }
+    ensures same { world.new.running.setup ≡ world.old.running.setup }
+{
+    let refused = Told::Lost(Why::BadClaim);
+    for other in elsewhere(node, SAY) {
+        let packet = word(alloc, keys, node, &stated(node, SAY), &other)?;
+        let told = take(alloc, world, 2, packet.as_slice())?;
+        assert_eq!(rt; told, refused, "a word of {node} with {other:?}");
+    }
+    for other in elsewhere(node, ECHO) {
+        let packet = echo(alloc, keys, node, &stated(node, ECHO), &other)?;
+        let told = take(alloc, world, 2, packet.as_slice())?;
+        assert_eq!(rt; told, refused, "an echo of {node} with {other:?}");
+    }
+    Ok(())
+}
+
+// After these node 2 takes a node's echo, signed as what it is, and then its word, and answers so.
+fn signed_here(rt: &impl Abort, alloc: Global, node: u8, expected: Told) -> Result<(), Fail> {
+    let keys = key(alloc, 0x20, node)?;
+    let mut world = world(alloc)?;
+    signed_elsewhere(rt, alloc, &mut world, &keys, node)?;
+    let place = stated(node, ECHO);
+    let packet = echo(alloc, &keys, node, &place, &place)?;
+    assert_eq!(rt; take(alloc, &mut world, 2, packet.as_slice())?, expected);
+    let place = stated(node, SAY);
+    let packet = word(alloc, &keys, node, &place, &place)?;
+    assert_eq!(rt; take(alloc, &mut world, 2, packet.as_slice())?, expected);
+    Ok(())
+}
+
+// What node 1 signs is forged, since it never sent it; node 0 may lie, and so its claims are no evidence.
+#[test]
+fn a_claim_is_of_what_was_signed(rt: HostRuntime) -> Result<(), Fail> {
+    signed_here(&rt, rt.alloc(), 1, Told::Forged)?;
+    signed_here(&rt, rt.alloc(), 0, Told::Done)
+}
+
+// No node answers for what another one signed: this is of node 0, which may lie, under the name of node 1.
+#[test]
+fn a_claim_is_checked_under_the_key_of_whom_it_names(rt: HostRuntime) -> Result<(), Fail> {
+    let alloc = rt.alloc();
+    let value = batch(alloc, None)?;
+    let place = stated(1, SAY);
+    let keys = key(alloc, 0x20, 0)?;
+    let sig = signature(alloc, &keys, 0, &place, value.as_slice())?;
+    let packet = message(alloc, 1, &place, value.as_slice(), sig.as_slice())?;
+    let mut world = world(alloc)?;
+    let told = take(alloc, &mut world, 2, packet.as_slice())?;
+    assert_eq!(rt; told, Told::Lost(Why::BadClaim));
+    Ok(())
+}
+
+// What was truly sent in one instance is no claim of another, nor what was said one that was echoed; as it was sent it may come again.
+#[test]
+fn a_claim_of_another_instance_does_not_verify(rt: HostRuntime) -> Result<(), Fail> {
+    let alloc = rt.alloc();
+    let value = batch(alloc, None)?;
+    let say = stated(1, SAY);
+    let keys = key(alloc, 0x20, 1)?;
+    let sig = signature(alloc, &keys, 0, &say, value.as_slice())?;
+    let mut world = world(alloc)?;
+    assert_eq!(rt; propose(alloc, &mut world, 1), Told::Done);
+    let other = Stated { leader: 3, ..say };
+    let packet = message(alloc, 1, &other, value.as_slice(), sig.as_slice())?;
+    let told = take(alloc, &mut world, 2, packet.as_slice())?;
+    assert_eq!(rt; told, Told::Lost(Why::BadClaim));
+    let digest = digest_of(value.as_slice());
+    let packet = message(alloc, 1, &stated(1, ECHO), &digest, sig.as_slice())?;
+    let told = take(alloc, &mut world, 2, packet.as_slice())?;
+    assert_eq!(rt; told, Told::Lost(Why::BadClaim));
+    let packet = message(alloc, 1, &say, value.as_slice(), sig.as_slice())?;
+    assert_eq!(rt; take(alloc, &mut world, 2, packet.as_slice())?, Told::Done);
+    Ok(())
+}
+
+// A word of the next epoch.
+fn early(node: u8) -> Stated {
+    Stated {
+        epoch: 1,
+        slot: 4 + u64::from(node),
+        ..stated(node, SAY)
+    }
+}
+
+// Node 2 takes these bytes of the next epoch early; then all leaders cast, and all packets come. The answer to that is the result.
+fn into_the_next_epoch(
+    rt: &impl Abort,
+    alloc: Global,
+    world: &mut World<Echo>,
+    packet: &Bytes,
+) -> Result<Told, Fail>
+    requires kind { world.old.running.setup.kind ≡ Kind.Byzantine }
+    requires nodes { world.old.running.setup.n ≡ 4 }
+    ensures same { world.new.running.setup ≡ world.old.running.setup }
+{
+    assert_eq!(rt; take(alloc, world, 2, packet.as_slice())?, Told::Done);
+    for node in 0..4u32 {
+        assert_eq!(rt; propose(alloc, world, node), Told::Done);
+    }
+    Ok(calm(alloc, world))
+}
+
+// How far the nodes 1, 2 and 3 are.
+fn are_at(rt: &impl Abort, world: &World<Echo>, epoch: u64, slots: usize) -> Result<(), Fail>
+    requires nodes { world.now.running.setup.n ≡ 4 }
+{
+    for node in 1..4u32 {
+        assert!(rt; world.epoch(node) == Epoch(epoch), "at {node}");
+        assert_eq!(rt; world.entries(node).len(), slots, "at {node}");
+    }
+    Ok(())
+}
+
+// What came early is read when its epoch begins: where it does not verify the run goes on, and where it is of a node that may lie.
+#[test]
+fn early_claims_that_are_no_evidence(rt: HostRuntime) -> Result<(), Fail> {
+    let alloc = rt.alloc();
+    let mut first = world(alloc)?;
+    let keys = key(alloc, 0x20, 1)?;
+    let packet = word(alloc, &keys, 1, &early(1), &stated(1, SAY))?;
+    let told = into_the_next_epoch(&rt, alloc, &mut first, &packet)?;
+    assert_eq!(rt; told, Told::Done);
+    are_at(&rt, &first, 1, 4)?;
+    let mut second = world(alloc)?;
+    let keys = key(alloc, 0x20, 0)?;
+    let packet = word(alloc, &keys, 0, &early(0), &early(0))?;
+    let told = into_the_next_epoch(&rt, alloc, &mut second, &packet)?;
+    assert_eq!(rt; told, Told::Done);
+    are_at(&rt, &second, 1, 4)
+}
+
+// One of node 1 that it never sent ends the run in the delivery that would begin the epoch. Node 2 goes back to before it.
+#[test]
+fn an_early_claim_that_is_forged(rt: HostRuntime) -> Result<(), Fail> {
+    let alloc = rt.alloc();
+    let mut world = world(alloc)?;
+    let keys = key(alloc, 0x20, 1)?;
+    let packet = word(alloc, &keys, 1, &early(1), &early(1))?;
+    let told = into_the_next_epoch(&rt, alloc, &mut world, &packet)?;
+    assert_eq!(rt; told, Told::Forged);
+    assert!(rt; world.setup().n == 4);
+    assert!(rt; world.epoch(2) == Epoch(0));
+    assert_eq!(rt; world.entries(2).len(), 3);
+    assert_eq!(rt; calm(alloc, &mut world), Told::Forged);
+    assert_eq!(rt; take(alloc, &mut world, 3, b"")?, Told::Forged);
+    Ok(())
+}
