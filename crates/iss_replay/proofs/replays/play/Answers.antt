@@ -1,4 +1,4 @@
-use Rattle.std.proofs.Common.{◌<◌, ◌≡◌, ◌∙◌, length, arith, List, subst, ap, get_or, take, None, Some, Option}
+use Rattle.std.proofs.Common.{◌<◌, ◌≡◌, ◌∙◌, length, arith, List, subst, ap, get_or, take, None, Some, Option, ◌+◌}
 use Rattle.iss_model.specs.OneLog.{run_after}
 use Rattle.iss_model.specs.Run.{goes_on}
 use Rattle.iss_model.specs.Concrete.{rules_of}

@@ -7,7 +7,7 @@ pub returns-clause-reports : goal.returns-clause-reports
 returns-clause-reports g c =
     let s = c.args.report.now.world.running.setup in
     let m = g.M.Sequenced.meaning in
-    if-ok _ _ c.write.result c.write.ensures (λ bytes told good events range stands. record {
+    if-ok c.write.result _ _ c.write.ensures (λ bytes told good events range stands. record {
       tells = told (run_after s m events) stands;
       one_log = c.cluster_runs.ensures.one_log s good events (at-cores s events range);
       evidence = c.runs_end_with_evidence.ensures s good events (at-cores s events range);
