@@ -108,7 +108,7 @@ pub const SAY: u8 = 1;
 pub const ECHO: u8 = 2;
 
 /// What the leader of the first epoch's slot states.
-pub(crate) fn stated(leader: u8, kind: u8) -> Stated {
+pub(crate) fn of_first_epoch(leader: u8, kind: u8) -> Stated {
     Stated {
         cluster: 7,
         epoch: 0,

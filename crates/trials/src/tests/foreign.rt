@@ -2,8 +2,8 @@
 ghost use Rattle.std.specs.Prelude.{◌≡◌, ◌<◌, IfOk};
 
 use crate::tests::echoing::{
-    ECHO, SAY, Stated, batch, calm, digest_of, key, message, propose, signature, stated, take,
-    world,
+    ECHO, SAY, Stated, batch, calm, digest_of, key, message, of_first_epoch, propose, signature,
+    take, world,
 };
 use crate::tests::played::Told;
 use iss_keys::Keys;
@@ -44,7 +44,7 @@ fn echo(
 
 // What a leader of the first epoch states of its slot but for one thing, each in its turn.
 fn elsewhere(leader: u8, kind: u8) -> [Stated; 6] {
-    let here = stated(leader, kind);
+    let here = of_first_epoch(leader, kind);
     [
         Stated { cluster: 8, ..here },
         Stated { epoch: 1, ..here },
@@ -72,12 +72,12 @@ fn signed_elsewhere(
 {
     let refused = Told::Lost(Why::BadClaim);
     for other in elsewhere(node, SAY) {
-        let packet = word(alloc, keys, node, &stated(node, SAY), &other)?;
+        let packet = word(alloc, keys, node, &of_first_epoch(node, SAY), &other)?;
         let told = take(alloc, world, 2, packet.as_slice())?;
         assert_eq!(rt; told, refused, "a word of {node} with {other:?}");
     }
     for other in elsewhere(node, ECHO) {
-        let packet = echo(alloc, keys, node, &stated(node, ECHO), &other)?;
+        let packet = echo(alloc, keys, node, &of_first_epoch(node, ECHO), &other)?;
         let told = take(alloc, world, 2, packet.as_slice())?;
         assert_eq!(rt; told, refused, "an echo of {node} with {other:?}");
     }
@@ -89,10 +89,10 @@ fn signed_here(rt: &impl Abort, alloc: Global, node: u8, expected: Told) -> Resu
     let keys = key(alloc, 0x20, node)?;
     let mut world = world(alloc)?;
     signed_elsewhere(rt, alloc, &mut world, &keys, node)?;
-    let place = stated(node, ECHO);
+    let place = of_first_epoch(node, ECHO);
     let packet = echo(alloc, &keys, node, &place, &place)?;
     assert_eq!(rt; take(alloc, &mut world, 2, packet.as_slice())?, expected);
-    let place = stated(node, SAY);
+    let place = of_first_epoch(node, SAY);
     let packet = word(alloc, &keys, node, &place, &place)?;
     assert_eq!(rt; take(alloc, &mut world, 2, packet.as_slice())?, expected);
     Ok(())
@@ -110,7 +110,7 @@ fn a_claim_is_of_what_was_signed(rt: HostRuntime) -> Result<(), Fail> {
 fn a_claim_is_checked_under_the_key_of_whom_it_names(rt: HostRuntime) -> Result<(), Fail> {
     let alloc = rt.alloc();
     let value = batch(alloc, None)?;
-    let place = stated(1, SAY);
+    let place = of_first_epoch(1, SAY);
     let keys = key(alloc, 0x20, 0)?;
     let sig = signature(alloc, &keys, 0, &place, value.as_slice())?;
     let packet = message(alloc, 1, &place, value.as_slice(), sig.as_slice())?;
@@ -125,7 +125,7 @@ fn a_claim_is_checked_under_the_key_of_whom_it_names(rt: HostRuntime) -> Result<
 fn a_claim_of_another_instance_does_not_verify(rt: HostRuntime) -> Result<(), Fail> {
     let alloc = rt.alloc();
     let value = batch(alloc, None)?;
-    let say = stated(1, SAY);
+    let say = of_first_epoch(1, SAY);
     let keys = key(alloc, 0x20, 1)?;
     let sig = signature(alloc, &keys, 0, &say, value.as_slice())?;
     let mut world = world(alloc)?;
@@ -135,7 +135,7 @@ fn a_claim_of_another_instance_does_not_verify(rt: HostRuntime) -> Result<(), Fa
     let told = take(alloc, &mut world, 2, packet.as_slice())?;
     assert_eq!(rt; told, Told::Lost(Why::BadClaim));
     let digest = digest_of(value.as_slice());
-    let packet = message(alloc, 1, &stated(1, ECHO), &digest, sig.as_slice())?;
+    let packet = message(alloc, 1, &of_first_epoch(1, ECHO), &digest, sig.as_slice())?;
     let told = take(alloc, &mut world, 2, packet.as_slice())?;
     assert_eq!(rt; told, Told::Lost(Why::BadClaim));
     let packet = message(alloc, 1, &say, value.as_slice(), sig.as_slice())?;
@@ -148,7 +148,7 @@ fn early(node: u8) -> Stated {
     Stated {
         epoch: 1,
         slot: 4 + u64::from(node),
-        ..stated(node, SAY)
+        ..of_first_epoch(node, SAY)
     }
 }
 
@@ -187,7 +187,7 @@ fn early_claims_that_are_no_evidence(rt: HostRuntime) -> Result<(), Fail> {
     let alloc = rt.alloc();
     let mut first = world(alloc)?;
     let keys = key(alloc, 0x20, 1)?;
-    let packet = word(alloc, &keys, 1, &early(1), &stated(1, SAY))?;
+    let packet = word(alloc, &keys, 1, &early(1), &of_first_epoch(1, SAY))?;
     let told = into_the_next_epoch(&rt, alloc, &mut first, &packet)?;
     assert_eq!(rt; told, Told::Done);
     are_at(&rt, &first, 1, 4)?;

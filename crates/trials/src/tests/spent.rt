@@ -1,5 +1,5 @@
 //! A node of the relay whose keys have been used up.
-ghost use Rattle.std.specs.Prelude.{◌≡◌, IfOk};
+ghost use Rattle.std.specs.Prelude.{◌≡◌, ◌≤◌, IfOk};
 ghost use Rattle.iss_keys.specs.Directories.{AreKeysOf};
 ghost use Rattle.iss_model.specs.Runs.{IsSetupOf};
 ghost use Rattle.sb_relay.specs.Relay.{relay};
@@ -42,17 +42,17 @@ fn setup(alloc: Global) -> Result<Setup, NoMemory>
 
 // The key of node 0 with four leaves, of which so many are used.
 fn keys_used(alloc: Global, used: u32) -> Result<Keys, Fail>
+    requires { used ≤ 4 }
     ensures { IfOk result (λ keys. AreKeysOf 0 2 keys) }
 {
-    let mut keys = Keys::make(alloc, Sha256::digest([0x20u8, 0]), 2)?;
-    for _ in 0..used {
-        let _sig = keys.sign(b"anything")?;
-    }
+    let keys = Keys::make_at(alloc, Sha256::digest([0x20u8, 0]), 2, used)?;
     Ok(keys)
 }
 
-// Node 0 of them, which has signed so often.
-fn node_after(alloc: Global, used: u32) -> Result<Node<Relay>, Fail> {
+// Node 0 of them, with so many used leaves.
+fn node_after(alloc: Global, used: u32) -> Result<Node<Relay>, Fail>
+    requires { used ≤ 4 }
+{
     let setup = setup(alloc)?;
     let directory = directory_of(alloc, &setup)?;
     let keys = keys_used(alloc, used)?;
@@ -67,8 +67,10 @@ fn cause(answer: &Answer) -> Option<Why> {
     }
 }
 
-// After so many signatures, a proposal and a timeout are dropped by this.
-fn goes(rt: &impl Abort, alloc: Global, used: u32, expected: Option<Why>) -> Result<(), Fail> {
+// With so many used leaves a timeout and a proposal are dropped by this.
+fn goes(rt: &impl Abort, alloc: Global, used: u32, expected: Option<Why>) -> Result<(), Fail>
+    requires { used ≤ 4 }
+{
     let mut node = node_after(alloc, used)?;
     let answer = node.take(alloc, NodeEvent::Timeout(NodeId(1)));
     assert_eq!(rt; cause(&answer), expected);
