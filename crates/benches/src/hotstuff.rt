@@ -121,6 +121,7 @@ struct Post {
 /// The nodes, what they sent, and what of it is on its way.
 #[derive(Drop)]
 pub struct Cluster {
+    nodes: u8,
     cores: Vec<Core>,
     pub sent: Vec<Bytes>,
     waiting: VecDeque<Post>,
@@ -190,6 +191,7 @@ impl Cluster {
             cores.push(new_core(alloc, p, node)?)?;
         }
         Ok(Cluster {
+            nodes: p.setup.n as u8,
             cores,
             sent: Vec::new(alloc),
             waiting: VecDeque::new(alloc),
@@ -211,7 +213,7 @@ impl Cluster {
             return Ok(());
         }
         let To::One(node) = to else {
-            for node in 0..self.cores.len() as u8 {
+            for node in 0..self.nodes {
                 self.post(from, node, at)?;
             }
             return Ok(());

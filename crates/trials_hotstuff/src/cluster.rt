@@ -33,6 +33,7 @@ struct Core {
 /// The nodes, and what they said and nobody took yet, the oldest first.
 #[derive(Drop)]
 pub struct Cluster {
+    nodes: u8,
     cores: Vec<Core>,
     said: VecDeque<Packet>,
 }
@@ -149,6 +150,7 @@ impl Cluster {
             cores.push(new_core(alloc, p, node)?)?;
         }
         Ok(Cluster {
+            nodes: p.setup.n as u8,
             cores,
             said: VecDeque::new(alloc),
         })
@@ -163,7 +165,7 @@ impl Cluster {
     fn say(&mut self, alloc: Global, from: u8, to: To, msg: &Message) -> Result<(), Fail> {
         let bytes = bytes_of(alloc, msg)?;
         let To::One(node) = to else {
-            for node in 0..self.cores.len() as u8 {
+            for node in 0..self.nodes {
                 self.post(from, node, bytes.copy()?)?;
             }
             return Ok(());

@@ -1,15 +1,11 @@
 //! Messages in bytes: rows that were written by hand, every cut of a message, and the field that does not fit.
+use crate::instances::withstands;
 use hs_tree::signing::{
     held_digest, held_string, node_statement, node_string, put_certificate_claims, round_statement,
     vote_statement,
 };
 use hs_tree::{Certificate, Message, Signed, read, write};
-use iss_keys::SharedDirectory;
-use iss_request::{
-    Batch, Bytes, DecodeError, Epoch, Fields, Kind, NoMemory, NodeId, Nodes, Policy, Row, Setup,
-    Slot, Writer,
-};
-use iss_sb::Params;
+use iss_request::{Batch, Bytes, DecodeError, Fields, NodeId, Row, Writer};
 use raft_wire::What;
 use sha2::{Digest, Sha256};
 use std::alloc::Global;
@@ -295,38 +291,6 @@ fn digests_of_nodes_are_those_of_another_program(rt: HostRuntime) -> Result<(), 
     Ok(())
 }
 
-fn instance(alloc: Global) -> Result<Params, Fail> {
-    let mut slots = Row::new(alloc);
-    slots.push(Slot(0))?;
-    let setup = Setup {
-        version: 1,
-        module: 4,
-        f: 1,
-        epoch: 8,
-        buckets: 4,
-        batch: 4,
-        window: 4,
-        policy: Policy::Simple,
-        clients: 1,
-        keys: 2,
-        faulty: Nodes::new(alloc),
-        n: 4,
-        quorum: 3,
-        kind: Kind::Byzantine,
-        tag: [7; 32],
-    };
-    let Ok(directory) = SharedDirectory::make(alloc, 4, 1, 2) else {
-        return Err(Fail::from(NoMemory));
-    };
-    Ok(Params {
-        setup,
-        epoch: Epoch(2),
-        leader: NodeId(0),
-        slots,
-        directory,
-    })
-}
-
 fn has_at(bytes: &Bytes, at: usize, part: &[u8]) -> bool {
     let all = bytes.as_slice();
     at <= all.len() && part.len() <= all.len() - at && &all[at..at + part.len()] == part
@@ -335,7 +299,7 @@ fn has_at(bytes: &Bytes, at: usize, part: &[u8]) -> bool {
 #[test]
 fn statements_and_claims_are_made(rt: HostRuntime) -> Result<(), Fail> {
     let alloc = rt.alloc();
-    let p = instance(alloc)?;
+    let p = withstands(alloc, 1)?;
     let vote = vote_statement(alloc, &p, 4, 1, 65537, &[9; 32])?;
     assert_eq!(rt; vote.len(), 32 + 8 + 2 + 6 + 32);
     assert!(rt; has_at(&vote, 40, &[0, 4, 6, 1, 0, 1, 0, 1]));
