@@ -1,5 +1,6 @@
 //! What the parts cost. The first word names what is timed: `keys`, `network`, `journal FILE ENTRIES APPENDS`, `raft TIMES`,
-//! `hotstuff TIMES` or `schedule PAIRS TIMES`. With no words a small workload of each is run and what it makes is printed, the same on each machine.
+//! `pbft TIMES`, `hotstuff TIMES` or `schedule PAIRS TIMES`. With no words a small workload of each is run and what it makes is
+//! printed, the same on each machine.
 #![tactic(auto)]
 
 mod digests;
@@ -9,9 +10,12 @@ mod hotstuff_costs;
 mod journal;
 mod keys;
 mod network;
+mod pbft;
+mod pbft_costs;
 mod raft;
 mod raft_costs;
 mod schedule;
+mod signatures;
 
 use std::env;
 use std::test::Fail;
@@ -29,6 +33,7 @@ fn count_all(rt: &HostRuntime) -> Result<(), Fail> {
     network::count_all(rt)?;
     schedule::count_all(rt)?;
     raft_costs::count_all(rt)?;
+    pbft_costs::count_all(rt)?;
     hotstuff_costs::count_all(rt)
 }
 
@@ -47,6 +52,7 @@ fn time(rt: &HostRuntime, what: &str, words: &[String]) -> Result<(), Fail> {
             )
         }
         "hotstuff" => hotstuff_costs::time_all(rt, number_at(words, 2)?),
+        "pbft" => pbft_costs::time_all(rt, number_at(words, 2)?),
         "raft" => raft_costs::time_all(rt, number_at(words, 2)?),
         "schedule" => schedule::time_all(rt, number_at(words, 2)?, number_at(words, 3)?),
         _ => Err("what is to be timed?")?,
