@@ -177,7 +177,7 @@ fn packet(
     out.put_bytes(&[1, kind, from])?;
     out.put_u64(epoch)?;
     out.put_u8(leader)?;
-    out.put_u32(body.len() as u32)?;
+    out.put_u32(u32::try_from(body.len()).unwrap_or(u32::MAX))?;
     out.put_bytes(body)?;
     Ok(out.into_bytes())
 }

@@ -42,6 +42,10 @@ fn echo(
     Ok(message(alloc, from, place, &digest, sig.as_slice())?)
 }
 
+fn other_kind(kind: u8) -> u8 {
+    if kind == SAY { ECHO } else { SAY }
+}
+
 // What a leader of the first epoch states of its slot but for one thing, each in its turn.
 fn elsewhere(leader: u8, kind: u8) -> [Stated; 6] {
     let here = of_first_epoch(leader, kind);
@@ -51,7 +55,7 @@ fn elsewhere(leader: u8, kind: u8) -> [Stated; 6] {
         Stated { leader: 3, ..here },
         Stated { module: 3, ..here },
         Stated {
-            kind: 3 - kind,
+            kind: other_kind(kind),
             ..here
         },
         Stated { slot: 5, ..here },
