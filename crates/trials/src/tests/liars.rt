@@ -168,6 +168,7 @@ fn a_repeat_does_not_end_a_run(rt: HostRuntime) -> Result<(), Fail> {
         assert_eq!(rt; in_brief(&world.event(alloc, &event)), Told::Done);
     }
     assert_eq!(rt; calm(alloc, &mut world), Told::Done);
+    assert!(rt; world.setup().n == 4);
     for core in 0..4u32 {
         assert_eq!(rt; world.entries(core).len(), 0, "at {core}");
     }
