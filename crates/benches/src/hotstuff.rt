@@ -181,6 +181,11 @@ fn check(alloc: Global, p: &Params, from: NodeId, msg: &Message) -> Timed<()>
     Ok(())
 }
 
+/// A number of things, as it is counted here.
+pub fn count_of(things: usize) -> u32 {
+    u32::try_from(things).unwrap_or(u32::MAX)
+}
+
 impl Cluster {
     /// Fresh nodes, which hear Decides or not.
     pub fn new(alloc: Global, p: &Params, is_cut: bool) -> Timed<Cluster>
@@ -230,7 +235,9 @@ impl Cluster {
             return Ok(());
         };
         let effects = core.node.step(alloc, p, input, true, &mut core.keys)?;
-        self.delivered = self.delivered.wrapping_add(effects.delivers.len() as u32);
+        self.delivered = self
+            .delivered
+            .wrapping_add(count_of(effects.delivers.len()));
         for (to, msg) in effects.sends.into_vec() {
             self.send(alloc, at, to, &msg)?;
         }

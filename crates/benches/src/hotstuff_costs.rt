@@ -5,7 +5,7 @@ ghost use Rattle.iss_sb.specs.Calls.{IsGoodParams};
 ghost use Rattle.sb_hotstuff.specs.HotStuff.{hotstuff};
 
 use crate::digests::{Best, Digests, NONE_YET, nanos_since, time_digests};
-use crate::hotstuff::{Cluster, segment};
+use crate::hotstuff::{Cluster, count_of, segment};
 use crate::raft::{Timed, batch};
 use hs_tree::signing::held_string;
 use iss_request::{Batch, Bytes};
@@ -46,7 +46,7 @@ fn order(rt: &HostRuntime, p: &Params, requests: u32) -> Timed<Cost>
     cluster.cast_all(alloc, p, &batch)?;
     Ok(Cost {
         nanos: nanos_since(rt, start)?,
-        signatures: cluster.sent.len() as u32,
+        signatures: count_of(cluster.sent.len()),
         delivered: cluster.delivered,
     })
 }
@@ -63,7 +63,7 @@ fn change(rt: &HostRuntime, p: &Params) -> Timed<Cost>
     cluster.change_round(alloc, p)?;
     Ok(Cost {
         nanos: nanos_since(rt, start)?,
-        signatures: cluster.sent.len().wrapping_sub(before) as u32,
+        signatures: count_of(cluster.sent.len().wrapping_sub(before)),
         delivered: cluster.delivered,
     })
 }
@@ -208,7 +208,7 @@ fn count_these(rt: &HostRuntime, ordered: &Params, changed: &Params) -> Timed<()
     Ok(())
 }
 
-fn count_of(rt: &HostRuntime, f: u32, keys: u32, count: u64) -> Timed<()>
+fn count_in(rt: &HostRuntime, f: u32, keys: u32, count: u64) -> Timed<()>
     requires faults { f ≤ 3 }
     requires low { 2 ≤ keys }
     requires high { keys ≤ 12 }
@@ -222,5 +222,5 @@ fn count_of(rt: &HostRuntime, f: u32, keys: u32, count: u64) -> Timed<()>
 
 /// Orders four slots among four nodes and changes the round, and prints how many signatures and deliveries that takes.
 pub fn count_all(rt: &HostRuntime) -> Timed<()> {
-    count_of(rt, 1, 6, 4)
+    count_in(rt, 1, 6, 4)
 }
