@@ -80,10 +80,10 @@ fn signed_elsewhere(
         let told = take(alloc, world, 2, packet.as_slice())?;
         assert_eq!(rt; told, refused, "a word of {node} with {other:?}");
     }
-    for other in elsewhere(node, ECHO) {
-        let packet = echo(alloc, keys, node, &of_first_epoch(node, ECHO), &other)?;
+    for another in elsewhere(node, ECHO) {
+        let packet = echo(alloc, keys, node, &of_first_epoch(node, ECHO), &another)?;
         let told = take(alloc, world, 2, packet.as_slice())?;
-        assert_eq!(rt; told, refused, "an echo of {node} with {other:?}");
+        assert_eq!(rt; told, refused, "an echo of {node} with {another:?}");
     }
     Ok(())
 }
