@@ -220,16 +220,10 @@ pub(crate) fn request_packet(alloc: Global, request: &[u8]) -> Result<Bytes, NoM
     packet(alloc, 5, 255, 0, 0, request)
 }
 
-/// The batch with a request, as a value; the empty one with none.
-pub(crate) fn batch(alloc: Global, request: Option<&[u8]>) -> Result<Bytes, NoMemory> {
+/// The batch with one request, as a value.
+pub(crate) fn batch(alloc: Global, request: &[u8]) -> Result<Bytes, NoMemory> {
     let mut out = Writer::new(alloc, 1);
-    out.put_u8(1)?;
-    match request {
-        Some(request) => {
-            out.put_u8(1)?;
-            out.put_bytes(request)?;
-        }
-        None => out.put_u8(0)?,
-    }
+    out.put_bytes(&[1, 1])?;
+    out.put_bytes(request)?;
     Ok(out.into_bytes())
 }

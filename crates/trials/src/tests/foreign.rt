@@ -2,8 +2,8 @@
 ghost use Rattle.std.specs.Prelude.{◌≡◌, ◌<◌, IfOk};
 
 use crate::tests::echoing::{
-    ECHO, SAY, Stated, batch, calm, digest_of, key, message, of_first_epoch, propose, signature,
-    take, world,
+    ECHO, SAY, Stated, calm, digest_of, key, message, of_first_epoch, propose, signature, take,
+    world,
 };
 use crate::tests::played::Told;
 use iss_keys::Keys;
@@ -15,6 +15,9 @@ use std::alloc::Global;
 use std::process::Abort;
 use std::test::Fail;
 
+// The empty batch, as a value.
+const EMPTY: &[u8] = &[1, 0];
+
 // A node's word at this place on the empty batch, with what its key signs of this statement by its last leaf.
 fn word(
     alloc: Global,
@@ -23,9 +26,8 @@ fn word(
     place: &Stated,
     signed: &Stated,
 ) -> Result<Bytes, Fail> {
-    let value = batch(alloc, None)?;
-    let sig = signature(alloc, keys, 15, signed, value.as_slice())?;
-    Ok(message(alloc, from, place, value.as_slice(), sig.as_slice())?)
+    let sig = signature(alloc, keys, 15, signed, EMPTY)?;
+    Ok(message(alloc, from, place, EMPTY, sig.as_slice())?)
 }
 
 // A node's echo of the empty batch, likewise.
@@ -36,10 +38,25 @@ fn echo(
     place: &Stated,
     signed: &Stated,
 ) -> Result<Bytes, Fail> {
-    let value = batch(alloc, None)?;
-    let sig = signature(alloc, keys, 15, signed, value.as_slice())?;
-    let digest = digest_of(value.as_slice());
-    Ok(message(alloc, from, place, &digest, sig.as_slice())?)
+    let sig = signature(alloc, keys, 15, signed, EMPTY)?;
+    Ok(message(alloc, from, place, &digest_of(EMPTY), sig.as_slice())?)
+}
+
+// Node 2 takes these bytes, and answers so.
+fn answers(
+    rt: &impl Abort,
+    alloc: Global,
+    world: &mut World<Echo>,
+    packet: &Bytes,
+    expected: Told,
+) -> Result<(), Fail>
+    requires kind { world.old.running.setup.kind ≡ Kind.Byzantine }
+    requires nodes { world.old.running.setup.n ≡ 4 }
+    ensures same { world.new.running.setup ≡ world.old.running.setup }
+{
+    let told = take(alloc, world, 2, packet.as_slice())?;
+    assert_eq!(rt; told, expected);
+    Ok(())
 }
 
 fn other_kind(kind: u8) -> u8 {
@@ -95,11 +112,10 @@ fn signed_here(rt: &impl Abort, alloc: Global, node: u8, expected: Told) -> Resu
     signed_elsewhere(rt, alloc, &mut world, &keys, node)?;
     let place = of_first_epoch(node, ECHO);
     let packet = echo(alloc, &keys, node, &place, &place)?;
-    assert_eq!(rt; take(alloc, &mut world, 2, packet.as_slice())?, expected);
+    answers(rt, alloc, &mut world, &packet, expected)?;
     let place = of_first_epoch(node, SAY);
     let packet = word(alloc, &keys, node, &place, &place)?;
-    assert_eq!(rt; take(alloc, &mut world, 2, packet.as_slice())?, expected);
-    Ok(())
+    answers(rt, alloc, &mut world, &packet, expected)
 }
 
 // What node 1 signs is forged, since it never sent it; node 0 may lie, and so its claims are no evidence.
@@ -113,38 +129,34 @@ fn a_claim_is_of_what_was_signed(rt: HostRuntime) -> Result<(), Fail> {
 #[test]
 fn a_claim_is_checked_under_the_key_of_whom_it_names(rt: HostRuntime) -> Result<(), Fail> {
     let alloc = rt.alloc();
-    let value = batch(alloc, None)?;
     let place = of_first_epoch(1, SAY);
     let keys = key(alloc, 0x20, 0)?;
-    let sig = signature(alloc, &keys, 0, &place, value.as_slice())?;
-    let packet = message(alloc, 1, &place, value.as_slice(), sig.as_slice())?;
+    let packet = word(alloc, &keys, 1, &place, &place)?;
     let mut world = world(alloc)?;
-    let told = take(alloc, &mut world, 2, packet.as_slice())?;
-    assert_eq!(rt; told, Told::Lost(Why::BadClaim));
-    Ok(())
+    answers(&rt, alloc, &mut world, &packet, Told::Lost(Why::BadClaim))
+}
+
+// What node 1 signs of its word on the empty batch, as this says or echoes something.
+fn word_of_one(alloc: Global, place: &Stated, said: &[u8]) -> Result<Bytes, Fail> {
+    let keys = key(alloc, 0x20, 1)?;
+    let sig = signature(alloc, &keys, 0, &of_first_epoch(1, SAY), EMPTY)?;
+    Ok(message(alloc, 1, place, said, sig.as_slice())?)
 }
 
 // What was truly sent in one instance is no claim of another, nor what was said one that was echoed; as it was sent it may come again.
 #[test]
 fn a_claim_of_another_instance_does_not_verify(rt: HostRuntime) -> Result<(), Fail> {
     let alloc = rt.alloc();
-    let value = batch(alloc, None)?;
     let say = of_first_epoch(1, SAY);
-    let keys = key(alloc, 0x20, 1)?;
-    let sig = signature(alloc, &keys, 0, &say, value.as_slice())?;
     let mut world = world(alloc)?;
     assert_eq!(rt; propose(alloc, &mut world, 1), Told::Done);
-    let other = Stated { leader: 3, ..say };
-    let packet = message(alloc, 1, &other, value.as_slice(), sig.as_slice())?;
-    let told = take(alloc, &mut world, 2, packet.as_slice())?;
-    assert_eq!(rt; told, Told::Lost(Why::BadClaim));
-    let digest = digest_of(value.as_slice());
-    let packet = message(alloc, 1, &of_first_epoch(1, ECHO), &digest, sig.as_slice())?;
-    let told = take(alloc, &mut world, 2, packet.as_slice())?;
-    assert_eq!(rt; told, Told::Lost(Why::BadClaim));
-    let packet = message(alloc, 1, &say, value.as_slice(), sig.as_slice())?;
-    assert_eq!(rt; take(alloc, &mut world, 2, packet.as_slice())?, Told::Done);
-    Ok(())
+    let refused = Told::Lost(Why::BadClaim);
+    let packet = word_of_one(alloc, &Stated { leader: 3, ..say }, EMPTY)?;
+    answers(&rt, alloc, &mut world, &packet, refused)?;
+    let packet = word_of_one(alloc, &of_first_epoch(1, ECHO), &digest_of(EMPTY))?;
+    answers(&rt, alloc, &mut world, &packet, refused)?;
+    let packet = word_of_one(alloc, &say, EMPTY)?;
+    answers(&rt, alloc, &mut world, &packet, Told::Done)
 }
 
 // A word of the next epoch.
@@ -185,22 +197,21 @@ fn are_at(rt: &impl Abort, world: &World<Echo>, epoch: u64, slots: usize) -> Res
     Ok(())
 }
 
+// A node's word of the next epoch, signed as this, goes by: all come to that epoch.
+fn goes_by(rt: &impl Abort, alloc: Global, node: u8, signed: &Stated) -> Result<(), Fail> {
+    let mut world = world(alloc)?;
+    let keys = key(alloc, 0x20, node)?;
+    let packet = word(alloc, &keys, node, &early(node), signed)?;
+    let told = into_the_next_epoch(rt, alloc, &mut world, &packet)?;
+    assert_eq!(rt; told, Told::Done);
+    are_at(rt, &world, 1, 4)
+}
+
 // What came early is read when its epoch begins: where it does not verify the run goes on, and where it is of a node that may lie.
 #[test]
 fn early_claims_that_are_no_evidence(rt: HostRuntime) -> Result<(), Fail> {
-    let alloc = rt.alloc();
-    let mut first = world(alloc)?;
-    let keys = key(alloc, 0x20, 1)?;
-    let packet = word(alloc, &keys, 1, &early(1), &of_first_epoch(1, SAY))?;
-    let told = into_the_next_epoch(&rt, alloc, &mut first, &packet)?;
-    assert_eq!(rt; told, Told::Done);
-    are_at(&rt, &first, 1, 4)?;
-    let mut second = world(alloc)?;
-    let keys = key(alloc, 0x20, 0)?;
-    let packet = word(alloc, &keys, 0, &early(0), &early(0))?;
-    let told = into_the_next_epoch(&rt, alloc, &mut second, &packet)?;
-    assert_eq!(rt; told, Told::Done);
-    are_at(&rt, &second, 1, 4)
+    goes_by(&rt, rt.alloc(), 1, &of_first_epoch(1, SAY))?;
+    goes_by(&rt, rt.alloc(), 0, &early(0))
 }
 
 // One of node 1 that it never sent ends the run in the delivery that would begin the epoch. Node 2 goes back to before it.

@@ -197,7 +197,7 @@ fn after_a_word(rt: &impl Abort, alloc: Global, request: &[u8]) -> Result<World<
 
 // What node 1 said of the batch with this request.
 fn word_of_one(alloc: Global, request: &[u8]) -> Result<Case, Fail> {
-    let value = batch(alloc, Some(request))?;
+    let value = batch(alloc, request)?;
     let place = of_first_epoch(1, SAY);
     let keys = key(alloc, 0x20, 1)?;
     let sig = signature(alloc, &keys, 0, &place, value.as_slice())?;
@@ -210,7 +210,7 @@ fn word_of_one(alloc: Global, request: &[u8]) -> Result<Case, Fail> {
 
 // What node 1 echoed of its own batch with this request.
 fn echo_of_one(alloc: Global, request: &[u8]) -> Result<Case, Fail> {
-    let value = batch(alloc, Some(request))?;
+    let value = batch(alloc, request)?;
     let place = of_first_epoch(1, ECHO);
     let keys = key(alloc, 0x20, 1)?;
     let sig = signature(alloc, &keys, 1, &place, value.as_slice())?;
@@ -272,7 +272,7 @@ fn a_changed_request_is_refused_by_name(rt: HostRuntime) -> Result<(), Fail> {
 
 // What node 0 says of a batch with this request, as it would be signed if the request were a good one.
 fn lie(alloc: Global, keys: &Keys, request: &[u8]) -> Result<Bytes, Fail> {
-    let value = batch(alloc, Some(request))?;
+    let value = batch(alloc, request)?;
     let place = of_first_epoch(0, SAY);
     let sig = signature(alloc, keys, 0, &place, value.as_slice())?;
     Ok(message(alloc, 0, &place, value.as_slice(), sig.as_slice())?)
