@@ -288,7 +288,7 @@ impl Cluster {
     pub fn time_out(&mut self, alloc: Global, p: &Params, many: u32) -> Timed<()>
         requires { IsGoodParams pbft p.now }
     {
-        for at in 0..many as u8 {
+        for at in 0..u8::try_from(many).unwrap_or(u8::MAX) {
             if (at as u32) < p.setup.n {
                 self.take(alloc, p, at, Input::Timeout)?;
             }

@@ -76,7 +76,7 @@ fn given_up(alloc: Global, p: &Params, size: Size) -> Timed<(Cluster, Vec<Post>)
 
 // The nodes that hear what is timed.
 fn hearers(what: Work, f: u32) -> (u8, u8) {
-    let n = f.wrapping_mul(3).wrapping_add(1) as u8;
+    let n = u8::try_from(f.wrapping_mul(3).wrapping_add(1)).unwrap_or(u8::MAX);
     match what {
         Work::Primary => (1, 2),
         Work::Follower => (n.wrapping_sub(1), n),

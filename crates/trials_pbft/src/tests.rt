@@ -100,113 +100,77 @@ fn right(alloc: Global, f: u32, me: u8, lines: &[Line]) -> Result<usize, Fail>
     Ok(right)
 }
 
-// What begins a view: the ViewChanges of nodes 0, 1 and 2 of the view, with two signatures.
-const fn of(view: u16) -> Begins {
-    Begins([0, 1, 2, 3], 3, view, Shown::Nothing, 2)
+// A NewView of the ViewChanges of nodes 0, 1 and 2 of the view, with two signatures.
+fn begin(view: u16) -> Said {
+    Said::NewView(view, Begins([0, 1, 2, 3], 3, view, Shown::Nothing, 2))
+}
+
+// One of view 1 with the ViewChanges of the first so many of these.
+fn by(nodes: [u8; 4], many: usize) -> Said {
+    Said::NewView(1, Begins(nodes, many, 1, Shown::Nothing, 2))
+}
+
+// One with so many signatures.
+fn signed(many: usize) -> Said {
+    Said::NewView(1, Begins([0, 1, 2, 3], 3, 1, Shown::Nothing, many))
+}
+
+// One of which the first ViewChange shows this.
+fn showing(shown: Shown) -> Said {
+    Said::NewView(1, Begins([0, 1, 2, 3], 3, 1, shown, 2))
+}
+
+// One whose ViewChanges are of another view.
+fn of_another(view: u16) -> Said {
+    Said::NewView(1, Begins([0, 1, 2, 3], 3, view, Shown::Nothing, 2))
 }
 
 // A NewView begins its view once, where it is just as it is to be.
 #[test]
 fn new_views_that_begin_nothing(rt: HostRuntime) -> Result<(), Fail> {
     let lines = [
-        Line(
-            Said::NewView(1, Begins([0, 1, 2, 3], 2, 1, Shown::Nothing, 2)),
-            1,
-            0,
-            0,
-        ),
-        Line(
-            Said::NewView(1, Begins([0, 1, 2, 3], 4, 1, Shown::Nothing, 2)),
-            1,
-            0,
-            0,
-        ),
-        Line(
-            Said::NewView(1, Begins([1, 0, 2, 3], 3, 1, Shown::Nothing, 2)),
-            1,
-            0,
-            0,
-        ),
-        Line(
-            Said::NewView(1, Begins([0, 0, 2, 3], 3, 1, Shown::Nothing, 2)),
-            1,
-            0,
-            0,
-        ),
-        Line(
-            Said::NewView(1, Begins([0, 1, 4, 3], 3, 1, Shown::Nothing, 2)),
-            1,
-            0,
-            0,
-        ),
-        Line(
-            Said::NewView(1, Begins([0, 1, 2, 3], 3, 2, Shown::Nothing, 2)),
-            1,
-            0,
-            0,
-        ),
-        Line(
-            Said::NewView(1, Begins([0, 1, 2, 3], 3, 1, Shown::Nothing, 1)),
-            1,
-            0,
-            0,
-        ),
-        Line(
-            Said::NewView(1, Begins([0, 1, 2, 3], 3, 1, Shown::Nothing, 3)),
-            1,
-            0,
-            0,
-        ),
-        Line(
-            Said::NewView(1, Begins([0, 1, 2, 3], 3, 1, Shown::ViewItself, 2)),
-            1,
-            0,
-            0,
-        ),
-        Line(
-            Said::NewView(1, Begins([0, 1, 2, 3], 3, 1, Shown::TwoVotesOfOneNode, 2)),
-            1,
-            0,
-            0,
-        ),
-        Line(
-            Said::NewView(0, Begins([0, 1, 2, 3], 3, 0, Shown::Nothing, 2)),
-            0,
-            0,
-            0,
-        ),
-        Line(Said::NewView(1, of(1)), 2, 0, 0),
-        Line(
-            Said::NewView(1, Begins([0, 1, 2, 3], 3, 1, Shown::Good, 2)),
-            1,
-            2,
-            0,
-        ),
-        Line(Said::NewView(1, of(1)), 1, 0, 0),
+        Line(by([0, 1, 2, 3], 2), 1, 0, 0),
+        Line(by([0, 1, 2, 3], 4), 1, 0, 0),
+        Line(by([1, 0, 2, 3], 3), 1, 0, 0),
+        Line(by([0, 0, 2, 3], 3), 1, 0, 0),
+        Line(by([0, 1, 4, 3], 3), 1, 0, 0),
+        Line(of_another(2), 1, 0, 0),
+        Line(signed(1), 1, 0, 0),
+        Line(signed(3), 1, 0, 0),
+        Line(showing(Shown::ViewItself), 1, 0, 0),
+        Line(showing(Shown::TwoVotesOfOneNode), 1, 0, 0),
+        Line(begin(0), 0, 0, 0),
+        Line(begin(1), 2, 0, 0),
+        Line(showing(Shown::Good), 1, 2, 0),
+        Line(begin(1), 1, 0, 0),
     ];
     assert_eq!(rt; right(rt.alloc(), 1, 3, &lines)?, 14);
     broadcast::<Pbft>();
     Ok(())
 }
 
+fn give_up(shown: Shown) -> Said {
+    Said::Change(1, shown)
+}
+
 // The primary of view 1 says a NewView with the third ViewChange that is good, and no other one.
 #[test]
 fn certificates_that_are_not_good(rt: HostRuntime) -> Result<(), Fail> {
     let lines = [
-        Line(Said::Change(1, Shown::Nothing), 0, 0, 0),
-        Line(Said::Change(1, Shown::Nothing), 0, 0, 0),
-        Line(Said::Change(1, Shown::Good), 2, 0, 0),
-        Line(Said::Change(1, Shown::OneVoteTooFew), 3, 0, 0),
-        Line(Said::Change(1, Shown::OneVoteTooMany), 3, 0, 0),
-        Line(Said::Change(1, Shown::VoteOfThePrimary), 3, 0, 0),
-        Line(Said::Change(1, Shown::TwoVotesOfOneNode), 3, 0, 0),
-        Line(Said::Change(1, Shown::VotesThatFall), 3, 0, 0),
-        Line(Said::Change(1, Shown::VoteBeyondTheNodes), 3, 0, 0),
-        Line(Said::Change(1, Shown::OtherSlot), 3, 0, 0),
-        Line(Said::Change(1, Shown::ViewItself), 3, 0, 0),
-        Line(Said::Change(1, Shown::NilInTheFirstView), 3, 0, 0),
-        Line(Said::Change(1, Shown::Good), 3, 1, 0),
-        Line(Said::Change(1, Shown::Good), 1, 0, 0),
+        Line(give_up(Shown::Nothing), 0, 0, 0),
+        Line(give_up(Shown::Nothing), 0, 0, 0),
+        Line(give_up(Shown::Good), 2, 0, 0),
+        Line(give_up(Shown::OneVoteTooFew), 3, 0, 0),
+        Line(give_up(Shown::OneVoteTooMany), 3, 0, 0),
+        Line(give_up(Shown::VoteOfThePrimary), 3, 0, 0),
+        Line(give_up(Shown::TwoVotesOfOneNode), 3, 0, 0),
+        Line(give_up(Shown::VotesThatFall), 3, 0, 0),
+        Line(give_up(Shown::VoteBeyondTheNodes), 3, 0, 0),
+        Line(give_up(Shown::OtherSlot), 3, 0, 0),
+        Line(give_up(Shown::ViewItself), 3, 0, 0),
+        Line(give_up(Shown::NilInTheFirstView), 3, 0, 0),
+        Line(give_up(Shown::Good), 3, 1, 0),
+        Line(give_up(Shown::Good), 1, 0, 0),
     ];
     assert_eq!(rt; right(rt.alloc(), 1, 1, &lines)?, 14);
     Ok(())
@@ -216,13 +180,13 @@ fn certificates_that_are_not_good(rt: HostRuntime) -> Result<(), Fail> {
 #[test]
 fn the_last_view(rt: HostRuntime) -> Result<(), Fail> {
     let lines = [
-        Line(Said::NewView(65_534, of(65_534)), 2, 2, 0),
+        Line(begin(65_534), 2, 2, 0),
         Line(Said::Timeout, 3, 1, 0),
         Line(Said::Change(65_535, Shown::Good), 0, 0, 0),
         Line(Said::Change(65_535, Shown::Nothing), 1, 0, 0),
         Line(Said::Timeout, 3, 0, 0),
         Line(Said::Change(65_535, Shown::Nothing), 2, 1, 0),
-        Line(Said::NewView(65_535, of(65_535)), 3, 0, 0),
+        Line(begin(65_535), 3, 0, 0),
         Line(Said::Timeout, 3, 0, 0),
         Line(Said::Prepare(65_535, true), 0, 0, 0),
         Line(Said::Prepare(65_535, true), 1, 1, 0),
@@ -268,12 +232,7 @@ fn one_node(rt: HostRuntime) -> Result<(), Fail> {
         Line(Said::Commit(0, false), 0, 0, 1),
         Line(Said::Cast, 0, 0, 0),
         Line(Said::Timeout, 0, 1, 0),
-        Line(
-            Said::NewView(1, Begins([0, 1, 2, 3], 1, 1, Shown::Nothing, 2)),
-            0,
-            2,
-            0,
-        ),
+        Line(by([0, 1, 2, 3], 1), 0, 2, 0),
     ];
     assert_eq!(rt; right(rt.alloc(), 0, 0, &lines)?, 5);
     Ok(())

@@ -24,7 +24,7 @@ fn put_words(
 ) -> Result<(), Fail> {
     let keys = key(alloc, 0x20, node)?;
     let request = request(alloc, 0, number)?;
-    let value = batch(alloc, Some(request.as_slice()))?;
+    let value = batch(alloc, request.as_slice())?;
     let say = of_first_epoch(node, SAY);
     let sig = signature(alloc, &keys, leaves[0], &say, value.as_slice())?;
     packets.push(message(alloc, node, &say, value.as_slice(), sig.as_slice())?)?;
