@@ -1,5 +1,5 @@
 //! Four nodes over echo, of which node 0 may lie: what they sign and send, spelled field by field here, beside the code that is tested.
-ghost use Rattle.std.specs.Prelude.{◌≡◌, ◌<◌, IfOk};
+ghost use Rattle.std.specs.Prelude.{◌≡◌, ◌<◌, ◌≤◌, IfOk};
 ghost use Rattle.hex.specs.Hex.{IsBytes};
 ghost use Rattle.iss_model.specs.Runs.{IsSetupOf};
 ghost use Rattle.sb_echo.specs.Echo.{echo};
@@ -13,9 +13,6 @@ use sb_echo::Echo;
 use sha2::{Digest, Sha256};
 use std::alloc::Global;
 use std::test::Fail;
-
-/// Of keys with sixteen leaves: how many bytes of a signature stand behind its height.
-pub const BEHIND_HEIGHT: usize = 2149 + 32 * 4 - 1;
 
 /// Each epoch has a slot for each node; the bucket of a request is its client and its number, added.
 pub fn setup(alloc: Global) -> Result<Setup, NoMemory>
@@ -139,9 +136,17 @@ fn sign(alloc: Global, keys: &Keys, leaf: u32, statement: &[u8]) -> Result<Bytes
     Ok(Bytes::of(keys.sign_at(leaf, statement)?))
 }
 
+// A key of which no leaf is used.
+fn fresh(alloc: Global, secret: [u8; 32], height: u8) -> Result<Keys, Fail>
+    requires low { 2 ≤ height }
+    requires high { height ≤ 12 }
+{
+    Ok(Keys::make(alloc, secret, height)?)
+}
+
 /// The key of node (0x20) or client (0x21) so and so.
 pub(crate) fn key(alloc: Global, owner: u8, number: u8) -> Result<Keys, Fail> {
-    Ok(Keys::make(alloc, Sha256::digest([owner, number]), 4)?)
+    fresh(alloc, Sha256::digest([owner, number]), 4)
 }
 
 /// The digest of a value with this spelling.
@@ -213,11 +218,6 @@ pub(crate) fn request(alloc: Global, client: u8, number: u32) -> Result<Bytes, F
     all.put_bytes(statement.as_slice().get(1..).unwrap_or(&[]))?;
     all.put_bytes(sig.as_slice())?;
     Ok(all.into_bytes())
-}
-
-/// The packet of a request.
-pub(crate) fn request_packet(alloc: Global, request: &[u8]) -> Result<Bytes, NoMemory> {
-    packet(alloc, 5, 255, 0, 0, request)
 }
 
 /// The batch with one request, as a value.
