@@ -1,6 +1,7 @@
 #!/bin/bash
 # Times the proved build of the program on schedules of a kind and a size, and prints for each the events a second, the most memory
-# that was taken, and how many times the time of the size before. The best of ROUNDS runs counts, each in 2 GB of memory.
+# that was taken, and how many times the time of the size before. The best of ROUNDS runs counts, each in 2 GB of memory. Time is
+# that of the clock, or with COUNT=processor what the run took of a processor, which other work on the machine changes less.
 #
 #   bench/replay.sh                     all kinds at the sizes below
 #   bench/replay.sh KIND SIZE..         one kind at these sizes
@@ -103,17 +104,24 @@ again() {
 
 # The seconds of the best of ROUNDS runs, and the most memory of one in MB. Nothing where a run does not end well, as without memory.
 cost() {
-    local start end best="" most=0 kilobytes
+    local best="" most=0 clock user system seconds kilobytes
     for _ in $(seq "${ROUNDS:-7}"); do
-        start=$(date +%s%N)
-        (ulimit -v 2097152; exec /usr/bin/time -q -f %M -o "$work/memory" "$build" replay < "$1" > "$work/out") || return
-        end=$(date +%s%N)
-        kilobytes=$(cat "$work/memory")
+        { time one_run "$1" 2>&3; } 3>&2 2> "$work/times" || return
+        read -r clock user system < "$work/times"
+        read -r kilobytes < "$work/memory"
         [ "$kilobytes" -le "$most" ] || most=$kilobytes
-        [ -n "$best" ] && [ $((end - start)) -ge "$best" ] || best=$((end - start))
+        seconds=$clock
+        [ "$COUNT" != processor ] || seconds=$(awk -v u="$user" -v s="$system" 'BEGIN { print u + s }')
+        best=$(awk -v a="$seconds" -v b="${best:-$seconds}" 'BEGIN { print a < b ? a : b }')
     done
-    awk -v n="$best" -v k="$most" 'BEGIN { printf "%.4f %.0f", n / 1e9, k / 1024 }'
+    awk -v n="$best" -v k="$most" 'BEGIN { printf "%.3f %.0f", n, k / 1024 }'
 }
+
+# Runs the program on a schedule in 2 GB, and notes the memory that it took.
+one_run() (
+    ulimit -v 2097152
+    exec /usr/bin/time -q -f %M -o "$work/memory" "$build" replay < "$1" > "$work/out"
+)
 
 # Runs a kind of schedule at each size.
 measure() {
@@ -140,6 +148,7 @@ top=$(cd "$(dirname "$0")/.." && pwd)
 build=$top/crates/iss/out/iss
 [ -x "$build" ] || { echo "bench: prove and build first: cd crates/iss && rt run"; exit 1; }
 [ -x /usr/bin/time ] || { echo "bench: /usr/bin/time is wanted (Debian's package time)"; exit 1; }
+TIMEFORMAT='%3R %3U %3S'
 work=$(mktemp -d)
 trap 'rm -rf "$work"' EXIT
 if [ $# -gt 0 ]; then

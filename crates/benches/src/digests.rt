@@ -25,6 +25,17 @@ pub struct Digests {
     pub leaf: u32,
 }
 
+impl Digests {
+    /// These and the others.
+    pub fn and(self, others: Digests) -> Digests {
+        Digests {
+            short: self.short.wrapping_add(others.short),
+            inner: self.inner.wrapping_add(others.inner),
+            leaf: self.leaf.wrapping_add(others.leaf),
+        }
+    }
+}
+
 /// The best time of several, in nanoseconds: of the work, and of its digests alone.
 #[derive(Clone, Copy)]
 pub struct Best {
@@ -96,11 +107,29 @@ fn steps_signed(statement: &[u8]) -> u32 {
         .wrapping_add(check % 16)
 }
 
+/// Those of a signature of a statement.
+pub(crate) fn digests_of_one_signature(statement: &[u8]) -> Digests {
+    Digests {
+        short: steps_signed(statement).wrapping_add(CHAINS + 1),
+        inner: 0,
+        leaf: 0,
+    }
+}
+
+/// Those of a check of a statement's signature under a tree of this height.
+pub(crate) fn digests_of_one_check(statement: &[u8], height: u8) -> Digests {
+    Digests {
+        short: (CHAINS * STEPS + 1).saturating_sub(steps_signed(statement)),
+        inner: u32::from(height),
+        leaf: 1,
+    }
+}
+
 /// Those of so many signatures.
 pub(crate) fn digests_of_signatures(count: u32) -> Digests {
-    let each = steps_signed(STATEMENT).wrapping_add(CHAINS + 1);
+    let each = digests_of_one_signature(STATEMENT);
     Digests {
-        short: count.wrapping_mul(each),
+        short: count.wrapping_mul(each.short),
         inner: 0,
         leaf: 0,
     }
@@ -108,10 +137,10 @@ pub(crate) fn digests_of_signatures(count: u32) -> Digests {
 
 /// Those of so many verifications under a tree of this height.
 pub(crate) fn digests_of_verifications(count: u32, height: u8) -> Digests {
-    let each = (CHAINS * STEPS + 1).saturating_sub(steps_signed(STATEMENT));
+    let each = digests_of_one_check(STATEMENT, height);
     Digests {
-        short: count.wrapping_mul(each),
-        inner: count.wrapping_mul(u32::from(height)),
+        short: count.wrapping_mul(each.short),
+        inner: count.wrapping_mul(each.inner),
         leaf: count,
     }
 }

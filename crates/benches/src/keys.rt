@@ -33,6 +33,14 @@ pub(crate) fn client_key(alloc: Global, client: u8, height: u8) -> Timed<Keys>
     key(alloc, Sha256::digest([0x21u8, client]), height)
 }
 
+/// The key of a node.
+pub(crate) fn node_key(alloc: Global, node: u8, height: u8) -> Timed<Keys>
+    requires low { 2 ≤ height }
+    requires high { height ≤ 12 }
+{
+    key(alloc, Sha256::digest([0x20u8, node]), height)
+}
+
 /// A signature of the statement.
 pub(crate) fn signature_by(keys: &mut Keys) -> Timed<Vec<u8>> {
     Ok(keys.sign(STATEMENT)?)

@@ -30,7 +30,8 @@ const MOST: u32 = 100_000_000;
 
 // ---- the instance
 
-fn slots(alloc: Global, count: u64) -> Result<Row<Slot>, NoMemory>
+/// The slots below this number.
+pub fn slots(alloc: Global, count: u64) -> Result<Row<Slot>, NoMemory>
     ensures length { IfOk result (λ s. length s ≡ count) }
     ensures rising { IfOk result (λ s. AreAscending 0 s) }
     ensures low { IfOk result (λ s. AreBelow (2 ^ 64) s) }

@@ -15,6 +15,3 @@ pub use laws::{certificates_count_nodes, messages_are_exact, one_digest_one_bran
 pub use messages::Message;
 pub use tree::Tree;
 pub use wire::{read, write};
-
-#[cfg(test)]
-mod tests;

@@ -1,4 +1,5 @@
 //! Tests over public calls alone.
+mod echoing;
 mod liars;
 mod played;
 mod replays;

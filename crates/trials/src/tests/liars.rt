@@ -1,157 +1,46 @@
 //! Four nodes over echo, of which node 0 lies: it says one batch to node 1 and another one to the nodes 2 and 3.
-ghost use Rattle.std.specs.Prelude.{◌≡◌, ◌<◌, ◌≤◌, ℕ, IfOk, OnOk};
-ghost use Rattle.hex.specs.Hex.{IsBytes};
-ghost use Rattle.iss_model.specs.Runs.{IsSetupOf};
-ghost use Rattle.iss_sb.specs.Calls.{IsGoodParams};
-ghost use Rattle.sb_echo.specs.Echo.{echo};
-ghost use Rattle.sb_echo.specs.Stands.{Stands};
+ghost use Rattle.std.specs.Prelude.{◌≡◌, ◌<◌, IfOk};
 
-use crate::tests::played::{Told, in_brief};
-use iss_keys::{Keys, SharedDirectory};
-use iss_model::Why;
-use iss_packet::{Packet, PacketKind};
-use iss_request::{
-    Batch, Bytes, Epoch, Kind, NoMemory, NodeId, Nodes, Policy, ReqId, Request, Row, Setup, Slot,
-    Writer,
+use crate::tests::echoing::{
+    ECHO, SAY, batch, calm, digest_of, key, message, of_first_epoch, propose, request, signature,
+    take, world,
 };
-use iss_sb::{Input, Params, Sequenced, To};
+use crate::tests::played::{Told, in_brief};
+use iss_model::Why;
+use iss_request::{Bytes, Kind, NoMemory};
 use iss_schedule::Event;
-use iss_segment::sign_request;
 use iss_world::World;
-use sb_echo::{Echo, Word};
-use sha2::{Digest, Sha256};
+use sb_echo::Echo;
 use std::alloc::Global;
 use std::test::Fail;
 
-// The instance that node `leader` leads, of which one slot is asked; node 0 is the liar.
-fn instance(alloc: Global, leader: u8) -> Result<Params, NoMemory>
-    requires { leader < 4 }
-    ensures good { IfOk result (λ p. IsGoodParams echo p) }
-    ensures setup { IfOk result (λ p. IsSetupOf echo p.setup) }
-    ensures cores { IfOk result (λ p. p.setup.n ≡ 4) }
-    ensures kind { IfOk result (λ p. p.setup.kind ≡ Kind.Byzantine) }
-{
-    let mut slots = Row::new(alloc);
-    slots.push(Slot(leader as u64))?;
-    let mut faulty = Nodes::new(alloc);
-    faulty.push(NodeId(0))?;
-    let setup = Setup {
-        version: 1,
-        module: 6,
-        f: 1,
-        epoch: 4,
-        buckets: 4,
-        batch: 4,
-        window: 8,
-        policy: Policy::Simple,
-        clients: 1,
-        keys: 4,
-        faulty,
-        n: 4,
-        quorum: 3,
-        kind: Kind::Byzantine,
-        tag: [7; 32],
-    };
-    let Ok(directory) = SharedDirectory::make(alloc, 4, 1, 4) else {
-        return Err(NoMemory);
-    };
-    Ok(Params {
-        setup,
-        epoch: Epoch(0),
-        leader: NodeId(leader),
-        slots,
-        directory,
-    })
-}
-
-// What client 0 signs of a request without a payload.
-fn signature(alloc: Global, id: ReqId) -> Result<Bytes, Fail> {
-    let keys = Keys::make(alloc, Sha256::digest([0x21u8, 0]), 4)?;
-    if id.number >= keys.left() {
-        return Ok(Bytes::of(Vec::new(alloc)));
-    }
-    Ok(sign_request(&keys, id, &[])?)
-}
-
-// A batch of one request, of this number.
-fn batch_of(alloc: Global, number: u32) -> Result<Batch, Fail> {
-    let id = ReqId { client: 0, number };
-    let sig = signature(alloc, id)?;
-    let mut batch = Batch::new(alloc);
-    batch.push(Request {
-        id,
-        payload: Bytes::of(Vec::new(alloc)),
-        sig,
-    })?;
-    Ok(batch)
-}
-
-// What the leader sends that casts the batch, as if it had cast no other: its word, and its own echo of it.
-fn words_on(
+// What a node would send that casts the batch of a request of client 0: its word, and its own echo of it, each signed by a leaf.
+fn put_words(
     alloc: Global,
-    p: &Params,
-    keys: &mut Keys,
-    batch: Batch,
-) -> Result<Row<(To, Word)>, Fail>
-    requires { IsGoodParams echo p.now }
-{
-    let mut leader = Echo::start(alloc, p, p.leader)?;
-    let slot = Slot(p.leader.0 as u64);
-    let cast = Input::Cast { slot, batch };
-    Ok(leader.step(alloc, p, cast, true, keys)?.sends)
-}
-
-// A message of a leader in its own instance, as a packet.
-fn packed(alloc: Global, leader: u8, word: &Word) -> Result<Bytes, NoMemory> {
-    let mut body = Writer::new(alloc, 1);
-    Echo::encode(word, &mut body)?;
-    let packet = Packet {
-        kind: PacketKind::Message,
-        from: leader,
-        epoch: Epoch(0),
-        leader,
-        body: body.into_bytes(),
-    };
-    packet.encode(alloc, 1)
+    packets: &mut Vec<Bytes>,
+    node: u8,
+    number: u32,
+    leaves: [u32; 2],
+) -> Result<(), Fail> {
+    let keys = key(alloc, 0x20, node)?;
+    let request = request(alloc, 0, number)?;
+    let value = batch(alloc, request.as_slice())?;
+    let say = of_first_epoch(node, SAY);
+    let sig = signature(alloc, &keys, leaves[0], &say, value.as_slice())?;
+    packets.push(message(alloc, node, &say, value.as_slice(), sig.as_slice())?)?;
+    let echo = of_first_epoch(node, ECHO);
+    let sig = signature(alloc, &keys, leaves[1], &echo, value.as_slice())?;
+    let digest = digest_of(value.as_slice());
+    packets.push(message(alloc, node, &echo, &digest, sig.as_slice())?)?;
+    Ok(())
 }
 
 // What node 0 says to no two nodes alike: its word and its echo of one batch, and then of another.
-fn lies(alloc: Global, p: &Params) -> Result<Vec<Bytes>, Fail>
-    requires { IsGoodParams echo p.now }
-{
-    let mut keys = Keys::make(alloc, Sha256::digest([0x20u8, 0]), 4)?;
+fn lies(alloc: Global) -> Result<Vec<Bytes>, Fail> {
     let mut packets = Vec::new(alloc);
-    for number in [0, 4] {
-        let batch = batch_of(alloc, number)?;
-        let words = words_on(alloc, p, &mut keys, batch)?;
-        for word in words.as_slice() {
-            packets.push(packed(alloc, 0, &word.1)?)?;
-        }
-    }
+    put_words(alloc, &mut packets, 0, 0, [0, 1])?;
+    put_words(alloc, &mut packets, 0, 4, [2, 3])?;
     Ok(packets)
-}
-
-// The same bytes, each of which is below 256.
-fn bytes_from(all: Vec<u8>) -> Bytes
-    ensures { IsBytes result }
-{
-    Bytes::of(all)
-}
-
-// Node `core` takes these bytes.
-fn inject(
-    alloc: Global,
-    world: &mut World<Echo>,
-    core: u32,
-    packet: &Bytes,
-) -> Result<Told, NoMemory>
-    requires kind { world.old.running.setup.kind ≡ Kind.Byzantine }
-    requires core { core < world.old.running.setup.n }
-    ensures same { world.new.running.setup ≡ world.old.running.setup }
-{
-    let bytes = bytes_from(Vec::from_slice(alloc, packet.as_slice())?);
-    let event = Event::Bytes { core, bytes };
-    Ok(in_brief(&world.event(alloc, &event)))
 }
 
 // The run goes on, and there was memory for an event.
@@ -179,7 +68,7 @@ fn tell(
     if core >= world.setup().n {
         return Ok(());
     }
-    enough(inject(alloc, world, core, packet)?)
+    enough(take(alloc, world, core, packet.as_slice())?)
 }
 
 // Who takes which packet, in this order: node 1 the one word, the others the other, and all of them both echoes.
@@ -214,11 +103,10 @@ fn tell_all(
 fn after_lies(alloc: Global) -> Result<World<Echo>, Fail>
     ensures { IfOk result (λ w. w.running.setup.n ≡ 4) }
 {
-    let p = instance(alloc, 0)?;
-    let packets = lies(alloc, &p)?;
-    let mut world = World::<Echo>::start(alloc, &p.setup)?;
+    let packets = lies(alloc)?;
+    let mut world = world(alloc)?;
     tell_all(alloc, &mut world, &packets, &TOLD)?;
-    enough(in_brief(&world.event(alloc, &Event::Calm { pumps: 4 })))?;
+    enough(calm(alloc, &mut world))?;
     Ok(world)
 }
 
@@ -237,19 +125,6 @@ fn a_liar_makes_no_two_logs(rt: HostRuntime) -> Result<(), Fail> {
     Ok(())
 }
 
-// What node 1 would send that casts the batch, signed with its key, as packets.
-fn words_of_one(alloc: Global, p: &Params) -> Result<Vec<Bytes>, Fail>
-    requires { IsGoodParams echo p.now }
-{
-    let mut keys = Keys::make(alloc, Sha256::digest([0x20u8, 1]), 4)?;
-    let batch = batch_of(alloc, 3)?;
-    let mut packets = Vec::new(alloc);
-    for word in words_on(alloc, p, &mut keys, batch)?.as_slice() {
-        packets.push(packed(alloc, 1, &word.1)?)?;
-    }
-    Ok(packets)
-}
-
 // The same packet with its last byte changed, which is one of its signature.
 fn damaged(alloc: Global, packet: &Bytes) -> Result<Bytes, NoMemory> {
     let mut bytes = Vec::from_slice(alloc, packet.as_slice())?;
@@ -264,21 +139,18 @@ fn damaged(alloc: Global, packet: &Bytes) -> Result<Bytes, NoMemory> {
 #[test]
 fn a_forged_claim_ends_a_run(rt: HostRuntime) -> Result<(), Fail> {
     let alloc = rt.alloc();
-    let p = instance(alloc, 1)?;
-    let packets = words_of_one(alloc, &p)?;
-    let mut world = World::<Echo>::start(alloc, &p.setup)?;
-    assert!(rt; packets.len() == 2 && world.setup().n == 4);
+    let mut packets = Vec::new(alloc);
+    put_words(alloc, &mut packets, 1, 3, [0, 1])?;
+    assert!(rt; packets.len() == 2);
     let bad = damaged(alloc, &packets[0])?;
-    assert_eq!(rt;
-        inject(alloc, &mut world, 2, &bad)?,
-        Told::Lost(Why::BadClaim)
-    );
-    assert_eq!(rt; inject(alloc, &mut world, 2, &packets[0])?, Told::Forged);
-    assert_eq!(rt; inject(alloc, &mut world, 3, &bad)?, Told::Forged);
-    assert_eq!(rt;
-        in_brief(&world.event(alloc, &Event::Propose { core: 1 })),
-        Told::Forged
-    );
+    let mut world = world(alloc)?;
+    let told = take(alloc, &mut world, 2, bad.as_slice())?;
+    assert_eq!(rt; told, Told::Lost(Why::BadClaim));
+    let told = take(alloc, &mut world, 2, packets[0].as_slice())?;
+    assert_eq!(rt; told, Told::Forged);
+    let told = take(alloc, &mut world, 3, bad.as_slice())?;
+    assert_eq!(rt; told, Told::Forged);
+    assert_eq!(rt; propose(alloc, &mut world, 1), Told::Forged);
     for core in 0..4u32 {
         assert_eq!(rt; world.entries(core).len(), 0, "at {core}");
     }
@@ -289,21 +161,14 @@ fn a_forged_claim_ends_a_run(rt: HostRuntime) -> Result<(), Fail> {
 #[test]
 fn a_repeat_does_not_end_a_run(rt: HostRuntime) -> Result<(), Fail> {
     let alloc = rt.alloc();
-    let p = instance(alloc, 1)?;
-    let mut world = World::<Echo>::start(alloc, &p.setup)?;
-    assert!(rt; world.setup().n == 4);
-    assert_eq!(rt;
-        in_brief(&world.event(alloc, &Event::Propose { core: 1 })),
-        Told::Done
-    );
+    let mut world = world(alloc)?;
+    assert_eq!(rt; propose(alloc, &mut world, 1), Told::Done);
     for _ in 0..3 {
         let event = Event::Deliver { packet: 2 };
         assert_eq!(rt; in_brief(&world.event(alloc, &event)), Told::Done);
     }
-    assert_eq!(rt;
-        in_brief(&world.event(alloc, &Event::Calm { pumps: 9 })),
-        Told::Done
-    );
+    assert_eq!(rt; calm(alloc, &mut world), Told::Done);
+    assert!(rt; world.setup().n == 4);
     for core in 0..4u32 {
         assert_eq!(rt; world.entries(core).len(), 0, "at {core}");
     }

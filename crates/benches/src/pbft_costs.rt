@@ -1,0 +1,220 @@
+//! PBFT: what a segment of 64 slots costs over four and over ten nodes, and a change of views with 64 certificates, beside the digests
+//! that the signatures in it take.
+ghost use Rattle.std.specs.Prelude.{◌≡◌, IfOk};
+ghost use Rattle.iss_sb.specs.Calls.{IsGoodParams};
+ghost use Rattle.sb_pbft.specs.Pbft.{pbft};
+
+use crate::digests::{Best, Digests, NONE_YET, nanos_since, time_digests};
+use crate::pbft::{Cluster, Post, Timed, segment};
+use crate::signatures::Seen;
+use iss_sb::Params;
+use std::alloc::Global;
+use std::time::Instant;
+
+/// What is worked: a segment in its normal case, or what 2f+1 ViewChanges lead to: at all nodes, at the new primary, at the last node.
+#[derive(Clone, Copy)]
+enum Work {
+    Order,
+    Change,
+    Primary,
+    Follower,
+}
+
+/// The faults, the height of the trees, the slots.
+#[derive(Clone, Copy)]
+struct Size {
+    f: u32,
+    height: u8,
+    slots: u64,
+}
+
+// An instance of this size in which nothing is checked yet.
+fn fresh(alloc: Global, size: Size) -> Timed<Params>
+    ensures { IfOk result (λ p. IsGoodParams pbft p) }
+{
+    let Size { f, height, slots } = size;
+    if f > 3 || height < 2 || height > 12 || slots < 1 || slots > 64 {
+        Err("no such size")?
+    }
+    Ok(segment(alloc, f, height, slots)?)
+}
+
+// Nodes that took nothing yet, with the trees of their keys.
+fn nodes(alloc: Global, p: &Params, size: Size) -> Timed<Cluster>
+    requires { IsGoodParams pbft p.now }
+{
+    if size.height < 2 || size.height > 12 {
+        Err("no such height")?
+    }
+    Cluster::new(alloc, p, size.height)
+}
+
+// The segment is ordered.
+fn order(rt: &HostRuntime, p: &Params, size: Size, looks: bool) -> Timed<(u64, Cluster)>
+    requires { IsGoodParams pbft p.now }
+{
+    let alloc = rt.alloc();
+    let mut cluster = nodes(alloc, p, size)?;
+    if looks {
+        cluster.look(alloc, size.height)?;
+    }
+    let start = Instant::now(rt)?;
+    cluster.cast_all(alloc, p)?;
+    Ok((nanos_since(rt, start)?, cluster))
+}
+
+// Nodes that ordered the segment and gave up the view, and the first 2f+1 ViewChanges.
+fn given_up(alloc: Global, p: &Params, size: Size) -> Timed<(Cluster, Vec<Post>)>
+    requires { IsGoodParams pbft p.now }
+{
+    let mut cluster = nodes(alloc, p, size)?;
+    cluster.cast_all(alloc, p)?;
+    cluster.time_out(alloc, p, size.f.wrapping_mul(2).wrapping_add(1))?;
+    let changes = cluster.drain(alloc)?;
+    Ok((cluster, changes))
+}
+
+// The nodes that hear what is timed.
+fn hearers(what: Work, f: u32) -> (u8, u8) {
+    let n = u8::try_from(f.wrapping_mul(3).wrapping_add(1)).unwrap_or(u8::MAX);
+    match what {
+        Work::Primary => (1, 2),
+        Work::Follower => (n.wrapping_sub(1), n),
+        _ => (0, n),
+    }
+}
+
+// Nodes hear the ViewChanges, and then the NewView that comes of them, or was there before.
+fn begin(
+    alloc: Global,
+    p: &Params,
+    cluster: &mut Cluster,
+    changes: &[Post],
+    hearers: (u8, u8),
+) -> Timed<()>
+    requires { IsGoodParams pbft p.now }
+{
+    let (first, last) = hearers;
+    cluster.hear_all(alloc, p, changes, first, last)?;
+    let news = cluster.drain(alloc)?;
+    cluster.hear_all(alloc, p, news.as_slice(), first, last)
+}
+
+// The view changes; the nodes have not checked any signature in it before.
+fn change(
+    rt: &HostRuntime,
+    p: &Params,
+    unchecked: &Params,
+    size: Size,
+    what: Work,
+    looks: bool,
+) -> Timed<(u64, Cluster)>
+    requires p { IsGoodParams pbft p.now }
+    requires unchecked { IsGoodParams pbft unchecked.now }
+{
+    let alloc = rt.alloc();
+    let (mut cluster, changes) = given_up(alloc, p, size)?;
+    if let Work::Follower = what {
+        cluster.hear_all(alloc, p, changes.as_slice(), 1, 2)?;
+    }
+    if looks {
+        cluster.look(alloc, size.height)?;
+    }
+    let start = Instant::now(rt)?;
+    let hearers = hearers(what, size.f);
+    begin(alloc, unchecked, &mut cluster, changes.as_slice(), hearers)?;
+    Ok((nanos_since(rt, start)?, cluster))
+}
+
+fn work_once(rt: &HostRuntime, size: Size, what: Work, looks: bool) -> Timed<(u64, Cluster)> {
+    let p = fresh(rt.alloc(), size)?;
+    match what {
+        Work::Order => order(rt, &p, size, looks),
+        _ => {
+            let unchecked = fresh(rt.alloc(), size)?;
+            change(rt, &p, &unchecked, size, what, looks)
+        }
+    }
+}
+
+fn name_of(what: Work) -> &'static str {
+    match what {
+        Work::Order => "ordering",
+        Work::Change => "a change of views",
+        Work::Primary => "at its primary",
+        Work::Follower => "at another node",
+    }
+}
+
+fn print_seen(rt: &HostRuntime, size: Size, what: Work, seen: &Seen) -> Timed<()> {
+    let n = size.f.wrapping_mul(3).wrapping_add(1);
+    let (made, checked) = seen.counts();
+    println!(rt;
+        "{} of {} slots, {n} nodes: {made} signatures made, {checked} checked of {} heard, {:?}",
+        name_of(what),
+        size.slots,
+        seen.heard,
+        seen.digests
+    )?;
+    Ok(())
+}
+
+// Tells what a work cannot do without, and answers its digests.
+fn count(rt: &HostRuntime, size: Size, what: Work) -> Timed<Digests> {
+    let (_, cluster) = work_once(rt, size, what, true)?;
+    let seen = cluster.seen.as_ref().ok_or("nothing was seen")?;
+    print_seen(rt, size, what, seen)?;
+    Ok(seen.digests)
+}
+
+fn print_best(rt: &HostRuntime, best: Best) -> Timed<()> {
+    let percent = best.work.saturating_mul(100) / best.digests.max(1);
+    println!(rt;
+        "    {} us, its digests {} us: {percent} percent",
+        best.work / 1000,
+        best.digests / 1000
+    )?;
+    Ok(())
+}
+
+fn time_one(rt: &HostRuntime, size: Size, what: Work, times: u32) -> Timed<()> {
+    let digests = count(rt, size, what)?;
+    let mut best = NONE_YET;
+    for _ in 0..times {
+        let (work, _) = work_once(rt, size, what, false)?;
+        best = best.note(work, time_digests(rt, digests)?);
+    }
+    print_best(rt, best)
+}
+
+fn time_size(rt: &HostRuntime, size: Size, times: u32) -> Timed<()> {
+    time_one(rt, size, Work::Order, times)?;
+    time_one(rt, size, Work::Change, times)?;
+    time_one(rt, size, Work::Primary, times)?;
+    time_one(rt, size, Work::Follower, times)
+}
+
+/// Times a segment of 64 slots and its change of views over four and over ten nodes; of each the best of so many times counts.
+pub fn time_all(rt: &HostRuntime, times: u32) -> Timed<()> {
+    for f in [1u32, 3] {
+        let size = Size {
+            f,
+            height: 9,
+            slots: 64,
+        };
+        time_size(rt, size, times)?;
+    }
+    Ok(())
+}
+
+/// Counts the signatures of a small segment, and of its change of views.
+pub fn count_all(rt: &HostRuntime) -> Timed<()> {
+    let size = Size {
+        f: 1,
+        height: 5,
+        slots: 2,
+    };
+    let _ordering = count(rt, size, Work::Order)?;
+    let _change = count(rt, size, Work::Change)?;
+    Ok(())
+}

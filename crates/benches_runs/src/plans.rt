@@ -1,0 +1,81 @@
+//! What is run.
+
+use crate::digests::{digests_of_signature, digests_of_tree};
+
+/// How many nodes there are.
+pub const NODES: u32 = 4;
+
+/// The slots of an epoch, four for each node.
+pub const SLOTS: u32 = 16;
+
+/// The height of all trees.
+pub const HEIGHT: u8 = 8;
+
+/// A kind of run: a module and how many signatures it makes for a slot; how many requests a batch holds, how many clients ask for how many
+/// requests each in an epoch, so that all batches are full; and for how many epochs nodes and clients have leaves.
+#[derive(Clone, Copy)]
+pub struct Plan {
+    pub module: &'static str,
+    pub for_a_slot: u32,
+    pub batch: u32,
+    pub clients: u32,
+    pub asked: u32,
+    pub epochs: u32,
+}
+
+/// The leader's PrePrepare, three Prepares and four Commits.
+pub const PBFT: Plan = Plan {
+    module: "pbft",
+    for_a_slot: 8,
+    batch: 4,
+    clients: 2,
+    asked: 32,
+    epochs: 7,
+};
+
+/// Three votes of each node, and the leader's Prepare, PreCommit, Commit and Decide.
+pub const HOTSTUFF: Plan = Plan {
+    module: "hotstuff",
+    for_a_slot: 16,
+    batch: 4,
+    clients: 2,
+    asked: 32,
+    epochs: 3,
+};
+
+/// The same with batches of 32 requests.
+pub(crate) fn with_large_batches(plan: Plan) -> Plan {
+    Plan {
+        batch: 32,
+        clients: 8,
+        asked: 64,
+        epochs: plan.epochs.min(4),
+        ..plan
+    }
+}
+
+impl Plan {
+    /// How many signatures nodes and clients make.
+    pub(crate) fn signatures(self, epochs: u32) -> u32 {
+        let of_nodes = self.for_a_slot.wrapping_mul(SLOTS);
+        let of_clients = self.clients.wrapping_mul(self.asked);
+        epochs.wrapping_mul(of_nodes.wrapping_add(of_clients))
+    }
+
+    /// How many digests that are: of the tree of each node and client, and of each signature as it is made and as it is checked.
+    pub(crate) fn digests(self, epochs: u32) -> u32 {
+        let trees = NODES.wrapping_add(self.clients);
+        let of_signatures = self
+            .signatures(epochs)
+            .wrapping_mul(digests_of_signature(HEIGHT));
+        trees
+            .wrapping_mul(digests_of_tree(HEIGHT))
+            .wrapping_add(of_signatures)
+    }
+
+    /// The lines of a report where nothing was lost and all slots were filled: for each node its own and one for each slot, and the last.
+    pub(crate) fn lines(self, epochs: u32) -> u32 {
+        let of_a_node = epochs.wrapping_mul(SLOTS).wrapping_add(1);
+        NODES.wrapping_mul(of_a_node).wrapping_add(1)
+    }
+}

@@ -1,0 +1,4 @@
+mod bad;
+mod damaged;
+mod messages;
+mod runs;

@@ -1,0 +1,71 @@
+//! Damaged bytes: in a message of each kind one bit of each field is changed. It is then no message, or it claims a signature
+//! that does not verify.
+use crate::cluster::Cluster;
+use crate::instances::withstands;
+use std::alloc::Global;
+use std::test::Fail;
+
+// Of four nodes slot 0 is cast, and so many messages are heard. How many bits of the next one, which is of this
+// kind, may change unseen.
+fn unseen_after(alloc: Global, heard: u32, kind: u8) -> Result<usize, Fail> {
+    let p = withstands(alloc, 1)?;
+    let mut cluster = Cluster::new(alloc, &p)?;
+    cluster.cast(alloc, &p, 0)?;
+    cluster.hear(alloc, &p, heard)?;
+    cluster.unseen(alloc, &p, kind)
+}
+
+// The batch has its first certificate when the round ends, and so many messages are heard of the next one.
+fn unseen_in_round(alloc: Global, heard: u32, kind: u8) -> Result<usize, Fail> {
+    let p = withstands(alloc, 1)?;
+    let mut cluster = Cluster::new(alloc, &p)?;
+    cluster.cast(alloc, &p, 0)?;
+    cluster.hear(alloc, &p, 12)?;
+    cluster.lose_all();
+    cluster.time_out(alloc, &p)?;
+    cluster.hear(alloc, &p, heard)?;
+    cluster.unseen(alloc, &p, kind)
+}
+
+#[test]
+fn a_damaged_proposal_is_seen(rt: HostRuntime) -> Result<(), Fail> {
+    assert_eq!(rt; unseen_after(rt.alloc(), 0, 2)?, 0);
+    Ok(())
+}
+
+#[test]
+fn a_damaged_vote_is_seen(rt: HostRuntime) -> Result<(), Fail> {
+    assert_eq!(rt; unseen_after(rt.alloc(), 4, 6)?, 0);
+    Ok(())
+}
+
+#[test]
+fn a_damaged_first_quorum_is_seen(rt: HostRuntime) -> Result<(), Fail> {
+    assert_eq!(rt; unseen_after(rt.alloc(), 8, 3)?, 0);
+    Ok(())
+}
+
+#[test]
+fn a_damaged_second_quorum_is_seen(rt: HostRuntime) -> Result<(), Fail> {
+    assert_eq!(rt; unseen_after(rt.alloc(), 16, 4)?, 0);
+    Ok(())
+}
+
+#[test]
+fn a_damaged_last_quorum_is_seen(rt: HostRuntime) -> Result<(), Fail> {
+    assert_eq!(rt; unseen_after(rt.alloc(), 24, 5)?, 0);
+    Ok(())
+}
+
+#[test]
+fn a_damaged_word_is_seen(rt: HostRuntime) -> Result<(), Fail> {
+    assert_eq!(rt; unseen_in_round(rt.alloc(), 0, 1)?, 0);
+    Ok(())
+}
+
+// A nil on a certificate.
+#[test]
+fn a_damaged_proposal_of_a_round_is_seen(rt: HostRuntime) -> Result<(), Fail> {
+    assert_eq!(rt; unseen_in_round(rt.alloc(), 4, 2)?, 0);
+    Ok(())
+}
