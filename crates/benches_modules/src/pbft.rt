@@ -5,9 +5,9 @@ ghost use Rattle.iss_request.specs.Slots.{AreAscending};
 ghost use Rattle.iss_sb.specs.Calls.{AreBelow, IsGoodInput, IsGoodParams};
 ghost use Rattle.sb_pbft.specs.Pbft.{pbft};
 
-use crate::keys::{node_key, signature_by};
 use crate::raft::slots;
 use crate::signatures::Seen;
+use bench_digests::signers::{node_key, signature_by};
 use iss_keys::{Keys, SharedDirectory};
 use iss_request::{
     Batch, Bytes, Epoch, Fields, Kind, NoMemory, NodeId, Nodes, Policy, Row, Setup, Slot, Writer,

@@ -4,9 +4,9 @@ ghost use Rattle.std.specs.Prelude.{◌≡◌, IfOk};
 ghost use Rattle.iss_sb.specs.Calls.{IsGoodParams};
 ghost use Rattle.sb_pbft.specs.Pbft.{pbft};
 
-use crate::digests::{Best, Digests, NONE_YET, nanos_since, time_digests};
 use crate::pbft::{Cluster, Post, Timed, segment};
 use crate::signatures::Seen;
+use bench_digests::digests::{Best, Digests, NONE_YET, nanos_since, time_digests};
 use iss_sb::Params;
 use std::alloc::Global;
 use std::time::Instant;
