@@ -275,10 +275,14 @@ impl Cluster {
     pub fn cast_all(&mut self, alloc: Global, p: &Params) -> Timed<()>
         requires { IsGoodParams pbft p.now }
     {
+        let leader = p.leader.0;
+        if leader as u32 >= p.setup.n {
+            return Ok(());
+        }
         for slot in p.slots.as_slice() {
             let slot = *slot;
             let batch = Batch::new(alloc);
-            self.take(alloc, p, 0, Input::Cast { slot, batch })?;
+            self.take(alloc, p, leader, Input::Cast { slot, batch })?;
             self.settle(alloc, p)?;
         }
         Ok(())
