@@ -2,7 +2,7 @@
 # Times PBFT on the proved build, on one processor (CPU=n chooses it): a segment of 64 slots over four and over ten nodes, and a change of
 # views with 64 certificates. Of each the best of ROUNDS runs counts.
 set -eu
-cd "$(dirname "$0")/../crates/benches"
+cd "$(dirname "$0")/../crates/benches_modules"
 rt run > out.log 2>&1 || { cat out.log >&2; rm -f out.log; exit 1; }
 rm -f out.log
-exec taskset -c "${CPU:-0}" out/benches pbft "${ROUNDS:-7}"
+exec taskset -c "${CPU:-0}" out/benches_modules pbft "${ROUNDS:-7}"

@@ -2,10 +2,10 @@
 
 ghost use Rattle.std.specs.Prelude.{◌<◌, ◌≤◌};
 
-use crate::digests::{
+use bench_digests::digests::{
     Best, NONE_YET, STATEMENT, digests_of_verifications, nanos_since, print_times, time_digests,
 };
-use crate::keys::{client_key, signature_by};
+use bench_digests::signers::{client_key, signature_by};
 use iss_keys::{Directory, Keys, SharedDirectory};
 use std::alloc::Global;
 use std::test::Fail;

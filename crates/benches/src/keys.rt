@@ -4,47 +4,17 @@
 
 ghost use Rattle.std.specs.Prelude.{◌≤◌};
 
-use crate::digests::{
+use crate::directories::{sign_for_ten, time_directory, time_one_tree, time_ten_checks};
+use bench_digests::digests::{
     Digests, NONE_YET, STATEMENT, digests_of_signatures, digests_of_tree, digests_of_verifications,
     nanos_since, print_times, time_digests,
 };
-use crate::directories::{sign_for_ten, time_directory, time_one_tree, time_ten_checks};
+use bench_digests::signers::{key, signature_by};
 use iss_keys::{Keys, PublicKey, verify};
-use sha2::{Digest, Sha256};
-use std::alloc::Global;
 use std::test::Fail;
 use std::time::Instant;
 
 type Timed<T> = Result<T, Fail>;
-
-// A key of which no leaf is used.
-fn key(alloc: Global, secret: [u8; 32], height: u8) -> Timed<Keys>
-    requires low { 2 ≤ height }
-    requires high { height ≤ 12 }
-{
-    Ok(Keys::make(alloc, secret, height)?)
-}
-
-/// The key of a client.
-pub(crate) fn client_key(alloc: Global, client: u8, height: u8) -> Timed<Keys>
-    requires low { 2 ≤ height }
-    requires high { height ≤ 12 }
-{
-    key(alloc, Sha256::digest([0x21u8, client]), height)
-}
-
-/// The key of a node.
-pub(crate) fn node_key(alloc: Global, node: u8, height: u8) -> Timed<Keys>
-    requires low { 2 ≤ height }
-    requires high { height ≤ 12 }
-{
-    key(alloc, Sha256::digest([0x20u8, node]), height)
-}
-
-/// A signature of the statement.
-pub(crate) fn signature_by(keys: &mut Keys) -> Timed<Vec<u8>> {
-    Ok(keys.sign(STATEMENT)?)
-}
 
 fn public_of(keys: &Keys) -> PublicKey {
     keys.public()

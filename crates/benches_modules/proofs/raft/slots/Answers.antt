@@ -1,6 +1,6 @@
 use Rattle.std.proofs.Common.{◌+◌, sym, subst, arith}
-use Rattle.benches.proofs.RisingSlots.{AreFirst, first-more}
-use Rattle.benches.proofs.raft.slots.Goals as goal
+use Rattle.benches_modules.proofs.RisingSlots.{AreFirst, first-more}
+use Rattle.benches_modules.proofs.raft.slots.Goals as goal
 
 pub loop-k-preserved : goal.loop-k-preserved
 loop-k-preserved c =

@@ -1,5 +1,5 @@
 //! The signatures that a work cannot do without: each different one that is heard is checked once, each that is sent is made once.
-use crate::digests::{Digests, digests_of_one_check, digests_of_one_signature};
+use bench_digests::digests::{Digests, digests_of_one_check, digests_of_one_signature};
 use iss_keys::Keys;
 use iss_sb::Claim;
 use std::alloc::Global;

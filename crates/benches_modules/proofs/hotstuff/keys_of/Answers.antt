@@ -1,7 +1,7 @@
 use Rattle.std.proofs.Common.{◌∙◌, length, ap, arith}
 use Rattle.iss_keys.specs.Directories.{DirectoryView}
 use Rattle.iss_keys.proofs.DirectoryLemmas.{length-nodes}
-use Rattle.benches.proofs.hotstuff.keys_of.Goals as goal
+use Rattle.benches_modules.proofs.hotstuff.keys_of.Goals as goal
 
 -- the directory has as many nodes as the set-up
 pub keys_of_node-keys-requires : goal.keys_of_node-keys-requires

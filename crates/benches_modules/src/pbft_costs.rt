@@ -1,12 +1,12 @@
 //! PBFT: what a segment of 64 slots costs over four and over ten nodes, and a change of views with 64 certificates, beside the digests
 //! that the signatures in it take.
-ghost use Rattle.std.specs.Prelude.{◌≡◌, IfOk};
+ghost use Rattle.std.specs.Prelude.{◌≡◌, ◌≤◌, ◌↔◌, IfOk, IsTrue};
 ghost use Rattle.iss_sb.specs.Calls.{IsGoodParams};
 ghost use Rattle.sb_pbft.specs.Pbft.{pbft};
 
-use crate::digests::{Best, Digests, NONE_YET, nanos_since, time_digests};
 use crate::pbft::{Cluster, Post, Timed, segment};
 use crate::signatures::Seen;
+use bench_digests::digests::{Best, Digests, NONE_YET, nanos_since, time_digests};
 use iss_sb::Params;
 use std::alloc::Global;
 use std::time::Instant;
@@ -28,25 +28,33 @@ struct Size {
     slots: u64,
 }
 
+// Whether there are trees of this height.
+fn has_trees(height: u8) -> bool
+    ensures { IsTrue result ↔ (2 ≤ height) × (height ≤ 12) }
+{
+    2 <= height && height <= 12
+}
+
 // An instance of this size in which nothing is checked yet.
 fn fresh(alloc: Global, size: Size) -> Timed<Params>
     ensures { IfOk result (λ p. IsGoodParams pbft p) }
 {
     let Size { f, height, slots } = size;
-    if f > 3 || height < 2 || height > 12 || slots < 1 || slots > 64 {
-        Err("no such size")?
+    if f <= 3 && has_trees(height) && 1 <= slots && slots <= 64 {
+        return Ok(segment(alloc, f, height, slots)?);
     }
-    Ok(segment(alloc, f, height, slots)?)
+    Err("no such size")?
 }
 
 // Nodes that took nothing yet, with the trees of their keys.
 fn nodes(alloc: Global, p: &Params, size: Size) -> Timed<Cluster>
     requires { IsGoodParams pbft p.now }
 {
-    if size.height < 2 || size.height > 12 {
-        Err("no such height")?
+    let height = size.height;
+    if has_trees(height) {
+        return Cluster::new(alloc, p, height);
     }
-    Cluster::new(alloc, p, size.height)
+    Err("no such height")?
 }
 
 // The segment is ordered.

@@ -44,7 +44,7 @@ pub struct Best {
 }
 
 impl Best {
-    pub(crate) fn note(self, work: u64, digests: u64) -> Best {
+    pub fn note(self, work: u64, digests: u64) -> Best {
         Best {
             work: self.work.min(work),
             digests: self.digests.min(digests),
@@ -79,7 +79,7 @@ fn take_all(digests: Digests) -> u8 {
 }
 
 /// Those of a tree of this height.
-pub(crate) fn digests_of_tree(height: u8) -> Digests
+pub fn digests_of_tree(height: u8) -> Digests
     requires { height ≤ 12 }
 {
     let leaves = 1u32 << height;
@@ -108,7 +108,7 @@ fn steps_signed(statement: &[u8]) -> u32 {
 }
 
 /// Those of a signature of a statement.
-pub(crate) fn digests_of_one_signature(statement: &[u8]) -> Digests {
+pub fn digests_of_one_signature(statement: &[u8]) -> Digests {
     Digests {
         short: steps_signed(statement).wrapping_add(CHAINS + 1),
         inner: 0,
@@ -117,7 +117,7 @@ pub(crate) fn digests_of_one_signature(statement: &[u8]) -> Digests {
 }
 
 /// Those of a check of a statement's signature under a tree of this height.
-pub(crate) fn digests_of_one_check(statement: &[u8], height: u8) -> Digests {
+pub fn digests_of_one_check(statement: &[u8], height: u8) -> Digests {
     Digests {
         short: (CHAINS * STEPS + 1).saturating_sub(steps_signed(statement)),
         inner: u32::from(height),
@@ -126,7 +126,7 @@ pub(crate) fn digests_of_one_check(statement: &[u8], height: u8) -> Digests {
 }
 
 /// Those of so many signatures.
-pub(crate) fn digests_of_signatures(count: u32) -> Digests {
+pub fn digests_of_signatures(count: u32) -> Digests {
     let each = digests_of_one_signature(STATEMENT);
     Digests {
         short: count.wrapping_mul(each.short),
@@ -136,7 +136,7 @@ pub(crate) fn digests_of_signatures(count: u32) -> Digests {
 }
 
 /// Those of so many verifications under a tree of this height.
-pub(crate) fn digests_of_verifications(count: u32, height: u8) -> Digests {
+pub fn digests_of_verifications(count: u32, height: u8) -> Digests {
     let each = digests_of_one_check(STATEMENT, height);
     Digests {
         short: count.wrapping_mul(each.short),
@@ -146,12 +146,12 @@ pub(crate) fn digests_of_verifications(count: u32, height: u8) -> Digests {
 }
 
 /// The nanoseconds since then.
-pub(crate) fn nanos_since(rt: &HostRuntime, start: Instant) -> Result<u64, Fail> {
+pub fn nanos_since(rt: &HostRuntime, start: Instant) -> Result<u64, Fail> {
     Ok(u64::try_from(start.elapsed(rt)?.as_nanos()).unwrap_or(u64::MAX))
 }
 
 /// The nanoseconds that digests take.
-pub(crate) fn time_digests(rt: &HostRuntime, digests: Digests) -> Result<u64, Fail> {
+pub fn time_digests(rt: &HostRuntime, digests: Digests) -> Result<u64, Fail> {
     let start = Instant::now(rt)?;
     let last = take_all(digests);
     let nanos = nanos_since(rt, start)?;
@@ -160,12 +160,7 @@ pub(crate) fn time_digests(rt: &HostRuntime, digests: Digests) -> Result<u64, Fa
 }
 
 /// Prints a line of times: of one piece of work, and how it compares with its digests.
-pub(crate) fn print_times(
-    rt: &HostRuntime,
-    what: &str,
-    best: Best,
-    count: u64,
-) -> Result<(), Fail> {
+pub fn print_times(rt: &HostRuntime, what: &str, best: Best, count: u64) -> Result<(), Fail> {
     let each = best.work / count.max(1);
     let a_second = 1_000_000_000u64.saturating_mul(count) / best.work.max(1);
     let percent = best.work.saturating_mul(100) / best.digests.max(1);

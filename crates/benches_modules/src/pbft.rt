@@ -5,9 +5,9 @@ ghost use Rattle.iss_request.specs.Slots.{AreAscending};
 ghost use Rattle.iss_sb.specs.Calls.{AreBelow, IsGoodInput, IsGoodParams};
 ghost use Rattle.sb_pbft.specs.Pbft.{pbft};
 
-use crate::keys::{node_key, signature_by};
 use crate::raft::slots;
 use crate::signatures::Seen;
+use bench_digests::signers::{node_key, signature_by};
 use iss_keys::{Keys, SharedDirectory};
 use iss_request::{
     Batch, Bytes, Epoch, Fields, Kind, NoMemory, NodeId, Nodes, Policy, Row, Setup, Slot, Writer,
@@ -275,10 +275,14 @@ impl Cluster {
     pub fn cast_all(&mut self, alloc: Global, p: &Params) -> Timed<()>
         requires { IsGoodParams pbft p.now }
     {
+        let leader = p.leader.0;
+        if leader as u32 >= p.setup.n {
+            return Ok(());
+        }
         for slot in p.slots.as_slice() {
             let slot = *slot;
             let batch = Batch::new(alloc);
-            self.take(alloc, p, 0, Input::Cast { slot, batch })?;
+            self.take(alloc, p, leader, Input::Cast { slot, batch })?;
             self.settle(alloc, p)?;
         }
         Ok(())

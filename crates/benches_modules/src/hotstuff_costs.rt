@@ -4,9 +4,9 @@ ghost use Rattle.std.specs.Prelude.{◌≤◌};
 ghost use Rattle.iss_sb.specs.Calls.{IsGoodParams};
 ghost use Rattle.sb_hotstuff.specs.HotStuff.{hotstuff};
 
-use crate::digests::{Best, Digests, NONE_YET, nanos_since, time_digests};
 use crate::hotstuff::{Cluster, count_of, segment};
 use crate::raft::{Timed, batch};
+use bench_digests::digests::{Best, Digests, NONE_YET, nanos_since, time_digests};
 use hs_tree::signing::held_string;
 use iss_request::{Batch, Bytes};
 use iss_sb::Params;

@@ -1,0 +1,40 @@
+//! Keys for benches. Of a literal height or secret the tactics list what the keys are, so these are parameters, and come from functions
+//! that promise nothing.
+ghost use Rattle.std.specs.Prelude.{◌≤◌};
+
+use crate::digests::STATEMENT;
+use iss_keys::Keys;
+use sha2::{Digest, Sha256};
+use std::alloc::Global;
+use std::test::Fail;
+
+type Timed<T> = Result<T, Fail>;
+
+/// A key of which no leaf is used.
+pub fn key(alloc: Global, secret: [u8; 32], height: u8) -> Timed<Keys>
+    requires low { 2 ≤ height }
+    requires high { height ≤ 12 }
+{
+    Ok(Keys::make(alloc, secret, height)?)
+}
+
+/// The key of a client.
+pub fn client_key(alloc: Global, client: u8, height: u8) -> Timed<Keys>
+    requires low { 2 ≤ height }
+    requires high { height ≤ 12 }
+{
+    key(alloc, Sha256::digest([0x21u8, client]), height)
+}
+
+/// The key of a node.
+pub fn node_key(alloc: Global, node: u8, height: u8) -> Timed<Keys>
+    requires low { 2 ≤ height }
+    requires high { height ≤ 12 }
+{
+    key(alloc, Sha256::digest([0x20u8, node]), height)
+}
+
+/// A signature of the statement.
+pub fn signature_by(keys: &mut Keys) -> Timed<Vec<u8>> {
+    Ok(keys.sign(STATEMENT)?)
+}
