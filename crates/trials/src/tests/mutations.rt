@@ -319,6 +319,26 @@ fn try_lie(
     Ok(())
 }
 
+// Node 2 takes what node 0 says of the request with each byte changed, and then as it is.
+fn try_lies(
+    rt: &impl Abort,
+    alloc: Global,
+    world: &mut World<Echo>,
+    keys: &Keys,
+    request: &[u8],
+) -> Result<(), Fail>
+    requires kind { world.old.running.setup.kind ≡ Kind.Byzantine }
+    requires nodes { world.old.running.setup.n ≡ 4 }
+{
+    for place in 0..request.len() {
+        try_lie(rt, alloc, world, keys, request, place)?;
+    }
+    let packet = lie(alloc, keys, request)?;
+    let told = take(alloc, world, 2, packet.as_slice())?;
+    assert_eq!(rt; told, Told::Done);
+    Ok(())
+}
+
 // A leader signs what it says of requests that their client did not sign so.
 #[test]
 fn a_changed_batch_is_refused_by_the_judge(rt: HostRuntime) -> Result<(), Fail> {
@@ -326,30 +346,37 @@ fn a_changed_batch_is_refused_by_the_judge(rt: HostRuntime) -> Result<(), Fail> 
     let request = request(alloc, 0, 4)?;
     let keys = key(alloc, 0x20, 0)?;
     let mut world = world(alloc)?;
-    for place in 0..request.len() {
-        try_lie(&rt, alloc, &mut world, &keys, request.as_slice(), place)?;
+    try_lies(&rt, alloc, &mut world, &keys, request.as_slice())
+}
+
+// Node 2 takes no part of a packet from its front, and none with a byte behind it.
+fn try_parts(
+    rt: &impl Abort,
+    alloc: Global,
+    world: &mut World<Echo>,
+    packet: &[u8],
+) -> Result<(), Fail>
+    requires kind { world.old.running.setup.kind ≡ Kind.Byzantine }
+    requires nodes { world.old.running.setup.n ≡ 4 }
+    ensures same { world.new.running.setup ≡ world.old.running.setup }
+{
+    let refused = Told::Lost(Why::NotPacket);
+    for count in 0..packet.len() {
+        let told = take(alloc, world, 2, packet.get(..count).unwrap_or(&[]))?;
+        assert_eq!(rt; told, refused, "{count} bytes");
     }
-    let packet = lie(alloc, &keys, request.as_slice())?;
-    let told = take(alloc, &mut world, 2, packet.as_slice())?;
-    assert_eq!(rt; told, Told::Done);
+    let mut longer = Vec::from_slice(alloc, packet)?;
+    longer.push(0)?;
+    assert_eq!(rt; take(alloc, world, 2, &longer)?, refused);
     Ok(())
 }
 
-// No part of a packet from its front is one, and none with a byte behind it.
 #[test]
 fn a_cut_packet_is_none(rt: HostRuntime) -> Result<(), Fail> {
     let alloc = rt.alloc();
     let request = request(alloc, 1, 0)?;
     let mut world = after_a_word(&rt, alloc, request.as_slice())?;
     let case = word_of_one(alloc, request.as_slice())?;
-    let packet = case.packet.as_slice();
-    for count in 0..packet.len() {
-        let told = take(alloc, &mut world, 2, packet.get(..count).unwrap_or(&[]))?;
-        assert_eq!(rt; told, Told::Lost(Why::NotPacket), "{count} bytes");
-    }
-    let mut longer = Vec::from_slice(alloc, packet)?;
-    longer.push(0)?;
-    let told = take(alloc, &mut world, 2, &longer)?;
-    assert_eq!(rt; told, Told::Lost(Why::NotPacket));
+    try_parts(&rt, alloc, &mut world, case.packet.as_slice())?;
     goes_on(&rt, alloc, &mut world)
 }
