@@ -79,8 +79,8 @@ fn elsewhere(leader: u8, kind: u8) -> [Stated; 6] {
     ]
 }
 
-// Node 2 takes a node's word and its echo, each signed as something else, and lets none of them count.
-fn signed_elsewhere(
+// Node 2 takes a node's word, each time signed as something else, and lets none of them count.
+fn words_elsewhere(
     rt: &impl Abort,
     alloc: Global,
     world: &mut World<Echo>,
@@ -91,38 +91,68 @@ fn signed_elsewhere(
     requires nodes { world.old.running.setup.n ≡ 4 }
     ensures same { world.new.running.setup ≡ world.old.running.setup }
 {
-    let refused = Told::Lost(Why::BadClaim);
+    let place = of_first_epoch(node, SAY);
     for other in elsewhere(node, SAY) {
-        let packet = word(alloc, keys, node, &of_first_epoch(node, SAY), &other)?;
-        let told = take(alloc, world, 2, packet.as_slice())?;
-        assert_eq!(rt; told, refused, "a word of {node} with {other:?}");
-    }
-    for another in elsewhere(node, ECHO) {
-        let packet = echo(alloc, keys, node, &of_first_epoch(node, ECHO), &another)?;
-        let told = take(alloc, world, 2, packet.as_slice())?;
-        assert_eq!(rt; told, refused, "an echo of {node} with {another:?}");
+        let packet = word(alloc, keys, node, &place, &other)?;
+        answers(rt, alloc, world, &packet, Told::Lost(Why::BadClaim))?;
     }
     Ok(())
 }
 
-// After these node 2 takes a node's echo, signed as what it is, and then its word, and answers so.
-fn signed_here(rt: &impl Abort, alloc: Global, node: u8, expected: Told) -> Result<(), Fail> {
+// And its echo.
+fn echoes_elsewhere(
+    rt: &impl Abort,
+    alloc: Global,
+    world: &mut World<Echo>,
+    keys: &Keys,
+    node: u8,
+) -> Result<(), Fail>
+    requires kind { world.old.running.setup.kind ≡ Kind.Byzantine }
+    requires nodes { world.old.running.setup.n ≡ 4 }
+    ensures same { world.new.running.setup ≡ world.old.running.setup }
+{
+    let place = of_first_epoch(node, ECHO);
+    for other in elsewhere(node, ECHO) {
+        let packet = echo(alloc, keys, node, &place, &other)?;
+        answers(rt, alloc, world, &packet, Told::Lost(Why::BadClaim))?;
+    }
+    Ok(())
+}
+
+// Then it takes a node's echo, signed as what it is, and its word, and answers so.
+fn signed_here(
+    rt: &impl Abort,
+    alloc: Global,
+    world: &mut World<Echo>,
+    keys: &Keys,
+    node: u8,
+    expected: Told,
+) -> Result<(), Fail>
+    requires kind { world.old.running.setup.kind ≡ Kind.Byzantine }
+    requires nodes { world.old.running.setup.n ≡ 4 }
+{
+    let place = of_first_epoch(node, ECHO);
+    let packet = echo(alloc, keys, node, &place, &place)?;
+    answers(rt, alloc, world, &packet, expected)?;
+    let place = of_first_epoch(node, SAY);
+    let packet = word(alloc, keys, node, &place, &place)?;
+    answers(rt, alloc, world, &packet, expected)
+}
+
+// All of these in one world.
+fn signed_by(rt: &impl Abort, alloc: Global, node: u8, expected: Told) -> Result<(), Fail> {
     let keys = key(alloc, 0x20, node)?;
     let mut world = world(alloc)?;
-    signed_elsewhere(rt, alloc, &mut world, &keys, node)?;
-    let place = of_first_epoch(node, ECHO);
-    let packet = echo(alloc, &keys, node, &place, &place)?;
-    answers(rt, alloc, &mut world, &packet, expected)?;
-    let place = of_first_epoch(node, SAY);
-    let packet = word(alloc, &keys, node, &place, &place)?;
-    answers(rt, alloc, &mut world, &packet, expected)
+    words_elsewhere(rt, alloc, &mut world, &keys, node)?;
+    echoes_elsewhere(rt, alloc, &mut world, &keys, node)?;
+    signed_here(rt, alloc, &mut world, &keys, node, expected)
 }
 
 // What node 1 signs is forged, since it never sent it; node 0 may lie, and so its claims are no evidence.
 #[test]
 fn a_claim_is_of_what_was_signed(rt: HostRuntime) -> Result<(), Fail> {
-    signed_here(&rt, rt.alloc(), 1, Told::Forged)?;
-    signed_here(&rt, rt.alloc(), 0, Told::Done)
+    signed_by(&rt, rt.alloc(), 1, Told::Forged)?;
+    signed_by(&rt, rt.alloc(), 0, Told::Done)
 }
 
 // No node answers for what another one signed: this is of node 0, which may lie, under the name of node 1.
@@ -214,7 +244,19 @@ fn early_claims_that_are_no_evidence(rt: HostRuntime) -> Result<(), Fail> {
     goes_by(&rt, rt.alloc(), 0, &early(0))
 }
 
-// One of node 1 that it never sent ends the run in the delivery that would begin the epoch. Node 2 goes back to before it.
+// Node 2 shows what it showed before the delivery that ended the run, and all that comes then is answered alike.
+fn has_gone_back(rt: &impl Abort, alloc: Global, world: &mut World<Echo>) -> Result<(), Fail>
+    requires kind { world.old.running.setup.kind ≡ Kind.Byzantine }
+    requires nodes { world.old.running.setup.n ≡ 4 }
+{
+    assert!(rt; world.epoch(2) == Epoch(0));
+    assert_eq!(rt; world.entries(2).len(), 3);
+    assert_eq!(rt; calm(alloc, world), Told::Forged);
+    assert_eq!(rt; take(alloc, world, 3, b"")?, Told::Forged);
+    Ok(())
+}
+
+// One of node 1 that it never sent ends the run in the delivery that would begin the epoch.
 #[test]
 fn an_early_claim_that_is_forged(rt: HostRuntime) -> Result<(), Fail> {
     let alloc = rt.alloc();
@@ -223,10 +265,5 @@ fn an_early_claim_that_is_forged(rt: HostRuntime) -> Result<(), Fail> {
     let packet = word(alloc, &keys, 1, &early(1), &early(1))?;
     let told = into_the_next_epoch(&rt, alloc, &mut world, &packet)?;
     assert_eq!(rt; told, Told::Forged);
-    assert!(rt; world.setup().n == 4);
-    assert!(rt; world.epoch(2) == Epoch(0));
-    assert_eq!(rt; world.entries(2).len(), 3);
-    assert_eq!(rt; calm(alloc, &mut world), Told::Forged);
-    assert_eq!(rt; take(alloc, &mut world, 3, b"")?, Told::Forged);
-    Ok(())
+    has_gone_back(&rt, alloc, &mut world)
 }
