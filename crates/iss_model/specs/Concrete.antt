@@ -1,7 +1,9 @@
 -- The rules of a cluster under its set-up.
 use Rattle.std.specs.Prelude.{ℕ, zero, suc, ◌-◌, ◌^◌, ◌&&◌, Bool, List, ◌∷◌, ◌++◌, length, cond, nat_le, Option, Some, None}
 use Rattle.std.specs.Int.{to_be_bytes, w16, w32}
-use Rattle.iss_keys.specs.Directories.{DirectoryView, directory_of}
+use Rattle.iss_checkpoint.specs.Votes.{vote_statement}
+use Rattle.iss_keys.specs.Directories.{DirectoryView, directory_of, node_secret}
+use Rattle.iss_keys.specs.Signatures.{signature_of}
 use Rattle.iss_keys.specs.VerifiedBy.{is_verified_by}
 use Rattle.iss_layout.specs.Layout.{Plan, bucket_of, bucket_owner, leads, plan_of, segment, slot_leader}
 use Rattle.iss_request.specs.Log.{log_ids}
@@ -67,4 +69,9 @@ rules_of s =
         slots = segment (plan_at s log e) l;
         directory = keys_of s;
       };
+      version = s.version;
+      nodes = s.n;
+      quorum = s.quorum;
+      voted = λ e chain number. vote_statement s.tag e chain number;
+      signature = λ me leaf statement. signature_of (node_secret me) s.keys leaf statement;
     }
