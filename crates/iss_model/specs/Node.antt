@@ -334,14 +334,25 @@ takes_vote R c v =
 abbrev pub values_of : Rules → List Value → ℕ → List Value
 values_of R log e = reverse (joined (length (cut_at R log e)) (cut_at R log (suc e)))
 
--- the node hands out an epoch, where it keeps its certificate and holds all of it
+-- the claims of a certificate: the vote of each of its signers
+abbrev pub claims_by : List ℕ → List Signed → List Claim
+claims_by statement [] = []
+claims_by statement (x ∷ xs) = record { by = x.by; statement = statement; sig = x.sig } ∷ claims_by statement xs
+
+abbrev pub claims_of_cert : Rules → Cert → List Claim
+claims_of_cert R c = claims_by (R.voted c.epoch.0 c.chain c.requests) c.signers
+
+-- the node hands out an epoch, where it keeps its certificate and holds all of it. What it hands out claims its own vote
 abbrev pub hands_out : {Msg : Type 0} → Formats Msg → Rules → Module Msg → ℕ → Core Msg → ℕ → ℕ → Option Cert → Stepped Msg
 hands_out F R M me c to e None = Dropped NoCert
 hands_out F R M me c to e (Some cert) =
     let log = log_of R M me c.past in
     let piece = record { epoch = record { 0 = e }; values = values_of R log e; cert = cert } in
     cond (nat_lt (length log) (start_of R log (suc e))) (Dropped NoCert)
-    (Taken (record (rests c) { sends = (To_one (record { 0 = to }), F.wrap (record { from = me; epoch = e; body = OfPiece piece })) ∷ [] }))
+    (Taken (record (rests c) {
+      sends = (To_one (record { 0 = to }), F.wrap (record { from = me; epoch = e; body = OfPiece piece })) ∷ [];
+      own = only_by me (claims_of_cert R cert);
+    }))
 
 -- the node asks another for its own epoch
 abbrev pub asks_for : {Msg : Type 0} → Formats Msg → ℕ → Core Msg → NodeId → Stepped Msg

@@ -2,14 +2,12 @@
 use Rattle.std.specs.Prelude.{ℕ, Bool, true, cond, ◌&&◌, ◌==◌, not, is_some, List, [], ◌∷◌, Option, Some, None}
 use Rattle.std.specs.List.{filter}
 use Rattle.iss_base.specs.Lists.{below}
-use Rattle.iss_checkpoint.specs.declared.votes.Cert.{Cert}
-use Rattle.iss_checkpoint.specs.declared.votes.Signed.{Signed}
 use Rattle.iss_request.specs.declared.ids.Slot.{Slot}
 use Rattle.iss_request.specs.declared.requests.Batch.{Batch}
 use Rattle.iss_sb.specs.declared.effects.Params.{Params}
 use Rattle.iss_sb.specs.Evidence.{Item, Module, accepts, delivered}
 use Rattle.iss_sb.specs.declared.effects.Claim.{Claim}
-use Rattle.iss_model.specs.Node.{Body, Core, Formats, OfAsk, OfModule, OfPiece, OfRequest, OfVote, Parcel, claim_of_vote, claims_in, next_slot}
+use Rattle.iss_model.specs.Node.{Body, Core, Formats, OfAsk, OfModule, OfPiece, OfRequest, OfVote, Parcel, claim_of_vote, claims_in, claims_of_cert, next_slot}
 use Rattle.iss_model.specs.Past.{Past, leads_in, params_of, taken_in}
 use Rattle.iss_model.specs.Rules.{Rules}
 
@@ -35,14 +33,6 @@ unfilled R M n me c = filter (is_unfilled R M me c) (below n)
 -- whether a proposal would find a slot to cast in
 abbrev pub is_castable_now : {Msg : Type 0} → Rules → Module Msg → ℕ → Core Msg → Bool
 is_castable_now R M me c = leads_in R M me c.past me && is_some (next_slot R M me c)
-
--- the claims of a certificate: the vote of each of its signers
-abbrev pub claims_by : List ℕ → List Signed → List Claim
-claims_by statement [] = []
-claims_by statement (x ∷ xs) = record { by = x.by; statement = statement; sig = x.sig } ∷ claims_by statement xs
-
-abbrev pub claims_of_cert : Rules → Cert → List Claim
-claims_of_cert R c = claims_by (R.voted c.epoch.0 c.chain c.requests) c.signers
 
 -- the claims that bytes hold which come to a node: a vote's, those of a piece's certificate, and those of a module's message of
 -- the node's epoch, whose leader leads there
