@@ -15,11 +15,11 @@ use Rattle.iss_model.specs.Past.{Past, adopted_at, before, epoch_at, start_of}
 use Rattle.iss_model.specs.Rules.{Rules}
 
 -- node k has ended the epoch, and its log at that end, which holds all of the epoch, has this chain and so many requests
-pub record IsLogAt {Msg : Type 0} (R : Rules) (M : Module Msg) (k e : ℕ) (c : Past Msg) (chain : List ℕ) (number : ℕ) : Type 0 where
+pub record IsLogAt {Msg : Type 0} (R : Rules) (M : Module Msg) (k e : ℕ) (c : Past Msg) (said : List ℕ) (many : ℕ) : Type 0 where
   pub over : e < c.epoch
   pub whole : start_of R (before R M k c (suc e)) (suc e) ≡ length (before R M k c (suc e))
-  pub chain : chain ≡ (end_at R (before R M k c (suc e))).chain
-  pub number : number ≡ (end_at R (before R M k c (suc e))).requests
+  pub chain : said ≡ (end_at R (before R M k c (suc e))).chain
+  pub number : many ≡ (end_at R (before R M k c (suc e))).requests
 
 -- a certificate has a quorum of true signatures, and what it says is so of the log of a correct signer
 pub record IsOfLog {Msg : Type 0} (s : Setup) (R : Rules) (M : Module Msg) (pasts : ℕ → Past Msg) (c : Cert) : Type 0 where

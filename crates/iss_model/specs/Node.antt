@@ -347,7 +347,7 @@ abbrev pub hands_out : {Msg : Type 0} → Formats Msg → Rules → Module Msg �
 hands_out F R M me c to e None = Dropped NoCert
 hands_out F R M me c to e (Some cert) =
     let log = log_of R M me c.past in
-    let piece = record { epoch = record { 0 = e }; values = values_of R log e; cert = cert } in
+    let piece : Sent_piece = record { epoch = record { 0 = e }; values = values_of R log e; cert = cert } in
     cond (nat_lt (length log) (start_of R log (suc e))) (Dropped NoCert)
     (Taken (record (rests c) {
       sends = (To_one (record { 0 = to }), F.wrap (record { from = me; epoch = e; body = OfPiece piece })) ∷ [];
