@@ -2,6 +2,7 @@ pub mod Epochs
 pub mod Logs
 pub mod Longest
 pub mod Ending
+pub mod Pieces
 pub mod Ids
 pub mod Judged
 pub mod Steps

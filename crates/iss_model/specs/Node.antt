@@ -342,21 +342,36 @@ claims_by statement (x ∷ xs) = record { by = x.by; statement = statement; sig 
 abbrev pub claims_of_cert : Rules → Cert → List Claim
 claims_of_cert R c = claims_by (R.voted c.epoch.0 c.chain c.requests) c.signers
 
--- the node hands out an epoch, where it keeps its certificate and holds all of it. What it hands out claims its own vote
+-- a piece for another node, which claims the node's own vote
+abbrev pub handing : {Msg : Type 0} → Formats Msg → Rules → Module Msg → ℕ → Core Msg → ℕ → ℕ → Cert → Turn Msg
+handing F R M me c to e cert =
+    let piece : Sent_piece = record { epoch = record { 0 = e }; values = values_of R (log_of R M me c.past) e; cert = cert } in
+    record {
+      core = c;
+      sends = (To_one (record { 0 = to }), F.wrap (record { from = me; epoch = e; body = OfPiece piece })) ∷ [];
+      own = only_by me (claims_of_cert R cert);
+      early = [];
+      strings = [];
+    }
+
+-- the node hands out an epoch, where it keeps its certificate and holds all of it
 abbrev pub hands_out : {Msg : Type 0} → Formats Msg → Rules → Module Msg → ℕ → Core Msg → ℕ → ℕ → Option Cert → Stepped Msg
 hands_out F R M me c to e None = Dropped NoCert
 hands_out F R M me c to e (Some cert) =
     let log = log_of R M me c.past in
-    let piece : Sent_piece = record { epoch = record { 0 = e }; values = values_of R log e; cert = cert } in
     cond (nat_lt (length log) (start_of R log (suc e))) (Dropped NoCert)
-    (Taken (record (rests c) {
-      sends = (To_one (record { 0 = to }), F.wrap (record { from = me; epoch = e; body = OfPiece piece })) ∷ [];
-      own = only_by me (claims_of_cert R cert);
-    }))
+    (Taken (handing F R M me c to e cert))
 
 -- the node asks another for its own epoch
-abbrev pub asks_for : {Msg : Type 0} → Formats Msg → ℕ → Core Msg → NodeId → Stepped Msg
-asks_for F me c peer = Taken (record (rests c) { sends = (To_one peer, F.wrap (record { from = me; epoch = c.past.epoch; body = OfAsk })) ∷ [] })
+abbrev pub asking : {Msg : Type 0} → Formats Msg → ℕ → Core Msg → NodeId → Turn Msg
+asking F me c peer =
+    record {
+      core = c;
+      sends = (To_one peer, F.wrap (record { from = me; epoch = c.past.epoch; body = OfAsk })) ∷ [];
+      own = [];
+      early = [];
+      strings = [];
+    }
 
 -- ---- pieces
 
@@ -386,7 +401,11 @@ abbrev pub adopts_piece : {Msg : Type 0} → Rules → Module Msg → ℕ → Co
 adopts_piece R M me c p =
     let past = adopts c.past (record { epoch = c.past.epoch; values = p.values }) in
     let before = before_own R M me c.past in
-    record (rests (record (refiled R M me c past c.leaf) { early = []; certs = keeping c.certs p.cert (cert_on c.certs c.past.epoch) })) {
+    record {
+      core = record (refiled R M me c past c.leaf) { early = []; certs = keeping c.certs p.cert (cert_on c.certs c.past.epoch) };
+      sends = [];
+      own = [];
+      early = [];
       strings = strings_from R.version (chain_of R.version (reverse before)) p.values ++ grown_strings R (log_of R M me c.past) (log_of R M me past);
     }
 
@@ -455,4 +474,4 @@ step F R M me c Proposes =
     cond (not (leads_in R M me c.past me)) (Dropped NotLeader)
     (casts_at F R M me c (next_slot R M me c))
 step F R M me c (Fires l) = settled F R M me (at_instance F R M me c l.0 Timeout)
-step F R M me c (Asks peer) = asks_for F me c peer
+step F R M me c (Asks peer) = Taken (asking F me c peer)
