@@ -24,6 +24,8 @@ pub mod Windows
 pub mod Written
 pub mod Statements
 pub mod Checkpoints
+pub mod Linked
+pub mod Voting
 pub mod Tests
 pub mod Told
 pub mod Twins
