@@ -26,6 +26,7 @@ pub mod Statements
 pub mod Checkpoints
 pub mod Linked
 pub mod Voting
+pub mod Certs
 pub mod Tests
 pub mod Told
 pub mod Twins
