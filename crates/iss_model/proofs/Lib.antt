@@ -27,6 +27,7 @@ pub mod Checkpoints
 pub mod Linked
 pub mod Voting
 pub mod Certs
+pub mod Spelled
 pub mod Tests
 pub mod Told
 pub mod Twins
