@@ -37,6 +37,7 @@ pub mod Grown
 pub mod Printed
 pub mod Fits
 pub mod Turned
+pub mod Onward
 pub mod Runs
 pub mod OneLog
 pub mod Ranges

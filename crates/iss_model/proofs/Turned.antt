@@ -1,7 +1,7 @@
 -- The cluster in the course of a turn of a core, and what may come to it.
-use Rattle.std.proofs.Common.{◌≡◌, ◌≢◌, inl, inr, ℕ, ◌<◌, Bool, true, false, cond, List, [], ◌∷◌, ◌++◌, Some, refl, sym, ap, ◌∙◌, subst, true≢false}
+use Rattle.std.proofs.Common.{◌≡◌, ◌≢◌, inl, inr, ℕ, ◌<◌, Bool, true, false, cond, List, [], ◌∷◌, ◌++◌, Some, None, refl, sym, ap, ◌∙◌, subst, true≢false}
 use Rattle.iss_base.specs.Lists.{In, over}
-use Rattle.iss_base.proofs.Lists.{in_append, in_right, same_or_not, set_at-other, set_at-same}
+use Rattle.iss_base.proofs.Lists.{in_append, in_right, none-some, same_or_not, set_at-other, set_at-same}
 use Rattle.iss_network.specs.Network.{Network}
 use Rattle.iss_network.specs.declared.packets.Sent.{Sent}
 use Rattle.iss_request.specs.Fields.{IsReadAgain}
@@ -37,7 +37,7 @@ use Rattle.iss_model.proofs.Rows.{IsFit}
 use Rattle.iss_model.proofs.Spelled.{AreReadPieces}
 use Rattle.iss_model.proofs.Tests.{each-verifies, over-append, over-new, over-old}
 use Rattle.iss_model.proofs.Told.{AreTold}
-use Rattle.iss_model.proofs.Twins.{addressee-core, core-correct, core-low, correct-is, faultless}
+use Rattle.iss_model.proofs.Twins.{addressee-core, core-correct, core-low, correct-below, correct-is, faultless, leader-below}
 
 module _ {Msg : Type 0} (s : Setup) (F : Formats Msg) (R : Rules) (M : Module Msg) (o : Premises s F R M) where
   abbrev S : Scheme
@@ -305,3 +305,12 @@ module _ {Msg : Type 0} (s : Setup) (F : Formats Msg) (R : Rules) (M : Module Ms
             verified = λ y m. each-verifies R (M.claims p from msg) ver y m;
             signed = λ y m good. unf y m (each-verifies R (M.claims p from msg) ver y m) (subst (λ (t : Setup). is_correct t y.by.0 ≡ true) setup good);
           }
+
+      pub node-low : i < s.n
+      node-low = correct-below s i correct
+
+      pub leader-low : (d : Past Msg) (l : ℕ) → leads_in R M i d l ≡ true → l < s.n
+      leader-low d l leads = leader-below s R M sound (before R M i d d.epoch) d.epoch l leads
+
+    pub unread : (x : Parcel Msg) → None ≡ Some x → ⊥
+    unread x q = none-some x q
