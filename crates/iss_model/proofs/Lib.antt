@@ -38,6 +38,7 @@ pub mod Printed
 pub mod Fits
 pub mod Turned
 pub mod Onward
+pub mod Answered
 pub mod Runs
 pub mod OneLog
 pub mod Ranges

@@ -17,12 +17,14 @@ use Rattle.iss_transfer.specs.declared.pieces.Piece.{Piece as Sent_piece}
 use Rattle.iss_model.specs.Checkpoints.{scheme_of}
 use Rattle.iss_model.specs.Cluster.{AllSpelled, Cluster, IsBooked, IsHashedLog, IsOneOf, IsOwn, Message, Moved, Scheme, Signed, adopt, chain, chain_strings, ends, move, signers, vote_of, vote_statement}
 use Rattle.iss_model.specs.Cluster.{Cert as Cluster_cert}
-use Rattle.iss_model.specs.Node.{Body, Core, Formats, OfModule, OfVote, Parcel, Turn, adopts_piece, cert_on, end_at, grown_strings, inputs, joined, onward, own_claims, packed, rests, verdict_in}
+use Rattle.iss_model.specs.Node.{Body, Core, Formats, OfModule, OfVote, Parcel, Turn, adopts_piece, cert_on, end_at, grown_strings, inputs, joined, onward, own_claims, packed, rests, verdict_in, vote_on}
 use Rattle.iss_model.specs.Node.{ends as ends_turn}
 use Rattle.iss_model.specs.Past.{Past, Piece, adopted_log, adopts, advanced, before, before_own, ended_log, is_complete, leads_in, log_of, made_in, params_of, start_of, takes}
 use Rattle.iss_model.specs.Rules.{Rules}
 use Rattle.iss_model.specs.Run.{Held, as_signed, booked, posted_all, turned_to}
-use Rattle.iss_model.specs.Runs.{pasts_of}
+use Rattle.iss_model.specs.Ordered.{Among}
+use Rattle.iss_model.specs.Runs.{IsReadValue, is_message, pasts_of}
+use Rattle.iss_model.proofs.Agree.{separate-part}
 use Rattle.iss_model.proofs.Booked.{adopts-booked, ends-booked, takes-booked}
 use Rattle.iss_model.proofs.Casts.{adopts-ready, bounded-core, ends-ready, inputs-ready, settled-core}
 use Rattle.iss_model.proofs.Certs.{AreCertified, IsKeptCert, IsTrueSign, in-signers, keeping-certified, quorum-is, signs_of}
@@ -243,3 +245,197 @@ module _ {Msg : Type 0} (s : Setup) (F : Formats Msg) (R : Rules) (M : Module Ms
     pieces = k.pieces;
     certified = k.certified;
   }
+
+  -- the node ends its epoch, and votes
+  module _ (t : Turn Msg) (k : Turned t) (sep : Apart (then_ends F R M i t)) (complete : is_complete R M i t.core.past ≡ true) where
+    abbrev full : Past Msg
+    full = t.core.past
+
+    abbrev closed : Turn Msg
+    closed = then_ends F R M i t
+
+    abbrev ending : Core Msg → Turn Msg
+    ending c = ends_turn F R M i c
+
+    abbrev vote : List Claim
+    vote = (ending t.core).own
+
+    same_log : log_of R M i (advanced full) ≡ log_of R M i full
+    same_log = advanced-log R (turned.slots s F R M o) M i full (bounded-core F R M i t.core k.ready.sound)
+
+    kept_book : (x : Signed) → In x (booked s i t.own ++ h.signed) → In x (booked s i closed.own ++ h.signed)
+    kept_book x m = elim (in_append x (booked s i t.own) h.signed m) [
+      | inl a ↦ in_left x (booked s i closed.own) h.signed (booked-first s i t.own vote x a)
+      | inr b ↦ in_right x (booked s i closed.own) h.signed b
+    ]
+
+    is_vote : (x : Signed) → In x (booked s i vote) → (x.by ≡ i) × (x.statement ≡ vote_of s S R M i full)
+    is_vote x m = elim (subst (λ (b : Bool). In x (cond b (as_signed vote) [])) correct m) [
+      | inl q ↦ (
+        ap (λ (y : Signed). y.by) q,
+        ap (λ (y : Signed). y.statement) q ∙ voted-is s R o.voting full.epoch (ended_log R M i full),
+      )
+      | inr none ↦ absurd none
+    ]
+
+    closed_hashed : IsHashedLog S (over closed.strings h.hashed) (log_of R M i (advanced full))
+    closed_hashed x m = string-old t ending x (k.hashed x (subst (λ (log : List Value). In x (chain_strings S log)) same_log m))
+
+    closed_good : Good s R M (seen t k.messages) S
+    closed_good = turned.good-at s F R M o (seen t k.messages) (turned.less-apart s F R M o h ok i correct t ending sep) k.reach
+
+    closed_spelled : AllSpelled S (log_of R M i (advanced full))
+    closed_spelled = subst (λ (log : List Value). AllSpelled S log) (sym same_log)
+        (subst (λ (y : Past Msg). AllSpelled S (log_of R M i y)) (here t) (closed_good.spelled i correct))
+
+    pub ends-turned : Turned closed
+    ends-turned = record {
+      messages = k.messages;
+      reach = ends i k.reach (record {
+        correct = correct;
+        complete = there t (λ (y : Past Msg). is_complete R M i y ≡ true) complete;
+        here = here closed ∙ ap (λ (y : Past Msg). advanced y) (sym (here t));
+        other = λ j ne. other closed j ne ∙ sym (other t j ne);
+        quiet = record { messages = λ st m z. z; old_book = kept_book; strings = λ x m. string-old t ending x m };
+        book = λ x m. there t (λ (y : Past Msg). In x (booked s i t.own ++ h.signed) ⊎ ((x.by ≡ i) × (x.statement ≡ vote_of s S R M i y)))
+            (elim (in_append x (booked s i closed.own) h.signed m) [
+              | inl a ↦ elim (booked-split s i t.own vote x a) [ inl y ↦ inl (in_left x (booked s i t.own) h.signed y) | inr y ↦ inr (is_vote x y) ]
+              | inr b ↦ inl (in_right x (booked s i t.own) h.signed b)
+            ]);
+        hashed = there closed (λ (y : Past Msg). IsHashedLog S (over closed.strings h.hashed) (log_of R M i y)) closed_hashed;
+        spelled = there closed (λ (y : Past Msg). AllSpelled S (log_of R M i y)) closed_spelled;
+      });
+      posted = λ st q m.
+          let net : Network = posted_all s h.net.network i t.sends in
+          let m2 : In q (posted_all s net i (ending t.core).sends).packets =
+          subst (λ (v : Network). In q v.packets) (posted-append s h.net.network i t.sends (ending t.core).sends) m in
+          turned.silent-posted s F R M o st i (ending t.core).sends silent net k.messages (k.posted st) q m2;
+      ready = ends-ready F R M i (turned.slots s F R M o) o.windows t.core k.ready complete;
+      booked = ends-booked R M i t.core k.ready.sound (booked s i closed.own ++ h.signed) (λ a b y z x w. kept_book x (k.booked a b y z x w));
+      early = λ st x m. absurd m;
+      old = k.old;
+      hashed = closed_hashed;
+      pieces = k.pieces;
+      certified = record { votes = k.certified.votes; certs = k.certified.certs };
+    }
+      where
+        silent : (x : To × List ℕ) → In x (ending t.core).sends → (j : Parcel Msg) × (is_message j.body ≡ false) × (x.1 ≡ F.wrap j)
+        silent x (inl q) =
+            (record { from = i; epoch = full.epoch; body = OfVote (vote_on R M i t.core) }, refl, ap (λ (y : To × List ℕ). y.1) q)
+        silent x (inr none) = absurd none
+
+  pub ends-fits : (t : Turn Msg) → Holds t → is_complete R M i t.core.past ≡ true → Holds (then_ends F R M i t)
+  ends-fits t k complete sep = ends-turned t (k (turned.less-apart s F R M o h ok i correct t (λ c. ends_turn F R M i c) sep)) sep complete
+
+  -- the node adopts a piece
+  module _ (base : Turned (rests (h.net.cores i))) (p : Sent_piece) (t : Turn Msg) (a : IsAdopted F R M i (h.net.cores i) p t)
+      (read : (v : Value) → In v p.values → IsReadValue s v) (kept : IsKeptCert s R h.signed p.cert)
+      (sep : Apart (adopts_piece R M i (h.net.cores i) p)) where
+    abbrev core : Core Msg
+    core = h.net.cores i
+
+    abbrev owned : Past Msg
+    owned = core.past
+
+    abbrev adopting : Turn Msg
+    adopting = adopts_piece R M i core p
+
+    abbrev piece : Piece
+    piece = record { epoch = owned.epoch; values = p.values }
+
+    abbrev cert : Cluster_cert
+    cert = record { chain = p.cert.chain; number = p.cert.requests; signed = signs_of p.cert.signers }
+
+    abbrev joined_past : Past Msg
+    joined_past = adopts owned piece
+
+    abbrev bf : List Value
+    bf = before_own R M i owned
+
+    abbrev piece_strings : List (List ℕ)
+    piece_strings = strings_from R.version (chain_of R.version (reverse bf)) p.values
+
+    ahead : Later R owned joined_past
+    ahead = adopts-later R owned piece (record { all = base.ready.sound.settled })
+
+    was : IsHashedLog S (over adopting.strings h.hashed) (log_of R M i owned)
+    was x m = over-old x adopting.strings h.hashed (base.hashed x m)
+
+    piece_hashed : IsHashedLog S (over adopting.strings h.hashed) (over p.values bf)
+    piece_hashed x m = elim (over-hashed s p.values bf x m) [
+      | inl y ↦ was x (strings-oldest S (start_of R (log_of R M i owned) owned.epoch) (log_of R M i owned) x y)
+      | inr y ↦ over-new x adopting.strings h.hashed (in_left x piece_strings (grown_strings R (log_of R M i owned) (log_of R M i joined_past))
+          (subst (λ (n : ℕ). In x (strings_from n (chain_of n (reverse bf)) p.values)) (sym o.voting.version) y))
+    ]
+
+    adopted_hashed : IsHashedLog S (over adopting.strings h.hashed) (log_of R M i joined_past)
+    adopted_hashed = grown-all (log_of R M i owned) (log_of R M i joined_past) (log-later R M i owned joined_past ahead) (over adopting.strings h.hashed) was
+        (λ x m. over-new x adopting.strings h.hashed (in_right x piece_strings (grown_strings R (log_of R M i owned) (log_of R M i joined_past)) m))
+
+    sep_base : Apart (rests core)
+    sep_base = separate-part (Among (over adopting.strings h.hashed)) (Among h.hashed) (λ x m. over-old x adopting.strings h.hashed m) sep
+
+    adopted_good : Good s R M (seen (rests core) base.messages) S
+    adopted_good = turned.good-at s F R M o (seen (rests core) base.messages) sep_base base.reach
+
+    log_spelled : AllSpelled S (log_of R M i owned)
+    log_spelled = subst (λ (y : Past Msg). AllSpelled S (log_of R M i y)) (here (rests core)) (adopted_good.spelled i correct)
+
+    piece_spelled : AllSpelled S (over p.values bf)
+    piece_spelled v m = elim (in-over v p.values bf m) [
+      | inl y ↦ read-spelled s v (read v y)
+      | inr y ↦
+          let part = oldest-part (start_of R (log_of R M i owned) owned.epoch) (log_of R M i owned) in
+          log_spelled v (subst (λ (xs : List Value). In v xs) (sym part.1) (in_right v part.0 bf y))
+    ]
+
+    adopted_pieces : AreReadPieces s joined_past.adopted
+    adopted_pieces q (inl e) v m = read v (subst (λ (y : Piece). In v y.values) e m)
+    adopted_pieces q (inr m) v n = base.pieces q m v n
+
+    adopted_spelled : AllSpelled S (log_of R M i joined_past)
+    adopted_spelled v m = read-spelled s v (log-read s S R M o.safe o.sound o.voting (seen (rests core) base.messages) sep_base adopted_good i correct joined_past
+        (there (rests core) (λ (y : Past Msg). Later R y joined_past) ahead)
+        (there (rests core) (λ (y : Past Msg). (e l : ℕ) → joined_past.evidence e l ≡ y.evidence e l) (λ e l. refl)) adopted_pieces
+        (log_of R M i joined_past) (log-chain R M i joined_past) v m)
+
+    votes : (j : ℕ) → In j (signers cert.signed) → is_correct s j ≡ true → IsBooked (booked s i [] ++ h.signed) j (vote_statement s owned.epoch cert.chain cert.number)
+    votes j m good_j =
+        let r = in-signers p.cert.signers j m in
+        let right : is_correct s r.0.by.0 ≡ true = subst (λ (n : ℕ). is_correct s n ≡ true) (sym r.2) good_j in
+        let statement : R.voted p.cert.epoch.0 p.cert.chain p.cert.requests ≡ vote_statement s owned.epoch p.cert.chain p.cert.requests =
+        ap (λ (n : ℕ). R.voted n p.cert.chain p.cert.requests) a.of_epoch ∙ o.voting.voted owned.epoch p.cert.chain p.cert.requests in
+        in_right _ (booked s i []) h.signed (subst (λ (n : ℕ). IsBooked h.signed n (vote_statement s owned.epoch p.cert.chain p.cert.requests)) r.2
+        (subst (λ (y : List ℕ). IsBooked h.signed r.0.by.0 y) statement ((kept.signs r.0 r.1).booked right)))
+
+    pub adopts-turned : Turned adopting
+    adopts-turned = record {
+      messages = base.messages;
+      reach = adopt i piece cert base.reach (record {
+        correct = correct;
+        epoch = there (rests core) (λ (y : Past Msg). owned.epoch ≡ y.epoch) refl;
+        whole = there (rests core) (λ (y : Past Msg). length p.values ≡ R.slots (before R M i y owned.epoch) owned.epoch) a.whole;
+        quorum = quorum-is s M R o.sound o.voting p.cert a.certified;
+        votes = votes;
+        chained = there (rests core) (λ (y : Past Msg). p.cert.chain ≡ chain S (adopted_log R M i y piece)) (leads-chained s R o.voting bf p a.leads);
+        piece_hashed = there (rests core) (λ (y : Past Msg). IsHashedLog S (over adopting.strings h.hashed) (adopted_log R M i y piece)) piece_hashed;
+        piece_spelled = there (rests core) (λ (y : Past Msg). AllSpelled S (adopted_log R M i y piece)) piece_spelled;
+        here = here adopting ∙ ap (λ (y : Past Msg). adopts y piece) (sym (here (rests core)));
+        other = λ j ne. other adopting j ne ∙ sym (other (rests core) j ne);
+        quiet = record { messages = λ st m z. z; old_book = λ x m. m; strings = λ x m. over-old x adopting.strings h.hashed m };
+        book = λ x m. m;
+        hashed = there adopting (λ (y : Past Msg). IsHashedLog S (over adopting.strings h.hashed) (log_of R M i y)) adopted_hashed;
+        spelled = there adopting (λ (y : Past Msg). AllSpelled S (log_of R M i y)) adopted_spelled;
+      });
+      posted = base.posted;
+      ready = adopts-ready F R M i (turned.slots s F R M o) o.windows core p t base.ready a;
+      booked = adopts-booked R M i core base.ready.sound piece (booked s i [] ++ h.signed) base.booked;
+      early = λ st x m. absurd m;
+      old = base.old;
+      hashed = adopted_hashed;
+      pieces = adopted_pieces;
+      certified = record {
+        votes = base.certified.votes;
+        certs = keeping-certified s R h.signed core.certs p.cert (cert_on core.certs owned.epoch) base.certified.certs kept;
+      };
+    }
