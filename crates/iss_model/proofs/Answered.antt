@@ -172,16 +172,24 @@ module _ {Msg : Type 0} (s : Setup) (F : Formats Msg) (R : Rules) (M : Module Ms
           (((certified.certs x m).signs z.0 z.1).booked right)
 
       still : (t : Turn Msg) → t.core ≡ c → IsReadyCore R M i c → ((x : Signed) → In x (booked s i t.own) → In x h.signed) →
-          turned.Silent s F R M o t.sends → Turned t
-      still t q was own silent = turned.still-fits s F R M o h ok i correct t (ap (λ (d : Core Msg). d.past) q) (subst (λ (d : Core Msg). IsReadyCore R M i d) (sym q) was)
-          (λ st. subst (λ (d : Core Msg). AreSent d) (sym q) (ok.sent st i)) (subst (λ (d : Core Msg). AreCertified s R h.signed d) (sym q) certified) own silent
+          ((x : Signed) → In x (booked s i t.own) → x.by ≡ i) → turned.Silent s F R M o t.sends → Turned t
+      still t q was own mine silent = turned.still-fits s F R M o h ok i correct t (ap (λ (d : Core Msg). d.past) q) (subst (λ (d : Core Msg). IsReadyCore R M i d) (sym q) was)
+          (λ st. subst (λ (d : Core Msg). AreSent d) (sym q) (ok.sent st i)) (subst (λ (d : Core Msg). AreCertified s R h.signed d) (sym q) certified) own mine silent
 
       alone : (to : To) (k : Parcel Msg) → is_message k.body ≡ false → turned.Silent s F R M o ((to, F.wrap k) ∷ [])
       alone to k q x (inl e) = (k, q, ap (λ (y : To × List ℕ). y.1) e)
       alone to k q x (inr none) = absurd none
 
+      handed-mine : (x : Cert) (y : Signed) → In y (booked s i (only_by i (claims_of_cert R x))) → y.by ≡ i
+      handed-mine x y n =
+          let r = in-signed (only_by i (claims_of_cert R x)) y (subst (λ (b : Bool). In y (cond b (as_signed (only_by i (claims_of_cert R x))) [])) correct n) in
+          ap (λ (z : Signed). z.by) r.2 ∙ (only-by i (claims_of_cert R x) r.0 r.1).1
+
+      none-booked-at : (x : Signed) → In x (booked s i []) → ⊥
+      none-booked-at x m = subst (λ (b : Bool). In x (cond b (as_signed []) [])) correct m
+
       none-booked : (x : Signed) → In x (booked s i []) → In x h.signed
-      none-booked x m = absurd (subst (λ (b : Bool). In x (cond b (as_signed []) [])) correct m)
+      none-booked x m = absurd (none-booked-at x m)
 
       -- an event that the core takes
       took-fits : (event : NodeEvent) (t : Turn Msg) → Comes-here event → ((y : Claim) → In y (claims_at F R M i c event) → In y reads) → AreRead t →
@@ -230,13 +238,13 @@ module _ {Msg : Type 0} (s : Setup) (F : Formats Msg) (R : Rules) (M : Module Ms
       took-fits event t comes first read was core (handed k x un b r) = λ sep.
           let there = cert-there s R c.certs k.epoch x r.kept in
           subst Turned (sym r.is)
-          (still (handing F R M i c k.from k.epoch x) refl was (handed-own x there.0)
+          (still (handing F R M i c k.from k.epoch x) refl was (handed-own x there.0) (handed-mine x)
           (alone (To_one (record { 0 = k.from }))
           (record { from = i; epoch = k.epoch; body = OfPiece (record { epoch = record { 0 = k.epoch }; values = values_of R (log_of R M i c.past) k.epoch; cert = x }) }) refl))
       took-fits event t comes first read was core (adopted {bytes} k p un b a) = piece-fits bytes k p t first read was un b a
       took-fits event t comes first read was core (sought peer q) = λ sep.
           subst Turned (sym q)
-          (still (asking F i c peer) refl was none-booked (alone (To_one peer) (record { from = i; epoch = c.past.epoch; body = OfAsk }) refl))
+          (still (asking F i c peer) refl was none-booked (λ x m. absurd (none-booked-at x m)) (alone (To_one peer) (record { from = i; epoch = c.past.epoch; body = OfAsk }) refl))
 
   turn-fits : (event : NodeEvent) (t : Turn Msg) → Comes-here event → first_forged s R h.signed (claims_at F R M (node_of s i) c event ++ t.early) ≡ None →
       step F R M (node_of s i) c event ≡ Taken t → Separate (Among (over t.strings h.hashed)) → Fits (turned_to s h i t)

@@ -9,7 +9,7 @@ use Rattle.iss_sb.specs.Laws.{IsLawful, IsSafe}
 use Rattle.iss_sb.specs.Evidence.{Module, Separate, is_correct}
 use Rattle.iss_model.specs.Checkpoints.{scheme_of}
 use Rattle.iss_model.specs.Cluster.{Cluster, IsHashedLog, Message, Reach}
-use Rattle.iss_model.specs.Ends.{AreBooked}
+use Rattle.iss_model.specs.Ends.{AreBooked, AreVoted}
 use Rattle.iss_model.specs.Node.{Core, Early, Formats, OfModule, Parcel}
 use Rattle.iss_model.specs.Ordered.{Among, IsSoundRules}
 use Rattle.iss_model.specs.Past.{log_of}
@@ -19,6 +19,7 @@ use Rattle.iss_model.specs.Runs.{IsFaithful, pasts_of}
 use Rattle.iss_model.specs.Sound.{AreWindows, IsReadyCore}
 use Rattle.iss_model.proofs.Certs.{AreCertified}
 use Rattle.iss_model.proofs.Spelled.{AreReadPieces}
+use Rattle.iss_model.proofs.Standing.{AreStanding}
 use Rattle.iss_model.proofs.Told.{AreTold}
 use Rattle.iss_model.proofs.Voting.{IsVoting}
 
@@ -51,7 +52,7 @@ module _ {Msg : Type 0} (s : Setup) (F : Formats Msg) (R : Rules) (M : Module Ms
       In (record { from = x.from; to = j; epoch = suc d.past.epoch; leader = x.leader; msg = x.msg }) messages
 
   -- what the run holds is what moves of a cluster lead to, all that was hashed for logs is in its book, and what is kept of votes
-  -- and certificates is true
+  -- and certificates is true: each stands for the log of its node
   pub record Fits (h : Held Msg) : Type 0 where
     pub messages : List (Message Msg)
     pub reach : Reach s (scheme_of s) R M (view h messages)
@@ -64,4 +65,6 @@ module _ {Msg : Type 0} (s : Setup) (F : Formats Msg) (R : Rules) (M : Module Ms
     pub hashed : (j : ℕ) → is_correct s j ≡ true → IsHashedLog (scheme_of s) h.hashed (log_of R M j (h.net.cores j).past)
     pub pieces : (j : ℕ) → is_correct s j ≡ true → AreReadPieces s (h.net.cores j).past.adopted
     pub certified : (j : ℕ) → is_correct s j ≡ true → AreCertified s R h.signed (h.net.cores j)
+    pub standing : (j : ℕ) → is_correct s j ≡ true → AreStanding s R M j (h.net.cores j).past h.signed
+    pub voted : (j : ℕ) → is_correct s j ≡ true → AreVoted R M j (h.net.cores j).past h.signed
     pub separate : Separate (Among h.hashed)

@@ -35,6 +35,7 @@ pub mod Posts
 pub mod Unvoted
 pub mod Grown
 pub mod Printed
+pub mod Standing
 pub mod Fits
 pub mod Turned
 pub mod Onward

@@ -1,11 +1,12 @@
 -- A turn of a correct core goes on: it takes an input, ends its epoch and votes, or adopts a piece, each a move of the cluster.
-use Rattle.std.proofs.Common.{◌≡◌, ◌≢◌, ◌⊎◌, inl, inr, ℕ, suc, Bool, true, false, cond, List, [], ◌∷◌, ◌++◌, length, reverse, Some, None, refl, sym, ap, ◌∙◌, subst, true≢false}
+use Rattle.std.proofs.Common.{◌≡◌, ◌≢◌, ◌⊎◌, inl, inr, ℕ, suc, ◌<◌, ◌≤◌, Bool, true, false, cond, List, [], ◌∷◌, ◌++◌, length, reverse, Some, None, refl, sym, ap, ◌∙◌, subst, arith}
 use Rattle.iss_base.specs.Lists.{Extends, In, over}
-use Rattle.iss_base.proofs.Lists.{in_append, in_left, in_right, oldest-part, some-injective}
+use Rattle.iss_base.proofs.Lists.{in_append, in_left, in_right, oldest-part, same_or_not, some-injective}
 use Rattle.iss_checkpoint.specs.declared.votes.Signed.{Signed as Signature}
 use Rattle.iss_log.specs.Chains.{chain_of, strings_from}
 use Rattle.iss_network.specs.Network.{Network}
 use Rattle.iss_network.specs.declared.packets.Sent.{Sent}
+use Rattle.iss_request.specs.Log.{requests}
 use Rattle.iss_request.specs.declared.requests.Value.{Value}
 use Rattle.iss_request.specs.declared.setups.Setup.{Setup}
 use Rattle.iss_sb.specs.declared.effects.Claim.{Claim}
@@ -14,12 +15,13 @@ use Rattle.iss_sb.specs.declared.effects.Params.{Params}
 use Rattle.iss_sb.specs.declared.effects.To.{To}
 use Rattle.iss_sb.specs.Evidence.{Made, Module, is_correct}
 use Rattle.iss_transfer.specs.declared.pieces.Piece.{Piece as Sent_piece}
+use Rattle.iss_model.specs.Certified.{IsLogAt}
 use Rattle.iss_model.specs.Checkpoints.{scheme_of}
 use Rattle.iss_model.specs.Cluster.{AllSpelled, Cluster, IsBooked, IsHashedLog, IsOneOf, IsOwn, Message, Moved, Scheme, Signed, adopt, chain, chain_strings, ends, move, signers, vote_of, vote_statement}
 use Rattle.iss_model.specs.Cluster.{Cert as Cluster_cert}
 use Rattle.iss_model.specs.Node.{Body, Core, Formats, OfModule, OfVote, Parcel, Turn, adopts_piece, cert_on, end_at, grown_strings, inputs, joined, onward, own_claims, packed, rests, verdict_in, vote_on}
 use Rattle.iss_model.specs.Node.{ends as ends_turn}
-use Rattle.iss_model.specs.Past.{Past, Piece, adopted_log, adopts, advanced, before, before_own, ended_log, is_complete, leads_in, log_of, made_in, params_of, start_of, takes}
+use Rattle.iss_model.specs.Past.{Past, Piece, adopted_log, adopts, advanced, before, before_own, cut_at, ended_log, is_complete, leads_in, log_of, made_in, params_of, start_of, takes}
 use Rattle.iss_model.specs.Rules.{Rules}
 use Rattle.iss_model.specs.Run.{Held, as_signed, booked, posted_all, turned_to}
 use Rattle.iss_model.specs.Ordered.{Among}
@@ -29,7 +31,8 @@ use Rattle.iss_model.proofs.Booked.{adopts-booked, ends-booked, takes-booked}
 use Rattle.iss_model.proofs.Casts.{adopts-ready, bounded-core, ends-ready, inputs-ready, settled-core}
 use Rattle.iss_model.proofs.Certs.{AreCertified, IsKeptCert, IsTrueSign, in-signers, keeping-certified, quorum-is, signs_of}
 use Rattle.iss_model.proofs.Chains.{strings-oldest}
-use Rattle.iss_model.proofs.Ending.{advanced-log}
+use Rattle.iss_model.proofs.Ending.{advanced-later, advanced-log, complete-far}
+use Rattle.iss_model.proofs.Epochs.{start-cut}
 use Rattle.iss_model.proofs.Fits.{AreSent, Fits, IsPosted, Premises, more-posted, view}
 use Rattle.iss_model.proofs.Good.{Good}
 use Rattle.iss_model.proofs.Kept.{settled-of}
@@ -40,11 +43,14 @@ use Rattle.iss_model.proofs.Pieces.{adopts-later}
 use Rattle.iss_model.proofs.Posts.{posted-append, posted-in, told, told-is}
 use Rattle.iss_model.proofs.Rows.{IsFit, then_ends, then_reads, then_takes}
 use Rattle.iss_model.proofs.Spelled.{AreReadPieces, log-read, loose, loose-strings, loosen, read-spelled}
+use Rattle.iss_model.proofs.Standing.{log-at-later, voted-later}
+use Rattle.iss_model.proofs.Statements.{apart, leader-far}
+use Rattle.iss_model.proofs.Statements.{votes as votes_same}
 use Rattle.iss_model.proofs.Steps.{IsAdopted}
 use Rattle.iss_model.proofs.Tests.{booked-first, booked-last, booked-split, over-new, over-old, own-is}
 use Rattle.iss_model.proofs.Turned as turned
 use Rattle.iss_model.proofs.Twins.{addressee-core, core-low, faultless}
-use Rattle.iss_model.proofs.Voting.{leads-chained, voted-is}
+use Rattle.iss_model.proofs.Voting.{end-chain, end-requests, leads-chained, voted-is}
 
 -- what values put over a log bring
 in-over : (v : Value) (vs log : List Value) → In v (over vs log) → In v vs ⊎ In v log
@@ -126,8 +132,11 @@ module _ {Msg : Type 0} (s : Setup) (F : Formats Msg) (R : Rules) (M : Module Ms
     abbrev taking : Core Msg → Turn Msg
     taking c = inputs F R M i c l input
 
+    taken_later : Later R d later_past
+    taken_later = takes-later R M i d l input t.core.leaf (settled-core F R M i t.core k.ready.sound)
+
     longer : Extends (log_of R M i d) (log_of R M i later_past)
-    longer = log-later R M i d later_past (takes-later R M i d l input t.core.leaf (settled-core F R M i t.core k.ready.sound))
+    longer = log-later R M i d later_past taken_later
 
     made_string : (x : List ℕ) → In x made.strings → In x (over u.strings h.hashed)
     made_string x m = string-new t taking x (in_left x made.strings (grown_strings R (log_of R M i d) (log_of R M i later_past)) m)
@@ -211,8 +220,26 @@ module _ {Msg : Type 0} (s : Setup) (F : Formats Msg) (R : Rules) (M : Module Ms
       hashed = hashed;
       pieces = k.pieces;
       certified = record { votes = k.certified.votes; certs = k.certified.certs };
+      mine = λ x m. elim (booked-split s i t.own own x m) [ inl y ↦ k.mine x y | inr y ↦ ap (λ (z : Signed). z.by) (is_own x y).is ];
+      standing = λ n a q m. log-at-later R M i d later_past taken_later k.ready.sound.reached n a q (k.standing n a q (no_vote n a q m));
+      voted = voted-later R M i d later_past taken_later k.ready.sound.reached (booked s i t.own ++ h.signed) (booked s i u.own ++ h.signed) older k.voted;
     }
       where
+        -- what a module signs is no vote
+        no_vote : (n : ℕ) (a : List ℕ) (q : ℕ) → In (record { by = i; statement = vote_statement s n a q }) (booked s i u.own ++ h.signed) →
+            In (record { by = i; statement = vote_statement s n a q }) (booked s i t.own ++ h.signed)
+        no_vote n a q m = elim (in_append _ (booked s i u.own) h.signed m) [
+          | inr b ↦ in_right _ (booked s i t.own) h.signed b
+          | inl b ↦ elim (booked-split s i t.own own _ b) [
+            | inl y ↦ in_left _ (booked s i t.own) h.signed y
+            | inr y ↦
+                let w = is_own _ y in
+                let bf : List Value = before R M i d e in
+                let named = turned.claim-names s F R M o bf e l i w.msg w.claim w.made in
+                absurd (apart s M w.claim.statement e l n a q (leader-far s M R o.sound bf e l fit.leads) named (sym (ap (λ (z : Signed). z.statement) w.is)))
+          ]
+        ]
+
         -- what is read of a packet with a message is that message
         read-told : M.stopping ≡ true → (q : Sent) (x : Parcel Msg) (j : ℕ) (sent msg : Msg) → q.bytes ≡ F.wrap (record { from = i; epoch = e; body = OfModule l sent }) →
             F.unwrap q.bytes ≡ Some x → x.body ≡ OfModule j msg → In (record { from = i; to = q.to; epoch = e; leader = l; msg = sent }) fresh →
@@ -244,6 +271,9 @@ module _ {Msg : Type 0} (s : Setup) (F : Formats Msg) (R : Rules) (M : Module Ms
     hashed = k.hashed;
     pieces = k.pieces;
     certified = k.certified;
+    mine = k.mine;
+    standing = k.standing;
+    voted = k.voted;
   }
 
   -- the node ends its epoch, and votes
@@ -317,8 +347,56 @@ module _ {Msg : Type 0} (s : Setup) (F : Formats Msg) (R : Rules) (M : Module Ms
       hashed = closed_hashed;
       pieces = k.pieces;
       certified = record { votes = k.certified.votes; certs = k.certified.certs };
+      mine = λ x m. elim (booked-split s i t.own vote x m) [ inl y ↦ k.mine x y | inr y ↦ (is_vote x y).0 ];
+      standing = λ n a q m. elim (in_append _ (booked s i closed.own) h.signed m) [
+        | inr b ↦ old_standing n a q (in_right _ (booked s i t.own) h.signed b)
+        | inl b ↦ elim (booked-split s i t.own vote _ b) [
+          | inl y ↦ old_standing n a q (in_left _ (booked s i t.own) h.signed y)
+          | inr y ↦ new_standing n a q (is_vote _ y).1
+        ]
+      ];
+      voted = λ n lt. elim (same_or_not n full.epoch) [
+        | inl q ↦ inr (subst (λ (z : ℕ). In (record { by = i; statement = R.voted z (end_at R (before R M i (advanced full) (suc z))).chain
+            (end_at R (before R M i (advanced full) (suc z))).requests }) (booked s i closed.own ++ h.signed)) (sym q) now_voted)
+        | inr ne ↦ voted-later R M i full (advanced full) ended_later k.ready.sound.reached (booked s i t.own ++ h.signed) (booked s i closed.own ++ h.signed)
+            kept_book k.voted n (omega (arith, lt, ne))
+      ];
     }
       where
+        ended_later : Later R full (advanced full)
+        ended_later = advanced-later R full (record { all = k.ready.sound.settled })
+
+        old_standing : (n : ℕ) (a : List ℕ) (q : ℕ) → In (record { by = i; statement = vote_statement s n a q }) (booked s i t.own ++ h.signed) →
+            IsLogAt R M i n (advanced full) a q
+        old_standing n a q m = log-at-later R M i full (advanced full) ended_later k.ready.sound.reached n a q (k.standing n a q m)
+
+        -- the log at the end of the epoch
+        cut_same : before R M i (advanced full) (suc full.epoch) ≡ ended_log R M i full
+        cut_same = ap (λ (log : List Value). cut_at R log (suc full.epoch)) same_log
+
+        far : start_of R (log_of R M i full) (suc full.epoch) ≤ length (log_of R M i full)
+        far = complete-far R (turned.slots s F R M o) M i full (bounded-core F R M i t.core k.ready.sound) complete
+
+        new_standing : (n : ℕ) (a : List ℕ) (q : ℕ) → vote_statement s n a q ≡ vote_of s S R M i full → IsLogAt R M i n (advanced full) a q
+        new_standing n a q is =
+            let log : List Value = ended_log R M i full in
+            let same = votes_same s n full.epoch a (chain S log) q (requests log) is in
+            let now : IsLogAt R M i full.epoch (advanced full) a q = record {
+              over = omega arith;
+              whole = subst (λ (xs : List Value). start_of R xs (suc full.epoch) ≡ length xs) (sym cut_same) (start-cut R (log_of R M i full) (suc full.epoch) far);
+              chain = subst (λ (xs : List Value). a ≡ (end_at R xs).chain) (sym cut_same) (same.1 ∙ sym (end-chain s R o.voting log));
+              number = subst (λ (xs : List Value). q ≡ (end_at R xs).requests) (sym cut_same) (same.2 ∙ sym (end-requests s R o.voting log));
+            } in
+            subst (λ (z : ℕ). IsLogAt R M i z (advanced full) a q) (sym same.0) now
+
+        now_voted : In (record { by = i; statement = R.voted full.epoch (end_at R (before R M i (advanced full) (suc full.epoch))).chain
+            (end_at R (before R M i (advanced full) (suc full.epoch))).requests }) (booked s i closed.own ++ h.signed)
+        now_voted = subst (λ (log : List Value). In (record { by = i; statement = R.voted full.epoch (end_at R log).chain (end_at R log).requests })
+            (booked s i closed.own ++ h.signed)) (sym cut_same)
+            (in_left _ (booked s i closed.own) h.signed (booked-last s i t.own vote _
+            (subst (λ (b : Bool). In (record { by = i; statement = R.voted full.epoch (end_at R (ended_log R M i full)).chain
+            (end_at R (ended_log R M i full)).requests }) (cond b (as_signed vote) [])) (sym correct) (inl refl))))
+
         silent : (x : To × List ℕ) → In x (ending t.core).sends → (j : Parcel Msg) × (is_message j.body ≡ false) × (x.1 ≡ F.wrap j)
         silent x (inl q) =
             (record { from = i; epoch = full.epoch; body = OfVote (vote_on R M i t.core) }, refl, ap (λ (y : To × List ℕ). y.1) q)
@@ -438,4 +516,11 @@ module _ {Msg : Type 0} (s : Setup) (F : Formats Msg) (R : Rules) (M : Module Ms
         votes = base.certified.votes;
         certs = keeping-certified s R h.signed core.certs p.cert (cert_on core.certs owned.epoch) base.certified.certs kept;
       };
+      mine = base.mine;
+      standing = λ n a q m. log-at-later R M i owned joined_past ahead base.ready.sound.reached n a q (base.standing n a q m);
+      voted = λ n lt. elim (same_or_not n owned.epoch) [
+        | inl q ↦ inl (piece, inl refl, sym q)
+        | inr ne ↦ voted-later R M i owned joined_past ahead base.ready.sound.reached (booked s i [] ++ h.signed) (booked s i [] ++ h.signed) (λ x m. m)
+            base.voted n (omega (arith, lt, ne))
+      ];
     }

@@ -17,7 +17,7 @@ use Rattle.iss_model.specs.declared.causes.NodeEvent.{NodeEvent}
 use Rattle.iss_model.specs.declared.causes.NodeEvent.TheVariants.{Packet as Gets, Propose as Proposes, Timeout as Fires, AskFrom as Asks}
 use Rattle.iss_model.specs.Checkpoints.{scheme_of}
 use Rattle.iss_model.specs.Cluster.{Cluster, IsBooked, IsHashedLog, IsVerified, MayGet, MayTake, Message, Names, Reach, Scheme, Signed, rest}
-use Rattle.iss_model.specs.Ends.{AreBooked}
+use Rattle.iss_model.specs.Ends.{AreBooked, AreVoted}
 use Rattle.iss_model.specs.Node.{Body, Core, Formats, OfModule, Parcel, Turn, all_verify, onward, rests}
 use Rattle.iss_model.specs.Ordered.{Among, IsSoundRules}
 use Rattle.iss_model.specs.Past.{Past, before, leads_in, log_of, params_of}
@@ -36,6 +36,7 @@ use Rattle.iss_model.proofs.Reached.{good-reach}
 use Rattle.iss_model.proofs.Rows.{IsFit}
 use Rattle.iss_model.proofs.Spelled.{AreReadPieces}
 use Rattle.iss_model.proofs.Tests.{each-verifies, over-append, over-new, over-old}
+use Rattle.iss_model.proofs.Standing.{AreStanding}
 use Rattle.iss_model.proofs.Told.{AreTold}
 use Rattle.iss_model.proofs.Twins.{addressee-core, core-correct, core-low, correct-below, correct-is, faultless, leader-below}
 
@@ -107,6 +108,14 @@ module _ {Msg : Type 0} (s : Setup) (F : Formats Msg) (R : Rules) (M : Module Ms
       | inr ne ↦ rw (set_at-other h.net.cores i t.core j ne) (there j)
     ]
 
+    -- of the other cores all stays
+    each-other : (P : ℕ → Core Msg → Type 0) (t : Turn Msg) → P i t.core → ((j : ℕ) → j ≢ i → P j (h.net.cores j)) → (j : ℕ) →
+        P j ((turned_to s h i t).net.cores j)
+    each-other P t here there j = elim (same_or_not j i) [
+      | inl q ↦ rw (q, set_at-same h.net.cores i t.core) here
+      | inr ne ↦ rw (set_at-other h.net.cores i t.core j ne) (there j ne)
+    ]
+
     -- where nodes only stop: the core is a node, and a module's message that comes was sent to it
     abbrev pub Legit : NodeEvent → Type 0
     Legit (Gets bytes) = (k : Parcel Msg) (l : ℕ) (msg : Msg) → F.unwrap bytes ≡ Some k → k.body ≡ OfModule l msg →
@@ -125,6 +134,9 @@ module _ {Msg : Type 0} (s : Setup) (F : Formats Msg) (R : Rules) (M : Module Ms
 
     root-of : (t : Turn Msg) → In {A = List ℕ} [] (over t.strings h.hashed)
     root-of t = over-old [] t.strings h.hashed ok.root
+
+    more-voted : (j : ℕ) (d : Past Msg) (new : List Signed) → AreVoted R M j d h.signed → AreVoted R M j d (new ++ h.signed)
+    more-voted j d new are e lt = elim (are e lt) [ inl a ↦ inl a | inr b ↦ inr (in_right _ new h.signed b) ]
 
     -- a core that is no correct node's may take anything
     pub faulty-fits : (t : Turn Msg) → (M.stopping ≡ true → i < s.n) → is_correct s i ≡ false → IsReadyCore R M (node_of s i) t.core → AreTold s M t.core →
@@ -158,6 +170,10 @@ module _ {Msg : Type 0} (s : Setup) (F : Formats Msg) (R : Rules) (M : Module Ms
           certified = each-core (λ j d. is_correct s j ≡ true → AreCertified s R (booked s i t.own ++ h.signed) d) t bad
               (λ j good. more-certified s R h.signed (booked s i t.own ++ h.signed) (λ x m. in_right x (booked s i t.own) h.signed m) (h.net.cores j)
               (ok.certified j good));
+          standing = each-core (λ j d. is_correct s j ≡ true → AreStanding s R M j d.past (booked s i t.own ++ h.signed)) t bad
+              (λ j good e a q m. ok.standing j good e a q (old _ m));
+          voted = each-core (λ j d. is_correct s j ≡ true → AreVoted R M j d.past (booked s i t.own ++ h.signed)) t bad
+              (λ j good. more-voted j (h.net.cores j).past (booked s i t.own) (ok.voted j good));
           separate = sep;
         }
       where
@@ -178,6 +194,9 @@ module _ {Msg : Type 0} (s : Setup) (F : Formats Msg) (R : Rules) (M : Module Ms
         pub reach : Reach s S R M (seen (turned_to s h i t) messages)
         pub posted : M.stopping ≡ true → (p : Sent) → In p (turned_to s h i t).net.network.packets → IsPosted messages p
         pub ready : IsReadyCore R M i t.core
+        pub mine : (x : Signed) → In x (booked s i t.own) → x.by ≡ i
+        pub standing : AreStanding s R M i t.core.past (booked s i t.own ++ h.signed)
+        pub voted : AreVoted R M i t.core.past (booked s i t.own ++ h.signed)
         pub booked : AreBooked R M i t.core.past (booked s i t.own ++ h.signed)
         pub early : M.stopping ≡ true → AreSent messages i t.core
         pub old : (k : Message Msg) → In k ok.messages → In k messages
@@ -223,13 +242,21 @@ module _ {Msg : Type 0} (s : Setup) (F : Formats Msg) (R : Rules) (M : Module Ms
             (λ good. more-certified s R h.signed (booked s i t.own ++ h.signed) (λ x m. in_right x (booked s i t.own) h.signed m) t.core k.certified)
             (λ j good. more-certified s R h.signed (booked s i t.own ++ h.signed) (λ x m. in_right x (booked s i t.own) h.signed m) (h.net.cores j)
             (ok.certified j good));
+        standing = each-other (λ j d. is_correct s j ≡ true → AreStanding s R M j d.past (booked s i t.own ++ h.signed)) t (λ good. k.standing)
+            (λ j ne good e a q m. elim (in_append _ (booked s i t.own) h.signed m) [
+              | inl x ↦ absurd (ne (k.mine _ x))
+              | inr x ↦ ok.standing j good e a q x
+            ]);
+        voted = each-core (λ j d. is_correct s j ≡ true → AreVoted R M j d.past (booked s i t.own ++ h.signed)) t (λ good. k.voted)
+            (λ j good. more-voted j (h.net.cores j).past (booked s i t.own) (ok.voted j good));
         separate = sep;
       }
 
       -- nothing happens to a log: a request or a vote waits, a message is kept, a packet is answered, or a batch is about to be cast
       pub still-fits : (t : Turn Msg) → t.core.past ≡ c.past → IsReadyCore R M i t.core → (M.stopping ≡ true → AreSent ok.messages i t.core) →
-          AreCertified s R h.signed t.core → ((x : Signed) → In x (booked s i t.own) → In x h.signed) → Silent t.sends → Turned t
-      still-fits t q core early certified own silent = record {
+          AreCertified s R h.signed t.core → ((x : Signed) → In x (booked s i t.own) → In x h.signed) →
+          ((x : Signed) → In x (booked s i t.own) → x.by ≡ i) → Silent t.sends → Turned t
+      still-fits t q core early certified own mine silent = record {
         messages = ok.messages;
         reach = rest ok.reach (record {
           same = λ j good. each-core (λ j y. y.past ≡ pasts_of h.net j) t q (λ j. refl) j;
@@ -250,11 +277,16 @@ module _ {Msg : Type 0} (s : Setup) (F : Formats Msg) (R : Rules) (M : Module Ms
             (λ x m. over-old x t.strings h.hashed (ok.hashed i correct x m));
         pieces = subst (λ (y : Past Msg). AreReadPieces s y.adopted) (sym q) (ok.pieces i correct);
         certified = certified;
+        mine = mine;
+        standing = subst (λ (y : Past Msg). AreStanding s R M i y (booked s i t.own ++ h.signed)) (sym q)
+            (λ e a n m. ok.standing i correct e a n (elim (in_append _ (booked s i t.own) h.signed m) [ inl x ↦ own _ x | inr x ↦ x ]));
+        voted = subst (λ (y : Past Msg). AreVoted R M i y (booked s i t.own ++ h.signed)) (sym q)
+            (more-voted i (pasts_of h.net i) (booked s i t.own) (ok.voted i correct));
       }
 
       pub rests-fits : (d : Core Msg) → d.past ≡ c.past → IsReadyCore R M i d → (M.stopping ≡ true → AreSent ok.messages i d) →
           AreCertified s R h.signed d → Turned (rests d)
-      rests-fits d q core early certified = still-fits (rests d) q core early certified (λ x m. absurd (no-own x m)) (λ x m. absurd m)
+      rests-fits d q core early certified = still-fits (rests d) q core early certified (λ x m. absurd (no-own x m)) (λ x m. absurd (no-own x m)) (λ x m. absurd m)
 
       -- what may come to the core
       abbrev pub Credible : Past Msg → ℕ → ℕ → Msg → Type 0
