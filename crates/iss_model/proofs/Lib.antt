@@ -42,6 +42,7 @@ pub mod Onward
 pub mod Answered
 pub mod Runs
 pub mod OneLog
+pub mod Certified
 pub mod Ranges
 pub mod FromNodes
 pub mod Turns
