@@ -1,8 +1,8 @@
 -- Every core of a run is sound, and the judge accepts what a sound core casts.
 use Rattle.std.proofs.Common.{◌&&◌, nat_lt, ◌≡◌, ◌⊎◌, inl, inr, ℕ, suc, zero, ◌-◌, ◌≤◌, ◌<◌, Bool, true, false, cond, eqb, not, List, [], ◌∷◌, ◌++◌, length, length-append, take, is_some, Option, Some, None, refl, sym, ap, ◌∙◌, subst, arith, true≢false}
 use Rattle.std.proofs.Math.Seq.{take-append_seam}
-use Rattle.iss_base.specs.Lists.{Extends, In, nth, oldest}
-use Rattle.iss_base.proofs.Lists.{and-true, extends-length, extends-refl, extends-trans, first-cases, in_append, in_left, in_right, is-eq, none-some, not-true, oldest-holds, oldest-part, or-false, set_at2-other}
+use Rattle.iss_base.specs.Lists.{Extends, In, oldest}
+use Rattle.iss_base.proofs.Lists.{and-true, extends-length, extends-refl, extends-trans, in_append, in_left, in_right, is-eq, not-true, oldest-holds, oldest-part, or-false, set_at2-other}
 use Rattle.iss_checkpoint.specs.declared.votes.Cert.{Cert}
 use Rattle.iss_checkpoint.specs.declared.votes.Vote.{Vote}
 use Rattle.iss_request.specs.Fields.{IsReadAgain}
@@ -37,7 +37,7 @@ use Rattle.iss_model.proofs.Ids.{ids-append, ids-in, ids-left, ids-once, ids-rig
 use Rattle.iss_model.proofs.Judged.{accepts-it}
 use Rattle.iss_model.proofs.Logs.{Later, Settled, before-later, log-later, takes-later}
 use Rattle.iss_model.proofs.Longest.{Bounded}
-use Rattle.iss_model.proofs.Pieces.{adopted-far, adopts-later}
+use Rattle.iss_model.proofs.Pieces.{adopted-far, adopts-later, adopts-settled}
 use Rattle.iss_model.proofs.Rows.{IsFit, each-holds, settles-holds, then_ends, then_takes}
 use Rattle.iss_model.proofs.Steps.{IsAdopted, IsCast, IsRequested, Took, adopted, asked, cast, casting, fired, handed, kept, next_batch, received, sought, took, voted}
 use Rattle.iss_transfer.specs.declared.pieces.Piece.{Piece as Sent_piece}
@@ -259,19 +259,8 @@ module _ {Msg : Type 0} (F : Formats Msg) (R : Rules) (M : Module Msg) (me : ℕ
             let whole = oldest-part (start_of R new (suc c.past.epoch)) new in
             none (subst (λ (xs : List Value). In x (log_ids xs)) (sym whole.1) (log_ids-extends x whole.0 (before_own R M me past) k))))
         (adopted-far R slots M me c.past (settled-core c h) h.reached piece refl a.whole)
-        (settled-adopted piece refl)
+        (adopts-settled R c.past piece refl (settled-core c h)).all
         (λ e l lt. h.unborn e l (omega (arith, lt))))
-      where
-        settled-adopted : (piece : Piece) → piece.epoch ≡ c.past.epoch → (e k : ℕ) (v : Value) → adopted_at (piece ∷ c.past.adopted) e k ≡ Some v →
-            e < suc c.past.epoch
-        settled-adopted piece same e k v q = elim (first-cases (adopted_at c.past.adopted e k) (cond (eqb piece.epoch e) (nth piece.values k) None) v q) [
-          | inl x ↦ let lt = h.settled e k v x in omega (arith, lt)
-          | inr x ↦ go (eqb piece.epoch e) refl x.1
-        ]
-          where
-            go : (b : Bool) → eqb piece.epoch e ≡ b → cond b (nth piece.values k) None ≡ Some v → e < suc c.past.epoch
-            go true y z = let is = is-eq piece.epoch e y in omega (arith, is, same)
-            go false y z = absurd (none-some v z)
 
     pub adopts-ready : (c : Core Msg) (p : Sent_piece) (t : Turn Msg) → IsReadyCore R M me c → IsAdopted F R M me c p t →
         IsReadyCore R M me (adopts_piece R M me c p).core

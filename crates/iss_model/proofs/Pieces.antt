@@ -1,8 +1,8 @@
 -- A piece that has a value for each slot of a node's epoch fills the epoch.
-use Rattle.std.proofs.Common.{◌≡◌, inl, inr, ℕ, suc, ◌+◌, ◌-◌, ◌*◌, ◌≤◌, ◌<◌, Bool, cond, eqb, List, [], ◌∷◌, ◌++◌, length, Some, None, refl, sym, ap, ap₂, ◌∙◌, subst, arith, suc-mul}
+use Rattle.std.proofs.Common.{◌≡◌, inl, inr, ℕ, suc, ◌+◌, ◌-◌, ◌*◌, ◌≤◌, ◌<◌, Bool, true, false, cond, eqb, List, [], ◌∷◌, ◌++◌, length, Some, None, refl, sym, ap, ap₂, ◌∙◌, subst, arith, suc-mul}
 use Rattle.std.proofs.lemmas.Bool.Decides.{leb_tells}
 use Rattle.iss_base.specs.Lists.{Chain, Extends, nth, oldest}
-use Rattle.iss_base.proofs.Lists.{chain-part, eqb-same, extends-length, extends-next, extends-trans, first-some, nth-some, oldest-all, oldest-extends, oldest-part}
+use Rattle.iss_base.proofs.Lists.{chain-part, eqb-same, extends-length, extends-next, extends-trans, first-cases, first-some, is-eq, none-some, nth-some, oldest-all, oldest-extends, oldest-part}
 use Rattle.iss_request.specs.declared.requests.Value.{Value}
 use Rattle.iss_sb.specs.Evidence.{Module, delivered}
 use Rattle.iss_model.specs.Past.{IsLog, Past, Piece, adopted_at, adopts, before, before_at, cell, cut_at, epoch_at, leader_at, log_of, params_at, start_of}
@@ -14,6 +14,19 @@ use Rattle.iss_model.proofs.Logs.{Later, Settled, grow-far, log-chain, log-kept,
 pub adopts-later : (R : Rules) {Msg : Type 0} (c : Past Msg) (piece : Piece) → Settled R c → Later R c (adopts c piece)
 adopts-later R c piece h =
     record { epoch = omega arith; here = λ l. ([], refl); there = λ e l ne. refl; adopted = (piece ∷ [], refl); settled = h.all }
+
+-- with a piece of its epoch, what was adopted is of epochs before the next
+pub adopts-settled : (R : Rules) {Msg : Type 0} (c : Past Msg) (piece : Piece) → piece.epoch ≡ c.epoch → Settled R c → Settled R (adopts c piece)
+adopts-settled R c piece same h = record {
+  all = λ e k v q. elim (first-cases (adopted_at c.adopted e k) (cond (eqb piece.epoch e) (nth piece.values k) None) v q) [
+    | inl x ↦ let lt = h.all e k v x in omega (arith, lt)
+    | inr x ↦ go e k v (eqb piece.epoch e) refl x.1
+  ];
+}
+  where
+    go : (e k : ℕ) (v : Value) (b : Bool) → eqb piece.epoch e ≡ b → cond b (nth piece.values k) None ≡ Some v → e < suc c.epoch
+    go e k v true y z = let is = is-eq piece.epoch e y in omega (arith, is, same)
+    go e k v false y z = absurd (none-some v z)
 
 module _ {Msg : Type 0} (R : Rules) (slots : HasSlots R) (M : Module Msg) (i : ℕ) (c : Past Msg) (settled : Settled R c)
     (reached : start_of R (log_of R M i c) c.epoch ≤ length (log_of R M i c)) (piece : Piece) (epoch : piece.epoch ≡ c.epoch)
