@@ -3,7 +3,6 @@ use Rattle.std.proofs.Common.{◌≡◌, ◌≢◌, ◌⊎◌, inl, inr, ℕ, su
 use Rattle.iss_base.specs.Lists.{Extends, In, over}
 use Rattle.iss_base.proofs.Lists.{in_append, in_left, in_right, oldest-part, same_or_not, some-injective}
 use Rattle.iss_checkpoint.specs.declared.votes.Signed.{Signed as Signature}
-use Rattle.iss_log.specs.Chains.{chain_of, strings_from}
 use Rattle.iss_network.specs.Network.{Network}
 use Rattle.iss_network.specs.declared.packets.Sent.{Sent}
 use Rattle.iss_request.specs.Log.{requests}
@@ -19,7 +18,7 @@ use Rattle.iss_model.specs.Certified.{IsLogAt}
 use Rattle.iss_model.specs.Checkpoints.{scheme_of}
 use Rattle.iss_model.specs.Cluster.{AllSpelled, Cluster, IsBooked, IsHashedLog, IsOneOf, IsOwn, Message, Moved, Scheme, Signed, adopt, chain, chain_strings, ends, move, signers, vote_of, vote_statement}
 use Rattle.iss_model.specs.Cluster.{Cert as Cluster_cert}
-use Rattle.iss_model.specs.Node.{Body, Core, Formats, OfModule, OfVote, Parcel, Turn, adopts_piece, cert_on, end_at, grown_strings, inputs, joined, onward, own_claims, packed, rests, verdict_in, vote_on}
+use Rattle.iss_model.specs.Node.{Body, Core, Formats, OfModule, OfVote, Parcel, Turn, adopts_piece, cert_on, grown_strings, inputs, joined, onward, own_claims, packed, rests, verdict_in, vote_on}
 use Rattle.iss_model.specs.Node.{ends as ends_turn}
 use Rattle.iss_model.specs.Past.{Past, Piece, adopted_log, adopts, advanced, before, before_own, cut_at, ended_log, is_complete, leads_in, log_of, made_in, params_of, start_of, takes}
 use Rattle.iss_model.specs.Rules.{Rules}
@@ -100,7 +99,7 @@ module _ {Msg : Type 0} (s : Setup) (F : Formats Msg) (R : Rules) (M : Module Ms
       IsHashedLog S all new
   grown-all old new longer all was fresh x m = elim (grown-hashed s old new longer x m) [
     | inl a ↦ was x a
-    | inr b ↦ fresh x (subst (λ (v : ℕ). In x (strings_from v (chain_of v (reverse old)) (reverse (joined (length old) new)))) (sym o.voting.version) b)
+    | inr b ↦ fresh x (subst (λ (xs : List (List ℕ)). In x xs) (sym (o.voting.hashes old (reverse (joined (length old) new)))) b)
   ]
 
   -- an input is taken in the instance of l
@@ -356,8 +355,8 @@ module _ {Msg : Type 0} (s : Setup) (F : Formats Msg) (R : Rules) (M : Module Ms
         ]
       ];
       voted = λ n lt. elim (same_or_not n full.epoch) [
-        | inl q ↦ inr (subst (λ (z : ℕ). In (record { by = i; statement = R.voted z (end_at R (before R M i (advanced full) (suc z))).chain
-            (end_at R (before R M i (advanced full) (suc z))).requests }) (booked s i closed.own ++ h.signed)) (sym q) now_voted)
+        | inl q ↦ inr (subst (λ (z : ℕ). In (record { by = i; statement = R.voted z (R.end (before R M i (advanced full) (suc z))).chain
+            (R.end (before R M i (advanced full) (suc z))).requests }) (booked s i closed.own ++ h.signed)) (sym q) now_voted)
         | inr ne ↦ voted-later R M i full (advanced full) ended_later k.ready.sound.reached (booked s i t.own ++ h.signed) (booked s i closed.own ++ h.signed)
             kept_book k.voted n (omega (arith, lt, ne))
       ];
@@ -384,18 +383,18 @@ module _ {Msg : Type 0} (s : Setup) (F : Formats Msg) (R : Rules) (M : Module Ms
             let now : IsLogAt R M i full.epoch (advanced full) a q = record {
               over = omega arith;
               whole = subst (λ (xs : List Value). start_of R xs (suc full.epoch) ≡ length xs) (sym cut_same) (start-cut R (log_of R M i full) (suc full.epoch) far);
-              chain = subst (λ (xs : List Value). a ≡ (end_at R xs).chain) (sym cut_same) (same.1 ∙ sym (end-chain s R o.voting log));
-              number = subst (λ (xs : List Value). q ≡ (end_at R xs).requests) (sym cut_same) (same.2 ∙ sym (end-requests s R o.voting log));
+              chain = subst (λ (xs : List Value). a ≡ (R.end xs).chain) (sym cut_same) (same.1 ∙ sym (end-chain s R o.voting log));
+              number = subst (λ (xs : List Value). q ≡ (R.end xs).requests) (sym cut_same) (same.2 ∙ sym (end-requests s R o.voting log));
             } in
             subst (λ (z : ℕ). IsLogAt R M i z (advanced full) a q) (sym same.0) now
 
-        now_voted : In (record { by = i; statement = R.voted full.epoch (end_at R (before R M i (advanced full) (suc full.epoch))).chain
-            (end_at R (before R M i (advanced full) (suc full.epoch))).requests }) (booked s i closed.own ++ h.signed)
-        now_voted = subst (λ (log : List Value). In (record { by = i; statement = R.voted full.epoch (end_at R log).chain (end_at R log).requests })
+        now_voted : In (record { by = i; statement = R.voted full.epoch (R.end (before R M i (advanced full) (suc full.epoch))).chain
+            (R.end (before R M i (advanced full) (suc full.epoch))).requests }) (booked s i closed.own ++ h.signed)
+        now_voted = subst (λ (log : List Value). In (record { by = i; statement = R.voted full.epoch (R.end log).chain (R.end log).requests })
             (booked s i closed.own ++ h.signed)) (sym cut_same)
             (in_left _ (booked s i closed.own) h.signed (booked-last s i t.own vote _
-            (subst (λ (b : Bool). In (record { by = i; statement = R.voted full.epoch (end_at R (ended_log R M i full)).chain
-            (end_at R (ended_log R M i full)).requests }) (cond b (as_signed vote) [])) (sym correct) (inl refl))))
+            (subst (λ (b : Bool). In (record { by = i; statement = R.voted full.epoch (R.end (ended_log R M i full)).chain
+            (R.end (ended_log R M i full)).requests }) (cond b (as_signed vote) [])) (sym correct) (inl refl))))
 
         silent : (x : To × List ℕ) → In x (ending t.core).sends → (j : Parcel Msg) × (is_message j.body ≡ false) × (x.1 ≡ F.wrap j)
         silent x (inl q) =
@@ -431,7 +430,7 @@ module _ {Msg : Type 0} (s : Setup) (F : Formats Msg) (R : Rules) (M : Module Ms
     bf = before_own R M i owned
 
     abbrev piece_strings : List (List ℕ)
-    piece_strings = strings_from R.version (chain_of R.version (reverse bf)) p.values
+    piece_strings = R.hashes bf p.values
 
     ahead : Later R owned joined_past
     ahead = adopts-later R owned piece (record { all = base.ready.sound.settled })
@@ -443,7 +442,7 @@ module _ {Msg : Type 0} (s : Setup) (F : Formats Msg) (R : Rules) (M : Module Ms
     piece_hashed x m = elim (over-hashed s p.values bf x m) [
       | inl y ↦ was x (strings-oldest S (start_of R (log_of R M i owned) owned.epoch) (log_of R M i owned) x y)
       | inr y ↦ over-new x adopting.strings h.hashed (in_left x piece_strings (grown_strings R (log_of R M i owned) (log_of R M i joined_past))
-          (subst (λ (n : ℕ). In x (strings_from n (chain_of n (reverse bf)) p.values)) (sym o.voting.version) y))
+          (subst (λ (xs : List (List ℕ)). In x xs) (sym (o.voting.hashes bf p.values)) y))
     ]
 
     adopted_hashed : IsHashedLog S (over adopting.strings h.hashed) (log_of R M i joined_past)
