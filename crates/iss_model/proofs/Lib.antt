@@ -54,6 +54,7 @@ pub mod Conserved
 pub mod Signing
 pub mod Adopting
 pub mod Example
+pub mod Catching
 pub mod InPlaces
 pub mod Forging
 pub mod Doubles
