@@ -22,17 +22,18 @@ pub mod Reached
 pub mod Layouts
 pub mod Windows
 pub mod Written
+pub mod Instances
 pub mod Statements
 pub mod Checkpoints
 pub mod Linked
 pub mod Voting
+pub mod Checked
 pub mod Certs
 pub mod Spelled
 pub mod Tests
 pub mod Told
 pub mod Twins
 pub mod Posts
-pub mod Unvoted
 pub mod Grown
 pub mod Printed
 pub mod Standing
@@ -58,6 +59,5 @@ pub mod Catching
 pub mod InPlaces
 pub mod Forging
 pub mod Doubles
-pub mod Instances
 pub mod Booked
 pub mod Evidence
