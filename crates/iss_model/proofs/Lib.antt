@@ -40,6 +40,7 @@ pub mod Standing
 pub mod Fits
 pub mod Turned
 pub mod Onward
+pub mod Taking
 pub mod Answered
 pub mod Runs
 pub mod OneLog
