@@ -23,7 +23,7 @@ use Rattle.iss_model.specs.Past.{Past, Piece, adopts, advanced, before, cut_at, 
 use Rattle.iss_model.specs.Rules.{Rules}
 use Rattle.iss_model.proofs.Casts.{cast-asked, log_ids-joined, slot-passes}
 use Rattle.iss_model.proofs.Cuts.{absent-ids, absent-once, cut-ids, cut-once, cut-uncut-apart, uncut-ids, uncut-once}
-use Rattle.iss_model.proofs.Ending.{HasSlots, advanced-later, advanced-log}
+use Rattle.iss_model.proofs.Ending.{HasSlots, advanced-later, advanced-log, complete-far}
 use Rattle.iss_model.proofs.Epochs.{cut-extends, length-cut, start-cut, start-extends, start-mono}
 use Rattle.iss_model.proofs.Filed.{absent-or, cut-or, flight-splits, flown-append, flown-flying, flown-left, flown-once, flown-right, flying-once, in-flying, in-longer, in-returned, joined-in, nil-stays, returned-apart, returned-once}
 use Rattle.iss_model.proofs.Ids.{ids-append, ids-left, ids-once, ids-right, not-has}
@@ -212,11 +212,6 @@ module _ {Msg : Type 0} (R : Rules) (M : Module Msg) (i : ℕ) where
 
     -- the end of an epoch
     module _ (seg : HasSegments R) where
-      whole : (c : Past Msg) → is_complete R M i c ≡ true → start_of R (log_of R M i c) (suc c.epoch) ≤ length (log_of R M i c)
-      whole c complete =
-          elim (leb_tells (start_of R (log_of R M i c) (suc c.epoch)) (length (log_of R M i c)))
-          [ inl y ↦ y.1 | inr y ↦ absurd (true≢false (sym complete ∙ y.0)) ]
-
       -- nothing is in flight any more
       none-flies : (c : Core Msg) → FiledCore c → is_complete R M i c.past ≡ true → (f : Slot × Batch) → In f c.flight → ⊥
       none-flies c h complete f k =
@@ -226,7 +221,7 @@ module _ {Msg : Type 0} (R : Rules) (M : Module Msg) (i : ℕ) where
           let high = seg.high (before R M i c.past e) e i f.0 cast.inside in
           let here : start_of R (cut_at R log e) e ≡ length (cut_at R log e) = start-cut R log e h.reached in
           let len : length (cut_at R log e) ≡ start_of R log e = length-cut R log e h.reached in
-          let ends : start_of R log (suc e) ≤ length log = whole c.past complete in
+          let ends : start_of R log (suc e) ≤ length log = complete-far R seg.slots M i c.past (record { evidence = h.unborn; adopted = h.settled.all }) complete in
           let open_at = h.open_slot f k in
           absurd (omega (arith, high, here, len, ends, open_at))
 
@@ -238,7 +233,7 @@ module _ {Msg : Type 0} (R : Rules) (M : Module Msg) (i : ℕ) where
             filed = record {
               settled = record { all = λ d k v q. let lt = h.settled.all d k v q in omega (arith, lt) };
               unborn = λ e l lt. h.unborn e l (omega (arith, lt));
-              reached = subst (λ (t : List Value). start_of R t (suc c.past.epoch) ≤ length t) (sym same) (whole c.past complete);
+              reached = subst (λ (t : List Value). start_of R t (suc c.past.epoch) ≤ length t) (sym same) (complete-far R seg.slots M i c.past (record { evidence = h.unborn; adopted = h.settled.all }) complete);
               waiting_once = h.waiting_once;
               flight_once = h.flight_once;
               apart = h.apart;
