@@ -95,7 +95,9 @@ fn pumps_in(words: &mut Words) -> Option<u32>
 // The core and the node that the last two words name.
 fn core_and_node_in(setup: &Setup, words: &mut Words) -> Option<(u32, NodeId)>
     requires good { IsGoodSetup setup.now }
-    ensures { Reads (λ pair. decimal pair.0 ∷ last_number pair.1.0) (λ pair. (pair.0 < cores_of setup.now) × (pair.1.0 < setup.now.n)) words.old result }
+    ensures some { IfSome result (λ pair. words.old ≡ decimal pair.0 ∷ decimal pair.1.0 ∷ []) }
+    ensures range { IfSome result (λ pair. (pair.0 < cores_of setup.now) × (pair.1.0 < setup.now.n)) }
+    ensures none { IfNone result ((core node : ℕ) → core < cores_of setup.now → node < setup.now.n → words.old ≢ decimal core ∷ decimal node ∷ []) }
 {
     let core = number_in(words, 0, count_of_cores(setup))?;
     let node = last_number_in(words, 0, setup.n)?;
