@@ -29,10 +29,11 @@ use Rattle.iss_model.specs.Views.{claims_of_body, claims_of_parcel}
 use Rattle.iss_model.proofs.Casts.{cast-fit, cast-read, casting-ready, step-ready}
 use Rattle.iss_model.proofs.Certs.{AreCertified, IsKeptCert, IsTrueSign, cert-there, claims-in, counted-certified, in-claims, true-each}
 use Rattle.iss_model.proofs.Fits.{AreSent as AreSentBy, Fits as FitsBy, Premises}
-use Rattle.iss_model.proofs.Onward.{adopts-turned, ends-fits, reads-fits, takes-fits}
+use Rattle.iss_model.proofs.Onward.{ends-fits, reads-fits, takes-fits}
 use Rattle.iss_model.proofs.Rows.{IsFit, claims_early, each-holds, settles-holds}
 use Rattle.iss_model.proofs.Steps.{IsAdopted, Took, adopted, asked, cast, casting, fired, handed, kept, next_batch, received, sought, took, voted}
 use Rattle.iss_model.proofs.Tests.{each-verifies, in-signed, only-by, separate-more, unforged}
+use Rattle.iss_model.proofs.Taking.{adopts-turned}
 use Rattle.iss_model.proofs.Told.{AreTold, took-told}
 use Rattle.iss_model.proofs.Turned as turned
 use Rattle.iss_model.proofs.Turned.{Comes-in}

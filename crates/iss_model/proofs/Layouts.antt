@@ -48,7 +48,7 @@ least-low : (a b : ℕ) → least a b ≤ b
 least-low a b = elim (leb_tells a b) [ inl t ↦ rw t.0 t.1 | inr t ↦ rw t.0 (omega arith) ]
 
 -- epochs are of one length as yet
-sums : (s : Setup) (log : List Value) (e : ℕ) → start_by (slots_at s) log e ≡ e * s.epoch
+pub sums : (s : Setup) (log : List Value) (e : ℕ) → start_by (slots_at s) log e ≡ e * s.epoch
 sums s log zero = omega arith
 sums s log (suc e) = let before = sums s log e in omega (arith, before)
 

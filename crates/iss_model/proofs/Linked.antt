@@ -28,13 +28,13 @@ requests-turned (v ∷ older) =
     (requests_more (reverse older) v ∙
     (let sum : requests (reverse older) + size_of v ≡ size_of v + requests older = omega (arith, ih) in sum))
 
+pub over-is : (vs log : List Value) → over vs log ≡ reverse vs ++ log
+over-is [] log = refl
+over-is (v ∷ vs) log =
+    over-is vs (v ∷ log) ∙ (sym (append_assoc (reverse vs) (v ∷ []) log) ∙ ap (λ (t : List Value). t ++ log) (sym (newest-last v vs)))
+
 over-turned : (newer old : List Value) → over (reverse newer) old ≡ newer ++ old
-over-turned newer old = go (reverse newer) old ∙ ap (λ (t : List Value). t ++ old) (reverse-reverse newer)
-  where
-    go : (vs log : List Value) → over vs log ≡ reverse vs ++ log
-    go [] log = refl
-    go (v ∷ vs) log =
-        go vs (v ∷ log) ∙ (sym (append_assoc (reverse vs) (v ∷ []) log) ∙ ap (λ (t : List Value). t ++ log) (sym (newest-last v vs)))
+over-turned newer old = over-is (reverse newer) old ∙ ap (λ (t : List Value). t ++ old) (reverse-reverse newer)
 
 module _ (s : Setup) where
   -- the chain of a log

@@ -1,9 +1,8 @@
--- A turn of a correct core goes on: it takes an input, ends its epoch and votes, or adopts a piece, each a move of the cluster.
+-- A turn of a correct core goes on: it takes an input, or ends its epoch and votes, each a move of the cluster.
 use Rattle.std.proofs.Common.{◌≡◌, ◌≢◌, ◌⊎◌, inl, inr, ℕ, suc, ◌<◌, ◌≤◌, Bool, true, false, cond, List, [], ◌∷◌, ◌++◌, length, reverse, Some, None, refl, sym, ap, ◌∙◌, subst, arith}
 use Rattle.iss_base.specs.Lists.{Extends, In, over}
 use Rattle.iss_base.proofs.Lists.{in_append, in_left, in_right, oldest-part, same_or_not, some-injective}
 use Rattle.iss_checkpoint.specs.declared.votes.Signed.{Signed as Signature}
-use Rattle.iss_log.specs.Chains.{chain_of, strings_from}
 use Rattle.iss_network.specs.Network.{Network}
 use Rattle.iss_network.specs.declared.packets.Sent.{Sent}
 use Rattle.iss_request.specs.Log.{requests}
@@ -19,7 +18,7 @@ use Rattle.iss_model.specs.Certified.{IsLogAt}
 use Rattle.iss_model.specs.Checkpoints.{scheme_of}
 use Rattle.iss_model.specs.Cluster.{AllSpelled, Cluster, IsBooked, IsHashedLog, IsOneOf, IsOwn, Message, Moved, Scheme, Signed, adopt, chain, chain_strings, ends, move, signers, vote_of, vote_statement}
 use Rattle.iss_model.specs.Cluster.{Cert as Cluster_cert}
-use Rattle.iss_model.specs.Node.{Body, Core, Formats, OfModule, OfVote, Parcel, Turn, adopts_piece, cert_on, end_at, grown_strings, inputs, joined, onward, own_claims, packed, rests, verdict_in, vote_on}
+use Rattle.iss_model.specs.Node.{Body, Core, Formats, OfModule, OfVote, Parcel, Turn, adopts_piece, cert_on, grown_strings, inputs, joined, onward, own_claims, packed, rests, verdict_in, vote_on}
 use Rattle.iss_model.specs.Node.{ends as ends_turn}
 use Rattle.iss_model.specs.Past.{Past, Piece, adopted_log, adopts, advanced, before, before_own, cut_at, ended_log, is_complete, leads_in, log_of, made_in, params_of, start_of, takes}
 use Rattle.iss_model.specs.Rules.{Rules}
@@ -52,14 +51,6 @@ use Rattle.iss_model.proofs.Turned as turned
 use Rattle.iss_model.proofs.Twins.{addressee-core, core-low, faultless}
 use Rattle.iss_model.proofs.Voting.{end-chain, end-requests, leads-chained, voted-is}
 
--- what values put over a log bring
-in-over : (v : Value) (vs log : List Value) → In v (over vs log) → In v vs ⊎ In v log
-in-over v [] log h = inr h
-in-over v (u ∷ vs) log h = elim (in-over v vs (u ∷ log) h) [
-  | inl a ↦ inl (inr a)
-  | inr b ↦ elim b [ inl q ↦ inl (inl q) | inr d ↦ inr d ]
-]
-
 module _ {Msg : Type 0} (s : Setup) (F : Formats Msg) (R : Rules) (M : Module Msg) (o : Premises s F R M) (h : Held Msg) (ok : Fits s F R M h)
     (i : ℕ) (correct : is_correct s i ≡ true) where
   abbrev S : Scheme
@@ -80,13 +71,13 @@ module _ {Msg : Type 0} (s : Setup) (F : Formats Msg) (R : Rules) (M : Module Ms
   abbrev seen : Turn Msg → List (Message Msg) → Cluster Msg
   seen t messages = view s F R M (turned_to s h i t) messages
 
-  here : (t : Turn Msg) → pasts_of (turned_to s h i t).net i ≡ t.core.past
+  pub here : (t : Turn Msg) → pasts_of (turned_to s h i t).net i ≡ t.core.past
   here t = turned.past-here s F R M o h ok i t
 
-  other : (t : Turn Msg) (j : ℕ) → j ≢ i → pasts_of (turned_to s h i t).net j ≡ pasts_of h.net j
+  pub other : (t : Turn Msg) (j : ℕ) → j ≢ i → pasts_of (turned_to s h i t).net j ≡ pasts_of h.net j
   other t j ne = turned.past-there s F R M o h ok i t j ne
 
-  there : (t : Turn Msg) (P : Past Msg → Type 0) → P t.core.past → P (pasts_of (turned_to s h i t).net i)
+  pub there : (t : Turn Msg) (P : Past Msg → Type 0) → P t.core.past → P (pasts_of (turned_to s h i t).net i)
   there t P k = turned.there s F R M o h ok i t P k
 
   string-old : (t : Turn Msg) (f : Core Msg → Turn Msg) (x : List ℕ) → In x (over t.strings h.hashed) → In x (over (onward t f).strings h.hashed)
@@ -96,11 +87,11 @@ module _ {Msg : Type 0} (s : Setup) (F : Formats Msg) (R : Rules) (M : Module Ms
   string-new t f x m = turned.string-new s F R M o h ok i correct t f x m
 
   -- what a step hashes of a log that grows is all that is new in its chain
-  grown-all : (old new : List Value) → Extends old new → (all : List (List ℕ)) → IsHashedLog S all old → ((x : List ℕ) → In x (grown_strings R old new) → In x all) →
+  pub grown-all : (old new : List Value) → Extends old new → (all : List (List ℕ)) → IsHashedLog S all old → ((x : List ℕ) → In x (grown_strings R old new) → In x all) →
       IsHashedLog S all new
   grown-all old new longer all was fresh x m = elim (grown-hashed s old new longer x m) [
     | inl a ↦ was x a
-    | inr b ↦ fresh x (subst (λ (v : ℕ). In x (strings_from v (chain_of v (reverse old)) (reverse (joined (length old) new)))) (sym o.voting.version) b)
+    | inr b ↦ fresh x (subst (λ (xs : List (List ℕ)). In x xs) (sym (o.voting.hashes old (reverse (joined (length old) new)))) b)
   ]
 
   -- an input is taken in the instance of l
@@ -356,8 +347,8 @@ module _ {Msg : Type 0} (s : Setup) (F : Formats Msg) (R : Rules) (M : Module Ms
         ]
       ];
       voted = λ n lt. elim (same_or_not n full.epoch) [
-        | inl q ↦ inr (subst (λ (z : ℕ). In (record { by = i; statement = R.voted z (end_at R (before R M i (advanced full) (suc z))).chain
-            (end_at R (before R M i (advanced full) (suc z))).requests }) (booked s i closed.own ++ h.signed)) (sym q) now_voted)
+        | inl q ↦ inr (subst (λ (z : ℕ). In (record { by = i; statement = R.voted z (R.end (before R M i (advanced full) (suc z))).chain
+            (R.end (before R M i (advanced full) (suc z))).requests }) (booked s i closed.own ++ h.signed)) (sym q) now_voted)
         | inr ne ↦ voted-later R M i full (advanced full) ended_later k.ready.sound.reached (booked s i t.own ++ h.signed) (booked s i closed.own ++ h.signed)
             kept_book k.voted n (omega (arith, lt, ne))
       ];
@@ -384,18 +375,18 @@ module _ {Msg : Type 0} (s : Setup) (F : Formats Msg) (R : Rules) (M : Module Ms
             let now : IsLogAt R M i full.epoch (advanced full) a q = record {
               over = omega arith;
               whole = subst (λ (xs : List Value). start_of R xs (suc full.epoch) ≡ length xs) (sym cut_same) (start-cut R (log_of R M i full) (suc full.epoch) far);
-              chain = subst (λ (xs : List Value). a ≡ (end_at R xs).chain) (sym cut_same) (same.1 ∙ sym (end-chain s R o.voting log));
-              number = subst (λ (xs : List Value). q ≡ (end_at R xs).requests) (sym cut_same) (same.2 ∙ sym (end-requests s R o.voting log));
+              chain = subst (λ (xs : List Value). a ≡ (R.end xs).chain) (sym cut_same) (same.1 ∙ sym (end-chain s R o.voting log));
+              number = subst (λ (xs : List Value). q ≡ (R.end xs).requests) (sym cut_same) (same.2 ∙ sym (end-requests s R o.voting log));
             } in
             subst (λ (z : ℕ). IsLogAt R M i z (advanced full) a q) (sym same.0) now
 
-        now_voted : In (record { by = i; statement = R.voted full.epoch (end_at R (before R M i (advanced full) (suc full.epoch))).chain
-            (end_at R (before R M i (advanced full) (suc full.epoch))).requests }) (booked s i closed.own ++ h.signed)
-        now_voted = subst (λ (log : List Value). In (record { by = i; statement = R.voted full.epoch (end_at R log).chain (end_at R log).requests })
+        now_voted : In (record { by = i; statement = R.voted full.epoch (R.end (before R M i (advanced full) (suc full.epoch))).chain
+            (R.end (before R M i (advanced full) (suc full.epoch))).requests }) (booked s i closed.own ++ h.signed)
+        now_voted = subst (λ (log : List Value). In (record { by = i; statement = R.voted full.epoch (R.end log).chain (R.end log).requests })
             (booked s i closed.own ++ h.signed)) (sym cut_same)
             (in_left _ (booked s i closed.own) h.signed (booked-last s i t.own vote _
-            (subst (λ (b : Bool). In (record { by = i; statement = R.voted full.epoch (end_at R (ended_log R M i full)).chain
-            (end_at R (ended_log R M i full)).requests }) (cond b (as_signed vote) [])) (sym correct) (inl refl))))
+            (subst (λ (b : Bool). In (record { by = i; statement = R.voted full.epoch (R.end (ended_log R M i full)).chain
+            (R.end (ended_log R M i full)).requests }) (cond b (as_signed vote) [])) (sym correct) (inl refl))))
 
         silent : (x : To × List ℕ) → In x (ending t.core).sends → (j : Parcel Msg) × (is_message j.body ≡ false) × (x.1 ≡ F.wrap j)
         silent x (inl q) =
@@ -404,123 +395,3 @@ module _ {Msg : Type 0} (s : Setup) (F : Formats Msg) (R : Rules) (M : Module Ms
 
   pub ends-fits : (t : Turn Msg) → Holds t → is_complete R M i t.core.past ≡ true → Holds (then_ends F R M i t)
   ends-fits t k complete sep = ends-turned t (k (turned.less-apart s F R M o h ok i correct t (λ c. ends_turn F R M i c) sep)) sep complete
-
-  -- the node adopts a piece
-  module _ (base : Turned (rests (h.net.cores i))) (p : Sent_piece) (t : Turn Msg) (a : IsAdopted F R M i (h.net.cores i) p t)
-      (read : (v : Value) → In v p.values → IsReadValue s v) (kept : IsKeptCert s R h.signed p.cert)
-      (sep : Apart (adopts_piece R M i (h.net.cores i) p)) where
-    abbrev core : Core Msg
-    core = h.net.cores i
-
-    abbrev owned : Past Msg
-    owned = core.past
-
-    abbrev adopting : Turn Msg
-    adopting = adopts_piece R M i core p
-
-    abbrev piece : Piece
-    piece = record { epoch = owned.epoch; values = p.values }
-
-    abbrev cert : Cluster_cert
-    cert = record { chain = p.cert.chain; number = p.cert.requests; signed = signs_of p.cert.signers }
-
-    abbrev joined_past : Past Msg
-    joined_past = adopts owned piece
-
-    abbrev bf : List Value
-    bf = before_own R M i owned
-
-    abbrev piece_strings : List (List ℕ)
-    piece_strings = strings_from R.version (chain_of R.version (reverse bf)) p.values
-
-    ahead : Later R owned joined_past
-    ahead = adopts-later R owned piece (record { all = base.ready.sound.settled })
-
-    was : IsHashedLog S (over adopting.strings h.hashed) (log_of R M i owned)
-    was x m = over-old x adopting.strings h.hashed (base.hashed x m)
-
-    piece_hashed : IsHashedLog S (over adopting.strings h.hashed) (over p.values bf)
-    piece_hashed x m = elim (over-hashed s p.values bf x m) [
-      | inl y ↦ was x (strings-oldest S (start_of R (log_of R M i owned) owned.epoch) (log_of R M i owned) x y)
-      | inr y ↦ over-new x adopting.strings h.hashed (in_left x piece_strings (grown_strings R (log_of R M i owned) (log_of R M i joined_past))
-          (subst (λ (n : ℕ). In x (strings_from n (chain_of n (reverse bf)) p.values)) (sym o.voting.version) y))
-    ]
-
-    adopted_hashed : IsHashedLog S (over adopting.strings h.hashed) (log_of R M i joined_past)
-    adopted_hashed = grown-all (log_of R M i owned) (log_of R M i joined_past) (log-later R M i owned joined_past ahead) (over adopting.strings h.hashed) was
-        (λ x m. over-new x adopting.strings h.hashed (in_right x piece_strings (grown_strings R (log_of R M i owned) (log_of R M i joined_past)) m))
-
-    sep_base : Apart (rests core)
-    sep_base = separate-part (Among (over adopting.strings h.hashed)) (Among h.hashed) (λ x m. over-old x adopting.strings h.hashed m) sep
-
-    adopted_good : Good s R M (seen (rests core) base.messages) S
-    adopted_good = turned.good-at s F R M o (seen (rests core) base.messages) sep_base base.reach
-
-    log_spelled : AllSpelled S (log_of R M i owned)
-    log_spelled = subst (λ (y : Past Msg). AllSpelled S (log_of R M i y)) (here (rests core)) (adopted_good.spelled i correct)
-
-    piece_spelled : AllSpelled S (over p.values bf)
-    piece_spelled v m = elim (in-over v p.values bf m) [
-      | inl y ↦ read-spelled s v (read v y)
-      | inr y ↦
-          let part = oldest-part (start_of R (log_of R M i owned) owned.epoch) (log_of R M i owned) in
-          log_spelled v (subst (λ (xs : List Value). In v xs) (sym part.1) (in_right v part.0 bf y))
-    ]
-
-    adopted_pieces : AreReadPieces s joined_past.adopted
-    adopted_pieces q (inl e) v m = read v (subst (λ (y : Piece). In v y.values) e m)
-    adopted_pieces q (inr m) v n = base.pieces q m v n
-
-    adopted_spelled : AllSpelled S (log_of R M i joined_past)
-    adopted_spelled v m = read-spelled s v (log-read s S R M o.safe o.sound o.voting (seen (rests core) base.messages) sep_base adopted_good i correct joined_past
-        (there (rests core) (λ (y : Past Msg). Later R y joined_past) ahead)
-        (there (rests core) (λ (y : Past Msg). (e l : ℕ) → joined_past.evidence e l ≡ y.evidence e l) (λ e l. refl)) adopted_pieces
-        (log_of R M i joined_past) (log-chain R M i joined_past) v m)
-
-    votes : (j : ℕ) → In j (signers cert.signed) → is_correct s j ≡ true → IsBooked (booked s i [] ++ h.signed) j (vote_statement s owned.epoch cert.chain cert.number)
-    votes j m good_j =
-        let r = in-signers p.cert.signers j m in
-        let right : is_correct s r.0.by.0 ≡ true = subst (λ (n : ℕ). is_correct s n ≡ true) (sym r.2) good_j in
-        let statement : R.voted p.cert.epoch.0 p.cert.chain p.cert.requests ≡ vote_statement s owned.epoch p.cert.chain p.cert.requests =
-        ap (λ (n : ℕ). R.voted n p.cert.chain p.cert.requests) a.of_epoch ∙ o.voting.voted owned.epoch p.cert.chain p.cert.requests in
-        in_right _ (booked s i []) h.signed (subst (λ (n : ℕ). IsBooked h.signed n (vote_statement s owned.epoch p.cert.chain p.cert.requests)) r.2
-        (subst (λ (y : List ℕ). IsBooked h.signed r.0.by.0 y) statement ((kept.signs r.0 r.1).booked right)))
-
-    pub adopts-turned : Turned adopting
-    adopts-turned = record {
-      messages = base.messages;
-      reach = adopt i piece cert base.reach (record {
-        correct = correct;
-        epoch = there (rests core) (λ (y : Past Msg). owned.epoch ≡ y.epoch) refl;
-        whole = there (rests core) (λ (y : Past Msg). length p.values ≡ R.slots (before R M i y owned.epoch) owned.epoch) a.whole;
-        quorum = quorum-is s M R o.sound o.voting p.cert a.certified;
-        votes = votes;
-        chained = there (rests core) (λ (y : Past Msg). p.cert.chain ≡ chain S (adopted_log R M i y piece)) (leads-chained s R o.voting bf p a.leads);
-        piece_hashed = there (rests core) (λ (y : Past Msg). IsHashedLog S (over adopting.strings h.hashed) (adopted_log R M i y piece)) piece_hashed;
-        piece_spelled = there (rests core) (λ (y : Past Msg). AllSpelled S (adopted_log R M i y piece)) piece_spelled;
-        here = here adopting ∙ ap (λ (y : Past Msg). adopts y piece) (sym (here (rests core)));
-        other = λ j ne. other adopting j ne ∙ sym (other (rests core) j ne);
-        quiet = record { messages = λ st m z. z; old_book = λ x m. m; strings = λ x m. over-old x adopting.strings h.hashed m };
-        book = λ x m. m;
-        hashed = there adopting (λ (y : Past Msg). IsHashedLog S (over adopting.strings h.hashed) (log_of R M i y)) adopted_hashed;
-        spelled = there adopting (λ (y : Past Msg). AllSpelled S (log_of R M i y)) adopted_spelled;
-      });
-      posted = base.posted;
-      ready = adopts-ready F R M i (turned.slots s F R M o) o.windows core p t base.ready a;
-      booked = adopts-booked R M i core base.ready.sound piece (booked s i [] ++ h.signed) base.booked;
-      early = λ st x m. absurd m;
-      old = base.old;
-      hashed = adopted_hashed;
-      pieces = adopted_pieces;
-      certified = record {
-        votes = base.certified.votes;
-        certs = keeping-certified s R h.signed core.certs p.cert (cert_on core.certs owned.epoch) base.certified.certs kept;
-      };
-      mine = base.mine;
-      standing = λ n a q m. log-at-later R M i owned joined_past ahead base.ready.sound.reached n a q (base.standing n a q m);
-      voted = λ n lt. elim (same_or_not n owned.epoch) [
-        | inl q ↦ inl (piece, inl refl, sym q)
-        | inr ne ↦ voted-later R M i owned joined_past ahead base.ready.sound.reached (booked s i [] ++ h.signed) (booked s i [] ++ h.signed) (λ x m. m)
-            base.voted n (omega (arith, lt, ne))
-      ];
-    }

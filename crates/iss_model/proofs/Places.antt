@@ -29,7 +29,7 @@ use Rattle.iss_model.proofs.Epochs.{cut-extends, length-cut, start-cut, start-ex
 use Rattle.iss_model.proofs.Filed.{absent-or, cut-or, flight-splits, flown-append, flown-flying, flown-left, flown-once, flown-right, flying-once, in-flying, in-longer, in-returned, joined-in, nil-stays, returned-apart, returned-once}
 use Rattle.iss_model.proofs.Ids.{ids-append, ids-left, ids-once, ids-right, not-has}
 use Rattle.iss_model.proofs.Pieces.{adopted-far, adopts-later, adopts-settled}
-use Rattle.iss_model.proofs.Steps.{IsAdopted, hand-taken, piece-taken, turn-is, undropped, untaken, vote-taken}
+use Rattle.iss_model.proofs.Steps.{IsAdopted, hand-taken, input-taken, piece-taken, request-taken, turn-is, undropped, untaken, vote-taken}
 use Rattle.iss_transfer.specs.declared.pieces.Piece.{Piece as Sent_piece}
 use Rattle.iss_model.proofs.Logs.{Later, Settled, before-later, evidence-later, log-later, takes-later}
 
@@ -269,15 +269,7 @@ module _ {Msg : Type 0} (R : Rules) (M : Module Msg) (i : ℕ) where
 
       -- an input that was not refused
       pub at-inputs : (c : Core Msg) (l : ℕ) (input : Input Msg) (t : Turn Msg) → at_instance F R M i c l input ≡ Taken t → t ≡ inputs F R M i c l input
-      at-inputs c l input t h =
-          let a = undropped (not (leads_in R M i c.past l)) NotLeader _ t h in
-          let v = undropped (not (all_verify R (claims_of_input M (params_of R M i c.past l) input))) BadClaim _ t a.1 in
-          let b = undropped (not (has_leaves M (params_of R M i c.past l) c.leaf)) NoKeys _ t v.1 in
-          judged (verdict_in R M i c.past l input) b.1
-        where
-          judged : (v : Option Refusal) → by_verdict v (inputs F R M i c l input) ≡ Taken t → t ≡ inputs F R M i c l input
-          judged None k = turn-is _ t k
-          judged (Some x) k = absurd (untaken _ t k)
+      at-inputs c l input t h = (input-taken F R M i c l input t h).is
 
       tried-keeps : (c : Core Msg) (l : ℕ) (input : Input Msg) → FiledCore c → Keeps c (tried c (at_instance F R M i c l input)).core
       tried-keeps c l input h = go (at_instance F R M i c l input) refl
@@ -350,11 +342,7 @@ module _ {Msg : Type 0} (R : Rules) (M : Module Msg) (i : ℕ) where
       -- a request that was taken waits
       pub request-waits : (c : Core Msg) (q : Request) (t : Turn Msg) → takes_request R M i c q ≡ Taken t →
           (is_known R M i c q.id ≡ false) × (t.core ≡ record c { waiting = c.waiting ++ q ∷ [] })
-      request-waits c q t h =
-          let a = undropped (not (R.signed q)) BadRequest _ t h in
-          let b = undropped (is_known R M i c q.id) Known _ t a.1 in
-          let d = undropped (not (R.inside (before_own R M i c.past) c.past.epoch q.id)) OutOfWindow _ t b.1 in
-          (b.0, ap (λ (u : Turn Msg). u.core) (turn-is _ t d.1))
+      request-waits c q t h = let r = request-taken F R M i c q t h in (r.unknown, ap (λ (u : Turn Msg). u.core) r.is)
 
       early-keeps : (c : Core Msg) (x : Early Msg) (t : Turn Msg) → FiledCore c → keeps_early c x ≡ Taken t → Keeps c t.core
       early-keeps c x t h = go (nat_lt (length c.early) early_most)

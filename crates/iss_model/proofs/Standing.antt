@@ -8,7 +8,6 @@ use Rattle.iss_sb.specs.Evidence.{Module}
 use Rattle.iss_model.specs.Certified.{IsLogAt}
 use Rattle.iss_model.specs.Cluster.{Signed, vote_statement}
 use Rattle.iss_model.specs.Ends.{AreVoted, WasAdopted}
-use Rattle.iss_model.specs.Node.{end_at}
 use Rattle.iss_model.specs.Past.{Past, before, log_of, start_of}
 use Rattle.iss_model.specs.Rules.{Rules}
 use Rattle.iss_model.proofs.Epochs.{start-mono}
@@ -33,14 +32,14 @@ module _ {Msg : Type 0} (R : Rules) (M : Module Msg) (i : ℕ) (c d : Past Msg) 
       record {
         over = omega (arith, far, more);
         whole = subst (λ (log : List Value). start_of R log (suc e) ≡ length log) (sym same) h.whole;
-        chain = subst (λ (log : List Value). a ≡ (end_at R log).chain) (sym same) h.chain;
-        number = subst (λ (log : List Value). q ≡ (end_at R log).requests) (sym same) h.number;
+        chain = subst (λ (log : List Value). a ≡ (R.end log).chain) (sym same) h.chain;
+        number = subst (λ (log : List Value). q ≡ (R.end log).requests) (sym same) h.number;
       }
 
   pub voted-later : (old new : List Signed) → ((x : Signed) → In x old → In x new) → AreVoted R M i c old → (e : ℕ) → e < c.epoch →
-      WasAdopted d e ⊎ In (record { by = i; statement = R.voted e (end_at R (before R M i d (suc e))).chain (end_at R (before R M i d (suc e))).requests }) new
+      WasAdopted d e ⊎ In (record { by = i; statement = R.voted e (R.end (before R M i d (suc e))).chain (R.end (before R M i d (suc e))).requests }) new
   voted-later old new sub are e lt = elim (are e lt) [
     | inl a ↦ inl (a.0, subst (λ (ps : List _). In a.0 ps) (sym later.adopted.1) (in_right a.0 later.adopted.0 c.adopted a.1), a.2)
-    | inr b ↦ inr (subst (λ (log : List Value). In (record { by = i; statement = R.voted e (end_at R log).chain (end_at R log).requests }) new) (sym (stays e lt))
+    | inr b ↦ inr (subst (λ (log : List Value). In (record { by = i; statement = R.voted e (R.end log).chain (R.end log).requests }) new) (sym (stays e lt))
         (sub _ b))
   ]

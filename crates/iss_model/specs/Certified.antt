@@ -9,7 +9,7 @@ use Rattle.iss_schedule.specs.declared.schedules.Event.{Event}
 use Rattle.iss_sb.specs.Evidence.{Module, is_correct}
 use Rattle.iss_model.specs.Cluster.{Backed}
 use Rattle.iss_model.specs.Concrete.{rules_of}
-use Rattle.iss_model.specs.Node.{end_at, is_true_cert}
+use Rattle.iss_model.specs.Node.{is_true_cert}
 use Rattle.iss_model.specs.OneLog.{pasts_after, run_after}
 use Rattle.iss_model.specs.Past.{Past, adopted_at, before, epoch_at, start_of}
 use Rattle.iss_model.specs.Rules.{Rules}
@@ -18,8 +18,8 @@ use Rattle.iss_model.specs.Rules.{Rules}
 pub record IsLogAt {Msg : Type 0} (R : Rules) (M : Module Msg) (k e : ℕ) (c : Past Msg) (said : List ℕ) (many : ℕ) : Type 0 where
   pub over : e < c.epoch
   pub whole : start_of R (before R M k c (suc e)) (suc e) ≡ length (before R M k c (suc e))
-  pub chain : said ≡ (end_at R (before R M k c (suc e))).chain
-  pub number : many ≡ (end_at R (before R M k c (suc e))).requests
+  pub chain : said ≡ (R.end (before R M k c (suc e))).chain
+  pub number : many ≡ (R.end (before R M k c (suc e))).requests
 
 -- a certificate has a quorum of true signatures, and what it says is so of the log of a correct signer
 pub record IsOfLog {Msg : Type 0} (s : Setup) (R : Rules) (M : Module Msg) (pasts : ℕ → Past Msg) (c : Cert) : Type 0 where

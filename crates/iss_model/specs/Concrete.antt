@@ -1,11 +1,12 @@
 -- The rules of a cluster under its set-up.
-use Rattle.std.specs.Prelude.{ℕ, zero, suc, ◌-◌, ◌^◌, ◌&&◌, Bool, List, ◌∷◌, ◌++◌, length, cond, nat_le, nat_lt, Option, Some, None}
+use Rattle.std.specs.Prelude.{ℕ, zero, suc, ◌-◌, ◌^◌, ◌&&◌, Bool, List, ◌∷◌, ◌++◌, length, reverse, cond, nat_le, nat_lt, Option, Some, None}
 use Rattle.std.specs.Int.{to_be_bytes, w16, w32}
 use Rattle.iss_checkpoint.specs.Votes.{vote_statement}
 use Rattle.iss_keys.specs.Directories.{DirectoryView, directory_of, node_secret}
 use Rattle.iss_keys.specs.Signatures.{signature_of}
 use Rattle.iss_keys.specs.VerifiedBy.{is_verified_by}
 use Rattle.iss_layout.specs.Layout.{Plan, bucket_of, bucket_owner, leads, plan_of, segment, slot_leader}
+use Rattle.iss_log.specs.Chains.{chain_of, end_of, strings_from}
 use Rattle.iss_request.specs.Log.{log_ids}
 use Rattle.iss_request.specs.declared.ids.NodeId.{NodeId}
 use Rattle.iss_request.specs.declared.ids.ReqId.{ReqId}
@@ -70,7 +71,8 @@ rules_of s =
         slots = segment (plan_at s log e) l;
         directory = keys_of s;
       };
-      version = s.version;
+      end = λ log. end_of s.version (reverse log);
+      hashes = λ log values. strings_from s.version (chain_of s.version (reverse log)) values;
       nodes = s.n;
       quorum = s.quorum;
       voted = λ e chain number. vote_statement s.tag e chain number;

@@ -11,7 +11,7 @@ use Rattle.iss_model.specs.declared.causes.NodeEvent.{NodeEvent}
 use Rattle.iss_model.specs.Cluster.{IsOwn, Signed}
 use Rattle.iss_model.specs.Concrete.{rules_of}
 use Rattle.iss_model.specs.Formats.{formats_of}
-use Rattle.iss_model.specs.Node.{Formats, Taken, Turn, end_at, step}
+use Rattle.iss_model.specs.Node.{Formats, Taken, Turn, step}
 use Rattle.iss_model.specs.OneLog.{pasts_after, run_after}
 use Rattle.iss_model.specs.Past.{Past, Piece, before}
 use Rattle.iss_model.specs.Rules.{Rules}
@@ -62,7 +62,7 @@ WasAdopted c e = (piece : Piece) × In piece c.adopted × (piece.epoch ≡ e)
 abbrev pub AreVoted : {Msg : Type 0} → Rules → Module Msg → ℕ → Past Msg → List Signed → Type 0
 AreVoted R M i c book =
     (e : ℕ) → e < c.epoch → WasAdopted c e ⊎
-    In (record { by = i; statement = R.voted e (end_at R (before R M i c (suc e))).chain (end_at R (before R M i c (suc e))).requests }) book
+    In (record { by = i; statement = R.voted e (R.end (before R M i c (suc e))).chain (R.end (before R M i c (suc e))).requests }) book
 
 -- Where the run has ended, that is shown by what it holds; what comes later changes nothing; and the book misses no claim
 -- and no vote that a correct node sent of its own, so that what is not there was not sent.

@@ -10,8 +10,6 @@ use Rattle.iss_checkpoint.specs.declared.votes.Signed.{Signed}
 use Rattle.iss_checkpoint.specs.declared.votes.Vote.{Vote}
 use Rattle.iss_keys.specs.KeyStates.{left_of}
 pub use Rattle.iss_layout.specs.Layout.{is_nil_at}
-use Rattle.iss_log.specs.Chains.{chain_of, end_of, strings_from}
-use Rattle.iss_log.specs.declared.chains.End.{End}
 use Rattle.iss_request.specs.Log.{has_id, ids, log_ids}
 use Rattle.iss_request.specs.declared.ids.NodeId.{NodeId}
 use Rattle.iss_request.specs.declared.ids.ReqId.{ReqId}
@@ -124,11 +122,7 @@ refiled R M me c past leaf =
 
 -- the strings that are hashed as a log grows by what joins it: slot by slot, the value's and the link's
 abbrev pub grown_strings : Rules → List Value → List Value → List (List ℕ)
-grown_strings R old log = strings_from R.version (chain_of R.version (reverse old)) (reverse (joined (length old) log))
-
--- the end that stands for a log
-abbrev pub end_at : Rules → List Value → End
-end_at R log = end_of R.version (reverse log)
+grown_strings R old log = R.hashes old (reverse (joined (length old) log))
 
 abbrev pub packed : {Msg : Type 0} → Formats Msg → ℕ → ℕ → ℕ → List (To × Msg) → List (To × List ℕ)
 packed F me e l [] = []
@@ -212,7 +206,7 @@ in_next_epoch c = record c { past = advanced c.past; early = [] }
 -- what a node votes for that ends its epoch, signed by its next leaf, and the claim that this is
 abbrev pub vote_on : {Msg : Type 0} → Rules → Module Msg → ℕ → Core Msg → Vote
 vote_on R M me c =
-    let end = end_at R (ended_log R M me c.past) in
+    let end = R.end (ended_log R M me c.past) in
     record {
       epoch = record { 0 = c.past.epoch };
       chain = end.chain;
@@ -389,7 +383,7 @@ has_shape R before e p = (p.cert.epoch.0 == e) && (length p.values == R.slots be
 
 -- the log that the values lead to has the end that the certificate says
 abbrev pub leads_to : Rules → List Value → Sent_piece → Bool
-leads_to R before p = same_end (end_at R (over p.values before)) (said_in p.cert)
+leads_to R before p = same_end (R.end (over p.values before)) (said_in p.cert)
 
 -- the certificate is kept where none of its epoch is
 abbrev pub keeping : List Cert → Cert → Option Cert → List Cert
@@ -406,7 +400,7 @@ adopts_piece R M me c p =
       sends = [];
       own = [];
       early = [];
-      strings = strings_from R.version (chain_of R.version (reverse before)) p.values ++ grown_strings R (log_of R M me c.past) (log_of R M me past);
+      strings = R.hashes before p.values ++ grown_strings R (log_of R M me c.past) (log_of R M me past);
     }
 
 abbrev pub takes_piece : {Msg : Type 0} → Formats Msg → Rules → Module Msg → ℕ → Core Msg → Sent_piece → Stepped Msg
