@@ -1,15 +1,14 @@
 -- A piece under a certificate is the log of a correct signer.
-use Rattle.std.proofs.Common.{◌≡◌, inl, inr, ℕ, suc, ◌+◌, ◌-◌, ◌*◌, ◌≤◌, ◌<◌, Bool, true, false, cond, eqb, List, [], ◌∷◌, ◌++◌, length, Some, None, refl, sym, ap, ap₂, ◌∙◌, subst, arith, suc-mul}
-use Rattle.std.proofs.lemmas.Bool.Decides.{leb_tells}
-use Rattle.iss_base.specs.Lists.{Chain, Extends, In, nth, oldest, over}
-use Rattle.iss_base.proofs.Lists.{chain-part, eqb-same, extends-length, extends-next, extends-trans, first-cases, first-some, is-eq, nth-below, nth-some, oldest-all, oldest-extends, oldest-part, over-at}
+use Rattle.std.proofs.Common.{◌≡◌, inl, inr, ℕ, suc, ◌≤◌, ◌<◌, Bool, true, false, cond, eqb, List, [], ◌∷◌, ◌++◌, length, Some, None, refl, sym, ◌∙◌, arith}
+use Rattle.iss_base.specs.Lists.{Chain, In, nth, over}
+use Rattle.iss_base.proofs.Lists.{chain-part, first-cases, is-eq, nth-below, over-at}
 use Rattle.iss_request.specs.declared.requests.Value.{Value}
 use Rattle.iss_request.specs.declared.setups.Setup.{Setup}
-use Rattle.iss_sb.specs.Evidence.{Module, Separate, delivered, is_correct}
+use Rattle.iss_sb.specs.Evidence.{Module, Separate, is_correct}
 use Rattle.iss_sb.specs.Laws.{IsSafe}
 use Rattle.iss_model.specs.Cluster.{Adopted, Backed, Cert, Cluster, IsTrueLog, Scheme, Signed, signers, vote_statement}
 use Rattle.iss_model.specs.Ordered.{Among, AreChained, IsExact, IsSoundRules}
-use Rattle.iss_model.specs.Past.{IsLog, Past, Piece, adopted_at, before, before_at, cell, cut_at, epoch_at, leader_at, log_of, params_at, start_of}
+use Rattle.iss_model.specs.Past.{Past, Piece, adopted_at, before, log_of, start_of}
 use Rattle.iss_model.specs.Rules.{Rules}
 use Rattle.iss_model.proofs.Agree.{separate-part}
 use Rattle.iss_model.proofs.Chains.{chain-injective}

@@ -1,10 +1,8 @@
 -- An event at one core leads on: what a run holds stays what moves of a cluster lead to.
-use Rattle.std.proofs.Common.{◌≡◌, inl, inr, ℕ, ◌<◌, suc, Bool, true, false, cond, eqb, List, [], ◌∷◌, ◌++◌, length, Option, Some, None, refl, sym, ap, ◌∙◌, subst, true≢false}
+use Rattle.std.proofs.Common.{◌≡◌, inl, inr, ℕ, suc, Bool, true, false, cond, eqb, List, [], ◌∷◌, ◌++◌, length, Option, Some, None, refl, sym, ap, ◌∙◌, subst}
 use Rattle.iss_base.specs.Lists.{In, over}
 use Rattle.iss_base.proofs.Lists.{and-true, eqb-same, in_append, in_left, in_right}
 use Rattle.iss_checkpoint.specs.declared.votes.Cert.{Cert}
-use Rattle.iss_checkpoint.specs.declared.votes.Signed.{Signed as Signature}
-use Rattle.iss_checkpoint.specs.declared.votes.Vote.{Vote}
 use Rattle.iss_request.specs.declared.requests.Batch.{Batch}
 use Rattle.iss_request.specs.declared.setups.Setup.{Setup}
 use Rattle.iss_sb.specs.declared.effects.Claim.{Claim}
@@ -17,8 +15,8 @@ use Rattle.iss_sb.specs.Evidence.{Module, Separate, is_correct}
 use Rattle.iss_transfer.specs.declared.pieces.Piece.{Piece as Sent_piece}
 use Rattle.iss_model.specs.declared.causes.NodeEvent.{NodeEvent}
 use Rattle.iss_model.specs.declared.causes.NodeEvent.TheVariants.{Packet as Gets}
-use Rattle.iss_model.specs.Cluster.{IsBooked, Signed}
-use Rattle.iss_model.specs.Node.{Body, Core, Dropped, Early, Formats, OfAsk, OfModule, OfPiece, OfVote, Parcel, Stepped, Taken, Turn, adopts_piece, all_verify, asking, claim_of_vote, claims_of_cert, counted, handing, inputs, is_true_cert, only_by, onward, rests, settles, stable, step, takes_each, values_of}
+use Rattle.iss_model.specs.Cluster.{Signed}
+use Rattle.iss_model.specs.Node.{Body, Core, Dropped, Early, Formats, OfAsk, OfModule, OfPiece, OfVote, Parcel, Stepped, Taken, Turn, adopts_piece, all_verify, asking, claim_of_vote, claims_of_cert, counted, handing, inputs, is_true_cert, only_by, rests, settles, step, values_of}
 use Rattle.iss_model.specs.Ordered.{Among}
 use Rattle.iss_model.specs.Past.{leads_in, log_of, params_of}
 use Rattle.iss_model.specs.Rules.{Rules}

@@ -256,8 +256,8 @@ module _ {Msg : Type 0} (F : Formats Msg) (R : Rules) (M : Module Msg) (me : ℕ
         (refiled-sound c past c.leaf h later
         (λ x i none fresh. windows.kept bf (before_own R M me past) c.past.epoch (suc c.past.epoch) x (h.inside x i fresh) ahead (omega arith)
         (λ k.
-            let whole = oldest-part (start_of R new (suc c.past.epoch)) new in
-            none (subst (λ (xs : List Value). In x (log_ids xs)) (sym whole.1) (log_ids-extends x whole.0 (before_own R M me past) k))))
+        let whole = oldest-part (start_of R new (suc c.past.epoch)) new in
+        none (subst (λ (xs : List Value). In x (log_ids xs)) (sym whole.1) (log_ids-extends x whole.0 (before_own R M me past) k))))
         (adopted-far R slots M me c.past (settled-core c h) h.reached piece refl a.whole)
         (adopts-settled R c.past piece refl (settled-core c h)).all
         (λ e l lt. h.unborn e l (omega (arith, lt))))

@@ -1,5 +1,6 @@
 -- Votes, certificates, asks and pieces in runs and steps that are computed: three nodes, epochs of three slots.
-use Rattle.std.proofs.Common.{◌≡◌, ℕ, suc, List, [], ◌∷◌, ◌++◌, length, Option, Some, None, reverse, refl}
+use Rattle.std.proofs.Common.{◌≡◌, ℕ, suc, ◌==◌, cond, List, [], ◌∷◌, length, Option, Some, None, reverse, refl}
+use Rattle.iss_base.specs.Lists.{first_of}
 use Rattle.iss_checkpoint.specs.declared.votes.Cert.{Cert}
 use Rattle.iss_checkpoint.specs.declared.votes.Signed.{Signed}
 use Rattle.iss_checkpoint.specs.declared.votes.Vote.{Vote}
@@ -8,19 +9,28 @@ use Rattle.iss_request.specs.Formats.{spell_batch, spell_count, spell_request, s
 use Rattle.iss_request.specs.Log.{size_of}
 use Rattle.iss_request.specs.declared.requests.Value.{Value}
 use Rattle.iss_request.specs.declared.requests.Value.TheVariants.{Batch as Holds, Nil}
+use Rattle.iss_request.specs.declared.setups.Setup.{Setup}
 use Rattle.iss_schedule.specs.declared.schedules.Event.{Event}
-use Rattle.iss_schedule.specs.declared.schedules.Event.TheVariants.{Propose, Ask, Deliver, Calm, Hold, Free, Drop}
+use Rattle.iss_schedule.specs.declared.schedules.Event.TheVariants.{Propose, Ask, Deliver, Calm, Hold, Free, Drop, Bytes}
+use Rattle.iss_sb.specs.declared.effects.Claim.{Claim}
+use Rattle.iss_sb.specs.declared.effects.Input.{Input}
+use Rattle.iss_sb.specs.declared.effects.Input.TheVariants.{Cast, Receive, Timeout}
+use Rattle.iss_sb.specs.declared.effects.To.{To}
+use Rattle.iss_sb.specs.declared.effects.To.TheVariants.{All}
+use Rattle.iss_sb.specs.Evidence.{Item, Module}
 use Rattle.iss_transfer.specs.declared.pieces.Piece.{Piece}
 use Rattle.sha2.specs.Sha256.{compress, digest_bytes, first_words, hash_after, rounds, schedule, sha256}
-use Rattle.iss_model.specs.declared.causes.NodeEvent.TheVariants.{Packet as Gets, Timeout as Fires}
+use Rattle.iss_model.specs.declared.causes.NodeEvent.TheVariants.{Packet as Gets, Propose as Proposes, Timeout as Fires}
 use Rattle.iss_model.specs.declared.causes.Why.{Why}
 use Rattle.iss_model.specs.declared.causes.Why.TheVariants.{BadClaim, Known, NoCert, NoKeys, NotNeeded, OtherEpoch, WrongChain}
 use Rattle.iss_model.specs.Concrete.{rules_of}
 use Rattle.iss_model.specs.Node.{Core, Dropped, OfPiece, OfVote, Stepped, Taken, idle, step}
 use Rattle.iss_model.specs.Past.{log_of}
 use Rattle.iss_model.specs.Rules.{Rules}
-use Rattle.iss_model.specs.Run.{Progress, begin_run, run}
-use Rattle.iss_model.proofs.Example.{Word, easy, plain, short, spell, telling}
+use Rattle.iss_model.specs.Run.{Forged, Progress, begin_run, run}
+use Rattle.iss_model.specs.Views.{claims_of_bytes}
+use Rattle.iss_model.proofs.Example.{Word, easy, light, plain, short, spell, telling}
+use Rattle.iss_model.proofs.Forging.{after as forging}
 
 abbrev run_of : List Event → Progress Word
 run_of events = run plain short easy telling (begin_run plain) events
@@ -226,3 +236,75 @@ chained : ((rules_of plain).end empties).chain ≡
     246 ∷ 188 ∷ 175 ∷ 62 ∷ 215 ∷ 219 ∷ 1 ∷ 67 ∷ 202 ∷ 57 ∷ 113 ∷ 19 ∷ 171 ∷ 42 ∷ 189 ∷ 203 ∷ []
 unfolding spell_value spell_batch spell_count spell_request sha256 digest_bytes hash_after compress rounds schedule first_words
 chained = refl
+
+-- a module that delivers what it casts at once: the vote comes behind the step's sends, and claims are in their order
+abbrev casts_now : ℕ → List (Item Word) → Option Value
+casts_now s [] = None
+casts_now s (x ∷ xs) = first_of (casts_now s xs) (cast_now s x.input)
+  where
+    cast_now : ℕ → Input Word → Option Value
+    cast_now s (Cast slot batch) = cond (slot.0 == s) (Some (Holds batch)) None
+    cast_now s (Receive from word) = cond (word.0.0 == s) (Some (Holds word.1)) None
+    cast_now s Timeout = None
+
+abbrev prompt : Module Word
+prompt = record telling { decided = λ p me xs s. casts_now s xs }
+
+abbrev last : Stepped Word
+last = step short easy prompt 0 ((run plain short easy prompt (begin_run plain) (Propose 1 ∷ Propose 2 ∷ Deliver 0 ∷ Deliver 3 ∷ [])).held.net.cores 0) Proposes
+
+abbrev sends_of : Stepped Word → List (To × List ℕ)
+sends_of (Dropped why) = []
+sends_of (Taken t) = t.sends
+
+abbrev own_of : Stepped Word → List Claim
+own_of (Dropped why) = []
+own_of (Taken t) = t.own
+
+vote_behind : sends_of last ≡ (All, 0 ∷ 0 ∷ 0 ∷ 0 ∷ 0 ∷ []) ∷ (All, 2 ∷ 0 ∷ 0 ∷ 0 ∷ 3 ∷ 1 ∷ 1 ∷ 1 ∷ 0 ∷ 0 ∷ []) ∷ []
+vote_behind = refl
+
+vote_claimed : own_of last ≡ record { by = record { 0 = 0 }; statement = 0 ∷ 0 ∷ 1 ∷ 1 ∷ 1 ∷ []; sig = 0 ∷ 0 ∷ [] } ∷ []
+vote_claimed = refl
+
+-- what bytes claim: a vote its own, a piece its certificate's, of whatever epoch
+vote_claims : claims_of_bytes short easy telling 0 (idle {Msg = Word}) (vote 1 5 []) ≡
+    record { by = record { 0 = 1 }; statement = 5 ∷ 0 ∷ []; sig = 1 ∷ 0 ∷ [] } ∷ []
+vote_claims = refl
+
+piece_claims : claims_of_bytes short easy telling 0 (idle {Msg = Word}) (piece 0 empties made) ≡
+    record { by = record { 0 = 0 }; statement = 0 ∷ 0 ∷ 1 ∷ 1 ∷ 1 ∷ []; sig = 0 ∷ 0 ∷ [] } ∷
+    record { by = record { 0 = 1 }; statement = 0 ∷ 0 ∷ 1 ∷ 1 ∷ 1 ∷ []; sig = 1 ∷ 0 ∷ [] } ∷ []
+piece_claims = refl
+
+-- a piece that is handed out claims the node's own vote
+handed : own_of (step short easy telling 0 (core behind 0) (Gets (3 ∷ 2 ∷ 0 ∷ []))) ≡
+    record { by = record { 0 = 0 }; statement = 0 ∷ 0 ∷ 1 ∷ 1 ∷ 1 ∷ []; sig = 0 ∷ 0 ∷ [] } ∷ []
+unfolding core
+handed = refl
+
+-- a vote that its node never sent ends the run, unless the node is faulty
+forged_vote : (forging (Bytes 1 (vote 0 0 []) ∷ [])).ended ≡
+    Some (0, Forged (record { by = record { 0 = 0 }; statement = 0 ∷ 0 ∷ []; sig = 0 ∷ 0 ∷ [] }))
+forged_vote = refl
+
+faulty_vote : (forging (Bytes 1 (vote 3 0 []) ∷ [])).ended ≡ None
+faulty_vote = refl
+
+-- with digests: epochs of one slot, node 2 catches up, and nothing collides of what is hashed, each value with its link
+abbrev tiny : Setup
+tiny = record plain { epoch = 1 }
+
+abbrev digesting : Rules
+digesting = record (light (rules_of tiny) 3) { end = (rules_of tiny).end; hashes = (rules_of tiny).hashes }
+
+abbrev digested : Progress Word
+digested = run tiny short digesting telling (begin_run tiny)
+    (Hold 2 ∷ Propose 0 ∷ Calm 3 ∷ Drop 2 ∷ Free 2 ∷ Ask 2 (record { 0 = 0 }) ∷ Calm 3 ∷ [])
+
+abbrev outcome : Progress Word → ℕ × ℕ × ℕ
+outcome p = (length p.held.hashed, (p.held.net.cores 2).past.epoch, length p.drops)
+
+collision_free : outcome digested ≡ (9, 1, 0)
+unfolding spell_value spell_batch spell_count spell_request sha256 digest_bytes hash_after compress rounds schedule first_words
+collision_free = refl

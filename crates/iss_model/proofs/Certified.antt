@@ -1,19 +1,18 @@
 -- In every run a certificate stands for the log of a correct signer, and what was adopted was delivered.
-use Rattle.std.proofs.Common.{◌≡◌, ℕ, true, List, ◌∷◌, ◌++◌, length, Some, sym, ap, ◌∙◌, refl, subst}
-use Rattle.iss_base.specs.Lists.{Chain, Extends, In}
+use Rattle.std.proofs.Common.{◌≡◌, ℕ, true, List, ◌∷◌, ◌++◌, length, Some, sym, ◌∙◌, refl, subst}
+use Rattle.iss_base.specs.Lists.{Chain, Extends}
 use Rattle.iss_base.proofs.Lists.{chain-part, some-injective}
-use Rattle.iss_checkpoint.specs.declared.votes.Cert.{Cert}
 use Rattle.iss_request.specs.declared.requests.Value.{Value}
 use Rattle.iss_request.specs.declared.setups.Setup.{Setup}
 use Rattle.iss_schedule.specs.declared.schedules.Event.{Event}
 use Rattle.iss_sb.specs.Evidence.{Module, delivered, is_correct}
 use Rattle.iss_sb.specs.Laws.{IsLawful, IsSafe}
-use Rattle.iss_model.specs.Certified.{AreOfLogs, IsLogAt, WereDelivered}
+use Rattle.iss_model.specs.Certified.{AreOfLogs, WereDelivered}
 use Rattle.iss_model.specs.Checkpoints.{scheme_of}
 use Rattle.iss_model.specs.Cluster.{IsBooked, signers}
 use Rattle.iss_model.specs.Concrete.{rules_of}
 use Rattle.iss_model.specs.Formats.{formats_of}
-use Rattle.iss_model.specs.OneLog.{pasts_after, run_after}
+use Rattle.iss_model.specs.OneLog.{run_after}
 use Rattle.iss_model.specs.Past.{Past, cell, epoch_at, leader_at, log_of, params_at}
 use Rattle.iss_model.specs.Rules.{Rules}
 use Rattle.iss_model.specs.Runs.{AreAtCores, IsFaithful, IsSetupOf}

@@ -5,7 +5,7 @@ use Rattle.std.proofs.lemmas.Bool.Decides.{leb_tells}
 use Rattle.std.proofs.lemmas.List.{append-nil}
 use Rattle.iss_base.specs.Lists.{In, same_bytes}
 use Rattle.iss_base.specs.Quorum.{all_below, distinct, mem}
-use Rattle.iss_base.proofs.Lists.{and-true, both, eqb-other, eqb-same, in_append, in_left, is-eq, same_bytes-is, some-injective}
+use Rattle.iss_base.proofs.Lists.{and-true, both, eqb-other, in_append, is-eq, same_bytes-is, some-injective}
 use Rattle.iss_checkpoint.specs.Tallies.{certificate_by, say_same, signed_below, signed_if}
 use Rattle.iss_checkpoint.specs.declared.votes.Cert.{Cert}
 use Rattle.iss_checkpoint.specs.declared.votes.Signed.{Signed as Signature}
@@ -17,7 +17,7 @@ use Rattle.iss_sb.specs.Evidence.{Module, is_correct}
 use Rattle.iss_model.specs.Checkpoints.{scheme_of}
 use Rattle.iss_model.specs.Cluster.{IsBooked, Signed, signers}
 use Rattle.iss_model.specs.Cluster.{Signature as Sign}
-use Rattle.iss_model.specs.Node.{Core, are_true, cert_on, claims_by, claims_of_cert, counted, is_true_cert, keeping, only_by, stable, vote_by}
+use Rattle.iss_model.specs.Node.{Core, are_true, cert_on, claims_by, counted, is_true_cert, keeping, stable, vote_by}
 use Rattle.iss_model.specs.Ordered.{IsSoundRules}
 use Rattle.iss_model.specs.Rules.{Rules}
 use Rattle.iss_model.proofs.Voting.{IsVoting}

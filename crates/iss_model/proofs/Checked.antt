@@ -1,12 +1,12 @@
 -- What the model says of votes, certificates and pieces is what iss_checkpoint and iss_transfer test.
-use Rattle.std.proofs.Common.{◌≡◌, inl, inr, ℕ, suc, ◌*◌, ◌<◌, ◌≤◌, Bool, true, false, ◌&&◌, eqb, nat_le, List, [], ◌∷◌, ◌++◌, length, reverse, take, refl, sym, ap, ap₂, ◌∙◌, subst, arith, true≢false}
+use Rattle.std.proofs.Common.{◌≡◌, ℕ, suc, ◌≤◌, Bool, true, false, ◌&&◌, eqb, nat_le, List, [], ◌∷◌, ◌++◌, length, reverse, take, refl, sym, ap, ap₂, ◌∙◌, subst}
 use Rattle.std.specs.Prelude.{nat_lt}
 use Rattle.std.proofs.lemmas.Bool.{le-leb}
 use Rattle.std.proofs.Math.Seq.{take-append_seam}
 use Rattle.std.proofs.lemmas.List.{length-reverse, reverse-append, reverse-reverse}
 use Rattle.iss_base.specs.Lists.{oldest, over}
 use Rattle.iss_base.proofs.Lists.{both, length-oldest, oldest-part}
-use Rattle.iss_checkpoint.specs.Votes.{are_signed, cert_statement, is_cert, is_signed, statement_of, voters_of}
+use Rattle.iss_checkpoint.specs.Votes.{are_signed, is_cert, is_signed, statement_of, voters_of}
 use Rattle.iss_checkpoint.specs.declared.votes.Cert.{Cert}
 use Rattle.iss_checkpoint.specs.declared.votes.Signed.{Signed}
 use Rattle.iss_checkpoint.specs.declared.votes.Vote.{Vote}

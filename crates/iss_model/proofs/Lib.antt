@@ -56,9 +56,9 @@ pub mod Conserved
 pub mod Signing
 pub mod Adopting
 pub mod Example
-pub mod Catching
 pub mod InPlaces
 pub mod Forging
+pub mod Catching
 pub mod Doubles
 pub mod Booked
 pub mod Evidence

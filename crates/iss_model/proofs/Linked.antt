@@ -1,13 +1,12 @@
 -- What the steps hash of logs is what chains are made of.
-use Rattle.std.proofs.Common.{◌≡◌, ◌⊎◌, inl, inr, ℕ, ◌+◌, List, [], ◌∷◌, ◌++◌, length, reverse, refl, sym, ap, ap₂, ◌∙◌, subst, arith, append_assoc}
-use Rattle.std.proofs.lemmas.List.{append-nil, reverse-append, reverse-reverse}
+use Rattle.std.proofs.Common.{◌≡◌, ◌⊎◌, inl, inr, ℕ, ◌+◌, List, [], ◌∷◌, ◌++◌, length, reverse, refl, sym, ap, ◌∙◌, subst, arith, append_assoc}
+use Rattle.std.proofs.lemmas.List.{reverse-append, reverse-reverse}
 use Rattle.iss_base.specs.Lists.{Extends, In, over}
-use Rattle.iss_base.proofs.Lists.{in_append, in_left, in_right}
-use Rattle.iss_log.specs.Chains.{chain_from, chain_of, linked, strings_from, strings_of, value_link}
+use Rattle.iss_base.proofs.Lists.{in_left, in_right}
+use Rattle.iss_log.specs.Chains.{chain_of, linked, strings_from, strings_of, value_link}
 use Rattle.iss_log.proofs.ChainLemmas.{chain-append}
 use Rattle.iss_log.proofs.LogLemmas.{requests_more}
 use Rattle.iss_request.specs.Digest.{digest}
-use Rattle.iss_request.specs.Formats.{value_string}
 use Rattle.iss_request.specs.Log.{requests, size_of}
 use Rattle.iss_request.specs.declared.requests.Value.{Value}
 use Rattle.iss_request.specs.declared.setups.Setup.{Setup}

@@ -1,8 +1,7 @@
 -- A turn of a correct core goes on: it takes an input, or ends its epoch and votes, each a move of the cluster.
-use Rattle.std.proofs.Common.{◌≡◌, ◌≢◌, ◌⊎◌, inl, inr, ℕ, suc, ◌<◌, ◌≤◌, Bool, true, false, cond, List, [], ◌∷◌, ◌++◌, length, reverse, Some, None, refl, sym, ap, ◌∙◌, subst, arith}
+use Rattle.std.proofs.Common.{◌≡◌, ◌≢◌, ◌⊎◌, inl, inr, ℕ, suc, ◌≤◌, Bool, true, false, cond, List, [], ◌++◌, length, reverse, Some, None, refl, sym, ap, ◌∙◌, subst, arith}
 use Rattle.iss_base.specs.Lists.{Extends, In, over}
-use Rattle.iss_base.proofs.Lists.{in_append, in_left, in_right, oldest-part, same_or_not, some-injective}
-use Rattle.iss_checkpoint.specs.declared.votes.Signed.{Signed as Signature}
+use Rattle.iss_base.proofs.Lists.{in_append, in_left, in_right, same_or_not, some-injective}
 use Rattle.iss_network.specs.Network.{Network}
 use Rattle.iss_network.specs.declared.packets.Sent.{Sent}
 use Rattle.iss_request.specs.Log.{requests}
@@ -13,43 +12,34 @@ use Rattle.iss_sb.specs.declared.effects.Input.{Input}
 use Rattle.iss_sb.specs.declared.effects.Params.{Params}
 use Rattle.iss_sb.specs.declared.effects.To.{To}
 use Rattle.iss_sb.specs.Evidence.{Made, Module, is_correct}
-use Rattle.iss_transfer.specs.declared.pieces.Piece.{Piece as Sent_piece}
 use Rattle.iss_model.specs.Certified.{IsLogAt}
 use Rattle.iss_model.specs.Checkpoints.{scheme_of}
-use Rattle.iss_model.specs.Cluster.{AllSpelled, Cluster, IsBooked, IsHashedLog, IsOneOf, IsOwn, Message, Moved, Scheme, Signed, adopt, chain, chain_strings, ends, move, signers, vote_of, vote_statement}
-use Rattle.iss_model.specs.Cluster.{Cert as Cluster_cert}
-use Rattle.iss_model.specs.Node.{Body, Core, Formats, OfModule, OfVote, Parcel, Turn, adopts_piece, cert_on, grown_strings, inputs, joined, onward, own_claims, packed, rests, verdict_in, vote_on}
+use Rattle.iss_model.specs.Cluster.{AllSpelled, Cluster, IsHashedLog, IsOneOf, IsOwn, Message, Moved, Scheme, Signed, chain, chain_strings, ends, move, vote_of, vote_statement}
+use Rattle.iss_model.specs.Node.{Core, Formats, OfModule, OfVote, Parcel, Turn, grown_strings, inputs, joined, onward, own_claims, packed, verdict_in, vote_on}
 use Rattle.iss_model.specs.Node.{ends as ends_turn}
-use Rattle.iss_model.specs.Past.{Past, Piece, adopted_log, adopts, advanced, before, before_own, cut_at, ended_log, is_complete, leads_in, log_of, made_in, params_of, start_of, takes}
+use Rattle.iss_model.specs.Past.{Past, advanced, before, cut_at, ended_log, is_complete, leads_in, log_of, made_in, params_of, start_of, takes}
 use Rattle.iss_model.specs.Rules.{Rules}
 use Rattle.iss_model.specs.Run.{Held, as_signed, booked, posted_all, turned_to}
-use Rattle.iss_model.specs.Ordered.{Among}
-use Rattle.iss_model.specs.Runs.{IsReadValue, is_message, pasts_of}
-use Rattle.iss_model.proofs.Agree.{separate-part}
-use Rattle.iss_model.proofs.Booked.{adopts-booked, ends-booked, takes-booked}
-use Rattle.iss_model.proofs.Casts.{adopts-ready, bounded-core, ends-ready, inputs-ready, settled-core}
-use Rattle.iss_model.proofs.Certs.{AreCertified, IsKeptCert, IsTrueSign, in-signers, keeping-certified, quorum-is, signs_of}
-use Rattle.iss_model.proofs.Chains.{strings-oldest}
+use Rattle.iss_model.specs.Runs.{is_message, pasts_of}
+use Rattle.iss_model.proofs.Booked.{ends-booked, takes-booked}
+use Rattle.iss_model.proofs.Casts.{bounded-core, ends-ready, inputs-ready, settled-core}
 use Rattle.iss_model.proofs.Ending.{advanced-later, advanced-log, complete-far}
 use Rattle.iss_model.proofs.Epochs.{start-cut}
-use Rattle.iss_model.proofs.Fits.{AreSent, Fits, IsPosted, Premises, more-posted, view}
+use Rattle.iss_model.proofs.Fits.{Fits, Premises, more-posted, view}
 use Rattle.iss_model.proofs.Good.{Good}
-use Rattle.iss_model.proofs.Kept.{settled-of}
-use Rattle.iss_model.proofs.Linked.{grown-hashed, over-hashed}
+use Rattle.iss_model.proofs.Linked.{grown-hashed}
 use Rattle.iss_model.proofs.Logs.{Later, later-refl, log-chain, log-later, takes-later}
 use Rattle.iss_model.proofs.Moves.{good-moved}
-use Rattle.iss_model.proofs.Pieces.{adopts-later}
 use Rattle.iss_model.proofs.Posts.{posted-append, posted-in, told, told-is}
 use Rattle.iss_model.proofs.Rows.{IsFit, then_ends, then_reads, then_takes}
-use Rattle.iss_model.proofs.Spelled.{AreReadPieces, log-read, loose, loose-strings, loosen, read-spelled}
+use Rattle.iss_model.proofs.Spelled.{log-read, loose, loose-strings, loosen, read-spelled}
 use Rattle.iss_model.proofs.Standing.{log-at-later, voted-later}
 use Rattle.iss_model.proofs.Statements.{apart, leader-far}
 use Rattle.iss_model.proofs.Statements.{votes as votes_same}
-use Rattle.iss_model.proofs.Steps.{IsAdopted}
-use Rattle.iss_model.proofs.Tests.{booked-first, booked-last, booked-split, over-new, over-old, own-is}
+use Rattle.iss_model.proofs.Tests.{booked-first, booked-last, booked-split, own-is}
 use Rattle.iss_model.proofs.Turned as turned
 use Rattle.iss_model.proofs.Twins.{addressee-core, core-low, faultless}
-use Rattle.iss_model.proofs.Voting.{end-chain, end-requests, leads-chained, voted-is}
+use Rattle.iss_model.proofs.Voting.{end-chain, end-requests, voted-is}
 
 module _ {Msg : Type 0} (s : Setup) (F : Formats Msg) (R : Rules) (M : Module Msg) (o : Premises s F R M) (h : Held Msg) (ok : Fits s F R M h)
     (i : ℕ) (correct : is_correct s i ≡ true) where
@@ -347,8 +337,11 @@ module _ {Msg : Type 0} (s : Setup) (F : Formats Msg) (R : Rules) (M : Module Ms
         ]
       ];
       voted = λ n lt. elim (same_or_not n full.epoch) [
-        | inl q ↦ inr (subst (λ (z : ℕ). In (record { by = i; statement = R.voted z (R.end (before R M i (advanced full) (suc z))).chain
-            (R.end (before R M i (advanced full) (suc z))).requests }) (booked s i closed.own ++ h.signed)) (sym q) now_voted)
+        | inl q ↦ inr (subst (λ (z : ℕ). In (record {
+          by = i;
+          statement = R.voted z (R.end (before R M i (advanced full) (suc z))).chain
+              (R.end (before R M i (advanced full) (suc z))).requests;
+        }) (booked s i closed.own ++ h.signed)) (sym q) now_voted)
         | inr ne ↦ voted-later R M i full (advanced full) ended_later k.ready.sound.reached (booked s i t.own ++ h.signed) (booked s i closed.own ++ h.signed)
             kept_book k.voted n (omega (arith, lt, ne))
       ];
@@ -380,13 +373,19 @@ module _ {Msg : Type 0} (s : Setup) (F : Formats Msg) (R : Rules) (M : Module Ms
             } in
             subst (λ (z : ℕ). IsLogAt R M i z (advanced full) a q) (sym same.0) now
 
-        now_voted : In (record { by = i; statement = R.voted full.epoch (R.end (before R M i (advanced full) (suc full.epoch))).chain
-            (R.end (before R M i (advanced full) (suc full.epoch))).requests }) (booked s i closed.own ++ h.signed)
+        now_voted : In (record {
+          by = i;
+          statement = R.voted full.epoch (R.end (before R M i (advanced full) (suc full.epoch))).chain
+              (R.end (before R M i (advanced full) (suc full.epoch))).requests;
+        }) (booked s i closed.own ++ h.signed)
         now_voted = subst (λ (log : List Value). In (record { by = i; statement = R.voted full.epoch (R.end log).chain (R.end log).requests })
             (booked s i closed.own ++ h.signed)) (sym cut_same)
             (in_left _ (booked s i closed.own) h.signed (booked-last s i t.own vote _
-            (subst (λ (b : Bool). In (record { by = i; statement = R.voted full.epoch (R.end (ended_log R M i full)).chain
-            (R.end (ended_log R M i full)).requests }) (cond b (as_signed vote) [])) (sym correct) (inl refl))))
+            (subst (λ (b : Bool). In (record {
+              by = i;
+              statement = R.voted full.epoch (R.end (ended_log R M i full)).chain
+                  (R.end (ended_log R M i full)).requests;
+            }) (cond b (as_signed vote) [])) (sym correct) (inl refl))))
 
         silent : (x : To × List ℕ) → In x (ending t.core).sends → (j : Parcel Msg) × (is_message j.body ≡ false) × (x.1 ≡ F.wrap j)
         silent x (inl q) =

@@ -16,20 +16,19 @@ use Rattle.iss_sb.specs.Evidence.{Item, Module, accepts, one_or_none}
 use Rattle.iss_sb.specs.Laws.{IsLawful}
 use Rattle.iss_model.specs.declared.causes.NodeEvent.{NodeEvent}
 use Rattle.iss_model.specs.declared.causes.NodeEvent.TheVariants.{Packet as Gets, Propose as Proposes, Timeout as Fires, AskFrom as Asks}
-use Rattle.iss_model.specs.declared.causes.Refusal.{Refusal}
-use Rattle.iss_model.specs.declared.causes.Why.TheVariants.{BadClaim, BadRequest, EarlyFull, Known, NoKeys, NotLeader, OtherEpoch, OutOfWindow}
-use Rattle.iss_model.specs.Node.{Body, Core, Dropped, Early, early_most, is_known, onward, Formats, OfAsk, OfModule, OfPiece, OfRequest, OfVote, Parcel, Stepped, Taken, Turn, at_instance, by_verdict, casts_at, ended, flown, flying, has_leaves, in_next_epoch, inputs, is_castable, is_mine, is_nil_at, joined, keeps_early, next_slot, returned, rests, settled, settles, step, takes_bytes, takes_each, takes_early, takes_parcel, takes_request, tried, verdict_in, all_verify, claims_of_input}
+use Rattle.iss_model.specs.declared.causes.Why.TheVariants.{NoKeys, NotLeader, OtherEpoch}
+use Rattle.iss_model.specs.Node.{Body, Core, Dropped, Early, is_known, onward, Formats, OfAsk, OfModule, OfPiece, OfRequest, OfVote, Parcel, Stepped, Taken, Turn, at_instance, casts_at, ended, flown, flying, has_leaves, in_next_epoch, inputs, is_castable, is_mine, is_nil_at, joined, keeps_early, next_slot, returned, rests, settled, settles, step, takes_bytes, takes_each, takes_early, takes_parcel, takes_request, tried}
 use Rattle.iss_model.specs.Node.{adopts_piece, asking, cert_on, counted, ends, handing}
-use Rattle.iss_model.specs.Past.{Past, Piece, adopts, advanced, before, before_own, cut_at, is_complete, leads_in, log_of, made_in, params_of, start_of, taken_in, takes}
+use Rattle.iss_model.specs.Past.{Past, Piece, adopts, advanced, before, cut_at, is_complete, leads_in, log_of, made_in, params_of, start_of, taken_in, takes}
 use Rattle.iss_model.specs.Rules.{Rules}
 use Rattle.iss_model.proofs.Casts.{cast-asked, log_ids-joined, slot-passes}
 use Rattle.iss_model.proofs.Cuts.{absent-ids, absent-once, cut-ids, cut-once, cut-uncut-apart, uncut-ids, uncut-once}
-use Rattle.iss_model.proofs.Ending.{HasSlots, advanced-later, advanced-log}
+use Rattle.iss_model.proofs.Ending.{HasSlots, advanced-later, advanced-log, complete-far}
 use Rattle.iss_model.proofs.Epochs.{cut-extends, length-cut, start-cut, start-extends, start-mono}
 use Rattle.iss_model.proofs.Filed.{absent-or, cut-or, flight-splits, flown-append, flown-flying, flown-left, flown-once, flown-right, flying-once, in-flying, in-longer, in-returned, joined-in, nil-stays, returned-apart, returned-once}
 use Rattle.iss_model.proofs.Ids.{ids-append, ids-left, ids-once, ids-right, not-has}
 use Rattle.iss_model.proofs.Pieces.{adopted-far, adopts-later, adopts-settled}
-use Rattle.iss_model.proofs.Steps.{IsAdopted, hand-taken, input-taken, piece-taken, request-taken, turn-is, undropped, untaken, vote-taken}
+use Rattle.iss_model.proofs.Steps.{IsAdopted, hand-taken, input-taken, kept-taken, piece-taken, request-taken, turn-is, undropped, untaken, vote-taken}
 use Rattle.iss_transfer.specs.declared.pieces.Piece.{Piece as Sent_piece}
 use Rattle.iss_model.proofs.Logs.{Later, Settled, before-later, evidence-later, log-later, takes-later}
 
@@ -213,11 +212,6 @@ module _ {Msg : Type 0} (R : Rules) (M : Module Msg) (i : ℕ) where
 
     -- the end of an epoch
     module _ (seg : HasSegments R) where
-      whole : (c : Past Msg) → is_complete R M i c ≡ true → start_of R (log_of R M i c) (suc c.epoch) ≤ length (log_of R M i c)
-      whole c complete =
-          elim (leb_tells (start_of R (log_of R M i c) (suc c.epoch)) (length (log_of R M i c)))
-          [ inl y ↦ y.1 | inr y ↦ absurd (true≢false (sym complete ∙ y.0)) ]
-
       -- nothing is in flight any more
       none-flies : (c : Core Msg) → FiledCore c → is_complete R M i c.past ≡ true → (f : Slot × Batch) → In f c.flight → ⊥
       none-flies c h complete f k =
@@ -227,7 +221,7 @@ module _ {Msg : Type 0} (R : Rules) (M : Module Msg) (i : ℕ) where
           let high = seg.high (before R M i c.past e) e i f.0 cast.inside in
           let here : start_of R (cut_at R log e) e ≡ length (cut_at R log e) = start-cut R log e h.reached in
           let len : length (cut_at R log e) ≡ start_of R log e = length-cut R log e h.reached in
-          let ends : start_of R log (suc e) ≤ length log = whole c.past complete in
+          let ends : start_of R log (suc e) ≤ length log = complete-far R seg.slots M i c.past (record { evidence = h.unborn; adopted = h.settled.all }) complete in
           let open_at = h.open_slot f k in
           absurd (omega (arith, high, here, len, ends, open_at))
 
@@ -239,7 +233,7 @@ module _ {Msg : Type 0} (R : Rules) (M : Module Msg) (i : ℕ) where
             filed = record {
               settled = record { all = λ d k v q. let lt = h.settled.all d k v q in omega (arith, lt) };
               unborn = λ e l lt. h.unborn e l (omega (arith, lt));
-              reached = subst (λ (t : List Value). start_of R t (suc c.past.epoch) ≤ length t) (sym same) (whole c.past complete);
+              reached = subst (λ (t : List Value). start_of R t (suc c.past.epoch) ≤ length t) (sym same) (complete-far R seg.slots M i c.past (record { evidence = h.unborn; adopted = h.settled.all }) complete);
               waiting_once = h.waiting_once;
               flight_once = h.flight_once;
               apart = h.apart;
@@ -344,12 +338,14 @@ module _ {Msg : Type 0} (R : Rules) (M : Module Msg) (i : ℕ) where
           (is_known R M i c q.id ≡ false) × (t.core ≡ record c { waiting = c.waiting ++ q ∷ [] })
       request-waits c q t h = let r = request-taken F R M i c q t h in (r.unknown, ap (λ (u : Turn Msg). u.core) r.is)
 
+      still-keeps : (c : Core Msg) (t u : Turn Msg) → FiledCore c → t ≡ u → u.core.past ≡ c.past → u.core.waiting ≡ c.waiting → u.core.flight ≡ c.flight → Keeps c t.core
+      still-keeps c t u h q p w f = subst (λ (z : Turn Msg). Keeps c z.core) (sym q) (record {
+        filed = rw (p, w, f) h;
+        kept = λ x k. rw (p, w, f) k;
+      })
+
       early-keeps : (c : Core Msg) (x : Early Msg) (t : Turn Msg) → FiledCore c → keeps_early c x ≡ Taken t → Keeps c t.core
-      early-keeps c x t h = go (nat_lt (length c.early) early_most)
-        where
-          go : (b : Bool) → cond b (Taken (rests (record c { early = c.early ++ x ∷ [] }))) (Dropped EarlyFull) ≡ Taken t → Keeps c t.core
-          go true k = subst (λ (u : Turn Msg). Keeps c u.core) (sym (turn-is _ t k)) (record { filed = h; kept = λ x k. k })
-          go false k = absurd (untaken _ t k)
+      early-keeps c x t h k = still-keeps c t (rests (record c { early = c.early ++ x ∷ [] })) h (kept-taken F R M i c x t k).is refl refl refl
 
       -- a piece: nothing of the epoch is in flight any more
       adopts-keep : (c : Core Msg) (p : Sent_piece) (t : Turn Msg) → FiledCore c → IsAdopted F R M i c p t → Keeps c (adopts_piece R M i c p).core
@@ -373,18 +369,12 @@ module _ {Msg : Type 0} (R : Rules) (M : Module Msg) (i : ℕ) where
             filed = refile-filed c.past new c.waiting c.flight later h.reached far (adopts-settled R c.past piece refl h.settled)
                 (λ d l lt. h.unborn d l (omega (arith, lt))) h.waiting_once h.flight_once h.apart h.unlogged
                 (λ f k.
-                    let w = in-flying (length log) c.flight f k in
-                    let high = seg.high (before R M i c.past e) e i f.0 (h.cast f w.0).inside in
-                    let open_at = w.1 in
-                    absurd (omega (arith, high, open_at, far, same, next, slots, here, len)));
+                let w = in-flying (length log) c.flight f k in
+                let high = seg.high (before R M i c.past e) e i f.0 (h.cast f w.0).inside in
+                let open_at = w.1 in
+                absurd (omega (arith, high, open_at, far, same, next, slots, here, len)));
             kept = refile-kept c.past new c.waiting c.flight later h.reached e (omega arith) cast;
           }
-
-      still-keeps : (c : Core Msg) (t u : Turn Msg) → FiledCore c → t ≡ u → u.core.past ≡ c.past → u.core.waiting ≡ c.waiting → u.core.flight ≡ c.flight → Keeps c t.core
-      still-keeps c t u h q p w f = subst (λ (z : Turn Msg). Keeps c z.core) (sym q) (record {
-        filed = rw (p, w, f) h;
-        kept = λ x k. rw (p, w, f) k;
-      })
 
       parcel-keeps : (c : Core Msg) (from e : ℕ) (body : Body Msg) (t : Turn Msg) → FiledCore c → takes_parcel F R M i c from e body ≡ Taken t → Keeps c t.core
       parcel-keeps c from e (OfRequest q) t h k =

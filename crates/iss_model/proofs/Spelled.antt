@@ -6,7 +6,7 @@ use Rattle.iss_base.specs.Lists.{In, nth}
 use Rattle.iss_base.proofs.Lists.{first-cases, none-some, nth-in}
 use Rattle.iss_request.specs.Digest.{digest}
 use Rattle.iss_request.specs.Fields.{Parsed}
-use Rattle.iss_request.specs.Formats.{parse_value, requests_most, spell_value}
+use Rattle.iss_request.specs.Formats.{parse_value, spell_value}
 use Rattle.iss_request.specs.declared.ids.Slot.{Slot}
 use Rattle.iss_request.specs.declared.requests.Batch.{Batch}
 use Rattle.iss_request.specs.declared.requests.Value.{Value}
@@ -17,10 +17,10 @@ use Rattle.iss_sb.specs.Evidence.{Module, Separate, accepts, delivered, is_corre
 use Rattle.iss_sb.specs.Laws.{IsSafe}
 use Rattle.iss_sb.proofs.Read.{batch-read, read-again}
 use Rattle.iss_model.specs.Checkpoints.{is_good, scheme_of}
-use Rattle.iss_model.specs.Cluster.{AllSpelled, Backed, Cluster, Scheme, chain, chain_strings, world_of}
+use Rattle.iss_model.specs.Cluster.{Backed, Cluster, Scheme, chain, chain_strings}
 use Rattle.iss_model.specs.Judge.{marks}
 use Rattle.iss_model.specs.Ordered.{Among, IsSoundRules}
-use Rattle.iss_model.specs.Past.{IsLog, Past, Piece, adopted_at, before, before_at, epoch_at, leader_at, params_at, start_of}
+use Rattle.iss_model.specs.Past.{IsLog, Past, Piece, adopted_at, before, before_at, epoch_at, leader_at, params_at}
 use Rattle.iss_model.specs.Rules.{Rules}
 use Rattle.iss_model.specs.Runs.{IsReadValue}
 use Rattle.iss_model.proofs.Agree.{before-is, begun, in-world, placed, right, world-at}

@@ -1,5 +1,5 @@
 -- A vote in the book stands for the log of its node at the end of an epoch, and each epoch that a node ended itself is voted for.
-use Rattle.std.proofs.Common.{◌≡◌, ◌⊎◌, inl, inr, ℕ, suc, ◌<◌, ◌≤◌, List, ◌++◌, length, refl, sym, ap, ◌∙◌, subst, arith, le_trans}
+use Rattle.std.proofs.Common.{◌≡◌, ◌⊎◌, inl, inr, ℕ, suc, ◌<◌, ◌≤◌, List, length, sym, subst, arith, le_trans}
 use Rattle.iss_base.specs.Lists.{In}
 use Rattle.iss_base.proofs.Lists.{in_right}
 use Rattle.iss_request.specs.declared.requests.Value.{Value}

@@ -143,7 +143,7 @@ module _ {Msg : Type 0} (F : Formats Msg) (R : Rules) (M : Module Msg) (me : ℕ
   settled-taken (Dropped why) t h = absurd (untaken why t h)
   settled-taken (Taken u) t h = (u, refl, turn-is (settles F R M me u) t h)
 
-  kept-taken : (x : Early Msg) (t : Turn Msg) → keeps_early c x ≡ Taken t → IsKept x t
+  pub kept-taken : (x : Early Msg) (t : Turn Msg) → keeps_early c x ≡ Taken t → IsKept x t
   kept-taken x t h = elim (leb_tells (suc (length c.early)) early_most) [
     | inl y ↦ record {
       few = y.1;

@@ -1,5 +1,5 @@
 -- The cluster in the course of a turn of a core, and what may come to it.
-use Rattle.std.proofs.Common.{◌≡◌, ◌≢◌, inl, inr, ℕ, ◌<◌, Bool, true, false, cond, List, [], ◌∷◌, ◌++◌, Some, None, refl, sym, ap, ◌∙◌, subst, true≢false}
+use Rattle.std.proofs.Common.{◌≡◌, ◌≢◌, inl, inr, ℕ, ◌<◌, Bool, true, false, cond, List, [], ◌++◌, Some, None, refl, sym, ap, ◌∙◌, subst, true≢false}
 use Rattle.iss_base.specs.Lists.{In, over}
 use Rattle.iss_base.proofs.Lists.{in_append, in_right, none-some, same_or_not, set_at-other, set_at-same}
 use Rattle.iss_network.specs.Network.{Network}
