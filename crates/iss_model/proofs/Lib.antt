@@ -2,6 +2,7 @@ pub mod Epochs
 pub mod Logs
 pub mod Longest
 pub mod Ending
+pub mod Pieces
 pub mod Ids
 pub mod Judged
 pub mod Steps
@@ -23,6 +24,10 @@ pub mod Windows
 pub mod Written
 pub mod Statements
 pub mod Checkpoints
+pub mod Linked
+pub mod Voting
+pub mod Certs
+pub mod Spelled
 pub mod Tests
 pub mod Told
 pub mod Twins
@@ -30,10 +35,14 @@ pub mod Posts
 pub mod Unvoted
 pub mod Grown
 pub mod Printed
+pub mod Standing
 pub mod Fits
 pub mod Turned
+pub mod Onward
+pub mod Answered
 pub mod Runs
 pub mod OneLog
+pub mod Certified
 pub mod Ranges
 pub mod FromNodes
 pub mod Turns

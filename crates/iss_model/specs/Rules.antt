@@ -22,3 +22,10 @@ pub record Rules : Type 0 where
   pub verifies : ℕ → List ℕ → List ℕ → Bool
   -- what an instance of an epoch is started with, by its leader
   pub params : List Value → ℕ → ℕ → Params
+  -- the version of the spellings that are hashed; how many nodes there are, and how many of them decide
+  pub version : ℕ
+  pub nodes : ℕ
+  pub quorum : ℕ
+  -- what a vote signs of an epoch, a chain and a number of requests, and what a node signs a statement with, by a leaf
+  pub voted : ℕ → List ℕ → ℕ → List ℕ
+  pub signature : ℕ → ℕ → List ℕ → List ℕ
