@@ -93,10 +93,17 @@ pub record IsNextEpoch {M Msg : Type 0} (m : Module Msg) (stands : M → Params 
   pub kept : early ≡ old.early
 
 -- it is the same node, and its log goes on
+pub record IsSameNode {M Msg : Type 0} (old new : ReplicaState M Msg) : Type 0 where
+  pub setup : new.setup ≡ old.setup
+  pub me : new.me ≡ old.me
+  pub log : GoesOn old.log.entries new.log.entries
+
+-- and what it holds of votes is the same
 pub record IsLater {M Msg : Type 0} (old new : ReplicaState M Msg) : Type 0 where
   pub setup : new.setup ≡ old.setup
   pub me : new.me ≡ old.me
   pub log : GoesOn old.log.entries new.log.entries
+  pub ballots : new.ballots ≡ old.ballots
 
 -- the sender of a message is a node
 abbrev pub IsNodeInput : {Msg : Type 0} → ℕ → Input Msg → Type 0

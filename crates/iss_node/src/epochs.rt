@@ -39,7 +39,6 @@ impl<M: Sequenced> Replica<M> {
     pub(crate) fn settles(&mut self, alloc: Global, outcome: Outcome) -> Result<Outcome, NoMemory>
         ensures turn { IfOk result (λ o. IsTurnBehind M.meaning M.stands self.old (λ F R me t. settles F R M.meaning me t) outcome self.new o) }
         ensures later { IsLater self.old self.new }
-        ensures same { OnOk result (self.new.ballots ≡ self.old.ballots) }
     {
         if !self.is_complete() {
             return Ok(outcome);
@@ -55,7 +54,6 @@ impl<M: Sequenced> Replica<M> {
         ensures ended { IfOk result (λ both. IsEnded M.meaning M.stands self.old self.new both.0 both.1.items) }
         ensures from { IfOk result (λ both. AreFrom self.new.setup.n both.1.items) }
         ensures later { IsLater self.old self.new }
-        ensures same { OnOk result (self.new.ballots ≡ self.old.ballots) }
     {
         let vote = self.vote()?;
         let outcome = self.hand_out_vote(alloc, &vote)?;

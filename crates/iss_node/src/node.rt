@@ -12,7 +12,7 @@ ghost use Rattle.iss_model.specs.Runs.{IsSetupOf};
 ghost use Rattle.iss_model.specs.Views.{accepted_by, claims_of_bytes, is_castable_now, is_unfilled, unfilled};
 ghost use Rattle.iss_node.specs.State.{IsTied, Stands, accepted_of};
 ghost use Rattle.iss_request.specs.Log.{ids};
-ghost use Rattle.iss_node.specs.Steps.{HasRetreated, IsAnswer, IsHeldStepOf, IsLater, IsLeft, IsOfNodes};
+ghost use Rattle.iss_node.specs.Steps.{HasRetreated, IsAnswer, IsHeldStepOf, IsLeft, IsOfNodes, IsSameNode};
 
 use crate::answers::{Accepted, Answer, Stepped};
 use crate::flight::Flight;
@@ -227,7 +227,7 @@ impl<M: Sequenced> Replica<M> {
     fn turn(&mut self, alloc: Global, event: NodeEvent) -> Result<Stepped, NoMemory>
         ensures answer { IfOk result (λ a. IsHeldStepOf M.meaning M.stands (IsOfNodes self.old.setup.n event) self.old
             (λ F R me c. step F R M.meaning me c event) self.new a) }
-        ensures later { IsLater self.old self.new }
+        ensures same { IsSameNode self.old self.new }
     {
         match event {
             NodeEvent::Packet(bytes) => self.take_bytes(alloc, &bytes),

@@ -4,11 +4,10 @@ ghost use Rattle.iss_checkpoint.specs.Bodies.{parse_vote};
 ghost use Rattle.iss_model.specs.Concrete.{rules_of};
 ghost use Rattle.iss_model.specs.Formats.{formats_of, message_in, parcel_of_kind, piece_in, vote_in, whole};
 ghost use Rattle.iss_model.specs.Node.{Core, at_instance, keeps_early, settled, takes_bytes, takes_message, takes_parcel};
-ghost use Rattle.iss_model.specs.Past.{Past};
 ghost use Rattle.iss_model.specs.Views.{claims_of_bytes, claims_of_parcel};
 ghost use Rattle.iss_node.specs.Parcels.{IsFromNode, seen_body};
-ghost use Rattle.iss_node.specs.State.{IsTied, core_of, seen_one};
-ghost use Rattle.iss_node.specs.Steps.{IsHeldStepOf, IsLater, IsStepOf};
+ghost use Rattle.iss_node.specs.State.{IsTied, seen_one};
+ghost use Rattle.iss_node.specs.Steps.{IsHeldStepOf, IsLater, IsSameNode, IsStepOf};
 ghost use Rattle.iss_packet.specs.Packets.{is_routed};
 ghost use Rattle.iss_transfer.specs.Bodies.{parse_piece};
 
@@ -30,7 +29,7 @@ impl<M: Sequenced> Replica<M> {
     pub(crate) fn take_bytes(&mut self, alloc: Global, bytes: &Bytes) -> Result<Stepped, NoMemory>
         ensures answer { IfOk result (λ a. IsHeldStepOf M.meaning M.stands (Unit {0}) self.old
             (λ F R me c. takes_bytes F R M.meaning me c (F.unwrap bytes.now)) self.new a) }
-        ensures later { IsLater self.old self.new }
+        ensures same { IsSameNode self.old self.new }
     {
         match unwrap::<M>(alloc, &self.setup, bytes.as_slice())? {
             Some(parcel) => self.take_parcel(alloc, parcel),
@@ -44,8 +43,8 @@ impl<M: Sequenced> Replica<M> {
         alloc: Global,
         bytes: &[u8],
     ) -> Result<Row<Claim>, NoMemory>
-        ensures { IfOk result (λ claims. (past : Past M.Msg) → IsTied M.meaning M.stands self.now past →
-            claims ≡ claims_of_bytes (formats_of self.now.setup M.meaning) (rules_of self.now.setup) M.meaning self.now.me.0 (core_of self.now past) bytes.now) }
+        ensures { IfOk result (λ claims. (c : Core M.Msg) → IsTied M.meaning M.stands self.now c.past →
+            claims ≡ claims_of_bytes (formats_of self.now.setup M.meaning) (rules_of self.now.setup) M.meaning self.now.me.0 c bytes.now) }
     {
         match Packet::decode(alloc, self.setup.version, self.setup.n, bytes) {
             Ok(packet) => self.claims_of_packet(alloc, &packet),
@@ -57,8 +56,8 @@ impl<M: Sequenced> Replica<M> {
     // What a packet claims. A message is read only where it is of the node's epoch.
     fn claims_of_packet(&self, alloc: Global, packet: &Packet) -> Result<Row<Claim>, NoMemory>
         requires { is_routed self.now.setup.n packet.now ≡ true }
-        ensures { IfOk result (λ claims. (past : Past M.Msg) → IsTied M.meaning M.stands self.now past →
-            claims ≡ claims_of_parcel (rules_of self.now.setup) M.meaning self.now.me.0 (core_of self.now past)
+        ensures { IfOk result (λ claims. (c : Core M.Msg) → IsTied M.meaning M.stands self.now c.past →
+            claims ≡ claims_of_parcel (rules_of self.now.setup) M.meaning self.now.me.0 c
             (parcel_of_kind M.meaning self.now.setup.version packet.now packet.now.kind)) }
     {
         match packet.kind {
@@ -72,8 +71,8 @@ impl<M: Sequenced> Replica<M> {
     // What the packet of a module's message claims.
     fn claims_of_message(&self, alloc: Global, packet: &Packet) -> Result<Row<Claim>, NoMemory>
         requires { packet.now.from < self.now.setup.n }
-        ensures { IfOk result (λ claims. (past : Past M.Msg) → IsTied M.meaning M.stands self.now past →
-            claims ≡ claims_of_parcel (rules_of self.now.setup) M.meaning self.now.me.0 (core_of self.now past)
+        ensures { IfOk result (λ claims. (c : Core M.Msg) → IsTied M.meaning M.stands self.now c.past →
+            claims ≡ claims_of_parcel (rules_of self.now.setup) M.meaning self.now.me.0 c
             (message_in packet.now (whole (M.meaning.parse self.now.setup.version packet.now.body)))) }
     {
         if packet.epoch.0 != self.epoch.0 {
@@ -119,7 +118,7 @@ impl<M: Sequenced> Replica<M> {
         requires { IsFromNode self.old.setup.n parcel }
         ensures answer { IfOk result (λ a. IsHeldStepOf M.meaning M.stands (Unit {0}) self.old
             (λ F R me c. takes_parcel F R M.meaning me c parcel.from.0 parcel.epoch.0 (seen_body parcel.body)) self.new a) }
-        ensures later { IsLater self.old self.new }
+        ensures same { IsSameNode self.old self.new }
     {
         let Parcel { from, epoch, body } = parcel;
         match body {

@@ -6,7 +6,7 @@ ghost use Rattle.iss_model.specs.Node.{asking, cert_on, hands_out, Taken as Was_
 ghost use Rattle.iss_node.specs.Transfers.{IsAdoptedBy, IsHandedPiece, at_slots, held_slots, held_values};
 ghost use Rattle.iss_request.specs.declared.requests.Value.{Value as Held};
 ghost use Rattle.iss_transfer.specs.Adoption.{adoption};
-ghost use Rattle.iss_node.specs.Steps.{IsHeldStepOf, IsLater, IsOfNodes};
+ghost use Rattle.iss_node.specs.Steps.{IsHeldStepOf, IsOfNodes, IsSameNode};
 
 use crate::answers::{Outcome, Stepped};
 use crate::claims::put_own;
@@ -24,7 +24,7 @@ impl<M: Sequenced> Replica<M> {
     pub(crate) fn ask_from(&mut self, alloc: Global, peer: NodeId) -> Result<Stepped, NoMemory>
         ensures answer { IfOk result (λ a. IsHeldStepOf M.meaning M.stands (IsOfNodes self.old.setup.n (NodeEvent.AskFrom peer)) self.old
             (λ F R me c. Was_taken (asking F me c peer)) self.new a) }
-        ensures later { IsLater self.old self.new }
+        ensures same { IsSameNode self.old self.new }
     {
         let bytes = pack_ask(alloc, self.setup.version, self.me, self.epoch)?;
         Ok(Stepped::Taken(one_send(alloc, peer, bytes)?))
@@ -40,7 +40,7 @@ impl<M: Sequenced> Replica<M> {
         requires { from.0 < self.old.setup.n }
         ensures answer { IfOk result (λ a. IsHeldStepOf M.meaning M.stands (Unit {0}) self.old
             (λ F R me c. hands_out F R M.meaning me c from.0 epoch.0 (cert_on c.certs epoch.0)) self.new a) }
-        ensures later { IsLater self.old self.new }
+        ensures same { IsSameNode self.old self.new }
     {
         let Some(cert) = self.ballots.cert_at(epoch) else {
             return Ok(Stepped::Dropped(Why::NoCert));
@@ -103,7 +103,7 @@ impl<M: Sequenced> Replica<M> {
     pub(crate) fn take_piece(&mut self, alloc: Global, piece: Piece) -> Result<Stepped, NoMemory>
         ensures answer { IfOk result (λ a. IsHeldStepOf M.meaning M.stands (Unit {0}) self.old
             (λ F R me c. takes_piece F R M.meaning me c piece) self.new a) }
-        ensures later { IsLater self.old self.new }
+        ensures same { IsSameNode self.old self.new }
     {
         if piece.epoch.0 < self.epoch.0 {
             return Ok(Stepped::Dropped(Why::NotNeeded));
@@ -144,7 +144,7 @@ impl<M: Sequenced> Replica<M> {
         hashed: Row<Bytes>,
     ) -> Result<Outcome, NoMemory>
         ensures adopted { IfOk result (λ o. IsAdoptedBy M.meaning M.stands self.old piece hashed self.new o) }
-        ensures later { IsLater self.old self.new }
+        ensures same { IsSameNode self.old self.new }
     {
         let Piece { values, cert, .. } = piece;
         let mut strings = hashed;

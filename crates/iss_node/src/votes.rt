@@ -2,7 +2,7 @@
 ghost use Rattle.std.specs.Prelude.{◌≡◌, ◌+◌, suc, IfOk, nat_lt, slice_get};
 ghost use Rattle.iss_model.specs.Node.{takes_vote};
 ghost use Rattle.iss_node.specs.Votes.{IsVoteHandedOut, IsVoted};
-ghost use Rattle.iss_node.specs.Steps.{IsHeldStepOf, IsLater};
+ghost use Rattle.iss_node.specs.Steps.{IsHeldStepOf, IsLater, IsSameNode};
 
 use crate::answers::{Outcome, Stepped};
 use crate::replica::Replica;
@@ -64,7 +64,7 @@ impl<M: Sequenced> Replica<M> {
     /// Counts a vote on an epoch up to the next one, unless a cause refuses it.
     pub(crate) fn take_vote(&mut self, alloc: Global, vote: Vote) -> Result<Stepped, NoMemory>
         ensures answer { IfOk result (λ a. IsHeldStepOf M.meaning M.stands (Unit {0}) self.old (λ F R me c. takes_vote R c vote) self.new a) }
-        ensures later { IsLater self.old self.new }
+        ensures same { IsSameNode self.old self.new }
     {
         if is_far(self.epoch, vote.epoch) {
             return Ok(Stepped::Dropped(Why::OtherEpoch));
