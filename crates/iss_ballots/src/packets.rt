@@ -76,7 +76,11 @@ pub fn vote_of(alloc: Global, packet: &Packet) -> Result<Option<Vote>, NoMemory>
 pub fn ask_of(packet: &Packet) -> Option<Ask>
     ensures { result ≡ whole (parse_ask packet.now.epoch.0 packet.now.body) }
 {
-    decode_ask(packet.epoch, packet.body.as_slice()).ok()
+    match decode_ask(packet.epoch, packet.body.as_slice()) {
+        Ok(ask) => Some(ask),
+        Err(DecodeError::BadField { .. }) => None,
+        Err(DecodeError::NoMemory) => unreachable!(),
+    }
 }
 
 /// The piece that a packet's body spells, if it does.

@@ -1,0 +1,7 @@
+use Rattle.std.proofs.Common.{sym, refl}
+use Rattle.iss_transfer.specs.Bodies.{parse_ask}
+use Rattle.iss_ballots.proofs.PacketLemmas.{all-whole}
+use Rattle.iss_ballots.proofs.packets.ask_of.Goals as goal
+
+pub returns-in-Err-BadField : goal.returns-in-Err-BadField
+returns-in-Err-BadField c = sym (all-whole (parse_ask c.args.packet.now.epoch.0) c.args.packet.now.body (c.in-Err-BadField.field-0-0, rw c.in-Err-BadField.field-0-is at c.in-Err-BadField.ensures.bad c.in-Err-BadField.field-0-0 refl))
