@@ -23,3 +23,5 @@ pub mod SettleLemmas
 pub mod StartLemmas
 pub mod StepLemmas
 pub mod ViewLemmas
+pub mod HeldLemmas
+pub mod VoteLemmas

@@ -1,5 +1,5 @@
 -- What the input of an instance does to the parts of a node.
-use Rattle.std.specs.Prelude.{◌≡◌, ◌≢◌, ℕ, ◌||◌, List, ◌++◌, [], ◌∷◌, Option, Some, None, Result, Ok, Err, drop, fold, length, reverse}
+use Rattle.std.specs.Prelude.{◌≡◌, ◌≢◌, ℕ, ◌||◌, List, ◌++◌, [], ◌∷◌, Option, Some, None, Result, Ok, Err, fold, length, reverse}
 use Rattle.iss_buckets.specs.Waiting.{AreNew, absent}
 use Rattle.iss_ids.specs.Set.{and_ids}
 use Rattle.iss_log.specs.Chains.{IsChainOf}
@@ -80,8 +80,8 @@ pub record HasGrown {M Msg : Type 0} (old new : ReplicaState M Msg) (delivers : 
 
 -- the chain grew with the log, and the strings that were hashed for that stand behind others
 pub record IsChained {M Msg : Type 0} (old new : ReplicaState M Msg) (before after : List (List ℕ)) : Type 0 where
-  pub joined : IsChainOf old.chains old.log.entries →
-      AreJoined old.chains old.log.entries (drop (length old.log.entries) new.log.entries) new.chains before after
+  pub joined : (more : List Value) → new.log.entries ≡ old.log.entries ++ more → IsChainOf old.chains old.log.entries →
+      AreJoined old.chains old.log.entries more new.chains before after
   pub version : new.chains.version ≡ old.chains.version
 
 -- what a step of leader l's instance made, as the node hands it out: packets, its own claims in them, and what was hashed

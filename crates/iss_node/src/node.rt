@@ -73,23 +73,26 @@ impl<M: Sequenced> Node<M> {
         let standing = Standing::new();
         let layout = Layout::of(setup, Epoch(0), 0, &standing);
         let segments = start_segments::<M>(alloc, setup, directory, Epoch(0), &layout, me)?;
+        let windows = Windows::new(alloc, setup)?;
+        let chains = Chains::new(alloc, setup.version)?;
+        let ballots = Ballots::new(alloc, setup, directory)?;
         let parts = Replica {
             setup: setup.copy()?,
             me,
             directory: directory.share(),
             epoch: Epoch(0),
             layout,
-            windows: Windows::new(alloc, setup)?,
+            windows,
             standing,
             segments,
             accepted: Vec::new(alloc),
             log: Log::new(alloc),
-            chains: Chains::new(alloc, setup.version)?,
+            chains,
             waiting: Pending::new(alloc),
             flight: Flight::new(alloc),
             early: Vec::new(alloc),
             logged: Ids::new(alloc),
-            ballots: Ballots::new(alloc, setup, directory)?,
+            ballots,
             keys,
         };
         Ok(Node {
