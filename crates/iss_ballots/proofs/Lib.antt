@@ -1,1 +1,2 @@
+pub mod BallotLemmas
 pub mod PacketLemmas
