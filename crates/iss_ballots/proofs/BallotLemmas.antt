@@ -1,7 +1,7 @@
 -- What a vote, a certificate and a further place do to what is held, and to the lists that it stands for.
 use Rattle.std.proofs.Common.{arith, inl, inr, ◌≡◌, ◌≢◌, ◌⊎◌, ℕ, zero, suc, ◌+◌, ◌<◌, ◌≤◌, Bool, true, false, ◌&&◌, ◌||◌, ◌==◌, cond, eqb, not, List, [], ◌∷◌, ◌++◌, Option, Some, None, is_some, length, get_or, slice_get, slice_set, refl, sym, ap, ◌∙◌, subst, true≢false}
 use Rattle.iss_base.proofs.Lists.{eqb-other, eqb-same, is-eq, none-some, same_or_not, some-injective}
-use Rattle.iss_ballots.specs.Ballots.{AreKept, AreOpen, BallotsState, IsCountedAt, IsOpenAt, IsTaken, IsTakenAt, cert_in, is_held, is_true, settled_by, stable_by, vote_in}
+use Rattle.iss_ballots.specs.Ballots.{AreKept, AreOpen, BallotsState, IsCountedAt, IsOpenAt, IsTaken, IsTakenAt, cert_in, closed_by, is_held, is_true, settled_by, stable_by, vote_in}
 use Rattle.iss_ballots.specs.declared.ballots.Ballot.{Ballot}
 use Rattle.iss_ballots.specs.declared.ballots.Ballot.TheVariants.{Open, Stable}
 use Rattle.iss_ballots.specs.declared.ballots.Taking.{Taking}
@@ -274,14 +274,28 @@ module _ (b : BallotsState) (v : Vote) (votes : List Vote) (certs : List Cert) (
 
 -- ---- a certificate that is kept where there is none
 
-pub keeps-none : (b : BallotsState) (c : Cert) (t : TallyState) (votes : List Vote) (certs : List Cert) → c.epoch.0 < length b.all → slice_get b.all c.epoch.0 ≡ Some (Open t) → AreKept b votes certs →
+keeps-none : (b : BallotsState) (c : Cert) (t : TallyState) (votes : List Vote) (certs : List Cert) → c.epoch.0 < length b.all → slice_get b.all c.epoch.0 ≡ Some (Open t) → AreKept b votes certs →
     AreKept (record b { all = slice_set b.all c.epoch.0 (Stable c) }) votes (keeping certs c (cert_on certs c.epoch.0))
 keeps-none b c t votes certs lt at kept =
     let none : cert_on certs c.epoch.0 ≡ None = sym (kept.certs_are c.epoch.0) ∙ ap (λ (o : Option Ballot). cert_in o) at in
     subst (λ (o : Option Cert). AreKept (record b { all = slice_set b.all c.epoch.0 (Stable c) }) votes (keeping certs c o)) (sym none)
     (set-kept b c.epoch.0 (Stable c) votes votes certs (c ∷ certs) lt kept (λ d ne. cert-there c certs d ne) (λ d k ne. refl) (sym (cert-here c certs)) (λ k gone. absurd (none-some c (sym gone ∙ cert-here c certs))))
 
-pub keeps-other : (b : BallotsState) (c other : Cert) (votes : List Vote) (certs : List Cert) → slice_get b.all c.epoch.0 ≡ Some (Stable other) → AreKept b votes certs → AreKept b votes (keeping certs c (cert_on certs c.epoch.0))
-keeps-other b c other votes certs at kept =
+keeps-other : (b : BallotsState) (c other : Cert) (votes : List Vote) (certs : List Cert) → c.epoch.0 < length b.all → slice_get b.all c.epoch.0 ≡ Some (Stable other) → AreKept b votes certs →
+    AreKept (record b { all = slice_set b.all c.epoch.0 (Stable other) }) votes (keeping certs c (cert_on certs c.epoch.0))
+keeps-other b c other votes certs lt at kept =
     let there : cert_on certs c.epoch.0 ≡ Some other = sym (kept.certs_are c.epoch.0) ∙ ap (λ (o : Option Ballot). cert_in o) at in
-    subst (λ (o : Option Cert). AreKept b votes (keeping certs c o)) (sym there) kept
+    subst (λ (o : Option Cert). AreKept (record b { all = slice_set b.all c.epoch.0 (Stable other) }) votes (keeping certs c o)) (sym there)
+    (set-kept b c.epoch.0 (Stable other) votes votes certs certs lt kept (λ d ne. refl) (λ d k ne. refl)
+    (sym (ap (λ (o : Option Ballot). cert_in o) at) ∙ kept.certs_are c.epoch.0) (λ k none. sym (ap (λ (o : Option Ballot). vote_in o k) at) ∙ kept.votes_are c.epoch.0 k none))
+
+pub keeps-so : (b : BallotsState) (c : Cert) (old now : Ballot) (votes : List Vote) (certs : List Cert) → c.epoch.0 < length b.all → slice_get b.all c.epoch.0 ≡ Some old → now ≡ closed_by old c → AreKept b votes certs →
+    AreKept (record b { all = slice_set b.all c.epoch.0 now }) votes (keeping certs c (cert_on certs c.epoch.0))
+keeps-so b c (Open t) now votes certs lt at is kept =
+    subst (λ (z : Ballot). AreKept (record b { all = slice_set b.all c.epoch.0 z }) votes (keeping certs c (cert_on certs c.epoch.0))) (sym is) (keeps-none b c t votes certs lt at kept)
+keeps-so b c (Stable other) now votes certs lt at is kept =
+    subst (λ (z : Ballot). AreKept (record b { all = slice_set b.all c.epoch.0 z }) votes (keeping certs c (cert_on certs c.epoch.0))) (sym is) (keeps-other b c other votes certs lt at kept)
+
+pub closed-open : (b : BallotsState) (c : Cert) (old now : Ballot) → c.epoch.0 < length b.all → now ≡ closed_by old c → AreOpen b.voters b.all → AreOpen b.voters (slice_set b.all c.epoch.0 now)
+closed-open b c (Open t) now lt is open = set-open b.voters b.all c.epoch.0 now lt open (subst (λ (z : Ballot). IsOpenAt b.voters c.epoch.0 z) (sym is) tt)
+closed-open b c (Stable other) now lt is open = set-open b.voters b.all c.epoch.0 now lt open (subst (λ (z : Ballot). IsOpenAt b.voters c.epoch.0 z) (sym is) tt)

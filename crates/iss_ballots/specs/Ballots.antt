@@ -82,3 +82,8 @@ IsTakenAt (Stable cert) v new BadSignature = ⊥
 IsTakenAt (Open t) v new BadSignature = ((refusal t v ≡ Some Unsigned) ⊎ (refusal t v ≡ Some OtherEpoch)) × (new ≡ Open t)
 IsTakenAt (Open t) v new Known = (refusal t v ≡ Some Twice) × (new ≡ Open t)
 IsTakenAt (Open t) v new Counted = IsCountedAt t v new
+
+-- a certificate is held where there was none
+abbrev pub closed_by : Ballot → Cert → Ballot
+closed_by (Open tally) c = Stable c
+closed_by (Stable other) c = Stable other

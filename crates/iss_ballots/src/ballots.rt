@@ -1,6 +1,6 @@
 //! Votes and certificates by epoch.
 ghost use Rattle.std.specs.Prelude.{◌≡◌, ◌<◌, ◌≤◌, [], List, IfOk, OnErr, OnOk, is_some, length, option_map, slice_get};
-ghost use Rattle.iss_ballots.specs.Ballots.{AreKept, IsTaken, IsTakenAt, cert_in, is_true};
+ghost use Rattle.iss_ballots.specs.Ballots.{AreKept, IsTaken, IsTakenAt, cert_in, closed_by, is_true};
 ghost use Rattle.iss_checkpoint.specs.Votes.{voters_of};
 ghost use Rattle.iss_checkpoint.specs.declared.votes.Cert.{Cert as Certificate};
 ghost use Rattle.iss_checkpoint.specs.declared.votes.Vote.{Vote as Voted};
@@ -94,9 +94,7 @@ impl Ballots {
     {
         self.reach(cert.epoch)?;
         let place = cert.epoch.0 as usize;
-        if !self.is_stable(place) {
-            self.all[place] = Ballot::Stable(cert);
-        }
+        close(&mut self.all[place], cert);
         Ok(())
     }
 
@@ -166,5 +164,14 @@ fn count(ballot: &mut Ballot, vote: Vote) -> Result<Taking, NoMemory>
         }
         Added::Refused(Refusal::Twice) => Ok(Taking::Known),
         Added::Refused(Refusal::BadSignature | Refusal::OtherEpoch) => Ok(Taking::BadSignature),
+    }
+}
+
+// Closes an epoch with a certificate, unless it has one.
+fn close(ballot: &mut Ballot, cert: Cert)
+    ensures { ballot.new ≡ closed_by ballot.old cert }
+{
+    if let Ballot::Open(_) = ballot {
+        *ballot = Ballot::Stable(cert);
     }
 }

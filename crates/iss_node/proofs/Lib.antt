@@ -25,3 +25,4 @@ pub mod StepLemmas
 pub mod ViewLemmas
 pub mod HeldLemmas
 pub mod VoteLemmas
+pub mod JoinLemmas
