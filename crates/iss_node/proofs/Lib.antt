@@ -26,3 +26,4 @@ pub mod ViewLemmas
 pub mod HeldLemmas
 pub mod VoteLemmas
 pub mod JoinLemmas
+pub mod CountLemmas
