@@ -27,3 +27,4 @@ pub mod HeldLemmas
 pub mod VoteLemmas
 pub mod JoinLemmas
 pub mod CountLemmas
+pub mod TransferLemmas

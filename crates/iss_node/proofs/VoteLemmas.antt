@@ -1,6 +1,5 @@
 -- A node that votes at its epoch's end, and what it counts of others' votes.
 use Rattle.std.proofs.Common.{arith, ◌≡◌, ◌↔◌, ℕ, suc, ◌+◌, ◌<◌, ◌≤◌, Bool, true, false, ◌&&◌, cond, not, List, [], ◌∷◌, ◌++◌, Some, length, reverse, take, refl, sym, ap, ◌∙◌, subst, nat_le, nat_lt, add-one, true≢false}
-use Rattle.std.proofs.lemmas.Bool.{leb-true, lt-ltb}
 use Rattle.std.proofs.lemmas.List.{length-reverse, reverse-reverse, take_all}
 use Rattle.iss_base.proofs.Lists.{some-injective}
 use Rattle.iss_ballots.specs.Claims.{claim_by}
@@ -11,14 +10,14 @@ use Rattle.iss_keys.specs.Signatures.{signature_of}
 use Rattle.iss_log.specs.Chains.{end_of}
 use Rattle.iss_log.specs.declared.chains.End.{End}
 use Rattle.iss_model.proofs.Casts.{kept-sound}
-use Rattle.iss_model.proofs.Ending.{ended-whole}
+use Rattle.iss_model.proofs.Ending.{ended-start, ended-whole}
 use Rattle.iss_model.specs.Concrete.{rules_of}
 use Rattle.iss_model.specs.Formats.{formats_of}
 use Rattle.iss_model.specs.Node.{Core, Formats, OfVote, Turn, claim_of_vote, end_at, ends, in_next_epoch, vote_on}
 use Rattle.iss_model.specs.Past.{Past, ended_log, is_complete, log_of}
 use Rattle.iss_model.specs.Rules.{Rules}
 use Rattle.iss_node.proofs.InputLemmas.{bounded}
-use Rattle.iss_node.proofs.OwnEpoch.{has-slots}
+use Rattle.iss_node.proofs.OwnEpoch.{has-slots, start-is}
 use Rattle.iss_node.specs.Shape.{IsReplica}
 use Rattle.iss_node.specs.State.{AreParts, IsTied, ReplicaState, core_of, seen_early}
 use Rattle.iss_node.specs.Steps.{IsEnded, IsLater, IsMade, IsNextEpoch, IsTurned}
@@ -62,9 +61,17 @@ signed-tied m stands v past tied = record {
 -- ---- the vote at an epoch's end
 
 module _ {M Msg : Type 0} (m : Module Msg) (stands : M → Params → ℕ → List (Item Msg) → Type 0) (v : ReplicaState M Msg) (shape : IsReplica m v)
-    (past : Past Msg) (tied : IsTied m stands v past) (complete : is_complete (rules_of v.setup) m v.me.0 past ≡ true)
-    (slots : ℕ) (whole : slots ≡ length v.log.entries) (u : ReplicaState M Msg) (vote : Vote)
-    (end : Some (end_of v.chains.version (take slots v.log.entries)) ≡ Some (record { chain = vote.chain; requests = vote.requests })) (voted : IsVoted v u vote) where
+    (past : Past Msg) (tied : IsTied m stands v past) (complete : is_complete (rules_of v.setup) m v.me.0 past ≡ true) (u : ReplicaState M Msg) (vote : Vote) (voted : IsVoted v u vote) where
+  -- the log ends with the epoch
+  whole : v.plan.start + v.setup.epoch ≡ length v.log.entries
+  whole =
+      let R = rules_of v.setup in
+      let first = tied.start in
+      let start = start-is v.setup (log_of R m v.me.0 past) (suc past.epoch) in
+      let long = ended-start R (has-slots v.setup shape.good.good) m v.me.0 past (bounded m stands v shape past tied) complete in
+      let same = ap (λ (ys : List Value). length ys) tied.log ∙ length-reverse v.log.entries in
+      omega (arith, first, start, long, same)
+
   said : End
   said = record { chain = vote.chain; requests = vote.requests }
 
@@ -77,9 +84,10 @@ module _ {M Msg : Type 0} (m : Module Msg) (stands : M → Params → ℕ → Li
       let version = shape.version in
       let log : ended_log (rules_of v.setup) m v.me.0 past ≡ reverse v.log.entries =
       ended-whole (rules_of v.setup) (has-slots v.setup shape.good.good) m v.me.0 past (bounded m stands v shape past tied) complete ∙ tied.log in
-      some-injective said (end_of v.chains.version (take slots v.log.entries)) (sym end)
-      ∙ ap (λ (k : ℕ). end_of k (take slots v.log.entries)) version
-      ∙ ap (λ (xs : List Value). end_of v.setup.version xs) (take_all slots v.log.entries (omega (arith, whole)))
+      let end = tied.chained.ends (v.plan.start + v.setup.epoch) (omega (arith, whole)) in
+      some-injective said (end_of v.chains.version (take (v.plan.start + v.setup.epoch) v.log.entries)) (sym voted.end ∙ end)
+      ∙ ap (λ (k : ℕ). end_of k (take (v.plan.start + v.setup.epoch) v.log.entries)) version
+      ∙ ap (λ (xs : List Value). end_of v.setup.version xs) (take_all (v.plan.start + v.setup.epoch) v.log.entries (omega (arith, whole)))
       ∙ ap (λ (xs : List Value). end_of v.setup.version xs) (sym (reverse-reverse v.log.entries))
       ∙ ap (λ (xs : List Value). end_of v.setup.version (reverse xs)) (sym log)
 
@@ -130,5 +138,10 @@ module _ {M Msg : Type 0} (m : Module Msg) (stands : M → Params → ℕ → Li
       addressed = subst (λ (xs : List (To × List ℕ)). AreToNodes w.setup.n xs) (sym there.sent) (tt, tt);
     }
 
-    pub kept-early : early ≡ v.early
-    kept-early = begins.kept
+-- the epoch's end
+pub ended-all : {M Msg : Type 0} (m : Module Msg) (stands : M → Params → ℕ → List (Item Msg) → Type 0) (v u w : ReplicaState M Msg) (shape : IsReplica m v) (vote : Vote) (o : Outcome) (early : List (Early Msg)) →
+    IsVoted v u vote → IsVoteHandedOut u vote o → IsNextEpoch m stands u w early → IsLater u w → IsEnded m stands v w o early
+ended-all m stands v u w shape vote o early voted handed next later = record {
+  turned = λ past tied complete. ended-so m stands v shape past tied complete u vote voted o w early handed next later;
+  kept = next.kept ∙ ap (λ (z : ReplicaState _ _). z.early) voted.rest;
+}
