@@ -39,12 +39,12 @@ set-there (y ∷ xs) (suc e) (suc d) x ne = set-there xs e d x (λ q. ne (ap suc
 
 -- ---- a further place, with no vote
 
-pub reached-open : (w : Voters) (all : List Ballot) (t : TallyState) → AreOpen w all → t.voters ≡ w → t.epoch ≡ length all → AreOpen w (all ++ Open t ∷ [])
-reached-open w all t open voters epoch e b h = elim (place-more all (Open t) e) [
+pub reached-tallied : (w : Voters) (all : List Ballot) (t : TallyState) → AreOpen w all → t.voters ≡ w → t.epoch ≡ length all → AreOpen w (all ++ Open t ∷ [])
+reached-tallied w all t tallied voters epoch e b h = elim (place-more all (Open t) e) [
   | inl k ↦
       let same : Open t ≡ b = some-injective (Open t) b (sym k.0 ∙ h) in
       subst (λ (z : Ballot). IsOpenAt w e z) same (voters, epoch ∙ sym k.2)
-  | inr k ↦ open e b (sym k ∙ h)
+  | inr k ↦ tallied e b (sym k ∙ h)
 ]
 
 pub reached-kept : (v : BallotsState) (t : TallyState) (votes : List Vote) (certs : List Cert) → t.votes ≡ [] → AreKept v votes certs → AreKept (record v { all = v.all ++ Open t ∷ [] }) votes certs
@@ -61,12 +61,12 @@ reached-kept v t votes certs none h = record {
 
 -- ---- one place takes another ballot
 
-pub set-open : (w : Voters) (all : List Ballot) (e : ℕ) (now : Ballot) → e < length all → AreOpen w all → IsOpenAt w e now → AreOpen w (slice_set all e now)
-set-open w all e now lt open here d b h = elim (same_or_not d e) [
+pub set-tallied : (w : Voters) (all : List Ballot) (e : ℕ) (now : Ballot) → e < length all → AreOpen w all → IsOpenAt w e now → AreOpen w (slice_set all e now)
+set-tallied w all e now lt tallied here d b h = elim (same_or_not d e) [
   | inl q ↦
       let same : now ≡ b = some-injective now b (sym (set-here all e now lt) ∙ ap (λ (k : ℕ). slice_get (slice_set all e now) k) (sym q) ∙ h) in
       subst (λ (z : Ballot). IsOpenAt w d z) same (subst (λ (k : ℕ). IsOpenAt w k now) (sym q) here)
-  | inr ne ↦ open d b (sym (set-there all e d now ne) ∙ h)
+  | inr ne ↦ tallied d b (sym (set-there all e d now ne) ∙ h)
 ]
 
 -- what no list says of the epoch stays
@@ -107,7 +107,7 @@ record IsFree (t : TallyState) (v : Vote) : Type 0 where
   signed : is_signed t.voters (statement_of t.voters v) v.by.0 v.sig ≡ true
   free : is_some (vote_at t.votes v.by.0) ≡ false
 
-by-tests : (e s k : Bool) → Option Refusal
+abbrev by-tests : (e s k : Bool) → Option Refusal
 by-tests e s k = cond (not e) (Some OtherEpoch) (cond (not s) (Some Unsigned) (cond k (Some Twice) None))
 
 free-of : (t : TallyState) (v : Vote) → refusal t v ≡ None → IsFree t v
@@ -173,7 +173,7 @@ stable-so t u v c h many is =
 
 -- ---- a vote at the ballot of its epoch
 
-module _ (b : BallotsState) (v : Vote) (votes : List Vote) (certs : List Cert) (kept : AreKept b votes certs) (lt : v.epoch.0 < length b.all) (open : AreOpen b.voters b.all) where
+module _ (b : BallotsState) (v : Vote) (votes : List Vote) (certs : List Cert) (kept : AreKept b votes certs) (lt : v.epoch.0 < length b.all) (tallied : AreOpen b.voters b.all) where
   abbrev pub set-at : Ballot → BallotsState
   set-at now = record b { all = slice_set b.all v.epoch.0 now }
 
@@ -190,7 +190,7 @@ module _ (b : BallotsState) (v : Vote) (votes : List Vote) (certs : List Cert) (
 
   module _ (t : TallyState) (at : slice_get b.all v.epoch.0 ≡ Some (Open t)) where
     tally : IsOpenAt b.voters v.epoch.0 (Open t)
-    tally = open v.epoch.0 (Open t) at
+    tally = tallied v.epoch.0 (Open t) at
 
     no-cert : cert_on certs v.epoch.0 ≡ None
     no-cert = sym (kept.certs_are v.epoch.0) ∙ ap (λ (o : Option Ballot). cert_in o) at
@@ -201,14 +201,14 @@ module _ (b : BallotsState) (v : Vote) (votes : List Vote) (certs : List Cert) (
     by-voters : (s : Bool) → is_signed t.voters (statement_of t.voters v) v.by.0 v.sig ≡ s → is_true b.voters v ≡ s
     by-voters s h = ap (λ (w : Voters). is_true w v) (sym tally.0) ∙ h
 
-    pub open-unsigned : (refusal t v ≡ Some Unsigned) ⊎ (refusal t v ≡ Some OtherEpoch) → IsTaken votes certs v (set-at (Open t)) BadSignature
-    open-unsigned h = (by-voters false (unsigned-of t v (sym tally.1) h), same-kept (Open t) at)
+    pub tallied-unsigned : (refusal t v ≡ Some Unsigned) ⊎ (refusal t v ≡ Some OtherEpoch) → IsTaken votes certs v (set-at (Open t)) BadSignature
+    tallied-unsigned h = (by-voters false (unsigned-of t v (sym tally.1) h), same-kept (Open t) at)
 
     held-is : (s : Bool) → is_some (vote_at t.votes v.by.0) ≡ s → is_held votes certs v ≡ s
     held-is s h = ap (λ (o : Option Cert). is_some o || is_some (vote_by votes v.epoch.0 v.by.0)) no-cert ∙ ap (λ (o : Option Vote). is_some o) (sym (votes-at v.by.0)) ∙ h
 
-    pub open-twice : refusal t v ≡ Some Twice → IsTaken votes certs v (set-at (Open t)) Known
-    open-twice h = let k = twice-of t v h in (by-voters true k.signed, held-is true k.there, same-kept (Open t) at)
+    pub tallied-twice : refusal t v ≡ Some Twice → IsTaken votes certs v (set-at (Open t)) Known
+    tallied-twice h = let k = twice-of t v h in (by-voters true k.signed, held-is true k.there, same-kept (Open t) at)
 
     module _ (u : TallyState) (counted : IsCounted t v u) where
       with-it : (k : ℕ) → vote_at u.votes k ≡ vote_by (v ∷ votes) v.epoch.0 k
@@ -238,8 +238,8 @@ module _ (b : BallotsState) (v : Vote) (votes : List Vote) (certs : List Cert) (
       now-is : settled_by u v ≡ cond (length theirs.signers == b.voters.quorum) (Stable theirs) (Open u)
       now-is = ap (λ (q : Bool). cond q (Stable (certificate u v)) (Open u)) test-is ∙ ap (λ (c : Cert). cond (length theirs.signers == b.voters.quorum) (Stable c) (Open u)) cert-is
 
-      pub open-counted : (now : Ballot) → now ≡ settled_by u v → IsTaken votes certs v (set-at now) Counted
-      open-counted now is =
+      pub tallied-counted : (now : Ballot) → now ≡ settled_by u v → IsTaken votes certs v (set-at now) Counted
+      tallied-counted now is =
           let k = free-of t v counted.sound in
           (
             by-voters true k.signed,
@@ -247,8 +247,8 @@ module _ (b : BallotsState) (v : Vote) (votes : List Vote) (certs : List Cert) (
             subst (λ (z : Ballot). AreKept (set-at z) (v ∷ votes) (stable_by b.voters (v ∷ votes) v ++ certs)) (sym (is ∙ now-is)) (after (length theirs.signers == b.voters.quorum) refl),
           )
 
-      pub counted-open : (now : Ballot) → now ≡ settled_by u v → IsOpenAt b.voters v.epoch.0 now
-      counted-open now is = subst (λ (z : Ballot). IsOpenAt b.voters v.epoch.0 z) (sym is) (go (length (certificate u v).signers == u.voters.quorum))
+      pub counted-tallied : (now : Ballot) → now ≡ settled_by u v → IsOpenAt b.voters v.epoch.0 now
+      counted-tallied now is = subst (λ (z : Ballot). IsOpenAt b.voters v.epoch.0 z) (sym is) (go (length (certificate u v).signers == u.voters.quorum))
         where
           go : (q : Bool) → IsOpenAt b.voters v.epoch.0 (cond q (Stable (certificate u v)) (Open u))
           go true = tt
@@ -259,18 +259,18 @@ module _ (b : BallotsState) (v : Vote) (votes : List Vote) (certs : List Cert) (
   taken-so (Stable c) now Known at signed h = subst (λ (z : Ballot). IsTaken votes certs v (set-at z) Known) (sym h) (stable-known c at (signed refl))
   taken-so (Stable c) now Counted at signed h = absurd h
   taken-so (Stable c) now BadSignature at signed h = absurd h
-  taken-so (Open t) now Known at signed h = subst (λ (z : Ballot). IsTaken votes certs v (set-at z) Known) (sym h.1) (open-twice t at h.0)
-  taken-so (Open t) now BadSignature at signed h = subst (λ (z : Ballot). IsTaken votes certs v (set-at z) BadSignature) (sym h.1) (open-unsigned t at h.0)
-  taken-so (Open t) now Counted at signed h = open-counted t at h.tally h.counted now h.is
+  taken-so (Open t) now Known at signed h = subst (λ (z : Ballot). IsTaken votes certs v (set-at z) Known) (sym h.1) (tallied-twice t at h.0)
+  taken-so (Open t) now BadSignature at signed h = subst (λ (z : Ballot). IsTaken votes certs v (set-at z) BadSignature) (sym h.1) (tallied-unsigned t at h.0)
+  taken-so (Open t) now Counted at signed h = tallied-counted t at h.tally h.counted now h.is
 
   -- the ballot of a place stays one of it
-  pub still-open : (old now : Ballot) (k : Taking) → slice_get b.all v.epoch.0 ≡ Some old → IsTakenAt old v now k → AreOpen b.voters (slice_set b.all v.epoch.0 now)
-  still-open (Stable c) now Known at h = set-open b.voters b.all v.epoch.0 now lt open (subst (λ (z : Ballot). IsOpenAt b.voters v.epoch.0 z) (sym h) tt)
-  still-open (Stable c) now Counted at h = absurd h
-  still-open (Stable c) now BadSignature at h = absurd h
-  still-open (Open t) now Known at h = set-open b.voters b.all v.epoch.0 now lt open (subst (λ (z : Ballot). IsOpenAt b.voters v.epoch.0 z) (sym h.1) (tally t at))
-  still-open (Open t) now BadSignature at h = set-open b.voters b.all v.epoch.0 now lt open (subst (λ (z : Ballot). IsOpenAt b.voters v.epoch.0 z) (sym h.1) (tally t at))
-  still-open (Open t) now Counted at h = set-open b.voters b.all v.epoch.0 now lt open (counted-open t at h.tally h.counted now h.is)
+  pub still-tallied : (old now : Ballot) (k : Taking) → slice_get b.all v.epoch.0 ≡ Some old → IsTakenAt old v now k → AreOpen b.voters (slice_set b.all v.epoch.0 now)
+  still-tallied (Stable c) now Known at h = set-tallied b.voters b.all v.epoch.0 now lt tallied (subst (λ (z : Ballot). IsOpenAt b.voters v.epoch.0 z) (sym h) tt)
+  still-tallied (Stable c) now Counted at h = absurd h
+  still-tallied (Stable c) now BadSignature at h = absurd h
+  still-tallied (Open t) now Known at h = set-tallied b.voters b.all v.epoch.0 now lt tallied (subst (λ (z : Ballot). IsOpenAt b.voters v.epoch.0 z) (sym h.1) (tally t at))
+  still-tallied (Open t) now BadSignature at h = set-tallied b.voters b.all v.epoch.0 now lt tallied (subst (λ (z : Ballot). IsOpenAt b.voters v.epoch.0 z) (sym h.1) (tally t at))
+  still-tallied (Open t) now Counted at h = set-tallied b.voters b.all v.epoch.0 now lt tallied (counted-tallied t at h.tally h.counted now h.is)
 
 -- ---- a certificate that is kept where there is none
 
@@ -296,6 +296,6 @@ keeps-so b c (Open t) now votes certs lt at is kept =
 keeps-so b c (Stable other) now votes certs lt at is kept =
     subst (λ (z : Ballot). AreKept (record b { all = slice_set b.all c.epoch.0 z }) votes (keeping certs c (cert_on certs c.epoch.0))) (sym is) (keeps-other b c other votes certs lt at kept)
 
-pub closed-open : (b : BallotsState) (c : Cert) (old now : Ballot) → c.epoch.0 < length b.all → now ≡ closed_by old c → AreOpen b.voters b.all → AreOpen b.voters (slice_set b.all c.epoch.0 now)
-closed-open b c (Open t) now lt is open = set-open b.voters b.all c.epoch.0 now lt open (subst (λ (z : Ballot). IsOpenAt b.voters c.epoch.0 z) (sym is) tt)
-closed-open b c (Stable other) now lt is open = set-open b.voters b.all c.epoch.0 now lt open (subst (λ (z : Ballot). IsOpenAt b.voters c.epoch.0 z) (sym is) tt)
+pub closed-tallied : (b : BallotsState) (c : Cert) (old now : Ballot) → c.epoch.0 < length b.all → now ≡ closed_by old c → AreOpen b.voters b.all → AreOpen b.voters (slice_set b.all c.epoch.0 now)
+closed-tallied b c (Open t) now lt is tallied = set-tallied b.voters b.all c.epoch.0 now lt tallied (subst (λ (z : Ballot). IsOpenAt b.voters c.epoch.0 z) (sym is) tt)
+closed-tallied b c (Stable other) now lt is tallied = set-tallied b.voters b.all c.epoch.0 now lt tallied (subst (λ (z : Ballot). IsOpenAt b.voters c.epoch.0 z) (sym is) tt)

@@ -1,5 +1,5 @@
 use Rattle.std.proofs.Common.{rules, ◌≡◌, ◌∙◌, ◌+◌, ◌∷◌, ◌++◌, [], ℕ, List, ap, arith, length, length-append, subst, sym}
-use Rattle.iss_ballots.proofs.BallotLemmas.{reached-kept, reached-open}
+use Rattle.iss_ballots.proofs.BallotLemmas.{reached-kept, reached-tallied}
 use Rattle.iss_ballots.specs.Ballots.{AreKept, AreOpen, BallotsState}
 use Rattle.iss_ballots.specs.declared.ballots.Ballot.{Ballot}
 use Rattle.iss_ballots.specs.declared.ballots.Ballot.TheVariants.{Open}
@@ -12,12 +12,12 @@ loop-next-init c = record {
   places = search rules;
   same = ap (λ (z : BallotsState). z.voters) c.self.view_is;
   few = c.self.invariant.0;
-  open = c.self.invariant.1;
+  tallied = c.self.invariant.1;
   kept = λ votes certs h. subst (λ (z : BallotsState). AreKept z votes certs) (sym c.self.view_is) h;
 }
 
 pub invariant_of-self : goal.invariant_of-self
-invariant_of-self c = (c.loop-next.invariant.few, c.loop-next.invariant.open)
+invariant_of-self c = (c.loop-next.invariant.few, c.loop-next.invariant.tallied)
 
 pub new-tally-requires : goal.new-tally-requires
 new-tally-requires c = c.loop-next.invariant.few
@@ -25,7 +25,7 @@ new-tally-requires c = c.loop-next.invariant.few
 pub invariant_of-self-in_err-push : goal.invariant_of-self-in_err-push
 invariant_of-self-in_err-push c = (
   c.loop-next.invariant.few,
-  subst (λ (xs : List Ballot). AreOpen (voters_of c.loop-next.self-inside.setup c.loop-next.self-inside.directory) xs) (sym c.in_err-push.ensures.items) c.loop-next.invariant.open,
+  subst (λ (xs : List Ballot). AreOpen (voters_of c.loop-next.self-inside.setup c.loop-next.self-inside.directory) xs) (sym c.in_err-push.ensures.items) c.loop-next.invariant.tallied,
 )
 
 pub returns-in_err-push-clause-kept : goal.returns-in_err-push-clause-kept
@@ -50,7 +50,7 @@ loop-next-preserved c =
       places = omega (arith, long, places);
       same = h.same;
       few = h.few;
-      open = subst (λ (xs : List Ballot). AreOpen w xs) (sym items) (reached-open w old t h.open voters (ap (λ z. z.epoch) c.new-tally.ensures ∙ places));
+      tallied = subst (λ (xs : List Ballot). AreOpen w xs) (sym items) (reached-tallied w old t h.tallied voters (ap (λ z. z.epoch) c.new-tally.ensures ∙ places));
       kept = λ votes certs k. subst (λ (xs : List Ballot). AreKept (record { voters = w; all = xs }) votes certs) (sym items)
           (reached-kept (record { voters = w; all = old }) t votes certs (ap (λ z. z.votes) c.new-tally.ensures) (h.kept votes certs k));
     }

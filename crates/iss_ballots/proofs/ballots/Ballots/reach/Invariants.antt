@@ -10,7 +10,7 @@ invariant-loop-next l = record {
   places : l.next ≡ length l.self-inside.all.items;
   same : voters_of l.self-inside.setup l.self-inside.directory ≡ l.fn.self.voters;
   few : l.self-inside.setup.n ≤ 256;
-  open : AreOpen (voters_of l.self-inside.setup l.self-inside.directory) l.self-inside.all.items;
+  tallied : AreOpen (voters_of l.self-inside.setup l.self-inside.directory) l.self-inside.all.items;
   kept : (votes : List Vote) (certs : List Cert) → AreKept l.fn.self votes certs →
       AreKept (record { voters = voters_of l.self-inside.setup l.self-inside.directory; all = l.self-inside.all.items }) votes certs;
 }
