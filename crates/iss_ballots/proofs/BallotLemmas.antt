@@ -1,5 +1,7 @@
 -- What a vote, a certificate and a further place do to what is held, and to the lists that it stands for.
-use Rattle.std.proofs.Common.{arith, inl, inr, ◌≡◌, ◌≢◌, ◌⊎◌, ℕ, zero, suc, ◌+◌, ◌<◌, ◌≤◌, Bool, true, false, ◌&&◌, ◌||◌, ◌==◌, cond, eqb, not, List, [], ◌∷◌, ◌++◌, Option, Some, None, is_some, length, get_or, slice_get, slice_set, refl, sym, ap, ◌∙◌, subst, true≢false}
+use Rattle.std.proofs.Common.{arith, inl, inr, ◌≡◌, ◌≢◌, ◌⊎◌, ℕ, zero, suc, ◌+◌, ◌<◌, ◌≤◌, Bool, true, false, ◌&&◌, ◌||◌, ◌==◌, cond, eqb, not, List, [], ◌∷◌, ◌++◌, Option, Some, None, Result, Ok, Err, IfOk, is_some, length, get_or, slice_get, slice_set, refl, sym, ap, ◌∙◌, subst, true≢false}
+use Rattle.std.specs.Prelude.{OnErr}
+use Rattle.iss_request.specs.declared.errors.NoMemory.{NoMemory}
 use Rattle.iss_base.proofs.Lists.{eqb-other, eqb-same, is-eq, none-some, same_or_not, some-injective}
 use Rattle.iss_ballots.specs.Ballots.{AreKept, AreOpen, BallotsState, IsCountedAt, IsOpenAt, IsTaken, IsTakenAt, cert_in, closed_by, is_held, is_true, settled_by, stable_by, vote_in}
 use Rattle.iss_ballots.specs.declared.ballots.Ballot.{Ballot}
@@ -171,6 +173,32 @@ stable-so t u v c h many is =
     let test : (length (certificate u v).signers == u.voters.quorum) ≡ true = ap (λ (k : ℕ). length (certificate u v).signers == k) (sym (many ∙ sym (ap (λ (w : Voters). w.quorum) voters))) ∙ eqb-same _ in
     record { tally = u; counted = h; is = rw test (ap (λ (z : Cert). Stable z) is) }
 
+-- ---- the ballot of a place stays one of it
+
+module _ (b : BallotsState) (v : Vote) (lt : v.epoch.0 < length b.all) (tallied : AreOpen b.voters b.all) where
+  counted-tallied : (t u : TallyState) → slice_get b.all v.epoch.0 ≡ Some (Open t) → IsCounted t v u → (now : Ballot) → now ≡ settled_by u v → IsOpenAt b.voters v.epoch.0 now
+  counted-tallied t u at counted now is = subst (λ (z : Ballot). IsOpenAt b.voters v.epoch.0 z) (sym is) (go (length (certificate u v).signers == u.voters.quorum))
+    where
+      own : IsOpenAt b.voters v.epoch.0 (Open t)
+      own = tallied v.epoch.0 (Open t) at
+
+      go : (q : Bool) → IsOpenAt b.voters v.epoch.0 (cond q (Stable (certificate u v)) (Open u))
+      go true = tt
+      go false = (ap (λ (z : TallyState). z.voters) counted.others ∙ own.0, ap (λ (z : TallyState). z.epoch) counted.others ∙ own.1)
+
+  still-tallied : (old now : Ballot) (k : Taking) → slice_get b.all v.epoch.0 ≡ Some old → IsTakenAt old v now k → AreOpen b.voters (slice_set b.all v.epoch.0 now)
+  still-tallied (Stable c) now Known at h = set-tallied b.voters b.all v.epoch.0 now lt tallied (subst (λ (z : Ballot). IsOpenAt b.voters v.epoch.0 z) (sym h) tt)
+  still-tallied (Stable c) now Counted at h = absurd h
+  still-tallied (Stable c) now BadSignature at h = absurd h
+  still-tallied (Open t) now Known at h = set-tallied b.voters b.all v.epoch.0 now lt tallied (subst (λ (z : Ballot). IsOpenAt b.voters v.epoch.0 z) (sym h.1) (tallied v.epoch.0 (Open t) at))
+  still-tallied (Open t) now BadSignature at h = set-tallied b.voters b.all v.epoch.0 now lt tallied (subst (λ (z : Ballot). IsOpenAt b.voters v.epoch.0 z) (sym h.1) (tallied v.epoch.0 (Open t) at))
+  still-tallied (Open t) now Counted at h = set-tallied b.voters b.all v.epoch.0 now lt tallied (counted-tallied t h.tally at h.counted now h.is)
+
+  -- whatever the answer of a count
+  pub any-tallied : (old now : Ballot) (r : Result Taking NoMemory) → slice_get b.all v.epoch.0 ≡ Some old → IfOk r (IsTakenAt old v now) → OnErr r (now ≡ old) → AreOpen b.voters (slice_set b.all v.epoch.0 now)
+  any-tallied old now (Ok k) at h e = still-tallied old now k at h
+  any-tallied old now (Err x) at h e = set-tallied b.voters b.all v.epoch.0 now lt tallied (subst (λ (z : Ballot). IsOpenAt b.voters v.epoch.0 z) (sym e) (tallied v.epoch.0 old at))
+
 -- ---- a vote at the ballot of its epoch
 
 module _ (b : BallotsState) (v : Vote) (votes : List Vote) (certs : List Cert) (kept : AreKept b votes certs) (lt : v.epoch.0 < length b.all) (tallied : AreOpen b.voters b.all) where
@@ -247,13 +275,6 @@ module _ (b : BallotsState) (v : Vote) (votes : List Vote) (certs : List Cert) (
             subst (λ (z : Ballot). AreKept (set-at z) (v ∷ votes) (stable_by b.voters (v ∷ votes) v ++ certs)) (sym (is ∙ now-is)) (after (length theirs.signers == b.voters.quorum) refl),
           )
 
-      pub counted-tallied : (now : Ballot) → now ≡ settled_by u v → IsOpenAt b.voters v.epoch.0 now
-      counted-tallied now is = subst (λ (z : Ballot). IsOpenAt b.voters v.epoch.0 z) (sym is) (go (length (certificate u v).signers == u.voters.quorum))
-        where
-          go : (q : Bool) → IsOpenAt b.voters v.epoch.0 (cond q (Stable (certificate u v)) (Open u))
-          go true = tt
-          go false = (voters-are, ap (λ (z : TallyState). z.epoch) counted.others ∙ tally.1)
-
   -- what became of a vote at its ballot is what became of it
   pub taken-so : (old now : Ballot) (k : Taking) → slice_get b.all v.epoch.0 ≡ Some old → (is_some (cert_in (Some old)) ≡ true → is_true b.voters v ≡ true) → IsTakenAt old v now k → IsTaken votes certs v (set-at now) k
   taken-so (Stable c) now Known at signed h = subst (λ (z : Ballot). IsTaken votes certs v (set-at z) Known) (sym h) (stable-known c at (signed refl))
@@ -263,14 +284,12 @@ module _ (b : BallotsState) (v : Vote) (votes : List Vote) (certs : List Cert) (
   taken-so (Open t) now BadSignature at signed h = subst (λ (z : Ballot). IsTaken votes certs v (set-at z) BadSignature) (sym h.1) (tallied-unsigned t at h.0)
   taken-so (Open t) now Counted at signed h = tallied-counted t at h.tally h.counted now h.is
 
-  -- the ballot of a place stays one of it
-  pub still-tallied : (old now : Ballot) (k : Taking) → slice_get b.all v.epoch.0 ≡ Some old → IsTakenAt old v now k → AreOpen b.voters (slice_set b.all v.epoch.0 now)
-  still-tallied (Stable c) now Known at h = set-tallied b.voters b.all v.epoch.0 now lt tallied (subst (λ (z : Ballot). IsOpenAt b.voters v.epoch.0 z) (sym h) tt)
-  still-tallied (Stable c) now Counted at h = absurd h
-  still-tallied (Stable c) now BadSignature at h = absurd h
-  still-tallied (Open t) now Known at h = set-tallied b.voters b.all v.epoch.0 now lt tallied (subst (λ (z : Ballot). IsOpenAt b.voters v.epoch.0 z) (sym h.1) (tally t at))
-  still-tallied (Open t) now BadSignature at h = set-tallied b.voters b.all v.epoch.0 now lt tallied (subst (λ (z : Ballot). IsOpenAt b.voters v.epoch.0 z) (sym h.1) (tally t at))
-  still-tallied (Open t) now Counted at h = set-tallied b.voters b.all v.epoch.0 now lt tallied (counted-tallied t at h.tally h.counted now h.is)
+-- whatever the answer of a count at the ballot of a place that was reached
+pub any-taken : (first b : BallotsState) (v : Vote) (old now : Ballot) (r : Result Taking NoMemory) → v.epoch.0 < length b.all → AreOpen b.voters b.all → ((votes : List Vote) (certs : List Cert) → AreKept first votes certs → AreKept b votes certs) →
+    slice_get b.all v.epoch.0 ≡ Some old → (is_some (cert_in (Some old)) ≡ true → is_true b.voters v ≡ true) → IfOk r (IsTakenAt old v now) →
+    IfOk r (λ (t : Taking). (votes : List Vote) (certs : List Cert) → AreKept first votes certs → IsTaken votes certs v (record b { all = slice_set b.all v.epoch.0 now }) t)
+any-taken first b v old now (Ok k) lt tallied kept at signed h = λ votes certs was. taken-so b v votes certs (kept votes certs was) lt tallied old now k at signed h
+any-taken first b v old now (Err x) lt tallied kept at signed h = tt
 
 -- ---- a certificate that is kept where there is none
 
