@@ -21,9 +21,11 @@ impl<M: Sequenced> Replica<M> {
         ensures voted { IfOk result (λ v. IsVoted self.old self.new v) }
         ensures later { IsLater self.old self.new }
     {
-        let Some(End { chain, requests }) = self.end() else {
+        let Some(end) = self.end() else {
             return Err(NoMemory);
         };
+        let chain = end.chain;
+        let requests = end.requests;
         let statement = vote_statement(&self.setup.tag, self.epoch.0, &chain, requests);
         let Ok(sig) = self.keys.sign(&statement) else {
             return Err(NoMemory);
