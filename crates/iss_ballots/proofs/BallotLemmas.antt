@@ -268,8 +268,7 @@ module _ (b : BallotsState) (v : Vote) (votes : List Vote) (certs : List Cert) (
 
       pub tallied-counted : (now : Ballot) → now ≡ settled_by u v → IsTaken votes certs v (set-at now) Counted
       tallied-counted now is =
-          let k = free-of t v counted.sound in
-          (
+          let k = free-of t v counted.sound in (
             by-voters true k.signed,
             held-is false k.free,
             subst (λ (z : Ballot). AreKept (set-at z) (v ∷ votes) (stable_by b.voters (v ∷ votes) v ++ certs)) (sym (is ∙ now-is)) (after (length theirs.signers == b.voters.quorum) refl),

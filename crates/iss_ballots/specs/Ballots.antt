@@ -11,7 +11,6 @@ use Rattle.iss_checkpoint.specs.declared.votes.Cert.{Cert}
 use Rattle.iss_checkpoint.specs.declared.votes.Vote.{Vote}
 use Rattle.iss_model.specs.Node.{cert_on, vote_by}
 
-
 pub record BallotsState : Type 0 where
   pub voters : Voters
   -- by epoch: its votes, or its certificate

@@ -144,7 +144,13 @@ impl Ballots {
         let setup = &self.setup;
         let statement = vote_statement(&setup.tag, vote.epoch.0, &vote.chain, vote.requests);
         let directory = self.directory.directory();
-        is_signed(directory, setup.n, &statement, vote.by.0, vote.sig.as_slice())
+        is_signed(
+            directory,
+            setup.n,
+            &statement,
+            vote.by.0,
+            vote.sig.as_slice(),
+        )
     }
 }
 

@@ -22,11 +22,7 @@ pub fn claim_of_vote(alloc: Global, tag: &[u8; 32], vote: &Vote) -> Result<Claim
 }
 
 /// What a certificate claims: the vote of each of its signers.
-pub fn claims_of_cert(
-    alloc: Global,
-    tag: &[u8; 32],
-    cert: &Cert,
-) -> Result<Row<Claim>, NoMemory>
+pub fn claims_of_cert(alloc: Global, tag: &[u8; 32], cert: &Cert) -> Result<Row<Claim>, NoMemory>
     ensures { IfOk result (λ cs. cs ≡ claims_by (vote_statement tag.now cert.now.epoch.0 cert.now.chain cert.now.requests) cert.now.signers) }
 {
     let statement = vote_statement(tag, cert.epoch.0, &cert.chain, cert.requests);
@@ -34,11 +30,7 @@ pub fn claims_of_cert(
 }
 
 // The claims of signers on one statement.
-fn claims_by(
-    alloc: Global,
-    statement: &[u8],
-    signers: &[Signed],
-) -> Result<Row<Claim>, NoMemory>
+fn claims_by(alloc: Global, statement: &[u8], signers: &[Signed]) -> Result<Row<Claim>, NoMemory>
     ensures { IfOk result (λ cs. cs ≡ claims_by statement.now signers.now) }
 {
     let mut claims = Row::new(alloc);

@@ -65,7 +65,12 @@ pub fn pack_piece(
 pub fn vote_of(alloc: Global, packet: &Packet) -> Result<Option<Vote>, NoMemory>
     ensures { IfOk result (λ vote. vote ≡ whole (parse_vote packet.now.from packet.now.epoch.0 packet.now.body)) }
 {
-    match decode_vote(alloc, NodeId(packet.from), packet.epoch, packet.body.as_slice()) {
+    match decode_vote(
+        alloc,
+        NodeId(packet.from),
+        packet.epoch,
+        packet.body.as_slice(),
+    ) {
         Ok(vote) => Ok(Some(vote)),
         Err(DecodeError::BadField { .. }) => Ok(None),
         Err(DecodeError::NoMemory) => Err(NoMemory),

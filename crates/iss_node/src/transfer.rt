@@ -84,12 +84,7 @@ impl<M: Sequenced> Replica<M> {
     }
 
     // A piece as the node hands it out to another, with the node's own claim in its certificate.
-    fn hand_out_piece(
-        &self,
-        alloc: Global,
-        to: NodeId,
-        piece: &Piece,
-    ) -> Result<Outcome, NoMemory>
+    fn hand_out_piece(&self, alloc: Global, to: NodeId, piece: &Piece) -> Result<Outcome, NoMemory>
         ensures { IfOk result (IsHandedPiece self.now to piece.now) }
     {
         let bytes = pack_piece(alloc, self.setup.version, self.me, piece)?;
@@ -132,7 +127,14 @@ impl<M: Sequenced> Replica<M> {
             return Err(NoMemory);
         }
         let directory = self.directory.directory();
-        adopt(alloc, &self.setup, directory, &self.chains, self.epoch, piece)
+        adopt(
+            alloc,
+            &self.setup,
+            directory,
+            &self.chains,
+            self.epoch,
+            piece,
+        )
     }
 
     // The values of a piece are the node's where it has none, its certificate is kept, and the next epoch begins with what came
@@ -159,11 +161,7 @@ impl<M: Sequenced> Replica<M> {
 }
 
 // Values with their slots, from the first on.
-fn at_slots(
-    alloc: Global,
-    first: Slot,
-    values: Row<Value>,
-) -> Result<Vec<(Slot, Value)>, NoMemory>
+fn at_slots(alloc: Global, first: Slot, values: Row<Value>) -> Result<Vec<(Slot, Value)>, NoMemory>
     ensures { IfOk result (λ ds. ds.items ≡ at_slots first.0 values) }
 {
     let mut delivers = Vec::new(alloc);
