@@ -1,15 +1,15 @@
 -- What a vote, a certificate and a further place do to what is held, and to the lists that it stands for.
-use Rattle.std.proofs.Common.{arith, inl, inr, ◌≡◌, ◌≢◌, ◌⊎◌, ℕ, zero, suc, ◌+◌, ◌<◌, ◌≤◌, Bool, true, false, ◌&&◌, ◌||◌, ◌==◌, cond, eqb, not, List, [], ◌∷◌, ◌++◌, Option, Some, None, Result, Ok, Err, IfOk, is_some, length, get_or, slice_get, slice_set, refl, sym, ap, ◌∙◌, subst, true≢false}
+use Rattle.std.proofs.Common.{arith, inl, inr, ◌≡◌, ◌≢◌, ◌⊎◌, ℕ, zero, suc, ◌<◌, Bool, true, false, ◌||◌, ◌==◌, cond, not, List, [], ◌∷◌, ◌++◌, Option, Some, None, Result, Ok, Err, IfOk, is_some, length, slice_get, slice_set, refl, sym, ap, ◌∙◌, subst, true≢false}
 use Rattle.std.specs.Prelude.{OnErr}
 use Rattle.iss_request.specs.declared.errors.NoMemory.{NoMemory}
-use Rattle.iss_base.proofs.Lists.{eqb-other, eqb-same, is-eq, none-some, same_or_not, some-injective}
+use Rattle.iss_base.proofs.Lists.{eqb-other, eqb-same, none-some, same_or_not, some-injective}
 use Rattle.iss_ballots.specs.Ballots.{AreKept, AreOpen, BallotsState, IsCountedAt, IsOpenAt, IsTaken, IsTakenAt, cert_in, closed_by, is_held, is_true, settled_by, stable_by, vote_in}
 use Rattle.iss_ballots.specs.declared.ballots.Ballot.{Ballot}
 use Rattle.iss_ballots.specs.declared.ballots.Ballot.TheVariants.{Open, Stable}
 use Rattle.iss_ballots.specs.declared.ballots.Taking.{Taking}
 use Rattle.iss_ballots.specs.declared.ballots.Taking.TheVariants.{BadSignature, Counted, Known}
 use Rattle.iss_checkpoint.proofs.TallyLemmas.{below-same}
-use Rattle.iss_checkpoint.specs.Tallies.{IsCounted, TallyState, certificate, certificate_by, refusal, signed_below, vote_at, with_vote}
+use Rattle.iss_checkpoint.specs.Tallies.{IsCounted, TallyState, certificate, certificate_by, refusal, vote_at, with_vote}
 use Rattle.iss_checkpoint.specs.Votes.{Voters, is_signed, statement_of}
 use Rattle.iss_checkpoint.specs.declared.tallies.Refusal.{Refusal}
 use Rattle.iss_checkpoint.specs.declared.tallies.Refusal.TheVariants.{BadSignature as Unsigned, OtherEpoch, Twice}

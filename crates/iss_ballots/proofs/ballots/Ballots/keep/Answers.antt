@@ -1,4 +1,4 @@
-use Rattle.std.proofs.Common.{◌≡◌, ◌<◌, length, refl, subst, sym}
+use Rattle.std.proofs.Common.{◌<◌, length, refl, subst, sym}
 use Rattle.std.proofs.lemmas.Option.{slice_get_read}
 use Rattle.iss_ballots.proofs.BallotLemmas.{keeps-so}
 use Rattle.iss_ballots.specs.Ballots.{AreKept, BallotsState}

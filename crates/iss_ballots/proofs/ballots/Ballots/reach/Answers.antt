@@ -1,4 +1,4 @@
-use Rattle.std.proofs.Common.{rules, ◌≡◌, ◌∙◌, ◌+◌, ◌∷◌, ◌++◌, [], ℕ, List, ap, arith, length, length-append, subst, sym}
+use Rattle.std.proofs.Common.{rules, ◌≡◌, ◌∙◌, ◌∷◌, [], List, ap, arith, length, length-append, subst, sym}
 use Rattle.iss_ballots.proofs.BallotLemmas.{reached-kept, reached-tallied}
 use Rattle.iss_ballots.specs.Ballots.{AreKept, AreOpen, BallotsState}
 use Rattle.iss_ballots.specs.declared.ballots.Ballot.{Ballot}

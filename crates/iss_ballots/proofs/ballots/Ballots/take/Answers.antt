@@ -1,4 +1,4 @@
-use Rattle.std.proofs.Common.{◌≡◌, ◌∙◌, ◌<◌, Bool, Option, Some, true, false, true≢false, ap, is_some, length, refl, slice_get, subst, sym}
+use Rattle.std.proofs.Common.{◌≡◌, ◌∙◌, ◌<◌, Option, Some, true≢false, ap, is_some, length, refl, slice_get, subst, sym}
 use Rattle.std.proofs.lemmas.Option.{slice_get_read}
 use Rattle.iss_ballots.proofs.BallotLemmas.{any-taken, any-tallied}
 use Rattle.iss_ballots.specs.Ballots.{AreKept, BallotsState, cert_in, is_true}
