@@ -55,6 +55,7 @@ impl<M: Sequenced> Replica<M> {
         ensures from { IfOk result (λ both. AreFrom self.new.setup.n both.1.items) }
         ensures later { IsLater self.old self.new }
     {
+        let _setup = &self.setup;
         let vote = self.vote()?;
         let outcome = self.hand_out_vote(alloc, &vote)?;
         let early = self.next_epoch(alloc)?;
