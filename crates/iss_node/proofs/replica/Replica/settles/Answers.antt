@@ -1,8 +1,8 @@
-use Rattle.std.proofs.Common.{true, subst}
+use Rattle.std.proofs.Common.{true, false, subst}
 use Rattle.std.proofs.lemmas.Result.{IfOk-weaker}
 use Rattle.iss_model.specs.Node.{onward, settles, takes_each}
 use Rattle.iss_node.proofs.NextLemmas.{is-over}
-use Rattle.iss_node.proofs.SettleLemmas.{settles-on}
+use Rattle.iss_node.proofs.SettleLemmas.{settles-not, settles-on}
 use Rattle.iss_node.specs.Epochs.{both}
 use Rattle.iss_node.specs.State.{seen_early}
 use Rattle.iss_node.specs.Steps.{IsTurnBehind}
@@ -23,3 +23,8 @@ returns-clause-turn g c =
     (is-over m g.M.Sequenced.stands c.args.self.now c.is_complete.result true c.is_complete.ensures c.if-not-is_complete.false) c.in_ok-vote.ensures.ended c.in_ok-vote.ensures.later
     (subst (λ (z : Outcome). IsTurnBehind m g.M.Sequenced.stands u (λ F R me t. onward t (takes_each F R m me u.epoch (seen_early early.items))) z c.take_each.new.self o) c.in_ok-put_behind.ensures h))
     c.take_each.ensures.turn
+
+pub returns-then-not-is_complete-clause-turn : goal.returns-then-not-is_complete-clause-turn
+returns-then-not-is_complete-clause-turn g c =
+    let m = g.M.Sequenced.meaning in
+    settles-not m g.M.Sequenced.stands c.args.self.now c.args.outcome (is-over m g.M.Sequenced.stands c.args.self.now c.is_complete.result false c.is_complete.ensures c.if-not-is_complete.true)
