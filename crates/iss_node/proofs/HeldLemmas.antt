@@ -137,21 +137,15 @@ module _ {M Msg : Type 0} (m : Module Msg) (stands : M → Params → ℕ → Li
   pub held-step : (step : Formats Msg → Rules → ℕ → Core Msg → Stepped Msg) (asked : Type 0) (a : Answered) →
       ((F : Formats Msg) (R : Rules) (me : ℕ) (votes : List Vote) (certs : List Cert) (c : Core Msg) → step F R me (holding votes certs c) ≡ with_step F R m me votes certs (step F R me c)) →
       IsStepOf m stands v step w a → IsHeldStepOf m stands asked v step w a
-  held-step step asked a frame all c h = go a (at-core m stands v (bare c) h.parts (λ d. IsStep m stands d (step F R v.me.0 d) w a) all)
+  held-step step asked a frame all c h = go a (at-core m stands v (bare c) h.parts (λ d. IsStep m stands d (step (formats_of v.setup m) (rules_of v.setup) v.me.0 d) w a) all)
     where
-      F : Formats Msg
-      F = formats_of v.setup m
+      by-frame : step (formats_of v.setup m) (rules_of v.setup) v.me.0 c ≡ with_step (formats_of v.setup m) (rules_of v.setup) m v.me.0 c.votes c.certs (step (formats_of v.setup m) (rules_of v.setup) v.me.0 (bare c))
+      by-frame = frame (formats_of v.setup m) (rules_of v.setup) v.me.0 c.votes c.certs (bare c)
 
-      R : Rules
-      R = rules_of v.setup
-
-      by-frame : step F R v.me.0 c ≡ with_step F R m v.me.0 c.votes c.certs (step F R v.me.0 (bare c))
-      by-frame = frame F R v.me.0 c.votes c.certs (bare c)
-
-      go : (a : Answered) → IsStep m stands (bare c) (step F R v.me.0 (bare c)) w a → IsHeldStep m stands asked c (step F R v.me.0 c) w a
+      go : (a : Answered) → IsStep m stands (bare c) (step (formats_of v.setup m) (rules_of v.setup) v.me.0 (bare c)) w a → IsHeldStep m stands asked c (step (formats_of v.setup m) (rules_of v.setup) v.me.0 c) w a
       go (Takes o) s = record {
-        turn = with_turn F R m v.me.0 c.votes c.certs s.turn;
-        step_is = by-frame ∙ ap (λ (z : Stepped Msg). with_step F R m v.me.0 c.votes c.certs z) s.step_is;
+        turn = with_turn (formats_of v.setup m) (rules_of v.setup) m v.me.0 c.votes c.certs s.turn;
+        step_is = by-frame ∙ ap (λ (z : Stepped Msg). with_step (formats_of v.setup m) (rules_of v.setup) m v.me.0 c.votes c.certs z) s.step_is;
         turned = record {
           stands_for = held-parts c s.turn.core h s.turned.stands_for;
           made = record { sends = s.turned.made.sends; own = s.turned.made.own; early = s.turned.made.early; hashed = s.turned.made.hashed };
@@ -159,6 +153,6 @@ module _ {M Msg : Type 0} (m : Module Msg) (stands : M → Params → ℕ → Li
         };
       }
       go (Drops why) s = record {
-        step_is = by-frame ∙ ap (λ (z : Stepped Msg). with_step F R m v.me.0 c.votes c.certs z) s.step_is;
+        step_is = by-frame ∙ ap (λ (z : Stepped Msg). with_step (formats_of v.setup m) (rules_of v.setup) m v.me.0 c.votes c.certs z) s.step_is;
         stands_for = held-parts c (bare c) h s.stands_for;
       }

@@ -116,10 +116,10 @@ lt-of-le : (a b : ℕ) (t : Bool) → nat_le a b ≡ t → nat_lt b a ≡ not t
 lt-of-le a b t h = grind (arith, nat_tests)
 
 module _ {M Msg : Type 0} (m : Module Msg) (stands : M → Params → ℕ → List (Item Msg) → Type 0) (v : ReplicaState M Msg) (to : NodeId) (e : ℕ) (c : Core Msg) (h : AreHeld m stands v c) where
-  F : Formats Msg
+  abbrev pub F : Formats Msg
   F = formats_of v.setup m
 
-  R : Rules
+  abbrev pub R : Rules
   R = rules_of v.setup
 
   log-is : log_of R m v.me.0 c.past ≡ reverse v.log.entries

@@ -72,10 +72,10 @@ module _ {M Msg : Type 0} (m : Module Msg) (stands : M → Params → ℕ → Li
       let same = ap (λ (ys : List Value). length ys) tied.log ∙ length-reverse v.log.entries in
       omega (arith, first, start, long, same)
 
-  said : End
+  abbrev pub said : End
   said = record { chain = vote.chain; requests = vote.requests }
 
-  own : Vote
+  abbrev pub own : Vote
   own = vote_on (rules_of v.setup) m v.me.0 (core_of v past)
 
   -- what stands for the log at the end of the epoch
@@ -110,7 +110,7 @@ module _ {M Msg : Type 0} (m : Module Msg) (stands : M → Params → ℕ → Li
 
   -- it is handed out, and the next epoch begins
   module _ (o : Outcome) (w : ReplicaState M Msg) (early : List (Early Msg)) (handed : IsVoteHandedOut u vote o) (next : IsNextEpoch m stands u w early) (later : IsLater u w) where
-    after : ReplicaState M Msg
+    abbrev pub after : ReplicaState M Msg
     after = record v { keys = record v.keys { used = v.keys.used + 1 } }
 
     there : IsVoteHandedOut after vote o
