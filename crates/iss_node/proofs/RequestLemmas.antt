@@ -186,22 +186,18 @@ absorbed-all {M} {Msg} v u w leader e ds us grown is =
     record { accepted = accepted; grown = subst (λ (z : ReplicaState M Msg). HasGrown z w e.delivers) now (subst (λ (xs : List (Slot × Value)). HasGrown u w xs) is grown) }
 
 -- the chain grew with it
-pub chained-all : {M Msg : Type 0} (v u w : ReplicaState M Msg) (chains : ChainsState) (held : ℕ) (entries more : List Value) (before after : List (List ℕ)) (r : Result (Unit {0}) NoMemory) →
-    entries ≡ u.log.entries → more ≡ drop held entries → held ≡ length v.log.entries → chains ≡ v.chains →
-    ((log : List Value) → IsChainOf chains log → AreJoined chains log more u.chains before after) → u.chains.version ≡ chains.version →
-    w ≡ record u { waiting = w.waiting; flight = w.flight } → OnOk r (IsChained v w before after)
-chained-all v u w chains held entries more before after (Err e) entries_are more_is held_is chains_are joins version rest = tt
-chained-all {M} {Msg} v u w chains held entries more before after (Ok x) entries_are more_is held_is chains_are joins version rest =
-    let w_chains : w.chains ≡ u.chains = ap (λ (z : ReplicaState M Msg). z.chains) rest in
-    let w_log : w.log.entries ≡ u.log.entries = ap (λ (z : ReplicaState M Msg). z.log.entries) rest in
-    record {
-      joined = λ more2 is chain.
-          let same : more ≡ more2 = more_is ∙ ap (λ (xs : List Value). drop held xs) (entries_are ∙ sym w_log ∙ is) ∙ ap (λ (n : ℕ). drop n (v.log.entries ++ more2)) held_is ∙ drop-front v.log.entries more2 in
-          subst (λ (z : ChainsState). AreJoined v.chains v.log.entries more2 z before after) (sym w_chains)
-          (subst (λ (z : List Value). AreJoined v.chains v.log.entries z u.chains before after) same
-          (subst (λ (z : ChainsState). IsChainOf z v.log.entries → AreJoined z v.log.entries more u.chains before after) chains_are (joins v.log.entries) chain));
-      version = ap (λ (z : ChainsState). z.version) w_chains ∙ version ∙ ap (λ (z : ChainsState). z.version) chains_are;
-    }
+pub chained-all : {M Msg : Type 0} (v w : ReplicaState M Msg) (chains now : ChainsState) (held : ℕ) (entries more : List Value) (before after : List (List ℕ)) (r : Result (Unit {0}) NoMemory) →
+    entries ≡ w.log.entries → more ≡ drop held entries → held ≡ length v.log.entries → chains ≡ v.chains → w.chains ≡ now →
+    ((log : List Value) → IsChainOf chains log → AreJoined chains log more now before after) → now.version ≡ chains.version → OnOk r (IsChained v w before after)
+chained-all v w chains now held entries more before after (Err e) entries_are more_is held_is chains_are now_is joins version = tt
+chained-all v w chains now held entries more before after (Ok x) entries_are more_is held_is chains_are now_is joins version = record {
+  joined = λ more2 is chain.
+      let same : more ≡ more2 = more_is ∙ ap (λ (xs : List Value). drop held xs) (entries_are ∙ is) ∙ ap (λ (n : ℕ). drop n (v.log.entries ++ more2)) held_is ∙ drop-front v.log.entries more2 in
+      subst (λ (z : ChainsState). AreJoined v.chains v.log.entries more2 z before after) (sym now_is)
+      (subst (λ (z : List Value). AreJoined v.chains v.log.entries z now before after) same
+      (subst (λ (z : ChainsState). IsChainOf z v.log.entries → AreJoined z v.log.entries more now before after) chains_are (joins v.log.entries) chain));
+  version = ap (λ (z : ChainsState). z.version) now_is ∙ version ∙ ap (λ (z : ChainsState). z.version) chains_are;
+}
 
 -- a batch that was accepted before says nothing of it
 pub chained-after : {M Msg : Type 0} (v u w : ReplicaState M Msg) (accepted : List Accepted) (before after : List (List ℕ)) → u ≡ record v { accepted = accepted } → IsChained u w before after → IsChained v w before after

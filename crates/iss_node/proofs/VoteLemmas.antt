@@ -120,7 +120,7 @@ module _ {M Msg : Type 0} (m : Module Msg) (stands : M → Params → ℕ → Li
     begins = subst (λ (z : ReplicaState M Msg). IsNextEpoch m stands z w early) voted.rest next
 
     parts : AreParts m stands w (record (in_next_epoch (core_of v past)) { leaf = suc v.keys.used })
-    parts = subst (λ (k : ℕ). AreParts m stands w (record (in_next_epoch (core_of v past)) { leaf = k })) add-one
+    parts = subst (λ (k : ℕ). AreParts m stands w (record (in_next_epoch (core_of v past)) { leaf = k })) (add-one v.keys.used)
         (begins.stands_for past (signed-tied m stands v past tied) complete)
 
     abbrev packet : Vote → List ℕ
