@@ -1,0 +1,165 @@
+-- What the calls of a kept node leave of it.
+use Rattle.std.proofs.Common.{inl, inr, ◌≡◌, ◌⊎◌, ℕ, ◌<◌, ◌≤◌, Bool, true, false, List, [], ◌∷◌, ◌++◌, length, take, Option, Some, None, refl, sym, ap, ◌∙◌, subst, rw, true≢false}
+use Rattle.iss_disk.specs.Calls.{IfTold, Room}
+use Rattle.iss_disk.specs.File.{File}
+use Rattle.iss_journal.specs.Frames.{Reads, holds, max_entry}
+use Rattle.iss_journal.specs.Promises.{OnlyLeaves}
+use Rattle.iss_journal.specs.Sound.{IsSound, disk_of, entries_of, is_attached}
+use Rattle.iss_journal.specs.declared.journal.Journal.{Journal}
+use Rattle.iss_keys.specs.Directories.{AreKeysOf, DirectoryView, directory_of, node_secret}
+use Rattle.iss_keys.specs.KeyStates.{KeyState}
+use Rattle.iss_keys.proofs.DirectoryLemmas.{length-nodes}
+use Rattle.iss_log.specs.LogState.{GoesOn}
+use Rattle.iss_model.specs.Concrete.{keys_of, rules_of}
+use Rattle.iss_model.specs.Formats.{formats_of}
+use Rattle.iss_model.specs.Node.{Core, Stepped, Taken as Was_taken, Dropped as Not_taken, Turn, step}
+use Rattle.iss_model.specs.Runs.{IsSetupOf}
+use Rattle.iss_model.specs.declared.causes.NodeEvent.{NodeEvent}
+use Rattle.iss_model.specs.declared.causes.Why.{Why}
+use Rattle.iss_node.specs.State.{NodeState, Stands}
+use Rattle.iss_node.specs.Steps.{IsAnswer as Node_answers, IsMade}
+use Rattle.iss_node.specs.declared.answers.Answer.TheVariants.{Dropped as Node_drops, Taken as Node_takes}
+use Rattle.iss_node.specs.declared.answers.Outcome.{Outcome}
+use Rattle.iss_request.specs.declared.ids.NodeId.{NodeId}
+use Rattle.iss_request.specs.declared.setups.Setup.{Setup}
+use Rattle.iss_sb.specs.Evidence.{Item, Module}
+use Rattle.iss_sb.specs.Calls.{AreToNodes}
+use Rattle.iss_sb.specs.declared.effects.Params.{Params}
+use Rattle.iss_keep.specs.Cores.{core_after, core_of, core_with, step_of}
+use Rattle.iss_keep.specs.Entries.{event_in, spell_event}
+use Rattle.iss_keep.specs.State.{IsKept, KeptState, StandsFor, entries_in}
+use Rattle.iss_keep.specs.Steps.{IsDrop, IsTurn}
+use Rattle.iss_keep.proofs.CoreLemmas.{one-more}
+use Rattle.iss_keep.proofs.EntryLemmas.{spelled-read}
+use Rattle.iss_keep.proofs.TakenLemmas.{log-cut, log-long, taken-goes-on, taken-later, taken-named, taken-short}
+
+-- a node's own keys, of which none is used
+pub own-number : (s : Setup) (i : ℕ) (d : DirectoryView) → d ≡ keys_of s → i < s.n → i < length d.nodes
+own-number s i d is lt = subst (λ (z : DirectoryView). i < length z.nodes) (sym is) (subst (λ (k : ℕ). i < k) (sym (length-nodes s.n s.clients s.keys)) lt)
+
+pub own-keys : (s : Setup) (i : ℕ) (d : DirectoryView) (k : KeyState) → d ≡ keys_of s →
+    ((n clients height : ℕ) → d ≡ directory_of n clients height → k ≡ record { secret = node_secret i; height = height; used = 0 }) →
+    AreKeysOf i s.keys k × (k.used ≡ 0)
+own-keys s i d k is made =
+    let mine = made s.n s.clients s.keys is in
+    (record { own = ap (λ (z : KeyState). z.secret) mine; tall = ap (λ (z : KeyState). z.height) mine }, ap (λ (z : KeyState). z.used) mine)
+
+module _ {M Msg D : Type 0} (m : Module Msg) (stands : M → Params → ℕ → List (Item Msg) → Type 0) (history : D → List File) (room : D → Room) (directory : DirectoryView) where
+  not-both : (b : Bool) (P : Type 0) → b ≡ true → b ≡ false → P
+  not-both b P t f = absurd (true≢false (sym t ∙ f))
+
+  -- one that has to be reopened
+  pub stale-kept : (v : KeptState M Msg D) → IsSetupOf m v.setup → v.me.0 < v.setup.n → directory ≡ keys_of v.setup → v.node.parts.setup ≡ v.setup → v.node.parts.me ≡ v.me →
+      IsSound history room v.journal → v.stale ≡ true → IsKept m stands history room directory v
+  stale-kept v good member keys cluster number sound stale = record {
+    good = good;
+    member = member;
+    keys = keys;
+    cluster = cluster;
+    number = number;
+    sound = sound;
+    attached = λ f. not-both v.stale _ stale f;
+    durable = λ f. not-both v.stale _ stale f;
+    kept = inl stale;
+  }
+
+  -- one that stands for the core of its entries
+  pub fresh-kept : (v : KeptState M Msg D) (c : Core Msg) → IsSetupOf m v.setup → v.me.0 < v.setup.n → directory ≡ keys_of v.setup → v.node.parts.setup ≡ v.setup → v.node.parts.me ≡ v.me →
+      IsSound history room v.journal → is_attached v.journal ≡ true →
+      IfTold (history (disk_of v.journal)) (OnlyLeaves (λ bytes. Reads bytes (holds (entries_in v)))) → StandsFor m stands v c → IsKept m stands history room directory v
+  fresh-kept v c good member keys cluster number sound attached durable for = record {
+    good = good;
+    member = member;
+    keys = keys;
+    cluster = cluster;
+    number = number;
+    sound = sound;
+    attached = λ f. attached;
+    durable = λ f. durable;
+    kept = inr (c, for);
+  }
+
+  -- the core of one that is not stale
+  standing : (v : KeptState M Msg D) → (v.stale ≡ true) ⊎ ((c : Core Msg) × StandsFor m stands v c) → v.stale ≡ false → (c : Core Msg) × StandsFor m stands v c
+  standing v (inl stale) fresh = not-both v.stale _ stale fresh
+  standing v (inr h) fresh = h
+
+  pub its-core : (v : KeptState M Msg D) → IsKept m stands history room directory v → v.stale ≡ false → (c : Core Msg) × StandsFor m stands v c
+  its-core v kept fresh = standing v kept.kept fresh
+
+  -- ---- a step of its node
+
+  module _ (old : KeptState M Msg D) (kept : IsKept m stands history room directory old) (event : NodeEvent) (node : NodeState M Msg)
+      (setup : node.parts.setup ≡ old.node.parts.setup) (me : node.parts.me ≡ old.node.parts.me) where
+    abbrev node_step : Core Msg → Stepped Msg
+    node_step c = step (formats_of old.node.parts.setup m) (rules_of old.node.parts.setup) m old.node.parts.me.0 c event
+
+    -- the step of the node is the step in its cluster
+    same-step : (c : Core Msg) → node_step c ≡ step_of old.setup m old.me.0 c event
+    same-step c = ap (λ (s : Setup). step (formats_of s m) (rules_of s) m old.node.parts.me.0 c event) kept.cluster
+        ∙ ap (λ (i : NodeId). step_of old.setup m i.0 c event) kept.number
+
+    module _ (outcome : Outcome) (answer : (c : Core Msg) → Stands m stands old.node c → Node_answers m stands c (node_step c) node (Node_takes outcome)) where
+      good : IsSetupOf m old.node.parts.setup
+      good = subst (λ (s : Setup). IsSetupOf m s) (sym kept.cluster) kept.good
+
+      pub took-short : old.stale ≡ false → length (spell_event event) ≤ max_entry
+      took-short fresh =
+          let h = its-core old kept fresh in
+          let a = answer h.0 h.1.node in
+          taken-short old.node.parts.setup m good old.node.parts.me.0 h.0 event a.turn a.step_is
+
+      took-on : old.stale ≡ false → GoesOn old.node.parts.log.entries node.parts.log.entries
+      took-on fresh =
+          let h = its-core old kept fresh in
+          let a = answer h.0 h.1.node in
+          taken-goes-on m stands old.node node h.0 event a.turn good h.1.node a.stands_for a.step_is setup me
+
+      pub took-long : old.stale ≡ false → length old.node.parts.log.entries ≤ length node.parts.log.entries
+      took-long fresh = log-long old.node.parts.log.entries node.parts.log.entries (took-on fresh)
+
+      pub took-cut : old.stale ≡ false → take (length old.node.parts.log.entries) node.parts.log.entries ≡ old.node.parts.log.entries
+      took-cut fresh = log-cut old.node.parts.log.entries node.parts.log.entries (took-on fresh)
+
+      pub took-later : old.stale ≡ false → old.node.parts.epoch ≤ node.parts.epoch
+      took-later fresh =
+          let h = its-core old kept fresh in
+          let a = answer h.0 h.1.node in
+          taken-later m stands old.node node h.0 event a.turn good h.1.node a.stands_for a.step_is setup me
+
+      -- with the event in its journal it stands for the core after the step
+      pub took-turn : (journal : Journal D) → entries_of journal ≡ entries_in old ++ spell_event event ∷ [] → (c : Core Msg) → StandsFor m stands old c →
+          IsTurn m stands (step_of old.setup m old.me.0 c event) (record { setup = old.setup; me = old.me; node = node; journal = journal; stale = old.stale }) outcome
+      took-turn journal entries c for =
+          let a = answer c for.node in
+          let is : step_of old.setup m old.me.0 c event ≡ Was_taken a.turn = sym (same-step c) ∙ a.step_is in
+          let named = taken-named old.setup m kept.good old.me.0 c event a.turn is in
+          let with_event : core_with old.setup m old.me.0 c (event_in old.setup.n (spell_event event)) ≡ Some a.turn.core =
+              ap (λ (o : Option NodeEvent). core_with old.setup m old.me.0 c o) (spelled-read old.setup.n event named) ∙ ap core_after is in
+          let core : core_of old.setup m old.me.0 (entries_in old ++ spell_event event ∷ []) ≡ Some a.turn.core =
+              one-more old.setup m old.me.0 (entries_in old) (spell_event event) c a.turn.core for.core with_event in
+          record {
+            turn = a.turn;
+            step_is = is;
+            stands_for = record {
+              fresh = for.fresh;
+              node = a.stands_for;
+              core = subst (λ (es : List (List ℕ)). core_of old.setup m old.me.0 es ≡ Some a.turn.core) (sym entries) core;
+            };
+            made = a.made;
+            addressed = subst (λ (s : Setup). AreToNodes s.n outcome.sends) (setup ∙ kept.cluster) a.addressed;
+          }
+
+    module _ (why : Why) (answer : (c : Core Msg) → Stands m stands old.node c → Node_answers m stands c (node_step c) node (Node_drops why)) where
+      pub dropped-turn : (journal : Journal D) → entries_of journal ≡ entries_in old → (c : Core Msg) → StandsFor m stands old c →
+          IsDrop m stands c (step_of old.setup m old.me.0 c event) (record { setup = old.setup; me = old.me; node = node; journal = journal; stale = old.stale }) why
+      dropped-turn journal entries c for =
+          let a = answer c for.node in
+          record {
+            step_is = sym (same-step c) ∙ a.step_is;
+            stands_for = record {
+              fresh = for.fresh;
+              node = a.stands_for;
+              core = subst (λ (es : List (List ℕ)). core_of old.setup m old.me.0 es ≡ Some c) (sym entries) for.core;
+            };
+          }

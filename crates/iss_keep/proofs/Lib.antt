@@ -1,0 +1,6 @@
+pub mod CoreLemmas
+pub mod EntryLemmas
+pub mod KeptLemmas
+pub mod ReplayLemmas
+pub mod TakenLemmas
+pub mod WriteLemmas

@@ -1,0 +1,8 @@
+use Rattle.iss_keep.proofs.EntryLemmas.{entry-read, read-spelled}
+use Rattle.iss_keep.proofs.KeptLemmas.{took-turn}
+use Rattle.iss_keep.proofs.ReplayLemmas.{fresh-shown}
+use Rattle.iss_keep.proofs.WriteLemmas.{with-entry}
+use Rattle.iss_keep.proofs.entries.entries_are_exact.Goals as goal
+
+pub returns : goal.returns
+returns c = λ n entry event. (read-spelled n entry event, entry-read n entry event)
