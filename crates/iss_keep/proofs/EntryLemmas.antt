@@ -1,5 +1,5 @@
 -- An event's entry is read as the event, and nothing else is.
-use Rattle.std.proofs.Common.{◌≡◌, ℕ, ◌<◌, Bool, true, false, cond, eqb, leb, suc, List, [], ◌∷◌, Option, Some, None, refl, sym, ap, ◌∙◌, subst, rw}
+use Rattle.std.proofs.Common.{◌≡◌, ℕ, ◌<◌, Bool, true, false, cond, eqb, leb, suc, List, [], ◌∷◌, Option, Some, None, refl, sym, ap, ◌∙◌, subst}
 use Rattle.std.proofs.lemmas.Bool.{le-leb, leb-true}
 use Rattle.iss_base.proofs.Lists.{is-eq}
 use Rattle.iss_model.specs.declared.causes.NodeEvent.{NodeEvent}

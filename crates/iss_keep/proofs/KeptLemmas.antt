@@ -1,5 +1,5 @@
 -- What the calls of a kept node leave of it.
-use Rattle.std.proofs.Common.{inl, inr, ◌≡◌, ◌⊎◌, ℕ, ◌<◌, ◌≤◌, Bool, true, false, List, [], ◌∷◌, ◌++◌, length, take, Option, Some, None, refl, sym, ap, ◌∙◌, subst, rw, true≢false}
+use Rattle.std.proofs.Common.{inl, inr, ◌≡◌, ◌⊎◌, ℕ, ◌<◌, ◌≤◌, Bool, true, false, List, [], ◌∷◌, ◌++◌, length, take, Option, Some, None, refl, sym, ap, ◌∙◌, subst, true≢false}
 use Rattle.iss_disk.specs.Calls.{IfTold, Room}
 use Rattle.iss_disk.specs.File.{File}
 use Rattle.iss_journal.specs.Frames.{Reads, holds, max_entry}
@@ -27,7 +27,7 @@ use Rattle.iss_sb.specs.Calls.{AreToNodes}
 use Rattle.iss_sb.specs.declared.effects.Params.{Params}
 use Rattle.iss_keep.specs.Cores.{core_after, core_of, core_with, step_of}
 use Rattle.iss_keep.specs.Entries.{event_in, spell_event}
-use Rattle.iss_keep.specs.State.{IsKept, KeptState, StandsFor, entries_in}
+use Rattle.iss_keep.specs.State.{IsKept, KeptState, StandsFor, state_over}
 use Rattle.iss_keep.specs.Steps.{IsDrop, IsTurn}
 use Rattle.iss_keep.proofs.CoreLemmas.{one-more}
 use Rattle.iss_keep.proofs.EntryLemmas.{spelled-read}
@@ -49,9 +49,9 @@ module _ {M Msg D : Type 0} (m : Module Msg) (stands : M → Params → ℕ → 
   not-both b P t f = absurd (true≢false (sym t ∙ f))
 
   -- one that has to be reopened
-  pub stale-kept : (v : KeptState M Msg D) → IsSetupOf m v.setup → v.me.0 < v.setup.n → directory ≡ keys_of v.setup → v.node.parts.setup ≡ v.setup → v.node.parts.me ≡ v.me →
-      IsSound history room v.journal → v.stale ≡ true → IsKept m stands history room directory v
-  stale-kept v good member keys cluster number sound stale = record {
+  pub stale-kept : (journal : Journal D) (v : KeptState M Msg D) → IsSetupOf m v.setup → v.me.0 < v.setup.n → directory ≡ keys_of v.setup → v.node.parts.setup ≡ v.setup → v.node.parts.me ≡ v.me →
+      IsSound history room journal → v.stale ≡ true → IsKept m stands history room directory journal v
+  stale-kept journal v good member keys cluster number sound stale = record {
     good = good;
     member = member;
     keys = keys;
@@ -64,10 +64,10 @@ module _ {M Msg D : Type 0} (m : Module Msg) (stands : M → Params → ℕ → 
   }
 
   -- one that stands for the core of its entries
-  pub fresh-kept : (v : KeptState M Msg D) (c : Core Msg) → IsSetupOf m v.setup → v.me.0 < v.setup.n → directory ≡ keys_of v.setup → v.node.parts.setup ≡ v.setup → v.node.parts.me ≡ v.me →
-      IsSound history room v.journal → is_attached v.journal ≡ true →
-      IfTold (history (disk_of v.journal)) (OnlyLeaves (λ bytes. Reads bytes (holds (entries_in v)))) → StandsFor m stands v c → IsKept m stands history room directory v
-  fresh-kept v c good member keys cluster number sound attached durable for = record {
+  pub fresh-kept : (journal : Journal D) (v : KeptState M Msg D) (c : Core Msg) → IsSetupOf m v.setup → v.me.0 < v.setup.n → directory ≡ keys_of v.setup →
+      v.node.parts.setup ≡ v.setup → v.node.parts.me ≡ v.me → IsSound history room journal → is_attached journal ≡ true →
+      IfTold (history v.disk) (OnlyLeaves (λ bytes. Reads bytes (holds v.entries))) → StandsFor m stands v c → IsKept m stands history room directory journal v
+  fresh-kept journal v c good member keys cluster number sound attached durable for = record {
     good = good;
     member = member;
     keys = keys;
@@ -84,12 +84,12 @@ module _ {M Msg D : Type 0} (m : Module Msg) (stands : M → Params → ℕ → 
   standing v (inl stale) fresh = not-both v.stale _ stale fresh
   standing v (inr h) fresh = h
 
-  pub its-core : (v : KeptState M Msg D) → IsKept m stands history room directory v → v.stale ≡ false → (c : Core Msg) × StandsFor m stands v c
-  its-core v kept fresh = standing v kept.kept fresh
+  pub its-core : (journal : Journal D) (v : KeptState M Msg D) → IsKept m stands history room directory journal v → v.stale ≡ false → (c : Core Msg) × StandsFor m stands v c
+  its-core journal v kept fresh = standing v kept.kept fresh
 
   -- ---- a step of its node
 
-  module _ (old : KeptState M Msg D) (kept : IsKept m stands history room directory old) (event : NodeEvent) (node : NodeState M Msg)
+  module _ (before : Journal D) (old : KeptState M Msg D) (kept : IsKept m stands history room directory before old) (event : NodeEvent) (node : NodeState M Msg)
       (setup : node.parts.setup ≡ old.node.parts.setup) (me : node.parts.me ≡ old.node.parts.me) where
     abbrev node_step : Core Msg → Stepped Msg
     node_step c = step (formats_of old.node.parts.setup m) (rules_of old.node.parts.setup) m old.node.parts.me.0 c event
@@ -105,13 +105,13 @@ module _ {M Msg D : Type 0} (m : Module Msg) (stands : M → Params → ℕ → 
 
       pub took-short : old.stale ≡ false → length (spell_event event) ≤ max_entry
       took-short fresh =
-          let h = its-core old kept fresh in
+          let h = its-core before old kept fresh in
           let a = answer h.0 h.1.node in
           taken-short old.node.parts.setup m good old.node.parts.me.0 h.0 event a.turn a.step_is
 
       took-on : old.stale ≡ false → GoesOn old.node.parts.log.entries node.parts.log.entries
       took-on fresh =
-          let h = its-core old kept fresh in
+          let h = its-core before old kept fresh in
           let a = answer h.0 h.1.node in
           taken-goes-on m stands old.node node h.0 event a.turn good h.1.node a.stands_for a.step_is setup me
 
@@ -123,21 +123,21 @@ module _ {M Msg D : Type 0} (m : Module Msg) (stands : M → Params → ℕ → 
 
       pub took-later : old.stale ≡ false → old.node.parts.epoch ≤ node.parts.epoch
       took-later fresh =
-          let h = its-core old kept fresh in
+          let h = its-core before old kept fresh in
           let a = answer h.0 h.1.node in
           taken-later m stands old.node node h.0 event a.turn good h.1.node a.stands_for a.step_is setup me
 
       -- with the event in its journal it stands for the core after the step
-      pub took-turn : (journal : Journal D) → entries_of journal ≡ entries_in old ++ spell_event event ∷ [] → (c : Core Msg) → StandsFor m stands old c →
-          IsTurn m stands (step_of old.setup m old.me.0 c event) (record { setup = old.setup; me = old.me; node = node; journal = journal; stale = old.stale }) outcome
+      pub took-turn : (journal : Journal D) → entries_of journal ≡ old.entries ++ spell_event event ∷ [] → (c : Core Msg) → StandsFor m stands old c →
+          IsTurn m stands (step_of old.setup m old.me.0 c event) (state_over old.setup old.me node journal old.stale) outcome
       took-turn journal entries c for =
           let a = answer c for.node in
           let is : step_of old.setup m old.me.0 c event ≡ Was_taken a.turn = sym (same-step c) ∙ a.step_is in
           let named = taken-named old.setup m kept.good old.me.0 c event a.turn is in
           let with_event : core_with old.setup m old.me.0 c (event_in old.setup.n (spell_event event)) ≡ Some a.turn.core =
               ap (λ (o : Option NodeEvent). core_with old.setup m old.me.0 c o) (spelled-read old.setup.n event named) ∙ ap core_after is in
-          let core : core_of old.setup m old.me.0 (entries_in old ++ spell_event event ∷ []) ≡ Some a.turn.core =
-              one-more old.setup m old.me.0 (entries_in old) (spell_event event) c a.turn.core for.core with_event in
+          let core : core_of old.setup m old.me.0 (old.entries ++ spell_event event ∷ []) ≡ Some a.turn.core =
+              one-more old.setup m old.me.0 (old.entries) (spell_event event) c a.turn.core for.core with_event in
           record {
             turn = a.turn;
             step_is = is;
@@ -151,8 +151,8 @@ module _ {M Msg D : Type 0} (m : Module Msg) (stands : M → Params → ℕ → 
           }
 
     module _ (why : Why) (answer : (c : Core Msg) → Stands m stands old.node c → Node_answers m stands c (node_step c) node (Node_drops why)) where
-      pub dropped-turn : (journal : Journal D) → entries_of journal ≡ entries_in old → (c : Core Msg) → StandsFor m stands old c →
-          IsDrop m stands c (step_of old.setup m old.me.0 c event) (record { setup = old.setup; me = old.me; node = node; journal = journal; stale = old.stale }) why
+      pub dropped-turn : (journal : Journal D) → entries_of journal ≡ old.entries → (c : Core Msg) → StandsFor m stands old c →
+          IsDrop m stands c (step_of old.setup m old.me.0 c event) (state_over old.setup old.me node journal old.stale) why
       dropped-turn journal entries c for =
           let a = answer c for.node in
           record {

@@ -1,5 +1,5 @@
 -- What is true of an event that a node took: its entry is short and read again, its leader is a node; the log goes on, and the epoch never falls.
-use Rattle.std.proofs.Common.{arith, ◌≡◌, ℕ, suc, ◌+◌, ◌<◌, ◌≤◌, true, List, [], ◌∷◌, ◌++◌, length, take, Option, Some, None, refl, sym, ap, ◌∙◌, subst, rw, length-append}
+use Rattle.std.proofs.Common.{arith, ◌≡◌, ℕ, suc, ◌+◌, ◌<◌, ◌≤◌, true, List, [], ◌∷◌, ◌++◌, length, take, Option, Some, None, refl, sym, ap, ◌∙◌, subst, length-append}
 use Rattle.std.proofs.lemmas.List.{reverse-append, reverse-reverse, take_at}
 use Rattle.std.specs.Prelude.{reverse}
 use Rattle.iss_base.specs.Lists.{Extends}
@@ -40,7 +40,7 @@ module _ {Msg : Type 0} (s : Setup) (m : Module Msg) where
   spelled-short : (p : Packet) (bytes : List ℕ) → parse_packet s.version s.n bytes ≡ Good p [] → length bytes ≤ 200000016
   spelled-short p bytes h =
       let t = (packet_table s.version s.n p bytes).0 h in
-      let l : length bytes ≡ 16 + length p.body = ap (λ (xs : List ℕ). length xs) t.3 in
+      let l : length bytes ≡ suc (suc (suc (suc (suc (suc (suc (suc (suc (suc (suc (suc (suc (suc (suc (suc (length p.body)))))))))))))))) = ap (λ (xs : List ℕ). length xs) t.3 in
       omega (arith, l, t.2)
 
   parsed-short : (bytes : List ℕ) (k : Parcel Msg) (o : Parsed Packet) → parse_packet s.version s.n bytes ≡ o → parcel_in m s.version (whole o) ≡ Some k → length bytes ≤ 200000016

@@ -21,31 +21,33 @@ pub record KeptState (M Msg D : Type 0) : Type 0 where
   pub setup : Setup
   pub me : NodeId
   pub node : NodeState M Msg
-  pub journal : Journal D
+  -- its journal: the disk below it, and its entries, the first appended first
+  pub disk : D
+  pub entries : List (List ℕ)
   -- it has to be reopened
   pub stale : Bool
 
--- the entries in its journal, the first appended first
-abbrev pub entries_in : {M Msg D : Type 0} → KeptState M Msg D → List (List ℕ)
-entries_in v = entries_of v.journal
+abbrev pub state_over : {M Msg D : Type 0} → Setup → NodeId → NodeState M Msg → Journal D → Bool → KeptState M Msg D
+state_over s me node journal stale =
+    record { setup = s; me = me; node = node; disk = disk_of journal; entries = entries_of journal; stale = stale }
 
 -- It stands for the core of the entries in its journal, the next leaf included.
 pub record StandsFor {M Msg D : Type 0} (m : Module Msg) (stands : M → Params → ℕ → List (Item Msg) → Type 0)
     (v : KeptState M Msg D) (c : Core Msg) : Type 0 where
   pub fresh : v.stale ≡ false
   pub node : Stands m stands v.node c
-  pub core : core_of v.setup m v.me.0 (entries_in v) ≡ Some c
+  pub core : core_of v.setup m v.me.0 v.entries ≡ Some c
 
 -- What holds of each: it is of a cluster, its journal is sound, and it is stale, or stands for the core of its entries, which every
 -- crash leaves.
 pub record IsKept {M Msg D : Type 0} (m : Module Msg) (stands : M → Params → ℕ → List (Item Msg) → Type 0)
-    (history : D → List File) (room : D → Room) (directory : DirectoryView) (v : KeptState M Msg D) : Type 0 where
+    (history : D → List File) (room : D → Room) (directory : DirectoryView) (journal : Journal D) (v : KeptState M Msg D) : Type 0 where
   pub good : IsSetupOf m v.setup
   pub member : v.me.0 < v.setup.n
   pub keys : directory ≡ keys_of v.setup
   pub cluster : v.node.parts.setup ≡ v.setup
   pub number : v.node.parts.me ≡ v.me
-  pub sound : IsSound history room v.journal
-  pub attached : v.stale ≡ false → is_attached v.journal ≡ true
-  pub durable : v.stale ≡ false → IfTold (history (disk_of v.journal)) (OnlyLeaves (λ bytes. Reads bytes (holds (entries_in v))))
+  pub sound : IsSound history room journal
+  pub attached : v.stale ≡ false → is_attached journal ≡ true
+  pub durable : v.stale ≡ false → IfTold (history v.disk) (OnlyLeaves (λ bytes. Reads bytes (holds v.entries)))
   pub kept : (v.stale ≡ true) ⊎ ((c : Core Msg) × StandsFor m stands v c)

@@ -3,10 +3,9 @@ ghost use Rattle.std.specs.Prelude.{◌≡◌, ◌<◌, ◌≤◌, ◌↔◌, �
 ghost use Rattle.iss_disk.specs.Calls.{HasCause, IfTold, Restarts, Stays, StaysHere, script, up_to};
 ghost use Rattle.iss_journal.specs.Frames.{Reads, holds};
 ghost use Rattle.iss_journal.specs.Promises.{ComesToRest, LosesNothing, OnlyLeaves, Works};
-ghost use Rattle.iss_journal.specs.Sound.{disk_of, entries_of};
 ghost use Rattle.iss_keep.specs.Cores.{step_of};
 ghost use Rattle.iss_keep.specs.Entries.{spell_event};
-ghost use Rattle.iss_keep.specs.State.{StandsFor, entries_in};
+ghost use Rattle.iss_keep.specs.State.{StandsFor};
 ghost use Rattle.iss_keep.specs.Steps.{Calls, IsAnswer, IsDamaged, IsSame, ShowsAsBefore, Writes, entries_after, makes_stale};
 ghost use Rattle.iss_keys.specs.Directories.{directory_of};
 ghost use Rattle.iss_model.specs.Concrete.{keys_of};
@@ -41,14 +40,14 @@ pub struct Kept<M: Sequenced, D: Disk> {
 }
 
 impl<M: Sequenced, D: Disk> Model for Kept<M, D> {
-    ghost use Rattle.iss_keep.specs.State.{IsKept, KeptState};
+    ghost use Rattle.iss_keep.specs.State.{IsKept, KeptState, state_over};
 
     ghost Value = { KeptState M M.Msg D };
 
-    ghost view = { λ v. record { setup = v.setup; me = v.me; node = v.node; journal = v.journal; stale = v.stale } };
+    ghost view = { λ v. state_over v.setup v.me v.node v.journal v.stale };
 
-    ghost invariant = { λ v. IsKept M.meaning M.stands D.history D.room v.directory
-        (record { setup = v.setup; me = v.me; node = v.node; journal = v.journal; stale = v.stale }) };
+    ghost invariant = { λ v. IsKept M.meaning M.stands D.history D.room v.directory v.journal
+        (state_over v.setup v.me v.node v.journal v.stale) };
 }
 
 impl<M: Sequenced, D: Disk + Drop> Kept<M, D> {
@@ -66,7 +65,7 @@ impl<M: Sequenced, D: Disk + Drop> Kept<M, D> {
         requires me { me.0 < setup.now.n }
         ensures same { IfOk result (λ v. (v.setup ≡ setup.now) × (v.me ≡ me)) }
         ensures stale { IfOk result (λ v. v.stale ≡ true) }
-        ensures journal { IfOk result (λ v. (disk_of v.journal ≡ disk) × (entries_in v ≡ [])) }
+        ensures journal { IfOk result (λ v. (v.disk ≡ disk) × (v.entries ≡ [])) }
         ensures shown { IfOk result (λ v. (v.node.parts.log.entries ≡ []) × (v.node.parts.epoch ≡ 0)) }
     {
         let node = start_fresh(alloc, setup, directory, me)?;
@@ -91,15 +90,15 @@ impl<M: Sequenced, D: Disk> Kept<M, D> {
             IsAnswer M.meaning M.stands c (step_of self.old.setup M.meaning self.old.me.0 c event) self.new result }
         ensures refused { (result ≡ Answer.Stale) ↔ (self.old.stale ≡ true) }
         ensures stale { self.new.stale ≡ makes_stale result }
-        ensures entries { entries_in self.new ≡ entries_after (entries_in self.old) (spell_event event) result }
-        ensures disk { Writes (entries_in self.old) (spell_event event) (D.history (disk_of self.old.journal))
-            (D.history (disk_of self.new.journal)) result }
+        ensures entries { self.new.entries ≡ entries_after self.old.entries (spell_event event) result }
+        ensures disk { Writes self.old.entries (spell_event event) (D.history self.old.disk)
+            (D.history self.new.disk) result }
         ensures durable { self.new.stale ≡ false →
-            IfTold (D.history (disk_of self.new.journal)) (OnlyLeaves (λ bytes. Reads bytes (holds (entries_in self.new)))) }
-        ensures device { Calls (D.passes (disk_of self.old.journal)) (D.passes (disk_of self.new.journal)) result }
-        ensures cause { HasCause (D.faults (disk_of self.old.journal)) (D.faults (disk_of self.new.journal)) (result ≡ Answer.Failed) }
-        ensures others { StaysHere (D.current (disk_of self.old.journal)) (D.current (disk_of self.new.journal))
-            (D.files (disk_of self.old.journal)) (D.files (disk_of self.new.journal)) }
+            IfTold (D.history self.new.disk) (OnlyLeaves (λ bytes. Reads bytes (holds self.new.entries))) }
+        ensures device { Calls (D.passes self.old.disk) (D.passes self.new.disk) result }
+        ensures cause { HasCause (D.faults self.old.disk) (D.faults self.new.disk) (result ≡ Answer.Failed) }
+        ensures others { StaysHere (D.current self.old.disk) (D.current self.new.disk)
+            (D.files self.old.disk) (D.files self.new.disk) }
         ensures shown { self.new.stale ≡ true → ShowsAsBefore self.old self.new }
         ensures same { IsSame self.old self.new }
     {
@@ -138,17 +137,17 @@ impl<M: Sequenced, D: Disk> Kept<M, D> {
     pub fn reopen(&mut self) -> Result<(), AttachError>
         ensures stale { self.new.stale ≡ not (is_ok result) }
         ensures core { OnOk result ((c : Core M.Msg) × StandsFor M.meaning M.stands self.new c) }
-        ensures entries { OnOk result (IfTold (D.history (disk_of self.old.journal)) (λ file. Reads file.content (holds (entries_in self.new)))) }
+        ensures entries { OnOk result (IfTold (D.history self.old.disk) (λ file. Reads file.content (holds self.new.entries))) }
         ensures damaged { (at : ℕ) → IsErrOf result (AttachError.Damaged at) →
-            IsDamaged self.old.setup M.meaning self.old.me.0 (entries_in self.new) (D.history (disk_of self.old.journal)) at }
-        ensures file { OnOk result (IfTold (D.history (disk_of self.old.journal)) (λ before.
-            IfTold (D.history (disk_of self.new.journal)) (ComesToRest (entries_in self.new) before.content))) }
-        ensures durable { OnOk result (IfTold (D.history (disk_of self.new.journal)) (OnlyLeaves (λ bytes. Reads bytes (holds (entries_in self.new))))) }
-        ensures any_moment { LosesNothing (D.history (disk_of self.old.journal)) (D.history (disk_of self.new.journal)) }
-        ensures cause { HasCause (D.faults (disk_of self.old.journal)) (D.faults (disk_of self.new.journal)) (IsErrOf result AttachError.Failed) }
-        ensures works { Works (D.passes (disk_of self.old.journal)) (D.passes (disk_of self.new.journal)) (IsErrOf result AttachError.Failed) }
-        ensures others { StaysHere (D.current (disk_of self.old.journal)) (D.current (disk_of self.new.journal))
-            (D.files (disk_of self.old.journal)) (D.files (disk_of self.new.journal)) }
+            IsDamaged self.old.setup M.meaning self.old.me.0 self.new.entries (D.history self.old.disk) at }
+        ensures file { OnOk result (IfTold (D.history self.old.disk) (λ before.
+            IfTold (D.history self.new.disk) (ComesToRest self.new.entries before.content))) }
+        ensures durable { OnOk result (IfTold (D.history self.new.disk) (OnlyLeaves (λ bytes. Reads bytes (holds self.new.entries)))) }
+        ensures any_moment { LosesNothing (D.history self.old.disk) (D.history self.new.disk) }
+        ensures cause { HasCause (D.faults self.old.disk) (D.faults self.new.disk) (IsErrOf result AttachError.Failed) }
+        ensures works { Works (D.passes self.old.disk) (D.passes self.new.disk) (IsErrOf result AttachError.Failed) }
+        ensures others { StaysHere (D.current self.old.disk) (D.current self.new.disk)
+            (D.files self.old.disk) (D.files self.new.disk) }
         ensures shown { OnErr result (ShowsAsBefore self.old self.new) }
         ensures same { IsSame self.old self.new }
     {
@@ -173,7 +172,7 @@ impl<M: Sequenced, D: Disk> Kept<M, D> {
         ensures stale { self.new.stale ≡ true }
         ensures log { self.new.node.parts.log.entries ≡ take slots self.old.node.parts.log.entries }
         ensures epoch { self.new.node.parts.epoch ≡ epoch.0 }
-        ensures journal { self.new.journal ≡ self.old.journal }
+        ensures journal { (self.new.disk ≡ self.old.disk) × (self.new.entries ≡ self.old.entries) }
         ensures same { IsSame self.old self.new }
     {
         self.stale = true;
@@ -195,13 +194,13 @@ fn not_kept(error: EndError) -> Answer
 impl<M: Sequenced, D: Fused> Kept<M, D> {
     /// From now on that many calls of the disk pass, and all others fail.
     pub fn fuse(&mut self, calls: u64)
-        ensures passes { D.passes (disk_of self.new.journal) ≡ up_to calls }
+        ensures passes { D.passes self.new.disk ≡ up_to calls }
         ensures node { self.new.node ≡ self.old.node }
-        ensures entries { entries_in self.new ≡ entries_in self.old }
+        ensures entries { self.new.entries ≡ self.old.entries }
         ensures stale { self.new.stale ≡ self.old.stale }
-        ensures files { Stays (D.current (disk_of self.old.journal)) (D.current (disk_of self.new.journal))
-            (D.files (disk_of self.old.journal)) (D.files (disk_of self.new.journal)) }
-        ensures faults { D.faults (disk_of self.new.journal) ≡ D.faults (disk_of self.old.journal) }
+        ensures files { Stays (D.current self.old.disk) (D.current self.new.disk)
+            (D.files self.old.disk) (D.files self.new.disk) }
+        ensures faults { D.faults self.new.disk ≡ D.faults self.old.disk }
         ensures same { IsSame self.old self.new }
     {
         self.journal.fuse(calls);
@@ -209,12 +208,12 @@ impl<M: Sequenced, D: Fused> Kept<M, D> {
 
     /// Leaves of the disk what was synced, and ends the fuse. The node has to be reopened.
     pub fn restart(&mut self)
-        ensures files { (name : List ℕ) → Restarts (D.files (disk_of self.old.journal) name) (D.files (disk_of self.new.journal) name) }
-        ensures current { D.current (disk_of self.new.journal) ≡ D.current (disk_of self.old.journal) }
-        ensures passes { D.passes (disk_of self.new.journal) ≡ script [] }
-        ensures faults { D.faults (disk_of self.new.journal) ≡ D.faults (disk_of self.old.journal) }
+        ensures files { (name : List ℕ) → Restarts (D.files self.old.disk name) (D.files self.new.disk name) }
+        ensures current { D.current self.new.disk ≡ D.current self.old.disk }
+        ensures passes { D.passes self.new.disk ≡ script [] }
+        ensures faults { D.faults self.new.disk ≡ D.faults self.old.disk }
         ensures node { self.new.node ≡ self.old.node }
-        ensures entries { entries_in self.new ≡ entries_in self.old }
+        ensures entries { self.new.entries ≡ self.old.entries }
         ensures stale { self.new.stale ≡ true }
         ensures same { IsSame self.old self.new }
     {
