@@ -1,5 +1,5 @@
 -- What the calls of a kept node leave of it.
-use Rattle.std.proofs.Common.{inl, inr, ◌≡◌, ◌⊎◌, ℕ, ◌<◌, ◌≤◌, Bool, true, false, List, [], ◌∷◌, ◌++◌, length, take, Option, Some, None, refl, sym, ap, ◌∙◌, subst, true≢false}
+use Rattle.std.proofs.Common.{inl, inr, ◌≡◌, ◌⊎◌, ◌↔◌, ℕ, ◌<◌, ◌≤◌, Bool, true, false, List, [], ◌∷◌, ◌++◌, length, take, Option, Some, None, refl, sym, ap, ◌∙◌, subst, true≢false}
 use Rattle.iss_disk.specs.Calls.{IfTold, Room}
 use Rattle.iss_disk.specs.File.{File}
 use Rattle.iss_journal.specs.Frames.{Reads, holds, max_entry}
@@ -28,7 +28,11 @@ use Rattle.iss_sb.specs.declared.effects.Params.{Params}
 use Rattle.iss_keep.specs.Cores.{core_after, core_of, core_with, step_of}
 use Rattle.iss_keep.specs.Entries.{event_in, spell_event}
 use Rattle.iss_keep.specs.State.{IsKept, KeptState, StandsFor, state_over}
-use Rattle.iss_keep.specs.Steps.{IsDrop, IsTurn}
+use Rattle.iss_keep.specs.Keeping.{HasStepped}
+use Rattle.iss_keep.specs.Replays.{IsOf, IsReplayed}
+use Rattle.iss_keep.specs.Steps.{IsAnswer, IsDrop, IsTurn, ShowsAsBefore, Writes, entries_after, makes_stale}
+use Rattle.iss_keep.specs.declared.answers.Answer.{Answer}
+use Rattle.iss_keep.specs.declared.answers.Answer.TheVariants.{Dropped, Failed, NoMemory, Stale, Taken}
 use Rattle.iss_keep.proofs.CoreLemmas.{one-more}
 use Rattle.iss_keep.proofs.EntryLemmas.{spelled-read}
 use Rattle.iss_keep.proofs.TakenLemmas.{log-cut, log-long, taken-goes-on, taken-later, taken-named, taken-short}
@@ -129,7 +133,7 @@ module _ {M Msg D : Type 0} (m : Module Msg) (stands : M → Params → ℕ → 
 
       -- with the event in its journal it stands for the core after the step
       pub took-turn : (journal : Journal D) → entries_of journal ≡ old.entries ++ spell_event event ∷ [] → (c : Core Msg) → StandsFor m stands old c →
-          IsTurn m stands (step_of old.setup m old.me.0 c event) (state_over old.setup old.me node journal old.stale) outcome
+          IsTurn m stands (step_of old.setup m old.me.0 c event) (state_over old.setup old.me node journal false) outcome
       took-turn journal entries c for =
           let a = answer c for.node in
           let is : step_of old.setup m old.me.0 c event ≡ Was_taken a.turn = sym (same-step c) ∙ a.step_is in
@@ -142,7 +146,7 @@ module _ {M Msg D : Type 0} (m : Module Msg) (stands : M → Params → ℕ → 
             turn = a.turn;
             step_is = is;
             stands_for = record {
-              fresh = for.fresh;
+              fresh = refl;
               node = a.stands_for;
               core = subst (λ (es : List (List ℕ)). core_of old.setup m old.me.0 es ≡ Some a.turn.core) (sym entries) core;
             };
@@ -152,14 +156,94 @@ module _ {M Msg D : Type 0} (m : Module Msg) (stands : M → Params → ℕ → 
 
     module _ (why : Why) (answer : (c : Core Msg) → Stands m stands old.node c → Node_answers m stands c (node_step c) node (Node_drops why)) where
       pub dropped-turn : (journal : Journal D) → entries_of journal ≡ old.entries → (c : Core Msg) → StandsFor m stands old c →
-          IsDrop m stands c (step_of old.setup m old.me.0 c event) (state_over old.setup old.me node journal old.stale) why
+          IsDrop m stands c (step_of old.setup m old.me.0 c event) (state_over old.setup old.me node journal false) why
       dropped-turn journal entries c for =
           let a = answer c for.node in
           record {
             step_is = sym (same-step c) ∙ a.step_is;
             stands_for = record {
-              fresh = for.fresh;
+              fresh = refl;
               node = a.stands_for;
               core = subst (λ (es : List (List ℕ)). core_of old.setup m old.me.0 es ≡ Some c) (sym entries) for.core;
             };
           }
+
+    -- ---- what the whole call leaves, where the node was not stale
+
+    module _ (fresh : old.stale ≡ false) (journal : Journal D) where
+      abbrev left : Answer → KeptState M Msg D
+      left answer = state_over old.setup old.me node journal (makes_stale answer)
+
+      pub answers : (answer : Answer) → HasStepped m stands event old.node node answer → entries_of journal ≡ entries_after old.entries (spell_event event) answer →
+          (c : Core Msg) → StandsFor m stands old c → IsAnswer m stands c (step_of old.setup m old.me.0 c event) (left answer) answer
+      answers (Taken outcome) stepped added c for = took-turn outcome stepped journal added c for
+      answers (Dropped why) stepped added c for = dropped-turn why stepped journal added c for
+      answers Failed stepped added c for = tt
+      answers Stale stepped added c for = stepped
+      answers NoMemory stepped added c for = tt
+
+      pub shows : (answer : Answer) → HasStepped m stands event old.node node answer → makes_stale answer ≡ true → ShowsAsBefore old (left answer)
+      shows (Taken outcome) stepped stale = absurd (true≢false (sym stale))
+      shows (Dropped why) stepped stale = absurd (true≢false (sym stale))
+      shows Failed stepped stale = record { log = stepped.log; epoch = stepped.epoch }
+      shows Stale stepped stale = absurd stepped
+      shows NoMemory stepped stale = record { log = stepped.log; epoch = stepped.epoch }
+
+      not-refused : (answer : Answer) → HasStepped m stands event old.node node answer → answer ≡ Stale → ⊥
+      not-refused answer stepped is = let h : HasStepped m stands event old.node node Stale = subst (λ (a : Answer). HasStepped m stands event old.node node a) is stepped in h
+
+      pub refused : (answer : Answer) → HasStepped m stands event old.node node answer → (answer ≡ Stale) ↔ (old.stale ≡ true)
+      refused answer stepped = (λ is. absurd (not-refused answer stepped is), λ stale. not-both old.stale _ stale fresh)
+
+      fresh-after : (c : Core Msg) → IsSound history room journal → is_attached journal ≡ true →
+          IfTold (history (disk_of journal)) (OnlyLeaves (λ bytes. Reads bytes (holds (entries_of journal)))) → StandsFor m stands (state_over old.setup old.me node journal false) c →
+          IsKept m stands history room directory journal (state_over old.setup old.me node journal false)
+      fresh-after c sound attached durable for =
+          fresh-kept journal (state_over old.setup old.me node journal false) c kept.good kept.member kept.keys (setup ∙ kept.cluster) (me ∙ kept.number) sound attached durable for
+
+      stale-after : IsSound history room journal → IsKept m stands history room directory journal (state_over old.setup old.me node journal true)
+      stale-after sound =
+          stale-kept journal (state_over old.setup old.me node journal true) kept.good kept.member kept.keys (setup ∙ kept.cluster) (me ∙ kept.number) sound refl
+
+      durable-with : (es : List (List ℕ)) → entries_of journal ≡ es → IfTold (history (disk_of journal)) (OnlyLeaves (λ bytes. Reads bytes (holds es))) →
+          IfTold (history (disk_of journal)) (OnlyLeaves (λ bytes. Reads bytes (holds (entries_of journal))))
+      durable-with es added told =
+          subst (λ (xs : List (List ℕ)). IfTold (history (disk_of journal)) (OnlyLeaves (λ bytes. Reads bytes (holds xs)))) (sym added) told
+
+      pub kept-after : (answer : Answer) → HasStepped m stands event old.node node answer → entries_of journal ≡ entries_after old.entries (spell_event event) answer →
+          Writes old.entries (spell_event event) (history old.disk) (history (disk_of journal)) answer → IsSound history room journal →
+          (makes_stale answer ≡ false → is_attached journal ≡ true) → IsKept m stands history room directory journal (left answer)
+      kept-after (Taken outcome) stepped added wrote sound attached =
+          let h = its-core before old kept fresh in
+          let t = took-turn outcome stepped journal added h.0 h.1 in
+          fresh-after t.turn.core sound (attached refl) (durable-with (old.entries ++ spell_event event ∷ []) added wrote.1) t.stands_for
+      kept-after (Dropped why) stepped added wrote sound attached =
+          let h = its-core before old kept fresh in
+          let told : IfTold (history (disk_of journal)) (OnlyLeaves (λ bytes. Reads bytes (holds old.entries))) =
+              subst (λ (f : List File). IfTold f (OnlyLeaves (λ bytes. Reads bytes (holds old.entries)))) (sym wrote) (kept.durable fresh) in
+          fresh-after h.0 sound (attached refl) (durable-with old.entries added told) (dropped-turn why stepped journal added h.0 h.1).stands_for
+      kept-after Failed stepped added wrote sound attached = stale-after sound
+      kept-after Stale stepped added wrote sound attached = stale-after sound
+      kept-after NoMemory stepped added wrote sound attached = stale-after sound
+
+  -- ---- what is asked of a step
+
+  module _ (before : Journal D) (v : KeptState M Msg D) (kept : IsKept m stands history room directory before v) (fresh : v.stale ≡ false) where
+    pub of-cluster : IsSetupOf m v.node.parts.setup
+    of-cluster = subst (λ (s : Setup). IsSetupOf m s) (sym kept.cluster) kept.good
+
+    pub some-core : (c : Core Msg) × Stands m stands v.node c
+    some-core = let h = its-core before v kept fresh in (h.0, h.1.node)
+
+  -- ---- reopening
+
+  module _ (journal : Journal D) (s : Setup) (i : NodeId) (node : NodeState M Msg) (good : IsSetupOf m s) (member : i.0 < s.n) (keys : directory ≡ keys_of s)
+      (sound : IsSound history room journal) where
+    pub reopened-core : IsReplayed s m stands i.0 (entries_of journal) node → (c : Core Msg) × StandsFor m stands (state_over s i node journal false) c
+    reopened-core h = (h.0, record { fresh = refl; node = h.1; core = h.2 })
+
+    pub reopened-kept : IsReplayed s m stands i.0 (entries_of journal) node → IsOf s i node → is_attached journal ≡ true →
+        IfTold (history (disk_of journal)) (OnlyLeaves (λ bytes. Reads bytes (holds (entries_of journal)))) →
+        IsKept m stands history room directory journal (state_over s i node journal false)
+    reopened-kept h of attached durable =
+        fresh-kept journal (state_over s i node journal false) h.0 good member keys of.cluster of.number sound attached durable (reopened-core h).1

@@ -1,6 +1,7 @@
 pub mod CoreLemmas
 pub mod EntryLemmas
 pub mod KeptLemmas
+pub mod LeafLemmas
 pub mod ReplayLemmas
 pub mod TakenLemmas
 pub mod WriteLemmas

@@ -1,9 +1,9 @@
 -- What a kept node answers.
 use Rattle.std.specs.Prelude.{◌≡◌, ◌⊎◌, ℕ, Bool, true, false, List, [], ◌∷◌, ◌++◌}
-use Rattle.iss_disk.specs.Calls.{IfTold, Passes, Runs}
+use Rattle.iss_disk.specs.Calls.{HasCause, IfTold, Passes, Runs, StaysHere}
 use Rattle.iss_disk.specs.File.{File}
 use Rattle.iss_journal.specs.Frames.{Reads, damaged, holds}
-use Rattle.iss_journal.specs.Promises.{HoldsWithOrWithout, LeavesOnly, OnlyLeaves}
+use Rattle.iss_journal.specs.Promises.{ComesToRest, HoldsWithOrWithout, LeavesOnly, LosesNothing, OnlyLeaves, Works}
 use Rattle.iss_model.specs.Node.{Core, Dropped as Not_taken, Stepped, Taken as Was_taken, Turn}
 use Rattle.iss_model.specs.declared.causes.NodeEvent.{NodeEvent}
 use Rattle.iss_model.specs.declared.causes.Why.{Why}
@@ -51,6 +51,20 @@ makes_stale Failed = true
 makes_stale Stale = true
 makes_stale NoMemory = true
 
+-- ---- what an answer leaves on the disk
+
+-- what is seen of a disk: the states of its file, the calls to come, how often it failed, and its files, of which this is the current one
+pub record Sight : Type 0 where
+  pub history : List File
+  pub passes : Passes
+  pub faults : ℕ
+  pub current : List ℕ
+  pub files : List ℕ → List File
+
+abbrev pub sight : {D : Type 0} → (D → List File) → (D → Passes) → (D → ℕ) → (D → List ℕ) → (D → List ℕ → List File) → D → Sight
+sight history passes faults current files disk =
+    record { history = history disk; passes = passes disk; faults = faults disk; current = current disk; files = files disk }
+
 -- the entries of its journal after an answer to an event with this entry
 abbrev pub entries_after : List (List ℕ) → List ℕ → Answer → List (List ℕ)
 entries_after entries entry (Taken outcome) = entries ++ entry ∷ []
@@ -78,6 +92,37 @@ Calls before now Failed = Runs 4 before now false
 Calls before now Stale = now ≡ before
 Calls before now NoMemory = now ≡ before
 
+-- What an answer says of the journal, which has these entries later, and of its disk, for an event with this entry.
+pub record IsWritten (entries : List (List ℕ)) (entry : List ℕ) (before now : Sight) (later : List (List ℕ)) (answer : Answer) : Type 0 where
+  pub added : later ≡ entries_after entries entry answer
+  pub file : Writes entries entry before.history now.history answer
+  pub device : Calls before.passes now.passes answer
+  pub cause : HasCause before.faults now.faults (answer ≡ Failed)
+  pub others : StaysHere before.current now.current before.files now.files
+
+-- ---- reopening
+
+-- The journal was attached: it has the entries that the file held, which is at rest, and which every crash leaves from then on.
+pub record IsAttached (before now : Sight) (entries : List (List ℕ)) : Type 0 where
+  pub read : IfTold before.history (λ file. Reads file.content (holds entries))
+  pub rest : IfTold before.history (λ from. IfTold now.history (ComesToRest entries from.content))
+  pub durable : IfTold now.history (OnlyLeaves (λ bytes. Reads bytes (holds entries)))
+
+-- Whatever the answer was: a crash at any moment of the call lost no entry, and it failed only by a fault of the disk.
+pub record LosesNone (before now : Sight) (failed : Type 0) : Type 0 where
+  pub any_moment : LosesNothing before.history now.history
+  pub cause : HasCause before.faults now.faults failed
+  pub works : Works before.passes now.passes failed
+  pub others : StaysHere before.current now.current before.files now.files
+
+-- The file is damaged here, or its entries are all there, and the one behind this gate is none that a node takes.
+abbrev pub IsDamaged : {Msg : Type 0} → Setup → Module Msg → ℕ → List (List ℕ) → List File → ℕ → Type 0
+IsDamaged s m me entries before at =
+    IfTold before (λ file. Reads file.content (damaged at))
+    ⊎ (IfTold before (λ file. Reads file.content (holds entries)) × StopsAt s m me at entries)
+
+-- ---- what stays
+
 -- the log and the epoch that it shows are as they were
 pub record ShowsAsBefore {M Msg D : Type 0} (old new : KeptState M Msg D) : Type 0 where
   pub log : new.node.parts.log.entries ≡ old.node.parts.log.entries
@@ -87,9 +132,3 @@ pub record ShowsAsBefore {M Msg D : Type 0} (old new : KeptState M Msg D) : Type
 pub record IsSame {M Msg D : Type 0} (old new : KeptState M Msg D) : Type 0 where
   pub setup : new.setup ≡ old.setup
   pub me : new.me ≡ old.me
-
--- The file is damaged here, or its entries are all there, and the one behind this gate is none that a node takes.
-abbrev pub IsDamaged : {Msg : Type 0} → Setup → Module Msg → ℕ → List (List ℕ) → List File → ℕ → Type 0
-IsDamaged s m me entries before at =
-    IfTold before (λ file. Reads file.content (damaged at))
-    ⊎ (IfTold before (λ file. Reads file.content (holds entries)) × StopsAt s m me at entries)

@@ -16,3 +16,18 @@ pub enum Answer {
     /// There was no memory.
     NoMemory,
 }
+
+impl Answer {
+    ghost use Rattle.std.specs.Prelude.{◌≡◌};
+    ghost use Rattle.iss_keep.specs.Steps.{makes_stale};
+
+    // Whether the node has to be reopened after it.
+    pub(crate) fn makes_stale(&self) -> bool
+        ensures { result ≡ makes_stale self.now }
+    {
+        match self {
+            Answer::Taken(_) | Answer::Dropped(_) => false,
+            Answer::Failed | Answer::Stale | Answer::NoMemory => true,
+        }
+    }
+}

@@ -1,25 +1,21 @@
 //! A kept node.
 ghost use Rattle.std.specs.Prelude.{◌≡◌, ◌<◌, ◌≤◌, ◌↔◌, ℕ, [], List, true, false, not, take, is_ok, length, IfOk, OnOk, OnErr, IsErrOf};
-ghost use Rattle.iss_disk.specs.Calls.{HasCause, IfTold, Restarts, Stays, StaysHere, script, up_to};
-ghost use Rattle.iss_journal.specs.Frames.{Reads, holds};
-ghost use Rattle.iss_journal.specs.Promises.{ComesToRest, LosesNothing, OnlyLeaves, Works};
+ghost use Rattle.iss_disk.specs.Calls.{Restarts, Stays, script, up_to};
 ghost use Rattle.iss_keep.specs.Cores.{step_of};
 ghost use Rattle.iss_keep.specs.Entries.{spell_event};
 ghost use Rattle.iss_keep.specs.State.{StandsFor};
-ghost use Rattle.iss_keep.specs.Steps.{Calls, IsAnswer, IsDamaged, IsSame, ShowsAsBefore, Writes, entries_after, makes_stale};
-ghost use Rattle.iss_keys.specs.Directories.{directory_of};
+ghost use Rattle.iss_keep.specs.Steps.{IsAnswer, IsAttached, IsDamaged, IsSame, IsWritten, LosesNone, ShowsAsBefore, makes_stale, sight};
 ghost use Rattle.iss_model.specs.Concrete.{keys_of};
 ghost use Rattle.iss_model.specs.Node.{Core};
 ghost use Rattle.iss_model.specs.Runs.{IsSetupOf};
 
 use crate::answers::Answer;
-use crate::entries::encode_entry;
-use crate::reopening::{replay, start_fresh};
-use iss_disk::{Disk, EndError, Fused};
+use crate::keeping::keep;
+use crate::reopening::{open, start_fresh};
+use iss_disk::{Disk, Fused};
 use iss_journal::{AttachError, Journal};
 use iss_keys::SharedDirectory;
 use iss_model::NodeEvent;
-use iss_node::Answer as NodeAnswer;
 use iss_node::Node;
 use iss_request::{Epoch, NoMemory, NodeId, Setup};
 use iss_sb::Sequenced;
@@ -90,46 +86,17 @@ impl<M: Sequenced, D: Disk> Kept<M, D> {
             IsAnswer M.meaning M.stands c (step_of self.old.setup M.meaning self.old.me.0 c event) self.new result }
         ensures refused { (result ≡ Answer.Stale) ↔ (self.old.stale ≡ true) }
         ensures stale { self.new.stale ≡ makes_stale result }
-        ensures entries { self.new.entries ≡ entries_after self.old.entries (spell_event event) result }
-        ensures disk { Writes self.old.entries (spell_event event) (D.history self.old.disk)
-            (D.history self.new.disk) result }
-        ensures durable { self.new.stale ≡ false →
-            IfTold (D.history self.new.disk) (OnlyLeaves (λ bytes. Reads bytes (holds self.new.entries))) }
-        ensures device { Calls (D.passes self.old.disk) (D.passes self.new.disk) result }
-        ensures cause { HasCause (D.faults self.old.disk) (D.faults self.new.disk) (result ≡ Answer.Failed) }
-        ensures others { StaysHere (D.current self.old.disk) (D.current self.new.disk)
-            (D.files self.old.disk) (D.files self.new.disk) }
+        ensures written { IsWritten self.old.entries (spell_event event) (sight D.history D.passes D.faults D.current D.files self.old.disk)
+            (sight D.history D.passes D.faults D.current D.files self.new.disk) self.new.entries result }
         ensures shown { self.new.stale ≡ true → ShowsAsBefore self.old self.new }
         ensures same { IsSame self.old self.new }
     {
         if self.stale {
             return Answer::Stale;
         }
-        let Ok(entry) = encode_entry(self.alloc, &event) else {
-            self.stale = true;
-            return Answer::NoMemory;
-        };
-        if self.journal.reserve(entry.len() as u64).is_err() {
-            self.stale = true;
-            return Answer::NoMemory;
-        }
-        let slots = self.node.log().entries().len();
-        let epoch = self.node.epoch();
-        match self.node.take(self.alloc, event) {
-            NodeAnswer::Taken(outcome) => match self.journal.append(&entry) {
-                Ok(()) => Answer::Taken(outcome),
-                Err(error) => {
-                    self.stale = true;
-                    self.node.retreat(slots, epoch);
-                    not_kept(error)
-                }
-            },
-            NodeAnswer::Dropped(why) => Answer::Dropped(why),
-            NodeAnswer::NoMemory | NodeAnswer::Stale => {
-                self.stale = true;
-                Answer::NoMemory
-            }
-        }
+        let answer = keep(self.alloc, &mut self.node, &mut self.journal, event);
+        self.stale = answer.makes_stale();
+        answer
     }
 
     /// Makes the node anew from the entries of the journal. `Damaged` comes where the file is damaged, and where an entry is no event
@@ -137,25 +104,24 @@ impl<M: Sequenced, D: Disk> Kept<M, D> {
     pub fn reopen(&mut self) -> Result<(), AttachError>
         ensures stale { self.new.stale ≡ not (is_ok result) }
         ensures core { OnOk result ((c : Core M.Msg) × StandsFor M.meaning M.stands self.new c) }
-        ensures entries { OnOk result (IfTold (D.history self.old.disk) (λ file. Reads file.content (holds self.new.entries))) }
+        ensures attached { OnOk result (IsAttached (sight D.history D.passes D.faults D.current D.files self.old.disk)
+            (sight D.history D.passes D.faults D.current D.files self.new.disk) self.new.entries) }
         ensures damaged { (at : ℕ) → IsErrOf result (AttachError.Damaged at) →
             IsDamaged self.old.setup M.meaning self.old.me.0 self.new.entries (D.history self.old.disk) at }
-        ensures file { OnOk result (IfTold (D.history self.old.disk) (λ before.
-            IfTold (D.history self.new.disk) (ComesToRest self.new.entries before.content))) }
-        ensures durable { OnOk result (IfTold (D.history self.new.disk) (OnlyLeaves (λ bytes. Reads bytes (holds self.new.entries)))) }
-        ensures any_moment { LosesNothing (D.history self.old.disk) (D.history self.new.disk) }
-        ensures cause { HasCause (D.faults self.old.disk) (D.faults self.new.disk) (IsErrOf result AttachError.Failed) }
-        ensures works { Works (D.passes self.old.disk) (D.passes self.new.disk) (IsErrOf result AttachError.Failed) }
-        ensures others { StaysHere (D.current self.old.disk) (D.current self.new.disk)
-            (D.files self.old.disk) (D.files self.new.disk) }
+        ensures loses { LosesNone (sight D.history D.passes D.faults D.current D.files self.old.disk)
+            (sight D.history D.passes D.faults D.current D.files self.new.disk) (IsErrOf result AttachError.Failed) }
         ensures shown { OnErr result (ShowsAsBefore self.old self.new) }
         ensures same { IsSame self.old self.new }
     {
         self.stale = true;
-        self.journal.attach()?;
-        self.node = replay(self.alloc, &self.setup, &self.directory, self.me, &self.journal)?;
-        self.stale = false;
-        Ok(())
+        match open(self.alloc, &self.setup, &self.directory, self.me, &mut self.journal) {
+            Ok(node) => {
+                self.node = node;
+                self.stale = false;
+                Ok(())
+            }
+            Err(error) => Err(error),
+        }
     }
 
     /// Whether it has to be reopened: at first, and after `Failed`, `NoMemory`, a restart, a retreat or a refused `reopen`.
@@ -177,17 +143,6 @@ impl<M: Sequenced, D: Disk> Kept<M, D> {
     {
         self.stale = true;
         self.node.retreat(slots, epoch);
-    }
-}
-
-// What a failed append is answered by.
-fn not_kept(error: EndError) -> Answer
-    ensures failed { error ≡ EndError.Failed → result ≡ Answer.Failed }
-    ensures no_memory { error ≡ EndError.NoMemory → result ≡ Answer.NoMemory }
-{
-    match error {
-        EndError::Failed => Answer::Failed,
-        EndError::NoMemory => Answer::NoMemory,
     }
 }
 

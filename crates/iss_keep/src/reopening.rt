@@ -1,8 +1,9 @@
 // A node made anew from the entries of its journal.
-ghost use Rattle.std.specs.Prelude.{◌≡◌, ◌<◌, ℕ, IfOk, IsErrOf};
-ghost use Rattle.iss_journal.specs.Sound.{entries_of};
+ghost use Rattle.std.specs.Prelude.{◌≡◌, ◌<◌, ℕ, true, IfOk, IsErrOf, OnOk};
+ghost use Rattle.iss_journal.specs.Sound.{IsSound, disk_of, entries_of, is_attached};
 ghost use Rattle.iss_keep.specs.Cores.{StopsAt};
-ghost use Rattle.iss_keep.specs.Replays.{GoesTo, IsReplayed};
+ghost use Rattle.iss_keep.specs.Replays.{GoesTo, IsOf, IsReplayed};
+ghost use Rattle.iss_keep.specs.Steps.{IsAttached, IsDamaged, LosesNone, sight};
 ghost use Rattle.iss_model.specs.Concrete.{keys_of};
 ghost use Rattle.iss_model.specs.Node.{Core, idle};
 ghost use Rattle.iss_model.specs.Runs.{IsSetupOf};
@@ -52,12 +53,13 @@ fn replay_entry<M: Sequenced>(
     match node.take(alloc, event) {
         Answer::Taken(_outcome) => Ok(true),
         Answer::Dropped(_why) => Ok(false),
-        Answer::NoMemory | Answer::Stale => Err(NoMemory),
+        Answer::NoMemory => Err(NoMemory),
+        Answer::Stale => Err(NoMemory),
     }
 }
 
-/// The node that takes the entries in turn. `Damaged` names the gate of the first that is no event or would be dropped.
-pub(crate) fn replay<M: Sequenced, D: Disk>(
+// The node that takes the entries in turn. `Damaged` names the gate of the first that is no event or would be dropped.
+fn replay<M: Sequenced, D: Disk>(
     alloc: Global,
     setup: &Setup,
     directory: &SharedDirectory,
@@ -68,7 +70,7 @@ pub(crate) fn replay<M: Sequenced, D: Disk>(
     requires directory { directory.now ≡ keys_of setup.now }
     requires me { me.0 < setup.now.n }
     ensures stands { IfOk result (IsReplayed setup.now M.meaning M.stands me.0 (entries_of journal.now)) }
-    ensures same { IfOk result (λ node. (node.parts.setup ≡ setup.now) × (node.parts.me ≡ me)) }
+    ensures same { IfOk result (IsOf setup.now me) }
     ensures damaged { (at : ℕ) → IsErrOf result (AttachError.Damaged at) → StopsAt setup.now M.meaning me.0 at (entries_of journal.now) }
     ensures sound { IsErrOf result AttachError.Failed → ⊥ }
 {
@@ -88,4 +90,33 @@ pub(crate) fn replay<M: Sequenced, D: Disk>(
         }
     }
     Ok(node)
+}
+
+/// Attaches the journal, and makes a node anew from its entries.
+pub(crate) fn open<M: Sequenced, D: Disk>(
+    alloc: Global,
+    setup: &Setup,
+    directory: &SharedDirectory,
+    me: NodeId,
+    journal: &mut Journal<D>,
+) -> Result<Node<M>, AttachError>
+    requires good { IsSetupOf M.meaning setup.now }
+    requires directory { directory.now ≡ keys_of setup.now }
+    requires me { me.0 < setup.now.n }
+    requires sound { IsSound D.history D.room journal.old }
+    ensures stands { IfOk result (IsReplayed setup.now M.meaning M.stands me.0 (entries_of journal.new)) }
+    ensures same { IfOk result (IsOf setup.now me) }
+    ensures attached { OnOk result (IsAttached (sight D.history D.passes D.faults D.current D.files (disk_of journal.old))
+        (sight D.history D.passes D.faults D.current D.files (disk_of journal.new)) (entries_of journal.new)) }
+    ensures is_attached { OnOk result (is_attached journal.new ≡ true) }
+    ensures damaged { (at : ℕ) → IsErrOf result (AttachError.Damaged at) →
+        IsDamaged setup.now M.meaning me.0 (entries_of journal.new) (D.history (disk_of journal.old)) at }
+    ensures loses { LosesNone (sight D.history D.passes D.faults D.current D.files (disk_of journal.old))
+        (sight D.history D.passes D.faults D.current D.files (disk_of journal.new)) (IsErrOf result AttachError.Failed) }
+    ensures sound { IsSound D.history D.room journal.new }
+{
+    match journal.attach() {
+        Ok(()) => replay(alloc, setup, directory, me, journal),
+        Err(error) => Err(error),
+    }
 }
