@@ -2,14 +2,13 @@
 use Rattle.std.proofs.Common.{inl, inr, ◌≡◌, ◌⊎◌, ◌↔◌, ℕ, ◌<◌, ◌≤◌, Bool, true, false, List, [], ◌∷◌, ◌++◌, length, take, Option, Some, None, refl, sym, ap, ◌∙◌, subst, true≢false}
 use Rattle.iss_disk.specs.Calls.{IfTold, Room}
 use Rattle.iss_disk.specs.File.{File}
-use Rattle.iss_journal.specs.Frames.{Reads, holds, max_entry}
+use Rattle.iss_journal.specs.Frames.{Reads, holds}
 use Rattle.iss_journal.specs.Promises.{OnlyLeaves}
 use Rattle.iss_journal.specs.Sound.{IsSound, disk_of, entries_of, is_attached}
 use Rattle.iss_journal.specs.declared.journal.Journal.{Journal}
 use Rattle.iss_keys.specs.Directories.{AreKeysOf, DirectoryView, directory_of, node_secret}
 use Rattle.iss_keys.specs.KeyStates.{KeyState}
 use Rattle.iss_keys.proofs.DirectoryLemmas.{length-nodes}
-use Rattle.iss_log.specs.LogState.{GoesOn}
 use Rattle.iss_model.specs.Concrete.{keys_of, rules_of}
 use Rattle.iss_model.specs.Formats.{formats_of}
 use Rattle.iss_model.specs.Node.{Core, Stepped, Taken as Was_taken, Dropped as Not_taken, Turn, step}
@@ -35,7 +34,7 @@ use Rattle.iss_keep.specs.declared.answers.Answer.{Answer}
 use Rattle.iss_keep.specs.declared.answers.Answer.TheVariants.{Dropped, Failed, NoMemory, Stale, Taken}
 use Rattle.iss_keep.proofs.CoreLemmas.{one-more}
 use Rattle.iss_keep.proofs.EntryLemmas.{spelled-read}
-use Rattle.iss_keep.proofs.TakenLemmas.{log-cut, log-long, taken-goes-on, taken-later, taken-named, taken-short}
+use Rattle.iss_keep.proofs.TakenLemmas.{taken-named}
 
 -- a node's own keys, of which none is used
 pub own-number : (s : Setup) (i : ℕ) (d : DirectoryView) → d ≡ keys_of s → i < s.n → i < length d.nodes
@@ -104,33 +103,6 @@ module _ {M Msg D : Type 0} (m : Module Msg) (stands : M → Params → ℕ → 
         ∙ ap (λ (i : NodeId). step_of old.setup m i.0 c event) kept.number
 
     module _ (outcome : Outcome) (answer : (c : Core Msg) → Stands m stands old.node c → Node_answers m stands c (node_step c) node (Node_takes outcome)) where
-      good : IsSetupOf m old.node.parts.setup
-      good = subst (λ (s : Setup). IsSetupOf m s) (sym kept.cluster) kept.good
-
-      pub took-short : old.stale ≡ false → length (spell_event event) ≤ max_entry
-      took-short fresh =
-          let h = its-core before old kept fresh in
-          let a = answer h.0 h.1.node in
-          taken-short old.node.parts.setup m good old.node.parts.me.0 h.0 event a.turn a.step_is
-
-      took-on : old.stale ≡ false → GoesOn old.node.parts.log.entries node.parts.log.entries
-      took-on fresh =
-          let h = its-core before old kept fresh in
-          let a = answer h.0 h.1.node in
-          taken-goes-on m stands old.node node h.0 event a.turn good h.1.node a.stands_for a.step_is setup me
-
-      pub took-long : old.stale ≡ false → length old.node.parts.log.entries ≤ length node.parts.log.entries
-      took-long fresh = log-long old.node.parts.log.entries node.parts.log.entries (took-on fresh)
-
-      pub took-cut : old.stale ≡ false → take (length old.node.parts.log.entries) node.parts.log.entries ≡ old.node.parts.log.entries
-      took-cut fresh = log-cut old.node.parts.log.entries node.parts.log.entries (took-on fresh)
-
-      pub took-later : old.stale ≡ false → old.node.parts.epoch ≤ node.parts.epoch
-      took-later fresh =
-          let h = its-core before old kept fresh in
-          let a = answer h.0 h.1.node in
-          taken-later m stands old.node node h.0 event a.turn good h.1.node a.stands_for a.step_is setup me
-
       -- with the event in its journal it stands for the core after the step
       pub took-turn : (journal : Journal D) → entries_of journal ≡ old.entries ++ spell_event event ∷ [] → (c : Core Msg) → StandsFor m stands old c →
           IsTurn m stands (step_of old.setup m old.me.0 c event) (state_over old.setup old.me node journal false) outcome
@@ -245,5 +217,5 @@ module _ {M Msg D : Type 0} (m : Module Msg) (stands : M → Params → ℕ → 
     pub reopened-kept : IsReplayed s m stands i.0 (entries_of journal) node → IsOf s i node → is_attached journal ≡ true →
         IfTold (history (disk_of journal)) (OnlyLeaves (λ bytes. Reads bytes (holds (entries_of journal)))) →
         IsKept m stands history room directory journal (state_over s i node journal false)
-    reopened-kept h of attached durable =
-        fresh-kept journal (state_over s i node journal false) h.0 good member keys of.cluster of.number sound attached durable (reopened-core h).1
+    reopened-kept h own attached durable =
+        fresh-kept journal (state_over s i node journal false) h.0 good member keys own.cluster own.number sound attached durable (reopened-core h).1

@@ -3,5 +3,6 @@ pub mod EntryLemmas
 pub mod KeptLemmas
 pub mod LeafLemmas
 pub mod ReplayLemmas
+pub mod StepLemmas
 pub mod TakenLemmas
 pub mod WriteLemmas

@@ -1,9 +1,11 @@
 -- What an answer says of the journal and its disk.
-use Rattle.std.proofs.Common.{inl, inr, ◌≡◌, ◌≢◌, arith, ℕ, ◌≤◌, List, [], ◌∷◌, ◌++◌, refl, sym, ap, ◌∙◌, subst}
-use Rattle.iss_disk.specs.Calls.{HasCause, IfTold, Passes, Stays, StaysHere}
+use Rattle.std.proofs.Common.{inl, inr, ◌≡◌, ◌≢◌, arith, ℕ, ◌≤◌, List, [], ◌∷◌, ◌++◌, Result, Ok, Err, OnOk, refl, sym, ap, ◌∙◌, subst}
+use Rattle.iss_disk.specs.Calls.{HasCause, IfTold, Passes, Runs, Stays, StaysHere}
 use Rattle.iss_disk.specs.File.{File}
+use Rattle.iss_disk.specs.declared.errors.EndError.{EndError}
+use Rattle.iss_disk.specs.declared.errors.EndError.TheVariants.{Failed as Device_failed, NoMemory as No_room}
 use Rattle.iss_journal.specs.Frames.{Reads, damaged, holds}
-use Rattle.iss_journal.specs.Promises.{Works}
+use Rattle.iss_journal.specs.Promises.{HoldsWithOrWithout, LeavesOnly, OnlyLeaves}
 use Rattle.iss_model.specs.declared.causes.Why.{Why}
 use Rattle.iss_node.specs.declared.answers.Outcome.{Outcome}
 use Rattle.iss_request.specs.declared.setups.Setup.{Setup}
@@ -74,6 +76,40 @@ module _ (entries : List (List ℕ)) (entry : List ℕ) (here : Sight) where
     others = stay-here here.current here.current here.files here.files (stays-self here.current here.files);
   }
 
+-- ---- an append
+
+module _ (entries later : List (List ℕ)) (entry : List ℕ) (before now : Sight) (P : Type 0) (cause : HasCause before.faults now.faults P)
+    (others : StaysHere before.current now.current before.files now.files) where
+  pub written-taken : (outcome : Outcome) → later ≡ entries ++ entry ∷ [] → LeavesOnly (HoldsWithOrWithout entries entry) before.history now.history →
+      IfTold now.history (OnlyLeaves (λ bytes. Reads bytes (holds later))) → Runs 4 before.passes now.passes true →
+      IsWritten entries entry before now later (Taken outcome)
+  written-taken outcome added moments durable runs = record {
+    added = added;
+    file = (moments, subst (λ (es : List (List ℕ)). IfTold now.history (OnlyLeaves (λ bytes. Reads bytes (holds es)))) added durable);
+    device = runs;
+    cause = caused-by before.faults now.faults P (Taken outcome ≡ Failed) (λ q. absurd (taken-fails outcome q)) cause;
+    others = others;
+  }
+
+  pub written-failed : P → later ≡ entries → LeavesOnly (HoldsWithOrWithout entries entry) before.history now.history →
+      IfTold now.history (λ file. Reads file.kept (holds entries)) → Runs 4 before.passes now.passes false → IsWritten entries entry before now later Failed
+  written-failed failed same moments synced runs = record {
+    added = same;
+    file = (moments, synced);
+    device = runs;
+    cause = caused-by before.faults now.faults P (Failed ≡ Failed) (λ q. failed) cause;
+    others = others;
+  }
+
+  pub written-want : later ≡ entries → now.history ≡ before.history → now.passes ≡ before.passes → IsWritten entries entry before now later NoMemory
+  written-want same file calls = record {
+    added = same;
+    file = file;
+    device = calls;
+    cause = caused-by before.faults now.faults P (NoMemory ≡ Failed) (λ q. absurd (no-memory-fails q)) cause;
+    others = others;
+  }
+
 -- ---- after room was made, which changes nothing that is seen
 
 module _ (entries with_room later : List (List ℕ)) (entry same_entry : List ℕ) (before roomy now : Sight) (answer : Answer)
@@ -115,3 +151,15 @@ damaged-entry s m me at entries before told stops = inr (told, stops)
 -- a fuse, and a room, leave the states of the current file
 pub same-file : (h0 h1 : List File) (a0 a1 : List ℕ) (f0 f1 : List ℕ → List File) → h0 ≡ f0 a0 → h1 ≡ f1 a1 → Stays a0 a1 f0 f1 → h1 ≡ h0
 same-file h0 h1 a0 a1 f0 f1 here there s = there ∙ s.all a1 ∙ ap f0 s.name ∙ sym here
+
+-- ---- results
+
+pub no-error : {A E : Type 0} (x : A) (e : E) → ◌≡◌ {A = Result A E} (Ok x) (Err e) → ⊥
+no-error x e h = cc
+
+pub other-error : {A : Type 0} → ◌≡◌ {A = Result A EndError} (Err Device_failed) (Err No_room) → ⊥
+other-error h = cc
+
+pub on-ok : {A E : Type 0} (r : Result A E) (P : Type 0) → P → OnOk r P
+on-ok (Ok x) P h = h
+on-ok (Err e) P h = tt

@@ -1,8 +1,10 @@
 //! One kept node of three. A disk stops after so many calls: the node that is reopened has the events that were taken.
+ghost use Rattle.std.specs.Prelude.{◌<◌, length};
 ghost use Rattle.iss_model.specs.Runs.{IsSetupOf};
 ghost use Rattle.sb_relay.specs.Relay.{relay};
 
 use iss_disk::MemoryDisk;
+use iss_journal::{AttachError, Journal};
 use iss_keep::{Answer, Kept};
 use iss_keys::SharedDirectory;
 use iss_model::NodeEvent;
@@ -37,20 +39,36 @@ fn three_nodes(alloc: Global) -> Setup
     }
 }
 
-// Node 0 of a cluster, reopened once.
-fn first_node(alloc: Global, setup: &Setup) -> Result<Subject, Fail>
+// Node 0 of a cluster, over a disk. It is stale.
+fn node_in(alloc: Global, setup: &Setup, disk: MemoryDisk) -> Result<Subject, Fail>
     requires setup { IsSetupOf relay setup.now }
 {
     let directory = SharedDirectory::make(alloc, setup.n, setup.clients, setup.keys as u8)?;
+    let node = Kept::over(alloc, setup, &directory, NodeId(0), disk)?;
+    Ok(node)
+}
+
+fn node_over(alloc: Global, disk: MemoryDisk) -> Result<Subject, Fail> {
+    let setup = three_nodes(alloc);
+    node_in(alloc, &setup, disk)
+}
+
+// Reopened once, over an empty disk.
+fn node_0(alloc: Global) -> Result<Subject, Fail> {
     let disk = MemoryDisk::new(alloc)?;
-    let mut node = Kept::over(alloc, setup, &directory, NodeId(0), disk)?;
+    let mut node = node_over(alloc, disk)?;
     node.reopen()?;
     Ok(node)
 }
 
-fn node_0(alloc: Global) -> Result<Subject, Fail> {
-    let setup = three_nodes(alloc);
-    first_node(alloc, &setup)
+// Appends an entry to the journal on a disk, whatever it says.
+fn append(alloc: Global, disk: &mut MemoryDisk, entry: &[u8]) -> Result<(), Fail>
+    requires { length entry.now < 16 }
+{
+    let mut journal = Journal::over(alloc, disk);
+    journal.attach()?;
+    journal.append(entry)?;
+    Ok(())
 }
 
 // The first packet that a proposal makes, if it is taken.
@@ -117,5 +135,32 @@ fn a_dropped_event_is_not_kept(rt: HostRuntime) -> Result<(), Fail> {
     let dropped = matches!(node.take(NodeEvent::Timeout(NodeId(9))), Answer::Dropped(_));
     assert!(rt; dropped);
     assert!(rt; !node.stale());
+    Ok(())
+}
+
+// The offset of the gate at which a journal of so many proposals and one entry more is damaged, if it is.
+fn damage_behind(alloc: Global, proposals: u64, entry: &[u8]) -> Result<Option<u64>, Fail>
+    requires { length entry.now < 16 }
+{
+    let mut disk = MemoryDisk::new(alloc)?;
+    for _ in 0..proposals {
+        append(alloc, &mut disk, &[2])?;
+    }
+    append(alloc, &mut disk, entry)?;
+    let mut node = node_over(alloc, disk)?;
+    match node.reopen() {
+        Err(AttachError::Damaged { at }) => Ok(Some(at)),
+        _ => Ok(None),
+    }
+}
+
+// Node 0 leads two of the six slots, so that its third proposal would be dropped.
+#[test]
+fn an_entry_that_leads_nowhere_is_damage(rt: HostRuntime) -> Result<(), Fail> {
+    let alloc = rt.alloc();
+    assert_eq!(rt; damage_behind(alloc, 0, &[4, 1])?, Some(0));
+    assert_eq!(rt; damage_behind(alloc, 1, &[3, 3])?, Some(6));
+    assert_eq!(rt; damage_behind(alloc, 2, &[2])?, Some(12));
+    assert_eq!(rt; damage_behind(alloc, 1, &[2])?, None);
     Ok(())
 }
