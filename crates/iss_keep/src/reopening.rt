@@ -79,14 +79,13 @@ fn replay<M: Sequenced, D: Disk>(
     };
     let entries = journal.entries();
     for k in 0..entries.len() {
-        match replay_entry(alloc, setup.n, &mut node, entries.get(k)) {
-            Ok(true) => {}
-            Ok(false) => {
-                return Err(AttachError::Damaged {
-                    at: journal.gate_of(k),
-                });
-            }
-            Err(_) => return Err(AttachError::NoMemory),
+        let Ok(taken) = replay_entry(alloc, setup.n, &mut node, entries.get(k)) else {
+            return Err(AttachError::NoMemory);
+        };
+        if !taken {
+            return Err(AttachError::Damaged {
+                at: journal.gate_of(k),
+            });
         }
     }
     Ok(node)
