@@ -1,5 +1,5 @@
 -- What the calls of a kept node leave of it.
-use Rattle.std.proofs.Common.{inl, inr, ◌≡◌, ◌⊎◌, ◌↔◌, ℕ, ◌<◌, ◌≤◌, Bool, true, false, List, [], ◌∷◌, ◌++◌, length, take, Option, Some, None, refl, sym, ap, ◌∙◌, subst, true≢false}
+use Rattle.std.proofs.Common.{inl, inr, ◌≡◌, ◌⊎◌, ℕ, ◌<◌, ◌≤◌, Bool, true, false, List, [], ◌∷◌, ◌++◌, length, take, Option, Some, None, refl, sym, ap, ◌∙◌, subst, true≢false}
 use Rattle.iss_disk.specs.Calls.{IfTold, Room}
 use Rattle.iss_disk.specs.File.{File}
 use Rattle.iss_journal.specs.Frames.{Reads, holds}
@@ -29,7 +29,7 @@ use Rattle.iss_keep.specs.Entries.{event_in, spell_event}
 use Rattle.iss_keep.specs.State.{IsKept, KeptState, StandsFor, state_over}
 use Rattle.iss_keep.specs.Keeping.{HasStepped}
 use Rattle.iss_keep.specs.Replays.{IsOf, IsReplayed}
-use Rattle.iss_keep.specs.Steps.{IsAnswer, IsDrop, IsTurn, ShowsAsBefore, Writes, entries_after, makes_stale}
+use Rattle.iss_keep.specs.Steps.{IsAnswer, IsDrop, IsTurn, Writes, entries_after, makes_stale}
 use Rattle.iss_keep.specs.declared.answers.Answer.{Answer}
 use Rattle.iss_keep.specs.declared.answers.Answer.TheVariants.{Dropped, Failed, NoMemory, Stale, Taken}
 use Rattle.iss_keep.proofs.CoreLemmas.{one-more}
@@ -154,19 +154,6 @@ module _ {M Msg D : Type 0} (m : Module Msg) (stands : M → Params → ℕ → 
       answers Stale stepped added c for = stepped
       answers NoMemory stepped added c for = tt
 
-      pub shows : (answer : Answer) → HasStepped m stands event old.node node answer → makes_stale answer ≡ true → ShowsAsBefore old (left answer)
-      shows (Taken outcome) stepped stale = absurd (true≢false (sym stale))
-      shows (Dropped why) stepped stale = absurd (true≢false (sym stale))
-      shows Failed stepped stale = record { log = stepped.log; epoch = stepped.epoch }
-      shows Stale stepped stale = absurd stepped
-      shows NoMemory stepped stale = record { log = stepped.log; epoch = stepped.epoch }
-
-      not-refused : (answer : Answer) → HasStepped m stands event old.node node answer → answer ≡ Stale → ⊥
-      not-refused answer stepped is = let h : HasStepped m stands event old.node node Stale = subst (λ (a : Answer). HasStepped m stands event old.node node a) is stepped in h
-
-      pub refused : (answer : Answer) → HasStepped m stands event old.node node answer → (answer ≡ Stale) ↔ (old.stale ≡ true)
-      refused answer stepped = (λ is. absurd (not-refused answer stepped is), λ stale. not-both old.stale _ stale fresh)
-
       fresh-after : (c : Core Msg) → IsSound history room journal → is_attached journal ≡ true →
           IfTold (history (disk_of journal)) (OnlyLeaves (λ bytes. Reads bytes (holds (entries_of journal)))) → StandsFor m stands (state_over old.setup old.me node journal false) c →
           IsKept m stands history room directory journal (state_over old.setup old.me node journal false)
@@ -198,24 +185,28 @@ module _ {M Msg D : Type 0} (m : Module Msg) (stands : M → Params → ℕ → 
       kept-after Stale stepped added wrote sound attached = stale-after sound
       kept-after NoMemory stepped added wrote sound attached = stale-after sound
 
-  -- ---- what is asked of a step
+      -- with what the call made of `stale`
+      module _ (later : Bool) (answer : Answer) (is : later ≡ makes_stale answer) (stepped : HasStepped m stands event old.node node answer) where
+        pub take-answers : entries_of journal ≡ entries_after old.entries (spell_event event) answer → (c : Core Msg) → StandsFor m stands old c →
+            IsAnswer m stands c (step_of old.setup m old.me.0 c event) (state_over old.setup old.me node journal later) answer
+        take-answers added c for =
+            subst (λ (b : Bool). IsAnswer m stands c (step_of old.setup m old.me.0 c event) (state_over old.setup old.me node journal b) answer) (sym is)
+            (answers answer stepped added c for)
 
-  module _ (before : Journal D) (v : KeptState M Msg D) (kept : IsKept m stands history room directory before v) (fresh : v.stale ≡ false) where
-    pub of-cluster : IsSetupOf m v.node.parts.setup
-    of-cluster = subst (λ (s : Setup). IsSetupOf m s) (sym kept.cluster) kept.good
-
-    pub some-core : (c : Core Msg) × Stands m stands v.node c
-    some-core = let h = its-core before v kept fresh in (h.0, h.1.node)
+        pub take-kept : entries_of journal ≡ entries_after old.entries (spell_event event) answer →
+            Writes old.entries (spell_event event) (history old.disk) (history (disk_of journal)) answer → IsSound history room journal →
+            (makes_stale answer ≡ false → is_attached journal ≡ true) → IsKept m stands history room directory journal (state_over old.setup old.me node journal later)
+        take-kept added wrote sound attached =
+            subst (λ (b : Bool). IsKept m stands history room directory journal (state_over old.setup old.me node journal b)) (sym is)
+            (kept-after answer stepped added wrote sound attached)
 
   -- ---- reopening
 
   module _ (journal : Journal D) (s : Setup) (i : NodeId) (node : NodeState M Msg) (good : IsSetupOf m s) (member : i.0 < s.n) (keys : directory ≡ keys_of s)
       (sound : IsSound history room journal) where
-    pub reopened-core : IsReplayed s m stands i.0 (entries_of journal) node → (c : Core Msg) × StandsFor m stands (state_over s i node journal false) c
-    reopened-core h = (h.0, record { fresh = refl; node = h.1; core = h.2 })
-
     pub reopened-kept : IsReplayed s m stands i.0 (entries_of journal) node → IsOf s i node → is_attached journal ≡ true →
         IfTold (history (disk_of journal)) (OnlyLeaves (λ bytes. Reads bytes (holds (entries_of journal)))) →
         IsKept m stands history room directory journal (state_over s i node journal false)
     reopened-kept h own attached durable =
-        fresh-kept journal (state_over s i node journal false) h.0 good member keys own.cluster own.number sound attached durable (reopened-core h).1
+        fresh-kept journal (state_over s i node journal false) h.0 good member keys own.cluster own.number sound attached durable
+        (record { fresh = refl; node = h.1; core = h.2 })

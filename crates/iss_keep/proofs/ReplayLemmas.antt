@@ -1,8 +1,10 @@
 -- A node that takes the events of entries in turn.
-use Rattle.std.proofs.Common.{◌≡◌, ℕ, suc, ◌+◌, ◌<◌, ◌≤◌, true, false, List, [], ◌∷◌, ◌++◌, length, take, drop, get_or, Option, Some, None, refl, sym, ap, ◌∙◌, subst, take-append-drop}
+use Rattle.std.proofs.Common.{◌≡◌, ℕ, suc, ◌+◌, ◌<◌, ◌≤◌, true, false, List, [], ◌∷◌, ◌++◌, length, take, drop, get_or, Option, Some, None, Bool, Result, Ok, Err, IfOk, refl, sym, ap, ◌∙◌, subst, take-append-drop}
 use Rattle.std.proofs.lemmas.List.{drop_more, reverse-reverse, take_all, take_more}
 use Rattle.std.specs.Prelude.{reverse}
 use Rattle.iss_journal.specs.Frames.{frames}
+use Rattle.iss_journal.specs.declared.errors.AttachError.{AttachError}
+use Rattle.iss_journal.specs.declared.errors.AttachError.TheVariants.{Damaged}
 use Rattle.iss_model.proofs.Casts.{newborn-log}
 use Rattle.iss_model.specs.Concrete.{rules_of}
 use Rattle.iss_model.specs.Node.{Core, idle}
@@ -93,3 +95,12 @@ pub fresh-shown : {M Msg : Type 0} (m : Module Msg) (stands : M → Params → �
     (v.parts.log.entries ≡ []) × (v.parts.epoch ≡ 0)
 fresh-shown m stands v h =
     (sym (reverse-reverse v.parts.log.entries) ∙ ap (λ (xs : List Value). reverse xs) (sym h.parts.tied.log ∙ newborn-log (rules_of v.parts.setup) m v.parts.me.0), h.parts.tied.epoch)
+
+-- ---- results
+
+pub went : {E : Type 0} (r : Result Bool E) (b : Bool) (P : Bool → Type 0) → r ≡ Ok b → IfOk r P → P b
+went {E = E} r b P is h = subst (λ (z : Result Bool E). IfOk z P) is h
+
+-- the offset that an error tells
+pub same-gate : {A : Type 0} (gate there : ℕ) → ◌≡◌ {A = Result A AttachError} (Err (Damaged gate)) (Err (Damaged there)) → there ≡ gate
+same-gate gate there h = cc

@@ -1,7 +1,4 @@
 use Rattle.iss_keep.proofs.EntryLemmas.{entry-read, read-spelled}
-use Rattle.iss_keep.proofs.KeptLemmas.{took-turn}
-use Rattle.iss_keep.proofs.ReplayLemmas.{fresh-shown}
-use Rattle.iss_keep.proofs.WriteLemmas.{with-entry}
 use Rattle.iss_keep.proofs.entries.entries_are_exact.Goals as goal
 
 pub returns : goal.returns
