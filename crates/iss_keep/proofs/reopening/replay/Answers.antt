@@ -1,4 +1,4 @@
-use Rattle.std.proofs.Common.{rules, ◌≡◌, ◌∙◌, ◌<◌, ◌≤◌, Bool, true, false, Ok, ap, sym, length, List, ℕ, get_or}
+use Rattle.std.proofs.Common.{rules, ◌≡◌, ◌∙◌, ◌<◌, ◌≤◌, Bool, true, false, Ok, ap, sym, length, List, [], ℕ, get_or}
 use Rattle.iss_journal.specs.Sound.{entries_of}
 use Rattle.iss_model.specs.Node.{Core}
 use Rattle.iss_node.specs.State.{Stands}
