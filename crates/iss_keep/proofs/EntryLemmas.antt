@@ -1,11 +1,10 @@
 -- An event's entry is read as the event, and nothing else is.
-use Rattle.std.proofs.Common.{◌≡◌, ℕ, ◌<◌, Bool, true, false, cond, eqb, leb, suc, List, [], ◌∷◌, Option, Some, None, refl, sym, ap, ◌∙◌, subst}
+use Rattle.std.proofs.Common.{◌≡◌, ℕ, Bool, true, false, cond, eqb, leb, suc, List, [], ◌∷◌, Some, None, refl, sym, ap, ◌∙◌, subst}
 use Rattle.std.proofs.lemmas.Bool.{le-leb, leb-true}
 use Rattle.iss_base.proofs.Lists.{is-eq}
 use Rattle.iss_model.specs.declared.causes.NodeEvent.{NodeEvent}
 use Rattle.iss_model.specs.declared.causes.NodeEvent.TheVariants.{Packet, Propose, Timeout}
-use Rattle.iss_request.specs.declared.ids.NodeId.{NodeId}
-use Rattle.iss_keep.specs.Entries.{IsEntryOf, NamesNode, event_in, event_of_kind, propose_in, spell_event, timeout_in}
+use Rattle.iss_keep.specs.Entries.{IsEntryOf, NamesNode, event_in, propose_in, spell_event, timeout_in}
 
 pub spelled-read : (n : ℕ) (event : NodeEvent) → NamesNode n event → event_in n (spell_event event) ≡ Some event
 spelled-read n (Packet bytes) h = refl

@@ -1,5 +1,5 @@
 -- What the calls of a kept node leave of it.
-use Rattle.std.proofs.Common.{inl, inr, ◌≡◌, ◌⊎◌, ℕ, ◌<◌, ◌≤◌, Bool, true, false, List, [], ◌∷◌, ◌++◌, length, take, Option, Some, None, refl, sym, ap, ◌∙◌, subst, true≢false}
+use Rattle.std.proofs.Common.{inl, inr, ◌≡◌, ◌⊎◌, ℕ, ◌<◌, Bool, true, false, List, [], ◌∷◌, ◌++◌, length, Option, Some, refl, sym, ap, ◌∙◌, subst, true≢false}
 use Rattle.iss_disk.specs.Calls.{IfTold, Room}
 use Rattle.iss_disk.specs.File.{File}
 use Rattle.iss_journal.specs.Frames.{Reads, holds}
@@ -11,12 +11,12 @@ use Rattle.iss_keys.specs.KeyStates.{KeyState}
 use Rattle.iss_keys.proofs.DirectoryLemmas.{length-nodes}
 use Rattle.iss_model.specs.Concrete.{keys_of, rules_of}
 use Rattle.iss_model.specs.Formats.{formats_of}
-use Rattle.iss_model.specs.Node.{Core, Stepped, Taken as Was_taken, Dropped as Not_taken, Turn, step}
+use Rattle.iss_model.specs.Node.{Core, Stepped, Taken as Was_taken, step}
 use Rattle.iss_model.specs.Runs.{IsSetupOf}
 use Rattle.iss_model.specs.declared.causes.NodeEvent.{NodeEvent}
 use Rattle.iss_model.specs.declared.causes.Why.{Why}
 use Rattle.iss_node.specs.State.{NodeState, Stands}
-use Rattle.iss_node.specs.Steps.{IsAnswer as Node_answers, IsMade}
+use Rattle.iss_node.specs.Steps.{IsAnswer as Node_answers}
 use Rattle.iss_node.specs.declared.answers.Answer.TheVariants.{Dropped as Node_drops, Taken as Node_takes}
 use Rattle.iss_node.specs.declared.answers.Outcome.{Outcome}
 use Rattle.iss_request.specs.declared.ids.NodeId.{NodeId}
@@ -111,9 +111,9 @@ module _ {M Msg D : Type 0} (m : Module Msg) (stands : M → Params → ℕ → 
           let is : step_of old.setup m old.me.0 c event ≡ Was_taken a.turn = sym (same-step c) ∙ a.step_is in
           let named = taken-named old.setup m kept.good old.me.0 c event a.turn is in
           let with_event : core_with old.setup m old.me.0 c (event_in old.setup.n (spell_event event)) ≡ Some a.turn.core =
-              ap (λ (o : Option NodeEvent). core_with old.setup m old.me.0 c o) (spelled-read old.setup.n event named) ∙ ap core_after is in
+          ap (λ (o : Option NodeEvent). core_with old.setup m old.me.0 c o) (spelled-read old.setup.n event named) ∙ ap core_after is in
           let core : core_of old.setup m old.me.0 (old.entries ++ spell_event event ∷ []) ≡ Some a.turn.core =
-              one-more old.setup m old.me.0 (old.entries) (spell_event event) c a.turn.core for.core with_event in
+          one-more old.setup m old.me.0 (old.entries) (spell_event event) c a.turn.core for.core with_event in
           record {
             turn = a.turn;
             step_is = is;
@@ -179,7 +179,7 @@ module _ {M Msg D : Type 0} (m : Module Msg) (stands : M → Params → ℕ → 
       kept-after (Dropped why) stepped added wrote sound attached =
           let h = its-core before old kept fresh in
           let told : IfTold (history (disk_of journal)) (OnlyLeaves (λ bytes. Reads bytes (holds old.entries))) =
-              subst (λ (f : List File). IfTold f (OnlyLeaves (λ bytes. Reads bytes (holds old.entries)))) (sym wrote) (kept.durable fresh) in
+          subst (λ (f : List File). IfTold f (OnlyLeaves (λ bytes. Reads bytes (holds old.entries)))) (sym wrote) (kept.durable fresh) in
           fresh-after h.0 sound (attached refl) (durable-with old.entries added told) (dropped-turn why stepped journal added h.0 h.1).stands_for
       kept-after Failed stepped added wrote sound attached = stale-after sound
       kept-after Stale stepped added wrote sound attached = stale-after sound

@@ -1,5 +1,5 @@
 -- Each entry has leaves of its own, and what is appended later changes nothing of what it made.
-use Rattle.std.proofs.Common.{arith, ◌≡◌, ◌⊎◌, inl, inr, ℕ, ◌+◌, ◌≤◌, List, [], ◌∷◌, ◌++◌, Option, Some, None, refl, sym, ap, ◌∙◌, subst}
+use Rattle.std.proofs.Common.{arith, ◌≡◌, ◌⊎◌, inl, inr, ℕ, ◌≤◌, List, [], ◌∷◌, ◌++◌, Option, Some, None, refl, ap, ◌∙◌, subst}
 use Rattle.iss_journal.specs.Frames.{Reading, Reads, holds}
 use Rattle.iss_journal.specs.Promises.{HoldsWithOrWithout}
 use Rattle.iss_model.proofs.Rows.{settles-holds}

@@ -1,5 +1,5 @@
 -- A node that takes the events of entries in turn.
-use Rattle.std.proofs.Common.{◌≡◌, ℕ, suc, ◌+◌, ◌<◌, ◌≤◌, true, false, List, [], ◌∷◌, ◌++◌, length, take, drop, get_or, Option, Some, None, Bool, Result, Ok, Err, IfOk, refl, sym, ap, ◌∙◌, subst, take-append-drop}
+use Rattle.std.proofs.Common.{◌≡◌, ℕ, ◌+◌, ◌<◌, ◌≤◌, true, false, List, [], ◌++◌, length, take, drop, get_or, Option, Some, None, Bool, Result, Ok, Err, IfOk, refl, sym, ap, ◌∙◌, subst, take-append-drop}
 use Rattle.std.proofs.lemmas.List.{drop_more, reverse-reverse, take_all, take_more}
 use Rattle.std.specs.Prelude.{reverse}
 use Rattle.iss_journal.specs.Frames.{frames}

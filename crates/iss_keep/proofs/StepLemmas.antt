@@ -1,5 +1,5 @@
 -- What a step leaves of a node, and what its entry leaves behind it.
-use Rattle.std.proofs.Common.{inl, inr, ◌≡◌, ℕ, ◌≤◌, false, true, List, length, take, refl, sym, ap, ◌∙◌, subst, true≢false}
+use Rattle.std.proofs.Common.{◌≡◌, ℕ, ◌≤◌, List, length, take, refl, sym, ap, ◌∙◌, subst}
 use Rattle.iss_journal.specs.Frames.{max_entry}
 use Rattle.iss_log.specs.LogState.{GoesOn}
 use Rattle.iss_model.specs.Node.{Core}
@@ -9,9 +9,6 @@ use Rattle.iss_node.specs.State.{NodeState, Stands}
 use Rattle.iss_node.specs.Steps.{HasRetreated, IsSpoiled}
 use Rattle.iss_node.specs.declared.answers.Answer.TheVariants.{Taken as Node_takes}
 use Rattle.iss_node.specs.declared.answers.Outcome.{Outcome}
-use Rattle.iss_request.specs.declared.ids.NodeId.{NodeId}
-use Rattle.iss_request.specs.declared.requests.Value.{Value}
-use Rattle.iss_request.specs.declared.setups.Setup.{Setup}
 use Rattle.iss_sb.specs.Evidence.{Item, Module}
 use Rattle.iss_sb.specs.declared.effects.Params.{Params}
 use Rattle.iss_keep.specs.Entries.{spell_event}

@@ -1,5 +1,5 @@
 -- What is true of an event that a node took: its entry is short and read again, its leader is a node; the log goes on, and the epoch never falls.
-use Rattle.std.proofs.Common.{arith, ◌≡◌, ℕ, suc, ◌+◌, ◌<◌, ◌≤◌, true, List, [], ◌∷◌, ◌++◌, length, take, Option, Some, None, refl, sym, ap, ◌∙◌, subst, length-append}
+use Rattle.std.proofs.Common.{arith, ◌≡◌, ℕ, suc, ◌≤◌, List, [], ◌∷◌, ◌++◌, length, take, Some, None, refl, sym, ap, ◌∙◌, subst, length-append}
 use Rattle.std.proofs.lemmas.List.{reverse-append, reverse-reverse, take_at}
 use Rattle.std.specs.Prelude.{reverse}
 use Rattle.iss_base.specs.Lists.{Extends}
@@ -92,9 +92,11 @@ module _ {Msg : Type 0} (F : Formats Msg) (R : Rules) (m : Module Msg) (me : ℕ
 -- ---- the log goes on
 
 turned : (a b : List Value) → Extends (reverse a) (reverse b) → GoesOn a b
-turned a b h =
-    (reverse h.0, sym (reverse-reverse b) ∙ ap (λ (xs : List Value). reverse xs) h.1 ∙ reverse-append h.0 (reverse a)
-    ∙ ap (λ (xs : List Value). xs ++ reverse h.0) (reverse-reverse a))
+turned a b h = (
+  reverse h.0,
+  sym (reverse-reverse b) ∙ ap (λ (xs : List Value). reverse xs) h.1 ∙ reverse-append h.0 (reverse a)
+      ∙ ap (λ (xs : List Value). xs ++ reverse h.0) (reverse-reverse a),
+)
 
 pub log-cut : (a b : List Value) → GoesOn a b → take (length a) b ≡ a
 log-cut a b h = ap (λ (xs : List Value). take (length a) xs) h.1 ∙ take_at a h.0 (length a) refl

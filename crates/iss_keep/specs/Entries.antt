@@ -6,7 +6,6 @@
 --
 -- A leader is a node. 04 is left for asking a peer. Nothing else is an event.
 use Rattle.std.specs.Prelude.{◌≡◌, ℕ, ◌<◌, ◌==◌, nat_lt, cond, List, [], ◌∷◌, Option, Some, None, refl}
-use Rattle.iss_request.specs.declared.ids.NodeId.{NodeId}
 use Rattle.iss_model.specs.declared.causes.NodeEvent.{NodeEvent}
 use Rattle.iss_model.specs.declared.causes.NodeEvent.TheVariants.{Packet, Propose, Timeout}
 

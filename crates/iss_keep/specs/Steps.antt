@@ -5,7 +5,6 @@ use Rattle.iss_disk.specs.File.{File}
 use Rattle.iss_journal.specs.Frames.{Reads, damaged, holds}
 use Rattle.iss_journal.specs.Promises.{ComesToRest, HoldsWithOrWithout, LeavesOnly, LosesNothing, OnlyLeaves, Works}
 use Rattle.iss_model.specs.Node.{Core, Dropped as Not_taken, Stepped, Taken as Was_taken, Turn}
-use Rattle.iss_model.specs.declared.causes.NodeEvent.{NodeEvent}
 use Rattle.iss_model.specs.declared.causes.Why.{Why}
 use Rattle.iss_node.specs.Steps.{IsMade}
 use Rattle.iss_node.specs.declared.answers.Outcome.{Outcome}
@@ -14,7 +13,6 @@ use Rattle.iss_sb.specs.Calls.{AreToNodes}
 use Rattle.iss_sb.specs.Evidence.{Item, Module}
 use Rattle.iss_sb.specs.declared.effects.Params.{Params}
 use Rattle.iss_keep.specs.Cores.{StopsAt}
-use Rattle.iss_keep.specs.Entries.{spell_event}
 use Rattle.iss_keep.specs.State.{KeptState, StandsFor}
 use Rattle.iss_keep.specs.declared.answers.Answer.{Answer}
 use Rattle.iss_keep.specs.declared.answers.Answer.TheVariants.{Dropped, Failed, NoMemory, Stale, Taken}

@@ -114,7 +114,13 @@ impl<M: Sequenced, D: Disk> Kept<M, D> {
         ensures same { IsSame self.old self.new }
     {
         self.stale = true;
-        match open(self.alloc, &self.setup, &self.directory, self.me, &mut self.journal) {
+        match open(
+            self.alloc,
+            &self.setup,
+            &self.directory,
+            self.me,
+            &mut self.journal,
+        ) {
             Ok(node) => {
                 self.node = node;
                 self.stale = false;

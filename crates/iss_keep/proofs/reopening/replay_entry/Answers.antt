@@ -1,4 +1,4 @@
-use Rattle.std.proofs.Common.{◌≡◌, ◌∙◌, ap, sym, ℕ}
+use Rattle.std.proofs.Common.{◌∙◌, ap, sym, ℕ}
 use Rattle.iss_keep.proofs.ReplayLemmas.{goes-dropped, goes-nowhere, goes-taken}
 use Rattle.iss_keep.specs.Entries.{event_in}
 use Rattle.iss_keep.proofs.reopening.replay_entry.Goals as goal
