@@ -14,6 +14,9 @@ use sha2::{Digest, Sha256};
 use std::alloc::Global;
 use std::test::Fail;
 
+/// Of keys with sixteen leaves: how many bytes of a signature stand behind its height.
+pub const BEHIND_HEIGHT: usize = 2149 + 32 * 4 - 1;
+
 /// Each epoch has a slot for each node; the bucket of a request is its client and its number, added.
 pub fn setup(alloc: Global) -> Result<Setup, NoMemory>
     ensures good { IfOk result (λ s. IsSetupOf echo s) }
@@ -218,6 +221,11 @@ pub(crate) fn request(alloc: Global, client: u8, number: u32) -> Result<Bytes, F
     all.put_bytes(statement.as_slice().get(1..).unwrap_or(&[]))?;
     all.put_bytes(sig.as_slice())?;
     Ok(all.into_bytes())
+}
+
+/// The packet of a request.
+pub(crate) fn request_packet(alloc: Global, request: &[u8]) -> Result<Bytes, NoMemory> {
+    packet(alloc, 5, 255, 0, 0, request)
 }
 
 /// The batch with one request, as a value.
