@@ -10,13 +10,14 @@ use Rattle.iss_sb.specs.Evidence.{Item, Module}
 use Rattle.iss_model.specs.Cluster.{IsOwn, Signed}
 use Rattle.iss_model.specs.Ends.{AreBooked}
 use Rattle.iss_model.specs.Node.{Core, own_claims}
-use Rattle.iss_model.specs.Past.{Past, advanced, before, log_of, made_in, params_of, takes}
+use Rattle.iss_model.specs.Past.{Past, Piece, adopts, advanced, before, log_of, made_in, params_of, takes}
 use Rattle.iss_model.specs.Rules.{Rules}
 use Rattle.iss_model.specs.Run.{as_signed}
 use Rattle.iss_model.specs.Sound.{IsSoundCore}
 use Rattle.iss_model.proofs.Ending.{advanced-later}
 use Rattle.iss_model.proofs.Epochs.{start-mono}
 use Rattle.iss_model.proofs.Logs.{Later, before-later, takes-later}
+use Rattle.iss_model.proofs.Pieces.{adopts-later}
 use Rattle.iss_model.proofs.Shown.{own-all}
 
 module _ {Msg : Type 0} (R : Rules) (M : Module Msg) (i : ℕ) (c : Core Msg) (sound : IsSoundCore R M i c) where
@@ -35,6 +36,10 @@ module _ {Msg : Type 0} (R : Rules) (M : Module Msg) (i : ℕ) (c : Core Msg) (s
 
   pub ends-booked : (book : List Signed) → AreBooked R M i c.past book → AreBooked R M i (advanced c.past) book
   ends-booked book ok e l item m = old-booked book ok (advanced c.past) (advanced-later R c.past (record { all = sound.settled })) e l item m
+
+  pub adopts-booked : (piece : Piece) (book : List Signed) → AreBooked R M i c.past book → AreBooked R M i (adopts c.past piece) book
+  adopts-booked piece book ok e l item m =
+      old-booked book ok (adopts c.past piece) (adopts-later R c.past piece (record { all = sound.settled })) e l item m
 
   pub takes-booked : (l : ℕ) (input : Input Msg) (leaf : ℕ) (book : List Signed) → AreBooked R M i c.past book →
       ((x : Signed) → In x (as_signed (own_claims M (params_of R M i c.past l) i (made_in R M i c.past l input leaf).sends)) → In x book) →

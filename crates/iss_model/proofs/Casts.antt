@@ -1,8 +1,10 @@
 -- Every core of a run is sound, and the judge accepts what a sound core casts.
-use Rattle.std.proofs.Common.{◌&&◌, nat_lt, ◌≡◌, ◌⊎◌, inl, inr, ℕ, suc, zero, ◌-◌, ◌≤◌, Bool, true, false, cond, eqb, not, List, [], ◌∷◌, ◌++◌, length, length-append, take, is_some, Option, Some, None, refl, sym, ap, ◌∙◌, subst, arith, true≢false}
+use Rattle.std.proofs.Common.{◌&&◌, nat_lt, ◌≡◌, ◌⊎◌, inl, inr, ℕ, suc, zero, ◌-◌, ◌≤◌, ◌<◌, Bool, true, false, cond, eqb, not, List, [], ◌∷◌, ◌++◌, length, length-append, take, is_some, Option, Some, None, refl, sym, ap, ◌∙◌, subst, arith, true≢false}
 use Rattle.std.proofs.Math.Seq.{take-append_seam}
-use Rattle.iss_base.specs.Lists.{Extends, In}
-use Rattle.iss_base.proofs.Lists.{and-true, extends-length, extends-refl, extends-trans, in_append, in_left, in_right, is-eq, not-true, oldest-part, or-false, set_at2-other}
+use Rattle.iss_base.specs.Lists.{Extends, In, oldest}
+use Rattle.iss_base.proofs.Lists.{and-true, extends-length, extends-refl, extends-trans, in_append, in_left, in_right, is-eq, not-true, oldest-holds, oldest-part, or-false, set_at2-other}
+use Rattle.iss_checkpoint.specs.declared.votes.Cert.{Cert}
+use Rattle.iss_checkpoint.specs.declared.votes.Vote.{Vote}
 use Rattle.iss_request.specs.Fields.{IsReadAgain}
 use Rattle.iss_request.specs.Formats.{HasSpelling, parse_value, requests_most, spell_value}
 use Rattle.iss_request.specs.Log.{has_id, ids, log_ids}
@@ -23,19 +25,22 @@ use Rattle.iss_model.specs.declared.causes.NodeEvent.{NodeEvent}
 use Rattle.iss_model.specs.Judge.{judge, marks}
 use Rattle.iss_buckets.specs.Waiting.{absent, cut}
 use Rattle.iss_model.specs.Node.{Core, Early, Formats, OfRequest, Parcel, Taken, Turn, first_slot, flown, has_slot, idle, in_next_epoch, inputs, is_castable, is_mine, joined, next_slot, rests, returned, settles, step, verdict}
-use Rattle.iss_model.specs.Past.{Past, advanced, asked_in, before, grow, is_complete, log_of, newborn, params_of, start_of, takes}
+use Rattle.iss_model.specs.Node.{adopts_piece, cert_on, ends, keeping, onward, refiled, stable, takes_each}
+use Rattle.iss_model.specs.Past.{Past, Piece, adopted_at, adopts, advanced, asked_in, before, before_own, grow, is_complete, log_of, newborn, params_of, start_of, takes}
 use Rattle.iss_model.specs.Rules.{Rules}
 use Rattle.iss_model.specs.Sound.{AreWindows, IsReadyCore, IsSoundCore, carried, held}
 use Rattle.iss_model.proofs.Cuts.{absent-ids, cut-few, cut-in, cut-once, uncut-ids}
 use Rattle.iss_model.proofs.Ending.{HasSlots, advanced-later, advanced-log, before-advanced, before-part, reached-advanced}
-use Rattle.iss_model.proofs.Epochs.{start-extends}
+use Rattle.iss_model.proofs.Epochs.{length-cut, start-extends, start-next}
 use Rattle.iss_model.proofs.Flights.{casting-in, casting-once, ids-carried, ids-within, parts-of, refiled-in, refiled-once}
 use Rattle.iss_model.proofs.Ids.{ids-append, ids-in, ids-left, ids-once, ids-right, in-ids, log_ids-append, log_ids-extends, not-has}
 use Rattle.iss_model.proofs.Judged.{accepts-it}
 use Rattle.iss_model.proofs.Logs.{Later, Settled, before-later, log-later, takes-later}
 use Rattle.iss_model.proofs.Longest.{Bounded}
-use Rattle.iss_model.proofs.Rows.{IsFit, settles-holds, then_takes}
-use Rattle.iss_model.proofs.Steps.{IsCast, IsRequested, Took, asked, cast, casting, fired, kept, next_batch, received, took}
+use Rattle.iss_model.proofs.Pieces.{adopted-far, adopts-later, adopts-settled}
+use Rattle.iss_model.proofs.Rows.{IsFit, each-holds, settles-holds, then_ends, then_takes}
+use Rattle.iss_model.proofs.Steps.{IsAdopted, IsCast, IsRequested, Took, adopted, asked, cast, casting, fired, handed, kept, next_batch, received, sought, took, voted}
+use Rattle.iss_transfer.specs.declared.pieces.Piece.{Piece as Sent_piece}
 
 -- the newer part of a longer log
 pub joined-newer : (newer old : List Value) → joined (length old) (newer ++ old) ≡ newer
@@ -61,37 +66,52 @@ module _ {Msg : Type 0} (F : Formats Msg) (R : Rules) (M : Module Msg) (me : ℕ
   pub bounded-core : (c : Core Msg) → IsSoundCore R M me c → Bounded c.past
   bounded-core c h = record { evidence = h.unborn; adopted = h.settled }
 
-  -- an input keeps it
-  pub inputs-sound : (c : Core Msg) (l : ℕ) (input : Input Msg) → IsSoundCore R M me c → IsSoundCore R M me (inputs F R M me c l input).core
-  inputs-sound c l input h =
-      let past = takes R M me c.past l input c.leaf in
+  -- what joins the log keeps it, where windows and starts do
+  pub refiled-sound : (c : Core Msg) (past : Past Msg) (leaf : ℕ) → IsSoundCore R M me c → Later R c.past past →
+      ((x : ReqId) → In x (ids (held c)) → (In x (log_ids (log_of R M me past)) → ⊥) → (In x (log_ids (log_of R M me c.past)) → ⊥) →
+      R.inside (before_own R M me past) past.epoch x ≡ true) →
+      start_of R (log_of R M me past) past.epoch ≤ length (log_of R M me past) →
+      ((e k : ℕ) (v : Value) → adopted_at past.adopted e k ≡ Some v → e < past.epoch) → ((e l : ℕ) → past.epoch < e → past.evidence e l ≡ []) →
+      IsSoundCore R M me (refiled R M me c past leaf)
+  refiled-sound c past leaf h later inside reached settled unborn =
       let old = log_of R M me c.past in
       let new = log_of R M me past in
       let gone = log_ids (joined (length old) new) in
-      let later : Later R c.past past = takes-later R M me c.past l input c.leaf (settled-core c h) in
       let grown : Extends old new = log-later R M me c.past past later in
-      let same : before R M me past c.past.epoch ≡ before R M me c.past c.past.epoch = before-later R M me c.past past c.past.epoch later h.reached in
-      let start : start_of R new c.past.epoch ≡ start_of R old c.past.epoch = start-extends R old new c.past.epoch grown h.reached in
-      let far : length old ≤ length new = extends-length old new grown in
-      let within : (q : Request) → In q (held (inputs F R M me c l input).core) → In q (held c) = refiled-in gone (log_ids new) new c.waiting c.flight in
-      let reached : start_of R old c.past.epoch ≤ length old = h.reached in
+      let within : (q : Request) → In q (held (refiled R M me c past leaf)) → In q (held c) = refiled-in gone (log_ids new) new c.waiting c.flight in
       record {
         different = refiled-once gone (log_ids new) new c.waiting c.flight h.different;
         signed = λ q i. h.signed q (within q i);
-        inside = λ x i none.
-            let was = h.inside x (ids-within (held (inputs F R M me c l input).core) (held c) within x i)
-            (λ k. none (subst (λ (t : List Value). In x (log_ids t)) (sym grown.1) (log_ids-extends x grown.0 old k))) in
-            subst (λ (bf : List Value). R.inside bf c.past.epoch x ≡ true) (sym same) was;
+        inside = λ x i none. inside x (ids-within (held (refiled R M me c past leaf)) (held c) within x i) none
+            (λ k. none (subst (λ (t : List Value). In x (log_ids t)) (sym grown.1) (log_ids-extends x grown.0 old k)));
         unordered = λ x i j. elim (ids-append x (absent gone c.waiting) (absent (log_ids new) (returned new c.flight)) i) [
           | inl a ↦
               let k = absent-ids gone c.waiting x a in
               elim (log_ids-joined x old new grown j) [ inl b ↦ k.1 b | inr b ↦ h.unordered x k.0 b ]
           | inr a ↦ (absent-ids (log_ids new) (returned new c.flight) x a).1 j
         ];
-        reached = let n : start_of R new c.past.epoch ≤ length new = omega (arith, start, far, reached) in n;
-        settled = h.settled;
-        unborn = λ e k lt. set_at2-other c.past.evidence c.past.epoch l _ e k (inl (omega (arith, lt))) ∙ h.unborn e k lt;
+        reached = reached;
+        settled = settled;
+        unborn = unborn;
       }
+
+  -- an input keeps it
+  pub inputs-sound : (c : Core Msg) (l : ℕ) (input : Input Msg) → IsSoundCore R M me c → IsSoundCore R M me (inputs F R M me c l input).core
+  inputs-sound c l input h =
+      let past = takes R M me c.past l input c.leaf in
+      let old = log_of R M me c.past in
+      let new = log_of R M me past in
+      let later : Later R c.past past = takes-later R M me c.past l input c.leaf (settled-core c h) in
+      let grown : Extends old new = log-later R M me c.past past later in
+      let same : before R M me past c.past.epoch ≡ before R M me c.past c.past.epoch = before-later R M me c.past past c.past.epoch later h.reached in
+      let start : start_of R new c.past.epoch ≡ start_of R old c.past.epoch = start-extends R old new c.past.epoch grown h.reached in
+      let far : length old ≤ length new = extends-length old new grown in
+      let reached : start_of R old c.past.epoch ≤ length old = h.reached in
+      refiled-sound c past _ h later
+      (λ x i none fresh. subst (λ (bf : List Value). R.inside bf c.past.epoch x ≡ true) (sym same) (h.inside x i fresh))
+      (let n : start_of R new c.past.epoch ≤ length new = omega (arith, start, far, reached) in n)
+      h.settled
+      (λ e k lt. set_at2-other c.past.evidence c.past.epoch l _ e k (inl (omega (arith, lt))) ∙ h.unborn e k lt)
 
   pub requested-sound : (c : Core Msg) (q : Request) (t : Turn Msg) → IsSoundCore R M me c → IsRequested F R M me c q t → IsSoundCore R M me t.core
   requested-sound c q t h r =
@@ -149,18 +169,25 @@ module _ {Msg : Type 0} (F : Formats Msg) (R : Rules) (M : Module Msg) (me : ℕ
   casting-ready c s h =
       record { sound = casting-sound c s h.sound; spelled = λ q i. h.spelled q (casting-in R.batch (is_mine R M me c) s c.waiting c.flight q i) }
 
+  -- what came early, votes, certificates and the leaf say nothing of it
+  pub kept-sound : (c : Core Msg) (early : List (Early Msg)) (votes : List Vote) (certs : List Cert) (leaf : ℕ) → IsSoundCore R M me c →
+      IsSoundCore R M me (record c { early = early; votes = votes; certs = certs; leaf = leaf })
+  kept-sound c early votes certs leaf h = record {
+    different = h.different;
+    signed = h.signed;
+    inside = h.inside;
+    unordered = h.unordered;
+    reached = h.reached;
+    settled = h.settled;
+    unborn = h.unborn;
+  }
+
+  pub kept-ready : (c : Core Msg) (early : List (Early Msg)) (votes : List Vote) (certs : List Cert) (leaf : ℕ) → IsReadyCore R M me c →
+      IsReadyCore R M me (record c { early = early; votes = votes; certs = certs; leaf = leaf })
+  kept-ready c early votes certs leaf h = record { sound = kept-sound c early votes certs leaf h.sound; spelled = h.spelled }
+
   pub early-sound : (c : Core Msg) (xs : List (Early Msg)) → IsSoundCore R M me c → IsSoundCore R M me (record c { early = xs })
-  early-sound c xs h =
-      record {
-        different = h.different;
-        signed = h.signed;
-        inside = h.inside;
-        unordered = h.unordered;
-        reached = h.reached;
-        settled = h.settled;
-        unborn =
-            h.unborn;
-      }
+  early-sound c xs h = kept-sound c xs c.votes c.certs c.leaf h
 
   pub early-ready : (c : Core Msg) (xs : List (Early Msg)) → IsReadyCore R M me c → IsReadyCore R M me (record c { early = xs })
   early-ready c xs h = record { sound = early-sound c xs h.sound; spelled = h.spelled }
@@ -202,12 +229,56 @@ module _ {Msg : Type 0} (F : Formats Msg) (R : Rules) (M : Module Msg) (me : ℕ
           unborn = λ e l lt. h.unborn e l (omega (arith, lt));
         }
 
-    pub ends-ready : (c : Core Msg) → IsReadyCore R M me c → is_complete R M me c.past ≡ true → IsReadyCore R M me (in_next_epoch c)
-    ends-ready c h complete = record { sound = ends-sound c h.sound complete; spelled = h.spelled }
+    -- with the vote
+    pub ends-ready : (c : Core Msg) → IsReadyCore R M me c → is_complete R M me c.past ≡ true → IsReadyCore R M me (ends F R M me c).core
+    ends-ready c h complete =
+        kept-ready (in_next_epoch c) [] c.votes c.certs (suc c.leaf) (record { sound = ends-sound c h.sound complete; spelled = h.spelled })
+
+    -- a piece of the epoch that has a value for each slot keeps it
+    pub adopts-sound : (c : Core Msg) (p : Sent_piece) (t : Turn Msg) → IsSoundCore R M me c → IsAdopted F R M me c p t →
+        IsSoundCore R M me (adopts_piece R M me c p).core
+    adopts-sound c p t h a =
+        let piece : Piece = record { epoch = c.past.epoch; values = p.values } in
+        let past : Past Msg = adopts c.past piece in
+        let old = log_of R M me c.past in
+        let new = log_of R M me past in
+        let later : Later R c.past past = adopts-later R c.past piece (settled-core c h) in
+        let grown : Extends old new = log-later R M me c.past past later in
+        let bf = before_own R M me c.past in
+        let start : start_of R new c.past.epoch ≡ start_of R old c.past.epoch = start-extends R old new c.past.epoch grown h.reached in
+        let long : length bf ≡ start_of R old c.past.epoch = length-cut R old c.past.epoch h.reached in
+        let part : Extends bf new = extends-trans bf old new (before-part R slots M me c.past (bounded-core c h)) grown in
+        let next = start-next R new c.past.epoch in
+        let ahead : Extends bf (before_own R M me past) =
+        subst (λ (xs : List Value). Extends bf (oldest (start_of R new (suc c.past.epoch)) xs)) (sym part.1)
+        (oldest-holds (start_of R new (suc c.past.epoch)) part.0 bf (omega (arith, long, start, next))) in
+        kept-sound (refiled R M me c past c.leaf) [] c.votes (keeping c.certs p.cert (cert_on c.certs c.past.epoch)) c.leaf
+        (refiled-sound c past c.leaf h later
+        (λ x i none fresh. windows.kept bf (before_own R M me past) c.past.epoch (suc c.past.epoch) x (h.inside x i fresh) ahead (omega arith)
+        (λ k.
+        let whole = oldest-part (start_of R new (suc c.past.epoch)) new in
+        none (subst (λ (xs : List Value). In x (log_ids xs)) (sym whole.1) (log_ids-extends x whole.0 (before_own R M me past) k))))
+        (adopted-far R slots M me c.past (settled-core c h) h.reached piece refl a.whole)
+        (adopts-settled R c.past piece refl (settled-core c h)).all
+        (λ e l lt. h.unborn e l (omega (arith, lt))))
+
+    pub adopts-ready : (c : Core Msg) (p : Sent_piece) (t : Turn Msg) → IsReadyCore R M me c → IsAdopted F R M me c p t →
+        IsReadyCore R M me (adopts_piece R M me c p).core
+    adopts-ready c p t h a =
+        let new = log_of R M me (adopts c.past (record { epoch = c.past.epoch; values = p.values })) in
+        record {
+          sound = adopts-sound c p t h.sound a;
+          spelled = λ q i. h.spelled q (refiled-in (log_ids (joined (length (log_of R M me c.past)) new)) (log_ids new) new c.waiting c.flight q i);
+        }
 
     settles-ready : (t : Turn Msg) → IsReadyCore R M me t.core → IsReadyCore R M me (settles F R M me t).core
     settles-ready t h = settles-holds F R M me (λ t. IsReadyCore R M me t.core) (λ t l input. Unit {0})
         (λ t l input k fit come. inputs-ready t.core l input k) (λ t k complete. ends-ready t.core k complete) (λ t claims k. k) t h (λ done u x i k q r. tt)
+
+    each-ready : (e : ℕ) (xs : List (Early Msg)) (t : Turn Msg) → IsReadyCore R M me t.core → IsReadyCore R M me (onward t (takes_each F R M me e xs)).core
+    each-ready e xs t h = each-holds F R M me (λ t. IsReadyCore R M me t.core) (λ t l input. Unit {0})
+        (λ t l input k fit come. inputs-ready t.core l input k) (λ t k complete. ends-ready t.core k complete) (λ t claims k. k) e xs t h
+        (λ u x i k q r. tt)
 
     took-ready : (c : Core Msg) (event : NodeEvent) (t : Turn Msg) → IsReadyCore R M me c → Took F R M me c event t →
         ((bytes : List ℕ) (k : Parcel Msg) (q : Request) → F.unwrap bytes ≡ Some k → k.body ≡ OfRequest q → HasSpelling q) → IsReadyCore R M me t.core
@@ -216,6 +287,10 @@ module _ {Msg : Type 0} (F : Formats Msg) (R : Rules) (M : Module Msg) (me : ℕ
     took-ready c event t h (asked {bytes} k q u b r) read = requested-ready c q t h (read bytes k q u b) r
     took-ready c event t h (cast s u i q) read = rw q (settles-ready u (rw i.is (inputs-ready (casting F R M me c s) me _ (casting-ready c s h))))
     took-ready c event t h (fired l u i q) read = rw q (settles-ready u (rw i.is (inputs-ready c l.0 _ h)))
+    took-ready c event t h (voted k v u b r) read = rw r.is (kept-ready c c.early (v ∷ c.votes) (stable R (v ∷ c.votes) v ++ c.certs) c.leaf h)
+    took-ready c event t h (handed k cert u b r) read = rw r.is h
+    took-ready c event t h (adopted k p u b a) read = rw a.is (each-ready (suc c.past.epoch) c.early (adopts_piece R M me c p) (adopts-ready c p t h a))
+    took-ready c event t h (sought peer q) read = rw q h
 
     -- each step keeps it, where each request that is read has a spelling
     pub step-ready : ((bytes : List ℕ) (k : Parcel Msg) (q : Request) → F.unwrap bytes ≡ Some k → k.body ≡ OfRequest q → HasSpelling q) →
@@ -235,14 +310,29 @@ module _ {Msg : Type 0} (F : Formats Msg) (R : Rules) (M : Module Msg) (me : ℕ
           (takes-later R M me t.core.past l input t.core.leaf (settled-core t.core k.sound)));
     }
 
+    ends-grown : (old : Past Msg) (t : Turn Msg) → Grown old t → is_complete R M me t.core.past ≡ true → Grown old (then_ends F R M me t)
+    ends-grown old t k complete = record {
+      sound = kept-sound (in_next_epoch t.core) [] t.core.votes t.core.certs (suc t.core.leaf) (ends-sound t.core k.sound complete);
+      logs = extends-trans _ _ _ k.logs (log-later R M me t.core.past (advanced t.core.past) (advanced-later R t.core.past (settled-core t.core k.sound)));
+    }
+
     settles-grown : (old : Past Msg) (t : Turn Msg) → Grown old t → Grown old (settles F R M me t)
-    settles-grown old t h = settles-holds F R M me (Grown old) (λ t l input. Unit {0}) (λ t l input k fit come. inputs-grown old t l input k)
-        (λ t k complete. record {
-          sound = ends-sound t.core k.sound complete;
-          logs = extends-trans _ _ _ k.logs (log-later R M me t.core.past (advanced t.core.past) (advanced-later R t.core.past (settled-core t.core k.sound)));
-        })
+    settles-grown old t h = settles-holds F R M me (Grown old) (λ t l input. Unit {0}) (λ t l input k fit come. inputs-grown old t l input k) (ends-grown old)
         (λ t claims k. record { sound = k.sound; logs = k.logs })
         t h (λ done u x i k q r. tt)
+
+    each-grown : (old : Past Msg) (e : ℕ) (xs : List (Early Msg)) (t : Turn Msg) → Grown old t → Grown old (onward t (takes_each F R M me e xs))
+    each-grown old e xs t h = each-holds F R M me (Grown old) (λ t l input. Unit {0}) (λ t l input k fit come. inputs-grown old t l input k) (ends-grown old)
+        (λ t claims k. record { sound = k.sound; logs = k.logs })
+        e xs t h (λ u x i k q r. tt)
+
+    adopts-grown : (c : Core Msg) (p : Sent_piece) (t : Turn Msg) → IsSoundCore R M me c → IsAdopted F R M me c p t → Grown c.past (adopts_piece R M me c p)
+    adopts-grown c p t h a =
+        let piece : Piece = record { epoch = c.past.epoch; values = p.values } in
+        record {
+          sound = adopts-sound c p t h a;
+          logs = log-later R M me c.past (adopts c.past piece) (adopts-later R c.past piece (settled-core c h));
+        }
 
     at-first : (c : Core Msg) → IsSoundCore R M me c → Grown c.past (rests c)
     at-first c h = record { sound = h; logs = extends-refl (log_of R M me c.past) }
@@ -255,6 +345,11 @@ module _ {Msg : Type 0} (F : Formats Msg) (R : Rules) (M : Module Msg) (me : ℕ
     took-grown c event t h (cast s u i q) =
         rw q ((settles-grown c.past u
         (rw i.is (inputs-grown c.past (rests (casting F R M me c s)) me _ (at-first (casting F R M me c s) (casting-sound c s h))))).logs)
+    took-grown c event t h (voted k v u b r) = rw r.is (extends-refl (log_of R M me c.past))
+    took-grown c event t h (handed k cert u b r) = rw r.is (extends-refl (log_of R M me c.past))
+    took-grown c event t h (adopted k p u b a) =
+        rw a.is ((each-grown c.past (suc c.past.epoch) c.early (adopts_piece R M me c p) (adopts-grown c p t h a)).logs)
+    took-grown c event t h (sought peer q) = rw q (extends-refl (log_of R M me c.past))
     took-grown c event t h (fired l u i q) = rw q ((settles-grown c.past u (rw i.is (inputs-grown c.past (rests c) l.0 _ (at-first c h)))).logs)
 
     pub step-grown : (c : Core Msg) (event : NodeEvent) (t : Turn Msg) → IsSoundCore R M me c → step F R M me c event ≡ Taken t →

@@ -9,12 +9,13 @@ use Rattle.iss_request.specs.declared.ids.ReqId.{ReqId}
 use Rattle.iss_request.specs.declared.requests.Request.{Request}
 use Rattle.iss_request.specs.declared.setups.Setup.{Setup}
 use Rattle.iss_schedule.specs.declared.schedules.Event.{Event}
-use Rattle.iss_schedule.specs.declared.schedules.Event.TheVariants.{Request as Asks_order, Propose, Timeout as Times_out, Deliver, Lose, Pump, Calm, Hold, Free, Drop, Bytes}
+use Rattle.iss_schedule.specs.declared.schedules.Event.TheVariants.{Request as Asks_order, Propose, Timeout as Times_out, Ask, Deliver, Lose, Pump, Calm, Hold, Free, Drop, Bytes}
 use Rattle.iss_sb.specs.declared.effects.Claim.{Claim}
 use Rattle.iss_sb.specs.Evidence.{Module}
 use Rattle.iss_sb.specs.Laws.{IsLawful, IsSafe}
 use Rattle.iss_model.specs.declared.causes.NodeEvent.{NodeEvent}
-use Rattle.iss_model.specs.declared.causes.NodeEvent.TheVariants.{Packet as Gets, Propose as Proposes, Timeout as Fires}
+use Rattle.iss_model.specs.declared.causes.NodeEvent.TheVariants.{Packet as Gets, Propose as Proposes, Timeout as Fires, AskFrom as Seeks}
+use Rattle.iss_model.specs.Checkpoints.{scheme_of}
 use Rattle.iss_model.specs.Concrete.{rules_of}
 use Rattle.iss_model.specs.Conserved.{AcceptsOnce, IsConserved, One, WasAsked, asked_in, unless_ended}
 use Rattle.iss_model.specs.Formats.{formats_of}
@@ -149,6 +150,7 @@ module _ {Msg : Type 0} (s : Setup) (F : Formats Msg) (R : Rules) (M : Module Ms
       at-kept h f c (Gets (F.wrap (record { from = 255; epoch = 0; body = OfRequest (request_of s client number payload) })))
   happens-kept h f (Propose c) = at-kept h f c Proposes
   happens-kept h f (Times_out c l) = at-kept h f c (Fires l)
+  happens-kept h f (Ask c peer) = at-kept h f c (Seeks peer)
   happens-kept h f (Deliver k) = deliver-kept h f k (nth h.net.network.packets k)
   happens-kept h f (Lose k) = lose-kept h f k (nth h.net.network.packets k)
   happens-kept h f Pump = each-kept (due h.net.network) h f
@@ -201,6 +203,7 @@ module _ {Msg : Type 0} (s : Setup) (F : Formats Msg) (R : Rules) (M : Module Ms
       honest (Some claim) o k z = absurd z
   asked-now h (Propose c) i x m = absurd (none x (happens s F R M h (Propose c)).ended m)
   asked-now h (Times_out c l) i x m = absurd (none x (happens s F R M h (Times_out c l)).ended m)
+  asked-now h (Ask c peer) i x m = absurd (none x (happens s F R M h (Ask c peer)).ended m)
   asked-now h (Deliver k) i x m = absurd (none x (happens s F R M h (Deliver k)).ended m)
   asked-now h (Lose k) i x m = absurd (none x (happens s F R M h (Lose k)).ended m)
   asked-now h Pump i x m = absurd (none x (happens s F R M h Pump).ended m)
@@ -240,11 +243,11 @@ conserved {Msg} s M h faithful law safe once events c i ok x asked =
     (run-kept s F R M law seg faithful.requests events (begin_run s) (begin-filed s R M) i).filed in
     let placed : PlacedCore R M i core x = subst (λ (n : ℕ). PlacedCore R M n core x) is
     (asked-placed s F R M law seg faithful.requests events (begin_run s) (begin-filed s R M) i x asked) in
-    let good : Good s R M w c.scheme = good-reach s c.scheme R M safe law c.sound w c.exact c.separate c.reached in
+    let good : Good s R M w (scheme_of s) = good-reach s (scheme_of s) R M safe law c.sound w c.exact c.separate c.reached in
     let filed_there : Filed R M i (w.pasts i) core.waiting core.flight =
     subst (λ (pasts : ℕ → Past Msg). Filed R M i (pasts i) core.waiting core.flight) (sym c.pasts) filed in
     let placed_there : IsPlaced R M i (w.pasts i) core.waiting core.flight x =
     subst (λ (pasts : ℕ → Past Msg). IsPlaced R M i (pasts i) core.waiting core.flight x) (sym c.pasts) placed in
     let one : One (In x (log_ids (log_of R M i (w.pasts i)))) (In x (ids core.waiting)) (In x (flown core.flight)) =
-    one-place s c.scheme R M safe once c.sound seg w c.separate good i ok core.waiting core.flight filed_there x placed_there in
+    one-place s (scheme_of s) R M safe once c.sound seg w c.separate good i ok core.waiting core.flight filed_there x placed_there in
     subst (λ (pasts : ℕ → Past Msg). One (In x (log_ids (log_of R M i (pasts i)))) (In x (ids core.waiting)) (In x (flown core.flight))) c.pasts one

@@ -58,7 +58,7 @@ goes_on = refl
 abbrev ahead : List Event
 ahead =
     Hold 3 ∷ Propose 0 ∷ Propose 1 ∷ Propose 2 ∷ Propose 3 ∷ Calm 1 ∷ Propose 0 ∷ Propose 1 ∷ Propose 2 ∷ Propose 4 ∷
-    Deliver 23 ∷ Deliver 28 ∷ Deliver 33 ∷ Deliver 38 ∷ []
+    Deliver 43 ∷ Deliver 48 ∷ Deliver 53 ∷ Deliver 58 ∷ []
 
 abbrev caught_up : List Event
 caught_up = ahead ++ Deliver 3 ∷ Deliver 8 ∷ Deliver 13 ∷ Deliver 18 ∷ []

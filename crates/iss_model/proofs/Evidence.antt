@@ -6,12 +6,12 @@ use Rattle.iss_network.specs.Network.{due, settled}
 use Rattle.iss_network.specs.declared.packets.Sent.{Sent}
 use Rattle.iss_request.specs.declared.setups.Setup.{Setup}
 use Rattle.iss_schedule.specs.declared.schedules.Event.{Event}
-use Rattle.iss_schedule.specs.declared.schedules.Event.TheVariants.{Request as Asks_order, Propose, Timeout as Times_out, Deliver, Lose, Pump, Calm, Hold, Free, Drop, Bytes}
+use Rattle.iss_schedule.specs.declared.schedules.Event.TheVariants.{Request as Asks_order, Propose, Timeout as Times_out, Ask, Deliver, Lose, Pump, Calm, Hold, Free, Drop, Bytes}
 use Rattle.iss_sb.specs.declared.effects.Claim.{Claim}
 use Rattle.iss_sb.specs.Evidence.{Module}
-use Rattle.iss_sb.specs.Laws.{IsLawful}
+use Rattle.iss_sb.specs.Laws.{IsLawful, IsSafe}
 use Rattle.iss_model.specs.declared.causes.NodeEvent.{NodeEvent}
-use Rattle.iss_model.specs.declared.causes.NodeEvent.TheVariants.{Packet as Gets, Propose as Proposes, Timeout as Fires}
+use Rattle.iss_model.specs.declared.causes.NodeEvent.TheVariants.{Packet as Gets, Propose as Proposes, Timeout as Fires, AskFrom as Seeks}
 use Rattle.iss_model.specs.Concrete.{rules_of}
 use Rattle.iss_model.specs.Ends.{HasCollided, HasEvidence, IsForgery, Shows}
 use Rattle.iss_model.specs.Formats.{formats_of}
@@ -22,9 +22,9 @@ use Rattle.iss_model.specs.Rules.{Rules}
 use Rattle.iss_model.specs.Run.{Collision, End, Forged, Happening, Held, Progress, after_step, at_core, begin_run, by_collision, by_forged, calms, claims_at, collision_in, delivered_to, delivers, delivers_each, done, early_of, ended_at, first_forged, goes_further, happens, loses, node_of, pumps, request_of, run, turned_to, unless, with_network}
 use Rattle.iss_model.specs.Runs.{AreAtCores, IsFaithful, IsSetupOf}
 use Rattle.iss_model.proofs.Layouts.{sound-rules}
+use Rattle.iss_model.proofs.OneLog.{premises}
 use Rattle.iss_model.proofs.Runs.{run-append, run-fits}
 use Rattle.iss_model.proofs.Shown.{collided-with, collision-shown, forged-shown}
-use Rattle.iss_model.proofs.Windows.{are-windows}
 
 module _ {Msg : Type 0} (s : Setup) (F : Formats Msg) (R : Rules) (M : Module Msg) (sound : IsSoundRules s M R) where
   -- what an event leads to shows why it ended, if it did
@@ -105,6 +105,7 @@ module _ {Msg : Type 0} (s : Setup) (F : Formats Msg) (R : Rules) (M : Module Ms
       at-tells h c (Gets (F.wrap (record { from = 255; epoch = 0; body = OfRequest (request_of s client number payload) })))
   happens-tells h (Propose c) = at-tells h c Proposes
   happens-tells h (Times_out c l) = at-tells h c (Fires l)
+  happens-tells h (Ask c peer) = at-tells h c (Seeks peer)
   happens-tells h (Deliver k) = delivered-tells h k (nth h.net.network.packets k)
   happens-tells h (Lose k) = loses-tells h k (nth h.net.network.packets k)
   happens-tells h Pump = each-tells (due h.net.network) h
@@ -138,12 +139,13 @@ run-stays s F R M (e ∷ es) p end q =
     ap (λ (z : Progress _). run s F R M z es) same ∙ run-stays s F R M es p end q
 
 pub has-evidence : {Msg : Type 0} (s : Setup) (M : Module Msg) → IsSetupOf M s → IsFaithful s (formats_of s M) M → IsLawful M →
-    (events : List Event) → AreAtCores s events → HasEvidence s M events
-has-evidence s M h faithful law events low =
+    IsSafe M → (events : List Event) → AreAtCores s events → HasEvidence s M events
+has-evidence s M h faithful law safe events low =
     let F = formats_of s M in
     let R = rules_of s in
     record {
       shown = λ k end q. run-tells s F R M (sound-rules M s h) events (begin_run s) (λ j other z. absurd (cc)) k end q;
       stays = λ k end q more. run-append s F R M events more (begin_run s) ∙ run-stays s F R M more (run_after s M events) (k, end) q;
-      booked = λ i ok. (run-fits s F R M (sound-rules M s h) faithful law (are-windows s) events low).booked i ok;
+      booked = λ i ok. (run-fits s F R M (premises s M h faithful law safe) events low).booked i ok;
+      voted = λ i ok. (run-fits s F R M (premises s M h faithful law safe) events low).voted i ok;
     }

@@ -1,6 +1,11 @@
 -- Runs that are computed: three nodes, epochs of three slots, and a module by which the leader tells all what it casts, and
 -- its slots become nil where its time runs out. Packets are spelled as short as these runs allow.
-use Rattle.std.proofs.Common.{◌≡◌, ℕ, zero, suc, ◌==◌, ◌&&◌, cond, true, false, List, [], ◌∷◌, ◌++◌, Option, Some, None, reverse, refl}
+use Rattle.std.proofs.Common.{◌≡◌, ℕ, zero, suc, ◌==◌, ◌&&◌, cond, true, false, List, [], ◌∷◌, ◌++◌, length, Option, Some, None, reverse, refl}
+use Rattle.std.specs.Prelude.{drop, nat_lt, take}
+use Rattle.iss_checkpoint.specs.declared.votes.Cert.{Cert}
+use Rattle.iss_checkpoint.specs.declared.votes.Signed.{Signed}
+use Rattle.iss_checkpoint.specs.declared.votes.Vote.{Vote}
+use Rattle.iss_request.specs.Log.{requests}
 use Rattle.iss_request.specs.declared.ids.Slot.{Slot}
 use Rattle.iss_request.specs.declared.requests.Batch.{Batch}
 use Rattle.iss_request.specs.declared.requests.Request.{Request}
@@ -19,7 +24,8 @@ use Rattle.iss_sb.specs.declared.effects.To.TheVariants.{All as To_all}
 use Rattle.iss_sb.specs.Evidence.{Item, Made, Module}
 use Rattle.iss_base.specs.Lists.{first_of}
 use Rattle.iss_model.specs.Concrete.{rules_of}
-use Rattle.iss_model.specs.Node.{Body, Core, Early, Formats, OfModule, OfRequest, Parcel, Stepped, Dropped, Taken, step}
+use Rattle.iss_model.specs.Node.{Body, Core, Early, Formats, OfAsk, OfModule, OfPiece, OfRequest, OfVote, Parcel, Stepped, Dropped, Taken, step}
+use Rattle.iss_transfer.specs.declared.pieces.Piece.{Piece}
 use Rattle.iss_model.specs.Rules.{Rules}
 use Rattle.iss_model.specs.Past.{leads_in, log_of}
 use Rattle.iss_model.specs.Run.{Progress, begin_run, run}
@@ -94,22 +100,92 @@ abbrev pub read_batch : List ℕ → Batch
 read_batch (client ∷ number ∷ payload) = plain_request client number payload ∷ []
 read_batch _ = []
 
+-- values: nil, no request, or one
+abbrev spell_values : List Value → List ℕ
+spell_values [] = []
+spell_values (Nil ∷ vs) = 0 ∷ spell_values vs
+spell_values (Holds [] ∷ vs) = 1 ∷ spell_values vs
+spell_values (Holds (q ∷ qs) ∷ vs) = 2 ∷ q.id.client ∷ q.id.number ∷ spell_byte q.payload ∷ spell_values vs
+  where
+    spell_byte : List ℕ → ℕ
+    spell_byte [] = 0
+    spell_byte (b ∷ bs) = b
+
+abbrev read_values : ℕ → List ℕ → List Value × List ℕ
+read_values zero bytes = ([], bytes)
+read_values (suc n) (zero ∷ bytes) = let r = read_values n bytes in (Nil ∷ r.0, r.1)
+read_values (suc n) (suc zero ∷ bytes) = let r = read_values n bytes in (Holds [] ∷ r.0, r.1)
+read_values (suc n) (suc (suc kind) ∷ client ∷ number ∷ byte ∷ bytes) =
+    let r = read_values n bytes in (Holds (plain_request client number (byte ∷ []) ∷ []) ∷ r.0, r.1)
+read_values (suc n) _ = ([], [])
+
+-- signatures of two bytes each
+abbrev spell_signers : List Signed → List ℕ
+spell_signers [] = []
+spell_signers (x ∷ xs) = x.by.0 ∷ x.sig ++ spell_signers xs
+
+abbrev read_signers : List ℕ → List Signed
+read_signers (by ∷ node ∷ leaf ∷ bytes) = record { by = record { 0 = by }; sig = node ∷ leaf ∷ [] } ∷ read_signers bytes
+read_signers _ = []
+
+-- a certificate: its chain is as long as the byte before it says
+abbrev read_cert : ℕ → List ℕ → Cert
+read_cert e (requests ∷ size ∷ bytes) =
+    record { epoch = record { 0 = e }; chain = take size bytes; requests = requests; signers = read_signers (drop size bytes) }
+read_cert e _ = record { epoch = record { 0 = e }; chain = []; requests = 0; signers = [] }
+
 abbrev pub spell : ℕ → ℕ → Body Word → List ℕ
 spell from epoch (OfModule leader w) = 0 ∷ from ∷ epoch ∷ leader ∷ w.0.0 ∷ spell_batch w.1
 spell from epoch (OfRequest q) = 1 ∷ q.id.client ∷ q.id.number ∷ q.payload
+spell from epoch (OfVote v) = 2 ∷ from ∷ epoch ∷ v.requests ∷ length v.chain ∷ v.chain ++ v.sig
+spell from epoch OfAsk = 3 ∷ from ∷ epoch ∷ []
+spell from epoch (OfPiece p) =
+    4 ∷ from ∷ epoch ∷ length p.values ∷ spell_values p.values ++ p.cert.requests ∷ length p.cert.chain ∷ p.cert.chain ++ spell_signers p.cert.signers
 
 abbrev pub read : List ℕ → Option (Parcel Word)
 read (zero ∷ from ∷ epoch ∷ leader ∷ slot ∷ batch) =
     Some (record { from = from; epoch = epoch; body = OfModule leader (record { 0 = slot }, read_batch batch) })
-read (suc one ∷ client ∷ number ∷ payload) = Some (record { from = 255; epoch = 0; body = OfRequest (plain_request client number payload) })
+read (suc zero ∷ client ∷ number ∷ payload) = Some (record { from = 255; epoch = 0; body = OfRequest (plain_request client number payload) })
+read (suc (suc zero) ∷ from ∷ epoch ∷ requests ∷ size ∷ bytes) =
+    let vote : Vote = record {
+      epoch = record { 0 = epoch };
+      chain = take size bytes;
+      requests = requests;
+      by = record { 0 = from };
+      sig = drop size bytes;
+    } in
+    Some (record { from = from; epoch = epoch; body = OfVote vote })
+read (suc (suc (suc zero)) ∷ from ∷ epoch ∷ []) = Some (record { from = from; epoch = epoch; body = OfAsk })
+read (suc (suc (suc (suc kind))) ∷ from ∷ epoch ∷ count ∷ bytes) =
+    let r = read_values count bytes in
+    let piece : Piece = record { epoch = record { 0 = epoch }; values = r.0; cert = read_cert epoch r.1 } in
+    Some (record { from = from; epoch = epoch; body = OfPiece piece })
 read _ = None
 
 abbrev pub short : Formats Word
 short = record { wrap = λ k. spell k.from k.epoch k.body; unwrap = read }
 
--- every request counts as signed, since nothing computes with keys
+-- what a log is, newest first, in place of a digest of it
+abbrev sketch : List Value → List ℕ
+sketch [] = []
+sketch (Nil ∷ older) = 0 ∷ sketch older
+sketch (Holds b ∷ older) = suc (length b) ∷ sketch older
+
+-- rules that compute: every request counts as signed, a signature is a node and a leaf and verifies for the first n nodes, and
+-- nothing is hashed for logs
+abbrev pub light : Rules → ℕ → Rules
+light R n =
+    record R {
+      signed = λ q. true;
+      verifies = λ k statement sig. nat_lt k n;
+      end = λ log. record { chain = sketch log; requests = requests log };
+      hashes = λ log values. [];
+      voted = λ e chain number. e ∷ number ∷ chain;
+      signature = λ me leaf statement. me ∷ leaf ∷ [];
+    }
+
 abbrev pub easy : Rules
-easy = record (rules_of plain) { signed = λ q. true }
+easy = light (rules_of plain) 3
 
 abbrev run_of : List Event → Progress Word
 run_of events = run plain short easy telling (begin_run plain) events
@@ -163,7 +239,7 @@ filled = refl
 
 -- node 0 takes what ends the epoch and casts in the next; to node 1, which is not there yet, that is early
 abbrev ahead : List Event
-ahead = Propose 0 ∷ Propose 1 ∷ Propose 2 ∷ Deliver 0 ∷ Deliver 3 ∷ Deliver 6 ∷ Propose 0 ∷ Deliver 10 ∷ []
+ahead = Propose 0 ∷ Propose 1 ∷ Propose 2 ∷ Deliver 0 ∷ Deliver 3 ∷ Deliver 6 ∷ Propose 0 ∷ Deliver 13 ∷ []
 
 kept : (core_after ahead 1).early ≡ record { from = 0; leader = 0; msg = (record { 0 = 3 }, []) } ∷ []
 unfolding core_after
@@ -260,15 +336,15 @@ abbrev backing : Setup
 backing = record plain { policy = Backoff }
 
 abbrev core_backing : List Event → ℕ → Core Word
-core_backing events i = (run backing short (rules_of backing) telling (begin_run backing) events).held.net.cores i
+core_backing events i = (run backing short (light (rules_of backing) 3) telling (begin_run backing) events).held.net.cores i
 
 abbrev one_failed : List Event
 one_failed = Times_out 0 (record { 0 = 1 }) ∷ Propose 0 ∷ Propose 2 ∷ Pump ∷ []
 
-left_out : leads_in (rules_of backing) telling 0 (core_backing one_failed 0).past 1 ≡ false
+left_out : leads_in (light (rules_of backing) 3) telling 0 (core_backing one_failed 0).past 1 ≡ false
 left_out = refl
 
-leads_on : leads_in (rules_of backing) telling 0 (core_backing one_failed 0).past 2 ≡ true
+leads_on : leads_in (light (rules_of backing) 3) telling 0 (core_backing one_failed 0).past 2 ≡ true
 leads_on = refl
 
 next_epoch : (core_backing one_failed 0).past.epoch ≡ 1

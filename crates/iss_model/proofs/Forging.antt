@@ -1,7 +1,6 @@
 -- Runs of four nodes that are computed, of which the last is faulty: what is forged ends a run, and what was signed, or is
 -- in the faulty node's name, does not.
-use Rattle.std.proofs.Common.{◌≡◌, ℕ, ◌+◌, List, [], ◌∷◌, length, Some, None, refl, true}
-use Rattle.std.specs.Prelude.{nat_lt}
+use Rattle.std.proofs.Common.{◌≡◌, ℕ, ◌+◌, List, [], ◌∷◌, length, Some, None, refl}
 use Rattle.iss_request.specs.Formats.{spell_batch, spell_count, spell_request, spell_value}
 use Rattle.iss_request.specs.declared.requests.Batch.{Batch}
 use Rattle.iss_request.specs.declared.setups.Kind.TheVariants.{Byzantine}
@@ -15,7 +14,7 @@ use Rattle.iss_model.specs.Cluster.{Signed}
 use Rattle.iss_model.specs.Concrete.{rules_of}
 use Rattle.iss_model.specs.Rules.{Rules}
 use Rattle.iss_model.specs.Run.{Forged, Progress, begin_run, run}
-use Rattle.iss_model.proofs.Example.{first_told, plain_request, short}
+use Rattle.iss_model.proofs.Example.{first_told, light, plain_request, short}
 use Rattle.iss_model.proofs.Signing.{Word, claim_of, signing}
 
 abbrev pub four : Setup
@@ -40,7 +39,7 @@ four = record {
 
 -- what a node or a client is said to have signed counts as verified, so that runs compute
 abbrev easy : Rules
-easy = record (rules_of four) { signed = λ q. true; verifies = λ k statement sig. nat_lt k 4 }
+easy = light (rules_of four) 4
 
 abbrev batch : Batch
 batch = plain_request 0 0 (170 ∷ []) ∷ []

@@ -1,15 +1,17 @@
 -- The rules of a good set-up are sound.
-use Rattle.std.proofs.Common.{◌≡◌, inl, inr, ℕ, zero, suc, ◌-◌, ◌*◌, ◌+◌, ◌^◌, ◌<◌, ◌≤◌, Bool, nat_le, true, false, eqb, ◌||◌, List, [], ◌∷◌, length, Some, refl, sym, subst, ◌∙◌, arith}
+use Rattle.std.proofs.Common.{◌≡◌, inl, inr, ℕ, zero, suc, ◌-◌, ◌*◌, ◌+◌, ◌^◌, ◌<◌, ◌≤◌, Bool, nat_le, true, false, eqb, ◌||◌, List, [], ◌∷◌, length, Some, refl, sym, subst, ◌∙◌, arith, lt_of_lt_of_le}
 use Rattle.std.proofs.lemmas.Bool.{le-leb}
 use Rattle.std.proofs.lemmas.Bool.Decides.{leb_tells}
+use Rattle.std.proofs.Math.Pow.{pow_mono}
 use Rattle.std.specs.List.{list_any}
+use Rattle.std.specs.Prelude.{nat_lt, slice_index}
 use Rattle.iss_base.specs.Lists.{In}
-use Rattle.iss_base.proofs.Lists.{eqb-same}
+use Rattle.iss_base.proofs.Lists.{and-true, both, eqb-same}
 use Rattle.iss_keys.specs.Directories.{client_secret, node_secret}
 use Rattle.iss_keys.specs.Signatures.{signature_of}
 use Rattle.iss_keys.specs.VerifiedBy.{is_verified_by}
-use Rattle.iss_keys.proofs.DirectoryLemmas.{client-verifies, node-verifies, verified-by}
-use Rattle.iss_request.specs.Formats.{requests_most}
+use Rattle.iss_keys.proofs.DirectoryLemmas.{client-root, client-verifies, node-verifies, verified-by}
+use Rattle.iss_request.specs.Formats.{HasSpelling, is_height, is_signature, requests_most}
 use Rattle.iss_request.specs.Setup.{AreRising}
 use Rattle.iss_request.specs.declared.ids.NodeId.{NodeId}
 use Rattle.iss_request.specs.declared.ids.ReqId.{ReqId}
@@ -46,7 +48,7 @@ least-low : (a b : ℕ) → least a b ≤ b
 least-low a b = elim (leb_tells a b) [ inl t ↦ rw t.0 t.1 | inr t ↦ rw t.0 (omega arith) ]
 
 -- epochs are of one length as yet
-sums : (s : Setup) (log : List Value) (e : ℕ) → start_by (slots_at s) log e ≡ e * s.epoch
+pub sums : (s : Setup) (log : List Value) (e : ℕ) → start_by (slots_at s) log e ≡ e * s.epoch
 sums s log zero = omega arith
 sums s log (suc e) = let before = sums s log e in omega (arith, before)
 
@@ -149,4 +151,22 @@ request-signed s client number payload high below leaf few =
     let verified : is_verified_by (keys_of s).clients client statement sig ≡ true =
     (verified-by (keys_of s).clients client statement sig).1 (client-verifies s.n s.clients s.keys client number statement high leaf below) in
     let short : nat_le (length payload) 256 ≡ true = le-leb (length payload) 256 few in
-    rw short verified
+    let low : nat_lt number (2 ^ 32) ≡ true = le-leb (suc number) (2 ^ 32) (lt_of_lt_of_le leaf (pow_mono (let le : s.keys ≤ 32 = omega (arith, high) in le))) in
+    both (nat_lt number (2 ^ 32)) _ low (both (nat_le (length payload) 256) _ short verified)
+
+sized : (h : ℕ) (sig : List ℕ) → 2 ≤ h → h ≤ 12 → length sig ≡ 2149 + 32 * h → slice_index sig 0 ≡ h → is_signature sig ≡ true
+sized h [] low high e q = absurd (omega (arith, e))
+sized h (x ∷ rest) low high e q =
+    let first : x ≡ h = q in
+    let long : length rest ≡ 4 + 32 * (67 + x) = rw first (omega (arith, e)) in
+    both (is_height x) _ (both (nat_le 2 x) (nat_le x 12) (le-leb 2 x (rw first low)) (le-leb x 12 (rw first high)))
+    (subst (λ (n : ℕ). eqb (length rest) n ≡ true) long (eqb-same (length rest)))
+
+-- what is signed has a spelling
+pub signed-spelled : (s : Setup) → 2 ≤ s.keys → s.keys ≤ 12 → (q : Request) → (rules_of s).signed q ≡ true → HasSpelling q
+signed-spelled s low high q h =
+    let statement : List ℕ = request_statement q.id q.payload in
+    let a = and-true (nat_lt q.id.number (2 ^ 32)) _ h in
+    let b = and-true (nat_le (length q.payload) 256) _ a.1 in
+    let v = client-root s.n s.clients s.keys q.id.client statement q.sig ((verified-by (keys_of s).clients q.id.client statement q.sig).0 b.1) in
+    both (nat_lt q.id.number (2 ^ 32)) _ a.0 (both (nat_le (length q.payload) 256) _ b.0 (sized s.keys q.sig low high v.exact v.height))

@@ -15,19 +15,21 @@ use Rattle.iss_sb.specs.declared.effects.Input.TheVariants.{Cast, Receive, Timeo
 use Rattle.iss_sb.specs.Evidence.{Item, Module, accepts, one_or_none}
 use Rattle.iss_sb.specs.Laws.{IsLawful}
 use Rattle.iss_model.specs.declared.causes.NodeEvent.{NodeEvent}
-use Rattle.iss_model.specs.declared.causes.NodeEvent.TheVariants.{Packet as Gets, Propose as Proposes, Timeout as Fires}
-use Rattle.iss_model.specs.declared.causes.Refusal.{Refusal}
-use Rattle.iss_model.specs.declared.causes.Why.TheVariants.{BadClaim, BadRequest, EarlyFull, Known, NoKeys, NotLeader, OtherEpoch, OutOfWindow}
-use Rattle.iss_model.specs.Node.{Body, Core, Dropped, Early, early_most, is_known, onward, Formats, OfModule, OfRequest, Parcel, Stepped, Taken, Turn, at_instance, by_verdict, casts_at, ended, flown, flying, has_leaves, in_next_epoch, inputs, is_castable, is_mine, is_nil_at, joined, keeps_early, next_slot, returned, rests, settled, settles, step, takes_bytes, takes_each, takes_early, takes_parcel, takes_request, tried, verdict_in, all_verify, claims_of_input}
-use Rattle.iss_model.specs.Past.{Past, advanced, before, before_own, cut_at, is_complete, leads_in, log_of, made_in, params_of, start_of, taken_in, takes}
+use Rattle.iss_model.specs.declared.causes.NodeEvent.TheVariants.{Packet as Gets, Propose as Proposes, Timeout as Fires, AskFrom as Asks}
+use Rattle.iss_model.specs.declared.causes.Why.TheVariants.{NoKeys, NotLeader, OtherEpoch}
+use Rattle.iss_model.specs.Node.{Body, Core, Dropped, Early, is_known, onward, Formats, OfAsk, OfModule, OfPiece, OfRequest, OfVote, Parcel, Stepped, Taken, Turn, at_instance, casts_at, ended, flown, flying, has_leaves, in_next_epoch, inputs, is_castable, is_mine, is_nil_at, joined, keeps_early, next_slot, returned, rests, settled, settles, step, takes_bytes, takes_each, takes_early, takes_parcel, takes_request, tried}
+use Rattle.iss_model.specs.Node.{adopts_piece, asking, cert_on, counted, ends, handing}
+use Rattle.iss_model.specs.Past.{Past, Piece, adopts, advanced, before, cut_at, is_complete, leads_in, log_of, made_in, params_of, start_of, taken_in, takes}
 use Rattle.iss_model.specs.Rules.{Rules}
 use Rattle.iss_model.proofs.Casts.{cast-asked, log_ids-joined, slot-passes}
 use Rattle.iss_model.proofs.Cuts.{absent-ids, absent-once, cut-ids, cut-once, cut-uncut-apart, uncut-ids, uncut-once}
-use Rattle.iss_model.proofs.Ending.{HasSlots, advanced-later, advanced-log}
-use Rattle.iss_model.proofs.Epochs.{length-cut, start-cut, start-extends, start-mono}
+use Rattle.iss_model.proofs.Ending.{HasSlots, advanced-later, advanced-log, complete-far}
+use Rattle.iss_model.proofs.Epochs.{cut-extends, length-cut, start-cut, start-extends, start-mono}
 use Rattle.iss_model.proofs.Filed.{absent-or, cut-or, flight-splits, flown-append, flown-flying, flown-left, flown-once, flown-right, flying-once, in-flying, in-longer, in-returned, joined-in, nil-stays, returned-apart, returned-once}
 use Rattle.iss_model.proofs.Ids.{ids-append, ids-left, ids-once, ids-right, not-has}
-use Rattle.iss_model.proofs.Steps.{turn-is, undropped, untaken}
+use Rattle.iss_model.proofs.Pieces.{adopted-far, adopts-later, adopts-settled}
+use Rattle.iss_model.proofs.Steps.{IsAdopted, hand-taken, input-taken, kept-taken, piece-taken, request-taken, turn-is, undropped, untaken, vote-taken}
+use Rattle.iss_transfer.specs.declared.pieces.Piece.{Piece as Sent_piece}
 use Rattle.iss_model.proofs.Logs.{Later, Settled, before-later, evidence-later, log-later, takes-later}
 
 -- what epochs and segments owe: epochs have slots, a slot of a segment is led by its leader, and is of its epoch or an
@@ -121,8 +123,8 @@ module _ {Msg : Type 0} (R : Rules) (M : Module Msg) (i : ℕ) where
         is = nil-stays (log_of R M i c) (log_of R M i d) g.entry.0.0 grown g.low ∙ g.is;
       }
 
-  -- the waiting list and the flight over a log that has grown in the same epoch
-  module _ (old new : Past Msg) (waiting : List Request) (flight : List (Slot × Batch)) (later : Later R old new) (same : new.epoch ≡ old.epoch)
+  -- the waiting list and the flight over a log that has grown
+  module _ (old new : Past Msg) (waiting : List Request) (flight : List (Slot × Batch)) (later : Later R old new)
       (reached : start_of R (log_of R M i old) old.epoch ≤ length (log_of R M i old)) where
     abbrev before_log : List Value
     before_log = log_of R M i old
@@ -142,16 +144,20 @@ module _ {Msg : Type 0} (R : Rules) (M : Module Msg) (i : ℕ) where
     grown : Extends before_log log
     grown = log-later R M i old new later
 
-    refile-filed : Settled R new → ((e l : ℕ) → new.epoch < e → new.evidence e l ≡ []) → Different (ids waiting) → Different (flown flight) →
+    -- in the same epoch, what was reached is still
+    still-reached : new.epoch ≡ old.epoch → start_of R log new.epoch ≤ length log
+    still-reached same =
+        let begins = start-extends R before_log log old.epoch grown reached in
+        let longer = extends-length before_log log grown in
+        subst (λ (e : ℕ). start_of R log e ≤ length log) (sym same) (omega (arith, begins, longer, reached))
+
+    refile-filed : start_of R log new.epoch ≤ length log → Settled R new → ((e l : ℕ) → new.epoch < e → new.evidence e l ≡ []) → Different (ids waiting) → Different (flown flight) →
         ((x : ReqId) → In x (ids waiting) → In x (flown flight) → ⊥) → ((x : ReqId) → In x (ids waiting) → In x (log_ids before_log) → ⊥) →
-        ((f : Slot × Batch) → In f flight → WasCast new new.epoch f) → Filed new (left ++ back) (flying (length log) flight)
-    refile-filed settled unborn w1 f1 apart unlogged cast = record {
+        ((f : Slot × Batch) → In f (flying (length log) flight) → WasCast new new.epoch f) → Filed new (left ++ back) (flying (length log) flight)
+    refile-filed far settled unborn w1 f1 apart unlogged cast = record {
       settled = settled;
       unborn = unborn;
-      reached =
-          let begins = start-extends R before_log log old.epoch grown reached in
-          let longer = extends-length before_log log grown in
-          subst (λ (e : ℕ). start_of R log e ≤ length log) (sym same) (omega (arith, begins, longer, reached));
+      reached = far;
       waiting_once = ids-once left back (absent-once gone waiting w1) (absent-once (log_ids log) (returned log flight) (returned-once log flight f1))
           (λ x a b. apart x (absent-ids gone waiting x a).0 (in-returned log flight x (absent-ids (log_ids log) (returned log flight) x b).0));
       flight_once = flying-once (length log) flight f1;
@@ -163,26 +169,26 @@ module _ {Msg : Type 0} (R : Rules) (M : Module Msg) (i : ℕ) where
         | inl y ↦ let k = absent-ids gone waiting x y in elim (log_ids-joined x before_log log grown j) [ inl z ↦ k.1 z | inr z ↦ unlogged x k.0 z ]
         | inr y ↦ (absent-ids (log_ids log) (returned log flight) x y).1 j
       ];
-      cast = λ f h. cast f (in-flying (length log) flight f h).0;
+      cast = cast;
       open_slot = λ f h. (in-flying (length log) flight f h).1;
     }
 
-    refile-kept : ((f : Slot × Batch) → In f flight → WasCast new new.epoch f) → (x : ReqId) → IsPlaced old waiting flight x →
+    refile-kept : (e : ℕ) → e ≤ new.epoch → ((f : Slot × Batch) → In f flight → WasCast new e f) → (x : ReqId) → IsPlaced old waiting flight x →
         IsPlaced new (left ++ back) (flying (length log) flight) x
-    refile-kept cast x (inl a) = inl (in-longer x before_log log grown a)
-    refile-kept cast x (inr (inl a)) = elim (absent-or gone waiting x a) [
+    refile-kept e le cast x (inl a) = inl (in-longer x before_log log grown a)
+    refile-kept e le cast x (inr (inl a)) = elim (absent-or gone waiting x a) [
       | inl y ↦ inl (joined-in x before_log log grown y)
       | inr y ↦ inr (inl (ids-left x left back y))
     ]
-    refile-kept cast x (inr (inr (inl a))) = elim (flight-splits log flight x a) [
+    refile-kept e le cast x (inr (inr (inl a))) = elim (flight-splits log flight x a) [
       | inl y ↦ elim (absent-or (log_ids log) (returned log flight) x y) [ inl z ↦ inl z | inr z ↦ inr (inl (ids-right x left back z)) ]
       | inr y ↦ elim y [
         | inl z ↦ inr (inr (inl z))
         | inr z ↦ inr (inr (inr
-            (record { epoch = new.epoch; begun = omega arith; entry = z.entry; cast = cast z.entry z.flew; within = z.within; low = z.low; is = z.is })))
+            (record { epoch = e; begun = le; entry = z.entry; cast = cast z.entry z.flew; within = z.within; low = z.low; is = z.is })))
       ]
     ]
-    refile-kept cast x (inr (inr (inr a))) = inr (inr (inr (gone-later old new later reached x a)))
+    refile-kept e le cast x (inr (inr (inr a))) = inr (inr (inr (gone-later old new later reached x a)))
 
   module _ (F : Formats Msg) where
     takes-unborn : (c : Past Msg) (l : ℕ) (input : Input Msg) (leaf : ℕ) → ((e k : ℕ) → c.epoch < e → c.evidence e k ≡ []) → (e k : ℕ) → c.epoch < e →
@@ -197,18 +203,15 @@ module _ {Msg : Type 0} (R : Rules) (M : Module Msg) (i : ℕ) where
         let cast : (f : Slot × Batch) → In f c.flight → WasCast new new.epoch f =
         λ f k. cast-later c.past new later h.reached c.past.epoch (omega arith) f (h.cast f k) in
         record {
-          filed = refile-filed c.past new c.waiting c.flight later refl h.reached (record { all = h.settled.all })
-              (takes-unborn c.past l input c.leaf h.unborn) h.waiting_once h.flight_once h.apart h.unlogged cast;
-          kept = refile-kept c.past new c.waiting c.flight later refl h.reached cast;
+          filed = refile-filed c.past new c.waiting c.flight later h.reached (still-reached c.past new c.waiting c.flight later h.reached refl)
+              (record { all = h.settled.all })
+              (takes-unborn c.past l input c.leaf h.unborn) h.waiting_once h.flight_once h.apart h.unlogged
+              (λ f k. cast f (in-flying (length (log_of R M i new)) c.flight f k).0);
+          kept = refile-kept c.past new c.waiting c.flight later h.reached new.epoch (omega arith) cast;
         }
 
     -- the end of an epoch
     module _ (seg : HasSegments R) where
-      whole : (c : Past Msg) → is_complete R M i c ≡ true → start_of R (log_of R M i c) (suc c.epoch) ≤ length (log_of R M i c)
-      whole c complete =
-          elim (leb_tells (start_of R (log_of R M i c) (suc c.epoch)) (length (log_of R M i c)))
-          [ inl y ↦ y.1 | inr y ↦ absurd (true≢false (sym complete ∙ y.0)) ]
-
       -- nothing is in flight any more
       none-flies : (c : Core Msg) → FiledCore c → is_complete R M i c.past ≡ true → (f : Slot × Batch) → In f c.flight → ⊥
       none-flies c h complete f k =
@@ -218,7 +221,7 @@ module _ {Msg : Type 0} (R : Rules) (M : Module Msg) (i : ℕ) where
           let high = seg.high (before R M i c.past e) e i f.0 cast.inside in
           let here : start_of R (cut_at R log e) e ≡ length (cut_at R log e) = start-cut R log e h.reached in
           let len : length (cut_at R log e) ≡ start_of R log e = length-cut R log e h.reached in
-          let ends : start_of R log (suc e) ≤ length log = whole c.past complete in
+          let ends : start_of R log (suc e) ≤ length log = complete-far R seg.slots M i c.past (record { evidence = h.unborn; adopted = h.settled.all }) complete in
           let open_at = h.open_slot f k in
           absurd (omega (arith, high, here, len, ends, open_at))
 
@@ -230,7 +233,7 @@ module _ {Msg : Type 0} (R : Rules) (M : Module Msg) (i : ℕ) where
             filed = record {
               settled = record { all = λ d k v q. let lt = h.settled.all d k v q in omega (arith, lt) };
               unborn = λ e l lt. h.unborn e l (omega (arith, lt));
-              reached = subst (λ (t : List Value). start_of R t (suc c.past.epoch) ≤ length t) (sym same) (whole c.past complete);
+              reached = subst (λ (t : List Value). start_of R t (suc c.past.epoch) ≤ length t) (sym same) (complete-far R seg.slots M i c.past (record { evidence = h.unborn; adopted = h.settled.all }) complete);
               waiting_once = h.waiting_once;
               flight_once = h.flight_once;
               apart = h.apart;
@@ -247,24 +250,20 @@ module _ {Msg : Type 0} (R : Rules) (M : Module Msg) (i : ℕ) where
             ];
           }
 
-      ended-keeps : (c : Core Msg) (t : Turn Msg) → Keeps c t.core → Keeps c (ended R M i t).core
+      -- with its vote
+      ends-keep : (c : Core Msg) → FiledCore c → is_complete R M i c.past ≡ true → Keeps c (ends F R M i c).core
+      ends-keep c h complete = let k = end-keeps c h complete in record { filed = k.filed; kept = k.kept }
+
+      ended-keeps : (c : Core Msg) (t : Turn Msg) → Keeps c t.core → Keeps c (ended F R M i t).core
       ended-keeps c t h = go (is_complete R M i t.core.past) refl
         where
-          go : (b : Bool) → is_complete R M i t.core.past ≡ b → Keeps c (cond b (record t { core = in_next_epoch t.core }) t).core
-          go true q = keeps-trans c t.core (in_next_epoch t.core) h (λ f. end-keeps t.core f q)
+          go : (b : Bool) → is_complete R M i t.core.past ≡ b → Keeps c (cond b (onward t (λ d. ends F R M i d)) t).core
+          go true q = keeps-trans c t.core (ends F R M i t.core).core h (λ f. ends-keep t.core f q)
           go false q = h
 
       -- an input that was not refused
       pub at-inputs : (c : Core Msg) (l : ℕ) (input : Input Msg) (t : Turn Msg) → at_instance F R M i c l input ≡ Taken t → t ≡ inputs F R M i c l input
-      at-inputs c l input t h =
-          let a = undropped (not (leads_in R M i c.past l)) NotLeader _ t h in
-          let v = undropped (not (all_verify R (claims_of_input M (params_of R M i c.past l) input))) BadClaim _ t a.1 in
-          let b = undropped (not (has_leaves M (params_of R M i c.past l) c.leaf)) NoKeys _ t v.1 in
-          judged (verdict_in R M i c.past l input) b.1
-        where
-          judged : (v : Option Refusal) → by_verdict v (inputs F R M i c l input) ≡ Taken t → t ≡ inputs F R M i c l input
-          judged None k = turn-is _ t k
-          judged (Some x) k = absurd (untaken _ t k)
+      at-inputs c l input t h = (input-taken F R M i c l input t h).is
 
       tried-keeps : (c : Core Msg) (l : ℕ) (input : Input Msg) → FiledCore c → Keeps c (tried c (at_instance F R M i c l input)).core
       tried-keeps c l input h = go (at_instance F R M i c l input) refl
@@ -294,9 +293,9 @@ module _ {Msg : Type 0} (R : Rules) (M : Module Msg) (i : ℕ) where
           e = suc t.core.past.epoch
 
           go : (b : Bool) → is_complete R M i t.core.past ≡ b →
-              Keeps c (cond b (onward (record t { core = in_next_epoch t.core }) (takes_each F R M i e t.core.early)) t).core
-          go true q = keeps-trans c (in_next_epoch t.core) _ (keeps-trans c t.core (in_next_epoch t.core) h (λ f. end-keeps t.core f q))
-              (λ f. each-keeps e t.core.early (in_next_epoch t.core) f)
+              Keeps c (cond b (onward (onward t (λ d. ends F R M i d)) (takes_each F R M i e t.core.early)) t).core
+          go true q = keeps-trans c (ends F R M i t.core).core _ (keeps-trans c t.core (ends F R M i t.core).core h (λ f. ends-keep t.core f q))
+              (λ f. each-keeps e t.core.early (ends F R M i t.core).core f)
           go false q = h
 
       settled-keeps : (c : Core Msg) (l : ℕ) (input : Input Msg) (t : Turn Msg) → FiledCore c → settled F R M i (at_instance F R M i c l input) ≡ Taken t →
@@ -337,23 +336,58 @@ module _ {Msg : Type 0} (R : Rules) (M : Module Msg) (i : ℕ) where
       -- a request that was taken waits
       pub request-waits : (c : Core Msg) (q : Request) (t : Turn Msg) → takes_request R M i c q ≡ Taken t →
           (is_known R M i c q.id ≡ false) × (t.core ≡ record c { waiting = c.waiting ++ q ∷ [] })
-      request-waits c q t h =
-          let a = undropped (not (R.signed q)) BadRequest _ t h in
-          let b = undropped (is_known R M i c q.id) Known _ t a.1 in
-          let d = undropped (not (R.inside (before_own R M i c.past) c.past.epoch q.id)) OutOfWindow _ t b.1 in
-          (b.0, ap (λ (u : Turn Msg). u.core) (turn-is _ t d.1))
+      request-waits c q t h = let r = request-taken F R M i c q t h in (r.unknown, ap (λ (u : Turn Msg). u.core) r.is)
+
+      still-keeps : (c : Core Msg) (t u : Turn Msg) → FiledCore c → t ≡ u → u.core.past ≡ c.past → u.core.waiting ≡ c.waiting → u.core.flight ≡ c.flight → Keeps c t.core
+      still-keeps c t u h q p w f = subst (λ (z : Turn Msg). Keeps c z.core) (sym q) (record {
+        filed = rw (p, w, f) h;
+        kept = λ x k. rw (p, w, f) k;
+      })
 
       early-keeps : (c : Core Msg) (x : Early Msg) (t : Turn Msg) → FiledCore c → keeps_early c x ≡ Taken t → Keeps c t.core
-      early-keeps c x t h = go (nat_lt (length c.early) early_most)
-        where
-          go : (b : Bool) → cond b (Taken (rests (record c { early = c.early ++ x ∷ [] }))) (Dropped EarlyFull) ≡ Taken t → Keeps c t.core
-          go true k = subst (λ (u : Turn Msg). Keeps c u.core) (sym (turn-is _ t k)) (record { filed = h; kept = λ x k. k })
-          go false k = absurd (untaken _ t k)
+      early-keeps c x t h k = still-keeps c t (rests (record c { early = c.early ++ x ∷ [] })) h (kept-taken F R M i c x t k).is refl refl refl
+
+      -- a piece: nothing of the epoch is in flight any more
+      adopts-keep : (c : Core Msg) (p : Sent_piece) (t : Turn Msg) → FiledCore c → IsAdopted F R M i c p t → Keeps c (adopts_piece R M i c p).core
+      adopts-keep c p t h a =
+          let piece : Piece = record { epoch = c.past.epoch; values = p.values } in
+          let e = c.past.epoch in
+          let new : Past Msg = adopts c.past piece in
+          let old_log = log_of R M i c.past in
+          let log = log_of R M i new in
+          let later : Later R c.past new = adopts-later R c.past piece h.settled in
+          let far : start_of R log (suc e) ≤ length log = adopted-far R seg.slots M i c.past h.settled h.reached piece refl a.whole in
+          let cast : (f : Slot × Batch) → In f c.flight → WasCast new e f =
+          λ f k. cast-later c.past new later h.reached e (omega arith) f (h.cast f k) in
+          let same : start_of R log e ≡ start_of R old_log e = start-extends R old_log log e (log-later R M i c.past new later) h.reached in
+          let cut : cut_at R log e ≡ cut_at R old_log e = cut-extends R old_log log e (log-later R M i c.past new later) h.reached in
+          let next : start_of R log (suc e) ≡ start_of R log e + R.slots (cut_at R log e) e = refl in
+          let slots : R.slots (cut_at R log e) e ≡ R.slots (cut_at R old_log e) e = ap (λ (xs : List Value). R.slots xs e) cut in
+          let here : start_of R (cut_at R old_log e) e ≡ length (cut_at R old_log e) = start-cut R old_log e h.reached in
+          let len : length (cut_at R old_log e) ≡ start_of R old_log e = length-cut R old_log e h.reached in
+          record {
+            filed = refile-filed c.past new c.waiting c.flight later h.reached far (adopts-settled R c.past piece refl h.settled)
+                (λ d l lt. h.unborn d l (omega (arith, lt))) h.waiting_once h.flight_once h.apart h.unlogged
+                (λ f k.
+                let w = in-flying (length log) c.flight f k in
+                let high = seg.high (before R M i c.past e) e i f.0 (h.cast f w.0).inside in
+                let open_at = w.1 in
+                absurd (omega (arith, high, open_at, far, same, next, slots, here, len)));
+            kept = refile-kept c.past new c.waiting c.flight later h.reached e (omega arith) cast;
+          }
 
       parcel-keeps : (c : Core Msg) (from e : ℕ) (body : Body Msg) (t : Turn Msg) → FiledCore c → takes_parcel F R M i c from e body ≡ Taken t → Keeps c t.core
       parcel-keeps c from e (OfRequest q) t h k =
           let r = request-waits c q t k in
           subst (λ (d : Core Msg). Keeps c d) (sym r.1) (requested c q h r.0)
+      parcel-keeps c from e (OfVote v) t h k = let r = vote-taken F R M i c v t k in still-keeps c t (rests (counted R c v)) h r.is refl refl refl
+      parcel-keeps c from e OfAsk t h k =
+          let r = hand-taken F R M i c from e t (cert_on c.certs e) refl k in
+          still-keeps c t (handing F R M i c from e r.0) h r.1.is refl refl refl
+      parcel-keeps c from e (OfPiece p) t h k =
+          let a = piece-taken F R M i c p t k in
+          let done = keeps-trans c (adopts_piece R M i c p).core _ (adopts-keep c p t h a) (λ f. each-keeps (suc c.past.epoch) c.early (adopts_piece R M i c p).core f) in
+          subst (λ (z : Turn Msg). Keeps c z.core) (sym a.is) done
       parcel-keeps c from e (OfModule l msg) t h k = now (eqb e c.past.epoch) k
         where
           input : Input Msg
@@ -430,7 +464,8 @@ module _ {Msg : Type 0} (R : Rules) (M : Module Msg) (i : ℕ) where
               ])
             ] in
             record {
-              filed = refile-filed c.past new rest flies later refl h.reached (record { all = h.settled.all })
+              filed = refile-filed c.past new rest flies later h.reached (still-reached c.past new rest flies later h.reached refl)
+                  (record { all = h.settled.all })
                   (takes-unborn c.past i (Cast s batch) c.leaf h.unborn)
                   (uncut-once R.batch mine c.waiting h.waiting_once)
                   (flown-once c.flight more h.flight_once once (λ x a b. h.apart x (cut-ids R.batch mine c.waiting x (only x b)) a))
@@ -439,8 +474,9 @@ module _ {Msg : Type 0} (R : Rules) (M : Module Msg) (i : ℕ) where
                     | inr y ↦ cut-uncut-apart R.batch mine c.waiting h.waiting_once x
                         (only x y) a
                   ])
-                  (λ x a. h.unlogged x (uncut-ids R.batch mine c.waiting x a)) cast;
-              kept = λ x k. refile-kept c.past new rest flies later refl h.reached cast x (kept x k);
+                  (λ x a. h.unlogged x (uncut-ids R.batch mine c.waiting x a))
+                  (λ f k. cast f (in-flying (length (log_of R M i new)) flies f k).0);
+              kept = λ x k. refile-kept c.past new rest flies later h.reached new.epoch (omega arith) cast x (kept x k);
             }
 
         casts-keep : (c : Core Msg) (o : Option Slot) (t : Turn Msg) → FiledCore c → next_slot R M i c ≡ o → casts_at F R M i c o ≡ Taken t → Keeps c t.core
@@ -457,3 +493,4 @@ module _ {Msg : Type 0} (R : Rules) (M : Module Msg) (i : ℕ) where
             let a = undropped (not (leads_in R M i c.past i)) NotLeader _ t k in
             casts-keep c (next_slot R M i c) t h refl a.1
         step-keeps c (Fires l) t h k = settled-keeps c l.0 Timeout t h k
+        step-keeps c (Asks peer) t h k = still-keeps c t (asking F i c peer) h (turn-is _ t k) refl refl refl

@@ -104,6 +104,15 @@ posted-in s F i d l (x ∷ xs) w p h =
       ]
     ]
 
+-- packets are old, or of one of the sends
+pub posted-from : (s : Setup) (from : ℕ) (sends : List (To × List ℕ)) (w : Network) (p : Sent) → In p (posted_all s w from sends).packets →
+    In p w.packets ⊎ ((x : To × List ℕ) × In x sends × (p.bytes ≡ x.1) × In p.to (addressees s x.0))
+posted-from s from [] w p h = inl h
+posted-from s from (x ∷ xs) w p h = elim (posted-from s from xs (posted_to w from x.1 (addressees s x.0)) p h) [
+  | inr r ↦ inr (r.0, inr r.1, r.2, r.3)
+  | inl a ↦ elim (posted_to-in (addressees s x.0) w from x.1 p a) [ inl b ↦ inl b | inr b ↦ inr (x, inl refl, b.0, b.1) ]
+]
+
 -- sends in two parts
 pub posted-append : (s : Setup) (w : Network) (from : ℕ) (xs ys : List (To × List ℕ)) →
     posted_all s w from (xs ++ ys) ≡ posted_all s (posted_all s w from xs) from ys

@@ -8,7 +8,7 @@ use Rattle.iss_sb.specs.declared.effects.Input.{Input}
 use Rattle.iss_sb.specs.declared.effects.Input.TheVariants.{Receive}
 use Rattle.iss_sb.specs.declared.effects.To.{To}
 use Rattle.iss_sb.specs.Evidence.{Module}
-use Rattle.iss_model.specs.Node.{Core, Dropped, Early, Formats, Stepped, Taken, Turn, at_instance, ended, has_leaves, in_next_epoch, inputs, onward, rests, settles, takes_each, takes_early, tried, all_verify, claims_in, claims_of_input, verdict_in}
+use Rattle.iss_model.specs.Node.{Core, Dropped, Early, Formats, Stepped, Taken, Turn, at_instance, ended, ends, has_leaves, inputs, onward, rests, settles, takes_each, takes_early, tried, all_verify, claims_in, claims_of_input, verdict_in}
 use Rattle.iss_model.specs.Past.{is_complete, leads_in, params_of}
 use Rattle.iss_model.specs.Rules.{Rules}
 use Rattle.iss_model.proofs.Steps.{IsInput, input-taken}
@@ -49,7 +49,7 @@ module _ {Msg : Type 0} (F : Formats Msg) (R : Rules) (M : Module Msg) (me : ℕ
   then_takes t l input = onward t (λ c. inputs F R M me c l input)
 
   abbrev pub then_ends : Turn Msg → Turn Msg
-  then_ends t = record t { core = in_next_epoch t.core }
+  then_ends t = onward t (λ c. ends F R M me c)
 
   -- an early message, as it is taken
   abbrev pub early_input : Early Msg → Input Msg
@@ -66,7 +66,7 @@ module _ {Msg : Type 0} (F : Formats Msg) (R : Rules) (M : Module Msg) (me : ℕ
   -- An early message may come that was tried, with all its claims among those that the turn read.
   module _ (P : Turn Msg → Type 0) (Comes : Turn Msg → ℕ → Input Msg → Type 0)
       (takes : (t : Turn Msg) (l : ℕ) (input : Input Msg) → P t → IsFit t.core l input → Comes t l input → P (then_takes t l input))
-      (ends : (t : Turn Msg) → P t → is_complete R M me t.core.past ≡ true → P (then_ends t))
+      (over : (t : Turn Msg) → P t → is_complete R M me t.core.past ≡ true → P (then_ends t))
       (reads : (t : Turn Msg) (claims : List Claim) → P t → P (then_reads t claims)) where
     input-holds : (t : Turn Msg) (l : ℕ) (input : Input Msg) (v : Turn Msg) → P t → Comes t l input → IsInput F R M me t.core l input v → P (onward t (λ c. v))
     input-holds t l input v h come i =
@@ -78,17 +78,17 @@ module _ {Msg : Type 0} (F : Formats Msg) (R : Rules) (M : Module Msg) (me : ℕ
     tried-holds t l input h come (Dropped why) q = subst P (sym (onward-rests t)) h
     tried-holds t l input h come (Taken v) q = input-holds t l input v h come (input-taken F R M me t.core l input v q)
 
-    ended-holds : (t u : Turn Msg) → P (onward t (λ c. u)) → P (onward t (λ c. ended R M me u))
+    ended-holds : (t u : Turn Msg) → P (onward t (λ c. u)) → P (onward t (λ c. ended F R M me u))
     ended-holds t u h = go (is_complete R M me u.core.past) refl
       where
-        go : (b : Bool) → is_complete R M me u.core.past ≡ b → P (onward t (λ c. cond b (record u { core = in_next_epoch u.core }) u))
-        go true q = ends (onward t (λ c. u)) h q
+        go : (b : Bool) → is_complete R M me u.core.past ≡ b → P (onward t (λ c. cond b (onward u (λ d. ends F R M me d)) u))
+        go true q = subst P (sym (onward-onward t (λ c. u) (λ d. ends F R M me d))) (over (onward t (λ c. u)) h q)
         go false q = h
 
     pub early-holds : (t : Turn Msg) (x : Early Msg) → P t → Comes t x.leader (early_input x) → P (onward t (λ c. takes_early F R M me c x))
     early-holds t x h come =
         let o = at_instance F R M me t.core x.leader (early_input x) in
-        let u : Turn Msg = ended R M me (tried t.core o) in
+        let u : Turn Msg = ended F R M me (tried t.core o) in
         let done : P (onward t (λ c. u)) = ended-holds t (tried t.core o) (tried-holds t x.leader (early_input x) h come o refl) in
         reads (onward t (λ c. u)) (t.early ++ claims_early t.core x) done
 
@@ -131,13 +131,13 @@ module _ {Msg : Type 0} (F : Formats Msg) (R : Rules) (M : Module Msg) (me : ℕ
         each c = takes_each F R M me (suc t.core.past.epoch) t.core.early c
 
         row : Bool → Turn Msg
-        row b = cond b (onward (record t { core = in_next_epoch t.core }) (takes_each F R M me (suc t.core.past.epoch) t.core.early)) t
+        row b = cond b (onward (then_ends t) (takes_each F R M me (suc t.core.past.epoch) t.core.early)) t
 
         go : (b : Bool) → is_complete R M me t.core.past ≡ b →
             (b ≡ true → (u : Turn Msg) (x : Early Msg) → In x t.core.early → P u → u.core.past.epoch ≡ suc t.core.past.epoch →
             ((y : Claim) → In y (claims_early u.core x) → In y (row b).early) → Comes u x.leader (early_input x)) →
             P (row b)
         go true q come =
-            each-holds (suc t.core.past.epoch) t.core.early (then_ends t) (ends t h q)
-            (λ u x m k w r. come refl u x m k w (λ y i. in_right y t.early (each (in_next_epoch t.core)).early (r y i)))
+            each-holds (suc t.core.past.epoch) t.core.early (then_ends t) (over t h q)
+            (λ u x m k w r. come refl u x m k w (λ y i. in_right y (then_ends t).early (each (then_ends t).core).early (r y i)))
         go false q come = h

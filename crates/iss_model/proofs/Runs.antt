@@ -1,31 +1,31 @@
 -- A run, up to its end, is a chain of moves of a cluster with the run's books.
-use Rattle.std.proofs.Common.{◌≡◌, inl, inr, ℕ, ◌<◌, zero, suc, Bool, true, false, cond, List, [], ◌∷◌, ◌++◌, Option, Some, None, refl, sym, ap, ◌∙◌, subst, true≢false}
+use Rattle.std.proofs.Common.{◌≡◌, inl, inr, ℕ, ◌<◌, zero, suc, Bool, true, false, cond, List, [], ◌∷◌, ◌++◌, Option, Some, None, refl, sym, ap, ◌∙◌, subst, arith, true≢false}
 use Rattle.iss_base.specs.Lists.{In, nth}
-use Rattle.iss_base.proofs.Lists.{none-some, nth-in, some-injective}
+use Rattle.iss_base.proofs.Lists.{nth-in}
 use Rattle.iss_network.specs.Network.{Network, due, settled}
 use Rattle.iss_network.specs.declared.packets.Sent.{Sent}
 use Rattle.iss_request.specs.declared.requests.Request.{Request}
+use Rattle.iss_request.specs.declared.requests.Value.{Value}
 use Rattle.iss_request.specs.declared.setups.Setup.{Setup}
 use Rattle.iss_schedule.specs.declared.schedules.Event.{Event}
-use Rattle.iss_schedule.specs.declared.schedules.Event.TheVariants.{Request as Asks_order, Propose, Timeout as Times_out, Deliver, Lose, Pump, Calm, Hold, Free, Drop, Bytes}
+use Rattle.iss_schedule.specs.declared.schedules.Event.TheVariants.{Request as Asks_order, Propose, Timeout as Times_out, Ask, Deliver, Lose, Pump, Calm, Hold, Free, Drop, Bytes}
 use Rattle.iss_sb.specs.Evidence.{Module}
-use Rattle.iss_sb.specs.Laws.{IsLawful, IsSafe}
 use Rattle.iss_model.specs.declared.causes.NodeEvent.{NodeEvent}
-use Rattle.iss_model.specs.declared.causes.NodeEvent.TheVariants.{Packet as Gets, Propose as Proposes, Timeout as Fires}
-use Rattle.iss_model.specs.Cluster.{Cluster, Message, begin}
-use Rattle.iss_model.specs.Node.{Formats, OfModule, OfRequest, Parcel}
-use Rattle.iss_model.specs.Ordered.{IsExact, IsSoundRules, Ordered}
+use Rattle.iss_model.specs.declared.causes.NodeEvent.TheVariants.{Packet as Gets, Propose as Proposes, Timeout as Fires, AskFrom as Seeks}
+use Rattle.iss_model.specs.Checkpoints.{scheme_of}
+use Rattle.iss_model.specs.Cluster.{Cluster, Message, begin, chain_strings}
+use Rattle.iss_model.specs.Node.{Body, Formats, OfRequest}
+use Rattle.iss_model.specs.Ordered.{Ordered}
 use Rattle.iss_model.specs.Rules.{Rules}
 use Rattle.iss_model.specs.Run.{End, Happening, Held, Progress, at_core, begin_run, calms, cores_of, delivered_to, delivers, delivers_each, done, goes_further, happens, loses, pumps, node_of, request_of, run, unless, with_network}
-use Rattle.iss_model.specs.Runs.{AreAtCores, IsAtCore, IsFaithful, pasts_of}
-use Rattle.iss_model.specs.Sound.{AreWindows}
-use Rattle.iss_model.proofs.Casts.{idle-ready}
+use Rattle.iss_model.specs.Runs.{AreAtCores, IsAtCore, is_message, pasts_of}
+use Rattle.iss_model.proofs.Answered.{at-fits}
+use Rattle.iss_model.proofs.Casts.{idle-ready, newborn-log}
+use Rattle.iss_model.proofs.Checkpoints.{exact-of}
 use Rattle.iss_model.proofs.Reached.{composition}
 use Rattle.iss_model.proofs.Grown.{Grows, at-grows, grows-trans, same-net}
-use Rattle.iss_model.proofs.Unvoted.{unvoted}
-use Rattle.iss_model.proofs.Statements.{apart}
-use Rattle.iss_model.proofs.Fits.{Fits as FitsBy, IsPosted, view}
-use Rattle.iss_model.proofs.Turned.{Comes-in, at-fits}
+use Rattle.iss_model.proofs.Fits.{Fits as FitsBy, IsPosted, Premises, view}
+use Rattle.iss_model.proofs.Turned.{Comes-in}
 use Rattle.iss_model.proofs.Twins.{core-low, faultless}
 
 pub run-append : {Msg : Type 0} (s : Setup) (F : Formats Msg) (R : Rules) (M : Module Msg) (es fs : List Event) (p : Progress Msg) →
@@ -33,13 +33,12 @@ pub run-append : {Msg : Type 0} (s : Setup) (F : Formats Msg) (R : Rules) (M : M
 run-append s F R M [] fs p = refl
 run-append s F R M (e ∷ es) fs p = run-append s F R M es fs (goes_further p.ended s F R M p e)
 
-module _ {Msg : Type 0} (s : Setup) (F : Formats Msg) (R : Rules) (M : Module Msg) (sound : IsSoundRules s M R) (faithful : IsFaithful s F M)
-    (law : IsLawful M) (windows : AreWindows R) where
+module _ {Msg : Type 0} (s : Setup) (F : Formats Msg) (R : Rules) (M : Module Msg) (o : Premises s F R M) where
   abbrev pub Fits : Held Msg → Type 0
   Fits h = FitsBy s F R M h
 
   abbrev Arrives : (h : Held Msg) → Fits h → ℕ → NodeEvent → Type 0
-  Arrives h ok i event = Comes-in s F R M sound faithful law windows h ok i event
+  Arrives h ok i event = Comes-in s F R M o h ok i event
 
   abbrev Posted : List (Message Msg) → Sent → Type 0
   Posted messages p = IsPosted s F R M messages p
@@ -60,8 +59,12 @@ module _ {Msg : Type 0} (s : Setup) (F : Formats Msg) (R : Rules) (M : Module Ms
     cores = ok.cores;
     told = ok.told;
     sent = ok.sent;
-    named = ok.named;
     booked = ok.booked;
+    hashed = ok.hashed;
+    pieces = ok.pieces;
+    certified = ok.certified;
+    standing = ok.standing;
+    voted = ok.voted;
     separate = ok.separate;
   }
 
@@ -79,9 +82,9 @@ module _ {Msg : Type 0} (s : Setup) (F : Formats Msg) (R : Rules) (M : Module Ms
   leads-at : (h : Held Msg) (ok : Fits h) (i : ℕ) (event : NodeEvent) → Arrives h ok i event → Leads h (at_core s F R M h i event).held
   leads-at h ok i event comes =
       record {
-        fits = at-fits s F R M sound faithful law windows h ok i event comes;
+        fits = at-fits s F R M o h ok i event comes;
         grows =
-            at-grows s F R M (record { some = sound.some_slots; most = sound.most }) windows h ok.cores i event;
+            at-grows s F R M (record { some = o.sound.some_slots; most = o.sound.most }) o.windows h ok.cores i event;
       }
 
   leads-network : (h : Held Msg) (net : Network) → net.packets ≡ h.net.network.packets → Fits h → Leads h (with_network h net)
@@ -94,35 +97,19 @@ module _ {Msg : Type 0} (s : Setup) (F : Formats Msg) (R : Rules) (M : Module Ms
 
   -- a packet that carries a message that was sent
   packet-comes : (h : Held Msg) (ok : Fits h) (p : Sent) → (M.stopping ≡ true → Posted ok.messages p) → Arrives h ok p.to (Gets p.bytes)
-  packet-comes h ok p posted = record { low = λ st. (posted st).low_to; legit = λ st k l msg u b. carried (posted st) k l msg u b }
-    where
-      carried : (y : Posted ok.messages p) (k : Parcel Msg) (l : ℕ) (msg : Msg) → F.unwrap p.bytes ≡ Some k → k.body ≡ OfModule l msg →
-          In (record { from = k.from; to = p.to; epoch = k.epoch; leader = l; msg = msg }) ok.messages
-      carried y k l msg u b = elim (faithful.messages y.from y.epoch y.leader y.msg y.low_from y.low_leader) [
-        | inl z ↦
-            let e : k ≡ record { from = y.from; epoch = y.epoch; body = OfModule y.leader y.msg } =
-            sym (some-injective _ k (sym z ∙ (sym (ap F.unwrap y.bytes) ∙ u))) in
-            let same : OfModule y.leader y.msg ≡ OfModule l msg = sym (ap (λ (x : Parcel Msg). x.body) e) ∙ b in
-            let l2 : y.leader ≡ l = cc in
-            let m2 : y.msg ≡ msg = cc in
-            rw (ap (λ (x : Parcel Msg). x.from) e, ap (λ (x : Parcel Msg). x.epoch) e, ← l2, ← m2) y.sent
-        | inr z ↦ absurd (none-some k (sym z ∙ (sym (ap F.unwrap y.bytes) ∙ u)))
-      ]
+  packet-comes h ok p posted = record { low = λ st. (posted st).low_to; legit = λ st k l msg u b. (posted st).carried k l msg u b }
 
   -- where nodes only stop, a core is a node
   is-node : (i : ℕ) → i < cores_of s → M.stopping ≡ true → i < s.n
-  is-node i low st = core-low s (faultless s R M sound st) i low
+  is-node i low st = core-low s (faultless s R M o.sound st) i low
 
   -- bytes that were written for a request give no message of a module
   request-comes : (h : Held Msg) (ok : Fits h) (i : ℕ) → i < cores_of s → (q : Request) →
       Arrives h ok i (Gets (F.wrap (record { from = 255; epoch = 0; body = OfRequest q })))
   request-comes h ok i low q = record {
     low = λ st. is-node i low st;
-    legit = λ st k l msg u b. elim (faithful.requests q) [
-      | inl y ↦ absurd (let e : k ≡ record { from = 255; epoch = 0; body = OfRequest q } = sym (some-injective _ k (sym y ∙ u)) in
-          let z : OfRequest q ≡ OfModule l msg = sym (ap (λ (p : Parcel Msg). p.body) e) ∙ b in cc)
-      | inr y ↦ absurd (none-some k (sym y ∙ u))
-    ];
+    legit = λ st k l msg u b. absurd (true≢false (sym (ap (λ (x : Body Msg). is_message x) b) ∙
+        o.faithful.others (record { from = 255; epoch = 0; body = OfRequest q }) k refl u));
   }
 
   leads-delivers : (h : Held Msg) → Fits h → (k : ℕ) (o : Option Sent) → nth h.net.network.packets k ≡ o → Leads h (delivered_to s F R M h k o).held
@@ -160,6 +147,7 @@ module _ {Msg : Type 0} (s : Setup) (F : Formats Msg) (R : Rules) (M : Module Ms
       (request-comes h ok i low (request_of s client number payload))
   leads-happens h ok (Propose i) low = leads-at h ok i Proposes (record { low = is-node i low; legit = λ st. tt })
   leads-happens h ok (Times_out i l) low = leads-at h ok i (Fires l) (record { low = is-node i low; legit = λ st. tt })
+  leads-happens h ok (Ask i peer) low = leads-at h ok i (Seeks peer) (record { low = is-node i low; legit = λ st. tt })
   leads-happens h ok (Deliver k) low = leads-delivers h ok k (nth h.net.network.packets k) refl
   leads-happens h ok (Lose k) low = leads-loses h ok k (nth h.net.network.packets k)
   leads-happens h ok Pump low = leads-each (due h.net.network) h ok
@@ -188,16 +176,13 @@ module _ {Msg : Type 0} (s : Setup) (F : Formats Msg) (R : Rules) (M : Module Ms
     cores = λ j. idle-ready R M (node_of s j);
     told = λ j x m. absurd m;
     sent = λ st j x m. absurd m;
-    named = λ x h. absurd h;
     booked = λ j ok e l item m. absurd m;
+    hashed = λ j ok x m. absurd (subst (λ (log : List Value). In x (chain_strings (scheme_of s) log)) (newborn-log R M j) m);
+    pieces = λ j ok p m. absurd m;
+    certified = λ j ok. record { votes = λ v m. absurd m; certs = λ x m. absurd m };
+    standing = λ j ok e a q m. absurd m;
+    voted = λ j ok e lt. absurd (omega (arith, lt));
     separate = λ a b ia ib q. elim ia [ inl x ↦ elim ib [ inl y ↦ x ∙ sym y | inr none ↦ absurd none ] | inr none ↦ absurd none ];
-  }
-
-  -- no claim is a vote, and nobody votes
-  pub exact : (h : Held Msg) (ok : Fits h) → IsExact s unvoted (seen h ok.messages)
-  exact h ok = record {
-    chained = λ x e a q k is. let n = ok.named x k in absurd (apart s M x.statement n.epoch n.leader e a q n.far n.names is);
-    quorums = λ ks k. absurd (true≢false (sym k));
   }
 
   -- after any events, up to the end of the run, what it holds is what moves lead to
@@ -213,8 +198,8 @@ module _ {Msg : Type 0} (s : Setup) (F : Formats Msg) (R : Rules) (M : Module Ms
       (leads-run more p (run-fits events low) low_more).grows
 
   -- and the logs of correct nodes are of one log
-  pub run-ordered : IsSafe M → (events : List Event) → AreAtCores s events → Ordered s R M (pasts_of (run s F R M (begin_run s) events).held.net)
-  run-ordered safe events low =
+  pub run-ordered : (events : List Event) → AreAtCores s events → Ordered s R M (pasts_of (run s F R M (begin_run s) events).held.net)
+  run-ordered events low =
       let h : Held Msg = (run s F R M (begin_run s) events).held in
       let ok = run-fits events low in
-      composition s unvoted R M safe law sound (seen h ok.messages) (exact h ok) ok.separate ok.reach
+      composition s (scheme_of s) R M o.safe o.law o.sound (seen h ok.messages) (exact-of s o.good (seen h ok.messages)) ok.separate ok.reach

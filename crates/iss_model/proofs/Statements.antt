@@ -6,10 +6,11 @@ use Rattle.iss_layout.proofs.FairLemmas.{few_nodes}
 use Rattle.iss_sb.specs.Calls.{IsGoodParams}
 use Rattle.iss_sb.specs.Evidence.{Module}
 use Rattle.iss_sb.specs.Statements.{eight_bytes}
-use Rattle.iss_sb.proofs.Statements.{head-same, wide-last}
+use Rattle.iss_sb.proofs.Statements.{head-same}
 use Rattle.iss_model.specs.Cluster.{Names, vote_statement}
 use Rattle.iss_model.specs.Ordered.{IsSoundRules}
 use Rattle.iss_model.specs.Rules.{Rules}
+use Rattle.iss_model.proofs.Instances.{votes-same}
 
 -- a statement names one instance
 pub heads : {Msg : Type 0} (s : Setup) (M : Module Msg) (x : List ℕ) (e l d k : ℕ) → Names s M e l x → Names s M d k x → (e ≡ d) × (l ≡ k)
@@ -26,12 +27,7 @@ apart s M x e l d a q far named is =
 
 -- votes of one statement are of one epoch, chain and number
 pub votes : (s : Setup) (e d : ℕ) (a b : List ℕ) (q r : ℕ) → vote_statement s e a q ≡ vote_statement s d b r → (e ≡ d) × (a ≡ b) × (q ≡ r)
-votes s e d a b q r h =
-    let k = head-same s.tag s.tag e 255 0 d 255 0 (0 ∷ (a ++ eight_bytes q)) (0 ∷ (b ++ eight_bytes r)) refl h in
-    let rest : ◌≡◌ {A = List ℕ} (0 ∷ (a ++ eight_bytes q)) (0 ∷ (b ++ eight_bytes r)) = k.behind in
-    let tails : a ++ eight_bytes q ≡ b ++ eight_bytes r = cc in
-    let t = wide-last 7 a b q r tails in
-    (k.epoch, t.0, t.1)
+votes s e d a b q r h = let k = votes-same s s refl e d a b q r h in (k.epoch, k.chain, k.number)
 
 -- who leads an epoch is a node, and there are few
 pub leader-far : {Msg : Type 0} (s : Setup) (M : Module Msg) (R : Rules) → IsSoundRules s M R → (log : List Value) (e l : ℕ) → R.leads log e l ≡ true → l ≢ 255

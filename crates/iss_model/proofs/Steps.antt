@@ -1,7 +1,10 @@
 -- What a step did that took its event.
-use Rattle.std.proofs.Common.{◌≡◌, inl, inr, ℕ, suc, ◌<◌, Bool, true, false, cond, eqb, not, List, [], ◌∷◌, ◌++◌, length, Option, Some, None, refl, sym, ap, ◌∙◌}
+use Rattle.std.specs.Prelude.{nat_lt}
+use Rattle.std.proofs.Common.{◌≡◌, inl, inr, ℕ, suc, ◌<◌, ◌≤◌, Bool, true, false, cond, eqb, not, List, [], ◌∷◌, ◌++◌, length, Option, Some, None, refl, sym, ap, ◌∙◌, arith, true≢false}
 use Rattle.std.proofs.lemmas.Bool.Decides.{leb_tells}
-use Rattle.iss_base.proofs.Lists.{is-eq, not-false}
+use Rattle.iss_base.proofs.Lists.{and-true, is-eq, not-false}
+use Rattle.iss_checkpoint.specs.declared.votes.Cert.{Cert}
+use Rattle.iss_checkpoint.specs.declared.votes.Vote.{Vote}
 use Rattle.iss_request.specs.declared.ids.NodeId.{NodeId}
 use Rattle.iss_request.specs.declared.ids.Slot.{Slot}
 use Rattle.iss_request.specs.declared.requests.Batch.{Batch}
@@ -10,14 +13,16 @@ use Rattle.iss_sb.specs.declared.effects.Input.{Input}
 use Rattle.iss_sb.specs.declared.effects.Input.TheVariants.{Cast, Receive, Timeout}
 use Rattle.iss_sb.specs.Evidence.{Module, accepts}
 use Rattle.iss_model.specs.declared.causes.NodeEvent.{NodeEvent}
-use Rattle.iss_model.specs.declared.causes.NodeEvent.TheVariants.{Packet as Gets, Propose as Proposes, Timeout as Fires}
+use Rattle.iss_model.specs.declared.causes.NodeEvent.TheVariants.{Packet as Gets, Propose as Proposes, Timeout as Fires, AskFrom as Asks}
 use Rattle.iss_model.specs.declared.causes.Refusal.{Refusal}
 use Rattle.iss_model.specs.declared.causes.Why.{Why}
-use Rattle.iss_model.specs.declared.causes.Why.TheVariants.{BadClaim, BadRequest, EarlyFull, Known, NoKeys, NotLeader, OtherEpoch, OutOfWindow}
+use Rattle.iss_model.specs.declared.causes.Why.TheVariants.{BadClaim, BadRequest, EarlyFull, Known, NoCert, NoKeys, NotLeader, NotNeeded, OtherEpoch, OutOfWindow, WrongChain}
 use Rattle.iss_buckets.specs.Waiting.{cut, uncut}
-use Rattle.iss_model.specs.Node.{Body, Core, Dropped, Early, Formats, OfModule, OfRequest, Parcel, Stepped, Taken, Turn, at_instance, by_verdict, casts_at, early_most, has_leaves, inputs, is_known, is_mine, keeps_early, next_slot, rests, settled, settles, step, takes_bytes, takes_parcel, takes_request, verdict, all_verify, claims_of_input}
-use Rattle.iss_model.specs.Past.{asked_in, before, params_of}
+use Rattle.iss_model.specs.Node.{Body, Core, Dropped, Early, Formats, OfAsk, OfModule, OfPiece, OfRequest, OfVote, Parcel, Stepped, Taken, Turn, at_instance, by_verdict, casts_at, early_most, has_leaves, inputs, is_known, is_mine, keeps_early, next_slot, rests, settled, settles, step, takes_bytes, takes_parcel, takes_request, verdict, all_verify, claims_of_input}
+use Rattle.iss_model.specs.Node.{adopts_piece, asking, cert_on, claim_of_vote, counted, handing, hands_out, has_shape, is_counted, is_true_cert, leads_to, onward, takes_each, takes_piece, takes_vote}
+use Rattle.iss_model.specs.Past.{asked_in, before, before_own, log_of, params_of, start_of}
 use Rattle.iss_model.specs.Rules.{Rules}
+use Rattle.iss_transfer.specs.declared.pieces.Piece.{Piece as Sent_piece}
 
 pub turn-is : {Msg : Type 0} (a b : Turn Msg) → Taken a ≡ Taken b → b ≡ a
 turn-is a b h = cc
@@ -29,6 +34,10 @@ untaken why t h = cc
 pub undropped : {Msg : Type 0} (b : Bool) (why : Why) (more : Stepped Msg) (t : Turn Msg) → cond b (Dropped why) more ≡ Taken t → (b ≡ false) × (more ≡ Taken t)
 undropped true why more t h = absurd (untaken why t h)
 undropped false why more t h = (refl, h)
+
+-- a test that found no number below another
+not-below : (a b : ℕ) → nat_lt a b ≡ false → b ≤ a
+not-below a b h = elim (leb_tells (suc a) b) [ inl y ↦ absurd (true≢false (sym y.0 ∙ h)) | inr y ↦ omega (arith, y.1) ]
 
 module _ {Msg : Type 0} (F : Formats Msg) (R : Rules) (M : Module Msg) (me : ℕ) (c : Core Msg) where
   -- an input was taken
@@ -64,6 +73,28 @@ module _ {Msg : Type 0} (F : Formats Msg) (R : Rules) (M : Module Msg) (me : ℕ
     pub few : length c.early < early_most
     pub is : t ≡ rests (record c { early = c.early ++ x ∷ [] })
 
+  -- a vote was counted
+  pub record IsVoted (v : Vote) (t : Turn Msg) : Type 0 where
+    pub near : v.epoch.0 ≤ suc c.past.epoch
+    pub signed : all_verify R (claim_of_vote R v ∷ []) ≡ true
+    pub uncounted : is_counted c v ≡ false
+    pub is : t ≡ rests (counted R c v)
+
+  -- an epoch was handed out
+  pub record IsHanded (to e : ℕ) (cert : Cert) (t : Turn Msg) : Type 0 where
+    pub kept : cert_on c.certs e ≡ Some cert
+    pub whole : start_of R (log_of R M me c.past) (suc e) ≤ length (log_of R M me c.past)
+    pub is : t ≡ handing F R M me c to e cert
+
+  -- the values of the node's epoch were adopted, and what had come early was tried
+  pub record IsAdopted (p : Sent_piece) (t : Turn Msg) : Type 0 where
+    pub epoch : p.epoch.0 ≡ c.past.epoch
+    pub of_epoch : p.cert.epoch.0 ≡ c.past.epoch
+    pub whole : length p.values ≡ R.slots (before_own R M me c.past) c.past.epoch
+    pub certified : is_true_cert R p.cert ≡ true
+    pub leads : leads_to R (before_own R M me c.past) p ≡ true
+    pub is : t ≡ onward (adopts_piece R M me c p) (takes_each F R M me (suc c.past.epoch) c.early)
+
   -- what a taken event did first; an epoch may end of it
   pub data Took : NodeEvent → Turn Msg → Type 0 where
     received : {bytes : List ℕ} {t : Turn Msg} (k : Parcel Msg) (l : ℕ) (msg : Msg) (u : Turn Msg) → F.unwrap bytes ≡ Some k → k.body ≡ OfModule l msg →
@@ -73,6 +104,12 @@ module _ {Msg : Type 0} (F : Formats Msg) (R : Rules) (M : Module Msg) (me : ℕ
     asked : {bytes : List ℕ} {t : Turn Msg} (k : Parcel Msg) (q : Request) → F.unwrap bytes ≡ Some k → k.body ≡ OfRequest q → IsRequested q t →
         Took (Gets bytes) t
     cast : {t : Turn Msg} (s : Slot) (u : Turn Msg) → IsCast s u → t ≡ settles F R M me u → Took Proposes t
+    voted : {bytes : List ℕ} {t : Turn Msg} (k : Parcel Msg) (v : Vote) → F.unwrap bytes ≡ Some k → k.body ≡ OfVote v → IsVoted v t → Took (Gets bytes) t
+    handed : {bytes : List ℕ} {t : Turn Msg} (k : Parcel Msg) (cert : Cert) → F.unwrap bytes ≡ Some k → k.body ≡ OfAsk → IsHanded k.from k.epoch cert t →
+        Took (Gets bytes) t
+    adopted : {bytes : List ℕ} {t : Turn Msg} (k : Parcel Msg) (p : Sent_piece) → F.unwrap bytes ≡ Some k → k.body ≡ OfPiece p → IsAdopted p t →
+        Took (Gets bytes) t
+    sought : {t : Turn Msg} (peer : NodeId) → t ≡ asking F me c peer → Took (Asks peer) t
     fired : {t : Turn Msg} (l : NodeId) (u : Turn Msg) → IsInput l.0 Timeout u → t ≡ settles F R M me u → Took (Fires l) t
 
   approved : (v : Option Refusal) (u t : Turn Msg) → by_verdict v u ≡ Taken t → (v ≡ None) × (t ≡ u)
@@ -106,7 +143,7 @@ module _ {Msg : Type 0} (F : Formats Msg) (R : Rules) (M : Module Msg) (me : ℕ
   settled-taken (Dropped why) t h = absurd (untaken why t h)
   settled-taken (Taken u) t h = (u, refl, turn-is (settles F R M me u) t h)
 
-  kept-taken : (x : Early Msg) (t : Turn Msg) → keeps_early c x ≡ Taken t → IsKept x t
+  pub kept-taken : (x : Early Msg) (t : Turn Msg) → keeps_early c x ≡ Taken t → IsKept x t
   kept-taken x t h = elim (leb_tells (suc (length c.early)) early_most) [
     | inl y ↦ record {
       few = y.1;
@@ -117,12 +154,51 @@ module _ {Msg : Type 0} (F : Formats Msg) (R : Rules) (M : Module Msg) (me : ℕ
         (sym (ap (λ (b : Bool). cond b (Taken (rests (record c { early = c.early ++ x ∷ [] }))) (Dropped EarlyFull)) y.0) ∙ h))
   ]
 
+  pub vote-taken : (v : Vote) (t : Turn Msg) → takes_vote R c v ≡ Taken t → IsVoted v t
+  vote-taken v t h =
+      let a = undropped (nat_lt (suc c.past.epoch) v.epoch.0) OtherEpoch _ t h in
+      let b = undropped (not (all_verify R (claim_of_vote R v ∷ []))) BadClaim _ t a.1 in
+      let d = undropped (is_counted c v) Known _ t b.1 in
+      record { near = not-below (suc c.past.epoch) v.epoch.0 a.0; signed = not-false _ b.0; uncounted = d.0; is = turn-is _ t d.1 }
+
+  pub hand-taken : (to e : ℕ) (t : Turn Msg) (o : Option Cert) → cert_on c.certs e ≡ o → hands_out F R M me c to e o ≡ Taken t →
+      (cert : Cert) × IsHanded to e cert t
+  hand-taken to e t None q h = absurd (untaken _ t h)
+  hand-taken to e t (Some cert) q h =
+      let log = log_of R M me c.past in
+      let a = undropped (nat_lt (length log) (start_of R log (suc e))) NoCert _ t h in
+      (cert, record { kept = q; whole = not-below (length log) (start_of R log (suc e)) a.0; is = turn-is _ t a.1 })
+
+  pub piece-taken : (p : Sent_piece) (t : Turn Msg) → takes_piece F R M me c p ≡ Taken t → IsAdopted p t
+  piece-taken p t h =
+      let e = c.past.epoch in
+      let bf = before_own R M me c.past in
+      let a = undropped (nat_lt p.epoch.0 e) NotNeeded _ t h in
+      let b = undropped (nat_lt e p.epoch.0) OtherEpoch _ t a.1 in
+      let d = undropped (not (has_shape R bf e p)) OtherEpoch _ t b.1 in
+      let f = undropped (not (is_true_cert R p.cert)) BadClaim _ t d.1 in
+      let g = undropped (not (leads_to R bf p)) WrongChain _ t f.1 in
+      let shape = and-true (eqb p.cert.epoch.0 e) (eqb (length p.values) (R.slots bf e)) (not-false _ d.0) in
+      let high = not-below p.epoch.0 e a.0 in
+      let low = not-below e p.epoch.0 b.0 in
+      record {
+        epoch = omega (arith, high, low);
+        of_epoch = is-eq p.cert.epoch.0 e shape.0;
+        whole = is-eq (length p.values) (R.slots bf e) shape.1;
+        certified = not-false _ f.0;
+        leads = not-false _ g.0;
+        is = turn-is _ t g.1;
+      }
+
   bytes-taken : (bytes : List ℕ) (t : Turn Msg) (o : Option (Parcel Msg)) → F.unwrap bytes ≡ o → takes_bytes F R M me c o ≡ Taken t → Took (Gets bytes) t
   bytes-taken bytes t None u h = absurd (untaken _ t h)
   bytes-taken bytes t (Some k) u h = go k.body refl h
     where
       go : (b : Body Msg) → k.body ≡ b → takes_parcel F R M me c k.from k.epoch b ≡ Taken t → Took (Gets bytes) t
       go (OfRequest q) e h = asked k q u e (request-taken q t h)
+      go (OfVote v) e h = voted k v u e (vote-taken v t h)
+      go OfAsk e h = let r = hand-taken k.from k.epoch t (cert_on c.certs k.epoch) refl h in handed k r.0 u e r.1
+      go (OfPiece p) e h = adopted k p u e (piece-taken p t h)
       go (OfModule l msg) e h = now (eqb k.epoch c.past.epoch) refl h
         where
           input : Input Msg
@@ -151,3 +227,4 @@ module _ {Msg : Type 0} (F : Formats Msg) (R : Rules) (M : Module Msg) (me : ℕ
   took (Fires l) t h =
       let r = settled-taken (at_instance F R M me c l.0 Timeout) t h in
       fired l r.0 (input-taken l.0 Timeout r.0 r.1) r.2
+  took (Asks peer) t h = sought peer (turn-is _ t h)

@@ -105,7 +105,7 @@ pub as_signed-append : (a b : List Claim) → as_signed (a ++ b) ≡ as_signed a
 as_signed-append [] b = refl
 as_signed-append (c ∷ a) b = ap (λ (xs : List Signed). record { by = c.by.0; statement = c.statement } ∷ xs) (as_signed-append a b)
 
-only-by : (i : ℕ) (cs : List Claim) (c : Claim) → In c (only_by i cs) → In c cs × (c.by.0 ≡ i)
+pub only-by : (i : ℕ) (cs : List Claim) (c : Claim) → In c (only_by i cs) → In c cs × (c.by.0 ≡ i)
 only-by i [] c h = absurd h
 only-by i (d ∷ cs) c h = go (eqb d.by.0 i) refl h (only-by i cs c)
   where
@@ -115,7 +115,7 @@ only-by i (d ∷ cs) c h = go (eqb d.by.0 i) refl h (only-by i cs c)
     go true q (inr k) ih = let r = ih k in (inr r.0, r.1)
     go false q k ih = let r = ih k in (inr r.0, r.1)
 
-in-signed : (cs : List Claim) (x : Signed) → In x (as_signed cs) → (c : Claim) × In c cs × (x ≡ record { by = c.by.0; statement = c.statement })
+pub in-signed : (cs : List Claim) (x : Signed) → In x (as_signed cs) → (c : Claim) × In c cs × (x ≡ record { by = c.by.0; statement = c.statement })
 in-signed [] x h = absurd h
 in-signed (c ∷ cs) x (inl e) = (c, inl refl, e)
 in-signed (c ∷ cs) x (inr h) = let r = in-signed cs x h in (r.0, inr r.1, r.2)

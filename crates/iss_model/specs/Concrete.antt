@@ -1,9 +1,12 @@
 -- The rules of a cluster under its set-up.
-use Rattle.std.specs.Prelude.{ℕ, zero, suc, ◌-◌, ◌^◌, ◌&&◌, Bool, List, ◌∷◌, ◌++◌, length, cond, nat_le, Option, Some, None}
+use Rattle.std.specs.Prelude.{ℕ, zero, suc, ◌-◌, ◌^◌, ◌&&◌, Bool, List, ◌∷◌, ◌++◌, length, reverse, cond, nat_le, nat_lt, Option, Some, None}
 use Rattle.std.specs.Int.{to_be_bytes, w16, w32}
-use Rattle.iss_keys.specs.Directories.{DirectoryView, directory_of}
+use Rattle.iss_checkpoint.specs.Votes.{vote_statement}
+use Rattle.iss_keys.specs.Directories.{DirectoryView, directory_of, node_secret}
+use Rattle.iss_keys.specs.Signatures.{signature_of}
 use Rattle.iss_keys.specs.VerifiedBy.{is_verified_by}
 use Rattle.iss_layout.specs.Layout.{Plan, bucket_of, bucket_owner, leads, plan_of, segment, slot_leader}
+use Rattle.iss_log.specs.Chains.{chain_of, end_of, strings_from}
 use Rattle.iss_request.specs.Log.{log_ids}
 use Rattle.iss_request.specs.declared.ids.NodeId.{NodeId}
 use Rattle.iss_request.specs.declared.ids.ReqId.{ReqId}
@@ -43,9 +46,10 @@ keys_of s = directory_of s.n s.clients s.keys
 abbrev pub request_statement : ReqId → List ℕ → List ℕ
 request_statement id payload = 0x30 ∷ id.client ∷ to_be_bytes w32 id.number ++ to_be_bytes w16 (length payload) ++ payload
 
--- whether a request is signed by its client. No statement has a payload of more than 256 bytes
+-- whether a request is signed by its client. No statement has a number of more than four bytes, nor a payload of more than 256
 abbrev pub is_signed_by : DirectoryView → Request → Bool
-is_signed_by d q = nat_le (length q.payload) 256 && is_verified_by d.clients q.id.client (request_statement q.id q.payload) q.sig
+is_signed_by d q =
+    nat_lt q.id.number (2 ^ 32) && (nat_le (length q.payload) 256 && is_verified_by d.clients q.id.client (request_statement q.id q.payload) q.sig)
 
 -- epochs are divided by the layout, and nodes and clients sign by their keys
 abbrev pub rules_of : Setup → Rules
@@ -67,4 +71,10 @@ rules_of s =
         slots = segment (plan_at s log e) l;
         directory = keys_of s;
       };
+      end = λ log. end_of s.version (reverse log);
+      hashes = λ log values. strings_from s.version (chain_of s.version (reverse log)) values;
+      nodes = s.n;
+      quorum = s.quorum;
+      voted = λ e chain number. vote_statement s.tag e chain number;
+      signature = λ me leaf statement. signature_of (node_secret me) s.keys leaf statement;
     }

@@ -7,7 +7,7 @@ use Rattle.iss_request.specs.declared.ids.Slot.{Slot}
 use Rattle.iss_request.specs.declared.requests.Batch.{Batch}
 use Rattle.iss_request.specs.declared.setups.Setup.{Setup}
 use Rattle.iss_schedule.specs.declared.schedules.Event.{Event}
-use Rattle.iss_schedule.specs.declared.schedules.Event.TheVariants.{Request as Asks_order, Propose, Timeout, Deliver, Lose, Pump, Calm, Hold, Free, Drop, Bytes}
+use Rattle.iss_schedule.specs.declared.schedules.Event.TheVariants.{Request as Asks_order, Propose, Timeout, Ask, Deliver, Lose, Pump, Calm, Hold, Free, Drop, Bytes}
 use Rattle.iss_sb.specs.declared.effects.Params.{Params}
 use Rattle.iss_sb.specs.Calls.{IsGoodParams}
 use Rattle.iss_sb.specs.Evidence.{IsReached, IsString, Module, Separate, World, accepts, is_correct}
@@ -26,6 +26,7 @@ asked_by i (Asks_order c client number payload) None = cond (c == i) (record { c
 asked_by i (Asks_order c client number payload) (Some why) = []
 asked_by i (Propose c) lost = []
 asked_by i (Timeout c l) lost = []
+asked_by i (Ask c peer) lost = []
 asked_by i (Deliver k) lost = []
 asked_by i (Lose k) lost = []
 asked_by i Pump lost = []

@@ -1,5 +1,5 @@
 -- What the end of a run shows to anyone who has its schedule, and what its book holds.
-use Rattle.std.specs.Prelude.{◌≡◌, ℕ, true, List, ◌∷◌, ◌++◌, Some}
+use Rattle.std.specs.Prelude.{◌≡◌, ◌⊎◌, ℕ, suc, ◌<◌, true, List, ◌∷◌, ◌++◌, Some}
 use Rattle.iss_base.specs.Lists.{In, over}
 use Rattle.iss_keys.specs.Directories.{VerifiesBy, directory_of}
 use Rattle.iss_request.specs.Digest.{digest}
@@ -13,7 +13,7 @@ use Rattle.iss_model.specs.Concrete.{rules_of}
 use Rattle.iss_model.specs.Formats.{formats_of}
 use Rattle.iss_model.specs.Node.{Formats, Taken, Turn, step}
 use Rattle.iss_model.specs.OneLog.{pasts_after, run_after}
-use Rattle.iss_model.specs.Past.{Past, before}
+use Rattle.iss_model.specs.Past.{Past, Piece, before}
 use Rattle.iss_model.specs.Rules.{Rules}
 use Rattle.iss_model.specs.Run.{Collision, End, Forged, Held, claims_at, early_of, node_of}
 
@@ -54,9 +54,20 @@ abbrev pub AreBooked : {Msg : Type 0} → Rules → Module Msg → ℕ → Past 
 AreBooked {Msg} R M i c book =
     (e l : ℕ) (item : Item Msg) → In item (c.evidence e l) → (x : Signed) → IsOwn M (R.params (before R M i c e) e l) i item.made.sends x → In x book
 
+-- the epoch was adopted
+abbrev pub WasAdopted : {Msg : Type 0} → Past Msg → ℕ → Type 0
+WasAdopted c e = (piece : Piece) × In piece c.adopted × (piece.epoch ≡ e)
+
+-- the book has the vote of node i on each epoch that it ended itself
+abbrev pub AreVoted : {Msg : Type 0} → Rules → Module Msg → ℕ → Past Msg → List Signed → Type 0
+AreVoted R M i c book =
+    (e : ℕ) → e < c.epoch → WasAdopted c e ⊎
+    In (record { by = i; statement = R.voted e (R.end (before R M i c (suc e))).chain (R.end (before R M i c (suc e))).requests }) book
+
 -- Where the run has ended, that is shown by what it holds; what comes later changes nothing; and the book misses no claim
--- that a correct node sent of its own, so that a claim which is not there was not sent.
+-- and no vote that a correct node sent of its own, so that what is not there was not sent.
 pub record HasEvidence {Msg : Type 0} (s : Setup) (M : Module Msg) (events : List Event) : Type 0 where
   pub shown : (k : ℕ) (end : End) → (run_after s M events).ended ≡ Some (k, end) → Shows s (formats_of s M) (rules_of s) M (run_after s M events).held end
   pub stays : (k : ℕ) (end : End) → (run_after s M events).ended ≡ Some (k, end) → (more : List Event) → run_after s M (events ++ more) ≡ run_after s M events
   pub booked : (i : ℕ) → is_correct s i ≡ true → AreBooked (rules_of s) M i (pasts_after s M events i) (run_after s M events).held.signed
+  pub voted : (i : ℕ) → is_correct s i ≡ true → AreVoted (rules_of s) M i (pasts_after s M events i) (run_after s M events).held.signed

@@ -8,3 +8,10 @@ pub record IsInstance (p : Params) (mark : ℕ) (domain : List ℕ) (e l tag : �
   pub epoch : e ≡ p.epoch.0
   pub leader : l ≡ p.leader.0
   pub module_tag : tag ≡ mark
+
+-- two votes are of one cluster, on one epoch, and say the same of its log
+pub record IsSameVote (one other : List ℕ) (e d : ℕ) (a b : List ℕ) (q r : ℕ) : Type 0 where
+  pub cluster : one ≡ other
+  pub epoch : e ≡ d
+  pub chain : a ≡ b
+  pub number : q ≡ r

@@ -1,3 +1,4 @@
+pub mod Certified
 pub mod Cluster
 pub mod Judge
 pub mod Node

@@ -1,11 +1,17 @@
 -- One node over all epochs: what it holds, and one step of it.
-use Rattle.std.specs.Prelude.{ℕ, suc, ◌+◌, ◌-◌, ◌==◌, nat_lt, cond, Bool, false, not, ◌&&◌, ◌||◌}
-use Rattle.std.specs.Prelude.{List, [], ◌∷◌, ◌++◌, Option, Some, None, length, is_some, take}
+use Rattle.std.specs.Prelude.{ℕ, suc, ◌+◌, ◌-◌, ◌==◌, nat_le, nat_lt, cond, Bool, true, false, not, ◌&&◌, ◌||◌}
+use Rattle.std.specs.Prelude.{List, [], ◌∷◌, ◌++◌, Option, Some, None, length, is_some, reverse, take}
 use Rattle.std.specs.List.{list_all}
 use Rattle.iss_buckets.specs.Waiting.{absent, cut, uncut}
+use Rattle.iss_base.specs.Lists.{over}
+use Rattle.iss_checkpoint.specs.Tallies.{certificate_by}
+use Rattle.iss_checkpoint.specs.declared.votes.Cert.{Cert}
+use Rattle.iss_checkpoint.specs.declared.votes.Signed.{Signed}
+use Rattle.iss_checkpoint.specs.declared.votes.Vote.{Vote}
 use Rattle.iss_keys.specs.KeyStates.{left_of}
 pub use Rattle.iss_layout.specs.Layout.{is_nil_at}
 use Rattle.iss_request.specs.Log.{has_id, ids, log_ids}
+use Rattle.iss_request.specs.declared.ids.NodeId.{NodeId}
 use Rattle.iss_request.specs.declared.ids.ReqId.{ReqId}
 use Rattle.iss_request.specs.declared.ids.Slot.{Slot}
 use Rattle.iss_request.specs.declared.requests.Batch.{Batch}
@@ -16,20 +22,27 @@ use Rattle.iss_sb.specs.declared.effects.Input.{Input}
 use Rattle.iss_sb.specs.declared.effects.Input.TheVariants.{Cast, Receive, Timeout}
 use Rattle.iss_sb.specs.declared.effects.Params.{Params}
 use Rattle.iss_sb.specs.declared.effects.To.{To}
+use Rattle.iss_sb.specs.declared.effects.To.TheVariants.{All as To_all, One as To_one}
+use Rattle.iss_transfer.specs.Adoption.{said_in, same_end}
+use Rattle.iss_transfer.specs.declared.pieces.Piece.{Piece as Sent_piece}
 use Rattle.iss_sb.specs.Evidence.{Item, Module, accepts, delivered}
 use Rattle.iss_model.specs.declared.causes.NodeEvent.{NodeEvent}
-use Rattle.iss_model.specs.declared.causes.NodeEvent.TheVariants.{Packet as Gets, Propose as Proposes, Timeout as Fires}
+use Rattle.iss_model.specs.declared.causes.NodeEvent.TheVariants.{Packet as Gets, Propose as Proposes, Timeout as Fires, AskFrom as Asks}
 use Rattle.iss_model.specs.declared.causes.Refusal.{Refusal}
 use Rattle.iss_model.specs.declared.causes.Why.{Why}
 use Rattle.iss_model.specs.declared.causes.Why.TheVariants.{NotPacket, BadRequest, Known, OutOfWindow, OtherEpoch, EarlyFull}
-use Rattle.iss_model.specs.declared.causes.Why.TheVariants.{NotLeader, BadClaim, NothingToCast, NoKeys, Refused}
+use Rattle.iss_model.specs.declared.causes.Why.TheVariants.{NotLeader, BadClaim, NothingToCast, NoKeys, Refused, NoCert, NotNeeded, WrongChain}
 use Rattle.iss_model.specs.Judge.{judge, marks}
-use Rattle.iss_model.specs.Past.{Past, advanced, asked_in, before_own, is_complete, leads_in, log_of, made_in, newborn, params_of, taken_in, takes}
+use Rattle.iss_model.specs.Past.{Past, adopts, advanced, asked_in, before_own, cut_at, ended_log, is_complete, leads_in, log_of, made_in, newborn, params_of, start_of, taken_in, takes}
 use Rattle.iss_model.specs.Rules.{Rules}
 
--- what a packet holds: a module's message in the instance of a leader, or a request
+-- what a packet holds: a module's message in the instance of a leader, a vote on the log at an epoch's end, an ask for an
+-- epoch, the values of an epoch under a certificate, or a request
 pub data Body (Msg : Type 0) : Type 0 where
   OfModule : (leader : ℕ) → (msg : Msg) → Body Msg
+  OfVote : (vote : Vote) → Body Msg
+  OfAsk : Body Msg
+  OfPiece : (piece : Sent_piece) → Body Msg
   OfRequest : (request : Request) → Body Msg
 
 pub record Parcel (Msg : Type 0) : Type 0 where
@@ -55,11 +68,14 @@ pub record Core (Msg : Type 0) : Type 0 where
   pub flight : List (Slot × Batch)
   -- what came for the next epoch, in order of arrival
   pub early : List (Early Msg)
+  -- the votes that were counted, and the certificates that are kept, newest first
+  pub votes : List Vote
+  pub certs : List Cert
   -- the next leaf to sign with
   pub leaf : ℕ
 
 abbrev pub idle : {Msg : Type 0} → Core Msg
-idle = record { past = newborn; waiting = []; flight = []; early = []; leaf = 0 }
+idle = record { past = newborn; waiting = []; flight = []; early = []; votes = []; certs = []; leaf = 0 }
 
 -- a node after a step, the packets that it made, in order, its own claims in them, the claims that it read of what had come
 -- early, and the strings that it hashed
@@ -99,8 +115,14 @@ refiled R M me c past leaf =
       waiting = absent (log_ids (joined (length old) log)) c.waiting ++ absent (log_ids log) (returned log c.flight);
       flight = flying (length log) c.flight;
       early = c.early;
+      votes = c.votes;
+      certs = c.certs;
       leaf = leaf;
     }
+
+-- the strings that are hashed as a log grows by what joins it: slot by slot, the value's and the link's
+abbrev pub grown_strings : Rules → List Value → List Value → List (List ℕ)
+grown_strings R old log = R.hashes old (reverse (joined (length old) log))
 
 abbrev pub packed : {Msg : Type 0} → Formats Msg → ℕ → ℕ → ℕ → List (To × Msg) → List (To × List ℕ)
 packed F me e l [] = []
@@ -124,7 +146,7 @@ inputs F R M me c l input =
       sends = packed F me c.past.epoch l made.sends;
       own = own_claims M (params_of R M me c.past l) me made.sends;
       early = [];
-      strings = made.strings;
+      strings = made.strings ++ grown_strings R (log_of R M me c.past) (log_of R M me (takes R M me c.past l input c.leaf));
     }
 
 -- what the judge says of what an input asks for
@@ -181,9 +203,36 @@ onward t more =
 abbrev pub in_next_epoch : {Msg : Type 0} → Core Msg → Core Msg
 in_next_epoch c = record c { past = advanced c.past; early = [] }
 
+-- what a node votes for that ends its epoch, signed by its next leaf, and the claim that this is
+abbrev pub vote_on : {Msg : Type 0} → Rules → Module Msg → ℕ → Core Msg → Vote
+vote_on R M me c =
+    let end = R.end (ended_log R M me c.past) in
+    record {
+      epoch = record { 0 = c.past.epoch };
+      chain = end.chain;
+      requests = end.requests;
+      by = record { 0 = me };
+      sig = R.signature me c.leaf (R.voted c.past.epoch end.chain end.requests);
+    }
+
+abbrev pub claim_of_vote : Rules → Vote → Claim
+claim_of_vote R v = record { by = v.by; statement = R.voted v.epoch.0 v.chain v.requests; sig = v.sig }
+
+-- a node that ends its epoch votes, and the next one begins
+abbrev pub ends : {Msg : Type 0} → Formats Msg → Rules → Module Msg → ℕ → Core Msg → Turn Msg
+ends F R M me c =
+    let v = vote_on R M me c in
+    record {
+      core = record (in_next_epoch c) { leaf = suc c.leaf };
+      sends = (To_all, F.wrap (record { from = me; epoch = c.past.epoch; body = OfVote v })) ∷ [];
+      own = claim_of_vote R v ∷ [];
+      early = [];
+      strings = [];
+    }
+
 -- an epoch ends where the log holds all of it
-abbrev pub ended : {Msg : Type 0} → Rules → Module Msg → ℕ → Turn Msg → Turn Msg
-ended R M me t = cond (is_complete R M me t.core.past) (record t { core = in_next_epoch t.core }) t
+abbrev pub ended : {Msg : Type 0} → Formats Msg → Rules → Module Msg → ℕ → Turn Msg → Turn Msg
+ended F R M me t = cond (is_complete R M me t.core.past) (onward t (ends F R M me)) t
 
 abbrev pub tried : {Msg : Type 0} → Core Msg → Stepped Msg → Turn Msg
 tried c (Dropped why) = rests c
@@ -192,7 +241,7 @@ tried c (Taken turn) = turn
 -- an early message, as if it came now; one that is refused is gone, but its claims were read
 abbrev pub takes_early : {Msg : Type 0} → Formats Msg → Rules → Module Msg → ℕ → Core Msg → Early Msg → Turn Msg
 takes_early F R M me c x =
-    let t = ended R M me (tried c (at_instance F R M me c x.leader (Receive (record { 0 = x.from }) x.msg))) in
+    let t = ended F R M me (tried c (at_instance F R M me c x.leader (Receive (record { 0 = x.from }) x.msg))) in
     record t { early = claims_in R M me c.past x.from x.leader x.msg }
 
 -- all of them in turn, as long as epoch e lasts
@@ -201,11 +250,11 @@ takes_each F R M me e [] c = rests c
 takes_each F R M me e (x ∷ xs) c =
     cond (c.past.epoch == e) (onward (takes_early F R M me c x) (takes_each F R M me e xs)) (rests c)
 
--- where a turn fills the epoch, the next one begins with what came early for it
+-- where a turn fills the epoch, the node votes, and the next one begins with what came early for it
 abbrev pub settles : {Msg : Type 0} → Formats Msg → Rules → Module Msg → ℕ → Turn Msg → Turn Msg
 settles F R M me t =
     cond (is_complete R M me t.core.past)
-    (onward (record t { core = in_next_epoch t.core }) (takes_each F R M me (suc t.core.past.epoch) t.core.early))
+    (onward (onward t (ends F R M me)) (takes_each F R M me (suc t.core.past.epoch) t.core.early))
     t
 
 abbrev pub settled : {Msg : Type 0} → Formats Msg → Rules → Module Msg → ℕ → Stepped Msg → Stepped Msg
@@ -242,9 +291,137 @@ takes_message F R M me c from e l msg =
     (cond (e == suc c.past.epoch) (keeps_early c (record { from = from; leader = l; msg = msg }))
     (Dropped OtherEpoch))
 
+-- ---- votes
+
+-- the vote of node k on epoch e, if it was counted, and the certificate of an epoch, if one is kept
+abbrev pub vote_by : List Vote → ℕ → ℕ → Option Vote
+vote_by [] e k = None
+vote_by (v ∷ vs) e k = cond ((v.epoch.0 == e) && (v.by.0 == k)) (Some v) (vote_by vs e k)
+
+abbrev pub cert_on : List Cert → ℕ → Option Cert
+cert_on [] e = None
+cert_on (c ∷ cs) e = cond (c.epoch.0 == e) (Some c) (cert_on cs e)
+
+-- the certificate of all votes that say the same as v, as soon as they are of a quorum
+abbrev pub stable : Rules → List Vote → Vote → List Cert
+stable R votes v =
+    let c = certificate_by (vote_by votes v.epoch.0) v R.nodes in
+    cond (length c.signers == R.quorum) (c ∷ []) []
+
+-- a vote more; the one that makes its like a quorum gives the certificate of the epoch that is kept
+abbrev pub counted : {Msg : Type 0} → Rules → Core Msg → Vote → Core Msg
+counted R c v = record c { votes = v ∷ c.votes; certs = stable R (v ∷ c.votes) v ++ c.certs }
+
+abbrev pub is_counted : {Msg : Type 0} → Core Msg → Vote → Bool
+is_counted c v = is_some (cert_on c.certs v.epoch.0) || is_some (vote_by c.votes v.epoch.0 v.by.0)
+
+abbrev pub takes_vote : {Msg : Type 0} → Rules → Core Msg → Vote → Stepped Msg
+takes_vote R c v =
+    cond (nat_lt (suc c.past.epoch) v.epoch.0) (Dropped OtherEpoch)
+    (cond (not (all_verify R (claim_of_vote R v ∷ []))) (Dropped BadClaim)
+    (cond (is_counted c v) (Dropped Known)
+    (Taken (rests (counted R c v)))))
+
+-- ---- asks
+
+-- the values of an epoch that a log holds, in the order of their slots
+abbrev pub values_of : Rules → List Value → ℕ → List Value
+values_of R log e = reverse (joined (length (cut_at R log e)) (cut_at R log (suc e)))
+
+-- the claims of a certificate: the vote of each of its signers
+abbrev pub claims_by : List ℕ → List Signed → List Claim
+claims_by statement [] = []
+claims_by statement (x ∷ xs) = record { by = x.by; statement = statement; sig = x.sig } ∷ claims_by statement xs
+
+abbrev pub claims_of_cert : Rules → Cert → List Claim
+claims_of_cert R c = claims_by (R.voted c.epoch.0 c.chain c.requests) c.signers
+
+-- a piece for another node, which claims the node's own vote
+abbrev pub handing : {Msg : Type 0} → Formats Msg → Rules → Module Msg → ℕ → Core Msg → ℕ → ℕ → Cert → Turn Msg
+handing F R M me c to e cert =
+    let piece : Sent_piece = record { epoch = record { 0 = e }; values = values_of R (log_of R M me c.past) e; cert = cert } in
+    record {
+      core = c;
+      sends = (To_one (record { 0 = to }), F.wrap (record { from = me; epoch = e; body = OfPiece piece })) ∷ [];
+      own = only_by me (claims_of_cert R cert);
+      early = [];
+      strings = [];
+    }
+
+-- the node hands out an epoch, where it keeps its certificate and holds all of it
+abbrev pub hands_out : {Msg : Type 0} → Formats Msg → Rules → Module Msg → ℕ → Core Msg → ℕ → ℕ → Option Cert → Stepped Msg
+hands_out F R M me c to e None = Dropped NoCert
+hands_out F R M me c to e (Some cert) =
+    let log = log_of R M me c.past in
+    cond (nat_lt (length log) (start_of R log (suc e))) (Dropped NoCert)
+    (Taken (handing F R M me c to e cert))
+
+-- the node asks another for its own epoch
+abbrev pub asking : {Msg : Type 0} → Formats Msg → ℕ → Core Msg → NodeId → Turn Msg
+asking F me c peer =
+    record {
+      core = c;
+      sends = (To_one peer, F.wrap (record { from = me; epoch = c.past.epoch; body = OfAsk })) ∷ [];
+      own = [];
+      early = [];
+      strings = [];
+    }
+
+-- ---- pieces
+
+-- whether signatures are of nodes that rise, each of them true, and whether a certificate has a quorum of these
+abbrev pub are_true : Rules → List ℕ → ℕ → List Signed → Bool
+are_true R statement from [] = true
+are_true R statement from (x ∷ xs) = nat_le from x.by.0 && (R.verifies x.by.0 statement x.sig && are_true R statement (suc x.by.0) xs)
+
+abbrev pub is_true_cert : Rules → Cert → Bool
+is_true_cert R c = (length c.signers == R.quorum) && are_true R (R.voted c.epoch.0 c.chain c.requests) 0 c.signers
+
+-- a value for each slot of the epoch
+abbrev pub has_shape : Rules → List Value → ℕ → Sent_piece → Bool
+has_shape R before e p = (p.cert.epoch.0 == e) && (length p.values == R.slots before e)
+
+-- the log that the values lead to has the end that the certificate says
+abbrev pub leads_to : Rules → List Value → Sent_piece → Bool
+leads_to R before p = same_end (R.end (over p.values before)) (said_in p.cert)
+
+-- the certificate is kept where none of its epoch is
+abbrev pub keeping : List Cert → Cert → Option Cert → List Cert
+keeping certs c None = c ∷ certs
+keeping certs c (Some other) = certs
+
+-- the values of its epoch are the node's, which ends the epoch with no vote
+abbrev pub adopts_piece : {Msg : Type 0} → Rules → Module Msg → ℕ → Core Msg → Sent_piece → Turn Msg
+adopts_piece R M me c p =
+    let past = adopts c.past (record { epoch = c.past.epoch; values = p.values }) in
+    let before = before_own R M me c.past in
+    record {
+      core = record (refiled R M me c past c.leaf) { early = []; certs = keeping c.certs p.cert (cert_on c.certs c.past.epoch) };
+      sends = [];
+      own = [];
+      early = [];
+      strings = R.hashes before p.values ++ grown_strings R (log_of R M me c.past) (log_of R M me past);
+    }
+
+abbrev pub takes_piece : {Msg : Type 0} → Formats Msg → Rules → Module Msg → ℕ → Core Msg → Sent_piece → Stepped Msg
+takes_piece F R M me c p =
+    let e = c.past.epoch in
+    let before = before_own R M me c.past in
+    cond (nat_lt p.epoch.0 e) (Dropped NotNeeded)
+    (cond (nat_lt e p.epoch.0) (Dropped OtherEpoch)
+    (cond (not (has_shape R before e p)) (Dropped OtherEpoch)
+    (cond (not (is_true_cert R p.cert)) (Dropped BadClaim)
+    (cond (not (leads_to R before p)) (Dropped WrongChain)
+    (Taken (onward (adopts_piece R M me c p) (takes_each F R M me (suc e) c.early)))))))
+
+-- ---- packets
+
 abbrev pub takes_parcel : {Msg : Type 0} → Formats Msg → Rules → Module Msg → ℕ → Core Msg → ℕ → ℕ → Body Msg → Stepped Msg
 takes_parcel F R M me c from e (OfRequest q) = takes_request R M me c q
 takes_parcel F R M me c from e (OfModule l msg) = takes_message F R M me c from e l msg
+takes_parcel F R M me c from e (OfVote v) = takes_vote R c v
+takes_parcel F R M me c from e OfAsk = hands_out F R M me c from e (cert_on c.certs e)
+takes_parcel F R M me c from e (OfPiece p) = takes_piece F R M me c p
 
 abbrev pub takes_bytes : {Msg : Type 0} → Formats Msg → Rules → Module Msg → ℕ → Core Msg → Option (Parcel Msg) → Stepped Msg
 takes_bytes F R M me c None = Dropped NotPacket
@@ -291,3 +468,4 @@ step F R M me c Proposes =
     cond (not (leads_in R M me c.past me)) (Dropped NotLeader)
     (casts_at F R M me c (next_slot R M me c))
 step F R M me c (Fires l) = settled F R M me (at_instance F R M me c l.0 Timeout)
+step F R M me c (Asks peer) = Taken (asking F me c peer)

@@ -7,7 +7,8 @@ use Rattle.iss_request.specs.declared.requests.Value.TheVariants.{Batch as Holds
 use Rattle.iss_request.specs.declared.setups.Setup.{Setup}
 use Rattle.iss_schedule.specs.declared.schedules.Event.{Event}
 use Rattle.iss_sb.specs.Evidence.{Module, Separate, is_correct}
-use Rattle.iss_model.specs.Cluster.{Cluster, Reach, Scheme}
+use Rattle.iss_model.specs.Checkpoints.{scheme_of}
+use Rattle.iss_model.specs.Cluster.{Cluster, Reach}
 use Rattle.iss_model.specs.Concrete.{rules_of}
 use Rattle.iss_model.specs.Formats.{formats_of}
 use Rattle.iss_model.specs.Ordered.{Among, IsExact, IsSoundRules, WasAccepted}
@@ -26,17 +27,16 @@ pasts_after s M events = pasts_of (run_after s M events).held.net
 abbrev pub printed : {Msg : Type 0} → Setup → Module Msg → List Event → ℕ → List Value
 printed s M events i = reverse (log_of (rules_of s) M i (pasts_after s M events i))
 
--- What the cores took is what the nodes of a cluster took after some moves, with the run's books; and all that was
--- hashed is separate, since a collision would have ended the run.
+-- What the cores took is what the nodes of a cluster took after some moves, with the run's books, where logs are chained and
+-- voted for as the set-up has it; and all that was hashed is separate, since a collision would have ended the run.
 pub record IsClusterRun {Msg : Type 0} (s : Setup) (M : Module Msg) (events : List Event) : Type 0 where
-  pub scheme : Scheme
   pub cluster : Cluster Msg
   pub pasts : cluster.pasts ≡ pasts_after s M events
   pub book : cluster.book ≡ (run_after s M events).held.signed
   pub strings : cluster.strings ≡ (run_after s M events).held.hashed
-  pub reached : Reach s scheme (rules_of s) M cluster
+  pub reached : Reach s (scheme_of s) (rules_of s) M cluster
   pub sound : IsSoundRules s M (rules_of s)
-  pub exact : IsExact s scheme cluster
+  pub exact : IsExact s (scheme_of s) cluster
   pub separate : Separate (Among cluster.strings)
 
 -- The logs that correct nodes print are of one log, with no premise on claims or digests.

@@ -1,5 +1,6 @@
 -- The rules of the log, as functions of the log before an epoch. Logs are newest first.
 use Rattle.std.specs.Prelude.{ℕ, List, Bool}
+use Rattle.iss_log.specs.declared.chains.End.{End}
 use Rattle.iss_request.specs.declared.ids.ReqId.{ReqId}
 use Rattle.iss_request.specs.declared.requests.Request.{Request}
 use Rattle.iss_request.specs.declared.requests.Value.{Value}
@@ -22,3 +23,12 @@ pub record Rules : Type 0 where
   pub verifies : ℕ → List ℕ → List ℕ → Bool
   -- what an instance of an epoch is started with, by its leader
   pub params : List Value → ℕ → ℕ → Params
+  -- what stands for a log, and the strings that are hashed for values, oldest first, behind a log
+  pub end : List Value → End
+  pub hashes : List Value → List Value → List (List ℕ)
+  -- how many nodes there are, and how many of them decide
+  pub nodes : ℕ
+  pub quorum : ℕ
+  -- what a vote signs of an epoch, a chain and a number of requests, and what a node signs a statement with, by a leaf
+  pub voted : ℕ → List ℕ → ℕ → List ℕ
+  pub signature : ℕ → ℕ → List ℕ → List ℕ

@@ -17,9 +17,9 @@ use Rattle.iss_sb.specs.declared.effects.To.{To}
 use Rattle.iss_sb.specs.declared.effects.To.TheVariants.{All as To_all, One as To_one}
 use Rattle.iss_sb.specs.Evidence.{Module, is_correct}
 use Rattle.iss_schedule.specs.declared.schedules.Event.{Event}
-use Rattle.iss_schedule.specs.declared.schedules.Event.TheVariants.{Request as Asks_order, Propose, Timeout, Deliver, Lose, Pump, Calm, Hold, Free, Drop, Bytes}
+use Rattle.iss_schedule.specs.declared.schedules.Event.TheVariants.{Request as Asks_order, Propose, Timeout, Ask, Deliver, Lose, Pump, Calm, Hold, Free, Drop, Bytes}
 use Rattle.iss_model.specs.declared.causes.NodeEvent.{NodeEvent}
-use Rattle.iss_model.specs.declared.causes.NodeEvent.TheVariants.{Packet as Gets, Propose as Proposes, Timeout as Fires}
+use Rattle.iss_model.specs.declared.causes.NodeEvent.TheVariants.{Packet as Gets, Propose as Proposes, Timeout as Fires, AskFrom as Asks}
 use Rattle.iss_model.specs.declared.causes.Why.{Why}
 use Rattle.iss_model.specs.declared.causes.Why.TheVariants.{NoPacket}
 use Rattle.iss_model.specs.Cluster.{Signed}
@@ -88,6 +88,7 @@ abbrev pub claims_at : {Msg : Type 0} → Formats Msg → Rules → Module Msg �
 claims_at F R M me c (Gets bytes) = claims_of_bytes F R M me c bytes
 claims_at F R M me c Proposes = []
 claims_at F R M me c (Fires l) = []
+claims_at F R M me c (Asks peer) = []
 
 abbrev pub early_of : {Msg : Type 0} → Stepped Msg → List Claim
 early_of (Dropped why) = []
@@ -204,6 +205,7 @@ happens s F R M h (Asks_order c client number payload) =
     at_core s F R M h c (Gets (F.wrap (record { from = 255; epoch = 0; body = OfRequest (request_of s client number payload) })))
 happens s F R M h (Propose c) = at_core s F R M h c Proposes
 happens s F R M h (Timeout c l) = at_core s F R M h c (Fires l)
+happens s F R M h (Ask c peer) = at_core s F R M h c (Asks peer)
 happens s F R M h (Deliver k) = delivers s F R M h k
 happens s F R M h (Lose k) = loses h k (nth h.net.network.packets k)
 happens s F R M h Pump = pumps s F R M h

@@ -7,7 +7,7 @@ use Rattle.iss_request.specs.declared.requests.Batch.{Batch}
 use Rattle.iss_sb.specs.declared.effects.Params.{Params}
 use Rattle.iss_sb.specs.Evidence.{Item, Module, accepts, delivered}
 use Rattle.iss_sb.specs.declared.effects.Claim.{Claim}
-use Rattle.iss_model.specs.Node.{Body, Core, Formats, OfModule, OfRequest, Parcel, claims_in, next_slot}
+use Rattle.iss_model.specs.Node.{Body, Core, Formats, OfAsk, OfModule, OfPiece, OfRequest, OfVote, Parcel, claim_of_vote, claims_in, claims_of_cert, next_slot}
 use Rattle.iss_model.specs.Past.{Past, leads_in, params_of, taken_in}
 use Rattle.iss_model.specs.Rules.{Rules}
 
@@ -34,9 +34,13 @@ unfilled R M n me c = filter (is_unfilled R M me c) (below n)
 abbrev pub is_castable_now : {Msg : Type 0} → Rules → Module Msg → ℕ → Core Msg → Bool
 is_castable_now R M me c = leads_in R M me c.past me && is_some (next_slot R M me c)
 
--- the claims that bytes hold which come to a node: those of a module's message of its epoch, whose leader leads there
+-- the claims that bytes hold which come to a node: a vote's, those of a piece's certificate, and those of a module's message of
+-- the node's epoch, whose leader leads there
 abbrev pub claims_of_body : {Msg : Type 0} → Rules → Module Msg → ℕ → Core Msg → ℕ → ℕ → Body Msg → List Claim
 claims_of_body R M me c from e (OfRequest q) = []
+claims_of_body R M me c from e (OfVote v) = claim_of_vote R v ∷ []
+claims_of_body R M me c from e OfAsk = []
+claims_of_body R M me c from e (OfPiece p) = claims_of_cert R p.cert
 claims_of_body R M me c from e (OfModule l msg) = cond (e == c.past.epoch) (claims_in R M me c.past from l msg) []
 
 abbrev pub claims_of_parcel : {Msg : Type 0} → Rules → Module Msg → ℕ → Core Msg → Option (Parcel Msg) → List Claim

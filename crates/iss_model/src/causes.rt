@@ -7,6 +7,8 @@ pub enum NodeEvent {
     Packet(Bytes),
     Propose,
     Timeout(NodeId),
+    /// It asks another node for the epoch in which it is.
+    AskFrom(NodeId),
 }
 
 /// Why a batch is not accepted in a segment, in the order in which the causes are tested.
@@ -53,4 +55,10 @@ pub enum Why {
     NoKeys,
     /// The batch that the step would accept is refused.
     Refused(Refusal),
+    /// No certificate of the epoch that is asked for is kept, or the log lacks a slot of it.
+    NoCert,
+    /// The piece is of an epoch that has ended.
+    NotNeeded,
+    /// The values of a piece do not lead to what its certificate says.
+    WrongChain,
 }

@@ -7,6 +7,6 @@ pub mod theorems;
 
 pub use causes::{NodeEvent, Refusal, Why};
 pub use theorems::{
-    claims_are_of_one_instance, cluster_runs, composition, requests_are_conserved,
-    requests_are_signed, runs_end_with_evidence,
+    adopted_was_delivered, certificates_are_of_logs, claims_are_of_one_instance, cluster_runs,
+    composition, requests_are_conserved, requests_are_signed, runs_end_with_evidence,
 };

@@ -97,12 +97,13 @@ module _ {M Msg : Type 0} (m : Module Msg) (stands : M → Params → ℕ → Li
 
     pub cut-core : record (core_of v past) { waiting = uncut v.setup.batch (is_mine (rules_of v.setup) m v.me.0 (core_of v past)) v.waiting; flight = v.flight.casts ++ (slot, cut v.setup.batch (is_mine (rules_of v.setup) m v.me.0 (core_of v past)) v.waiting) ∷ [] }
         ≡ core_of (record v { waiting = u.waiting; flight = u.flight }) past
-    cut-core = λ t. record { past = past; waiting = sym left t; flight = sym casts t; early = (core_of v past).early; leaf = v.keys.used }
+    cut-core = λ t. record { past = past; waiting = sym left t; flight = sym casts t; early = (core_of v past).early; votes = []; certs = []; leaf = v.keys.used }
 
     pub cut-tied : IsTied m stands (record v { waiting = u.waiting; flight = u.flight }) past
     cut-tied = record {
       epoch = tied.epoch;
       log = tied.log;
+      chained = tied.chained;
       rests = tied.rests;
       standing = tied.standing;
       start = tied.start;

@@ -82,10 +82,12 @@ module _ {M Msg : Type 0} (m : Module Msg) (stands : M → Params → ℕ → Li
     segments = segments;
     accepted = [];
     log = v.log;
+    chains = v.chains;
     waiting = v.waiting;
     flight = v.flight;
     early = [];
     logged = [];
+    ballots = v.ballots;
     keys = v.keys;
   }
 
@@ -188,6 +190,7 @@ module _ {M Msg : Type 0} (m : Module Msg) (stands : M → Params → ℕ → Li
   tied-over F = record {
     epoch = at;
     log = log-same;
+    chained = tied.chained;
     rests = record { divided = plan-is; width = width ∙ tied.rests.width; noted = noted-is };
     standing = standing-is;
     start = plan-start;

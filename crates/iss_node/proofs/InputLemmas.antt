@@ -2,7 +2,7 @@
 use Rattle.std.proofs.Common.{arith, inl, inr, ◌≡◌, ◌≢◌, ◌⊎◌, ℕ, zero, suc, ◌+◌, ◌-◌, ◌*◌, ◌^◌, ◌<◌, ◌≤◌, Bool, true, false, List, [], ◌∷◌, ◌++◌, ◌==◌, ◌||◌, ◌&&◌, not, cond, Option, Some, None, length, length-append, take, reverse, refl, sym, ap, ◌∙◌, subst, if◌then◌else◌, append_assoc}
 use Rattle.std.specs.Prelude.{fold, is_some}
 use Rattle.std.proofs.lemmas.Bool.Decides.{nat_tests}
-use Rattle.std.proofs.lemmas.List.{length-reverse, reverse-append}
+use Rattle.std.proofs.lemmas.List.{length-reverse, reverse-append, reverse-reverse}
 use Rattle.iss_base.specs.Lists.{Different, Extends, In, first_of, oldest, set_at2}
 use Rattle.iss_base.proofs.Lists.{extends-length, oldest-part, same_or_not, set_at2-other, set_at2-same}
 use Rattle.iss_buckets.specs.Waiting.{AreNew, absent, waits}
@@ -10,6 +10,7 @@ use Rattle.iss_keys.specs.Directories.{AreKeysOf}
 use Rattle.iss_keys.specs.KeyStates.{KeyState}
 use Rattle.iss_layout.proofs.FairLemmas.{fair, good_plan}
 use Rattle.iss_layout.specs.Layout.{IsFair, Plan, leads, segment}
+use Rattle.iss_log.specs.Chains.{ChainsState, IsChainOf, chain_of, strings_from}
 use Rattle.iss_log.specs.LogState.{LogState, value_at}
 use Rattle.iss_ids.proofs.Members.{has_id-append}
 use Rattle.iss_model.proofs.Casts.{inputs-sound, joined-newer, settled-core}
@@ -20,7 +21,7 @@ use Rattle.iss_model.proofs.Logs.{Later, before-later, log-chain, log-kept, log-
 use Rattle.iss_model.proofs.Longest.{Bounded}
 use Rattle.iss_model.specs.Concrete.{number_of, plan_at, rules_of, start_at}
 use Rattle.iss_model.specs.Formats.{formats_of}
-use Rattle.iss_model.specs.Node.{Core, Formats, Turn, flown, flying, inputs, joined, own_claims, packed, returned}
+use Rattle.iss_model.specs.Node.{Core, Formats, Turn, flown, flying, grown_strings, inputs, joined, own_claims, packed, returned}
 use Rattle.iss_model.specs.Past.{IsLog, Past, before_own, log_of, params_of, start_of, taken_in, takes}
 use Rattle.iss_model.specs.Rules.{Rules}
 use Rattle.iss_model.specs.Sound.{IsSoundCore, carried, held}
@@ -90,6 +91,16 @@ pub split-log : (all low : List Value) (n : ℕ) → n ≡ length low → Extend
 split-log all low n is x =
     let q : joined n all ≡ x.0 = ap (λ (k : ℕ). joined k all) is ∙ ap (λ (ys : List Value). joined (length low) ys) x.1 ∙ joined-newer x.0 low in
     x.1 ∙ ap (λ (ys : List Value). ys ++ low) (sym q)
+
+-- the strings of what joins a log, which the model has the other way round
+pub grown-is : (R : Rules) (entries more old new : List Value) → old ≡ reverse entries → new ≡ reverse (entries ++ more) →
+    grown_strings R old new ≡ strings_from R.version (chain_of R.version entries) more
+grown-is R entries more old new p q =
+    ap (λ (z : List Value). grown_strings R z new) p
+    ∙ ap (λ (z : List Value). grown_strings R (reverse entries) z) q
+    ∙ ap (λ (z : List Value). strings_from R.version (chain_of R.version z) (reverse (joined (length (reverse entries)) (reverse (entries ++ more))))) (reverse-reverse entries)
+    ∙ ap (λ (z : List Value). strings_from R.version (chain_of R.version entries) (reverse z)) (ap (λ (z : List Value). joined (length (reverse entries)) z) (reverse-append entries more) ∙ joined-newer (reverse more) (reverse entries))
+    ∙ ap (λ (z : List Value). strings_from R.version (chain_of R.version entries) z) (reverse-reverse more)
 
 -- ---- lists by leader
 
@@ -259,7 +270,7 @@ module _ {M Msg : Type 0} (m : Module Msg) (stands : M → Params → ℕ → Li
 
     -- ---- the rest of the node after the input
 
-    module _ (segments : List (Option (SegmentState M))) (accepted : List Accepted) (waiting : List Request) (flight : FlightState) (logged : List ReqId)
+    module _ (chains : ChainsState) (chained : IsChainOf chains (v.log.entries ++ grown.joined)) (segments : List (Option (SegmentState M))) (accepted : List Accepted) (waiting : List Request) (flight : FlightState) (logged : List ReqId)
         (there : led segments leader.0 ≡ Some is) (others : (k : ℕ) → k ≢ leader.0 → led segments k ≡ led v.segments k)
         (notes : accepted ≡ and_accepted leader v.accepted ef.accepted)
         (joins : logged ≡ fold and_values v.logged grown.joined)
@@ -279,10 +290,12 @@ module _ {M Msg : Type 0} (m : Module Msg) (stands : M → Params → ℕ → Li
         segments = segments;
         accepted = accepted;
         log = log;
+        chains = chains;
         waiting = waiting;
         flight = flight;
         early = v.early;
         logged = logged;
+        ballots = v.ballots;
         keys = keys;
       }
 
@@ -367,6 +380,8 @@ module _ {M Msg : Type 0} (m : Module Msg) (stands : M → Params → ℕ → Li
         waiting = sym (waiting-core F) t;
         flight = sym flight-core t;
         early = (core_of v past).early;
+        votes = [];
+        certs = [];
         leaf = sym leaf-core t;
       }
 
@@ -435,6 +450,7 @@ module _ {M Msg : Type 0} (m : Module Msg) (stands : M → Params → ℕ → Li
       tied-over F = record {
         epoch = tied.epoch;
         log = new-log;
+        chained = subst (λ (ys : List Value). IsChainOf chains ys) (sym grown.entries) chained;
         rests = tied.rests;
         standing = tied.standing;
         start = tied.start;
@@ -458,8 +474,12 @@ module _ {M Msg : Type 0} (m : Module Msg) (stands : M → Params → ℕ → Li
     sends-next F sends e =
         e ∙ ap (λ (k : ℕ). packed F v.me.0 k leader.0 ef.sends) tied.epoch ∙ ap (λ (ys : List (To × Msg)). packed F v.me.0 past.epoch leader.0 ys) took.sends
 
+    abbrev made : Made Msg
+    made = m.makes P v.me.0 xs input v.keys.used
+
     -- what is handed out is what the model's step made
-    pub made-next : (o : Outcome) → o.sends ≡ packed (formats_of v.setup m) v.me.0 v.epoch leader.0 ef.sends → o.own ≡ own_claims m is.params v.me.0 ef.sends → o.early ≡ [] → o.hashed ≡ ef.hashed →
+    pub made-next : (o : Outcome) → o.sends ≡ packed (formats_of v.setup m) v.me.0 v.epoch leader.0 ef.sends → o.own ≡ own_claims m is.params v.me.0 ef.sends → o.early ≡ [] →
+        o.hashed ≡ ef.hashed ++ strings_from v.chains.version (chain_of v.chains.version v.log.entries) grown.joined →
         IsMade (inputs (formats_of v.setup m) (rules_of v.setup) m v.me.0 (core_of v past) leader.0 input) o
     made-next o sent own early hashed = record {
       sends = sends-next (formats_of v.setup m) o.sends sent;
@@ -467,7 +487,10 @@ module _ {M Msg : Type 0} (m : Module Msg) (stands : M → Params → ℕ → Li
           ∙ ap (λ (p : Params). own_claims m p v.me.0 ef.sends) (taken.same_params ∙ here.params)
           ∙ ap (λ (ys : List (To × Msg)). own_claims m (params_of (rules_of v.setup) m v.me.0 past leader.0) v.me.0 ys) took.sends;
       early = early;
-      hashed = hashed ∙ took.hashed;
+      hashed = hashed
+          ∙ ap (λ (xs : List (List ℕ)). xs ++ strings_from v.chains.version (chain_of v.chains.version v.log.entries) grown.joined) took.hashed
+          ∙ ap (λ (k : ℕ). made.strings ++ strings_from k (chain_of k v.log.entries) grown.joined) shape.version
+          ∙ ap (λ (xs : List (List ℕ)). made.strings ++ xs) (sym (grown-is (rules_of v.setup) v.log.entries grown.joined _ _ tied.log (new-log ∙ ap (λ (ys : List Value). reverse ys) grown.entries)));
     }
 
     pub addressed-next : (F : Formats Msg) (sends : List (To × List ℕ)) → sends ≡ packed F v.me.0 v.epoch leader.0 ef.sends → AreToNodes v.setup.n sends

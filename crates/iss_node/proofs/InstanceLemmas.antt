@@ -9,7 +9,7 @@ use Rattle.iss_model.specs.Node.{Core, Dropped, Formats, Stepped, Taken, Turn, a
 use Rattle.iss_model.specs.Past.{Past, asked_in, before_own, leads_in, params_of, taken_in}
 use Rattle.iss_model.specs.declared.causes.Refusal.{Refusal}
 use Rattle.iss_model.specs.declared.causes.Why.TheVariants.{BadClaim, NotLeader, NoKeys, Refused}
-use Rattle.iss_node.specs.Inputs.{IsAbsorbed, IsHandedOut, IsInputTaken, IsVerdictAt}
+use Rattle.iss_node.specs.Inputs.{IsAbsorbed, IsChained, IsHandedOut, IsInputTaken, IsVerdictAt}
 use Rattle.iss_node.specs.Shape.{IsReplica}
 use Rattle.iss_node.specs.State.{AreParts, IsTied, ReplicaState, core_of, led}
 use Rattle.iss_node.specs.Steps.{IsLater, IsStepDropped, IsStepTaken, IsTurnOf, IsTurned}
@@ -48,13 +48,13 @@ pub goes-same : (a b : List Value) → b ≡ a → GoesOn a b
 goes-same a b e = ([], e ∙ append-none a)
 
 pub later-trans : {M Msg : Type 0} (u v w : ReplicaState M Msg) → IsLater u v → IsLater v w → IsLater u w
-later-trans u v w g h = record { setup = h.setup ∙ g.setup; me = h.me ∙ g.me; log = goes-trans u.log.entries v.log.entries w.log.entries g.log h.log }
+later-trans u v w g h = record { setup = h.setup ∙ g.setup; me = h.me ∙ g.me; log = goes-trans u.log.entries v.log.entries w.log.entries g.log h.log; ballots = h.ballots ∙ g.ballots }
 
-pub later-same : {M Msg : Type 0} (u v : ReplicaState M Msg) → v.setup ≡ u.setup → v.me ≡ u.me → v.log.entries ≡ u.log.entries → IsLater u v
-later-same u v s i l = record { setup = s; me = i; log = goes-same u.log.entries v.log.entries l }
+pub later-same : {M Msg : Type 0} (u v : ReplicaState M Msg) → v.setup ≡ u.setup → v.me ≡ u.me → v.log.entries ≡ u.log.entries → v.ballots ≡ u.ballots → IsLater u v
+later-same u v s i l b = record { setup = s; me = i; log = goes-same u.log.entries v.log.entries l; ballots = b }
 
 pub later-refl : {M Msg : Type 0} (u : ReplicaState M Msg) → IsLater u u
-later-refl u = later-same u u refl refl refl
+later-refl u = later-same u u refl refl refl refl
 
 four : {Msg : Type 0} (a a' d d' b b' : Bool) (w w' : Option Refusal) (turn : Turn Msg) → a ≡ a' → d ≡ d' → b ≡ b' → w ≡ w' →
     cond (not a) (Dropped NotLeader) (cond (not d) (Dropped BadClaim) (cond (not b) (Dropped NoKeys) (by_verdict w turn)))
@@ -95,27 +95,30 @@ module _ {M Msg : Type 0} (m : Module Msg) (laws : IsLawful m) (stands : M → P
     (v : ReplicaState M Msg) (shape : IsReplica m v) (leader : NodeId) (input : Input Msg) (ef : Effects Msg) (w : ReplicaState M Msg) (outcome : Outcome)
     (past : Past Msg) (tied : IsTied m stands v past) where
   inner : (segments : List (Option (SegmentState M))) (keys : KeyState) (was is : SegmentState M) → led v.segments leader.0 ≡ Some was → led segments leader.0 ≡ Some is → ((k : ℕ) → k ≢ leader.0 → led segments k ≡ led v.segments k) →
-      IsInstanceTaken m stands was is input v.keys keys ef → IsAbsorbed (record v { segments = segments; keys = keys }) w leader ef → IsHandedOut m (record v { segments = segments; keys = keys }) leader.0 ef.sends ef.hashed outcome →
+      IsInstanceTaken m stands was is input v.keys keys ef → IsAbsorbed (record v { segments = segments; keys = keys }) w leader ef → IsHandedOut m (record v { segments = segments; keys = keys }) leader.0 ef.sends outcome.hashed outcome →
+      IsChained (record v { segments = segments; keys = keys }) w ef.hashed outcome.hashed →
       IsTurned m stands (inputs (formats_of v.setup m) (rules_of v.setup) m v.me.0 (core_of v past) leader.0 input) w outcome
-  inner segments keys was is at there others taken a made =
+  inner segments keys was is at there others taken a made chained =
       let F = formats_of v.setup m in
       let g = a.grown in
-      let parts = parts-next m stands v shape past tied laws leader input ef was is keys at taken w.log g.held g.grown segments w.accepted w.waiting w.flight w.logged
+      let chain = chained.joined g.grown.joined g.grown.entries tied.chained in
+      let parts = parts-next m stands v shape past tied laws leader input ef was is keys at taken w.log g.held g.grown w.chains chain.chained segments w.accepted w.waiting w.flight w.logged
       there others a.accepted g.logged g.landed.landed
       (λ all before noted members new. g.landed.waiting all (record { before = before; noted = noted; members = members }) new) F in
       let addressed = addressed-next m stands v shape past tied laws leader input ef was is keys at taken w.log g.held g.grown F outcome.sends made.sent in
       record {
         stands_for = subst (λ (z : ReplicaState M Msg). AreParts m stands z (inputs F (rules_of v.setup) m v.me.0 (core_of v past) leader.0 input).core) (sym g.rest) parts;
-        made = made-next m stands v shape past tied laws leader input ef was is keys at taken w.log g.held g.grown outcome made.sent (made.own is there) made.early made.hashed_is;
+        made = made-next m stands v shape past tied laws leader input ef was is keys at taken w.log g.held g.grown outcome made.sent (made.own is there) made.early chain.strings;
         addressed = subst (λ (z : ReplicaState M Msg). AreToNodes z.setup.n outcome.sends) (sym g.rest) addressed;
       }
 
-  pub turned : (u : ReplicaState M Msg) → IsInputTaken m stands v u leader.0 input ef → IsAbsorbed u w leader ef → IsHandedOut m u leader.0 ef.sends ef.hashed outcome →
+  pub turned : (u : ReplicaState M Msg) → IsInputTaken m stands v u leader.0 input ef → IsAbsorbed u w leader ef → IsHandedOut m u leader.0 ef.sends outcome.hashed outcome → IsChained u w ef.hashed outcome.hashed →
       IsTurned m stands (inputs (formats_of v.setup m) (rules_of v.setup) m v.me.0 (core_of v past) leader.0 input) w outcome
-  turned u i a made =
+  turned u i a made chained =
       inner u.segments u.keys i.was i.is i.at i.there i.others i.taken
       (subst (λ (z : ReplicaState M Msg). IsAbsorbed z w leader ef) i.rest a)
-      (subst (λ (z : ReplicaState M Msg). IsHandedOut m z leader.0 ef.sends ef.hashed outcome) i.rest made)
+      (subst (λ (z : ReplicaState M Msg). IsHandedOut m z leader.0 ef.sends outcome.hashed outcome) i.rest made)
+      (subst (λ (z : ReplicaState M Msg). IsChained z w ef.hashed outcome.hashed) i.rest chained)
 
 -- ---- the answers of an instance, and what each test found
 
@@ -163,7 +166,7 @@ module _ {M Msg : Type 0} (m : Module Msg) (stands : M → Params → ℕ → Li
           }
 
 pub input-turn : {M Msg : Type 0} (m : Module Msg) (laws : IsLawful m) (stands : M → Params → ℕ → List (Item Msg) → Type 0) (v u w : ReplicaState M Msg) (shape : IsReplica m v) (leader : NodeId) (input : Input Msg) (ef : Effects Msg) (r : Result Outcome NoMemory) →
-    IsInputTaken m stands v u leader.0 input ef → OnOk r (IsAbsorbed u w leader ef) → IfOk r (IsHandedOut m u leader.0 ef.sends ef.hashed) →
+    IsInputTaken m stands v u leader.0 input ef → OnOk r (IsAbsorbed u w leader ef) → IfOk r (λ o. IsHandedOut m u leader.0 ef.sends o.hashed o) → IfOk r (λ o. IsChained u w ef.hashed o.hashed) →
     IfOk r (λ o. IsTurnOf m stands v (λ F R me c. inputs F R m me c leader.0 input) w o)
-input-turn m laws stands v u w shape leader input ef (Err e) i a s = tt
-input-turn m laws stands v u w shape leader input ef (Ok o) i a s = λ past tied. turned m laws stands v shape leader input ef w o past tied u i a s
+input-turn m laws stands v u w shape leader input ef (Err e) i a s t = tt
+input-turn m laws stands v u w shape leader input ef (Ok o) i a s t = λ past tied. turned m laws stands v shape leader input ef w o past tied u i a s t

@@ -47,6 +47,8 @@ kept-shape m v x xs h lt is = record {
   fits = h.fits;
   segments = h.segments;
   early = subst (λ (ys : List (Early _)). AreFrom v.setup.n ys) (sym is) (from-more v.setup.n v.early x h.early lt);
+  version = h.version;
+  voters = h.voters;
 }
 
 module _ {M Msg : Type 0} (m : Module Msg) (stands : M → Params → ℕ → List (Item Msg) → Type 0)

@@ -1,13 +1,16 @@
 pub mod CastLemmas
 pub mod CellsLemmas
 pub mod ClaimLemmas
+pub mod CountLemmas
 pub mod EndLemmas
 pub mod EpochLemmas
 pub mod FlightLemmas
 pub mod GivenLemmas
 pub mod GrowthLemmas
+pub mod HeldLemmas
 pub mod InputLemmas
 pub mod InstanceLemmas
+pub mod JoinLemmas
 pub mod KeepLemmas
 pub mod MadeLemmas
 pub mod NextLemmas
@@ -22,4 +25,6 @@ pub mod SenderLemmas
 pub mod SettleLemmas
 pub mod StartLemmas
 pub mod StepLemmas
+pub mod TransferLemmas
 pub mod ViewLemmas
+pub mod VoteLemmas

@@ -8,13 +8,13 @@ use Rattle.iss_model.specs.Formats.{formats_of}
 use Rattle.iss_model.specs.Node.{Core, Formats, Turn, at_instance, claims_in, ended, in_next_epoch, is_nil_at, takes_early, tried}
 use Rattle.iss_model.specs.Past.{Past, is_complete}
 use Rattle.iss_node.proofs.EpochLemmas.{complete-is, parts-opened}
-use Rattle.iss_node.specs.Epochs.{AreStarted, HasClosed, HasOpened, notes}
+use Rattle.iss_node.specs.Epochs.{AreStarted, HasClosed, HasOpened, both, notes}
 use Rattle.iss_node.specs.Shape.{AreFrom, IsReplica}
 use Rattle.iss_node.specs.State.{AreParts, IsTied, ReplicaState, core_of, led, seen_one}
 use Rattle.iss_node.proofs.MadeLemmas.{early-made}
-use Rattle.iss_node.proofs.SettleLemmas.{early-not, early-on}
+use Rattle.iss_node.proofs.SettleLemmas.{early-not, early-on, ended-by}
 use Rattle.iss_node.specs.Casts.{IsCut}
-use Rattle.iss_node.specs.Steps.{IsLater, IsNextEpoch, IsTurnOf, IsTurned}
+use Rattle.iss_node.specs.Steps.{IsEnded, IsLater, IsTurnOf, IsTurned}
 use Rattle.iss_node.specs.declared.answers.Outcome.{Outcome}
 use Rattle.iss_sb.specs.declared.effects.Input.TheVariants.{Receive}
 use Rattle.iss_node.specs.declared.answers.Accepted.{Accepted}
@@ -53,6 +53,8 @@ opened-shape m stands v shape e start c plan gs fits is started count accepted l
         node = started.node l g h;
       };
       early = shape.early;
+      version = shape.version;
+      voters = shape.voters;
     }
 
 -- nothing is kept for the epoch after the next one
@@ -67,6 +69,8 @@ emptied-shape m v h = record {
   fits = h.fits;
   segments = h.segments;
   early = tt;
+  version = h.version;
+  voters = h.voters;
 }
 
 module _ {M Msg : Type 0} (m : Module Msg) (stands : M → Params → ℕ → List (Item Msg) → Type 0)
@@ -114,7 +118,7 @@ begun-so v e plan gs accepted logged a l = λ i. record v { epoch = e; plan = pl
 
 -- a cut changes nothing of what holds of every node
 uncut-so : {M Msg : Type 0} (m : Module Msg) (v w : ReplicaState M Msg) → IsReplica m (record v { waiting = w.waiting; flight = w.flight }) → IsReplica m v
-uncut-so m v w h = record { good = h.good; me = h.me; directory = h.directory; count = h.count; slots = h.slots; nodes = h.nodes; fits = h.fits; segments = h.segments; early = h.early }
+uncut-so m v w h = record { good = h.good; me = h.me; directory = h.directory; count = h.count; slots = h.slots; nodes = h.nodes; fits = h.fits; segments = h.segments; early = h.early; version = h.version; voters = h.voters }
 
 pub uncut-shape : {M Msg : Type 0} (m : Module Msg) (v u : ReplicaState M Msg) (slot : Slot) (batch : Batch) → IsCut v u slot batch → IsReplica m u → IsReplica m v
 uncut-shape m v u slot batch h shape = uncut-so m v u (subst (λ (z : ReplicaState _ _). IsReplica m z) h.rest shape)
@@ -124,32 +128,28 @@ uncut-shape m v u slot batch h shape = uncut-so m v u (subst (λ (z : ReplicaSta
 module _ {M Msg : Type 0} (m : Module Msg) (stands : M → Params → ℕ → List (Item Msg) → Type 0) (v u : ReplicaState M Msg) (later : IsLater v u) (x : Early Msg) (o : Outcome)
     (b : Bool) (asked : b ≡ nat_le (u.plan.start + u.setup.epoch) (length u.log.entries))
     (went : IsTurnOf m stands v (λ F R me c. tried c (at_instance F R m me c x.leader.0 (Receive x.from x.msg))) u o) where
-  same-rules : (t : Turn Msg) (w : ReplicaState M Msg) → IsTurned m stands (ended (rules_of u.setup) m u.me.0 t) w o → IsTurned m stands (ended (rules_of v.setup) m v.me.0 t) w o
-  same-rules t w h =
-      subst (λ (s : Setup). IsTurned m stands (ended (rules_of s) m v.me.0 t) w o) later.setup
-      (subst (λ (i : NodeId). IsTurned m stands (ended (rules_of u.setup) m i.0 t) w o) later.me h)
-
   -- the turn of one whose claims were read
-  with-claims : (past : Past Msg) (w : ReplicaState M Msg) (claims : List Claim) (p : Outcome) → claims ≡ claims_in (rules_of v.setup) m v.me.0 past x.from.0 x.leader.0 x.msg → p ≡ record o { early = claims } →
-      IsTurned m stands (ended (rules_of v.setup) m v.me.0 (tried (core_of v past) (at_instance (formats_of v.setup m) (rules_of v.setup) m v.me.0 (core_of v past) x.leader.0 (Receive x.from x.msg)))) w o →
+  with-claims : (past : Past Msg) (w : ReplicaState M Msg) (all p : Outcome) (claims : List Claim) → claims ≡ claims_in (rules_of v.setup) m v.me.0 past x.from.0 x.leader.0 x.msg → p ≡ record all { early = claims } →
+      IsTurned m stands (ended (formats_of v.setup m) (rules_of v.setup) m v.me.0 (tried (core_of v past) (at_instance (formats_of v.setup m) (rules_of v.setup) m v.me.0 (core_of v past) x.leader.0 (Receive x.from x.msg)))) w all →
       IsTurned m stands (takes_early (formats_of v.setup m) (rules_of v.setup) m v.me.0 (core_of v past) (seen_one x)) w p
-  with-claims past w claims p read is h = record {
+  with-claims past w all p claims read is h = record {
     stands_for = h.stands_for;
-    made = early-made _ o p claims _ read is h.made;
+    made = early-made _ all p claims _ read is h.made;
     addressed = subst (λ (z : Outcome). AreToNodes w.setup.n z.sends) (sym is) h.addressed;
   }
 
-  module _ (claims : List Claim) (read : (past : Past Msg) → IsTied m stands v past → claims ≡ claims_in (rules_of v.setup) m v.me.0 past x.from.0 x.leader.0 x.msg) (p : Outcome) (with_early : p ≡ record o { early = claims }) where
-    pub early-stays : (w : ReplicaState M Msg) → w ≡ u → b ≡ false → IsTurnOf m stands v (λ F R me c. takes_early F R m me c (seen_one x)) w p
-    early-stays w is q = λ past tied.
+  module _ (claims : List Claim) (read : (past : Past Msg) → IsTied m stands v past → claims ≡ claims_in (rules_of v.setup) m v.me.0 past x.from.0 x.leader.0 x.msg) (p : Outcome) where
+    pub early-stays : (w : ReplicaState M Msg) → w ≡ u → b ≡ false → p ≡ record o { early = claims } → IsTurnOf m stands v (λ F R me c. takes_early F R m me c (seen_one x)) w p
+    early-stays w is q with_early = λ past tied.
         let t : Turn Msg = tried (core_of v past) (at_instance (formats_of v.setup m) (rules_of v.setup) m v.me.0 (core_of v past) x.leader.0 (Receive x.from x.msg)) in
-        with-claims past w claims p (read past tied) with_early
-        (subst (λ (z : ReplicaState M Msg). IsTurned m stands (ended (rules_of v.setup) m v.me.0 t) z o) (sym is)
-        (same-rules t u (early-not m stands u t o (is-over m stands u b false asked q) (went past tied))))
+        with-claims past w o p claims (read past tied) with_early
+        (subst (λ (z : ReplicaState M Msg). IsTurned m stands (ended (formats_of v.setup m) (rules_of v.setup) m v.me.0 t) z o) (sym is)
+        (ended-by m stands v u u t o later (early-not m stands u t o (is-over m stands u b false asked q) (went past tied))))
 
-    pub early-goes : (n w : ReplicaState M Msg) → w ≡ n → b ≡ true → (early : List (Early Msg)) → IsNextEpoch m stands u n early → IsLater u n → IsTurnOf m stands v (λ F R me c. takes_early F R m me c (seen_one x)) w p
-    early-goes n w is q early next after = λ past tied.
+    pub early-goes : (n w : ReplicaState M Msg) → w ≡ n → b ≡ true → (vote : Outcome) (early : List (Early Msg)) → IsEnded m stands u n vote early → IsLater u n → p ≡ record (both o vote) { early = claims } →
+        IsTurnOf m stands v (λ F R me c. takes_early F R m me c (seen_one x)) w p
+    early-goes n w is q vote early next after with_early = λ past tied.
         let t : Turn Msg = tried (core_of v past) (at_instance (formats_of v.setup m) (rules_of v.setup) m v.me.0 (core_of v past) x.leader.0 (Receive x.from x.msg)) in
-        with-claims past w claims p (read past tied) with_early
-        (subst (λ (z : ReplicaState M Msg). IsTurned m stands (ended (rules_of v.setup) m v.me.0 t) z o) (sym is)
-        (same-rules t n (early-on m stands u n t o early (is-over m stands u b true asked q) next after (went past tied))))
+        with-claims past w (both o vote) p claims (read past tied) with_early
+        (subst (λ (z : ReplicaState M Msg). IsTurned m stands (ended (formats_of v.setup m) (rules_of v.setup) m v.me.0 t) z (both o vote)) (sym is)
+        (ended-by m stands v u n t (both o vote) later (early-on m stands u n t o vote early (is-over m stands u b true asked q) next after (went past tied))))

@@ -6,10 +6,9 @@ use Rattle.iss_model.specs.Formats.{formats_of}
 use Rattle.iss_model.specs.Node.{Core, step}
 use Rattle.iss_model.specs.declared.causes.NodeEvent.{NodeEvent}
 use Rattle.iss_model.specs.declared.causes.Why.{Why}
-use Rattle.iss_node.proofs.SettleLemmas.{at-core}
 use Rattle.iss_node.specs.Shape.{IsNode}
-use Rattle.iss_node.specs.State.{AreParts, IsTied, NodeState, ReplicaState, Stands, core_of}
-use Rattle.iss_node.specs.Steps.{IsAnswer, IsStep, IsStepOf}
+use Rattle.iss_node.specs.State.{NodeState, ReplicaState, Stands}
+use Rattle.iss_node.specs.Steps.{IsAnswer, IsHeldStepOf, IsOfNodes}
 use Rattle.iss_node.specs.declared.answers.Answer.TheVariants.{Dropped as Drop, Taken as Take}
 use Rattle.iss_node.specs.declared.answers.Outcome.{Outcome}
 use Rattle.iss_node.specs.declared.answers.Stepped.TheVariants.{Dropped as Drops, Taken as Takes}
@@ -18,26 +17,29 @@ use Rattle.iss_sb.specs.Evidence.{Item, Module}
 use Rattle.iss_sb.specs.declared.effects.Params.{Params}
 
 module _ {M Msg : Type 0} (m : Module Msg) (stands : M → Params → ℕ → List (Item Msg) → Type 0) (v w : ReplicaState M Msg) (s : Bool) (event : NodeEvent) where
-  pub answer-taken : (o : Outcome) → IsStepOf m stands v (λ F R me c. step F R m me c event) w (Takes o) → (c : Core Msg) → Stands m stands (record { parts = v; stale = s }) c →
-      IsAnswer m stands c (step (formats_of v.setup m) (rules_of v.setup) m v.me.0 c event) (record { parts = w; stale = s }) (Take o)
-  answer-taken o h c st =
-      let all = at-core m stands v c st.parts (λ d. IsStep m stands d (step (formats_of v.setup m) (rules_of v.setup) m v.me.0 d event) w (Takes o)) h in
-      record { turn = all.turn; step_is = all.step_is; stands_for = record { fresh = st.fresh; parts = all.turned.stands_for }; made = all.turned.made; addressed = all.turned.addressed }
+  abbrev pub asked : Type 0
+  asked = IsOfNodes v.setup.n event
 
-  pub answer-dropped : (why : Why) → IsStepOf m stands v (λ F R me c. step F R m me c event) w (Drops why) → (c : Core Msg) → Stands m stands (record { parts = v; stale = s }) c →
-      IsAnswer m stands c (step (formats_of v.setup m) (rules_of v.setup) m v.me.0 c event) (record { parts = w; stale = s }) (Drop why)
+  pub answer-taken : (o : Outcome) → IsHeldStepOf m stands asked v (λ F R me c. step F R m me c event) w (Takes o) → (c : Core Msg) → Stands m stands (record { parts = v; stale = s }) c →
+      IsAnswer m stands asked c (step (formats_of v.setup m) (rules_of v.setup) m v.me.0 c event) (record { parts = w; stale = s }) (Take o)
+  answer-taken o h c st =
+      let all = h c st.held in
+      record { turn = all.turn; step_is = all.step_is; stands_for = record { fresh = st.fresh; held = all.turned.stands_for }; made = all.turned.made; addressed = all.turned.addressed }
+
+  pub answer-dropped : (why : Why) → IsHeldStepOf m stands asked v (λ F R me c. step F R m me c event) w (Drops why) → (c : Core Msg) → Stands m stands (record { parts = v; stale = s }) c →
+      IsAnswer m stands asked c (step (formats_of v.setup m) (rules_of v.setup) m v.me.0 c event) (record { parts = w; stale = s }) (Drop why)
   answer-dropped why h c st =
-      let all = at-core m stands v c st.parts (λ d. IsStep m stands d (step (formats_of v.setup m) (rules_of v.setup) m v.me.0 d event) w (Drops why)) h in
-      record { step_is = all.step_is; stands_for = record { fresh = st.fresh; parts = all.stands_for } }
+      let all = h c st.held in
+      record { step_is = all.step_is; stands_for = record { fresh = st.fresh; held = all.stands_for } }
 
   fresh-core : s ≡ false → IsNode m stands (record { parts = v; stale = s }) → (c : Core Msg) × Stands m stands (record { parts = v; stale = s }) c
   fresh-core q (inl t) = absurd (true≢false (sym t ∙ q))
   fresh-core q (inr h) = h
 
-  pub node-taken : (o : Outcome) → IsStepOf m stands v (λ F R me c. step F R m me c event) w (Takes o) → s ≡ false → IsNode m stands (record { parts = v; stale = s }) → IsNode m stands (record { parts = w; stale = s })
+  pub node-taken : (o : Outcome) → IsHeldStepOf m stands asked v (λ F R me c. step F R m me c event) w (Takes o) → s ≡ false → IsNode m stands (record { parts = v; stale = s }) → IsNode m stands (record { parts = w; stale = s })
   node-taken o h q n = let c = fresh-core q n in let a = answer-taken o h c.0 c.1 in inr (a.turn.core, a.stands_for)
 
-  pub node-dropped : (why : Why) → IsStepOf m stands v (λ F R me c. step F R m me c event) w (Drops why) → s ≡ false → IsNode m stands (record { parts = v; stale = s }) → IsNode m stands (record { parts = w; stale = s })
+  pub node-dropped : (why : Why) → IsHeldStepOf m stands asked v (λ F R me c. step F R m me c event) w (Drops why) → s ≡ false → IsNode m stands (record { parts = v; stale = s }) → IsNode m stands (record { parts = w; stale = s })
   node-dropped why h q n = let c = fresh-core q n in let a = answer-dropped why h c.0 c.1 in inr (c.0, a.stands_for)
 
 -- ---- the log that a stale node shows

@@ -52,6 +52,8 @@ with-early m v x early h lt is = record {
   fits = h.fits;
   segments = h.segments;
   early = subst (λ (xs : List (Early _)). AreFrom v.setup.n xs) (sym is) (from-more v.setup.n v.early x h.early lt);
+  version = h.version;
+  voters = h.voters;
 }
 
 full-at : (n : ℕ) → 256 ≤ n → nat_lt n 256 ≡ false

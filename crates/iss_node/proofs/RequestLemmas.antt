@@ -15,15 +15,18 @@ use Rattle.iss_model.specs.Sound.{IsSoundCore}
 use Rattle.iss_model.specs.declared.causes.Why.TheVariants.{BadRequest, Known, OutOfWindow}
 use Rattle.iss_node.proofs.GrowthLemmas.{log_ids-append}
 use Rattle.iss_node.proofs.InputLemmas.{bf-long, bf-part, split-log}
+use Rattle.iss_log.specs.Chains.{ChainsState, IsChainOf}
 use Rattle.iss_log.specs.LogState.{LogState, value_at}
 use Rattle.iss_node.proofs.FlightLemmas.{returned-landed}
 use Rattle.iss_node.specs.Flights.{FlightState, IsLanded, landed}
-use Rattle.iss_node.specs.Growth.{IsGrown, and_values, waits_on}
-use Rattle.iss_node.specs.Inputs.{AreLogged, HasGrown, HasLanded, IsAbsorbed, and_accepted}
+use Rattle.iss_node.specs.Growth.{AreJoined, IsGrown, and_values, waits_on}
+use Rattle.iss_node.specs.Inputs.{AreLogged, HasGrown, HasLanded, IsAbsorbed, IsChained, IsHandedOut, and_accepted}
 use Rattle.iss_node.specs.declared.answers.Accepted.{Accepted}
+use Rattle.iss_node.specs.declared.answers.Outcome.{Outcome}
 use Rattle.iss_request.specs.declared.errors.NoMemory.{NoMemory}
 use Rattle.iss_request.specs.declared.ids.NodeId.{NodeId}
 use Rattle.iss_sb.specs.declared.effects.Effects.{Effects}
+use Rattle.iss_sb.specs.declared.effects.To.{To}
 use Rattle.iss_segment.specs.Ground.{noted_before}
 use Rattle.iss_window.specs.Kept.{Kept, StandsFor}
 use Rattle.iss_node.specs.Shape.{IsReplica}
@@ -153,7 +156,7 @@ drop-front : {A : Type 0} (xs ys : List A) → drop (length xs) (xs ++ ys) ≡ y
 drop-front [] ys = refl
 drop-front (x ∷ xs) ys = drop-front xs ys
 
-pub grown-all : {M Msg : Type 0} (v u w : ReplicaState M Msg) (delivers : List (Slot × Value)) (held : ℕ) (entries more : List Value) (r : Result (Unit {0}) NoMemory) → u ≡ record v { log = u.log; waiting = u.waiting; logged = u.logged } →
+pub grown-all : {M Msg : Type 0} (v u w : ReplicaState M Msg) (delivers : List (Slot × Value)) (held : ℕ) (entries more : List Value) (r : Result (Unit {0}) NoMemory) → u ≡ record v { log = u.log; chains = u.chains; waiting = u.waiting; logged = u.logged } →
     IsGrown v.log delivers u.log held → entries ≡ u.log.entries → more ≡ drop held entries → u.waiting ≡ fold waits_on v.waiting more → u.logged ≡ fold and_values v.logged more →
     OnOk r (HasLanded u w) → w ≡ record u { waiting = w.waiting; flight = w.flight } → OnOk r (HasGrown v w delivers)
 grown-all v u w delivers held entries more (Err e) us grown entries_are more_is waits joins lands rest = tt
@@ -161,10 +164,12 @@ grown-all {M} {Msg} v u w delivers held entries more (Ok x) us grown entries_are
     let joined_is : more ≡ grown.joined = more_is ∙ ap (λ (xs : List Value). drop held xs) (entries_are ∙ grown.entries) ∙ ap (λ (n : ℕ). drop n (v.log.entries ++ grown.joined)) grown.count ∙ drop-front v.log.entries grown.joined in
     let log : w.log ≡ u.log = ap (λ (z : ReplicaState M Msg). z.log) rest in
     let logged : w.logged ≡ u.logged = ap (λ (z : ReplicaState M Msg). z.logged) rest in
+    let chains : w.chains ≡ u.chains = ap (λ (z : ReplicaState M Msg). z.chains) rest in
     let waiting : u.waiting ≡ fold waits_on v.waiting grown.joined = waits ∙ ap (λ (xs : List Value). fold waits_on v.waiting xs) joined_is in
-    let onto : LogState → List ReqId → List Request → ReplicaState M Msg = λ l ids ws. record v { log = l; logged = ids; waiting = ws } in
-    let as_now : u ≡ record v { log = w.log; logged = w.logged; waiting = fold waits_on v.waiting grown.joined } =
-    us ∙ ap (λ (l : LogState). onto l u.logged u.waiting) (sym log) ∙ ap (λ (ids : List ReqId). onto w.log ids u.waiting) (sym logged) ∙ ap (λ (ws : List Request). onto w.log w.logged ws) waiting in
+    let onto : LogState → ChainsState → List ReqId → List Request → ReplicaState M Msg = λ l ch ids ws. record v { log = l; chains = ch; logged = ids; waiting = ws } in
+    let as_now : u ≡ record v { log = w.log; chains = w.chains; logged = w.logged; waiting = fold waits_on v.waiting grown.joined } =
+    us ∙ ap (λ (l : LogState). onto l u.chains u.logged u.waiting) (sym log) ∙ ap (λ (ch : ChainsState). onto w.log ch u.logged u.waiting) (sym chains)
+    ∙ ap (λ (ids : List ReqId). onto w.log w.chains ids u.waiting) (sym logged) ∙ ap (λ (ws : List Request). onto w.log w.chains w.logged ws) waiting in
     record {
       held = held;
       grown = record { count = grown.count; joined = grown.joined; entries = ap (λ (l : LogState). l.entries) log ∙ grown.entries; values = λ s. ap (λ (l : LogState). value_at l s) log ∙ grown.values s; hole = ap (λ (l : LogState). value_at l (length l.entries)) log ∙ grown.hole };
@@ -179,6 +184,30 @@ absorbed-all {M} {Msg} v u w leader e ds us grown is =
     let with_it : List Accepted → ReplicaState M Msg = λ xs. record v { accepted = xs } in
     let now : u ≡ record v { accepted = w.accepted } = us ∙ ap with_it (sym accepted) in
     record { accepted = accepted; grown = subst (λ (z : ReplicaState M Msg). HasGrown z w e.delivers) now (subst (λ (xs : List (Slot × Value)). HasGrown u w xs) is grown) }
+
+-- the chain grew with it
+pub chained-all : {M Msg : Type 0} (v w : ReplicaState M Msg) (chains now : ChainsState) (held : ℕ) (entries more : List Value) (before after : List (List ℕ)) (r : Result (Unit {0}) NoMemory) →
+    entries ≡ w.log.entries → more ≡ drop held entries → held ≡ length v.log.entries → chains ≡ v.chains → w.chains ≡ now →
+    ((log : List Value) → IsChainOf chains log → AreJoined chains log more now before after) → now.version ≡ chains.version → OnOk r (IsChained v w before after)
+chained-all v w chains now held entries more before after (Err e) entries_are more_is held_is chains_are now_is joins version = tt
+chained-all v w chains now held entries more before after (Ok x) entries_are more_is held_is chains_are now_is joins version = record {
+  joined = λ more2 is chain.
+      let same : more ≡ more2 = more_is ∙ ap (λ (xs : List Value). drop held xs) (entries_are ∙ is) ∙ ap (λ (n : ℕ). drop n (v.log.entries ++ more2)) held_is ∙ drop-front v.log.entries more2 in
+      subst (λ (z : ChainsState). AreJoined v.chains v.log.entries more2 z before after) (sym now_is)
+      (subst (λ (z : List Value). AreJoined v.chains v.log.entries z now before after) same
+      (subst (λ (z : ChainsState). IsChainOf z v.log.entries → AreJoined z v.log.entries more now before after) chains_are (joins v.log.entries) chain));
+  version = ap (λ (z : ChainsState). z.version) now_is ∙ version ∙ ap (λ (z : ChainsState). z.version) chains_are;
+}
+
+-- a batch that was accepted before says nothing of it
+pub chained-after : {M Msg : Type 0} (v u w : ReplicaState M Msg) (accepted : List Accepted) (before after : List (List ℕ)) → u ≡ record v { accepted = accepted } → IsChained u w before after → IsChained v w before after
+chained-after {M} {Msg} v u w accepted before after is h =
+    let k : IsChained (record v { accepted = accepted }) w before after = subst (λ (z : ReplicaState M Msg). IsChained z w before after) is h in
+    record { joined = k.joined; version = k.version }
+
+-- what is handed out has the strings that it has
+pub now-its-own : {M Msg : Type 0} (m : Module Msg) (v : ReplicaState M Msg) (l : ℕ) (sends : List (To × Msg)) (strings : List (List ℕ)) (o : Outcome) → IsHandedOut m v l sends strings o → IsHandedOut m v l sends o.hashed o
+now-its-own m v l sends strings o h = record { sent = h.sent; own = h.own; early = h.early; hashed_is = refl }
 
 -- ---- what a node knows
 
@@ -227,6 +256,7 @@ module _ {M Msg : Type 0} (m : Module Msg) (stands : M → Params → ℕ → Li
     moved sound = subst (λ (z : ReplicaState M Msg). IsTied m stands z past) (sym rest) (record {
       epoch = tied.epoch;
       log = tied.log;
+      chained = tied.chained;
       rests = tied.rests;
       standing = tied.standing;
       start = tied.start;

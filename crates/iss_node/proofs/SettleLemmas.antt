@@ -4,14 +4,14 @@ use Rattle.std.proofs.lemmas.Bool.Decides.{nat_tests}
 use Rattle.iss_model.proofs.Rows.{onward-onward, onward-rests}
 use Rattle.iss_model.specs.Concrete.{rules_of}
 use Rattle.iss_model.specs.Formats.{formats_of}
-use Rattle.iss_model.specs.Node.{Core, Dropped, Early as Kept_early, Formats, Stepped, Taken, Turn, at_instance, ended, in_next_epoch, onward, rests, settled, settles, takes_each, takes_early, tried}
+use Rattle.iss_model.specs.Node.{Core, Dropped, Early as Kept_early, Formats, Stepped, Taken, Turn, at_instance, ended, ends, onward, rests, settled, settles, takes_each, takes_early, tried}
 use Rattle.iss_model.specs.Past.{Past, is_complete}
 use Rattle.iss_model.specs.Rules.{Rules}
-use Rattle.iss_node.proofs.MadeLemmas.{both-made, nothing, nothing-made, nothing-sent, still-made}
+use Rattle.iss_node.proofs.MadeLemmas.{both-made, nothing, nothing-made, nothing-sent}
 use Rattle.iss_node.specs.Epochs.{both}
 use Rattle.iss_node.specs.Shape.{AreFrom}
 use Rattle.iss_node.specs.State.{AreParts, IsTied, ReplicaState, core_of, seen_early, seen_one}
-use Rattle.iss_node.specs.Steps.{IsLater, IsMade, IsNextEpoch, IsStep, IsStepDropped, IsStepTaken, IsTurnBehind, IsTurnOf, IsTurned}
+use Rattle.iss_node.specs.Steps.{IsEnded, IsLater, IsMade, IsStep, IsStepDropped, IsStepTaken, IsTurnBehind, IsTurnOf, IsTurned}
 use Rattle.iss_node.specs.declared.answers.Early.{Early}
 use Rattle.iss_node.specs.declared.answers.Outcome.{Outcome}
 use Rattle.iss_node.specs.declared.answers.Stepped.{Stepped as Answered}
@@ -50,33 +50,45 @@ module _ {M Msg : Type 0} (m : Module Msg) (stands : M → Params → ℕ → Li
   unfilled-is F R me t h = rw h refl
 
   filled-is : (F : Formats Msg) (R : Rules) (me : ℕ) (t : Turn Msg) → is_complete R m me t.core.past ≡ true →
-      settles F R m me t ≡ onward (record t { core = in_next_epoch t.core }) (takes_each F R m me (suc t.core.past.epoch) t.core.early)
+      settles F R m me t ≡ onward (onward t (ends F R m me)) (takes_each F R m me (suc t.core.past.epoch) t.core.early)
   filled-is F R me t h = rw h refl
+
+  to-nodes : (n : ℕ) (xs ys : List (To × List ℕ)) → AreToNodes n xs → AreToNodes n ys → AreToNodes n (xs ++ ys)
+  to-nodes n [] ys h k = k
+  to-nodes n (x ∷ xs) ys h k = (h.0, to-nodes n xs ys h.1 k)
+
+  -- the vote at an epoch's end, behind what a turn made
+  voted-behind : (v u : ReplicaState M Msg) (t : Turn Msg) (first vote : Outcome) (early : List (Early Msg)) → is_complete (rules_of v.setup) m v.me.0 t.core.past ≡ true →
+      IsEnded m stands v u vote early → IsLater v u → IsTurned m stands t v first →
+      IsTurned m stands (onward t (ends (formats_of v.setup m) (rules_of v.setup) m v.me.0)) u (both first vote)
+  voted-behind v u t first vote early complete over later h =
+      let F = formats_of v.setup m in
+      let R = rules_of v.setup in
+      let turned : IsTurned m stands (ends F R m v.me.0 t.core) u vote =
+      subst (λ (d : Core Msg). IsTurned m stands (ends F R m v.me.0 d) u vote) (sym h.stands_for.core) (over.turned t.core.past h.stands_for.tied complete) in
+      record {
+        stands_for = turned.stands_for;
+        made = both-made t (ends F R m v.me.0) first vote h.made turned.made;
+        addressed = to-nodes u.setup.n first.sends vote.sends (subst (λ (s : Setup). AreToNodes s.n first.sends) (sym later.setup) h.addressed) turned.addressed;
+      }
 
   pub settles-not : (v : ReplicaState M Msg) (first : Outcome) → ((past : Past Msg) → IsTied m stands v past → is_complete (rules_of v.setup) m v.me.0 past ≡ false) →
       IsTurnBehind m stands v (λ F R me t. settles F R m me t) first v first
   settles-not v first lasting t h =
       subst (λ (u : Turn Msg). IsTurned m stands u v first) (sym (unfilled-is (formats_of v.setup m) (rules_of v.setup) v.me.0 t (lasting t.core.past h.stands_for.tied))) h
 
-  pub settles-on : (v u w : ReplicaState M Msg) (first last : Outcome) (early : List (Early Msg)) → ((past : Past Msg) → IsTied m stands v past → is_complete (rules_of v.setup) m v.me.0 past ≡ true) →
-      IsNextEpoch m stands v u early → IsLater v u →
-      IsTurnBehind m stands u (λ F R me t. onward t (takes_each F R m me u.epoch (seen_early early))) first w last →
+  pub settles-on : (v u w : ReplicaState M Msg) (first vote last : Outcome) (early : List (Early Msg)) → ((past : Past Msg) → IsTied m stands v past → is_complete (rules_of v.setup) m v.me.0 past ≡ true) →
+      IsEnded m stands v u vote early → IsLater v u →
+      IsTurnBehind m stands u (λ F R me t. onward t (takes_each F R m me u.epoch (seen_early early))) (both first vote) w last →
       IsTurnBehind m stands v (λ F R me t. settles F R m me t) first w last
-  settles-on v u w first last early over next later each t h =
+  settles-on v u w first vote last early over next later each t h =
       let c = t.core in
-      let tied = h.stands_for.tied in
-      let is : c ≡ core_of v c.past = h.stands_for.core in
-      let complete = over c.past tied in
-      let parts : AreParts m stands u (in_next_epoch c) = subst (λ (d : Core Msg). AreParts m stands u (in_next_epoch d)) (sym is) (next.stands_for c.past tied complete) in
-      let begun : Turn Msg = record t { core = in_next_epoch c } in
-      let turned : IsTurned m stands begun u first = record {
-        stands_for = parts;
-        made = still-made t (in_next_epoch c) first h.made;
-        addressed = subst (λ (s : Setup). AreToNodes s.n first.sends) (sym later.setup) h.addressed;
-      } in
+      let complete = over c.past h.stands_for.tied in
+      let begun : Turn Msg = onward t (ends (formats_of v.setup m) (rules_of v.setup) m v.me.0) in
+      let turned : IsTurned m stands begun u (both first vote) = voted-behind v u t first vote early complete next later h in
       let went = each begun turned in
-      let epoch : u.epoch ≡ suc c.past.epoch = parts.tied.epoch in
-      let kept : seen_early early ≡ c.early = ap (λ (xs : List (Early Msg)). seen_early xs) next.kept ∙ sym (ap (λ (d : Core Msg). d.early) is) in
+      let epoch : u.epoch ≡ suc c.past.epoch = turned.stands_for.tied.epoch in
+      let kept : seen_early early ≡ c.early = ap (λ (xs : List (Early Msg)). seen_early xs) next.kept ∙ sym (ap (λ (d : Core Msg). d.early) h.stands_for.core) in
       let there : IsTurned m stands (onward begun (takes_each (formats_of v.setup m) (rules_of v.setup) m v.me.0 (suc c.past.epoch) c.early)) w last =
       subst (λ (xs : List (Kept_early Msg)). IsTurned m stands (onward begun (takes_each (formats_of v.setup m) (rules_of v.setup) m v.me.0 (suc c.past.epoch) xs)) w last) kept
       (subst (λ (e : ℕ). IsTurned m stands (onward begun (takes_each (formats_of v.setup m) (rules_of v.setup) m v.me.0 e (seen_early early))) w last) epoch
@@ -99,29 +111,30 @@ module _ {M Msg : Type 0} (m : Module Msg) (stands : M → Params → ℕ → Li
 
   -- ---- an early message
 
-  ended-not : (R : Rules) (me : ℕ) (t : Turn Msg) → is_complete R m me t.core.past ≡ false → ended R m me t ≡ t
-  ended-not R me t h = rw h refl
+  ended-not : (F : Formats Msg) (R : Rules) (me : ℕ) (t : Turn Msg) → is_complete R m me t.core.past ≡ false → ended F R m me t ≡ t
+  ended-not F R me t h = rw h refl
 
-  ended-on : (R : Rules) (me : ℕ) (t : Turn Msg) → is_complete R m me t.core.past ≡ true → ended R m me t ≡ record t { core = in_next_epoch t.core }
-  ended-on R me t h = rw h refl
+  ended-on : (F : Formats Msg) (R : Rules) (me : ℕ) (t : Turn Msg) → is_complete R m me t.core.past ≡ true → ended F R m me t ≡ onward t (ends F R m me)
+  ended-on F R me t h = rw h refl
 
   pub early-not : (v : ReplicaState M Msg) (t : Turn Msg) (o : Outcome) → ((past : Past Msg) → IsTied m stands v past → is_complete (rules_of v.setup) m v.me.0 past ≡ false) →
-      IsTurned m stands t v o → IsTurned m stands (ended (rules_of v.setup) m v.me.0 t) v o
-  early-not v t o lasting h = subst (λ (z : Turn Msg). IsTurned m stands z v o) (sym (ended-not (rules_of v.setup) v.me.0 t (lasting t.core.past h.stands_for.tied))) h
+      IsTurned m stands t v o → IsTurned m stands (ended (formats_of v.setup m) (rules_of v.setup) m v.me.0 t) v o
+  early-not v t o lasting h =
+      subst (λ (z : Turn Msg). IsTurned m stands z v o) (sym (ended-not (formats_of v.setup m) (rules_of v.setup) v.me.0 t (lasting t.core.past h.stands_for.tied))) h
 
-  pub early-on : (v u : ReplicaState M Msg) (t : Turn Msg) (o : Outcome) (early : List (Early Msg)) → ((past : Past Msg) → IsTied m stands v past → is_complete (rules_of v.setup) m v.me.0 past ≡ true) →
-      IsNextEpoch m stands v u early → IsLater v u → IsTurned m stands t v o → IsTurned m stands (ended (rules_of v.setup) m v.me.0 t) u o
-  early-on v u t o early over next later h =
+  pub early-on : (v u : ReplicaState M Msg) (t : Turn Msg) (o vote : Outcome) (early : List (Early Msg)) → ((past : Past Msg) → IsTied m stands v past → is_complete (rules_of v.setup) m v.me.0 past ≡ true) →
+      IsEnded m stands v u vote early → IsLater v u → IsTurned m stands t v o → IsTurned m stands (ended (formats_of v.setup m) (rules_of v.setup) m v.me.0 t) u (both o vote)
+  early-on v u t o vote early over next later h =
       let complete = over t.core.past h.stands_for.tied in
-      let parts : AreParts m stands u (in_next_epoch t.core) = subst (λ (d : Core Msg). AreParts m stands u (in_next_epoch d)) (sym h.stands_for.core) (next.stands_for t.core.past h.stands_for.tied complete) in
-      subst (λ (z : Turn Msg). IsTurned m stands z u o) (sym (ended-on (rules_of v.setup) v.me.0 t complete))
-      (record { stands_for = parts; made = still-made t (in_next_epoch t.core) o h.made; addressed = subst (λ (s : Setup). AreToNodes s.n o.sends) (sym later.setup) h.addressed })
+      subst (λ (z : Turn Msg). IsTurned m stands z u (both o vote)) (sym (ended-on (formats_of v.setup m) (rules_of v.setup) v.me.0 t complete))
+      (voted-behind v u t o vote early complete next later h)
 
   -- by the set-up that stays
-  pub ended-by : (v u w : ReplicaState M Msg) (t : Turn Msg) (o : Outcome) → IsLater v u → IsTurned m stands (ended (rules_of u.setup) m u.me.0 t) w o → IsTurned m stands (ended (rules_of v.setup) m v.me.0 t) w o
+  pub ended-by : (v u w : ReplicaState M Msg) (t : Turn Msg) (o : Outcome) → IsLater v u → IsTurned m stands (ended (formats_of u.setup m) (rules_of u.setup) m u.me.0 t) w o →
+      IsTurned m stands (ended (formats_of v.setup m) (rules_of v.setup) m v.me.0 t) w o
   ended-by v u w t o later h =
-      subst (λ (s : Setup). IsTurned m stands (ended (rules_of s) m v.me.0 t) w o) later.setup
-      (subst (λ (i : NodeId). IsTurned m stands (ended (rules_of u.setup) m i.0 t) w o) later.me h)
+      subst (λ (s : Setup). IsTurned m stands (ended (formats_of s m) (rules_of s) m v.me.0 t) w o) later.setup
+      (subst (λ (i : NodeId). IsTurned m stands (ended (formats_of u.setup m) (rules_of u.setup) m i.0 t) w o) later.me h)
 
   -- ---- early messages in turn
 
@@ -150,10 +163,6 @@ module _ {M Msg : Type 0} (m : Module Msg) (stands : M → Params → ℕ → Li
       let e : onward t (takes_each F R m start.me.0 start.epoch (seen_early all)) ≡ o.so_far =
       ap (λ (xs : List (Early Msg)). onward t (takes_each F R m start.me.0 start.epoch (seen_early xs))) (sym is ∙ sym (append-nothing done)) ∙ o.rest [] ∙ onward-rests o.so_far in
       subst (λ (z : Turn Msg). IsTurned m stands z now last) (sym e) (record { stands_for = o.stands_for; made = o.made; addressed = o.addressed })
-
-  to-nodes : (n : ℕ) (xs ys : List (To × List ℕ)) → AreToNodes n xs → AreToNodes n ys → AreToNodes n (xs ++ ys)
-  to-nodes n [] ys h k = k
-  to-nodes n (x ∷ xs) ys h k = (h.0, to-nodes n xs ys h.1 k)
 
   each-on : (F : Formats Msg) (R : Rules) (me e : ℕ) (x : Kept_early Msg) (xs : List (Kept_early Msg)) (c : Core Msg) → c.past.epoch ≡ e → takes_each F R m me e (x ∷ xs) c ≡ onward (takes_early F R m me c x) (takes_each F R m me e xs)
   each-on F R me e x xs c h = let same : eqb c.past.epoch e ≡ true = grind (arith, nat_tests) in rw same refl

@@ -7,6 +7,9 @@ use Rattle.iss_base.proofs.Lists.{same_or_not}
 use Rattle.iss_base.specs.Lists.{In, oldest}
 use Rattle.iss_layout.proofs.FairLemmas.{fair, leads_means}
 use Rattle.iss_layout.specs.Layout.{Conduct, Ended, IsGoodPlan, IsStanding, Plan, conduct_of, epochs, leads, plan_by, segment}
+use Rattle.iss_ballots.specs.Ballots.{AreKept, BallotsState}
+use Rattle.iss_checkpoint.specs.Votes.{voters_of}
+use Rattle.iss_log.specs.Chains.{ChainsState, IsChainOf}
 use Rattle.iss_log.specs.LogState.{empty_log}
 use Rattle.iss_model.proofs.Casts.{idle-sound, newborn-log}
 use Rattle.iss_model.specs.Concrete.{keys_of, plan_at, rules_of}
@@ -178,10 +181,11 @@ module _ {M Msg : Type 0} (stands : M → Params → ℕ → List (Item Msg) →
 -- ---- a node that has taken nothing
 
 module _ {M Msg : Type 0} (m : Module Msg) (stands : M → Params → ℕ → List (Item Msg) → Type 0) (s t : Setup) (me : NodeId) (directory : DirectoryView) (plan : Plan) (windows : Kept) (standing : List Conduct)
-    (gs : List (Option (SegmentState M))) (keys : KeyState) (h : IsSetupOf m s) (t_is : t ≡ s) (directory_is : directory ≡ keys_of s) (low : me.0 < s.n)
+    (gs : List (Option (SegmentState M))) (chains : ChainsState) (ballots : BallotsState) (keys : KeyState) (h : IsSetupOf m s) (t_is : t ≡ s) (directory_is : directory ≡ keys_of s) (low : me.0 < s.n)
     (divided : (p : List Ended) → IsStanding s p standing → plan ≡ plan_by s 0 0 (conduct_of p)) (stood : IsStanding s [] standing)
     (noted : StandsFor windows none_noted) (width : windows.width ≡ s.window)
-    (started : AreStarted stands s me 0 plan gs) (count : length gs ≡ s.n) where
+    (started : AreStarted stands s me 0 plan gs) (count : length gs ≡ s.n)
+    (version : chains.version ≡ s.version) (chained : IsChainOf chains []) (ballots_is : ballots ≡ record { voters = voters_of s (keys_of s); all = [] }) where
   abbrev pub begun : ReplicaState M Msg
   begun = record {
     setup = t;
@@ -194,10 +198,12 @@ module _ {M Msg : Type 0} (m : Module Msg) (stands : M → Params → ℕ → Li
     segments = gs;
     accepted = [];
     log = empty_log;
+    chains = chains;
     waiting = [];
     flight = record { casts = []; ids = [] };
     early = [];
     logged = [];
+    ballots = ballots;
     keys = keys;
   }
 
@@ -222,6 +228,8 @@ module _ {M Msg : Type 0} (m : Module Msg) (stands : M → Params → ℕ → Li
           node = started.node l g is;
         };
         early = tt;
+        version = version ∙ ap (λ (z : Setup). z.version) (sym t_is);
+        voters = ap (λ (b : BallotsState). b.voters) ballots_is ∙ ap (λ (d : DirectoryView). voters_of s d) (sym directory_is) ∙ ap (λ (z : Setup). voters_of z directory) (sym t_is);
       }
 
   no-log : log_of (rules_of t) m me.0 newborn ≡ []
@@ -236,6 +244,7 @@ module _ {M Msg : Type 0} (m : Module Msg) (stands : M → Params → ℕ → Li
       record {
         epoch = refl;
         log = newborn-log (rules_of u) m me.0;
+        chained = chained;
         rests = record { divided = plan-is ∙ ap (λ (z : Setup). plan_at z [] 0) (sym u_is); width = width ∙ ap (λ (z : Setup). z.window) (sym u_is); noted = noted };
         standing = subst (λ (z : Setup). IsStanding z [] standing) (sym u_is) stood;
         start = start ∙ (let q : 0 ≡ 0 * u.epoch = omega arith in q);
@@ -258,5 +267,8 @@ module _ {M Msg : Type 0} (m : Module Msg) (stands : M → Params → ℕ → Li
   pub begun-stands : AreKeysOf me.0 s.keys keys → Stands m stands (record { parts = begun; stale = false }) (record idle { leaf = keys.used })
   begun-stands own = record {
     fresh = refl;
-    parts = record { core = refl; tied = subst (λ (xs : List Value). IsTiedOver m stands begun newborn xs) (sym before-none) (tied-first t t_is own) };
+    held = record {
+      parts = record { core = refl; tied = subst (λ (xs : List Value). IsTiedOver m stands begun newborn xs) (sym before-none) (tied-first t t_is own) };
+      kept = subst (λ (b : BallotsState). AreKept b [] []) (sym ballots_is) (record { certs_are = λ e. refl; votes_are = λ e k h. refl });
+    };
   }

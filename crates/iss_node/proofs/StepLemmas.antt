@@ -85,6 +85,8 @@ module _ {M Msg : Type 0} (m : Module Msg) (stands : M → Params → ℕ → Li
       fits = shape.fits;
       segments = λ k x at. go k x at (same_or_not k l);
       early = shape.early;
+      version = shape.version;
+      voters = shape.voters;
     }
       where
         mine : IsAt v.setup v.me l h

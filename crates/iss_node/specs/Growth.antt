@@ -3,6 +3,7 @@ use Rattle.std.specs.Prelude.{◌≡◌, ℕ, List, ◌++◌, length, None}
 use Rattle.iss_base.specs.Lists.{first_of}
 use Rattle.iss_buckets.specs.Waiting.{absent}
 use Rattle.iss_ids.specs.Set.{and_ids}
+use Rattle.iss_log.specs.Chains.{ChainsState, IsChainOf, chain_of, strings_from}
 use Rattle.iss_log.specs.LogState.{LogState, value_at}
 use Rattle.iss_node.specs.Cells.{given}
 use Rattle.iss_request.specs.Log.{ids}
@@ -28,3 +29,8 @@ waits_on qs (Holds b) = absent (ids b) qs
 abbrev pub and_values : List ReqId → Value → List ReqId
 and_values xs Nil = xs
 and_values xs (Holds b) = and_ids xs b
+
+-- the chain went on with values, and these strings were hashed for them behind others
+pub record AreJoined (old : ChainsState) (log values : List Value) (new : ChainsState) (before after : List (List ℕ)) : Type 0 where
+  pub chained : IsChainOf new (log ++ values)
+  pub strings : after ≡ before ++ strings_from old.version (chain_of old.version log) values

@@ -2,11 +2,12 @@
 use Rattle.std.specs.Prelude.{◌≡◌, ◌≢◌, ℕ, ◌||◌, List, ◌++◌, [], ◌∷◌, Option, Some, None, Result, Ok, Err, fold, length, reverse}
 use Rattle.iss_buckets.specs.Waiting.{AreNew, absent}
 use Rattle.iss_ids.specs.Set.{and_ids}
+use Rattle.iss_log.specs.Chains.{IsChainOf}
 use Rattle.iss_model.specs.Formats.{formats_of}
 use Rattle.iss_model.specs.Node.{own_claims, packed, returned}
 use Rattle.iss_model.specs.declared.causes.Refusal.{Refusal}
 use Rattle.iss_node.specs.Flights.{IsLanded}
-use Rattle.iss_node.specs.Growth.{IsGrown, and_values, waits_on}
+use Rattle.iss_node.specs.Growth.{AreJoined, IsGrown, and_values, waits_on}
 use Rattle.iss_node.specs.State.{ReplicaState, led}
 use Rattle.iss_node.specs.declared.answers.Accepted.{Accepted}
 use Rattle.iss_node.specs.declared.answers.Outcome.{Outcome}
@@ -74,8 +75,14 @@ pub record HasGrown {M Msg : Type 0} (old new : ReplicaState M Msg) (delivers : 
   pub grown : IsGrown old.log delivers new.log held
   pub logged : new.logged ≡ fold and_values old.logged grown.joined
   -- what joined waits no more
-  pub landed : HasLanded (record old { log = new.log; logged = new.logged; waiting = fold waits_on old.waiting grown.joined }) new
-  pub rest : new ≡ record old { log = new.log; logged = new.logged; flight = new.flight; waiting = new.waiting }
+  pub landed : HasLanded (record old { log = new.log; chains = new.chains; logged = new.logged; waiting = fold waits_on old.waiting grown.joined }) new
+  pub rest : new ≡ record old { log = new.log; chains = new.chains; logged = new.logged; flight = new.flight; waiting = new.waiting }
+
+-- the chain grew with the log, and the strings that were hashed for that stand behind others
+pub record IsChained {M Msg : Type 0} (old new : ReplicaState M Msg) (before after : List (List ℕ)) : Type 0 where
+  pub joined : (more : List Value) → new.log.entries ≡ old.log.entries ++ more → IsChainOf old.chains old.log.entries →
+      AreJoined old.chains old.log.entries more new.chains before after
+  pub version : new.chains.version ≡ old.chains.version
 
 -- what a step of leader l's instance made, as the node hands it out: packets, its own claims in them, and what was hashed
 pub record IsHandedOut {M Msg : Type 0} (m : Module Msg) (v : ReplicaState M Msg) (l : ℕ) (sends : List (To × Msg)) (hashed : List (List ℕ))

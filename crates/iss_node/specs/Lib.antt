@@ -8,3 +8,5 @@ pub mod Parcels
 pub mod Shape
 pub mod State
 pub mod Steps
+pub mod Transfers
+pub mod Votes

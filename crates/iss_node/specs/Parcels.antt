@@ -1,12 +1,19 @@
 -- What is seen of a parcel: the model's.
 use Rattle.std.specs.Prelude.{ℕ, ◌<◌, Option, Some, None}
-use Rattle.iss_model.specs.Node.{Body as Held, OfModule, OfRequest, Parcel as Carried}
+use Rattle.iss_model.specs.Node.{Body as Held, OfAsk, OfModule, OfPiece, OfRequest, OfVote, Parcel as Carried}
 use Rattle.iss_node.specs.declared.parcels.Body.{Body}
-use Rattle.iss_node.specs.declared.parcels.Body.TheVariants.{Message, Request}
+use Rattle.iss_node.specs.declared.parcels.Body.TheVariants.{Ask, Message, Piece, Request, Vote}
 use Rattle.iss_node.specs.declared.parcels.Parcel.{Parcel}
+use Rattle.iss_checkpoint.specs.declared.votes.Vote.{Vote as Voted}
+use Rattle.iss_packet.specs.declared.packets.Packet.{Packet}
+use Rattle.iss_transfer.specs.declared.pieces.Ask.{Ask as Asked_for}
+use Rattle.iss_transfer.specs.declared.pieces.Piece.{Piece as Pieced}
 
 abbrev pub seen_body : {Msg : Type 0} → Body Msg → Held Msg
 seen_body (Message leader msg) = OfModule leader.0 msg
+seen_body (Vote v) = OfVote v
+seen_body Ask = OfAsk
+seen_body (Piece p) = OfPiece p
 seen_body (Request q) = OfRequest q
 
 abbrev pub seen_some : {Msg : Type 0} → Parcel Msg → Carried Msg
@@ -16,9 +23,29 @@ abbrev pub seen : {Msg : Type 0} → Option (Parcel Msg) → Option (Carried Msg
 seen None = None
 seen (Some k) = Some (seen_some k)
 
--- a message comes from a node; a request from anybody
+-- what a body holds of what was read of it
+abbrev pub body_of_vote : {Msg : Type 0} → Option Voted → Option (Body Msg)
+body_of_vote None = None
+body_of_vote (Some v) = Some (Vote v)
+
+abbrev pub body_of_ask : {Msg : Type 0} → Option Asked_for → Option (Body Msg)
+body_of_ask None = None
+body_of_ask (Some a) = Some Ask
+
+abbrev pub body_of_piece : {Msg : Type 0} → Option Pieced → Option (Body Msg)
+body_of_piece None = None
+body_of_piece (Some p) = Some (Piece p)
+
+abbrev pub carried : {Msg : Type 0} → Packet → Option (Body Msg) → Option (Parcel Msg)
+carried p None = None
+carried p (Some body) = Some (record { from = record { 0 = p.from }; epoch = p.epoch; body = body })
+
+-- all that nodes send comes from a node; a request from anybody
 abbrev pub IsBodyFrom : {Msg : Type 0} → ℕ → ℕ → Body Msg → Type 0
 IsBodyFrom n from (Message leader msg) = from < n
+IsBodyFrom n from (Vote v) = from < n
+IsBodyFrom n from Ask = from < n
+IsBodyFrom n from (Piece p) = from < n
 IsBodyFrom n from (Request q) = Unit {0}
 
 abbrev pub IsFromNode : {Msg : Type 0} → ℕ → Parcel Msg → Type 0

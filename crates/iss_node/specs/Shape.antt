@@ -1,5 +1,6 @@
 -- What holds of every node, whatever it took.
 use Rattle.std.specs.Prelude.{◌≡◌, ◌⊎◌, ℕ, ◌+◌, ◌^◌, ◌<◌, true, List, [], ◌∷◌, length, Some}
+use Rattle.iss_checkpoint.specs.Votes.{voters_of}
 use Rattle.iss_model.specs.Concrete.{keys_of}
 use Rattle.iss_model.specs.Node.{Core}
 use Rattle.iss_model.specs.Runs.{IsSetupOf}
@@ -32,6 +33,8 @@ pub record IsReplica {M Msg : Type 0} (m : Module Msg) (v : ReplicaState M Msg) 
   pub fits : v.plan.start + v.setup.epoch < 2 ^ 64
   pub segments : (l : ℕ) (g : SegmentState M) → led v.segments l ≡ Some g → IsAt v.setup v.me l g
   pub early : AreFrom v.setup.n v.early
+  pub version : v.chains.version ≡ v.setup.version
+  pub voters : v.ballots.voters ≡ voters_of v.setup v.directory
 
 -- a node stands for a core, or memory was wanting
 abbrev pub IsNode : {M Msg : Type 0} → Module Msg → (M → Params → ℕ → List (Item Msg) → Type 0) → NodeState M Msg → Type 0

@@ -4,7 +4,11 @@ use Rattle.iss_base.specs.Lists.{Different}
 use Rattle.iss_keys.specs.Directories.{AreKeysOf, DirectoryView}
 use Rattle.iss_keys.specs.KeyStates.{KeyState}
 use Rattle.iss_layout.specs.Layout.{Conduct, IsStanding, Plan, epochs, leads}
+use Rattle.iss_log.specs.Chains.{ChainsState, IsChainOf}
 use Rattle.iss_log.specs.LogState.{LogState, value_at}
+use Rattle.iss_ballots.specs.Ballots.{AreKept, BallotsState}
+use Rattle.iss_checkpoint.specs.declared.votes.Cert.{Cert}
+use Rattle.iss_checkpoint.specs.declared.votes.Vote.{Vote}
 use Rattle.iss_model.specs.Concrete.{rules_of}
 use Rattle.iss_model.specs.Node.{Core, Early as Kept_early, flown, joined}
 use Rattle.iss_model.specs.Past.{Past, before_own, log_of, taken_in}
@@ -42,11 +46,14 @@ pub record ReplicaState (M Msg : Type 0) : Type 0 where
   -- what they accepted, in the order of time
   pub accepted : List Accepted
   pub log : LogState
+  -- what stands for each front of the log
+  pub chains : ChainsState
   pub waiting : List Request
   pub flight : FlightState
   pub early : List (Early Msg)
   -- the identities of the log in the epoch
   pub logged : List ReqId
+  pub ballots : BallotsState
   pub keys : KeyState
 
 pub record NodeState (M Msg : Type 0) : Type 0 where
@@ -74,10 +81,10 @@ abbrev pub accepted_of : ℕ → List Accepted → List (Slot × Batch)
 accepted_of l [] = []
 accepted_of l (x ∷ xs) = cond (x.leader.0 == l) ((x.slot, x.batch) ∷ accepted_of l xs) (accepted_of l xs)
 
--- the core whose past this is
+-- the core whose past this is, but for its votes and certificates, which no step of an instance looks at
 abbrev pub core_of : {M Msg : Type 0} → ReplicaState M Msg → Past Msg → Core Msg
 core_of v past =
-    record { past = past; waiting = v.waiting; flight = v.flight.casts; early = seen_early v.early; leaf = v.keys.used }
+    record { past = past; waiting = v.waiting; flight = v.flight.casts; early = seen_early v.early; votes = []; certs = []; leaf = v.keys.used }
 
 -- the value that the instances of an epoch deliver in a slot
 abbrev pub slot_value : {Msg : Type 0} → Rules → Module Msg → ℕ → List Value → Past Msg → ℕ → Option Value
@@ -97,6 +104,7 @@ pub record IsTiedOver {M Msg : Type 0} (m : Module Msg) (stands : M → Params �
     (v : ReplicaState M Msg) (past : Past Msg) (before : List Value) : Type 0 where
   pub epoch : v.epoch ≡ past.epoch
   pub log : log_of (rules_of v.setup) m v.me.0 past ≡ reverse v.log.entries
+  pub chained : IsChainOf v.chains v.log.entries
   -- the epoch's ground
   pub rests : RestsOn v.setup before past.epoch v.plan v.windows
   pub standing : IsStanding v.setup (epochs v.setup past.epoch before) v.standing
@@ -125,7 +133,19 @@ pub record AreParts {M Msg : Type 0} (m : Module Msg) (stands : M → Params →
   pub core : c ≡ core_of v c.past
   pub tied : IsTied m stands v c.past
 
+-- a core without its votes and certificates, and with others
+abbrev pub bare : {Msg : Type 0} → Core Msg → Core Msg
+bare c = record c { votes = []; certs = [] }
+
+abbrev pub holding : {Msg : Type 0} → List Vote → List Cert → Core Msg → Core Msg
+holding votes certs c = record c { votes = votes; certs = certs }
+
+-- the parts stand for a core, with its votes and certificates
+pub record AreHeld {M Msg : Type 0} (m : Module Msg) (stands : M → Params → ℕ → List (Item Msg) → Type 0) (v : ReplicaState M Msg) (c : Core Msg) : Type 0 where
+  pub parts : AreParts m stands v (bare c)
+  pub kept : AreKept v.ballots c.votes c.certs
+
 -- the node stands for a core
 pub record Stands {M Msg : Type 0} (m : Module Msg) (stands : M → Params → ℕ → List (Item Msg) → Type 0) (v : NodeState M Msg) (c : Core Msg) : Type 0 where
   pub fresh : v.stale ≡ false
-  pub parts : AreParts m stands v.parts c
+  pub held : AreHeld m stands v.parts c

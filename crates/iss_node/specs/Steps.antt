@@ -3,11 +3,13 @@ use Rattle.std.specs.Prelude.{◌≡◌, ◌<◌, ℕ, true, List, Result, Ok, E
 use Rattle.iss_log.specs.LogState.{GoesOn}
 use Rattle.iss_model.specs.Concrete.{rules_of}
 use Rattle.iss_model.specs.Formats.{formats_of}
-use Rattle.iss_model.specs.Node.{Core, Dropped as Not_taken, Formats, Stepped, Taken as Was_taken, Turn, in_next_epoch, settled}
+use Rattle.iss_model.specs.Node.{Core, Dropped as Not_taken, Formats, Stepped, Taken as Was_taken, Turn, ends, in_next_epoch, settled}
 use Rattle.iss_model.specs.Past.{Past, is_complete}
 use Rattle.iss_model.specs.Rules.{Rules}
+use Rattle.iss_model.specs.declared.causes.NodeEvent.{NodeEvent}
+use Rattle.iss_model.specs.declared.causes.NodeEvent.TheVariants.{Packet as Gets, Propose as Proposes, Timeout as Fires, AskFrom as Asks}
 use Rattle.iss_model.specs.declared.causes.Why.{Why}
-use Rattle.iss_node.specs.State.{AreParts, IsTied, NodeState, ReplicaState, Stands, core_of}
+use Rattle.iss_node.specs.State.{AreHeld, AreParts, IsTied, NodeState, ReplicaState, Stands, core_of}
 use Rattle.iss_node.specs.declared.answers.Answer.{Answer}
 use Rattle.iss_node.specs.declared.answers.Answer.TheVariants.{Dropped, NoMemory, Stale, Taken}
 use Rattle.iss_node.specs.declared.answers.Early.{Early}
@@ -76,6 +78,13 @@ abbrev pub IsSettled : {M Msg : Type 0} → Module Msg → (M → Params → ℕ
 IsSettled {Msg = Msg} m stands old new step answer = (c : Core Msg) (stepped : Stepped Msg) → IsStep m stands c stepped old step →
     IsStep m stands c (settled (formats_of old.setup m) (rules_of old.setup) m old.me.0 stepped) new answer
 
+-- the node voted on its epoch, and the next one begins
+pub record IsEnded {M Msg : Type 0} (m : Module Msg) (stands : M → Params → ℕ → List (Item Msg) → Type 0) (old new : ReplicaState M Msg)
+    (outcome : Outcome) (early : List (Early Msg)) : Type 0 where
+  pub turned : (past : Past Msg) → IsTied m stands old past → is_complete (rules_of old.setup) m old.me.0 past ≡ true →
+      IsTurned m stands (ends (formats_of old.setup m) (rules_of old.setup) m old.me.0 (core_of old past)) new outcome
+  pub kept : early ≡ old.early
+
 -- the epoch's end, where it is complete
 pub record IsNextEpoch {M Msg : Type 0} (m : Module Msg) (stands : M → Params → ℕ → List (Item Msg) → Type 0) (old new : ReplicaState M Msg)
     (early : List (Early Msg)) : Type 0 where
@@ -84,10 +93,17 @@ pub record IsNextEpoch {M Msg : Type 0} (m : Module Msg) (stands : M → Params 
   pub kept : early ≡ old.early
 
 -- it is the same node, and its log goes on
+pub record IsSameNode {M Msg : Type 0} (old new : ReplicaState M Msg) : Type 0 where
+  pub setup : new.setup ≡ old.setup
+  pub me : new.me ≡ old.me
+  pub log : GoesOn old.log.entries new.log.entries
+
+-- and what it holds of votes is the same
 pub record IsLater {M Msg : Type 0} (old new : ReplicaState M Msg) : Type 0 where
   pub setup : new.setup ≡ old.setup
   pub me : new.me ≡ old.me
   pub log : GoesOn old.log.entries new.log.entries
+  pub ballots : new.ballots ≡ old.ballots
 
 -- the sender of a message is a node
 abbrev pub IsNodeInput : {Msg : Type 0} → ℕ → Input Msg → Type 0
@@ -95,17 +111,55 @@ IsNodeInput n (Cast slot batch) = Unit {0}
 IsNodeInput n (Receive from msg) = from.0 < n
 IsNodeInput n Timeout = Unit {0}
 
+-- ---- with votes and certificates
+
+-- a turn of the model was made at a core with its votes and certificates; what it sends goes to nodes, where the event is of nodes
+pub record IsHeldTurn {M Msg : Type 0} (m : Module Msg) (stands : M → Params → ℕ → List (Item Msg) → Type 0) (asked : Type 0)
+    (turn : Turn Msg) (new : ReplicaState M Msg) (outcome : Outcome) : Type 0 where
+  pub stands_for : AreHeld m stands new turn.core
+  pub made : IsMade turn outcome
+  pub addressed : asked → AreToNodes new.setup.n outcome.sends
+
+pub record IsHeldTaken {M Msg : Type 0} (m : Module Msg) (stands : M → Params → ℕ → List (Item Msg) → Type 0) (asked : Type 0)
+    (stepped : Stepped Msg) (new : ReplicaState M Msg) (outcome : Outcome) : Type 0 where
+  pub turn : Turn Msg
+  pub step_is : stepped ≡ Was_taken turn
+  pub turned : IsHeldTurn m stands asked turn new outcome
+
+pub record IsHeldDropped {M Msg : Type 0} (m : Module Msg) (stands : M → Params → ℕ → List (Item Msg) → Type 0) (c : Core Msg)
+    (stepped : Stepped Msg) (new : ReplicaState M Msg) (why : Why) : Type 0 where
+  pub step_is : stepped ≡ Not_taken why
+  pub stands_for : AreHeld m stands new c
+
+abbrev pub IsHeldStep : {M Msg : Type 0} → Module Msg → (M → Params → ℕ → List (Item Msg) → Type 0) → Type 0 → Core Msg → Stepped Msg →
+    ReplicaState M Msg → Answered → Type 0
+IsHeldStep m stands asked c stepped new (Takes outcome) = IsHeldTaken m stands asked stepped new outcome
+IsHeldStep m stands asked c stepped new (Drops why) = IsHeldDropped m stands c stepped new why
+
+-- whatever core the parts stand for: the model's step
+abbrev pub IsHeldStepOf : {M Msg : Type 0} → Module Msg → (M → Params → ℕ → List (Item Msg) → Type 0) → Type 0 → ReplicaState M Msg →
+    (Formats Msg → Rules → ℕ → Core Msg → Stepped Msg) → ReplicaState M Msg → Answered → Type 0
+IsHeldStepOf {Msg = Msg} m stands asked old step new answer = (c : Core Msg) → AreHeld m stands old c →
+    IsHeldStep m stands asked c (step (formats_of old.setup m) (rules_of old.setup) old.me.0 c) new answer
+
+-- whom an event names is a node
+abbrev pub IsOfNodes : ℕ → NodeEvent → Type 0
+IsOfNodes n (Gets bytes) = Unit {0}
+IsOfNodes n Proposes = Unit {0}
+IsOfNodes n (Fires l) = Unit {0}
+IsOfNodes n (Asks peer) = peer.0 < n
+
 -- ---- what the node answers
 
 -- the event was taken: the node stands for the core after the step, and hands out what the step made, all of it sent to
--- nodes
-pub record IsTurn {M Msg : Type 0} (m : Module Msg) (stands : M → Params → ℕ → List (Item Msg) → Type 0)
+-- nodes, where the event is of nodes
+pub record IsTurn {M Msg : Type 0} (m : Module Msg) (stands : M → Params → ℕ → List (Item Msg) → Type 0) (asked : Type 0)
     (stepped : Stepped Msg) (new : NodeState M Msg) (outcome : Outcome) : Type 0 where
   pub turn : Turn Msg
   pub step_is : stepped ≡ Was_taken turn
   pub stands_for : Stands m stands new turn.core
   pub made : IsMade turn outcome
-  pub addressed : AreToNodes new.parts.setup.n outcome.sends
+  pub addressed : asked → AreToNodes new.parts.setup.n outcome.sends
 
 -- the event was dropped: nothing has changed
 pub record IsDrop {M Msg : Type 0} (m : Module Msg) (stands : M → Params → ℕ → List (Item Msg) → Type 0) (c : Core Msg)
@@ -114,11 +168,11 @@ pub record IsDrop {M Msg : Type 0} (m : Module Msg) (stands : M → Params → �
   pub stands_for : Stands m stands new c
 
 -- the answer to a step of a core that the node stands for: such a node is not stale
-abbrev pub IsAnswer : {M Msg : Type 0} → Module Msg → (M → Params → ℕ → List (Item Msg) → Type 0) → Core Msg → Stepped Msg → NodeState M Msg → Answer → Type 0
-IsAnswer m stands c stepped new (Taken outcome) = IsTurn m stands stepped new outcome
-IsAnswer m stands c stepped new (Dropped why) = IsDrop m stands c stepped new why
-IsAnswer m stands c stepped new NoMemory = Unit {0}
-IsAnswer m stands c stepped new Stale = ⊥
+abbrev pub IsAnswer : {M Msg : Type 0} → Module Msg → (M → Params → ℕ → List (Item Msg) → Type 0) → Type 0 → Core Msg → Stepped Msg → NodeState M Msg → Answer → Type 0
+IsAnswer m stands asked c stepped new (Taken outcome) = IsTurn m stands asked stepped new outcome
+IsAnswer m stands asked c stepped new (Dropped why) = IsDrop m stands c stepped new why
+IsAnswer m stands asked c stepped new NoMemory = Unit {0}
+IsAnswer m stands asked c stepped new Stale = ⊥
 
 -- memory was wanting: the node is stale, and shows the log and the epoch that it had
 pub record IsSpoiled {M Msg : Type 0} (old new : NodeState M Msg) : Type 0 where

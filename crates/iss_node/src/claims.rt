@@ -119,8 +119,8 @@ fn own_claims<M: Sequenced>(
     Ok(own)
 }
 
-// Puts those of a node at the end.
-fn put_own(own: &mut Row<Claim>, me: NodeId, claims: Row<Claim>) -> Result<(), NoMemory>
+/// Puts those of a node at the end.
+pub fn put_own(own: &mut Row<Claim>, me: NodeId, claims: Row<Claim>) -> Result<(), NoMemory>
     ensures { OnOk result (own.new ≡ own.old ++ only_by me.0 claims) }
 {
     for claim in claims.into_vec() {

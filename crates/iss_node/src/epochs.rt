@@ -6,7 +6,7 @@ ghost use Rattle.iss_model.specs.Node.{at_instance, is_nil_at, onward, settles, 
 ghost use Rattle.iss_node.specs.Epochs.{HasClosed, HasOpened, both, notes};
 ghost use Rattle.iss_node.specs.Shape.{AreFrom};
 ghost use Rattle.iss_node.specs.State.{seen_early, seen_one};
-ghost use Rattle.iss_node.specs.Steps.{IsLater, IsNextEpoch, IsSettled, IsTurnBehind, IsTurnOf};
+ghost use Rattle.iss_node.specs.Steps.{IsEnded, IsLater, IsNextEpoch, IsSettled, IsTurnBehind, IsTurnOf};
 ghost use Rattle.iss_window.specs.Kept.{StandsFor};
 ghost use Rattle.iss_window.specs.Window.{Noted};
 
@@ -35,7 +35,7 @@ impl<M: Sequenced> Replica<M> {
         }
     }
 
-    /// The same of a turn that was made.
+    /// The same of a turn that was made: the node votes on the epoch that it filled.
     pub(crate) fn settles(&mut self, alloc: Global, outcome: Outcome) -> Result<Outcome, NoMemory>
         ensures turn { IfOk result (λ o. IsTurnBehind M.meaning M.stands self.old (λ F R me t. settles F R M.meaning me t) outcome self.new o) }
         ensures later { IsLater self.old self.new }
@@ -43,12 +43,27 @@ impl<M: Sequenced> Replica<M> {
         if !self.is_complete() {
             return Ok(outcome);
         }
-        let early = self.next_epoch(alloc)?;
-        self.take_each(alloc, outcome, early)
+        let mut all = outcome;
+        let (vote, early) = self.end_epoch(alloc)?;
+        put_behind(&mut all, vote)?;
+        self.take_each(alloc, all, early)
     }
 
-    // Takes early messages in turn, as long as the epoch lasts. What they make goes behind what was made before.
-    fn take_each(
+    // Votes on the node's epoch, which is over, and begins the next one. Gives the messages that came early for it.
+    fn end_epoch(&mut self, alloc: Global) -> Result<(Outcome, Vec<Early<M::Msg>>), NoMemory>
+        ensures ended { IfOk result (λ both. IsEnded M.meaning M.stands self.old self.new both.0 both.1.items) }
+        ensures from { IfOk result (λ both. AreFrom self.new.setup.n both.1.items) }
+        ensures later { IsLater self.old self.new }
+    {
+        let _setup = &self.setup;
+        let vote = self.vote()?;
+        let outcome = self.hand_out_vote(alloc, &vote)?;
+        let early = self.next_epoch(alloc)?;
+        Ok((outcome, early))
+    }
+
+    /// Takes early messages in turn, as long as the epoch lasts. What they make goes behind what was made before.
+    pub(crate) fn take_each(
         &mut self,
         alloc: Global,
         outcome: Outcome,
@@ -77,9 +92,10 @@ impl<M: Sequenced> Replica<M> {
         ensures later { IsLater self.old self.new }
     {
         let claims = self.claims_in(alloc, message.leader, message.from, &message.msg)?;
-        let outcome = self.try_now(alloc, message)?;
+        let mut outcome = self.try_now(alloc, message)?;
         if self.is_complete() {
-            let _gone = self.next_epoch(alloc)?;
+            let (vote, _gone) = self.end_epoch(alloc)?;
+            put_behind(&mut outcome, vote)?;
         }
         Ok(with_early(outcome, claims))
     }
@@ -98,9 +114,9 @@ impl<M: Sequenced> Replica<M> {
         }
     }
 
-    // The epoch is over, and the next one begins with fresh instances. Gives the messages that came early for it. Want
-    // of memory comes also where slots would pass 2^64 - 1.
-    fn next_epoch(&mut self, alloc: Global) -> Result<Vec<Early<M::Msg>>, NoMemory>
+    /// The epoch is over, and the next one begins with fresh instances. Gives the messages that came early for it. Want
+    /// of memory comes also where slots would pass 2^64 - 1.
+    pub(crate) fn next_epoch(&mut self, alloc: Global) -> Result<Vec<Early<M::Msg>>, NoMemory>
         ensures next { IfOk result (λ early. IsNextEpoch M.meaning M.stands self.old self.new early.items) }
         ensures from { IfOk result (λ early. AreFrom self.new.setup.n early.items) }
         ensures later { IsLater self.old self.new }

@@ -1,14 +1,16 @@
 //! How the log grows, and what its growth does to the requests that a node knows of.
-ghost use Rattle.std.specs.Prelude.{◌≡◌, OnOk, IfOk, fold, length, reverse};
+ghost use Rattle.std.specs.Prelude.{◌≡◌, List, OnOk, IfOk, fold, length, reverse};
 ghost use Rattle.iss_log.specs.LogState.{GoesOn};
-ghost use Rattle.iss_node.specs.Growth.{IsGrown, and_values, waits_on};
+ghost use Rattle.iss_log.specs.Chains.{IsChainOf};
+ghost use Rattle.iss_node.specs.Growth.{AreJoined, IsGrown, and_values, waits_on};
 ghost use Rattle.iss_node.specs.Cells.{AreFilled};
 ghost use Rattle.iss_model.specs.Node.{is_nil_at};
+ghost use Rattle.iss_request.specs.declared.requests.Value.{Value as Held};
 
 use iss_buckets::Pending;
 use iss_ids::Ids;
-use iss_log::Log;
-use iss_request::{NoMemory, Slot, Value};
+use iss_log::{Chains, Log};
+use iss_request::{Bytes, NoMemory, Row, Slot, Value};
 
 /// Puts what was delivered into the log, and lets the log go on as far as it can. Gives how many slots it held before.
 pub fn grow(log: &mut Log, delivers: Vec<(Slot, Value)>) -> Result<usize, NoMemory>
@@ -28,6 +30,22 @@ fn fill_all(log: &mut Log, delivers: Vec<(Slot, Value)>) -> Result<(), NoMemory>
 {
     for (slot, value) in delivers {
         let _fill = log.fill(slot, value)?;
+    }
+    Ok(())
+}
+
+/// The chain goes on with values that joined the log. The strings that are hashed for them are put behind others.
+pub fn join_all(
+    chains: &mut Chains,
+    values: &[Value],
+    hashed: &mut Row<Bytes>,
+) -> Result<(), NoMemory>
+    ensures joined { OnOk result ((log : List Held) → IsChainOf chains.old log →
+        AreJoined chains.old log values.now chains.new hashed.old hashed.new) }
+    ensures version { chains.new.version ≡ chains.old.version }
+{
+    for value in values {
+        chains.join(value, hashed)?;
     }
     Ok(())
 }

@@ -1,14 +1,14 @@
 //! What a node's instances take.
 ghost use Rattle.std.specs.Prelude.{◌≡◌, ◌<◌, ◌≤◌, IfOk, OnOk, drop, length};
 ghost use Rattle.iss_model.specs.Node.{at_instance, inputs};
-ghost use Rattle.iss_node.specs.Inputs.{HasGrown, IsAbsorbed, IsHandedOut, IsInputTaken, IsJudgedInput, and_accepted};
+ghost use Rattle.iss_node.specs.Inputs.{HasGrown, IsAbsorbed, IsChained, IsHandedOut, IsInputTaken, IsJudgedInput, and_accepted};
 ghost use Rattle.iss_node.specs.Steps.{IsLater, IsNodeInput, IsStepOf, IsTurnOf};
 
 use crate::answers::{Accepted, Outcome, Stepped};
-use crate::growth::{grow, refile};
+use crate::growth::{grow, join_all, refile};
 use crate::replica::Replica;
 use iss_model::Why;
-use iss_request::{Batch, NoMemory, NodeId, Slot, Value};
+use iss_request::{Batch, Bytes, NoMemory, NodeId, Row, Slot, Value};
 use iss_sb::{Effects, Input, Sequenced};
 use iss_segment::Halt;
 use std::alloc::Global;
@@ -109,7 +109,8 @@ impl<M: Sequenced> Replica<M> {
         effects: Effects<M::Msg>,
     ) -> Result<Outcome, NoMemory>
         ensures absorbed { OnOk result (IsAbsorbed self.old self.new leader effects) }
-        ensures made { IfOk result (IsHandedOut M.meaning self.old leader.0 effects.sends effects.hashed) }
+        ensures made { IfOk result (λ o. IsHandedOut M.meaning self.old leader.0 effects.sends o.hashed o) }
+        ensures hashed { IfOk result (λ o. IsChained self.old self.new effects.hashed o.hashed) }
         ensures later { IsLater self.old self.new }
     {
         let Effects {
@@ -118,9 +119,10 @@ impl<M: Sequenced> Replica<M> {
             delivers,
             hashed,
         } = effects;
+        let mut strings = hashed;
         self.accept(leader, accepted)?;
-        self.grow(alloc, delivers.into_vec())?;
-        self.hand_out(alloc, leader, sends.as_slice(), hashed)
+        self.grow(alloc, delivers.into_vec(), &mut strings)?;
+        self.hand_out(alloc, leader, sends.as_slice(), strings)
     }
 
     // Keeps a batch that an instance accepted.
@@ -138,17 +140,22 @@ impl<M: Sequenced> Replica<M> {
         Ok(())
     }
 
-    // The log grows by what was delivered: its requests wait no more, and what was cast in its slots is in flight no more.
-    fn grow(&mut self, alloc: Global, delivers: Vec<(Slot, Value)>) -> Result<(), NoMemory>
+    /// The log grows by what was delivered: its requests wait no more, and what was cast in its slots is in flight no more. The
+    /// strings that are hashed for what joins it are put behind others.
+    pub(crate) fn grow(
+        &mut self,
+        alloc: Global,
+        delivers: Vec<(Slot, Value)>,
+        hashed: &mut Row<Bytes>,
+    ) -> Result<(), NoMemory>
         ensures grown { OnOk result (HasGrown self.old self.new delivers.items) }
+        ensures hashed { OnOk result (IsChained self.old self.new hashed.old hashed.new) }
         ensures later { IsLater self.old self.new }
     {
         let held = grow(&mut self.log, delivers)?;
-        refile(
-            behind(self.log.entries(), held),
-            &mut self.waiting,
-            &mut self.logged,
-        )?;
+        let joined = behind(self.log.entries(), held);
+        join_all(&mut self.chains, joined, hashed)?;
+        refile(joined, &mut self.waiting, &mut self.logged)?;
         self.land(alloc)
     }
 }

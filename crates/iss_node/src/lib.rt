@@ -14,6 +14,8 @@ pub mod parcels;
 pub mod replica;
 pub mod requests;
 pub mod starting;
+pub mod transfer;
+pub mod votes;
 
 pub use answers::{Accepted, Answer, Outcome};
 pub use node::Node;

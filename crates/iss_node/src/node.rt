@@ -1,28 +1,31 @@
 //! The node.
-ghost use Rattle.std.specs.Prelude.{◌≡◌, ◌<◌, ◌≤◌, ℕ, IfOk, is_some, length, map, not, reverse};
+ghost use Rattle.std.specs.Prelude.{◌≡◌, ◌<◌, ◌≤◌, ℕ, IfOk, is_some, length, map, not, option_map, reverse, slice_get};
 ghost use Rattle.std.specs.List.{list_any};
+ghost use Rattle.iss_ballots.specs.Ballots.{cert_in};
 ghost use Rattle.iss_keys.specs.Directories.{AreKeysOf};
 ghost use Rattle.iss_log.specs.LogState.{value_at};
 ghost use Rattle.iss_model.specs.Concrete.{keys_of, rules_of};
 ghost use Rattle.iss_model.specs.Formats.{formats_of};
-ghost use Rattle.iss_model.specs.Node.{Core, idle, step};
+ghost use Rattle.iss_model.specs.Node.{Core, cert_on, idle, step};
 ghost use Rattle.iss_model.specs.Past.{Past, log_of};
 ghost use Rattle.iss_model.specs.Runs.{IsSetupOf};
 ghost use Rattle.iss_model.specs.Views.{accepted_by, claims_of_bytes, is_castable_now, is_unfilled, unfilled};
 ghost use Rattle.iss_node.specs.State.{IsTied, Stands, accepted_of};
 ghost use Rattle.iss_request.specs.Log.{ids};
-ghost use Rattle.iss_node.specs.Steps.{HasRetreated, IsAnswer, IsLater, IsLeft, IsStepOf};
+ghost use Rattle.iss_node.specs.Steps.{HasRetreated, IsAnswer, IsHeldStepOf, IsLeft, IsOfNodes, IsSameNode};
 
 use crate::answers::{Accepted, Answer, Stepped};
 use crate::flight::Flight;
 use crate::replica::Replica;
 use crate::starting::start_segments;
+use iss_ballots::Ballots;
 use iss_buckets::Pending;
+use iss_checkpoint::Cert;
 use iss_ids::Ids;
 use iss_keys::{Keys, SharedDirectory};
 use iss_layout::laws::epochs_are_fair;
 use iss_layout::{Layout, Standing};
-use iss_log::Log;
+use iss_log::{Chains, Log};
 use iss_model::NodeEvent;
 use iss_request::{Batch, Epoch, NoMemory, NodeId, ReqId, Row, Setup, Slot};
 use iss_sb::{Claim, Input, Sequenced};
@@ -70,21 +73,26 @@ impl<M: Sequenced> Node<M> {
         let standing = Standing::new();
         let layout = Layout::of(setup, Epoch(0), 0, &standing);
         let segments = start_segments::<M>(alloc, setup, directory, Epoch(0), &layout, me)?;
+        let windows = Windows::new(alloc, setup)?;
+        let chains = Chains::new(alloc, setup.version)?;
+        let ballots = Ballots::new(alloc, setup, directory)?;
         let parts = Replica {
             setup: setup.copy()?,
             me,
             directory: directory.share(),
             epoch: Epoch(0),
             layout,
-            windows: Windows::new(alloc, setup)?,
+            windows,
             standing,
             segments,
             accepted: Vec::new(alloc),
             log: Log::new(alloc),
+            chains,
             waiting: Pending::new(alloc),
             flight: Flight::new(alloc),
             early: Vec::new(alloc),
             logged: Ids::new(alloc),
+            ballots,
             keys,
         };
         Ok(Node {
@@ -97,7 +105,7 @@ impl<M: Sequenced> Node<M> {
     /// that it had, and is stale from then on.
     pub fn take(&mut self, alloc: Global, event: NodeEvent) -> Answer
         ensures answer { (c : Core M.Msg) → Stands M.meaning M.stands self.old c →
-            IsAnswer M.meaning M.stands c
+            IsAnswer M.meaning M.stands (IsOfNodes self.old.parts.setup.n event) c
             (step (formats_of self.old.parts.setup M.meaning) (rules_of self.old.parts.setup) M.meaning self.old.parts.me.0 c event) self.new result }
         ensures left { IsLeft self.old self.new result }
         ensures same { (self.new.parts.setup ≡ self.old.parts.setup) × (self.new.parts.me ≡ self.old.parts.me) }
@@ -126,12 +134,21 @@ impl<M: Sequenced> Node<M> {
         }
     }
 
-    /// What these bytes claim that nodes signed, where they are a message of the node's epoch, whose leader leads there.
+    /// What these bytes claim that nodes signed: a vote, a piece's certificate, or a message of the node's epoch, whose leader
+    /// leads there.
     pub fn claims_of(&self, alloc: Global, bytes: &[u8]) -> Result<Row<Claim>, NoMemory>
         ensures { IfOk result (λ claims. (c : Core M.Msg) → Stands M.meaning M.stands self.now c →
             claims ≡ claims_of_bytes (formats_of self.now.parts.setup M.meaning) (rules_of self.now.parts.setup) M.meaning self.now.parts.me.0 c bytes.now) }
     {
         self.parts.claims_of_bytes(alloc, bytes)
+    }
+
+    /// The certificate of an epoch, if the node keeps one.
+    pub fn cert_at(&self, epoch: Epoch) -> Option<&Cert>
+        ensures shown { option_map (λ c. c.now) result ≡ cert_in (slice_get self.now.parts.ballots.all epoch.0) }
+        ensures is { (c : Core M.Msg) → Stands M.meaning M.stands self.now c → option_map (λ c. c.now) result ≡ cert_on c.certs epoch.0 }
+    {
+        self.parts.ballots.cert_at(epoch)
     }
 
     /// Gives up what came after the first slots: the log is these, and the epoch the given one. The node is stale from then on.
@@ -211,8 +228,9 @@ impl<M: Sequenced> Node<M> {
 impl<M: Sequenced> Replica<M> {
     // Takes an event.
     fn turn(&mut self, alloc: Global, event: NodeEvent) -> Result<Stepped, NoMemory>
-        ensures answer { IfOk result (λ a. IsStepOf M.meaning M.stands self.old (λ F R me c. step F R M.meaning me c event) self.new a) }
-        ensures later { IsLater self.old self.new }
+        ensures answer { IfOk result (λ a. IsHeldStepOf M.meaning M.stands (IsOfNodes self.old.setup.n event) self.old
+            (λ F R me c. step F R M.meaning me c event) self.new a) }
+        ensures same { IsSameNode self.old self.new }
     {
         match event {
             NodeEvent::Packet(bytes) => self.take_bytes(alloc, &bytes),
@@ -221,6 +239,7 @@ impl<M: Sequenced> Replica<M> {
                 let step = self.at_instance(alloc, leader, Input::Timeout)?;
                 self.settled(alloc, step)
             }
+            NodeEvent::AskFrom(peer) => self.ask_from(alloc, peer),
         }
     }
 

@@ -1,18 +1,20 @@
 //! What comes to a node from others.
 ghost use Rattle.std.specs.Prelude.{◌≡◌, ◌<◌, ◌==◌, suc, true, IfOk};
+ghost use Rattle.iss_checkpoint.specs.Bodies.{parse_vote};
 ghost use Rattle.iss_model.specs.Concrete.{rules_of};
-ghost use Rattle.iss_model.specs.Formats.{formats_of, message_in, parcel_of_kind, whole};
-ghost use Rattle.iss_model.specs.Node.{at_instance, keeps_early, settled, takes_bytes, takes_message, takes_parcel};
-ghost use Rattle.iss_model.specs.Past.{Past};
+ghost use Rattle.iss_model.specs.Formats.{formats_of, message_in, parcel_of_kind, piece_in, vote_in, whole};
+ghost use Rattle.iss_model.specs.Node.{Core, at_instance, keeps_early, settled, takes_bytes, takes_message, takes_parcel};
 ghost use Rattle.iss_model.specs.Views.{claims_of_bytes, claims_of_parcel};
 ghost use Rattle.iss_node.specs.Parcels.{IsFromNode, seen_body};
-ghost use Rattle.iss_node.specs.State.{IsTied, core_of, seen_one};
-ghost use Rattle.iss_node.specs.Steps.{IsLater, IsStepOf};
+ghost use Rattle.iss_node.specs.State.{IsTied, seen_one};
+ghost use Rattle.iss_node.specs.Steps.{IsHeldStepOf, IsLater, IsSameNode, IsStepOf};
 ghost use Rattle.iss_packet.specs.Packets.{is_routed};
+ghost use Rattle.iss_transfer.specs.Bodies.{parse_piece};
 
 use crate::answers::{Early, Outcome, Stepped};
 use crate::parcels::{Body, Parcel, read_message, unwrap};
 use crate::replica::Replica;
+use iss_ballots::{claim_of_vote, claims_of_cert, piece_of, vote_of};
 use iss_model::Why;
 use iss_packet::{Packet, PacketError, PacketKind};
 use iss_request::{Bytes, Epoch, NoMemory, NodeId, Row};
@@ -25,8 +27,9 @@ const EARLY_MOST: usize = 256;
 impl<M: Sequenced> Replica<M> {
     /// Takes bytes that came.
     pub(crate) fn take_bytes(&mut self, alloc: Global, bytes: &Bytes) -> Result<Stepped, NoMemory>
-        ensures answer { IfOk result (λ a. IsStepOf M.meaning M.stands self.old (λ F R me c. takes_bytes F R M.meaning me c (F.unwrap bytes.now)) self.new a) }
-        ensures later { IsLater self.old self.new }
+        ensures answer { IfOk result (λ a. IsHeldStepOf M.meaning M.stands (Unit {0}) self.old
+            (λ F R me c. takes_bytes F R M.meaning me c (F.unwrap bytes.now)) self.new a) }
+        ensures same { IsSameNode self.old self.new }
     {
         match unwrap::<M>(alloc, &self.setup, bytes.as_slice())? {
             Some(parcel) => self.take_parcel(alloc, parcel),
@@ -40,8 +43,8 @@ impl<M: Sequenced> Replica<M> {
         alloc: Global,
         bytes: &[u8],
     ) -> Result<Row<Claim>, NoMemory>
-        ensures { IfOk result (λ claims. (past : Past M.Msg) → IsTied M.meaning M.stands self.now past →
-            claims ≡ claims_of_bytes (formats_of self.now.setup M.meaning) (rules_of self.now.setup) M.meaning self.now.me.0 (core_of self.now past) bytes.now) }
+        ensures { IfOk result (λ claims. (c : Core M.Msg) → IsTied M.meaning M.stands self.now c.past →
+            claims ≡ claims_of_bytes (formats_of self.now.setup M.meaning) (rules_of self.now.setup) M.meaning self.now.me.0 c bytes.now) }
     {
         match Packet::decode(alloc, self.setup.version, self.setup.n, bytes) {
             Ok(packet) => self.claims_of_packet(alloc, &packet),
@@ -50,26 +53,26 @@ impl<M: Sequenced> Replica<M> {
         }
     }
 
-    // What a packet claims. Its body is read only where it is a message of the node's epoch.
+    // What a packet claims. A message is read only where it is of the node's epoch.
     fn claims_of_packet(&self, alloc: Global, packet: &Packet) -> Result<Row<Claim>, NoMemory>
         requires { is_routed self.now.setup.n packet.now ≡ true }
-        ensures { IfOk result (λ claims. (past : Past M.Msg) → IsTied M.meaning M.stands self.now past →
-            claims ≡ claims_of_parcel (rules_of self.now.setup) M.meaning self.now.me.0 (core_of self.now past)
+        ensures { IfOk result (λ claims. (c : Core M.Msg) → IsTied M.meaning M.stands self.now c.past →
+            claims ≡ claims_of_parcel (rules_of self.now.setup) M.meaning self.now.me.0 c
             (parcel_of_kind M.meaning self.now.setup.version packet.now packet.now.kind)) }
     {
         match packet.kind {
             PacketKind::Message => self.claims_of_message(alloc, packet),
-            PacketKind::Vote | PacketKind::Ask | PacketKind::Piece | PacketKind::Request => {
-                Ok(Row::new(alloc))
-            }
+            PacketKind::Vote => self.claims_of_vote(alloc, packet),
+            PacketKind::Piece => self.claims_of_piece(alloc, packet),
+            PacketKind::Ask | PacketKind::Request => Ok(Row::new(alloc)),
         }
     }
 
     // What the packet of a module's message claims.
     fn claims_of_message(&self, alloc: Global, packet: &Packet) -> Result<Row<Claim>, NoMemory>
         requires { packet.now.from < self.now.setup.n }
-        ensures { IfOk result (λ claims. (past : Past M.Msg) → IsTied M.meaning M.stands self.now past →
-            claims ≡ claims_of_parcel (rules_of self.now.setup) M.meaning self.now.me.0 (core_of self.now past)
+        ensures { IfOk result (λ claims. (c : Core M.Msg) → IsTied M.meaning M.stands self.now c.past →
+            claims ≡ claims_of_parcel (rules_of self.now.setup) M.meaning self.now.me.0 c
             (message_in packet.now (whole (M.meaning.parse self.now.setup.version packet.now.body)))) }
     {
         if packet.epoch.0 != self.epoch.0 {
@@ -85,12 +88,37 @@ impl<M: Sequenced> Replica<M> {
         }
     }
 
+    // What the packet of a vote claims.
+    fn claims_of_vote(&self, alloc: Global, packet: &Packet) -> Result<Row<Claim>, NoMemory>
+        ensures { IfOk result (λ claims. (c : Core M.Msg) →
+            claims ≡ claims_of_parcel (rules_of self.now.setup) M.meaning self.now.me.0 c
+            (vote_in packet.now (whole (parse_vote packet.now.from packet.now.epoch.0 packet.now.body)))) }
+    {
+        let mut claims = Row::new(alloc);
+        if let Some(vote) = vote_of(alloc, packet)? {
+            claims.push(claim_of_vote(alloc, &self.setup.tag, &vote)?)?;
+        }
+        Ok(claims)
+    }
+
+    // What the packet of a piece claims: the votes of its certificate.
+    fn claims_of_piece(&self, alloc: Global, packet: &Packet) -> Result<Row<Claim>, NoMemory>
+        ensures { IfOk result (λ claims. (c : Core M.Msg) →
+            claims ≡ claims_of_parcel (rules_of self.now.setup) M.meaning self.now.me.0 c
+            (piece_in packet.now (whole (parse_piece self.now.setup.version packet.now.epoch.0 packet.now.body)))) }
+    {
+        match piece_of(alloc, self.setup.version, packet)? {
+            Some(piece) => claims_of_cert(alloc, &self.setup.tag, &piece.cert),
+            None => Ok(Row::new(alloc)),
+        }
+    }
+
     // Takes what a packet holds.
     fn take_parcel(&mut self, alloc: Global, parcel: Parcel<M::Msg>) -> Result<Stepped, NoMemory>
         requires { IsFromNode self.old.setup.n parcel }
-        ensures answer { IfOk result (λ a. IsStepOf M.meaning M.stands self.old
+        ensures answer { IfOk result (λ a. IsHeldStepOf M.meaning M.stands (Unit {0}) self.old
             (λ F R me c. takes_parcel F R M.meaning me c parcel.from.0 parcel.epoch.0 (seen_body parcel.body)) self.new a) }
-        ensures later { IsLater self.old self.new }
+        ensures same { IsSameNode self.old self.new }
     {
         let Parcel { from, epoch, body } = parcel;
         match body {
@@ -98,6 +126,9 @@ impl<M: Sequenced> Replica<M> {
             Body::Message { leader, msg } => {
                 self.take_message(alloc, epoch, Early { from, leader, msg })
             }
+            Body::Vote(vote) => self.take_vote(alloc, vote),
+            Body::Ask => self.take_ask(alloc, from, epoch),
+            Body::Piece(piece) => self.take_piece(alloc, piece),
         }
     }
 

@@ -1,23 +1,29 @@
-//! What packets hold: a module's message, or a client's request.
+//! What packets hold: a module's message, a vote, an ask, a piece, or a client's request.
 ghost use Rattle.std.specs.Prelude.{◌≡◌, IfOk, IfSome, true};
 ghost use Rattle.iss_model.specs.Formats.{formats_of, packet_as, parcel_in, parcel_of_kind, message_in, request_in, whole};
 ghost use Rattle.iss_model.specs.Node.{Formats, OfModule, packed};
-ghost use Rattle.iss_node.specs.Parcels.{IsFromNode, seen, seen_some};
+ghost use Rattle.iss_node.specs.Parcels.{IsFromNode, body_of_ask, body_of_piece, body_of_vote, carried, seen};
 ghost use Rattle.iss_request.specs.declared.setups.Setup.{Setup};
 ghost use Rattle.iss_request.specs.Formats.{parse_request};
 ghost use Rattle.iss_packet.specs.Packets.{is_routed, parse_packet};
 
+use iss_ballots::{ask_of, piece_of, vote_of};
+use iss_checkpoint::Vote;
 use iss_packet::{Packet, PacketError, PacketKind};
 use iss_request::{
     Bytes, DecodeError, Epoch, Fields, NoMemory, NodeId, Request, Row, Setup, Writer,
 };
 use iss_sb::{Sequenced, To};
+use iss_transfer::{Ask, Piece};
 use std::alloc::Global;
 
 /// What a packet's body holds.
 #[derive(Drop)]
 pub enum Body<T> {
     Message { leader: NodeId, msg: T },
+    Vote(Vote),
+    Ask,
+    Piece(Piece),
     Request(Request),
 }
 
@@ -45,7 +51,7 @@ pub fn unwrap<M: Sequenced>(
     }
 }
 
-// What a packet holds. Votes, asks and pieces are not there yet.
+// What a packet holds.
 fn open<M: Sequenced>(
     alloc: Global,
     version: u8,
@@ -60,8 +66,47 @@ fn open<M: Sequenced>(
     match packet.kind {
         PacketKind::Message => open_message::<M>(alloc, version, packet),
         PacketKind::Request => open_request::<M::Msg>(alloc, version, packet),
-        PacketKind::Vote | PacketKind::Ask | PacketKind::Piece => Ok(None),
+        PacketKind::Vote => {
+            let vote = vote_of(alloc, &packet)?;
+            Ok(with_body(&packet, body_of_vote(vote)))
+        }
+        PacketKind::Ask => Ok(with_body(&packet, body_of_ask(ask_of(&packet)))),
+        PacketKind::Piece => {
+            let piece = piece_of(alloc, version, &packet)?;
+            Ok(with_body(&packet, body_of_piece(piece)))
+        }
     }
+}
+
+// A packet's body and who sent it.
+fn with_body<T: Drop>(packet: &Packet, body: Option<Body<T>>) -> Option<Parcel<T>>
+    ensures { result ≡ carried packet.now body }
+{
+    let body = body?;
+    Some(Parcel {
+        from: NodeId(packet.from),
+        epoch: packet.epoch,
+        body,
+    })
+}
+
+fn body_of_vote<T: Drop>(vote: Option<Vote>) -> Option<Body<T>>
+    ensures { result ≡ body_of_vote vote }
+{
+    Some(Body::Vote(vote?))
+}
+
+fn body_of_ask<T: Drop>(ask: Option<Ask>) -> Option<Body<T>>
+    ensures { result ≡ body_of_ask ask }
+{
+    let _ask = ask?;
+    Some(Body::Ask)
+}
+
+fn body_of_piece<T: Drop>(piece: Option<Piece>) -> Option<Body<T>>
+    ensures { result ≡ body_of_piece piece }
+{
+    Some(Body::Piece(piece?))
 }
 
 fn open_message<M: Sequenced>(

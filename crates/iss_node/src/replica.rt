@@ -7,11 +7,12 @@ ghost use Rattle.iss_segment.specs.Instance.{SegmentState};
 
 use crate::answers::{Accepted, Early};
 use crate::flight::Flight;
+use iss_ballots::Ballots;
 use iss_buckets::Pending;
 use iss_ids::Ids;
 use iss_keys::{Keys, SharedDirectory};
 use iss_layout::{Layout, Standing};
-use iss_log::Log;
+use iss_log::{Chains, Log};
 use iss_request::{Epoch, NodeId, Setup};
 use iss_sb::Sequenced;
 use iss_segment::Segment;
@@ -19,8 +20,8 @@ use iss_window::Windows;
 use std::alloc::Global;
 use std::marker::Model;
 
-/// The parts of a node in its epoch. Of earlier epochs it keeps the values of the log, what the windows note and what
-/// the policy carries.
+/// The parts of a node in its epoch. Of earlier epochs it keeps the values of the log with their chain, what the windows note,
+/// what the policy carries, and votes and certificates.
 #[derive(Drop)]
 pub struct Replica<M: Sequenced> {
     pub(crate) setup: Setup,
@@ -34,11 +35,15 @@ pub struct Replica<M: Sequenced> {
     pub(crate) segments: Vec<Option<Segment<M>>>,
     pub(crate) accepted: Vec<Accepted>,
     pub(crate) log: Log,
+    // what stands for each front of the log
+    pub(crate) chains: Chains,
     pub(crate) waiting: Pending,
     pub(crate) flight: Flight,
     pub(crate) early: Vec<Early<M::Msg>>,
     // the identities of the log in this epoch
     pub(crate) logged: Ids,
+    // the votes of all nodes, and the certificates
+    pub(crate) ballots: Ballots,
     pub(crate) keys: Keys,
 }
 
@@ -59,10 +64,12 @@ impl<M: Sequenced> Model for Replica<M> {
       segments = v.segments.items;
       accepted = v.accepted.items;
       log = v.log;
+      chains = v.chains;
       waiting = v.waiting;
       flight = v.flight;
       early = v.early.items;
       logged = v.logged;
+      ballots = v.ballots;
       keys = v.keys;
     } };
 
@@ -77,10 +84,12 @@ impl<M: Sequenced> Model for Replica<M> {
       segments = v.segments.items;
       accepted = v.accepted.items;
       log = v.log;
+      chains = v.chains;
       waiting = v.waiting;
       flight = v.flight;
       early = v.early.items;
       logged = v.logged;
+      ballots = v.ballots;
       keys = v.keys;
     }) };
 }

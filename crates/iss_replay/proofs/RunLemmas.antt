@@ -14,12 +14,12 @@ use Rattle.iss_model.proofs.Runs.{run-append}
 use Rattle.iss_model.proofs.Twins.{node-is}
 use Rattle.iss_model.specs.declared.causes.Why.{Why}
 use Rattle.iss_model.specs.declared.causes.NodeEvent.{NodeEvent}
-use Rattle.iss_model.specs.declared.causes.NodeEvent.TheVariants.{Packet as Gets, Propose as Proposes, Timeout as Fires}
+use Rattle.iss_model.specs.declared.causes.NodeEvent.TheVariants.{Packet as Gets, Propose as Proposes, Timeout as Fires, AskFrom as Seeks}
 use Rattle.iss_report.specs.Text.{drop_line, node_block}
 use Rattle.iss_replay.specs.Report.{block_of, drop_lines, node_blocks}
 use Rattle.iss_replay.specs.Stands.{StandsForRun, end_at, end_kept, numbered}
 use Rattle.iss_schedule.specs.declared.schedules.Event.{Event}
-use Rattle.iss_schedule.specs.declared.schedules.Event.TheVariants.{Request as Asks_order, Propose, Timeout as Times_out, Deliver, Lose, Pump, Calm, Hold, Free, Drop as Clear, Bytes}
+use Rattle.iss_schedule.specs.declared.schedules.Event.TheVariants.{Request as Asks_order, Propose, Timeout as Times_out, Ask, Deliver, Lose, Pump, Calm, Hold, Free, Drop as Clear, Bytes}
 use Rattle.iss_schedule.specs.Events.{AreInRange, IsInRange}
 use Rattle.iss_request.specs.Setup.{IsGoodSetup, node_count, nodes_of_kind}
 use Rattle.iss_request.specs.declared.setups.Kind.{Kind}
@@ -133,6 +133,7 @@ module _ {Msg : Type 0} (s : Setup) (F : Formats Msg) (R : Rules) (M : Module Ms
       at-once h c (Gets (F.wrap (record { from = 255; epoch = 0; body = OfRequest (request_of s client number payload) })))
   told-once h (Propose c) = at-once h c Proposes
   told-once h (Times_out c l) = at-once h c (Fires l)
+  told-once h (Ask c peer) = at-once h c (Seeks peer)
   told-once h (Deliver k) = delivered-once h k (nth h.net.network.packets k)
   told-once h (Lose k) = loses-once h k (nth h.net.network.packets k)
   told-once h Pump = each-once (due h.net.network) h

@@ -1,6 +1,7 @@
 -- The text that tells how far a run has come.
 use Rattle.std.specs.Prelude.{◌≡◌, ℕ, zero, suc, cond, List, [], ◌∷◌, ◌++◌}
 use Rattle.iss_model.specs.Concrete.{rules_of}
+use Rattle.iss_model.specs.Certified.{AreOfLogs, WereDelivered}
 use Rattle.iss_model.specs.Conserved.{AcceptsOnce, IsConserved}
 use Rattle.iss_model.specs.Ends.{HasEvidence}
 use Rattle.iss_model.specs.OneLog.{IsOneLog, run_after}
@@ -38,3 +39,5 @@ pub record IsReport {Msg : Type 0} (s : Setup) (M : Module Msg) (events : List E
   pub one_log : IsOneLog s M events
   pub evidence : HasEvidence s M events
   pub conserved : AcceptsOnce M → IsConserved s M events
+  pub certified : AreOfLogs s M events
+  pub adopted : WereDelivered s M events

@@ -2,6 +2,7 @@
 ghost use Rattle.std.specs.Prelude.{◌≡◌, IfOk, None};
 ghost use Rattle.iss_model.specs.Concrete.{rules_of};
 ghost use Rattle.iss_model.specs.Formats.{formats_of};
+ghost use Rattle.iss_model.specs.Certified.{AreOfLogs, WereDelivered};
 ghost use Rattle.iss_model.specs.Conserved.{AcceptsOnce, IsConserved};
 ghost use Rattle.iss_model.specs.Ends.{HasEvidence};
 ghost use Rattle.iss_model.specs.OneLog.{IsOneLog, run_after};
@@ -10,7 +11,10 @@ ghost use Rattle.iss_model.specs.Runs.{IsSetupOf};
 ghost use Rattle.iss_replay.specs.Stands.{StandsForRun, numbered};
 ghost use Rattle.iss_schedule.specs.Events.{AreInRange, IsInRange};
 
-use iss_model::{Why, cluster_runs, requests_are_conserved, runs_end_with_evidence};
+use iss_model::{
+    Why, adopted_was_delivered, certificates_are_of_logs, cluster_runs, requests_are_conserved,
+    runs_end_with_evidence,
+};
 use iss_request::{NoMemory, Row};
 use iss_sb::{Claim, Sequenced};
 use iss_schedule::{Event, Schedule};
@@ -30,7 +34,8 @@ pub struct Report<M: Sequenced> {
 /// Replays a schedule: what its events make of a cluster that has taken nothing, up to the event that shows a claim that its
 /// node never made, or two strings of one digest. The logs of correct nodes are of one log, in which no request stands twice
 /// and each batch was accepted as valid by a correct node, and which more events only make longer; and each request that a
-/// correct node took is in its log, waits there or is in flight (ISS, whole protocol).
+/// correct node took is in its log, waits there or is in flight. The certificates that correct nodes keep are of logs of correct
+/// nodes, and what correct nodes adopted was delivered at one (ISS, whole protocol).
 pub fn replay<M: Sequenced>(alloc: Global, schedule: &Schedule) -> Result<Report<M>, NoMemory>
     requires good { IsSetupOf M.meaning schedule.now.setup }
     requires range { AreInRange schedule.now.setup schedule.now.events }
@@ -39,10 +44,14 @@ pub fn replay<M: Sequenced>(alloc: Global, schedule: &Schedule) -> Result<Report
     ensures one_log { IsOneLog schedule.now.setup M.meaning schedule.now.events }
     ensures evidence { HasEvidence schedule.now.setup M.meaning schedule.now.events }
     ensures conserved { AcceptsOnce M.meaning → IsConserved schedule.now.setup M.meaning schedule.now.events }
+    ensures certified { AreOfLogs schedule.now.setup M.meaning schedule.now.events }
+    ensures adopted { WereDelivered schedule.now.setup M.meaning schedule.now.events }
 {
     cluster_runs::<M>();
     runs_end_with_evidence::<M>();
     requests_are_conserved::<M>();
+    certificates_are_of_logs::<M>();
+    adopted_was_delivered::<M>();
     play(alloc, schedule)
 }
 

@@ -11,7 +11,10 @@ ghost use Rattle.iss_schedule.specs.declared.schedules.Event.{Event};
 ghost use Rattle.iss_world.specs.Stands.{StandsAt};
 
 use crate::replays::Report;
-use iss_model::{Why, cluster_runs, requests_are_conserved, runs_end_with_evidence};
+use iss_model::{
+    Why, adopted_was_delivered, certificates_are_of_logs, cluster_runs, requests_are_conserved,
+    runs_end_with_evidence,
+};
 use iss_report::{put_collision, put_drop, put_forged, put_node, put_ok};
 use iss_request::{Bytes, NoMemory, NodeId};
 use iss_sb::Sequenced;
@@ -32,6 +35,8 @@ pub fn text<M: Sequenced>(alloc: Global, report: &Report<M>) -> Result<Bytes, No
     cluster_runs::<M>();
     runs_end_with_evidence::<M>();
     requests_are_conserved::<M>();
+    certificates_are_of_logs::<M>();
+    adopted_was_delivered::<M>();
     write(alloc, report)
 }
 

@@ -11,6 +11,7 @@ use Rattle.iss_model.specs.declared.causes.Refusal.{Refusal}
 use Rattle.iss_model.specs.declared.causes.Refusal.TheVariants.{TooLarge, ForeignBucket, BadSignature, OutOfWindow, Ordered, Marked}
 use Rattle.iss_model.specs.declared.causes.Why.{Why}
 use Rattle.iss_model.specs.declared.causes.Why.TheVariants.{NoPacket, NotPacket, BadRequest, Known, OutOfWindow as Outside, OtherEpoch, EarlyFull, NotLeader, BadClaim, NothingToCast, NoKeys, Refused}
+use Rattle.iss_model.specs.declared.causes.Why.TheVariants.{NoCert, NotNeeded, WrongChain}
 
 abbrev pub refusal_word : Refusal → List ℕ
 refusal_word TooLarge = codes "TooLarge"
@@ -33,6 +34,9 @@ why_word BadClaim = codes "BadClaim"
 why_word NothingToCast = codes "NothingToCast"
 why_word NoKeys = codes "NoKeys"
 why_word (Refused x) = codes "Refused " ++ refusal_word x
+why_word NoCert = codes "NoCert"
+why_word NotNeeded = codes "NotNeeded"
+why_word WrongChain = codes "WrongChain"
 
 -- each line ends with one line feed, the byte 10
 abbrev pub drop_line : ℕ → Why → List ℕ

@@ -66,6 +66,9 @@ pub fn put_why(out: &mut Vec<u8>, why: Why) -> Result<(), NoMemory>
         Why::NothingToCast => put_text(out, b"NothingToCast"),
         Why::NoKeys => put_text(out, b"NoKeys"),
         Why::Refused(refusal) => put_refused(out, refusal),
+        Why::NoCert => put_text(out, b"NoCert"),
+        Why::NotNeeded => put_text(out, b"NotNeeded"),
+        Why::WrongChain => put_text(out, b"WrongChain"),
     }
 }
 

@@ -14,7 +14,7 @@ use Rattle.iss_request.specs.declared.setups.Setup.{Setup}
 use Rattle.iss_schedule.specs.declared.names.Name.{Name}
 use Rattle.iss_schedule.specs.declared.names.Name.TheVariants as name
 use Rattle.iss_schedule.specs.declared.schedules.Event.{Event}
-use Rattle.iss_schedule.specs.declared.schedules.Event.TheVariants.{Request, Propose, Timeout, Deliver, Lose, Pump, Calm, Hold, Free, Drop, Bytes}
+use Rattle.iss_schedule.specs.declared.schedules.Event.TheVariants.{Request, Propose, Timeout, Ask, Deliver, Lose, Pump, Calm, Hold, Free, Drop, Bytes}
 use Rattle.iss_schedule.specs.Cores.{cores_of}
 use Rattle.iss_schedule.specs.Events.{event_words, spell_event, IsInRange}
 use Rattle.iss_schedule.specs.Names.{text_of_name}
@@ -50,6 +50,7 @@ space_in : (n : Name) → lacks_test 32 (text_of_name n) ≡ true
 space_in name.Request = refl
 space_in name.Propose = refl
 space_in name.Timeout = refl
+space_in name.Ask = refl
 space_in name.Deliver = refl
 space_in name.Lose = refl
 space_in name.Pump = refl
@@ -63,6 +64,7 @@ feed_in : (n : Name) → lacks_test 10 (text_of_name n) ≡ true
 feed_in name.Request = refl
 feed_in name.Propose = refl
 feed_in name.Timeout = refl
+feed_in name.Ask = refl
 feed_in name.Deliver = refl
 feed_in name.Lose = refl
 feed_in name.Pump = refl
@@ -107,6 +109,7 @@ pub event_lacks : (c : ℕ) (s : Setup) (e : Event) → IsBlank c → IsGoodSetu
 event_lacks c s (Request core client number payload) blank good ok = let leaves : 2 ^ s.keys ≤ 2 ^ 12 = pow_mono good.keys_high in (blank.names name.Request, (core_lacks c s core blank good ok.0, (lacks_decimal c client (omega (arith, blank.low)) (omega arith), (lacks_decimal c number (omega (arith, blank.low)) (omega arith), lacks_word c payload blank ok.3.0))))
 event_lacks c s (Propose core) blank good ok = (blank.names name.Propose, core_lacks c s core blank good ok)
 event_lacks c s (Timeout core leader) blank good ok = (blank.names name.Timeout, (core_lacks c s core blank good ok.0, lacks_decimal c leader.0 (omega (arith, blank.low)) (omega arith)))
+event_lacks c s (Ask core peer) blank good ok = (blank.names name.Ask, (core_lacks c s core blank good ok.0, lacks_decimal c peer.0 (omega (arith, blank.low)) (omega arith)))
 event_lacks c s (Deliver packet) blank good ok = (blank.names name.Deliver, lacks_decimal c packet (omega (arith, blank.low)) ok)
 event_lacks c s (Lose packet) blank good ok = (blank.names name.Lose, lacks_decimal c packet (omega (arith, blank.low)) ok)
 event_lacks c s Pump blank good ok = blank.names name.Pump
@@ -121,6 +124,7 @@ pub name_first : (e : Event) → (n : Name) × ((ws : List (List ℕ)) × (event
 name_first (Request core client number payload) = (name.Request, (_, refl))
 name_first (Propose core) = (name.Propose, (_, refl))
 name_first (Timeout core leader) = (name.Timeout, (_, refl))
+name_first (Ask core peer) = (name.Ask, (_, refl))
 name_first (Deliver packet) = (name.Deliver, (_, refl))
 name_first (Lose packet) = (name.Lose, (_, refl))
 name_first Pump = (name.Pump, (_, refl))

@@ -9,7 +9,7 @@ use Rattle.iss_request.specs.declared.setups.Setup.{Setup}
 use Rattle.iss_request.specs.declared.setups.Kind.TheVariants.{Byzantine}
 use Rattle.iss_schedule.specs.declared.names.Name.TheVariants as name
 use Rattle.iss_schedule.specs.declared.schedules.Event.{Event}
-use Rattle.iss_schedule.specs.declared.schedules.Event.TheVariants.{Request, Propose, Timeout, Deliver, Lose, Pump, Calm, Hold, Free, Drop, Bytes}
+use Rattle.iss_schedule.specs.declared.schedules.Event.TheVariants.{Request, Propose, Timeout, Ask, Deliver, Lose, Pump, Calm, Hold, Free, Drop, Bytes}
 use Rattle.iss_schedule.specs.declared.schedules.Schedule.{Schedule}
 use Rattle.iss_schedule.specs.Cores.{cores_of}
 use Rattle.iss_schedule.specs.Events.{event_words, spell_event, IsInRange, AreInRange}
@@ -106,6 +106,12 @@ event_line s line (Timeout core leader) good ok is = record {
   words = event_spelled s line (Timeout core leader) good ok is;
   spelled = (core_number s core good ok.0, (decimal_is_number leader.0 (omega arith), refl));
 }
+event_line s line (Ask core peer) good ok is = record {
+  name = name.Ask;
+  arguments = _;
+  words = event_spelled s line (Ask core peer) good ok is;
+  spelled = (core_number s core good ok.0, (decimal_is_number peer.0 (omega arith), refl));
+}
 event_line s line (Deliver packet) good ok is = record { name = name.Deliver; arguments = _; words = event_spelled s line (Deliver packet) good ok is; spelled = (decimal_is_number packet ok, refl) }
 event_line s line (Lose packet) good ok is = record { name = name.Lose; arguments = _; words = event_spelled s line (Lose packet) good ok is; spelled = (decimal_is_number packet ok, refl) }
 event_line s line Pump good ok is = record { name = name.Pump; arguments = _; words = event_spelled s line Pump good ok is; spelled = refl }
@@ -163,6 +169,7 @@ injected_event : (s : Setup) (e : Event) (args : List (List ℕ)) → IsInRange 
 injected_event s (Request core client number payload) args ok is = absurd (other 114 (event_words (Request core client number payload)) args refl (λ e. omega arith) is)
 injected_event s (Propose core) args ok is = absurd (other 112 (event_words (Propose core)) args refl (λ e. omega arith) is)
 injected_event s (Timeout core leader) args ok is = absurd (other 116 (event_words (Timeout core leader)) args refl (λ e. omega arith) is)
+injected_event s (Ask core peer) args ok is = absurd (other 97 (event_words (Ask core peer)) args refl (λ e. omega arith) is)
 injected_event s (Deliver packet) args ok is = absurd (other 100 (event_words (Deliver packet)) args refl (λ e. omega arith) is)
 injected_event s (Lose packet) args ok is = absurd (other 108 (event_words (Lose packet)) args refl (λ e. omega arith) is)
 injected_event s Pump args ok is = absurd (other 112 (event_words Pump) args refl (λ e. omega arith) is)

@@ -8,9 +8,10 @@ use Rattle.hex.specs.Hex.{IsBytes, decode_of, encode_with, lower_digits}
 use Rattle.hex.specs.declared.error.FromHexError.{FromHexError}
 use Rattle.hex.proofs.HexLemmas.{decode_of-encode_lower, length-encode_with}
 use Rattle.iss_request.specs.Setup.{IsGoodSetup}
+use Rattle.iss_request.specs.declared.ids.NodeId.{NodeId}
 use Rattle.iss_request.specs.declared.setups.Setup.{Setup}
 use Rattle.iss_schedule.specs.declared.schedules.Event.{Event}
-use Rattle.iss_schedule.specs.declared.schedules.Event.TheVariants.{Request, Propose, Timeout, Deliver, Lose, Pump, Calm, Hold, Free, Drop, Bytes}
+use Rattle.iss_schedule.specs.declared.schedules.Event.TheVariants.{Request, Propose, Timeout, Ask, Deliver, Lose, Pump, Calm, Hold, Free, Drop, Bytes}
 use Rattle.iss_schedule.specs.declared.schedules.Schedule.{Schedule}
 use Rattle.iss_schedule.specs.Cores.{cores_of}
 use Rattle.iss_schedule.specs.Events.{event_words, spell_event, IsInRange, AreInRange}
@@ -51,9 +52,9 @@ abbrev four : List (List ℕ) → Event
 four (a ∷ b ∷ c ∷ d ∷ []) = Request (back_number a) (back_number b) (back_number c) (back_bytes d)
 four _ = Pump
 
-abbrev two_numbers : List (List ℕ) → Event
-two_numbers (a ∷ b ∷ []) = Timeout (back_number a) (record { 0 = back_number b })
-two_numbers _ = Pump
+abbrev core_node : (ℕ → NodeId → Event) → List (List ℕ) → Event
+core_node f (a ∷ b ∷ []) = f (back_number a) (record { 0 = back_number b })
+core_node f _ = Pump
 
 abbrev number_bytes : List (List ℕ) → Event
 number_bytes (a ∷ b ∷ []) = Bytes (back_number a) (back_bytes b)
@@ -63,19 +64,23 @@ abbrev back_event : List (List ℕ) → Event
 back_event [] = Pump
 back_event (w ∷ ws) =
     let key = length w * 1000 + get_or w 0 0 in
-    cond (eqb key 7114) (four ws) (cond (eqb key 7112) (one Propose ws) (cond (eqb key 7116) (two_numbers ws) (cond (eqb key 7100) (one Deliver ws) (cond (eqb key 4108) (one Lose ws)
-    (cond (eqb key 4099) (one Calm ws) (cond (eqb key 4104) (one Hold ws) (cond (eqb key 4102) (one Free ws) (cond (eqb key 4100) (one Drop ws) (cond (eqb key 5098) (number_bytes ws) Pump)))))))))
+    cond (eqb key 7114) (four ws) (cond (eqb key 7112) (one Propose ws) (cond (eqb key 7116) (core_node Timeout ws) (cond (eqb key 3097) (core_node Ask ws) (cond (eqb key 7100) (one Deliver ws) (cond (eqb key 4108) (one Lose ws)
+    (cond (eqb key 4099) (one Calm ws) (cond (eqb key 4104) (one Hold ws) (cond (eqb key 4102) (one Free ws) (cond (eqb key 4100) (one Drop ws) (cond (eqb key 5098) (number_bytes ws) Pump))))))))))
 
 core_back : (s : Setup) (core : ℕ) → IsGoodSetup s → core < cores_of s → back_number (decimal core) ≡ core
 core_back s core good ok = number_back core (omega (arith, cores_fit s good, ok))
+
+core_node_back : (s : Setup) (f : ℕ → NodeId → Event) (core : ℕ) (node : NodeId) → IsGoodSetup s → core < cores_of s → node.0 < s.n → core_node f (decimal core ∷ decimal node.0 ∷ []) ≡ f core node
+core_node_back s f core node good ok low =
+    ap (λ n. f n (record { 0 = back_number (decimal node.0) })) (core_back s core good ok) ∙ ap (λ n. f core (record { 0 = n })) (number_back node.0 (omega arith))
 
 event_back : (s : Setup) (e : Event) → IsGoodSetup s → IsInRange s e → back_event (event_words e) ≡ e
 event_back s (Request core client number payload) good ok =
     let leaves : 2 ^ s.keys ≤ 2 ^ 12 = pow_mono good.keys_high in
     let a = core_back s core good ok.0 in let b = number_back client (omega arith) in let c = number_back number (omega arith) in let d = bytes_back payload ok.3.0 in cc
 event_back s (Propose core) good ok = ap Propose (core_back s core good ok)
-event_back s (Timeout core leader) good ok =
-    ap (λ n. Timeout n (record { 0 = back_number (decimal leader.0) })) (core_back s core good ok.0) ∙ ap (λ n. Timeout core (record { 0 = n })) (number_back leader.0 (omega arith))
+event_back s (Timeout core leader) good ok = core_node_back s Timeout core leader good ok.0 ok.1
+event_back s (Ask core peer) good ok = core_node_back s Ask core peer good ok.0 ok.1
 event_back s (Deliver packet) good ok = ap Deliver (number_back packet ok)
 event_back s (Lose packet) good ok = ap Lose (number_back packet ok)
 event_back s Pump good ok = refl

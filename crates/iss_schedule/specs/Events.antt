@@ -5,7 +5,7 @@ use Rattle.iss_request.specs.declared.setups.Kind.TheVariants.{Byzantine}
 use Rattle.iss_request.specs.declared.setups.Setup.{Setup}
 use Rattle.iss_schedule.specs.declared.names.Name.TheVariants as name
 use Rattle.iss_schedule.specs.declared.schedules.Event.{Event}
-use Rattle.iss_schedule.specs.declared.schedules.Event.TheVariants.{Request, Propose, Timeout, Deliver, Lose, Pump, Calm, Hold, Free, Drop, Bytes}
+use Rattle.iss_schedule.specs.declared.schedules.Event.TheVariants.{Request, Propose, Timeout, Ask, Deliver, Lose, Pump, Calm, Hold, Free, Drop, Bytes}
 use Rattle.iss_schedule.specs.Cores.{cores_of}
 use Rattle.iss_schedule.specs.Names.{text_of_name}
 use Rattle.iss_schedule.specs.Words.{line_of, word_of}
@@ -15,6 +15,7 @@ abbrev pub event_words : Event → List (List ℕ)
 event_words (Request core client number payload) = text_of_name name.Request ∷ decimal core ∷ decimal client ∷ decimal number ∷ word_of payload ∷ []
 event_words (Propose core) = text_of_name name.Propose ∷ decimal core ∷ []
 event_words (Timeout core leader) = text_of_name name.Timeout ∷ decimal core ∷ decimal leader.0 ∷ []
+event_words (Ask core peer) = text_of_name name.Ask ∷ decimal core ∷ decimal peer.0 ∷ []
 event_words (Deliver packet) = text_of_name name.Deliver ∷ decimal packet ∷ []
 event_words (Lose packet) = text_of_name name.Lose ∷ decimal packet ∷ []
 event_words Pump = text_of_name name.Pump ∷ []
@@ -31,12 +32,13 @@ spell_event e = line_of (event_words e)
 abbrev pub IsPayload : List ℕ → Type 0
 IsPayload payload = IsBytes payload × (length payload ≤ 256)
 
--- which events a cluster of this set-up may meet: a core is one of its cores, a leader is a node, a client signs with a
--- leaf of its tree, and only a module that withstands any fault meets bytes of no node
+-- which events a cluster of this set-up may meet: a core is one of its cores, a leader or a peer is a node, a client
+-- signs with a leaf of its tree, and only a module that withstands any fault meets bytes of no node
 abbrev pub IsInRange : Setup → Event → Type 0
 IsInRange s (Request core client number payload) = (core < cores_of s) × (client < s.clients) × (number < 2 ^ s.keys) × IsPayload payload
 IsInRange s (Propose core) = core < cores_of s
 IsInRange s (Timeout core leader) = (core < cores_of s) × (leader.0 < s.n)
+IsInRange s (Ask core peer) = (core < cores_of s) × (peer.0 < s.n)
 IsInRange s (Deliver packet) = packet < 2 ^ 64
 IsInRange s (Lose packet) = packet < 2 ^ 64
 IsInRange s Pump = Unit {0}

@@ -7,7 +7,7 @@ use Rattle.iss_request.specs.declared.setups.Setup.{Setup}
 use Rattle.iss_schedule.specs.declared.errors.Why.{Why}
 use Rattle.iss_schedule.specs.declared.errors.Why.TheVariants.{Cut, Form, Faulty, Injected, Range, Size}
 use Rattle.iss_schedule.specs.declared.names.Name.{Name}
-use Rattle.iss_schedule.specs.declared.names.Name.TheVariants.{Request, Propose, Timeout, Deliver, Lose, Pump, Calm, Hold, Free, Drop, Bytes}
+use Rattle.iss_schedule.specs.declared.names.Name.TheVariants.{Request, Propose, Timeout, Ask, Deliver, Lose, Pump, Calm, Hold, Free, Drop, Bytes}
 use Rattle.iss_schedule.specs.Headers.{HeaderField, OneOf, Number, header_fields}
 use Rattle.iss_schedule.specs.Names.{text_of_name}
 use Rattle.iss_schedule.specs.Words.{words_of, word_of, IsNumber}
@@ -19,6 +19,7 @@ abbrev pub number_count : Name → ℕ
 number_count Request = 3
 number_count Propose = 1
 number_count Timeout = 2
+number_count Ask = 2
 number_count Deliver = 1
 number_count Lose = 1
 number_count Pump = 0
@@ -32,6 +33,7 @@ abbrev pub has_bytes : Name → Bool
 has_bytes Request = true
 has_bytes Propose = false
 has_bytes Timeout = false
+has_bytes Ask = false
 has_bytes Deliver = false
 has_bytes Lose = false
 has_bytes Pump = false

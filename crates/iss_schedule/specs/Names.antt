@@ -1,13 +1,14 @@
 -- The words with which the lines of events begin.
 use Rattle.std.specs.Prelude.{ℕ, List, codes}
 use Rattle.iss_schedule.specs.declared.names.Name.{Name}
-use Rattle.iss_schedule.specs.declared.names.Name.TheVariants.{Request, Propose, Timeout, Deliver, Lose, Pump, Calm, Hold, Free, Drop, Bytes}
+use Rattle.iss_schedule.specs.declared.names.Name.TheVariants.{Request, Propose, Timeout, Ask, Deliver, Lose, Pump, Calm, Hold, Free, Drop, Bytes}
 
 -- how a name is spelled
 abbrev pub text_of_name : Name → List ℕ
 text_of_name Request = codes "request"
 text_of_name Propose = codes "propose"
 text_of_name Timeout = codes "timeout"
+text_of_name Ask = codes "ask"
 text_of_name Deliver = codes "deliver"
 text_of_name Lose = codes "lose"
 text_of_name Pump = codes "pump"

@@ -92,17 +92,34 @@ fn pumps_in(words: &mut Words) -> Option<u32>
     last_number_in(words, 1, 1001)
 }
 
+// The core and the node that the last two words name.
+fn core_and_node_in(setup: &Setup, words: &mut Words) -> Option<(u32, NodeId)>
+    requires good { IsGoodSetup setup.now }
+    ensures some { IfSome result (λ pair. words.old ≡ decimal pair.0 ∷ decimal pair.1.0 ∷ []) }
+    ensures range { IfSome result (λ pair. (pair.0 < cores_of setup.now) × (pair.1.0 < setup.now.n)) }
+    ensures none { IfNone result ((core node : ℕ) → core < cores_of setup.now → node < setup.now.n → words.old ≢ decimal core ∷ decimal node ∷ []) }
+{
+    let core = number_in(words, 0, count_of_cores(setup))?;
+    let node = last_number_in(words, 0, setup.n)?;
+    Some((core, NodeId(node as u8)))
+}
+
 // A timeout, behind its name.
 fn timeout_in(setup: &Setup, words: &mut Words) -> Option<Event>
     requires good { IsGoodSetup setup.now }
     ensures { Reads event_words (IsInRange setup.now) (text_of_name Name.Timeout ∷ words.old) result }
 {
-    let core = number_in(words, 0, count_of_cores(setup))?;
-    let leader = last_number_in(words, 0, setup.n)?;
-    Some(Event::Timeout {
-        core,
-        leader: NodeId(leader as u8),
-    })
+    let (core, leader) = core_and_node_in(setup, words)?;
+    Some(Event::Timeout { core, leader })
+}
+
+// An ask, behind its name.
+fn ask_in(setup: &Setup, words: &mut Words) -> Option<Event>
+    requires good { IsGoodSetup setup.now }
+    ensures { Reads event_words (IsInRange setup.now) (text_of_name Name.Ask ∷ words.old) result }
+{
+    let (core, peer) = core_and_node_in(setup, words)?;
+    Some(Event::Ask { core, peer })
 }
 
 // The payload that the last word spells.
@@ -185,6 +202,7 @@ fn event_in(
         Name::Request => request_in(alloc, setup, words)?,
         Name::Propose => core_in(setup, words).map(|core| Event::Propose { core }),
         Name::Timeout => timeout_in(setup, words),
+        Name::Ask => ask_in(setup, words),
         Name::Deliver => packet_in(words).map(|packet| Event::Deliver { packet }),
         Name::Lose => packet_in(words).map(|packet| Event::Lose { packet }),
         Name::Pump => words.is_done().then_some(Event::Pump),

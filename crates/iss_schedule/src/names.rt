@@ -9,6 +9,7 @@ pub enum Name {
     Request,
     Propose,
     Timeout,
+    Ask,
     Deliver,
     Lose,
     Pump,
@@ -34,6 +35,7 @@ pub fn text_of(name: Name) -> &'static [u8]
         Name::Request => b"request",
         Name::Propose => b"propose",
         Name::Timeout => b"timeout",
+        Name::Ask => b"ask",
         Name::Deliver => b"deliver",
         Name::Lose => b"lose",
         Name::Pump => b"pump",
@@ -56,6 +58,8 @@ pub fn name_of(word: &[u8]) -> Option<Name>
         Some(Name::Propose)
     } else if is_same(word, b"timeout") {
         Some(Name::Timeout)
+    } else if is_same(word, b"ask") {
+        Some(Name::Ask)
     } else if is_same(word, b"deliver") {
         Some(Name::Deliver)
     } else if is_same(word, b"lose") {

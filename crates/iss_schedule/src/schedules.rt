@@ -23,6 +23,11 @@ pub enum Event {
         core: u32,
         leader: NodeId,
     },
+    /// The core asks a node for the epoch in which it is itself.
+    Ask {
+        core: u32,
+        peer: NodeId,
+    },
     /// The packet is taken by its core, whether or not it was delivered or lost; it waits no more.
     Deliver {
         packet: u64,

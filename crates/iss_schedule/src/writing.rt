@@ -156,6 +156,10 @@ fn put_event(alloc: Global, out: &mut Vec<u8>, event: &Event) -> Result<(), NoMe
             put_one(out, Name::Timeout, u64::from(*core))?;
             put_number(out, u64::from(leader.0))
         }
+        Event::Ask { core, peer } => {
+            put_one(out, Name::Ask, u64::from(*core))?;
+            put_number(out, u64::from(peer.0))
+        }
         Event::Deliver { packet } => put_one(out, Name::Deliver, *packet),
         Event::Lose { packet } => put_one(out, Name::Lose, *packet),
         Event::Pump => put(out, names::text_of(Name::Pump)),

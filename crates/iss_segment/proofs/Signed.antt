@@ -1,7 +1,7 @@
 -- Requests as their clients sign them.
-use Rattle.std.proofs.Common.{◌≡◌, ◌↔◌, ℕ, ◌+◌, ◌≤◌, Bool, true, false, ◌&&◌, not, nat_le, List, ◌++◌, length, length-append, take, refl, sym, ap, ◌∙◌, subst, arith}
+use Rattle.std.proofs.Common.{◌≡◌, ◌↔◌, ℕ, ◌+◌, ◌^◌, ◌<◌, ◌≤◌, Bool, true, false, ◌&&◌, not, nat_le, nat_lt, List, ◌++◌, length, length-append, take, refl, sym, ap, ◌∙◌, subst, arith}
 use Rattle.std.proofs.Math.Seq.{take-append_seam}
-use Rattle.std.proofs.lemmas.Bool.{le-leb}
+use Rattle.std.proofs.lemmas.Bool.{le-leb, lt-ltb}
 use Rattle.std.proofs.lemmas.Slice.{take-put_mid}
 use borrow.Rule.Slice.PartMut.{put_mid}
 use Rattle.iss_keys.proofs.DirectoryLemmas.{verified-by}
@@ -27,16 +27,18 @@ same-test false true h k = h.1 (k.0 refl)
 same-test false false h k = refl
 
 -- what the directory says of the statement is whether the request is signed
-pub signed-is : (d : DirectoryView) (q : Request) (statement sig : List ℕ) (b : Bool) → length q.payload ≤ 256 → statement ≡ request_statement q.id q.payload → sig ≡ q.sig →
+pub signed-is : (d : DirectoryView) (q : Request) (statement sig : List ℕ) (b : Bool) → q.id.number < 2 ^ 32 → length q.payload ≤ 256 → statement ≡ request_statement q.id q.payload → sig ≡ q.sig →
     ((b ≡ true) ↔ VerifiesBy d.clients q.id.client statement sig) → b ≡ is_signed_by d q
-signed-is d q statement sig b few is same h =
+signed-is d q statement sig b small few is same h =
+    let fits : nat_lt q.id.number (2 ^ 32) ≡ true = lt-ltb q.id.number (2 ^ 32) small in
     let short : nat_le (length q.payload) 256 ≡ true = le-leb (length q.payload) 256 few in
     let there : (b ≡ true) ↔ VerifiesBy d.clients q.id.client (request_statement q.id q.payload) q.sig =
     subst (λ (z : List ℕ). (b ≡ true) ↔ VerifiesBy d.clients q.id.client (request_statement q.id q.payload) z) same
     (subst (λ (z : List ℕ). (b ≡ true) ↔ VerifiesBy d.clients q.id.client z sig) is h) in
     same-test b (is_verified_by d.clients q.id.client (request_statement q.id q.payload) q.sig) there
     (verified-by d.clients q.id.client (request_statement q.id q.payload) q.sig)
-    ∙ sym (ap (λ (z : Bool). z && is_verified_by d.clients q.id.client (request_statement q.id q.payload) q.sig) short)
+    ∙ sym (ap (λ (z : Bool). z && (nat_le (length q.payload) 256 && is_verified_by d.clients q.id.client (request_statement q.id q.payload) q.sig)) fits
+    ∙ ap (λ (z : Bool). z && is_verified_by d.clients q.id.client (request_statement q.id q.payload) q.sig) short)
 
 -- of a set-up's directory, as the set-up's rules have it
 pub under-setup : {b : Bool} (s : Setup) (d : DirectoryView) (batch : List Request) → d ≡ keys_of s →

@@ -18,6 +18,8 @@ const REQUEST: u8 = 0x30;
 pub fn is_signed(directory: &Directory, request: &Request) -> bool
     ensures { result ≡ is_signed_by directory.now request.now }
 {
+    // Its range is part of the answer.
+    let _number = request.id.number;
     let payload = request.payload.as_slice();
     if payload.len() > PAYLOAD_MOST {
         return false;

@@ -5,6 +5,7 @@ use Rattle.std.proofs.lemmas.Bool.{ltb-true}
 use Rattle.std.proofs.lemmas.List.{take-append-le}
 use Rattle.iss_base.proofs.Lists.{some-injective}
 use Rattle.iss_log.specs.LogState.{first_number_of}
+use Rattle.iss_model.specs.Certified.{AreOfLogs, WereDelivered}
 use Rattle.iss_model.specs.Concrete.{rules_of}
 use Rattle.iss_model.specs.Conserved.{AcceptsOnce, IsConserved}
 use Rattle.iss_model.proofs.Ranges.{at-cores}
@@ -84,6 +85,8 @@ numbers-agree s m events o = λ i j slot k l oki okj ki lj.
 module _ {M Msg : Type 0} (m : Module Msg) (stands : M → Params → ℕ → List (Item Msg) → Type 0) (s : Setup) (good : IsSetupOf m s)
     (are_one_log : (events : List Event) → AreAtCores s events → IsOneLog s m events)
     (once_conserved : AcceptsOnce m → (events : List Event) → AreAtCores s events → IsConserved s m events)
+    (of_logs : (events : List Event) → AreAtCores s events → AreOfLogs s m events)
+    (were_delivered : (events : List Event) → AreAtCores s events → WereDelivered s m events)
     (with_evidence : (events : List Event) → AreAtCores s events → HasEvidence s m events) where
   headline-of : (v : WorldState M Msg) (events : List Event) → AreInRange s events → StandsAfter s m stands v events → IsHeadline s m stands v events
   headline-of v events range h = record {
@@ -91,6 +94,8 @@ module _ {M Msg : Type 0} (m : Module Msg) (stands : M → Params → ℕ → Li
     one_log = are_one_log events (at-cores s events range);
     numbers = numbers-agree s m events (are_one_log events (at-cores s events range));
     conserved = λ once. once_conserved once events (at-cores s events range);
+    certified = of_logs events (at-cores s events range);
+    adopted = were_delivered events (at-cores s events range);
     evidence = with_evidence events (at-cores s events range);
   }
 

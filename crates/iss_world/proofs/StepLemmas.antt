@@ -8,13 +8,13 @@ use Rattle.iss_base.specs.Lists.{first_of, over}
 use Rattle.iss_base.proofs.Lists.{none-some, some-injective}
 use Rattle.iss_model.proofs.Casts.{step-grown}
 use Rattle.iss_model.proofs.Ending.{HasSlots}
-use Rattle.iss_model.proofs.Rows.{settles-holds}
-use Rattle.iss_model.proofs.Steps.{Took, asked, cast, fired, kept, received, took}
+use Rattle.iss_model.proofs.Rows.{each-holds, settles-holds}
+use Rattle.iss_model.proofs.Steps.{Took, adopted, asked, cast, fired, handed, kept, received, sought, took, voted}
 use Rattle.iss_model.proofs.Windows.{are-windows}
 use Rattle.iss_model.specs.Cluster.{Signed}
 use Rattle.iss_model.specs.Concrete.{rules_of}
 use Rattle.iss_model.specs.Formats.{formats_of}
-use Rattle.iss_model.specs.Node.{Core, Formats, Stepped, Taken, Turn, settles, step}
+use Rattle.iss_model.specs.Node.{Core, Early, Formats, Stepped, Taken, Turn, adopts_piece, onward, settles, step, takes_each}
 use Rattle.iss_model.specs.Past.{log_of}
 use Rattle.iss_model.specs.Rules.{Rules}
 use Rattle.iss_model.specs.Run.{End, Forged, Happening, Held, after_step, at_core, booked, by_collision, by_forged, claims_at, collision_in, done, early_of, ended_by, first_forged, is_forged, node_of, posted_all, turned_to}
@@ -108,11 +108,20 @@ module _ {Msg : Type 0} (F : Formats Msg) (R : Rules) (M : Module Msg) (me : ℕ
   epoch-settles e t h = settles-holds F R M me (λ t. e ≤ t.core.past.epoch) (λ t l input. Unit {0}) (λ t l input k fit come. k)
       (λ t k complete. le-suc e t.core.past.epoch k) (λ t claims k. k) t h (λ done u x i k q r. tt)
 
+  epoch-tried : (e n : ℕ) (xs : List (Early Msg)) (t : Turn Msg) → e ≤ t.core.past.epoch → e ≤ (onward t (takes_each F R M me n xs)).core.past.epoch
+  epoch-tried e n xs t h = each-holds F R M me (λ t. e ≤ t.core.past.epoch) (λ t l input. Unit {0}) (λ t l input k fit come. k)
+      (λ t k complete. le-suc e t.core.past.epoch k) (λ t claims k. k) n xs t h (λ u x i k q r. tt)
+
   took-epoch : (c : Core Msg) (event : NodeEvent) (t : Turn Msg) → Took F R M me c event t → c.past.epoch ≤ t.core.past.epoch
   took-epoch c event t (received k l msg u un b e i q) = rw q (epoch-settles c.past.epoch u (rw i.is (le-refl c.past.epoch)))
   took-epoch c event t (kept k l msg u b e i) = rw i.is (le-refl c.past.epoch)
   took-epoch c event t (asked k q u b r) = rw r.is (le-refl c.past.epoch)
   took-epoch c event t (cast s u i q) = rw q (epoch-settles c.past.epoch u (rw i.is (le-refl c.past.epoch)))
+  took-epoch c event t (voted k v u b i) = rw i.is (le-refl c.past.epoch)
+  took-epoch c event t (handed k cert u b i) = rw i.is (le-refl c.past.epoch)
+  took-epoch c event t (adopted k p u b i) =
+      rw i.is (epoch-tried c.past.epoch (suc c.past.epoch) c.early (adopts_piece R M me c p) (le-suc c.past.epoch c.past.epoch (le-refl c.past.epoch)))
+  took-epoch c event t (sought peer q) = rw q (le-refl c.past.epoch)
   took-epoch c event t (fired l u i q) = rw q (epoch-settles c.past.epoch u (rw i.is (le-refl c.past.epoch)))
 
   pub step-epoch : (c : Core Msg) (event : NodeEvent) (t : Turn Msg) → step F R M me c event ≡ Taken t → c.past.epoch ≤ t.core.past.epoch

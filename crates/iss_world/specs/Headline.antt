@@ -1,6 +1,7 @@
 -- What an event promises of a world that stood for the run of the events before it.
 use Rattle.std.specs.Prelude.{◌≡◌, ℕ, true, List, Some}
 use Rattle.iss_log.specs.LogState.{first_number_of}
+use Rattle.iss_model.specs.Certified.{AreOfLogs, WereDelivered}
 use Rattle.iss_model.specs.Conserved.{AcceptsOnce, IsConserved}
 use Rattle.iss_model.specs.Ends.{HasEvidence}
 use Rattle.iss_model.specs.OneLog.{IsOneLog, printed, run_after}
@@ -33,11 +34,14 @@ AgreeOnNumbers s m events =
     first_number_of (printed s m events j) slot ≡ Some l → k ≡ l
 
 -- The world stands for the run of these events, up to its end if it has ended. The logs of its correct nodes are of one log,
--- with the same numbers, and each request that a correct node took is in one place. If the run has ended, there is evidence of it.
+-- with the same numbers, and each request that a correct node took is in one place. Certificates that correct nodes keep are of logs
+-- of correct nodes, and what correct nodes adopted was delivered at one. If the run has ended, there is evidence of it.
 pub record IsHeadline {M Msg : Type 0} (s : Setup) (m : Module Msg) (stands : M → Params → ℕ → List (Item Msg) → Type 0)
     (v : WorldState M Msg) (events : List Event) : Type 0 where
   pub run : StandsAfter s m stands v events
   pub one_log : IsOneLog s m events
   pub numbers : AgreeOnNumbers s m events
   pub conserved : AcceptsOnce m → IsConserved s m events
+  pub certified : AreOfLogs s m events
+  pub adopted : WereDelivered s m events
   pub evidence : HasEvidence s m events

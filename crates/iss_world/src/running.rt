@@ -97,6 +97,7 @@ impl<M: Sequenced> Running<M> {
             Event::Timeout { core, leader } => {
                 self.take(alloc, *core, NodeEvent::Timeout(*leader))
             }
+            Event::Ask { core, peer } => self.take(alloc, *core, NodeEvent::AskFrom(*peer)),
             Event::Deliver { packet } => self.deliver(alloc, *packet),
             Event::Lose { packet } => Ok(self.lose(*packet)),
             Event::Pump => self.pump(alloc),

@@ -38,6 +38,7 @@ fn claims_at<M: Sequenced>(
         NodeEvent::Packet(bytes) => node.claims_of(alloc, bytes.as_slice()),
         NodeEvent::Propose => Ok(Row::new(alloc)),
         NodeEvent::Timeout(_) => Ok(Row::new(alloc)),
+        NodeEvent::AskFrom(_) => Ok(Row::new(alloc)),
     }
 }
 

@@ -15,7 +15,10 @@ ghost use Rattle.iss_world.specs.Stands.{HasHappened, IsOverOr, IsStaleOr, IsSta
 use crate::ends::{Change, End};
 use crate::running::Running;
 use iss_log::Log;
-use iss_model::{Why, cluster_runs, composition, requests_are_conserved, runs_end_with_evidence};
+use iss_model::{
+    Why, adopted_was_delivered, certificates_are_of_logs, cluster_runs, composition,
+    requests_are_conserved, runs_end_with_evidence,
+};
 use iss_node::Node;
 use iss_request::{Bytes, Epoch, NoMemory, NodeId, Setup, Value};
 use iss_sb::Sequenced;
@@ -105,6 +108,8 @@ impl<M: Sequenced> World<M> {
         composition::<M>();
         cluster_runs::<M>();
         requests_are_conserved::<M>();
+        certificates_are_of_logs::<M>();
+        adopted_was_delivered::<M>();
         runs_end_with_evidence::<M>();
         let _setup = self.running.setup();
         if self.stale {

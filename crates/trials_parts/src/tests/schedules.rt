@@ -16,20 +16,21 @@ const BAD_LINES: &str =
 8 Form policy Simple\n9 Range clients 257\n9 Range clients 0\n9 Form clients \n10 Range keys 1
 10 Range keys 13\n10 Form keys 4 4\n11 Faulty faulty 0\n11 Faulty faulty 1 0 7
 11 Form faulty\n11 Form faulty 01\n11 Form faulty none none\n11 Form faulty 0 none
-12 Form \n12 Form jump 0\n12 Form ask 0 1\n12 Form restart 0\n12 Form crash 0 1
+12 Form \n12 Form jump 0\n12 Form restart 0\n12 Form crash 0 1
 12 Form propose\n12 Form propose 0 0\n12 Form propose  0\n12 Form propose 00
 12 Form propose 0 \n12 Form  propose 0\n12 Form propose\t0\n12 Form Propose 0\n12 Form propose 0\r
 12 Range propose 3\n12 Range propose 18446744073709551616\n12 Form propose 018446744073709551616
 12 Form request 0 0 0\n12 Form request 0 0 0 AA\n12 Form request 0 0 0 a
 12 Form request 0 0 0 aa bb\n12 Form request 0 0 0 \n12 Form request 9 9 99 0g\n12 Range request 3 0 0 aa\n12 Range request 0 1 0 aa\n12 Range request 0 0 16 aa
-12 Range timeout 0 3\n12 Range timeout 3 0\n12 Form timeout 0\n12 Range deliver 18446744073709551616
+12 Range timeout 0 3\n12 Range timeout 3 0\n12 Form timeout 0\n12 Range ask 0 3\n12 Range ask 3 0
+12 Form ask 0\n12 Form ask 0 1 2\n12 Form ask 0 00\n12 Range deliver 18446744073709551616
 12 Form deliver -1\n12 Range lose 99999999999999999999\n12 Form pump 0
 12 Range calm 0\n12 Range calm 1001\n12 Range hold 3\n12 Range free 3\n12 Range drop 3
 12 Injected bytes 0 00\n12 Injected bytes 99999999999999999999 -\n12 Form bytes 0 0
 12 Form bytes 0\n12 Form bytes 00 00";
 
 const EVENTS: &str =
-    "request 0 0 0 aa\nrequest 2 0 15 -\nrequest 1 0 7 00ff10\npropose 0\ntimeout 1 2\n\
+    "request 0 0 0 aa\nrequest 2 0 15 -\nrequest 1 0 7 00ff10\npropose 0\ntimeout 1 2\nask 2 0\n\
      deliver 18446744073709551615\nlose 0\npump\ncalm 1000\ncalm 1\nhold 2\nfree 2\ndrop 1\n";
 
 // The headers of a worked schedule in which each node has two slots, and of one of the largest clusters.

@@ -7,6 +7,6 @@ returns g c =
     let M = g.M.Sequenced.meaning in
     let laws = c.laws.ensures in
     record {
-      reached = λ s h. cluster-run s M h (faithful s M laws.grammar) laws.lawful;
+      reached = λ s h. cluster-run s M h (faithful s M laws.grammar) laws.lawful laws.safe;
       one_log = λ s h. one-log s M h (faithful s M laws.grammar) laws.lawful laws.safe;
     }

@@ -9,4 +9,4 @@ returns g c =
     let laws = c.laws.ensures in
     λ s h once events low.
     let written = faithful s M laws.grammar in
-    conserved s M h written laws.lawful laws.safe once events (cluster-run s M h written laws.lawful events low)
+    conserved s M h written laws.lawful laws.safe once events (cluster-run s M h written laws.lawful laws.safe events low)

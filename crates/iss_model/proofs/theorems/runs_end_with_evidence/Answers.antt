@@ -6,4 +6,4 @@ pub returns : goal.returns
 returns g c =
     let M = g.M.Sequenced.meaning in
     let laws = c.laws.ensures in
-    λ s h. has-evidence s M h (faithful s M laws.grammar) laws.lawful
+    λ s h. has-evidence s M h (faithful s M laws.grammar) laws.lawful laws.safe

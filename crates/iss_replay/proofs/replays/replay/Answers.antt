@@ -18,3 +18,15 @@ returns-clause-conserved g c = λ once.
     let s = c.args.schedule.now.setup in
     let events = c.args.schedule.now.events in
     c.requests_are_conserved.ensures s c.requires.good once events (at-cores s events c.requires.range)
+
+pub returns-clause-certified : goal.returns-clause-certified
+returns-clause-certified g c =
+    let s = c.args.schedule.now.setup in
+    let events = c.args.schedule.now.events in
+    c.certificates_are_of_logs.ensures s c.requires.good events (at-cores s events c.requires.range)
+
+pub returns-clause-adopted : goal.returns-clause-adopted
+returns-clause-adopted g c =
+    let s = c.args.schedule.now.setup in
+    let events = c.args.schedule.now.events in
+    c.adopted_was_delivered.ensures.delivered s c.requires.good events (at-cores s events c.requires.range)

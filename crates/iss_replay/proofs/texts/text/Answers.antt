@@ -12,4 +12,6 @@ returns-clause-reports g c =
       one_log = c.cluster_runs.ensures.one_log s good events (at-cores s events range);
       evidence = c.runs_end_with_evidence.ensures s good events (at-cores s events range);
       conserved = λ once. c.requests_are_conserved.ensures s good once events (at-cores s events range);
+      certified = c.certificates_are_of_logs.ensures s good events (at-cores s events range);
+      adopted = c.adopted_was_delivered.ensures.delivered s good events (at-cores s events range);
     })

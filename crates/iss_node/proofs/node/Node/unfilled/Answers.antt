@@ -10,7 +10,7 @@ pub loop-node-preserved : goal.loop-node-preserved
 loop-node-preserved g c = λ d st.
     let m = g.M.Sequenced.meaning in
     let v = c.args.self.now.parts in
-    let tied = subst (λ (z : NodeState g.row.M.Denot g.row.M-Msg.Denot). IsTied m g.M.Sequenced.stands z.parts d.past) (sym c.self.view_is) st.parts.tied in
+    let tied = subst (λ (z : NodeState g.row.M.Denot g.row.M-Msg.Denot). IsTied m g.M.Sequenced.stands z.parts d.past) (sym c.self.view_is) st.held.parts.tied in
     let asked = subst (λ (z : NodeState g.row.M.Denot g.row.M-Msg.Denot). c.is_unfilled.result ≡ is_unfilled (rules_of z.parts.setup) m z.parts.me.0 d.past c.loop-node.node) c.self.view_is (c.is_unfilled.ensures d.past tied) in
     elim c.if-is_unfilled.branch [
       | then-is_unfilled+in_ok-push w ↦ unfilled-more (rules_of v.setup) m v.me.0 d.past c.loop-node.node c.loop-node.leaders (c.loop-node.invariant d st) _ c.if-is_unfilled.leaders refl (w.leaders-is ∙ w.in_ok-push.ensures.ok) (sym asked ∙ w.if-is_unfilled.true)

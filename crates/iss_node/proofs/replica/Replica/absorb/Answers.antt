@@ -1,9 +1,9 @@
-use Rattle.std.proofs.Common.{◌∙◌, ap, subst, List}
+use Rattle.std.proofs.Common.{◌∙◌, ℕ, ap, subst, sym, List}
 use Rattle.std.proofs.lemmas.Result.{IfOk-weaker}
 use Rattle.iss_node.proofs.ClaimLemmas.{handed-same}
 use Rattle.iss_node.proofs.MadeLemmas.{on-ok}
-use Rattle.iss_node.proofs.RequestLemmas.{absorbed-all}
-use Rattle.iss_node.specs.Inputs.{IsAbsorbed, IsHandedOut}
+use Rattle.iss_node.proofs.RequestLemmas.{absorbed-all, chained-after, now-its-own}
+use Rattle.iss_node.specs.Inputs.{IsAbsorbed, IsChained, IsHandedOut}
 use Rattle.iss_sb.specs.declared.effects.To.{To}
 use Rattle.iss_node.proofs.replica.Replica.absorb.Goals as goal
 
@@ -20,9 +20,17 @@ returns-clause-made g c =
     let ef = c.args.effects in
     let grown = c.in_ok-grow.ensures.grown.rest in
     let accepted = c.in_ok-accept.ensures.accepted in
-    IfOk-weaker c.hand_out.result (IsHandedOut m w l c.as_slice.result.now ef.hashed) (IsHandedOut m v l ef.sends ef.hashed)
-    (λ o h. handed-same m v w l ef.sends ef.hashed o
+    let strings = c.grow.new.hashed in
+    IfOk-weaker c.hand_out.result (IsHandedOut m w l c.as_slice.result.now strings) (λ o. IsHandedOut m v l ef.sends o.hashed o)
+    (λ o h. now-its-own m v l ef.sends strings o (handed-same m v w l ef.sends strings o
     (ap (λ z. z.setup) grown ∙ ap (λ z. z.setup) accepted) (ap (λ z. z.me) grown ∙ ap (λ z. z.me) accepted)
     (ap (λ z. z.epoch) grown ∙ ap (λ z. z.epoch) accepted) (ap (λ z. z.segments) grown ∙ ap (λ z. z.segments) accepted)
-    (subst (λ (xs : List (To × g.row.M-Msg.Denot)). IsHandedOut m w l xs ef.hashed o) c.as_slice.ensures h))
+    (subst (λ (xs : List (To × g.row.M-Msg.Denot)). IsHandedOut m w l xs strings o) c.as_slice.ensures h)))
+    c.hand_out.ensures
+
+pub returns-clause-hashed : goal.returns-clause-hashed
+returns-clause-hashed g c =
+    IfOk-weaker c.hand_out.result (IsHandedOut g.M.Sequenced.meaning c.grow.new.self c.args.leader.0 c.as_slice.result.now c.grow.new.hashed) (λ o. IsChained c.args.self.now c.grow.new.self c.args.effects.hashed o.hashed)
+    (λ o h. subst (λ (xs : List (List ℕ)). IsChained c.args.self.now c.grow.new.self c.args.effects.hashed xs) (sym h.hashed_is)
+    (chained-after c.args.self.now c.accept.new.self c.grow.new.self _ _ _ c.in_ok-accept.ensures.accepted c.in_ok-grow.ensures.hashed))
     c.hand_out.ensures

@@ -24,7 +24,7 @@ returns-in_ok-absorb-in-Ok-clause-answer g c = λ past tied.
     let shape : IsReplica m v = subst (λ (z : ReplicaState g.row.M.Denot g.row.M-Msg.Denot). IsReplica m z) c.self.view_is c.self.invariant in
     let o = c.in_ok-absorb-in-Ok.field-0 in
     takes-input m g.M.Sequenced.stands (formats_of v.setup m) v c.args.leader.0 c.args.input c.if-not-leads.ensures.leads past tied (sym c.if-not-credible.false ∙ c.in_ok-credible.ensures past tied (leads-is m g.M.Sequenced.stands v past tied c.args.leader.0 true c.if-not-leads.ensures.leads)) c.if-not-has_leaves.ensures c.absorb.new.self o c.in-Ok.ensures.step.1
-    (turned m c.laws.ensures.lawful g.M.Sequenced.stands v shape c.args.leader c.args.input c.in-Ok.effects c.absorb.new.self o past tied c.step.new.self c.in-Ok.ensures.step.0 c.in_ok-absorb-in-Ok.ensures.absorbed c.in_ok-absorb-in-Ok.ensures.made)
+    (turned m c.laws.ensures.lawful g.M.Sequenced.stands v shape c.args.leader c.args.input c.in-Ok.effects c.absorb.new.self o past tied c.step.new.self c.in-Ok.ensures.step.0 c.in_ok-absorb-in-Ok.ensures.absorbed c.in_ok-absorb-in-Ok.ensures.made c.in_ok-absorb-in-Ok.ensures.hashed)
 
 pub returns-in-Err-Refused-clause-answer : goal.returns-in-Err-Refused-clause-answer
 returns-in-Err-Refused-clause-answer g c = rw c.in-Err-Refused.field-0-is (λ past tied.

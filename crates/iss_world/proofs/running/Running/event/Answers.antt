@@ -12,5 +12,11 @@ returns-in-Timeout-clause-happened g c =
     HasChanged g.M.Sequenced.meaning g.M.Sequenced.stands c.take-in-Timeout.new.self (happens c.args.self.now.setup (formats_of c.args.self.now.setup g.M.Sequenced.meaning) (rules_of c.args.self.now.setup) g.M.Sequenced.meaning h e) r))
     (sym c.in-Timeout.is) c.take-in-Timeout.ensures.happened
 
+pub returns-in-Ask-clause-happened : goal.returns-in-Ask-clause-happened
+returns-in-Ask-clause-happened g c =
+    subst (λ (e : Event). IfOk c.take-in-Ask.result (λ r. (h : Held g.row.M-Msg.Denot) → Runs g.M.Sequenced.meaning g.M.Sequenced.stands c.args.self.now h →
+    HasChanged g.M.Sequenced.meaning g.M.Sequenced.stands c.take-in-Ask.new.self (happens c.args.self.now.setup (formats_of c.args.self.now.setup g.M.Sequenced.meaning) (rules_of c.args.self.now.setup) g.M.Sequenced.meaning h e) r))
+    (sym c.in-Ask.is) c.take-in-Ask.ensures.happened
+
 pub returns-in-Propose-clause-happened : goal.returns-in-Propose-clause-happened
 returns-in-Propose-clause-happened g c = rw c.in-Propose.is c.take.ensures.happened

@@ -1,0 +1,183 @@
+//! Votes and certificates by epoch.
+ghost use Rattle.std.specs.Prelude.{◌≡◌, ◌<◌, ◌≤◌, [], List, IfOk, OnErr, OnOk, is_some, length, option_map, slice_get};
+ghost use Rattle.iss_ballots.specs.Ballots.{AreKept, IsTaken, IsTakenAt, cert_in, closed_by, is_true};
+ghost use Rattle.iss_checkpoint.specs.Votes.{voters_of};
+ghost use Rattle.iss_checkpoint.specs.declared.votes.Cert.{Cert as Certificate};
+ghost use Rattle.iss_checkpoint.specs.declared.votes.Vote.{Vote as Voted};
+ghost use Rattle.iss_model.specs.Node.{cert_on, keeping};
+
+use iss_checkpoint::checking::is_signed;
+use iss_checkpoint::{Added, Cert, Refusal, Tally, Vote, vote_statement};
+use iss_keys::SharedDirectory;
+use iss_request::{Epoch, NoMemory, Setup};
+use std::alloc::Global;
+use std::marker::Model;
+
+/// What is held of an epoch: the votes that were counted, until a quorum of them says the same, and then its certificate.
+#[derive(Drop)]
+pub enum Ballot {
+    Open(Tally),
+    Stable(Cert),
+}
+
+/// What became of a vote.
+#[derive(Clone, Copy, Debug, PartialEq, Eq)]
+pub enum Taking {
+    /// It was counted.
+    Counted,
+    /// Its signature is not true.
+    BadSignature,
+    /// Its signer's vote was counted before, or the epoch has its certificate.
+    Known,
+}
+
+/// The votes on each epoch without a certificate, and the certificates of the others.
+#[derive(Drop)]
+pub struct Ballots {
+    alloc: Global,
+    setup: Setup,
+    directory: SharedDirectory,
+    // by epoch
+    all: Vec<Ballot>,
+}
+
+impl Model for Ballots {
+    ghost use Rattle.std.specs.Prelude.{◌≤◌};
+    ghost use Rattle.iss_ballots.specs.Ballots.{AreOpen, BallotsState};
+    ghost use Rattle.iss_checkpoint.specs.Votes.{voters_of};
+
+    ghost Value = { BallotsState };
+
+    ghost view = { λ b. record { voters = voters_of b.setup b.directory; all = b.all.items } };
+
+    ghost invariant = { λ b. (b.setup.n ≤ 256) × AreOpen (voters_of b.setup b.directory) b.all.items };
+}
+
+impl Ballots {
+    /// No vote was counted, and no certificate is kept.
+    pub fn new(
+        alloc: Global,
+        setup: &Setup,
+        directory: &SharedDirectory,
+    ) -> Result<Ballots, NoMemory>
+        requires { setup.now.n ≤ 256 }
+        ensures { IfOk result (λ b. b ≡ record { voters = voters_of setup.now directory.now; all = [] }) }
+    {
+        Ok(Ballots {
+            alloc,
+            setup: setup.copy()?,
+            directory: directory.share(),
+            all: Vec::new(alloc),
+        })
+    }
+
+    /// Takes a vote: it is counted, unless its signature is not true, or its signer's vote was counted, or the epoch has its
+    /// certificate. The one that makes its like a quorum gives the epoch its certificate.
+    pub fn take(&mut self, vote: Vote) -> Result<Taking, NoMemory>
+        ensures taken { IfOk result (λ t. (votes : List Voted) (certs : List Certificate) →
+            AreKept self.old votes certs → IsTaken votes certs vote self.new t) }
+        ensures voters { self.new.voters ≡ self.old.voters }
+    {
+        self.reach(vote.epoch)?;
+        let place = vote.epoch.0 as usize;
+        if self.is_stable(place) && !self.is_true(&vote) {
+            return Ok(Taking::BadSignature);
+        }
+        count(&mut self.all[place], vote)
+    }
+
+    /// Keeps a certificate, unless one of its epoch is kept.
+    pub fn keep(&mut self, cert: Cert) -> Result<(), NoMemory>
+        ensures kept { OnOk result ((votes : List Voted) (certs : List Certificate) → AreKept self.old votes certs →
+            AreKept self.new votes (keeping certs cert (cert_on certs cert.epoch.0))) }
+        ensures voters { self.new.voters ≡ self.old.voters }
+    {
+        self.reach(cert.epoch)?;
+        let place = cert.epoch.0 as usize;
+        close(&mut self.all[place], cert);
+        Ok(())
+    }
+
+    /// The certificate of an epoch, if one is kept.
+    pub fn cert_at(&self, epoch: Epoch) -> Option<&Cert>
+        ensures held { option_map (λ c. c.now) result ≡ cert_in (slice_get self.now.all epoch.0) }
+        ensures kept { (votes : List Voted) (certs : List Certificate) → AreKept self.now votes certs →
+            option_map (λ c. c.now) result ≡ cert_on certs epoch.0 }
+    {
+        match self.all.get(epoch.0 as usize) {
+            Some(Ballot::Stable(cert)) => Some(cert),
+            _ => None,
+        }
+    }
+
+    // Whether the epoch of a place has its certificate.
+    fn is_stable(&self, place: usize) -> bool
+        ensures { result ≡ is_some (cert_in (slice_get self.now.all place)) }
+    {
+        match self.all.get(place) {
+            Some(Ballot::Stable(_)) => true,
+            _ => false,
+        }
+    }
+
+    // There is a place for an epoch. Want of memory comes also where places would pass 2^64 - 1.
+    fn reach(&mut self, epoch: Epoch) -> Result<(), NoMemory>
+        ensures there { OnOk result (epoch.0 < length self.new.all) }
+        ensures kept { (votes : List Voted) (certs : List Certificate) → AreKept self.old votes certs → AreKept self.new votes certs }
+        ensures voters { self.new.voters ≡ self.old.voters }
+    {
+        let Some(end) = epoch.0.checked_add(1) else {
+            return Err(NoMemory);
+        };
+        for next in self.all.len() as u64..end {
+            let directory = self.directory.share();
+            let tally = Tally::new(self.alloc, &self.setup, directory, Epoch(next));
+            self.all.push(Ballot::Open(tally))?;
+        }
+        Ok(())
+    }
+
+    // Whether the node signed the vote.
+    fn is_true(&self, vote: &Vote) -> bool
+        ensures { result ≡ is_true self.now.voters vote.now }
+    {
+        let setup = &self.setup;
+        let statement = vote_statement(&setup.tag, vote.epoch.0, &vote.chain, vote.requests);
+        let directory = self.directory.directory();
+        is_signed(
+            directory,
+            setup.n,
+            &statement,
+            vote.by.0,
+            vote.sig.as_slice(),
+        )
+    }
+}
+
+// Counts a true vote, where the epoch has no certificate and its signer's vote was not counted.
+fn count(ballot: &mut Ballot, vote: Vote) -> Result<Taking, NoMemory>
+    ensures counted { IfOk result (IsTakenAt ballot.old vote ballot.new) }
+    ensures err { OnErr result (ballot.new ≡ ballot.old) }
+{
+    let Ballot::Open(tally) = ballot else {
+        return Ok(Taking::Known);
+    };
+    match tally.add(vote)? {
+        Added::Counted => Ok(Taking::Counted),
+        Added::Stable(cert) => {
+            *ballot = Ballot::Stable(cert);
+            Ok(Taking::Counted)
+        }
+        Added::Refused(Refusal::Twice) => Ok(Taking::Known),
+        Added::Refused(Refusal::BadSignature | Refusal::OtherEpoch) => Ok(Taking::BadSignature),
+    }
+}
+
+// Closes an epoch with a certificate, unless it has one.
+fn close(ballot: &mut Ballot, cert: Cert)
+    ensures { ballot.new ≡ closed_by ballot.old cert }
+{
+    if let Ballot::Open(_) = ballot {
+        *ballot = Ballot::Stable(cert);
+    }
+}

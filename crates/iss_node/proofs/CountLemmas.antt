@@ -1,0 +1,130 @@
+-- What becomes of a vote at a node.
+use Rattle.std.proofs.Common.{◌≡◌, ◌↔◌, ℕ, suc, ◌<◌, Bool, true, false, ◌&&◌, cond, not, List, [], ◌∷◌, ◌++◌, nat_lt, refl, sym, ap, ◌∙◌, subst}
+use Rattle.std.proofs.lemmas.Bool.{lt-ltb}
+use Rattle.iss_ballots.specs.Ballots.{AreKept, BallotsState, IsTaken, is_held, is_true, stable_by}
+use Rattle.iss_checkpoint.specs.Votes.{Voters, is_signed, statement_of, voters_of}
+use Rattle.iss_checkpoint.specs.declared.votes.Cert.{Cert}
+use Rattle.iss_checkpoint.specs.declared.votes.Vote.{Vote}
+use Rattle.iss_keys.proofs.DirectoryLemmas.{node-below, verified-by}
+use Rattle.iss_keys.specs.Directories.{DirectoryView}
+use Rattle.iss_keys.specs.VerifiedBy.{is_verified_by}
+use Rattle.iss_model.specs.Concrete.{keys_of, rules_of}
+use Rattle.iss_model.specs.Formats.{formats_of}
+use Rattle.iss_model.specs.Node.{Core, Dropped, Stepped, Taken, Turn, all_verify, claim_of_vote, counted, is_counted, rests, takes_vote}
+use Rattle.iss_model.specs.Past.{Past}
+use Rattle.iss_model.specs.Rules.{Rules}
+use Rattle.iss_model.specs.declared.causes.Why.TheVariants.{BadClaim, Known, OtherEpoch}
+use Rattle.iss_node.proofs.MadeLemmas.{nothing, nothing-made, nothing-sent}
+use Rattle.iss_node.specs.Shape.{IsReplica}
+use Rattle.iss_node.specs.State.{AreHeld, AreParts, IsTied, ReplicaState, bare, core_of}
+use Rattle.iss_node.specs.Steps.{IsHeldDropped, IsHeldTaken}
+use Rattle.iss_node.specs.declared.answers.Outcome.{Outcome}
+use Rattle.iss_request.specs.declared.setups.Setup.{Setup}
+use Rattle.iss_sb.specs.Evidence.{Item, Module}
+use Rattle.iss_sb.specs.declared.effects.Claim.{Claim}
+use Rattle.iss_sb.specs.declared.effects.Params.{Params}
+
+and-on : (a : Bool) → (a && true) ≡ a
+and-on true = refl
+and-on false = refl
+
+and-off : (a : Bool) → (a && false) ≡ false
+and-off true = refl
+and-off false = refl
+
+-- under a set-up's keys only nodes sign
+pub signed-verified : (s : Setup) (k : ℕ) (statement sig : List ℕ) → is_signed (voters_of s (keys_of s)) statement k sig ≡ (rules_of s).verifies k statement sig
+signed-verified s k statement sig = go (is_verified_by (keys_of s).nodes k statement sig) refl
+  where
+    go : (b : Bool) → is_verified_by (keys_of s).nodes k statement sig ≡ b → (nat_lt k s.n && is_verified_by (keys_of s).nodes k statement sig) ≡ is_verified_by (keys_of s).nodes k statement sig
+    go true q =
+        let lt : k < s.n = node-below s.n s.clients s.keys k statement sig ((verified-by (keys_of s).nodes k statement sig).0 q) in
+        ap (λ (b : Bool). b && is_verified_by (keys_of s).nodes k statement sig) (lt-ltb k s.n lt)
+    go false q = ap (λ (b : Bool). nat_lt k s.n && b) q ∙ and-off (nat_lt k s.n) ∙ sym q
+
+-- a vote's claim verifies where the vote is true
+pub true-verified : (s : Setup) (w : Voters) (v : Vote) → w ≡ voters_of s (keys_of s) → all_verify (rules_of s) (claim_of_vote (rules_of s) v ∷ []) ≡ is_true w v
+true-verified s w v is =
+    and-on ((rules_of s).verifies v.by.0 ((rules_of s).voted v.epoch.0 v.chain v.requests) v.sig)
+    ∙ sym (signed-verified s v.by.0 ((rules_of s).voted v.epoch.0 v.chain v.requests) v.sig)
+    ∙ ap (λ (z : Voters). is_true z v) (sym is)
+
+-- the step of a vote, by what the node finds
+pub vote-step : {Msg : Type 0} (R : Rules) (c : Core Msg) (v : Vote) (a b k : Bool) → nat_lt (suc c.past.epoch) v.epoch.0 ≡ a → all_verify R (claim_of_vote R v ∷ []) ≡ b → is_counted c v ≡ k →
+    takes_vote R c v ≡ cond a (Dropped OtherEpoch) (cond (not b) (Dropped BadClaim) (cond k (Dropped Known) (Taken (rests (counted R c v)))))
+vote-step R c v a b k ha hb hk = rw (ha, hb, hk) refl
+
+module _ {M Msg : Type 0} (m : Module Msg) (stands : M → Params → ℕ → List (Item Msg) → Type 0) (v : ReplicaState M Msg) where
+  -- a node keeps what it is tied to where only its ballots move
+  pub ballots-tied : (ballots : BallotsState) (past : Past Msg) → IsTied m stands v past → IsTied m stands (record v { ballots = ballots }) past
+  ballots-tied ballots past tied = record {
+    epoch = tied.epoch;
+    log = tied.log;
+    chained = tied.chained;
+    rests = tied.rests;
+    standing = tied.standing;
+    start = tied.start;
+    begun = tied.begun;
+    cells = tied.cells;
+    outside = tied.outside;
+    hole = tied.hole;
+    leading = tied.leading;
+    instances = tied.instances;
+    accepted = tied.accepted;
+    logged = tied.logged;
+    flown = tied.flown;
+    sound = tied.sound;
+    keys = tied.keys;
+  }
+
+  pub ballots-held : (w : ReplicaState M Msg) (ballots : BallotsState) (c : Core Msg) (votes : List Vote) (certs : List Cert) → w ≡ record v { ballots = ballots } → AreHeld m stands v c → AreKept ballots votes certs →
+      AreHeld m stands w (record c { votes = votes; certs = certs })
+  ballots-held w ballots c votes certs is h k =
+      subst (λ (z : ReplicaState M Msg). AreHeld m stands z (record c { votes = votes; certs = certs })) (sym is)
+      (record { parts = record { core = h.parts.core; tied = ballots-tied ballots c.past h.parts.tied }; kept = k })
+
+  -- of an epoch that is too far ahead
+  pub vote-far : (vote : Vote) (c : Core Msg) → AreHeld m stands v c → nat_lt (suc v.epoch) vote.epoch.0 ≡ true → IsHeldDropped m stands c (takes_vote (rules_of v.setup) c vote) v OtherEpoch
+  vote-far vote c h far =
+      let epoch : v.epoch ≡ c.past.epoch = h.parts.tied.epoch in
+      let away : nat_lt (suc c.past.epoch) vote.epoch.0 ≡ true = ap (λ (e : ℕ). nat_lt (suc e) vote.epoch.0) (sym epoch) ∙ far in
+      record { step_is = rw away refl; stands_for = h }
+
+  module _ (shape : IsReplica m v) (vote : Vote) (near : nat_lt (suc v.epoch) vote.epoch.0 ≡ false) (w : ReplicaState M Msg) (ballots : BallotsState) (is : w ≡ record v { ballots = ballots })
+      (same : ballots.voters ≡ v.ballots.voters) (c : Core Msg) (h : AreHeld m stands v c) where
+    voters-are : ballots.voters ≡ voters_of v.setup (keys_of v.setup)
+    voters-are = same ∙ shape.voters ∙ ap (λ (d : DirectoryView). voters_of v.setup d) shape.directory
+
+    close : nat_lt (suc c.past.epoch) vote.epoch.0 ≡ false
+    close = let epoch : v.epoch ≡ c.past.epoch = h.parts.tied.epoch in ap (λ (e : ℕ). nat_lt (suc e) vote.epoch.0) (sym epoch) ∙ near
+
+    verified : (b : Bool) → is_true ballots.voters vote ≡ b → all_verify (rules_of v.setup) (claim_of_vote (rules_of v.setup) vote ∷ []) ≡ b
+    verified b q = true-verified v.setup ballots.voters vote voters-are ∙ q
+
+    pub vote-bad : (is_true ballots.voters vote ≡ false) × AreKept ballots c.votes c.certs → IsHeldDropped m stands c (takes_vote (rules_of v.setup) c vote) w BadClaim
+    vote-bad k = record {
+      step_is = vote-step (rules_of v.setup) c vote false false _ close (verified false k.0) refl;
+      stands_for = ballots-held w ballots c c.votes c.certs is h k.1;
+    }
+
+    pub vote-known : (is_true ballots.voters vote ≡ true) × (is_held c.votes c.certs vote ≡ true) × AreKept ballots c.votes c.certs → IsHeldDropped m stands c (takes_vote (rules_of v.setup) c vote) w Known
+    vote-known k = record {
+      step_is = vote-step (rules_of v.setup) c vote false true true close (verified true k.0) k.1;
+      stands_for = ballots-held w ballots c c.votes c.certs is h k.2;
+    }
+
+    pub vote-counted : (asked : Type 0) (o : Outcome) → o ≡ nothing →
+        (is_true ballots.voters vote ≡ true) × (is_held c.votes c.certs vote ≡ false) × AreKept ballots (vote ∷ c.votes) (stable_by ballots.voters (vote ∷ c.votes) vote ++ c.certs) →
+        IsHeldTaken m stands asked (takes_vote (rules_of v.setup) c vote) w o
+    vote-counted asked o none k =
+        let kept : AreKept ballots (vote ∷ c.votes) (stable_by (voters_of v.setup (keys_of v.setup)) (vote ∷ c.votes) vote ++ c.certs) =
+        subst (λ (z : Voters). AreKept ballots (vote ∷ c.votes) (stable_by z (vote ∷ c.votes) vote ++ c.certs)) voters-are k.2 in
+        record {
+          turn = rests (counted (rules_of v.setup) c vote);
+          step_is = vote-step (rules_of v.setup) c vote false true false close (verified true k.0) k.1;
+          turned = record {
+            stands_for = ballots-held w ballots c (vote ∷ c.votes) _ is h kept;
+            made = nothing-made (counted (rules_of v.setup) c vote) o none;
+            addressed = λ a. nothing-sent w.setup.n o none;
+          };
+        }

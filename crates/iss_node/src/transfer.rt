@@ -1,0 +1,183 @@
+//! Asks and pieces: how a node hands out an epoch, and takes one over.
+ghost use Rattle.std.specs.Prelude.{◌≡◌, ◌<◌, ◌∷◌, [], IfOk, List};
+ghost use Rattle.iss_checkpoint.specs.Votes.{voters_of};
+ghost use Rattle.iss_log.specs.Chains.{IsChainOf};
+ghost use Rattle.iss_model.specs.Node.{asking, cert_on, hands_out, Taken as Was_taken, takes_piece};
+ghost use Rattle.iss_node.specs.Transfers.{IsAdoptedBy, IsHandedPiece, at_slots, held_slots, held_values};
+ghost use Rattle.iss_request.specs.declared.requests.Value.{Value as Held};
+ghost use Rattle.iss_transfer.specs.Adoption.{adoption};
+ghost use Rattle.iss_node.specs.Steps.{IsHeldStepOf, IsOfNodes, IsSameNode};
+
+use crate::answers::{Outcome, Stepped};
+use crate::claims::put_own;
+use crate::replica::Replica;
+use iss_ballots::{claims_of_cert, copy_of_cert, pack_ask, pack_piece};
+use iss_checkpoint::Cert;
+use iss_model::{NodeEvent, Why};
+use iss_request::{Bytes, Epoch, NoMemory, NodeId, Row, Slot, Value};
+use iss_sb::{Sequenced, To};
+use iss_transfer::{Adoption, Piece, adopt};
+use std::alloc::Global;
+
+impl<M: Sequenced> Replica<M> {
+    /// Asks a node for the epoch in which this one is.
+    pub(crate) fn ask_from(&mut self, alloc: Global, peer: NodeId) -> Result<Stepped, NoMemory>
+        ensures answer { IfOk result (λ a. IsHeldStepOf M.meaning M.stands (IsOfNodes self.old.setup.n (NodeEvent.AskFrom peer)) self.old
+            (λ F R me c. Was_taken (asking F me c peer)) self.new a) }
+        ensures same { IsSameNode self.old self.new }
+    {
+        let bytes = pack_ask(alloc, self.setup.version, self.me, self.epoch)?;
+        Ok(Stepped::Taken(one_send(alloc, peer, bytes)?))
+    }
+
+    /// Hands out the values of an epoch, where the node keeps its certificate and its log holds all of it.
+    pub(crate) fn take_ask(
+        &mut self,
+        alloc: Global,
+        from: NodeId,
+        epoch: Epoch,
+    ) -> Result<Stepped, NoMemory>
+        requires { from.0 < self.old.setup.n }
+        ensures answer { IfOk result (λ a. IsHeldStepOf M.meaning M.stands (Unit {0}) self.old
+            (λ F R me c. hands_out F R M.meaning me c from.0 epoch.0 (cert_on c.certs epoch.0)) self.new a) }
+        ensures same { IsSameNode self.old self.new }
+    {
+        let Some(cert) = self.ballots.cert_at(epoch) else {
+            return Ok(Stepped::Dropped(Why::NoCert));
+        };
+        let cert = copy_of_cert(alloc, cert)?;
+        let Some(values) = self.values_of(alloc, epoch)? else {
+            return Ok(Stepped::Dropped(Why::NoCert));
+        };
+        let piece = Piece {
+            epoch,
+            values,
+            cert,
+        };
+        Ok(Stepped::Taken(self.hand_out_piece(alloc, from, &piece)?))
+    }
+
+    // The values of an epoch, if the log holds all of them.
+    fn values_of(&self, alloc: Global, epoch: Epoch) -> Result<Option<Row<Value>>, NoMemory>
+        ensures { IfOk result (λ values. values ≡ held_values self.now epoch.0) }
+    {
+        let Some(slots) = self.slots_of(epoch) else {
+            return Ok(None);
+        };
+        let mut values = Row::new(alloc);
+        for value in &self.log.entries()[slots.0..slots.1] {
+            values.push(value.copy()?)?;
+        }
+        Ok(Some(values))
+    }
+
+    // From which slot to which an epoch goes, if the log holds all of them.
+    fn slots_of(&self, epoch: Epoch) -> Option<(usize, usize)>
+        ensures { result ≡ held_slots self.now epoch.0 }
+    {
+        let next = epoch.0.checked_add(1)?;
+        let end = next.checked_mul(self.setup.epoch)?;
+        if end > self.log.entries().len() as u64 {
+            return None;
+        }
+        Some(((end - self.setup.epoch) as usize, end as usize))
+    }
+
+    // A piece as the node hands it out to another, with the node's own claim in its certificate.
+    fn hand_out_piece(&self, alloc: Global, to: NodeId, piece: &Piece) -> Result<Outcome, NoMemory>
+        ensures { IfOk result (IsHandedPiece self.now to piece.now) }
+    {
+        let bytes = pack_piece(alloc, self.setup.version, self.me, piece)?;
+        let mut outcome = one_send(alloc, to, bytes)?;
+        let claims = claims_of_cert(alloc, &self.setup.tag, &piece.cert)?;
+        put_own(&mut outcome.own, self.me, claims)?;
+        Ok(outcome)
+    }
+
+    /// Takes over the values of the node's epoch, unless a cause refuses them: the epoch ends without the node's vote.
+    pub(crate) fn take_piece(&mut self, alloc: Global, piece: Piece) -> Result<Stepped, NoMemory>
+        ensures answer { IfOk result (λ a. IsHeldStepOf M.meaning M.stands (Unit {0}) self.old
+            (λ F R me c. takes_piece F R M.meaning me c piece) self.new a) }
+        ensures same { IsSameNode self.old self.new }
+    {
+        if piece.epoch.0 < self.epoch.0 {
+            return Ok(Stepped::Dropped(Why::NotNeeded));
+        }
+        match self.adoption(alloc, &piece)? {
+            Adoption::WrongEpoch => Ok(Stepped::Dropped(Why::OtherEpoch)),
+            Adoption::BadCert => Ok(Stepped::Dropped(Why::BadClaim)),
+            Adoption::WrongChain { .. } => Ok(Stepped::Dropped(Why::WrongChain)),
+            Adoption::Adopt { hashed } => {
+                let outcome = self.adopt(alloc, piece, hashed)?;
+                Ok(Stepped::Taken(outcome))
+            }
+        }
+    }
+
+    // Whether the node may take over a piece in its epoch. Want of memory comes also where the log lacks a slot before the
+    // epoch, which no node's does.
+    fn adoption(&self, alloc: Global, piece: &Piece) -> Result<Adoption, NoMemory>
+        ensures { IfOk result (λ a. (log : List Held) → IsChainOf self.now.chains log →
+            a ≡ adoption self.now.setup (voters_of self.now.setup self.now.directory) log self.now.epoch piece.now) }
+    {
+        let Some(start) = self.epoch.0.checked_mul(self.setup.epoch) else {
+            return Err(NoMemory);
+        };
+        if start > self.chains.slots() as u64 {
+            return Err(NoMemory);
+        }
+        let directory = self.directory.directory();
+        adopt(
+            alloc,
+            &self.setup,
+            directory,
+            &self.chains,
+            self.epoch,
+            piece,
+        )
+    }
+
+    // The values of a piece are the node's where it has none, its certificate is kept, and the next epoch begins with what came
+    // early for it.
+    fn adopt(
+        &mut self,
+        alloc: Global,
+        piece: Piece,
+        hashed: Row<Bytes>,
+    ) -> Result<Outcome, NoMemory>
+        ensures adopted { IfOk result (λ o. IsAdoptedBy M.meaning M.stands self.old piece hashed self.new o) }
+        ensures same { IsSameNode self.old self.new }
+    {
+        let Piece { values, cert, .. } = piece;
+        let mut strings = hashed;
+        let delivers = at_slots(alloc, self.layout.first(), values)?;
+        self.grow(alloc, delivers, &mut strings)?;
+        self.ballots.keep(cert)?;
+        let early = self.next_epoch(alloc)?;
+        let mut outcome = Outcome::nothing(alloc);
+        outcome.hashed = strings;
+        self.take_each(alloc, outcome, early)
+    }
+}
+
+// Values with their slots, from the first on.
+fn at_slots(alloc: Global, first: Slot, values: Row<Value>) -> Result<Vec<(Slot, Value)>, NoMemory>
+    ensures { IfOk result (λ ds. ds.items ≡ at_slots first.0 values) }
+{
+    let mut delivers = Vec::new(alloc);
+    let mut next = first.0;
+    for value in values.into_vec() {
+        delivers.push((Slot(next), value))?;
+        next = next.checked_add(1).ok_or(NoMemory)?;
+    }
+    Ok(delivers)
+}
+
+// One packet for a node.
+fn one_send(alloc: Global, to: NodeId, bytes: Bytes) -> Result<Outcome, NoMemory>
+    ensures { IfOk result (λ o. o ≡ record { sends = (To.One to, bytes) ∷ []; own = []; early = []; hashed = [] }) }
+{
+    let mut outcome = Outcome::nothing(alloc);
+    outcome.sends.push((To::One(to), bytes))?;
+    Ok(outcome)
+}

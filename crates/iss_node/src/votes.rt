@@ -1,0 +1,87 @@
+//! How a node votes on its log at an epoch's end, and counts votes.
+ghost use Rattle.std.specs.Prelude.{◌≡◌, ◌+◌, suc, IfOk, nat_lt, slice_get};
+ghost use Rattle.iss_model.specs.Node.{takes_vote};
+ghost use Rattle.iss_node.specs.Votes.{IsVoteHandedOut, IsVoted};
+ghost use Rattle.iss_node.specs.Steps.{IsHeldStepOf, IsLater, IsSameNode};
+
+use crate::answers::{Outcome, Stepped};
+use crate::replica::Replica;
+use iss_ballots::{Taking, claim_of_vote, pack_vote};
+use iss_checkpoint::{Vote, vote_statement};
+use iss_log::End;
+use iss_model::Why;
+use iss_request::{Bytes, Epoch, NoMemory, Row};
+use iss_sb::{Sequenced, To};
+use std::alloc::Global;
+
+impl<M: Sequenced> Replica<M> {
+    /// The node's vote on its epoch, which is over, signed by the next leaf. Want of memory comes also where none is left, which
+    /// no step lets happen.
+    pub(crate) fn vote(&mut self) -> Result<Vote, NoMemory>
+        ensures voted { IfOk result (λ v. IsVoted self.old self.new v) }
+        ensures later { IsLater self.old self.new }
+    {
+        let Some(end) = self.end() else {
+            return Err(NoMemory);
+        };
+        let chain = end.chain;
+        let requests = end.requests;
+        let statement = vote_statement(&self.setup.tag, self.epoch.0, &chain, requests);
+        let Ok(sig) = self.keys.sign(&statement) else {
+            return Err(NoMemory);
+        };
+        Ok(Vote {
+            epoch: self.epoch,
+            chain,
+            requests,
+            by: self.me,
+            sig: Bytes::of(sig),
+        })
+    }
+
+    // What stands for the log at the end of the node's epoch.
+    fn end(&self) -> Option<End>
+        ensures { result ≡ slice_get self.now.chains.ends (self.now.plan.start + self.now.setup.epoch) }
+    {
+        let slots = self.layout.first().0 + self.setup.epoch;
+        self.chains.end_at(slots as usize)
+    }
+
+    /// A vote as the node hands it out: to all, with its claim.
+    pub(crate) fn hand_out_vote(&self, alloc: Global, vote: &Vote) -> Result<Outcome, NoMemory>
+        ensures { IfOk result (IsVoteHandedOut self.now vote.now) }
+    {
+        let mut sends = Row::new(alloc);
+        sends.push((To::All, pack_vote(alloc, self.setup.version, vote)?))?;
+        let mut own = Row::new(alloc);
+        own.push(claim_of_vote(alloc, &self.setup.tag, vote)?)?;
+        Ok(Outcome {
+            sends,
+            own,
+            early: Row::new(alloc),
+            hashed: Row::new(alloc),
+        })
+    }
+
+    /// Counts a vote on an epoch up to the next one, unless a cause refuses it.
+    pub(crate) fn take_vote(&mut self, alloc: Global, vote: Vote) -> Result<Stepped, NoMemory>
+        ensures answer { IfOk result (λ a. IsHeldStepOf M.meaning M.stands (Unit {0}) self.old (λ F R me c. takes_vote R c vote) self.new a) }
+        ensures same { IsSameNode self.old self.new }
+    {
+        if is_far(self.epoch, vote.epoch) {
+            return Ok(Stepped::Dropped(Why::OtherEpoch));
+        }
+        match self.ballots.take(vote)? {
+            Taking::Counted => Ok(Stepped::Taken(Outcome::nothing(alloc))),
+            Taking::BadSignature => Ok(Stepped::Dropped(Why::BadClaim)),
+            Taking::Known => Ok(Stepped::Dropped(Why::Known)),
+        }
+    }
+}
+
+// Whether an epoch is more than one ahead of another.
+fn is_far(epoch: Epoch, other: Epoch) -> bool
+    ensures { result ≡ nat_lt (suc epoch.0) other.0 }
+{
+    epoch.0 < other.0 && other.0 - epoch.0 > 1
+}
