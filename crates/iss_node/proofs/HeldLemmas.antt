@@ -58,7 +58,7 @@ module _ {Msg : Type 0} (F : Formats Msg) (R : Rules) (m : Module Msg) (me : ℕ
       (drop-held (not (has_leaves m (params_of R m me c.past l) c.leaf)) NoKeys _ _
       (verdict-held (verdict_in R m me c.past l input) (inputs F R m me c l input))))
 
-  onward-held : (t : Turn Msg) (more : Core Msg → Turn Msg) → ((c : Core Msg) → more (holding votes certs c) ≡ with_turn (more c)) → onward (with_turn t) more ≡ with_turn (onward t more)
+  pub onward-held : (t : Turn Msg) (more : Core Msg → Turn Msg) → ((c : Core Msg) → more (holding votes certs c) ≡ with_turn (more c)) → onward (with_turn t) more ≡ with_turn (onward t more)
   onward-held t more h =
       ap (λ (u : Turn Msg). let z : Turn Msg = record { core = u.core; sends = t.sends ++ u.sends; own = t.own ++ u.own; early = t.early ++ u.early; strings = t.strings ++ u.strings } in z) (h t.core)
 
