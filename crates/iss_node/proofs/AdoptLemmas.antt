@@ -28,6 +28,7 @@ use Rattle.iss_model.specs.Rules.{Rules}
 use Rattle.iss_model.specs.Sound.{IsSoundCore, held}
 use Rattle.iss_node.proofs.EpochLemmas.{IsOver}
 use Rattle.iss_node.proofs.HeldLemmas.{each-held, onward-held, with_turn}
+use Rattle.iss_node.proofs.InstanceLemmas.{goes-trans}
 use Rattle.iss_node.proofs.NextLemmas.{next-parts}
 use Rattle.iss_node.proofs.OwnEpoch.{epoch-cell, goes-on, has-slots, log-is, nothing-adopted, start-is}
 use Rattle.iss_node.proofs.SlotLemmas.{given-at, not-empty}
@@ -38,7 +39,7 @@ use Rattle.iss_node.specs.Growth.{IsGrown, and_values, waits_on}
 use Rattle.iss_node.specs.Inputs.{AreLogged, HasGrown, IsChained}
 use Rattle.iss_node.specs.Shape.{IsReplica}
 use Rattle.iss_node.specs.State.{AreHeld, AreParts, IsTied, ReplicaState, bare, core_of, holding, seen_early, slot_value}
-use Rattle.iss_node.specs.Steps.{IsHeldTurn, IsLater, IsMade, IsNextEpoch, IsTurnBehind, IsTurned}
+use Rattle.iss_node.specs.Steps.{IsHeldTurn, IsLater, IsMade, IsNextEpoch, IsSameNode, IsTurnBehind, IsTurned}
 use Rattle.iss_node.specs.Transfers.{IsAdoptedBy, at_slots}
 use Rattle.iss_node.specs.declared.answers.Early.{Early}
 use Rattle.iss_node.specs.declared.answers.Outcome.{Outcome}
@@ -289,6 +290,15 @@ module _ {M Msg : Type 0} (m : Module Msg) (stands : M → Params → ℕ → Li
       keys = tied.keys;
     }
 
+-- ---- it stays the same node
+
+-- what is held of votes says nothing of it
+pub kept-same : {M Msg : Type 0} (v u w : ReplicaState M Msg) (ballots : BallotsState) → IsLater v u → IsLater (record u { ballots = ballots }) w → IsSameNode v w
+kept-same v u w ballots h g = record { setup = g.setup ∙ h.setup; me = g.me ∙ h.me; log = goes-trans v.log.entries u.log.entries w.log.entries h.log g.log }
+
+pub same-on : {M Msg : Type 0} (v w x : ReplicaState M Msg) → IsSameNode v w → IsLater w x → IsSameNode v x
+same-on v w x h g = record { setup = g.setup ∙ h.setup; me = g.me ∙ h.me; log = goes-trans v.log.entries w.log.entries x.log.entries h.log g.log }
+
 -- ---- the whole of it
 
 -- the turn of a core without votes and certificates
@@ -307,7 +317,10 @@ module _ {M Msg : Type 0} (m : Module Msg) (stands : M → Params → ℕ → Li
   first-turn past tied told =
       let g = grown in
       let chain = chained.joined g.grown.joined g.grown.entries tied.chained in
-      let returns = λ (all : List ReqId) (bf : List Value) noted members fresh. g.landed.waiting all (record { before = bf; noted = noted; members = members }) fresh in
+      let returns : (all : List ReqId) (bf : List Value) → StandsFor v.windows (noted_before bf) → ((x : ReqId) → has_id x all ≡ (has_id x u.logged || has_id x (log_ids bf))) →
+          AreNew (fold waits_on v.waiting g.grown.joined) (absent all (returned (reverse u.log.entries) v.flight.casts)) →
+          u.waiting ≡ fold waits_on v.waiting g.grown.joined ++ absent all (returned (reverse u.log.entries) v.flight.casts) =
+      λ all bf noted members fresh. g.landed.waiting all (record { before = bf; noted = noted; members = members }) fresh in
       let over = is-over m stands v shape past tied p hashed told u.log g.held g.grown u.chains chain.chained u.waiting u.flight u.logged ballots g.logged g.landed.landed returns in
       let is = core-is m stands v shape past tied p hashed told u.log g.held g.grown u.chains chain.chained u.waiting u.flight u.logged ballots g.logged g.landed.landed returns in
       let with_ballots : ReplicaState M Msg → ReplicaState M Msg = λ z. record z { ballots = ballots } in

@@ -185,7 +185,10 @@ fn at_slots(alloc: Global, first: Slot, values: Row<Value>) -> Result<Vec<(Slot,
     let mut next = first.0;
     for value in values.into_vec() {
         delivers.push((Slot(next), value))?;
-        next = next.checked_add(1).ok_or(NoMemory)?;
+        let Some(after) = next.checked_add(1) else {
+            return Err(NoMemory);
+        };
+        next = after;
     }
     Ok(delivers)
 }

@@ -17,5 +17,5 @@ loop-value-preserved c =
           ∙ ap (λ (ds : List (Slot × Value)). ds ++ (record { 0 = c.loop-value.next }, v) ∷ []) h.made
           ∙ ap (λ n. let d : Slot × Value = (record { 0 = n }, v) in at_slots c.args.first.0 done ++ d ∷ []) h.next
           ∙ sym (at-next c.args.first.0 done v);
-      next = ?;
+      next = omega (arith, long, h.next, c.in-Some-checked_add.ensures.1);
     }
