@@ -318,8 +318,8 @@ module _ {M Msg : Type 0} (m : Module Msg) (stands : M → Params → ℕ → Li
       let g = grown in
       let chain = chained.joined g.grown.joined g.grown.entries tied.chained in
       let returns : (all : List ReqId) (bf : List Value) → StandsFor v.windows (noted_before bf) → ((x : ReqId) → has_id x all ≡ (has_id x u.logged || has_id x (log_ids bf))) →
-          AreNew (fold waits_on v.waiting g.grown.joined) (absent all (returned (reverse u.log.entries) v.flight.casts)) →
-          u.waiting ≡ fold waits_on v.waiting g.grown.joined ++ absent all (returned (reverse u.log.entries) v.flight.casts) =
+      AreNew (fold waits_on v.waiting g.grown.joined) (absent all (returned (reverse u.log.entries) v.flight.casts)) →
+      u.waiting ≡ fold waits_on v.waiting g.grown.joined ++ absent all (returned (reverse u.log.entries) v.flight.casts) =
       λ all bf noted members fresh. g.landed.waiting all (record { before = bf; noted = noted; members = members }) fresh in
       let over = is-over m stands v shape past tied p hashed told u.log g.held g.grown u.chains chain.chained u.waiting u.flight u.logged ballots g.logged g.landed.landed returns in
       let is = core-is m stands v shape past tied p hashed told u.log g.held g.grown u.chains chain.chained u.waiting u.flight u.logged ballots g.logged g.landed.landed returns in

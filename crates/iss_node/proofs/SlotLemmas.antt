@@ -36,7 +36,6 @@ not-empty log k lt none =
     let x = in-slice log.entries k lt in
     none-some x.0 (sym none ∙ ap (λ (o : Option Value). first_of o (ahead_at log.ahead k)) x.1)
 
-
 -- one value more
 pub at-next : (first : ℕ) (xs : List Value) (v : Value) → at_slots first (xs ++ v ∷ []) ≡ at_slots first xs ++ (record { 0 = first + length xs }, v) ∷ []
 at-next first [] v = let same : first ≡ first + 0 = omega arith in ap (λ (k : ℕ). let x : Slot × Value = (record { 0 = k }, v) in x ∷ []) same
