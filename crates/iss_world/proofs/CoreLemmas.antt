@@ -1,12 +1,10 @@
 -- Which node a core runs, and cores at their start.
 use Rattle.std.proofs.Common.{inl, inr, ◌≡◌, ◌⊎◌, ℕ, zero, suc, ◌+◌, ◌-◌, ◌<◌, ◌≤◌, false, List, [], ◌∷◌, ◌++◌, length, length-append, slice_get, Some, refl, sym, ap, ◌∙◌, subst, arith, slice_index_or}
 use Rattle.std.proofs.lemmas.List.{length-replicate}
-use Rattle.iss_keys.specs.KeyStates.{KeyState}
-use Rattle.iss_model.specs.Node.{idle}
-use Rattle.iss_model.specs.Run.{begin_held, cores_of, node_of}
+use Rattle.iss_model.specs.Run.{begin_held, cores_of}
 use Rattle.iss_model.specs.Runs.{IsSetupOf}
 use Rattle.iss_network.specs.Network.{Network, empty_network}
-use Rattle.iss_node.specs.State.{NodeState, Stands}
+use Rattle.iss_node.specs.State.{NodeState}
 use Rattle.iss_request.specs.Setup.{AreRising, IsFewFaulty, IsGoodSetup}
 use Rattle.iss_request.specs.declared.ids.NodeId.{NodeId}
 use Rattle.iss_request.specs.declared.setups.Kind.{Kind}
@@ -47,14 +45,6 @@ at-end (y ∷ ys) x g (suc i) e = elim (at-end ys x g i e) [
 ]
 
 module _ {M Msg : Type 0} (m : Module Msg) (stands : M → Params → ℕ → List (Item Msg) → Type 0) where
-  pub fresh : (s : Setup) (c : ℕ) (me : NodeId) (k : KeyState) (g : NodeState M Msg) → Stands m stands g (record { past = (idle {Msg = Msg}).past; waiting = []; flight = []; early = []; leaf = k.used }) →
-      k.used ≡ 0 → g.parts.setup ≡ s → g.parts.me ≡ me → me.0 ≡ node_of s c → IsFresh m stands s c g
-  fresh s c me k g st e es em is = record {
-    stands_for = subst (λ (leaf : ℕ). Stands m stands g (record { past = (idle {Msg = Msg}).past; waiting = []; flight = []; early = []; leaf = leaf })) e st;
-    setup = es;
-    place = ap (λ (z : NodeId). z.0) em ∙ is;
-  }
-
   pub fresh-more : (s : Setup) (n : ℕ) (xs : List (NodeState M Msg)) (x : NodeState M Msg) → AreFresh m stands s n xs → IsFresh m stands s n x → AreFresh m stands s (n + 1) (xs ++ x ∷ [])
   fresh-more s n xs x h f = record {
     count = length-append xs (x ∷ []) ∙ ap (λ k. k + 1) h.count;

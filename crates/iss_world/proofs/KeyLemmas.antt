@@ -5,7 +5,7 @@ use Rattle.iss_model.specs.Run.{request_of}
 use Rattle.iss_request.specs.declared.ids.ReqId.{ReqId}
 use Rattle.iss_request.specs.declared.requests.Request.{Request}
 use Rattle.iss_request.specs.declared.setups.Setup.{Setup}
-use Rattle.iss_keys.specs.Directories.{AreKeysOf, DirectoryView, client_secret, directory_of, node_secret}
+use Rattle.iss_keys.specs.Directories.{DirectoryView, client_secret, directory_of}
 use Rattle.iss_keys.specs.KeyStates.{KeyState}
 use Rattle.iss_keys.specs.Signatures.{signature_of}
 use Rattle.iss_keys.proofs.DirectoryLemmas.{length-clients, length-nodes}
@@ -15,13 +15,6 @@ own-number s i d is lt =
     let count = length-nodes s.n s.clients s.keys in
     let same : length d.nodes ≡ length (keys_of s).nodes = ap (λ (z : DirectoryView). length z.nodes) is in
     omega (arith, count, same, lt)
-
-pub own-keys : (s : Setup) (i : ℕ) (d : DirectoryView) (k : KeyState) → d ≡ keys_of s →
-    ((n clients height : ℕ) → d ≡ directory_of n clients height → k ≡ record { secret = node_secret i; height = height; used = 0 }) →
-    AreKeysOf i s.keys k × (k.used ≡ 0)
-own-keys s i d k is made =
-    let mine = made s.n s.clients s.keys is in
-    (record { own = ap (λ (z : KeyState). z.secret) mine; tall = ap (λ (z : KeyState). z.height) mine }, ap (λ (z : KeyState). z.used) mine)
 
 pub client-number : (s : Setup) (i : ℕ) (d : DirectoryView) → d ≡ keys_of s → i < s.clients → i < length d.clients
 client-number s i d is lt =

@@ -6,7 +6,7 @@ use Rattle.std.proofs.lemmas.List.{length-reverse, reverse-append, reverse-rever
 use Rattle.std.proofs.Math.Seq.{take-append_seam}
 use Rattle.iss_base.specs.Lists.{first_of, over}
 use Rattle.iss_base.proofs.Lists.{none-some, some-injective}
-use Rattle.iss_model.proofs.Casts.{step-grown}
+use Rattle.iss_model.proofs.Casts.{kept-sound, step-grown}
 use Rattle.iss_model.proofs.Ending.{HasSlots}
 use Rattle.iss_model.proofs.Rows.{each-holds, settles-holds}
 use Rattle.iss_model.proofs.Steps.{Took, adopted, asked, cast, fired, handed, kept, received, sought, took, voted}
@@ -22,8 +22,8 @@ use Rattle.iss_model.specs.Sound.{IsSoundCore}
 use Rattle.iss_model.specs.declared.causes.NodeEvent.{NodeEvent}
 use Rattle.iss_model.specs.declared.causes.Why.{Why}
 use Rattle.iss_network.specs.Network.{Network}
-use Rattle.iss_node.specs.State.{NodeState, Stands}
-use Rattle.iss_node.specs.Steps.{HasRetreated, IsAnswer, IsDrop, IsMade, IsTurn}
+use Rattle.iss_node.specs.State.{NodeState, Stands, bare}
+use Rattle.iss_node.specs.Steps.{HasRetreated, IsAnswer, IsDrop, IsMade, IsOfNodes, IsTurn}
 use Rattle.iss_node.specs.declared.answers.Answer.{Answer}
 use Rattle.iss_node.specs.declared.answers.Answer.TheVariants.{Dropped as Was_dropped, Taken as Was_taken}
 use Rattle.iss_node.specs.declared.answers.Outcome.{Outcome}
@@ -216,8 +216,8 @@ module _ {M Msg : Type 0} (m : Module Msg) (stands : M → Params → ℕ → Li
   runs-show v h r st = record {
     log = λ i g at.
         subst (λ (k : ℕ). log_of (rules_of v.setup) m k (h.net.cores i).past ≡ reverse g.parts.log.entries) (r.places i g at)
-        (subst (λ (s : Setup). log_of (rules_of s) m g.parts.me.0 (h.net.cores i).past ≡ reverse g.parts.log.entries) (r.setups i g at) (st.cores i g at).parts.tied.log);
-    epoch = λ i g at. (st.cores i g at).parts.tied.epoch;
+        (subst (λ (s : Setup). log_of (rules_of s) m g.parts.me.0 (h.net.cores i).past ≡ reverse g.parts.log.entries) (r.setups i g at) (st.cores i g at).held.parts.tied.log);
+    epoch = λ i g at. (st.cores i g at).held.parts.tied.epoch;
   }
 
   pub shown-shows : (v : RunningState M Msg) (h : Held Msg) → IsRunning m v → IsShown m stands v h → Shows m v h
@@ -267,23 +267,23 @@ module _ {M Msg : Type 0} (m : Module Msg) (stands : M → Params → ℕ → Li
 
     -- the answer in its arms
     pub answer-taken : (later : NodeState M Msg) (a : Answer) (outcome : Outcome) → a ≡ Was_taken outcome →
-        ((c : Core Msg) → Stands m stands g c → IsAnswer m stands c (step (formats_of g.parts.setup m) (rules_of g.parts.setup) m g.parts.me.0 c event) later a) →
-        (c : Core Msg) → Stands m stands g c → IsTurn m stands (step (formats_of g.parts.setup m) (rules_of g.parts.setup) m g.parts.me.0 c event) later outcome
+        ((c : Core Msg) → Stands m stands g c → IsAnswer m stands (IsOfNodes g.parts.setup.n event) c (step (formats_of g.parts.setup m) (rules_of g.parts.setup) m g.parts.me.0 c event) later a) →
+        (c : Core Msg) → Stands m stands g c → IsTurn m stands (IsOfNodes g.parts.setup.n event) (step (formats_of g.parts.setup m) (rules_of g.parts.setup) m g.parts.me.0 c event) later outcome
     answer-taken later a outcome e f c st =
-        subst (λ (z : Answer). IsAnswer m stands c (step (formats_of g.parts.setup m) (rules_of g.parts.setup) m g.parts.me.0 c event) later z) e (f c st)
+        subst (λ (z : Answer). IsAnswer m stands (IsOfNodes g.parts.setup.n event) c (step (formats_of g.parts.setup m) (rules_of g.parts.setup) m g.parts.me.0 c event) later z) e (f c st)
 
     pub answer-dropped : (later : NodeState M Msg) (a : Answer) (why : Why) → a ≡ Was_dropped why →
-        ((c : Core Msg) → Stands m stands g c → IsAnswer m stands c (step (formats_of g.parts.setup m) (rules_of g.parts.setup) m g.parts.me.0 c event) later a) →
+        ((c : Core Msg) → Stands m stands g c → IsAnswer m stands (IsOfNodes g.parts.setup.n event) c (step (formats_of g.parts.setup m) (rules_of g.parts.setup) m g.parts.me.0 c event) later a) →
         (c : Core Msg) → Stands m stands g c → IsDrop m stands c (step (formats_of g.parts.setup m) (rules_of g.parts.setup) m g.parts.me.0 c event) later why
     answer-dropped later a why e f c st =
-        subst (λ (z : Answer). IsAnswer m stands c (step (formats_of g.parts.setup m) (rules_of g.parts.setup) m g.parts.me.0 c event) later z) e (f c st)
+        subst (λ (z : Answer). IsAnswer m stands (IsOfNodes g.parts.setup.n event) c (step (formats_of g.parts.setup m) (rules_of g.parts.setup) m g.parts.me.0 c event) later z) e (f c st)
 
     module _ (later : NodeState M Msg) (lt : i < length v.nodes) where
-      pub turn-at : (outcome : Outcome) → ((c : Core Msg) → Stands m stands g c → IsTurn m stands (step (formats_of g.parts.setup m) (rules_of g.parts.setup) m g.parts.me.0 c event) later outcome) →
-          (h : Held Msg) → Runs m stands v h → IsTurn m stands (step (formats_of v.setup m) (rules_of v.setup) m (node_of v.setup i) (h.net.cores i) event) later outcome
+      pub turn-at : (outcome : Outcome) → ((c : Core Msg) → Stands m stands g c → IsTurn m stands (IsOfNodes g.parts.setup.n event) (step (formats_of g.parts.setup m) (rules_of g.parts.setup) m g.parts.me.0 c event) later outcome) →
+          (h : Held Msg) → Runs m stands v h → IsTurn m stands (IsOfNodes g.parts.setup.n event) (step (formats_of v.setup m) (rules_of v.setup) m (node_of v.setup i) (h.net.cores i) event) later outcome
       turn-at outcome f h st =
-          subst (λ (k : ℕ). IsTurn m stands (step (formats_of v.setup m) (rules_of v.setup) m k (h.net.cores i) event) later outcome) (r.places i g at)
-          (subst (λ (s : Setup). IsTurn m stands (step (formats_of s m) (rules_of s) m g.parts.me.0 (h.net.cores i) event) later outcome) (r.setups i g at) (f (h.net.cores i) (st.cores i g at)))
+          subst (λ (k : ℕ). IsTurn m stands (IsOfNodes g.parts.setup.n event) (step (formats_of v.setup m) (rules_of v.setup) m k (h.net.cores i) event) later outcome) (r.places i g at)
+          (subst (λ (s : Setup). IsTurn m stands (IsOfNodes g.parts.setup.n event) (step (formats_of s m) (rules_of s) m g.parts.me.0 (h.net.cores i) event) later outcome) (r.setups i g at) (f (h.net.cores i) (st.cores i g at)))
 
       drop-at : (why : Why) → ((c : Core Msg) → Stands m stands g c → IsDrop m stands c (step (formats_of g.parts.setup m) (rules_of g.parts.setup) m g.parts.me.0 c event) later why) →
           (h : Held Msg) → Runs m stands v h → IsDrop m stands (h.net.cores i) (step (formats_of v.setup m) (rules_of v.setup) m (node_of v.setup i) (h.net.cores i) event) later why
@@ -313,9 +313,11 @@ module _ {M Msg : Type 0} (m : Module Msg) (stands : M → Params → ℕ → Li
           )
 
       module _ (outcome : Outcome) (es : later.parts.setup ≡ g.parts.setup) (em : later.parts.me ≡ g.parts.me)
-          (f : (c : Core Msg) → Stands m stands g c → IsTurn m stands (step (formats_of g.parts.setup m) (rules_of g.parts.setup) m g.parts.me.0 c event) later outcome) where
-        pub turn-addressed : (h : Held Msg) → Runs m stands v h → AreToNodes v.setup.n outcome.sends
-        turn-addressed h st = subst (λ (s : Setup). AreToNodes s.n outcome.sends) (es ∙ r.setups i g at) ((f (h.net.cores i) (st.cores i g at)).addressed)
+          (f : (c : Core Msg) → Stands m stands g c → IsTurn m stands (IsOfNodes g.parts.setup.n event) (step (formats_of g.parts.setup m) (rules_of g.parts.setup) m g.parts.me.0 c event) later outcome) where
+        pub turn-addressed : (h : Held Msg) → Runs m stands v h → IsOfNodes v.setup.n event → AreToNodes v.setup.n outcome.sends
+        turn-addressed h st nodes =
+            let asked : IsOfNodes g.parts.setup.n event = subst (λ (s : Setup). IsOfNodes s.n event) (sym (r.setups i g at)) nodes in
+            subst (λ (s : Setup). AreToNodes s.n outcome.sends) (es ∙ r.setups i g at) ((f (h.net.cores i) (st.cores i g at)).addressed asked)
 
         -- the log only grows, and so does the epoch
         grown : (h : Held Msg) → Runs m stands v h → (newer : List Value) × (reverse later.parts.log.entries ≡ newer ++ reverse g.parts.log.entries)
@@ -323,12 +325,13 @@ module _ {M Msg : Type 0} (m : Module Msg) (stands : M → Params → ℕ → Li
             let s = g.parts.setup in
             let c = h.net.cores i in
             let turn = f c (st.cores i g at) in
-            let parts = (st.cores i g at).parts in
-            let sound = parts.tied.sound in
+            let parts = (st.cores i g at).held.parts in
+            let bare-sound = subst (λ (z : Core Msg). IsSoundCore (rules_of s) m g.parts.me.0 z) (sym parts.core) parts.tied.sound in
+            let sound : IsSoundCore (rules_of s) m g.parts.me.0 c =
+            kept-sound (formats_of s m) (rules_of s) m g.parts.me.0 (bare c) c.early c.votes c.certs c.leaf bare-sound in
             let slots : HasSlots (rules_of s) = subst (λ (z : Setup). HasSlots (rules_of z)) (sym (r.setups i g at)) (has-slots v.setup r.good.good) in
-            let up = step-grown (formats_of s m) (rules_of s) m g.parts.me.0 slots (are-windows s) c event turn.turn
-            (subst (λ (z : Core Msg). IsSoundCore (rules_of s) m g.parts.me.0 z) (sym parts.core) sound) turn.step_is in
-            let late = turn.stands_for.parts.tied.log in
+            let up = step-grown (formats_of s m) (rules_of s) m g.parts.me.0 slots (are-windows s) c event turn.turn sound turn.step_is in
+            let late = turn.stands_for.held.parts.tied.log in
             let there : log_of (rules_of s) m g.parts.me.0 turn.turn.core.past ≡ reverse later.parts.log.entries =
             subst (λ (k : ℕ). log_of (rules_of s) m k turn.turn.core.past ≡ reverse later.parts.log.entries) (ap (λ (z : NodeId). z.0) em)
             (subst (λ (z : Setup). log_of (rules_of z) m later.parts.me.0 turn.turn.core.past ≡ reverse later.parts.log.entries) es late) in
@@ -346,8 +349,8 @@ module _ {M Msg : Type 0} (m : Module Msg) (stands : M → Params → ℕ → Li
         epoch-kept h st epoch is k e =
             let turn = f (h.net.cores i) (st.cores i g at) in
             let up = step-epoch (formats_of g.parts.setup m) (rules_of g.parts.setup) m g.parts.me.0 (h.net.cores i) event turn.turn turn.step_is in
-            let before = (st.cores i g at).parts.tied.epoch in
-            let after = turn.stands_for.parts.tied.epoch in
+            let before = (st.cores i g at).held.parts.tied.epoch in
+            let after = turn.stands_for.held.parts.tied.epoch in
             let same : k ≡ later = some-injective k later (sym e ∙ get-set_same v.nodes i later lt) in
             subst (λ (z : NodeState M Msg). epoch ≤ z.parts.epoch) (sym same) (omega (arith, is, up, before, after))
 
@@ -372,7 +375,7 @@ module _ {M Msg : Type 0} (m : Module Msg) (stands : M → Params → ℕ → Li
                   ap (λ (z : NodeState M Msg). take slots z.parts.log.entries) same ∙ ap (λ (n : ℕ). take n later.parts.log.entries) is
                   ∙ cut-back g.parts.log.entries later.parts.log.entries up.0 up.1 in
                   was ∙ ap (λ (xs : List Value). reverse xs) (sym back);
-              epoch = ise ∙ (st.cores i g at).parts.tied.epoch;
+              epoch = ise ∙ (st.cores i g at).held.parts.tied.epoch;
             }
 
         pub step-taken : (h : Held Msg) (st : Runs m stands v h) (new : RunningState M Msg) (x : Change) →
@@ -402,13 +405,13 @@ module _ {M Msg : Type 0} (m : Module Msg) (stands : M → Params → ℕ → Li
         | inr w ↦
             let st : Stands m stands k (h.net.cores j) = subst (λ (c : Core Msg). Stands m stands k c) (ap (λ (q : Bool). cond q t.core (h.net.cores j)) w.0) (b.cores j k w.1) in
             subst (λ (n : ℕ). log_of (rules_of v.setup) m n (h.net.cores j).past ≡ reverse k.parts.log.entries) (r.places j k w.1)
-            (subst (λ (s : Setup). log_of (rules_of s) m k.parts.me.0 (h.net.cores j).past ≡ reverse k.parts.log.entries) (r.setups j k w.1) st.parts.tied.log)
+            (subst (λ (s : Setup). log_of (rules_of s) m k.parts.me.0 (h.net.cores j).past ≡ reverse k.parts.log.entries) (r.setups j k w.1) st.held.parts.tied.log)
       ];
       epoch = λ j k e. elim (written v.nodes i j later k lt e) [
         | inl w ↦ ap (λ (z : NodeState M Msg). z.parts.epoch) w.2 ∙ back.epoch ∙ b.epoch ∙ ap (λ (n : ℕ). (h.net.cores n).past.epoch) (sym w.1)
         | inr w ↦
             let st : Stands m stands k (h.net.cores j) = subst (λ (c : Core Msg). Stands m stands k c) (ap (λ (q : Bool). cond q t.core (h.net.cores j)) w.0) (b.cores j k w.1) in
-            st.parts.tied.epoch
+            st.held.parts.tied.epoch
       ];
     }
 

@@ -1,24 +1,11 @@
 -- A world that stands for a run, as events happen to it.
-use Rattle.std.proofs.Common.{inl, inr, ◌≡◌, ◌⊎◌, ℕ, Bool, false, List, Option, Some, None, refl, sym, ap, ◌∙◌, subst, true≢false}
-use Rattle.std.specs.Prelude.{option_map}
-use Rattle.iss_base.proofs.Lists.{none-some}
-use Rattle.iss_model.specs.Node.{Formats}
-use Rattle.iss_model.specs.Rules.{Rules}
-use Rattle.iss_model.specs.Run.{End, Held, Progress, ended_at, goes_further, goes_on, happens, noted}
-use Rattle.iss_model.specs.declared.causes.Why.{Why}
-use Rattle.iss_request.specs.declared.setups.Setup.{Setup}
-use Rattle.iss_schedule.specs.declared.schedules.Event.{Event}
+use Rattle.std.proofs.Common.{inl, inr, ◌≡◌, ℕ, Bool, false, List, Option, Some, None, subst}
+use Rattle.iss_model.specs.Run.{End, Held, Progress}
 use Rattle.iss_sb.specs.declared.effects.Params.{Params}
 use Rattle.iss_sb.specs.Evidence.{Item, Module}
-use Rattle.iss_world.specs.Headline.{IsAnswered}
-use Rattle.iss_world.specs.Stands.{HasChanged, HasHappened, IsShown, IsStaleOr, Runs, StandsAt, StandsThen, awake, end_of, told_as, why_ended}
+use Rattle.iss_world.specs.Stands.{IsShown, StandsAt, StandsThen, awake}
 use Rattle.iss_world.specs.State.{RunningState, WorldState}
-use Rattle.iss_world.specs.declared.ends.Change.{Change}
-use Rattle.iss_world.specs.declared.ends.Change.TheVariants.{Done, Lost, Ended}
 use Rattle.iss_world.specs.declared.ends.End.{End as Kept}
-use Rattle.iss_world.specs.declared.ends.End.TheVariants.{Forged as Kept_forged, Collision as Kept_collision}
-use Rattle.iss_world.specs.declared.world.Happened.{Happened}
-use Rattle.iss_world.specs.declared.world.Happened.TheVariants.{Done as Was_done, Lost as Was_lost, Stale}
 
 module _ {M Msg : Type 0} (m : Module Msg) (stands : M → Params → ℕ → List (Item Msg) → Type 0) where
   -- what the world stands for, its running cores stand for or show

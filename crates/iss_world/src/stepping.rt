@@ -7,7 +7,7 @@ ghost use Rattle.iss_model.specs.Formats.{formats_of};
 ghost use Rattle.iss_model.specs.Node.{Core, Taken, Turn, step};
 ghost use Rattle.iss_model.specs.Run.{Held, at_core, claims_at, cores_of, node_of};
 ghost use Rattle.iss_node.specs.State.{NodeState, Stands};
-ghost use Rattle.iss_node.specs.Steps.{IsAnswer, IsMade};
+ghost use Rattle.iss_node.specs.Steps.{IsAnswer, IsMade, IsOfNodes};
 ghost use Rattle.iss_sb.specs.Calls.{AreToNodes};
 ghost use Rattle.iss_world.specs.Books.{AreHashed, AreSigned};
 ghost use Rattle.iss_world.specs.Stands.{HasChanged, IsStanding, Runs, end_of};
@@ -49,7 +49,7 @@ fn take_at<M: Sequenced>(
     event: NodeEvent,
 ) -> (Answer, usize, Epoch)
     ensures answer { (c : Core M.Msg) → Stands M.meaning M.stands node.old c →
-        IsAnswer M.meaning M.stands c
+        IsAnswer M.meaning M.stands (IsOfNodes node.old.parts.setup.n event) c
         (step (formats_of node.old.parts.setup M.meaning) (rules_of node.old.parts.setup) M.meaning node.old.parts.me.0 c event) node.new result.0 }
     ensures slots { result.1 ≡ length node.old.parts.log.entries }
     ensures epoch { result.2.0 ≡ node.old.parts.epoch }
@@ -92,6 +92,7 @@ impl<M: Sequenced> Running<M> {
         event: NodeEvent,
     ) -> Result<Change, NoMemory>
         requires core { core < cores_of self.old.setup }
+        requires nodes { IsOfNodes self.old.setup.n event }
         requires standing { IsStanding M.meaning M.stands self.old }
         ensures happened { IfOk result (λ r. (h : Held M.Msg) → Runs M.meaning M.stands self.old h →
             HasChanged M.meaning M.stands self.new
@@ -112,6 +113,7 @@ impl<M: Sequenced> Running<M> {
     // A core takes an event whose claims were tested.
     fn step(&mut self, alloc: Global, core: u32, event: NodeEvent) -> Result<Change, NoMemory>
         requires core { core < cores_of self.old.setup }
+        requires nodes { IsOfNodes self.old.setup.n event }
         requires standing { IsStanding M.meaning M.stands self.old }
         ensures happened { IfOk result (λ r. (h : Held M.Msg) → Runs M.meaning M.stands self.old h →
             HasChanged M.meaning M.stands self.new (stepped_to self.old.setup h core

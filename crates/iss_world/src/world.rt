@@ -39,7 +39,8 @@ pub enum Happened {
         statement: Bytes,
         sig: Bytes,
     },
-    /// The run has ended, in this event or before: two different strings were hashed, of one digest; `first` was hashed before.
+    /// The run has ended, in this event or before: two different strings were hashed, of one digest. `first` was in the book, or
+    /// came earlier in the event; `second` is the first string of the event that collides with one before it.
     Collision {
         first: Bytes,
         second: Bytes,
@@ -89,11 +90,13 @@ impl<M: Sequenced> World<M> {
     }
 
     /// The event happens. It ends the run where a claim of a correct node is read that verifies and that the node never sent as its
-    /// own, or where two different strings were hashed that have one digest: then the world shows what it showed before the
-    /// delivery that did so, and answers each further event by the same evidence. After want of memory each further event answers
-    /// that the world is stale. A world that stood for the run of some events then stands for the run with this one more: the
-    /// logs of correct nodes are of one log, in which no request stands twice and each batch was accepted as valid by a correct
-    /// node, and each request that a correct node took is in its log, waits there or is in flight (ISS, whole protocol).
+    /// own, or where two different strings were hashed that have one digest, of which the one that was in the book or came earlier in
+    /// the event is told first: then the world shows what it showed before the delivery that did so, and answers each further event
+    /// by the same evidence. After want of memory each further event answers that the world is stale. A world that stood for the run
+    /// of some events then stands for the run with this one more: the logs of correct nodes are of one log, in which no request
+    /// stands twice and each batch was accepted as valid by a correct node, and each request that a correct node took is in its log,
+    /// waits there or is in flight. The certificates that correct nodes keep are of logs of correct nodes, and what correct nodes
+    /// adopted was delivered at one (ISS, whole protocol).
     pub fn event(&mut self, alloc: Global, event: &Event) -> Happened
         requires { IsInRange self.old.running.setup event.now }
         ensures happened { (p : Progress M.Msg) → StandsAt M.meaning M.stands self.old p →

@@ -1,6 +1,7 @@
 use Rattle.std.proofs.Common.{◌<◌, length, arith, ap, refl, sym, subst}
 use Rattle.std.proofs.lemmas.Option.{slice_get_read}
 use Rattle.iss_model.specs.Run.{cores_of}
+use Rattle.iss_node.specs.Steps.{IsOfNodes}
 use Rattle.iss_world.specs.Stands.{Runs}
 use Rattle.iss_world.specs.State.{RunningState}
 use Rattle.iss_world.proofs.BookLemmas.{if-ok}
@@ -45,6 +46,7 @@ taken-requires-clause-addressed g c =
     let f = answer-taken g.M.Sequenced.meaning g.M.Sequenced.stands v c.args.core c.index_mut.result.now c.args.event c.self.invariant.0 at c.take_at-answer.new.node c.take_at-answer.result.0 c.in-Taken.outcome c.in-Taken.is c.take_at-answer.ensures.answer in
     let st = subst (λ (z : RunningState _ _). Runs g.M.Sequenced.meaning g.M.Sequenced.stands z c.requires.standing.0) (sym c.self.view_is) c.requires.standing.1 in
     turn-addressed g.M.Sequenced.meaning g.M.Sequenced.stands v c.args.core c.index_mut.result.now c.args.event c.self.invariant.0 at c.take_at-answer.new.node lt c.in-Taken.outcome c.take_at-answer.ensures.same.0 c.take_at-answer.ensures.same.1 f c.requires.standing.0 st
+    (subst (λ (z : RunningState _ _). IsOfNodes z.setup.n c.args.event) (sym c.self.view_is) c.requires.nodes)
 
 pub taken-requires-clause-slots : goal.taken-requires-clause-slots
 taken-requires-clause-slots g c =
