@@ -93,14 +93,14 @@ split-log all low n is x =
     x.1 ∙ ap (λ (ys : List Value). ys ++ low) (sym q)
 
 -- the strings of what joins a log, which the model has the other way round
-pub grown-is : (R : Rules) (entries more old new : List Value) → old ≡ reverse entries → new ≡ reverse (entries ++ more) →
-    grown_strings R old new ≡ strings_from R.version (chain_of R.version entries) more
-grown-is R entries more old new p q =
-    ap (λ (z : List Value). grown_strings R z new) p
-    ∙ ap (λ (z : List Value). grown_strings R (reverse entries) z) q
-    ∙ ap (λ (z : List Value). strings_from R.version (chain_of R.version z) (reverse (joined (length (reverse entries)) (reverse (entries ++ more))))) (reverse-reverse entries)
-    ∙ ap (λ (z : List Value). strings_from R.version (chain_of R.version entries) (reverse z)) (ap (λ (z : List Value). joined (length (reverse entries)) z) (reverse-append entries more) ∙ joined-newer (reverse more) (reverse entries))
-    ∙ ap (λ (z : List Value). strings_from R.version (chain_of R.version entries) z) (reverse-reverse more)
+pub grown-is : (s : Setup) (entries more old new : List Value) → old ≡ reverse entries → new ≡ reverse (entries ++ more) →
+    grown_strings (rules_of s) old new ≡ strings_from s.version (chain_of s.version entries) more
+grown-is s entries more old new p q =
+    ap (λ (z : List Value). grown_strings (rules_of s) z new) p
+    ∙ ap (λ (z : List Value). grown_strings (rules_of s) (reverse entries) z) q
+    ∙ ap (λ (z : List Value). strings_from s.version (chain_of s.version z) (reverse (joined (length (reverse entries)) (reverse (entries ++ more))))) (reverse-reverse entries)
+    ∙ ap (λ (z : List Value). strings_from s.version (chain_of s.version entries) (reverse z)) (ap (λ (z : List Value). joined (length (reverse entries)) z) (reverse-append entries more) ∙ joined-newer (reverse more) (reverse entries))
+    ∙ ap (λ (z : List Value). strings_from s.version (chain_of s.version entries) z) (reverse-reverse more)
 
 -- ---- lists by leader
 
@@ -490,7 +490,7 @@ module _ {M Msg : Type 0} (m : Module Msg) (stands : M → Params → ℕ → Li
       hashed = hashed
           ∙ ap (λ (xs : List (List ℕ)). xs ++ strings_from v.chains.version (chain_of v.chains.version v.log.entries) grown.joined) took.hashed
           ∙ ap (λ (k : ℕ). made.strings ++ strings_from k (chain_of k v.log.entries) grown.joined) shape.version
-          ∙ ap (λ (xs : List (List ℕ)). made.strings ++ xs) (sym (grown-is (rules_of v.setup) v.log.entries grown.joined _ _ tied.log (new-log ∙ ap (λ (ys : List Value). reverse ys) grown.entries)));
+          ∙ ap (λ (xs : List (List ℕ)). made.strings ++ xs) (sym (grown-is v.setup v.log.entries grown.joined _ _ tied.log (new-log ∙ ap (λ (ys : List Value). reverse ys) grown.entries)));
     }
 
     pub addressed-next : (F : Formats Msg) (sends : List (To × List ℕ)) → sends ≡ packed F v.me.0 v.epoch leader.0 ef.sends → AreToNodes v.setup.n sends

@@ -12,12 +12,14 @@ pub mod InputLemmas
 pub mod InstanceLemmas
 pub mod JoinLemmas
 pub mod KeepLemmas
+pub mod LiftLemmas
 pub mod MadeLemmas
 pub mod NextLemmas
 pub mod NilLemmas
 pub mod NodeLemmas
 pub mod OwnEpoch
 pub mod ParcelLemmas
+pub mod PieceLemmas
 pub mod ProposeLemmas
 pub mod QueryLemmas
 pub mod RequestLemmas

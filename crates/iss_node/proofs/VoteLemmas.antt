@@ -13,7 +13,7 @@ use Rattle.iss_model.proofs.Casts.{kept-sound}
 use Rattle.iss_model.proofs.Ending.{ended-start, ended-whole}
 use Rattle.iss_model.specs.Concrete.{rules_of}
 use Rattle.iss_model.specs.Formats.{formats_of}
-use Rattle.iss_model.specs.Node.{Core, Formats, OfVote, Turn, claim_of_vote, end_at, ends, in_next_epoch, vote_on}
+use Rattle.iss_model.specs.Node.{Core, Formats, OfVote, Turn, claim_of_vote, ends, in_next_epoch, vote_on}
 use Rattle.iss_model.specs.Past.{Past, ended_log, is_complete, log_of}
 use Rattle.iss_model.specs.Rules.{Rules}
 use Rattle.iss_node.proofs.InputLemmas.{bounded}
@@ -79,7 +79,7 @@ module _ {M Msg : Type 0} (m : Module Msg) (stands : M → Params → ℕ → Li
   own = vote_on (rules_of v.setup) m v.me.0 (core_of v past)
 
   -- what stands for the log at the end of the epoch
-  end-is : said ≡ end_at (rules_of v.setup) (ended_log (rules_of v.setup) m v.me.0 past)
+  end-is : said ≡ (rules_of v.setup).end (ended_log (rules_of v.setup) m v.me.0 past)
   end-is =
       let version = shape.version in
       let log : ended_log (rules_of v.setup) m v.me.0 past ≡ reverse v.log.entries =
