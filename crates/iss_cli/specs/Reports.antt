@@ -1,5 +1,6 @@
 -- The report of a schedule's run under its module, and what is promised of the run.
 use Rattle.std.specs.Prelude.{◌≡◌, ℕ, Option, Some, None}
+use Rattle.iss_model.specs.Certified.{AreOfLogs, WereDelivered}
 use Rattle.iss_model.specs.Conserved.{IsConserved}
 use Rattle.iss_model.specs.Ends.{HasEvidence}
 use Rattle.iss_model.specs.OneLog.{IsOneLog, run_after}
@@ -41,10 +42,13 @@ IsReported s a = Under s.setup.module (λ Msg M. a ≡ reported M s)
 -- The logs of correct nodes are of one log, in which no request stands twice and each batch was accepted as valid by a
 -- correct node, and which more events only make longer; each request that a correct node took is in its log, waits there, or
 -- is in flight, in one place. Where the run ends before its last event, it shows evidence of a forged claim or a collision.
+-- Each certificate that a correct node keeps is of the log of a correct signer, and what a correct node adopted was delivered at one.
 pub record IsKept {Msg : Type 0} (M : Module Msg) (s : Schedule) : Type 0 where
   pub one_log : IsOneLog s.setup M s.events
   pub evidence : HasEvidence s.setup M s.events
   pub conserved : IsConserved s.setup M s.events
+  pub certified : AreOfLogs s.setup M s.events
+  pub adopted : WereDelivered s.setup M s.events
 
 -- of its run
 abbrev pub IsPromised : Schedule → Type 0
