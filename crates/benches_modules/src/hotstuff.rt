@@ -192,13 +192,13 @@ fn batch_of(slot: Slot, batch: &Batch) -> Result<Batch, NoMemory> {
 }
 
 /// A number of things, as it is counted here.
-pub fn count_of(things: usize) -> u32 {
+pub(crate) fn count_of(things: usize) -> u32 {
     u32::try_from(things).unwrap_or(u32::MAX)
 }
 
 impl Cluster {
     /// Fresh nodes, which hear Decides or not.
-    pub fn new(alloc: Global, p: &Params, is_cut: bool) -> Timed<Cluster>
+    pub(crate) fn new(alloc: Global, p: &Params, is_cut: bool) -> Timed<Cluster>
         requires { IsGoodParams hotstuff p.now }
     {
         let mut cores = Vec::new(alloc);
@@ -288,8 +288,8 @@ impl Cluster {
         Ok(())
     }
 
-    /// The leader casts in each slot, with numbers of its own, and the messages of each cast are taken before the next one.
-    pub fn cast_all(&mut self, alloc: Global, p: &Params, batch: &Batch) -> Timed<()>
+/// The leader casts in each slot, with numbers of its own, and the messages of each cast are taken before the next one.
+    pub(crate) fn cast_all(&mut self, alloc: Global, p: &Params, batch: &Batch) -> Timed<()>
         requires { IsGoodParams hotstuff p.now }
     {
         for k in 0..p.slots.len() as u64 {
@@ -302,7 +302,7 @@ impl Cluster {
     }
 
     /// The round ends at each node, and the next one begins. Decides come again.
-    pub fn change_round(&mut self, alloc: Global, p: &Params) -> Timed<()>
+    pub(crate) fn change_round(&mut self, alloc: Global, p: &Params) -> Timed<()>
         requires { IsGoodParams hotstuff p.now }
     {
         self.is_cut = false;

@@ -202,7 +202,7 @@ fn time_works(rt: &HostRuntime, f: u32, keys: u32, times: u32) -> Timed<()>
 }
 
 /// Times 64 slots and a round that changes behind them, over 4 and over 10 nodes; of each the best of so many times counts.
-pub fn time_all(rt: &HostRuntime, times: u32) -> Timed<()> {
+pub(crate) fn time_all(rt: &HostRuntime, times: u32) -> Timed<()> {
     time_works(rt, 1, 9, times)?;
     time_works(rt, 3, 9, times)
 }
@@ -233,6 +233,6 @@ fn count_in(rt: &HostRuntime, f: u32, keys: u32, count: u64) -> Timed<()>
 }
 
 /// Orders four slots among four nodes and changes the round, and prints how many signatures and deliveries that takes.
-pub fn count_all(rt: &HostRuntime) -> Timed<()> {
+pub(crate) fn count_all(rt: &HostRuntime) -> Timed<()> {
     count_in(rt, 1, 6, 4)
 }
