@@ -288,7 +288,7 @@ impl Cluster {
         Ok(())
     }
 
-/// The leader casts in each slot, with numbers of its own, and the messages of each cast are taken before the next one.
+    /// The leader casts in each slot, with numbers of its own, and the messages of each cast are taken before the next one.
     pub(crate) fn cast_all(&mut self, alloc: Global, p: &Params, batch: &Batch) -> Timed<()>
         requires { IsGoodParams hotstuff p.now }
     {
