@@ -32,7 +32,8 @@ use Rattle.hs_tree.proofs.Contents.{what-table}
 use Rattle.sb_hotstuff.specs.Facts.{Leads}
 use Rattle.sb_hotstuff.specs.HotStuff.{answers, asks, drafts, hotstuff, makes, proposals, shows, sign_all, state, strings_at, taken_of, turn_strings, voted}
 use Rattle.sb_hotstuff.specs.Rules.{State, Turn, all_news, best, cast_turn, certificate, first_turn, heard, is_reached, is_ready, is_slot, keeps_news, keeps_vote, kept, may_cast, may_end, may_prepare, may_second, may_third, next_turn, nil_or_mark, node_digest, proposed, round_of, slots_below, turn, turn_after, turn_on, with_cast, with_round, with_turn}
-use Rattle.sb_hotstuff.proofs.Basics.{by-both, by-if, by-test, is-same, not-same}
+use Rattle.iss_sb.proofs.Cases.{by-both}
+use Rattle.sb_hotstuff.proofs.Basics.{by-if, by-test, is-same}
 use Rattle.sb_hotstuff.proofs.Casts.{Same, after-kept, heard-same, state-more}
 use Rattle.sb_hotstuff.proofs.Readable.{MayTurn, digest-length, heard-is, kept-fits, proposed-new, state-fits}
 use Rattle.sb_hotstuff.proofs.Single.{AreVoted, acc, hashed-has}
