@@ -1,26 +1,25 @@
 -- How a node asks, and what it hands out.
-use Rattle.std.proofs.Common.{arith, inl, inr, ◌≡◌, ℕ, zero, suc, ◌+◌, ◌-◌, ◌*◌, ◌<◌, ◌≤◌, Bool, true, false, cond, not, List, [], ◌∷◌, ◌++◌, Option, Some, None, drop, length, nat_le, nat_lt, reverse, take, refl, sym, ap, ◌∙◌, subst, true≢false}
-use Rattle.std.proofs.lemmas.Bool.{le-leb, leb-true}
+use Rattle.std.proofs.Common.{arith, ◌≡◌, ℕ, zero, suc, ◌*◌, ◌<◌, ◌≤◌, Bool, true, false, cond, not, List, [], ◌∷◌, ◌++◌, Option, Some, None, drop, length, nat_le, nat_lt, reverse, take, refl, sym, ap, ◌∙◌, subst}
+use Rattle.std.proofs.lemmas.Bool.{leb-true}
 use Rattle.std.proofs.lemmas.Bool.Decides.{nat_tests}
-use Rattle.std.proofs.lemmas.List.{length-reverse, reverse-append, reverse-reverse, take_all}
+use Rattle.std.proofs.lemmas.List.{length-reverse, reverse-append, reverse-reverse}
 use Rattle.iss_base.specs.Lists.{oldest}
 use Rattle.iss_base.proofs.Lists.{none-some, oldest-all, oldest-append, some-injective}
-use Rattle.iss_ballots.specs.Ballots.{AreKept}
 use Rattle.iss_checkpoint.specs.declared.votes.Cert.{Cert}
 use Rattle.iss_model.proofs.Casts.{joined-newer}
 use Rattle.iss_model.specs.Concrete.{rules_of}
 use Rattle.iss_model.specs.Formats.{formats_of}
-use Rattle.iss_model.specs.Node.{Core, Dropped, Formats, Stepped, Taken, Turn, asking, handing, hands_out, joined, only_by, values_of}
-use Rattle.iss_model.specs.Past.{Past, cut_at, log_of, start_of}
+use Rattle.iss_model.specs.Node.{Core, Formats, handing, hands_out, joined, values_of}
+use Rattle.iss_model.specs.Past.{cut_at, log_of, start_of}
 use Rattle.iss_model.specs.Rules.{Rules}
 use Rattle.iss_model.specs.declared.causes.Why.TheVariants.{NoCert}
 use Rattle.iss_node.proofs.OwnEpoch.{start-is}
-use Rattle.iss_node.specs.State.{AreHeld, IsTied, ReplicaState}
+use Rattle.iss_node.specs.State.{AreHeld, ReplicaState}
 use Rattle.iss_node.specs.Steps.{IsHeldDropped, IsHeldTaken}
 use Rattle.iss_node.specs.Transfers.{IsHandedPiece, held_values}
 use Rattle.iss_node.specs.declared.answers.Outcome.{Outcome}
 use Rattle.iss_packet.specs.Packets.{spell_packet}
-use Rattle.iss_packet.specs.declared.packets.PacketKind.TheVariants.{Ask as Of_ask, Piece as Of_piece}
+use Rattle.iss_packet.specs.declared.packets.PacketKind.TheVariants.{Piece as Of_piece}
 use Rattle.iss_request.specs.declared.ids.NodeId.{NodeId}
 use Rattle.iss_request.specs.declared.requests.Value.{Value}
 use Rattle.iss_request.specs.declared.setups.Setup.{Setup}
@@ -31,31 +30,6 @@ use Rattle.iss_sb.specs.declared.effects.To.{To}
 use Rattle.iss_sb.specs.declared.effects.To.TheVariants.{One}
 use Rattle.iss_transfer.specs.Bodies.{spell_piece}
 use Rattle.iss_transfer.specs.declared.pieces.Piece.{Piece}
-
--- ---- an ask
-
-pub asks-so : {M Msg : Type 0} (m : Module Msg) (stands : M → Params → ℕ → List (Item Msg) → Type 0) (v : ReplicaState M Msg) (peer : NodeId) (o : Outcome) (bytes : List ℕ) →
-    bytes ≡ spell_packet v.setup.version (record { kind = Of_ask; from = v.me.0; epoch = record { 0 = v.epoch }; leader = 0; body = [] }) →
-    o ≡ record { sends = (One peer, bytes) ∷ []; own = []; early = []; hashed = [] } → (c : Core Msg) → AreHeld m stands v c →
-    IsHeldTaken m stands (peer.0 < v.setup.n) (Taken (asking (formats_of v.setup m) v.me.0 c peer)) v o
-asks-so m stands v peer o bytes spelled is c h =
-    let epoch : v.epoch ≡ c.past.epoch = h.parts.tied.epoch in
-    let packet : ℕ → List ℕ = λ e. spell_packet v.setup.version (record { kind = Of_ask; from = v.me.0; epoch = record { 0 = e }; leader = 0; body = [] }) in
-    let sent : o.sends ≡ (One peer, packet c.past.epoch) ∷ [] = ap (λ (z : Outcome). z.sends) is ∙ ap (λ (bs : List ℕ). (One peer, bs) ∷ []) (spelled ∙ ap (λ (e : ℕ). packet e) epoch) in
-    record {
-      turn = asking (formats_of v.setup m) v.me.0 c peer;
-      step_is = refl;
-      turned = record {
-        stands_for = h;
-        made = record {
-          sends = sent;
-          own = ap (λ (z : Outcome). z.own) is;
-          early = ap (λ (z : Outcome). z.early) is;
-          hashed = ap (λ (z : Outcome). z.hashed) is;
-        };
-        addressed = λ low. subst (λ (xs : List (To × List ℕ)). AreToNodes v.setup.n xs) (sym sent) (low, tt);
-      };
-    }
 
 -- ---- the values of an epoch, which the model has the other way round
 
@@ -131,9 +105,6 @@ module _ {M Msg : Type 0} (m : Module Msg) (stands : M → Params → ℕ → Li
       ap (λ (k : ℕ). nat_lt (length (log_of R m v.me.0 c.past)) k) (start-is v.setup (log_of R m v.me.0 c.past) (suc e))
       ∙ ap (λ (k : ℕ). nat_lt k (suc e * v.setup.epoch)) (ap (λ (ys : List Value). length ys) log-is ∙ length-reverse v.log.entries)
       ∙ lt-of-le (suc e * v.setup.epoch) (length v.log.entries) t q
-
-  pub hands-none : (o : Option Cert) → o ≡ None → IsHeldDropped m stands c (hands_out F R m v.me.0 c to.0 e o) v NoCert
-  hands-none o is = record { step_is = rw is refl; stands_for = h }
 
   pub hands-short : (o : Option Cert) (cert : Cert) → o ≡ Some cert → None ≡ held_values v e → IsHeldDropped m stands c (hands_out F R m v.me.0 c to.0 e o) v NoCert
   hands-short o cert is gone = let short = lacks false (none-held _ _ gone) in record { step_is = rw (is, short) refl; stands_for = h }
