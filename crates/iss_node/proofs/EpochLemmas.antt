@@ -9,17 +9,20 @@ use Rattle.iss_base.proofs.Lists.{oldest-part}
 use Rattle.iss_ids.proofs.Members.{has_id-append}
 use Rattle.iss_layout.proofs.PastLemmas.{epochs-kept, slots-in}
 use Rattle.iss_layout.specs.Layout.{Conduct, Ended, IsStanding, Plan, conduct_of, epochs, leads, next_ended, nils_in, plan_by, segment, slots_from, slots_in}
-use Rattle.iss_log.specs.LogState.{LogState, value_at}
+use Rattle.iss_keys.specs.Directories.{AreKeysOf}
+use Rattle.iss_log.specs.Chains.{IsChainOf}
+use Rattle.iss_log.specs.LogState.{value_at}
 use Rattle.iss_model.proofs.Casts.{ends-sound}
 use Rattle.iss_model.proofs.Ending.{advanced-log, before-advanced, complete-far, ended-start}
 use Rattle.iss_model.proofs.Epochs.{length-cut}
 use Rattle.iss_model.proofs.Windows.{are-windows}
 use Rattle.iss_model.specs.Concrete.{keys_of, plan_at, rules_of, start_at}
-use Rattle.iss_model.specs.Node.{Core, Formats, in_next_epoch, is_nil_at, joined}
+use Rattle.iss_model.specs.Formats.{formats_of}
+use Rattle.iss_model.specs.Node.{flown, in_next_epoch, is_nil_at, joined}
 use Rattle.iss_model.specs.Past.{Past, advanced, before_own, is_complete, log_of, start_of, taken_in}
 use Rattle.iss_model.specs.Sound.{IsSoundCore}
 use Rattle.iss_node.proofs.GrowthLemmas.{log_ids-append}
-use Rattle.iss_node.proofs.InputLemmas.{bf-long, bf-part, bounded, split-log}
+use Rattle.iss_node.proofs.TiedLemmas.{bf-long, bf-part, bounded, split-log}
 use Rattle.iss_node.proofs.OwnEpoch.{has-slots, start-at-is, start-is}
 use Rattle.iss_node.specs.Epochs.{AreStarted, HasClosed, notes, params_by}
 use Rattle.iss_node.specs.Flights.{FlightState}
@@ -33,7 +36,7 @@ use Rattle.iss_request.specs.declared.setups.Setup.{Setup}
 use Rattle.iss_sb.specs.Evidence.{Item, Module, accepts, delivered}
 use Rattle.iss_sb.specs.declared.effects.Params.{Params}
 use Rattle.iss_segment.specs.Ground.{RestsOn, noted_before}
-use Rattle.iss_segment.specs.Instance.{IsInstance, SegmentState}
+use Rattle.iss_segment.specs.Instance.{IsInstance, SameIds, SegmentState}
 use Rattle.iss_window.proofs.KeptLemmas.{stands-same}
 use Rattle.iss_window.specs.Kept.{Kept, StandsFor}
 use Rattle.iss_window.specs.Window.{Noted, and_closed, and_noted}
@@ -59,23 +62,73 @@ notes-next n xs i d lt =
     let e : take (i + 1) xs ≡ take i xs ++ get_or xs i d ∷ [] = rw add-one (take-suc xs i d lt) in
     ap (λ (ys : List ReqId). notes n ys) e ∙ notes-more n (take i xs) (get_or xs i d)
 
+-- ---- parts whose epoch is over
+
+-- a past in the next epoch has their log, and all of it stands before that epoch; before was the log before theirs
+pub record IsOver {M Msg : Type 0} (m : Module Msg) (v : ReplicaState M Msg) (before : List Value) (past : Past Msg) : Type 0 where
+  pub epoch : v.epoch ≡ past.epoch
+  pub log : log_of (rules_of v.setup) m v.me.0 (advanced past) ≡ reverse v.log.entries
+  pub own : before_own (rules_of v.setup) m v.me.0 (advanced past) ≡ reverse v.log.entries
+  pub long : length (reverse v.log.entries) ≡ suc past.epoch * v.setup.epoch
+  pub chained : IsChainOf v.chains v.log.entries
+  pub rests : RestsOn v.setup before past.epoch v.plan v.windows
+  pub standing : IsStanding v.setup (epochs v.setup past.epoch before) v.standing
+  pub start : v.plan.start ≡ past.epoch * v.setup.epoch
+  pub size : length before ≡ past.epoch * v.setup.epoch
+  pub part : Extends before (reverse v.log.entries)
+  pub outside : (s : ℕ) → v.plan.start + v.setup.epoch ≤ s → value_at v.log s ≡ None
+  pub hole : value_at v.log (length v.log.entries) ≡ None
+  pub logged : SameIds v.logged (log_ids (joined v.plan.start (reverse v.log.entries)))
+  pub flown : SameIds v.flight.ids (flown v.flight.casts)
+  pub unborn : (l : ℕ) → past.evidence (suc past.epoch) l ≡ []
+  pub sound : IsSoundCore (rules_of v.setup) m v.me.0 (in_next_epoch (core_of v past))
+  pub keys : AreKeysOf v.me.0 v.setup.keys v.keys
+
+-- such are those that are tied to a past whose epoch is complete
+pub over-tied : {M Msg : Type 0} (m : Module Msg) (stands : M → Params → ℕ → List (Item Msg) → Type 0) (v : ReplicaState M Msg) (shape : IsReplica m v) (past : Past Msg) (tied : IsTied m stands v past) →
+    is_complete (rules_of v.setup) m v.me.0 past ≡ true → IsOver m v (before_own (rules_of v.setup) m v.me.0 past) past
+over-tied m stands v shape past tied complete =
+    let slots = has-slots v.setup shape.good.good in
+    let low = bounded m stands v shape past tied in
+    record {
+      epoch = tied.epoch;
+      log = advanced-log (rules_of v.setup) slots m v.me.0 past low ∙ tied.log;
+      own = before-advanced (rules_of v.setup) slots m v.me.0 past low complete ∙ tied.log;
+      long =
+          sym (sym (start-is v.setup (log_of (rules_of v.setup) m v.me.0 past) (suc past.epoch))
+          ∙ ended-start (rules_of v.setup) slots m v.me.0 past low complete
+          ∙ ap (λ (ys : List Value). length ys) tied.log);
+      chained = tied.chained;
+      rests = tied.rests;
+      standing = tied.standing;
+      start = tied.start;
+      size = bf-long m stands v shape past tied;
+      part = bf-part m stands v shape past tied;
+      outside = tied.outside;
+      hole = tied.hole;
+      logged = λ x. tied.logged x ∙ ap (λ (ys : List Value). has_id x (log_ids (joined v.plan.start ys))) tied.log;
+      flown = tied.flown;
+      unborn = λ l. tied.sound.unborn (suc past.epoch) l (omega arith);
+      sound = ends-sound (formats_of v.setup m) (rules_of v.setup) m v.me.0 slots (are-windows v.setup) (core_of v past) tied.sound complete;
+      keys = tied.keys;
+    }
+
 module _ {M Msg : Type 0} (m : Module Msg) (stands : M → Params → ℕ → List (Item Msg) → Type 0)
-    (v : ReplicaState M Msg) (shape : IsReplica m v) (past : Past Msg) (tied : IsTied m stands v past)
-    (complete : is_complete (rules_of v.setup) m v.me.0 past ≡ true)
-    (epoch start : ℕ) (windows : Kept) (standing : List Conduct) (plan : Plan) (segments : List (Option (SegmentState M)))
-    (epoch_is : epoch ≡ v.epoch + 1) (start_is : start ≡ v.plan.start + v.setup.epoch) (fits : start + v.setup.epoch < 2 ^ 64)
+    (v : ReplicaState M Msg) (slots : v.plan.slots ≡ v.setup.epoch) (before : List Value) (past : Past Msg) (over : IsOver m v before past)
+    (windows : Kept) (standing : List Conduct) (plan : Plan) (segments : List (Option (SegmentState M)))
+    (fits : v.plan.start + v.setup.epoch + v.setup.epoch < 2 ^ 64)
     (learned : (p : List Ended) → IsStanding v.setup p v.standing →
     IsStanding v.setup (record { plan = v.plan; nils = filter (λ (s : Slot). is_nil_at (reverse v.log.entries) s.0) (slots_from v.plan.start v.setup.epoch) } ∷ p) standing)
     (closed : (n : Noted) → StandsFor v.windows n → StandsFor windows (and_closed (notes n v.logged)))
     (width : windows.width ≡ v.windows.width)
-    (divided : (p : List Ended) → IsStanding v.setup p standing → plan ≡ plan_by v.setup epoch start (conduct_of p))
-    (started : AreStarted stands v.setup v.me epoch plan segments) where
+    (divided : (p : List Ended) → IsStanding v.setup p standing → plan ≡ plan_by v.setup (v.epoch + 1) (v.plan.start + v.setup.epoch) (conduct_of p))
+    (started : AreStarted stands v.setup v.me (v.epoch + 1) plan segments) where
   abbrev pub opened : ReplicaState M Msg
   opened = record {
     setup = v.setup;
     me = v.me;
     directory = v.directory;
-    epoch = epoch;
+    epoch = v.epoch + 1;
     plan = plan;
     windows = windows;
     standing = standing;
@@ -91,131 +144,110 @@ module _ {M Msg : Type 0} (m : Module Msg) (stands : M → Params → ℕ → Li
     keys = v.keys;
   }
 
-  at : epoch ≡ suc past.epoch
-  at = let e = tied.epoch in omega (arith, epoch_is, e)
+  at : v.epoch + 1 ≡ suc past.epoch
+  at = let e = over.epoch in omega (arith, e)
 
-  begins : start ≡ suc past.epoch * v.setup.epoch
-  begins = let q = tied.start in omega (arith, start_is, q)
+  begins : v.plan.start + v.setup.epoch ≡ suc past.epoch * v.setup.epoch
+  begins = let q = over.start in omega (arith, q)
 
   room : start_at v.setup (reverse v.log.entries) (suc past.epoch) ≡ suc past.epoch * v.setup.epoch
   room = let b = begins in start-at-is v.setup (reverse v.log.entries) (suc past.epoch) (omega (arith, fits, b))
 
-  log-same : log_of (rules_of v.setup) m v.me.0 (advanced past) ≡ reverse v.log.entries
-  log-same = advanced-log (rules_of v.setup) (has-slots v.setup shape.good.good) m v.me.0 past (bounded m stands v shape past tied) ∙ tied.log
-
-  before-same : before_own (rules_of v.setup) m v.me.0 (advanced past) ≡ reverse v.log.entries
-  before-same = before-advanced (rules_of v.setup) (has-slots v.setup shape.good.good) m v.me.0 past (bounded m stands v shape past tied) complete ∙ tied.log
-
-  log-long : length (reverse v.log.entries) ≡ suc past.epoch * v.setup.epoch
-  log-long =
-      sym (sym (start-is v.setup (log_of (rules_of v.setup) m v.me.0 past) (suc past.epoch))
-      ∙ ended-start (rules_of v.setup) (has-slots v.setup shape.good.good) m v.me.0 past (bounded m stands v shape past tied) complete
-      ∙ ap (λ (ys : List Value). length ys) tied.log)
-
-  part : Extends (before_own (rules_of v.setup) m v.me.0 past) (reverse v.log.entries)
-  part = bf-part m stands v shape past tied
-
   -- the epochs of the log are those before, and the one that has ended
-  same-epochs : epochs v.setup past.epoch (reverse v.log.entries) ≡ epochs v.setup past.epoch (before_own (rules_of v.setup) m v.me.0 past)
+  same-epochs : epochs v.setup past.epoch (reverse v.log.entries) ≡ epochs v.setup past.epoch before
   same-epochs =
-      let n = bf-long m stands v shape past tied in
-      ap (λ (ys : List Value). epochs v.setup past.epoch ys) part.1
-      ∙ epochs-kept v.setup past.epoch (before_own (rules_of v.setup) m v.me.0 past) part.0 (omega (arith, n))
+      let n = over.size in
+      ap (λ (ys : List Value). epochs v.setup past.epoch ys) over.part.1
+      ∙ epochs-kept v.setup past.epoch before over.part.0 (omega (arith, n))
 
   old-plan : v.plan ≡ plan_by v.setup past.epoch (slots_in (epochs v.setup past.epoch (reverse v.log.entries))) (conduct_of (epochs v.setup past.epoch (reverse v.log.entries)))
   old-plan =
-      let f = shape.fits in let q = tied.start in
-      let first : start_at v.setup (before_own (rules_of v.setup) m v.me.0 past) past.epoch ≡ past.epoch * v.setup.epoch = start-at-is v.setup (before_own (rules_of v.setup) m v.me.0 past) past.epoch (omega (arith, f, q)) in
-      tied.rests.divided
-      ∙ ap (λ (k : ℕ). plan_by v.setup past.epoch k (conduct_of (epochs v.setup past.epoch (before_own (rules_of v.setup) m v.me.0 past)))) (first ∙ sym (slots-in v.setup past.epoch (reverse v.log.entries)))
+      let q = over.start in
+      let first : start_at v.setup before past.epoch ≡ past.epoch * v.setup.epoch = start-at-is v.setup before past.epoch (omega (arith, fits, q)) in
+      over.rests.divided
+      ∙ ap (λ (k : ℕ). plan_by v.setup past.epoch k (conduct_of (epochs v.setup past.epoch before))) (first ∙ sym (slots-in v.setup past.epoch (reverse v.log.entries)))
       ∙ ap (λ (p : List Ended). plan_by v.setup past.epoch (slots_in (epochs v.setup past.epoch (reverse v.log.entries))) (conduct_of p)) (sym same-epochs)
 
   ended-is : record { plan = v.plan; nils = filter (λ (s : Slot). is_nil_at (reverse v.log.entries) s.0) (slots_from v.plan.start v.setup.epoch) } ≡ next_ended v.setup past.epoch (reverse v.log.entries) (epochs v.setup past.epoch (reverse v.log.entries))
   ended-is =
       let made : Plan → Ended = λ p. record { plan = p; nils = nils_in p (reverse v.log.entries) } in
       let nils : filter (λ (s : Slot). is_nil_at (reverse v.log.entries) s.0) (slots_from v.plan.start v.setup.epoch) ≡ nils_in v.plan (reverse v.log.entries) =
-      ap (λ (k : ℕ). filter (λ (s : Slot). is_nil_at (reverse v.log.entries) s.0) (slots_from v.plan.start k)) (sym shape.slots) in
+      ap (λ (k : ℕ). filter (λ (s : Slot). is_nil_at (reverse v.log.entries) s.0) (slots_from v.plan.start k)) (sym slots) in
       ap (λ (ns : List Slot). let x : Ended = record { plan = v.plan; nils = ns } in x) nils ∙ ap made old-plan
 
   standing-is : IsStanding v.setup (epochs v.setup (suc past.epoch) (reverse v.log.entries)) standing
   standing-is =
       subst (λ (x : Ended). IsStanding v.setup (x ∷ epochs v.setup past.epoch (reverse v.log.entries)) standing) ended-is
-      (learned (epochs v.setup past.epoch (reverse v.log.entries)) (subst (λ (p : List Ended). IsStanding v.setup p v.standing) (sym same-epochs) tied.standing))
+      (learned (epochs v.setup past.epoch (reverse v.log.entries)) (subst (λ (p : List Ended). IsStanding v.setup p v.standing) (sym same-epochs) over.standing))
 
   plan-is : plan ≡ plan_at v.setup (reverse v.log.entries) (suc past.epoch)
   plan-is =
       divided (epochs v.setup (suc past.epoch) (reverse v.log.entries)) standing-is
-      ∙ ap (λ (k : ℕ). plan_by v.setup k start (conduct_of (epochs v.setup (suc past.epoch) (reverse v.log.entries)))) at
+      ∙ ap (λ (k : ℕ). plan_by v.setup k (v.plan.start + v.setup.epoch) (conduct_of (epochs v.setup (suc past.epoch) (reverse v.log.entries)))) at
       ∙ ap (λ (k : ℕ). plan_by v.setup (suc past.epoch) k (conduct_of (epochs v.setup (suc past.epoch) (reverse v.log.entries)))) (begins ∙ sym room)
 
   plan-start : plan.start ≡ suc past.epoch * v.setup.epoch
   plan-start = ap (λ (p : Plan). p.start) plan-is ∙ room
 
   -- the identities of the log: those of the epoch, and those before it
-  members : (x : ReqId) → (has_id x v.logged || has_id x (log_ids (before_own (rules_of v.setup) m v.me.0 past))) ≡ has_id x (log_ids (reverse v.log.entries))
+  members : (x : ReqId) → (has_id x v.logged || has_id x (log_ids before)) ≡ has_id x (log_ids (reverse v.log.entries))
   members x =
-      let q = tied.start in
-      let n = bf-long m stands v shape past tied in
-      let whole : reverse v.log.entries ≡ joined v.plan.start (reverse v.log.entries) ++ before_own (rules_of v.setup) m v.me.0 past = split-log (reverse v.log.entries) (before_own (rules_of v.setup) m v.me.0 past) v.plan.start (q ∙ sym n) part in
-      ap (λ b. b || has_id x (log_ids (before_own (rules_of v.setup) m v.me.0 past))) (tied.logged x ∙ ap (λ (ys : List Value). has_id x (log_ids (joined v.plan.start ys))) tied.log)
-      ∙ sym (has_id-append x (log_ids (joined v.plan.start (reverse v.log.entries))) (log_ids (before_own (rules_of v.setup) m v.me.0 past)))
-      ∙ sym (ap (λ (ys : List ReqId). has_id x ys) (log_ids-append (joined v.plan.start (reverse v.log.entries)) (before_own (rules_of v.setup) m v.me.0 past)))
+      let q = over.start in
+      let n = over.size in
+      let whole : reverse v.log.entries ≡ joined v.plan.start (reverse v.log.entries) ++ before = split-log (reverse v.log.entries) before v.plan.start (q ∙ sym n) over.part in
+      ap (λ b. b || has_id x (log_ids before)) (over.logged x)
+      ∙ sym (has_id-append x (log_ids (joined v.plan.start (reverse v.log.entries))) (log_ids before))
+      ∙ sym (ap (λ (ys : List ReqId). has_id x ys) (log_ids-append (joined v.plan.start (reverse v.log.entries)) before))
       ∙ sym (ap (λ (ys : List Value). has_id x (log_ids ys)) whole)
 
   noted-is : StandsFor windows (noted_before (reverse v.log.entries))
   noted-is =
-      let all : (x : ReqId) → has_id x (notes (noted_before (before_own (rules_of v.setup) m v.me.0 past)) v.logged).all ≡ has_id x (log_ids (reverse v.log.entries)) =
-      λ x. noted-all x v.logged (noted_before (before_own (rules_of v.setup) m v.me.0 past)) ∙ members x in
-      stands-same windows (and_closed (notes (noted_before (before_own (rules_of v.setup) m v.me.0 past)) v.logged)) (noted_before (reverse v.log.entries))
-      (closed (noted_before (before_own (rules_of v.setup) m v.me.0 past)) tied.rests.noted) all all
-
-  nothing : (l : ℕ) → past.evidence (suc past.epoch) l ≡ []
-  nothing l = tied.sound.unborn (suc past.epoch) l (omega arith)
+      let all : (x : ReqId) → has_id x (notes (noted_before before) v.logged).all ≡ has_id x (log_ids (reverse v.log.entries)) =
+      λ x. noted-all x v.logged (noted_before before) ∙ members x in
+      stands-same windows (and_closed (notes (noted_before before) v.logged)) (noted_before (reverse v.log.entries))
+      (closed (noted_before before) over.rests.noted) all all
 
   empty : (k : ℕ) → suc past.epoch * v.setup.epoch ≤ k → value_at v.log k ≡ None
-  empty k le = let q = tied.start in tied.outside k (omega (arith, q, le))
+  empty k le = let q = over.start in over.outside k (omega (arith, q, le))
 
   cells : (k : ℕ) → suc past.epoch * v.setup.epoch ≤ k → value_at v.log k ≡ slot_value (rules_of v.setup) m v.me.0 (reverse v.log.entries) (advanced past) k
   cells k le =
       let l = (rules_of v.setup).leader (reverse v.log.entries) (suc past.epoch) k in
-      empty k le ∙ sym (ap (λ (ys : List (Item Msg)). delivered m ((rules_of v.setup).params (reverse v.log.entries) (suc past.epoch) l) v.me.0 ys k) (nothing l))
+      empty k le ∙ sym (ap (λ (ys : List (Item Msg)). delivered m ((rules_of v.setup).params (reverse v.log.entries) (suc past.epoch) l) v.me.0 ys k) (over.unborn l))
 
-  params-is : (l : ℕ) → params_by v.setup epoch plan l ≡ (rules_of v.setup).params (reverse v.log.entries) (suc past.epoch) l
+  params-is : (l : ℕ) → params_by v.setup (v.epoch + 1) plan l ≡ (rules_of v.setup).params (reverse v.log.entries) (suc past.epoch) l
   params-is l = ap (λ (k : ℕ). params_by v.setup k plan l) at ∙ ap (λ (p : Plan). params_by v.setup (suc past.epoch) p l) plan-is
 
-  sound-next : (F : Formats Msg) → IsSoundCore (rules_of v.setup) m v.me.0 (in_next_epoch (core_of v past))
-  sound-next F = ends-sound F (rules_of v.setup) m v.me.0 (has-slots v.setup shape.good.good) (are-windows v.setup) (core_of v past) tied.sound complete
-
-  tied-over : (F : Formats Msg) → IsTiedOver m stands opened (advanced past) (reverse v.log.entries)
-  tied-over F = record {
+  tied-over : IsTiedOver m stands opened (advanced past) (reverse v.log.entries)
+  tied-over = record {
     epoch = at;
-    log = log-same;
-    chained = tied.chained;
-    rests = record { divided = plan-is; width = width ∙ tied.rests.width; noted = noted-is };
+    log = over.log;
+    chained = over.chained;
+    rests = record { divided = plan-is; width = width ∙ over.rests.width; noted = noted-is };
     standing = standing-is;
     start = plan-start;
-    begun = let n = log-long in let k = length-reverse v.log.entries in let p = plan-start in omega (arith, n, k, p);
+    begun = let n = over.long in let k = length-reverse v.log.entries in let p = plan-start in omega (arith, n, k, p);
     cells = λ k lo hi. let p = plan-start in cells k (omega (arith, p, lo));
     outside = λ k le. let p = plan-start in empty k (omega (arith, p, le));
-    hole = tied.hole;
+    hole = over.hole;
     leading = started.leading;
     instances = λ l g h. record {
       params = started.params l g h ∙ params-is l;
       node = started.node l g h;
-      instance = subst (λ (ys : List (Item Msg)). IsInstance stands g ys) (sym (nothing l)) (started.instances l g h);
+      instance = subst (λ (ys : List (Item Msg)). IsInstance stands g ys) (sym (over.unborn l)) (started.instances l g h);
     };
-    accepted = λ l. sym (ap (λ (ys : List (Item Msg)). accepts ys) (nothing l));
+    accepted = λ l. sym (ap (λ (ys : List (Item Msg)). accepts ys) (over.unborn l));
     logged = λ x.
-        let p = plan-start in let n = log-long in
+        let p = plan-start in let n = over.long in
         let none : length (reverse v.log.entries) - plan.start ≡ 0 = omega (arith, p, n) in
-        sym (ap (λ (ys : List Value). has_id x (log_ids (joined plan.start ys))) log-same ∙ ap (λ (k : ℕ). has_id x (log_ids (take k (reverse v.log.entries)))) none);
-    flown = tied.flown;
-    sound = sound-next F;
-    keys = tied.keys;
+        sym (ap (λ (ys : List Value). has_id x (log_ids (joined plan.start ys))) over.log ∙ ap (λ (k : ℕ). has_id x (log_ids (take k (reverse v.log.entries)))) none);
+    flown = over.flown;
+    sound = over.sound;
+    keys = over.keys;
   }
 
-  pub parts-opened : (F : Formats Msg) → AreParts m stands opened (in_next_epoch (core_of v past))
-  parts-opened F = record { core = refl; tied = subst (λ (ys : List Value). IsTiedOver m stands opened (advanced past) ys) (sym before-same) (tied-over F) }
+  pub parts-opened : AreParts m stands opened (in_next_epoch (core_of v past))
+  parts-opened = record { core = refl; tied = subst (λ (ys : List Value). IsTiedOver m stands opened (advanced past) ys) (sym over.own) tied-over }
 
 -- ---- whether the epoch is over
 

@@ -14,6 +14,7 @@ use Rattle.iss_model.specs.declared.causes.Refusal.{Refusal}
 use Rattle.iss_model.specs.declared.causes.Why.{Why}
 use Rattle.iss_model.specs.declared.causes.Why.TheVariants.{BadClaim, BadRequest, EarlyFull, Known, NoKeys, NotLeader, NothingToCast, OtherEpoch, OutOfWindow}
 use Rattle.iss_node.proofs.SettleLemmas.{at-core}
+use Rattle.iss_node.specs.Casts.{casting}
 use Rattle.iss_node.specs.State.{AreHeld, AreParts, ReplicaState, bare, core_of, holding}
 use Rattle.iss_node.specs.Steps.{IsHeldStep, IsHeldStepOf, IsLater, IsStep, IsStepOf}
 use Rattle.iss_node.specs.declared.answers.Outcome.{Outcome}
@@ -58,7 +59,7 @@ module _ {Msg : Type 0} (F : Formats Msg) (R : Rules) (m : Module Msg) (me : ℕ
       (drop-held (not (has_leaves m (params_of R m me c.past l) c.leaf)) NoKeys _ _
       (verdict-held (verdict_in R m me c.past l input) (inputs F R m me c l input))))
 
-  onward-held : (t : Turn Msg) (more : Core Msg → Turn Msg) → ((c : Core Msg) → more (holding votes certs c) ≡ with_turn (more c)) → onward (with_turn t) more ≡ with_turn (onward t more)
+  pub onward-held : (t : Turn Msg) (more : Core Msg → Turn Msg) → ((c : Core Msg) → more (holding votes certs c) ≡ with_turn (more c)) → onward (with_turn t) more ≡ with_turn (onward t more)
   onward-held t more h =
       ap (λ (u : Turn Msg). let z : Turn Msg = record { core = u.core; sends = t.sends ++ u.sends; own = t.own ++ u.own; early = t.early ++ u.early; strings = t.strings ++ u.strings } in z) (h t.core)
 
@@ -119,7 +120,7 @@ module _ {Msg : Type 0} (F : Formats Msg) (R : Rules) (m : Module Msg) (me : ℕ
 
   casts-held : (c : Core Msg) (o : Option Slot) → casts_at F R m me (holding votes certs c) o ≡ with_step (casts_at F R m me c o)
   casts-held c None = refl
-  casts-held c (Some s) = drop-held (not (has_leaves m (params_of R m me c.past me) c.leaf)) NoKeys _ _ (ap (λ (z : Turn Msg). Taken z) (settles-held _))
+  casts-held c (Some s) = drop-held (not (has_leaves m (params_of R m me c.past me) c.leaf)) NoKeys _ _ (ap (λ (z : Turn Msg). Taken z) (settles-held (casting F R m me c s)))
 
   pub proposed-held : (c : Core Msg) → step F R m me (holding votes certs c) Proposes ≡ with_step (step F R m me c Proposes)
   proposed-held c = drop-held (not (leads_in R m me c.past me)) NotLeader _ _ (casts-held c (next_slot R m me c))

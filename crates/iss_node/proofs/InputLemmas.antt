@@ -28,7 +28,8 @@ use Rattle.iss_model.specs.Sound.{IsSoundCore, carried, held}
 use Rattle.iss_node.proofs.FlightLemmas.{still-flown}
 use Rattle.iss_node.proofs.GivenLemmas.{given-in, in-given, slot-in, slot-next}
 use Rattle.iss_node.proofs.GrowthLemmas.{log_ids-append, note-all, waiting-is}
-use Rattle.iss_node.proofs.OwnEpoch.{has-slots, log-is, start-at-is, start-is}
+use Rattle.iss_node.proofs.OwnEpoch.{log-is, start-at-is}
+use Rattle.iss_node.proofs.TiedLemmas.{AreRefiled, are-refiled, bf-long, bf-part, grown-is}
 use Rattle.iss_node.specs.Cells.{given}
 use Rattle.iss_node.specs.Flights.{FlightState, IsLanded, landed}
 use Rattle.iss_node.specs.Growth.{IsGrown, and_values, waits_on}
@@ -60,47 +61,6 @@ use Rattle.iss_window.specs.Kept.{StandsFor}
 
 abbrev pub slot_at : ℕ → Slot
 slot_at k = record { 0 = k }
-
--- ---- requests that are all different
-
--- what stands behind a list, all identities being different, is new to it
-pub new-of : (qs w : List Request) → Different (ids (w ++ qs)) → AreNew w qs
-new-of [] w d = tt
-new-of (q ∷ qs) w d =
-    let p = parts-of w (q ∷ qs) d in
-    let none : waits q.id w ≡ false = has-not q.id (ids w) (λ i. p.apart q.id i (inl refl)) in
-    let rest : Different (ids ((w ++ q ∷ []) ++ qs)) = subst (λ (xs : List Request). Different (ids xs)) (sym (append_assoc w (q ∷ []) qs)) d in
-    (none, new-of qs (w ++ q ∷ []) rest)
-
--- ---- the newest part of a log that goes on
-
-take-over : {A : Type 0} (newer old : List A) (n : ℕ) → take (length newer + n) (newer ++ old) ≡ newer ++ take n old
-take-over [] old n = ap (λ (k : ℕ). take k old) (let q : 0 + n ≡ n = omega arith in q)
-take-over (x ∷ newer) old n =
-    let q : suc (length newer) + n ≡ suc (length newer + n) = omega arith in
-    ap (λ (k : ℕ). take k (x ∷ (newer ++ old))) q ∙ ap (λ (xs : List _). x ∷ xs) (take-over newer old n)
-
-pub joined-more : (newer old : List Value) (n : ℕ) → n ≤ length old → joined n (newer ++ old) ≡ newer ++ joined n old
-joined-more newer old n le =
-    let long = length-append newer old in
-    let q : length (newer ++ old) - n ≡ length newer + (length old - n) = omega (arith, long, le) in
-    ap (λ (k : ℕ). take k (newer ++ old)) q ∙ take-over newer old (length old - n)
-
--- a log is its newest part and what is below
-pub split-log : (all low : List Value) (n : ℕ) → n ≡ length low → Extends low all → all ≡ joined n all ++ low
-split-log all low n is x =
-    let q : joined n all ≡ x.0 = ap (λ (k : ℕ). joined k all) is ∙ ap (λ (ys : List Value). joined (length low) ys) x.1 ∙ joined-newer x.0 low in
-    x.1 ∙ ap (λ (ys : List Value). ys ++ low) (sym q)
-
--- the strings of what joins a log, which the model has the other way round
-pub grown-is : (s : Setup) (entries more old new : List Value) → old ≡ reverse entries → new ≡ reverse (entries ++ more) →
-    grown_strings (rules_of s) old new ≡ strings_from s.version (chain_of s.version entries) more
-grown-is s entries more old new p q =
-    ap (λ (z : List Value). grown_strings (rules_of s) z new) p
-    ∙ ap (λ (z : List Value). grown_strings (rules_of s) (reverse entries) z) q
-    ∙ ap (λ (z : List Value). strings_from s.version (chain_of s.version z) (reverse (joined (length (reverse entries)) (reverse (entries ++ more))))) (reverse-reverse entries)
-    ∙ ap (λ (z : List Value). strings_from s.version (chain_of s.version entries) (reverse z)) (ap (λ (z : List Value). joined (length (reverse entries)) z) (reverse-append entries more) ∙ joined-newer (reverse more) (reverse entries))
-    ∙ ap (λ (z : List Value). strings_from s.version (chain_of s.version entries) z) (reverse-reverse more)
 
 -- ---- lists by leader
 
@@ -139,15 +99,6 @@ module _ {M Msg : Type 0} (m : Module Msg) (stands : M → Params → ℕ → Li
   abbrev pub bf : List Value
   bf = before_own (rules_of v.setup) m v.me.0 past
 
-  pub bounded : Bounded past
-  bounded = record { evidence = tied.sound.unborn; adopted = tied.sound.settled }
-
-  pub reached : start_of (rules_of v.setup) (log_of (rules_of v.setup) m v.me.0 past) past.epoch ≤ length (log_of (rules_of v.setup) m v.me.0 past)
-  reached = tied.sound.reached
-
-  pub bf-long : length (before_own (rules_of v.setup) m v.me.0 past) ≡ past.epoch * v.setup.epoch
-  bf-long = length-cut (rules_of v.setup) (log_of (rules_of v.setup) m v.me.0 past) past.epoch reached ∙ start-is v.setup (log_of (rules_of v.setup) m v.me.0 past) past.epoch
-
   pub begins : start_at v.setup (before_own (rules_of v.setup) m v.me.0 past) past.epoch ≡ past.epoch * v.setup.epoch
   begins = let f = shape.fits in let q = tied.start in start-at-is v.setup (before_own (rules_of v.setup) m v.me.0 past) past.epoch (omega (arith, f, q))
 
@@ -166,10 +117,6 @@ module _ {M Msg : Type 0} (m : Module Msg) (stands : M → Params → ℕ → Li
       let low : past.epoch * v.setup.epoch ≤ k = omega (arith, both.0.0, b) in
       let high : k < past.epoch * v.setup.epoch + v.setup.epoch = omega (arith, both.0.1, b) in
       (low, high, ap (λ (o : Option NodeId). number_of o) both.1)
-
-  -- the log before the epoch stands in the log
-  pub bf-part : Extends (before_own (rules_of v.setup) m v.me.0 past) (reverse v.log.entries)
-  bf-part = subst (λ (xs : List Value). Extends (before_own (rules_of v.setup) m v.me.0 past) xs) tied.log (oldest-part (start_of (rules_of v.setup) (log_of (rules_of v.setup) m v.me.0 past) past.epoch) (log_of (rules_of v.setup) m v.me.0 past))
 
   -- ---- the input of the instance of a leader
 
@@ -262,11 +209,11 @@ module _ {M Msg : Type 0} (m : Module Msg) (stands : M → Params → ℕ → Li
     pub new-log : log_of (rules_of v.setup) m v.me.0 next ≡ reverse log.entries
     new-log =
         let was_log : IsLog (rules_of v.setup) m v.me.0 past (reverse v.log.entries) = subst (λ (ys : List Value). IsLog (rules_of v.setup) m v.me.0 past ys) tied.log (log-chain (rules_of v.setup) m v.me.0 past) in
-        log-is v.setup shape.good.good m v.me.0 next next-bounded (before_own (rules_of v.setup) m v.me.0 past) bf-long log cells outside grown.hole v.log.entries grown.joined grown.entries bf-part
+        log-is v.setup shape.good.good m v.me.0 next next-bounded (before_own (rules_of v.setup) m v.me.0 past) (bf-long m stands v shape past tied) log cells outside grown.hole v.log.entries grown.joined grown.entries (bf-part m stands v shape past tied)
         (log-kept (rules_of v.setup) m v.me.0 past next later (reverse v.log.entries) was_log)
 
     pub before-next : before_own (rules_of v.setup) m v.me.0 next ≡ before_own (rules_of v.setup) m v.me.0 past
-    before-next = before-later (rules_of v.setup) m v.me.0 past next past.epoch later reached
+    before-next = before-later (rules_of v.setup) m v.me.0 past next past.epoch later tied.sound.reached
 
     -- ---- the rest of the node after the input
 
@@ -299,75 +246,8 @@ module _ {M Msg : Type 0} (m : Module Msg) (stands : M → Params → ℕ → Li
         keys = keys;
       }
 
-      abbrev newer : List Value
-      newer = reverse grown.joined
-
-      log-more : reverse log.entries ≡ reverse grown.joined ++ reverse v.log.entries
-      log-more = ap (λ (ys : List Value). reverse ys) grown.entries ∙ reverse-append v.log.entries grown.joined
-
-      low : v.plan.start ≤ length (reverse v.log.entries)
-      low = let n = length-reverse v.log.entries in omega (arith, n, tied.begun)
-
-      noted : SameIds logged (log_ids (joined v.plan.start (log_of (rules_of v.setup) m v.me.0 next)))
-      noted = λ x.
-          ap (λ (ys : List ReqId). has_id x ys) joins
-          ∙ note-all x grown.joined v.logged
-          ∙ ap (λ b. b || has_id x (log_ids (reverse grown.joined))) (tied.logged x ∙ ap (λ (ys : List Value). has_id x (log_ids (joined v.plan.start ys))) tied.log)
-          ∙ or-turned (has_id x (log_ids (joined v.plan.start (reverse v.log.entries)))) (has_id x (log_ids (reverse grown.joined)))
-          ∙ sym (has_id-append x (log_ids (reverse grown.joined)) (log_ids (joined v.plan.start (reverse v.log.entries))))
-          ∙ ap (λ (ys : List ReqId). has_id x ys) (sym (log_ids-append (reverse grown.joined) (joined v.plan.start (reverse v.log.entries))))
-          ∙ ap (λ (ys : List Value). has_id x (log_ids ys)) (sym (joined-more (reverse grown.joined) (reverse v.log.entries) v.plan.start low) ∙ ap (λ (ys : List Value). joined v.plan.start ys) (sym log-more ∙ sym new-log))
-        where
-          or-turned : (a b : Bool) → (a || b) ≡ (b || a)
-          or-turned true true = refl
-          or-turned true false = refl
-          or-turned false true = refl
-          or-turned false false = refl
-
-      -- the whole log: that of the epoch, and what was before it
-      whole : log_of (rules_of v.setup) m v.me.0 next ≡ joined v.plan.start (log_of (rules_of v.setup) m v.me.0 next) ++ before_own (rules_of v.setup) m v.me.0 past
-      whole = let q = tied.start in split-log (log_of (rules_of v.setup) m v.me.0 next) (before_own (rules_of v.setup) m v.me.0 past) v.plan.start (q ∙ sym bf-long)
-          (subst (λ (ys : List Value). Extends (before_own (rules_of v.setup) m v.me.0 past) ys) (sym (new-log ∙ log-more)) (longer (before_own (rules_of v.setup) m v.me.0 past) (reverse v.log.entries) (reverse grown.joined) bf-part))
-        where
-          longer : (a b c : List Value) → Extends a b → Extends a (c ++ b)
-          longer a b c x = (c ++ x.0, ap (λ (ys : List Value). c ++ ys) x.1 ∙ sym (append_assoc c x.0 a))
-
-      members : (x : ReqId) → has_id x (log_ids (log_of (rules_of v.setup) m v.me.0 next)) ≡ (has_id x logged || has_id x (log_ids (before_own (rules_of v.setup) m v.me.0 past)))
-      members x =
-          ap (λ (ys : List Value). has_id x (log_ids ys)) whole
-          ∙ ap (λ (ys : List ReqId). has_id x ys) (log_ids-append (joined v.plan.start (log_of (rules_of v.setup) m v.me.0 next)) (before_own (rules_of v.setup) m v.me.0 past))
-          ∙ has_id-append x (log_ids (joined v.plan.start (log_of (rules_of v.setup) m v.me.0 next))) (log_ids (before_own (rules_of v.setup) m v.me.0 past))
-          ∙ ap (λ b. b || has_id x (log_ids (before_own (rules_of v.setup) m v.me.0 past))) (sym (noted x))
-
-      still-waits : fold waits_on v.waiting grown.joined ≡ absent (log_ids (joined (length (log_of (rules_of v.setup) m v.me.0 past)) (log_of (rules_of v.setup) m v.me.0 next))) v.waiting
-      still-waits =
-          waiting-is v.log.entries grown.joined v.waiting
-          ∙ ap (λ (ys : List Value). absent (log_ids (joined (length ys) (reverse (v.log.entries ++ grown.joined)))) v.waiting) (sym tied.log)
-          ∙ ap (λ (ys : List Value). absent (log_ids (joined (length (log_of (rules_of v.setup) m v.me.0 past)) ys)) v.waiting) (ap (λ (ys : List Value). reverse ys) (sym grown.entries) ∙ sym new-log)
-
-      back-is : absent (log_ids (log_of (rules_of v.setup) m v.me.0 next)) (returned (reverse log.entries) v.flight.casts) ≡ absent (log_ids (log_of (rules_of v.setup) m v.me.0 next)) (returned (log_of (rules_of v.setup) m v.me.0 next) v.flight.casts)
-      back-is = ap (λ (ys : List Value). absent (log_ids (log_of (rules_of v.setup) m v.me.0 next)) (returned ys v.flight.casts)) (sym new-log)
-
-      fresh : (F : Formats Msg) → AreNew (fold waits_on v.waiting grown.joined) (absent (log_ids (log_of (rules_of v.setup) m v.me.0 next)) (returned (reverse log.entries) v.flight.casts))
-      fresh F =
-          let turn = inputs F (rules_of v.setup) m v.me.0 (core_of v past) leader.0 input in
-          let p = parts-of turn.core.waiting (carried turn.core.flight) (turn-sound F).different in
-          let d = new-of (absent (log_ids (log_of (rules_of v.setup) m v.me.0 next)) (returned (log_of (rules_of v.setup) m v.me.0 next) v.flight.casts))
-          (absent (log_ids (joined (length (log_of (rules_of v.setup) m v.me.0 past)) (log_of (rules_of v.setup) m v.me.0 next))) v.waiting) p.left in
-          subst (λ (ys : List Request). AreNew ys (absent (log_ids (log_of (rules_of v.setup) m v.me.0 next)) (returned (reverse log.entries) v.flight.casts))) (sym still-waits)
-          (subst (λ (zs : List Request). AreNew (absent (log_ids (joined (length (log_of (rules_of v.setup) m v.me.0 past)) (log_of (rules_of v.setup) m v.me.0 next))) v.waiting) zs) (sym back-is) d)
-
-      waiting-core : (F : Formats Msg) → waiting ≡ (inputs F (rules_of v.setup) m v.me.0 (core_of v past) leader.0 input).core.waiting
-      waiting-core F =
-          returns (log_ids (log_of (rules_of v.setup) m v.me.0 next)) (before_own (rules_of v.setup) m v.me.0 past) tied.rests.noted members (fresh F)
-          ∙ ap (λ (ys : List Request). ys ++ absent (log_ids (log_of (rules_of v.setup) m v.me.0 next)) (returned (reverse log.entries) v.flight.casts)) still-waits
-          ∙ ap (λ (zs : List Request). absent (log_ids (joined (length (log_of (rules_of v.setup) m v.me.0 past)) (log_of (rules_of v.setup) m v.me.0 next))) v.waiting ++ zs) back-is
-
-      long-log : length log.entries ≡ length (log_of (rules_of v.setup) m v.me.0 next)
-      long-log = sym (ap (λ (ys : List Value). length ys) new-log ∙ length-reverse log.entries)
-
-      flight-core : flight.casts ≡ flying (length (log_of (rules_of v.setup) m v.me.0 next)) v.flight.casts
-      flight-core = lands.casts ∙ ap (λ (n : ℕ). flying n v.flight.casts) long-log
+      filed : (F : Formats Msg) → AreRefiled m v past next keys.used waiting flight logged
+      filed F = are-refiled m stands v shape past tied next keys.used log grown.joined grown.entries new-log (turn-sound F).different waiting flight logged joins lands returns
 
       leaf-core : keys.used ≡ v.keys.used + (m.makes P v.me.0 xs input v.keys.used).used
       leaf-core =
@@ -377,8 +257,8 @@ module _ {M Msg : Type 0} (m : Module Msg) (stands : M → Params → ℕ → Li
       pub core-is : (F : Formats Msg) → (inputs F (rules_of v.setup) m v.me.0 (core_of v past) leader.0 input).core ≡ core_of after next
       core-is F = λ t. record {
         past = next;
-        waiting = sym (waiting-core F) t;
-        flight = sym flight-core t;
+        waiting = sym (filed F).waits t;
+        flight = sym (filed F).flies t;
         early = (core_of v past).early;
         votes = [];
         certs = [];
@@ -438,14 +318,6 @@ module _ {M Msg : Type 0} (m : Module Msg) (stands : M → Params → ℕ → Li
               ∙ tied.accepted k
               ∙ sym (ap (λ (ys : List (Item Msg)). accepts ys) (set_at2-other past.evidence past.epoch leader.0 (item ∷ xs) past.epoch k (inr (λ e. ne (sym e)))))
 
-      flown-is : SameIds flight.ids (flown flight.casts)
-      flown-is x =
-          let p = parts-of v.waiting (carried v.flight.casts) tied.sound.different in
-          lands.ids x
-          ∙ ap (λ b. b && not (has_id x (flown (landed (length log.entries) v.flight.casts)))) (tied.flown x)
-          ∙ sym (still-flown (length log.entries) v.flight.casts x p.right)
-          ∙ ap (λ (fs : List (Slot × Batch)). has_id x (flown fs)) (sym lands.casts)
-
       tied-over : (F : Formats Msg) → IsTiedOver m stands after next (before_own (rules_of v.setup) m v.me.0 past)
       tied-over F = record {
         epoch = tied.epoch;
@@ -461,8 +333,8 @@ module _ {M Msg : Type 0} (m : Module Msg) (stands : M → Params → ℕ → Li
         leading = leading;
         instances = instances;
         accepted = accepted-is;
-        logged = noted;
-        flown = flown-is;
+        logged = (filed F).noted;
+        flown = (filed F).same;
         sound = subst (λ (c : Core Msg). IsSoundCore (rules_of v.setup) m v.me.0 c) (core-is F) (turn-sound F);
         keys = record { own = taken.within.same_secret ∙ tied.keys.own; tall = taken.within.same_height ∙ tied.keys.tall };
       }

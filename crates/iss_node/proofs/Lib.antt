@@ -1,3 +1,4 @@
+pub mod AdoptLemmas
 pub mod CastLemmas
 pub mod CellsLemmas
 pub mod ClaimLemmas
@@ -25,8 +26,10 @@ pub mod QueryLemmas
 pub mod RequestLemmas
 pub mod SenderLemmas
 pub mod SettleLemmas
+pub mod SlotLemmas
 pub mod StartLemmas
 pub mod StepLemmas
+pub mod TiedLemmas
 pub mod TransferLemmas
 pub mod ViewLemmas
 pub mod VoteLemmas

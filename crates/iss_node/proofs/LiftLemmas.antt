@@ -29,10 +29,15 @@ module _ {M Msg : Type 0} (m : Module Msg) (stands : M → Params → ℕ → Li
       IfOk-weaker r (λ a. IsStepOf m stands v step w a) (λ a. IsHeldStepOf m stands asked v step w a) (λ a k. held-step m stands v w later step asked a frame k) h
 
   -- what follows of a step that was made
-  pub settled-of : (v mid w : ReplicaState M Msg) (first : Formats Msg → Rules → ℕ → Core Msg → Stepped Msg) (step a : Answered) → IsLater v mid → IsStepOf m stands v first mid step →
+  settled-of : (v mid w : ReplicaState M Msg) (first : Formats Msg → Rules → ℕ → Core Msg → Stepped Msg) (step a : Answered) → IsLater v mid → IsStepOf m stands v first mid step →
       IsSettled m stands mid w step a → IsStepOf m stands v (λ F R me c. settled F R m me (first F R me c)) w a
   settled-of v mid w first step a later h follows = λ past tied.
       let s = first (formats_of v.setup m) (rules_of v.setup) v.me.0 (core_of v past) in
       subst (λ (x : Setup). IsStep m stands (core_of v past) (settled (formats_of x m) (rules_of x) m v.me.0 s) w a) later.setup
       (subst (λ (i : NodeId). IsStep m stands (core_of v past) (settled (formats_of mid.setup m) (rules_of mid.setup) m i.0 s) w a) later.me
       (follows (core_of v past) s (h past tied)))
+
+  pub settled-ok : {E : Type 0} (v mid w : ReplicaState M Msg) (first : Formats Msg → Rules → ℕ → Core Msg → Stepped Msg) (step : Answered) (r : Result Answered E) → IsLater v mid →
+      IsStepOf m stands v first mid step → IfOk r (λ a. IsSettled m stands mid w step a) → IfOk r (λ a. IsStepOf m stands v (λ F R me c. settled F R m me (first F R me c)) w a)
+  settled-ok v mid w first step r later h follows =
+      IfOk-weaker r (λ a. IsSettled m stands mid w step a) (λ a. IsStepOf m stands v (λ F R me c. settled F R m me (first F R me c)) w a) (λ a k. settled-of v mid w first step a later h k) follows

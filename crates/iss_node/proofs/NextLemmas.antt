@@ -7,14 +7,14 @@ use Rattle.iss_model.specs.Concrete.{rules_of}
 use Rattle.iss_model.specs.Formats.{formats_of}
 use Rattle.iss_model.specs.Node.{Core, Formats, Turn, at_instance, claims_in, ended, in_next_epoch, is_nil_at, takes_early, tried}
 use Rattle.iss_model.specs.Past.{Past, is_complete}
-use Rattle.iss_node.proofs.EpochLemmas.{complete-is, parts-opened}
+use Rattle.iss_node.proofs.EpochLemmas.{IsOver, complete-is, parts-opened}
 use Rattle.iss_node.specs.Epochs.{AreStarted, HasClosed, HasOpened, both, notes}
 use Rattle.iss_node.specs.Shape.{AreFrom, IsReplica}
 use Rattle.iss_node.specs.State.{AreParts, IsTied, ReplicaState, core_of, led, seen_one}
 use Rattle.iss_node.proofs.MadeLemmas.{early-made}
 use Rattle.iss_node.proofs.SettleLemmas.{early-not, early-on, ended-by}
 use Rattle.iss_node.specs.Casts.{IsCut}
-use Rattle.iss_node.specs.Steps.{IsEnded, IsLater, IsTurnOf, IsTurned}
+use Rattle.iss_node.specs.Steps.{IsEnded, IsLater, IsNextEpoch, IsTurnOf, IsTurned}
 use Rattle.iss_node.specs.declared.answers.Outcome.{Outcome}
 use Rattle.iss_sb.specs.declared.effects.Input.TheVariants.{Receive}
 use Rattle.iss_node.specs.declared.answers.Accepted.{Accepted}
@@ -23,6 +23,7 @@ use Rattle.iss_request.specs.declared.ids.ReqId.{ReqId}
 use Rattle.iss_request.specs.declared.requests.Batch.{Batch}
 use Rattle.iss_request.specs.declared.ids.NodeId.{NodeId}
 use Rattle.iss_request.specs.declared.ids.Slot.{Slot}
+use Rattle.iss_request.specs.declared.requests.Value.{Value}
 use Rattle.iss_request.specs.declared.setups.Setup.{Setup}
 use Rattle.iss_sb.specs.Calls.{AreToNodes}
 use Rattle.iss_sb.specs.Evidence.{Item, Module}
@@ -73,20 +74,22 @@ emptied-shape m v h = record {
   voters = h.voters;
 }
 
+-- parts whose epoch is over stand for the core in the next one, once it has begun
 module _ {M Msg : Type 0} (m : Module Msg) (stands : M → Params → ℕ → List (Item Msg) → Type 0)
-    (v : ReplicaState M Msg) (shape : IsReplica m v) (past : Past Msg) (tied : IsTied m stands v past)
-    (complete : is_complete (rules_of v.setup) m v.me.0 past ≡ true) (epoch start : ℕ)
-    (epoch_is : epoch ≡ v.epoch + 1) (start_is : start ≡ v.plan.start + v.setup.epoch) (fits : start + v.setup.epoch < 2 ^ 64) where
-  inner : (standing : List Conduct) (windows : Kept) (w : ReplicaState M Msg) →
+    (v : ReplicaState M Msg) (slots : v.plan.slots ≡ v.setup.epoch) (before : List Value) (past : Past Msg) (over : IsOver m v before past) where
+  inner : v.plan.start + v.setup.epoch + v.setup.epoch < 2 ^ 64 → (standing : List Conduct) (windows : Kept) (w : ReplicaState M Msg) →
       ((p : List Ended) → IsStanding v.setup p v.standing → IsStanding v.setup (record { plan = v.plan; nils = filter (λ (s : Slot). is_nil_at (reverse v.log.entries) s.0) (slots_from v.plan.start v.setup.epoch) } ∷ p) standing) →
       ((n : Noted) → StandsFor v.windows n → StandsFor windows (and_closed (notes n v.logged))) → windows.width ≡ v.windows.width →
-      HasOpened stands (record v { standing = standing; windows = windows }) w epoch start → AreParts m stands (record w { early = [] }) (in_next_epoch (core_of v past))
-  inner standing windows w learned closed width o =
+      HasOpened stands (record v { standing = standing; windows = windows }) w (v.epoch + 1) (v.plan.start + v.setup.epoch) → AreParts m stands (record w { early = [] }) (in_next_epoch (core_of v past))
+  inner fits standing windows w learned closed width o =
       subst (λ (z : ReplicaState M Msg). AreParts m stands (record z { early = [] }) (in_next_epoch (core_of v past))) (sym o.rest)
-      (parts-opened m stands v shape past tied complete epoch start windows standing w.plan w.segments epoch_is start_is fits learned closed width o.plan o.started (formats_of v.setup m))
+      (parts-opened m stands v slots before past over windows standing w.plan w.segments fits learned closed width o.plan o.started)
 
-  pub next-parts : (u w : ReplicaState M Msg) → HasClosed v u → u ≡ record v { standing = u.standing; windows = u.windows } → HasOpened stands u w epoch start → AreParts m stands (record w { early = [] }) (in_next_epoch (core_of v past))
-  next-parts u w h rest o = inner u.standing u.windows w h.standing h.windows h.width (subst (λ (z : ReplicaState M Msg). HasOpened stands z w epoch start) rest o)
+  pub next-parts : (w : ReplicaState M Msg) (early : List (Early Msg)) → IsNextEpoch stands v w early → AreParts m stands w (in_next_epoch (core_of v past))
+  next-parts w early h =
+      subst (λ (z : ReplicaState M Msg). AreParts m stands z (in_next_epoch (core_of v past))) (sym h.new_is)
+      (inner h.fits h.over.standing h.over.windows h.begun h.closed.standing h.closed.windows h.closed.width
+      (subst (λ (z : ReplicaState M Msg). HasOpened stands z h.begun (v.epoch + 1) (v.plan.start + v.setup.epoch)) h.rest h.opened))
 
 -- what the log's length says of the epoch
 pub is-over : {M Msg : Type 0} (m : Module Msg) (stands : M → Params → ℕ → List (Item Msg) → Type 0) (v : ReplicaState M Msg) (b c : Bool) → b ≡ nat_le (v.plan.start + v.setup.epoch) (length v.log.entries) → b ≡ c →

@@ -56,6 +56,9 @@ tests-meet {Msg} late far same shape cert chain t ours theirs hashed h k = rw (h
 ahead-is : (a b : ℕ) → nat_lt a b ≡ false → nat_lt b a ≡ not (eqb a b)
 ahead-is a b h = grind (arith, nat_tests)
 
+not-behind : (a b : ℕ) → b ≤ a → nat_lt a b ≡ false
+not-behind a b h = grind (arith, nat_tests)
+
 module _ {M Msg : Type 0} (m : Module Msg) (stands : M → Params → ℕ → List (Item Msg) → Type 0) (v : ReplicaState M Msg) (p : Piece) (c : Core Msg) (h : AreHeld m stands v c) where
   abbrev F : Formats Msg
   F = formats_of v.setup m
@@ -69,13 +72,7 @@ module _ {M Msg : Type 0} (m : Module Msg) (stands : M → Params → ℕ → Li
   abbrev turn : Turn Msg
   turn = onward (adopts_piece R m v.me.0 c p) (takes_each F R m v.me.0 (suc c.past.epoch) c.early)
 
-  -- of an epoch that the node has behind it
-  pub piece-late : nat_lt p.epoch.0 v.epoch ≡ true → IsHeldDropped m stands c (takes_piece F R m v.me.0 c p) v NotNeeded
-  piece-late late =
-      let gone : nat_lt p.epoch.0 c.past.epoch ≡ true = ap (λ (e : ℕ). nat_lt p.epoch.0 e) (sym h.parts.tied.epoch) ∙ late in
-      record { step_is = rw gone refl; stands_for = h }
-
-  module _ (shape : IsReplica m v) (close : nat_lt p.epoch.0 v.epoch ≡ false) where
+  module _ (shape : IsReplica m v) (timely : v.epoch ≤ p.epoch.0) where
     entries-are : v.log.entries ≡ reverse log
     entries-are = sym (reverse-reverse v.log.entries) ∙ ap (λ (xs : List Value). reverse xs) (sym h.parts.tied.log)
 
@@ -101,7 +98,7 @@ module _ {M Msg : Type 0} (m : Module Msg) (stands : M → Params → ℕ → Li
     step-found : takes_piece F R m v.me.0 c p ≡ step_by (Taken turn) (adoption v.setup own (reverse log) c.past.epoch p)
     step-found =
         let e = c.past.epoch in
-        let late : nat_lt p.epoch.0 e ≡ false = ap (λ (k : ℕ). nat_lt p.epoch.0 k) (sym h.parts.tied.epoch) ∙ close in
+        let late : nat_lt p.epoch.0 e ≡ false = not-behind p.epoch.0 e (subst (λ (k : ℕ). k ≤ p.epoch.0) h.parts.tied.epoch timely) in
         let mine = has_shape R (before_own R m v.me.0 c.past) e p in
         let chain : same_end ours (said_in p.cert) ≡ leads_to R (before_own R m v.me.0 c.past) p = ap (λ (z : End). same_end z (said_in p.cert)) (end-same v.setup log e p far) in
         tests-meet (nat_lt p.epoch.0 e) (nat_lt e p.epoch.0) (eqb p.epoch.0 e) mine (is_true_cert R p.cert) (leads_to R (before_own R m v.me.0 c.past) p) (Taken turn) ours (said_in p.cert) hashed late

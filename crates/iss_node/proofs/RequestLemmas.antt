@@ -14,7 +14,7 @@ use Rattle.iss_model.specs.Past.{Past, before_own, log_of}
 use Rattle.iss_model.specs.Sound.{IsSoundCore}
 use Rattle.iss_model.specs.declared.causes.Why.TheVariants.{BadRequest, Known, OutOfWindow}
 use Rattle.iss_node.proofs.GrowthLemmas.{log_ids-append}
-use Rattle.iss_node.proofs.InputLemmas.{bf-long, bf-part, split-log}
+use Rattle.iss_node.proofs.TiedLemmas.{bf-long, bf-part, split-log}
 use Rattle.iss_log.specs.Chains.{ChainsState, IsChainOf}
 use Rattle.iss_log.specs.LogState.{LogState, value_at}
 use Rattle.iss_node.proofs.FlightLemmas.{returned-landed}

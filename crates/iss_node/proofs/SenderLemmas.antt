@@ -6,14 +6,14 @@ use Rattle.iss_base.specs.Lists.{In}
 use Rattle.iss_layout.specs.Layout.{IsFair, Plan, node, nodes_below, plan_of, segment}
 use Rattle.iss_model.specs.Concrete.{keys_of, rules_of}
 use Rattle.iss_model.specs.Runs.{IsSetupOf}
-use Rattle.iss_node.specs.Parcels.{IsFromNode}
+use Rattle.iss_node.specs.Parcels.{IsFromNode, carried}
 use Rattle.iss_model.specs.Past.{log_of}
 use Rattle.iss_request.specs.Log.{has_id, log_ids}
 use Rattle.iss_request.specs.declared.requests.Value.{Value}
 use Rattle.iss_keys.specs.Directories.{AreKeysOf, DirectoryView}
 use Rattle.iss_keys.specs.KeyStates.{KeyState}
 use Rattle.iss_node.specs.declared.parcels.Body.{Body}
-use Rattle.iss_node.specs.declared.parcels.Body.TheVariants.{Message as OfModule, Request as OfClient}
+use Rattle.iss_node.specs.declared.parcels.Body.TheVariants.{Ask as OfAsk, Message as OfModule, Piece as OfPiece, Request as OfClient, Vote as OfVote}
 use Rattle.iss_node.specs.declared.parcels.Parcel.{Parcel}
 use Rattle.iss_packet.specs.Packets.{is_routed, is_routed_as}
 use Rattle.iss_packet.specs.declared.packets.Packet.{Packet}
@@ -27,7 +27,7 @@ use Rattle.iss_sb.specs.declared.effects.Params.{Params}
 use Rattle.iss_sb.specs.Calls.{AreBelow, IsGoodParams}
 use Rattle.iss_sb.specs.Evidence.{Item, Module, delivered}
 
-from-of : (a b : Bool) → (a && b) ≡ true → a ≡ true
+pub from-of : (a b : Bool) → (a && b) ≡ true → a ≡ true
 from-of true b h = refl
 from-of false b h = cc
 
@@ -36,16 +36,31 @@ body-from {Msg} n k lt = go k.body
   where
     go : (b : Body Msg) → IsFromNode n (record { from = k.from; epoch = k.epoch; body = b })
     go (OfModule leader msg) = lt
+    go (OfVote v) = lt
+    go OfAsk = lt
+    go (OfPiece p) = lt
     go (OfClient q) = tt
 
-pub from-node : {Msg : Type 0} (n : ℕ) (p : Packet) (r : Result (Option (Parcel Msg)) NoMemory) → p.kind ≡ Message → is_routed n p ≡ true → IfOk r (λ o. IfSome o (λ k. k.from.0 ≡ p.from)) → IfOk r (λ o. IfSome o (IsFromNode n))
+-- a kind that only nodes send
+pub sender-below : (n : ℕ) (p : Packet) (kind : PacketKind) → p.kind ≡ kind → is_routed n p ≡ true → (is_routed_as n kind p.from p.epoch.0 p.leader ≡ true → nat_lt p.from n ≡ true) → p.from < n
 unfolding is_routed
+sender-below n p kind is routed of_node =
+    let first : nat_lt p.from n ≡ true = of_node (subst (λ (z : PacketKind). is_routed_as n z p.from p.epoch.0 p.leader ≡ true) is routed) in
+    let lt : p.from < n = grind (arith, nat_tests) in
+    lt
+
+pub carried-from : {Msg : Type 0} (n : ℕ) (p : Packet) (body : Option (Body Msg)) (k : Option (Parcel Msg)) → k ≡ carried p body → p.from < n → IfSome k (IsFromNode n)
+carried-from {Msg} n p body k is lt = subst (λ (z : Option (Parcel Msg)). IfSome z (IsFromNode n)) (sym is) (go body)
+  where
+    go : (o : Option (Body Msg)) → IfSome (carried p o) (IsFromNode n)
+    go None = tt
+    go (Some b) = body-from n (record { from = record { 0 = p.from }; epoch = p.epoch; body = b }) lt
+
+pub from-node : {Msg : Type 0} (n : ℕ) (p : Packet) (r : Result (Option (Parcel Msg)) NoMemory) → p.kind ≡ Message → is_routed n p ≡ true → IfOk r (λ o. IfSome o (λ k. k.from.0 ≡ p.from)) → IfOk r (λ o. IfSome o (IsFromNode n))
 from-node n p (Err e) kind routed h = tt
 from-node n p (Ok None) kind routed h = tt
 from-node n p (Ok (Some k)) kind routed h =
-    let as_node : is_routed_as n Message p.from p.epoch.0 p.leader ≡ true = subst (λ (z : PacketKind). is_routed_as n z p.from p.epoch.0 p.leader ≡ true) kind routed in
-    let first : nat_lt p.from n ≡ true = from-of _ _ as_node in
-    let lt : p.from < n = grind (arith, nat_tests) in
+    let lt : p.from < n = sender-below n p Message kind routed (λ first. from-of _ _ first) in
     body-from n k (omega (arith, h, lt))
 
 pub from-any : {Msg : Type 0} (n : ℕ) (r : Result (Option (Parcel Msg)) NoMemory) → IfOk r (λ o. IfSome o (IsFromNode 0)) → IfOk r (λ o. IfSome o (IsFromNode n))
@@ -55,4 +70,7 @@ from-any {Msg} n (Ok (Some k)) h = go k.body h
   where
     go : (b : Body Msg) → IsFromNode 0 (record { from = k.from; epoch = k.epoch; body = b }) → IsFromNode n (record { from = k.from; epoch = k.epoch; body = b })
     go (OfModule leader msg) lt = absurd (omega (arith, lt))
+    go (OfVote v) lt = absurd (omega (arith, lt))
+    go OfAsk lt = absurd (omega (arith, lt))
+    go (OfPiece p) lt = absurd (omega (arith, lt))
     go (OfClient q) lt = tt

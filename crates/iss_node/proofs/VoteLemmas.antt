@@ -14,9 +14,11 @@ use Rattle.iss_model.proofs.Ending.{ended-start, ended-whole}
 use Rattle.iss_model.specs.Concrete.{rules_of}
 use Rattle.iss_model.specs.Formats.{formats_of}
 use Rattle.iss_model.specs.Node.{Core, Formats, OfVote, Turn, claim_of_vote, ends, in_next_epoch, vote_on}
-use Rattle.iss_model.specs.Past.{Past, ended_log, is_complete, log_of}
+use Rattle.iss_model.specs.Past.{Past, before_own, ended_log, is_complete, log_of}
 use Rattle.iss_model.specs.Rules.{Rules}
-use Rattle.iss_node.proofs.InputLemmas.{bounded}
+use Rattle.iss_node.proofs.TiedLemmas.{bounded}
+use Rattle.iss_node.proofs.EpochLemmas.{over-tied}
+use Rattle.iss_node.proofs.NextLemmas.{next-parts}
 use Rattle.iss_node.proofs.OwnEpoch.{has-slots, start-is}
 use Rattle.iss_node.specs.Shape.{IsReplica}
 use Rattle.iss_node.specs.State.{AreParts, IsTied, ReplicaState, core_of, seen_early}
@@ -56,6 +58,21 @@ signed-tied m stands v past tied = record {
   flown = tied.flown;
   sound = kept-sound (formats_of v.setup m) (rules_of v.setup) m v.me.0 (core_of v past) (seen_early v.early) [] [] (v.keys.used + 1) tied.sound;
   keys = record { own = tied.keys.own; tall = tied.keys.tall };
+}
+
+signed-shape : {M Msg : Type 0} (m : Module Msg) (v : ReplicaState M Msg) → IsReplica m v → IsReplica m (record v { keys = record v.keys { used = v.keys.used + 1 } })
+signed-shape m v h = record {
+  good = h.good;
+  me = h.me;
+  directory = h.directory;
+  count = h.count;
+  slots = h.slots;
+  nodes = h.nodes;
+  fits = h.fits;
+  segments = h.segments;
+  early = h.early;
+  version = h.version;
+  voters = h.voters;
 }
 
 -- ---- the vote at an epoch's end
@@ -109,19 +126,19 @@ module _ {M Msg : Type 0} (m : Module Msg) (stands : M → Params → ℕ → Li
   }
 
   -- it is handed out, and the next epoch begins
-  module _ (o : Outcome) (w : ReplicaState M Msg) (early : List (Early Msg)) (handed : IsVoteHandedOut u vote o) (next : IsNextEpoch m stands u w early) (later : IsLater u w) where
+  module _ (o : Outcome) (w : ReplicaState M Msg) (early : List (Early Msg)) (handed : IsVoteHandedOut u vote o) (next : IsNextEpoch stands u w early) (later : IsLater u w) where
     abbrev pub after : ReplicaState M Msg
     after = record v { keys = record v.keys { used = v.keys.used + 1 } }
 
     there : IsVoteHandedOut after vote o
     there = subst (λ (z : ReplicaState M Msg). IsVoteHandedOut z vote o) voted.rest handed
 
-    begins : IsNextEpoch m stands after w early
-    begins = subst (λ (z : ReplicaState M Msg). IsNextEpoch m stands z w early) voted.rest next
+    begins : IsNextEpoch stands after w early
+    begins = subst (λ (z : ReplicaState M Msg). IsNextEpoch stands z w early) voted.rest next
 
     parts : AreParts m stands w (record (in_next_epoch (core_of v past)) { leaf = suc v.keys.used })
     parts = subst (λ (k : ℕ). AreParts m stands w (record (in_next_epoch (core_of v past)) { leaf = k })) (add-one v.keys.used)
-        (begins.stands_for past (signed-tied m stands v past tied) complete)
+        (next-parts m stands after shape.slots (before_own (rules_of v.setup) m v.me.0 past) past (over-tied m stands after (signed-shape m v shape) past (signed-tied m stands v past tied) complete) w early begins)
 
     abbrev packet : Vote → List ℕ
     packet z = spell_packet v.setup.version (record { kind = Of_vote; from = z.by.0; epoch = z.epoch; leader = 0; body = spell_vote z })
@@ -140,7 +157,7 @@ module _ {M Msg : Type 0} (m : Module Msg) (stands : M → Params → ℕ → Li
 
 -- the epoch's end
 pub ended-all : {M Msg : Type 0} (m : Module Msg) (stands : M → Params → ℕ → List (Item Msg) → Type 0) (v u w : ReplicaState M Msg) (shape : IsReplica m v) (vote : Vote) (o : Outcome) (early : List (Early Msg)) →
-    IsVoted v u vote → IsVoteHandedOut u vote o → IsNextEpoch m stands u w early → IsLater u w → IsEnded m stands v w o early
+    IsVoted v u vote → IsVoteHandedOut u vote o → IsNextEpoch stands u w early → IsLater u w → IsEnded m stands v w o early
 ended-all m stands v u w shape vote o early voted handed next later = record {
   turned = λ past tied complete. ended-so m stands v shape past tied complete u vote voted o w early handed next later;
   kept = next.kept ∙ ap (λ (z : ReplicaState _ _). z.early) voted.rest;

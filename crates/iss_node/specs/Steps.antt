@@ -1,14 +1,15 @@
 -- What a node's answer to an event says of the model's step.
-use Rattle.std.specs.Prelude.{◌≡◌, ◌<◌, ℕ, true, List, Result, Ok, Err, take}
+use Rattle.std.specs.Prelude.{◌≡◌, ◌<◌, ◌+◌, ◌^◌, ℕ, true, List, [], Result, Ok, Err, take}
 use Rattle.iss_log.specs.LogState.{GoesOn}
 use Rattle.iss_model.specs.Concrete.{rules_of}
 use Rattle.iss_model.specs.Formats.{formats_of}
-use Rattle.iss_model.specs.Node.{Core, Dropped as Not_taken, Formats, Stepped, Taken as Was_taken, Turn, ends, in_next_epoch, settled}
+use Rattle.iss_model.specs.Node.{Core, Dropped as Not_taken, Formats, Stepped, Taken as Was_taken, Turn, ends, settled}
 use Rattle.iss_model.specs.Past.{Past, is_complete}
 use Rattle.iss_model.specs.Rules.{Rules}
 use Rattle.iss_model.specs.declared.causes.NodeEvent.{NodeEvent}
 use Rattle.iss_model.specs.declared.causes.NodeEvent.TheVariants.{Packet as Gets, Propose as Proposes, Timeout as Fires, AskFrom as Asks}
 use Rattle.iss_model.specs.declared.causes.Why.{Why}
+use Rattle.iss_node.specs.Epochs.{HasClosed, HasOpened}
 use Rattle.iss_node.specs.State.{AreHeld, AreParts, IsTied, NodeState, ReplicaState, Stands, core_of}
 use Rattle.iss_node.specs.declared.answers.Answer.{Answer}
 use Rattle.iss_node.specs.declared.answers.Answer.TheVariants.{Dropped, NoMemory, Stale, Taken}
@@ -85,11 +86,16 @@ pub record IsEnded {M Msg : Type 0} (m : Module Msg) (stands : M → Params → 
       IsTurned m stands (ends (formats_of old.setup m) (rules_of old.setup) m old.me.0 (core_of old past)) new outcome
   pub kept : early ≡ old.early
 
--- the epoch's end, where it is complete
-pub record IsNextEpoch {M Msg : Type 0} (m : Module Msg) (stands : M → Params → ℕ → List (Item Msg) → Type 0) (old new : ReplicaState M Msg)
+-- the epoch's end, whatever past the parts are tied to: it was closed, and the next one opened
+pub record IsNextEpoch {M Msg : Type 0} (stands : M → Params → ℕ → List (Item Msg) → Type 0) (old new : ReplicaState M Msg)
     (early : List (Early Msg)) : Type 0 where
-  pub stands_for : (past : Past Msg) → IsTied m stands old past → is_complete (rules_of old.setup) m old.me.0 past ≡ true →
-      AreParts m stands new (in_next_epoch (core_of old past))
+  pub over : ReplicaState M Msg
+  pub begun : ReplicaState M Msg
+  pub closed : HasClosed old over
+  pub rest : over ≡ record old { standing = over.standing; windows = over.windows }
+  pub opened : HasOpened stands over begun (old.epoch + 1) (old.plan.start + old.setup.epoch)
+  pub fits : old.plan.start + old.setup.epoch + old.setup.epoch < 2 ^ 64
+  pub new_is : new ≡ record begun { early = [] }
   pub kept : early ≡ old.early
 
 -- it is the same node, and its log goes on

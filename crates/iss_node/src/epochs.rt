@@ -117,7 +117,7 @@ impl<M: Sequenced> Replica<M> {
     /// The epoch is over, and the next one begins with fresh instances. Gives the messages that came early for it. Want
     /// of memory comes also where slots would pass 2^64 - 1.
     pub(crate) fn next_epoch(&mut self, alloc: Global) -> Result<Vec<Early<M::Msg>>, NoMemory>
-        ensures next { IfOk result (λ early. IsNextEpoch M.meaning M.stands self.old self.new early.items) }
+        ensures next { IfOk result (λ early. IsNextEpoch M.stands self.old self.new early.items) }
         ensures from { IfOk result (λ early. AreFrom self.new.setup.n early.items) }
         ensures later { IsLater self.old self.new }
     {

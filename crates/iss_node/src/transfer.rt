@@ -1,5 +1,5 @@
 //! Asks and pieces: how a node hands out an epoch, and takes one over.
-ghost use Rattle.std.specs.Prelude.{◌≡◌, ◌<◌, ◌∷◌, [], IfOk, List};
+ghost use Rattle.std.specs.Prelude.{◌≡◌, ◌<◌, ◌≤◌, ◌∷◌, [], IfOk, List, drop, length, take};
 ghost use Rattle.iss_checkpoint.specs.Votes.{voters_of};
 ghost use Rattle.iss_log.specs.Chains.{IsChainOf};
 ghost use Rattle.iss_model.specs.Node.{asking, cert_on, hands_out, Taken as Was_taken, takes_piece};
@@ -64,20 +64,18 @@ impl<M: Sequenced> Replica<M> {
         let Some(slots) = self.slots_of(epoch) else {
             return Ok(None);
         };
-        let mut values = Row::new(alloc);
-        for value in &self.log.entries()[slots.0..slots.1] {
-            values.push(value.copy()?)?;
-        }
-        Ok(Some(values))
+        let values = between(self.log.entries(), slots.0, slots.1);
+        Ok(Some(copies_of(alloc, values)?))
     }
 
     // From which slot to which an epoch goes, if the log holds all of them.
     fn slots_of(&self, epoch: Epoch) -> Option<(usize, usize)>
         ensures { result ≡ held_slots self.now epoch.0 }
     {
+        let held = self.log.entries().len() as u64;
         let next = epoch.0.checked_add(1)?;
         let end = next.checked_mul(self.setup.epoch)?;
-        if end > self.log.entries().len() as u64 {
+        if end > held {
             return None;
         }
         Some(((end - self.setup.epoch) as usize, end as usize))
@@ -160,6 +158,25 @@ impl<M: Sequenced> Replica<M> {
     }
 }
 
+// The values from one place to another.
+fn between(values: &[Value], first: usize, end: usize) -> &[Value]
+    requires rising { first ≤ end }
+    requires within { end ≤ length values.now }
+    ensures { result.now ≡ drop first (take end values.now) }
+{
+    &values[first..end]
+}
+
+fn copies_of(alloc: Global, values: &[Value]) -> Result<Row<Value>, NoMemory>
+    ensures { IfOk result (λ row. row ≡ values.now) }
+{
+    let mut copies = Row::new(alloc);
+    for value in values {
+        copies.push(value.copy()?)?;
+    }
+    Ok(copies)
+}
+
 // Values with their slots, from the first on.
 fn at_slots(alloc: Global, first: Slot, values: Row<Value>) -> Result<Vec<(Slot, Value)>, NoMemory>
     ensures { IfOk result (λ ds. ds.items ≡ at_slots first.0 values) }
@@ -168,7 +185,10 @@ fn at_slots(alloc: Global, first: Slot, values: Row<Value>) -> Result<Vec<(Slot,
     let mut next = first.0;
     for value in values.into_vec() {
         delivers.push((Slot(next), value))?;
-        next = next.checked_add(1).ok_or(NoMemory)?;
+        let Some(after) = next.checked_add(1) else {
+            return Err(NoMemory);
+        };
+        next = after;
     }
     Ok(delivers)
 }

@@ -1,14 +1,14 @@
 -- Runs, event by event.
-use Rattle.std.proofs.Common.{◌≡◌, ℕ, zero, suc, ◌+◌, ◌<◌, ◌≤◌, List, [], ◌∷◌, ◌++◌, length, take, get_or, refl, sym, ap, ◌∙◌, subst, arith, add-one, Option, Some, None, reverse, append_assoc, drop, ◌-◌, Bool, true, false, cond}
+use Rattle.std.proofs.Common.{◌≡◌, ℕ, zero, suc, ◌+◌, ◌<◌, ◌≤◌, List, [], ◌∷◌, ◌++◌, length, take, get_or, refl, sym, ap, ◌∙◌, subst, arith, add-one, Option, Some, None, reverse, append_assoc, drop, Bool, true, false, cond}
 use Rattle.std.proofs.lemmas.List.{append-nil, reverse-append, take-append-drop}
 use Rattle.iss_model.specs.Concrete.{rules_of}
 use Rattle.iss_model.specs.Formats.{formats_of}
 use Rattle.iss_base.specs.Lists.{nth}
-use Rattle.iss_model.specs.Node.{Dropped, Formats, OfRequest, Stepped, Taken, Turn, step}
+use Rattle.iss_model.specs.Node.{Dropped, Formats, OfRequest, Stepped, Taken, step}
 use Rattle.iss_model.specs.Past.{log_of}
 use Rattle.iss_model.specs.Rules.{Rules}
 use Rattle.iss_model.specs.OneLog.{run_after}
-use Rattle.iss_model.specs.Run.{End, Forged, Collision, Happening, Held, Net, Progress, after_step, at_core, begin_run, by_collision, by_forged, calms, claims_at, collision_in, delivered_to, delivers, delivers_each, done, early_of, ended_at, first_forged, goes_further, goes_on, happens, loses, node_of, noted, pumps, request_of, run, turned_to, unless, with_network}
+use Rattle.iss_model.specs.Run.{End, Happening, Held, Net, Progress, after_step, at_core, begin_run, by_collision, by_forged, calms, claims_at, collision_in, delivered_to, delivers, delivers_each, done, early_of, ended_at, first_forged, goes_further, goes_on, happens, loses, node_of, noted, pumps, request_of, turned_to, unless, with_network}
 use Rattle.iss_model.proofs.Evidence.{run-stays}
 use Rattle.iss_model.proofs.Runs.{run-append}
 use Rattle.iss_model.proofs.Twins.{node-is}

@@ -33,7 +33,8 @@ abbrev pub text_of : {Msg : Type 0} → Setup → Module Msg → Progress Msg �
 text_of s M p = drop_lines p.drops ++ node_blocks s M p.held.net s.n ++ end_line p.ended
 
 -- The bytes report these events: they are the text of their run, up to its end, which it shows evidence for. Its logs are of one
--- log, which more events only make longer, and each request that a correct node took is in one place.
+-- log, which more events only make longer, each request that a correct node took is in one place, certificates are of logs of
+-- correct nodes, and what was adopted was delivered.
 pub record IsReport {Msg : Type 0} (s : Setup) (M : Module Msg) (events : List Event) (bytes : List ℕ) : Type 0 where
   pub tells : bytes ≡ text_of s M (run_after s M events)
   pub one_log : IsOneLog s M events

@@ -24,7 +24,8 @@ use iss_world::ends::End;
 use std::alloc::Global;
 
 /// The text of a report: a line for each event that was lost, the block of each correct node, and the last line. Where it is
-/// the report of a schedule, its logs are of one log and its requests are conserved, as `replay` says.
+/// the report of a schedule, its logs are of one log, its requests are conserved, certificates are of logs of correct nodes, and
+/// what was adopted was delivered, as `replay` says.
 pub fn text<M: Sequenced>(alloc: Global, report: &Report<M>) -> Result<Bytes, NoMemory>
     ensures tells { IfOk result (λ bytes. (p : Progress M.Msg) → StandsForRun M.meaning M.stands report.now.world report.now.drops report.now.ended p →
         bytes ≡ text_of report.now.world.running.setup M.meaning p) }
