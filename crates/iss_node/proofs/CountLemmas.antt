@@ -8,6 +8,7 @@ use Rattle.iss_checkpoint.specs.declared.votes.Vote.{Vote}
 use Rattle.iss_keys.proofs.DirectoryLemmas.{node-below, verified-by}
 use Rattle.iss_keys.specs.Directories.{DirectoryView}
 use Rattle.iss_keys.specs.VerifiedBy.{is_verified_by}
+use Rattle.iss_model.proofs.Checked.{vote-same}
 use Rattle.iss_model.specs.Concrete.{keys_of, rules_of}
 use Rattle.iss_model.specs.Formats.{formats_of}
 use Rattle.iss_model.specs.Node.{Core, Dropped, Stepped, Taken, Turn, all_verify, claim_of_vote, counted, is_counted, rests, takes_vote}
@@ -24,30 +25,9 @@ use Rattle.iss_sb.specs.Evidence.{Item, Module}
 use Rattle.iss_sb.specs.declared.effects.Claim.{Claim}
 use Rattle.iss_sb.specs.declared.effects.Params.{Params}
 
-and-on : (a : Bool) → (a && true) ≡ a
-and-on true = refl
-and-on false = refl
-
-and-off : (a : Bool) → (a && false) ≡ false
-and-off true = refl
-and-off false = refl
-
--- under a set-up's keys only nodes sign
-pub signed-verified : (s : Setup) (k : ℕ) (statement sig : List ℕ) → is_signed (voters_of s (keys_of s)) statement k sig ≡ (rules_of s).verifies k statement sig
-signed-verified s k statement sig = go (is_verified_by (keys_of s).nodes k statement sig) refl
-  where
-    go : (b : Bool) → is_verified_by (keys_of s).nodes k statement sig ≡ b → (nat_lt k s.n && is_verified_by (keys_of s).nodes k statement sig) ≡ is_verified_by (keys_of s).nodes k statement sig
-    go true q =
-        let lt : k < s.n = node-below s.n s.clients s.keys k statement sig ((verified-by (keys_of s).nodes k statement sig).0 q) in
-        ap (λ (b : Bool). b && is_verified_by (keys_of s).nodes k statement sig) (lt-ltb k s.n lt)
-    go false q = ap (λ (b : Bool). nat_lt k s.n && b) q ∙ and-off (nat_lt k s.n) ∙ sym q
-
 -- a vote's claim verifies where the vote is true
 pub true-verified : (s : Setup) (w : Voters) (v : Vote) → w ≡ voters_of s (keys_of s) → all_verify (rules_of s) (claim_of_vote (rules_of s) v ∷ []) ≡ is_true w v
-true-verified s w v is =
-    and-on ((rules_of s).verifies v.by.0 ((rules_of s).voted v.epoch.0 v.chain v.requests) v.sig)
-    ∙ sym (signed-verified s v.by.0 ((rules_of s).voted v.epoch.0 v.chain v.requests) v.sig)
-    ∙ ap (λ (z : Voters). is_true z v) (sym is)
+true-verified s w v is = sym (vote-same s v) ∙ ap (λ (z : Voters). is_true z v) (sym is)
 
 -- the step of a vote, by what the node finds
 pub vote-step : {Msg : Type 0} (R : Rules) (c : Core Msg) (v : Vote) (a b k : Bool) → nat_lt (suc c.past.epoch) v.epoch.0 ≡ a → all_verify R (claim_of_vote R v ∷ []) ≡ b → is_counted c v ≡ k →

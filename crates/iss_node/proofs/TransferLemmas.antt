@@ -32,31 +32,6 @@ use Rattle.iss_sb.specs.declared.effects.To.TheVariants.{One}
 use Rattle.iss_transfer.specs.Bodies.{spell_piece}
 use Rattle.iss_transfer.specs.declared.pieces.Piece.{Piece}
 
--- ---- an ask
-
-pub asks-so : {M Msg : Type 0} (m : Module Msg) (stands : M → Params → ℕ → List (Item Msg) → Type 0) (v : ReplicaState M Msg) (peer : NodeId) (o : Outcome) (bytes : List ℕ) →
-    bytes ≡ spell_packet v.setup.version (record { kind = Of_ask; from = v.me.0; epoch = record { 0 = v.epoch }; leader = 0; body = [] }) →
-    o ≡ record { sends = (One peer, bytes) ∷ []; own = []; early = []; hashed = [] } → (c : Core Msg) → AreHeld m stands v c →
-    IsHeldTaken m stands (peer.0 < v.setup.n) (Taken (asking (formats_of v.setup m) v.me.0 c peer)) v o
-asks-so m stands v peer o bytes spelled is c h =
-    let epoch : v.epoch ≡ c.past.epoch = h.parts.tied.epoch in
-    let packet : ℕ → List ℕ = λ e. spell_packet v.setup.version (record { kind = Of_ask; from = v.me.0; epoch = record { 0 = e }; leader = 0; body = [] }) in
-    let sent : o.sends ≡ (One peer, packet c.past.epoch) ∷ [] = ap (λ (z : Outcome). z.sends) is ∙ ap (λ (bs : List ℕ). (One peer, bs) ∷ []) (spelled ∙ ap (λ (e : ℕ). packet e) epoch) in
-    record {
-      turn = asking (formats_of v.setup m) v.me.0 c peer;
-      step_is = refl;
-      turned = record {
-        stands_for = h;
-        made = record {
-          sends = sent;
-          own = ap (λ (z : Outcome). z.own) is;
-          early = ap (λ (z : Outcome). z.early) is;
-          hashed = ap (λ (z : Outcome). z.hashed) is;
-        };
-        addressed = λ low. subst (λ (xs : List (To × List ℕ)). AreToNodes v.setup.n xs) (sym sent) (low, tt);
-      };
-    }
-
 -- ---- the values of an epoch, which the model has the other way round
 
 take-drop : {A : Type 0} (n : ℕ) (xs : List A) → take n xs ++ drop n xs ≡ xs
@@ -131,9 +106,6 @@ module _ {M Msg : Type 0} (m : Module Msg) (stands : M → Params → ℕ → Li
       ap (λ (k : ℕ). nat_lt (length (log_of R m v.me.0 c.past)) k) (start-is v.setup (log_of R m v.me.0 c.past) (suc e))
       ∙ ap (λ (k : ℕ). nat_lt k (suc e * v.setup.epoch)) (ap (λ (ys : List Value). length ys) log-is ∙ length-reverse v.log.entries)
       ∙ lt-of-le (suc e * v.setup.epoch) (length v.log.entries) t q
-
-  pub hands-none : (o : Option Cert) → o ≡ None → IsHeldDropped m stands c (hands_out F R m v.me.0 c to.0 e o) v NoCert
-  hands-none o is = record { step_is = rw is refl; stands_for = h }
 
   pub hands-short : (o : Option Cert) (cert : Cert) → o ≡ Some cert → None ≡ held_values v e → IsHeldDropped m stands c (hands_out F R m v.me.0 c to.0 e o) v NoCert
   hands-short o cert is gone = let short = lacks false (none-held _ _ gone) in record { step_is = rw (is, short) refl; stands_for = h }
