@@ -28,7 +28,7 @@ struct Signers {
     of_clients: Bytes,
 }
 
-fn signers(alloc: Global, height: u8) -> Result<Signers, Fail>
+fn keys_that_sign(alloc: Global, height: u8) -> Result<Signers, Fail>
     requires low { 2 ≤ height }
     requires high { height ≤ 12 }
 {
@@ -147,7 +147,7 @@ pub(crate) fn pieces_of(
     epochs: u32,
     requests: u32,
 ) -> Result<Made, Fail> {
-    let mut signers = signers(alloc, HEIGHT)?;
+    let mut signers = keys_that_sign(alloc, HEIGHT)?;
     let mut made = Made {
         packets: Vec::new(alloc),
         strings: Row::new(alloc),
