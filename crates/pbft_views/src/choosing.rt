@@ -71,12 +71,12 @@ pub fn choice(slot: Slot, changes: &[Change]) -> Result<Value, NoMemory>
 }
 
 /// Its digest.
-pub fn choice_digest(p: &Params, slot: Slot, changes: &[Change]) -> [u8; 32]
+pub fn choice_digest(alloc: Global, p: &Params, slot: Slot, changes: &[Change]) -> [u8; 32]
     ensures { result ≡ digest_of p.now (choice changes.now slot.0) }
 {
     match best_shown(slot, changes) {
-        Some(c) => digest_of(p, &c.value),
-        None => digest_of(p, &Value::Nil),
+        Some(c) => digest_of(alloc, p, &c.value),
+        None => digest_of(alloc, p, &Value::Nil),
     }
 }
 

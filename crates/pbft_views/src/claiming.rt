@@ -31,22 +31,23 @@ fn put_claim(
     all.push(Claim { by, statement, sig })
 }
 
-// The claims of Prepares for what is marked.
+// The claims of Prepares for what is marked. All have one statement.
 fn put_vote_claims(
-    alloc: Global,
     p: &Params,
     mark: &Mark,
+    statement: &Bytes,
     votes: &[Vote],
     all: &mut Row<Claim>,
 ) -> Result<(), NoMemory>
+    requires { statement.now ≡ state_at p.now 2 mark.now.view mark.now.slot.0 mark.now.digest }
     ensures { OnOk result (all.new ≡ all.old ++ vote_claims p.now mark.now.view mark.now.slot.0 mark.now.digest votes.now) }
 {
     match votes {
         [] => Ok(()),
         [first, others @ ..] => {
-            let statement = state_at(alloc, p, PREPARE, mark.view, mark.slot, &mark.digest)?;
-            put_claim(first.node, statement, &first.sig, all)?;
-            put_vote_claims(alloc, p, mark, others, all)
+            let again = statement.copy()?;
+            put_claim(first.node, again, &first.sig, all)?;
+            put_vote_claims(p, mark, statement, others, all)
         }
     }
 }
@@ -64,7 +65,8 @@ fn put_certificate_claims(
 {
     let statement = state_at(alloc, p, PRE_PREPARE, mark.view, mark.slot, &mark.digest)?;
     put_claim(primary(p, mark.view), statement, &c.sig, all)?;
-    put_vote_claims(alloc, p, mark, c.prepares.as_slice(), all)
+    let prepared = state_at(alloc, p, PREPARE, mark.view, mark.slot, &mark.digest)?;
+    put_vote_claims(p, mark, &prepared, c.prepares.as_slice(), all)
 }
 
 // Puts the marks of the certificates behind others, too.
@@ -82,7 +84,7 @@ fn put_certificates_claims(
     match certificates {
         [] => Ok(()),
         [first, others @ ..] => {
-            let mark = mark_of(p, first);
+            let mark = mark_of(alloc, p, first);
             put_certificate_claims(alloc, p, &mark, first, all)?;
             marks.push(mark)?;
             put_certificates_claims(alloc, p, others, marks, all)
@@ -144,7 +146,7 @@ fn put_chosen_claim(
 ) -> Result<(), NoMemory>
     ensures { OnOk result (all.new ≡ all.old ++ claim by.0 (state_at p.now 1 view slot.0 (digest_of p.now (choice changes.now slot.0))) sig.now ∷ []) }
 {
-    let digest = choice_digest(p, slot, changes);
+    let digest = choice_digest(alloc, p, slot, changes);
     let statement = state_at(alloc, p, PRE_PREPARE, view, slot, &digest)?;
     put_claim(by, statement, sig, all)
 }
@@ -202,7 +204,7 @@ fn claims_of_proposal(
 ) -> Result<Row<Claim>, NoMemory>
     ensures { IfOk result (λ all. all ≡ claims p.now from.0 (PrePrepare view slot value.now sig.now)) }
 {
-    let digest = digest_of(p, value);
+    let digest = digest_of(alloc, p, value);
     claims_at(alloc, p, from, PRE_PREPARE, view, slot, &digest, sig)
 }
 

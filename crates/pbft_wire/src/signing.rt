@@ -50,21 +50,34 @@ pub fn string_of(alloc: Global, p: &Params, value: &Value) -> Result<Bytes, NoMe
     Ok(out.into_bytes())
 }
 
-/// The digest of a value.
-pub fn digest_of(p: &Params, value: &Value) -> [u8; 32]
+fn has_requests(value: &Value) -> bool {
+    match value {
+        Value::Nil => false,
+        Value::Batch(batch) => batch.len() > 0,
+    }
+}
+
+/// The digest of a value. Each node asks for it more than once, so the directory remembers that of a long string; without
+/// memory for the string it is made anew.
+pub fn digest_of(alloc: Global, p: &Params, value: &Value) -> [u8; 32]
     ensures { result ≡ digest_of p.now value.now }
 {
+    if has_requests(value) {
+        if let Ok(string) = string_of(alloc, p, value) {
+            return p.directory.directory().digest(string.as_slice());
+        }
+    }
     iss_request::digest_of(p.setup.version, value)
 }
 
 /// What a ViewChange signs of a certificate.
-pub fn mark_of(p: &Params, c: &Certificate) -> Mark
+pub fn mark_of(alloc: Global, p: &Params, c: &Certificate) -> Mark
     ensures { result ≡ mark_of p.now c.now }
 {
     Mark {
         slot: c.slot,
         view: c.view,
-        digest: digest_of(p, &c.value),
+        digest: digest_of(alloc, p, &c.value),
     }
 }
 
@@ -73,7 +86,7 @@ fn marks_of(alloc: Global, p: &Params, certificates: &[Certificate]) -> Result<R
 {
     let mut all = Row::new(alloc);
     for c in certificates {
-        all.push(mark_of(p, c))?;
+        all.push(mark_of(alloc, p, c))?;
     }
     Ok(all)
 }

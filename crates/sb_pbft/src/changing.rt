@@ -79,6 +79,7 @@ fn hash_choices(
 
 // Puts what these ViewChanges choose at these slots, each with its signature.
 fn put_choices(
+    alloc: Global,
     p: &Params,
     view: u16,
     changes: &[Change],
@@ -96,9 +97,9 @@ fn put_choices(
     let [sig, signatures @ ..] = signatures else {
         return Ok(());
     };
-    put_choices(p, view, changes, slots, signatures, proposals)?;
+    put_choices(alloc, p, view, changes, slots, signatures, proposals)?;
     let value = choice(*slot, changes)?;
-    let digest = digest_of(p, &value);
+    let digest = digest_of(alloc, p, &value);
     let sig = sig.copy()?;
     let proposal = Proposal { value, digest, sig };
     proposals.put(view, *slot, proposal)
@@ -232,7 +233,7 @@ impl Pbft {
         let slots = p.slots.as_slice();
         hash_changes(alloc, p, shown, &mut effects)?;
         hash_choices(alloc, p, shown, slots, &mut effects)?;
-        put_choices(p, view, shown, slots, signed, &mut self.proposals)?;
+        put_choices(alloc, p, view, shown, slots, signed, &mut self.proposals)?;
         self.view = view;
         self.active = true;
         let answers = self.follows(p, view);

@@ -13,7 +13,7 @@ use iss_request::{Batch, Bytes, NoMemory, NodeId, Slot, Value};
 use iss_sb::{Effects, Input, Params, To};
 use pbft_views::has_slot;
 use pbft_wire::signing::PRE_PREPARE;
-use pbft_wire::{Message, digest_of, string_of};
+use pbft_wire::{Message, string_of};
 use std::alloc::Global;
 
 // The effects of a batch that is accepted at a slot, with its value and the value's digest.
@@ -28,8 +28,9 @@ fn accept(
     let mut effects = Effects::nothing(alloc);
     effects.accepted = Some((slot, batch.copy()?));
     let value = Value::Batch(batch);
-    let digest = digest_of(p, &value);
-    effects.hashed.push(string_of(alloc, p, &value)?)?;
+    let string = string_of(alloc, p, &value)?;
+    let digest = p.directory.directory().digest(string.as_slice());
+    effects.hashed.push(string)?;
     Ok((value, digest, effects))
 }
 

@@ -128,7 +128,7 @@ fn sign_choices(
     let [slot, others @ ..] = slots else {
         return Ok(());
     };
-    let digest = choice_digest(p, *slot, changes);
+    let digest = choice_digest(alloc, p, *slot, changes);
     let sig = sign_at(alloc, p, PRE_PREPARE, view, *slot, &digest, keys)?;
     all.push(sig)?;
     sign_choices(alloc, p, view, changes, others, keys, all)

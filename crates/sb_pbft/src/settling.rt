@@ -35,17 +35,13 @@ impl Pbft {
         requires { IsGoodParams pbft p.now }
         ensures { result ≡ is_some (committed_at p.now (held self.now) view slot.0) }
     {
-        if !self.is_prepared(p, view, slot) {
+        let Some(proposal) = self.proposals.get(view, slot) else {
             return false;
-        }
-        match self.proposals.get(view, slot) {
-            Some(proposal) => {
-                self.commits
-                    .count(view, slot, &proposal.digest, p.setup.n as u8)
-                    >= 2 * p.setup.f + 1
-            }
-            None => false,
-        }
+        };
+        // Commits come last, so that mostly they are what is missing.
+        let nodes = p.setup.n as u8;
+        let committed = self.commits.count(view, slot, &proposal.digest, nodes);
+        committed >= 2 * p.setup.f + 1 && self.is_prepared(p, view, slot)
     }
 
     // Whether a Commit is due in the own view.

@@ -157,13 +157,13 @@ fn message(alloc: Global, p: &Params, said: Said) -> Result<Message, NoMemory> {
         Said::Prepare(view, nil) => Ok(Message::Prepare {
             view,
             slot,
-            digest: digest_of(p, &value(alloc, nil)),
+            digest: digest_of(alloc, p, &value(alloc, nil)),
             sig,
         }),
         Said::Commit(view, nil) => Ok(Message::Commit {
             view,
             slot,
-            digest: digest_of(p, &value(alloc, nil)),
+            digest: digest_of(alloc, p, &value(alloc, nil)),
             sig,
         }),
         Said::Change(view, shown) => Ok(Message::ViewChange {
