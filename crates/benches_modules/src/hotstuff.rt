@@ -181,14 +181,24 @@ fn check(alloc: Global, p: &Params, from: NodeId, msg: &Message) -> Timed<()>
     Ok(())
 }
 
+// The batch of a slot: the same requests with numbers of their own, so that no two slots have one value.
+fn batch_of(slot: Slot, batch: &Batch) -> Result<Batch, NoMemory> {
+    let mut requests = batch.copy()?.into_requests();
+    let first = ((slot.0 % 65536) as u32).wrapping_mul(32);
+    for request in requests.iter_mut() {
+        request.id.number = request.id.number.wrapping_add(first);
+    }
+    Ok(Batch::of(requests))
+}
+
 /// A number of things, as it is counted here.
-pub fn count_of(things: usize) -> u32 {
+pub(crate) fn count_of(things: usize) -> u32 {
     u32::try_from(things).unwrap_or(u32::MAX)
 }
 
 impl Cluster {
     /// Fresh nodes, which hear Decides or not.
-    pub fn new(alloc: Global, p: &Params, is_cut: bool) -> Timed<Cluster>
+    pub(crate) fn new(alloc: Global, p: &Params, is_cut: bool) -> Timed<Cluster>
         requires { IsGoodParams hotstuff p.now }
     {
         let mut cores = Vec::new(alloc);
@@ -278,13 +288,13 @@ impl Cluster {
         Ok(())
     }
 
-    /// The leader casts in each slot, and the messages of each cast are taken before the next one.
-    pub fn cast_all(&mut self, alloc: Global, p: &Params, batch: &Batch) -> Timed<()>
+    /// The leader casts in each slot, with numbers of its own, and the messages of each cast are taken before the next one.
+    pub(crate) fn cast_all(&mut self, alloc: Global, p: &Params, batch: &Batch) -> Timed<()>
         requires { IsGoodParams hotstuff p.now }
     {
         for k in 0..p.slots.len() as u64 {
             let slot = Slot(k);
-            let batch = batch.copy()?;
+            let batch = batch_of(slot, batch)?;
             self.take(alloc, p, 0, Input::Cast { slot, batch })?;
             self.settle(alloc, p)?;
         }
@@ -292,7 +302,7 @@ impl Cluster {
     }
 
     /// The round ends at each node, and the next one begins. Decides come again.
-    pub fn change_round(&mut self, alloc: Global, p: &Params) -> Timed<()>
+    pub(crate) fn change_round(&mut self, alloc: Global, p: &Params) -> Timed<()>
         requires { IsGoodParams hotstuff p.now }
     {
         self.is_cut = false;

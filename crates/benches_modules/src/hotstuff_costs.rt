@@ -1,5 +1,6 @@
 //! HotStuff: what slots cost in the normal case, and a round that changes behind them. Beside it stand the digests that cannot
-//! be done without: each signature is made once and checked once, and each node hashes each node of the tree once.
+//! be done without: each signature is made once and checked once, each value is hashed once, and each node hashes each node of
+//! the tree once. What one node checked or hashed of a message the others find in the directory that they share.
 ghost use Rattle.std.specs.Prelude.{◌≤◌};
 ghost use Rattle.iss_sb.specs.Calls.{IsGoodParams};
 ghost use Rattle.sb_hotstuff.specs.HotStuff.{hotstuff};
@@ -22,18 +23,23 @@ enum Work {
     Change,
 }
 
-// What was counted of a work, and how long it took.
+// What was counted of a work, and how long it took: its signatures and deliveries, the nodes of the tree that came into it, each
+// at each node, and the values that these hold.
 #[derive(Clone, Copy)]
 struct Cost {
     nanos: u64,
     signatures: u32,
     delivered: u32,
+    nodes: u32,
+    values: u32,
 }
 
 const NOTHING: Cost = Cost {
     nanos: 0,
     signatures: 0,
     delivered: 0,
+    nodes: 0,
+    values: 0,
 };
 
 fn order(rt: &HostRuntime, p: &Params, requests: u32) -> Timed<Cost>
@@ -44,14 +50,18 @@ fn order(rt: &HostRuntime, p: &Params, requests: u32) -> Timed<Cost>
     let mut cluster = Cluster::new(alloc, p, false)?;
     let start = Instant::now(rt)?;
     cluster.cast_all(alloc, p, &batch)?;
+    let nanos = nanos_since(rt, start)?;
+    let slots = count_of(p.slots.len());
     Ok(Cost {
-        nanos: nanos_since(rt, start)?,
+        nanos,
         signatures: count_of(cluster.sent.len()),
         delivered: cluster.delivered,
+        nodes: slots.wrapping_mul(p.setup.n),
+        values: slots,
     })
 }
 
-// No Decide came before the round changes: its own one delivers all slots.
+// No Decide came before the round changes: its own one delivers all slots. It stands on a mark, whose node alone is new.
 fn change(rt: &HostRuntime, p: &Params) -> Timed<Cost>
     requires { IsGoodParams hotstuff p.now }
 {
@@ -65,6 +75,8 @@ fn change(rt: &HostRuntime, p: &Params) -> Timed<Cost>
         nanos: nanos_since(rt, start)?,
         signatures: count_of(cluster.sent.len().wrapping_sub(before)),
         delivered: cluster.delivered,
+        nodes: p.setup.n,
+        values: 0,
     })
 }
 
@@ -88,12 +100,12 @@ fn digests_of(p: &Params, cost: Cost) -> Digests {
         inner: cost
             .signatures
             .wrapping_mul(p.setup.keys)
-            .wrapping_add(cost.delivered),
+            .wrapping_add(cost.nodes),
         leaf: cost.signatures,
     }
 }
 
-// The string of a value, of which each node takes the digest.
+// The string of a value.
 fn value_string(alloc: Global, requests: u32) -> Timed<Bytes> {
     let batch = batch(alloc, requests)?;
     match held_string(alloc, 1, &What::Holds(batch))? {
@@ -141,7 +153,7 @@ fn time_once(rt: &HostRuntime, p: &Params, what: Work) -> Timed<(Cost, u64)>
 {
     let cost = work_once(rt, p, what)?;
     let value = value_string(rt.alloc(), requests_of(what))?;
-    let needed = time_needed(rt, digests_of(p, cost), value.as_slice(), cost.delivered)?;
+    let needed = time_needed(rt, digests_of(p, cost), value.as_slice(), cost.values)?;
     Ok((cost, needed))
 }
 
@@ -190,7 +202,7 @@ fn time_works(rt: &HostRuntime, f: u32, keys: u32, times: u32) -> Timed<()>
 }
 
 /// Times 64 slots and a round that changes behind them, over 4 and over 10 nodes; of each the best of so many times counts.
-pub fn time_all(rt: &HostRuntime, times: u32) -> Timed<()> {
+pub(crate) fn time_all(rt: &HostRuntime, times: u32) -> Timed<()> {
     time_works(rt, 1, 9, times)?;
     time_works(rt, 3, 9, times)
 }
@@ -221,6 +233,6 @@ fn count_in(rt: &HostRuntime, f: u32, keys: u32, count: u64) -> Timed<()>
 }
 
 /// Orders four slots among four nodes and changes the round, and prints how many signatures and deliveries that takes.
-pub fn count_all(rt: &HostRuntime) -> Timed<()> {
+pub(crate) fn count_all(rt: &HostRuntime) -> Timed<()> {
     count_in(rt, 1, 6, 4)
 }

@@ -141,7 +141,7 @@ fn key_with_tree(alloc: Global, node: u8, height: u8) -> Timed<Keys>
 
 impl Cluster {
     /// Fresh nodes.
-    pub fn new(alloc: Global, p: &Params, height: u8) -> Timed<Cluster>
+    pub(crate) fn new(alloc: Global, p: &Params, height: u8) -> Timed<Cluster>
         requires good { IsGoodParams pbft p.now }
         requires low { 2 ≤ height }
         requires high { height ≤ 12 }
@@ -164,7 +164,7 @@ impl Cluster {
     }
 
     /// From now on what is seen is kept.
-    pub fn look(&mut self, alloc: Global, height: u8) -> Timed<()> {
+    pub(crate) fn look(&mut self, alloc: Global, height: u8) -> Timed<()> {
         self.seen = Some(Seen::nothing(alloc, height, self.keys.as_slice())?);
         Ok(())
     }
@@ -227,7 +227,7 @@ impl Cluster {
     }
 
     /// The nodes from the first to below the last hear these messages.
-    pub fn hear_all(
+    pub(crate) fn hear_all(
         &mut self,
         alloc: Global,
         p: &Params,
@@ -246,7 +246,7 @@ impl Cluster {
     }
 
     /// What waits, which waits no more.
-    pub fn drain(&mut self, alloc: Global) -> Timed<Vec<Post>> {
+    pub(crate) fn drain(&mut self, alloc: Global) -> Timed<Vec<Post>> {
         let mut posts = Vec::new(alloc);
         for _ in 0..self.waiting.len() {
             if let Some(post) = self.waiting.pop_front() {
@@ -272,7 +272,7 @@ impl Cluster {
     }
 
     /// The leader casts an empty batch in each slot, and the messages of each cast are heard before the next one.
-    pub fn cast_all(&mut self, alloc: Global, p: &Params) -> Timed<()>
+    pub(crate) fn cast_all(&mut self, alloc: Global, p: &Params) -> Timed<()>
         requires { IsGoodParams pbft p.now }
     {
         let leader = p.leader.0;
@@ -289,7 +289,7 @@ impl Cluster {
     }
 
     /// Time runs out at the first so many nodes.
-    pub fn time_out(&mut self, alloc: Global, p: &Params, many: u32) -> Timed<()>
+    pub(crate) fn time_out(&mut self, alloc: Global, p: &Params, many: u32) -> Timed<()>
         requires { IsGoodParams pbft p.now }
     {
         for at in 0..u8::try_from(many).unwrap_or(u8::MAX) {

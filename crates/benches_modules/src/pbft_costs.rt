@@ -203,7 +203,7 @@ fn time_size(rt: &HostRuntime, size: Size, times: u32) -> Timed<()> {
 }
 
 /// Times a segment of 64 slots and its change of views over four and over ten nodes; of each the best of so many times counts.
-pub fn time_all(rt: &HostRuntime, times: u32) -> Timed<()> {
+pub(crate) fn time_all(rt: &HostRuntime, times: u32) -> Timed<()> {
     for f in [1u32, 3] {
         let size = Size {
             f,
@@ -216,7 +216,7 @@ pub fn time_all(rt: &HostRuntime, times: u32) -> Timed<()> {
 }
 
 /// Counts the signatures of a small segment, and of its change of views.
-pub fn count_all(rt: &HostRuntime) -> Timed<()> {
+pub(crate) fn count_all(rt: &HostRuntime) -> Timed<()> {
     let size = Size {
         f: 1,
         height: 5,

@@ -93,7 +93,7 @@ pub fn segment(alloc: Global, count: u64) -> Result<Params, NoMemory>
 }
 
 // A batch of so many requests with payloads of 64 bytes.
-pub fn batch(alloc: Global, requests: u32) -> Result<Batch, NoMemory> {
+pub(crate) fn batch(alloc: Global, requests: u32) -> Result<Batch, NoMemory> {
     let mut batch = Batch::new(alloc);
     for number in 0..requests {
         let mut sig = Writer::new(alloc, 1);
@@ -205,7 +205,7 @@ impl Seen {
 
 impl Cluster {
     /// Fresh nodes. It keeps what it sees, or not.
-    pub fn new(alloc: Global, p: &Params, keeps: bool) -> Timed<Cluster>
+    pub(crate) fn new(alloc: Global, p: &Params, keeps: bool) -> Timed<Cluster>
         requires good { IsGoodParams raft p.now }
         requires nodes { p.now.setup.n ≡ 7 }
     {
@@ -224,12 +224,12 @@ impl Cluster {
     }
 
     /// From now on nothing comes to the last node.
-    pub fn cut(&mut self) {
+    pub(crate) fn cut(&mut self) {
         self.is_cut = true;
     }
 
     /// From now on all messages come to the last node, and are counted.
-    pub fn reconnect(&mut self, alloc: Global, keeps: bool) {
+    pub(crate) fn reconnect(&mut self, alloc: Global, keeps: bool) {
         self.is_cut = false;
         self.taken = 0;
         self.seen = nothing_seen(alloc, keeps);
@@ -301,7 +301,7 @@ impl Cluster {
     }
 
     /// The leader casts in each slot, and the messages of each cast are taken before the next one.
-    pub fn cast_all(&mut self, alloc: Global, p: &Params, batch: &Batch) -> Timed<()>
+    pub(crate) fn cast_all(&mut self, alloc: Global, p: &Params, batch: &Batch) -> Timed<()>
         requires good { IsGoodParams raft p.now }
         requires nodes { p.now.setup.n ≡ 7 }
     {
@@ -315,7 +315,7 @@ impl Cluster {
     }
 
     /// Time runs out at a node.
-    pub fn time_out(&mut self, alloc: Global, p: &Params, at: u8) -> Timed<()>
+    pub(crate) fn time_out(&mut self, alloc: Global, p: &Params, at: u8) -> Timed<()>
         requires good { IsGoodParams raft p.now }
         requires nodes { p.now.setup.n ≡ 7 }
     {
@@ -324,7 +324,7 @@ impl Cluster {
     }
 
     /// The nodes 1 and 2 win by turns.
-    pub fn elect(&mut self, alloc: Global, p: &Params, elections: u32) -> Timed<()>
+    pub(crate) fn elect(&mut self, alloc: Global, p: &Params, elections: u32) -> Timed<()>
         requires good { IsGoodParams raft p.now }
         requires nodes { p.now.setup.n ≡ 7 }
     {

@@ -253,7 +253,7 @@ fn time_these(rt: &HostRuntime, p: &Params, times: u32) -> Timed<()>
 }
 
 /// Times segments in their normal case, and repairs; of each the best of so many times counts.
-pub fn time_all(rt: &HostRuntime, times: u32) -> Timed<()> {
+pub(crate) fn time_all(rt: &HostRuntime, times: u32) -> Timed<()> {
     let p = segment(rt.alloc(), SLOTS)?;
     time_these(rt, &p, times)
 }
@@ -282,7 +282,7 @@ fn count_these(rt: &HostRuntime, p: &Params) -> Timed<()>
 }
 
 /// Orders a segment and repairs a log, and prints how many messages that takes.
-pub fn count_all(rt: &HostRuntime) -> Timed<()> {
+pub(crate) fn count_all(rt: &HostRuntime) -> Timed<()> {
     let p = segment(rt.alloc(), SLOTS)?;
     count_these(rt, &p)
 }

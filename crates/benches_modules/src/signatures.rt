@@ -36,7 +36,7 @@ fn leaf_of(sig: &[u8]) -> u32 {
 
 impl Seen {
     /// Nothing as yet.
-    pub fn nothing(alloc: Global, height: u8, keys: &[Keys]) -> Result<Seen, Fail> {
+    pub(crate) fn nothing(alloc: Global, height: u8, keys: &[Keys]) -> Result<Seen, Fail> {
         let mut used = Vec::new(alloc);
         for key in keys {
             let leaves = 1u32.wrapping_shl(u32::from(height));
@@ -57,7 +57,7 @@ impl Seen {
     }
 
     /// How many signatures were made, and how many different ones were heard.
-    pub fn counts(&self) -> (usize, usize) {
+    pub(crate) fn counts(&self) -> (usize, usize) {
         (self.made.len(), self.checked.len())
     }
 
@@ -73,7 +73,7 @@ impl Seen {
     }
 
     /// What is claimed in a message that is heard.
-    pub fn see_heard(&mut self, claims: &[Claim]) -> Result<(), Fail> {
+    pub(crate) fn see_heard(&mut self, claims: &[Claim]) -> Result<(), Fail> {
         for claim in claims {
             self.hear_one(claim)?;
         }
@@ -91,7 +91,7 @@ impl Seen {
     }
 
     /// What is claimed in a message that is sent.
-    pub fn see_sent(&mut self, by: u8, claims: &[Claim]) -> Result<(), Fail> {
+    pub(crate) fn see_sent(&mut self, by: u8, claims: &[Claim]) -> Result<(), Fail> {
         for claim in claims {
             self.send_one(by, claim)?;
         }

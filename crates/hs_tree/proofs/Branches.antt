@@ -1,19 +1,17 @@
 -- Branches as the code keeps them.
-use Rattle.std.proofs.Common.{◌≡◌, ◌≤◌, ◌<◌, ℕ, zero, suc, ◌+◌, ◌-◌, ◌==◌, ◌&&◌, ◌||◌, cond, Bool, true, false, if◌then◌else◌, List, [], ◌∷◌, ◌++◌, length, drop, reverse, Option, Some, None, is_some, refl, sym, ap, ◌∙◌, subst, arith, append_assoc, append-nil}
+use Rattle.std.proofs.Common.{◌≡◌, ◌≤◌, ◌<◌, ℕ, zero, suc, ◌+◌, ◌-◌, ◌||◌, cond, Bool, true, false, if◌then◌else◌, List, [], ◌∷◌, ◌++◌, length, drop, reverse, Option, Some, None, is_some, refl, sym, ap, ◌∙◌, subst, arith, append_assoc, append-nil}
 use Rattle.std.specs.Prelude.{slice_get, min}
-use Rattle.std.specs.Option.{option_copied}
 use Rattle.std.proofs.lemmas.List.{drop-append-le, length-append, length-drop, nil_from_length}
 use Rattle.std.proofs.lemmas.List.{reverse-append}
 use Rattle.std.specs.Cmp.Lexicographic.{slice_cmp}
-use Rattle.std.specs.Ordering.{is_eq, nat_cmp, ordering_then}
-use Rattle.std.specs.declared.cmp.Ordering.{Ordering}
-use Rattle.std.specs.declared.cmp.Ordering.TheVariants.{Less, Equal, Greater}
+use Rattle.std.specs.Ordering.{is_eq, nat_cmp}
 use Rattle.iss_base.specs.Lists.{same_bytes}
 use Rattle.iss_request.specs.declared.requests.Value.{Value}
 use Rattle.iss_sb.specs.Evidence.{one_or_none}
 use Rattle.raft_wire.specs.declared.entries.What.{What}
 use Rattle.raft_wire.specs.declared.entries.What.TheVariants.{Nil, Holds, Mark}
 use Rattle.hs_tree.specs.declared.tree.Known.{Known}
+use Rattle.iss_sb.proofs.Cases.{same_list}
 use Rattle.hs_tree.specs.declared.tree.Tree.{Tree}
 use Rattle.hs_tree.specs.Known.{IsKept, Keeps, Leads, known_at, meets, path, place, values, whats}
 use Rattle.hs_tree.specs.Tree.{Node, branch, extends, filled, is_known, root, value_of, weight}
@@ -244,20 +242,6 @@ module _ (nodes : List Known) (here : Option ℕ) (from : ℕ) (ks : List Node) 
           low_enough = let few = weight-few n.what in let l = le in omega (arith, few, l)
 
 -- ---- one node more
-
-pub same_number : (a b : ℕ) → is_eq (nat_cmp a b) ≡ (a == b)
-same_number a b = grind arith
-
-pub both_equal : (a b : Ordering) → is_eq (ordering_then a b) ≡ (is_eq a && is_eq b)
-both_equal Less b = refl
-both_equal Equal b = refl
-both_equal Greater b = refl
-
-pub same_list : (a b : List ℕ) → is_eq (slice_cmp nat_cmp a b) ≡ same_bytes a b
-same_list [] [] = refl
-same_list [] (y ∷ ys) = refl
-same_list (x ∷ xs) [] = refl
-same_list (x ∷ xs) (y ∷ ys) = both_equal (nat_cmp x y) (slice_cmp nat_cmp xs ys) ∙ (let h = same_number x y in let t = same_list xs ys in rw (h, t) refl)
 
 module _ (t u : Tree) (k : Node) (ks : List Node) (n : Known) (h : Keeps t ks) (items : u.nodes.items ≡ t.nodes.items ++ n ∷ [])
     (places : (d : List ℕ) → place u d ≡ cond (same_bytes k.digest d) (Some (length t.nodes.items)) (place t d))

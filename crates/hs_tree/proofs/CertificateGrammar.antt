@@ -1,5 +1,5 @@
 -- A certificate has one spelling, and what is read is what the table relates to the bytes.
-use Rattle.std.proofs.Common.{◌≡◌, ◌≤◌, ◌<◌, ℕ, zero, suc, ◌^◌, ◌==◌, ◌&&◌, Bool, true, false, List, [], ◌∷◌, ◌++◌, length, refl, sym, ap, ◌∙◌, subst, inl, inr, arith}
+use Rattle.std.proofs.Common.{◌≡◌, ◌<◌, ℕ, zero, suc, ◌^◌, ◌==◌, ◌&&◌, Bool, true, false, List, [], ◌∷◌, ◌++◌, length, refl, sym, ap, ◌∙◌, subst, inl, inr, arith}
 use Rattle.std.specs.Prelude.{nat_le, nat_lt}
 use Rattle.std.specs.Int.{to_be_bytes, w32}
 use Rattle.std.specs.List.{flat_map, list_all}
@@ -7,95 +7,36 @@ use Rattle.std.proofs.lemmas.Bool.{le-leb, leb-true, lt-ltb, ltb-true}
 use Rattle.std.proofs.lemmas.Bool.Decides.{Decides-eqb}
 use Rattle.iss_base.proofs.Lists.{and-true, both}
 use Rattle.iss_request.specs.Fields.{Good, IsGrammar}
-use Rattle.iss_request.specs.Formats.{is_signature, parse_signature}
+use Rattle.iss_request.specs.Formats.{is_signature}
 use Rattle.iss_request.specs.Parsing.{Parser, ◌>>=◌, block, byte, done, number, such_that}
-use Rattle.iss_request.proofs.OneSpelling.{done_good, signature_parts}
+use Rattle.iss_request.proofs.OneSpelling.{done_good}
 use Rattle.iss_request.proofs.ParserLemmas.{block_parts, byte_parts, done_parts, number_parts, test_parts, then_parts, wide32}
+use Rattle.iss_sb.proofs.Fields.{few}
+use Rattle.iss_sb.proofs.Signers.{IsSignersGrammar, signers-again, signers-parts}
 use Rattle.hs_tree.specs.declared.certificates.Certificate.{Certificate}
 use Rattle.hs_tree.specs.declared.certificates.Certificate.TheVariants.{Root, Votes}
 use Rattle.hs_tree.specs.declared.certificates.Signed.{Signed}
 use Rattle.hs_tree.specs.Certificates.{AreRisingVotes, AreSpelledVotes, IsSpelledCertificate, are_votes, fits, is_phase, is_rising, is_signed, no_certificate, parse_certificate, parse_signed, parse_signers, parse_votes, root_row, spell_certificate, spell_signed, votes_row}
-use Rattle.hs_tree.proofs.Rows.{Again, Never, Whole, block-field, by-same, byte-field, byte-never, first-never, glue, last-again, never-same, number-field, signature-field, then-again, then-never}
+use Rattle.hs_tree.proofs.Rows.{Again, Never, Whole, block-field, by-same, byte-field, byte-never, first-never, glue, last-again, never-same, number-field, then-again, then-never}
 
 -- ---- nodes and signatures, rising
 
-abbrev pub from_on : ℕ → ℕ → Bool
-from_on from n = nat_le from n
-
-abbrev pub signed : ℕ → List ℕ → Signed
+abbrev signed : ℕ → List ℕ → Signed
 signed by sig = record { by = record { 0 = by }; sig = sig }
 
-abbrev pub after_by : ℕ → Parser Signed
-after_by by = parse_signature >>= λ sig. done (signed by sig)
-
-pub parse_signed-is : (from : ℕ) → parse_signed from ≡ (such_that (from_on from) byte >>= after_by)
-unfolding parse_signed
-parse_signed-is from = refl
-
-abbrev pub after_vote : ℕ → Signed → Parser (List Signed)
-after_vote count vote = parse_signers count (suc vote.by.0) >>= λ others. done (vote ∷ others)
-
-pub parse_signers-is : (count from : ℕ) → parse_signers (suc count) from ≡ (parse_signed from >>= after_vote count)
-unfolding parse_signers
-parse_signers-is count from = refl
-
-pub parse_none-is : (from : ℕ) → parse_signers 0 from ≡ done []
-unfolding parse_signers
-parse_none-is from = refl
-
-signed-again : (from : ℕ) (v : Signed) → from ≤ v.by.0 → is_signature v.sig ≡ true → Again (spell_signed v) (parse_signed from) v
-signed-again from v le shape =
-    let sig = last-again parse_signature (λ sig. signed v.by.0 sig) v.sig v.sig (signature-field v.sig shape) in
-    by-same (spell_signed v) (parse_signed from) (such_that (from_on from) byte >>= after_by) v (parse_signed-is from)
-    (then-again (such_that (from_on from) byte) after_by (v.by.0 ∷ []) v.sig v.by.0 v (byte-field (from_on from) v.by.0 (le-leb from v.by.0 le)) sig)
-
-signers-again : (from : ℕ) (votes : List Signed) → AreRisingVotes from votes → Again (flat_map spell_signed votes) (parse_signers (length votes) from) votes
-signers-again from [] h = by-same [] (parse_signers 0 from) (done []) [] (parse_none-is from) (λ rest. done_good [] rest)
-signers-again from (v ∷ vs) h =
-    let text = flat_map spell_signed vs in
-    let others = last-again (parse_signers (length vs) (suc v.by.0)) (λ others. v ∷ others) text vs (signers-again (suc v.by.0) vs h.2) in
-    by-same (spell_signed v ++ text) (parse_signers (suc (length vs)) from) (parse_signed from >>= after_vote (length vs)) (v ∷ vs) (parse_signers-is (length vs) from)
-    (then-again (parse_signed from) (after_vote (length vs)) (spell_signed v) text v (v ∷ vs) (signed-again from v h.0 h.1) others)
-
-record IsSigner (from : ℕ) (bytes rest : List ℕ) (v : Signed) : Type 0 where
-  high : from ≤ v.by.0
-  shape : is_signature v.sig ≡ true
-  parts : bytes ≡ spell_signed v ++ rest
-
-signed-parts : (from : ℕ) (bytes rest : List ℕ) (v : Signed) → parse_signed from bytes ≡ Good v rest → IsSigner from bytes rest v
-signed-parts from bytes rest v h =
-    let a = then_parts (such_that (from_on from) byte) after_by bytes rest v (rw (parse_signed-is from) at h) in
-    let b = then_parts parse_signature (λ sig. done (signed a.thing sig)) a.mid rest v a.second in
-    let d = done_parts (signed a.thing b.thing) v b.mid rest b.second in
-    let by = test_parts (from_on from) byte bytes a.mid a.thing a.first in
-    let sig = signature_parts a.mid b.mid b.thing b.first in
-    subst (λ (z : Signed). IsSigner from bytes rest z) d.0 (record {
-      high = leb-true from a.thing by.1;
-      shape = sig.shape;
-      parts = byte_parts bytes a.mid a.thing by.0 ∙ ap (λ (x : List ℕ). a.thing ∷ x) (sig.parts ∙ ap (λ (x : List ℕ). b.thing ++ x) d.1);
-    })
-
-record AreSigners (from count : ℕ) (bytes rest : List ℕ) (votes : List Signed) : Type 0 where
-  rising : AreRisingVotes from votes
-  many : length votes ≡ count
-  parts : bytes ≡ flat_map spell_signed votes ++ rest
-
-signers-parts : (count from : ℕ) (bytes rest : List ℕ) (votes : List Signed) → parse_signers count from bytes ≡ Good votes rest → AreSigners from count bytes rest votes
-signers-parts zero from bytes rest votes h =
-    let none : done [] bytes ≡ Good votes rest = rw (parse_none-is from) at h in
-    let d = done_parts [] votes bytes rest none in
-    subst (λ (z : List Signed). AreSigners from 0 bytes rest z) d.0 (record { rising = tt; many = refl; parts = d.1 })
-signers-parts (suc count) from bytes rest votes h =
-    let a = then_parts (parse_signed from) (after_vote count) bytes rest votes (rw (parse_signers-is count from) at h) in
-    let c = then_parts (parse_signers count (suc a.thing.by.0)) (λ others. done (a.thing ∷ others)) a.mid rest votes a.second in
-    let d = done_parts (a.thing ∷ c.thing) votes c.mid rest c.second in
-    let v = signed-parts from bytes a.mid a.thing a.first in
-    let more = signers-parts count (suc a.thing.by.0) a.mid c.mid c.thing c.first in
-    subst (λ (z : List Signed). AreSigners from (suc count) bytes rest z) d.0 (record {
-      rising = (v.high, v.shape, more.rising);
-      many = ap suc more.many;
-      parts = glue (spell_signed a.thing) (flat_map spell_signed c.thing) bytes a.mid rest v.parts (more.parts ∙ ap (λ (x : List ℕ). flat_map spell_signed c.thing ++ x) d.1);
-    })
+pub votes-grammar : IsSignersGrammar (λ (v : Signed). v.by.0) (λ (v : Signed). v.sig) signed AreRisingVotes parse_signed parse_signers
+unfolding parse_signed parse_signers
+votes-grammar = record {
+  whole = λ v. refl;
+  node_is = λ by s. refl;
+  sig_is = λ by s. refl;
+  none_rise = λ from. tt;
+  first_rises = λ from v vs le shape more. (le, shape, more);
+  rises = λ from v vs h. h;
+  one_is = λ from. refl;
+  none_is = λ from. refl;
+  more_is = λ count from. refl;
+}
 
 pub rising-is : (from : ℕ) (votes : List Signed) → AreRisingVotes from votes → (is_rising from votes ≡ true) × (list_all is_signed votes ≡ true)
 rising-is from [] h = (refl, refl)
@@ -141,9 +82,6 @@ fits-of phases view phase d votes h =
 
 -- ---- the parsers, field by field
 
-abbrev pub few : ℕ → Bool
-few n = nat_lt n 256
-
 module _ (phases : ℕ) where
   abbrev pub make : ℕ → ℕ → List ℕ → List Signed → Certificate
   make view phase d votes = Votes view phase d votes
@@ -176,7 +114,7 @@ module _ (phases : ℕ) where
   behind-again less phase d votes bytes h =
       let c : Certificate = Votes (suc less) phase d votes in
       let text = flat_map spell_signed votes in
-      let signers = last-again (parse_signers (length votes) 0) (make (suc less) phase d) text votes (signers-again 0 votes h.rising) in
+      let signers = last-again (parse_signers (length votes) 0) (make (suc less) phase d) text votes (signers-again votes-grammar 0 votes h.rising) in
       let count = then-again (such_that few byte) (after_count (suc less) phase d) (length votes ∷ []) text (length votes) c (byte-field few (length votes) (lt-ltb (length votes) 256 h.count_fits)) signers in
       let digest = then-again (block 32) (after_digest (suc less) phase) d (length votes ∷ text) d c (block-field 32 d h.digest_fits) count in
       let is = both _ _ (le-leb 1 phase h.phase_low) (le-leb phase phases h.phase_fits) in
@@ -218,7 +156,7 @@ module _ (phases : ℕ) where
       let range = and-true (nat_le 1 a.thing) (nat_le a.thing phases) phase.1 in
       let digest = block_parts 32 a.mid b.mid b.thing b.first in
       let count = test_parts few byte b.mid n.mid n.thing n.first in
-      let votes = signers-parts n.thing 0 n.mid v.mid v.thing v.first in
+      let votes = signers-parts votes-grammar n.thing 0 n.mid v.mid v.thing v.first in
       let text = flat_map spell_signed v.thing in
       let small : length v.thing < 256 = subst (λ (k : ℕ). k < 256) (sym votes.many) (ltb-true n.thing 256 count.1) in
       let counted : b.mid ≡ (length v.thing ∷ text) ++ rest = byte_parts b.mid n.mid n.thing count.0 ∙ ap (λ (k : ℕ). k ∷ n.mid) (sym votes.many) ∙ ap (λ (x : List ℕ). length v.thing ∷ x) (votes.parts ∙ ap (λ (x : List ℕ). text ++ x) d.1) in

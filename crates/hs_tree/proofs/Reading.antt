@@ -1,19 +1,16 @@
 -- What is read field by field is what the parsers find.
-use Rattle.std.proofs.Common.{◌≡◌, ◌≢◌, ◌<◌, ℕ, zero, suc, true, false, List, [], ◌∷◌, ◌++◌, length, append_assoc, append-nil, refl, subst, arith}
-use Rattle.std.proofs.lemmas.Bool.{lt-ltb}
+use Rattle.std.proofs.Common.{◌≡◌, ◌≢◌, ◌<◌, ℕ, zero, suc, true, false, refl, subst, arith}
 use Rattle.iss_base.proofs.Lists.{eqb-other}
-use Rattle.iss_request.specs.Fields.{IsRead, IsUnreadable, Reading, left}
-use Rattle.iss_request.specs.Parsing.{Parser, ◌>>=◌, block, byte, done, number, such_that}
-use Rattle.iss_request.proofs.ParserLemmas.{block_parts}
+use Rattle.iss_request.specs.Fields.{IsRead, IsUnreadable, Reading}
+use Rattle.iss_request.specs.Parsing.{Parser, ◌>>=◌, byte, done, number, such_that}
 use Rattle.iss_request.proofs.Readings.{read_done, read_passed, read_then, unread_failed, unread_first, unread_tested, unread_then}
 use Rattle.std.specs.Int.{w32}
 use Rattle.hs_tree.specs.declared.certificates.Certificate.{Certificate}
 use Rattle.hs_tree.specs.declared.certificates.Certificate.TheVariants.{Root}
-use Rattle.hs_tree.specs.declared.certificates.Signed.{Signed}
 use Rattle.hs_tree.specs.declared.messages.Message.{Message}
-use Rattle.hs_tree.specs.Certificates.{is_phase, parse_certificate, parse_signed, parse_signers, parse_votes}
+use Rattle.hs_tree.specs.Certificates.{is_phase, parse_certificate, parse_votes}
 use Rattle.hs_tree.specs.Messages.{fields_of, is_message, parse, parse_vote}
-use Rattle.hs_tree.proofs.CertificateGrammar.{after_phase, after_vote, few, parse_certificate-is, parse_none-is, parse_root-is, parse_signers-is, parse_votes-is}
+use Rattle.hs_tree.proofs.CertificateGrammar.{after_phase, parse_certificate-is, parse_root-is, parse_votes-is}
 
 -- of two parsers that are the same
 pub by-same : {A : Type 0} (p q : Parser A) {a b : Reading} {x : A} → p ≡ q → IsRead q a b x → IsRead p a b x
@@ -21,17 +18,6 @@ by-same p q e h = rw e h
 
 pub un-same : {A : Type 0} (p q : Parser A) {a : Reading} {at : ℕ} → p ≡ q → IsUnreadable q a at → IsUnreadable p a at
 un-same p q e h = rw e h
-
--- a digest that was read has its length
-pub digest-long : {a b : Reading} (d : List ℕ) → IsRead (block 32) a b d → length d ≡ 32
-digest-long {a} {b} d h = (block_parts 32 (left a) (left b) d h.found).len
-
--- a byte is below 256
-pub count-read : {a b : Reading} (n : ℕ) → n < 256 → IsRead byte a b n → IsRead (such_that few byte) a b n
-count-read n lt h = read_passed few byte h (lt-ltb n 256 lt)
-
-pub count-unread : {a : Reading} {at : ℕ} → IsUnreadable byte a at → IsUnreadable (such_that few byte) a at
-count-unread h = unread_tested few byte h
 
 -- ---- certificates
 
@@ -54,40 +40,6 @@ module _ (phases : ℕ) where
 
   pub votes-unread : {a b : Reading} (view : ℕ) {at : ℕ} → IsRead (number w32) a b view → IsUnreadable (parse_votes phases view) b at → IsUnreadable (parse_certificate phases) a at
   votes-unread view h k = un-same (parse_certificate phases) (number w32 >>= parse_votes phases) (parse_certificate-is phases) (unread_then (number w32) (parse_votes phases) h k)
-
--- ---- so many nodes that rise
-
--- of `total` votes these are read; `count` are still to come, none below `from`
-pub record Continues (total : ℕ) (start : Reading) (count from : ℕ) (here : Reading) (got : List Signed) : Type 0 where
-  pub all : (later : Reading) (xs : List Signed) → IsRead (parse_signers count from) here later xs → IsRead (parse_signers total 0) start later (got ++ xs)
-  pub fails : (at : ℕ) → IsUnreadable (parse_signers count from) here at → IsUnreadable (parse_signers total 0) start at
-
-pub signers-start : (total : ℕ) (start : Reading) (count from : ℕ) (got : List Signed) → count ≡ total → from ≡ 0 → got ≡ [] → Continues total start count from start got
-signers-start total start count from got e z none = record { all = λ later xs r. rw none (rw (e, z) at r); fails = λ at u. rw (e, z) at u }
-
-more-read : (count from : ℕ) {a b c : Reading} (v : Signed) (vs : List Signed) → IsRead (parse_signed from) a b v → IsRead (parse_signers count (suc v.by.0)) b c vs → IsRead (parse_signers (suc count) from) a c (v ∷ vs)
-more-read count from {a} {b} {c} v vs h k =
-    by-same (parse_signers (suc count) from) (parse_signed from >>= after_vote count) (parse_signers-is count from)
-    (read_then (parse_signed from) (after_vote count) h (read_then (parse_signers count (suc v.by.0)) (λ others. done (v ∷ others)) k (read_done (v ∷ vs) c)))
-
-more-unread : (count from : ℕ) {a b : Reading} (v : Signed) {at : ℕ} → IsRead (parse_signed from) a b v → IsUnreadable (parse_signers count (suc v.by.0)) b at → IsUnreadable (parse_signers (suc count) from) a at
-more-unread count from v h k =
-    un-same (parse_signers (suc count) from) (parse_signed from >>= after_vote count) (parse_signers-is count from)
-    (unread_then (parse_signed from) (after_vote count) h (unread_first (parse_signers count (suc v.by.0)) (λ others. done (v ∷ others)) k))
-
-pub signers-next : (total : ℕ) (start : Reading) (count rest from next : ℕ) (here there : Reading) (got : List Signed) (v : Signed) → rest ≡ suc count → next ≡ suc v.by.0 → Continues total start rest from here got → IsRead (parse_signed from) here there v →
-    Continues total start count next there (got ++ v ∷ [])
-signers-next total start count rest from next here there got v e n c r = record {
-  all = λ later xs s. rw append_assoc (c.all later (v ∷ xs) (rw e (more-read count from v xs r (rw n at s))));
-  fails = λ at u. c.fails at (rw e (more-unread count from v r (rw n at u)));
-}
-
-pub signers-bad : (total : ℕ) (start : Reading) (count rest from : ℕ) (here : Reading) (got : List Signed) (at : ℕ) → rest ≡ suc count → Continues total start rest from here got → IsUnreadable (parse_signed from) here at → IsUnreadable (parse_signers total 0) start at
-signers-bad total start count rest from here got at e c u =
-    c.fails at (rw e (un-same (parse_signers (suc count) from) (parse_signed from >>= after_vote count) (parse_signers-is count from) (unread_first (parse_signed from) (after_vote count) u)))
-
-pub signers-end : (total : ℕ) (start : Reading) (count from : ℕ) (here : Reading) (got : List Signed) → count ≡ 0 → Continues total start count from here got → IsRead (parse_signers total 0) start here got
-signers-end total start count from here got e c = rw append-nil at (c.all here [] (rw e (by-same (parse_signers 0 from) (done []) (parse_none-is from) (read_done [] here))))
 
 -- ---- messages
 

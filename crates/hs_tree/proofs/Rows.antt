@@ -1,10 +1,11 @@
 -- Fields one behind the other: what is read again, and what is read of none.
 use Rattle.std.proofs.Common.{◌≡◌, ℕ, ◌<◌, ◌&&◌, Bool, true, false, List, [], ◌∷◌, ◌++◌, length, append_assoc, append-nil, sym, ap, ◌∙◌, subst, ◌⊎◌, inl, inr}
 use Rattle.std.specs.Int.{Width, to_be_bytes}
-use Rattle.iss_request.specs.Fields.{Good, Bad, IsBad}
+use Rattle.iss_request.specs.Fields.{Good, IsBad}
 use Rattle.iss_request.specs.Formats.{is_signature, parse_signature}
 use Rattle.iss_request.specs.Parsing.{Parser, ◌>>=◌, block, byte, done, number, such_that}
 use Rattle.iss_request.proofs.OneSpelling.{done_good, signature_again}
+use Rattle.iss_sb.proofs.Fields.{good-bad}
 use Rattle.iss_request.proofs.ParserLemmas.{IsWide, block_again, byte_again, first_bad, number_again, test_failed, test_passed, then_bad, then_good}
 
 -- a thing is read again from these bytes, whatever stands behind; or nothing is
@@ -16,9 +17,6 @@ Never front p = (rest : List ℕ) → IsBad (p (front ++ rest))
 
 abbrev pub Whole : {A : Type 0} → List ℕ → Parser A → A → Type 0
 Whole front p x = Again front p x ⊎ Never front p
-
-good-bad : {A : Type 0} (x : A) (rest : List ℕ) (at : ℕ) → Good x rest ≡ Bad at → ⊥
-good-bad x rest at h = cc
 
 pub not-both : {A : Type 0} (front : List ℕ) (p : Parser A) (x : A) → Again front p x → Never front p → ⊥
 not-both front p x good bad = let b = bad [] in good-bad x [] b.0 (sym (good []) ∙ b.1)

@@ -54,13 +54,14 @@ pub fn held_string(alloc: Global, version: u8, what: &What) -> Result<Option<Byt
     }
 }
 
-/// The digest of the value that a node holds, by its string; zeros for a mark.
-pub fn held_digest(version: u8, what: &What, string: &Option<Bytes>) -> [u8; 32]
-    requires { one_or_none string.now ≡ strings_of version (value_of what.now) }
-    ensures { result ≡ value_digest version (value_of what.now) }
+/// The digest of the value that a node holds, by its string; zeros for a mark. The directory remembers it, since each node asks
+/// for it more than once.
+pub fn held_digest(p: &Params, what: &What, string: &Option<Bytes>) -> [u8; 32]
+    requires { one_or_none string.now ≡ strings_of p.now.setup.version (value_of what.now) }
+    ensures { result ≡ value_digest p.now.setup.version (value_of what.now) }
 {
     match string {
-        Some(bytes) => Sha256::digest(bytes.as_slice()),
+        Some(bytes) => p.directory.directory().digest(bytes.as_slice()),
         None => [0; 32],
     }
 }
@@ -105,14 +106,15 @@ pub struct Hashed {
 /// Hashes the node with this content on a parent.
 pub fn hash_node(
     alloc: Global,
-    version: u8,
+    p: &Params,
     parent: &[u8; 32],
     what: &What,
 ) -> Result<Hashed, NoMemory>
-    ensures { IfOk result (λ h. (view : ℕ) → IsHashed version view parent.now what.now h) }
+    ensures { IfOk result (λ h. (view : ℕ) → IsHashed p.now.setup.version view parent.now what.now h) }
 {
+    let version = p.setup.version;
     let value = held_string(alloc, version, what)?;
-    let held = held_digest(version, what, &value);
+    let held = held_digest(p, what, &value);
     let node = node_string(alloc, version, parent, what, &held)?;
     let digest = Sha256::digest(node.as_slice());
     let mut strings = Row::new(alloc);

@@ -1,5 +1,5 @@
 -- A certificate has one spelling, and what is read is what the table relates to the bytes.
-use Rattle.std.proofs.Common.{◌≡◌, ◌↔◌, inl, inr, ℕ, zero, suc, ◌<◌, ◌≤◌, ◌^◌, ◌==◌, ◌&&◌, Bool, true, false, List, [], ◌∷◌, ◌++◌, length, replicate, append_assoc, append-nil, refl, sym, ap, ◌∙◌, subst, ◌⊎◌, arith}
+use Rattle.std.proofs.Common.{◌≡◌, ◌↔◌, inl, inr, ℕ, suc, ◌<◌, ◌^◌, ◌==◌, ◌&&◌, Bool, true, false, List, [], ◌∷◌, ◌++◌, length, replicate, append_assoc, append-nil, refl, sym, ap, ◌∙◌, subst, ◌⊎◌, arith}
 use Rattle.std.specs.Prelude.{nat_le, nat_lt}
 use Rattle.std.specs.Int.{to_be_bytes, w64}
 use Rattle.std.specs.List.{flat_map}
@@ -9,41 +9,16 @@ use Rattle.iss_base.proofs.Lists.{and-true, both}
 use Rattle.iss_request.specs.Fields.{Good, IsBad, IsReadAgain}
 use Rattle.iss_request.specs.Formats.{is_signature, parse_signature}
 use Rattle.iss_request.specs.Parsing.{Parser, ◌>>=◌, block, byte, done, number, such_that}
-use Rattle.iss_request.proofs.OneSpelling.{done_good, signature_again, signature_parts}
+use Rattle.iss_request.proofs.OneSpelling.{done_good}
 use Rattle.iss_request.proofs.ParserLemmas.{block_again, block_parts, byte_again, byte_parts, done_parts, first_bad, number_again, number_parts, test_parts, test_passed, then_bad, then_good, then_parts, wide64}
+use Rattle.iss_sb.proofs.Fields.{few}
+use Rattle.iss_sb.proofs.Signers.{IsSignersGrammar, after_by, from_on, signers-again, signers-parts}
 use Rattle.iss_checkpoint.specs.declared.votes.Cert.{Cert}
 use Rattle.iss_checkpoint.specs.declared.votes.Signed.{Signed}
 use Rattle.iss_checkpoint.specs.Certificates.{AreRising, IsSpelledCert, are_rising, cert_fits, cert_row, no_cert, parse_cert, parse_signed, parse_signers, spell_cert, spell_signed}
 use Rattle.iss_checkpoint.proofs.VoteGrammar.{low-never}
 
 -- ---- the parsers, field by field
-
-abbrev pub from_on : ℕ → ℕ → Bool
-from_on from n = nat_le from n
-
-abbrev pub few : ℕ → Bool
-few n = nat_lt n 256
-
-abbrev signed : ℕ → List ℕ → Signed
-signed by sig = record { by = record { 0 = by }; sig = sig }
-
-abbrev pub after_by : ℕ → Parser Signed
-after_by by = parse_signature >>= λ sig. done (signed by sig)
-
-pub parse_signed-is : (from : ℕ) → parse_signed from ≡ (such_that (from_on from) byte >>= after_by)
-unfolding parse_signed
-parse_signed-is from = refl
-
-abbrev pub after_first : ℕ → Signed → Parser (List Signed)
-after_first count x = parse_signers count (suc x.by.0) >>= λ others. done (x ∷ others)
-
-pub parse_none-is : (from : ℕ) → parse_signers 0 from ≡ done []
-unfolding parse_signers
-parse_none-is from = refl
-
-pub parse_signers-is : (count from : ℕ) → parse_signers (suc count) from ≡ (parse_signed from >>= after_first count)
-unfolding parse_signers
-parse_signers-is count from = refl
 
 abbrev pub made : ℕ → List ℕ → ℕ → List Signed → Cert
 made e chain requests signers = record { epoch = record { 0 = e }; chain = chain; requests = requests; signers = signers }
@@ -65,69 +40,24 @@ parse_cert-is e = refl
 same-parser : {A : Type 0} (p q : Parser A) (bytes : List ℕ) → p ≡ q → p bytes ≡ q bytes
 same-parser p q bytes e = ap (λ f. f bytes) e
 
--- ---- signers that rise are read again, whatever stands behind
+-- ---- signers are nodes that rise, each with its signature
 
-signed-again : (from : ℕ) (x : Signed) (rest : List ℕ) → from ≤ x.by.0 → is_signature x.sig ≡ true → parse_signed from (spell_signed x ++ rest) ≡ Good x rest
-signed-again from x rest le shape =
-    let bytes : List ℕ = x.by.0 ∷ (x.sig ++ rest) in
-    let sig = then_good parse_signature (λ sig. done (signed x.by.0 sig)) (x.sig ++ rest) rest rest x.sig x (signature_again x.sig rest shape) (done_good x rest) in
-    let by = test_passed (from_on from) byte bytes (x.sig ++ rest) x.by.0 (byte_again x.by.0 (x.sig ++ rest)) (le-leb from x.by.0 le) in
-    same-parser (parse_signed from) (such_that (from_on from) byte >>= after_by) bytes (parse_signed-is from)
-    ∙ then_good (such_that (from_on from) byte) after_by bytes (x.sig ++ rest) rest x.by.0 x by sig
+abbrev signed : ℕ → List ℕ → Signed
+signed by sig = record { by = record { 0 = by }; sig = sig }
 
-signers-again : (from : ℕ) (xs : List Signed) (rest : List ℕ) → AreRising from xs → parse_signers (length xs) from (flat_map spell_signed xs ++ rest) ≡ Good xs rest
-signers-again from [] rest h = same-parser (parse_signers 0 from) (done []) rest (parse_none-is from) ∙ done_good [] rest
-signers-again from (x ∷ xs) rest h =
-    let text = flat_map spell_signed xs in
-    let bytes : List ℕ = spell_signed x ++ (text ++ rest) in
-    let one = signed-again from x (text ++ rest) h.0 h.1 in
-    let others = then_good (parse_signers (length xs) (suc x.by.0)) (λ others. done (x ∷ others)) (text ++ rest) rest rest xs (x ∷ xs) (signers-again (suc x.by.0) xs rest h.2) (done_good (x ∷ xs) rest) in
-    ap (parse_signers (suc (length xs)) from) (append_assoc (spell_signed x) text rest)
-    ∙ same-parser (parse_signers (suc (length xs)) from) (parse_signed from >>= after_first (length xs)) bytes (parse_signers-is (length xs) from)
-    ∙ then_good (parse_signed from) (after_first (length xs)) bytes (text ++ rest) rest x (x ∷ xs) one others
-
--- ---- what is read of signers
-
-record IsSigner (from : ℕ) (bytes rest : List ℕ) (x : Signed) : Type 0 where
-  high : from ≤ x.by.0
-  shape : is_signature x.sig ≡ true
-  parts : bytes ≡ spell_signed x ++ rest
-
-signed-parts : (from : ℕ) (bytes rest : List ℕ) (x : Signed) → parse_signed from bytes ≡ Good x rest → IsSigner from bytes rest x
-signed-parts from bytes rest x h =
-    let a = then_parts (such_that (from_on from) byte) after_by bytes rest x (rw (parse_signed-is from) at h) in
-    let b = then_parts parse_signature (λ sig. done (signed a.thing sig)) a.mid rest x a.second in
-    let d = done_parts (signed a.thing b.thing) x b.mid rest b.second in
-    let by = test_parts (from_on from) byte bytes a.mid a.thing a.first in
-    let sig = signature_parts a.mid b.mid b.thing b.first in
-    subst (λ (z : Signed). IsSigner from bytes rest z) d.0 (record {
-      high = leb-true from a.thing by.1;
-      shape = sig.shape;
-      parts = byte_parts bytes a.mid a.thing by.0 ∙ ap (λ (z : List ℕ). a.thing ∷ z) (sig.parts ∙ ap (λ (z : List ℕ). b.thing ++ z) d.1);
-    })
-
-record AreSigners (from count : ℕ) (bytes rest : List ℕ) (xs : List Signed) : Type 0 where
-  rising : AreRising from xs
-  many : length xs ≡ count
-  parts : bytes ≡ flat_map spell_signed xs ++ rest
-
-signers-parts : (count from : ℕ) (bytes rest : List ℕ) (xs : List Signed) → parse_signers count from bytes ≡ Good xs rest → AreSigners from count bytes rest xs
-signers-parts zero from bytes rest xs h =
-    let none : done [] bytes ≡ Good xs rest = rw (parse_none-is from) at h in
-    let d = done_parts [] xs bytes rest none in
-    subst (λ (z : List Signed). AreSigners from 0 bytes rest z) d.0 (record { rising = tt; many = refl; parts = d.1 })
-signers-parts (suc count) from bytes rest xs h =
-    let a = then_parts (parse_signed from) (after_first count) bytes rest xs (rw (parse_signers-is count from) at h) in
-    let c = then_parts (parse_signers count (suc a.thing.by.0)) (λ others. done (a.thing ∷ others)) a.mid rest xs a.second in
-    let d = done_parts (a.thing ∷ c.thing) xs c.mid rest c.second in
-    let x = signed-parts from bytes a.mid a.thing a.first in
-    let more = signers-parts count (suc a.thing.by.0) a.mid c.mid c.thing c.first in
-    let text = flat_map spell_signed c.thing in
-    subst (λ (z : List Signed). AreSigners from (suc count) bytes rest z) d.0 (record {
-      rising = (x.high, x.shape, more.rising);
-      many = ap suc more.many;
-      parts = x.parts ∙ ap (λ (z : List ℕ). spell_signed a.thing ++ z) (more.parts ∙ ap (λ (z : List ℕ). text ++ z) d.1) ∙ sym (append_assoc (spell_signed a.thing) text rest);
-    })
+pub signers-grammar : IsSignersGrammar (λ (x : Signed). x.by.0) (λ (x : Signed). x.sig) signed AreRising parse_signed parse_signers
+unfolding parse_signed parse_signers
+signers-grammar = record {
+  whole = λ x. refl;
+  node_is = λ by s. refl;
+  sig_is = λ by s. refl;
+  none_rise = λ from. tt;
+  first_rises = λ from x xs le shape more. (le, shape, more);
+  rises = λ from x xs h. h;
+  one_is = λ from. refl;
+  none_is = λ from. refl;
+  more_is = λ count from. refl;
+}
 
 rising-is : (from : ℕ) (xs : List Signed) → AreRising from xs → are_rising from xs ≡ true
 rising-is from [] h = refl
@@ -174,7 +104,7 @@ row-again e c bytes rest h =
     let many = length c.signers in
     let behind : List ℕ = many ∷ (text ++ rest) in
     let all : List ℕ = c.chain ++ (count ++ behind) in
-    let last = then_good (parse_signers many 0) (λ signers. done (made at c.chain c.requests signers)) (text ++ rest) rest rest c.signers c (signers-again 0 c.signers rest h.rising) (done_good c rest) in
+    let last = then_good (parse_signers many 0) (λ signers. done (made at c.chain c.requests signers)) (text ++ rest) rest rest c.signers c (signers-again signers-grammar 0 c.signers h.rising rest) (done_good c rest) in
     let third = then_good (such_that few byte) (after_count at c.chain c.requests) behind (text ++ rest) rest many c (test_passed few byte behind (text ++ rest) many (byte_again many (text ++ rest)) (lt-ltb many 256 h.signers_fit)) last in
     let second = then_good (number w64) (after_requests at c.chain) (count ++ behind) behind rest c.requests c (number_again w64 (2 ^ 64) wide64 c.requests behind h.count_fits) third in
     let first = then_good (block 32) (after_chain at) all (count ++ behind) rest c.chain c (block_again c.chain (count ++ behind) 32 h.chain_fits) second in
@@ -190,10 +120,9 @@ one-never rest =
     let k = low-never 1 refl rest in
     let sig = first_bad parse_signature (λ sig. done (signed 1 sig)) (1 ∷ rest) k.0 k.1 in
     let by = test_passed (from_on 0) byte (1 ∷ (1 ∷ rest)) (1 ∷ rest) 1 (byte_again 1 (1 ∷ rest)) refl in
-    let signer = then_bad (such_that (from_on 0) byte) after_by (1 ∷ (1 ∷ rest)) (1 ∷ rest) 1 k.0 by sig in (
+    let signer = then_bad (such_that (from_on 0) byte) (after_by signed) (1 ∷ (1 ∷ rest)) (1 ∷ rest) 1 k.0 by sig in (
       _,
-      same-parser (parse_signers 1 0) (parse_signed 0 >>= after_first 0) (1 ∷ (1 ∷ rest)) (parse_signers-is 0 0)
-          ∙ first_bad (parse_signed 0) (after_first 0) (1 ∷ (1 ∷ rest)) _ (same-parser (parse_signed 0) (such_that (from_on 0) byte >>= after_by) (1 ∷ (1 ∷ rest)) (parse_signed-is 0) ∙ signer),
+      same-parser (parse_signers 1 0) _ (1 ∷ (1 ∷ rest)) (signers-grammar.more_is 0 0) ∙ first_bad (parse_signed 0) _ (1 ∷ (1 ∷ rest)) _ (same-parser (parse_signed 0) _ (1 ∷ (1 ∷ rest)) (signers-grammar.one_is 0) ∙ signer),
     )
 
 never : (e : ℕ) (rest : List ℕ) → IsBad (parse_cert e (no_cert ++ rest))
@@ -224,14 +153,14 @@ was-read e bytes rest c h =
     let chain = block_parts 32 bytes a.mid a.thing a.first in
     let requests = number_parts w64 (2 ^ 64) wide64 a.mid n.mid n.thing n.first in
     let count = test_parts few byte n.mid k.mid k.thing k.first in
-    let signers = signers-parts k.thing 0 k.mid s.mid s.thing s.first in
+    let read = signers-parts signers-grammar k.thing 0 k.mid s.mid s.thing s.first in
     let text = flat_map spell_signed s.thing in
     let number = to_be_bytes w64 n.thing in
-    let small : length s.thing < 256 = subst (λ (z : ℕ). z < 256) (sym signers.many) (ltb-true k.thing 256 count.1) in
-    let behind : n.mid ≡ length s.thing ∷ (text ++ rest) = byte_parts n.mid k.mid k.thing count.0 ∙ ap (λ (z : ℕ). z ∷ k.mid) (sym signers.many) ∙ ap (λ (z : List ℕ). length s.thing ∷ z) (signers.parts ∙ ap (λ (z : List ℕ). text ++ z) d.1) in
+    let small : length s.thing < 256 = subst (λ (z : ℕ). z < 256) (sym read.many) (ltb-true k.thing 256 count.1) in
+    let behind : n.mid ≡ length s.thing ∷ (text ++ rest) = byte_parts n.mid k.mid k.thing count.0 ∙ ap (λ (z : ℕ). z ∷ k.mid) (sym read.many) ∙ ap (λ (z : List ℕ). length s.thing ∷ z) (read.parts ∙ ap (λ (z : List ℕ). text ++ z) d.1) in
     let flat : bytes ≡ a.thing ++ (number ++ (length s.thing ∷ (text ++ rest))) = chain.parts ∙ ap (λ (z : List ℕ). a.thing ++ z) (requests.parts ∙ ap (λ (z : List ℕ). number ++ z) behind) in
     subst (λ (z : Cert). WasRead e bytes rest z) d.0 (record {
-      spelled = record { epoch = refl; chain_fits = chain.len; count_fits = requests.below; signers_fit = small; rising = signers.rising; row = refl };
+      spelled = record { epoch = refl; chain_fits = chain.len; count_fits = requests.below; signers_fit = small; rising = read.rising; row = refl };
       parts = flat ∙ sym (row-flat a.thing number text rest (length s.thing));
     })
 

@@ -1,5 +1,4 @@
 pub mod CertGrammar
-pub mod CertReading
 mod Examples
 pub mod SignedLemmas
 pub mod TallyLemmas

@@ -1,19 +1,17 @@
 -- Votes that are counted, and the certificate of those that say the same.
-use Rattle.std.proofs.Common.{◌≡◌, inl, inr, ℕ, zero, suc, ◌+◌, ◌<◌, ◌≤◌, Bool, true, false, cond, ◌&&◌, ◌==◌, eqb, List, [], ◌∷◌, ◌++◌, length, append-nil, refl, sym, ap, ◌∙◌, subst, arith, Option, Some, None}
+use Rattle.std.proofs.Common.{◌≡◌, inl, inr, ℕ, zero, suc, ◌+◌, ◌<◌, ◌≤◌, Bool, true, false, cond, ◌&&◌, ◌==◌, List, [], ◌∷◌, ◌++◌, length, append-nil, refl, sym, ap, ◌∙◌, subst, arith, Option, Some, None}
 use Rattle.std.specs.Prelude.{nat_le}
 use Rattle.std.specs.Ordering.{is_eq, nat_cmp}
 use Rattle.std.proofs.lemmas.Bool.{le-leb}
 use Rattle.std.proofs.lemmas.List.{length-append}
 use Rattle.iss_base.specs.Lists.{In, same_bytes}
 use Rattle.iss_base.proofs.Lists.{and-true, both, in_append, is-eq, same_bytes-is, same_bytes-refl, eqb-same}
+use Rattle.iss_sb.proofs.Cases.{same_number}
 use Rattle.iss_checkpoint.specs.declared.votes.Cert.{Cert}
 use Rattle.iss_checkpoint.specs.declared.votes.Signed.{Signed}
 use Rattle.iss_checkpoint.specs.declared.votes.Vote.{Vote}
 use Rattle.iss_checkpoint.specs.Votes.{Voters, are_signed, cert_statement, is_cert, is_signed, statement_of}
 use Rattle.iss_checkpoint.specs.Tallies.{AreVotes, IsVoteOf, TallyState, certificate_by, refusal, say_same, signed_below, signed_if, vote_at, with_vote}
-
-pub same-node : (a b : ℕ) → is_eq (nat_cmp a b) ≡ eqb a b
-same-node a b = grind arith
 
 -- ---- the nodes' votes, one more
 
@@ -24,7 +22,7 @@ pub with-other : (votes : List (ℕ × Vote)) (v : Vote) (k : ℕ) → (v.by.0 =
 with-other votes v k e = rw e refl
 
 pub put-at : (old new : List (ℕ × Vote)) (v : Vote) → ((k : ℕ) → vote_at new k ≡ cond (is_eq (nat_cmp v.by.0 k)) (Some v) (vote_at old k)) → (k : ℕ) → vote_at new k ≡ with_vote old v k
-put-at old new v h k = h k ∙ ap (λ (b : Bool). cond b (Some v) (vote_at old k)) (same-node v.by.0 k)
+put-at old new v h k = h k ∙ ap (λ (b : Bool). cond b (Some v) (vote_at old k)) (same_number v.by.0 k)
 
 some-same : (v u : Vote) → Some v ≡ Some u → v ≡ u
 some-same v u h = cc

@@ -5,7 +5,7 @@ use Rattle.std.specs.Int.{to_be_bytes, w64}
 use Rattle.std.proofs.lemmas.Bool.{lt-ltb, ltb-true}
 use Rattle.std.proofs.lemmas.Bool.Decides.{Decides-eqb}
 use Rattle.iss_base.proofs.Lists.{and-true, both}
-use Rattle.iss_request.specs.Fields.{Good, IsBad, IsRead, IsReadAgain, Reading, left}
+use Rattle.iss_request.specs.Fields.{Good, IsBad, IsReadAgain}
 use Rattle.iss_request.specs.Formats.{is_height, is_signature, parse_signature}
 use Rattle.iss_request.specs.Parsing.{Parser, ◌>>=◌, block, byte, done, number, such_that}
 use Rattle.iss_request.proofs.OneSpelling.{done_good, signature_again, signature_parts}
@@ -25,10 +25,6 @@ after_chain by e chain = number w64 >>= after_count by e chain
 parse_vote-is : (by e : ℕ) → parse_vote by e ≡ (block 32 >>= after_chain by e)
 unfolding parse_vote
 parse_vote-is by e = refl
-
--- a digest that was read has its length
-pub digest-long : {a b : Reading} (d : List ℕ) → IsRead (block 32) a b d → length d ≡ 32
-digest-long {a} {b} d h = (block_parts 32 (left a) (left b) d h.found).len
 
 -- ---- what fits is read again, whatever stands behind
 

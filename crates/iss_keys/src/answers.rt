@@ -1,17 +1,15 @@
 //! Answers that are remembered. A signature goes round with what it signs, so the same question is asked
 //! again and again: each answer is walked to once, and found later by all bytes of its question.
 
-ghost use Rattle.std.specs.Prelude.{◌≡◌, ◌↔◌, ℕ, ◌*◌, ◌<◌, ◌≤◌, length, slice_get, IfOk, IfSome, IsSome, IsTrue};
+ghost use Rattle.std.specs.Prelude.{◌≡◌, ◌↔◌, ℕ, ◌*◌, ◌<◌, ◌≤◌, slice_get, IfOk, IfSome, IsSome, IsTrue};
 ghost use Rattle.iss_keys.specs.Signatures.{Verifies};
 ghost use Rattle.iss_keys.specs.Questions.{Question};
 
+use crate::places::{SET, fill_places, hash_on, put_first, word_at};
 use crate::verification::{PublicKey, verify};
-use std::alloc::{AllocError, AllocFailed, Global};
+use std::alloc::{AllocError, Global};
 use std::cell::RefCell;
 use std::marker::Model;
-
-// How many answers the questions of one hash have room for.
-const SET: usize = 4;
 
 // Of longer statements no answer is remembered, so that the memory is bounded.
 const LONGEST_STATEMENT: usize = 1024;
@@ -83,15 +81,6 @@ fn sets_for(n: usize) -> usize
     places.next_power_of_two() / SET
 }
 
-// Goes on with a hash (FNV-1a) over up to `most` bytes.
-fn hash_on(hash: u64, bytes: &[u8], most: usize) -> u64 {
-    let mut hash = hash;
-    for byte in bytes.iter().take(most) {
-        hash = (hash ^ u64::from(*byte)).wrapping_mul(0x0000_0100_0000_01b3);
-    }
-    hash
-}
-
 // Where the set of a question begins. Questions of different sets differ; whoever wants can make many
 // share one, and only the last few are then remembered.
 fn set_of(sets: usize, key: &PublicKey, statement: &[u8], signature: &[u8]) -> usize
@@ -99,10 +88,14 @@ fn set_of(sets: usize, key: &PublicKey, statement: &[u8], signature: &[u8]) -> u
     requires high { sets ≤ 8192 }
     ensures { result < 4 * sets }
 {
-    let hash = hash_on(0xcbf2_9ce4_8422_2325, &key.root(), 8);
-    let hash = hash_on(hash, statement, 64);
-    let hash = hash_on(hash, signature, 69);
-    (hash ^ (hash >> 32)) as usize % sets * SET
+    let mut hash = word_at(&key.root(), 0);
+    for place in 0..8usize {
+        hash = hash_on(hash, word_at(statement, 8 * place));
+    }
+    // A signature begins with the height and its leaf's number, in five bytes, and a value of a chain.
+    hash = hash_on(hash, word_at(signature, 0));
+    hash = hash_on(hash, word_at(signature, 5));
+    hash_on(hash, statement.len() as u64) as usize % sets * SET
 }
 
 // The answer to a question, if it is among these.
@@ -124,26 +117,6 @@ fn find_answer(
         }
     }
     None
-}
-
-// Puts an answer before others, of which the last goes.
-fn put_first(answers: &mut [Option<Answer>], answer: Answer)
-    requires { 0 < length answers.old }
-    ensures { slice_get answers.new 0 ≡ Some (Some answer) }
-{
-    answers.rotate_right(1);
-    answers[0] = Some(answer);
-}
-
-// Fills up the places with no answer, as far as memory goes.
-fn fill_places(
-    places: &mut Vec<Option<Answer>>,
-    most: usize,
-) -> Result<(), AllocFailed<Option<Answer>>> {
-    for _i in places.len()..most {
-        places.push(None)?;
-    }
-    Ok(())
 }
 
 /// Answers to questions that were asked. It takes no memory before the first, and where there is none, an

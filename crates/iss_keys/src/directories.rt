@@ -1,10 +1,12 @@
 //! The public keys of all nodes and clients.
 
 ghost use Rattle.std.specs.Prelude.{◌≡◌, ◌↔◌, ℕ, List, ◌<◌, ◌≤◌, length, map, slice_get, IfOk, IfSome, IsTrue};
+ghost use Rattle.sha2.specs.Sha256.{sha256};
 ghost use Rattle.iss_keys.specs.KeyStates.{public_of};
 ghost use Rattle.iss_keys.specs.Directories.{DirectoryView, directory_of, VerifiesBy, HasKeys, node_secret, client_secret};
 
 use crate::answers::Answers;
+use crate::digests::Digests;
 use crate::keyrings::Keyring;
 use crate::marks::{CLIENT_SECRET, NODE_SECRET};
 use crate::signing::{Keys, NoMemory};
@@ -19,6 +21,7 @@ pub struct Directory {
     nodes: Keyring,
     clients: Keyring,
     answers: Answers,
+    digests: Digests,
 }
 
 impl Model for Directory {
@@ -59,6 +62,7 @@ impl Directory {
             nodes,
             clients,
             answers: Answers::new(alloc, n as usize),
+            digests: Digests::new(alloc),
         })
     }
 
@@ -72,6 +76,7 @@ impl Directory {
             nodes: Keyring::alone(alloc, NODE_SECRET, n, height),
             clients: Keyring::alone(alloc, CLIENT_SECRET, clients, height),
             answers: Answers::new(alloc, n as usize),
+            digests: Digests::new(alloc),
         }
     }
 
@@ -89,6 +94,7 @@ impl Directory {
             nodes,
             clients,
             answers: Answers::new(alloc, n),
+            digests: Digests::new(alloc),
         })
     }
 
@@ -139,5 +145,12 @@ impl Directory {
         ensures { IsTrue result ↔ VerifiesBy self.now.clients client statement.now signature.now }
     {
         verify_by(&self.clients, &self.answers, client, statement, signature)
+    }
+    /// The SHA-256 digest of a string. That of a longer string is remembered for a while, so that a string
+    /// which many ask for is digested once.
+    pub fn digest(&self, string: &[u8]) -> [u8; 32]
+        ensures { result ≡ sha256 string.now }
+    {
+        self.digests.digest(string)
     }
 }

@@ -12,12 +12,14 @@
 
 mod answers;
 mod chain;
+mod digests;
 mod digits;
 mod directories;
 mod keyrings;
 mod late;
 pub mod laws;
 mod marks;
+mod places;
 mod shared;
 mod signing;
 mod tree;

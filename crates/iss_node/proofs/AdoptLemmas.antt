@@ -1,10 +1,10 @@
 -- A node that takes over the values of a piece stands for the core of the model's step.
-use Rattle.std.proofs.Common.{arith, inl, inr, ◌≡◌, ℕ, zero, suc, ◌+◌, ◌-◌, ◌*◌, ◌<◌, ◌≤◌, Bool, true, false, ◌&&◌, ◌==◌, ◌||◌, cond, List, [], ◌∷◌, ◌++◌, Option, Some, None, length, length-append, reverse, refl, sym, ap, ◌∙◌, subst, slice_get, le_antisymm}
+use Rattle.std.proofs.Common.{arith, inl, inr, ◌≡◌, ℕ, suc, ◌+◌, ◌-◌, ◌*◌, ◌<◌, ◌≤◌, Bool, true, false, ◌&&◌, ◌==◌, ◌||◌, cond, List, [], ◌∷◌, ◌++◌, Option, Some, None, length, length-append, reverse, refl, sym, ap, ◌∙◌, subst, le_antisymm}
 use Rattle.std.specs.Prelude.{fold}
-use Rattle.std.proofs.lemmas.Bool.Decides.{leb_tells, nat_tests}
+use Rattle.std.proofs.lemmas.Bool.Decides.{leb_tells}
 use Rattle.std.proofs.lemmas.List.{append-nil, length-reverse, reverse-reverse}
 use Rattle.iss_ballots.specs.Ballots.{AreKept, BallotsState}
-use Rattle.iss_base.specs.Lists.{Different, Extends, first_of, nth, oldest, over as put_over}
+use Rattle.iss_base.specs.Lists.{Extends, first_of, nth, oldest}
 use Rattle.iss_base.proofs.Lists.{and-true, eqb-same, extends-length, extends-refl, first-some, is-eq, none-some, nth-beyond, nth-some, oldest-all}
 use Rattle.iss_buckets.specs.Waiting.{AreNew, absent}
 use Rattle.iss_checkpoint.specs.Votes.{Voters, is_cert, voters_of}
@@ -12,20 +12,20 @@ use Rattle.iss_checkpoint.specs.declared.votes.Cert.{Cert}
 use Rattle.iss_checkpoint.specs.declared.votes.Vote.{Vote}
 use Rattle.iss_keys.specs.Directories.{DirectoryView}
 use Rattle.iss_log.specs.Chains.{ChainsState, IsChainOf, chain_of, end_of, strings_from}
-use Rattle.iss_log.specs.LogState.{LogState, ahead_at, value_at}
+use Rattle.iss_log.specs.LogState.{LogState, value_at}
 use Rattle.iss_model.proofs.Casts.{adopts-sound, kept-sound}
 use Rattle.iss_model.proofs.Checked.{cert-same, end-same, strings-same}
-use Rattle.iss_model.proofs.Logs.{Later, Settled, log-chain, log-kept}
+use Rattle.iss_model.proofs.Logs.{Settled, log-chain, log-kept}
 use Rattle.iss_model.proofs.Longest.{Bounded}
 use Rattle.iss_model.proofs.Pieces.{adopts-later, adopts-settled}
 use Rattle.iss_model.proofs.Steps.{IsAdopted}
 use Rattle.iss_model.proofs.Windows.{are-windows}
-use Rattle.iss_model.specs.Concrete.{keys_of, rules_of}
+use Rattle.iss_model.specs.Concrete.{rules_of}
 use Rattle.iss_model.specs.Formats.{formats_of}
-use Rattle.iss_model.specs.Node.{Core, Early as Kept_early, Formats, Turn, adopts_piece, cert_on, grown_strings, in_next_epoch, is_true_cert, joined, keeping, onward, refiled, returned, takes_each}
-use Rattle.iss_model.specs.Past.{IsLog, Past, Piece, adopted_at, adopts, advanced, before_own, cell, cut_at, log_of, start_of}
+use Rattle.iss_model.specs.Node.{Core, Early as Kept_early, Formats, Turn, adopts_piece, cert_on, grown_strings, in_next_epoch, joined, keeping, onward, returned, takes_each}
+use Rattle.iss_model.specs.Past.{IsLog, Past, Piece, adopted_at, adopts, before_own, cell, log_of}
 use Rattle.iss_model.specs.Rules.{Rules}
-use Rattle.iss_model.specs.Sound.{IsSoundCore, held}
+use Rattle.iss_model.specs.Sound.{IsSoundCore}
 use Rattle.iss_node.proofs.EpochLemmas.{IsOver}
 use Rattle.iss_node.proofs.HeldLemmas.{each-held, onward-held, with_turn}
 use Rattle.iss_node.proofs.InstanceLemmas.{goes-trans}
@@ -33,17 +33,16 @@ use Rattle.iss_node.proofs.NextLemmas.{next-parts}
 use Rattle.iss_node.proofs.OwnEpoch.{epoch-cell, goes-on, has-slots, log-is, nothing-adopted, start-is}
 use Rattle.iss_node.proofs.SlotLemmas.{given-at, not-empty}
 use Rattle.iss_node.proofs.TiedLemmas.{AreRefiled, are-refiled, bf-long, bf-part, bounded, grown-is}
-use Rattle.iss_node.specs.Cells.{given}
 use Rattle.iss_node.specs.Flights.{FlightState, IsLanded}
 use Rattle.iss_node.specs.Growth.{IsGrown, and_values, waits_on}
-use Rattle.iss_node.specs.Inputs.{AreLogged, HasGrown, IsChained}
+use Rattle.iss_node.specs.Inputs.{HasGrown, IsChained}
 use Rattle.iss_node.specs.Shape.{IsReplica}
-use Rattle.iss_node.specs.State.{AreHeld, AreParts, IsTied, ReplicaState, bare, core_of, holding, seen_early, slot_value}
-use Rattle.iss_node.specs.Steps.{IsHeldTurn, IsLater, IsMade, IsNextEpoch, IsSameNode, IsTurnBehind, IsTurned}
+use Rattle.iss_node.specs.State.{AreParts, IsTied, ReplicaState, bare, core_of, seen_early, slot_value}
+use Rattle.iss_node.specs.Steps.{IsHeldTurn, IsLater, IsNextEpoch, IsSameNode, IsTurnBehind, IsTurned}
 use Rattle.iss_node.specs.Transfers.{IsAdoptedBy, at_slots}
 use Rattle.iss_node.specs.declared.answers.Early.{Early}
 use Rattle.iss_node.specs.declared.answers.Outcome.{Outcome}
-use Rattle.iss_request.specs.Log.{has_id, ids, log_ids}
+use Rattle.iss_request.specs.Log.{has_id, log_ids}
 use Rattle.iss_request.specs.declared.ids.NodeId.{NodeId}
 use Rattle.iss_request.specs.declared.ids.ReqId.{ReqId}
 use Rattle.iss_request.specs.declared.requests.Request.{Request}

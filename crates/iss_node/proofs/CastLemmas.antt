@@ -1,5 +1,5 @@
 -- How a node casts.
-use Rattle.std.proofs.Common.{arith, inl, inr, ◌≡◌, ℕ, zero, nat_lt, reverse, slice_get, suc, ◌+◌, ◌<◌, Bool, true, false, List, [], ◌∷◌, ◌++◌, cond, ◌==◌, ◌||◌, ◌&&◌, not, Option, Some, None, length, drop, get_or, refl, sym, ap, ◌∙◌, subst, add-one, drop-cons}
+use Rattle.std.proofs.Common.{arith, inl, inr, ◌≡◌, ℕ, zero, nat_lt, slice_get, suc, ◌+◌, ◌<◌, Bool, true, false, List, [], ◌∷◌, ◌++◌, cond, ◌==◌, ◌||◌, ◌&&◌, not, Option, Some, None, length, drop, get_or, refl, sym, ap, ◌∙◌, subst, add-one, drop-cons}
 use Rattle.std.proofs.lemmas.Bool.Decides.{nat_tests}
 use Rattle.std.proofs.lemmas.List.{length-reverse}
 use Rattle.std.specs.Prelude.{is_some}
@@ -7,14 +7,12 @@ use Rattle.std.specs.List.{list_any}
 use Rattle.iss_base.specs.Lists.{In, first_of}
 use Rattle.iss_buckets.specs.Waiting.{cut, may_cast, uncut}
 use Rattle.iss_ids.proofs.Members.{has_id-and_ids, has_id-append}
-use Rattle.iss_ids.specs.Set.{and_ids}
-use Rattle.iss_layout.specs.Layout.{Plan, bucket_of, bucket_owner, is_node, segment}
-use Rattle.iss_log.specs.LogState.{LogState, ahead_at, value_at}
+use Rattle.iss_layout.specs.Layout.{Plan, bucket_of, bucket_owner, is_node}
+use Rattle.iss_log.specs.LogState.{ahead_at, value_at}
 use Rattle.iss_model.proofs.Casts.{casting-sound}
 use Rattle.iss_model.specs.Concrete.{number_of, plan_at, rules_of}
 use Rattle.iss_model.specs.Formats.{formats_of}
-use Rattle.iss_model.specs.Judge.{marks}
-use Rattle.iss_model.specs.Node.{Core, Dropped, Formats, Stepped, Taken, Turn, casts_at, first_slot, flown, has_leaves, has_slot, inputs, is_castable, is_mine, next_slot, settles, step}
+use Rattle.iss_model.specs.Node.{Core, Dropped, Formats, Stepped, Taken, casts_at, first_slot, flown, has_leaves, has_slot, inputs, is_castable, is_mine, next_slot, settles, step}
 use Rattle.iss_model.specs.Past.{Past, before_own, leads_in, log_of, params_of, taken_in}
 use Rattle.iss_model.specs.Sound.{IsSoundCore}
 use Rattle.iss_model.specs.declared.causes.NodeEvent.TheVariants.{Propose as Proposes}
@@ -23,7 +21,7 @@ use Rattle.iss_node.proofs.InputLemmas.{own-fair, own-slot}
 use Rattle.iss_node.specs.Casts.{IsCut, casting, is_open}
 use Rattle.iss_node.specs.Flights.{FlightState}
 use Rattle.iss_node.specs.Shape.{IsReplica}
-use Rattle.iss_node.specs.State.{AreParts, IsTied, ReplicaState, core_of, led}
+use Rattle.iss_node.specs.State.{IsTied, ReplicaState, core_of, led}
 use Rattle.iss_node.specs.Steps.{IsTurnOf, IsTurned}
 use Rattle.iss_node.specs.declared.answers.Outcome.{Outcome}
 use Rattle.iss_request.specs.Log.{has_id, ids}
@@ -33,10 +31,10 @@ use Rattle.iss_request.specs.declared.ids.Slot.{Slot}
 use Rattle.iss_request.specs.declared.requests.Batch.{Batch}
 use Rattle.iss_request.specs.declared.requests.Request.{Request}
 use Rattle.iss_request.specs.declared.requests.Value.{Value}
-use Rattle.iss_sb.specs.Evidence.{Item, Module, accepts, delivered}
+use Rattle.iss_sb.specs.Evidence.{Item, Module, delivered}
 use Rattle.iss_sb.specs.declared.effects.Input.TheVariants.{Cast}
 use Rattle.iss_sb.specs.declared.effects.Params.{Params}
-use Rattle.iss_segment.specs.Instance.{IsInstance, SameIds, SegmentState}
+use Rattle.iss_segment.specs.Instance.{IsInstance, SegmentState}
 
 -- ---- the batch that is cut
 

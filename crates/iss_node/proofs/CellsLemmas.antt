@@ -1,15 +1,12 @@
-use Rattle.std.proofs.Common.{arith, zero, suc, slice_get, ◌≡◌, ◌≢◌, ℕ, ◌<◌, Bool, true, false, List, [], ◌∷◌, ◌++◌, Option, Some, None, length, refl, sym, ap, ◌∙◌, subst, if◌then◌else◌, nat_lt, nat_le, ◌==◌, Ok}
+use Rattle.std.proofs.Common.{arith, zero, suc, slice_get, ◌≡◌, ◌≢◌, ℕ, ◌<◌, Bool, true, false, List, [], ◌∷◌, ◌++◌, Option, Some, None, length, refl, sym, ap, ◌∙◌, subst, if◌then◌else◌, ◌==◌, Ok}
 use Rattle.std.specs.Prelude.{IsSome}
-use Rattle.std.specs.List.{filter}
 use Rattle.std.proofs.lemmas.Bool.Decides.{nat_tests}
 use Rattle.iss_base.specs.Lists.{first_of}
 use Rattle.iss_log.specs.LogState.{LogState, IsFill, ahead_at, value_at}
 use Rattle.iss_log.specs.declared.log.Fill.{Fill}
 use Rattle.iss_log.specs.declared.log.Fill.TheVariants.{Filled, Already, Past}
-use Rattle.iss_model.specs.Node.{flying}
 use Rattle.iss_node.specs.Cells.{AreFilled, given}
 use Rattle.iss_request.specs.declared.ids.Slot.{Slot}
-use Rattle.iss_request.specs.declared.requests.Batch.{Batch}
 use Rattle.iss_request.specs.declared.requests.Value.{Value}
 
 given-append : (ds : List (Slot × Value)) (d : Slot × Value) (s : ℕ) → given (ds ++ d ∷ []) s ≡ first_of (given ds s) (if d.0.0 == s then Some d.1 else None)

@@ -1,28 +1,23 @@
 -- What becomes of a vote at a node.
-use Rattle.std.proofs.Common.{◌≡◌, ◌↔◌, ℕ, suc, ◌<◌, Bool, true, false, ◌&&◌, cond, not, List, [], ◌∷◌, ◌++◌, nat_lt, refl, sym, ap, ◌∙◌, subst}
-use Rattle.std.proofs.lemmas.Bool.{lt-ltb}
-use Rattle.iss_ballots.specs.Ballots.{AreKept, BallotsState, IsTaken, is_held, is_true, stable_by}
-use Rattle.iss_checkpoint.specs.Votes.{Voters, is_signed, statement_of, voters_of}
+use Rattle.std.proofs.Common.{◌≡◌, ℕ, suc, Bool, true, false, cond, not, List, [], ◌∷◌, ◌++◌, nat_lt, refl, sym, ap, ◌∙◌, subst}
+use Rattle.iss_ballots.specs.Ballots.{AreKept, BallotsState, is_held, is_true, stable_by}
+use Rattle.iss_checkpoint.specs.Votes.{Voters, voters_of}
 use Rattle.iss_checkpoint.specs.declared.votes.Cert.{Cert}
 use Rattle.iss_checkpoint.specs.declared.votes.Vote.{Vote}
-use Rattle.iss_keys.proofs.DirectoryLemmas.{node-below, verified-by}
 use Rattle.iss_keys.specs.Directories.{DirectoryView}
-use Rattle.iss_keys.specs.VerifiedBy.{is_verified_by}
 use Rattle.iss_model.proofs.Checked.{vote-same}
 use Rattle.iss_model.specs.Concrete.{keys_of, rules_of}
-use Rattle.iss_model.specs.Formats.{formats_of}
-use Rattle.iss_model.specs.Node.{Core, Dropped, Stepped, Taken, Turn, all_verify, claim_of_vote, counted, is_counted, rests, takes_vote}
+use Rattle.iss_model.specs.Node.{Core, Dropped, Taken, all_verify, claim_of_vote, counted, is_counted, rests, takes_vote}
 use Rattle.iss_model.specs.Past.{Past}
 use Rattle.iss_model.specs.Rules.{Rules}
 use Rattle.iss_model.specs.declared.causes.Why.TheVariants.{BadClaim, Known, OtherEpoch}
 use Rattle.iss_node.proofs.MadeLemmas.{nothing, nothing-made, nothing-sent}
 use Rattle.iss_node.specs.Shape.{IsReplica}
-use Rattle.iss_node.specs.State.{AreHeld, AreParts, IsTied, ReplicaState, bare, core_of}
+use Rattle.iss_node.specs.State.{AreHeld, IsTied, ReplicaState}
 use Rattle.iss_node.specs.Steps.{IsHeldDropped, IsHeldTaken}
 use Rattle.iss_node.specs.declared.answers.Outcome.{Outcome}
 use Rattle.iss_request.specs.declared.setups.Setup.{Setup}
 use Rattle.iss_sb.specs.Evidence.{Item, Module}
-use Rattle.iss_sb.specs.declared.effects.Claim.{Claim}
 use Rattle.iss_sb.specs.declared.effects.Params.{Params}
 
 -- a vote's claim verifies where the vote is true

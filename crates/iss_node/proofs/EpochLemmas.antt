@@ -1,38 +1,33 @@
 -- The end of an epoch: the node stands for the core in the next one.
-use Rattle.std.proofs.Common.{arith, inl, inr, ◌≡◌, ℕ, zero, suc, ◌+◌, ◌-◌, ◌*◌, ◌^◌, ◌<◌, ◌≤◌, Bool, true, false, cond, eqb, not, get_or, add-one, List, [], ◌∷◌, ◌++◌, ◌||◌, Option, Some, None, length, length-append, take, reverse, refl, sym, ap, ◌∙◌, subst, nat_le}
-use Rattle.std.specs.Prelude.{is_some}
+use Rattle.std.proofs.Common.{arith, ◌≡◌, ℕ, suc, ◌+◌, ◌-◌, ◌*◌, ◌^◌, ◌<◌, ◌≤◌, Bool, true, false, get_or, add-one, List, [], ◌∷◌, ◌++◌, ◌||◌, Option, None, length, take, reverse, refl, sym, ap, ◌∙◌, subst, nat_le}
 use Rattle.std.specs.List.{filter}
 use Rattle.std.proofs.Math.Seq.{take-suc}
 use Rattle.std.proofs.lemmas.List.{length-reverse}
 use Rattle.iss_base.specs.Lists.{Extends}
-use Rattle.iss_base.proofs.Lists.{oldest-part}
 use Rattle.iss_ids.proofs.Members.{has_id-append}
 use Rattle.iss_layout.proofs.PastLemmas.{epochs-kept, slots-in}
-use Rattle.iss_layout.specs.Layout.{Conduct, Ended, IsStanding, Plan, conduct_of, epochs, leads, next_ended, nils_in, plan_by, segment, slots_from, slots_in}
+use Rattle.iss_layout.specs.Layout.{Conduct, Ended, IsStanding, Plan, conduct_of, epochs, next_ended, nils_in, plan_by, slots_from, slots_in}
 use Rattle.iss_keys.specs.Directories.{AreKeysOf}
 use Rattle.iss_log.specs.Chains.{IsChainOf}
 use Rattle.iss_log.specs.LogState.{value_at}
 use Rattle.iss_model.proofs.Casts.{ends-sound}
-use Rattle.iss_model.proofs.Ending.{advanced-log, before-advanced, complete-far, ended-start}
-use Rattle.iss_model.proofs.Epochs.{length-cut}
+use Rattle.iss_model.proofs.Ending.{advanced-log, before-advanced, ended-start}
 use Rattle.iss_model.proofs.Windows.{are-windows}
-use Rattle.iss_model.specs.Concrete.{keys_of, plan_at, rules_of, start_at}
+use Rattle.iss_model.specs.Concrete.{plan_at, rules_of, start_at}
 use Rattle.iss_model.specs.Formats.{formats_of}
 use Rattle.iss_model.specs.Node.{flown, in_next_epoch, is_nil_at, joined}
-use Rattle.iss_model.specs.Past.{Past, advanced, before_own, is_complete, log_of, start_of, taken_in}
+use Rattle.iss_model.specs.Past.{Past, advanced, before_own, is_complete, log_of, start_of}
 use Rattle.iss_model.specs.Sound.{IsSoundCore}
 use Rattle.iss_node.proofs.GrowthLemmas.{log_ids-append}
 use Rattle.iss_node.proofs.TiedLemmas.{bf-long, bf-part, bounded, split-log}
 use Rattle.iss_node.proofs.OwnEpoch.{has-slots, start-at-is, start-is}
-use Rattle.iss_node.specs.Epochs.{AreStarted, HasClosed, notes, params_by}
-use Rattle.iss_node.specs.Flights.{FlightState}
+use Rattle.iss_node.specs.Epochs.{AreStarted, notes, params_by}
 use Rattle.iss_node.specs.Shape.{IsReplica}
-use Rattle.iss_node.specs.State.{AreParts, IsLed, IsTied, IsTiedOver, ReplicaState, accepted_of, core_of, led, slot_value}
+use Rattle.iss_node.specs.State.{AreParts, IsTied, IsTiedOver, ReplicaState, core_of, slot_value}
 use Rattle.iss_request.specs.Log.{has_id, log_ids, same_id}
 use Rattle.iss_request.specs.declared.ids.ReqId.{ReqId}
 use Rattle.iss_request.specs.declared.ids.Slot.{Slot}
 use Rattle.iss_request.specs.declared.requests.Value.{Value}
-use Rattle.iss_request.specs.declared.setups.Setup.{Setup}
 use Rattle.iss_sb.specs.Evidence.{Item, Module, accepts, delivered}
 use Rattle.iss_sb.specs.declared.effects.Params.{Params}
 use Rattle.iss_segment.specs.Ground.{RestsOn, noted_before}

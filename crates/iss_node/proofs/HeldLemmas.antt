@@ -1,5 +1,5 @@
 -- A step that looks at no vote makes the same of a core with votes and certificates, which stay.
-use Rattle.std.proofs.Common.{◌≡◌, ℕ, suc, ◌==◌, eqb, Bool, true, false, cond, not, List, [], ◌∷◌, ◌++◌, Option, Some, None, refl, sym, ap, ◌∙◌, subst}
+use Rattle.std.proofs.Common.{◌≡◌, ℕ, suc, ◌==◌, Bool, true, false, cond, not, List, [], ◌∷◌, ◌++◌, Option, Some, None, refl, sym, ap, ◌∙◌, subst}
 use Rattle.std.specs.Prelude.{nat_lt, length}
 use Rattle.iss_ballots.specs.Ballots.{AreKept, BallotsState}
 use Rattle.iss_checkpoint.specs.declared.votes.Cert.{Cert}
@@ -9,18 +9,16 @@ use Rattle.iss_model.specs.Formats.{formats_of}
 use Rattle.iss_model.specs.Node.{Core, Dropped, Early, Formats, Stepped, Taken, Turn, all_verify, at_instance, by_verdict, casts_at, claims_in, claims_of_input, early_most, ended, ends, has_leaves, inputs, is_known, keeps_early, next_slot, onward, rests, settled, settles, step, takes_each, takes_early, takes_message, takes_request, tried, verdict_in}
 use Rattle.iss_model.specs.Past.{before_own, is_complete, leads_in, params_of}
 use Rattle.iss_model.specs.Rules.{Rules}
-use Rattle.iss_model.specs.declared.causes.NodeEvent.TheVariants.{Propose as Proposes, Timeout as Fires}
+use Rattle.iss_model.specs.declared.causes.NodeEvent.TheVariants.{Propose as Proposes}
 use Rattle.iss_model.specs.declared.causes.Refusal.{Refusal}
 use Rattle.iss_model.specs.declared.causes.Why.{Why}
-use Rattle.iss_model.specs.declared.causes.Why.TheVariants.{BadClaim, BadRequest, EarlyFull, Known, NoKeys, NotLeader, NothingToCast, OtherEpoch, OutOfWindow}
+use Rattle.iss_model.specs.declared.causes.Why.TheVariants.{BadClaim, BadRequest, EarlyFull, Known, NoKeys, NotLeader, OtherEpoch, OutOfWindow}
 use Rattle.iss_node.proofs.SettleLemmas.{at-core}
 use Rattle.iss_node.specs.Casts.{casting}
-use Rattle.iss_node.specs.State.{AreHeld, AreParts, ReplicaState, bare, core_of, holding}
+use Rattle.iss_node.specs.State.{AreHeld, AreParts, ReplicaState, bare, holding}
 use Rattle.iss_node.specs.Steps.{IsHeldStep, IsHeldStepOf, IsLater, IsStep, IsStepOf}
-use Rattle.iss_node.specs.declared.answers.Outcome.{Outcome}
 use Rattle.iss_node.specs.declared.answers.Stepped.{Stepped as Answered}
 use Rattle.iss_node.specs.declared.answers.Stepped.TheVariants.{Dropped as Drops, Taken as Takes}
-use Rattle.iss_request.specs.declared.ids.NodeId.{NodeId}
 use Rattle.iss_request.specs.declared.ids.Slot.{Slot}
 use Rattle.iss_request.specs.declared.requests.Request.{Request}
 use Rattle.iss_sb.specs.Evidence.{Item, Module}

@@ -1,37 +1,30 @@
 -- A node whose instance took an input stands for the core after it.
-use Rattle.std.proofs.Common.{arith, inl, inr, ◌≡◌, ◌≢◌, ◌⊎◌, ℕ, zero, suc, ◌+◌, ◌-◌, ◌*◌, ◌^◌, ◌<◌, ◌≤◌, Bool, true, false, List, [], ◌∷◌, ◌++◌, ◌==◌, ◌||◌, ◌&&◌, not, cond, Option, Some, None, length, length-append, take, reverse, refl, sym, ap, ◌∙◌, subst, if◌then◌else◌, append_assoc}
+use Rattle.std.proofs.Common.{arith, inl, inr, ◌≡◌, ◌≢◌, ◌⊎◌, ℕ, ◌+◌, ◌*◌, ◌^◌, ◌<◌, ◌≤◌, true, false, List, [], ◌∷◌, ◌++◌, ◌==◌, ◌||◌, cond, Option, Some, None, length, length-append, reverse, refl, sym, ap, ◌∙◌, subst}
 use Rattle.std.specs.Prelude.{fold, is_some}
 use Rattle.std.proofs.lemmas.Bool.Decides.{nat_tests}
-use Rattle.std.proofs.lemmas.List.{length-reverse, reverse-append, reverse-reverse}
-use Rattle.iss_base.specs.Lists.{Different, Extends, In, first_of, oldest, set_at2}
-use Rattle.iss_base.proofs.Lists.{extends-length, oldest-part, same_or_not, set_at2-other, set_at2-same}
-use Rattle.iss_buckets.specs.Waiting.{AreNew, absent, waits}
+use Rattle.std.proofs.lemmas.List.{reverse-append}
+use Rattle.iss_base.specs.Lists.{In, first_of}
+use Rattle.iss_base.proofs.Lists.{same_or_not, set_at2-other, set_at2-same}
+use Rattle.iss_buckets.specs.Waiting.{AreNew, absent}
 use Rattle.iss_keys.specs.Directories.{AreKeysOf}
 use Rattle.iss_keys.specs.KeyStates.{KeyState}
 use Rattle.iss_layout.proofs.FairLemmas.{fair, good_plan}
-use Rattle.iss_layout.specs.Layout.{IsFair, Plan, leads, segment}
+use Rattle.iss_layout.specs.Layout.{IsFair, leads, segment}
 use Rattle.iss_log.specs.Chains.{ChainsState, IsChainOf, chain_of, strings_from}
 use Rattle.iss_log.specs.LogState.{LogState, value_at}
-use Rattle.iss_ids.proofs.Members.{has_id-append}
-use Rattle.iss_model.proofs.Casts.{inputs-sound, joined-newer, settled-core}
-use Rattle.iss_model.proofs.Epochs.{length-cut}
-use Rattle.iss_model.proofs.Flights.{AreParts as AreTwo, ids-carried, parts-of}
-use Rattle.iss_model.proofs.Ids.{has-not, ids-append, in-ids}
-use Rattle.iss_model.proofs.Logs.{Later, before-later, log-chain, log-kept, log-later, takes-later}
+use Rattle.iss_model.proofs.Casts.{inputs-sound}
+use Rattle.iss_model.proofs.Logs.{Later, before-later, log-chain, log-kept, takes-later}
 use Rattle.iss_model.proofs.Longest.{Bounded}
 use Rattle.iss_model.specs.Concrete.{number_of, plan_at, rules_of, start_at}
 use Rattle.iss_model.specs.Formats.{formats_of}
-use Rattle.iss_model.specs.Node.{Core, Formats, Turn, flown, flying, grown_strings, inputs, joined, own_claims, packed, returned}
-use Rattle.iss_model.specs.Past.{IsLog, Past, before_own, log_of, params_of, start_of, taken_in, takes}
-use Rattle.iss_model.specs.Rules.{Rules}
-use Rattle.iss_model.specs.Sound.{IsSoundCore, carried, held}
-use Rattle.iss_node.proofs.FlightLemmas.{still-flown}
-use Rattle.iss_node.proofs.GivenLemmas.{given-in, in-given, slot-in, slot-next}
-use Rattle.iss_node.proofs.GrowthLemmas.{log_ids-append, note-all, waiting-is}
+use Rattle.iss_model.specs.Node.{Core, Formats, inputs, own_claims, packed, returned}
+use Rattle.iss_model.specs.Past.{IsLog, Past, before_own, log_of, params_of, taken_in, takes}
+use Rattle.iss_model.specs.Sound.{IsSoundCore}
+use Rattle.iss_node.proofs.GivenLemmas.{slot-in, slot-next}
 use Rattle.iss_node.proofs.OwnEpoch.{log-is, start-at-is}
 use Rattle.iss_node.proofs.TiedLemmas.{AreRefiled, are-refiled, bf-long, bf-part, grown-is}
 use Rattle.iss_node.specs.Cells.{given}
-use Rattle.iss_node.specs.Flights.{FlightState, IsLanded, landed}
+use Rattle.iss_node.specs.Flights.{FlightState, IsLanded}
 use Rattle.iss_node.specs.Growth.{IsGrown, and_values, waits_on}
 use Rattle.iss_node.specs.Inputs.{and_accepted}
 use Rattle.iss_node.specs.Shape.{IsReplica}
@@ -39,14 +32,13 @@ use Rattle.iss_node.specs.State.{AreParts, IsLed, IsTied, IsTiedOver, ReplicaSta
 use Rattle.iss_node.specs.Steps.{IsMade}
 use Rattle.iss_node.specs.declared.answers.Accepted.{Accepted}
 use Rattle.iss_node.specs.declared.answers.Outcome.{Outcome}
-use Rattle.iss_request.specs.Log.{has_id, ids, log_ids}
+use Rattle.iss_request.specs.Log.{has_id, log_ids}
 use Rattle.iss_request.specs.declared.ids.NodeId.{NodeId}
 use Rattle.iss_request.specs.declared.ids.ReqId.{ReqId}
 use Rattle.iss_request.specs.declared.ids.Slot.{Slot}
 use Rattle.iss_request.specs.declared.requests.Batch.{Batch}
 use Rattle.iss_request.specs.declared.requests.Request.{Request}
 use Rattle.iss_request.specs.declared.requests.Value.{Value}
-use Rattle.iss_request.specs.declared.setups.Setup.{Setup}
 use Rattle.iss_sb.specs.Calls.{AllIn, AreToNodes, IsTaken, slots_of}
 use Rattle.iss_sb.specs.Evidence.{Item, Made, Module, accepts, and_then, delivered, one_or_none}
 use Rattle.iss_sb.specs.Laws.{IsLawful}
@@ -56,7 +48,7 @@ use Rattle.iss_sb.specs.declared.effects.Params.{Params}
 use Rattle.iss_sb.specs.declared.effects.To.{To}
 use Rattle.iss_segment.specs.Answers.{IsInstanceTaken}
 use Rattle.iss_segment.specs.Ground.{noted_before}
-use Rattle.iss_segment.specs.Instance.{IsInstance, SameIds, SegmentState}
+use Rattle.iss_segment.specs.Instance.{IsInstance, SegmentState}
 use Rattle.iss_window.specs.Kept.{StandsFor}
 
 abbrev pub slot_at : ℕ → Slot

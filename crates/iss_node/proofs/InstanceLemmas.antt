@@ -1,12 +1,12 @@
 -- What the tests before an input say of the model's step.
-use Rattle.std.proofs.Common.{arith, ◌≡◌, ◌≢◌, ℕ, ◌<◌, Bool, true, false, List, [], ◌∷◌, ◌++◌, cond, not, Option, Some, None, Result, Ok, Err, IfOk, length, refl, sym, ap, ◌∙◌, subst, true≢false}
+use Rattle.std.proofs.Common.{◌≡◌, ◌≢◌, ℕ, Bool, true, false, List, [], ◌∷◌, ◌++◌, cond, not, Option, Some, None, Result, Ok, Err, IfOk, refl, sym, ap, ◌∙◌, subst, true≢false}
 use Rattle.std.specs.Prelude.{OnOk, is_some}
 use Rattle.iss_layout.specs.Layout.{Plan, leads}
 use Rattle.iss_log.specs.LogState.{GoesOn}
-use Rattle.iss_model.specs.Concrete.{plan_at, rules_of}
+use Rattle.iss_model.specs.Concrete.{rules_of}
 use Rattle.iss_model.specs.Formats.{formats_of}
-use Rattle.iss_model.specs.Node.{Core, Dropped, Formats, Stepped, Taken, Turn, all_verify, at_instance, by_verdict, claims_of_input, has_leaves, inputs, verdict, verdict_in}
-use Rattle.iss_model.specs.Past.{Past, asked_in, before_own, leads_in, params_of, taken_in}
+use Rattle.iss_model.specs.Node.{Dropped, Formats, Turn, all_verify, at_instance, by_verdict, claims_of_input, has_leaves, inputs, verdict, verdict_in}
+use Rattle.iss_model.specs.Past.{Past, before_own, leads_in, params_of, taken_in}
 use Rattle.iss_model.specs.declared.causes.Refusal.{Refusal}
 use Rattle.iss_model.specs.declared.causes.Why.TheVariants.{BadClaim, NotLeader, NoKeys, Refused}
 use Rattle.iss_node.specs.Inputs.{IsAbsorbed, IsChained, IsHandedOut, IsInputTaken, IsVerdictAt}
@@ -16,8 +16,6 @@ use Rattle.iss_node.specs.Steps.{IsLater, IsStepDropped, IsStepTaken, IsTurnOf, 
 use Rattle.iss_node.specs.declared.answers.Outcome.{Outcome}
 use Rattle.iss_node.proofs.InputLemmas.{addressed-next, made-next, parts-next}
 use Rattle.iss_request.specs.declared.ids.NodeId.{NodeId}
-use Rattle.iss_request.specs.declared.ids.Slot.{Slot}
-use Rattle.iss_request.specs.declared.requests.Batch.{Batch}
 use Rattle.iss_request.specs.declared.requests.Value.{Value}
 use Rattle.iss_keys.specs.Directories.{AreKeysOf}
 use Rattle.iss_keys.specs.KeyStates.{KeyState}
@@ -28,7 +26,6 @@ use Rattle.iss_sb.specs.Laws.{IsLawful}
 use Rattle.iss_sb.specs.declared.effects.Effects.{Effects}
 use Rattle.iss_sb.specs.declared.effects.Input.{Input}
 use Rattle.iss_sb.specs.declared.effects.Params.{Params}
-use Rattle.iss_sb.specs.declared.effects.To.{To}
 use Rattle.iss_segment.specs.Answers.{IsInstanceTaken}
 use Rattle.iss_segment.specs.Ground.{RestsOn}
 use Rattle.iss_segment.specs.Instance.{SegmentState}

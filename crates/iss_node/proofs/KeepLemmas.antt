@@ -1,10 +1,10 @@
 -- Messages of the next epoch that a node keeps.
-use Rattle.std.proofs.Common.{arith, inl, inr, ◌≡◌, ℕ, suc, ◌+◌, ◌<◌, ◌≤◌, Bool, true, false, List, [], ◌∷◌, ◌++◌, ◌==◌, nat_lt, eqb, cond, not, length, refl, sym, ap, ◌∙◌, subst}
+use Rattle.std.proofs.Common.{arith, ◌≡◌, ℕ, suc, ◌<◌, ◌≤◌, true, false, List, [], ◌∷◌, ◌++◌, nat_lt, eqb, length, refl, sym, ap, ◌∙◌, subst}
 use Rattle.std.proofs.lemmas.Bool.Decides.{nat_tests}
 use Rattle.iss_model.proofs.Casts.{early-sound}
 use Rattle.iss_model.specs.Concrete.{rules_of}
 use Rattle.iss_model.specs.Formats.{formats_of}
-use Rattle.iss_model.specs.Node.{Core, Dropped, Early as Kept_early, Formats, Stepped, Taken, Turn, at_instance, early_most, keeps_early, rests, settled, takes_message}
+use Rattle.iss_model.specs.Node.{Core, Dropped, Early as Kept_early, Formats, Stepped, at_instance, early_most, keeps_early, rests, settled, takes_message}
 use Rattle.iss_model.specs.Past.{Past}
 use Rattle.iss_model.specs.Sound.{IsSoundCore}
 use Rattle.iss_model.specs.declared.causes.Why.TheVariants.{EarlyFull, OtherEpoch}
@@ -12,16 +12,14 @@ use Rattle.iss_node.proofs.MadeLemmas.{nothing, nothing-made, nothing-sent}
 use Rattle.iss_node.proofs.RequestLemmas.{moved}
 use Rattle.iss_node.specs.Shape.{AreFrom, IsReplica}
 use Rattle.iss_node.specs.State.{AreParts, IsTied, ReplicaState, core_of, seen_early, seen_one}
-use Rattle.iss_node.specs.Steps.{IsStep, IsStepDropped, IsStepTaken}
+use Rattle.iss_node.specs.Steps.{IsStep}
 use Rattle.iss_node.specs.declared.answers.Early.{Early}
 use Rattle.iss_node.specs.declared.answers.Outcome.{Outcome}
 use Rattle.iss_node.specs.declared.answers.Stepped.TheVariants.{Dropped as Drops, Taken as Takes}
 use Rattle.iss_request.specs.declared.ids.NodeId.{NodeId}
-use Rattle.iss_sb.specs.Calls.{AreToNodes}
 use Rattle.iss_sb.specs.Evidence.{Item, Module}
 use Rattle.iss_sb.specs.declared.effects.Input.TheVariants.{Receive}
 use Rattle.iss_sb.specs.declared.effects.Params.{Params}
-use Rattle.iss_sb.specs.declared.effects.To.{To}
 
 seen-more : {Msg : Type 0} (xs : List (Early Msg)) (x : Early Msg) → seen_early (xs ++ x ∷ []) ≡ seen_early xs ++ seen_one x ∷ []
 seen-more [] x = refl

@@ -1,16 +1,16 @@
 -- The next epoch begins.
-use Rattle.std.proofs.Common.{arith, ◌≡◌, ℕ, suc, ◌+◌, ◌^◌, ◌<◌, ◌≤◌, Bool, true, false, List, [], ◌∷◌, Option, Some, None, is_some, eqb, ◌≢◌, length, reverse, refl, sym, ap, ◌∙◌, subst, nat_le, true≢false}
+use Rattle.std.proofs.Common.{arith, ◌≡◌, ℕ, ◌+◌, ◌^◌, ◌<◌, Bool, true, false, List, [], ◌∷◌, Option, Some, None, is_some, eqb, ◌≢◌, length, reverse, refl, sym, ap, ◌∙◌, subst, nat_le, true≢false}
 use Rattle.iss_base.proofs.Lists.{is-eq}
 use Rattle.std.specs.List.{filter}
-use Rattle.iss_layout.specs.Layout.{Conduct, Ended, IsStanding, Plan, conduct_of, plan_by, slots_from}
+use Rattle.iss_layout.specs.Layout.{Conduct, Ended, IsStanding, Plan, plan_by, slots_from}
 use Rattle.iss_model.specs.Concrete.{rules_of}
 use Rattle.iss_model.specs.Formats.{formats_of}
-use Rattle.iss_model.specs.Node.{Core, Formats, Turn, at_instance, claims_in, ended, in_next_epoch, is_nil_at, takes_early, tried}
+use Rattle.iss_model.specs.Node.{Turn, at_instance, claims_in, ended, in_next_epoch, is_nil_at, takes_early, tried}
 use Rattle.iss_model.specs.Past.{Past, is_complete}
 use Rattle.iss_node.proofs.EpochLemmas.{IsOver, complete-is, parts-opened}
-use Rattle.iss_node.specs.Epochs.{AreStarted, HasClosed, HasOpened, both, notes}
-use Rattle.iss_node.specs.Shape.{AreFrom, IsReplica}
-use Rattle.iss_node.specs.State.{AreParts, IsTied, ReplicaState, core_of, led, seen_one}
+use Rattle.iss_node.specs.Epochs.{AreStarted, HasOpened, both, notes}
+use Rattle.iss_node.specs.Shape.{IsReplica}
+use Rattle.iss_node.specs.State.{AreParts, IsTied, ReplicaState, core_of, seen_one}
 use Rattle.iss_node.proofs.MadeLemmas.{early-made}
 use Rattle.iss_node.proofs.SettleLemmas.{early-not, early-on, ended-by}
 use Rattle.iss_node.specs.Casts.{IsCut}
@@ -21,10 +21,8 @@ use Rattle.iss_node.specs.declared.answers.Accepted.{Accepted}
 use Rattle.iss_node.specs.declared.answers.Early.{Early}
 use Rattle.iss_request.specs.declared.ids.ReqId.{ReqId}
 use Rattle.iss_request.specs.declared.requests.Batch.{Batch}
-use Rattle.iss_request.specs.declared.ids.NodeId.{NodeId}
 use Rattle.iss_request.specs.declared.ids.Slot.{Slot}
 use Rattle.iss_request.specs.declared.requests.Value.{Value}
-use Rattle.iss_request.specs.declared.setups.Setup.{Setup}
 use Rattle.iss_sb.specs.Calls.{AreToNodes}
 use Rattle.iss_sb.specs.Evidence.{Item, Module}
 use Rattle.iss_sb.specs.declared.effects.Claim.{Claim}

@@ -1,8 +1,7 @@
 -- Which slots of a log hold nil.
-use Rattle.std.proofs.Common.{arith, ◌≡◌, ℕ, zero, suc, ◌+◌, ◌<◌, ◌≤◌, Bool, true, false, cond, eqb, not, List, [], ◌∷◌, ◌++◌, length, length-append, take, drop, get_or, reverse, refl, sym, ap, ◌∙◌, subst, add-one, drop-cons, append_assoc}
+use Rattle.std.proofs.Common.{arith, ◌≡◌, ℕ, zero, suc, ◌+◌, ◌<◌, ◌≤◌, true, false, eqb, not, List, [], ◌∷◌, ◌++◌, length, length-append, take, drop, get_or, reverse, refl, sym, ap, ◌∙◌, add-one, drop-cons, append_assoc}
 use Rattle.std.proofs.lemmas.Bool.Decides.{nat_tests}
 use Rattle.std.proofs.lemmas.List.{length-reverse, reverse-append, take-append-drop}
-use Rattle.std.proofs.Math.Seq.{take-suc}
 use Rattle.iss_model.specs.Node.{is_nil_at}
 use Rattle.iss_request.specs.Formats.{is_batch}
 use Rattle.iss_request.specs.declared.requests.Value.{Value}

@@ -1,5 +1,5 @@
 -- A node's answers, from the steps of its parts.
-use Rattle.std.proofs.Common.{arith, inl, inr, ◌≡◌, ◌⊎◌, ℕ, zero, suc, ◌≤◌, Bool, true, false, List, [], ◌∷◌, ◌++◌, length, length-append, take, refl, sym, ap, ◌∙◌, subst, true≢false}
+use Rattle.std.proofs.Common.{arith, inl, inr, ◌≡◌, ℕ, ◌≤◌, Bool, false, List, [], ◌∷◌, ◌++◌, length, length-append, take, refl, sym, ap, ◌∙◌, true≢false}
 use Rattle.iss_log.specs.LogState.{GoesOn}
 use Rattle.iss_model.specs.Concrete.{rules_of}
 use Rattle.iss_model.specs.Formats.{formats_of}
@@ -7,7 +7,7 @@ use Rattle.iss_model.specs.Node.{Core, step}
 use Rattle.iss_model.specs.declared.causes.NodeEvent.{NodeEvent}
 use Rattle.iss_model.specs.declared.causes.Why.{Why}
 use Rattle.iss_node.specs.Shape.{IsNode}
-use Rattle.iss_node.specs.State.{NodeState, ReplicaState, Stands}
+use Rattle.iss_node.specs.State.{ReplicaState, Stands}
 use Rattle.iss_node.specs.Steps.{IsAnswer, IsHeldStepOf, IsOfNodes}
 use Rattle.iss_node.specs.declared.answers.Answer.TheVariants.{Dropped as Drop, Taken as Take}
 use Rattle.iss_node.specs.declared.answers.Outcome.{Outcome}

@@ -7,7 +7,7 @@ use Rattle.iss_base.proofs.Lists.{chain-part, extends-cons, extends-length, exte
 use Rattle.iss_layout.proofs.FairLemmas.{few_nodes}
 use Rattle.iss_log.specs.LogState.{LogState, ahead_at, value_at}
 use Rattle.iss_model.specs.Concrete.{rules_of, start_at}
-use Rattle.iss_model.specs.Past.{IsLog, Past, adopted_at, before_at, cell, cut_at, epoch_at, log_of, start_of, taken_in}
+use Rattle.iss_model.specs.Past.{IsLog, Past, adopted_at, before_at, cell, cut_at, epoch_at, log_of, start_of}
 use Rattle.iss_model.proofs.Ending.{HasSlots}
 use Rattle.iss_model.proofs.Epochs.{epoch-high, epoch-unique, start-mono}
 use Rattle.iss_model.proofs.Logs.{log-chain}

@@ -1,8 +1,8 @@
 -- What becomes of a piece at a node.
-use Rattle.std.proofs.Common.{arith, ◌≡◌, ℕ, suc, ◌*◌, ◌≤◌, Bool, true, false, ◌&&◌, cond, eqb, if◌then◌else◌, not, List, length, reverse, nat_lt, refl, sym, ap, ap₂, ◌∙◌, subst}
+use Rattle.std.proofs.Common.{arith, ◌≡◌, ℕ, suc, ◌≤◌, Bool, true, false, ◌&&◌, cond, eqb, if◌then◌else◌, not, List, length, reverse, nat_lt, refl, sym, ap, ap₂, ◌∙◌, subst}
 use Rattle.std.proofs.lemmas.Bool.Decides.{nat_tests}
 use Rattle.std.proofs.lemmas.List.{length-reverse, reverse-reverse}
-use Rattle.iss_checkpoint.specs.Votes.{Voters, is_cert, voters_of}
+use Rattle.iss_checkpoint.specs.Votes.{Voters, voters_of}
 use Rattle.iss_keys.specs.Directories.{DirectoryView}
 use Rattle.iss_log.specs.Chains.{IsChainOf, chain_of, end_of, strings_from}
 use Rattle.iss_log.specs.declared.chains.End.{End}

@@ -1,17 +1,15 @@
 -- What a node shows, and how it keeps early messages.
-use Rattle.std.proofs.Common.{arith, inl, inr, ◌≡◌, ℕ, zero, suc, ◌+◌, ◌<◌, ◌≤◌, Bool, true, false, List, [], ◌∷◌, ◌++◌, ◌||◌, ◌&&◌, cond, not, map, Option, Some, None, length, refl, sym, ap, ◌∙◌, subst}
+use Rattle.std.proofs.Common.{arith, inl, inr, ◌≡◌, ℕ, suc, ◌<◌, ◌≤◌, Bool, true, false, List, [], ◌∷◌, ◌++◌, ◌||◌, ◌&&◌, cond, not, Option, Some, None, length, refl, sym, ap, ◌∙◌, subst}
 use Rattle.std.specs.Prelude.{is_some, nat_lt}
-use Rattle.std.specs.List.{filter, list_any}
+use Rattle.std.specs.List.{list_any}
 use Rattle.std.proofs.lemmas.Bool.Decides.{nat_tests}
-use Rattle.std.proofs.lemmas.List.Elements.{filter-append}
-use Rattle.iss_base.specs.Lists.{In, below}
+use Rattle.iss_base.specs.Lists.{In}
 use Rattle.iss_log.specs.LogState.{LogState, value_at}
 use Rattle.iss_model.proofs.Casts.{early-sound}
 use Rattle.iss_model.specs.Concrete.{rules_of}
 use Rattle.iss_model.specs.Formats.{formats_of}
-use Rattle.iss_model.specs.Node.{Core, Dropped, Early as Kept_early, Stepped, Taken, early_most, keeps_early, rests}
+use Rattle.iss_model.specs.Node.{Dropped, Early as Kept_early, Stepped, Taken, keeps_early, rests}
 use Rattle.iss_model.specs.Past.{Past, leads_in, params_of, taken_in}
-use Rattle.iss_model.specs.Sound.{IsSoundCore}
 use Rattle.iss_model.specs.Views.{are_filled, is_unfilled}
 use Rattle.iss_model.specs.declared.causes.Why.TheVariants.{EarlyFull}
 use Rattle.iss_node.proofs.CastLemmas.{value-is}
@@ -20,7 +18,6 @@ use Rattle.iss_node.proofs.RequestLemmas.{moved}
 use Rattle.iss_node.specs.Shape.{AreFrom, IsReplica}
 use Rattle.iss_node.specs.State.{AreParts, IsTied, ReplicaState, core_of, led, seen_early, seen_one}
 use Rattle.iss_node.specs.declared.answers.Early.{Early}
-use Rattle.iss_request.specs.declared.ids.NodeId.{NodeId}
 use Rattle.iss_request.specs.declared.ids.Slot.{Slot}
 use Rattle.iss_request.specs.declared.requests.Value.{Value}
 use Rattle.iss_sb.specs.Evidence.{Item, Module, delivered}

@@ -1,15 +1,13 @@
 -- What a node knows of a request, and how it waits.
-use Rattle.std.proofs.Common.{arith, inl, inr, ◌≡◌, ℕ, suc, ◌+◌, ◌<◌, Bool, true, false, List, [], ◌∷◌, ◌++◌, ◌||◌, cond, not, Option, Some, None, length, reverse, drop, Result, Ok, Err, refl, sym, ap, ◌∙◌, subst, append_assoc, true≢false}
+use Rattle.std.proofs.Common.{◌≡◌, ℕ, Bool, true, false, List, [], ◌∷◌, ◌++◌, ◌||◌, cond, not, length, reverse, drop, Result, Ok, Err, refl, sym, ap, ◌∙◌, subst, append_assoc, true≢false}
 use Rattle.std.specs.Prelude.{OnOk, fold}
 use Rattle.std.proofs.lemmas.List.{append-nil, length-reverse}
-use Rattle.iss_base.specs.Lists.{Different}
 use Rattle.iss_buckets.specs.Waiting.{AreNew, absent, waits}
 use Rattle.iss_ids.proofs.Members.{has_id-append}
-use Rattle.iss_model.proofs.Casts.{early-sound, requested-sound}
-use Rattle.iss_model.proofs.Steps.{IsRequested}
+use Rattle.iss_model.proofs.Casts.{requested-sound}
 use Rattle.iss_model.specs.Concrete.{rules_of}
 use Rattle.iss_model.specs.Formats.{formats_of}
-use Rattle.iss_model.specs.Node.{Core, Dropped, Formats, Stepped, Taken, Turn, flown, is_known, is_nil_at, joined, rests, returned, takes_request}
+use Rattle.iss_model.specs.Node.{Dropped, Taken, Turn, is_known, is_nil_at, joined, rests, returned, takes_request}
 use Rattle.iss_model.specs.Past.{Past, before_own, log_of}
 use Rattle.iss_model.specs.Sound.{IsSoundCore}
 use Rattle.iss_model.specs.declared.causes.Why.TheVariants.{BadRequest, Known, OutOfWindow}
@@ -41,7 +39,6 @@ use Rattle.iss_sb.specs.Evidence.{Item, Module}
 use Rattle.iss_sb.specs.declared.effects.Params.{Params}
 use Rattle.iss_window.specs.Window.{Noted, is_inside, place_of}
 use Rattle.iss_window.specs.declared.windows.Place.{Place}
-use Rattle.iss_window.specs.declared.windows.Place.TheVariants.{Below, Inside, Above}
 
 pub known-waits : (a b : Bool) → (a || b) ≡ false → a ≡ false
 known-waits true b h = absurd (true≢false h)

@@ -1,17 +1,7 @@
 -- Whom a packet comes from.
-use Rattle.std.proofs.Common.{inl, inr, arith, ◌≡◌, ◌≢◌, ◌⊎◌, ℕ, zero, suc, ◌+◌, ◌^◌, ◌<◌, Bool, true, false, List, [], ◌∷◌, ◌++◌, ◌&&◌, nat_lt, Option, Some, None, Result, Ok, Err, IfOk, IfSome, length, refl, sym, ap, ◌∙◌, subst, slice_get, length-append}
+use Rattle.std.proofs.Common.{arith, ◌≡◌, ℕ, ◌<◌, Bool, true, false, ◌&&◌, nat_lt, Option, Some, None, Result, Ok, Err, IfOk, IfSome, refl, sym, subst}
 use Rattle.std.proofs.lemmas.Bool.Decides.{nat_tests}
-use Rattle.iss_base.proofs.Lists.{in_left, in_right, same_or_not}
-use Rattle.iss_base.specs.Lists.{In}
-use Rattle.iss_layout.specs.Layout.{IsFair, Plan, node, nodes_below, plan_of, segment}
-use Rattle.iss_model.specs.Concrete.{keys_of, rules_of}
-use Rattle.iss_model.specs.Runs.{IsSetupOf}
 use Rattle.iss_node.specs.Parcels.{IsFromNode, carried}
-use Rattle.iss_model.specs.Past.{log_of}
-use Rattle.iss_request.specs.Log.{has_id, log_ids}
-use Rattle.iss_request.specs.declared.requests.Value.{Value}
-use Rattle.iss_keys.specs.Directories.{AreKeysOf, DirectoryView}
-use Rattle.iss_keys.specs.KeyStates.{KeyState}
 use Rattle.iss_node.specs.declared.parcels.Body.{Body}
 use Rattle.iss_node.specs.declared.parcels.Body.TheVariants.{Ask as OfAsk, Message as OfModule, Piece as OfPiece, Request as OfClient, Vote as OfVote}
 use Rattle.iss_node.specs.declared.parcels.Parcel.{Parcel}
@@ -20,12 +10,6 @@ use Rattle.iss_packet.specs.declared.packets.Packet.{Packet}
 use Rattle.iss_packet.specs.declared.packets.PacketKind.{PacketKind}
 use Rattle.iss_packet.specs.declared.packets.PacketKind.TheVariants.{Message}
 use Rattle.iss_request.specs.declared.errors.NoMemory.{NoMemory}
-use Rattle.iss_request.specs.declared.ids.NodeId.{NodeId}
-use Rattle.iss_request.specs.declared.ids.Slot.{Slot}
-use Rattle.iss_request.specs.declared.setups.Setup.{Setup}
-use Rattle.iss_sb.specs.declared.effects.Params.{Params}
-use Rattle.iss_sb.specs.Calls.{AreBelow, IsGoodParams}
-use Rattle.iss_sb.specs.Evidence.{Item, Module, delivered}
 
 pub from-of : (a b : Bool) → (a && b) ≡ true → a ≡ true
 from-of true b h = refl

@@ -1,20 +1,18 @@
 -- What follows of a step: the end of the epoch, and early messages in turn.
-use Rattle.std.proofs.Common.{arith, inl, inr, ◌≡◌, ℕ, suc, ◌+◌, ◌<◌, Bool, true, false, List, [], ◌∷◌, ◌++◌, cond, eqb, not, Option, Some, None, Result, Ok, Err, IfOk, length, refl, sym, ap, ◌∙◌, subst, append_assoc, true≢false}
+use Rattle.std.proofs.Common.{arith, ◌≡◌, ℕ, suc, true, false, List, [], ◌∷◌, ◌++◌, eqb, Result, Ok, Err, IfOk, refl, sym, ap, ◌∙◌, subst, append_assoc}
 use Rattle.std.proofs.lemmas.Bool.Decides.{nat_tests}
 use Rattle.iss_model.proofs.Rows.{onward-onward, onward-rests}
 use Rattle.iss_model.specs.Concrete.{rules_of}
 use Rattle.iss_model.specs.Formats.{formats_of}
-use Rattle.iss_model.specs.Node.{Core, Dropped, Early as Kept_early, Formats, Stepped, Taken, Turn, at_instance, ended, ends, onward, rests, settled, settles, takes_each, takes_early, tried}
+use Rattle.iss_model.specs.Node.{Core, Early as Kept_early, Formats, Stepped, Turn, ended, ends, onward, rests, settled, settles, takes_each, takes_early, tried}
 use Rattle.iss_model.specs.Past.{Past, is_complete}
 use Rattle.iss_model.specs.Rules.{Rules}
 use Rattle.iss_node.proofs.MadeLemmas.{both-made, nothing, nothing-made, nothing-sent}
 use Rattle.iss_node.specs.Epochs.{both}
-use Rattle.iss_node.specs.Shape.{AreFrom}
 use Rattle.iss_node.specs.State.{AreParts, IsTied, ReplicaState, core_of, seen_early, seen_one}
-use Rattle.iss_node.specs.Steps.{IsEnded, IsLater, IsMade, IsStep, IsStepDropped, IsStepTaken, IsTurnBehind, IsTurnOf, IsTurned}
+use Rattle.iss_node.specs.Steps.{IsEnded, IsLater, IsMade, IsStep, IsTurnBehind, IsTurnOf, IsTurned}
 use Rattle.iss_node.specs.declared.answers.Early.{Early}
 use Rattle.iss_node.specs.declared.answers.Outcome.{Outcome}
-use Rattle.iss_node.specs.declared.answers.Stepped.{Stepped as Answered}
 use Rattle.iss_node.specs.declared.answers.Stepped.TheVariants.{Dropped as Drops, Taken as Takes}
 use Rattle.iss_request.specs.declared.setups.Setup.{Setup}
 use Rattle.iss_request.specs.declared.ids.NodeId.{NodeId}

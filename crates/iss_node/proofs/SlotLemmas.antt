@@ -1,12 +1,12 @@
 -- The slots of an epoch in a log, and values with their slots.
-use Rattle.std.proofs.Common.{arith, ◌≡◌, ℕ, zero, suc, ◌+◌, ◌-◌, ◌*◌, ◌^◌, ◌<◌, ◌≤◌, Bool, true, false, ◌==◌, List, [], ◌∷◌, ◌++◌, Option, Some, None, cond, drop, length, nat_le, take, refl, sym, ap, ◌∙◌, subst, slice_get}
+use Rattle.std.proofs.Common.{arith, ◌≡◌, ℕ, zero, suc, ◌+◌, ◌-◌, ◌*◌, ◌<◌, ◌≤◌, true, false, ◌==◌, List, [], ◌∷◌, ◌++◌, Option, Some, None, length, nat_le, refl, sym, ap, ◌∙◌, slice_get}
 use Rattle.std.proofs.lemmas.Bool.Decides.{nat_tests}
 use Rattle.iss_base.specs.Lists.{first_of, nth}
-use Rattle.iss_base.proofs.Lists.{none-some, some-injective}
+use Rattle.iss_base.proofs.Lists.{none-some}
 use Rattle.iss_log.specs.LogState.{LogState, ahead_at, value_at}
 use Rattle.iss_node.specs.Cells.{given}
 use Rattle.iss_node.specs.State.{ReplicaState}
-use Rattle.iss_node.specs.Transfers.{at_slots, held_slots, held_values}
+use Rattle.iss_node.specs.Transfers.{at_slots, held_slots}
 use Rattle.iss_request.specs.declared.ids.Slot.{Slot}
 use Rattle.iss_request.specs.declared.requests.Value.{Value}
 

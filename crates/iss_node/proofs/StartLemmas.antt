@@ -1,26 +1,25 @@
 -- How the instances of an epoch are started, and a node that has taken nothing.
-use Rattle.std.proofs.Common.{inl, inr, arith, ◌≡◌, ◌≢◌, ◌⊎◌, ℕ, zero, suc, ◌+◌, ◌*◌, ◌^◌, ◌<◌, ◌≤◌, Bool, true, false, List, [], ◌∷◌, ◌++◌, ◌==◌, ◌||◌, ◌&&◌, cond, Option, Some, None, IfSome, length, take, ◌-◌, reverse, refl, sym, ap, ◌∙◌, subst, slice_get, length-append, true≢false}
+use Rattle.std.proofs.Common.{inl, inr, arith, ◌≡◌, ℕ, zero, suc, ◌+◌, ◌*◌, ◌^◌, ◌<◌, ◌≤◌, Bool, true, false, List, [], ◌∷◌, ◌++◌, ◌==◌, ◌||◌, Option, Some, None, IfSome, length, refl, sym, ap, ◌∙◌, subst, length-append, true≢false}
 use Rattle.std.specs.Prelude.{is_some}
 use Rattle.std.specs.List.{list_any}
 use Rattle.std.proofs.lemmas.Bool.Decides.{leb_tells, nat_tests}
 use Rattle.iss_base.proofs.Lists.{same_or_not}
 use Rattle.iss_base.specs.Lists.{In, oldest}
 use Rattle.iss_layout.proofs.FairLemmas.{fair, leads_means}
-use Rattle.iss_layout.specs.Layout.{Conduct, Ended, IsGoodPlan, IsStanding, Plan, conduct_of, epochs, leads, plan_by, segment}
+use Rattle.iss_layout.specs.Layout.{Conduct, Ended, IsGoodPlan, IsStanding, Plan, conduct_of, leads, plan_by, segment}
 use Rattle.iss_ballots.specs.Ballots.{AreKept, BallotsState}
 use Rattle.iss_checkpoint.specs.Votes.{voters_of}
 use Rattle.iss_log.specs.Chains.{ChainsState, IsChainOf}
 use Rattle.iss_log.specs.LogState.{empty_log}
 use Rattle.iss_model.proofs.Casts.{idle-sound, newborn-log}
 use Rattle.iss_model.specs.Concrete.{keys_of, plan_at, rules_of}
-use Rattle.iss_model.specs.Node.{Core, idle, joined}
-use Rattle.iss_model.specs.Past.{Past, before_own, log_of, newborn, start_of}
+use Rattle.iss_model.specs.Node.{idle, joined}
+use Rattle.iss_model.specs.Past.{before_own, log_of, newborn}
 use Rattle.iss_model.specs.Runs.{IsSetupOf}
 use Rattle.iss_model.specs.Sound.{IsSoundCore}
 use Rattle.iss_node.specs.Epochs.{AreStarted, params_by}
-use Rattle.iss_node.specs.Flights.{FlightState}
 use Rattle.iss_node.specs.Shape.{IsReplica}
-use Rattle.iss_node.specs.State.{AreParts, IsLed, IsTiedOver, NodeState, ReplicaState, Stands, core_of, led, led_in}
+use Rattle.iss_node.specs.State.{IsTiedOver, ReplicaState, Stands, led}
 use Rattle.iss_request.specs.Log.{has_id, log_ids}
 use Rattle.iss_request.specs.Setup.{AreRising}
 use Rattle.iss_request.specs.declared.ids.NodeId.{NodeId}
@@ -32,7 +31,6 @@ use Rattle.iss_keys.specs.KeyStates.{KeyState}
 use Rattle.iss_sb.specs.declared.effects.Params.{Params}
 use Rattle.iss_sb.specs.Calls.{AreBelow, IsGoodParams}
 use Rattle.iss_sb.specs.Evidence.{Item, Module}
-use Rattle.iss_segment.specs.Ground.{noted_before}
 use Rattle.iss_segment.specs.Instance.{IsInstance, SegmentState}
 use Rattle.iss_window.specs.Kept.{Kept, StandsFor}
 use Rattle.iss_window.specs.Window.{none_noted}

@@ -1,14 +1,11 @@
 -- The shape of a node stays when one of its instances takes an input.
-use Rattle.std.proofs.Common.{arith, inl, inr, ◌≡◌, ◌≢◌, ◌⊎◌, ℕ, zero, suc, ◌+◌, ◌<◌, ◌≤◌, List, [], ◌∷◌, Option, Some, None, Result, Ok, Err, IfOk, length, get_or, slice_get, slice_set, refl, sym, ap, ◌∙◌, subst}
+use Rattle.std.proofs.Common.{arith, inl, inr, ◌≡◌, ◌≢◌, ◌⊎◌, ℕ, zero, suc, ◌<◌, List, [], ◌∷◌, Option, Some, None, Result, Ok, Err, length, get_or, slice_set, refl, sym, ap, ◌∙◌, subst}
 use Rattle.iss_base.proofs.Lists.{same_or_not}
 use Rattle.iss_keys.specs.KeyStates.{KeyState}
-use Rattle.iss_model.specs.declared.causes.Refusal.{Refusal}
-use Rattle.iss_node.specs.Inputs.{IsInputTaken, IsJudgedInput, IsVerdictAt}
+use Rattle.iss_node.specs.Inputs.{IsInputTaken, IsJudgedInput}
 use Rattle.iss_node.specs.Shape.{IsAt, IsReplica}
 use Rattle.iss_node.specs.State.{ReplicaState, led}
 use Rattle.iss_node.specs.Steps.{IsNodeInput}
-use Rattle.iss_request.specs.declared.errors.NoMemory.{NoMemory as Wanting}
-use Rattle.iss_request.specs.declared.ids.NodeId.{NodeId}
 use Rattle.iss_request.specs.declared.setups.Setup.{Setup}
 use Rattle.iss_sb.specs.Calls.{IsGoodInput}
 use Rattle.iss_sb.specs.Evidence.{Item, Module}

@@ -1,5 +1,5 @@
 -- What the parts that are tied to a past say of its log, and what its growth makes of requests.
-use Rattle.std.proofs.Common.{arith, inl, ◌≡◌, ℕ, zero, suc, ◌+◌, ◌-◌, ◌*◌, ◌≤◌, Bool, true, false, List, [], ◌∷◌, ◌++◌, ◌||◌, ◌&&◌, not, length, length-append, take, reverse, refl, sym, ap, ◌∙◌, subst, append_assoc}
+use Rattle.std.proofs.Common.{arith, inl, ◌≡◌, ℕ, suc, ◌+◌, ◌-◌, ◌*◌, ◌≤◌, false, List, [], ◌∷◌, ◌++◌, ◌||◌, ◌&&◌, not, length, length-append, take, reverse, refl, sym, ap, ◌∙◌, subst, append_assoc}
 use Rattle.std.specs.Prelude.{fold}
 use Rattle.std.proofs.lemmas.List.{length-reverse, reverse-append, reverse-reverse}
 use Rattle.iss_base.specs.Lists.{Different, Extends}
@@ -10,7 +10,7 @@ use Rattle.iss_log.specs.Chains.{chain_of, strings_from}
 use Rattle.iss_log.specs.LogState.{LogState}
 use Rattle.iss_model.proofs.Casts.{joined-newer}
 use Rattle.iss_model.proofs.Epochs.{length-cut}
-use Rattle.iss_model.proofs.Flights.{AreParts as AreTwo, parts-of}
+use Rattle.iss_model.proofs.Flights.{parts-of}
 use Rattle.iss_model.proofs.Ids.{has-not}
 use Rattle.iss_model.proofs.Longest.{Bounded}
 use Rattle.iss_model.specs.Concrete.{rules_of}

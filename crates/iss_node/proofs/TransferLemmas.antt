@@ -1,26 +1,25 @@
 -- How a node asks, and what it hands out.
-use Rattle.std.proofs.Common.{arith, inl, inr, ◌≡◌, ℕ, zero, suc, ◌+◌, ◌-◌, ◌*◌, ◌<◌, ◌≤◌, Bool, true, false, cond, not, List, [], ◌∷◌, ◌++◌, Option, Some, None, drop, length, nat_le, nat_lt, reverse, take, refl, sym, ap, ◌∙◌, subst, true≢false}
-use Rattle.std.proofs.lemmas.Bool.{le-leb, leb-true}
+use Rattle.std.proofs.Common.{arith, ◌≡◌, ℕ, zero, suc, ◌*◌, ◌<◌, ◌≤◌, Bool, true, false, cond, not, List, [], ◌∷◌, ◌++◌, Option, Some, None, drop, length, nat_le, nat_lt, reverse, take, refl, sym, ap, ◌∙◌, subst}
+use Rattle.std.proofs.lemmas.Bool.{leb-true}
 use Rattle.std.proofs.lemmas.Bool.Decides.{nat_tests}
-use Rattle.std.proofs.lemmas.List.{length-reverse, reverse-append, reverse-reverse, take_all}
+use Rattle.std.proofs.lemmas.List.{length-reverse, reverse-append, reverse-reverse}
 use Rattle.iss_base.specs.Lists.{oldest}
 use Rattle.iss_base.proofs.Lists.{none-some, oldest-all, oldest-append, some-injective}
-use Rattle.iss_ballots.specs.Ballots.{AreKept}
 use Rattle.iss_checkpoint.specs.declared.votes.Cert.{Cert}
 use Rattle.iss_model.proofs.Casts.{joined-newer}
 use Rattle.iss_model.specs.Concrete.{rules_of}
 use Rattle.iss_model.specs.Formats.{formats_of}
-use Rattle.iss_model.specs.Node.{Core, Dropped, Formats, Stepped, Taken, Turn, asking, handing, hands_out, joined, only_by, values_of}
-use Rattle.iss_model.specs.Past.{Past, cut_at, log_of, start_of}
+use Rattle.iss_model.specs.Node.{Core, Formats, handing, hands_out, joined, values_of}
+use Rattle.iss_model.specs.Past.{cut_at, log_of, start_of}
 use Rattle.iss_model.specs.Rules.{Rules}
 use Rattle.iss_model.specs.declared.causes.Why.TheVariants.{NoCert}
 use Rattle.iss_node.proofs.OwnEpoch.{start-is}
-use Rattle.iss_node.specs.State.{AreHeld, IsTied, ReplicaState}
+use Rattle.iss_node.specs.State.{AreHeld, ReplicaState}
 use Rattle.iss_node.specs.Steps.{IsHeldDropped, IsHeldTaken}
 use Rattle.iss_node.specs.Transfers.{IsHandedPiece, held_values}
 use Rattle.iss_node.specs.declared.answers.Outcome.{Outcome}
 use Rattle.iss_packet.specs.Packets.{spell_packet}
-use Rattle.iss_packet.specs.declared.packets.PacketKind.TheVariants.{Ask as Of_ask, Piece as Of_piece}
+use Rattle.iss_packet.specs.declared.packets.PacketKind.TheVariants.{Piece as Of_piece}
 use Rattle.iss_request.specs.declared.ids.NodeId.{NodeId}
 use Rattle.iss_request.specs.declared.requests.Value.{Value}
 use Rattle.iss_request.specs.declared.setups.Setup.{Setup}

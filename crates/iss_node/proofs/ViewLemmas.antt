@@ -1,19 +1,17 @@
 -- What a node shows of its core.
-use Rattle.std.proofs.Common.{arith, inl, inr, ◌≡◌, ℕ, zero, suc, ◌+◌, ◌<◌, ◌≤◌, Bool, true, false, List, [], ◌∷◌, ◌++◌, ◌||◌, ◌&&◌, cond, not, map, Option, Some, None, length, refl, sym, ap, ◌∙◌, subst, add-one}
+use Rattle.std.proofs.Common.{inl, inr, ◌≡◌, ℕ, ◌+◌, Bool, true, false, List, [], ◌∷◌, ◌++◌, ◌||◌, ◌&&◌, cond, not, map, Some, None, refl, sym, ap, ◌∙◌, add-one}
 use Rattle.std.specs.Prelude.{is_some}
 use Rattle.std.specs.List.{filter, list_any}
 use Rattle.iss_base.specs.Lists.{In, below}
-use Rattle.iss_log.specs.LogState.{LogState, value_at}
+use Rattle.iss_log.specs.LogState.{value_at}
 use Rattle.iss_model.specs.Concrete.{rules_of}
-use Rattle.iss_model.specs.Node.{Core, next_slot}
 use Rattle.iss_model.specs.Past.{Past, leads_in, params_of, taken_in}
 use Rattle.iss_model.specs.Rules.{Rules}
-use Rattle.iss_model.specs.Views.{are_filled, is_castable_now, is_unfilled, unfilled}
+use Rattle.iss_model.specs.Views.{are_filled, is_unfilled, unfilled}
 use Rattle.iss_node.proofs.CastLemmas.{value-is}
 use Rattle.iss_node.proofs.InstanceLemmas.{leads-is}
-use Rattle.iss_node.proofs.SettleLemmas.{at-core}
 use Rattle.iss_node.specs.Shape.{IsReplica}
-use Rattle.iss_node.specs.State.{AreParts, IsTied, NodeState, ReplicaState, Stands, core_of, led}
+use Rattle.iss_node.specs.State.{IsTied, ReplicaState, led}
 use Rattle.iss_request.specs.declared.ids.NodeId.{NodeId}
 use Rattle.iss_request.specs.declared.ids.Slot.{Slot}
 use Rattle.iss_sb.specs.Evidence.{Item, Module, delivered}

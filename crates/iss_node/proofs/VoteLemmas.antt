@@ -1,5 +1,5 @@
 -- A node that votes at its epoch's end, and what it counts of others' votes.
-use Rattle.std.proofs.Common.{arith, ◌≡◌, ◌↔◌, ℕ, suc, ◌+◌, ◌<◌, ◌≤◌, Bool, true, false, ◌&&◌, cond, not, List, [], ◌∷◌, ◌++◌, Some, length, reverse, take, refl, sym, ap, ◌∙◌, subst, nat_le, nat_lt, add-one, true≢false}
+use Rattle.std.proofs.Common.{arith, ◌≡◌, ℕ, suc, ◌+◌, true, List, [], ◌∷◌, length, reverse, take, sym, ap, ◌∙◌, subst, add-one}
 use Rattle.std.proofs.lemmas.List.{length-reverse, reverse-reverse, take_all}
 use Rattle.iss_base.proofs.Lists.{some-injective}
 use Rattle.iss_ballots.specs.Claims.{claim_by}
@@ -13,26 +13,23 @@ use Rattle.iss_model.proofs.Casts.{kept-sound}
 use Rattle.iss_model.proofs.Ending.{ended-start, ended-whole}
 use Rattle.iss_model.specs.Concrete.{rules_of}
 use Rattle.iss_model.specs.Formats.{formats_of}
-use Rattle.iss_model.specs.Node.{Core, Formats, OfVote, Turn, claim_of_vote, ends, in_next_epoch, vote_on}
+use Rattle.iss_model.specs.Node.{ends, in_next_epoch, vote_on}
 use Rattle.iss_model.specs.Past.{Past, before_own, ended_log, is_complete, log_of}
-use Rattle.iss_model.specs.Rules.{Rules}
 use Rattle.iss_node.proofs.TiedLemmas.{bounded}
 use Rattle.iss_node.proofs.EpochLemmas.{over-tied}
 use Rattle.iss_node.proofs.NextLemmas.{next-parts}
 use Rattle.iss_node.proofs.OwnEpoch.{has-slots, start-is}
 use Rattle.iss_node.specs.Shape.{IsReplica}
 use Rattle.iss_node.specs.State.{AreParts, IsTied, ReplicaState, core_of, seen_early}
-use Rattle.iss_node.specs.Steps.{IsEnded, IsLater, IsMade, IsNextEpoch, IsTurned}
+use Rattle.iss_node.specs.Steps.{IsEnded, IsLater, IsNextEpoch, IsTurned}
 use Rattle.iss_node.specs.Votes.{IsVoteHandedOut, IsVoted}
 use Rattle.iss_node.specs.declared.answers.Early.{Early}
 use Rattle.iss_node.specs.declared.answers.Outcome.{Outcome}
 use Rattle.iss_packet.specs.Packets.{spell_packet}
 use Rattle.iss_packet.specs.declared.packets.PacketKind.TheVariants.{Vote as Of_vote}
-use Rattle.iss_request.specs.declared.setups.Setup.{Setup}
 use Rattle.iss_request.specs.declared.requests.Value.{Value}
 use Rattle.iss_sb.specs.Calls.{AreToNodes}
 use Rattle.iss_sb.specs.Evidence.{Item, Module}
-use Rattle.iss_sb.specs.declared.effects.Claim.{Claim}
 use Rattle.iss_sb.specs.declared.effects.Params.{Params}
 use Rattle.iss_sb.specs.declared.effects.To.{To}
 use Rattle.iss_sb.specs.declared.effects.To.TheVariants.{All}

@@ -1,7 +1,6 @@
 -- What the input of an instance does to the parts of a node.
 use Rattle.std.specs.Prelude.{◌≡◌, ◌≢◌, ℕ, ◌||◌, List, ◌++◌, [], ◌∷◌, Option, Some, None, Result, Ok, Err, fold, length, reverse}
 use Rattle.iss_buckets.specs.Waiting.{AreNew, absent}
-use Rattle.iss_ids.specs.Set.{and_ids}
 use Rattle.iss_log.specs.Chains.{IsChainOf}
 use Rattle.iss_model.specs.Formats.{formats_of}
 use Rattle.iss_model.specs.Node.{own_claims, packed, returned}

@@ -1,6 +1,5 @@
 -- What is seen of a node, and which model core it stands for.
 use Rattle.std.specs.Prelude.{◌≡◌, ℕ, ◌+◌, ◌*◌, ◌<◌, ◌≤◌, ◌==◌, Bool, false, cond, is_some, List, [], ◌∷◌, length, reverse, Option, Some, None, slice_get}
-use Rattle.iss_base.specs.Lists.{Different}
 use Rattle.iss_keys.specs.Directories.{AreKeysOf, DirectoryView}
 use Rattle.iss_keys.specs.KeyStates.{KeyState}
 use Rattle.iss_layout.specs.Layout.{Conduct, IsStanding, Plan, epochs, leads}
@@ -17,7 +16,7 @@ use Rattle.iss_model.specs.Sound.{IsSoundCore}
 use Rattle.iss_node.specs.Flights.{FlightState}
 use Rattle.iss_node.specs.declared.answers.Accepted.{Accepted}
 use Rattle.iss_node.specs.declared.answers.Early.{Early}
-use Rattle.iss_request.specs.Log.{has_id, ids, log_ids}
+use Rattle.iss_request.specs.Log.{log_ids}
 use Rattle.iss_request.specs.declared.ids.NodeId.{NodeId}
 use Rattle.iss_request.specs.declared.ids.ReqId.{ReqId}
 use Rattle.iss_request.specs.declared.ids.Slot.{Slot}

@@ -1,7 +1,6 @@
 -- How a node hands out an epoch, and takes one over.
-use Rattle.std.specs.Prelude.{◌≡◌, ℕ, suc, ◌+◌, ◌-◌, ◌*◌, List, [], ◌∷◌, Option, Some, None, cond, drop, length, nat_le, take}
+use Rattle.std.specs.Prelude.{◌≡◌, ℕ, suc, ◌*◌, List, [], ◌∷◌, Option, Some, None, cond, drop, length, nat_le, take}
 use Rattle.iss_checkpoint.specs.Votes.{vote_statement}
-use Rattle.iss_log.specs.Chains.{IsChainOf}
 use Rattle.iss_model.specs.Concrete.{rules_of}
 use Rattle.iss_model.specs.Formats.{formats_of}
 use Rattle.iss_model.specs.Node.{Core, adopts_piece, claims_by, onward, only_by, takes_each}

@@ -9,3 +9,6 @@ pub mod Read
 pub mod Signatures
 pub mod Heard
 pub mod Inputs
+pub mod Fields
+pub mod Signers
+pub mod Cases

@@ -1,7 +1,8 @@
 -- Slots of a segment.
-use Rattle.std.proofs.Common.{◌≡◌, ◌<◌, ℕ, Bool, true, false, ◌||◌, ◌==◌, List, [], ◌∷◌, refl, sym, ap, subst, inl, inr, true≢false}
+use Rattle.std.proofs.Common.{◌≡◌, ◌<◌, ◌≤◌, ℕ, zero, suc, Bool, true, false, ◌||◌, ◌==◌, List, [], ◌∷◌, drop, refl, sym, ap, subst, inl, inr, true≢false, arith}
 use Rattle.iss_base.specs.Lists.{In}
-use Rattle.iss_base.proofs.Lists.{is-eq}
+use Rattle.iss_base.proofs.Lists.{eqb-other, is-eq}
+use Rattle.iss_request.specs.Slots.{AreAscending}
 use Rattle.iss_request.specs.declared.ids.NodeId.{NodeId}
 use Rattle.iss_request.specs.declared.ids.Slot.{Slot}
 use Rattle.iss_sb.specs.Calls.{AreBelow, has_slot}
@@ -26,3 +27,19 @@ pub below-In : (bound : ℕ) (s : Slot) (slots : List Slot) → AreBelow bound s
 below-In bound s [] low h = absurd h
 below-In bound s (t ∷ slots) low (inl e) = subst (λ (z : Slot). z.0 < bound) (sym e) low.0
 below-In bound s (t ∷ slots) low (inr h) = below-In bound s slots low.1 h
+
+-- ---- slots that rise
+
+pub ascending-above : (low : ℕ) (s : Slot) (ss : List Slot) → AreAscending low ss → In s ss → low ≤ s.0
+ascending-above low s [] a h = absurd h
+ascending-above low s (t ∷ ss) a (inl e) = let q = ap (λ (z : Slot). z.0) e in let l = a.0 in omega (arith, q, l)
+ascending-above low s (t ∷ ss) a (inr h) = let r = ascending-above (suc t.0) s ss a.1 h in let l = a.0 in omega (arith, r, l)
+
+-- one further on is another than the first
+pub another : (low : ℕ) (t s : Slot) (ss : List Slot) → AreAscending low (t ∷ ss) → In s ss → (t.0 == s.0) ≡ false
+another low t s ss a h = let r = ascending-above (suc t.0) s ss a.1 h in eqb-other t.0 s.0 (λ e. omega (arith, r, e))
+
+pub drop-slot : (s : Slot) (k : ℕ) (ss : List Slot) → In s (drop k ss) → In s ss
+drop-slot s zero ss h = h
+drop-slot s (suc k) [] h = absurd h
+drop-slot s (suc k) (t ∷ ss) h = inr (drop-slot s k ss h)

@@ -103,6 +103,20 @@ head-same cluster other e l tag d k mark x y long h =
     let rest : ◌≡◌ {A = List ℕ} (l ∷ tag ∷ x) (k ∷ mark ∷ y) = r.1 in
     record { one_cluster = q.0; epoch = r.0; leader = cc; module_tag = cc; behind = cc }
 
+-- what statements of one module that are equal say alike: their kinds, their numbers, and what stands behind
+pub record SameStatement (k l n m : ℕ) (x y : List ℕ) : Type 0 where
+  pub kind : k ≡ l
+  pub number : n ≡ m
+  pub behind : x ≡ y
+
+pub statement-same : (low : ℕ) (p : Params) (tag k l n m : ℕ) (x y : List ℕ) → statement_head p tag ++ (k ∷ (wide_bytes low n ++ x)) ≡ statement_head p tag ++ (l ∷ (wide_bytes low m ++ y)) → SameStatement k l n m x y
+statement-same low p tag k l n m x y h =
+    let a = (head-same p.setup.tag p.setup.tag p.epoch.0 p.leader.0 tag p.epoch.0 p.leader.0 tag (k ∷ (wide_bytes low n ++ x)) (l ∷ (wide_bytes low m ++ y)) refl h).behind in
+    let kinds : k ≡ l = cc in
+    let rest : wide_bytes low n ++ x ≡ wide_bytes low m ++ y = cc in
+    let b = wide-same low n m x y rest in
+    record { kind = kinds; number = b.0; behind = b.1 }
+
 -- fields that are written one after the other are the head
 pub head-written : (p : Params) (tag : ℕ) (a b c d e : Written) → p.epoch.0 < 2 ^ 64 → b ≡ and_bytes a p.setup.tag → c ≡ and_bytes b (to_be_bytes w64 p.epoch.0) → d ≡ and_bytes c (p.leader.0 ∷ []) → e ≡ and_bytes d (tag ∷ []) → e ≡ and_bytes a (statement_head p tag)
 head-written p tag a b c d e lt hb hc hd he = let same = eight-is p.epoch.0 lt in rw (he, hd, hc, hb, same) (simp append_assoc)

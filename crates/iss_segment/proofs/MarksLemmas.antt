@@ -6,7 +6,7 @@ use Rattle.iss_layout.specs.Layout.{Plan, bucket_of, bucket_owner}
 use Rattle.iss_model.specs.Concrete.{number_of, rules_of}
 use Rattle.iss_model.specs.declared.causes.Refusal.TheVariants.{TooLarge, ForeignBucket, BadSignature, OutOfWindow, Ordered, Marked}
 use Rattle.iss_request.specs.declared.setups.Setup.{Setup}
-use Rattle.iss_ids.proofs.Members.{same_id-tells}
+use Rattle.iss_request.proofs.Identities.{same_id-flip}
 use Rattle.iss_model.specs.Judge.{any, any_marked, judge}
 use Rattle.iss_segment.specs.Marks.{twice}
 use Rattle.iss_request.specs.Log.{has_id, ids, log_ids, same_id}
@@ -28,20 +28,12 @@ or-shuffle false true true d = refl
 or-shuffle false true false d = refl
 or-shuffle false false c d = refl
 
-sym-same : (x y : ReqId) → same_id x y ≡ same_id y x
-sym-same x y = go (same_id x y) (same_id y x) refl refl
-  where
-    go : (a b : Bool) → same_id x y ≡ a → same_id y x ≡ b → same_id x y ≡ same_id y x
-    go true b e f = let h : x ≡ y = same_id-tells x y e in subst (λ (z : ReqId). same_id x z ≡ same_id z x) h refl
-    go false true e f = let h : y ≡ x = same_id-tells y x f in subst (λ (z : ReqId). same_id z y ≡ same_id y z) h refl
-    go false false e f = e ∙ sym f
-
 -- one mark more: an identity meets the marks if it is the new one, or meets the old ones
 meets-cons : (x : ReqId) (xs ys : List ReqId) → meets (x ∷ xs) ys ≡ (has_id x ys || meets xs ys)
 meets-cons x xs [] = refl
 meets-cons x xs (y ∷ ys) =
     ap (λ b. (same_id y x || has_id y xs) || b) (meets-cons x xs ys)
-    ∙ ap (λ b. (b || has_id y xs) || (has_id x ys || meets xs ys)) (sym-same y x)
+    ∙ ap (λ b. (b || has_id y xs) || (has_id x ys || meets xs ys)) (same_id-flip y x)
     ∙ turn (same_id x y) (has_id y xs) (has_id x ys) (meets xs ys)
   where
     turn : (a b c d : Bool) → ((a || b) || (c || d)) ≡ ((a || c) || (b || d))

@@ -1,5 +1,6 @@
 use Rattle.std.proofs.Common.{◌≡◌, ℕ, Bool, true, false, List, [], ◌++◌, cond, ◌||◌, Option, Some, None, length, refl, sym, ap, ◌∙◌}
 use Rattle.std.specs.Prelude.{not, nat_lt, ◌==◌}
+use Rattle.iss_base.proofs.Lists.{or-flip}
 use Rattle.iss_ids.proofs.Members.{has_id-and_ids, has_id-append}
 use Rattle.iss_model.specs.Judge.{any, judge, marks}
 use Rattle.iss_model.specs.Node.{verdict}
@@ -45,19 +46,13 @@ verdict-at R before e l marked xs slot b lent asked r same is lent_is h =
 pub verdict-none : (R : Rules) (before : List Value) (e l : ℕ) (xs : List (Slot × Batch)) (asked : Option (Slot × Batch)) → None ≡ asked → verdict R before e l xs asked ≡ None
 verdict-none R before e l xs asked is = sym (ap (λ (o : Option (Slot × Batch)). verdict R before e l xs o) is)
 
-or-swap : (a b : Bool) → (a || b) ≡ (b || a)
-or-swap true true = refl
-or-swap true false = refl
-or-swap false true = refl
-or-swap false false = refl
-
 -- the marks grow with the accept list
 marks-grow : (marked : List ReqId) (xs : List (Slot × Batch)) (accepted : Option (Slot × Batch)) → SameIds marked (marks xs) → SameIds (and_marks marked accepted) (marks (one_or_none accepted ++ xs))
 marks-grow marked xs None same = same
 marks-grow marked xs (Some a) same = λ x.
     has_id-and_ids x marked a.1
     ∙ ap (λ t. t || has_id x (ids a.1)) (same x)
-    ∙ or-swap (has_id x (marks xs)) (has_id x (ids a.1))
+    ∙ or-flip (has_id x (marks xs)) (has_id x (ids a.1))
     ∙ sym (has_id-append x (ids a.1) (marks xs))
 
 pub instance-taken : {M Msg : Type 0} (m : Module Msg) (stands : M → Params → ℕ → List (Item Msg) → Type 0) (old : SegmentState M) (ordering : M) (marked : List ReqId) (i : Input Msg) (before later : KeyState) (e : Effects Msg) →

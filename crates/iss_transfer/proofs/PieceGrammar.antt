@@ -16,7 +16,8 @@ use Rattle.iss_request.proofs.ParserLemmas.{byte_again, byte_parts, done_parts, 
 use Rattle.iss_sb.proofs.Read.{read-again}
 use Rattle.iss_checkpoint.specs.declared.votes.Cert.{Cert}
 use Rattle.iss_checkpoint.specs.Certificates.{parse_cert, spell_cert}
-use Rattle.iss_checkpoint.proofs.CertGrammar.{cert-again, cert-only, cert-related, cert-spelled, cert-whole, few}
+use Rattle.iss_checkpoint.proofs.CertGrammar.{cert-again, cert-only, cert-related, cert-spelled, cert-whole}
+use Rattle.iss_sb.proofs.Fields.{few}
 use Rattle.iss_transfer.specs.declared.pieces.Ask.{Ask}
 use Rattle.iss_transfer.specs.declared.pieces.Piece.{Piece}
 use Rattle.iss_transfer.specs.Bodies.{AreSpelledValues, IsSpelledPiece, fits, no_piece, parse_ask, parse_piece, piece_row, spell_ask, spell_piece}

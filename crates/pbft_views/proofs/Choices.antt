@@ -1,7 +1,7 @@
 -- The choice is the certificate of the highest view, of the least node in a tie.
 use Rattle.std.proofs.Common.{◌≡◌, ℕ, suc, ◌<◌, ◌≤◌, Bool, true, false, cond, List, [], ◌∷◌, ◌++◌, arith, refl, inl, inr, sym, ◌∙◌, subst, ap, Option, Some, None}
 use Rattle.std.specs.Prelude.{◌==◌, nat_lt}
-use Rattle.std.proofs.lemmas.Bool.{cases_Bool, eqb-true, eq-eqb, ltb-true, ltb-false}
+use Rattle.std.proofs.lemmas.Bool.{cases_Bool, eqb-true, eqb-false, eq-eqb, ltb-true, ltb-false}
 use Rattle.iss_base.specs.Lists.{In}
 use Rattle.iss_base.proofs.Lists.{in_append, in_left, in_right}
 use Rattle.iss_sb.specs.declared.effects.Params.{Params}
@@ -117,9 +117,6 @@ lower-first s c cs o h g d (inl e) at =
     (r.0, r.1, omega (arith, k, l))
 lower-first s c cs o h g d (inr i) at = g d i at
 
-not-slot : (a s : ℕ) → (a == s) ≡ false → a ≡ s → ⊥
-not-slot a s h e = let t = eq-eqb a s e in absurd (cc)
-
 split : (s : ℕ) (cs ds : List Certificate) → Split s cs ds
 split s [] ds = behind refl (λ d i h. absurd i)
 split s (c ∷ cs) ds = elim (cases_Bool (c.slot.0 == s)) [
@@ -128,8 +125,8 @@ split s (c ∷ cs) ds = elim (cases_Bool (c.slot.0 == s)) [
 ]
   where
     other : (c.slot.0 == s) ≡ false → Split s cs ds → Split s (c ∷ cs) ds
-    other t (front e q i h g) = front e (best-other s c (cs ++ ds) t ∙ q) (inr i) (with-first s c cs e.view (λ at. absurd (not-slot c.slot.0 s t at)) h) g
-    other t (behind q h) = behind (best-other s c (cs ++ ds) t ∙ q) (lower-first s c cs (best s ds) (λ at. absurd (not-slot c.slot.0 s t at)) h)
+    other t (front e q i h g) = front e (best-other s c (cs ++ ds) t ∙ q) (inr i) (with-first s c cs e.view (λ at. absurd (eqb-false c.slot.0 s t at)) h) g
+    other t (behind q h) = behind (best-other s c (cs ++ ds) t ∙ q) (lower-first s c cs (best s ds) (λ at. absurd (eqb-false c.slot.0 s t at)) h)
 
     -- c is not below what is best behind it
     first : Is (best s (c ∷ (cs ++ ds))) c → NoHigher s cs c.view → NoHigher s ds c.view → Split s (c ∷ cs) ds

@@ -7,11 +7,11 @@ use Rattle.iss_request.specs.Fields.{Good}
 use Rattle.iss_request.specs.Formats.{parse_value, spell_value}
 use Rattle.iss_request.specs.declared.requests.Value.{Value}
 use Rattle.iss_sb.specs.declared.effects.Params.{Params}
-use Rattle.iss_sb.specs.Statements.{eight_bytes, two_bytes}
-use Rattle.iss_sb.proofs.Statements.{head-same, wide-same}
+use Rattle.iss_sb.specs.Statements.{eight_bytes}
+use Rattle.iss_sb.proofs.Statements.{statement-same, wide-same}
 use Rattle.pbft_wire.specs.declared.messages.Certificate.{Certificate}
 use Rattle.pbft_wire.specs.Certificates.{fits_value}
-use Rattle.pbft_wire.specs.Statements.{digest_of, marks, state_at, state_change, statement, string_of, tag}
+use Rattle.pbft_wire.specs.Statements.{digest_of, marks, state_at, state_change, string_of, tag}
 use Rattle.pbft_wire.proofs.Fields.{value-again}
 
 -- ---- strings
@@ -31,19 +31,6 @@ digest-length p x = length-sha256 (string_of p x)
 
 -- ---- statements
 
-pub record SameStatement (k l v w : ℕ) (f g : List ℕ) : Type 0 where
-  pub kind : k ≡ l
-  pub view : v ≡ w
-  pub fields : f ≡ g
-
-pub statement-same : (p : Params) (k l v w : ℕ) (f g : List ℕ) → statement p k v f ≡ statement p l w g → SameStatement k l v w f g
-statement-same p k l v w f g h =
-    let a = (head-same p.setup.tag p.setup.tag p.epoch.0 p.leader.0 tag p.epoch.0 p.leader.0 tag (k ∷ (two_bytes v ++ f)) (l ∷ (two_bytes w ++ g)) refl h).behind in
-    let kinds : k ≡ l = cc in
-    let behind : two_bytes v ++ f ≡ two_bytes w ++ g = cc in
-    let b = wide-same 1 v w f g behind in
-    record { kind = kinds; view = b.0; fields = b.1 }
-
 pub record SameAt (k l v w s t : ℕ) (d e : List ℕ) : Type 0 where
   pub kind : k ≡ l
   pub view : v ≡ w
@@ -52,9 +39,9 @@ pub record SameAt (k l v w s t : ℕ) (d e : List ℕ) : Type 0 where
 
 pub at-same : (p : Params) (k l v w s t : ℕ) (d e : List ℕ) → state_at p k v s d ≡ state_at p l w t e → SameAt k l v w s t d e
 at-same p k l v w s t d e h =
-    let a = statement-same p k l v w (eight_bytes s ++ d) (eight_bytes t ++ e) h in
-    let b = wide-same 7 s t d e a.fields in
-    record { kind = a.kind; view = a.view; slot = b.0; digest = b.1 }
+    let a = statement-same 1 p tag k l v w (eight_bytes s ++ d) (eight_bytes t ++ e) h in
+    let b = wide-same 7 s t d e a.behind in
+    record { kind = a.kind; view = a.number; slot = b.0; digest = b.1 }
 
 -- ---- a ViewChange's statement says which certificates it holds
 
@@ -96,8 +83,8 @@ pub record SameChange (p : Params) (v w : ℕ) (cs ds : List Certificate) : Type
 
 pub change-same : (p : Params) (v w : ℕ) (cs ds : List Certificate) → state_change p v cs ≡ state_change p w ds → SameChange p v w cs ds
 change-same p v w cs ds h =
-    let a = statement-same p 4 4 v w (length cs ∷ marks p cs) (length ds ∷ marks p ds) h in
-    let f : length cs ∷ marks p cs ≡ length ds ∷ marks p ds = a.fields in
+    let a = statement-same 1 p tag 4 4 v w (length cs ∷ marks p cs) (length ds ∷ marks p ds) h in
+    let f : length cs ∷ marks p cs ≡ length ds ∷ marks p ds = a.behind in
     let n : length cs ≡ length ds = cc in
     let m : marks p cs ≡ marks p ds = cc in
-    record { view = a.view; each = λ c k. marks-same p cs ds c n m k }
+    record { view = a.number; each = λ c k. marks-same p cs ds c n m k }

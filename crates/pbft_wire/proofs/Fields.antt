@@ -5,7 +5,7 @@ use Rattle.std.specs.Int.{to_be_bytes, w16, w64}
 use Rattle.std.specs.List.{AllByRecursion, list_all}
 use Rattle.std.proofs.lemmas.Bool.{leb-true, le-leb, lt-ltb, ltb-true}
 use Rattle.iss_base.proofs.Lists.{and-true, both}
-use Rattle.iss_request.specs.Fields.{Good, Bad}
+use Rattle.iss_request.specs.Fields.{Good}
 use Rattle.iss_request.specs.Formats.{HasSpelling, IsSpelledValue, has_spelling, parse_value, requests_most, spell_value, value_bytes}
 use Rattle.iss_request.specs.Parsing.{byte, number}
 use Rattle.iss_request.specs.declared.requests.Request.{Request}
@@ -13,6 +13,7 @@ use Rattle.iss_request.specs.declared.requests.Value.{Value}
 use Rattle.iss_request.specs.declared.requests.Value.TheVariants.{Nil, Batch as Holds}
 use Rattle.iss_request.proofs.OneSpelling.{value_grammar, value_related}
 use Rattle.iss_request.proofs.ParserLemmas.{byte_again, byte_parts, number_again, number_parts, test_parts, test_passed, wide16, wide64}
+use Rattle.iss_sb.proofs.Fields.{good-bad}
 use Rattle.pbft_wire.specs.Certificates.{count, fits_count, fits_slot, fits_value, fits_view}
 
 -- what was read is spelled so, and has a spelling
@@ -54,9 +55,6 @@ count-parts bytes rest n h =
 
 -- ---- values
 
-no-good : (v : Value) (x : List ℕ) (n : ℕ) → Good v x ≡ Bad n → ⊥
-no-good v x n h = cc
-
 all-spelled : (b : List Request) → list_all has_spelling b ≡ true → AllByRecursion HasSpelling b
 all-spelled [] h = tt
 all-spelled (r ∷ rs) h = let t = and-true (has_spelling r) (list_all has_spelling rs) h in (t.0, all-spelled rs t.1)
@@ -88,7 +86,7 @@ module _ (version : ℕ) where
       let alone : parse_value version (spell_value version v ++ []) ≡ Good v [] = ap (parse_value version) (sym (grammar.only _ [] v read)) ∙ read in
       elim (grammar.whole v) [
         | inl again ↦ again rest
-        | inr bad ↦ let k = bad [] in absurd (no-good v [] k.0 (sym alone ∙ k.1))
+        | inr bad ↦ let k = bad [] in absurd (good-bad v [] k.0 (sym alone ∙ k.1))
       ]
 
   pub value-parts : (bytes rest : List ℕ) (v : Value) → parse_value version bytes ≡ Good v rest → IsText (fits_value version v) (spell_value version v) bytes rest
@@ -97,7 +95,7 @@ module _ (version : ℕ) where
       let parts = grammar.only bytes rest v h in
       elim (grammar.whole v) [
         | inl again ↦ record { parts = parts; fits = value-fits v (spell_value version v ++ []) ((value_related version v (spell_value version v ++ [])).0 (again [])) }
-        | inr bad ↦ let k = bad rest in absurd (no-good v rest k.0 (sym h ∙ ap (parse_value version) parts ∙ k.1))
+        | inr bad ↦ let k = bad rest in absurd (good-bad v rest k.0 (sym h ∙ ap (parse_value version) parts ∙ k.1))
       ]
 
   -- ---- the table of values

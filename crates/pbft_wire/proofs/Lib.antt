@@ -2,7 +2,6 @@ pub mod Fields
 pub mod Rising
 pub mod CertificateGrammar
 pub mod MessageGrammar
-pub mod Numbered
 pub mod Written
 pub mod Table
 pub mod Examples

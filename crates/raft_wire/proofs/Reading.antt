@@ -11,9 +11,8 @@ use Rattle.iss_request.specs.declared.requests.Value.TheVariants.{Batch as Value
 use Rattle.iss_request.proofs.Readings.{read_done, read_passed, read_then, unread_failed, unread_first, unread_tested, unread_then}
 use Rattle.raft_wire.specs.declared.entries.What.{What}
 use Rattle.raft_wire.specs.declared.entries.What.TheVariants.{Nil, Holds, Mark}
-use Rattle.raft_wire.specs.declared.messages.Message.{Message}
 use Rattle.raft_wire.specs.Entries.{parse_batch_what, parse_what}
-use Rattle.raft_wire.specs.Messages.{fields_of, is_known, parse, parse_flag}
+use Rattle.raft_wire.specs.Messages.{is_known, parse_flag}
 
 -- ---- what an entry holds
 
@@ -54,27 +53,6 @@ pub holds-unread : (v : ℕ) {a b : Reading} (n : ℕ) {at : ℕ} → n ≡ 1 �
 unfolding parse_what parse_batch_what
 holds-unread v {a} {b} n e h k =
     unread_then (such_that to_two byte) (after_kind v) (kind-read n 1 e refl h) (unread_first (such_that is_batch (parse_value v)) made-what k)
-
--- ---- messages
-
-number-of : {a b : Reading} (n k : ℕ) → n ≡ k → is_known k ≡ true → IsRead byte a b n → IsRead (such_that is_known byte) a b k
-number-of {a} {b} n k e t h = read_passed is_known byte (subst (λ (z : ℕ). IsRead byte a b z) e h) t
-
-pub number-unread : (v : ℕ) {a : Reading} {at : ℕ} → IsUnreadable byte a at → IsUnreadable (parse v) a at
-unfolding parse
-number-unread v h = unread_first (such_that is_known byte) (fields_of v) (unread_tested is_known byte h)
-
-pub unknown-unread : (v : ℕ) {a b : Reading} (n : ℕ) → is_known n ≡ false → IsRead byte a b n → IsUnreadable (parse v) a a.at
-unfolding parse
-unknown-unread v n k h = unread_first (such_that is_known byte) (fields_of v) (unread_failed is_known byte h k)
-
-pub fields-read : (v : ℕ) {a b c : Reading} (n k : ℕ) (m : Message) → n ≡ k → is_known k ≡ true → IsRead byte a b n → IsRead (fields_of v k) b c m → IsRead (parse v) a c m
-unfolding parse
-fields-read v n k m e t h r = read_then (such_that is_known byte) (fields_of v) (number-of n k e t h) r
-
-pub fields-unread : (v : ℕ) {a b : Reading} (n k : ℕ) {at : ℕ} → n ≡ k → is_known k ≡ true → IsRead byte a b n → IsUnreadable (fields_of v k) b at → IsUnreadable (parse v) a at
-unfolding parse
-fields-unread v n k e t h r = unread_then (such_that is_known byte) (fields_of v) (number-of n k e t h) r
 
 -- ---- flags
 

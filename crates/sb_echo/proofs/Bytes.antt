@@ -1,17 +1,15 @@
 -- What digests, strings and statements tell.
-use Rattle.std.proofs.Common.{◌≡◌, ℕ, true, ◌==◌, List, [], ◌∷◌, ◌++◌, refl, sym, ap, ◌∙◌, inl, inr}
+use Rattle.std.proofs.Common.{◌≡◌, ℕ, true, ◌==◌, List, [], ◌++◌, sym, ap, ◌∙◌, inl, inr}
 use Rattle.std.proofs.lemmas.Bool.Decides.{Decides-eqb}
-use Rattle.iss_request.specs.Fields.{Good, Bad}
+use Rattle.iss_request.specs.Fields.{Good}
 use Rattle.iss_request.specs.Formats.{parse_value, spell_value}
 use Rattle.iss_request.specs.declared.requests.Batch.{Batch}
-use Rattle.iss_request.specs.declared.requests.Value.{Value}
 use Rattle.iss_request.specs.declared.requests.Value.TheVariants.{Batch as Holds}
 use Rattle.iss_request.proofs.OneSpelling.{value_grammar}
 use Rattle.iss_sb.specs.declared.effects.Params.{Params}
 use Rattle.iss_sb.specs.Evidence.{IsReadBatch}
-use Rattle.iss_sb.specs.Statements.{eight_bytes}
-use Rattle.iss_sb.proofs.Statements.{head-same, wide-same}
-use Rattle.sb_echo.specs.Echo.{statement, string_of, tag}
+use Rattle.iss_sb.proofs.Fields.{good-bad}
+use Rattle.sb_echo.specs.Echo.{string_of}
 
 pub is-same : (a b : ℕ) → (a == b) ≡ true → a ≡ b
 is-same a b h = (Decides-eqb a b).0 h
@@ -24,9 +22,6 @@ same-is a b h = (Decides-eqb a b).1 h
 good-holds : (b c : Batch) (x y : List ℕ) → Good (Holds b) x ≡ Good (Holds c) y → b ≡ c
 good-holds b c x y h = cc
 
-no-good : (v : Value) (x : List ℕ) (n : ℕ) → Good v x ≡ Bad n → ⊥
-no-good v x n h = cc
-
 -- one batch that is read as it is spelled is enough
 pub one-batch : (p : Params) (b c : Batch) → IsReadBatch p b → string_of p b ≡ string_of p c → b ≡ c
 one-batch p b c h e =
@@ -35,20 +30,5 @@ one-batch p b c h e =
     let read : parse_value v (spell_value v (Holds c) ++ []) ≡ Good (Holds b) [] = ap (λ (s : List ℕ). parse_value v (s ++ [])) (sym same) ∙ h [] in
     elim ((value_grammar v).whole (Holds c)) [
       | inl good ↦ good-holds b c [] [] (sym read ∙ good [])
-      | inr bad ↦ let k = bad [] in absurd (no-good (Holds b) [] k.0 (sym read ∙ k.1))
+      | inr bad ↦ let k = bad [] in absurd (good-bad (Holds b) [] k.0 (sym read ∙ k.1))
     ]
-
--- ---- statements
-
-pub record SameStatement (k l s t : ℕ) (d e : List ℕ) : Type 0 where
-  pub kind : k ≡ l
-  pub slot : s ≡ t
-  pub digest : d ≡ e
-
-pub statement-same : (p : Params) (k l s t : ℕ) (d e : List ℕ) → statement p k s d ≡ statement p l t e → SameStatement k l s t d e
-statement-same p k l s t d e h =
-    let a = (head-same p.setup.tag p.setup.tag p.epoch.0 p.leader.0 tag p.epoch.0 p.leader.0 tag (k ∷ (eight_bytes s ++ d)) (l ∷ (eight_bytes t ++ e)) refl h).behind in
-    let kinds : k ≡ l = cc in
-    let behind : eight_bytes s ++ d ≡ eight_bytes t ++ e = cc in
-    let b = wide-same 7 s t d e behind in
-    record { kind = kinds; slot = b.0; digest = b.1 }

@@ -1,42 +1,29 @@
 -- A message that is read field by field is what the parser finds.
-use Rattle.std.proofs.Common.{◌≡◌, ℕ, Bool, false, ◌==◌, ◌||◌, if◌then◌else◌, List, length, refl, subst}
-use Rattle.iss_request.specs.Fields.{IsRead, IsUnreadable, Reading, left}
-use Rattle.iss_request.specs.Parsing.{Parser, block, byte, such_that}
-use Rattle.iss_request.proofs.ParserLemmas.{block_parts}
-use Rattle.iss_request.proofs.Readings.{read_passed, read_then, unread_failed, unread_first, unread_tested, unread_then}
+use Rattle.std.proofs.Common.{◌≡◌, ℕ, Bool, ◌==◌, ◌||◌, if◌then◌else◌, refl}
+use Rattle.iss_request.specs.Fields.{IsRead, IsUnreadable, Reading}
+use Rattle.iss_request.specs.Parsing.{Parser, byte}
+use Rattle.iss_sb.proofs.Fields.{kind-read, kind-unread}
 use Rattle.sb_echo.specs.declared.word.Word.{Word}
 use Rattle.sb_echo.specs.Echo.{parse, parse_echo, parse_say}
 
-abbrev known : ℕ → Bool
+abbrev pub known : ℕ → Bool
 known n = (n == 1) || (n == 2)
 
-abbrev after_message : ℕ → ℕ → Parser Word
+abbrev pub after_message : ℕ → ℕ → Parser Word
 after_message version message = if message == 1 then parse_say version else parse_echo
-
-pub number-unread : (v : ℕ) {a : Reading} {at : ℕ} → IsUnreadable byte a at → IsUnreadable (parse v) a at
-unfolding parse
-number-unread v h = unread_first (such_that known byte) (after_message v) (unread_tested known byte h)
-
-pub other-unread : (v : ℕ) {a b : Reading} (n : ℕ) → known n ≡ false → IsRead byte a b n → IsUnreadable (parse v) a a.at
-unfolding parse
-other-unread v n k h = unread_first (such_that known byte) (after_message v) (unread_failed known byte h k)
 
 pub say-read-then : (v : ℕ) {a b c : Reading} (n : ℕ) (m : Word) → n ≡ 1 → IsRead byte a b n → IsRead (parse_say v) b c m → IsRead (parse v) a c m
 unfolding parse
-say-read-then v {a} {b} n m e h k = read_then (such_that known byte) (after_message v) (read_passed known byte (subst (λ (n : ℕ). IsRead byte a b n) e h) refl) k
+say-read-then v n m e h k = kind-read known (after_message v) n 1 m e refl h k
 
 pub say-unread-then : (v : ℕ) {a b : Reading} (n : ℕ) {at : ℕ} → n ≡ 1 → IsRead byte a b n → IsUnreadable (parse_say v) b at → IsUnreadable (parse v) a at
 unfolding parse
-say-unread-then v {a} {b} n e h k = unread_then (such_that known byte) (after_message v) (read_passed known byte (subst (λ (n : ℕ). IsRead byte a b n) e h) refl) k
+say-unread-then v n e h k = kind-unread known (after_message v) n 1 e refl h k
 
 pub echo-read-then : (v : ℕ) {a b c : Reading} (n : ℕ) (m : Word) → n ≡ 2 → IsRead byte a b n → IsRead parse_echo b c m → IsRead (parse v) a c m
 unfolding parse
-echo-read-then v {a} {b} n m e h k = read_then (such_that known byte) (after_message v) (read_passed known byte (subst (λ (n : ℕ). IsRead byte a b n) e h) refl) k
+echo-read-then v n m e h k = kind-read known (after_message v) n 2 m e refl h k
 
 pub echo-unread-then : (v : ℕ) {a b : Reading} (n : ℕ) {at : ℕ} → n ≡ 2 → IsRead byte a b n → IsUnreadable parse_echo b at → IsUnreadable (parse v) a at
 unfolding parse
-echo-unread-then v {a} {b} n e h k = unread_then (such_that known byte) (after_message v) (read_passed known byte (subst (λ (n : ℕ). IsRead byte a b n) e h) refl) k
-
--- a digest that was read has its length
-pub digest-long : {a b : Reading} (d : List ℕ) → IsRead (block 32) a b d → length d ≡ 32
-digest-long {a} {b} d h = (block_parts 32 (left a) (left b) d h.found).len
+echo-unread-then v n e h k = kind-unread known (after_message v) n 2 e refl h k

@@ -21,8 +21,9 @@ use Rattle.iss_sb.proofs.Legal.{safe-legal}
 use Rattle.iss_sb.proofs.Quorums.{Meets, few-faulty, meets}
 use Rattle.sb_echo.specs.declared.word.Word.{Word}
 use Rattle.sb_echo.specs.declared.word.Word.TheVariants.{Say, Echo}
-use Rattle.sb_echo.specs.Echo.{claim, digest_of, echo, has_echo, statement, string_of}
-use Rattle.sb_echo.proofs.Bytes.{one-batch, statement-same}
+use Rattle.iss_sb.proofs.Statements.{statement-same}
+use Rattle.sb_echo.specs.Echo.{claim, digest_of, echo, has_echo, statement, string_of, tag}
+use Rattle.sb_echo.proofs.Bytes.{one-batch}
 use Rattle.sb_echo.proofs.Facts.{IsTold, accepted-cause, decided-is, decided-stays, has_echo-is, once, sent-for, taken-accepted}
 use Rattle.sb_echo.proofs.Spelling.{say-read}
 
@@ -44,8 +45,8 @@ module _ (p : Params) (w : World Word) (legal : IsLegal echo p w) where
   signed-took : (k kind s : ℕ) (d : List ℕ) → IsSigned echo p w k (statement p kind s d) → Took p w k s d
   signed-took k kind s d h =
       let r = sent-for p k (w k) h.item h.to h.msg (legal.made k) h.taken h.sent in
-      let same = statement-same p r.kind kind r.accepted.0.0 s (digest_of p r.accepted.1) d (sym (r.states h.claim h.made) ∙ h.is) in
-      subst (λ (t : ℕ). Took p w k t d) same.slot (record { batch = r.accepted.1; stands = r.stands; is = same.digest })
+      let same = statement-same 7 p tag r.kind kind r.accepted.0.0 s (digest_of p r.accepted.1) d (sym (r.states h.claim h.made) ∙ h.is) in
+      subst (λ (t : ℕ). Took p w k t d) same.number (record { batch = r.accepted.1; stands = r.stands; is = same.behind })
 
   -- what came to a node
   came-signed : (i : ℕ) (x : Item Word) (from : NodeId) (msg : Word) → In x (w i) → x.input ≡ Receive from msg → IsCredible echo p (Verifies p) (IsSigned echo p w) from.0 msg

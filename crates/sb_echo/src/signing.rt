@@ -9,7 +9,6 @@ use iss_keys::Keys;
 use iss_request::values::write_batch;
 use iss_request::{Batch, Bytes, NoMemory, Slot, Writer, version_byte};
 use iss_sb::{Params, put_head, sign};
-use sha2::{Digest, Sha256};
 use std::alloc::Global;
 
 /// The number of the module.
@@ -38,7 +37,7 @@ pub fn digest_of(p: &Params, batch: &Batch, string: &Bytes) -> [u8; 32]
     requires { string.now ≡ string_of p.now batch.now }
     ensures { result ≡ digest_of p.now batch.now }
 {
-    Sha256::digest(string.as_slice())
+    p.directory.directory().digest(string.as_slice())
 }
 
 /// The statement that a batch of this digest was said, or taken, at the slot.

@@ -1,5 +1,5 @@
 -- Small facts: what stands behind a test, the cases of a state, statements told apart.
-use Rattle.std.proofs.Common.{◌≡◌, ◌≤◌, ℕ, ◌%◌, ◌==◌, ◌&&◌, not, Bool, true, false, if◌then◌else◌, List, ◌∷◌, ◌++◌, Option, Some, None, refl, sym, ◌∙◌, subst, true≢false, arith}
+use Rattle.std.proofs.Common.{◌≡◌, ◌≤◌, ℕ, ◌%◌, ◌==◌, ◌&&◌, not, Bool, true, false, if◌then◌else◌, List, ◌∷◌, ◌++◌, Option, Some, None, refl, sym, subst, true≢false, arith}
 use Rattle.std.specs.Prelude.{nat_le}
 use Rattle.std.proofs.lemmas.Bool.{leb-true}
 use Rattle.std.proofs.lemmas.Bool.Decides.{Decides-eqb}
@@ -25,10 +25,6 @@ pub by-test : {A : Type 0} (P : A → Type 0) (t : Bool) (a b : A) → (t ≡ tr
 by-test P true a b h g = h refl
 by-test P false a b h g = g
 
-pub by-both : {A : Type 0} (P : A → Type 0) (t : Bool) (a b : A) → (t ≡ true → P a) → (t ≡ false → P b) → P (if t then a else b)
-by-both P true a b h g = h refl
-by-both P false a b h g = g refl
-
 pub record IsIf {A : Type 0} (t : Bool) (a x : A) : Type 0 where
   pub passed : t ≡ true
   pub is : a ≡ x
@@ -51,9 +47,6 @@ if-not false o x h = h
 
 pub is-same : (a b : ℕ) → (a == b) ≡ true → a ≡ b
 is-same a b h = (Decides-eqb a b).0 h
-
-pub not-same : (a b : ℕ) → (a == b) ≡ false → a ≡ b → ⊥
-not-same a b h e = true≢false (sym ((Decides-eqb a b).1 e) ∙ h)
 
 pub same-is : (a b : ℕ) → a ≡ b → (a == b) ≡ true
 same-is a b h = (Decides-eqb a b).1 h

@@ -1,7 +1,7 @@
 -- What a node proposes: in the first round its casts, each on the one before.
 use Rattle.std.proofs.Common.{◌≡◌, ◌≤◌, ℕ, zero, suc, ◌+◌, ◌*◌, ◌/◌, ◌==◌, ◌&&◌, Bool, true, false, if◌then◌else◌, List, [], ◌∷◌, ◌++◌, length, Option, Some, None, refl, sym, ap, ◌∙◌, subst, inl, inr, ◌⊎◌, true≢false, arith}
 use Rattle.std.specs.Prelude.{nat_lt}
-use Rattle.std.proofs.lemmas.Bool.{leb-true}
+use Rattle.std.proofs.lemmas.Bool.{eqb-false, leb-true}
 use Rattle.iss_base.specs.Lists.{In, nth}
 use Rattle.iss_base.proofs.Lists.{and-true, in_append, in_right}
 use Rattle.iss_request.specs.declared.ids.Slot.{Slot}
@@ -32,7 +32,8 @@ use Rattle.hs_tree.proofs.Contents.{what-table}
 use Rattle.sb_hotstuff.specs.Facts.{Leads}
 use Rattle.sb_hotstuff.specs.HotStuff.{answers, asks, drafts, hotstuff, makes, proposals, shows, sign_all, state, strings_at, taken_of, turn_strings, voted}
 use Rattle.sb_hotstuff.specs.Rules.{State, Turn, all_news, best, cast_turn, certificate, first_turn, heard, is_reached, is_ready, is_slot, keeps_news, keeps_vote, kept, may_cast, may_end, may_prepare, may_second, may_third, next_turn, nil_or_mark, node_digest, proposed, round_of, slots_below, turn, turn_after, turn_on, with_cast, with_round, with_turn}
-use Rattle.sb_hotstuff.proofs.Basics.{by-both, by-if, by-test, is-same, not-same}
+use Rattle.iss_sb.proofs.Cases.{by-both}
+use Rattle.sb_hotstuff.proofs.Basics.{by-if, by-test, is-same}
 use Rattle.sb_hotstuff.proofs.Casts.{Same, after-kept, heard-same, state-more}
 use Rattle.sb_hotstuff.proofs.Readable.{MayTurn, digest-length, heard-is, kept-fits, proposed-new, state-fits}
 use Rattle.sb_hotstuff.proofs.Single.{AreVoted, acc, hashed-has}
@@ -184,7 +185,7 @@ module _ (p : Params) (w : World Message) (good : IsGoodParams hotstuff p) (lega
   mark-none b h = cc
 
   after-ok : (s : State) (t : Turn) → LeaderOk s → TurnOk t → Holder (digest_of t.just) t.what → MayOk (turn_after p s t)
-  after-ok s t h ok has = by-both MayOk (round_of t.view == 0) (cast_turn p (suc t.view) (certificate p s 1 t.view t.digest) t.slots (nth s.casts t.view)) _ (λ q. first (ok.early (is-same (round_of t.view) 0 q))) (λ q. later (not-same (round_of t.view) 0 q))
+  after-ok s t h ok has = by-both MayOk (round_of t.view == 0) (cast_turn p (suc t.view) (certificate p s 1 t.view t.digest) t.slots (nth s.casts t.view)) _ (λ q. first (ok.early (is-same (round_of t.view) 0 q))) (λ q. later (eqb-false (round_of t.view) 0 q))
     where
       first : CastTurn t → MayOk (cast_turn p (suc t.view) (certificate p s 1 t.view t.digest) t.slots (nth s.casts t.view))
       first c =

@@ -29,7 +29,7 @@ use Rattle.sb_hotstuff.specs.Rules.{is_slot, may_cast, may_prepare, slots_below}
 use Rattle.sb_hotstuff.proofs.Basics.{if-in, if-not, if-some}
 use Rattle.sb_hotstuff.proofs.Casts.{cast-new, front-more}
 use Rattle.sb_hotstuff.proofs.Leader.{slot-of}
-use Rattle.sb_hotstuff.proofs.Paired.{ascending-above}
+use Rattle.iss_sb.proofs.Slots.{ascending-above}
 use Rattle.sb_hotstuff.proofs.Safe.{leader-signed, proposed-cast, voted-reached}
 use Rattle.sb_hotstuff.proofs.Single.{AreVoted, is-taken, parts, state-tree, taken-has}
 

@@ -10,7 +10,7 @@ use Rattle.iss_request.specs.declared.requests.Value.{Value}
 use Rattle.iss_request.specs.declared.requests.Value.TheVariants.{Nil as Value_nil, Batch as Value_batch}
 use Rattle.iss_sb.specs.Calls.{AllIn, has_slot, slots_of}
 use Rattle.iss_sb.specs.Evidence.{one_or_none}
-use Rattle.iss_sb.proofs.Slots.{slot-is}
+use Rattle.iss_sb.proofs.Slots.{another, drop-slot, slot-is}
 use Rattle.raft_wire.specs.declared.entries.What.{What}
 use Rattle.raft_wire.specs.declared.entries.What.TheVariants.{Nil, Holds, Mark}
 use Rattle.hs_tree.specs.Known.{values}
@@ -69,19 +69,6 @@ paired-slot s x [] vs h = absurd h
 paired-slot s x (t ∷ ss) [] h = absurd h
 paired-slot s x (t ∷ ss) (v ∷ vs) (inl e) = inl (ap (λ (z : Slot × Value). z.0) e)
 paired-slot s x (t ∷ ss) (v ∷ vs) (inr h) = inr (paired-slot s x ss vs h)
-
-drop-slot : (s : Slot) (k : ℕ) (ss : List Slot) → In s (drop k ss) → In s ss
-drop-slot s zero ss h = h
-drop-slot s (suc k) [] h = absurd h
-drop-slot s (suc k) (t ∷ ss) h = inr (drop-slot s k ss h)
-
-pub ascending-above : (low : ℕ) (s : Slot) (ss : List Slot) → AreAscending low ss → In s ss → low ≤ s.0
-ascending-above low s [] a h = absurd h
-ascending-above low s (t ∷ ss) a (inl e) = let q = ap (λ (z : Slot). z.0) e in let l = a.0 in omega (arith, q, l)
-ascending-above low s (t ∷ ss) a (inr h) = let r = ascending-above (suc t.0) s ss a.1 h in let l = a.0 in omega (arith, r, l)
-
-another : (low : ℕ) (t s : Slot) (ss : List Slot) → AreAscending low (t ∷ ss) → In s ss → (t.0 == s.0) ≡ false
-another low t s ss a h = let r = ascending-above (suc t.0) s ss a.1 h in eqb-other t.0 s.0 (λ e. omega (arith, r, e))
 
 pair-value : (low : ℕ) (s : Slot) (x : Value) (ss : List Slot) (vs : List Value) → AreAscending low ss → In {A = Slot × Value} (s, x) (paired ss vs) → value_with s.0 ss vs ≡ Some x
 pair-value low s x [] vs a h = absurd h

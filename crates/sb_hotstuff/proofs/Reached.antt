@@ -4,7 +4,7 @@ use Rattle.std.proofs.Common.{◌≡◌, ◌<◌, ◌≤◌, ◌^◌, ℕ, Bool,
 use Rattle.sha2.specs.Sha256.{sha256, digest_bytes, hash_after, compress, rounds, schedule, first_words}
 use Rattle.sha2.proofs.Facts256.{length-sha256}
 use Rattle.iss_base.specs.Lists.{In, same_bytes}
-use Rattle.iss_base.proofs.Lists.{eqb-other, same_bytes-refl}
+use Rattle.iss_base.proofs.Lists.{eqb-other}
 use Rattle.iss_keys.specs.Directories.{directory_of}
 use Rattle.iss_request.specs.Digest.{digest}
 use Rattle.iss_request.specs.Formats.{is_signature, spell_batch, spell_count, spell_value, value_string}
@@ -20,6 +20,7 @@ use Rattle.iss_sb.specs.Calls.{IsGoodParams}
 use Rattle.iss_sb.specs.Evidence.{Item, World, IsCredible, IsHashed, IsReached, IsReadMessage, at_start, after, IsSigned, IsString, MayCome, Move, Separate, Verifies, and_then, delivered, empty_world, is_correct}
 use Rattle.iss_sb.specs.Laws.{IsBroadcast}
 use Rattle.iss_sb.specs.Statements.{signature}
+use Rattle.iss_sb.proofs.Cases.{different}
 use Rattle.iss_sb.proofs.Read.{batch-read}
 use Rattle.iss_sb.proofs.Signatures.{signature-shape, signature-verifies}
 use Rattle.raft_wire.specs.declared.entries.What.TheVariants.{Holds}
@@ -375,18 +376,15 @@ value-node : same_bytes (digest value) (digest tree_node) ≡ false
 unfolding sha256 digest_bytes hash_after compress rounds schedule first_words spell_batch spell_count spell_value
 value-node = refl
 
-apart : (x y : List ℕ) → same_bytes x y ≡ false → x ≡ y → ⊥
-apart x y h e = true≢false (sym (subst (λ (z : List ℕ). same_bytes x z ≡ true) e (same_bytes-refl x)) ∙ h)
-
 not-empty : (s : List ℕ) → IsOf s → digest [] ≡ digest s → ⊥
-not-empty s (inl e) h = apart (digest []) (digest value) root-value (h ∙ ap digest e)
-not-empty s (inr (inl e)) h = apart (digest []) (digest tree_node) root-node (h ∙ ap digest e)
+not-empty s (inl e) h = different (digest []) (digest value) root-value (h ∙ ap digest e)
+not-empty s (inr (inl e)) h = different (digest []) (digest tree_node) root-node (h ∙ ap digest e)
 not-empty s (inr (inr k)) h = k
 
 both-same : (x y : List ℕ) → IsOf x → IsOf y → digest x ≡ digest y → x ≡ y
 both-same x y (inl e) (inl g) h = e ∙ sym g
-both-same x y (inl e) (inr (inl g)) h = absurd (apart (digest value) (digest tree_node) value-node (ap digest (sym e) ∙ h ∙ ap digest g))
-both-same x y (inr (inl e)) (inl g) h = absurd (apart (digest value) (digest tree_node) value-node (ap digest (sym g) ∙ sym h ∙ ap digest e))
+both-same x y (inl e) (inr (inl g)) h = absurd (different (digest value) (digest tree_node) value-node (ap digest (sym e) ∙ h ∙ ap digest g))
+both-same x y (inr (inl e)) (inl g) h = absurd (different (digest value) (digest tree_node) value-node (ap digest (sym g) ∙ sym h ∙ ap digest e))
 both-same x y (inr (inl e)) (inr (inl g)) h = e ∙ sym g
 both-same x y (inr (inr k)) g h = absurd k
 both-same x y (inl e) (inr (inr k)) h = absurd k

@@ -11,7 +11,7 @@ use Rattle.hs_tree.specs.declared.certificates.Certificate.{Certificate}
 use Rattle.hs_tree.specs.declared.certificates.Certificate.TheVariants.{Root}
 use Rattle.hs_tree.specs.declared.certificates.Signed.{Signed}
 use Rattle.hs_tree.specs.Certificates.{view_of}
-use Rattle.hs_tree.proofs.Branches.{both_equal, same_list, same_number}
+use Rattle.iss_sb.proofs.Cases.{added, both_equal, same_list, same_number}
 use Rattle.sb_hotstuff.specs.declared.ballots.Ballot.{Ballot}
 use Rattle.sb_hotstuff.specs.declared.ballots.Ballots.{Ballots}
 use Rattle.sb_hotstuff.specs.declared.news.Sender.{Sender}
@@ -150,12 +150,6 @@ best-is m ws (suc k) round h =
     ∙ sym (best-more Root (all_news k ws round) (news_of ws round k))
 
 -- ---- turns
-
-added : (t u v w : Bool) → t ≡ u → w ≡ cond t true v → w ≡ (u || v)
-added true true v w p q = q
-added false false v w p q = q
-added true false v w p q = absurd cc
-added false true v w p q = absurd cc
 
 pub turns-more : (m n : Turns) (t : Turn) (turn : Last) (ts : List Turn) → own_of t ≡ turn → AreTurns m ts → n.last ≡ Some turn →
     ((view : ℕ) (d : List ℕ) → contains own_order n.all (record { view = view; digest = d }) ≡ cond (is_eq (own_order (record { view = turn.view; digest = turn.digest }) (record { view = view; digest = d }))) true (contains own_order m.all (record { view = view; digest = d }))) →

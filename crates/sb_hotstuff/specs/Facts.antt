@@ -116,4 +116,5 @@ AreFromLeader p w = (i : ℕ) (s : Slot) (b : Batch) → is_correct p.setup p.le
 
 -- and accepts one batch at a slot
 abbrev pub AreOnce : Params → World Message → Type 0
-AreOnce p w = is_correct p.setup p.leader.0 ≡ true → (slot : Slot) (b c : Batch) → In {A = Slot × Batch} (slot, b) (accepts (w p.leader.0)) → In {A = Slot × Batch} (slot, c) (accepts (w p.leader.0)) → b ≡ c
+AreOnce p w = is_correct p.setup p.leader.0 ≡ true → (slot : Slot) (b c : Batch) →
+    In {A = Slot × Batch} (slot, b) (accepts (w p.leader.0)) → In {A = Slot × Batch} (slot, c) (accepts (w p.leader.0)) → b ≡ c

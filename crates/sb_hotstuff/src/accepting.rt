@@ -20,7 +20,8 @@ use std::alloc::Global;
 
 // The slot at this place of the segment, unless the batch was accepted there.
 fn free_slot(accepted: &Accepted, p: &Params, place: usize, batch: &Batch) -> Option<Slot>
-    ensures free { (old : List (Slot × Batch)) → AreAccepted accepted.now old → at_slot batch.now result ≡ unless_accepted old batch.now (nth p.now.slots place) }
+    ensures free { (old : List (Slot × Batch)) → AreAccepted accepted.now old →
+        at_slot batch.now result ≡ unless_accepted old batch.now (nth p.now.slots place) }
     ensures inside { IfSome result (λ s. In s p.now.slots) }
 {
     let Some(slot) = p.slots.as_slice().get(place) else {

@@ -47,7 +47,7 @@ impl Node {
             IsLow (own_of t) → IsFor self.old k → Proposes p.now self.old self.new k (Some t) o) }
     {
         let parent = just.digest();
-        let node = hash_node(alloc, p.setup.version, &parent, &what)?;
+        let node = hash_node(alloc, p, &parent, &what)?;
         let digest = node.digest;
         let slots = slots.saturating_add(weight(&what));
         let draft = proposal_draft(alloc, p, view, what, just, &digest)?;

@@ -267,7 +267,7 @@ fn own_statement(alloc: Global, p: &Params, m: &Message) -> Result<Bytes, NoMemo
             just,
             ..
         } => {
-            let node = hash_node(alloc, p.setup.version, &just.digest(), what)?;
+            let node = hash_node(alloc, p, &just.digest(), what)?;
             node_statement(alloc, p, TAG, PREPARE, *view, &node.digest)
         }
         Message::PreCommit { view, shown, .. } => {

@@ -1,5 +1,5 @@
 -- From what the code's parts did to what a rule owes.
-use Rattle.std.proofs.Common.{◌≡◌, ◌≤◌, ◌+◌, ◌*◌, ℕ, Bool, false, List, [], ◌∷◌, ◌++◌, length, Option, Some, None, IfSome, refl, sym, ap, ◌∙◌, arith, subst}
+use Rattle.std.proofs.Common.{◌≡◌, ◌≤◌, ◌+◌, ◌*◌, ℕ, Bool, false, List, [], ◌∷◌, ◌++◌, length, Option, Some, None, IfSome, refl, sym, ap, ◌∙◌, arith, subst, append-nil}
 use Rattle.iss_base.specs.Lists.{In}
 use Rattle.iss_keys.specs.Directories.{AreKeysOf}
 use Rattle.iss_keys.specs.KeyStates.{KeyState}
@@ -17,7 +17,7 @@ use Rattle.sb_pbft.specs.Makes.{Draft, uses_all}
 use Rattle.sb_pbft.specs.Pbft.{pbft}
 use Rattle.sb_pbft.specs.Stands.{Does, IsTurn, Sent, Settles, held}
 use Rattle.sb_pbft.specs.Turns.{Held, Turn, deliveries, delivery, drafts_all, drafts_at, idle, newly_at, settled, settled_all, turn}
-use Rattle.sb_pbft.proofs.Settled.{same-end, sent-both, settles-none, slot-few, uses-both}
+use Rattle.sb_pbft.proofs.Settled.{sent-both, settles-none, slot-few, uses-both}
 
 -- ---- nothing
 
@@ -73,7 +73,7 @@ drafts-few p h answers v [] = omega arith
 drafts-few p h answers v (s ∷ ss) =
     let one = slot-few p h answers v s in
     let e : uses_all p (drafts_all p h answers v (s ∷ [])) ≡ uses_all p (drafts_at p h answers v s) = ap (λ (l : List Draft). uses_all p l)
-    (same-end (drafts_at p h answers v s)) in
+    (append-nil (drafts_at p h answers v s)) in
     let rest = drafts-few p (settled p h v s) answers v ss in
     let both = uses-both p (drafts_at p h answers v s) (drafts_all p (settled p h v s) answers v ss) in
     omega (arith, one, e, rest, both)
@@ -142,7 +142,7 @@ pub does-sent : (p : Params) (i : Input Message) (old new : Pbft) (b l : KeyStat
     Does p old new i b l f
 does-sent p i old new b l f ds strings node sent none takes hashes turns few =
     let same : turned p ds (held new) false 0 [] strings None ≡ record (idle (held new)) { drafts = ds; strings = strings } =
-    ap (λ (x : List Draft). record (idle (held new)) { drafts = x; strings = strings }) (same-end ds) in
+    ap (λ (x : List Draft). record (idle (held new)) { drafts = x; strings = strings }) (append-nil ds) in
     does-settled p i old new new b l l f f ds false 0 [] (held new) strings None node (λ own. refl) sent none takes hashes tt (turns ∙ sym same)
     (settles-none p false 0 new l f) tt
     (let low = few in omega (arith, low))

@@ -11,12 +11,13 @@ use Rattle.iss_sb.specs.declared.effects.Params.{Params}
 use Rattle.iss_sb.specs.declared.effects.To.{To}
 use Rattle.iss_sb.proofs.Legal.{legal-reached, made-at}
 use Rattle.iss_sb.proofs.Slots.{slot-is}
-use Rattle.pbft_wire.specs.Statements.{digest_of, state_at, state_change, statement}
+use Rattle.iss_sb.proofs.Statements.{statement-same}
+use Rattle.pbft_wire.specs.Statements.{digest_of, state_at, state_change, statement, tag}
 use Rattle.pbft_wire.specs.declared.messages.Certificate.{Certificate}
 use Rattle.pbft_wire.specs.declared.messages.Change.{Change}
 use Rattle.pbft_wire.specs.declared.messages.Message.{Message}
 use Rattle.pbft_views.specs.Choice.{choice}
-use Rattle.pbft_views.proofs.Statements.{HasMark, at-same, change-same, statement-same}
+use Rattle.pbft_views.proofs.Statements.{HasMark, at-same, change-same}
 use Rattle.sb_pbft.specs.Makes.{Draft, DraftCommit, DraftNewView, DraftPrePrepare, DraftPrepare, DraftViewChange, drafts, makes, sign}
 use Rattle.sb_pbft.specs.Pbft.{pbft}
 use Rattle.sb_pbft.proofs.Own.{States, stated}
@@ -37,7 +38,7 @@ module _ (p : Params) (me leaf : ℕ) where
   Makes d t = States p me (sign p me leaf d) t
 
   other-kind : (k l v u : ℕ) (f g : List ℕ) → statement p k v f ≡ statement p l u g → k ≡ l
-  other-kind k l v u f g h = (statement-same p k l v u f g h).kind
+  other-kind k l v u f g h = (statement-same 1 p tag k l v u f g h).kind
 
   prepare-is : (u v s : ℕ) (t : Slot) (d e : List ℕ) → state_at p 2 v s d ≡ state_at p 2 u t.0 e → SameDraft (DraftPrepare u t e) (DraftPrepare v (record { 0 = s }) d)
   prepare-is u v s t d e h =

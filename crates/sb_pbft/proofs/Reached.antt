@@ -1,8 +1,7 @@
 -- The premises of the laws and facts can be met: the run's world meets them.
-use Rattle.std.proofs.Common.{◌≡◌, ◌⊎◌, ℕ, Bool, true, false, cond, eqb, List, [], ◌∷◌, refl, sym, ap, ◌∙◌, subst, inl, inr, true≢false}
+use Rattle.std.proofs.Common.{◌≡◌, ◌⊎◌, ℕ, Bool, true, false, cond, eqb, List, [], ◌∷◌, refl, sym, ap, ◌∙◌, subst, inl, inr}
 use Rattle.sha2.specs.Sha256.{sha256, digest_bytes, hash_after, compress, rounds, schedule, first_words}
 use Rattle.iss_base.specs.Lists.{In, same_bytes}
-use Rattle.iss_base.proofs.Lists.{same_bytes-refl}
 use Rattle.iss_request.specs.Digest.{digest}
 use Rattle.iss_request.specs.Formats.{spell_batch, spell_count, spell_value}
 use Rattle.iss_request.specs.declared.requests.Value.TheVariants.{Nil, Batch as Holds}
@@ -11,6 +10,7 @@ use Rattle.iss_sb.specs.declared.effects.To.TheVariants.{All as To_all}
 use Rattle.iss_sb.specs.Evidence.{Item, Made, IsHashed, IsSigned, IsString, Separate}
 use Rattle.iss_sb.specs.Laws.{IsBroadcast}
 use Rattle.iss_sb.specs.Legal.{Front}
+use Rattle.iss_sb.proofs.Cases.{different}
 use Rattle.pbft_wire.specs.declared.messages.Message.{Message}
 use Rattle.pbft_wire.specs.declared.messages.Message.TheVariants.{Commit}
 use Rattle.pbft_wire.specs.Statements.{state_change, string_of}
@@ -62,9 +62,6 @@ hashed-of s h = go (eqb h.node 0) (eqb h.node 1) (eqb h.node 2) h.taken
     go false true v k = each-of o10 h.item s of-one k h.hashed
     go false false true k = each-of t4 h.item s of-two k h.hashed
     go false false false k = absurd k
-
-different : (a c : List ℕ) → same_bytes a c ≡ false → a ≡ c → ⊥
-different a c h e = true≢false (sym (subst (λ (z : List ℕ). same_bytes a z ≡ true) e (same_bytes-refl a)) ∙ h)
 
 empty-batch : same_bytes (digest []) d ≡ false
 unfolding sha256 digest_bytes hash_after compress rounds schedule first_words spell_batch spell_count spell_value

@@ -1,5 +1,5 @@
 -- What is due at one slot after another.
-use Rattle.std.proofs.Common.{◌≡◌, ◌≤◌, ◌<◌, ◌+◌, ◌-◌, ◌*◌, ◌^◌, drop, get_or, ℕ, zero, suc, Bool, true, false}
+use Rattle.std.proofs.Common.{◌≡◌, ◌≤◌, ◌<◌, ◌+◌, ◌-◌, ◌*◌, ◌^◌, drop, get_or, ℕ, zero, suc, Bool, true, false, append-nil}
 use Rattle.std.proofs.Common.{cond, List, [], ◌∷◌, ◌++◌, length, Option, Some, None, refl, sym, ap, ◌∙◌, arith, subst}
 use Rattle.std.proofs.Math.Seq.{drop-cons}
 use Rattle.iss_keys.specs.Directories.{AreKeysOf}
@@ -17,10 +17,6 @@ use Rattle.sb_pbft.specs.declared.proposals.Proposal.{Proposal}
 use Rattle.sb_pbft.specs.Makes.{Draft, sign, sign_all, uses, uses_all}
 use Rattle.sb_pbft.specs.Stands.{Answers, Commits, HandsOver, Sent, Settles, held}
 use Rattle.sb_pbft.specs.Turns.{Held, commits_to, delivery, deliveries, drafts_all, drafts_at, handed, newly_at, prepares_to, ready_at, settled, settled_all}
-
-pub same-end : {A : Type 0} (xs : List A) → xs ++ [] ≡ xs
-same-end [] = refl
-same-end (x ∷ xs) = ap (λ (l : List _). x ∷ l) (same-end xs)
 
 pub grouped : {A : Type 0} (xs ys zs : List A) → (xs ++ ys) ++ zs ≡ xs ++ (ys ++ zs)
 grouped [] ys zs = refl
@@ -43,7 +39,7 @@ signed-both p me leaf (d ∷ ds) es =
 pub sent-none : (p : Params) (k : KeyState) (s t : List (To × Message)) → t ≡ s → Sent p [] k k s t
 sent-none p k s t e = record {
   used = let n : k.used + 0 ≡ k.used = omega arith in ap (λ (n : ℕ). record k { used = n }) (sym n);
-  sends = λ me own. e ∙ sym (same-end s);
+  sends = λ me own. e ∙ sym (append-nil s);
   addressed = λ n h. subst (λ (l : List (To × Message)). AreToNodes n l) (sym e) h;
 }
 
@@ -92,7 +88,7 @@ settles-none p answers v m k e = record {
   node = refl;
   holds = refl;
   sent = sent-none p k e.sends e.sends refl;
-  delivers = sym (same-end e.delivers);
+  delivers = sym (append-nil e.delivers);
   accepted = refl;
   hashed = refl;
 }
@@ -104,14 +100,14 @@ settles-more p answers v s ss m n o a b c e f g h k = record {
   holds = k.holds ∙ ap (λ (z : Held). settled_all p z v ss) h.holds;
   sent =
       let first : Sent p (drafts_at p (held m) answers v s) a b e.sends f.sends =
-      subst (λ (l : List Draft). Sent p l a b e.sends f.sends) (same-end (drafts_at p (held m) answers v s)) h.sent in
+      subst (λ (l : List Draft). Sent p l a b e.sends f.sends) (append-nil (drafts_at p (held m) answers v s)) h.sent in
       let second : Sent p (drafts_all p (settled p (held m) v s) answers v ss) b c f.sends g.sends =
       subst (λ (z : Held). Sent p (drafts_all p z answers v ss) b c f.sends g.sends) h.holds k.sent in
       sent-both p (drafts_at p (held m) answers v s) (drafts_all p (settled p (held m) v s) answers v ss) a b c e.sends f.sends g.sends first second;
   delivers =
       k.delivers ∙ ap (λ (z : Held). f.delivers ++ deliveries p z v ss) h.holds
       ∙ ap (λ (l : List (Slot × Value)). l ++ deliveries p (settled p (held m) v s) v ss) (h.delivers
-      ∙ ap (λ (l : List (Slot × Value)). e.delivers ++ l) (same-end (delivery s (newly_at p (held m) v s.0))))
+      ∙ ap (λ (l : List (Slot × Value)). e.delivers ++ l) (append-nil (delivery s (newly_at p (held m) v s.0))))
       ∙ grouped e.delivers (delivery s (newly_at p (held m) v s.0)) (deliveries p (settled p (held m) v s) v ss);
   accepted = k.accepted ∙ h.accepted;
   hashed = k.hashed ∙ h.hashed;
@@ -126,12 +122,12 @@ settles-one p answers v s m n o a b c e f g i x y z = record {
   sent =
       let both = sent-both p (cond answers (prepares_to v s ((held m).proposal v s.0)) []) (commits_to (held m).mode.view s
       (ready_at p (held m) s.0)) a b c e.sends f.sends g.sends x.sent y.sent in
-      subst (λ (l : List Draft). Sent p l a c e.sends i.sends) (sym (same-end (drafts_at p (held m) answers v s)))
+      subst (λ (l : List Draft). Sent p l a c e.sends i.sends) (sym (append-nil (drafts_at p (held m) answers v s)))
       (subst (λ (l : List (To × Message)). Sent p (drafts_at p (held m) answers v s) a c e.sends l) (sym z.sends) both);
   delivers =
       z.delivers ∙ ap (λ (h : Held). g.delivers ++ delivery s (newly_at p h v s.0)) y.holds
       ∙ ap (λ (l : List (Slot × Value)). l ++ delivery s (newly_at p (held m) v s.0)) (y.delivers ∙ x.delivers)
-      ∙ ap (λ (l : List (Slot × Value)). e.delivers ++ l) (sym (same-end (delivery s (newly_at p (held m) v s.0))));
+      ∙ ap (λ (l : List (Slot × Value)). e.delivers ++ l) (sym (append-nil (delivery s (newly_at p (held m) v s.0))));
   accepted = z.accepted ∙ y.accepted ∙ x.accepted;
   hashed = z.hashed ∙ y.hashed ∙ x.hashed;
 }

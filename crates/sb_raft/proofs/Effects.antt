@@ -1,5 +1,5 @@
 -- What a step does to term, vote, role and log.
-use Rattle.std.proofs.Common.{Bool, ◌≡◌, ℕ, zero, suc, ◌+◌, ◌-◌, ◌<◌, ◌≤◌, true, ◌&&◌, List, [], ◌∷◌, ◌++◌, length, take, drop, arith, refl, inl, inr, ◌⊎◌, sym, ◌∙◌, subst, ap, Option, Some}
+use Rattle.std.proofs.Common.{Bool, ◌≡◌, ℕ, zero, suc, ◌+◌, ◌-◌, ◌<◌, ◌≤◌, true, ◌&&◌, List, [], ◌∷◌, ◌++◌, length, take, drop, arith, refl, inl, inr, ◌⊎◌, sym, ◌∙◌, subst, ap, Option, Some, append-nil}
 use Rattle.std.specs.Prelude.{◌==◌, nat_le, max, min}
 use Rattle.std.proofs.lemmas.Bool.{eqb-true, leb-true, and_parts}
 use Rattle.iss_base.specs.Lists.{nth, set_at}
@@ -17,10 +17,6 @@ use Rattle.iss_base.specs.Quorum.{count_below}
 use Rattle.sb_raft.specs.Logs.{entry, fits_behind, last_term, merge, merged, nils, stay, filled}
 use Rattle.sb_raft.proofs.Core.{OfTerm}
 use Rattle.sb_raft.proofs.Steps.{leader_is, Raise, level, higher, Handled, none, down, copy, reply, back, grant, voted, win, casts, times, alone, Next, next, next_cases}
-
-pub append_nil : {A : Type 0} (xs : List A) → xs ++ [] ≡ xs
-append_nil [] = refl
-append_nil (x ∷ xs) = ap (λ (z : List _). x ∷ z) (append_nil xs)
 
 nils_term : (t k : ℕ) → OfTerm t (nils t k)
 nils_term t zero x i = elim i [ ]
@@ -63,7 +59,7 @@ same_turn p me s i v r t l g = go s.role refl
     go : (x : Role) → s.role ≡ x → Turn p me s i v
     go Follower e = follows (r ∙ e)
     go Candidate e = stands (r ∙ e) e (sym t) l (inl g)
-    go Leader e = rules (r ∙ e) e (sym t) [] (l ∙ sym (append_nil s.log)) (λ x i. elim i [ ]) g
+    go Leader e = rules (r ∙ e) e (sym t) [] (l ∙ sym (append-nil s.log)) (λ x i. elim i [ ]) g
 
 pub turn_level : (p : Params) (me : ℕ) (s : State) (i : Input Message) (v : State) → Handled p me s i v → Turn p me s i v
 turn_level p me s i v (none e) = same_turn p me s i v (ap (λ (z : State). z.role) e) (ap (λ (z : State). z.term) e) (ap (λ (z : State). z.log) e) (ap (λ (z : State). z.granted) e)

@@ -12,6 +12,7 @@ use Rattle.iss_sb.specs.declared.effects.To.{To}
 use Rattle.iss_sb.specs.Calls.{IsGoodParams}
 use Rattle.iss_sb.specs.Evidence.{Item}
 use Rattle.iss_sb.specs.Legal.{Front}
+use Rattle.iss_sb.proofs.Cases.{by-both}
 use Rattle.raft_wire.specs.declared.entries.Entry.{Entry}
 use Rattle.raft_wire.specs.declared.messages.Message.{Message}
 use Rattle.raft_wire.specs.declared.messages.Message.TheVariants.{Append, Reply, AskVote, Vote}
@@ -21,7 +22,7 @@ use Rattle.sb_raft.specs.Raft.{commit as committed, raft, state}
 use Rattle.sb_raft.specs.Rules.{Follower, Candidate, Leader, State, Step, answer, appended, greatest, holds, may_commit, may_merge, on_append, quiet, raised, step, taken, to}
 use Rattle.sb_raft.proofs.Answered.{answered-matched, matched-answered, no-role, or_left_true, same-is}
 use Rattle.sb_raft.proofs.Matches.{Commit, same, counted, copied, commit}
-use Rattle.sb_raft.proofs.Steps.{by_test, greatest-above, with_reach, Raise, level, higher, Handled, none, down, copy, reply, back, grant, voted, win, casts, times, alone, Next, next_cases}
+use Rattle.sb_raft.proofs.Steps.{greatest-above, with_reach, Raise, level, higher, Handled, none, down, copy, reply, back, grant, voted, win, casts, times, alone, Next, next_cases}
 
 -- ---- it never falls
 
@@ -43,7 +44,7 @@ front-rises p me a (x ∷ l) (inr f) =
 greatest-most : (test : ℕ → Bool) (low k i : ℕ) → test i ≡ true → i ≤ k → i ≤ greatest test low k
 greatest-most test low zero i h l = omega (arith, l)
 greatest-most test low (suc k) i h l =
-    by_test (λ (z : ℕ). i ≤ z) (nat_lt low (suc k) && test (suc k)) (suc k) (greatest test low k) (λ q. l)
+    by-both (λ (z : ℕ). i ≤ z) (nat_lt low (suc k) && test (suc k)) (suc k) (greatest test low k) (λ q. l)
     (λ q. elim (cases_lt i (suc k)) [
       | inl lt ↦ greatest-most test low k i h (omega (arith, lt))
       | inr le ↦ last (omega (arith, le, l)) q
@@ -132,7 +133,7 @@ not-ok j k t u x y (inl e) = is-ok (ap (λ (z : To × Message). z.1) e)
 not-ok j k t u x y (inr h) = h
 
 raised-commit : (s : State) (t : ℕ) → (raised s t).commit ≡ s.commit
-raised-commit s t = by_test (λ (z : State). z.commit ≡ s.commit) (nat_lt s.term t) _ s (λ h. refl) (λ h. refl)
+raised-commit s t = by-both (λ (z : State). z.commit ≡ s.commit) (nat_lt s.term t) _ s (λ h. refl) (λ h. refl)
 
 module _ (u : State) (j t prev pt c : ℕ) (es : List Entry) where
   abbrev IsOk : Step → Type 0
@@ -144,9 +145,9 @@ module _ (u : State) (j t prev pt c : ℕ) (es : List Entry) where
   -- an ok tells that much
   append-told : IsOk (on_append u j t prev pt c es) → min c (prev + length es) ≤ (on_append u j t prev pt c es).state.commit
   append-told =
-      by_test (λ (z : Step). IsOk z → min c (prev + length es) ≤ z.state.commit) (t == u.term) (taken f j prev pt c es) (answer u j (Reply u.term false prev))
-      (λ h. by_test (λ (z : Step). IsOk z → min c (prev + length es) ≤ z.state.commit) (fits_behind f.log prev pt) (if may_merge f prev es then answer (appended f prev c es) j (Reply f.term true (prev + length es)) else quiet f) (answer f j (Reply f.term false prev))
-      (λ g. by_test (λ (z : Step). IsOk z → min c (prev + length es) ≤ z.state.commit) (may_merge f prev es) (answer (appended f prev c es) j (Reply f.term true (prev + length es))) (quiet f)
+      by-both (λ (z : Step). IsOk z → min c (prev + length es) ≤ z.state.commit) (t == u.term) (taken f j prev pt c es) (answer u j (Reply u.term false prev))
+      (λ h. by-both (λ (z : Step). IsOk z → min c (prev + length es) ≤ z.state.commit) (fits_behind f.log prev pt) (if may_merge f prev es then answer (appended f prev c es) j (Reply f.term true (prev + length es)) else quiet f) (answer f j (Reply f.term false prev))
+      (λ g. by-both (λ (z : Step). IsOk z → min c (prev + length es) ≤ z.state.commit) (may_merge f prev es) (answer (appended f prev c es) j (Reply f.term true (prev + length es))) (quiet f)
       (λ k o. omega arith)
       (λ k o. absurd o))
       (λ g o. absurd (not-ok j j t f.term (prev + length es) prev o)))
@@ -155,9 +156,9 @@ module _ (u : State) (j t prev pt c : ℕ) (es : List Entry) where
   -- what is committed stays, or an ok was answered
   append-kinds : ((on_append u j t prev pt c es).state.commit ≡ u.commit) ⊎ (IsOk (on_append u j t prev pt c es) × ((on_append u j t prev pt c es).state.commit ≡ max u.commit (min c (prev + length es))))
   append-kinds =
-      by_test Kinds (t == u.term) (taken f j prev pt c es) (answer u j (Reply u.term false prev))
-      (λ h. by_test Kinds (fits_behind f.log prev pt) (if may_merge f prev es then answer (appended f prev c es) j (Reply f.term true (prev + length es)) else quiet f) (answer f j (Reply f.term false prev))
-      (λ g. by_test Kinds (may_merge f prev es) (answer (appended f prev c es) j (Reply f.term true (prev + length es))) (quiet f)
+      by-both Kinds (t == u.term) (taken f j prev pt c es) (answer u j (Reply u.term false prev))
+      (λ h. by-both Kinds (fits_behind f.log prev pt) (if may_merge f prev es then answer (appended f prev c es) j (Reply f.term true (prev + length es)) else quiet f) (answer f j (Reply f.term false prev))
+      (λ g. by-both Kinds (may_merge f prev es) (answer (appended f prev c es) j (Reply f.term true (prev + length es))) (quiet f)
       (λ k. inr (inl (ap (λ (z : ℕ). to j (Reply z true (prev + length es))) (eqb-true t u.term h)), refl))
       (λ k. inl refl))
       (λ g. inl refl))

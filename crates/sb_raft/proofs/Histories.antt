@@ -1,5 +1,5 @@
 -- Facts of one node's list.
-use Rattle.std.proofs.Common.{◌≡◌, ℕ, ◌<◌, ◌≤◌, Bool, true, false, cond, List, [], ◌∷◌, ◌++◌, arith, refl, inl, inr, ◌⊎◌, sym, ◌∙◌, subst, ap, Some, append_assoc}
+use Rattle.std.proofs.Common.{◌≡◌, ℕ, ◌<◌, ◌≤◌, Bool, true, false, cond, List, [], ◌∷◌, ◌++◌, arith, refl, inl, inr, ◌⊎◌, sym, ◌∙◌, subst, ap, Some, append_assoc, append-nil}
 use Rattle.std.specs.Prelude.{◌==◌}
 use Rattle.std.proofs.lemmas.Bool.{eqb-true}
 use Rattle.iss_request.specs.declared.ids.NodeId.{NodeId}
@@ -21,7 +21,7 @@ use Rattle.iss_sb.proofs.Legal.{front_self}
 use Rattle.sb_raft.proofs.Logs.{Prefix}
 use Rattle.sb_raft.proofs.Prefixes.{pre_refl, pre_trans, pre_append}
 use Rattle.sb_raft.proofs.Core.{OfTerm}
-use Rattle.sb_raft.proofs.Effects.{Turn, follows, stands, runs, rules, wins, wins_alone, turn, next_term, next_vote, append_nil}
+use Rattle.sb_raft.proofs.Effects.{Turn, follows, stands, runs, rules, wins, wins_alone, turn, next_term, next_vote}
 
 -- the leader of term 1, with a log of that term alone. Nobody granted it that term
 pub record IsFirst (p : Params) (me : ℕ) (xs : List (Item Message)) : Type 0 where
@@ -201,7 +201,7 @@ module _ (p : Params) (me : ℕ) where
             cands = λ b h. elim h [
               | inl q ↦
                   let en = n q.0 in
-                  let now = sym q.2 ∙ (e ∙ (ap (λ (z : List Entry). (state p me l).log ++ z) en ∙ append_nil (state p me l).log)) in
+                  let now = sym q.2 ∙ (e ∙ (ap (λ (z : List Entry). (state p me l).log ++ z) en ∙ append-nil (state p me l).log)) in
                   now ∙ a.cands (state p me l).log (here l (c q.0))
               | inr q ↦ a.cands b (subst (λ (z : ℕ). CandIn p me l z b) (sym t) q)
             ];
@@ -229,7 +229,7 @@ module _ (p : Params) (me : ℕ) where
           | inr z ↦ z
         ];
         cands = λ b h. elim h [
-          | inl q ↦ sym q.2 ∙ (e ∙ (ap (λ (z : List Entry). (state p me l).log ++ z) (n q.0) ∙ append_nil (state p me l).log))
+          | inl q ↦ sym q.2 ∙ (e ∙ (ap (λ (z : List Entry). (state p me l).log ++ z) (n q.0) ∙ append-nil (state p me l).log))
           | inr q ↦ let z = cand_term l (state p me (i ∷ l)).term b q in absurd (omega arith)
         ];
         vote = v;
@@ -242,9 +242,9 @@ module _ (p : Params) (me : ℕ) where
       go ih (follows a) = absurd (follower_no (state p me (i ∷ l)).role a r)
       go ih (stands a b c d e) = elim (ih (inr b)) [
         | inl x ↦ absurd (no_first x b)
-        | inr x ↦ inr (more x [] c (d ∙ sym (append_nil (state p me l).log)) (λ x i. elim i [ ]) (λ q. refl) (λ q. b))
+        | inr x ↦ inr (more x [] c (d ∙ sym (append-nil (state p me l).log)) (λ x i. elim i [ ]) (λ q. refl) (λ q. b))
       ]
-      go ih (runs a b c d e) = inr (fresh b [] (c ∙ sym (append_nil (state p me l).log)) (λ x i. elim i [ ]) (λ q. refl) d)
+      go ih (runs a b c d e) = inr (fresh b [] (c ∙ sym (append-nil (state p me l).log)) (λ x i. elim i [ ]) (λ q. refl) d)
       go ih (rules a b c own e f g) = elim (ih (inl b)) [
         | inl x ↦ inl (record { leads = a; term = sym c ∙ x.term; own = x.own; log = subst (λ (z : List Entry). OfTerm (state p me (i ∷ l)).term z) (sym e) (of_both (state p me (i ∷ l)).term (state p me l).log own (subst (λ (z : ℕ). OfTerm z (state p me l).log) c x.log) f); none = λ k. ap (λ (z : ℕ → Bool). z k) g ∙ x.none k })
         | inr x ↦ inr (more x own c e f (λ q. absurd (not_both (state p me (i ∷ l)).role a q)) (λ q. absurd (not_both (state p me (i ∷ l)).role a q)))

@@ -2,12 +2,12 @@
 use Rattle.std.proofs.Common.{◌≡◌, ℕ, zero, suc, ◌<◌, ◌≤◌, ◌==◌, Bool, true, false, if◌then◌else◌, List, [], ◌∷◌, ◌++◌, length, drop, get_or, refl, sym, subst, ap, ◌∙◌, Some, None, inl, inr, arith}
 use Rattle.std.proofs.Math.Seq.{drop-cons}
 use Rattle.iss_base.specs.Lists.{In}
-use Rattle.iss_base.proofs.Lists.{eqb-other, eqb-same, is-eq}
+use Rattle.iss_base.proofs.Lists.{eqb-same, is-eq}
 use Rattle.iss_request.specs.Slots.{AreAscending}
 use Rattle.iss_request.specs.declared.ids.Slot.{Slot}
 use Rattle.iss_request.specs.declared.requests.Value.{Value}
 use Rattle.iss_sb.specs.Calls.{AllIn, slots_of}
-use Rattle.iss_sb.proofs.Slots.{slot-is}
+use Rattle.iss_sb.proofs.Slots.{another, drop-slot, slot-is}
 use Rattle.sb_raft.specs.Held.{paired}
 use Rattle.sb_raft.specs.Raft.{value_at}
 
@@ -34,19 +34,6 @@ paired-slot s x [] vs h = absurd h
 paired-slot s x (t ∷ ss) [] h = absurd h
 paired-slot s x (t ∷ ss) (v ∷ vs) (inl e) = inl (ap (λ (z : Slot × Value). z.0) e)
 paired-slot s x (t ∷ ss) (v ∷ vs) (inr h) = inr (paired-slot s x ss vs h)
-
-drop-slot : (s : Slot) (k : ℕ) (ss : List Slot) → In s (drop k ss) → In s ss
-drop-slot s zero ss h = h
-drop-slot s (suc k) [] h = absurd h
-drop-slot s (suc k) (t ∷ ss) h = inr (drop-slot s k ss h)
-
-ascending-above : (low : ℕ) (s : Slot) (ss : List Slot) → AreAscending low ss → In s ss → low ≤ s.0
-ascending-above low s [] a h = absurd h
-ascending-above low s (t ∷ ss) a (inl e) = let q = ap (λ (z : Slot). z.0) e in let l = a.0 in omega (arith, q, l)
-ascending-above low s (t ∷ ss) a (inr h) = let r = ascending-above (suc t.0) s ss a.1 h in let l = a.0 in omega (arith, r, l)
-
-another : (low : ℕ) (t s : Slot) (ss : List Slot) → AreAscending low (t ∷ ss) → In s ss → (t.0 == s.0) ≡ false
-another low t s ss a h = let r = ascending-above (suc t.0) s ss a.1 h in eqb-other t.0 s.0 (λ e. omega (arith, r, e))
 
 -- ---- a pair, and the value at its slot
 

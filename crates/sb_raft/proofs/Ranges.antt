@@ -14,6 +14,7 @@ use Rattle.iss_sb.specs.declared.effects.To.TheVariants.{All as To_all, One as T
 use Rattle.iss_sb.specs.Calls.{IsGoodParams}
 use Rattle.iss_sb.specs.Evidence.{Item, IsReadMessage}
 use Rattle.iss_sb.specs.Laws.{AreHeard, IsHeard}
+use Rattle.iss_sb.proofs.Cases.{by-both}
 use Rattle.raft_wire.specs.declared.entries.Entry.{Entry}
 use Rattle.raft_wire.specs.declared.entries.What.TheVariants.{Holds}
 use Rattle.raft_wire.specs.declared.messages.Message.{Message}
@@ -29,7 +30,7 @@ use Rattle.sb_raft.proofs.Effects.{fits_parts}
 use Rattle.sb_raft.proofs.Few.{Few, few, no-more}
 use Rattle.sb_raft.proofs.Inv.{May, node}
 use Rattle.sb_raft.proofs.Sends.{AllSent, IsOne, sends-may}
-use Rattle.sb_raft.proofs.Steps.{append_cases, ask_cases, by_test, cast_cases, raise, reply_cases, time_cases, up, vote_cases, Raise, level, higher, Handled, none, down, copy, reply, back, grant, voted, win, casts, times, alone, next, with_granted}
+use Rattle.sb_raft.proofs.Steps.{append_cases, ask_cases, cast_cases, raise, reply_cases, time_cases, up, vote_cases, Raise, level, higher, Handled, none, down, copy, reply, back, grant, voted, win, casts, times, alone, next, with_granted}
 
 -- ---- logs
 
@@ -96,7 +97,7 @@ module _ (p : Params) where
   same-ranged s v r term log = let t = r.term in keeps s v r (omega (arith, t, term)) log
 
   raised-low : (s : State) (t : ℕ) → t < 2 ^ 16 → s.term < 2 ^ 16 → (raised s t).term < 2 ^ 16
-  raised-low s t a b = by_test (λ (z : State). z.term < 2 ^ 16) (nat_lt s.term t) (up s t) s (λ h. a) (λ h. b)
+  raised-low s t a b = by-both (λ (z : State). z.term < 2 ^ 16) (nat_lt s.term t) (up s t) s (λ h. a) (λ h. b)
 
   raised-ranged : (s : State) (t : ℕ) → t < 2 ^ 16 → Ranged s → Ranged (raised s t)
   raised-ranged s t low r = go (raise s t)

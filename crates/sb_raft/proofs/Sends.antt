@@ -12,6 +12,7 @@ use Rattle.iss_sb.specs.declared.effects.Params.{Params}
 use Rattle.iss_sb.specs.declared.effects.To.{To}
 use Rattle.iss_sb.specs.declared.effects.To.TheVariants.{All as To_all, One as To_one}
 use Rattle.iss_sb.specs.Evidence.{Reaches}
+use Rattle.iss_sb.proofs.Cases.{by-both}
 use Rattle.raft_wire.specs.declared.entries.Entry.{Entry}
 use Rattle.raft_wire.specs.declared.entries.What.TheVariants.{Holds}
 use Rattle.raft_wire.specs.declared.messages.Message.{Message}
@@ -19,7 +20,7 @@ use Rattle.raft_wire.specs.declared.messages.Message.TheVariants.{Append, Reply,
 use Rattle.sb_raft.specs.Rules.{Follower, Leader, State, Step, advanced, answer, append_behind, append_to, appended, appends, ask_vote, candidate, counted, grants, is_candidate, is_leader, last_timed_term, may_cast, may_commit, may_merge, on_append, on_ask, on_cast, on_not_ok, on_ok, on_reply, on_timeout, on_vote, others, quiet, raised, risen, spread, stands_up, step, taken, to_each, won}
 use Rattle.iss_base.specs.Quorum.{count_below}
 use Rattle.sb_raft.specs.Logs.{entry, fits_behind}
-use Rattle.sb_raft.proofs.Steps.{by_test, leader_is, greatest-above, reach, with_cast, with_granted, with_match}
+use Rattle.sb_raft.proofs.Steps.{leader_is, greatest-above, reach, with_cast, with_granted, with_match}
 use Rattle.sb_raft.proofs.Effects.{cast-parts}
 use Rattle.sb_raft.proofs.Bounds.{Bound, Bounds, cast-bounds, match-bounds, raised-bound, won-bounds}
 use Rattle.sb_raft.proofs.Commits.{take_long}
@@ -92,7 +93,7 @@ module _ (p : Params) (me : ℕ) (nodes : p.setup.n ≡ 2 * p.setup.f + 1) (quor
       let g = reach p me made.state in
       let later = record made.state { commit = g } in
       let up = greatest-above (may_commit p me made.state) made.state.commit (length made.state.log) in
-      by_test (λ (z : Step). Fine z) (nat_lt made.state.commit g) (risen p me later made.sends) made
+      by-both (λ (z : Step). Fine z) (nat_lt made.state.commit g) (risen p me later made.sends) made
       (λ q. sent-append (May s i later) made.sends (appends p me later) (h g up) (appends-may later later r refl refl (omega arith) (record { matched = b.matched; next = b.next })))
       (λ q. h made.state.commit (omega arith))
 
@@ -104,7 +105,7 @@ module _ (p : Params) (me : ℕ) (nodes : p.setup.n ≡ 2 * p.setup.f + 1) (quor
   counted-may u sends none h =
       let v = won p u in
       let b = won-bounds p u in
-      by_test (λ (z : Step). Fine z) (nat_le p.setup.quorum (count_below u.granted p.setup.n)) (advanced p me (record { state = v; sends = sends ++ appends p me v })) (record { state = u; sends = sends })
+      by-both (λ (z : Step). Fine z) (nat_le p.setup.quorum (count_below u.granted p.setup.n)) (advanced p me (record { state = v; sends = sends ++ appends p me v })) (record { state = u; sends = sends })
       (λ q. advance-may (record { state = v; sends = sends ++ appends p me v }) refl b (λ c k.
       sent-append (May s i (record v { commit = c })) sends (appends p me v)
       (subst (λ (z : List (To × Message)). AllSent (May s i (record v { commit = c })) z) (sym (none (leb-true p.setup.quorum (count_below u.granted p.setup.n) q))) tt)
@@ -113,16 +114,16 @@ module _ (p : Params) (me : ℕ) (nodes : p.setup.n ≡ 2 * p.setup.f + 1) (quor
 
   cast-may : (u : State) (slot : ℕ) (batch : Batch) → Bound u → Fine (on_cast p me u slot batch)
   cast-may u slot batch b =
-      by_test (λ (z : Step). Fine z) (may_cast p u slot) (spread p me (with_cast u batch)) (quiet u)
+      by-both (λ (z : Step). Fine z) (may_cast p u slot) (spread p me (with_cast u batch)) (quiet u)
       (λ h. let r = (cast-parts p u slot h).leads in spread-may (with_cast u batch) r (cast-bounds u (entry u.term (Holds batch)) (b r)))
       (λ h. tt)
 
   timeout-may : (u : State) → Bound u → Fine (on_timeout p me u)
   timeout-may u b =
       let v = candidate me u in
-      by_test (λ (z : Step). Fine z) (is_leader u.role) (record { state = u; sends = appends p me u }) (if nat_lt u.term last_timed_term then stands_up p me v else quiet u)
+      by-both (λ (z : Step). Fine z) (is_leader u.role) (record { state = u; sends = appends p me u }) (if nat_lt u.term last_timed_term then stands_up p me v else quiet u)
       (λ h. let r = leader_is u.role h in appends-may u u r refl refl (omega arith) (b r))
-      (λ h. by_test (λ (z : Step). Fine z) (nat_lt u.term last_timed_term) (stands_up p me v) (quiet u)
+      (λ h. by-both (λ (z : Step). Fine z) (nat_lt u.term last_timed_term) (stands_up p me v) (quiet u)
       (λ k. counted-may v (to_each (ask_vote v) (others me p.setup.n))
       (λ q. ap (λ (ks : List ℕ). to_each (ask_vote v) ks) (let o = one-below me p.setup.n in alone-others me p.setup.n (omega arith) (omega arith)))
       (sent-each (May s i v) (ask_vote v) (others me p.setup.n) (λ k. (refl, refl, refl, refl))))
@@ -130,7 +131,7 @@ module _ (p : Params) (me : ℕ) (nodes : p.setup.n ≡ 2 * p.setup.f + 1) (quor
 
   reply-may : (u : State) (j t : ℕ) (ok : Bool) (x : ℕ) → Bound u → Fine (on_reply p me u j t ok x)
   reply-may u j t ok x b =
-      by_test (λ (z : Step). Fine z) ((is_leader u.role && (t == u.term)) && not (j == me)) (if ok then on_ok p me u j x else on_not_ok u j x) (quiet u)
+      by-both (λ (z : Step). Fine z) ((is_leader u.role && (t == u.term)) && not (j == me)) (if ok then on_ok p me u j x else on_not_ok u j x) (quiet u)
       (λ h.
       let a = and_parts (is_leader u.role && (t == u.term)) (not (j == me)) h in
       let d = and_parts (is_leader u.role) (t == u.term) a.0 in
@@ -138,12 +139,12 @@ module _ (p : Params) (me : ℕ) (nodes : p.setup.n ≡ 2 * p.setup.f + 1) (quor
       (λ h. tt)
     where
       go : (ok : Bool) → u.role ≡ Leader → Fine (if ok then on_ok p me u j x else on_not_ok u j x)
-      go true r = by_test (λ (z : Step). Fine z) (nat_le x (length u.log)) (advanced p me (quiet (with_match u j x))) (quiet u)
+      go true r = by-both (λ (z : Step). Fine z) (nat_le x (length u.log)) (advanced p me (quiet (with_match u j x))) (quiet u)
           (λ h. advance-may (quiet (with_match u j x)) r (match-bounds u j x (b r) (leb-true x (length u.log) h)) (λ c k. tt))
           (λ h. tt)
       go false r =
           let v = record u { next = set_at u.next j x } in
-          by_test (λ (z : Step). Fine z) ((x == u.next j - 1) && nat_le 1 x) (answer v j (append_behind u (x - 1))) (quiet u)
+          by-both (λ (z : Step). Fine z) ((x == u.next j - 1) && nat_le 1 x) (answer v j (append_behind u (x - 1))) (quiet u)
           (λ h.
           let a = and_parts (x == u.next j - 1) (nat_le 1 x) h in
           let e = eqb-true x (u.next j - 1) a.0 in
@@ -153,7 +154,7 @@ module _ (p : Params) (me : ℕ) (nodes : p.setup.n ≡ 2 * p.setup.f + 1) (quor
 
   vote-may : (u : State) (j t : ℕ) (g : Bool) → Fine (on_vote p me u j t g)
   vote-may u j t g =
-      by_test (λ (z : Step). Fine z) ((is_candidate u.role && g) && (t == u.term)) (counted p me (with_granted u j) []) (quiet u)
+      by-both (λ (z : Step). Fine z) ((is_candidate u.role && g) && (t == u.term)) (counted p me (with_granted u j) []) (quiet u)
       (λ h. counted-may (with_granted u j) [] (λ q. refl) tt)
       (λ h. tt)
 
@@ -164,7 +165,7 @@ ask-may : (s : State) (j : NodeId) (t last lt : ℕ) → IsFine s (Receive j (As
 ask-may s j t last lt =
     let u = raised s t in
     let i : Input Message = Receive j (AskVote t last lt) in
-    by_test (λ (z : Step). IsFine s i z) (grants u j.0 t last lt) (answer (record u { vote = Some j.0 }) j.0 (Vote u.term true)) (answer u j.0 (Vote u.term false))
+    by-both (λ (z : Step). IsFine s i z) (grants u j.0 t last lt) (answer (record u { vote = Some j.0 }) j.0 (Vote u.term true)) (answer u j.0 (Vote u.term false))
     (λ h.
     let a = and_parts (t == u.term) _ h in
     let e = eqb-true t u.term a.0 in
@@ -176,11 +177,11 @@ append-fine s j t prev pt c es =
     let u = raised s t in
     let f = record u { role = Follower } in
     let i : Input Message = Receive j (Append t prev pt c es) in
-    by_test (λ (z : Step). IsFine s i z) (t == u.term) (taken f j.0 prev pt c es) (answer u j.0 (Reply u.term false prev))
+    by-both (λ (z : Step). IsFine s i z) (t == u.term) (taken f j.0 prev pt c es) (answer u j.0 (Reply u.term false prev))
     (λ h.
     let e = eqb-true t u.term h in
-    by_test (λ (z : Step). IsFine s i z) (fits_behind u.log prev pt) (if may_merge f prev es then answer (appended f prev c es) j.0 (Reply f.term true (prev + length es)) else quiet f) (answer f j.0 (Reply f.term false prev))
-    (λ g. by_test (λ (z : Step). IsFine s i z) (may_merge u prev es) (answer (appended f prev c es) j.0 (Reply f.term true (prev + length es))) (quiet f)
+    by-both (λ (z : Step). IsFine s i z) (fits_behind u.log prev pt) (if may_merge f prev es then answer (appended f prev c es) j.0 (Reply f.term true (prev + length es)) else quiet f) (answer f j.0 (Reply f.term false prev))
+    (λ g. by-both (λ (z : Step). IsFine s i z) (may_merge u prev es) (answer (appended f prev c es) j.0 (Reply f.term true (prev + length es))) (quiet f)
     (λ k. (subst (λ (z : ℕ). May s i (appended f prev c es) j.0 (Reply z true (prev + length es))) e (prev, pt, c, es, refl, e, g, k, refl), tt))
     (λ k. tt))
     (λ g. ((t, pt, c, es, refl, refl), tt)))

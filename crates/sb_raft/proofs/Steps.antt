@@ -8,6 +8,7 @@ use Rattle.iss_request.specs.declared.requests.Batch.{Batch}
 use Rattle.iss_sb.specs.declared.effects.Input.{Input}
 use Rattle.iss_sb.specs.declared.effects.Input.TheVariants.{Cast, Receive, Timeout}
 use Rattle.iss_sb.specs.declared.effects.Params.{Params}
+use Rattle.iss_sb.proofs.Cases.{by-both}
 use Rattle.raft_wire.specs.declared.entries.Entry.{Entry}
 use Rattle.raft_wire.specs.declared.entries.What.TheVariants.{Holds}
 use Rattle.raft_wire.specs.declared.messages.Message.{Message}
@@ -16,10 +17,6 @@ use Rattle.sb_raft.specs.Rules.{Role, Follower, Candidate, Leader, State, Step, 
 use Rattle.iss_base.specs.Quorum.{count_below}
 use Rattle.sb_raft.specs.Logs.{entry, fits_behind, merged}
 use Rattle.iss_base.specs.Lists.{set_at}
-
-pub by_test : {A : Type 0} (P : A → Type 0) (t : Bool) (x y : A) → (t ≡ true → P x) → (t ≡ false → P y) → P (if t then x else y)
-by_test P true x y f g = f refl
-by_test P false x y f g = g refl
 
 pub leader_is : (r : Role) → is_leader r ≡ true → r ≡ Leader
 leader_is Follower h = absurd (false≢true h)
@@ -35,7 +32,7 @@ candidate_is Candidate h = refl
 
 pub greatest-above : (test : ℕ → Bool) (low k : ℕ) → low ≤ greatest test low k
 greatest-above test low zero = omega arith
-greatest-above test low (suc k) = by_test (λ (z : ℕ). low ≤ z) (nat_lt low (suc k) && test (suc k)) (suc k) (greatest test low k)
+greatest-above test low (suc k) = by-both (λ (z : ℕ). low ≤ z) (nat_lt low (suc k) && test (suc k)) (suc k) (greatest test low k)
     (λ h. let a = and_parts (nat_lt low (suc k)) (test (suc k)) h in let l = ltb-true low (suc k) a.0 in omega arith) (λ h. greatest-above test low k)
 
 abbrev pub reach : Params → ℕ → State → ℕ
@@ -53,7 +50,7 @@ not-above a b h l = grind (arith, h, l, lt-ltb a b)
 pub advanced-state : (p : Params) (me : ℕ) (made : Step) → (advanced p me made).state ≡ with_reach p me made.state
 advanced-state p me made =
     let i = reach p me made.state in
-    by_test (λ (z : Step). z.state ≡ with_reach p me made.state) (nat_lt made.state.commit i) (risen p me (record made.state { commit = i }) made.sends) made
+    by-both (λ (z : Step). z.state ≡ with_reach p me made.state) (nat_lt made.state.commit i) (risen p me (record made.state { commit = i }) made.sends) made
     (λ h. refl) (λ h. same_commit made.state i (not-above made.state.commit i h (greatest-above (may_commit p me made.state) made.state.commit (length made.state.log))))
 
 -- ---- a higher term is taken
@@ -66,7 +63,7 @@ pub data Raise (s u : State) : Type 0 where
   higher : (t : ℕ) → s.term < t → u ≡ up s t → Raise s u
 
 pub raise : (s : State) (t : ℕ) → Raise s (raised s t)
-raise s t = by_test (λ (z : State). Raise s z) (nat_lt s.term t) (up s t) s (λ h. higher t (ltb-true s.term t h) refl) (λ h. level refl)
+raise s t = by-both (λ (z : State). Raise s z) (nat_lt s.term t) (up s t) s (λ h. higher t (ltb-true s.term t h) refl) (λ h. level refl)
 
 -- ---- the rest
 
@@ -100,9 +97,9 @@ module _ (p : Params) (me : ℕ) (u : State) where
   append_cases j t prev pt c es =
       let f = record u { role = Follower } in
       let i : Input Message = Receive j (Append t prev pt c es) in
-      by_test (λ (z : Step). Handled p me u i z.state) (t == u.term) (taken f j.0 prev pt c es) (answer u j.0 (Reply u.term false prev))
-      (λ h. by_test (λ (z : Step). Handled p me u i z.state) (fits_behind u.log prev pt) (if may_merge f prev es then answer (appended f prev c es) j.0 (Reply f.term true (prev + length es)) else quiet f) (answer f j.0 (Reply f.term false prev))
-      (λ g. by_test (λ (z : Step). Handled p me u i z.state) (may_merge u prev es) (answer (appended f prev c es) j.0 (Reply f.term true (prev + length es))) (quiet f)
+      by-both (λ (z : Step). Handled p me u i z.state) (t == u.term) (taken f j.0 prev pt c es) (answer u j.0 (Reply u.term false prev))
+      (λ h. by-both (λ (z : Step). Handled p me u i z.state) (fits_behind u.log prev pt) (if may_merge f prev es then answer (appended f prev c es) j.0 (Reply f.term true (prev + length es)) else quiet f) (answer f j.0 (Reply f.term false prev))
+      (λ g. by-both (λ (z : Step). Handled p me u i z.state) (may_merge u prev es) (answer (appended f prev c es) j.0 (Reply f.term true (prev + length es))) (quiet f)
       (λ k. copy j prev pt c es (ap (λ (z : ℕ). Receive j (Append z prev pt c es)) (eqb-true t u.term h)) g k refl)
       (λ k. down refl))
       (λ g. down refl))
@@ -110,7 +107,7 @@ module _ (p : Params) (me : ℕ) (u : State) where
 
   pub reply_cases : (j : NodeId) (t : ℕ) (ok : Bool) (x : ℕ) → Handled p me u (Receive j (Reply t ok x)) (on_reply p me u j.0 t ok x).state
   reply_cases j t ok x =
-      by_test (λ (z : Step). Handled p me u (Receive j (Reply t ok x)) z.state) ((is_leader u.role && (t == u.term)) && not (j.0 == me)) (if ok then on_ok p me u j.0 x else on_not_ok u j.0 x) (quiet u)
+      by-both (λ (z : Step). Handled p me u (Receive j (Reply t ok x)) z.state) ((is_leader u.role && (t == u.term)) && not (j.0 == me)) (if ok then on_ok p me u j.0 x else on_not_ok u j.0 x) (quiet u)
       (λ h.
       let a = and_parts (is_leader u.role && (t == u.term)) (not (j.0 == me)) h in
       let b = and_parts (is_leader u.role) (t == u.term) a.0 in
@@ -118,16 +115,16 @@ module _ (p : Params) (me : ℕ) (u : State) where
       (λ h. none refl)
     where
       go : (ok : Bool) → t ≡ u.term → u.role ≡ Leader → (j.0 ≡ me → ⊥) → Handled p me u (Receive j (Reply t ok x)) (if ok then on_ok p me u j.0 x else on_not_ok u j.0 x).state
-      go true e r ne = by_test (λ (z : Step). Handled p me u (Receive j (Reply t true x)) z.state) (nat_le x (length u.log)) (advanced p me (quiet (with_match u j.0 x))) (quiet u)
+      go true e r ne = by-both (λ (z : Step). Handled p me u (Receive j (Reply t true x)) z.state) (nat_le x (length u.log)) (advanced p me (quiet (with_match u j.0 x))) (quiet u)
           (λ h. reply j x (ap (λ (z : ℕ). Receive j (Reply z true x)) e) r ne (leb-true x (length u.log) h) (advanced-state p me (quiet (with_match u j.0 x))))
           (λ h. none refl)
-      go false e r ne = by_test (λ (z : Step). Handled p me u (Receive j (Reply t false x)) z.state) ((x == u.next j.0 - 1) && nat_le 1 x) (answer (record u { next = set_at u.next j.0 x }) j.0 (append_behind u (x - 1))) (quiet u)
+      go false e r ne = by-both (λ (z : Step). Handled p me u (Receive j (Reply t false x)) z.state) ((x == u.next j.0 - 1) && nat_le 1 x) (answer (record u { next = set_at u.next j.0 x }) j.0 (append_behind u (x - 1))) (quiet u)
           (λ h. let a = and_parts (x == u.next j.0 - 1) (nat_le 1 x) h in back j x (ap (λ (z : ℕ). Receive j (Reply z false x)) e) r (eqb-true x (u.next j.0 - 1) a.0) (leb-true 1 x a.1) refl)
           (λ h. none refl)
 
   pub ask_cases : (j : NodeId) (t last lt : ℕ) → Handled p me u (Receive j (AskVote t last lt)) (on_ask u j.0 t last lt).state
   ask_cases j t last lt =
-      by_test (λ (z : Step). Handled p me u (Receive j (AskVote t last lt)) z.state) (grants u j.0 t last lt) (answer (record u { vote = Some j.0 }) j.0 (Vote u.term true)) (answer u j.0 (Vote u.term false))
+      by-both (λ (z : Step). Handled p me u (Receive j (AskVote t last lt)) z.state) (grants u j.0 t last lt) (answer (record u { vote = Some j.0 }) j.0 (Vote u.term true)) (answer u j.0 (Vote u.term false))
       (λ h.
       let a = and_parts (t == u.term) _ h in
       let e = eqb-true t u.term a.0 in
@@ -137,14 +134,14 @@ module _ (p : Params) (me : ℕ) (u : State) where
   pub vote_cases : (j : NodeId) (t : ℕ) (g : Bool) → Handled p me u (Receive j (Vote t g)) (on_vote p me u j.0 t g).state
   vote_cases j t g =
       let s = with_granted u j.0 in
-      by_test (λ (z : Step). Handled p me u (Receive j (Vote t g)) z.state) ((is_candidate u.role && g) && (t == u.term)) (counted p me s []) (quiet u)
+      by-both (λ (z : Step). Handled p me u (Receive j (Vote t g)) z.state) ((is_candidate u.role && g) && (t == u.term)) (counted p me s []) (quiet u)
       (λ h.
       let a = and_parts (is_candidate u.role && g) (t == u.term) h in
       let b = and_parts (is_candidate u.role) g a.0 in
       let et = eqb-true t u.term a.1 in
       let eg = b.1 in
       let e : Receive j (Vote t g) ≡ Receive j (Vote u.term true) = cc in
-      by_test (λ (z : Step). Handled p me u (Receive j (Vote t g)) z.state) (nat_le p.setup.quorum (count_below s.granted p.setup.n)) (advanced p me (record { state = won p s; sends = [] ++ appends p me (won p s) })) (record { state = s; sends = [] })
+      by-both (λ (z : Step). Handled p me u (Receive j (Vote t g)) z.state) (nat_le p.setup.quorum (count_below s.granted p.setup.n)) (advanced p me (record { state = won p s; sends = [] ++ appends p me (won p s) })) (record { state = s; sends = [] })
       (λ k. win j e (candidate_is u.role b.0) (leb-true p.setup.quorum (count_below s.granted p.setup.n) k) (advanced-state p me (record { state = won p s; sends = [] ++ appends p me (won p s) })))
       (λ k. voted j e (candidate_is u.role b.0) refl))
       (λ h. none refl)
@@ -152,20 +149,20 @@ module _ (p : Params) (me : ℕ) (u : State) where
   pub time_cases : Handled p me u Timeout (on_timeout p me u).state
   time_cases =
       let s = candidate me u in
-      by_test (λ (z : Step). Handled p me u Timeout z.state) (is_leader u.role) (record { state = u; sends = appends p me u }) (if nat_lt u.term last_timed_term then stands_up p me s else quiet u)
+      by-both (λ (z : Step). Handled p me u Timeout z.state) (is_leader u.role) (record { state = u; sends = appends p me u }) (if nat_lt u.term last_timed_term then stands_up p me s else quiet u)
       (λ h. none refl)
-      (λ h. by_test (λ (z : Step). Handled p me u Timeout z.state) (nat_lt u.term last_timed_term) (stands_up p me s) (quiet u)
+      (λ h. by-both (λ (z : Step). Handled p me u Timeout z.state) (nat_lt u.term last_timed_term) (stands_up p me s) (quiet u)
       (λ k. stood (ltb-true u.term last_timed_term k) h)
       (λ k. none refl))
     where
       stood : u.term < last_timed_term → is_leader u.role ≡ false → Handled p me u Timeout (stands_up p me (candidate me u)).state
-      stood low h = by_test (λ (z : Step). Handled p me u Timeout z.state) (nat_le p.setup.quorum (count_below (candidate me u).granted p.setup.n)) (advanced p me (record { state = won p (candidate me u); sends = _ ++ appends p me (won p (candidate me u)) })) (record { state = candidate me u; sends = _ })
+      stood low h = by-both (λ (z : Step). Handled p me u Timeout z.state) (nat_le p.setup.quorum (count_below (candidate me u).granted p.setup.n)) (advanced p me (record { state = won p (candidate me u); sends = _ ++ appends p me (won p (candidate me u)) })) (record { state = candidate me u; sends = _ })
           (λ k. alone (refl, low) h (leb-true p.setup.quorum (count_below (candidate me u).granted p.setup.n) k) (advanced-state p me (record { state = won p (candidate me u); sends = _ ++ appends p me (won p (candidate me u)) })))
           (λ k. times (refl, low) h refl)
 
   pub cast_cases : (s : Slot) (b : Batch) → Handled p me u (Cast s b) (on_cast p me u s.0 b).state
   cast_cases s b =
-      by_test (λ (z : Step). Handled p me u (Cast s b) z.state) (may_cast p u s.0) (spread p me (with_cast u b)) (quiet u)
+      by-both (λ (z : Step). Handled p me u (Cast s b) z.state) (may_cast p u s.0) (spread p me (with_cast u b)) (quiet u)
       (λ h. casts s b refl h (advanced-state p me (record { state = with_cast u b; sends = appends p me (with_cast u b) })))
       (λ h. none refl)
 

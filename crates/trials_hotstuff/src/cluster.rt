@@ -142,7 +142,7 @@ const BACK: [usize; 5] = [2277, 2276, 2273, 2272, 1];
 
 impl Cluster {
     /// The nodes of an instance, which took nothing.
-    pub fn new(alloc: Global, p: &Params) -> Result<Cluster, Fail>
+    pub(crate) fn new(alloc: Global, p: &Params) -> Result<Cluster, Fail>
         requires { IsGoodParams hotstuff p.now }
     {
         let mut cores = Vec::new(alloc);
@@ -189,7 +189,7 @@ impl Cluster {
     }
 
     /// An empty batch is cast to the leader at the slot.
-    pub fn cast(&mut self, alloc: Global, p: &Params, slot: u64) -> Result<(), Fail>
+    pub(crate) fn cast(&mut self, alloc: Global, p: &Params, slot: u64) -> Result<(), Fail>
         requires { IsGoodParams hotstuff p.now }
     {
         let cast = Input::Cast {
@@ -200,7 +200,7 @@ impl Cluster {
     }
 
     /// Whether the leader would take a batch at the slot, and asks for it.
-    pub fn asks(&self, alloc: Global, p: &Params, slot: u64) -> bool
+    pub(crate) fn asks(&self, alloc: Global, p: &Params, slot: u64) -> bool
         requires { IsGoodParams hotstuff p.now }
     {
         let Some(core) = self.cores.first() else {
@@ -214,7 +214,7 @@ impl Cluster {
     }
 
     /// The round ends at each node.
-    pub fn time_out(&mut self, alloc: Global, p: &Params) -> Result<(), Fail>
+    pub(crate) fn time_out(&mut self, alloc: Global, p: &Params) -> Result<(), Fail>
         requires { IsGoodParams hotstuff p.now }
     {
         for at in 0..p.setup.n as u8 {
@@ -235,7 +235,7 @@ impl Cluster {
     }
 
     /// So many messages are taken, or as many as there are.
-    pub fn hear(&mut self, alloc: Global, p: &Params, most: u32) -> Result<(), Fail>
+    pub(crate) fn hear(&mut self, alloc: Global, p: &Params, most: u32) -> Result<(), Fail>
         requires { IsGoodParams hotstuff p.now }
     {
         for _ in 0..most {
@@ -248,17 +248,17 @@ impl Cluster {
     }
 
     /// All that was said and not taken is lost.
-    pub fn lose_all(&mut self) {
+    pub(crate) fn lose_all(&mut self) {
         self.said.clear();
     }
 
     /// How many messages wait.
-    pub fn waiting(&self) -> usize {
+    pub(crate) fn waiting(&self) -> usize {
         self.said.len()
     }
 
     /// How many of the messages that wait claim signatures which all verify.
-    pub fn signed(&self, alloc: Global, p: &Params) -> Result<usize, Fail>
+    pub(crate) fn signed(&self, alloc: Global, p: &Params) -> Result<usize, Fail>
         requires { IsGoodParams hotstuff p.now }
     {
         let mut count = 0usize;
@@ -273,7 +273,7 @@ impl Cluster {
 
     /// How many bits of the next message may be changed, and it is still one whose claims all verify. It has to be such a one of
     /// this kind as it is.
-    pub fn unseen(&self, alloc: Global, p: &Params, kind: u8) -> Result<usize, Fail>
+    pub(crate) fn unseen(&self, alloc: Global, p: &Params, kind: u8) -> Result<usize, Fail>
         requires { IsGoodParams hotstuff p.now }
     {
         let Some(packet) = self.said.front() else {
@@ -301,7 +301,7 @@ impl Cluster {
     }
 
     /// How many nodes accepted so many batches, and delivered just these slots in this order.
-    pub fn agree(&self, accepted: usize, delivered: &[(u64, bool)]) -> usize {
+    pub(crate) fn agree(&self, accepted: usize, delivered: &[(u64, bool)]) -> usize {
         let mut count = 0usize;
         for core in self.cores.as_slice() {
             if core.accepted == accepted && core.delivered.as_slice() == delivered {

@@ -58,17 +58,17 @@ pub enum Said {
 pub struct Line(pub Said, pub u8, pub usize, pub usize, pub bool);
 
 /// A line of what leads to nothing.
-pub fn no(said: Said, from: u8) -> Line {
+pub(crate) fn no(said: Said, from: u8) -> Line {
     Line(said, from, 0, 0, false)
 }
 
 /// A line of what is answered by one message.
-pub fn answered(said: Said, from: u8) -> Line {
+pub(crate) fn answered(said: Said, from: u8) -> Line {
     Line(said, from, 1, 0, false)
 }
 
 /// A quorum's votes of a phase of a view.
-pub fn good(phase: u8, view: u32, at: At) -> Shown {
+pub(crate) fn good(phase: u8, view: u32, at: At) -> Shown {
     Shown::Votes(phase, view, at, By::Quorum)
 }
 
@@ -206,7 +206,7 @@ pub struct Taker {
 }
 
 /// One that has taken nothing.
-pub fn new_taker(alloc: Global, p: &Params, me: u8) -> Result<Taker, Fail>
+pub(crate) fn new_taker(alloc: Global, p: &Params, me: u8) -> Result<Taker, Fail>
     requires good { IsGoodParams hotstuff p.now }
     requires node { me < p.now.setup.n }
 {
@@ -217,7 +217,7 @@ pub fn new_taker(alloc: Global, p: &Params, me: u8) -> Result<Taker, Fail>
 }
 
 /// The first of the lines, one after the other, that does not go as it says at a node of four.
-pub fn first_wrong(alloc: Global, me: u8, lines: &[Line]) -> Result<Option<usize>, Fail> {
+pub(crate) fn first_wrong(alloc: Global, me: u8, lines: &[Line]) -> Result<Option<usize>, Fail> {
     let p = withstands(alloc, 1)?;
     if me as u32 >= p.setup.n {
         return Ok(Some(lines.len()));

@@ -83,7 +83,7 @@ fn voters(shown: Shown) -> ([u8; 3], usize) {
 }
 
 /// A certificate of a view at a slot.
-pub fn certificate(
+pub(crate) fn certificate(
     alloc: Global,
     slot: u64,
     view: u16,

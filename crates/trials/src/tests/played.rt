@@ -28,7 +28,7 @@ pub enum Told {
 }
 
 /// A world's answer, without the evidence.
-pub fn in_brief(happened: &Happened) -> Told {
+pub(crate) fn in_brief(happened: &Happened) -> Told {
     match happened {
         Happened::Done => Told::Done,
         Happened::Lost(why) => Told::Lost(*why),
@@ -57,7 +57,7 @@ pub fn schedule_of(alloc: Global, events: &str) -> Result<Schedule, Fail>
 }
 
 /// The world of a schedule after its events.
-pub fn play(alloc: Global, schedule: &Schedule) -> Result<Played, NoMemory>
+pub(crate) fn play(alloc: Global, schedule: &Schedule) -> Result<Played, NoMemory>
     requires setup { IsSetupOf relay schedule.now.setup }
     requires range { AreInRange schedule.now.setup schedule.now.events }
 {

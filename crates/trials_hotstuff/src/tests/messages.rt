@@ -6,6 +6,7 @@ use hs_tree::signing::{
 };
 use hs_tree::{Certificate, Message, Signed, read, write};
 use iss_request::{Batch, Bytes, DecodeError, Fields, NodeId, Row, Writer};
+use iss_sb::Params;
 use raft_wire::What;
 use sha2::{Digest, Sha256};
 use std::alloc::Global;
@@ -273,21 +274,22 @@ fn what_has_no_spelling_is_not_read(rt: HostRuntime) -> Result<(), Fail> {
     Ok(())
 }
 
-fn digest_on(alloc: Global, parent: &[u8; 32], what: &What) -> Result<[u8; 32], Fail> {
-    let string = held_string(alloc, 1, what)?;
-    let held = held_digest(1, what, &string);
-    let node = node_string(alloc, 1, parent, what, &held)?;
+fn digest_on(alloc: Global, p: &Params, parent: &[u8; 32], what: &What) -> Result<[u8; 32], Fail> {
+    let string = held_string(alloc, p.setup.version, what)?;
+    let held = held_digest(p, what, &string);
+    let node = node_string(alloc, p.setup.version, parent, what, &held)?;
     Ok(Sha256::digest(node.as_slice()))
 }
 
 #[test]
 fn digests_of_nodes_are_those_of_another_program(rt: HostRuntime) -> Result<(), Fail> {
     let alloc = rt.alloc();
-    let nil = digest_on(alloc, &[0; 32], &What::Nil)?;
+    let p = withstands(alloc, 1)?;
+    let nil = digest_on(alloc, &p, &[0; 32], &What::Nil)?;
     assert_eq!(rt; nil, NIL_NODE);
-    assert_eq!(rt; digest_on(alloc, &nil, &What::Mark)?, MARK_NODE);
+    assert_eq!(rt; digest_on(alloc, &p, &nil, &What::Mark)?, MARK_NODE);
     let batch = What::Holds(Batch::new(alloc));
-    assert_eq!(rt; digest_on(alloc, &[9; 32], &batch)?, BATCH_NODE);
+    assert_eq!(rt; digest_on(alloc, &p, &[9; 32], &batch)?, BATCH_NODE);
     Ok(())
 }
 

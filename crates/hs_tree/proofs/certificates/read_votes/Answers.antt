@@ -1,7 +1,8 @@
 use Rattle.iss_request.proofs.Readings.{exit, read_done, read_then, unread_first, unread_then}
 use Rattle.std.proofs.Common.{arith}
 use Rattle.hs_tree.specs.Certificates.{parse_votes}
-use Rattle.hs_tree.proofs.Reading.{behind, by-same, count-read, count-unread, un-same}
+use Rattle.iss_sb.proofs.Fields.{count-read, count-unread}
+use Rattle.hs_tree.proofs.Reading.{behind, by-same, un-same}
 use Rattle.hs_tree.proofs.certificates.read_votes.Goals as goal
 
 pub returns-in_err-phase-clause-bad : goal.returns-in_err-phase-clause-bad

@@ -3,5 +3,5 @@ use Rattle.hs_tree.proofs.signing.hash_node.Goals as goal
 
 pub returns : goal.returns
 returns c view =
-    hashed-node c.args.version view c.args.parent.now c.args.what.now _ c.in_ok-node.node c.as_slice.result.now c.new-strings.result c.put_string.new.all c.push.new.self c.digest-digest.result c.new-strings.ensures c.in_ok-value.ensures
+    hashed-node c.args.p.now.setup.version view c.args.parent.now c.args.what.now _ c.in_ok-node.node c.as_slice.result.now c.new-strings.result c.put_string.new.all c.push.new.self c.digest-digest.result c.new-strings.ensures c.in_ok-value.ensures
     c.in_ok-put_string.ensures c.in_ok-push.ensures.ok (c.in_ok-node.ensures view) c.as_slice.ensures c.digest-digest.ensures

@@ -1,4 +1,4 @@
-use Rattle.iss_checkpoint.proofs.VoteGrammar.{digest-long}
+use Rattle.iss_sb.proofs.Fields.{digest-long}
 use Rattle.iss_checkpoint.proofs.bodies.read_digest.Goals as goal
 
 pub array_of-requires : goal.array_of-requires

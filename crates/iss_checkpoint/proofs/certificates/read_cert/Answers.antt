@@ -1,7 +1,7 @@
 use Rattle.std.proofs.Common.{arith}
 use Rattle.iss_request.proofs.Readings.{exit, read_done, read_then, unread_first, unread_then}
 use Rattle.iss_checkpoint.specs.Certificates.{parse_cert}
-use Rattle.iss_checkpoint.proofs.CertReading.{count-read, count-unread}
+use Rattle.iss_sb.proofs.Fields.{count-read, count-unread}
 use Rattle.iss_checkpoint.proofs.certificates.read_cert.Goals as goal
 
 pub returns-in_err-chain-clause-bad : goal.returns-in_err-chain-clause-bad

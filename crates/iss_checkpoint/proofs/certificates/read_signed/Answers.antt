@@ -3,7 +3,7 @@ use Rattle.std.proofs.lemmas.Bool.{le-leb, lt-leb}
 use Rattle.iss_request.specs.Parsing.{byte}
 use Rattle.iss_request.proofs.Readings.{exit, named, read_done, read_passed, read_then, unread_failed, unread_first, unread_tested, unread_then}
 use Rattle.iss_checkpoint.specs.Certificates.{parse_signed}
-use Rattle.iss_checkpoint.proofs.CertGrammar.{from_on}
+use Rattle.iss_sb.proofs.Signers.{from_on}
 use Rattle.iss_checkpoint.proofs.certificates.read_signed.Goals as goal
 
 pub returns-in_err-by-clause-bad : goal.returns-in_err-by-clause-bad

@@ -1,4 +1,4 @@
-use Rattle.std.proofs.Common.{◌≡◌, ◌∙◌, ◌<◌, ◌≤◌, length, not, reverse, get_or, sym, ap, arith}
+use Rattle.std.proofs.Common.{◌∙◌, ◌<◌, ◌≤◌, length, not, reverse, get_or, sym, ap, arith}
 use Rattle.std.proofs.lemmas.List.{length-reverse}
 use Rattle.iss_request.specs.Formats.{is_batch}
 use Rattle.iss_node.proofs.NilLemmas.{nil-at, nil-past}

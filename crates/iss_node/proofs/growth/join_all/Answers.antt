@@ -1,4 +1,4 @@
-use Rattle.std.proofs.Common.{◌≡◌, ◌∙◌, ◌<◌, arith, length, refl, take}
+use Rattle.std.proofs.Common.{◌∙◌, arith, refl}
 use Rattle.iss_node.proofs.JoinLemmas.{join-all, join-none, join-one}
 use Rattle.iss_node.proofs.growth.join_all.Goals as goal
 

@@ -3,7 +3,7 @@ use Rattle.iss_request.specs.Formats.{parse_value}
 use Rattle.iss_request.specs.Parsing.{times}
 use Rattle.iss_request.proofs.Readings.{exit, read_done, read_then, unread_first, unread_then}
 use Rattle.iss_sb.proofs.Read.{read-by, unread-by}
-use Rattle.iss_checkpoint.proofs.CertReading.{count-read, count-unread}
+use Rattle.iss_sb.proofs.Fields.{count-read, count-unread}
 use Rattle.iss_transfer.specs.Bodies.{parse_piece}
 use Rattle.iss_transfer.proofs.bodies.read_piece.Goals as goal
 

@@ -2,55 +2,67 @@ use Rattle.std.proofs.Common.{◌==◌, ◌||◌, arith, refl}
 use Rattle.std.proofs.lemmas.Result.{IfOk-weaker}
 use Rattle.iss_base.proofs.Lists.{eqb-other, neither}
 use Rattle.iss_request.proofs.Readings.{exit, named}
+use Rattle.iss_sb.proofs.Fields.{kind-read, kind-unread, number-unread, other-unread}
 use Rattle.iss_sb.proofs.Read.{read-by, unread-by}
-use Rattle.pbft_wire.specs.Messages.{parse, parse_new_view, parse_pre_prepare, parse_view_change}
-use Rattle.pbft_wire.proofs.Numbered.{kind-read, kind-unread, number-unread, other-unread}
+use Rattle.pbft_wire.specs.Messages.{fields_of, is_known, parse, parse_new_view, parse_pre_prepare, parse_view_change}
 use Rattle.pbft_wire.proofs.reading.read.Goals as goal
 
 pub returns-in_err-number-clause-bad : goal.returns-in_err-number-clause-bad
+unfolding parse
 returns-in_err-number-clause-bad c =
-    exit c.from_residual.result _ _ c.from_residual.ensures.1 (λ at e. number-unread c.args.f.now.version (c.in_err-number.ensures.bad at e))
+    exit c.from_residual.result _ _ c.from_residual.ensures.1 (λ at e. number-unread is_known (fields_of c.args.f.now.version) (c.in_err-number.ensures.bad at e))
 
 pub returns-in-1-clause-ok : goal.returns-in-1-clause-ok
+unfolding parse
 returns-in-1-clause-ok c =
-    IfOk-weaker c.read_pre_prepare.result _ _ (λ m h. kind-read c.args.f.now.version _ 1 m c.in-1.is refl c.in_ok-number.ensures.ok (read-by parse_pre_prepare c.in_ok-number.ensures.ok.version h)) c.read_pre_prepare.ensures.ok
+    IfOk-weaker c.read_pre_prepare.result _ _ (λ m h. kind-read is_known (fields_of c.args.f.now.version) _ 1 m c.in-1.is refl c.in_ok-number.ensures.ok (read-by parse_pre_prepare c.in_ok-number.ensures.ok.version h)) c.read_pre_prepare.ensures.ok
 
 pub returns-in-1-clause-bad : goal.returns-in-1-clause-bad
-returns-in-1-clause-bad c at e = kind-unread c.args.f.now.version _ 1 c.in-1.is refl c.in_ok-number.ensures.ok (unread-by parse_pre_prepare c.in_ok-number.ensures.ok.version (c.read_pre_prepare.ensures.bad at e))
+unfolding parse
+returns-in-1-clause-bad c at e = kind-unread is_known (fields_of c.args.f.now.version) _ 1 c.in-1.is refl c.in_ok-number.ensures.ok (unread-by parse_pre_prepare c.in_ok-number.ensures.ok.version (c.read_pre_prepare.ensures.bad at e))
 
 pub returns-in-2-clause-ok : goal.returns-in-2-clause-ok
+unfolding parse
 returns-in-2-clause-ok c =
-    IfOk-weaker c.read_prepare.result _ _ (λ m h. kind-read c.args.f.now.version _ 2 m c.in-2.is refl c.in_ok-number.ensures.ok h) c.read_prepare.ensures.ok
+    IfOk-weaker c.read_prepare.result _ _ (λ m h. kind-read is_known (fields_of c.args.f.now.version) _ 2 m c.in-2.is refl c.in_ok-number.ensures.ok h) c.read_prepare.ensures.ok
 
 pub returns-in-2-clause-bad : goal.returns-in-2-clause-bad
-returns-in-2-clause-bad c at e = kind-unread c.args.f.now.version _ 2 c.in-2.is refl c.in_ok-number.ensures.ok (c.read_prepare.ensures.bad at e)
+unfolding parse
+returns-in-2-clause-bad c at e = kind-unread is_known (fields_of c.args.f.now.version) _ 2 c.in-2.is refl c.in_ok-number.ensures.ok (c.read_prepare.ensures.bad at e)
 
 pub returns-in-3-clause-ok : goal.returns-in-3-clause-ok
+unfolding parse
 returns-in-3-clause-ok c =
-    IfOk-weaker c.read_commit.result _ _ (λ m h. kind-read c.args.f.now.version _ 3 m c.in-3.is refl c.in_ok-number.ensures.ok h) c.read_commit.ensures.ok
+    IfOk-weaker c.read_commit.result _ _ (λ m h. kind-read is_known (fields_of c.args.f.now.version) _ 3 m c.in-3.is refl c.in_ok-number.ensures.ok h) c.read_commit.ensures.ok
 
 pub returns-in-3-clause-bad : goal.returns-in-3-clause-bad
-returns-in-3-clause-bad c at e = kind-unread c.args.f.now.version _ 3 c.in-3.is refl c.in_ok-number.ensures.ok (c.read_commit.ensures.bad at e)
+unfolding parse
+returns-in-3-clause-bad c at e = kind-unread is_known (fields_of c.args.f.now.version) _ 3 c.in-3.is refl c.in_ok-number.ensures.ok (c.read_commit.ensures.bad at e)
 
 pub returns-in-4-clause-ok : goal.returns-in-4-clause-ok
+unfolding parse
 returns-in-4-clause-ok c =
-    IfOk-weaker c.read_view_change.result _ _ (λ m h. kind-read c.args.f.now.version _ 4 m c.in-4.is refl c.in_ok-number.ensures.ok (read-by parse_view_change c.in_ok-number.ensures.ok.version h)) c.read_view_change.ensures.ok
+    IfOk-weaker c.read_view_change.result _ _ (λ m h. kind-read is_known (fields_of c.args.f.now.version) _ 4 m c.in-4.is refl c.in_ok-number.ensures.ok (read-by parse_view_change c.in_ok-number.ensures.ok.version h)) c.read_view_change.ensures.ok
 
 pub returns-in-4-clause-bad : goal.returns-in-4-clause-bad
-returns-in-4-clause-bad c at e = kind-unread c.args.f.now.version _ 4 c.in-4.is refl c.in_ok-number.ensures.ok (unread-by parse_view_change c.in_ok-number.ensures.ok.version (c.read_view_change.ensures.bad at e))
+unfolding parse
+returns-in-4-clause-bad c at e = kind-unread is_known (fields_of c.args.f.now.version) _ 4 c.in-4.is refl c.in_ok-number.ensures.ok (unread-by parse_view_change c.in_ok-number.ensures.ok.version (c.read_view_change.ensures.bad at e))
 
 pub returns-in-5-clause-ok : goal.returns-in-5-clause-ok
+unfolding parse
 returns-in-5-clause-ok c =
-    IfOk-weaker c.read_new_view.result _ _ (λ m h. kind-read c.args.f.now.version _ 5 m c.in-5.is refl c.in_ok-number.ensures.ok (read-by parse_new_view c.in_ok-number.ensures.ok.version h)) c.read_new_view.ensures.ok
+    IfOk-weaker c.read_new_view.result _ _ (λ m h. kind-read is_known (fields_of c.args.f.now.version) _ 5 m c.in-5.is refl c.in_ok-number.ensures.ok (read-by parse_new_view c.in_ok-number.ensures.ok.version h)) c.read_new_view.ensures.ok
 
 pub returns-in-5-clause-bad : goal.returns-in-5-clause-bad
-returns-in-5-clause-bad c at e = kind-unread c.args.f.now.version _ 5 c.in-5.is refl c.in_ok-number.ensures.ok (unread-by parse_new_view c.in_ok-number.ensures.ok.version (c.read_new_view.ensures.bad at e))
+unfolding parse
+returns-in-5-clause-bad c at e = kind-unread is_known (fields_of c.args.f.now.version) _ 5 c.in-5.is refl c.in_ok-number.ensures.ok (unread-by parse_new_view c.in_ok-number.ensures.ok.version (c.read_new_view.ensures.bad at e))
 
 pub returns-in_default-clause-bad : goal.returns-in_default-clause-bad
+unfolding parse
 returns-in_default-clause-bad c at e =
     let n = c.in_ok-number.number in
     let five = neither (n == 4) (n == 5) (eqb-other n 4 (λ q. omega (arith, q))) (eqb-other n 5 (λ q. omega (arith, q))) in
     let three = neither (n == 3) ((n == 4) || (n == 5)) (eqb-other n 3 (λ q. omega (arith, q))) five in
     let two = neither (n == 2) ((n == 3) || ((n == 4) || (n == 5))) (eqb-other n 2 (λ q. omega (arith, q))) three in
     let other = neither (n == 1) ((n == 2) || ((n == 3) || ((n == 4) || (n == 5)))) (eqb-other n 1 (λ q. omega (arith, q))) two in
-    named (parse c.args.f.now.version) c.args.f.now _ _ at (other-unread c.args.f.now.version n other c.in_ok-number.ensures.ok) c.bad_field-no_message.ensures e
+    named (parse c.args.f.now.version) c.args.f.now _ _ at (other-unread is_known (fields_of c.args.f.now.version) n other c.in_ok-number.ensures.ok) c.bad_field-no_message.ensures e

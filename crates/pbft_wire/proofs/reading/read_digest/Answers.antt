@@ -1,4 +1,4 @@
-use Rattle.pbft_wire.proofs.Numbered.{digest-long}
+use Rattle.iss_sb.proofs.Fields.{digest-long}
 use Rattle.pbft_wire.proofs.reading.read_digest.Goals as goal
 
 pub array_of-requires : goal.array_of-requires

@@ -1,4 +1,4 @@
-use Rattle.sb_echo.proofs.Reading.{digest-long}
+use Rattle.iss_sb.proofs.Fields.{digest-long}
 use Rattle.sb_echo.proofs.wire.read_digest.Goals as goal
 
 pub array_of-requires : goal.array_of-requires

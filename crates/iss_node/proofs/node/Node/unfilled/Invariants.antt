@@ -1,4 +1,4 @@
-use Rattle.std.proofs.Common.{◌≡◌, map, reverse, ℕ}
+use Rattle.std.proofs.Common.{◌≡◌, map}
 use Rattle.iss_model.specs.Node.{Core}
 use Rattle.iss_model.specs.Concrete.{rules_of}
 use Rattle.iss_model.specs.Views.{unfilled}

@@ -1,4 +1,3 @@
-use Rattle.std.proofs.Common.{◌≡◌, subst, sym}
 use Rattle.iss_node.proofs.ClaimLemmas.{from-below}
 use Rattle.iss_node.proofs.replica.Replica.claims_of_packet.Goals as goal
 

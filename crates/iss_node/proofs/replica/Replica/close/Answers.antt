@@ -1,6 +1,6 @@
-use Rattle.std.proofs.Common.{◌≡◌, ◌∙◌, ◌∷◌, List, ap, reverse, sym, subst, ℕ}
+use Rattle.std.proofs.Common.{◌∙◌, ◌∷◌, List, ap, reverse, sym, subst, ℕ}
 use Rattle.std.specs.List.{All, filter}
-use Rattle.iss_layout.specs.Layout.{Ended, IsSlotOf, IsStanding, slots_from}
+use Rattle.iss_layout.specs.Layout.{IsSlotOf, IsStanding, slots_from}
 use Rattle.iss_model.specs.Node.{is_nil_at}
 use Rattle.iss_node.proofs.EndLemmas.{are-of}
 use Rattle.iss_node.specs.Epochs.{notes}

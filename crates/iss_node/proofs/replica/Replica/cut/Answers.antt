@@ -1,4 +1,4 @@
-use Rattle.std.proofs.Common.{◌∙◌, ◌++◌, ◌∷◌, [], ◌<◌, length, refl, ap, arith}
+use Rattle.std.proofs.Common.{◌∙◌, ◌++◌, ◌∷◌, [], refl, ap}
 use Rattle.iss_buckets.specs.Waiting.{cut, may_cast, uncut}
 use Rattle.iss_ids.specs.Set.{and_ids}
 use Rattle.iss_node.proofs.StepLemmas.{place}

@@ -1,6 +1,4 @@
 use Rattle.std.proofs.Common.{◌∙◌, sym, ap, subst}
-use Rattle.std.specs.List.{list_any}
-use Rattle.iss_log.specs.LogState.{value_at}
 use Rattle.iss_node.proofs.QueryLemmas.{unfilled-of}
 use Rattle.iss_node.specs.Shape.{IsReplica}
 use Rattle.iss_node.specs.State.{ReplicaState}

@@ -1,11 +1,10 @@
-use Rattle.std.proofs.Common.{◌≡◌, ◌∙◌, ◌++◌, ◌∷◌, [], List, ◌<◌, ◌≤◌, length, refl, sym, ap, subst, arith}
+use Rattle.std.proofs.Common.{◌∙◌, ◌++◌, ◌∷◌, [], ◌<◌, ◌≤◌, length, sym, ap, subst, arith}
 use Rattle.iss_model.specs.Node.{rests}
 use Rattle.iss_node.proofs.InstanceLemmas.{same-parts}
 use Rattle.iss_node.proofs.MadeLemmas.{nothing-made, nothing-sent}
 use Rattle.iss_node.proofs.QueryLemmas.{early-full, early-kept, early-parts, with-early}
 use Rattle.iss_node.specs.Shape.{IsReplica}
 use Rattle.iss_node.specs.State.{AreParts, ReplicaState, core_of, seen_early, seen_one}
-use Rattle.iss_node.specs.declared.answers.Early.{Early}
 use Rattle.iss_node.proofs.replica.Replica.keep_early.Goals as goal
 
 pub returns-then-len-ge-EARLY_MOST-clause-answer : goal.returns-then-len-ge-EARLY_MOST-clause-answer

@@ -1,4 +1,4 @@
-use Rattle.std.proofs.Common.{arith, ◌≡◌, ◌∙◌, ℕ, ◌+◌, ◌^◌, ◌<◌, List, [], ap, sym, subst}
+use Rattle.std.proofs.Common.{arith, ◌≡◌, ◌∙◌, ℕ, ◌+◌, List, [], ap, subst}
 use Rattle.iss_node.specs.Epochs.{HasOpened}
 use Rattle.iss_node.specs.State.{ReplicaState}
 use Rattle.iss_node.specs.declared.answers.Early.{Early}

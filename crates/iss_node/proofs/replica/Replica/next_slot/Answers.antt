@@ -1,4 +1,4 @@
-use Rattle.std.proofs.Common.{◌≡◌, ◌∙◌, ap, sym, subst, Some, Option}
+use Rattle.std.proofs.Common.{◌≡◌, ◌∙◌, ap, sym, subst, Some}
 use Rattle.iss_model.specs.Node.{first_slot}
 use Rattle.iss_node.proofs.CastLemmas.{next-is}
 use Rattle.iss_node.specs.Casts.{is_open}

@@ -1,4 +1,4 @@
-use Rattle.std.proofs.Common.{◌≡◌, ◌∙◌, ap, sym, subst, true, Some, None}
+use Rattle.std.proofs.Common.{◌≡◌, ◌∙◌, ap, sym, subst, true}
 use Rattle.std.specs.Prelude.{is_some}
 use Rattle.iss_node.proofs.InstanceLemmas.{leads-is, leaves-is}
 use Rattle.iss_node.proofs.NextLemmas.{some-of}

@@ -1,4 +1,4 @@
-use Rattle.std.proofs.Common.{◌≡◌, ◌∙◌, Some, refl, ap, subst, sym}
+use Rattle.std.proofs.Common.{◌∙◌, Some, refl, ap, subst, sym}
 use Rattle.iss_ballots.specs.Ballots.{AreKept}
 use Rattle.iss_node.proofs.TransferLemmas.{hands-short, hands-so}
 use Rattle.iss_node.specs.State.{ReplicaState}

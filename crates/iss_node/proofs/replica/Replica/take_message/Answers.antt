@@ -1,4 +1,4 @@
-use Rattle.std.proofs.Common.{◌≡◌, ◌∙◌, ◌==◌, suc, ap, sym, subst, eqb, false, true, arith}
+use Rattle.std.proofs.Common.{◌∙◌, suc, ap, sym, subst, eqb}
 use Rattle.std.proofs.lemmas.Result.{IfOk-weaker}
 use Rattle.iss_base.proofs.Lists.{is-eq}
 use Rattle.iss_model.specs.Node.{at_instance, keeps_early, settled, takes_message}

@@ -1,4 +1,4 @@
-use Rattle.std.proofs.Common.{arith, ◌≡◌, ◌≤◌, ap, subst}
+use Rattle.std.proofs.Common.{arith, ◌≤◌, ap, subst}
 use Rattle.iss_model.specs.declared.causes.Why.TheVariants.{BadClaim, OtherEpoch, WrongChain}
 use Rattle.iss_node.proofs.PieceLemmas.{piece-refused, piece-taken, step_by}
 use Rattle.iss_node.specs.Shape.{IsReplica}

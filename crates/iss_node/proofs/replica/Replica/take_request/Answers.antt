@@ -1,6 +1,6 @@
-use Rattle.std.proofs.Common.{◌≡◌, ◌∙◌, ◌++◌, ◌∷◌, [], Bool, true, false, refl, sym, ap, subst}
+use Rattle.std.proofs.Common.{◌≡◌, ◌++◌, ◌∷◌, [], true, false, refl, sym, ap, subst}
 use Rattle.iss_model.specs.Concrete.{rules_of}
-use Rattle.iss_model.specs.Node.{is_known, rests}
+use Rattle.iss_model.specs.Node.{rests}
 use Rattle.iss_model.specs.Past.{before_own, log_of}
 use Rattle.iss_node.proofs.InstanceLemmas.{same-parts}
 use Rattle.iss_node.proofs.MadeLemmas.{nothing-made, nothing-sent}

@@ -1,4 +1,5 @@
-use Rattle.sb_echo.proofs.Hearing.{added, same_heard}
+use Rattle.iss_sb.proofs.Cases.{added}
+use Rattle.sb_echo.proofs.Hearing.{same_heard}
 use Rattle.sb_echo.proofs.echoes.Echoes.hear.Goals as goal
 
 pub returns : goal.returns

@@ -1,0 +1,153 @@
+//! Digests that are remembered. A value goes through many hands on its way into a log, and each wants its
+//! digest: a long string is digested once, and the digest found later by all bytes of the string.
+
+ghost use Rattle.std.specs.Prelude.{◌≡◌, ◌<◌, ◌*◌, ℕ, List, slice_get, IfOk, IfSome, IsSome};
+ghost use Rattle.sha2.specs.Sha256.{sha256};
+
+use crate::places::{SET, fill_places, hash_on, put_first, word_at};
+use sha2::{Digest, Sha256};
+use std::alloc::{AllocError, Global};
+use std::cell::RefCell;
+use std::marker::Model;
+
+// How many sets of digests there are.
+const SETS: usize = 32;
+
+// A shorter string is digested about as fast as it is found.
+const SHORTEST: usize = 512;
+
+// Of longer strings no digest is remembered, so that the memory is bounded.
+const LONGEST: usize = 100_000;
+
+// A string, with its digest.
+#[derive(Drop)]
+struct Digested {
+    string: Vec<u8>,
+    digest: [u8; 32],
+}
+
+impl Model for Digested {
+    ghost Value = { List ℕ };
+
+    ghost view = { λ d. d.string.items };
+
+    ghost invariant = { λ d. d.digest ≡ sha256 d.string.items };
+}
+
+impl Digested {
+    // The string and its digest, to be kept.
+    fn to(alloc: Global, string: &[u8], digest: &[u8; 32]) -> Result<Digested, AllocError>
+        requires { digest.now ≡ sha256 string.now }
+        ensures { IfOk result (λ d. d ≡ string.now) }
+    {
+        let string = string.to_vec(alloc)?;
+        Ok(Digested {
+            string,
+            digest: *digest,
+        })
+    }
+
+    // The digest, if it is one of this string.
+    fn digest(&self, string: &[u8]) -> Option<[u8; 32]>
+        ensures right { IfSome result (λ digest. digest ≡ sha256 string.now) }
+        ensures found { self.now ≡ string.now → IsSome result }
+    {
+        if self.string.as_slice() == string {
+            Some(self.digest)
+        } else {
+            None
+        }
+    }
+}
+
+// Where the set of a string begins, by some of its bytes. Strings that share a set push each other out.
+fn set_of(string: &[u8]) -> usize
+    ensures { result < 4 * 32 }
+{
+    let step = string.len() / 8;
+    let mut hash = 0;
+    for i in 0..8usize {
+        hash = hash_on(hash, word_at(string, i * step));
+    }
+    hash_on(hash, string.len() as u64) as usize % SETS * SET
+}
+
+// The digest of a string, if it is among these.
+fn find_digest(digests: &[Option<Digested>], string: &[u8]) -> Option<[u8; 32]>
+    ensures right { IfSome result (λ digest. digest ≡ sha256 string.now) }
+    ensures found { (i : ℕ) → slice_get digests.now i ≡ Some (Some string.now) → IsSome result }
+{
+    'places: for place in digests {
+        if let Some(digested) = place {
+            let digest = digested.digest(string);
+            if digest.is_some() {
+                return digest;
+            }
+        }
+    }
+    None
+}
+
+/// Digests of strings. They take no memory before the first, and where there is none, a digest is not
+/// remembered.
+#[derive(Drop)]
+pub struct Digests {
+    places: RefCell<Vec<Option<Digested>>>,
+}
+
+impl Digests {
+    /// No digests yet.
+    pub fn new(alloc: Global) -> Digests {
+        Digests {
+            places: RefCell::new(Vec::new(alloc)),
+        }
+    }
+
+    // The digest of a string, if it is remembered in this set.
+    fn recall(&self, set: usize, string: &[u8]) -> Option<[u8; 32]>
+        requires { set < 4 * 32 }
+        ensures { IfSome result (λ digest. digest ≡ sha256 string.now) }
+    {
+        let Ok(places) = self.places.try_borrow() else {
+            return None;
+        };
+        match places.get(set..set + SET) {
+            Some(digests) => find_digest(digests, string),
+            None => None,
+        }
+    }
+
+    // Remembers a digest, in place of the oldest of its set.
+    fn remember(&self, set: usize, string: &[u8], digest: &[u8; 32])
+        requires place { set < 4 * 32 }
+        requires right { digest.now ≡ sha256 string.now }
+    {
+        let Ok(mut places) = self.places.try_borrow_mut() else {
+            return;
+        };
+        let alloc = *places.allocator();
+        let Ok(digested) = Digested::to(alloc, string, digest) else {
+            return;
+        };
+        let _ = fill_places(&mut places, SETS * SET);
+        if set + SET <= places.len() {
+            put_first(&mut places[set..set + SET], digested);
+        }
+    }
+
+    /// The SHA-256 digest of a string: remembered, or made and then remembered.
+    pub fn digest(&self, string: &[u8]) -> [u8; 32]
+        ensures { result ≡ sha256 string.now }
+    {
+        if string.len() < SHORTEST || string.len() > LONGEST {
+            return Sha256::digest(string);
+        }
+        let set = set_of(string);
+        if let Some(digest) = self.recall(set, string) {
+            return digest;
+        }
+        let digest = Sha256::digest(string);
+        self.remember(set, string, &digest);
+        digest
+    }
+}
