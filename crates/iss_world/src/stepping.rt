@@ -79,7 +79,7 @@ fn ends(
     let early = outcome.early.as_slice();
     match signed.first_forged(alloc, setup, directory, early)? {
         Some(claim) => Ok(Some(End::Forged(claim))),
-        None => hashed.book(outcome.hashed.as_slice()),
+        None => hashed.book(directory, outcome.hashed.as_slice()),
     }
 }
 

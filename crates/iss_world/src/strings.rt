@@ -7,8 +7,8 @@ ghost use Rattle.iss_world.specs.Books.{AreHashed, difference};
 ghost use Rattle.iss_world.specs.Stands.{end_of};
 
 use crate::ends::End;
+use iss_keys::Directory;
 use iss_request::{Bytes, NoMemory};
-use sha2::{Digest, Sha256};
 use std::alloc::Global;
 use std::collections::BTreeMap;
 use std::marker::Model;
@@ -27,14 +27,14 @@ impl Model for Strings {
     ghost view = { λ v. v.all.entries };
 }
 
-// The digest of a string. The empty one has 32 zero bytes.
-fn digest(string: &[u8]) -> [u8; 32]
+// The digest of a string, which the directory remembers where a node took it lately. The empty one has 32 zero bytes.
+fn digest(directory: &Directory, string: &[u8]) -> [u8; 32]
     ensures { result ≡ digest string.now }
 {
     if string.is_empty() {
         return [0; 32];
     }
-    Sha256::digest(string)
+    directory.digest(string)
 }
 
 impl Strings {
@@ -48,11 +48,11 @@ impl Strings {
     }
 
     // One string more, unless a different one of its digest is there.
-    fn add(&mut self, string: &Bytes) -> Result<Option<End>, NoMemory>
+    fn add(&mut self, directory: &Directory, string: &Bytes) -> Result<Option<End>, NoMemory>
         ensures told { IfOk result (λ end. (book : List (List ℕ)) → AreHashed self.old book → option_map end_of end ≡ collision_with string.now book) }
         ensures booked { IfOk result (λ end. (book : List (List ℕ)) → AreHashed self.old book → end ≡ None → AreHashed self.new (string.now ∷ book)) }
     {
-        let digest = digest(string.as_slice());
+        let digest = digest(directory, string.as_slice());
         if let Some(first) = self.all.get(&digest) {
             return collision(first, string);
         }
@@ -61,12 +61,16 @@ impl Strings {
     }
 
     /// Books the strings of a step, one after the other, up to one that differs from a string of its digest.
-    pub fn book(&mut self, strings: &[Bytes]) -> Result<Option<End>, NoMemory>
+    pub fn book(
+        &mut self,
+        directory: &Directory,
+        strings: &[Bytes],
+    ) -> Result<Option<End>, NoMemory>
         ensures told { IfOk result (λ end. (book : List (List ℕ)) → AreHashed self.old book → option_map end_of end ≡ collision_in strings.now book) }
         ensures booked { IfOk result (λ end. (book : List (List ℕ)) → AreHashed self.old book → end ≡ None → AreHashed self.new (over strings.now book)) }
     {
         for string in strings {
-            let end = self.add(string)?;
+            let end = self.add(directory, string)?;
             if end.is_some() {
                 return Ok(end);
             }
