@@ -55,7 +55,11 @@ fn read_node(n: u32, rest: &[u8]) -> Option<NodeId>
     let [node] = rest else {
         return None;
     };
-    if (*node as u32) < n { Some(NodeId(*node)) } else { None }
+    if (*node as u32) < n {
+        Some(NodeId(*node))
+    } else {
+        None
+    }
 }
 
 // What stands behind the first byte of a timeout: the leader.

@@ -3,6 +3,5 @@
 
 #[cfg(test)]
 mod signing;
-
 #[cfg(test)]
 mod tests;
