@@ -11,8 +11,7 @@ use Rattle.iss_model.specs.Node.{Core, idle}
 use Rattle.iss_model.specs.declared.causes.NodeEvent.{NodeEvent}
 use Rattle.iss_model.specs.declared.causes.Why.{Why}
 use Rattle.iss_node.specs.State.{NodeState, Stands}
-use Rattle.iss_node.specs.Steps.{IsAnswer}
-use Rattle.iss_node.specs.declared.answers.Answer.TheVariants.{Dropped, Taken}
+use Rattle.iss_node.specs.Steps.{IsDrop, IsTurn}
 use Rattle.iss_node.specs.declared.answers.Outcome.{Outcome}
 use Rattle.iss_request.specs.declared.ids.NodeId.{NodeId}
 use Rattle.iss_request.specs.declared.requests.Value.{Value}
@@ -28,11 +27,11 @@ module _ {M Msg : Type 0} (s : Setup) (m : Module Msg) (stands : M → Params �
   -- ---- one entry
 
   module _ (c : Core Msg) (entry : List ℕ) (new : NodeState M Msg) where
-    pub goes-taken : (of : Type 0) (event : NodeEvent) (outcome : Outcome) → Some event ≡ event_in s.n entry → IsAnswer m stands of c (step_of s m me c event) new (Taken outcome) → GoesTo s m stands me c entry new true
+    pub goes-taken : (of : Type 0) (event : NodeEvent) (outcome : Outcome) → Some event ≡ event_in s.n entry → IsTurn m stands of (step_of s m me c event) new outcome → GoesTo s m stands me c entry new true
     goes-taken of event outcome read a = (a.turn.core, a.stands_for, ap (core_with s m me c) (sym read) ∙ ap core_after a.step_is)
 
-    pub goes-dropped : (of : Type 0) (event : NodeEvent) (why : Why) → Some event ≡ event_in s.n entry → IsAnswer m stands of c (step_of s m me c event) new (Dropped why) → GoesTo s m stands me c entry new false
-    goes-dropped of event why read a = ap (core_with s m me c) (sym read) ∙ ap core_after a.step_is
+    pub goes-dropped : (event : NodeEvent) (why : Why) → Some event ≡ event_in s.n entry → IsDrop m stands c (step_of s m me c event) new why → GoesTo s m stands me c entry new false
+    goes-dropped event why read a = ap (core_with s m me c) (sym read) ∙ ap core_after a.step_is
 
     pub goes-nowhere : None ≡ event_in s.n entry → GoesTo s m stands me c entry new false
     goes-nowhere read = ap (core_with s m me c) (sym read)

@@ -15,5 +15,5 @@ returns-in-Taken-clause-goes g c = λ d st.
 
 pub returns-in-Dropped-clause-goes : goal.returns-in-Dropped-clause-goes
 returns-in-Dropped-clause-goes g c = λ d st.
-    goes-dropped c.args.node.now.parts.setup g.M.Sequenced.meaning g.M.Sequenced.stands c.args.node.now.parts.me.0 d c.args.entry.now c.take.new.self _ _ _
+    goes-dropped c.args.node.now.parts.setup g.M.Sequenced.meaning g.M.Sequenced.stands c.args.node.now.parts.me.0 d c.args.entry.now c.take.new.self _ _
     (sym c.in-Some.is ∙ c.in_ok-event.ensures ∙ ap (λ (k : ℕ). event_in k c.args.entry.now) c.requires) (c.in-Dropped.ensures.answer d st)
