@@ -8,7 +8,6 @@ ghost use Rattle.iss_keep.specs.Steps.{IsWritten, makes_stale, sight};
 ghost use Rattle.iss_model.specs.Node.{Core};
 ghost use Rattle.iss_model.specs.Runs.{IsSetupOf};
 ghost use Rattle.iss_node.specs.State.{Stands};
-ghost use Rattle.iss_node.specs.Steps.{IsOfNodes};
 
 use crate::answers::Answer;
 use crate::entries::encode_entry;
@@ -63,7 +62,6 @@ fn step<M: Sequenced, D: Disk>(
     entry: &[u8],
 ) -> Answer
     requires good { IsSetupOf M.meaning node.old.parts.setup }
-    requires nodes { IsOfNodes node.old.parts.setup.n event }
     requires stands { (c : Core M.Msg) × Stands M.meaning M.stands node.old c }
     requires sound { IsSound D.history D.room journal.old }
     requires attached { is_attached journal.old ≡ true }
@@ -93,7 +91,6 @@ pub(crate) fn keep<M: Sequenced, D: Disk>(
     event: NodeEvent,
 ) -> Answer
     requires good { IsSetupOf M.meaning node.old.parts.setup }
-    requires nodes { IsOfNodes node.old.parts.setup.n event }
     requires stands { (c : Core M.Msg) × Stands M.meaning M.stands node.old c }
     requires sound { IsSound D.history D.room journal.old }
     requires attached { is_attached journal.old ≡ true }

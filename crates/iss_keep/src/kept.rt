@@ -3,7 +3,7 @@ ghost use Rattle.std.specs.Prelude.{◌≡◌, ◌<◌, ◌≤◌, ◌↔◌, �
 ghost use Rattle.iss_disk.specs.Calls.{Restarts, Stays, script, up_to};
 ghost use Rattle.iss_keep.specs.Cores.{step_of};
 ghost use Rattle.iss_keep.specs.Entries.{spell_event};
-ghost use Rattle.iss_keep.specs.State.{StandsFor};
+ghost use Rattle.iss_keep.specs.State.{IsAt, StandsFor};
 ghost use Rattle.iss_keep.specs.Steps.{IsAnswer, IsAttached, IsDamaged, IsSame, IsWritten, LosesNone, ShowsAsBefore, makes_stale, sight};
 ghost use Rattle.iss_model.specs.Concrete.{keys_of};
 ghost use Rattle.iss_model.specs.Node.{Core};
@@ -80,12 +80,11 @@ impl<M: Sequenced, D: Disk + Drop> Kept<M, D> {
 }
 
 impl<M: Sequenced, D: Disk> Kept<M, D> {
-    /// Takes an event, which asks nobody but nodes: makes room for its entry, steps the node, appends the entry where the event was
-    /// taken, and hands out what it made only then.
+    /// Takes an event: makes room for its entry, steps the node, appends the entry where the event was taken, and hands out what it
+    /// made only then. An ask is never dropped, and one of a number that is no node leaves an entry that `reopen` finds damaged.
     pub fn take(&mut self, event: NodeEvent) -> Answer
-        requires nodes { IsOfNodes self.old.setup.n event }
-        ensures answer { (c : Core M.Msg) → StandsFor M.meaning M.stands self.old c →
-            IsAnswer M.meaning M.stands c (step_of self.old.setup M.meaning self.old.me.0 c event) self.new result }
+        ensures answer { (c : Core M.Msg) → IsAt M.meaning M.stands self.old c → IsAnswer M.meaning M.stands
+            (IsOfNodes self.old.setup.n event) self.old c (step_of self.old.setup M.meaning self.old.me.0 c event) self.new result }
         ensures refused { (result ≡ Answer.Stale) ↔ (self.old.stale ≡ true) }
         ensures stale { self.new.stale ≡ makes_stale result }
         ensures written { IsWritten self.old.entries (spell_event event) (sight D.history D.passes D.faults D.current D.files self.old.disk)

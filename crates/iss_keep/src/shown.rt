@@ -1,6 +1,6 @@
 //! What a kept node shows of its core, while it is not stale. Its log and its epoch it shows always.
 ghost use Rattle.std.specs.Prelude.{◌≡◌, ℕ, IfOk, map, reverse};
-ghost use Rattle.iss_keep.specs.State.{StandsFor};
+ghost use Rattle.iss_keep.specs.State.{IsAt};
 ghost use Rattle.iss_model.specs.Concrete.{rules_of};
 ghost use Rattle.iss_model.specs.Formats.{formats_of};
 ghost use Rattle.iss_model.specs.Node.{Core};
@@ -21,7 +21,7 @@ impl<M: Sequenced, D: Disk> Kept<M, D> {
     /// what that left.
     pub fn log(&self) -> &Log
         ensures shown { result.now ≡ self.now.node.parts.log }
-        ensures is { (c : Core M.Msg) → StandsFor M.meaning M.stands self.now c →
+        ensures is { (c : Core M.Msg) → IsAt M.meaning M.stands self.now c →
             log_of (rules_of self.now.setup) M.meaning self.now.me.0 c.past ≡ reverse result.now.entries }
     {
         self.node.log()
@@ -30,14 +30,14 @@ impl<M: Sequenced, D: Disk> Kept<M, D> {
     /// The node's epoch, likewise.
     pub fn epoch(&self) -> Epoch
         ensures shown { result.0 ≡ self.now.node.parts.epoch }
-        ensures is { (c : Core M.Msg) → StandsFor M.meaning M.stands self.now c → result.0 ≡ c.past.epoch }
+        ensures is { (c : Core M.Msg) → IsAt M.meaning M.stands self.now c → result.0 ≡ c.past.epoch }
     {
         self.node.epoch()
     }
 
     /// What these bytes claim that nodes signed, where they are a message of the node's epoch, whose leader leads there.
     pub fn claims_of(&self, bytes: &[u8]) -> Result<Row<Claim>, NoMemory>
-        ensures { IfOk result (λ claims. (c : Core M.Msg) → StandsFor M.meaning M.stands self.now c →
+        ensures { IfOk result (λ claims. (c : Core M.Msg) → IsAt M.meaning M.stands self.now c →
             claims ≡ claims_of_bytes (formats_of self.now.setup M.meaning) (rules_of self.now.setup) M.meaning self.now.me.0 c bytes.now) }
     {
         self.node.claims_of(self.alloc, bytes)
@@ -45,14 +45,14 @@ impl<M: Sequenced, D: Disk> Kept<M, D> {
 
     /// The batches that the instances of the node's epoch accepted, in the order of time.
     pub fn accepted(&self) -> &[Accepted]
-        ensures { (c : Core M.Msg) (l : ℕ) → StandsFor M.meaning M.stands self.now c → reverse (accepted_of l result.now) ≡ accepted_by c l }
+        ensures { (c : Core M.Msg) (l : ℕ) → IsAt M.meaning M.stands self.now c → reverse (accepted_of l result.now) ≡ accepted_by c l }
     {
         self.node.accepted()
     }
 
     /// The identities of the requests that wait, in order of arrival, and the batches in flight.
     pub fn unordered(&self) -> Result<(Row<ReqId>, &[(Slot, Batch)]), NoMemory>
-        ensures { IfOk result (λ both. (c : Core M.Msg) → StandsFor M.meaning M.stands self.now c →
+        ensures { IfOk result (λ both. (c : Core M.Msg) → IsAt M.meaning M.stands self.now c →
             (both.0 ≡ ids c.waiting) × (both.1.now ≡ c.flight)) }
     {
         self.node.unordered(self.alloc)
@@ -60,7 +60,7 @@ impl<M: Sequenced, D: Disk> Kept<M, D> {
 
     /// Whether a proposal would find a slot to cast in.
     pub fn castable(&self) -> bool
-        ensures { (c : Core M.Msg) → StandsFor M.meaning M.stands self.now c →
+        ensures { (c : Core M.Msg) → IsAt M.meaning M.stands self.now c →
             result ≡ is_castable_now (rules_of self.now.setup) M.meaning self.now.me.0 c }
     {
         self.node.castable()
@@ -68,7 +68,7 @@ impl<M: Sequenced, D: Disk> Kept<M, D> {
 
     /// The leaders whose segment the node has not filled, ascending.
     pub fn unfilled(&self) -> Result<Row<NodeId>, NoMemory>
-        ensures { IfOk result (λ leaders. (c : Core M.Msg) → StandsFor M.meaning M.stands self.now c →
+        ensures { IfOk result (λ leaders. (c : Core M.Msg) → IsAt M.meaning M.stands self.now c →
             map (λ l. l.0) leaders ≡ unfilled (rules_of self.now.setup) M.meaning self.now.setup.n self.now.me.0 c.past) }
     {
         self.node.unfilled(self.alloc)
