@@ -5,6 +5,7 @@ ghost use Rattle.std.specs.Prelude.{◌≡◌, ◌↔◌, ℕ, ◌*◌, ◌<◌,
 ghost use Rattle.iss_keys.specs.Signatures.{Verifies};
 ghost use Rattle.iss_keys.specs.Questions.{Question};
 
+use crate::comparing::same_bytes;
 use crate::places::{SET, fill_places, hash_on, put_first, word_at};
 use crate::verification::{PublicKey, verify};
 use std::alloc::{AllocError, Global};
@@ -61,7 +62,7 @@ impl Answer {
         if self.key.root() == key.root()
             && self.key.height() == key.height()
             && self.statement.as_slice() == statement
-            && self.signature.as_slice() == signature
+            && same_bytes(self.signature.as_slice(), signature)
         {
             Some(self.verifies)
         } else {

@@ -12,6 +12,7 @@
 
 mod answers;
 mod chain;
+mod comparing;
 mod digests;
 mod digits;
 mod directories;
