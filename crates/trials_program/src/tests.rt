@@ -1,6 +1,6 @@
 //! The top call over sources and sinks that fail.
 
-use crate::{FailingSink, FailingSource, MemorySink, MemorySource, Script, run};
+use iss_cli::{FailingSink, FailingSource, MemorySink, MemorySource, Script, run};
 use std::alloc::{AllocError, Global};
 use std::test::Fail;
 
