@@ -2,5 +2,6 @@
 //! own is proved twice.
 #![tactic(auto)]
 
+pub mod ends;
 #[cfg(test)]
 mod tests;
