@@ -205,7 +205,7 @@ few : (kind : Kind) (f : ℕ) (faulty : List NodeId) → IsFewFaulty kind f faul
 few Byzantine f faulty h = omega (arith, h)
 few Stopping f faulty h = rw h (omega arith)
 
-fewer : (s : Setup) → IsGoodSetup s → length s.faulty < s.quorum
+pub fewer : (s : Setup) → IsGoodSetup s → length s.faulty < s.quorum
 fewer s good = go (eqb s.«module» 1) refl
   where
     none : (kind : Kind) → kind ≡ Stopping → IsFewFaulty kind s.f s.faulty → s.faulty ≡ []
