@@ -2,12 +2,13 @@
 use Rattle.std.proofs.Common.{arith, ◌≡◌, ℕ, suc, ◌<◌, ◌≤◌, true, false, List, [], ◌∷◌, ◌++◌, nat_lt, eqb, length, refl, sym, ap, ◌∙◌, subst}
 use Rattle.std.proofs.lemmas.Bool.Decides.{nat_tests}
 use Rattle.iss_model.proofs.Casts.{early-sound}
-use Rattle.iss_model.specs.Concrete.{rules_of}
-use Rattle.iss_model.specs.Formats.{formats_of}
-use Rattle.iss_model.specs.Node.{Core, Dropped, Early as Kept_early, Formats, Stepped, at_instance, early_most, keeps_early, rests, settled, takes_message}
-use Rattle.iss_model.specs.Past.{Past}
+use Rattle.iss_rules.specs.Concrete.{rules_of}
+use Rattle.iss_rules.specs.Formats.{formats_of}
+use Rattle.iss_rules.specs.Parcels.{Formats}
+use Rattle.iss_model.specs.Node.{Core, Dropped, Early as Kept_early, Stepped, at_instance, early_most, keeps_early, rests, settled, takes_message}
+use Rattle.iss_rules.specs.Past.{Past}
 use Rattle.iss_model.specs.Sound.{IsSoundCore}
-use Rattle.iss_model.specs.declared.causes.Why.TheVariants.{EarlyFull, OtherEpoch}
+use Rattle.iss_causes.specs.declared.causes.Why.TheVariants.{EarlyFull, OtherEpoch}
 use Rattle.iss_node.proofs.MadeLemmas.{nothing, nothing-made, nothing-sent}
 use Rattle.iss_node.proofs.RequestLemmas.{moved}
 use Rattle.iss_node.specs.Shape.{AreFrom, IsReplica}

@@ -4,9 +4,9 @@ use Rattle.std.specs.Prelude.{is_some}
 use Rattle.std.specs.List.{filter, list_any}
 use Rattle.iss_base.specs.Lists.{In, below}
 use Rattle.iss_log.specs.LogState.{value_at}
-use Rattle.iss_model.specs.Concrete.{rules_of}
-use Rattle.iss_model.specs.Past.{Past, leads_in, params_of, taken_in}
-use Rattle.iss_model.specs.Rules.{Rules}
+use Rattle.iss_rules.specs.Concrete.{rules_of}
+use Rattle.iss_rules.specs.Past.{Past, leads_in, params_of, taken_in}
+use Rattle.iss_rules.specs.Rules.{Rules}
 use Rattle.iss_model.specs.Views.{are_filled, is_unfilled, unfilled}
 use Rattle.iss_node.proofs.CastLemmas.{value-is}
 use Rattle.iss_node.proofs.InstanceLemmas.{leads-is}

@@ -2,7 +2,8 @@
 ghost use Rattle.std.specs.Prelude.{◌≡◌, ◌<◌, ◌≤◌, ◌∷◌, [], IfOk, List, drop, length, take};
 ghost use Rattle.iss_checkpoint.specs.Votes.{voters_of};
 ghost use Rattle.iss_log.specs.Chains.{IsChainOf};
-ghost use Rattle.iss_model.specs.Node.{asking, cert_on, hands_out, Taken as Was_taken, takes_piece};
+ghost use Rattle.iss_rules.specs.Votes.{cert_on};
+ghost use Rattle.iss_model.specs.Node.{asking, hands_out, Taken as Was_taken, takes_piece};
 ghost use Rattle.iss_node.specs.Transfers.{IsAdoptedBy, IsHandedPiece, at_slots, held_slots, held_values};
 ghost use Rattle.iss_request.specs.declared.requests.Value.{Value as Held};
 ghost use Rattle.iss_transfer.specs.Adoption.{adoption};
@@ -13,7 +14,7 @@ use crate::claims::put_own;
 use crate::replica::Replica;
 use iss_ballots::{claims_of_cert, copy_of_cert, pack_ask, pack_piece};
 use iss_checkpoint::Cert;
-use iss_model::{NodeEvent, Why};
+use iss_causes::{NodeEvent, Why};
 use iss_request::{Bytes, Epoch, NoMemory, NodeId, Row, Slot, Value};
 use iss_sb::{Sequenced, To};
 use iss_transfer::{Adoption, Piece, adopt};

@@ -9,7 +9,7 @@ use crate::replica::Replica;
 use iss_ballots::{Taking, claim_of_vote, pack_vote};
 use iss_checkpoint::{Vote, vote_statement};
 use iss_log::End;
-use iss_model::Why;
+use iss_causes::Why;
 use iss_request::{Bytes, Epoch, NoMemory, Row};
 use iss_sb::{Sequenced, To};
 use std::alloc::Global;
