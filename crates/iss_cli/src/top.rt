@@ -15,8 +15,11 @@ use crate::errors::EndError;
 use crate::input::read_up_to;
 use crate::output::write_all;
 use crate::status::Status;
-use iss_theorems::{adopted_was_delivered, certificates_are_of_logs, cluster_runs, requests_are_conserved, runs_end_with_evidence};
 use iss_sb::Sequenced;
+use iss_theorems::{
+    adopted_was_delivered, certificates_are_of_logs, cluster_runs, requests_are_conserved,
+    runs_end_with_evidence,
+};
 use sb_hotstuff::HotStuff;
 use sb_pbft::Pbft;
 use sb_raft::Raft;

@@ -12,10 +12,13 @@ ghost use Rattle.iss_replay.specs.Stands.{StandsForRun, numbered};
 ghost use Rattle.iss_schedule.specs.Events.{AreInRange, IsInRange};
 
 use iss_causes::Why;
-use iss_theorems::{adopted_was_delivered, certificates_are_of_logs, cluster_runs, requests_are_conserved, runs_end_with_evidence};
 use iss_request::{NoMemory, Row};
 use iss_sb::{Claim, Sequenced};
 use iss_schedule::{Event, Schedule};
+use iss_theorems::{
+    adopted_was_delivered, certificates_are_of_logs, cluster_runs, requests_are_conserved,
+    runs_end_with_evidence,
+};
 use iss_world::ends::End;
 use iss_world::{Happened, World};
 use std::alloc::Global;

@@ -12,10 +12,13 @@ ghost use Rattle.iss_world.specs.Stands.{StandsAt};
 
 use crate::replays::Report;
 use iss_causes::Why;
-use iss_theorems::{adopted_was_delivered, certificates_are_of_logs, cluster_runs, requests_are_conserved, runs_end_with_evidence};
 use iss_report::{put_collision, put_drop, put_forged, put_node, put_ok};
 use iss_request::{Bytes, NoMemory, NodeId};
 use iss_sb::Sequenced;
+use iss_theorems::{
+    adopted_was_delivered, certificates_are_of_logs, cluster_runs, requests_are_conserved,
+    runs_end_with_evidence,
+};
 use iss_world::World;
 use iss_world::claims::is_correct;
 use iss_world::ends::End;

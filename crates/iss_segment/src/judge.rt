@@ -12,10 +12,10 @@ ghost use Rattle.iss_window.specs.Kept.{StandsFor};
 ghost use Rattle.iss_window.specs.Window.{is_inside, place_of};
 
 use crate::signatures::is_signed;
+use iss_causes::Refusal;
 use iss_ids::Ids;
 use iss_keys::Directory;
 use iss_layout::Layout;
-use iss_causes::Refusal;
 use iss_request::{NodeId, ReqId, Request, Setup};
 use iss_window::{Place, Windows};
 

@@ -14,10 +14,10 @@ ghost use Rattle.iss_segment.specs.Instance.{IsInstance, SegmentState};
 ghost use Rattle.iss_segment.specs.Marks.{and_marks};
 
 use crate::judge::refusal;
+use iss_causes::Refusal;
 use iss_ids::Ids;
 use iss_keys::Keys;
 use iss_layout::Layout;
-use iss_causes::Refusal;
 use iss_request::{Batch, NoMemory, NodeId, Slot};
 use iss_sb::{Effects, Input, Params, Sequenced, StepError};
 use iss_window::Windows;

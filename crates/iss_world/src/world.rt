@@ -14,14 +14,17 @@ ghost use Rattle.iss_world.specs.Stands.{HasHappened, IsOverOr, IsStaleOr, IsSta
 
 use crate::ends::{Change, End};
 use crate::running::Running;
-use iss_log::Log;
 use iss_causes::Why;
 use iss_cluster::composition;
-use iss_theorems::{adopted_was_delivered, certificates_are_of_logs, cluster_runs, requests_are_conserved, runs_end_with_evidence};
+use iss_log::Log;
 use iss_node::Node;
 use iss_request::{Bytes, Epoch, NoMemory, NodeId, Setup, Value};
 use iss_sb::Sequenced;
 use iss_schedule::Event;
+use iss_theorems::{
+    adopted_was_delivered, certificates_are_of_logs, cluster_runs, requests_are_conserved,
+    runs_end_with_evidence,
+};
 use std::alloc::Global;
 use std::marker::Model;
 

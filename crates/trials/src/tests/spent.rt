@@ -4,8 +4,8 @@ ghost use Rattle.iss_keys.specs.Directories.{AreKeysOf};
 ghost use Rattle.iss_rules.specs.Setups.{IsSetupOf};
 ghost use Rattle.sb_relay.specs.Relay.{relay};
 
-use iss_keys::Keys;
 use iss_causes::{NodeEvent, Why};
+use iss_keys::Keys;
 use iss_node::{Answer, Node};
 use iss_request::{Kind, NoMemory, NodeId, Nodes, Policy, Setup};
 use iss_world::cores::directory_of;
