@@ -6,7 +6,7 @@ use Rattle.iss_request.specs.declared.requests.Request.{Request}
 use Rattle.iss_request.specs.declared.requests.Value.{Value}
 use Rattle.iss_request.specs.declared.errors.NoMemory.{NoMemory}
 use Rattle.iss_report.specs.Text.{node_block, node_line, request_word, request_words, slot_line, slot_lines}
-use Rattle.iss_model.proofs.Linked.{requests-turned}
+use Rattle.iss_log.proofs.LogLemmas.{requests-turned}
 
 pub request_words-append : (xs ys : List Request) → request_words (xs ++ ys) ≡ request_words xs ++ request_words ys
 request_words-append [] ys = refl
