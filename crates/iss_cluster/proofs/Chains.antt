@@ -1,7 +1,8 @@
 -- Chains of digests: where strings are separate, chains of one digest are of one log.
-use Rattle.std.proofs.Common.{◌≡◌, inl, inr, ℕ, List, [], ◌∷◌, length, refl, sym, ap, ap₂, ◌∙◌}
+use Rattle.std.proofs.Common.{◌≡◌, inl, inr, ℕ, List, [], ◌∷◌, ◌++◌, length, refl, sym, ap, ap₂, ◌∙◌, subst}
 use Rattle.std.proofs.lemmas.Bool.Decides.{leb_tells}
-use Rattle.iss_base.specs.Lists.{In, oldest}
+use Rattle.iss_base.specs.Lists.{Extends, In, oldest}
+use Rattle.iss_base.proofs.Lists.{in_right}
 use Rattle.iss_request.specs.Digest.{digest}
 use Rattle.iss_request.specs.declared.requests.Value.{Value}
 use Rattle.iss_sb.specs.Evidence.{Separate}
@@ -34,6 +35,17 @@ chain-injective S exact all sep root (v ∷ a) (u ∷ b) sa sb ia ib h =
     (λ x i. ib x (inr (inr i))) apart.0 in
     let heads : v ≡ u = exact.values v u (sa v (inl refl)) (sb u (inl refl)) (sep _ _ (ia _ (inl refl)) (ib _ (inl refl)) apart.1) in
     ap₂ (λ x xs. x ∷ xs) heads tails
+
+-- what is so of a log is so of its older part
+strings-older : (S : Scheme) (newer log : List Value) (x : List ℕ) → In x (chain_strings S log) → In x (chain_strings S (newer ++ log))
+strings-older S [] log x h = h
+strings-older S (v ∷ newer) log x h = inr (inr (strings-older S newer log x h))
+
+pub hashed-older : (S : Scheme) (all : List (List ℕ)) (log whole : List Value) → Extends log whole → IsHashedLog S all whole → IsHashedLog S all log
+hashed-older S all log whole p h x i = h x (subst (λ (ys : List Value). In x (chain_strings S ys)) (sym p.1) (strings-older S p.0 log x i))
+
+pub spelled-older : (S : Scheme) (log whole : List Value) → Extends log whole → AllSpelled S whole → AllSpelled S log
+spelled-older S log whole p h v i = h v (subst (λ (ys : List Value). In v ys) (sym p.1) (in_right v p.0 log i))
 
 pub strings-oldest : (S : Scheme) (n : ℕ) (xs : List Value) (x : List ℕ) → In x (chain_strings S (oldest n xs)) → In x (chain_strings S xs)
 strings-oldest S n [] x h = h

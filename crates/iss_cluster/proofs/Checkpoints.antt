@@ -1,5 +1,5 @@
 -- The scheme of a set-up is exact: values and links have one spelling each, and each quorum has a correct node.
-use Rattle.std.proofs.Common.{◌≡◌, inl, inr, ℕ, suc, ◌<◌, ◌≤◌, Bool, true, false, ◌&&◌, ◌||◌, not, eqb, leb, List, [], ◌∷◌, ◌++◌, length, append-nil, refl, sym, ap, ◌∙◌, subst, arith, true≢false}
+use Rattle.std.proofs.Common.{◌≡◌, inl, inr, ℕ, suc, ◌≤◌, Bool, true, false, ◌&&◌, ◌||◌, not, eqb, leb, List, [], ◌∷◌, ◌++◌, length, append-nil, refl, sym, ap, ◌∙◌, subst, arith, true≢false}
 use Rattle.std.specs.Prelude.{nat_lt}
 use Rattle.std.proofs.lemmas.Bool.Decides.{leb_tells}
 use Rattle.sha2.proofs.Facts256.{length-sha256}
@@ -10,22 +10,22 @@ use Rattle.iss_base.proofs.Quorum.{count-distinct, count-length, count-less, cou
 use Rattle.iss_request.specs.Digest.{digest}
 use Rattle.iss_request.specs.Fields.{Good, IsBad, Parsed}
 use Rattle.iss_request.specs.Formats.{parse_value, spell_value}
-use Rattle.iss_request.specs.Setup.{IsFewFaulty, IsGoodSetup, quorum_of_kind}
+use Rattle.iss_request.specs.Setup.{IsGoodSetup}
 use Rattle.iss_request.specs.declared.ids.NodeId.{NodeId}
 use Rattle.iss_request.specs.declared.requests.Value.{Value}
-use Rattle.iss_request.specs.declared.setups.Kind.{Kind}
-use Rattle.iss_request.specs.declared.setups.Kind.TheVariants.{Byzantine, Stopping}
 use Rattle.iss_request.specs.declared.setups.Setup.{Setup}
 use Rattle.iss_request.proofs.OneSpelling.{value_grammar}
 use Rattle.iss_sb.specs.Evidence.{Module, Separate, has_node, is_correct}
 use Rattle.iss_sb.specs.Laws.{IsLawful, IsSafe}
 use Rattle.iss_cluster.specs.Checkpoints.{is_good, scheme_of}
 use Rattle.iss_cluster.specs.Cluster.{Cluster, Reach}
-use Rattle.iss_rules.specs.SoundRules.{IsSoundRules}
 use Rattle.iss_cluster.specs.Ordered.{Among, AreChained, IsExact, Ordered}
+use Rattle.iss_rules.specs.SoundRules.{IsSoundRules}
 use Rattle.iss_rules.specs.Past.{before_at, epoch_at, leader_at}
 use Rattle.iss_rules.specs.Rules.{Rules}
 use Rattle.iss_cluster.proofs.Reached.{composition}
+use Rattle.iss_checkpoint.proofs.SignedLemmas.{fewer}
+use Rattle.iss_transfer.proofs.AdoptionLemmas.{good-same, tail-same}
 
 bad-good : (r : Parsed Value) → IsBad r → is_good r ≡ true → ⊥
 bad-good r b h = absurd (true≢false (sym h ∙ ap (λ (t : Parsed Value). is_good t) b.1))
@@ -40,15 +40,9 @@ read-back version v h =
       | inr k ↦ absurd (bad-good (parse_value version bytes) (subst (λ (t : List ℕ). IsBad (parse_value version t)) flat (k [])) h)
     ]
 
-good-same : (v u : Value) (x y : List ℕ) → Good v x ≡ Good u y → v ≡ u
-good-same v u x y h = cc
-
 digest-length : (x : List ℕ) → length (digest x) ≡ 32
 digest-length [] = refl
 digest-length (b ∷ bs) = length-sha256 (b ∷ bs)
-
-tail-same : (a : ℕ) (x y : List ℕ) → a ∷ x ≡ a ∷ y → x ≡ y
-tail-same a x y h = cc
 
 pub are-chained : (s : Setup) → AreChained (scheme_of s)
 are-chained s = record {
@@ -81,28 +75,6 @@ mem-in k (x ∷ xs) h = go (eqb k x) refl h (mem-in k xs)
     go : (b : Bool) → eqb k x ≡ b → (b || mem k xs) ≡ true → (mem k xs ≡ true → In k xs) → In k (x ∷ xs)
     go true q r ih = inl (is-eq k x q)
     go false q r ih = inr (ih r)
-
--- the faulty are fewer than decide
-few : (kind : Kind) (f : ℕ) (faulty : List NodeId) → IsFewFaulty kind f faulty → length faulty < quorum_of_kind kind f
-few Byzantine f faulty h = omega (arith, h)
-few Stopping f faulty h = rw h (omega arith)
-
-fewer : (s : Setup) → IsGoodSetup s → length s.faulty < s.quorum
-fewer s good = go (eqb s.«module» 1) refl
-  where
-    none : (kind : Kind) → kind ≡ Stopping → IsFewFaulty kind s.f s.faulty → s.faulty ≡ []
-    none Byzantine q h = absurd (cc)
-    none Stopping q h = h
-
-    go : (b : Bool) → eqb s.«module» 1 ≡ b → length s.faulty < s.quorum
-    go true q =
-        let is : s.«module» ≡ 1 = is-eq s.«module» 1 q in
-        let two : s.quorum ≡ 2 = rw q at good.majority in
-        let empty : length s.faulty ≡ 0 = ap (λ (t : List NodeId). length t) (none s.kind (good.relay_kind is) good.few_faulty) in
-        omega (arith, two, empty)
-    go false q =
-        let more : s.quorum ≡ quorum_of_kind s.kind s.f = rw q at good.majority in
-        rw more (few s.kind s.f s.faulty good.few_faulty)
 
 pub quorums : (s : Setup) → IsGoodSetup s → (ks : List ℕ) → (scheme_of s).is_quorum ks ≡ true → (k : ℕ) × In k ks × (is_correct s k ≡ true)
 quorums s good ks h =

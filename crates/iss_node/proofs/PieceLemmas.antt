@@ -29,6 +29,7 @@ use Rattle.iss_transfer.specs.Adoption.{adopted_log, adoption, log_before, said_
 use Rattle.iss_transfer.specs.declared.adopting.Adoption.{Adoption}
 use Rattle.iss_transfer.specs.declared.adopting.Adoption.TheVariants.{Adopt, BadCert, WrongChain, WrongEpoch}
 use Rattle.iss_transfer.specs.declared.pieces.Piece.{Piece}
+use Rattle.iss_segment.proofs.MarksLemmas.{not-large}
 
 -- what is found, by three tests, and the step that a finding means
 abbrev found_by : Bool → Bool → Bool → End → End → List (List ℕ) → Adoption
@@ -57,9 +58,6 @@ tests-meet {Msg} late far same shape cert chain t ours theirs hashed h k = rw (h
 
 ahead-is : (a b : ℕ) → nat_lt a b ≡ false → nat_lt b a ≡ not (eqb a b)
 ahead-is a b h = grind (arith, nat_tests)
-
-not-behind : (a b : ℕ) → b ≤ a → nat_lt a b ≡ false
-not-behind a b h = grind (arith, nat_tests)
 
 module _ {M Msg : Type 0} (m : Module Msg) (stands : M → Params → ℕ → List (Item Msg) → Type 0) (v : ReplicaState M Msg) (p : Piece) (c : Core Msg) (h : AreHeld m stands v c) where
   abbrev F : Formats Msg
@@ -100,7 +98,7 @@ module _ {M Msg : Type 0} (m : Module Msg) (stands : M → Params → ℕ → Li
     step-found : takes_piece F R m v.me.0 c p ≡ step_by (Taken turn) (adoption v.setup own (reverse log) c.past.epoch p)
     step-found =
         let e = c.past.epoch in
-        let late : nat_lt p.epoch.0 e ≡ false = not-behind p.epoch.0 e (subst (λ (k : ℕ). k ≤ p.epoch.0) h.parts.tied.epoch timely) in
+        let late : nat_lt p.epoch.0 e ≡ false = not-large p.epoch.0 e (subst (λ (k : ℕ). k ≤ p.epoch.0) h.parts.tied.epoch timely) in
         let mine = has_shape R (before_own R m v.me.0 c.past) e p in
         let chain : same_end ours (said_in p.cert) ≡ leads_to R (before_own R m v.me.0 c.past) p = ap (λ (z : End). same_end z (said_in p.cert)) (end-same v.setup log e p far) in
         tests-meet (nat_lt p.epoch.0 e) (nat_lt e p.epoch.0) (eqb p.epoch.0 e) mine (is_true_cert R p.cert) (leads_to R (before_own R m v.me.0 c.past) p) (Taken turn) ours (said_in p.cert) hashed late

@@ -68,7 +68,8 @@ impl<M: Sequenced> Replica<M> {
 
     // Puts a request at the end of those that wait, unless it waits.
     fn wait(&mut self, request: Request) -> Result<(), NoMemory>
-        ensures ok { OnOk result (has_id request.id (ids self.old.waiting) ≡ false → self.new ≡ record self.old { waiting = self.old.waiting ++ request ∷ [] }) }
+        ensures ok { OnOk result (has_id request.id (ids self.old.waiting) ≡ false →
+            self.new ≡ record self.old { waiting = self.old.waiting ++ request ∷ [] }) }
         ensures rest { self.new ≡ record self.old { waiting = self.new.waiting } }
     {
         let _added = self.waiting.add(request)?;

@@ -30,7 +30,8 @@ use std::alloc::Global;
 pub fn text<M: Sequenced>(alloc: Global, report: &Report<M>) -> Result<Bytes, NoMemory>
     ensures tells { IfOk result (λ bytes. (p : Progress M.Msg) → StandsForRun M.meaning M.stands report.now.world report.now.drops report.now.ended p →
         bytes ≡ text_of report.now.world.running.setup M.meaning p) }
-    ensures reports { IfOk result (λ bytes. IsSetupOf M.meaning report.now.world.running.setup → (events : List Event) → AreInRange report.now.world.running.setup events →
+    ensures reports { IfOk result (λ bytes. IsSetupOf M.meaning report.now.world.running.setup →
+        (events : List Event) → AreInRange report.now.world.running.setup events →
         StandsForRun M.meaning M.stands report.now.world report.now.drops report.now.ended (run_after report.now.world.running.setup M.meaning events) →
         IsReport report.now.world.running.setup M.meaning events bytes) }
 {

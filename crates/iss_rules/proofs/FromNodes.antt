@@ -37,7 +37,8 @@ routed version n bytes p = go (parse_packet version n bytes) refl
     go (Good q (b ∷ rest)) e h = absurd (none-some p h)
     go (Bad at) e h = absurd (none-some p h)
 
-sender : (n : ℕ) (p : Packet) → p.kind ≡ Message → is_routed n p ≡ true → p.from < n
+-- a module's message comes under a node's name
+pub sender : (n : ℕ) (p : Packet) → p.kind ≡ Message → is_routed n p ≡ true → p.from < n
 unfolding is_routed
 sender n p q h =
     let k : (nat_lt p.from n && nat_lt p.leader n) ≡ true = subst (λ (z : PacketKind). is_routed_as n z p.from p.epoch.0 p.leader ≡ true) q h in

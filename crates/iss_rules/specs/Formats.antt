@@ -27,7 +27,8 @@ abbrev pub packet_as : {Msg : Type 0} → Module Msg → ℕ → ℕ → ℕ →
 packet_as M version from e (OfModule l msg) =
     record { kind = Message; from = from; epoch = record { 0 = e }; leader = l; body = M.spell version msg }
 packet_as M version from e (OfVote v) = record { kind = Vote; from = from; epoch = record { 0 = e }; leader = 0; body = spell_vote v }
-packet_as M version from e OfAsk = record { kind = Ask; from = from; epoch = record { 0 = e }; leader = 0; body = spell_ask (record { epoch = record { 0 = e } }) }
+packet_as M version from e OfAsk =
+    record { kind = Ask; from = from; epoch = record { 0 = e }; leader = 0; body = spell_ask (record { epoch = record { 0 = e } }) }
 packet_as M version from e (OfPiece p) = record { kind = Piece; from = from; epoch = record { 0 = e }; leader = 0; body = spell_piece version p }
 packet_as M version from e (OfRequest q) = record { kind = Asked; from = from; epoch = record { 0 = e }; leader = 0; body = spell_request q }
 

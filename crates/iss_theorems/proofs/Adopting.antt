@@ -2,7 +2,7 @@
 -- other's claim, and vote; the third adopts the epoch under a certificate that the faulty one signed too.
 use Rattle.std.proofs.Common.{◌≡◌, inl, inr, ℕ, true, cond, List, [], ◌∷◌, ◌++◌, Option, Some, None, refl, sym, ap, ◌∙◌, subst, true≢false, arith}
 use Rattle.sha2.specs.Sha256.{compress, digest_bytes, first_words, hash_after, rounds, schedule, sha256}
-use Rattle.iss_base.specs.Lists.{In, over, set_at}
+use Rattle.iss_base.specs.Lists.{Extends, In, over, set_at}
 use Rattle.iss_base.proofs.Lists.{first-cases, in_append, in_right, set_at-other, set_at-same, some-injective}
 use Rattle.iss_request.specs.Formats.{parse_rest, parse_value, spell_value}
 use Rattle.iss_request.specs.Parsing.{◌>>=◌, byte, done, such_that}
@@ -32,6 +32,7 @@ use Rattle.iss_cluster.specs.Ordered.{Among, Ordered}
 use Rattle.iss_rules.specs.Rules.{Rules}
 use Rattle.iss_rules.specs.Setups.{IsSetupOf}
 use Rattle.iss_model.specs.Run.{as_signed, collision_in}
+use Rattle.iss_cluster.proofs.Chains.{hashed-older, spelled-older}
 use Rattle.iss_cluster.proofs.Checkpoints.{exact-of}
 use Rattle.iss_rules.proofs.Layouts.{own-verifies, sound-rules}
 use Rattle.iss_cluster.proofs.Reached.{composition}
@@ -165,15 +166,10 @@ strings = over (chain_strings S nils) ([] ∷ [])
 
 -- a part of the log's strings
 abbrev IsPart : List Value → Type 0
-IsPart log = (newer : List Value) × (nils ≡ newer ++ log)
+IsPart log = Extends log nils
 
-part-strings : (newer log : List Value) (x : List ℕ) → In x (chain_strings S log) → In x (chain_strings S (newer ++ log))
-part-strings [] log x h = h
-part-strings (v ∷ newer) log x h = inr (inr (part-strings newer log x h))
-
-hashed-part : (log : List Value) → IsPart log → IsHashedLog S strings log
-hashed-part log p x h =
-    over-new x (chain_strings S nils) ([] ∷ []) (subst (λ (ys : List Value). In x (chain_strings S ys)) (sym p.1) (part-strings p.0 log x h))
+nils-hashed : IsHashedLog S strings nils
+nils-hashed x h = over-new x (chain_strings S nils) ([] ∷ []) h
 
 nil-spelled : S.spells Nil ≡ true
 unfolding parse_value parse_rest spell_value ◌>>=◌ such_that byte done
@@ -185,9 +181,6 @@ nils-spelled v (inr (inl q)) = rw q nil-spelled
 nils-spelled v (inr (inr (inl q))) = rw q nil-spelled
 nils-spelled v (inr (inr (inr (inl q)))) = rw q nil-spelled
 nils-spelled v (inr (inr (inr (inr none)))) = absurd none
-
-spelled-part : (log : List Value) → IsPart log → AllSpelled S log
-spelled-part log p v h = nils-spelled v (subst (λ (ys : List Value). In v ys) (sym p.1) (in_right v p.0 log h))
 
 -- the cluster after a move, after an end with a vote, and after an adoption
 
@@ -243,8 +236,8 @@ moves w r i l input correct leads may judged part =
         old_book = λ x h. in_right x (as_signed (own_claims nodding p i sends)) w.book h;
         fresh_strings = λ x h. no-strings i l (w.pasts i) input x h;
         strings = λ x h. rw r.same at h;
-        hashed = rw here (hashed-part (log_of R nodding i (takes R nodding i (w.pasts i) l input 0)) part);
-        spelled = rw here (spelled-part (log_of R nodding i (takes R nodding i (w.pasts i) l input 0)) part);
+        hashed = rw here (hashed-older S strings (log_of R nodding i (takes R nodding i (w.pasts i) l input 0)) nils part nils-hashed);
+        spelled = rw here (spelled-older S (log_of R nodding i (takes R nodding i (w.pasts i) l input 0)) nils part nils-spelled);
       });
       same = refl;
     }
@@ -261,8 +254,8 @@ votes w r i correct complete part =
         other = λ j ne. set_at-other w.pasts i _ j ne;
         quiet = record { messages = λ st k h. absurd h; old_book = λ x h. inr h; strings = λ x h. rw r.same at h };
         book = λ x h. elim h [ inl q ↦ inr (ap (λ (y : Signed). y.by) q, ap (λ (y : Signed). y.statement) q) | inr k ↦ inl k ];
-        hashed = rw here (hashed-part (log_of R nodding i (advanced (w.pasts i))) part);
-        spelled = rw here (spelled-part (log_of R nodding i (advanced (w.pasts i))) part);
+        hashed = rw here (hashed-older S strings (log_of R nodding i (advanced (w.pasts i))) nils part nils-hashed);
+        spelled = rw here (spelled-older S (log_of R nodding i (advanced (w.pasts i))) nils part nils-spelled);
       });
       same = refl;
     }
@@ -385,13 +378,13 @@ the-adoption = record {
     | inr m ↦ elim m [ inl q ↦ rw q (inl refl) | inr n ↦ elim n [ inl q ↦ absurd (third-votes k q ok) | inr none ↦ absurd none ] ]
   ];
   chained = refl;
-  piece_hashed = hashed-part nils ([], refl);
+  piece_hashed = nils-hashed;
   piece_spelled = nils-spelled;
   here = refl;
   other = λ j ne. set_at-other w10.pasts 2 (adopts (w10.pasts 2) piece) j ne;
   quiet = record { messages = λ st k h. absurd h; old_book = λ x h. h; strings = λ x h. h };
   book = λ x h. h;
-  hashed = hashed-part nils ([], refl);
+  hashed = nils-hashed;
   spelled = nils-spelled;
 }
 

@@ -1,12 +1,10 @@
 -- What the steps hash of logs is what chains are made of.
-use Rattle.std.proofs.Common.{◌≡◌, ◌⊎◌, inl, inr, ℕ, ◌+◌, List, [], ◌∷◌, length, reverse, refl, sym, ap, ◌∙◌, subst, arith}
+use Rattle.std.proofs.Common.{◌≡◌, ◌⊎◌, inl, inr, ℕ, List, [], ◌∷◌, length, reverse, refl, sym, ap, ◌∙◌, subst}
 use Rattle.iss_base.specs.Lists.{Extends, In, over}
 use Rattle.iss_base.proofs.Lists.{in_left, in_right}
 use Rattle.iss_log.specs.Chains.{chain_of, linked, strings_from, strings_of, value_link}
 use Rattle.iss_log.proofs.ChainLemmas.{chain-append}
-use Rattle.iss_log.proofs.LogLemmas.{requests_more}
 use Rattle.iss_request.specs.Digest.{digest}
-use Rattle.iss_request.specs.Log.{requests, size_of}
 use Rattle.iss_request.specs.declared.requests.Value.{Value}
 use Rattle.iss_request.specs.declared.setups.Setup.{Setup}
 use Rattle.iss_cluster.specs.Checkpoints.{scheme_of}
@@ -14,14 +12,6 @@ use Rattle.iss_cluster.specs.Cluster.{chain, chain_strings}
 use Rattle.iss_model.specs.Node.{joined}
 use Rattle.iss_model.proofs.Casts.{joined-newer}
 use Rattle.iss_rules.proofs.Reversed.{newest-last, over-turned}
-
-pub requests-turned : (log : List Value) → requests (reverse log) ≡ requests log
-requests-turned [] = refl
-requests-turned (v ∷ older) =
-    let ih = requests-turned older in
-    ap (λ (t : List Value). requests t) (newest-last v older) ∙
-    (requests_more (reverse older) v ∙
-    (let sum : requests (reverse older) + size_of v ≡ size_of v + requests older = omega (arith, ih) in sum))
 
 module _ (s : Setup) where
   -- the chain of a log

@@ -19,7 +19,8 @@ use Rattle.iss_model.specs.Node.{leads_to}
 use Rattle.iss_rules.specs.Rules.{Rules}
 use Rattle.iss_rules.specs.Setups.{IsSetupOf}
 use Rattle.iss_rules.proofs.Layouts.{signed-spelled}
-use Rattle.iss_theorems.proofs.Linked.{chain-is, requests-turned}
+use Rattle.iss_log.proofs.LogLemmas.{requests-turned}
+use Rattle.iss_theorems.proofs.Linked.{chain-is}
 
 -- the rules chain logs and vote for them as the set-up has it, and what they count as signed has a spelling
 pub record IsVoting (s : Setup) (R : Rules) : Type 0 where

@@ -22,6 +22,7 @@ use Rattle.iss_request.specs.declared.requests.Value.{Value}
 use Rattle.iss_request.specs.declared.setups.Setup.{Setup}
 use Rattle.iss_schedule.specs.Events.{AreInRange, IsInRange}
 use Rattle.iss_schedule.specs.declared.schedules.Event.{Event}
+use Rattle.iss_schedule.proofs.Fronts.{in_range_push}
 use Rattle.iss_sb.specs.declared.effects.Params.{Params}
 use Rattle.iss_sb.specs.Evidence.{Item, Module}
 use Rattle.iss_world.specs.Headline.{AgreeOnNumbers, IsAnswered, IsHeadline, StandsAfter}
@@ -36,10 +37,6 @@ run-append : {Msg : Type 0} (m : Module Msg) (s : Setup) (F : Formats Msg) (R : 
     run s F R m p (es ++ fs) ≡ run s F R m (run s F R m p es) fs
 run-append m s F R p [] fs = refl
 run-append m s F R p (e ∷ es) fs = run-append m s F R (goes_further p.ended s F R m p e) es fs
-
-in-range-more : (s : Setup) (es : List Event) (e : Event) → AreInRange s es → IsInRange s e → AreInRange s (es ++ e ∷ [])
-in-range-more s [] e h k = (k, tt)
-in-range-more s (x ∷ es) e h k = (h.0, in-range-more s es e h.1 k)
 
 module _ {M Msg : Type 0} (m : Module Msg) (stands : M → Params → ℕ → List (Item Msg) → Type 0) (s : Setup) where
   run-more : (es : List Event) (e : Event) → run_after s m (es ++ e ∷ []) ≡ goes_further (run_after s m es).ended s (formats_of s m) (rules_of s) m (run_after s m es) e
@@ -103,4 +100,4 @@ module _ {M Msg : Type 0} (m : Module Msg) (stands : M → Params → ℕ → Li
   pub headline-more : (v : WorldState M Msg) (es : List Event) (e : Event) (x : Happened) → AreInRange s es → IsInRange s e →
       HasHappened m stands v (run_after s m es) (goes_further (run_after s m es).ended s (formats_of s m) (rules_of s) m (run_after s m es) e) x → IsAnswered x →
       IsHeadline s m stands v (es ++ e ∷ [])
-  headline-more v es e x range inside h a = headline-of v (es ++ e ∷ []) (in-range-more s es e range inside) (stands-more m stands s v es e x h a)
+  headline-more v es e x range inside h a = headline-of v (es ++ e ∷ []) (in_range_push s es e range inside) (stands-more m stands s v es e x h a)

@@ -10,8 +10,8 @@ use Rattle.iss_model.specs.Run.{Happening, Held, after_step, by_forged, collisio
 use Rattle.iss_node.specs.State.{NodeState, Stands}
 use Rattle.iss_request.specs.declared.setups.Setup.{Setup}
 use Rattle.iss_sb.specs.declared.effects.Claim.{Claim}
-use Rattle.iss_sb.specs.declared.effects.Params.{Params}
-use Rattle.iss_sb.specs.Evidence.{Item, Module}
+use Rattle.iss_sb.specs.Evidence.{Module}
+use Rattle.iss_sb.specs.Calls.{Relation}
 use Rattle.iss_world.specs.Books.{AreHashed, AreSigned}
 use Rattle.iss_world.specs.State.{RunningState}
 
@@ -30,7 +30,7 @@ ends_by s signed hashed early strings = first_of (forged_in (first_forged s (rul
 
 -- core c has taken a turn, of which nothing is tested, booked or posted yet: all else stands for what is held, where the core
 -- had so many slots, and was in this epoch
-pub record IsBehind {M Msg : Type 0} (m : Module Msg) (stands : M → Params → ℕ → List (Item Msg) → Type 0)
+pub record IsBehind {M Msg : Type 0} (m : Module Msg) (stands : Relation M Msg)
     (v : RunningState M Msg) (h : Held Msg) (c : ℕ) (t : Turn Msg) (slots at : ℕ) : Type 0 where
   pub cores : (i : ℕ) (g : NodeState M Msg) → slice_get v.nodes i ≡ Some g → Stands m stands g (set_at h.net.cores c t.core i)
   pub network : v.network ≡ h.net.network

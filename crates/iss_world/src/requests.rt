@@ -24,8 +24,8 @@ pub fn request_packet<M: Sequenced>(
     requires client { id.client < setup.now.clients }
     requires leaf { id.number < 2 ^ setup.now.keys }
     requires payload { length payload.now ≤ 256 }
-    ensures { IfOk result (λ bytes.
-        bytes ≡ (formats_of setup.now M.meaning).wrap (record { from = 255; epoch = 0; body = OfRequest (request_of setup.now id.client id.number payload.now) })) }
+    ensures { IfOk result (λ bytes. bytes ≡ (formats_of setup.now M.meaning).wrap
+        (record { from = 255; epoch = 0; body = OfRequest (request_of setup.now id.client id.number payload.now) })) }
 {
     let keys = directory.keys_of_client(alloc, id.client);
     let request = Request {

@@ -50,7 +50,8 @@ impl<M: Sequenced> Model for Running<M> {
 
     ghost view = { λ w. record { setup = w.setup; nodes = w.nodes.items; network = w.network; signed = w.signed; hashed = w.hashed } };
 
-    ghost invariant = { λ w. IsRunning M.meaning (record { setup = w.setup; nodes = w.nodes.items; network = w.network; signed = w.signed; hashed = w.hashed }) × (w.directory ≡ keys_of w.setup) };
+    ghost invariant = { λ w. IsRunning M.meaning
+        (record { setup = w.setup; nodes = w.nodes.items; network = w.network; signed = w.signed; hashed = w.hashed }) × (w.directory ≡ keys_of w.setup) };
 }
 
 impl<M: Sequenced> Running<M> {

@@ -141,7 +141,8 @@ impl<M: Sequenced> Running<M> {
         requires addressed { AreToNodes self.old.setup.n outcome.now.sends }
         requires slots { (g : NodeState M M.Msg) → slice_get self.old.nodes core ≡ Some g → slots ≤ length g.parts.log.entries }
         requires epoch { (g : NodeState M M.Msg) → slice_get self.old.nodes core ≡ Some g → epoch.0 ≤ g.parts.epoch }
-        ensures happened { IfOk result (λ r. (h : Held M.Msg) (t : Turn M.Msg) → IsBehind M.meaning M.stands self.old h core t slots epoch.0 → IsMade t outcome.now →
+        ensures happened { IfOk result (λ r. (h : Held M.Msg) (t : Turn M.Msg) →
+            IsBehind M.meaning M.stands self.old h core t slots epoch.0 → IsMade t outcome.now →
             HasChanged M.meaning M.stands self.new (stepped_to self.old.setup h core (Taken t)) r) }
         ensures same { self.new.setup ≡ self.old.setup }
     {

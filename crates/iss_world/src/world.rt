@@ -103,9 +103,11 @@ impl<M: Sequenced> World<M> {
         requires { IsInRange self.old.running.setup event.now }
         ensures happened { (p : Progress M.Msg) → StandsAt M.meaning M.stands self.old p →
             HasHappened M.meaning M.stands self.new p
-            (goes_further p.ended self.old.running.setup (formats_of self.old.running.setup M.meaning) (rules_of self.old.running.setup) M.meaning p event.now) result }
-        ensures headline { (events : List Happens) → AreInRange self.old.running.setup events → StandsAfter self.old.running.setup M.meaning M.stands self.old events →
-            IsAnswered result → IsHeadline self.old.running.setup M.meaning M.stands self.new (events ++ event.now ∷ []) }
+            (goes_further p.ended self.old.running.setup (formats_of self.old.running.setup M.meaning)
+            (rules_of self.old.running.setup) M.meaning p event.now) result }
+        ensures headline { (events : List Happens) → AreInRange self.old.running.setup events →
+            StandsAfter self.old.running.setup M.meaning M.stands self.old events → IsAnswered result →
+            IsHeadline self.old.running.setup M.meaning M.stands self.new (events ++ event.now ∷ []) }
         ensures stale { IsStaleOr self.old self.new result }
         ensures over { IsOverOr self.old self.new }
         ensures same { self.new.running.setup ≡ self.old.running.setup }
