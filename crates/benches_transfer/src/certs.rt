@@ -19,7 +19,7 @@ pub struct Signers {
 }
 
 /// The keys that sign, of which no leaf is used.
-pub(crate) fn signers(alloc: Global, height: u8) -> Result<Signers, Fail>
+pub(crate) fn keys_that_sign(alloc: Global, height: u8) -> Result<Signers, Fail>
     requires low { 2 ≤ height }
     requires high { height ≤ 12 }
 {

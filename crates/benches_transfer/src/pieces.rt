@@ -1,7 +1,7 @@
 //! The pieces of a log that two nodes have certified, epoch by epoch.
 
 use crate::batches::values_of;
-use crate::certs::{Signers, cert_of, client_signature, packet_of, signers};
+use crate::certs::{Signers, cert_of, client_signature, keys_that_sign, packet_of};
 use crate::clusters::HEIGHT;
 use bench_digests::digests::{Digests, digests_of_one_check};
 use iss_checkpoint::{Cert, vote_statement};
@@ -115,7 +115,7 @@ fn put_all(
     made: &mut Made,
 ) -> Result<(), Fail> {
     let sig = client_signature(alloc, HEIGHT)?;
-    let mut signers = signers(alloc, HEIGHT)?;
+    let mut signers = keys_that_sign(alloc, HEIGHT)?;
     let mut end = empty_end();
     for epoch in 0..epochs {
         let values = values_of(alloc, &sig, epoch, requests)?;
