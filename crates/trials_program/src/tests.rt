@@ -1,0 +1,75 @@
+//! The top call over sources and sinks that fail.
+
+use crate::ends::{status_of_sink, status_of_source};
+use iss_cli::{FailingSink, FailingSource, MemorySink, MemorySource, Script, run};
+use std::alloc::{AllocError, Global};
+use std::test::Fail;
+
+const INPUT: &[u8] =
+    b"iss 1\nmodule relay\nf 0\nepoch 3\nbuckets 3\nbatch 4\nwindow 8\npolicy simple\nclients 1\nkeys 4\nfaulty none\n";
+
+const TEXT: &[u8] =
+    b"node 0 epoch 0 slots 0 requests 0\nnode 1 epoch 0 slots 0 requests 0\nnode 2 epoch 0 slots 0 requests 0\nend ok\n";
+
+// How many calls of 16 bytes read the input, the last of which finds the end; and how many put the text.
+const READS: u64 = 8;
+
+const PUTS: u64 = 7;
+
+fn words(alloc: Global, command: &str) -> Result<Vec<String>, AllocError> {
+    let program = String::from_str(alloc, "iss")?;
+    Ok(vec![in alloc; program, String::from_str(alloc, command)?]?)
+}
+
+fn failing_at(alloc: Global, call: u64) -> Result<Script, AllocError> {
+    Ok(Script::new(vec![in alloc; call]?))
+}
+
+#[test]
+fn words_are_met_first(rt: HostRuntime) -> Result<(), Fail> {
+    let mut input = FailingSource::new(Vec::new(rt.alloc()), 1, failing_at(rt.alloc(), 0)?);
+    let mut out = MemorySink::new(rt.alloc());
+    let status = run(
+        rt.alloc(),
+        &words(rt.alloc(), "jump")?,
+        &mut input,
+        &mut out,
+    );
+    assert_eq!(rt; status.code(), 2);
+    assert_eq!(rt; out.held(), b"refused words\n".as_slice());
+    Ok(())
+}
+
+#[test]
+fn a_source_fails_at_each_call(rt: HostRuntime) -> Result<(), Fail> {
+    let words = words(rt.alloc(), "replay")?;
+    for call in 0..=READS {
+        let script = failing_at(rt.alloc(), call)?;
+        let mut input = FailingSource::new(Vec::from_slice(rt.alloc(), INPUT)?, 16, script);
+        let mut out = MemorySink::new(rt.alloc());
+        let status = run(rt.alloc(), &words, &mut input, &mut out);
+        let text = if call < READS {
+            b"".as_slice()
+        } else {
+            TEXT
+        };
+        assert_eq!(rt; status.code(), status_of_source(call, READS), "at call {call}");
+        assert_eq!(rt; out.held(), text, "at call {call}");
+    }
+    Ok(())
+}
+
+#[test]
+fn a_sink_fails_at_each_call(rt: HostRuntime) -> Result<(), Fail> {
+    let words = words(rt.alloc(), "replay")?;
+    for call in 0..=PUTS {
+        let script = failing_at(rt.alloc(), call)?;
+        let mut input = MemorySource::new(Vec::from_slice(rt.alloc(), INPUT)?);
+        let mut out = FailingSink::new(rt.alloc(), 16, script);
+        let status = run(rt.alloc(), &words, &mut input, &mut out);
+        let part = TEXT.len().min(16 * call as usize);
+        assert_eq!(rt; status.code(), status_of_sink(call, PUTS), "at call {call}");
+        assert_eq!(rt; out.held(), &TEXT[..part], "at call {call}");
+    }
+    Ok(())
+}
