@@ -1,14 +1,15 @@
 //! A node catches up.
-ghost use Rattle.iss_model.specs.Runs.{IsSetupOf};
+ghost use Rattle.iss_rules.specs.Setups.{IsSetupOf};
 ghost use Rattle.sb_relay.specs.Relay.{relay};
 
 use crate::clusters::{late_node, setup};
 use crate::costs::{Costs, NONE_YET, print_costs, time_strings};
 use crate::pieces::{Made, pieces_of};
 use bench_digests::digests::{nanos_since, time_digests};
-use iss_model::NodeEvent;
+use iss_causes::NodeEvent;
 use iss_node::Node;
 use iss_request::{Bytes, Setup};
+use iss_world::cores::directory_of;
 use sb_relay::Relay;
 use std::alloc::Global;
 use std::test::Fail;
@@ -92,10 +93,18 @@ fn best_of(rt: &HostRuntime, setup: &Setup, made: &Made, rounds: u32) -> Result<
     Ok(costs)
 }
 
-// Catching up over so many epochs, with so many requests in each batch.
+// The pieces of so many epochs, with so many requests in each batch.
+fn made_for(alloc: Global, setup: &Setup, epochs: u32, requests: u32) -> Result<Made, Fail>
+    requires { IsSetupOf relay setup.now }
+{
+    let shared = directory_of(alloc, setup)?;
+    pieces_of(alloc, shared.directory(), setup, epochs, requests)
+}
+
+// Catching up over so many epochs behind a first one.
 fn time_epochs(rt: &HostRuntime, epochs: u32, requests: u32, rounds: u32) -> Result<(), Fail> {
     let setup = setup(rt.alloc());
-    let made = pieces_of(rt.alloc(), &setup, epochs.saturating_add(1), requests)?;
+    let made = made_for(rt.alloc(), &setup, epochs.saturating_add(1), requests)?;
     let costs = best_of(rt, &setup, &made, rounds)?;
     print_costs(rt, epochs, requests, costs)
 }
@@ -141,6 +150,6 @@ fn count_made(rt: &HostRuntime, setup: &Setup, made: &Made) -> Result<(), Fail>
 /// A node catches up over so many epochs, with so many requests in each batch, and what came of it is printed.
 pub(crate) fn count(rt: &HostRuntime, epochs: u32, requests: u32) -> Result<(), Fail> {
     let setup = setup(rt.alloc());
-    let made = pieces_of(rt.alloc(), &setup, epochs, requests)?;
+    let made = made_for(rt.alloc(), &setup, epochs, requests)?;
     count_made(rt, &setup, &made)
 }

@@ -1,7 +1,7 @@
 //! The cluster of a node that is behind.
 ghost use Rattle.std.specs.Prelude.{◌≡◌};
-ghost use Rattle.iss_model.specs.Concrete.{keys_of};
-ghost use Rattle.iss_model.specs.Runs.{IsSetupOf};
+ghost use Rattle.iss_rules.specs.Concrete.{keys_of};
+ghost use Rattle.iss_rules.specs.Setups.{IsSetupOf};
 ghost use Rattle.sb_relay.specs.Relay.{relay};
 
 use iss_keys::SharedDirectory;

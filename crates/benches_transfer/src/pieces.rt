@@ -5,6 +5,7 @@ use crate::certs::{Signers, cert_of, client_signature, keys_that_sign, packet_of
 use crate::clusters::HEIGHT;
 use bench_digests::digests::{Digests, digests_of_one_check};
 use iss_checkpoint::{Cert, vote_statement};
+use iss_keys::Directory;
 use iss_log::{End, link};
 use iss_request::{Bytes, NoMemory, Row, Setup, Value};
 use std::alloc::Global;
@@ -41,17 +42,19 @@ fn empty_end() -> End {
 // What stands for the log with this value behind it.
 fn join_one(
     alloc: Global,
+    directory: &Directory,
     version: u8,
     end: &End,
     value: &Value,
     strings: &mut Row<Bytes>,
 ) -> Result<End, NoMemory> {
-    link(alloc, version, end, value, strings)
+    link(alloc, directory, version, end, value, strings)
 }
 
 // And with all of these.
 fn join(
     alloc: Global,
+    directory: &Directory,
     version: u8,
     end: End,
     values: &[Value],
@@ -59,7 +62,7 @@ fn join(
 ) -> Result<End, NoMemory> {
     let mut end = end;
     for value in values {
-        end = join_one(alloc, version, &end, value, strings)?;
+        end = join_one(alloc, directory, version, &end, value, strings)?;
     }
     Ok(end)
 }
@@ -86,6 +89,7 @@ fn certify(
 // The piece of one epoch more is put behind the others. Answers what then stands for the log.
 fn put_epoch(
     alloc: Global,
+    directory: &Directory,
     setup: &Setup,
     signers: &mut Signers,
     epoch: u64,
@@ -95,6 +99,7 @@ fn put_epoch(
 ) -> Result<End, Fail> {
     let end = join(
         alloc,
+        directory,
         setup.version,
         end,
         values.as_slice(),
@@ -109,6 +114,7 @@ fn put_epoch(
 // The pieces of so many epochs, with so many requests in each batch, are put there.
 fn put_all(
     alloc: Global,
+    directory: &Directory,
     setup: &Setup,
     epochs: u32,
     requests: u32,
@@ -121,6 +127,7 @@ fn put_all(
         let values = values_of(alloc, &sig, epoch, requests)?;
         end = put_epoch(
             alloc,
+            directory,
             setup,
             &mut signers,
             u64::from(epoch),
@@ -132,14 +139,15 @@ fn put_all(
     Ok(())
 }
 
-/// Those of so many epochs, with so many requests in each batch.
+/// Those of so many epochs, with so many requests in each batch. The directory remembers what is hashed for them, so it is none that the adopter has.
 pub(crate) fn pieces_of(
     alloc: Global,
+    directory: &Directory,
     setup: &Setup,
     epochs: u32,
     requests: u32,
 ) -> Result<Made, Fail> {
     let mut made = nothing(alloc);
-    put_all(alloc, setup, epochs, requests, &mut made)?;
+    put_all(alloc, directory, setup, epochs, requests, &mut made)?;
     Ok(made)
 }
