@@ -4,7 +4,7 @@ use Rattle.bench_digests.specs.declared.digests.Best.{Best}
 use Rattle.bench_digests.specs.declared.digests.Digests.{Digests}
 
 -- of each length both, as far as a number of four bytes goes
-pub together : Digests → Digests → Digests
+unfoldable pub together : Digests → Digests → Digests
 together a b =
     record {
       short = min (a.short + b.short) (2 ^ 32 - 1);
@@ -13,5 +13,5 @@ together a b =
     }
 
 -- the lesser times
-pub better : Best → ℕ → ℕ → Best
+unfoldable pub better : Best → ℕ → ℕ → Best
 better b work digests = record { work = min b.work work; digests = min b.digests digests }

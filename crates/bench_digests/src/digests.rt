@@ -28,7 +28,7 @@ pub struct Digests {
 
 impl Digests {
     /// These and the others, of each length no more than 2^32 - 1.
-    #[tactic(auto, unfolding(together))]
+    #[tactic(auto, unfolding(crate::specs::Counts::together))]
     pub fn and(self, others: Digests) -> Digests
         ensures { result ≡ together self others }
     {
@@ -49,7 +49,7 @@ pub struct Best {
 
 impl Best {
     /// The better of these times and those, each by itself.
-    #[tactic(auto, unfolding(better))]
+    #[tactic(auto, unfolding(crate::specs::Counts::better))]
     pub fn note(self, work: u64, digests: u64) -> Best
         ensures { result ≡ better self work digests }
     {
