@@ -7,6 +7,7 @@ pub mod Claims
 pub mod Quorums
 pub mod Read
 pub mod Signatures
+pub mod Silent
 pub mod Heard
 pub mod Inputs
 pub mod Fields
