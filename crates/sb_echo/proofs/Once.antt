@@ -40,7 +40,7 @@ module _ (p : Params) (me leaf : ℕ) where
   first-leaf : (statements : List (List ℕ)) (st : List ℕ) (c : Claim) → slice_get statements 0 ≡ Some st →
       In c (claim me st (signature p me leaf st) ∷ []) → IsSignedBy p me leaf statements c
   first-leaf statements st c there h =
-      by-leaf 0 statements st c there (subst (λ (q : ℕ). In c (claim me st (signature p me q st) ∷ [])) (sym (add-zero {leaf})) h)
+      by-leaf 0 statements st c there (subst (λ (q : ℕ). In c (claim me st (signature p me q st) ∷ [])) (sym (add-zero leaf)) h)
 
   same-message : (to there : To) (msg other : Word) (c : Claim) → ◌≡◌ {A = To × Word} (to, msg) (there, other) → In c (claims p me msg) → In c (claims p me other)
   same-message to there msg other c e h = subst (λ (z : To × Word). In c (claims p me z.1)) e h

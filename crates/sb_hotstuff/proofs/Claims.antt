@@ -356,7 +356,7 @@ module _ (p : Params) (me : ℕ) where
         statement = ap Some same;
         signature =
             ap (λ (z : Claim). z.sig) e ∙ ap signature_of is ∙ signature-same sig x.1 ∙ ap (λ (z : List ℕ). signature p me leaf z) same
-            ∙ ap (λ (q : ℕ). signature p me q c.statement) (sym (add-zero {leaf}));
+            ∙ ap (λ (q : ℕ). signature p me q c.statement) (sym (add-zero leaf));
       }
 
   signed-at : (leaf : ℕ) (ds : List (To × Message)) (to : To) (msg : Message) (c : Claim) → In {A = To × Message} (to, msg) (sign_all p me leaf ds) →

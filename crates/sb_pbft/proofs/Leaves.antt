@@ -288,7 +288,7 @@ module _ (p : Params) (me : ℕ) where
         place = 0;
         statement = ap Some same;
         signature =
-            ap (λ (z : Claim). z.sig) e ∙ ap (λ (z : List ℕ). signature p me leaf z) same ∙ ap (λ (q : ℕ). signature p me q c.statement) (sym (add-zero {leaf}));
+            ap (λ (z : Claim). z.sig) e ∙ ap (λ (z : List ℕ). signature p me leaf z) same ∙ ap (λ (q : ℕ). signature p me q c.statement) (sym (add-zero leaf));
       }
 
   only-one : (leaf : ℕ) (st : List ℕ) (c : Claim) → In c (claim me st (signature p me leaf st) ∷ []) → IsSignedBy p me leaf (st ∷ []) c
