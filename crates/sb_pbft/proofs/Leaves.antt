@@ -1,7 +1,7 @@
 -- Each leaf that signs in a step of PBFT is of one statement; whatever other claim of its own a node sends, it was told before or sent before.
-use Rattle.std.proofs.Common.{◌≡◌, ◌⊎◌, ◌<◌, ◌+◌, ◌*◌, ◌&&◌, ◌++◌, ◌∷◌, ◌∙◌, ℕ, suc, Bool, true, false, cond, List, [], length, length-append, take, Option, Some, None, refl, sym, ap, subst, inl, inr, arith, add-zero}
+use Rattle.std.proofs.Common.{◌≡◌, ◌⊎◌, ◌<◌, ◌+◌, ◌*◌, ◌&&◌, ◌++◌, ◌∷◌, ◌∙◌, ℕ, suc, Bool, true, false, cond, List, [], length, length-append, take, Option, Some, None, refl, sym, ap, subst, inl, inr, arith}
 use Rattle.std.proofs.lemmas.Bool.{eq-eqb, false≢true}
-use Rattle.std.specs.Prelude.{is_some, slice_get, ◌==◌}
+use Rattle.std.specs.Prelude.{is_some, ◌==◌}
 use Rattle.iss_base.specs.Lists.{In, first_of}
 use Rattle.iss_base.proofs.Lists.{first-cases, in_append, in_left, in_right, is-eq, some-injective}
 use Rattle.iss_request.specs.declared.ids.NodeId.{NodeId}
@@ -15,7 +15,7 @@ use Rattle.iss_sb.specs.Laws.{ComesWith, GoesWith, IsSignedBy, SignsOnce, WasSee
 use Rattle.iss_sb.specs.Legal.{AreMade, Front}
 use Rattle.iss_sb.specs.Statements.{signature}
 use Rattle.iss_sb.specs.declared.effects.Claim.{Claim}
-use Rattle.iss_sb.specs.declared.effects.Input.TheVariants.{Cast, Receive, Timeout}
+use Rattle.iss_sb.specs.declared.effects.Input.TheVariants.{Cast, Receive}
 use Rattle.iss_sb.specs.declared.effects.Params.{Params}
 use Rattle.iss_sb.specs.declared.effects.To.{To}
 use Rattle.iss_sb.specs.declared.effects.To.TheVariants.{All as To_all}
@@ -25,7 +25,7 @@ use Rattle.pbft_wire.specs.Statements.{digest_of, state_at, state_change, state_
 use Rattle.pbft_wire.specs.declared.messages.Certificate.{Certificate}
 use Rattle.pbft_wire.specs.declared.messages.Change.{Change}
 use Rattle.pbft_wire.specs.declared.messages.Message.{Message}
-use Rattle.pbft_wire.specs.declared.messages.Message.TheVariants.{Commit, NewView, PrePrepare, Prepare, ViewChange}
+use Rattle.pbft_wire.specs.declared.messages.Message.TheVariants.{NewView, PrePrepare, Prepare, ViewChange}
 use Rattle.pbft_wire.specs.declared.messages.Vote.{Vote}
 use Rattle.pbft_views.specs.Choice.{choice}
 use Rattle.pbft_views.specs.Claims.{certificate_claims, certificates_claims, change_claims, changes_claims, chosen_claims, claim, claims}
@@ -59,7 +59,7 @@ some-too : {A B : Type 0} (o : Option A) (r : Option B) (x : A) → is_some o �
 some-too o r x same h = sym same ∙ ap is_some h
 
 behind-none : {A : Type 0} (o more : Option A) (x : A) → o ≡ None → first_of o more ≡ Some x → more ≡ Some x
-behind-none o more x none h = subst (λ (z : Option A). first_of z more ≡ Some x) none h
+behind-none {A = A} o more x none h = subst (λ (z : Option A). first_of z more ≡ Some x) none h
 
 module _ (p : Params) (me : ℕ) where
   -- ---- claims that were seen
