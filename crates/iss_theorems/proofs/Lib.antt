@@ -24,3 +24,4 @@ pub mod Catching
 pub mod Doubles
 pub mod Booked
 pub mod Evidence
+pub mod Leaves

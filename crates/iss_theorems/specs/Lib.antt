@@ -3,3 +3,4 @@ pub mod Conserved
 pub mod OneLog
 pub mod Turns
 pub mod Ends
+pub mod Leaves
