@@ -6,12 +6,12 @@ use Rattle.iss_sb.specs.declared.effects.Input.{Input}
 use Rattle.iss_sb.specs.declared.effects.Input.TheVariants.{Cast, Receive, Timeout}
 use Rattle.iss_sb.specs.Evidence.{IsCredible, IsReadBatch, Module}
 use Rattle.iss_rules.specs.Books.{Signed}
-use Rattle.iss_cluster.specs.Cluster.{AllSpelled, AreVotes, Cert, IsBooked, IsVerified, Scheme, chain, chain_strings, signers, vote_of}
 use Rattle.iss_rules.specs.Past.{adopted_log, adopts, advanced, is_complete, Past, Piece, before, leads_in, log_of, made_in, params_of, takes}
 use Rattle.iss_rules.specs.Verdicts.{verdict_in}
-use Rattle.iss_model.specs.Node.{own_claims}
 use Rattle.iss_rules.specs.Rules.{Rules}
+use Rattle.iss_model.specs.Node.{own_claims}
 use Rattle.iss_model.specs.Run.{as_signed}
+use Rattle.iss_cluster.specs.Cluster.{AllSpelled, AreVotes, Cert, IsBooked, IsVerified, Scheme, chain, chain_strings, signers, vote_of}
 
 pub data Small (Msg : Type 0) : Type 0 where
   Takes : (leader : ℕ) → (input : Input Msg) → (leaf : ℕ) → Small Msg
