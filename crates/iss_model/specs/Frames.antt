@@ -14,7 +14,7 @@ use Rattle.iss_model.specs.Run.{Happening, Held, Progress, at_core, calms, claim
 use Rattle.iss_model.specs.Views.{claims_of_bytes}
 
 -- a set-up, how its packets are written and read, its rules, and its module
-pub record Frame (Msg : Type 0) : Type 0 where
+pub record Frame (Msg : Type 0) : Type 1 where
   pub setup : Setup
   pub formats : Formats Msg
   pub rules : Rules
