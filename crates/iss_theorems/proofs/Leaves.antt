@@ -27,12 +27,13 @@ use Rattle.iss_rules.specs.Parcels.{Body, Formats, OfModule, OfPiece, OfVote, Pa
 use Rattle.iss_rules.specs.Past.{Past, adopts, advanced, before_own, is_complete, leads_in, made_in, params_of, taken_in, takes}
 use Rattle.iss_rules.specs.Rules.{Rules}
 use Rattle.iss_rules.specs.Setups.{IsSetupOf}
-use Rattle.iss_rules.specs.SoundRules.{AreWindows, IsSoundRules}
+use Rattle.iss_rules.specs.SoundRules.{IsSoundRules}
 use Rattle.iss_rules.specs.Votes.{cert_on, claim_of_vote, claims_of_cert, keeping, stable, vote_by}
 use Rattle.iss_rules.proofs.Ending.{HasSlots}
 use Rattle.iss_rules.proofs.Layouts.{sound-rules}
 use Rattle.iss_rules.proofs.Logs.{before-later, takes-later}
-use Rattle.iss_rules.proofs.Windows.{are-windows}
+use Rattle.iss_rules.proofs.Windows.{AreWindows, are-windows}
+use Rattle.iss_model.specs.Frames.{Frame, frame_of}
 use Rattle.iss_model.specs.Node.{Core, Early, Turn, adopts_piece, claims_in, counted, in_next_epoch, inputs, onward, own_claims, rests, settles, takes_each, vote_on}
 use Rattle.iss_model.specs.Run.{claims_at}
 use Rattle.iss_model.specs.Sound.{IsSoundCore}
@@ -69,6 +70,9 @@ module _ (R : Rules) (me : ℕ) where
 
 module _ {Msg : Type 0} (s : Setup) (F : Formats Msg) (R : Rules) (M : Module Msg) (me : ℕ) (sound : IsSoundRules s M R) (windows : AreWindows R)
     (once : SignsOnce M) (signs : (leaf : ℕ) (statement : List ℕ) → R.signature me leaf statement ≡ signature_of (node_secret me) s.keys leaf statement) where
+  abbrev W : Frame Msg
+  W = record { setup = s; formats = F; rules = R; meaning = M }
+
   slots : HasSlots R
   slots = record { some = sound.some_slots; most = sound.most }
 
@@ -420,14 +424,14 @@ module _ {Msg : Type 0} (s : Setup) (F : Formats Msg) (R : Rules) (M : Module Ms
 
   record Lived (deeds : List (Deed Msg)) : Type 0 where
     row : List (List ℕ)
-    account : Accounts row (told F R M me deeds) (core_behind deeds)
-    own : AreOfRow F R M me row deeds
+    account : Accounts row (told W me deeds) (core_behind deeds)
+    own : AreOfRow W me row deeds
 
-  rows-kept : (a b : List (List ℕ)) → ((y : Claim) → IsOfRow R me a y → IsOfRow R me b y) → (deeds : List (Deed Msg)) → AreOfRow F R M me a deeds → AreOfRow F R M me b deeds
+  rows-kept : (a b : List (List ℕ)) → ((y : Claim) → IsOfRow R me a y → IsOfRow R me b y) → (deeds : List (Deed Msg)) → AreOfRow W me a deeds → AreOfRow W me b deeds
   rows-kept a b sub [] h = tt
   rows-kept a b sub (x ∷ xs) h = (λ y i. elim (h.0 y i) [ inl z ↦ inl (sub y z) | inr z ↦ inr z ], rows-kept a b sub xs h.1)
 
-  lived : (deeds : List (Deed Msg)) → IsLife F R M me deeds → Lived deeds
+  lived : (deeds : List (Deed Msg)) → IsLife W me deeds → Lived deeds
   lived [] life =
       let c : Core Msg = core_behind [] in
       record {
@@ -445,21 +449,21 @@ module _ {Msg : Type 0} (s : Setup) (F : Formats Msg) (R : Rules) (M : Module Ms
       let old = lived xs life.1 in
       let c = core_behind xs in
       let read = claims_at F R M me c x.event in
-      let heard = told F R M me (x ∷ xs) in
+      let heard = told W me (x ∷ xs) in
       let k : Accounts old.row heard c =
-      accounts-heard old.row (told F R M me xs) heard c
-      (λ y i. in_right y read (x.turn.early ++ told F R M me xs) (in_right y x.turn.early (told F R M me xs) i)) old.account in
+      accounts-heard old.row (told W me xs) heard c
+      (λ y i. in_right y read (x.turn.early ++ told W me xs) (in_right y x.turn.early (told W me xs) i)) old.account in
       let done : Accounted old.row heard x.turn =
       took-fair old.row heard c k x.event x.turn (took F R M me c x.event x.turn life.0)
-      (λ y i. in_left y read (x.turn.early ++ told F R M me xs) i)
-      (λ y i. in_right y read (x.turn.early ++ told F R M me xs) (in_left y x.turn.early (told F R M me xs) i)) in
+      (λ y i. in_left y read (x.turn.early ++ told W me xs) i)
+      (λ y i. in_right y read (x.turn.early ++ told W me xs) (in_left y x.turn.early (told W me xs) i)) in
       record { row = done.row; account = done.account; own = (done.own, rows-kept old.row done.row done.kept xs old.own) }
 
-  pub signs-each : (deeds : List (Deed Msg)) → IsLife F R M me deeds → SignsOnceEach F R M me deeds
+  pub signs-each : (deeds : List (Deed Msg)) → IsLife W me deeds → SignsOnceEach W me deeds
   signs-each deeds life = let h = lived deeds life in record { row = h.row; each = h.account.each; own = h.own }
 
 -- so in a cluster of a good set-up
 pub signs-once-each : {Msg : Type 0} (s : Setup) (M : Module Msg) → IsSetupOf M s → SignsOnce M → (me : ℕ) (deeds : List (Deed Msg)) →
-    IsLife (formats_of s M) (rules_of s) M me deeds → SignsOnceEach (formats_of s M) (rules_of s) M me deeds
+    IsLife (frame_of s M) me deeds → SignsOnceEach (frame_of s M) me deeds
 signs-once-each s M h once me deeds life =
     signs-each s (formats_of s M) (rules_of s) M me (sound-rules M s h) (are-windows s) once (λ leaf statement. refl) deeds life

@@ -1,9 +1,8 @@
 //! What the leaves of a node's keys sign, as a call without a body.
 ghost use Rattle.std.specs.Prelude.{ℕ, List};
 ghost use Rattle.iss_request.specs.declared.setups.Setup.{Setup};
-ghost use Rattle.iss_rules.specs.Concrete.{rules_of};
-ghost use Rattle.iss_rules.specs.Formats.{formats_of};
 ghost use Rattle.iss_rules.specs.Setups.{IsSetupOf};
+ghost use Rattle.iss_model.specs.Frames.{frame_of};
 ghost use Rattle.iss_theorems.specs.Leaves.{Deed, IsLife, SignsOnceEach};
 
 use iss_sb::Sequenced;
@@ -12,7 +11,7 @@ use iss_sb::Sequenced;
 /// statement, which each signature of its own by that leaf is over. What it was told of its own signatures it may send on as it came.
 pub fn leaves_sign_once<M: Sequenced>()
     ensures { (s : Setup) → IsSetupOf M.meaning s → (me : ℕ) (deeds : List (Deed M.Msg)) →
-        IsLife (formats_of s M.meaning) (rules_of s) M.meaning me deeds → SignsOnceEach (formats_of s M.meaning) (rules_of s) M.meaning me deeds }
+        IsLife (frame_of s M.meaning) me deeds → SignsOnceEach (frame_of s M.meaning) me deeds }
 {
     M::laws();
 }
