@@ -26,3 +26,5 @@ pub mod Doubles
 pub mod Booked
 pub mod Evidence
 pub mod Leaves
+pub mod Happened
+pub mod Lives

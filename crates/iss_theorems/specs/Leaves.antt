@@ -1,11 +1,17 @@
 -- What the leaves of a node's keys signed, over all that the node did.
-use Rattle.std.specs.Prelude.{◌≡◌, ◌⊎◌, ℕ, List, [], ◌∷◌, ◌++◌, Some, length, slice_get}
+use Rattle.std.specs.Prelude.{◌≡◌, ◌⊎◌, ℕ, true, List, [], ◌∷◌, ◌++◌, Some, length, slice_get}
 use Rattle.iss_base.specs.Lists.{In}
+use Rattle.iss_request.specs.declared.setups.Setup.{Setup}
+use Rattle.iss_schedule.specs.declared.schedules.Event.{Event}
 use Rattle.iss_causes.specs.declared.causes.NodeEvent.{NodeEvent}
 use Rattle.iss_sb.specs.declared.effects.Claim.{Claim}
+use Rattle.iss_sb.specs.Evidence.{Module, is_correct}
+use Rattle.iss_rules.specs.Books.{Signed}
 use Rattle.iss_rules.specs.Rules.{Rules}
-use Rattle.iss_model.specs.Frames.{Frame, claims_at_in, step_in}
+use Rattle.iss_model.specs.Frames.{Frame, claims_at_in, frame_of, step_in}
 use Rattle.iss_model.specs.Node.{Core, Taken, Turn, idle}
+use Rattle.iss_model.specs.Run.{as_signed, node_of}
+use Rattle.iss_theorems.specs.OneLog.{run_after}
 
 -- an event that a node took, and the turn that it led to
 pub record Deed (Msg : Type 0) : Type 0 where
@@ -45,3 +51,17 @@ pub record SignsOnceEach {Msg : Type 0} (W : Frame Msg) (me : ℕ) (deeds : List
   pub row : List (List ℕ)
   pub each : length row ≡ (core_behind deeds).leaf
   pub own : AreOfRow W me row deeds
+
+-- the claims of its own that a node sent
+abbrev pub sent : {Msg : Type 0} → List (Deed Msg) → List Claim
+sent [] = []
+sent (x ∷ xs) = x.turn.own ++ sent xs
+
+-- Each core of a run is what a life of its node led to, in which no leaf signed two statements; and the book has nothing but what
+-- correct nodes sent in these lives as signed of their own.
+pub record AreLives {Msg : Type 0} (s : Setup) (M : Module Msg) (events : List Event) : Type 0 where
+  pub deeds : ℕ → List (Deed Msg)
+  pub life : (i : ℕ) → IsLife (frame_of s M) (node_of s i) (deeds i)
+  pub core : (i : ℕ) → core_behind (deeds i) ≡ (run_after s M events).held.net.cores i
+  pub signs : (i : ℕ) → SignsOnceEach (frame_of s M) (node_of s i) (deeds i)
+  pub book : (x : Signed) → In x (run_after s M events).held.signed → (i : ℕ) × (is_correct s i ≡ true) × In x (as_signed (sent (deeds i)))
