@@ -1,6 +1,7 @@
 -- Tests that are joined, answers, membership, longer lists, chains, and functions that are changed at one place.
-use Rattle.std.proofs.Common.{◌∙◌, append_assoc, ◌≡◌, ◌≢◌, ◌⊎◌, inl, inr, ℕ, zero, suc, ◌+◌, ◌≤◌, ◌<◌, Bool, true, false, cond, eqb, not, ◌&&◌, ◌||◌, List, [], ◌∷◌, ◌++◌, length, Option, Some, None, refl, sym, ap, ap₂, subst, arith, length-append, true≢false}
+use Rattle.std.proofs.Common.{IsTrue, ◌↔◌, ◌∙◌, append_assoc, ◌≡◌, ◌≢◌, ◌⊎◌, inl, inr, ℕ, zero, suc, ◌+◌, ◌≤◌, ◌<◌, Bool, true, false, cond, eqb, not, ◌&&◌, ◌||◌, List, [], ◌∷◌, ◌++◌, length, Option, Some, None, refl, sym, ap, ap₂, subst, arith, length-append, true≢false}
 use Rattle.std.proofs.lemmas.Bool.Decides.{eqb_tells, leb_tells, nat_tests}
+use Rattle.std.specs.Ordering.{is_eq, nat_cmp}
 use Rattle.iss_base.specs.Lists.{In, Different, Extends, oldest, Chain, first_of, nth, over, same_bytes, set_at, set_at2}
 
 pub same_or_not : (a b : ℕ) → (a ≡ b) ⊎ (a ≢ b)
@@ -20,6 +21,17 @@ eqb-same i = grind (arith, nat_tests)
 
 pub eqb-other : (i j : ℕ) → i ≢ j → eqb i j ≡ false
 eqb-other i j h = grind (arith, nat_tests)
+
+-- numbers as the order of a map compares them
+pub same_number : (a b : ℕ) → is_eq (nat_cmp a b) ≡ eqb a b
+same_number a b = grind arith
+
+-- two tests of one thing
+pub same-test : (b t : Bool) {P : Type 0} → IsTrue b ↔ P → (t ≡ true) ↔ P → b ≡ t
+same-test true true h k = refl
+same-test false false h k = refl
+same-test true false h k = absurd (true≢false (sym (k.1 (h.0 refl))))
+same-test false true h k = absurd (true≢false (sym (h.1 (k.0 refl))))
 
 -- tests that are joined
 

@@ -4,16 +4,13 @@ use Rattle.std.specs.Map.{remove_entry, values_of}
 use Rattle.std.specs.BTreeMap.{insert_entry}
 use Rattle.std.specs.Ordering.{is_eq, nat_cmp}
 use Rattle.iss_base.specs.Lists.{In, Different, first_of}
-use Rattle.iss_base.proofs.Lists.{eqb-same, eqb-other, is-eq, some-injective}
+use Rattle.iss_base.proofs.Lists.{eqb-same, eqb-other, is-eq, same_number, some-injective}
 use Rattle.iss_request.specs.Log.{same_id, ids}
 use Rattle.iss_request.specs.declared.ids.ReqId.{ReqId}
 use Rattle.iss_request.specs.declared.requests.Request.{Request}
 use Rattle.iss_request.proofs.Identities.{same_id-flip, same_id-self, same_id-tells}
 use Rattle.iss_buckets.specs.Filed.{AreFiled, kept_at, number_of}
 use Rattle.iss_buckets.specs.Waiting.{waits, absent}
-
-pub same_number : (a b : ℕ) → is_eq (nat_cmp a b) ≡ eqb a b
-same_number a b = grind arith
 
 abbrev Entries : Type 0
 Entries = List (ℕ × Request)

@@ -4,7 +4,7 @@ use Rattle.std.proofs.lemmas.Bool.Decides.{nat_tests}
 use Rattle.std.proofs.lemmas.List.{append-nil}
 use Rattle.std.proofs.lemmas.Nat.{mod_below}
 use Rattle.std.specs.Map.{values_of}
-use Rattle.iss_base.proofs.Lists.{eqb-same, is-eq, neither, or-flip, some-injective}
+use Rattle.iss_base.proofs.Lists.{eqb-same, is-eq, neither, or-flip, same_number, some-injective}
 use Rattle.iss_base.proofs.Quorum.{or_right_true}
 use Rattle.iss_request.specs.Log.{has_id}
 use Rattle.iss_request.specs.declared.ids.NodeId.{NodeId}
@@ -14,7 +14,7 @@ use Rattle.iss_layout.specs.Layout.{Plan, bucket_of, bucket_owner, is_node}
 use Rattle.iss_buckets.specs.Filed.{AreFiled, FailFrom, IsNext, PassesFirst, is_unmarked_in, kept_at, least_of}
 use Rattle.iss_buckets.specs.Waiting.{may_cast, cut, uncut}
 use Rattle.iss_buckets.proofs.CutLemmas.{cut-hit, cut-zero, uncut-hit, uncut-zero}
-use Rattle.iss_buckets.proofs.FiledLemmas.{kept_tail, kept_from, kept_later, kept_less, same_number, without, without_here, without_later}
+use Rattle.iss_buckets.proofs.FiledLemmas.{kept_tail, kept_from, kept_later, kept_less, without, without_here, without_later}
 
 -- ---- the first that passes is the next of a cut
 

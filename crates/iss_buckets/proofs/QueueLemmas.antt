@@ -4,12 +4,12 @@ use Rattle.std.proofs.lemmas.List.{get_or-set_same, get_or-set_other, length-set
 use Rattle.std.specs.List.{list_any}
 use Rattle.std.specs.Ordering.{is_eq, nat_cmp}
 use Rattle.iss_base.specs.Lists.{first_of}
-use Rattle.iss_base.proofs.Lists.{eqb-other, eqb-same, is-eq, some-injective}
+use Rattle.iss_base.proofs.Lists.{eqb-other, eqb-same, is-eq, same_number, some-injective}
 use Rattle.iss_request.specs.Log.{has_id}
 use Rattle.iss_request.specs.declared.ids.ReqId.{ReqId}
 use Rattle.iss_request.specs.declared.requests.Request.{Request}
 use Rattle.iss_buckets.specs.Filed.{AreFiled, AreQueued, FailBetween, IsNext, IsSetAt, bucket_of_id, has_number, is_in_bucket, is_unmarked_in, kept_at}
-use Rattle.iss_buckets.proofs.FiledLemmas.{kept_less, kept_more, same_number, same_or, without}
+use Rattle.iss_buckets.proofs.FiledLemmas.{kept_less, kept_more, same_or, without}
 
 pub queued_none : (es : List (ℕ × Request)) → AreQueued es []
 queued_none es = λ b k lt. absurd (omega (arith, lt))

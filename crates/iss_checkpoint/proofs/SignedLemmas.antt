@@ -8,7 +8,7 @@ use Rattle.std.proofs.lemmas.List.{append-nil, length-append}
 use borrow.Rule.Slice.PartMut.{put_mid}
 use Rattle.iss_base.specs.Lists.{In}
 use Rattle.iss_base.specs.Quorum.{all_below, distinct, mem}
-use Rattle.iss_base.proofs.Lists.{and-true, both, is-eq, not-true}
+use Rattle.iss_base.proofs.Lists.{and-true, both, is-eq, not-true, same-test}
 use Rattle.iss_base.proofs.Quorum.{count-distinct, count-length, count-less, count-some}
 use Rattle.iss_keys.specs.Directories.{DirectoryView, VerifiesBy}
 use Rattle.iss_keys.specs.KeyStates.{PublicKeyView}
@@ -76,12 +76,6 @@ statement-put tag chain e number a b zs long le ln size ea eb =
     two-parts 43 40 a b (tag ++ to_be_bytes w64 e ++ 255 ∷ 0 ∷ 0 ∷ []) (chain ++ to_be_bytes w64 number) zs (head-long tag e long) size ea eb ∙ statement-written tag chain e number le ln
 
 -- ---- one signature
-
-same-test : (b t : Bool) {P : Type 0} → IsTrue b ↔ P → (t ≡ true) ↔ P → b ≡ t
-same-test true true h k = refl
-same-test false false h k = refl
-same-test true false h k = absurd (true≢false (sym (k.1 (h.0 refl))))
-same-test false true h k = absurd (true≢false (sym (h.1 (k.0 refl))))
 
 pub signed-is : (w : Voters) (n : ℕ) (keys : List PublicKeyView) (st : List ℕ) (by : ℕ) (sig : List ℕ) (r : Bool) → w.n ≡ n → w.keys ≡ keys → by < n
     → IsTrue r ↔ VerifiesBy keys by st sig → r ≡ is_signed w st by sig
@@ -205,7 +199,7 @@ few : (kind : Kind) (f : ℕ) (faulty : List NodeId) → IsFewFaulty kind f faul
 few Byzantine f faulty h = omega (arith, h)
 few Stopping f faulty h = rw h (omega arith)
 
-fewer : (s : Setup) → IsGoodSetup s → length s.faulty < s.quorum
+pub fewer : (s : Setup) → IsGoodSetup s → length s.faulty < s.quorum
 fewer s good = go (eqb s.«module» 1) refl
   where
     none : (kind : Kind) → kind ≡ Stopping → IsFewFaulty kind s.f s.faulty → s.faulty ≡ []

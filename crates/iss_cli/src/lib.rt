@@ -10,8 +10,6 @@ pub mod memory;
 pub mod output;
 pub mod status;
 pub mod streams;
-#[cfg(test)]
-mod tests;
 pub mod top;
 
 pub use answers::Answer;

@@ -54,7 +54,7 @@ has_id-removed x y old new h =
     ∙ ap (λ b. b && not (same_id y x)) (any-has_id x old)
     ∙ ap (λ b. has_id x old && not b) (same_id-flip y x)
 
-and-nor : (h a b : Bool) → ((h && not a) && not b) ≡ (h && not (a || b))
+pub and-nor : (h a b : Bool) → ((h && not a) && not b) ≡ (h && not (a || b))
 and-nor true true b = refl
 and-nor true false b = refl
 and-nor false a b = refl

@@ -107,7 +107,8 @@ fn find_answer(
     signature: &[u8],
 ) -> Option<bool>
     ensures right { IfSome result (λ verifies. IsTrue verifies ↔ Verifies key.now.root key.now.height statement.now signature.now) }
-    ensures found { (i : ℕ) → slice_get answers.now i ≡ Some (Some (record { key = key.now; statement = statement.now; signature = signature.now })) → IsSome result }
+    ensures found { (i : ℕ) → slice_get answers.now i ≡ Some (Some (record { key = key.now; statement = statement.now; signature = signature.now }))
+        → IsSome result }
 {
     'places: for place in answers {
         if let Some(answer) = place {
@@ -130,7 +131,7 @@ pub struct Answers {
 
 impl Answers {
     /// No answers yet, and how many nodes ask.
-    pub fn new(alloc: Global, n: usize) -> Answers {
+    pub(crate) fn new(alloc: Global, n: usize) -> Answers {
         Answers {
             n,
             places: RefCell::new(Vec::new(alloc)),

@@ -97,7 +97,7 @@ pub struct Digests {
 
 impl Digests {
     /// No digests yet.
-    pub fn new(alloc: Global) -> Digests {
+    pub(crate) fn new(alloc: Global) -> Digests {
         Digests {
             places: RefCell::new(Vec::new(alloc)),
         }

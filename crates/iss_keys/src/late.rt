@@ -133,7 +133,7 @@ impl LateTree {
     }
 
     /// Where its memory comes from.
-    pub fn alloc(&self) -> Global {
+    pub(crate) fn alloc(&self) -> Global {
         self.alloc
     }
 

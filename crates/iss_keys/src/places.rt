@@ -8,7 +8,7 @@ use std::alloc::AllocFailed;
 pub const SET: usize = 4;
 
 /// Puts a thing before others, of which the last goes.
-pub fn put_first<T: Drop>(places: &mut [Option<T>], thing: T)
+pub(crate) fn put_first<T: Drop>(places: &mut [Option<T>], thing: T)
     requires { 0 < length places.old }
     ensures { slice_get places.new 0 ≡ Some (Some thing) }
 {
@@ -17,7 +17,7 @@ pub fn put_first<T: Drop>(places: &mut [Option<T>], thing: T)
 }
 
 /// Fills up the places with nothing, as far as memory goes.
-pub fn fill_places<T: Drop>(
+pub(crate) fn fill_places<T: Drop>(
     places: &mut Vec<Option<T>>,
     most: usize,
 ) -> Result<(), AllocFailed<Option<T>>> {
@@ -28,13 +28,13 @@ pub fn fill_places<T: Drop>(
 }
 
 /// Goes on with a hash. Each bit of the word and of the hash counts.
-pub fn hash_on(hash: u64, word: u64) -> u64 {
+pub(crate) fn hash_on(hash: u64, word: u64) -> u64 {
     let mixed = (hash ^ word).wrapping_mul(0x9e37_79b9_7f4a_7c15);
     mixed ^ (mixed >> 32)
 }
 
 /// The eight bytes from a place on, as a number. It is 0 where there are fewer.
-pub fn word_at(bytes: &[u8], place: usize) -> u64 {
+pub(crate) fn word_at(bytes: &[u8], place: usize) -> u64 {
     let Some(rest) = bytes.get(place..) else {
         return 0;
     };

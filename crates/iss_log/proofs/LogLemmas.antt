@@ -3,6 +3,7 @@ use Rattle.std.proofs.lemmas.List.{append-nil}
 use Rattle.std.proofs.lemmas.Bool.{cases_lt}
 use Rattle.std.specs.Ordering.{is_eq, nat_cmp}
 use Rattle.iss_base.specs.Lists.{first_of}
+use Rattle.iss_base.proofs.Lists.{same_number}
 use Rattle.iss_request.specs.Log.{requests, size_of}
 use Rattle.iss_request.specs.declared.requests.Value.{Value}
 use Rattle.iss_log.specs.LogState.{LogState, value_at, ahead_at, IsWithout, IsAdvanced, AreNumbered}
@@ -18,9 +19,6 @@ pub past_none : {X : Type 0} (xs : List X) (k : ℕ) → length xs ≤ k → sli
 past_none [] k h = refl
 past_none (x ∷ xs) zero h = absurd (omega arith)
 past_none (x ∷ xs) (suc k) h = let lt : length xs ≤ k = omega arith in past_none xs k lt
-
-pub same_slot : (a b : ℕ) → is_eq (nat_cmp a b) ≡ eqb a b
-same_slot a b = grind arith
 
 pub eqb_means : (a b : ℕ) → eqb a b ≡ true → a ≡ b
 eqb_means a b h = grind arith
@@ -144,7 +142,7 @@ numbered_more es v firsts count next h e =
 
 pub without_here : (old new : List (ℕ × Value)) (next k s : ℕ) → ahead_at new s ≡ cond (is_eq (nat_cmp next s)) None (ahead_at old s)
     → next ≡ k → ahead_at new s ≡ cond (eqb k s) None (ahead_at old s)
-without_here old new next k s h e = h ∙ ap (λ b. cond b None (ahead_at old s)) (same_slot next s ∙ ap (λ j. eqb j s) e)
+without_here old new next k s h e = h ∙ ap (λ b. cond b None (ahead_at old s)) (same_number next s ∙ ap (λ j. eqb j s) e)
 
 pub none_of : (o : Option Value) → is_some o ≡ false → o ≡ None
 none_of None e = refl

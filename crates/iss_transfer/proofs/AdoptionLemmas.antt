@@ -71,10 +71,10 @@ digest-length : (x : List ℕ) → length (digest x) ≡ 32
 digest-length [] = refl
 digest-length (b ∷ bs) = length-sha256 (b ∷ bs)
 
-tail-same : (a : ℕ) (x y : List ℕ) → a ∷ x ≡ a ∷ y → x ≡ y
+pub tail-same : (a : ℕ) (x y : List ℕ) → a ∷ x ≡ a ∷ y → x ≡ y
 tail-same a x y h = cc
 
-good-same : (v u : Value) (x y : List ℕ) → Good v x ≡ Good u y → v ≡ u
+pub good-same : (v u : Value) (x y : List ℕ) → Good v x ≡ Good u y → v ≡ u
 good-same v u x y h = cc
 
 value-same : (version : ℕ) (v u : Value) → IsReadAgain (spell_value version) (parse_value version) v → IsReadAgain (spell_value version) (parse_value version) u → value_string version v ≡ value_string version u → v ≡ u

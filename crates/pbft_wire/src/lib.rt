@@ -16,6 +16,3 @@ pub use signing::{
     Mark, digest_of, mark_of, state_at, state_change, state_marked, state_new, string_of,
 };
 pub use writing::write;
-
-#[cfg(test)]
-mod tests;

@@ -150,12 +150,16 @@ value-In s (t ∷ slots) (v ∷ vs) x h = go (t.0 == s.0) refl h (value-In s slo
 pub cast-next : (p : Params) (s : State) (slot : ℕ) → may_cast p s slot ≡ true → is_slot slot (nth p.slots (filled s.log)) ≡ true
 cast-next p s slot h = (and-true (is_leader s.role && (s.term == 1)) (is_slot slot (nth p.slots (filled s.log))) h).1
 
-asked-within : (p : Params) (me : ℕ) (xs : List (Item Message)) (i : Input Message) (x : Slot × Batch) → asks p me xs i ≡ Some x → In x.0 p.slots
-asked-within p me xs (Cast slot batch) x h =
-    let t = some-only (may_cast p (state p me xs) slot.0) (slot, batch) x h in
-    subst (λ (z : Slot × Batch). In z.0 p.slots) (sym t.1) (nth-In slot p.slots _ (cast-next p (state p me xs) slot.0 t.0))
-asked-within p me xs (Receive from msg) x h = absurd cc
-asked-within p me xs Timeout x h = absurd cc
+cast-within : (p : Params) (s : State) (slot : Slot) (batch : Batch) (x : Slot × Batch) → (if may_cast p s slot.0 then Some (slot, batch) else None) ≡ Some x → In x.0 p.slots
+cast-within p s slot batch x h =
+    let t = some-only (may_cast p s slot.0) (slot, batch) x h in
+    subst (λ (z : Slot × Batch). In z.0 p.slots) (sym t.1) (nth-In slot p.slots _ (cast-next p s slot.0 t.0))
+
+-- only a cast asks
+asked : (p : Params) (me : ℕ) (xs : List (Item Message)) (x : Slot × Batch) (i : Input Message) → asks p me xs i ≡ Some x → In x.0 p.slots
+asked p me xs x (Cast slot batch) h = cast-within p (state p me xs) slot batch x h
+asked p me xs x (Receive from msg) h = absurd cc
+asked p me xs x Timeout h = absurd cc
 
 pub raft-lawful : IsLawful raft
 raft-lawful = record {
@@ -163,7 +167,7 @@ raft-lawful = record {
   accepted = λ p me xs i leaf. refl;
   casts = λ p me xs s b x h. (some-only (may_cast p (state p me xs) s.0) (s, b) x h).1;
   castable = λ p me xs s b c h. rw (some-only (may_cast p (state p me xs) s.0) (s, b) (s, b) h).0 refl;
-  asked_within = asked-within;
+  asked_within = λ p me xs i x h. asked p me xs x i h;
   decided_within = λ p me xs s x h. value-In s p.slots _ x h;
   addressed = λ p me xs i leaf k msg good input h. nodes-In p.setup.n _ k msg (on-input p me (state p me xs) i input) h;
   read_again = λ p me xs i leaf to msg good below heard input h. sends-read p good me xs i heard input to msg h;

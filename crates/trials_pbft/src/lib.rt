@@ -6,3 +6,5 @@
 mod messages;
 #[cfg(test)]
 mod tests;
+#[cfg(test)]
+mod wire;

@@ -1,6 +1,7 @@
 //! The top call over sources and sinks that fail.
 
-use crate::{FailingSink, FailingSource, MemorySink, MemorySource, Script, run};
+use crate::ends::{status_of_sink, status_of_source};
+use iss_cli::{FailingSink, FailingSource, MemorySink, MemorySource, Script, run};
 use std::alloc::{AllocError, Global};
 use std::test::Fail;
 
@@ -47,12 +48,12 @@ fn a_source_fails_at_each_call(rt: HostRuntime) -> Result<(), Fail> {
         let mut input = FailingSource::new(Vec::from_slice(rt.alloc(), INPUT)?, 16, script);
         let mut out = MemorySink::new(rt.alloc());
         let status = run(rt.alloc(), &words, &mut input, &mut out);
-        let (code, text) = if call < READS {
-            (4, b"".as_slice())
+        let text = if call < READS {
+            b"".as_slice()
         } else {
-            (0, TEXT)
+            TEXT
         };
-        assert_eq!(rt; status.code(), code, "at call {call}");
+        assert_eq!(rt; status.code(), status_of_source(call, READS), "at call {call}");
         assert_eq!(rt; out.held(), text, "at call {call}");
     }
     Ok(())
@@ -67,8 +68,7 @@ fn a_sink_fails_at_each_call(rt: HostRuntime) -> Result<(), Fail> {
         let mut out = FailingSink::new(rt.alloc(), 16, script);
         let status = run(rt.alloc(), &words, &mut input, &mut out);
         let part = TEXT.len().min(16 * call as usize);
-        let code = if call < PUTS { 5 } else { 0 };
-        assert_eq!(rt; status.code(), code, "at call {call}");
+        assert_eq!(rt; status.code(), status_of_sink(call, PUTS), "at call {call}");
         assert_eq!(rt; out.held(), &TEXT[..part], "at call {call}");
     }
     Ok(())

@@ -1,6 +1,6 @@
 //! Messages that are read from rows of bytes, and rows that are none.
-use crate::{Message, read};
 use iss_request::{DecodeError, Fields, NoMemory, Slot, Writer};
+use pbft_wire::{Message, read};
 use std::alloc::Global;
 use std::test::Fail;
 
