@@ -4,11 +4,12 @@ use Rattle.iss_journal.specs.Frames.{Reading, Reads, holds}
 use Rattle.iss_journal.specs.Promises.{HoldsWithOrWithout}
 use Rattle.iss_model.proofs.Rows.{each-holds, settles-holds}
 use Rattle.iss_model.proofs.Steps.{Took, adopted, asked, cast, fired, handed, kept, received, sought, took, voted}
-use Rattle.iss_model.specs.Concrete.{rules_of}
-use Rattle.iss_model.specs.Formats.{formats_of}
-use Rattle.iss_model.specs.Node.{Core, Dropped, Early, Formats, Stepped, Taken, Turn, adopts_piece, idle, onward, settles, step, takes_each}
-use Rattle.iss_model.specs.Rules.{Rules}
-use Rattle.iss_model.specs.declared.causes.NodeEvent.{NodeEvent}
+use Rattle.iss_rules.specs.Concrete.{rules_of}
+use Rattle.iss_rules.specs.Formats.{formats_of}
+use Rattle.iss_model.specs.Node.{Core, Dropped, Early, Stepped, Taken, Turn, adopts_piece, idle, onward, settles, step, takes_each}
+use Rattle.iss_rules.specs.Parcels.{Formats}
+use Rattle.iss_rules.specs.Rules.{Rules}
+use Rattle.iss_causes.specs.declared.causes.NodeEvent.{NodeEvent}
 use Rattle.iss_request.specs.declared.setups.Setup.{Setup}
 use Rattle.iss_sb.specs.Evidence.{Module}
 use Rattle.iss_keep.specs.Cores.{core_after, core_from, core_of, core_with, from_core, step_of}

@@ -5,11 +5,11 @@ use Rattle.std.specs.Prelude.{reverse}
 use Rattle.iss_journal.specs.Frames.{frames}
 use Rattle.iss_journal.specs.declared.errors.AttachError.{AttachError}
 use Rattle.iss_journal.specs.declared.errors.AttachError.TheVariants.{Damaged}
-use Rattle.iss_model.proofs.Casts.{newborn-log}
-use Rattle.iss_model.specs.Concrete.{rules_of}
+use Rattle.iss_rules.proofs.Logs.{newborn-log}
+use Rattle.iss_rules.specs.Concrete.{rules_of}
 use Rattle.iss_model.specs.Node.{Core, idle}
-use Rattle.iss_model.specs.declared.causes.NodeEvent.{NodeEvent}
-use Rattle.iss_model.specs.declared.causes.Why.{Why}
+use Rattle.iss_causes.specs.declared.causes.NodeEvent.{NodeEvent}
+use Rattle.iss_causes.specs.declared.causes.Why.{Why}
 use Rattle.iss_node.specs.State.{NodeState, Stands}
 use Rattle.iss_node.specs.Steps.{IsDrop, IsTurn}
 use Rattle.iss_node.specs.declared.answers.Outcome.{Outcome}

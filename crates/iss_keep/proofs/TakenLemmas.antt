@@ -5,21 +5,22 @@ use Rattle.std.specs.Prelude.{reverse}
 use Rattle.iss_base.specs.Lists.{Extends}
 use Rattle.iss_journal.specs.Frames.{max_entry}
 use Rattle.iss_log.specs.LogState.{GoesOn}
-use Rattle.iss_model.specs.declared.causes.NodeEvent.{NodeEvent}
-use Rattle.iss_model.specs.declared.causes.NodeEvent.TheVariants.{Packet as Gets}
-use Rattle.iss_model.specs.Concrete.{rules_of}
-use Rattle.iss_model.specs.Formats.{formats_of, parcel_in, whole}
-use Rattle.iss_model.specs.Node.{Core, Early, Formats, Parcel, Taken, Turn, adopts_piece, onward, settles, step, takes_each}
-use Rattle.iss_model.specs.Past.{before_own, log_of}
-use Rattle.iss_model.specs.Rules.{Rules}
-use Rattle.iss_model.specs.Runs.{IsSetupOf}
+use Rattle.iss_causes.specs.declared.causes.NodeEvent.{NodeEvent}
+use Rattle.iss_causes.specs.declared.causes.NodeEvent.TheVariants.{Packet as Gets}
+use Rattle.iss_rules.specs.Concrete.{rules_of}
+use Rattle.iss_rules.specs.Formats.{formats_of, parcel_in, whole}
+use Rattle.iss_model.specs.Node.{Core, Early, Taken, Turn, adopts_piece, onward, settles, step, takes_each}
+use Rattle.iss_rules.specs.Parcels.{Formats, Parcel}
+use Rattle.iss_rules.specs.Past.{before_own, log_of}
+use Rattle.iss_rules.specs.Rules.{Rules}
+use Rattle.iss_rules.specs.Setups.{IsSetupOf}
 use Rattle.iss_model.specs.Sound.{IsSoundCore}
 use Rattle.iss_model.proofs.Casts.{kept-sound, step-grown}
-use Rattle.iss_model.proofs.Ending.{HasSlots}
-use Rattle.iss_model.proofs.Layouts.{sound-rules}
+use Rattle.iss_rules.proofs.Ending.{HasSlots}
+use Rattle.iss_rules.proofs.Layouts.{sound-rules}
 use Rattle.iss_model.proofs.Rows.{each-holds, settles-holds}
 use Rattle.iss_model.proofs.Steps.{Took, adopted, asked, cast, fired, handed, kept, received, sought, took, voted}
-use Rattle.iss_model.proofs.Windows.{are-windows}
+use Rattle.iss_rules.proofs.Windows.{are-windows}
 use Rattle.iss_node.specs.State.{NodeState, Stands, bare}
 use Rattle.iss_node.specs.Steps.{IsOfNodes}
 use Rattle.iss_packet.proofs.OneSpelling.{packet_table}

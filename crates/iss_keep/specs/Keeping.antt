@@ -1,9 +1,9 @@
 -- What the parts of one event leave of the node: its step, and the entry behind that.
 use Rattle.std.specs.Prelude.{◌≡◌, ℕ, List}
-use Rattle.iss_model.specs.Concrete.{rules_of}
-use Rattle.iss_model.specs.Formats.{formats_of}
+use Rattle.iss_rules.specs.Concrete.{rules_of}
+use Rattle.iss_rules.specs.Formats.{formats_of}
 use Rattle.iss_model.specs.Node.{Core, step}
-use Rattle.iss_model.specs.declared.causes.NodeEvent.{NodeEvent}
+use Rattle.iss_causes.specs.declared.causes.NodeEvent.{NodeEvent}
 use Rattle.iss_node.specs.State.{NodeState, Stands}
 use Rattle.iss_node.specs.Steps.{HasRetreated, IsAnswer, IsOfNodes}
 use Rattle.iss_node.specs.declared.answers.Answer.{Answer as NodeAnswer}

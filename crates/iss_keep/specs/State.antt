@@ -7,10 +7,10 @@ use Rattle.iss_journal.specs.Promises.{OnlyLeaves}
 use Rattle.iss_journal.specs.Sound.{IsSound, disk_of, entries_of, is_attached}
 use Rattle.iss_journal.specs.declared.journal.Journal.{Journal}
 use Rattle.iss_keys.specs.Directories.{DirectoryView}
-use Rattle.iss_model.specs.Concrete.{keys_of}
+use Rattle.iss_rules.specs.Concrete.{keys_of}
 use Rattle.iss_model.specs.Node.{Core}
-use Rattle.iss_model.specs.Runs.{IsSetupOf}
-use Rattle.iss_model.specs.declared.causes.NodeEvent.TheVariants.{AskFrom}
+use Rattle.iss_rules.specs.Setups.{IsSetupOf}
+use Rattle.iss_causes.specs.declared.causes.NodeEvent.TheVariants.{AskFrom}
 use Rattle.iss_node.specs.State.{NodeState, Stands}
 use Rattle.iss_request.specs.declared.ids.NodeId.{NodeId}
 use Rattle.iss_request.specs.declared.setups.Setup.{Setup}

@@ -5,7 +5,7 @@ use Rattle.iss_disk.specs.File.{File}
 use Rattle.iss_journal.specs.Frames.{Reads, damaged, holds}
 use Rattle.iss_journal.specs.Promises.{ComesToRest, HoldsWithOrWithout, LeavesOnly, LosesNothing, OnlyLeaves, Works}
 use Rattle.iss_model.specs.Node.{Core, Dropped as Not_taken, Stepped, Taken as Was_taken, Turn}
-use Rattle.iss_model.specs.declared.causes.Why.{Why}
+use Rattle.iss_causes.specs.declared.causes.Why.{Why}
 use Rattle.iss_node.specs.Steps.{IsMade}
 use Rattle.iss_node.specs.declared.answers.Outcome.{Outcome}
 use Rattle.iss_request.specs.declared.setups.Setup.{Setup}

@@ -1,5 +1,5 @@
 // What a kept node answers.
-use iss_model::Why;
+use iss_causes::Why;
 use iss_node::Outcome;
 
 /// What a kept node answers to an event.

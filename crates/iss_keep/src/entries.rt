@@ -1,9 +1,9 @@
 //! The events of a node as entries of its journal. `specs/Entries.antt` has the table.
 ghost use Rattle.std.specs.Prelude.{◌≡◌, ◌↔◌, ◌∷◌, ℕ, List, Some, IfOk};
-ghost use Rattle.iss_model.specs.declared.causes.NodeEvent.{NodeEvent};
+ghost use Rattle.iss_causes.specs.declared.causes.NodeEvent.{NodeEvent};
 ghost use Rattle.iss_keep.specs.Entries.{IsEntryOf, ask_in, event_in, node_in, packet_entry, propose_in, spell_event, timeout_in};
 
-use iss_model::NodeEvent;
+use iss_causes::NodeEvent;
 use iss_request::{Bytes, NoMemory, NodeId};
 use std::alloc::Global;
 

@@ -6,14 +6,14 @@ ghost use Rattle.iss_keep.specs.Entries.{spell_event};
 ghost use Rattle.iss_keep.specs.Keeping.{HasEnded, HasStepped};
 ghost use Rattle.iss_keep.specs.Steps.{IsWritten, makes_stale, sight};
 ghost use Rattle.iss_model.specs.Node.{Core};
-ghost use Rattle.iss_model.specs.Runs.{IsSetupOf};
+ghost use Rattle.iss_rules.specs.Setups.{IsSetupOf};
 ghost use Rattle.iss_node.specs.State.{Stands};
 
 use crate::answers::Answer;
 use crate::entries::encode_entry;
 use iss_disk::{Disk, EndError};
 use iss_journal::Journal;
-use iss_model::NodeEvent;
+use iss_causes::NodeEvent;
 use iss_node::{Answer as NodeAnswer, Node, Outcome};
 use iss_request::Epoch;
 use iss_sb::Sequenced;

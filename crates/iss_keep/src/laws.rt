@@ -7,7 +7,7 @@ ghost use Rattle.iss_keep.specs.Cores.{core_of, step_of};
 ghost use Rattle.iss_keep.specs.Entries.{event_in};
 ghost use Rattle.iss_keep.specs.Makings.{AreApart, makings_from, makings_of};
 ghost use Rattle.iss_model.specs.Node.{Core, Taken, Turn};
-ghost use Rattle.iss_model.specs.declared.causes.NodeEvent.{NodeEvent};
+ghost use Rattle.iss_causes.specs.declared.causes.NodeEvent.{NodeEvent};
 ghost use Rattle.iss_request.specs.declared.setups.Setup.{Setup};
 
 use iss_journal::a_file_has_one_reading;

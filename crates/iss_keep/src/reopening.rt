@@ -4,9 +4,9 @@ ghost use Rattle.iss_journal.specs.Sound.{IsSound, disk_of, entries_of, is_attac
 ghost use Rattle.iss_keep.specs.Cores.{StopsAt};
 ghost use Rattle.iss_keep.specs.Replays.{GoesTo, IsOf, IsReplayed};
 ghost use Rattle.iss_keep.specs.Steps.{IsAttached, IsDamaged, LosesNone, sight};
-ghost use Rattle.iss_model.specs.Concrete.{keys_of};
+ghost use Rattle.iss_rules.specs.Concrete.{keys_of};
 ghost use Rattle.iss_model.specs.Node.{Core, idle};
-ghost use Rattle.iss_model.specs.Runs.{IsSetupOf};
+ghost use Rattle.iss_rules.specs.Setups.{IsSetupOf};
 ghost use Rattle.iss_node.specs.State.{Stands};
 
 use crate::entries::decode_entry;

@@ -1,10 +1,10 @@
 //! What a kept node shows of its core, while it is not stale. Its log and its epoch it shows always.
 ghost use Rattle.std.specs.Prelude.{◌≡◌, ℕ, IfOk, map, reverse};
 ghost use Rattle.iss_keep.specs.State.{IsAt};
-ghost use Rattle.iss_model.specs.Concrete.{rules_of};
-ghost use Rattle.iss_model.specs.Formats.{formats_of};
+ghost use Rattle.iss_rules.specs.Concrete.{rules_of};
+ghost use Rattle.iss_rules.specs.Formats.{formats_of};
 ghost use Rattle.iss_model.specs.Node.{Core};
-ghost use Rattle.iss_model.specs.Past.{log_of};
+ghost use Rattle.iss_rules.specs.Past.{log_of};
 ghost use Rattle.iss_model.specs.Views.{accepted_by, claims_of_bytes, is_castable_now, unfilled};
 ghost use Rattle.iss_node.specs.State.{accepted_of};
 ghost use Rattle.iss_request.specs.Log.{ids};

@@ -1,11 +1,11 @@
 //! A node alone under echo, in epochs of one slot. It signs its word on a batch, its echo of that, and its vote on the epoch's end.
-ghost use Rattle.iss_model.specs.Runs.{IsSetupOf};
+ghost use Rattle.iss_rules.specs.Setups.{IsSetupOf};
 ghost use Rattle.sb_echo.specs.Echo.{echo};
 
 use iss_disk::MemoryDisk;
 use iss_keep::{Answer, Kept};
 use iss_keys::SharedDirectory;
-use iss_model::NodeEvent;
+use iss_causes::NodeEvent;
 use iss_node::Outcome;
 use iss_request::{Bytes, Kind, NodeId, Nodes, Policy, Setup};
 use sb_echo::Echo;

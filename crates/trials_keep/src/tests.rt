@@ -1,13 +1,13 @@
 //! One kept node of three. A disk stops after so many calls: the node that is reopened has the events that were taken.
 ghost use Rattle.std.specs.Prelude.{◌<◌, length};
-ghost use Rattle.iss_model.specs.Runs.{IsSetupOf};
+ghost use Rattle.iss_rules.specs.Setups.{IsSetupOf};
 ghost use Rattle.sb_relay.specs.Relay.{relay};
 
 use iss_disk::MemoryDisk;
 use iss_journal::{AttachError, Journal};
 use iss_keep::{Answer, Kept};
 use iss_keys::SharedDirectory;
-use iss_model::NodeEvent;
+use iss_causes::NodeEvent;
 use iss_request::{Bytes, Kind, NodeId, Nodes, Policy, Setup};
 use sb_relay::Relay;
 use std::alloc::Global;
