@@ -22,9 +22,8 @@ use Rattle.iss_node.specs.declared.answers.Answer.TheVariants.{Dropped as Node_d
 use Rattle.iss_node.specs.declared.answers.Outcome.{Outcome}
 use Rattle.iss_request.specs.declared.ids.NodeId.{NodeId}
 use Rattle.iss_request.specs.declared.setups.Setup.{Setup}
-use Rattle.iss_sb.specs.Evidence.{Item, Module}
-use Rattle.iss_sb.specs.Calls.{AreToNodes}
-use Rattle.iss_sb.specs.declared.effects.Params.{Params}
+use Rattle.iss_sb.specs.Evidence.{Module}
+use Rattle.iss_sb.specs.Calls.{AreToNodes, Relation}
 use Rattle.iss_keep.specs.Cores.{core_after, core_of, core_with, step_of}
 use Rattle.iss_keep.specs.Entries.{event_in, spell_event}
 use Rattle.iss_keep.specs.State.{AsksNobody, IsAt, IsKept, KeptState, LeadsTo, StandsFor, state_over}
@@ -89,7 +88,7 @@ leads-on n entries event before after (inr nobody) more who = inr (still-nobody 
 leads-on n entries event before after (inl h) more (inl of) = inl (more of h)
 leads-on n entries event before after (inl h) more (inr who) = inr (nobody-asked n entries event who.0 who.1 who.2)
 
-module _ {M Msg D : Type 0} (m : Module Msg) (stands : M → Params → ℕ → List (Item Msg) → Type 0) (history : D → List File) (room : D → Room) (directory : DirectoryView) where
+module _ {M Msg D : Type 0} (m : Module Msg) (stands : Relation M Msg) (history : D → List File) (room : D → Room) (directory : DirectoryView) where
   not-both : (b : Bool) (P : Type 0) → b ≡ true → b ≡ false → P
   not-both b P t f = absurd (true≢false (sym t ∙ f))
 

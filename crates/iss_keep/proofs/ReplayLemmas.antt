@@ -16,14 +16,14 @@ use Rattle.iss_node.specs.declared.answers.Outcome.{Outcome}
 use Rattle.iss_request.specs.declared.ids.NodeId.{NodeId}
 use Rattle.iss_request.specs.declared.requests.Value.{Value}
 use Rattle.iss_request.specs.declared.setups.Setup.{Setup}
-use Rattle.iss_sb.specs.Evidence.{Item, Module}
-use Rattle.iss_sb.specs.declared.effects.Params.{Params}
+use Rattle.iss_sb.specs.Calls.{Relation}
+use Rattle.iss_sb.specs.Evidence.{Module}
 use Rattle.iss_keep.proofs.CoreLemmas.{one-more}
 use Rattle.iss_keep.specs.Cores.{StopsAt, core_after, core_of, core_with, step_of}
 use Rattle.iss_keep.specs.Entries.{event_in}
 use Rattle.iss_keep.specs.Replays.{GoesTo, IsOf, IsReplayed}
 
-module _ {M Msg : Type 0} (s : Setup) (m : Module Msg) (stands : M → Params → ℕ → List (Item Msg) → Type 0) (me : ℕ) where
+module _ {M Msg : Type 0} (s : Setup) (m : Module Msg) (stands : Relation M Msg) (me : ℕ) where
   -- ---- one entry
 
   module _ (c : Core Msg) (entry : List ℕ) (new : NodeState M Msg) where
@@ -57,7 +57,7 @@ module _ {M Msg : Type 0} (s : Setup) (m : Module Msg) (stands : M → Params �
 
 -- ---- the loop
 
-module _ {M Msg : Type 0} (s : Setup) (m : Module Msg) (stands : M → Params → ℕ → List (Item Msg) → Type 0) (me : NodeId) (entries : List (List ℕ)) where
+module _ {M Msg : Type 0} (s : Setup) (m : Module Msg) (stands : Relation M Msg) (me : NodeId) (entries : List (List ℕ)) where
   pub replay-start : (node : NodeState M Msg) → Stands m stands node idle → IsReplayed s m stands me.0 (take 0 entries) node
   replay-start node h = (idle, h, refl)
 
@@ -90,7 +90,7 @@ pub still-of : {M Msg : Type 0} (s : Setup) (me : NodeId) (old new : NodeState M
 still-of s me old new own same = record { cluster = same.0 ∙ own.cluster; number = same.1 ∙ own.number }
 
 -- a node that has taken nothing shows an empty log, in epoch 0
-pub fresh-shown : {M Msg : Type 0} (m : Module Msg) (stands : M → Params → ℕ → List (Item Msg) → Type 0) (v : NodeState M Msg) → Stands m stands v idle →
+pub fresh-shown : {M Msg : Type 0} (m : Module Msg) (stands : Relation M Msg) (v : NodeState M Msg) → Stands m stands v idle →
     (v.parts.log.entries ≡ []) × (v.parts.epoch ≡ 0)
 fresh-shown m stands v h =
     (sym (reverse-reverse v.parts.log.entries) ∙ ap (λ (xs : List Value). reverse xs) (sym h.held.parts.tied.log ∙ newborn-log (rules_of v.parts.setup) m v.parts.me.0), h.held.parts.tied.epoch)

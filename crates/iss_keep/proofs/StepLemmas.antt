@@ -9,8 +9,8 @@ use Rattle.iss_node.specs.State.{NodeState, Stands}
 use Rattle.iss_node.specs.Steps.{HasRetreated, IsSpoiled}
 use Rattle.iss_node.specs.declared.answers.Answer.TheVariants.{Taken as Node_takes}
 use Rattle.iss_node.specs.declared.answers.Outcome.{Outcome}
-use Rattle.iss_sb.specs.Evidence.{Item, Module}
-use Rattle.iss_sb.specs.declared.effects.Params.{Params}
+use Rattle.iss_sb.specs.Calls.{Relation}
+use Rattle.iss_sb.specs.Evidence.{Module}
 use Rattle.iss_keep.specs.Entries.{spell_event}
 use Rattle.iss_keep.specs.Keeping.{Answers, HasEnded, HasStepped, ShowsSame}
 use Rattle.iss_keep.specs.declared.answers.Answer.{Answer}
@@ -31,7 +31,7 @@ shows-itself v = record { log = refl; epoch = refl }
 
 -- ---- where it was
 
-module _ {M Msg : Type 0} (m : Module Msg) (stands : M → Params → ℕ → List (Item Msg) → Type 0) (event : NodeEvent) (old taken : NodeState M Msg) (outcome : Outcome)
+module _ {M Msg : Type 0} (m : Module Msg) (stands : Relation M Msg) (event : NodeEvent) (old taken : NodeState M Msg) (outcome : Outcome)
     (good : IsSetupOf m old.parts.setup) (core : (c : Core Msg) × Stands m stands old c) (setup : taken.parts.setup ≡ old.parts.setup) (me : taken.parts.me ≡ old.parts.me)
     (answer : Answers m stands event old taken (Node_takes outcome)) where
   -- its entry fits into a journal

@@ -29,8 +29,8 @@ use Rattle.iss_packet.specs.declared.packets.Packet.{Packet}
 use Rattle.iss_request.specs.Fields.{Bad, Good, Parsed}
 use Rattle.iss_request.specs.declared.requests.Value.{Value}
 use Rattle.iss_request.specs.declared.setups.Setup.{Setup}
-use Rattle.iss_sb.specs.Evidence.{Item, Module}
-use Rattle.iss_sb.specs.declared.effects.Params.{Params}
+use Rattle.iss_sb.specs.Calls.{Relation}
+use Rattle.iss_sb.specs.Evidence.{Module}
 use Rattle.iss_keep.specs.Entries.{NamesNode, spell_event}
 
 -- ---- its entry
@@ -122,7 +122,7 @@ log-cut a b h = ap (λ (xs : List Value). take (length a) xs) h.1 ∙ take_at a 
 pub log-long : (a b : List Value) → GoesOn a b → length a ≤ length b
 log-long a b h = let l = ap (λ (xs : List Value). length xs) h.1 in let k = length-append a h.0 in omega (arith, l, k)
 
-module _ {M Msg : Type 0} (m : Module Msg) (stands : M → Params → ℕ → List (Item Msg) → Type 0) (old new : NodeState M Msg) (c : Core Msg) (event : NodeEvent) (t : Turn Msg)
+module _ {M Msg : Type 0} (m : Module Msg) (stands : Relation M Msg) (old new : NodeState M Msg) (c : Core Msg) (event : NodeEvent) (t : Turn Msg)
     (good : IsSetupOf m old.parts.setup) (before : Stands m stands old c) (now : Stands m stands new t.core)
     (taken : step (formats_of old.parts.setup m) (rules_of old.parts.setup) m old.parts.me.0 c event ≡ Taken t)
     (setup : new.parts.setup ≡ old.parts.setup) (me : new.parts.me ≡ old.parts.me) where

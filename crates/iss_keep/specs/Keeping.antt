@@ -9,13 +9,13 @@ use Rattle.iss_node.specs.Steps.{HasRetreated, IsAnswer, IsOfNodes}
 use Rattle.iss_node.specs.declared.answers.Answer.{Answer as NodeAnswer}
 use Rattle.iss_node.specs.declared.answers.Answer.TheVariants.{Dropped as Node_drops, Taken as Node_takes}
 use Rattle.iss_node.specs.declared.answers.Outcome.{Outcome}
-use Rattle.iss_sb.specs.Evidence.{Item, Module}
-use Rattle.iss_sb.specs.declared.effects.Params.{Params}
+use Rattle.iss_sb.specs.Calls.{Relation}
+use Rattle.iss_sb.specs.Evidence.{Module}
 use Rattle.iss_keep.specs.declared.answers.Answer.{Answer}
 use Rattle.iss_keep.specs.declared.answers.Answer.TheVariants.{Dropped, Failed, NoMemory, Stale, Taken}
 
 -- a node answers so to the step of each core that it stands for
-abbrev pub Answers : {M Msg : Type 0} → Module Msg → (M → Params → ℕ → List (Item Msg) → Type 0) → NodeEvent → NodeState M Msg → NodeState M Msg →
+abbrev pub Answers : {M Msg : Type 0} → Module Msg → Relation M Msg → NodeEvent → NodeState M Msg → NodeState M Msg →
     NodeAnswer → Type 0
 Answers {Msg = Msg} m stands event old new answer = (c : Core Msg) → Stands m stands old c →
     IsAnswer m stands (IsOfNodes old.parts.setup.n event) c (step (formats_of old.parts.setup m) (rules_of old.parts.setup) m old.parts.me.0 c event) new answer
@@ -26,7 +26,7 @@ pub record ShowsSame {M Msg : Type 0} (old new : NodeState M Msg) : Type 0 where
   pub epoch : new.parts.epoch ≡ old.parts.epoch
 
 -- what an event left of the node
-abbrev pub HasStepped : {M Msg : Type 0} → Module Msg → (M → Params → ℕ → List (Item Msg) → Type 0) → NodeEvent → NodeState M Msg → NodeState M Msg →
+abbrev pub HasStepped : {M Msg : Type 0} → Module Msg → Relation M Msg → NodeEvent → NodeState M Msg → NodeState M Msg →
     Answer → Type 0
 HasStepped m stands event old new (Taken outcome) = Answers m stands event old new (Node_takes outcome)
 HasStepped m stands event old new (Dropped why) = Answers m stands event old new (Node_drops why)

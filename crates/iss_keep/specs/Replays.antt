@@ -4,19 +4,19 @@ use Rattle.iss_model.specs.Node.{Core}
 use Rattle.iss_node.specs.State.{NodeState, Stands}
 use Rattle.iss_request.specs.declared.ids.NodeId.{NodeId}
 use Rattle.iss_request.specs.declared.setups.Setup.{Setup}
-use Rattle.iss_sb.specs.Evidence.{Item, Module}
-use Rattle.iss_sb.specs.declared.effects.Params.{Params}
+use Rattle.iss_sb.specs.Calls.{Relation}
+use Rattle.iss_sb.specs.Evidence.{Module}
 use Rattle.iss_keep.specs.Cores.{core_of, core_with}
 use Rattle.iss_keep.specs.Entries.{event_in}
 
 -- a node stands for the core that the entry leads to, or it leads to none
-abbrev pub GoesTo : {M Msg : Type 0} → Setup → Module Msg → (M → Params → ℕ → List (Item Msg) → Type 0) → ℕ → Core Msg → List ℕ →
+abbrev pub GoesTo : {M Msg : Type 0} → Setup → Module Msg → Relation M Msg → ℕ → Core Msg → List ℕ →
     NodeState M Msg → Bool → Type 0
 GoesTo {Msg = Msg} s m stands me c entry new true = (d : Core Msg) × Stands m stands new d × (core_with s m me c (event_in s.n entry) ≡ Some d)
 GoesTo s m stands me c entry new false = core_with s m me c (event_in s.n entry) ≡ None
 
 -- a node stands for the core of these entries
-abbrev pub IsReplayed : {M Msg : Type 0} → Setup → Module Msg → (M → Params → ℕ → List (Item Msg) → Type 0) → ℕ → List (List ℕ) →
+abbrev pub IsReplayed : {M Msg : Type 0} → Setup → Module Msg → Relation M Msg → ℕ → List (List ℕ) →
     NodeState M Msg → Type 0
 IsReplayed {Msg = Msg} s m stands me entries v = (c : Core Msg) × Stands m stands v c × (core_of s m me entries ≡ Some c)
 

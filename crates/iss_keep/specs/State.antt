@@ -14,8 +14,8 @@ use Rattle.iss_causes.specs.declared.causes.NodeEvent.TheVariants.{AskFrom}
 use Rattle.iss_node.specs.State.{NodeState, Stands}
 use Rattle.iss_request.specs.declared.ids.NodeId.{NodeId}
 use Rattle.iss_request.specs.declared.setups.Setup.{Setup}
-use Rattle.iss_sb.specs.Evidence.{Item, Module}
-use Rattle.iss_sb.specs.declared.effects.Params.{Params}
+use Rattle.iss_sb.specs.Calls.{Relation}
+use Rattle.iss_sb.specs.Evidence.{Module}
 use Rattle.iss_keep.specs.Cores.{core_of}
 use Rattle.iss_keep.specs.Entries.{spell_event}
 
@@ -34,13 +34,13 @@ state_over s me node journal stale =
     record { setup = s; me = me; node = node; disk = disk_of journal; entries = entries_of journal; stale = stale }
 
 -- It is not stale, and its node stands for this core, the next leaf included.
-pub record IsAt {M Msg D : Type 0} (m : Module Msg) (stands : M → Params → ℕ → List (Item Msg) → Type 0)
+pub record IsAt {M Msg D : Type 0} (m : Module Msg) (stands : Relation M Msg)
     (v : KeptState M Msg D) (c : Core Msg) : Type 0 where
   pub fresh : v.stale ≡ false
   pub node : Stands m stands v.node c
 
 -- It stands for the core of the entries in its journal, the next leaf included.
-pub record StandsFor {M Msg D : Type 0} (m : Module Msg) (stands : M → Params → ℕ → List (Item Msg) → Type 0)
+pub record StandsFor {M Msg D : Type 0} (m : Module Msg) (stands : Relation M Msg)
     (v : KeptState M Msg D) (c : Core Msg) : Type 0 where
   pub fresh : v.stale ≡ false
   pub node : Stands m stands v.node c
@@ -60,7 +60,7 @@ LeadsTo m v c = (core_of v.setup m v.me.0 v.entries ≡ Some c) ⊎ AsksNobody v
 
 -- What holds of each: it is of a cluster, its journal is sound, and it is stale, or its entries, which every crash leaves, lead to
 -- the core that its node stands for.
-pub record IsKept {M Msg D : Type 0} (m : Module Msg) (stands : M → Params → ℕ → List (Item Msg) → Type 0)
+pub record IsKept {M Msg D : Type 0} (m : Module Msg) (stands : Relation M Msg)
     (history : D → List File) (room : D → Room) (directory : DirectoryView) (journal : Journal D) (v : KeptState M Msg D) : Type 0 where
   pub good : IsSetupOf m v.setup
   pub member : v.me.0 < v.setup.n

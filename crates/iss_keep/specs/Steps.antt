@@ -9,9 +9,8 @@ use Rattle.iss_causes.specs.declared.causes.Why.{Why}
 use Rattle.iss_node.specs.Steps.{IsMade}
 use Rattle.iss_node.specs.declared.answers.Outcome.{Outcome}
 use Rattle.iss_request.specs.declared.setups.Setup.{Setup}
-use Rattle.iss_sb.specs.Calls.{AreToNodes}
-use Rattle.iss_sb.specs.Evidence.{Item, Module}
-use Rattle.iss_sb.specs.declared.effects.Params.{Params}
+use Rattle.iss_sb.specs.Calls.{AreToNodes, Relation}
+use Rattle.iss_sb.specs.Evidence.{Module}
 use Rattle.iss_keep.specs.Cores.{StopsAt}
 use Rattle.iss_keep.specs.State.{IsAt, KeptState, StandsFor}
 use Rattle.iss_keep.specs.declared.answers.Answer.{Answer}
@@ -19,7 +18,7 @@ use Rattle.iss_keep.specs.declared.answers.Answer.TheVariants.{Dropped, Failed, 
 
 -- The event was taken: the node stands for the core after the step, and hands out what the step made. Where the event asks nobody but
 -- nodes, all of it is sent to nodes, and entries that led to the core before the step lead to the core after it.
-pub record IsTurn {M Msg D : Type 0} (m : Module Msg) (stands : M → Params → ℕ → List (Item Msg) → Type 0) (asked : Type 0)
+pub record IsTurn {M Msg D : Type 0} (m : Module Msg) (stands : Relation M Msg) (asked : Type 0)
     (old : KeptState M Msg D) (c : Core Msg) (stepped : Stepped Msg) (new : KeptState M Msg D) (outcome : Outcome) : Type 0 where
   pub turn : Turn Msg
   pub step_is : stepped ≡ Was_taken turn
@@ -29,14 +28,14 @@ pub record IsTurn {M Msg D : Type 0} (m : Module Msg) (stands : M → Params →
   pub addressed : asked → AreToNodes new.setup.n outcome.sends
 
 -- It was dropped: nothing has changed.
-pub record IsDrop {M Msg D : Type 0} (m : Module Msg) (stands : M → Params → ℕ → List (Item Msg) → Type 0)
+pub record IsDrop {M Msg D : Type 0} (m : Module Msg) (stands : Relation M Msg)
     (old : KeptState M Msg D) (c : Core Msg) (stepped : Stepped Msg) (new : KeptState M Msg D) (why : Why) : Type 0 where
   pub step_is : stepped ≡ Not_taken why
   pub at : IsAt m stands new c
   pub stands_for : StandsFor m stands old c → StandsFor m stands new c
 
 -- the answer to a step of the core that the node stands for; `asked` says that the event asks nobody but nodes
-abbrev pub IsAnswer : {M Msg D : Type 0} → Module Msg → (M → Params → ℕ → List (Item Msg) → Type 0) → Type 0 → KeptState M Msg D → Core Msg →
+abbrev pub IsAnswer : {M Msg D : Type 0} → Module Msg → Relation M Msg → Type 0 → KeptState M Msg D → Core Msg →
     Stepped Msg → KeptState M Msg D → Answer → Type 0
 IsAnswer m stands asked old c stepped new (Taken outcome) = IsTurn m stands asked old c stepped new outcome
 IsAnswer m stands asked old c stepped new (Dropped why) = IsDrop m stands old c stepped new why
