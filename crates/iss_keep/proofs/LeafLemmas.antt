@@ -65,10 +65,10 @@ module _ {Msg : Type 0} (s : Setup) (m : Module Msg) (me : ℕ) where
 
   -- ---- what is appended later
 
-  nowhere : (d : Core Msg) (P : Type 0) → None ≡ Some d → P
+  pub nowhere : (d : Core Msg) (P : Type 0) → None ≡ Some d → P
   nowhere d P h = absurd (cc)
 
-  same-core : (c d : Core Msg) → Some c ≡ Some d → c ≡ d
+  pub same-core : (c d : Core Msg) → Some c ≡ Some d → c ≡ d
   same-core c d h = cc
 
   stepped-on : (c d : Core Msg) (o : Stepped Msg) (front more : List (List ℕ)) → from_core (core_after o) (core_from s m me front) ≡ Some d →

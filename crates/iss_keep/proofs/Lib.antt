@@ -6,3 +6,4 @@ pub mod ReplayLemmas
 pub mod StepLemmas
 pub mod TakenLemmas
 pub mod WriteLemmas
+pub mod DeedLemmas

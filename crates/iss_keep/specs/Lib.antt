@@ -1,4 +1,5 @@
 pub mod Cores
+pub mod Deeds
 pub mod Entries
 pub mod Keeping
 pub mod Makings
