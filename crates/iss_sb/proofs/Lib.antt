@@ -8,6 +8,7 @@ pub mod Quorums
 pub mod Read
 pub mod Signatures
 pub mod Silent
+pub mod Leaves
 pub mod Heard
 pub mod Inputs
 pub mod Fields

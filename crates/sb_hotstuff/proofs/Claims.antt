@@ -1,5 +1,5 @@
 -- What a node shows of others' votes, it heard: each claim in a certificate that it sends stood in a message that it took.
-use Rattle.std.proofs.Common.{◌≡◌, ◌⊎◌, arith, add-zero, ℕ, zero, suc, ◌+◌, ◌*◌, ◌==◌, ◌&&◌, Bool, true, false, if◌then◌else◌, List, [], ◌∷◌, ◌++◌, length, Option, Some, None, refl, sym, ap, ◌∙◌, subst, inl, inr}
+use Rattle.std.proofs.Common.{◌≡◌, ◌⊎◌, ℕ, zero, suc, ◌+◌, ◌*◌, ◌==◌, ◌&&◌, Bool, true, false, if◌then◌else◌, List, [], ◌∷◌, ◌++◌, length, Option, Some, None, refl, sym, ap, ◌∙◌, subst, inl, inr}
 use Rattle.std.specs.Prelude.{nat_lt}
 use Rattle.iss_base.specs.Lists.{In, nth}
 use Rattle.iss_base.proofs.Lists.{and-true, in_append, in_left, in_right, same_bytes-is}
@@ -13,6 +13,7 @@ use Rattle.iss_sb.specs.declared.effects.To.{To}
 use Rattle.iss_sb.specs.Evidence.{Item, one_or_none}
 use Rattle.iss_sb.specs.Statements.{signature}
 use Rattle.iss_sb.proofs.Claims.{IsOld, PassesOn, Says, before, now, own}
+use Rattle.iss_sb.proofs.Leaves.{by-first, by-next}
 use Rattle.iss_sb.specs.Laws.{ComesWith, IsSignedBy, SignsOnce, WasSeen}
 use Rattle.hs_tree.specs.declared.certificates.Certificate.{Certificate}
 use Rattle.hs_tree.specs.declared.certificates.Certificate.TheVariants.{Root, Votes}
@@ -351,13 +352,7 @@ module _ (p : Params) (me : ℕ) where
       let st = own_statement basic p x.1 in
       let sig = signature p me leaf st in
       let same : st ≡ c.statement = sym (ap (λ (z : Claim). z.statement) e ∙ ap (own_statement basic p) is ∙ statement-same sig x.1) in
-      record {
-        place = 0;
-        statement = ap Some same;
-        signature =
-            ap (λ (z : Claim). z.sig) e ∙ ap signature_of is ∙ signature-same sig x.1 ∙ ap (λ (z : List ℕ). signature p me leaf z) same
-            ∙ ap (λ (q : ℕ). signature p me q c.statement) (sym (add-zero leaf));
-      }
+      by-first p me leaf st (stated ds) c same (ap (λ (z : Claim). z.sig) e ∙ ap signature_of is ∙ signature-same sig x.1)
 
   signed-at : (leaf : ℕ) (ds : List (To × Message)) (to : To) (msg : Message) (c : Claim) → In {A = To × Message} (to, msg) (sign_all p me leaf ds) →
       In c (claim me (own_statement basic p msg) (signature_of msg) ∷ []) → IsSignedBy p me leaf (stated ds) c
@@ -365,9 +360,7 @@ module _ (p : Params) (me : ℕ) where
   signed-at leaf [] to msg c h (inl e) = absurd h
   signed-at leaf (x ∷ ds) to msg c (inl q) (inl e) = first-signed leaf x ds msg c (ap (λ (z : To × Message). z.1) q) e
   signed-at leaf (x ∷ ds) to msg c (inr k) (inl e) =
-      let r = signed-at (suc leaf) ds to msg c k (inl e) in
-      let further : suc leaf + r.place ≡ leaf + suc r.place = omega arith in
-      record { place = suc r.place; statement = r.statement; signature = r.signature ∙ ap (λ (q : ℕ). signature p me q c.statement) further }
+      by-next p me leaf (own_statement basic p x.1) (stated ds) c (signed-at (suc leaf) ds to msg c k (inl e))
 
 pub hotstuff-once : SignsOnce hotstuff
 hotstuff-once p me xs i leaf good made =

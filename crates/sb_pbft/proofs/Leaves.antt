@@ -1,7 +1,7 @@
 -- Each leaf that signs in a step of PBFT is of one statement; whatever other claim of its own a node sends, it was told before or sent before.
-use Rattle.std.proofs.Common.{◌≡◌, ◌⊎◌, ◌<◌, ◌+◌, ◌*◌, ◌&&◌, ◌++◌, ◌∷◌, ◌∙◌, ℕ, suc, Bool, true, false, cond, List, [], length, length-append, take, Option, Some, None, refl, sym, ap, subst, inl, inr, arith, add-zero}
+use Rattle.std.proofs.Common.{◌≡◌, ◌⊎◌, ◌<◌, ◌+◌, ◌*◌, ◌&&◌, ◌++◌, ◌∷◌, ◌∙◌, ℕ, suc, Bool, true, false, cond, List, [], length, length-append, take, Option, Some, None, refl, sym, ap, subst, inl, inr, arith}
 use Rattle.std.proofs.lemmas.Bool.{eq-eqb, false≢true}
-use Rattle.std.specs.Prelude.{is_some, slice_get, ◌==◌}
+use Rattle.std.specs.Prelude.{is_some, ◌==◌}
 use Rattle.iss_base.specs.Lists.{In, first_of}
 use Rattle.iss_base.proofs.Lists.{first-cases, in_append, in_left, in_right, is-eq, some-injective}
 use Rattle.iss_request.specs.declared.ids.NodeId.{NodeId}
@@ -15,16 +15,17 @@ use Rattle.iss_sb.specs.Laws.{ComesWith, GoesWith, IsSignedBy, SignsOnce, WasSee
 use Rattle.iss_sb.specs.Legal.{AreMade, Front}
 use Rattle.iss_sb.specs.Statements.{signature}
 use Rattle.iss_sb.specs.declared.effects.Claim.{Claim}
-use Rattle.iss_sb.specs.declared.effects.Input.TheVariants.{Cast, Receive, Timeout}
+use Rattle.iss_sb.specs.declared.effects.Input.TheVariants.{Cast, Receive}
 use Rattle.iss_sb.specs.declared.effects.Params.{Params}
 use Rattle.iss_sb.specs.declared.effects.To.{To}
 use Rattle.iss_sb.specs.declared.effects.To.TheVariants.{All as To_all}
+use Rattle.iss_sb.proofs.Leaves.{by-first, by-later, by-more, by-next}
 use Rattle.iss_sb.proofs.Legal.{front-in, made-front}
 use Rattle.pbft_wire.specs.Statements.{digest_of, state_at, state_change, state_new}
 use Rattle.pbft_wire.specs.declared.messages.Certificate.{Certificate}
 use Rattle.pbft_wire.specs.declared.messages.Change.{Change}
 use Rattle.pbft_wire.specs.declared.messages.Message.{Message}
-use Rattle.pbft_wire.specs.declared.messages.Message.TheVariants.{Commit, NewView, PrePrepare, Prepare, ViewChange}
+use Rattle.pbft_wire.specs.declared.messages.Message.TheVariants.{NewView, PrePrepare, Prepare, ViewChange}
 use Rattle.pbft_wire.specs.declared.messages.Vote.{Vote}
 use Rattle.pbft_views.specs.Choice.{choice}
 use Rattle.pbft_views.specs.Claims.{certificate_claims, certificates_claims, change_claims, changes_claims, chosen_claims, claim, claims}
@@ -58,7 +59,7 @@ some-too : {A B : Type 0} (o : Option A) (r : Option B) (x : A) → is_some o �
 some-too o r x same h = sym same ∙ ap is_some h
 
 behind-none : {A : Type 0} (o more : Option A) (x : A) → o ≡ None → first_of o more ≡ Some x → more ≡ Some x
-behind-none o more x none h = subst (λ (z : Option A). first_of z more ≡ Some x) none h
+behind-none {A = A} o more x none h = subst (λ (z : Option A). first_of z more ≡ Some x) none h
 
 module _ (p : Params) (me : ℕ) where
   -- ---- claims that were seen
@@ -258,51 +259,19 @@ module _ (p : Params) (me : ℕ) where
   all-length [] = refl
   all-length (d ∷ ds) = let a = length-append (stated d) (stated_all ds) in let b = stated-length d in let c = all-length ds in omega (arith, a, b, c)
 
-  -- ---- places in rows
-
-  get-left : (xs ys : List (List ℕ)) (k : ℕ) (x : List ℕ) → slice_get xs k ≡ Some x → slice_get (xs ++ ys) k ≡ Some x
-  get-left [] ys k x h = absurd (cc)
-  get-left (y ∷ xs) ys 0 x h = h
-  get-left (y ∷ xs) ys (suc k) x h = get-left xs ys k x h
-
-  get-right : (xs ys : List (List ℕ)) (k : ℕ) → slice_get (xs ++ ys) (length xs + k) ≡ slice_get ys k
-  get-right [] ys k = refl
-  get-right (y ∷ xs) ys k = get-right xs ys k
-
-  by-more : (leaf : ℕ) (xs ys : List (List ℕ)) (c : Claim) → IsSignedBy p me leaf xs c → IsSignedBy p me leaf (xs ++ ys) c
-  by-more leaf xs ys c h = record { place = h.place; statement = get-left xs ys h.place c.statement h.statement; signature = h.signature }
-
-  by-later : (leaf : ℕ) (xs ys : List (List ℕ)) (c : Claim) → IsSignedBy p me (leaf + length xs) ys c → IsSignedBy p me leaf (xs ++ ys) c
-  by-later leaf xs ys c h =
-      let further : leaf + length xs + h.place ≡ leaf + (length xs + h.place) = omega arith in
-      record {
-        place = length xs + h.place;
-        statement = get-right xs ys h.place ∙ h.statement;
-        signature = h.signature ∙ ap (λ (q : ℕ). signature p me q c.statement) further;
-      }
-
-  by-first : (leaf : ℕ) (st : List ℕ) (rest : List (List ℕ)) (c : Claim) → c ≡ claim me st (signature p me leaf st) → IsSignedBy p me leaf (st ∷ rest) c
-  by-first leaf st rest c e =
-      let same : st ≡ c.statement = sym (ap (λ (z : Claim). z.statement) e) in
-      record {
-        place = 0;
-        statement = ap Some same;
-        signature =
-            ap (λ (z : Claim). z.sig) e ∙ ap (λ (z : List ℕ). signature p me leaf z) same ∙ ap (λ (q : ℕ). signature p me q c.statement) (sym (add-zero leaf));
-      }
+  mine : (leaf : ℕ) (st : List ℕ) (rest : List (List ℕ)) (c : Claim) → c ≡ claim me st (signature p me leaf st) → IsSignedBy p me leaf (st ∷ rest) c
+  mine leaf st rest c e = by-first p me leaf st rest c (sym (ap (λ (z : Claim). z.statement) e)) (ap (λ (z : Claim). z.sig) e)
 
   only-one : (leaf : ℕ) (st : List ℕ) (c : Claim) → In c (claim me st (signature p me leaf st) ∷ []) → IsSignedBy p me leaf (st ∷ []) c
-  only-one leaf st c (inl e) = by-first leaf st [] c e
+  only-one leaf st c (inl e) = mine leaf st [] c e
   only-one leaf st c (inr h) = absurd h
 
   -- the PrePrepares of a NewView
   choices-by : (leaf v : ℕ) (ys : List Change) (ss : List Slot) (c : Claim) → In c (chosen_claims p me v ys ss (choice_sigs p me leaf v ys ss)) → IsSignedBy p me leaf (choices v ys ss) c
   choices-by leaf v ys [] c h = absurd h
-  choices-by leaf v ys (s ∷ ss) c (inl e) = by-first leaf (state_at p 1 v s.0 (digest_of p (choice ys s.0))) (choices v ys ss) c e
+  choices-by leaf v ys (s ∷ ss) c (inl e) = mine leaf (state_at p 1 v s.0 (digest_of p (choice ys s.0))) (choices v ys ss) c e
   choices-by leaf v ys (s ∷ ss) c (inr h) =
-      let r = choices-by (suc leaf) v ys ss c h in
-      let further : suc leaf + r.place ≡ leaf + suc r.place = omega arith in
-      record { place = suc r.place; statement = r.statement; signature = r.signature ∙ ap (λ (q : ℕ). signature p me q c.statement) further }
+      by-next p me leaf (state_at p 1 v s.0 (digest_of p (choice ys s.0))) (choices v ys ss) c (choices-by (suc leaf) v ys ss c h)
 
 module _ (p : Params) (good : IsGoodParams pbft p) (me : ℕ) (xs : List (Item Message)) (i : Said) (made : AreMade pbft p me xs) where
   -- where a claim of a step is from
