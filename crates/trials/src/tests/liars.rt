@@ -1,6 +1,6 @@
 //! Node 0 lies: it says one batch to node 1 and another one to the nodes 2 and 3.
 use crate::tests::four::{Four, Told, check};
-use crate::tests::spelled::{batch, echo, request, word};
+use crate::tests::spelled::{ECHO, SAY, batch, echo, request, word, word_signed_as};
 use iss_causes::Why;
 use iss_request::{Bytes, Epoch, NoMemory};
 use std::alloc::Global;
@@ -127,6 +127,34 @@ fn a_forged_claim_ends_a_run(rt: HostRuntime) -> Result<(), Fail> {
     let packet = word(rt.alloc(), 1, 0, value.as_slice())?;
     let mut four = Four::start(rt.alloc())?;
     forge(&rt, rt.alloc(), &mut four, packet.as_slice())?;
+    stand(&rt, &four, [0, 0, 0, 0]);
+    Ok(())
+}
+
+// A node's word counts for nothing where it was signed as this, and ends no run.
+fn goes_by(
+    rt: &impl Abort,
+    alloc: Global,
+    four: &mut Four,
+    node: u8,
+    as_what: (u8, u8),
+) -> Result<(), Fail> {
+    let (leader, kind) = as_what;
+    let value = value(alloc, 3)?;
+    let packet = word_signed_as(alloc, node, leader, kind, value.as_slice())?;
+    let told = four.take(alloc, 2, packet.as_slice())?;
+    check(rt, told, Told::Lost(Why::BadClaim), usize::from(node));
+    Ok(())
+}
+
+// What was signed as an echo, or in the instance of another leader, is no word here, whoever signed it: node 0, which may lie, or node 1.
+#[test]
+fn what_was_signed_elsewhere_is_no_claim_here(rt: HostRuntime) -> Result<(), Fail> {
+    let mut four = Four::start(rt.alloc())?;
+    goes_by(&rt, rt.alloc(), &mut four, 0, (0, ECHO))?;
+    goes_by(&rt, rt.alloc(), &mut four, 0, (1, SAY))?;
+    goes_by(&rt, rt.alloc(), &mut four, 1, (1, ECHO))?;
+    goes_by(&rt, rt.alloc(), &mut four, 1, (2, SAY))?;
     stand(&rt, &four, [0, 0, 0, 0]);
     Ok(())
 }

@@ -90,6 +90,20 @@ pub(crate) fn word(alloc: Global, node: u8, leaf: u32, value: &[u8]) -> Result<B
     Ok(message(alloc, node, SAY, value, sig.as_slice())?)
 }
 
+/// The same word of a node, signed as a message of another kind or of another leader's instance.
+pub(crate) fn word_signed_as(
+    alloc: Global,
+    node: u8,
+    leader: u8,
+    kind: u8,
+    value: &[u8],
+) -> Result<Bytes, Fail> {
+    let statement = statement(alloc, leader, kind, value)?;
+    let keys = key(alloc, 0x20, node)?;
+    let sig = sign(alloc, &keys, 0, statement.as_slice())?;
+    Ok(message(alloc, node, SAY, value, sig.as_slice())?)
+}
+
 /// The echo of its own word, likewise.
 pub(crate) fn echo(alloc: Global, node: u8, leaf: u32, value: &[u8]) -> Result<Bytes, Fail> {
     let sig = signature(alloc, node, ECHO, leaf, value)?;
