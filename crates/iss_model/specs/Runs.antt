@@ -8,7 +8,7 @@ use Rattle.iss_request.specs.declared.requests.Request.{Request}
 use Rattle.iss_request.specs.declared.requests.Value.{Value}
 use Rattle.iss_request.specs.declared.setups.Setup.{Setup}
 use Rattle.iss_schedule.specs.declared.schedules.Event.{Event}
-use Rattle.iss_schedule.specs.declared.schedules.Event.TheVariants.{Request as Asks_order, Propose, Timeout, Ask, Deliver, Lose, Pump, Calm, Hold, Free, Drop, Bytes}
+use Rattle.iss_schedule.specs.declared.schedules.Event.TheVariants.{Request as Asks_order, Propose, Timeout, Ask, Deliver, Lose, Pump, Calm, Hold, Free, Drop, Restart, Crash, Bytes}
 use Rattle.iss_sb.specs.Calls.{kind_of}
 use Rattle.iss_sb.specs.Evidence.{Module}
 use Rattle.iss_transfer.specs.declared.pieces.Piece.{Piece}
@@ -73,6 +73,8 @@ IsAtCore s (Calm m) = Unit {0}
 IsAtCore s (Hold c) = Unit {0}
 IsAtCore s (Free c) = Unit {0}
 IsAtCore s (Drop c) = Unit {0}
+IsAtCore s (Restart c) = Unit {0}
+IsAtCore s (Crash c calls) = Unit {0}
 IsAtCore s (Bytes c bytes) = Unit {0}
 
 abbrev pub AreAtCores : Setup → List Event → Type 0

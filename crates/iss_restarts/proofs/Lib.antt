@@ -1,0 +1,4 @@
+pub mod Courses
+pub mod Entering
+pub mod Example
+pub mod Whole
