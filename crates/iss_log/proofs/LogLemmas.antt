@@ -1,5 +1,5 @@
-use Rattle.std.proofs.Common.{IsTrue, ◌↔◌, ⊎_elim, ◌≡◌, ◌≢◌, ℕ, zero, suc, ◌+◌, ◌<◌, ◌≤◌, Bool, true, false, cond, List, [], ◌∷◌, ◌++◌, length, take, refl, sym, ap, ◌∙◌, subst, arith, Option, Some, None, Result, Ok, Err, OnErr, is_some, IsSome, slice_get, slice_index, append_assoc, length-append, eqb}
-use Rattle.std.proofs.lemmas.List.{append-nil}
+use Rattle.std.proofs.Common.{IsTrue, ◌↔◌, ⊎_elim, ◌≡◌, ◌≢◌, ℕ, zero, suc, ◌+◌, ◌<◌, ◌≤◌, Bool, true, false, cond, List, [], ◌∷◌, ◌++◌, length, reverse, take, refl, sym, ap, ◌∙◌, subst, arith, Option, Some, None, Result, Ok, Err, OnErr, is_some, IsSome, slice_get, slice_index, append_assoc, length-append, eqb}
+use Rattle.std.proofs.lemmas.List.{append-nil, reverse-append}
 use Rattle.std.proofs.lemmas.Bool.{cases_lt}
 use Rattle.std.specs.Ordering.{is_eq, nat_cmp}
 use Rattle.iss_base.specs.Lists.{first_of}
@@ -95,6 +95,15 @@ advanced old new slots so_far none count =
 pub requests_more : (es : List Value) (v : Value) → requests (es ++ v ∷ []) ≡ requests es + size_of v
 requests_more [] v = omega arith
 requests_more (x ∷ es) v = let more = requests_more es v in omega arith
+
+-- how many requests there are does not change where the newest value comes first
+pub requests-turned : (log : List Value) → requests (reverse log) ≡ requests log
+requests-turned [] = refl
+requests-turned (v ∷ older) =
+    let ih = requests-turned older in
+    ap (λ (t : List Value). requests t) (reverse-append (v ∷ []) older) ∙
+    (requests_more (reverse older) v ∙
+    (let sum : requests (reverse older) + size_of v ≡ size_of v + requests older = omega (arith, ih) in sum))
 
 pub take_front : (es : List Value) (v : Value) (s : ℕ) → s ≤ length es → take s (es ++ v ∷ []) ≡ take s es
 take_front [] v zero h = refl

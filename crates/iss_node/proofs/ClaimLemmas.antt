@@ -1,5 +1,5 @@
 -- What the node says of claims is what the model says.
-use Rattle.std.proofs.Common.{◌≡◌, ◌≢◌, ◌∙◌, ◌↔◌, ℕ, ◌+◌, ◌<◌, Bool, true, false, ◌&&◌, nat_lt, eqb, cond, List, [], ◌∷◌, ◌++◌, append_assoc, Option, Some, None, length, take, get_or, refl, sym, ap, subst, add-one, arith, true≢false}
+use Rattle.std.proofs.Common.{◌≡◌, ◌≢◌, ◌∙◌, ◌↔◌, ℕ, ◌+◌, ◌<◌, Bool, true, false, eqb, cond, List, [], ◌∷◌, ◌++◌, append_assoc, Option, Some, None, length, take, get_or, refl, sym, ap, subst, add-one, arith, true≢false}
 use Rattle.std.proofs.lemmas.List.{append-nil}
 use Rattle.std.proofs.Math.Seq.{take-suc}
 use Rattle.std.proofs.lemmas.Bool.Decides.{nat_tests}
@@ -7,10 +7,10 @@ use Rattle.std.specs.Prelude.{is_some}
 use Rattle.iss_keys.proofs.DirectoryLemmas.{verified-by}
 use Rattle.iss_keys.specs.Directories.{DirectoryView, VerifiesBy}
 use Rattle.iss_keys.specs.VerifiedBy.{is_verified_by}
-use Rattle.iss_model.specs.Concrete.{rules_of}
-use Rattle.iss_model.specs.Formats.{formats_of, message_in}
+use Rattle.iss_rules.specs.Concrete.{rules_of}
+use Rattle.iss_rules.specs.Formats.{formats_of, message_in}
 use Rattle.iss_model.specs.Node.{claims_in, only_by, own_claims, packed}
-use Rattle.iss_model.specs.Past.{Past, leads_in, params_of}
+use Rattle.iss_rules.specs.Past.{Past, leads_in, params_of}
 use Rattle.iss_model.specs.Views.{claims_of_parcel}
 use Rattle.iss_node.proofs.InstanceLemmas.{leads-is}
 use Rattle.iss_node.proofs.NextLemmas.{apart}
@@ -18,10 +18,7 @@ use Rattle.iss_node.specs.Inputs.{IsHandedOut}
 use Rattle.iss_node.specs.Shape.{IsReplica}
 use Rattle.iss_node.specs.State.{IsTied, ReplicaState, core_of, led}
 use Rattle.iss_node.specs.declared.answers.Outcome.{Outcome}
-use Rattle.iss_packet.specs.Packets.{is_routed, is_routed_as}
 use Rattle.iss_packet.specs.declared.packets.Packet.{Packet}
-use Rattle.iss_packet.specs.declared.packets.PacketKind.{PacketKind}
-use Rattle.iss_packet.specs.declared.packets.PacketKind.TheVariants.{Message}
 use Rattle.iss_request.specs.declared.ids.NodeId.{NodeId}
 use Rattle.iss_request.specs.declared.setups.Setup.{Setup}
 use Rattle.iss_sb.specs.Evidence.{Item, Module}
@@ -115,18 +112,6 @@ own-left me before own xs x is other =
     is ∙ sym (ap (λ (ys : List Claim). before ++ ys) (only-more me xs x ∙ ap (λ (b : Bool). only_by me xs ++ cond b (x ∷ []) []) (apart x.by.0 me other) ∙ append-nil (only_by me xs)))
 
 -- ---- packets
-
-pub from-below : (n : ℕ) (p : Packet) → p.kind ≡ Message → is_routed n p ≡ true → p.from < n
-unfolding is_routed
-from-below n p kind routed =
-    let as_node : is_routed_as n Message p.from p.epoch.0 p.leader ≡ true = subst (λ (z : PacketKind). is_routed_as n z p.from p.epoch.0 p.leader ≡ true) kind routed in
-    let first : nat_lt p.from n ≡ true = left-of _ _ as_node in
-    let lt : p.from < n = grind (arith, nat_tests) in
-    lt
-  where
-    left-of : (a b : Bool) → (a && b) ≡ true → a ≡ true
-    left-of true b h = refl
-    left-of false b h = cc
 
 -- what the directory says is whether the signature is the node's
 pub verified-is : (d : DirectoryView) (k : ℕ) (statement other sig another : List ℕ) (b : Bool) → statement ≡ other → sig ≡ another → ((b ≡ true) ↔ VerifiesBy d.nodes k statement sig) → b ≡ is_verified_by d.nodes k other another

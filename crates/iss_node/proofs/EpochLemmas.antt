@@ -11,16 +11,17 @@ use Rattle.iss_keys.specs.Directories.{AreKeysOf}
 use Rattle.iss_log.specs.Chains.{IsChainOf}
 use Rattle.iss_log.specs.LogState.{value_at}
 use Rattle.iss_model.proofs.Casts.{ends-sound}
-use Rattle.iss_model.proofs.Ending.{advanced-log, before-advanced, ended-start}
-use Rattle.iss_model.proofs.Windows.{are-windows}
-use Rattle.iss_model.specs.Concrete.{plan_at, rules_of, start_at}
-use Rattle.iss_model.specs.Formats.{formats_of}
+use Rattle.iss_rules.proofs.Ending.{advanced-log, before-advanced, ended-start}
+use Rattle.iss_rules.proofs.Windows.{are-windows}
+use Rattle.iss_rules.specs.Concrete.{plan_at, rules_of, start_at}
+use Rattle.iss_rules.specs.Formats.{formats_of}
 use Rattle.iss_model.specs.Node.{flown, in_next_epoch, is_nil_at, joined}
-use Rattle.iss_model.specs.Past.{Past, advanced, before_own, is_complete, log_of, start_of}
+use Rattle.iss_rules.specs.Past.{Past, advanced, before_own, is_complete, log_of, start_of}
 use Rattle.iss_model.specs.Sound.{IsSoundCore}
+use Rattle.iss_rules.proofs.Layouts.{start-times}
 use Rattle.iss_node.proofs.GrowthLemmas.{log_ids-append}
 use Rattle.iss_node.proofs.TiedLemmas.{bf-long, bf-part, bounded, split-log}
-use Rattle.iss_node.proofs.OwnEpoch.{has-slots, start-at-is, start-is}
+use Rattle.iss_node.proofs.OwnEpoch.{has-slots, start-is}
 use Rattle.iss_node.specs.Epochs.{AreStarted, notes, params_by}
 use Rattle.iss_node.specs.Shape.{IsReplica}
 use Rattle.iss_node.specs.State.{AreParts, IsTied, IsTiedOver, ReplicaState, core_of, slot_value}
@@ -146,7 +147,7 @@ module _ {M Msg : Type 0} (m : Module Msg) (stands : M → Params → ℕ → Li
   begins = let q = over.start in omega (arith, q)
 
   room : start_at v.setup (reverse v.log.entries) (suc past.epoch) ≡ suc past.epoch * v.setup.epoch
-  room = let b = begins in start-at-is v.setup (reverse v.log.entries) (suc past.epoch) (omega (arith, fits, b))
+  room = let b = begins in start-times v.setup (reverse v.log.entries) (suc past.epoch) (omega (arith, fits, b))
 
   -- the epochs of the log are those before, and the one that has ended
   same-epochs : epochs v.setup past.epoch (reverse v.log.entries) ≡ epochs v.setup past.epoch before
@@ -158,7 +159,7 @@ module _ {M Msg : Type 0} (m : Module Msg) (stands : M → Params → ℕ → Li
   old-plan : v.plan ≡ plan_by v.setup past.epoch (slots_in (epochs v.setup past.epoch (reverse v.log.entries))) (conduct_of (epochs v.setup past.epoch (reverse v.log.entries)))
   old-plan =
       let q = over.start in
-      let first : start_at v.setup before past.epoch ≡ past.epoch * v.setup.epoch = start-at-is v.setup before past.epoch (omega (arith, fits, q)) in
+      let first : start_at v.setup before past.epoch ≡ past.epoch * v.setup.epoch = start-times v.setup before past.epoch (omega (arith, fits, q)) in
       over.rests.divided
       ∙ ap (λ (k : ℕ). plan_by v.setup past.epoch k (conduct_of (epochs v.setup past.epoch before))) (first ∙ sym (slots-in v.setup past.epoch (reverse v.log.entries)))
       ∙ ap (λ (p : List Ended). plan_by v.setup past.epoch (slots_in (epochs v.setup past.epoch (reverse v.log.entries))) (conduct_of p)) (sym same-epochs)

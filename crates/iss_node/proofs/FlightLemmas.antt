@@ -3,10 +3,10 @@ use Rattle.std.proofs.Common.{arith, ◌≡◌, inl, inr, ℕ, ◌<◌, ◌≤�
 use Rattle.std.specs.Prelude.{nat_lt}
 use Rattle.std.proofs.lemmas.Bool.Decides.{nat_tests}
 use Rattle.iss_base.specs.Lists.{Different, In}
-use Rattle.iss_ids.proofs.Members.{has_id-append}
+use Rattle.iss_ids.proofs.Members.{and-nor, has_id-append}
 use Rattle.iss_base.proofs.Lists.{in_append, in_left, in_right}
 use Rattle.iss_model.proofs.Flights.{AreParts, flying-ids, ids-carried, ids-within, nil-below, parts-of}
-use Rattle.iss_model.proofs.Ids.{ids-append, in-has}
+use Rattle.iss_rules.proofs.Ids.{ids-append, in-has}
 use Rattle.iss_model.specs.Node.{flown, flying, is_nil_at, returned}
 use Rattle.iss_model.specs.Sound.{carried}
 use Rattle.iss_node.specs.Flights.{landed}
@@ -45,15 +45,6 @@ flown-append (y ∷ xs) ys x =
     or-assoc : (a b c : Bool) → (a || (b || c)) ≡ ((a || b) || c)
     or-assoc true b c = refl
     or-assoc false b c = refl
-
-and-nor : (h a b : Bool) → ((h && not a) && not b) ≡ (h && not (a || b))
-and-nor true true b = refl
-and-nor true false b = refl
-and-nor false a b = refl
-
-all-of : (h : Bool) → h ≡ (h && not false)
-all-of true = refl
-all-of false = refl
 
 or-nothing : (a : Bool) → (a || false) ≡ a
 or-nothing true = refl
@@ -94,9 +85,6 @@ module _ (n : ℕ) (done : List (Slot × Batch)) (slot : Slot) (batch : Batch) (
 
   pub kept-ids : n ≤ slot.0 → (x : ReqId) → has_id x now ≡ (has_id x all && not (has_id x (flown (landed n (done ++ (slot, batch) ∷ [])))))
   kept-ids le x = now_is x ∙ ap (λ (xs : List (Slot × Batch)). has_id x all && not (has_id x (flown xs))) (sym gone_is ∙ kept-gone le)
-
-pub none-landed : (x : ReqId) (all : List ReqId) → has_id x all ≡ (has_id x all && not (has_id x []))
-none-landed x all = all-of (has_id x all)
 
 -- ---- the set of what stays
 

@@ -13,6 +13,7 @@ use Rattle.iss_request.specs.declared.ids.ReqId.{ReqId}
 use Rattle.iss_request.specs.declared.requests.Request.{Request}
 use Rattle.iss_request.specs.declared.requests.Value.{Value}
 use Rattle.iss_request.specs.declared.requests.Value.TheVariants.{Nil, Batch as Holds}
+use Rattle.iss_base.proofs.Lists.{or-flip}
 
 pub log_ids-append : (a b : List Value) → log_ids (a ++ b) ≡ log_ids a ++ log_ids b
 log_ids-append [] b = refl
@@ -64,12 +65,6 @@ or-turn false true false = refl
 or-turn false false true = refl
 or-turn false false false = refl
 
-or-last : (a b : Bool) → (a || b) ≡ (b || a)
-or-last true true = refl
-or-last true false = refl
-or-last false true = refl
-or-last false false = refl
-
 pub note-all : (x : ReqId) (vs : List Value) (xs : List ReqId) → has_id x (fold and_values xs vs) ≡ (has_id x xs || has_id x (log_ids (reverse vs)))
 note-all x [] xs = none (has_id x xs)
   where
@@ -100,6 +95,6 @@ module _ (old more : List Value) where
   logged-is logged same = λ x.
       note-all x more logged
       ∙ ap (λ b. b || has_id x (log_ids (reverse more))) (same x)
-      ∙ or-last (has_id x (log_ids (reverse old))) (has_id x (log_ids (reverse more)))
+      ∙ or-flip (has_id x (log_ids (reverse old))) (has_id x (log_ids (reverse more)))
       ∙ sym (has_id-append x (log_ids (reverse more)) (log_ids (reverse old)))
       ∙ ap (λ (ys : List ReqId). has_id x ys) (sym (log_ids-append (reverse more) (reverse old)) ∙ ap (λ (ys : List Value). log_ids ys) (sym newest))

@@ -1,12 +1,12 @@
 -- The next epoch begins.
-use Rattle.std.proofs.Common.{arith, ◌≡◌, ℕ, ◌+◌, ◌^◌, ◌<◌, Bool, true, false, List, [], ◌∷◌, Option, Some, None, is_some, eqb, ◌≢◌, length, reverse, refl, sym, ap, ◌∙◌, subst, nat_le, true≢false}
+use Rattle.std.proofs.Common.{arith, ◌≡◌, ℕ, ◌+◌, ◌^◌, ◌<◌, Bool, true, false, List, [], ◌∷◌, Option, eqb, ◌≢◌, length, reverse, refl, sym, ap, ◌∙◌, subst, nat_le}
 use Rattle.iss_base.proofs.Lists.{is-eq}
 use Rattle.std.specs.List.{filter}
 use Rattle.iss_layout.specs.Layout.{Conduct, Ended, IsStanding, Plan, plan_by, slots_from}
-use Rattle.iss_model.specs.Concrete.{rules_of}
-use Rattle.iss_model.specs.Formats.{formats_of}
+use Rattle.iss_rules.specs.Concrete.{rules_of}
+use Rattle.iss_rules.specs.Formats.{formats_of}
 use Rattle.iss_model.specs.Node.{Turn, at_instance, claims_in, ended, in_next_epoch, is_nil_at, takes_early, tried}
-use Rattle.iss_model.specs.Past.{Past, is_complete}
+use Rattle.iss_rules.specs.Past.{Past, is_complete}
 use Rattle.iss_node.proofs.EpochLemmas.{IsOver, complete-is, parts-opened}
 use Rattle.iss_node.specs.Epochs.{AreStarted, HasOpened, both, notes}
 use Rattle.iss_node.specs.Shape.{IsReplica}
@@ -106,11 +106,6 @@ apart a b ne = go (eqb a b) refl
 pub empty : {A : Type 0} (xs : List A) → length xs ≡ 0 → xs ≡ []
 empty [] h = refl
 empty (x ∷ xs) h = absurd (omega (arith, h))
-
--- where there is something, this is it
-pub some-of : {A : Type 0} (o : Option A) → is_some o ≡ true → (x : A) × (o ≡ Some x)
-some-of None h = absurd (true≢false (sym h))
-some-of (Some x) h = (x, refl)
 
 -- what nothing was accepted in yet
 pub begun-so : {M Msg : Type 0} (v : ReplicaState M Msg) (e : ℕ) (plan : Plan) (gs : List (Option (SegmentState M))) (accepted : List Accepted) (logged : List ReqId) → accepted ≡ [] → logged ≡ [] →

@@ -1,17 +1,17 @@
 -- The slots of a node's epoch, and the log that they make.
-use Rattle.std.proofs.Common.{arith, inl, inr, ◌≡◌, ℕ, zero, suc, ◌+◌, ◌-◌, ◌*◌, ◌^◌, ◌<◌, ◌≤◌, List, [], ◌∷◌, ◌++◌, Option, Some, None, length, length-append, reverse, refl, sym, ap, ◌∙◌, subst, append_assoc, slice_get}
+use Rattle.std.proofs.Common.{arith, inl, inr, ◌≡◌, ℕ, zero, suc, ◌+◌, ◌-◌, ◌*◌, ◌<◌, ◌≤◌, List, [], ◌∷◌, ◌++◌, Option, Some, None, length, length-append, reverse, refl, sym, ap, ◌∙◌, subst, append_assoc, slice_get}
 use Rattle.std.proofs.lemmas.Bool.Decides.{leb_tells}
 use Rattle.std.proofs.lemmas.List.{append-nil, length-reverse, reverse-append}
 use Rattle.iss_base.specs.Lists.{Chain, Extends, first_of, oldest}
 use Rattle.iss_base.proofs.Lists.{chain-part, extends-cons, extends-length, extends-next, first_of-none, oldest-all, oldest-extends}
 use Rattle.iss_layout.proofs.FairLemmas.{few_nodes}
 use Rattle.iss_log.specs.LogState.{LogState, ahead_at, value_at}
-use Rattle.iss_model.specs.Concrete.{rules_of, start_at}
-use Rattle.iss_model.specs.Past.{IsLog, Past, adopted_at, before_at, cell, cut_at, epoch_at, log_of, start_of}
-use Rattle.iss_model.proofs.Ending.{HasSlots}
-use Rattle.iss_model.proofs.Epochs.{epoch-high, epoch-unique, start-mono}
-use Rattle.iss_model.proofs.Logs.{log-chain}
-use Rattle.iss_model.proofs.Longest.{Bounded, cell-epoch, longest}
+use Rattle.iss_rules.specs.Concrete.{rules_of}
+use Rattle.iss_rules.specs.Past.{IsLog, Past, adopted_at, before_at, cell, cut_at, epoch_at, log_of, start_of}
+use Rattle.iss_rules.proofs.Ending.{HasSlots}
+use Rattle.iss_rules.proofs.Epochs.{epoch-high, epoch-unique, start-mono}
+use Rattle.iss_rules.proofs.Logs.{log-chain}
+use Rattle.iss_rules.proofs.Longest.{Bounded, cell-epoch, longest}
 use Rattle.iss_node.specs.State.{slot_value}
 use Rattle.iss_request.specs.Setup.{IsGoodSetup}
 use Rattle.iss_request.specs.declared.requests.Value.{Value}
@@ -23,13 +23,6 @@ use Rattle.iss_sb.specs.Evidence.{Module, delivered}
 pub start-is : (s : Setup) (log : List Value) (e : ℕ) → start_of (rules_of s) log e ≡ e * s.epoch
 start-is s log zero = omega arith
 start-is s log (suc e) = let h = start-is s log e in omega (arith, h)
-
-pub start-at-is : (s : Setup) (log : List Value) (e : ℕ) → e * s.epoch + s.epoch ≤ 2 ^ 64 → start_at s log e ≡ e * s.epoch
-start-at-is s log zero fits = omega arith
-start-at-is s log (suc e) fits = elim (leb_tells (start_of (rules_of s) log (suc e)) (2 ^ 64 - s.epoch)) [
-  | inl t ↦ rw t.0 (start-is s log (suc e))
-  | inr t ↦ let h = start-is s log (suc e) in absurd (omega (arith, t.1, h, fits))
-]
 
 pub has-slots : (s : Setup) → IsGoodSetup s → HasSlots (rules_of s)
 has-slots s good = record {

@@ -1,10 +1,9 @@
 use Rattle.std.proofs.Common.{◌≡◌, ℕ, ◌+◌, ◌<◌, List, [], ◌∷◌, ◌++◌, None, length, take, get_or, refl, sym, ap, ◌∙◌, add-one}
 use Rattle.std.proofs.Math.Seq.{take-suc}
-use Rattle.iss_model.specs.Formats.{whole}
-use Rattle.iss_model.specs.Node.{Formats, OfModule, packed}
-use Rattle.iss_request.specs.Fields.{Bad, Good, IsBad, IsUnreadable, Parsed, Reading, left}
-use Rattle.iss_request.specs.Parsing as parsing
-use Rattle.iss_request.specs.Parsing.{Parser, all_of}
+use Rattle.iss_rules.specs.Formats.{whole}
+use Rattle.iss_rules.specs.Parcels.{Formats, OfModule}
+use Rattle.iss_model.specs.Node.{packed}
+use Rattle.iss_request.specs.Fields.{IsUnreadable, Parsed, Reading, left}
 use Rattle.iss_sb.specs.declared.effects.To.{To}
 
 -- what does not begin with a thing is not one whole
@@ -13,19 +12,6 @@ bad-whole parse r version bytes at is h =
     let e : left r ≡ bytes = ap (λ (z : Reading). left z) is in
     let by : r.version ≡ version = ap (λ (z : Reading). z.version) is in
     ap (λ p. whole p) (ap (λ v. parse v bytes) (sym by) ∙ ap (λ bs. parse r.version bs) (sym e) ∙ h.found)
-
-all_of-good : {A : Type 0} (parse : Parser A) (bytes : List ℕ) (x : A) → parse bytes ≡ Good x [] → all_of parse bytes ≡ Good x []
-unfolding all_of parsing.◌>>=◌ parsing.at_end
-all_of-good parse bytes x e = rw e refl
-
--- what is not one thing is not one whole
-pub all-whole : {A : Type 0} (parse : Parser A) (bytes : List ℕ) → IsBad (all_of parse bytes) → whole (parse bytes) ≡ None
-all-whole {A} parse bytes h = go (parse bytes) refl
-  where
-    go : (p : Parsed A) → parse bytes ≡ p → whole p ≡ None
-    go (Good thing []) e = let good : all_of parse bytes ≡ Good thing [] = all_of-good parse bytes thing e in let bad = h.1 in cc
-    go (Good thing (b ∷ rest)) e = refl
-    go (Bad at) e = refl
 
 packed-append : {Msg : Type 0} (F : Formats Msg) (me e l : ℕ) (xs ys : List (To × Msg)) → packed F me e l (xs ++ ys) ≡ packed F me e l xs ++ packed F me e l ys
 packed-append F me e l [] ys = refl

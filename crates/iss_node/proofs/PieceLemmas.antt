@@ -6,14 +6,16 @@ use Rattle.iss_checkpoint.specs.Votes.{Voters, voters_of}
 use Rattle.iss_keys.specs.Directories.{DirectoryView}
 use Rattle.iss_log.specs.Chains.{IsChainOf, chain_of, end_of, strings_from}
 use Rattle.iss_log.specs.declared.chains.End.{End}
-use Rattle.iss_model.proofs.Checked.{cert-same, end-same}
-use Rattle.iss_model.specs.Concrete.{keys_of, rules_of}
-use Rattle.iss_model.specs.Formats.{formats_of}
-use Rattle.iss_model.specs.Node.{Core, Dropped, Formats, Stepped, Taken, Turn, adopts_piece, has_shape, is_true_cert, leads_to, onward, takes_each, takes_piece}
-use Rattle.iss_model.specs.Past.{before_own, log_of, start_of}
-use Rattle.iss_model.specs.Rules.{Rules}
-use Rattle.iss_model.specs.declared.causes.Why.{Why}
-use Rattle.iss_model.specs.declared.causes.Why.TheVariants.{BadClaim, NotNeeded, OtherEpoch, WrongChain as Wrong_chain}
+use Rattle.iss_rules.proofs.Checked.{cert-same, end-same}
+use Rattle.iss_rules.specs.Concrete.{keys_of, rules_of}
+use Rattle.iss_rules.specs.Formats.{formats_of}
+use Rattle.iss_rules.specs.Parcels.{Formats}
+use Rattle.iss_rules.specs.Votes.{is_true_cert}
+use Rattle.iss_model.specs.Node.{Core, Dropped, Stepped, Taken, Turn, adopts_piece, has_shape, leads_to, onward, takes_each, takes_piece}
+use Rattle.iss_rules.specs.Past.{before_own, log_of, start_of}
+use Rattle.iss_rules.specs.Rules.{Rules}
+use Rattle.iss_causes.specs.declared.causes.Why.{Why}
+use Rattle.iss_causes.specs.declared.causes.Why.TheVariants.{BadClaim, NotNeeded, OtherEpoch, WrongChain as Wrong_chain}
 use Rattle.iss_node.proofs.OwnEpoch.{start-is}
 use Rattle.iss_node.specs.Shape.{IsReplica}
 use Rattle.iss_node.specs.State.{AreHeld, ReplicaState}
@@ -27,6 +29,7 @@ use Rattle.iss_transfer.specs.Adoption.{adopted_log, adoption, log_before, said_
 use Rattle.iss_transfer.specs.declared.adopting.Adoption.{Adoption}
 use Rattle.iss_transfer.specs.declared.adopting.Adoption.TheVariants.{Adopt, BadCert, WrongChain, WrongEpoch}
 use Rattle.iss_transfer.specs.declared.pieces.Piece.{Piece}
+use Rattle.iss_segment.proofs.MarksLemmas.{not-large}
 
 -- what is found, by three tests, and the step that a finding means
 abbrev found_by : Bool → Bool → Bool → End → End → List (List ℕ) → Adoption
@@ -55,9 +58,6 @@ tests-meet {Msg} late far same shape cert chain t ours theirs hashed h k = rw (h
 
 ahead-is : (a b : ℕ) → nat_lt a b ≡ false → nat_lt b a ≡ not (eqb a b)
 ahead-is a b h = grind (arith, nat_tests)
-
-not-behind : (a b : ℕ) → b ≤ a → nat_lt a b ≡ false
-not-behind a b h = grind (arith, nat_tests)
 
 module _ {M Msg : Type 0} (m : Module Msg) (stands : M → Params → ℕ → List (Item Msg) → Type 0) (v : ReplicaState M Msg) (p : Piece) (c : Core Msg) (h : AreHeld m stands v c) where
   abbrev F : Formats Msg
@@ -98,7 +98,7 @@ module _ {M Msg : Type 0} (m : Module Msg) (stands : M → Params → ℕ → Li
     step-found : takes_piece F R m v.me.0 c p ≡ step_by (Taken turn) (adoption v.setup own (reverse log) c.past.epoch p)
     step-found =
         let e = c.past.epoch in
-        let late : nat_lt p.epoch.0 e ≡ false = not-behind p.epoch.0 e (subst (λ (k : ℕ). k ≤ p.epoch.0) h.parts.tied.epoch timely) in
+        let late : nat_lt p.epoch.0 e ≡ false = not-large p.epoch.0 e (subst (λ (k : ℕ). k ≤ p.epoch.0) h.parts.tied.epoch timely) in
         let mine = has_shape R (before_own R m v.me.0 c.past) e p in
         let chain : same_end ours (said_in p.cert) ≡ leads_to R (before_own R m v.me.0 c.past) p = ap (λ (z : End). same_end z (said_in p.cert)) (end-same v.setup log e p far) in
         tests-meet (nat_lt p.epoch.0 e) (nat_lt e p.epoch.0) (eqb p.epoch.0 e) mine (is_true_cert R p.cert) (leads_to R (before_own R m v.me.0 c.past) p) (Taken turn) ours (said_in p.cert) hashed late

@@ -1,17 +1,17 @@
 -- What a node shows, and how it keeps early messages.
-use Rattle.std.proofs.Common.{arith, inl, inr, ◌≡◌, ℕ, suc, ◌<◌, ◌≤◌, Bool, true, false, List, [], ◌∷◌, ◌++◌, ◌||◌, ◌&&◌, cond, not, Option, Some, None, length, refl, sym, ap, ◌∙◌, subst}
+use Rattle.std.proofs.Common.{arith, inl, inr, ◌≡◌, ℕ, suc, ◌<◌, ◌≤◌, Bool, true, false, List, [], ◌∷◌, ◌++◌, ◌||◌, ◌&&◌, cond, not, Option, Some, length, refl, sym, ap, ◌∙◌, subst}
 use Rattle.std.specs.Prelude.{is_some, nat_lt}
 use Rattle.std.specs.List.{list_any}
 use Rattle.std.proofs.lemmas.Bool.Decides.{nat_tests}
 use Rattle.iss_base.specs.Lists.{In}
 use Rattle.iss_log.specs.LogState.{LogState, value_at}
 use Rattle.iss_model.proofs.Casts.{early-sound}
-use Rattle.iss_model.specs.Concrete.{rules_of}
-use Rattle.iss_model.specs.Formats.{formats_of}
+use Rattle.iss_rules.specs.Concrete.{rules_of}
+use Rattle.iss_rules.specs.Formats.{formats_of}
 use Rattle.iss_model.specs.Node.{Dropped, Early as Kept_early, Stepped, Taken, keeps_early, rests}
-use Rattle.iss_model.specs.Past.{Past, leads_in, params_of, taken_in}
+use Rattle.iss_rules.specs.Past.{Past, leads_in, params_of, taken_in}
 use Rattle.iss_model.specs.Views.{are_filled, is_unfilled}
-use Rattle.iss_model.specs.declared.causes.Why.TheVariants.{EarlyFull}
+use Rattle.iss_causes.specs.declared.causes.Why.TheVariants.{EarlyFull}
 use Rattle.iss_node.proofs.CastLemmas.{value-is}
 use Rattle.iss_node.proofs.InstanceLemmas.{leads-is}
 use Rattle.iss_node.proofs.RequestLemmas.{moved}
@@ -102,9 +102,3 @@ module _ {M Msg : Type 0} (m : Module Msg) (stands : M → Params → ℕ → Li
 
   pub unfilled-of : (g : SegmentState M) → led v.segments l ≡ Some g → (slots : List Slot) → slots ≡ g.params.slots → (b : Bool) (log : LogState) → log ≡ v.log → b ≡ list_any (λ (s : Slot). not (is_some (value_at log s.0))) slots → b ≡ is_unfilled (rules_of v.setup) m v.me.0 past l
   unfilled-of g at slots slots_is b log is h = unfilled-led g at slots slots_is b (subst (λ (z : LogState). b ≡ list_any (λ (s : Slot). not (is_some (value_at z s.0))) slots) is h)
-
-  pub unfilled-none : led v.segments l ≡ None → false ≡ is_unfilled (rules_of v.setup) m v.me.0 past l
-  unfilled-none at =
-      let p = params_of (rules_of v.setup) m v.me.0 past l in
-      let leading : leads_in (rules_of v.setup) m v.me.0 past l ≡ false = leads-is m stands v past tied l false (sym (ap (λ (o : Option (SegmentState M)). is_some o) at)) in
-      sym (ap (λ c. c && not (are_filled m p v.me.0 (taken_in past l) p.slots)) leading)

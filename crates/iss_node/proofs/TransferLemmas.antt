@@ -2,17 +2,18 @@
 use Rattle.std.proofs.Common.{arith, ◌≡◌, ℕ, zero, suc, ◌*◌, ◌<◌, ◌≤◌, Bool, true, false, cond, not, List, [], ◌∷◌, ◌++◌, Option, Some, None, drop, length, nat_le, nat_lt, reverse, take, refl, sym, ap, ◌∙◌, subst}
 use Rattle.std.proofs.lemmas.Bool.{leb-true}
 use Rattle.std.proofs.lemmas.Bool.Decides.{nat_tests}
-use Rattle.std.proofs.lemmas.List.{length-reverse, reverse-append, reverse-reverse}
+use Rattle.std.proofs.lemmas.List.{length-reverse, length-take-le, reverse-append, reverse-reverse}
 use Rattle.iss_base.specs.Lists.{oldest}
 use Rattle.iss_base.proofs.Lists.{none-some, oldest-all, oldest-append, some-injective}
 use Rattle.iss_checkpoint.specs.declared.votes.Cert.{Cert}
 use Rattle.iss_model.proofs.Casts.{joined-newer}
-use Rattle.iss_model.specs.Concrete.{rules_of}
-use Rattle.iss_model.specs.Formats.{formats_of}
-use Rattle.iss_model.specs.Node.{Core, Formats, handing, hands_out, joined, values_of}
-use Rattle.iss_model.specs.Past.{cut_at, log_of, start_of}
-use Rattle.iss_model.specs.Rules.{Rules}
-use Rattle.iss_model.specs.declared.causes.Why.TheVariants.{NoCert}
+use Rattle.iss_rules.specs.Concrete.{rules_of}
+use Rattle.iss_rules.specs.Formats.{formats_of}
+use Rattle.iss_rules.specs.Parcels.{Formats}
+use Rattle.iss_model.specs.Node.{Core, handing, hands_out, joined, values_of}
+use Rattle.iss_rules.specs.Past.{cut_at, log_of, start_of}
+use Rattle.iss_rules.specs.Rules.{Rules}
+use Rattle.iss_causes.specs.declared.causes.Why.TheVariants.{NoCert}
 use Rattle.iss_node.proofs.OwnEpoch.{start-is}
 use Rattle.iss_node.specs.State.{AreHeld, ReplicaState}
 use Rattle.iss_node.specs.Steps.{IsHeldDropped, IsHeldTaken}
@@ -38,11 +39,6 @@ take-drop zero xs = refl
 take-drop (suc n) [] = refl
 take-drop (suc n) (x ∷ xs) = ap (λ ys. x ∷ ys) (take-drop n xs)
 
-taken-long : {A : Type 0} (n : ℕ) (xs : List A) → n ≤ length xs → length (take n xs) ≡ n
-taken-long zero xs le = refl
-taken-long (suc n) [] le = absurd (omega (arith, le))
-taken-long (suc n) (x ∷ xs) le = ap suc (taken-long n xs (omega (arith, le)))
-
 parted : {A : Type 0} (n : ℕ) (xs : List A) → reverse xs ≡ reverse (drop n xs) ++ reverse (take n xs)
 parted n xs = ap (λ ys. reverse ys) (sym (take-drop n xs)) ∙ reverse-append (take n xs) (drop n xs)
 
@@ -50,13 +46,13 @@ parted n xs = ap (λ ys. reverse ys) (sym (take-drop n xs)) ∙ reverse-append (
 oldest-taken : {A : Type 0} (n : ℕ) (xs : List A) → n ≤ length xs → oldest n (reverse xs) ≡ reverse (take n xs)
 oldest-taken n xs le =
     let front = reverse (take n xs) in
-    let long : length front ≡ n = length-reverse (take n xs) ∙ taken-long n xs le in
+    let long : length front ≡ n = length-reverse (take n xs) ∙ length-take-le n xs le in
     ap (λ ys. oldest n ys) (parted n xs) ∙ oldest-append n (reverse (drop n xs)) front (omega (arith, long)) ∙ oldest-all n front (omega (arith, long))
 
 newer-dropped : (ys : List Value) (a : ℕ) → a ≤ length ys → reverse (joined a (reverse ys)) ≡ drop a ys
 newer-dropped ys a le =
     let front = reverse (take a ys) in
-    let long : length front ≡ a = length-reverse (take a ys) ∙ taken-long a ys le in
+    let long : length front ≡ a = length-reverse (take a ys) ∙ length-take-le a ys le in
     ap (λ (zs : List Value). reverse zs)
     (ap (λ (k : ℕ). joined k (reverse ys)) (sym long) ∙ ap (λ (zs : List Value). joined (length front) zs) (parted a ys) ∙ joined-newer (reverse (drop a ys)) front)
     ∙ reverse-reverse (drop a ys)
@@ -69,8 +65,8 @@ values-are s entries e le =
     let ys = take (suc e * s.epoch) entries in
     let low : cut_at R log e ≡ reverse (take (e * s.epoch) entries) = ap (λ (k : ℕ). oldest k log) (start-is s log e) ∙ oldest-taken (e * s.epoch) entries few in
     let high : cut_at R log (suc e) ≡ reverse ys = ap (λ (k : ℕ). oldest k log) (start-is s log (suc e)) ∙ oldest-taken (suc e * s.epoch) entries le in
-    let size : length (cut_at R log e) ≡ e * s.epoch = ap (λ (zs : List Value). length zs) low ∙ length-reverse (take (e * s.epoch) entries) ∙ taken-long (e * s.epoch) entries few in
-    let room = taken-long (suc e * s.epoch) entries le in
+    let size : length (cut_at R log e) ≡ e * s.epoch = ap (λ (zs : List Value). length zs) low ∙ length-reverse (take (e * s.epoch) entries) ∙ length-take-le (e * s.epoch) entries few in
+    let room = length-take-le (suc e * s.epoch) entries le in
     ap (λ (zs : List Value). reverse (joined (length (cut_at R log e)) zs)) high
     ∙ ap (λ (k : ℕ). reverse (joined k (reverse ys))) size
     ∙ newer-dropped ys (e * s.epoch) (omega (arith, room))

@@ -1,55 +1,12 @@
 -- What a node shows of its core.
-use Rattle.std.proofs.Common.{inl, inr, ◌≡◌, ℕ, ◌+◌, Bool, true, false, List, [], ◌∷◌, ◌++◌, ◌||◌, ◌&&◌, cond, not, map, Some, None, refl, sym, ap, ◌∙◌, add-one}
-use Rattle.std.specs.Prelude.{is_some}
-use Rattle.std.specs.List.{filter, list_any}
-use Rattle.iss_base.specs.Lists.{In, below}
-use Rattle.iss_log.specs.LogState.{value_at}
-use Rattle.iss_model.specs.Concrete.{rules_of}
-use Rattle.iss_model.specs.Past.{Past, leads_in, params_of, taken_in}
-use Rattle.iss_model.specs.Rules.{Rules}
-use Rattle.iss_model.specs.Views.{are_filled, is_unfilled, unfilled}
-use Rattle.iss_node.proofs.CastLemmas.{value-is}
-use Rattle.iss_node.proofs.InstanceLemmas.{leads-is}
-use Rattle.iss_node.specs.Shape.{IsReplica}
-use Rattle.iss_node.specs.State.{IsTied, ReplicaState, led}
+use Rattle.std.proofs.Common.{◌≡◌, ℕ, ◌+◌, Bool, true, false, List, [], ◌∷◌, ◌++◌, cond, map, refl, sym, ap, ◌∙◌, add-one}
+use Rattle.std.specs.List.{filter}
+use Rattle.iss_base.specs.Lists.{below}
+use Rattle.iss_rules.specs.Past.{Past}
+use Rattle.iss_rules.specs.Rules.{Rules}
+use Rattle.iss_model.specs.Views.{is_unfilled, unfilled}
 use Rattle.iss_request.specs.declared.ids.NodeId.{NodeId}
-use Rattle.iss_request.specs.declared.ids.Slot.{Slot}
-use Rattle.iss_sb.specs.Evidence.{Item, Module, delivered}
-use Rattle.iss_sb.specs.declared.effects.Params.{Params}
-use Rattle.iss_segment.specs.Instance.{SegmentState}
-
-not-all : (a b : Bool) → (not a || not b) ≡ not (a && b)
-not-all true b = refl
-not-all false b = refl
-
-module _ {M Msg : Type 0} (m : Module Msg) (stands : M → Params → ℕ → List (Item Msg) → Type 0)
-    (v : ReplicaState M Msg) (shape : IsReplica m v) (past : Past Msg) (tied : IsTied m stands v past) (l : ℕ) where
-  any-empty : (ss : List Slot) → ((s : Slot) → In s ss → In s (params_of (rules_of v.setup) m v.me.0 past l).slots) →
-      list_any (λ (s : Slot). not (is_some (value_at v.log s.0))) ss ≡ not (are_filled m (params_of (rules_of v.setup) m v.me.0 past l) v.me.0 (taken_in past l) ss)
-  any-empty [] sub = refl
-  any-empty (s ∷ ss) sub =
-      let p = params_of (rules_of v.setup) m v.me.0 past l in
-      let xs = taken_in past l in
-      ap (λ o. not (is_some o) || list_any (λ (t : Slot). not (is_some (value_at v.log t.0))) ss) (value-is m stands v shape past tied l s (sub s (inl refl)))
-      ∙ ap (λ b. not (is_some (delivered m p v.me.0 xs s.0)) || b) (any-empty ss (λ t i. sub t (inr i)))
-      ∙ not-all (is_some (delivered m p v.me.0 xs s.0)) (are_filled m p v.me.0 xs ss)
-
-  pub unfilled-some : (g : SegmentState M) → led v.segments l ≡ Some g → (b : Bool) (slots : List Slot) → slots ≡ g.params.slots → b ≡ list_any (λ (s : Slot). not (is_some (value_at v.log s.0))) slots →
-      b ≡ is_unfilled (rules_of v.setup) m v.me.0 past l
-  unfilled-some g at b slots slots_is h =
-      let here = tied.instances l g at in
-      let p = params_of (rules_of v.setup) m v.me.0 past l in
-      let xs = taken_in past l in
-      let leading : leads_in (rules_of v.setup) m v.me.0 past l ≡ true = leads-is m stands v past tied l true (sym (ap (λ o. is_some o) at)) in
-      h ∙ ap (λ (ss : List Slot). list_any (λ (s : Slot). not (is_some (value_at v.log s.0))) ss) (slots_is ∙ ap (λ (q : Params). q.slots) here.params)
-      ∙ any-empty p.slots (λ s i. i)
-      ∙ sym (ap (λ (c : Bool). c && not (are_filled m p v.me.0 xs p.slots)) leading)
-
-  pub unfilled-none : led v.segments l ≡ None → false ≡ is_unfilled (rules_of v.setup) m v.me.0 past l
-  unfilled-none at =
-      let p = params_of (rules_of v.setup) m v.me.0 past l in
-      let leading : leads_in (rules_of v.setup) m v.me.0 past l ≡ false = leads-is m stands v past tied l false (sym (ap (λ o. is_some o) at)) in
-      sym (ap (λ (c : Bool). c && not (are_filled m p v.me.0 (taken_in past l) p.slots)) leading)
+use Rattle.iss_sb.specs.Evidence.{Module}
 
 -- ---- the leaders below a number that have not filled their segment
 

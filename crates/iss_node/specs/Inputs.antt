@@ -2,9 +2,9 @@
 use Rattle.std.specs.Prelude.{◌≡◌, ◌≢◌, ℕ, ◌||◌, List, ◌++◌, [], ◌∷◌, Option, Some, None, Result, Ok, Err, fold, length, reverse}
 use Rattle.iss_buckets.specs.Waiting.{AreNew, absent}
 use Rattle.iss_log.specs.Chains.{IsChainOf}
-use Rattle.iss_model.specs.Formats.{formats_of}
+use Rattle.iss_rules.specs.Formats.{formats_of}
 use Rattle.iss_model.specs.Node.{own_claims, packed, returned}
-use Rattle.iss_model.specs.declared.causes.Refusal.{Refusal}
+use Rattle.iss_causes.specs.declared.causes.Refusal.{Refusal}
 use Rattle.iss_node.specs.Flights.{IsLanded}
 use Rattle.iss_node.specs.Growth.{AreJoined, IsGrown, and_values, waits_on}
 use Rattle.iss_node.specs.State.{ReplicaState, led}
@@ -16,11 +16,11 @@ use Rattle.iss_request.specs.declared.ids.ReqId.{ReqId}
 use Rattle.iss_request.specs.declared.ids.Slot.{Slot}
 use Rattle.iss_request.specs.declared.requests.Batch.{Batch}
 use Rattle.iss_request.specs.declared.requests.Value.{Value}
-use Rattle.iss_sb.specs.Evidence.{Item, Module}
+use Rattle.iss_sb.specs.Evidence.{Module}
 use Rattle.iss_sb.specs.declared.effects.Effects.{Effects}
 use Rattle.iss_sb.specs.declared.effects.Input.{Input}
-use Rattle.iss_sb.specs.declared.effects.Params.{Params}
 use Rattle.iss_sb.specs.declared.effects.To.{To}
+use Rattle.iss_sb.specs.Calls.{Relation}
 use Rattle.iss_segment.specs.Answers.{IsInstanceTaken, IsVerdict}
 use Rattle.iss_segment.specs.Ground.{noted_before}
 use Rattle.iss_segment.specs.Instance.{SegmentState}
@@ -29,7 +29,7 @@ use Rattle.iss_segment.specs.declared.segment.Halt.TheVariants.{Spent, Refused, 
 use Rattle.iss_window.specs.Kept.{StandsFor}
 
 -- the instance of leader l took an input, and nothing else has changed but the keys
-pub record IsInputTaken {M Msg : Type 0} (m : Module Msg) (stands : M → Params → ℕ → List (Item Msg) → Type 0)
+pub record IsInputTaken {M Msg : Type 0} (m : Module Msg) (stands : Relation M Msg)
     (old new : ReplicaState M Msg) (l : ℕ) (input : Input Msg) (e : Effects Msg) : Type 0 where
   pub was : SegmentState M
   pub is : SegmentState M
@@ -40,11 +40,11 @@ pub record IsInputTaken {M Msg : Type 0} (m : Module Msg) (stands : M → Params
   pub rest : new ≡ record old { segments = new.segments; keys = new.keys }
 
 -- what the judge says of it
-abbrev pub IsVerdictAt : {M Msg : Type 0} → Module Msg → (M → Params → ℕ → List (Item Msg) → Type 0) → ReplicaState M Msg → ℕ → Input Msg → Option Refusal → Type 0
+abbrev pub IsVerdictAt : {M Msg : Type 0} → Module Msg → Relation M Msg → ReplicaState M Msg → ℕ → Input Msg → Option Refusal → Type 0
 IsVerdictAt {M = M} m stands v l input answer = (g : SegmentState M) → led v.segments l ≡ Some g → IsVerdict m stands v.plan v.windows g input answer
 
 -- an input that is judged first
-abbrev pub IsJudgedInput : {M Msg : Type 0} → Module Msg → (M → Params → ℕ → List (Item Msg) → Type 0) → ReplicaState M Msg → ReplicaState M Msg →
+abbrev pub IsJudgedInput : {M Msg : Type 0} → Module Msg → Relation M Msg → ReplicaState M Msg → ReplicaState M Msg →
     ℕ → Input Msg → Result (Effects Msg) Halt → Type 0
 IsJudgedInput m stands old new l input (Ok e) = IsInputTaken m stands old new l input e × IsVerdictAt m stands old l input None
 IsJudgedInput m stands old new l input (Err (Refused why)) = (new ≡ old) × IsVerdictAt m stands old l input (Some why)

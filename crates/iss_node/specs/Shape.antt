@@ -1,15 +1,15 @@
 -- What holds of every node, whatever it took.
 use Rattle.std.specs.Prelude.{◌≡◌, ◌⊎◌, ℕ, ◌+◌, ◌^◌, ◌<◌, true, List, [], ◌∷◌, length, Some}
 use Rattle.iss_checkpoint.specs.Votes.{voters_of}
-use Rattle.iss_model.specs.Concrete.{keys_of}
+use Rattle.iss_rules.specs.Concrete.{keys_of}
 use Rattle.iss_model.specs.Node.{Core}
-use Rattle.iss_model.specs.Runs.{IsSetupOf}
+use Rattle.iss_rules.specs.Setups.{IsSetupOf}
 use Rattle.iss_node.specs.State.{NodeState, ReplicaState, Stands, led}
 use Rattle.iss_node.specs.declared.answers.Early.{Early}
 use Rattle.iss_request.specs.declared.ids.NodeId.{NodeId}
 use Rattle.iss_request.specs.declared.setups.Setup.{Setup}
-use Rattle.iss_sb.specs.Evidence.{Item, Module}
-use Rattle.iss_sb.specs.declared.effects.Params.{Params}
+use Rattle.iss_sb.specs.Evidence.{Module}
+use Rattle.iss_sb.specs.Calls.{Relation}
 use Rattle.iss_segment.specs.Instance.{SegmentState}
 
 -- an instance of this set-up, at this node
@@ -37,5 +37,5 @@ pub record IsReplica {M Msg : Type 0} (m : Module Msg) (v : ReplicaState M Msg) 
   pub voters : v.ballots.voters ≡ voters_of v.setup v.directory
 
 -- a node stands for a core, or memory was wanting
-abbrev pub IsNode : {M Msg : Type 0} → Module Msg → (M → Params → ℕ → List (Item Msg) → Type 0) → NodeState M Msg → Type 0
+abbrev pub IsNode : {M Msg : Type 0} → Module Msg → Relation M Msg → NodeState M Msg → Type 0
 IsNode {Msg = Msg} m stands v = (v.stale ≡ true) ⊎ ((c : Core Msg) × Stands m stands v c)

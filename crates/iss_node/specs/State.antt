@@ -8,10 +8,10 @@ use Rattle.iss_log.specs.LogState.{LogState, value_at}
 use Rattle.iss_ballots.specs.Ballots.{AreKept, BallotsState}
 use Rattle.iss_checkpoint.specs.declared.votes.Cert.{Cert}
 use Rattle.iss_checkpoint.specs.declared.votes.Vote.{Vote}
-use Rattle.iss_model.specs.Concrete.{rules_of}
+use Rattle.iss_rules.specs.Concrete.{rules_of}
 use Rattle.iss_model.specs.Node.{Core, Early as Kept_early, flown, joined}
-use Rattle.iss_model.specs.Past.{Past, before_own, log_of, taken_in}
-use Rattle.iss_model.specs.Rules.{Rules}
+use Rattle.iss_rules.specs.Past.{Past, before_own, log_of, taken_in}
+use Rattle.iss_rules.specs.Rules.{Rules}
 use Rattle.iss_model.specs.Sound.{IsSoundCore}
 use Rattle.iss_node.specs.Flights.{FlightState}
 use Rattle.iss_node.specs.declared.answers.Accepted.{Accepted}
@@ -26,6 +26,7 @@ use Rattle.iss_request.specs.declared.requests.Value.{Value}
 use Rattle.iss_request.specs.declared.setups.Setup.{Setup}
 use Rattle.iss_sb.specs.Evidence.{Item, Module, accepts, delivered}
 use Rattle.iss_sb.specs.declared.effects.Params.{Params}
+use Rattle.iss_sb.specs.Calls.{Relation}
 use Rattle.iss_segment.specs.Ground.{RestsOn}
 use Rattle.iss_segment.specs.Instance.{IsInstance, SameIds, SegmentState}
 use Rattle.iss_window.specs.Kept.{Kept}
@@ -92,14 +93,14 @@ slot_value R M me before past s =
     delivered M (R.params before past.epoch l) me (taken_in past l) s
 
 -- the instance of a leader of the epoch stands for what the node took there
-pub record IsLed {M Msg : Type 0} (stands : M → Params → ℕ → List (Item Msg) → Type 0) (p : Params) (me : NodeId) (taken : List (Item Msg))
+pub record IsLed {M Msg : Type 0} (stands : Relation M Msg) (p : Params) (me : NodeId) (taken : List (Item Msg))
     (g : SegmentState M) : Type 0 where
   pub params : g.params ≡ p
   pub node : g.me ≡ me
   pub instance : IsInstance stands g taken
 
 -- the parts stand for the past, over the log before its epoch
-pub record IsTiedOver {M Msg : Type 0} (m : Module Msg) (stands : M → Params → ℕ → List (Item Msg) → Type 0)
+pub record IsTiedOver {M Msg : Type 0} (m : Module Msg) (stands : Relation M Msg)
     (v : ReplicaState M Msg) (past : Past Msg) (before : List Value) : Type 0 where
   pub epoch : v.epoch ≡ past.epoch
   pub log : log_of (rules_of v.setup) m v.me.0 past ≡ reverse v.log.entries
@@ -124,11 +125,11 @@ pub record IsTiedOver {M Msg : Type 0} (m : Module Msg) (stands : M → Params �
   pub sound : IsSoundCore (rules_of v.setup) m v.me.0 (core_of v past)
   pub keys : AreKeysOf v.me.0 v.setup.keys v.keys
 
-abbrev pub IsTied : {M Msg : Type 0} → Module Msg → (M → Params → ℕ → List (Item Msg) → Type 0) → ReplicaState M Msg → Past Msg → Type 0
+abbrev pub IsTied : {M Msg : Type 0} → Module Msg → Relation M Msg → ReplicaState M Msg → Past Msg → Type 0
 IsTied m stands v past = IsTiedOver m stands v past (before_own (rules_of v.setup) m v.me.0 past)
 
 -- the parts stand for a core. Of earlier epochs nothing is compared but the log
-pub record AreParts {M Msg : Type 0} (m : Module Msg) (stands : M → Params → ℕ → List (Item Msg) → Type 0) (v : ReplicaState M Msg) (c : Core Msg) : Type 0 where
+pub record AreParts {M Msg : Type 0} (m : Module Msg) (stands : Relation M Msg) (v : ReplicaState M Msg) (c : Core Msg) : Type 0 where
   pub core : c ≡ core_of v c.past
   pub tied : IsTied m stands v c.past
 
@@ -140,11 +141,11 @@ abbrev pub holding : {Msg : Type 0} → List Vote → List Cert → Core Msg →
 holding votes certs c = record c { votes = votes; certs = certs }
 
 -- the parts stand for a core, with its votes and certificates
-pub record AreHeld {M Msg : Type 0} (m : Module Msg) (stands : M → Params → ℕ → List (Item Msg) → Type 0) (v : ReplicaState M Msg) (c : Core Msg) : Type 0 where
+pub record AreHeld {M Msg : Type 0} (m : Module Msg) (stands : Relation M Msg) (v : ReplicaState M Msg) (c : Core Msg) : Type 0 where
   pub parts : AreParts m stands v (bare c)
   pub kept : AreKept v.ballots c.votes c.certs
 
 -- the node stands for a core
-pub record Stands {M Msg : Type 0} (m : Module Msg) (stands : M → Params → ℕ → List (Item Msg) → Type 0) (v : NodeState M Msg) (c : Core Msg) : Type 0 where
+pub record Stands {M Msg : Type 0} (m : Module Msg) (stands : Relation M Msg) (v : NodeState M Msg) (c : Core Msg) : Type 0 where
   pub fresh : v.stale ≡ false
   pub held : AreHeld m stands v.parts c

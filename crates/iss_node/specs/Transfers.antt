@@ -1,9 +1,10 @@
 -- How a node hands out an epoch, and takes one over.
 use Rattle.std.specs.Prelude.{◌≡◌, ℕ, suc, ◌*◌, List, [], ◌∷◌, Option, Some, None, cond, drop, length, nat_le, take}
 use Rattle.iss_checkpoint.specs.Votes.{vote_statement}
-use Rattle.iss_model.specs.Concrete.{rules_of}
-use Rattle.iss_model.specs.Formats.{formats_of}
-use Rattle.iss_model.specs.Node.{Core, adopts_piece, claims_by, onward, only_by, takes_each}
+use Rattle.iss_rules.specs.Concrete.{rules_of}
+use Rattle.iss_rules.specs.Formats.{formats_of}
+use Rattle.iss_rules.specs.Votes.{claims_by}
+use Rattle.iss_model.specs.Node.{Core, adopts_piece, onward, only_by, takes_each}
 use Rattle.iss_node.specs.State.{AreHeld, ReplicaState}
 use Rattle.iss_node.specs.Steps.{IsHeldTurn}
 use Rattle.iss_node.specs.declared.answers.Outcome.{Outcome}
@@ -12,9 +13,9 @@ use Rattle.iss_packet.specs.declared.packets.PacketKind.TheVariants.{Piece as Of
 use Rattle.iss_request.specs.declared.ids.NodeId.{NodeId}
 use Rattle.iss_request.specs.declared.ids.Slot.{Slot}
 use Rattle.iss_request.specs.declared.requests.Value.{Value}
-use Rattle.iss_sb.specs.Evidence.{Item, Module}
-use Rattle.iss_sb.specs.declared.effects.Params.{Params}
+use Rattle.iss_sb.specs.Evidence.{Module}
 use Rattle.iss_sb.specs.declared.effects.To.TheVariants.{One}
+use Rattle.iss_sb.specs.Calls.{Relation}
 use Rattle.iss_transfer.specs.Bodies.{spell_piece}
 use Rattle.iss_transfer.specs.Adoption.{adoption}
 use Rattle.iss_transfer.specs.declared.adopting.Adoption.TheVariants.{Adopt}
@@ -26,11 +27,13 @@ abbrev pub held_slots : {M Msg : Type 0} → ReplicaState M Msg → ℕ → Opti
 held_slots v e = cond (nat_le (suc e * v.setup.epoch) (length v.log.entries)) (Some (e * v.setup.epoch, suc e * v.setup.epoch)) None
 
 abbrev pub held_values : {M Msg : Type 0} → ReplicaState M Msg → ℕ → Option (List Value)
-held_values v e = cond (nat_le (suc e * v.setup.epoch) (length v.log.entries)) (Some (drop (e * v.setup.epoch) (take (suc e * v.setup.epoch) v.log.entries))) None
+held_values v e =
+    cond (nat_le (suc e * v.setup.epoch) (length v.log.entries)) (Some (drop (e * v.setup.epoch) (take (suc e * v.setup.epoch) v.log.entries))) None
 
 -- a piece goes to one node, with the own claims of its certificate
 pub record IsHandedPiece {M Msg : Type 0} (v : ReplicaState M Msg) (to : NodeId) (p : Piece) (o : Outcome) : Type 0 where
-  pub sent : o.sends ≡ (One to, spell_packet v.setup.version (record { kind = Of_piece; from = v.me.0; epoch = p.epoch; leader = 0; body = spell_piece v.setup.version p })) ∷ []
+  pub sent : o.sends ≡
+      (One to, spell_packet v.setup.version (record { kind = Of_piece; from = v.me.0; epoch = p.epoch; leader = 0; body = spell_piece v.setup.version p })) ∷ []
   pub own : o.own ≡ only_by v.me.0 (claims_by (vote_statement v.setup.tag p.cert.epoch.0 p.cert.chain p.cert.requests) p.cert.signers)
   pub early : o.early ≡ []
   pub hashed : o.hashed ≡ []
@@ -41,7 +44,7 @@ at_slots s [] = []
 at_slots s (v ∷ vs) = (record { 0 = s }, v) ∷ at_slots (suc s) vs
 
 -- the node took over the values of its epoch, for which these strings were hashed, and what came early for the next one
-abbrev pub IsAdoptedBy : {M Msg : Type 0} → Module Msg → (M → Params → ℕ → List (Item Msg) → Type 0) → ReplicaState M Msg → Piece → List (List ℕ) →
+abbrev pub IsAdoptedBy : {M Msg : Type 0} → Module Msg → Relation M Msg → ReplicaState M Msg → Piece → List (List ℕ) →
     ReplicaState M Msg → Outcome → Type 0
 IsAdoptedBy {Msg = Msg} m stands old p hashed new outcome = (c : Core Msg) → AreHeld m stands old c →
     adoption old.setup (voters_of old.setup old.directory) old.log.entries old.epoch p ≡ Adopt hashed →

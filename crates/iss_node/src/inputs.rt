@@ -7,7 +7,7 @@ ghost use Rattle.iss_node.specs.Steps.{IsLater, IsNodeInput, IsStepOf, IsTurnOf}
 use crate::answers::{Accepted, Outcome, Stepped};
 use crate::growth::{grow, join_all, refile};
 use crate::replica::Replica;
-use iss_model::Why;
+use iss_causes::Why;
 use iss_request::{Batch, Bytes, NoMemory, NodeId, Row, Slot, Value};
 use iss_sb::{Effects, Input, Sequenced};
 use iss_segment::Halt;
@@ -154,7 +154,8 @@ impl<M: Sequenced> Replica<M> {
     {
         let held = grow(&mut self.log, delivers)?;
         let joined = behind(self.log.entries(), held);
-        join_all(&mut self.chains, joined, hashed)?;
+        let directory = self.directory.directory();
+        join_all(directory, &mut self.chains, joined, hashed)?;
         refile(joined, &mut self.waiting, &mut self.logged)?;
         self.land(alloc)
     }

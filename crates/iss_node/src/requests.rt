@@ -1,7 +1,7 @@
 //! What becomes of clients' requests at a node.
 ghost use Rattle.std.specs.Prelude.{◌≡◌, ◌++◌, ◌∷◌, ◌||◌, [], List, IfOk, OnOk, false, length, reverse};
 ghost use Rattle.iss_buckets.specs.Waiting.{AreNew, absent};
-ghost use Rattle.iss_model.specs.Concrete.{rules_of};
+ghost use Rattle.iss_rules.specs.Concrete.{rules_of};
 ghost use Rattle.iss_model.specs.Node.{returned, takes_request};
 ghost use Rattle.iss_node.specs.Flights.{IsLanded};
 ghost use Rattle.iss_node.specs.Inputs.{AreLogged, HasLanded};
@@ -14,7 +14,7 @@ ghost use Rattle.iss_window.specs.Window.{Noted, is_inside, place_of};
 use crate::answers::{Outcome, Stepped};
 use crate::growth::is_nil;
 use crate::replica::Replica;
-use iss_model::Why;
+use iss_causes::Why;
 use iss_request::{Batch, NoMemory, ReqId, Request, Slot};
 use iss_sb::Sequenced;
 use iss_segment::is_signed;
@@ -68,7 +68,8 @@ impl<M: Sequenced> Replica<M> {
 
     // Puts a request at the end of those that wait, unless it waits.
     fn wait(&mut self, request: Request) -> Result<(), NoMemory>
-        ensures ok { OnOk result (has_id request.id (ids self.old.waiting) ≡ false → self.new ≡ record self.old { waiting = self.old.waiting ++ request ∷ [] }) }
+        ensures ok { OnOk result (has_id request.id (ids self.old.waiting) ≡ false →
+            self.new ≡ record self.old { waiting = self.old.waiting ++ request ∷ [] }) }
         ensures rest { self.new ≡ record self.old { waiting = self.new.waiting } }
     {
         let _added = self.waiting.add(request)?;

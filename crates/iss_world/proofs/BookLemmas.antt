@@ -3,44 +3,31 @@ use Rattle.std.proofs.Common.{inl, inr, ◌≡◌, ◌⊎◌, ℕ, zero, suc, �
 use Rattle.std.specs.Prelude.{is_some, nat_lt, option_map}
 use Rattle.std.specs.List.{list_any}
 use Rattle.std.specs.Cmp.Lexicographic.{slice_cmp}
-use Rattle.std.specs.Ordering.{is_eq, nat_cmp, ordering_then}
-use Rattle.std.specs.declared.cmp.Ordering.{Ordering}
-use Rattle.std.specs.declared.cmp.Ordering.TheVariants.{Less, Equal, Greater}
+use Rattle.std.specs.Ordering.{is_eq, nat_cmp}
 use Rattle.std.proofs.lemmas.Bool.{lt-ltb}
 use Rattle.iss_base.specs.Lists.{In, first_of, over, same_bytes}
-use Rattle.iss_base.proofs.Lists.{none-some, same_bytes-is, same_bytes-refl, some-injective}
+use Rattle.iss_base.proofs.Lists.{none-some, same-test, same_bytes-is, same_bytes-refl, some-injective}
 use Rattle.iss_keys.proofs.DirectoryLemmas.{verified-by}
 use Rattle.iss_keys.specs.Directories.{DirectoryView, VerifiesBy}
 use Rattle.iss_keys.specs.VerifiedBy.{is_verified_by}
-use Rattle.iss_model.specs.Cluster.{Signed}
-use Rattle.iss_model.specs.Concrete.{keys_of, rules_of}
-use Rattle.iss_model.specs.Rules.{Rules}
-use Rattle.iss_model.specs.Run.{End, Collision, as_signed, booked, collision_in, collision_with, first_forged, has_signed, is_collision, is_forged}
+use Rattle.iss_rules.specs.Books.{Signed}
+use Rattle.iss_rules.specs.Concrete.{keys_of, rules_of}
+use Rattle.iss_rules.specs.Rules.{Rules}
+use Rattle.iss_causes.specs.Ends.{End, Collision}
+use Rattle.iss_model.specs.Run.{as_signed, booked, collision_in, collision_with, first_forged, has_signed, is_collision, is_forged}
+use Rattle.iss_theorems.proofs.Tests.{as_signed-append}
 use Rattle.iss_request.specs.Digest.{digest}
 use Rattle.iss_request.specs.declared.ids.NodeId.{NodeId}
 use Rattle.iss_request.specs.declared.setups.Setup.{Setup}
 use Rattle.iss_sb.specs.Evidence.{has_node, is_correct}
 use Rattle.iss_sb.specs.declared.effects.Claim.{Claim}
+use Rattle.iss_sb.proofs.Cases.{same_list}
 use Rattle.iss_world.proofs.PostLemmas.{take-next}
 use Rattle.iss_world.specs.Books.{AreHashed, AreSigned, difference, string_at}
 use Rattle.iss_world.specs.Stands.{end_of}
 use Rattle.iss_world.specs.declared.ends.End.{End as Kept}
 
 -- ---- lists of bytes as keys
-
-same-number : (a b : ℕ) → is_eq (nat_cmp a b) ≡ (a == b)
-same-number a b = grind arith
-
-both-equal : (a b : Ordering) → is_eq (ordering_then a b) ≡ (is_eq a && is_eq b)
-both-equal Less b = refl
-both-equal Equal b = refl
-both-equal Greater b = refl
-
-same-list : (a b : List ℕ) → is_eq (slice_cmp nat_cmp a b) ≡ same_bytes a b
-same-list [] [] = refl
-same-list [] (y ∷ ys) = refl
-same-list (x ∷ xs) [] = refl
-same-list (x ∷ xs) (y ∷ ys) = both-equal (nat_cmp x y) (slice_cmp nat_cmp xs ys) ∙ (let h = same-number x y in let t = same-list xs ys in rw (h, t) refl)
 
 -- ---- correct nodes
 
@@ -61,7 +48,7 @@ pub booked-more : (key : List ℕ) (by : ℕ) (lent statement : List ℕ) → ke
     w ≡ cond (is_eq (slice_cmp nat_cmp key (i ∷ st))) true old → old ≡ was → w ≡ cond ((by == i) && same_bytes statement st) true was
 booked-more key by lent statement is same i st w old was e h =
     e ∙ ap (λ (k : List ℕ). cond (is_eq (slice_cmp nat_cmp k (i ∷ st))) true old) (is ∙ ap (λ (z : List ℕ). by ∷ z) same)
-    ∙ ap (λ (b : Bool). cond b true old) (same-list (by ∷ statement) (i ∷ st))
+    ∙ ap (λ (b : Bool). cond b true old) (same_list (by ∷ statement) (i ∷ st))
     ∙ ap (λ (b : Bool). cond ((by == i) && same_bytes statement st) true b) h
 
 turned : (p q r : Bool) → cond p true (cond q true r) ≡ cond q true (cond p true r)
@@ -77,26 +64,16 @@ moved i st (y ∷ xs) x book =
     ap (λ (b : Bool). cond ((y.by == i) && same_bytes y.statement st) true b) (moved i st xs x book)
     ∙ turned ((y.by == i) && same_bytes y.statement st) ((x.by == i) && same_bytes x.statement st) (has_signed i st (xs ++ book))
 
-signed-append : (xs ys : List Claim) → as_signed (xs ++ ys) ≡ as_signed xs ++ as_signed ys
-signed-append [] ys = refl
-signed-append (c ∷ xs) ys = ap (λ (zs : List Signed). (let z : Signed = record { by = c.by.0; statement = c.statement } in z) ∷ zs) (signed-append xs ys)
-
 -- the claims up to place k, and the one there
 pub signed-next : (v : List (List ℕ)) (own : List Claim) (k : ℕ) (c : Claim) (book : List Signed) → k < length own → c ≡ get_or own k c →
     AreSigned v (record { by = c.by.0; statement = c.statement } ∷ (as_signed (take k own) ++ book)) → AreSigned v (as_signed (take (k + 1) own) ++ book)
 signed-next v own k c book lt is h = λ i st.
     h i st
     ∙ sym (moved i st (as_signed (take k own)) (record { by = c.by.0; statement = c.statement }) book)
-    ∙ ap (λ (xs : List Signed). has_signed i st (xs ++ book)) (sym (signed-append (take k own) (c ∷ [])))
+    ∙ ap (λ (xs : List Signed). has_signed i st (xs ++ book)) (sym (as_signed-append (take k own) (c ∷ [])))
     ∙ ap (λ (xs : List Claim). has_signed i st (as_signed xs ++ book)) (sym (take-next own k c lt is))
 
 -- ---- what is forged
-
-same-test : (b t : Bool) {P : Type 0} → IsTrue b ↔ P → (t ≡ true) ↔ P → b ≡ t
-same-test true true h k = refl
-same-test false false h k = refl
-same-test true false h k = absurd (true≢false (sym (k.1 (h.0 refl))))
-same-test false true h k = absurd (true≢false (sym (h.1 (k.0 refl))))
 
 last-and : (a b c : Bool) → b ≡ true → c ≡ false → a ≡ (a && (b && not c))
 last-and true true false p q = refl
@@ -245,7 +222,7 @@ pub hashed-more : (v w : List (List ℕ × List ℕ)) (book : List (List ℕ)) (
     ((q : List ℕ) → string_at w q ≡ cond (is_eq (slice_cmp nat_cmp (digest x) q)) (Some x) (string_at v q)) → AreHashed w (x ∷ book)
 hashed-more v w book x h none u =
     let by : (q : List ℕ) → string_at w q ≡ cond (same_bytes (digest x) q) (Some x) (string_at v q) =
-    λ q. at-key (digest x) q (same_bytes (digest x) q) (Some x) (string_at v q) (string_at w q) (same-list (digest x) q) (u q) in
+    λ q. at-key (digest x) q (same_bytes (digest x) q) (Some x) (string_at v q) (string_at w q) (same_list (digest x) q) (u q) in
     record {
       found = λ y i. elim i [
         | inl e ↦

@@ -2,26 +2,17 @@
 use Rattle.std.proofs.Common.{inl, inr, ◌≡◌, ◌⊎◌, ℕ, zero, suc, ◌+◌, ◌-◌, ◌<◌, ◌≤◌, false, List, [], ◌∷◌, ◌++◌, length, length-append, slice_get, Some, refl, sym, ap, ◌∙◌, subst, arith, slice_index_or}
 use Rattle.std.proofs.lemmas.List.{length-replicate}
 use Rattle.iss_model.specs.Run.{begin_held, cores_of}
-use Rattle.iss_model.specs.Runs.{IsSetupOf}
+use Rattle.iss_rules.specs.Setups.{IsSetupOf}
 use Rattle.iss_network.specs.Network.{Network, empty_network}
 use Rattle.iss_node.specs.State.{NodeState}
-use Rattle.iss_request.specs.Setup.{AreRising, IsFewFaulty, IsGoodSetup}
+use Rattle.iss_request.specs.Setup.{AreRising, IsGoodSetup}
 use Rattle.iss_request.specs.declared.ids.NodeId.{NodeId}
-use Rattle.iss_request.specs.declared.setups.Kind.{Kind}
-use Rattle.iss_request.specs.declared.setups.Kind.TheVariants.{Byzantine, Stopping}
 use Rattle.iss_request.specs.declared.setups.Setup.{Setup}
 use Rattle.iss_sb.specs.declared.effects.Params.{Params}
 use Rattle.iss_sb.specs.Evidence.{Item, Module}
 use Rattle.iss_world.specs.Books.{AreHashed, AreSigned}
 use Rattle.iss_world.specs.Shape.{AreForCores, IsRunning}
 use Rattle.iss_world.specs.Stands.{AreFresh, IsFresh, Runs}
-
-few : (k : Kind) (f : ℕ) (xs : List NodeId) → IsFewFaulty k f xs → length xs ≤ f
-few Byzantine f xs h = h
-few Stopping f xs h = let none : length xs ≡ 0 = ap (λ (ys : List NodeId). length ys) h in omega (arith, none)
-
-pub few-faulty : (s : Setup) → IsGoodSetup s → length s.faulty ≤ 3
-few-faulty s good = let h = few s.kind s.f s.faulty good.few_faulty in let f = good.faults in omega (arith, h, f)
 
 rising-at : (from n : ℕ) (xs : List NodeId) (j : ℕ) (d : NodeId) → AreRising from n xs → j < length xs → (slice_index_or xs j d).0 < n
 rising-at from n [] j d h lt = absurd (omega (arith, lt))

@@ -5,22 +5,24 @@ use Rattle.std.proofs.lemmas.Bool.{ltb-true}
 use Rattle.std.proofs.lemmas.List.{take-append-le}
 use Rattle.iss_base.proofs.Lists.{some-injective}
 use Rattle.iss_log.specs.LogState.{first_number_of}
-use Rattle.iss_model.specs.Certified.{AreOfLogs, WereDelivered}
-use Rattle.iss_model.specs.Concrete.{rules_of}
-use Rattle.iss_model.specs.Conserved.{AcceptsOnce, IsConserved}
+use Rattle.iss_theorems.specs.Certified.{AreOfLogs, WereDelivered}
+use Rattle.iss_rules.specs.Concrete.{rules_of}
+use Rattle.iss_theorems.specs.Conserved.{AcceptsOnce, IsConserved}
 use Rattle.iss_model.proofs.Ranges.{at-cores}
-use Rattle.iss_model.specs.Ends.{HasEvidence}
-use Rattle.iss_model.specs.Formats.{formats_of}
-use Rattle.iss_model.specs.Node.{Formats}
-use Rattle.iss_model.specs.OneLog.{IsOneLog, printed, run_after}
-use Rattle.iss_model.specs.Rules.{Rules}
+use Rattle.iss_theorems.specs.Ends.{HasEvidence}
+use Rattle.iss_rules.specs.Formats.{formats_of}
+use Rattle.iss_rules.specs.Parcels.{Formats}
+use Rattle.iss_theorems.specs.OneLog.{IsOneLog, printed, run_after}
+use Rattle.iss_rules.specs.Rules.{Rules}
 use Rattle.iss_model.specs.Run.{Progress, begin_run, goes_further, run}
-use Rattle.iss_model.specs.Runs.{AreAtCores, IsPrefix, IsSetupOf}
+use Rattle.iss_rules.specs.Setups.{IsSetupOf}
+use Rattle.iss_model.specs.Runs.{AreAtCores, IsPrefix}
 use Rattle.iss_request.specs.Log.{requests}
 use Rattle.iss_request.specs.declared.requests.Value.{Value}
 use Rattle.iss_request.specs.declared.setups.Setup.{Setup}
 use Rattle.iss_schedule.specs.Events.{AreInRange, IsInRange}
 use Rattle.iss_schedule.specs.declared.schedules.Event.{Event}
+use Rattle.iss_schedule.proofs.Fronts.{in_range_push}
 use Rattle.iss_sb.specs.declared.effects.Params.{Params}
 use Rattle.iss_sb.specs.Evidence.{Item, Module}
 use Rattle.iss_world.specs.Headline.{AgreeOnNumbers, IsAnswered, IsHeadline, StandsAfter}
@@ -35,10 +37,6 @@ run-append : {Msg : Type 0} (m : Module Msg) (s : Setup) (F : Formats Msg) (R : 
     run s F R m p (es ++ fs) ≡ run s F R m (run s F R m p es) fs
 run-append m s F R p [] fs = refl
 run-append m s F R p (e ∷ es) fs = run-append m s F R (goes_further p.ended s F R m p e) es fs
-
-in-range-more : (s : Setup) (es : List Event) (e : Event) → AreInRange s es → IsInRange s e → AreInRange s (es ++ e ∷ [])
-in-range-more s [] e h k = (k, tt)
-in-range-more s (x ∷ es) e h k = (h.0, in-range-more s es e h.1 k)
 
 module _ {M Msg : Type 0} (m : Module Msg) (stands : M → Params → ℕ → List (Item Msg) → Type 0) (s : Setup) where
   run-more : (es : List Event) (e : Event) → run_after s m (es ++ e ∷ []) ≡ goes_further (run_after s m es).ended s (formats_of s m) (rules_of s) m (run_after s m es) e
@@ -102,4 +100,4 @@ module _ {M Msg : Type 0} (m : Module Msg) (stands : M → Params → ℕ → Li
   pub headline-more : (v : WorldState M Msg) (es : List Event) (e : Event) (x : Happened) → AreInRange s es → IsInRange s e →
       HasHappened m stands v (run_after s m es) (goes_further (run_after s m es).ended s (formats_of s m) (rules_of s) m (run_after s m es) e) x → IsAnswered x →
       IsHeadline s m stands v (es ++ e ∷ [])
-  headline-more v es e x range inside h a = headline-of v (es ++ e ∷ []) (in-range-more s es e range inside) (stands-more m stands s v es e x h a)
+  headline-more v es e x range inside h a = headline-of v (es ++ e ∷ []) (in_range_push s es e range inside) (stands-more m stands s v es e x h a)

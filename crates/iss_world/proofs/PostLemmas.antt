@@ -1,13 +1,14 @@
 -- Packets that are posted one by one.
 use Rattle.std.proofs.Common.{inl, inr, ◌≡◌, ◌≢◌, ℕ, zero, suc, ◌+◌, ◌<◌, ◌≤◌, Bool, true, false, List, [], ◌∷◌, ◌++◌, length, take, get_or, refl, sym, ap, ◌∙◌, subst, arith, add-one, if◌then◌else◌, Some}
-use Rattle.std.specs.Prelude.{◌==◌, ◌-◌, cond, nat_lt}
+use Rattle.std.specs.Prelude.{◌==◌, ◌-◌, cond}
 use Rattle.std.specs.List.{filter}
 use Rattle.std.proofs.Math.Seq.{take-suc}
-use Rattle.std.proofs.lemmas.Bool.{lt-ltb}
 use Rattle.iss_base.proofs.Lists.{eqb-other, eqb-same, same_or_not}
 use Rattle.iss_request.specs.declared.setups.Setup.{Setup}
 use Rattle.iss_base.specs.Lists.{below, nth}
-use Rattle.iss_model.specs.Run.{addressees, node_of, number_at, posted_all, posted_to}
+use Rattle.iss_model.specs.Run.{addressees, node_of, posted_all, posted_to}
+use Rattle.iss_theorems.proofs.Posts.{posted-append}
+use Rattle.iss_model.proofs.Twins.{node-is}
 use Rattle.iss_network.specs.Network.{Network, posted}
 use Rattle.iss_network.specs.declared.packets.Sent.{Sent}
 use Rattle.iss_sb.specs.declared.effects.To.{To}
@@ -39,10 +40,6 @@ each-next w now later from b k e l =
     ∙ sym (posted_to-append w from b (below k) (k ∷ []))
     ∙ ap (λ (m : ℕ). posted_to w from b (below m)) (sym (add-one k))
 
-posted_all-append : (s : Setup) (w : Network) (from : ℕ) (xs ys : List (To × List ℕ)) → posted_all s w from (xs ++ ys) ≡ posted_all s (posted_all s w from xs) from ys
-posted_all-append s w from [] ys = refl
-posted_all-append s w from (x ∷ xs) ys = posted_all-append s (posted_to w from x.1 (addressees s x.0)) from xs ys
-
 -- the elements up to place i, and the one there
 pub take-next : {A : Type 0} (xs : List A) (i : ℕ) (x : A) → i < length xs → x ≡ get_or xs i x → take (i + 1) xs ≡ take i xs ++ x ∷ []
 take-next {A} xs i x lt is = rw add-one (take-suc xs i x lt ∙ ap (λ (y : A). take i xs ++ y ∷ []) (sym is))
@@ -51,7 +48,7 @@ take-next {A} xs i x lt is = rw add-one (take-suc xs i x lt ∙ ap (λ (y : A). 
 pub all-next : (n : Setup) (w now later : Network) (from : ℕ) (xs : List (To × List ℕ)) (i : ℕ) (x : To × List ℕ) → i < length xs → x ≡ get_or xs i x → now ≡ posted_all n w from (take i xs) → later ≡ posted_to now from x.1 (addressees n x.0) → later ≡ posted_all n w from (take (i + 1) xs)
 all-next n w now later from xs i x lt is e l =
     l ∙ ap (λ (u : Network). posted_to u from x.1 (addressees n x.0)) e
-    ∙ sym (posted_all-append n w from (take i xs) (x ∷ []))
+    ∙ sym (posted-append n w from (take i xs) (x ∷ []))
     ∙ ap (λ (ys : List (To × List ℕ)). posted_all n w from ys) (sym (take-next xs i x lt is))
 
 to-at : (n : ℕ) (xs : List (To × List ℕ)) (i : ℕ) (d : To × List ℕ) → AreToNodes n xs → i < length xs → IsToNode n (get_or xs i d).0
@@ -72,10 +69,6 @@ filter-append P (x ∷ xs) ys = put (P x) x (filter P (xs ++ ys)) (filter P xs) 
     put true x all front back e = ap (λ (zs : List ℕ). x ∷ zs) e
     put false x all front back e = e
 
--- core i below n is node i
-pub node-first : (s : Setup) (c : ℕ) → c < s.n → node_of s c ≡ c
-node-first s c lt = let t : nat_lt c s.n ≡ true = lt-ltb c s.n lt in ap (λ (b : Bool). cond b c (number_at (nth s.faulty (c - s.n)))) t
-
 keep-one : (b : Bool) (P : ℕ → Bool) (c : ℕ) → P c ≡ b → filter P (c ∷ []) ≡ cond b (c ∷ []) []
 keep-one b P c e = ap (λ (t : Bool). cond t (c ∷ []) []) e
 
@@ -83,14 +76,14 @@ none-below : (s : Setup) (k m : ℕ) → m ≤ k → k < s.n → filter (λ c. n
 none-below s k zero le lt = refl
 none-below s k (suc m) le lt =
     let P : ℕ → Bool = λ c. node_of s c == k in
-    let other : P m ≡ false = ap (λ (i : ℕ). i == k) (node-first s m (omega (arith, le, lt))) ∙ eqb-other m k (λ e. omega (arith, e, le)) in
+    let other : P m ≡ false = ap (λ (i : ℕ). i == k) (node-is s m (omega (arith, le, lt))) ∙ eqb-other m k (λ e. omega (arith, e, le)) in
     filter-append P (below m) (m ∷ []) ∙ ap (λ (zs : List ℕ). zs ++ filter P (m ∷ [])) (none-below s k m (omega (arith, le)) lt) ∙ keep-one false P m other
 
 one-below : (s : Setup) (k i : ℕ) → k < i → i ≤ s.n → filter (λ c. node_of s c == k) (below i) ≡ k ∷ []
 one-below s k zero lt le = absurd (omega (arith, lt))
 one-below s k (suc i) lt le =
     let P : ℕ → Bool = λ c. node_of s c == k in
-    let here : node_of s i ≡ i = node-first s i (omega (arith, le)) in
+    let here : node_of s i ≡ i = node-is s i (omega (arith, le)) in
     filter-append P (below i) (i ∷ []) ∙ elim (same_or_not i k) [
       | inl e ↦
           let same : P i ≡ true = ap (λ (j : ℕ). j == k) (here ∙ e) ∙ eqb-same k in

@@ -1,38 +1,38 @@
 -- One step of a core, and the run that the cores stand for.
 use Rattle.std.proofs.Common.{inl, inr, ◌≡◌, ◌≢◌, ◌⊎◌, ℕ, zero, suc, ◌+◌, ◌<◌, ◌≤◌, Bool, true, false, cond, List, [], ◌∷◌, ◌++◌, length, length-append, take, set, slice_get, Option, Some, None, reverse, refl, sym, ap, ◌∙◌, subst, arith}
-use Rattle.std.specs.Prelude.{◌==◌, eqb, if◌then◌else◌, option_map}
+use Rattle.std.specs.Prelude.{eqb, option_map}
 use Rattle.std.proofs.lemmas.Bool.Decides.{eqb_tells}
 use Rattle.std.proofs.lemmas.List.{length-reverse, reverse-append, reverse-reverse}
 use Rattle.std.proofs.Math.Seq.{take-append_seam}
 use Rattle.iss_base.specs.Lists.{first_of, over}
 use Rattle.iss_base.proofs.Lists.{none-some, some-injective}
 use Rattle.iss_model.proofs.Casts.{kept-sound, step-grown}
-use Rattle.iss_model.proofs.Ending.{HasSlots}
+use Rattle.iss_rules.proofs.Ending.{HasSlots}
 use Rattle.iss_model.proofs.Rows.{each-holds, settles-holds}
 use Rattle.iss_model.proofs.Steps.{Took, adopted, asked, cast, fired, handed, kept, received, sought, took, voted}
-use Rattle.iss_model.proofs.Windows.{are-windows}
-use Rattle.iss_model.specs.Cluster.{Signed}
-use Rattle.iss_model.specs.Concrete.{rules_of}
-use Rattle.iss_model.specs.Formats.{formats_of}
-use Rattle.iss_model.specs.Node.{Core, Early, Formats, Stepped, Taken, Turn, adopts_piece, onward, settles, step, takes_each}
-use Rattle.iss_model.specs.Past.{log_of}
-use Rattle.iss_model.specs.Rules.{Rules}
-use Rattle.iss_model.specs.Run.{End, Forged, Happening, Held, after_step, at_core, booked, by_collision, by_forged, claims_at, collision_in, done, early_of, ended_by, first_forged, is_forged, node_of, posted_all, turned_to}
+use Rattle.iss_rules.proofs.Windows.{are-windows}
+use Rattle.iss_rules.specs.Books.{Signed}
+use Rattle.iss_rules.specs.Concrete.{rules_of}
+use Rattle.iss_rules.specs.Formats.{formats_of}
+use Rattle.iss_rules.specs.Parcels.{Formats}
+use Rattle.iss_model.specs.Node.{Core, Early, Stepped, Taken, Turn, adopts_piece, onward, settles, step, takes_each}
+use Rattle.iss_rules.specs.Past.{log_of}
+use Rattle.iss_rules.specs.Rules.{Rules}
+use Rattle.iss_causes.specs.Ends.{End, Forged}
+use Rattle.iss_model.specs.Run.{Happening, Held, after_step, at_core, booked, by_collision, by_forged, claims_at, collision_in, done, early_of, ended_by, first_forged, is_forged, node_of, posted_all, turned_to}
 use Rattle.iss_model.specs.Sound.{IsSoundCore}
-use Rattle.iss_model.specs.declared.causes.NodeEvent.{NodeEvent}
-use Rattle.iss_model.specs.declared.causes.Why.{Why}
+use Rattle.iss_causes.specs.declared.causes.NodeEvent.{NodeEvent}
+use Rattle.iss_causes.specs.declared.causes.Why.{Why}
 use Rattle.iss_network.specs.Network.{Network}
 use Rattle.iss_node.specs.State.{NodeState, Stands, bare}
 use Rattle.iss_node.specs.Steps.{HasRetreated, IsAnswer, IsDrop, IsMade, IsOfNodes, IsTurn}
 use Rattle.iss_node.specs.declared.answers.Answer.{Answer}
 use Rattle.iss_node.specs.declared.answers.Answer.TheVariants.{Dropped as Was_dropped, Taken as Was_taken}
 use Rattle.iss_node.specs.declared.answers.Outcome.{Outcome}
+use Rattle.iss_node.proofs.OwnEpoch.{has-slots}
 use Rattle.iss_request.specs.declared.ids.NodeId.{NodeId}
 use Rattle.iss_request.specs.declared.requests.Value.{Value}
 use Rattle.iss_request.specs.declared.setups.Setup.{Setup}
-use Rattle.iss_request.specs.Setup.{IsGoodSetup, nodes_of_kind}
-use Rattle.iss_request.specs.declared.setups.Kind.{Kind}
-use Rattle.iss_request.specs.declared.setups.Kind.TheVariants.{Byzantine, Stopping}
 use Rattle.iss_sb.specs.declared.effects.Claim.{Claim}
 use Rattle.iss_sb.specs.declared.effects.Params.{Params}
 use Rattle.iss_sb.specs.declared.effects.To.{To}
@@ -126,17 +126,6 @@ module _ {Msg : Type 0} (F : Formats Msg) (R : Rules) (M : Module Msg) (me : ℕ
 
   pub step-epoch : (c : Core Msg) (event : NodeEvent) (t : Turn Msg) → step F R M me c event ≡ Taken t → c.past.epoch ≤ t.core.past.epoch
   step-epoch c event t q = took-epoch c event t (took F R M me c event t q)
-
-some-nodes : (b : Bool) (k : Kind) (f n : ℕ) → n ≡ (if b then 3 else nodes_of_kind k f) → 1 ≤ n
-some-nodes true k f n e = omega (arith, e)
-some-nodes false Byzantine f n e = omega (arith, e)
-some-nodes false Stopping f n e = omega (arith, e)
-
-has-slots : (s : Setup) → IsGoodSetup s → HasSlots (rules_of s)
-has-slots s good = record {
-  some = λ log e. let n = some-nodes (s.«module» == 1) s.kind s.f s.n good.nodes in let low = good.epoch_low in let some : 0 < s.epoch = omega (arith, n, low) in some;
-  most = λ log e. le-refl s.epoch;
-}
 
 -- ---- what is tested
 

@@ -1,21 +1,21 @@
 -- What an event promises of a world that stood for the run of the events before it.
 use Rattle.std.specs.Prelude.{◌≡◌, ℕ, true, List, Some}
 use Rattle.iss_log.specs.LogState.{first_number_of}
-use Rattle.iss_model.specs.Certified.{AreOfLogs, WereDelivered}
-use Rattle.iss_model.specs.Conserved.{AcceptsOnce, IsConserved}
-use Rattle.iss_model.specs.Ends.{HasEvidence}
-use Rattle.iss_model.specs.OneLog.{IsOneLog, printed, run_after}
+use Rattle.iss_theorems.specs.Certified.{AreOfLogs, WereDelivered}
+use Rattle.iss_theorems.specs.Conserved.{AcceptsOnce, IsConserved}
+use Rattle.iss_theorems.specs.Ends.{HasEvidence}
+use Rattle.iss_theorems.specs.OneLog.{IsOneLog, printed, run_after}
 use Rattle.iss_request.specs.declared.setups.Setup.{Setup}
 use Rattle.iss_schedule.specs.declared.schedules.Event.{Event}
-use Rattle.iss_sb.specs.declared.effects.Params.{Params}
-use Rattle.iss_sb.specs.Evidence.{Item, Module, is_correct}
+use Rattle.iss_sb.specs.Evidence.{Module, is_correct}
+use Rattle.iss_sb.specs.Calls.{Relation}
 use Rattle.iss_world.specs.Stands.{StandsAt}
 use Rattle.iss_world.specs.State.{WorldState}
 use Rattle.iss_world.specs.declared.world.Happened.{Happened}
 use Rattle.iss_world.specs.declared.world.Happened.TheVariants.{Done, Lost, Forged, Collision, NoMemory, Stale}
 
 -- the world stands for what these events make of a cluster that has taken nothing
-abbrev pub StandsAfter : {M Msg : Type 0} → Setup → Module Msg → (M → Params → ℕ → List (Item Msg) → Type 0) → WorldState M Msg → List Event → Type 0
+abbrev pub StandsAfter : {M Msg : Type 0} → Setup → Module Msg → Relation M Msg → WorldState M Msg → List Event → Type 0
 StandsAfter s m stands v events = StandsAt m stands v (run_after s m events)
 
 -- there was memory for the event
@@ -36,7 +36,7 @@ AgreeOnNumbers s m events =
 -- The world stands for the run of these events, up to its end if it has ended. The logs of its correct nodes are of one log,
 -- with the same numbers, and each request that a correct node took is in one place. Certificates that correct nodes keep are of logs
 -- of correct nodes, and what correct nodes adopted was delivered at one. If the run has ended, there is evidence of it.
-pub record IsHeadline {M Msg : Type 0} (s : Setup) (m : Module Msg) (stands : M → Params → ℕ → List (Item Msg) → Type 0)
+pub record IsHeadline {M Msg : Type 0} (s : Setup) (m : Module Msg) (stands : Relation M Msg)
     (v : WorldState M Msg) (events : List Event) : Type 0 where
   pub run : StandsAfter s m stands v events
   pub one_log : IsOneLog s m events

@@ -1,14 +1,14 @@
 -- What holds of running cores and of every world, whatever happened to them.
 use Rattle.std.specs.Prelude.{◌≡◌, ◌<◌, ℕ, false, List, [], ◌∷◌, length, None, Some, slice_get}
 use Rattle.iss_model.specs.Run.{cores_of, node_of}
-use Rattle.iss_model.specs.Runs.{IsSetupOf}
+use Rattle.iss_rules.specs.Setups.{IsSetupOf}
 use Rattle.iss_network.specs.Network.{Network}
 use Rattle.iss_network.specs.declared.packets.Sent.{Sent}
 use Rattle.iss_node.specs.State.{NodeState}
-use Rattle.iss_sb.specs.Evidence.{Item, Module}
+use Rattle.iss_sb.specs.Evidence.{Module}
 use Rattle.iss_world.specs.State.{RunningState, WorldState}
 use Rattle.iss_world.specs.Stands.{IsStanding}
-use Rattle.iss_sb.specs.declared.effects.Params.{Params}
+use Rattle.iss_sb.specs.Calls.{Relation}
 
 -- the packets are for cores below n
 abbrev pub AreForCores : ℕ → List Sent → Type 0
@@ -28,5 +28,5 @@ pub record IsRunning {M Msg : Type 0} (m : Module Msg) (v : RunningState M Msg) 
   pub places : (i : ℕ) (g : NodeState M Msg) → slice_get v.nodes i ≡ Some g → g.parts.me.0 ≡ node_of v.setup i
 
 -- a world stands for some run, as long as that goes on and memory was never wanting
-abbrev pub IsWorld : {M Msg : Type 0} → Module Msg → (M → Params → ℕ → List (Item Msg) → Type 0) → WorldState M Msg → Type 0
+abbrev pub IsWorld : {M Msg : Type 0} → Module Msg → Relation M Msg → WorldState M Msg → Type 0
 IsWorld m stands v = v.stale ≡ false → v.ended ≡ None → IsStanding m stands v.running

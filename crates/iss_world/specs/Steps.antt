@@ -1,16 +1,17 @@
 -- One step of a core, from the test of what it claims to what is booked and posted.
 use Rattle.std.specs.Prelude.{◌≡◌, ℕ, List, Option, Some, None, reverse, slice_get, take}
 use Rattle.iss_base.specs.Lists.{first_of, set_at}
-use Rattle.iss_model.specs.Cluster.{Signed}
-use Rattle.iss_model.specs.Concrete.{rules_of}
+use Rattle.iss_rules.specs.Books.{Signed}
+use Rattle.iss_rules.specs.Concrete.{rules_of}
 use Rattle.iss_model.specs.Node.{Stepped, Turn}
-use Rattle.iss_model.specs.Past.{log_of}
-use Rattle.iss_model.specs.Run.{End, Forged, Happening, Held, after_step, by_forged, collision_in, early_of, first_forged, node_of}
+use Rattle.iss_rules.specs.Past.{log_of}
+use Rattle.iss_causes.specs.Ends.{End, Forged}
+use Rattle.iss_model.specs.Run.{Happening, Held, after_step, by_forged, collision_in, early_of, first_forged, node_of}
 use Rattle.iss_node.specs.State.{NodeState, Stands}
 use Rattle.iss_request.specs.declared.setups.Setup.{Setup}
 use Rattle.iss_sb.specs.declared.effects.Claim.{Claim}
-use Rattle.iss_sb.specs.declared.effects.Params.{Params}
-use Rattle.iss_sb.specs.Evidence.{Item, Module}
+use Rattle.iss_sb.specs.Evidence.{Module}
+use Rattle.iss_sb.specs.Calls.{Relation}
 use Rattle.iss_world.specs.Books.{AreHashed, AreSigned}
 use Rattle.iss_world.specs.State.{RunningState}
 
@@ -29,7 +30,7 @@ ends_by s signed hashed early strings = first_of (forged_in (first_forged s (rul
 
 -- core c has taken a turn, of which nothing is tested, booked or posted yet: all else stands for what is held, where the core
 -- had so many slots, and was in this epoch
-pub record IsBehind {M Msg : Type 0} (m : Module Msg) (stands : M → Params → ℕ → List (Item Msg) → Type 0)
+pub record IsBehind {M Msg : Type 0} (m : Module Msg) (stands : Relation M Msg)
     (v : RunningState M Msg) (h : Held Msg) (c : ℕ) (t : Turn Msg) (slots at : ℕ) : Type 0 where
   pub cores : (i : ℕ) (g : NodeState M Msg) → slice_get v.nodes i ≡ Some g → Stands m stands g (set_at h.net.cores c t.core i)
   pub network : v.network ≡ h.net.network

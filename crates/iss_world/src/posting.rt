@@ -75,7 +75,8 @@ fn post_to_node(
     requires good { IsGoodSetup setup.now }
     requires between { IsNetworkOf (cores_of setup.now) network.old }
     requires addressed { node.0 < setup.now.n }
-    ensures posted { OnOk result (network.new ≡ posted_to network.old from bytes.now (filter (λ c. node_of setup.now c == node.0) (below (cores_of setup.now)))) }
+    ensures posted { OnOk result (network.new ≡
+        posted_to network.old from bytes.now (filter (λ c. node_of setup.now c == node.0) (below (cores_of setup.now)))) }
     ensures between { IsNetworkOf (cores_of setup.now) network.new }
 {
     let n = cores_of(setup);

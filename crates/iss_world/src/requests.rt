@@ -1,9 +1,8 @@
 //! A client's request, as a packet.
 ghost use Rattle.std.specs.Prelude.{◌≡◌, ◌<◌, ◌≤◌, ◌^◌, IfOk, length};
-ghost use Rattle.iss_model.specs.Concrete.{keys_of};
-ghost use Rattle.iss_model.specs.Formats.{formats_of};
-ghost use Rattle.iss_model.specs.Node.{OfRequest};
-ghost use Rattle.iss_model.specs.Run.{request_of};
+ghost use Rattle.iss_rules.specs.Concrete.{keys_of, request_of};
+ghost use Rattle.iss_rules.specs.Formats.{formats_of};
+ghost use Rattle.iss_rules.specs.Parcels.{OfRequest};
 ghost use Rattle.iss_request.specs.declared.setups.Setup.{Setup};
 
 use iss_keys::Directory;
@@ -25,8 +24,8 @@ pub fn request_packet<M: Sequenced>(
     requires client { id.client < setup.now.clients }
     requires leaf { id.number < 2 ^ setup.now.keys }
     requires payload { length payload.now ≤ 256 }
-    ensures { IfOk result (λ bytes.
-        bytes ≡ (formats_of setup.now M.meaning).wrap (record { from = 255; epoch = 0; body = OfRequest (request_of setup.now id.client id.number payload.now) })) }
+    ensures { IfOk result (λ bytes. bytes ≡ (formats_of setup.now M.meaning).wrap
+        (record { from = 255; epoch = 0; body = OfRequest (request_of setup.now id.client id.number payload.now) })) }
 {
     let keys = directory.keys_of_client(alloc, id.client);
     let request = Request {

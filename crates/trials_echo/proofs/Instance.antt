@@ -1,7 +1,7 @@
 -- The cluster, move by move: node 0 casts, and node 1 takes its word, its echo, its own echo, and the faulty node's.
 use Rattle.std.proofs.Common.{◌≡◌, inl, inr, ℕ, ◌<◌, true, List, [], ◌∷◌, ◌++◌, None, append-nil, refl, sym, ap, ◌∙◌, subst, true≢false, arith}
 use Rattle.sha2.specs.Sha256.{compress, digest_bytes, first_words, hash_after, rounds, schedule, sha256}
-use Rattle.iss_base.specs.Lists.{In, over, set_at}
+use Rattle.iss_base.specs.Lists.{Extends, In, over, set_at}
 use Rattle.iss_base.proofs.Lists.{in_append, in_right, set_at-other, set_at-same}
 use Rattle.iss_request.specs.Formats.{parse_value, spell_batch, spell_count, spell_request, spell_value}
 use Rattle.iss_request.specs.Setup.{IsGoodSetup}
@@ -16,17 +16,21 @@ use Rattle.iss_sb.specs.Evidence.{IsCredible, IsReadBatch, IsReadMessage, Separa
 use Rattle.iss_sb.specs.Statements.{signature}
 use Rattle.iss_sb.proofs.Read.{batch-read}
 use Rattle.iss_sb.proofs.Signatures.{signature-shape}
-use Rattle.iss_model.specs.Checkpoints.{is_good, scheme_of}
-use Rattle.iss_model.specs.Cluster.{AllSpelled, Cluster, IsBooked, IsHashedLog, IsVerified, MayTake, Reach, Scheme, Signed, begin, chain_strings, move}
-use Rattle.iss_model.specs.Concrete.{rules_of}
-use Rattle.iss_model.specs.Node.{own_claims, verdict_in}
-use Rattle.iss_model.specs.Ordered.{Among, IsSoundRules, Ordered}
-use Rattle.iss_model.specs.Past.{leads_in, log_of, made_in, newborn, params_of, takes}
-use Rattle.iss_model.specs.Rules.{Rules}
-use Rattle.iss_model.specs.Runs.{IsSetupOf}
+use Rattle.iss_cluster.specs.Checkpoints.{is_good, scheme_of}
+use Rattle.iss_rules.specs.Books.{Signed}
+use Rattle.iss_cluster.specs.Cluster.{AllSpelled, Cluster, IsBooked, IsHashedLog, IsVerified, MayTake, Reach, Scheme, begin, chain_strings, move}
+use Rattle.iss_rules.specs.Concrete.{rules_of}
+use Rattle.iss_rules.specs.Verdicts.{verdict_in}
+use Rattle.iss_model.specs.Node.{own_claims}
+use Rattle.iss_rules.specs.SoundRules.{IsSoundRules}
+use Rattle.iss_cluster.specs.Ordered.{Among, Ordered}
+use Rattle.iss_rules.specs.Past.{leads_in, log_of, made_in, newborn, params_of, takes}
+use Rattle.iss_rules.specs.Rules.{Rules}
+use Rattle.iss_rules.specs.Setups.{IsSetupOf}
 use Rattle.iss_model.specs.Run.{as_signed, collision_in}
-use Rattle.iss_model.proofs.Layouts.{however-signed, own-verifies, sound-rules}
-use Rattle.iss_model.proofs.Tests.{over-new, over-old, own-is, separate-more}
+use Rattle.iss_cluster.proofs.Chains.{hashed-older, spelled-older}
+use Rattle.iss_rules.proofs.Layouts.{however-signed, own-verifies, sound-rules}
+use Rattle.iss_theorems.proofs.Tests.{over-new, over-old, own-is, separate-more}
 use Rattle.sb_echo.specs.declared.word.Word.{Word}
 use Rattle.sb_echo.specs.declared.word.Word.TheVariants.{Say, Echo}
 use Rattle.sb_echo.specs.Echo.{claim, claims, digest_of, echo, statement, string_of}
@@ -99,22 +103,14 @@ batch-spelled = ap (λ (t : List ℕ). is_good (parse_value 1 t)) (sym (append-n
 
 -- an empty log, or the whole
 abbrev IsPart : List Value → Type 0
-IsPart log = (newer : List Value) × (whole ≡ newer ++ log)
+IsPart log = Extends log whole
 
-part-strings : (newer log : List Value) (x : List ℕ) → In x (chain_strings S log) → In x (chain_strings S (newer ++ log))
-part-strings [] log x h = h
-part-strings (v ∷ newer) log x h = inr (inr (part-strings newer log x h))
-
-hashed-part : (log : List Value) → IsPart log → IsHashedLog S strings log
-hashed-part log p x h =
-    over-new x (chain_strings S whole) ([] ∷ []) (subst (λ (ys : List Value). In x (chain_strings S ys)) (sym p.1) (part-strings p.0 log x h))
+whole-hashed : IsHashedLog S strings whole
+whole-hashed x h = over-new x (chain_strings S whole) ([] ∷ []) h
 
 whole-spelled : AllSpelled S whole
 whole-spelled v (inl q) = rw q batch-spelled
 whole-spelled v (inr none) = absurd none
-
-spelled-part : (log : List Value) → IsPart log → AllSpelled S log
-spelled-part log p v h = whole-spelled v (subst (λ (ys : List Value). In v ys) (sym p.1) (in_right v p.0 log h))
 
 -- ---- a move
 
@@ -164,8 +160,8 @@ moves w i input leaf r f =
         old_book = λ x h. in_right x own w.book h;
         fresh_strings = f.fresh;
         strings = λ x h. rw r.same at h;
-        hashed = rw here (hashed-part (log_of R echo i next) f.part);
-        spelled = rw here (spelled-part (log_of R echo i next) f.part);
+        hashed = rw here (hashed-older S strings (log_of R echo i next) whole f.part whole-hashed);
+        spelled = rw here (spelled-older S (log_of R echo i next) whole f.part whole-spelled);
       });
       same = refl;
     }
