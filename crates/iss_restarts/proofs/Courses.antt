@@ -5,13 +5,14 @@ use Rattle.iss_request.specs.declared.ids.ReqId.{ReqId}
 use Rattle.iss_request.specs.declared.setups.Setup.{Setup}
 use Rattle.iss_schedule.specs.declared.schedules.Event.{Event}
 use Rattle.iss_sb.specs.Evidence.{Module}
-use Rattle.iss_model.specs.Conserved.{WasAsked as FreeAsked, asked_in as free_asked}
-use Rattle.iss_model.specs.declared.causes.Why.{Why}
-use Rattle.iss_model.specs.Node.{Formats}
-use Rattle.iss_model.specs.Rules.{Rules}
-use Rattle.iss_model.specs.Run.{End, Happening, Held, Progress, ended_at, run, goes_further as free_further, happens as free_happens}
+use Rattle.iss_theorems.specs.Conserved.{WasAsked as FreeAsked, asked_in as free_asked}
+use Rattle.iss_causes.specs.declared.causes.Why.{Why}
+use Rattle.iss_rules.specs.Parcels.{Formats}
+use Rattle.iss_rules.specs.Rules.{Rules}
+use Rattle.iss_causes.specs.Ends.{End}
+use Rattle.iss_model.specs.Run.{Happening, Held, Progress, ended_at, run, goes_further as free_further, happens as free_happens}
 use Rattle.iss_model.specs.Runs.{AreAtCores, IsAtCore}
-use Rattle.iss_model.proofs.Runs.{run-append}
+use Rattle.iss_theorems.proofs.Runs.{run-append}
 use Rattle.iss_restarts.specs.Courses.{Course, Machines, begin_course, course, goes_further}
 use Rattle.iss_restarts.specs.Headline.{AreUndisturbed, IsUndisturbed, WasAsked, why_ended}
 

@@ -9,13 +9,16 @@ use Rattle.iss_schedule.specs.declared.schedules.Event.{Event}
 use Rattle.iss_schedule.specs.declared.schedules.Event.TheVariants.{Request as Asks_order, Propose, Timeout, Ask, Deliver, Lose, Pump, Calm, Hold, Free, Drop, Restart, Crash, Bytes}
 use Rattle.iss_sb.specs.declared.effects.Claim.{Claim}
 use Rattle.iss_sb.specs.Evidence.{Module}
-use Rattle.iss_model.specs.declared.causes.NodeEvent.{NodeEvent}
-use Rattle.iss_model.specs.declared.causes.NodeEvent.TheVariants.{Packet as Gets, Propose as Proposes, Timeout as Fires, AskFrom as Asks}
-use Rattle.iss_model.specs.declared.causes.Why.{Why}
-use Rattle.iss_model.specs.declared.causes.Why.TheVariants.{NoPacket, Stopped}
-use Rattle.iss_model.specs.Node.{Core, Dropped, Formats, OfRequest, Stepped, Taken, idle, step}
-use Rattle.iss_model.specs.Rules.{Rules}
-use Rattle.iss_model.specs.Run.{End, Forged, Happening, Held, at_core, begin_held, claims_at, ended_at, first_forged, node_of, noted, request_of, with_network}
+use Rattle.iss_causes.specs.declared.causes.NodeEvent.{NodeEvent}
+use Rattle.iss_causes.specs.declared.causes.NodeEvent.TheVariants.{Packet as Gets, Propose as Proposes, Timeout as Fires, AskFrom as Asks}
+use Rattle.iss_causes.specs.declared.causes.Why.{Why}
+use Rattle.iss_causes.specs.declared.causes.Why.TheVariants.{NoPacket, Stopped}
+use Rattle.iss_model.specs.Node.{Core, Dropped, Stepped, Taken, idle, step}
+use Rattle.iss_rules.specs.Parcels.{Formats, OfRequest}
+use Rattle.iss_rules.specs.Rules.{Rules}
+use Rattle.iss_causes.specs.Ends.{End, Forged}
+use Rattle.iss_model.specs.Run.{Happening, Held, at_core, begin_held, claims_at, ended_at, first_forged, node_of, noted, with_network}
+use Rattle.iss_rules.specs.Concrete.{request_of}
 use Rattle.iss_restarts.specs.Disks.{Disk, fails, fused, keeps, may_keep, new_disk, works_again}
 
 -- what a run holds, and the disk of each core

@@ -1,6 +1,6 @@
 -- The disk of a core, as a run sees it: which events of the core it keeps, and which of its calls pass.
 use Rattle.std.specs.Prelude.{ℕ, ◌-◌, nat_le, Bool, true, false, List, [], ◌∷◌, Option, Some, None}
-use Rattle.iss_model.specs.declared.causes.NodeEvent.{NodeEvent}
+use Rattle.iss_causes.specs.declared.causes.NodeEvent.{NodeEvent}
 
 pub record Disk : Type 0 where
   -- the events that are kept, newest first

@@ -11,19 +11,21 @@ use Rattle.iss_request.specs.declared.setups.Setup.{Setup}
 use Rattle.iss_schedule.specs.declared.schedules.Event.{Event}
 use Rattle.iss_schedule.specs.declared.schedules.Event.TheVariants.{Request as Asks_order, Propose, Timeout, Ask, Deliver, Lose, Pump, Calm, Hold, Free, Drop, Restart, Crash, Bytes}
 use Rattle.iss_sb.specs.Evidence.{Module, Separate, is_correct}
-use Rattle.iss_model.specs.Certified.{IsOfLog, WasDelivered}
-use Rattle.iss_model.specs.Checkpoints.{scheme_of}
-use Rattle.iss_model.specs.Cluster.{Cluster, Reach}
-use Rattle.iss_model.specs.Concrete.{rules_of}
-use Rattle.iss_model.specs.Conserved.{AcceptsOnce, IsInOnePlace, asked_by, unless_ended}
-use Rattle.iss_model.specs.Ends.{AreBooked, AreVoted, Shows}
-use Rattle.iss_model.specs.Formats.{formats_of}
-use Rattle.iss_model.specs.Node.{Formats}
-use Rattle.iss_model.specs.OneLog.{run_after}
-use Rattle.iss_model.specs.Ordered.{Among, IsExact, IsSoundRules, WasAccepted}
-use Rattle.iss_model.specs.Past.{adopted_at, log_of}
-use Rattle.iss_model.specs.Rules.{Rules}
-use Rattle.iss_model.specs.Run.{End, Held, node_of}
+use Rattle.iss_theorems.specs.Certified.{IsOfLog, WasDelivered}
+use Rattle.iss_cluster.specs.Checkpoints.{scheme_of}
+use Rattle.iss_cluster.specs.Cluster.{Cluster, Reach}
+use Rattle.iss_rules.specs.Concrete.{rules_of}
+use Rattle.iss_theorems.specs.Conserved.{AcceptsOnce, IsInOnePlace, asked_by, unless_ended}
+use Rattle.iss_theorems.specs.Ends.{AreBooked, AreVoted, Shows}
+use Rattle.iss_rules.specs.Formats.{formats_of}
+use Rattle.iss_rules.specs.Parcels.{Formats}
+use Rattle.iss_theorems.specs.OneLog.{run_after}
+use Rattle.iss_cluster.specs.Ordered.{Among, IsExact, WasAccepted}
+use Rattle.iss_rules.specs.SoundRules.{IsSoundRules}
+use Rattle.iss_rules.specs.Past.{adopted_at, log_of}
+use Rattle.iss_rules.specs.Rules.{Rules}
+use Rattle.iss_causes.specs.Ends.{End}
+use Rattle.iss_model.specs.Run.{Held, node_of}
 use Rattle.iss_model.specs.Runs.{AreAtCores, IsPrefix, pasts_of}
 use Rattle.iss_restarts.specs.Courses.{Course, Machines, Upshot, begin_course, core_of, course, goes_further, happens}
 
@@ -93,7 +95,8 @@ shown s M h i = reverse (log_of (rules_of s) M i (pasts_of h.net i))
 -- the logs that correct nodes print are of one log
 pub record AreOneLog {Msg : Type 0} (s : Setup) (M : Module Msg) (h : Held Msg) : Type 0 where
   -- of two logs one is the beginning of the other
-  pub prefix : (i j : ℕ) → is_correct s i ≡ true → is_correct s j ≡ true → IsPrefix (shown s M h i) (shown s M h j) ⊎ IsPrefix (shown s M h j) (shown s M h i)
+  pub prefix : (i j : ℕ) → is_correct s i ≡ true → is_correct s j ≡ true →
+      IsPrefix (shown s M h i) (shown s M h j) ⊎ IsPrefix (shown s M h j) (shown s M h i)
   -- no request stands twice in a log
   pub once : (i : ℕ) → is_correct s i ≡ true → Once (shown s M h i)
   -- a correct node accepted each batch as valid, in the slot in which it is printed

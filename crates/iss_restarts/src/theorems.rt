@@ -2,14 +2,15 @@
 ghost use Rattle.std.specs.Prelude.{List};
 ghost use Rattle.iss_request.specs.declared.setups.Setup.{Setup};
 ghost use Rattle.iss_schedule.specs.declared.schedules.Event.{Event};
-ghost use Rattle.iss_model.specs.Runs.{AreAtCores, IsSetupOf};
+ghost use Rattle.iss_model.specs.Runs.{AreAtCores};
+ghost use Rattle.iss_rules.specs.Setups.{IsSetupOf};
 ghost use Rattle.iss_restarts.specs.Headline.{IsWhole};
 
-use iss_model::{
+use iss_sb::Sequenced;
+use iss_theorems::{
     adopted_was_delivered, certificates_are_of_logs, cluster_runs, requests_are_conserved,
     runs_end_with_evidence,
 };
-use iss_sb::Sequenced;
 
 /// A run in which disks fail at any call, and cores are made anew of what their disks keep, leads to what nodes come to that never
 /// stop, by the events that were kept alone. So the logs that correct nodes print are of one log, which more events only make longer,
