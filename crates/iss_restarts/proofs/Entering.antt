@@ -21,7 +21,7 @@ use Rattle.iss_model.specs.Node.{Core, Dropped, Stepped, Taken, Turn, step}
 use Rattle.iss_rules.specs.Parcels.{Formats, OfRequest}
 use Rattle.iss_rules.specs.Rules.{Rules}
 use Rattle.iss_causes.specs.Ends.{End, Forged}
-use Rattle.iss_model.specs.Run.{Happening, Held, at_core, by_collision, by_forged, claims_at, collision_in, done, early_of, ended_at, ended_by, first_forged, is_forged, lost_by, node_of, noted, turned_to, with_network, after_step as free_step, delivered_to as free_delivered, happens as free_happens, loses as free_loses}
+use Rattle.iss_model.specs.Run.{Happening, Held, Progress, at_core, by_collision, by_forged, claims_at, collision_in, done, early_of, ended_at, ended_by, first_forged, is_forged, lost_by, node_of, noted, turned_to, with_network, after_step as free_step, delivered_to as free_delivered, happens as free_happens, loses as free_loses}
 use Rattle.iss_rules.specs.Concrete.{request_of}
 use Rattle.iss_model.specs.Runs.{AreAtCores, IsAtCore}
 use Rattle.iss_restarts.proofs.Courses.{Leads, course-over, going, leads-less, leads-none, leads-on, leads-one, leads-same, nobody, nobody-asked, over, standing}
@@ -214,18 +214,18 @@ module _ {Msg : Type 0} (s : Setup) (F : Formats Msg) (R : Rules) (M : Module Ms
       goes-less (λ i x. In x (asked_in i (Deliver k) d)) none w.held d (λ i x m. absurd m)
       (at-goes w.held v own p.to (Gets p.bytes) (Deliver k) tt tt (ap (λ (x : Option Sent). free_delivered s F R M w.held k x) q) lose.leads)
 
-  unless-goes : (asks : ℕ → ReqId → Type 0) (h : Held Msg) (d : Upshot Msg) (more : Machines Msg → Upshot Msg) (o : Option End) → d.ended ≡ o → Goes asks h d →
-      ((v : Machines Msg) → Own v → Goes none v.held (more v)) → Goes asks h (unless o d more)
-  unless-goes asks h d more None q g f =
+  unless-goes : (asks : ℕ → ReqId → Type 0) (h : Held Msg) (d : Upshot Msg) (later : Machines Msg → Upshot Msg) (o : Option End) → d.ended ≡ o → Goes asks h d →
+      ((v : Machines Msg) → Own v → Goes none v.held (later v)) → Goes asks h (unless o d later)
+  unless-goes asks h d later None q g f =
       let next = f d.machines g.own in
       record {
         leads = λ n drops.
             let a = subst (λ (o : Option End). By asks (at_start h n drops) d.machines.held o) q (g.leads n drops) in
-            leads-less s F R M (λ i x. asks i x ⊎ none i x) asks (at_start h n drops) (more d.machines).machines.held (more d.machines).ended (λ i x m. inl m)
-            (leads-on s F R M asks none (at_start h n drops) d.machines.held (more d.machines).machines.held (more d.machines).ended a next.leads);
+            leads-less s F R M (λ i x. asks i x ⊎ none i x) asks (at_start h n drops) (later d.machines).machines.held (later d.machines).ended (λ i x m. inl m)
+            (leads-on s F R M asks none (at_start h n drops) d.machines.held (later d.machines).machines.held (later d.machines).ended a next.leads);
         own = next.own;
       }
-  unless-goes asks h d more (Some end) q g f = g
+  unless-goes asks h d later (Some end) q g f = g
 
   each-goes : (ks : List ℕ) (w : Machines Msg) → Own w → Goes none w.held (delivers_each s F R M ks w)
   each-goes [] w own = goes-none w own (went_on w) refl refl
