@@ -1,5 +1,5 @@
-use Rattle.std.proofs.Common.{IsTrue, ◌↔◌, ⊎_elim, ◌≡◌, ◌≢◌, ℕ, zero, suc, ◌+◌, ◌<◌, ◌≤◌, Bool, true, false, cond, List, [], ◌∷◌, ◌++◌, length, take, refl, sym, ap, ◌∙◌, subst, arith, Option, Some, None, Result, Ok, Err, OnErr, is_some, IsSome, slice_get, slice_index, append_assoc, length-append, eqb}
-use Rattle.std.proofs.lemmas.List.{append-nil}
+use Rattle.std.proofs.Common.{IsTrue, ◌↔◌, ⊎_elim, ◌≡◌, ◌≢◌, ℕ, zero, suc, ◌+◌, ◌<◌, ◌≤◌, Bool, true, false, cond, List, [], ◌∷◌, ◌++◌, length, reverse, take, refl, sym, ap, ◌∙◌, subst, arith, Option, Some, None, Result, Ok, Err, OnErr, is_some, IsSome, slice_get, slice_index, append_assoc, length-append, eqb}
+use Rattle.std.proofs.lemmas.List.{append-nil, reverse-append}
 use Rattle.std.proofs.lemmas.Bool.{cases_lt}
 use Rattle.std.specs.Ordering.{is_eq, nat_cmp}
 use Rattle.iss_base.specs.Lists.{first_of}
@@ -95,6 +95,14 @@ advanced old new slots so_far none count =
 pub requests_more : (es : List Value) (v : Value) → requests (es ++ v ∷ []) ≡ requests es + size_of v
 requests_more [] v = omega arith
 requests_more (x ∷ es) v = let more = requests_more es v in omega arith
+
+-- the sum of the sizes does not hang on the order
+pub requests_turned : (vs : List Value) → requests (reverse vs) ≡ requests vs
+requests_turned [] = refl
+requests_turned (v ∷ vs) =
+    let last : requests (reverse (v ∷ vs)) ≡ requests (reverse vs) + size_of v = ap requests (reverse-append (v ∷ []) vs) ∙ requests_more (reverse vs) v in
+    let rest = requests_turned vs in
+    omega (arith, last, rest)
 
 pub take_front : (es : List Value) (v : Value) (s : ℕ) → s ≤ length es → take s (es ++ v ∷ []) ≡ take s es
 take_front [] v zero h = refl

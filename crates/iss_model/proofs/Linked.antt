@@ -1,13 +1,11 @@
 -- What the steps hash of logs is what chains are made of.
-use Rattle.std.proofs.Common.{◌≡◌, ◌⊎◌, inl, inr, ℕ, ◌+◌, List, [], ◌∷◌, ◌++◌, length, reverse, refl, sym, ap, ◌∙◌, subst, arith, append_assoc}
+use Rattle.std.proofs.Common.{◌≡◌, ◌⊎◌, inl, inr, ℕ, ◌+◌, List, [], ◌∷◌, ◌++◌, length, reverse, refl, sym, ap, ◌∙◌, subst, append_assoc}
 use Rattle.std.proofs.lemmas.List.{reverse-append, reverse-reverse}
 use Rattle.iss_base.specs.Lists.{Extends, In, over}
 use Rattle.iss_base.proofs.Lists.{in_left, in_right}
 use Rattle.iss_log.specs.Chains.{chain_of, linked, strings_from, strings_of, value_link}
 use Rattle.iss_log.proofs.ChainLemmas.{chain-append}
-use Rattle.iss_log.proofs.LogLemmas.{requests_more}
 use Rattle.iss_request.specs.Digest.{digest}
-use Rattle.iss_request.specs.Log.{requests, size_of}
 use Rattle.iss_request.specs.declared.requests.Value.{Value}
 use Rattle.iss_request.specs.declared.setups.Setup.{Setup}
 use Rattle.iss_model.specs.Checkpoints.{scheme_of}
@@ -18,14 +16,6 @@ use Rattle.iss_model.proofs.Casts.{joined-newer}
 -- newest first, a value comes last
 newest-last : (v : Value) (older : List Value) → reverse (v ∷ older) ≡ reverse older ++ v ∷ []
 newest-last v older = reverse-append (v ∷ []) older
-
-pub requests-turned : (log : List Value) → requests (reverse log) ≡ requests log
-requests-turned [] = refl
-requests-turned (v ∷ older) =
-    let ih = requests-turned older in
-    ap (λ (t : List Value). requests t) (newest-last v older) ∙
-    (requests_more (reverse older) v ∙
-    (let sum : requests (reverse older) + size_of v ≡ size_of v + requests older = omega (arith, ih) in sum))
 
 pub over-is : (vs log : List Value) → over vs log ≡ reverse vs ++ log
 over-is [] log = refl
