@@ -16,7 +16,7 @@ use Rattle.iss_checkpoint.specs.declared.tallies.Refusal.TheVariants.{BadSignatu
 use Rattle.iss_checkpoint.specs.declared.votes.Cert.{Cert}
 use Rattle.iss_checkpoint.specs.declared.votes.Signed.{Signed}
 use Rattle.iss_checkpoint.specs.declared.votes.Vote.{Vote}
-use Rattle.iss_model.specs.Node.{cert_on, keeping, vote_by}
+use Rattle.iss_rules.specs.Votes.{cert_on, keeping, vote_by}
 
 -- ---- places
 

@@ -2,8 +2,8 @@
 use Rattle.std.proofs.Common.{◌≡◌, ℕ, ◌+◌, ◌<◌, List, [], ◌∷◌, ◌++◌, Some, None, length, take, get_or, refl, sym, ap, ◌∙◌, add-one}
 use Rattle.std.proofs.Math.Seq.{take-suc}
 use Rattle.iss_checkpoint.specs.declared.votes.Signed.{Signed}
-use Rattle.iss_model.specs.Formats.{whole}
-use Rattle.iss_model.specs.Node.{claims_by}
+use Rattle.iss_rules.specs.Formats.{whole}
+use Rattle.iss_rules.specs.Votes.{claims_by}
 use Rattle.iss_request.specs.Fields.{Bad, Good, IsBad, Parsed}
 use Rattle.iss_request.specs.Parsing as parsing
 use Rattle.iss_request.specs.Parsing.{Parser, all_of}

@@ -9,7 +9,7 @@ use Rattle.iss_checkpoint.specs.Votes.{Voters, is_signed, statement_of}
 use Rattle.iss_checkpoint.specs.declared.tallies.Refusal.TheVariants.{BadSignature as Unsigned, OtherEpoch, Twice}
 use Rattle.iss_checkpoint.specs.declared.votes.Cert.{Cert}
 use Rattle.iss_checkpoint.specs.declared.votes.Vote.{Vote}
-use Rattle.iss_model.specs.Node.{cert_on, vote_by}
+use Rattle.iss_rules.specs.Votes.{cert_on, vote_by}
 
 pub record BallotsState : Type 0 where
   pub voters : Voters

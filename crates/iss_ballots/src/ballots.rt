@@ -4,7 +4,7 @@ ghost use Rattle.iss_ballots.specs.Ballots.{AreKept, IsTaken, IsTakenAt, cert_in
 ghost use Rattle.iss_checkpoint.specs.Votes.{voters_of};
 ghost use Rattle.iss_checkpoint.specs.declared.votes.Cert.{Cert as Certificate};
 ghost use Rattle.iss_checkpoint.specs.declared.votes.Vote.{Vote as Voted};
-ghost use Rattle.iss_model.specs.Node.{cert_on, keeping};
+ghost use Rattle.iss_rules.specs.Votes.{cert_on, keeping};
 
 use iss_checkpoint::checking::is_signed;
 use iss_checkpoint::{Added, Cert, Refusal, Tally, Vote, vote_statement};

@@ -2,7 +2,7 @@
 ghost use Rattle.std.specs.Prelude.{◌≡◌, IfOk};
 ghost use Rattle.iss_ballots.specs.Claims.{claim_by};
 ghost use Rattle.iss_checkpoint.specs.Votes.{vote_statement};
-ghost use Rattle.iss_model.specs.Node.{claims_by};
+ghost use Rattle.iss_rules.specs.Votes.{claims_by};
 
 use iss_checkpoint::{Cert, Signed, Vote, vote_statement};
 use iss_request::{Bytes, NoMemory, Row};

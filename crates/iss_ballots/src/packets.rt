@@ -1,7 +1,7 @@
 //! Votes, asks and pieces in packets.
 ghost use Rattle.std.specs.Prelude.{◌≡◌, IfOk, []};
 ghost use Rattle.iss_checkpoint.specs.Bodies.{parse_vote, spell_vote};
-ghost use Rattle.iss_model.specs.Formats.{whole};
+ghost use Rattle.iss_rules.specs.Formats.{whole};
 ghost use Rattle.iss_packet.specs.Packets.{spell_packet};
 ghost use Rattle.iss_transfer.specs.Bodies.{parse_ask, parse_piece, spell_piece};
 

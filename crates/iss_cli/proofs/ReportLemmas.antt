@@ -9,11 +9,11 @@ use Rattle.iss_cli.specs.declared.answers.Answer.{Answer}
 use Rattle.iss_cli.specs.declared.status.Status.{Status}
 use Rattle.iss_cli.specs.Answers.{IsAnswer, IsAnswerStatus, IsAnswered, refused_line, refused_words}
 use Rattle.iss_cli.specs.Reports.{IsReported, reported, status_of}
-use Rattle.iss_model.specs.OneLog.{run_after}
-use Rattle.iss_model.specs.Run.{Collision, End, Forged}
+use Rattle.iss_theorems.specs.OneLog.{run_after}
+use Rattle.iss_causes.specs.Ends.{Collision, End, Forged}
 use Rattle.iss_schedule.specs.declared.schedules.Schedule.{Schedule}
-use Rattle.iss_model.specs.Conserved.{AcceptsOnce}
-use Rattle.iss_model.specs.Runs.{IsSetupOf}
+use Rattle.iss_theorems.specs.Conserved.{AcceptsOnce}
+use Rattle.iss_rules.specs.Setups.{IsSetupOf}
 use Rattle.iss_sb.specs.Evidence.{Module}
 use Rattle.iss_schedule.specs.Headers.{row_of}
 use Rattle.iss_schedule.specs.Schedules.{IsKnown}

@@ -1,10 +1,10 @@
 -- The report of a schedule's run under its module, and what is promised of the run.
 use Rattle.std.specs.Prelude.{◌≡◌, ℕ, Option, Some, None}
-use Rattle.iss_model.specs.Certified.{AreOfLogs, WereDelivered}
-use Rattle.iss_model.specs.Conserved.{IsConserved}
-use Rattle.iss_model.specs.Ends.{HasEvidence}
-use Rattle.iss_model.specs.OneLog.{IsOneLog, run_after}
-use Rattle.iss_model.specs.Run.{End, Forged, Collision}
+use Rattle.iss_theorems.specs.Certified.{AreOfLogs, WereDelivered}
+use Rattle.iss_theorems.specs.Conserved.{IsConserved}
+use Rattle.iss_theorems.specs.Ends.{HasEvidence}
+use Rattle.iss_theorems.specs.OneLog.{IsOneLog, run_after}
+use Rattle.iss_causes.specs.Ends.{End, Forged, Collision}
 use Rattle.iss_replay.specs.Report.{text_of}
 use Rattle.iss_sb.specs.Evidence.{Module}
 use Rattle.iss_schedule.specs.declared.schedules.Schedule.{Schedule}

@@ -3,7 +3,7 @@ ghost use Rattle.std.specs.Prelude.{◌≡◌, ◌↔◌, IsTrue, IfOk, map, str
 ghost use Rattle.iss_cli.specs.Answers.{AskReplay, IsAnswer, refused_words, refused_line, why_word};
 ghost use Rattle.iss_schedule.specs.Events.{AreInRange};
 ghost use Rattle.iss_cli.specs.Reports.{IsReported, reported, status_of};
-ghost use Rattle.iss_model.specs.Runs.{IsSetupOf};
+ghost use Rattle.iss_rules.specs.Setups.{IsSetupOf};
 ghost use Rattle.iss_replay.specs.Stands.{end_kept};
 ghost use Rattle.iss_schedule.specs.Schedules.{IsKnown};
 

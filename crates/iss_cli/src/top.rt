@@ -3,8 +3,8 @@ ghost use Rattle.std.specs.Prelude.{◌≡◌, map, string_bytes, IfOk, OnOk, Is
 ghost use Rattle.iss_cli.specs.Answers.{AskReplay, IsAnswered, IsAnswerStatus, Prints, Ends, RestsOnInput};
 ghost use Rattle.iss_cli.specs.Ends.{HasCause, Drains, IsDrained};
 ghost use Rattle.iss_cli.specs.Reports.{IsKept, IsPromised};
-ghost use Rattle.iss_model.specs.Conserved.{AcceptsOnce};
-ghost use Rattle.iss_model.specs.Runs.{IsSetupOf};
+ghost use Rattle.iss_theorems.specs.Conserved.{AcceptsOnce};
+ghost use Rattle.iss_rules.specs.Setups.{IsSetupOf};
 ghost use Rattle.iss_schedule.specs.Events.{AreInRange};
 ghost use Rattle.iss_schedule.specs.Schedules.{IsFine};
 ghost use Rattle.iss_schedule.specs.declared.schedules.Schedule.{Schedule};
@@ -15,11 +15,11 @@ use crate::errors::EndError;
 use crate::input::read_up_to;
 use crate::output::write_all;
 use crate::status::Status;
-use iss_model::{
+use iss_sb::Sequenced;
+use iss_theorems::{
     adopted_was_delivered, certificates_are_of_logs, cluster_runs, requests_are_conserved,
     runs_end_with_evidence,
 };
-use iss_sb::Sequenced;
 use sb_hotstuff::HotStuff;
 use sb_pbft::Pbft;
 use sb_raft::Raft;

@@ -1,5 +1,5 @@
 -- Every core of a run is sound, and the judge accepts what a sound core casts.
-use Rattle.std.proofs.Common.{◌&&◌, nat_lt, ◌≡◌, ◌⊎◌, inl, inr, ℕ, suc, zero, ◌-◌, ◌≤◌, ◌<◌, Bool, true, false, cond, eqb, not, List, [], ◌∷◌, ◌++◌, length, length-append, take, is_some, Option, Some, None, refl, sym, ap, ◌∙◌, subst, arith, true≢false}
+use Rattle.std.proofs.Common.{◌&&◌, nat_lt, ◌≡◌, ◌⊎◌, inl, inr, ℕ, suc, ◌-◌, ◌≤◌, ◌<◌, Bool, true, false, cond, eqb, not, List, [], ◌∷◌, ◌++◌, length, length-append, take, is_some, Option, Some, None, refl, sym, ap, ◌∙◌, subst, arith, true≢false}
 use Rattle.std.proofs.Math.Seq.{take-append_seam}
 use Rattle.iss_base.specs.Lists.{Extends, In, oldest}
 use Rattle.iss_base.proofs.Lists.{and-true, extends-length, extends-refl, extends-trans, in_append, in_left, in_right, is-eq, not-true, oldest-holds, oldest-part, or-false, set_at2-other}
@@ -21,23 +21,26 @@ use Rattle.iss_sb.specs.declared.effects.Params.{Params}
 use Rattle.iss_sb.specs.Evidence.{IsReadBatch, Module, accepts, delivered}
 use Rattle.iss_sb.specs.Laws.{IsLawful}
 use Rattle.iss_sb.proofs.Read.{batch-read}
-use Rattle.iss_model.specs.declared.causes.NodeEvent.{NodeEvent}
-use Rattle.iss_model.specs.Judge.{judge, marks}
+use Rattle.iss_causes.specs.declared.causes.NodeEvent.{NodeEvent}
+use Rattle.iss_rules.specs.Judge.{judge, marks}
 use Rattle.iss_buckets.specs.Waiting.{absent, cut}
-use Rattle.iss_model.specs.Node.{Core, Early, Formats, OfRequest, Parcel, Taken, Turn, first_slot, flown, has_slot, idle, in_next_epoch, inputs, is_castable, is_mine, joined, next_slot, rests, returned, settles, step, verdict}
-use Rattle.iss_model.specs.Node.{adopts_piece, cert_on, ends, keeping, onward, refiled, stable, takes_each}
-use Rattle.iss_model.specs.Past.{Past, Piece, adopted_at, adopts, advanced, asked_in, before, before_own, grow, is_complete, log_of, newborn, params_of, start_of, takes}
-use Rattle.iss_model.specs.Rules.{Rules}
-use Rattle.iss_model.specs.Sound.{AreWindows, IsReadyCore, IsSoundCore, carried, held}
+use Rattle.iss_rules.specs.Parcels.{Formats, OfRequest, Parcel}
+use Rattle.iss_rules.specs.Verdicts.{verdict}
+use Rattle.iss_model.specs.Node.{Core, Early, Taken, Turn, first_slot, flown, has_slot, idle, in_next_epoch, inputs, is_castable, is_mine, joined, next_slot, rests, returned, settles, step, adopts_piece, ends, onward, refiled, takes_each}
+use Rattle.iss_rules.specs.Votes.{cert_on, keeping, stable}
+use Rattle.iss_rules.specs.Past.{Past, Piece, adopted_at, adopts, advanced, asked_in, before, before_own, is_complete, log_of, params_of, start_of, takes}
+use Rattle.iss_rules.specs.Rules.{Rules}
+use Rattle.iss_rules.specs.SoundRules.{AreWindows}
+use Rattle.iss_model.specs.Sound.{IsReadyCore, IsSoundCore, carried, held}
 use Rattle.iss_model.proofs.Cuts.{absent-ids, cut-few, cut-in, cut-once, uncut-ids}
-use Rattle.iss_model.proofs.Ending.{HasSlots, advanced-later, advanced-log, before-advanced, before-part, reached-advanced}
-use Rattle.iss_model.proofs.Epochs.{length-cut, start-extends, start-next}
+use Rattle.iss_rules.proofs.Ending.{HasSlots, advanced-later, advanced-log, before-advanced, before-part, reached-advanced}
+use Rattle.iss_rules.proofs.Epochs.{length-cut, start-extends, start-next}
 use Rattle.iss_model.proofs.Flights.{casting-in, casting-once, ids-carried, ids-within, parts-of, refiled-in, refiled-once}
-use Rattle.iss_model.proofs.Ids.{ids-append, ids-in, ids-left, ids-once, ids-right, in-ids, log_ids-append, log_ids-extends, not-has}
-use Rattle.iss_model.proofs.Judged.{accepts-it}
-use Rattle.iss_model.proofs.Logs.{Later, Settled, before-later, log-later, takes-later}
-use Rattle.iss_model.proofs.Longest.{Bounded}
-use Rattle.iss_model.proofs.Pieces.{adopted-far, adopts-later, adopts-settled}
+use Rattle.iss_rules.proofs.Ids.{ids-append, ids-in, ids-left, ids-once, ids-right, in-ids, log_ids-append, log_ids-extends, not-has}
+use Rattle.iss_rules.proofs.Judged.{accepts-it}
+use Rattle.iss_rules.proofs.Logs.{Later, Settled, before-later, log-later, takes-later}
+use Rattle.iss_rules.proofs.Longest.{Bounded}
+use Rattle.iss_rules.proofs.Pieces.{adopted-far, adopts-later, adopts-settled}
 use Rattle.iss_model.proofs.Rows.{IsFit, each-holds, settles-holds, then_ends, then_takes}
 use Rattle.iss_model.proofs.Steps.{IsAdopted, IsCast, IsRequested, Took, adopted, asked, cast, casting, fired, handed, kept, next_batch, received, sought, took, voted}
 use Rattle.iss_transfer.specs.declared.pieces.Piece.{Piece as Sent_piece}
@@ -355,13 +358,6 @@ module _ {Msg : Type 0} (F : Formats Msg) (R : Rules) (M : Module Msg) (me : ℕ
     pub step-grown : (c : Core Msg) (event : NodeEvent) (t : Turn Msg) → IsSoundCore R M me c → step F R M me c event ≡ Taken t →
         Extends (log_of R M me c.past) (log_of R M me t.core.past)
     step-grown c event t h q = took-grown c event t h (took F R M me c event t q)
-
-newborn-empty : (R : Rules) {Msg : Type 0} (M : Module Msg) (me n : ℕ) → grow R M me newborn n [] ≡ []
-newborn-empty R M me zero = refl
-newborn-empty R M me (suc n) = refl
-
-pub newborn-log : (R : Rules) {Msg : Type 0} (M : Module Msg) (me : ℕ) → log_of R M me newborn ≡ []
-newborn-log R M me = newborn-empty R M me _
 
 -- a core that has taken nothing is sound
 pub idle-sound : {Msg : Type 0} (R : Rules) (M : Module Msg) (me : ℕ) → IsSoundCore R M me idle

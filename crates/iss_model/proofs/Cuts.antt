@@ -5,7 +5,7 @@ use Rattle.iss_request.specs.Log.{has_id, ids}
 use Rattle.iss_request.specs.declared.ids.ReqId.{ReqId}
 use Rattle.iss_request.specs.declared.requests.Request.{Request}
 use Rattle.iss_buckets.specs.Waiting.{absent, cut, uncut}
-use Rattle.iss_model.proofs.Ids.{has-in, in-ids, ids-in}
+use Rattle.iss_rules.proofs.Ids.{has-in, in-ids, ids-in}
 
 -- absent: what is not among the identities that are gone
 

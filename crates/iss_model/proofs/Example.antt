@@ -23,14 +23,15 @@ use Rattle.iss_sb.specs.declared.effects.Params.{Params}
 use Rattle.iss_sb.specs.declared.effects.To.TheVariants.{All as To_all}
 use Rattle.iss_sb.specs.Evidence.{Item, Made, Module}
 use Rattle.iss_base.specs.Lists.{first_of}
-use Rattle.iss_model.specs.Concrete.{rules_of}
-use Rattle.iss_model.specs.Node.{Body, Core, Early, Formats, OfAsk, OfModule, OfPiece, OfRequest, OfVote, Parcel, Stepped, Dropped, Taken, step}
+use Rattle.iss_rules.specs.Concrete.{rules_of}
+use Rattle.iss_rules.specs.Parcels.{Body, Formats, OfAsk, OfModule, OfPiece, OfRequest, OfVote, Parcel}
+use Rattle.iss_model.specs.Node.{Core, Early, Stepped, Dropped, Taken, step}
 use Rattle.iss_transfer.specs.declared.pieces.Piece.{Piece}
-use Rattle.iss_model.specs.Rules.{Rules}
-use Rattle.iss_model.specs.Past.{leads_in, log_of}
+use Rattle.iss_rules.specs.Rules.{Rules}
+use Rattle.iss_rules.specs.Past.{leads_in, log_of}
 use Rattle.iss_model.specs.Run.{Progress, begin_run, run}
 use Rattle.iss_model.specs.Views.{accepted_by, is_castable_now, unfilled}
-use Rattle.iss_model.specs.declared.causes.NodeEvent.TheVariants.{Packet as Gets}
+use Rattle.iss_causes.specs.declared.causes.NodeEvent.TheVariants.{Packet as Gets}
 
 abbrev pub Word : Type 0
 Word = Slot × Batch

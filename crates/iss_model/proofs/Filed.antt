@@ -15,7 +15,7 @@ use Rattle.iss_request.specs.declared.requests.Value.TheVariants.{Nil, Batch as 
 use Rattle.iss_model.specs.Node.{flown, flying, is_nil_at, joined, returned}
 use Rattle.iss_model.proofs.Casts.{joined-newer}
 use Rattle.iss_model.proofs.Flights.{nil-below}
-use Rattle.iss_model.proofs.Ids.{ids-append, ids-left, ids-once, ids-right, in-has, log_ids-extends}
+use Rattle.iss_rules.proofs.Ids.{ids-append, ids-left, ids-once, ids-right, in-has, log_ids-extends}
 use Rattle.iss_layout.proofs.PastLemmas.{nil-kept}
 
 -- absent: each request is gone or left

@@ -15,7 +15,7 @@ use Rattle.iss_buckets.specs.Waiting.{absent, cut, uncut}
 use Rattle.iss_model.specs.Node.{flown, flying, is_nil_at, returned}
 use Rattle.iss_model.specs.Sound.{carried}
 use Rattle.iss_model.proofs.Cuts.{absent-ids, absent-in, absent-once, cut-ids, cut-in, cut-once, cut-uncut-apart, uncut-ids, uncut-in, uncut-once}
-use Rattle.iss_model.proofs.Ids.{ids-append, ids-in, ids-once, in-ids}
+use Rattle.iss_rules.proofs.Ids.{ids-append, ids-in, ids-once, in-ids}
 
 -- identities of two lists together
 

@@ -14,23 +14,24 @@ use Rattle.iss_sb.specs.declared.effects.Input.{Input}
 use Rattle.iss_sb.specs.declared.effects.Input.TheVariants.{Cast, Receive, Timeout}
 use Rattle.iss_sb.specs.Evidence.{Item, Module, accepts, one_or_none}
 use Rattle.iss_sb.specs.Laws.{IsLawful}
-use Rattle.iss_model.specs.declared.causes.NodeEvent.{NodeEvent}
-use Rattle.iss_model.specs.declared.causes.NodeEvent.TheVariants.{Packet as Gets, Propose as Proposes, Timeout as Fires, AskFrom as Asks}
-use Rattle.iss_model.specs.declared.causes.Why.TheVariants.{NoKeys, NotLeader, OtherEpoch}
-use Rattle.iss_model.specs.Node.{Body, Core, Dropped, Early, is_known, onward, Formats, OfAsk, OfModule, OfPiece, OfRequest, OfVote, Parcel, Stepped, Taken, Turn, at_instance, casts_at, ended, flown, flying, has_leaves, in_next_epoch, inputs, is_castable, is_mine, is_nil_at, joined, keeps_early, next_slot, returned, rests, settled, settles, step, takes_bytes, takes_each, takes_early, takes_parcel, takes_request, tried}
-use Rattle.iss_model.specs.Node.{adopts_piece, asking, cert_on, counted, ends, handing}
-use Rattle.iss_model.specs.Past.{Past, Piece, adopts, advanced, before, cut_at, is_complete, leads_in, log_of, made_in, params_of, start_of, taken_in, takes}
-use Rattle.iss_model.specs.Rules.{Rules}
+use Rattle.iss_causes.specs.declared.causes.NodeEvent.{NodeEvent}
+use Rattle.iss_causes.specs.declared.causes.NodeEvent.TheVariants.{Packet as Gets, Propose as Proposes, Timeout as Fires, AskFrom as Asks}
+use Rattle.iss_causes.specs.declared.causes.Why.TheVariants.{NoKeys, NotLeader, OtherEpoch}
+use Rattle.iss_rules.specs.Parcels.{Body, Formats, OfAsk, OfModule, OfPiece, OfRequest, OfVote, Parcel}
+use Rattle.iss_model.specs.Node.{Core, Dropped, Early, is_known, onward, Stepped, Taken, Turn, at_instance, casts_at, ended, flown, flying, has_leaves, in_next_epoch, inputs, is_castable, is_mine, is_nil_at, joined, keeps_early, next_slot, returned, rests, settled, settles, step, takes_bytes, takes_each, takes_early, takes_parcel, takes_request, tried, adopts_piece, asking, counted, ends, handing}
+use Rattle.iss_rules.specs.Votes.{cert_on}
+use Rattle.iss_rules.specs.Past.{Past, Piece, adopts, advanced, before, cut_at, is_complete, leads_in, log_of, made_in, params_of, start_of, taken_in, takes}
+use Rattle.iss_rules.specs.Rules.{Rules}
 use Rattle.iss_model.proofs.Casts.{cast-asked, log_ids-joined, slot-passes}
 use Rattle.iss_model.proofs.Cuts.{absent-ids, absent-once, cut-ids, cut-once, cut-uncut-apart, uncut-ids, uncut-once}
-use Rattle.iss_model.proofs.Ending.{HasSlots, advanced-later, advanced-log, complete-far}
-use Rattle.iss_model.proofs.Epochs.{cut-extends, length-cut, start-cut, start-extends, start-mono}
+use Rattle.iss_rules.proofs.Ending.{HasSlots, advanced-later, advanced-log, complete-far}
+use Rattle.iss_rules.proofs.Epochs.{cut-extends, length-cut, start-cut, start-extends, start-mono}
 use Rattle.iss_model.proofs.Filed.{absent-or, cut-or, flight-splits, flown-append, flown-flying, flown-left, flown-once, flown-right, flying-once, in-flying, in-longer, in-returned, joined-in, nil-stays, returned-apart, returned-once}
-use Rattle.iss_model.proofs.Ids.{ids-append, ids-left, ids-once, ids-right, not-has}
-use Rattle.iss_model.proofs.Pieces.{adopted-far, adopts-later, adopts-settled}
+use Rattle.iss_rules.proofs.Ids.{ids-append, ids-left, ids-once, ids-right, not-has}
+use Rattle.iss_rules.proofs.Pieces.{adopted-far, adopts-later, adopts-settled}
 use Rattle.iss_model.proofs.Steps.{IsAdopted, hand-taken, input-taken, kept-taken, piece-taken, request-taken, turn-is, undropped, untaken, vote-taken}
 use Rattle.iss_transfer.specs.declared.pieces.Piece.{Piece as Sent_piece}
-use Rattle.iss_model.proofs.Logs.{Later, Settled, before-later, evidence-later, log-later, takes-later}
+use Rattle.iss_rules.proofs.Logs.{Later, Settled, before-later, evidence-later, log-later, takes-later}
 
 -- what epochs and segments owe: epochs have slots, a slot of a segment is led by its leader, and is of its epoch or an
 -- earlier one

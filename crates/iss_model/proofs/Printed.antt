@@ -7,7 +7,7 @@ use Rattle.iss_request.specs.Log.{Once, log_ids, value_ids}
 use Rattle.iss_request.specs.declared.ids.ReqId.{ReqId}
 use Rattle.iss_request.specs.declared.requests.Value.{Value}
 use Rattle.iss_model.specs.Runs.{IsPrefix}
-use Rattle.iss_model.proofs.Ids.{log_ids-append}
+use Rattle.iss_rules.proofs.Ids.{log_ids-append}
 
 pub turned : (a b : List Value) → Extends a b → IsPrefix (reverse a) (reverse b)
 turned a b x = (reverse x.0, ap (λ (t : List Value). reverse t) x.1 ∙ reverse-append x.0 a)

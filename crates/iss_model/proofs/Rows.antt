@@ -8,9 +8,12 @@ use Rattle.iss_sb.specs.declared.effects.Input.{Input}
 use Rattle.iss_sb.specs.declared.effects.Input.TheVariants.{Receive}
 use Rattle.iss_sb.specs.declared.effects.To.{To}
 use Rattle.iss_sb.specs.Evidence.{Module}
-use Rattle.iss_model.specs.Node.{Core, Dropped, Early, Formats, Stepped, Taken, Turn, at_instance, ended, ends, has_leaves, inputs, onward, rests, settles, takes_each, takes_early, tried, all_verify, claims_in, claims_of_input, verdict_in}
-use Rattle.iss_model.specs.Past.{is_complete, leads_in, params_of}
-use Rattle.iss_model.specs.Rules.{Rules}
+use Rattle.iss_rules.specs.Parcels.{Formats}
+use Rattle.iss_rules.specs.Verdicts.{verdict_in}
+use Rattle.iss_rules.specs.Votes.{all_verify}
+use Rattle.iss_model.specs.Node.{Core, Dropped, Early, Stepped, Taken, Turn, at_instance, ended, ends, has_leaves, inputs, onward, rests, settles, takes_each, takes_early, tried, claims_in, claims_of_input}
+use Rattle.iss_rules.specs.Past.{is_complete, leads_in, params_of}
+use Rattle.iss_rules.specs.Rules.{Rules}
 use Rattle.iss_model.proofs.Steps.{IsInput, input-taken}
 
 turn-same : {Msg : Type 0} (c : Core Msg) (a b : List (To × List ℕ)) (d e x y : List Claim) (f g : List (List ℕ)) → a ≡ b → d ≡ e → x ≡ y → f ≡ g →

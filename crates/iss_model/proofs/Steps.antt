@@ -12,16 +12,18 @@ use Rattle.iss_request.specs.declared.requests.Request.{Request}
 use Rattle.iss_sb.specs.declared.effects.Input.{Input}
 use Rattle.iss_sb.specs.declared.effects.Input.TheVariants.{Cast, Receive, Timeout}
 use Rattle.iss_sb.specs.Evidence.{Module, accepts}
-use Rattle.iss_model.specs.declared.causes.NodeEvent.{NodeEvent}
-use Rattle.iss_model.specs.declared.causes.NodeEvent.TheVariants.{Packet as Gets, Propose as Proposes, Timeout as Fires, AskFrom as Asks}
-use Rattle.iss_model.specs.declared.causes.Refusal.{Refusal}
-use Rattle.iss_model.specs.declared.causes.Why.{Why}
-use Rattle.iss_model.specs.declared.causes.Why.TheVariants.{BadClaim, BadRequest, EarlyFull, Known, NoCert, NoKeys, NotLeader, NotNeeded, OtherEpoch, OutOfWindow, WrongChain}
+use Rattle.iss_causes.specs.declared.causes.NodeEvent.{NodeEvent}
+use Rattle.iss_causes.specs.declared.causes.NodeEvent.TheVariants.{Packet as Gets, Propose as Proposes, Timeout as Fires, AskFrom as Asks}
+use Rattle.iss_causes.specs.declared.causes.Refusal.{Refusal}
+use Rattle.iss_causes.specs.declared.causes.Why.{Why}
+use Rattle.iss_causes.specs.declared.causes.Why.TheVariants.{BadClaim, BadRequest, EarlyFull, Known, NoCert, NoKeys, NotLeader, NotNeeded, OtherEpoch, OutOfWindow, WrongChain}
 use Rattle.iss_buckets.specs.Waiting.{cut, uncut}
-use Rattle.iss_model.specs.Node.{Body, Core, Dropped, Early, Formats, OfAsk, OfModule, OfPiece, OfRequest, OfVote, Parcel, Stepped, Taken, Turn, at_instance, by_verdict, casts_at, early_most, has_leaves, inputs, is_known, is_mine, keeps_early, next_slot, rests, settled, settles, step, takes_bytes, takes_parcel, takes_request, verdict, all_verify, claims_of_input}
-use Rattle.iss_model.specs.Node.{adopts_piece, asking, cert_on, claim_of_vote, counted, handing, hands_out, has_shape, is_counted, is_true_cert, leads_to, onward, takes_each, takes_piece, takes_vote}
-use Rattle.iss_model.specs.Past.{asked_in, before, before_own, log_of, params_of, start_of}
-use Rattle.iss_model.specs.Rules.{Rules}
+use Rattle.iss_rules.specs.Parcels.{Body, Formats, OfAsk, OfModule, OfPiece, OfRequest, OfVote, Parcel}
+use Rattle.iss_rules.specs.Verdicts.{verdict}
+use Rattle.iss_rules.specs.Votes.{all_verify, cert_on, claim_of_vote, is_true_cert}
+use Rattle.iss_model.specs.Node.{Core, Dropped, Early, Stepped, Taken, Turn, at_instance, by_verdict, casts_at, early_most, has_leaves, inputs, is_known, is_mine, keeps_early, next_slot, rests, settled, settles, step, takes_bytes, takes_parcel, takes_request, claims_of_input, adopts_piece, asking, counted, handing, hands_out, has_shape, is_counted, leads_to, onward, takes_each, takes_piece, takes_vote}
+use Rattle.iss_rules.specs.Past.{asked_in, before, before_own, log_of, params_of, start_of}
+use Rattle.iss_rules.specs.Rules.{Rules}
 use Rattle.iss_transfer.specs.declared.pieces.Piece.{Piece as Sent_piece}
 
 pub turn-is : {Msg : Type 0} (a b : Turn Msg) → Taken a ≡ Taken b → b ≡ a

@@ -5,10 +5,11 @@ use Rattle.iss_base.proofs.Lists.{in_append}
 use Rattle.iss_request.specs.Fields.{IsReadAgain}
 use Rattle.iss_request.specs.declared.setups.Setup.{Setup}
 use Rattle.iss_sb.specs.Evidence.{Module}
-use Rattle.iss_model.specs.declared.causes.NodeEvent.{NodeEvent}
-use Rattle.iss_model.specs.Node.{Core, Early, Formats, Turn, adopts_piece, onward, settles, takes_each}
-use Rattle.iss_model.specs.Rules.{Rules}
-use Rattle.iss_model.specs.Runs.{IsFaithful}
+use Rattle.iss_causes.specs.declared.causes.NodeEvent.{NodeEvent}
+use Rattle.iss_rules.specs.Parcels.{Formats}
+use Rattle.iss_model.specs.Node.{Core, Early, Turn, adopts_piece, onward, settles, takes_each}
+use Rattle.iss_rules.specs.Rules.{Rules}
+use Rattle.iss_rules.specs.Faithful.{IsFaithful}
 use Rattle.iss_model.proofs.Rows.{each-holds, settles-holds}
 use Rattle.iss_model.proofs.Steps.{Took, adopted, asked, cast, fired, handed, kept, received, sought, voted}
 

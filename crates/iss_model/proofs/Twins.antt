@@ -1,10 +1,8 @@
 -- Cores and nodes: a correct core is a node, and where nodes only stop each core is one, and is correct.
 use Rattle.std.proofs.Common.{◌≡◌, inl, inr, ℕ, zero, suc, ◌-◌, ◌<◌, Bool, true, false, cond, not, List, [], ◌∷◌, length, refl, sym, ap, ◌∙◌, subst, arith, nat_lt}
-use Rattle.std.proofs.lemmas.Bool.Decides.{leb_tells}
-use Rattle.std.proofs.lemmas.Bool.{ltb-true}
 use Rattle.std.specs.List.{filter}
 use Rattle.iss_base.specs.Lists.{In, below, nth}
-use Rattle.iss_base.proofs.Lists.{and-true, both, in_append, is-eq}
+use Rattle.iss_base.proofs.Lists.{both, in_append, is-eq}
 use Rattle.iss_request.specs.Setup.{IsFewFaulty}
 use Rattle.iss_request.specs.declared.ids.NodeId.{NodeId}
 use Rattle.iss_request.specs.declared.setups.Kind.{Kind}
@@ -14,20 +12,15 @@ use Rattle.iss_sb.specs.declared.effects.To.{To}
 use Rattle.iss_sb.specs.declared.effects.To.TheVariants.{All as To_all, One as To_one}
 use Rattle.iss_sb.specs.Calls.{IsGoodParams, kind_of}
 use Rattle.iss_sb.specs.Evidence.{Module, Reaches, has_node, is_correct}
-use Rattle.iss_model.specs.Ordered.{IsSoundRules}
-use Rattle.iss_model.specs.Past.{before_at, epoch_at, leader_at, params_at}
-use Rattle.iss_model.specs.Rules.{Rules}
+use Rattle.iss_rules.specs.SoundRules.{IsSoundRules}
+use Rattle.iss_rules.specs.Past.{before_at, epoch_at, leader_at, params_at}
+use Rattle.iss_rules.specs.Rules.{Rules}
 use Rattle.iss_model.specs.Run.{addressees, cores_of, node_of, number_at}
-
-below-n : (i n : ℕ) → i < n → nat_lt i n ≡ true
-below-n i n lt = elim (leb_tells (suc i) n) [ inl t ↦ t.0 | inr t ↦ absurd (omega (arith, t.1, lt)) ]
+use Rattle.iss_rules.proofs.Nodes.{below-n, correct-below}
 
 -- core c is node c, below n
 pub node-is : (s : Setup) (c : ℕ) → c < s.n → node_of s c ≡ c
 node-is s c lt = ap (λ (b : Bool). cond b c (number_at (nth s.faulty (c - s.n)))) (below-n c s.n lt)
-
-pub correct-below : (s : Setup) (c : ℕ) → is_correct s c ≡ true → c < s.n
-correct-below s c h = ltb-true c s.n (and-true (nat_lt c s.n) (not (has_node c s.faulty)) h).0
 
 pub correct-is : (s : Setup) (c : ℕ) → is_correct s c ≡ true → node_of s c ≡ c
 correct-is s c h = node-is s c (correct-below s c h)

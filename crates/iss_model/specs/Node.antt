@@ -1,12 +1,9 @@
 -- One node over all epochs: what it holds, and one step of it.
-use Rattle.std.specs.Prelude.{ℕ, suc, ◌+◌, ◌-◌, ◌==◌, nat_le, nat_lt, cond, Bool, true, false, not, ◌&&◌, ◌||◌}
+use Rattle.std.specs.Prelude.{ℕ, suc, ◌+◌, ◌-◌, ◌==◌, nat_lt, cond, Bool, false, not, ◌&&◌, ◌||◌}
 use Rattle.std.specs.Prelude.{List, [], ◌∷◌, ◌++◌, Option, Some, None, length, is_some, reverse, take}
-use Rattle.std.specs.List.{list_all}
 use Rattle.iss_buckets.specs.Waiting.{absent, cut, uncut}
 use Rattle.iss_base.specs.Lists.{over}
-use Rattle.iss_checkpoint.specs.Tallies.{certificate_by}
 use Rattle.iss_checkpoint.specs.declared.votes.Cert.{Cert}
-use Rattle.iss_checkpoint.specs.declared.votes.Signed.{Signed}
 use Rattle.iss_checkpoint.specs.declared.votes.Vote.{Vote}
 use Rattle.iss_keys.specs.KeyStates.{left_of}
 pub use Rattle.iss_layout.specs.Layout.{is_nil_at}
@@ -26,34 +23,17 @@ use Rattle.iss_sb.specs.declared.effects.To.TheVariants.{All as To_all, One as T
 use Rattle.iss_transfer.specs.Adoption.{said_in, same_end}
 use Rattle.iss_transfer.specs.declared.pieces.Piece.{Piece as Sent_piece}
 use Rattle.iss_sb.specs.Evidence.{Item, Module, accepts, delivered}
-use Rattle.iss_model.specs.declared.causes.NodeEvent.{NodeEvent}
-use Rattle.iss_model.specs.declared.causes.NodeEvent.TheVariants.{Packet as Gets, Propose as Proposes, Timeout as Fires, AskFrom as Asks}
-use Rattle.iss_model.specs.declared.causes.Refusal.{Refusal}
-use Rattle.iss_model.specs.declared.causes.Why.{Why}
-use Rattle.iss_model.specs.declared.causes.Why.TheVariants.{NotPacket, BadRequest, Known, OutOfWindow, OtherEpoch, EarlyFull}
-use Rattle.iss_model.specs.declared.causes.Why.TheVariants.{NotLeader, BadClaim, NothingToCast, NoKeys, Refused, NoCert, NotNeeded, WrongChain}
-use Rattle.iss_model.specs.Judge.{judge, marks}
-use Rattle.iss_model.specs.Past.{Past, adopts, advanced, asked_in, before_own, cut_at, ended_log, is_complete, leads_in, log_of, made_in, newborn, params_of, start_of, taken_in, takes}
-use Rattle.iss_model.specs.Rules.{Rules}
-
--- what a packet holds: a module's message in the instance of a leader, a vote on the log at an epoch's end, an ask for an
--- epoch, the values of an epoch under a certificate, or a request
-pub data Body (Msg : Type 0) : Type 0 where
-  OfModule : (leader : ℕ) → (msg : Msg) → Body Msg
-  OfVote : (vote : Vote) → Body Msg
-  OfAsk : Body Msg
-  OfPiece : (piece : Sent_piece) → Body Msg
-  OfRequest : (request : Request) → Body Msg
-
-pub record Parcel (Msg : Type 0) : Type 0 where
-  pub from : ℕ
-  pub epoch : ℕ
-  pub body : Body Msg
-
--- how parcels are written and read; nothing is read of bytes that are no packet
-pub record Formats (Msg : Type 0) : Type 0 where
-  pub wrap : Parcel Msg → List ℕ
-  pub unwrap : List ℕ → Option (Parcel Msg)
+use Rattle.iss_causes.specs.declared.causes.NodeEvent.{NodeEvent}
+use Rattle.iss_causes.specs.declared.causes.NodeEvent.TheVariants.{Packet as Gets, Propose as Proposes, Timeout as Fires, AskFrom as Asks}
+use Rattle.iss_causes.specs.declared.causes.Refusal.{Refusal}
+use Rattle.iss_causes.specs.declared.causes.Why.{Why}
+use Rattle.iss_causes.specs.declared.causes.Why.TheVariants.{NotPacket, BadRequest, Known, OutOfWindow, OtherEpoch, EarlyFull, NotLeader, BadClaim, NothingToCast, NoKeys, Refused, NoCert, NotNeeded, WrongChain}
+use Rattle.iss_rules.specs.Judge.{marks}
+use Rattle.iss_rules.specs.Past.{Past, adopts, advanced, before_own, cut_at, ended_log, is_complete, leads_in, log_of, made_in, newborn, params_of, start_of, taken_in, takes}
+use Rattle.iss_rules.specs.Rules.{Rules}
+use Rattle.iss_rules.specs.Parcels.{Body, Formats, OfAsk, OfModule, OfPiece, OfRequest, OfVote, Parcel}
+use Rattle.iss_rules.specs.Votes.{all_verify, cert_on, claim_of_vote, claims_of_cert, is_true_cert, keeping, stable, vote_by}
+use Rattle.iss_rules.specs.Verdicts.{verdict_in}
 
 -- a module's message that came an epoch early
 pub record Early (Msg : Type 0) : Type 0 where
@@ -149,16 +129,6 @@ inputs F R M me c l input =
       strings = made.strings ++ grown_strings R (log_of R M me c.past) (log_of R M me (takes R M me c.past l input c.leaf));
     }
 
--- what the judge says of what an input asks for
-abbrev pub verdict : Rules → List Value → ℕ → ℕ → List (Slot × Batch) → Option (Slot × Batch) → Option Refusal
-verdict R before e l accepted None = None
-verdict R before e l accepted (Some x) = judge R before e l (marks accepted) x.1
-
--- of an input in the instance of leader l of the node's epoch
-abbrev pub verdict_in : {Msg : Type 0} → Rules → Module Msg → ℕ → Past Msg → ℕ → Input Msg → Option Refusal
-verdict_in R M me c l input =
-    verdict R (before_own R M me c) c.epoch l (accepts (taken_in c l)) (asked_in R M me c l input)
-
 abbrev pub by_verdict : {Msg : Type 0} → Option Refusal → Turn Msg → Stepped Msg
 by_verdict None turn = Taken turn
 by_verdict (Some x) turn = Dropped (Refused x)
@@ -166,10 +136,6 @@ by_verdict (Some x) turn = Dropped (Refused x)
 -- one leaf is kept for the vote at an epoch's end
 abbrev pub has_leaves : {Msg : Type 0} → Module Msg → Params → ℕ → Bool
 has_leaves M p leaf = not (nat_lt (left_of (record { secret = []; height = p.setup.keys; used = leaf })) (suc (M.signs p)))
-
--- whether each of these claims is one of the node that it names
-abbrev pub all_verify : Rules → List Claim → Bool
-all_verify R cs = list_all (λ (c : Claim). R.verifies c.by.0 c.statement c.sig) cs
 
 -- what an input claims that nodes signed
 abbrev pub claims_of_input : {Msg : Type 0} → Module Msg → Params → Input Msg → List Claim
@@ -214,9 +180,6 @@ vote_on R M me c =
       by = record { 0 = me };
       sig = R.signature me c.leaf (R.voted c.past.epoch end.chain end.requests);
     }
-
-abbrev pub claim_of_vote : Rules → Vote → Claim
-claim_of_vote R v = record { by = v.by; statement = R.voted v.epoch.0 v.chain v.requests; sig = v.sig }
 
 -- a node that ends its epoch votes, and the next one begins
 abbrev pub ends : {Msg : Type 0} → Formats Msg → Rules → Module Msg → ℕ → Core Msg → Turn Msg
@@ -293,21 +256,6 @@ takes_message F R M me c from e l msg =
 
 -- ---- votes
 
--- the vote of node k on epoch e, if it was counted, and the certificate of an epoch, if one is kept
-abbrev pub vote_by : List Vote → ℕ → ℕ → Option Vote
-vote_by [] e k = None
-vote_by (v ∷ vs) e k = cond ((v.epoch.0 == e) && (v.by.0 == k)) (Some v) (vote_by vs e k)
-
-abbrev pub cert_on : List Cert → ℕ → Option Cert
-cert_on [] e = None
-cert_on (c ∷ cs) e = cond (c.epoch.0 == e) (Some c) (cert_on cs e)
-
--- the certificate of all votes that say the same as v, as soon as they are of a quorum
-abbrev pub stable : Rules → List Vote → Vote → List Cert
-stable R votes v =
-    let c = certificate_by (vote_by votes v.epoch.0) v R.nodes in
-    cond (length c.signers == R.quorum) (c ∷ []) []
-
 -- a vote more; the one that makes its like a quorum gives the certificate of the epoch that is kept
 abbrev pub counted : {Msg : Type 0} → Rules → Core Msg → Vote → Core Msg
 counted R c v = record c { votes = v ∷ c.votes; certs = stable R (v ∷ c.votes) v ++ c.certs }
@@ -327,14 +275,6 @@ takes_vote R c v =
 -- the values of an epoch that a log holds, in the order of their slots
 abbrev pub values_of : Rules → List Value → ℕ → List Value
 values_of R log e = reverse (joined (length (cut_at R log e)) (cut_at R log (suc e)))
-
--- the claims of a certificate: the vote of each of its signers
-abbrev pub claims_by : List ℕ → List Signed → List Claim
-claims_by statement [] = []
-claims_by statement (x ∷ xs) = record { by = x.by; statement = statement; sig = x.sig } ∷ claims_by statement xs
-
-abbrev pub claims_of_cert : Rules → Cert → List Claim
-claims_of_cert R c = claims_by (R.voted c.epoch.0 c.chain c.requests) c.signers
 
 -- a piece for another node, which claims the node's own vote
 abbrev pub handing : {Msg : Type 0} → Formats Msg → Rules → Module Msg → ℕ → Core Msg → ℕ → ℕ → Cert → Turn Msg
@@ -369,14 +309,6 @@ asking F me c peer =
 
 -- ---- pieces
 
--- whether signatures are of nodes that rise, each of them true, and whether a certificate has a quorum of these
-abbrev pub are_true : Rules → List ℕ → ℕ → List Signed → Bool
-are_true R statement from [] = true
-are_true R statement from (x ∷ xs) = nat_le from x.by.0 && (R.verifies x.by.0 statement x.sig && are_true R statement (suc x.by.0) xs)
-
-abbrev pub is_true_cert : Rules → Cert → Bool
-is_true_cert R c = (length c.signers == R.quorum) && are_true R (R.voted c.epoch.0 c.chain c.requests) 0 c.signers
-
 -- a value for each slot of the epoch
 abbrev pub has_shape : Rules → List Value → ℕ → Sent_piece → Bool
 has_shape R before e p = (p.cert.epoch.0 == e) && (length p.values == R.slots before e)
@@ -384,11 +316,6 @@ has_shape R before e p = (p.cert.epoch.0 == e) && (length p.values == R.slots be
 -- the log that the values lead to has the end that the certificate says
 abbrev pub leads_to : Rules → List Value → Sent_piece → Bool
 leads_to R before p = same_end (R.end (over p.values before)) (said_in p.cert)
-
--- the certificate is kept where none of its epoch is
-abbrev pub keeping : List Cert → Cert → Option Cert → List Cert
-keeping certs c None = c ∷ certs
-keeping certs c (Some other) = certs
 
 -- the values of its epoch are the node's, which ends the epoch with no vote
 abbrev pub adopts_piece : {Msg : Type 0} → Rules → Module Msg → ℕ → Core Msg → Sent_piece → Turn Msg

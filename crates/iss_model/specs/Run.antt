@@ -2,14 +2,10 @@
 use Rattle.std.specs.Prelude.{ℕ, zero, suc, ◌-◌, ◌==◌, ◌&&◌, nat_lt, not, cond, Bool, true, false, List, [], ◌∷◌, ◌++◌, Option, Some, None}
 use Rattle.std.specs.List.{filter}
 use Rattle.iss_base.specs.Lists.{below, first_of, nth, over, same_bytes, set_at}
-use Rattle.iss_keys.specs.Directories.{client_secret}
-use Rattle.iss_keys.specs.Signatures.{signature_of}
 use Rattle.iss_network.specs.Network.{Network, cleared, due, empty_network, held_to, posted, settled}
 use Rattle.iss_network.specs.declared.packets.Sent.{Sent}
 use Rattle.iss_request.specs.Digest.{digest}
 use Rattle.iss_request.specs.declared.ids.NodeId.{NodeId}
-use Rattle.iss_request.specs.declared.ids.ReqId.{ReqId}
-use Rattle.iss_request.specs.declared.requests.Request.{Request}
 use Rattle.iss_request.specs.declared.setups.Setup.{Setup}
 pub use Rattle.iss_schedule.specs.Cores.{cores_of}
 use Rattle.iss_sb.specs.declared.effects.Claim.{Claim}
@@ -18,15 +14,17 @@ use Rattle.iss_sb.specs.declared.effects.To.TheVariants.{All as To_all, One as T
 use Rattle.iss_sb.specs.Evidence.{Module, is_correct}
 use Rattle.iss_schedule.specs.declared.schedules.Event.{Event}
 use Rattle.iss_schedule.specs.declared.schedules.Event.TheVariants.{Request as Asks_order, Propose, Timeout, Ask, Deliver, Lose, Pump, Calm, Hold, Free, Drop, Bytes}
-use Rattle.iss_model.specs.declared.causes.NodeEvent.{NodeEvent}
-use Rattle.iss_model.specs.declared.causes.NodeEvent.TheVariants.{Packet as Gets, Propose as Proposes, Timeout as Fires, AskFrom as Asks}
-use Rattle.iss_model.specs.declared.causes.Why.{Why}
-use Rattle.iss_model.specs.declared.causes.Why.TheVariants.{NoPacket}
-use Rattle.iss_model.specs.Cluster.{Signed}
-use Rattle.iss_model.specs.Concrete.{request_statement}
-use Rattle.iss_model.specs.Node.{Core, Formats, OfRequest, Stepped, Dropped, Taken, Turn, idle, step}
-use Rattle.iss_model.specs.Rules.{Rules}
+use Rattle.iss_causes.specs.declared.causes.NodeEvent.{NodeEvent}
+use Rattle.iss_causes.specs.declared.causes.NodeEvent.TheVariants.{Packet as Gets, Propose as Proposes, Timeout as Fires, AskFrom as Asks}
+use Rattle.iss_causes.specs.declared.causes.Why.{Why}
+use Rattle.iss_causes.specs.declared.causes.Why.TheVariants.{NoPacket}
+use Rattle.iss_rules.specs.Books.{Signed}
+use Rattle.iss_rules.specs.Parcels.{Formats, OfRequest}
+use Rattle.iss_model.specs.Node.{Core, Stepped, Dropped, Taken, Turn, idle, step}
+use Rattle.iss_rules.specs.Rules.{Rules}
 use Rattle.iss_model.specs.Views.{claims_of_bytes}
+use Rattle.iss_causes.specs.Ends.{Collision, End, Forged}
+use Rattle.iss_rules.specs.Concrete.{request_of}
 
 -- core i is node i; behind the nodes each faulty one has a second core, its twin, with the same keys
 abbrev pub number_at : Option NodeId → ℕ
@@ -39,11 +37,6 @@ node_of s c = cond (nat_lt c s.n) c (number_at (nth s.faulty (c - s.n)))
 pub record Net (Msg : Type 0) : Type 0 where
   pub cores : ℕ → Core Msg
   pub network : Network
-
--- why a run ended: a claim that its node never made, or different strings of one digest, of which the first was hashed before
-pub data End : Type 0 where
-  Forged : (claim : Claim) → End
-  Collision : (first second : List ℕ) → End
 
 -- a net, the book of what correct nodes sent as signed of their own, and the book of what was hashed, newest first
 pub record Held (Msg : Type 0) : Type 0 where
@@ -189,12 +182,6 @@ calms s F R M (suc m) h =
 abbrev pub loses : {Msg : Type 0} → Held Msg → ℕ → Option Sent → Happening Msg
 loses h k None = lost_by h NoPacket
 loses h k (Some p) = done (with_network h (settled h.net.network k))
-
--- a request that its client signed, by the leaf of the request's number
-abbrev pub request_of : Setup → ℕ → ℕ → List ℕ → Request
-request_of s client number payload =
-    let id : ReqId = record { client = client; number = number } in
-    record { id = id; payload = payload; sig = signature_of (client_secret client) s.keys number (request_statement id payload) }
 
 -- bytes from nowhere reach a core only where nodes may do anything
 abbrev pub injects : {Msg : Type 0} → Setup → Formats Msg → Rules → Module Msg → Held Msg → ℕ → List ℕ → Happening Msg

@@ -1,6 +1,6 @@
 -- What holds of every core of every run, so that its own casts are accepted.
 use Rattle.std.specs.Prelude.{◌≡◌, ℕ, ◌≤◌, ◌<◌, List, [], ◌∷◌, ◌++◌, length, true, Some}
-use Rattle.iss_base.specs.Lists.{Different, Extends, In}
+use Rattle.iss_base.specs.Lists.{Different, In}
 use Rattle.iss_request.specs.Formats.{HasSpelling}
 use Rattle.iss_request.specs.Log.{ids, log_ids}
 use Rattle.iss_request.specs.declared.ids.ReqId.{ReqId}
@@ -10,8 +10,8 @@ use Rattle.iss_request.specs.declared.requests.Request.{Request}
 use Rattle.iss_request.specs.declared.requests.Value.{Value}
 use Rattle.iss_sb.specs.Evidence.{Module}
 use Rattle.iss_model.specs.Node.{Core}
-use Rattle.iss_model.specs.Past.{adopted_at, before_own, log_of, start_of}
-use Rattle.iss_model.specs.Rules.{Rules}
+use Rattle.iss_rules.specs.Past.{adopted_at, before_own, log_of, start_of}
+use Rattle.iss_rules.specs.Rules.{Rules}
 
 -- the requests of what was cast, and all that a core still holds: what waits, and what is in flight
 abbrev pub carried : List (Slot × Batch) → List Request
@@ -37,8 +37,3 @@ pub record IsSoundCore {Msg : Type 0} (R : Rules) (M : Module Msg) (me : ℕ) (c
 pub record IsReadyCore {Msg : Type 0} (R : Rules) (M : Module Msg) (me : ℕ) (c : Core Msg) : Type 0 where
   pub sound : IsSoundCore R M me c
   pub spelled : (q : Request) → In q (held c) → HasSpelling q
-
--- windows move only past what the log holds
-pub record AreWindows (R : Rules) : Type 0 where
-  pub kept : (old new : List Value) (d e : ℕ) (x : ReqId) → R.inside old d x ≡ true → Extends old new → d ≤ e →
-      (In x (log_ids new) → ⊥) → R.inside new e x ≡ true

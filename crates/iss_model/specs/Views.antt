@@ -7,9 +7,11 @@ use Rattle.iss_request.specs.declared.requests.Batch.{Batch}
 use Rattle.iss_sb.specs.declared.effects.Params.{Params}
 use Rattle.iss_sb.specs.Evidence.{Item, Module, accepts, delivered}
 use Rattle.iss_sb.specs.declared.effects.Claim.{Claim}
-use Rattle.iss_model.specs.Node.{Body, Core, Formats, OfAsk, OfModule, OfPiece, OfRequest, OfVote, Parcel, claim_of_vote, claims_in, claims_of_cert, next_slot}
-use Rattle.iss_model.specs.Past.{Past, leads_in, params_of, taken_in}
-use Rattle.iss_model.specs.Rules.{Rules}
+use Rattle.iss_rules.specs.Parcels.{Body, Formats, OfAsk, OfModule, OfPiece, OfRequest, OfVote, Parcel}
+use Rattle.iss_rules.specs.Votes.{claim_of_vote, claims_of_cert}
+use Rattle.iss_model.specs.Node.{Core, claims_in, next_slot}
+use Rattle.iss_rules.specs.Past.{Past, leads_in, params_of, taken_in}
+use Rattle.iss_rules.specs.Rules.{Rules}
 
 -- what the instance of a leader accepted in the node's epoch, newest first
 abbrev pub accepted_by : {Msg : Type 0} → Core Msg → ℕ → List (Slot × Batch)

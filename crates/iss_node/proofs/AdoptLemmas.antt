@@ -14,17 +14,19 @@ use Rattle.iss_keys.specs.Directories.{DirectoryView}
 use Rattle.iss_log.specs.Chains.{ChainsState, IsChainOf, chain_of, end_of, strings_from}
 use Rattle.iss_log.specs.LogState.{LogState, value_at}
 use Rattle.iss_model.proofs.Casts.{adopts-sound, kept-sound}
-use Rattle.iss_model.proofs.Checked.{cert-same, end-same, strings-same}
-use Rattle.iss_model.proofs.Logs.{Settled, log-chain, log-kept}
-use Rattle.iss_model.proofs.Longest.{Bounded}
-use Rattle.iss_model.proofs.Pieces.{adopts-later, adopts-settled}
+use Rattle.iss_rules.proofs.Checked.{cert-same, end-same, strings-same}
+use Rattle.iss_rules.proofs.Logs.{Settled, log-chain, log-kept}
+use Rattle.iss_rules.proofs.Longest.{Bounded}
+use Rattle.iss_rules.proofs.Pieces.{adopts-later, adopts-settled}
 use Rattle.iss_model.proofs.Steps.{IsAdopted}
-use Rattle.iss_model.proofs.Windows.{are-windows}
-use Rattle.iss_model.specs.Concrete.{rules_of}
-use Rattle.iss_model.specs.Formats.{formats_of}
-use Rattle.iss_model.specs.Node.{Core, Early as Kept_early, Formats, Turn, adopts_piece, cert_on, grown_strings, in_next_epoch, joined, keeping, onward, returned, takes_each}
-use Rattle.iss_model.specs.Past.{IsLog, Past, Piece, adopted_at, adopts, before_own, cell, log_of}
-use Rattle.iss_model.specs.Rules.{Rules}
+use Rattle.iss_rules.proofs.Windows.{are-windows}
+use Rattle.iss_rules.specs.Concrete.{rules_of}
+use Rattle.iss_rules.specs.Formats.{formats_of}
+use Rattle.iss_rules.specs.Parcels.{Formats}
+use Rattle.iss_rules.specs.Votes.{cert_on, keeping}
+use Rattle.iss_model.specs.Node.{Core, Early as Kept_early, Turn, adopts_piece, grown_strings, in_next_epoch, joined, onward, returned, takes_each}
+use Rattle.iss_rules.specs.Past.{IsLog, Past, Piece, adopted_at, adopts, before_own, cell, log_of}
+use Rattle.iss_rules.specs.Rules.{Rules}
 use Rattle.iss_model.specs.Sound.{IsSoundCore}
 use Rattle.iss_node.proofs.EpochLemmas.{IsOver}
 use Rattle.iss_node.proofs.HeldLemmas.{each-held, onward-held, with_turn}

@@ -10,13 +10,14 @@ use Rattle.iss_ids.proofs.Members.{has_id-and_ids, has_id-append}
 use Rattle.iss_layout.specs.Layout.{Plan, bucket_of, bucket_owner, is_node}
 use Rattle.iss_log.specs.LogState.{ahead_at, value_at}
 use Rattle.iss_model.proofs.Casts.{casting-sound}
-use Rattle.iss_model.specs.Concrete.{number_of, plan_at, rules_of}
-use Rattle.iss_model.specs.Formats.{formats_of}
-use Rattle.iss_model.specs.Node.{Core, Dropped, Formats, Stepped, Taken, casts_at, first_slot, flown, has_leaves, has_slot, inputs, is_castable, is_mine, next_slot, settles, step}
-use Rattle.iss_model.specs.Past.{Past, before_own, leads_in, log_of, params_of, taken_in}
+use Rattle.iss_rules.specs.Concrete.{number_of, plan_at, rules_of}
+use Rattle.iss_rules.specs.Formats.{formats_of}
+use Rattle.iss_rules.specs.Parcels.{Formats}
+use Rattle.iss_model.specs.Node.{Core, Dropped, Stepped, Taken, casts_at, first_slot, flown, has_leaves, has_slot, inputs, is_castable, is_mine, next_slot, settles, step}
+use Rattle.iss_rules.specs.Past.{Past, before_own, leads_in, log_of, params_of, taken_in}
 use Rattle.iss_model.specs.Sound.{IsSoundCore}
-use Rattle.iss_model.specs.declared.causes.NodeEvent.TheVariants.{Propose as Proposes}
-use Rattle.iss_model.specs.declared.causes.Why.TheVariants.{NotLeader, NothingToCast, NoKeys}
+use Rattle.iss_causes.specs.declared.causes.NodeEvent.TheVariants.{Propose as Proposes}
+use Rattle.iss_causes.specs.declared.causes.Why.TheVariants.{NotLeader, NothingToCast, NoKeys}
 use Rattle.iss_node.proofs.InputLemmas.{own-fair, own-slot}
 use Rattle.iss_node.specs.Casts.{IsCut, casting, is_open}
 use Rattle.iss_node.specs.Flights.{FlightState}

@@ -8,10 +8,10 @@ use Rattle.iss_base.proofs.Lists.{same-test}
 use Rattle.iss_keys.proofs.DirectoryLemmas.{verified-by}
 use Rattle.iss_keys.specs.Directories.{DirectoryView, VerifiesBy}
 use Rattle.iss_keys.specs.VerifiedBy.{is_verified_by}
-use Rattle.iss_model.specs.Concrete.{rules_of}
-use Rattle.iss_model.specs.Formats.{formats_of, message_in}
+use Rattle.iss_rules.specs.Concrete.{rules_of}
+use Rattle.iss_rules.specs.Formats.{formats_of, message_in}
 use Rattle.iss_model.specs.Node.{claims_in, only_by, own_claims, packed}
-use Rattle.iss_model.specs.Past.{Past, leads_in, params_of}
+use Rattle.iss_rules.specs.Past.{Past, leads_in, params_of}
 use Rattle.iss_model.specs.Views.{claims_of_parcel}
 use Rattle.iss_node.proofs.InstanceLemmas.{leads-is}
 use Rattle.iss_node.proofs.NextLemmas.{apart}

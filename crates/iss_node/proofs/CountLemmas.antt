@@ -5,12 +5,13 @@ use Rattle.iss_checkpoint.specs.Votes.{Voters, voters_of}
 use Rattle.iss_checkpoint.specs.declared.votes.Cert.{Cert}
 use Rattle.iss_checkpoint.specs.declared.votes.Vote.{Vote}
 use Rattle.iss_keys.specs.Directories.{DirectoryView}
-use Rattle.iss_model.proofs.Checked.{vote-same}
-use Rattle.iss_model.specs.Concrete.{keys_of, rules_of}
-use Rattle.iss_model.specs.Node.{Core, Dropped, Taken, all_verify, claim_of_vote, counted, is_counted, rests, takes_vote}
-use Rattle.iss_model.specs.Past.{Past}
-use Rattle.iss_model.specs.Rules.{Rules}
-use Rattle.iss_model.specs.declared.causes.Why.TheVariants.{BadClaim, Known, OtherEpoch}
+use Rattle.iss_rules.proofs.Checked.{vote-same}
+use Rattle.iss_rules.specs.Concrete.{keys_of, rules_of}
+use Rattle.iss_rules.specs.Votes.{all_verify, claim_of_vote}
+use Rattle.iss_model.specs.Node.{Core, Dropped, Taken, counted, is_counted, rests, takes_vote}
+use Rattle.iss_rules.specs.Past.{Past}
+use Rattle.iss_rules.specs.Rules.{Rules}
+use Rattle.iss_causes.specs.declared.causes.Why.TheVariants.{BadClaim, Known, OtherEpoch}
 use Rattle.iss_node.proofs.MadeLemmas.{nothing, nothing-made, nothing-sent}
 use Rattle.iss_node.specs.Shape.{IsReplica}
 use Rattle.iss_node.specs.State.{AreHeld, IsTied, ReplicaState}

@@ -11,14 +11,14 @@ use Rattle.iss_keys.specs.Directories.{AreKeysOf}
 use Rattle.iss_log.specs.Chains.{IsChainOf}
 use Rattle.iss_log.specs.LogState.{value_at}
 use Rattle.iss_model.proofs.Casts.{ends-sound}
-use Rattle.iss_model.proofs.Ending.{advanced-log, before-advanced, ended-start}
-use Rattle.iss_model.proofs.Windows.{are-windows}
-use Rattle.iss_model.specs.Concrete.{plan_at, rules_of, start_at}
-use Rattle.iss_model.specs.Formats.{formats_of}
+use Rattle.iss_rules.proofs.Ending.{advanced-log, before-advanced, ended-start}
+use Rattle.iss_rules.proofs.Windows.{are-windows}
+use Rattle.iss_rules.specs.Concrete.{plan_at, rules_of, start_at}
+use Rattle.iss_rules.specs.Formats.{formats_of}
 use Rattle.iss_model.specs.Node.{flown, in_next_epoch, is_nil_at, joined}
-use Rattle.iss_model.specs.Past.{Past, advanced, before_own, is_complete, log_of, start_of}
+use Rattle.iss_rules.specs.Past.{Past, advanced, before_own, is_complete, log_of, start_of}
 use Rattle.iss_model.specs.Sound.{IsSoundCore}
-use Rattle.iss_model.proofs.Layouts.{start-times}
+use Rattle.iss_rules.proofs.Layouts.{start-times}
 use Rattle.iss_node.proofs.GrowthLemmas.{log_ids-append}
 use Rattle.iss_node.proofs.TiedLemmas.{bf-long, bf-part, bounded, split-log}
 use Rattle.iss_node.proofs.OwnEpoch.{has-slots, start-is}

@@ -6,7 +6,7 @@ use Rattle.iss_base.specs.Lists.{Different, In}
 use Rattle.iss_ids.proofs.Members.{and-nor, has_id-append}
 use Rattle.iss_base.proofs.Lists.{in_append, in_left, in_right}
 use Rattle.iss_model.proofs.Flights.{AreParts, flying-ids, ids-carried, ids-within, nil-below, parts-of}
-use Rattle.iss_model.proofs.Ids.{ids-append, in-has}
+use Rattle.iss_rules.proofs.Ids.{ids-append, in-has}
 use Rattle.iss_model.specs.Node.{flown, flying, is_nil_at, returned}
 use Rattle.iss_model.specs.Sound.{carried}
 use Rattle.iss_node.specs.Flights.{landed}

@@ -4,15 +4,18 @@ use Rattle.std.specs.Prelude.{nat_lt, length}
 use Rattle.iss_ballots.specs.Ballots.{AreKept, BallotsState}
 use Rattle.iss_checkpoint.specs.declared.votes.Cert.{Cert}
 use Rattle.iss_checkpoint.specs.declared.votes.Vote.{Vote}
-use Rattle.iss_model.specs.Concrete.{rules_of}
-use Rattle.iss_model.specs.Formats.{formats_of}
-use Rattle.iss_model.specs.Node.{Core, Dropped, Early, Formats, Stepped, Taken, Turn, all_verify, at_instance, by_verdict, casts_at, claims_in, claims_of_input, early_most, ended, ends, has_leaves, inputs, is_known, keeps_early, next_slot, onward, rests, settled, settles, step, takes_each, takes_early, takes_message, takes_request, tried, verdict_in}
-use Rattle.iss_model.specs.Past.{before_own, is_complete, leads_in, params_of}
-use Rattle.iss_model.specs.Rules.{Rules}
-use Rattle.iss_model.specs.declared.causes.NodeEvent.TheVariants.{Propose as Proposes}
-use Rattle.iss_model.specs.declared.causes.Refusal.{Refusal}
-use Rattle.iss_model.specs.declared.causes.Why.{Why}
-use Rattle.iss_model.specs.declared.causes.Why.TheVariants.{BadClaim, BadRequest, EarlyFull, Known, NoKeys, NotLeader, OtherEpoch, OutOfWindow}
+use Rattle.iss_rules.specs.Concrete.{rules_of}
+use Rattle.iss_rules.specs.Formats.{formats_of}
+use Rattle.iss_rules.specs.Parcels.{Formats}
+use Rattle.iss_rules.specs.Verdicts.{verdict_in}
+use Rattle.iss_rules.specs.Votes.{all_verify}
+use Rattle.iss_model.specs.Node.{Core, Dropped, Early, Stepped, Taken, Turn, at_instance, by_verdict, casts_at, claims_in, claims_of_input, early_most, ended, ends, has_leaves, inputs, is_known, keeps_early, next_slot, onward, rests, settled, settles, step, takes_each, takes_early, takes_message, takes_request, tried}
+use Rattle.iss_rules.specs.Past.{before_own, is_complete, leads_in, params_of}
+use Rattle.iss_rules.specs.Rules.{Rules}
+use Rattle.iss_causes.specs.declared.causes.NodeEvent.TheVariants.{Propose as Proposes}
+use Rattle.iss_causes.specs.declared.causes.Refusal.{Refusal}
+use Rattle.iss_causes.specs.declared.causes.Why.{Why}
+use Rattle.iss_causes.specs.declared.causes.Why.TheVariants.{BadClaim, BadRequest, EarlyFull, Known, NoKeys, NotLeader, OtherEpoch, OutOfWindow}
 use Rattle.iss_node.proofs.SettleLemmas.{at-core}
 use Rattle.iss_node.specs.Casts.{casting}
 use Rattle.iss_node.specs.State.{AreHeld, AreParts, ReplicaState, bare, holding}

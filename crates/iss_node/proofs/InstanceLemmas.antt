@@ -3,12 +3,15 @@ use Rattle.std.proofs.Common.{◌≡◌, ◌≢◌, ℕ, Bool, true, false, List
 use Rattle.std.specs.Prelude.{OnOk, is_some}
 use Rattle.iss_layout.specs.Layout.{Plan, leads}
 use Rattle.iss_log.specs.LogState.{GoesOn}
-use Rattle.iss_model.specs.Concrete.{rules_of}
-use Rattle.iss_model.specs.Formats.{formats_of}
-use Rattle.iss_model.specs.Node.{Dropped, Formats, Turn, all_verify, at_instance, by_verdict, claims_of_input, has_leaves, inputs, verdict, verdict_in}
-use Rattle.iss_model.specs.Past.{Past, before_own, leads_in, params_of, taken_in}
-use Rattle.iss_model.specs.declared.causes.Refusal.{Refusal}
-use Rattle.iss_model.specs.declared.causes.Why.TheVariants.{BadClaim, NotLeader, NoKeys, Refused}
+use Rattle.iss_rules.specs.Concrete.{rules_of}
+use Rattle.iss_rules.specs.Formats.{formats_of}
+use Rattle.iss_rules.specs.Parcels.{Formats}
+use Rattle.iss_rules.specs.Verdicts.{verdict, verdict_in}
+use Rattle.iss_rules.specs.Votes.{all_verify}
+use Rattle.iss_model.specs.Node.{Dropped, Turn, at_instance, by_verdict, claims_of_input, has_leaves, inputs}
+use Rattle.iss_rules.specs.Past.{Past, before_own, leads_in, params_of, taken_in}
+use Rattle.iss_causes.specs.declared.causes.Refusal.{Refusal}
+use Rattle.iss_causes.specs.declared.causes.Why.TheVariants.{BadClaim, NotLeader, NoKeys, Refused}
 use Rattle.iss_node.specs.Inputs.{IsAbsorbed, IsChained, IsHandedOut, IsInputTaken, IsVerdictAt}
 use Rattle.iss_node.specs.Shape.{IsReplica}
 use Rattle.iss_node.specs.State.{AreParts, IsTied, ReplicaState, core_of, led}

@@ -1,11 +1,12 @@
 -- Which epoch a message is of: of the present one it is taken, of the next one it is kept.
 use Rattle.std.proofs.Common.{arith, ◌≡◌, ℕ, suc, true, false, List, eqb, refl, sym, ap, ◌∙◌, subst}
 use Rattle.std.proofs.lemmas.Bool.Decides.{nat_tests}
-use Rattle.iss_model.specs.Concrete.{rules_of}
-use Rattle.iss_model.specs.Formats.{formats_of}
-use Rattle.iss_model.specs.Node.{Dropped, Formats, Stepped, at_instance, keeps_early, settled, takes_message}
-use Rattle.iss_model.specs.Past.{Past}
-use Rattle.iss_model.specs.declared.causes.Why.TheVariants.{OtherEpoch}
+use Rattle.iss_rules.specs.Concrete.{rules_of}
+use Rattle.iss_rules.specs.Formats.{formats_of}
+use Rattle.iss_rules.specs.Parcels.{Formats}
+use Rattle.iss_model.specs.Node.{Dropped, Stepped, at_instance, keeps_early, settled, takes_message}
+use Rattle.iss_rules.specs.Past.{Past}
+use Rattle.iss_causes.specs.declared.causes.Why.TheVariants.{OtherEpoch}
 use Rattle.iss_node.specs.Shape.{IsReplica}
 use Rattle.iss_node.specs.State.{IsTied, ReplicaState, core_of}
 use Rattle.iss_node.specs.Steps.{IsStep}

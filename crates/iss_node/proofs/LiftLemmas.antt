@@ -1,10 +1,11 @@
 -- A node's step, put together of the steps of its parts.
 use Rattle.std.proofs.Common.{◌≡◌, ℕ, List, Result, IfOk, subst}
 use Rattle.std.proofs.lemmas.Result.{IfOk-weaker}
-use Rattle.iss_model.specs.Concrete.{rules_of}
-use Rattle.iss_model.specs.Formats.{formats_of}
-use Rattle.iss_model.specs.Node.{Core, Formats, Stepped, settled}
-use Rattle.iss_model.specs.Rules.{Rules}
+use Rattle.iss_rules.specs.Concrete.{rules_of}
+use Rattle.iss_rules.specs.Formats.{formats_of}
+use Rattle.iss_rules.specs.Parcels.{Formats}
+use Rattle.iss_model.specs.Node.{Core, Stepped, settled}
+use Rattle.iss_rules.specs.Rules.{Rules}
 use Rattle.iss_checkpoint.specs.declared.votes.Cert.{Cert}
 use Rattle.iss_checkpoint.specs.declared.votes.Vote.{Vote}
 use Rattle.iss_node.proofs.HeldLemmas.{held-step, with_step}

@@ -3,10 +3,10 @@ use Rattle.std.proofs.Common.{arith, ◌≡◌, ℕ, ◌+◌, ◌^◌, ◌<◌, 
 use Rattle.iss_base.proofs.Lists.{is-eq}
 use Rattle.std.specs.List.{filter}
 use Rattle.iss_layout.specs.Layout.{Conduct, Ended, IsStanding, Plan, plan_by, slots_from}
-use Rattle.iss_model.specs.Concrete.{rules_of}
-use Rattle.iss_model.specs.Formats.{formats_of}
+use Rattle.iss_rules.specs.Concrete.{rules_of}
+use Rattle.iss_rules.specs.Formats.{formats_of}
 use Rattle.iss_model.specs.Node.{Turn, at_instance, claims_in, ended, in_next_epoch, is_nil_at, takes_early, tried}
-use Rattle.iss_model.specs.Past.{Past, is_complete}
+use Rattle.iss_rules.specs.Past.{Past, is_complete}
 use Rattle.iss_node.proofs.EpochLemmas.{IsOver, complete-is, parts-opened}
 use Rattle.iss_node.specs.Epochs.{AreStarted, HasOpened, both, notes}
 use Rattle.iss_node.specs.Shape.{IsReplica}

@@ -1,11 +1,11 @@
 -- A node's answers, from the steps of its parts.
 use Rattle.std.proofs.Common.{arith, inl, inr, ◌≡◌, ℕ, ◌≤◌, Bool, false, List, [], ◌∷◌, ◌++◌, length, length-append, take, refl, sym, ap, ◌∙◌, true≢false}
 use Rattle.iss_log.specs.LogState.{GoesOn}
-use Rattle.iss_model.specs.Concrete.{rules_of}
-use Rattle.iss_model.specs.Formats.{formats_of}
+use Rattle.iss_rules.specs.Concrete.{rules_of}
+use Rattle.iss_rules.specs.Formats.{formats_of}
 use Rattle.iss_model.specs.Node.{Core, step}
-use Rattle.iss_model.specs.declared.causes.NodeEvent.{NodeEvent}
-use Rattle.iss_model.specs.declared.causes.Why.{Why}
+use Rattle.iss_causes.specs.declared.causes.NodeEvent.{NodeEvent}
+use Rattle.iss_causes.specs.declared.causes.Why.{Why}
 use Rattle.iss_node.specs.Shape.{IsNode}
 use Rattle.iss_node.specs.State.{ReplicaState, Stands}
 use Rattle.iss_node.specs.Steps.{IsAnswer, IsHeldStepOf, IsOfNodes}

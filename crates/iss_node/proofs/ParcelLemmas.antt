@@ -1,7 +1,8 @@
 use Rattle.std.proofs.Common.{◌≡◌, ℕ, ◌+◌, ◌<◌, List, [], ◌∷◌, ◌++◌, None, length, take, get_or, refl, sym, ap, ◌∙◌, add-one}
 use Rattle.std.proofs.Math.Seq.{take-suc}
-use Rattle.iss_model.specs.Formats.{whole}
-use Rattle.iss_model.specs.Node.{Formats, OfModule, packed}
+use Rattle.iss_rules.specs.Formats.{whole}
+use Rattle.iss_rules.specs.Parcels.{Formats, OfModule}
+use Rattle.iss_model.specs.Node.{packed}
 use Rattle.iss_request.specs.Fields.{IsUnreadable, Parsed, Reading, left}
 use Rattle.iss_sb.specs.declared.effects.To.{To}
 

@@ -6,14 +6,16 @@ use Rattle.iss_checkpoint.specs.Votes.{Voters, voters_of}
 use Rattle.iss_keys.specs.Directories.{DirectoryView}
 use Rattle.iss_log.specs.Chains.{IsChainOf, chain_of, end_of, strings_from}
 use Rattle.iss_log.specs.declared.chains.End.{End}
-use Rattle.iss_model.proofs.Checked.{cert-same, end-same}
-use Rattle.iss_model.specs.Concrete.{keys_of, rules_of}
-use Rattle.iss_model.specs.Formats.{formats_of}
-use Rattle.iss_model.specs.Node.{Core, Dropped, Formats, Stepped, Taken, Turn, adopts_piece, has_shape, is_true_cert, leads_to, onward, takes_each, takes_piece}
-use Rattle.iss_model.specs.Past.{before_own, log_of, start_of}
-use Rattle.iss_model.specs.Rules.{Rules}
-use Rattle.iss_model.specs.declared.causes.Why.{Why}
-use Rattle.iss_model.specs.declared.causes.Why.TheVariants.{BadClaim, NotNeeded, OtherEpoch, WrongChain as Wrong_chain}
+use Rattle.iss_rules.proofs.Checked.{cert-same, end-same}
+use Rattle.iss_rules.specs.Concrete.{keys_of, rules_of}
+use Rattle.iss_rules.specs.Formats.{formats_of}
+use Rattle.iss_rules.specs.Parcels.{Formats}
+use Rattle.iss_rules.specs.Votes.{is_true_cert}
+use Rattle.iss_model.specs.Node.{Core, Dropped, Stepped, Taken, Turn, adopts_piece, has_shape, leads_to, onward, takes_each, takes_piece}
+use Rattle.iss_rules.specs.Past.{before_own, log_of, start_of}
+use Rattle.iss_rules.specs.Rules.{Rules}
+use Rattle.iss_causes.specs.declared.causes.Why.{Why}
+use Rattle.iss_causes.specs.declared.causes.Why.TheVariants.{BadClaim, NotNeeded, OtherEpoch, WrongChain as Wrong_chain}
 use Rattle.iss_node.proofs.OwnEpoch.{start-is}
 use Rattle.iss_node.specs.Shape.{IsReplica}
 use Rattle.iss_node.specs.State.{AreHeld, ReplicaState}

@@ -1,11 +1,11 @@
 -- A proposal, by what the node finds.
 use Rattle.std.proofs.Common.{◌≡◌, ℕ, List, true, false, Some, None, refl, subst}
-use Rattle.iss_model.specs.Concrete.{rules_of}
-use Rattle.iss_model.specs.Formats.{formats_of}
+use Rattle.iss_rules.specs.Concrete.{rules_of}
+use Rattle.iss_rules.specs.Formats.{formats_of}
 use Rattle.iss_model.specs.Node.{Turn, has_leaves, next_slot, settles, step}
-use Rattle.iss_model.specs.Past.{Past, leads_in, params_of}
-use Rattle.iss_model.specs.declared.causes.NodeEvent.TheVariants.{Propose as Proposes}
-use Rattle.iss_model.specs.declared.causes.Why.TheVariants.{NothingToCast, NoKeys}
+use Rattle.iss_rules.specs.Past.{Past, leads_in, params_of}
+use Rattle.iss_causes.specs.declared.causes.NodeEvent.TheVariants.{Propose as Proposes}
+use Rattle.iss_causes.specs.declared.causes.Why.TheVariants.{NothingToCast, NoKeys}
 use Rattle.iss_node.proofs.CastLemmas.{proposal-is}
 use Rattle.iss_node.specs.Casts.{casting}
 use Rattle.iss_node.specs.Shape.{IsReplica}

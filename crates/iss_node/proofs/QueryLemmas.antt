@@ -6,12 +6,12 @@ use Rattle.std.proofs.lemmas.Bool.Decides.{nat_tests}
 use Rattle.iss_base.specs.Lists.{In}
 use Rattle.iss_log.specs.LogState.{LogState, value_at}
 use Rattle.iss_model.proofs.Casts.{early-sound}
-use Rattle.iss_model.specs.Concrete.{rules_of}
-use Rattle.iss_model.specs.Formats.{formats_of}
+use Rattle.iss_rules.specs.Concrete.{rules_of}
+use Rattle.iss_rules.specs.Formats.{formats_of}
 use Rattle.iss_model.specs.Node.{Dropped, Early as Kept_early, Stepped, Taken, keeps_early, rests}
-use Rattle.iss_model.specs.Past.{Past, leads_in, params_of, taken_in}
+use Rattle.iss_rules.specs.Past.{Past, leads_in, params_of, taken_in}
 use Rattle.iss_model.specs.Views.{are_filled, is_unfilled}
-use Rattle.iss_model.specs.declared.causes.Why.TheVariants.{EarlyFull}
+use Rattle.iss_causes.specs.declared.causes.Why.TheVariants.{EarlyFull}
 use Rattle.iss_node.proofs.CastLemmas.{value-is}
 use Rattle.iss_node.proofs.InstanceLemmas.{leads-is}
 use Rattle.iss_node.proofs.RequestLemmas.{moved}

@@ -5,12 +5,12 @@ use Rattle.std.proofs.lemmas.List.{append-nil, length-reverse}
 use Rattle.iss_buckets.specs.Waiting.{AreNew, absent, waits}
 use Rattle.iss_ids.proofs.Members.{has_id-append}
 use Rattle.iss_model.proofs.Casts.{requested-sound}
-use Rattle.iss_model.specs.Concrete.{rules_of}
-use Rattle.iss_model.specs.Formats.{formats_of}
+use Rattle.iss_rules.specs.Concrete.{rules_of}
+use Rattle.iss_rules.specs.Formats.{formats_of}
 use Rattle.iss_model.specs.Node.{Dropped, Taken, Turn, is_known, is_nil_at, joined, rests, returned, takes_request}
-use Rattle.iss_model.specs.Past.{Past, before_own, log_of}
+use Rattle.iss_rules.specs.Past.{Past, before_own, log_of}
 use Rattle.iss_model.specs.Sound.{IsSoundCore}
-use Rattle.iss_model.specs.declared.causes.Why.TheVariants.{BadRequest, Known, OutOfWindow}
+use Rattle.iss_causes.specs.declared.causes.Why.TheVariants.{BadRequest, Known, OutOfWindow}
 use Rattle.iss_node.proofs.GrowthLemmas.{log_ids-append}
 use Rattle.iss_node.proofs.TiedLemmas.{bf-long, bf-part, split-log}
 use Rattle.iss_log.specs.Chains.{ChainsState, IsChainOf}

@@ -2,11 +2,12 @@
 use Rattle.std.proofs.Common.{arith, ◌≡◌, ℕ, suc, true, false, List, [], ◌∷◌, ◌++◌, eqb, Result, Ok, Err, IfOk, refl, sym, ap, ◌∙◌, subst, append_assoc}
 use Rattle.std.proofs.lemmas.Bool.Decides.{nat_tests}
 use Rattle.iss_model.proofs.Rows.{onward-onward, onward-rests}
-use Rattle.iss_model.specs.Concrete.{rules_of}
-use Rattle.iss_model.specs.Formats.{formats_of}
-use Rattle.iss_model.specs.Node.{Core, Early as Kept_early, Formats, Stepped, Turn, ended, ends, onward, rests, settled, settles, takes_each, takes_early, tried}
-use Rattle.iss_model.specs.Past.{Past, is_complete}
-use Rattle.iss_model.specs.Rules.{Rules}
+use Rattle.iss_rules.specs.Concrete.{rules_of}
+use Rattle.iss_rules.specs.Formats.{formats_of}
+use Rattle.iss_rules.specs.Parcels.{Formats}
+use Rattle.iss_model.specs.Node.{Core, Early as Kept_early, Stepped, Turn, ended, ends, onward, rests, settled, settles, takes_each, takes_early, tried}
+use Rattle.iss_rules.specs.Past.{Past, is_complete}
+use Rattle.iss_rules.specs.Rules.{Rules}
 use Rattle.iss_node.proofs.MadeLemmas.{both-made, nothing, nothing-made, nothing-sent}
 use Rattle.iss_node.specs.Epochs.{both}
 use Rattle.iss_node.specs.State.{AreParts, IsTied, ReplicaState, core_of, seen_early, seen_one}

@@ -11,11 +11,12 @@ use Rattle.iss_ballots.specs.Ballots.{AreKept, BallotsState}
 use Rattle.iss_checkpoint.specs.Votes.{voters_of}
 use Rattle.iss_log.specs.Chains.{ChainsState, IsChainOf}
 use Rattle.iss_log.specs.LogState.{empty_log}
-use Rattle.iss_model.proofs.Casts.{idle-sound, newborn-log}
-use Rattle.iss_model.specs.Concrete.{keys_of, plan_at, rules_of}
+use Rattle.iss_rules.proofs.Logs.{newborn-log}
+use Rattle.iss_model.proofs.Casts.{idle-sound}
+use Rattle.iss_rules.specs.Concrete.{keys_of, plan_at, rules_of}
 use Rattle.iss_model.specs.Node.{idle, joined}
-use Rattle.iss_model.specs.Past.{before_own, log_of, newborn}
-use Rattle.iss_model.specs.Runs.{IsSetupOf}
+use Rattle.iss_rules.specs.Past.{before_own, log_of, newborn}
+use Rattle.iss_rules.specs.Setups.{IsSetupOf}
 use Rattle.iss_model.specs.Sound.{IsSoundCore}
 use Rattle.iss_node.specs.Epochs.{AreStarted, params_by}
 use Rattle.iss_node.specs.Shape.{IsReplica}

@@ -9,13 +9,13 @@ use Rattle.iss_ids.proofs.Members.{has_id-append}
 use Rattle.iss_log.specs.Chains.{chain_of, strings_from}
 use Rattle.iss_log.specs.LogState.{LogState}
 use Rattle.iss_model.proofs.Casts.{joined-newer}
-use Rattle.iss_model.proofs.Epochs.{length-cut}
+use Rattle.iss_rules.proofs.Epochs.{length-cut}
 use Rattle.iss_model.proofs.Flights.{parts-of}
-use Rattle.iss_model.proofs.Ids.{has-not}
-use Rattle.iss_model.proofs.Longest.{Bounded}
-use Rattle.iss_model.specs.Concrete.{rules_of}
+use Rattle.iss_rules.proofs.Ids.{has-not}
+use Rattle.iss_rules.proofs.Longest.{Bounded}
+use Rattle.iss_rules.specs.Concrete.{rules_of}
 use Rattle.iss_model.specs.Node.{Core, flown, flying, grown_strings, joined, refiled, returned}
-use Rattle.iss_model.specs.Past.{Past, before_own, log_of, start_of}
+use Rattle.iss_rules.specs.Past.{Past, before_own, log_of, start_of}
 use Rattle.iss_model.specs.Sound.{carried, held}
 use Rattle.iss_node.proofs.FlightLemmas.{still-flown}
 use Rattle.iss_node.proofs.GrowthLemmas.{log_ids-append, note-all, waiting-is}

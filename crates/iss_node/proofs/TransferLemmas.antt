@@ -7,12 +7,13 @@ use Rattle.iss_base.specs.Lists.{oldest}
 use Rattle.iss_base.proofs.Lists.{none-some, oldest-all, oldest-append, some-injective}
 use Rattle.iss_checkpoint.specs.declared.votes.Cert.{Cert}
 use Rattle.iss_model.proofs.Casts.{joined-newer}
-use Rattle.iss_model.specs.Concrete.{rules_of}
-use Rattle.iss_model.specs.Formats.{formats_of}
-use Rattle.iss_model.specs.Node.{Core, Formats, handing, hands_out, joined, values_of}
-use Rattle.iss_model.specs.Past.{cut_at, log_of, start_of}
-use Rattle.iss_model.specs.Rules.{Rules}
-use Rattle.iss_model.specs.declared.causes.Why.TheVariants.{NoCert}
+use Rattle.iss_rules.specs.Concrete.{rules_of}
+use Rattle.iss_rules.specs.Formats.{formats_of}
+use Rattle.iss_rules.specs.Parcels.{Formats}
+use Rattle.iss_model.specs.Node.{Core, handing, hands_out, joined, values_of}
+use Rattle.iss_rules.specs.Past.{cut_at, log_of, start_of}
+use Rattle.iss_rules.specs.Rules.{Rules}
+use Rattle.iss_causes.specs.declared.causes.Why.TheVariants.{NoCert}
 use Rattle.iss_node.proofs.OwnEpoch.{start-is}
 use Rattle.iss_node.specs.State.{AreHeld, ReplicaState}
 use Rattle.iss_node.specs.Steps.{IsHeldDropped, IsHeldTaken}

@@ -2,8 +2,8 @@
 use Rattle.std.proofs.Common.{◌≡◌, ℕ, ◌+◌, Bool, true, false, List, [], ◌∷◌, ◌++◌, cond, map, refl, sym, ap, ◌∙◌, add-one}
 use Rattle.std.specs.List.{filter}
 use Rattle.iss_base.specs.Lists.{below}
-use Rattle.iss_model.specs.Past.{Past}
-use Rattle.iss_model.specs.Rules.{Rules}
+use Rattle.iss_rules.specs.Past.{Past}
+use Rattle.iss_rules.specs.Rules.{Rules}
 use Rattle.iss_model.specs.Views.{is_unfilled, unfilled}
 use Rattle.iss_request.specs.declared.ids.NodeId.{NodeId}
 use Rattle.iss_sb.specs.Evidence.{Module}

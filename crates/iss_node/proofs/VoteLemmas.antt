@@ -10,11 +10,11 @@ use Rattle.iss_keys.specs.Signatures.{signature_of}
 use Rattle.iss_log.specs.Chains.{end_of}
 use Rattle.iss_log.specs.declared.chains.End.{End}
 use Rattle.iss_model.proofs.Casts.{kept-sound}
-use Rattle.iss_model.proofs.Ending.{ended-start, ended-whole}
-use Rattle.iss_model.specs.Concrete.{rules_of}
-use Rattle.iss_model.specs.Formats.{formats_of}
+use Rattle.iss_rules.proofs.Ending.{ended-start, ended-whole}
+use Rattle.iss_rules.specs.Concrete.{rules_of}
+use Rattle.iss_rules.specs.Formats.{formats_of}
 use Rattle.iss_model.specs.Node.{ends, in_next_epoch, vote_on}
-use Rattle.iss_model.specs.Past.{Past, before_own, ended_log, is_complete, log_of}
+use Rattle.iss_rules.specs.Past.{Past, before_own, ended_log, is_complete, log_of}
 use Rattle.iss_node.proofs.TiedLemmas.{bounded}
 use Rattle.iss_node.proofs.EpochLemmas.{over-tied}
 use Rattle.iss_node.proofs.NextLemmas.{next-parts}

@@ -4,8 +4,9 @@ use Rattle.std.specs.List.{list_any}
 use Rattle.iss_buckets.specs.Waiting.{cut, may_cast, uncut}
 use Rattle.iss_ids.specs.Set.{and_ids}
 use Rattle.iss_log.specs.LogState.{LogState, value_at}
-use Rattle.iss_model.specs.Node.{Core, Formats, Turn, inputs, is_mine}
-use Rattle.iss_model.specs.Rules.{Rules}
+use Rattle.iss_rules.specs.Parcels.{Formats}
+use Rattle.iss_model.specs.Node.{Core, Turn, inputs, is_mine}
+use Rattle.iss_rules.specs.Rules.{Rules}
 use Rattle.iss_node.specs.State.{ReplicaState, led}
 use Rattle.iss_request.specs.declared.ids.Slot.{Slot}
 use Rattle.iss_request.specs.declared.requests.Batch.{Batch}

@@ -2,7 +2,7 @@
 use Rattle.std.specs.Prelude.{◌≡◌, ℕ, [], ◌∷◌, ◌++◌, List, Some, is_some, reverse, Option}
 use Rattle.std.specs.List.{filter}
 use Rattle.iss_layout.specs.Layout.{Ended, IsStanding, Plan, conduct_of, leads, plan_by, segment, slots_from}
-use Rattle.iss_model.specs.Concrete.{keys_of}
+use Rattle.iss_rules.specs.Concrete.{keys_of}
 use Rattle.iss_model.specs.Node.{is_nil_at}
 use Rattle.iss_node.specs.State.{ReplicaState, led}
 use Rattle.iss_node.specs.declared.answers.Outcome.{Outcome}

@@ -2,9 +2,9 @@
 use Rattle.std.specs.Prelude.{◌≡◌, ◌≢◌, ℕ, ◌||◌, List, ◌++◌, [], ◌∷◌, Option, Some, None, Result, Ok, Err, fold, length, reverse}
 use Rattle.iss_buckets.specs.Waiting.{AreNew, absent}
 use Rattle.iss_log.specs.Chains.{IsChainOf}
-use Rattle.iss_model.specs.Formats.{formats_of}
+use Rattle.iss_rules.specs.Formats.{formats_of}
 use Rattle.iss_model.specs.Node.{own_claims, packed, returned}
-use Rattle.iss_model.specs.declared.causes.Refusal.{Refusal}
+use Rattle.iss_causes.specs.declared.causes.Refusal.{Refusal}
 use Rattle.iss_node.specs.Flights.{IsLanded}
 use Rattle.iss_node.specs.Growth.{AreJoined, IsGrown, and_values, waits_on}
 use Rattle.iss_node.specs.State.{ReplicaState, led}

@@ -1,6 +1,6 @@
 -- What is seen of a parcel: the model's.
 use Rattle.std.specs.Prelude.{ℕ, ◌<◌, Option, Some, None}
-use Rattle.iss_model.specs.Node.{Body as Held, OfAsk, OfModule, OfPiece, OfRequest, OfVote, Parcel as Carried}
+use Rattle.iss_rules.specs.Parcels.{Body as Held, OfAsk, OfModule, OfPiece, OfRequest, OfVote, Parcel as Carried}
 use Rattle.iss_node.specs.declared.parcels.Body.{Body}
 use Rattle.iss_node.specs.declared.parcels.Body.TheVariants.{Ask, Message, Piece, Request, Vote}
 use Rattle.iss_node.specs.declared.parcels.Parcel.{Parcel}

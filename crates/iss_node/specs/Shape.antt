@@ -1,9 +1,9 @@
 -- What holds of every node, whatever it took.
 use Rattle.std.specs.Prelude.{◌≡◌, ◌⊎◌, ℕ, ◌+◌, ◌^◌, ◌<◌, true, List, [], ◌∷◌, length, Some}
 use Rattle.iss_checkpoint.specs.Votes.{voters_of}
-use Rattle.iss_model.specs.Concrete.{keys_of}
+use Rattle.iss_rules.specs.Concrete.{keys_of}
 use Rattle.iss_model.specs.Node.{Core}
-use Rattle.iss_model.specs.Runs.{IsSetupOf}
+use Rattle.iss_rules.specs.Setups.{IsSetupOf}
 use Rattle.iss_node.specs.State.{NodeState, ReplicaState, Stands, led}
 use Rattle.iss_node.specs.declared.answers.Early.{Early}
 use Rattle.iss_request.specs.declared.ids.NodeId.{NodeId}

@@ -8,10 +8,10 @@ use Rattle.iss_log.specs.LogState.{LogState, value_at}
 use Rattle.iss_ballots.specs.Ballots.{AreKept, BallotsState}
 use Rattle.iss_checkpoint.specs.declared.votes.Cert.{Cert}
 use Rattle.iss_checkpoint.specs.declared.votes.Vote.{Vote}
-use Rattle.iss_model.specs.Concrete.{rules_of}
+use Rattle.iss_rules.specs.Concrete.{rules_of}
 use Rattle.iss_model.specs.Node.{Core, Early as Kept_early, flown, joined}
-use Rattle.iss_model.specs.Past.{Past, before_own, log_of, taken_in}
-use Rattle.iss_model.specs.Rules.{Rules}
+use Rattle.iss_rules.specs.Past.{Past, before_own, log_of, taken_in}
+use Rattle.iss_rules.specs.Rules.{Rules}
 use Rattle.iss_model.specs.Sound.{IsSoundCore}
 use Rattle.iss_node.specs.Flights.{FlightState}
 use Rattle.iss_node.specs.declared.answers.Accepted.{Accepted}

@@ -1,14 +1,15 @@
 -- What a node's answer to an event says of the model's step.
 use Rattle.std.specs.Prelude.{◌≡◌, ◌<◌, ◌+◌, ◌^◌, ℕ, true, List, [], take}
 use Rattle.iss_log.specs.LogState.{GoesOn}
-use Rattle.iss_model.specs.Concrete.{rules_of}
-use Rattle.iss_model.specs.Formats.{formats_of}
-use Rattle.iss_model.specs.Node.{Core, Dropped as Not_taken, Formats, Stepped, Taken as Was_taken, Turn, ends, settled}
-use Rattle.iss_model.specs.Past.{Past, is_complete}
-use Rattle.iss_model.specs.Rules.{Rules}
-use Rattle.iss_model.specs.declared.causes.NodeEvent.{NodeEvent}
-use Rattle.iss_model.specs.declared.causes.NodeEvent.TheVariants.{Packet as Gets, Propose as Proposes, Timeout as Fires, AskFrom as Asks}
-use Rattle.iss_model.specs.declared.causes.Why.{Why}
+use Rattle.iss_rules.specs.Concrete.{rules_of}
+use Rattle.iss_rules.specs.Formats.{formats_of}
+use Rattle.iss_rules.specs.Parcels.{Formats}
+use Rattle.iss_model.specs.Node.{Core, Dropped as Not_taken, Stepped, Taken as Was_taken, Turn, ends, settled}
+use Rattle.iss_rules.specs.Past.{Past, is_complete}
+use Rattle.iss_rules.specs.Rules.{Rules}
+use Rattle.iss_causes.specs.declared.causes.NodeEvent.{NodeEvent}
+use Rattle.iss_causes.specs.declared.causes.NodeEvent.TheVariants.{Packet as Gets, Propose as Proposes, Timeout as Fires, AskFrom as Asks}
+use Rattle.iss_causes.specs.declared.causes.Why.{Why}
 use Rattle.iss_node.specs.Epochs.{HasClosed, HasOpened}
 use Rattle.iss_node.specs.State.{AreHeld, AreParts, IsTied, NodeState, ReplicaState, Stands, core_of}
 use Rattle.iss_node.specs.declared.answers.Answer.{Answer}

@@ -1,9 +1,10 @@
 -- How a node hands out an epoch, and takes one over.
 use Rattle.std.specs.Prelude.{◌≡◌, ℕ, suc, ◌*◌, List, [], ◌∷◌, Option, Some, None, cond, drop, length, nat_le, take}
 use Rattle.iss_checkpoint.specs.Votes.{vote_statement}
-use Rattle.iss_model.specs.Concrete.{rules_of}
-use Rattle.iss_model.specs.Formats.{formats_of}
-use Rattle.iss_model.specs.Node.{Core, adopts_piece, claims_by, onward, only_by, takes_each}
+use Rattle.iss_rules.specs.Concrete.{rules_of}
+use Rattle.iss_rules.specs.Formats.{formats_of}
+use Rattle.iss_rules.specs.Votes.{claims_by}
+use Rattle.iss_model.specs.Node.{Core, adopts_piece, onward, only_by, takes_each}
 use Rattle.iss_node.specs.State.{AreHeld, ReplicaState}
 use Rattle.iss_node.specs.Steps.{IsHeldTurn}
 use Rattle.iss_node.specs.declared.answers.Outcome.{Outcome}

@@ -1,5 +1,5 @@
 //! What a node answers.
-use iss_model::Why;
+use iss_causes::Why;
 use iss_request::{Batch, Bytes, NodeId, Row, Slot};
 use iss_sb::{Claim, To};
 use std::alloc::Global;

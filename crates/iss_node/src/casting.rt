@@ -1,8 +1,8 @@
 //! How a node casts.
 ghost use Rattle.std.specs.Prelude.{◌≡◌, ◌<◌, Some, List, IfOk};
-ghost use Rattle.iss_model.specs.Concrete.{rules_of};
+ghost use Rattle.iss_rules.specs.Concrete.{rules_of};
 ghost use Rattle.iss_model.specs.Node.{first_slot, next_slot, step};
-ghost use Rattle.iss_model.specs.Past.{Past};
+ghost use Rattle.iss_rules.specs.Past.{Past};
 ghost use Rattle.iss_model.specs.Views.{is_castable_now};
 ghost use Rattle.iss_node.specs.Casts.{IsCut, casting, is_open};
 ghost use Rattle.iss_node.specs.State.{IsTied, core_of, led};
@@ -13,8 +13,8 @@ ghost use Rattle.iss_segment.specs.Instance.{IsInstance, SegmentState};
 use crate::answers::{Outcome, Stepped};
 use crate::flight::Flight;
 use crate::replica::Replica;
+use iss_causes::{NodeEvent, Why};
 use iss_log::Log;
-use iss_model::{NodeEvent, Why};
 use iss_request::{Batch, NoMemory, Slot};
 use iss_sb::{Input, Sequenced};
 use iss_segment::Segment;

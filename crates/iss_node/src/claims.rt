@@ -2,9 +2,10 @@
 ghost use Rattle.std.specs.Prelude.{◌≡◌, ◌<◌, ◌++◌, Some, true, IfOk, OnOk};
 ghost use Rattle.std.specs.List.{list_all};
 ghost use Rattle.iss_keys.specs.VerifiedBy.{is_verified_by};
-ghost use Rattle.iss_model.specs.Concrete.{rules_of};
-ghost use Rattle.iss_model.specs.Node.{all_verify, claims_in, claims_of_input, only_by, own_claims};
-ghost use Rattle.iss_model.specs.Past.{Past, leads_in, params_of};
+ghost use Rattle.iss_rules.specs.Concrete.{rules_of};
+ghost use Rattle.iss_rules.specs.Votes.{all_verify};
+ghost use Rattle.iss_model.specs.Node.{claims_in, claims_of_input, only_by, own_claims};
+ghost use Rattle.iss_rules.specs.Past.{Past, leads_in, params_of};
 ghost use Rattle.iss_node.specs.Inputs.{IsHandedOut};
 ghost use Rattle.iss_node.specs.State.{IsTied, led};
 ghost use Rattle.iss_node.specs.Steps.{IsNodeInput};

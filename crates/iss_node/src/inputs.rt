@@ -7,7 +7,7 @@ ghost use Rattle.iss_node.specs.Steps.{IsLater, IsNodeInput, IsStepOf, IsTurnOf}
 use crate::answers::{Accepted, Outcome, Stepped};
 use crate::growth::{grow, join_all, refile};
 use crate::replica::Replica;
-use iss_model::Why;
+use iss_causes::Why;
 use iss_request::{Batch, Bytes, NoMemory, NodeId, Row, Slot, Value};
 use iss_sb::{Effects, Input, Sequenced};
 use iss_segment::Halt;

@@ -1,8 +1,8 @@
 //! What comes to a node from others.
 ghost use Rattle.std.specs.Prelude.{◌≡◌, ◌<◌, ◌==◌, suc, true, IfOk};
 ghost use Rattle.iss_checkpoint.specs.Bodies.{parse_vote};
-ghost use Rattle.iss_model.specs.Concrete.{rules_of};
-ghost use Rattle.iss_model.specs.Formats.{formats_of, message_in, parcel_of_kind, piece_in, vote_in, whole};
+ghost use Rattle.iss_rules.specs.Concrete.{rules_of};
+ghost use Rattle.iss_rules.specs.Formats.{formats_of, message_in, parcel_of_kind, piece_in, vote_in, whole};
 ghost use Rattle.iss_model.specs.Node.{Core, at_instance, keeps_early, settled, takes_bytes, takes_message, takes_parcel};
 ghost use Rattle.iss_model.specs.Views.{claims_of_bytes, claims_of_parcel};
 ghost use Rattle.iss_node.specs.Parcels.{IsFromNode, seen_body};
@@ -15,7 +15,7 @@ use crate::answers::{Early, Outcome, Stepped};
 use crate::parcels::{Body, Parcel, read_message, unwrap};
 use crate::replica::Replica;
 use iss_ballots::{claim_of_vote, claims_of_cert, piece_of, vote_of};
-use iss_model::Why;
+use iss_causes::Why;
 use iss_packet::{Packet, PacketError, PacketKind};
 use iss_request::{Bytes, Epoch, NoMemory, NodeId, Row};
 use iss_sb::{Claim, Input, Sequenced};

@@ -1,7 +1,7 @@
 //! What becomes of clients' requests at a node.
 ghost use Rattle.std.specs.Prelude.{◌≡◌, ◌++◌, ◌∷◌, ◌||◌, [], List, IfOk, OnOk, false, length, reverse};
 ghost use Rattle.iss_buckets.specs.Waiting.{AreNew, absent};
-ghost use Rattle.iss_model.specs.Concrete.{rules_of};
+ghost use Rattle.iss_rules.specs.Concrete.{rules_of};
 ghost use Rattle.iss_model.specs.Node.{returned, takes_request};
 ghost use Rattle.iss_node.specs.Flights.{IsLanded};
 ghost use Rattle.iss_node.specs.Inputs.{AreLogged, HasLanded};
@@ -14,7 +14,7 @@ ghost use Rattle.iss_window.specs.Window.{Noted, is_inside, place_of};
 use crate::answers::{Outcome, Stepped};
 use crate::growth::is_nil;
 use crate::replica::Replica;
-use iss_model::Why;
+use iss_causes::Why;
 use iss_request::{Batch, NoMemory, ReqId, Request, Slot};
 use iss_sb::Sequenced;
 use iss_segment::is_signed;

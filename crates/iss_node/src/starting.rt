@@ -1,8 +1,8 @@
 //! How the instances of an epoch are started.
 ghost use Rattle.std.specs.Prelude.{◌≡◌, ◌<◌, [], IfOk, IfSome, is_some, length};
 ghost use Rattle.iss_layout.specs.Layout.{IsGoodPlan, leads};
-ghost use Rattle.iss_model.specs.Concrete.{keys_of};
-ghost use Rattle.iss_model.specs.Runs.{IsSetupOf};
+ghost use Rattle.iss_rules.specs.Concrete.{keys_of};
+ghost use Rattle.iss_rules.specs.Setups.{IsSetupOf};
 ghost use Rattle.iss_node.specs.Epochs.{AreStarted, params_by};
 ghost use Rattle.iss_segment.specs.Instance.{IsInstance};
 

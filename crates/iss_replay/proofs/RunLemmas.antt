@@ -1,20 +1,22 @@
 -- Runs, event by event.
 use Rattle.std.proofs.Common.{◌≡◌, ℕ, zero, suc, ◌+◌, ◌<◌, ◌≤◌, List, [], ◌∷◌, ◌++◌, length, take, get_or, refl, sym, ap, ◌∙◌, subst, arith, add-one, Option, Some, None, reverse, append_assoc, drop, Bool, true, false, cond}
 use Rattle.std.proofs.lemmas.List.{append-nil, reverse-append, take-append-drop}
-use Rattle.iss_model.specs.Concrete.{rules_of}
-use Rattle.iss_model.specs.Formats.{formats_of}
+use Rattle.iss_rules.specs.Concrete.{rules_of, request_of}
+use Rattle.iss_rules.specs.Formats.{formats_of}
 use Rattle.iss_base.specs.Lists.{nth}
-use Rattle.iss_model.specs.Node.{Dropped, Formats, OfRequest, Stepped, Taken, step}
-use Rattle.iss_model.specs.Past.{log_of}
-use Rattle.iss_model.specs.Rules.{Rules}
-use Rattle.iss_model.specs.OneLog.{run_after}
-use Rattle.iss_model.specs.Run.{End, Happening, Held, Net, Progress, after_step, at_core, begin_run, by_collision, by_forged, calms, claims_at, collision_in, delivered_to, delivers, delivers_each, done, early_of, ended_at, first_forged, goes_further, goes_on, happens, loses, node_of, noted, pumps, request_of, turned_to, unless, with_network}
-use Rattle.iss_model.proofs.Evidence.{run-stays}
-use Rattle.iss_model.proofs.Runs.{run-append}
+use Rattle.iss_rules.specs.Parcels.{Formats, OfRequest}
+use Rattle.iss_model.specs.Node.{Dropped, Stepped, Taken, step}
+use Rattle.iss_rules.specs.Past.{log_of}
+use Rattle.iss_rules.specs.Rules.{Rules}
+use Rattle.iss_theorems.specs.OneLog.{run_after}
+use Rattle.iss_causes.specs.Ends.{End}
+use Rattle.iss_model.specs.Run.{Happening, Held, Net, Progress, after_step, at_core, begin_run, by_collision, by_forged, calms, claims_at, collision_in, delivered_to, delivers, delivers_each, done, early_of, ended_at, first_forged, goes_further, goes_on, happens, loses, node_of, noted, pumps, turned_to, unless, with_network}
+use Rattle.iss_theorems.proofs.Evidence.{run-stays}
+use Rattle.iss_theorems.proofs.Runs.{run-append}
 use Rattle.iss_model.proofs.Twins.{node-is}
-use Rattle.iss_model.specs.declared.causes.Why.{Why}
-use Rattle.iss_model.specs.declared.causes.NodeEvent.{NodeEvent}
-use Rattle.iss_model.specs.declared.causes.NodeEvent.TheVariants.{Packet as Gets, Propose as Proposes, Timeout as Fires, AskFrom as Seeks}
+use Rattle.iss_causes.specs.declared.causes.Why.{Why}
+use Rattle.iss_causes.specs.declared.causes.NodeEvent.{NodeEvent}
+use Rattle.iss_causes.specs.declared.causes.NodeEvent.TheVariants.{Packet as Gets, Propose as Proposes, Timeout as Fires, AskFrom as Seeks}
 use Rattle.iss_report.specs.Text.{drop_line, node_block}
 use Rattle.iss_replay.specs.Report.{block_of, drop_lines, node_blocks}
 use Rattle.iss_replay.specs.Stands.{StandsForRun, end_at, end_kept, numbered}

@@ -1,13 +1,13 @@
 -- The text that tells how far a run has come.
 use Rattle.std.specs.Prelude.{◌≡◌, ℕ, zero, suc, cond, List, [], ◌∷◌, ◌++◌}
-use Rattle.iss_model.specs.Concrete.{rules_of}
-use Rattle.iss_model.specs.Certified.{AreOfLogs, WereDelivered}
-use Rattle.iss_model.specs.Conserved.{AcceptsOnce, IsConserved}
-use Rattle.iss_model.specs.Ends.{HasEvidence}
-use Rattle.iss_model.specs.OneLog.{IsOneLog, run_after}
-use Rattle.iss_model.specs.Past.{log_of}
+use Rattle.iss_rules.specs.Concrete.{rules_of}
+use Rattle.iss_theorems.specs.Certified.{AreOfLogs, WereDelivered}
+use Rattle.iss_theorems.specs.Conserved.{AcceptsOnce, IsConserved}
+use Rattle.iss_theorems.specs.Ends.{HasEvidence}
+use Rattle.iss_theorems.specs.OneLog.{IsOneLog, run_after}
+use Rattle.iss_rules.specs.Past.{log_of}
 use Rattle.iss_model.specs.Run.{Net, Progress}
-use Rattle.iss_model.specs.declared.causes.Why.{Why}
+use Rattle.iss_causes.specs.declared.causes.Why.{Why}
 use Rattle.iss_report.specs.Text.{drop_line, end_line, node_block}
 use Rattle.iss_request.specs.declared.setups.Setup.{Setup}
 use Rattle.iss_schedule.specs.declared.schedules.Event.{Event}

@@ -1,7 +1,8 @@
 -- Which progress of the model a report stands for.
 use Rattle.std.specs.Prelude.{◌≡◌, ℕ, List, Option, option_map, reverse}
-use Rattle.iss_model.specs.Run.{End, Progress}
-use Rattle.iss_model.specs.declared.causes.Why.{Why}
+use Rattle.iss_causes.specs.Ends.{End}
+use Rattle.iss_model.specs.Run.{Progress}
+use Rattle.iss_causes.specs.declared.causes.Why.{Why}
 use Rattle.iss_sb.specs.declared.effects.Params.{Params}
 use Rattle.iss_sb.specs.Evidence.{Item, Module}
 use Rattle.iss_world.specs.Stands.{StandsAt, end_of}

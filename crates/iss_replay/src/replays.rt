@@ -1,23 +1,24 @@
 //! The events of a schedule, one after the other.
 ghost use Rattle.std.specs.Prelude.{◌≡◌, IfOk, None};
-ghost use Rattle.iss_model.specs.Concrete.{rules_of};
-ghost use Rattle.iss_model.specs.Formats.{formats_of};
-ghost use Rattle.iss_model.specs.Certified.{AreOfLogs, WereDelivered};
-ghost use Rattle.iss_model.specs.Conserved.{AcceptsOnce, IsConserved};
-ghost use Rattle.iss_model.specs.Ends.{HasEvidence};
-ghost use Rattle.iss_model.specs.OneLog.{IsOneLog, run_after};
+ghost use Rattle.iss_rules.specs.Concrete.{rules_of};
+ghost use Rattle.iss_rules.specs.Formats.{formats_of};
+ghost use Rattle.iss_theorems.specs.Certified.{AreOfLogs, WereDelivered};
+ghost use Rattle.iss_theorems.specs.Conserved.{AcceptsOnce, IsConserved};
+ghost use Rattle.iss_theorems.specs.Ends.{HasEvidence};
+ghost use Rattle.iss_theorems.specs.OneLog.{IsOneLog, run_after};
 ghost use Rattle.iss_model.specs.Run.{Progress, goes_on};
-ghost use Rattle.iss_model.specs.Runs.{IsSetupOf};
+ghost use Rattle.iss_rules.specs.Setups.{IsSetupOf};
 ghost use Rattle.iss_replay.specs.Stands.{StandsForRun, numbered};
 ghost use Rattle.iss_schedule.specs.Events.{AreInRange, IsInRange};
 
-use iss_model::{
-    Why, adopted_was_delivered, certificates_are_of_logs, cluster_runs, requests_are_conserved,
-    runs_end_with_evidence,
-};
+use iss_causes::Why;
 use iss_request::{NoMemory, Row};
 use iss_sb::{Claim, Sequenced};
 use iss_schedule::{Event, Schedule};
+use iss_theorems::{
+    adopted_was_delivered, certificates_are_of_logs, cluster_runs, requests_are_conserved,
+    runs_end_with_evidence,
+};
 use iss_world::ends::End;
 use iss_world::{Happened, World};
 use std::alloc::Global;

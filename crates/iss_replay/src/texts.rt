@@ -1,8 +1,8 @@
 //! The text of a report.
 ghost use Rattle.std.specs.Prelude.{◌≡◌, ◌<◌, ◌++◌, IfOk, List, OnOk, reverse};
-ghost use Rattle.iss_model.specs.OneLog.{run_after};
+ghost use Rattle.iss_theorems.specs.OneLog.{run_after};
 ghost use Rattle.iss_model.specs.Run.{Progress};
-ghost use Rattle.iss_model.specs.Runs.{IsSetupOf};
+ghost use Rattle.iss_rules.specs.Setups.{IsSetupOf};
 ghost use Rattle.iss_replay.specs.Report.{IsReport, block_of, drop_lines, node_blocks, text_of};
 ghost use Rattle.iss_replay.specs.Stands.{StandsForRun, end_kept};
 ghost use Rattle.iss_report.specs.Text.{end_line};
@@ -11,13 +11,14 @@ ghost use Rattle.iss_schedule.specs.declared.schedules.Event.{Event};
 ghost use Rattle.iss_world.specs.Stands.{StandsAt};
 
 use crate::replays::Report;
-use iss_model::{
-    Why, adopted_was_delivered, certificates_are_of_logs, cluster_runs, requests_are_conserved,
-    runs_end_with_evidence,
-};
+use iss_causes::Why;
 use iss_report::{put_collision, put_drop, put_forged, put_node, put_ok};
 use iss_request::{Bytes, NoMemory, NodeId};
 use iss_sb::Sequenced;
+use iss_theorems::{
+    adopted_was_delivered, certificates_are_of_logs, cluster_runs, requests_are_conserved,
+    runs_end_with_evidence,
+};
 use iss_world::World;
 use iss_world::claims::is_correct;
 use iss_world::ends::End;

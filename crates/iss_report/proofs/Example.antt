@@ -2,7 +2,7 @@
 use Rattle.std.proofs.Common.{◌≡◌, ◌∷◌, ◌++◌, [], None, Some, codes, refl}
 use Rattle.std.specs.Fmt.{digits}
 use Rattle.hex.specs.Hex.{encode_with}
-use Rattle.iss_model.specs.Run.{Collision, Forged}
+use Rattle.iss_causes.specs.Ends.{Collision, Forged}
 use Rattle.iss_report.specs.Text.{end_line}
 
 ok : end_line None ≡ codes "end ok" ++ 10 ∷ []

@@ -6,12 +6,11 @@ use Rattle.iss_request.specs.declared.requests.Value.{Value}
 use Rattle.iss_request.specs.declared.requests.Value.TheVariants.{Nil, Batch as Holds}
 use Rattle.iss_schedule.specs.Words.{word_of}
 use Rattle.iss_sb.specs.declared.effects.Claim.{Claim}
-use Rattle.iss_model.specs.Run.{End, Forged, Collision}
-use Rattle.iss_model.specs.declared.causes.Refusal.{Refusal}
-use Rattle.iss_model.specs.declared.causes.Refusal.TheVariants.{TooLarge, ForeignBucket, BadSignature, OutOfWindow, Ordered, Marked}
-use Rattle.iss_model.specs.declared.causes.Why.{Why}
-use Rattle.iss_model.specs.declared.causes.Why.TheVariants.{NoPacket, NotPacket, BadRequest, Known, OutOfWindow as Outside, OtherEpoch, EarlyFull, NotLeader, BadClaim, NothingToCast, NoKeys, Refused}
-use Rattle.iss_model.specs.declared.causes.Why.TheVariants.{NoCert, NotNeeded, WrongChain}
+use Rattle.iss_causes.specs.Ends.{End, Forged, Collision}
+use Rattle.iss_causes.specs.declared.causes.Refusal.{Refusal}
+use Rattle.iss_causes.specs.declared.causes.Refusal.TheVariants.{TooLarge, ForeignBucket, BadSignature, OutOfWindow, Ordered, Marked}
+use Rattle.iss_causes.specs.declared.causes.Why.{Why}
+use Rattle.iss_causes.specs.declared.causes.Why.TheVariants.{NoPacket, NotPacket, BadRequest, Known, OutOfWindow as Outside, OtherEpoch, EarlyFull, NotLeader, BadClaim, NothingToCast, NoKeys, Refused, NoCert, NotNeeded, WrongChain}
 
 abbrev pub refusal_word : Refusal → List ℕ
 refusal_word TooLarge = codes "TooLarge"

@@ -1,13 +1,13 @@
 //! Lines of a report. After want of memory a part may have been written.
 ghost use Rattle.std.specs.Prelude.{◌≡◌, ◌<◌, ◌++◌, None, OnOk, Some, codes, length, reverse, take};
-ghost use Rattle.iss_model.specs.Run.{Collision, Forged};
+ghost use Rattle.iss_causes.specs.Ends.{Collision, Forged};
 ghost use Rattle.iss_request.specs.Log.{requests};
 ghost use Rattle.iss_schedule.specs.Words.{word_of};
 ghost use Rattle.iss_report.specs.Text.{claim_words, drop_line, end_line, node_block, node_line, request_word, request_words, slot_line, slot_lines, value_words};
 
 use crate::words::{put_bytes, put_number, put_text, put_why};
+use iss_causes::Why;
 use iss_log::Log;
-use iss_model::Why;
 use iss_request::{Epoch, NoMemory, NodeId, Request, Slot, Value};
 use iss_sb::Claim;
 use std::alloc::Global;

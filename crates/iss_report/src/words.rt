@@ -3,7 +3,7 @@ ghost use Rattle.std.specs.Prelude.{◌≡◌, ◌++◌, OnOk, decimal};
 ghost use Rattle.iss_report.specs.Text.{refusal_word, why_word};
 ghost use Rattle.iss_schedule.specs.Words.{word_of};
 
-use iss_model::{Refusal, Why};
+use iss_causes::{Refusal, Why};
 use iss_request::NoMemory;
 use itoa::Buffer;
 use std::alloc::Global;

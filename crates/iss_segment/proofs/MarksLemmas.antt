@@ -3,11 +3,11 @@ use Rattle.std.specs.Prelude.{not, nat_lt, ◌==◌, ◌≤◌, Some, None}
 use Rattle.std.specs.List.{list_any}
 use Rattle.std.proofs.lemmas.Bool.Decides.{nat_tests}
 use Rattle.iss_layout.specs.Layout.{Plan, bucket_of, bucket_owner}
-use Rattle.iss_model.specs.Concrete.{number_of, rules_of}
-use Rattle.iss_model.specs.declared.causes.Refusal.TheVariants.{TooLarge, ForeignBucket, BadSignature, OutOfWindow, Ordered, Marked}
+use Rattle.iss_rules.specs.Concrete.{number_of, rules_of}
+use Rattle.iss_causes.specs.declared.causes.Refusal.TheVariants.{TooLarge, ForeignBucket, BadSignature, OutOfWindow, Ordered, Marked}
 use Rattle.iss_request.specs.declared.setups.Setup.{Setup}
 use Rattle.iss_request.proofs.Identities.{same_id-flip}
-use Rattle.iss_model.specs.Judge.{any, any_marked, judge}
+use Rattle.iss_rules.specs.Judge.{any, any_marked, judge}
 use Rattle.iss_segment.specs.Marks.{twice}
 use Rattle.iss_request.specs.Log.{has_id, ids, log_ids, same_id}
 use Rattle.iss_request.specs.declared.requests.Value.{Value}

@@ -2,11 +2,11 @@ use Rattle.std.proofs.Common.{◌≡◌, ℕ, Bool, true, false, List, [], ◌++
 use Rattle.std.specs.Prelude.{not, nat_lt, ◌==◌}
 use Rattle.iss_base.proofs.Lists.{or-flip}
 use Rattle.iss_ids.proofs.Members.{has_id-and_ids, has_id-append}
-use Rattle.iss_model.specs.Judge.{any, judge, marks}
-use Rattle.iss_model.specs.Node.{verdict}
-use Rattle.iss_model.specs.Rules.{Rules}
-use Rattle.iss_model.specs.declared.causes.Refusal.{Refusal}
-use Rattle.iss_model.specs.declared.causes.Refusal.TheVariants.{TooLarge, ForeignBucket, BadSignature, OutOfWindow, Ordered, Marked}
+use Rattle.iss_rules.specs.Judge.{any, judge, marks}
+use Rattle.iss_rules.specs.Verdicts.{verdict}
+use Rattle.iss_rules.specs.Rules.{Rules}
+use Rattle.iss_causes.specs.declared.causes.Refusal.{Refusal}
+use Rattle.iss_causes.specs.declared.causes.Refusal.TheVariants.{TooLarge, ForeignBucket, BadSignature, OutOfWindow, Ordered, Marked}
 use Rattle.iss_segment.proofs.MarksLemmas.{any_marked-same}
 use Rattle.iss_segment.specs.Answers.{IsInstanceTaken}
 use Rattle.iss_segment.specs.Marks.{and_marks}

@@ -8,8 +8,8 @@ use Rattle.iss_base.proofs.Lists.{same-test}
 use Rattle.iss_keys.proofs.DirectoryLemmas.{verified-by}
 use Rattle.iss_keys.specs.Directories.{DirectoryView, VerifiesBy}
 use Rattle.iss_keys.specs.VerifiedBy.{is_verified_by}
-use Rattle.iss_model.specs.Concrete.{is_signed_by, keys_of, request_statement, rules_of}
-use Rattle.iss_model.specs.Judge.{any}
+use Rattle.iss_rules.specs.Concrete.{is_signed_by, keys_of, request_statement, rules_of}
+use Rattle.iss_rules.specs.Judge.{any}
 use Rattle.iss_request.specs.declared.requests.Request.{Request}
 use Rattle.iss_request.specs.declared.setups.Setup.{Setup}
 

@@ -3,9 +3,9 @@ use Rattle.std.specs.Prelude.{◌≡◌, ℕ, ◌+◌, ◌<◌, ◌≤◌, List,
 use Rattle.iss_keys.specs.Directories.{AreKeysOf}
 use Rattle.iss_keys.specs.KeyStates.{KeyState, left_of}
 use Rattle.iss_layout.specs.Layout.{Plan}
-use Rattle.iss_model.specs.Concrete.{rules_of}
-use Rattle.iss_model.specs.Node.{verdict}
-use Rattle.iss_model.specs.declared.causes.Refusal.{Refusal}
+use Rattle.iss_rules.specs.Concrete.{rules_of}
+use Rattle.iss_rules.specs.Verdicts.{verdict}
+use Rattle.iss_causes.specs.declared.causes.Refusal.{Refusal}
 use Rattle.iss_request.specs.declared.requests.Value.{Value}
 use Rattle.iss_sb.specs.Calls.{IsTaken, IsWithin}
 use Rattle.iss_sb.specs.Evidence.{Item, Module, accepts, and_then}

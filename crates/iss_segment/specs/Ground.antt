@@ -1,7 +1,7 @@
 -- What an epoch rests on: its division and its windows, by the log before it.
 use Rattle.std.specs.Prelude.{◌≡◌, ℕ, List}
 use Rattle.iss_layout.specs.Layout.{Plan}
-use Rattle.iss_model.specs.Concrete.{plan_at}
+use Rattle.iss_rules.specs.Concrete.{plan_at}
 use Rattle.iss_request.specs.Log.{log_ids}
 use Rattle.iss_request.specs.declared.requests.Value.{Value}
 use Rattle.iss_request.specs.declared.setups.Setup.{Setup}

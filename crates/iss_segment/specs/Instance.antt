@@ -1,6 +1,6 @@
 -- What is seen of an instance, and what it stands for.
 use Rattle.std.specs.Prelude.{◌≡◌, ℕ, List}
-use Rattle.iss_model.specs.Judge.{marks}
+use Rattle.iss_rules.specs.Judge.{marks}
 use Rattle.iss_request.specs.Log.{has_id}
 use Rattle.iss_request.specs.declared.ids.NodeId.{NodeId}
 use Rattle.iss_request.specs.declared.ids.ReqId.{ReqId}

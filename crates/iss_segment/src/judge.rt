@@ -2,8 +2,8 @@
 ghost use Rattle.std.specs.Prelude.{◌≡◌, ◌<◌, ◌≤◌, ◌==◌, ◌||◌, ℕ, List, not, length, drop};
 ghost use Rattle.iss_segment.specs.Marks.{twice};
 ghost use Rattle.iss_layout.specs.Layout.{bucket_of, bucket_owner};
-ghost use Rattle.iss_model.specs.Concrete.{is_signed_by, keys_of, number_of, rules_of};
-ghost use Rattle.iss_model.specs.Judge.{any, any_marked, judge};
+ghost use Rattle.iss_rules.specs.Concrete.{is_signed_by, keys_of, number_of, rules_of};
+ghost use Rattle.iss_rules.specs.Judge.{any, any_marked, judge};
 ghost use Rattle.iss_request.specs.Log.{has_id, ids, log_ids, same_id};
 ghost use Rattle.iss_request.specs.declared.requests.Request.{Request};
 ghost use Rattle.iss_request.specs.declared.requests.Value.{Value};
@@ -12,10 +12,10 @@ ghost use Rattle.iss_window.specs.Kept.{StandsFor};
 ghost use Rattle.iss_window.specs.Window.{is_inside, place_of};
 
 use crate::signatures::is_signed;
+use iss_causes::Refusal;
 use iss_ids::Ids;
 use iss_keys::Directory;
 use iss_layout::Layout;
-use iss_model::Refusal;
 use iss_request::{NodeId, ReqId, Request, Setup};
 use iss_window::{Place, Windows};
 

@@ -1,9 +1,9 @@
 //! An instance of a module, with the identities of the batches that it accepted.
 ghost use Rattle.std.specs.Prelude.{◌≡◌, ◌<◌, ◌≤◌, ◌↔◌, ℕ, List, [], IfOk, OnOk, IsTrue, Some};
 ghost use Rattle.iss_keys.specs.KeyStates.{left_of};
-ghost use Rattle.iss_model.specs.Concrete.{rules_of};
-ghost use Rattle.iss_model.specs.Judge.{judge};
-ghost use Rattle.iss_model.specs.Node.{verdict};
+ghost use Rattle.iss_rules.specs.Concrete.{rules_of};
+ghost use Rattle.iss_rules.specs.Judge.{judge};
+ghost use Rattle.iss_rules.specs.Verdicts.{verdict};
 ghost use Rattle.iss_request.specs.declared.requests.Batch.{Batch};
 ghost use Rattle.iss_request.specs.declared.requests.Value.{Value};
 ghost use Rattle.iss_sb.specs.Calls.{IsGoodInput, IsGoodParams};
@@ -14,10 +14,10 @@ ghost use Rattle.iss_segment.specs.Instance.{IsInstance, SegmentState};
 ghost use Rattle.iss_segment.specs.Marks.{and_marks};
 
 use crate::judge::refusal;
+use iss_causes::Refusal;
 use iss_ids::Ids;
 use iss_keys::Keys;
 use iss_layout::Layout;
-use iss_model::Refusal;
 use iss_request::{Batch, NoMemory, NodeId, Slot};
 use iss_sb::{Effects, Input, Params, Sequenced, StepError};
 use iss_window::Windows;

@@ -1,7 +1,7 @@
 //! Requests as their clients sign them.
 ghost use Rattle.std.specs.Prelude.{◌≡◌, ◌+◌, ◌^◌, ◌<◌, ◌≤◌, IfOk, length, take};
 ghost use Rattle.iss_keys.specs.Signatures.{signature_of};
-ghost use Rattle.iss_model.specs.Concrete.{is_signed_by, request_statement};
+ghost use Rattle.iss_rules.specs.Concrete.{is_signed_by, request_statement};
 
 use iss_keys::{Directory, Keys};
 use iss_request::{Bytes, NoMemory, ReqId, Request};

@@ -2,7 +2,7 @@
 use Rattle.std.proofs.Common.{inl, inr, ◌≡◌, ◌⊎◌, ℕ, zero, suc, ◌+◌, ◌-◌, ◌<◌, ◌≤◌, false, List, [], ◌∷◌, ◌++◌, length, length-append, slice_get, Some, refl, sym, ap, ◌∙◌, subst, arith, slice_index_or}
 use Rattle.std.proofs.lemmas.List.{length-replicate}
 use Rattle.iss_model.specs.Run.{begin_held, cores_of}
-use Rattle.iss_model.specs.Runs.{IsSetupOf}
+use Rattle.iss_rules.specs.Setups.{IsSetupOf}
 use Rattle.iss_network.specs.Network.{Network, empty_network}
 use Rattle.iss_node.specs.State.{NodeState}
 use Rattle.iss_request.specs.Setup.{AreRising, IsGoodSetup}

@@ -1,12 +1,13 @@
 -- Deliveries one after the other, up to one that ends the run, and what happens to the network alone.
 use Rattle.std.proofs.Common.{◌≡◌, ℕ, zero, suc, ◌+◌, ◌-◌, ◌<◌, ◌≤◌, Bool, true, false, cond, List, [], ◌∷◌, ◌++◌, length, take, drop, get_or, Option, Some, None, refl, sym, ap, ◌∙◌, subst, arith}
 use Rattle.iss_base.specs.Lists.{nth}
-use Rattle.iss_model.specs.Concrete.{rules_of}
-use Rattle.iss_model.specs.Formats.{formats_of}
-use Rattle.iss_model.specs.Node.{Formats}
-use Rattle.iss_model.specs.Rules.{Rules}
-use Rattle.iss_model.specs.Run.{End, Happening, Held, at_core, calms, delivered_to, delivers, delivers_each, done, injects, loses, pumps, unless, with_network}
-use Rattle.iss_model.specs.declared.causes.NodeEvent.TheVariants.{Packet as Gets}
+use Rattle.iss_rules.specs.Concrete.{rules_of}
+use Rattle.iss_rules.specs.Formats.{formats_of}
+use Rattle.iss_rules.specs.Parcels.{Formats}
+use Rattle.iss_rules.specs.Rules.{Rules}
+use Rattle.iss_causes.specs.Ends.{End}
+use Rattle.iss_model.specs.Run.{Happening, Held, at_core, calms, delivered_to, delivers, delivers_each, done, injects, loses, pumps, unless, with_network}
+use Rattle.iss_causes.specs.declared.causes.NodeEvent.TheVariants.{Packet as Gets}
 use Rattle.iss_network.specs.Network.{Network, due, settled}
 use Rattle.iss_network.specs.declared.packets.Sent.{Sent}
 use Rattle.iss_request.specs.declared.setups.Kind.TheVariants.{Byzantine}

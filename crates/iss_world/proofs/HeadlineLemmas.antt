@@ -5,17 +5,18 @@ use Rattle.std.proofs.lemmas.Bool.{ltb-true}
 use Rattle.std.proofs.lemmas.List.{take-append-le}
 use Rattle.iss_base.proofs.Lists.{some-injective}
 use Rattle.iss_log.specs.LogState.{first_number_of}
-use Rattle.iss_model.specs.Certified.{AreOfLogs, WereDelivered}
-use Rattle.iss_model.specs.Concrete.{rules_of}
-use Rattle.iss_model.specs.Conserved.{AcceptsOnce, IsConserved}
+use Rattle.iss_theorems.specs.Certified.{AreOfLogs, WereDelivered}
+use Rattle.iss_rules.specs.Concrete.{rules_of}
+use Rattle.iss_theorems.specs.Conserved.{AcceptsOnce, IsConserved}
 use Rattle.iss_model.proofs.Ranges.{at-cores}
-use Rattle.iss_model.specs.Ends.{HasEvidence}
-use Rattle.iss_model.specs.Formats.{formats_of}
-use Rattle.iss_model.specs.Node.{Formats}
-use Rattle.iss_model.specs.OneLog.{IsOneLog, printed, run_after}
-use Rattle.iss_model.specs.Rules.{Rules}
+use Rattle.iss_theorems.specs.Ends.{HasEvidence}
+use Rattle.iss_rules.specs.Formats.{formats_of}
+use Rattle.iss_rules.specs.Parcels.{Formats}
+use Rattle.iss_theorems.specs.OneLog.{IsOneLog, printed, run_after}
+use Rattle.iss_rules.specs.Rules.{Rules}
 use Rattle.iss_model.specs.Run.{Progress, begin_run, goes_further, run}
-use Rattle.iss_model.specs.Runs.{AreAtCores, IsPrefix, IsSetupOf}
+use Rattle.iss_rules.specs.Setups.{IsSetupOf}
+use Rattle.iss_model.specs.Runs.{AreAtCores, IsPrefix}
 use Rattle.iss_request.specs.Log.{requests}
 use Rattle.iss_request.specs.declared.requests.Value.{Value}
 use Rattle.iss_request.specs.declared.setups.Setup.{Setup}

@@ -1,7 +1,6 @@
 -- The keys of nodes and clients in the cluster's directory.
 use Rattle.std.proofs.Common.{◌≡◌, ℕ, ◌<◌, List, length, ap, ap₂, ◌∙◌, arith}
-use Rattle.iss_model.specs.Concrete.{keys_of, request_statement}
-use Rattle.iss_model.specs.Run.{request_of}
+use Rattle.iss_rules.specs.Concrete.{keys_of, request_statement, request_of}
 use Rattle.iss_request.specs.declared.ids.ReqId.{ReqId}
 use Rattle.iss_request.specs.declared.requests.Request.{Request}
 use Rattle.iss_request.specs.declared.setups.Setup.{Setup}

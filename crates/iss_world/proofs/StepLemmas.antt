@@ -7,20 +7,22 @@ use Rattle.std.proofs.Math.Seq.{take-append_seam}
 use Rattle.iss_base.specs.Lists.{first_of, over}
 use Rattle.iss_base.proofs.Lists.{none-some, some-injective}
 use Rattle.iss_model.proofs.Casts.{kept-sound, step-grown}
-use Rattle.iss_model.proofs.Ending.{HasSlots}
+use Rattle.iss_rules.proofs.Ending.{HasSlots}
 use Rattle.iss_model.proofs.Rows.{each-holds, settles-holds}
 use Rattle.iss_model.proofs.Steps.{Took, adopted, asked, cast, fired, handed, kept, received, sought, took, voted}
-use Rattle.iss_model.proofs.Windows.{are-windows}
-use Rattle.iss_model.specs.Cluster.{Signed}
-use Rattle.iss_model.specs.Concrete.{rules_of}
-use Rattle.iss_model.specs.Formats.{formats_of}
-use Rattle.iss_model.specs.Node.{Core, Early, Formats, Stepped, Taken, Turn, adopts_piece, onward, settles, step, takes_each}
-use Rattle.iss_model.specs.Past.{log_of}
-use Rattle.iss_model.specs.Rules.{Rules}
-use Rattle.iss_model.specs.Run.{End, Forged, Happening, Held, after_step, at_core, booked, by_collision, by_forged, claims_at, collision_in, done, early_of, ended_by, first_forged, is_forged, node_of, posted_all, turned_to}
+use Rattle.iss_rules.proofs.Windows.{are-windows}
+use Rattle.iss_rules.specs.Books.{Signed}
+use Rattle.iss_rules.specs.Concrete.{rules_of}
+use Rattle.iss_rules.specs.Formats.{formats_of}
+use Rattle.iss_rules.specs.Parcels.{Formats}
+use Rattle.iss_model.specs.Node.{Core, Early, Stepped, Taken, Turn, adopts_piece, onward, settles, step, takes_each}
+use Rattle.iss_rules.specs.Past.{log_of}
+use Rattle.iss_rules.specs.Rules.{Rules}
+use Rattle.iss_causes.specs.Ends.{End, Forged}
+use Rattle.iss_model.specs.Run.{Happening, Held, after_step, at_core, booked, by_collision, by_forged, claims_at, collision_in, done, early_of, ended_by, first_forged, is_forged, node_of, posted_all, turned_to}
 use Rattle.iss_model.specs.Sound.{IsSoundCore}
-use Rattle.iss_model.specs.declared.causes.NodeEvent.{NodeEvent}
-use Rattle.iss_model.specs.declared.causes.Why.{Why}
+use Rattle.iss_causes.specs.declared.causes.NodeEvent.{NodeEvent}
+use Rattle.iss_causes.specs.declared.causes.Why.{Why}
 use Rattle.iss_network.specs.Network.{Network}
 use Rattle.iss_node.specs.State.{NodeState, Stands, bare}
 use Rattle.iss_node.specs.Steps.{HasRetreated, IsAnswer, IsDrop, IsMade, IsOfNodes, IsTurn}

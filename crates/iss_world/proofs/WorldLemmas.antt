@@ -1,6 +1,7 @@
 -- A world that stands for a run, as events happen to it.
 use Rattle.std.proofs.Common.{inl, inr, ◌≡◌, ℕ, Bool, false, List, Option, Some, None, subst}
-use Rattle.iss_model.specs.Run.{End, Held, Progress}
+use Rattle.iss_causes.specs.Ends.{End}
+use Rattle.iss_model.specs.Run.{Held, Progress}
 use Rattle.iss_sb.specs.declared.effects.Params.{Params}
 use Rattle.iss_sb.specs.Evidence.{Item, Module}
 use Rattle.iss_world.specs.Stands.{IsShown, StandsAt, StandsThen, awake}

@@ -5,8 +5,9 @@ use Rattle.std.specs.List.{list_any}
 use Rattle.std.specs.Map.{lookup}
 use Rattle.std.specs.Ordering.{is_eq, nat_cmp}
 use Rattle.iss_base.specs.Lists.{In, same_bytes}
-use Rattle.iss_model.specs.Cluster.{Signed}
-use Rattle.iss_model.specs.Run.{End, Collision, has_signed}
+use Rattle.iss_rules.specs.Books.{Signed}
+use Rattle.iss_causes.specs.Ends.{End, Collision}
+use Rattle.iss_model.specs.Run.{has_signed}
 use Rattle.iss_request.specs.Digest.{digest}
 
 -- whether a book of claims, each behind its node's number, has the statement of a node

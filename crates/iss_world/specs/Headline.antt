@@ -1,10 +1,10 @@
 -- What an event promises of a world that stood for the run of the events before it.
 use Rattle.std.specs.Prelude.{◌≡◌, ℕ, true, List, Some}
 use Rattle.iss_log.specs.LogState.{first_number_of}
-use Rattle.iss_model.specs.Certified.{AreOfLogs, WereDelivered}
-use Rattle.iss_model.specs.Conserved.{AcceptsOnce, IsConserved}
-use Rattle.iss_model.specs.Ends.{HasEvidence}
-use Rattle.iss_model.specs.OneLog.{IsOneLog, printed, run_after}
+use Rattle.iss_theorems.specs.Certified.{AreOfLogs, WereDelivered}
+use Rattle.iss_theorems.specs.Conserved.{AcceptsOnce, IsConserved}
+use Rattle.iss_theorems.specs.Ends.{HasEvidence}
+use Rattle.iss_theorems.specs.OneLog.{IsOneLog, printed, run_after}
 use Rattle.iss_request.specs.declared.setups.Setup.{Setup}
 use Rattle.iss_schedule.specs.declared.schedules.Event.{Event}
 use Rattle.iss_sb.specs.Evidence.{Module, is_correct}

@@ -1,7 +1,7 @@
 -- What holds of running cores and of every world, whatever happened to them.
 use Rattle.std.specs.Prelude.{◌≡◌, ◌<◌, ℕ, false, List, [], ◌∷◌, length, None, Some, slice_get}
 use Rattle.iss_model.specs.Run.{cores_of, node_of}
-use Rattle.iss_model.specs.Runs.{IsSetupOf}
+use Rattle.iss_rules.specs.Setups.{IsSetupOf}
 use Rattle.iss_network.specs.Network.{Network}
 use Rattle.iss_network.specs.declared.packets.Sent.{Sent}
 use Rattle.iss_node.specs.State.{NodeState}

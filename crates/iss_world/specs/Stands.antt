@@ -1,9 +1,10 @@
 -- Which run of the model the running cores and a world stand for, and what an event made of it.
 use Rattle.std.specs.Prelude.{◌≡◌, ◌⊎◌, ◌↔◌, ℕ, true, false, List, ◌∷◌, length, Option, Some, None, option_map, reverse, slice_get}
-use Rattle.iss_model.specs.Concrete.{rules_of}
+use Rattle.iss_rules.specs.Concrete.{rules_of}
 use Rattle.iss_model.specs.Node.{idle}
-use Rattle.iss_model.specs.Past.{log_of}
-use Rattle.iss_model.specs.Run.{End, Forged, Collision, Happening, Held, Progress, node_of}
+use Rattle.iss_rules.specs.Past.{log_of}
+use Rattle.iss_causes.specs.Ends.{End, Forged, Collision}
+use Rattle.iss_model.specs.Run.{Happening, Held, Progress, node_of}
 use Rattle.iss_request.specs.declared.setups.Setup.{Setup}
 use Rattle.iss_node.specs.State.{NodeState, Stands}
 use Rattle.iss_sb.specs.Evidence.{Module}

@@ -1,11 +1,12 @@
 -- One step of a core, from the test of what it claims to what is booked and posted.
 use Rattle.std.specs.Prelude.{◌≡◌, ℕ, List, Option, Some, None, reverse, slice_get, take}
 use Rattle.iss_base.specs.Lists.{first_of, set_at}
-use Rattle.iss_model.specs.Cluster.{Signed}
-use Rattle.iss_model.specs.Concrete.{rules_of}
+use Rattle.iss_rules.specs.Books.{Signed}
+use Rattle.iss_rules.specs.Concrete.{rules_of}
 use Rattle.iss_model.specs.Node.{Stepped, Turn}
-use Rattle.iss_model.specs.Past.{log_of}
-use Rattle.iss_model.specs.Run.{End, Forged, Happening, Held, after_step, by_forged, collision_in, early_of, first_forged, node_of}
+use Rattle.iss_rules.specs.Past.{log_of}
+use Rattle.iss_causes.specs.Ends.{End, Forged}
+use Rattle.iss_model.specs.Run.{Happening, Held, after_step, by_forged, collision_in, early_of, first_forged, node_of}
 use Rattle.iss_node.specs.State.{NodeState, Stands}
 use Rattle.iss_request.specs.declared.setups.Setup.{Setup}
 use Rattle.iss_sb.specs.declared.effects.Claim.{Claim}

@@ -1,8 +1,8 @@
 //! Which node each core runs, and cores at their start.
 ghost use Rattle.std.specs.Prelude.{◌≡◌, ◌<◌, ◌≤◌, ◌+◌, length, IfOk};
-ghost use Rattle.iss_model.specs.Concrete.{keys_of};
+ghost use Rattle.iss_rules.specs.Concrete.{keys_of};
 ghost use Rattle.iss_model.specs.Run.{cores_of, node_of};
-ghost use Rattle.iss_model.specs.Runs.{IsSetupOf};
+ghost use Rattle.iss_rules.specs.Setups.{IsSetupOf};
 ghost use Rattle.iss_request.specs.Setup.{IsGoodSetup};
 ghost use Rattle.iss_world.specs.Stands.{AreFresh, IsFresh};
 

@@ -1,7 +1,7 @@
 //! Why the run of a world ends.
 ghost use Rattle.std.specs.Prelude.{◌≡◌, IfOk};
 
-use iss_model::Why;
+use iss_causes::Why;
 use iss_request::{Bytes, NoMemory};
 use iss_sb::Claim;
 

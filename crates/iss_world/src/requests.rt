@@ -1,9 +1,8 @@
 //! A client's request, as a packet.
 ghost use Rattle.std.specs.Prelude.{◌≡◌, ◌<◌, ◌≤◌, ◌^◌, IfOk, length};
-ghost use Rattle.iss_model.specs.Concrete.{keys_of};
-ghost use Rattle.iss_model.specs.Formats.{formats_of};
-ghost use Rattle.iss_model.specs.Node.{OfRequest};
-ghost use Rattle.iss_model.specs.Run.{request_of};
+ghost use Rattle.iss_rules.specs.Concrete.{keys_of, request_of};
+ghost use Rattle.iss_rules.specs.Formats.{formats_of};
+ghost use Rattle.iss_rules.specs.Parcels.{OfRequest};
 ghost use Rattle.iss_request.specs.declared.setups.Setup.{Setup};
 
 use iss_keys::Directory;

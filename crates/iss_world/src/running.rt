@@ -1,11 +1,11 @@
 //! The running cores of a cluster and the network between them, as long as there is memory.
 ghost use Rattle.std.specs.Prelude.{◌≡◌, ◌<◌, IfOk, Some, reverse, slice_get, true, false};
 ghost use Rattle.iss_base.specs.Lists.{nth};
-ghost use Rattle.iss_model.specs.Concrete.{rules_of};
-ghost use Rattle.iss_model.specs.Formats.{formats_of};
-ghost use Rattle.iss_model.specs.Past.{log_of};
+ghost use Rattle.iss_rules.specs.Concrete.{rules_of};
+ghost use Rattle.iss_rules.specs.Formats.{formats_of};
+ghost use Rattle.iss_rules.specs.Past.{log_of};
 ghost use Rattle.iss_model.specs.Run.{Held, begin_held, calms, cores_of, delivers, delivers_each, done, happens, injects, loses, node_of, pumps, with_network};
-ghost use Rattle.iss_model.specs.Runs.{IsSetupOf};
+ghost use Rattle.iss_rules.specs.Setups.{IsSetupOf};
 ghost use Rattle.iss_network.specs.Network.{cleared, due, held_to};
 ghost use Rattle.iss_schedule.specs.Events.{IsInRange};
 ghost use Rattle.iss_world.specs.Stands.{HasChanged, IsShown, IsStanding, Runs};
@@ -15,9 +15,9 @@ use crate::cores::{cores_of, directory_of, start_cores};
 use crate::ends::Change;
 use crate::requests::request_packet;
 use crate::strings::Strings;
+use iss_causes::{NodeEvent, Why};
 use iss_keys::SharedDirectory;
 use iss_log::Log;
-use iss_model::{NodeEvent, Why};
 use iss_network::Network;
 use iss_node::Node;
 use iss_request::{Bytes, Epoch, Kind, NoMemory, ReqId, Setup, Value};
@@ -42,7 +42,7 @@ pub struct Running<M: Sequenced> {
 
 impl<M: Sequenced> Model for Running<M> {
     ghost use Rattle.std.specs.Prelude.{◌≡◌};
-    ghost use Rattle.iss_model.specs.Concrete.{keys_of};
+    ghost use Rattle.iss_rules.specs.Concrete.{keys_of};
     ghost use Rattle.iss_world.specs.State.{RunningState};
     ghost use Rattle.iss_world.specs.Shape.{IsRunning};
 

@@ -1,9 +1,9 @@
 //! One event at a core: what it claims is tested, the core takes it, and what it made is tested, booked and posted.
 ghost use Rattle.std.specs.Prelude.{◌≡◌, ◌<◌, ◌≤◌, ℕ, IfOk, List, None, Some, length, option_map, slice_get};
 ghost use Rattle.iss_base.specs.Lists.{over};
-ghost use Rattle.iss_model.specs.Cluster.{Signed};
-ghost use Rattle.iss_model.specs.Concrete.{keys_of, rules_of};
-ghost use Rattle.iss_model.specs.Formats.{formats_of};
+ghost use Rattle.iss_rules.specs.Books.{Signed};
+ghost use Rattle.iss_rules.specs.Concrete.{keys_of, rules_of};
+ghost use Rattle.iss_rules.specs.Formats.{formats_of};
 ghost use Rattle.iss_model.specs.Node.{Core, Taken, Turn, step};
 ghost use Rattle.iss_model.specs.Run.{Held, at_core, claims_at, cores_of, node_of};
 ghost use Rattle.iss_node.specs.State.{NodeState, Stands};
@@ -18,8 +18,8 @@ use crate::ends::{Change, End};
 use crate::posting::post_all;
 use crate::running::Running;
 use crate::strings::Strings;
+use iss_causes::NodeEvent;
 use iss_keys::Directory;
-use iss_model::NodeEvent;
 use iss_node::{Answer, Node, Outcome};
 use iss_request::{Epoch, NoMemory, Row, Setup};
 use iss_sb::{Claim, Sequenced};

@@ -1,10 +1,10 @@
 //! The world of a cluster, which says of itself when its run has ended, and when memory was wanting.
 ghost use Rattle.std.specs.Prelude.{◌≡◌, ◌<◌, ◌++◌, ◌∷◌, [], IfOk, List, None, OnOk, reverse};
-ghost use Rattle.iss_model.specs.Concrete.{rules_of};
-ghost use Rattle.iss_model.specs.Formats.{formats_of};
-ghost use Rattle.iss_model.specs.Past.{log_of};
+ghost use Rattle.iss_rules.specs.Concrete.{rules_of};
+ghost use Rattle.iss_rules.specs.Formats.{formats_of};
+ghost use Rattle.iss_rules.specs.Past.{log_of};
 ghost use Rattle.iss_model.specs.Run.{Held, Progress, begin_held, cores_of, goes_further, node_of};
-ghost use Rattle.iss_model.specs.Runs.{IsSetupOf};
+ghost use Rattle.iss_rules.specs.Setups.{IsSetupOf};
 ghost use Rattle.iss_node.specs.State.{Stands};
 ghost use Rattle.iss_schedule.specs.Events.{AreInRange, IsInRange};
 ghost use Rattle.iss_schedule.specs.declared.schedules.Event.{Event as Happens};
@@ -14,15 +14,17 @@ ghost use Rattle.iss_world.specs.Stands.{HasHappened, IsOverOr, IsStaleOr, IsSta
 
 use crate::ends::{Change, End};
 use crate::running::Running;
+use iss_causes::Why;
+use iss_cluster::composition;
 use iss_log::Log;
-use iss_model::{
-    Why, adopted_was_delivered, certificates_are_of_logs, cluster_runs, composition,
-    requests_are_conserved, runs_end_with_evidence,
-};
 use iss_node::Node;
 use iss_request::{Bytes, Epoch, NoMemory, NodeId, Setup, Value};
 use iss_sb::Sequenced;
 use iss_schedule::Event;
+use iss_theorems::{
+    adopted_was_delivered, certificates_are_of_logs, cluster_runs, requests_are_conserved,
+    runs_end_with_evidence,
+};
 use std::alloc::Global;
 use std::marker::Model;
 

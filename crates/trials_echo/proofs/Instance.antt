@@ -16,18 +16,21 @@ use Rattle.iss_sb.specs.Evidence.{IsCredible, IsReadBatch, IsReadMessage, Separa
 use Rattle.iss_sb.specs.Statements.{signature}
 use Rattle.iss_sb.proofs.Read.{batch-read}
 use Rattle.iss_sb.proofs.Signatures.{signature-shape}
-use Rattle.iss_model.specs.Checkpoints.{is_good, scheme_of}
-use Rattle.iss_model.specs.Cluster.{AllSpelled, Cluster, IsBooked, IsHashedLog, IsVerified, MayTake, Reach, Scheme, Signed, begin, chain_strings, move}
-use Rattle.iss_model.specs.Concrete.{rules_of}
-use Rattle.iss_model.specs.Node.{own_claims, verdict_in}
-use Rattle.iss_model.specs.Ordered.{Among, IsSoundRules, Ordered}
-use Rattle.iss_model.specs.Past.{leads_in, log_of, made_in, newborn, params_of, takes}
-use Rattle.iss_model.specs.Rules.{Rules}
-use Rattle.iss_model.specs.Runs.{IsSetupOf}
+use Rattle.iss_cluster.specs.Checkpoints.{is_good, scheme_of}
+use Rattle.iss_rules.specs.Books.{Signed}
+use Rattle.iss_cluster.specs.Cluster.{AllSpelled, Cluster, IsBooked, IsHashedLog, IsVerified, MayTake, Reach, Scheme, begin, chain_strings, move}
+use Rattle.iss_rules.specs.Concrete.{rules_of}
+use Rattle.iss_rules.specs.Verdicts.{verdict_in}
+use Rattle.iss_model.specs.Node.{own_claims}
+use Rattle.iss_rules.specs.SoundRules.{IsSoundRules}
+use Rattle.iss_cluster.specs.Ordered.{Among, Ordered}
+use Rattle.iss_rules.specs.Past.{leads_in, log_of, made_in, newborn, params_of, takes}
+use Rattle.iss_rules.specs.Rules.{Rules}
+use Rattle.iss_rules.specs.Setups.{IsSetupOf}
 use Rattle.iss_model.specs.Run.{as_signed, collision_in}
-use Rattle.iss_model.proofs.Chains.{hashed-older, spelled-older}
-use Rattle.iss_model.proofs.Layouts.{however-signed, own-verifies, sound-rules}
-use Rattle.iss_model.proofs.Tests.{over-new, over-old, own-is, separate-more}
+use Rattle.iss_cluster.proofs.Chains.{hashed-older, spelled-older}
+use Rattle.iss_rules.proofs.Layouts.{however-signed, own-verifies, sound-rules}
+use Rattle.iss_theorems.proofs.Tests.{over-new, over-old, own-is, separate-more}
 use Rattle.sb_echo.specs.declared.word.Word.{Word}
 use Rattle.sb_echo.specs.declared.word.Word.TheVariants.{Say, Echo}
 use Rattle.sb_echo.specs.Echo.{claim, claims, digest_of, echo, statement, string_of}

@@ -7,12 +7,13 @@ use Rattle.iss_request.specs.declared.setups.Policy.TheVariants.{Simple}
 use Rattle.iss_request.specs.declared.setups.Setup.{Setup}
 use Rattle.iss_sb.specs.declared.effects.Params.{Params}
 use Rattle.iss_sb.specs.Evidence.{Separate, is_correct}
-use Rattle.iss_model.specs.Checkpoints.{scheme_of}
-use Rattle.iss_model.specs.Cluster.{Cluster, IsBooked, Reach}
-use Rattle.iss_model.specs.Concrete.{rules_of}
-use Rattle.iss_model.specs.Ordered.{Among, IsSoundRules, Ordered}
-use Rattle.iss_model.specs.Past.{log_of}
-use Rattle.iss_model.specs.Rules.{Rules}
+use Rattle.iss_cluster.specs.Checkpoints.{scheme_of}
+use Rattle.iss_cluster.specs.Cluster.{Cluster, IsBooked, Reach}
+use Rattle.iss_rules.specs.Concrete.{rules_of}
+use Rattle.iss_rules.specs.SoundRules.{IsSoundRules}
+use Rattle.iss_cluster.specs.Ordered.{Among, Ordered}
+use Rattle.iss_rules.specs.Past.{log_of}
+use Rattle.iss_rules.specs.Rules.{Rules}
 use Rattle.sb_echo.specs.declared.word.Word.{Word}
 use Rattle.sb_echo.specs.Echo.{digest_of, echo, statement}
 

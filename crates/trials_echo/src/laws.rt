@@ -1,7 +1,7 @@
 //! A cluster over echo. The function computes nothing: its contract is the theorem.
 ghost use Rattle.trials_echo.specs.Shown.{IsShown};
 
-use iss_model::composition;
+use iss_cluster::composition;
 use sb_echo::Echo;
 
 /// Four nodes, of which one is faulty, take part in an instance of echo: one casts, and another delivers what it cast by the

@@ -1,7 +1,7 @@
 //! Four nodes over echo, of which node 0 may lie: what they sign and send, spelled field by field here, beside the code that is tested.
 ghost use Rattle.std.specs.Prelude.{◌≡◌, ◌<◌, ◌≤◌, IfOk};
 ghost use Rattle.hex.specs.Hex.{IsBytes};
-ghost use Rattle.iss_model.specs.Runs.{IsSetupOf};
+ghost use Rattle.iss_rules.specs.Setups.{IsSetupOf};
 ghost use Rattle.sb_echo.specs.Echo.{echo};
 
 use crate::tests::played::{Told, in_brief};

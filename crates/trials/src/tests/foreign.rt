@@ -6,8 +6,8 @@ use crate::tests::echoing::{
     world,
 };
 use crate::tests::played::Told;
+use iss_causes::Why;
 use iss_keys::Keys;
-use iss_model::Why;
 use iss_request::{Bytes, Epoch, Kind};
 use iss_world::World;
 use sb_echo::Echo;

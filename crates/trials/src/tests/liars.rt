@@ -6,7 +6,7 @@ use crate::tests::echoing::{
     take, world,
 };
 use crate::tests::played::{Told, in_brief};
-use iss_model::Why;
+use iss_causes::Why;
 use iss_request::{Bytes, Kind, NoMemory};
 use iss_schedule::Event;
 use iss_world::World;

@@ -7,8 +7,8 @@ use crate::tests::echoing::{
     request, request_packet, signature, take, world,
 };
 use crate::tests::played::Told;
+use iss_causes::{Refusal, Why};
 use iss_keys::Keys;
-use iss_model::{Refusal, Why};
 use iss_request::{Bytes, Kind, NoMemory};
 use iss_world::World;
 use sb_echo::Echo;

@@ -1,11 +1,11 @@
 //! Schedules of three nodes, and what their events make of a world.
 ghost use Rattle.std.specs.Prelude.{◌≡◌, IfOk};
-ghost use Rattle.iss_model.specs.Runs.{IsSetupOf};
+ghost use Rattle.iss_rules.specs.Setups.{IsSetupOf};
 ghost use Rattle.iss_request.specs.Setup.{IsGoodSetup};
 ghost use Rattle.iss_schedule.specs.Events.{AreInRange};
 ghost use Rattle.sb_relay.specs.Relay.{relay};
 
-use iss_model::Why;
+use iss_causes::Why;
 use iss_request::NoMemory;
 use iss_schedule::{Schedule, read};
 use iss_world::{Happened, World};

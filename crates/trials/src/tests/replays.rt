@@ -1,6 +1,6 @@
 //! A replay and its text. What is expected is what another program prints for the same schedule.
 use crate::tests::played::schedule_of;
-use iss_model::Why;
+use iss_causes::Why;
 use iss_replay::{Report, replay, text};
 use sb_relay::Relay;
 use std::alloc::Global;

@@ -1,11 +1,11 @@
 //! A node of the relay whose keys have been used up.
 ghost use Rattle.std.specs.Prelude.{◌≡◌, ◌≤◌, IfOk};
 ghost use Rattle.iss_keys.specs.Directories.{AreKeysOf};
-ghost use Rattle.iss_model.specs.Runs.{IsSetupOf};
+ghost use Rattle.iss_rules.specs.Setups.{IsSetupOf};
 ghost use Rattle.sb_relay.specs.Relay.{relay};
 
+use iss_causes::{NodeEvent, Why};
 use iss_keys::Keys;
-use iss_model::{NodeEvent, Why};
 use iss_node::{Answer, Node};
 use iss_request::{Kind, NoMemory, NodeId, Nodes, Policy, Setup};
 use iss_world::cores::directory_of;

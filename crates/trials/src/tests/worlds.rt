@@ -1,7 +1,7 @@
 //! Each event of a world. What is expected is what another program says of the same schedule.
 use crate::tests::played::Told::{self, Done, Lost};
 use crate::tests::played::{play, schedule_of};
-use iss_model::Why;
+use iss_causes::Why;
 use iss_request::{Epoch, ReqId, Request, Value};
 use std::alloc::Global;
 use std::process::Abort;

@@ -1,6 +1,6 @@
 use Rattle.std.proofs.Common.{◌∙◌, ◌<◌, ◌∷◌, ◌++◌, [], ℕ, List, ap, arith, length, take}
 use Rattle.iss_ballots.proofs.PacketLemmas.{claims-next}
-use Rattle.iss_model.specs.Node.{claims_by}
+use Rattle.iss_rules.specs.Votes.{claims_by}
 use Rattle.iss_sb.specs.declared.effects.Claim.{Claim}
 use Rattle.iss_ballots.proofs.claims.claims_by.Goals as goal
 

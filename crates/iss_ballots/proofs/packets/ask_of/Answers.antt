@@ -1,6 +1,6 @@
 use Rattle.std.proofs.Common.{ap, refl, sym, ◌∙◌}
 use Rattle.iss_transfer.specs.Bodies.{parse_ask}
-use Rattle.iss_model.specs.Formats.{whole}
+use Rattle.iss_rules.specs.Formats.{whole}
 use Rattle.iss_ballots.proofs.PacketLemmas.{all-whole}
 use Rattle.iss_ballots.proofs.packets.ask_of.Goals as goal
 

@@ -1,6 +1,6 @@
 use Rattle.std.proofs.Common.{ap, refl, sym, ◌∙◌}
 use Rattle.iss_checkpoint.specs.Bodies.{parse_vote}
-use Rattle.iss_model.specs.Formats.{whole}
+use Rattle.iss_rules.specs.Formats.{whole}
 use Rattle.iss_ballots.proofs.PacketLemmas.{all-whole}
 use Rattle.iss_ballots.proofs.packets.vote_of.Goals as goal
 

@@ -1,6 +1,6 @@
 use Rattle.std.proofs.Common.{◌∙◌, ap, ◌<◌, ◌++◌, ◌∷◌, [], length, arith, refl}
-use Rattle.iss_model.specs.Formats.{formats_of}
-use Rattle.iss_model.specs.Node.{OfModule}
+use Rattle.iss_rules.specs.Formats.{formats_of}
+use Rattle.iss_rules.specs.Parcels.{OfModule}
 use Rattle.iss_node.proofs.ParcelLemmas.{packed-next}
 use Rattle.iss_node.proofs.parcels.pack.Goals as goal
 

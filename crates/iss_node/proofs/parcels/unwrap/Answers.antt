@@ -1,6 +1,6 @@
 use Rattle.std.proofs.Common.{sym, refl, ap}
 use Rattle.iss_ballots.proofs.PacketLemmas.{all-whole}
-use Rattle.iss_model.specs.Formats.{parcel_in}
+use Rattle.iss_rules.specs.Formats.{parcel_in}
 use Rattle.iss_packet.specs.Packets.{parse_packet}
 use Rattle.iss_node.proofs.parcels.unwrap.Goals as goal
 

@@ -1,5 +1,5 @@
-use Rattle.iss_model.specs.Concrete.{rules_of}
-use Rattle.iss_model.specs.Formats.{formats_of}
+use Rattle.iss_rules.specs.Concrete.{rules_of}
+use Rattle.iss_rules.specs.Formats.{formats_of}
 use Rattle.iss_replay.proofs.RunLemmas.{has-collided, was-forged, was-lost, went-on}
 use Rattle.iss_replay.proofs.replays.go_on.Goals as goal
 

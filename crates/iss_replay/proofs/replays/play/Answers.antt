@@ -1,8 +1,8 @@
 use Rattle.std.proofs.Common.{◌<◌, ◌≡◌, ◌∙◌, length, arith, List, subst, ap, get_or, take, None, Some, Option, ◌+◌}
-use Rattle.iss_model.specs.OneLog.{run_after}
+use Rattle.iss_theorems.specs.OneLog.{run_after}
 use Rattle.iss_model.specs.Run.{goes_on}
-use Rattle.iss_model.specs.Concrete.{rules_of}
-use Rattle.iss_model.specs.Formats.{formats_of}
+use Rattle.iss_rules.specs.Concrete.{rules_of}
+use Rattle.iss_rules.specs.Formats.{formats_of}
 use Rattle.iss_schedule.specs.declared.schedules.Event.{Event}
 use Rattle.iss_replay.specs.Stands.{StandsForRun, numbered}
 use Rattle.iss_replay.proofs.RunLemmas.{in-range-at, number-next, run-next, run-over}

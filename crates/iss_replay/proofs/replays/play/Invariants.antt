@@ -1,5 +1,5 @@
 use Rattle.std.proofs.Common.{◌≡◌, None, take}
-use Rattle.iss_model.specs.OneLog.{run_after}
+use Rattle.iss_theorems.specs.OneLog.{run_after}
 use Rattle.iss_replay.specs.Stands.{StandsForRun}
 use Rattle.iss_replay.proofs.replays.play.Given as goal
 

@@ -1,4 +1,4 @@
-use Rattle.iss_model.specs.OneLog.{run_after}
+use Rattle.iss_theorems.specs.OneLog.{run_after}
 use Rattle.iss_model.proofs.Ranges.{at-cores}
 use Rattle.iss_node.proofs.SettleLemmas.{if-ok}
 use Rattle.iss_replay.proofs.texts.text.Goals as goal

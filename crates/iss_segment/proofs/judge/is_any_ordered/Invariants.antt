@@ -1,5 +1,5 @@
 use Rattle.std.proofs.Common.{◌≡◌, List, drop}
-use Rattle.iss_model.specs.Judge.{any}
+use Rattle.iss_rules.specs.Judge.{any}
 use Rattle.iss_request.specs.Log.{has_id, log_ids}
 use Rattle.iss_request.specs.declared.requests.Request.{Request}
 use Rattle.iss_request.specs.declared.requests.Value.{Value}

@@ -1,6 +1,6 @@
 use Rattle.std.proofs.Common.{◌≡◌, List, drop}
 use Rattle.std.specs.Prelude.{not}
-use Rattle.iss_model.specs.Judge.{any}
+use Rattle.iss_rules.specs.Judge.{any}
 use Rattle.iss_request.specs.Log.{log_ids}
 use Rattle.iss_request.specs.declared.requests.Request.{Request}
 use Rattle.iss_request.specs.declared.requests.Value.{Value}

@@ -1,7 +1,7 @@
 use Rattle.std.proofs.Common.{◌<◌, ◌^◌, ◌∙◌, List, ℕ, ap, refl, subst, sym}
 use Rattle.iss_keys.specs.KeyStates.{KeyState}
-use Rattle.iss_model.specs.Formats.{formats_of}
-use Rattle.iss_model.specs.Node.{OfRequest}
+use Rattle.iss_rules.specs.Formats.{formats_of}
+use Rattle.iss_rules.specs.Parcels.{OfRequest}
 use Rattle.iss_request.specs.declared.requests.Request.{Request}
 use Rattle.iss_world.proofs.KeyLemmas.{client-keys, client-number, signed-request}
 use Rattle.iss_world.proofs.requests.request_packet.Goals as goal

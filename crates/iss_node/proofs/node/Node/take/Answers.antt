@@ -1,6 +1,6 @@
 use Rattle.std.proofs.Common.{ap, rules, ◌≡◌, Bool, false, refl, sym, subst}
-use Rattle.iss_model.specs.Concrete.{rules_of}
-use Rattle.iss_model.specs.Formats.{formats_of}
+use Rattle.iss_rules.specs.Concrete.{rules_of}
+use Rattle.iss_rules.specs.Formats.{formats_of}
 use Rattle.iss_model.specs.Node.{step}
 use Rattle.iss_node.proofs.NodeLemmas.{answer-taken, node-taken}
 use Rattle.iss_node.specs.Shape.{IsNode}

@@ -1,5 +1,5 @@
 use Rattle.std.proofs.Common.{◌≡◌, ◌∙◌, ◌+◌, map, refl, sym, subst}
-use Rattle.iss_model.specs.Concrete.{rules_of}
+use Rattle.iss_rules.specs.Concrete.{rules_of}
 use Rattle.iss_model.specs.Views.{is_unfilled, unfilled}
 use Rattle.iss_node.proofs.ViewLemmas.{unfilled-more, unfilled-same}
 use Rattle.iss_node.specs.State.{IsTied, NodeState}

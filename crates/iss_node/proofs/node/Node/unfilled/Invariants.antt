@@ -1,6 +1,6 @@
 use Rattle.std.proofs.Common.{◌≡◌, map}
 use Rattle.iss_model.specs.Node.{Core}
-use Rattle.iss_model.specs.Concrete.{rules_of}
+use Rattle.iss_rules.specs.Concrete.{rules_of}
 use Rattle.iss_model.specs.Views.{unfilled}
 use Rattle.iss_node.specs.State.{Stands}
 use Rattle.iss_node.proofs.node.Node.unfilled.Given as goal

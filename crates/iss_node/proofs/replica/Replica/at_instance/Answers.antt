@@ -1,5 +1,5 @@
 use Rattle.std.proofs.Common.{◌∙◌, subst, sym, true}
-use Rattle.iss_model.specs.Formats.{formats_of}
+use Rattle.iss_rules.specs.Formats.{formats_of}
 use Rattle.iss_node.proofs.InstanceLemmas.{drops-claims, drops-keys, drops-refused, leads-is, takes-input, turned}
 use Rattle.iss_node.specs.Shape.{IsReplica}
 use Rattle.iss_node.specs.State.{ReplicaState}

@@ -1,6 +1,6 @@
 use Rattle.std.proofs.Common.{ap, subst}
 use Rattle.std.proofs.lemmas.Result.{IfOk-weaker}
-use Rattle.iss_model.specs.Formats.{formats_of}
+use Rattle.iss_rules.specs.Formats.{formats_of}
 use Rattle.iss_model.specs.Node.{inputs}
 use Rattle.iss_node.proofs.CastLemmas.{cast-turned}
 use Rattle.iss_node.proofs.NextLemmas.{uncut-shape}

@@ -1,8 +1,8 @@
 use Rattle.std.proofs.Common.{◌≡◌, ◌∙◌, ap}
 use Rattle.std.proofs.lemmas.Result.{IfOk-weaker}
-use Rattle.iss_model.specs.Concrete.{rules_of}
+use Rattle.iss_rules.specs.Concrete.{rules_of}
 use Rattle.iss_model.specs.Node.{claims_in}
-use Rattle.iss_model.specs.Past.{Past}
+use Rattle.iss_rules.specs.Past.{Past}
 use Rattle.iss_node.proofs.ClaimLemmas.{claims-led}
 use Rattle.iss_node.specs.State.{IsTied}
 use Rattle.iss_node.proofs.replica.Replica.claims_in.Goals as goal

@@ -1,6 +1,6 @@
 use Rattle.std.proofs.Common.{◌∙◌, ap, refl, subst, sym}
-use Rattle.iss_model.specs.Concrete.{rules_of}
-use Rattle.iss_model.specs.Formats.{parcel_in}
+use Rattle.iss_rules.specs.Concrete.{rules_of}
+use Rattle.iss_rules.specs.Formats.{parcel_in}
 use Rattle.iss_model.specs.Views.{claims_of_parcel}
 use Rattle.iss_ballots.proofs.PacketLemmas.{all-whole}
 use Rattle.iss_node.specs.State.{ReplicaState}

@@ -1,4 +1,4 @@
-use Rattle.iss_model.proofs.FromNodes.{sender}
+use Rattle.iss_rules.proofs.FromNodes.{sender}
 use Rattle.iss_node.proofs.replica.Replica.claims_of_packet.Goals as goal
 
 pub claims_of_message-requires : goal.claims_of_message-requires

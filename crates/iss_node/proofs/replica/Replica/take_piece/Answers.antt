@@ -1,5 +1,5 @@
 use Rattle.std.proofs.Common.{arith, ◌≤◌, ap, subst}
-use Rattle.iss_model.specs.declared.causes.Why.TheVariants.{BadClaim, OtherEpoch, WrongChain}
+use Rattle.iss_causes.specs.declared.causes.Why.TheVariants.{BadClaim, OtherEpoch, WrongChain}
 use Rattle.iss_node.proofs.PieceLemmas.{piece-refused, piece-taken, step_by}
 use Rattle.iss_node.specs.Shape.{IsReplica}
 use Rattle.iss_node.specs.State.{ReplicaState}

@@ -1,7 +1,7 @@
 use Rattle.std.proofs.Common.{◌≡◌, ◌++◌, ◌∷◌, [], true, false, refl, sym, ap, subst}
-use Rattle.iss_model.specs.Concrete.{rules_of}
+use Rattle.iss_rules.specs.Concrete.{rules_of}
 use Rattle.iss_model.specs.Node.{rests}
-use Rattle.iss_model.specs.Past.{before_own, log_of}
+use Rattle.iss_rules.specs.Past.{before_own, log_of}
 use Rattle.iss_node.proofs.InstanceLemmas.{same-parts}
 use Rattle.iss_node.proofs.MadeLemmas.{nothing-made, nothing-sent}
 use Rattle.iss_node.proofs.RequestLemmas.{inside-found, known-is, known-waits, logged-all, request-is, waits-parts}

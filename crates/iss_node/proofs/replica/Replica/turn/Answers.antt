@@ -1,5 +1,5 @@
 use Rattle.iss_model.specs.Node.{at_instance, settled, step}
-use Rattle.iss_model.specs.declared.causes.NodeEvent.TheVariants.{Propose}
+use Rattle.iss_causes.specs.declared.causes.NodeEvent.TheVariants.{Propose}
 use Rattle.iss_node.proofs.HeldLemmas.{fired-held, proposed-held}
 use Rattle.iss_node.proofs.InstanceLemmas.{later-trans}
 use Rattle.iss_node.proofs.LiftLemmas.{held-ok, settled-ok}

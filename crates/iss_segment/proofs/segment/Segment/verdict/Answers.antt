@@ -1,6 +1,6 @@
 use Rattle.std.proofs.Common.{refl}
 use Rattle.iss_sb.specs.Evidence.{accepts}
-use Rattle.iss_model.specs.Concrete.{rules_of}
+use Rattle.iss_rules.specs.Concrete.{rules_of}
 use Rattle.iss_segment.proofs.SegmentLemmas.{verdict-at}
 use Rattle.iss_segment.proofs.segment.Segment.verdict.Goals as goal
 

@@ -1,5 +1,5 @@
 use Rattle.std.proofs.Common.{List, ◌++◌, take}
-use Rattle.iss_model.specs.Cluster.{Signed}
+use Rattle.iss_rules.specs.Books.{Signed}
 use Rattle.iss_model.specs.Run.{as_signed}
 use Rattle.iss_world.specs.Books.{AreSigned}
 use Rattle.iss_world.proofs.claims.Claims.book.Given as goal

@@ -1,5 +1,5 @@
 use Rattle.std.proofs.Common.{◌<◌, ◌∙◌, length, arith, sym}
-use Rattle.iss_model.specs.Concrete.{rules_of}
+use Rattle.iss_rules.specs.Concrete.{rules_of}
 use Rattle.iss_world.proofs.BookLemmas.{forged-here, forged-next}
 use Rattle.iss_world.proofs.claims.Claims.first_forged.Goals as goal
 

@@ -1,6 +1,6 @@
 use Rattle.std.proofs.Common.{◌≡◌, List, None, take}
-use Rattle.iss_model.specs.Cluster.{Signed}
-use Rattle.iss_model.specs.Concrete.{rules_of}
+use Rattle.iss_rules.specs.Books.{Signed}
+use Rattle.iss_rules.specs.Concrete.{rules_of}
 use Rattle.iss_model.specs.Run.{first_forged}
 use Rattle.iss_world.specs.Books.{AreSigned}
 use Rattle.iss_world.proofs.claims.Claims.first_forged.Given as goal

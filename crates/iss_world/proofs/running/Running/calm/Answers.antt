@@ -1,6 +1,6 @@
 use Rattle.std.proofs.Common.{◌∙◌, ◌<◌, ◌≡◌, ℕ, length, arith, ap, subst, sym}
-use Rattle.iss_model.specs.Concrete.{rules_of}
-use Rattle.iss_model.specs.Formats.{formats_of}
+use Rattle.iss_rules.specs.Concrete.{rules_of}
+use Rattle.iss_rules.specs.Formats.{formats_of}
 use Rattle.iss_model.specs.Run.{calms}
 use Rattle.iss_network.specs.Network.{Network, due}
 use Rattle.iss_world.specs.Stands.{HasChanged, Runs}

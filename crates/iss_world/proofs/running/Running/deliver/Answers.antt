@@ -1,6 +1,6 @@
 use Rattle.std.proofs.Common.{sym, subst, refl, ap, ◌∙◌}
-use Rattle.iss_model.specs.Concrete.{rules_of}
-use Rattle.iss_model.specs.Formats.{formats_of}
+use Rattle.iss_rules.specs.Concrete.{rules_of}
+use Rattle.iss_rules.specs.Formats.{formats_of}
 use Rattle.iss_model.specs.Run.{cores_of, with_network}
 use Rattle.iss_network.specs.Network.{Network, settled}
 use Rattle.iss_world.specs.Stands.{Runs}

@@ -1,7 +1,7 @@
 use Rattle.std.proofs.Common.{◌∙◌, ◌<◌, ◌≤◌, ℕ, List, length, arith, subst}
 use Rattle.iss_network.proofs.Keeping.{any_default}
-use Rattle.iss_model.specs.Concrete.{rules_of}
-use Rattle.iss_model.specs.Formats.{formats_of}
+use Rattle.iss_rules.specs.Concrete.{rules_of}
+use Rattle.iss_rules.specs.Formats.{formats_of}
 use Rattle.iss_model.specs.Run.{delivers_each}
 use Rattle.iss_world.specs.Stands.{HasChanged}
 use Rattle.iss_world.specs.declared.ends.Change.TheVariants.{Done}

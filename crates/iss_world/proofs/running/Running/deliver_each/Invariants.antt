@@ -1,6 +1,6 @@
 use Rattle.std.proofs.Common.{◌≡◌, take}
-use Rattle.iss_model.specs.Concrete.{rules_of}
-use Rattle.iss_model.specs.Formats.{formats_of}
+use Rattle.iss_rules.specs.Concrete.{rules_of}
+use Rattle.iss_rules.specs.Formats.{formats_of}
 use Rattle.iss_model.specs.Run.{Held, delivers_each}
 use Rattle.iss_world.specs.Stands.{HasChanged, Runs}
 use Rattle.iss_world.specs.declared.ends.Change.TheVariants.{Done}

@@ -1,6 +1,6 @@
 use Rattle.std.proofs.Common.{sym, ◌∙◌, ◌≡◌, false, ap}
-use Rattle.iss_model.specs.Concrete.{rules_of}
-use Rattle.iss_model.specs.Formats.{formats_of}
+use Rattle.iss_rules.specs.Concrete.{rules_of}
+use Rattle.iss_rules.specs.Formats.{formats_of}
 use Rattle.iss_world.specs.State.{RunningState}
 use Rattle.iss_world.proofs.BookLemmas.{if-ok}
 use Rattle.iss_world.proofs.CourseLemmas.{happened-injected, not-stopping}

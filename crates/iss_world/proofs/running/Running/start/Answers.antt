@@ -1,5 +1,5 @@
 use Rattle.std.proofs.Common.{◌∙◌, ap, sym}
-use Rattle.iss_model.specs.Concrete.{keys_of}
+use Rattle.iss_rules.specs.Concrete.{keys_of}
 use Rattle.iss_request.specs.declared.setups.Setup.{Setup}
 use Rattle.iss_world.proofs.CoreLemmas.{fresh-running, fresh-runs}
 use Rattle.iss_world.proofs.running.Running.start.Goals as goal

@@ -1,6 +1,6 @@
 use Rattle.std.proofs.Common.{subst, sym}
-use Rattle.iss_model.specs.OneLog.{run_after}
-use Rattle.iss_model.specs.Runs.{IsSetupOf}
+use Rattle.iss_theorems.specs.OneLog.{run_after}
+use Rattle.iss_rules.specs.Setups.{IsSetupOf}
 use Rattle.iss_request.specs.declared.setups.Setup.{Setup}
 use Rattle.iss_schedule.specs.Events.{IsInRange}
 use Rattle.iss_world.specs.Stands.{awake}

@@ -1,0 +1,13 @@
+pub mod Good
+pub mod Kept
+pub mod Agree
+pub mod Once
+pub mod Chains
+pub mod Moves
+pub mod Ends
+pub mod Adopts
+pub mod Reached
+pub mod Instances
+pub mod Statements
+pub mod Checkpoints
+pub mod Signing

@@ -1,0 +1,12 @@
+use Rattle.iss_cluster.proofs.Instances.{claim-head, claim-vote, claims-same, votes-same}
+use Rattle.iss_cluster.proofs.theorems.claims_are_of_one_instance.Goals as goal
+
+pub returns : goal.returns
+returns g c =
+    let M = g.M.Sequenced.meaning in
+    record {
+      one = claims-same M c.laws.ensures.lawful;
+      head = claim-head M c.laws.ensures.lawful;
+      vote = claim-vote M c.laws.ensures.lawful;
+      votes = votes-same;
+    }

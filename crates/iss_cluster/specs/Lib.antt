@@ -1,0 +1,4 @@
+pub mod Cluster
+pub mod Ordered
+pub mod Checkpoints
+pub mod Instances

@@ -1,5 +1,0 @@
-use Rattle.iss_model.proofs.Layouts.{request-signed}
-use Rattle.iss_model.proofs.theorems.requests_are_signed.Goals as goal
-
-pub returns : goal.returns
-returns c = λ s client number payload good below leaf few. request-signed s client number payload good.keys_high below leaf few

@@ -1,9 +1,0 @@
-use Rattle.iss_model.proofs.Evidence.{has-evidence}
-use Rattle.iss_model.proofs.Written.{faithful}
-use Rattle.iss_model.proofs.theorems.runs_end_with_evidence.Goals as goal
-
-pub returns : goal.returns
-returns g c =
-    let M = g.M.Sequenced.meaning in
-    let laws = c.laws.ensures in
-    λ s h. has-evidence s M h (faithful s M laws.grammar) laws.lawful laws.safe

@@ -1,0 +1,14 @@
+pub mod Nodes
+pub mod Reversed
+pub mod Epochs
+pub mod Logs
+pub mod Longest
+pub mod Ending
+pub mod Pieces
+pub mod Ids
+pub mod Judged
+pub mod Layouts
+pub mod Windows
+pub mod Written
+pub mod Checked
+pub mod FromNodes

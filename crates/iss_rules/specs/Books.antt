@@ -1,0 +1,6 @@
+-- What stands in the book of signed statements.
+use Rattle.std.specs.Prelude.{ℕ, List}
+
+pub record Signed : Type 0 where
+  pub by : ℕ
+  pub statement : List ℕ

@@ -1,0 +1,86 @@
+-- The rules of a cluster under its set-up.
+use Rattle.std.specs.Prelude.{ℕ, zero, suc, ◌-◌, ◌^◌, ◌&&◌, Bool, List, ◌∷◌, ◌++◌, length, reverse, cond, nat_le, nat_lt, Option, Some, None}
+use Rattle.std.specs.Int.{to_be_bytes, w16, w32}
+use Rattle.iss_checkpoint.specs.Votes.{vote_statement}
+use Rattle.iss_keys.specs.Directories.{DirectoryView, directory_of, node_secret, client_secret}
+use Rattle.iss_keys.specs.Signatures.{signature_of}
+use Rattle.iss_keys.specs.VerifiedBy.{is_verified_by}
+use Rattle.iss_layout.specs.Layout.{Plan, bucket_of, bucket_owner, leads, plan_of, segment, slot_leader}
+use Rattle.iss_log.specs.Chains.{chain_of, end_of, strings_from}
+use Rattle.iss_request.specs.Log.{log_ids}
+use Rattle.iss_request.specs.declared.ids.NodeId.{NodeId}
+use Rattle.iss_request.specs.declared.ids.ReqId.{ReqId}
+use Rattle.iss_request.specs.declared.requests.Request.{Request}
+use Rattle.iss_request.specs.declared.requests.Value.{Value}
+use Rattle.iss_request.specs.declared.setups.Setup.{Setup}
+use Rattle.iss_window.specs.Window.{is_inside, place_of}
+use Rattle.iss_rules.specs.Past.{start_by}
+use Rattle.iss_rules.specs.Rules.{Rules}
+
+abbrev pub number_of : Option NodeId → ℕ
+number_of None = 0
+number_of (Some l) = l.0
+
+-- every epoch has K slots
+abbrev pub slots_at : Setup → List Value → ℕ → ℕ
+slots_at s log e = s.epoch
+
+abbrev pub least : ℕ → ℕ → ℕ
+least a b = cond (nat_le a b) a b
+
+-- where an epoch starts, by the log before it: the sum of the lengths of those before it. Slots are numbers below 2^64, so
+-- that no epoch is given a start from which it would pass them
+abbrev pub start_at : Setup → List Value → ℕ → ℕ
+start_at s log zero = 0
+start_at s log (suc e) = least (start_by (slots_at s) log (suc e)) (2 ^ 64 - slots_at s log (suc e))
+
+-- its division
+abbrev pub plan_at : Setup → List Value → ℕ → Plan
+plan_at s log e = plan_of s e (start_at s log e) log
+
+-- the keys of all nodes and clients
+abbrev pub keys_of : Setup → DirectoryView
+keys_of s = directory_of s.n s.clients s.keys
+
+-- what a client signs: a byte that no other statement begins with, who it is, the request's number, and the payload behind its length
+abbrev pub request_statement : ReqId → List ℕ → List ℕ
+request_statement id payload = 0x30 ∷ id.client ∷ to_be_bytes w32 id.number ++ to_be_bytes w16 (length payload) ++ payload
+
+-- whether a request is signed by its client. No statement has a number of more than four bytes, nor a payload of more than 256
+abbrev pub is_signed_by : DirectoryView → Request → Bool
+is_signed_by d q =
+    nat_lt q.id.number (2 ^ 32) && (nat_le (length q.payload) 256 && is_verified_by d.clients q.id.client (request_statement q.id q.payload) q.sig)
+
+-- epochs are divided by the layout, and nodes and clients sign by their keys
+abbrev pub rules_of : Setup → Rules
+rules_of s =
+    record {
+      slots = slots_at s;
+      most = s.epoch;
+      leader = λ log e slot. number_of (slot_leader (plan_at s log e) slot);
+      leads = λ log e l. leads (plan_at s log e) l;
+      owner = λ log e id. number_of (bucket_owner (plan_at s log e) (bucket_of (plan_at s log e) id));
+      signed = λ q. is_signed_by (keys_of s) q;
+      inside = λ log e id. is_inside (place_of s.window (log_ids log) id);
+      batch = s.batch;
+      verifies = λ k statement sig. is_verified_by (keys_of s).nodes k statement sig;
+      params = λ log e l. record {
+        setup = s;
+        epoch = record { 0 = e };
+        leader = record { 0 = l };
+        slots = segment (plan_at s log e) l;
+        directory = keys_of s;
+      };
+      end = λ log. end_of s.version (reverse log);
+      hashes = λ log values. strings_from s.version (chain_of s.version (reverse log)) values;
+      nodes = s.n;
+      quorum = s.quorum;
+      voted = λ e chain number. vote_statement s.tag e chain number;
+      signature = λ me leaf statement. signature_of (node_secret me) s.keys leaf statement;
+    }
+
+-- a request that its client signed, by the leaf of the request's number
+abbrev pub request_of : Setup → ℕ → ℕ → List ℕ → Request
+request_of s client number payload =
+    let id : ReqId = record { client = client; number = number } in
+    record { id = id; payload = payload; sig = signature_of (client_secret client) s.keys number (request_statement id payload) }

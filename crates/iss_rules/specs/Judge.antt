@@ -1,0 +1,41 @@
+-- Whether a batch is accepted in a segment: the first refusal that holds of any of its requests.
+use Rattle.std.specs.Prelude.{◌≡◌, ℕ, Bool, false, not, ◌||◌, ◌==◌, nat_lt, cond, List, [], ◌∷◌, ◌++◌, length, Option, Some, None}
+use Rattle.std.specs.List.{list_any}
+use Rattle.iss_request.specs.Log.{has_id, ids, log_ids}
+use Rattle.iss_request.specs.declared.ids.ReqId.{ReqId}
+use Rattle.iss_request.specs.declared.ids.Slot.{Slot}
+use Rattle.iss_request.specs.declared.requests.Batch.{Batch}
+use Rattle.iss_request.specs.declared.requests.Request.{Request}
+use Rattle.iss_request.specs.declared.requests.Value.{Value}
+use Rattle.iss_causes.specs.declared.causes.Refusal.{Refusal}
+use Rattle.iss_causes.specs.declared.causes.Refusal.TheVariants.{TooLarge, ForeignBucket, BadSignature, OutOfWindow, Ordered, Marked}
+use Rattle.iss_rules.specs.Rules.{Rules}
+
+-- one of them passes the test
+abbrev pub any : {A : Type 0} → (A → Bool) → List A → Bool
+any p xs = list_any p xs
+
+-- an identity of the list stands among those that are marked, or twice in it
+abbrev pub any_marked : List ReqId → List ReqId → Bool
+any_marked marked [] = false
+any_marked marked (x ∷ xs) = has_id x marked || any_marked (x ∷ marked) xs
+
+-- none where the batch is accepted in epoch e by the leader l, over the log before e and the marks so far
+abbrev pub judge : Rules → List Value → ℕ → ℕ → List ReqId → Batch → Option Refusal
+judge R before e l marked batch =
+    cond (nat_lt R.batch (length batch)) (Some TooLarge)
+    (cond (any (λ (q : Request). not (R.owner before e q.id == l)) batch) (Some ForeignBucket)
+    (cond (any (λ (q : Request). not (R.signed q)) batch) (Some BadSignature)
+    (cond (any (λ (q : Request). not (R.inside before e q.id)) batch) (Some OutOfWindow)
+    (cond (any (λ (q : Request). has_id q.id (log_ids before)) batch) (Some Ordered)
+    (cond (any_marked marked (ids batch)) (Some Marked) None)))))
+
+-- the identities of an accept list
+abbrev pub marks : List (Slot × Batch) → List ReqId
+marks [] = []
+marks (x ∷ xs) = ids x.1 ++ marks xs
+
+-- each entry of an accept list was accepted over the marks of the older ones
+abbrev pub Judged : Rules → List Value → ℕ → ℕ → List (Slot × Batch) → Type 0
+Judged R before e l [] = Unit {0}
+Judged R before e l (x ∷ xs) = Judged R before e l xs × (judge R before e l (marks xs) x.1 ≡ None)

@@ -1,0 +1,12 @@
+pub mod Books
+pub mod Faithful
+pub mod Parcels
+pub mod Setups
+pub mod SoundRules
+pub mod Verdicts
+pub mod Votes
+pub mod Judge
+pub mod Past
+pub mod Rules
+pub mod Concrete
+pub mod Formats

@@ -1,0 +1,95 @@
+-- Runs of four nodes that are computed, of which node 3 is faulty: it has two cores, 3 and its twin 4, and each takes its own
+-- course with the same keys.
+use Rattle.std.proofs.Common.{◌≡◌, ℕ, List, [], ◌∷◌, ◌++◌, length, None, refl}
+use Rattle.iss_request.specs.Formats.{spell_batch, spell_count, spell_request, spell_value}
+use Rattle.iss_request.specs.declared.requests.Batch.{Batch}
+use Rattle.iss_schedule.specs.declared.schedules.Event.{Event}
+use Rattle.iss_schedule.specs.declared.schedules.Event.TheVariants.{Request as Asks_order, Propose, Deliver, Calm, Hold, Bytes}
+use Rattle.iss_sb.specs.declared.effects.To.TheVariants.{All as To_all, One as To_one}
+use Rattle.iss_sb.specs.Statements.{wide_bytes}
+use Rattle.iss_causes.specs.declared.causes.Why.TheVariants.{BadClaim, NotLeader}
+use Rattle.iss_model.specs.Node.{Core}
+use Rattle.iss_model.specs.Run.{addressees, node_of}
+use Rattle.iss_model.proofs.Example.{plain_request}
+use Rattle.iss_theorems.proofs.Forging.{after, four, heard}
+use Rattle.iss_cluster.proofs.Signing.{Word}
+
+-- both cores are node 3's, and what is sent to node 3 goes to both
+same_node : node_of four 4 ≡ 3
+same_node = refl
+
+to_all : addressees four To_all ≡ 0 ∷ 1 ∷ 2 ∷ 3 ∷ 4 ∷ []
+to_all = refl
+
+to_one : addressees four (To_one (record { 0 = 3 })) ≡ 3 ∷ 4 ∷ []
+to_one = refl
+
+to_correct : addressees four (To_one (record { 0 = 2 })) ≡ 2 ∷ []
+to_correct = refl
+
+-- core 3 casts a request, and its twin, which has none, casts nothing, in the same slot
+abbrev asked : Batch
+asked = plain_request 0 3 (170 ∷ []) ∷ []
+
+abbrev both_cast : List Event
+both_cast = Asks_order 3 0 3 (170 ∷ []) ∷ Propose 3 ∷ Propose 4 ∷ []
+
+core : List Event → ℕ → Core Word
+core events c = (heard events).held.net.cores c
+
+one : (core both_cast 3).flight ≡ (record { 0 = 3 }, asked) ∷ []
+unfolding core wide_bytes spell_value spell_batch spell_count spell_request
+one = refl
+
+other : (core both_cast 4).flight ≡ (record { 0 = 3 }, []) ∷ []
+unfolding core wide_bytes spell_value spell_batch spell_count spell_request
+other = refl
+
+-- nothing of it is booked, and whoever hears either goes on
+unbooked : (heard (both_cast ++ Calm 1 ∷ [])).held.signed ≡ []
+unfolding wide_bytes spell_value spell_batch spell_count spell_request
+unbooked = refl
+
+goes_on : (heard (both_cast ++ Calm 1 ∷ [])).ended ≡ None
+unfolding wide_bytes spell_value spell_batch spell_count spell_request
+goes_on = refl
+
+-- core 3 is held, and its twin ends the epoch and casts in the next one under node 3's name
+abbrev ahead : List Event
+ahead =
+    Hold 3 ∷ Propose 0 ∷ Propose 1 ∷ Propose 2 ∷ Propose 3 ∷ Calm 1 ∷ Propose 0 ∷ Propose 1 ∷ Propose 2 ∷ Propose 4 ∷
+    Deliver 43 ∷ Deliver 48 ∷ Deliver 53 ∷ Deliver 58 ∷ []
+
+abbrev caught_up : List Event
+caught_up = ahead ++ Deliver 3 ∷ Deliver 8 ∷ Deliver 13 ∷ Deliver 18 ∷ []
+
+twin_next : (core ahead 4).past.epoch ≡ 1
+unfolding core wide_bytes spell_value spell_batch spell_count spell_request
+twin_next = refl
+
+still_first : (core ahead 3).past.epoch ≡ 0
+unfolding core wide_bytes spell_value spell_batch spell_count spell_request
+still_first = refl
+
+-- what comes early to core 3 of the next epoch
+kept : length (core ahead 3).early ≡ 4
+unfolding core wide_bytes spell_value spell_batch spell_count spell_request
+kept = refl
+
+-- ends that epoch too, once its own is over
+two_ended : (core caught_up 3).past.epoch ≡ 2
+unfolding core wide_bytes spell_value spell_batch spell_count spell_request
+two_ended = refl
+
+all_booked : (heard caught_up).ended ≡ None
+unfolding wide_bytes spell_value spell_batch spell_count spell_request
+all_booked = refl
+
+-- a message with a claim that does not verify is dropped for that, where its leader leads
+unverified : (after (Bytes 1 (0 ∷ 5 ∷ 0 ∷ 3 ∷ 3 ∷ 0 ∷ 0 ∷ 170 ∷ []) ∷ [])).drops ≡ (0, BadClaim) ∷ []
+unfolding wide_bytes spell_value spell_batch spell_count spell_request
+unverified = refl
+
+leaderless : (after (Bytes 1 (0 ∷ 5 ∷ 0 ∷ 4 ∷ 3 ∷ 0 ∷ 0 ∷ 170 ∷ []) ∷ [])).drops ≡ (0, NotLeader) ∷ []
+unfolding wide_bytes spell_value spell_batch spell_count spell_request
+leaderless = refl

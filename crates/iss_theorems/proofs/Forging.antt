@@ -1,0 +1,122 @@
+-- Runs of four nodes that are computed, of which the last is faulty: what is forged ends a run, and what was signed, or is
+-- in the faulty node's name, does not.
+use Rattle.std.proofs.Common.{◌≡◌, ℕ, ◌+◌, List, [], ◌∷◌, length, Some, None, refl}
+use Rattle.iss_request.specs.Formats.{spell_batch, spell_count, spell_request, spell_value}
+use Rattle.iss_request.specs.declared.requests.Batch.{Batch}
+use Rattle.iss_request.specs.declared.setups.Kind.TheVariants.{Byzantine}
+use Rattle.iss_request.specs.declared.setups.Policy.TheVariants.{Simple}
+use Rattle.iss_request.specs.declared.setups.Setup.{Setup}
+use Rattle.iss_schedule.specs.declared.schedules.Event.{Event}
+use Rattle.iss_schedule.specs.declared.schedules.Event.TheVariants.{Request as Asks_order, Propose, Calm, Bytes}
+use Rattle.iss_sb.specs.Evidence.{Module}
+use Rattle.iss_sb.specs.Statements.{wide_bytes}
+use Rattle.iss_rules.specs.Books.{Signed}
+use Rattle.iss_rules.specs.Concrete.{rules_of}
+use Rattle.iss_rules.specs.Rules.{Rules}
+use Rattle.iss_causes.specs.Ends.{Forged}
+use Rattle.iss_model.specs.Run.{Progress, begin_run, run}
+use Rattle.iss_model.proofs.Example.{first_told, light, plain_request, short}
+use Rattle.iss_cluster.proofs.Signing.{Word, claim_of, signing}
+
+abbrev pub four : Setup
+four = record {
+  version = 1;
+  «module» = 9;
+  f = 1;
+  epoch = 4;
+  buckets = 4;
+  batch = 4;
+  window = 8;
+  policy = Simple;
+  clients = 1;
+  keys = 4;
+  faulty =
+      record { 0 = 3 } ∷ [];
+  n = 4;
+  quorum = 3;
+  kind = Byzantine;
+  tag = [];
+}
+
+-- what a node or a client is said to have signed counts as verified, so that runs compute
+abbrev easy : Rules
+easy = light (rules_of four) 4
+
+abbrev batch : Batch
+batch = plain_request 0 0 (170 ∷ []) ∷ []
+
+abbrev pub after : List Event → Progress Word
+after events = run four short easy signing (begin_run four) events
+
+-- a message in the instance of a leader, under its name: slot and batch
+abbrev told : ℕ → List ℕ
+told leader = 0 ∷ leader ∷ 0 ∷ leader ∷ leader ∷ 0 ∷ 0 ∷ 170 ∷ []
+
+abbrev pub claim : ℕ → Signed
+claim leader = record { by = leader; statement = (claim_of ((rules_of four).params [] 0 leader) leader (record { 0 = leader }, batch)).statement }
+
+-- node 0 casts, and all take its message
+honest : (after (Asks_order 0 0 0 (170 ∷ []) ∷ Propose 0 ∷ Calm 5 ∷ [])).ended ≡ None
+unfolding wide_bytes spell_value spell_batch spell_count spell_request
+honest = refl
+
+booked : (after (Asks_order 0 0 0 (170 ∷ []) ∷ Propose 0 ∷ Calm 5 ∷ [])).held.signed ≡ claim 0 ∷ []
+unfolding wide_bytes spell_value spell_batch spell_count spell_request
+booked = refl
+
+-- the message again, from nowhere
+repeated : (after (Asks_order 0 0 0 (170 ∷ []) ∷ Propose 0 ∷ Bytes 1 (told 0) ∷ [])).ended ≡ None
+unfolding wide_bytes spell_value spell_batch spell_count spell_request
+repeated = refl
+
+-- before node 0 has signed it, it is forged, and the run ends: what follows does not happen
+forged : (after (Bytes 1 (told 0) ∷ Asks_order 0 0 0 (170 ∷ []) ∷ Propose 0 ∷ [])).ended ≡ Some
+    (0, Forged (claim_of ((rules_of four).params [] 0 0) 0 (record { 0 = 0 }, batch)))
+unfolding wide_bytes spell_value spell_batch spell_count spell_request
+forged = refl
+
+ended : (after (Bytes 1 (told 0) ∷ Asks_order 0 0 0 (170 ∷ []) ∷ Propose 0 ∷ [])).event ≡ 1
+unfolding wide_bytes spell_value spell_batch spell_count spell_request
+ended = refl
+
+-- the faulty node signs what it likes
+faulty : (after (Bytes 1 (told 3) ∷ [])).ended ≡ None
+unfolding wide_bytes spell_value spell_batch spell_count spell_request
+faulty = refl
+
+-- what comes early is read as its epoch begins. For this each node takes what a leader tells, so that epochs end
+abbrev hearing : Module Word
+hearing = record signing { decided = λ p me xs s. first_told p.leader.0 s xs }
+
+abbrev pub heard : List Event → Progress Word
+heard events = run four short easy hearing (begin_run four) events
+
+-- a message for the next epoch, in the name of a node, in the instance of a leader at its slot
+abbrev early : ℕ → ℕ → List ℕ
+early from leader = 0 ∷ from ∷ 1 ∷ leader ∷ (4 + leader) ∷ 0 ∷ 0 ∷ 170 ∷ []
+
+abbrev whole_epoch : List Event
+whole_epoch = Propose 0 ∷ Propose 1 ∷ Propose 2 ∷ Propose 3 ∷ Calm 1 ∷ []
+
+-- a forged one ends the run then, and not as it comes
+waits : (heard (Bytes 1 (early 0 0) ∷ [])).ended ≡ None
+unfolding wide_bytes spell_value spell_batch spell_count spell_request
+waits = refl
+
+early_forged : (heard (Bytes 1 (early 0 0) ∷ whole_epoch)).ended ≡ Some (5, Forged (claim_of ((rules_of four).params [] 1 0) 0 (record { 0 = 4 }, batch)))
+unfolding wide_bytes spell_value spell_batch spell_count spell_request
+early_forged = refl
+
+-- the faulty node's is taken
+early_taken : length (((heard (Bytes 1 (early 3 3) ∷ whole_epoch)).held.net.cores 1).past.evidence 1 3) ≡ 1
+unfolding wide_bytes spell_value spell_batch spell_count spell_request
+early_taken = refl
+
+-- and one that does not verify is gone
+early_gone : length (((heard (Bytes 1 (early 5 3) ∷ whole_epoch)).held.net.cores 1).past.evidence 1 3) ≡ 0
+unfolding wide_bytes spell_value spell_batch spell_count spell_request
+early_gone = refl
+
+early_next : (((heard (Bytes 1 (early 5 3) ∷ whole_epoch)).held.net.cores 1).past.epoch) ≡ 1
+unfolding wide_bytes spell_value spell_batch spell_count spell_request
+early_next = refl

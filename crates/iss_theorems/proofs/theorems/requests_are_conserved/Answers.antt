@@ -1,0 +1,12 @@
+use Rattle.iss_theorems.proofs.Conserved.{conserved}
+use Rattle.iss_theorems.proofs.OneLog.{cluster-run}
+use Rattle.iss_rules.proofs.Written.{faithful}
+use Rattle.iss_theorems.proofs.theorems.requests_are_conserved.Goals as goal
+
+pub returns : goal.returns
+returns g c =
+    let M = g.M.Sequenced.meaning in
+    let laws = c.laws.ensures in
+    λ s h once events low.
+    let written = faithful s M laws.grammar in
+    conserved s M h written laws.lawful laws.safe once events (cluster-run s M h written laws.lawful laws.safe events low)

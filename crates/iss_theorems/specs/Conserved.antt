@@ -1,0 +1,75 @@
+-- Where the requests are that a core took: each identity in one place.
+use Rattle.std.specs.Prelude.{◌≡◌, ◌⊎◌, ℕ, true, cond, ◌==◌, List, [], ◌∷◌, Option, Some, None}
+use Rattle.iss_base.specs.Lists.{In}
+use Rattle.iss_request.specs.Log.{ids, log_ids}
+use Rattle.iss_request.specs.declared.ids.ReqId.{ReqId}
+use Rattle.iss_request.specs.declared.ids.Slot.{Slot}
+use Rattle.iss_request.specs.declared.requests.Batch.{Batch}
+use Rattle.iss_request.specs.declared.setups.Setup.{Setup}
+use Rattle.iss_schedule.specs.declared.schedules.Event.{Event}
+use Rattle.iss_schedule.specs.declared.schedules.Event.TheVariants.{Request as Asks_order, Propose, Timeout, Ask, Deliver, Lose, Pump, Calm, Hold, Free, Drop, Bytes}
+use Rattle.iss_sb.specs.declared.effects.Params.{Params}
+use Rattle.iss_sb.specs.Calls.{IsGoodParams}
+use Rattle.iss_sb.specs.Evidence.{IsReached, IsString, Module, Separate, World, accepts, is_correct}
+use Rattle.iss_causes.specs.declared.causes.Why.{Why}
+use Rattle.iss_rules.specs.Concrete.{rules_of}
+use Rattle.iss_rules.specs.Formats.{formats_of}
+use Rattle.iss_rules.specs.Parcels.{Formats}
+use Rattle.iss_model.specs.Node.{Core, flown}
+use Rattle.iss_rules.specs.Past.{log_of}
+use Rattle.iss_rules.specs.Rules.{Rules}
+use Rattle.iss_theorems.specs.OneLog.{run_after}
+use Rattle.iss_model.specs.Run.{Happening, Progress, begin_run, goes_further, happens}
+
+-- the identity of a request event at core i that was not lost
+abbrev pub asked_by : ℕ → Event → Option Why → List ReqId
+asked_by i (Asks_order c client number payload) None = cond (c == i) (record { client = client; number = number } ∷ []) []
+asked_by i (Asks_order c client number payload) (Some why) = []
+asked_by i (Propose c) lost = []
+asked_by i (Timeout c l) lost = []
+asked_by i (Ask c peer) lost = []
+asked_by i (Deliver k) lost = []
+asked_by i (Lose k) lost = []
+asked_by i Pump lost = []
+asked_by i (Calm m) lost = []
+asked_by i (Hold c) lost = []
+asked_by i (Free c) lost = []
+asked_by i (Drop c) lost = []
+asked_by i (Bytes c bytes) lost = []
+
+-- what is asked for in the event in which a run ends, or later, is not taken
+abbrev pub unless_ended : {A : Type 0} → Option A → List ReqId → List ReqId
+unless_ended None xs = xs
+unless_ended (Some end) xs = []
+
+abbrev pub asked_in : {Msg : Type 0} → ℕ → Event → Happening Msg → List ReqId
+asked_in i e d = unless_ended d.ended (asked_by i e d.lost)
+
+-- the core took the identity by a request event in the course of these events
+abbrev pub WasAsked : {Msg : Type 0} → Setup → Formats Msg → Rules → Module Msg → Progress Msg → List Event → ℕ → ReqId → Type 0
+WasAsked s F R M p [] i x = ⊥
+WasAsked s F R M p (e ∷ es) i x =
+    In x (unless_ended p.ended (asked_in i e (happens s F R M p.held e))) ⊎
+    WasAsked s F R M (goes_further p.ended s F R M p e) es i x
+
+-- exactly one of three
+pub data One (A B C : Type 0) : Type 0 where
+  first : A → (B → ⊥) → (C → ⊥) → One A B C
+  second : (A → ⊥) → B → (C → ⊥) → One A B C
+  third : (A → ⊥) → (B → ⊥) → C → One A B C
+
+-- the identity is in the core's log, waits, or is in flight, and in no two of these
+abbrev pub IsInOnePlace : {Msg : Type 0} → Rules → Module Msg → ℕ → Core Msg → ReqId → Type 0
+IsInOnePlace R M i c x = One (In x (log_ids (log_of R M i c.past))) (In x (ids c.waiting)) (In x (flown c.flight))
+
+-- a correct leader accepts one batch at a slot, in every world that moves lead to
+abbrev pub AcceptsOnce : {Msg : Type 0} → Module Msg → Type 0
+AcceptsOnce {Msg} m =
+    (p : Params) (w : World Msg) → IsGoodParams m p → IsReached m p w → Separate (IsString w) → is_correct p.setup p.leader.0 ≡ true →
+    (slot : Slot) (b c : Batch) → In {A = Slot × Batch} (slot, b) (accepts (w p.leader.0)) → In {A = Slot × Batch} (slot, c) (accepts (w p.leader.0)) → b ≡ c
+
+-- each request that a correct core took is still there, once
+abbrev pub IsConserved : {Msg : Type 0} → Setup → Module Msg → List Event → Type 0
+IsConserved s M events =
+    (i : ℕ) → is_correct s i ≡ true → (x : ReqId) → WasAsked s (formats_of s M) (rules_of s) M (begin_run s) events i x →
+    IsInOnePlace (rules_of s) M i ((run_after s M events).held.net.cores i) x

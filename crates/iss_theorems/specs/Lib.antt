@@ -1,0 +1,5 @@
+pub mod Certified
+pub mod Conserved
+pub mod OneLog
+pub mod Turns
+pub mod Ends

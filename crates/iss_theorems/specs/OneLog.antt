@@ -1,0 +1,55 @@
+-- What a run prints, up to its end, and what a reader wants of it.
+use Rattle.std.specs.Prelude.{◌≡◌, ◌⊎◌, ℕ, true, List, ◌∷◌, ◌++◌, reverse}
+use Rattle.iss_request.specs.Log.{Once}
+use Rattle.iss_request.specs.declared.requests.Batch.{Batch}
+use Rattle.iss_request.specs.declared.requests.Value.{Value}
+use Rattle.iss_request.specs.declared.requests.Value.TheVariants.{Batch as Holds}
+use Rattle.iss_request.specs.declared.setups.Setup.{Setup}
+use Rattle.iss_schedule.specs.declared.schedules.Event.{Event}
+use Rattle.iss_sb.specs.Evidence.{Module, Separate, is_correct}
+use Rattle.iss_cluster.specs.Checkpoints.{scheme_of}
+use Rattle.iss_cluster.specs.Cluster.{Cluster, Reach}
+use Rattle.iss_rules.specs.Concrete.{rules_of}
+use Rattle.iss_rules.specs.Formats.{formats_of}
+use Rattle.iss_rules.specs.SoundRules.{IsSoundRules}
+use Rattle.iss_cluster.specs.Ordered.{Among, IsExact, WasAccepted}
+use Rattle.iss_rules.specs.Past.{Past, log_of}
+use Rattle.iss_model.specs.Run.{Progress, begin_run, run}
+use Rattle.iss_model.specs.Runs.{AreAtCores, IsPrefix, pasts_of}
+
+abbrev pub run_after : {Msg : Type 0} → Setup → Module Msg → List Event → Progress Msg
+run_after s M events = run s (formats_of s M) (rules_of s) M (begin_run s) events
+
+-- what each core took
+abbrev pub pasts_after : {Msg : Type 0} → Setup → Module Msg → List Event → ℕ → Past Msg
+pasts_after s M events = pasts_of (run_after s M events).held.net
+
+-- the log of a node, oldest first
+abbrev pub printed : {Msg : Type 0} → Setup → Module Msg → List Event → ℕ → List Value
+printed s M events i = reverse (log_of (rules_of s) M i (pasts_after s M events i))
+
+-- What the cores took is what the nodes of a cluster took after some moves, with the run's books, where logs are chained and
+-- voted for as the set-up has it; and all that was hashed is separate, since a collision would have ended the run.
+pub record IsClusterRun {Msg : Type 0} (s : Setup) (M : Module Msg) (events : List Event) : Type 0 where
+  pub cluster : Cluster Msg
+  pub pasts : cluster.pasts ≡ pasts_after s M events
+  pub book : cluster.book ≡ (run_after s M events).held.signed
+  pub strings : cluster.strings ≡ (run_after s M events).held.hashed
+  pub reached : Reach s (scheme_of s) (rules_of s) M cluster
+  pub sound : IsSoundRules s M (rules_of s)
+  pub exact : IsExact s (scheme_of s) cluster
+  pub separate : Separate (Among cluster.strings)
+
+-- The logs that correct nodes print are of one log, with no premise on claims or digests.
+pub record IsOneLog {Msg : Type 0} (s : Setup) (M : Module Msg) (events : List Event) : Type 0 where
+  -- of two logs one is the beginning of the other
+  pub prefix : (i j : ℕ) → is_correct s i ≡ true → is_correct s j ≡ true →
+      IsPrefix (printed s M events i) (printed s M events j) ⊎ IsPrefix (printed s M events j) (printed s M events i)
+  -- no request stands twice in a log
+  pub once : (i : ℕ) → is_correct s i ≡ true → Once (printed s M events i)
+  -- a correct node accepted each batch as valid, in the slot in which it is printed
+  pub valid : (i : ℕ) → is_correct s i ≡ true → (front back : List Value) (b : Batch) →
+      printed s M events i ≡ front ++ Holds b ∷ back → WasAccepted s (rules_of s) M (pasts_after s M events) (reverse front) b
+  -- more events only make logs longer
+  pub grows : (more : List Event) → AreAtCores s more → (i : ℕ) → is_correct s i ≡ true →
+      IsPrefix (printed s M events i) (printed s M (events ++ more) i)
