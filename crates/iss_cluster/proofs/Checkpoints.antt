@@ -17,15 +17,15 @@ use Rattle.iss_request.specs.declared.setups.Setup.{Setup}
 use Rattle.iss_request.proofs.OneSpelling.{value_grammar}
 use Rattle.iss_sb.specs.Evidence.{Module, Separate, has_node, is_correct}
 use Rattle.iss_sb.specs.Laws.{IsLawful, IsSafe}
-use Rattle.iss_checkpoint.proofs.SignedLemmas.{fewer}
-use Rattle.iss_transfer.proofs.AdoptionLemmas.{good-same, tail-same}
 use Rattle.iss_cluster.specs.Checkpoints.{is_good, scheme_of}
 use Rattle.iss_cluster.specs.Cluster.{Cluster, Reach}
-use Rattle.iss_rules.specs.SoundRules.{IsSoundRules}
 use Rattle.iss_cluster.specs.Ordered.{Among, AreChained, IsExact, Ordered}
+use Rattle.iss_rules.specs.SoundRules.{IsSoundRules}
 use Rattle.iss_rules.specs.Past.{before_at, epoch_at, leader_at}
 use Rattle.iss_rules.specs.Rules.{Rules}
 use Rattle.iss_cluster.proofs.Reached.{composition}
+use Rattle.iss_checkpoint.proofs.SignedLemmas.{fewer}
+use Rattle.iss_transfer.proofs.AdoptionLemmas.{good-same, tail-same}
 
 bad-good : (r : Parsed Value) → IsBad r → is_good r ≡ true → ⊥
 bad-good r b h = absurd (true≢false (sym h ∙ ap (λ (t : Parsed Value). is_good t) b.1))

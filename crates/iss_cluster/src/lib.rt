@@ -2,6 +2,8 @@
 //! logs of its correct nodes are of one log (ISS, whole protocol).
 #![tactic(auto)]
 
+pub mod one_instance;
 pub mod theorems;
 
-pub use theorems::{claims_are_of_one_instance, composition};
+pub use one_instance::claims_are_of_one_instance;
+pub use theorems::composition;

@@ -96,13 +96,14 @@ pub requests_more : (es : List Value) (v : Value) → requests (es ++ v ∷ []) 
 requests_more [] v = omega arith
 requests_more (x ∷ es) v = let more = requests_more es v in omega arith
 
--- the sum of the sizes does not hang on the order
-pub requests_turned : (vs : List Value) → requests (reverse vs) ≡ requests vs
-requests_turned [] = refl
-requests_turned (v ∷ vs) =
-    let last : requests (reverse (v ∷ vs)) ≡ requests (reverse vs) + size_of v = ap requests (reverse-append (v ∷ []) vs) ∙ requests_more (reverse vs) v in
-    let rest = requests_turned vs in
-    omega (arith, last, rest)
+-- how many requests there are does not change where the newest value comes first
+pub requests-turned : (log : List Value) → requests (reverse log) ≡ requests log
+requests-turned [] = refl
+requests-turned (v ∷ older) =
+    let ih = requests-turned older in
+    ap (λ (t : List Value). requests t) (reverse-append (v ∷ []) older) ∙
+    (requests_more (reverse older) v ∙
+    (let sum : requests (reverse older) + size_of v ≡ size_of v + requests older = omega (arith, ih) in sum))
 
 pub take_front : (es : List Value) (v : Value) (s : ℕ) → s ≤ length es → take s (es ++ v ∷ []) ≡ take s es
 take_front [] v zero h = refl

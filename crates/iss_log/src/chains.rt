@@ -6,8 +6,8 @@ ghost use Rattle.iss_request.specs.declared.requests.Value.{Value};
 ghost use Rattle.iss_log.specs.Chains.{IsChainOf, chain_of, link_string, next_end, strings_of};
 
 use crate::log::size;
+use iss_keys::Directory;
 use iss_request::{Bytes, NoMemory, Row, Value, Writer, write_value};
-use sha2::{Digest, Sha256};
 use std::alloc::Global;
 use std::marker::Model;
 
@@ -68,7 +68,12 @@ impl Chains {
     }
 
     /// One value more, behind the others. The strings that are hashed for it are put behind others.
-    pub fn join(&mut self, value: &Value, hashed: &mut Row<Bytes>) -> Result<(), NoMemory>
+    pub fn join(
+        &mut self,
+        directory: &Directory,
+        value: &Value,
+        hashed: &mut Row<Bytes>,
+    ) -> Result<(), NoMemory>
         ensures joined { OnOk result ((log : List Value) → IsChainOf self.old log → IsChainOf self.new (log ++ value.now ∷ [])) }
         ensures hashed { OnOk result ((log : List Value) → IsChainOf self.old log
             → hashed.new ≡ hashed.old ++ strings_of self.old.version (chain_of self.old.version log) value.now) }
@@ -76,7 +81,7 @@ impl Chains {
         ensures err { OnErr result (self.new ≡ self.old) }
     {
         let before = self.ends[self.ends.len() - 1];
-        let end = link(self.alloc, self.version, &before, value, hashed)?;
+        let end = link(self.alloc, directory, self.version, &before, value, hashed)?;
         self.ends.push(end)?;
         Ok(())
     }
@@ -120,17 +125,18 @@ fn link_of(alloc: Global, before: &[u8; 32], value: &[u8; 32]) -> Result<Bytes, 
     Ok(Bytes::of(all))
 }
 
-// The digest of a string, which is not empty.
-fn digest_of(string: &Bytes) -> [u8; 32]
+// The digest of a string, which is not empty. The directory remembers it where a module took the value lately.
+fn digest_of(directory: &Directory, string: &Bytes) -> [u8; 32]
     ensures { string.now ≢ [] → result ≡ digest string.now }
 {
-    Sha256::digest(string.as_slice())
+    directory.digest(string.as_slice())
 }
 
 /// What stands for a log and one value more. The strings that are hashed for it are put behind others: the value's and the link's.
 /// Want of memory comes also where the number of requests would pass 2^64 - 1.
 pub fn link(
     alloc: Global,
+    directory: &Directory,
     version: u8,
     before: &End,
     value: &Value,
@@ -141,9 +147,9 @@ pub fn link(
 {
     let requests = before.requests.checked_add(size(value)).ok_or(NoMemory)?;
     let string = string_of(alloc, version, value)?;
-    let digest = digest_of(&string);
+    let digest = digest_of(directory, &string);
     let link = link_of(alloc, &before.chain, &digest)?;
-    let chain = digest_of(&link);
+    let chain = digest_of(directory, &link);
     hashed.push(string)?;
     hashed.push(link)?;
     Ok(End { chain, requests })

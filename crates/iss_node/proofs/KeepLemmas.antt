@@ -3,8 +3,8 @@ use Rattle.std.proofs.Common.{arith, ◌≡◌, ℕ, suc, true, false, List, eqb
 use Rattle.std.proofs.lemmas.Bool.Decides.{nat_tests}
 use Rattle.iss_rules.specs.Concrete.{rules_of}
 use Rattle.iss_rules.specs.Formats.{formats_of}
-use Rattle.iss_rules.specs.Parcels.{Formats}
 use Rattle.iss_model.specs.Node.{Dropped, Stepped, at_instance, keeps_early, settled, takes_message}
+use Rattle.iss_rules.specs.Parcels.{Formats}
 use Rattle.iss_rules.specs.Past.{Past}
 use Rattle.iss_causes.specs.declared.causes.Why.TheVariants.{OtherEpoch}
 use Rattle.iss_node.specs.Shape.{IsReplica}

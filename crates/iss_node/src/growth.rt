@@ -9,6 +9,7 @@ ghost use Rattle.iss_request.specs.declared.requests.Value.{Value as Held};
 
 use iss_buckets::Pending;
 use iss_ids::Ids;
+use iss_keys::Directory;
 use iss_log::{Chains, Log};
 use iss_request::{Bytes, NoMemory, Row, Slot, Value};
 
@@ -36,6 +37,7 @@ fn fill_all(log: &mut Log, delivers: Vec<(Slot, Value)>) -> Result<(), NoMemory>
 
 /// The chain goes on with values that joined the log. The strings that are hashed for them are put behind others.
 pub fn join_all(
+    directory: &Directory,
     chains: &mut Chains,
     values: &[Value],
     hashed: &mut Row<Bytes>,
@@ -45,7 +47,7 @@ pub fn join_all(
     ensures version { chains.new.version ≡ chains.old.version }
 {
     for value in values {
-        chains.join(value, hashed)?;
+        chains.join(directory, value, hashed)?;
     }
     Ok(())
 }

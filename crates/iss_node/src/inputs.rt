@@ -154,7 +154,8 @@ impl<M: Sequenced> Replica<M> {
     {
         let held = grow(&mut self.log, delivers)?;
         let joined = behind(self.log.entries(), held);
-        join_all(&mut self.chains, joined, hashed)?;
+        let directory = self.directory.directory();
+        join_all(directory, &mut self.chains, joined, hashed)?;
         refile(joined, &mut self.waiting, &mut self.logged)?;
         self.land(alloc)
     }

@@ -1,12 +1,12 @@
 use Rattle.std.proofs.Common.{◌≡◌, ℕ, ◌+◌, ◌<◌, ◌≤◌, List, [], ◌∷◌, ◌++◌, length, take, reverse, get_or, Result, Ok, Err, refl, sym, ap, ◌∙◌, append_assoc, arith}
 use Rattle.std.specs.Prelude.{OnOk}
 use Rattle.std.proofs.lemmas.List.{append-nil, length-reverse, length-take-le, reverse-append, take_more}
-use Rattle.iss_log.proofs.LogLemmas.{requests_turned}
 use Rattle.iss_request.specs.Log.{requests}
 use Rattle.iss_request.specs.declared.requests.Request.{Request}
 use Rattle.iss_request.specs.declared.requests.Value.{Value}
 use Rattle.iss_request.specs.declared.errors.NoMemory.{NoMemory}
 use Rattle.iss_report.specs.Text.{node_block, node_line, request_word, request_words, slot_line, slot_lines}
+use Rattle.iss_log.proofs.LogLemmas.{requests-turned}
 
 pub request_words-append : (xs ys : List Request) → request_words (xs ++ ys) ≡ request_words xs ++ request_words ys
 request_words-append [] ys = refl
@@ -32,7 +32,7 @@ slots-next out vs i v lt is =
     let count : length (reverse front) ≡ i = length-reverse front ∙ length-take-le i vs within in
     append_assoc out (slot_lines (reverse front)) (slot_line i (requests front) v)
     ∙ ap (λ k. out ++ (slot_lines (reverse front) ++ slot_line k (requests front) v)) (sym count)
-    ∙ ap (λ k. out ++ (slot_lines (reverse front) ++ slot_line (length (reverse front)) k v)) (sym (requests_turned front))
+    ∙ ap (λ k. out ++ (slot_lines (reverse front) ++ slot_line (length (reverse front)) k v)) (sym (requests-turned front))
     ∙ ap (λ (xs : List Value). out ++ slot_lines xs) (sym turned)
 
 -- a node's line, and then its slots'
@@ -40,6 +40,6 @@ pub block-is : (out mid now : List ℕ) (n e slots count : ℕ) (vs : List Value
     → (r : Result (Unit {0}) NoMemory) → OnOk r (now ≡ mid ++ slot_lines (reverse vs)) → OnOk r (now ≡ out ++ node_block n e (reverse vs))
 block-is out mid now n e slots count vs many all is (Ok u) h =
     let lines = slot_lines (reverse vs) in
-    h ∙ ap (λ t. t ++ lines) (is ∙ ap (λ k. out ++ node_line n e k count) (many ∙ sym (length-reverse vs)) ∙ ap (λ k. out ++ node_line n e (length (reverse vs)) k) (all ∙ sym (requests_turned vs)))
+    h ∙ ap (λ t. t ++ lines) (is ∙ ap (λ k. out ++ node_line n e k count) (many ∙ sym (length-reverse vs)) ∙ ap (λ k. out ++ node_line n e (length (reverse vs)) k) (all ∙ sym (requests-turned vs)))
     ∙ append_assoc out (node_line n e (length (reverse vs)) (requests (reverse vs))) lines
 block-is out mid now n e slots count vs many all is (Err x) h = tt

@@ -54,6 +54,9 @@ impl Bytes {
     pub fn copy(&self) -> Result<Bytes, NoMemory>
         ensures { IfOk result (λ b. b ≡ self.now) }
     {
-        Ok(self.clone()?)
+        let alloc = *self.all.allocator();
+        Ok(Bytes {
+            all: Vec::from_slice(alloc, self.all.as_slice())?,
+        })
     }
 }

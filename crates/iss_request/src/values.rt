@@ -148,7 +148,7 @@ fn copy_of(alloc: Global, bytes: &[u8]) -> Result<Bytes, NoMemory>
 fn joined(alloc: Global, height: u8, leaf: &[u8], digests: &[u8]) -> Result<Bytes, NoMemory>
     ensures { IfOk result (λ b. b ≡ height ∷ leaf.now ++ digests.now) }
 {
-    let mut all = Vec::new(alloc);
+    let mut all = Vec::with_capacity(alloc, digests.len().saturating_add(5))?;
     all.push(height)?;
     all.extend_from_slice(leaf)?;
     all.extend_from_slice(digests)?;

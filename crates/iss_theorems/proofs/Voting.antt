@@ -3,7 +3,6 @@ use Rattle.std.proofs.Common.{◌≡◌, ℕ, true, List, reverse, refl, sym, ap
 use Rattle.iss_base.specs.Lists.{over}
 use Rattle.iss_log.specs.Chains.{chain_of, end_of, strings_from}
 use Rattle.iss_log.specs.declared.chains.End.{End}
-use Rattle.iss_log.proofs.LogLemmas.{requests_turned}
 use Rattle.iss_request.specs.Formats.{HasSpelling}
 use Rattle.iss_request.specs.Log.{requests}
 use Rattle.iss_request.specs.declared.requests.Request.{Request}
@@ -20,6 +19,7 @@ use Rattle.iss_model.specs.Node.{leads_to}
 use Rattle.iss_rules.specs.Rules.{Rules}
 use Rattle.iss_rules.specs.Setups.{IsSetupOf}
 use Rattle.iss_rules.proofs.Layouts.{signed-spelled}
+use Rattle.iss_log.proofs.LogLemmas.{requests-turned}
 use Rattle.iss_theorems.proofs.Linked.{chain-is}
 
 -- the rules chain logs and vote for them as the set-up has it, and what they count as signed has a spelling
@@ -45,7 +45,7 @@ module _ (s : Setup) (R : Rules) (voting : IsVoting s R) where
   end-chain log = ap (λ (e : End). e.chain) (voting.ends log) ∙ sym (chain-is s log)
 
   pub end-requests : (log : List Value) → (R.end log).requests ≡ requests log
-  end-requests log = ap (λ (e : End). e.requests) (voting.ends log) ∙ requests_turned log
+  end-requests log = ap (λ (e : End). e.requests) (voting.ends log) ∙ requests-turned log
 
   -- so a vote on it is one on its chain
   pub voted-is : (e : ℕ) (log : List Value) → R.voted e (R.end log).chain (R.end log).requests ≡ vote_statement s e (chain (scheme_of s) log) (requests log)

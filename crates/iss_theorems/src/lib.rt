@@ -2,9 +2,10 @@
 //! the contracts of the program name (ISS, whole protocol).
 #![tactic(auto)]
 
+pub mod conservation;
 pub mod theorems;
 
+pub use conservation::requests_are_conserved;
 pub use theorems::{
-    adopted_was_delivered, certificates_are_of_logs, cluster_runs, requests_are_conserved,
-    runs_end_with_evidence,
+    adopted_was_delivered, certificates_are_of_logs, cluster_runs, runs_end_with_evidence,
 };

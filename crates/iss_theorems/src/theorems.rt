@@ -1,12 +1,11 @@
 //! The theorems of runs, each as a call without a body: who calls it may use what it says.
-ghost use Rattle.std.specs.Prelude.{◌≡◌, ◌<◌, ℕ, List, ◌∷◌, length, Some};
+ghost use Rattle.std.specs.Prelude.{◌≡◌, ℕ, List, ◌∷◌, length, Some};
 ghost use Rattle.iss_base.specs.Lists.{Extends};
 ghost use Rattle.iss_request.specs.declared.requests.Value.{Value};
 ghost use Rattle.iss_request.specs.declared.setups.Setup.{Setup};
 ghost use Rattle.iss_sb.specs.Evidence.{delivered};
 ghost use Rattle.iss_schedule.specs.declared.schedules.Event.{Event};
 ghost use Rattle.iss_theorems.specs.Certified.{AreOfLogs, WereDelivered};
-ghost use Rattle.iss_theorems.specs.Conserved.{AcceptsOnce, IsConserved};
 ghost use Rattle.iss_theorems.specs.Ends.{HasEvidence};
 ghost use Rattle.iss_theorems.specs.OneLog.{IsClusterRun, IsOneLog};
 ghost use Rattle.iss_rules.specs.Past.{Past, epoch_at, leader_at, log_of, params_at};
@@ -49,15 +48,6 @@ pub fn adopted_was_delivered<M: Sequenced>()
 /// misses no claim and no vote that a correct node sent of its own.
 pub fn runs_end_with_evidence<M: Sequenced>()
     ensures { (s : Setup) → IsSetupOf M.meaning s → (events : List Event) → AreAtCores s events → HasEvidence s M.meaning events }
-{
-    M::laws();
-}
-
-/// No request is lost and none is in two places, whatever happens: each one that a correct core took is in its log, waits at it,
-/// or is in flight (ISS, "conservation").
-pub fn requests_are_conserved<M: Sequenced>()
-    ensures { (s : Setup) → IsSetupOf M.meaning s → AcceptsOnce M.meaning →
-        (events : List Event) → AreAtCores s events → IsConserved s M.meaning events }
 {
     M::laws();
 }

@@ -57,6 +57,7 @@ fn same_end(ours: &End, theirs: &End) -> bool
 // What stands for a log and these values behind it.
 fn end_from(
     alloc: Global,
+    directory: &Directory,
     version: u8,
     start: End,
     values: &[Value],
@@ -67,7 +68,7 @@ fn end_from(
 {
     let mut end = start;
     for value in values {
-        end = link(alloc, version, &end, value, hashed)?;
+        end = link(alloc, directory, version, &end, value, hashed)?;
     }
     Ok(end)
 }
@@ -101,6 +102,7 @@ pub fn adopt(
     let mut hashed = Row::new(alloc);
     let ours = end_from(
         alloc,
+        directory,
         setup.version,
         start,
         piece.values.as_slice(),

@@ -1,7 +1,7 @@
 use Rattle.iss_theorems.proofs.Conserved.{conserved}
 use Rattle.iss_theorems.proofs.OneLog.{cluster-run}
 use Rattle.iss_rules.proofs.Written.{faithful}
-use Rattle.iss_theorems.proofs.theorems.requests_are_conserved.Goals as goal
+use Rattle.iss_theorems.proofs.conservation.requests_are_conserved.Goals as goal
 
 pub returns : goal.returns
 returns g c =

@@ -1,5 +1,5 @@
 use Rattle.iss_cluster.proofs.Instances.{claim-head, claim-vote, claims-same, votes-same}
-use Rattle.iss_cluster.proofs.theorems.claims_are_of_one_instance.Goals as goal
+use Rattle.iss_cluster.proofs.one_instance.claims_are_of_one_instance.Goals as goal
 
 pub returns : goal.returns
 returns g c =
