@@ -4,7 +4,7 @@ use Rattle.std.proofs.lemmas.List.{append-nil}
 use Rattle.std.proofs.Math.Seq.{take-suc}
 use Rattle.std.proofs.lemmas.Bool.Decides.{nat_tests}
 use Rattle.std.specs.Prelude.{is_some}
-use Rattle.iss_base.proofs.Lists.{same-test}
+use Rattle.iss_base.proofs.Lists.{eqb-other, same-test}
 use Rattle.iss_keys.proofs.DirectoryLemmas.{verified-by}
 use Rattle.iss_keys.specs.Directories.{DirectoryView, VerifiesBy}
 use Rattle.iss_keys.specs.VerifiedBy.{is_verified_by}
@@ -14,7 +14,6 @@ use Rattle.iss_model.specs.Node.{claims_in, only_by, own_claims, packed}
 use Rattle.iss_rules.specs.Past.{Past, leads_in, params_of}
 use Rattle.iss_model.specs.Views.{claims_of_parcel}
 use Rattle.iss_node.proofs.InstanceLemmas.{leads-is}
-use Rattle.iss_node.proofs.NextLemmas.{apart}
 use Rattle.iss_node.specs.Inputs.{IsHandedOut}
 use Rattle.iss_node.specs.Shape.{IsReplica}
 use Rattle.iss_node.specs.State.{IsTied, ReplicaState, core_of, led}
@@ -110,7 +109,7 @@ own-put me before own xs x is mine =
 
 pub own-left : (me : ℕ) (before own xs : List Claim) (x : Claim) → own ≡ before ++ only_by me xs → x.by.0 ≢ me → own ≡ before ++ only_by me (xs ++ x ∷ [])
 own-left me before own xs x is other =
-    is ∙ sym (ap (λ (ys : List Claim). before ++ ys) (only-more me xs x ∙ ap (λ (b : Bool). only_by me xs ++ cond b (x ∷ []) []) (apart x.by.0 me other) ∙ append-nil (only_by me xs)))
+    is ∙ sym (ap (λ (ys : List Claim). before ++ ys) (only-more me xs x ∙ ap (λ (b : Bool). only_by me xs ++ cond b (x ∷ []) []) (eqb-other x.by.0 me other) ∙ append-nil (only_by me xs)))
 
 -- what the directory says is whether the signature is the node's
 pub verified-is : (d : DirectoryView) (k : ℕ) (statement other sig another : List ℕ) (b : Bool) → statement ≡ other → sig ≡ another → ((b ≡ true) ↔ VerifiesBy d.nodes k statement sig) → b ≡ is_verified_by d.nodes k other another
