@@ -1,6 +1,7 @@
 //! The digests that a piece of work over keys takes, and what they cost by themselves.
 
-ghost use Rattle.std.specs.Prelude.{◌<◌, ◌≤◌};
+ghost use Rattle.std.specs.Prelude.{◌≡◌, ◌<◌, ◌≤◌, ◌^◌, IfOk};
+ghost use Rattle.bench_digests.specs.Counts.{better, together};
 
 use sha2::{Digest, Sha256};
 use std::test::Fail;
@@ -26,12 +27,15 @@ pub struct Digests {
 }
 
 impl Digests {
-    /// These and the others.
-    pub fn and(self, others: Digests) -> Digests {
+    /// These and the others, of each length no more than 2^32 - 1.
+    #[tactic(auto, unfolding(crate::specs::Counts::together))]
+    pub fn and(self, others: Digests) -> Digests
+        ensures { result ≡ together self others }
+    {
         Digests {
-            short: self.short.wrapping_add(others.short),
-            inner: self.inner.wrapping_add(others.inner),
-            leaf: self.leaf.wrapping_add(others.leaf),
+            short: self.short.saturating_add(others.short),
+            inner: self.inner.saturating_add(others.inner),
+            leaf: self.leaf.saturating_add(others.leaf),
         }
     }
 }
@@ -44,7 +48,11 @@ pub struct Best {
 }
 
 impl Best {
-    pub fn note(self, work: u64, digests: u64) -> Best {
+    /// The better of these times and those, each by itself.
+    #[tactic(auto, unfolding(crate::specs::Counts::better))]
+    pub fn note(self, work: u64, digests: u64) -> Best
+        ensures { result ≡ better self work digests }
+    {
         Best {
             work: self.work.min(work),
             digests: self.digests.min(digests),
@@ -81,6 +89,7 @@ fn take_all(digests: Digests) -> u8 {
 /// Those of a tree of this height.
 pub fn digests_of_tree(height: u8) -> Digests
     requires { height ≤ 12 }
+    ensures { result.leaf ≡ 2 ^ height }
 {
     let leaves = 1u32 << height;
     Digests {
@@ -108,7 +117,10 @@ fn steps_signed(statement: &[u8]) -> u32 {
 }
 
 /// Those of a signature of a statement.
-pub fn digests_of_one_signature(statement: &[u8]) -> Digests {
+pub fn digests_of_one_signature(statement: &[u8]) -> Digests
+    ensures inner { result.inner ≡ 0 }
+    ensures leaf { result.leaf ≡ 0 }
+{
     Digests {
         short: steps_signed(statement).wrapping_add(CHAINS + 1),
         inner: 0,
@@ -117,7 +129,10 @@ pub fn digests_of_one_signature(statement: &[u8]) -> Digests {
 }
 
 /// Those of a check of a statement's signature under a tree of this height.
-pub fn digests_of_one_check(statement: &[u8], height: u8) -> Digests {
+pub fn digests_of_one_check(statement: &[u8], height: u8) -> Digests
+    ensures inner { result.inner ≡ height }
+    ensures leaf { result.leaf ≡ 1 }
+{
     Digests {
         short: (CHAINS * STEPS + 1).saturating_sub(steps_signed(statement)),
         inner: u32::from(height),
@@ -126,7 +141,10 @@ pub fn digests_of_one_check(statement: &[u8], height: u8) -> Digests {
 }
 
 /// Those of so many signatures.
-pub fn digests_of_signatures(count: u32) -> Digests {
+pub fn digests_of_signatures(count: u32) -> Digests
+    ensures inner { result.inner ≡ 0 }
+    ensures leaf { result.leaf ≡ 0 }
+{
     let each = digests_of_one_signature(STATEMENT);
     Digests {
         short: count.wrapping_mul(each.short),
@@ -136,7 +154,9 @@ pub fn digests_of_signatures(count: u32) -> Digests {
 }
 
 /// Those of so many verifications under a tree of this height.
-pub fn digests_of_verifications(count: u32, height: u8) -> Digests {
+pub fn digests_of_verifications(count: u32, height: u8) -> Digests
+    ensures { result.leaf ≡ count }
+{
     let each = digests_of_one_check(STATEMENT, height);
     Digests {
         short: count.wrapping_mul(each.short),
@@ -145,25 +165,20 @@ pub fn digests_of_verifications(count: u32, height: u8) -> Digests {
     }
 }
 
-/// The nanoseconds since then.
-pub fn nanos_since(rt: &HostRuntime, start: Instant) -> Result<u64, Fail> {
+/// The nanoseconds since then. Of what a clock says no contract tells more than how great it may be.
+pub fn nanos_since(rt: &HostRuntime, start: Instant) -> Result<u64, Fail>
+    ensures { IfOk result (λ nanos. nanos < 2 ^ 64) }
+{
     Ok(u64::try_from(start.elapsed(rt)?.as_nanos()).unwrap_or(u64::MAX))
 }
 
 /// The nanoseconds that digests take.
-pub fn time_digests(rt: &HostRuntime, digests: Digests) -> Result<u64, Fail> {
+pub fn time_digests(rt: &HostRuntime, digests: Digests) -> Result<u64, Fail>
+    ensures { IfOk result (λ nanos. nanos < 2 ^ 64) }
+{
     let start = Instant::now(rt)?;
     let last = take_all(digests);
     let nanos = nanos_since(rt, start)?;
     // The digests are used, so that no compiler leaves them out.
     Ok(nanos.saturating_add(u64::from(last / 255)))
-}
-
-/// Prints a line of times: of one piece of work, and how it compares with its digests.
-pub fn print_times(rt: &HostRuntime, what: &str, best: Best, count: u64) -> Result<(), Fail> {
-    let each = best.work / count.max(1);
-    let a_second = 1_000_000_000u64.saturating_mul(count) / best.work.max(1);
-    let percent = best.work.saturating_mul(100) / best.digests.max(1);
-    println!(rt; "{what}: {each} ns each, {a_second} a second, {percent} percent of its digests")?;
-    Ok(())
 }

@@ -1,6 +1,6 @@
 //! Keys for benches. Of a literal height or secret the tactics list what the keys are, so these are parameters, and come from functions
-//! that promise nothing.
-ghost use Rattle.std.specs.Prelude.{◌≤◌};
+//! that promise nothing of either.
+ghost use Rattle.std.specs.Prelude.{◌≡◌, ◌≤◌, ◌+◌, IfOk, OnOk};
 
 use crate::digests::STATEMENT;
 use iss_keys::Keys;
@@ -14,6 +14,7 @@ type Timed<T> = Result<T, Fail>;
 pub fn key(alloc: Global, secret: [u8; 32], height: u8) -> Timed<Keys>
     requires low { 2 ≤ height }
     requires high { height ≤ 12 }
+    ensures { IfOk result (λ keys. keys.used ≡ 0) }
 {
     Ok(Keys::make(alloc, secret, height)?)
 }
@@ -22,6 +23,7 @@ pub fn key(alloc: Global, secret: [u8; 32], height: u8) -> Timed<Keys>
 pub fn client_key(alloc: Global, client: u8, height: u8) -> Timed<Keys>
     requires low { 2 ≤ height }
     requires high { height ≤ 12 }
+    ensures { IfOk result (λ keys. keys.used ≡ 0) }
 {
     key(alloc, Sha256::digest([0x21u8, client]), height)
 }
@@ -30,11 +32,14 @@ pub fn client_key(alloc: Global, client: u8, height: u8) -> Timed<Keys>
 pub fn node_key(alloc: Global, node: u8, height: u8) -> Timed<Keys>
     requires low { 2 ≤ height }
     requires high { height ≤ 12 }
+    ensures { IfOk result (λ keys. keys.used ≡ 0) }
 {
     key(alloc, Sha256::digest([0x20u8, node]), height)
 }
 
-/// A signature of the statement.
-pub fn signature_by(keys: &mut Keys) -> Timed<Vec<u8>> {
+/// A signature of the statement, by the next leaf.
+pub fn signature_by(keys: &mut Keys) -> Timed<Vec<u8>>
+    ensures { OnOk result (keys.new.used ≡ keys.old.used + 1) }
+{
     Ok(keys.sign(STATEMENT)?)
 }

@@ -2,8 +2,9 @@
 
 ghost use Rattle.std.specs.Prelude.{◌<◌, ◌≤◌};
 
+use crate::times::print_times;
 use bench_digests::digests::{
-    Best, NONE_YET, STATEMENT, digests_of_verifications, nanos_since, print_times, time_digests,
+    Best, NONE_YET, STATEMENT, digests_of_verifications, nanos_since, time_digests,
 };
 use bench_digests::signers::{client_key, signature_by};
 use iss_keys::{Directory, Keys, SharedDirectory};

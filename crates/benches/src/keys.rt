@@ -5,9 +5,10 @@
 ghost use Rattle.std.specs.Prelude.{◌≤◌};
 
 use crate::directories::{sign_for_ten, time_directory, time_one_tree, time_ten_checks};
+use crate::times::print_times;
 use bench_digests::digests::{
     Digests, NONE_YET, STATEMENT, digests_of_signatures, digests_of_tree, digests_of_verifications,
-    nanos_since, print_times, time_digests,
+    nanos_since, time_digests,
 };
 use bench_digests::signers::{key, signature_by};
 use iss_keys::{Keys, PublicKey, verify};

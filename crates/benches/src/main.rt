@@ -7,6 +7,7 @@ mod journal;
 mod keys;
 mod network;
 mod schedule;
+mod times;
 
 use std::env;
 use std::test::Fail;

@@ -169,6 +169,13 @@ impl Cluster {
         Ok(())
     }
 
+    /// From now on the nodes ask another directory, that of this node.
+    pub(crate) fn turn_to(&mut self, node: u8) {
+        if let Some(seen) = &mut self.seen {
+            seen.turn_to(node);
+        }
+    }
+
     fn post(&mut self, alloc: Global, p: &Params, from: u8, msg: &Message) -> Timed<()>
         requires good { IsGoodParams pbft p.now }
         requires from { from < p.now.setup.n }

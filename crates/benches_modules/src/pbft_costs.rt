@@ -11,11 +11,13 @@ use iss_sb::Params;
 use std::alloc::Global;
 use std::time::Instant;
 
-/// What is worked: a segment in its normal case, or what 2f+1 ViewChanges lead to: at all nodes, at the new primary, at the last node.
+/// What is worked: a segment in its normal case, or what 2f+1 ViewChanges lead to: at all nodes with one directory, at all nodes with one
+/// each, at the new primary, at the last node.
 #[derive(Clone, Copy)]
 enum Work {
     Order,
     Change,
+    Each,
     Primary,
     Follower,
 }
@@ -134,10 +136,76 @@ fn change(
     Ok((nanos_since(rt, start)?, cluster))
 }
 
+// A node hears these messages; the time that it takes.
+fn hear_alone(
+    rt: &HostRuntime,
+    own: &Params,
+    cluster: &mut Cluster,
+    posts: &[Post],
+    at: u8,
+) -> Timed<u64>
+    requires { IsGoodParams pbft own.now }
+{
+    cluster.turn_to(at);
+    let start = Instant::now(rt)?;
+    cluster.hear_all(rt.alloc(), own, posts, at, at.wrapping_add(1))?;
+    nanos_since(rt, start)
+}
+
+// A node that is no primary hears the ViewChanges and the NewView, with a directory of its own.
+fn follow_alone(
+    rt: &HostRuntime,
+    size: Size,
+    cluster: &mut Cluster,
+    changes: &[Post],
+    news: &[Post],
+    at: u8,
+) -> Timed<u64> {
+    let own = fresh(rt.alloc(), size)?;
+    let changing = hear_alone(rt, &own, cluster, changes, at)?;
+    let renewing = hear_alone(rt, &own, cluster, news, at)?;
+    Ok(changing.saturating_add(renewing))
+}
+
+// The new primary hears the ViewChanges and what comes of them, which is answered, with a directory of its own.
+fn lead_alone(
+    rt: &HostRuntime,
+    size: Size,
+    cluster: &mut Cluster,
+    changes: &[Post],
+) -> Timed<(u64, Vec<Post>)> {
+    let own = fresh(rt.alloc(), size)?;
+    let changing = hear_alone(rt, &own, cluster, changes, 1)?;
+    let news = cluster.drain(rt.alloc())?;
+    let renewing = hear_alone(rt, &own, cluster, news.as_slice(), 1)?;
+    Ok((changing.saturating_add(renewing), news))
+}
+
+// The view changes at all nodes, each of which has a directory of its own, and has not checked any signature in it before.
+fn change_each(rt: &HostRuntime, p: &Params, size: Size, looks: bool) -> Timed<(u64, Cluster)>
+    requires { IsGoodParams pbft p.now }
+{
+    let (mut cluster, changes) = given_up(rt.alloc(), p, size)?;
+    if looks {
+        cluster.look(rt.alloc(), size.height)?;
+    }
+    let (mut time, news) = lead_alone(rt, size, &mut cluster, changes.as_slice())?;
+    let (first, last) = hearers(Work::Each, size.f);
+    for at in first..last {
+        if at != 1 {
+            let (changes, news) = (changes.as_slice(), news.as_slice());
+            let alone = follow_alone(rt, size, &mut cluster, changes, news, at)?;
+            time = time.saturating_add(alone);
+        }
+    }
+    Ok((time, cluster))
+}
+
 fn work_once(rt: &HostRuntime, size: Size, what: Work, looks: bool) -> Timed<(u64, Cluster)> {
     let p = fresh(rt.alloc(), size)?;
     match what {
         Work::Order => order(rt, &p, size, looks),
+        Work::Each => change_each(rt, &p, size, looks),
         _ => {
             let unchecked = fresh(rt.alloc(), size)?;
             change(rt, &p, &unchecked, size, what, looks)
@@ -149,6 +217,7 @@ fn name_of(what: Work) -> &'static str {
     match what {
         Work::Order => "ordering",
         Work::Change => "a change of views",
+        Work::Each => "with a directory each, a change of views",
         Work::Primary => "at its primary",
         Work::Follower => "at another node",
     }
@@ -198,6 +267,7 @@ fn time_one(rt: &HostRuntime, size: Size, what: Work, times: u32) -> Timed<()> {
 fn time_size(rt: &HostRuntime, size: Size, times: u32) -> Timed<()> {
     time_one(rt, size, Work::Order, times)?;
     time_one(rt, size, Work::Change, times)?;
+    time_one(rt, size, Work::Each, times)?;
     time_one(rt, size, Work::Primary, times)?;
     time_one(rt, size, Work::Follower, times)
 }
@@ -224,5 +294,6 @@ pub(crate) fn count_all(rt: &HostRuntime) -> Timed<()> {
     };
     let _ordering = count(rt, size, Work::Order)?;
     let _change = count(rt, size, Work::Change)?;
+    let _each = count(rt, size, Work::Each)?;
     Ok(())
 }

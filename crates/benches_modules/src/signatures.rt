@@ -6,9 +6,10 @@ use std::alloc::Global;
 use std::collections::BTreeSet;
 use std::test::Fail;
 
-// A leaf of a node's key: no two of its signatures have the same.
+// A leaf of a node's key: no two of its signatures have the same. Who checks it counts where each has a directory of its own.
 #[derive(PartialEq, Eq, PartialOrd, Ord, Drop)]
 struct Leaf {
+    checker: u8,
     by: u8,
     leaf: u32,
 }
@@ -17,6 +18,8 @@ struct Leaf {
 #[derive(Drop)]
 pub struct Seen {
     height: u8,
+    // whose directory is asked
+    checker: u8,
     // the leaves of each node that were used before
     used: Vec<u32>,
     checked: BTreeSet<Leaf>,
@@ -44,6 +47,7 @@ impl Seen {
         }
         Ok(Seen {
             height,
+            checker: 0,
             used,
             checked: BTreeSet::new(alloc),
             made: BTreeSet::new(alloc),
@@ -61,11 +65,17 @@ impl Seen {
         (self.made.len(), self.checked.len())
     }
 
+    /// From now on another directory is asked, that of this node.
+    pub(crate) fn turn_to(&mut self, checker: u8) {
+        self.checker = checker;
+    }
+
     fn hear_one(&mut self, claim: &Claim) -> Result<(), Fail> {
         self.heard = self.heard.wrapping_add(1);
         let by = claim.by.0;
         let leaf = leaf_of(claim.sig.as_slice());
-        if self.checked.insert(Leaf { by, leaf })? {
+        let checker = self.checker;
+        if self.checked.insert(Leaf { checker, by, leaf })? {
             let each = digests_of_one_check(claim.statement.as_slice(), self.height);
             self.digests = self.digests.and(each);
         }
@@ -83,7 +93,8 @@ impl Seen {
     fn send_one(&mut self, by: u8, claim: &Claim) -> Result<(), Fail> {
         let leaf = leaf_of(claim.sig.as_slice());
         let used = self.used.get(by as usize).copied().unwrap_or(0);
-        if claim.by.0 == by && used <= leaf && self.made.insert(Leaf { by, leaf })? {
+        let checker = by;
+        if claim.by.0 == by && used <= leaf && self.made.insert(Leaf { checker, by, leaf })? {
             let each = digests_of_one_signature(claim.statement.as_slice());
             self.digests = self.digests.and(each);
         }

@@ -13,12 +13,12 @@ use Rattle.iss_sb.specs.Laws.{IsBroadcast, IsSafe}
 use Rattle.iss_cluster.specs.Cluster.{Backed, Cluster, IsTrueLog, IsVerified, Scheme, world_of}
 use Rattle.iss_rules.specs.SoundRules.{IsSoundRules}
 use Rattle.iss_cluster.specs.Ordered.{Among}
-use Rattle.iss_rules.specs.Past.{IsLog, Past, adopted_at, before, before_at, cut_at, epoch_at, leader_at, log_of, params_at, start_of}
+use Rattle.iss_rules.specs.Past.{Past, adopted_at, before, before_at, cut_at, epoch_at, leader_at, log_of, params_at, start_of}
+use Rattle.iss_rules.proofs.Logs.{IsLog, Later, later-refl, log-chain, log-kept, logs-meet}
 use Rattle.iss_rules.specs.Rules.{Rules}
 use Rattle.iss_rules.proofs.Epochs.{cut-extends, epoch-low, length-cut, start-extends, start-mono}
 use Rattle.iss_cluster.proofs.Good.{Good, IsTrue}
 use Rattle.iss_cluster.proofs.Kept.{settled-of}
-use Rattle.iss_rules.proofs.Logs.{Later, later-refl, log-chain, log-kept, logs-meet}
 
 pub separate-part : (Big Small : List ℕ → Type 0) → ((x : List ℕ) → Small x → Big x) → Separate Big → Separate Small
 separate-part Big Small sub sep a b ia ib = sep a b (sub a ia) (sub b ib)

@@ -10,9 +10,10 @@ use Rattle.iss_request.specs.declared.setups.Setup.{Setup}
 use Rattle.iss_sb.specs.Evidence.{IsHashed, IsReached, IsSent, Module, Separate, World, accepts, at_start, empty_world, is_correct}
 use Rattle.iss_sb.specs.Laws.{IsSafe}
 use Rattle.iss_rules.specs.Books.{Signed}
-use Rattle.iss_cluster.specs.Cluster.{AllSpelled, Backed, Begun, Cluster, Ended, IsHashedLog, IsTrueLog, Message, Names, Quiet, Rested, Scheme, chain, vote_statement, world_of}
+use Rattle.iss_cluster.specs.Cluster.{AllSpelled, Backed, Begun, Cluster, Ended, IsHashedLog, IsTrueLog, Message, Quiet, Rested, Scheme, chain, vote_statement, world_of}
+use Rattle.iss_cluster.proofs.Heads.{Names}
 use Rattle.iss_rules.specs.Past.{advanced, ended_log, Past, Piece, adopted_at, before, log_of, start_of}
-use Rattle.iss_rules.specs.Judge.{Judged}
+use Rattle.iss_rules.proofs.Judged.{Judged}
 use Rattle.iss_rules.specs.SoundRules.{IsSoundRules}
 use Rattle.iss_cluster.specs.Ordered.{Among}
 use Rattle.iss_rules.specs.Rules.{Rules}

@@ -6,8 +6,9 @@ use Rattle.iss_request.specs.declared.requests.Value.{Value}
 use Rattle.iss_request.specs.declared.setups.Setup.{Setup}
 use Rattle.iss_sb.specs.Evidence.{IsHashed, IsReached, IsSent, IsSigned, Module, accepts, is_correct}
 use Rattle.iss_rules.specs.Books.{Signed}
-use Rattle.iss_cluster.specs.Cluster.{AllSpelled, Backed, Cluster, IsHashedLog, IsTrueLog, Message, Names, Scheme, chain, vote_statement, world_of}
-use Rattle.iss_rules.specs.Judge.{Judged}
+use Rattle.iss_cluster.specs.Cluster.{AllSpelled, Backed, Cluster, IsHashedLog, IsTrueLog, Message, Scheme, chain, vote_statement, world_of}
+use Rattle.iss_cluster.proofs.Heads.{Names}
+use Rattle.iss_rules.proofs.Judged.{Judged}
 use Rattle.iss_rules.specs.Past.{adopted_at, before, epoch_at, log_of, start_of}
 use Rattle.iss_rules.specs.Rules.{Rules}
 

@@ -1,3 +1,4 @@
+pub mod Heads
 pub mod Good
 pub mod Kept
 pub mod Agree

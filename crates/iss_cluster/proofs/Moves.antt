@@ -13,8 +13,9 @@ use Rattle.iss_sb.specs.declared.effects.Params.{Params}
 use Rattle.iss_sb.specs.Evidence.{IsHashed, IsReached, IsSent, IsSigned, Item, Made, MayArrive, MayCome, Module, Move, Separate, accepts, after, and_then, is_correct, one_or_none}
 use Rattle.iss_sb.specs.Laws.{IsLawful, IsSafe}
 use Rattle.iss_rules.specs.Books.{Signed}
-use Rattle.iss_cluster.specs.Cluster.{AllSpelled, Cluster, IsHashedLog, MayGet, MayTake, Message, Moved, Names, Scheme, vote_statement, world_of}
-use Rattle.iss_rules.specs.Judge.{Judged}
+use Rattle.iss_cluster.specs.Cluster.{AllSpelled, Cluster, IsHashedLog, MayGet, MayTake, Message, Moved, Scheme, vote_statement, world_of}
+use Rattle.iss_cluster.proofs.Heads.{Names}
+use Rattle.iss_rules.proofs.Judged.{Judged}
 use Rattle.iss_rules.specs.SoundRules.{IsSoundRules}
 use Rattle.iss_cluster.specs.Ordered.{Among}
 use Rattle.iss_rules.specs.Past.{Past, adopted_at, asked_in, before, log_of, made_in, start_of, takes}

@@ -13,7 +13,8 @@ use Rattle.iss_request.specs.declared.setups.Setup.{Setup}
 use Rattle.iss_sb.specs.Evidence.{Module, Separate, accepts, delivered, is_correct}
 use Rattle.iss_sb.specs.Laws.{IsSafe, SharedAcceptor}
 use Rattle.iss_cluster.specs.Cluster.{Backed, Cluster, IsTrueLog, Scheme, world_of}
-use Rattle.iss_rules.specs.Judge.{Judged, judge, marks}
+use Rattle.iss_rules.specs.Judge.{judge, marks}
+use Rattle.iss_rules.proofs.Judged.{Judged, Accepted, accepted, entry-judged, one-slot, owner-of, unordered-of}
 use Rattle.iss_rules.specs.SoundRules.{IsSoundRules}
 use Rattle.iss_cluster.specs.Ordered.{Among}
 use Rattle.iss_rules.specs.Past.{before, before_at, epoch_at, leader_at, params_at, start_of}
@@ -22,7 +23,6 @@ use Rattle.iss_cluster.proofs.Agree.{before-true, in-world, placed, right, world
 use Rattle.iss_rules.proofs.Epochs.{before-same, epoch-below, epoch-low, epoch-mono}
 use Rattle.iss_cluster.proofs.Good.{Good}
 use Rattle.iss_rules.proofs.Ids.{log_ids-extends}
-use Rattle.iss_rules.proofs.Judged.{Accepted, accepted, entry-judged, one-slot, owner-of, unordered-of}
 
 -- an identity that a log holds before an epoch
 pub in-before : (n : ℕ) (a b : List Value) (z : ReqId) → Extends a b → length a ≤ n → In z (log_ids a) → In z (log_ids (oldest n b))

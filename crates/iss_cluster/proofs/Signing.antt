@@ -29,7 +29,8 @@ use Rattle.iss_sb.specs.Statements.{eight_bytes, signature, statement_head}
 use Rattle.iss_sb.proofs.Read.{batch-read}
 use Rattle.iss_cluster.specs.Checkpoints.{scheme_of}
 use Rattle.iss_rules.specs.Books.{Signed}
-use Rattle.iss_cluster.specs.Cluster.{Cluster, Ended, Moved, Names, Reach, Scheme, begin, chain_strings, ends, move, vote_of, vote_statement}
+use Rattle.iss_cluster.specs.Cluster.{Cluster, Ended, Moved, Reach, Scheme, begin, chain_strings, ends, move, vote_of, vote_statement}
+use Rattle.iss_cluster.proofs.Heads.{Names}
 use Rattle.iss_rules.specs.Past.{advanced, Past, log_of, newborn, takes}
 use Rattle.iss_rules.specs.Concrete.{rules_of}
 use Rattle.iss_cluster.specs.Ordered.{Among, Ordered}

@@ -7,7 +7,8 @@ use Rattle.iss_sb.specs.Calls.{IsGoodParams}
 use Rattle.iss_sb.specs.Evidence.{Module}
 use Rattle.iss_sb.specs.Statements.{eight_bytes}
 use Rattle.iss_sb.proofs.Statements.{head-same}
-use Rattle.iss_cluster.specs.Cluster.{Names, vote_statement}
+use Rattle.iss_cluster.specs.Cluster.{vote_statement}
+use Rattle.iss_cluster.proofs.Heads.{Names}
 use Rattle.iss_rules.specs.SoundRules.{IsSoundRules}
 use Rattle.iss_rules.specs.Rules.{Rules}
 use Rattle.iss_cluster.proofs.Instances.{votes-same}

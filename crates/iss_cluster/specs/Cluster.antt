@@ -57,13 +57,6 @@ AllSpelled S log = (v : Value) → In v log → S.spells v ≡ true
 abbrev pub IsHashedLog : Scheme → List (List ℕ) → List Value → Type 0
 IsHashedLog S strings log = (x : List ℕ) → In x (chain_strings S log) → In x strings
 
--- what every statement of the instance of leader l in epoch e begins with
-abbrev pub instance_head : {Msg : Type 0} → Setup → Module Msg → ℕ → ℕ → List ℕ
-instance_head s M e l = head_of s.tag e l M.tag
-
-abbrev pub Names : {Msg : Type 0} → Setup → Module Msg → ℕ → ℕ → List ℕ → Type 0
-Names s M e l statement = (rest : List ℕ) × (statement ≡ instance_head s M e l ++ rest)
-
 -- the statement of a vote: an epoch, the chain of the log at its end, and how many requests that log holds. It stands
 -- where the statements of a leader 255 and a module 0 would, and there are none
 abbrev pub vote_statement : Setup → ℕ → List ℕ → ℕ → List ℕ

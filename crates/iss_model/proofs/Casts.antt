@@ -30,8 +30,9 @@ use Rattle.iss_model.specs.Node.{Core, Early, Taken, Turn, first_slot, flown, ha
 use Rattle.iss_rules.specs.Votes.{cert_on, keeping, stable}
 use Rattle.iss_rules.specs.Past.{Past, Piece, adopted_at, adopts, advanced, asked_in, before, before_own, is_complete, log_of, params_of, start_of, takes}
 use Rattle.iss_rules.specs.Rules.{Rules}
-use Rattle.iss_rules.specs.SoundRules.{AreWindows}
-use Rattle.iss_model.specs.Sound.{IsReadyCore, IsSoundCore, carried, held}
+use Rattle.iss_rules.proofs.Windows.{AreWindows}
+use Rattle.iss_model.specs.Sound.{IsSoundCore, carried, held}
+use Rattle.iss_model.proofs.Ready.{IsReadyCore}
 use Rattle.iss_model.proofs.Cuts.{absent-ids, cut-few, cut-in, cut-once, uncut-ids}
 use Rattle.iss_rules.proofs.Ending.{HasSlots, advanced-later, advanced-log, before-advanced, before-part, reached-advanced}
 use Rattle.iss_rules.proofs.Epochs.{length-cut, start-extends, start-next}

@@ -13,8 +13,8 @@ use Rattle.iss_rules.specs.Rules.{Rules}
 use Rattle.iss_causes.specs.Ends.{End}
 use Rattle.iss_model.specs.Run.{Held, Net, after_step, at_core, by_collision, by_forged, collision_in, first_forged, node_of, turned_to}
 use Rattle.iss_model.specs.Runs.{pasts_of}
-use Rattle.iss_rules.specs.SoundRules.{AreWindows}
-use Rattle.iss_model.specs.Sound.{IsReadyCore}
+use Rattle.iss_rules.proofs.Windows.{AreWindows}
+use Rattle.iss_model.proofs.Ready.{IsReadyCore}
 use Rattle.iss_model.proofs.Casts.{step-grown}
 use Rattle.iss_rules.proofs.Ending.{HasSlots}
 use Rattle.iss_model.proofs.Twins.{correct-is}

@@ -3,3 +3,4 @@ pub mod Run
 pub mod Runs
 pub mod Sound
 pub mod Views
+pub mod Frames

@@ -1,7 +1,6 @@
 -- What holds of every core of every run, so that its own casts are accepted.
 use Rattle.std.specs.Prelude.{◌≡◌, ℕ, ◌≤◌, ◌<◌, List, [], ◌∷◌, ◌++◌, length, true, Some}
 use Rattle.iss_base.specs.Lists.{Different, In}
-use Rattle.iss_request.specs.Formats.{HasSpelling}
 use Rattle.iss_request.specs.Log.{ids, log_ids}
 use Rattle.iss_request.specs.declared.ids.ReqId.{ReqId}
 use Rattle.iss_request.specs.declared.ids.Slot.{Slot}
@@ -32,8 +31,3 @@ pub record IsSoundCore {Msg : Type 0} (R : Rules) (M : Module Msg) (me : ℕ) (c
   pub reached : start_of R (log_of R M me c.past) c.past.epoch ≤ length (log_of R M me c.past)
   pub settled : (e k : ℕ) (v : Value) → adopted_at c.past.adopted e k ≡ Some v → e < c.past.epoch
   pub unborn : (e l : ℕ) → c.past.epoch < e → c.past.evidence e l ≡ []
-
--- and all that it holds has a spelling
-pub record IsReadyCore {Msg : Type 0} (R : Rules) (M : Module Msg) (me : ℕ) (c : Core Msg) : Type 0 where
-  pub sound : IsSoundCore R M me c
-  pub spelled : (q : Request) → In q (held c) → HasSpelling q

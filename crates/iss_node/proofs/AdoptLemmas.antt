@@ -15,7 +15,7 @@ use Rattle.iss_log.specs.Chains.{ChainsState, IsChainOf, chain_of, end_of, strin
 use Rattle.iss_log.specs.LogState.{LogState, value_at}
 use Rattle.iss_model.proofs.Casts.{adopts-sound, kept-sound}
 use Rattle.iss_rules.proofs.Checked.{cert-same, end-same, strings-same}
-use Rattle.iss_rules.proofs.Logs.{Settled, log-chain, log-kept}
+use Rattle.iss_rules.proofs.Logs.{Settled, log-chain, log-kept, IsLog}
 use Rattle.iss_rules.proofs.Longest.{Bounded}
 use Rattle.iss_rules.proofs.Pieces.{adopts-later, adopts-settled}
 use Rattle.iss_model.proofs.Steps.{IsAdopted}
@@ -25,7 +25,7 @@ use Rattle.iss_rules.specs.Formats.{formats_of}
 use Rattle.iss_rules.specs.Parcels.{Formats}
 use Rattle.iss_rules.specs.Votes.{cert_on, keeping}
 use Rattle.iss_model.specs.Node.{Core, Early as Kept_early, Turn, adopts_piece, grown_strings, in_next_epoch, joined, onward, returned, takes_each}
-use Rattle.iss_rules.specs.Past.{IsLog, Past, Piece, adopted_at, adopts, before_own, cell, log_of}
+use Rattle.iss_rules.specs.Past.{Past, Piece, adopted_at, adopts, before_own, cell, log_of}
 use Rattle.iss_rules.specs.Rules.{Rules}
 use Rattle.iss_model.specs.Sound.{IsSoundCore}
 use Rattle.iss_node.proofs.EpochLemmas.{IsOver}

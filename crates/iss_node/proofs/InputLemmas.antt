@@ -13,13 +13,13 @@ use Rattle.iss_layout.specs.Layout.{IsFair, leads, segment}
 use Rattle.iss_log.specs.Chains.{ChainsState, IsChainOf, chain_of, strings_from}
 use Rattle.iss_log.specs.LogState.{LogState, value_at}
 use Rattle.iss_model.proofs.Casts.{inputs-sound}
-use Rattle.iss_rules.proofs.Logs.{Later, before-later, log-chain, log-kept, takes-later}
+use Rattle.iss_rules.proofs.Logs.{Later, before-later, log-chain, log-kept, takes-later, IsLog}
 use Rattle.iss_rules.proofs.Longest.{Bounded}
 use Rattle.iss_rules.specs.Concrete.{number_of, plan_at, rules_of, start_at}
 use Rattle.iss_rules.specs.Formats.{formats_of}
 use Rattle.iss_rules.specs.Parcels.{Formats}
 use Rattle.iss_model.specs.Node.{Core, inputs, own_claims, packed, returned}
-use Rattle.iss_rules.specs.Past.{IsLog, Past, before_own, log_of, params_of, taken_in, takes}
+use Rattle.iss_rules.specs.Past.{Past, before_own, log_of, params_of, taken_in, takes}
 use Rattle.iss_model.specs.Sound.{IsSoundCore}
 use Rattle.iss_rules.proofs.Layouts.{start-times}
 use Rattle.iss_node.proofs.GivenLemmas.{slot-in, slot-next}

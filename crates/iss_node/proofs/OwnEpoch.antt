@@ -7,10 +7,10 @@ use Rattle.iss_base.proofs.Lists.{chain-part, extends-cons, extends-length, exte
 use Rattle.iss_layout.proofs.FairLemmas.{few_nodes}
 use Rattle.iss_log.specs.LogState.{LogState, ahead_at, value_at}
 use Rattle.iss_rules.specs.Concrete.{rules_of}
-use Rattle.iss_rules.specs.Past.{IsLog, Past, adopted_at, before_at, cell, cut_at, epoch_at, log_of, start_of}
+use Rattle.iss_rules.specs.Past.{Past, adopted_at, before_at, cell, cut_at, epoch_at, log_of, start_of}
+use Rattle.iss_rules.proofs.Logs.{IsLog, log-chain}
 use Rattle.iss_rules.proofs.Ending.{HasSlots}
 use Rattle.iss_rules.proofs.Epochs.{epoch-high, epoch-unique, start-mono}
-use Rattle.iss_rules.proofs.Logs.{log-chain}
 use Rattle.iss_rules.proofs.Longest.{Bounded, cell-epoch, longest}
 use Rattle.iss_node.specs.State.{slot_value}
 use Rattle.iss_request.specs.Setup.{IsGoodSetup}

@@ -4,9 +4,10 @@ use Rattle.iss_log.specs.LogState.{GoesOn}
 use Rattle.iss_rules.specs.Concrete.{rules_of}
 use Rattle.iss_rules.specs.Formats.{formats_of}
 use Rattle.iss_rules.specs.Parcels.{Formats}
-use Rattle.iss_model.specs.Node.{Core, Dropped as Not_taken, Stepped, Taken as Was_taken, Turn, ends, settled}
+use Rattle.iss_model.specs.Node.{Core, Dropped as Not_taken, Stepped, Taken as Was_taken, Turn}
 use Rattle.iss_rules.specs.Past.{Past, is_complete}
 use Rattle.iss_rules.specs.Rules.{Rules}
+use Rattle.iss_model.specs.Frames.{ends_in, frame_of, settled_in}
 use Rattle.iss_causes.specs.declared.causes.NodeEvent.{NodeEvent}
 use Rattle.iss_causes.specs.declared.causes.NodeEvent.TheVariants.{Packet as Gets, Propose as Proposes, Timeout as Fires, AskFrom as Asks}
 use Rattle.iss_causes.specs.declared.causes.Why.{Why}
@@ -77,13 +78,13 @@ IsTurnBehind {Msg = Msg} m stands old turn first new outcome = (t : Turn Msg) �
 abbrev pub IsSettled : {M Msg : Type 0} → Module Msg → Relation M Msg → ReplicaState M Msg → ReplicaState M Msg →
     Answered → Answered → Type 0
 IsSettled {Msg = Msg} m stands old new step answer = (c : Core Msg) (stepped : Stepped Msg) → IsStep m stands c stepped old step →
-    IsStep m stands c (settled (formats_of old.setup m) (rules_of old.setup) m old.me.0 stepped) new answer
+    IsStep m stands c (settled_in (frame_of old.setup m) old.me.0 stepped) new answer
 
 -- the node voted on its epoch, and the next one begins
 pub record IsEnded {M Msg : Type 0} (m : Module Msg) (stands : Relation M Msg) (old new : ReplicaState M Msg)
     (outcome : Outcome) (early : List (Early Msg)) : Type 0 where
   pub turned : (past : Past Msg) → IsTied m stands old past → is_complete (rules_of old.setup) m old.me.0 past ≡ true →
-      IsTurned m stands (ends (formats_of old.setup m) (rules_of old.setup) m old.me.0 (core_of old past)) new outcome
+      IsTurned m stands (ends_in (frame_of old.setup m) old.me.0 (core_of old past)) new outcome
   pub kept : early ≡ old.early
 
 -- the epoch's end, whatever past the parts are tied to: it was closed, and the next one opened

@@ -5,12 +5,12 @@ ghost use Rattle.iss_ballots.specs.Ballots.{cert_in};
 ghost use Rattle.iss_keys.specs.Directories.{AreKeysOf};
 ghost use Rattle.iss_log.specs.LogState.{value_at};
 ghost use Rattle.iss_rules.specs.Concrete.{keys_of, rules_of};
-ghost use Rattle.iss_rules.specs.Formats.{formats_of};
 ghost use Rattle.iss_rules.specs.Votes.{cert_on};
 ghost use Rattle.iss_model.specs.Node.{Core, idle, step};
 ghost use Rattle.iss_rules.specs.Past.{Past, log_of};
 ghost use Rattle.iss_rules.specs.Setups.{IsSetupOf};
-ghost use Rattle.iss_model.specs.Views.{accepted_by, claims_of_bytes, is_castable_now, is_unfilled, unfilled};
+ghost use Rattle.iss_model.specs.Views.{accepted_by, is_castable_now, is_unfilled, unfilled};
+ghost use Rattle.iss_model.specs.Frames.{claims_of_bytes_in, frame_of, step_in};
 ghost use Rattle.iss_node.specs.State.{IsTied, Stands, accepted_of};
 ghost use Rattle.iss_request.specs.Log.{ids};
 ghost use Rattle.iss_node.specs.Steps.{HasRetreated, IsAnswer, IsHeldStepOf, IsLeft, IsOfNodes, IsSameNode};
@@ -107,7 +107,7 @@ impl<M: Sequenced> Node<M> {
     pub fn take(&mut self, alloc: Global, event: NodeEvent) -> Answer
         ensures answer { (c : Core M.Msg) → Stands M.meaning M.stands self.old c →
             IsAnswer M.meaning M.stands (IsOfNodes self.old.parts.setup.n event) c
-            (step (formats_of self.old.parts.setup M.meaning) (rules_of self.old.parts.setup) M.meaning self.old.parts.me.0 c event) self.new result }
+            (step_in (frame_of self.old.parts.setup M.meaning) self.old.parts.me.0 c event) self.new result }
         ensures left { IsLeft self.old self.new result }
         ensures same { (self.new.parts.setup ≡ self.old.parts.setup) × (self.new.parts.me ≡ self.old.parts.me) }
     {
@@ -139,7 +139,7 @@ impl<M: Sequenced> Node<M> {
     /// leads there.
     pub fn claims_of(&self, alloc: Global, bytes: &[u8]) -> Result<Row<Claim>, NoMemory>
         ensures { IfOk result (λ claims. (c : Core M.Msg) → Stands M.meaning M.stands self.now c →
-            claims ≡ claims_of_bytes (formats_of self.now.parts.setup M.meaning) (rules_of self.now.parts.setup) M.meaning self.now.parts.me.0 c bytes.now) }
+            claims ≡ claims_of_bytes_in (frame_of self.now.parts.setup M.meaning) self.now.parts.me.0 c bytes.now) }
     {
         self.parts.claims_of_bytes(alloc, bytes)
     }

@@ -2,9 +2,10 @@
 ghost use Rattle.std.specs.Prelude.{◌≡◌, ◌<◌, ◌==◌, suc, true, IfOk};
 ghost use Rattle.iss_checkpoint.specs.Bodies.{parse_vote};
 ghost use Rattle.iss_rules.specs.Concrete.{rules_of};
-ghost use Rattle.iss_rules.specs.Formats.{formats_of, message_in, parcel_of_kind, piece_in, vote_in, whole};
+ghost use Rattle.iss_rules.specs.Formats.{message_in, parcel_of_kind, piece_in, vote_in, whole};
 ghost use Rattle.iss_model.specs.Node.{Core, at_instance, keeps_early, settled, takes_bytes, takes_message, takes_parcel};
 ghost use Rattle.iss_model.specs.Views.{claims_of_bytes, claims_of_parcel};
+ghost use Rattle.iss_model.specs.Frames.{claims_of_bytes_in, frame_of};
 ghost use Rattle.iss_node.specs.Parcels.{IsFromNode, seen_body};
 ghost use Rattle.iss_node.specs.State.{IsTied, seen_one};
 ghost use Rattle.iss_node.specs.Steps.{IsHeldStepOf, IsLater, IsSameNode, IsStepOf};
@@ -44,7 +45,7 @@ impl<M: Sequenced> Replica<M> {
         bytes: &[u8],
     ) -> Result<Row<Claim>, NoMemory>
         ensures { IfOk result (λ claims. (c : Core M.Msg) → IsTied M.meaning M.stands self.now c.past →
-            claims ≡ claims_of_bytes (formats_of self.now.setup M.meaning) (rules_of self.now.setup) M.meaning self.now.me.0 c bytes.now) }
+            claims ≡ claims_of_bytes_in (frame_of self.now.setup M.meaning) self.now.me.0 c bytes.now) }
     {
         match Packet::decode(alloc, self.setup.version, self.setup.n, bytes) {
             Ok(packet) => self.claims_of_packet(alloc, &packet),

@@ -1,13 +1,12 @@
 //! The events of a schedule, one after the other.
 ghost use Rattle.std.specs.Prelude.{◌≡◌, IfOk, None};
-ghost use Rattle.iss_rules.specs.Concrete.{rules_of};
-ghost use Rattle.iss_rules.specs.Formats.{formats_of};
 ghost use Rattle.iss_theorems.specs.Certified.{AreOfLogs, WereDelivered};
 ghost use Rattle.iss_theorems.specs.Conserved.{AcceptsOnce, IsConserved};
 ghost use Rattle.iss_theorems.specs.Ends.{HasEvidence};
 ghost use Rattle.iss_theorems.specs.OneLog.{IsOneLog, run_after};
-ghost use Rattle.iss_model.specs.Run.{Progress, goes_on};
+ghost use Rattle.iss_model.specs.Run.{Progress};
 ghost use Rattle.iss_rules.specs.Setups.{IsSetupOf};
+ghost use Rattle.iss_model.specs.Frames.{frame_of, goes_on_in};
 ghost use Rattle.iss_replay.specs.Stands.{StandsForRun, numbered};
 ghost use Rattle.iss_schedule.specs.Events.{AreInRange, IsInRange};
 
@@ -93,8 +92,7 @@ fn go_on<M: Sequenced>(
 ) -> Result<Option<End>, NoMemory>
     requires { IsInRange world.old.running.setup event.now }
     ensures went { IfOk result (λ end. (p : Progress M.Msg) → p.event ≡ number → StandsForRun M.meaning M.stands world.old drops.old None p →
-        StandsForRun M.meaning M.stands world.new drops.new (numbered number end)
-        (goes_on world.old.running.setup (formats_of world.old.running.setup M.meaning) (rules_of world.old.running.setup) M.meaning p event.now)) }
+        StandsForRun M.meaning M.stands world.new drops.new (numbered number end) (goes_on_in (frame_of world.old.running.setup M.meaning) p event.now)) }
     ensures same { world.new.running.setup ≡ world.old.running.setup }
 {
     match world.event(alloc, event) {

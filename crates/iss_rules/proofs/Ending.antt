@@ -5,10 +5,10 @@ use Rattle.iss_base.specs.Lists.{Extends}
 use Rattle.iss_base.proofs.Lists.{extends-length, oldest-all, oldest-part}
 use Rattle.iss_request.specs.declared.requests.Value.{Value}
 use Rattle.iss_sb.specs.Evidence.{Module}
-use Rattle.iss_rules.specs.Past.{IsLog, Past, advanced, before_own, cut_at, ended_log, epoch_at, is_complete, log_of, start_of}
+use Rattle.iss_rules.specs.Past.{Past, advanced, before_own, cut_at, ended_log, epoch_at, is_complete, log_of, start_of}
+use Rattle.iss_rules.proofs.Logs.{IsLog, Later, Settled, log-chain, log-later}
 use Rattle.iss_rules.specs.Rules.{Rules}
 use Rattle.iss_rules.proofs.Epochs.{epoch-high, start-mono, start-within}
-use Rattle.iss_rules.proofs.Logs.{Later, Settled, log-chain, log-later}
 use Rattle.iss_rules.proofs.Longest.{Bounded, cell-epoch, longest}
 
 -- epochs have slots, and no more than the most

@@ -26,7 +26,7 @@ use Rattle.iss_transfer.specs.declared.pieces.Piece.{Piece as Pieced}
 use Rattle.iss_transfer.proofs.PieceGrammar.{piece-table}
 use Rattle.iss_rules.specs.Formats.{ask_in, formats_of, message_in, parcel_in, parcel_of_kind, piece_in, request_in, vote_in, whole}
 use Rattle.iss_rules.specs.Parcels.{Body, OfAsk, OfModule, OfPiece, OfRequest, OfVote, Parcel}
-use Rattle.iss_rules.specs.Faithful.{IsReadValue, is_message}
+use Rattle.iss_rules.proofs.Faithful.{IsReadValue, is_message}
 
 routed : (version n : ℕ) (bytes : List ℕ) (p : Packet) → whole (parse_packet version n bytes) ≡ Some p → is_routed n p ≡ true
 unfolding parse_packet

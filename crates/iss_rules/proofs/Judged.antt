@@ -11,9 +11,14 @@ use Rattle.iss_request.specs.declared.requests.Batch.{Batch}
 use Rattle.iss_request.specs.declared.requests.Request.{Request}
 use Rattle.iss_request.specs.declared.requests.Value.{Value}
 use Rattle.iss_causes.specs.declared.causes.Refusal.{Refusal}
-use Rattle.iss_rules.specs.Judge.{Judged, any, any_marked, judge, marks}
+use Rattle.iss_rules.specs.Judge.{any, any_marked, judge, marks}
 use Rattle.iss_rules.specs.Rules.{Rules}
 use Rattle.iss_rules.proofs.Ids.{has-not, ids-in, not-has}
+
+-- each entry of an accept list was accepted over the marks of the older ones
+abbrev pub Judged : Rules → List Value → ℕ → ℕ → List (Slot × Batch) → Type 0
+Judged R before e l [] = Unit {0}
+Judged R before e l (x ∷ xs) = Judged R before e l xs × (judge R before e l (marks xs) x.1 ≡ None)
 
 any-none : {A : Type 0} (p : A → Bool) (xs : List A) → any p xs ≡ false → (x : A) → In x xs → p x ≡ false
 any-none p [] h x i = absurd i

@@ -1,3 +1,4 @@
+pub mod Faithful
 pub mod Nodes
 pub mod Reversed
 pub mod Epochs

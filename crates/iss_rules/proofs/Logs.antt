@@ -1,15 +1,18 @@
 -- The log of one core: each value stands in its cell, and it grows with the evidence.
 use Rattle.std.proofs.Common.{◌≡◌, ◌≢◌, inl, inr, ℕ, suc, zero, ◌+◌, ◌-◌, ◌*◌, ◌≤◌, ◌<◌, List, [], ◌∷◌, ◌++◌, length, Option, Some, None, refl, sym, ◌∙◌, arith, append_assoc, mul-le-mul_right}
 use Rattle.std.proofs.lemmas.Bool.Decides.{leb_tells}
-use Rattle.iss_base.specs.Lists.{Extends}
+use Rattle.iss_base.specs.Lists.{Extends, Chain}
 use Rattle.iss_base.proofs.Lists.{extends-refl, chains-meet, first-cases, same_or_not, set_at2-cons, set_at2-other}
 use Rattle.iss_request.specs.declared.requests.Value.{Value}
 use Rattle.iss_sb.specs.declared.effects.Input.{Input}
 use Rattle.iss_sb.specs.declared.effects.Params.{Params}
 use Rattle.iss_sb.specs.Evidence.{Item, Module, delivered}
-use Rattle.iss_rules.specs.Past.{IsLog, Past, Piece, adopted_at, before, before_at, cell, epoch_at, grow, grown, leader_at, log_of, made_in, params_at, start_of, takes, newborn}
+use Rattle.iss_rules.specs.Past.{Past, Piece, adopted_at, before, before_at, cell, epoch_at, grow, grown, leader_at, log_of, made_in, params_at, start_of, takes, newborn}
 use Rattle.iss_rules.specs.Rules.{Rules}
 use Rattle.iss_rules.proofs.Epochs.{cut-extends}
+
+abbrev pub IsLog : {Msg : Type 0} → Rules → Module Msg → ℕ → Past Msg → List Value → Type 0
+IsLog R M me c = Chain (λ older v. cell R M me c older ≡ Some v)
 
 -- more evidence delivers what less did
 pub delivered-append : {Msg : Type 0} (M : Module Msg) (p : Params) (me : ℕ) (newer xs : List (Item Msg)) (s : ℕ) (v : Value) →

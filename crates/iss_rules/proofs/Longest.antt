@@ -5,10 +5,10 @@ use Rattle.iss_base.specs.Lists.{Chain, Extends}
 use Rattle.iss_base.proofs.Lists.{chain-part, extends-next, first-cases}
 use Rattle.iss_request.specs.declared.requests.Value.{Value}
 use Rattle.iss_sb.specs.Evidence.{Module, delivered}
-use Rattle.iss_rules.specs.Past.{IsLog, Past, adopted_at, before_at, cell, epoch_at, grow, grown, leader_at, log_of, params_at}
+use Rattle.iss_rules.specs.Past.{Past, adopted_at, before_at, cell, epoch_at, grow, grown, leader_at, log_of, params_at}
+use Rattle.iss_rules.proofs.Logs.{IsLog, log-chain, logs-meet}
 use Rattle.iss_rules.specs.Rules.{Rules}
 use Rattle.iss_rules.proofs.Epochs.{epoch-high, start-most, start-mono}
-use Rattle.iss_rules.proofs.Logs.{log-chain, logs-meet}
 
 -- a log grows from any of its beginnings
 pub grow-resume : (R : Rules) {Msg : Type 0} (M : Module Msg) (me : ℕ) (c : Past Msg) (log : List Value) → IsLog R M me c log → (m : ℕ) →

@@ -5,11 +5,11 @@ use Rattle.iss_base.specs.Lists.{Chain, Extends, nth, oldest}
 use Rattle.iss_base.proofs.Lists.{chain-part, eqb-same, extends-length, extends-next, extends-trans, first-cases, first-some, is-eq, none-some, nth-some, oldest-all, oldest-extends, oldest-part}
 use Rattle.iss_request.specs.declared.requests.Value.{Value}
 use Rattle.iss_sb.specs.Evidence.{Module, delivered}
-use Rattle.iss_rules.specs.Past.{IsLog, Past, Piece, adopted_at, adopts, before, before_at, cell, cut_at, epoch_at, leader_at, log_of, params_at, start_of}
+use Rattle.iss_rules.specs.Past.{Past, Piece, adopted_at, adopts, before, before_at, cell, cut_at, epoch_at, leader_at, log_of, params_at, start_of}
+use Rattle.iss_rules.proofs.Logs.{IsLog, Later, Settled, grow-far, log-chain, log-kept, log-later, logs-meet}
 use Rattle.iss_rules.specs.Rules.{Rules}
 use Rattle.iss_rules.proofs.Ending.{HasSlots}
 use Rattle.iss_rules.proofs.Epochs.{cut-extends, epoch-low, epoch-unique, length-cut, start-cut, start-extends, start-most}
-use Rattle.iss_rules.proofs.Logs.{Later, Settled, grow-far, log-chain, log-kept, log-later, logs-meet}
 
 pub adopts-later : (R : Rules) {Msg : Type 0} (c : Past Msg) (piece : Piece) → Settled R c → Later R c (adopts c piece)
 adopts-later R c piece h =

@@ -1,7 +1,7 @@
 -- Windows move only past what the log holds.
 use Rattle.std.proofs.Common.{◌≡◌, inl, inr, ℕ, suc, ◌+◌, ◌<◌, ◌≤◌, true, List, sym, ap, ◌∙◌, subst, arith, true≢false}
 use Rattle.std.proofs.lemmas.Bool.Decides.{leb_tells}
-use Rattle.iss_base.specs.Lists.{In}
+use Rattle.iss_base.specs.Lists.{In, Extends}
 use Rattle.iss_request.specs.Log.{log_ids}
 use Rattle.iss_request.specs.declared.ids.ReqId.{ReqId}
 use Rattle.iss_request.specs.declared.requests.Value.{Value}
@@ -11,8 +11,13 @@ use Rattle.iss_window.specs.declared.windows.Place.{Place}
 use Rattle.iss_window.proofs.KeptLemmas.{is-above, is-below, is-inside}
 use Rattle.iss_window.proofs.LowLemmas.{low-least}
 use Rattle.iss_rules.specs.Concrete.{rules_of}
-use Rattle.iss_rules.specs.SoundRules.{AreWindows}
 use Rattle.iss_rules.proofs.Ids.{has-in, in-has, log_ids-extends}
+use Rattle.iss_rules.specs.Rules.{Rules}
+
+-- windows move only past what the log holds
+pub record AreWindows (R : Rules) : Type 0 where
+  pub kept : (old new : List Value) (d e : ℕ) (x : ReqId) → R.inside old d x ≡ true → Extends old new → d ≤ e →
+      (In x (log_ids new) → ⊥) → R.inside new e x ≡ true
 
 -- a number that is inside a window
 pub inside-at : (w : ℕ) (ids : List ReqId) (x : ReqId) (at : ℕ) → IsLow ids x.client at → is_inside (place_of w ids x) ≡ true →

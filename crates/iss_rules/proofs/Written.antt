@@ -12,7 +12,7 @@ use Rattle.iss_request.proofs.OneSpelling.{request_grammar}
 use Rattle.iss_sb.specs.Evidence.{Module}
 use Rattle.iss_rules.specs.Formats.{formats_of, message_in, packet_as, parcel_in, parcel_of_kind, request_in, whole}
 use Rattle.iss_rules.specs.Parcels.{Body, OfAsk, OfModule, OfPiece, OfRequest, OfVote, Parcel}
-use Rattle.iss_rules.specs.Faithful.{IsFaithful, IsReadBack, is_message}
+use Rattle.iss_rules.proofs.Faithful.{IsFaithful, IsReadBack, is_message}
 use Rattle.iss_rules.proofs.FromNodes.{are-read, ask-sort, no-message, piece-sort, pieces-read, request-sort, requests-spelled, vote-sort}
 
 -- a thing that is spelled is read as itself, or not at all

@@ -1,5 +1,5 @@
 -- Whether a batch is accepted in a segment: the first refusal that holds of any of its requests.
-use Rattle.std.specs.Prelude.{◌≡◌, ℕ, Bool, false, not, ◌||◌, ◌==◌, nat_lt, cond, List, [], ◌∷◌, ◌++◌, length, Option, Some, None}
+use Rattle.std.specs.Prelude.{ℕ, Bool, false, not, ◌||◌, ◌==◌, nat_lt, cond, List, [], ◌∷◌, ◌++◌, length, Option, Some, None}
 use Rattle.std.specs.List.{list_any}
 use Rattle.iss_request.specs.Log.{has_id, ids, log_ids}
 use Rattle.iss_request.specs.declared.ids.ReqId.{ReqId}
@@ -34,8 +34,3 @@ judge R before e l marked batch =
 abbrev pub marks : List (Slot × Batch) → List ReqId
 marks [] = []
 marks (x ∷ xs) = ids x.1 ++ marks xs
-
--- each entry of an accept list was accepted over the marks of the older ones
-abbrev pub Judged : Rules → List Value → ℕ → ℕ → List (Slot × Batch) → Type 0
-Judged R before e l [] = Unit {0}
-Judged R before e l (x ∷ xs) = Judged R before e l xs × (judge R before e l (marks xs) x.1 ≡ None)

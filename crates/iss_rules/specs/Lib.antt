@@ -1,5 +1,4 @@
 pub mod Books
-pub mod Faithful
 pub mod Parcels
 pub mod Setups
 pub mod SoundRules

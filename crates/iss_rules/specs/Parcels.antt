@@ -1,6 +1,5 @@
 -- What a packet holds, whatever its bytes.
-use Rattle.std.specs.Prelude.{ℕ}
-use Rattle.std.specs.Prelude.{List, Option}
+use Rattle.std.specs.Prelude.{ℕ, List, Option}
 use Rattle.iss_checkpoint.specs.declared.votes.Vote.{Vote}
 use Rattle.iss_request.specs.declared.requests.Request.{Request}
 use Rattle.iss_transfer.specs.declared.pieces.Piece.{Piece as Sent_piece}

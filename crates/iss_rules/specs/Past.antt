@@ -1,7 +1,7 @@
 -- What a node's log rests on: what it took in each instance, and the log that follows.
-use Rattle.std.specs.Prelude.{◌≡◌, ℕ, zero, suc, ◌+◌, ◌-◌, ◌*◌, ◌==◌, nat_le, Bool, cond}
+use Rattle.std.specs.Prelude.{ℕ, zero, suc, ◌+◌, ◌-◌, ◌*◌, ◌==◌, nat_le, Bool, cond}
 use Rattle.std.specs.Prelude.{List, [], ◌∷◌, Option, Some, None, length}
-use Rattle.iss_base.specs.Lists.{Chain, first_of, nth, oldest, over, set_at2}
+use Rattle.iss_base.specs.Lists.{first_of, nth, oldest, over, set_at2}
 use Rattle.iss_request.specs.declared.ids.Slot.{Slot}
 use Rattle.iss_request.specs.declared.requests.Batch.{Batch}
 use Rattle.iss_request.specs.declared.requests.Value.{Value}
@@ -80,9 +80,6 @@ log_of R M me c = grow R M me c (suc c.epoch * R.most) []
 -- the log before an epoch
 abbrev pub before : {Msg : Type 0} → Rules → Module Msg → ℕ → Past Msg → ℕ → List Value
 before R M me c e = cut_at R (log_of R M me c) e
-
-abbrev pub IsLog : {Msg : Type 0} → Rules → Module Msg → ℕ → Past Msg → List Value → Type 0
-IsLog R M me c = Chain (λ older v. cell R M me c older ≡ Some v)
 
 -- the log before the node's own epoch, and whether a node leads that epoch
 abbrev pub before_own : {Msg : Type 0} → Rules → Module Msg → ℕ → Past Msg → List Value

@@ -1,12 +1,9 @@
 -- What rules owe.
 use Rattle.std.specs.Prelude.{◌≡◌, ℕ, ◌<◌, ◌≤◌, true, List}
-use Rattle.iss_base.specs.Lists.{Extends, In}
 use Rattle.iss_keys.specs.Directories.{VerifiesBy, directory_of}
 use Rattle.iss_request.specs.Formats.{requests_most}
 use Rattle.iss_request.specs.declared.requests.Value.{Value}
 use Rattle.iss_request.specs.declared.setups.Setup.{Setup}
-use Rattle.iss_request.specs.Log.{log_ids}
-use Rattle.iss_request.specs.declared.ids.ReqId.{ReqId}
 use Rattle.iss_sb.specs.Calls.{IsGoodParams}
 use Rattle.iss_sb.specs.Evidence.{Module}
 use Rattle.iss_rules.specs.Past.{before_at, epoch_at, leader_at}
@@ -26,8 +23,3 @@ pub record IsSoundRules {Msg : Type 0} (s : Setup) (M : Module Msg) (R : Rules) 
   pub batch : R.batch ≤ requests_most s.version
   pub signers : (k : ℕ) (statement sig : List ℕ) → R.verifies k statement sig ≡ true →
       VerifiesBy (directory_of s.n s.clients s.keys).nodes k statement sig
-
--- windows move only past what the log holds
-pub record AreWindows (R : Rules) : Type 0 where
-  pub kept : (old new : List Value) (d e : ℕ) (x : ReqId) → R.inside old d x ≡ true → Extends old new → d ≤ e →
-      (In x (log_ids new) → ⊥) → R.inside new e x ≡ true

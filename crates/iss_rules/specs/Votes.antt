@@ -1,6 +1,5 @@
 -- Votes and certificates that a node holds: whose they are, whether they are true, and when votes make a certificate.
-use Rattle.std.specs.Prelude.{ℕ, suc, ◌==◌, nat_le, cond, Bool, true, ◌&&◌}
-use Rattle.std.specs.Prelude.{List, [], ◌∷◌, Option, Some, None, length}
+use Rattle.std.specs.Prelude.{ℕ, suc, ◌==◌, nat_le, cond, Bool, true, ◌&&◌, List, [], ◌∷◌, Option, Some, None, length}
 use Rattle.std.specs.List.{list_all}
 use Rattle.iss_checkpoint.specs.Tallies.{certificate_by}
 use Rattle.iss_checkpoint.specs.declared.votes.Cert.{Cert}

@@ -24,8 +24,9 @@ use Rattle.iss_rules.specs.Past.{leads_in, log_of, params_of}
 use Rattle.iss_rules.specs.Rules.{Rules}
 use Rattle.iss_causes.specs.Ends.{End}
 use Rattle.iss_model.specs.Run.{Held, after_step, as_signed, at_core, booked, by_collision, by_forged, claims_at, collision_in, early_of, first_forged, node_of, turned_to}
-use Rattle.iss_rules.specs.Faithful.{is_message}
-use Rattle.iss_model.specs.Sound.{IsReadyCore, carried}
+use Rattle.iss_rules.proofs.Faithful.{is_message}
+use Rattle.iss_model.specs.Sound.{carried}
+use Rattle.iss_model.proofs.Ready.{IsReadyCore}
 use Rattle.iss_model.specs.Views.{claims_of_body, claims_of_parcel}
 use Rattle.iss_model.proofs.Casts.{cast-fit, cast-read, casting-ready, step-ready}
 use Rattle.iss_theorems.proofs.Certs.{AreCertified, IsKeptCert, IsTrueSign, cert-there, claims-in, counted-certified, in-claims, true-each}

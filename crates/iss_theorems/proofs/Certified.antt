@@ -15,8 +15,8 @@ use Rattle.iss_rules.specs.Formats.{formats_of}
 use Rattle.iss_theorems.specs.OneLog.{run_after}
 use Rattle.iss_rules.specs.Past.{Past, cell, epoch_at, leader_at, log_of, params_at}
 use Rattle.iss_rules.specs.Rules.{Rules}
-use Rattle.iss_rules.specs.Faithful.{IsFaithful}
 use Rattle.iss_rules.specs.Setups.{IsSetupOf}
+use Rattle.iss_rules.proofs.Faithful.{IsFaithful}
 use Rattle.iss_model.specs.Runs.{AreAtCores}
 use Rattle.iss_theorems.proofs.Certs.{in-signers, quorum-is, signs_of}
 use Rattle.iss_cluster.proofs.Checkpoints.{exact-of, quorums}

@@ -26,8 +26,8 @@ use Rattle.iss_rules.specs.Past.{Past, log_of}
 use Rattle.iss_rules.specs.Rules.{Rules}
 use Rattle.iss_causes.specs.Ends.{End}
 use Rattle.iss_model.specs.Run.{Happening, Held, Net, Progress, after_step, at_core, begin_net, begin_run, by_collision, by_forged, calms, collision_in, delivered_to, delivers, delivers_each, done, first_forged, goes_further, happens, loses, node_of, posted_all, pumps, run, turned_to, unless, with_network}
-use Rattle.iss_rules.specs.Faithful.{IsFaithful, IsReadBack}
 use Rattle.iss_rules.specs.Setups.{IsSetupOf}
+use Rattle.iss_rules.proofs.Faithful.{IsFaithful, IsReadBack}
 use Rattle.iss_cluster.proofs.Good.{Good}
 use Rattle.iss_rules.proofs.Ids.{ids-right}
 use Rattle.iss_theorems.proofs.OnePlace.{one-place, segments}

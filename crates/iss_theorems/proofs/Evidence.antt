@@ -22,8 +22,8 @@ use Rattle.iss_rules.specs.SoundRules.{IsSoundRules}
 use Rattle.iss_rules.specs.Rules.{Rules}
 use Rattle.iss_causes.specs.Ends.{Collision, End, Forged}
 use Rattle.iss_model.specs.Run.{Happening, Held, Progress, after_step, at_core, begin_run, by_collision, by_forged, calms, claims_at, collision_in, delivered_to, delivers, delivers_each, done, early_of, ended_at, first_forged, goes_further, happens, loses, node_of, pumps, run, turned_to, unless, with_network}
-use Rattle.iss_rules.specs.Faithful.{IsFaithful}
 use Rattle.iss_rules.specs.Setups.{IsSetupOf}
+use Rattle.iss_rules.proofs.Faithful.{IsFaithful}
 use Rattle.iss_model.specs.Runs.{AreAtCores}
 use Rattle.iss_rules.proofs.Layouts.{sound-rules}
 use Rattle.iss_theorems.proofs.OneLog.{premises}

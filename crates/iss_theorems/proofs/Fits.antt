@@ -12,14 +12,15 @@ use Rattle.iss_cluster.specs.Cluster.{Cluster, IsHashedLog, Message, Reach}
 use Rattle.iss_theorems.specs.Ends.{AreBooked, AreVoted}
 use Rattle.iss_rules.specs.Parcels.{Formats, OfModule, Parcel}
 use Rattle.iss_model.specs.Node.{Core, Early}
-use Rattle.iss_rules.specs.SoundRules.{IsSoundRules, AreWindows}
+use Rattle.iss_rules.specs.SoundRules.{IsSoundRules}
 use Rattle.iss_cluster.specs.Ordered.{Among}
 use Rattle.iss_rules.specs.Past.{log_of}
 use Rattle.iss_rules.specs.Rules.{Rules}
 use Rattle.iss_model.specs.Run.{Held, node_of}
-use Rattle.iss_rules.specs.Faithful.{IsFaithful}
+use Rattle.iss_rules.proofs.Faithful.{IsFaithful}
 use Rattle.iss_model.specs.Runs.{pasts_of}
-use Rattle.iss_model.specs.Sound.{IsReadyCore}
+use Rattle.iss_rules.proofs.Windows.{AreWindows}
+use Rattle.iss_model.proofs.Ready.{IsReadyCore}
 use Rattle.iss_theorems.proofs.Certs.{AreCertified}
 use Rattle.iss_theorems.proofs.Spelled.{AreReadPieces}
 use Rattle.iss_theorems.proofs.Standing.{AreStanding}

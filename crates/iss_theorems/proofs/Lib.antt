@@ -1,3 +1,4 @@
+pub mod SmallMoves
 pub mod Linked
 pub mod Voting
 pub mod Certs

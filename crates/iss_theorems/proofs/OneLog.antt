@@ -10,8 +10,8 @@ use Rattle.iss_rules.specs.Formats.{formats_of}
 use Rattle.iss_theorems.specs.OneLog.{IsClusterRun, IsOneLog, pasts_after, run_after}
 use Rattle.iss_cluster.specs.Ordered.{Ordered}
 use Rattle.iss_rules.specs.Past.{log_of}
-use Rattle.iss_rules.specs.Faithful.{IsFaithful}
 use Rattle.iss_rules.specs.Setups.{IsSetupOf}
+use Rattle.iss_rules.proofs.Faithful.{IsFaithful}
 use Rattle.iss_model.specs.Runs.{AreAtCores}
 use Rattle.iss_rules.proofs.Layouts.{sound-rules}
 use Rattle.iss_model.proofs.Printed.{once-turned, turned, turned-cut}

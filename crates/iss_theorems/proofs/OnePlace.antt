@@ -17,7 +17,8 @@ use Rattle.iss_sb.specs.Laws.{IsSafe}
 use Rattle.iss_cluster.specs.Cluster.{Backed, Cluster, IsTrueLog, Scheme, world_of}
 use Rattle.iss_rules.specs.Concrete.{number_of, plan_at, rules_of, slots_at, start_at}
 use Rattle.iss_theorems.specs.Conserved.{AcceptsOnce, One, first, second, third}
-use Rattle.iss_rules.specs.Judge.{Judged, marks}
+use Rattle.iss_rules.specs.Judge.{marks}
+use Rattle.iss_rules.proofs.Judged.{Judged, Accepted, accepted, entry-judged, one-slot, owner-of, unordered-of}
 use Rattle.iss_model.specs.Node.{flown}
 use Rattle.iss_rules.specs.SoundRules.{IsSoundRules}
 use Rattle.iss_cluster.specs.Ordered.{Among}
@@ -29,7 +30,6 @@ use Rattle.iss_rules.proofs.Epochs.{cut-extends, epoch-high, epoch-low, epoch-un
 use Rattle.iss_model.proofs.Filed.{Stood, flown-entry, not-nil}
 use Rattle.iss_cluster.proofs.Good.{Good}
 use Rattle.iss_rules.proofs.Ids.{log_ids-extends}
-use Rattle.iss_rules.proofs.Judged.{Accepted, accepted, entry-judged, one-slot, owner-of, unordered-of}
 use Rattle.iss_rules.proofs.Layouts.{sound-rules}
 use Rattle.iss_rules.proofs.Logs.{log-chain}
 use Rattle.iss_rules.proofs.Longest.{cell-epoch}

@@ -22,7 +22,7 @@ use Rattle.iss_model.specs.Node.{Core, Turn, grown_strings, inputs, joined, onwa
 use Rattle.iss_rules.specs.Past.{Past, advanced, before, cut_at, ended_log, is_complete, leads_in, log_of, made_in, params_of, start_of, takes}
 use Rattle.iss_rules.specs.Rules.{Rules}
 use Rattle.iss_model.specs.Run.{Held, as_signed, booked, posted_all, turned_to}
-use Rattle.iss_rules.specs.Faithful.{is_message}
+use Rattle.iss_rules.proofs.Faithful.{is_message}
 use Rattle.iss_model.specs.Runs.{pasts_of}
 use Rattle.iss_theorems.proofs.Booked.{ends-booked, takes-booked}
 use Rattle.iss_model.proofs.Casts.{bounded-core, ends-ready, inputs-ready, settled-core}

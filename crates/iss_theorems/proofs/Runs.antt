@@ -20,7 +20,7 @@ use Rattle.iss_rules.specs.Rules.{Rules}
 use Rattle.iss_causes.specs.Ends.{End}
 use Rattle.iss_rules.specs.Concrete.{request_of}
 use Rattle.iss_model.specs.Run.{Happening, Held, Progress, at_core, begin_run, calms, cores_of, delivered_to, delivers, delivers_each, done, goes_further, happens, loses, pumps, node_of, run, unless, with_network}
-use Rattle.iss_rules.specs.Faithful.{is_message}
+use Rattle.iss_rules.proofs.Faithful.{is_message}
 use Rattle.iss_model.specs.Runs.{AreAtCores, IsAtCore, pasts_of}
 use Rattle.iss_theorems.proofs.Answered.{at-fits}
 use Rattle.iss_rules.proofs.Logs.{newborn-log}

@@ -21,14 +21,14 @@ use Rattle.iss_cluster.specs.Cluster.{Backed, Cluster, Scheme, chain, chain_stri
 use Rattle.iss_rules.specs.Judge.{marks}
 use Rattle.iss_rules.specs.SoundRules.{IsSoundRules}
 use Rattle.iss_cluster.specs.Ordered.{Among}
-use Rattle.iss_rules.specs.Past.{IsLog, Past, Piece, adopted_at, before, before_at, epoch_at, leader_at, params_at}
+use Rattle.iss_rules.specs.Past.{Past, Piece, adopted_at, before, before_at, epoch_at, leader_at, params_at}
+use Rattle.iss_rules.proofs.Logs.{IsLog, Later}
 use Rattle.iss_rules.specs.Rules.{Rules}
-use Rattle.iss_rules.specs.Faithful.{IsReadValue}
+use Rattle.iss_rules.proofs.Faithful.{IsReadValue}
 use Rattle.iss_cluster.proofs.Agree.{before-is, begun, in-world, placed, right, world-at}
 use Rattle.iss_rules.proofs.Epochs.{epoch-low}
 use Rattle.iss_cluster.proofs.Good.{Good}
 use Rattle.iss_rules.proofs.Judged.{accepted, entry-judged}
-use Rattle.iss_rules.proofs.Logs.{Later}
 use Rattle.iss_theorems.proofs.Voting.{IsVoting}
 
 -- a value that is read again counts as spelled

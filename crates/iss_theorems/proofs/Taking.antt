@@ -15,7 +15,7 @@ use Rattle.iss_rules.specs.Past.{Past, Piece, adopted_log, adopts, before, befor
 use Rattle.iss_rules.specs.Rules.{Rules}
 use Rattle.iss_model.specs.Run.{Held, booked, turned_to}
 use Rattle.iss_cluster.specs.Ordered.{Among}
-use Rattle.iss_rules.specs.Faithful.{IsReadValue}
+use Rattle.iss_rules.proofs.Faithful.{IsReadValue}
 use Rattle.iss_model.specs.Runs.{pasts_of}
 use Rattle.iss_cluster.proofs.Agree.{separate-part}
 use Rattle.iss_theorems.proofs.Booked.{adopts-booked}

@@ -17,7 +17,8 @@ use Rattle.iss_causes.specs.declared.causes.NodeEvent.{NodeEvent}
 use Rattle.iss_causes.specs.declared.causes.NodeEvent.TheVariants.{Packet as Gets, Propose as Proposes, Timeout as Fires, AskFrom as Asks}
 use Rattle.iss_cluster.specs.Checkpoints.{scheme_of}
 use Rattle.iss_rules.specs.Books.{Signed}
-use Rattle.iss_cluster.specs.Cluster.{Cluster, IsBooked, IsHashedLog, IsVerified, MayGet, MayTake, Message, Names, Reach, Scheme, rest}
+use Rattle.iss_cluster.specs.Cluster.{Cluster, IsBooked, IsHashedLog, IsVerified, MayGet, MayTake, Message, Reach, Scheme, rest}
+use Rattle.iss_cluster.proofs.Heads.{Names}
 use Rattle.iss_theorems.specs.Ends.{AreBooked, AreVoted}
 use Rattle.iss_rules.specs.Parcels.{Body, Formats, OfModule, Parcel}
 use Rattle.iss_rules.specs.Votes.{all_verify}
@@ -27,9 +28,9 @@ use Rattle.iss_cluster.specs.Ordered.{Among}
 use Rattle.iss_rules.specs.Past.{Past, before, leads_in, log_of, params_of}
 use Rattle.iss_rules.specs.Rules.{Rules}
 use Rattle.iss_model.specs.Run.{Held, as_signed, booked, node_of, posted_all, turned_to}
-use Rattle.iss_rules.specs.Faithful.{is_message}
+use Rattle.iss_rules.proofs.Faithful.{is_message}
 use Rattle.iss_model.specs.Runs.{pasts_of}
-use Rattle.iss_model.specs.Sound.{IsReadyCore}
+use Rattle.iss_model.proofs.Ready.{IsReadyCore}
 use Rattle.iss_cluster.proofs.Agree.{separate-part}
 use Rattle.iss_theorems.proofs.Certs.{AreCertified, more-certified}
 use Rattle.iss_cluster.proofs.Checkpoints.{exact-of}

@@ -1,5 +1,4 @@
 pub mod Certified
 pub mod Conserved
 pub mod OneLog
-pub mod Turns
 pub mod Ends

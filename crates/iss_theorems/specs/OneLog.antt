@@ -10,15 +10,15 @@ use Rattle.iss_sb.specs.Evidence.{Module, Separate, is_correct}
 use Rattle.iss_cluster.specs.Checkpoints.{scheme_of}
 use Rattle.iss_cluster.specs.Cluster.{Cluster, Reach}
 use Rattle.iss_rules.specs.Concrete.{rules_of}
-use Rattle.iss_rules.specs.Formats.{formats_of}
 use Rattle.iss_rules.specs.SoundRules.{IsSoundRules}
 use Rattle.iss_cluster.specs.Ordered.{Among, IsExact, WasAccepted}
 use Rattle.iss_rules.specs.Past.{Past, log_of}
-use Rattle.iss_model.specs.Run.{Progress, begin_run, run}
+use Rattle.iss_model.specs.Run.{Progress, begin_run}
 use Rattle.iss_model.specs.Runs.{AreAtCores, IsPrefix, pasts_of}
+use Rattle.iss_model.specs.Frames.{frame_of, run_in}
 
 abbrev pub run_after : {Msg : Type 0} → Setup → Module Msg → List Event → Progress Msg
-run_after s M events = run s (formats_of s M) (rules_of s) M (begin_run s) events
+run_after s M events = run_in (frame_of s M) (begin_run s) events
 
 -- what each core took
 abbrev pub pasts_after : {Msg : Type 0} → Setup → Module Msg → List Event → ℕ → Past Msg

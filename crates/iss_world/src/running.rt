@@ -2,10 +2,10 @@
 ghost use Rattle.std.specs.Prelude.{◌≡◌, ◌<◌, IfOk, Some, reverse, slice_get, true, false};
 ghost use Rattle.iss_base.specs.Lists.{nth};
 ghost use Rattle.iss_rules.specs.Concrete.{rules_of};
-ghost use Rattle.iss_rules.specs.Formats.{formats_of};
 ghost use Rattle.iss_rules.specs.Past.{log_of};
-ghost use Rattle.iss_model.specs.Run.{Held, begin_held, calms, cores_of, delivers, delivers_each, done, happens, injects, loses, node_of, pumps, with_network};
+ghost use Rattle.iss_model.specs.Run.{Held, begin_held, cores_of, done, loses, node_of, with_network};
 ghost use Rattle.iss_rules.specs.Setups.{IsSetupOf};
+ghost use Rattle.iss_model.specs.Frames.{calms_in, delivers_each_in, delivers_in, frame_of, happens_in, injects_in, pumps_in};
 ghost use Rattle.iss_network.specs.Network.{cleared, due, held_to};
 ghost use Rattle.iss_schedule.specs.Events.{IsInRange};
 ghost use Rattle.iss_world.specs.Stands.{HasChanged, IsShown, IsStanding, Runs};
@@ -77,8 +77,7 @@ impl<M: Sequenced> Running<M> {
         requires range { IsInRange self.old.setup event.now }
         requires standing { IsStanding M.meaning M.stands self.old }
         ensures happened { IfOk result (λ r. (h : Held M.Msg) → Runs M.meaning M.stands self.old h →
-            HasChanged M.meaning M.stands self.new
-            (happens self.old.setup (formats_of self.old.setup M.meaning) (rules_of self.old.setup) M.meaning h event.now) r) }
+            HasChanged M.meaning M.stands self.new (happens_in (frame_of self.old.setup M.meaning) h event.now) r) }
         ensures same { self.new.setup ≡ self.old.setup }
     {
         match event {
@@ -121,9 +120,7 @@ impl<M: Sequenced> Running<M> {
         requires range { IsInRange self.old.setup (Event.Request core id.client id.number payload.now) }
         requires standing { IsStanding M.meaning M.stands self.old }
         ensures happened { IfOk result (λ r. (h : Held M.Msg) → Runs M.meaning M.stands self.old h →
-            HasChanged M.meaning M.stands self.new
-            (happens self.old.setup (formats_of self.old.setup M.meaning) (rules_of self.old.setup) M.meaning h
-            (Event.Request core id.client id.number payload.now)) r) }
+            HasChanged M.meaning M.stands self.new (happens_in (frame_of self.old.setup M.meaning) h (Event.Request core id.client id.number payload.now)) r) }
         ensures same { self.new.setup ≡ self.old.setup }
     {
         let directory = self.directory.directory();
@@ -135,8 +132,7 @@ impl<M: Sequenced> Running<M> {
     fn deliver(&mut self, alloc: Global, packet: u64) -> Result<Change, NoMemory>
         requires { IsStanding M.meaning M.stands self.old }
         ensures happened { IfOk result (λ r. (h : Held M.Msg) → Runs M.meaning M.stands self.old h →
-            HasChanged M.meaning M.stands self.new
-            (delivers self.old.setup (formats_of self.old.setup M.meaning) (rules_of self.old.setup) M.meaning h packet) r) }
+            HasChanged M.meaning M.stands self.new (delivers_in (frame_of self.old.setup M.meaning) h packet) r) }
         ensures same { self.new.setup ≡ self.old.setup }
     {
         let Some(sent) = self.network.packet(packet) else {
@@ -175,8 +171,7 @@ impl<M: Sequenced> Running<M> {
     fn pump(&mut self, alloc: Global) -> Result<Change, NoMemory>
         requires { IsStanding M.meaning M.stands self.old }
         ensures happened { IfOk result (λ r. (h : Held M.Msg) → Runs M.meaning M.stands self.old h →
-            HasChanged M.meaning M.stands self.new
-            (pumps self.old.setup (formats_of self.old.setup M.meaning) (rules_of self.old.setup) M.meaning h) r) }
+            HasChanged M.meaning M.stands self.new (pumps_in (frame_of self.old.setup M.meaning) h) r) }
         ensures same { self.new.setup ≡ self.old.setup }
     {
         let packets = self.due(alloc)?;
@@ -187,8 +182,7 @@ impl<M: Sequenced> Running<M> {
     fn deliver_each(&mut self, alloc: Global, packets: &[u64]) -> Result<Change, NoMemory>
         requires { IsStanding M.meaning M.stands self.old }
         ensures happened { IfOk result (λ r. (h : Held M.Msg) → Runs M.meaning M.stands self.old h →
-            HasChanged M.meaning M.stands self.new
-            (delivers_each self.old.setup (formats_of self.old.setup M.meaning) (rules_of self.old.setup) M.meaning packets.now h) r) }
+            HasChanged M.meaning M.stands self.new (delivers_each_in (frame_of self.old.setup M.meaning) packets.now h) r) }
         ensures same { self.new.setup ≡ self.old.setup }
     {
         for packet in packets {
@@ -203,8 +197,7 @@ impl<M: Sequenced> Running<M> {
     fn calm(&mut self, alloc: Global, most: u32) -> Result<Change, NoMemory>
         requires { IsStanding M.meaning M.stands self.old }
         ensures happened { IfOk result (λ r. (h : Held M.Msg) → Runs M.meaning M.stands self.old h →
-            HasChanged M.meaning M.stands self.new
-            (calms self.old.setup (formats_of self.old.setup M.meaning) (rules_of self.old.setup) M.meaning most h) r) }
+            HasChanged M.meaning M.stands self.new (calms_in (frame_of self.old.setup M.meaning) most h) r) }
         ensures same { self.new.setup ≡ self.old.setup }
     {
         for done in 0..most {
@@ -258,8 +251,7 @@ impl<M: Sequenced> Running<M> {
         requires core { core < cores_of self.old.setup }
         requires standing { IsStanding M.meaning M.stands self.old }
         ensures happened { IfOk result (λ r. (h : Held M.Msg) → Runs M.meaning M.stands self.old h →
-            HasChanged M.meaning M.stands self.new
-            (injects self.old.setup (formats_of self.old.setup M.meaning) (rules_of self.old.setup) M.meaning h core bytes.now) r) }
+            HasChanged M.meaning M.stands self.new (injects_in (frame_of self.old.setup M.meaning) h core bytes.now) r) }
         ensures same { self.new.setup ≡ self.old.setup }
     {
         let _ = &self.setup;

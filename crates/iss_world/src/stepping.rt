@@ -2,10 +2,10 @@
 ghost use Rattle.std.specs.Prelude.{◌≡◌, ◌<◌, ◌≤◌, ℕ, IfOk, List, None, Some, length, option_map, slice_get};
 ghost use Rattle.iss_base.specs.Lists.{over};
 ghost use Rattle.iss_rules.specs.Books.{Signed};
-ghost use Rattle.iss_rules.specs.Concrete.{keys_of, rules_of};
-ghost use Rattle.iss_rules.specs.Formats.{formats_of};
+ghost use Rattle.iss_rules.specs.Concrete.{keys_of};
 ghost use Rattle.iss_model.specs.Node.{Core, Taken, Turn, step};
-ghost use Rattle.iss_model.specs.Run.{Held, at_core, claims_at, cores_of, node_of};
+ghost use Rattle.iss_model.specs.Run.{Held, cores_of, node_of};
+ghost use Rattle.iss_model.specs.Frames.{at_core_in, claims_at_in, frame_of, step_in};
 ghost use Rattle.iss_node.specs.State.{NodeState, Stands};
 ghost use Rattle.iss_node.specs.Steps.{IsAnswer, IsMade, IsOfNodes};
 ghost use Rattle.iss_sb.specs.Calls.{AreToNodes};
@@ -32,7 +32,7 @@ fn claims_at<M: Sequenced>(
     event: &NodeEvent,
 ) -> Result<Row<Claim>, NoMemory>
     ensures { IfOk result (λ claims. (c : Core M.Msg) → Stands M.meaning M.stands node.now c →
-        claims ≡ claims_at (formats_of node.now.parts.setup M.meaning) (rules_of node.now.parts.setup) M.meaning node.now.parts.me.0 c event.now) }
+        claims ≡ claims_at_in (frame_of node.now.parts.setup M.meaning) node.now.parts.me.0 c event.now) }
 {
     match event {
         NodeEvent::Packet(bytes) => node.claims_of(alloc, bytes.as_slice()),
@@ -50,7 +50,7 @@ fn take_at<M: Sequenced>(
 ) -> (Answer, usize, Epoch)
     ensures answer { (c : Core M.Msg) → Stands M.meaning M.stands node.old c →
         IsAnswer M.meaning M.stands (IsOfNodes node.old.parts.setup.n event) c
-        (step (formats_of node.old.parts.setup M.meaning) (rules_of node.old.parts.setup) M.meaning node.old.parts.me.0 c event) node.new result.0 }
+        (step_in (frame_of node.old.parts.setup M.meaning) node.old.parts.me.0 c event) node.new result.0 }
     ensures slots { result.1 ≡ length node.old.parts.log.entries }
     ensures epoch { result.2.0 ≡ node.old.parts.epoch }
     ensures same { (node.new.parts.setup ≡ node.old.parts.setup) × (node.new.parts.me ≡ node.old.parts.me) }
@@ -95,8 +95,7 @@ impl<M: Sequenced> Running<M> {
         requires nodes { IsOfNodes self.old.setup.n event }
         requires standing { IsStanding M.meaning M.stands self.old }
         ensures happened { IfOk result (λ r. (h : Held M.Msg) → Runs M.meaning M.stands self.old h →
-            HasChanged M.meaning M.stands self.new
-            (at_core self.old.setup (formats_of self.old.setup M.meaning) (rules_of self.old.setup) M.meaning h core event) r) }
+            HasChanged M.meaning M.stands self.new (at_core_in (frame_of self.old.setup M.meaning) h core event) r) }
         ensures same { self.new.setup ≡ self.old.setup }
     {
         let claims = claims_at(alloc, &self.nodes[core as usize], &event)?;
@@ -117,7 +116,7 @@ impl<M: Sequenced> Running<M> {
         requires standing { IsStanding M.meaning M.stands self.old }
         ensures happened { IfOk result (λ r. (h : Held M.Msg) → Runs M.meaning M.stands self.old h →
             HasChanged M.meaning M.stands self.new (stepped_to self.old.setup h core
-            (step (formats_of self.old.setup M.meaning) (rules_of self.old.setup) M.meaning (node_of self.old.setup core) (h.net.cores core) event)) r) }
+            (step_in (frame_of self.old.setup M.meaning) (node_of self.old.setup core) (h.net.cores core) event)) r) }
         ensures same { self.new.setup ≡ self.old.setup }
     {
         let (answer, slots, epoch) = take_at(alloc, &mut self.nodes[core as usize], event);

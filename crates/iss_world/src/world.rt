@@ -1,10 +1,10 @@
 //! The world of a cluster, which says of itself when its run has ended, and when memory was wanting.
 ghost use Rattle.std.specs.Prelude.{◌≡◌, ◌<◌, ◌++◌, ◌∷◌, [], IfOk, List, None, OnOk, reverse};
 ghost use Rattle.iss_rules.specs.Concrete.{rules_of};
-ghost use Rattle.iss_rules.specs.Formats.{formats_of};
 ghost use Rattle.iss_rules.specs.Past.{log_of};
-ghost use Rattle.iss_model.specs.Run.{Held, Progress, begin_held, cores_of, goes_further, node_of};
+ghost use Rattle.iss_model.specs.Run.{Held, Progress, begin_held, cores_of, node_of};
 ghost use Rattle.iss_rules.specs.Setups.{IsSetupOf};
+ghost use Rattle.iss_model.specs.Frames.{frame_of, goes_further_in};
 ghost use Rattle.iss_node.specs.State.{Stands};
 ghost use Rattle.iss_schedule.specs.Events.{AreInRange, IsInRange};
 ghost use Rattle.iss_schedule.specs.declared.schedules.Event.{Event as Happens};
@@ -102,9 +102,7 @@ impl<M: Sequenced> World<M> {
     pub fn event(&mut self, alloc: Global, event: &Event) -> Happened
         requires { IsInRange self.old.running.setup event.now }
         ensures happened { (p : Progress M.Msg) → StandsAt M.meaning M.stands self.old p →
-            HasHappened M.meaning M.stands self.new p
-            (goes_further p.ended self.old.running.setup (formats_of self.old.running.setup M.meaning)
-            (rules_of self.old.running.setup) M.meaning p event.now) result }
+            HasHappened M.meaning M.stands self.new p (goes_further_in (frame_of self.old.running.setup M.meaning) p event.now) result }
         ensures headline { (events : List Happens) → AreInRange self.old.running.setup events →
             StandsAfter self.old.running.setup M.meaning M.stands self.old events → IsAnswered result →
             IsHeadline self.old.running.setup M.meaning M.stands self.new (events ++ event.now ∷ []) }
@@ -187,8 +185,7 @@ fn goes_on<M: Sequenced>(
     requires range { IsInRange running.old.setup event.now }
     requires standing { ended.old ≡ None → IsStanding M.meaning M.stands running.old }
     ensures happened { IfOk result (λ r. (p : Progress M.Msg) → StandsAt M.meaning M.stands (awake running.old ended.old) p →
-        HasHappened M.meaning M.stands (awake running.new ended.new) p
-        (goes_further p.ended running.old.setup (formats_of running.old.setup M.meaning) (rules_of running.old.setup) M.meaning p event.now) r) }
+        HasHappened M.meaning M.stands (awake running.new ended.new) p (goes_further_in (frame_of running.old.setup M.meaning) p event.now) r) }
     ensures answered { IfOk result (λ r. IsAnswered r) }
     ensures world { OnOk result (IsWorld M.meaning M.stands (awake running.new ended.new)) }
     ensures over { IsOverOr (awake running.old ended.old) (awake running.new ended.new) }

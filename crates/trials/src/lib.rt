@@ -1,6 +1,9 @@
-//! Tests that need several crates at once: nodes, worlds, replays and reports over modules that are in reach here.
-//! What they expect comes from outside: the formats, the table of causes, and what another program prints.
+//! Tests of a world over a module that the program does not run: nodes of echo, of which one lies, and packets of which a byte was changed.
+//! What they expect comes from outside, from the formats and the table of causes. What the program shows of a world stands in `rows/`.
 #![tactic(auto)]
 
+pub mod setups;
 #[cfg(test)]
 mod tests;
+
+pub use setups::four_nodes;

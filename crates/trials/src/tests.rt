@@ -1,10 +1,5 @@
 //! Tests over public calls alone.
-mod echoing;
-mod foreign;
+mod four;
 mod liars;
 mod mutations;
-mod played;
-mod replays;
-mod signatures;
-mod spent;
-mod worlds;
+mod spelled;

@@ -3,5 +3,7 @@
 #![tactic(auto)]
 
 pub mod laws;
+pub mod setups;
 
 pub use laws::echo_in_a_cluster;
+pub use setups::four_nodes;

@@ -4,8 +4,7 @@
 
 #[cfg(test)]
 mod cluster;
-#[cfg(test)]
-mod instances;
+pub mod instances;
 #[cfg(test)]
 mod lines;
 #[cfg(test)]

@@ -4,7 +4,6 @@
 
 #[cfg(test)]
 mod instances;
-#[cfg(test)]
-mod setups;
+pub mod setups;
 #[cfg(test)]
 mod tests;

@@ -6,7 +6,7 @@ use iss_request::{Kind, Nodes, Policy, Setup};
 use std::alloc::Global;
 
 /// Three nodes that may crash, three buckets and epochs of six slots.
-pub(crate) fn three_nodes(alloc: Global) -> Setup
+pub fn three_nodes(alloc: Global) -> Setup
     ensures good { IsGoodSetup result }
     ensures slots { result.epoch ≡ 6 }
     ensures buckets { result.buckets ≡ 3 }

@@ -2,9 +2,12 @@
 //! crate with tests of its own is proved twice.
 #![tactic(auto)]
 
+pub mod instances;
 #[cfg(test)]
 mod messages;
 #[cfg(test)]
 mod tests;
 #[cfg(test)]
 mod wire;
+
+pub use instances::instance;

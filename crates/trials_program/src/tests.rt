@@ -48,12 +48,12 @@ fn a_source_fails_at_each_call(rt: HostRuntime) -> Result<(), Fail> {
         let mut input = FailingSource::new(Vec::from_slice(rt.alloc(), INPUT)?, 16, script);
         let mut out = MemorySink::new(rt.alloc());
         let status = run(rt.alloc(), &words, &mut input, &mut out);
-        let text = if call < READS {
-            b"".as_slice()
-        } else {
-            TEXT
-        };
-        assert_eq!(rt; status.code(), status_of_source(call, READS), "at call {call}");
+        let text = if call < READS { b"".as_slice() } else { TEXT };
+        assert_eq!(rt;
+            status.code(),
+            status_of_source(call, READS),
+            "at call {call}"
+        );
         assert_eq!(rt; out.held(), text, "at call {call}");
     }
     Ok(())

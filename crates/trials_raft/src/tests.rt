@@ -1,53 +1,16 @@
 //! Runs of Raft through the calls of the trait: three nodes, of which node 0 leads the slots 0 and 3.
-ghost use Rattle.std.specs.Prelude.{◌≡◌, ◌<◌, IfOk};
+ghost use Rattle.std.specs.Prelude.{◌<◌, IfOk};
 ghost use Rattle.iss_sb.specs.Calls.{IsGoodInput, IsGoodParams};
 ghost use Rattle.sb_raft.specs.Raft.{raft};
 
-use iss_keys::{Keys, SharedDirectory};
-use iss_request::{
-    Batch, Epoch, Fields, Kind, NoMemory, NodeId, Nodes, Policy, Row, Setup, Slot, Writer,
-};
+use crate::instance;
+use iss_keys::Keys;
+use iss_request::{Batch, Fields, NoMemory, NodeId, Row, Slot, Writer};
 use iss_sb::{Input, Params, Sequenced, broadcast};
 use raft_wire::{Entry, Message, What};
 use sb_raft::Raft;
 use std::alloc::Global;
 use std::test::Fail;
-
-fn instance(alloc: Global) -> Result<Params, NoMemory>
-    ensures good { IfOk result (λ p. IsGoodParams raft p) }
-    ensures nodes { IfOk result (λ p. p.setup.n ≡ 3) }
-{
-    let mut slots = Row::new(alloc);
-    slots.push(Slot(0))?;
-    slots.push(Slot(3))?;
-    let setup = Setup {
-        version: 1,
-        module: 2,
-        f: 1,
-        epoch: 6,
-        buckets: 4,
-        batch: 4,
-        window: 4,
-        policy: Policy::Simple,
-        clients: 1,
-        keys: 2,
-        faulty: Nodes::new(alloc),
-        n: 3,
-        quorum: 2,
-        kind: Kind::Stopping,
-        tag: [7; 32],
-    };
-    let Ok(directory) = SharedDirectory::make(alloc, 3, 1, 2) else {
-        return Err(NoMemory);
-    };
-    Ok(Params {
-        setup,
-        epoch: Epoch(0),
-        leader: NodeId(0),
-        slots,
-        directory,
-    })
-}
 
 // The message once more, by way of its bytes.
 fn again(alloc: Global, msg: &Message) -> Result<Message, Fail> {

@@ -1,0 +1,17 @@
+-- Counts of digests, and times.
+use Rattle.std.specs.Prelude.{ℕ, ◌+◌, ◌-◌, ◌^◌, min}
+use Rattle.bench_digests.specs.declared.digests.Best.{Best}
+use Rattle.bench_digests.specs.declared.digests.Digests.{Digests}
+
+-- of each length both, as far as a number of four bytes goes
+unfoldable pub together : Digests → Digests → Digests
+together a b =
+    record {
+      short = min (a.short + b.short) (2 ^ 32 - 1);
+      inner = min (a.inner + b.inner) (2 ^ 32 - 1);
+      leaf = min (a.leaf + b.leaf) (2 ^ 32 - 1);
+    }
+
+-- the lesser times
+unfoldable pub better : Best → ℕ → ℕ → Best
+better b work digests = record { work = min b.work work; digests = min b.digests digests }

@@ -1,0 +1,102 @@
+//! What two nodes certify of a log at the end of an epoch, and the packet in which it is handed out.
+ghost use Rattle.std.specs.Prelude.{◌≤◌};
+
+use bench_digests::signers::{client_key, node_key, signature_by};
+use iss_ballots::pack_piece;
+use iss_checkpoint::{Cert, Signed};
+use iss_keys::Keys;
+use iss_log::End;
+use iss_request::{Bytes, Epoch, NoMemory, NodeId, Row, Value};
+use iss_transfer::Piece;
+use std::alloc::Global;
+use std::test::Fail;
+
+/// The keys of nodes 0 and 1.
+#[derive(Drop)]
+pub struct Signers {
+    first: Keys,
+    second: Keys,
+}
+
+/// The keys that sign, of which no leaf is used.
+pub(crate) fn keys_that_sign(alloc: Global, height: u8) -> Result<Signers, Fail>
+    requires low { 2 ≤ height }
+    requires high { height ≤ 12 }
+{
+    let first = node_key(alloc, 0, height)?;
+    let second = node_key(alloc, 1, height)?;
+    Ok(Signers { first, second })
+}
+
+/// A signature that stands for those of clients, at which no adopter looks.
+pub(crate) fn client_signature(alloc: Global, height: u8) -> Result<Bytes, Fail>
+    requires low { 2 ≤ height }
+    requires high { height ≤ 12 }
+{
+    let mut client = client_key(alloc, 0, height)?;
+    Ok(Bytes::of(signature_by(&mut client)?))
+}
+
+fn signed(keys: &mut Keys, by: u8, statement: &[u8]) -> Result<Signed, Fail> {
+    let sig = Bytes::of(keys.sign(statement)?);
+    Ok(Signed {
+        by: NodeId(by),
+        sig,
+    })
+}
+
+fn put_signed(
+    row: &mut Row<Signed>,
+    keys: &mut Keys,
+    by: u8,
+    statement: &[u8],
+) -> Result<(), Fail> {
+    let signed = signed(keys, by, statement)?;
+    row.push(signed)?;
+    Ok(())
+}
+
+// Both signatures of the statement, by the next leaf of each key.
+fn both_signed(
+    alloc: Global,
+    signers: &mut Signers,
+    statement: &[u8],
+) -> Result<Row<Signed>, Fail> {
+    let mut row = Row::new(alloc);
+    put_signed(&mut row, &mut signers.first, 0, statement)?;
+    put_signed(&mut row, &mut signers.second, 1, statement)?;
+    Ok(row)
+}
+
+/// The certificate of an epoch that ends so, where this is its statement.
+pub(crate) fn cert_of(
+    alloc: Global,
+    signers: &mut Signers,
+    statement: &[u8],
+    epoch: u64,
+    end: &End,
+) -> Result<Cert, Fail> {
+    let signers = both_signed(alloc, signers, statement)?;
+    Ok(Cert {
+        epoch: Epoch(epoch),
+        chain: end.chain,
+        requests: end.requests,
+        signers,
+    })
+}
+
+/// The packet in which node 0 hands out the values of an epoch with their certificate.
+pub(crate) fn packet_of(
+    alloc: Global,
+    version: u8,
+    epoch: u64,
+    values: Row<Value>,
+    cert: Cert,
+) -> Result<Bytes, NoMemory> {
+    let piece = Piece {
+        epoch: Epoch(epoch),
+        values,
+        cert,
+    };
+    pack_piece(alloc, version, NodeId(0), &piece)
+}

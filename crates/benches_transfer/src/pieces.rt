@@ -1,0 +1,153 @@
+//! The pieces of a log that two nodes have certified, epoch by epoch.
+
+use crate::batches::values_of;
+use crate::certs::{Signers, cert_of, client_signature, keys_that_sign, packet_of};
+use crate::clusters::HEIGHT;
+use bench_digests::digests::{Digests, digests_of_one_check};
+use iss_checkpoint::{Cert, vote_statement};
+use iss_keys::Directory;
+use iss_log::{End, link};
+use iss_request::{Bytes, NoMemory, Row, Setup, Value};
+use std::alloc::Global;
+use std::test::Fail;
+
+/// The packets of a row of epochs, what is hashed for their values, and the digests of what is checked in their certificates.
+#[derive(Drop)]
+pub struct Made {
+    pub packets: Vec<Bytes>,
+    pub strings: Row<Bytes>,
+    pub checks: Digests,
+}
+
+fn nothing(alloc: Global) -> Made {
+    Made {
+        packets: Vec::new(alloc),
+        strings: Row::new(alloc),
+        checks: Digests {
+            short: 0,
+            inner: 0,
+            leaf: 0,
+        },
+    }
+}
+
+// What stands for a log without a value.
+fn empty_end() -> End {
+    End {
+        chain: [0; 32],
+        requests: 0,
+    }
+}
+
+// What stands for the log with this value behind it.
+fn join_one(
+    alloc: Global,
+    directory: &Directory,
+    version: u8,
+    end: &End,
+    value: &Value,
+    strings: &mut Row<Bytes>,
+) -> Result<End, NoMemory> {
+    link(alloc, directory, version, end, value, strings)
+}
+
+// And with all of these.
+fn join(
+    alloc: Global,
+    directory: &Directory,
+    version: u8,
+    end: End,
+    values: &[Value],
+    strings: &mut Row<Bytes>,
+) -> Result<End, NoMemory> {
+    let mut end = end;
+    for value in values {
+        end = join_one(alloc, directory, version, &end, value, strings)?;
+    }
+    Ok(end)
+}
+
+fn statement_of(setup: &Setup, epoch: u64, end: &End) -> [u8; 83] {
+    vote_statement(&setup.tag, epoch, &end.chain, end.requests)
+}
+
+// The certificate of an epoch that ends so. What its two checks take is noted.
+fn certify(
+    alloc: Global,
+    setup: &Setup,
+    signers: &mut Signers,
+    epoch: u64,
+    end: &End,
+    checks: &mut Digests,
+) -> Result<Cert, Fail> {
+    let statement = statement_of(setup, epoch, end);
+    let check = digests_of_one_check(&statement, HEIGHT);
+    *checks = checks.and(check).and(check);
+    cert_of(alloc, signers, &statement, epoch, end)
+}
+
+// The piece of one epoch more is put behind the others. Answers what then stands for the log.
+fn put_epoch(
+    alloc: Global,
+    directory: &Directory,
+    setup: &Setup,
+    signers: &mut Signers,
+    epoch: u64,
+    values: Row<Value>,
+    end: End,
+    made: &mut Made,
+) -> Result<End, Fail> {
+    let end = join(
+        alloc,
+        directory,
+        setup.version,
+        end,
+        values.as_slice(),
+        &mut made.strings,
+    )?;
+    let cert = certify(alloc, setup, signers, epoch, &end, &mut made.checks)?;
+    let packet = packet_of(alloc, setup.version, epoch, values, cert)?;
+    made.packets.push(packet)?;
+    Ok(end)
+}
+
+// The pieces of so many epochs, with so many requests in each batch, are put there.
+fn put_all(
+    alloc: Global,
+    directory: &Directory,
+    setup: &Setup,
+    epochs: u32,
+    requests: u32,
+    made: &mut Made,
+) -> Result<(), Fail> {
+    let sig = client_signature(alloc, HEIGHT)?;
+    let mut signers = keys_that_sign(alloc, HEIGHT)?;
+    let mut end = empty_end();
+    for epoch in 0..epochs {
+        let values = values_of(alloc, &sig, epoch, requests)?;
+        end = put_epoch(
+            alloc,
+            directory,
+            setup,
+            &mut signers,
+            u64::from(epoch),
+            values,
+            end,
+            made,
+        )?;
+    }
+    Ok(())
+}
+
+/// Those of so many epochs, with so many requests in each batch. The directory remembers what is hashed for them, so it is none that the adopter has.
+pub(crate) fn pieces_of(
+    alloc: Global,
+    directory: &Directory,
+    setup: &Setup,
+    epochs: u32,
+    requests: u32,
+) -> Result<Made, Fail> {
+    let mut made = nothing(alloc);
+    put_all(alloc, directory, setup, epochs, requests, &mut made)?;
+    Ok(made)
+}

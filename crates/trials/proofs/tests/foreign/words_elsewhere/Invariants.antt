@@ -1,5 +1,0 @@
-use Rattle.std.proofs.Common.{◌≡◌}
-use Rattle.trials.proofs.tests.foreign.words_elsewhere.Given as goal
-
-abbrev pub invariant-loop-other : goal.invariant-loop-other
-invariant-loop-other g l = l.world.running.setup ≡ l.fn.world.running.setup
