@@ -5,6 +5,7 @@ use Rattle.std.proofs.lemmas.List.{length-reverse}
 use Rattle.std.specs.Prelude.{is_some}
 use Rattle.std.specs.List.{list_any}
 use Rattle.iss_base.specs.Lists.{In, first_of}
+use Rattle.iss_base.proofs.Lists.{or-alone, or-assoc}
 use Rattle.iss_buckets.specs.Waiting.{cut, may_cast, uncut}
 use Rattle.iss_ids.proofs.Members.{has_id-and_ids, has_id-append}
 use Rattle.iss_layout.specs.Layout.{Plan, bucket_of, bucket_owner, is_node}
@@ -50,18 +51,10 @@ owner-is : (i : ℕ) (o : Option NodeId) (k : NodeId) → o ≡ Some k → is_no
 owner-is i o k e = ap (λ z. is_node i z) e ∙ sym (ap (λ z. number_of z == i) e)
 
 flown-more : (x : ReqId) (fs : List (Slot × Batch)) (slot : Slot) (batch : Batch) → has_id x (flown (fs ++ (slot, batch) ∷ [])) ≡ (has_id x (flown fs) || has_id x (ids batch))
-flown-more x [] slot batch = has_id-append x (ids batch) [] ∙ or-nothing (has_id x (ids batch))
-  where
-    or-nothing : (a : Bool) → (a || false) ≡ a
-    or-nothing true = refl
-    or-nothing false = refl
+flown-more x [] slot batch = has_id-append x (ids batch) [] ∙ or-alone (has_id x (ids batch))
 flown-more x (f ∷ fs) slot batch =
     has_id-append x (ids f.1) (flown (fs ++ (slot, batch) ∷ [])) ∙ ap (λ b. has_id x (ids f.1) || b) (flown-more x fs slot batch)
     ∙ or-assoc (has_id x (ids f.1)) (has_id x (flown fs)) (has_id x (ids batch)) ∙ ap (λ b. b || has_id x (ids batch)) (sym (has_id-append x (ids f.1) (flown fs)))
-  where
-    or-assoc : (a b c : Bool) → (a || (b || c)) ≡ ((a || b) || c)
-    or-assoc true b c = refl
-    or-assoc false b c = refl
 
 -- a slot below a list's length holds a value
 held : {A : Type 0} (xs : List A) (s : ℕ) → s < length xs → (x : A) × (slice_get xs s ≡ Some x)

@@ -1,9 +1,10 @@
 -- What the node says of claims is what the model says.
-use Rattle.std.proofs.Common.{◌≡◌, ◌≢◌, ◌∙◌, ◌↔◌, ℕ, ◌+◌, ◌<◌, Bool, true, false, eqb, cond, List, [], ◌∷◌, ◌++◌, append_assoc, Option, Some, None, length, take, get_or, refl, sym, ap, subst, add-one, arith, true≢false}
+use Rattle.std.proofs.Common.{◌≡◌, ◌≢◌, ◌∙◌, ◌↔◌, ℕ, ◌+◌, ◌<◌, Bool, true, false, eqb, cond, List, [], ◌∷◌, ◌++◌, append_assoc, Option, Some, None, length, take, get_or, refl, sym, ap, subst, add-one, arith}
 use Rattle.std.proofs.lemmas.List.{append-nil}
 use Rattle.std.proofs.Math.Seq.{take-suc}
 use Rattle.std.proofs.lemmas.Bool.Decides.{nat_tests}
 use Rattle.std.specs.Prelude.{is_some}
+use Rattle.iss_base.proofs.Lists.{eqb-other, same-test}
 use Rattle.iss_keys.proofs.DirectoryLemmas.{verified-by}
 use Rattle.iss_keys.specs.Directories.{DirectoryView, VerifiesBy}
 use Rattle.iss_keys.specs.VerifiedBy.{is_verified_by}
@@ -13,7 +14,6 @@ use Rattle.iss_model.specs.Node.{claims_in, only_by, own_claims, packed}
 use Rattle.iss_rules.specs.Past.{Past, leads_in, params_of}
 use Rattle.iss_model.specs.Views.{claims_of_parcel}
 use Rattle.iss_node.proofs.InstanceLemmas.{leads-is}
-use Rattle.iss_node.proofs.NextLemmas.{apart}
 use Rattle.iss_node.specs.Inputs.{IsHandedOut}
 use Rattle.iss_node.specs.Shape.{IsReplica}
 use Rattle.iss_node.specs.State.{IsTied, ReplicaState, core_of, led}
@@ -109,21 +109,11 @@ own-put me before own xs x is mine =
 
 pub own-left : (me : ℕ) (before own xs : List Claim) (x : Claim) → own ≡ before ++ only_by me xs → x.by.0 ≢ me → own ≡ before ++ only_by me (xs ++ x ∷ [])
 own-left me before own xs x is other =
-    is ∙ sym (ap (λ (ys : List Claim). before ++ ys) (only-more me xs x ∙ ap (λ (b : Bool). only_by me xs ++ cond b (x ∷ []) []) (apart x.by.0 me other) ∙ append-nil (only_by me xs)))
-
--- ---- packets
+    is ∙ sym (ap (λ (ys : List Claim). before ++ ys) (only-more me xs x ∙ ap (λ (b : Bool). only_by me xs ++ cond b (x ∷ []) []) (eqb-other x.by.0 me other) ∙ append-nil (only_by me xs)))
 
 -- what the directory says is whether the signature is the node's
 pub verified-is : (d : DirectoryView) (k : ℕ) (statement other sig another : List ℕ) (b : Bool) → statement ≡ other → sig ≡ another → ((b ≡ true) ↔ VerifiesBy d.nodes k statement sig) → b ≡ is_verified_by d.nodes k other another
-verified-is d k statement other sig another b is same h = agree b (subst (λ (z : List ℕ). (b ≡ true) ↔ VerifiesBy d.nodes k other z) same (subst (λ (z : List ℕ). (b ≡ true) ↔ VerifiesBy d.nodes k z sig) is h))
-  where
-    right : (is_verified_by d.nodes k other another ≡ true) ↔ VerifiesBy d.nodes k other another
-    right = verified-by d.nodes k other another
-
-    agree : (c : Bool) → ((c ≡ true) ↔ VerifiesBy d.nodes k other another) → c ≡ is_verified_by d.nodes k other another
-    agree true t = sym (right.1 (t.0 refl))
-    agree false t = go (is_verified_by d.nodes k other another) refl
-      where
-        go : (z : Bool) → is_verified_by d.nodes k other another ≡ z → false ≡ is_verified_by d.nodes k other another
-        go true q = absurd (true≢false (sym (t.1 (right.0 q))))
-        go false q = sym q
+verified-is d k statement other sig another b is same h =
+    same-test b (is_verified_by d.nodes k other another)
+    (subst (λ (z : List ℕ). (b ≡ true) ↔ VerifiesBy d.nodes k other z) same (subst (λ (z : List ℕ). (b ≡ true) ↔ VerifiesBy d.nodes k z sig) is h))
+    (verified-by d.nodes k other another)

@@ -2,9 +2,10 @@
 use Rattle.std.proofs.Common.{arith, ◌≡◌, inl, inr, ℕ, ◌<◌, ◌≤◌, Bool, true, false, cond, List, [], ◌∷◌, ◌++◌, ◌||◌, ◌&&◌, not, length, refl, sym, ap, ◌∙◌, true≢false}
 use Rattle.std.specs.Prelude.{nat_lt}
 use Rattle.std.proofs.lemmas.Bool.Decides.{nat_tests}
+use Rattle.std.proofs.lemmas.List.{append-nil}
 use Rattle.iss_base.specs.Lists.{Different, In}
 use Rattle.iss_ids.proofs.Members.{and-nor, has_id-append}
-use Rattle.iss_base.proofs.Lists.{in_append, in_left, in_right}
+use Rattle.iss_base.proofs.Lists.{in_append, in_left, in_right, or-alone, or-assoc}
 use Rattle.iss_model.proofs.Flights.{AreParts, flying-ids, ids-carried, ids-within, nil-below, parts-of}
 use Rattle.iss_rules.proofs.Ids.{ids-append, in-has}
 use Rattle.iss_model.specs.Node.{flown, flying, is_nil_at, returned}
@@ -24,10 +25,6 @@ landed-more n (y ∷ xs) x = elim (nat_lt y.0.0 n) as (λ b. cond b (y ∷ lande
   | false ↦ landed-more n xs x
 ]
 
-append-nothing : {A : Type 0} (xs : List A) → xs ++ [] ≡ xs
-append-nothing [] = refl
-append-nothing (x ∷ xs) = ap (λ ys. x ∷ ys) (append-nothing xs)
-
 pub flying-more : (n : ℕ) (xs : List (Slot × Batch)) (x : Slot × Batch) → flying n (xs ++ x ∷ []) ≡ flying n xs ++ cond (nat_lt x.0.0 n) [] (x ∷ [])
 flying-more n [] x = elim (nat_lt x.0.0 n) as (λ b. cond b [] (x ∷ []) ≡ cond b [] (x ∷ [])) [ true ↦ refl | false ↦ refl ]
 flying-more n (y ∷ xs) x = elim (nat_lt y.0.0 n) as (λ b. cond b (flying n (xs ++ x ∷ [])) (y ∷ flying n (xs ++ x ∷ [])) ≡ cond b (flying n xs) (y ∷ flying n xs) ++ cond (nat_lt x.0.0 n) [] (x ∷ [])) [
@@ -41,14 +38,6 @@ flown-append (y ∷ xs) ys x =
     has_id-append x (ids y.1) (flown (xs ++ ys)) ∙ ap (λ b. has_id x (ids y.1) || b) (flown-append xs ys x)
     ∙ or-assoc (has_id x (ids y.1)) (has_id x (flown xs)) (has_id x (flown ys))
     ∙ sym (ap (λ b. b || has_id x (flown ys)) (has_id-append x (ids y.1) (flown xs)))
-  where
-    or-assoc : (a b c : Bool) → (a || (b || c)) ≡ ((a || b) || c)
-    or-assoc true b c = refl
-    or-assoc false b c = refl
-
-or-nothing : (a : Bool) → (a || false) ≡ a
-or-nothing true = refl
-or-nothing false = refl
 
 module _ (n : ℕ) (done : List (Slot × Batch)) (slot : Slot) (batch : Batch) (gone left : List (Slot × Batch)) (all now new : List ReqId)
     (gone_is : gone ≡ landed n done) (left_is : left ≡ flying n done)
@@ -62,21 +51,21 @@ module _ (n : ℕ) (done : List (Slot × Batch)) (slot : Slot) (batch : Batch) (
   pub landed-left : slot.0 < n → left ≡ flying n (done ++ (slot, batch) ∷ [])
   landed-left lt =
       let below : nat_lt slot.0 n ≡ true = grind (arith, nat_tests) in
-      left_is ∙ sym (flying-more n done (slot, batch) ∙ ap (λ b. flying n done ++ cond b [] ((slot, batch) ∷ [])) below ∙ append-nothing (flying n done))
+      left_is ∙ sym (flying-more n done (slot, batch) ∙ ap (λ b. flying n done ++ cond b [] ((slot, batch) ∷ [])) below ∙ append-nil (flying n done))
 
   pub landed-ids : slot.0 < n → ((x : ReqId) → has_id x new ≡ (has_id x now && not (has_id x (ids batch)))) → (x : ReqId) → has_id x new ≡ (has_id x all && not (has_id x (flown (landed n (done ++ (slot, batch) ∷ [])))))
   landed-ids lt h x =
       let below : nat_lt slot.0 n ≡ true = grind (arith, nat_tests) in
       let is : landed n (done ++ (slot, batch) ∷ []) ≡ landed n done ++ (slot, batch) ∷ [] = landed-more n done (slot, batch) ∙ ap (λ b. landed n done ++ cond b ((slot, batch) ∷ []) []) below in
       h x ∙ ap (λ b. b && not (has_id x (ids batch))) (now_is x) ∙ and-nor (has_id x all) (has_id x (flown (landed n done))) (has_id x (ids batch))
-      ∙ ap (λ b. has_id x all && not b) (ap (λ b. has_id x (flown (landed n done)) || b) (sym (or-nothing (has_id x (ids batch))) ∙ sym (has_id-append x (ids batch) [])) ∙ sym (flown-append (landed n done) ((slot, batch) ∷ []) x))
+      ∙ ap (λ b. has_id x all && not b) (ap (λ b. has_id x (flown (landed n done)) || b) (sym (or-alone (has_id x (ids batch))) ∙ sym (has_id-append x (ids batch) [])) ∙ sym (flown-append (landed n done) ((slot, batch) ∷ []) x))
       ∙ ap (λ (xs : List (Slot × Batch)). has_id x all && not (has_id x (flown xs))) (sym is)
 
   -- one that stays
   pub kept-gone : n ≤ slot.0 → gone ≡ landed n (done ++ (slot, batch) ∷ [])
   kept-gone le =
       let above : nat_lt slot.0 n ≡ false = grind (arith, nat_tests) in
-      gone_is ∙ sym (landed-more n done (slot, batch) ∙ ap (λ b. landed n done ++ cond b ((slot, batch) ∷ []) []) above ∙ append-nothing (landed n done))
+      gone_is ∙ sym (landed-more n done (slot, batch) ∙ ap (λ b. landed n done ++ cond b ((slot, batch) ∷ []) []) above ∙ append-nil (landed n done))
 
   pub kept-left : n ≤ slot.0 → left ++ (slot, batch) ∷ [] ≡ flying n (done ++ (slot, batch) ∷ [])
   kept-left le =
@@ -97,12 +86,8 @@ split-flown n (f ∷ fs) x = has_id-append x (ids f.1) (flown fs) ∙ ap (λ b. 
     swap true false c = refl
     swap false b c = refl
 
-    assoc : (a b c : Bool) → (a || (b || c)) ≡ ((a || b) || c)
-    assoc true b c = refl
-    assoc false b c = refl
-
     go : (b : Bool) → (has_id x (ids f.1) || (has_id x (flown (landed n fs)) || has_id x (flown (flying n fs)))) ≡ (has_id x (flown (cond b (f ∷ landed n fs) (landed n fs))) || has_id x (flown (cond b (flying n fs) (f ∷ flying n fs))))
-    go true = assoc (has_id x (ids f.1)) (has_id x (flown (landed n fs))) (has_id x (flown (flying n fs))) ∙ ap (λ b. b || has_id x (flown (flying n fs))) (sym (has_id-append x (ids f.1) (flown (landed n fs))))
+    go true = or-assoc (has_id x (ids f.1)) (has_id x (flown (landed n fs))) (has_id x (flown (flying n fs))) ∙ ap (λ b. b || has_id x (flown (flying n fs))) (sym (has_id-append x (ids f.1) (flown (landed n fs))))
     go false = swap (has_id x (ids f.1)) (has_id x (flown (landed n fs))) (has_id x (flown (flying n fs))) ∙ ap (λ b. has_id x (flown (landed n fs)) || b) (sym (has_id-append x (ids f.1) (flown (flying n fs))))
 
 landed-in : (n : ℕ) (fs : List (Slot × Batch)) (q : Request) → In q (carried (landed n fs)) → In q (carried fs)

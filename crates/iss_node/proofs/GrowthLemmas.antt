@@ -3,6 +3,7 @@ use Rattle.std.proofs.Common.{◌≡◌, Bool, true, false, List, [], ◌∷◌,
 use Rattle.std.specs.Prelude.{fold}
 use Rattle.std.proofs.lemmas.List.{append-nil, reverse-append}
 use Rattle.iss_buckets.specs.Waiting.{absent}
+use Rattle.iss_buckets.proofs.WaitingLemmas.{absent_none}
 use Rattle.iss_ids.proofs.Members.{has_id-and_ids, has_id-append}
 use Rattle.iss_model.proofs.Casts.{joined-newer}
 use Rattle.iss_model.specs.Node.{joined}
@@ -18,10 +19,6 @@ use Rattle.iss_base.proofs.Lists.{or-flip}
 pub log_ids-append : (a b : List Value) → log_ids (a ++ b) ≡ log_ids a ++ log_ids b
 log_ids-append [] b = refl
 log_ids-append (v ∷ a) b = ap (λ xs. value_ids v ++ xs) (log_ids-append a b) ∙ sym (append_assoc (value_ids v) (log_ids a) (log_ids b))
-
-none-absent : (qs : List Request) → absent [] qs ≡ qs
-none-absent [] = refl
-none-absent (q ∷ qs) = ap (λ xs. q ∷ xs) (none-absent qs)
 
 -- to go without some, and then without others, is to go without all of them
 absent-both : (a b : List ReqId) (qs : List Request) → absent a (absent b qs) ≡ absent (a ++ b) qs
@@ -87,7 +84,7 @@ module _ (old more : List Value) where
 
   pub waiting-is : (qs : List Request) → fold waits_on qs more ≡ absent (log_ids (joined (length (reverse old)) (reverse (old ++ more)))) qs
   waiting-is qs =
-      ap (λ (xs : List Request). fold waits_on xs more) (sym (none-absent qs))
+      ap (λ (xs : List Request). fold waits_on xs more) (sym (absent_none qs))
       ∙ wait-all more [] qs
       ∙ ap (λ (xs : List ReqId). absent xs qs) (append-nil (log_ids (reverse more)) ∙ ap (λ (xs : List Value). log_ids xs) (sym joined-is))
 

@@ -2,7 +2,7 @@
 use Rattle.std.proofs.Common.{arith, inl, inr, ◌≡◌, ◌≢◌, ◌⊎◌, ℕ, ◌+◌, ◌*◌, ◌^◌, ◌<◌, ◌≤◌, true, false, List, [], ◌∷◌, ◌++◌, ◌==◌, ◌||◌, cond, Option, Some, None, length, length-append, reverse, refl, sym, ap, ◌∙◌, subst}
 use Rattle.std.specs.Prelude.{fold, is_some}
 use Rattle.std.proofs.lemmas.Bool.Decides.{nat_tests}
-use Rattle.std.proofs.lemmas.List.{reverse-append}
+use Rattle.std.proofs.lemmas.List.{append-nil, reverse-append}
 use Rattle.iss_base.specs.Lists.{In, first_of}
 use Rattle.iss_base.proofs.Lists.{same_or_not, set_at2-other, set_at2-same}
 use Rattle.iss_buckets.specs.Waiting.{AreNew, absent}
@@ -67,11 +67,7 @@ accepted-other l k (x ∷ xs) (Some a) ne = elim (x.leader.0 == l) as (λ b. con
 ]
 
 accepted-own : (k : NodeId) (xs : List Accepted) (a : Option (Slot × Batch)) → accepted_of k.0 (and_accepted k xs a) ≡ accepted_of k.0 xs ++ one_or_none a
-accepted-own k xs None = sym (append-nothing (accepted_of k.0 xs))
-  where
-    append-nothing : {A : Type 0} (ys : List A) → ys ++ [] ≡ ys
-    append-nothing [] = refl
-    append-nothing (y ∷ ys) = ap (λ zs. y ∷ zs) (append-nothing ys)
+accepted-own k xs None = sym (append-nil (accepted_of k.0 xs))
 accepted-own k [] (Some a) = let same : (k.0 == k.0) ≡ true = grind (arith, nat_tests) in rw same refl
 accepted-own k (x ∷ xs) (Some a) = elim (x.leader.0 == k.0) as (λ b. cond b ((x.slot, x.batch) ∷ accepted_of k.0 (xs ++ record { leader = k; slot = a.0; batch = a.1 } ∷ [])) (accepted_of k.0 (xs ++ record { leader = k; slot = a.0; batch = a.1 } ∷ [])) ≡ cond b ((x.slot, x.batch) ∷ accepted_of k.0 xs) (accepted_of k.0 xs) ++ a ∷ []) [
   | true ↦ ap (λ (ys : List (Slot × Batch)). (x.slot, x.batch) ∷ ys) (accepted-own k xs (Some a))
@@ -79,11 +75,7 @@ accepted-own k (x ∷ xs) (Some a) = elim (x.leader.0 == k.0) as (λ b. cond b (
 ]
 
 reverse-one : (xs : List (Slot × Batch)) (a : Option (Slot × Batch)) → reverse (xs ++ one_or_none a) ≡ one_or_none a ++ reverse xs
-reverse-one xs None = ap (λ (ys : List (Slot × Batch)). reverse ys) (append-nothing xs)
-  where
-    append-nothing : {A : Type 0} (ys : List A) → ys ++ [] ≡ ys
-    append-nothing [] = refl
-    append-nothing (y ∷ ys) = ap (λ zs. y ∷ zs) (append-nothing ys)
+reverse-one xs None = ap (λ (ys : List (Slot × Batch)). reverse ys) (append-nil xs)
 reverse-one xs (Some a) = reverse-append xs (a ∷ [])
 
 -- ---- a node in its epoch

@@ -1,6 +1,5 @@
 -- The next epoch begins.
-use Rattle.std.proofs.Common.{arith, ◌≡◌, ℕ, ◌+◌, ◌^◌, ◌<◌, Bool, true, false, List, [], ◌∷◌, Option, eqb, ◌≢◌, length, reverse, refl, sym, ap, ◌∙◌, subst, nat_le}
-use Rattle.iss_base.proofs.Lists.{is-eq}
+use Rattle.std.proofs.Common.{arith, ◌≡◌, ℕ, ◌+◌, ◌^◌, ◌<◌, Bool, true, false, List, [], ◌∷◌, Option, length, reverse, refl, sym, ap, ◌∙◌, subst, nat_le}
 use Rattle.std.specs.List.{filter}
 use Rattle.iss_layout.specs.Layout.{Conduct, Ended, IsStanding, Plan, plan_by, slots_from}
 use Rattle.iss_rules.specs.Concrete.{rules_of}
@@ -93,14 +92,6 @@ module _ {M Msg : Type 0} (m : Module Msg) (stands : M → Params → ℕ → Li
 pub is-over : {M Msg : Type 0} (m : Module Msg) (stands : M → Params → ℕ → List (Item Msg) → Type 0) (v : ReplicaState M Msg) (b c : Bool) → b ≡ nat_le (v.plan.start + v.setup.epoch) (length v.log.entries) → b ≡ c →
     (past : Past Msg) → IsTied m stands v past → is_complete (rules_of v.setup) m v.me.0 past ≡ c
 is-over m stands v b c h k past tied = sym (complete-is m stands v past tied) ∙ sym h ∙ k
-
--- numbers that are not equal
-pub apart : (a b : ℕ) → a ≢ b → eqb a b ≡ false
-apart a b ne = go (eqb a b) refl
-  where
-    go : (t : Bool) → eqb a b ≡ t → eqb a b ≡ false
-    go true q = absurd (ne (is-eq a b q))
-    go false q = q
 
 -- a list of no length is empty
 pub empty : {A : Type 0} (xs : List A) → length xs ≡ 0 → xs ≡ []

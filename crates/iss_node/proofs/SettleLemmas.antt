@@ -1,6 +1,7 @@
 -- What follows of a step: the end of the epoch, and early messages in turn.
 use Rattle.std.proofs.Common.{arith, ◌≡◌, ℕ, suc, true, false, List, [], ◌∷◌, ◌++◌, eqb, Result, Ok, Err, IfOk, refl, sym, ap, ◌∙◌, subst, append_assoc}
 use Rattle.std.proofs.lemmas.Bool.Decides.{nat_tests}
+use Rattle.std.proofs.lemmas.List.{append-nil}
 use Rattle.iss_model.proofs.Rows.{onward-onward, onward-rests}
 use Rattle.iss_rules.specs.Concrete.{rules_of}
 use Rattle.iss_rules.specs.Formats.{formats_of}
@@ -150,17 +151,13 @@ module _ {M Msg : Type 0} (m : Module Msg) (stands : M → Params → ℕ → Li
   pub owes-first : (v : ReplicaState M Msg) (first : Outcome) (t : Turn Msg) → IsTurned m stands t v first → Owes v v first [] t
   owes-first v first t h = record { so_far = t; stands_for = h.stands_for; made = h.made; addressed = h.addressed; rest = λ more. refl }
 
-  append-nothing : {A : Type 0} (xs : List A) → xs ++ [] ≡ xs
-  append-nothing [] = refl
-  append-nothing (x ∷ xs) = ap (λ ys. x ∷ ys) (append-nothing xs)
-
   pub owes-last : (start now : ReplicaState M Msg) (last : Outcome) (all done : List (Early Msg)) → done ≡ all → (t : Turn Msg) → Owes start now last done t →
       IsTurned m stands (onward t (takes_each (formats_of start.setup m) (rules_of start.setup) m start.me.0 start.epoch (seen_early all))) now last
   owes-last start now last all done is t o =
       let F = formats_of start.setup m in
       let R = rules_of start.setup in
       let e : onward t (takes_each F R m start.me.0 start.epoch (seen_early all)) ≡ o.so_far =
-      ap (λ (xs : List (Early Msg)). onward t (takes_each F R m start.me.0 start.epoch (seen_early xs))) (sym is ∙ sym (append-nothing done)) ∙ o.rest [] ∙ onward-rests o.so_far in
+      ap (λ (xs : List (Early Msg)). onward t (takes_each F R m start.me.0 start.epoch (seen_early xs))) (sym is ∙ sym (append-nil done)) ∙ o.rest [] ∙ onward-rests o.so_far in
       subst (λ (z : Turn Msg). IsTurned m stands z now last) (sym e) (record { stands_for = o.stands_for; made = o.made; addressed = o.addressed })
 
   each-on : (F : Formats Msg) (R : Rules) (me e : ℕ) (x : Kept_early Msg) (xs : List (Kept_early Msg)) (c : Core Msg) → c.past.epoch ≡ e → takes_each F R m me e (x ∷ xs) c ≡ onward (takes_early F R m me c x) (takes_each F R m me e xs)

@@ -1,8 +1,8 @@
 -- How a node asks, and what it hands out.
-use Rattle.std.proofs.Common.{arith, ◌≡◌, ℕ, zero, suc, ◌*◌, ◌<◌, ◌≤◌, Bool, true, false, cond, not, List, [], ◌∷◌, ◌++◌, Option, Some, None, drop, length, nat_le, nat_lt, reverse, take, refl, sym, ap, ◌∙◌, subst}
+use Rattle.std.proofs.Common.{arith, ◌≡◌, ℕ, suc, ◌*◌, ◌<◌, ◌≤◌, Bool, true, false, cond, not, List, [], ◌∷◌, ◌++◌, Option, Some, None, drop, length, nat_le, nat_lt, reverse, take, refl, sym, ap, ◌∙◌, subst}
 use Rattle.std.proofs.lemmas.Bool.{leb-true}
 use Rattle.std.proofs.lemmas.Bool.Decides.{nat_tests}
-use Rattle.std.proofs.lemmas.List.{length-reverse, length-take-le, reverse-append, reverse-reverse}
+use Rattle.std.proofs.lemmas.List.{length-reverse, length-take-le, reverse-append, reverse-reverse, take-append-drop}
 use Rattle.iss_base.specs.Lists.{oldest}
 use Rattle.iss_base.proofs.Lists.{none-some, oldest-all, oldest-append, some-injective}
 use Rattle.iss_checkpoint.specs.declared.votes.Cert.{Cert}
@@ -34,13 +34,8 @@ use Rattle.iss_transfer.specs.declared.pieces.Piece.{Piece}
 
 -- ---- the values of an epoch, which the model has the other way round
 
-take-drop : {A : Type 0} (n : ℕ) (xs : List A) → take n xs ++ drop n xs ≡ xs
-take-drop zero xs = refl
-take-drop (suc n) [] = refl
-take-drop (suc n) (x ∷ xs) = ap (λ ys. x ∷ ys) (take-drop n xs)
-
 parted : {A : Type 0} (n : ℕ) (xs : List A) → reverse xs ≡ reverse (drop n xs) ++ reverse (take n xs)
-parted n xs = ap (λ ys. reverse ys) (sym (take-drop n xs)) ∙ reverse-append (take n xs) (drop n xs)
+parted n xs = ap (λ ys. reverse ys) (sym (take-append-drop n xs)) ∙ reverse-append (take n xs) (drop n xs)
 
 -- the oldest values of a log are its first slots
 oldest-taken : {A : Type 0} (n : ℕ) (xs : List A) → n ≤ length xs → oldest n (reverse xs) ≡ reverse (take n xs)

@@ -1,6 +1,7 @@
 -- What a node shows of its core.
 use Rattle.std.proofs.Common.{◌≡◌, ℕ, ◌+◌, Bool, true, false, List, [], ◌∷◌, ◌++◌, cond, map, refl, sym, ap, ◌∙◌, add-one}
 use Rattle.std.specs.List.{filter}
+use Rattle.std.proofs.lemmas.List.{append-nil}
 use Rattle.iss_base.specs.Lists.{below}
 use Rattle.iss_rules.specs.Past.{Past}
 use Rattle.iss_rules.specs.Rules.{Rules}
@@ -33,9 +34,5 @@ module _ {Msg : Type 0} (R : Rules) (m : Module Msg) (me : ℕ) (past : Past Msg
       ∙ ap (λ (zs : List ℕ). zs ++ k ∷ []) before
       ∙ sym (more ∙ ap (λ (b : Bool). unfilled R m k me past ++ cond b (k ∷ []) []) h)
 
-  append-none : (ys : List ℕ) → ys ++ [] ≡ ys
-  append-none [] = refl
-  append-none (y ∷ ys) = ap (λ zs. y ∷ zs) (append-none ys)
-
   pub unfilled-same : is_unfilled R m me past k ≡ false → map (λ (i : NodeId). i.0) xs ≡ unfilled R m (k + 1) me past
-  unfilled-same h = before ∙ sym (more ∙ ap (λ (b : Bool). unfilled R m k me past ++ cond b (k ∷ []) []) h ∙ append-none (unfilled R m k me past))
+  unfilled-same h = before ∙ sym (more ∙ ap (λ (b : Bool). unfilled R m k me past ++ cond b (k ∷ []) []) h ∙ append-nil (unfilled R m k me past))

@@ -7,6 +7,8 @@ pub mod Claims
 pub mod Quorums
 pub mod Read
 pub mod Signatures
+pub mod Silent
+pub mod Leaves
 pub mod Heard
 pub mod Inputs
 pub mod Fields

@@ -5,7 +5,7 @@ ghost use Rattle.iss_sb.specs.declared.effects.Params.{Params};
 ghost use Rattle.iss_request.specs.Fields.{IsGrammar, IsRead, IsUnreadable, and_bytes};
 ghost use Rattle.iss_sb.specs.Calls.{IsStep, IsGoodParams, IsGoodInput, named};
 ghost use Rattle.iss_sb.specs.Evidence.{Item, Module};
-ghost use Rattle.iss_sb.specs.Laws.{IsLawful, IsSafe};
+ghost use Rattle.iss_sb.specs.Laws.{IsLawful, IsSafe, SignsOnce};
 
 use crate::effects::{Claim, Effects, Input, Params, StepError};
 use iss_keys::Keys;
@@ -106,5 +106,6 @@ pub trait Sequenced: Drop + Sized {
         ensures stopping { meaning.stopping ≡ STOPPING }
         ensures grammar { (version : ℕ) → IsGrammar (meaning.spell version) (meaning.parse version) }
         ensures lawful { IsLawful meaning }
-        ensures safe { IsSafe meaning };
+        ensures safe { IsSafe meaning }
+        ensures signs_once { SignsOnce meaning };
 }

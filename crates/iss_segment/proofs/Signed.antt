@@ -1,9 +1,10 @@
 -- Requests as their clients sign them.
-use Rattle.std.proofs.Common.{◌≡◌, ◌↔◌, ℕ, ◌+◌, ◌^◌, ◌<◌, ◌≤◌, Bool, true, false, ◌&&◌, not, nat_le, nat_lt, List, ◌++◌, length, length-append, take, refl, sym, ap, ◌∙◌, subst, arith}
+use Rattle.std.proofs.Common.{◌≡◌, ◌↔◌, ℕ, ◌+◌, ◌^◌, ◌<◌, ◌≤◌, Bool, true, ◌&&◌, not, nat_le, nat_lt, List, ◌++◌, length, length-append, take, sym, ap, ◌∙◌, subst, arith}
 use Rattle.std.proofs.Math.Seq.{take-append_seam}
 use Rattle.std.proofs.lemmas.Bool.{le-leb, lt-ltb}
 use Rattle.std.proofs.lemmas.Slice.{take-put_mid}
 use borrow.Rule.Slice.PartMut.{put_mid}
+use Rattle.iss_base.proofs.Lists.{same-test}
 use Rattle.iss_keys.proofs.DirectoryLemmas.{verified-by}
 use Rattle.iss_keys.specs.Directories.{DirectoryView, VerifiesBy}
 use Rattle.iss_keys.specs.VerifiedBy.{is_verified_by}
@@ -19,12 +20,6 @@ statement-put head rest piece payload k eight same =
     take-put_mid 8 k (head ++ rest) piece (8 + length payload) (ap (λ (z : List ℕ). 8 + length z) (sym same)) room
     ∙ ap (λ (z : List ℕ). z ++ piece) (subst (λ (n : ℕ). take n (head ++ rest) ≡ head) eight (take-append_seam head rest))
     ∙ ap (λ (z : List ℕ). head ++ z) same
-
--- two tests of one thing agree
-same-test : {P : Type 0} (a b : Bool) → ((a ≡ true) ↔ P) → ((b ≡ true) ↔ P) → a ≡ b
-same-test true b h k = sym (k.1 (h.0 refl))
-same-test false true h k = h.1 (k.0 refl)
-same-test false false h k = refl
 
 -- what the directory says of the statement is whether the request is signed
 pub signed-is : (d : DirectoryView) (q : Request) (statement sig : List ℕ) (b : Bool) → q.id.number < 2 ^ 32 → length q.payload ≤ 256 → statement ≡ request_statement q.id q.payload → sig ≡ q.sig →

@@ -199,7 +199,7 @@ module _ (s : Setup) (R : Rules) where
   }
 
   -- the vote that is looked up
-  vote-there : (votes : List Vote) (e k : ℕ) (w : Vote) → vote_by votes e k ≡ Some w → In w votes × (w.epoch.0 ≡ e) × (w.by.0 ≡ k)
+  pub vote-there : (votes : List Vote) (e k : ℕ) (w : Vote) → vote_by votes e k ≡ Some w → In w votes × (w.epoch.0 ≡ e) × (w.by.0 ≡ k)
   vote-there [] e k w h = absurd (cc)
   vote-there (v ∷ vs) e k w h = go (λ m. vote-there vs e k w m) (eqb v.epoch.0 e && eqb v.by.0 k) refl h
     where

@@ -25,3 +25,6 @@ pub mod Catching
 pub mod Doubles
 pub mod Booked
 pub mod Evidence
+pub mod Leaves
+pub mod Happened
+pub mod Lives

@@ -123,14 +123,14 @@ in-signed (c ∷ cs) x (inl e) = (c, inl refl, e)
 in-signed (c ∷ cs) x (inr h) = let r = in-signed cs x h in (r.0, inr r.1, r.2)
 
 module _ {Msg : Type 0} (M : Module Msg) (p : Params) (i : ℕ) where
-  record OwnClaim (sends : List (To × Msg)) (c : Claim) : Type 0 where
-    to : To
-    msg : Msg
-    sent : In {A = To × Msg} (to, msg) sends
-    made : In c (M.claims p i msg)
-    by : c.by.0 ≡ i
+  pub record OwnClaim (sends : List (To × Msg)) (c : Claim) : Type 0 where
+    pub to : To
+    pub msg : Msg
+    pub sent : In {A = To × Msg} (to, msg) sends
+    pub made : In c (M.claims p i msg)
+    pub by : c.by.0 ≡ i
 
-  own-claim : (sends : List (To × Msg)) (c : Claim) → In c (own_claims M p i sends) → OwnClaim sends c
+  pub own-claim : (sends : List (To × Msg)) (c : Claim) → In c (own_claims M p i sends) → OwnClaim sends c
   own-claim [] c h = absurd h
   own-claim (x ∷ xs) c h = elim (in_append c (only_by i (M.claims p i x.1)) (own_claims M p i xs) h) [
     | inl a ↦ let r = only-by i (M.claims p i x.1) c a in record { to = x.0; msg = x.1; sent = inl refl; made = r.0; by = r.1 }

@@ -2,3 +2,4 @@ pub mod Certified
 pub mod Conserved
 pub mod OneLog
 pub mod Ends
+pub mod Leaves

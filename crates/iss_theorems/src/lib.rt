@@ -3,9 +3,11 @@
 #![tactic(auto)]
 
 pub mod conservation;
+pub mod signing;
 pub mod theorems;
 
 pub use conservation::requests_are_conserved;
+pub use signing::leaves_sign_once;
 pub use theorems::{
     adopted_was_delivered, certificates_are_of_logs, cluster_runs, runs_end_with_evidence,
 };

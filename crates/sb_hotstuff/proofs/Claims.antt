@@ -1,5 +1,5 @@
 -- What a node shows of others' votes, it heard: each claim in a certificate that it sends stood in a message that it took.
-use Rattle.std.proofs.Common.{◌≡◌, ℕ, zero, suc, ◌+◌, ◌*◌, ◌==◌, ◌&&◌, Bool, true, false, if◌then◌else◌, List, [], ◌∷◌, ◌++◌, length, Option, Some, None, refl, sym, ap, ◌∙◌, subst, inl, inr}
+use Rattle.std.proofs.Common.{◌≡◌, ◌⊎◌, ℕ, zero, suc, ◌+◌, ◌*◌, ◌==◌, ◌&&◌, Bool, true, false, if◌then◌else◌, List, [], ◌∷◌, ◌++◌, length, Option, Some, None, refl, sym, ap, ◌∙◌, subst, inl, inr}
 use Rattle.std.specs.Prelude.{nat_lt}
 use Rattle.iss_base.specs.Lists.{In, nth}
 use Rattle.iss_base.proofs.Lists.{and-true, in_append, in_left, in_right, same_bytes-is}
@@ -12,7 +12,9 @@ use Rattle.iss_sb.specs.declared.effects.Params.{Params}
 use Rattle.iss_sb.specs.declared.effects.To.{To}
 use Rattle.iss_sb.specs.Evidence.{Item, one_or_none}
 use Rattle.iss_sb.specs.Statements.{signature}
-use Rattle.iss_sb.proofs.Claims.{IsOld, PassesOn, Says, before, now}
+use Rattle.iss_sb.proofs.Claims.{IsOld, PassesOn, Says, before, now, own}
+use Rattle.iss_sb.proofs.Leaves.{by-first, by-next}
+use Rattle.iss_sb.specs.Laws.{ComesWith, IsSignedBy, SignsOnce, WasSeen}
 use Rattle.hs_tree.specs.declared.certificates.Certificate.{Certificate}
 use Rattle.hs_tree.specs.declared.certificates.Certificate.TheVariants.{Root, Votes}
 use Rattle.hs_tree.specs.declared.certificates.Signed.{Signed}
@@ -20,17 +22,17 @@ use Rattle.hs_tree.specs.declared.messages.Message.{Message}
 use Rattle.hs_tree.specs.declared.messages.Message.TheVariants.{NewView, Prepare, PreCommit, Commit, Decide, Vote}
 use Rattle.raft_wire.specs.declared.entries.What.TheVariants.{Nil}
 use Rattle.hs_tree.specs.Certificates.{digest_of, view_of}
-use Rattle.hs_tree.specs.Statements.{certificate_claims, claim, inside, own_statement, signature_of, vote_claims, vote_statement, with_signature}
+use Rattle.hs_tree.specs.Statements.{certificate_claims, claim, claims, inside, own_statement, signature_of, vote_claims, vote_statement, with_signature}
 use Rattle.hs_tree.specs.Tree.{basic, is_known}
 use Rattle.sb_hotstuff.specs.HotStuff.{answers, answers_heard, drafts, hotstuff, proposals, shows, sign_all, state, voted}
 use Rattle.sb_hotstuff.specs.Rules.{Kept, News, State, Turn, all_news, best, cast_turn, certificate, first_turn, heard, is_for, is_reached, is_ready, keeps_news, keeps_vote, kept, may_cast, may_end, may_prepare, may_second, may_third, news_of, next_turn, nil_or_mark, node_digest, proposed, round_of, slots_below, turn, turn_after, turn_on, vote_of, votes_of, with_cast, with_news, with_node, with_round, with_turn, with_vote}
 use Rattle.sb_hotstuff.proofs.Basics.{by-if, is-same}
 
--- G k s: that node k signed the statement was heard
-module _ (p : Params) (G : ℕ → List ℕ → Type 0) where
+-- G c: that the claim was heard
+module _ (p : Params) (G : Claim → Type 0) where
   abbrev AllSaid : List ℕ → List Signed → Type 0
   AllSaid s [] = Unit {0}
-  AllSaid s (v ∷ vs) = G v.by.0 s × AllSaid s vs
+  AllSaid s (v ∷ vs) = G (claim v.by.0 s v.sig) × AllSaid s vs
 
   abbrev Said : Certificate → Type 0
   Said Root = Unit {0}
@@ -38,7 +40,7 @@ module _ (p : Params) (G : ℕ → List ℕ → Type 0) where
 
   abbrev VotesSaid : List Kept → Type 0
   VotesSaid [] = Unit {0}
-  VotesSaid (v ∷ vs) = G v.by (vote_statement basic p v.phase v.view v.digest) × VotesSaid vs
+  VotesSaid (v ∷ vs) = G (claim v.by (vote_statement basic p v.phase v.view v.digest) v.sig) × VotesSaid vs
 
   abbrev NewsSaid : List News → Type 0
   NewsSaid [] = Unit {0}
@@ -56,44 +58,44 @@ module _ (p : Params) (G : ℕ → List ℕ → Type 0) where
   -- ---- from claims, and to claims
 
   abbrev Comes : ℕ → Message → Type 0
-  Comes from msg = (k : ℕ) (s : List ℕ) → Says hotstuff p from msg k s → G k s
+  Comes from msg = (c : Claim) → In c (claims basic p from msg) → G c
 
-  all-said : (s : List ℕ) (vs : List Signed) → ((c : Claim) → In c (vote_claims s vs) → G c.by.0 c.statement) → AllSaid s vs
+  all-said : (s : List ℕ) (vs : List Signed) → ((c : Claim) → In c (vote_claims s vs) → G c) → AllSaid s vs
   all-said s [] h = tt
   all-said s (v ∷ vs) h = (h (claim v.by.0 s v.sig) (inl refl), all-said s vs (λ c k. h c (inr k)))
 
-  said-by : (x : Certificate) → ((c : Claim) → In c (certificate_claims basic p x) → G c.by.0 c.statement) → Said x
+  said-by : (x : Certificate) → ((c : Claim) → In c (certificate_claims basic p x) → G c) → Said x
   said-by Root h = tt
   said-by (Votes view phase d votes) h = all-said (vote_statement basic p phase view d) votes h
 
-  claims-said : (s : List ℕ) (vs : List Signed) → AllSaid s vs → (c : Claim) → In c (vote_claims s vs) → G c.by.0 c.statement
+  claims-said : (s : List ℕ) (vs : List Signed) → AllSaid s vs → (c : Claim) → In c (vote_claims s vs) → G c
   claims-said s [] h c k = absurd k
-  claims-said s (v ∷ vs) h c (inl e) = subst (λ (z : Claim). G z.by.0 z.statement) (sym e) h.0
+  claims-said s (v ∷ vs) h c (inl e) = subst G (sym e) h.0
   claims-said s (v ∷ vs) h c (inr k) = claims-said s vs h.1 c k
 
-  said-claims : (x : Certificate) → Said x → (c : Claim) → In c (certificate_claims basic p x) → G c.by.0 c.statement
+  said-claims : (x : Certificate) → Said x → (c : Claim) → In c (certificate_claims basic p x) → G c
   said-claims Root h c k = absurd k
   said-claims (Votes view phase d votes) h c k = claims-said (vote_statement basic p phase view d) votes h c k
 
   came-said : (from : ℕ) (msg : Message) → Comes from msg → Said (inside msg)
-  came-said from msg h = said-by (inside msg) (λ c k. h c.by.0 c.statement (record { claim = c; stands = in_left c (certificate_claims basic p (inside msg)) _ k; named = refl; is = refl }))
+  came-said from msg h = said-by (inside msg) (λ c k. h c (in_left c (certificate_claims basic p (inside msg)) _ k))
 
-  came-own : (from : ℕ) (msg : Message) → Comes from msg → G from (own_statement basic p msg)
+  came-own : (from : ℕ) (msg : Message) → Comes from msg → G (claim from (own_statement basic p msg) (signature_of msg))
   came-own from msg h =
       let c = claim from (own_statement basic p msg) (signature_of msg) in
-      h from (own_statement basic p msg) (record { claim = c; stands = in_right c (certificate_claims basic p (inside msg)) (c ∷ []) (inl refl); named = refl; is = refl })
+      h c (in_right c (certificate_claims basic p (inside msg)) (c ∷ []) (inl refl))
 
   -- ---- certificates of kept votes, and of kept words
 
-  for-said : (phase view : ℕ) (d : List ℕ) (k : ℕ) (v : Kept) → is_for phase view d k v ≡ true → G v.by (vote_statement basic p v.phase v.view v.digest) → G k (vote_statement basic p phase view d)
+  for-said : (phase view : ℕ) (d : List ℕ) (k : ℕ) (v : Kept) → is_for phase view d k v ≡ true → G (claim v.by (vote_statement basic p v.phase v.view v.digest) v.sig) → G (claim k (vote_statement basic p phase view d) v.sig)
   for-said phase view d k v h g =
       let a = and-true ((v.by == k) && (v.phase == phase)) ((v.view == view) && same_bytes v.digest d) h in
       let b = and-true (v.by == k) (v.phase == phase) a.0 in
       let c = and-true (v.view == view) (same_bytes v.digest d) a.1 in
-      subst (λ (z : ℕ). G z (vote_statement basic p phase view d)) (is-same v.by k b.0)
-      (subst (λ (z : List ℕ). G v.by (vote_statement basic p phase view z)) (same_bytes-is v.digest d c.1)
-      (subst (λ (z : ℕ). G v.by (vote_statement basic p phase z v.digest)) (is-same v.view view c.0)
-      (subst (λ (z : ℕ). G v.by (vote_statement basic p z v.view v.digest)) (is-same v.phase phase b.1) g)))
+      subst (λ (z : ℕ). G (claim z (vote_statement basic p phase view d) v.sig)) (is-same v.by k b.0)
+      (subst (λ (z : List ℕ). G (claim v.by (vote_statement basic p phase view z) v.sig)) (same_bytes-is v.digest d c.1)
+      (subst (λ (z : ℕ). G (claim v.by (vote_statement basic p phase z v.digest) v.sig)) (is-same v.view view c.0)
+      (subst (λ (z : ℕ). G (claim v.by (vote_statement basic p z v.view v.digest) v.sig)) (is-same v.phase phase b.1) g)))
 
   one-said : (vs : List Kept) (phase view : ℕ) (d : List ℕ) (k : ℕ) → VotesSaid vs → AllSaid (vote_statement basic p phase view d) (one_or_none (vote_of vs phase view d k))
   one-said [] phase view d k h = tt
@@ -256,34 +258,118 @@ module _ (p : Params) (G : ℕ → List ℕ → Type 0) where
 abbrev pub States : Params → ℕ → Message → List ℕ → Type 0
 States p i msg statement = own_statement basic p msg ≡ statement
 
-module _ (p : Params) where
-  abbrev Old : ℕ → List (Item Message) → Input Message → ℕ → List ℕ → Type 0
-  Old me xs input k s = IsOld hotstuff p me xs input k s
+-- ---- what is passed on
 
-  comes-now : (me : ℕ) (xs : List (Item Message)) (i : Input Message) → ComesIn p (Old me xs i) i
+module _ (p : Params) where
+  abbrev Seen : ℕ → List (Item Message) → Input Message → Claim → Type 0
+  Seen me xs input c = ComesWith hotstuff p c input ⊎ WasSeen hotstuff p me xs c
+
+  comes-now : (me : ℕ) (xs : List (Item Message)) (i : Input Message) → ComesIn p (Seen me xs i) i
   comes-now me xs (Cast slot batch) = tt
-  comes-now me xs (Receive from msg) = λ k s h. now from msg refl h
+  comes-now me xs (Receive from msg) = λ c h. inl h
   comes-now me xs Timeout = tt
 
-  comes-before : (me : ℕ) (xs : List (Item Message)) (i : Input Message) (x : Item Message) → In x xs → ComesIn p (Old me xs i) x.input
+  comes-before : (me : ℕ) (xs : List (Item Message)) (i : Input Message) (x : Item Message) → In x xs → ComesIn p (Seen me xs i) x.input
   comes-before me xs i x q = go x.input refl
     where
-      go : (y : Input Message) → x.input ≡ y → ComesIn p (Old me xs i) y
+      go : (y : Input Message) → x.input ≡ y → ComesIn p (Seen me xs i) y
       go (Cast slot batch) e = tt
-      go (Receive from msg) e = λ k s h. before x q from msg e h
+      go (Receive from msg) e =
+          λ c h. inr (record { item = x; taken = q; holds = inl (subst (λ (z : Input Message). ComesWith hotstuff p c z) (sym e) h) })
       go Timeout e = tt
+
+  -- each claim in a certificate that is sent was seen
+  pub inside-seen : (me : ℕ) (xs : List (Item Message)) (input : Input Message) (leaf : ℕ) (to : To) (msg : Message) → In {A = To × Message} (to, msg) (sign_all p me leaf (drafts p me (state p me xs) input)) →
+      (c : Claim) → In c (certificate_claims basic p (inside msg)) → Seen me xs input c
+  inside-seen me xs input leaf to msg sent =
+      let G : Claim → Type 0 = Seen me xs input in
+      let s = state p me xs in
+      let ds = drafts-said p G me s input (comes-now me xs input) (state-said p G me xs (λ x q. comes-before me xs input x q)) in
+      said-claims p G (inside msg) (sent-said p G me leaf (drafts p me s input) ds to msg sent)
+
+  says-it : (from : ℕ) (msg : Message) (c : Claim) (k : ℕ) (t : List ℕ) → In c (claims basic p from msg) → c.by.0 ≡ k → c.statement ≡ t → Says hotstuff p from msg k t
+  says-it from msg c k t h by is = record { claim = c; stands = h; named = by; is = is }
+
+  module _ (me : ℕ) (xs : List (Item Message)) (input : Input Message) (c : Claim) (k : ℕ) (t : List ℕ) (by : c.by.0 ≡ k) (is : c.statement ≡ t) where
+    old-now : (y : Input Message) → input ≡ y → ComesWith hotstuff p c y → IsOld hotstuff p me xs input k t
+    old-now (Cast slot batch) e h = absurd h
+    old-now (Receive from msg) e h = now from msg e (says-it from.0 msg c k t h by is)
+    old-now Timeout e h = absurd h
+
+    old-before : (x : Item Message) → In x xs → (y : Input Message) → x.input ≡ y → ComesWith hotstuff p c y → IsOld hotstuff p me xs input k t
+    old-before x q (Cast slot batch) e h = absurd h
+    old-before x q (Receive from msg) e h = before x q from msg e (says-it from.0 msg c k t h by is)
+    old-before x q Timeout e h = absurd h
+
+    seen-old : Seen me xs input c → IsOld hotstuff p me xs input k t
+    seen-old (inl h) = old-now input refl h
+    seen-old (inr w) = elim w.holds [
+      | inl h ↦ old-before w.item w.taken w.item.input refl h
+      | inr g ↦ own w.item w.taken g.to g.msg g.sent (says-it me g.msg c k t g.holds by is)
+    ]
 
   pub passes-on : PassesOn hotstuff p (States p)
   passes-on w legal me input leaf correct may to msg statement sent said =
-      let G : ℕ → List ℕ → Type 0 = Old me (w me) input in
-      let s = state p me (w me) in
-      let ds = drafts-said p G me s input (comes-now me (w me) input) (state-said p G me (w me) (λ x q. comes-before me (w me) input x q)) in
-      let shown = sent-said p G me leaf (drafts p me s input) ds to msg sent in
       elim (in_append said.claim (certificate_claims basic p (inside msg)) (claim me (own_statement basic p msg) (signature_of msg) ∷ []) said.stands) [
-        | inl a ↦ inr (subst (λ (z : List ℕ). G me z) said.is (subst (λ (z : ℕ). G z said.claim.statement) said.named (said-claims p G (inside msg) shown said.claim a)))
-        | inr a ↦ inl (own a)
+        | inl a ↦ inr (seen-old me (w me) input said.claim me statement said.named said.is (inside-seen me (w me) input leaf to msg sent said.claim a))
+        | inr a ↦ inl (mine a)
       ]
     where
-      own : In said.claim (claim me (own_statement basic p msg) (signature_of msg) ∷ []) → own_statement basic p msg ≡ statement
-      own (inl e) = sym (ap (λ (z : Claim). z.statement) e) ∙ said.is
-      own (inr none) = absurd none
+      mine : In said.claim (claim me (own_statement basic p msg) (signature_of msg) ∷ []) → own_statement basic p msg ≡ statement
+      mine (inl e) = sym (ap (λ (z : Claim). z.statement) e) ∙ said.is
+      mine (inr none) = absurd none
+
+-- ---- what is signed by the leaves of a step
+
+module _ (p : Params) (me : ℕ) where
+  abbrev stated : List (To × Message) → List (List ℕ)
+  stated [] = []
+  stated (x ∷ xs) = own_statement basic p x.1 ∷ stated xs
+
+  as-many : (ds : List (To × Message)) → length (stated ds) ≡ length ds
+  as-many [] = refl
+  as-many (x ∷ ds) = ap suc (as-many ds)
+
+  statement-same : (sig : List ℕ) (msg : Message) → own_statement basic p (with_signature sig msg) ≡ own_statement basic p msg
+  statement-same sig (NewView round high old) = refl
+  statement-same sig (Prepare view what just old) = refl
+  statement-same sig (PreCommit view shown old) = refl
+  statement-same sig (Commit view shown old) = refl
+  statement-same sig (Decide view shown old) = refl
+  statement-same sig (Vote phase view d old) = refl
+
+  signature-same : (sig : List ℕ) (msg : Message) → signature_of (with_signature sig msg) ≡ sig
+  signature-same sig (NewView round high old) = refl
+  signature-same sig (Prepare view what just old) = refl
+  signature-same sig (PreCommit view shown old) = refl
+  signature-same sig (Commit view shown old) = refl
+  signature-same sig (Decide view shown old) = refl
+  signature-same sig (Vote phase view d old) = refl
+
+  first-signed : (leaf : ℕ) (x : To × Message) (ds : List (To × Message)) (msg : Message) (c : Claim) →
+      msg ≡ with_signature (signature p me leaf (own_statement basic p x.1)) x.1 → c ≡ claim me (own_statement basic p msg) (signature_of msg) → IsSignedBy p me leaf (stated (x ∷ ds)) c
+  first-signed leaf x ds msg c is e =
+      let st = own_statement basic p x.1 in
+      let sig = signature p me leaf st in
+      let same : st ≡ c.statement = sym (ap (λ (z : Claim). z.statement) e ∙ ap (own_statement basic p) is ∙ statement-same sig x.1) in
+      by-first p me leaf st (stated ds) c same (ap (λ (z : Claim). z.sig) e ∙ ap signature_of is ∙ signature-same sig x.1)
+
+  signed-at : (leaf : ℕ) (ds : List (To × Message)) (to : To) (msg : Message) (c : Claim) → In {A = To × Message} (to, msg) (sign_all p me leaf ds) →
+      In c (claim me (own_statement basic p msg) (signature_of msg) ∷ []) → IsSignedBy p me leaf (stated ds) c
+  signed-at leaf ds to msg c h (inr none) = absurd none
+  signed-at leaf [] to msg c h (inl e) = absurd h
+  signed-at leaf (x ∷ ds) to msg c (inl q) (inl e) = first-signed leaf x ds msg c (ap (λ (z : To × Message). z.1) q) e
+  signed-at leaf (x ∷ ds) to msg c (inr k) (inl e) =
+      by-next p me leaf (own_statement basic p x.1) (stated ds) c (signed-at (suc leaf) ds to msg c k (inl e))
+
+pub hotstuff-once : SignsOnce hotstuff
+hotstuff-once p me xs i leaf good made =
+    let ds = drafts p me (state p me xs) i in
+    record {
+      statements = stated p me ds;
+      each = as-many p me ds;
+      own = λ c by g. elim (in_append c (certificate_claims basic p (inside g.msg)) (claim me (own_statement basic p g.msg) (signature_of g.msg) ∷ []) g.holds) [
+        | inl a ↦ inr (inside-seen p me xs i leaf g.to g.msg g.sent c a)
+        | inr a ↦ inl (signed-at p me leaf ds g.to g.msg c g.sent a)
+      ];
+    }

@@ -43,3 +43,4 @@ pub mod Proposed
 pub mod Begun
 pub mod Standing
 pub mod Once
+pub mod Leaves

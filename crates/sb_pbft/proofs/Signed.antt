@@ -34,7 +34,7 @@ has-sig s (t ∷ ss) (sig ∷ sigs) h n = go (t.0 == s) h (λ k. has-sig s ss si
     go false k r = r k
 
 module _ (p : Params) (me : ℕ) where
-  chosen-signed : (m : Mode) (i : Said) (v s : ℕ) → is_some (chosen p m i v s) ≡ is_some (chosen_sig p m i v s)
+  pub chosen-signed : (m : Mode) (i : Said) (v s : ℕ) → is_some (chosen p m i v s) ≡ is_some (chosen_sig p m i v s)
   chosen-signed m (Cast t b) v s = refl
   chosen-signed m (Receive from (PrePrepare w t x sig)) v s = refl
   chosen-signed m (Receive from (Prepare w t d sig)) v s = refl

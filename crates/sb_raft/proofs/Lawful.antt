@@ -15,7 +15,8 @@ use Rattle.iss_sb.specs.declared.effects.To.{To}
 use Rattle.iss_sb.specs.declared.effects.To.TheVariants.{One as To_one}
 use Rattle.iss_sb.specs.Calls.{AreToNodes, IsToNode, IsGoodInput}
 use Rattle.iss_sb.specs.Evidence.{Item}
-use Rattle.iss_sb.specs.Laws.{IsLawful}
+use Rattle.iss_sb.specs.Laws.{IsLawful, SignsOnce}
+use Rattle.iss_sb.proofs.Silent.{silent-once}
 use Rattle.raft_wire.specs.declared.entries.Entry.{Entry}
 use Rattle.raft_wire.specs.declared.entries.What.TheVariants.{Holds}
 use Rattle.raft_wire.specs.declared.messages.Message.{Message}
@@ -174,3 +175,6 @@ raft-lawful = record {
   few = λ p good. omega arith;
   uses = λ p me xs i leaf good input. omega arith;
 }
+
+pub raft-once : SignsOnce raft
+raft-once = silent-once raft (λ p from msg c h. h) (λ p me xs i leaf. refl)

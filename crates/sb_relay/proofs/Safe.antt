@@ -17,9 +17,10 @@ use Rattle.iss_sb.specs.declared.effects.To.{To}
 use Rattle.iss_sb.specs.declared.effects.To.TheVariants.{All as To_all, One as To_one}
 use Rattle.iss_sb.specs.Calls.{IsGoodParams, has_slot}
 use Rattle.iss_sb.specs.Evidence.{Item, Made, World, IsReadBatch, IsReadMessage, IsSent, MayCome, accepts, delivered}
-use Rattle.iss_sb.specs.Laws.{IsBroadcast, IsHeard, IsLawful, IsSafe}
+use Rattle.iss_sb.specs.Laws.{IsBroadcast, IsHeard, IsLawful, IsSafe, SignsOnce}
 use Rattle.iss_sb.specs.Legal.{AreMade, IsLegal}
 use Rattle.iss_sb.proofs.Legal.{all-correct, safe-legal}
+use Rattle.iss_sb.proofs.Silent.{silent-once}
 use Rattle.iss_sb.proofs.Slots.{below-In, has_slot-In, node-is, slot-is}
 use Rattle.iss_sb.proofs.Worlds.{accepts-cases, accepts-new, accepts-old}
 use Rattle.sb_relay.specs.declared.say.Say.{Say}
@@ -200,3 +201,6 @@ relay-lawful = record {
   few = λ p good. omega arith;
   uses = λ p me xs i leaf good input. no-leaves (asks p me xs i);
 }
+
+pub relay-once : SignsOnce relay
+relay-once = silent-once relay (λ p from msg c h. h) (λ p me xs i leaf. let few = no-leaves (asks p me xs i) in omega (arith, few))

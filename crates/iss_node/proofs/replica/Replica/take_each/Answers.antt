@@ -1,13 +1,14 @@
 use Rattle.std.proofs.Common.{arith, rules, ◌≡◌, ◌∙◌, ◌++◌, ◌∷◌, [], ◌<◌, List, ap, sym, subst}
 use Rattle.std.proofs.lemmas.List.{append-nil}
 use Rattle.iss_node.proofs.InstanceLemmas.{later-refl, later-trans}
-use Rattle.iss_node.proofs.NextLemmas.{apart, empty}
+use Rattle.iss_node.proofs.NextLemmas.{empty}
 use Rattle.iss_node.proofs.RequestLemmas.{whole-next}
 use Rattle.iss_node.proofs.SettleLemmas.{Owes, owes-first, owes-last, owes-next, owes-none}
 use Rattle.iss_node.specs.Shape.{AreFrom}
 use Rattle.iss_node.specs.declared.answers.Early.{Early}
 use Rattle.iss_request.specs.declared.setups.Setup.{Setup}
 use Rattle.iss_node.proofs.replica.Replica.take_each.Goals as goal
+use Rattle.iss_base.proofs.Lists.{eqb-other}
 
 pub loop-message-init : goal.loop-message-init
 loop-message-init g c =
@@ -50,7 +51,7 @@ loop-message-preserved g c =
     let h = c.loop-message.invariant in
     let m = g.M.Sequenced.meaning in
     let from = subst (λ (xs : List (Early g.row.M-Msg.Denot)). AreFrom c.args.self.now.setup.n xs) c.in-Some.ensures.steps.0 h.from in
-    let over = apart c.loop-message.self.epoch c.args.self.now.epoch (λ e. c.if-self-epoch.false (ap (λ z. z.epoch) c.self-in-loop-message.view_is ∙ e ∙ sym (ap (λ z. z.epoch) c.self.view_is))) in
+    let over = eqb-other c.loop-message.self.epoch c.args.self.now.epoch (λ e. c.if-self-epoch.false (ap (λ z. z.epoch) c.self-in-loop-message.view_is ∙ e ∙ sym (ap (λ z. z.epoch) c.self.view_is))) in
     record {
       owes = λ t k. owes-none m g.M.Sequenced.stands c.args.self.now c.loop-message.self c.loop-message.all c.loop-message.yielded c.in-Some.message t over (h.owes t k);
       later = h.later;

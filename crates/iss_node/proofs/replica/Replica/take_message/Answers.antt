@@ -1,9 +1,8 @@
 use Rattle.std.proofs.Common.{◌∙◌, suc, ap, sym, subst, eqb}
 use Rattle.std.proofs.lemmas.Result.{IfOk-weaker}
-use Rattle.iss_base.proofs.Lists.{is-eq}
+use Rattle.iss_base.proofs.Lists.{eqb-other, is-eq}
 use Rattle.iss_model.specs.Node.{at_instance, keeps_early, settled, takes_message}
 use Rattle.iss_node.proofs.KeepLemmas.{next-step, now-is, other-is}
-use Rattle.iss_node.proofs.NextLemmas.{apart}
 use Rattle.iss_node.specs.Shape.{IsReplica}
 use Rattle.iss_node.specs.State.{ReplicaState, seen_one}
 use Rattle.iss_node.specs.Steps.{IsStepOf}
@@ -39,6 +38,6 @@ returns-clause-answer g c = λ past tied.
     let m = g.M.Sequenced.meaning in
     let v = c.args.self.now in
     let shape : IsReplica m v = subst (λ (z : ReplicaState g.row.M.Denot g.row.M-Msg.Denot). IsReplica m z) c.self.view_is c.self.invariant in
-    let first = apart c.args.epoch.0 v.epoch (λ e. c.if-epoch-self.false (e ∙ sym (ap (λ z. z.epoch) c.self.view_is))) in
+    let first = eqb-other c.args.epoch.0 v.epoch (λ e. c.if-epoch-self.false (e ∙ sym (ap (λ z. z.epoch) c.self.view_is))) in
     let second = ap (λ z. eqb c.args.epoch.0 (suc z.epoch)) (sym c.self.view_is) ∙ sym c.is_next.ensures ∙ c.if-is_next.false in
     other-is m g.M.Sequenced.stands v shape past tied c.args.message.from.0 c.args.epoch.0 c.args.message.leader c.args.message.msg first second

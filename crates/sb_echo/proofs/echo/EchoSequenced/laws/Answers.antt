@@ -1,4 +1,5 @@
 use Rattle.sb_echo.proofs.Lawful.{echo-lawful}
+use Rattle.sb_echo.proofs.Once.{echo-once}
 use Rattle.sb_echo.proofs.Safe.{echo-safe}
 use Rattle.sb_echo.proofs.Spelling.{word-grammar}
 use Rattle.sb_echo.proofs.echo.EchoSequenced.laws.Goals as goal
@@ -11,3 +12,6 @@ returns-clause-lawful c = echo-lawful
 
 pub returns-clause-safe : goal.returns-clause-safe
 returns-clause-safe c = echo-safe
+
+pub returns-clause-signs_once : goal.returns-clause-signs_once
+returns-clause-signs_once c = echo-once

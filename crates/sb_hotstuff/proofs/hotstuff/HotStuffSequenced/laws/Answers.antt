@@ -1,4 +1,5 @@
 use Rattle.hs_tree.proofs.MessageGrammar.{message-grammar}
+use Rattle.sb_hotstuff.proofs.Claims.{hotstuff-once}
 use Rattle.sb_hotstuff.proofs.Lawful.{hotstuff-lawful}
 use Rattle.sb_hotstuff.proofs.Safe.{hotstuff-safe}
 use Rattle.sb_hotstuff.proofs.hotstuff.HotStuffSequenced.laws.Goals as goal
@@ -11,3 +12,6 @@ returns-clause-lawful c = hotstuff-lawful
 
 pub returns-clause-safe : goal.returns-clause-safe
 returns-clause-safe c = hotstuff-safe
+
+pub returns-clause-signs_once : goal.returns-clause-signs_once
+returns-clause-signs_once c = hotstuff-once

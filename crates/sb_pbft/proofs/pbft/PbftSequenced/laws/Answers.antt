@@ -1,5 +1,6 @@
 use Rattle.pbft_wire.proofs.MessageGrammar.{message-grammar}
 use Rattle.sb_pbft.proofs.Lawful.{pbft-lawful}
+use Rattle.sb_pbft.proofs.Leaves.{pbft-once}
 use Rattle.sb_pbft.proofs.Safe.{pbft-safe}
 use Rattle.sb_pbft.proofs.pbft.PbftSequenced.laws.Goals as goal
 
@@ -11,3 +12,6 @@ returns-clause-lawful c = pbft-lawful
 
 pub returns-clause-safe : goal.returns-clause-safe
 returns-clause-safe c = pbft-safe
+
+pub returns-clause-signs_once : goal.returns-clause-signs_once
+returns-clause-signs_once c = pbft-once

@@ -1,5 +1,5 @@
 use Rattle.raft_wire.proofs.MessageGrammar.{message-grammar}
-use Rattle.sb_raft.proofs.Lawful.{raft-lawful}
+use Rattle.sb_raft.proofs.Lawful.{raft-lawful, raft-once}
 use Rattle.sb_raft.proofs.Safe.{raft-safe}
 use Rattle.sb_raft.proofs.raft.RaftSequenced.laws.Goals as goal
 
@@ -11,3 +11,6 @@ returns-clause-lawful c = raft-lawful
 
 pub returns-clause-safe : goal.returns-clause-safe
 returns-clause-safe c = raft-safe
+
+pub returns-clause-signs_once : goal.returns-clause-signs_once
+returns-clause-signs_once c = raft-once

@@ -1,4 +1,4 @@
-use Rattle.sb_relay.proofs.Safe.{relay-lawful, relay-safe}
+use Rattle.sb_relay.proofs.Safe.{relay-lawful, relay-once, relay-safe}
 use Rattle.sb_relay.proofs.Spelling.{say-grammar}
 use Rattle.sb_relay.proofs.relay.RelaySequenced.laws.Goals as goal
 
@@ -10,3 +10,6 @@ returns-clause-lawful c = relay-lawful
 
 pub returns-clause-safe : goal.returns-clause-safe
 returns-clause-safe c = relay-safe
+
+pub returns-clause-signs_once : goal.returns-clause-signs_once
+returns-clause-signs_once c = relay-once
