@@ -33,6 +33,8 @@ pub enum Refusal {
 pub enum Why {
     /// The packet number is not below the count of packets sent.
     NoPacket,
+    /// The core's disk has failed, in this event or since the core was last made anew.
+    Stopped,
     /// The bytes are no packet.
     NotPacket,
     /// The request's client does not exist.

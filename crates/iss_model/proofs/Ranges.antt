@@ -3,7 +3,7 @@ use Rattle.std.proofs.Common.{List, [], ◌∷◌}
 use Rattle.iss_request.specs.declared.setups.Setup.{Setup}
 use Rattle.iss_schedule.specs.Events.{AreInRange, IsInRange}
 use Rattle.iss_schedule.specs.declared.schedules.Event.{Event}
-use Rattle.iss_schedule.specs.declared.schedules.Event.TheVariants.{Request as Asks_order, Propose, Timeout, Ask, Deliver, Lose, Pump, Calm, Hold, Free, Drop, Bytes}
+use Rattle.iss_schedule.specs.declared.schedules.Event.TheVariants.{Request as Asks_order, Propose, Timeout, Ask, Deliver, Lose, Pump, Calm, Hold, Free, Drop, Restart, Crash, Bytes}
 use Rattle.iss_model.specs.Runs.{AreAtCores, IsAtCore}
 
 at-core : (s : Setup) (e : Event) → IsInRange s e → IsAtCore s e
@@ -18,6 +18,8 @@ at-core s (Calm m) h = tt
 at-core s (Hold c) h = tt
 at-core s (Free c) h = tt
 at-core s (Drop c) h = tt
+at-core s (Restart c) h = tt
+at-core s (Crash c calls) h = tt
 at-core s (Bytes c bytes) h = tt
 
 pub at-cores : (s : Setup) (events : List Event) → AreInRange s events → AreAtCores s events

@@ -13,7 +13,7 @@ use Rattle.iss_sb.specs.declared.effects.To.{To}
 use Rattle.iss_sb.specs.declared.effects.To.TheVariants.{All as To_all, One as To_one}
 use Rattle.iss_sb.specs.Evidence.{Module, is_correct}
 use Rattle.iss_schedule.specs.declared.schedules.Event.{Event}
-use Rattle.iss_schedule.specs.declared.schedules.Event.TheVariants.{Request as Asks_order, Propose, Timeout, Ask, Deliver, Lose, Pump, Calm, Hold, Free, Drop, Bytes}
+use Rattle.iss_schedule.specs.declared.schedules.Event.TheVariants.{Request as Asks_order, Propose, Timeout, Ask, Deliver, Lose, Pump, Calm, Hold, Free, Drop, Restart, Crash, Bytes}
 use Rattle.iss_causes.specs.declared.causes.NodeEvent.{NodeEvent}
 use Rattle.iss_causes.specs.declared.causes.NodeEvent.TheVariants.{Packet as Gets, Propose as Proposes, Timeout as Fires, AskFrom as Asks}
 use Rattle.iss_causes.specs.declared.causes.Why.{Why}
@@ -187,6 +187,7 @@ loses h k (Some p) = done (with_network h (settled h.net.network k))
 abbrev pub injects : {Msg : Type 0} → Setup → Formats Msg → Rules → Module Msg → Held Msg → ℕ → List ℕ → Happening Msg
 injects s F R M h c bytes = cond M.stopping (done h) (at_core s F R M h c (Gets bytes))
 
+-- No disk fails here: a crash is none, and a core that is made anew of all that it took is what it was.
 abbrev pub happens : {Msg : Type 0} → Setup → Formats Msg → Rules → Module Msg → Held Msg → Event → Happening Msg
 happens s F R M h (Asks_order c client number payload) =
     at_core s F R M h c (Gets (F.wrap (record { from = 255; epoch = 0; body = OfRequest (request_of s client number payload) })))
@@ -200,6 +201,8 @@ happens s F R M h (Calm m) = calms s F R M m h
 happens s F R M h (Hold c) = done (with_network h (held_to h.net.network c true))
 happens s F R M h (Free c) = done (with_network h (held_to h.net.network c false))
 happens s F R M h (Drop c) = done (with_network h (cleared h.net.network c))
+happens s F R M h (Restart c) = done h
+happens s F R M h (Crash c calls) = done h
 happens s F R M h (Bytes c bytes) = injects s F R M h c bytes
 
 -- nothing was taken; the empty string counts as hashed

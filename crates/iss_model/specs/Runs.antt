@@ -3,7 +3,7 @@ use Rattle.std.specs.Prelude.{◌≡◌, ℕ, ◌<◌, List, [], ◌∷◌, ◌+
 use Rattle.iss_request.specs.declared.requests.Value.{Value}
 use Rattle.iss_request.specs.declared.setups.Setup.{Setup}
 use Rattle.iss_schedule.specs.declared.schedules.Event.{Event}
-use Rattle.iss_schedule.specs.declared.schedules.Event.TheVariants.{Request as Asks_order, Propose, Timeout, Ask, Deliver, Lose, Pump, Calm, Hold, Free, Drop, Bytes}
+use Rattle.iss_schedule.specs.declared.schedules.Event.TheVariants.{Request as Asks_order, Propose, Timeout, Ask, Deliver, Lose, Pump, Calm, Hold, Free, Drop, Restart, Crash, Bytes}
 use Rattle.iss_rules.specs.Past.{Past}
 use Rattle.iss_model.specs.Run.{Net, cores_of}
 
@@ -27,6 +27,8 @@ IsAtCore s (Calm m) = Unit {0}
 IsAtCore s (Hold c) = Unit {0}
 IsAtCore s (Free c) = Unit {0}
 IsAtCore s (Drop c) = Unit {0}
+IsAtCore s (Restart c) = Unit {0}
+IsAtCore s (Crash c calls) = Unit {0}
 IsAtCore s (Bytes c bytes) = Unit {0}
 
 abbrev pub AreAtCores : Setup → List Event → Type 0

@@ -21,7 +21,7 @@ use Rattle.iss_report.specs.Text.{drop_line, node_block}
 use Rattle.iss_replay.specs.Report.{block_of, drop_lines, node_blocks}
 use Rattle.iss_replay.specs.Stands.{StandsForRun, end_at, end_kept, numbered}
 use Rattle.iss_schedule.specs.declared.schedules.Event.{Event}
-use Rattle.iss_schedule.specs.declared.schedules.Event.TheVariants.{Request as Asks_order, Propose, Timeout as Times_out, Ask, Deliver, Lose, Pump, Calm, Hold, Free, Drop as Clear, Bytes}
+use Rattle.iss_schedule.specs.declared.schedules.Event.TheVariants.{Request as Asks_order, Propose, Timeout as Times_out, Ask, Deliver, Lose, Pump, Calm, Hold, Free, Drop as Clear, Restart, Crash, Bytes}
 use Rattle.iss_schedule.specs.Events.{AreInRange, IsInRange}
 use Rattle.iss_request.specs.Setup.{IsGoodSetup, node_count, nodes_of_kind}
 use Rattle.iss_request.specs.declared.setups.Kind.{Kind}
@@ -143,6 +143,8 @@ module _ {Msg : Type 0} (s : Setup) (F : Formats Msg) (R : Rules) (M : Module Ms
   told-once h (Hold c) = untold (happens s F R M h (Hold c)) refl
   told-once h (Free c) = untold (happens s F R M h (Free c)) refl
   told-once h (Clear c) = untold (happens s F R M h (Clear c)) refl
+  told-once h (Restart c) = untold (done h) refl
+  told-once h (Crash c calls) = untold (done h) refl
   told-once h (Bytes c bytes) = injects-once h c bytes M.stopping
 
 -- ---- runs, event by event

@@ -10,7 +10,7 @@ use Rattle.iss_causes.specs.Ends.{End, Forged, Collision}
 use Rattle.iss_causes.specs.declared.causes.Refusal.{Refusal}
 use Rattle.iss_causes.specs.declared.causes.Refusal.TheVariants.{TooLarge, ForeignBucket, BadSignature, OutOfWindow, Ordered, Marked}
 use Rattle.iss_causes.specs.declared.causes.Why.{Why}
-use Rattle.iss_causes.specs.declared.causes.Why.TheVariants.{NoPacket, NotPacket, BadRequest, Known, OutOfWindow as Outside, OtherEpoch, EarlyFull, NotLeader, BadClaim, NothingToCast, NoKeys, Refused, NoCert, NotNeeded, WrongChain}
+use Rattle.iss_causes.specs.declared.causes.Why.TheVariants.{NoPacket, Stopped, NotPacket, BadRequest, Known, OutOfWindow as Outside, OtherEpoch, EarlyFull, NotLeader, BadClaim, NothingToCast, NoKeys, Refused, NoCert, NotNeeded, WrongChain}
 
 abbrev pub refusal_word : Refusal → List ℕ
 refusal_word TooLarge = codes "TooLarge"
@@ -22,6 +22,7 @@ refusal_word Marked = codes "Marked"
 
 abbrev pub why_word : Why → List ℕ
 why_word NoPacket = codes "NoPacket"
+why_word Stopped = codes "Stopped"
 why_word NotPacket = codes "NotPacket"
 why_word BadRequest = codes "BadRequest"
 why_word Known = codes "Known"

@@ -55,6 +55,7 @@ pub fn put_why(out: &mut Vec<u8>, why: Why) -> Result<(), NoMemory>
 {
     match why {
         Why::NoPacket => put_text(out, b"NoPacket"),
+        Why::Stopped => put_text(out, b"Stopped"),
         Why::NotPacket => put_text(out, b"NotPacket"),
         Why::BadRequest => put_text(out, b"BadRequest"),
         Why::Known => put_text(out, b"Known"),

@@ -14,7 +14,7 @@ use Rattle.iss_request.specs.declared.setups.Setup.{Setup}
 use Rattle.iss_schedule.specs.declared.names.Name.{Name}
 use Rattle.iss_schedule.specs.declared.names.Name.TheVariants as name
 use Rattle.iss_schedule.specs.declared.schedules.Event.{Event}
-use Rattle.iss_schedule.specs.declared.schedules.Event.TheVariants.{Request, Propose, Timeout, Ask, Deliver, Lose, Pump, Calm, Hold, Free, Drop, Bytes}
+use Rattle.iss_schedule.specs.declared.schedules.Event.TheVariants.{Request, Propose, Timeout, Ask, Deliver, Lose, Pump, Calm, Hold, Free, Drop, Restart, Crash, Bytes}
 use Rattle.iss_schedule.specs.Cores.{cores_of}
 use Rattle.iss_schedule.specs.Events.{event_words, spell_event, IsInRange}
 use Rattle.iss_schedule.specs.Names.{text_of_name}
@@ -58,6 +58,8 @@ space_in name.Calm = refl
 space_in name.Hold = refl
 space_in name.Free = refl
 space_in name.Drop = refl
+space_in name.Restart = refl
+space_in name.Crash = refl
 space_in name.Bytes = refl
 
 feed_in : (n : Name) → lacks_test 10 (text_of_name n) ≡ true
@@ -72,6 +74,8 @@ feed_in name.Calm = refl
 feed_in name.Hold = refl
 feed_in name.Free = refl
 feed_in name.Drop = refl
+feed_in name.Restart = refl
+feed_in name.Crash = refl
 feed_in name.Bytes = refl
 
 pub space : IsBlank 32
@@ -117,6 +121,8 @@ event_lacks c s (Calm pumps) blank good ok = (blank.names name.Calm, lacks_decim
 event_lacks c s (Hold core) blank good ok = (blank.names name.Hold, core_lacks c s core blank good ok)
 event_lacks c s (Free core) blank good ok = (blank.names name.Free, core_lacks c s core blank good ok)
 event_lacks c s (Drop core) blank good ok = (blank.names name.Drop, core_lacks c s core blank good ok)
+event_lacks c s (Restart core) blank good ok = (blank.names name.Restart, core_lacks c s core blank good ok)
+event_lacks c s (Crash core calls) blank good ok = (blank.names name.Crash, (core_lacks c s core blank good ok.0, lacks_decimal c calls (omega (arith, blank.low)) (omega arith)))
 event_lacks c s (Bytes core bytes) blank good ok = (blank.names name.Bytes, (core_lacks c s core blank good ok.1, lacks_word c bytes blank ok.2))
 
 -- each event's line begins with a name
@@ -132,6 +138,8 @@ name_first (Calm pumps) = (name.Calm, (_, refl))
 name_first (Hold core) = (name.Hold, (_, refl))
 name_first (Free core) = (name.Free, (_, refl))
 name_first (Drop core) = (name.Drop, (_, refl))
+name_first (Restart core) = (name.Restart, (_, refl))
+name_first (Crash core calls) = (name.Crash, (_, refl))
 name_first (Bytes core bytes) = (name.Bytes, (_, refl))
 
 -- a line is cut back into its words

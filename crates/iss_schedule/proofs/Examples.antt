@@ -4,7 +4,7 @@ use Rattle.std.specs.Fmt.{digits}
 use Rattle.hex.specs.Hex.{encode_with}
 use Rattle.iss_request.specs.declared.ids.NodeId.{NodeId}
 use Rattle.iss_schedule.specs.declared.errors.Why.TheVariants.{Cut}
-use Rattle.iss_schedule.specs.declared.schedules.Event.TheVariants.{Request, Propose, Timeout, Ask, Deliver, Lose, Pump, Calm, Hold, Free, Drop}
+use Rattle.iss_schedule.specs.declared.schedules.Event.TheVariants.{Request, Propose, Timeout, Ask, Deliver, Lose, Pump, Calm, Hold, Free, Drop, Restart, Crash}
 use Rattle.iss_schedule.specs.declared.schedules.Schedule.{Schedule}
 use Rattle.iss_schedule.specs.BadLines.{IsFirstBad}
 use Rattle.iss_schedule.specs.Cores.{cores_of}
@@ -21,10 +21,10 @@ three = 0 ∷ 0 ∷ 0 ∷ 3 ∷ 3 ∷ 4 ∷ 8 ∷ 0 ∷ 1 ∷ 4 ∷ []
 worked : Schedule
 worked = record {
   setup = setup_with three [] [];
-  events = Request 0 0 0 (170 ∷ []) ∷ Propose 0 ∷ Timeout 1 (record { 0 = 2 }) ∷ Ask 2 (record { 0 = 0 }) ∷ Deliver 12 ∷ Lose 0 ∷ Pump ∷ Calm 10 ∷ Hold 2 ∷ Free 2 ∷ Drop 1 ∷ [];
+  events = Request 0 0 0 (170 ∷ []) ∷ Propose 0 ∷ Timeout 1 (record { 0 = 2 }) ∷ Ask 2 (record { 0 = 0 }) ∷ Deliver 12 ∷ Lose 0 ∷ Pump ∷ Calm 10 ∷ Hold 2 ∷ Free 2 ∷ Drop 1 ∷ Crash 1 0 ∷ Restart 1 ∷ [];
 }
 
-worked_text : text_of worked ≡ codes "iss 1\nmodule relay\nf 0\nepoch 3\nbuckets 3\nbatch 4\nwindow 8\npolicy simple\nclients 1\nkeys 4\nfaulty none\nrequest 0 0 0 aa\npropose 0\ntimeout 1 2\nask 2 0\ndeliver 12\nlose 0\npump\ncalm 10\nhold 2\nfree 2\ndrop 1\n"
+worked_text : text_of worked ≡ codes "iss 1\nmodule relay\nf 0\nepoch 3\nbuckets 3\nbatch 4\nwindow 8\npolicy simple\nclients 1\nkeys 4\nfaulty none\nrequest 0 0 0 aa\npropose 0\ntimeout 1 2\nask 2 0\ndeliver 12\nlose 0\npump\ncalm 10\nhold 2\nfree 2\ndrop 1\ncrash 1 0\nrestart 1\n"
 unfolding worked three digits encode_with
 worked_text = refl
 

@@ -9,7 +9,7 @@ use Rattle.iss_request.specs.declared.setups.Setup.{Setup}
 use Rattle.iss_request.specs.declared.setups.Kind.TheVariants.{Byzantine}
 use Rattle.iss_schedule.specs.declared.names.Name.TheVariants as name
 use Rattle.iss_schedule.specs.declared.schedules.Event.{Event}
-use Rattle.iss_schedule.specs.declared.schedules.Event.TheVariants.{Request, Propose, Timeout, Ask, Deliver, Lose, Pump, Calm, Hold, Free, Drop, Bytes}
+use Rattle.iss_schedule.specs.declared.schedules.Event.TheVariants.{Request, Propose, Timeout, Ask, Deliver, Lose, Pump, Calm, Hold, Free, Drop, Restart, Crash, Bytes}
 use Rattle.iss_schedule.specs.declared.schedules.Schedule.{Schedule}
 use Rattle.iss_schedule.specs.Cores.{cores_of}
 use Rattle.iss_schedule.specs.Events.{event_words, spell_event, IsInRange, AreInRange}
@@ -119,6 +119,13 @@ event_line s line (Calm pumps) good ok is = record { name = name.Calm; arguments
 event_line s line (Hold core) good ok is = record { name = name.Hold; arguments = _; words = event_spelled s line (Hold core) good ok is; spelled = (core_number s core good ok, refl) }
 event_line s line (Free core) good ok is = record { name = name.Free; arguments = _; words = event_spelled s line (Free core) good ok is; spelled = (core_number s core good ok, refl) }
 event_line s line (Drop core) good ok is = record { name = name.Drop; arguments = _; words = event_spelled s line (Drop core) good ok is; spelled = (core_number s core good ok, refl) }
+event_line s line (Restart core) good ok is = record { name = name.Restart; arguments = _; words = event_spelled s line (Restart core) good ok is; spelled = (core_number s core good ok, refl) }
+event_line s line (Crash core calls) good ok is = record {
+  name = name.Crash;
+  arguments = _;
+  words = event_spelled s line (Crash core calls) good ok is;
+  spelled = (core_number s core good ok.0, (decimal_is_number calls (omega arith), refl));
+}
 event_line s line (Bytes core bytes) good ok is = record {
   name = name.Bytes;
   arguments = _;
@@ -177,6 +184,8 @@ injected_event s (Calm pumps) args ok is = absurd (other 99 (event_words (Calm p
 injected_event s (Hold core) args ok is = absurd (other 104 (event_words (Hold core)) args refl (λ e. omega arith) is)
 injected_event s (Free core) args ok is = absurd (other 102 (event_words (Free core)) args refl (λ e. omega arith) is)
 injected_event s (Drop core) args ok is = absurd (other 100 (event_words (Drop core)) args refl (λ e. omega arith) is)
+injected_event s (Restart core) args ok is = absurd (other 114 (event_words (Restart core)) args refl (λ e. omega arith) is)
+injected_event s (Crash core calls) args ok is = absurd (other 99 (event_words (Crash core calls)) args refl (λ e. omega arith) is)
 injected_event s (Bytes core bytes) args ok is = ok.0
 
 -- a schedule that gives bytes to a core is of a module that withstands them

@@ -11,7 +11,7 @@ use Rattle.iss_request.specs.Setup.{IsGoodSetup}
 use Rattle.iss_request.specs.declared.ids.NodeId.{NodeId}
 use Rattle.iss_request.specs.declared.setups.Setup.{Setup}
 use Rattle.iss_schedule.specs.declared.schedules.Event.{Event}
-use Rattle.iss_schedule.specs.declared.schedules.Event.TheVariants.{Request, Propose, Timeout, Ask, Deliver, Lose, Pump, Calm, Hold, Free, Drop, Bytes}
+use Rattle.iss_schedule.specs.declared.schedules.Event.TheVariants.{Request, Propose, Timeout, Ask, Deliver, Lose, Pump, Calm, Hold, Free, Drop, Restart, Crash, Bytes}
 use Rattle.iss_schedule.specs.declared.schedules.Schedule.{Schedule}
 use Rattle.iss_schedule.specs.Cores.{cores_of}
 use Rattle.iss_schedule.specs.Events.{event_words, spell_event, IsInRange, AreInRange}
@@ -48,9 +48,15 @@ abbrev one : (ℕ → Event) → List (List ℕ) → Event
 one f (a ∷ []) = f (back_number a)
 one f _ = Pump
 
-abbrev four : List (List ℕ) → Event
-four (a ∷ b ∷ c ∷ d ∷ []) = Request (back_number a) (back_number b) (back_number c) (back_bytes d)
-four _ = Pump
+-- `request` and `restart` are as long, and begin with one letter
+abbrev one_or_four : List (List ℕ) → Event
+one_or_four (a ∷ []) = Restart (back_number a)
+one_or_four (a ∷ b ∷ c ∷ d ∷ []) = Request (back_number a) (back_number b) (back_number c) (back_bytes d)
+one_or_four _ = Pump
+
+abbrev two : List (List ℕ) → Event
+two (a ∷ b ∷ []) = Crash (back_number a) (back_number b)
+two _ = Pump
 
 abbrev core_node : (ℕ → NodeId → Event) → List (List ℕ) → Event
 core_node f (a ∷ b ∷ []) = f (back_number a) (record { 0 = back_number b })
@@ -64,8 +70,9 @@ abbrev back_event : List (List ℕ) → Event
 back_event [] = Pump
 back_event (w ∷ ws) =
     let key = length w * 1000 + get_or w 0 0 in
-    cond (eqb key 7114) (four ws) (cond (eqb key 7112) (one Propose ws) (cond (eqb key 7116) (core_node Timeout ws) (cond (eqb key 3097) (core_node Ask ws) (cond (eqb key 7100) (one Deliver ws) (cond (eqb key 4108) (one Lose ws)
-    (cond (eqb key 4099) (one Calm ws) (cond (eqb key 4104) (one Hold ws) (cond (eqb key 4102) (one Free ws) (cond (eqb key 4100) (one Drop ws) (cond (eqb key 5098) (number_bytes ws) Pump))))))))))
+    cond (eqb key 7114) (one_or_four ws) (cond (eqb key 7112) (one Propose ws) (cond (eqb key 7116) (core_node Timeout ws) (cond (eqb key 3097) (core_node Ask ws) (cond (eqb key 7100) (one Deliver ws) (cond (eqb key 4108) (one Lose ws)
+    (cond (eqb key 4099) (one Calm ws) (cond (eqb key 4104) (one Hold ws) (cond (eqb key 4102) (one Free ws) (cond (eqb key 4100) (one Drop ws)
+    (cond (eqb key 5099) (two ws) (cond (eqb key 5098) (number_bytes ws) Pump)))))))))))
 
 core_back : (s : Setup) (core : ℕ) → IsGoodSetup s → core < cores_of s → back_number (decimal core) ≡ core
 core_back s core good ok = number_back core (omega (arith, cores_fit s good, ok))
@@ -88,6 +95,8 @@ event_back s (Calm pumps) good ok = ap Calm (number_back pumps (omega arith))
 event_back s (Hold core) good ok = ap Hold (core_back s core good ok)
 event_back s (Free core) good ok = ap Free (core_back s core good ok)
 event_back s (Drop core) good ok = ap Drop (core_back s core good ok)
+event_back s (Restart core) good ok = ap Restart (core_back s core good ok)
+event_back s (Crash core calls) good ok = ap (λ n. Crash n (back_number (decimal calls))) (core_back s core good ok.0) ∙ ap (λ n. Crash core n) (number_back calls (omega arith))
 event_back s (Bytes core bytes) good ok =
     ap (λ n. Bytes n (back_bytes (word_of bytes))) (core_back s core good ok.1) ∙ ap (λ (x : List ℕ). Bytes core x) (bytes_back bytes ok.2)
 

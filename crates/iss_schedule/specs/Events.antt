@@ -5,7 +5,7 @@ use Rattle.iss_request.specs.declared.setups.Kind.TheVariants.{Byzantine}
 use Rattle.iss_request.specs.declared.setups.Setup.{Setup}
 use Rattle.iss_schedule.specs.declared.names.Name.TheVariants as name
 use Rattle.iss_schedule.specs.declared.schedules.Event.{Event}
-use Rattle.iss_schedule.specs.declared.schedules.Event.TheVariants.{Request, Propose, Timeout, Ask, Deliver, Lose, Pump, Calm, Hold, Free, Drop, Bytes}
+use Rattle.iss_schedule.specs.declared.schedules.Event.TheVariants.{Request, Propose, Timeout, Ask, Deliver, Lose, Pump, Calm, Hold, Free, Drop, Restart, Crash, Bytes}
 use Rattle.iss_schedule.specs.Cores.{cores_of}
 use Rattle.iss_schedule.specs.Names.{text_of_name}
 use Rattle.iss_schedule.specs.Words.{line_of, word_of}
@@ -23,6 +23,8 @@ event_words (Calm pumps) = text_of_name name.Calm ∷ decimal pumps ∷ []
 event_words (Hold core) = text_of_name name.Hold ∷ decimal core ∷ []
 event_words (Free core) = text_of_name name.Free ∷ decimal core ∷ []
 event_words (Drop core) = text_of_name name.Drop ∷ decimal core ∷ []
+event_words (Restart core) = text_of_name name.Restart ∷ decimal core ∷ []
+event_words (Crash core calls) = text_of_name name.Crash ∷ decimal core ∷ decimal calls ∷ []
 event_words (Bytes core bytes) = text_of_name name.Bytes ∷ decimal core ∷ word_of bytes ∷ []
 
 abbrev pub spell_event : Event → List ℕ
@@ -46,6 +48,8 @@ IsInRange s (Calm pumps) = (1 ≤ pumps) × (pumps ≤ 1000)
 IsInRange s (Hold core) = core < cores_of s
 IsInRange s (Free core) = core < cores_of s
 IsInRange s (Drop core) = core < cores_of s
+IsInRange s (Restart core) = core < cores_of s
+IsInRange s (Crash core calls) = (core < cores_of s) × (calls ≤ 1000)
 IsInRange s (Bytes core bytes) = (s.kind ≡ Byzantine) × (core < cores_of s) × IsBytes bytes
 
 abbrev pub AreInRange : Setup → List Event → Type 0

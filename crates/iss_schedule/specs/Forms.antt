@@ -7,7 +7,7 @@ use Rattle.iss_request.specs.declared.setups.Setup.{Setup}
 use Rattle.iss_schedule.specs.declared.errors.Why.{Why}
 use Rattle.iss_schedule.specs.declared.errors.Why.TheVariants.{Cut, Form, Faulty, Injected, Range, Size}
 use Rattle.iss_schedule.specs.declared.names.Name.{Name}
-use Rattle.iss_schedule.specs.declared.names.Name.TheVariants.{Request, Propose, Timeout, Ask, Deliver, Lose, Pump, Calm, Hold, Free, Drop, Bytes}
+use Rattle.iss_schedule.specs.declared.names.Name.TheVariants.{Request, Propose, Timeout, Ask, Deliver, Lose, Pump, Calm, Hold, Free, Drop, Restart, Crash, Bytes}
 use Rattle.iss_schedule.specs.Headers.{HeaderField, OneOf, Number, header_fields}
 use Rattle.iss_schedule.specs.Names.{text_of_name}
 use Rattle.iss_schedule.specs.Words.{words_of, word_of, IsNumber}
@@ -27,6 +27,8 @@ number_count Calm = 1
 number_count Hold = 1
 number_count Free = 1
 number_count Drop = 1
+number_count Restart = 1
+number_count Crash = 2
 number_count Bytes = 1
 
 abbrev pub has_bytes : Name → Bool
@@ -41,6 +43,8 @@ has_bytes Calm = false
 has_bytes Hold = false
 has_bytes Free = false
 has_bytes Drop = false
+has_bytes Restart = false
+has_bytes Crash = false
 has_bytes Bytes = true
 
 -- so many numbers, and then nothing, or bytes

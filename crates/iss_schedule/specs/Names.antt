@@ -1,7 +1,7 @@
 -- The words with which the lines of events begin.
 use Rattle.std.specs.Prelude.{ℕ, List, codes}
 use Rattle.iss_schedule.specs.declared.names.Name.{Name}
-use Rattle.iss_schedule.specs.declared.names.Name.TheVariants.{Request, Propose, Timeout, Ask, Deliver, Lose, Pump, Calm, Hold, Free, Drop, Bytes}
+use Rattle.iss_schedule.specs.declared.names.Name.TheVariants.{Request, Propose, Timeout, Ask, Deliver, Lose, Pump, Calm, Hold, Free, Drop, Restart, Crash, Bytes}
 
 -- how a name is spelled
 abbrev pub text_of_name : Name → List ℕ
@@ -16,4 +16,6 @@ text_of_name Calm = codes "calm"
 text_of_name Hold = codes "hold"
 text_of_name Free = codes "free"
 text_of_name Drop = codes "drop"
+text_of_name Restart = codes "restart"
+text_of_name Crash = codes "crash"
 text_of_name Bytes = codes "bytes"

@@ -122,6 +122,23 @@ fn ask_in(setup: &Setup, words: &mut Words) -> Option<Event>
     Some(Event::Ask { core, peer })
 }
 
+// How many calls the last word lets pass.
+fn calls_in(words: &mut Words) -> Option<u32>
+    ensures { Reads last_number (λ calls. calls ≤ 1000) words.old result }
+{
+    last_number_in(words, 0, 1001)
+}
+
+// A crash, behind its name.
+fn crash_in(setup: &Setup, words: &mut Words) -> Option<Event>
+    requires good { IsGoodSetup setup.now }
+    ensures { Reads event_words (IsInRange setup.now) (text_of_name Name.Crash ∷ words.old) result }
+{
+    let core = number_in(words, 0, count_of_cores(setup))?;
+    let calls = calls_in(words)?;
+    Some(Event::Crash { core, calls })
+}
+
 // The payload that the last word spells.
 fn payload_in(alloc: Global, words: &mut Words) -> Result<Option<Bytes>, NoMemory>
     ensures { IfOk result (Reads (λ payload. word_of payload ∷ []) IsPayload words.old) }
@@ -210,6 +227,8 @@ fn event_in(
         Name::Hold => core_in(setup, words).map(|core| Event::Hold { core }),
         Name::Free => core_in(setup, words).map(|core| Event::Free { core }),
         Name::Drop => core_in(setup, words).map(|core| Event::Drop { core }),
+        Name::Restart => core_in(setup, words).map(|core| Event::Restart { core }),
+        Name::Crash => crash_in(setup, words),
         Name::Bytes => injection_in(alloc, setup, words)?,
     })
 }

@@ -16,7 +16,7 @@ fn count_of_numbers(name: Name) -> u32
 {
     match name {
         Name::Request => 3,
-        Name::Timeout | Name::Ask => 2,
+        Name::Timeout | Name::Ask | Name::Crash => 2,
         Name::Pump => 0,
         _ => 1,
     }

@@ -17,6 +17,8 @@ pub enum Name {
     Hold,
     Free,
     Drop,
+    Restart,
+    Crash,
     Bytes,
 }
 
@@ -43,6 +45,8 @@ pub fn text_of(name: Name) -> &'static [u8]
         Name::Hold => b"hold",
         Name::Free => b"free",
         Name::Drop => b"drop",
+        Name::Restart => b"restart",
+        Name::Crash => b"crash",
         Name::Bytes => b"bytes",
     }
 }
@@ -74,6 +78,10 @@ pub fn name_of(word: &[u8]) -> Option<Name>
         Some(Name::Free)
     } else if is_same(word, b"drop") {
         Some(Name::Drop)
+    } else if is_same(word, b"restart") {
+        Some(Name::Restart)
+    } else if is_same(word, b"crash") {
+        Some(Name::Crash)
     } else if is_same(word, b"bytes") {
         Some(Name::Bytes)
     } else {

@@ -54,6 +54,15 @@ pub enum Event {
     Drop {
         core: u32,
     },
+    /// The core's disk works again, and the core is made anew from what its journal holds.
+    Restart {
+        core: u32,
+    },
+    /// This many calls of the core's disk pass, and all others fail until it is restarted.
+    Crash {
+        core: u32,
+        calls: u32,
+    },
     /// The core takes these bytes as a packet.
     Bytes {
         core: u32,

@@ -167,6 +167,11 @@ fn put_event(alloc: Global, out: &mut Vec<u8>, event: &Event) -> Result<(), NoMe
         Event::Hold { core } => put_one(out, Name::Hold, u64::from(*core)),
         Event::Free { core } => put_one(out, Name::Free, u64::from(*core)),
         Event::Drop { core } => put_one(out, Name::Drop, u64::from(*core)),
+        Event::Restart { core } => put_one(out, Name::Restart, u64::from(*core)),
+        Event::Crash { core, calls } => {
+            put_one(out, Name::Crash, u64::from(*core))?;
+            put_number(out, u64::from(*calls))
+        }
         Event::Bytes { core, bytes } => {
             put_one(out, Name::Bytes, u64::from(*core))?;
             put_bytes(alloc, out, bytes.as_slice())

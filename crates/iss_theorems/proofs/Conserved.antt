@@ -9,7 +9,7 @@ use Rattle.iss_request.specs.declared.ids.ReqId.{ReqId}
 use Rattle.iss_request.specs.declared.requests.Request.{Request}
 use Rattle.iss_request.specs.declared.setups.Setup.{Setup}
 use Rattle.iss_schedule.specs.declared.schedules.Event.{Event}
-use Rattle.iss_schedule.specs.declared.schedules.Event.TheVariants.{Request as Asks_order, Propose, Timeout as Times_out, Ask, Deliver, Lose, Pump, Calm, Hold, Free, Drop, Bytes}
+use Rattle.iss_schedule.specs.declared.schedules.Event.TheVariants.{Request as Asks_order, Propose, Timeout as Times_out, Ask, Deliver, Lose, Pump, Calm, Hold, Free, Drop, Restart, Crash, Bytes}
 use Rattle.iss_sb.specs.declared.effects.Claim.{Claim}
 use Rattle.iss_sb.specs.Evidence.{Module}
 use Rattle.iss_sb.specs.Laws.{IsLawful, IsSafe}
@@ -161,6 +161,8 @@ module _ {Msg : Type 0} (s : Setup) (F : Formats Msg) (R : Rules) (M : Module Ms
   happens-kept h f (Hold c) = stays h f
   happens-kept h f (Free c) = stays h f
   happens-kept h f (Drop c) = stays h f
+  happens-kept h f (Restart c) = stays h f
+  happens-kept h f (Crash c calls) = stays h f
   happens-kept h f (Bytes c bytes) = inject-kept h f c bytes M.stopping
 
   goes-kept : (p : Progress Msg) → AllFiled s R M p.held.net → (e : Event) (o : Option (ℕ × End)) → kept p.held (goes_further o s F R M p e).held
@@ -214,6 +216,8 @@ module _ {Msg : Type 0} (s : Setup) (F : Formats Msg) (R : Rules) (M : Module Ms
   asked-now h (Hold c) i x m = absurd m
   asked-now h (Free c) i x m = absurd m
   asked-now h (Drop c) i x m = absurd m
+  asked-now h (Restart c) i x m = absurd m
+  asked-now h (Crash c calls) i x m = absurd m
   asked-now h (Bytes c bytes) i x m = absurd (none x (happens s F R M h (Bytes c bytes)).ended m)
 
   pub asked-placed : (es : List Event) (p : Progress Msg) → AllFiled s R M p.held.net → (i : ℕ) (x : ReqId) → WasAsked s F R M p es i x →

@@ -6,7 +6,7 @@ use Rattle.iss_network.specs.Network.{due, settled}
 use Rattle.iss_network.specs.declared.packets.Sent.{Sent}
 use Rattle.iss_request.specs.declared.setups.Setup.{Setup}
 use Rattle.iss_schedule.specs.declared.schedules.Event.{Event}
-use Rattle.iss_schedule.specs.declared.schedules.Event.TheVariants.{Request as Asks_order, Propose, Timeout as Times_out, Ask, Deliver, Lose, Pump, Calm, Hold, Free, Drop, Bytes}
+use Rattle.iss_schedule.specs.declared.schedules.Event.TheVariants.{Request as Asks_order, Propose, Timeout as Times_out, Ask, Deliver, Lose, Pump, Calm, Hold, Free, Drop, Restart, Crash, Bytes}
 use Rattle.iss_sb.specs.declared.effects.Claim.{Claim}
 use Rattle.iss_sb.specs.Evidence.{Module}
 use Rattle.iss_sb.specs.Laws.{IsLawful, IsSafe}
@@ -117,6 +117,8 @@ module _ {Msg : Type 0} (s : Setup) (F : Formats Msg) (R : Rules) (M : Module Ms
   happens-tells h (Hold c) = still-tells (happens s F R M h (Hold c)).held
   happens-tells h (Free c) = still-tells (happens s F R M h (Free c)).held
   happens-tells h (Drop c) = still-tells (happens s F R M h (Drop c)).held
+  happens-tells h (Restart c) = still-tells h
+  happens-tells h (Crash c calls) = still-tells h
   happens-tells h (Bytes c bytes) = injects-tells h c bytes M.stopping
 
   abbrev ProgressTells : Progress Msg → Type 0

@@ -8,7 +8,7 @@ use Rattle.iss_request.specs.declared.requests.Request.{Request}
 use Rattle.iss_request.specs.declared.requests.Value.{Value}
 use Rattle.iss_request.specs.declared.setups.Setup.{Setup}
 use Rattle.iss_schedule.specs.declared.schedules.Event.{Event}
-use Rattle.iss_schedule.specs.declared.schedules.Event.TheVariants.{Request as Asks_order, Propose, Timeout as Times_out, Ask, Deliver, Lose, Pump, Calm, Hold, Free, Drop, Bytes}
+use Rattle.iss_schedule.specs.declared.schedules.Event.TheVariants.{Request as Asks_order, Propose, Timeout as Times_out, Ask, Deliver, Lose, Pump, Calm, Hold, Free, Drop, Restart, Crash, Bytes}
 use Rattle.iss_sb.specs.Evidence.{Module}
 use Rattle.iss_causes.specs.declared.causes.NodeEvent.{NodeEvent}
 use Rattle.iss_causes.specs.declared.causes.NodeEvent.TheVariants.{Packet as Gets, Propose as Proposes, Timeout as Fires, AskFrom as Seeks}
@@ -159,6 +159,8 @@ module _ {Msg : Type 0} (s : Setup) (F : Formats Msg) (R : Rules) (M : Module Ms
   leads-happens h ok (Hold i) low = leads-network h _ refl ok
   leads-happens h ok (Free i) low = leads-network h _ refl ok
   leads-happens h ok (Drop i) low = leads-network h _ refl ok
+  leads-happens h ok (Restart i) low = leads-same h ok
+  leads-happens h ok (Crash i calls) low = leads-same h ok
   leads-happens h ok (Bytes i bytes) low = leads-injects h ok i bytes M.stopping refl
 
   leads-further : (o : Option (ℕ × End)) (p : Progress Msg) → Fits p.held → (e : Event) → IsAtCore s e → Leads p.held (goes_further o s F R M p e).held

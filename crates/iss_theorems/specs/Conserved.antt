@@ -7,7 +7,7 @@ use Rattle.iss_request.specs.declared.ids.Slot.{Slot}
 use Rattle.iss_request.specs.declared.requests.Batch.{Batch}
 use Rattle.iss_request.specs.declared.setups.Setup.{Setup}
 use Rattle.iss_schedule.specs.declared.schedules.Event.{Event}
-use Rattle.iss_schedule.specs.declared.schedules.Event.TheVariants.{Request as Asks_order, Propose, Timeout, Ask, Deliver, Lose, Pump, Calm, Hold, Free, Drop, Bytes}
+use Rattle.iss_schedule.specs.declared.schedules.Event.TheVariants.{Request as Asks_order, Propose, Timeout, Ask, Deliver, Lose, Pump, Calm, Hold, Free, Drop, Restart, Crash, Bytes}
 use Rattle.iss_sb.specs.declared.effects.Params.{Params}
 use Rattle.iss_sb.specs.Calls.{IsGoodParams}
 use Rattle.iss_sb.specs.Evidence.{IsReached, IsString, Module, Separate, World, accepts, is_correct}
@@ -35,6 +35,8 @@ asked_by i (Calm m) lost = []
 asked_by i (Hold c) lost = []
 asked_by i (Free c) lost = []
 asked_by i (Drop c) lost = []
+asked_by i (Restart c) lost = []
+asked_by i (Crash c calls) lost = []
 asked_by i (Bytes c bytes) lost = []
 
 -- what is asked for in the event in which a run ends, or later, is not taken

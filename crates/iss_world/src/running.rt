@@ -105,6 +105,8 @@ impl<M: Sequenced> Running<M> {
             Event::Hold { core } => Ok(self.hold(*core)),
             Event::Free { core } => Ok(self.free(*core)),
             Event::Drop { core } => Ok(self.clear(*core)),
+            // no disk fails yet: a core that is made anew is what it was
+            Event::Restart { .. } | Event::Crash { .. } => Ok(Change::Done),
             Event::Bytes { core, bytes } => self.inject(alloc, *core, bytes),
         }
     }

@@ -16,7 +16,8 @@ const BAD_LINES: &str =
 8 Form policy Simple\n9 Range clients 257\n9 Range clients 0\n9 Form clients \n10 Range keys 1
 10 Range keys 13\n10 Form keys 4 4\n11 Faulty faulty 0\n11 Faulty faulty 1 0 7
 11 Form faulty\n11 Form faulty 01\n11 Form faulty none none\n11 Form faulty 0 none
-12 Form \n12 Form jump 0\n12 Form restart 0\n12 Form crash 0 1
+12 Form \n12 Form jump 0\n12 Form restart\n12 Form restart 0 1\n12 Form crash 0\n12 Form crash 0 01
+12 Range restart 3\n12 Range crash 3 0\n12 Range crash 0 1001\n12 Form crashes 0 0\n12 Form tear 0 1 1
 12 Form propose\n12 Form propose 0 0\n12 Form propose  0\n12 Form propose 00
 12 Form propose 0 \n12 Form  propose 0\n12 Form propose\t0\n12 Form Propose 0\n12 Form propose 0\r
 12 Range propose 3\n12 Range propose 18446744073709551616\n12 Form propose 018446744073709551616
@@ -31,7 +32,8 @@ const BAD_LINES: &str =
 
 const EVENTS: &str =
     "request 0 0 0 aa\nrequest 2 0 15 -\nrequest 1 0 7 00ff10\npropose 0\ntimeout 1 2\nask 2 0\n\
-     deliver 18446744073709551615\nlose 0\npump\ncalm 1000\ncalm 1\nhold 2\nfree 2\ndrop 1\n";
+     deliver 18446744073709551615\nlose 0\npump\ncalm 1000\ncalm 1\nhold 2\nfree 2\ndrop 1\n\
+     restart 2\ncrash 0 0\ncrash 1 1000\n";
 
 // The headers of a worked schedule in which each node has two slots, and of one of the largest clusters.
 const WIDE_HEADER: &str =
