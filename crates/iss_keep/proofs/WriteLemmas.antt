@@ -1,0 +1,20 @@
+-- What an answer says of the disk of a journal.
+use Rattle.std.proofs.Common.{◌≡◌, ℕ, Result, Ok, Err}
+use Rattle.iss_disk.specs.Calls.{HasCause}
+use Rattle.iss_keep.specs.Steps.{LosesNone, Sight}
+
+-- a cause of one failure is a cause of another that leads to it
+caused-by : (before now : ℕ) (P Q : Type 0) → (Q → P) → HasCause before now P → HasCause before now Q
+caused-by before now P Q leads h = record { never_falls = h.never_falls; rose = λ q. h.rose (leads q) }
+
+-- the journal was attached, and nothing failed of which the disk would be the cause
+pub loses-none : (before now : Sight) (P Q : Type 0) → (Q → ⊥) → LosesNone before now P → LosesNone before now Q
+loses-none before now P Q none h = record {
+  any_moment = h.any_moment;
+  cause = caused-by before.faults now.faults P Q (λ q. absurd (none q)) h.cause;
+  works = λ sound. ((h.works sound).0, none);
+  others = h.others;
+}
+
+pub no-error : {A E : Type 0} (x : A) (e : E) → ◌≡◌ {A = Result A E} (Ok x) (Err e) → ⊥
+no-error x e h = cc

@@ -1,0 +1,12 @@
+use Rattle.iss_keep.proofs.KeptLemmas.{reopened-kept}
+use Rattle.iss_keep.proofs.WriteLemmas.{loses-none, no-error}
+use Rattle.iss_keep.proofs.kept.Kept.reopen.Goals as goal
+
+pub invariant_of-self : goal.invariant_of-self
+invariant_of-self g c =
+    reopened-kept g.M.Sequenced.meaning g.M.Sequenced.stands g.D.Disk.history g.D.Disk.room c.self.inside.directory c.open.new.journal c.self.inside.setup c.self.inside.me
+    c.in-Ok.node c.self.invariant.good c.self.invariant.member c.self.invariant.keys c.open.ensures.sound c.in-Ok.ensures.stands c.in-Ok.ensures.same c.in-Ok.ensures.is_attached
+    c.in-Ok.ensures.attached.durable
+
+pub returns-in-Ok-clause-loses : goal.returns-in-Ok-clause-loses
+returns-in-Ok-clause-loses g c = rw (← c.self.view_is) (loses-none _ _ _ _ (no-error _ _) c.in-Ok.ensures.loses)

@@ -1,0 +1,46 @@
+-- The core that a row of entries leads to: that of a node which took their events in turn, and nothing else.
+use Rattle.std.specs.Prelude.{◌≡◌, ℕ, List, [], ◌∷◌, ◌++◌, length, Option, Some, None}
+use Rattle.iss_journal.specs.Frames.{frames}
+use Rattle.iss_rules.specs.Concrete.{rules_of}
+use Rattle.iss_rules.specs.Formats.{formats_of}
+use Rattle.iss_model.specs.Node.{Core, Dropped, Stepped, Taken, idle, step}
+use Rattle.iss_causes.specs.declared.causes.NodeEvent.{NodeEvent}
+use Rattle.iss_request.specs.declared.setups.Setup.{Setup}
+use Rattle.iss_sb.specs.Evidence.{Module}
+use Rattle.iss_keep.specs.Entries.{event_in}
+
+-- a step of node me in a cluster of this set-up
+abbrev pub step_of : {Msg : Type 0} → Setup → Module Msg → ℕ → Core Msg → NodeEvent → Stepped Msg
+step_of s m me c event = step (formats_of s m) (rules_of s) m me c event
+
+-- nothing comes of an event that is dropped, nor of an entry that is no event
+abbrev pub core_after : {Msg : Type 0} → Stepped Msg → Option (Core Msg)
+core_after (Dropped why) = None
+core_after (Taken turn) = Some turn.core
+
+abbrev pub core_with : {Msg : Type 0} → Setup → Module Msg → ℕ → Core Msg → Option NodeEvent → Option (Core Msg)
+core_with s m me c None = None
+core_with s m me c (Some event) = core_after (step_of s m me c event)
+
+abbrev pub from_core : {Msg : Type 0} → Option (Core Msg) → (Core Msg → Option (Core Msg)) → Option (Core Msg)
+from_core None more = None
+from_core (Some c) more = more c
+
+-- from a core on
+abbrev pub core_from : {Msg : Type 0} → Setup → Module Msg → ℕ → List (List ℕ) → Core Msg → Option (Core Msg)
+core_from s m me [] c = Some c
+core_from s m me (entry ∷ entries) c = from_core (core_with s m me c (event_in s.n entry)) (core_from s m me entries)
+
+abbrev pub core_of : {Msg : Type 0} → Setup → Module Msg → ℕ → List (List ℕ) → Option (Core Msg)
+core_of s m me entries = core_from s m me entries idle
+
+-- Entries up to one that is no event, or that the node before it would drop; this is the offset of its gate.
+pub record StopsAt {Msg : Type 0} (s : Setup) (m : Module Msg) (me : ℕ) (at : ℕ) (entries : List (List ℕ)) : Type 0 where
+  pub front : List (List ℕ)
+  pub entry : List ℕ
+  pub behind : List (List ℕ)
+  pub is : entries ≡ front ++ entry ∷ behind
+  pub offset : at ≡ length (frames front)
+  pub core : Core Msg
+  pub before : core_of s m me front ≡ Some core
+  pub none : core_with s m me core (event_in s.n entry) ≡ None

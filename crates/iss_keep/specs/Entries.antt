@@ -1,0 +1,80 @@
+-- The events of a node as the entries of its journal.
+--
+--   01 and a packet's bytes      the packet came
+--   02                           the node was to propose
+--   03, leader (1 byte)          the time for the leader's segment ran out
+--   04, peer (1 byte)            the node asked a peer for its epoch
+--
+-- A leader and a peer are nodes. Nothing else is an event.
+use Rattle.std.specs.Prelude.{◌≡◌, ℕ, ◌<◌, ◌==◌, nat_lt, cond, List, [], ◌∷◌, Option, Some, None, refl}
+use Rattle.iss_causes.specs.declared.causes.NodeEvent.{NodeEvent}
+use Rattle.iss_causes.specs.declared.causes.NodeEvent.TheVariants.{AskFrom, Packet, Propose, Timeout}
+use Rattle.iss_request.specs.declared.ids.NodeId.{NodeId}
+
+-- ---- spelling
+
+abbrev pub packet_entry : List ℕ → List ℕ
+packet_entry bytes = 1 ∷ bytes
+
+abbrev pub spell_event : NodeEvent → List ℕ
+spell_event (Packet bytes) = packet_entry bytes
+spell_event Propose = 2 ∷ []
+spell_event (Timeout leader) = 3 ∷ leader.0 ∷ []
+spell_event (AskFrom peer) = 4 ∷ peer.0 ∷ []
+
+-- ---- the table: which entry is which event of a cluster of n nodes
+
+abbrev pub NamesNode : ℕ → NodeEvent → Type 0
+NamesNode n (Packet bytes) = Unit {0}
+NamesNode n Propose = Unit {0}
+NamesNode n (Timeout leader) = leader.0 < n
+NamesNode n (AskFrom peer) = peer.0 < n
+
+abbrev pub IsEntryOf : ℕ → List ℕ → NodeEvent → Type 0
+IsEntryOf n entry event = (entry ≡ spell_event event) × NamesNode n event
+
+-- ---- reading
+
+abbrev pub propose_in : List ℕ → Option NodeEvent
+propose_in [] = Some Propose
+propose_in (b ∷ rest) = None
+
+abbrev pub node_in : ℕ → List ℕ → Option NodeId
+node_in n [] = None
+node_in n (node ∷ []) = cond (nat_lt node n) (Some (record { 0 = node })) None
+node_in n (node ∷ b ∷ rest) = None
+
+abbrev pub timeout_in : Option NodeId → Option NodeEvent
+timeout_in None = None
+timeout_in (Some leader) = Some (Timeout leader)
+
+abbrev pub ask_in : Option NodeId → Option NodeEvent
+ask_in None = None
+ask_in (Some peer) = Some (AskFrom peer)
+
+abbrev pub event_of_kind : ℕ → ℕ → List ℕ → Option NodeEvent
+event_of_kind n kind rest =
+    cond (kind == 1) (Some (Packet rest))
+    (cond (kind == 2) (propose_in rest)
+    (cond (kind == 3) (timeout_in (node_in n rest))
+    (cond (kind == 4) (ask_in (node_in n rest)) None)))
+
+abbrev pub event_in : ℕ → List ℕ → Option NodeEvent
+event_in n [] = None
+event_in n (kind ∷ rest) = event_of_kind n kind rest
+
+-- Of four nodes, node 3 leads or is asked, and node 4 is none.
+timeout : event_in 4 (3 ∷ 3 ∷ []) ≡ Some (Timeout (record { 0 = 3 }))
+timeout = refl
+
+no_node : event_in 4 (3 ∷ 4 ∷ []) ≡ None
+no_node = refl
+
+ask : event_in 4 (4 ∷ 3 ∷ []) ≡ Some (AskFrom (record { 0 = 3 }))
+ask = refl
+
+no_peer : event_in 4 (4 ∷ 4 ∷ []) ≡ None
+no_peer = refl
+
+too_long : event_in 4 (2 ∷ 0 ∷ []) ≡ None
+too_long = refl

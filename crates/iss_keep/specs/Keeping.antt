@@ -1,0 +1,43 @@
+-- What the parts of one event leave of the node: its step, and the entry behind that.
+use Rattle.std.specs.Prelude.{◌≡◌, ℕ, List}
+use Rattle.iss_rules.specs.Concrete.{rules_of}
+use Rattle.iss_rules.specs.Formats.{formats_of}
+use Rattle.iss_model.specs.Node.{Core, step}
+use Rattle.iss_causes.specs.declared.causes.NodeEvent.{NodeEvent}
+use Rattle.iss_node.specs.State.{NodeState, Stands}
+use Rattle.iss_node.specs.Steps.{HasRetreated, IsAnswer, IsOfNodes}
+use Rattle.iss_node.specs.declared.answers.Answer.{Answer as NodeAnswer}
+use Rattle.iss_node.specs.declared.answers.Answer.TheVariants.{Dropped as Node_drops, Taken as Node_takes}
+use Rattle.iss_node.specs.declared.answers.Outcome.{Outcome}
+use Rattle.iss_sb.specs.Calls.{Relation}
+use Rattle.iss_sb.specs.Evidence.{Module}
+use Rattle.iss_keep.specs.declared.answers.Answer.{Answer}
+use Rattle.iss_keep.specs.declared.answers.Answer.TheVariants.{Dropped, Failed, NoMemory, Stale, Taken}
+
+-- a node answers so to the step of each core that it stands for
+abbrev pub Answers : {M Msg : Type 0} → Module Msg → Relation M Msg → NodeEvent → NodeState M Msg → NodeState M Msg →
+    NodeAnswer → Type 0
+Answers {Msg = Msg} m stands event old new answer = (c : Core Msg) → Stands m stands old c →
+    IsAnswer m stands (IsOfNodes old.parts.setup.n event) c (step (formats_of old.parts.setup m) (rules_of old.parts.setup) m old.parts.me.0 c event) new answer
+
+-- it shows the log and the epoch from before
+pub record ShowsSame {M Msg : Type 0} (old new : NodeState M Msg) : Type 0 where
+  pub log : new.parts.log.entries ≡ old.parts.log.entries
+  pub epoch : new.parts.epoch ≡ old.parts.epoch
+
+-- what an event left of the node
+abbrev pub HasStepped : {M Msg : Type 0} → Module Msg → Relation M Msg → NodeEvent → NodeState M Msg → NodeState M Msg →
+    Answer → Type 0
+HasStepped m stands event old new (Taken outcome) = Answers m stands event old new (Node_takes outcome)
+HasStepped m stands event old new (Dropped why) = Answers m stands event old new (Node_drops why)
+HasStepped m stands event old new Failed = ShowsSame old new
+HasStepped m stands event old new Stale = ⊥
+HasStepped m stands event old new NoMemory = ShowsSame old new
+
+-- The outcome of a step is handed out with its entry, and the node stays as it is; else the node retreats.
+abbrev pub HasEnded : {M Msg : Type 0} → Outcome → ℕ → ℕ → NodeState M Msg → NodeState M Msg → Answer → Type 0
+HasEnded outcome slots epoch old new (Taken given) = (given ≡ outcome) × (new ≡ old)
+HasEnded outcome slots epoch old new (Dropped why) = ⊥
+HasEnded outcome slots epoch old new Failed = HasRetreated old new slots epoch
+HasEnded outcome slots epoch old new Stale = ⊥
+HasEnded outcome slots epoch old new NoMemory = HasRetreated old new slots epoch

@@ -1,0 +1,134 @@
+-- What a kept node answers.
+use Rattle.std.specs.Prelude.{◌≡◌, ◌⊎◌, ℕ, Bool, true, false, List, [], ◌∷◌, ◌++◌}
+use Rattle.iss_disk.specs.Calls.{HasCause, IfTold, Passes, Runs, StaysHere}
+use Rattle.iss_disk.specs.File.{File}
+use Rattle.iss_journal.specs.Frames.{Reads, damaged, holds}
+use Rattle.iss_journal.specs.Promises.{ComesToRest, HoldsWithOrWithout, LeavesOnly, LosesNothing, OnlyLeaves, Works}
+use Rattle.iss_model.specs.Node.{Core, Dropped as Not_taken, Stepped, Taken as Was_taken, Turn}
+use Rattle.iss_causes.specs.declared.causes.Why.{Why}
+use Rattle.iss_node.specs.Steps.{IsMade}
+use Rattle.iss_node.specs.declared.answers.Outcome.{Outcome}
+use Rattle.iss_request.specs.declared.setups.Setup.{Setup}
+use Rattle.iss_sb.specs.Calls.{AreToNodes, Relation}
+use Rattle.iss_sb.specs.Evidence.{Module}
+use Rattle.iss_keep.specs.Cores.{StopsAt}
+use Rattle.iss_keep.specs.State.{IsAt, KeptState, StandsFor}
+use Rattle.iss_keep.specs.declared.answers.Answer.{Answer}
+use Rattle.iss_keep.specs.declared.answers.Answer.TheVariants.{Dropped, Failed, NoMemory, Stale, Taken}
+
+-- The event was taken: the node stands for the core after the step, and hands out what the step made. Where the event asks nobody but
+-- nodes, all of it is sent to nodes, and entries that led to the core before the step lead to the core after it.
+pub record IsTurn {M Msg D : Type 0} (m : Module Msg) (stands : Relation M Msg) (asked : Type 0)
+    (old : KeptState M Msg D) (c : Core Msg) (stepped : Stepped Msg) (new : KeptState M Msg D) (outcome : Outcome) : Type 0 where
+  pub turn : Turn Msg
+  pub step_is : stepped ≡ Was_taken turn
+  pub at : IsAt m stands new turn.core
+  pub stands_for : asked → StandsFor m stands old c → StandsFor m stands new turn.core
+  pub made : IsMade turn outcome
+  pub addressed : asked → AreToNodes new.setup.n outcome.sends
+
+-- It was dropped: nothing has changed.
+pub record IsDrop {M Msg D : Type 0} (m : Module Msg) (stands : Relation M Msg)
+    (old : KeptState M Msg D) (c : Core Msg) (stepped : Stepped Msg) (new : KeptState M Msg D) (why : Why) : Type 0 where
+  pub step_is : stepped ≡ Not_taken why
+  pub at : IsAt m stands new c
+  pub stands_for : StandsFor m stands old c → StandsFor m stands new c
+
+-- the answer to a step of the core that the node stands for; `asked` says that the event asks nobody but nodes
+abbrev pub IsAnswer : {M Msg D : Type 0} → Module Msg → Relation M Msg → Type 0 → KeptState M Msg D → Core Msg →
+    Stepped Msg → KeptState M Msg D → Answer → Type 0
+IsAnswer m stands asked old c stepped new (Taken outcome) = IsTurn m stands asked old c stepped new outcome
+IsAnswer m stands asked old c stepped new (Dropped why) = IsDrop m stands old c stepped new why
+IsAnswer m stands asked old c stepped new Failed = Unit {0}
+IsAnswer m stands asked old c stepped new Stale = ⊥
+IsAnswer m stands asked old c stepped new NoMemory = Unit {0}
+
+-- whether the node has to be reopened after an answer
+abbrev pub makes_stale : Answer → Bool
+makes_stale (Taken outcome) = false
+makes_stale (Dropped why) = false
+makes_stale Failed = true
+makes_stale Stale = true
+makes_stale NoMemory = true
+
+-- ---- what an answer leaves on the disk
+
+-- what is seen of a disk: the states of its file, the calls to come, how often it failed, and its files, of which this is the current one
+pub record Sight : Type 0 where
+  pub history : List File
+  pub passes : Passes
+  pub faults : ℕ
+  pub current : List ℕ
+  pub files : List ℕ → List File
+
+abbrev pub sight : {D : Type 0} → (D → List File) → (D → Passes) → (D → ℕ) → (D → List ℕ) → (D → List ℕ → List File) → D → Sight
+sight history passes faults current files disk =
+    record { history = history disk; passes = passes disk; faults = faults disk; current = current disk; files = files disk }
+
+-- the entries of its journal after an answer to an event with this entry
+abbrev pub entries_after : List (List ℕ) → List ℕ → Answer → List (List ℕ)
+entries_after entries entry (Taken outcome) = entries ++ entry ∷ []
+entries_after entries entry (Dropped why) = entries
+entries_after entries entry Failed = entries
+entries_after entries entry Stale = entries
+entries_after entries entry NoMemory = entries
+
+-- A crash at any moment of a call that wrote leaves the entries, with the new one or without. Once the event was taken every
+-- crash leaves it; where the disk failed, what was synced holds the entries without it. All other answers leave the file alone.
+abbrev pub Writes : List (List ℕ) → List ℕ → List File → List File → Answer → Type 0
+Writes entries entry before now (Taken outcome) =
+    LeavesOnly (HoldsWithOrWithout entries entry) before now × IfTold now (OnlyLeaves (λ bytes. Reads bytes (holds (entries ++ entry ∷ []))))
+Writes entries entry before now Failed =
+    LeavesOnly (HoldsWithOrWithout entries entry) before now × IfTold now (λ file. Reads file.kept (holds entries))
+Writes entries entry before now (Dropped why) = now ≡ before
+Writes entries entry before now Stale = now ≡ before
+Writes entries entry before now NoMemory = now ≡ before
+
+-- An event that is kept is four calls of the device, and one that the disk failed to keep the first of them up to that which failed.
+abbrev pub Calls : Passes → Passes → Answer → Type 0
+Calls before now (Taken outcome) = Runs 4 before now true
+Calls before now (Dropped why) = now ≡ before
+Calls before now Failed = Runs 4 before now false
+Calls before now Stale = now ≡ before
+Calls before now NoMemory = now ≡ before
+
+-- What an answer says of the journal, which has these entries later, and of its disk, for an event with this entry.
+pub record IsWritten (entries : List (List ℕ)) (entry : List ℕ) (before now : Sight) (later : List (List ℕ)) (answer : Answer) : Type 0 where
+  pub added : later ≡ entries_after entries entry answer
+  pub file : Writes entries entry before.history now.history answer
+  pub device : Calls before.passes now.passes answer
+  pub cause : HasCause before.faults now.faults (answer ≡ Failed)
+  pub others : StaysHere before.current now.current before.files now.files
+
+-- ---- reopening
+
+-- The journal was attached: it has the entries that the file held, which is at rest, and which every crash leaves from then on.
+pub record IsAttached (before now : Sight) (entries : List (List ℕ)) : Type 0 where
+  pub read : IfTold before.history (λ file. Reads file.content (holds entries))
+  pub rest : IfTold before.history (λ from. IfTold now.history (ComesToRest entries from.content))
+  pub durable : IfTold now.history (OnlyLeaves (λ bytes. Reads bytes (holds entries)))
+
+-- Whatever the answer was: a crash at any moment of the call lost no entry, and it failed only by a fault of the disk.
+pub record LosesNone (before now : Sight) (failed : Type 0) : Type 0 where
+  pub any_moment : LosesNothing before.history now.history
+  pub cause : HasCause before.faults now.faults failed
+  pub works : Works before.passes now.passes failed
+  pub others : StaysHere before.current now.current before.files now.files
+
+-- The file is damaged here, or its entries are all there, and the one behind this gate is none that a node takes.
+abbrev pub IsDamaged : {Msg : Type 0} → Setup → Module Msg → ℕ → List (List ℕ) → List File → ℕ → Type 0
+IsDamaged s m me entries before at =
+    IfTold before (λ file. Reads file.content (damaged at))
+    ⊎ (IfTold before (λ file. Reads file.content (holds entries)) × StopsAt s m me at entries)
+
+-- ---- what stays
+
+-- the log and the epoch that it shows are as they were
+pub record ShowsAsBefore {M Msg D : Type 0} (old new : KeptState M Msg D) : Type 0 where
+  pub log : new.node.parts.log.entries ≡ old.node.parts.log.entries
+  pub epoch : new.node.parts.epoch ≡ old.node.parts.epoch
+
+-- it is the same node
+pub record IsSame {M Msg D : Type 0} (old new : KeptState M Msg D) : Type 0 where
+  pub setup : new.setup ≡ old.setup
+  pub me : new.me ≡ old.me

@@ -1,0 +1,111 @@
+// One event of a node whose journal is attached: room for its entry, its step, and its entry.
+ghost use Rattle.std.specs.Prelude.{◌≡◌, ◌≤◌, false, true, length};
+ghost use Rattle.iss_journal.specs.Frames.{max_entry};
+ghost use Rattle.iss_journal.specs.Sound.{IsSound, disk_of, entries_of, is_attached};
+ghost use Rattle.iss_keep.specs.Entries.{spell_event};
+ghost use Rattle.iss_keep.specs.Keeping.{HasEnded, HasStepped};
+ghost use Rattle.iss_keep.specs.Steps.{IsWritten, makes_stale, sight};
+ghost use Rattle.iss_model.specs.Node.{Core};
+ghost use Rattle.iss_rules.specs.Setups.{IsSetupOf};
+ghost use Rattle.iss_node.specs.State.{Stands};
+
+use crate::answers::Answer;
+use crate::entries::encode_entry;
+use iss_disk::{Disk, EndError};
+use iss_journal::Journal;
+use iss_causes::NodeEvent;
+use iss_node::{Answer as NodeAnswer, Node, Outcome};
+use iss_request::Epoch;
+use iss_sb::Sequenced;
+use std::alloc::Global;
+
+// Appends the entry of an event that was taken, and hands out what the event made only then. Else the node retreats to the log
+// and the epoch from before.
+fn keep_entry<M: Sequenced, D: Disk>(
+    node: &mut Node<M>,
+    journal: &mut Journal<D>,
+    entry: &[u8],
+    outcome: Outcome,
+    slots: usize,
+    epoch: Epoch,
+) -> Answer
+    requires sound { IsSound D.history D.room journal.old }
+    requires attached { is_attached journal.old ≡ true }
+    requires short { length entry.now ≤ max_entry }
+    requires slots { slots ≤ length node.old.parts.log.entries }
+    requires epoch { epoch.0 ≤ node.old.parts.epoch }
+    ensures written { IsWritten (entries_of journal.old) entry.now (sight D.history D.passes D.faults D.current D.files (disk_of journal.old))
+        (sight D.history D.passes D.faults D.current D.files (disk_of journal.new)) (entries_of journal.new) result }
+    ensures ended { HasEnded outcome slots epoch.0 node.old node.new result }
+    ensures sound { IsSound D.history D.room journal.new }
+    ensures attached { makes_stale result ≡ false → is_attached journal.new ≡ true }
+{
+    match journal.append(entry) {
+        Ok(()) => Answer::Taken(outcome),
+        Err(EndError::Failed) => {
+            node.retreat(slots, epoch);
+            Answer::Failed
+        }
+        Err(EndError::NoMemory) => {
+            node.retreat(slots, epoch);
+            Answer::NoMemory
+        }
+    }
+}
+
+// Steps the node, and keeps the entry where the event was taken.
+fn step<M: Sequenced, D: Disk>(
+    alloc: Global,
+    node: &mut Node<M>,
+    journal: &mut Journal<D>,
+    event: NodeEvent,
+    entry: &[u8],
+) -> Answer
+    requires good { IsSetupOf M.meaning node.old.parts.setup }
+    requires stands { (c : Core M.Msg) × Stands M.meaning M.stands node.old c }
+    requires sound { IsSound D.history D.room journal.old }
+    requires attached { is_attached journal.old ≡ true }
+    requires entry { entry.now ≡ spell_event event }
+    ensures written { IsWritten (entries_of journal.old) entry.now (sight D.history D.passes D.faults D.current D.files (disk_of journal.old))
+        (sight D.history D.passes D.faults D.current D.files (disk_of journal.new)) (entries_of journal.new) result }
+    ensures stepped { HasStepped M.meaning M.stands event node.old node.new result }
+    ensures sound { IsSound D.history D.room journal.new }
+    ensures attached { makes_stale result ≡ false → is_attached journal.new ≡ true }
+    ensures same { (node.new.parts.setup ≡ node.old.parts.setup) × (node.new.parts.me ≡ node.old.parts.me) }
+{
+    let slots = node.log().entries().len();
+    let epoch = node.epoch();
+    match node.take(alloc, event) {
+        NodeAnswer::Taken(outcome) => keep_entry(node, journal, entry, outcome, slots, epoch),
+        NodeAnswer::Dropped(why) => Answer::Dropped(why),
+        NodeAnswer::NoMemory => Answer::NoMemory,
+        NodeAnswer::Stale => Answer::NoMemory,
+    }
+}
+
+/// Makes room for the entry of an event, steps the node, and keeps the entry where the event was taken.
+pub(crate) fn keep<M: Sequenced, D: Disk>(
+    alloc: Global,
+    node: &mut Node<M>,
+    journal: &mut Journal<D>,
+    event: NodeEvent,
+) -> Answer
+    requires good { IsSetupOf M.meaning node.old.parts.setup }
+    requires stands { (c : Core M.Msg) × Stands M.meaning M.stands node.old c }
+    requires sound { IsSound D.history D.room journal.old }
+    requires attached { is_attached journal.old ≡ true }
+    ensures written { IsWritten (entries_of journal.old) (spell_event event) (sight D.history D.passes D.faults D.current D.files (disk_of journal.old))
+        (sight D.history D.passes D.faults D.current D.files (disk_of journal.new)) (entries_of journal.new) result }
+    ensures stepped { HasStepped M.meaning M.stands event node.old node.new result }
+    ensures sound { IsSound D.history D.room journal.new }
+    ensures attached { makes_stale result ≡ false → is_attached journal.new ≡ true }
+    ensures same { (node.new.parts.setup ≡ node.old.parts.setup) × (node.new.parts.me ≡ node.old.parts.me) }
+{
+    let Ok(entry) = encode_entry(alloc, &event) else {
+        return Answer::NoMemory;
+    };
+    if journal.reserve(entry.len() as u64).is_err() {
+        return Answer::NoMemory;
+    }
+    step(alloc, node, journal, event, entry.as_slice())
+}

@@ -1,0 +1,185 @@
+//! A kept node.
+ghost use Rattle.std.specs.Prelude.{◌≡◌, ◌<◌, ◌≤◌, ◌↔◌, ℕ, [], List, true, false, not, take, is_ok, length, IfOk, OnOk, OnErr, IsErrOf};
+ghost use Rattle.iss_disk.specs.Calls.{Restarts, Stays, script, up_to};
+ghost use Rattle.iss_keep.specs.Cores.{step_of};
+ghost use Rattle.iss_keep.specs.Entries.{spell_event};
+ghost use Rattle.iss_keep.specs.State.{IsAt, StandsFor};
+ghost use Rattle.iss_keep.specs.Steps.{IsAnswer, IsAttached, IsDamaged, IsSame, IsWritten, LosesNone, ShowsAsBefore, makes_stale, sight};
+ghost use Rattle.iss_rules.specs.Concrete.{keys_of};
+ghost use Rattle.iss_model.specs.Node.{Core};
+ghost use Rattle.iss_rules.specs.Setups.{IsSetupOf};
+ghost use Rattle.iss_node.specs.Steps.{IsOfNodes};
+
+use crate::answers::Answer;
+use crate::keeping::keep;
+use crate::reopening::{open, start_fresh};
+use iss_disk::{Disk, Fused};
+use iss_journal::{AttachError, Journal};
+use iss_keys::SharedDirectory;
+use iss_causes::NodeEvent;
+use iss_node::Node;
+use iss_request::{Epoch, NoMemory, NodeId, Setup};
+use iss_sb::Sequenced;
+use std::alloc::Global;
+use std::marker::Model;
+
+/// A node whose every event that was taken stands in its journal before its outcome is handed out, so that whoever reopens
+/// the journal finds the node that it was.
+#[derive(Drop)]
+pub struct Kept<M: Sequenced, D: Disk> {
+    pub(crate) alloc: Global,
+    pub(crate) setup: Setup,
+    pub(crate) directory: SharedDirectory,
+    pub(crate) me: NodeId,
+    pub(crate) node: Node<M>,
+    pub(crate) journal: Journal<D>,
+    pub(crate) stale: bool,
+}
+
+impl<M: Sequenced, D: Disk> Model for Kept<M, D> {
+    ghost use Rattle.iss_keep.specs.State.{IsKept, KeptState, state_over};
+
+    ghost Value = { KeptState M M.Msg D };
+
+    ghost view = { λ v. state_over v.setup v.me v.node v.journal v.stale };
+
+    ghost invariant = { λ v. IsKept M.meaning M.stands D.history D.room v.directory v.journal
+        (state_over v.setup v.me v.node v.journal v.stale) };
+}
+
+impl<M: Sequenced, D: Disk + Drop> Kept<M, D> {
+    /// A kept node over the current file of a disk, in a cluster with this directory. It is stale, and shows what a node shows that
+    /// has taken nothing.
+    pub fn over(
+        alloc: Global,
+        setup: &Setup,
+        directory: &SharedDirectory,
+        me: NodeId,
+        disk: D,
+    ) -> Result<Kept<M, D>, NoMemory>
+        requires good { IsSetupOf M.meaning setup.now }
+        requires directory { directory.now ≡ keys_of setup.now }
+        requires me { me.0 < setup.now.n }
+        ensures same { IfOk result (λ v. (v.setup ≡ setup.now) × (v.me ≡ me)) }
+        ensures stale { IfOk result (λ v. v.stale ≡ true) }
+        ensures journal { IfOk result (λ v. (v.disk ≡ disk) × (v.entries ≡ [])) }
+        ensures shown { IfOk result (λ v. (v.node.parts.log.entries ≡ []) × (v.node.parts.epoch ≡ 0)) }
+    {
+        let node = start_fresh(alloc, setup, directory, me)?;
+        let setup = setup.copy()?;
+        Ok(Kept {
+            alloc,
+            setup,
+            directory: directory.share(),
+            me,
+            node,
+            journal: Journal::over(alloc, disk),
+            stale: true,
+        })
+    }
+}
+
+impl<M: Sequenced, D: Disk> Kept<M, D> {
+    /// Takes an event: makes room for its entry, steps the node, appends the entry where the event was taken, and hands out what it
+    /// made only then. An ask is never dropped, and one of a number that is no node leaves an entry that `reopen` finds damaged.
+    pub fn take(&mut self, event: NodeEvent) -> Answer
+        ensures answer { (c : Core M.Msg) → IsAt M.meaning M.stands self.old c → IsAnswer M.meaning M.stands
+            (IsOfNodes self.old.setup.n event) self.old c (step_of self.old.setup M.meaning self.old.me.0 c event) self.new result }
+        ensures refused { (result ≡ Answer.Stale) ↔ (self.old.stale ≡ true) }
+        ensures stale { self.new.stale ≡ makes_stale result }
+        ensures written { IsWritten self.old.entries (spell_event event) (sight D.history D.passes D.faults D.current D.files self.old.disk)
+            (sight D.history D.passes D.faults D.current D.files self.new.disk) self.new.entries result }
+        ensures shown { self.new.stale ≡ true → ShowsAsBefore self.old self.new }
+        ensures same { IsSame self.old self.new }
+    {
+        if self.stale {
+            return Answer::Stale;
+        }
+        let answer = keep(self.alloc, &mut self.node, &mut self.journal, event);
+        self.stale = answer.makes_stale();
+        answer
+    }
+
+    /// Makes the node anew from the entries of the journal. `Damaged` comes where the file is damaged, and where an entry is no event
+    /// or is one that the node before it would drop.
+    pub fn reopen(&mut self) -> Result<(), AttachError>
+        ensures stale { self.new.stale ≡ not (is_ok result) }
+        ensures core { OnOk result ((c : Core M.Msg) × StandsFor M.meaning M.stands self.new c) }
+        ensures attached { OnOk result (IsAttached (sight D.history D.passes D.faults D.current D.files self.old.disk)
+            (sight D.history D.passes D.faults D.current D.files self.new.disk) self.new.entries) }
+        ensures damaged { (at : ℕ) → IsErrOf result (AttachError.Damaged at) →
+            IsDamaged self.old.setup M.meaning self.old.me.0 self.new.entries (D.history self.old.disk) at }
+        ensures loses { LosesNone (sight D.history D.passes D.faults D.current D.files self.old.disk)
+            (sight D.history D.passes D.faults D.current D.files self.new.disk) (IsErrOf result AttachError.Failed) }
+        ensures shown { OnErr result (ShowsAsBefore self.old self.new) }
+        ensures same { IsSame self.old self.new }
+    {
+        self.stale = true;
+        match open(
+            self.alloc,
+            &self.setup,
+            &self.directory,
+            self.me,
+            &mut self.journal,
+        ) {
+            Ok(node) => {
+                self.node = node;
+                self.stale = false;
+                Ok(())
+            }
+            Err(error) => Err(error),
+        }
+    }
+
+    /// Whether it has to be reopened: at first, and after `Failed`, `NoMemory`, a restart, a retreat or a refused `reopen`.
+    pub fn stale(&self) -> bool
+        ensures { result ≡ self.now.stale }
+    {
+        self.stale
+    }
+
+    /// Gives up what came after the first slots: until it is reopened it shows these as its log, and the given epoch.
+    pub fn retreat(&mut self, slots: usize, epoch: Epoch)
+        requires slots { slots ≤ length self.old.node.parts.log.entries }
+        requires epoch { epoch.0 ≤ self.old.node.parts.epoch }
+        ensures stale { self.new.stale ≡ true }
+        ensures log { self.new.node.parts.log.entries ≡ take slots self.old.node.parts.log.entries }
+        ensures epoch { self.new.node.parts.epoch ≡ epoch.0 }
+        ensures journal { (self.new.disk ≡ self.old.disk) × (self.new.entries ≡ self.old.entries) }
+        ensures same { IsSame self.old self.new }
+    {
+        self.stale = true;
+        self.node.retreat(slots, epoch);
+    }
+}
+
+impl<M: Sequenced, D: Fused> Kept<M, D> {
+    /// From now on that many calls of the disk pass, and all others fail.
+    pub fn fuse(&mut self, calls: u64)
+        ensures passes { D.passes self.new.disk ≡ up_to calls }
+        ensures node { self.new.node ≡ self.old.node }
+        ensures entries { self.new.entries ≡ self.old.entries }
+        ensures stale { self.new.stale ≡ self.old.stale }
+        ensures files { Stays (D.current self.old.disk) (D.current self.new.disk)
+            (D.files self.old.disk) (D.files self.new.disk) }
+        ensures faults { D.faults self.new.disk ≡ D.faults self.old.disk }
+        ensures same { IsSame self.old self.new }
+    {
+        self.journal.fuse(calls);
+    }
+
+    /// Leaves of the disk what was synced, and ends the fuse. The node has to be reopened.
+    pub fn restart(&mut self)
+        ensures files { (name : List ℕ) → Restarts (D.files self.old.disk name) (D.files self.new.disk name) }
+        ensures current { D.current self.new.disk ≡ D.current self.old.disk }
+        ensures passes { D.passes self.new.disk ≡ script [] }
+        ensures faults { D.faults self.new.disk ≡ D.faults self.old.disk }
+        ensures node { self.new.node ≡ self.old.node }
+        ensures entries { self.new.entries ≡ self.old.entries }
+        ensures stale { self.new.stale ≡ true }
+        ensures same { IsSame self.old self.new }
+    {
+        self.stale = true;
+        self.journal.restart();
+    }
+}

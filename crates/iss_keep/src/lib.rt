@@ -1,0 +1,15 @@
+//! A kept node: a node whose every event that was taken stands in its journal before its outcome is handed out.
+#![tactic(auto)]
+
+mod answers;
+mod entries;
+mod keeping;
+mod kept;
+mod laws;
+mod reopening;
+mod shown;
+
+pub use answers::Answer;
+pub use entries::{decode_entry, encode_entry, entries_are_exact};
+pub use kept::Kept;
+pub use laws::{a_crash_leaves_one_of_two, leaves_are_of_one_entry, leaves_are_of_one_statement};

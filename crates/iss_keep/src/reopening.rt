@@ -1,0 +1,121 @@
+// A node made anew from the entries of its journal.
+ghost use Rattle.std.specs.Prelude.{◌≡◌, ◌<◌, ℕ, true, IfOk, IsErrOf, OnOk};
+ghost use Rattle.iss_journal.specs.Sound.{IsSound, disk_of, entries_of, is_attached};
+ghost use Rattle.iss_keep.specs.Cores.{StopsAt};
+ghost use Rattle.iss_keep.specs.Replays.{GoesTo, IsOf, IsReplayed};
+ghost use Rattle.iss_keep.specs.Steps.{IsAttached, IsDamaged, LosesNone, sight};
+ghost use Rattle.iss_rules.specs.Concrete.{keys_of};
+ghost use Rattle.iss_model.specs.Node.{Core, idle};
+ghost use Rattle.iss_rules.specs.Setups.{IsSetupOf};
+ghost use Rattle.iss_node.specs.State.{Stands};
+
+use crate::entries::decode_entry;
+use iss_disk::Disk;
+use iss_journal::{AttachError, Journal};
+use iss_keys::SharedDirectory;
+use iss_node::{Answer, Node};
+use iss_request::{NoMemory, NodeId, Setup};
+use iss_sb::Sequenced;
+use std::alloc::Global;
+
+/// A node that has taken nothing, with fresh keys.
+pub(crate) fn start_fresh<M: Sequenced>(
+    alloc: Global,
+    setup: &Setup,
+    directory: &SharedDirectory,
+    me: NodeId,
+) -> Result<Node<M>, NoMemory>
+    requires good { IsSetupOf M.meaning setup.now }
+    requires directory { directory.now ≡ keys_of setup.now }
+    requires me { me.0 < setup.now.n }
+    ensures stands { IfOk result (λ node. Stands M.meaning M.stands node idle) }
+    ensures same { IfOk result (λ node. (node.parts.setup ≡ setup.now) × (node.parts.me ≡ me)) }
+{
+    let keys = directory.directory().keys_of_node(alloc, me.0);
+    Node::start(alloc, setup, directory, me, keys)
+}
+
+// Whether an entry is an event that the node takes. Where it is none, the node is of no more use.
+fn replay_entry<M: Sequenced>(
+    alloc: Global,
+    n: u32,
+    node: &mut Node<M>,
+    entry: &[u8],
+) -> Result<bool, NoMemory>
+    requires { n ≡ node.old.parts.setup.n }
+    ensures goes { IfOk result (λ taken. (c : Core M.Msg) → Stands M.meaning M.stands node.old c →
+        GoesTo node.old.parts.setup M.meaning M.stands node.old.parts.me.0 c entry.now node.new taken) }
+    ensures same { (node.new.parts.setup ≡ node.old.parts.setup) × (node.new.parts.me ≡ node.old.parts.me) }
+{
+    let Some(event) = decode_entry(alloc, n, entry)? else {
+        return Ok(false);
+    };
+    match node.take(alloc, event) {
+        Answer::Taken(_outcome) => Ok(true),
+        Answer::Dropped(_why) => Ok(false),
+        Answer::NoMemory => Err(NoMemory),
+        Answer::Stale => Err(NoMemory),
+    }
+}
+
+// The node that takes the entries in turn. `Damaged` names the gate of the first that is no event or would be dropped.
+fn replay<M: Sequenced, D: Disk>(
+    alloc: Global,
+    setup: &Setup,
+    directory: &SharedDirectory,
+    me: NodeId,
+    journal: &Journal<D>,
+) -> Result<Node<M>, AttachError>
+    requires good { IsSetupOf M.meaning setup.now }
+    requires directory { directory.now ≡ keys_of setup.now }
+    requires me { me.0 < setup.now.n }
+    ensures stands { IfOk result (IsReplayed setup.now M.meaning M.stands me.0 (entries_of journal.now)) }
+    ensures same { IfOk result (IsOf setup.now me) }
+    ensures damaged { (at : ℕ) → IsErrOf result (AttachError.Damaged at) → StopsAt setup.now M.meaning me.0 at (entries_of journal.now) }
+    ensures sound { IsErrOf result AttachError.Failed → ⊥ }
+{
+    let Ok(mut node) = start_fresh::<M>(alloc, setup, directory, me) else {
+        return Err(AttachError::NoMemory);
+    };
+    let entries = journal.entries();
+    for k in 0..entries.len() {
+        let Ok(taken) = replay_entry(alloc, setup.n, &mut node, entries.get(k)) else {
+            return Err(AttachError::NoMemory);
+        };
+        if !taken {
+            return Err(AttachError::Damaged {
+                at: journal.gate_of(k),
+            });
+        }
+    }
+    Ok(node)
+}
+
+/// Attaches the journal, and makes a node anew from its entries.
+pub(crate) fn open<M: Sequenced, D: Disk>(
+    alloc: Global,
+    setup: &Setup,
+    directory: &SharedDirectory,
+    me: NodeId,
+    journal: &mut Journal<D>,
+) -> Result<Node<M>, AttachError>
+    requires good { IsSetupOf M.meaning setup.now }
+    requires directory { directory.now ≡ keys_of setup.now }
+    requires me { me.0 < setup.now.n }
+    requires sound { IsSound D.history D.room journal.old }
+    ensures stands { IfOk result (IsReplayed setup.now M.meaning M.stands me.0 (entries_of journal.new)) }
+    ensures same { IfOk result (IsOf setup.now me) }
+    ensures attached { OnOk result (IsAttached (sight D.history D.passes D.faults D.current D.files (disk_of journal.old))
+        (sight D.history D.passes D.faults D.current D.files (disk_of journal.new)) (entries_of journal.new)) }
+    ensures is_attached { OnOk result (is_attached journal.new ≡ true) }
+    ensures damaged { (at : ℕ) → IsErrOf result (AttachError.Damaged at) →
+        IsDamaged setup.now M.meaning me.0 (entries_of journal.new) (D.history (disk_of journal.old)) at }
+    ensures loses { LosesNone (sight D.history D.passes D.faults D.current D.files (disk_of journal.old))
+        (sight D.history D.passes D.faults D.current D.files (disk_of journal.new)) (IsErrOf result AttachError.Failed) }
+    ensures sound { IsSound D.history D.room journal.new }
+{
+    match journal.attach() {
+        Ok(()) => replay(alloc, setup, directory, me, journal),
+        Err(error) => Err(error),
+    }
+}

@@ -1,0 +1,159 @@
+//! A node alone under echo, in epochs of one slot. It signs its word on a batch, its echo of that, and its vote on the epoch's end.
+ghost use Rattle.iss_rules.specs.Setups.{IsSetupOf};
+ghost use Rattle.sb_echo.specs.Echo.{echo};
+
+use iss_disk::MemoryDisk;
+use iss_keep::{Answer, Kept};
+use iss_keys::SharedDirectory;
+use iss_causes::NodeEvent;
+use iss_node::Outcome;
+use iss_request::{Bytes, Kind, NodeId, Nodes, Policy, Setup};
+use sb_echo::Echo;
+use std::alloc::Global;
+use std::process::Abort;
+use std::test::Fail;
+
+type Subject = Kept<Echo, MemoryDisk>;
+
+// One node, whose key has sixteen leaves.
+fn alone(alloc: Global) -> Setup
+    ensures { IsSetupOf echo result }
+{
+    Setup {
+        version: 1,
+        module: 6,
+        f: 0,
+        epoch: 1,
+        buckets: 1,
+        batch: 4,
+        window: 8,
+        policy: Policy::Simple,
+        clients: 1,
+        keys: 4,
+        faulty: Nodes::new(alloc),
+        n: 1,
+        quorum: 1,
+        kind: Kind::Byzantine,
+        tag: [0; 32],
+    }
+}
+
+fn node_over(alloc: Global, setup: &Setup) -> Result<Subject, Fail>
+    requires { IsSetupOf echo setup.now }
+{
+    let directory = SharedDirectory::make(alloc, setup.n, setup.clients, setup.keys as u8)?;
+    let disk = MemoryDisk::new(alloc)?;
+    let mut node = Kept::over(alloc, setup, &directory, NodeId(0), disk)?;
+    node.reopen()?;
+    Ok(node)
+}
+
+fn node(alloc: Global) -> Result<Subject, Fail> {
+    let setup = alone(alloc);
+    node_over(alloc, &setup)
+}
+
+// The number of the leaf in a signature.
+fn leaf_of(sig: &[u8]) -> u32 {
+    match sig {
+        [_, a, b, c, d, ..] => u32::from_be_bytes([*a, *b, *c, *d]),
+        _ => u32::MAX,
+    }
+}
+
+// What an event made: by which leaves its own claims were signed, and the packets.
+#[derive(Drop)]
+struct Made {
+    leaves: Vec<u32>,
+    packets: Vec<Bytes>,
+}
+
+fn seen(alloc: Global, outcome: &Outcome) -> Result<Made, Fail> {
+    let mut made = Made {
+        leaves: Vec::new(alloc),
+        packets: Vec::new(alloc),
+    };
+    for claim in outcome.own.as_slice() {
+        made.leaves.push(leaf_of(claim.sig.as_slice()))?;
+    }
+    for (_to, bytes) in outcome.sends.as_slice() {
+        made.packets.push(bytes.copy()?)?;
+    }
+    Ok(made)
+}
+
+fn told(alloc: Global, answer: &Answer) -> Result<Made, Fail> {
+    match answer {
+        Answer::Taken(outcome) => seen(alloc, outcome),
+        _ => Err("it is not taken")?,
+    }
+}
+
+fn propose(alloc: Global, node: &mut Subject) -> Result<Made, Fail> {
+    told(alloc, &node.take(NodeEvent::Propose))
+}
+
+// The node takes a packet that it sent.
+fn take_back(alloc: Global, node: &mut Subject, made: &Made, place: usize) -> Result<Made, Fail> {
+    let bytes = made.packets.get(place).ok_or("it is not sent")?;
+    told(alloc, &node.take(NodeEvent::Packet(bytes.copy()?)))
+}
+
+// The disk stops and works again, and the node is made anew.
+fn restart(node: &mut Subject) -> Result<(), Fail> {
+    node.restart();
+    node.reopen()?;
+    Ok(())
+}
+
+// The word and the echo of a proposal are signed by two leaves, and the vote by the one behind them. Hands out the vote.
+fn order(rt: &impl Abort, alloc: Global, node: &mut Subject, first: u32) -> Result<Made, Fail> {
+    let said = propose(alloc, node)?;
+    assert_eq!(rt; said.leaves.as_slice(), [first, first + 1].as_slice());
+    restart(node)?;
+    let voted = take_back(alloc, node, &said, 1)?;
+    assert_eq!(rt; voted.leaves.as_slice(), [first + 2].as_slice());
+    restart(node)?;
+    Ok(voted)
+}
+
+#[test]
+fn a_reopened_node_signs_with_the_next_leaf(rt: HostRuntime) -> Result<(), Fail> {
+    let alloc = rt.alloc();
+    let mut node = node(alloc)?;
+    order(&rt, alloc, &mut node, 0)?;
+    order(&rt, alloc, &mut node, 3)?;
+    order(&rt, alloc, &mut node, 6)?;
+    assert_eq!(rt; node.epoch().0, 3);
+    Ok(())
+}
+
+// Nothing of an event was handed out that is not kept, so its leaves may sign something else.
+#[test]
+fn an_event_that_is_not_kept_uses_no_leaf(rt: HostRuntime) -> Result<(), Fail> {
+    let alloc = rt.alloc();
+    let mut node = node(alloc)?;
+    node.fuse(3);
+    let failed = matches!(node.take(NodeEvent::Propose), Answer::Failed);
+    assert!(rt; failed);
+    restart(&mut node)?;
+    order(&rt, alloc, &mut node, 0)?;
+    Ok(())
+}
+
+// A piece holds the node's own vote, with the signature that it was sent with. Who is asked finds the ask among its entries.
+#[test]
+fn a_piece_shows_the_vote_that_was_signed(rt: HostRuntime) -> Result<(), Fail> {
+    let alloc = rt.alloc();
+    let mut node = node(alloc)?;
+    let asked = told(alloc, &node.take(NodeEvent::AskFrom(NodeId(0))))?;
+    assert!(rt; asked.leaves.is_empty());
+    let voted = order(&rt, alloc, &mut node, 0)?;
+    take_back(alloc, &mut node, &voted, 0)?;
+    restart(&mut node)?;
+    let handed = take_back(alloc, &mut node, &asked, 0)?;
+    assert_eq!(rt; handed.leaves.as_slice(), [2u32].as_slice());
+    restart(&mut node)?;
+    order(&rt, alloc, &mut node, 3)?;
+    Ok(())
+}
