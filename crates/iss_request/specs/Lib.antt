@@ -1,3 +1,4 @@
+pub mod Bytes
 pub mod Digest
 pub mod Fields
 pub mod Formats

@@ -4,19 +4,30 @@ ghost use Rattle.std.specs.Prelude.{◌≡◌, length, [], IfOk};
 use crate::errors::NoMemory;
 use std::alloc::Global;
 use std::marker::Model;
+use std::rc::Rc;
 
-/// Bytes, which contracts see as a list.
+// Where bytes stand.
+#[derive(Drop, Clone, Debug)]
+enum Held {
+    // here alone
+    Own(Vec<u8>),
+    // in one place, which copies share
+    Shared(Rc<Vec<u8>>),
+}
+
+/// Bytes, which contracts see as a list. Nobody can change them, so copies may share them.
 #[derive(Drop, Clone, Debug)]
 pub struct Bytes {
-    all: Vec<u8>,
+    held: Held,
 }
 
 impl Model for Bytes {
     ghost use Rattle.std.specs.Prelude.{ℕ, List};
+    ghost use Rattle.iss_request.specs.Bytes.{held_bytes};
 
     ghost Value = { List ℕ };
 
-    ghost view = { λ b. b.all.items };
+    ghost view = { λ b. held_bytes b.held };
 }
 
 impl Bytes {
@@ -25,38 +36,54 @@ impl Bytes {
         ensures { result ≡ [] }
     {
         Bytes {
-            all: Vec::new(alloc),
+            held: Held::Own(Vec::new(alloc)),
         }
     }
 
-    /// These bytes.
+    /// These bytes, of which each copy takes memory of its own.
     pub fn of(all: Vec<u8>) -> Bytes
         ensures { result ≡ all.items }
     {
-        Bytes { all }
+        Bytes {
+            held: Held::Own(all),
+        }
+    }
+
+    /// These bytes, which all copies share: for what is read once and then stands in many places.
+    pub fn shared(all: Vec<u8>) -> Result<Bytes, NoMemory>
+        ensures { IfOk result (λ b. b ≡ all.items) }
+    {
+        let alloc = *all.allocator();
+        Ok(Bytes {
+            held: Held::Shared(Rc::new(alloc, all)?),
+        })
     }
 
     /// How many bytes there are.
     pub fn len(&self) -> usize
         ensures { result ≡ length self.now }
     {
-        self.all.len()
+        self.as_slice().len()
     }
 
     /// The bytes, lent.
     pub fn as_slice(&self) -> &[u8]
         ensures { result.now ≡ self.now }
     {
-        self.all.as_slice()
+        match &self.held {
+            Held::Own(all) => all.as_slice(),
+            Held::Shared(all) => all.as_slice(),
+        }
     }
 
     /// The same bytes once more.
     pub fn copy(&self) -> Result<Bytes, NoMemory>
         ensures { IfOk result (λ b. b ≡ self.now) }
     {
-        let alloc = *self.all.allocator();
-        Ok(Bytes {
-            all: Vec::from_slice(alloc, self.all.as_slice())?,
-        })
+        let held = match &self.held {
+            Held::Own(all) => Held::Own(Vec::from_slice(*all.allocator(), all.as_slice())?),
+            Held::Shared(all) => Held::Shared(all.clone()?),
+        };
+        Ok(Bytes { held })
     }
 }

@@ -141,7 +141,7 @@ fn read_payload(alloc: Global, f: &mut Fields) -> Result<Bytes, DecodeError>
 fn copy_of(alloc: Global, bytes: &[u8]) -> Result<Bytes, NoMemory>
     ensures { IfOk result (λ b. b ≡ bytes.now) }
 {
-    Ok(Bytes::of(Vec::from_slice(alloc, bytes)?))
+    Bytes::shared(Vec::from_slice(alloc, bytes)?)
 }
 
 // A height byte, the leaf and the digests in one piece.
@@ -152,7 +152,7 @@ fn joined(alloc: Global, height: u8, leaf: &[u8], digests: &[u8]) -> Result<Byte
     all.push(height)?;
     all.extend_from_slice(leaf)?;
     all.extend_from_slice(digests)?;
-    Ok(Bytes::of(all))
+    Bytes::shared(all)
 }
 
 /// Reads a signature of any height from 2 to 12. Whether it verifies is not looked at.
