@@ -2,12 +2,12 @@
 ghost use Rattle.std.specs.Prelude.{◌≡◌, length, [], IfOk};
 
 use crate::errors::NoMemory;
-use std::alloc::Global;
+use std::alloc::{AllocError, Global};
 use std::marker::Model;
 use std::rc::Rc;
 
 // Where bytes stand.
-#[derive(Drop, Clone, Debug)]
+#[derive(Drop, Debug)]
 enum Held {
     // here alone
     Own(Vec<u8>),
@@ -16,7 +16,7 @@ enum Held {
 }
 
 /// Bytes, which contracts see as a list. Nobody can change them, so copies may share them.
-#[derive(Drop, Clone, Debug)]
+#[derive(Drop, Debug)]
 pub struct Bytes {
     held: Held,
 }
@@ -80,6 +80,14 @@ impl Bytes {
     pub fn copy(&self) -> Result<Bytes, NoMemory>
         ensures { IfOk result (λ b. b ≡ self.now) }
     {
+        Ok(self.clone()?)
+    }
+}
+
+impl Clone for Bytes {
+    ghost is_clone = { λ b copy. copy ≡ b };
+
+    fn clone(&self) -> Result<Bytes, AllocError> {
         let held = match &self.held {
             Held::Own(all) => Held::Own(Vec::from_slice(*all.allocator(), all.as_slice())?),
             Held::Shared(all) => Held::Shared(all.clone()?),
