@@ -21,6 +21,7 @@ use Rattle.iss_restarts.specs.Courses.{Course, begin_course, begin_machines, cou
 use Rattle.iss_restarts.specs.Headline.{AreCertified, AreOfCluster, AreOneLog, AreWritten, IsWhole, WasAsked, course_after, held_after, shown, why_ended}
 use Rattle.iss_restarts.proofs.Courses.{Leads, course-append, course-over, going, going-is, leads-behind, over, over-is, standing}
 use Rattle.iss_restarts.proofs.Entering.{Follows, begin-own, follows}
+use Rattle.iss_restarts.proofs.Numbers.{same-numbers}
 
 -- why a run ended, and in which event
 ended-is : (o : Option (ℕ × End)) (end : End) → why_ended o ≡ Some end → (k : ℕ) × (o ≡ Some (k, end))
@@ -62,7 +63,17 @@ module _ {Msg : Type 0} (s : Setup) (M : Module Msg)
   one-log : AreOneLog s M (held_after s M events)
   one-log =
       let o = logs entering.events entering.at_cores in
-      subst (λ (h : Held Msg). AreOneLog s M h) entering.held (record { prefix = o.prefix; once = o.once; valid = o.valid })
+      let n = run_after s M entering.events in
+      subst (λ (h : Held Msg). AreOneLog s M h) entering.held
+      (record {
+        prefix = o.prefix;
+        once = o.once;
+        valid = o.valid;
+        numbers = λ i j slot k l oki okj ki lj. elim (o.prefix i j oki okj) [
+          | inl a ↦ same-numbers (shown s M n.held i) (shown s M n.held j) slot k l a ki lj
+          | inr b ↦ sym (same-numbers (shown s M n.held j) (shown s M n.held i) slot l k b lj ki)
+        ];
+      })
 
   certified : AreCertified s M (held_after s M events)
   certified =

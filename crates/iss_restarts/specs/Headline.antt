@@ -2,6 +2,7 @@
 use Rattle.std.specs.Prelude.{◌≡◌, ◌⊎◌, ℕ, true, List, [], ◌∷◌, ◌++◌, Option, Some, None, reverse}
 use Rattle.iss_base.specs.Lists.{In}
 use Rattle.iss_checkpoint.specs.declared.votes.Cert.{Cert}
+use Rattle.iss_log.specs.LogState.{first_number_of}
 use Rattle.iss_request.specs.Log.{Once}
 use Rattle.iss_request.specs.declared.ids.ReqId.{ReqId}
 use Rattle.iss_request.specs.declared.requests.Batch.{Batch}
@@ -102,6 +103,9 @@ pub record AreOneLog {Msg : Type 0} (s : Setup) (M : Module Msg) (h : Held Msg) 
   -- a correct node accepted each batch as valid, in the slot in which it is printed
   pub valid : (i : ℕ) → is_correct s i ≡ true → (front back : List Value) (b : Batch) →
       shown s M h i ≡ front ++ Holds b ∷ back → WasAccepted s (rules_of s) M (pasts_of h.net) (reverse front) b
+  -- a slot that two correct nodes hold begins with the same number at both: the sum of the sizes of the batches before it
+  pub numbers : (i j slot k l : ℕ) → is_correct s i ≡ true → is_correct s j ≡ true → first_number_of (shown s M h i) slot ≡ Some k →
+      first_number_of (shown s M h j) slot ≡ Some l → k ≡ l
 
 -- certificates that correct nodes keep are of logs of correct nodes, and what correct nodes adopted was delivered at one
 pub record AreCertified {Msg : Type 0} (s : Setup) (M : Module Msg) (h : Held Msg) : Type 0 where

@@ -1,3 +1,4 @@
 pub mod Courses
 pub mod Disks
+pub mod Frames
 pub mod Headline
