@@ -1,12 +1,17 @@
 -- What an event promises of a world that stood for the run of the events before it.
-use Rattle.std.specs.Prelude.{◌≡◌, ℕ, true, List, Some}
+use Rattle.std.specs.Prelude.{◌≡◌, ℕ, true, List, Some, slice_get}
+use Rattle.iss_disk.specs.declared.memory.MemoryDisk.{MemoryDisk}
+use Rattle.iss_keep.specs.Deeds.{deeds_of}
+use Rattle.iss_keep.specs.State.{KeptState}
 use Rattle.iss_log.specs.LogState.{first_number_of}
+use Rattle.iss_model.specs.Frames.{frame_of}
 use Rattle.iss_model.specs.Run.{Held}
 use Rattle.iss_request.specs.declared.setups.Setup.{Setup}
 use Rattle.iss_restarts.specs.Headline.{IsWhole, course_after, held_after, shown}
 use Rattle.iss_schedule.specs.declared.schedules.Event.{Event}
 use Rattle.iss_sb.specs.Evidence.{Module, is_correct}
 use Rattle.iss_sb.specs.Calls.{Relation}
+use Rattle.iss_theorems.specs.Leaves.{SignsOnceEach}
 use Rattle.iss_world.specs.Stands.{StandsAt}
 use Rattle.iss_world.specs.State.{WorldState}
 use Rattle.iss_world.specs.declared.world.Happened.{Happened}
@@ -31,6 +36,11 @@ AgreeOnNumbers s m h =
     (i j slot k l : ℕ) → is_correct s i ≡ true → is_correct s j ≡ true → first_number_of (shown s m h i) slot ≡ Some k →
     first_number_of (shown s m h j) slot ≡ Some l → k ≡ l
 
+-- No leaf of a core's keys signs two statements, over all crashes and restarts: what its journal's entries did has one for each leaf.
+abbrev pub SignOnce : {M Msg : Type 0} → Setup → Module Msg → WorldState M Msg → Type 0
+SignOnce {M = M} {Msg = Msg} s m v = (i : ℕ) (g : KeptState M Msg MemoryDisk) → slice_get v.running.nodes i ≡ Some g →
+    SignsOnceEach (frame_of s m) g.me.0 (deeds_of s m g.me.0 g.entries)
+
 -- The world stands for the run of these events, up to its end if it has ended. Whatever disks failed and cores were made anew, the run
 -- leads to what nodes come to that never stop, by the events that were kept: one log, with the same numbers; each request that a
 -- correct node took and kept is in one place; certificates are of logs, what was adopted was delivered, and an end has evidence.
@@ -39,3 +49,4 @@ pub record IsHeadline {M Msg : Type 0} (s : Setup) (m : Module Msg) (stands : Re
   pub run : StandsAfter s m stands v events
   pub whole : IsWhole s m events
   pub numbers : AgreeOnNumbers s m (held_after s m events)
+  pub leaves : SignOnce s m v

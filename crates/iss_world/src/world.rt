@@ -16,8 +16,9 @@ ghost use Rattle.iss_world.specs.Stands.{HasHappened, IsOverOr, IsStaleOr, IsSta
 use crate::ends::{Change, End};
 use crate::running::Running;
 use iss_causes::Why;
+use iss_cluster::composition;
 use iss_disk::MemoryDisk;
-use iss_keep::Kept;
+use iss_keep::{Kept, leaves_are_of_one_statement};
 use iss_log::Log;
 use iss_request::{Bytes, Epoch, NoMemory, NodeId, Setup, Value};
 use iss_restarts::restarts_change_nothing;
@@ -96,7 +97,8 @@ impl<M: Sequenced> World<M> {
     /// of some events then stands for the run with this one more, whatever disks failed and cores were made anew: the logs of correct
     /// nodes are of one log, in which no request stands twice and each batch was accepted as valid by a correct node, and each request
     /// that a correct node took and kept is in its log, waits there or is in flight. The certificates that correct nodes keep are of logs
-    /// of correct nodes, and what correct nodes adopted was delivered at one (ISS, whole protocol; crashes and recovery).
+    /// of correct nodes, and what correct nodes adopted was delivered at one (ISS, whole protocol; crashes and recovery). No leaf of a
+    /// core's keys signs two statements, over all restarts.
     pub fn event(&mut self, alloc: Global, event: &Event) -> Happened
         requires { IsInRange self.old.running.setup event.now }
         ensures happened { (p : Course M.Msg) → StandsAt M.meaning M.stands self.old p →
@@ -108,7 +110,9 @@ impl<M: Sequenced> World<M> {
         ensures over { IsOverOr self.old self.new }
         ensures same { self.new.running.setup ≡ self.old.running.setup }
     {
+        composition::<M>();
         restarts_change_nothing::<M>();
+        leaves_are_of_one_statement::<M>();
         let _setup = self.running.setup();
         if self.stale {
             return Happened::Stale;
