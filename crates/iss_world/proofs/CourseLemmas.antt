@@ -1,9 +1,9 @@
 -- Deliveries one after the other, up to one that ends the run, and what happens to the network alone.
 use Rattle.std.proofs.Common.{◌≡◌, ℕ, zero, suc, ◌+◌, ◌-◌, ◌<◌, ◌≤◌, Bool, true, false, cond, List, [], ◌∷◌, ◌++◌, length, take, drop, get_or, Option, Some, None, refl, sym, ap, ◌∙◌, subst, arith}
 use Rattle.iss_base.specs.Lists.{nth}
-use Rattle.iss_rules.specs.Concrete.{rules_of}
+use Rattle.iss_rules.specs.Concrete.{request_of, rules_of}
 use Rattle.iss_rules.specs.Formats.{formats_of}
-use Rattle.iss_rules.specs.Parcels.{Formats}
+use Rattle.iss_rules.specs.Parcels.{Formats, OfRequest}
 use Rattle.iss_rules.specs.Rules.{Rules}
 use Rattle.iss_causes.specs.Ends.{End}
 use Rattle.iss_causes.specs.declared.causes.NodeEvent.TheVariants.{Packet as Gets}
@@ -11,7 +11,8 @@ use Rattle.iss_network.specs.Network.{Network, due, settled}
 use Rattle.iss_network.specs.declared.packets.Sent.{Sent}
 use Rattle.iss_request.specs.declared.setups.Kind.TheVariants.{Byzantine}
 use Rattle.iss_request.specs.declared.setups.Setup.{Setup}
-use Rattle.iss_restarts.specs.Courses.{Machines, Upshot, at_machine, calms, delivered_to, delivers, delivers_each, injects, loses, pumps, unless, went_on, with_packets}
+use Rattle.iss_restarts.specs.Courses.{Machines, Upshot, at_machine, calms, delivered_to, delivers, delivers_each, happens, injects, loses, pumps, unless, went_on, with_packets}
+use Rattle.iss_schedule.specs.declared.schedules.Event.TheVariants.{Request as Asks}
 use Rattle.iss_sb.specs.Calls.{Relation, kind_of}
 use Rattle.iss_sb.specs.Evidence.{Module}
 use Rattle.iss_world.proofs.PostLemmas.{take-next}
@@ -106,6 +107,16 @@ module _ {M Msg : Type 0} (m : Module Msg) (stands : Relation M Msg) where
         subst (λ (b : Bool). HasChanged m stands later (cond b (went_on w) (at_machine s F R m w i (Gets bytes))) r) (sym e)
         (subst (λ (b : List ℕ). HasChanged m stands later (at_machine s F R m w i (Gets b)) r) same d)
 
+    -- a client's request, where the set-up is known as another one
+    pub happened-asked : (t : Setup) (i client number : ℕ) (payload packet : List ℕ) → t ≡ s →
+        packet ≡ (formats_of t m).wrap (record { from = 255; epoch = 0; body = OfRequest (request_of t client number payload) }) →
+        HasChanged m stands later (at_machine s (formats_of s m) (rules_of s) m w i (Gets packet)) r →
+        HasChanged m stands later (happens s (formats_of s m) (rules_of s) m w (Asks i client number payload)) r
+    happened-asked t i client number payload packet same is d =
+        let made : Setup → List ℕ = λ z. (formats_of z m).wrap (record { from = 255; epoch = 0; body = OfRequest (request_of z client number payload) }) in
+        let there : packet ≡ made s = is ∙ ap made same in
+        subst (λ (b : List ℕ). HasChanged m stands later (at_machine s (formats_of s m) (rules_of s) m w i (Gets b)) r) there d
+
   -- ---- many of them
 
   still-runs : (v : RunningState M Msg) (d : Upshot Msg) (r : Change) → HasChanged m stands v d r → ((end : Kept) → r ≡ Ended end → ⊥) → Runs m stands v d.machines × (d.ended ≡ None)
@@ -196,6 +207,13 @@ module _ {M Msg : Type 0} (m : Module Msg) (stands : Relation M Msg) where
         ap (λ (n : ℕ). calms s F R m n w) whole ∙ calms-plus s F R m i rest w ∙ ap (λ (z : Upshot Msg). unless z.ended z (calms s F R m rest)) now ∙ calms-quiet s F R m rest u quiet in
         subst (λ (z : Upshot Msg). HasChanged m stands later z Done) (sym all) (st, refl, refl)
 
+  -- what waited in cores that have not changed since
+  pub happened-pumped : (v same later : RunningState M Msg) (w : Machines Msg) (packets : List ℕ) (r : Change) → same ≡ v → packets ≡ due v.network → Runs m stands v w →
+      HasChanged m stands later (delivers_each same.setup (formats_of same.setup m) (rules_of same.setup) m packets w) r →
+      HasChanged m stands later (pumps v.setup (formats_of v.setup m) (rules_of v.setup) m w) r
+  happened-pumped v same later w packets r e is st d =
+      there-pumped v.setup same.setup later w (ap (λ (z : RunningState M Msg). z.setup) e) w packets r (is ∙ ap (λ (u : Network). due u) st.network) d
+
   -- what was not lost, and did not end the run, went on
   pub going-is : (d : Upshot Msg) → d.lost ≡ None → d.ended ≡ None → d ≡ went_on d.machines
-  going-is d l e i = record { held = d.machines; lost = l i; ended = e i }
+  going-is d l e i = record { machines = d.machines; lost = l i; ended = e i }
