@@ -1,5 +1,5 @@
 -- Deliveries one after the other, up to one that ends the run, and what happens to the network alone.
-use Rattle.std.proofs.Common.{◌≡◌, ℕ, zero, suc, ◌+◌, ◌-◌, ◌<◌, ◌≤◌, Bool, true, false, cond, List, [], ◌∷◌, ◌++◌, length, take, drop, get_or, Option, Some, None, refl, sym, ap, ◌∙◌, subst, arith}
+use Rattle.std.proofs.Common.{◌≡◌, ℕ, zero, suc, ◌+◌, ◌-◌, ◌<◌, ◌≤◌, Bool, true, false, cond, List, [], ◌∷◌, ◌++◌, length, take, drop, get_or, Option, Some, None, Result, IfOk, refl, sym, ap, ◌∙◌, subst, arith}
 use Rattle.iss_base.specs.Lists.{nth}
 use Rattle.iss_rules.specs.Concrete.{request_of, rules_of}
 use Rattle.iss_rules.specs.Formats.{formats_of}
@@ -9,9 +9,11 @@ use Rattle.iss_causes.specs.Ends.{End}
 use Rattle.iss_causes.specs.declared.causes.NodeEvent.TheVariants.{Packet as Gets}
 use Rattle.iss_network.specs.Network.{Network, due, settled}
 use Rattle.iss_network.specs.declared.packets.Sent.{Sent}
+use Rattle.iss_request.specs.declared.errors.NoMemory.{NoMemory}
 use Rattle.iss_request.specs.declared.setups.Kind.TheVariants.{Byzantine}
 use Rattle.iss_request.specs.declared.setups.Setup.{Setup}
 use Rattle.iss_restarts.specs.Courses.{Machines, Upshot, at_machine, calms, delivered_to, delivers, delivers_each, happens, injects, loses, pumps, unless, went_on, with_packets}
+use Rattle.iss_schedule.specs.declared.schedules.Event.{Event}
 use Rattle.iss_schedule.specs.declared.schedules.Event.TheVariants.{Request as Asks}
 use Rattle.iss_sb.specs.Calls.{Relation, kind_of}
 use Rattle.iss_sb.specs.Evidence.{Module}
@@ -213,6 +215,13 @@ module _ {M Msg : Type 0} (m : Module Msg) (stands : Relation M Msg) where
       HasChanged m stands later (pumps v.setup (formats_of v.setup m) (rules_of v.setup) m w) r
   happened-pumped v same later w packets r e is st d =
       there-pumped v.setup same.setup later w (ap (λ (z : RunningState M Msg). z.setup) e) w packets r (is ∙ ap (λ (u : Network). due u) st.network) d
+
+  -- what an event does is said of the event that it is
+  pub at-event : (v later : RunningState M Msg) (o : Result Change NoMemory) (e is : Event) → e ≡ is →
+      IfOk o (λ r. (w : Machines Msg) → Runs m stands v w → HasChanged m stands later (happens v.setup (formats_of v.setup m) (rules_of v.setup) m w is) r) →
+      IfOk o (λ r. (w : Machines Msg) → Runs m stands v w → HasChanged m stands later (happens v.setup (formats_of v.setup m) (rules_of v.setup) m w e) r)
+  at-event v later o e is same h =
+      subst (λ (z : Event). IfOk o (λ r. (w : Machines Msg) → Runs m stands v w → HasChanged m stands later (happens v.setup (formats_of v.setup m) (rules_of v.setup) m w z) r)) (sym same) h
 
   -- what was not lost, and did not end the run, went on
   pub going-is : (d : Upshot Msg) → d.lost ≡ None → d.ended ≡ None → d ≡ went_on d.machines
