@@ -34,7 +34,7 @@ forged-else : (b : Bool) (c : Claim) (o p : Option Claim) (claim : Claim) → (o
 forged-else true c o p claim more h = h
 forged-else false c o p claim more h = more h
 
-forged-first : (s : Setup) (R : Rules) (book : List Signed) (cs ds : List Claim) (claim : Claim) → first_forged s R book cs ≡ Some claim →
+pub forged-first : (s : Setup) (R : Rules) (book : List Signed) (cs ds : List Claim) (claim : Claim) → first_forged s R book cs ≡ Some claim →
     first_forged s R book (cs ++ ds) ≡ Some claim
 forged-first s R book [] ds claim h = absurd (cc)
 forged-first s R book (c ∷ cs) ds claim h =
