@@ -8,7 +8,7 @@ use Rattle.iss_disk.specs.declared.memory.MemoryDisk.{MemoryDisk}
 use Rattle.iss_keep.specs.State.{KeptState}
 use Rattle.iss_keep.specs.declared.answers.Answer.{Answer}
 use Rattle.iss_keep.specs.declared.answers.Answer.TheVariants.{Dropped as Was_dropped, Failed, NoMemory, Stale, Taken as Was_kept}
-use Rattle.iss_model.specs.Node.{Dropped, Stepped, Taken, Turn}
+use Rattle.iss_model.specs.Node.{Core, Dropped, Stepped, Taken, Turn}
 use Rattle.iss_model.specs.Run.{Happening, Held, after_step, by_forged, collision_in, early_of, first_forged, node_of}
 use Rattle.iss_node.specs.Steps.{IsMade}
 use Rattle.iss_node.specs.declared.answers.Outcome.{Outcome}
