@@ -168,10 +168,12 @@ module _ {M Msg D : Type 0} (m : Module Msg) (stands : Relation M Msg) (history 
           record {
             turn = a.turn;
             step_is = is;
-            at = record { fresh = refl; node = a.stands_for };
+            at = record { fresh = refl; node = a.stands_for; cluster = setup ∙ kept.cluster; number = me ∙ kept.number };
             stands_for = λ of for. record {
               fresh = refl;
               node = a.stands_for;
+              cluster = setup ∙ kept.cluster;
+              number = me ∙ kept.number;
               core = subst (λ (es : List (List ℕ)). core_of old.setup m old.me.0 es ≡ Some a.turn.core) (sym entries) (led c a.turn is of for.core);
             };
             made = a.made;
@@ -193,10 +195,12 @@ module _ {M Msg D : Type 0} (m : Module Msg) (stands : Relation M Msg) (history 
           let a = answer c at.node in
           record {
             step_is = sym (same-step c) ∙ a.step_is;
-            at = record { fresh = refl; node = a.stands_for };
+            at = record { fresh = refl; node = a.stands_for; cluster = setup ∙ kept.cluster; number = me ∙ kept.number };
             stands_for = λ for. record {
               fresh = refl;
               node = a.stands_for;
+              cluster = setup ∙ kept.cluster;
+              number = me ∙ kept.number;
               core = subst (λ (es : List (List ℕ)). core_of old.setup m old.me.0 es ≡ Some c) (sym entries) for.core;
             };
           }
@@ -285,4 +289,4 @@ module _ {M Msg D : Type 0} (m : Module Msg) (stands : Relation M Msg) (history 
         IsKept m stands history room directory journal (state_over s i node journal false)
     reopened-kept h own attached durable =
         fresh-kept journal (state_over s i node journal false) h.0 good member keys own.cluster own.number sound attached durable
-        (record { fresh = refl; node = h.1 }) (inl h.2)
+        (record { fresh = refl; node = h.1; cluster = own.cluster; number = own.number }) (inl h.2)
