@@ -26,10 +26,10 @@ use Rattle.iss_sb.specs.Evidence.{Module}
 use Rattle.iss_sb.specs.Calls.{AreToNodes, Relation}
 use Rattle.iss_keep.specs.Cores.{core_after, core_of, core_with, step_of}
 use Rattle.iss_keep.specs.Entries.{event_in, spell_event}
-use Rattle.iss_keep.specs.State.{AsksNobody, IsAt, IsKept, KeptState, LeadsTo, StandsFor, state_over}
+use Rattle.iss_keep.specs.State.{AsksNobody, IsAt, IsKept, KeptState, LeadsTo, state_over}
 use Rattle.iss_keep.specs.Keeping.{HasStepped}
 use Rattle.iss_keep.specs.Replays.{IsOf, IsReplayed}
-use Rattle.iss_keep.specs.Steps.{IsAnswer, IsDrop, IsTurn, Writes, entries_after, makes_stale}
+use Rattle.iss_keep.specs.Steps.{IsAnswer, IsDrop, IsTurn, ShowsAsBefore, Writes, entries_after, makes_stale}
 use Rattle.iss_keep.specs.declared.answers.Answer.{Answer}
 use Rattle.iss_keep.specs.declared.answers.Answer.TheVariants.{Dropped, Failed, NoMemory, Stale, Taken}
 use Rattle.iss_keep.proofs.CoreLemmas.{one-more}
@@ -168,10 +168,12 @@ module _ {M Msg D : Type 0} (m : Module Msg) (stands : Relation M Msg) (history 
           record {
             turn = a.turn;
             step_is = is;
-            at = record { fresh = refl; node = a.stands_for };
+            at = record { fresh = refl; node = a.stands_for; cluster = setup ∙ kept.cluster; number = me ∙ kept.number };
             stands_for = λ of for. record {
               fresh = refl;
               node = a.stands_for;
+              cluster = setup ∙ kept.cluster;
+              number = me ∙ kept.number;
               core = subst (λ (es : List (List ℕ)). core_of old.setup m old.me.0 es ≡ Some a.turn.core) (sym entries) (led c a.turn is of for.core);
             };
             made = a.made;
@@ -193,10 +195,12 @@ module _ {M Msg D : Type 0} (m : Module Msg) (stands : Relation M Msg) (history 
           let a = answer c at.node in
           record {
             step_is = sym (same-step c) ∙ a.step_is;
-            at = record { fresh = refl; node = a.stands_for };
+            at = record { fresh = refl; node = a.stands_for; cluster = setup ∙ kept.cluster; number = me ∙ kept.number };
             stands_for = λ for. record {
               fresh = refl;
               node = a.stands_for;
+              cluster = setup ∙ kept.cluster;
+              number = me ∙ kept.number;
               core = subst (λ (es : List (List ℕ)). core_of old.setup m old.me.0 es ≡ Some c) (sym entries) for.core;
             };
           }
@@ -212,7 +216,7 @@ module _ {M Msg D : Type 0} (m : Module Msg) (stands : Relation M Msg) (history 
           IsAnswer m stands (IsOfNodes old.setup.n event) old c (step_of old.setup m old.me.0 c event) (left answer) answer
       answers (Taken outcome) stepped added c at = took-turn outcome stepped journal added c at
       answers (Dropped why) stepped added c at = dropped-turn why stepped journal added c at
-      answers Failed stepped added c at = tt
+      answers Failed stepped added c at = let t = stepped.1 c at.node in (t.0, sym (same-step c) ∙ t.1)
       answers Stale stepped added c at = stepped
       answers NoMemory stepped added c at = tt
 
@@ -249,6 +253,14 @@ module _ {M Msg D : Type 0} (m : Module Msg) (stands : Relation M Msg) (history 
       kept-after Stale stepped added wrote sound attached = stale-after sound
       kept-after NoMemory stepped added wrote sound attached = stale-after sound
 
+      shows-after : (answer : Answer) → HasStepped m stands event old.node node answer → makes_stale answer ≡ true → (later : Bool) →
+          ShowsAsBefore old (state_over old.setup old.me node journal later)
+      shows-after (Taken outcome) stepped stale later = absurd (true≢false (sym stale))
+      shows-after (Dropped why) stepped stale later = absurd (true≢false (sym stale))
+      shows-after Failed stepped stale later = record { log = stepped.0.log; epoch = stepped.0.epoch }
+      shows-after Stale stepped stale later = absurd stepped
+      shows-after NoMemory stepped stale later = record { log = stepped.log; epoch = stepped.epoch }
+
       -- with what the call made of `stale`
       module _ (later : Bool) (answer : Answer) (is : later ≡ makes_stale answer) (stepped : HasStepped m stands event old.node node answer) where
         pub take-answers : entries_of journal ≡ entries_after old.entries (spell_event event) answer → (c : Core Msg) → IsAt m stands old c →
@@ -256,6 +268,10 @@ module _ {M Msg D : Type 0} (m : Module Msg) (stands : Relation M Msg) (history 
         take-answers added c at =
             subst (λ (b : Bool). IsAnswer m stands (IsOfNodes old.setup.n event) old c (step_of old.setup m old.me.0 c event) (state_over old.setup old.me node journal b) answer) (sym is)
             (answers answer stepped added c at)
+
+        -- a node that became stale shows what it showed
+        pub take-shows : later ≡ true → ShowsAsBefore old (state_over old.setup old.me node journal later)
+        take-shows stale = shows-after answer stepped (sym is ∙ stale) later
 
         pub take-kept : entries_of journal ≡ entries_after old.entries (spell_event event) answer →
             Writes old.entries (spell_event event) (history old.disk) (history (disk_of journal)) answer → IsSound history room journal →
@@ -273,4 +289,4 @@ module _ {M Msg D : Type 0} (m : Module Msg) (stands : Relation M Msg) (history 
         IsKept m stands history room directory journal (state_over s i node journal false)
     reopened-kept h own attached durable =
         fresh-kept journal (state_over s i node journal false) h.0 good member keys own.cluster own.number sound attached durable
-        (record { fresh = refl; node = h.1 }) (inl h.2)
+        (record { fresh = refl; node = h.1; cluster = own.cluster; number = own.number }) (inl h.2)

@@ -16,6 +16,7 @@ use Rattle.iss_keep.specs.Cores.{core_after, core_from, core_of, core_with, from
 use Rattle.iss_keep.specs.Entries.{event_in}
 use Rattle.iss_keep.specs.Makings.{AreApart, Making, made_on, makings_from, makings_of, turn_in, turn_with}
 use Rattle.iss_keep.proofs.CoreLemmas.{one-more}
+use Rattle.iss_keep.proofs.DiskLemmas.{same-held}
 
 -- ---- a step gives no leaf back
 
@@ -93,9 +94,6 @@ module _ {Msg : Type 0} (s : Setup) (m : Module Msg) (me : ℕ) where
   makings-go-on front more c h = go-on front more idle c h
 
   -- ---- a crash
-
-  same-held : (es fs : List (List ℕ)) → holds es ≡ holds fs → es ≡ fs
-  same-held es fs h = cc
 
   module _ (one : (file : List ℕ) (r q : Reading) → Reads file r → Reads file q → r ≡ q) (c : Core Msg) (event : NodeEvent) (t : Turn Msg)
       (entries : List (List ℕ)) (entry : List ℕ) (before : core_of s m me entries ≡ Some c) (read : event_in s.n entry ≡ Some event)

@@ -1,4 +1,5 @@
 pub mod CoreLemmas
+pub mod DiskLemmas
 pub mod EntryLemmas
 pub mod KeptLemmas
 pub mod LeafLemmas

@@ -12,7 +12,7 @@ use Rattle.iss_node.specs.declared.answers.Outcome.{Outcome}
 use Rattle.iss_sb.specs.Calls.{Relation}
 use Rattle.iss_sb.specs.Evidence.{Module}
 use Rattle.iss_keep.specs.Entries.{spell_event}
-use Rattle.iss_keep.specs.Keeping.{Answers, HasEnded, HasStepped, ShowsSame}
+use Rattle.iss_keep.specs.Keeping.{Answers, HasEnded, HasStepped, ShowsSame, Takes}
 use Rattle.iss_keep.specs.declared.answers.Answer.{Answer}
 use Rattle.iss_keep.specs.declared.answers.Answer.TheVariants.{Dropped, Failed, NoMemory, Stale, Taken}
 use Rattle.iss_keep.proofs.TakenLemmas.{log-cut, log-long, taken-goes-on, taken-later, taken-short}
@@ -62,11 +62,14 @@ module _ {M Msg : Type 0} (m : Module Msg) (stands : Relation M Msg) (event : No
       epoch = h.epoch ∙ epoch-is;
     }
 
+    taken-then : Takes m stands event old
+    taken-then c st = let a = answer c st in (a.turn, a.step_is)
+
     pub stepped : (a : Answer) → HasEnded outcome slots epoch taken new a → HasStepped m stands event old new a
     stepped (Taken given) h =
         subst (λ (o : Outcome). Answers m stands event old new (Node_takes o)) (sym h.0) (subst (λ (v : NodeState M Msg). Answers m stands event old v (Node_takes outcome)) (sym h.1) answer)
     stepped (Dropped why) h = absurd h
-    stepped Failed h = gone-back h
+    stepped Failed h = (gone-back h, taken-then)
     stepped Stale h = h
     stepped NoMemory h = gone-back h
 

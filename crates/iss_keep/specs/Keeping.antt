@@ -1,5 +1,5 @@
 -- What the parts of one event leave of the node: its step, and the entry behind that.
-use Rattle.std.specs.Prelude.{◌≡◌, ℕ, List}
+use Rattle.std.specs.Prelude.{◌≡◌, ℕ}
 use Rattle.iss_rules.specs.Concrete.{rules_of}
 use Rattle.iss_rules.specs.Formats.{formats_of}
 use Rattle.iss_model.specs.Node.{Core, step}
@@ -11,6 +11,7 @@ use Rattle.iss_node.specs.declared.answers.Answer.TheVariants.{Dropped as Node_d
 use Rattle.iss_node.specs.declared.answers.Outcome.{Outcome}
 use Rattle.iss_sb.specs.Calls.{Relation}
 use Rattle.iss_sb.specs.Evidence.{Module}
+use Rattle.iss_keep.specs.Steps.{IsTaken}
 use Rattle.iss_keep.specs.declared.answers.Answer.{Answer}
 use Rattle.iss_keep.specs.declared.answers.Answer.TheVariants.{Dropped, Failed, NoMemory, Stale, Taken}
 
@@ -25,12 +26,17 @@ pub record ShowsSame {M Msg : Type 0} (old new : NodeState M Msg) : Type 0 where
   pub log : new.parts.log.entries ≡ old.parts.log.entries
   pub epoch : new.parts.epoch ≡ old.parts.epoch
 
+-- each core that it stands for takes the event
+abbrev pub Takes : {M Msg : Type 0} → Module Msg → Relation M Msg → NodeEvent → NodeState M Msg → Type 0
+Takes {Msg = Msg} m stands event old = (c : Core Msg) → Stands m stands old c →
+    IsTaken (step (formats_of old.parts.setup m) (rules_of old.parts.setup) m old.parts.me.0 c event)
+
 -- what an event left of the node
 abbrev pub HasStepped : {M Msg : Type 0} → Module Msg → Relation M Msg → NodeEvent → NodeState M Msg → NodeState M Msg →
     Answer → Type 0
 HasStepped m stands event old new (Taken outcome) = Answers m stands event old new (Node_takes outcome)
 HasStepped m stands event old new (Dropped why) = Answers m stands event old new (Node_drops why)
-HasStepped m stands event old new Failed = ShowsSame old new
+HasStepped m stands event old new Failed = ShowsSame old new × Takes m stands event old
 HasStepped m stands event old new Stale = ⊥
 HasStepped m stands event old new NoMemory = ShowsSame old new
 

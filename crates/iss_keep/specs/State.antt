@@ -33,17 +33,21 @@ abbrev pub state_over : {M Msg D : Type 0} → Setup → NodeId → NodeState M 
 state_over s me node journal stale =
     record { setup = s; me = me; node = node; disk = disk_of journal; entries = entries_of journal; stale = stale }
 
--- It is not stale, and its node stands for this core, the next leaf included.
+-- It is not stale, and its node stands for this core, the next leaf included, in its cluster and under its number.
 pub record IsAt {M Msg D : Type 0} (m : Module Msg) (stands : Relation M Msg)
     (v : KeptState M Msg D) (c : Core Msg) : Type 0 where
   pub fresh : v.stale ≡ false
   pub node : Stands m stands v.node c
+  pub cluster : v.node.parts.setup ≡ v.setup
+  pub number : v.node.parts.me ≡ v.me
 
 -- It stands for the core of the entries in its journal, the next leaf included.
 pub record StandsFor {M Msg D : Type 0} (m : Module Msg) (stands : Relation M Msg)
     (v : KeptState M Msg D) (c : Core Msg) : Type 0 where
   pub fresh : v.stale ≡ false
   pub node : Stands m stands v.node c
+  pub cluster : v.node.parts.setup ≡ v.setup
+  pub number : v.node.parts.me ≡ v.me
   pub core : core_of v.setup m v.me.0 v.entries ≡ Some c
 
 -- one of the entries asks a number that is no node: reopening finds damage there

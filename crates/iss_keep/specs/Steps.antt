@@ -34,12 +34,16 @@ pub record IsDrop {M Msg D : Type 0} (m : Module Msg) (stands : Relation M Msg)
   pub at : IsAt m stands new c
   pub stands_for : StandsFor m stands old c → StandsFor m stands new c
 
+-- a step that was taken
+abbrev pub IsTaken : {Msg : Type 0} → Stepped Msg → Type 0
+IsTaken {Msg = Msg} stepped = (turn : Turn Msg) × (stepped ≡ Was_taken turn)
+
 -- the answer to a step of the core that the node stands for; `asked` says that the event asks nobody but nodes
 abbrev pub IsAnswer : {M Msg D : Type 0} → Module Msg → Relation M Msg → Type 0 → KeptState M Msg D → Core Msg →
     Stepped Msg → KeptState M Msg D → Answer → Type 0
 IsAnswer m stands asked old c stepped new (Taken outcome) = IsTurn m stands asked old c stepped new outcome
 IsAnswer m stands asked old c stepped new (Dropped why) = IsDrop m stands old c stepped new why
-IsAnswer m stands asked old c stepped new Failed = Unit {0}
+IsAnswer m stands asked old c stepped new Failed = IsTaken stepped
 IsAnswer m stands asked old c stepped new Stale = ⊥
 IsAnswer m stands asked old c stepped new NoMemory = Unit {0}
 

@@ -11,9 +11,9 @@ ghost use Rattle.iss_node.specs.State.{Stands};
 
 use crate::answers::Answer;
 use crate::entries::encode_entry;
+use iss_causes::NodeEvent;
 use iss_disk::{Disk, EndError};
 use iss_journal::Journal;
-use iss_causes::NodeEvent;
 use iss_node::{Answer as NodeAnswer, Node, Outcome};
 use iss_request::Epoch;
 use iss_sb::Sequenced;

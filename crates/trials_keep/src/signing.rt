@@ -2,10 +2,10 @@
 ghost use Rattle.iss_rules.specs.Setups.{IsSetupOf};
 ghost use Rattle.sb_echo.specs.Echo.{echo};
 
+use iss_causes::NodeEvent;
 use iss_disk::MemoryDisk;
 use iss_keep::{Answer, Kept};
 use iss_keys::SharedDirectory;
-use iss_causes::NodeEvent;
 use iss_node::Outcome;
 use iss_request::{Bytes, Kind, NodeId, Nodes, Policy, Setup};
 use sb_echo::Echo;

@@ -3,11 +3,11 @@ ghost use Rattle.std.specs.Prelude.{◌<◌, length};
 ghost use Rattle.iss_rules.specs.Setups.{IsSetupOf};
 ghost use Rattle.sb_relay.specs.Relay.{relay};
 
+use iss_causes::NodeEvent;
 use iss_disk::MemoryDisk;
 use iss_journal::{AttachError, Journal};
 use iss_keep::{Answer, Kept};
 use iss_keys::SharedDirectory;
-use iss_causes::NodeEvent;
 use iss_request::{Bytes, Kind, NodeId, Nodes, Policy, Setup};
 use sb_relay::Relay;
 use std::alloc::Global;

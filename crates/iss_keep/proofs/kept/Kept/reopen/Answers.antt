@@ -1,3 +1,4 @@
+use Rattle.std.proofs.Common.{refl}
 use Rattle.iss_keep.proofs.KeptLemmas.{reopened-kept}
 use Rattle.iss_keep.proofs.WriteLemmas.{loses-none, no-error}
 use Rattle.iss_keep.proofs.kept.Kept.reopen.Goals as goal
@@ -10,3 +11,8 @@ invariant_of-self g c =
 
 pub returns-in-Ok-clause-loses : goal.returns-in-Ok-clause-loses
 returns-in-Ok-clause-loses g c = rw (← c.self.view_is) (loses-none _ _ _ _ (no-error _ _) c.in-Ok.ensures.loses)
+
+pub returns-in-Ok-clause-core : goal.returns-in-Ok-clause-core
+returns-in-Ok-clause-core g c =
+    let h = c.in-Ok.ensures.stands in
+    (h.0, record { fresh = refl; node = h.1; cluster = c.in-Ok.ensures.same.cluster; number = c.in-Ok.ensures.same.number; core = h.2 })

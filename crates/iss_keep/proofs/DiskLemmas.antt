@@ -1,0 +1,216 @@
+-- What a kept node's disk holds from call to call, for whoever holds kept nodes: what is synced of its file are the entries, so that
+-- after a restart the node is reopened as it was.
+use Rattle.std.proofs.Common.{arith, ◌≡◌, ◌≢◌, inl, inr, ℕ, zero, suc, ◌-◌, ◌<◌, ◌≤◌, Bool, true, false, List, [], ◌∷◌, ◌++◌, length, reverse, take, drop, Some, refl, sym, ap, ◌∙◌, subst, length-append}
+use Rattle.iss_disk.specs.Calls.{IfTold, Passes, Restarts, Room, Runs, Stays, script, up_to}
+use Rattle.iss_disk.specs.File.{File, Image, restarted, settled, shortened, synced, wrote}
+use Rattle.iss_disk.specs.ReadsAreImages.{image_settled}
+use Rattle.iss_disk.specs.States.{after, states}
+use Rattle.iss_disk.specs.StoredViews.{history_of}
+use Rattle.iss_disk.specs.declared.call.Call.{Call}
+use Rattle.iss_disk.specs.declared.call.Call.TheVariants.{Cut, Restarted, Synced, Wrote}
+use Rattle.iss_disk.specs.declared.stored.StoredFile.{StoredFile}
+use Rattle.iss_journal.specs.Frames.{AreShort, Reading, Reads, damaged, frames, holds}
+use Rattle.iss_journal.specs.Promises.{OnlyLeaves, RestsOn}
+use Rattle.iss_journal.specs.Sound.{disk_of, entries_of}
+use Rattle.iss_journal.specs.declared.journal.Journal.{Journal}
+use Rattle.iss_keys.specs.Directories.{DirectoryView}
+use Rattle.iss_model.specs.Node.{Core}
+use Rattle.iss_node.specs.State.{NodeState}
+use Rattle.iss_request.specs.declared.ids.NodeId.{NodeId}
+use Rattle.iss_request.specs.declared.setups.Setup.{Setup}
+use Rattle.iss_sb.specs.Calls.{Relation}
+use Rattle.iss_sb.specs.Evidence.{Module}
+use Rattle.iss_keep.proofs.CoreLemmas.{stops-not}
+use Rattle.iss_keep.specs.Cores.{StopsAt, core_of}
+use Rattle.iss_keep.specs.State.{IsKept, state_over}
+use Rattle.iss_keep.specs.Steps.{IsAttached, IsDamaged, IsWritten, LosesNone, Sight}
+use Rattle.iss_keep.specs.declared.answers.Answer.{Answer}
+use Rattle.iss_keep.specs.declared.answers.Answer.TheVariants.{Dropped, Failed, NoMemory, Stale, Taken}
+
+-- ---- what a file holds is settled: `one` is what iss_journal's `a_file_has_one_reading` says
+
+pub same-held : (es fs : List (List ℕ)) → holds es ≡ holds fs → es ≡ fs
+same-held es fs h = cc
+
+never-both : (es : List (List ℕ)) (at : ℕ) → holds es ≡ damaged at → ⊥
+never-both es at h = cc
+
+module _ (one : (bytes : List ℕ) (r q : Reading) → Reads bytes r → Reads bytes q → r ≡ q) where
+  -- attaching finds the entries that the file held
+  pub attached-same : (before now : Sight) (held found : List (List ℕ)) (file : File) (past : List File) → before.history ≡ file ∷ past →
+      Reads file.content (holds held) → IsAttached before now found → found ≡ held
+  attached-same before now held found file past told reads attached =
+      let read : Reads file.content (holds found) = subst (λ (h : List File). IfTold h (λ f. Reads f.content (holds found))) told attached.read in
+      same-held found held (one file.content (holds found) (holds held) read reads)
+
+  module _ {Msg : Type 0} (s : Setup) (m : Module Msg) (me : ℕ) (held found : List (List ℕ)) (c : Core Msg) (leads : core_of s m me held ≡ Some c) (at : ℕ)
+      (file : File) (past : List File) (reads : Reads file.content (holds held)) where
+    damaged-not : IsDamaged s m me found (file ∷ past) at → ⊥
+    damaged-not (inl broken) = never-both held at (one file.content (holds held) (damaged at) reads broken)
+    damaged-not (inr stops) =
+        let same : found ≡ held = same-held found held (one file.content (holds found) (holds held) stops.0 reads) in
+        stops-not s m me held c at leads (subst (λ (es : List (List ℕ)). StopsAt s m me at es) same stops.1)
+
+    -- where the entries that the file held lead to a core, reopening finds no damage
+    pub never-damaged : (history : List File) → history ≡ file ∷ past → IsDamaged s m me found history at → ⊥
+    never-damaged history told broken = damaged-not (subst (λ (h : List File). IsDamaged s m me found h at) told broken)
+
+-- ---- what is synced
+
+gate-read : (entries : List (List ℕ)) (gate : ℕ) → gate ≢ 1 → AreShort entries → Reads (frames entries ++ gate ∷ []) (holds entries)
+gate-read [] gate closed short = inl (omega arith, refl)
+gate-read (entry ∷ entries) gate closed short =
+    inr (omega (arith, length-append (frames (entry ∷ entries)) (gate ∷ [])), record { gate = gate; rest = []; is = refl; closed = closed; short = short })
+
+rest-synced : (entries : List (List ℕ)) (history : List File) → IfTold history (RestsOn entries) → IfTold history (λ file. Reads file.kept (holds entries))
+rest-synced entries [] h = tt
+rest-synced entries (file ∷ past) h = subst (λ (f : File). Reads f.kept (holds entries)) (sym h.is) (gate-read entries h.gate h.closed h.short)
+
+-- of one that is not stale, what is synced are its entries
+pub kept-synced : {M Msg D : Type 0} (m : Module Msg) (stands : Relation M Msg) (history : D → List File) (room : D → Room) (directory : DirectoryView) (journal : Journal D)
+    (s : Setup) (me : NodeId) (node : NodeState M Msg) → IsKept m stands history room directory journal (state_over s me node journal false) →
+    IfTold (history (disk_of journal)) (λ file. Reads file.kept (holds (entries_of journal)))
+kept-synced m stands history room directory journal s me node kept =
+    rest-synced (entries_of journal) (history (disk_of journal)) (kept.sound.rests (kept.attached refl))
+
+-- Of a file in memory, what was synced is a thing that a crash may leave.
+kept-wrote : (at : ℕ) (bytes : List ℕ) (file : File) → Image file file.kept → Image (wrote at bytes file) file.kept
+kept-wrote at bytes file h = record { long_enough = h.long_enough; short_enough = omega (arith, h.short_enough); others = λ i within below outside. refl }
+
+kept-shortened : (n : ℕ) (file : File) → Image file file.kept → Image (shortened n file) file.kept
+kept-shortened n file h = record { long_enough = omega (arith, h.long_enough); short_enough = h.short_enough; others = λ i within below outside. refl }
+
+kept-after : (change : File → File) (files : List File) → ((file : File) → Image file file.kept → Image (change file) (change file).kept) →
+    IfTold files (λ file. Image file file.kept) → IfTold (after change files) (λ file. Image file file.kept)
+kept-after change [] keeps h = tt
+kept-after change (file ∷ past) keeps h = keeps file h
+
+states-kept : (calls : List Call) (written : List ℕ) → IfTold (states calls written) (λ file. Image file file.kept)
+states-kept [] written = image_settled []
+states-kept (Wrote at len ∷ calls) written =
+    let bytes = drop (length written - len) written in
+    kept-after (wrote at bytes) _ (kept-wrote at bytes) (states-kept calls (take (length written - len) written))
+states-kept (Cut len ∷ calls) written = kept-after (shortened len) _ (kept-shortened len) (states-kept calls written)
+states-kept (Synced ∷ calls) written = kept-after synced _ (λ file h. image_settled file.content) (states-kept calls written)
+states-kept (Restarted ∷ calls) written = kept-after restarted _ (λ file h. image_settled file.kept) (states-kept calls written)
+
+pub stored-kept : (file : StoredFile) → IfTold (history_of file) (λ f. Image f f.kept)
+stored-kept file = states-kept (reverse file.calls.items) file.written.items
+
+-- and it tells its states
+told-after : (change : File → File) (files : List File) → (f : File) × (past : List File) × (files ≡ f ∷ past) →
+    (f : File) × (past : List File) × (after change files ≡ f ∷ past)
+told-after change files h = (change h.0, h.0 ∷ h.1, ap (after change) h.2)
+
+states-told : (calls : List Call) (written : List ℕ) → (f : File) × (past : List File) × (states calls written ≡ f ∷ past)
+states-told [] written = (settled [], [], refl)
+states-told (Wrote at len ∷ calls) written =
+    let before = length written - len in
+    told-after (wrote at (drop before written)) _ (states-told calls (take before written))
+states-told (Cut len ∷ calls) written = told-after (shortened len) _ (states-told calls written)
+states-told (Synced ∷ calls) written = told-after synced _ (states-told calls written)
+states-told (Restarted ∷ calls) written = told-after restarted _ (states-told calls written)
+
+pub stored-told : (file : StoredFile) → (f : File) × (past : List File) × (history_of file ≡ f ∷ past)
+stored-told file = states-told (reverse file.calls.items) file.written.items
+
+-- what every crash leaves is synced
+pub leaves-synced : (entries : List (List ℕ)) (history : List File) → IfTold history (λ file. Image file file.kept) →
+    IfTold history (OnlyLeaves (λ bytes. Reads bytes (holds entries))) → IfTold history (λ file. Reads file.kept (holds entries))
+leaves-synced entries [] image leaves = tt
+leaves-synced entries (file ∷ past) image leaves = leaves file.kept image
+
+-- the entries of a node that was reopened
+pub attached-synced : (entries : List (List ℕ)) (before now : Sight) → IsAttached before now entries → IfTold now.history (λ file. Image file file.kept) →
+    IfTold now.history (λ file. Reads file.kept (holds entries))
+attached-synced entries before now attached image = leaves-synced entries now.history image attached.durable
+
+module _ (entries : List (List ℕ)) where
+  abbrev AreSynced : List File → List (List ℕ) → Type 0
+  AreSynced history es = IfTold history (λ file. Reads file.kept (holds es))
+
+  alike : (before now : List File) (later : List (List ℕ)) → now ≡ before → later ≡ entries → AreSynced before entries → AreSynced now later
+  alike before now later same added h =
+      subst (λ (es : List (List ℕ)). AreSynced now es) (sym added) (subst (λ (f : List File). AreSynced f entries) (sym same) h)
+
+  -- Whatever is answered to an event: what is synced are the entries behind it.
+  pub written-synced : (entry : List ℕ) (before now : Sight) (later : List (List ℕ)) (answer : Answer) → IsWritten entries entry before now later answer →
+      IfTold now.history (λ file. Image file file.kept) → IfTold before.history (λ file. Reads file.kept (holds entries)) →
+      IfTold now.history (λ file. Reads file.kept (holds later))
+  written-synced entry before now later (Taken outcome) w image h =
+      subst (λ (es : List (List ℕ)). AreSynced now.history es) (sym w.added) (leaves-synced (entries ++ entry ∷ []) now.history image w.file.1)
+  written-synced entry before now later (Dropped why) w image h = alike before.history now.history later w.file w.added h
+  written-synced entry before now later Failed w image h = subst (λ (es : List (List ℕ)). AreSynced now.history es) (sym w.added) w.file.1
+  written-synced entry before now later Stale w image h = alike before.history now.history later w.file w.added h
+  written-synced entry before now later NoMemory w image h = alike before.history now.history later w.file w.added h
+
+  -- ---- a restart
+
+  restarts-kept : (file : File) → file ≡ restarted file → file.content ≡ file.kept
+  restarts-kept file h = ap (λ (f : File). f.content) h
+
+  -- what was synced is what is read, and stays synced
+  pub restarts-read : (old new : List File) → Restarts old new → IfTold old (λ file. Reads file.kept (holds entries)) →
+      IfTold new (λ file. Reads file.content (holds entries)) × IfTold new (λ file. Reads file.kept (holds entries))
+  restarts-read [] new h synced = rw h (tt, tt)
+  restarts-read (file ∷ past) new (inl h) synced = rw h (synced, synced)
+  restarts-read (file ∷ past) new (inr h) synced =
+      rw h.0 (subst (λ (bytes : List ℕ). Reads bytes (holds entries)) (sym (restarts-kept file h.1)) synced, synced)
+
+  -- the current file of a disk after a restart; `here` is the law of `Disk` of that name
+  module _ {D : Type 0} (history : D → List File) (files : D → List ℕ → List File) (current : D → List ℕ)
+      (here : (disk : D) → history disk ≡ files disk (current disk)) (old new : D) where
+    restarted-here : ((name : List ℕ) → Restarts (files old name) (files new name)) → current new ≡ current old → Restarts (history old) (history new)
+    restarted-here restarts same =
+        subst (λ (h : List File). Restarts h (history new)) (sym (here old))
+        (subst (λ (h : List File). Restarts (files old (current old)) h) (sym (here new ∙ ap (λ (name : List ℕ). files new name) same)) (restarts (current old)))
+
+    pub restarted-read : ((name : List ℕ) → Restarts (files old name) (files new name)) → current new ≡ current old →
+        IfTold (history old) (λ file. Reads file.kept (holds entries)) →
+        IfTold (history new) (λ file. Reads file.content (holds entries)) × IfTold (history new) (λ file. Reads file.kept (holds entries))
+    restarted-read restarts same synced = restarts-read (history old) (history new) (restarted-here restarts same) synced
+
+-- a disk whose files stay has the states that it had
+pub stays-here : {D : Type 0} (history : D → List File) (files : D → List ℕ → List File) (current : D → List ℕ)
+    (here : (disk : D) → history disk ≡ files disk (current disk)) (old new : D) → Stays (current old) (current new) (files old) (files new) →
+    history new ≡ history old
+stays-here history files current here old new h =
+    here new ∙ ap (λ (name : List ℕ). files new name) h.name ∙ h.all (current old) ∙ sym (here old)
+
+-- ---- a new file
+
+-- it holds no entries, in what a read gives and in what is synced
+pub new-read : (history : List File) → history ≡ settled [] ∷ [] →
+    IfTold history (λ file. Reads file.content (holds [])) × IfTold history (λ file. Reads file.kept (holds []))
+new-read history is = rw is (inl (omega arith, refl), inl (omega arith, refl))
+
+-- ---- which calls pass
+
+-- a disk of which all calls pass goes on so, and reopening doesn't fail
+pub reopens-well : (before now : Sight) (failed : Type 0) → LosesNone before now failed → before.passes ≡ script [] → (now.passes ≡ script []) × (failed → ⊥)
+reopens-well before now failed h all = h.works all
+
+no-pass : (P : Type 0) → true ≡ false → P
+no-pass P h = absurd (cc)
+
+-- so many calls pass: then as many fewer are left
+pub runs-passed : (k n : ℕ) (now : Passes) → Runs k (up_to n) now true → (k ≤ n) × (now ≡ up_to (n - k))
+runs-passed zero n now h =
+    let all : n ≡ n - 0 = omega arith in
+    (omega arith, h.0 ∙ ap (λ (calls : ℕ). up_to calls) all)
+runs-passed (suc k) zero now h = no-pass _ h.1
+runs-passed (suc k) (suc n) now h =
+    let rest = runs-passed k n now h in
+    let fewer : suc n - suc k ≡ n - k = omega arith in
+    (omega (arith, rest.0), rest.1 ∙ ap (λ (calls : ℕ). up_to calls) (sym fewer))
+
+-- where one fails there were too few, and none passes from then on
+pub runs-failed : (k n : ℕ) (now : Passes) → Runs k (up_to n) now false → (n < k) × (now ≡ up_to 0)
+runs-failed zero n now h = no-pass _ (sym h.1)
+runs-failed (suc k) zero now h = (omega arith, h.0)
+runs-failed (suc k) (suc n) now h = let rest = runs-failed k n now h in (omega (arith, rest.0), rest.1)
+
+-- where all pass, these do, and so do those behind them
+pub runs-all : (k : ℕ) (now : Passes) (passed : Bool) → Runs k (script []) now passed → (passed ≡ true) × (now ≡ script [])
+runs-all zero now passed h = (h.1, h.0)
+runs-all (suc k) now passed h = runs-all k now passed h
