@@ -28,14 +28,14 @@ use Rattle.iss_request.specs.declared.ids.NodeId.{NodeId}
 use Rattle.iss_request.specs.declared.requests.Value.{Value}
 use Rattle.iss_request.specs.declared.setups.Setup.{Setup}
 use Rattle.iss_restarts.specs.Courses.{after_step, core_of as core_of_kept}
-use Rattle.iss_restarts.specs.Disks.{Disk, entry_calls, fails, fused, keeps, left_behind, may_keep, new_disk, works_again}
+use Rattle.iss_restarts.specs.Disks.{Disk, entry_calls, fused, keeps, left_behind, may_keep}
 use Rattle.iss_rules.specs.Concrete.{rules_of}
 use Rattle.iss_rules.specs.Formats.{formats_of}
 use Rattle.iss_rules.specs.Past.{log_of}
 use Rattle.iss_rules.specs.Setups.{IsSetupOf}
 use Rattle.iss_sb.specs.Calls.{Relation}
 use Rattle.iss_sb.specs.Evidence.{Module}
-use Rattle.iss_world.specs.Stands.{IsThere, LeadsBy, ShowsCore, StandsOver, calls_to_come, spelled}
+use Rattle.iss_world.specs.Stands.{IsThere, LeadsBy, ShowsCore, StandsOver, calls_to_come}
 use Rattle.iss_world.specs.Steps.{HasAnswered, IsKeptTurn, IsStop}
 
 -- the same node, and again

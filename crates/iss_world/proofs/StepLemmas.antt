@@ -42,7 +42,7 @@ use Rattle.iss_world.specs.Books.{AreHashed, AreSigned}
 use Rattle.iss_world.specs.Shape.{IsNetworkOf, IsRunning}
 use Rattle.iss_world.specs.Stands.{HasChanged, IsShown, Runs, Shows, ShowsCore, StandsOver, end_of}
 use Rattle.iss_world.specs.State.{RunningState}
-use Rattle.iss_world.specs.Steps.{HasAnswered, IsBehind, IsKeptTurn, IsStop, ends_by, forged_in, kept_at, kept_to, stepped_to}
+use Rattle.iss_world.specs.Steps.{HasAnswered, IsBehind, IsKeptTurn, ends_by, forged_in, kept_at, kept_to, stepped_to}
 use Rattle.iss_world.specs.declared.ends.Change.{Change}
 use Rattle.iss_world.specs.declared.ends.Change.TheVariants.{Done, Lost, Ended}
 use Rattle.iss_world.specs.declared.ends.End.{End as Kept}

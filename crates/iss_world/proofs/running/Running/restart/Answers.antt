@@ -1,4 +1,4 @@
-use Rattle.std.proofs.Common.{◌<◌, ◌∙◌, length, arith, ap, refl, sym, subst}
+use Rattle.std.proofs.Common.{◌<◌, length, arith, ap, refl, sym, subst}
 use Rattle.std.proofs.lemmas.Option.{slice_get_read}
 use Rattle.iss_model.specs.Run.{cores_of}
 use Rattle.iss_world.specs.Stands.{Runs}
@@ -9,6 +9,16 @@ use Rattle.iss_world.proofs.running.Running.restart.Goals as goal
 
 pub invariant_of-self : goal.invariant_of-self
 invariant_of-self g c =
+    let v : RunningState g.row.M.Denot g.row.M-Msg.Denot = record { setup = c.self.inside.setup; nodes = c.self.inside.nodes.items; network = c.self.inside.network; signed = c.self.inside.signed; hashed = c.self.inside.hashed } in
+    let lt : c.args.core < length c.self.inside.nodes.items = omega (arith, ap (λ (z : RunningState _ _). cores_of z.setup) c.self.view_is, c.self.invariant.0.count) in
+    let at = slice_get_read c.self.inside.nodes.items _ c.args.core c.index_mut-node.result.now refl lt c.index_mut-node.ensures.value in (
+      still-running g.M.Sequenced.meaning g.M.Sequenced.stands v c.args.core c.index_mut-node.result.now c.make_anew.new.node c.self.inside.network c.self.inside.signed c.self.inside.hashed c.self.invariant.0 lt at
+          (same-again c.index_mut-node.result.now c.restart.new.self c.make_anew.new.node c.restart.ensures.same c.make_anew.ensures.same) (same-network g.M.Sequenced.meaning g.M.Sequenced.stands v c.self.invariant.0),
+      c.self.invariant.1,
+    )
+
+pub invariant_of-self-2 : goal.invariant_of-self-2
+invariant_of-self-2 g c =
     let v : RunningState g.row.M.Denot g.row.M-Msg.Denot = record { setup = c.self.inside.setup; nodes = c.self.inside.nodes.items; network = c.self.inside.network; signed = c.self.inside.signed; hashed = c.self.inside.hashed } in
     let lt : c.args.core < length c.self.inside.nodes.items = omega (arith, ap (λ (z : RunningState _ _). cores_of z.setup) c.self.view_is, c.self.invariant.0.count) in
     let at = slice_get_read c.self.inside.nodes.items _ c.args.core c.index_mut-node.result.now refl lt c.index_mut-node.ensures.value in (

@@ -2,7 +2,6 @@ use Rattle.std.proofs.Common.{◌<◌, length, arith, ap, refl, sym, subst}
 use Rattle.std.proofs.lemmas.Option.{slice_get_read}
 use Rattle.iss_model.specs.Run.{cores_of}
 use Rattle.iss_node.specs.Steps.{IsOfNodes}
-use Rattle.iss_restarts.specs.Courses.{Machines}
 use Rattle.iss_world.specs.Stands.{Runs}
 use Rattle.iss_world.specs.State.{RunningState}
 use Rattle.iss_world.proofs.BookLemmas.{if-ok}
