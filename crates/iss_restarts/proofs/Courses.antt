@@ -1,5 +1,5 @@
 -- Runs of nodes that never stop, put one behind another, and courses that have ended.
-use Rattle.std.proofs.Common.{◌≡◌, ◌⊎◌, inl, inr, ℕ, suc, List, [], ◌∷◌, ◌++◌, Option, Some, None, refl, sym, ap, ◌∙◌, subst}
+use Rattle.std.proofs.Common.{◌≡◌, ◌⊎◌, inl, inr, ℕ, List, [], ◌∷◌, ◌++◌, Option, Some, None, refl, sym, ap, ◌∙◌, subst}
 use Rattle.iss_base.specs.Lists.{In}
 use Rattle.iss_request.specs.declared.ids.ReqId.{ReqId}
 use Rattle.iss_request.specs.declared.setups.Setup.{Setup}
@@ -13,7 +13,7 @@ use Rattle.iss_causes.specs.Ends.{End}
 use Rattle.iss_model.specs.Run.{Happening, Held, Progress, ended_at, run, goes_further as free_further, happens as free_happens}
 use Rattle.iss_model.specs.Runs.{AreAtCores, IsAtCore}
 use Rattle.iss_theorems.proofs.Runs.{run-append}
-use Rattle.iss_restarts.specs.Courses.{Course, Machines, begin_course, course, goes_further}
+use Rattle.iss_restarts.specs.Courses.{Course, Machines, course, goes_further}
 use Rattle.iss_restarts.specs.Headline.{AreUndisturbed, IsUndisturbed, WasAsked, why_ended}
 
 module _ {Msg : Type 0} (s : Setup) (F : Formats Msg) (R : Rules) (M : Module Msg) where

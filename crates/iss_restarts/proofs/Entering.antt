@@ -25,7 +25,7 @@ use Rattle.iss_model.specs.Run.{Happening, Held, Progress, at_core, by_collision
 use Rattle.iss_rules.specs.Concrete.{request_of}
 use Rattle.iss_model.specs.Runs.{AreAtCores, IsAtCore}
 use Rattle.iss_restarts.proofs.Courses.{Leads, course-over, going, leads-less, leads-none, leads-on, leads-one, leads-same, nobody, nobody-asked, over, standing}
-use Rattle.iss_restarts.specs.Courses.{Course, Machines, Upshot, after_step, at_machine, begin_machines, by_step, calms, carried, core_of, course, delivered_to, delivers, delivers_each, goes_on, happens, injects, loses, pumps, remade, stops, unless, was_lost, went_on, with_disk, with_packets}
+use Rattle.iss_restarts.specs.Courses.{Course, Machines, Upshot, after_step, at_machine, begin_machines, by_step, calms, carried, core_of, course, delivered_to, delivers, delivers_each, happens, loses, pumps, remade, stops, unless, was_lost, went_on, with_disk, with_packets}
 use Rattle.iss_restarts.specs.Disks.{Disk, fails, fused, keeps, may_keep, works_again}
 use Rattle.iss_restarts.specs.Headline.{AreOfTheirDisks, IsUndisturbed, WasAsked, asked_in, why_ended}
 
@@ -34,7 +34,7 @@ forged-else : (b : Bool) (c : Claim) (o p : Option Claim) (claim : Claim) → (o
 forged-else true c o p claim more h = h
 forged-else false c o p claim more h = more h
 
-forged-first : (s : Setup) (R : Rules) (book : List Signed) (cs ds : List Claim) (claim : Claim) → first_forged s R book cs ≡ Some claim →
+pub forged-first : (s : Setup) (R : Rules) (book : List Signed) (cs ds : List Claim) (claim : Claim) → first_forged s R book cs ≡ Some claim →
     first_forged s R book (cs ++ ds) ≡ Some claim
 forged-first s R book [] ds claim h = absurd (cc)
 forged-first s R book (c ∷ cs) ds claim h =
@@ -312,7 +312,7 @@ module _ {Msg : Type 0} (s : Setup) (F : Formats Msg) (R : Rules) (M : Module Ms
   behind-follows : (es : List Event) (w : Machines Msg) (d : Upshot Msg) (asks : ℕ → ReqId → Type 0) (k : ℕ) (lost : List (ℕ × Why)) (o : Option End) → d.ended ≡ o →
       Goes asks w.held d → Follows (WasAsked s F R M (going s F R M d.machines (suc k) lost) es) d.machines.held (course s F R M (going s F R M d.machines (suc k) lost) es) →
       Follows (λ i x. asks i x ⊎ WasAsked s F R M (record { machines = d.machines; event = suc k; drops = lost; ended = ended_at k o }) es i x) w.held
-          (course s F R M (record { machines = d.machines; event = suc k; drops = lost; ended = ended_at k o }) es)
+      (course s F R M (record { machines = d.machines; event = suc k; drops = lost; ended = ended_at k o }) es)
   behind-follows es w d asks k lost None q g rest =
       let p : Course Msg = going s F R M d.machines (suc k) lost in
       let later : Course Msg = course s F R M p es in

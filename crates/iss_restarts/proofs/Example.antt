@@ -1,5 +1,5 @@
 -- Runs with crashes and restarts that are computed: the three nodes of the runs without, whose leaders tell all what they cast.
-use Rattle.std.proofs.Common.{◌≡◌, ℕ, true, false, List, [], ◌∷◌, ◌++◌, length, Option, Some, None, reverse, refl}
+use Rattle.std.proofs.Common.{◌≡◌, ℕ, List, [], ◌∷◌, length, reverse, refl}
 use Rattle.iss_network.specs.Network.{due}
 use Rattle.iss_request.specs.declared.requests.Request.{Request}
 use Rattle.iss_request.specs.declared.requests.Value.{Value}

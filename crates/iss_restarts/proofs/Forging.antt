@@ -1,6 +1,6 @@
 -- Runs of four nodes that are computed, of which the last is faulty, and whose disks fail: what is read, booked and tested of an event
 -- that is not kept.
-use Rattle.std.proofs.Common.{◌≡◌, ℕ, ◌+◌, List, [], ◌∷◌, ◌++◌, Some, None, refl}
+use Rattle.std.proofs.Common.{◌≡◌, ℕ, List, [], ◌∷◌, ◌++◌, Some, None, refl}
 use Rattle.iss_request.specs.Formats.{spell_batch, spell_count, spell_request, spell_value}
 use Rattle.iss_request.specs.declared.requests.Batch.{Batch}
 use Rattle.iss_schedule.specs.declared.schedules.Event.{Event}

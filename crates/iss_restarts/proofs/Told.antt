@@ -1,5 +1,5 @@
 -- What a run in which disks fail tells of its events: one in which it ends is not lost, and what was lost is numbered in order.
-use Rattle.std.proofs.Common.{◌≡◌, ◌⊎◌, inl, inr, ℕ, zero, suc, ◌+◌, ◌<◌, ◌≤◌, Bool, true, false, cond, List, [], ◌∷◌, ◌++◌, length, Option, Some, None, refl, sym, ap, ◌∙◌, subst, arith}
+use Rattle.std.proofs.Common.{◌≡◌, inl, inr, ℕ, zero, suc, ◌+◌, ◌<◌, ◌≤◌, Bool, true, false, cond, List, [], ◌∷◌, ◌++◌, length, Option, Some, None, refl, sym, ap, ◌∙◌, subst, arith}
 use Rattle.iss_base.specs.Lists.{In, nth, set_at}
 use Rattle.iss_base.proofs.Lists.{some-injective}
 use Rattle.iss_network.specs.Network.{due, settled}
@@ -192,19 +192,20 @@ module _ {Msg : Type 0} (s : Setup) (F : Formats Msg) (R : Rules) (M : Module Ms
   begin-counted = record { drops = tt; end = λ k end q. absurd (cc) }
 
   -- a run that goes on has counted all events
+  counted-on : (p : Course Msg) (e : Event) (more : ℕ) (o : Option (ℕ × End)) → p.ended ≡ o → (n : Course Msg) → n ≡ goes_further p.ended s F R M p e →
+      (later : Course Msg) → ((at : ℕ × End) → p.ended ≡ Some at → later ≡ p) → later.ended ≡ None → later.event ≡ n.event + more → later.event ≡ p.event + suc more
+  counted-on p e more None z n is later over q rest =
+      let one : n.event ≡ suc p.event = ap (λ (c : Course Msg). c.event) (is ∙ further-on p e z) in
+      omega (arith, one, rest)
+  counted-on p e more (Some at) z n is later over q rest =
+      let ended : later.ended ≡ Some at = ap (λ (c : Course Msg). c.ended) (over at z) ∙ z in
+      absurd (cc)
+
   pub all-counted : (es : List Event) (p : Course Msg) → (course s F R M p es).ended ≡ None → (course s F R M p es).event ≡ p.event + length es
   all-counted [] p q = omega arith
-  all-counted (e ∷ es) p q = go p.ended refl
-    where
-      go : (o : Option (ℕ × End)) → p.ended ≡ o → (course s F R M p (e ∷ es)).event ≡ p.event + suc (length es)
-      go (Some at) z =
-          let over : (course s F R M p (e ∷ es)).ended ≡ Some at = ap (λ (c : Course Msg). c.ended) (course-stays (e ∷ es) p at z) ∙ z in
-          absurd (cc)
-      go None z =
-          let n : Course Msg = goes_further p.ended s F R M p e in
-          let one : n.event ≡ suc p.event = ap (λ (c : Course Msg). c.event) (further-on p e z) in
-          let rest : (course s F R M n es).event ≡ n.event + length es = all-counted es n q in
-          omega (arith, one, rest)
+  all-counted (e ∷ es) p q =
+      let n : Course Msg = goes_further p.ended s F R M p e in
+      counted-on p e (length es) p.ended refl n refl (course s F R M p (e ∷ es)) (λ at z. course-stays (e ∷ es) p at z) q (all-counted es n q)
 
 -- ---- the same from the start
 

@@ -1,13 +1,11 @@
 -- What a run says of itself in which disks fail and cores are made anew, carried over from the run of nodes that never stop.
-use Rattle.std.proofs.Common.{◌≡◌, ◌⊎◌, inl, inr, ℕ, true, List, [], ◌∷◌, ◌++◌, Option, Some, None, refl, sym, ap, ◌∙◌, subst, append-nil}
+use Rattle.std.proofs.Common.{◌≡◌, inl, inr, ℕ, true, List, [], ◌++◌, Option, Some, None, refl, sym, ap, ◌∙◌, subst, append-nil}
 use Rattle.iss_base.proofs.Lists.{some-injective}
-use Rattle.iss_request.specs.declared.ids.ReqId.{ReqId}
 use Rattle.iss_request.specs.declared.requests.Value.{Value}
 use Rattle.iss_request.specs.declared.setups.Setup.{Setup}
 use Rattle.iss_schedule.specs.declared.schedules.Event.{Event}
 use Rattle.iss_sb.specs.Evidence.{Module, is_correct}
 use Rattle.iss_causes.specs.Ends.{End}
-use Rattle.iss_causes.specs.declared.causes.Why.{Why}
 use Rattle.iss_rules.specs.Concrete.{rules_of}
 use Rattle.iss_rules.specs.Formats.{formats_of}
 use Rattle.iss_model.specs.Run.{Held, Progress, begin_held, begin_run}
@@ -19,7 +17,7 @@ use Rattle.iss_theorems.specs.OneLog.{IsClusterRun, IsOneLog, run_after}
 use Rattle.iss_theorems.proofs.Runs.{run-append}
 use Rattle.iss_restarts.specs.Courses.{Course, begin_course, begin_machines, course}
 use Rattle.iss_restarts.specs.Headline.{AreCertified, AreOfCluster, AreOneLog, AreWritten, IsWhole, WasAsked, course_after, held_after, shown, why_ended}
-use Rattle.iss_restarts.proofs.Courses.{Leads, course-append, course-over, going, going-is, leads-behind, over, over-is, standing}
+use Rattle.iss_restarts.proofs.Courses.{Leads, course-append, course-over, going, going-is, leads-behind, over-is}
 use Rattle.iss_restarts.proofs.Entering.{Follows, begin-own, follows}
 use Rattle.iss_restarts.proofs.Numbers.{same-numbers}
 
@@ -114,12 +112,12 @@ module _ {Msg : Type 0} (s : Setup) (M : Module Msg)
         let p : Course Msg = going s F R M so_far.machines so_far.event so_far.drops in
         let next = follows s F R M more so_far.machines so_far.event so_far.drops all.own low_more in
         let before = subst (λ (o : Option End). Leads s F R M (WasAsked s F R M (begin_course s) events) (begin_run s) (held_after s M events) o)
-            (ap (λ (o : Option (ℕ × End)). why_ended o) q) entering in
+        (ap (λ (o : Option (ℕ × End)). why_ended o) q) entering in
         let behind = leads-behind s F R M (WasAsked s F R M (begin_course s) events) (WasAsked s F R M p more) (begin_run s) (held_after s M events)
-            (course s F R M p more).machines.held (why_ended (course s F R M p more).ended) before next.leads in
+        (course s F R M p more).machines.held (why_ended (course s F R M p more).ended) before next.leads in
         let there : (run_after s M (before.events ++ behind.events)).held ≡ held_after s M (events ++ more) =
-            ap (λ (z : Progress Msg). z.held) (run-append s F R M before.events behind.events (begin_run s)) ∙ behind.held
-            ∙ ap (λ (c : Course Msg). c.machines.held) (sym (longer more ∙ ap (λ (z : Course Msg). course s F R M z more) (going-is s F R M so_far q))) in
+        ap (λ (z : Progress Msg). z.held) (run-append s F R M before.events behind.events (begin_run s)) ∙ behind.held
+        ∙ ap (λ (c : Course Msg). c.machines.held) (sym (longer more ∙ ap (λ (z : Course Msg). course s F R M z more) (going-is s F R M so_far q))) in
         subst (λ (h : Held Msg). IsPrefix (shown s M (held_after s M events) i) (shown s M h i)) there
         (subst (λ (h : Held Msg). IsPrefix (shown s M h i) (shown s M (run_after s M (before.events ++ behind.events)).held i)) before.held
         ((logs before.events before.at_cores).grows behind.events behind.at_cores i ok))

@@ -1,6 +1,6 @@
 -- A run in which disks fail and cores are made anew. A core keeps each event on its disk before anything of the event is handed out,
 -- and one whose disk has failed takes nothing until it is made anew of the events that the disk keeps.
-use Rattle.std.specs.Prelude.{ℕ, zero, suc, cond, Bool, true, false, List, [], ◌∷◌, ◌++◌, Option, Some, None}
+use Rattle.std.specs.Prelude.{ℕ, zero, suc, cond, true, false, List, [], ◌∷◌, Option, Some, None}
 use Rattle.iss_base.specs.Lists.{nth, set_at}
 use Rattle.iss_network.specs.Network.{Network, cleared, due, held_to, settled}
 use Rattle.iss_network.specs.declared.packets.Sent.{Sent}

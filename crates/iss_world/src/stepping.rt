@@ -50,10 +50,7 @@ fn claims_at<M: Sequenced>(
 }
 
 // A kept node takes an event. The number of slots of its log and its epoch from before it are told too.
-fn take_at<M: Sequenced>(
-    node: &mut Kept<M, MemoryDisk>,
-    event: NodeEvent,
-) -> (Answer, usize, Epoch)
+fn take_at<M: Sequenced>(node: &mut Kept<M, MemoryDisk>, event: NodeEvent) -> (Answer, usize, Epoch)
     ensures answer { (c : Core M.Msg) (d : Disk) → StandsOver M.meaning M.stands node.old c d → d.failed ≡ false →
         IsOfNodes node.old.setup.n event → HasAnswered M.meaning M.stands c d event
         (step_in (frame_of node.old.setup M.meaning) node.old.me.0 c event) node.new result.0 }

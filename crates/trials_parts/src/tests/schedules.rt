@@ -16,8 +16,11 @@ const BAD_LINES: &str =
 8 Form policy Simple\n9 Range clients 257\n9 Range clients 0\n9 Form clients \n10 Range keys 1
 10 Range keys 13\n10 Form keys 4 4\n11 Faulty faulty 0\n11 Faulty faulty 1 0 7
 11 Form faulty\n11 Form faulty 01\n11 Form faulty none none\n11 Form faulty 0 none
-12 Form \n12 Form jump 0\n12 Form restart\n12 Form restart 0 1\n12 Form crash 0\n12 Form crash 0 01
-12 Range restart 3\n12 Range crash 3 0\n12 Range crash 0 1001\n12 Form crashes 0 0\n12 Form tear 0 1 1
+12 Form \n12 Form jump 0\n12 Form restart\n12 Form restart 0 1\n12 Form restart 00\n12 Form restart -\n12 Range restart 3
+12 Range restart 18446744073709551616\n12 Form Restart 0\n12 Form restarts 0\n12 Form tear 0 1 1
+12 Form crash\n12 Form crash 0\n12 Form crash 0 \n12 Form crash 0 01\n12 Form crash 0 0 0\n12 Form crash 0 -1
+12 Form crash  0 0\n12 Form crashes 0 0\n12 Form crash 3 01\n12 Range crash 3 0\n12 Range crash 0 1001
+12 Range crash 3 1001\n12 Range crash 0 18446744073709551616
 12 Form propose\n12 Form propose 0 0\n12 Form propose  0\n12 Form propose 00
 12 Form propose 0 \n12 Form  propose 0\n12 Form propose\t0\n12 Form Propose 0\n12 Form propose 0\r
 12 Range propose 3\n12 Range propose 18446744073709551616\n12 Form propose 018446744073709551616
@@ -41,6 +44,10 @@ const WIDE_HEADER: &str =
 
 const STRICT_HEADER: &str =
     "iss 1\nmodule relay\nf 0\nepoch 64\nbuckets 256\nbatch 32\nwindow 64\npolicy blacklist\nclients 256\nkeys 12\nfaulty none\n";
+
+// Four nodes of which node 3 has a twin, core 4.
+const TWIN_HEADER: &str =
+    "iss 1\nmodule pbft\nf 1\nepoch 4\nbuckets 4\nbatch 4\nwindow 8\npolicy simple\nclients 8\nkeys 6\nfaulty 3\n";
 
 // The events of each worked schedule of `rows/` that is one, parted by semicolons.
 const WORKED: &str = "request 0 0 0 aa\npropose 0\ndrop 2\ncalm 10\n;\
@@ -158,6 +165,56 @@ fn worked_schedules_are_written_as_they_were_read(rt: HostRuntime) -> Result<(),
     }
     assert!(rt; count == 12, "{count} schedules");
     assert!(rt; is_written_back(alloc, HEADER, EVENTS)?);
+    Ok(())
+}
+
+// Whether the events are a crash of core 2 behind so many calls, and a restart of it.
+fn are_crash_and_restart(events: &[Event], passed: u32) -> bool {
+    match events {
+        [Event::Crash { core, calls }, Event::Restart { core: again }] => {
+            *core == 2 && *calls == passed && *again == 2
+        }
+        _ => false,
+    }
+}
+
+#[test]
+fn a_crash_counts_at_most_so_many_calls(rt: HostRuntime) -> Result<(), Fail> {
+    let alloc = rt.alloc();
+    for (events, calls) in [
+        ("crash 2 0\nrestart 2\n", 0u32),
+        ("crash 2 1\nrestart 2\n", 1),
+        ("crash 2 1000\nrestart 2\n", 1000),
+    ] {
+        let mut text = String::from_str(alloc, HEADER)?;
+        text.push_str(events)?;
+        let schedule = read(alloc, text.as_bytes())?;
+        assert!(rt;
+            are_crash_and_restart(schedule.events.as_slice(), calls),
+            "at {events}"
+        );
+        assert!(rt; is_written_back(alloc, HEADER, events)?, "at {events}");
+    }
+    Ok(())
+}
+
+#[test]
+fn a_twin_is_a_core_that_crashes_and_is_made_anew(rt: HostRuntime) -> Result<(), Fail> {
+    let alloc = rt.alloc();
+    assert!(rt;
+        is_written_back(
+            alloc,
+            TWIN_HEADER,
+            "crash 4 1000\nrestart 4\ncrash 3 0\nrestart 3\n"
+        )?
+    );
+    for event in ["restart 5\n", "crash 5 0\n"] {
+        let mut text = String::from_str(alloc, TWIN_HEADER)?;
+        text.push_str(event)?;
+        let refused =
+            matches!(read(alloc, text.as_bytes()), Err(ReadError::BadLine { line, why: Why::Range }) if line == 12);
+        assert!(rt; refused, "at {event}");
+    }
     Ok(())
 }
 
