@@ -141,7 +141,7 @@ module _ {M Msg : Type 0} (m : Module Msg) (stands : Relation M Msg) where
       kept-turn outcome of t w =
           let calls = passes-kept d.passes (calls_of new.disk) (subst (λ (p : Passes). Runs 4 p (calls_of new.disk) true) over.calls w.device) in
           let later : after_step (core_of_kept (formats_of old.setup m) (rules_of old.setup) m old.me.0 d.kept)
-              (step_of old.setup m old.me.0 (core_of_kept (formats_of old.setup m) (rules_of old.setup) m old.me.0 d.kept) event) ≡ t.turn.core =
+          (step_of old.setup m old.me.0 (core_of_kept (formats_of old.setup m) (rules_of old.setup) m old.me.0 d.kept) event) ≡ t.turn.core =
           ap (λ (x : Core Msg). after_step x (step_of old.setup m old.me.0 x event)) over.made ∙ ap (λ (o : Stepped Msg). after_step c o) t.step_is in
           record {
             turn = t.turn;

@@ -151,7 +151,6 @@ made-ends : (s : Setup) {Msg : Type 0} (h : Held Msg) (t : Turn Msg) (o : Outcom
 made-ends s h t o made =
     ap (λ (cs : List Claim). ends_by s h.signed h.hashed cs o.hashed) made.early ∙ ap (λ (xs : List (List ℕ)). ends_by s h.signed h.hashed t.early xs) made.hashed
 
-
 -- ---- an event at a core, by its disk
 
 either : {A : Type 0} (b : Bool) (x y z : A) → x ≡ z → y ≡ z → cond b x y ≡ z
@@ -296,12 +295,15 @@ module _ {M Msg : Type 0} (m : Module Msg) (stands : Relation M Msg) where
         let mine : core_of_kept (formats_of g.setup m) (rules_of g.setup) m g.me.0 kept ≡ w.held.net.cores i = (st.cores i g at).made in
         let is : c ≡ w.held.net.cores i =
         subst (λ (k : ℕ). core_of_kept (formats_of v.setup m) (rules_of v.setup) m k kept ≡ w.held.net.cores i) (r.places i g at)
-        (subst (λ (s : Setup). core_of_kept (formats_of s m) (rules_of s) m g.me.0 kept ≡ w.held.net.cores i) (r.setups i g at) mine) in
-        (runs-later w (remade v.setup (formats_of v.setup m) (rules_of v.setup) m w i) st
-        (subst (λ (x : Core Msg). StandsOver m stands later x (set_at w.disks i (works_again (w.disks i)) i)) (sym (set_at-same w.held.net.cores i c ∙ is))
-        (subst (λ (x : Disk). StandsOver m stands later (w.held.net.cores i) x) (sym (set_at-same w.disks i (works_again (w.disks i)))) here))
-        (λ j e. (ap (λ (b : Bool). cond b c (w.held.net.cores j)) e, ap (λ (b : Bool). cond b (works_again (w.disks i)) (w.disks j)) e))
-        st.network st.signed st.hashed, refl, refl)
+        (subst (λ (s : Setup). core_of_kept (formats_of s m) (rules_of s) m g.me.0 kept ≡ w.held.net.cores i) (r.setups i g at) mine) in (
+          runs-later w (remade v.setup (formats_of v.setup m) (rules_of v.setup) m w i) st
+              (subst (λ (x : Core Msg). StandsOver m stands later x (set_at w.disks i (works_again (w.disks i)) i)) (sym (set_at-same w.held.net.cores i c ∙ is))
+              (subst (λ (x : Disk). StandsOver m stands later (w.held.net.cores i) x) (sym (set_at-same w.disks i (works_again (w.disks i)))) here))
+              (λ j e. (ap (λ (b : Bool). cond b c (w.held.net.cores j)) e, ap (λ (b : Bool). cond b (works_again (w.disks i)) (w.disks j)) e))
+              st.network st.signed st.hashed,
+          refl,
+          refl,
+        )
 
   module _ (v : RunningState M Msg) (i : ℕ) (g : KeptState M Msg MemoryDisk) (event : NodeEvent) (r : IsRunning m v) (at : slice_get v.nodes i ≡ Some g) where
     -- it is stale where its disk has failed

@@ -33,9 +33,12 @@ make_anew-requires-clause-whole g c =
     let lt : c.args.core < length c.self.inside.nodes.items = omega (arith, ap (λ (z : RunningState _ _). cores_of z.setup) c.self.view_is, c.self.invariant.0.count) in
     let at = slice_get_read c.self.inside.nodes.items _ c.args.core c.index_mut-node.result.now refl lt c.index_mut-node.ensures.value in
     let w = c.requires.standing.0 in
-    let st = subst (λ (z : RunningState _ _). Runs g.M.Sequenced.meaning g.M.Sequenced.stands z w) (sym c.self.view_is) c.requires.standing.1 in
-    ((w.disks c.args.core).kept, w.held.net.cores c.args.core, (restarted-leads g.M.Sequenced.meaning g.M.Sequenced.stands c.index_mut-node.result.now c.restart.new.self c.restart.ensures.same (w.held.net.cores c.args.core) (w.disks c.args.core) (st.cores c.args.core c.index_mut-node.result.now at)
-    c.restart.ensures.files c.restart.ensures.current c.restart.ensures.entries))
+    let st = subst (λ (z : RunningState _ _). Runs g.M.Sequenced.meaning g.M.Sequenced.stands z w) (sym c.self.view_is) c.requires.standing.1 in (
+      (w.disks c.args.core).kept,
+      w.held.net.cores c.args.core,
+      (restarted-leads g.M.Sequenced.meaning g.M.Sequenced.stands c.index_mut-node.result.now c.restart.new.self c.restart.ensures.same (w.held.net.cores c.args.core) (w.disks c.args.core) (st.cores c.args.core c.index_mut-node.result.now at)
+          c.restart.ensures.files c.restart.ensures.current c.restart.ensures.entries),
+    )
 
 pub returns-clause-happened : goal.returns-clause-happened
 returns-clause-happened g c =
