@@ -1,20 +1,22 @@
 -- Deliveries one after the other, up to one that ends the run, and what happens to the network alone.
-use Rattle.std.proofs.Common.{◌≡◌, ℕ, zero, suc, ◌+◌, ◌-◌, ◌<◌, ◌≤◌, Bool, true, false, cond, List, [], ◌∷◌, ◌++◌, length, take, drop, get_or, Option, Some, None, refl, sym, ap, ◌∙◌, subst, arith}
+use Rattle.std.proofs.Common.{◌≡◌, ℕ, zero, suc, ◌+◌, ◌-◌, ◌<◌, ◌≤◌, Bool, true, false, cond, List, [], ◌∷◌, ◌++◌, length, take, drop, get_or, Option, Some, None, Result, IfOk, refl, sym, ap, ◌∙◌, subst, arith}
 use Rattle.iss_base.specs.Lists.{nth}
-use Rattle.iss_rules.specs.Concrete.{rules_of}
+use Rattle.iss_rules.specs.Concrete.{request_of, rules_of}
 use Rattle.iss_rules.specs.Formats.{formats_of}
-use Rattle.iss_rules.specs.Parcels.{Formats}
+use Rattle.iss_rules.specs.Parcels.{Formats, OfRequest}
 use Rattle.iss_rules.specs.Rules.{Rules}
 use Rattle.iss_causes.specs.Ends.{End}
-use Rattle.iss_model.specs.Run.{Happening, Held, at_core, calms, delivered_to, delivers, delivers_each, done, injects, loses, pumps, unless, with_network}
 use Rattle.iss_causes.specs.declared.causes.NodeEvent.TheVariants.{Packet as Gets}
 use Rattle.iss_network.specs.Network.{Network, due, settled}
 use Rattle.iss_network.specs.declared.packets.Sent.{Sent}
+use Rattle.iss_request.specs.declared.errors.NoMemory.{NoMemory}
 use Rattle.iss_request.specs.declared.setups.Kind.TheVariants.{Byzantine}
 use Rattle.iss_request.specs.declared.setups.Setup.{Setup}
-use Rattle.iss_sb.specs.Calls.{kind_of}
-use Rattle.iss_sb.specs.declared.effects.Params.{Params}
-use Rattle.iss_sb.specs.Evidence.{Item, Module}
+use Rattle.iss_restarts.specs.Courses.{Machines, Upshot, at_machine, calms, delivered_to, delivers, delivers_each, happens, injects, loses, pumps, unless, went_on, with_packets}
+use Rattle.iss_schedule.specs.declared.schedules.Event.{Event}
+use Rattle.iss_schedule.specs.declared.schedules.Event.TheVariants.{Request as Asks}
+use Rattle.iss_sb.specs.Calls.{Relation, kind_of}
+use Rattle.iss_sb.specs.Evidence.{Module}
 use Rattle.iss_world.proofs.PostLemmas.{take-next}
 use Rattle.iss_world.specs.Stands.{HasChanged, Runs, end_of}
 use Rattle.iss_world.specs.State.{RunningState}
@@ -42,161 +44,185 @@ pub no-packets : (xs : List ℕ) → length xs ≡ 0 → xs ≡ []
 no-packets [] e = refl
 no-packets (x ∷ xs) e = absurd (omega (arith, e))
 
-unless-append : {Msg : Type 0} (o : Option End) (d : Happening Msg) → d.ended ≡ o → (f g more : Held Msg → Happening Msg) →
-    ((h : Held Msg) → f h ≡ unless (g h).ended (g h) more) → unless o d f ≡ unless (unless o d g).ended (unless o d g) more
-unless-append None d e f g more h = h d.held
+unless-append : {Msg : Type 0} (o : Option End) (d : Upshot Msg) → d.ended ≡ o → (f g more : Machines Msg → Upshot Msg) →
+    ((w : Machines Msg) → f w ≡ unless (g w).ended (g w) more) → unless o d f ≡ unless (unless o d g).ended (unless o d g) more
+unless-append None d e f g more h = h d.machines
 unless-append (Some x) d e f g more h = sym (ap (λ (o : Option End). unless o d more) e)
 
-unless-none : {Msg : Type 0} (d : Happening Msg) (more : Held Msg → Happening Msg) → d.ended ≡ None → unless d.ended d more ≡ more d.held
+unless-none : {Msg : Type 0} (d : Upshot Msg) (more : Machines Msg → Upshot Msg) → d.ended ≡ None → unless d.ended d more ≡ more d.machines
 unless-none d more e = ap (λ (o : Option End). unless o d more) e
 
-unless-some : {Msg : Type 0} (d : Happening Msg) (more : Held Msg → Happening Msg) (x : End) → d.ended ≡ Some x → unless d.ended d more ≡ d
+unless-some : {Msg : Type 0} (d : Upshot Msg) (more : Machines Msg → Upshot Msg) (x : End) → d.ended ≡ Some x → unless d.ended d more ≡ d
 unless-some d more x e = ap (λ (o : Option End). unless o d more) e
 
 module _ {Msg : Type 0} (s : Setup) (F : Formats Msg) (R : Rules) (m : Module Msg) where
-  each-append : (xs ys : List ℕ) (h : Held Msg) → delivers_each s F R m (xs ++ ys) h ≡ unless (delivers_each s F R m xs h).ended (delivers_each s F R m xs h) (delivers_each s F R m ys)
-  each-append [] ys h = refl
-  each-append (x ∷ xs) ys h =
-      unless-append (delivers s F R m h x).ended (delivers s F R m h x) refl (delivers_each s F R m (xs ++ ys)) (delivers_each s F R m xs) (delivers_each s F R m ys)
+  each-append : (xs ys : List ℕ) (w : Machines Msg) → delivers_each s F R m (xs ++ ys) w ≡ unless (delivers_each s F R m xs w).ended (delivers_each s F R m xs w) (delivers_each s F R m ys)
+  each-append [] ys w = refl
+  each-append (x ∷ xs) ys w =
+      unless-append (delivers s F R m w x).ended (delivers s F R m w x) refl (delivers_each s F R m (xs ++ ys)) (delivers_each s F R m xs) (delivers_each s F R m ys)
       (λ k. each-append xs ys k)
 
-  calms-plus : (i k : ℕ) (h : Held Msg) → calms s F R m (i + k) h ≡ unless (calms s F R m i h).ended (calms s F R m i h) (calms s F R m k)
-  calms-plus zero k h = let e : zero + k ≡ k = omega arith in ap (λ (n : ℕ). calms s F R m n h) e
-  calms-plus (suc i) k h =
+  calms-plus : (i k : ℕ) (w : Machines Msg) → calms s F R m (i + k) w ≡ unless (calms s F R m i w).ended (calms s F R m i w) (calms s F R m k)
+  calms-plus zero k w = let e : zero + k ≡ k = omega arith in ap (λ (n : ℕ). calms s F R m n w) e
+  calms-plus (suc i) k w =
       let e : suc i + k ≡ suc (i + k) = omega arith in
-      ap (λ (n : ℕ). calms s F R m n h) e
-      ∙ unless-append (pumps s F R m h).ended (pumps s F R m h) refl (calms s F R m (i + k)) (calms s F R m i) (calms s F R m k) (λ u. calms-plus i k u)
+      ap (λ (n : ℕ). calms s F R m n w) e
+      ∙ unless-append (pumps s F R m w).ended (pumps s F R m w) refl (calms s F R m (i + k)) (calms s F R m i) (calms s F R m k) (λ u. calms-plus i k u)
 
   -- pumps that find nothing change nothing
-  calms-quiet : (k : ℕ) (u : Held Msg) → pumps s F R m u ≡ done u → calms s F R m k u ≡ done u
+  calms-quiet : (k : ℕ) (u : Machines Msg) → pumps s F R m u ≡ went_on u → calms s F R m k u ≡ went_on u
   calms-quiet zero u e = refl
-  calms-quiet (suc k) u e = ap (λ (d : Happening Msg). unless d.ended d (calms s F R m k)) e ∙ calms-quiet k u e
+  calms-quiet (suc k) u e = ap (λ (d : Upshot Msg). unless d.ended d (calms s F R m k)) e ∙ calms-quiet k u e
 
-module _ {M Msg : Type 0} (m : Module Msg) (stands : M → Params → ℕ → List (Item Msg) → Type 0) where
+module _ {M Msg : Type 0} (m : Module Msg) (stands : Relation M Msg) where
   -- ---- the network alone
 
-  pub netted : (v : RunningState M Msg) (h : Held Msg) (net net' : Network) → Runs m stands v h → net ≡ net' →
-      HasChanged m stands (record { setup = v.setup; nodes = v.nodes; network = net; signed = v.signed; hashed = v.hashed }) (done (with_network h net')) Done
-  netted v h net net' st e = (record { cores = st.cores; network = e; signed = st.signed; hashed = st.hashed }, refl, refl)
+  pub netted : (v : RunningState M Msg) (w : Machines Msg) (net net' : Network) → Runs m stands v w → net ≡ net' →
+      HasChanged m stands (record { setup = v.setup; nodes = v.nodes; network = net; signed = v.signed; hashed = v.hashed }) (went_on (with_packets w net')) Done
+  netted v w net net' st e = (record { cores = st.cores; network = e; signed = st.signed; hashed = st.hashed }, refl, refl)
 
-  pub renetworked : (v : RunningState M Msg) (h : Held Msg) (net net' : Network) → Runs m stands v h → net ≡ net' →
-      Runs m stands (record { setup = v.setup; nodes = v.nodes; network = net; signed = v.signed; hashed = v.hashed }) (with_network h net')
-  renetworked v h net net' st e = record { cores = st.cores; network = e; signed = st.signed; hashed = st.hashed }
+  pub renetworked : (v : RunningState M Msg) (w : Machines Msg) (net net' : Network) → Runs m stands v w → net ≡ net' →
+      Runs m stands (record { setup = v.setup; nodes = v.nodes; network = net; signed = v.signed; hashed = v.hashed }) (with_packets w net')
+  renetworked v w net net' st e = record { cores = st.cores; network = e; signed = st.signed; hashed = st.hashed }
 
-  pub lost-settled : (v : RunningState M Msg) (h : Held Msg) (net : Network) (k : ℕ) (p : Sent) → Runs m stands v h → nth v.network.packets k ≡ Some p → net ≡ settled v.network k →
-      HasChanged m stands (record { setup = v.setup; nodes = v.nodes; network = net; signed = v.signed; hashed = v.hashed }) (loses h k (nth h.net.network.packets k)) Done
-  lost-settled v h net k p st e is =
-      let found : nth h.net.network.packets k ≡ Some p = ap (λ (u : Network). nth u.packets k) (sym st.network) ∙ e in
-      subst (λ (o : Option Sent). HasChanged m stands (record { setup = v.setup; nodes = v.nodes; network = net; signed = v.signed; hashed = v.hashed }) (loses h k o) Done) (sym found)
-      (netted v h net (settled h.net.network k) st (is ∙ ap (λ (u : Network). settled u k) st.network))
+  pub lost-settled : (v : RunningState M Msg) (w : Machines Msg) (net : Network) (k : ℕ) (p : Sent) → Runs m stands v w → nth v.network.packets k ≡ Some p → net ≡ settled v.network k →
+      HasChanged m stands (record { setup = v.setup; nodes = v.nodes; network = net; signed = v.signed; hashed = v.hashed }) (loses w k (nth w.held.net.network.packets k)) Done
+  lost-settled v w net k p st e is =
+      let found : nth w.held.net.network.packets k ≡ Some p = ap (λ (u : Network). nth u.packets k) (sym st.network) ∙ e in
+      subst (λ (o : Option Sent). HasChanged m stands (record { setup = v.setup; nodes = v.nodes; network = net; signed = v.signed; hashed = v.hashed }) (loses w k o) Done) (sym found)
+      (netted v w net (settled w.held.net.network k) st (is ∙ ap (λ (u : Network). settled u k) st.network))
 
   -- ---- one delivery
 
-  module _ (s : Setup) (F : Formats Msg) (R : Rules) (v later : RunningState M Msg) (h : Held Msg) (r : Change) (st : Runs m stands v h) where
+  module _ (s : Setup) (F : Formats Msg) (R : Rules) (v later : RunningState M Msg) (w : Machines Msg) (r : Change) (st : Runs m stands v w) where
     pub happened-delivered : (k : ℕ) (p : Sent) (bytes : List ℕ) → nth v.network.packets k ≡ Some p → bytes ≡ p.bytes →
-        HasChanged m stands later (at_core s F R m (with_network h (settled h.net.network k)) p.to (Gets bytes)) r → HasChanged m stands later (delivers s F R m h k) r
+        HasChanged m stands later (at_machine s F R m (with_packets w (settled w.held.net.network k)) p.to (Gets bytes)) r → HasChanged m stands later (delivers s F R m w k) r
     happened-delivered k p bytes e same d =
-        let found : nth h.net.network.packets k ≡ Some p = ap (λ (u : Network). nth u.packets k) (sym st.network) ∙ e in
-        let taken : HasChanged m stands later (at_core s F R m (with_network h (settled h.net.network k)) p.to (Gets p.bytes)) r =
-        subst (λ (b : List ℕ). HasChanged m stands later (at_core s F R m (with_network h (settled h.net.network k)) p.to (Gets b)) r) same d in
-        subst (λ (o : Option Sent). HasChanged m stands later (delivered_to s F R m h k o) r) (sym found) taken
+        let found : nth w.held.net.network.packets k ≡ Some p = ap (λ (u : Network). nth u.packets k) (sym st.network) ∙ e in
+        let taken : HasChanged m stands later (at_machine s F R m (with_packets w (settled w.held.net.network k)) p.to (Gets p.bytes)) r =
+        subst (λ (b : List ℕ). HasChanged m stands later (at_machine s F R m (with_packets w (settled w.held.net.network k)) p.to (Gets b)) r) same d in
+        subst (λ (o : Option Sent). HasChanged m stands later (delivered_to s F R m w k o) r) (sym found) taken
 
-    pub happened-injected : (i : ℕ) (bytes packet : List ℕ) → m.stopping ≡ false → packet ≡ bytes → HasChanged m stands later (at_core s F R m h i (Gets packet)) r →
-        HasChanged m stands later (injects s F R m h i bytes) r
+    pub happened-injected : (i : ℕ) (bytes packet : List ℕ) → m.stopping ≡ false → packet ≡ bytes → HasChanged m stands later (at_machine s F R m w i (Gets packet)) r →
+        HasChanged m stands later (injects s F R m w i bytes) r
     happened-injected i bytes packet e same d =
-        subst (λ (b : Bool). HasChanged m stands later (cond b (done h) (at_core s F R m h i (Gets bytes))) r) (sym e)
-        (subst (λ (b : List ℕ). HasChanged m stands later (at_core s F R m h i (Gets b)) r) same d)
+        subst (λ (b : Bool). HasChanged m stands later (cond b (went_on w) (at_machine s F R m w i (Gets bytes))) r) (sym e)
+        (subst (λ (b : List ℕ). HasChanged m stands later (at_machine s F R m w i (Gets b)) r) same d)
+
+    -- a client's request, where the set-up is known as another one
+    pub happened-asked : (t : Setup) (i client number : ℕ) (payload packet : List ℕ) → t ≡ s →
+        packet ≡ (formats_of t m).wrap (record { from = 255; epoch = 0; body = OfRequest (request_of t client number payload) }) →
+        HasChanged m stands later (at_machine s (formats_of s m) (rules_of s) m w i (Gets packet)) r →
+        HasChanged m stands later (happens s (formats_of s m) (rules_of s) m w (Asks i client number payload)) r
+    happened-asked t i client number payload packet same is d =
+        let made : Setup → List ℕ = λ z. (formats_of z m).wrap (record { from = 255; epoch = 0; body = OfRequest (request_of z client number payload) }) in
+        let there : packet ≡ made s = is ∙ ap made same in
+        subst (λ (b : List ℕ). HasChanged m stands later (at_machine s (formats_of s m) (rules_of s) m w i (Gets b)) r) there d
 
   -- ---- many of them
 
-  went-on : (v : RunningState M Msg) (d : Happening Msg) (r : Change) → HasChanged m stands v d r → ((end : Kept) → r ≡ Ended end → ⊥) → Runs m stands v d.held × (d.ended ≡ None)
-  went-on v d Done h no' = (h.0, h.2)
-  went-on v d (Lost why) h no' = (h.0, h.2)
-  went-on v d (Ended end) h no' = absurd (no' end refl)
+  still-runs : (v : RunningState M Msg) (d : Upshot Msg) (r : Change) → HasChanged m stands v d r → ((end : Kept) → r ≡ Ended end → ⊥) → Runs m stands v d.machines × (d.ended ≡ None)
+  still-runs v d Done h no' = (h.0, h.2)
+  still-runs v d (Lost why) h no' = (h.0, h.2)
+  still-runs v d (Ended end) h no' = absurd (no' end refl)
 
-  module _ (s t : Setup) (later : RunningState M Msg) (h : Held Msg) (same : t ≡ s) where
-    there-delivered : (u : Held Msg) (k : ℕ) (r : Change) → HasChanged m stands later (delivers t (formats_of t m) (rules_of t) m u k) r →
+  module _ (s t : Setup) (later : RunningState M Msg) (w : Machines Msg) (same : t ≡ s) where
+    there-delivered : (u : Machines Msg) (k : ℕ) (r : Change) → HasChanged m stands later (delivers t (formats_of t m) (rules_of t) m u k) r →
         HasChanged m stands later (delivers s (formats_of s m) (rules_of s) m u k) r
     there-delivered u k r d = subst (λ (z : Setup). HasChanged m stands later (delivers z (formats_of z m) (rules_of z) m u k) r) same d
 
     -- a packet more is delivered
-    pub each-next : (packets : List ℕ) (i k : ℕ) (r : Change) → i < length packets → k ≡ get_or packets i k → (delivers_each s (formats_of s m) (rules_of s) m (take i packets) h).ended ≡ None →
-        HasChanged m stands later (delivers t (formats_of t m) (rules_of t) m (delivers_each s (formats_of s m) (rules_of s) m (take i packets) h).held k) r → ((end : Kept) → r ≡ Ended end → ⊥) →
-        HasChanged m stands later (delivers_each s (formats_of s m) (rules_of s) m (take (i + 1) packets) h) Done
+    pub each-next : (packets : List ℕ) (i k : ℕ) (r : Change) → i < length packets → k ≡ get_or packets i k → (delivers_each s (formats_of s m) (rules_of s) m (take i packets) w).ended ≡ None →
+        HasChanged m stands later (delivers t (formats_of t m) (rules_of t) m (delivers_each s (formats_of s m) (rules_of s) m (take i packets) w).machines k) r → ((end : Kept) → r ≡ Ended end → ⊥) →
+        HasChanged m stands later (delivers_each s (formats_of s m) (rules_of s) m (take (i + 1) packets) w) Done
     each-next packets i k r lt is open' d no' =
         let F = formats_of s m in
         let R = rules_of s in
-        let now = delivers_each s F R m (take i packets) h in
-        let one = delivers s F R m now.held k in
-        let on = went-on later one r (there-delivered now.held k r d) no' in
-        let all : delivers_each s F R m (take (i + 1) packets) h ≡ done one.held =
-        ap (λ (ks : List ℕ). delivers_each s F R m ks h) (take-next packets i k lt is) ∙ each-append s F R m (take i packets) (k ∷ []) h
-        ∙ unless-none now (delivers_each s F R m (k ∷ [])) open' ∙ unless-none one (λ z. done z) on.1 in
-        subst (λ (e : Happening Msg). HasChanged m stands later e Done) (sym all) (on.0, refl, refl)
+        let now = delivers_each s F R m (take i packets) w in
+        let one = delivers s F R m now.machines k in
+        let on = still-runs later one r (there-delivered now.machines k r d) no' in
+        let all : delivers_each s F R m (take (i + 1) packets) w ≡ went_on one.machines =
+        ap (λ (ks : List ℕ). delivers_each s F R m ks w) (take-next packets i k lt is) ∙ each-append s F R m (take i packets) (k ∷ []) w
+        ∙ unless-none now (delivers_each s F R m (k ∷ [])) open' ∙ unless-none one (λ z. went_on z) on.1 in
+        subst (λ (e : Upshot Msg). HasChanged m stands later e Done) (sym all) (on.0, refl, refl)
 
     -- the packet ends the run
-    pub each-ended : (packets : List ℕ) (i k : ℕ) (r : Change) (end : Kept) → r ≡ Ended end → i < length packets → k ≡ get_or packets i k → (delivers_each s (formats_of s m) (rules_of s) m (take i packets) h).ended ≡ None →
-        HasChanged m stands later (delivers t (formats_of t m) (rules_of t) m (delivers_each s (formats_of s m) (rules_of s) m (take i packets) h).held k) r →
-        HasChanged m stands later (delivers_each s (formats_of s m) (rules_of s) m packets h) (Ended end)
+    pub each-ended : (packets : List ℕ) (i k : ℕ) (r : Change) (end : Kept) → r ≡ Ended end → i < length packets → k ≡ get_or packets i k → (delivers_each s (formats_of s m) (rules_of s) m (take i packets) w).ended ≡ None →
+        HasChanged m stands later (delivers t (formats_of t m) (rules_of t) m (delivers_each s (formats_of s m) (rules_of s) m (take i packets) w).machines k) r →
+        HasChanged m stands later (delivers_each s (formats_of s m) (rules_of s) m packets w) (Ended end)
     each-ended packets i k r end was lt is open' d =
         let F = formats_of s m in
         let R = rules_of s in
-        let now = delivers_each s F R m (take i packets) h in
-        let one = delivers s F R m now.held k in
-        let there : HasChanged m stands later one (Ended end) = subst (λ (x : Change). HasChanged m stands later one x) was (there-delivered now.held k r d) in
+        let now = delivers_each s F R m (take i packets) w in
+        let one = delivers s F R m now.machines k in
+        let there : HasChanged m stands later one (Ended end) = subst (λ (x : Change). HasChanged m stands later one x) was (there-delivered now.machines k r d) in
         let rest = drop (suc i) packets in
         let parts : packets ≡ take i packets ++ k ∷ rest = parted packets i k lt ∙ ap (λ (z : ℕ). take i packets ++ z ∷ rest) (sym is) in
-        let all : delivers_each s F R m packets h ≡ one =
-        ap (λ (ks : List ℕ). delivers_each s F R m ks h) parts ∙ each-append s F R m (take i packets) (k ∷ rest) h
+        let all : delivers_each s F R m packets w ≡ one =
+        ap (λ (ks : List ℕ). delivers_each s F R m ks w) parts ∙ each-append s F R m (take i packets) (k ∷ rest) w
         ∙ unless-none now (delivers_each s F R m (k ∷ rest)) open' ∙ unless-some one (delivers_each s F R m rest) (end_of end) there.2 in
-        subst (λ (e : Happening Msg). HasChanged m stands later e (Ended end)) (sym all) there
+        subst (λ (e : Upshot Msg). HasChanged m stands later e (Ended end)) (sym all) there
 
-    there-pumped : (u : Held Msg) (packets : List ℕ) (r : Change) → packets ≡ due u.net.network →
+    there-pumped : (u : Machines Msg) (packets : List ℕ) (r : Change) → packets ≡ due u.held.net.network →
         HasChanged m stands later (delivers_each t (formats_of t m) (rules_of t) m packets u) r → HasChanged m stands later (pumps s (formats_of s m) (rules_of s) m u) r
     there-pumped u packets r e d =
         subst (λ (ks : List ℕ). HasChanged m stands later (delivers_each s (formats_of s m) (rules_of s) m ks u) r) e
         (subst (λ (z : Setup). HasChanged m stands later (delivers_each z (formats_of z m) (rules_of z) m packets u) r) same d)
 
     -- one pump more
-    pub calms-next : (i : ℕ) (packets : List ℕ) (r : Change) (u : Held Msg) → calms s (formats_of s m) (rules_of s) m i h ≡ done u → packets ≡ due u.net.network →
+    pub calms-next : (i : ℕ) (packets : List ℕ) (r : Change) (u : Machines Msg) → calms s (formats_of s m) (rules_of s) m i w ≡ went_on u → packets ≡ due u.held.net.network →
         HasChanged m stands later (delivers_each t (formats_of t m) (rules_of t) m packets u) r → ((end : Kept) → r ≡ Ended end → ⊥) →
-        HasChanged m stands later (calms s (formats_of s m) (rules_of s) m (i + 1) h) Done
+        HasChanged m stands later (calms s (formats_of s m) (rules_of s) m (i + 1) w) Done
     calms-next i packets r u now e d no' =
         let F = formats_of s m in
         let R = rules_of s in
-        let on = went-on later (pumps s F R m u) r (there-pumped u packets r e d) no' in
-        let all : calms s F R m (i + 1) h ≡ done (pumps s F R m u).held =
-        calms-plus s F R m i 1 h ∙ ap (λ (z : Happening Msg). unless z.ended z (calms s F R m 1)) now ∙ unless-none (pumps s F R m u) (λ z. done z) on.1 in
-        subst (λ (z : Happening Msg). HasChanged m stands later z Done) (sym all) (on.0, refl, refl)
+        let on = still-runs later (pumps s F R m u) r (there-pumped u packets r e d) no' in
+        let all : calms s F R m (i + 1) w ≡ went_on (pumps s F R m u).machines =
+        calms-plus s F R m i 1 w ∙ ap (λ (z : Upshot Msg). unless z.ended z (calms s F R m 1)) now ∙ unless-none (pumps s F R m u) (λ z. went_on z) on.1 in
+        subst (λ (z : Upshot Msg). HasChanged m stands later z Done) (sym all) (on.0, refl, refl)
 
     -- a pump ends the run
-    pub calms-ended : (i most : ℕ) (packets : List ℕ) (r : Change) (end : Kept) (u : Held Msg) → r ≡ Ended end → i < most → calms s (formats_of s m) (rules_of s) m i h ≡ done u → packets ≡ due u.net.network →
+    pub calms-ended : (i most : ℕ) (packets : List ℕ) (r : Change) (end : Kept) (u : Machines Msg) → r ≡ Ended end → i < most → calms s (formats_of s m) (rules_of s) m i w ≡ went_on u → packets ≡ due u.held.net.network →
         HasChanged m stands later (delivers_each t (formats_of t m) (rules_of t) m packets u) r →
-        HasChanged m stands later (calms s (formats_of s m) (rules_of s) m most h) (Ended end)
+        HasChanged m stands later (calms s (formats_of s m) (rules_of s) m most w) (Ended end)
     calms-ended i most packets r end u was lt now e d =
         let F = formats_of s m in
         let R = rules_of s in
         let there : HasChanged m stands later (pumps s F R m u) (Ended end) = subst (λ (x : Change). HasChanged m stands later (pumps s F R m u) x) was (there-pumped u packets r e d) in
         let rest : ℕ = most - suc i in
         let whole : most ≡ i + suc rest = omega (arith, lt) in
-        let all : calms s F R m most h ≡ pumps s F R m u =
-        ap (λ (n : ℕ). calms s F R m n h) whole ∙ calms-plus s F R m i (suc rest) h ∙ ap (λ (z : Happening Msg). unless z.ended z (calms s F R m (suc rest))) now
+        let all : calms s F R m most w ≡ pumps s F R m u =
+        ap (λ (n : ℕ). calms s F R m n w) whole ∙ calms-plus s F R m i (suc rest) w ∙ ap (λ (z : Upshot Msg). unless z.ended z (calms s F R m (suc rest))) now
         ∙ unless-some (pumps s F R m u) (calms s F R m rest) (end_of end) there.2 in
-        subst (λ (z : Happening Msg). HasChanged m stands later z (Ended end)) (sym all) there
+        subst (λ (z : Upshot Msg). HasChanged m stands later z (Ended end)) (sym all) there
 
     -- a pump finds nothing
-    pub calms-early : (i most : ℕ) (packets : List ℕ) (u : Held Msg) → i < most → calms s (formats_of s m) (rules_of s) m i h ≡ done u → packets ≡ due u.net.network → packets ≡ [] → Runs m stands later u →
-        HasChanged m stands later (calms s (formats_of s m) (rules_of s) m most h) Done
+    pub calms-early : (i most : ℕ) (packets : List ℕ) (u : Machines Msg) → i < most → calms s (formats_of s m) (rules_of s) m i w ≡ went_on u → packets ≡ due u.held.net.network → packets ≡ [] → Runs m stands later u →
+        HasChanged m stands later (calms s (formats_of s m) (rules_of s) m most w) Done
     calms-early i most packets u lt now e none st =
         let F = formats_of s m in
         let R = rules_of s in
         let rest : ℕ = most - i in
         let whole : most ≡ i + rest = omega (arith, lt) in
-        let quiet : pumps s F R m u ≡ done u = ap (λ (ks : List ℕ). delivers_each s F R m ks u) (sym e ∙ none) in
-        let all : calms s F R m most h ≡ done u =
-        ap (λ (n : ℕ). calms s F R m n h) whole ∙ calms-plus s F R m i rest h ∙ ap (λ (z : Happening Msg). unless z.ended z (calms s F R m rest)) now ∙ calms-quiet s F R m rest u quiet in
-        subst (λ (z : Happening Msg). HasChanged m stands later z Done) (sym all) (st, refl, refl)
+        let quiet : pumps s F R m u ≡ went_on u = ap (λ (ks : List ℕ). delivers_each s F R m ks u) (sym e ∙ none) in
+        let all : calms s F R m most w ≡ went_on u =
+        ap (λ (n : ℕ). calms s F R m n w) whole ∙ calms-plus s F R m i rest w ∙ ap (λ (z : Upshot Msg). unless z.ended z (calms s F R m rest)) now ∙ calms-quiet s F R m rest u quiet in
+        subst (λ (z : Upshot Msg). HasChanged m stands later z Done) (sym all) (st, refl, refl)
 
-  -- what is done and not lost is done with what is held
-  pub done-is : (d : Happening Msg) → d.lost ≡ None → d.ended ≡ None → d ≡ done d.held
-  done-is d l e i = record { held = d.held; lost = l i; ended = e i }
+  -- what waited in cores that have not changed since
+  pub happened-pumped : (v same later : RunningState M Msg) (w : Machines Msg) (packets : List ℕ) (r : Change) → same ≡ v → packets ≡ due v.network → Runs m stands v w →
+      HasChanged m stands later (delivers_each same.setup (formats_of same.setup m) (rules_of same.setup) m packets w) r →
+      HasChanged m stands later (pumps v.setup (formats_of v.setup m) (rules_of v.setup) m w) r
+  happened-pumped v same later w packets r e is st d =
+      there-pumped v.setup same.setup later w (ap (λ (z : RunningState M Msg). z.setup) e) w packets r (is ∙ ap (λ (u : Network). due u) st.network) d
+
+  -- what an event does is said of the event that it is
+  pub at-event : (v later : RunningState M Msg) (o : Result Change NoMemory) (e is : Event) → e ≡ is →
+      IfOk o (λ r. (w : Machines Msg) → Runs m stands v w → HasChanged m stands later (happens v.setup (formats_of v.setup m) (rules_of v.setup) m w is) r) →
+      IfOk o (λ r. (w : Machines Msg) → Runs m stands v w → HasChanged m stands later (happens v.setup (formats_of v.setup m) (rules_of v.setup) m w e) r)
+  at-event v later o e is same h =
+      subst (λ (z : Event). IfOk o (λ r. (w : Machines Msg) → Runs m stands v w → HasChanged m stands later (happens v.setup (formats_of v.setup m) (rules_of v.setup) m w z) r)) (sym same) h
+
+  -- what was not lost, and did not end the run, went on
+  pub going-is : (d : Upshot Msg) → d.lost ≡ None → d.ended ≡ None → d ≡ went_on d.machines
+  going-is d l e i = record { machines = d.machines; lost = l i; ended = e i }

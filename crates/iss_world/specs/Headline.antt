@@ -1,14 +1,17 @@
 -- What an event promises of a world that stood for the run of the events before it.
-use Rattle.std.specs.Prelude.{◌≡◌, ℕ, true, List, Some}
+use Rattle.std.specs.Prelude.{◌≡◌, ℕ, true, List, Some, slice_get}
+use Rattle.iss_disk.specs.declared.memory.MemoryDisk.{MemoryDisk}
+use Rattle.iss_keep.specs.Deeds.{deeds_of}
+use Rattle.iss_keep.specs.State.{KeptState}
 use Rattle.iss_log.specs.LogState.{first_number_of}
-use Rattle.iss_theorems.specs.Certified.{AreOfLogs, WereDelivered}
-use Rattle.iss_theorems.specs.Conserved.{AcceptsOnce, IsConserved}
-use Rattle.iss_theorems.specs.Ends.{HasEvidence}
-use Rattle.iss_theorems.specs.OneLog.{IsOneLog, printed, run_after}
+use Rattle.iss_model.specs.Frames.{frame_of}
+use Rattle.iss_model.specs.Run.{Held}
 use Rattle.iss_request.specs.declared.setups.Setup.{Setup}
+use Rattle.iss_restarts.specs.Headline.{IsWhole, course_after, held_after, shown}
 use Rattle.iss_schedule.specs.declared.schedules.Event.{Event}
 use Rattle.iss_sb.specs.Evidence.{Module, is_correct}
 use Rattle.iss_sb.specs.Calls.{Relation}
+use Rattle.iss_theorems.specs.Leaves.{SignsOnceEach}
 use Rattle.iss_world.specs.Stands.{StandsAt}
 use Rattle.iss_world.specs.State.{WorldState}
 use Rattle.iss_world.specs.declared.world.Happened.{Happened}
@@ -16,7 +19,7 @@ use Rattle.iss_world.specs.declared.world.Happened.TheVariants.{Done, Lost, Forg
 
 -- the world stands for what these events make of a cluster that has taken nothing
 abbrev pub StandsAfter : {M Msg : Type 0} → Setup → Module Msg → Relation M Msg → WorldState M Msg → List Event → Type 0
-StandsAfter s m stands v events = StandsAt m stands v (run_after s m events)
+StandsAfter s m stands v events = StandsAt m stands v (course_after s m events)
 
 -- there was memory for the event
 abbrev pub IsAnswered : Happened → Type 0
@@ -28,20 +31,22 @@ IsAnswered NoMemory = ⊥
 IsAnswered Stale = ⊥
 
 -- a slot that two correct nodes hold begins with the same number at both: the sum of the sizes of the batches before it
-abbrev pub AgreeOnNumbers : {Msg : Type 0} → Setup → Module Msg → List Event → Type 0
-AgreeOnNumbers s m events =
-    (i j slot k l : ℕ) → is_correct s i ≡ true → is_correct s j ≡ true → first_number_of (printed s m events i) slot ≡ Some k →
-    first_number_of (printed s m events j) slot ≡ Some l → k ≡ l
+abbrev pub AgreeOnNumbers : {Msg : Type 0} → Setup → Module Msg → Held Msg → Type 0
+AgreeOnNumbers s m h =
+    (i j slot k l : ℕ) → is_correct s i ≡ true → is_correct s j ≡ true → first_number_of (shown s m h i) slot ≡ Some k →
+    first_number_of (shown s m h j) slot ≡ Some l → k ≡ l
 
--- The world stands for the run of these events, up to its end if it has ended. The logs of its correct nodes are of one log,
--- with the same numbers, and each request that a correct node took is in one place. Certificates that correct nodes keep are of logs
--- of correct nodes, and what correct nodes adopted was delivered at one. If the run has ended, there is evidence of it.
+-- No leaf of a core's keys signs two statements, over all crashes and restarts: what its journal's entries did has one for each leaf.
+abbrev pub SignOnce : {M Msg : Type 0} → Setup → Module Msg → WorldState M Msg → Type 0
+SignOnce {M = M} {Msg = Msg} s m v = (i : ℕ) (g : KeptState M Msg MemoryDisk) → slice_get v.running.nodes i ≡ Some g →
+    SignsOnceEach (frame_of s m) g.me.0 (deeds_of s m g.me.0 g.entries)
+
+-- The world stands for the run of these events, up to its end if it has ended. Whatever disks failed and cores were made anew, the run
+-- leads to what nodes come to that never stop, by the events that were kept: one log, with the same numbers; each request that a
+-- correct node took and kept is in one place; certificates are of logs, what was adopted was delivered, and an end has evidence.
 pub record IsHeadline {M Msg : Type 0} (s : Setup) (m : Module Msg) (stands : Relation M Msg)
     (v : WorldState M Msg) (events : List Event) : Type 0 where
   pub run : StandsAfter s m stands v events
-  pub one_log : IsOneLog s m events
-  pub numbers : AgreeOnNumbers s m events
-  pub conserved : AcceptsOnce m → IsConserved s m events
-  pub certified : AreOfLogs s m events
-  pub adopted : WereDelivered s m events
-  pub evidence : HasEvidence s m events
+  pub whole : IsWhole s m events
+  pub numbers : AgreeOnNumbers s m (held_after s m events)
+  pub leaves : SignOnce s m v

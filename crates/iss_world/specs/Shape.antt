@@ -4,7 +4,8 @@ use Rattle.iss_model.specs.Run.{cores_of, node_of}
 use Rattle.iss_rules.specs.Setups.{IsSetupOf}
 use Rattle.iss_network.specs.Network.{Network}
 use Rattle.iss_network.specs.declared.packets.Sent.{Sent}
-use Rattle.iss_node.specs.State.{NodeState}
+use Rattle.iss_disk.specs.declared.memory.MemoryDisk.{MemoryDisk}
+use Rattle.iss_keep.specs.State.{KeptState}
 use Rattle.iss_sb.specs.Evidence.{Module}
 use Rattle.iss_world.specs.State.{RunningState, WorldState}
 use Rattle.iss_world.specs.Stands.{IsStanding}
@@ -24,8 +25,8 @@ pub record IsRunning {M Msg : Type 0} (m : Module Msg) (v : RunningState M Msg) 
   pub good : IsSetupOf m v.setup
   pub count : length v.nodes ≡ cores_of v.setup
   pub network : IsNetworkOf (cores_of v.setup) v.network
-  pub setups : (i : ℕ) (g : NodeState M Msg) → slice_get v.nodes i ≡ Some g → g.parts.setup ≡ v.setup
-  pub places : (i : ℕ) (g : NodeState M Msg) → slice_get v.nodes i ≡ Some g → g.parts.me.0 ≡ node_of v.setup i
+  pub setups : (i : ℕ) (g : KeptState M Msg MemoryDisk) → slice_get v.nodes i ≡ Some g → g.setup ≡ v.setup
+  pub places : (i : ℕ) (g : KeptState M Msg MemoryDisk) → slice_get v.nodes i ≡ Some g → g.me.0 ≡ node_of v.setup i
 
 -- a world stands for some run, as long as that goes on and memory was never wanting
 abbrev pub IsWorld : {M Msg : Type 0} → Module Msg → Relation M Msg → WorldState M Msg → Type 0

@@ -1,14 +1,25 @@
--- Which run of the model the running cores and a world stand for, and what an event made of it.
-use Rattle.std.specs.Prelude.{◌≡◌, ◌⊎◌, ◌↔◌, ℕ, true, false, List, ◌∷◌, length, Option, Some, None, option_map, reverse, slice_get}
-use Rattle.iss_rules.specs.Concrete.{rules_of}
-use Rattle.iss_model.specs.Node.{idle}
-use Rattle.iss_rules.specs.Past.{log_of}
+-- Which run, in which disks fail and cores are made anew, the running cores and a world stand for, and what an event made of it.
+use Rattle.std.specs.Prelude.{◌≡◌, ◌⊎◌, ◌↔◌, ℕ, Bool, true, false, List, [], ◌∷◌, ◌++◌, length, Option, Some, None, option_map, reverse, slice_get}
 use Rattle.iss_causes.specs.Ends.{End, Forged, Collision}
-use Rattle.iss_model.specs.Run.{Happening, Held, Progress, node_of}
+use Rattle.iss_causes.specs.declared.causes.NodeEvent.{NodeEvent}
+use Rattle.iss_disk.specs.Calls.{IfTold, Passes, script, up_to}
+use Rattle.iss_disk.specs.MemoryViews.{calls_of}
+use Rattle.iss_disk.specs.StoredViews.{history_of}
+use Rattle.iss_disk.specs.declared.memory.MemoryDisk.{MemoryDisk}
+use Rattle.iss_journal.specs.Frames.{Reads, holds}
+use Rattle.iss_keep.specs.Cores.{core_of}
+use Rattle.iss_keep.specs.Entries.{spell_event}
+use Rattle.iss_keep.specs.State.{IsAt, KeptState}
+use Rattle.iss_model.specs.Node.{Core, idle}
+use Rattle.iss_model.specs.Run.{Held, node_of}
 use Rattle.iss_request.specs.declared.setups.Setup.{Setup}
-use Rattle.iss_node.specs.State.{NodeState, Stands}
-use Rattle.iss_sb.specs.Evidence.{Module}
+use Rattle.iss_restarts.specs.Courses.{Course, Machines, Upshot, core_of as core_of_kept}
+use Rattle.iss_restarts.specs.Disks.{Disk, new_disk}
+use Rattle.iss_rules.specs.Concrete.{rules_of}
+use Rattle.iss_rules.specs.Formats.{formats_of}
+use Rattle.iss_rules.specs.Past.{log_of}
 use Rattle.iss_sb.specs.Calls.{Relation}
+use Rattle.iss_sb.specs.Evidence.{Module}
 use Rattle.iss_world.specs.Books.{AreHashed, AreSigned}
 use Rattle.iss_world.specs.State.{RunningState, WorldState}
 use Rattle.iss_world.specs.declared.ends.Change.{Change}
@@ -18,22 +29,63 @@ use Rattle.iss_world.specs.declared.ends.End.TheVariants.{Forged as Kept_forged,
 use Rattle.iss_world.specs.declared.world.Happened.{Happened}
 use Rattle.iss_world.specs.declared.world.Happened.TheVariants.{Done as Was_done, Lost as Was_lost, Forged as Was_forged, Collision as Was_collision, NoMemory, Stale}
 
--- each node stands for its core, the network is the net's, and the books hold what the model's hold
-pub record Runs {M Msg : Type 0} (m : Module Msg) (stands : Relation M Msg) (v : RunningState M Msg) (h : Held Msg) : Type 0 where
-  pub cores : (i : ℕ) (g : NodeState M Msg) → slice_get v.nodes i ≡ Some g → Stands m stands g (h.net.cores i)
-  pub network : v.network ≡ h.net.network
-  pub signed : AreSigned v.signed h.signed
-  pub hashed : AreHashed v.hashed h.hashed
+-- ---- one core
+
+-- what is known of the calls to come of a disk
+abbrev pub calls_to_come : Option ℕ → Passes
+calls_to_come None = script []
+calls_to_come (Some calls) = up_to calls
+
+-- events as entries of a journal, which has the oldest first
+abbrev pub spelled : List NodeEvent → List (List ℕ)
+spelled [] = []
+spelled (event ∷ older) = spelled older ++ spell_event event ∷ []
+
+-- it shows the log and the epoch of a core of node me
+pub record ShowsCore {M Msg : Type 0} (m : Module Msg) (s : Setup) (me : ℕ) (g : KeptState M Msg MemoryDisk) (c : Core Msg) : Type 0 where
+  pub log : log_of (rules_of s) m me c.past ≡ reverse g.node.parts.log.entries
+  pub epoch : g.node.parts.epoch ≡ c.past.epoch
+
+-- a kept node is at a core, the next leaf included; or a call of its disk has failed, and it takes nothing, but shows the core
+abbrev pub IsThere : {M Msg : Type 0} → Module Msg → Relation M Msg → KeptState M Msg MemoryDisk → Core Msg → (failed : Bool) → Type 0
+IsThere m stands g c false = IsAt m stands g c
+IsThere m stands g c true = (g.stale ≡ true) × ShowsCore m g.setup g.me.0 g c
+
+-- A kept node stands for a core over its disk. The entries of its journal are the events that the disk keeps; they lead to the core, and
+-- what was synced of the file holds them.
+pub record StandsOver {M Msg : Type 0} (m : Module Msg) (stands : Relation M Msg)
+    (g : KeptState M Msg MemoryDisk) (c : Core Msg) (d : Disk) : Type 0 where
+  pub there : IsThere m stands g c d.failed
+  pub entries : g.entries ≡ spelled d.kept
+  pub leads : core_of g.setup m g.me.0 g.entries ≡ Some c
+  pub made : core_of_kept (formats_of g.setup m) (rules_of g.setup) m g.me.0 d.kept ≡ c
+  pub synced : IfTold (history_of g.disk.file) (λ file. Reads file.kept (holds g.entries))
+  pub calls : calls_of g.disk ≡ calls_to_come d.passes
+
+-- The entries of its journal are these events, which lead to this core, and a read of its file gives them.
+pub record LeadsBy {M Msg : Type 0} (m : Module Msg) (g : KeptState M Msg MemoryDisk) (events : List NodeEvent) (c : Core Msg) : Type 0 where
+  pub entries : g.entries ≡ spelled events
+  pub leads : core_of g.setup m g.me.0 g.entries ≡ Some c
+  pub made : core_of_kept (formats_of g.setup m) (rules_of g.setup) m g.me.0 events ≡ c
+  pub read : IfTold (history_of g.disk.file) (λ file. Reads file.content (holds g.entries))
+
+-- ---- all of them
+
+-- each kept node stands for its core over its disk, the network is the net's, and the books hold what the model's hold
+pub record Runs {M Msg : Type 0} (m : Module Msg) (stands : Relation M Msg) (v : RunningState M Msg) (w : Machines Msg) : Type 0 where
+  pub cores : (i : ℕ) (g : KeptState M Msg MemoryDisk) → slice_get v.nodes i ≡ Some g → StandsOver m stands g (w.held.net.cores i) (w.disks i)
+  pub network : v.network ≡ w.held.net.network
+  pub signed : AreSigned v.signed w.held.signed
+  pub hashed : AreHashed v.hashed w.held.hashed
 
 -- each node shows the log and the epoch of its core
-pub record Shows {M Msg : Type 0} (m : Module Msg) (v : RunningState M Msg) (h : Held Msg) : Type 0 where
-  pub log : (i : ℕ) (g : NodeState M Msg) → slice_get v.nodes i ≡ Some g →
-      log_of (rules_of v.setup) m (node_of v.setup i) (h.net.cores i).past ≡ reverse g.parts.log.entries
-  pub epoch : (i : ℕ) (g : NodeState M Msg) → slice_get v.nodes i ≡ Some g → g.parts.epoch ≡ (h.net.cores i).past.epoch
+abbrev pub Shows : {M Msg : Type 0} → Module Msg → RunningState M Msg → Held Msg → Type 0
+Shows {M = M} {Msg = Msg} m v h =
+    (i : ℕ) (g : KeptState M Msg MemoryDisk) → slice_get v.nodes i ≡ Some g → ShowsCore m v.setup (node_of v.setup i) g (h.net.cores i)
 
 -- they show the logs and epochs of what is held: they stand for it, or stopped there
-abbrev pub IsShown : {M Msg : Type 0} → Module Msg → Relation M Msg → RunningState M Msg → Held Msg → Type 0
-IsShown m stands v h = Runs m stands v h ⊎ Shows m v h
+abbrev pub IsShown : {M Msg : Type 0} → Module Msg → Relation M Msg → RunningState M Msg → Machines Msg → Type 0
+IsShown m stands v w = Runs m stands v w ⊎ Shows m v w.held
 
 -- what the code kept of an end
 abbrev pub end_of : Kept → End
@@ -41,32 +93,32 @@ end_of (Kept_forged claim) = Forged claim
 end_of (Kept_collision first second) = Collision first second
 
 -- they stand for what the event led to, with its cause; or they show what stood before the delivery in which the run ended
-abbrev pub HasChanged : {M Msg : Type 0} → Module Msg → Relation M Msg → RunningState M Msg → Happening Msg → Change → Type 0
-HasChanged m stands v d Done = Runs m stands v d.held × (d.lost ≡ None) × (d.ended ≡ None)
-HasChanged m stands v d (Lost why) = Runs m stands v d.held × (d.lost ≡ Some why) × (d.ended ≡ None)
-HasChanged m stands v d (Ended end) = Shows m v d.held × (d.lost ≡ None) × (d.ended ≡ Some (end_of end))
+abbrev pub HasChanged : {M Msg : Type 0} → Module Msg → Relation M Msg → RunningState M Msg → Upshot Msg → Change → Type 0
+HasChanged m stands v d Done = Runs m stands v d.machines × (d.lost ≡ None) × (d.ended ≡ None)
+HasChanged m stands v d (Lost why) = Runs m stands v d.machines × (d.lost ≡ Some why) × (d.ended ≡ None)
+HasChanged m stands v d (Ended end) = Shows m v d.machines.held × (d.lost ≡ None) × (d.ended ≡ Some (end_of end))
 
 -- they stand for some run: they came of a start, and of events for which there was memory
 abbrev pub IsStanding : {M Msg : Type 0} → Module Msg → Relation M Msg → RunningState M Msg → Type 0
-IsStanding {Msg = Msg} m stands v = (h : Held Msg) × Runs m stands v h
+IsStanding {Msg = Msg} m stands v = (w : Machines Msg) × Runs m stands v w
 
--- a node of this set-up, run by core c, that has taken nothing
-pub record IsFresh {M Msg : Type 0} (m : Module Msg) (stands : Relation M Msg) (s : Setup) (c : ℕ) (g : NodeState M Msg) : Type 0 where
-  pub stands_for : Stands m stands g idle
-  pub setup : g.parts.setup ≡ s
-  pub place : g.parts.me.0 ≡ node_of s c
+-- a kept node of this set-up, run by core c, that has taken nothing, over a new disk
+pub record IsFresh {M Msg : Type 0} (m : Module Msg) (stands : Relation M Msg) (s : Setup) (c : ℕ) (g : KeptState M Msg MemoryDisk) : Type 0 where
+  pub stands_for : StandsOver m stands g idle new_disk
+  pub setup : g.setup ≡ s
+  pub place : g.me.0 ≡ node_of s c
 
 -- the first k cores, none of which has taken anything
 pub record AreFresh {M Msg : Type 0} (m : Module Msg) (stands : Relation M Msg)
-    (s : Setup) (k : ℕ) (nodes : List (NodeState M Msg)) : Type 0 where
+    (s : Setup) (k : ℕ) (nodes : List (KeptState M Msg MemoryDisk)) : Type 0 where
   pub count : length nodes ≡ k
-  pub each : (i : ℕ) (g : NodeState M Msg) → slice_get nodes i ≡ Some g → IsFresh m stands s i g
+  pub each : (i : ℕ) (g : KeptState M Msg MemoryDisk) → slice_get nodes i ≡ Some g → IsFresh m stands s i g
 
 -- the world stands for what is held: its run goes on, and memory was never wanting
-pub record StandsFor {M Msg : Type 0} (m : Module Msg) (stands : Relation M Msg) (v : WorldState M Msg) (h : Held Msg) : Type 0 where
+pub record StandsFor {M Msg : Type 0} (m : Module Msg) (stands : Relation M Msg) (v : WorldState M Msg) (w : Machines Msg) : Type 0 where
   pub fresh : v.stale ≡ false
   pub goes_on : v.ended ≡ None
-  pub running : Runs m stands v.running h
+  pub running : Runs m stands v.running w
 
 -- its run has ended so, and it shows what was held before
 pub record HasEnded {M Msg : Type 0} (m : Module Msg) (v : WorldState M Msg) (h : Held Msg) (end : End) : Type 0 where
@@ -74,13 +126,13 @@ pub record HasEnded {M Msg : Type 0} (m : Module Msg) (v : WorldState M Msg) (h 
   pub ended : option_map end_of v.ended ≡ Some end
   pub shows : Shows m v.running h
 
-abbrev pub StandsThen : {M Msg : Type 0} → Module Msg → Relation M Msg → WorldState M Msg → Held Msg → Option (ℕ × End) → Type 0
-StandsThen m stands v h None = StandsFor m stands v h
-StandsThen m stands v h (Some at) = HasEnded m v h at.1
+abbrev pub StandsThen : {M Msg : Type 0} → Module Msg → Relation M Msg → WorldState M Msg → Machines Msg → Option (ℕ × End) → Type 0
+StandsThen m stands v w None = StandsFor m stands v w
+StandsThen m stands v w (Some at) = HasEnded m v w.held at.1
 
 -- the world stands for a run so far, whether or not it has ended
-abbrev pub StandsAt : {M Msg : Type 0} → Module Msg → Relation M Msg → WorldState M Msg → Progress Msg → Type 0
-StandsAt m stands v p = StandsThen m stands v p.held p.ended
+abbrev pub StandsAt : {M Msg : Type 0} → Module Msg → Relation M Msg → WorldState M Msg → Course Msg → Type 0
+StandsAt m stands v p = StandsThen m stands v p.machines p.ended
 
 -- a world whose memory sufficed
 abbrev pub awake : {M Msg : Type 0} → RunningState M Msg → Option Kept → WorldState M Msg
@@ -97,7 +149,7 @@ why_ended (Some at) = Some at.1
 
 -- what an answer says of the run before and after an event: the world stands for it, and the answer is the loss that was noted,
 -- or the end; or memory was wanting. A world that stands for a run is not stale
-abbrev pub HasHappened : {M Msg : Type 0} → Module Msg → Relation M Msg → WorldState M Msg → Progress Msg → Progress Msg → Happened → Type 0
+abbrev pub HasHappened : {M Msg : Type 0} → Module Msg → Relation M Msg → WorldState M Msg → Course Msg → Course Msg → Happened → Type 0
 HasHappened m stands v old new Was_done = StandsAt m stands v new × (new.ended ≡ None) × (new.drops ≡ old.drops)
 HasHappened m stands v old new (Was_lost why) = StandsAt m stands v new × (new.ended ≡ None) × (new.drops ≡ (old.event, why) ∷ old.drops)
 HasHappened m stands v old new (Was_forged by statement sig) =

@@ -1,14 +1,15 @@
 -- What is seen of a world.
 use Rattle.std.specs.Prelude.{ℕ, Bool, List, Option}
 use Rattle.iss_network.specs.Network.{Network}
-use Rattle.iss_node.specs.State.{NodeState}
+use Rattle.iss_disk.specs.declared.memory.MemoryDisk.{MemoryDisk}
+use Rattle.iss_keep.specs.State.{KeptState}
 use Rattle.iss_request.specs.declared.setups.Setup.{Setup}
 use Rattle.iss_world.specs.declared.ends.End.{End}
 
 pub record RunningState (M Msg : Type 0) : Type 0 where
   pub setup : Setup
-  -- the cores, ascending
-  pub nodes : List (NodeState M Msg)
+  -- the cores, ascending, each over a disk of its own
+  pub nodes : List (KeptState M Msg MemoryDisk)
   pub network : Network
   -- the claims that correct nodes sent as their own, each behind its node's number, and the strings that were hashed, each with
   -- its digest

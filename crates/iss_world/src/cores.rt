@@ -1,13 +1,20 @@
 //! Which node each core runs, and cores at their start.
-ghost use Rattle.std.specs.Prelude.{◌≡◌, ◌<◌, ◌≤◌, ◌+◌, length, IfOk};
+ghost use Rattle.std.specs.Prelude.{◌≡◌, ◌<◌, ◌≤◌, ◌+◌, List, [], None, false, length, IfOk, OnOk};
+ghost use Rattle.iss_causes.specs.declared.causes.NodeEvent.{NodeEvent};
+ghost use Rattle.iss_disk.specs.Calls.{script};
+ghost use Rattle.iss_disk.specs.MemoryViews.{calls_of};
+ghost use Rattle.iss_keep.specs.Steps.{IsSame};
+ghost use Rattle.iss_model.specs.Node.{Core};
 ghost use Rattle.iss_rules.specs.Concrete.{keys_of};
 ghost use Rattle.iss_model.specs.Run.{cores_of, node_of};
 ghost use Rattle.iss_rules.specs.Setups.{IsSetupOf};
 ghost use Rattle.iss_request.specs.Setup.{IsGoodSetup};
-ghost use Rattle.iss_world.specs.Stands.{AreFresh, IsFresh};
+ghost use Rattle.iss_world.specs.Stands.{AreFresh, IsFresh, LeadsBy, StandsOver};
 
+use iss_disk::MemoryDisk;
+use iss_journal::{AttachError, a_file_has_one_reading};
+use iss_keep::Kept;
 use iss_keys::SharedDirectory;
-use iss_node::Node;
 use iss_request::{NoMemory, NodeId, Setup};
 use iss_sb::Sequenced;
 use std::alloc::Global;
@@ -44,12 +51,12 @@ pub fn directory_of(alloc: Global, setup: &Setup) -> Result<SharedDirectory, NoM
     }
 }
 
-/// The cores of a cluster, ascending, each of which has taken nothing. All share the directory.
+/// The cores of a cluster, ascending, each of which has taken nothing, over a new disk of its own. All share the directory.
 pub fn start_cores<M: Sequenced>(
     alloc: Global,
     setup: &Setup,
     directory: &SharedDirectory,
-) -> Result<Vec<Node<M>>, NoMemory>
+) -> Result<Vec<Kept<M, MemoryDisk>>, NoMemory>
     requires good { IsSetupOf M.meaning setup.now }
     requires directory { directory.now ≡ keys_of setup.now }
     ensures { IfOk result (λ nodes. AreFresh M.meaning M.stands setup.now (cores_of setup.now) nodes.items) }
@@ -67,13 +74,31 @@ fn start_core<M: Sequenced>(
     setup: &Setup,
     directory: &SharedDirectory,
     core: u32,
-) -> Result<Node<M>, NoMemory>
+) -> Result<Kept<M, MemoryDisk>, NoMemory>
     requires good { IsSetupOf M.meaning setup.now }
     requires directory { directory.now ≡ keys_of setup.now }
     requires core { core < cores_of setup.now }
     ensures { IfOk result (λ node. IsFresh M.meaning M.stands setup.now core node) }
 {
-    let node = node_of(setup, core);
-    let keys = directory.directory().keys_of_node(alloc, node.0);
-    Node::start(alloc, setup, directory, node, keys)
+    let disk = MemoryDisk::new(alloc)?;
+    let mut node = Kept::over(alloc, setup, directory, node_of(setup, core), disk)?;
+    make_anew(&mut node)?;
+    Ok(node)
+}
+
+/// Makes a kept node anew whose disk works, and has entries that lead to a core: then nothing but memory can be wanting.
+pub fn make_anew<M: Sequenced>(node: &mut Kept<M, MemoryDisk>) -> Result<(), NoMemory>
+    requires works { calls_of node.old.disk ≡ script [] }
+    requires whole { (events : List NodeEvent) × (c : Core M.Msg) × LeadsBy M.meaning node.old events c }
+    ensures anew { OnOk result ((events : List NodeEvent) (c : Core M.Msg) → LeadsBy M.meaning node.old events c →
+        StandsOver M.meaning M.stands node.new c (record { kept = events; passes = None; failed = false })) }
+    ensures same { IsSame node.old node.new }
+{
+    a_file_has_one_reading();
+    match node.reopen() {
+        Ok(()) => Ok(()),
+        Err(AttachError::NoMemory) => Err(NoMemory),
+        Err(AttachError::Failed) => unreachable!(),
+        Err(AttachError::Damaged { at: _ }) => unreachable!(),
+    }
 }

@@ -3,23 +3,27 @@ ghost use Rattle.std.specs.Prelude.{◌≡◌, ◌<◌, IfOk, Some, reverse, sli
 ghost use Rattle.iss_base.specs.Lists.{nth};
 ghost use Rattle.iss_rules.specs.Concrete.{rules_of};
 ghost use Rattle.iss_rules.specs.Past.{log_of};
-ghost use Rattle.iss_model.specs.Run.{Held, begin_held, cores_of, done, loses, node_of, with_network};
+ghost use Rattle.iss_model.specs.Run.{cores_of, node_of};
+ghost use Rattle.iss_model.specs.Frames.{frame_of};
+ghost use Rattle.iss_restarts.specs.Courses.{Machines, begin_machines, loses, went_on, with_disk, with_packets};
+ghost use Rattle.iss_restarts.specs.Disks.{fused};
+ghost use Rattle.iss_restarts.specs.Frames.{calms_in, delivers_each_in, delivers_in, happens_in, injects_in, pumps_in, remade_in};
 ghost use Rattle.iss_rules.specs.Setups.{IsSetupOf};
-ghost use Rattle.iss_model.specs.Frames.{calms_in, delivers_each_in, delivers_in, frame_of, happens_in, injects_in, pumps_in};
 ghost use Rattle.iss_network.specs.Network.{cleared, due, held_to};
 ghost use Rattle.iss_schedule.specs.Events.{IsInRange};
-ghost use Rattle.iss_world.specs.Stands.{HasChanged, IsShown, IsStanding, Runs};
+ghost use Rattle.iss_world.specs.Stands.{HasChanged, IsShown, IsStanding, Runs, ShowsCore};
 
 use crate::claims::Claims;
-use crate::cores::{cores_of, directory_of, start_cores};
+use crate::cores::{cores_of, directory_of, make_anew, start_cores};
 use crate::ends::Change;
 use crate::requests::request_packet;
 use crate::strings::Strings;
 use iss_causes::{NodeEvent, Why};
+use iss_disk::MemoryDisk;
+use iss_keep::Kept;
 use iss_keys::SharedDirectory;
 use iss_log::Log;
 use iss_network::Network;
-use iss_node::Node;
 use iss_request::{Bytes, Epoch, Kind, NoMemory, ReqId, Setup, Value};
 use iss_sb::Sequenced;
 use iss_schedule::Event;
@@ -32,8 +36,8 @@ pub struct Running<M: Sequenced> {
     pub(crate) setup: Setup,
     // the keys of all nodes and clients
     pub(crate) directory: SharedDirectory,
-    // core `i` is the `i`-th
-    pub(crate) nodes: Vec<Node<M>>,
+    // core `i` is the `i`-th, and each has a disk of its own
+    pub(crate) nodes: Vec<Kept<M, MemoryDisk>>,
     pub(crate) network: Network,
     // what correct nodes sent as signed of their own, and what was hashed
     pub(crate) signed: Claims,
@@ -58,7 +62,7 @@ impl<M: Sequenced> Running<M> {
     /// Cores that have taken nothing, each with its node's keys, no packets, and nothing in the books but the empty string.
     pub fn start(alloc: Global, setup: &Setup) -> Result<Running<M>, NoMemory>
         requires { IsSetupOf M.meaning setup.now }
-        ensures stands { IfOk result (λ v. Runs M.meaning M.stands v (begin_held setup.now)) }
+        ensures stands { IfOk result (λ v. Runs M.meaning M.stands v (begin_machines setup.now)) }
         ensures same { IfOk result (λ v. v.setup ≡ setup.now) }
     {
         let directory = directory_of(alloc, setup)?;
@@ -76,8 +80,8 @@ impl<M: Sequenced> Running<M> {
     pub fn event(&mut self, alloc: Global, event: &Event) -> Result<Change, NoMemory>
         requires range { IsInRange self.old.setup event.now }
         requires standing { IsStanding M.meaning M.stands self.old }
-        ensures happened { IfOk result (λ r. (h : Held M.Msg) → Runs M.meaning M.stands self.old h →
-            HasChanged M.meaning M.stands self.new (happens_in (frame_of self.old.setup M.meaning) h event.now) r) }
+        ensures happened { IfOk result (λ r. (w : Machines M.Msg) → Runs M.meaning M.stands self.old w →
+            HasChanged M.meaning M.stands self.new (happens_in (frame_of self.old.setup M.meaning) w event.now) r) }
         ensures same { self.new.setup ≡ self.old.setup }
     {
         match event {
@@ -105,8 +109,8 @@ impl<M: Sequenced> Running<M> {
             Event::Hold { core } => Ok(self.hold(*core)),
             Event::Free { core } => Ok(self.free(*core)),
             Event::Drop { core } => Ok(self.clear(*core)),
-            // no disk fails yet: a core that is made anew is what it was
-            Event::Restart { .. } | Event::Crash { .. } => Ok(Change::Done),
+            Event::Restart { core } => self.restart(*core),
+            Event::Crash { core, calls } => Ok(self.crash(*core, *calls)),
             Event::Bytes { core, bytes } => self.inject(alloc, *core, bytes),
         }
     }
@@ -121,8 +125,8 @@ impl<M: Sequenced> Running<M> {
     ) -> Result<Change, NoMemory>
         requires range { IsInRange self.old.setup (Event.Request core id.client id.number payload.now) }
         requires standing { IsStanding M.meaning M.stands self.old }
-        ensures happened { IfOk result (λ r. (h : Held M.Msg) → Runs M.meaning M.stands self.old h →
-            HasChanged M.meaning M.stands self.new (happens_in (frame_of self.old.setup M.meaning) h (Event.Request core id.client id.number payload.now)) r) }
+        ensures happened { IfOk result (λ r. (w : Machines M.Msg) → Runs M.meaning M.stands self.old w →
+            HasChanged M.meaning M.stands self.new (happens_in (frame_of self.old.setup M.meaning) w (Event.Request core id.client id.number payload.now)) r) }
         ensures same { self.new.setup ≡ self.old.setup }
     {
         let directory = self.directory.directory();
@@ -133,8 +137,8 @@ impl<M: Sequenced> Running<M> {
     // A packet is taken by its core, whether or not it waits.
     fn deliver(&mut self, alloc: Global, packet: u64) -> Result<Change, NoMemory>
         requires { IsStanding M.meaning M.stands self.old }
-        ensures happened { IfOk result (λ r. (h : Held M.Msg) → Runs M.meaning M.stands self.old h →
-            HasChanged M.meaning M.stands self.new (delivers_in (frame_of self.old.setup M.meaning) h packet) r) }
+        ensures happened { IfOk result (λ r. (w : Machines M.Msg) → Runs M.meaning M.stands self.old w →
+            HasChanged M.meaning M.stands self.new (delivers_in (frame_of self.old.setup M.meaning) w packet) r) }
         ensures same { self.new.setup ≡ self.old.setup }
     {
         let Some(sent) = self.network.packet(packet) else {
@@ -148,8 +152,8 @@ impl<M: Sequenced> Running<M> {
 
     // A packet waits no more.
     fn lose(&mut self, packet: u64) -> Change
-        ensures happened { (h : Held M.Msg) → Runs M.meaning M.stands self.old h →
-            HasChanged M.meaning M.stands self.new (loses h packet (nth h.net.network.packets packet)) result }
+        ensures happened { (w : Machines M.Msg) → Runs M.meaning M.stands self.old w →
+            HasChanged M.meaning M.stands self.new (loses w packet (nth w.held.net.network.packets packet)) result }
         ensures same { self.new.setup ≡ self.old.setup }
     {
         match self.network.packet(packet) {
@@ -172,8 +176,8 @@ impl<M: Sequenced> Running<M> {
     // What waits for cores that are not held is taken, ascending, up to a delivery that ends the run.
     fn pump(&mut self, alloc: Global) -> Result<Change, NoMemory>
         requires { IsStanding M.meaning M.stands self.old }
-        ensures happened { IfOk result (λ r. (h : Held M.Msg) → Runs M.meaning M.stands self.old h →
-            HasChanged M.meaning M.stands self.new (pumps_in (frame_of self.old.setup M.meaning) h) r) }
+        ensures happened { IfOk result (λ r. (w : Machines M.Msg) → Runs M.meaning M.stands self.old w →
+            HasChanged M.meaning M.stands self.new (pumps_in (frame_of self.old.setup M.meaning) w) r) }
         ensures same { self.new.setup ≡ self.old.setup }
     {
         let packets = self.due(alloc)?;
@@ -183,8 +187,8 @@ impl<M: Sequenced> Running<M> {
     // The packets are taken, in this order, up to a delivery that ends the run.
     fn deliver_each(&mut self, alloc: Global, packets: &[u64]) -> Result<Change, NoMemory>
         requires { IsStanding M.meaning M.stands self.old }
-        ensures happened { IfOk result (λ r. (h : Held M.Msg) → Runs M.meaning M.stands self.old h →
-            HasChanged M.meaning M.stands self.new (delivers_each_in (frame_of self.old.setup M.meaning) packets.now h) r) }
+        ensures happened { IfOk result (λ r. (w : Machines M.Msg) → Runs M.meaning M.stands self.old w →
+            HasChanged M.meaning M.stands self.new (delivers_each_in (frame_of self.old.setup M.meaning) packets.now w) r) }
         ensures same { self.new.setup ≡ self.old.setup }
     {
         for packet in packets {
@@ -198,8 +202,8 @@ impl<M: Sequenced> Running<M> {
     // So many pumps, fewer where one finds nothing, or ends the run.
     fn calm(&mut self, alloc: Global, most: u32) -> Result<Change, NoMemory>
         requires { IsStanding M.meaning M.stands self.old }
-        ensures happened { IfOk result (λ r. (h : Held M.Msg) → Runs M.meaning M.stands self.old h →
-            HasChanged M.meaning M.stands self.new (calms_in (frame_of self.old.setup M.meaning) most h) r) }
+        ensures happened { IfOk result (λ r. (w : Machines M.Msg) → Runs M.meaning M.stands self.old w →
+            HasChanged M.meaning M.stands self.new (calms_in (frame_of self.old.setup M.meaning) most w) r) }
         ensures same { self.new.setup ≡ self.old.setup }
     {
         for done in 0..most {
@@ -217,8 +221,8 @@ impl<M: Sequenced> Running<M> {
     // Pumps pass over a core from now on.
     fn hold(&mut self, core: u32) -> Change
         requires { core < cores_of self.old.setup }
-        ensures happened { (h : Held M.Msg) → Runs M.meaning M.stands self.old h →
-            HasChanged M.meaning M.stands self.new (done (with_network h (held_to h.net.network core true))) result }
+        ensures happened { (w : Machines M.Msg) → Runs M.meaning M.stands self.old w →
+            HasChanged M.meaning M.stands self.new (went_on (with_packets w (held_to w.held.net.network core true))) result }
         ensures same { self.new.setup ≡ self.old.setup }
     {
         self.network.hold(core);
@@ -228,8 +232,8 @@ impl<M: Sequenced> Running<M> {
     // Pumps pass over a core no longer.
     fn free(&mut self, core: u32) -> Change
         requires { core < cores_of self.old.setup }
-        ensures happened { (h : Held M.Msg) → Runs M.meaning M.stands self.old h →
-            HasChanged M.meaning M.stands self.new (done (with_network h (held_to h.net.network core false))) result }
+        ensures happened { (w : Machines M.Msg) → Runs M.meaning M.stands self.old w →
+            HasChanged M.meaning M.stands self.new (went_on (with_packets w (held_to w.held.net.network core false))) result }
         ensures same { self.new.setup ≡ self.old.setup }
     {
         self.network.free(core);
@@ -239,11 +243,36 @@ impl<M: Sequenced> Running<M> {
     // No packet for a core waits any more.
     fn clear(&mut self, core: u32) -> Change
         requires { core < cores_of self.old.setup }
-        ensures happened { (h : Held M.Msg) → Runs M.meaning M.stands self.old h →
-            HasChanged M.meaning M.stands self.new (done (with_network h (cleared h.net.network core))) result }
+        ensures happened { (w : Machines M.Msg) → Runs M.meaning M.stands self.old w →
+            HasChanged M.meaning M.stands self.new (went_on (with_packets w (cleared w.held.net.network core))) result }
         ensures same { self.new.setup ≡ self.old.setup }
     {
         self.network.drop_for(core);
+        Change::Done
+    }
+
+    // A core is made anew of what its disk keeps. What waits for it, and whether pumps pass over it, stays.
+    fn restart(&mut self, core: u32) -> Result<Change, NoMemory>
+        requires core { core < cores_of self.old.setup }
+        requires standing { IsStanding M.meaning M.stands self.old }
+        ensures happened { IfOk result (λ r. (w : Machines M.Msg) → Runs M.meaning M.stands self.old w →
+            HasChanged M.meaning M.stands self.new (went_on (remade_in (frame_of self.old.setup M.meaning) w core)) r) }
+        ensures same { self.new.setup ≡ self.old.setup }
+    {
+        let node = &mut self.nodes[core as usize];
+        node.restart();
+        make_anew(node)?;
+        Ok(Change::Done)
+    }
+
+    // So many calls of a core's disk pass from now on, and all others fail until it is made anew.
+    fn crash(&mut self, core: u32, calls: u32) -> Change
+        requires { core < cores_of self.old.setup }
+        ensures happened { (w : Machines M.Msg) → Runs M.meaning M.stands self.old w →
+            HasChanged M.meaning M.stands self.new (went_on (with_disk w core (fused (w.disks core) calls))) result }
+        ensures same { self.new.setup ≡ self.old.setup }
+    {
+        self.nodes[core as usize].fuse(calls as u64);
         Change::Done
     }
 
@@ -252,8 +281,8 @@ impl<M: Sequenced> Running<M> {
         requires kind { self.old.setup.kind ≡ Kind.Byzantine }
         requires core { core < cores_of self.old.setup }
         requires standing { IsStanding M.meaning M.stands self.old }
-        ensures happened { IfOk result (λ r. (h : Held M.Msg) → Runs M.meaning M.stands self.old h →
-            HasChanged M.meaning M.stands self.new (injects_in (frame_of self.old.setup M.meaning) h core bytes.now) r) }
+        ensures happened { IfOk result (λ r. (w : Machines M.Msg) → Runs M.meaning M.stands self.old w →
+            HasChanged M.meaning M.stands self.new (injects_in (frame_of self.old.setup M.meaning) w core bytes.now) r) }
         ensures same { self.new.setup ≡ self.old.setup }
     {
         let _ = &self.setup;
@@ -269,14 +298,13 @@ impl<M: Sequenced> Running<M> {
         &self.setup
     }
 
-    /// The node that a core runs.
-    pub fn node(&self, core: u32) -> &Node<M>
+    /// The kept node that a core runs.
+    pub fn node(&self, core: u32) -> &Kept<M, MemoryDisk>
         requires { core < cores_of self.now.setup }
         ensures at { slice_get self.now.nodes core ≡ Some result.now }
-        ensures log { (h : Held M.Msg) → IsShown M.meaning M.stands self.now h →
-            log_of (rules_of self.now.setup) M.meaning (node_of self.now.setup core) (h.net.cores core).past ≡ reverse result.now.parts.log.entries }
-        ensures epoch { (h : Held M.Msg) → IsShown M.meaning M.stands self.now h → result.now.parts.epoch ≡ (h.net.cores core).past.epoch }
-        ensures same { (result.now.parts.setup ≡ self.now.setup) × (result.now.parts.me.0 ≡ node_of self.now.setup core) }
+        ensures shown { (w : Machines M.Msg) → IsShown M.meaning M.stands self.now w →
+            ShowsCore M.meaning self.now.setup (node_of self.now.setup core) result.now (w.held.net.cores core) }
+        ensures same { (result.now.setup ≡ self.now.setup) × (result.now.me.0 ≡ node_of self.now.setup core) }
     {
         &self.nodes[core as usize]
     }
@@ -284,8 +312,8 @@ impl<M: Sequenced> Running<M> {
     /// A core's log.
     pub fn log(&self, core: u32) -> &Log
         requires { core < cores_of self.now.setup }
-        ensures { (h : Held M.Msg) → IsShown M.meaning M.stands self.now h →
-            log_of (rules_of self.now.setup) M.meaning (node_of self.now.setup core) (h.net.cores core).past ≡ reverse result.now.entries }
+        ensures { (w : Machines M.Msg) → IsShown M.meaning M.stands self.now w →
+            log_of (rules_of self.now.setup) M.meaning (node_of self.now.setup core) (w.held.net.cores core).past ≡ reverse result.now.entries }
     {
         self.node(core).log()
     }
@@ -293,8 +321,8 @@ impl<M: Sequenced> Running<M> {
     /// The values of a core's log, in the order of the slots.
     pub fn entries(&self, core: u32) -> &[Value]
         requires { core < cores_of self.now.setup }
-        ensures { (h : Held M.Msg) → IsShown M.meaning M.stands self.now h →
-            log_of (rules_of self.now.setup) M.meaning (node_of self.now.setup core) (h.net.cores core).past ≡ reverse result.now }
+        ensures { (w : Machines M.Msg) → IsShown M.meaning M.stands self.now w →
+            log_of (rules_of self.now.setup) M.meaning (node_of self.now.setup core) (w.held.net.cores core).past ≡ reverse result.now }
     {
         self.log(core).entries()
     }
@@ -302,7 +330,7 @@ impl<M: Sequenced> Running<M> {
     /// A core's epoch.
     pub fn epoch(&self, core: u32) -> Epoch
         requires { core < cores_of self.now.setup }
-        ensures { (h : Held M.Msg) → IsShown M.meaning M.stands self.now h → result.0 ≡ (h.net.cores core).past.epoch }
+        ensures { (w : Machines M.Msg) → IsShown M.meaning M.stands self.now w → result.0 ≡ (w.held.net.cores core).past.epoch }
     {
         self.node(core).epoch()
     }

@@ -1,26 +1,33 @@
 //! One event at a core: what it claims is tested, the core takes it, and what it made is tested, booked and posted.
-ghost use Rattle.std.specs.Prelude.{◌≡◌, ◌<◌, ◌≤◌, ℕ, IfOk, List, None, Some, length, option_map, slice_get};
+ghost use Rattle.std.specs.Prelude.{◌≡◌, ◌<◌, ◌≤◌, ℕ, false, IfOk, List, None, Some, length, option_map, slice_get};
 ghost use Rattle.iss_base.specs.Lists.{over};
 ghost use Rattle.iss_rules.specs.Books.{Signed};
 ghost use Rattle.iss_rules.specs.Concrete.{keys_of};
 ghost use Rattle.iss_model.specs.Node.{Core, Taken, Turn, step};
-ghost use Rattle.iss_model.specs.Run.{Held, cores_of, node_of};
-ghost use Rattle.iss_model.specs.Frames.{at_core_in, claims_at_in, frame_of, step_in};
-ghost use Rattle.iss_node.specs.State.{NodeState, Stands};
-ghost use Rattle.iss_node.specs.Steps.{IsAnswer, IsMade, IsOfNodes};
+ghost use Rattle.iss_model.specs.Run.{cores_of, node_of};
+ghost use Rattle.iss_model.specs.Frames.{claims_at_in, frame_of, step_in};
+ghost use Rattle.iss_disk.specs.declared.memory.MemoryDisk.{MemoryDisk};
+ghost use Rattle.iss_keep.specs.State.{IsAt, KeptState};
+ghost use Rattle.iss_keep.specs.Steps.{IsSame};
+ghost use Rattle.iss_node.specs.Steps.{IsMade, IsOfNodes};
+ghost use Rattle.iss_restarts.specs.Courses.{Machines, carried};
+ghost use Rattle.iss_restarts.specs.Disks.{Disk};
+ghost use Rattle.iss_restarts.specs.Frames.{at_machine_in};
 ghost use Rattle.iss_sb.specs.Calls.{AreToNodes};
 ghost use Rattle.iss_world.specs.Books.{AreHashed, AreSigned};
-ghost use Rattle.iss_world.specs.Stands.{HasChanged, IsStanding, Runs, end_of};
-ghost use Rattle.iss_world.specs.Steps.{IsBehind, ends_by, stepped_to};
+ghost use Rattle.iss_world.specs.Stands.{HasChanged, IsStanding, Runs, StandsOver, end_of};
+ghost use Rattle.iss_world.specs.Steps.{HasAnswered, IsBehind, IsWorking, ends_by, kept_to, stepped_to};
 
 use crate::claims::{Claims, book_own};
 use crate::ends::{Change, End};
 use crate::posting::post_all;
 use crate::running::Running;
 use crate::strings::Strings;
-use iss_causes::NodeEvent;
+use iss_causes::{NodeEvent, Why};
+use iss_disk::MemoryDisk;
+use iss_keep::{Answer, Kept};
 use iss_keys::Directory;
-use iss_node::{Answer, Node, Outcome};
+use iss_node::Outcome;
 use iss_request::{Epoch, NoMemory, Row, Setup};
 use iss_sb::{Claim, Sequenced};
 use std::alloc::Global;
@@ -28,36 +35,32 @@ use std::alloc::Global;
 // What an event claims that nodes signed, as its core reads it.
 fn claims_at<M: Sequenced>(
     alloc: Global,
-    node: &Node<M>,
+    node: &Kept<M, MemoryDisk>,
     event: &NodeEvent,
 ) -> Result<Row<Claim>, NoMemory>
-    ensures { IfOk result (λ claims. (c : Core M.Msg) → Stands M.meaning M.stands node.now c →
-        claims ≡ claims_at_in (frame_of node.now.parts.setup M.meaning) node.now.parts.me.0 c event.now) }
+    ensures { IfOk result (λ claims. (c : Core M.Msg) → IsAt M.meaning M.stands node.now c →
+        claims ≡ claims_at_in (frame_of node.now.setup M.meaning) node.now.me.0 c event.now) }
 {
     match event {
-        NodeEvent::Packet(bytes) => node.claims_of(alloc, bytes.as_slice()),
+        NodeEvent::Packet(bytes) => node.claims_of(bytes.as_slice()),
         NodeEvent::Propose => Ok(Row::new(alloc)),
         NodeEvent::Timeout(_) => Ok(Row::new(alloc)),
         NodeEvent::AskFrom(_) => Ok(Row::new(alloc)),
     }
 }
 
-// A core takes an event. The number of slots of its log and its epoch from before it are told too.
-fn take_at<M: Sequenced>(
-    alloc: Global,
-    node: &mut Node<M>,
-    event: NodeEvent,
-) -> (Answer, usize, Epoch)
-    ensures answer { (c : Core M.Msg) → Stands M.meaning M.stands node.old c →
-        IsAnswer M.meaning M.stands (IsOfNodes node.old.parts.setup.n event) c
-        (step_in (frame_of node.old.parts.setup M.meaning) node.old.parts.me.0 c event) node.new result.0 }
-    ensures slots { result.1 ≡ length node.old.parts.log.entries }
-    ensures epoch { result.2.0 ≡ node.old.parts.epoch }
-    ensures same { (node.new.parts.setup ≡ node.old.parts.setup) × (node.new.parts.me ≡ node.old.parts.me) }
+// A kept node takes an event. The number of slots of its log and its epoch from before it are told too.
+fn take_at<M: Sequenced>(node: &mut Kept<M, MemoryDisk>, event: NodeEvent) -> (Answer, usize, Epoch)
+    ensures answer { (c : Core M.Msg) (d : Disk) → StandsOver M.meaning M.stands node.old c d → d.failed ≡ false →
+        IsOfNodes node.old.setup.n event → HasAnswered M.meaning M.stands c d event
+        (step_in (frame_of node.old.setup M.meaning) node.old.me.0 c event) node.new result.0 }
+    ensures slots { result.1 ≡ length node.old.node.parts.log.entries }
+    ensures epoch { result.2.0 ≡ node.old.node.parts.epoch }
+    ensures same { IsSame node.old node.new }
 {
     let slots = node.log().entries().len();
     let epoch = node.epoch();
-    (node.take(alloc, event), slots, epoch)
+    (node.take(event), slots, epoch)
 }
 
 // Why a step ends the run, if it does: by a claim of what had come early, or by a string. Where it does not, its strings are
@@ -84,7 +87,7 @@ fn ends(
 }
 
 impl<M: Sequenced> Running<M> {
-    // A core takes an event, unless what it claims is forged.
+    // A core takes an event, unless its disk has failed, or what the event claims is forged.
     pub(crate) fn take(
         &mut self,
         alloc: Global,
@@ -94,11 +97,15 @@ impl<M: Sequenced> Running<M> {
         requires core { core < cores_of self.old.setup }
         requires nodes { IsOfNodes self.old.setup.n event }
         requires standing { IsStanding M.meaning M.stands self.old }
-        ensures happened { IfOk result (λ r. (h : Held M.Msg) → Runs M.meaning M.stands self.old h →
-            HasChanged M.meaning M.stands self.new (at_core_in (frame_of self.old.setup M.meaning) h core event) r) }
+        ensures happened { IfOk result (λ r. (w : Machines M.Msg) → Runs M.meaning M.stands self.old w →
+            HasChanged M.meaning M.stands self.new (at_machine_in (frame_of self.old.setup M.meaning) w core event) r) }
         ensures same { self.new.setup ≡ self.old.setup }
     {
-        let claims = claims_at(alloc, &self.nodes[core as usize], &event)?;
+        let node = &self.nodes[core as usize];
+        if node.stale() {
+            return Ok(Change::Lost(Why::Stopped));
+        }
+        let claims = claims_at(alloc, node, &event)?;
         let directory = self.directory.directory();
         let forged = self
             .signed
@@ -109,25 +116,26 @@ impl<M: Sequenced> Running<M> {
         }
     }
 
-    // A core takes an event whose claims were tested.
+    // A core whose disk has not failed takes an event whose claims were tested.
     fn step(&mut self, alloc: Global, core: u32, event: NodeEvent) -> Result<Change, NoMemory>
         requires core { core < cores_of self.old.setup }
         requires nodes { IsOfNodes self.old.setup.n event }
-        requires standing { IsStanding M.meaning M.stands self.old }
-        ensures happened { IfOk result (λ r. (h : Held M.Msg) → Runs M.meaning M.stands self.old h →
-            HasChanged M.meaning M.stands self.new (stepped_to self.old.setup h core
-            (step_in (frame_of self.old.setup M.meaning) (node_of self.old.setup core) (h.net.cores core) event)) r) }
+        requires working { IsWorking M.meaning M.stands self.old core }
+        ensures happened { IfOk result (λ r. (w : Machines M.Msg) → Runs M.meaning M.stands self.old w → (w.disks core).failed ≡ false →
+            HasChanged M.meaning M.stands self.new (kept_to self.old.setup w core event
+            (step_in (frame_of self.old.setup M.meaning) (node_of self.old.setup core) (w.held.net.cores core) event)) r) }
         ensures same { self.new.setup ≡ self.old.setup }
     {
-        let (answer, slots, epoch) = take_at(alloc, &mut self.nodes[core as usize], event);
+        let (answer, slots, epoch) = take_at(&mut self.nodes[core as usize], event);
         match answer {
             Answer::Taken(outcome) => self.taken(alloc, core, &outcome, slots, epoch),
             Answer::Dropped(why) => Ok(Change::Lost(why)),
+            Answer::Failed => Ok(Change::Lost(Why::Stopped)),
             Answer::NoMemory | Answer::Stale => Err(NoMemory),
         }
     }
 
-    // A core has taken a step, which ends the run or is done.
+    // A core has taken a step and kept it, which ends the run or is done.
     fn taken(
         &mut self,
         alloc: Global,
@@ -138,11 +146,11 @@ impl<M: Sequenced> Running<M> {
     ) -> Result<Change, NoMemory>
         requires core { core < cores_of self.old.setup }
         requires addressed { AreToNodes self.old.setup.n outcome.now.sends }
-        requires slots { (g : NodeState M M.Msg) → slice_get self.old.nodes core ≡ Some g → slots ≤ length g.parts.log.entries }
-        requires epoch { (g : NodeState M M.Msg) → slice_get self.old.nodes core ≡ Some g → epoch.0 ≤ g.parts.epoch }
-        ensures happened { IfOk result (λ r. (h : Held M.Msg) (t : Turn M.Msg) →
-            IsBehind M.meaning M.stands self.old h core t slots epoch.0 → IsMade t outcome.now →
-            HasChanged M.meaning M.stands self.new (stepped_to self.old.setup h core (Taken t)) r) }
+        requires slots { (g : KeptState M M.Msg MemoryDisk) → slice_get self.old.nodes core ≡ Some g → slots ≤ length g.node.parts.log.entries }
+        requires epoch { (g : KeptState M M.Msg MemoryDisk) → slice_get self.old.nodes core ≡ Some g → epoch.0 ≤ g.node.parts.epoch }
+        ensures happened { IfOk result (λ r. (w : Machines M.Msg) (behind : ℕ → Disk) (t : Turn M.Msg) →
+            IsBehind M.meaning M.stands self.old w behind core t slots epoch.0 → IsMade t outcome.now →
+            HasChanged M.meaning M.stands self.new (carried w behind (stepped_to self.old.setup w.held core (Taken t))) r) }
         ensures same { self.new.setup ≡ self.old.setup }
     {
         let directory = self.directory.directory();

@@ -2,29 +2,28 @@
 ghost use Rattle.std.specs.Prelude.{◌≡◌, ◌<◌, ◌++◌, ◌∷◌, [], IfOk, List, None, OnOk, reverse};
 ghost use Rattle.iss_rules.specs.Concrete.{rules_of};
 ghost use Rattle.iss_rules.specs.Past.{log_of};
-ghost use Rattle.iss_model.specs.Run.{Held, Progress, begin_held, cores_of, node_of};
+ghost use Rattle.iss_model.specs.Run.{cores_of, node_of};
+ghost use Rattle.iss_model.specs.Frames.{frame_of};
+ghost use Rattle.iss_restarts.specs.Courses.{Course, Machines, begin_machines};
+ghost use Rattle.iss_restarts.specs.Frames.{goes_further_in};
 ghost use Rattle.iss_rules.specs.Setups.{IsSetupOf};
-ghost use Rattle.iss_model.specs.Frames.{frame_of, goes_further_in};
-ghost use Rattle.iss_node.specs.State.{Stands};
 ghost use Rattle.iss_schedule.specs.Events.{AreInRange, IsInRange};
 ghost use Rattle.iss_schedule.specs.declared.schedules.Event.{Event as Happens};
 ghost use Rattle.iss_world.specs.Headline.{IsAnswered, IsHeadline, StandsAfter};
 ghost use Rattle.iss_world.specs.Shape.{IsWorld};
-ghost use Rattle.iss_world.specs.Stands.{HasHappened, IsOverOr, IsStaleOr, IsStanding, StandsAt, StandsFor, awake, told_as};
+ghost use Rattle.iss_world.specs.Stands.{HasHappened, IsOverOr, IsStaleOr, IsStanding, StandsAt, StandsFor, StandsOver, awake, told_as};
 
 use crate::ends::{Change, End};
 use crate::running::Running;
 use iss_causes::Why;
 use iss_cluster::composition;
+use iss_disk::MemoryDisk;
+use iss_keep::{Kept, leaves_are_of_one_statement};
 use iss_log::Log;
-use iss_node::Node;
 use iss_request::{Bytes, Epoch, NoMemory, NodeId, Setup, Value};
+use iss_restarts::restarts_change_nothing;
 use iss_sb::Sequenced;
 use iss_schedule::Event;
-use iss_theorems::{
-    adopted_was_delivered, certificates_are_of_logs, cluster_runs, requests_are_conserved,
-    runs_end_with_evidence,
-};
 use std::alloc::Global;
 use std::marker::Model;
 
@@ -79,7 +78,7 @@ impl<M: Sequenced> World<M> {
     /// Cores that have taken nothing, each with its node's keys, and no packets.
     pub fn start(alloc: Global, setup: &Setup) -> Result<World<M>, NoMemory>
         requires { IsSetupOf M.meaning setup.now }
-        ensures stands { IfOk result (λ v. StandsFor M.meaning M.stands v (begin_held setup.now)) }
+        ensures stands { IfOk result (λ v. StandsFor M.meaning M.stands v (begin_machines setup.now)) }
         ensures begun { IfOk result (λ v. StandsAfter setup.now M.meaning M.stands v []) }
         ensures same { IfOk result (λ v. v.running.setup ≡ setup.now) }
     {
@@ -95,13 +94,14 @@ impl<M: Sequenced> World<M> {
     /// own, or where two different strings were hashed that have one digest, of which the one that was in the book or came earlier in
     /// the event is told first: then the world shows what it showed before the delivery that did so, and answers each further event
     /// by the same evidence. After want of memory each further event answers that the world is stale. A world that stood for the run
-    /// of some events then stands for the run with this one more: the logs of correct nodes are of one log, in which no request
-    /// stands twice and each batch was accepted as valid by a correct node, and each request that a correct node took is in its log,
-    /// waits there or is in flight. The certificates that correct nodes keep are of logs of correct nodes, and what correct nodes
-    /// adopted was delivered at one (ISS, whole protocol).
+    /// of some events then stands for the run with this one more, whatever disks failed and cores were made anew: the logs of correct
+    /// nodes are of one log, in which no request stands twice and each batch was accepted as valid by a correct node, and each request
+    /// that a correct node took and kept is in its log, waits there or is in flight. The certificates that correct nodes keep are of logs
+    /// of correct nodes, and what correct nodes adopted was delivered at one (ISS, whole protocol; crashes and recovery). No leaf of a
+    /// core's keys signs two statements, over all restarts.
     pub fn event(&mut self, alloc: Global, event: &Event) -> Happened
         requires { IsInRange self.old.running.setup event.now }
-        ensures happened { (p : Progress M.Msg) → StandsAt M.meaning M.stands self.old p →
+        ensures happened { (p : Course M.Msg) → StandsAt M.meaning M.stands self.old p →
             HasHappened M.meaning M.stands self.new p (goes_further_in (frame_of self.old.running.setup M.meaning) p event.now) result }
         ensures headline { (events : List Happens) → AreInRange self.old.running.setup events →
             StandsAfter self.old.running.setup M.meaning M.stands self.old events → IsAnswered result →
@@ -111,11 +111,8 @@ impl<M: Sequenced> World<M> {
         ensures same { self.new.running.setup ≡ self.old.running.setup }
     {
         composition::<M>();
-        cluster_runs::<M>();
-        requests_are_conserved::<M>();
-        certificates_are_of_logs::<M>();
-        adopted_was_delivered::<M>();
-        runs_end_with_evidence::<M>();
+        restarts_change_nothing::<M>();
+        leaves_are_of_one_statement::<M>();
         let _setup = self.running.setup();
         if self.stale {
             return Happened::Stale;
@@ -138,12 +135,13 @@ impl<M: Sequenced> World<M> {
         self.running.setup()
     }
 
-    /// The node that a core runs, whose calls show the core as long as the run goes on: what it accepted, what waits and is in
-    /// flight there, and whether it can cast.
-    pub fn node(&self, core: u32) -> &Node<M>
+    /// The kept node that a core runs, whose calls show the core as long as the run goes on and its disk has not failed: what it
+    /// accepted, what waits and is in flight there, and whether it can cast.
+    pub fn node(&self, core: u32) -> &Kept<M, MemoryDisk>
         requires { core < cores_of self.now.running.setup }
-        ensures stands { (h : Held M.Msg) → StandsFor M.meaning M.stands self.now h → Stands M.meaning M.stands result.now (h.net.cores core) }
-        ensures same { (result.now.parts.setup ≡ self.now.running.setup) × (result.now.parts.me.0 ≡ node_of self.now.running.setup core) }
+        ensures stands { (w : Machines M.Msg) → StandsFor M.meaning M.stands self.now w →
+            StandsOver M.meaning M.stands result.now (w.held.net.cores core) (w.disks core) }
+        ensures same { (result.now.setup ≡ self.now.running.setup) × (result.now.me.0 ≡ node_of self.now.running.setup core) }
     {
         self.running.node(core)
     }
@@ -151,8 +149,8 @@ impl<M: Sequenced> World<M> {
     /// A core's log.
     pub fn log(&self, core: u32) -> &Log
         requires { core < cores_of self.now.running.setup }
-        ensures { (p : Progress M.Msg) → StandsAt M.meaning M.stands self.now p →
-            log_of (rules_of self.now.running.setup) M.meaning (node_of self.now.running.setup core) (p.held.net.cores core).past ≡ reverse result.now.entries }
+        ensures { (p : Course M.Msg) → StandsAt M.meaning M.stands self.now p →
+            log_of (rules_of self.now.running.setup) M.meaning (node_of self.now.running.setup core) (p.machines.held.net.cores core).past ≡ reverse result.now.entries }
     {
         self.running.log(core)
     }
@@ -160,8 +158,8 @@ impl<M: Sequenced> World<M> {
     /// The values of a core's log, in the order of the slots.
     pub fn entries(&self, core: u32) -> &[Value]
         requires { core < cores_of self.now.running.setup }
-        ensures { (p : Progress M.Msg) → StandsAt M.meaning M.stands self.now p →
-            log_of (rules_of self.now.running.setup) M.meaning (node_of self.now.running.setup core) (p.held.net.cores core).past ≡ reverse result.now }
+        ensures { (p : Course M.Msg) → StandsAt M.meaning M.stands self.now p →
+            log_of (rules_of self.now.running.setup) M.meaning (node_of self.now.running.setup core) (p.machines.held.net.cores core).past ≡ reverse result.now }
     {
         self.running.entries(core)
     }
@@ -169,7 +167,7 @@ impl<M: Sequenced> World<M> {
     /// A core's epoch.
     pub fn epoch(&self, core: u32) -> Epoch
         requires { core < cores_of self.now.running.setup }
-        ensures { (p : Progress M.Msg) → StandsAt M.meaning M.stands self.now p → result.0 ≡ (p.held.net.cores core).past.epoch }
+        ensures { (p : Course M.Msg) → StandsAt M.meaning M.stands self.now p → result.0 ≡ (p.machines.held.net.cores core).past.epoch }
     {
         self.running.epoch(core)
     }
@@ -184,7 +182,7 @@ fn goes_on<M: Sequenced>(
 ) -> Result<Happened, NoMemory>
     requires range { IsInRange running.old.setup event.now }
     requires standing { ended.old ≡ None → IsStanding M.meaning M.stands running.old }
-    ensures happened { IfOk result (λ r. (p : Progress M.Msg) → StandsAt M.meaning M.stands (awake running.old ended.old) p →
+    ensures happened { IfOk result (λ r. (p : Course M.Msg) → StandsAt M.meaning M.stands (awake running.old ended.old) p →
         HasHappened M.meaning M.stands (awake running.new ended.new) p (goes_further_in (frame_of running.old.setup M.meaning) p event.now) r) }
     ensures answered { IfOk result (λ r. IsAnswered r) }
     ensures world { OnOk result (IsWorld M.meaning M.stands (awake running.new ended.new)) }

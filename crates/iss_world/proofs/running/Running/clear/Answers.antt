@@ -8,5 +8,5 @@ pub returns-clause-happened : goal.returns-clause-happened
 returns-clause-happened g c =
     let v : RunningState g.row.M.Denot g.row.M-Msg.Denot = record { setup = c.self.inside.setup; nodes = c.self.inside.nodes.items; network = c.self.inside.network; signed = c.self.inside.signed; hashed = c.self.inside.hashed } in
     rw (← c.self.view_is)
-    (λ h st. netted g.M.Sequenced.meaning g.M.Sequenced.stands v h c.drop_for.new.self (cleared h.net.network c.args.core) st
+    (λ w st. netted g.M.Sequenced.meaning g.M.Sequenced.stands v w c.drop_for.new.self (cleared w.held.net.network c.args.core) st
     (c.drop_for.ensures ∙ ap (λ (u : Network). cleared u c.args.core) st.network))

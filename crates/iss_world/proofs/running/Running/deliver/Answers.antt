@@ -1,8 +1,9 @@
 use Rattle.std.proofs.Common.{sym, subst, refl, ap, ◌∙◌}
 use Rattle.iss_rules.specs.Concrete.{rules_of}
 use Rattle.iss_rules.specs.Formats.{formats_of}
-use Rattle.iss_model.specs.Run.{cores_of, with_network}
+use Rattle.iss_model.specs.Run.{cores_of}
 use Rattle.iss_network.specs.Network.{Network, settled}
+use Rattle.iss_restarts.specs.Courses.{with_packets}
 use Rattle.iss_world.specs.Stands.{Runs}
 use Rattle.iss_world.specs.State.{RunningState}
 use Rattle.iss_world.proofs.BookLemmas.{if-ok}
@@ -15,17 +16,17 @@ take-requires-clause-core g c = for-at (cores_of c.self.inside.setup) c.self.ins
 
 pub take-requires-clause-standing : goal.take-requires-clause-standing
 take-requires-clause-standing g c =
-    let h = c.requires.0 in
+    let w = c.requires.0 in
     let v : RunningState g.row.M.Denot g.row.M-Msg.Denot = record { setup = c.self.inside.setup; nodes = c.self.inside.nodes.items; network = c.self.inside.network; signed = c.self.inside.signed; hashed = c.self.inside.hashed } in
     let st = subst (λ (z : RunningState _ _). Runs g.M.Sequenced.meaning g.M.Sequenced.stands z c.requires.0) (sym c.self.view_is) c.requires.1 in
-    (with_network h c.settle.new.self, renetworked g.M.Sequenced.meaning g.M.Sequenced.stands v h c.settle.new.self c.settle.new.self st refl)
+    (with_packets w c.settle.new.self, renetworked g.M.Sequenced.meaning g.M.Sequenced.stands v w c.settle.new.self c.settle.new.self st refl)
 
 pub returns-clause-happened : goal.returns-clause-happened
 returns-clause-happened g c =
     let v : RunningState g.row.M.Denot g.row.M-Msg.Denot = record { setup = c.self.inside.setup; nodes = c.self.inside.nodes.items; network = c.self.inside.network; signed = c.self.inside.signed; hashed = c.self.inside.hashed } in
     rw (← c.self.view_is)
-    (if-ok _ _ c.take.result c.take.ensures.happened (λ r f h st.
-    happened-delivered g.M.Sequenced.meaning g.M.Sequenced.stands c.self.inside.setup (formats_of c.self.inside.setup g.M.Sequenced.meaning) (rules_of c.self.inside.setup) v c.take.new.self h r st c.args.packet
+    (if-ok _ _ c.take.result c.take.ensures.happened (λ r f w st.
+    happened-delivered g.M.Sequenced.meaning g.M.Sequenced.stands c.self.inside.setup (formats_of c.self.inside.setup g.M.Sequenced.meaning) (rules_of c.self.inside.setup) v c.take.new.self w r st c.args.packet
     c.in-Some.sent.now c.in_ok-bytes.bytes (sym c.in-Some.ensures) c.in_ok-bytes.ensures
-    (f (with_network h (settled h.net.network c.args.packet)) (renetworked g.M.Sequenced.meaning g.M.Sequenced.stands v h c.settle.new.self (settled h.net.network c.args.packet) st
+    (f (with_packets w (settled w.held.net.network c.args.packet)) (renetworked g.M.Sequenced.meaning g.M.Sequenced.stands v w c.settle.new.self (settled w.held.net.network c.args.packet) st
     (c.settle.ensures ∙ ap (λ (u : Network). settled u c.args.packet) st.network)))))

@@ -8,5 +8,5 @@ pub returns-clause-happened : goal.returns-clause-happened
 returns-clause-happened g c =
     let v : RunningState g.row.M.Denot g.row.M-Msg.Denot = record { setup = c.self.inside.setup; nodes = c.self.inside.nodes.items; network = c.self.inside.network; signed = c.self.inside.signed; hashed = c.self.inside.hashed } in
     rw (← c.self.view_is)
-    (λ h st. netted g.M.Sequenced.meaning g.M.Sequenced.stands v h c.free.new.self (held_to h.net.network c.args.core false) st
+    (λ w st. netted g.M.Sequenced.meaning g.M.Sequenced.stands v w c.free.new.self (held_to w.held.net.network c.args.core false) st
     (c.free.ensures ∙ ap (λ (u : Network). held_to u c.args.core false) st.network))

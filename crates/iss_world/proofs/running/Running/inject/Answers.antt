@@ -11,5 +11,5 @@ returns-clause-happened g c =
     let s = c.args.self.now.setup in
     let running : g.M.Sequenced.meaning.stopping ≡ false =
     not-stopping g.M.Sequenced.meaning.stopping (sym (ap (λ (v : RunningState _ _). v.setup.kind) c.self.view_is ∙ c.requires.kind) ∙ c.self.invariant.0.good.kind) in
-    if-ok _ _ c.take.result c.take.ensures.happened (λ r f h st.
-    happened-injected g.M.Sequenced.meaning g.M.Sequenced.stands s (formats_of s g.M.Sequenced.meaning) (rules_of s) c.args.self.now c.take.new.self h r st c.args.core c.args.bytes.now c.in_ok-packet.packet running c.in_ok-packet.ensures (f h st))
+    if-ok _ _ c.take.result c.take.ensures.happened (λ r f w st.
+    happened-injected g.M.Sequenced.meaning g.M.Sequenced.stands s (formats_of s g.M.Sequenced.meaning) (rules_of s) c.args.self.now c.take.new.self w r st c.args.core c.args.bytes.now c.in_ok-packet.packet running c.in_ok-packet.ensures (f w st))

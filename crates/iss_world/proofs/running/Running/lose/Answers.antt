@@ -7,4 +7,4 @@ pub returns-in-Some-clause-happened : goal.returns-in-Some-clause-happened
 returns-in-Some-clause-happened g c =
     let v : RunningState g.row.M.Denot g.row.M-Msg.Denot = record { setup = c.self.inside.setup; nodes = c.self.inside.nodes.items; network = c.self.inside.network; signed = c.self.inside.signed; hashed = c.self.inside.hashed } in
     rw (← c.self.view_is)
-    (λ h st. lost-settled g.M.Sequenced.meaning g.M.Sequenced.stands v h c.settle.new.self c.args.packet c.in-Some.field-0.now st (sym c.in-Some.ensures) c.settle.ensures)
+    (λ w st. lost-settled g.M.Sequenced.meaning g.M.Sequenced.stands v w c.settle.new.self c.args.packet c.in-Some.field-0.now st (sym c.in-Some.ensures) c.settle.ensures)

@@ -1,7 +1,7 @@
 use Rattle.std.proofs.Common.{subst, sym}
-use Rattle.iss_theorems.specs.OneLog.{run_after}
 use Rattle.iss_rules.specs.Setups.{IsSetupOf}
 use Rattle.iss_request.specs.declared.setups.Setup.{Setup}
+use Rattle.iss_restarts.specs.Headline.{course_after}
 use Rattle.iss_schedule.specs.Events.{IsInRange}
 use Rattle.iss_world.specs.Stands.{awake}
 use Rattle.iss_world.specs.State.{WorldState}
@@ -22,8 +22,7 @@ returns-in-Ok-clause-headline g c =
     let s = c.self.inside.running.setup in
     let inside = subst (λ (z : WorldState _ _). IsInRange z.running.setup c.args.event.now) (sym c.self.view_is) c.requires in
     let good = subst (λ (t : Setup). IsSetupOf m t) c.setup-setup.ensures.same c.setup-setup.ensures.good in
-    headline-more m g.M.Sequenced.stands s good (c.cluster_runs.ensures.one_log s good) (c.requests_are_conserved.ensures s good)
-    (c.certificates_are_of_logs.ensures s good) (c.adopted_was_delivered.ensures.delivered s good) (c.runs_end_with_evidence.ensures s good)
+    headline-more m g.M.Sequenced.stands s (c.restarts_change_nothing.ensures s good) (c.leaves_are_of_one_statement.ensures.signs s good)
     (awake c.goes_on.new.running c.goes_on.new.ended) events c.args.event.now c.in-Ok.happened range inside
-    (c.in-Ok.ensures.happened (run_after s m events)
-    (awake-at m g.M.Sequenced.stands c.self.inside.running c.self.inside.ended c.self.inside.stale (run_after s m events) c.if-self.false st)) answered)
+    (c.in-Ok.ensures.happened (course_after s m events)
+    (awake-at m g.M.Sequenced.stands c.self.inside.running c.self.inside.ended c.self.inside.stale (course_after s m events) c.if-self.false st)) answered)
