@@ -15,7 +15,7 @@ use Rattle.iss_model.specs.Node.{Core, Dropped, Stepped, Taken, Turn, step}
 use Rattle.iss_rules.specs.Past.{log_of}
 use Rattle.iss_rules.specs.Rules.{Rules}
 use Rattle.iss_causes.specs.Ends.{End, Forged}
-use Rattle.iss_model.specs.Run.{Happening, Held, after_step, at_core, booked, by_collision, by_forged, claims_at, collision_in, done, early_of, ended_by, first_forged, is_forged, node_of, posted_all, turned_to}
+use Rattle.iss_model.specs.Run.{Happening, Held, after_step, at_core, booked, by_collision, by_forged, claims_at, collision_in, done, early_of, ended_by, first_forged, node_of, posted_all, turned_to}
 use Rattle.iss_causes.specs.declared.causes.NodeEvent.{NodeEvent}
 use Rattle.iss_causes.specs.declared.causes.Why.{Why}
 use Rattle.iss_causes.specs.declared.causes.Why.TheVariants.{Stopped}
@@ -36,6 +36,7 @@ use Rattle.iss_sb.specs.declared.effects.Claim.{Claim}
 use Rattle.iss_sb.specs.declared.effects.To.{To}
 use Rattle.iss_sb.specs.Calls.{AreToNodes, Relation}
 use Rattle.iss_sb.specs.Evidence.{Module}
+use Rattle.iss_restarts.proofs.Entering.{forged-first}
 use Rattle.iss_world.proofs.BookLemmas.{forged-append}
 use Rattle.iss_world.proofs.OverLemmas.{at-working, epoch-grown, log-grown, over-shows, over-stale}
 use Rattle.iss_world.specs.Books.{AreHashed, AreSigned}
@@ -82,15 +83,6 @@ written {A} xs i j a g lt h =
 
 -- ---- what is tested
 
-keep-some : (b : Bool) (c x : Claim) (o p : Option Claim) → cond b (Some c) o ≡ Some x → (o ≡ Some x → p ≡ Some x) → cond b (Some c) p ≡ Some x
-keep-some true c x o p h k = h
-keep-some false c x o p h k = k h
-
-forged-left : (s : Setup) (R : Rules) (book : List Signed) (xs ys : List Claim) (x : Claim) → first_forged s R book xs ≡ Some x → first_forged s R book (xs ++ ys) ≡ Some x
-forged-left s R book [] ys x h = absurd (none-some x h)
-forged-left s R book (c ∷ xs) ys x h =
-    keep-some (is_forged s R book c) c x (first_forged s R book xs) (first_forged s R book (xs ++ ys)) h (λ t. forged-left s R book xs ys x t)
-
 module _ {Msg : Type 0} (m : Module Msg) (s : Setup) (F : Formats Msg) (h : Held Msg) (c : ℕ) (event : NodeEvent) (claims : List Claim)
     (are : claims ≡ claims_at F (rules_of s) m (node_of s c) (h.net.cores c) event) where
   -- the event's own claims are not forged
@@ -107,7 +99,7 @@ module _ {Msg : Type 0} (m : Module Msg) (s : Setup) (F : Formats Msg) (h : Held
       let stepped = step F (rules_of s) m (node_of s c) (h.net.cores c) event in
       let here = claims_at F (rules_of s) m (node_of s c) (h.net.cores c) event in
       let one : first_forged s (rules_of s) h.signed here ≡ Some claim = ap (λ (cs : List Claim). first_forged s (rules_of s) h.signed cs) (sym are) ∙ sym is in
-      ap (λ (o : Option Claim). by_forged o h (after_step s h c stepped)) (forged-left s (rules_of s) h.signed here (early_of stepped) claim one)
+      ap (λ (o : Option Claim). by_forged o h (after_step s h c stepped)) (forged-first s (rules_of s) h.signed here (early_of stepped) claim one)
 
 ending : {Msg : Type 0} (f : Option Claim) (o : Option End) (h : Held Msg) (next : Held Msg) (e : End) → first_of (forged_in f) o ≡ Some e →
     by_forged f h (by_collision o h next) ≡ ended_by h e
