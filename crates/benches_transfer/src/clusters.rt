@@ -1,13 +1,13 @@
 //! The cluster of a node that is behind.
-ghost use Rattle.std.specs.Prelude.{◌≡◌};
+ghost use Rattle.std.specs.Prelude.{◌≡◌, ◌<◌};
 ghost use Rattle.iss_rules.specs.Concrete.{keys_of};
 ghost use Rattle.iss_rules.specs.Setups.{IsSetupOf};
 ghost use Rattle.sb_relay.specs.Relay.{relay};
 
 use iss_keys::SharedDirectory;
 use iss_node::Node;
-use iss_request::{Kind, NoMemory, Nodes, Policy, Setup};
-use iss_world::cores::{directory_of, start_cores};
+use iss_request::{Kind, NoMemory, NodeId, Nodes, Policy, Setup};
+use iss_world::cores::directory_of;
 use sb_relay::Relay;
 use std::alloc::Global;
 
@@ -40,23 +40,25 @@ pub(crate) fn setup(alloc: Global) -> Setup
     }
 }
 
-// The last node of the cluster, which has taken nothing.
-fn last_node(
+// A node of the cluster that has taken nothing.
+fn start_node(
     alloc: Global,
     setup: &Setup,
     directory: &SharedDirectory,
-) -> Result<Option<Node<Relay>>, NoMemory>
+    me: NodeId,
+) -> Result<Node<Relay>, NoMemory>
     requires good { IsSetupOf relay setup.now }
     requires directory { directory.now ≡ keys_of setup.now }
+    requires me { me.0 < setup.now.n }
 {
-    let mut nodes = start_cores::<Relay>(alloc, setup, directory)?;
-    Ok(nodes.pop())
+    let keys = directory.directory().keys_of_node(alloc, me.0);
+    Node::start(alloc, setup, directory, me, keys)
 }
 
-/// A node that has taken nothing. No tree is made yet, and no signature has been checked.
+/// The last node, which has taken nothing. No tree is made yet, and no signature has been checked.
 pub(crate) fn late_node(alloc: Global, setup: &Setup) -> Result<Node<Relay>, NoMemory>
     requires { IsSetupOf relay setup.now }
 {
     let directory = directory_of(alloc, setup)?;
-    last_node(alloc, setup, &directory)?.ok_or(NoMemory)
+    start_node(alloc, setup, &directory, NodeId(2))
 }

@@ -9,7 +9,7 @@ use Rattle.iss_cli.specs.declared.answers.Answer.{Answer}
 use Rattle.iss_cli.specs.declared.status.Status.{Status}
 use Rattle.iss_cli.specs.Answers.{IsAnswer, IsAnswerStatus, IsAnswered, refused_line, refused_words}
 use Rattle.iss_cli.specs.Reports.{IsReported, reported, status_of}
-use Rattle.iss_theorems.specs.OneLog.{run_after}
+use Rattle.iss_restarts.specs.Headline.{course_after}
 use Rattle.iss_causes.specs.Ends.{Collision, End, Forged}
 use Rattle.iss_schedule.specs.declared.schedules.Schedule.{Schedule}
 use Rattle.iss_theorems.specs.Conserved.{AcceptsOnce}
@@ -128,7 +128,7 @@ whole : (a b : Answer) → a ≡ b → IsAnswerStatus b.status → IsAnswerStatu
 whole a b is h = subst (λ (r : Answer). IsAnswerStatus r.status) (sym is) h
 
 told_by : {Msg : Type 0} (M : Module Msg) (s : Schedule) (a : Answer) → a ≡ reported M s → IsAnswerStatus a.status
-told_by M s a is = whole a (reported M s) is (end_told (run_after s.setup M s.events).ended)
+told_by M s a is = whole a (reported M s) is (end_told (course_after s.setup M s.events).ended)
 
 told : (s : Schedule) (a : Answer) → IsKnown s.setup → IsReported s a → IsAnswerStatus a.status
 told s a h r = elim h.known [

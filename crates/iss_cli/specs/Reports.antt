@@ -1,10 +1,8 @@
 -- The report of a schedule's run under its module, and what is promised of the run.
 use Rattle.std.specs.Prelude.{◌≡◌, ℕ, Option, Some, None}
-use Rattle.iss_theorems.specs.Certified.{AreOfLogs, WereDelivered}
-use Rattle.iss_theorems.specs.Conserved.{IsConserved}
-use Rattle.iss_theorems.specs.Ends.{HasEvidence}
-use Rattle.iss_theorems.specs.OneLog.{IsOneLog, run_after}
+use Rattle.iss_theorems.specs.Conserved.{AcceptsOnce}
 use Rattle.iss_causes.specs.Ends.{End, Forged, Collision}
+use Rattle.iss_restarts.specs.Headline.{IsWhole, course_after}
 use Rattle.iss_replay.specs.Report.{text_of}
 use Rattle.iss_sb.specs.Evidence.{Module}
 use Rattle.iss_schedule.specs.declared.schedules.Schedule.{Schedule}
@@ -32,23 +30,21 @@ status_of (Some (event, Collision first second)) = Has_collision
 -- the text of the run of a schedule's events under a module, and how that ended
 abbrev pub reported : {Msg : Type 0} → Module Msg → Schedule → Answer
 reported M s =
-    let p = run_after s.setup M s.events in
+    let p = course_after s.setup M s.events in
     record { printed = text_of s.setup M p; status = status_of p.ended }
 
 -- the answer is the report of its run
 abbrev pub IsReported : Schedule → Answer → Type 0
 IsReported s a = Under s.setup.module (λ Msg M. a ≡ reported M s)
 
--- The logs of correct nodes are of one log, in which no request stands twice and each batch was accepted as valid by a
--- correct node, and which more events only make longer; each request that a correct node took is in its log, waits there, or
--- is in flight, in one place. Where the run ends before its last event, it shows evidence of a forged claim or a collision.
--- Each certificate that a correct node keeps is of the log of a correct signer, and what a correct node adopted was delivered at one.
+-- Whatever disks fail and cores are made anew, the logs of correct nodes are of one log, in which no request stands twice and each batch
+-- was accepted as valid by a correct node, and which more events only make longer; each request that a correct node took and kept is in
+-- its log, waits there, or is in flight, in one place, since its leaders accept one batch at a slot. Where the run ends before its last
+-- event, it shows evidence of a forged claim or a collision. Each certificate that a correct node keeps is of the log of a correct
+-- signer, and what a correct node adopted was delivered at one.
 pub record IsKept {Msg : Type 0} (M : Module Msg) (s : Schedule) : Type 0 where
-  pub one_log : IsOneLog s.setup M s.events
-  pub evidence : HasEvidence s.setup M s.events
-  pub conserved : IsConserved s.setup M s.events
-  pub certified : AreOfLogs s.setup M s.events
-  pub adopted : WereDelivered s.setup M s.events
+  pub whole : IsWhole s.setup M s.events
+  pub once : AcceptsOnce M
 
 -- of its run
 abbrev pub IsPromised : Schedule → Type 0

@@ -15,11 +15,8 @@ use crate::errors::EndError;
 use crate::input::read_up_to;
 use crate::output::write_all;
 use crate::status::Status;
+use iss_restarts::restarts_change_nothing;
 use iss_sb::Sequenced;
-use iss_theorems::{
-    adopted_was_delivered, certificates_are_of_logs, cluster_runs, requests_are_conserved,
-    runs_end_with_evidence,
-};
 use sb_hotstuff::HotStuff;
 use sb_pbft::Pbft;
 use sb_raft::Raft;
@@ -34,9 +31,10 @@ const PIECE: usize = 65_536;
 
 /// Does what the words ask for, and says how it ended. `replay` reads the input to its end and prints the report of the
 /// schedule that it is, or its first bad line. A run that shows a claim that its node never made, or two strings of one
-/// digest, ends there, and its report with the evidence. Of every schedule, under the module that it names: the logs of its
-/// report are of one log, more events only make them longer, and no request that a correct node took is lost; a certificate that
-/// a correct node keeps is of the log of a correct signer, and what a correct node adopted was delivered at one (`promised`).
+/// digest, ends there, and its report with the evidence. Of every schedule, under the module that it names, whatever disks fail and
+/// cores are made anew in it: the logs of its report are of one log, more events only make them longer, and no request that a correct
+/// node took and kept is lost; a certificate that a correct node keeps is of the log of a correct signer, and what a correct node
+/// adopted was delivered at one (`promised`).
 ///
 /// Causes are met in the order words, source, input, printing; want of memory may come anywhere.
 pub fn run<I: Source, O: Sink>(
@@ -61,11 +59,11 @@ pub fn run<I: Source, O: Sink>(
     }
 }
 
-/// What is promised of the run of every schedule: the logs of correct nodes are of one log, in which no request stands
-/// twice and each batch was accepted as valid by a correct node; more events only make logs longer; each request that a
-/// correct node took is in its log, waits there, or is in flight, in one place; and certificates and what is adopted under them
-/// are of logs of correct nodes (ISS, whole protocol). It takes no premise on signatures or digests, since a run ends with the
-/// evidence where one does not hold.
+/// What is promised of the run of every schedule, whatever disks fail and cores are made anew in it: the logs of correct nodes are of
+/// one log, in which no request stands twice and each batch was accepted as valid by a correct node; more events only make logs
+/// longer; each request that a correct node took and kept is in its log, waits there, or is in flight, in one place; and certificates
+/// and what is adopted under them are of logs of correct nodes (ISS, whole protocol; crashes and recovery). It takes no premise on
+/// signatures or digests, since a run ends with the evidence where one does not hold.
 pub fn one_log()
     ensures promised { (s : Schedule) → IsFine s → IsPromised s }
 {
@@ -82,11 +80,7 @@ pub fn one_log()
 fn kept<M: Sequenced>()
     ensures { AcceptsOnce M.meaning → (s : Schedule) → IsSetupOf M.meaning s.setup → AreInRange s.setup s.events → IsKept M.meaning s }
 {
-    cluster_runs::<M>();
-    runs_end_with_evidence::<M>();
-    requests_are_conserved::<M>();
-    certificates_are_of_logs::<M>();
-    adopted_was_delivered::<M>();
+    restarts_change_nothing::<M>();
 }
 
 // The answer to the words and the input.

@@ -1,12 +1,10 @@
 -- The text that tells how far a run has come.
 use Rattle.std.specs.Prelude.{◌≡◌, ℕ, zero, suc, cond, List, [], ◌∷◌, ◌++◌}
 use Rattle.iss_rules.specs.Concrete.{rules_of}
-use Rattle.iss_theorems.specs.Certified.{AreOfLogs, WereDelivered}
-use Rattle.iss_theorems.specs.Conserved.{AcceptsOnce, IsConserved}
-use Rattle.iss_theorems.specs.Ends.{HasEvidence}
-use Rattle.iss_theorems.specs.OneLog.{IsOneLog, run_after}
 use Rattle.iss_rules.specs.Past.{log_of}
-use Rattle.iss_model.specs.Run.{Net, Progress}
+use Rattle.iss_model.specs.Run.{Net}
+use Rattle.iss_restarts.specs.Courses.{Course}
+use Rattle.iss_restarts.specs.Headline.{IsWhole, course_after}
 use Rattle.iss_causes.specs.declared.causes.Why.{Why}
 use Rattle.iss_report.specs.Text.{drop_line, end_line, node_block}
 use Rattle.iss_request.specs.declared.setups.Setup.{Setup}
@@ -29,16 +27,12 @@ node_blocks s M w (suc n) = node_blocks s M w n ++ block_of s M w n
 
 -- what was lost, the logs of correct nodes, and how the run ended; where it ended before its last event, the logs are those
 -- from before the delivery that showed it
-abbrev pub text_of : {Msg : Type 0} → Setup → Module Msg → Progress Msg → List ℕ
-text_of s M p = drop_lines p.drops ++ node_blocks s M p.held.net s.n ++ end_line p.ended
+abbrev pub text_of : {Msg : Type 0} → Setup → Module Msg → Course Msg → List ℕ
+text_of s M p = drop_lines p.drops ++ node_blocks s M p.machines.held.net s.n ++ end_line p.ended
 
--- The bytes report these events: they are the text of their run, up to its end, which it shows evidence for. Its logs are of one
--- log, which more events only make longer, each request that a correct node took is in one place, certificates are of logs of
--- correct nodes, and what was adopted was delivered.
+-- The bytes report these events: they are the text of their run, up to its end, which it shows evidence for. Whatever disks failed and
+-- cores were made anew, its logs are of one log, which more events only make longer, each request that a correct node took and kept is in
+-- one place, certificates are of logs of correct nodes, and what was adopted was delivered.
 pub record IsReport {Msg : Type 0} (s : Setup) (M : Module Msg) (events : List Event) (bytes : List ℕ) : Type 0 where
-  pub tells : bytes ≡ text_of s M (run_after s M events)
-  pub one_log : IsOneLog s M events
-  pub evidence : HasEvidence s M events
-  pub conserved : AcceptsOnce M → IsConserved s M events
-  pub certified : AreOfLogs s M events
-  pub adopted : WereDelivered s M events
+  pub tells : bytes ≡ text_of s M (course_after s M events)
+  pub whole : IsWhole s M events

@@ -1,10 +1,10 @@
--- Which progress of the model a report stands for.
+-- Which run so far a report stands for.
 use Rattle.std.specs.Prelude.{◌≡◌, ℕ, List, Option, option_map, reverse}
 use Rattle.iss_causes.specs.Ends.{End}
-use Rattle.iss_model.specs.Run.{Progress}
+use Rattle.iss_restarts.specs.Courses.{Course}
 use Rattle.iss_causes.specs.declared.causes.Why.{Why}
-use Rattle.iss_sb.specs.declared.effects.Params.{Params}
-use Rattle.iss_sb.specs.Evidence.{Item, Module}
+use Rattle.iss_sb.specs.Calls.{Relation}
+use Rattle.iss_sb.specs.Evidence.{Module}
 use Rattle.iss_world.specs.Stands.{StandsAt, end_of}
 use Rattle.iss_world.specs.State.{WorldState}
 use Rattle.iss_world.specs.declared.ends.End.{End as Kept}
@@ -21,8 +21,8 @@ abbrev pub end_kept : Option (ℕ × Kept) → Option (ℕ × End)
 end_kept ended = option_map end_at ended
 
 -- the world stands for the run so far, the losses are the run's, oldest first, and so is its end
-pub record StandsForRun {M Msg : Type 0} (m : Module Msg) (stands : M → Params → ℕ → List (Item Msg) → Type 0)
-    (world : WorldState M Msg) (drops : List (ℕ × Why)) (ended : Option (ℕ × Kept)) (p : Progress Msg) : Type 0 where
+pub record StandsForRun {M Msg : Type 0} (m : Module Msg) (stands : Relation M Msg)
+    (world : WorldState M Msg) (drops : List (ℕ × Why)) (ended : Option (ℕ × Kept)) (p : Course Msg) : Type 0 where
   pub stands_for : StandsAt m stands world p
   pub drops_are : reverse drops ≡ p.drops
   pub end_is : end_kept ended ≡ p.ended

@@ -1,23 +1,18 @@
 //! The events of a schedule, one after the other.
 ghost use Rattle.std.specs.Prelude.{◌≡◌, IfOk, None};
-ghost use Rattle.iss_theorems.specs.Certified.{AreOfLogs, WereDelivered};
-ghost use Rattle.iss_theorems.specs.Conserved.{AcceptsOnce, IsConserved};
-ghost use Rattle.iss_theorems.specs.Ends.{HasEvidence};
-ghost use Rattle.iss_theorems.specs.OneLog.{IsOneLog, run_after};
-ghost use Rattle.iss_model.specs.Run.{Progress};
+ghost use Rattle.iss_model.specs.Frames.{frame_of};
+ghost use Rattle.iss_restarts.specs.Courses.{Course};
+ghost use Rattle.iss_restarts.specs.Frames.{goes_on_in};
+ghost use Rattle.iss_restarts.specs.Headline.{IsWhole, course_after};
 ghost use Rattle.iss_rules.specs.Setups.{IsSetupOf};
-ghost use Rattle.iss_model.specs.Frames.{frame_of, goes_on_in};
 ghost use Rattle.iss_replay.specs.Stands.{StandsForRun, numbered};
 ghost use Rattle.iss_schedule.specs.Events.{AreInRange, IsInRange};
 
 use iss_causes::Why;
 use iss_request::{NoMemory, Row};
+use iss_restarts::restarts_change_nothing;
 use iss_sb::{Claim, Sequenced};
 use iss_schedule::{Event, Schedule};
-use iss_theorems::{
-    adopted_was_delivered, certificates_are_of_logs, cluster_runs, requests_are_conserved,
-    runs_end_with_evidence,
-};
 use iss_world::ends::End;
 use iss_world::{Happened, World};
 use std::alloc::Global;
@@ -32,26 +27,18 @@ pub struct Report<M: Sequenced> {
 }
 
 /// Replays a schedule: what its events make of a cluster that has taken nothing, up to the event that shows a claim that its
-/// node never made, or two strings of one digest. The logs of correct nodes are of one log, in which no request stands twice
-/// and each batch was accepted as valid by a correct node, and which more events only make longer; and each request that a
-/// correct node took is in its log, waits there or is in flight. The certificates that correct nodes keep are of logs of correct
-/// nodes, and what correct nodes adopted was delivered at one (ISS, whole protocol).
+/// node never made, or two strings of one digest. Whatever disks failed and cores were made anew, the logs of correct nodes are of one
+/// log, in which no request stands twice and each batch was accepted as valid by a correct node, and which more events only make longer;
+/// and each request that a correct node took and kept is in its log, waits there or is in flight. The certificates that correct nodes
+/// keep are of logs of correct nodes, and what correct nodes adopted was delivered at one (ISS, whole protocol; crashes and recovery).
 pub fn replay<M: Sequenced>(alloc: Global, schedule: &Schedule) -> Result<Report<M>, NoMemory>
     requires good { IsSetupOf M.meaning schedule.now.setup }
     requires range { AreInRange schedule.now.setup schedule.now.events }
-    ensures run { IfOk result (λ r. StandsForRun M.meaning M.stands r.world r.drops r.ended (run_after schedule.now.setup M.meaning schedule.now.events)) }
+    ensures run { IfOk result (λ r. StandsForRun M.meaning M.stands r.world r.drops r.ended (course_after schedule.now.setup M.meaning schedule.now.events)) }
     ensures same { IfOk result (λ r. r.world.running.setup ≡ schedule.now.setup) }
-    ensures one_log { IsOneLog schedule.now.setup M.meaning schedule.now.events }
-    ensures evidence { HasEvidence schedule.now.setup M.meaning schedule.now.events }
-    ensures conserved { AcceptsOnce M.meaning → IsConserved schedule.now.setup M.meaning schedule.now.events }
-    ensures certified { AreOfLogs schedule.now.setup M.meaning schedule.now.events }
-    ensures adopted { WereDelivered schedule.now.setup M.meaning schedule.now.events }
+    ensures whole { IsWhole schedule.now.setup M.meaning schedule.now.events }
 {
-    cluster_runs::<M>();
-    runs_end_with_evidence::<M>();
-    requests_are_conserved::<M>();
-    certificates_are_of_logs::<M>();
-    adopted_was_delivered::<M>();
+    restarts_change_nothing::<M>();
     play(alloc, schedule)
 }
 
@@ -59,7 +46,7 @@ pub fn replay<M: Sequenced>(alloc: Global, schedule: &Schedule) -> Result<Report
 fn play<M: Sequenced>(alloc: Global, schedule: &Schedule) -> Result<Report<M>, NoMemory>
     requires good { IsSetupOf M.meaning schedule.now.setup }
     requires range { AreInRange schedule.now.setup schedule.now.events }
-    ensures run { IfOk result (λ r. StandsForRun M.meaning M.stands r.world r.drops r.ended (run_after schedule.now.setup M.meaning schedule.now.events)) }
+    ensures run { IfOk result (λ r. StandsForRun M.meaning M.stands r.world r.drops r.ended (course_after schedule.now.setup M.meaning schedule.now.events)) }
     ensures same { IfOk result (λ r. r.world.running.setup ≡ schedule.now.setup) }
 {
     let events = schedule.events.as_slice();
@@ -91,7 +78,7 @@ fn go_on<M: Sequenced>(
     event: &Event,
 ) -> Result<Option<End>, NoMemory>
     requires { IsInRange world.old.running.setup event.now }
-    ensures went { IfOk result (λ end. (p : Progress M.Msg) → p.event ≡ number → StandsForRun M.meaning M.stands world.old drops.old None p →
+    ensures went { IfOk result (λ end. (p : Course M.Msg) → p.event ≡ number → StandsForRun M.meaning M.stands world.old drops.old None p →
         StandsForRun M.meaning M.stands world.new drops.new (numbered number end) (goes_on_in (frame_of world.old.running.setup M.meaning) p event.now)) }
     ensures same { world.new.running.setup ≡ world.old.running.setup }
 {

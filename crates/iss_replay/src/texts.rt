@@ -1,7 +1,7 @@
 //! The text of a report.
 ghost use Rattle.std.specs.Prelude.{◌≡◌, ◌<◌, ◌++◌, IfOk, List, OnOk, reverse};
-ghost use Rattle.iss_theorems.specs.OneLog.{run_after};
-ghost use Rattle.iss_model.specs.Run.{Progress};
+ghost use Rattle.iss_restarts.specs.Courses.{Course};
+ghost use Rattle.iss_restarts.specs.Headline.{course_after};
 ghost use Rattle.iss_rules.specs.Setups.{IsSetupOf};
 ghost use Rattle.iss_replay.specs.Report.{IsReport, block_of, drop_lines, node_blocks, text_of};
 ghost use Rattle.iss_replay.specs.Stands.{StandsForRun, end_kept};
@@ -14,11 +14,8 @@ use crate::replays::Report;
 use iss_causes::Why;
 use iss_report::{put_collision, put_drop, put_forged, put_node, put_ok};
 use iss_request::{Bytes, NoMemory, NodeId};
+use iss_restarts::restarts_change_nothing;
 use iss_sb::Sequenced;
-use iss_theorems::{
-    adopted_was_delivered, certificates_are_of_logs, cluster_runs, requests_are_conserved,
-    runs_end_with_evidence,
-};
 use iss_world::World;
 use iss_world::claims::is_correct;
 use iss_world::ends::End;
@@ -28,24 +25,20 @@ use std::alloc::Global;
 /// the report of a schedule, its logs are of one log, its requests are conserved, certificates are of logs of correct nodes, and
 /// what was adopted was delivered, as `replay` says.
 pub fn text<M: Sequenced>(alloc: Global, report: &Report<M>) -> Result<Bytes, NoMemory>
-    ensures tells { IfOk result (λ bytes. (p : Progress M.Msg) → StandsForRun M.meaning M.stands report.now.world report.now.drops report.now.ended p →
+    ensures tells { IfOk result (λ bytes. (p : Course M.Msg) → StandsForRun M.meaning M.stands report.now.world report.now.drops report.now.ended p →
         bytes ≡ text_of report.now.world.running.setup M.meaning p) }
     ensures reports { IfOk result (λ bytes. IsSetupOf M.meaning report.now.world.running.setup →
         (events : List Event) → AreInRange report.now.world.running.setup events →
-        StandsForRun M.meaning M.stands report.now.world report.now.drops report.now.ended (run_after report.now.world.running.setup M.meaning events) →
+        StandsForRun M.meaning M.stands report.now.world report.now.drops report.now.ended (course_after report.now.world.running.setup M.meaning events) →
         IsReport report.now.world.running.setup M.meaning events bytes) }
 {
-    cluster_runs::<M>();
-    runs_end_with_evidence::<M>();
-    requests_are_conserved::<M>();
-    certificates_are_of_logs::<M>();
-    adopted_was_delivered::<M>();
+    restarts_change_nothing::<M>();
     write(alloc, report)
 }
 
 // Writes the text.
 fn write<M: Sequenced>(alloc: Global, report: &Report<M>) -> Result<Bytes, NoMemory>
-    ensures { IfOk result (λ bytes. (p : Progress M.Msg) → StandsForRun M.meaning M.stands report.now.world report.now.drops report.now.ended p →
+    ensures { IfOk result (λ bytes. (p : Course M.Msg) → StandsForRun M.meaning M.stands report.now.world report.now.drops report.now.ended p →
         bytes ≡ text_of report.now.world.running.setup M.meaning p) }
 {
     let mut out = Vec::new(alloc);
@@ -67,8 +60,8 @@ fn put_drops(out: &mut Vec<u8>, drops: &[(u64, Why)]) -> Result<(), NoMemory>
 
 // Writes the block of each correct node, ascending.
 fn put_nodes<M: Sequenced>(out: &mut Vec<u8>, world: &World<M>) -> Result<(), NoMemory>
-    ensures { OnOk result ((p : Progress M.Msg) → StandsAt M.meaning M.stands world.now p →
-        out.new.items ≡ out.old.items ++ node_blocks world.now.running.setup M.meaning p.held.net world.now.running.setup.n) }
+    ensures { OnOk result ((p : Course M.Msg) → StandsAt M.meaning M.stands world.now p →
+        out.new.items ≡ out.old.items ++ node_blocks world.now.running.setup M.meaning p.machines.held.net world.now.running.setup.n) }
 {
     let nodes = world.setup().n;
     for node in 0..nodes {
@@ -80,8 +73,8 @@ fn put_nodes<M: Sequenced>(out: &mut Vec<u8>, world: &World<M>) -> Result<(), No
 // Writes the block of one node, where it is correct.
 fn put_block<M: Sequenced>(out: &mut Vec<u8>, world: &World<M>, node: u32) -> Result<(), NoMemory>
     requires { node < world.now.running.setup.n }
-    ensures { OnOk result ((p : Progress M.Msg) → StandsAt M.meaning M.stands world.now p →
-        out.new.items ≡ out.old.items ++ block_of world.now.running.setup M.meaning p.held.net node) }
+    ensures { OnOk result ((p : Course M.Msg) → StandsAt M.meaning M.stands world.now p →
+        out.new.items ≡ out.old.items ++ block_of world.now.running.setup M.meaning p.machines.held.net node) }
 {
     if !is_correct(world.setup(), node) {
         return Ok(());

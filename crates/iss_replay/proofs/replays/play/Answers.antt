@@ -1,6 +1,6 @@
 use Rattle.std.proofs.Common.{◌<◌, ◌≡◌, ◌∙◌, length, arith, List, subst, ap, get_or, take, None, Some, Option, ◌+◌}
-use Rattle.iss_theorems.specs.OneLog.{run_after}
-use Rattle.iss_model.specs.Run.{goes_on}
+use Rattle.iss_restarts.specs.Courses.{goes_on}
+use Rattle.iss_restarts.specs.Headline.{course_after}
 use Rattle.iss_rules.specs.Concrete.{rules_of}
 use Rattle.iss_rules.specs.Formats.{formats_of}
 use Rattle.iss_schedule.specs.declared.schedules.Event.{Event}
@@ -28,8 +28,8 @@ returns-in-Some-clause-run g c =
     let is : e ≡ get_or es i e = subst (λ (fs : List Event). e ≡ get_or fs i e) c.as_slice-events.ensures c.index-events-place.is in
     let before = c.loop-place.invariant in
     let after = subst (λ (o : Option End). StandsForRun m stands c.go_on.new.world c.go_on.new.drops (numbered i o)
-    (goes_on c.loop-place.world.running.setup (formats_of c.loop-place.world.running.setup m) (rules_of c.loop-place.world.running.setup) m (run_after s m (take i es)) e))
-    c.in-Some.is (c.in_ok-end.ensures.went (run_after s m (take i es)) before.number before.run) in
+    (goes_on c.loop-place.world.running.setup (formats_of c.loop-place.world.running.setup m) (rules_of c.loop-place.world.running.setup) m (course_after s m (take i es)) e))
+    c.in-Some.is (c.in_ok-end.ensures.went (course_after s m (take i es)) before.number before.run) in
     run-over m stands s c.go_on.new.world c.go_on.new.drops (i, c.in-Some.end) es (i + 1)
     (run-next m stands s c.loop-place.world.running.setup c.go_on.new.world c.go_on.new.drops (Some (i, c.in-Some.end)) es i e before.same lt is before.run.end_is after)
 
@@ -45,8 +45,8 @@ loop-place-preserved g c =
     let is : e ≡ get_or es i e = subst (λ (fs : List Event). e ≡ get_or fs i e) c.as_slice-events.ensures c.index-events-place.is in
     let before = c.loop-place.invariant in
     let after = subst (λ (o : Option End). StandsForRun m stands c.go_on.new.world c.go_on.new.drops (numbered i o)
-    (goes_on c.loop-place.world.running.setup (formats_of c.loop-place.world.running.setup m) (rules_of c.loop-place.world.running.setup) m (run_after s m (take i es)) e))
-    c.in_default.is (c.in_ok-end.ensures.went (run_after s m (take i es)) before.number before.run) in
+    (goes_on c.loop-place.world.running.setup (formats_of c.loop-place.world.running.setup m) (rules_of c.loop-place.world.running.setup) m (course_after s m (take i es)) e))
+    c.in_default.is (c.in_ok-end.ensures.went (course_after s m (take i es)) before.number before.run) in
     record {
       run = run-next m stands s c.loop-place.world.running.setup c.go_on.new.world c.go_on.new.drops None es i e before.same lt is before.run.end_is after;
       number = number-next m stands s es i e lt is before.run.end_is before.number;
