@@ -5,6 +5,7 @@ use Rattle.iss_sb.specs.declared.effects.Claim.{Claim}
 use Rattle.iss_sb.specs.declared.effects.To.{To}
 use Rattle.iss_world.specs.Books.{AreSigned}
 use Rattle.iss_world.specs.State.{RunningState}
+use Rattle.iss_world.specs.Steps.{ends_by}
 use Rattle.iss_world.proofs.StepLemmas.{kept-end, no-end, same-network, still-running, turn-ended, turn-stands, with-network}
 use Rattle.iss_world.proofs.running.Running.taken.Goals as goal
 
@@ -33,7 +34,8 @@ returns-in-Some-clause-happened g c =
     rw (← c.self.view_is) (λ w behind t b made.
     turn-ended g.M.Sequenced.meaning g.M.Sequenced.stands v c.args.core c.self.invariant.0 lt w behind t c.args.slots c.args.epoch.0 b c.index_mut.result.now c.retreat.new.self at
     c.retreat.ensures.log c.retreat.ensures.epoch c.self.inside.network c.self.inside.signed c.ends.new.hashed c.args.outcome.now c.in-Some.end made
-    (kept-end c.in_ok-ended.ended c.in-Some.end _ c.in-Some.is (c.in_ok-ended.ensures.told w.held.signed w.held.hashed b.signed b.hashed)))
+    (kept-end c.in_ok-ended.ended c.in-Some.end (ends_by c.self.inside.setup w.held.signed w.held.hashed c.args.outcome.now.early c.args.outcome.now.hashed)
+    c.in-Some.is (c.in_ok-ended.ensures.told w.held.signed w.held.hashed b.signed b.hashed)))
 
 pub returns-in_ok-post_all-in-None-clause-happened : goal.returns-in_ok-post_all-in-None-clause-happened
 returns-in_ok-post_all-in-None-clause-happened g c =
@@ -41,7 +43,8 @@ returns-in_ok-post_all-in-None-clause-happened g c =
     let lt : c.args.core < length c.self.inside.nodes.items = omega (arith, ap (λ (z : RunningState _ _). cores_of z.setup) c.self.view_is, c.self.invariant.0.count) in
     rw (← c.self.view_is) (λ w behind t b made.
     turn-stands g.M.Sequenced.meaning g.M.Sequenced.stands v c.args.core c.self.invariant.0 lt w behind t c.args.slots c.args.epoch.0 b c.args.outcome.now c.post_all.new.network c.book_own.new.signed c.ends.new.hashed made
-    (no-end c.in_ok-ended.ended _ c.in-None.is (c.in_ok-ended.ensures.told w.held.signed w.held.hashed b.signed b.hashed))
+    (no-end c.in_ok-ended.ended (ends_by c.self.inside.setup w.held.signed w.held.hashed c.args.outcome.now.early c.args.outcome.now.hashed)
+    c.in-None.is (c.in_ok-ended.ensures.told w.held.signed w.held.hashed b.signed b.hashed))
     (c.in_ok-post_all-in-None.ensures.posted ∙ ap (λ (xs : List (To × List ℕ)). posted_all c.self.inside.setup c.self.inside.network c.args.core xs) c.as_slice.ensures)
     (subst (λ (cs : List Claim). AreSigned c.book_own.new.signed (booked c.self.inside.setup c.args.core cs ++ w.held.signed)) c.as_slice-own.ensures (c.in_ok-book_own-in-None.ensures w.held.signed b.signed))
     (c.in_ok-ended.ensures.booked w.held.hashed b.hashed c.in-None.is))
