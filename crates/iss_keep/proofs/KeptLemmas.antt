@@ -26,7 +26,7 @@ use Rattle.iss_sb.specs.Evidence.{Module}
 use Rattle.iss_sb.specs.Calls.{AreToNodes, Relation}
 use Rattle.iss_keep.specs.Cores.{core_after, core_of, core_with, step_of}
 use Rattle.iss_keep.specs.Entries.{event_in, spell_event}
-use Rattle.iss_keep.specs.State.{AsksNobody, IsAt, IsKept, KeptState, LeadsTo, StandsFor, state_over}
+use Rattle.iss_keep.specs.State.{AsksNobody, IsAt, IsKept, KeptState, LeadsTo, state_over}
 use Rattle.iss_keep.specs.Keeping.{HasStepped}
 use Rattle.iss_keep.specs.Replays.{IsOf, IsReplayed}
 use Rattle.iss_keep.specs.Steps.{IsAnswer, IsDrop, IsTurn, ShowsAsBefore, Writes, entries_after, makes_stale}

@@ -1,15 +1,17 @@
 -- Which node a core runs, and cores at their start.
 use Rattle.std.proofs.Common.{inl, inr, ◌≡◌, ◌⊎◌, ℕ, zero, suc, ◌+◌, ◌-◌, ◌<◌, ◌≤◌, false, List, [], ◌∷◌, ◌++◌, length, length-append, slice_get, Some, refl, sym, ap, ◌∙◌, subst, arith, slice_index_or}
 use Rattle.std.proofs.lemmas.List.{length-replicate}
-use Rattle.iss_model.specs.Run.{begin_held, cores_of}
+use Rattle.iss_disk.specs.declared.memory.MemoryDisk.{MemoryDisk}
+use Rattle.iss_keep.specs.State.{KeptState}
+use Rattle.iss_model.specs.Run.{cores_of}
 use Rattle.iss_rules.specs.Setups.{IsSetupOf}
 use Rattle.iss_network.specs.Network.{Network, empty_network}
-use Rattle.iss_node.specs.State.{NodeState}
 use Rattle.iss_request.specs.Setup.{AreRising, IsGoodSetup}
 use Rattle.iss_request.specs.declared.ids.NodeId.{NodeId}
 use Rattle.iss_request.specs.declared.setups.Setup.{Setup}
-use Rattle.iss_sb.specs.declared.effects.Params.{Params}
-use Rattle.iss_sb.specs.Evidence.{Item, Module}
+use Rattle.iss_restarts.specs.Courses.{begin_machines}
+use Rattle.iss_sb.specs.Calls.{Relation}
+use Rattle.iss_sb.specs.Evidence.{Module}
 use Rattle.iss_world.specs.Books.{AreHashed, AreSigned}
 use Rattle.iss_world.specs.Shape.{AreForCores, IsRunning}
 use Rattle.iss_world.specs.Stands.{AreFresh, IsFresh, Runs}
@@ -35,17 +37,17 @@ at-end (y ∷ ys) x g (suc i) e = elim (at-end ys x g i e) [
   | inr h ↦ inr (ap suc h.0, h.1)
 ]
 
-module _ {M Msg : Type 0} (m : Module Msg) (stands : M → Params → ℕ → List (Item Msg) → Type 0) where
-  pub fresh-more : (s : Setup) (n : ℕ) (xs : List (NodeState M Msg)) (x : NodeState M Msg) → AreFresh m stands s n xs → IsFresh m stands s n x → AreFresh m stands s (n + 1) (xs ++ x ∷ [])
+module _ {M Msg : Type 0} (m : Module Msg) (stands : Relation M Msg) where
+  pub fresh-more : (s : Setup) (n : ℕ) (xs : List (KeptState M Msg MemoryDisk)) (x : KeptState M Msg MemoryDisk) → AreFresh m stands s n xs → IsFresh m stands s n x → AreFresh m stands s (n + 1) (xs ++ x ∷ [])
   fresh-more s n xs x h f = record {
     count = length-append xs (x ∷ []) ∙ ap (λ k. k + 1) h.count;
     each = λ i g e. elim (at-end xs x g i e) [
       | inl t ↦ h.each i g t
-      | inr t ↦ subst (λ (k : ℕ). IsFresh m stands s k g) (sym (t.0 ∙ h.count)) (subst (λ (z : NodeState M Msg). IsFresh m stands s n z) (sym t.1) f)
+      | inr t ↦ subst (λ (k : ℕ). IsFresh m stands s k g) (sym (t.0 ∙ h.count)) (subst (λ (z : KeptState M Msg MemoryDisk). IsFresh m stands s n z) (sym t.1) f)
     ];
   }
 
-  pub fresh-running : (s t : Setup) (nodes : List (NodeState M Msg)) (net : Network) (signed : List (List ℕ)) (hashed : List (List ℕ × List ℕ)) (cores : ℕ) → IsSetupOf m s → t ≡ s →
+  pub fresh-running : (s t : Setup) (nodes : List (KeptState M Msg MemoryDisk)) (net : Network) (signed : List (List ℕ)) (hashed : List (List ℕ × List ℕ)) (cores : ℕ) → IsSetupOf m s → t ≡ s →
       cores ≡ cores_of s → AreFresh m stands s (cores_of s) nodes → net ≡ empty_network cores →
       IsRunning m (record { setup = t; nodes = nodes; network = net; signed = signed; hashed = hashed })
   fresh-running s t nodes net signed hashed cores good e ec h en =
@@ -63,9 +65,9 @@ module _ {M Msg : Type 0} (m : Module Msg) (stands : M → Params → ℕ → Li
       })
 
   -- fresh cores with no packets, and books with the empty string alone, stand for the start of a run
-  pub fresh-runs : (s t : Setup) (nodes : List (NodeState M Msg)) (net : Network) (signed : List (List ℕ)) (hashed : List (List ℕ × List ℕ)) (cores : ℕ) → cores ≡ cores_of s →
+  pub fresh-runs : (s t : Setup) (nodes : List (KeptState M Msg MemoryDisk)) (net : Network) (signed : List (List ℕ)) (hashed : List (List ℕ × List ℕ)) (cores : ℕ) → cores ≡ cores_of s →
       AreFresh m stands s (cores_of s) nodes → net ≡ empty_network cores → AreSigned signed [] → AreHashed hashed ([] ∷ []) →
-      Runs m stands (record { setup = t; nodes = nodes; network = net; signed = signed; hashed = hashed }) (begin_held s)
+      Runs m stands (record { setup = t; nodes = nodes; network = net; signed = signed; hashed = hashed }) (begin_machines s)
   fresh-runs s t nodes net signed hashed cores ec h e es eh = record {
     cores = λ i g at. (h.each i g at).stands_for;
     network = e ∙ ap (λ (k : ℕ). empty_network k) ec;

@@ -7,13 +7,7 @@ use Rattle.iss_request.specs.declared.setups.Setup.{Setup}
 use Rattle.iss_keys.specs.Directories.{DirectoryView, client_secret, directory_of}
 use Rattle.iss_keys.specs.KeyStates.{KeyState}
 use Rattle.iss_keys.specs.Signatures.{signature_of}
-use Rattle.iss_keys.proofs.DirectoryLemmas.{length-clients, length-nodes}
-
-pub own-number : (s : Setup) (i : ℕ) (d : DirectoryView) → d ≡ keys_of s → i < s.n → i < length d.nodes
-own-number s i d is lt =
-    let count = length-nodes s.n s.clients s.keys in
-    let same : length d.nodes ≡ length (keys_of s).nodes = ap (λ (z : DirectoryView). length z.nodes) is in
-    omega (arith, count, same, lt)
+use Rattle.iss_keys.proofs.DirectoryLemmas.{length-clients}
 
 pub client-number : (s : Setup) (i : ℕ) (d : DirectoryView) → d ≡ keys_of s → i < s.clients → i < length d.clients
 client-number s i d is lt =

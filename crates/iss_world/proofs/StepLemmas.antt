@@ -1,49 +1,49 @@
 -- One step of a core, and the run that the cores stand for.
-use Rattle.std.proofs.Common.{inl, inr, ◌≡◌, ◌≢◌, ◌⊎◌, ℕ, zero, suc, ◌+◌, ◌<◌, ◌≤◌, Bool, true, false, cond, List, [], ◌∷◌, ◌++◌, length, length-append, take, set, slice_get, Option, Some, None, reverse, refl, sym, ap, ◌∙◌, subst, arith}
+use Rattle.std.proofs.Common.{inl, inr, ◌≡◌, ◌≢◌, ◌⊎◌, ℕ, zero, suc, ◌<◌, ◌≤◌, Bool, true, false, cond, List, [], ◌∷◌, ◌++◌, length, take, set, slice_get, Option, Some, None, reverse, refl, sym, ap, ◌∙◌, subst, arith}
 use Rattle.std.specs.Prelude.{eqb, option_map}
 use Rattle.std.proofs.lemmas.Bool.Decides.{eqb_tells}
-use Rattle.std.proofs.lemmas.List.{length-reverse, reverse-append, reverse-reverse}
-use Rattle.std.proofs.Math.Seq.{take-append_seam}
-use Rattle.iss_base.specs.Lists.{first_of, over}
-use Rattle.iss_base.proofs.Lists.{none-some, some-injective}
-use Rattle.iss_model.proofs.Casts.{kept-sound, step-grown}
-use Rattle.iss_rules.proofs.Ending.{HasSlots}
-use Rattle.iss_model.proofs.Rows.{each-holds, settles-holds}
-use Rattle.iss_model.proofs.Steps.{Took, adopted, asked, cast, fired, handed, kept, received, sought, took, voted}
-use Rattle.iss_rules.proofs.Windows.{are-windows}
+use Rattle.iss_base.specs.Lists.{first_of, over, set_at}
+use Rattle.iss_base.proofs.Lists.{none-some, set_at-same, some-injective}
+use Rattle.iss_keep.proofs.TakenLemmas.{log-cut, log-long}
 use Rattle.iss_rules.specs.Books.{Signed}
 use Rattle.iss_rules.specs.Concrete.{rules_of}
 use Rattle.iss_rules.specs.Formats.{formats_of}
 use Rattle.iss_rules.specs.Parcels.{Formats}
-use Rattle.iss_model.specs.Node.{Core, Early, Stepped, Taken, Turn, adopts_piece, onward, settles, step, takes_each}
+use Rattle.iss_rules.specs.Setups.{IsSetupOf}
+use Rattle.iss_log.specs.LogState.{GoesOn}
+use Rattle.iss_model.specs.Node.{Core, Dropped, Stepped, Taken, Turn, step}
 use Rattle.iss_rules.specs.Past.{log_of}
 use Rattle.iss_rules.specs.Rules.{Rules}
 use Rattle.iss_causes.specs.Ends.{End, Forged}
-use Rattle.iss_model.specs.Run.{Happening, Held, after_step, at_core, booked, by_collision, by_forged, claims_at, collision_in, done, early_of, ended_by, first_forged, is_forged, node_of, posted_all, turned_to}
-use Rattle.iss_model.specs.Sound.{IsSoundCore}
+use Rattle.iss_model.specs.Run.{Happening, Held, after_step, at_core, booked, by_collision, by_forged, claims_at, collision_in, done, early_of, ended_by, first_forged, node_of, posted_all, turned_to}
 use Rattle.iss_causes.specs.declared.causes.NodeEvent.{NodeEvent}
 use Rattle.iss_causes.specs.declared.causes.Why.{Why}
+use Rattle.iss_causes.specs.declared.causes.Why.TheVariants.{Stopped}
+use Rattle.iss_disk.specs.declared.memory.MemoryDisk.{MemoryDisk}
+use Rattle.iss_keep.specs.State.{IsAt, KeptState}
+use Rattle.iss_keep.specs.Steps.{IsSame}
+use Rattle.iss_keep.specs.declared.answers.Answer.{Answer}
+use Rattle.iss_keep.specs.declared.answers.Answer.TheVariants.{Dropped as Was_dropped, Failed, Taken as Was_kept}
 use Rattle.iss_network.specs.Network.{Network}
-use Rattle.iss_node.specs.State.{NodeState, Stands, bare}
-use Rattle.iss_node.specs.Steps.{HasRetreated, IsAnswer, IsDrop, IsMade, IsOfNodes, IsTurn}
-use Rattle.iss_node.specs.declared.answers.Answer.{Answer}
-use Rattle.iss_node.specs.declared.answers.Answer.TheVariants.{Dropped as Was_dropped, Taken as Was_taken}
+use Rattle.iss_node.specs.Steps.{IsMade, IsOfNodes}
 use Rattle.iss_node.specs.declared.answers.Outcome.{Outcome}
-use Rattle.iss_node.proofs.OwnEpoch.{has-slots}
 use Rattle.iss_request.specs.declared.ids.NodeId.{NodeId}
 use Rattle.iss_request.specs.declared.requests.Value.{Value}
 use Rattle.iss_request.specs.declared.setups.Setup.{Setup}
+use Rattle.iss_restarts.specs.Courses.{Machines, Upshot, at_machine, by_step, carried, core_of as core_of_kept, remade, stops, was_lost, went_on, with_disk}
+use Rattle.iss_restarts.specs.Disks.{Disk, fails, fused, keeps, may_keep, works_again}
 use Rattle.iss_sb.specs.declared.effects.Claim.{Claim}
-use Rattle.iss_sb.specs.declared.effects.Params.{Params}
 use Rattle.iss_sb.specs.declared.effects.To.{To}
-use Rattle.iss_sb.specs.Calls.{AreToNodes}
-use Rattle.iss_sb.specs.Evidence.{Item, Module}
+use Rattle.iss_sb.specs.Calls.{AreToNodes, Relation}
+use Rattle.iss_sb.specs.Evidence.{Module}
+use Rattle.iss_restarts.proofs.Entering.{forged-first}
 use Rattle.iss_world.proofs.BookLemmas.{forged-append}
+use Rattle.iss_world.proofs.OverLemmas.{at-working, epoch-grown, log-grown, over-shows, over-stale}
 use Rattle.iss_world.specs.Books.{AreHashed, AreSigned}
 use Rattle.iss_world.specs.Shape.{IsNetworkOf, IsRunning}
-use Rattle.iss_world.specs.Stands.{HasChanged, IsShown, Runs, Shows, end_of}
+use Rattle.iss_world.specs.Stands.{HasChanged, IsShown, Runs, Shows, ShowsCore, StandsOver, end_of}
 use Rattle.iss_world.specs.State.{RunningState}
-use Rattle.iss_world.specs.Steps.{IsBehind, ends_by, forged_in, stepped_to}
+use Rattle.iss_world.specs.Steps.{HasAnswered, IsBehind, IsKeptTurn, ends_by, forged_in, kept_at, kept_to, stepped_to}
 use Rattle.iss_world.specs.declared.ends.Change.{Change}
 use Rattle.iss_world.specs.declared.ends.Change.TheVariants.{Done, Lost, Ended}
 use Rattle.iss_world.specs.declared.ends.End.{End as Kept}
@@ -68,7 +68,7 @@ length-set_at (x ∷ xs) zero a = refl
 length-set_at (x ∷ xs) (suc i) a = ap suc (length-set_at xs i a)
 
 -- what stands at place j after a write at place i
-written : {A : Type 0} (xs : List A) (i j : ℕ) (a g : A) → i < length xs → slice_get (set xs i a) j ≡ Some g →
+pub written : {A : Type 0} (xs : List A) (i j : ℕ) (a g : A) → i < length xs → slice_get (set xs i a) j ≡ Some g →
     ((eqb j i ≡ true) × (j ≡ i) × (g ≡ a)) ⊎ ((eqb j i ≡ false) × (slice_get xs j ≡ Some g))
 written {A} xs i j a g lt h =
     elim (eqb_tells j i) [
@@ -81,62 +81,7 @@ written {A} xs i j a g lt h =
       | inr t ↦ inr (t.0, sym (get-set_other xs i j a t.1) ∙ h)
     ]
 
--- a later log without what joined it
-pub cut-back : (old new newer : List Value) → reverse new ≡ newer ++ reverse old → take (length old) new ≡ old
-cut-back old new newer e =
-    let all : new ≡ old ++ reverse newer =
-    sym (reverse-reverse new) ∙ ap (λ (xs : List Value). reverse xs) e ∙ reverse-append newer (reverse old) ∙ ap (λ (xs : List Value). xs ++ reverse newer) (reverse-reverse old) in
-    ap (λ (xs : List Value). take (length old) xs) all ∙ take-append_seam old (reverse newer)
-
-pub longer : (old new newer : List Value) → reverse new ≡ newer ++ reverse old → length old ≤ length new
-longer old new newer e =
-    let a = length-reverse new in
-    let b = length-reverse old in
-    let c : length (reverse new) ≡ length newer + length (reverse old) = ap (λ (xs : List Value). length xs) e ∙ length-append newer (reverse old) in
-    omega (arith, a, b, c)
-
--- ---- what the model's step does to a core's epoch
-
-le-refl : (n : ℕ) → n ≤ n
-le-refl n = omega arith
-
-le-suc : (e n : ℕ) → e ≤ n → e ≤ suc n
-le-suc e n h = omega (arith, h)
-
-module _ {Msg : Type 0} (F : Formats Msg) (R : Rules) (M : Module Msg) (me : ℕ) where
-  epoch-settles : (e : ℕ) (t : Turn Msg) → e ≤ t.core.past.epoch → e ≤ (settles F R M me t).core.past.epoch
-  epoch-settles e t h = settles-holds F R M me (λ t. e ≤ t.core.past.epoch) (λ t l input. Unit {0}) (λ t l input k fit come. k)
-      (λ t k complete. le-suc e t.core.past.epoch k) (λ t claims k. k) t h (λ done u x i k q r. tt)
-
-  epoch-tried : (e n : ℕ) (xs : List (Early Msg)) (t : Turn Msg) → e ≤ t.core.past.epoch → e ≤ (onward t (takes_each F R M me n xs)).core.past.epoch
-  epoch-tried e n xs t h = each-holds F R M me (λ t. e ≤ t.core.past.epoch) (λ t l input. Unit {0}) (λ t l input k fit come. k)
-      (λ t k complete. le-suc e t.core.past.epoch k) (λ t claims k. k) n xs t h (λ u x i k q r. tt)
-
-  took-epoch : (c : Core Msg) (event : NodeEvent) (t : Turn Msg) → Took F R M me c event t → c.past.epoch ≤ t.core.past.epoch
-  took-epoch c event t (received k l msg u un b e i q) = rw q (epoch-settles c.past.epoch u (rw i.is (le-refl c.past.epoch)))
-  took-epoch c event t (kept k l msg u b e i) = rw i.is (le-refl c.past.epoch)
-  took-epoch c event t (asked k q u b r) = rw r.is (le-refl c.past.epoch)
-  took-epoch c event t (cast s u i q) = rw q (epoch-settles c.past.epoch u (rw i.is (le-refl c.past.epoch)))
-  took-epoch c event t (voted k v u b i) = rw i.is (le-refl c.past.epoch)
-  took-epoch c event t (handed k cert u b i) = rw i.is (le-refl c.past.epoch)
-  took-epoch c event t (adopted k p u b i) =
-      rw i.is (epoch-tried c.past.epoch (suc c.past.epoch) c.early (adopts_piece R M me c p) (le-suc c.past.epoch c.past.epoch (le-refl c.past.epoch)))
-  took-epoch c event t (sought peer q) = rw q (le-refl c.past.epoch)
-  took-epoch c event t (fired l u i q) = rw q (epoch-settles c.past.epoch u (rw i.is (le-refl c.past.epoch)))
-
-  pub step-epoch : (c : Core Msg) (event : NodeEvent) (t : Turn Msg) → step F R M me c event ≡ Taken t → c.past.epoch ≤ t.core.past.epoch
-  step-epoch c event t q = took-epoch c event t (took F R M me c event t q)
-
 -- ---- what is tested
-
-keep-some : (b : Bool) (c x : Claim) (o p : Option Claim) → cond b (Some c) o ≡ Some x → (o ≡ Some x → p ≡ Some x) → cond b (Some c) p ≡ Some x
-keep-some true c x o p h k = h
-keep-some false c x o p h k = k h
-
-forged-left : (s : Setup) (R : Rules) (book : List Signed) (xs ys : List Claim) (x : Claim) → first_forged s R book xs ≡ Some x → first_forged s R book (xs ++ ys) ≡ Some x
-forged-left s R book [] ys x h = absurd (none-some x h)
-forged-left s R book (c ∷ xs) ys x h =
-    keep-some (is_forged s R book c) c x (first_forged s R book xs) (first_forged s R book (xs ++ ys)) h (λ t. forged-left s R book xs ys x t)
 
 module _ {Msg : Type 0} (m : Module Msg) (s : Setup) (F : Formats Msg) (h : Held Msg) (c : ℕ) (event : NodeEvent) (claims : List Claim)
     (are : claims ≡ claims_at F (rules_of s) m (node_of s c) (h.net.cores c) event) where
@@ -154,7 +99,7 @@ module _ {Msg : Type 0} (m : Module Msg) (s : Setup) (F : Formats Msg) (h : Held
       let stepped = step F (rules_of s) m (node_of s c) (h.net.cores c) event in
       let here = claims_at F (rules_of s) m (node_of s c) (h.net.cores c) event in
       let one : first_forged s (rules_of s) h.signed here ≡ Some claim = ap (λ (cs : List Claim). first_forged s (rules_of s) h.signed cs) (sym are) ∙ sym is in
-      ap (λ (o : Option Claim). by_forged o h (after_step s h c stepped)) (forged-left s (rules_of s) h.signed here (early_of stepped) claim one)
+      ap (λ (o : Option Claim). by_forged o h (after_step s h c stepped)) (forged-first s (rules_of s) h.signed here (early_of stepped) claim one)
 
 ending : {Msg : Type 0} (f : Option Claim) (o : Option End) (h : Held Msg) (next : Held Msg) (e : End) → first_of (forged_in f) o ≡ Some e →
     by_forged f h (by_collision o h next) ≡ ended_by h e
@@ -198,35 +143,93 @@ made-ends : (s : Setup) {Msg : Type 0} (h : Held Msg) (t : Turn Msg) (o : Outcom
 made-ends s h t o made =
     ap (λ (cs : List Claim). ends_by s h.signed h.hashed cs o.hashed) made.early ∙ ap (λ (xs : List (List ℕ)). ends_by s h.signed h.hashed t.early xs) made.hashed
 
-module _ {M Msg : Type 0} (m : Module Msg) (stands : M → Params → ℕ → List (Item Msg) → Type 0) where
+-- ---- an event at a core, by its disk
+
+either : {A : Type 0} (b : Bool) (x y z : A) → x ≡ z → y ≡ z → cond b x y ≡ z
+either true x y z p q = p
+either false x y z p q = q
+
+module _ {Msg : Type 0} (m : Module Msg) (s : Setup) (F : Formats Msg) (w : Machines Msg) (c : ℕ) (event : NodeEvent) where
+  abbrev its_step : Stepped Msg
+  its_step = step F (rules_of s) m (node_of s c) (w.held.net.cores c) event
+
+  abbrev ended_with : Claim → Upshot Msg
+  ended_with claim = record { machines = w; lost = None; ended = Some (Forged claim) }
+
+  -- a core whose disk has failed takes nothing
+  pub machine-stopped : (w.disks c).failed ≡ true → at_machine s F (rules_of s) m w c event ≡ was_lost w Stopped
+  machine-stopped e = ap (λ (b : Bool). cond b (was_lost w Stopped) (by_step s F (rules_of s) m w c event its_step)) e
+
+  machine-goes : (w.disks c).failed ≡ false → at_machine s F (rules_of s) m w c event ≡ by_step s F (rules_of s) m w c event its_step
+  machine-goes e = ap (λ (b : Bool). cond b (was_lost w Stopped) (by_step s F (rules_of s) m w c event its_step)) e
+
+  module _ (claims : List Claim) (are : claims ≡ claims_at F (rules_of s) m (node_of s c) (w.held.net.cores c) event) (working : (w.disks c).failed ≡ false) where
+    abbrev room : Bool
+    room = may_keep (w.disks c).passes
+
+    first-is : (o : Option Claim) → first_forged s (rules_of s) w.held.signed claims ≡ o →
+        first_forged s (rules_of s) w.held.signed (claims_at F (rules_of s) m (node_of s c) (w.held.net.cores c) event) ≡ o
+    first-is o is = ap (λ (cs : List Claim). first_forged s (rules_of s) w.held.signed cs) (sym are) ∙ is
+
+    forged-step : (claim : Claim) → Some claim ≡ first_forged s (rules_of s) w.held.signed claims → (o : Stepped Msg) →
+        by_step s F (rules_of s) m w c event o ≡ ended_with claim
+    forged-step claim is (Dropped why) = ap (λ (d : Happening Msg). carried w w.disks d) (at-forged m s F w.held c event claims are claim is)
+    forged-step claim is (Taken turn) =
+        either room (carried w (kept_at w c event) (at_core s F (rules_of s) m w.held c event))
+        (stops (first_forged s (rules_of s) w.held.signed (claims_at F (rules_of s) m (node_of s c) (w.held.net.cores c) event)) w c) (ended_with claim)
+        (ap (λ (d : Happening Msg). carried w (kept_at w c event) d) (at-forged m s F w.held c event claims are claim is))
+        (ap (λ (o : Option Claim). stops o w c) (first-is (Some claim) (sym is)))
+
+    -- what it claims is forged
+    pub machine-forged : (claim : Claim) → Some claim ≡ first_forged s (rules_of s) w.held.signed claims → at_machine s F (rules_of s) m w c event ≡ ended_with claim
+    machine-forged claim is = machine-goes working ∙ forged-step claim is its_step
+
+    kept-step : first_forged s (rules_of s) w.held.signed claims ≡ None → (o : Stepped Msg) → its_step ≡ o →
+        by_step s F (rules_of s) m w c event o ≡ kept_to s w c event o
+    kept-step none (Dropped why) q =
+        ap (λ (d : Happening Msg). carried w w.disks d) (at-stepped m s F w.held c event claims are none ∙ ap (λ (o : Stepped Msg). stepped_to s w.held c o) q)
+    kept-step none (Taken turn) q =
+        ap (λ (d : Happening Msg). cond room (carried w (kept_at w c event) d)
+        (stops (first_forged s (rules_of s) w.held.signed (claims_at F (rules_of s) m (node_of s c) (w.held.net.cores c) event)) w c))
+        (at-stepped m s F w.held c event claims are none ∙ ap (λ (o : Stepped Msg). stepped_to s w.held c o) q)
+        ∙ ap (λ (o : Option Claim). cond room (carried w (kept_at w c event) (stepped_to s w.held c (Taken turn))) (stops o w c)) (first-is None none)
+
+    -- and where nothing is, it is stepped
+    pub machine-kept : first_forged s (rules_of s) w.held.signed claims ≡ None → at_machine s F (rules_of s) m w c event ≡ kept_to s w c event its_step
+    machine-kept none = machine-goes working ∙ kept-step none its_step refl
+
+module _ {M Msg : Type 0} (m : Module Msg) (stands : Relation M Msg) where
   -- ---- what the cores show
 
-  pub runs-show : (v : RunningState M Msg) (h : Held Msg) → IsRunning m v → Runs m stands v h → Shows m v h
-  runs-show v h r st = record {
-    log = λ i g at.
-        subst (λ (k : ℕ). log_of (rules_of v.setup) m k (h.net.cores i).past ≡ reverse g.parts.log.entries) (r.places i g at)
-        (subst (λ (s : Setup). log_of (rules_of s) m g.parts.me.0 (h.net.cores i).past ≡ reverse g.parts.log.entries) (r.setups i g at) (st.cores i g at).held.parts.tied.log);
-    epoch = λ i g at. (st.cores i g at).held.parts.tied.epoch;
+  core-shown : (v : RunningState M Msg) (i : ℕ) (g : KeptState M Msg MemoryDisk) (c : Core Msg) → IsRunning m v → slice_get v.nodes i ≡ Some g →
+      ShowsCore m g.setup g.me.0 g c → ShowsCore m v.setup (node_of v.setup i) g c
+  core-shown v i g c r at shown = record {
+    log = subst (λ (k : ℕ). log_of (rules_of v.setup) m k c.past ≡ reverse g.node.parts.log.entries) (r.places i g at)
+        (subst (λ (s : Setup). log_of (rules_of s) m g.me.0 c.past ≡ reverse g.node.parts.log.entries) (r.setups i g at) shown.log);
+    epoch = shown.epoch;
   }
 
-  pub shown-shows : (v : RunningState M Msg) (h : Held Msg) → IsRunning m v → IsShown m stands v h → Shows m v h
-  shown-shows v h r k = elim k [ inl st ↦ runs-show v h r st | inr sh ↦ sh ]
+  pub runs-show : (v : RunningState M Msg) (w : Machines Msg) → IsRunning m v → Runs m stands v w → Shows m v w.held
+  runs-show v w r st i g at = core-shown v i g (w.held.net.cores i) r at (over-shows m stands g (w.held.net.cores i) (w.disks i) (st.cores i g at))
+
+  pub shown-shows : (v : RunningState M Msg) (w : Machines Msg) → IsRunning m v → IsShown m stands v w → Shows m v w.held
+  shown-shows v w r k = elim k [ inl st ↦ runs-show v w r st | inr sh ↦ sh ]
 
   -- ---- a node is replaced by a later state of it
 
-  pub still-running : (v : RunningState M Msg) (i : ℕ) (g later : NodeState M Msg) (net : Network) (signed : List (List ℕ)) (hashed : List (List ℕ × List ℕ)) → IsRunning m v → i < length v.nodes →
-      slice_get v.nodes i ≡ Some g → later.parts.setup ≡ g.parts.setup → later.parts.me ≡ g.parts.me → IsNetworkOf (length v.nodes) net →
+  pub still-running : (v : RunningState M Msg) (i : ℕ) (g later : KeptState M Msg MemoryDisk) (net : Network) (signed : List (List ℕ)) (hashed : List (List ℕ × List ℕ)) →
+      IsRunning m v → i < length v.nodes → slice_get v.nodes i ≡ Some g → IsSame g later → IsNetworkOf (length v.nodes) net →
       IsRunning m (record { setup = v.setup; nodes = set v.nodes i later; network = net; signed = signed; hashed = hashed })
-  still-running v i g later net signed hashed h lt at es em hn = record {
+  still-running v i g later net signed hashed h lt at same hn = record {
     good = h.good;
     count = length-set_at v.nodes i later ∙ h.count;
     network = subst (λ (k : ℕ). IsNetworkOf k net) h.count hn;
     setups = λ j k e. elim (written v.nodes i j later k lt e) [
-      | inl t ↦ ap (λ (z : NodeState M Msg). z.parts.setup) t.2 ∙ es ∙ h.setups i g at
+      | inl t ↦ ap (λ (z : KeptState M Msg MemoryDisk). z.setup) t.2 ∙ same.setup ∙ h.setups i g at
       | inr t ↦ h.setups j k t.1
     ];
     places = λ j k e. elim (written v.nodes i j later k lt e) [
-      | inl t ↦ ap (λ (z : NodeState M Msg). z.parts.me.0) t.2 ∙ ap (λ (z : NodeId). z.0) em ∙ h.places i g at ∙ ap (λ (k : ℕ). node_of v.setup k) (sym t.1)
+      | inl t ↦ ap (λ (z : KeptState M Msg MemoryDisk). z.me.0) t.2 ∙ ap (λ (z : NodeId). z.0) same.me ∙ h.places i g at ∙ ap (λ (k : ℕ). node_of v.setup k) (sym t.1)
       | inr t ↦ h.places j k t.1
     ];
   }
@@ -245,185 +248,216 @@ module _ {M Msg : Type 0} (m : Module Msg) (stands : M → Params → ℕ → Li
     places = h.places;
   }
 
-  module _ (v : RunningState M Msg) (i : ℕ) (g : NodeState M Msg) (event : NodeEvent) (r : IsRunning m v) (at : slice_get v.nodes i ≡ Some g) where
+  module _ (v : RunningState M Msg) (i : ℕ) (g later : KeptState M Msg MemoryDisk) (r : IsRunning m v) (lt : i < length v.nodes) (at : slice_get v.nodes i ≡ Some g) where
+    abbrev v_later : RunningState M Msg
+    v_later = record { setup = v.setup; nodes = set v.nodes i later; network = v.network; signed = v.signed; hashed = v.hashed }
+
+    -- it stands for its core over its disk later, and all others stand as they stood
+    pub runs-later : (w next : Machines Msg) → Runs m stands v w → StandsOver m stands later (next.held.net.cores i) (next.disks i) →
+        ((j : ℕ) → eqb j i ≡ false → (next.held.net.cores j ≡ w.held.net.cores j) × (next.disks j ≡ w.disks j)) →
+        v.network ≡ next.held.net.network → AreSigned v.signed next.held.signed → AreHashed v.hashed next.held.hashed → Runs m stands v_later next
+    runs-later w next st here there net signed hashed = record {
+      cores = λ j k e. elim (written v.nodes i j later k lt e) [
+        | inl t ↦ subst (λ (x : ℕ). StandsOver m stands k (next.held.net.cores x) (next.disks x)) (sym t.1)
+            (subst (λ (z : KeptState M Msg MemoryDisk). StandsOver m stands z (next.held.net.cores i) (next.disks i)) (sym t.2) here)
+        | inr t ↦ subst (λ (c : Core Msg). StandsOver m stands k c (next.disks j)) (sym (there j t.0).0)
+            (subst (λ (d : Disk). StandsOver m stands k (w.held.net.cores j) d) (sym (there j t.0).1) (st.cores j k t.1))
+      ];
+      network = net;
+      signed = signed;
+      hashed = hashed;
+    }
+
+    pub runs-disk : (w : Machines Msg) (d : Disk) → Runs m stands v w → StandsOver m stands later (w.held.net.cores i) d → Runs m stands v_later (with_disk w i d)
+    runs-disk w d st here =
+        runs-later w (with_disk w i d) st (subst (λ (x : Disk). StandsOver m stands later (w.held.net.cores i) x) (sym (set_at-same w.disks i d)) here)
+        (λ j e. (refl, ap (λ (b : Bool). cond b d (w.disks j)) e)) st.network st.signed st.hashed
+
+    -- a disk that is to fail
+    pub crashed : (w : Machines Msg) (calls : ℕ) → Runs m stands v w → StandsOver m stands later (w.held.net.cores i) (fused (w.disks i) calls) →
+        HasChanged m stands v_later (went_on (with_disk w i (fused (w.disks i) calls))) Done
+    crashed w calls st here = (runs-disk w (fused (w.disks i) calls) st here, refl, refl)
+
+    -- a core that is made anew
+    pub remade-runs : (w : Machines Msg) → Runs m stands v w → StandsOver m stands later (w.held.net.cores i) (works_again (w.disks i)) →
+        HasChanged m stands v_later (went_on (remade v.setup (formats_of v.setup m) (rules_of v.setup) m w i)) Done
+    remade-runs w st here =
+        let kept : List NodeEvent = (w.disks i).kept in
+        let c : Core Msg = core_of_kept (formats_of v.setup m) (rules_of v.setup) m (node_of v.setup i) kept in
+        let mine : core_of_kept (formats_of g.setup m) (rules_of g.setup) m g.me.0 kept ≡ w.held.net.cores i = (st.cores i g at).made in
+        let is : c ≡ w.held.net.cores i =
+        subst (λ (k : ℕ). core_of_kept (formats_of v.setup m) (rules_of v.setup) m k kept ≡ w.held.net.cores i) (r.places i g at)
+        (subst (λ (s : Setup). core_of_kept (formats_of s m) (rules_of s) m g.me.0 kept ≡ w.held.net.cores i) (r.setups i g at) mine) in (
+          runs-later w (remade v.setup (formats_of v.setup m) (rules_of v.setup) m w i) st
+              (subst (λ (x : Core Msg). StandsOver m stands later x (set_at w.disks i (works_again (w.disks i)) i)) (sym (set_at-same w.held.net.cores i c ∙ is))
+              (subst (λ (x : Disk). StandsOver m stands later (w.held.net.cores i) x) (sym (set_at-same w.disks i (works_again (w.disks i)))) here))
+              (λ j e. (ap (λ (b : Bool). cond b c (w.held.net.cores j)) e, ap (λ (b : Bool). cond b (works_again (w.disks i)) (w.disks j)) e))
+              st.network st.signed st.hashed,
+          refl,
+          refl,
+        )
+
+  module _ (v : RunningState M Msg) (i : ℕ) (g : KeptState M Msg MemoryDisk) (event : NodeEvent) (r : IsRunning m v) (at : slice_get v.nodes i ≡ Some g) where
+    -- it is stale where its disk has failed
+    pub stale-here : (w : Machines Msg) → Runs m stands v w → g.stale ≡ (w.disks i).failed
+    stale-here w st = over-stale m stands g (w.held.net.cores i) (w.disks i) (st.cores i g at)
+
     -- its claims, as the model's core reads them
-    pub claims-here : (claims : List Claim) → ((c : Core Msg) → Stands m stands g c →
-        claims ≡ claims_at (formats_of g.parts.setup m) (rules_of g.parts.setup) m g.parts.me.0 c event) → (h : Held Msg) → Runs m stands v h →
-        claims ≡ claims_at (formats_of v.setup m) (rules_of v.setup) m (node_of v.setup i) (h.net.cores i) event
-    claims-here claims f h st =
-        subst (λ (k : ℕ). claims ≡ claims_at (formats_of v.setup m) (rules_of v.setup) m k (h.net.cores i) event) (r.places i g at)
-        (subst (λ (s : Setup). claims ≡ claims_at (formats_of s m) (rules_of s) m g.parts.me.0 (h.net.cores i) event) (r.setups i g at) (f (h.net.cores i) (st.cores i g at)))
+    pub claims-here : (claims : List Claim) → ((c : Core Msg) → IsAt m stands g c →
+        claims ≡ claims_at (formats_of g.setup m) (rules_of g.setup) m g.me.0 c event) → (w : Machines Msg) → Runs m stands v w → (w.disks i).failed ≡ false →
+        claims ≡ claims_at (formats_of v.setup m) (rules_of v.setup) m (node_of v.setup i) (w.held.net.cores i) event
+    claims-here claims f w st working =
+        let there : IsAt m stands g (w.held.net.cores i) = at-working m stands g (w.held.net.cores i) (w.disks i) (st.cores i g at) working in
+        subst (λ (k : ℕ). claims ≡ claims_at (formats_of v.setup m) (rules_of v.setup) m k (w.held.net.cores i) event) (r.places i g at)
+        (subst (λ (s : Setup). claims ≡ claims_at (formats_of s m) (rules_of s) m g.me.0 (w.held.net.cores i) event) (r.setups i g at) (f (w.held.net.cores i) there))
 
-    -- the answer in its arms
-    pub answer-taken : (later : NodeState M Msg) (a : Answer) (outcome : Outcome) → a ≡ Was_taken outcome →
-        ((c : Core Msg) → Stands m stands g c → IsAnswer m stands (IsOfNodes g.parts.setup.n event) c (step (formats_of g.parts.setup m) (rules_of g.parts.setup) m g.parts.me.0 c event) later a) →
-        (c : Core Msg) → Stands m stands g c → IsTurn m stands (IsOfNodes g.parts.setup.n event) (step (formats_of g.parts.setup m) (rules_of g.parts.setup) m g.parts.me.0 c event) later outcome
-    answer-taken later a outcome e f c st =
-        subst (λ (z : Answer). IsAnswer m stands (IsOfNodes g.parts.setup.n event) c (step (formats_of g.parts.setup m) (rules_of g.parts.setup) m g.parts.me.0 c event) later z) e (f c st)
+    module _ (later : KeptState M Msg MemoryDisk) (lt : i < length v.nodes) (same : IsSame g later) (nodes : IsOfNodes v.setup.n event) (answer : Answer)
+        (f : (c : Core Msg) (d : Disk) → StandsOver m stands g c d → d.failed ≡ false → IsOfNodes g.setup.n event →
+        HasAnswered m stands c d event (step (formats_of g.setup m) (rules_of g.setup) m g.me.0 c event) later answer) where
+      abbrev step_there : Machines Msg → Stepped Msg
+      step_there w = step (formats_of g.setup m) (rules_of g.setup) m g.me.0 (w.held.net.cores i) event
 
-    pub answer-dropped : (later : NodeState M Msg) (a : Answer) (why : Why) → a ≡ Was_dropped why →
-        ((c : Core Msg) → Stands m stands g c → IsAnswer m stands (IsOfNodes g.parts.setup.n event) c (step (formats_of g.parts.setup m) (rules_of g.parts.setup) m g.parts.me.0 c event) later a) →
-        (c : Core Msg) → Stands m stands g c → IsDrop m stands c (step (formats_of g.parts.setup m) (rules_of g.parts.setup) m g.parts.me.0 c event) later why
-    answer-dropped later a why e f c st =
-        subst (λ (z : Answer). IsAnswer m stands (IsOfNodes g.parts.setup.n event) c (step (formats_of g.parts.setup m) (rules_of g.parts.setup) m g.parts.me.0 c event) later z) e (f c st)
+      abbrev step_here : Machines Msg → Stepped Msg
+      step_here w = step (formats_of v.setup m) (rules_of v.setup) m (node_of v.setup i) (w.held.net.cores i) event
 
-    module _ (later : NodeState M Msg) (lt : i < length v.nodes) where
-      pub turn-at : (outcome : Outcome) → ((c : Core Msg) → Stands m stands g c → IsTurn m stands (IsOfNodes g.parts.setup.n event) (step (formats_of g.parts.setup m) (rules_of g.parts.setup) m g.parts.me.0 c event) later outcome) →
-          (h : Held Msg) → Runs m stands v h → IsTurn m stands (IsOfNodes g.parts.setup.n event) (step (formats_of v.setup m) (rules_of v.setup) m (node_of v.setup i) (h.net.cores i) event) later outcome
-      turn-at outcome f h st =
-          subst (λ (k : ℕ). IsTurn m stands (IsOfNodes g.parts.setup.n event) (step (formats_of v.setup m) (rules_of v.setup) m k (h.net.cores i) event) later outcome) (r.places i g at)
-          (subst (λ (s : Setup). IsTurn m stands (IsOfNodes g.parts.setup.n event) (step (formats_of s m) (rules_of s) m g.parts.me.0 (h.net.cores i) event) later outcome) (r.setups i g at) (f (h.net.cores i) (st.cores i g at)))
+      same-step : (w : Machines Msg) → step_here w ≡ step_there w
+      same-step w =
+          ap (λ (k : ℕ). step (formats_of v.setup m) (rules_of v.setup) m k (w.held.net.cores i) event) (sym (r.places i g at))
+          ∙ ap (λ (s : Setup). step (formats_of s m) (rules_of s) m g.me.0 (w.held.net.cores i) event) (sym (r.setups i g at))
 
-      drop-at : (why : Why) → ((c : Core Msg) → Stands m stands g c → IsDrop m stands c (step (formats_of g.parts.setup m) (rules_of g.parts.setup) m g.parts.me.0 c event) later why) →
-          (h : Held Msg) → Runs m stands v h → IsDrop m stands (h.net.cores i) (step (formats_of v.setup m) (rules_of v.setup) m (node_of v.setup i) (h.net.cores i) event) later why
-      drop-at why f h st =
-          subst (λ (k : ℕ). IsDrop m stands (h.net.cores i) (step (formats_of v.setup m) (rules_of v.setup) m k (h.net.cores i) event) later why) (r.places i g at)
-          (subst (λ (s : Setup). IsDrop m stands (h.net.cores i) (step (formats_of s m) (rules_of s) m g.parts.me.0 (h.net.cores i) event) later why) (r.setups i g at) (f (h.net.cores i) (st.cores i g at)))
+      -- the answer in its arms
+      answer-is : (w : Machines Msg) → Runs m stands v w → (w.disks i).failed ≡ false → (a : Answer) → answer ≡ a →
+          HasAnswered m stands (w.held.net.cores i) (w.disks i) event (step_there w) later a
+      answer-is w st working a is =
+          let named : IsOfNodes g.setup.n event = subst (λ (s : Setup). IsOfNodes s.n event) (sym (r.setups i g at)) nodes in
+          subst (λ (z : Answer). HasAnswered m stands (w.held.net.cores i) (w.disks i) event (step_there w) later z) is
+          (f (w.held.net.cores i) (w.disks i) (st.cores i g at) working named)
 
-      pub step-dropped : (why : Why) → ((c : Core Msg) → Stands m stands g c → IsDrop m stands c (step (formats_of g.parts.setup m) (rules_of g.parts.setup) m g.parts.me.0 c event) later why) →
-          (h : Held Msg) → Runs m stands v h →
-          HasChanged m stands (record { setup = v.setup; nodes = set v.nodes i later; network = v.network; signed = v.signed; hashed = v.hashed })
-          (stepped_to v.setup h i (step (formats_of v.setup m) (rules_of v.setup) m (node_of v.setup i) (h.net.cores i) event)) (Lost why)
-      step-dropped why f h st =
-          let t = drop-at why f h st in
-          subst (λ (s : Stepped Msg). HasChanged m stands (record { setup = v.setup; nodes = set v.nodes i later; network = v.network; signed = v.signed; hashed = v.hashed })
-          (stepped_to v.setup h i s) (Lost why)) (sym t.step_is) (
-            record {
-              cores = λ j k e. elim (written v.nodes i j later k lt e) [
-                | inl w ↦ subst (λ (x : ℕ). Stands m stands k (h.net.cores x)) (sym w.1) (subst (λ (z : NodeState M Msg). Stands m stands z (h.net.cores i)) (sym w.2) t.stands_for)
-                | inr w ↦ st.cores j k w.1
-              ];
-              network = st.network;
-              signed = st.signed;
-              hashed = st.hashed;
-            },
-            refl,
-            refl,
-          )
+      -- it was dropped, and all is as it was
+      pub step-dropped : (why : Why) → answer ≡ Was_dropped why → (w : Machines Msg) → Runs m stands v w → (w.disks i).failed ≡ false →
+          HasChanged m stands (v_later v i g later r lt at) (kept_to v.setup w i event (step_here w)) (Lost why)
+      step-dropped why is w st working =
+          let t = answer-is w st working (Was_dropped why) is in
+          let dropped : step_here w ≡ Dropped why = same-step w ∙ t.0 in
+          subst (λ (s : Stepped Msg). HasChanged m stands (v_later v i g later r lt at) (kept_to v.setup w i event s) (Lost why)) (sym dropped)
+          (runs-later v i g later r lt at w w st t.1 (λ j e. (refl, refl)) st.network st.signed st.hashed, refl, refl)
 
-      module _ (outcome : Outcome) (es : later.parts.setup ≡ g.parts.setup) (em : later.parts.me ≡ g.parts.me)
-          (f : (c : Core Msg) → Stands m stands g c → IsTurn m stands (IsOfNodes g.parts.setup.n event) (step (formats_of g.parts.setup m) (rules_of g.parts.setup) m g.parts.me.0 c event) later outcome) where
-        pub turn-addressed : (h : Held Msg) → Runs m stands v h → IsOfNodes v.setup.n event → AreToNodes v.setup.n outcome.sends
-        turn-addressed h st nodes =
-            let asked : IsOfNodes g.parts.setup.n event = subst (λ (s : Setup). IsOfNodes s.n event) (sym (r.setups i g at)) nodes in
-            subst (λ (s : Setup). AreToNodes s.n outcome.sends) (es ∙ r.setups i g at) ((f (h.net.cores i) (st.cores i g at)).addressed asked)
+      -- the disk failed before the event was kept
+      pub step-stopped : answer ≡ Failed → (w : Machines Msg) → Runs m stands v w → (w.disks i).failed ≡ false →
+          HasChanged m stands (v_later v i g later r lt at) (kept_to v.setup w i event (step_here w)) (Lost Stopped)
+      step-stopped is w st working =
+          let t = answer-is w st working Failed is in
+          let taken : step_here w ≡ Taken t.turn = same-step w ∙ t.step_is in
+          let stopped : kept_to v.setup w i event (Taken t.turn) ≡ was_lost (with_disk w i (fails (w.disks i))) Stopped =
+          ap (λ (b : Bool). cond b (carried w (kept_at w i event) (stepped_to v.setup w.held i (Taken t.turn))) (was_lost (with_disk w i (fails (w.disks i))) Stopped)) t.no_room in
+          subst (λ (u : Upshot Msg). HasChanged m stands (v_later v i g later r lt at) u (Lost Stopped)) (sym (ap (λ (s : Stepped Msg). kept_to v.setup w i event s) taken ∙ stopped))
+          (runs-disk v i g later r lt at w (fails (w.disks i)) st t.over, refl, refl)
+
+      -- it was taken and kept
+      module _ (outcome : Outcome) (is : answer ≡ Was_kept outcome) (w : Machines Msg) (st : Runs m stands v w) (working : (w.disks i).failed ≡ false) where
+        pub turn-kept : IsKeptTurn m stands (w.disks i) event (step_there w) later outcome
+        turn-kept = answer-is w st working (Was_kept outcome) is
+
+        pub turn-addressed : AreToNodes v.setup.n outcome.sends
+        turn-addressed = subst (λ (s : Setup). AreToNodes s.n outcome.sends) (same.setup ∙ r.setups i g at) turn-kept.addressed
+
+        good-there : IsSetupOf m g.setup
+        good-there = subst (λ (s : Setup). IsSetupOf m s) (sym (r.setups i g at)) r.good
 
         -- the log only grows, and so does the epoch
-        grown : (h : Held Msg) → Runs m stands v h → (newer : List Value) × (reverse later.parts.log.entries ≡ newer ++ reverse g.parts.log.entries)
-        grown h st =
-            let s = g.parts.setup in
-            let c = h.net.cores i in
-            let turn = f c (st.cores i g at) in
-            let parts = (st.cores i g at).held.parts in
-            let bare-sound = subst (λ (z : Core Msg). IsSoundCore (rules_of s) m g.parts.me.0 z) (sym parts.core) parts.tied.sound in
-            let sound : IsSoundCore (rules_of s) m g.parts.me.0 c =
-            kept-sound (formats_of s m) (rules_of s) m g.parts.me.0 (bare c) c.early c.votes c.certs c.leaf bare-sound in
-            let slots : HasSlots (rules_of s) = subst (λ (z : Setup). HasSlots (rules_of z)) (sym (r.setups i g at)) (has-slots v.setup r.good.good) in
-            let up = step-grown (formats_of s m) (rules_of s) m g.parts.me.0 slots (are-windows s) c event turn.turn sound turn.step_is in
-            let late = turn.stands_for.held.parts.tied.log in
-            let there : log_of (rules_of s) m g.parts.me.0 turn.turn.core.past ≡ reverse later.parts.log.entries =
-            subst (λ (k : ℕ). log_of (rules_of s) m k turn.turn.core.past ≡ reverse later.parts.log.entries) (ap (λ (z : NodeId). z.0) em)
-            (subst (λ (z : Setup). log_of (rules_of z) m later.parts.me.0 turn.turn.core.past ≡ reverse later.parts.log.entries) es late) in
-            (up.0, sym there ∙ up.1 ∙ ap (λ (xs : List Value). up.0 ++ xs) parts.tied.log)
+        grown : GoesOn g.node.parts.log.entries later.node.parts.log.entries
+        grown = log-grown m stands g later same (w.held.net.cores i) (w.disks i) (st.cores i g at) working event good-there outcome turn-kept
 
-        pub slots-kept : (h : Held Msg) → Runs m stands v h → (slots : ℕ) → slots ≡ length g.parts.log.entries → (k : NodeState M Msg) → slice_get (set v.nodes i later) i ≡ Some k →
-            slots ≤ length k.parts.log.entries
-        slots-kept h st slots is k e =
-            let up = grown h st in
-            let far = longer g.parts.log.entries later.parts.log.entries up.0 up.1 in
-            let same : k ≡ later = some-injective k later (sym e ∙ get-set_same v.nodes i later lt) in
-            subst (λ (z : NodeState M Msg). slots ≤ length z.parts.log.entries) (sym same) (omega (arith, is, far))
+        pub slots-kept : (slots : ℕ) → slots ≡ length g.node.parts.log.entries → (k : KeptState M Msg MemoryDisk) → slice_get (set v.nodes i later) i ≡ Some k →
+            slots ≤ length k.node.parts.log.entries
+        slots-kept slots are k e =
+            let far = log-long g.node.parts.log.entries later.node.parts.log.entries grown in
+            let there : k ≡ later = some-injective k later (sym e ∙ get-set_same v.nodes i later lt) in
+            subst (λ (z : KeptState M Msg MemoryDisk). slots ≤ length z.node.parts.log.entries) (sym there) (omega (arith, are, far))
 
-        pub epoch-kept : (h : Held Msg) → Runs m stands v h → (epoch : ℕ) → epoch ≡ g.parts.epoch → (k : NodeState M Msg) → slice_get (set v.nodes i later) i ≡ Some k → epoch ≤ k.parts.epoch
-        epoch-kept h st epoch is k e =
-            let turn = f (h.net.cores i) (st.cores i g at) in
-            let up = step-epoch (formats_of g.parts.setup m) (rules_of g.parts.setup) m g.parts.me.0 (h.net.cores i) event turn.turn turn.step_is in
-            let before = (st.cores i g at).held.parts.tied.epoch in
-            let after = turn.stands_for.held.parts.tied.epoch in
-            let same : k ≡ later = some-injective k later (sym e ∙ get-set_same v.nodes i later lt) in
-            subst (λ (z : NodeState M Msg). epoch ≤ z.parts.epoch) (sym same) (omega (arith, is, up, before, after))
+        pub epoch-kept : (epoch : ℕ) → epoch ≡ g.node.parts.epoch → (k : KeptState M Msg MemoryDisk) → slice_get (set v.nodes i later) i ≡ Some k → epoch ≤ k.node.parts.epoch
+        epoch-kept epoch was k e =
+            let far = epoch-grown m stands g later same (w.held.net.cores i) (w.disks i) (st.cores i g at) working event good-there outcome turn-kept in
+            let there : k ≡ later = some-injective k later (sym e ∙ get-set_same v.nodes i later lt) in
+            subst (λ (z : KeptState M Msg MemoryDisk). epoch ≤ z.node.parts.epoch) (sym there) (omega (arith, was, far))
 
         -- the core has taken its turn, and all else stands as it stood
-        pub behind : (h : Held Msg) (st : Runs m stands v h) (slots epoch : ℕ) → slots ≡ length g.parts.log.entries → epoch ≡ g.parts.epoch →
-            IsBehind m stands (record { setup = v.setup; nodes = set v.nodes i later; network = v.network; signed = v.signed; hashed = v.hashed }) h i (turn-at outcome f h st).turn slots epoch
-        behind h st slots epoch is ise =
-            let t = turn-at outcome f h st in
-            let up = grown h st in
-            let was = (runs-show v h r st).log i g at in
+        pub behind : (slots epoch : ℕ) → slots ≡ length g.node.parts.log.entries → epoch ≡ g.node.parts.epoch →
+            IsBehind m stands (v_later v i g later r lt at) w (kept_at w i event) i turn-kept.turn slots epoch
+        behind slots epoch are was =
+            let shown = runs-show v w r st i g at in
             record {
               cores = λ j k e. elim (written v.nodes i j later k lt e) [
-                | inl w ↦ rw w.0 (subst (λ (z : NodeState M Msg). Stands m stands z t.turn.core) (sym w.2) t.stands_for)
-                | inr w ↦ rw w.0 (st.cores j k w.1)
+                | inl t ↦ rw t.0 (subst (λ (z : KeptState M Msg MemoryDisk). StandsOver m stands z turn-kept.turn.core (keeps (w.disks i) event)) (sym t.2) turn-kept.over)
+                | inr t ↦ rw t.0 (st.cores j k t.1)
               ];
               network = st.network;
               signed = st.signed;
               hashed = st.hashed;
               log = λ k e.
-                  let same : k ≡ later = some-injective k later (sym e ∙ get-set_same v.nodes i later lt) in
-                  let back : take slots k.parts.log.entries ≡ g.parts.log.entries =
-                  ap (λ (z : NodeState M Msg). take slots z.parts.log.entries) same ∙ ap (λ (n : ℕ). take n later.parts.log.entries) is
-                  ∙ cut-back g.parts.log.entries later.parts.log.entries up.0 up.1 in
-                  was ∙ ap (λ (xs : List Value). reverse xs) (sym back);
-              epoch = ise ∙ (st.cores i g at).held.parts.tied.epoch;
+                  let there : k ≡ later = some-injective k later (sym e ∙ get-set_same v.nodes i later lt) in
+                  let back : take slots k.node.parts.log.entries ≡ g.node.parts.log.entries =
+                  ap (λ (z : KeptState M Msg MemoryDisk). take slots z.node.parts.log.entries) there ∙ ap (λ (n : ℕ). take n later.node.parts.log.entries) are
+                  ∙ log-cut g.node.parts.log.entries later.node.parts.log.entries grown in
+                  shown.log ∙ ap (λ (xs : List Value). reverse xs) (sym back);
+              epoch = was ∙ shown.epoch;
             }
 
-        pub step-taken : (h : Held Msg) (st : Runs m stands v h) (new : RunningState M Msg) (x : Change) →
-            HasChanged m stands new (stepped_to v.setup h i (Taken (turn-at outcome f h st).turn)) x →
-            HasChanged m stands new (stepped_to v.setup h i (step (formats_of v.setup m) (rules_of v.setup) m (node_of v.setup i) (h.net.cores i) event)) x
-        step-taken h st new x k =
-            let t = turn-at outcome f h st in
-            subst (λ (s : Stepped Msg). HasChanged m stands new (stepped_to v.setup h i s) x) (sym t.step_is) k
+        pub made-there : IsMade turn-kept.turn outcome
+        made-there = turn-kept.made
 
-        pub made-at : (h : Held Msg) (st : Runs m stands v h) → IsMade (turn-at outcome f h st).turn outcome
-        made-at h st = (turn-at outcome f h st).made
+        pub step-taken : (new : RunningState M Msg) (x : Change) →
+            HasChanged m stands new (carried w (kept_at w i event) (stepped_to v.setup w.held i (Taken turn-kept.turn))) x → HasChanged m stands new (kept_to v.setup w i event (step_here w)) x
+        step-taken new x k =
+            let t = turn-kept in
+            let taken : step_here w ≡ Taken t.turn = same-step w ∙ t.step_is in
+            let kept : kept_to v.setup w i event (Taken t.turn) ≡ carried w (kept_at w i event) (stepped_to v.setup w.held i (Taken t.turn)) =
+            ap (λ (b : Bool). cond b (carried w (kept_at w i event) (stepped_to v.setup w.held i (Taken t.turn))) (was_lost (with_disk w i (fails (w.disks i))) Stopped)) t.room in
+            subst (λ (u : Upshot Msg). HasChanged m stands new u x) (sym (ap (λ (s : Stepped Msg). kept_to v.setup w i event s) taken ∙ kept)) k
 
   -- ---- what became of a turn
 
-  module _ (v : RunningState M Msg) (i : ℕ) (r : IsRunning m v) (lt : i < length v.nodes) (h : Held Msg) (t : Turn Msg) (slots epoch : ℕ) (b : IsBehind m stands v h i t slots epoch) where
+  module _ (v : RunningState M Msg) (i : ℕ) (r : IsRunning m v) (lt : i < length v.nodes) (w : Machines Msg) (behind-it : ℕ → Disk) (t : Turn Msg) (slots epoch : ℕ)
+      (b : IsBehind m stands v w behind-it i t slots epoch) where
     -- the core retreats
-    pub shows-before : (g later : NodeState M Msg) (net : Network) (signed : List (List ℕ)) (hashed : List (List ℕ × List ℕ)) → slice_get v.nodes i ≡ Some g → HasRetreated g later slots epoch →
-        Shows m (record { setup = v.setup; nodes = set v.nodes i later; network = net; signed = signed; hashed = hashed }) h
-    shows-before g later net signed hashed at back = record {
-      log = λ j k e. elim (written v.nodes i j later k lt e) [
-        | inl w ↦
-            let mine : log_of (rules_of v.setup) m (node_of v.setup i) (h.net.cores i).past ≡ reverse later.parts.log.entries =
-            b.log g at ∙ ap (λ (xs : List Value). reverse xs) (sym back.log) in
-            let there : log_of (rules_of v.setup) m (node_of v.setup j) (h.net.cores j).past ≡ reverse later.parts.log.entries =
-            subst (λ (n : ℕ). log_of (rules_of v.setup) m (node_of v.setup n) (h.net.cores n).past ≡ reverse later.parts.log.entries) (sym w.1) mine in
-            there ∙ ap (λ (z : NodeState M Msg). reverse z.parts.log.entries) (sym w.2)
-        | inr w ↦
-            let st : Stands m stands k (h.net.cores j) = subst (λ (c : Core Msg). Stands m stands k c) (ap (λ (q : Bool). cond q t.core (h.net.cores j)) w.0) (b.cores j k w.1) in
-            subst (λ (n : ℕ). log_of (rules_of v.setup) m n (h.net.cores j).past ≡ reverse k.parts.log.entries) (r.places j k w.1)
-            (subst (λ (s : Setup). log_of (rules_of s) m k.parts.me.0 (h.net.cores j).past ≡ reverse k.parts.log.entries) (r.setups j k w.1) st.held.parts.tied.log)
-      ];
-      epoch = λ j k e. elim (written v.nodes i j later k lt e) [
-        | inl w ↦ ap (λ (z : NodeState M Msg). z.parts.epoch) w.2 ∙ back.epoch ∙ b.epoch ∙ ap (λ (n : ℕ). (h.net.cores n).past.epoch) (sym w.1)
-        | inr w ↦
-            let st : Stands m stands k (h.net.cores j) = subst (λ (c : Core Msg). Stands m stands k c) (ap (λ (q : Bool). cond q t.core (h.net.cores j)) w.0) (b.cores j k w.1) in
-            st.held.parts.tied.epoch
-      ];
-    }
+    module _ (g later : KeptState M Msg MemoryDisk) (at : slice_get v.nodes i ≡ Some g) (cut : later.node.parts.log.entries ≡ take slots g.node.parts.log.entries)
+        (back : later.node.parts.epoch ≡ epoch) (net : Network) (signed : List (List ℕ)) (hashed : List (List ℕ × List ℕ)) where
+      pub shows-before : Shows m (record { setup = v.setup; nodes = set v.nodes i later; network = net; signed = signed; hashed = hashed }) w.held
+      shows-before j k e = elim (written v.nodes i j later k lt e) [
+        | inl z ↦ subst (λ (n : ℕ). ShowsCore m v.setup (node_of v.setup n) k (w.held.net.cores n)) (sym z.1)
+            (subst (λ (x : KeptState M Msg MemoryDisk). ShowsCore m v.setup (node_of v.setup i) x (w.held.net.cores i)) (sym z.2) (record {
+              log = b.log g at ∙ ap (λ (xs : List Value). reverse xs) (sym cut);
+              epoch = back ∙ b.epoch;
+            }))
+        | inr z ↦
+            let there : StandsOver m stands k (w.held.net.cores j) (behind-it j) =
+            subst (λ (c : Core Msg). StandsOver m stands k c (behind-it j)) (ap (λ (q : Bool). cond q t.core (w.held.net.cores j)) z.0) (b.cores j k z.1) in
+            core-shown v j k (w.held.net.cores j) r z.1 (over-shows m stands k (w.held.net.cores j) (behind-it j) there)
+      ]
 
-    pub turn-ended : (outcome : Outcome) (g later : NodeState M Msg) (net : Network) (signed : List (List ℕ)) (hashed : List (List ℕ × List ℕ)) (end : Kept) → IsMade t outcome →
-        slice_get v.nodes i ≡ Some g → HasRetreated g later slots epoch → Some (end_of end) ≡ ends_by v.setup h.signed h.hashed outcome.early outcome.hashed →
-        HasChanged m stands (record { setup = v.setup; nodes = set v.nodes i later; network = net; signed = signed; hashed = hashed }) (stepped_to v.setup h i (Taken t)) (Ended end)
-    turn-ended outcome g later net signed hashed end made at back is =
-        subst (λ (d : Happening Msg). HasChanged m stands (record { setup = v.setup; nodes = set v.nodes i later; network = net; signed = signed; hashed = hashed }) d (Ended end))
-        (sym (turn-ends v.setup h i t (end_of end) (sym (is ∙ made-ends v.setup h t outcome made))))
-        (shows-before g later net signed hashed at back, refl, refl)
+      pub turn-ended : (outcome : Outcome) (end : Kept) → IsMade t outcome → Some (end_of end) ≡ ends_by v.setup w.held.signed w.held.hashed outcome.early outcome.hashed →
+          HasChanged m stands (record { setup = v.setup; nodes = set v.nodes i later; network = net; signed = signed; hashed = hashed })
+          (carried w behind-it (stepped_to v.setup w.held i (Taken t))) (Ended end)
+      turn-ended outcome end made is =
+          subst (λ (d : Happening Msg). HasChanged m stands (record { setup = v.setup; nodes = set v.nodes i later; network = net; signed = signed; hashed = hashed })
+          (carried w behind-it d) (Ended end))
+          (sym (turn-ends v.setup w.held i t (end_of end) (sym (is ∙ made-ends v.setup w.held t outcome made))))
+          (shows-before, refl, refl)
 
     pub turn-stands : (outcome : Outcome) (net : Network) (signed : List (List ℕ)) (hashed : List (List ℕ × List ℕ)) → IsMade t outcome →
-        ends_by v.setup h.signed h.hashed outcome.early outcome.hashed ≡ None →
-        net ≡ posted_all v.setup v.network i outcome.sends → AreSigned signed (booked v.setup i outcome.own ++ h.signed) → AreHashed hashed (over outcome.hashed h.hashed) →
-        HasChanged m stands (record { setup = v.setup; nodes = v.nodes; network = net; signed = signed; hashed = hashed }) (stepped_to v.setup h i (Taken t)) Done
+        ends_by v.setup w.held.signed w.held.hashed outcome.early outcome.hashed ≡ None →
+        net ≡ posted_all v.setup v.network i outcome.sends → AreSigned signed (booked v.setup i outcome.own ++ w.held.signed) → AreHashed hashed (over outcome.hashed w.held.hashed) →
+        HasChanged m stands (record { setup = v.setup; nodes = v.nodes; network = net; signed = signed; hashed = hashed })
+        (carried w behind-it (stepped_to v.setup w.held i (Taken t))) Done
     turn-stands outcome net signed hashed made none en es eh =
-        subst (λ (d : Happening Msg). HasChanged m stands (record { setup = v.setup; nodes = v.nodes; network = net; signed = signed; hashed = hashed }) d Done)
-        (sym (turn-done v.setup h i t (sym (made-ends v.setup h t outcome made) ∙ none))) (
+        subst (λ (d : Happening Msg). HasChanged m stands (record { setup = v.setup; nodes = v.nodes; network = net; signed = signed; hashed = hashed }) (carried w behind-it d) Done)
+        (sym (turn-done v.setup w.held i t (sym (made-ends v.setup w.held t outcome made) ∙ none))) (
           record {
             cores = b.cores;
-            network = en ∙ ap (λ (u : Network). posted_all v.setup u i outcome.sends) b.network ∙ ap (λ (xs : List (To × List ℕ)). posted_all v.setup h.net.network i xs) made.sends;
-            signed = subst (λ (cs : List Claim). AreSigned signed (booked v.setup i cs ++ h.signed)) made.own es;
-            hashed = subst (λ (xs : List (List ℕ)). AreHashed hashed (over xs h.hashed)) made.hashed eh;
+            network = en ∙ ap (λ (u : Network). posted_all v.setup u i outcome.sends) b.network
+                ∙ ap (λ (xs : List (To × List ℕ)). posted_all v.setup w.held.net.network i xs) made.sends;
+            signed = subst (λ (cs : List Claim). AreSigned signed (booked v.setup i cs ++ w.held.signed)) made.own es;
+            hashed = subst (λ (xs : List (List ℕ)). AreHashed hashed (over xs w.held.hashed)) made.hashed eh;
           },
           refl,
           refl,

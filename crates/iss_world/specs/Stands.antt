@@ -12,6 +12,7 @@ use Rattle.iss_keep.specs.Entries.{spell_event}
 use Rattle.iss_keep.specs.State.{IsAt, KeptState}
 use Rattle.iss_model.specs.Node.{Core, idle}
 use Rattle.iss_model.specs.Run.{Held, node_of}
+use Rattle.iss_request.specs.declared.requests.Value.{Value}
 use Rattle.iss_request.specs.declared.setups.Setup.{Setup}
 use Rattle.iss_restarts.specs.Courses.{Course, Machines, Upshot, core_of as core_of_kept}
 use Rattle.iss_restarts.specs.Disks.{Disk, new_disk}
@@ -70,6 +71,10 @@ pub record LeadsBy {M Msg : Type 0} (m : Module Msg) (g : KeptState M Msg Memory
   pub read : IfTold (history_of g.disk.file) (λ file. Reads file.content (holds g.entries))
 
 -- ---- all of them
+
+-- the log of a core, newest first
+abbrev pub log_at : {Msg : Type 0} → Setup → Module Msg → Held Msg → ℕ → List Value
+log_at s m h i = log_of (rules_of s) m (node_of s i) (h.net.cores i).past
 
 -- each kept node stands for its core over its disk, the network is the net's, and the books hold what the model's hold
 pub record Runs {M Msg : Type 0} (m : Module Msg) (stands : Relation M Msg) (v : RunningState M Msg) (w : Machines Msg) : Type 0 where

@@ -22,13 +22,17 @@ use Rattle.iss_sb.specs.Calls.{AreToNodes, Relation}
 use Rattle.iss_sb.specs.Evidence.{Module}
 use Rattle.iss_sb.specs.declared.effects.Claim.{Claim}
 use Rattle.iss_world.specs.Books.{AreHashed, AreSigned}
-use Rattle.iss_world.specs.Stands.{StandsOver}
+use Rattle.iss_world.specs.Stands.{Runs, StandsOver}
 use Rattle.iss_world.specs.State.{RunningState}
 
 -- what a step of core c leads to whose own claims were tested: the claims that it read of what had come early are tested, and
 -- then its strings
 abbrev pub stepped_to : {Msg : Type 0} → Setup → Held Msg → ℕ → Stepped Msg → Happening Msg
 stepped_to s h c stepped = by_forged (first_forged s (rules_of s) h.signed (early_of stepped)) h (after_step s h c stepped)
+
+-- they stand for some run, in which the disk of core c has not failed
+abbrev pub IsWorking : {M Msg : Type 0} → Module Msg → Relation M Msg → RunningState M Msg → ℕ → Type 0
+IsWorking {Msg = Msg} m stands v c = (w : Machines Msg) × Runs m stands v w × ((w.disks c).failed ≡ false)
 
 -- the disks once core c has kept an event
 abbrev pub kept_at : {Msg : Type 0} → Machines Msg → ℕ → NodeEvent → ℕ → Disk

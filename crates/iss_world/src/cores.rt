@@ -12,7 +12,7 @@ ghost use Rattle.iss_request.specs.Setup.{IsGoodSetup};
 ghost use Rattle.iss_world.specs.Stands.{AreFresh, IsFresh, LeadsBy, StandsOver};
 
 use iss_disk::MemoryDisk;
-use iss_journal::AttachError;
+use iss_journal::{AttachError, a_file_has_one_reading};
 use iss_keep::Kept;
 use iss_keys::SharedDirectory;
 use iss_request::{NoMemory, NodeId, Setup};
@@ -94,6 +94,7 @@ pub fn make_anew<M: Sequenced>(node: &mut Kept<M, MemoryDisk>) -> Result<(), NoM
         StandsOver M.meaning M.stands node.new c (record { kept = events; passes = None; failed = false })) }
     ensures same { IsSame node.old node.new }
 {
+    a_file_has_one_reading();
     match node.reopen() {
         Ok(()) => Ok(()),
         Err(AttachError::NoMemory) => Err(NoMemory),

@@ -1,8 +1,6 @@
 //! The running cores of a cluster and the network between them, as long as there is memory.
 ghost use Rattle.std.specs.Prelude.{◌≡◌, ◌<◌, IfOk, Some, reverse, slice_get, true, false};
 ghost use Rattle.iss_base.specs.Lists.{nth};
-ghost use Rattle.iss_rules.specs.Concrete.{rules_of};
-ghost use Rattle.iss_rules.specs.Past.{log_of};
 ghost use Rattle.iss_model.specs.Run.{cores_of, node_of};
 ghost use Rattle.iss_model.specs.Frames.{frame_of};
 ghost use Rattle.iss_restarts.specs.Courses.{Machines, begin_machines, loses, went_on, with_disk, with_packets};
@@ -11,7 +9,7 @@ ghost use Rattle.iss_restarts.specs.Frames.{calms_in, delivers_each_in, delivers
 ghost use Rattle.iss_rules.specs.Setups.{IsSetupOf};
 ghost use Rattle.iss_network.specs.Network.{cleared, due, held_to};
 ghost use Rattle.iss_schedule.specs.Events.{IsInRange};
-ghost use Rattle.iss_world.specs.Stands.{HasChanged, IsShown, IsStanding, Runs, ShowsCore};
+ghost use Rattle.iss_world.specs.Stands.{HasChanged, IsShown, IsStanding, Runs, ShowsCore, log_at};
 
 use crate::claims::Claims;
 use crate::cores::{cores_of, directory_of, make_anew, start_cores};
@@ -313,7 +311,7 @@ impl<M: Sequenced> Running<M> {
     pub fn log(&self, core: u32) -> &Log
         requires { core < cores_of self.now.setup }
         ensures { (w : Machines M.Msg) → IsShown M.meaning M.stands self.now w →
-            log_of (rules_of self.now.setup) M.meaning (node_of self.now.setup core) (w.held.net.cores core).past ≡ reverse result.now.entries }
+            log_at self.now.setup M.meaning w.held core ≡ reverse result.now.entries }
     {
         self.node(core).log()
     }
@@ -322,7 +320,7 @@ impl<M: Sequenced> Running<M> {
     pub fn entries(&self, core: u32) -> &[Value]
         requires { core < cores_of self.now.setup }
         ensures { (w : Machines M.Msg) → IsShown M.meaning M.stands self.now w →
-            log_of (rules_of self.now.setup) M.meaning (node_of self.now.setup core) (w.held.net.cores core).past ≡ reverse result.now }
+            log_at self.now.setup M.meaning w.held core ≡ reverse result.now }
     {
         self.log(core).entries()
     }

@@ -16,7 +16,7 @@ ghost use Rattle.iss_restarts.specs.Frames.{at_machine_in};
 ghost use Rattle.iss_sb.specs.Calls.{AreToNodes};
 ghost use Rattle.iss_world.specs.Books.{AreHashed, AreSigned};
 ghost use Rattle.iss_world.specs.Stands.{HasChanged, IsStanding, Runs, StandsOver, end_of};
-ghost use Rattle.iss_world.specs.Steps.{HasAnswered, IsBehind, ends_by, kept_to, stepped_to};
+ghost use Rattle.iss_world.specs.Steps.{HasAnswered, IsBehind, IsWorking, ends_by, kept_to, stepped_to};
 
 use crate::claims::{Claims, book_own};
 use crate::ends::{Change, End};
@@ -120,7 +120,7 @@ impl<M: Sequenced> Running<M> {
     fn step(&mut self, alloc: Global, core: u32, event: NodeEvent) -> Result<Change, NoMemory>
         requires core { core < cores_of self.old.setup }
         requires nodes { IsOfNodes self.old.setup.n event }
-        requires standing { IsStanding M.meaning M.stands self.old }
+        requires working { IsWorking M.meaning M.stands self.old core }
         ensures happened { IfOk result (λ r. (w : Machines M.Msg) → Runs M.meaning M.stands self.old w → (w.disks core).failed ≡ false →
             HasChanged M.meaning M.stands self.new (kept_to self.old.setup w core event
             (step_in (frame_of self.old.setup M.meaning) (node_of self.old.setup core) (w.held.net.cores core) event)) r) }

@@ -1,7 +1,5 @@
 //! The world of a cluster, which says of itself when its run has ended, and when memory was wanting.
 ghost use Rattle.std.specs.Prelude.{◌≡◌, ◌<◌, ◌++◌, ◌∷◌, [], IfOk, List, None, OnOk, reverse};
-ghost use Rattle.iss_rules.specs.Concrete.{rules_of};
-ghost use Rattle.iss_rules.specs.Past.{log_of};
 ghost use Rattle.iss_model.specs.Run.{cores_of, node_of};
 ghost use Rattle.iss_model.specs.Frames.{frame_of};
 ghost use Rattle.iss_restarts.specs.Courses.{Course, Machines, begin_machines};
@@ -11,7 +9,7 @@ ghost use Rattle.iss_schedule.specs.Events.{AreInRange, IsInRange};
 ghost use Rattle.iss_schedule.specs.declared.schedules.Event.{Event as Happens};
 ghost use Rattle.iss_world.specs.Headline.{IsAnswered, IsHeadline, StandsAfter};
 ghost use Rattle.iss_world.specs.Shape.{IsWorld};
-ghost use Rattle.iss_world.specs.Stands.{HasHappened, IsOverOr, IsStaleOr, IsStanding, StandsAt, StandsFor, StandsOver, awake, told_as};
+ghost use Rattle.iss_world.specs.Stands.{HasHappened, IsOverOr, IsStaleOr, IsStanding, StandsAt, StandsFor, StandsOver, awake, log_at, told_as};
 
 use crate::ends::{Change, End};
 use crate::running::Running;
@@ -150,7 +148,7 @@ impl<M: Sequenced> World<M> {
     pub fn log(&self, core: u32) -> &Log
         requires { core < cores_of self.now.running.setup }
         ensures { (p : Course M.Msg) → StandsAt M.meaning M.stands self.now p →
-            log_of (rules_of self.now.running.setup) M.meaning (node_of self.now.running.setup core) (p.machines.held.net.cores core).past ≡ reverse result.now.entries }
+            log_at self.now.running.setup M.meaning p.machines.held core ≡ reverse result.now.entries }
     {
         self.running.log(core)
     }
@@ -159,7 +157,7 @@ impl<M: Sequenced> World<M> {
     pub fn entries(&self, core: u32) -> &[Value]
         requires { core < cores_of self.now.running.setup }
         ensures { (p : Course M.Msg) → StandsAt M.meaning M.stands self.now p →
-            log_of (rules_of self.now.running.setup) M.meaning (node_of self.now.running.setup core) (p.machines.held.net.cores core).past ≡ reverse result.now }
+            log_at self.now.running.setup M.meaning p.machines.held core ≡ reverse result.now }
     {
         self.running.entries(core)
     }

@@ -7,3 +7,6 @@ loop-claim-preserved-in-Continue-1 c = c.in_ok-push.ensures.ok ∙ own-put c.arg
 
 pub loop-claim-preserved : goal.loop-claim-preserved
 loop-claim-preserved c = own-left c.args.me.0 c.args.own.now c.loop-claim.own c.loop-claim.yielded c.in-Some.claim c.loop-claim.invariant c.if-claim-me.false
+
+pub loop-claim-preserved-else-claim-me : goal.loop-claim-preserved-else-claim-me
+loop-claim-preserved-else-claim-me c = own-left c.args.me.0 c.args.own.now c.loop-claim.own c.loop-claim.yielded c.in-Some.claim c.loop-claim.invariant c.if-claim-me.false

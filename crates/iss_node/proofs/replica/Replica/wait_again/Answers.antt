@@ -10,6 +10,14 @@ loop-request-preserved g c = record {
   whole = whole-next c.args.batch c.loop-request.yielded c.in-Some.request _ _ c.loop-request.invariant.whole c.in-Some.ensures.steps.0;
 }
 
+pub loop-request-preserved-else-not-is_logged : goal.loop-request-preserved-else-not-is_logged
+loop-request-preserved-else-not-is_logged g c = record {
+  back = λ all h n. again-logged all c.loop-request.self.waiting c.args.self.now.waiting c.loop-request.yielded c.in-Some.request
+      (sym (c.is_logged.ensures all (logged-still c.args.self.now c.loop-request.self c.loop-request.invariant.rest all h)) ∙ c.if-not-is_logged.false) (c.loop-request.invariant.back all h n);
+  rest = c.loop-request.invariant.rest;
+  whole = whole-next c.args.batch c.loop-request.yielded c.in-Some.request _ _ c.loop-request.invariant.whole c.in-Some.ensures.steps.0;
+}
+
 pub loop-request-preserved-in-Continue-1 : goal.loop-request-preserved-in-Continue-1
 loop-request-preserved-in-Continue-1 g c = record {
   back = λ all h n. again-waits all c.loop-request.self c.wait.new.self c.args.self.now.waiting c.args.batch c.loop-request.yielded c.in-Some.request _

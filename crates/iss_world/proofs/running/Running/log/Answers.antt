@@ -3,4 +3,4 @@ use Rattle.iss_log.specs.LogState.{LogState}
 use Rattle.iss_world.proofs.running.Running.log.Goals as goal
 
 pub returns : goal.returns
-returns g c = λ h k. c.node.ensures.log h k ∙ ap (λ (l : LogState). reverse l.entries) (sym c.log.ensures.shown)
+returns g c = λ w k. (c.node.ensures.shown w k).log ∙ ap (λ (l : LogState). reverse l.entries) (sym c.log.ensures.shown)

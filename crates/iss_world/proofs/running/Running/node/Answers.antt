@@ -10,19 +10,12 @@ returns-clause-at g c =
     let lt : c.args.core < length c.self.inside.nodes.items = omega (arith, ap (λ (z : RunningState _ _). cores_of z.setup) c.self.view_is, c.self.invariant.0.count) in
     rw (← c.self.view_is) (slice_get_read c.self.inside.nodes.items _ c.args.core c.index.result.now refl lt c.index.ensures)
 
-pub returns-clause-log : goal.returns-clause-log
-returns-clause-log g c =
+pub returns-clause-shown : goal.returns-clause-shown
+returns-clause-shown g c =
     let v : RunningState g.row.M.Denot g.row.M-Msg.Denot = record { setup = c.self.inside.setup; nodes = c.self.inside.nodes.items; network = c.self.inside.network; signed = c.self.inside.signed; hashed = c.self.inside.hashed } in
     let lt : c.args.core < length c.self.inside.nodes.items = omega (arith, ap (λ (z : RunningState _ _). cores_of z.setup) c.self.view_is, c.self.invariant.0.count) in
     let at = slice_get_read c.self.inside.nodes.items _ c.args.core c.index.result.now refl lt c.index.ensures in
-    rw (← c.self.view_is) (λ h k. (shown-shows g.M.Sequenced.meaning g.M.Sequenced.stands v h c.self.invariant.0 k).log c.args.core c.index.result.now at)
-
-pub returns-clause-epoch : goal.returns-clause-epoch
-returns-clause-epoch g c =
-    let v : RunningState g.row.M.Denot g.row.M-Msg.Denot = record { setup = c.self.inside.setup; nodes = c.self.inside.nodes.items; network = c.self.inside.network; signed = c.self.inside.signed; hashed = c.self.inside.hashed } in
-    let lt : c.args.core < length c.self.inside.nodes.items = omega (arith, ap (λ (z : RunningState _ _). cores_of z.setup) c.self.view_is, c.self.invariant.0.count) in
-    let at = slice_get_read c.self.inside.nodes.items _ c.args.core c.index.result.now refl lt c.index.ensures in
-    rw (← c.self.view_is) (λ h k. (shown-shows g.M.Sequenced.meaning g.M.Sequenced.stands v h c.self.invariant.0 k).epoch c.args.core c.index.result.now at)
+    rw (← c.self.view_is) (λ w k. shown-shows g.M.Sequenced.meaning g.M.Sequenced.stands v w c.self.invariant.0 k c.args.core c.index.result.now at)
 
 pub returns-clause-same : goal.returns-clause-same
 returns-clause-same g c =

@@ -1,0 +1,299 @@
+-- What each call of a kept node, over a disk in memory, leaves of the core for which it stands.
+use Rattle.std.proofs.Common.{◌≡◌, ℕ, ◌≤◌, Bool, true, false, List, [], ◌∷◌, ◌++◌, Option, Some, None, reverse, refl, sym, ap, ◌∙◌, subst, true≢false}
+use Rattle.std.proofs.lemmas.Bool.{le-leb, lt-leb}
+use Rattle.iss_base.proofs.Lists.{some-injective}
+use Rattle.iss_causes.specs.declared.causes.NodeEvent.{NodeEvent}
+use Rattle.iss_causes.specs.declared.causes.Why.{Why}
+use Rattle.iss_disk.specs.Calls.{IfTold, Passes, Restarts, Runs, Stays, script, up_to}
+use Rattle.iss_disk.specs.File.{File, settled}
+use Rattle.iss_disk.specs.MemoryLaws.{memory_here}
+use Rattle.iss_disk.specs.MemoryViews.{calls_of, current_of, faults_of, files_of}
+use Rattle.iss_disk.specs.StoredViews.{history_of}
+use Rattle.iss_disk.specs.declared.memory.MemoryDisk.{MemoryDisk}
+use Rattle.iss_journal.specs.Frames.{Reading, Reads, holds}
+use Rattle.iss_keep.proofs.DiskLemmas.{attached-same, attached-synced, never-damaged, new-read, reopens-well, restarted-read, runs-all, runs-failed, runs-passed, stays-here, stored-kept, stored-told, written-synced}
+use Rattle.iss_keep.proofs.TakenLemmas.{taken-goes-on, taken-later}
+use Rattle.iss_keep.specs.Cores.{core_of, step_of}
+use Rattle.iss_keep.specs.Entries.{spell_event}
+use Rattle.iss_keep.specs.State.{IsAt, KeptState, StandsFor}
+use Rattle.iss_keep.specs.Steps.{IsAnswer, IsAttached, IsDamaged, IsDrop, IsSame, IsTaken, IsTurn, IsWritten, LosesNone, ShowsAsBefore, Sight, makes_stale, sight}
+use Rattle.iss_keep.specs.declared.answers.Answer.{Answer}
+use Rattle.iss_keep.specs.declared.answers.Answer.TheVariants.{Dropped as Was_dropped, Failed, NoMemory, Stale, Taken as Was_kept}
+use Rattle.iss_log.specs.LogState.{GoesOn}
+use Rattle.iss_model.specs.Node.{Core, Dropped, Stepped, Taken, idle, step}
+use Rattle.iss_node.specs.State.{NodeState}
+use Rattle.iss_node.specs.Steps.{IsOfNodes}
+use Rattle.iss_node.specs.declared.answers.Outcome.{Outcome}
+use Rattle.iss_request.specs.declared.ids.NodeId.{NodeId}
+use Rattle.iss_request.specs.declared.requests.Value.{Value}
+use Rattle.iss_request.specs.declared.setups.Setup.{Setup}
+use Rattle.iss_restarts.specs.Courses.{after_step, core_of as core_of_kept}
+use Rattle.iss_restarts.specs.Disks.{Disk, entry_calls, fused, keeps, left_behind, may_keep}
+use Rattle.iss_rules.specs.Concrete.{rules_of}
+use Rattle.iss_rules.specs.Formats.{formats_of}
+use Rattle.iss_rules.specs.Past.{log_of}
+use Rattle.iss_rules.specs.Setups.{IsSetupOf}
+use Rattle.iss_sb.specs.Calls.{Relation}
+use Rattle.iss_sb.specs.Evidence.{Module}
+use Rattle.iss_world.specs.Stands.{IsThere, LeadsBy, ShowsCore, StandsOver, calls_to_come}
+use Rattle.iss_world.specs.Steps.{HasAnswered, IsKeptTurn, IsStop}
+
+-- the same node, and again
+pub same-again : {M Msg : Type 0} (a b c : KeptState M Msg MemoryDisk) → IsSame a b → IsSame b c → IsSame a c
+same-again a b c p q = record { setup = q.setup ∙ p.setup; me = q.me ∙ p.me }
+
+-- ---- the disk
+
+-- what is seen of a disk in memory
+abbrev pub seen : MemoryDisk → Sight
+seen disk = sight (λ (d : MemoryDisk). history_of d.file) calls_of faults_of current_of files_of disk
+
+passes-kept : (o : Option ℕ) (now : Passes) → Runs 4 (calls_to_come o) now true → (may_keep o ≡ true) × (now ≡ calls_to_come (left_behind o))
+passes-kept None now h = (refl, (runs-all 4 now true h).1)
+passes-kept (Some calls) now h = let r = runs-passed 4 calls now h in (le-leb entry_calls calls r.0, r.1)
+
+passes-failed : (o : Option ℕ) (now : Passes) → Runs 4 (calls_to_come o) now false → (may_keep o ≡ false) × (now ≡ calls_to_come (Some 0))
+passes-failed None now h = absurd (true≢false (sym (runs-all 4 now false h).0))
+passes-failed (Some calls) now h = let r = runs-failed 4 calls now h in (lt-leb entry_calls calls r.0, r.1)
+
+read-told : (P : File → Type 0) (history : List File) (file : File) (past : List File) → history ≡ file ∷ past → IfTold history P → P file
+read-told P history file past told h = subst (λ (files : List File). IfTold files P) told h
+
+module _ {M Msg : Type 0} (m : Module Msg) (stands : Relation M Msg) where
+  -- ---- what it shows
+
+  pub at-shows : (g : KeptState M Msg MemoryDisk) (c : Core Msg) → IsAt m stands g c → ShowsCore m g.setup g.me.0 g c
+  at-shows g c at = record {
+    log = subst (λ (s : Setup). log_of (rules_of s) m g.me.0 c.past ≡ reverse g.node.parts.log.entries) at.cluster
+        (subst (λ (i : NodeId). log_of (rules_of g.node.parts.setup) m i.0 c.past ≡ reverse g.node.parts.log.entries) at.number at.node.held.parts.tied.log);
+    epoch = at.node.held.parts.tied.epoch;
+  }
+
+  there-shows : (g : KeptState M Msg MemoryDisk) (c : Core Msg) (failed : Bool) → IsThere m stands g c failed → ShowsCore m g.setup g.me.0 g c
+  there-shows g c false h = at-shows g c h
+  there-shows g c true h = h.1
+
+  pub over-shows : (g : KeptState M Msg MemoryDisk) (c : Core Msg) (d : Disk) → StandsOver m stands g c d → ShowsCore m g.setup g.me.0 g c
+  over-shows g c d h = there-shows g c d.failed h.there
+
+  -- it is stale where its disk has failed, and nowhere else
+  there-stale : (g : KeptState M Msg MemoryDisk) (c : Core Msg) (failed : Bool) → IsThere m stands g c failed → g.stale ≡ failed
+  there-stale g c false h = h.fresh
+  there-stale g c true h = h.0
+
+  pub over-stale : (g : KeptState M Msg MemoryDisk) (c : Core Msg) (d : Disk) → StandsOver m stands g c d → g.stale ≡ d.failed
+  over-stale g c d h = there-stale g c d.failed h.there
+
+  pub at-working : (g : KeptState M Msg MemoryDisk) (c : Core Msg) (d : Disk) → StandsOver m stands g c d → d.failed ≡ false → IsAt m stands g c
+  at-working g c d h working = subst (λ (b : Bool). IsThere m stands g c b) working h.there
+
+  -- ---- the same node later
+
+  module _ (old new : KeptState M Msg MemoryDisk) (same : IsSame old new) where
+    shows-still : (c : Core Msg) → ShowsCore m old.setup old.me.0 old c → ShowsAsBefore old new → ShowsCore m new.setup new.me.0 new c
+    shows-still c shown as-before = record {
+      log = subst (λ (s : Setup). log_of (rules_of s) m new.me.0 c.past ≡ reverse new.node.parts.log.entries) (sym same.setup)
+          (subst (λ (i : NodeId). log_of (rules_of old.setup) m i.0 c.past ≡ reverse new.node.parts.log.entries) (sym same.me)
+          (shown.log ∙ ap (λ (vs : List Value). reverse vs) (sym as-before.log)));
+      epoch = as-before.epoch ∙ shown.epoch;
+    }
+
+    made-still : (events : List NodeEvent) (c : Core Msg) → core_of_kept (formats_of old.setup m) (rules_of old.setup) m old.me.0 events ≡ c →
+        core_of_kept (formats_of new.setup m) (rules_of new.setup) m new.me.0 events ≡ c
+    made-still events c h =
+        subst (λ (s : Setup). core_of_kept (formats_of s m) (rules_of s) m new.me.0 events ≡ c) (sym same.setup)
+        (subst (λ (i : NodeId). core_of_kept (formats_of old.setup m) (rules_of old.setup) m i.0 events ≡ c) (sym same.me) h)
+
+    leads-still : (c : Core Msg) → new.entries ≡ old.entries → core_of old.setup m old.me.0 old.entries ≡ Some c → core_of new.setup m new.me.0 new.entries ≡ Some c
+    leads-still c entries h =
+        subst (λ (s : Setup). core_of s m new.me.0 new.entries ≡ Some c) (sym same.setup)
+        (subst (λ (i : NodeId). core_of old.setup m i.0 new.entries ≡ Some c) (sym same.me)
+        (subst (λ (es : List (List ℕ)). core_of old.setup m old.me.0 es ≡ Some c) (sym entries) h))
+
+    at-still : (c : Core Msg) → new.node ≡ old.node → new.stale ≡ old.stale → IsAt m stands old c → IsAt m stands new c
+    at-still c node stale at = record {
+      fresh = stale ∙ at.fresh;
+      node = rw node at.node;
+      cluster = rw node at.cluster ∙ sym same.setup;
+      number = rw node at.number ∙ sym same.me;
+    }
+
+    -- ---- an event
+
+    module _ (c : Core Msg) (d : Disk) (over : StandsOver m stands old c d) (working : d.failed ≡ false) (event : NodeEvent) where
+      at-old : IsAt m stands old c
+      at-old = at-working old c d over working
+
+      for-old : StandsFor m stands old c
+      for-old = record { fresh = at-old.fresh; node = at-old.node; cluster = at-old.cluster; number = at-old.number; core = over.leads }
+
+      abbrev stepped : Stepped Msg
+      stepped = step_of old.setup m old.me.0 c event
+
+      abbrev Written : Answer → Type 0
+      Written answer = IsWritten old.entries (spell_event event) (seen old.disk) (seen new.disk) new.entries answer
+
+      synced-now : (answer : Answer) → Written answer → IfTold (history_of new.disk.file) (λ file. Reads file.kept (holds new.entries))
+      synced-now answer w = written-synced old.entries (spell_event event) (seen old.disk) (seen new.disk) new.entries answer w (stored-kept new.disk.file) over.synced
+
+      kept-turn : (outcome : Outcome) → IsOfNodes old.setup.n event → IsTurn m stands (IsOfNodes old.setup.n event) old c stepped new outcome →
+          Written (Was_kept outcome) → IsKeptTurn m stands d event stepped new outcome
+      kept-turn outcome of t w =
+          let calls = passes-kept d.passes (calls_of new.disk) (subst (λ (p : Passes). Runs 4 p (calls_of new.disk) true) over.calls w.device) in
+          let later : after_step (core_of_kept (formats_of old.setup m) (rules_of old.setup) m old.me.0 d.kept)
+          (step_of old.setup m old.me.0 (core_of_kept (formats_of old.setup m) (rules_of old.setup) m old.me.0 d.kept) event) ≡ t.turn.core =
+          ap (λ (x : Core Msg). after_step x (step_of old.setup m old.me.0 x event)) over.made ∙ ap (λ (o : Stepped Msg). after_step c o) t.step_is in
+          record {
+            turn = t.turn;
+            step_is = t.step_is;
+            room = calls.0;
+            over = record {
+              there = subst (λ (b : Bool). IsThere m stands new t.turn.core b) (sym working) t.at;
+              entries = w.added ∙ ap (λ (es : List (List ℕ)). es ++ spell_event event ∷ []) over.entries;
+              leads = (t.stands_for of for-old).core;
+              made = made-still (event ∷ d.kept) t.turn.core later;
+              synced = synced-now (Was_kept outcome) w;
+              calls = calls.1;
+            };
+            made = t.made;
+            addressed = t.addressed of;
+          }
+
+      dropped-answer : (why : Why) → IsDrop m stands old c stepped new why → Written (Was_dropped why) → (stepped ≡ Dropped why) × StandsOver m stands new c d
+      dropped-answer why t w = (
+        t.step_is,
+        record {
+          there = subst (λ (b : Bool). IsThere m stands new c b) (sym working) t.at;
+          entries = w.added ∙ over.entries;
+          leads = (t.stands_for for-old).core;
+          made = made-still d.kept c over.made;
+          synced = synced-now (Was_dropped why) w;
+          calls = w.device ∙ over.calls;
+        },
+      )
+
+      stop-answer : IsTaken stepped → Written Failed → new.stale ≡ true → (new.stale ≡ true → ShowsAsBefore old new) → IsStop m stands c d stepped new
+      stop-answer t w stale shown =
+          let calls = passes-failed d.passes (calls_of new.disk) (subst (λ (p : Passes). Runs 4 p (calls_of new.disk) false) over.calls w.device) in
+          record {
+            turn = t.0;
+            step_is = t.1;
+            no_room = calls.0;
+            over = record {
+              there = (stale, shows-still c (over-shows old c d over) (shown stale));
+              entries = w.added ∙ over.entries;
+              leads = leads-still c w.added over.leads;
+              made = made-still d.kept c over.made;
+              synced = synced-now Failed w;
+              calls = calls.1;
+            };
+          }
+
+      -- what a kept node answers says what became of the core and its disk
+      pub answered : (answer : Answer) → IsOfNodes old.setup.n event → IsAnswer m stands (IsOfNodes old.setup.n event) old c stepped new answer → Written answer →
+          new.stale ≡ makes_stale answer → (new.stale ≡ true → ShowsAsBefore old new) → HasAnswered m stands c d event stepped new answer
+      answered (Was_kept outcome) of t w stale shown = kept-turn outcome of t w
+      answered (Was_dropped why) of t w stale shown = dropped-answer why t w
+      answered Failed of t w stale shown = stop-answer t w stale shown
+      answered Stale of t w stale shown = t
+      answered NoMemory of t w stale shown = tt
+
+      -- where it was kept, its log went on, and its epoch did not fall
+      module _ (good : IsSetupOf m old.setup) (outcome : Outcome) (k : IsKeptTurn m stands d event stepped new outcome) where
+        at-new : IsAt m stands new k.turn.core
+        at-new = at-working new k.turn.core (keeps d event) k.over working
+
+        node-step : step (formats_of old.node.parts.setup m) (rules_of old.node.parts.setup) m old.node.parts.me.0 c event ≡ Taken k.turn
+        node-step =
+            subst (λ (s : Setup). step_of s m old.node.parts.me.0 c event ≡ Taken k.turn) (sym at-old.cluster)
+            (subst (λ (i : NodeId). step_of old.setup m i.0 c event ≡ Taken k.turn) (sym at-old.number) k.step_is)
+
+        good-node : IsSetupOf m old.node.parts.setup
+        good-node = subst (λ (s : Setup). IsSetupOf m s) (sym at-old.cluster) good
+
+        cluster-now : new.node.parts.setup ≡ old.node.parts.setup
+        cluster-now = at-new.cluster ∙ same.setup ∙ sym at-old.cluster
+
+        number-now : new.node.parts.me ≡ old.node.parts.me
+        number-now = at-new.number ∙ same.me ∙ sym at-old.number
+
+        pub log-grown : GoesOn old.node.parts.log.entries new.node.parts.log.entries
+        log-grown = taken-goes-on m stands old.node new.node c event k.turn good-node at-old.node at-new.node node-step cluster-now number-now
+
+        pub epoch-grown : old.node.parts.epoch ≤ new.node.parts.epoch
+        epoch-grown = taken-later m stands old.node new.node c event k.turn good-node at-old.node at-new.node node-step cluster-now number-now
+
+    -- ---- a disk that is to fail
+
+    pub fused-over : (c : Core Msg) (d : Disk) (calls : ℕ) → StandsOver m stands old c d → calls_of new.disk ≡ up_to calls → new.node ≡ old.node → new.entries ≡ old.entries →
+        new.stale ≡ old.stale → Stays (current_of old.disk) (current_of new.disk) (files_of old.disk) (files_of new.disk) → StandsOver m stands new c (fused d calls)
+    fused-over c d calls over passes node entries stale files =
+        let history : history_of new.disk.file ≡ history_of old.disk.file =
+        stays-here (λ (x : MemoryDisk). history_of x.file) files_of current_of memory_here old.disk new.disk files in
+        record {
+          there = there-still d.failed over.there;
+          entries = entries ∙ over.entries;
+          leads = leads-still c entries over.leads;
+          made = made-still d.kept c over.made;
+          synced = subst (λ (es : List (List ℕ)). IfTold (history_of new.disk.file) (λ file. Reads file.kept (holds es))) (sym entries)
+              (subst (λ (h : List File). IfTold h (λ file. Reads file.kept (holds old.entries))) (sym history) over.synced);
+          calls = passes;
+        }
+      where
+        as-before : ShowsAsBefore old new
+        as-before = record {
+          log = ap (λ (v : NodeState M Msg). v.parts.log.entries) node;
+          epoch = ap (λ (v : NodeState M Msg). v.parts.epoch) node;
+        }
+
+        there-still : (failed : Bool) → IsThere m stands old c failed → IsThere m stands new c failed
+        there-still false h = at-still c node stale h
+        there-still true h = (stale ∙ h.0, shows-still c h.1 as-before)
+
+    -- ---- a core made anew
+
+    -- after a restart of its disk a node has entries that lead to the core that it stood for
+    pub restarted-leads : (c : Core Msg) (d : Disk) → StandsOver m stands old c d → ((name : List ℕ) → Restarts (files_of old.disk name) (files_of new.disk name)) →
+        current_of new.disk ≡ current_of old.disk → new.entries ≡ old.entries → LeadsBy m new d.kept c
+    restarted-leads c d over restarts current entries = record {
+      entries = entries ∙ over.entries;
+      leads = leads-still c entries over.leads;
+      made = made-still d.kept c over.made;
+      read = subst (λ (es : List (List ℕ)). IfTold (history_of new.disk.file) (λ file. Reads file.content (holds es))) (sym entries)
+          (restarted-read old.entries (λ (x : MemoryDisk). history_of x.file) files_of current_of memory_here old.disk new.disk restarts current over.synced).0;
+    }
+
+    module _ (one : (bytes : List ℕ) (r q : Reading) → Reads bytes r → Reads bytes q → r ≡ q) (events : List NodeEvent) (c : Core Msg) (leads : LeadsBy m old events c) where
+      -- it is reopened at that core
+      pub reopened-over : (failed : Type 0) (e : Core Msg) → calls_of old.disk ≡ script [] → StandsFor m stands new e → IsAttached (seen old.disk) (seen new.disk) new.entries →
+          LosesNone (seen old.disk) (seen new.disk) failed → StandsOver m stands new c (record { kept = events; passes = None; failed = false })
+      reopened-over failed e works for attached loses =
+          let told = stored-told old.disk.file in
+          let reads = read-told (λ file. Reads file.content (holds old.entries)) (history_of old.disk.file) told.0 told.1 told.2 leads.read in
+          let found : new.entries ≡ old.entries = attached-same one (seen old.disk) (seen new.disk) old.entries new.entries told.0 told.1 told.2 reads attached in
+          let lead : core_of new.setup m new.me.0 new.entries ≡ Some c = leads-still c found leads.leads in
+          let is : e ≡ c = some-injective e c (sym for.core ∙ lead) in
+          record {
+            there = subst (λ (x : Core Msg). IsAt m stands new x) is (record { fresh = for.fresh; node = for.node; cluster = for.cluster; number = for.number });
+            entries = found ∙ leads.entries;
+            leads = lead;
+            made = made-still events c leads.made;
+            synced = attached-synced new.entries (seen old.disk) (seen new.disk) attached (stored-kept new.disk.file);
+            calls = (reopens-well (seen old.disk) (seen new.disk) failed loses works).0;
+          }
+
+      -- and nothing is found damaged
+      pub not-damaged : (at : ℕ) → IsDamaged old.setup m old.me.0 new.entries (history_of old.disk.file) at → ⊥
+      not-damaged at h =
+          let told = stored-told old.disk.file in
+          let reads = read-told (λ file. Reads file.content (holds old.entries)) (history_of old.disk.file) told.0 told.1 told.2 leads.read in
+          never-damaged one old.setup m old.me.0 old.entries new.entries c leads.leads at told.0 told.1 reads (history_of old.disk.file) told.2 h
+
+  -- over a new disk: no entries, and the core that has taken nothing
+  pub new-leads : (g : KeptState M Msg MemoryDisk) → g.entries ≡ [] → history_of g.disk.file ≡ settled [] ∷ [] → LeadsBy m g [] idle
+  new-leads g entries history = record {
+    entries = entries;
+    leads = ap (λ (es : List (List ℕ)). core_of g.setup m g.me.0 es) entries;
+    made = refl;
+    read = subst (λ (es : List (List ℕ)). IfTold (history_of g.disk.file) (λ file. Reads file.content (holds es))) (sym entries) (new-read (history_of g.disk.file) history).0;
+  }
