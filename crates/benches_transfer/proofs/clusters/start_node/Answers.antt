@@ -1,5 +1,5 @@
 use Rattle.std.proofs.Common.{◌∙◌}
-use Rattle.iss_world.proofs.KeyLemmas.{own-number}
+use Rattle.iss_keep.proofs.KeptLemmas.{own-number}
 use Rattle.benches_transfer.proofs.clusters.start_node.Goals as goal
 
 pub keys_of_node-keys-requires : goal.keys_of_node-keys-requires
