@@ -13,7 +13,36 @@ use std::alloc::Global;
 use std::process::Abort;
 use std::test::Fail;
 
-type Subject = Kept<Echo, MemoryDisk>;
+// A kept node, of which a test knows no clause.
+#[derive(Drop)]
+struct Signer {
+    kept: Kept<Echo, MemoryDisk>,
+}
+
+impl Signer {
+    fn take(&mut self, event: NodeEvent) -> Answer {
+        self.kept.take(event)
+    }
+
+    fn fails(&mut self, event: NodeEvent) -> bool {
+        matches!(self.take(event), Answer::Failed)
+    }
+
+    fn fuse(&mut self, calls: u64) {
+        self.kept.fuse(calls);
+    }
+
+    // The disk stops and works again, and the node is made anew.
+    fn restart(&mut self) -> Result<(), Fail> {
+        self.kept.restart();
+        self.kept.reopen()?;
+        Ok(())
+    }
+
+    fn epoch(&self) -> u64 {
+        self.kept.epoch().0
+    }
+}
 
 // One node, whose key has sixteen leaves.
 fn alone(alloc: Global) -> Setup
@@ -38,17 +67,17 @@ fn alone(alloc: Global) -> Setup
     }
 }
 
-fn node_over(alloc: Global, setup: &Setup) -> Result<Subject, Fail>
+fn node_over(alloc: Global, setup: &Setup) -> Result<Signer, Fail>
     requires { IsSetupOf echo setup.now }
 {
     let directory = SharedDirectory::make(alloc, setup.n, setup.clients, setup.keys as u8)?;
     let disk = MemoryDisk::new(alloc)?;
-    let mut node = Kept::over(alloc, setup, &directory, NodeId(0), disk)?;
-    node.reopen()?;
-    Ok(node)
+    let mut kept = Kept::over(alloc, setup, &directory, NodeId(0), disk)?;
+    kept.reopen()?;
+    Ok(Signer { kept })
 }
 
-fn node(alloc: Global) -> Result<Subject, Fail> {
+fn node(alloc: Global) -> Result<Signer, Fail> {
     let setup = alone(alloc);
     node_over(alloc, &setup)
 }
@@ -82,6 +111,11 @@ fn seen(alloc: Global, outcome: &Outcome) -> Result<Made, Fail> {
     Ok(made)
 }
 
+// These leaves signed.
+fn signed_by(rt: &impl Abort, made: &Made, leaves: &[u32]) {
+    assert_eq!(rt; made.leaves.as_slice(), leaves);
+}
+
 fn told(alloc: Global, answer: &Answer) -> Result<Made, Fail> {
     match answer {
         Answer::Taken(outcome) => seen(alloc, outcome),
@@ -89,31 +123,24 @@ fn told(alloc: Global, answer: &Answer) -> Result<Made, Fail> {
     }
 }
 
-fn propose(alloc: Global, node: &mut Subject) -> Result<Made, Fail> {
+fn propose(alloc: Global, node: &mut Signer) -> Result<Made, Fail> {
     told(alloc, &node.take(NodeEvent::Propose))
 }
 
 // The node takes a packet that it sent.
-fn take_back(alloc: Global, node: &mut Subject, made: &Made, place: usize) -> Result<Made, Fail> {
+fn take_back(alloc: Global, node: &mut Signer, made: &Made, place: usize) -> Result<Made, Fail> {
     let bytes = made.packets.get(place).ok_or("it is not sent")?;
     told(alloc, &node.take(NodeEvent::Packet(bytes.copy()?)))
 }
 
-// The disk stops and works again, and the node is made anew.
-fn restart(node: &mut Subject) -> Result<(), Fail> {
-    node.restart();
-    node.reopen()?;
-    Ok(())
-}
-
 // The word and the echo of a proposal are signed by two leaves, and the vote by the one behind them. Hands out the vote.
-fn order(rt: &impl Abort, alloc: Global, node: &mut Subject, first: u32) -> Result<Made, Fail> {
+fn order(rt: &impl Abort, alloc: Global, node: &mut Signer, first: u32) -> Result<Made, Fail> {
     let said = propose(alloc, node)?;
-    assert_eq!(rt; said.leaves.as_slice(), [first, first + 1].as_slice());
-    restart(node)?;
+    signed_by(rt, &said, [first, first.wrapping_add(1)].as_slice());
+    node.restart()?;
     let voted = take_back(alloc, node, &said, 1)?;
-    assert_eq!(rt; voted.leaves.as_slice(), [first + 2].as_slice());
-    restart(node)?;
+    signed_by(rt, &voted, [first.wrapping_add(2)].as_slice());
+    node.restart()?;
     Ok(voted)
 }
 
@@ -124,7 +151,7 @@ fn a_reopened_node_signs_with_the_next_leaf(rt: HostRuntime) -> Result<(), Fail>
     order(&rt, alloc, &mut node, 0)?;
     order(&rt, alloc, &mut node, 3)?;
     order(&rt, alloc, &mut node, 6)?;
-    assert_eq!(rt; node.epoch().0, 3);
+    assert_eq!(rt; node.epoch(), 3);
     Ok(())
 }
 
@@ -134,9 +161,8 @@ fn an_event_that_is_not_kept_uses_no_leaf(rt: HostRuntime) -> Result<(), Fail> {
     let alloc = rt.alloc();
     let mut node = node(alloc)?;
     node.fuse(3);
-    let failed = matches!(node.take(NodeEvent::Propose), Answer::Failed);
-    assert!(rt; failed);
-    restart(&mut node)?;
+    assert!(rt; node.fails(NodeEvent::Propose));
+    node.restart()?;
     order(&rt, alloc, &mut node, 0)?;
     Ok(())
 }
@@ -150,10 +176,10 @@ fn a_piece_shows_the_vote_that_was_signed(rt: HostRuntime) -> Result<(), Fail> {
     assert!(rt; asked.leaves.is_empty());
     let voted = order(&rt, alloc, &mut node, 0)?;
     take_back(alloc, &mut node, &voted, 0)?;
-    restart(&mut node)?;
+    node.restart()?;
     let handed = take_back(alloc, &mut node, &asked, 0)?;
-    assert_eq!(rt; handed.leaves.as_slice(), [2u32].as_slice());
-    restart(&mut node)?;
+    signed_by(&rt, &handed, [2u32].as_slice());
+    node.restart()?;
     order(&rt, alloc, &mut node, 3)?;
     Ok(())
 }
