@@ -1,13 +1,12 @@
-//! A cluster of kept nodes, and what node 0 of it takes.
-ghost use Rattle.std.specs.Prelude.{◌≡◌, ◌<◌};
+//! A cluster, and what node 0 of it takes.
+ghost use Rattle.std.specs.Prelude.{◌≡◌};
 ghost use Rattle.iss_rules.specs.Concrete.{keys_of};
 ghost use Rattle.iss_rules.specs.Setups.{IsSetupOf};
 
+use crate::nodes::{bare, directory_of};
 use crate::works::Work;
-use iss_disk::MemoryDisk;
-use iss_keep::{Answer, Kept};
 use iss_keys::SharedDirectory;
-use iss_node::Outcome;
+use iss_node::{Answer, Node, Outcome};
 use iss_request::{Bytes, NodeId, Setup};
 use iss_sb::{Sequenced, To};
 use std::alloc::Global;
@@ -15,77 +14,98 @@ use std::mem;
 use std::test::Fail;
 
 // No more rounds of packets follow a proposal.
-const MOST: u32 = 16;
+const MOST: u32 = 4;
 
-/// A node over an empty journal, reopened.
-pub(crate) fn kept<M: Sequenced>(
+// A node, if there is one of this number.
+fn node_of<M: Sequenced>(
     alloc: Global,
     setup: &Setup,
     directory: &SharedDirectory,
     me: NodeId,
-) -> Result<Kept<M, MemoryDisk>, Fail>
+) -> Result<Node<M>, Fail>
     requires good { IsSetupOf M.meaning setup.now }
     requires directory { directory.now ≡ keys_of setup.now }
-    requires me { me.0 < setup.now.n }
 {
-    let disk = MemoryDisk::new(alloc)?;
-    let mut node = Kept::over(alloc, setup, directory, me, disk)?;
-    node.reopen()?;
-    Ok(node)
+    if u32::from(me.0) >= setup.n {
+        return Err("no such node")?;
+    }
+    bare(alloc, setup, directory, me)
+}
+
+fn nodes_of<M: Sequenced>(
+    alloc: Global,
+    setup: &Setup,
+    directory: &SharedDirectory,
+) -> Result<Vec<Node<M>>, Fail>
+    requires good { IsSetupOf M.meaning setup.now }
+    requires directory { directory.now ≡ keys_of setup.now }
+{
+    let mut nodes = Vec::new(alloc);
+    for node in 0..setup.n {
+        nodes.push(node_of(alloc, setup, directory, NodeId(node as u8))?)?;
+    }
+    Ok(nodes)
 }
 
 /// The nodes, the packets that wait, each for a node, and what node 0 took.
 #[derive(Drop)]
-pub(crate) struct Cluster<M: Sequenced> {
-    nodes: Vec<Kept<M, MemoryDisk>>,
+pub struct Cluster<M: Sequenced> {
+    nodes: Vec<Node<M>>,
     waiting: Vec<(usize, Bytes)>,
-    pub(crate) taken: Vec<Work>,
+    pub taken: Vec<Work>,
+}
+
+/// A cluster that has taken nothing.
+pub(crate) fn start<M: Sequenced>(alloc: Global, setup: &Setup) -> Result<Cluster<M>, Fail>
+    requires { IsSetupOf M.meaning setup.now }
+{
+    let directory = directory_of(alloc, setup)?;
+    let nodes = nodes_of::<M>(alloc, setup, &directory)?;
+    Ok(Cluster {
+        nodes,
+        waiting: Vec::new(alloc),
+        taken: Vec::new(alloc),
+    })
 }
 
 impl<M: Sequenced> Cluster<M> {
-    pub(crate) fn new(
-        alloc: Global,
-        setup: &Setup,
-        directory: &SharedDirectory,
-    ) -> Result<Cluster<M>, Fail>
-        requires good { IsSetupOf M.meaning setup.now }
-        requires directory { directory.now ≡ keys_of setup.now }
-    {
-        let mut nodes = Vec::new(alloc);
-        for node in 0..setup.n {
-            nodes.push(kept(alloc, setup, directory, NodeId(node as u8))?)?;
+    // A packet waits for all nodes.
+    fn post_to_all(&mut self, bytes: &Bytes) -> Result<(), Fail> {
+        for node in 0..self.nodes.len() {
+            self.waiting.push((node, bytes.copy()?))?;
         }
-        Ok(Cluster {
-            nodes,
-            waiting: Vec::new(alloc),
-            taken: Vec::new(alloc),
-        })
+        Ok(())
+    }
+
+    fn post_one(&mut self, to: To, bytes: Bytes) -> Result<(), Fail> {
+        match to {
+            To::One(node) => Ok(self.waiting.push((node.0 as usize, bytes))?),
+            To::All => self.post_to_all(&bytes),
+        }
     }
 
     // What a node sent waits for those whom it is for.
     fn post(&mut self, outcome: Outcome) -> Result<(), Fail> {
         for (to, bytes) in outcome.sends.into_vec() {
-            match to {
-                To::One(node) => self.waiting.push((node.0 as usize, bytes))?,
-                To::All => {
-                    for node in 0..self.nodes.len() {
-                        self.waiting.push((node, bytes.copy()?))?;
-                    }
-                }
-            }
+            self.post_one(to, bytes)?;
         }
         Ok(())
     }
 
-    fn take(&mut self, place: usize, work: Work) -> Result<(), Fail> {
+    fn note(&mut self, place: usize, work: Work) -> Result<(), Fail> {
+        if place == 0 {
+            self.taken.push(work)?;
+        }
+        Ok(())
+    }
+
+    fn take(&mut self, alloc: Global, place: usize, work: Work) -> Result<(), Fail> {
         let again = work.copy()?;
         let node = self.nodes.get_mut(place).ok_or("no such node")?;
-        let Answer::Taken(outcome) = node.take(work.event()) else {
+        let Answer::Taken(outcome) = node.take(alloc, work.event()) else {
             return Ok(());
         };
-        if place == 0 {
-            self.taken.push(again)?;
-        }
+        self.note(place, again)?;
         self.post(outcome)
     }
 
@@ -93,19 +113,44 @@ impl<M: Sequenced> Cluster<M> {
     fn pump(&mut self, alloc: Global) -> Result<(), Fail> {
         let posts = mem::replace(&mut self.waiting, Vec::new(alloc));
         for (node, bytes) in posts {
-            self.take(node, Work::Take(bytes))?;
+            self.take(alloc, node, Work::Take(bytes))?;
         }
         Ok(())
     }
 
-    /// Each node proposes, and all that follows is taken.
-    pub(crate) fn turn(&mut self, alloc: Global) -> Result<(), Fail> {
-        for node in 0..self.nodes.len() {
-            self.take(node, Work::Propose)?;
+    /// All nodes take these packets.
+    pub(crate) fn give(&mut self, alloc: Global, packets: &[Bytes]) -> Result<(), Fail> {
+        for bytes in packets {
+            self.post_to_all(bytes)?;
         }
+        self.pump(alloc)
+    }
+
+    fn propose_all(&mut self, alloc: Global) -> Result<(), Fail> {
+        for node in 0..self.nodes.len() {
+            self.take(alloc, node, Work::Propose)?;
+        }
+        Ok(())
+    }
+
+    fn turn(&mut self, alloc: Global) -> Result<(), Fail> {
+        self.propose_all(alloc)?;
         for _ in 0..MOST {
             self.pump(alloc)?;
         }
         Ok(())
+    }
+
+    /// So many times each node proposes, and all that follows is taken.
+    pub(crate) fn turns(&mut self, alloc: Global, count: u32) -> Result<(), Fail> {
+        for _ in 0..count {
+            self.turn(alloc)?;
+        }
+        Ok(())
+    }
+
+    /// What node 0 took since this was asked last.
+    pub(crate) fn take_taken(&mut self, alloc: Global) -> Vec<Work> {
+        mem::replace(&mut self.taken, Vec::new(alloc))
     }
 }

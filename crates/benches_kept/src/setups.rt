@@ -6,6 +6,12 @@ ghost use Rattle.sb_relay.specs.Relay.{relay};
 use iss_request::{Kind, Nodes, Policy, Setup};
 use std::alloc::Global;
 
+/// The height of all trees.
+pub const HEIGHT: u8 = 7;
+
+/// How many clients there are.
+pub const CLIENTS: u8 = 12;
+
 /// Three nodes under the relay, in epochs of so many slots that none ends.
 pub(crate) fn of_relay(alloc: Global) -> Setup
     ensures { IsSetupOf relay result }
@@ -15,11 +21,11 @@ pub(crate) fn of_relay(alloc: Global) -> Setup
         module: 1,
         f: 0,
         epoch: 64,
-        buckets: 4,
+        buckets: 3,
         batch: 32,
         window: 64,
         policy: Policy::Simple,
-        clients: 1,
+        clients: 12,
         keys: 7,
         faulty: Nodes::new(alloc),
         n: 3,
@@ -42,7 +48,7 @@ pub(crate) fn of_echo(alloc: Global) -> Setup
         batch: 32,
         window: 64,
         policy: Policy::Simple,
-        clients: 1,
+        clients: 12,
         keys: 7,
         faulty: Nodes::new(alloc),
         n: 4,

@@ -1,7 +1,4 @@
 //! Events of a node that can be made again.
-ghost use Rattle.std.specs.Prelude.{ℕ};
-ghost use Rattle.iss_node.specs.Steps.{IsOfNodes};
-
 use iss_causes::NodeEvent;
 use iss_request::{Bytes, NodeId};
 use std::alloc::Global;
@@ -9,7 +6,7 @@ use std::test::Fail;
 
 /// An event that asks nobody.
 #[derive(Drop)]
-pub(crate) enum Work {
+pub enum Work {
     Take(Bytes),
     Propose,
     Expire(NodeId),
@@ -25,9 +22,7 @@ impl Work {
     }
 
     /// The event.
-    pub(crate) fn event(self) -> NodeEvent
-        ensures { (n : ℕ) → IsOfNodes n result }
-    {
+    pub(crate) fn event(self) -> NodeEvent {
         match self {
             Work::Take(bytes) => NodeEvent::Packet(bytes),
             Work::Propose => NodeEvent::Propose,
@@ -41,6 +36,17 @@ pub(crate) fn copy_all(alloc: Global, works: &[Work]) -> Result<Vec<Work>, Fail>
     let mut all = Vec::new(alloc);
     for work in works {
         all.push(work.copy()?)?;
+    }
+    Ok(all)
+}
+
+/// The packets among them.
+pub(crate) fn packets_in(alloc: Global, works: &[Work]) -> Result<Vec<Work>, Fail> {
+    let mut all = Vec::new(alloc);
+    for work in works {
+        if let Work::Take(bytes) = work {
+            all.push(Work::Take(bytes.copy()?))?;
+        }
     }
     Ok(all)
 }
