@@ -4,7 +4,7 @@ ghost use Rattle.iss_rules.specs.Setups.{IsSetupOf};
 ghost use Rattle.sb_relay.specs.Relay.{relay};
 
 use crate::clusters::start;
-use crate::nodes::{bare, directory_of, kept};
+use crate::nodes::{bare, directory_of, kept, make_trees};
 use crate::requests::packets;
 use crate::setups::{of_echo, of_relay};
 use crate::works::{Work, copy_all, packets_in, timeouts};
@@ -98,6 +98,7 @@ fn time_bare<M: Sequenced>(rt: &HostRuntime, setup: &Setup, course: &Course) -> 
     requires some { 0 < setup.now.n }
 {
     let directory = directory_of(rt.alloc(), setup)?;
+    make_trees(directory.directory());
     let mut node = bare::<M>(rt.alloc(), setup, &directory, NodeId(0))?;
     run_bare(rt, &mut node, course)
 }
@@ -108,6 +109,7 @@ fn time_kept<M: Sequenced>(rt: &HostRuntime, setup: &Setup, course: &Course) -> 
     requires some { 0 < setup.now.n }
 {
     let directory = directory_of(rt.alloc(), setup)?;
+    make_trees(directory.directory());
     let mut node = kept::<M>(rt.alloc(), setup, &directory)?;
     run_kept(rt, &mut node, course)
 }

@@ -4,6 +4,7 @@ ghost use Rattle.iss_request.specs.Setup.{IsGoodSetup};
 ghost use Rattle.iss_rules.specs.Concrete.{keys_of};
 ghost use Rattle.iss_rules.specs.Setups.{IsSetupOf};
 
+use crate::setups::CLIENTS;
 use iss_disk::MemoryDisk;
 use iss_keep::Kept;
 use iss_keys::{Directory, SharedDirectory};
@@ -13,24 +14,20 @@ use iss_sb::Sequenced;
 use std::alloc::Global;
 use std::test::Fail;
 
-// The trees of so many nodes and clients are made.
-fn make_trees(directory: &Directory, nodes: u8, clients: u8) {
-    for node in 0..nodes {
-        let _made = directory.node_key(node);
-    }
-    for client in 0..clients {
-        let _made = directory.client_key(client);
+/// The trees of all nodes and clients are made.
+pub(crate) fn make_trees(directory: &Directory) {
+    for number in 0..CLIENTS {
+        let _made = directory.node_key(number);
+        let _made = directory.client_key(number);
     }
 }
 
-/// The keys of all nodes and clients, whose trees are made and which remember no check.
+/// The keys of all nodes and clients. They remember no check, and no tree is made.
 pub(crate) fn directory_of(alloc: Global, setup: &Setup) -> Result<SharedDirectory, Fail>
     requires { IsGoodSetup setup.now }
     ensures { IfOk result (λ directory. directory ≡ keys_of setup.now) }
 {
-    let directory = SharedDirectory::make(alloc, setup.n, setup.clients, setup.keys as u8)?;
-    make_trees(directory.directory(), setup.n as u8, setup.clients as u8);
-    Ok(directory)
+    Ok(SharedDirectory::make(alloc, setup.n, setup.clients, setup.keys as u8)?)
 }
 
 /// A node without a journal.

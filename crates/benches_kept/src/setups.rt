@@ -9,7 +9,7 @@ use std::alloc::Global;
 /// The height of all trees.
 pub const HEIGHT: u8 = 7;
 
-/// How many clients there are.
+/// How many clients there are. There are fewer nodes.
 pub const CLIENTS: u8 = 12;
 
 /// Three nodes under the relay, in epochs of so many slots that none ends.
