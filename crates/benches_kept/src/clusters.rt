@@ -16,22 +16,6 @@ use std::test::Fail;
 // No more rounds of packets follow a proposal.
 const MOST: u32 = 4;
 
-// A node, if there is one of this number.
-fn node_of<M: Sequenced>(
-    alloc: Global,
-    setup: &Setup,
-    directory: &SharedDirectory,
-    me: NodeId,
-) -> Result<Node<M>, Fail>
-    requires good { IsSetupOf M.meaning setup.now }
-    requires directory { directory.now ≡ keys_of setup.now }
-{
-    if u32::from(me.0) >= setup.n {
-        return Err("no such node")?;
-    }
-    bare(alloc, setup, directory, me)
-}
-
 fn nodes_of<M: Sequenced>(
     alloc: Global,
     setup: &Setup,
@@ -42,7 +26,7 @@ fn nodes_of<M: Sequenced>(
 {
     let mut nodes = Vec::new(alloc);
     for node in 0..setup.n {
-        nodes.push(node_of(alloc, setup, directory, NodeId(node as u8))?)?;
+        nodes.push(bare(alloc, setup, directory, NodeId(node as u8))?)?;
     }
     Ok(nodes)
 }

@@ -1,5 +1,4 @@
 //! What the events of one node cost it, with a journal and without.
-ghost use Rattle.std.specs.Prelude.{◌<◌};
 ghost use Rattle.iss_rules.specs.Setups.{IsSetupOf};
 ghost use Rattle.sb_relay.specs.Relay.{relay};
 
@@ -94,8 +93,7 @@ fn run_kept<M: Sequenced>(
 
 // A node without a journal takes the events.
 fn time_bare<M: Sequenced>(rt: &HostRuntime, setup: &Setup, course: &Course) -> Result<u64, Fail>
-    requires good { IsSetupOf M.meaning setup.now }
-    requires some { 0 < setup.now.n }
+    requires { IsSetupOf M.meaning setup.now }
 {
     let directory = directory_of(rt.alloc(), setup)?;
     make_trees(directory.directory());
@@ -105,8 +103,7 @@ fn time_bare<M: Sequenced>(rt: &HostRuntime, setup: &Setup, course: &Course) -> 
 
 // A kept node takes them.
 fn time_kept<M: Sequenced>(rt: &HostRuntime, setup: &Setup, course: &Course) -> Result<u64, Fail>
-    requires good { IsSetupOf M.meaning setup.now }
-    requires some { 0 < setup.now.n }
+    requires { IsSetupOf M.meaning setup.now }
 {
     let directory = directory_of(rt.alloc(), setup)?;
     make_trees(directory.directory());
@@ -136,8 +133,7 @@ fn compare<M: Sequenced>(
     course: &Course,
     times: u32,
 ) -> Result<(), Fail>
-    requires good { IsSetupOf M.meaning setup.now }
-    requires some { 0 < setup.now.n }
+    requires { IsSetupOf M.meaning setup.now }
 {
     let mut alone = u64::MAX;
     let mut with = u64::MAX;

@@ -30,8 +30,8 @@ pub(crate) fn directory_of(alloc: Global, setup: &Setup) -> Result<SharedDirecto
     Ok(SharedDirectory::make(alloc, setup.n, setup.clients, setup.keys as u8)?)
 }
 
-/// A node without a journal.
-pub(crate) fn bare<M: Sequenced>(
+// A node without a journal.
+fn bare_in<M: Sequenced>(
     alloc: Global,
     setup: &Setup,
     directory: &SharedDirectory,
@@ -43,6 +43,22 @@ pub(crate) fn bare<M: Sequenced>(
 {
     let keys = directory.directory().keys_of_node(alloc, me.0);
     Ok(Node::start(alloc, setup, directory, me, keys)?)
+}
+
+/// A node without a journal, if there is one of this number.
+pub(crate) fn bare<M: Sequenced>(
+    alloc: Global,
+    setup: &Setup,
+    directory: &SharedDirectory,
+    me: NodeId,
+) -> Result<Node<M>, Fail>
+    requires good { IsSetupOf M.meaning setup.now }
+    requires directory { directory.now ≡ keys_of setup.now }
+{
+    if (me.0 as u32) < setup.n {
+        return bare_in(alloc, setup, directory, me);
+    }
+    Err("no such node")?
 }
 
 // A kept node over a new disk in memory.
@@ -59,6 +75,22 @@ fn kept_over<M: Sequenced>(
     Ok(Kept::over(alloc, setup, directory, NodeId(0), disk)?)
 }
 
+// Node 0 over what its disk holds.
+fn reopened<M: Sequenced>(
+    alloc: Global,
+    setup: &Setup,
+    directory: &SharedDirectory,
+    disk: MemoryDisk,
+) -> Result<Kept<M, MemoryDisk>, Fail>
+    requires good { IsSetupOf M.meaning setup.now }
+    requires directory { directory.now ≡ keys_of setup.now }
+    requires some { 0 < setup.now.n }
+{
+    let mut node = kept_over::<M>(alloc, setup, directory, disk)?;
+    node.reopen()?;
+    Ok(node)
+}
+
 /// Node 0 over an empty journal, reopened.
 pub(crate) fn kept<M: Sequenced>(
     alloc: Global,
@@ -67,10 +99,10 @@ pub(crate) fn kept<M: Sequenced>(
 ) -> Result<Kept<M, MemoryDisk>, Fail>
     requires good { IsSetupOf M.meaning setup.now }
     requires directory { directory.now ≡ keys_of setup.now }
-    requires some { 0 < setup.now.n }
 {
     let disk = MemoryDisk::new(alloc)?;
-    let mut node = kept_over::<M>(alloc, setup, directory, disk)?;
-    node.reopen()?;
-    Ok(node)
+    if 0 < setup.n {
+        return reopened(alloc, setup, directory, disk);
+    }
+    Err("no node")?
 }

@@ -1,4 +1,6 @@
 //! The requests of clients, in packets. Helpers promise nothing: of a literal request the tactics would list what its bytes are.
+ghost use Rattle.std.specs.Prelude.{◌≤◌};
+
 use crate::setups::{CLIENTS, HEIGHT};
 use bench_digests::signers::client_key;
 use iss_keys::Keys;
