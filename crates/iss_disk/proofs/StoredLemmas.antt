@@ -42,37 +42,39 @@ take-overwritten same at bytes content le within =
     ∙ take-append-le same (take at content) bytes (omega (arith, l, le))
     ∙ take-take same at content le
 
-pub write_keeps : (calls after_push : List Call) (at : ℕ) (written after_extend bytes content over kept : List ℕ) (same m : ℕ) → IsStored (states (reverse calls) written) content kept same → at ≤ length content → m ≤ same → m ≤ at
-    → after_push ≡ calls ++ Wrote at (length bytes) ∷ [] → after_extend ≡ written ++ bytes → over ≡ overwritten at bytes content → length content ≤ length over → IsStored (states (reverse after_push) after_extend) over kept m
-write_keeps calls after_push at written after_extend bytes content over kept same m old within le_same le_at pushed extended is_over longer =
+pub write_keeps : (calls after_push : List Call) (at : ℕ) (written after_extend bytes content over behind apart : List ℕ) (same m : ℕ) → IsStored (states (reverse calls) written) content behind same → at ≤ length content → m ≤ same → m ≤ at
+    → take m content ++ apart ≡ take same content ++ behind
+    → after_push ≡ calls ++ Wrote at (length bytes) ∷ [] → after_extend ≡ written ++ bytes → over ≡ overwritten at bytes content → length content ≤ length over → IsStored (states (reverse after_push) after_extend) over apart m
+write_keeps calls after_push at written after_extend bytes content over behind apart same m old within le_same le_at parted pushed extended is_over longer =
     let one_more : states (reverse after_push) after_extend ≡ after (wrote at bytes) (states (reverse calls) written) =
     ap (λ (cs : List Call). states (reverse cs) after_extend) pushed ∙ ap (λ (l : List ℕ). states (reverse (calls ++ Wrote at (length bytes) ∷ [])) l) extended ∙ pushed_write calls at written bytes in
     let now : newest (states (reverse after_push) after_extend) ≡ wrote at bytes (newest (states (reverse calls) written)) =
     ap newest one_more ∙ newest_after (wrote at bytes) _ (states_some (reverse calls) written) in
     record {
       is_content = ap (λ (f : File). f.content) now ∙ ap (overwritten at bytes) old.is_content ∙ sym is_over;
-      is_kept = ap (λ (f : File). f.kept) now ∙ old.is_kept;
-      same_front = ap (take m) is_over ∙ take-overwritten m at bytes content le_at within ∙ sym (take-take m same content le_same) ∙ ap (take m) old.same_front ∙ take-take m same kept le_same;
+      is_kept =
+          let front : take m over ≡ take m content = ap (take m) is_over ∙ take-overwritten m at bytes content le_at within in
+          ap (λ (f : File). f.kept) now ∙ old.is_kept ∙ sym parted ∙ ap (λ (l : List ℕ). l ++ apart) (sym front);
       in_content = omega (arith, le_same, old.in_content, longer);
-      in_kept = omega (arith, le_same, old.in_kept);
     }
 
 pub pushed_cut : (calls : List Call) (n : ℕ) (written : List ℕ) → states (reverse (calls ++ Cut n ∷ [])) written ≡ after (shortened n) (states (reverse calls) written)
 pushed_cut calls n written = ap (λ (cs : List Call). states cs written) (reverse-append calls (Cut n ∷ []))
 
-pub cut_keeps : (calls after_push : List Call) (n : ℕ) (written content short kept : List ℕ) (same m : ℕ) → IsStored (states (reverse calls) written) content kept same → n ≤ length content → m ≤ same → m ≤ n
-    → after_push ≡ calls ++ Cut n ∷ [] → short ≡ take n content → IsStored (states (reverse after_push) written) short kept m
-cut_keeps calls after_push n written content short kept same m old within le_same le_n pushed is_short =
+pub cut_keeps : (calls after_push : List Call) (n : ℕ) (written content short behind apart : List ℕ) (same m : ℕ) → IsStored (states (reverse calls) written) content behind same → n ≤ length content → m ≤ same → m ≤ n
+    → take m content ++ apart ≡ take same content ++ behind
+    → after_push ≡ calls ++ Cut n ∷ [] → short ≡ take n content → IsStored (states (reverse after_push) written) short apart m
+cut_keeps calls after_push n written content short behind apart same m old within le_same le_n parted pushed is_short =
     let one_more : states (reverse after_push) written ≡ after (shortened n) (states (reverse calls) written) =
     ap (λ (cs : List Call). states (reverse cs) written) pushed ∙ pushed_cut calls n written in
     let now : newest (states (reverse after_push) written) ≡ shortened n (newest (states (reverse calls) written)) =
     ap newest one_more ∙ newest_after (shortened n) _ (states_some (reverse calls) written) in
     record {
       is_content = ap (λ (f : File). f.content) now ∙ ap (take n) old.is_content ∙ sym is_short;
-      is_kept = ap (λ (f : File). f.kept) now ∙ old.is_kept;
-      same_front = ap (take m) is_short ∙ take-take m n content le_n ∙ sym (take-take m same content le_same) ∙ ap (take m) old.same_front ∙ take-take m same kept le_same;
+      is_kept =
+          let front : take m short ≡ take m content = ap (take m) is_short ∙ take-take m n content le_n in
+          ap (λ (f : File). f.kept) now ∙ old.is_kept ∙ sym parted ∙ ap (λ (l : List ℕ). l ++ apart) (sym front);
       in_content = omega (arith, ap length is_short, length-take-le n content within, le_n);
-      in_kept = omega (arith, le_same, old.in_kept);
     }
 
 -- whether the file waits for a sync is decided by its last call

@@ -1,5 +1,5 @@
 -- The states that a file of a memory disk went through, read off the list of its calls.
-use Rattle.std.specs.Prelude.{◌≡◌, ℕ, ◌-◌, ◌≤◌, Bool, true, false, List, [], ◌∷◌, length, take, drop, refl}
+use Rattle.std.specs.Prelude.{◌≡◌, ℕ, ◌-◌, ◌≤◌, Bool, true, false, List, [], ◌∷◌, ◌++◌, length, take, drop, refl}
 use Rattle.iss_disk.specs.File.{File, settled, wrote, shortened, synced, restarted}
 use Rattle.iss_disk.specs.declared.call.Call.{Call}
 use Rattle.iss_disk.specs.declared.call.Call.TheVariants.{Wrote, Cut, Synced, Restarted}
@@ -30,13 +30,11 @@ is_pending (Cut len ∷ calls) = true
 is_pending (Synced ∷ calls) = false
 is_pending (Restarted ∷ calls) = false
 
--- What a file holds and what was synced are those of its newest state, and agree below an offset.
-pub record IsStored (states : List File) (content kept : List ℕ) (same : ℕ) : Type 0 where
+-- A file holds what its newest state holds, and what was synced: that is the content up to an offset, and bytes behind it.
+pub record IsStored (states : List File) (content behind : List ℕ) (same : ℕ) : Type 0 where
   pub is_content : (newest states).content ≡ content
-  pub is_kept : (newest states).kept ≡ kept
-  pub same_front : take same content ≡ take same kept
+  pub is_kept : (newest states).kept ≡ take same content ++ behind
   pub in_content : same ≤ length content
-  pub in_kept : same ≤ length kept
 
 -- Two bytes written and synced, one over them, and a crash.
 

@@ -13,7 +13,7 @@ history_of file = states (reverse file.calls.items) file.written.items
 abbrev pub room_for_bytes : StoredFile → ℕ
 room_for_bytes file =
     min (vec_capacity file.written - vec_len file.written)
-    (min (vec_capacity file.content - vec_len file.content) (vec_capacity file.kept - vec_len file.content))
+    (min (vec_capacity file.content - vec_len file.content) (vec_capacity file.behind - vec_len file.content))
 
 -- the room in its lists
 abbrev pub room_of : StoredFile → Room

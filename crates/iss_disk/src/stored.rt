@@ -1,5 +1,5 @@
 // One file of a memory disk.
-ghost use Rattle.std.specs.Prelude.{◌≡◌, ◌+◌, ◌<◌, ◌≤◌, true, length, take, reverse, vec_len, vec_capacity, IfOk, OnOk, [], ◌∷◌};
+ghost use Rattle.std.specs.Prelude.{◌≡◌, ◌+◌, ◌<◌, ◌≤◌, ◌++◌, true, length, take, reverse, vec_len, vec_capacity, IfOk, OnOk, [], ◌∷◌};
 ghost use Rattle.iss_disk.specs.File.{settled, overwritten, wrote, shortened, synced, restarted};
 ghost use Rattle.iss_disk.specs.States.{states, after, newest, is_pending, IsStored};
 
@@ -12,20 +12,21 @@ use std::alloc::{AllocError, Global};
 pub struct StoredFile {
     pub(crate) name: Vec<u8>,
     pub(crate) content: Vec<u8>,
-    // What was synced.
-    kept: Vec<u8>,
-    // Below it the two agree, so a sync copies only what lies behind.
+    // What was synced is the content up to here, and behind it these bytes: those that were written over or cut off since. So a file
+    // at rest holds its bytes once, and a sync copies nothing.
     same: usize,
+    behind: Vec<u8>,
     // Whether a write or a cut came since.
     pending: bool,
     calls: Vec<Call>,
     // What the writes wrote, one behind the other.
     written: Vec<u8>,
-    ghost stored: { IsStored (states (reverse calls.items) written.items) content.items kept.items same },
+    ghost stored: { IsStored (states (reverse calls.items) written.items) content.items behind.items same },
     ghost waits: { pending ≡ is_pending (reverse calls.items) },
-    // A sync and a restart take no memory.
-    ghost room_to_sync: { vec_len content ≤ vec_capacity kept },
-    ghost room_to_restart: { vec_len kept ≤ vec_capacity content },
+    // A sync, a restart and setting apart what was synced take no memory.
+    ghost room_to_sync: { vec_len content ≤ vec_capacity behind },
+    ghost room_to_part: { same + vec_len behind ≤ vec_capacity behind },
+    ghost room_to_restart: { same + vec_len behind ≤ vec_capacity content },
     ghost call_to_restart: { pending ≡ true → vec_len calls < vec_capacity calls },
 }
 
@@ -46,17 +47,32 @@ fn overwrite(content: &mut Vec<u8>, at: usize, bytes: &[u8])
     }
 }
 
-// Makes a copy up to date that agrees with its original below an offset.
-fn renew(copy: &mut Vec<u8>, original: &[u8], same: usize)
-    requires in_copy { same ≤ vec_len copy.old }
-    requires in_original { same ≤ length original.now }
-    requires front { take same copy.old.items ≡ take same original.now }
-    requires room { length original.now ≤ vec_capacity copy.old }
-    ensures items { copy.new.items ≡ original.now }
-    ensures capacity { vec_capacity copy.old ≤ vec_capacity copy.new }
+// Puts bytes before those that are there.
+fn put_before(behind: &mut Vec<u8>, front: &[u8])
+    requires room { vec_len behind.old + length front.now ≤ vec_capacity behind.old }
+    ensures items { behind.new.items ≡ front.now ++ behind.old.items }
+    ensures capacity { vec_capacity behind.old ≤ vec_capacity behind.new }
 {
-    copy.truncate(same);
-    let _ = copy.extend_from_slice(&original[same..]);
+    let count = behind.len();
+    let _ = behind.extend_from_slice(front);
+    behind.rotate_left(count);
+}
+
+// Sets apart what was synced from an offset on, before something comes over it, and tells up to where the content is what was synced.
+fn part(content: &[u8], behind: &mut Vec<u8>, same: usize, at: usize) -> usize
+    requires within { same ≤ length content.now }
+    requires room { same + vec_len behind.old ≤ vec_capacity behind.old }
+    ensures before { result ≤ at }
+    ensures no_more { result ≤ same }
+    ensures synced { take result content.now ++ behind.new.items ≡ take same content.now ++ behind.old.items }
+    ensures len { result + vec_len behind.new ≡ same + vec_len behind.old }
+    ensures capacity { vec_capacity behind.old ≤ vec_capacity behind.new }
+{
+    if at >= same {
+        return same;
+    }
+    put_before(behind, &content[at..same]);
+    at
 }
 
 impl StoredFile {
@@ -73,8 +89,8 @@ impl StoredFile {
         Ok(StoredFile {
             name: Vec::from_slice(alloc, name.as_bytes())?,
             content: Vec::new(alloc),
-            kept: Vec::new(alloc),
             same: 0,
+            behind: Vec::new(alloc),
             pending: false,
             calls: Vec::new(alloc),
             written: Vec::new(alloc),
@@ -94,7 +110,8 @@ impl StoredFile {
         self.written.reserve(bytes)?;
         self.content.reserve(bytes)?;
         let wanted = self.content.len().checked_add(bytes).ok_or(NoMemory)?;
-        self.kept.reserve(wanted.saturating_sub(self.kept.len()))?;
+        self.behind
+            .reserve(wanted.saturating_sub(self.behind.len()))?;
         Ok(())
     }
 
@@ -106,8 +123,8 @@ impl StoredFile {
         ensures room { Takes 1 (length bytes.now) (room_of self.old) (room_of self.new) }
         ensures name { self.new.name.items ≡ self.old.name.items }
     {
+        self.same = part(&self.content, &mut self.behind, self.same, at);
         overwrite(&mut self.content, at, bytes);
-        self.same = self.same.min(at);
         self.pending = true;
         let _ = self.calls.push(Call::Wrote {
             at,
@@ -123,8 +140,8 @@ impl StoredFile {
         ensures room { Takes 1 0 (room_of self.old) (room_of self.new) }
         ensures name { self.new.name.items ≡ self.old.name.items }
     {
+        self.same = part(&self.content, &mut self.behind, self.same, len);
         self.content.truncate(len);
-        self.same = self.same.min(len);
         self.pending = true;
         let _ = self.calls.push(Call::Cut { len });
     }
@@ -135,7 +152,7 @@ impl StoredFile {
         ensures room { Takes 1 0 (room_of self.old) (room_of self.new) }
         ensures name { self.new.name.items ≡ self.old.name.items }
     {
-        renew(&mut self.kept, &self.content, self.same);
+        self.behind.clear();
         self.same = self.content.len();
         self.pending = false;
         let _ = self.calls.push(Call::Synced);
@@ -147,8 +164,10 @@ impl StoredFile {
         ensures name { self.new.name.items ≡ self.old.name.items }
     {
         if self.pending {
-            renew(&mut self.content, &self.kept, self.same);
-            self.same = self.kept.len();
+            self.content.truncate(self.same);
+            let _ = self.content.extend_from_slice(&self.behind);
+            self.behind.clear();
+            self.same = self.content.len();
             self.pending = false;
             let _ = self.calls.push(Call::Restarted);
         }
