@@ -20,7 +20,7 @@ fn encode_packet(alloc: Global, bytes: &[u8]) -> Result<Vec<u8>, NoMemory>
     ensures { IfOk result (λ entry. entry.items ≡ packet_entry bytes.now) }
 {
     let mut entry = Vec::new(alloc);
-    entry.reserve(bytes.len())?;
+    entry.reserve(bytes.len() + 1)?;
     entry.push(PACKET)?;
     entry.extend_from_slice(bytes)?;
     Ok(entry)
