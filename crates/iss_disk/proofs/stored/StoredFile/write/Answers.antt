@@ -6,8 +6,8 @@ use Rattle.iss_disk.proofs.stored.StoredFile.write.Goals as goal
 pub invariant_of-self-clause-stored : goal.invariant_of-self-clause-stored
 invariant_of-self-clause-stored c =
     let parted :
-        take c.part-self.result c.args.self.now.content.items ++ c.part-self.new.behind.items
-        ≡ take c.args.self.now.same c.args.self.now.content.items ++ c.args.self.now.behind.items =
+    take c.part-self.result c.args.self.now.content.items ++ c.part-self.new.behind.items
+    ≡ take c.args.self.now.same c.args.self.now.content.items ++ c.args.self.now.behind.items =
     search rules in
     let pushed : c.push.new.self.items ≡ c.args.self.now.calls.items ++ Wrote c.args.at (length c.args.bytes.now) ∷ [] = search rules in
     let extended : c.extend_from_slice.new.self.items ≡ c.args.self.now.written.items ++ c.args.bytes.now = search rules in
