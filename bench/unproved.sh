@@ -1,0 +1,38 @@
+#!/usr/bin/env bash
+# Builds a program of this repository without a proof, for times, valgrind and perf: unproved.sh CRATE OUT [WORD..]
+# `rt try` writes the whole program as intermediate code, here with the words given; its checks and its fills of locals are left out, and
+# LLVM compiles the rest. What it prints is no more proved than that of `rt try`, and its digests take half again what they take in a proved build.
+set -eu
+[ $# -ge 2 ] || { echo "usage: bench/unproved.sh CRATE OUT [WORD..]" >&2; exit 2; }
+kit=$(dirname "$(dirname "$(readlink -f "$(command -v rt)")")")
+top=$(cd "$(dirname "$0")/.." && pwd)
+crate=$1
+out=$(realpath "$2")
+shift 2
+work=$(mktemp -d)
+trap 'rm -rf "$work"' EXIT
+mkdir "$work/tmp"
+cd "$top/crates/$crate"
+TMPDIR=$work/tmp rt try -- "$@" > "$work/log" 2>&1 &
+try=$!
+
+# The code stands there only until the program is built: it is copied once it grows no more.
+while kill -0 "$try" 2> "$work/none"; do
+    code=$(find "$work/tmp" -name module.bc -size +0 2> "$work/none" | head -n 1)
+    if [ -n "$code" ]; then
+        before=$(stat -c %s "$code" 2> "$work/none" || echo 0)
+        sleep 0.3
+        after=$(stat -c %s "$code" 2> "$work/none" || echo 1)
+        [ "$before" != "$after" ] || cp "$code" "$work/module.bc" 2> "$work/none" || true
+    fi
+    [ -z "$(find "$work/tmp" -name program 2> "$work/none")" ] || break
+    sleep 0.1
+done
+kill "$try" 2> "$work/none" || true
+[ -s "$work/module.bc" ] || { tail -n 20 "$work/log" >&2; exit 1; }
+
+clang=$kit/toolchain/bin/clang
+"$clang" -x ir -S -emit-llvm -Xclang -disable-llvm-passes "$work/module.bc" -o "$work/all.ll"
+grep -v -e 'call.*rattle-llvm-checks' -e 'memset.*i8 -86' "$work/all.ll" > "$work/bare.ll"
+"$clang" -x ir -O3 -march=x86-64-v2 -c "$work/bare.ll" -o "$work/program.o"
+"$kit/bin/rattle-link" --target x86_64-unknown-linux-gnu --toolchain "$kit/toolchain" -o "$out" "$work/program.o" "$kit/c/libos_c.a" "$kit/c/liblibc_c.a" 2> "$work/log" || { cat "$work/log" >&2; exit 1; }
