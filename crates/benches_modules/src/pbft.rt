@@ -102,8 +102,8 @@ pub struct Cluster {
     pub seen: Option<Seen>,
 }
 
-fn read(alloc: Global, bytes: &[u8]) -> Timed<Message> {
-    let mut fields = Fields::over(1, bytes);
+fn read(alloc: Global, bytes: &Bytes) -> Timed<Message> {
+    let mut fields = Fields::over_bytes(1, bytes);
     Ok(Pbft::decode(alloc, &mut fields)?)
 }
 
@@ -184,7 +184,7 @@ impl Cluster {
             let claims = Pbft::claims(alloc, p, NodeId(from), msg)?;
             seen.see_sent(from, claims.as_slice())?;
         }
-        let bytes = write(alloc, msg)?;
+        let bytes = write(alloc, msg)?.into_shared()?;
         self.waiting.push_back(Post { from, bytes })?;
         Ok(())
     }
@@ -227,7 +227,7 @@ impl Cluster {
         if from.0 as u32 >= p.setup.n || at as u32 >= p.setup.n {
             return Ok(());
         }
-        let msg = read(alloc, post.bytes.as_slice())?;
+        let msg = read(alloc, &post.bytes)?;
         self.see_heard(alloc, p, from, &msg)?;
         check(alloc, p, from, &msg)?;
         self.take(alloc, p, at, Input::Receive { from, msg })

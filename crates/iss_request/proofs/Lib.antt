@@ -3,4 +3,5 @@ pub mod FormatLemmas
 pub mod Identities
 pub mod OneSpelling
 pub mod ParserLemmas
+pub mod Parts
 pub mod Readings

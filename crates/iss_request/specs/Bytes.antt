@@ -1,8 +1,8 @@
--- What bytes are, whether they stand in one place alone or copies share them.
-use Rattle.std.specs.Prelude.{ℕ, List}
+-- What bytes are, whether they stand in one place alone or are a part of what copies share.
+use Rattle.std.specs.Prelude.{ℕ, List, take, drop}
 use Rattle.iss_request.specs.declared.bytes.Held.{Held}
-use Rattle.iss_request.specs.declared.bytes.Held.TheVariants.{Own, Shared}
+use Rattle.iss_request.specs.declared.bytes.Held.TheVariants.{Own, Part}
 
 abbrev pub held_bytes : Held → List ℕ
 held_bytes (Own all) = all.items
-held_bytes (Shared all) = all.value.items
+held_bytes (Part all from to) = drop from (take to all.value.items)

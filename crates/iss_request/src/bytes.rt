@@ -1,5 +1,5 @@
 //! Bytes that contracts see as a list.
-ghost use Rattle.std.specs.Prelude.{◌≡◌, length, [], IfOk};
+ghost use Rattle.std.specs.Prelude.{◌≡◌, ◌≤◌, ◌-◌, length, take, drop, [], IfOk};
 
 use crate::errors::NoMemory;
 use std::alloc::{AllocError, Global};
@@ -11,8 +11,12 @@ use std::rc::Rc;
 enum Held {
     // here alone
     Own(Vec<u8>),
-    // in one place, which copies share
-    Shared(Rc<Vec<u8>>),
+    // from one offset to another in bytes that copies and other parts share
+    Part {
+        all: Rc<Vec<u8>>,
+        from: usize,
+        to: usize,
+    },
 }
 
 /// Bytes, which contracts see as a list. Nobody can change them, so copies may share them.
@@ -54,9 +58,46 @@ impl Bytes {
         ensures { IfOk result (λ b. b ≡ all.items) }
     {
         let alloc = *all.allocator();
+        let to = all.len();
         Ok(Bytes {
-            held: Held::Shared(Rc::new(alloc, all)?),
+            held: Held::Part {
+                all: Rc::new(alloc, all)?,
+                from: 0,
+                to,
+            },
         })
+    }
+
+    /// The bytes from one offset to another, which share the memory of these where copies of these do.
+    pub fn part(&self, from: usize, to: usize) -> Result<Bytes, NoMemory>
+        requires within { to ≤ length self.now }
+        requires order { from ≤ to }
+        ensures { IfOk result (λ b. b ≡ take (to - from) (drop from self.now)) }
+    {
+        match &self.held {
+            Held::Own(all) => Bytes::shared(Vec::from_slice(*all.allocator(), &all[from..to])?),
+            Held::Part {
+                all,
+                from: first,
+                ..
+            } => Ok(Bytes {
+                held: Held::Part {
+                    all: all.clone()?,
+                    from: *first + from,
+                    to: *first + to,
+                },
+            }),
+        }
+    }
+
+    /// The same bytes, which all copies share from now on.
+    pub fn into_shared(self) -> Result<Bytes, NoMemory>
+        ensures { IfOk result (λ b. b ≡ self) }
+    {
+        match self.held {
+            Held::Own(all) => Bytes::shared(all),
+            held => Ok(Bytes { held }),
+        }
     }
 
     /// How many bytes there are.
@@ -72,7 +113,7 @@ impl Bytes {
     {
         match &self.held {
             Held::Own(all) => all.as_slice(),
-            Held::Shared(all) => all.as_slice(),
+            Held::Part { all, from, to } => part_of(all, *from, *to),
         }
     }
 
@@ -84,13 +125,25 @@ impl Bytes {
     }
 }
 
+// The bytes from one offset to another, as far as there are any.
+fn part_of(all: &[u8], from: usize, to: usize) -> &[u8]
+    ensures { result.now ≡ drop from (take to all.now) }
+{
+    let to = to.min(all.len());
+    &all[from.min(to)..to]
+}
+
 impl Clone for Bytes {
     ghost is_clone = { λ b copy. copy ≡ b };
 
     fn clone(&self) -> Result<Bytes, AllocError> {
         let held = match &self.held {
             Held::Own(all) => Held::Own(Vec::from_slice(*all.allocator(), all.as_slice())?),
-            Held::Shared(all) => Held::Shared(all.clone()?),
+            Held::Part { all, from, to } => Held::Part {
+                all: all.clone()?,
+                from: *from,
+                to: *to,
+            },
         };
         Ok(Bytes { held })
     }

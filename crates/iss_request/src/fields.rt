@@ -1,6 +1,6 @@
 //! A reader and a writer of fields. Numbers of several bytes are big-endian. Both know the version of the formats, so
 //! that what reads or writes a value by them knows it too.
-ghost use Rattle.std.specs.Prelude.{◌≡◌, ◌≢◌, ℕ, ◌+◌, ◌*◌, ◌/◌, ◌^◌, ◌<◌, ◌≤◌, [], ◌∷◌, ◌++◌, length, OnOk, OnErr, IfOk, IfSome, IfNone, IsTrue, ◌↔◌, Err};
+ghost use Rattle.std.specs.Prelude.{◌≡◌, ◌≢◌, ℕ, ◌+◌, ◌*◌, ◌/◌, ◌^◌, ◌<◌, ◌≤◌, [], ◌∷◌, ◌++◌, length, drop, OnOk, OnErr, IfOk, IfSome, IfNone, IsTrue, ◌↔◌, Err};
 ghost use Rattle.std.specs.Int.{w16, w32, w64, to_be_bytes};
 ghost use Rattle.iss_request.specs.Fields.{Reading, Written, and_bytes, left, IsRead, IsUnreadable};
 ghost use Rattle.iss_request.specs.Parsing.{byte, number, block, digests};
@@ -16,17 +16,19 @@ pub struct Fields<'a> {
     version: u8,
     all: &'a [u8],
     at: usize,
+    // What it reads, where that may be shared by what is read.
+    home: Option<&'a Bytes>,
 }
 
 impl<'a> Model for Fields<'a> {
-    ghost use Rattle.std.specs.Prelude.{length, ◌≤◌};
+    ghost use Rattle.std.specs.Prelude.{length, ◌≤◌, ◌≡◌, IfSome};
     ghost use Rattle.iss_request.specs.Fields.{Reading};
 
     ghost Value = { Reading };
 
     ghost view = { λ f. record { version = f.version; all = f.all.now; at = f.at } };
 
-    ghost invariant = { λ f. f.at ≤ length f.all.now };
+    ghost invariant = { λ f. (f.at ≤ length f.all.now) × IfSome f.home (λ bytes. bytes.now ≡ f.all.now) };
 }
 
 impl<'a> Fields<'a> {
@@ -38,6 +40,19 @@ impl<'a> Fields<'a> {
             version,
             all,
             at: 0,
+            home: None,
+        }
+    }
+
+    /// The same of bytes, whose memory is shared by what is read where their copies share it.
+    pub fn over_bytes(version: u8, bytes: &'a Bytes) -> Fields<'a>
+        ensures { result ≡ record { version = version; all = bytes.now; at = 0 } }
+    {
+        Fields {
+            version,
+            all: bytes.as_slice(),
+            at: 0,
+            home: Some(bytes),
         }
     }
 
@@ -109,6 +124,17 @@ impl<'a> Fields<'a> {
         let bytes = &self.all[self.at..self.at + count];
         self.at += count;
         Some(bytes)
+    }
+
+    /// The bytes that were read from an offset on: a part of what it reads, or a copy.
+    pub fn since(&self, alloc: Global, from: usize) -> Result<Bytes, NoMemory>
+        requires { from ≤ self.now.at }
+        ensures { IfOk result (λ b. b ++ left self.now ≡ drop from self.now.all) }
+    {
+        match self.home {
+            Some(bytes) => bytes.part(from, self.at),
+            None => Bytes::shared(Vec::from_slice(alloc, &self.all[from..self.at])?),
+        }
     }
 
     /// The next two bytes as a number.

@@ -134,25 +134,9 @@ fn read_payload(alloc: Global, f: &mut Fields) -> Result<Bytes, DecodeError>
     if size > PAYLOAD_MAX {
         return Err(too_long);
     }
-    let bytes = f.read_bytes(size as usize)?;
-    Ok(copy_of(alloc, bytes)?)
-}
-
-fn copy_of(alloc: Global, bytes: &[u8]) -> Result<Bytes, NoMemory>
-    ensures { IfOk result (λ b. b ≡ bytes.now) }
-{
-    Bytes::shared(Vec::from_slice(alloc, bytes)?)
-}
-
-// A height byte, the leaf and the digests in one piece.
-fn joined(alloc: Global, height: u8, leaf: &[u8], digests: &[u8]) -> Result<Bytes, NoMemory>
-    ensures { IfOk result (λ b. b ≡ height ∷ leaf.now ++ digests.now) }
-{
-    let mut all = Vec::with_capacity(alloc, digests.len().saturating_add(5))?;
-    all.push(height)?;
-    all.extend_from_slice(leaf)?;
-    all.extend_from_slice(digests)?;
-    Bytes::shared(all)
+    let first = f.at();
+    let _payload = f.read_bytes(size as usize)?;
+    Ok(f.since(alloc, first)?)
 }
 
 /// Reads a signature of any height from 2 to 12. Whether it verifies is not looked at.
@@ -161,13 +145,14 @@ pub fn read_signature(alloc: Global, f: &mut Fields) -> Result<Bytes, DecodeErro
     ensures bad { (at : ℕ) → result ≡ Err (DecodeError.BadField at) → IsUnreadable parse_signature f.old at }
 {
     let no_height = f.bad_field();
+    let first = f.at();
     let height = f.read_u8()?;
     if !is_tree_height(height) {
         return Err(no_height);
     }
-    let leaf = f.read_bytes(4)?;
-    let digests = f.read_digests(67 + height as usize)?;
-    Ok(joined(alloc, height, leaf, digests)?)
+    let _leaf = f.read_bytes(4)?;
+    let _digests = f.read_digests(67 + height as usize)?;
+    Ok(f.since(alloc, first)?)
 }
 
 /// Reads the request at the front. `BadField` names the first field that does not fit.

@@ -1,6 +1,8 @@
 use Rattle.std.proofs.Common.{sym}
 use Rattle.iss_request.specs.Formats.{parse_signature}
 use Rattle.iss_request.proofs.Readings.{exit, named, read_then, unread_first, unread_then, read_done, read_passed, unread_failed, unread_tested}
+use Rattle.iss_request.proofs.OneSpelling.{signature_parts}
+use Rattle.iss_request.proofs.Parts.{read_as_is}
 use Rattle.iss_request.proofs.values.read_signature.Goals as goal
 
 pub returns-in_err-height-clause-bad : goal.returns-in_err-height-clause-bad
@@ -16,24 +18,25 @@ returns-then-not-is_tree_height-clause-bad c at e =
     (unread_first _ _ (unread_failed _ _ c.in_ok-height.ensures.ok (sym c.if-not-is_tree_height.ensures)))
     c.bad_field-no_height.ensures e
 
-pub returns-in_err-leaf-clause-bad : goal.returns-in_err-leaf-clause-bad
+pub returns-in_err-_leaf-clause-bad : goal.returns-in_err-_leaf-clause-bad
 unfolding parse_signature
-returns-in_err-leaf-clause-bad c =
-    exit c.from_residual-in_err-leaf.result _ _ c.from_residual-in_err-leaf.ensures.1 (λ at e.
+returns-in_err-_leaf-clause-bad c =
+    exit c.from_residual-in_err-_leaf.result _ _ c.from_residual-in_err-_leaf.ensures.1 (λ at e.
     unread_then _ _ (read_passed _ _ c.in_ok-height.ensures.ok (sym c.if-not-is_tree_height.ensures))
-    (unread_first _ _ (c.in_err-leaf.ensures.bad at e)))
+    (unread_first _ _ (c.in_err-_leaf.ensures.bad at e)))
 
-pub returns-in_err-digests-clause-bad : goal.returns-in_err-digests-clause-bad
+pub returns-in_err-_digests-clause-bad : goal.returns-in_err-_digests-clause-bad
 unfolding parse_signature
-returns-in_err-digests-clause-bad c =
-    exit c.from_residual-in_err-digests.result _ _ c.from_residual-in_err-digests.ensures.1 (λ at e.
+returns-in_err-_digests-clause-bad c =
+    exit c.from_residual-in_err-_digests.result _ _ c.from_residual-in_err-_digests.ensures.1 (λ at e.
     unread_then _ _ (read_passed _ _ c.in_ok-height.ensures.ok (sym c.if-not-is_tree_height.ensures))
-    (unread_then _ _ c.in_ok-leaf.ensures.ok (unread_first _ _ (c.in_err-digests.ensures.bad at e))))
+    (unread_then _ _ c.in_ok-_leaf.ensures.ok (unread_first _ _ (c.in_err-_digests.ensures.bad at e))))
 
 pub returns-clause-ok : goal.returns-clause-ok
 unfolding parse_signature
 returns-clause-ok c =
-    rw c.in_ok-joined.ensures
+    read_as_is parse_signature (λ bytes rest sig found. (signature_parts bytes rest sig found).parts) _ c.at-first.result
     (read_then _ _ (read_passed _ _ c.in_ok-height.ensures.ok (sym c.if-not-is_tree_height.ensures))
-    (read_then _ _ c.in_ok-leaf.ensures.ok
-    (read_then _ _ c.in_ok-digests.ensures.ok (read_done _ _))))
+    (read_then _ _ c.in_ok-_leaf.ensures.ok
+    (read_then _ _ c.in_ok-_digests.ensures.ok (read_done _ _))))
+    c.in_ok-since.ensures c.at-first.ensures
