@@ -79,7 +79,7 @@ impl<M: Sequenced> Replica<M> {
         if packet.epoch.0 != self.epoch.0 {
             return Ok(Row::new(alloc));
         }
-        let body = packet.body.as_slice();
+        let body = &packet.body;
         match read_message::<M>(alloc, self.setup.version, body)? {
             Some(msg) => {
                 let leader = NodeId(packet.leader);

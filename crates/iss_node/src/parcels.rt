@@ -118,7 +118,7 @@ fn open_message<M: Sequenced>(
     ensures seen { IfOk result (λ parcel. seen parcel ≡ message_in packet (whole (M.meaning.parse version packet.body))) }
     ensures from { IfOk result (λ parcel. IfSome parcel (λ k. k.from.0 ≡ packet.from)) }
 {
-    let Some(msg) = read_message::<M>(alloc, version, packet.body.as_slice())? else {
+    let Some(msg) = read_message::<M>(alloc, version, &packet.body)? else {
         return Ok(None);
     };
     Ok(Some(Parcel {
@@ -135,11 +135,11 @@ fn open_message<M: Sequenced>(
 pub fn read_message<M: Sequenced>(
     alloc: Global,
     version: u8,
-    bytes: &[u8],
+    bytes: &Bytes,
 ) -> Result<Option<M::Msg>, NoMemory>
     ensures { IfOk result (λ msg. msg ≡ whole (M.meaning.parse version bytes.now)) }
 {
-    let mut fields = Fields::over(version, bytes);
+    let mut fields = Fields::over_bytes(version, bytes);
     match M::decode(alloc, &mut fields) {
         Ok(msg) => {
             if fields.is_done() {
@@ -161,7 +161,7 @@ fn open_request<T: Drop>(
     ensures seen { IfOk result (λ parcel. seen parcel ≡ request_in packet (whole (parse_request packet.body))) }
     ensures asked { IfOk result (λ parcel. IfSome parcel (IsFromNode 0)) }
 {
-    let Some(request) = read_request(alloc, version, packet.body.as_slice())? else {
+    let Some(request) = read_request(alloc, version, &packet.body)? else {
         return Ok(None);
     };
     Ok(Some(Parcel {
@@ -172,10 +172,10 @@ fn open_request<T: Drop>(
 }
 
 // The request that takes up all of the bytes, if one does.
-fn read_request(alloc: Global, version: u8, bytes: &[u8]) -> Result<Option<Request>, NoMemory>
+fn read_request(alloc: Global, version: u8, bytes: &Bytes) -> Result<Option<Request>, NoMemory>
     ensures { IfOk result (λ request. request ≡ whole (parse_request bytes.now)) }
 {
-    let mut fields = Fields::over(version, bytes);
+    let mut fields = Fields::over_bytes(version, bytes);
     match iss_request::read_request(alloc, &mut fields) {
         Ok(request) => {
             if fields.is_done() {

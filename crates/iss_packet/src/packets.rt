@@ -121,12 +121,6 @@ fn read_size(f: &mut Fields) -> Result<u32, DecodeError>
     Ok(size)
 }
 
-fn copy_of(alloc: Global, bytes: &[u8]) -> Result<Bytes, NoMemory>
-    ensures { IfOk result (λ b. b ≡ bytes.now) }
-{
-    Ok(Bytes::of(Vec::from_slice(alloc, bytes)?))
-}
-
 fn read_parts(alloc: Global, f: &mut Fields) -> Result<Packet, DecodeError>
     ensures ok { IfOk result (λ p. IsRead (parse_parts f.old.version) f.old f.new p) }
     ensures bad { (at : ℕ) → result ≡ Err (DecodeError.BadField at) → IsUnreadable (parse_parts f.old.version) f.old at }
@@ -137,8 +131,9 @@ fn read_parts(alloc: Global, f: &mut Fields) -> Result<Packet, DecodeError>
     let epoch = f.read_u64()?;
     let leader = f.read_u8()?;
     let size = read_size(f)?;
-    let lent = f.read_bytes(size as usize)?;
-    let body = copy_of(alloc, lent)?;
+    let first = f.at();
+    let _lent = f.read_bytes(size as usize)?;
+    let body = f.since(alloc, first)?;
     Ok(Packet {
         kind,
         from,

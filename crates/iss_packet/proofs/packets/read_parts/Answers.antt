@@ -1,5 +1,8 @@
 use Rattle.iss_request.proofs.Readings.{exit, read_then, unread_first, unread_then, read_done}
 use Rattle.iss_packet.specs.Packets.{parse_parts}
+use Rattle.iss_request.specs.Parsing.{block}
+use Rattle.iss_request.proofs.ParserLemmas.{block_parts}
+use Rattle.iss_request.proofs.Parts.{read_as_is}
 use Rattle.iss_packet.proofs.packets.read_parts.Goals as goal
 
 pub returns-in_err-_first-clause-bad : goal.returns-in_err-_first-clause-bad
@@ -53,27 +56,26 @@ returns-in_err-size-clause-bad c =
     (unread_then _ _ c.in_ok-leader.ensures.ok
     (unread_first _ _ (c.in_err-size.ensures.bad at e))))))))
 
-pub returns-in_err-lent-clause-bad : goal.returns-in_err-lent-clause-bad
+pub returns-in_err-_lent-clause-bad : goal.returns-in_err-_lent-clause-bad
 unfolding parse_parts
-returns-in_err-lent-clause-bad c =
-    exit c.from_residual-in_err-lent.result _ _ c.from_residual-in_err-lent.ensures.1 (λ at e.
+returns-in_err-_lent-clause-bad c =
+    exit c.from_residual-in_err-_lent.result _ _ c.from_residual-in_err-_lent.ensures.1 (λ at e.
     (unread_then _ _ c.in_ok-_first.ensures.ok
     (unread_then _ _ c.in_ok-kind.ensures.ok
     (unread_then _ _ c.in_ok-from.ensures.ok
     (unread_then _ _ c.in_ok-epoch.ensures.ok
     (unread_then _ _ c.in_ok-leader.ensures.ok
     (unread_then _ _ c.in_ok-size.ensures.ok
-    (unread_first _ _ (c.in_err-lent.ensures.bad at e)))))))))
+    (unread_first _ _ (c.in_err-_lent.ensures.bad at e)))))))))
 
 pub returns-clause-ok : goal.returns-clause-ok
 unfolding parse_parts
 returns-clause-ok c =
-    rw c.in_ok-body.ensures
     (read_then _ _ c.in_ok-_first.ensures.ok
     (read_then _ _ c.in_ok-kind.ensures.ok
     (read_then _ _ c.in_ok-from.ensures.ok
     (read_then _ _ c.in_ok-epoch.ensures.ok
     (read_then _ _ c.in_ok-leader.ensures.ok
     (read_then _ _ c.in_ok-size.ensures.ok
-    (read_then _ _ c.in_ok-lent.ensures.ok
+    (read_then _ _ (read_as_is (block _) (λ bytes rest x found. (block_parts _ bytes rest x found).parts) _ c.at-first.result c.in_ok-_lent.ensures.ok c.in_ok-body.ensures c.at-first.ensures)
     (read_done _ _))))))))
