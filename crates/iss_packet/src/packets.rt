@@ -216,14 +216,14 @@ impl Packet {
         }
     }
 
-    /// The packet's bytes by a version. One whose body is longer than 200,000,000 bytes has no spelling, and gives bytes that are
-    /// no packet's.
+    /// The packet's bytes by a version, which copies share, one for each node that it goes to. One whose body is longer than
+    /// 200,000,000 bytes has no spelling, and gives bytes that are no packet's.
     pub fn encode(&self, alloc: Global, version: u8) -> Result<Bytes, NoMemory>
         ensures { IfOk result (λ bytes. bytes ≡ spell_packet version self.now) }
     {
         let mut out = Writer::new(alloc, version);
         self.write(&mut out)?;
-        Ok(out.into_bytes())
+        out.into_bytes().into_shared()
     }
 }
 
