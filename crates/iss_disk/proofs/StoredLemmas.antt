@@ -4,7 +4,7 @@ use Rattle.std.proofs.lemmas.List.{reverse-append, take_at, drop_at, take-take, 
 use Rattle.iss_disk.specs.File.{File, settled, overwritten, wrote, shortened, synced, restarted}
 use Rattle.iss_disk.specs.States.{states, after, newest, is_pending, IsStored}
 use Rattle.iss_disk.specs.declared.call.Call.{Call}
-use Rattle.iss_disk.specs.declared.call.Call.TheVariants.{Wrote, Cut, Synced, Restarted}
+use Rattle.iss_disk.specs.declared.call.Call.TheVariants.{Wrote, Kept, Cut, Synced, Restarted}
 
 -- there is always a newest state
 pub record HasNewest (files : List File) : Type 0 where
@@ -18,6 +18,8 @@ after_some change files some = record { file = change some.file; past = some.fil
 pub states_some : (calls : List Call) (written : List ℕ) → HasNewest (states calls written)
 states_some [] written = record { file = settled []; past = []; is = refl }
 states_some (Wrote at len ∷ calls) written = after_some (wrote at (drop (length written - len) written)) _ (states_some calls (take (length written - len) written))
+states_some (Kept at len ∷ calls) written =
+    after_some synced _ (after_some (wrote at (drop (length written - len) written)) _ (states_some calls (take (length written - len) written)))
 states_some (Cut len ∷ calls) written = after_some (shortened len) _ (states_some calls written)
 states_some (Synced ∷ calls) written = after_some synced _ (states_some calls written)
 states_some (Restarted ∷ calls) written = after_some restarted _ (states_some calls written)

@@ -5,7 +5,7 @@ use Rattle.std.proofs.lemmas.Bool.{or_parts, and_cases, leb-false, ltb-false}
 use Rattle.iss_disk.specs.File.{File, Image, is_written, settled, overwritten, wrote, shortened, synced, restarted}
 use Rattle.iss_disk.specs.States.{states, after}
 use Rattle.iss_disk.specs.declared.call.Call.{Call}
-use Rattle.iss_disk.specs.declared.call.Call.TheVariants.{Wrote, Cut, Synced, Restarted}
+use Rattle.iss_disk.specs.declared.call.Call.TheVariants.{Wrote, Kept, Cut, Synced, Restarted}
 
 pub image_settled : (bytes : List ℕ) → Image (settled bytes) bytes
 image_settled bytes = record { long_enough = omega arith; short_enough = omega arith; others = λ i in_bytes below outside. refl }
@@ -74,6 +74,11 @@ states_readable (Wrote at len ∷ calls) written =
     let before = length written - len in
     let bytes = drop before written in
     readable_after (wrote at bytes) _ (image_wrote at bytes) (states_readable calls (take before written))
+states_readable (Kept at len ∷ calls) written =
+    let before = length written - len in
+    let bytes = drop before written in
+    readable_after synced _ (λ file now. image_settled file.content)
+    (readable_after (wrote at bytes) _ (image_wrote at bytes) (states_readable calls (take before written)))
 states_readable (Cut len ∷ calls) written = readable_after (shortened len) _ (image_shortened len) (states_readable calls written)
 states_readable (Synced ∷ calls) written = readable_after synced _ (λ file now. image_settled file.content) (states_readable calls written)
 states_readable (Restarted ∷ calls) written = readable_after restarted _ (λ file now. image_settled file.kept) (states_readable calls written)

@@ -2,7 +2,7 @@
 use Rattle.std.specs.Prelude.{◌≡◌, ℕ, ◌-◌, ◌≤◌, Bool, true, false, List, [], ◌∷◌, ◌++◌, length, take, drop, refl}
 use Rattle.iss_disk.specs.File.{File, settled, wrote, shortened, synced, restarted}
 use Rattle.iss_disk.specs.declared.call.Call.{Call}
-use Rattle.iss_disk.specs.declared.call.Call.TheVariants.{Wrote, Cut, Synced, Restarted}
+use Rattle.iss_disk.specs.declared.call.Call.TheVariants.{Wrote, Kept, Cut, Synced, Restarted}
 
 -- one state more
 abbrev pub after : (File → File) → List File → List File
@@ -13,6 +13,8 @@ after change (file ∷ past) = change file ∷ file ∷ past
 abbrev pub states : List Call → List ℕ → List File
 states [] written = settled [] ∷ []
 states (Wrote at len ∷ calls) written = after (wrote at (drop (length written - len) written)) (states calls (take (length written - len) written))
+states (Kept at len ∷ calls) written =
+    after synced (after (wrote at (drop (length written - len) written)) (states calls (take (length written - len) written)))
 states (Cut len ∷ calls) written = after (shortened len) (states calls written)
 states (Synced ∷ calls) written = after synced (states calls written)
 states (Restarted ∷ calls) written = after restarted (states calls written)
@@ -26,6 +28,7 @@ newest (file ∷ past) = file
 abbrev pub is_pending : List Call → Bool
 is_pending [] = false
 is_pending (Wrote at len ∷ calls) = true
+is_pending (Kept at len ∷ calls) = false
 is_pending (Cut len ∷ calls) = true
 is_pending (Synced ∷ calls) = false
 is_pending (Restarted ∷ calls) = false

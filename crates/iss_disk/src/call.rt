@@ -7,6 +7,8 @@ pub enum Call {
     Wrote { at: usize, len: usize },
     /// The file was cut to a length.
     Cut { len: usize },
+    /// They were written so, and then it was synced.
+    Kept { at: usize, len: usize },
     /// It was synced.
     Synced,
     /// A crash left what was synced.

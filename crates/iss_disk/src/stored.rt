@@ -1,5 +1,5 @@
 // One file of a memory disk.
-ghost use Rattle.std.specs.Prelude.{◌≡◌, ◌+◌, ◌<◌, ◌≤◌, ◌++◌, true, length, take, reverse, vec_len, vec_capacity, IfOk, OnOk, [], ◌∷◌};
+ghost use Rattle.std.specs.Prelude.{◌≡◌, ◌+◌, ◌<◌, ◌≤◌, ◌++◌, true, false, List, ℕ, length, take, reverse, vec_len, vec_capacity, IfOk, OnOk, [], ◌∷◌};
 ghost use Rattle.iss_disk.specs.File.{settled, overwritten, wrote, shortened, synced, restarted};
 ghost use Rattle.iss_disk.specs.States.{states, after, newest, is_pending, IsStored};
 
@@ -47,8 +47,10 @@ fn overwrite(content: &mut Vec<u8>, at: usize, bytes: &[u8])
     }
 }
 
-// Puts bytes before those that are there.
-fn put_before(behind: &mut Vec<u8>, front: &[u8])
+// Puts bytes before some that are there. It is seldom called, and takes much room on the stack: so it stays out of its callers.
+#[cold]
+#[inline(never)]
+fn put_before_some(behind: &mut Vec<u8>, front: &[u8])
     requires room { vec_len behind.old + length front.now ≤ vec_capacity behind.old }
     ensures items { behind.new.items ≡ front.now ++ behind.old.items }
     ensures capacity { vec_capacity behind.old ≤ vec_capacity behind.new }
@@ -58,7 +60,39 @@ fn put_before(behind: &mut Vec<u8>, front: &[u8])
     behind.rotate_left(count);
 }
 
+// Puts bytes before those that are there, which mostly are none.
+fn put_before(behind: &mut Vec<u8>, front: &[u8])
+    requires room { vec_len behind.old + length front.now ≤ vec_capacity behind.old }
+    ensures items { behind.new.items ≡ front.now ++ behind.old.items }
+    ensures capacity { vec_capacity behind.old ≤ vec_capacity behind.new }
+{
+    if behind.is_empty() {
+        let _ = behind.extend_from_slice(front);
+    } else {
+        put_before_some(behind, front);
+    }
+}
+
+// Notes a sync, with the write before it where one came right before. So an entry of a journal is two notes.
+fn note_sync(calls: &mut Vec<Call>)
+    requires { vec_len calls.old < vec_capacity calls.old }
+    ensures states { (written : List ℕ) → states (reverse calls.new.items) written ≡ after synced (states (reverse calls.old.items) written) }
+    ensures waits { is_pending (reverse calls.new.items) ≡ false }
+    ensures len { vec_len calls.new ≤ vec_len calls.old + 1 }
+    ensures capacity { vec_capacity calls.old ≤ vec_capacity calls.new }
+{
+    match calls.pop() {
+        Some(Call::Wrote { at, len }) => calls.push_reserved(Call::Kept { at, len }),
+        Some(call) => {
+            calls.push_reserved(call);
+            calls.push_reserved(Call::Synced);
+        }
+        None => calls.push_reserved(Call::Synced),
+    }
+}
+
 // Sets apart what was synced from an offset on, before something comes over it, and tells up to where the content is what was synced.
+#[inline(always)]
 fn part(content: &[u8], behind: &mut Vec<u8>, same: usize, at: usize) -> usize
     requires within { same ≤ length content.now }
     requires room { same + vec_len behind.old ≤ vec_capacity behind.old }
@@ -126,7 +160,7 @@ impl StoredFile {
         self.same = part(&self.content, &mut self.behind, self.same, at);
         overwrite(&mut self.content, at, bytes);
         self.pending = true;
-        let _ = self.calls.push(Call::Wrote {
+        self.calls.push_reserved(Call::Wrote {
             at,
             len: bytes.len(),
         });
@@ -143,7 +177,7 @@ impl StoredFile {
         self.same = part(&self.content, &mut self.behind, self.same, len);
         self.content.truncate(len);
         self.pending = true;
-        let _ = self.calls.push(Call::Cut { len });
+        self.calls.push_reserved(Call::Cut { len });
     }
 
     pub(crate) fn sync(&mut self)
@@ -155,7 +189,7 @@ impl StoredFile {
         self.behind.clear();
         self.same = self.content.len();
         self.pending = false;
-        let _ = self.calls.push(Call::Synced);
+        note_sync(&mut self.calls);
     }
 
     /// A crash that leaves what was synced.

@@ -32,9 +32,8 @@ fn put_frame(bytes: &mut Vec<u8>, entry: &[u8])
     requires room { vec_len bytes.old + length entry.now + 6 ≤ vec_capacity bytes.old }
     ensures { bytes.new.items ≡ bytes.old.items ++ (frame entry.now ++ 0 ∷ []) }
 {
-    let size = entry.len() as u32;
-    let _ = bytes.push(OPEN);
-    let _ = bytes.extend_from_slice(&size.to_be_bytes());
+    let [a, b, c, d] = (entry.len() as u32).to_be_bytes();
+    let _ = bytes.extend_from_slice(&[OPEN, a, b, c, d]);
     let _ = bytes.extend_from_slice(entry);
     let _ = bytes.push(CLOSED);
 }
@@ -159,7 +158,7 @@ impl Entries {
         requires gate { vec_len self.old.gates < vec_capacity self.old.gates }
         ensures { entries_in self.new ≡ entries_in self.old ++ entry.now ∷ [] }
     {
-        let _ = self.gates.push(self.last as u64);
+        self.gates.push_reserved(self.last as u64);
         self.last += 5 + entry.len();
     }
 }

@@ -7,7 +7,7 @@ use Rattle.iss_disk.specs.ReadsAreImages.{image_settled}
 use Rattle.iss_disk.specs.States.{after, states}
 use Rattle.iss_disk.specs.StoredViews.{history_of}
 use Rattle.iss_disk.specs.declared.call.Call.{Call}
-use Rattle.iss_disk.specs.declared.call.Call.TheVariants.{Cut, Restarted, Synced, Wrote}
+use Rattle.iss_disk.specs.declared.call.Call.TheVariants.{Cut, Kept, Restarted, Synced, Wrote}
 use Rattle.iss_disk.specs.declared.stored.StoredFile.{StoredFile}
 use Rattle.iss_journal.specs.Frames.{AreShort, Reading, Reads, damaged, frames, holds}
 use Rattle.iss_journal.specs.Promises.{OnlyLeaves, RestsOn}
@@ -90,6 +90,10 @@ states-kept [] written = image_settled []
 states-kept (Wrote at len ∷ calls) written =
     let bytes = drop (length written - len) written in
     kept-after (wrote at bytes) _ (kept-wrote at bytes) (states-kept calls (take (length written - len) written))
+states-kept (Kept at len ∷ calls) written =
+    let bytes = drop (length written - len) written in
+    kept-after synced _ (λ file h. image_settled file.content)
+    (kept-after (wrote at bytes) _ (kept-wrote at bytes) (states-kept calls (take (length written - len) written)))
 states-kept (Cut len ∷ calls) written = kept-after (shortened len) _ (kept-shortened len) (states-kept calls written)
 states-kept (Synced ∷ calls) written = kept-after synced _ (λ file h. image_settled file.content) (states-kept calls written)
 states-kept (Restarted ∷ calls) written = kept-after restarted _ (λ file h. image_settled file.kept) (states-kept calls written)
@@ -107,6 +111,9 @@ states-told [] written = (settled [], [], refl)
 states-told (Wrote at len ∷ calls) written =
     let before = length written - len in
     told-after (wrote at (drop before written)) _ (states-told calls (take before written))
+states-told (Kept at len ∷ calls) written =
+    let before = length written - len in
+    told-after synced _ (told-after (wrote at (drop before written)) _ (states-told calls (take before written)))
 states-told (Cut len ∷ calls) written = told-after (shortened len) _ (states-told calls written)
 states-told (Synced ∷ calls) written = told-after synced _ (states-told calls written)
 states-told (Restarted ∷ calls) written = told-after restarted _ (states-told calls written)

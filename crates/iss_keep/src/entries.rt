@@ -1,5 +1,5 @@
 //! The events of a node as entries of its journal. `specs/Entries.antt` has the table.
-ghost use Rattle.std.specs.Prelude.{◌≡◌, ◌↔◌, ◌∷◌, ℕ, List, Some, IfOk};
+ghost use Rattle.std.specs.Prelude.{◌≡◌, ◌↔◌, ◌∷◌, ℕ, List, Some, IfOk, OnOk};
 ghost use Rattle.iss_causes.specs.declared.causes.NodeEvent.{NodeEvent};
 ghost use Rattle.iss_keep.specs.Entries.{IsEntryOf, ask_in, event_in, node_in, packet_entry, propose_in, spell_event, timeout_in};
 
@@ -15,27 +15,46 @@ const TIMEOUT: u8 = 3;
 
 const ASK: u8 = 4;
 
-// The entry of a packet.
-fn encode_packet(alloc: Global, bytes: &[u8]) -> Result<Vec<u8>, NoMemory>
-    ensures { IfOk result (λ entry. entry.items ≡ packet_entry bytes.now) }
+// Writes the entry of a packet.
+fn put_packet(entry: &mut Vec<u8>, bytes: &[u8]) -> Result<(), NoMemory>
+    ensures { OnOk result (entry.new.items ≡ packet_entry bytes.now) }
 {
-    let mut entry = Vec::new(alloc);
+    entry.clear();
     entry.reserve(bytes.len() + 1)?;
     entry.push(PACKET)?;
     entry.extend_from_slice(bytes)?;
-    Ok(entry)
+    Ok(())
+}
+
+// Writes the entry of an event that is no packet.
+fn put_word(entry: &mut Vec<u8>, word: &[u8]) -> Result<(), NoMemory>
+    ensures { OnOk result (entry.new.items ≡ word.now) }
+{
+    entry.clear();
+    entry.extend_from_slice(word)?;
+    Ok(())
+}
+
+/// Writes the entry of an event over what stood there: so events in a row take memory only where one is longer than all before.
+#[inline(always)]
+pub(crate) fn put_entry(entry: &mut Vec<u8>, event: &NodeEvent) -> Result<(), NoMemory>
+    ensures { OnOk result (entry.new.items ≡ spell_event event.now) }
+{
+    match event {
+        NodeEvent::Packet(bytes) => put_packet(entry, bytes.as_slice()),
+        NodeEvent::Propose => put_word(entry, &[PROPOSE]),
+        NodeEvent::Timeout(leader) => put_word(entry, &[TIMEOUT, leader.0]),
+        NodeEvent::AskFrom(peer) => put_word(entry, &[ASK, peer.0]),
+    }
 }
 
 /// The entry of an event.
 pub fn encode_entry(alloc: Global, event: &NodeEvent) -> Result<Vec<u8>, NoMemory>
     ensures { IfOk result (λ entry. entry.items ≡ spell_event event.now) }
 {
-    match event {
-        NodeEvent::Packet(bytes) => encode_packet(alloc, bytes.as_slice()),
-        NodeEvent::Propose => Ok(vec![in alloc; PROPOSE]?),
-        NodeEvent::Timeout(leader) => Ok(vec![in alloc; TIMEOUT, leader.0]?),
-        NodeEvent::AskFrom(peer) => Ok(vec![in alloc; ASK, peer.0]?),
-    }
+    let mut entry = Vec::new(alloc);
+    put_entry(&mut entry, event)?;
+    Ok(entry)
 }
 
 // What stands behind the first byte of a proposal: nothing.

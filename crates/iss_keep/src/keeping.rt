@@ -10,7 +10,7 @@ ghost use Rattle.iss_rules.specs.Setups.{IsSetupOf};
 ghost use Rattle.iss_node.specs.State.{Stands};
 
 use crate::answers::Answer;
-use crate::entries::encode_entry;
+use crate::entries::put_entry;
 use iss_causes::NodeEvent;
 use iss_disk::{Disk, EndError};
 use iss_journal::Journal;
@@ -83,12 +83,14 @@ fn step<M: Sequenced, D: Disk>(
     }
 }
 
-/// Makes room for the entry of an event, steps the node, and keeps the entry where the event was taken.
+/// Makes room for the entry of an event, steps the node, and keeps the entry where the event was taken. The entry is written into a
+/// buffer, which the next event uses again.
 pub(crate) fn keep<M: Sequenced, D: Disk>(
     alloc: Global,
     node: &mut Node<M>,
     journal: &mut Journal<D>,
     event: NodeEvent,
+    entry: &mut Vec<u8>,
 ) -> Answer
     requires good { IsSetupOf M.meaning node.old.parts.setup }
     requires stands { (c : Core M.Msg) × Stands M.meaning M.stands node.old c }
@@ -101,9 +103,9 @@ pub(crate) fn keep<M: Sequenced, D: Disk>(
     ensures attached { makes_stale result ≡ false → is_attached journal.new ≡ true }
     ensures same { (node.new.parts.setup ≡ node.old.parts.setup) × (node.new.parts.me ≡ node.old.parts.me) }
 {
-    let Ok(entry) = encode_entry(alloc, &event) else {
+    if put_entry(entry, &event).is_err() {
         return Answer::NoMemory;
-    };
+    }
     if journal.reserve(entry.len() as u64).is_err() {
         return Answer::NoMemory;
     }

@@ -9,12 +9,12 @@ invariant_of-self-clause-stored c =
     take c.part-self.result c.args.self.now.content.items ++ c.part-self.new.behind.items
     ≡ take c.args.self.now.same c.args.self.now.content.items ++ c.args.self.now.behind.items =
     search rules in
-    let pushed : c.push.new.self.items ≡ c.args.self.now.calls.items ++ Wrote c.args.at (length c.args.bytes.now) ∷ [] = search rules in
+    let pushed : c.push_reserved.new.self.items ≡ c.args.self.now.calls.items ++ Wrote c.args.at (length c.args.bytes.now) ∷ [] = search rules in
     let extended : c.extend_from_slice.new.self.items ≡ c.args.self.now.written.items ++ c.args.bytes.now = search rules in
     let longer : length c.args.self.now.content.items ≤ length c.overwrite.new.content.items = search rules in
-    write_keeps c.args.self.now.calls.items c.push.new.self.items c.args.at c.args.self.now.written.items c.extend_from_slice.new.self.items c.args.bytes.now c.args.self.now.content.items c.overwrite.new.content.items c.args.self.now.behind.items c.part-self.new.behind.items c.args.self.now.same c.part-self.result c.args.self.now.stored c.requires.within c.part-self.ensures.no_more c.part-self.ensures.before parted pushed extended c.overwrite.ensures.items longer
+    write_keeps c.args.self.now.calls.items c.push_reserved.new.self.items c.args.at c.args.self.now.written.items c.extend_from_slice.new.self.items c.args.bytes.now c.args.self.now.content.items c.overwrite.new.content.items c.args.self.now.behind.items c.part-self.new.behind.items c.args.self.now.same c.part-self.result c.args.self.now.stored c.requires.within c.part-self.ensures.no_more c.part-self.ensures.before parted pushed extended c.overwrite.ensures.items longer
 
 pub invariant_of-self-clause-waits : goal.invariant_of-self-clause-waits
 invariant_of-self-clause-waits c =
-    let pushed : c.push.new.self.items ≡ c.args.self.now.calls.items ++ Wrote c.args.at (length c.args.bytes.now) ∷ [] = search rules in
-    sym (pending_push c.args.self.now.calls.items c.push.new.self.items (Wrote c.args.at (length c.args.bytes.now)) pushed)
+    let pushed : c.push_reserved.new.self.items ≡ c.args.self.now.calls.items ++ Wrote c.args.at (length c.args.bytes.now) ∷ [] = search rules in
+    sym (pending_push c.args.self.now.calls.items c.push_reserved.new.self.items (Wrote c.args.at (length c.args.bytes.now)) pushed)
