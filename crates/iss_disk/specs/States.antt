@@ -33,11 +33,13 @@ is_pending (Cut len ∷ calls) = true
 is_pending (Synced ∷ calls) = false
 is_pending (Restarted ∷ calls) = false
 
--- A file holds what its newest state holds, and what was synced: that is the content up to an offset, and bytes behind it.
-pub record IsStored (states : List File) (content behind : List ℕ) (same : ℕ) : Type 0 where
+-- A file holds what its newest state holds, and what was synced: that is the content up to an offset, then bytes that are set apart, and
+-- then the content from another offset on.
+pub record IsStored (states : List File) (content behind : List ℕ) (same resumes : ℕ) : Type 0 where
   pub is_content : (newest states).content ≡ content
-  pub is_kept : (newest states).kept ≡ take same content ++ behind
+  pub is_kept : (newest states).kept ≡ take same content ++ (behind ++ drop resumes content)
   pub in_content : same ≤ length content
+  pub in_order : same ≤ resumes
 
 -- Two bytes written and synced, one over them, and a crash.
 

@@ -1,5 +1,5 @@
 // One file of a memory disk.
-ghost use Rattle.std.specs.Prelude.{◌≡◌, ◌+◌, ◌<◌, ◌≤◌, ◌++◌, true, false, List, ℕ, length, take, reverse, vec_len, vec_capacity, IfOk, OnOk, [], ◌∷◌};
+ghost use Rattle.std.specs.Prelude.{◌≡◌, ◌+◌, ◌-◌, ◌<◌, ◌≤◌, ◌++◌, true, false, List, ℕ, length, take, drop, reverse, vec_len, vec_capacity, IfOk, OnOk, [], ◌∷◌};
 ghost use Rattle.iss_disk.specs.File.{settled, overwritten, wrote, shortened, synced, restarted};
 ghost use Rattle.iss_disk.specs.States.{states, after, newest, is_pending, IsStored};
 
@@ -12,21 +12,22 @@ use std::alloc::{AllocError, Global};
 pub struct StoredFile {
     pub(crate) name: Vec<u8>,
     pub(crate) content: Vec<u8>,
-    // What was synced is the content up to here, and behind it these bytes: those that were written over or cut off since. So a file
-    // at rest holds its bytes once, and a sync copies nothing.
+    // What was synced is the content up to `same`, then these bytes, which were written over or cut off since, and then the content
+    // from `resumes` on. So a file at rest holds its bytes once, and a sync copies nothing.
     same: usize,
     behind: Vec<u8>,
+    resumes: usize,
     // Whether a write or a cut came since.
     pending: bool,
     calls: Vec<Call>,
     // What the writes wrote, one behind the other.
     written: Vec<u8>,
-    ghost stored: { IsStored (states (reverse calls.items) written.items) content.items behind.items same },
+    ghost stored: { IsStored (states (reverse calls.items) written.items) content.items behind.items same resumes },
     ghost waits: { pending ≡ is_pending (reverse calls.items) },
     // A sync, a restart and setting apart what was synced take no memory.
     ghost room_to_sync: { vec_len content ≤ vec_capacity behind },
-    ghost room_to_part: { same + vec_len behind ≤ vec_capacity behind },
-    ghost room_to_restart: { same + vec_len behind ≤ vec_capacity content },
+    ghost room_to_part: { same + vec_len behind + (vec_len content - resumes) ≤ vec_capacity behind },
+    ghost room_to_restart: { same + vec_len behind + (vec_len content - resumes) ≤ vec_capacity content },
     ghost call_to_restart: { pending ≡ true → vec_len calls < vec_capacity calls },
 }
 
@@ -47,7 +48,19 @@ fn overwrite(content: &mut Vec<u8>, at: usize, bytes: &[u8])
     }
 }
 
-// Puts bytes before some that are there. It is seldom called, and takes much room on the stack: so it stays out of its callers.
+// Puts bytes behind those that are there. Like the next one it is seldom called, and takes much room on the stack: so both stay out
+// of their callers.
+#[cold]
+#[inline(never)]
+fn put_behind(behind: &mut Vec<u8>, tail: &[u8])
+    requires room { vec_len behind.old + length tail.now ≤ vec_capacity behind.old }
+    ensures items { behind.new.items ≡ behind.old.items ++ tail.now }
+    ensures capacity { vec_capacity behind.old ≤ vec_capacity behind.new }
+{
+    let _ = behind.extend_from_slice(tail);
+}
+
+// Puts bytes before some that are there.
 #[cold]
 #[inline(never)]
 fn put_before_some(behind: &mut Vec<u8>, front: &[u8])
@@ -73,6 +86,17 @@ fn put_before(behind: &mut Vec<u8>, front: &[u8])
     }
 }
 
+// Puts bytes in place of all that stands from an offset on.
+fn put_back(content: &mut Vec<u8>, same: usize, behind: &[u8])
+    requires within { same ≤ vec_len content.old }
+    requires room { same + length behind.now ≤ vec_capacity content.old }
+    ensures items { content.new.items ≡ take same content.old.items ++ behind.now }
+    ensures capacity { vec_capacity content.old ≤ vec_capacity content.new }
+{
+    content.truncate(same);
+    let _ = content.extend_from_slice(behind);
+}
+
 // Notes a sync, with the write before it where one came right before. So an entry of a journal is two notes.
 fn note_sync(calls: &mut Vec<Call>)
     requires { vec_len calls.old < vec_capacity calls.old }
@@ -91,17 +115,30 @@ fn note_sync(calls: &mut Vec<Call>)
     }
 }
 
-// Sets apart what was synced from an offset on, before something comes over it, and tells up to where the content is what was synced.
+// Sets apart what the content goes on with, which mostly is nothing.
 #[inline(always)]
-fn part(content: &[u8], behind: &mut Vec<u8>, same: usize, at: usize) -> usize
-    requires within { same ≤ length content.now }
-    requires room { same + vec_len behind.old ≤ vec_capacity behind.old }
-    ensures before { result ≤ at }
-    ensures no_more { result ≤ same }
-    ensures synced { take result content.now ++ behind.new.items ≡ take same content.now ++ behind.old.items }
-    ensures len { result + vec_len behind.new ≡ same + vec_len behind.old }
+fn close(content: &[u8], behind: &mut Vec<u8>, resumes: usize)
+    requires room { vec_len behind.old + (length content.now - resumes) ≤ vec_capacity behind.old }
+    ensures items { behind.new.items ≡ behind.old.items ++ drop resumes content.now }
     ensures capacity { vec_capacity behind.old ≤ vec_capacity behind.new }
 {
+    if resumes < content.len() {
+        put_behind(behind, &content[resumes..]);
+    }
+}
+
+// Sets apart all that was synced from an offset on, before something comes over it, and tells up to where the content is what was synced.
+#[inline(always)]
+fn part(content: &[u8], behind: &mut Vec<u8>, same: usize, resumes: usize, at: usize) -> usize
+    requires within { same ≤ length content.now }
+    requires room { same + vec_len behind.old + (length content.now - resumes) ≤ vec_capacity behind.old }
+    ensures before { result ≤ at }
+    ensures no_more { result ≤ same }
+    ensures synced { take result content.now ++ behind.new.items ≡ take same content.now ++ (behind.old.items ++ drop resumes content.now) }
+    ensures len { result + vec_len behind.new ≡ same + vec_len behind.old + (length content.now - resumes) }
+    ensures capacity { vec_capacity behind.old ≤ vec_capacity behind.new }
+{
+    close(content, behind, resumes);
     if at >= same {
         return same;
     }
@@ -125,6 +162,7 @@ impl StoredFile {
             content: Vec::new(alloc),
             same: 0,
             behind: Vec::new(alloc),
+            resumes: 0,
             pending: false,
             calls: Vec::new(alloc),
             written: Vec::new(alloc),
@@ -149,6 +187,49 @@ impl StoredFile {
         Ok(())
     }
 
+    // Writes one byte over another where all is synced, as a gate is opened: no more than that byte is set apart.
+    #[inline(always)]
+    fn write_over(&mut self, at: usize, byte: u8)
+        requires call { 1 ≤ (room_of self.old).calls }
+        requires bytes { 1 ≤ (room_of self.old).bytes }
+        requires within { at < length self.old.content.items }
+        requires nothing_apart { self.old.behind.items ≡ [] }
+        requires all_synced { self.old.same ≡ length self.old.content.items }
+        ensures states { history_of self.new ≡ after (wrote at (byte ∷ [])) (history_of self.old) }
+        ensures room { Takes 1 1 (room_of self.old) (room_of self.new) }
+        ensures name { self.new.name.items ≡ self.old.name.items }
+    {
+        self.behind.push_reserved(self.content[at]);
+        self.same = at;
+        self.resumes = at + 1;
+        self.content[at] = byte;
+        self.pending = true;
+        self.calls.push_reserved(Call::Wrote { at, len: 1 });
+        self.written.push_reserved(byte);
+    }
+
+    // Writes bytes over what is there, and past the end.
+    #[inline(always)]
+    fn write_all(&mut self, at: usize, bytes: &[u8])
+        requires call { 1 ≤ (room_of self.old).calls }
+        requires bytes { length bytes.now ≤ (room_of self.old).bytes }
+        requires within { at ≤ length self.old.content.items }
+        ensures states { history_of self.new ≡ after (wrote at bytes.now) (history_of self.old) }
+        ensures room { Takes 1 (length bytes.now) (room_of self.old) (room_of self.new) }
+        ensures name { self.new.name.items ≡ self.old.name.items }
+    {
+        self.same = part(&self.content, &mut self.behind, self.same, self.resumes, at);
+        overwrite(&mut self.content, at, bytes);
+        self.resumes = self.content.len();
+        self.pending = true;
+        self.calls.push_reserved(Call::Wrote {
+            at,
+            len: bytes.len(),
+        });
+        let _ = self.written.extend_from_slice(bytes);
+    }
+
+    #[inline(always)]
     pub(crate) fn write(&mut self, at: usize, bytes: &[u8])
         requires call { 1 ≤ (room_of self.old).calls }
         requires bytes { length bytes.now ≤ (room_of self.old).bytes }
@@ -157,14 +238,11 @@ impl StoredFile {
         ensures room { Takes 1 (length bytes.now) (room_of self.old) (room_of self.new) }
         ensures name { self.new.name.items ≡ self.old.name.items }
     {
-        self.same = part(&self.content, &mut self.behind, self.same, at);
-        overwrite(&mut self.content, at, bytes);
-        self.pending = true;
-        self.calls.push_reserved(Call::Wrote {
-            at,
-            len: bytes.len(),
-        });
-        let _ = self.written.extend_from_slice(bytes);
+        let at_rest = self.behind.is_empty() && self.same == self.content.len();
+        match bytes {
+            [byte] if at_rest && at < self.same => self.write_over(at, *byte),
+            _ => self.write_all(at, bytes),
+        }
     }
 
     pub(crate) fn cut(&mut self, len: usize)
@@ -174,8 +252,15 @@ impl StoredFile {
         ensures room { Takes 1 0 (room_of self.old) (room_of self.new) }
         ensures name { self.new.name.items ≡ self.old.name.items }
     {
-        self.same = part(&self.content, &mut self.behind, self.same, len);
+        self.same = part(
+            &self.content,
+            &mut self.behind,
+            self.same,
+            self.resumes,
+            len,
+        );
         self.content.truncate(len);
+        self.resumes = len;
         self.pending = true;
         self.calls.push_reserved(Call::Cut { len });
     }
@@ -188,6 +273,7 @@ impl StoredFile {
     {
         self.behind.clear();
         self.same = self.content.len();
+        self.resumes = self.same;
         self.pending = false;
         note_sync(&mut self.calls);
     }
@@ -198,10 +284,11 @@ impl StoredFile {
         ensures name { self.new.name.items ≡ self.old.name.items }
     {
         if self.pending {
-            self.content.truncate(self.same);
-            let _ = self.content.extend_from_slice(&self.behind);
+            close(&self.content, &mut self.behind, self.resumes);
+            put_back(&mut self.content, self.same, &self.behind);
             self.behind.clear();
             self.same = self.content.len();
+            self.resumes = self.same;
             self.pending = false;
             let _ = self.calls.push(Call::Restarted);
         }

@@ -1,5 +1,7 @@
 -- What the parts of one event leave of the node: its step, and the entry behind that.
-use Rattle.std.specs.Prelude.{◌≡◌, ℕ}
+use Rattle.std.specs.Prelude.{◌≡◌, ℕ, Result, Ok, Err}
+use Rattle.iss_disk.specs.declared.errors.EndError.{EndError}
+use Rattle.iss_disk.specs.declared.errors.EndError.TheVariants.{Failed as Disk_failed, NoMemory as No_room}
 use Rattle.iss_rules.specs.Concrete.{rules_of}
 use Rattle.iss_rules.specs.Formats.{formats_of}
 use Rattle.iss_model.specs.Node.{Core, step}
@@ -39,6 +41,12 @@ HasStepped m stands event old new (Dropped why) = Answers m stands event old new
 HasStepped m stands event old new Failed = ShowsSame old new × Takes m stands event old
 HasStepped m stands event old new Stale = ⊥
 HasStepped m stands event old new NoMemory = ShowsSame old new
+
+-- what a node that took an event answers, where its entry was appended so
+abbrev pub answer_with : {A : Type 0} → Outcome → Result A EndError → Answer
+answer_with outcome (Ok x) = Taken outcome
+answer_with outcome (Err Disk_failed) = Failed
+answer_with outcome (Err No_room) = NoMemory
 
 -- The outcome of a step is handed out with its entry, and the node stays as it is; else the node retreats.
 abbrev pub HasEnded : {M Msg : Type 0} → Outcome → ℕ → ℕ → NodeState M Msg → NodeState M Msg → Answer → Type 0

@@ -1,5 +1,5 @@
 //! The events of a node as entries of its journal. `specs/Entries.antt` has the table.
-ghost use Rattle.std.specs.Prelude.{◌≡◌, ◌↔◌, ◌∷◌, ℕ, List, Some, IfOk, OnOk};
+ghost use Rattle.std.specs.Prelude.{◌≡◌, ◌↔◌, [], ◌∷◌, ℕ, List, Some, IfOk, OnOk};
 ghost use Rattle.iss_causes.specs.declared.causes.NodeEvent.{NodeEvent};
 ghost use Rattle.iss_keep.specs.Entries.{IsEntryOf, ask_in, event_in, node_in, packet_entry, propose_in, spell_event, timeout_in};
 
@@ -26,12 +26,25 @@ fn put_packet(entry: &mut Vec<u8>, bytes: &[u8]) -> Result<(), NoMemory>
     Ok(())
 }
 
-// Writes the entry of an event that is no packet.
-fn put_word(entry: &mut Vec<u8>, word: &[u8]) -> Result<(), NoMemory>
-    ensures { OnOk result (entry.new.items ≡ word.now) }
+// Writes the entry of an event that names no node.
+#[inline(always)]
+fn put_one(entry: &mut Vec<u8>, kind: u8) -> Result<(), NoMemory>
+    ensures { OnOk result (entry.new.items ≡ kind ∷ []) }
 {
     entry.clear();
-    entry.extend_from_slice(word)?;
+    entry.push(kind)?;
+    Ok(())
+}
+
+// Writes the entry of an event that names one.
+#[inline(always)]
+fn put_two(entry: &mut Vec<u8>, kind: u8, node: NodeId) -> Result<(), NoMemory>
+    ensures { OnOk result (entry.new.items ≡ kind ∷ node.0 ∷ []) }
+{
+    entry.clear();
+    entry.reserve(2)?;
+    entry.push_reserved(kind);
+    entry.push_reserved(node.0);
     Ok(())
 }
 
@@ -42,9 +55,9 @@ pub(crate) fn put_entry(entry: &mut Vec<u8>, event: &NodeEvent) -> Result<(), No
 {
     match event {
         NodeEvent::Packet(bytes) => put_packet(entry, bytes.as_slice()),
-        NodeEvent::Propose => put_word(entry, &[PROPOSE]),
-        NodeEvent::Timeout(leader) => put_word(entry, &[TIMEOUT, leader.0]),
-        NodeEvent::AskFrom(peer) => put_word(entry, &[ASK, peer.0]),
+        NodeEvent::Propose => put_one(entry, PROPOSE),
+        NodeEvent::Timeout(leader) => put_two(entry, TIMEOUT, *leader),
+        NodeEvent::AskFrom(peer) => put_two(entry, ASK, *peer),
     }
 }
 

@@ -1,13 +1,14 @@
 // One event of a node whose journal is attached: room for its entry, its step, and its entry.
-ghost use Rattle.std.specs.Prelude.{◌≡◌, ◌≤◌, false, true, length};
+ghost use Rattle.std.specs.Prelude.{◌≡◌, ◌≤◌, false, true, length, OnOk};
 ghost use Rattle.iss_journal.specs.Frames.{max_entry};
 ghost use Rattle.iss_journal.specs.Sound.{IsSound, disk_of, entries_of, is_attached};
 ghost use Rattle.iss_keep.specs.Entries.{spell_event};
-ghost use Rattle.iss_keep.specs.Keeping.{HasEnded, HasStepped};
+ghost use Rattle.iss_keep.specs.Keeping.{HasEnded, HasStepped, answer_with};
 ghost use Rattle.iss_keep.specs.Steps.{IsWritten, makes_stale, sight};
 ghost use Rattle.iss_model.specs.Node.{Core};
 ghost use Rattle.iss_rules.specs.Setups.{IsSetupOf};
 ghost use Rattle.iss_node.specs.State.{Stands};
+ghost use Rattle.iss_node.specs.declared.answers.Outcome.{Outcome};
 
 use crate::answers::Answer;
 use crate::entries::put_entry;
@@ -19,37 +20,47 @@ use iss_request::Epoch;
 use iss_sb::Sequenced;
 use std::alloc::Global;
 
-// Appends the entry of an event that was taken, and hands out what the event made only then. Else the node retreats to the log
-// and the epoch from before.
+// Appends the entry of an event that was taken. Where that fails the node retreats to the log and the epoch from before.
 fn keep_entry<M: Sequenced, D: Disk>(
     node: &mut Node<M>,
     journal: &mut Journal<D>,
     entry: &[u8],
-    outcome: Outcome,
     slots: usize,
     epoch: Epoch,
-) -> Answer
+) -> Result<(), EndError>
     requires sound { IsSound D.history D.room journal.old }
     requires attached { is_attached journal.old ≡ true }
     requires short { length entry.now ≤ max_entry }
     requires slots { slots ≤ length node.old.parts.log.entries }
     requires epoch { epoch.0 ≤ node.old.parts.epoch }
-    ensures written { IsWritten (entries_of journal.old) entry.now (sight D.history D.passes D.faults D.current D.files (disk_of journal.old))
-        (sight D.history D.passes D.faults D.current D.files (disk_of journal.new)) (entries_of journal.new) result }
-    ensures ended { HasEnded outcome slots epoch.0 node.old node.new result }
+    ensures written { (outcome : Outcome) → IsWritten (entries_of journal.old) entry.now (sight D.history D.passes D.faults D.current D.files (disk_of journal.old))
+        (sight D.history D.passes D.faults D.current D.files (disk_of journal.new)) (entries_of journal.new) (answer_with outcome result) }
+    ensures ended { (outcome : Outcome) → HasEnded outcome slots epoch.0 node.old node.new (answer_with outcome result) }
     ensures sound { IsSound D.history D.room journal.new }
-    ensures attached { makes_stale result ≡ false → is_attached journal.new ≡ true }
+    ensures attached { OnOk result (is_attached journal.new ≡ true) }
 {
     match journal.append(entry) {
-        Ok(()) => Answer::Taken(outcome),
+        Ok(()) => Ok(()),
         Err(EndError::Failed) => {
             node.retreat(slots, epoch);
-            Answer::Failed
+            Err(EndError::Failed)
         }
         Err(EndError::NoMemory) => {
             node.retreat(slots, epoch);
-            Answer::NoMemory
+            Err(EndError::NoMemory)
         }
+    }
+}
+
+// What an event made is handed out where its entry is kept, and not else.
+#[inline(always)]
+fn answer_with(outcome: Outcome, kept: Result<(), EndError>) -> Answer
+    ensures { result ≡ answer_with outcome kept }
+{
+    match kept {
+        Ok(()) => Answer::Taken(outcome),
+        Err(EndError::Failed) => Answer::Failed,
+        Err(EndError::NoMemory) => Answer::NoMemory,
     }
 }
 
@@ -76,7 +87,10 @@ fn step<M: Sequenced, D: Disk>(
     let slots = node.log().entries().len();
     let epoch = node.epoch();
     match node.take(alloc, event) {
-        NodeAnswer::Taken(outcome) => keep_entry(node, journal, entry, outcome, slots, epoch),
+        NodeAnswer::Taken(outcome) => {
+            let kept = keep_entry(node, journal, entry, slots, epoch);
+            answer_with(outcome, kept)
+        }
         NodeAnswer::Dropped(why) => Answer::Dropped(why),
         NodeAnswer::NoMemory => Answer::NoMemory,
         NodeAnswer::Stale => Answer::NoMemory,
