@@ -33,7 +33,8 @@ fn keep_entry<M: Sequenced, D: Disk>(
     requires short { length entry.now ≤ max_entry }
     requires slots { slots ≤ length node.old.parts.log.entries }
     requires epoch { epoch.0 ≤ node.old.parts.epoch }
-    ensures written { (outcome : Outcome) → IsWritten (entries_of journal.old) entry.now (sight D.history D.passes D.faults D.current D.files (disk_of journal.old))
+    ensures written { (outcome : Outcome) → IsWritten (entries_of journal.old) entry.now
+        (sight D.history D.passes D.faults D.current D.files (disk_of journal.old))
         (sight D.history D.passes D.faults D.current D.files (disk_of journal.new)) (entries_of journal.new) (answer_with outcome result) }
     ensures ended { (outcome : Outcome) → HasEnded outcome slots epoch.0 node.old node.new (answer_with outcome result) }
     ensures sound { IsSound D.history D.room journal.new }
