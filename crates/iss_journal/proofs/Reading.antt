@@ -8,6 +8,7 @@ use Rattle.iss_journal.proofs.Crash.{only_settled, reads_closed}
 use Rattle.iss_journal.specs.EntryViews.{entries_in}
 use Rattle.iss_journal.specs.Sound.{HasRoom}
 use Rattle.iss_journal.specs.declared.entries.Entries.{Entries}
+use Rattle.iss_journal.specs.declared.spare.Spare.{Spare}
 use Rattle.iss_journal.proofs.Grammar.{one_reading}
 use Rattle.iss_journal.proofs.Steps.{between_leaves, each_append}
 
@@ -97,10 +98,11 @@ pub history_same : (h0 h1 : List File) (f0 f1 : List ℕ → List File) (n0 n1 :
 history_same h0 h1 f0 f1 n0 n1 is0 is1 stays = is1 ∙ ap f1 stays.name ∙ stays.all n0 ∙ sym is0
 
 -- whether there is room does not depend on room that was added
-pub room_more : (bytes : ℕ) (old new : Entries) (room now : Room) → HasRoom bytes old room → entries_in new ≡ entries_in old → vec_capacity old.bytes ≤ vec_capacity new.bytes → (vec_len old.gates < vec_capacity old.gates → vec_len new.gates < vec_capacity new.gates) → Takes 0 0 room now → HasRoom bytes new now
-room_more bytes old new room now has same no_less gate takes = record {
+pub room_more : (spare : Spare) (old new : Entries) (room now : Room) → HasRoom spare old room → entries_in new ≡ entries_in old → vec_capacity old.bytes ≤ vec_capacity new.bytes → vec_len new.gates ≡ vec_len old.gates → vec_capacity old.gates ≤ vec_capacity new.gates → Takes 0 0 room now → HasRoom spare new now
+room_more spare old new room now has same no_less as_many gates takes = record {
+  some = has.some;
   in_memory = omega (arith, has.in_memory, no_less, ap (λ (es : List (List ℕ)). length (frames es)) same);
-  for_gate = gate has.for_gate;
+  for_gates = omega (arith, has.for_gates, as_many, gates);
   calls = omega (arith, has.calls, takes.calls_left);
   on_disk = omega (arith, has.on_disk, takes.bytes_left);
 }

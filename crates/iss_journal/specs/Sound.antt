@@ -1,5 +1,5 @@
 -- What a journal shows, and what is true of each.
-use Rattle.std.specs.Prelude.{◌≡◌, ℕ, ◌+◌, ◌<◌, ◌≤◌, Bool, true, Option, Some, List, length, vec_len, vec_capacity}
+use Rattle.std.specs.Prelude.{◌≡◌, ℕ, ◌+◌, ◌*◌, ◌≤◌, Bool, true, Option, None, Some, List, length, vec_len, vec_capacity}
 use Rattle.iss_disk.specs.File.{File}
 use Rattle.iss_disk.specs.Calls.{IfTold, Room, Passes}
 use Rattle.iss_journal.specs.Frames.{frames}
@@ -7,6 +7,7 @@ use Rattle.iss_journal.specs.EntryViews.{entries_in}
 use Rattle.iss_journal.specs.Promises.{RestsOn}
 use Rattle.iss_journal.specs.declared.entries.Entries.{Entries}
 use Rattle.iss_journal.specs.declared.journal.Journal.{Journal}
+use Rattle.iss_journal.specs.declared.spare.Spare.{Spare}
 
 abbrev pub disk_of : {D : Type 0} → Journal D → D
 disk_of journal = journal.disk
@@ -19,21 +20,26 @@ abbrev pub is_attached : {D : Type 0} → Journal D → Bool
 is_attached journal = journal.attached
 
 -- the longest entry for which there is room, where there is
-abbrev pub reserved_of : {D : Type 0} → Journal D → Option ℕ
-reserved_of journal = journal.reserved
+abbrev pub longest_of : Option Spare → Option ℕ
+longest_of None = None
+longest_of (Some spare) = Some spare.longest
 
--- room for an entry of so many bytes, in memory and on the disk
-pub record HasRoom (bytes : ℕ) (entries : Entries) (room : Room) : Type 0 where
-  pub in_memory : length (frames (entries_in entries)) + bytes + 6 ≤ vec_capacity entries.bytes
-  pub for_gate : vec_len entries.gates < vec_capacity entries.gates
-  pub calls : 4 ≤ room.calls
-  pub on_disk : bytes + 6 ≤ room.bytes
+abbrev pub reserved_of : {D : Type 0} → Journal D → Option ℕ
+reserved_of journal = longest_of journal.reserved
+
+-- room for some entries, in memory and on the disk
+pub record HasRoom (spare : Spare) (entries : Entries) (room : Room) : Type 0 where
+  pub some : 1 ≤ spare.entries
+  pub in_memory : length (frames (entries_in entries)) + spare.longest + 6 ≤ vec_capacity entries.bytes
+  pub for_gates : vec_len entries.gates + spare.entries ≤ vec_capacity entries.gates
+  pub calls : 4 * spare.entries ≤ room.calls
+  pub on_disk : spare.longest + 6 ≤ room.bytes
 
 -- While it is attached, its file is the frames of its entries and a closed gate, all of it synced; and the room that it
 -- holds ready is there.
 pub record IsSound {D : Type 0} (history : D → List File) (room : D → Room) (journal : Journal D) : Type 0 where
   pub rests : journal.attached ≡ true → IfTold (history journal.disk) (RestsOn (entries_in journal.entries))
-  pub room_kept : (bytes : ℕ) → journal.reserved ≡ Some bytes → HasRoom bytes journal.entries (room journal.disk)
+  pub room_kept : (spare : Spare) → journal.reserved ≡ Some spare → HasRoom spare journal.entries (room journal.disk)
 
 -- the disk's file, the calls to come and whether the journal is attached are as before
 pub record NothingChanged {D : Type 0} (history : D → List File) (passes : D → Passes) (old new : Journal D) : Type 0 where

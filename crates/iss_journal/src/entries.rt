@@ -30,7 +30,8 @@ pub struct Entries {
 fn put_frame(bytes: &mut Vec<u8>, entry: &[u8])
     requires short { length entry.now ≤ max_entry }
     requires room { vec_len bytes.old + length entry.now + 6 ≤ vec_capacity bytes.old }
-    ensures { bytes.new.items ≡ bytes.old.items ++ (frame entry.now ++ 0 ∷ []) }
+    ensures items { bytes.new.items ≡ bytes.old.items ++ (frame entry.now ++ 0 ∷ []) }
+    ensures no_less { vec_capacity bytes.old ≤ vec_capacity bytes.new }
 {
     let [a, b, c, d] = (entry.len() as u32).to_be_bytes();
     let _ = bytes.extend_from_slice(&[OPEN, a, b, c, d]);
@@ -117,17 +118,18 @@ impl Entries {
         self.bytes.len() - self.last > 1
     }
 
-    // Makes room for an entry of so many bytes.
-    pub(crate) fn reserve(&mut self, bytes: usize) -> Result<(), AllocError>
+    // Makes room for so many entries, of which the first has so many bytes.
+    pub(crate) fn reserve(&mut self, entries: usize, bytes: usize) -> Result<(), AllocError>
         ensures entries { entries_in self.new ≡ entries_in self.old }
         ensures room { OnOk result (length (frames (entries_in self.old)) + bytes + 6 ≤ vec_capacity self.new.bytes) }
-        ensures gate { OnOk result (vec_len self.new.gates < vec_capacity self.new.gates) }
+        ensures gates { OnOk result (vec_len self.new.gates + entries ≤ vec_capacity self.new.gates) }
         ensures no_less { vec_capacity self.old.bytes ≤ vec_capacity self.new.bytes }
-        ensures gate_kept { vec_len self.old.gates < vec_capacity self.old.gates → vec_len self.new.gates < vec_capacity self.new.gates }
+        ensures gates_same { vec_len self.new.gates ≡ vec_len self.old.gates }
+        ensures gates_no_less { vec_capacity self.old.gates ≤ vec_capacity self.new.gates }
     {
         let wanted = bytes.checked_add(6).ok_or(AllocError)?;
         self.bytes.reserve(wanted)?;
-        self.gates.reserve(1)
+        self.gates.reserve(entries)
     }
 
     // Puts an entry behind the last gate, with its length before it and a closed gate behind it.
@@ -137,7 +139,8 @@ impl Entries {
         requires gate { vec_len self.old.gates < vec_capacity self.old.gates }
         ensures entries { entries_in self.new ≡ entries_in self.old }
         ensures bytes { self.new.bytes.items ≡ frames (entries_in self.old) ++ (frame entry.now ++ 0 ∷ []) }
-        ensures gate { vec_len self.new.gates < vec_capacity self.new.gates }
+        ensures no_less { vec_capacity self.old.bytes ≤ vec_capacity self.new.bytes }
+        ensures gates { self.new.gates ≡ self.old.gates }
     {
         self.bytes.truncate(self.last);
         put_frame(&mut self.bytes, entry);
@@ -156,7 +159,10 @@ impl Entries {
         requires short { length entry.now ≤ max_entry }
         requires bytes { self.old.bytes.items ≡ frames (entries_in self.old) ++ (frame entry.now ++ 0 ∷ []) }
         requires gate { vec_len self.old.gates < vec_capacity self.old.gates }
-        ensures { entries_in self.new ≡ entries_in self.old ++ entry.now ∷ [] }
+        ensures entries { entries_in self.new ≡ entries_in self.old ++ entry.now ∷ [] }
+        ensures bytes { self.new.bytes ≡ self.old.bytes }
+        ensures gate { vec_len self.new.gates ≡ vec_len self.old.gates + 1 }
+        ensures no_less { vec_capacity self.old.gates ≤ vec_capacity self.new.gates }
     {
         self.gates.push_reserved(self.last as u64);
         self.last += 5 + entry.len();

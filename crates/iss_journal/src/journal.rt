@@ -5,8 +5,14 @@ use crate::entries::Entries;
 use crate::errors::AttachError;
 use crate::keep::keep_entry;
 use crate::load::load;
+use crate::spare::{Spare, left_behind};
 use iss_disk::{Disk, EndError, Fused, NoMemory};
 use std::alloc::Global;
+
+// For how many entries, and for how many bytes beside those that are asked for, room is made at once.
+const SOME_ENTRIES: u64 = 64;
+
+const SOME_BYTES: u64 = 4096;
 
 /// A list of entries in the current file of a disk, each of them on the disk before its `append` answers.
 #[derive(Drop)]
@@ -15,8 +21,8 @@ pub struct Journal<D: Disk> {
     disk: D,
     entries: Entries,
     attached: bool,
-    // The longest entry for which there is room.
-    reserved: Option<u64>,
+    // The entries for which there is room.
+    reserved: Option<Spare>,
 }
 
 impl<D: Disk> Journal<D> {
@@ -108,14 +114,37 @@ impl<D: Disk> Journal<D> {
         ensures passes { D.passes (disk_of self.new) ≡ D.passes (disk_of self.old) }
         ensures sound { IsSound D.history D.room self.new }
     {
-        if let Some(most) = self.reserved {
-            if bytes <= most {
+        if let Some(spare) = self.reserved {
+            if bytes <= spare.longest {
                 return Ok(());
             }
         }
-        self.entries.reserve(bytes as usize)?;
-        self.disk.reserve(4, bytes.checked_add(6).ok_or(NoMemory)?)?;
-        self.reserved = Some(bytes);
+        self.make_room(bytes)
+    }
+
+    // Makes room for some entries at once, so that most need ask for none.
+    #[cold]
+    #[inline(never)]
+    fn make_room(&mut self, bytes: u64) -> Result<(), NoMemory>
+        requires sound { IsSound D.history D.room self.old }
+        ensures reserved { OnOk result ((most : ℕ) × (reserved_of self.new ≡ Some most) × (bytes ≤ most)) }
+        ensures entries { entries_of self.new ≡ entries_of self.old }
+        ensures attached { is_attached self.new ≡ is_attached self.old }
+        ensures history { D.history (disk_of self.new) ≡ D.history (disk_of self.old) }
+        ensures same { Stays (D.current (disk_of self.old)) (D.current (disk_of self.new)) (D.files (disk_of self.old)) (D.files (disk_of self.new)) }
+        ensures faults { D.faults (disk_of self.new) ≡ D.faults (disk_of self.old) }
+        ensures passes { D.passes (disk_of self.new) ≡ D.passes (disk_of self.old) }
+        ensures sound { IsSound D.history D.room self.new }
+    {
+        let longest = bytes.checked_add(SOME_BYTES).ok_or(NoMemory)?;
+        let frames = longest.checked_add(6).ok_or(NoMemory)?;
+        self.entries
+            .reserve(SOME_ENTRIES as usize, longest as usize)?;
+        self.disk.reserve(4 * SOME_ENTRIES, frames)?;
+        self.reserved = Some(Spare {
+            entries: SOME_ENTRIES,
+            longest,
+        });
         Ok(())
     }
 
@@ -147,12 +176,14 @@ impl<D: Disk> Journal<D> {
         ensures sound { IsSound D.history D.room self.new }
     {
         self.reserve(entry.len() as u64)?;
+        let left = left_behind(self.reserved, entry.len() as u64);
         self.reserved = None;
         self.attached = false;
         self.entries.stage(entry);
         keep_entry(&mut self.disk, &self.entries, entry)?;
         self.entries.commit(entry);
         self.attached = true;
+        self.reserved = left;
         Ok(())
     }
 }

@@ -1,6 +1,6 @@
 // Keeping an entry: four calls of the device.
 ghost use Rattle.std.specs.Prelude.{◌≡◌, ◌+◌, ◌≤◌, ◌++◌, [], ◌∷◌, length, is_ok, OnOk, OnErr, IsErr};
-ghost use Rattle.iss_disk.specs.Calls.{IfTold, StaysHere, HasCause, Runs};
+ghost use Rattle.iss_disk.specs.Calls.{IfTold, StaysHere, HasCause, Runs, Takes};
 ghost use Rattle.iss_journal.specs.Frames.{frame, frames, max_entry, Reads, holds};
 ghost use Rattle.iss_journal.specs.Promises.{LeavesOnly, HoldsWithOrWithout, RestsOn, EndsClosed};
 ghost use Rattle.iss_journal.specs.EntryViews.{entries_in};
@@ -26,6 +26,7 @@ pub(crate) fn keep_entry<D: Disk>(
     ensures rests { OnOk result (IfTold (D.history disk.new) (RestsOn (entries_in entries.now ++ entry.now ∷ []))) }
     ensures file { OnOk result (IfTold (D.history disk.new) (EndsClosed (entries_in entries.now ++ entry.now ∷ []))) }
     ensures kept { OnErr result (IfTold (D.history disk.new) (λ file. Reads file.kept (holds (entries_in entries.now)))) }
+    ensures room { OnOk result (Takes 4 (length entry.now + 6) (D.room disk.old) (D.room disk.new)) }
     ensures others { StaysHere (D.current disk.old) (D.current disk.new) (D.files disk.old) (D.files disk.new) }
     ensures cause { HasCause (D.faults disk.old) (D.faults disk.new) (IsErr result) }
     ensures device { Runs 4 (D.passes disk.old) (D.passes disk.new) (is_ok result) }

@@ -9,6 +9,7 @@ mod laws;
 mod load;
 mod scan;
 mod settle;
+mod spare;
 
 pub use entries::{Entries, MAX_ENTRY};
 pub use errors::AttachError;

@@ -15,9 +15,9 @@ returns-in_err-reserve-clause-any_moment g c =
 pub returns-clause-durable : goal.returns-clause-durable
 returns-clause-durable g c =
     let h = g.D.Disk.history c.keep_entry.new.disk in
-    rests_durable h (entries_in c.commit.new.self) (subst (λ (es : List (List ℕ)). IfTold h (RestsOn es)) (sym c.commit.ensures) c.in_ok-keep_entry.ensures.rests)
+    rests_durable h (entries_in c.commit.new.self) (subst (λ (es : List (List ℕ)). IfTold h (RestsOn es)) (sym c.commit.ensures.entries) c.in_ok-keep_entry.ensures.rests)
 
 pub returns-clause-file : goal.returns-clause-file
 returns-clause-file g c =
     let h = g.D.Disk.history c.keep_entry.new.disk in
-    subst (λ (es : List (List ℕ)). IfTold h (EndsClosed es)) (sym c.commit.ensures) c.in_ok-keep_entry.ensures.file
+    subst (λ (es : List (List ℕ)). IfTold h (EndsClosed es)) (sym c.commit.ensures.entries) c.in_ok-keep_entry.ensures.file

@@ -1,11 +1,6 @@
-use Rattle.std.proofs.Common.{sym, subst, List, ℕ}
-use Rattle.iss_disk.specs.Calls.{IfTold}
-use Rattle.iss_journal.specs.Promises.{RestsOn}
-use Rattle.iss_journal.proofs.Reading.{room_more, takes_none}
+use Rattle.std.proofs.Common.{ap}
+use Rattle.iss_journal.specs.Sound.{longest_of}
 use Rattle.iss_journal.proofs.journal.Journal.reserve.Goals as goal
 
-pub returns-in_err-reserve-clause-sound : goal.returns-in_err-reserve-clause-sound
-returns-in_err-reserve-clause-sound g c = record {
-  rests = λ attached. subst (λ (es : List (List ℕ)). IfTold (g.D.Disk.history c.args.self.now.disk) (RestsOn es)) (sym c.reserve.ensures.entries) (c.requires.sound.rests attached);
-  room_kept = λ bytes is. room_more bytes c.args.self.now.entries c.reserve.new.self (g.D.Disk.room c.args.self.now.disk) (g.D.Disk.room c.args.self.now.disk) (c.requires.sound.room_kept bytes is) c.reserve.ensures.entries c.reserve.ensures.no_less c.reserve.ensures.gate_kept (takes_none (g.D.Disk.room c.args.self.now.disk));
-}
+pub returns-then-bytes-spare-clause-reserved : goal.returns-then-bytes-spare-clause-reserved
+returns-then-bytes-spare-clause-reserved g c = (c.in-Some.spare.longest, ap longest_of c.in-Some.is, c.if-bytes-spare.true)
