@@ -4,7 +4,7 @@ use Rattle.std.proofs.lemmas.List.{append-nil, append_assoc, reverse-append, tak
 use Rattle.iss_disk.specs.File.{File, settled, overwritten, wrote, shortened, synced, restarted}
 use Rattle.iss_disk.specs.States.{states, after, newest, is_pending, IsStored}
 use Rattle.iss_disk.specs.declared.call.Call.{Call}
-use Rattle.iss_disk.specs.declared.call.Call.TheVariants.{Wrote, Kept, Cut, Synced, Restarted}
+use Rattle.iss_disk.specs.declared.call.Call.TheVariants.{Wrote, Kept, Opened, Cut, Synced, Restarted}
 
 -- there is always a newest state
 pub record HasNewest (files : List File) : Type 0 where
@@ -20,6 +20,10 @@ states_some [] written = record { file = settled []; past = []; is = refl }
 states_some (Wrote at len ∷ calls) written = after_some (wrote at (drop (length written - len) written)) _ (states_some calls (take (length written - len) written))
 states_some (Kept at len ∷ calls) written =
     after_some synced _ (after_some (wrote at (drop (length written - len) written)) _ (states_some calls (take (length written - len) written)))
+states_some (Opened at len ∷ calls) written =
+    let front = take (length written - 1) written in
+    after_some synced _ (after_some (wrote at (drop (length written - 1) written)) _
+    (after_some synced _ (after_some (wrote (at + 1) (drop (length front - len) front)) _ (states_some calls (take (length front - len) front)))))
 states_some (Cut len ∷ calls) written = after_some (shortened len) _ (states_some calls written)
 states_some (Synced ∷ calls) written = after_some synced _ (states_some calls written)
 states_some (Restarted ∷ calls) written = after_some restarted _ (states_some calls written)

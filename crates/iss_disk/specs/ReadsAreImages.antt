@@ -5,7 +5,7 @@ use Rattle.std.proofs.lemmas.Bool.{or_parts, and_cases, leb-false, ltb-false}
 use Rattle.iss_disk.specs.File.{File, Image, is_written, settled, overwritten, wrote, shortened, synced, restarted}
 use Rattle.iss_disk.specs.States.{states, after}
 use Rattle.iss_disk.specs.declared.call.Call.{Call}
-use Rattle.iss_disk.specs.declared.call.Call.TheVariants.{Wrote, Kept, Cut, Synced, Restarted}
+use Rattle.iss_disk.specs.declared.call.Call.TheVariants.{Wrote, Kept, Opened, Cut, Synced, Restarted}
 
 pub image_settled : (bytes : List ℕ) → Image (settled bytes) bytes
 image_settled bytes = record { long_enough = omega arith; short_enough = omega arith; others = λ i in_bytes below outside. refl }
@@ -79,6 +79,16 @@ states_readable (Kept at len ∷ calls) written =
     let bytes = drop before written in
     readable_after synced _ (λ file now. image_settled file.content)
     (readable_after (wrote at bytes) _ (image_wrote at bytes) (states_readable calls (take before written)))
+states_readable (Opened at len ∷ calls) written =
+    let last = length written - 1 in
+    let gate = drop last written in
+    let front = take last written in
+    let before = length front - len in
+    let bytes = drop before front in
+    readable_after synced _ (λ file now. image_settled file.content)
+    (readable_after (wrote at gate) _ (image_wrote at gate)
+    (readable_after synced _ (λ file now. image_settled file.content)
+    (readable_after (wrote (at + 1) bytes) _ (image_wrote (at + 1) bytes) (states_readable calls (take before front)))))
 states_readable (Cut len ∷ calls) written = readable_after (shortened len) _ (image_shortened len) (states_readable calls written)
 states_readable (Synced ∷ calls) written = readable_after synced _ (λ file now. image_settled file.content) (states_readable calls written)
 states_readable (Restarted ∷ calls) written = readable_after restarted _ (λ file now. image_settled file.kept) (states_readable calls written)

@@ -1,8 +1,8 @@
 -- The states that a file of a memory disk went through, read off the list of its calls.
-use Rattle.std.specs.Prelude.{◌≡◌, ℕ, ◌-◌, ◌≤◌, Bool, true, false, List, [], ◌∷◌, ◌++◌, length, take, drop, refl}
+use Rattle.std.specs.Prelude.{◌≡◌, ℕ, ◌+◌, ◌-◌, ◌≤◌, Bool, true, false, List, [], ◌∷◌, ◌++◌, length, take, drop, refl}
 use Rattle.iss_disk.specs.File.{File, settled, wrote, shortened, synced, restarted}
 use Rattle.iss_disk.specs.declared.call.Call.{Call}
-use Rattle.iss_disk.specs.declared.call.Call.TheVariants.{Wrote, Kept, Cut, Synced, Restarted}
+use Rattle.iss_disk.specs.declared.call.Call.TheVariants.{Wrote, Kept, Opened, Cut, Synced, Restarted}
 
 -- one state more
 abbrev pub after : (File → File) → List File → List File
@@ -15,6 +15,8 @@ states [] written = settled [] ∷ []
 states (Wrote at len ∷ calls) written = after (wrote at (drop (length written - len) written)) (states calls (take (length written - len) written))
 states (Kept at len ∷ calls) written =
     after synced (after (wrote at (drop (length written - len) written)) (states calls (take (length written - len) written)))
+states (Opened at len ∷ calls) written =
+    after synced (after (wrote at (drop (length written - 1) written)) (after synced (after (wrote (at + 1) (drop (length (take (length written - 1) written) - len) (take (length written - 1) written))) (states calls (take (length (take (length written - 1) written) - len) (take (length written - 1) written))))))
 states (Cut len ∷ calls) written = after (shortened len) (states calls written)
 states (Synced ∷ calls) written = after synced (states calls written)
 states (Restarted ∷ calls) written = after restarted (states calls written)
@@ -29,6 +31,7 @@ abbrev pub is_pending : List Call → Bool
 is_pending [] = false
 is_pending (Wrote at len ∷ calls) = true
 is_pending (Kept at len ∷ calls) = false
+is_pending (Opened at len ∷ calls) = false
 is_pending (Cut len ∷ calls) = true
 is_pending (Synced ∷ calls) = false
 is_pending (Restarted ∷ calls) = false
@@ -45,3 +48,11 @@ pub record IsStored (states : List File) (content behind : List ℕ) (same resum
 
 example : newest (states (Restarted ∷ Wrote 1 1 ∷ Synced ∷ Wrote 0 2 ∷ []) (97 ∷ 98 ∷ 99 ∷ [])) ≡ settled (97 ∷ 98 ∷ [])
 example = refl
+
+-- Two bytes behind a gate are written and synced, and then the gate is opened and synced.
+
+opened_is_kept : states (Opened 0 2 ∷ Wrote 0 1 ∷ []) (97 ∷ 98 ∷ 99 ∷ 100 ∷ []) ≡ states (Kept 0 1 ∷ Kept 1 2 ∷ Wrote 0 1 ∷ []) (97 ∷ 98 ∷ 99 ∷ 100 ∷ [])
+opened_is_kept = refl
+
+opened_leaves : newest (states (Opened 0 2 ∷ Wrote 0 1 ∷ []) (97 ∷ 98 ∷ 99 ∷ 100 ∷ [])) ≡ settled (100 ∷ 98 ∷ 99 ∷ [])
+opened_leaves = refl

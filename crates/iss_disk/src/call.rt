@@ -9,6 +9,8 @@ pub enum Call {
     Cut { len: usize },
     /// They were written so, and then it was synced.
     Kept { at: usize, len: usize },
+    /// So many bytes were written behind an offset and synced, and then one byte at it, and synced.
+    Opened { at: usize, len: usize },
     /// It was synced.
     Synced,
     /// A crash left what was synced.

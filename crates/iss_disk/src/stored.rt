@@ -2,6 +2,7 @@
 ghost use Rattle.std.specs.Prelude.{◌≡◌, ◌+◌, ◌-◌, ◌<◌, ◌≤◌, ◌++◌, true, false, List, ℕ, length, take, drop, reverse, vec_len, vec_capacity, IfOk, OnOk, [], ◌∷◌};
 ghost use Rattle.iss_disk.specs.File.{settled, overwritten, wrote, shortened, synced, restarted};
 ghost use Rattle.iss_disk.specs.States.{states, after, newest, is_pending, IsStored};
+ghost use Rattle.iss_disk.specs.declared.call.Call.TheVariants.{Kept};
 
 use crate::NoMemory;
 use crate::call::Call;
@@ -97,7 +98,29 @@ fn put_back(content: &mut Vec<u8>, same: usize, behind: &[u8])
     let _ = content.extend_from_slice(behind);
 }
 
-// Notes a sync, with the write before it where one came right before. So an entry of a journal is two notes.
+// Notes that one byte was written and synced: with what was kept right behind it, as an entry of a journal, where that came right
+// before.
+#[inline(always)]
+fn note_opened(calls: &mut Vec<Call>, at: usize)
+    requires { vec_len calls.old < vec_capacity calls.old }
+    ensures states { (written : List ℕ) → states (reverse calls.new.items) written ≡ states (Kept at 1 ∷ reverse calls.old.items) written }
+    ensures waits { is_pending (reverse calls.new.items) ≡ false }
+    ensures len { vec_len calls.new ≤ vec_len calls.old + 1 }
+    ensures capacity { vec_capacity calls.old ≤ vec_capacity calls.new }
+{
+    match calls.pop() {
+        Some(Call::Kept { at: behind, len }) if behind > at && behind - at == 1 => {
+            calls.push_reserved(Call::Opened { at, len });
+        }
+        Some(call) => {
+            calls.push_reserved(call);
+            calls.push_reserved(Call::Kept { at, len: 1 });
+        }
+        None => calls.push_reserved(Call::Kept { at, len: 1 }),
+    }
+}
+
+// Notes a sync, with the write before it where one came right before. So an entry of a journal is one note.
 fn note_sync(calls: &mut Vec<Call>)
     requires { vec_len calls.old < vec_capacity calls.old }
     ensures states { (written : List ℕ) → states (reverse calls.new.items) written ≡ after synced (states (reverse calls.old.items) written) }
@@ -106,6 +129,7 @@ fn note_sync(calls: &mut Vec<Call>)
     ensures capacity { vec_capacity calls.old ≤ vec_capacity calls.new }
 {
     match calls.pop() {
+        Some(Call::Wrote { at, len: 1 }) => note_opened(calls, at),
         Some(Call::Wrote { at, len }) => calls.push_reserved(Call::Kept { at, len }),
         Some(call) => {
             calls.push_reserved(call);
