@@ -9,14 +9,21 @@ abbrev pub after : (File → File) → List File → List File
 after change [] = []
 after change (file ∷ past) = change file ∷ file ∷ past
 
+-- the bytes of the last write, which had so many, and those before them
+abbrev pub last_bytes : ℕ → List ℕ → List ℕ
+last_bytes len written = drop (length written - len) written
+
+abbrev pub all_but : ℕ → List ℕ → List ℕ
+all_but len written = take (length written - len) written
+
 -- The states, newest first, after these calls, newest first. The calls wrote these bytes, oldest first.
 abbrev pub states : List Call → List ℕ → List File
 states [] written = settled [] ∷ []
-states (Wrote at len ∷ calls) written = after (wrote at (drop (length written - len) written)) (states calls (take (length written - len) written))
-states (Kept at len ∷ calls) written =
-    after synced (after (wrote at (drop (length written - len) written)) (states calls (take (length written - len) written)))
+states (Wrote at len ∷ calls) written = after (wrote at (last_bytes len written)) (states calls (all_but len written))
+states (Kept at len ∷ calls) written = after synced (after (wrote at (last_bytes len written)) (states calls (all_but len written)))
 states (Opened at len ∷ calls) written =
-    after synced (after (wrote at (drop (length written - 1) written)) (after synced (after (wrote (at + 1) (drop (length (take (length written - 1) written) - len) (take (length written - 1) written))) (states calls (take (length (take (length written - 1) written) - len) (take (length written - 1) written))))))
+    after synced (after (wrote at (last_bytes 1 written))
+    (after synced (after (wrote (at + 1) (last_bytes len (all_but 1 written))) (states calls (all_but len (all_but 1 written))))))
 states (Cut len ∷ calls) written = after (shortened len) (states calls written)
 states (Synced ∷ calls) written = after synced (states calls written)
 states (Restarted ∷ calls) written = after restarted (states calls written)

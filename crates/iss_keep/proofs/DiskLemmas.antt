@@ -1,13 +1,13 @@
 -- What a kept node's disk holds from call to call, for whoever holds kept nodes: what is synced of its file are the entries, so that
 -- after a restart the node is reopened as it was.
-use Rattle.std.proofs.Common.{arith, ◌≡◌, ◌≢◌, inl, inr, ℕ, zero, suc, ◌-◌, ◌<◌, ◌≤◌, Bool, true, false, List, [], ◌∷◌, ◌++◌, length, reverse, take, drop, Some, refl, sym, ap, ◌∙◌, subst, length-append}
+use Rattle.std.proofs.Common.{arith, ◌≡◌, ◌≢◌, inl, inr, ℕ, zero, suc, ◌+◌, ◌-◌, ◌<◌, ◌≤◌, Bool, true, false, List, [], ◌∷◌, ◌++◌, length, reverse, take, drop, Some, refl, sym, ap, ◌∙◌, subst, length-append}
 use Rattle.iss_disk.specs.Calls.{IfTold, Passes, Restarts, Room, Runs, Stays, script, up_to}
 use Rattle.iss_disk.specs.File.{File, Image, restarted, settled, shortened, synced, wrote}
 use Rattle.iss_disk.specs.ReadsAreImages.{image_settled}
-use Rattle.iss_disk.specs.States.{after, states}
+use Rattle.iss_disk.specs.States.{after, all_but, last_bytes, states}
 use Rattle.iss_disk.specs.StoredViews.{history_of}
 use Rattle.iss_disk.specs.declared.call.Call.{Call}
-use Rattle.iss_disk.specs.declared.call.Call.TheVariants.{Cut, Kept, Restarted, Synced, Wrote}
+use Rattle.iss_disk.specs.declared.call.Call.TheVariants.{Cut, Kept, Opened, Restarted, Synced, Wrote}
 use Rattle.iss_disk.specs.declared.stored.StoredFile.{StoredFile}
 use Rattle.iss_journal.specs.Frames.{AreShort, Reading, Reads, damaged, frames, holds}
 use Rattle.iss_journal.specs.Promises.{OnlyLeaves, RestsOn}
@@ -94,6 +94,13 @@ states-kept (Kept at len ∷ calls) written =
     let bytes = drop (length written - len) written in
     kept-after synced _ (λ file h. image_settled file.content)
     (kept-after (wrote at bytes) _ (kept-wrote at bytes) (states-kept calls (take (length written - len) written)))
+states-kept (Opened at len ∷ calls) written =
+    let gate = last_bytes 1 written in
+    let bytes = last_bytes len (all_but 1 written) in
+    kept-after synced _ (λ file h. image_settled file.content)
+    (kept-after (wrote at gate) _ (kept-wrote at gate)
+    (kept-after synced _ (λ file h. image_settled file.content)
+    (kept-after (wrote (at + 1) bytes) _ (kept-wrote (at + 1) bytes) (states-kept calls (all_but len (all_but 1 written))))))
 states-kept (Cut len ∷ calls) written = kept-after (shortened len) _ (kept-shortened len) (states-kept calls written)
 states-kept (Synced ∷ calls) written = kept-after synced _ (λ file h. image_settled file.content) (states-kept calls written)
 states-kept (Restarted ∷ calls) written = kept-after restarted _ (λ file h. image_settled file.kept) (states-kept calls written)
@@ -114,6 +121,9 @@ states-told (Wrote at len ∷ calls) written =
 states-told (Kept at len ∷ calls) written =
     let before = length written - len in
     told-after synced _ (told-after (wrote at (drop before written)) _ (states-told calls (take before written)))
+states-told (Opened at len ∷ calls) written =
+    told-after synced _ (told-after (wrote at (last_bytes 1 written)) _
+    (told-after synced _ (told-after (wrote (at + 1) (last_bytes len (all_but 1 written))) _ (states-told calls (all_but len (all_but 1 written))))))
 states-told (Cut len ∷ calls) written = told-after (shortened len) _ (states-told calls written)
 states-told (Synced ∷ calls) written = told-after synced _ (states-told calls written)
 states-told (Restarted ∷ calls) written = told-after restarted _ (states-told calls written)
