@@ -113,7 +113,7 @@ attached_files file next before after wanted apart named is_next others n = elim
 -- what is asked of the told content holds of what the file holds
 pub within_content : (stored : StoredFile) (n : ℕ) → IfTold (history_of stored) (λ file. n ≤ length file.content) → n ≤ length stored.content.items
 within_content stored n within =
-    let some = states_some (reverse stored.calls.items) stored.written.items in
+    let some = states_some (reverse stored.calls.items) stored.lost.items stored.content.items in
     let here : n ≤ length some.file.content = subst (λ (h : List File). IfTold h (λ file. n ≤ length file.content)) some.is within in
     let is : some.file.content ≡ stored.content.items = ap (λ (h : List File). (newest h).content) (sym some.is) ∙ stored.stored.is_content in
     omega (arith, here, ap length is)

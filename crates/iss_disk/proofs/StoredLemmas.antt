@@ -1,10 +1,10 @@
--- A write and a cut keep what a stored file says of itself.
+-- A write and a cut can be undone, and keep what a stored file says of itself.
 use Rattle.std.proofs.Common.{◌≡◌, ℕ, ◌+◌, ◌-◌, ◌<◌, ◌≤◌, List, [], ◌∷◌, ◌++◌, length, take, drop, reverse, get_or, set, refl, sym, ◌∙◌, ap, arith, length-append, length-take-le, length-drop}
-use Rattle.std.proofs.lemmas.List.{append-nil, append_assoc, reverse-append, take_at, drop_at, drop_all, drop_more, take_all, take-set, drop-set, take-take, take-append-le, take-append-drop}
+use Rattle.std.proofs.lemmas.List.{append-nil, append_assoc, reverse-append, take_at, drop_at, drop_all, drop_more, take_all, take-set, drop-set, take-take, take-append-le, take-append-drop, drop-drop}
 use Rattle.iss_disk.specs.File.{File, settled, overwritten, wrote, shortened, synced, restarted}
-use Rattle.iss_disk.specs.States.{states, after, newest, is_pending, IsStored}
+use Rattle.iss_disk.specs.States.{states, after, newest, is_pending, last_bytes, all_but, with_tail, with_part, IsStored}
 use Rattle.iss_disk.specs.declared.call.Call.{Call}
-use Rattle.iss_disk.specs.declared.call.Call.TheVariants.{Wrote, Kept, Opened, Cut, Synced, Restarted}
+use Rattle.iss_disk.specs.declared.call.Call.TheVariants.{ToEnd, Within, Cut, Kept, Opened, Synced, Restarted}
 
 -- there is always a newest state
 pub record HasNewest (files : List File) : Type 0 where
@@ -15,30 +15,40 @@ pub record HasNewest (files : List File) : Type 0 where
 after_some : (change : File → File) (files : List File) → HasNewest files → HasNewest (after change files)
 after_some change files some = record { file = change some.file; past = some.file ∷ some.past; is = ap (after change) some.is }
 
-pub states_some : (calls : List Call) (written : List ℕ) → HasNewest (states calls written)
-states_some [] written = record { file = settled []; past = []; is = refl }
-states_some (Wrote at len ∷ calls) written = after_some (wrote at (drop (length written - len) written)) _ (states_some calls (take (length written - len) written))
-states_some (Kept at len ∷ calls) written =
-    after_some synced _ (after_some (wrote at (drop (length written - len) written)) _ (states_some calls (take (length written - len) written)))
-states_some (Opened at len ∷ calls) written =
-    let front = take (length written - 1) written in
-    after_some synced _ (after_some (wrote at (drop (length written - 1) written)) _
-    (after_some synced _ (after_some (wrote (at + 1) (drop (length front - len) front)) _ (states_some calls (take (length front - len) front)))))
-states_some (Cut len ∷ calls) written = after_some (shortened len) _ (states_some calls written)
-states_some (Synced ∷ calls) written = after_some synced _ (states_some calls written)
-states_some (Restarted ∷ calls) written = after_some restarted _ (states_some calls written)
+pub states_some : (calls : List Call) (lost content : List ℕ) → HasNewest (states calls lost content)
+states_some [] lost content = record { file = settled []; past = []; is = refl }
+states_some (ToEnd at over ∷ calls) lost content = after_some (wrote at (drop at content)) _ (states_some calls (all_but over lost) (with_tail at (last_bytes over lost) content))
+states_some (Within at len ∷ calls) lost content =
+    after_some (wrote at (take len (drop at content))) _ (states_some calls (all_but len lost) (with_part at len (last_bytes len lost) content))
+states_some (Cut by ∷ calls) lost content = after_some (shortened (length content)) _ (states_some calls (all_but by lost) (content ++ last_bytes by lost))
+states_some (Kept at ∷ calls) lost content =
+    after_some synced _ (after_some (wrote at (drop at content)) _ (states_some calls (all_but 0 lost) (with_tail at (last_bytes 0 lost) content)))
+states_some (Opened at ∷ calls) lost content =
+    let front = all_but 1 lost in
+    let closed = with_part at 1 (last_bytes 1 lost) content in
+    after_some synced _ (after_some (wrote at (take 1 (drop at content))) _
+    (after_some synced _ (after_some (wrote (at + 1) (drop (at + 1) closed)) _ (states_some calls (all_but 0 front) (with_tail (at + 1) (last_bytes 0 front) closed)))))
+states_some (Synced ∷ calls) lost content = after_some synced _ (states_some calls lost content)
+states_some (Restarted at over ∷ calls) lost content = after_some restarted _ (states_some calls (all_but over lost) (with_tail at (last_bytes over lost) content))
 
 pub newest_after : (change : File → File) (files : List File) → HasNewest files → newest (after change files) ≡ change (newest files)
 newest_after change files some = ap (λ (fs : List File). newest (after change fs)) some.is ∙ sym (ap (λ (fs : List File). change (newest fs)) some.is)
 
-pub pushed_write : (calls : List Call) (at : ℕ) (written bytes : List ℕ) → states (reverse (calls ++ Wrote at (length bytes) ∷ [])) (written ++ bytes) ≡ after (wrote at bytes) (states (reverse calls) written)
-pushed_write calls at written bytes =
-    let n : length (written ++ bytes) - length bytes ≡ length written = omega (arith, length-append written bytes) in
-    let back : drop (length (written ++ bytes) - length bytes) (written ++ bytes) ≡ bytes = drop_at written bytes _ (sym n) in
-    let front : take (length (written ++ bytes) - length bytes) (written ++ bytes) ≡ written = take_at written bytes _ (sym n) in
-    ap (λ (cs : List Call). states cs (written ++ bytes)) (reverse-append calls (Wrote at (length bytes) ∷ []))
-    ∙ ap (λ (l : List ℕ). after (wrote at l) (states (reverse calls) (take (length (written ++ bytes) - length bytes) (written ++ bytes)))) back
-    ∙ ap (λ (l : List ℕ). after (wrote at bytes) (states (reverse calls) l)) front
+-- the states of a list to which a call was added
+pub pushed_states : (calls after_push : List Call) (call : Call) (lost content : List ℕ) → after_push ≡ calls ++ call ∷ [] → states (reverse after_push) lost content ≡ states (call ∷ reverse calls) lost content
+pushed_states calls after_push call lost content pushed =
+    ap (λ (cs : List Call). states (reverse cs) lost content) pushed ∙ ap (λ (cs : List Call). states cs lost content) (reverse-append calls (call ∷ []))
+
+-- what the last call took away, and what was taken away before it
+pub last_taken : (lost taken : List ℕ) (n : ℕ) → length taken ≡ n → last_bytes n (lost ++ taken) ≡ taken
+last_taken lost taken n is =
+    let front : length (lost ++ taken) - n ≡ length lost = omega (arith, length-append lost taken, is) in
+    drop_at lost taken _ (sym front)
+
+pub taken_before : (lost taken : List ℕ) (n : ℕ) → length taken ≡ n → all_but n (lost ++ taken) ≡ lost
+taken_before lost taken n is =
+    let front : length (lost ++ taken) - n ≡ length lost = omega (arith, length-append lost taken, is) in
+    take_at lost taken _ (sym front)
 
 -- behind where it ends, a write changes nothing
 pub drop-overwritten : (at : ℕ) (bytes content : List ℕ) → at + length bytes ≤ length content → drop (at + length bytes) (overwritten at bytes content) ≡ drop (at + length bytes) content
@@ -54,23 +64,102 @@ take-overwritten same at bytes content le within =
     ∙ take-append-le same (take at content) bytes (omega (arith, l, le))
     ∙ take-take same at content le
 
--- the newest state after one more write
-wrote_now : (calls after_push : List Call) (at : ℕ) (written after_extend bytes : List ℕ) → after_push ≡ calls ++ Wrote at (length bytes) ∷ [] → after_extend ≡ written ++ bytes
-    → newest (states (reverse after_push) after_extend) ≡ wrote at bytes (newest (states (reverse calls) written))
-wrote_now calls after_push at written after_extend bytes pushed extended =
-    let one_more : states (reverse after_push) after_extend ≡ after (wrote at bytes) (states (reverse calls) written) =
-    ap (λ (cs : List Call). states (reverse cs) after_extend) pushed ∙ ap (λ (l : List ℕ). states (reverse (calls ++ Wrote at (length bytes) ∷ [])) l) extended ∙ pushed_write calls at written bytes in
-    ap newest one_more ∙ newest_after (wrote at bytes) _ (states_some (reverse calls) written)
+-- a write that reaches the end is what stands there from its offset on
+pub to-end-overwritten : (at : ℕ) (bytes content : List ℕ) → length content ≤ at + length bytes → overwritten at bytes content ≡ take at content ++ bytes
+to-end-overwritten at bytes content past =
+    ap (λ (l : List ℕ). (take at content ++ bytes) ++ l) (drop_all (at + length bytes) content past) ∙ append-nil (take at content ++ bytes)
+
+-- a write within the file is undone
+pub undone_within : (calls : List Call) (at len : ℕ) (bytes content lost : List ℕ) → length bytes ≡ len → at + len ≤ length content
+    → states (Within at len ∷ calls) (lost ++ take len (drop at content)) (overwritten at bytes content) ≡ after (wrote at bytes) (states calls lost content)
+undone_within calls at len bytes content lost long within =
+    let over = overwritten at bytes content in
+    let taken = take len (drop at content) in
+    let behind : length (drop at content) ≡ length content - at = length-drop at content in
+    let n : length taken ≡ len = length-take-le len (drop at content) (omega (arith, behind, within)) in
+    let l : length (take at content) ≡ at = length-take-le at content (omega (arith, within)) in
+    let ends : at + length bytes ≤ length content = omega (arith, long, within) in
+    let there : take len (drop at over) ≡ bytes =
+    ap (λ (xs : List ℕ). take len (drop at xs)) (append_assoc (take at content) bytes (drop (at + length bytes) content))
+    ∙ ap (take len) (drop_at (take at content) (bytes ++ drop (at + length bytes) content) at l)
+    ∙ take_at bytes (drop (at + length bytes) content) len long in
+    let front : take at over ≡ take at content = take-overwritten at at bytes content (omega arith) (omega (arith, within)) in
+    let rest : drop (at + len) over ≡ drop (at + len) content =
+    ap (λ (k : ℕ). drop (at + k) over) (sym long) ∙ drop-overwritten at bytes content ends ∙ ap (λ (k : ℕ). drop (at + k) content) long in
+    let back : with_part at len taken over ≡ content =
+    ap (λ (xs : List ℕ). (xs ++ taken) ++ drop (at + len) over) front
+    ∙ ap (λ (xs : List ℕ). (take at content ++ taken) ++ xs) rest
+    ∙ append_assoc (take at content) taken (drop (at + len) content)
+    ∙ ap (λ (xs : List ℕ). take at content ++ (taken ++ xs)) (sym (drop-drop len at content))
+    ∙ ap (λ (xs : List ℕ). take at content ++ xs) (take-append-drop len (drop at content))
+    ∙ take-append-drop at content in
+    ap (λ (xs : List ℕ). after (wrote at xs) (states calls (all_but len (lost ++ taken)) (with_part at len (last_bytes len (lost ++ taken)) over))) there
+    ∙ ap (λ (xs : List ℕ). after (wrote at bytes) (states calls xs (with_part at len (last_bytes len (lost ++ taken)) over))) (taken_before lost taken len n)
+    ∙ ap (λ (xs : List ℕ). after (wrote at bytes) (states calls lost (with_part at len xs over))) (last_taken lost taken len n)
+    ∙ ap (λ (xs : List ℕ). after (wrote at bytes) (states calls lost xs)) back
+
+-- one that reaches the end is undone
+pub undone_to_end : (calls : List Call) (at over : ℕ) (bytes content lost : List ℕ) → at ≤ length content → length content ≤ at + length bytes → over ≡ length content - at
+    → states (ToEnd at over ∷ calls) (lost ++ drop at content) (overwritten at bytes content) ≡ after (wrote at bytes) (states calls lost content)
+undone_to_end calls at over bytes content lost within past is_over =
+    let taken = drop at content in
+    let n : length taken ≡ over = omega (arith, length-drop at content, is_over) in
+    let l : length (take at content) ≡ at = length-take-le at content within in
+    let whole = take at content ++ bytes in
+    let there : drop at whole ≡ bytes = drop_at (take at content) bytes at l in
+    let back : with_tail at taken whole ≡ content =
+    ap (λ (xs : List ℕ). xs ++ taken) (take_at (take at content) bytes at l) ∙ take-append-drop at content in
+    ap (states (ToEnd at over ∷ calls) (lost ++ taken)) (to-end-overwritten at bytes content past)
+    ∙ ap (λ (xs : List ℕ). after (wrote at xs) (states calls (all_but over (lost ++ taken)) (with_tail at (last_bytes over (lost ++ taken)) whole))) there
+    ∙ ap (λ (xs : List ℕ). after (wrote at bytes) (states calls xs (with_tail at (last_bytes over (lost ++ taken)) whole))) (taken_before lost taken over n)
+    ∙ ap (λ (xs : List ℕ). after (wrote at bytes) (states calls lost (with_tail at xs whole))) (last_taken lost taken over n)
+    ∙ ap (λ (xs : List ℕ). after (wrote at bytes) (states calls lost xs)) back
+
+-- so is one behind all that was there, which takes nothing away
+pub undone_behind : (calls : List Call) (bytes content lost : List ℕ) → states (ToEnd (length content) 0 ∷ calls) lost (content ++ bytes) ≡ after (wrote (length content) bytes) (states calls lost content)
+undone_behind calls bytes content lost =
+    let at = length content in
+    let there : drop at (content ++ bytes) ≡ bytes = drop_at content bytes at refl in
+    let front : take at (content ++ bytes) ≡ content = take_at content bytes at refl in
+    let none : last_bytes 0 lost ≡ [] = drop_all (length lost - 0) lost (omega arith) in
+    let all : all_but 0 lost ≡ lost = take_all (length lost - 0) lost (omega arith) in
+    ap (λ (xs : List ℕ). after (wrote at xs) (states calls (all_but 0 lost) (with_tail at (last_bytes 0 lost) (content ++ bytes)))) there
+    ∙ ap (λ (xs : List ℕ). after (wrote at bytes) (states calls xs (with_tail at (last_bytes 0 lost) (content ++ bytes)))) all
+    ∙ ap (λ (xs : List ℕ). after (wrote at bytes) (states calls lost (take at (content ++ bytes) ++ xs))) none
+    ∙ ap (λ (xs : List ℕ). after (wrote at bytes) (states calls lost xs)) (append-nil (take at (content ++ bytes)) ∙ front)
+
+-- a cut is undone
+pub undone_cut : (calls : List Call) (n by : ℕ) (content lost : List ℕ) → n ≤ length content → by ≡ length content - n
+    → states (Cut by ∷ calls) (lost ++ drop n content) (take n content) ≡ after (shortened n) (states calls lost content)
+undone_cut calls n by content lost within is_by =
+    let taken = drop n content in
+    let l : length (take n content) ≡ n = length-take-le n content within in
+    let k : length taken ≡ by = omega (arith, length-drop n content, is_by) in
+    ap (λ (m : ℕ). after (shortened m) (states calls (all_but by (lost ++ taken)) (take n content ++ last_bytes by (lost ++ taken)))) l
+    ∙ ap (λ (xs : List ℕ). after (shortened n) (states calls xs (take n content ++ last_bytes by (lost ++ taken)))) (taken_before lost taken by k)
+    ∙ ap (λ (xs : List ℕ). after (shortened n) (states calls lost (take n content ++ xs))) (last_taken lost taken by k)
+    ∙ ap (λ (xs : List ℕ). after (shortened n) (states calls lost xs)) (take-append-drop n content)
+
+-- so is what a crash took
+pub undone_restart : (calls : List Call) (at over : ℕ) (content lost whole : List ℕ) → at ≤ length content → over ≡ length content - at → take at whole ≡ take at content
+    → states (Restarted at over ∷ calls) (lost ++ drop at content) whole ≡ after restarted (states calls lost content)
+undone_restart calls at over content lost whole within is_over front =
+    let taken = drop at content in
+    let k : length taken ≡ over = omega (arith, length-drop at content, is_over) in
+    ap (λ (xs : List ℕ). after restarted (states calls xs (with_tail at (last_bytes over (lost ++ taken)) whole))) (taken_before lost taken over k)
+    ∙ ap (λ (xs : List ℕ). after restarted (states calls lost (with_tail at xs whole))) (last_taken lost taken over k)
+    ∙ ap (λ (xs : List ℕ). after restarted (states calls lost (xs ++ taken))) front
+    ∙ ap (λ (xs : List ℕ). after restarted (states calls lost xs)) (take-append-drop at content)
 
 -- where the content goes on with nothing that was synced
-nothing_behind : (apart content : List ℕ) (resumes : ℕ) → length content ≤ resumes → apart ++ drop resumes content ≡ apart
+pub nothing_behind : (apart content : List ℕ) (resumes : ℕ) → length content ≤ resumes → apart ++ drop resumes content ≡ apart
 nothing_behind apart content resumes past = ap (λ (l : List ℕ). apart ++ l) (drop_all resumes content past) ∙ append-nil apart
 
-pub write_keeps : (calls after_push : List Call) (at : ℕ) (written after_extend bytes content over behind apart : List ℕ) (same resumes m end : ℕ) → IsStored (states (reverse calls) written) content behind same resumes → at ≤ length content → m ≤ same → m ≤ at
+pub write_keeps : (old_states new_states : List File) (at : ℕ) (bytes content over behind apart : List ℕ) (same resumes m end : ℕ) → HasNewest old_states → IsStored old_states content behind same resumes → at ≤ length content → m ≤ same → m ≤ at
     → take m content ++ apart ≡ take same content ++ (behind ++ drop resumes content)
-    → after_push ≡ calls ++ Wrote at (length bytes) ∷ [] → after_extend ≡ written ++ bytes → over ≡ overwritten at bytes content → length content ≤ length over → end ≡ length over → IsStored (states (reverse after_push) after_extend) over apart m end
-write_keeps calls after_push at written after_extend bytes content over behind apart same resumes m end old within le_same le_at parted pushed extended is_over longer ends =
-    let now = wrote_now calls after_push at written after_extend bytes pushed extended in
+    → new_states ≡ after (wrote at bytes) old_states → over ≡ overwritten at bytes content → length content ≤ length over → end ≡ length over → IsStored new_states over apart m end
+write_keeps old_states new_states at bytes content over behind apart same resumes m end some old within le_same le_at parted one_more is_over longer ends =
+    let now : newest new_states ≡ wrote at bytes (newest old_states) = ap newest one_more ∙ newest_after (wrote at bytes) old_states some in
     record {
       is_content = ap (λ (f : File). f.content) now ∙ ap (overwritten at bytes) old.is_content ∙ sym is_over;
       is_kept =
@@ -89,18 +178,28 @@ set-overwritten at byte content within =
     ∙ ap (λ (l : List ℕ). take at content ++ l) (drop-set content at byte within)
     ∙ sym (append_assoc (take at content) (byte ∷ []) (drop (at + 1) content))
 
+-- so a byte over another is undone
+pub undone_byte : (calls after_push : List Call) (at byte former : ℕ) (content lost after_loss over : List ℕ) → at < length content → former ≡ get_or content at former → after_push ≡ calls ++ Within at 1 ∷ []
+    → after_loss ≡ lost ++ former ∷ [] → over ≡ overwritten at (byte ∷ []) content → states (reverse after_push) after_loss over ≡ after (wrote at (byte ∷ [])) (states (reverse calls) lost content)
+undone_byte calls after_push at byte former content lost after_loss over within was pushed loses is_over =
+    let taken : take 1 (drop at content) ≡ former ∷ [] = ap (take 1) (drop_more content at former within) ∙ ap (λ (b : ℕ). b ∷ []) (sym was) in
+    pushed_states calls after_push (Within at 1) after_loss over pushed
+    ∙ ap (states (Within at 1 ∷ reverse calls) after_loss) is_over
+    ∙ ap (λ (l : List ℕ). states (Within at 1 ∷ reverse calls) l (overwritten at (byte ∷ []) content)) (loses ∙ ap (λ (l : List ℕ). lost ++ l) (sym taken))
+    ∙ undone_within (reverse calls) at 1 (byte ∷ []) content lost refl (omega (arith, within))
+
 -- one byte over another, where all was synced: what it came over is all that is set apart
-pub over_keeps : (calls after_push : List Call) (at byte former : ℕ) (written after_extend content over : List ℕ) (same resumes : ℕ) → IsStored (states (reverse calls) written) content [] same resumes → same ≡ length content → at < length content
-    → former ≡ get_or content at former → after_push ≡ calls ++ Wrote at 1 ∷ [] → after_extend ≡ written ++ byte ∷ [] → over ≡ overwritten at (byte ∷ []) content → IsStored (states (reverse after_push) after_extend) over (former ∷ []) at (at + 1)
-over_keeps calls after_push at byte former written after_extend content over same resumes old all within was pushed extended is_over =
-    let now = wrote_now calls after_push at written after_extend (byte ∷ []) pushed extended in
+pub over_keeps : (old_states new_states : List File) (at byte former : ℕ) (content over : List ℕ) (same resumes : ℕ) → HasNewest old_states → IsStored old_states content [] same resumes → same ≡ length content → at < length content
+    → former ≡ get_or content at former → new_states ≡ after (wrote at (byte ∷ [])) old_states → over ≡ overwritten at (byte ∷ []) content → IsStored new_states over (former ∷ []) at (at + 1)
+over_keeps old_states new_states at byte former content over same resumes some old all within was one_more is_over =
+    let now : newest new_states ≡ wrote at (byte ∷ []) (newest old_states) = ap newest one_more ∙ newest_after (wrote at (byte ∷ [])) old_states some in
     let longer : length over ≡ length content = omega (arith, ap length is_over, length-append (take at content ++ (byte ∷ [])) (drop (at + 1) content), length-append (take at content) (byte ∷ []), length-take-le at content (omega (arith, within)), length-drop (at + 1) content) in
     let front : take at over ≡ take at content = ap (take at) is_over ∙ take-overwritten at at (byte ∷ []) content (omega arith) (omega (arith, within)) in
     let behind : drop (at + 1) over ≡ drop (at + 1) content = ap (drop (at + 1)) is_over ∙ drop-overwritten at (byte ∷ []) content (omega (arith, within)) in
     record {
       is_content = ap (λ (f : File). f.content) now ∙ ap (overwritten at (byte ∷ [])) old.is_content ∙ sym is_over;
       is_kept =
-          let whole : (newest (states (reverse calls) written)).kept ≡ content =
+          let whole : (newest old_states).kept ≡ content =
           old.is_kept ∙ ap (λ (l : List ℕ). take same content ++ l) (drop_all resumes content (omega (arith, all, old.in_order))) ∙ append-nil (take same content) ∙ take_all same content (omega (arith, all)) in
           let parted : take at content ++ (former ∷ drop (at + 1) content) ≡ content =
           ap (λ (l : List ℕ). take at content ++ l) (sym (drop_more content at former within ∙ ap (λ (b : ℕ). b ∷ drop (at + 1) content) (sym was))) ∙ take-append-drop at content in
@@ -109,17 +208,11 @@ over_keeps calls after_push at byte former written after_extend content over sam
       in_order = omega arith;
     }
 
-pub pushed_cut : (calls : List Call) (n : ℕ) (written : List ℕ) → states (reverse (calls ++ Cut n ∷ [])) written ≡ after (shortened n) (states (reverse calls) written)
-pushed_cut calls n written = ap (λ (cs : List Call). states cs written) (reverse-append calls (Cut n ∷ []))
-
-pub cut_keeps : (calls after_push : List Call) (n : ℕ) (written content short behind apart : List ℕ) (same resumes m : ℕ) → IsStored (states (reverse calls) written) content behind same resumes → n ≤ length content → m ≤ same → m ≤ n
+pub cut_keeps : (old_states new_states : List File) (n : ℕ) (content short behind apart : List ℕ) (same resumes m : ℕ) → HasNewest old_states → IsStored old_states content behind same resumes → n ≤ length content → m ≤ same → m ≤ n
     → take m content ++ apart ≡ take same content ++ (behind ++ drop resumes content)
-    → after_push ≡ calls ++ Cut n ∷ [] → short ≡ take n content → IsStored (states (reverse after_push) written) short apart m n
-cut_keeps calls after_push n written content short behind apart same resumes m old within le_same le_n parted pushed is_short =
-    let one_more : states (reverse after_push) written ≡ after (shortened n) (states (reverse calls) written) =
-    ap (λ (cs : List Call). states (reverse cs) written) pushed ∙ pushed_cut calls n written in
-    let now : newest (states (reverse after_push) written) ≡ shortened n (newest (states (reverse calls) written)) =
-    ap newest one_more ∙ newest_after (shortened n) _ (states_some (reverse calls) written) in
+    → new_states ≡ after (shortened n) old_states → short ≡ take n content → IsStored new_states short apart m n
+cut_keeps old_states new_states n content short behind apart same resumes m some old within le_same le_n parted one_more is_short =
+    let now : newest new_states ≡ shortened n (newest old_states) = ap newest one_more ∙ newest_after (shortened n) old_states some in
     record {
       is_content = ap (λ (f : File). f.content) now ∙ ap (take n) old.is_content ∙ sym is_short;
       is_kept =
@@ -131,14 +224,11 @@ cut_keeps calls after_push n written content short behind apart same resumes m o
     }
 
 -- a file that was brought back to what was synced rests
-pub restart_keeps : (calls after_push : List Call) (written content behind whole : List ℕ) (same resumes end : ℕ) → IsStored (states (reverse calls) written) content behind same resumes
-    → after_push ≡ calls ++ Restarted ∷ [] → whole ≡ take same content ++ (behind ++ drop resumes content) → end ≡ length whole → IsStored (states (reverse after_push) written) whole [] end end
-restart_keeps calls after_push written content behind whole same resumes end old pushed is_whole ends =
-    let one_more : states (reverse after_push) written ≡ after restarted (states (reverse calls) written) =
-    ap (λ (cs : List Call). states (reverse cs) written) pushed ∙ ap (λ (cs : List Call). states cs written) (reverse-append calls (Restarted ∷ [])) in
-    let now : newest (states (reverse after_push) written) ≡ restarted (newest (states (reverse calls) written)) =
-    ap newest one_more ∙ newest_after restarted _ (states_some (reverse calls) written) in
-    let kept : (newest (states (reverse calls) written)).kept ≡ whole = old.is_kept ∙ sym is_whole in
+pub restart_keeps : (old_states new_states : List File) (content behind whole : List ℕ) (same resumes end : ℕ) → HasNewest old_states → IsStored old_states content behind same resumes
+    → new_states ≡ after restarted old_states → whole ≡ take same content ++ (behind ++ drop resumes content) → end ≡ length whole → IsStored new_states whole [] end end
+restart_keeps old_states new_states content behind whole same resumes end some old one_more is_whole ends =
+    let now : newest new_states ≡ restarted (newest old_states) = ap newest one_more ∙ newest_after restarted old_states some in
+    let kept : (newest old_states).kept ≡ whole = old.is_kept ∙ sym is_whole in
     record {
       is_content = ap (λ (f : File). f.content) now ∙ kept;
       is_kept =

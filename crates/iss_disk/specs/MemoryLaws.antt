@@ -19,13 +19,13 @@ memory_here disk =
     sym (cond-true (bytes_eq name name) (history_of disk.file) (history_among disk.others.items name) (bytes_eq_self name))
 
 among_readable : (files : List StoredFile) (name : List ℕ) (file : File) (past : List File) → history_among files name ≡ file ∷ past → Image file file.content
-among_readable [] name file past is = readable [] [] file past is
+among_readable [] name file past is = readable [] [] [] file past is
 among_readable (stored ∷ files) name file past is =
     let named = bytes_eq stored.name.items name in
     let here = history_of stored in
     let among = history_among files name in
     elim (cases_Bool named) [
-      | inl same ↦ readable (reverse stored.calls.items) stored.written.items file past (sym (cond-true named here among same) ∙ is)
+      | inl same ↦ readable (reverse stored.calls.items) stored.lost.items stored.content.items file past (sym (cond-true named here among same) ∙ is)
       | inr other ↦ among_readable files name file past (sym (cond-false named here among other) ∙ is)
     ]
 

@@ -1,32 +1,44 @@
--- The states that a file of a memory disk went through, read off the list of its calls.
+-- The states that a file of a memory disk went through. They are read off its content by undoing its calls, the last one first.
 use Rattle.std.specs.Prelude.{◌≡◌, ℕ, ◌+◌, ◌-◌, ◌≤◌, Bool, true, false, List, [], ◌∷◌, ◌++◌, length, take, drop, refl}
 use Rattle.iss_disk.specs.File.{File, settled, wrote, shortened, synced, restarted}
 use Rattle.iss_disk.specs.declared.call.Call.{Call}
-use Rattle.iss_disk.specs.declared.call.Call.TheVariants.{Wrote, Kept, Opened, Cut, Synced, Restarted}
+use Rattle.iss_disk.specs.declared.call.Call.TheVariants.{ToEnd, Within, Cut, Kept, Opened, Synced, Restarted}
 
 -- one state more
 abbrev pub after : (File → File) → List File → List File
 after change [] = []
 after change (file ∷ past) = change file ∷ file ∷ past
 
--- the bytes of the last write, which had so many, and those before them
+-- of the bytes that calls took away, those that the last call took, which were so many, and those before them
 abbrev pub last_bytes : ℕ → List ℕ → List ℕ
-last_bytes len written = drop (length written - len) written
+last_bytes len lost = drop (length lost - len) lost
 
 abbrev pub all_but : ℕ → List ℕ → List ℕ
-all_but len written = take (length written - len) written
+all_but len lost = take (length lost - len) lost
 
--- The states, newest first, after these calls, newest first. The calls wrote these bytes, oldest first.
-abbrev pub states : List Call → List ℕ → List File
-states [] written = settled [] ∷ []
-states (Wrote at len ∷ calls) written = after (wrote at (last_bytes len written)) (states calls (all_but len written))
-states (Kept at len ∷ calls) written = after synced (after (wrote at (last_bytes len written)) (states calls (all_but len written)))
-states (Opened at len ∷ calls) written =
-    after synced (after (wrote at (last_bytes 1 written))
-    (after synced (after (wrote (at + 1) (last_bytes len (all_but 1 written))) (states calls (all_but len (all_but 1 written))))))
-states (Cut len ∷ calls) written = after (shortened len) (states calls written)
-states (Synced ∷ calls) written = after synced (states calls written)
-states (Restarted ∷ calls) written = after restarted (states calls written)
+-- these bytes with others in place of all from an offset on, and in place of so many
+abbrev pub with_tail : ℕ → List ℕ → List ℕ → List ℕ
+with_tail at former content = take at content ++ former
+
+abbrev pub with_part : ℕ → ℕ → List ℕ → List ℕ → List ℕ
+with_part at len former content = take at content ++ former ++ drop (at + len) content
+
+-- The states, newest first, after these calls, newest first, which left this content. What they took away are the bytes that are lost,
+-- oldest first.
+abbrev pub states : List Call → List ℕ → List ℕ → List File
+states [] lost content = settled [] ∷ []
+states (ToEnd at over ∷ calls) lost content = after (wrote at (drop at content)) (states calls (all_but over lost) (with_tail at (last_bytes over lost) content))
+states (Within at len ∷ calls) lost content = after (wrote at (take len (drop at content))) (states calls (all_but len lost) (with_part at len (last_bytes len lost) content))
+states (Cut by ∷ calls) lost content = after (shortened (length content)) (states calls (all_but by lost) (content ++ last_bytes by lost))
+states (Kept at ∷ calls) lost content =
+    after synced (after (wrote at (drop at content)) (states calls (all_but 0 lost) (with_tail at (last_bytes 0 lost) content)))
+states (Opened at ∷ calls) lost content =
+    let front = all_but 1 lost in
+    let closed = with_part at 1 (last_bytes 1 lost) content in
+    after synced (after (wrote at (take 1 (drop at content)))
+    (after synced (after (wrote (at + 1) (drop (at + 1) closed)) (states calls (all_but 0 front) (with_tail (at + 1) (last_bytes 0 front) closed)))))
+states (Synced ∷ calls) lost content = after synced (states calls lost content)
+states (Restarted at over ∷ calls) lost content = after restarted (states calls (all_but over lost) (with_tail at (last_bytes over lost) content))
 
 -- the newest state
 abbrev pub newest : List File → File
@@ -36,12 +48,13 @@ newest (file ∷ past) = file
 -- whether the file was written or cut since it was last synced or restarted
 abbrev pub is_pending : List Call → Bool
 is_pending [] = false
-is_pending (Wrote at len ∷ calls) = true
-is_pending (Kept at len ∷ calls) = false
-is_pending (Opened at len ∷ calls) = false
-is_pending (Cut len ∷ calls) = true
+is_pending (ToEnd at over ∷ calls) = true
+is_pending (Within at len ∷ calls) = true
+is_pending (Cut by ∷ calls) = true
+is_pending (Kept at ∷ calls) = false
+is_pending (Opened at ∷ calls) = false
 is_pending (Synced ∷ calls) = false
-is_pending (Restarted ∷ calls) = false
+is_pending (Restarted at over ∷ calls) = false
 
 -- A file holds what its newest state holds, and what was synced: that is the content up to an offset, then bytes that are set apart, and
 -- then the content from another offset on.
@@ -51,15 +64,15 @@ pub record IsStored (states : List File) (content behind : List ℕ) (same resum
   pub in_content : same ≤ length content
   pub in_order : same ≤ resumes
 
--- Two bytes written and synced, one over them, and a crash.
+-- Two bytes written and synced, one over them, and a crash: what the crash took is undone first.
 
-example : newest (states (Restarted ∷ Wrote 1 1 ∷ Synced ∷ Wrote 0 2 ∷ []) (97 ∷ 98 ∷ 99 ∷ [])) ≡ settled (97 ∷ 98 ∷ [])
+example : newest (states (Restarted 1 1 ∷ Within 1 1 ∷ Synced ∷ ToEnd 0 0 ∷ []) (98 ∷ 99 ∷ []) (97 ∷ 98 ∷ [])) ≡ settled (97 ∷ 98 ∷ [])
 example = refl
 
 -- Two bytes behind a gate are written and synced, and then the gate is opened and synced.
 
-opened_is_kept : states (Opened 0 2 ∷ Wrote 0 1 ∷ []) (97 ∷ 98 ∷ 99 ∷ 100 ∷ []) ≡ states (Kept 0 1 ∷ Kept 1 2 ∷ Wrote 0 1 ∷ []) (97 ∷ 98 ∷ 99 ∷ 100 ∷ [])
+opened_is_kept : states (Opened 0 ∷ ToEnd 0 0 ∷ []) (97 ∷ []) (100 ∷ 98 ∷ 99 ∷ []) ≡ states (Synced ∷ Within 0 1 ∷ Synced ∷ ToEnd 1 0 ∷ ToEnd 0 0 ∷ []) (97 ∷ []) (100 ∷ 98 ∷ 99 ∷ [])
 opened_is_kept = refl
 
-opened_leaves : newest (states (Opened 0 2 ∷ Wrote 0 1 ∷ []) (97 ∷ 98 ∷ 99 ∷ 100 ∷ [])) ≡ settled (100 ∷ 98 ∷ 99 ∷ [])
+opened_leaves : newest (states (Opened 0 ∷ ToEnd 0 0 ∷ []) (97 ∷ []) (100 ∷ 98 ∷ 99 ∷ [])) ≡ settled (100 ∷ 98 ∷ 99 ∷ [])
 opened_leaves = refl

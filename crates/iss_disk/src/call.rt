@@ -1,18 +1,20 @@
 // The calls that a memory disk keeps of a file.
 
-/// A call that changed or synced a file.
+/// A call that changed or synced a file, with what it takes to undo it; the bytes that it took away are kept beside the list.
 #[derive(Clone, Copy, Debug, PartialEq, Eq)]
 pub enum Call {
-    /// So many bytes were written from an offset on.
-    Wrote { at: usize, len: usize },
-    /// The file was cut to a length.
-    Cut { len: usize },
-    /// They were written so, and then it was synced.
-    Kept { at: usize, len: usize },
-    /// So many bytes were written behind an offset and synced, and then one byte at it, and synced.
-    Opened { at: usize, len: usize },
+    /// All that stands from an offset on was written, over so many bytes that stood there.
+    ToEnd { at: usize, over: usize },
+    /// So many bytes were written from an offset on, over as many.
+    Within { at: usize, len: usize },
+    /// So many bytes were cut off.
+    Cut { by: usize },
+    /// All that stands from an offset on was written, where the file ended, and then it was synced.
+    Kept { at: usize },
+    /// All that stands behind an offset was written, where the file ended, and synced, and then one byte over the one at it, and synced.
+    Opened { at: usize },
     /// It was synced.
     Synced,
-    /// A crash left what was synced.
-    Restarted,
+    /// A crash left what was synced. From an offset on so many bytes had stood there.
+    Restarted { at: usize, over: usize },
 }

@@ -18,6 +18,7 @@ pub enum Fate {
 
 impl Fate {
     // Takes one call, which passes or counts as a fault.
+    #[inline(always)]
     pub(crate) fn take(&mut self, faults: &mut u64) -> Result<(), Failed>
         ensures cause { HasCause faults.old faults.new (IsErr result) }
         ensures device { Runs 1 (passes_of self.old) (passes_of self.new) (is_ok result) }
@@ -30,6 +31,7 @@ impl Fate {
     }
 
     // Whether the next call passes.
+    #[inline(always)]
     fn next(&mut self) -> bool
         ensures { Runs 1 (passes_of self.old) (passes_of self.new) result }
     {

@@ -140,6 +140,7 @@ impl Disk for MemoryDisk {
         Ok(copy_from(&self.file.content, at as usize, into))
     }
 
+    #[inline(always)]
     fn write_at(&mut self, at: u64, bytes: &[u8]) -> Result<(), Failed> {
         self.fate.take(&mut self.faults)?;
         self.file.write(at as usize, bytes);
@@ -152,6 +153,7 @@ impl Disk for MemoryDisk {
         Ok(())
     }
 
+    #[inline(always)]
     fn sync(&mut self) -> Result<(), Failed> {
         self.fate.take(&mut self.faults)?;
         self.file.sync();

@@ -1,14 +1,15 @@
 // One file of a memory disk.
-ghost use Rattle.std.specs.Prelude.{◌≡◌, ◌+◌, ◌-◌, ◌<◌, ◌≤◌, ◌++◌, true, false, List, ℕ, length, take, drop, reverse, vec_len, vec_capacity, IfOk, OnOk, [], ◌∷◌};
+ghost use Rattle.std.specs.Prelude.{◌≡◌, ◌+◌, ◌-◌, ◌<◌, ◌≤◌, ◌++◌, min, max, true, false, List, ℕ, length, take, drop, reverse, vec_len, vec_capacity, IfOk, OnOk, [], ◌∷◌};
 ghost use Rattle.iss_disk.specs.File.{settled, overwritten, wrote, shortened, synced, restarted};
 ghost use Rattle.iss_disk.specs.States.{states, after, newest, is_pending, IsStored};
-ghost use Rattle.iss_disk.specs.declared.call.Call.TheVariants.{Kept};
+ghost use Rattle.iss_disk.specs.declared.call.Call.{Call};
+ghost use Rattle.iss_disk.specs.declared.call.Call.TheVariants.{Within};
 
 use crate::NoMemory;
 use crate::call::Call;
 use std::alloc::{AllocError, Global};
 
-/// A file in memory, with the list of the calls on it.
+/// A file in memory, with the list of the calls on it and what they took away, so that each can be undone.
 #[derive(Drop)]
 pub struct StoredFile {
     pub(crate) name: Vec<u8>,
@@ -21,15 +22,16 @@ pub struct StoredFile {
     // Whether a write or a cut came since.
     pending: bool,
     calls: Vec<Call>,
-    // What the writes wrote, one behind the other.
-    written: Vec<u8>,
-    ghost stored: { IsStored (states (reverse calls.items) written.items) content.items behind.items same resumes },
+    // What the calls took away, one behind the other: what stands there still is noted nowhere else.
+    lost: Vec<u8>,
+    ghost stored: { IsStored (states (reverse calls.items) lost.items content.items) content.items behind.items same resumes },
     ghost waits: { pending ≡ is_pending (reverse calls.items) },
     // A sync, a restart and setting apart what was synced take no memory.
     ghost room_to_sync: { vec_len content ≤ vec_capacity behind },
     ghost room_to_part: { same + vec_len behind + (vec_len content - resumes) ≤ vec_capacity behind },
     ghost room_to_restart: { same + vec_len behind + (vec_len content - resumes) ≤ vec_capacity content },
     ghost call_to_restart: { pending ≡ true → vec_len calls < vec_capacity calls },
+    ghost room_to_lose: { pending ≡ true → vec_len lost + vec_len content ≤ vec_capacity lost },
 }
 
 // Puts bytes over what is there, from an offset on.
@@ -38,7 +40,7 @@ fn overwrite(content: &mut Vec<u8>, at: usize, bytes: &[u8])
     requires room { vec_len content.old + length bytes.now ≤ vec_capacity content.old }
     ensures items { content.new.items ≡ overwritten at bytes.now content.old.items }
     ensures longer { vec_len content.old ≤ vec_len content.new }
-    ensures len { vec_len content.new ≤ vec_len content.old + length bytes.now }
+    ensures len { vec_len content.new ≤ max (vec_len content.old) (at + length bytes.now) }
     ensures capacity { vec_capacity content.old ≤ vec_capacity content.new }
 {
     if bytes.len() <= content.len() - at {
@@ -98,44 +100,80 @@ fn put_back(content: &mut Vec<u8>, same: usize, behind: &[u8])
     let _ = content.extend_from_slice(behind);
 }
 
-// Notes that one byte was written and synced: with what was kept right behind it, as an entry of a journal, where that came right
-// before.
+// Notes that one byte was written over another and synced: with what was kept right behind it, as an entry of a journal, where that came
+// right before.
 #[inline(always)]
 fn note_opened(calls: &mut Vec<Call>, at: usize)
-    requires { vec_len calls.old < vec_capacity calls.old }
-    ensures states { (written : List ℕ) → states (reverse calls.new.items) written ≡ states (Kept at 1 ∷ reverse calls.old.items) written }
+    requires { vec_len calls.old + 1 < vec_capacity calls.old }
+    ensures states { (lost content : List ℕ) → states (reverse calls.new.items) lost content ≡ after synced (states (Within at 1 ∷ reverse calls.old.items) lost content) }
     ensures waits { is_pending (reverse calls.new.items) ≡ false }
-    ensures len { vec_len calls.new ≤ vec_len calls.old + 1 }
+    ensures len { vec_len calls.new ≤ vec_len calls.old + 2 }
     ensures capacity { vec_capacity calls.old ≤ vec_capacity calls.new }
 {
     match calls.pop() {
-        Some(Call::Kept { at: behind, len }) if behind > at && behind - at == 1 => {
-            calls.push_reserved(Call::Opened { at, len });
+        Some(Call::Kept { at: behind }) if behind > at && behind - at == 1 => {
+            calls.push_reserved(Call::Opened { at });
         }
         Some(call) => {
             calls.push_reserved(call);
-            calls.push_reserved(Call::Kept { at, len: 1 });
+            calls.push_reserved(Call::Within { at, len: 1 });
+            calls.push_reserved(Call::Synced);
         }
-        None => calls.push_reserved(Call::Kept { at, len: 1 }),
+        None => {
+            calls.push_reserved(Call::Within { at, len: 1 });
+            calls.push_reserved(Call::Synced);
+        }
     }
 }
 
-// Notes a sync, with the write before it where one came right before. So an entry of a journal is one note.
+// Notes a sync, with the write before it where one came right before behind all that was there. So an entry of a journal is one note.
+#[inline(always)]
 fn note_sync(calls: &mut Vec<Call>)
     requires { vec_len calls.old < vec_capacity calls.old }
-    ensures states { (written : List ℕ) → states (reverse calls.new.items) written ≡ after synced (states (reverse calls.old.items) written) }
+    ensures states { (lost content : List ℕ) → states (reverse calls.new.items) lost content ≡ after synced (states (reverse calls.old.items) lost content) }
     ensures waits { is_pending (reverse calls.new.items) ≡ false }
     ensures len { vec_len calls.new ≤ vec_len calls.old + 1 }
     ensures capacity { vec_capacity calls.old ≤ vec_capacity calls.new }
 {
     match calls.pop() {
-        Some(Call::Wrote { at, len: 1 }) => note_opened(calls, at),
-        Some(Call::Wrote { at, len }) => calls.push_reserved(Call::Kept { at, len }),
+        Some(Call::Within { at, len: 1 }) => note_opened(calls, at),
+        Some(Call::ToEnd { at, over: 0 }) => calls.push_reserved(Call::Kept { at }),
         Some(call) => {
             calls.push_reserved(call);
             calls.push_reserved(Call::Synced);
         }
         None => calls.push_reserved(Call::Synced),
+    }
+}
+
+// Takes away all that stands from an offset on.
+fn take_tail(content: &[u8], lost: &mut Vec<u8>, at: usize)
+    requires within { at ≤ length content.now }
+    requires room { vec_len lost.old + (length content.now - at) ≤ vec_capacity lost.old }
+    ensures items { lost.new.items ≡ lost.old.items ++ drop at content.now }
+    ensures capacity { vec_capacity lost.old ≤ vec_capacity lost.new }
+{
+    let _ = lost.extend_from_slice(&content[at..]);
+}
+
+// Takes away what so many bytes are about to be written over, from an offset on, and tells the call that undoes it.
+fn take_away(content: &[u8], lost: &mut Vec<u8>, at: usize, len: usize) -> Call
+    requires within { at ≤ length content.now }
+    requires room { vec_len lost.old + min len (length content.now - at) ≤ vec_capacity lost.old }
+    ensures undoes { (calls : List Call) (bytes : List ℕ) → length bytes ≡ len →
+        states (result ∷ calls) lost.new.items (overwritten at bytes content.now) ≡ after (wrote at bytes) (states calls lost.old.items content.now) }
+    ensures waits { (calls : List Call) → is_pending (result ∷ calls) ≡ true }
+    ensures len { vec_len lost.new ≤ vec_len lost.old + min len (length content.now - at) }
+    ensures capacity { vec_capacity lost.old ≤ vec_capacity lost.new }
+{
+    if len < content.len() - at {
+        let _ = lost.extend_from_slice(&content[at..at + len]);
+        return Call::Within { at, len };
+    }
+    let _ = lost.extend_from_slice(&content[at..]);
+    Call::ToEnd {
+        at,
+        over: content.len() - at,
     }
 }
 
@@ -189,7 +227,7 @@ impl StoredFile {
             resumes: 0,
             pending: false,
             calls: Vec::new(alloc),
-            written: Vec::new(alloc),
+            lost: Vec::new(alloc),
         })
     }
 
@@ -203,9 +241,9 @@ impl StoredFile {
         // One more than asked for, since a restart takes no memory either.
         let calls = (calls as usize).checked_add(1).ok_or(NoMemory)?;
         self.calls.reserve(calls)?;
-        self.written.reserve(bytes)?;
         self.content.reserve(bytes)?;
         let wanted = self.content.len().checked_add(bytes).ok_or(NoMemory)?;
+        self.lost.reserve(wanted)?;
         self.behind
             .reserve(wanted.saturating_sub(self.behind.len()))?;
         Ok(())
@@ -223,17 +261,37 @@ impl StoredFile {
         ensures room { Takes 1 1 (room_of self.old) (room_of self.new) }
         ensures name { self.new.name.items ≡ self.old.name.items }
     {
-        self.behind.push_reserved(self.content[at]);
+        let former = self.content[at];
+        self.behind.push_reserved(former);
         self.same = at;
         self.resumes = at + 1;
         self.content[at] = byte;
         self.pending = true;
-        self.calls.push_reserved(Call::Wrote { at, len: 1 });
-        self.written.push_reserved(byte);
+        self.calls.push_reserved(Call::Within { at, len: 1 });
+        self.lost.push_reserved(former);
+    }
+
+    // Writes bytes behind all that is there, where all is synced, as an entry is written.
+    #[inline(always)]
+    fn write_behind(&mut self, bytes: &[u8])
+        requires call { 1 ≤ (room_of self.old).calls }
+        requires bytes { length bytes.now ≤ (room_of self.old).bytes }
+        requires nothing_apart { self.old.behind.items ≡ [] }
+        requires all_synced { self.old.same ≡ length self.old.content.items }
+        ensures states { history_of self.new ≡ after (wrote (length self.old.content.items) bytes.now) (history_of self.old) }
+        ensures room { Takes 1 (length bytes.now) (room_of self.old) (room_of self.new) }
+        ensures name { self.new.name.items ≡ self.old.name.items }
+    {
+        let at = self.same;
+        let _ = self.content.extend_from_slice(bytes);
+        self.resumes = self.content.len();
+        self.pending = true;
+        self.calls.push_reserved(Call::ToEnd { at, over: 0 });
     }
 
     // Writes bytes over what is there, and past the end.
-    #[inline(always)]
+    #[cold]
+    #[inline(never)]
     fn write_all(&mut self, at: usize, bytes: &[u8])
         requires call { 1 ≤ (room_of self.old).calls }
         requires bytes { length bytes.now ≤ (room_of self.old).bytes }
@@ -243,14 +301,11 @@ impl StoredFile {
         ensures name { self.new.name.items ≡ self.old.name.items }
     {
         self.same = part(&self.content, &mut self.behind, self.same, self.resumes, at);
+        let call = take_away(&self.content, &mut self.lost, at, bytes.len());
         overwrite(&mut self.content, at, bytes);
         self.resumes = self.content.len();
         self.pending = true;
-        self.calls.push_reserved(Call::Wrote {
-            at,
-            len: bytes.len(),
-        });
-        let _ = self.written.extend_from_slice(bytes);
+        self.calls.push_reserved(call);
     }
 
     #[inline(always)]
@@ -264,7 +319,8 @@ impl StoredFile {
     {
         let at_rest = self.behind.is_empty() && self.same == self.content.len();
         match bytes {
-            [byte] if at_rest && at < self.same => self.write_over(at, *byte),
+            _ if at_rest && at == self.same => self.write_behind(bytes),
+            [byte] if at_rest => self.write_over(at, *byte),
             _ => self.write_all(at, bytes),
         }
     }
@@ -283,12 +339,15 @@ impl StoredFile {
             self.resumes,
             len,
         );
+        let by = self.content.len() - len;
+        take_tail(&self.content, &mut self.lost, len);
         self.content.truncate(len);
         self.resumes = len;
         self.pending = true;
-        self.calls.push_reserved(Call::Cut { len });
+        self.calls.push_reserved(Call::Cut { by });
     }
 
+    #[inline(always)]
     pub(crate) fn sync(&mut self)
         requires { 1 ≤ (room_of self.old).calls }
         ensures states { history_of self.new ≡ after synced (history_of self.old) }
@@ -308,13 +367,25 @@ impl StoredFile {
         ensures name { self.new.name.items ≡ self.old.name.items }
     {
         if self.pending {
-            close(&self.content, &mut self.behind, self.resumes);
-            put_back(&mut self.content, self.same, &self.behind);
-            self.behind.clear();
-            self.same = self.content.len();
-            self.resumes = self.same;
-            self.pending = false;
-            let _ = self.calls.push(Call::Restarted);
+            self.undo();
         }
+    }
+
+    // Takes away what was written since the last sync, and puts back what was synced.
+    fn undo(&mut self)
+        requires { self.old.pending ≡ true }
+        ensures states { history_of self.new ≡ after restarted (history_of self.old) }
+        ensures name { self.new.name.items ≡ self.old.name.items }
+    {
+        let at = self.same;
+        let over = self.content.len() - at;
+        take_tail(&self.content, &mut self.lost, at);
+        close(&self.content, &mut self.behind, self.resumes);
+        put_back(&mut self.content, at, &self.behind);
+        self.behind.clear();
+        self.same = self.content.len();
+        self.resumes = self.same;
+        self.pending = false;
+        self.calls.push_reserved(Call::Restarted { at, over });
     }
 }

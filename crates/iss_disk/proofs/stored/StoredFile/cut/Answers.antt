@@ -1,18 +1,34 @@
-use Rattle.std.proofs.Common.{rules, sym, ◌≡◌, [], ◌∷◌, ◌++◌, take, drop}
+use Rattle.std.proofs.Common.{rules, sym, ◌≡◌, ◌∙◌, ap, ℕ, ◌-◌, List, [], ◌∷◌, ◌++◌, length, take, drop, reverse, refl}
+use Rattle.iss_disk.specs.File.{shortened}
+use Rattle.iss_disk.specs.States.{states, after}
 use Rattle.iss_disk.specs.declared.call.Call.TheVariants.{Cut}
-use Rattle.iss_disk.proofs.StoredLemmas.{cut_keeps, pending_push}
+use Rattle.iss_disk.proofs.StoredLemmas.{cut_keeps, pending_push, pushed_states, states_some, undone_cut}
 use Rattle.iss_disk.proofs.stored.StoredFile.cut.Goals as goal
 
 pub invariant_of-self-clause-stored : goal.invariant_of-self-clause-stored
 invariant_of-self-clause-stored c =
+    let content = c.args.self.now.content.items in
+    let calls = c.args.self.now.calls.items in
+    let lost = c.args.self.now.lost.items in
+    let n = c.args.len in
+    let by = length content - n in
+    let taken = c.take_tail.new.lost.items in
+    let short = c.truncate.new.self.items in
     let parted :
-    take c.part-self.result c.args.self.now.content.items ++ c.part-self.new.behind.items
-    ≡ take c.args.self.now.same c.args.self.now.content.items ++ (c.args.self.now.behind.items ++ drop c.args.self.now.resumes c.args.self.now.content.items) =
+    take c.part-self.result content ++ c.part-self.new.behind.items ≡ take c.args.self.now.same content ++ (c.args.self.now.behind.items ++ drop c.args.self.now.resumes content) =
     search rules in
-    let pushed : c.push_reserved.new.self.items ≡ c.args.self.now.calls.items ++ Cut c.args.len ∷ [] = search rules in
-    cut_keeps c.args.self.now.calls.items c.push_reserved.new.self.items c.args.len c.args.self.now.written.items c.args.self.now.content.items c.truncate.new.self.items c.args.self.now.behind.items c.part-self.new.behind.items c.args.self.now.same c.args.self.now.resumes c.part-self.result c.args.self.now.stored c.requires.within c.part-self.ensures.no_more c.part-self.ensures.before parted pushed c.truncate.ensures.items
+    let pushed : c.push_reserved.new.self.items ≡ calls ++ Cut by ∷ [] = search rules in
+    let loses : taken ≡ lost ++ drop n content = search rules in
+    let one_more : states (reverse c.push_reserved.new.self.items) taken short ≡ after (shortened n) (states (reverse calls) lost content) =
+    pushed_states calls c.push_reserved.new.self.items (Cut by) taken short pushed
+    ∙ ap (λ (l : List ℕ). states (Cut by ∷ reverse calls) l short) loses
+    ∙ ap (states (Cut by ∷ reverse calls) (lost ++ drop n content)) c.truncate.ensures.items
+    ∙ undone_cut (reverse calls) n by content lost c.requires.within refl in
+    cut_keeps (states (reverse calls) lost content) (states (reverse c.push_reserved.new.self.items) taken short) n content short c.args.self.now.behind.items c.part-self.new.behind.items c.args.self.now.same c.args.self.now.resumes c.part-self.result
+    (states_some (reverse calls) lost content) c.args.self.now.stored c.requires.within c.part-self.ensures.no_more c.part-self.ensures.before parted one_more c.truncate.ensures.items
 
 pub invariant_of-self-clause-waits : goal.invariant_of-self-clause-waits
 invariant_of-self-clause-waits c =
-    let pushed : c.push_reserved.new.self.items ≡ c.args.self.now.calls.items ++ Cut c.args.len ∷ [] = search rules in
-    sym (pending_push c.args.self.now.calls.items c.push_reserved.new.self.items (Cut c.args.len) pushed)
+    let by = length c.args.self.now.content.items - c.args.len in
+    let pushed : c.push_reserved.new.self.items ≡ c.args.self.now.calls.items ++ Cut by ∷ [] = search rules in
+    sym (pending_push c.args.self.now.calls.items c.push_reserved.new.self.items (Cut by) pushed)

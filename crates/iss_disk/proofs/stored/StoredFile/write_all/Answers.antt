@@ -1,21 +1,34 @@
-use Rattle.std.proofs.Common.{rules, sym, ◌≡◌, ◌≤◌, [], ◌∷◌, ◌++◌, length, take, drop}
-use Rattle.iss_disk.specs.declared.call.Call.TheVariants.{Wrote}
-use Rattle.iss_disk.proofs.StoredLemmas.{write_keeps, pending_push}
+use Rattle.std.proofs.Common.{rules, sym, subst, ◌≡◌, ◌∙◌, ap, ℕ, ◌≤◌, List, [], ◌∷◌, ◌++◌, length, take, drop, reverse, refl}
+use Rattle.iss_disk.specs.File.{overwritten, wrote}
+use Rattle.iss_disk.specs.States.{states, after}
+use Rattle.iss_disk.proofs.StoredLemmas.{write_keeps, pending_push, pushed_states, states_some}
 use Rattle.iss_disk.proofs.stored.StoredFile.write_all.Goals as goal
 
 pub invariant_of-self-clause-stored : goal.invariant_of-self-clause-stored
 invariant_of-self-clause-stored c =
-    let parted :
-    take c.part-self.result c.args.self.now.content.items ++ c.part-self.new.behind.items
-    ≡ take c.args.self.now.same c.args.self.now.content.items ++ (c.args.self.now.behind.items ++ drop c.args.self.now.resumes c.args.self.now.content.items) =
-    search rules in
-    let pushed : c.push_reserved.new.self.items ≡ c.args.self.now.calls.items ++ Wrote c.args.at (length c.args.bytes.now) ∷ [] = search rules in
-    let extended : c.extend_from_slice.new.self.items ≡ c.args.self.now.written.items ++ c.args.bytes.now = search rules in
-    let longer : length c.args.self.now.content.items ≤ length c.overwrite.new.content.items = search rules in
-    let ends : c.len-self.result ≡ length c.overwrite.new.content.items = search rules in
-    write_keeps c.args.self.now.calls.items c.push_reserved.new.self.items c.args.at c.args.self.now.written.items c.extend_from_slice.new.self.items c.args.bytes.now c.args.self.now.content.items c.overwrite.new.content.items c.args.self.now.behind.items c.part-self.new.behind.items c.args.self.now.same c.args.self.now.resumes c.part-self.result c.len-self.result c.args.self.now.stored c.requires.within c.part-self.ensures.no_more c.part-self.ensures.before parted pushed extended c.overwrite.ensures.items longer ends
+    let content = c.args.self.now.content.items in
+    let calls = c.args.self.now.calls.items in
+    let lost = c.args.self.now.lost.items in
+    let behind = c.args.self.now.behind.items in
+    let same = c.args.self.now.same in
+    let resumes = c.args.self.now.resumes in
+    let bytes = c.args.bytes.now in
+    let over = c.overwrite.new.content.items in
+    let taken = c.take_away-call.new.lost.items in
+    let call = c.take_away-call.result in
+    let parted : take c.part-self.result content ++ c.part-self.new.behind.items ≡ take same content ++ (behind ++ drop resumes content) = search rules in
+    let pushed : c.push_reserved.new.self.items ≡ calls ++ call ∷ [] = search rules in
+    let longer : length content ≤ length over = search rules in
+    let ends : c.len-self.result ≡ length over = search rules in
+    let one_more : states (reverse c.push_reserved.new.self.items) taken over ≡ after (wrote c.args.at bytes) (states (reverse calls) lost content) =
+    pushed_states calls c.push_reserved.new.self.items call taken over pushed
+    ∙ ap (states (call ∷ reverse calls) taken) c.overwrite.ensures.items
+    ∙ subst (λ (l : List ℕ). states (call ∷ reverse calls) taken (overwritten c.args.at bytes l) ≡ after (wrote c.args.at bytes) (states (reverse calls) lost l)) c.deref-2.ensures.value
+    (c.take_away-call.ensures.undoes (reverse calls) bytes refl) in
+    write_keeps (states (reverse calls) lost content) (states (reverse c.push_reserved.new.self.items) taken over) c.args.at bytes content over behind c.part-self.new.behind.items same resumes c.part-self.result c.len-self.result
+    (states_some (reverse calls) lost content) c.args.self.now.stored c.requires.within c.part-self.ensures.no_more c.part-self.ensures.before parted one_more c.overwrite.ensures.items longer ends
 
 pub invariant_of-self-clause-waits : goal.invariant_of-self-clause-waits
 invariant_of-self-clause-waits c =
-    let pushed : c.push_reserved.new.self.items ≡ c.args.self.now.calls.items ++ Wrote c.args.at (length c.args.bytes.now) ∷ [] = search rules in
-    sym (pending_push c.args.self.now.calls.items c.push_reserved.new.self.items (Wrote c.args.at (length c.args.bytes.now)) pushed)
+    let pushed : c.push_reserved.new.self.items ≡ c.args.self.now.calls.items ++ c.take_away-call.result ∷ [] = search rules in
+    sym (pending_push c.args.self.now.calls.items c.push_reserved.new.self.items c.take_away-call.result pushed ∙ c.take_away-call.ensures.waits (reverse c.args.self.now.calls.items))
