@@ -6,7 +6,7 @@ use Rattle.std.proofs.lemmas.Slice.Eq.{bytes_eq-Decides}
 use Rattle.std.proofs.lemmas.List.{drop_more, drop_all, get_or_read, get_or-drop, drop-drop, drop-set-lt, take_more, take_more_set, take_all}
 use Rattle.iss_disk.specs.File.{File, settled}
 use Rattle.iss_disk.specs.Calls.{Restarts, IfTold}
-use Rattle.iss_disk.specs.States.{newest}
+use Rattle.iss_disk.specs.States.{newest, calls_of}
 use Rattle.iss_disk.proofs.StoredLemmas.{states_some}
 use Rattle.iss_disk.specs.StoredViews.{history_of}
 use Rattle.iss_disk.specs.MemoryViews.{history_among}
@@ -113,7 +113,7 @@ attached_files file next before after wanted apart named is_next others n = elim
 -- what is asked of the told content holds of what the file holds
 pub within_content : (stored : StoredFile) (n : ℕ) → IfTold (history_of stored) (λ file. n ≤ length file.content) → n ≤ length stored.content.items
 within_content stored n within =
-    let some = states_some (reverse stored.calls.items) stored.lost.items stored.content.items in
+    let some = states_some (calls_of stored.recent ++ reverse stored.calls.items) stored.lost.items stored.content.items in
     let here : n ≤ length some.file.content = subst (λ (h : List File). IfTold h (λ file. n ≤ length file.content)) some.is within in
     let is : some.file.content ≡ stored.content.items = ap (λ (h : List File). (newest h).content) (sym some.is) ∙ stored.stored.is_content in
     omega (arith, here, ap length is)

@@ -2,8 +2,10 @@
 use Rattle.std.proofs.Common.{◌≡◌, ℕ, ◌+◌, ◌-◌, ◌<◌, ◌≤◌, List, [], ◌∷◌, ◌++◌, length, take, drop, reverse, get_or, set, refl, sym, ◌∙◌, ap, arith, length-append, length-take-le, length-drop}
 use Rattle.std.proofs.lemmas.List.{append-nil, append_assoc, reverse-append, take_at, drop_at, drop_all, drop_more, take_all, take-set, drop-set, take-take, take-append-le, take-append-drop, drop-drop}
 use Rattle.iss_disk.specs.File.{File, settled, overwritten, wrote, shortened, synced, restarted}
-use Rattle.iss_disk.specs.States.{states, after, newest, is_pending, last_bytes, all_but, with_tail, with_part, IsStored}
+use Rattle.iss_disk.specs.States.{states, after, newest, is_pending, calls_of, last_bytes, all_but, with_tail, with_part, IsStored}
 use Rattle.iss_disk.specs.declared.call.Call.{Call}
+use Rattle.iss_disk.specs.declared.call.Recent.{Recent}
+use Rattle.iss_disk.specs.declared.call.Recent.TheVariants.{Nothing, Wrote as Just_wrote, Kept as Just_kept, Opening}
 use Rattle.iss_disk.specs.declared.call.Call.TheVariants.{ToEnd, Within, Cut, Kept, Opened, Synced, Restarted}
 
 -- there is always a newest state
@@ -178,15 +180,24 @@ set-overwritten at byte content within =
     ∙ ap (λ (l : List ℕ). take at content ++ l) (drop-set content at byte within)
     ∙ sym (append_assoc (take at content) (byte ∷ []) (drop (at + 1) content))
 
--- so a byte over another is undone
-pub undone_byte : (calls after_push : List Call) (at byte former : ℕ) (content lost after_loss over : List ℕ) → at < length content → former ≡ get_or content at former → after_push ≡ calls ++ Within at 1 ∷ []
-    → after_loss ≡ lost ++ former ∷ [] → over ≡ overwritten at (byte ∷ []) content → states (reverse after_push) after_loss over ≡ after (wrote at (byte ∷ [])) (states (reverse calls) lost content)
-undone_byte calls after_push at byte former content lost after_loss over within was pushed loses is_over =
+-- so a byte over the last one before what was just kept is undone
+pub undone_byte : (recent : Recent) (calls : List Call) (at byte former : ℕ) (content lost after_loss over : List ℕ) → at < length content → former ≡ get_or content at former → recent ≡ Just_kept (at + 1)
+    → after_loss ≡ lost ++ former ∷ [] → over ≡ overwritten at (byte ∷ []) content → states (calls_of (Opening at (at + 1)) ++ calls) after_loss over ≡ after (wrote at (byte ∷ [])) (states (calls_of recent ++ calls) lost content)
+undone_byte recent calls at byte former content lost after_loss over within was just_kept loses is_over =
     let taken : take 1 (drop at content) ≡ former ∷ [] = ap (take 1) (drop_more content at former within) ∙ ap (λ (b : ℕ). b ∷ []) (sym was) in
-    pushed_states calls after_push (Within at 1) after_loss over pushed
-    ∙ ap (states (Within at 1 ∷ reverse calls) after_loss) is_over
-    ∙ ap (λ (l : List ℕ). states (Within at 1 ∷ reverse calls) l (overwritten at (byte ∷ []) content)) (loses ∙ ap (λ (l : List ℕ). lost ++ l) (sym taken))
-    ∙ undone_within (reverse calls) at 1 (byte ∷ []) content lost refl (omega (arith, within))
+    ap (states (Within at 1 ∷ Kept (at + 1) ∷ calls) after_loss) is_over
+    ∙ ap (λ (l : List ℕ). states (Within at 1 ∷ Kept (at + 1) ∷ calls) l (overwritten at (byte ∷ []) content)) (loses ∙ ap (λ (l : List ℕ). lost ++ l) (sym taken))
+    ∙ undone_within (Kept (at + 1) ∷ calls) at 1 (byte ∷ []) content lost refl (omega (arith, within))
+    ∙ ap (λ (o : Recent). after (wrote at (byte ∷ [])) (states (calls_of o ++ calls) lost content)) (sym just_kept)
+
+-- and what is written behind all that was there
+pub written_behind : (recent : Recent) (calls : List Call) (at : ℕ) (bytes content lost longer : List ℕ) → recent ≡ Nothing → at ≡ length content → longer ≡ content ++ bytes
+    → states (calls_of (Just_wrote at) ++ calls) lost longer ≡ after (wrote (length content) bytes) (states (calls_of recent ++ calls) lost content)
+written_behind recent calls at bytes content lost longer nothing is_end extended =
+    ap (λ (n : ℕ). states (ToEnd n 0 ∷ calls) lost longer) is_end
+    ∙ ap (states (ToEnd (length content) 0 ∷ calls) lost) extended
+    ∙ undone_behind calls bytes content lost
+    ∙ ap (λ (o : Recent). after (wrote (length content) bytes) (states (calls_of o ++ calls) lost content)) (sym nothing)
 
 -- one byte over another, where all was synced: what it came over is all that is set apart
 pub over_keeps : (old_states new_states : List File) (at byte former : ℕ) (content over : List ℕ) (same resumes : ℕ) → HasNewest old_states → IsStored old_states content [] same resumes → same ≡ length content → at < length content

@@ -2,6 +2,8 @@
 use Rattle.std.specs.Prelude.{◌≡◌, ℕ, ◌+◌, ◌-◌, ◌≤◌, Bool, true, false, List, [], ◌∷◌, ◌++◌, length, take, drop, refl}
 use Rattle.iss_disk.specs.File.{File, settled, wrote, shortened, synced, restarted}
 use Rattle.iss_disk.specs.declared.call.Call.{Call}
+use Rattle.iss_disk.specs.declared.call.Recent.{Recent}
+use Rattle.iss_disk.specs.declared.call.Recent.TheVariants.{Nothing, Wrote as Just_wrote, Kept as Just_kept, Opening}
 use Rattle.iss_disk.specs.declared.call.Call.TheVariants.{ToEnd, Within, Cut, Kept, Opened, Synced, Restarted}
 
 -- one state more
@@ -39,6 +41,13 @@ states (Opened at ∷ calls) lost content =
     (after synced (after (wrote (at + 1) (drop (at + 1) closed)) (states calls (all_but 0 front) (with_tail (at + 1) (last_bytes 0 front) closed)))))
 states (Synced ∷ calls) lost content = after synced (states calls lost content)
 states (Restarted at over ∷ calls) lost content = after restarted (states calls (all_but over lost) (with_tail at (last_bytes over lost) content))
+
+-- the calls that are not in the list yet, newest first
+abbrev pub calls_of : Recent → List Call
+calls_of Nothing = []
+calls_of (Just_wrote at) = ToEnd at 0 ∷ []
+calls_of (Just_kept at) = Kept at ∷ []
+calls_of (Opening at kept) = Within at 1 ∷ Kept kept ∷ []
 
 -- the newest state
 abbrev pub newest : List File → File

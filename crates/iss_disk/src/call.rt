@@ -18,3 +18,16 @@ pub enum Call {
     /// A crash left what was synced. From an offset on so many bytes had stood there.
     Restarted { at: usize, over: usize },
 }
+
+/// The last calls on a file, where they may yet become the one note that an entry of a journal is.
+#[derive(Clone, Copy, Debug, PartialEq, Eq)]
+pub enum Recent {
+    /// All calls are in the list.
+    Nothing,
+    /// All that stands from an offset on was written, where the file ended.
+    Wrote { at: usize },
+    /// They were written so, and then it was synced.
+    Kept { at: usize },
+    /// They were kept so from an offset on, and then one byte was written over the one at another.
+    Opening { at: usize, kept: usize },
+}

@@ -1,12 +1,12 @@
 // One file of a memory disk.
 ghost use Rattle.std.specs.Prelude.{◌≡◌, ◌+◌, ◌-◌, ◌<◌, ◌≤◌, ◌++◌, min, max, true, false, List, ℕ, length, take, drop, reverse, vec_len, vec_capacity, IfOk, OnOk, [], ◌∷◌};
 ghost use Rattle.iss_disk.specs.File.{settled, overwritten, wrote, shortened, synced, restarted};
-ghost use Rattle.iss_disk.specs.States.{states, after, newest, is_pending, IsStored};
+ghost use Rattle.iss_disk.specs.States.{states, after, newest, is_pending, calls_of, IsStored};
 ghost use Rattle.iss_disk.specs.declared.call.Call.{Call};
-ghost use Rattle.iss_disk.specs.declared.call.Call.TheVariants.{Within};
+ghost use Rattle.iss_disk.specs.declared.call.Recent.{Recent};
 
 use crate::NoMemory;
-use crate::call::Call;
+use crate::call::{Call, Recent};
 use std::alloc::{AllocError, Global};
 
 /// A file in memory, with the list of the calls on it and what they took away, so that each can be undone.
@@ -21,17 +21,37 @@ pub struct StoredFile {
     resumes: usize,
     // Whether a write or a cut came since.
     pending: bool,
+    // The calls, but for the last ones, which may become one note.
     calls: Vec<Call>,
+    recent: Recent,
     // What the calls took away, one behind the other: what stands there still is noted nowhere else.
     lost: Vec<u8>,
-    ghost stored: { IsStored (states (reverse calls.items) lost.items content.items) content.items behind.items same resumes },
-    ghost waits: { pending ≡ is_pending (reverse calls.items) },
+    ghost stored: { IsStored (states (calls_of recent ++ reverse calls.items) lost.items content.items) content.items behind.items same resumes },
+    ghost waits: { pending ≡ is_pending (calls_of recent ++ reverse calls.items) },
     // A sync, a restart and setting apart what was synced take no memory.
     ghost room_to_sync: { vec_len content ≤ vec_capacity behind },
     ghost room_to_part: { same + vec_len behind + (vec_len content - resumes) ≤ vec_capacity behind },
     ghost room_to_restart: { same + vec_len behind + (vec_len content - resumes) ≤ vec_capacity content },
-    ghost call_to_restart: { pending ≡ true → vec_len calls < vec_capacity calls },
+    ghost call_to_restart: { pending ≡ true → vec_len calls + length (calls_of recent) < vec_capacity calls },
     ghost room_to_lose: { pending ≡ true → vec_len lost + vec_len content ≤ vec_capacity lost },
+}
+
+// Makes room for so many bytes more. Only the bytes that are there are moved, and not the room behind them, as a list by itself would:
+// of this the two lists that need room for a whole file mostly have nothing else.
+fn make_room(list: &mut Vec<u8>, more: usize) -> Result<(), NoMemory>
+    ensures items { list.new.items ≡ list.old.items }
+    ensures room { OnOk result (vec_len list.new + more ≤ vec_capacity list.new) }
+    ensures capacity { vec_capacity list.old ≤ vec_capacity list.new }
+{
+    if more <= list.capacity() - list.len() {
+        return Ok(());
+    }
+    let least = list.len().checked_add(more).ok_or(NoMemory)?;
+    let mut longer = Vec::new(*list.allocator());
+    longer.reserve(least.max(list.capacity().saturating_mul(2)))?;
+    let _ = longer.extend_from_slice(list);
+    *list = longer;
+    Ok(())
 }
 
 // Puts bytes over what is there, from an offset on.
@@ -100,49 +120,46 @@ fn put_back(content: &mut Vec<u8>, same: usize, behind: &[u8])
     let _ = content.extend_from_slice(behind);
 }
 
-// Notes that one byte was written over another and synced: with what was kept right behind it, as an entry of a journal, where that came
-// right before.
-#[inline(always)]
-fn note_opened(calls: &mut Vec<Call>, at: usize)
-    requires { vec_len calls.old + 1 < vec_capacity calls.old }
-    ensures states { (lost content : List ℕ) → states (reverse calls.new.items) lost content ≡ after synced (states (Within at 1 ∷ reverse calls.old.items) lost content) }
-    ensures waits { is_pending (reverse calls.new.items) ≡ false }
-    ensures len { vec_len calls.new ≤ vec_len calls.old + 2 }
+// Puts the last calls into the list.
+fn note_all(calls: &mut Vec<Call>, recent: Recent)
+    requires { vec_len calls.old + length (calls_of recent) ≤ vec_capacity calls.old }
+    ensures states { (lost content : List ℕ) → states (reverse calls.new.items) lost content ≡ states (calls_of recent ++ reverse calls.old.items) lost content }
+    ensures waits { is_pending (reverse calls.new.items) ≡ is_pending (calls_of recent ++ reverse calls.old.items) }
+    ensures len { vec_len calls.new ≡ vec_len calls.old + length (calls_of recent) }
     ensures capacity { vec_capacity calls.old ≤ vec_capacity calls.new }
 {
-    match calls.pop() {
-        Some(Call::Kept { at: behind }) if behind > at && behind - at == 1 => {
-            calls.push_reserved(Call::Opened { at });
-        }
-        Some(call) => {
-            calls.push_reserved(call);
+    match recent {
+        Recent::Nothing => (),
+        Recent::Wrote { at } => calls.push_reserved(Call::ToEnd { at, over: 0 }),
+        Recent::Kept { at } => calls.push_reserved(Call::Kept { at }),
+        Recent::Opening { at, kept } => {
+            calls.push_reserved(Call::Kept { at: kept });
             calls.push_reserved(Call::Within { at, len: 1 });
-            calls.push_reserved(Call::Synced);
-        }
-        None => {
-            calls.push_reserved(Call::Within { at, len: 1 });
-            calls.push_reserved(Call::Synced);
         }
     }
 }
 
-// Notes a sync, with the write before it where one came right before behind all that was there. So an entry of a journal is one note.
+// Notes a sync, and tells the calls that are not in the list behind it. So an entry of a journal is one note.
 #[inline(always)]
-fn note_sync(calls: &mut Vec<Call>)
-    requires { vec_len calls.old < vec_capacity calls.old }
-    ensures states { (lost content : List ℕ) → states (reverse calls.new.items) lost content ≡ after synced (states (reverse calls.old.items) lost content) }
-    ensures waits { is_pending (reverse calls.new.items) ≡ false }
-    ensures len { vec_len calls.new ≤ vec_len calls.old + 1 }
+fn note_sync(calls: &mut Vec<Call>, recent: Recent) -> Recent
+    requires { vec_len calls.old + length (calls_of recent) < vec_capacity calls.old }
+    ensures states { (lost content : List ℕ) →
+        states (calls_of result ++ reverse calls.new.items) lost content ≡ after synced (states (calls_of recent ++ reverse calls.old.items) lost content) }
+    ensures waits { is_pending (calls_of result ++ reverse calls.new.items) ≡ false }
+    ensures len { vec_len calls.new + length (calls_of result) ≤ vec_len calls.old + length (calls_of recent) + 1 }
     ensures capacity { vec_capacity calls.old ≤ vec_capacity calls.new }
 {
-    match calls.pop() {
-        Some(Call::Within { at, len: 1 }) => note_opened(calls, at),
-        Some(Call::ToEnd { at, over: 0 }) => calls.push_reserved(Call::Kept { at }),
-        Some(call) => {
-            calls.push_reserved(call);
-            calls.push_reserved(Call::Synced);
+    match recent {
+        Recent::Wrote { at } => Recent::Kept { at },
+        Recent::Opening { at, kept } if kept > at && kept - at == 1 => {
+            calls.push_reserved(Call::Opened { at });
+            Recent::Nothing
         }
-        None => calls.push_reserved(Call::Synced),
+        _ => {
+            note_all(calls, recent);
+            calls.push_reserved(Call::Synced);
+            Recent::Nothing
+        }
     }
 }
 
@@ -227,6 +244,7 @@ impl StoredFile {
             resumes: 0,
             pending: false,
             calls: Vec::new(alloc),
+            recent: Recent::Nothing,
             lost: Vec::new(alloc),
         })
     }
@@ -238,18 +256,17 @@ impl StoredFile {
         ensures same { history_of self.new ≡ history_of self.old }
     {
         let bytes = bytes as usize;
-        // One more than asked for, since a restart takes no memory either.
-        let calls = (calls as usize).checked_add(1).ok_or(NoMemory)?;
+        // Three more than asked for: for the last calls, and since a restart takes no memory either.
+        let calls = (calls as usize).checked_add(3).ok_or(NoMemory)?;
         self.calls.reserve(calls)?;
         self.content.reserve(bytes)?;
         let wanted = self.content.len().checked_add(bytes).ok_or(NoMemory)?;
-        self.lost.reserve(wanted)?;
-        self.behind
-            .reserve(wanted.saturating_sub(self.behind.len()))?;
-        Ok(())
+        make_room(&mut self.lost, wanted)?;
+        let apart = wanted.saturating_sub(self.behind.len());
+        make_room(&mut self.behind, apart)
     }
 
-    // Writes one byte over another where all is synced, as a gate is opened: no more than that byte is set apart.
+    // Writes one byte over the last one before what was just kept, as a gate is opened: no more than that byte is set apart.
     #[inline(always)]
     fn write_over(&mut self, at: usize, byte: u8)
         requires call { 1 ≤ (room_of self.old).calls }
@@ -257,6 +274,7 @@ impl StoredFile {
         requires within { at < length self.old.content.items }
         requires nothing_apart { self.old.behind.items ≡ [] }
         requires all_synced { self.old.same ≡ length self.old.content.items }
+        requires just_kept { self.old.recent ≡ Recent.Kept (at + 1) }
         ensures states { history_of self.new ≡ after (wrote at (byte ∷ [])) (history_of self.old) }
         ensures room { Takes 1 1 (room_of self.old) (room_of self.new) }
         ensures name { self.new.name.items ≡ self.old.name.items }
@@ -267,7 +285,7 @@ impl StoredFile {
         self.resumes = at + 1;
         self.content[at] = byte;
         self.pending = true;
-        self.calls.push_reserved(Call::Within { at, len: 1 });
+        self.recent = Recent::Opening { at, kept: at + 1 };
         self.lost.push_reserved(former);
     }
 
@@ -278,6 +296,7 @@ impl StoredFile {
         requires bytes { length bytes.now ≤ (room_of self.old).bytes }
         requires nothing_apart { self.old.behind.items ≡ [] }
         requires all_synced { self.old.same ≡ length self.old.content.items }
+        requires all_noted { self.old.recent ≡ Recent.Nothing }
         ensures states { history_of self.new ≡ after (wrote (length self.old.content.items) bytes.now) (history_of self.old) }
         ensures room { Takes 1 (length bytes.now) (room_of self.old) (room_of self.new) }
         ensures name { self.new.name.items ≡ self.old.name.items }
@@ -286,7 +305,7 @@ impl StoredFile {
         let _ = self.content.extend_from_slice(bytes);
         self.resumes = self.content.len();
         self.pending = true;
-        self.calls.push_reserved(Call::ToEnd { at, over: 0 });
+        self.recent = Recent::Wrote { at };
     }
 
     // Writes bytes over what is there, and past the end.
@@ -301,6 +320,8 @@ impl StoredFile {
         ensures name { self.new.name.items ≡ self.old.name.items }
     {
         self.same = part(&self.content, &mut self.behind, self.same, self.resumes, at);
+        note_all(&mut self.calls, self.recent);
+        self.recent = Recent::Nothing;
         let call = take_away(&self.content, &mut self.lost, at, bytes.len());
         overwrite(&mut self.content, at, bytes);
         self.resumes = self.content.len();
@@ -318,9 +339,12 @@ impl StoredFile {
         ensures name { self.new.name.items ≡ self.old.name.items }
     {
         let at_rest = self.behind.is_empty() && self.same == self.content.len();
-        match bytes {
-            _ if at_rest && at == self.same => self.write_behind(bytes),
-            [byte] if at_rest => self.write_over(at, *byte),
+        match (self.recent, bytes) {
+            (Recent::Nothing, _) if at_rest && at == self.same => self.write_behind(bytes),
+            (Recent::Kept { at: kept }, [byte])
+                if at_rest && at < self.same && kept > at && kept - at == 1 => {
+                self.write_over(at, *byte);
+            }
             _ => self.write_all(at, bytes),
         }
     }
@@ -339,6 +363,8 @@ impl StoredFile {
             self.resumes,
             len,
         );
+        note_all(&mut self.calls, self.recent);
+        self.recent = Recent::Nothing;
         let by = self.content.len() - len;
         take_tail(&self.content, &mut self.lost, len);
         self.content.truncate(len);
@@ -358,7 +384,7 @@ impl StoredFile {
         self.same = self.content.len();
         self.resumes = self.same;
         self.pending = false;
-        note_sync(&mut self.calls);
+        self.recent = note_sync(&mut self.calls, self.recent);
     }
 
     /// A crash that leaves what was synced.
@@ -377,6 +403,8 @@ impl StoredFile {
         ensures states { history_of self.new ≡ after restarted (history_of self.old) }
         ensures name { self.new.name.items ≡ self.old.name.items }
     {
+        note_all(&mut self.calls, self.recent);
+        self.recent = Recent::Nothing;
         let at = self.same;
         let over = self.content.len() - at;
         take_tail(&self.content, &mut self.lost, at);
