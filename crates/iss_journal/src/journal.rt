@@ -102,6 +102,7 @@ impl<D: Disk> Journal<D> {
     }
 
     /// Takes the memory that appending an entry of so many bytes needs, in memory and on the disk. Nothing else changes.
+    #[inline(always)]
     pub fn reserve(&mut self, bytes: u64) -> Result<(), NoMemory>
         requires sound { IsSound D.history D.room self.old }
         ensures reserved { OnOk result ((most : ℕ) × (reserved_of self.new ≡ Some most) × (bytes ≤ most)) }
@@ -175,13 +176,44 @@ impl<D: Disk> Journal<D> {
         ensures cause { HasCause (D.faults (disk_of self.old)) (D.faults (disk_of self.new)) (IsErrOf result EndError.Failed) }
         ensures sound { IsSound D.history D.room self.new }
     {
-        self.reserve(entry.len() as u64)?;
-        let left = left_behind(self.reserved, entry.len() as u64);
+        self.append_parts(&[], entry)
+    }
+
+    /// Adds an entry that stands in two parts, one behind the other: as `append` does of the whole.
+    #[inline(always)]
+    pub fn append_parts(&mut self, head: &[u8], body: &[u8]) -> Result<(), EndError>
+        requires sound { IsSound D.history D.room self.old }
+        requires attached { is_attached self.old ≡ true }
+        requires short { length (head.now ++ body.now) ≤ max_entry }
+        ensures entries { OnOk result (entries_of self.new ≡ entries_of self.old ++ (head.now ++ body.now) ∷ []) }
+        ensures err { OnErr result (entries_of self.new ≡ entries_of self.old) }
+        ensures file { OnOk result (IfTold (D.history (disk_of self.new)) (EndsClosed (entries_of self.new))) }
+        ensures attached { OnOk result (is_attached self.new ≡ true) }
+        ensures failed { IsErrOf result EndError.Failed → is_attached self.new ≡ false }
+
+        // A crash at any moment of the call leaves the entries, with the new one or without; once it is Ok, with it.
+        ensures any_moment { LeavesOnly (HoldsWithOrWithout (entries_of self.old) (head.now ++ body.now)) (D.history (disk_of self.old)) (D.history (disk_of self.new)) }
+        ensures durable { OnOk result (IfTold (D.history (disk_of self.new)) (OnlyLeaves (λ bytes. Reads bytes (holds (entries_of self.new))))) }
+
+        // Where it failed, what was synced holds the entries without the new one.
+        ensures kept { IsErrOf result EndError.Failed → IfTold (D.history (disk_of self.new)) (λ file. Reads file.kept (holds (entries_of self.old))) }
+
+        // It is four calls of the device.
+        ensures device { (IsErrOf result EndError.NoMemory → ⊥) → Runs 4 (D.passes (disk_of self.old)) (D.passes (disk_of self.new)) (is_ok result) }
+        ensures no_memory { IsErrOf result EndError.NoMemory → NothingChanged D.history D.passes self.old self.new }
+        ensures ready { (most : ℕ) → reserved_of self.old ≡ Some most → length (head.now ++ body.now) ≤ most → IsErrOf result EndError.NoMemory → ⊥ }
+        ensures others { StaysHere (D.current (disk_of self.old)) (D.current (disk_of self.new)) (D.files (disk_of self.old)) (D.files (disk_of self.new)) }
+        ensures cause { HasCause (D.faults (disk_of self.old)) (D.faults (disk_of self.new)) (IsErrOf result EndError.Failed) }
+        ensures sound { IsSound D.history D.room self.new }
+    {
+        let bytes = (head.len() + body.len()) as u64;
+        self.reserve(bytes)?;
+        let left = left_behind(self.reserved, bytes);
         self.reserved = None;
         self.attached = false;
-        self.entries.stage(entry);
-        keep_entry(&mut self.disk, &self.entries, entry)?;
-        self.entries.commit(entry);
+        self.entries.stage(head, body);
+        keep_entry(&mut self.disk, &self.entries, head, body)?;
+        self.entries.commit(head, body);
         self.attached = true;
         self.reserved = left;
         Ok(())
