@@ -22,7 +22,7 @@ pub struct Journal<D: Disk> {
     entries: Entries,
     attached: bool,
     // The entries for which there is room.
-    reserved: Option<Spare>,
+    reserved: Spare,
 }
 
 impl<D: Disk> Journal<D> {
@@ -45,7 +45,10 @@ impl<D: Disk> Journal<D> {
             disk,
             entries: Entries::new(alloc),
             attached: false,
-            reserved: None,
+            reserved: Spare {
+                entries: 0,
+                below: 0,
+            },
         }
     }
 
@@ -70,7 +73,7 @@ impl<D: Disk> Journal<D> {
         ensures sound { IsSound D.history D.room self.new }
     {
         self.attached = false;
-        self.reserved = None;
+        self.reserved.below = 0;
         // A sync, a cut, a write and a sync.
         self.disk.reserve(4, 1)?;
         self.disk.sync()?;
@@ -115,10 +118,25 @@ impl<D: Disk> Journal<D> {
         ensures passes { D.passes (disk_of self.new) ≡ D.passes (disk_of self.old) }
         ensures sound { IsSound D.history D.room self.new }
     {
-        if let Some(spare) = self.reserved {
-            if bytes <= spare.longest {
-                return Ok(());
-            }
+        self.make_ready(bytes)
+    }
+
+    // As `reserve` does.
+    #[inline(always)]
+    fn make_ready(&mut self, bytes: u64) -> Result<(), NoMemory>
+        requires sound { IsSound D.history D.room self.old }
+        ensures reserved { OnOk result (bytes < self.new.reserved.below) }
+        ensures ready { bytes < self.old.reserved.below → is_ok result ≡ true }
+        ensures entries { entries_of self.new ≡ entries_of self.old }
+        ensures attached { is_attached self.new ≡ is_attached self.old }
+        ensures history { D.history (disk_of self.new) ≡ D.history (disk_of self.old) }
+        ensures same { Stays (D.current (disk_of self.old)) (D.current (disk_of self.new)) (D.files (disk_of self.old)) (D.files (disk_of self.new)) }
+        ensures faults { D.faults (disk_of self.new) ≡ D.faults (disk_of self.old) }
+        ensures passes { D.passes (disk_of self.new) ≡ D.passes (disk_of self.old) }
+        ensures sound { IsSound D.history D.room self.new }
+    {
+        if bytes < self.reserved.below {
+            return Ok(());
         }
         self.make_room(bytes)
     }
@@ -128,7 +146,7 @@ impl<D: Disk> Journal<D> {
     #[inline(never)]
     fn make_room(&mut self, bytes: u64) -> Result<(), NoMemory>
         requires sound { IsSound D.history D.room self.old }
-        ensures reserved { OnOk result ((most : ℕ) × (reserved_of self.new ≡ Some most) × (bytes ≤ most)) }
+        ensures reserved { OnOk result (bytes < self.new.reserved.below) }
         ensures entries { entries_of self.new ≡ entries_of self.old }
         ensures attached { is_attached self.new ≡ is_attached self.old }
         ensures history { D.history (disk_of self.new) ≡ D.history (disk_of self.old) }
@@ -142,10 +160,10 @@ impl<D: Disk> Journal<D> {
         self.entries
             .reserve(SOME_ENTRIES as usize, longest as usize)?;
         self.disk.reserve(4 * SOME_ENTRIES, frames)?;
-        self.reserved = Some(Spare {
+        self.reserved = Spare {
             entries: SOME_ENTRIES,
-            longest,
-        });
+            below: longest + 1,
+        };
         Ok(())
     }
 
@@ -207,9 +225,9 @@ impl<D: Disk> Journal<D> {
         ensures sound { IsSound D.history D.room self.new }
     {
         let bytes = (head.len() + body.len()) as u64;
-        self.reserve(bytes)?;
+        self.make_ready(bytes)?;
         let left = left_behind(self.reserved, bytes);
-        self.reserved = None;
+        self.reserved.below = 0;
         self.attached = false;
         self.entries.stage(head, body);
         keep_entry(&mut self.disk, &self.entries, head, body)?;
@@ -249,7 +267,7 @@ impl<D: Fused> Journal<D> {
         ensures sound { IsSound D.history D.room self.new }
     {
         self.disk.restart();
-        self.reserved = None;
+        self.reserved.below = 0;
         self.attached = false;
     }
 }
