@@ -1,12 +1,12 @@
 -- A file that is read and brought to rest reads as before at each moment.
-use Rattle.std.proofs.Common.{◌≡◌, inl, inr, ℕ, ◌+◌, ◌<◌, ◌≤◌, true, false, List, [], ◌∷◌, ◌++◌, length, take, refl, sym, ◌∙◌, ap, subst, arith, append_assoc, vec_len, vec_capacity}
+use Rattle.std.proofs.Common.{◌≡◌, inl, inr, ℕ, zero, suc, Some, Result, Ok, Err, OnOk, ◌+◌, ◌<◌, ◌≤◌, true, false, List, [], ◌∷◌, ◌++◌, length, take, refl, sym, ◌∙◌, ap, subst, arith, append_assoc, vec_len, vec_capacity}
 use Rattle.iss_disk.specs.File.{File, Image, settled, synced}
 use Rattle.iss_disk.specs.Calls.{IfTold, EachState, Moves, Stays, Room, Takes}
 use Rattle.iss_journal.specs.Frames.{frames, ClosesAfter, Reading, Reads, holds}
 use Rattle.iss_journal.specs.Promises.{OnlyLeaves, LeavesOnly, LeavesReading, LosesNothing, HoldsFirst, HoldsWithOrWithout, RestsOn, ComesToRest}
 use Rattle.iss_journal.proofs.Crash.{only_settled, reads_closed}
 use Rattle.iss_journal.specs.EntryViews.{entries_in}
-use Rattle.iss_journal.specs.Sound.{HasRoom}
+use Rattle.iss_journal.specs.Sound.{HasRoom, longest_of}
 use Rattle.iss_journal.specs.declared.entries.Entries.{Entries}
 use Rattle.iss_journal.specs.declared.spare.Spare.{Spare}
 use Rattle.iss_journal.proofs.Grammar.{one_reading}
@@ -106,6 +106,15 @@ room_more spare old new room now has same no_less as_many gates takes = record {
   calls = omega (arith, has.calls, takes.calls_left);
   on_disk = omega (arith, has.on_disk, takes.bytes_left);
 }
+
+-- room for all that is below a length is room for a longest entry
+pub longest_below : (below bytes : ℕ) → bytes < below → (most : ℕ) × (longest_of below ≡ Some most) × (bytes ≤ most)
+longest_below zero bytes lt = absurd (omega (arith, lt))
+longest_below (suc most) bytes lt = (most, refl, omega (arith, lt))
+
+pub so_where_ok : {T E : Type 0} (r : Result T E) (P Q : Type 0) → OnOk r P → (P → Q) → OnOk r Q
+so_where_ok (Ok x) P Q is so = so is
+so_where_ok (Err e) P Q is so = is
 
 pub takes_none : (room : Room) → Takes 0 0 room room
 takes_none room = record { calls_left = omega arith; bytes_left = omega arith }

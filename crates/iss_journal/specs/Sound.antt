@@ -1,5 +1,5 @@
 -- What a journal shows, and what is true of each.
-use Rattle.std.specs.Prelude.{◌≡◌, ℕ, ◌+◌, ◌*◌, ◌≤◌, Bool, true, Option, None, Some, List, length, vec_len, vec_capacity}
+use Rattle.std.specs.Prelude.{◌≡◌, ℕ, zero, suc, ◌+◌, ◌*◌, ◌≤◌, ◌<◌, Bool, true, Option, None, Some, List, length, vec_len, vec_capacity}
 use Rattle.iss_disk.specs.File.{File}
 use Rattle.iss_disk.specs.Calls.{IfTold, Room, Passes}
 use Rattle.iss_journal.specs.Frames.{frames}
@@ -19,27 +19,28 @@ entries_of journal = entries_in journal.entries
 abbrev pub is_attached : {D : Type 0} → Journal D → Bool
 is_attached journal = journal.attached
 
--- the longest entry for which there is room, where there is
-abbrev pub longest_of : Option Spare → Option ℕ
-longest_of None = None
-longest_of (Some spare) = Some spare.longest
+-- the longest entry that is below this length, where there is one
+abbrev pub longest_of : ℕ → Option ℕ
+longest_of zero = None
+longest_of (suc most) = Some most
 
+-- the longest entry for which there is room, where there is
 abbrev pub reserved_of : {D : Type 0} → Journal D → Option ℕ
-reserved_of journal = longest_of journal.reserved
+reserved_of journal = longest_of journal.reserved.below
 
 -- room for some entries, in memory and on the disk
 pub record HasRoom (spare : Spare) (entries : Entries) (room : Room) : Type 0 where
   pub some : 1 ≤ spare.entries
-  pub in_memory : length (frames (entries_in entries)) + spare.longest + 6 ≤ vec_capacity entries.bytes
+  pub in_memory : length (frames (entries_in entries)) + spare.below + 5 ≤ vec_capacity entries.bytes
   pub for_gates : vec_len entries.gates + spare.entries ≤ vec_capacity entries.gates
   pub calls : 4 * spare.entries ≤ room.calls
-  pub on_disk : spare.longest + 6 ≤ room.bytes
+  pub on_disk : spare.below + 5 ≤ room.bytes
 
 -- While it is attached, its file is the frames of its entries and a closed gate, all of it synced; and the room that it
 -- holds ready is there.
 pub record IsSound {D : Type 0} (history : D → List File) (room : D → Room) (journal : Journal D) : Type 0 where
   pub rests : journal.attached ≡ true → IfTold (history journal.disk) (RestsOn (entries_in journal.entries))
-  pub room_kept : (spare : Spare) → journal.reserved ≡ Some spare → HasRoom spare journal.entries (room journal.disk)
+  pub room_kept : 0 < journal.reserved.below → HasRoom journal.reserved journal.entries (room journal.disk)
 
 -- the disk's file, the calls to come and whether the journal is attached are as before
 pub record NothingChanged {D : Type 0} (history : D → List File) (passes : D → Passes) (old new : Journal D) : Type 0 where

@@ -26,17 +26,40 @@ pub struct Entries {
     ghost book: { IsBook bytes.items gates.items last } by { Prim.hlevel (short_prop, props) },
 }
 
-// Adds the frame of an entry, with a closed gate behind it.
-fn put_frame(bytes: &mut Vec<u8>, entry: &[u8])
-    requires short { length entry.now ≤ max_entry }
-    requires room { vec_len bytes.old + length entry.now + 6 ≤ vec_capacity bytes.old }
-    ensures items { bytes.new.items ≡ bytes.old.items ++ (frame entry.now ++ 0 ∷ []) }
+// Adds some bytes for which there is room.
+#[inline(always)]
+fn put_some(bytes: &mut Vec<u8>, some: &[u8])
+    requires room { vec_len bytes.old + length some.now ≤ vec_capacity bytes.old }
+    ensures items { bytes.new.items ≡ bytes.old.items ++ some.now }
     ensures no_less { vec_capacity bytes.old ≤ vec_capacity bytes.new }
 {
-    let [a, b, c, d] = (entry.len() as u32).to_be_bytes();
-    let _ = bytes.extend_from_slice(&[OPEN, a, b, c, d]);
-    let _ = bytes.extend_from_slice(entry);
-    let _ = bytes.push(CLOSED);
+    match some {
+        [] => (),
+        [byte] => bytes.push_reserved(*byte),
+        _ => {
+            let _ = bytes.extend_from_slice(some);
+        }
+    }
+}
+
+// Adds the frame of an entry of two parts, with a closed gate behind it.
+#[inline(always)]
+fn put_frame(bytes: &mut Vec<u8>, head: &[u8], body: &[u8])
+    requires short { length (head.now ++ body.now) ≤ max_entry }
+    requires room { vec_len bytes.old + length (head.now ++ body.now) + 6 ≤ vec_capacity bytes.old }
+    ensures items { bytes.new.items ≡ bytes.old.items ++ (frame (head.now ++ body.now) ++ 0 ∷ []) }
+    ensures no_less { vec_capacity bytes.old ≤ vec_capacity bytes.new }
+{
+    let len = head.len() + body.len();
+    let [a, b, c, d] = (len as u32).to_be_bytes();
+    bytes.push_reserved(OPEN);
+    bytes.push_reserved(a);
+    bytes.push_reserved(b);
+    bytes.push_reserved(c);
+    bytes.push_reserved(d);
+    put_some(bytes, head);
+    put_some(bytes, body);
+    bytes.push_reserved(CLOSED);
 }
 
 impl Entries {
@@ -132,18 +155,19 @@ impl Entries {
         self.gates.reserve(entries)
     }
 
-    // Puts an entry behind the last gate, with its length before it and a closed gate behind it.
-    pub(crate) fn stage(&mut self, entry: &[u8])
-        requires short { length entry.now ≤ max_entry }
-        requires room { length (frames (entries_in self.old)) + length entry.now + 6 ≤ vec_capacity self.old.bytes }
+    // Puts an entry of two parts behind the last gate, with its length before it and a closed gate behind it.
+    #[inline(always)]
+    pub(crate) fn stage(&mut self, head: &[u8], body: &[u8])
+        requires short { length (head.now ++ body.now) ≤ max_entry }
+        requires room { length (frames (entries_in self.old)) + length (head.now ++ body.now) + 6 ≤ vec_capacity self.old.bytes }
         requires gate { vec_len self.old.gates < vec_capacity self.old.gates }
         ensures entries { entries_in self.new ≡ entries_in self.old }
-        ensures bytes { self.new.bytes.items ≡ frames (entries_in self.old) ++ (frame entry.now ++ 0 ∷ []) }
+        ensures bytes { self.new.bytes.items ≡ frames (entries_in self.old) ++ (frame (head.now ++ body.now) ++ 0 ∷ []) }
         ensures no_less { vec_capacity self.old.bytes ≤ vec_capacity self.new.bytes }
         ensures gates { self.new.gates ≡ self.old.gates }
     {
         self.bytes.truncate(self.last);
-        put_frame(&mut self.bytes, entry);
+        put_frame(&mut self.bytes, head, body);
     }
 
     // What was staged, behind the gate.
@@ -155,16 +179,17 @@ impl Entries {
     }
 
     // The entry that was staged is the last one now.
-    pub(crate) fn commit(&mut self, entry: &[u8])
-        requires short { length entry.now ≤ max_entry }
-        requires bytes { self.old.bytes.items ≡ frames (entries_in self.old) ++ (frame entry.now ++ 0 ∷ []) }
+    #[inline(always)]
+    pub(crate) fn commit(&mut self, head: &[u8], body: &[u8])
+        requires short { length (head.now ++ body.now) ≤ max_entry }
+        requires bytes { self.old.bytes.items ≡ frames (entries_in self.old) ++ (frame (head.now ++ body.now) ++ 0 ∷ []) }
         requires gate { vec_len self.old.gates < vec_capacity self.old.gates }
-        ensures entries { entries_in self.new ≡ entries_in self.old ++ entry.now ∷ [] }
+        ensures entries { entries_in self.new ≡ entries_in self.old ++ (head.now ++ body.now) ∷ [] }
         ensures bytes { self.new.bytes ≡ self.old.bytes }
         ensures gate { vec_len self.new.gates ≡ vec_len self.old.gates + 1 }
         ensures no_less { vec_capacity self.old.gates ≤ vec_capacity self.new.gates }
     {
         self.gates.push_reserved(self.last as u64);
-        self.last += 5 + entry.len();
+        self.last += 5 + (head.len() + body.len());
     }
 }

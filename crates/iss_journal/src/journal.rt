@@ -22,7 +22,7 @@ pub struct Journal<D: Disk> {
     entries: Entries,
     attached: bool,
     // The entries for which there is room.
-    reserved: Option<Spare>,
+    reserved: Spare,
 }
 
 impl<D: Disk> Journal<D> {
@@ -45,7 +45,10 @@ impl<D: Disk> Journal<D> {
             disk,
             entries: Entries::new(alloc),
             attached: false,
-            reserved: None,
+            reserved: Spare {
+                entries: 0,
+                below: 0,
+            },
         }
     }
 
@@ -70,7 +73,7 @@ impl<D: Disk> Journal<D> {
         ensures sound { IsSound D.history D.room self.new }
     {
         self.attached = false;
-        self.reserved = None;
+        self.reserved.below = 0;
         // A sync, a cut, a write and a sync.
         self.disk.reserve(4, 1)?;
         self.disk.sync()?;
@@ -102,6 +105,7 @@ impl<D: Disk> Journal<D> {
     }
 
     /// Takes the memory that appending an entry of so many bytes needs, in memory and on the disk. Nothing else changes.
+    #[inline(always)]
     pub fn reserve(&mut self, bytes: u64) -> Result<(), NoMemory>
         requires sound { IsSound D.history D.room self.old }
         ensures reserved { OnOk result ((most : ℕ) × (reserved_of self.new ≡ Some most) × (bytes ≤ most)) }
@@ -114,10 +118,25 @@ impl<D: Disk> Journal<D> {
         ensures passes { D.passes (disk_of self.new) ≡ D.passes (disk_of self.old) }
         ensures sound { IsSound D.history D.room self.new }
     {
-        if let Some(spare) = self.reserved {
-            if bytes <= spare.longest {
-                return Ok(());
-            }
+        self.make_ready(bytes)
+    }
+
+    // As `reserve` does.
+    #[inline(always)]
+    fn make_ready(&mut self, bytes: u64) -> Result<(), NoMemory>
+        requires sound { IsSound D.history D.room self.old }
+        ensures reserved { OnOk result (bytes < self.new.reserved.below) }
+        ensures ready { bytes < self.old.reserved.below → is_ok result ≡ true }
+        ensures entries { entries_of self.new ≡ entries_of self.old }
+        ensures attached { is_attached self.new ≡ is_attached self.old }
+        ensures history { D.history (disk_of self.new) ≡ D.history (disk_of self.old) }
+        ensures same { Stays (D.current (disk_of self.old)) (D.current (disk_of self.new)) (D.files (disk_of self.old)) (D.files (disk_of self.new)) }
+        ensures faults { D.faults (disk_of self.new) ≡ D.faults (disk_of self.old) }
+        ensures passes { D.passes (disk_of self.new) ≡ D.passes (disk_of self.old) }
+        ensures sound { IsSound D.history D.room self.new }
+    {
+        if bytes < self.reserved.below {
+            return Ok(());
         }
         self.make_room(bytes)
     }
@@ -127,7 +146,7 @@ impl<D: Disk> Journal<D> {
     #[inline(never)]
     fn make_room(&mut self, bytes: u64) -> Result<(), NoMemory>
         requires sound { IsSound D.history D.room self.old }
-        ensures reserved { OnOk result ((most : ℕ) × (reserved_of self.new ≡ Some most) × (bytes ≤ most)) }
+        ensures reserved { OnOk result (bytes < self.new.reserved.below) }
         ensures entries { entries_of self.new ≡ entries_of self.old }
         ensures attached { is_attached self.new ≡ is_attached self.old }
         ensures history { D.history (disk_of self.new) ≡ D.history (disk_of self.old) }
@@ -141,10 +160,10 @@ impl<D: Disk> Journal<D> {
         self.entries
             .reserve(SOME_ENTRIES as usize, longest as usize)?;
         self.disk.reserve(4 * SOME_ENTRIES, frames)?;
-        self.reserved = Some(Spare {
+        self.reserved = Spare {
             entries: SOME_ENTRIES,
-            longest,
-        });
+            below: longest + 1,
+        };
         Ok(())
     }
 
@@ -175,13 +194,44 @@ impl<D: Disk> Journal<D> {
         ensures cause { HasCause (D.faults (disk_of self.old)) (D.faults (disk_of self.new)) (IsErrOf result EndError.Failed) }
         ensures sound { IsSound D.history D.room self.new }
     {
-        self.reserve(entry.len() as u64)?;
-        let left = left_behind(self.reserved, entry.len() as u64);
-        self.reserved = None;
+        self.append_parts(&[], entry)
+    }
+
+    /// Adds an entry that stands in two parts, one behind the other: as `append` does of the whole.
+    #[inline(always)]
+    pub fn append_parts(&mut self, head: &[u8], body: &[u8]) -> Result<(), EndError>
+        requires sound { IsSound D.history D.room self.old }
+        requires attached { is_attached self.old ≡ true }
+        requires short { length (head.now ++ body.now) ≤ max_entry }
+        ensures entries { OnOk result (entries_of self.new ≡ entries_of self.old ++ (head.now ++ body.now) ∷ []) }
+        ensures err { OnErr result (entries_of self.new ≡ entries_of self.old) }
+        ensures file { OnOk result (IfTold (D.history (disk_of self.new)) (EndsClosed (entries_of self.new))) }
+        ensures attached { OnOk result (is_attached self.new ≡ true) }
+        ensures failed { IsErrOf result EndError.Failed → is_attached self.new ≡ false }
+
+        // A crash at any moment of the call leaves the entries, with the new one or without; once it is Ok, with it.
+        ensures any_moment { LeavesOnly (HoldsWithOrWithout (entries_of self.old) (head.now ++ body.now)) (D.history (disk_of self.old)) (D.history (disk_of self.new)) }
+        ensures durable { OnOk result (IfTold (D.history (disk_of self.new)) (OnlyLeaves (λ bytes. Reads bytes (holds (entries_of self.new))))) }
+
+        // Where it failed, what was synced holds the entries without the new one.
+        ensures kept { IsErrOf result EndError.Failed → IfTold (D.history (disk_of self.new)) (λ file. Reads file.kept (holds (entries_of self.old))) }
+
+        // It is four calls of the device.
+        ensures device { (IsErrOf result EndError.NoMemory → ⊥) → Runs 4 (D.passes (disk_of self.old)) (D.passes (disk_of self.new)) (is_ok result) }
+        ensures no_memory { IsErrOf result EndError.NoMemory → NothingChanged D.history D.passes self.old self.new }
+        ensures ready { (most : ℕ) → reserved_of self.old ≡ Some most → length (head.now ++ body.now) ≤ most → IsErrOf result EndError.NoMemory → ⊥ }
+        ensures others { StaysHere (D.current (disk_of self.old)) (D.current (disk_of self.new)) (D.files (disk_of self.old)) (D.files (disk_of self.new)) }
+        ensures cause { HasCause (D.faults (disk_of self.old)) (D.faults (disk_of self.new)) (IsErrOf result EndError.Failed) }
+        ensures sound { IsSound D.history D.room self.new }
+    {
+        let bytes = (head.len() + body.len()) as u64;
+        self.make_ready(bytes)?;
+        let left = left_behind(self.reserved, bytes);
+        self.reserved.below = 0;
         self.attached = false;
-        self.entries.stage(entry);
-        keep_entry(&mut self.disk, &self.entries, entry)?;
-        self.entries.commit(entry);
+        self.entries.stage(head, body);
+        keep_entry(&mut self.disk, &self.entries, head, body)?;
+        self.entries.commit(head, body);
         self.attached = true;
         self.reserved = left;
         Ok(())
@@ -217,7 +267,7 @@ impl<D: Fused> Journal<D> {
         ensures sound { IsSound D.history D.room self.new }
     {
         self.disk.restart();
-        self.reserved = None;
+        self.reserved.below = 0;
         self.attached = false;
     }
 }

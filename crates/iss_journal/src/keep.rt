@@ -8,25 +8,27 @@ ghost use Rattle.iss_journal.specs.EntryViews.{entries_in};
 use crate::entries::{Entries, OPEN};
 use iss_disk::{Disk, Failed};
 
-/// Writes a staged entry behind the last gate, which is closed and stays so until the entry is on the disk; only then
-/// it is opened.
+/// Writes a staged entry of two parts behind the last gate, which is closed and stays so until the entry is on the disk;
+/// only then it is opened.
+#[inline(always)]
 pub(crate) fn keep_entry<D: Disk>(
     disk: &mut D,
     entries: &Entries,
-    entry: &[u8],
+    head: &[u8],
+    body: &[u8],
 ) -> Result<(), Failed>
-    requires short { length entry.now ≤ max_entry }
-    requires staged { entries.now.bytes.items ≡ frames (entries_in entries.now) ++ (frame entry.now ++ 0 ∷ []) }
+    requires short { length (head.now ++ body.now) ≤ max_entry }
+    requires staged { entries.now.bytes.items ≡ frames (entries_in entries.now) ++ (frame (head.now ++ body.now) ++ 0 ∷ []) }
     requires calls { 4 ≤ (D.room disk.old).calls }
-    requires bytes { length entry.now + 6 ≤ (D.room disk.old).bytes }
+    requires bytes { length (head.now ++ body.now) + 6 ≤ (D.room disk.old).bytes }
     requires rests { IfTold (D.history disk.old) (RestsOn (entries_in entries.now)) }
 
     // A crash at any moment leaves the entries, with the new one or without.
-    ensures any_moment { LeavesOnly (HoldsWithOrWithout (entries_in entries.now) entry.now) (D.history disk.old) (D.history disk.new) }
-    ensures rests { OnOk result (IfTold (D.history disk.new) (RestsOn (entries_in entries.now ++ entry.now ∷ []))) }
-    ensures file { OnOk result (IfTold (D.history disk.new) (EndsClosed (entries_in entries.now ++ entry.now ∷ []))) }
+    ensures any_moment { LeavesOnly (HoldsWithOrWithout (entries_in entries.now) (head.now ++ body.now)) (D.history disk.old) (D.history disk.new) }
+    ensures rests { OnOk result (IfTold (D.history disk.new) (RestsOn (entries_in entries.now ++ (head.now ++ body.now) ∷ []))) }
+    ensures file { OnOk result (IfTold (D.history disk.new) (EndsClosed (entries_in entries.now ++ (head.now ++ body.now) ∷ []))) }
     ensures kept { OnErr result (IfTold (D.history disk.new) (λ file. Reads file.kept (holds (entries_in entries.now)))) }
-    ensures room { OnOk result (Takes 4 (length entry.now + 6) (D.room disk.old) (D.room disk.new)) }
+    ensures room { OnOk result (Takes 4 (length (head.now ++ body.now) + 6) (D.room disk.old) (D.room disk.new)) }
     ensures others { StaysHere (D.current disk.old) (D.current disk.new) (D.files disk.old) (D.files disk.new) }
     ensures cause { HasCause (D.faults disk.old) (D.faults disk.new) (IsErr result) }
     ensures device { Runs 4 (D.passes disk.old) (D.passes disk.new) (is_ok result) }

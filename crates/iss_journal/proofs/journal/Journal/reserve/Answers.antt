@@ -1,6 +1,9 @@
-use Rattle.std.proofs.Common.{ap}
-use Rattle.iss_journal.specs.Sound.{longest_of}
+use Rattle.std.proofs.Common.{◌≡◌, ◌≤◌, ◌<◌, ℕ, Some}
+use Rattle.iss_journal.specs.Sound.{reserved_of}
+use Rattle.iss_journal.proofs.Reading.{longest_below, so_where_ok}
 use Rattle.iss_journal.proofs.journal.Journal.reserve.Goals as goal
 
-pub returns-then-bytes-spare-clause-reserved : goal.returns-then-bytes-spare-clause-reserved
-returns-then-bytes-spare-clause-reserved g c = (c.in-Some.spare.longest, ap longest_of c.in-Some.is, c.if-bytes-spare.true)
+pub returns-clause-reserved : goal.returns-clause-reserved
+returns-clause-reserved g c =
+    let now = c.make_ready.new.self in
+    so_where_ok c.make_ready.result (c.args.bytes < now.reserved.below) ((most : ℕ) × (reserved_of now ≡ Some most) × (c.args.bytes ≤ most)) c.make_ready.ensures.reserved (longest_below now.reserved.below c.args.bytes)
