@@ -1,5 +1,5 @@
 -- What a step leaves of a node, and what its entry leaves behind it.
-use Rattle.std.proofs.Common.{◌≡◌, ℕ, ◌≤◌, List, length, take, refl, sym, ap, ◌∙◌, subst}
+use Rattle.std.proofs.Common.{◌≡◌, ℕ, ◌≤◌, length, take, refl, sym, ap, ◌∙◌, subst}
 use Rattle.iss_journal.specs.Frames.{max_entry}
 use Rattle.iss_log.specs.LogState.{GoesOn}
 use Rattle.iss_model.specs.Node.{Core}
@@ -35,10 +35,10 @@ module _ {M Msg : Type 0} (m : Module Msg) (stands : Relation M Msg) (event : No
     (good : IsSetupOf m old.parts.setup) (core : (c : Core Msg) × Stands m stands old c) (setup : taken.parts.setup ≡ old.parts.setup) (me : taken.parts.me ≡ old.parts.me)
     (answer : Answers m stands event old taken (Node_takes outcome)) where
   -- its entry fits into a journal
-  pub short : (entry : List ℕ) → entry ≡ spell_event event → length entry ≤ max_entry
-  short entry is =
+  pub short : (copy : NodeEvent) → copy ≡ event → length (spell_event copy) ≤ max_entry
+  short copy is =
       let a = answer core.0 core.1 in
-      subst (λ (e : List ℕ). length e ≤ max_entry) (sym is) (taken-short old.parts.setup m good old.parts.me.0 core.0 event a.turn a.step_is)
+      subst (λ (e : NodeEvent). length (spell_event e) ≤ max_entry) (sym is) (taken-short old.parts.setup m good old.parts.me.0 core.0 event a.turn a.step_is)
 
   grown : GoesOn old.parts.log.entries taken.parts.log.entries
   grown =

@@ -1,73 +1,41 @@
 //! The events of a node as entries of its journal. `specs/Entries.antt` has the table.
-ghost use Rattle.std.specs.Prelude.{◌≡◌, ◌↔◌, [], ◌∷◌, ℕ, List, Some, IfOk, OnOk};
+ghost use Rattle.std.specs.Prelude.{◌≡◌, ◌↔◌, ◌∷◌, ℕ, List, Some, IfOk};
 ghost use Rattle.iss_causes.specs.declared.causes.NodeEvent.{NodeEvent};
-ghost use Rattle.iss_keep.specs.Entries.{IsEntryOf, ask_in, event_in, node_in, packet_entry, propose_in, spell_event, timeout_in};
+ghost use Rattle.iss_keep.specs.Entries.{IsEntryOf, ask_in, event_in, node_in, propose_in, spell_event, timeout_in};
 
 use iss_causes::NodeEvent;
 use iss_request::{Bytes, NoMemory, NodeId};
 use std::alloc::Global;
 
-const PACKET: u8 = 1;
+pub(crate) const PACKET: u8 = 1;
 
-const PROPOSE: u8 = 2;
+pub(crate) const PROPOSE: u8 = 2;
 
-const TIMEOUT: u8 = 3;
+pub(crate) const TIMEOUT: u8 = 3;
 
-const ASK: u8 = 4;
+pub(crate) const ASK: u8 = 4;
 
-// Writes the entry of a packet.
-fn put_packet(entry: &mut Vec<u8>, bytes: &[u8]) -> Result<(), NoMemory>
-    ensures { OnOk result (entry.new.items ≡ packet_entry bytes.now) }
+// The entry of this kind with these bytes behind it.
+fn entry_with(alloc: Global, kind: u8, bytes: &[u8]) -> Result<Vec<u8>, NoMemory>
+    ensures { IfOk result (λ entry. entry.items ≡ kind ∷ bytes.now) }
 {
-    entry.clear();
+    let mut entry = Vec::new(alloc);
     entry.reserve(bytes.len() + 1)?;
-    entry.push(PACKET)?;
-    entry.extend_from_slice(bytes)?;
-    Ok(())
-}
-
-// Writes the entry of an event that names no node.
-#[inline(always)]
-fn put_one(entry: &mut Vec<u8>, kind: u8) -> Result<(), NoMemory>
-    ensures { OnOk result (entry.new.items ≡ kind ∷ []) }
-{
-    entry.clear();
     entry.push(kind)?;
-    Ok(())
-}
-
-// Writes the entry of an event that names one.
-#[inline(always)]
-fn put_two(entry: &mut Vec<u8>, kind: u8, node: NodeId) -> Result<(), NoMemory>
-    ensures { OnOk result (entry.new.items ≡ kind ∷ node.0 ∷ []) }
-{
-    entry.clear();
-    entry.reserve(2)?;
-    entry.push_reserved(kind);
-    entry.push_reserved(node.0);
-    Ok(())
-}
-
-/// Writes the entry of an event over what stood there: so events in a row take memory only where one is longer than all before.
-#[inline(always)]
-pub(crate) fn put_entry(entry: &mut Vec<u8>, event: &NodeEvent) -> Result<(), NoMemory>
-    ensures { OnOk result (entry.new.items ≡ spell_event event.now) }
-{
-    match event {
-        NodeEvent::Packet(bytes) => put_packet(entry, bytes.as_slice()),
-        NodeEvent::Propose => put_one(entry, PROPOSE),
-        NodeEvent::Timeout(leader) => put_two(entry, TIMEOUT, *leader),
-        NodeEvent::AskFrom(peer) => put_two(entry, ASK, *peer),
-    }
+    entry.extend_from_slice(bytes)?;
+    Ok(entry)
 }
 
 /// The entry of an event.
 pub fn encode_entry(alloc: Global, event: &NodeEvent) -> Result<Vec<u8>, NoMemory>
     ensures { IfOk result (λ entry. entry.items ≡ spell_event event.now) }
 {
-    let mut entry = Vec::new(alloc);
-    put_entry(&mut entry, event)?;
-    Ok(entry)
+    match event {
+        NodeEvent::Packet(bytes) => entry_with(alloc, PACKET, bytes.as_slice()),
+        NodeEvent::Propose => entry_with(alloc, PROPOSE, &[]),
+        NodeEvent::Timeout(leader) => entry_with(alloc, TIMEOUT, &[leader.0]),
+        NodeEvent::AskFrom(peer) => entry_with(alloc, ASK, &[peer.0]),
+    }
 }
 
 // What stands behind the first byte of a proposal: nothing.

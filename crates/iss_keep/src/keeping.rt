@@ -1,7 +1,9 @@
 // One event of a node whose journal is attached: room for its entry, its step, and its entry.
-ghost use Rattle.std.specs.Prelude.{◌≡◌, ◌≤◌, false, true, length, OnOk};
-ghost use Rattle.iss_journal.specs.Frames.{max_entry};
-ghost use Rattle.iss_journal.specs.Sound.{IsSound, disk_of, entries_of, is_attached};
+ghost use Rattle.std.specs.Prelude.{◌≡◌, ◌≤◌, ◌++◌, ◌∷◌, [], false, true, length, is_ok, IfOk, IsErrOf, OnErr, OnOk};
+ghost use Rattle.iss_disk.specs.Calls.{HasCause, IfTold, Runs, StaysHere};
+ghost use Rattle.iss_journal.specs.Frames.{Reads, holds, max_entry};
+ghost use Rattle.iss_journal.specs.Promises.{HoldsWithOrWithout, LeavesOnly, OnlyLeaves};
+ghost use Rattle.iss_journal.specs.Sound.{IsSound, NothingChanged, disk_of, entries_of, is_attached};
 ghost use Rattle.iss_keep.specs.Entries.{spell_event};
 ghost use Rattle.iss_keep.specs.Keeping.{HasEnded, HasStepped, answer_with};
 ghost use Rattle.iss_keep.specs.Steps.{IsWritten, makes_stale, sight};
@@ -11,36 +13,92 @@ ghost use Rattle.iss_node.specs.State.{Stands};
 ghost use Rattle.iss_node.specs.declared.answers.Outcome.{Outcome};
 
 use crate::answers::Answer;
-use crate::entries::put_entry;
+use crate::entries::{ASK, PACKET, PROPOSE, TIMEOUT};
 use iss_causes::NodeEvent;
 use iss_disk::{Disk, EndError};
 use iss_journal::Journal;
 use iss_node::{Answer as NodeAnswer, Node, Outcome};
-use iss_request::Epoch;
+use iss_request::{Epoch, NoMemory};
 use iss_sb::Sequenced;
 use std::alloc::Global;
 
+// The event once more. Of a packet whose copies share its bytes none are copied.
+#[inline(always)]
+fn copy_event(event: &NodeEvent) -> Result<NodeEvent, NoMemory>
+    ensures { IfOk result (λ copy. copy ≡ event.now) }
+{
+    match event {
+        NodeEvent::Packet(bytes) => Ok(NodeEvent::Packet(bytes.copy()?)),
+        NodeEvent::Propose => Ok(NodeEvent::Propose),
+        NodeEvent::Timeout(leader) => Ok(NodeEvent::Timeout(*leader)),
+        NodeEvent::AskFrom(peer) => Ok(NodeEvent::AskFrom(*peer)),
+    }
+}
+
+// How long the entry of an event is.
+#[inline(always)]
+fn entry_len(event: &NodeEvent) -> u64
+    ensures { result ≡ length (spell_event event.now) }
+{
+    match event {
+        NodeEvent::Packet(bytes) => bytes.as_slice().len() as u64 + 1,
+        NodeEvent::Propose => 1,
+        NodeEvent::Timeout(_) => 2,
+        NodeEvent::AskFrom(_) => 2,
+    }
+}
+
+// Appends the entry of an event, which is its kind and its bytes.
+#[inline(always)]
+fn append_event<D: Disk>(journal: &mut Journal<D>, event: &NodeEvent) -> Result<(), EndError>
+    requires sound { IsSound D.history D.room journal.old }
+    requires attached { is_attached journal.old ≡ true }
+    requires short { length (spell_event event.now) ≤ max_entry }
+    ensures entries { OnOk result (entries_of journal.new ≡ entries_of journal.old ++ spell_event event.now ∷ []) }
+    ensures err { OnErr result (entries_of journal.new ≡ entries_of journal.old) }
+    ensures attached { OnOk result (is_attached journal.new ≡ true) }
+    ensures any_moment { LeavesOnly (HoldsWithOrWithout (entries_of journal.old) (spell_event event.now))
+        (D.history (disk_of journal.old)) (D.history (disk_of journal.new)) }
+    ensures durable { OnOk result (IfTold (D.history (disk_of journal.new)) (OnlyLeaves (λ bytes. Reads bytes (holds (entries_of journal.new))))) }
+    ensures kept { IsErrOf result EndError.Failed → IfTold (D.history (disk_of journal.new)) (λ file. Reads file.kept (holds (entries_of journal.old))) }
+    ensures device { (IsErrOf result EndError.NoMemory → ⊥) →
+        Runs 4 (D.passes (disk_of journal.old)) (D.passes (disk_of journal.new)) (is_ok result) }
+    ensures no_memory { IsErrOf result EndError.NoMemory → NothingChanged D.history D.passes journal.old journal.new }
+    ensures others { StaysHere (D.current (disk_of journal.old)) (D.current (disk_of journal.new))
+        (D.files (disk_of journal.old)) (D.files (disk_of journal.new)) }
+    ensures cause { HasCause (D.faults (disk_of journal.old)) (D.faults (disk_of journal.new)) (IsErrOf result EndError.Failed) }
+    ensures sound { IsSound D.history D.room journal.new }
+{
+    match event {
+        NodeEvent::Packet(bytes) => journal.append_parts(&[PACKET], bytes.as_slice()),
+        NodeEvent::Propose => journal.append_parts(&[PROPOSE], &[]),
+        NodeEvent::Timeout(leader) => journal.append_parts(&[TIMEOUT], &[leader.0]),
+        NodeEvent::AskFrom(peer) => journal.append_parts(&[ASK], &[peer.0]),
+    }
+}
+
 // Appends the entry of an event that was taken. Where that fails the node retreats to the log and the epoch from before.
+#[inline(always)]
 fn keep_entry<M: Sequenced, D: Disk>(
     node: &mut Node<M>,
     journal: &mut Journal<D>,
-    entry: &[u8],
+    event: &NodeEvent,
     slots: usize,
     epoch: Epoch,
 ) -> Result<(), EndError>
     requires sound { IsSound D.history D.room journal.old }
     requires attached { is_attached journal.old ≡ true }
-    requires short { length entry.now ≤ max_entry }
+    requires short { length (spell_event event.now) ≤ max_entry }
     requires slots { slots ≤ length node.old.parts.log.entries }
     requires epoch { epoch.0 ≤ node.old.parts.epoch }
-    ensures written { (outcome : Outcome) → IsWritten (entries_of journal.old) entry.now
+    ensures written { (outcome : Outcome) → IsWritten (entries_of journal.old) (spell_event event.now)
         (sight D.history D.passes D.faults D.current D.files (disk_of journal.old))
         (sight D.history D.passes D.faults D.current D.files (disk_of journal.new)) (entries_of journal.new) (answer_with outcome result) }
     ensures ended { (outcome : Outcome) → HasEnded outcome slots epoch.0 node.old node.new (answer_with outcome result) }
     ensures sound { IsSound D.history D.room journal.new }
     ensures attached { OnOk result (is_attached journal.new ≡ true) }
 {
-    match journal.append(entry) {
+    match append_event(journal, event) {
         Ok(()) => Ok(()),
         Err(EndError::Failed) => {
             node.retreat(slots, epoch);
@@ -65,20 +123,21 @@ fn answer_with(outcome: Outcome, kept: Result<(), EndError>) -> Answer
     }
 }
 
-// Steps the node, and keeps the entry where the event was taken.
+// Steps the node, and keeps the entry where the event was taken, of which this is a copy.
+#[inline(always)]
 fn step<M: Sequenced, D: Disk>(
     alloc: Global,
     node: &mut Node<M>,
     journal: &mut Journal<D>,
     event: NodeEvent,
-    entry: &[u8],
+    copy: &NodeEvent,
 ) -> Answer
     requires good { IsSetupOf M.meaning node.old.parts.setup }
     requires stands { (c : Core M.Msg) × Stands M.meaning M.stands node.old c }
     requires sound { IsSound D.history D.room journal.old }
     requires attached { is_attached journal.old ≡ true }
-    requires entry { entry.now ≡ spell_event event }
-    ensures written { IsWritten (entries_of journal.old) entry.now (sight D.history D.passes D.faults D.current D.files (disk_of journal.old))
+    requires copy { copy.now ≡ event }
+    ensures written { IsWritten (entries_of journal.old) (spell_event copy.now) (sight D.history D.passes D.faults D.current D.files (disk_of journal.old))
         (sight D.history D.passes D.faults D.current D.files (disk_of journal.new)) (entries_of journal.new) result }
     ensures stepped { HasStepped M.meaning M.stands event node.old node.new result }
     ensures sound { IsSound D.history D.room journal.new }
@@ -89,7 +148,7 @@ fn step<M: Sequenced, D: Disk>(
     let epoch = node.epoch();
     match node.take(alloc, event) {
         NodeAnswer::Taken(outcome) => {
-            let kept = keep_entry(node, journal, entry, slots, epoch);
+            let kept = keep_entry(node, journal, copy, slots, epoch);
             answer_with(outcome, kept)
         }
         NodeAnswer::Dropped(why) => Answer::Dropped(why),
@@ -98,14 +157,14 @@ fn step<M: Sequenced, D: Disk>(
     }
 }
 
-/// Makes room for the entry of an event, steps the node, and keeps the entry where the event was taken. The entry is written into a
-/// buffer, which the next event uses again.
+/// Makes room for the entry of an event, steps the node, and keeps the entry where the event was taken. The node takes the event, so
+/// a copy of it is what is kept.
+#[inline(always)]
 pub(crate) fn keep<M: Sequenced, D: Disk>(
     alloc: Global,
     node: &mut Node<M>,
     journal: &mut Journal<D>,
     event: NodeEvent,
-    entry: &mut Vec<u8>,
 ) -> Answer
     requires good { IsSetupOf M.meaning node.old.parts.setup }
     requires stands { (c : Core M.Msg) × Stands M.meaning M.stands node.old c }
@@ -118,11 +177,11 @@ pub(crate) fn keep<M: Sequenced, D: Disk>(
     ensures attached { makes_stale result ≡ false → is_attached journal.new ≡ true }
     ensures same { (node.new.parts.setup ≡ node.old.parts.setup) × (node.new.parts.me ≡ node.old.parts.me) }
 {
-    if put_entry(entry, &event).is_err() {
+    let Ok(copy) = copy_event(&event) else {
+        return Answer::NoMemory;
+    };
+    if journal.reserve(entry_len(&copy)).is_err() {
         return Answer::NoMemory;
     }
-    if journal.reserve(entry.len() as u64).is_err() {
-        return Answer::NoMemory;
-    }
-    step(alloc, node, journal, event, entry.as_slice())
+    step(alloc, node, journal, event, &copy)
 }

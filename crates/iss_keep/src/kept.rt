@@ -33,8 +33,6 @@ pub struct Kept<M: Sequenced, D: Disk> {
     pub(crate) me: NodeId,
     pub(crate) node: Node<M>,
     pub(crate) journal: Journal<D>,
-    // What stands here means nothing: each event writes its entry over it.
-    pub(crate) entry: Vec<u8>,
     pub(crate) stale: bool,
 }
 
@@ -76,7 +74,6 @@ impl<M: Sequenced, D: Disk + Drop> Kept<M, D> {
             me,
             node,
             journal: Journal::over(alloc, disk),
-            entry: Vec::new(alloc),
             stale: true,
         })
     }
@@ -98,13 +95,7 @@ impl<M: Sequenced, D: Disk> Kept<M, D> {
         if self.stale {
             return Answer::Stale;
         }
-        let answer = keep(
-            self.alloc,
-            &mut self.node,
-            &mut self.journal,
-            event,
-            &mut self.entry,
-        );
+        let answer = keep(self.alloc, &mut self.node, &mut self.journal, event);
         self.stale = answer.makes_stale();
         answer
     }

@@ -9,7 +9,7 @@ use Rattle.iss_keep.proofs.keeping.step.Goals as goal
 pub keep_entry-kept-requires-clause-short : goal.keep_entry-kept-requires-clause-short
 keep_entry-kept-requires-clause-short g c =
     short g.M.Sequenced.meaning g.M.Sequenced.stands c.args.event c.args.node.now c.take.new.self c.in-Taken.outcome c.requires.good c.requires.stands c.take.ensures.same.0
-    c.take.ensures.same.1 c.in-Taken.ensures.answer c.args.entry.now c.requires.entry
+    c.take.ensures.same.1 c.in-Taken.ensures.answer c.args.copy.now c.requires.copy
 
 pub keep_entry-kept-requires-clause-slots : goal.keep_entry-kept-requires-clause-slots
 keep_entry-kept-requires-clause-slots g c =
