@@ -9,7 +9,7 @@ use Rattle.iss_causes.specs.declared.causes.NodeEvent.{NodeEvent}
 use Rattle.iss_node.specs.State.{NodeState, Stands}
 use Rattle.iss_node.specs.Steps.{HasRetreated, IsAnswer, IsOfNodes}
 use Rattle.iss_node.specs.declared.answers.Answer.{Answer as NodeAnswer}
-use Rattle.iss_node.specs.declared.answers.Answer.TheVariants.{Dropped as Node_drops, Taken as Node_takes}
+use Rattle.iss_node.specs.declared.answers.Answer.TheVariants.{Dropped as Node_drops, NoMemory as Node_wants_memory, Stale as Node_is_stale, Taken as Node_takes}
 use Rattle.iss_node.specs.declared.answers.Outcome.{Outcome}
 use Rattle.iss_sb.specs.Calls.{Relation}
 use Rattle.iss_sb.specs.Evidence.{Module}
@@ -42,12 +42,6 @@ HasStepped m stands event old new Failed = ShowsSame old new × Takes m stands e
 HasStepped m stands event old new Stale = ⊥
 HasStepped m stands event old new NoMemory = ShowsSame old new
 
--- what a node that took an event answers, where its entry was appended so
-abbrev pub answer_with : {A : Type 0} → Outcome → Result A EndError → Answer
-answer_with outcome (Ok x) = Taken outcome
-answer_with outcome (Err Disk_failed) = Failed
-answer_with outcome (Err No_room) = NoMemory
-
 -- The outcome of a step is handed out with its entry, and the node stays as it is; else the node retreats.
 abbrev pub HasEnded : {M Msg : Type 0} → Outcome → ℕ → ℕ → NodeState M Msg → NodeState M Msg → Answer → Type 0
 HasEnded outcome slots epoch old new (Taken given) = (given ≡ outcome) × (new ≡ old)
@@ -55,3 +49,12 @@ HasEnded outcome slots epoch old new (Dropped why) = ⊥
 HasEnded outcome slots epoch old new Failed = HasRetreated old new slots epoch
 HasEnded outcome slots epoch old new Stale = ⊥
 HasEnded outcome slots epoch old new NoMemory = HasRetreated old new slots epoch
+
+-- what is handed out of what a node answered, where its entry was appended so: an event that was not taken has none
+abbrev pub handed : {A : Type 0} → NodeAnswer → Result A EndError → Answer
+handed (Node_takes outcome) (Ok x) = Taken outcome
+handed (Node_drops why) (Ok x) = Dropped why
+handed Node_wants_memory (Ok x) = NoMemory
+handed Node_is_stale (Ok x) = NoMemory
+handed made (Err Disk_failed) = Failed
+handed made (Err No_room) = NoMemory

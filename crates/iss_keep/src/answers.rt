@@ -1,6 +1,11 @@
 // What a kept node answers.
+ghost use Rattle.std.specs.Prelude.{◌≡◌};
+ghost use Rattle.iss_keep.specs.Keeping.{handed};
+ghost use Rattle.iss_keep.specs.Steps.{makes_stale};
+
 use iss_causes::Why;
-use iss_node::Outcome;
+use iss_disk::EndError;
+use iss_node::{Answer as NodeAnswer, Outcome};
 
 /// What a kept node answers to an event.
 #[derive(Drop)]
@@ -17,17 +22,31 @@ pub enum Answer {
     NoMemory,
 }
 
-impl Answer {
-    ghost use Rattle.std.specs.Prelude.{◌≡◌};
-    ghost use Rattle.iss_keep.specs.Steps.{makes_stale};
+// Whether a node has to be reopened after what it made, where its entry was appended so.
+#[inline(always)]
+pub(crate) fn makes_stale(made: &NodeAnswer, kept: &Result<(), EndError>) -> bool
+    ensures { result ≡ makes_stale (handed made.now kept.now) }
+{
+    match (made, kept) {
+        (NodeAnswer::Taken(_), Ok(())) => false,
+        (NodeAnswer::Dropped(_), Ok(())) => false,
+        _ => true,
+    }
+}
 
-    // Whether the node has to be reopened after it.
-    pub(crate) fn makes_stale(&self) -> bool
-        ensures { result ≡ makes_stale self.now }
-    {
-        match self {
-            Answer::Taken(_) | Answer::Dropped(_) => false,
-            Answer::Failed | Answer::Stale | Answer::NoMemory => true,
-        }
+// What a node made is handed out where its entry is kept, and not else.
+#[inline(always)]
+pub(crate) fn hand_out(made: NodeAnswer, kept: Result<(), EndError>) -> Answer
+    ensures { result ≡ handed made kept }
+{
+    match kept {
+        Ok(()) => match made {
+            NodeAnswer::Taken(outcome) => Answer::Taken(outcome),
+            NodeAnswer::Dropped(why) => Answer::Dropped(why),
+            NodeAnswer::NoMemory => Answer::NoMemory,
+            NodeAnswer::Stale => Answer::NoMemory,
+        },
+        Err(EndError::Failed) => Answer::Failed,
+        Err(EndError::NoMemory) => Answer::NoMemory,
     }
 }

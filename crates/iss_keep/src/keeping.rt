@@ -5,19 +5,19 @@ ghost use Rattle.iss_journal.specs.Frames.{Reads, holds, max_entry};
 ghost use Rattle.iss_journal.specs.Promises.{HoldsWithOrWithout, LeavesOnly, OnlyLeaves};
 ghost use Rattle.iss_journal.specs.Sound.{IsSound, NothingChanged, disk_of, entries_of, is_attached};
 ghost use Rattle.iss_keep.specs.Entries.{spell_event};
-ghost use Rattle.iss_keep.specs.Keeping.{HasEnded, HasStepped, answer_with};
+ghost use Rattle.iss_keep.specs.Keeping.{HasEnded, HasStepped, handed};
 ghost use Rattle.iss_keep.specs.Steps.{IsWritten, makes_stale, sight};
 ghost use Rattle.iss_model.specs.Node.{Core};
 ghost use Rattle.iss_rules.specs.Setups.{IsSetupOf};
 ghost use Rattle.iss_node.specs.State.{Stands};
+ghost use Rattle.iss_node.specs.declared.answers.Answer.TheVariants.{Taken as Node_takes};
 ghost use Rattle.iss_node.specs.declared.answers.Outcome.{Outcome};
 
-use crate::answers::Answer;
 use crate::entries::{ASK, PACKET, PROPOSE, TIMEOUT};
 use iss_causes::NodeEvent;
 use iss_disk::{Disk, EndError};
 use iss_journal::Journal;
-use iss_node::{Answer as NodeAnswer, Node, Outcome};
+use iss_node::{Answer as NodeAnswer, Node};
 use iss_request::{Epoch, NoMemory};
 use iss_sb::Sequenced;
 use std::alloc::Global;
@@ -93,8 +93,8 @@ fn keep_entry<M: Sequenced, D: Disk>(
     requires epoch { epoch.0 ≤ node.old.parts.epoch }
     ensures written { (outcome : Outcome) → IsWritten (entries_of journal.old) (spell_event event.now)
         (sight D.history D.passes D.faults D.current D.files (disk_of journal.old))
-        (sight D.history D.passes D.faults D.current D.files (disk_of journal.new)) (entries_of journal.new) (answer_with outcome result) }
-    ensures ended { (outcome : Outcome) → HasEnded outcome slots epoch.0 node.old node.new (answer_with outcome result) }
+        (sight D.history D.passes D.faults D.current D.files (disk_of journal.new)) (entries_of journal.new) (handed (Node_takes outcome) result) }
+    ensures ended { (outcome : Outcome) → HasEnded outcome slots epoch.0 node.old node.new (handed (Node_takes outcome) result) }
     ensures sound { IsSound D.history D.room journal.new }
     ensures attached { OnOk result (is_attached journal.new ≡ true) }
 {
@@ -111,19 +111,7 @@ fn keep_entry<M: Sequenced, D: Disk>(
     }
 }
 
-// What an event made is handed out where its entry is kept, and not else.
-#[inline(always)]
-fn answer_with(outcome: Outcome, kept: Result<(), EndError>) -> Answer
-    ensures { result ≡ answer_with outcome kept }
-{
-    match kept {
-        Ok(()) => Answer::Taken(outcome),
-        Err(EndError::Failed) => Answer::Failed,
-        Err(EndError::NoMemory) => Answer::NoMemory,
-    }
-}
-
-// Steps the node, and keeps the entry where the event was taken, of which this is a copy.
+// Steps the node, and keeps the entry where the event was taken, of which this is a copy. What the node made of it stands in `made`.
 #[inline(always)]
 fn step<M: Sequenced, D: Disk>(
     alloc: Global,
@@ -131,57 +119,55 @@ fn step<M: Sequenced, D: Disk>(
     journal: &mut Journal<D>,
     event: NodeEvent,
     copy: &NodeEvent,
-) -> Answer
+    made: &mut NodeAnswer,
+) -> Result<(), EndError>
     requires good { IsSetupOf M.meaning node.old.parts.setup }
     requires stands { (c : Core M.Msg) × Stands M.meaning M.stands node.old c }
     requires sound { IsSound D.history D.room journal.old }
     requires attached { is_attached journal.old ≡ true }
     requires copy { copy.now ≡ event }
     ensures written { IsWritten (entries_of journal.old) (spell_event copy.now) (sight D.history D.passes D.faults D.current D.files (disk_of journal.old))
-        (sight D.history D.passes D.faults D.current D.files (disk_of journal.new)) (entries_of journal.new) result }
-    ensures stepped { HasStepped M.meaning M.stands event node.old node.new result }
+        (sight D.history D.passes D.faults D.current D.files (disk_of journal.new)) (entries_of journal.new) (handed made.new result) }
+    ensures stepped { HasStepped M.meaning M.stands event node.old node.new (handed made.new result) }
     ensures sound { IsSound D.history D.room journal.new }
-    ensures attached { makes_stale result ≡ false → is_attached journal.new ≡ true }
+    ensures attached { makes_stale (handed made.new result) ≡ false → is_attached journal.new ≡ true }
     ensures same { (node.new.parts.setup ≡ node.old.parts.setup) × (node.new.parts.me ≡ node.old.parts.me) }
 {
     let slots = node.log().entries().len();
     let epoch = node.epoch();
-    match node.take(alloc, event) {
-        NodeAnswer::Taken(outcome) => {
-            let kept = keep_entry(node, journal, copy, slots, epoch);
-            answer_with(outcome, kept)
-        }
-        NodeAnswer::Dropped(why) => Answer::Dropped(why),
-        NodeAnswer::NoMemory => Answer::NoMemory,
-        NodeAnswer::Stale => Answer::NoMemory,
+    *made = node.take(alloc, event);
+    match made {
+        NodeAnswer::Taken(_) => keep_entry(node, journal, copy, slots, epoch),
+        _ => Ok(()),
     }
 }
 
 /// Makes room for the entry of an event, steps the node, and keeps the entry where the event was taken. The node takes the event, so
-/// a copy of it is what is kept.
+/// a copy of it is what is kept. What the node made of it stands in `made`: it is large, and moved once, where it is handed out.
 #[inline(always)]
 pub(crate) fn keep<M: Sequenced, D: Disk>(
     alloc: Global,
     node: &mut Node<M>,
     journal: &mut Journal<D>,
     event: NodeEvent,
-) -> Answer
+    made: &mut NodeAnswer,
+) -> Result<(), EndError>
     requires good { IsSetupOf M.meaning node.old.parts.setup }
     requires stands { (c : Core M.Msg) × Stands M.meaning M.stands node.old c }
     requires sound { IsSound D.history D.room journal.old }
     requires attached { is_attached journal.old ≡ true }
     ensures written { IsWritten (entries_of journal.old) (spell_event event) (sight D.history D.passes D.faults D.current D.files (disk_of journal.old))
-        (sight D.history D.passes D.faults D.current D.files (disk_of journal.new)) (entries_of journal.new) result }
-    ensures stepped { HasStepped M.meaning M.stands event node.old node.new result }
+        (sight D.history D.passes D.faults D.current D.files (disk_of journal.new)) (entries_of journal.new) (handed made.new result) }
+    ensures stepped { HasStepped M.meaning M.stands event node.old node.new (handed made.new result) }
     ensures sound { IsSound D.history D.room journal.new }
-    ensures attached { makes_stale result ≡ false → is_attached journal.new ≡ true }
+    ensures attached { makes_stale (handed made.new result) ≡ false → is_attached journal.new ≡ true }
     ensures same { (node.new.parts.setup ≡ node.old.parts.setup) × (node.new.parts.me ≡ node.old.parts.me) }
 {
     let Ok(copy) = copy_event(&event) else {
-        return Answer::NoMemory;
+        return Err(EndError::NoMemory);
     };
     if journal.reserve(entry_len(&copy)).is_err() {
-        return Answer::NoMemory;
+        return Err(EndError::NoMemory);
     }
-    step(alloc, node, journal, event, &copy)
+    step(alloc, node, journal, event, &copy, made)
 }

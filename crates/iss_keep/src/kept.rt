@@ -10,14 +10,14 @@ ghost use Rattle.iss_model.specs.Node.{Core};
 ghost use Rattle.iss_rules.specs.Setups.{IsSetupOf};
 ghost use Rattle.iss_node.specs.Steps.{IsOfNodes};
 
-use crate::answers::Answer;
+use crate::answers::{Answer, hand_out, makes_stale};
 use crate::keeping::keep;
 use crate::reopening::{open, start_fresh};
 use iss_causes::NodeEvent;
 use iss_disk::{Disk, Fused};
 use iss_journal::{AttachError, Journal};
 use iss_keys::SharedDirectory;
-use iss_node::Node;
+use iss_node::{Answer as NodeAnswer, Node};
 use iss_request::{Epoch, NoMemory, NodeId, Setup};
 use iss_sb::Sequenced;
 use std::alloc::Global;
@@ -95,9 +95,16 @@ impl<M: Sequenced, D: Disk> Kept<M, D> {
         if self.stale {
             return Answer::Stale;
         }
-        let answer = keep(self.alloc, &mut self.node, &mut self.journal, event);
-        self.stale = answer.makes_stale();
-        answer
+        let mut made = NodeAnswer::Stale;
+        let kept = keep(
+            self.alloc,
+            &mut self.node,
+            &mut self.journal,
+            event,
+            &mut made,
+        );
+        self.stale = makes_stale(&made, &kept);
+        hand_out(made, kept)
     }
 
     /// Makes the node anew from the entries of the journal. `Damaged` comes where the file is damaged, and where an entry is no event
