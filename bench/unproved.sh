@@ -1,7 +1,7 @@
 #!/usr/bin/env bash
 # Builds a program of this repository without a proof, for times, valgrind and perf: unproved.sh CRATE OUT [WORD..]
-# `rt try` writes the whole program as intermediate code, here with the words given; its checks and its fills of locals are left out, and
-# LLVM compiles the rest. What it prints is no more proved than that of `rt try`, and its digests take half again what they take in a proved build.
+# `rt try` writes the whole program as intermediate code, here with the words given. Its checks and its fills of locals are left out, the sources' hints
+# on inlining are put in, and LLVM compiles the rest as it does a proved program. What it prints is no more proved than that of `rt try`.
 set -eu
 [ $# -ge 2 ] || { echo "usage: bench/unproved.sh CRATE OUT [WORD..]" >&2; exit 2; }
 kit=$(dirname "$(dirname "$(readlink -f "$(command -v rt)")")")
@@ -33,6 +33,11 @@ kill "$try" 2> "$work/none" || true
 
 clang=$kit/toolchain/bin/clang
 "$clang" -x ir -S -emit-llvm -Xclang -disable-llvm-passes "$work/module.bc" -o "$work/all.ll"
-grep -v -e 'call.*rattle-llvm-checks' -e 'memset.*i8 -86' "$work/all.ll" > "$work/bare.ll"
-"$clang" -x ir -O3 -march=x86-64-v2 -c "$work/bare.ll" -o "$work/program.o"
+"$top/bench/hints.py" "$top" "$work/all.ll" "$work/bare.ll"
+# the words that a proved build gives to LLVM
+words="-ffunction-sections -fdata-sections -fPIE -O3 -Xclang -fmerge-functions"
+for word in -no-trap-after-noreturn -trap-unreachable -no-x86-call-frame-opt -disable-machine-licm -disable-postra-machine-licm -sink-common-insts=false -mergefunc-use-aliases; do
+    words="$words -mllvm $word"
+done
+"$clang" --target=x86_64-unknown-linux-gnu --sysroot="$kit/toolchain" -march=x86-64-v2 $words -x ir -c "$work/bare.ll" -o "$work/program.o"
 "$kit/bin/rattle-link" --target x86_64-unknown-linux-gnu --toolchain "$kit/toolchain" -o "$out" "$work/program.o" "$kit/c/libos_c.a" "$kit/c/liblibc_c.a" 2> "$work/log" || { cat "$work/log" >&2; exit 1; }
