@@ -1,13 +1,14 @@
 -- Files of a disk in memory by their names.
-use Rattle.std.proofs.Common.{◌≡◌, ◌≢◌, inl, inr, ℕ, zero, suc, ◌+◌, ◌<◌, ◌≤◌, true, false, cond, List, [], ◌∷◌, ◌++◌, length, take, drop, get_or, set, reverse, refl, sym, ◌∙◌, ap, subst, arith, add-zero}
+use Rattle.std.proofs.Common.{◌≡◌, ◌≢◌, inl, inr, ℕ, zero, suc, ◌+◌, ◌<◌, ◌≤◌, true, false, cond, List, [], ◌∷◌, ◌++◌, length, take, drop, get_or, set, refl, sym, ◌∙◌, ap, subst, arith, add-zero}
 use Rattle.std.specs.Prelude.{bytes_eq}
 use Rattle.std.proofs.lemmas.Bool.{cases_Bool, cond-true, cond-false, false≢true}
 use Rattle.std.proofs.lemmas.Slice.Eq.{bytes_eq-Decides}
 use Rattle.std.proofs.lemmas.List.{drop_more, drop_all, get_or_read, get_or-drop, drop-drop, drop-set-lt, take_more, take_more_set, take_all}
 use Rattle.iss_disk.specs.File.{File, settled}
 use Rattle.iss_disk.specs.Calls.{Restarts, IfTold}
+use Rattle.iss_disk.specs.NoteViews.{calls_in}
 use Rattle.iss_disk.specs.States.{newest, calls_of}
-use Rattle.iss_disk.proofs.StoredLemmas.{states_some}
+use Rattle.iss_disk.specs.EachState.{states_some}
 use Rattle.iss_disk.specs.StoredViews.{history_of}
 use Rattle.iss_disk.specs.MemoryViews.{history_among}
 use Rattle.iss_disk.specs.MemoryLaws.{bytes_eq_self}
@@ -113,7 +114,7 @@ attached_files file next before after wanted apart named is_next others n = elim
 -- what is asked of the told content holds of what the file holds
 pub within_content : (stored : StoredFile) (n : ℕ) → IfTold (history_of stored) (λ file. n ≤ length file.content) → n ≤ length stored.content.items
 within_content stored n within =
-    let some = states_some (calls_of stored.recent ++ reverse stored.calls.items) stored.lost.items stored.content.items in
+    let some = states_some (calls_of stored.recent ++ calls_in stored.calls) stored.lost.items stored.content.items in
     let here : n ≤ length some.file.content = subst (λ (h : List File). IfTold h (λ file. n ≤ length file.content)) some.is within in
     let is : some.file.content ≡ stored.content.items = ap (λ (h : List File). (newest h).content) (sym some.is) ∙ stored.stored.is_content in
     omega (arith, here, ap length is)

@@ -1,45 +1,16 @@
 -- A write and a cut can be undone, and keep what a stored file says of itself.
-use Rattle.std.proofs.Common.{◌≡◌, ℕ, ◌+◌, ◌-◌, ◌<◌, ◌≤◌, List, [], ◌∷◌, ◌++◌, length, take, drop, reverse, get_or, set, refl, sym, ◌∙◌, ap, arith, length-append, length-take-le, length-drop}
-use Rattle.std.proofs.lemmas.List.{append-nil, append_assoc, reverse-append, take_at, drop_at, drop_all, drop_more, take_all, take-set, drop-set, take-take, take-append-le, take-append-drop, drop-drop}
-use Rattle.iss_disk.specs.File.{File, settled, overwritten, wrote, shortened, synced, restarted}
-use Rattle.iss_disk.specs.States.{states, after, newest, is_pending, calls_of, last_bytes, all_but, with_tail, with_part, IsStored}
+use Rattle.std.proofs.Common.{◌≡◌, ℕ, ◌+◌, ◌-◌, ◌<◌, ◌≤◌, List, [], ◌∷◌, ◌++◌, length, take, drop, get_or, set, refl, sym, ◌∙◌, ap, arith, length-append, length-take-le, length-drop}
+use Rattle.std.proofs.lemmas.List.{append-nil, append_assoc, take_at, drop_at, drop_all, drop_more, take_all, take-set, drop-set, take-take, take-append-le, take-append-drop, drop-drop}
+use Rattle.iss_disk.specs.File.{File, overwritten, wrote, shortened, synced, restarted}
+use Rattle.iss_disk.specs.EachState.{HasNewest}
+use Rattle.iss_disk.specs.States.{states, after, newest, calls_of, last_bytes, all_but, with_tail, with_part, IsStored}
 use Rattle.iss_disk.specs.declared.call.Call.{Call}
 use Rattle.iss_disk.specs.declared.call.Recent.{Recent}
 use Rattle.iss_disk.specs.declared.call.Recent.TheVariants.{Nothing, Wrote as Just_wrote, Kept as Just_kept, Opening}
-use Rattle.iss_disk.specs.declared.call.Call.TheVariants.{ToEnd, Within, Cut, Kept, Opened, Synced, Restarted}
-
--- there is always a newest state
-pub record HasNewest (files : List File) : Type 0 where
-  pub file : File
-  pub past : List File
-  pub is : files ≡ file ∷ past
-
-after_some : (change : File → File) (files : List File) → HasNewest files → HasNewest (after change files)
-after_some change files some = record { file = change some.file; past = some.file ∷ some.past; is = ap (after change) some.is }
-
-pub states_some : (calls : List Call) (lost content : List ℕ) → HasNewest (states calls lost content)
-states_some [] lost content = record { file = settled []; past = []; is = refl }
-states_some (ToEnd at over ∷ calls) lost content = after_some (wrote at (drop at content)) _ (states_some calls (all_but over lost) (with_tail at (last_bytes over lost) content))
-states_some (Within at len ∷ calls) lost content =
-    after_some (wrote at (take len (drop at content))) _ (states_some calls (all_but len lost) (with_part at len (last_bytes len lost) content))
-states_some (Cut by ∷ calls) lost content = after_some (shortened (length content)) _ (states_some calls (all_but by lost) (content ++ last_bytes by lost))
-states_some (Kept at ∷ calls) lost content =
-    after_some synced _ (after_some (wrote at (drop at content)) _ (states_some calls (all_but 0 lost) (with_tail at (last_bytes 0 lost) content)))
-states_some (Opened at ∷ calls) lost content =
-    let front = all_but 1 lost in
-    let closed = with_part at 1 (last_bytes 1 lost) content in
-    after_some synced _ (after_some (wrote at (take 1 (drop at content))) _
-    (after_some synced _ (after_some (wrote (at + 1) (drop (at + 1) closed)) _ (states_some calls (all_but 0 front) (with_tail (at + 1) (last_bytes 0 front) closed)))))
-states_some (Synced ∷ calls) lost content = after_some synced _ (states_some calls lost content)
-states_some (Restarted at over ∷ calls) lost content = after_some restarted _ (states_some calls (all_but over lost) (with_tail at (last_bytes over lost) content))
+use Rattle.iss_disk.specs.declared.call.Call.TheVariants.{ToEnd, Within, Cut, Kept, Restarted}
 
 pub newest_after : (change : File → File) (files : List File) → HasNewest files → newest (after change files) ≡ change (newest files)
 newest_after change files some = ap (λ (fs : List File). newest (after change fs)) some.is ∙ sym (ap (λ (fs : List File). change (newest fs)) some.is)
-
--- the states of a list to which a call was added
-pub pushed_states : (calls after_push : List Call) (call : Call) (lost content : List ℕ) → after_push ≡ calls ++ call ∷ [] → states (reverse after_push) lost content ≡ states (call ∷ reverse calls) lost content
-pushed_states calls after_push call lost content pushed =
-    ap (λ (cs : List Call). states (reverse cs) lost content) pushed ∙ ap (λ (cs : List Call). states cs lost content) (reverse-append calls (call ∷ []))
 
 -- what the last call took away, and what was taken away before it
 pub last_taken : (lost taken : List ℕ) (n : ℕ) → length taken ≡ n → last_bytes n (lost ++ taken) ≡ taken
@@ -182,10 +153,12 @@ set-overwritten at byte content within =
 
 -- so a byte over the last one before what was just kept is undone
 pub undone_byte : (recent : Recent) (calls : List Call) (at byte former : ℕ) (content lost after_loss over : List ℕ) → at < length content → former ≡ get_or content at former → recent ≡ Just_kept (at + 1)
-    → after_loss ≡ lost ++ former ∷ [] → over ≡ overwritten at (byte ∷ []) content → states (calls_of (Opening at (at + 1)) ++ calls) after_loss over ≡ after (wrote at (byte ∷ [])) (states (calls_of recent ++ calls) lost content)
+    → after_loss ≡ lost ++ former ∷ [] → over ≡ overwritten at (byte ∷ []) content → states (calls_of (Opening (at + 1)) ++ calls) after_loss over ≡ after (wrote at (byte ∷ [])) (states (calls_of recent ++ calls) lost content)
 undone_byte recent calls at byte former content lost after_loss over within was just_kept loses is_over =
+    let before : (at + 1) - 1 ≡ at = omega arith in
     let taken : take 1 (drop at content) ≡ former ∷ [] = ap (take 1) (drop_more content at former within) ∙ ap (λ (b : ℕ). b ∷ []) (sym was) in
-    ap (states (Within at 1 ∷ Kept (at + 1) ∷ calls) after_loss) is_over
+    ap (λ (n : ℕ). states (Within n 1 ∷ Kept (at + 1) ∷ calls) after_loss over) before
+    ∙ ap (states (Within at 1 ∷ Kept (at + 1) ∷ calls) after_loss) is_over
     ∙ ap (λ (l : List ℕ). states (Within at 1 ∷ Kept (at + 1) ∷ calls) l (overwritten at (byte ∷ []) content)) (loses ∙ ap (λ (l : List ℕ). lost ++ l) (sym taken))
     ∙ undone_within (Kept (at + 1) ∷ calls) at 1 (byte ∷ []) content lost refl (omega (arith, within))
     ∙ ap (λ (o : Recent). after (wrote at (byte ∷ [])) (states (calls_of o ++ calls) lost content)) (sym just_kept)
@@ -234,6 +207,20 @@ cut_keeps old_states new_states n content short behind apart same resumes m some
       in_order = omega (arith, le_n);
     }
 
+-- a file that was synced rests
+pub sync_keeps : (old_states new_states : List File) (content behind : List ℕ) (same resumes end : ℕ) → HasNewest old_states → IsStored old_states content behind same resumes
+    → new_states ≡ after synced old_states → end ≡ length content → IsStored new_states content [] end end
+sync_keeps old_states new_states content behind same resumes end some old one_more ends =
+    let now : newest new_states ≡ synced (newest old_states) = ap newest one_more ∙ newest_after synced old_states some in
+    record {
+      is_content = ap (λ (f : File). f.content) now ∙ old.is_content;
+      is_kept =
+          let whole : take end content ++ drop end content ≡ content = take-append-drop end content in
+          ap (λ (f : File). f.kept) now ∙ old.is_content ∙ sym whole;
+      in_content = omega (arith, ends);
+      in_order = omega arith;
+    }
+
 -- a file that was brought back to what was synced rests
 pub restart_keeps : (old_states new_states : List File) (content behind whole : List ℕ) (same resumes end : ℕ) → HasNewest old_states → IsStored old_states content behind same resumes
     → new_states ≡ after restarted old_states → whole ≡ take same content ++ (behind ++ drop resumes content) → end ≡ length whole → IsStored new_states whole [] end end
@@ -247,7 +234,3 @@ restart_keeps old_states new_states content behind whole same resumes end some o
       in_content = omega (arith, ends);
       in_order = omega arith;
     }
-
--- whether the file waits for a sync is decided by its last call
-pub pending_push : (calls after_push : List Call) (call : Call) → after_push ≡ calls ++ call ∷ [] → is_pending (reverse after_push) ≡ is_pending (call ∷ reverse calls)
-pending_push calls after_push call pushed = ap (λ (cs : List Call). is_pending (reverse cs)) pushed ∙ ap is_pending (reverse-append calls (call ∷ []))

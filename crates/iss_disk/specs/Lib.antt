@@ -1,7 +1,10 @@
 pub mod Calls
 pub mod File
 pub mod States
+pub mod Notes
+pub mod NoteViews
 pub mod StoredViews
+pub mod EachState
 pub mod ReadsAreImages
 pub mod Fates
 pub mod MemoryViews

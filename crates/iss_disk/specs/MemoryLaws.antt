@@ -1,10 +1,11 @@
 -- The laws of a disk in memory.
-use Rattle.std.proofs.Common.{◌≡◌, inl, inr, ℕ, true, List, [], ◌∷◌, ◌++◌, reverse, refl, sym, ◌∙◌}
+use Rattle.std.proofs.Common.{◌≡◌, inl, inr, ℕ, true, List, [], ◌∷◌, ◌++◌, refl, sym, ◌∙◌}
 use Rattle.std.specs.Prelude.{bytes_eq}
 use Rattle.std.proofs.lemmas.Bool.{cases_Bool, cond-true, cond-false}
 use Rattle.std.proofs.lemmas.Slice.Eq.{bytes_eq-Decides}
 use Rattle.iss_disk.specs.File.{File, Image}
 use Rattle.iss_disk.specs.ReadsAreImages.{readable}
+use Rattle.iss_disk.specs.NoteViews.{calls_in}
 use Rattle.iss_disk.specs.States.{calls_of}
 use Rattle.iss_disk.specs.StoredViews.{history_of}
 use Rattle.iss_disk.specs.MemoryViews.{history_among, files_of}
@@ -26,7 +27,9 @@ among_readable (stored ∷ files) name file past is =
     let here = history_of stored in
     let among = history_among files name in
     elim (cases_Bool named) [
-      | inl same ↦ readable (calls_of stored.recent ++ reverse stored.calls.items) stored.lost.items stored.content.items file past (sym (cond-true named here among same) ∙ is)
+      | inl same ↦
+          let calls = calls_of stored.recent ++ calls_in stored.calls in
+          readable calls stored.lost.items stored.content.items file past (sym (cond-true named here among same) ∙ is)
       | inr other ↦ among_readable files name file past (sym (cond-false named here among other) ∙ is)
     ]
 

@@ -2,10 +2,11 @@
 use Rattle.std.proofs.Common.{◌≡◌, ◌⊎◌, inl, inr, ⊎_elim, ℕ, ◌+◌, ◌-◌, ◌≤◌, ◌<◌, min, List, [], ◌∷◌, ◌++◌, length, take, drop, get_or, refl, ◌∙◌, ap, subst, arith, length-append, length-take, length-drop}
 use Rattle.std.proofs.lemmas.List.{get_or_append_left, get_or-append_right, get_or-take, get_or-drop}
 use Rattle.std.proofs.lemmas.Bool.{or_parts, and_cases, leb-false, ltb-false}
-use Rattle.iss_disk.specs.File.{File, Image, is_written, settled, overwritten, wrote, shortened, synced, restarted}
-use Rattle.iss_disk.specs.States.{states, after, last_bytes, all_but, with_tail, with_part}
+use Rattle.iss_disk.specs.File.{File, Image, is_written, settled, overwritten, wrote, shortened}
+use Rattle.iss_disk.specs.Calls.{IfTold}
+use Rattle.iss_disk.specs.EachState.{newest_state}
+use Rattle.iss_disk.specs.States.{states}
 use Rattle.iss_disk.specs.declared.call.Call.{Call}
-use Rattle.iss_disk.specs.declared.call.Call.TheVariants.{ToEnd, Within, Cut, Kept, Opened, Synced, Restarted}
 
 pub image_settled : (bytes : List ℕ) → Image (settled bytes) bytes
 image_settled bytes = record { long_enough = omega arith; short_enough = omega arith; others = λ i in_bytes below outside. refl }
@@ -57,44 +58,9 @@ image_shortened n file now = record {
 }
 
 -- of the newest state a read gives one of its images
-abbrev IsReadable : List File → Type 0
-IsReadable [] = Unit {0}
-IsReadable (file ∷ past) = Image file file.content
-
-readable_after :
-    (change : File → File) (files : List File)
-    → ((file : File) → Image file file.content → Image (change file) (change file).content)
-    → IsReadable files → IsReadable (after change files)
-readable_after change [] keeps now = tt
-readable_after change (file ∷ past) keeps now = keeps file now
-
-states_readable : (calls : List Call) (lost content : List ℕ) → IsReadable (states calls lost content)
-states_readable [] lost content = image_settled []
-states_readable (ToEnd at over ∷ calls) lost content =
-    let bytes = drop at content in
-    readable_after (wrote at bytes) _ (image_wrote at bytes) (states_readable calls (all_but over lost) (with_tail at (last_bytes over lost) content))
-states_readable (Within at len ∷ calls) lost content =
-    let bytes = take len (drop at content) in
-    readable_after (wrote at bytes) _ (image_wrote at bytes) (states_readable calls (all_but len lost) (with_part at len (last_bytes len lost) content))
-states_readable (Cut by ∷ calls) lost content =
-    let n = length content in
-    readable_after (shortened n) _ (image_shortened n) (states_readable calls (all_but by lost) (content ++ last_bytes by lost))
-states_readable (Kept at ∷ calls) lost content =
-    let bytes = drop at content in
-    readable_after synced _ (λ file now. image_settled file.content)
-    (readable_after (wrote at bytes) _ (image_wrote at bytes) (states_readable calls (all_but 0 lost) (with_tail at (last_bytes 0 lost) content)))
-states_readable (Opened at ∷ calls) lost content =
-    let front = all_but 1 lost in
-    let closed = with_part at 1 (last_bytes 1 lost) content in
-    let gate = take 1 (drop at content) in
-    let bytes = drop (at + 1) closed in
-    readable_after synced _ (λ file now. image_settled file.content)
-    (readable_after (wrote at gate) _ (image_wrote at gate)
-    (readable_after synced _ (λ file now. image_settled file.content)
-    (readable_after (wrote (at + 1) bytes) _ (image_wrote (at + 1) bytes) (states_readable calls (all_but 0 front) (with_tail (at + 1) (last_bytes 0 front) closed)))))
-states_readable (Synced ∷ calls) lost content = readable_after synced _ (λ file now. image_settled file.content) (states_readable calls lost content)
-states_readable (Restarted at over ∷ calls) lost content =
-    readable_after restarted _ (λ file now. image_settled file.kept) (states_readable calls (all_but over lost) (with_tail at (last_bytes over lost) content))
+states_readable : (calls : List Call) (lost content : List ℕ) → IfTold (states calls lost content) (λ file. Image file file.content)
+states_readable =
+    newest_state (λ file. Image file file.content) (image_settled []) image_wrote image_shortened (λ file. image_settled file.content) (λ file. image_settled file.kept)
 
 pub readable : (calls : List Call) (lost content : List ℕ) (file : File) (past : List File) → states calls lost content ≡ file ∷ past → Image file file.content
-readable calls lost content file past is = subst IsReadable is (states_readable calls lost content)
+readable calls lost content file past is = subst (λ (files : List File). IfTold files (λ f. Image f f.content)) is (states_readable calls lost content)

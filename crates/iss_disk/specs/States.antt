@@ -29,16 +29,19 @@ with_part at len former content = take at content ++ former ++ drop (at + len) c
 -- oldest first.
 abbrev pub states : List Call → List ℕ → List ℕ → List File
 states [] lost content = settled [] ∷ []
-states (ToEnd at over ∷ calls) lost content = after (wrote at (drop at content)) (states calls (all_but over lost) (with_tail at (last_bytes over lost) content))
-states (Within at len ∷ calls) lost content = after (wrote at (take len (drop at content))) (states calls (all_but len lost) (with_part at len (last_bytes len lost) content))
+states (ToEnd at over ∷ calls) lost content =
+    after (wrote at (drop at content)) (states calls (all_but over lost) (with_tail at (last_bytes over lost) content))
+states (Within at len ∷ calls) lost content =
+    after (wrote at (take len (drop at content))) (states calls (all_but len lost) (with_part at len (last_bytes len lost) content))
 states (Cut by ∷ calls) lost content = after (shortened (length content)) (states calls (all_but by lost) (content ++ last_bytes by lost))
 states (Kept at ∷ calls) lost content =
     after synced (after (wrote at (drop at content)) (states calls (all_but 0 lost) (with_tail at (last_bytes 0 lost) content)))
-states (Opened at ∷ calls) lost content =
+states (Opened len ∷ calls) lost content =
+    let kept = length content - len in
     let front = all_but 1 lost in
-    let closed = with_part at 1 (last_bytes 1 lost) content in
-    after synced (after (wrote at (take 1 (drop at content)))
-    (after synced (after (wrote (at + 1) (drop (at + 1) closed)) (states calls (all_but 0 front) (with_tail (at + 1) (last_bytes 0 front) closed)))))
+    let closed = with_part (kept - 1) 1 (last_bytes 1 lost) content in
+    after synced (after (wrote (kept - 1) (take 1 (drop (kept - 1) content)))
+    (after synced (after (wrote kept (drop kept closed)) (states calls (all_but 0 front) (with_tail kept (last_bytes 0 front) closed)))))
 states (Synced ∷ calls) lost content = after synced (states calls lost content)
 states (Restarted at over ∷ calls) lost content = after restarted (states calls (all_but over lost) (with_tail at (last_bytes over lost) content))
 
@@ -47,7 +50,7 @@ abbrev pub calls_of : Recent → List Call
 calls_of Nothing = []
 calls_of (Just_wrote at) = ToEnd at 0 ∷ []
 calls_of (Just_kept at) = Kept at ∷ []
-calls_of (Opening at kept) = Within at 1 ∷ Kept kept ∷ []
+calls_of (Opening kept) = Within (kept - 1) 1 ∷ Kept kept ∷ []
 
 -- the newest state
 abbrev pub newest : List File → File
@@ -61,7 +64,7 @@ is_pending (ToEnd at over ∷ calls) = true
 is_pending (Within at len ∷ calls) = true
 is_pending (Cut by ∷ calls) = true
 is_pending (Kept at ∷ calls) = false
-is_pending (Opened at ∷ calls) = false
+is_pending (Opened len ∷ calls) = false
 is_pending (Synced ∷ calls) = false
 is_pending (Restarted at over ∷ calls) = false
 
@@ -80,8 +83,9 @@ example = refl
 
 -- Two bytes behind a gate are written and synced, and then the gate is opened and synced.
 
-opened_is_kept : states (Opened 0 ∷ ToEnd 0 0 ∷ []) (97 ∷ []) (100 ∷ 98 ∷ 99 ∷ []) ≡ states (Synced ∷ Within 0 1 ∷ Synced ∷ ToEnd 1 0 ∷ ToEnd 0 0 ∷ []) (97 ∷ []) (100 ∷ 98 ∷ 99 ∷ [])
+opened_is_kept : states (Opened 2 ∷ ToEnd 0 0 ∷ []) (97 ∷ []) (100 ∷ 98 ∷ 99 ∷ []) ≡
+    states (Synced ∷ Within 0 1 ∷ Synced ∷ ToEnd 1 0 ∷ ToEnd 0 0 ∷ []) (97 ∷ []) (100 ∷ 98 ∷ 99 ∷ [])
 opened_is_kept = refl
 
-opened_leaves : newest (states (Opened 0 ∷ ToEnd 0 0 ∷ []) (97 ∷ []) (100 ∷ 98 ∷ 99 ∷ [])) ≡ settled (100 ∷ 98 ∷ 99 ∷ [])
+opened_leaves : newest (states (Opened 2 ∷ ToEnd 0 0 ∷ []) (97 ∷ []) (100 ∷ 98 ∷ 99 ∷ [])) ≡ settled (100 ∷ 98 ∷ 99 ∷ [])
 opened_leaves = refl

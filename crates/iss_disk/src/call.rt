@@ -11,8 +11,8 @@ pub enum Call {
     Cut { by: usize },
     /// All that stands from an offset on was written, where the file ended, and then it was synced.
     Kept { at: usize },
-    /// All that stands behind an offset was written, where the file ended, and synced, and then one byte over the one at it, and synced.
-    Opened { at: usize },
+    /// So many bytes were written where the file ended, and synced, and then one over the last one before them, and synced.
+    Opened { len: usize },
     /// It was synced.
     Synced,
     /// A crash left what was synced. From an offset on so many bytes had stood there.
@@ -28,6 +28,6 @@ pub enum Recent {
     Wrote { at: usize },
     /// They were written so, and then it was synced.
     Kept { at: usize },
-    /// They were kept so from an offset on, and then one byte was written over the one at another.
-    Opening { at: usize, kept: usize },
+    /// They were kept so from an offset on, and then one byte was written over the last one before it.
+    Opening { kept: usize },
 }

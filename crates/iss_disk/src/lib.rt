@@ -8,6 +8,7 @@ mod fate;
 mod file;
 mod lent;
 mod memory;
+mod notes;
 mod stored;
 
 pub use disk::{Disk, Fused};

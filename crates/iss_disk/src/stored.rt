@@ -1,13 +1,18 @@
 // One file of a memory disk.
-ghost use Rattle.std.specs.Prelude.{◌≡◌, ◌+◌, ◌-◌, ◌<◌, ◌≤◌, ◌++◌, min, max, true, false, List, ℕ, length, take, drop, reverse, vec_len, vec_capacity, IfOk, OnOk, [], ◌∷◌};
+ghost use Rattle.std.specs.Prelude.{◌≡◌, ◌+◌, ◌-◌, ◌<◌, ◌≤◌, ◌++◌, min, max, true, false, List, ℕ, length, take, drop, vec_len, vec_capacity, IfOk, OnOk, [], ◌∷◌};
 ghost use Rattle.iss_disk.specs.File.{settled, overwritten, wrote, shortened, synced, restarted};
 ghost use Rattle.iss_disk.specs.States.{states, after, newest, is_pending, calls_of, IsStored};
+ghost use Rattle.iss_disk.specs.NoteViews.{calls_in, room_in};
 ghost use Rattle.iss_disk.specs.declared.call.Call.{Call};
 ghost use Rattle.iss_disk.specs.declared.call.Recent.{Recent};
 
 use crate::NoMemory;
 use crate::call::{Call, Recent};
+use crate::notes::Notes;
 use std::alloc::{AllocError, Global};
+
+// How many bytes at most may stand behind a gate that takes a short note.
+const LONGEST_NOTED: usize = 4_294_967_295;
 
 /// A file in memory, with the list of the calls on it and what they took away, so that each can be undone.
 #[derive(Drop)]
@@ -22,17 +27,18 @@ pub struct StoredFile {
     // Whether a write or a cut came since.
     pending: bool,
     // The calls, but for the last ones, which may become one note.
-    calls: Vec<Call>,
+    calls: Notes,
     recent: Recent,
     // What the calls took away, one behind the other: what stands there still is noted nowhere else.
     lost: Vec<u8>,
-    ghost stored: { IsStored (states (calls_of recent ++ reverse calls.items) lost.items content.items) content.items behind.items same resumes },
-    ghost waits: { pending ≡ is_pending (calls_of recent ++ reverse calls.items) },
+    ghost stored: { IsStored (states (calls_of recent ++ calls_in calls) lost.items content.items)
+        content.items behind.items same resumes },
+    ghost waits: { pending ≡ is_pending (calls_of recent ++ calls_in calls) },
     // A sync, a restart and setting apart what was synced take no memory.
     ghost room_to_sync: { vec_len content ≤ vec_capacity behind },
     ghost room_to_part: { same + vec_len behind + (vec_len content - resumes) ≤ vec_capacity behind },
     ghost room_to_restart: { same + vec_len behind + (vec_len content - resumes) ≤ vec_capacity content },
-    ghost call_to_restart: { pending ≡ true → vec_len calls + length (calls_of recent) < vec_capacity calls },
+    ghost call_to_restart: { pending ≡ true → length (calls_of recent) < room_in calls },
     ghost room_to_lose: { pending ≡ true → vec_len lost + vec_len content ≤ vec_capacity lost },
 }
 
@@ -120,44 +126,44 @@ fn put_back(content: &mut Vec<u8>, same: usize, behind: &[u8])
     let _ = content.extend_from_slice(behind);
 }
 
-// Puts the last calls into the list.
-fn note_all(calls: &mut Vec<Call>, recent: Recent)
-    requires { vec_len calls.old + length (calls_of recent) ≤ vec_capacity calls.old }
-    ensures states { (lost content : List ℕ) → states (reverse calls.new.items) lost content ≡ states (calls_of recent ++ reverse calls.old.items) lost content }
-    ensures waits { is_pending (reverse calls.new.items) ≡ is_pending (calls_of recent ++ reverse calls.old.items) }
-    ensures len { vec_len calls.new ≡ vec_len calls.old + length (calls_of recent) }
-    ensures capacity { vec_capacity calls.old ≤ vec_capacity calls.new }
+// Notes the last calls.
+fn note_all(calls: &mut Notes, recent: Recent)
+    requires { length (calls_of recent) ≤ room_in calls.old }
+    ensures calls { calls_in calls.new ≡ calls_of recent ++ calls_in calls.old }
+    ensures room { room_in calls.old ≤ room_in calls.new + length (calls_of recent) }
 {
     match recent {
         Recent::Nothing => (),
-        Recent::Wrote { at } => calls.push_reserved(Call::ToEnd { at, over: 0 }),
-        Recent::Kept { at } => calls.push_reserved(Call::Kept { at }),
-        Recent::Opening { at, kept } => {
-            calls.push_reserved(Call::Kept { at: kept });
-            calls.push_reserved(Call::Within { at, len: 1 });
+        Recent::Wrote { at } => calls.push(Call::ToEnd { at, over: 0 }),
+        Recent::Kept { at } => calls.push(Call::Kept { at }),
+        Recent::Opening { kept } => {
+            calls.push(Call::Kept { at: kept });
+            calls.push(Call::Within {
+                at: kept.saturating_sub(1),
+                len: 1,
+            });
         }
     }
 }
 
-// Notes a sync, and tells the calls that are not in the list behind it. So an entry of a journal is one note.
+// Notes a sync of a file of so many bytes, and tells the calls that are not noted yet behind it. So an entry of a journal is one note.
 #[inline(always)]
-fn note_sync(calls: &mut Vec<Call>, recent: Recent) -> Recent
-    requires { vec_len calls.old + length (calls_of recent) < vec_capacity calls.old }
-    ensures states { (lost content : List ℕ) →
-        states (calls_of result ++ reverse calls.new.items) lost content ≡ after synced (states (calls_of recent ++ reverse calls.old.items) lost content) }
-    ensures waits { is_pending (calls_of result ++ reverse calls.new.items) ≡ false }
-    ensures len { vec_len calls.new + length (calls_of result) ≤ vec_len calls.old + length (calls_of recent) + 1 }
-    ensures capacity { vec_capacity calls.old ≤ vec_capacity calls.new }
+fn note_sync(calls: &mut Notes, recent: Recent, end: usize) -> Recent
+    requires { length (calls_of recent) < room_in calls.old }
+    ensures states { (lost content : List ℕ) → length content ≡ end → states (calls_of result ++ calls_in calls.new) lost content
+        ≡ after synced (states (calls_of recent ++ calls_in calls.old) lost content) }
+    ensures waits { is_pending (calls_of result ++ calls_in calls.new) ≡ false }
+    ensures room { room_in calls.old + length (calls_of result) ≤ room_in calls.new + length (calls_of recent) + 1 }
 {
     match recent {
         Recent::Wrote { at } => Recent::Kept { at },
-        Recent::Opening { at, kept } if kept > at && kept - at == 1 => {
-            calls.push_reserved(Call::Opened { at });
+        Recent::Opening { kept } if kept <= end && end - kept <= LONGEST_NOTED => {
+            calls.push_opened((end - kept) as u32);
             Recent::Nothing
         }
         _ => {
             note_all(calls, recent);
-            calls.push_reserved(Call::Synced);
+            calls.push(Call::Synced);
             Recent::Nothing
         }
     }
@@ -243,7 +249,7 @@ impl StoredFile {
             behind: Vec::new(alloc),
             resumes: 0,
             pending: false,
-            calls: Vec::new(alloc),
+            calls: Notes::new(alloc),
             recent: Recent::Nothing,
             lost: Vec::new(alloc),
         })
@@ -285,7 +291,7 @@ impl StoredFile {
         self.resumes = at + 1;
         self.content[at] = byte;
         self.pending = true;
-        self.recent = Recent::Opening { at, kept: at + 1 };
+        self.recent = Recent::Opening { kept: at + 1 };
         self.lost.push_reserved(former);
     }
 
@@ -326,7 +332,7 @@ impl StoredFile {
         overwrite(&mut self.content, at, bytes);
         self.resumes = self.content.len();
         self.pending = true;
-        self.calls.push_reserved(call);
+        self.calls.push(call);
     }
 
     #[inline(always)]
@@ -370,7 +376,7 @@ impl StoredFile {
         self.content.truncate(len);
         self.resumes = len;
         self.pending = true;
-        self.calls.push_reserved(Call::Cut { by });
+        self.calls.push(Call::Cut { by });
     }
 
     #[inline(always)]
@@ -384,7 +390,7 @@ impl StoredFile {
         self.same = self.content.len();
         self.resumes = self.same;
         self.pending = false;
-        self.recent = note_sync(&mut self.calls, self.recent);
+        self.recent = note_sync(&mut self.calls, self.recent, self.same);
     }
 
     /// A crash that leaves what was synced.
@@ -414,6 +420,6 @@ impl StoredFile {
         self.same = self.content.len();
         self.resumes = self.same;
         self.pending = false;
-        self.calls.push_reserved(Call::Restarted { at, over });
+        self.calls.push(Call::Restarted { at, over });
     }
 }

@@ -1,13 +1,13 @@
 -- What a kept node's disk holds from call to call, for whoever holds kept nodes: what is synced of its file are the entries, so that
 -- after a restart the node is reopened as it was.
-use Rattle.std.proofs.Common.{arith, ◌≡◌, ◌≢◌, inl, inr, ℕ, zero, suc, ◌+◌, ◌-◌, ◌<◌, ◌≤◌, Bool, true, false, List, [], ◌∷◌, ◌++◌, length, reverse, take, drop, Some, refl, sym, ap, ◌∙◌, subst, length-append}
+use Rattle.std.proofs.Common.{arith, ◌≡◌, ◌≢◌, inl, inr, ℕ, zero, suc, ◌+◌, ◌-◌, ◌<◌, ◌≤◌, Bool, true, false, List, [], ◌∷◌, ◌++◌, length, take, drop, Some, refl, sym, ap, ◌∙◌, subst, length-append}
 use Rattle.iss_disk.specs.Calls.{IfTold, Passes, Restarts, Room, Runs, Stays, script, up_to}
-use Rattle.iss_disk.specs.File.{File, Image, restarted, settled, shortened, synced, wrote}
+use Rattle.iss_disk.specs.EachState.{newest_state, states_some}
+use Rattle.iss_disk.specs.File.{File, Image, settled, shortened, synced, wrote}
+use Rattle.iss_disk.specs.NoteViews.{calls_in}
 use Rattle.iss_disk.specs.ReadsAreImages.{image_settled}
-use Rattle.iss_disk.specs.States.{after, all_but, calls_of, last_bytes, states, with_part, with_tail}
+use Rattle.iss_disk.specs.States.{calls_of}
 use Rattle.iss_disk.specs.StoredViews.{history_of}
-use Rattle.iss_disk.specs.declared.call.Call.{Call}
-use Rattle.iss_disk.specs.declared.call.Call.TheVariants.{Cut, Kept, Opened, Restarted, Synced, ToEnd, Within}
 use Rattle.iss_disk.specs.declared.stored.StoredFile.{StoredFile}
 use Rattle.iss_journal.specs.Frames.{AreShort, Reading, Reads, damaged, frames, holds}
 use Rattle.iss_journal.specs.Promises.{OnlyLeaves, RestsOn}
@@ -80,65 +80,16 @@ kept-wrote at bytes file h = record { long_enough = h.long_enough; short_enough 
 kept-shortened : (n : ℕ) (file : File) → Image file file.kept → Image (shortened n file) file.kept
 kept-shortened n file h = record { long_enough = omega (arith, h.long_enough); short_enough = h.short_enough; others = λ i within below outside. refl }
 
-kept-after : (change : File → File) (files : List File) → ((file : File) → Image file file.kept → Image (change file) (change file).kept) →
-    IfTold files (λ file. Image file file.kept) → IfTold (after change files) (λ file. Image file file.kept)
-kept-after change [] keeps h = tt
-kept-after change (file ∷ past) keeps h = keeps file h
-
-states-kept : (calls : List Call) (lost content : List ℕ) → IfTold (states calls lost content) (λ file. Image file file.kept)
-states-kept [] lost content = image_settled []
-states-kept (ToEnd at over ∷ calls) lost content =
-    let bytes = drop at content in
-    kept-after (wrote at bytes) _ (kept-wrote at bytes) (states-kept calls (all_but over lost) (with_tail at (last_bytes over lost) content))
-states-kept (Within at len ∷ calls) lost content =
-    let bytes = take len (drop at content) in
-    kept-after (wrote at bytes) _ (kept-wrote at bytes) (states-kept calls (all_but len lost) (with_part at len (last_bytes len lost) content))
-states-kept (Cut by ∷ calls) lost content =
-    let n = length content in
-    kept-after (shortened n) _ (kept-shortened n) (states-kept calls (all_but by lost) (content ++ last_bytes by lost))
-states-kept (Kept at ∷ calls) lost content =
-    let bytes = drop at content in
-    kept-after synced _ (λ file h. image_settled file.content)
-    (kept-after (wrote at bytes) _ (kept-wrote at bytes) (states-kept calls (all_but 0 lost) (with_tail at (last_bytes 0 lost) content)))
-states-kept (Opened at ∷ calls) lost content =
-    let front = all_but 1 lost in
-    let closed = with_part at 1 (last_bytes 1 lost) content in
-    let gate = take 1 (drop at content) in
-    let bytes = drop (at + 1) closed in
-    kept-after synced _ (λ file h. image_settled file.content)
-    (kept-after (wrote at gate) _ (kept-wrote at gate)
-    (kept-after synced _ (λ file h. image_settled file.content)
-    (kept-after (wrote (at + 1) bytes) _ (kept-wrote (at + 1) bytes) (states-kept calls (all_but 0 front) (with_tail (at + 1) (last_bytes 0 front) closed)))))
-states-kept (Synced ∷ calls) lost content = kept-after synced _ (λ file h. image_settled file.content) (states-kept calls lost content)
-states-kept (Restarted at over ∷ calls) lost content =
-    kept-after restarted _ (λ file h. image_settled file.kept) (states-kept calls (all_but over lost) (with_tail at (last_bytes over lost) content))
-
 pub stored-kept : (file : StoredFile) → IfTold (history_of file) (λ f. Image f f.kept)
-stored-kept file = states-kept (calls_of file.recent ++ reverse file.calls.items) file.lost.items file.content.items
+stored-kept file =
+    newest_state (λ f. Image f f.kept) (image_settled []) kept-wrote kept-shortened (λ f. image_settled f.content) (λ f. image_settled f.kept)
+    (calls_of file.recent ++ calls_in file.calls) file.lost.items file.content.items
 
 -- and it tells its states
-told-after : (change : File → File) (files : List File) → (f : File) × (past : List File) × (files ≡ f ∷ past) →
-    (f : File) × (past : List File) × (after change files ≡ f ∷ past)
-told-after change files h = (change h.0, h.0 ∷ h.1, ap (after change) h.2)
-
-states-told : (calls : List Call) (lost content : List ℕ) → (f : File) × (past : List File) × (states calls lost content ≡ f ∷ past)
-states-told [] lost content = (settled [], [], refl)
-states-told (ToEnd at over ∷ calls) lost content = told-after (wrote at (drop at content)) _ (states-told calls (all_but over lost) (with_tail at (last_bytes over lost) content))
-states-told (Within at len ∷ calls) lost content =
-    told-after (wrote at (take len (drop at content))) _ (states-told calls (all_but len lost) (with_part at len (last_bytes len lost) content))
-states-told (Cut by ∷ calls) lost content = told-after (shortened (length content)) _ (states-told calls (all_but by lost) (content ++ last_bytes by lost))
-states-told (Kept at ∷ calls) lost content =
-    told-after synced _ (told-after (wrote at (drop at content)) _ (states-told calls (all_but 0 lost) (with_tail at (last_bytes 0 lost) content)))
-states-told (Opened at ∷ calls) lost content =
-    let front = all_but 1 lost in
-    let closed = with_part at 1 (last_bytes 1 lost) content in
-    told-after synced _ (told-after (wrote at (take 1 (drop at content))) _
-    (told-after synced _ (told-after (wrote (at + 1) (drop (at + 1) closed)) _ (states-told calls (all_but 0 front) (with_tail (at + 1) (last_bytes 0 front) closed)))))
-states-told (Synced ∷ calls) lost content = told-after synced _ (states-told calls lost content)
-states-told (Restarted at over ∷ calls) lost content = told-after restarted _ (states-told calls (all_but over lost) (with_tail at (last_bytes over lost) content))
-
 pub stored-told : (file : StoredFile) → (f : File) × (past : List File) × (history_of file ≡ f ∷ past)
-stored-told file = states-told (calls_of file.recent ++ reverse file.calls.items) file.lost.items file.content.items
+stored-told file =
+    let some = states_some (calls_of file.recent ++ calls_in file.calls) file.lost.items file.content.items in
+    (some.file, some.past, some.is)
 
 -- what every crash leaves is synced
 pub leaves-synced : (entries : List (List ℕ)) (history : List File) → IfTold history (λ file. Image file file.kept) →

@@ -4,12 +4,12 @@ use Rattle.iss_disk.specs.declared.stored.StoredFile.{StoredFile}
 use Rattle.iss_disk.proofs.MemoryLemmas.{among_found, among_removed, among_none, same_read}
 use Rattle.iss_disk.proofs.memory.take_named.Goals as goal
 
-same_file : (c : goal.After-drop-fresh-then-eq-4) → c.index.result.now ≡ c.remove.result
+same_file : (c : goal.After-drop-fresh-then-eq-5) → c.index.result.now ≡ c.remove.result
 same_file c =
     let within : c.loop-i.i < length c.loop-i.others.items = search rules in
     same_read c.loop-i.others.items c.loop-i.i c.index.result.now c.remove.result within c.index.ensures c.remove.ensures.value
 
-named : (c : goal.After-drop-fresh-then-eq-4) → c.remove.result.name.items ≡ c.args.fresh.name.items
+named : (c : goal.After-drop-fresh-then-eq-5) → c.remove.result.name.items ≡ c.args.fresh.name.items
 named c =
     let is : c.index.result.now.name.items ≡ c.args.fresh.name.items = search rules in
     ap (λ (f : StoredFile). f.name.items) (sym (same_file c)) ∙ is

@@ -1,4 +1,4 @@
-use Rattle.std.proofs.Common.{rules, ◌≡◌, ◌∙◌, ap, ◌+◌, ℕ, ◌≤◌, List, ◌∷◌, ◌++◌, length, take, drop, arith}
+use Rattle.std.proofs.Common.{rules, ◌≡◌, ◌∙◌, ap, ◌+◌, ℕ, ◌≤◌, List, ◌∷◌, ◌++◌, length, take, drop}
 use Rattle.iss_disk.specs.File.{overwritten}
 use Rattle.iss_disk.specs.States.{states}
 use Rattle.iss_disk.specs.declared.call.Call.TheVariants.{Within}

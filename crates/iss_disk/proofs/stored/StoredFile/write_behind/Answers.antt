@@ -1,16 +1,17 @@
-use Rattle.std.proofs.Common.{rules, sym, ◌≡◌, ◌∙◌, ap, ℕ, ◌≤◌, List, [], ◌∷◌, ◌++◌, length, take, drop, reverse, arith}
+use Rattle.std.proofs.Common.{rules, sym, ◌≡◌, ◌∙◌, ap, ℕ, ◌≤◌, List, ◌++◌, length, take, drop, arith}
 use Rattle.std.proofs.lemmas.List.{take_all}
 use Rattle.iss_disk.specs.File.{overwritten, wrote}
+use Rattle.iss_disk.specs.NoteViews.{calls_in}
 use Rattle.iss_disk.specs.States.{states, after, calls_of}
-use Rattle.iss_disk.specs.declared.call.Recent.{Recent}
 use Rattle.iss_disk.specs.declared.call.Recent.TheVariants.{Wrote}
-use Rattle.iss_disk.proofs.StoredLemmas.{write_keeps, states_some, written_behind, to-end-overwritten, nothing_behind}
+use Rattle.iss_disk.specs.EachState.{states_some}
+use Rattle.iss_disk.proofs.StoredLemmas.{write_keeps, written_behind, to-end-overwritten, nothing_behind}
 use Rattle.iss_disk.proofs.stored.StoredFile.write_behind.Goals as goal
 
 pub invariant_of-self-clause-stored : goal.invariant_of-self-clause-stored
 invariant_of-self-clause-stored c =
     let content = c.args.self.now.content.items in
-    let listed = reverse c.args.self.now.calls.items in
+    let listed = calls_in c.args.self.now.calls in
     let calls = calls_of c.args.self.now.recent ++ listed in
     let lost = c.args.self.now.lost.items in
     let behind = c.args.self.now.behind.items in
@@ -35,4 +36,4 @@ invariant_of-self-clause-stored c =
 pub returns-clause-states : goal.returns-clause-states
 returns-clause-states c =
     let extended : c.extend_from_slice.new.self.items ≡ c.args.self.now.content.items ++ c.args.bytes.now = search rules in
-    written_behind c.args.self.now.recent (reverse c.args.self.now.calls.items) c.args.self.now.same c.args.bytes.now c.args.self.now.content.items c.args.self.now.lost.items c.extend_from_slice.new.self.items c.requires.all_noted c.requires.all_synced extended
+    written_behind c.args.self.now.recent (calls_in c.args.self.now.calls) c.args.self.now.same c.args.bytes.now c.args.self.now.content.items c.args.self.now.lost.items c.extend_from_slice.new.self.items c.requires.all_noted c.requires.all_synced extended
