@@ -5,4 +5,4 @@ use Rattle.iss_journal.specs.declared.entries.Entries.{Entries}
 
 -- the entries, the first appended first
 abbrev pub entries_in : Entries → List (List ℕ)
-entries_in entries = entries_at entries.bytes.items entries.gates.items
+entries_in entries = entries_at entries.bytes.items entries.count

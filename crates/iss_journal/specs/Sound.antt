@@ -32,7 +32,7 @@ reserved_of journal = longest_of journal.reserved.below
 pub record HasRoom (spare : Spare) (entries : Entries) (room : Room) : Type 0 where
   pub some : 1 ≤ spare.entries
   pub in_memory : length (frames (entries_in entries)) + spare.below + 5 ≤ vec_capacity entries.bytes
-  pub for_gates : vec_len entries.gates + spare.entries ≤ vec_capacity entries.gates
+  pub for_marks : vec_len entries.marks + spare.entries ≤ vec_capacity entries.marks
   pub calls : 4 * spare.entries ≤ room.calls
   pub on_disk : spare.below + 5 ≤ room.bytes
 

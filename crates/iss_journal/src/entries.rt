@@ -1,7 +1,7 @@
 // The entries of a journal, as they lie in its file.
-ghost use Rattle.iss_journal.specs.Views.{IsBook};
-ghost use Rattle.std.specs.Prelude.{◌≡◌, ◌+◌, ◌≤◌, ◌++◌, [], ◌∷◌, length, vec_len, vec_capacity};
-ghost use Rattle.iss_journal.specs.Frames.{short_prop, frame, max_entry};
+ghost use Rattle.iss_journal.specs.Views.{AreMarks, IsBook, end_at, entries_at};
+ghost use Rattle.std.specs.Prelude.{◌≡◌, ◌+◌, ◌<◌, ◌≤◌, ◌++◌, ℕ, List, [], ◌∷◌, length, vec_len, vec_capacity};
+ghost use Rattle.iss_journal.specs.Frames.{short_prop, frame, frames, max_entry};
 ghost use Rattle.std.proofs.Props.{props};
 
 use std::alloc::{AllocError, Global};
@@ -19,11 +19,13 @@ pub(crate) const CLOSED: u8 = 0;
 pub struct Entries {
     // The file's bytes up to its last gate; behind it lies what is about to be appended.
     bytes: Vec<u8>,
-    // The offset of the gate of each entry.
-    gates: Vec<u64>,
+    count: usize,
+    // The offset of the gate of each eighth entry. The others are found from there by the lengths behind the gates.
+    marks: Vec<u64>,
     // The offset of the last gate, behind which there is no entry yet.
     last: usize,
-    ghost book: { IsBook bytes.items gates.items last } by { Prim.hlevel (short_prop, props) },
+    ghost book: { IsBook bytes.items count last } by { Prim.hlevel (short_prop, props) },
+    ghost marked: { AreMarks marks.items (entries_at bytes.items count) },
 }
 
 // Adds some bytes for which there is room.
@@ -62,11 +64,36 @@ fn put_frame(bytes: &mut Vec<u8>, head: &[u8], body: &[u8])
     bytes.push_reserved(CLOSED);
 }
 
+// Where an entry ends whose gate lies at an offset.
+fn end_of(bytes: &[u8], gate: usize) -> usize
+    requires within { end_at bytes.now gate ≤ length bytes.now }
+    ensures { result ≡ end_at bytes.now gate }
+{
+    let [a, b, c, d, ..] = &bytes[gate + 1..] else {
+        return gate;
+    };
+    gate + 5 + u32::from_be_bytes([*a, *b, *c, *d]) as usize
+}
+
+// Remembers where the gate of an entry lies that comes behind so many, if it is one of the eighth ones.
+#[inline(always)]
+pub(crate) fn mark(marks: &mut Vec<u64>, count: usize, gate: usize)
+    requires room { vec_len marks.old < vec_capacity marks.old }
+    ensures marked { (entries : List (List ℕ)) (entry : List ℕ) → count ≡ length entries → gate ≡ length (frames entries) →
+        AreMarks marks.old.items entries → AreMarks marks.new.items (entries ++ entry ∷ []) }
+    ensures len { vec_len marks.new ≤ vec_len marks.old + 1 }
+    ensures capacity { vec_capacity marks.old ≤ vec_capacity marks.new }
+{
+    if count / 8 >= marks.len() {
+        marks.push_reserved(gate as u64);
+    }
+}
+
 impl Entries {
     ghost use Rattle.std.specs.Prelude.{◌≡◌, ◌+◌, ◌<◌, ◌≤◌, ◌++◌, [], ◌∷◌, length, take, drop, slice_index_or, vec_len, vec_capacity, OnOk, IsTrue, ◌↔◌};
     ghost use Rattle.std.specs.Int.{w32, to_be_bytes};
     ghost use Rattle.iss_journal.specs.Frames.{frame, frames, max_entry};
-    ghost use Rattle.iss_journal.specs.Views.{IsBook, entries_at};
+    ghost use Rattle.iss_journal.specs.Views.{AreMarks, IsBook, entries_at};
     ghost use Rattle.iss_journal.specs.EntryViews.{entries_in};
 
     pub(crate) fn new(alloc: Global) -> Entries
@@ -75,25 +102,32 @@ impl Entries {
     {
         Entries {
             bytes: Vec::new(alloc),
-            gates: Vec::new(alloc),
+            count: 0,
+            marks: Vec::new(alloc),
             last: 0,
         }
     }
 
-    // The entries that lie in these bytes behind these gates.
-    pub(crate) fn from_parts(bytes: Vec<u8>, gates: Vec<u64>, last: usize) -> Entries
-        requires { IsBook bytes.items gates.items last }
-        ensures entries { entries_in result ≡ entries_at bytes.items gates.items }
+    // So many entries that lie in these bytes.
+    pub(crate) fn from_parts(bytes: Vec<u8>, count: usize, marks: Vec<u64>, last: usize) -> Entries
+        requires book { IsBook bytes.items count last }
+        requires marked { AreMarks marks.items (entries_at bytes.items count) }
+        ensures entries { entries_in result ≡ entries_at bytes.items count }
         ensures bytes { result.bytes.items ≡ bytes.items }
     {
-        Entries { bytes, gates, last }
+        Entries {
+            bytes,
+            count,
+            marks,
+            last,
+        }
     }
 
     /// How many entries there are.
     pub fn len(&self) -> usize
         ensures { result ≡ length (entries_in self.now) }
     {
-        self.gates.len()
+        self.count
     }
 
     /// The entry with this number, from 0.
@@ -101,21 +135,9 @@ impl Entries {
         requires { k < length (entries_in self.now) }
         ensures { result.now ≡ slice_index_or (entries_in self.now) k [] }
     {
-        let end = self.end_of(k);
         let gate = self.gate_of(k) as usize;
+        let end = end_of(&self.bytes, gate);
         &self.bytes[gate + 5..end]
-    }
-
-    // The offset behind the entry with this number, where the next gate lies.
-    fn end_of(&self, k: usize) -> usize
-        requires { k < length (entries_in self.now) }
-        ensures { result ≡ length (frames (take (k + 1) (entries_in self.now))) }
-    {
-        if k + 1 < self.gates.len() {
-            self.gates[k + 1] as usize
-        } else {
-            self.last
-        }
     }
 
     /// The offset in the file of the gate of the entry with this number.
@@ -123,7 +145,11 @@ impl Entries {
         requires { k < length (entries_in self.now) }
         ensures { result ≡ length (frames (take k (entries_in self.now))) }
     {
-        self.gates[k]
+        let mut gate = self.marks[k / 8] as usize;
+        for i in 0..k % 8 {
+            gate = end_of(&self.bytes, gate);
+        }
+        gate as u64
     }
 
     // Where the next entry's gate lies.
@@ -145,14 +171,14 @@ impl Entries {
     pub(crate) fn reserve(&mut self, entries: usize, bytes: usize) -> Result<(), AllocError>
         ensures entries { entries_in self.new ≡ entries_in self.old }
         ensures room { OnOk result (length (frames (entries_in self.old)) + bytes + 6 ≤ vec_capacity self.new.bytes) }
-        ensures gates { OnOk result (vec_len self.new.gates + entries ≤ vec_capacity self.new.gates) }
+        ensures marks { OnOk result (vec_len self.new.marks + entries ≤ vec_capacity self.new.marks) }
         ensures no_less { vec_capacity self.old.bytes ≤ vec_capacity self.new.bytes }
-        ensures gates_same { vec_len self.new.gates ≡ vec_len self.old.gates }
-        ensures gates_no_less { vec_capacity self.old.gates ≤ vec_capacity self.new.gates }
+        ensures marks_same { vec_len self.new.marks ≡ vec_len self.old.marks }
+        ensures marks_no_less { vec_capacity self.old.marks ≤ vec_capacity self.new.marks }
     {
         let wanted = bytes.checked_add(6).ok_or(AllocError)?;
         self.bytes.reserve(wanted)?;
-        self.gates.reserve(entries)
+        self.marks.reserve(entries)
     }
 
     // Puts an entry of two parts behind the last gate, with its length before it and a closed gate behind it.
@@ -160,11 +186,11 @@ impl Entries {
     pub(crate) fn stage(&mut self, head: &[u8], body: &[u8])
         requires short { length (head.now ++ body.now) ≤ max_entry }
         requires room { length (frames (entries_in self.old)) + length (head.now ++ body.now) + 6 ≤ vec_capacity self.old.bytes }
-        requires gate { vec_len self.old.gates < vec_capacity self.old.gates }
+        requires mark { vec_len self.old.marks < vec_capacity self.old.marks }
         ensures entries { entries_in self.new ≡ entries_in self.old }
         ensures bytes { self.new.bytes.items ≡ frames (entries_in self.old) ++ (frame (head.now ++ body.now) ++ 0 ∷ []) }
         ensures no_less { vec_capacity self.old.bytes ≤ vec_capacity self.new.bytes }
-        ensures gates { self.new.gates ≡ self.old.gates }
+        ensures marks { self.new.marks ≡ self.old.marks }
     {
         self.bytes.truncate(self.last);
         put_frame(&mut self.bytes, head, body);
@@ -183,13 +209,14 @@ impl Entries {
     pub(crate) fn commit(&mut self, head: &[u8], body: &[u8])
         requires short { length (head.now ++ body.now) ≤ max_entry }
         requires bytes { self.old.bytes.items ≡ frames (entries_in self.old) ++ (frame (head.now ++ body.now) ++ 0 ∷ []) }
-        requires gate { vec_len self.old.gates < vec_capacity self.old.gates }
+        requires mark { vec_len self.old.marks < vec_capacity self.old.marks }
         ensures entries { entries_in self.new ≡ entries_in self.old ++ (head.now ++ body.now) ∷ [] }
         ensures bytes { self.new.bytes ≡ self.old.bytes }
-        ensures gate { vec_len self.new.gates ≡ vec_len self.old.gates + 1 }
-        ensures no_less { vec_capacity self.old.gates ≤ vec_capacity self.new.gates }
+        ensures mark { vec_len self.new.marks ≤ vec_len self.old.marks + 1 }
+        ensures no_less { vec_capacity self.old.marks ≤ vec_capacity self.new.marks }
     {
-        self.gates.push_reserved(self.last as u64);
+        mark(&mut self.marks, self.count, self.last);
+        self.count += 1;
         self.last += 5 + (head.len() + body.len());
     }
 }

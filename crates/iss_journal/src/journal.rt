@@ -210,7 +210,8 @@ impl<D: Disk> Journal<D> {
         ensures failed { IsErrOf result EndError.Failed → is_attached self.new ≡ false }
 
         // A crash at any moment of the call leaves the entries, with the new one or without; once it is Ok, with it.
-        ensures any_moment { LeavesOnly (HoldsWithOrWithout (entries_of self.old) (head.now ++ body.now)) (D.history (disk_of self.old)) (D.history (disk_of self.new)) }
+        ensures any_moment { LeavesOnly (HoldsWithOrWithout (entries_of self.old) (head.now ++ body.now))
+            (D.history (disk_of self.old)) (D.history (disk_of self.new)) }
         ensures durable { OnOk result (IfTold (D.history (disk_of self.new)) (OnlyLeaves (λ bytes. Reads bytes (holds (entries_of self.new))))) }
 
         // Where it failed, what was synced holds the entries without the new one.

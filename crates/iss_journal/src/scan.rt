@@ -4,7 +4,7 @@ ghost use Rattle.std.specs.Int.{w32, to_be_bytes, from_be_bytes};
 ghost use Rattle.iss_journal.specs.Frames.{IsWhole};
 ghost use Rattle.iss_journal.specs.Scans.{Finds};
 
-use crate::entries::{Entries, MAX_ENTRY, OPEN};
+use crate::entries::{Entries, MAX_ENTRY, OPEN, mark};
 use std::alloc::{AllocError, Global};
 
 /// What a file of more than one byte holds.
@@ -40,16 +40,19 @@ pub(crate) fn read_entries(alloc: Global, bytes: Vec<u8>) -> Result<Found, Alloc
     requires { 1 < vec_len bytes }
     ensures { IfOk result (Finds bytes.items) }
 {
-    let mut gates = Vec::new(alloc);
+    let mut marks = Vec::new(alloc);
+    let mut count = 0;
     let mut at = 0;
     while bytes[at] == OPEN {
         match next_gate(&bytes, at) {
             Some(next) => {
-                gates.push(at as u64)?;
+                marks.reserve(1)?;
+                mark(&mut marks, count, at);
+                count += 1;
                 at = next;
             }
             None => return Ok(Found::Damaged(at as u64)),
         }
     }
-    Ok(Found::Whole(Entries::from_parts(bytes, gates, at)))
+    Ok(Found::Whole(Entries::from_parts(bytes, count, marks, at)))
 }
