@@ -14,6 +14,9 @@ use std::alloc::{AllocError, Global};
 // How many bytes at most may stand behind a gate that takes a short note.
 const LONGEST_NOTED: usize = 4_294_967_295;
 
+// So many bytes at most are put one by one.
+const FEW_BYTES: usize = 16;
+
 /// A file in memory, with the list of the calls on it and what they took away, so that each can be undone.
 #[derive(Drop)]
 pub struct StoredFile {
@@ -169,6 +172,33 @@ fn note_sync(calls: &mut Notes, recent: Recent, end: usize) -> Recent
     }
 }
 
+// Puts bytes behind those that are there, one by one.
+#[inline(always)]
+fn put_few(content: &mut Vec<u8>, bytes: &[u8])
+    requires room { vec_len content.old + length bytes.now ≤ vec_capacity content.old }
+    ensures items { content.new.items ≡ content.old.items ++ bytes.now }
+    ensures capacity { vec_capacity content.old ≤ vec_capacity content.new }
+{
+    for i in 0..bytes.len() {
+        content.push_reserved(bytes[i]);
+    }
+}
+
+// Puts bytes behind those that are there. A small entry was just written byte by byte: a wider read of it would wait until all that is
+// in memory, so it is copied as it was written.
+#[inline(always)]
+fn put_all(content: &mut Vec<u8>, bytes: &[u8])
+    requires room { vec_len content.old + length bytes.now ≤ vec_capacity content.old }
+    ensures items { content.new.items ≡ content.old.items ++ bytes.now }
+    ensures capacity { vec_capacity content.old ≤ vec_capacity content.new }
+{
+    if bytes.len() <= FEW_BYTES {
+        put_few(content, bytes);
+    } else {
+        let _ = content.extend_from_slice(bytes);
+    }
+}
+
 // Takes away all that stands from an offset on.
 fn take_tail(content: &[u8], lost: &mut Vec<u8>, at: usize)
     requires within { at ≤ length content.now }
@@ -308,7 +338,7 @@ impl StoredFile {
         ensures name { self.new.name.items ≡ self.old.name.items }
     {
         let at = self.same;
-        let _ = self.content.extend_from_slice(bytes);
+        put_all(&mut self.content, bytes);
         self.resumes = self.content.len();
         self.pending = true;
         self.recent = Recent::Wrote { at };

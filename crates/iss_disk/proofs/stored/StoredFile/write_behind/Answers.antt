@@ -1,4 +1,4 @@
-use Rattle.std.proofs.Common.{rules, sym, ◌≡◌, ◌∙◌, ap, ℕ, ◌≤◌, List, ◌++◌, length, take, drop, arith}
+use Rattle.std.proofs.Common.{rules, sym, ◌≡◌, ◌∙◌, ap, ℕ, ◌≤◌, List, ◌++◌, length, take, drop, arith, length-append}
 use Rattle.std.proofs.lemmas.List.{take_all}
 use Rattle.iss_disk.specs.File.{overwritten, wrote}
 use Rattle.iss_disk.specs.NoteViews.{calls_in}
@@ -18,7 +18,7 @@ invariant_of-self-clause-stored c =
     let same = c.args.self.now.same in
     let resumes = c.args.self.now.resumes in
     let bytes = c.args.bytes.now in
-    let longer = c.extend_from_slice.new.self.items in
+    let longer = c.put_all.new.content.items in
     let at = length content in
     let all : same ≡ at = c.requires.all_synced in
     let extended : longer ≡ content ++ bytes = search rules in
@@ -28,12 +28,12 @@ invariant_of-self-clause-stored c =
     extended ∙ ap (λ (l : List ℕ). l ++ bytes) (sym (take_all at content (omega arith))) ∙ sym (to-end-overwritten at bytes content (omega arith)) in
     let parted : take same content ++ behind ≡ take same content ++ (behind ++ drop resumes content) =
     ap (λ (l : List ℕ). take same content ++ l) (sym (nothing_behind behind content resumes (omega (arith, all, c.args.self.now.stored.in_order)))) in
-    let grows : length content ≤ length longer = search rules in
+    let grows : length content ≤ length longer = omega (arith, ap length extended, length-append content bytes) in
     let ends : c.len-self.result ≡ length longer = search rules in
     write_keeps (states calls lost content) (states (calls_of (Wrote same) ++ listed) lost longer) at bytes content longer behind behind same resumes same c.len-self.result
     (states_some calls lost content) c.args.self.now.stored (omega arith) (omega arith) (omega (arith, all)) parted one_more over grows ends
 
 pub returns-clause-states : goal.returns-clause-states
 returns-clause-states c =
-    let extended : c.extend_from_slice.new.self.items ≡ c.args.self.now.content.items ++ c.args.bytes.now = search rules in
-    written_behind c.args.self.now.recent (calls_in c.args.self.now.calls) c.args.self.now.same c.args.bytes.now c.args.self.now.content.items c.args.self.now.lost.items c.extend_from_slice.new.self.items c.requires.all_noted c.requires.all_synced extended
+    let extended : c.put_all.new.content.items ≡ c.args.self.now.content.items ++ c.args.bytes.now = search rules in
+    written_behind c.args.self.now.recent (calls_in c.args.self.now.calls) c.args.self.now.same c.args.bytes.now c.args.self.now.content.items c.args.self.now.lost.items c.put_all.new.content.items c.requires.all_noted c.requires.all_synced extended
