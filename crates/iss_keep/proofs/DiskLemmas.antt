@@ -1,9 +1,9 @@
 -- What a kept node's disk holds from call to call, for whoever holds kept nodes: what is synced of its file are the entries, so that
 -- after a restart the node is reopened as it was.
-use Rattle.std.proofs.Common.{arith, ◌≡◌, ◌≢◌, inl, inr, ℕ, zero, suc, ◌+◌, ◌-◌, ◌<◌, ◌≤◌, Bool, true, false, List, [], ◌∷◌, ◌++◌, length, take, drop, Some, refl, sym, ap, ◌∙◌, subst, length-append}
+use Rattle.std.proofs.Common.{arith, ◌≡◌, ◌≢◌, inl, inr, ℕ, zero, suc, ◌+◌, ◌-◌, ◌<◌, ◌≤◌, Bool, true, false, List, [], ◌∷◌, ◌++◌, Some, refl, sym, ap, ◌∙◌, subst, length-append}
 use Rattle.iss_disk.specs.Calls.{IfTold, Passes, Restarts, Room, Runs, Stays, script, up_to}
 use Rattle.iss_disk.specs.EachState.{newest_state, states_some}
-use Rattle.iss_disk.specs.File.{File, Image, settled, shortened, synced, wrote}
+use Rattle.iss_disk.specs.File.{File, Image, restarted, settled, shortened, wrote}
 use Rattle.iss_disk.specs.NoteViews.{calls_in}
 use Rattle.iss_disk.specs.ReadsAreImages.{image_settled}
 use Rattle.iss_disk.specs.States.{calls_of}
