@@ -60,7 +60,8 @@ image_shortened n file now = record {
 -- of the newest state a read gives one of its images
 states_readable : (calls : List Call) (lost content : List ℕ) → IfTold (states calls lost content) (λ file. Image file file.content)
 states_readable =
-    newest_state (λ file. Image file file.content) (image_settled []) image_wrote image_shortened (λ file. image_settled file.content) (λ file. image_settled file.kept)
+    newest_state (λ file. Image file file.content) (image_settled []) image_wrote image_shortened
+    (λ file. image_settled file.content) (λ file. image_settled file.kept)
 
 pub readable : (calls : List Call) (lost content : List ℕ) (file : File) (past : List File) → states calls lost content ≡ file ∷ past → Image file file.content
 readable calls lost content file past is = subst (λ (files : List File). IfTold files (λ f. Image f f.content)) is (states_readable calls lost content)
