@@ -1,4 +1,7 @@
 //! Disks and journals, in memory and over a file of the system.
+ghost use Rattle.std.specs.Prelude.{◌≡◌, [], ◌∷◌};
+ghost use Rattle.iss_disk.specs.File.{settled};
+
 use iss_disk::{Disk, FileDisk, Fused, MemoryDisk};
 use iss_journal::{AttachError, Journal};
 use std::alloc::Global;
@@ -131,20 +134,35 @@ fn a_file_is_attached_anew(rt: HostRuntime) -> Result<(), Fail> {
     Ok(())
 }
 
-// Writes, syncs, writes over it, and crashes: what was synced is left.
-#[test]
-fn a_crash_leaves_what_was_synced(rt: HostRuntime) -> Result<(), Fail> {
-    let mut disk = MemoryDisk::new(rt.alloc())?;
+// Writes, syncs, and writes over what was synced.
+fn write_over<D: Disk>(disk: &mut D) -> Result<(), Fail>
+    requires { D.history disk.old ≡ settled [] ∷ [] }
+{
     disk.reserve(8, 64)?;
     disk.write_at(0, b"abc")?;
     disk.sync()?;
     disk.write_at(2, b"xyz")?;
-    let mut read = [0u8; 8];
-    assert_eq!(rt; disk.read_at(0, &mut read)?, 5);
-    assert_eq!(rt; &read[..5], b"abxyz".as_slice());
+    Ok(())
+}
+
+// At most eight bytes of the file, from an offset on.
+fn read_some<D: Disk>(alloc: Global, disk: &mut D, at: u64) -> Result<Vec<u8>, Fail> {
+    let mut bytes = vec![in alloc; 0u8; 8]?;
+    let count = disk.read_at(at, &mut bytes)?;
+    bytes.truncate(count);
+    Ok(bytes)
+}
+
+// After a crash what was synced is left.
+#[test]
+fn a_crash_leaves_what_was_synced(rt: HostRuntime) -> Result<(), Fail> {
+    let mut disk = MemoryDisk::new(rt.alloc())?;
+    write_over(&mut disk)?;
+    let written = read_some(rt.alloc(), &mut disk, 0)?;
+    assert_eq!(rt; written.as_slice(), b"abxyz".as_slice());
     disk.restart();
     assert_eq!(rt; disk.length()?, 3);
-    assert_eq!(rt; disk.read_at(1, &mut read)?, 2);
-    assert_eq!(rt; &read[..2], b"bc".as_slice());
+    let left = read_some(rt.alloc(), &mut disk, 1)?;
+    assert_eq!(rt; left.as_slice(), b"bc".as_slice());
     Ok(())
 }
