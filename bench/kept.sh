@@ -1,6 +1,6 @@
 #!/usr/bin/env bash
 # Times the events of a node with a journal on a disk in memory beside the same events without one, on the proved build, on one processor
-# (CPU=n chooses it), by turns in one process. The best of TIMES counts. Then a node takes EVENTS timeouts, and its most memory is told.
+# (CPU=n chooses it), one right behind the other in each round. The best of TIMES rounds counts. Then a node takes EVENTS timeouts, and its most memory is told.
 set -eu
 cd "$(dirname "$0")/../crates/benches_kept"
 rt run > out.log 2>&1 || { cat out.log >&2; rm -f out.log; exit 1; }
