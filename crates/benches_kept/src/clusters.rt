@@ -21,7 +21,7 @@ fn nodes_of<M: Sequenced>(
     setup: &Setup,
     directory: &SharedDirectory,
 ) -> Result<Vec<Node<M>>, Fail>
-    requires good { IsSetupOf M.meaning setup.now }
+    requires good { IsSetupOf M.spec setup.now }
     requires directory { directory.now ≡ keys_of setup.now }
 {
     let mut nodes = Vec::new(alloc);
@@ -41,7 +41,7 @@ pub struct Cluster<M: Sequenced> {
 
 /// A cluster that has taken nothing.
 pub(crate) fn start<M: Sequenced>(alloc: Global, setup: &Setup) -> Result<Cluster<M>, Fail>
-    requires { IsSetupOf M.meaning setup.now }
+    requires { IsSetupOf M.spec setup.now }
 {
     let directory = directory_of(alloc, setup)?;
     let nodes = nodes_of::<M>(alloc, setup, &directory)?;

@@ -97,7 +97,7 @@ fn time_both<M: Sequenced>(
     setup: &Setup,
     course: &Course,
 ) -> Result<(u64, u64), Fail>
-    requires { IsSetupOf M.meaning setup.now }
+    requires { IsSetupOf M.spec setup.now }
 {
     let directory = directory_of(rt.alloc(), setup)?;
     make_trees(directory.directory());
@@ -132,7 +132,7 @@ fn compare<M: Sequenced>(
     course: &Course,
     times: u32,
 ) -> Result<(), Fail>
-    requires { IsSetupOf M.meaning setup.now }
+    requires { IsSetupOf M.spec setup.now }
 {
     let mut alone = u64::MAX;
     let mut with = u64::MAX;
@@ -148,7 +148,7 @@ fn compare<M: Sequenced>(
 
 // What node 0 takes where nothing is asked for.
 fn empty_course<M: Sequenced>(alloc: Global, setup: &Setup) -> Result<Course, Fail>
-    requires { IsSetupOf M.meaning setup.now }
+    requires { IsSetupOf M.spec setup.now }
 {
     let mut cluster = start::<M>(alloc, setup)?;
     cluster.turns(alloc, TURNS)?;

@@ -37,7 +37,7 @@ fn bare_in<M: Sequenced>(
     directory: &SharedDirectory,
     me: NodeId,
 ) -> Result<Node<M>, Fail>
-    requires good { IsSetupOf M.meaning setup.now }
+    requires good { IsSetupOf M.spec setup.now }
     requires directory { directory.now ≡ keys_of setup.now }
     requires me { me.0 < setup.now.n }
 {
@@ -52,7 +52,7 @@ pub(crate) fn bare<M: Sequenced>(
     directory: &SharedDirectory,
     me: NodeId,
 ) -> Result<Node<M>, Fail>
-    requires good { IsSetupOf M.meaning setup.now }
+    requires good { IsSetupOf M.spec setup.now }
     requires directory { directory.now ≡ keys_of setup.now }
 {
     if (me.0 as u32) < setup.n {
@@ -68,7 +68,7 @@ fn kept_over<M: Sequenced>(
     directory: &SharedDirectory,
     disk: MemoryDisk,
 ) -> Result<Kept<M, MemoryDisk>, Fail>
-    requires good { IsSetupOf M.meaning setup.now }
+    requires good { IsSetupOf M.spec setup.now }
     requires directory { directory.now ≡ keys_of setup.now }
     requires some { 0 < setup.now.n }
 {
@@ -82,7 +82,7 @@ fn reopened<M: Sequenced>(
     directory: &SharedDirectory,
     disk: MemoryDisk,
 ) -> Result<Kept<M, MemoryDisk>, Fail>
-    requires good { IsSetupOf M.meaning setup.now }
+    requires good { IsSetupOf M.spec setup.now }
     requires directory { directory.now ≡ keys_of setup.now }
     requires some { 0 < setup.now.n }
 {
@@ -97,7 +97,7 @@ pub(crate) fn kept<M: Sequenced>(
     setup: &Setup,
     directory: &SharedDirectory,
 ) -> Result<Kept<M, MemoryDisk>, Fail>
-    requires good { IsSetupOf M.meaning setup.now }
+    requires good { IsSetupOf M.spec setup.now }
     requires directory { directory.now ≡ keys_of setup.now }
 {
     let disk = MemoryDisk::new(alloc)?;

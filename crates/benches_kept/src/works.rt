@@ -1,6 +1,6 @@
 //! Events of a node that can be made again.
-use iss_causes::NodeEvent;
 use iss_request::{Bytes, NodeId};
+use iss_rules::NodeEvent;
 use std::alloc::Global;
 use std::test::Fail;
 

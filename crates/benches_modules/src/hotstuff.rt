@@ -11,7 +11,7 @@ use crate::raft::{Timed, slots};
 use hs_tree::Message;
 use iss_keys::{Keys, SharedDirectory};
 use iss_request::{
-    Batch, Bytes, Epoch, Fields, Kind, NoMemory, NodeId, Nodes, Policy, Row, Setup, Slot, Writer,
+    Batch, Bytes, Epoch, Fields, Kind, NoMemory, NodeId, Nodes, Policy, Seq, Setup, Slot, Writer,
 };
 use iss_sb::{Input, Params, Sequenced, To};
 use sb_hotstuff::HotStuff;
@@ -65,7 +65,7 @@ fn directory(alloc: Global, setup: &Setup) -> Result<SharedDirectory, NoMemory>
     SharedDirectory::make(alloc, setup.n, setup.clients, height).map_err(|_| NoMemory)
 }
 
-fn instance(alloc: Global, setup: Setup, slots: Row<Slot>) -> Result<Params, NoMemory>
+fn instance(alloc: Global, setup: Setup, slots: Seq<Slot>) -> Result<Params, NoMemory>
     requires good { IsGoodSetup setup }
     requires tag { setup.«module» ≡ 4 }
     requires kind { setup.kind ≡ Byzantine }

@@ -10,7 +10,7 @@ use crate::signatures::Seen;
 use bench_digests::signers::{node_key, signature_by};
 use iss_keys::{Keys, SharedDirectory};
 use iss_request::{
-    Batch, Bytes, Epoch, Fields, Kind, NoMemory, NodeId, Nodes, Policy, Row, Setup, Slot, Writer,
+    Batch, Bytes, Epoch, Fields, Kind, NoMemory, NodeId, Nodes, Policy, Seq, Setup, Slot, Writer,
 };
 use iss_sb::{Input, Params, Sequenced};
 use pbft_wire::Message;
@@ -27,7 +27,7 @@ const MOST: u32 = 100_000_000;
 // ---- the instance
 
 // So many nodes that f of them may lie, of which node 0 leads these slots.
-fn instance(alloc: Global, f: u32, height: u8, slots: Row<Slot>) -> Result<Params, NoMemory>
+fn instance(alloc: Global, f: u32, height: u8, slots: Seq<Slot>) -> Result<Params, NoMemory>
     requires faults { f ≤ 3 }
     requires low { 2 ≤ height }
     requires high { height ≤ 12 }

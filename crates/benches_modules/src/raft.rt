@@ -6,7 +6,7 @@ ghost use Rattle.sb_raft.specs.Raft.{raft};
 
 use iss_keys::{Keys, SharedDirectory};
 use iss_request::{
-    Batch, Bytes, Epoch, Kind, NoMemory, NodeId, Nodes, Policy, ReqId, Request, Row, Setup, Slot,
+    Batch, Bytes, Epoch, Kind, NoMemory, NodeId, Nodes, Policy, ReqId, Request, Seq, Setup, Slot,
     Value, Writer,
 };
 use iss_sb::{Effects, Input, Params, Sequenced, To};
@@ -31,12 +31,12 @@ const MOST: u32 = 100_000_000;
 // ---- the instance
 
 /// The slots below this number.
-pub fn slots(alloc: Global, count: u64) -> Result<Row<Slot>, NoMemory>
+pub fn slots(alloc: Global, count: u64) -> Result<Seq<Slot>, NoMemory>
     ensures length { IfOk result (λ s. length s ≡ count) }
     ensures rising { IfOk result (λ s. AreAscending 0 s) }
     ensures low { IfOk result (λ s. AreBelow (2 ^ 64) s) }
 {
-    let mut slots = Row::new(alloc);
+    let mut slots = Seq::new(alloc);
     for k in 0..count {
         slots.push(Slot(k))?;
     }
@@ -44,7 +44,7 @@ pub fn slots(alloc: Global, count: u64) -> Result<Row<Slot>, NoMemory>
 }
 
 // Seven nodes, of which node 0 leads these slots.
-fn instance(alloc: Global, slots: Row<Slot>) -> Result<Params, NoMemory>
+fn instance(alloc: Global, slots: Seq<Slot>) -> Result<Params, NoMemory>
     requires some { 1 ≤ length slots }
     requires few { length slots ≤ 64 }
     requires rising { AreAscending 0 slots }

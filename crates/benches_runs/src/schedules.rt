@@ -1,7 +1,7 @@
 //! The schedules of runs.
 
 use crate::plans::{HEIGHT, NODES, Plan, SLOTS};
-use iss_report::words::{put_number, put_text};
+use iss_replay::words::{put_number, put_text};
 use iss_request::NoMemory;
 use std::alloc::Global;
 

@@ -1,6 +1,6 @@
 //! The values of an epoch, as one follows on the other. Helpers promise nothing: of a literal request the tactics would list what its bytes are.
 use crate::clusters::SLOTS;
-use iss_request::{Batch, Bytes, NoMemory, ReqId, Request, Row, Value};
+use iss_request::{Batch, Bytes, NoMemory, ReqId, Request, Seq, Value};
 use std::alloc::Global;
 
 // As many as a set-up has.
@@ -43,8 +43,8 @@ pub(crate) fn values_of(
     sig: &Bytes,
     epoch: u32,
     requests: u32,
-) -> Result<Row<Value>, NoMemory> {
-    let mut values = Row::new(alloc);
+) -> Result<Seq<Value>, NoMemory> {
+    let mut values = Seq::new(alloc);
     for slot in 0..SLOTS {
         let first = slot.wrapping_mul(requests);
         let batch = batch_of(alloc, sig, epoch, first, requests)?;

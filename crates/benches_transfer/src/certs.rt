@@ -6,7 +6,7 @@ use iss_ballots::pack_piece;
 use iss_checkpoint::{Cert, Signed};
 use iss_keys::Keys;
 use iss_log::End;
-use iss_request::{Bytes, Epoch, NoMemory, NodeId, Row, Value};
+use iss_request::{Bytes, Epoch, NoMemory, NodeId, Seq, Value};
 use iss_transfer::Piece;
 use std::alloc::Global;
 use std::test::Fail;
@@ -46,7 +46,7 @@ fn signed(keys: &mut Keys, by: u8, statement: &[u8]) -> Result<Signed, Fail> {
 }
 
 fn put_signed(
-    row: &mut Row<Signed>,
+    row: &mut Seq<Signed>,
     keys: &mut Keys,
     by: u8,
     statement: &[u8],
@@ -61,8 +61,8 @@ fn both_signed(
     alloc: Global,
     signers: &mut Signers,
     statement: &[u8],
-) -> Result<Row<Signed>, Fail> {
-    let mut row = Row::new(alloc);
+) -> Result<Seq<Signed>, Fail> {
+    let mut row = Seq::new(alloc);
     put_signed(&mut row, &mut signers.first, 0, statement)?;
     put_signed(&mut row, &mut signers.second, 1, statement)?;
     Ok(row)
@@ -90,7 +90,7 @@ pub(crate) fn packet_of(
     alloc: Global,
     version: u8,
     epoch: u64,
-    values: Row<Value>,
+    values: Seq<Value>,
     cert: Cert,
 ) -> Result<Bytes, NoMemory> {
     let piece = Piece {

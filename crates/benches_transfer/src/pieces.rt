@@ -7,7 +7,7 @@ use bench_digests::digests::{Digests, digests_of_one_check};
 use iss_checkpoint::{Cert, vote_statement};
 use iss_keys::Directory;
 use iss_log::{End, link};
-use iss_request::{Bytes, NoMemory, Row, Setup, Value};
+use iss_request::{Bytes, NoMemory, Seq, Setup, Value};
 use std::alloc::Global;
 use std::test::Fail;
 
@@ -15,14 +15,14 @@ use std::test::Fail;
 #[derive(Drop)]
 pub struct Made {
     pub packets: Vec<Bytes>,
-    pub strings: Row<Bytes>,
+    pub strings: Seq<Bytes>,
     pub checks: Digests,
 }
 
 fn nothing(alloc: Global) -> Made {
     Made {
         packets: Vec::new(alloc),
-        strings: Row::new(alloc),
+        strings: Seq::new(alloc),
         checks: Digests {
             short: 0,
             inner: 0,
@@ -46,7 +46,7 @@ fn join_one(
     version: u8,
     end: &End,
     value: &Value,
-    strings: &mut Row<Bytes>,
+    strings: &mut Seq<Bytes>,
 ) -> Result<End, NoMemory> {
     link(alloc, directory, version, end, value, strings)
 }
@@ -58,7 +58,7 @@ fn join(
     version: u8,
     end: End,
     values: &[Value],
-    strings: &mut Row<Bytes>,
+    strings: &mut Seq<Bytes>,
 ) -> Result<End, NoMemory> {
     let mut end = end;
     for value in values {
@@ -93,7 +93,7 @@ fn put_epoch(
     setup: &Setup,
     signers: &mut Signers,
     epoch: u64,
-    values: Row<Value>,
+    values: Seq<Value>,
     end: End,
     made: &mut Made,
 ) -> Result<End, Fail> {

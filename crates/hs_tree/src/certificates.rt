@@ -6,7 +6,7 @@ ghost use Rattle.iss_request.specs.Formats.{is_signature};
 ghost use Rattle.iss_request.specs.Parsing.{block, byte, such_that};
 ghost use Rattle.hs_tree.specs.Certificates.{digest_of, fits, is_phase, is_quorum, is_rising, is_signed, parse_certificate, parse_signed, parse_signers, parse_votes, spell_certificate, spell_signed, view_of, votes_row};
 
-use iss_request::{Bytes, DecodeError, Fields, NoMemory, NodeId, Row, Writer, read_signature};
+use iss_request::{Bytes, DecodeError, Fields, NoMemory, NodeId, Seq, Writer, read_signature};
 use std::alloc::Global;
 
 // What stands for a certificate without a spelling: view 1, and no phase.
@@ -27,7 +27,7 @@ pub enum Certificate {
         view: u32,
         phase: u8,
         digest: [u8; 32],
-        votes: Row<Signed>,
+        votes: Seq<Signed>,
     },
 }
 
@@ -42,10 +42,10 @@ impl Signed {
 }
 
 // Other votes with equal content.
-fn copy_votes(alloc: Global, votes: &[Signed]) -> Result<Row<Signed>, NoMemory>
+fn copy_votes(alloc: Global, votes: &[Signed]) -> Result<Seq<Signed>, NoMemory>
     ensures { IfOk result (λ vs. vs ≡ votes.now) }
 {
-    let mut copies = Row::new(alloc);
+    let mut copies = Seq::new(alloc);
     for vote in votes {
         let copy = vote.copy()?;
         copies.push(copy)?;
@@ -279,11 +279,11 @@ fn read_signed(alloc: Global, from: u16, f: &mut Fields) -> Result<Signed, Decod
     })
 }
 
-fn read_signers(alloc: Global, count: u8, f: &mut Fields) -> Result<Row<Signed>, DecodeError>
+fn read_signers(alloc: Global, count: u8, f: &mut Fields) -> Result<Seq<Signed>, DecodeError>
     ensures ok { IfOk result (λ votes. IsRead (parse_signers count 0) f.old f.new votes) }
     ensures bad { (at : ℕ) → result ≡ Err (DecodeError.BadField at) → IsUnreadable (parse_signers count 0) f.old at }
 {
-    let mut votes = Row::new(alloc);
+    let mut votes = Seq::new(alloc);
     let mut from: u16 = 0;
     for _ in 0..count {
         let vote = read_signed(alloc, from, f)?;

@@ -11,7 +11,7 @@ ghost use Rattle.hs_tree.specs.Tree.{Form, kind_of, plain_string, strings_of, va
 use crate::certificates::{Certificate, Signed};
 use crate::wire::{NEW_VIEW, VOTE};
 use iss_request::values::write_batch;
-use iss_request::{Batch, Bytes, NoMemory, Row, Writer, version_byte};
+use iss_request::{Batch, Bytes, NoMemory, Seq, Writer, version_byte};
 use iss_sb::{Claim, Params, put_head};
 use raft_wire::What;
 use sha2::{Digest, Sha256};
@@ -99,7 +99,7 @@ pub fn node_string(
 /// The strings that are hashed of a node, the value's before the node's own, and its digest.
 #[derive(Drop)]
 pub struct Hashed {
-    pub strings: Row<Bytes>,
+    pub strings: Seq<Bytes>,
     pub digest: [u8; 32],
 }
 
@@ -117,14 +117,14 @@ pub fn hash_node(
     let held = held_digest(p, what, &value);
     let node = node_string(alloc, version, parent, what, &held)?;
     let digest = Sha256::digest(node.as_slice());
-    let mut strings = Row::new(alloc);
+    let mut strings = Seq::new(alloc);
     put_string(value, &mut strings)?;
     strings.push(node)?;
     Ok(Hashed { strings, digest })
 }
 
 // Puts a string, if there is one, behind others.
-fn put_string(string: Option<Bytes>, all: &mut Row<Bytes>) -> Result<(), NoMemory>
+fn put_string(string: Option<Bytes>, all: &mut Seq<Bytes>) -> Result<(), NoMemory>
     ensures { OnOk result (all.new ≡ all.old ++ one_or_none string) }
 {
     match string {
@@ -198,7 +198,7 @@ pub fn put_certificate_claims(
     p: &Params,
     module_tag: u8,
     certificate: &Certificate,
-    all: &mut Row<Claim>,
+    all: &mut Seq<Claim>,
 ) -> Result<(), NoMemory>
     ensures { OnOk result ((form : Form) → form.tag ≡ module_tag → all.new ≡ all.old ++ certificate_claims form p.now certificate.now) }
 {
@@ -219,7 +219,7 @@ pub fn put_certificate_claims(
 fn put_vote_claims(
     statement: &Bytes,
     votes: &[Signed],
-    all: &mut Row<Claim>,
+    all: &mut Seq<Claim>,
 ) -> Result<(), NoMemory>
     ensures { OnOk result (all.new ≡ all.old ++ vote_claims statement.now votes.now) }
 {

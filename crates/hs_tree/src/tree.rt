@@ -7,7 +7,7 @@ ghost use Rattle.iss_sb.specs.Evidence.{one_or_none};
 ghost use Rattle.hs_tree.specs.Known.{Keeps, Leads, known_at, meets, place, values, whats};
 ghost use Rattle.hs_tree.specs.Tree.{Node, branch, extends, filled, is_known, value_of, weight};
 
-use iss_request::{NoMemory, Row, Value};
+use iss_request::{NoMemory, Seq, Value};
 use raft_wire::What;
 use std::alloc::Global;
 use std::collections::BTreeMap;
@@ -175,12 +175,12 @@ impl Tree {
     }
 
     /// What the branch of the node holds behind the first so many slots, in their order.
-    pub fn behind(&self, alloc: Global, d: &[u8; 32], from: usize) -> Result<Row<Value>, NoMemory>
+    pub fn behind(&self, alloc: Global, d: &[u8; 32], from: usize) -> Result<Seq<Value>, NoMemory>
         ensures { IfOk result (λ vs. (ks : List Node) → Keeps self.now ks → vs ≡ drop from (values (branch ks d.now))) }
     {
         let mut found = self.gather(alloc, self.place(d), from)?;
         found.reverse();
-        Ok(Row::of(found))
+        Ok(Seq::of(found))
     }
 
     /// One node more, which stands on the newest of its parent's digest.

@@ -5,7 +5,7 @@ ghost use Rattle.iss_checkpoint.specs.Votes.{vote_statement};
 ghost use Rattle.iss_rules.specs.Votes.{claims_by};
 
 use iss_checkpoint::{Cert, Signed, Vote, vote_statement};
-use iss_request::{Bytes, NoMemory, Row};
+use iss_request::{Bytes, NoMemory, Seq};
 use iss_sb::Claim;
 use std::alloc::Global;
 
@@ -22,7 +22,7 @@ pub fn claim_of_vote(alloc: Global, tag: &[u8; 32], vote: &Vote) -> Result<Claim
 }
 
 /// What a certificate claims: the vote of each of its signers.
-pub fn claims_of_cert(alloc: Global, tag: &[u8; 32], cert: &Cert) -> Result<Row<Claim>, NoMemory>
+pub fn claims_of_cert(alloc: Global, tag: &[u8; 32], cert: &Cert) -> Result<Seq<Claim>, NoMemory>
     ensures { IfOk result (λ cs. cs ≡ claims_by (vote_statement tag.now cert.now.epoch.0 cert.now.chain cert.now.requests) cert.now.signers) }
 {
     let statement = vote_statement(tag, cert.epoch.0, &cert.chain, cert.requests);
@@ -30,10 +30,10 @@ pub fn claims_of_cert(alloc: Global, tag: &[u8; 32], cert: &Cert) -> Result<Row<
 }
 
 // The claims of signers on one statement.
-fn claims_by(alloc: Global, statement: &[u8], signers: &[Signed]) -> Result<Row<Claim>, NoMemory>
+fn claims_by(alloc: Global, statement: &[u8], signers: &[Signed]) -> Result<Seq<Claim>, NoMemory>
     ensures { IfOk result (λ cs. cs ≡ claims_by statement.now signers.now) }
 {
-    let mut claims = Row::new(alloc);
+    let mut claims = Seq::new(alloc);
     for signed in signers {
         let statement = bytes_of(alloc, statement)?;
         let sig = signed.sig.copy()?;

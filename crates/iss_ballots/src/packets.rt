@@ -7,7 +7,7 @@ ghost use Rattle.iss_transfer.specs.Bodies.{parse_ask, parse_piece, spell_piece}
 
 use iss_checkpoint::{Cert, Signed, Vote, decode_vote, encode_vote};
 use iss_packet::{Packet, PacketKind};
-use iss_request::{Bytes, DecodeError, Epoch, NoMemory, NodeId, Row};
+use iss_request::{Bytes, DecodeError, Epoch, NoMemory, NodeId, Seq};
 use iss_transfer::{Ask, Piece, decode_ask, decode_piece, encode_piece};
 use std::alloc::Global;
 
@@ -111,10 +111,10 @@ pub fn copy_of_cert(alloc: Global, cert: &Cert) -> Result<Cert, NoMemory>
     })
 }
 
-fn copy_of_signers(alloc: Global, signers: &[Signed]) -> Result<Row<Signed>, NoMemory>
+fn copy_of_signers(alloc: Global, signers: &[Signed]) -> Result<Seq<Signed>, NoMemory>
     ensures { IfOk result (λ xs. xs ≡ signers.now) }
 {
-    let mut copies = Row::new(alloc);
+    let mut copies = Seq::new(alloc);
     for signed in signers {
         let sig = signed.sig.copy()?;
         copies.push(Signed { by: signed.by, sig })?;

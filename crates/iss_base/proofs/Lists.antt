@@ -2,7 +2,7 @@
 use Rattle.std.proofs.Common.{IsTrue, ◌↔◌, ◌∙◌, append_assoc, ◌≡◌, ◌≢◌, ◌⊎◌, inl, inr, ℕ, zero, suc, ◌+◌, ◌≤◌, ◌<◌, Bool, true, false, cond, eqb, not, ◌&&◌, ◌||◌, List, [], ◌∷◌, ◌++◌, length, Option, Some, None, refl, sym, ap, ap₂, subst, arith, length-append, true≢false}
 use Rattle.std.proofs.lemmas.Bool.Decides.{eqb_tells, leb_tells, nat_tests}
 use Rattle.std.specs.Ordering.{is_eq, nat_cmp}
-use Rattle.iss_base.specs.Lists.{In, Different, Extends, oldest, Chain, first_of, nth, over, same_bytes, set_at, set_at2}
+use Rattle.iss_base.specs.Lists.{In, Different, Extends, oldest, Chain, first_of, nth, push_all, same_bytes, set_at, set_at2}
 
 pub same_or_not : (a b : ℕ) → (a ≡ b) ⊎ (a ≢ b)
 same_or_not a b = elim (eqb_tells a b) [ inl h ↦ inl h.1 | inr h ↦ inr h.1 ]
@@ -295,15 +295,15 @@ chains-meet P Q meet a (u ∷ b) p q h =
 
 -- values in order over a list
 
-pub length-over : {A : Type 0} (vs log : List A) → length (over vs log) ≡ length vs + length log
+pub length-over : {A : Type 0} (vs log : List A) → length (push_all vs log) ≡ length vs + length log
 length-over [] log = omega arith
 length-over (v ∷ vs) log = omega (arith, length-over vs (v ∷ log))
 
-pub over-extends : {A : Type 0} (vs log : List A) → Extends log (over vs log)
+pub over-extends : {A : Type 0} (vs log : List A) → Extends log (push_all vs log)
 over-extends [] log = extends-refl log
-over-extends (v ∷ vs) log = extends-tail v log (over vs (v ∷ log)) (over-extends vs (v ∷ log))
+over-extends (v ∷ vs) log = extends-tail v log (push_all vs (v ∷ log)) (over-extends vs (v ∷ log))
 
-pub over-at : {A : Type 0} (vs log : List A) (k : ℕ) (x : A) → nth vs k ≡ Some x → (older : List A) × Extends (x ∷ older) (over vs log) × (length older ≡ k + length log) × Extends log older
+pub over-at : {A : Type 0} (vs log : List A) (k : ℕ) (x : A) → nth vs k ≡ Some x → (older : List A) × Extends (x ∷ older) (push_all vs log) × (length older ≡ k + length log) × Extends log older
 over-at [] log k x h = absurd (cc)
 over-at (v ∷ vs) log zero x h = let q : v ≡ x = some-injective v x h in (log, rw (← q) (over-extends vs (v ∷ log)), omega arith, extends-refl log)
 over-at (v ∷ vs) log (suc k) x h = let r = over-at vs (v ∷ log) k x h in (r.0, r.1, omega (arith, r.2), extends-tail v log r.0 r.3)

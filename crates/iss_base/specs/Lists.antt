@@ -38,9 +38,9 @@ nth (x ∷ xs) zero = Some x
 nth (x ∷ xs) (suc k) = nth xs k
 
 -- values in order, put over an older list
-abbrev pub over : {A : Type 0} → List A → List A → List A
-over [] log = log
-over (v ∷ vs) log = over vs (v ∷ log)
+abbrev pub push_all : {A : Type 0} → List A → List A → List A
+push_all [] log = log
+push_all (v ∷ vs) log = push_all vs (v ∷ log)
 
 -- a function changed at one place, and at one pair
 abbrev pub set_at : {A : Type 0} → (ℕ → A) → ℕ → A → ℕ → A

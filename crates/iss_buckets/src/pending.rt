@@ -11,7 +11,7 @@ ghost use Rattle.iss_buckets.specs.Waiting.{waits, may_cast, cut, uncut, absent,
 use crate::queues::{Queues, bucket_of};
 use crate::shelf::Shelf;
 use iss_layout::Layout;
-use iss_request::{Batch, NoMemory, NodeId, ReqId, Request, Row};
+use iss_request::{Batch, NoMemory, NodeId, ReqId, Request, Seq};
 use std::alloc::Global;
 use std::collections::HashSet;
 use std::marker::Model;
@@ -126,11 +126,11 @@ impl Pending {
     }
 
     /// The identities that wait, in the order of arrival.
-    pub fn waiting(&self, alloc: Global) -> Result<Row<ReqId>, NoMemory>
+    pub fn waiting(&self, alloc: Global) -> Result<Seq<ReqId>, NoMemory>
         ensures waiting { IfOk result (λ is. is ≡ ids self.now) }
         ensures different { Different (ids self.now) }
     {
-        Ok(Row::of(self.shelf.identities(alloc)?))
+        Ok(Seq::of(self.shelf.identities(alloc)?))
     }
 }
 

@@ -6,7 +6,7 @@ ghost use Rattle.iss_checkpoint.specs.Certificates.{are_rising, cert_fits, cert_
 
 use crate::bodies::{has_shape, read_digest};
 use crate::votes::{Cert, Signed};
-use iss_request::{DecodeError, Epoch, Fields, NoMemory, NodeId, Row, Writer, read_signature};
+use iss_request::{DecodeError, Epoch, Fields, NoMemory, NodeId, Seq, Writer, read_signature};
 use std::alloc::Global;
 
 // What stands for a certificate without a spelling: one signer, whose signature has height 1.
@@ -90,11 +90,11 @@ fn read_signed(alloc: Global, from: u16, f: &mut Fields) -> Result<Signed, Decod
     })
 }
 
-fn read_signers(alloc: Global, count: u8, f: &mut Fields) -> Result<Row<Signed>, DecodeError>
+fn read_signers(alloc: Global, count: u8, f: &mut Fields) -> Result<Seq<Signed>, DecodeError>
     ensures ok { IfOk result (λ xs. IsRead (parse_signers count 0) f.old f.new xs) }
     ensures bad { (at : ℕ) → result ≡ Err (DecodeError.BadField at) → IsUnreadable (parse_signers count 0) f.old at }
 {
-    let mut signers = Row::new(alloc);
+    let mut signers = Seq::new(alloc);
     let mut from: u16 = 0;
     for _ in 0..count {
         let signed = read_signed(alloc, from, f)?;

@@ -6,7 +6,7 @@ ghost use Rattle.iss_checkpoint.specs.Votes.{is_signed, statement_of, voters_of}
 use crate::checking::is_signed;
 use crate::votes::{Cert, Signed, Vote, vote_statement};
 use iss_keys::SharedDirectory;
-use iss_request::{Epoch, NoMemory, Row, Setup};
+use iss_request::{Epoch, NoMemory, Seq, Setup};
 use std::alloc::Global;
 use std::collections::BTreeMap;
 use std::marker::Model;
@@ -147,7 +147,7 @@ impl Tally {
     fn certificate(&self, vote: &Vote) -> Result<Cert, NoMemory>
         ensures { IfOk result (λ c. c ≡ certificate_by (with_vote self.now.votes vote.now) vote.now self.now.voters.n) }
     {
-        let mut signers = Row::new(self.alloc);
+        let mut signers = Seq::new(self.alloc);
         for node in 0..self.n {
             self.put_signed(vote, node as u8, &mut signers)?;
         }
@@ -160,7 +160,7 @@ impl Tally {
     }
 
     // Puts a node's signature behind the others, if its vote says the same.
-    fn put_signed(&self, vote: &Vote, node: u8, signers: &mut Row<Signed>) -> Result<(), NoMemory>
+    fn put_signed(&self, vote: &Vote, node: u8, signers: &mut Seq<Signed>) -> Result<(), NoMemory>
         ensures { OnOk result (signers.new ≡ signers.old ++ signed_if vote.now (with_vote self.now.votes vote.now node)) }
     {
         if vote.by.0 == node {
@@ -193,7 +193,7 @@ fn say_same(vote: &Vote, other: &Vote) -> bool
     other.requests == vote.requests && other.chain == vote.chain
 }
 
-fn push_signed(vote: &Vote, signers: &mut Row<Signed>) -> Result<(), NoMemory>
+fn push_signed(vote: &Vote, signers: &mut Seq<Signed>) -> Result<(), NoMemory>
     ensures { OnOk result (signers.new ≡ signers.old ++ record { by = vote.now.by; sig = vote.now.sig } ∷ []) }
 {
     let sig = vote.sig.copy()?;

@@ -3,7 +3,7 @@ ghost use Rattle.std.specs.Prelude.{◌≡◌, ◌∷◌, ◌++◌, []};
 ghost use Rattle.std.specs.Int.{to_be_bytes, w64};
 ghost use Rattle.iss_checkpoint.specs.Votes.{vote_statement};
 
-use iss_request::{Bytes, Epoch, NodeId, Row};
+use iss_request::{Bytes, Epoch, NodeId, Seq};
 
 /// What a node says of its log at the end of an epoch, under its signature: the digest of the log's chain, and how many requests
 /// the log holds.
@@ -29,7 +29,7 @@ pub struct Cert {
     pub epoch: Epoch,
     pub chain: [u8; 32],
     pub requests: u64,
-    pub signers: Row<Signed>,
+    pub signers: Seq<Signed>,
 }
 
 // The cluster, the epoch, and neither a leader nor a module.

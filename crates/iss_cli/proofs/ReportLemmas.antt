@@ -9,8 +9,8 @@ use Rattle.iss_cli.specs.declared.answers.Answer.{Answer}
 use Rattle.iss_cli.specs.declared.status.Status.{Status}
 use Rattle.iss_cli.specs.Answers.{IsAnswer, IsAnswerStatus, IsAnswered, refused_line, refused_words}
 use Rattle.iss_cli.specs.Reports.{IsReported, reported, status_of}
-use Rattle.iss_restarts.specs.Headline.{course_after}
-use Rattle.iss_causes.specs.Ends.{Collision, End, Forged}
+use Rattle.iss_theorems.specs.Headline.{course_after}
+use Rattle.iss_rules.specs.Ends.{Collision, End, Forged}
 use Rattle.iss_schedule.specs.declared.schedules.Schedule.{Schedule}
 use Rattle.iss_theorems.specs.Conserved.{AcceptsOnce}
 use Rattle.iss_rules.specs.Setups.{IsSetupOf}

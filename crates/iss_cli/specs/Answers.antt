@@ -1,7 +1,7 @@
 -- What the program answers to its words and its input.
 use Rattle.std.specs.Prelude.{◌≡◌, ◌⊎◌, ℕ, Option, List, [], ◌∷◌, ◌++◌, take, codes, decimal}
-use Rattle.iss_schedule.specs.declared.errors.Why.{Why}
-use Rattle.iss_schedule.specs.declared.errors.Why.TheVariants.{Cut, Form, Faulty, Injected, Range, Size}
+use Rattle.iss_schedule.specs.declared.errors.LineFault.{LineFault}
+use Rattle.iss_schedule.specs.declared.errors.LineFault.TheVariants.{Cut, Form, Faulty, Injected, Range, Size}
 use Rattle.iss_schedule.specs.declared.schedules.Schedule.{Schedule}
 use Rattle.iss_schedule.specs.BadLines.{IsBadLine}
 use Rattle.iss_schedule.specs.Schedules.{IsSchedule}
@@ -21,7 +21,7 @@ AskReplay (program ∷ command ∷ word ∷ words) = ⊥
 abbrev pub refused_words : Answer
 refused_words = record { printed = codes "refused words" ++ 10 ∷ []; status = RefusedWords }
 
-abbrev pub why_word : Why → List ℕ
+abbrev pub why_word : LineFault → List ℕ
 why_word Cut = codes "Cut"
 why_word Form = codes "Form"
 why_word Faulty = codes "Faulty"
@@ -29,14 +29,14 @@ why_word Injected = codes "Injected"
 why_word Range = codes "Range"
 why_word Size = codes "Size"
 
-abbrev pub refused_line : ℕ → Why → Answer
+abbrev pub refused_line : ℕ → LineFault → Answer
 refused_line line why = record { printed = codes "refused line " ++ decimal line ++ codes " " ++ why_word why ++ 10 ∷ []; status = RefusedSchedule }
 
 -- the answer to an input: the report of the run where the bytes are those of a schedule, and else the first bad line
 abbrev pub IsAnswer : List ℕ → Answer → Type 0
 IsAnswer bytes a =
     ((s : Schedule) × (IsSchedule bytes s × IsReported s a))
-    ⊎ ((line : ℕ) × ((why : Why) × (IsBadLine bytes line why × (a ≡ refused_line line why))))
+    ⊎ ((line : ℕ) × ((why : LineFault) × (IsBadLine bytes line why × (a ≡ refused_line line why))))
 
 -- the answer to words and an input
 abbrev pub Answers : List (List ℕ) → List ℕ → Answer → Type 0

@@ -1,8 +1,8 @@
 -- The report of a schedule's run under its module, and what is promised of the run.
 use Rattle.std.specs.Prelude.{◌≡◌, ℕ, Option, Some, None}
 use Rattle.iss_theorems.specs.Conserved.{AcceptsOnce}
-use Rattle.iss_causes.specs.Ends.{End, Forged, Collision}
-use Rattle.iss_restarts.specs.Headline.{IsWhole, course_after}
+use Rattle.iss_rules.specs.Ends.{End, Forged, Collision}
+use Rattle.iss_theorems.specs.Headline.{IsWhole, course_after}
 use Rattle.iss_replay.specs.Report.{text_of}
 use Rattle.iss_sb.specs.Evidence.{Module}
 use Rattle.iss_schedule.specs.declared.schedules.Schedule.{Schedule}
@@ -12,7 +12,7 @@ use Rattle.sb_raft.specs.Raft.{raft}
 use Rattle.sb_relay.specs.Relay.{relay}
 use Rattle.iss_cli.specs.declared.answers.Answer.{Answer}
 use Rattle.iss_cli.specs.declared.status.Status.{Status}
-use Rattle.iss_cli.specs.declared.status.Status.TheVariants.{Done, Forged as Was_forged, Collision as Has_collision}
+use Rattle.iss_cli.specs.declared.status.Status.TheVariants.{Done, Forged as Status_forged, Collision as Status_collision}
 
 -- What holds of the module of this number: a line for each module that a schedule can name.
 pub record Under (number : ℕ) (Holds : (Msg : Type 0) → Module Msg → Type 0) : Type 0 where
@@ -24,8 +24,8 @@ pub record Under (number : ℕ) (Holds : (Msg : Type 0) → Module Msg → Type 
 -- how a run's end is told to who called
 abbrev pub status_of : Option (ℕ × End) → Status
 status_of None = Done
-status_of (Some (event, Forged claim)) = Was_forged
-status_of (Some (event, Collision first second)) = Has_collision
+status_of (Some (event, Forged claim)) = Status_forged
+status_of (Some (event, Collision first second)) = Status_collision
 
 -- the text of the run of a schedule's events under a module, and how that ended
 abbrev pub reported : {Msg : Type 0} → Module Msg → Schedule → Answer

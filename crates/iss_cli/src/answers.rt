@@ -4,16 +4,16 @@ ghost use Rattle.iss_cli.specs.Answers.{AskReplay, IsAnswer, refused_words, refu
 ghost use Rattle.iss_schedule.specs.Events.{AreInRange};
 ghost use Rattle.iss_cli.specs.Reports.{IsReported, reported, status_of};
 ghost use Rattle.iss_rules.specs.Setups.{IsSetupOf};
-ghost use Rattle.iss_replay.specs.Stands.{end_kept};
+ghost use Rattle.iss_replay.specs.Refines.{end_kept};
 ghost use Rattle.iss_schedule.specs.Schedules.{IsKnown};
 
 use crate::status::Status;
+use iss_replay::words::{put_number, put_text};
 use iss_replay::{replay, text};
-use iss_report::words::{put_number, put_text};
 use iss_request::{Bytes, NoMemory};
 use iss_sb::Sequenced;
-use iss_schedule::{ReadError, Schedule, Why, read};
-use iss_world::ends::End;
+use iss_schedule::{LineFault, ReadError, Schedule, read};
+use iss_world::ends::Evidence;
 use sb_hotstuff::HotStuff;
 use sb_pbft::Pbft;
 use sb_raft::Raft;
@@ -84,10 +84,10 @@ fn report(alloc: Global, schedule: &Schedule) -> Result<Answer, NoMemory>
 
 // The report of its run under this module.
 fn report_under<M: Sequenced>(alloc: Global, schedule: &Schedule) -> Result<Answer, NoMemory>
-    requires good { IsSetupOf M.meaning schedule.now.setup }
+    requires good { IsSetupOf M.spec schedule.now.setup }
     requires range { AreInRange schedule.now.setup schedule.now.events }
-    ensures printed { IfOk result (λ answer. answer.printed ≡ (reported M.meaning schedule.now).printed) }
-    ensures status { IfOk result (λ answer. answer.status ≡ (reported M.meaning schedule.now).status) }
+    ensures printed { IfOk result (λ answer. answer.printed ≡ (reported M.spec schedule.now).printed) }
+    ensures status { IfOk result (λ answer. answer.status ≡ (reported M.spec schedule.now).status) }
 {
     let report = replay::<M>(alloc, schedule)?;
     Ok(Answer {
@@ -97,18 +97,18 @@ fn report_under<M: Sequenced>(alloc: Global, schedule: &Schedule) -> Result<Answ
 }
 
 // How a run's end is told.
-fn status_of(ended: &Option<(u64, End)>) -> Status
+fn status_of(ended: &Option<(u64, Evidence)>) -> Status
     ensures { result ≡ status_of (end_kept ended.now) }
 {
     match ended {
         None => Status::Done,
-        Some((_, End::Forged(_))) => Status::Forged,
-        Some((_, End::Collision { .. })) => Status::Collision,
+        Some((_, Evidence::Forged(_))) => Status::Forged,
+        Some((_, Evidence::Collision { .. })) => Status::Collision,
     }
 }
 
 // The answer to an input whose first bad line is this one.
-fn refuse_line(alloc: Global, line: u32, why: Why) -> Result<Answer, NoMemory>
+fn refuse_line(alloc: Global, line: u32, why: LineFault) -> Result<Answer, NoMemory>
     ensures { IfOk result (λ answer. answer ≡ refused_line line why) }
 {
     let mut printed = Vec::new(alloc);
@@ -123,15 +123,15 @@ fn refuse_line(alloc: Global, line: u32, why: Why) -> Result<Answer, NoMemory>
     })
 }
 
-fn name_of(why: Why) -> &'static [u8]
+fn name_of(why: LineFault) -> &'static [u8]
     ensures { result.now ≡ why_word why }
 {
     match why {
-        Why::Cut => b"Cut",
-        Why::Form => b"Form",
-        Why::Faulty => b"Faulty",
-        Why::Injected => b"Injected",
-        Why::Range => b"Range",
-        Why::Size => b"Size",
+        LineFault::Cut => b"Cut",
+        LineFault::Form => b"Form",
+        LineFault::Faulty => b"Faulty",
+        LineFault::Injected => b"Injected",
+        LineFault::Range => b"Range",
+        LineFault::Size => b"Size",
     }
 }

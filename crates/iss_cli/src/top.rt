@@ -15,8 +15,8 @@ use crate::errors::EndError;
 use crate::input::read_up_to;
 use crate::output::write_all;
 use crate::status::Status;
-use iss_restarts::restarts_change_nothing;
 use iss_sb::Sequenced;
+use iss_theorems::restarts_change_nothing;
 use sb_hotstuff::HotStuff;
 use sb_pbft::Pbft;
 use sb_raft::Raft;
@@ -78,7 +78,7 @@ pub fn one_log()
 
 // What is promised of the run of every schedule under a module whose correct leaders accept one batch at a slot.
 fn kept<M: Sequenced>()
-    ensures { AcceptsOnce M.meaning → (s : Schedule) → IsSetupOf M.meaning s.setup → AreInRange s.setup s.events → IsKept M.meaning s }
+    ensures { AcceptsOnce M.spec → (s : Schedule) → IsSetupOf M.spec s.setup → AreInRange s.setup s.events → IsKept M.spec s }
 {
     restarts_change_nothing::<M>();
 }

@@ -36,7 +36,7 @@ impl<R: Files<File = File>> FileDisk<R> {
 }
 
 // Counts a fault, where the system refused.
-fn told<T: Drop>(answer: io::Result<T>, faults: &mut u64) -> Result<T, Failed>
+fn count_fault<T: Drop>(answer: io::Result<T>, faults: &mut u64) -> Result<T, Failed>
     ensures value { IfOk result (λ value. answer ≡ Ok value) }
     ensures cause { HasCause faults.old faults.new (IsErr result) }
 {
@@ -106,7 +106,7 @@ impl<R: Files<File = File>> Disk for FileDisk<R> {
     fn attach(&mut self, name: &str) -> Result<(), EndError> {
         let kept = Vec::from_slice(self.alloc, name.as_bytes())?;
         let opened = open(&self.files, name);
-        let file = told(opened, &mut self.faults)?;
+        let file = count_fault(opened, &mut self.faults)?;
         self.name = kept;
         self.file = Some(file);
         Ok(())
@@ -117,26 +117,26 @@ impl<R: Files<File = File>> Disk for FileDisk<R> {
     }
 
     fn length(&mut self) -> Result<u64, Failed> {
-        told(length_of(&self.file), &mut self.faults)
+        count_fault(length_of(&self.file), &mut self.faults)
     }
 
     fn read_at(&mut self, at: u64, into: &mut [u8]) -> Result<usize, Failed> {
-        told(read(&self.file, at, into), &mut self.faults)
+        count_fault(read(&self.file, at, into), &mut self.faults)
     }
 
     fn write_at(&mut self, at: u64, bytes: &[u8]) -> Result<(), Failed> {
         let written = attached(&self.file).and_then(|file| file.write_all_at(bytes, at));
-        told(written, &mut self.faults)
+        count_fault(written, &mut self.faults)
     }
 
     fn cut(&mut self, len: u64) -> Result<(), Failed> {
         let cut = attached(&self.file).and_then(|file| file.set_len(len));
-        told(cut, &mut self.faults)
+        count_fault(cut, &mut self.faults)
     }
 
     fn sync(&mut self) -> Result<(), Failed> {
         let synced = attached(&self.file).and_then(|file| file.sync_data());
-        told(synced, &mut self.faults)
+        count_fault(synced, &mut self.faults)
     }
 
     ghost here = { λ disk. refl };

@@ -8,7 +8,7 @@ use Rattle.iss_journal.proofs.Crash.{only_settled, reads_closed}
 use Rattle.iss_journal.specs.EntryViews.{entries_in}
 use Rattle.iss_journal.specs.Sound.{HasRoom, longest_of}
 use Rattle.iss_journal.specs.declared.entries.Entries.{Entries}
-use Rattle.iss_journal.specs.declared.spare.Spare.{Spare}
+use Rattle.iss_journal.specs.declared.spare.Reserved.{Reserved}
 use Rattle.iss_journal.proofs.Grammar.{one_reading}
 use Rattle.iss_journal.proofs.Steps.{between_leaves, each_append}
 
@@ -98,7 +98,7 @@ pub history_same : (h0 h1 : List File) (f0 f1 : List ℕ → List File) (n0 n1 :
 history_same h0 h1 f0 f1 n0 n1 is0 is1 stays = is1 ∙ ap f1 stays.name ∙ stays.all n0 ∙ sym is0
 
 -- whether there is room does not depend on room that was added
-pub room_more : (spare : Spare) (old new : Entries) (room now : Room) → HasRoom spare old room → entries_in new ≡ entries_in old → vec_capacity old.bytes ≤ vec_capacity new.bytes → vec_len new.marks ≡ vec_len old.marks → vec_capacity old.marks ≤ vec_capacity new.marks → Takes 0 0 room now → HasRoom spare new now
+pub room_more : (spare : Reserved) (old new : Entries) (room now : Room) → HasRoom spare old room → entries_in new ≡ entries_in old → vec_capacity old.bytes ≤ vec_capacity new.bytes → vec_len new.marks ≡ vec_len old.marks → vec_capacity old.marks ≤ vec_capacity new.marks → Takes 0 0 room now → HasRoom spare new now
 room_more spare old new room now has same no_less as_many marks takes = record {
   some = has.some;
   in_memory = omega (arith, has.in_memory, no_less, ap (λ (es : List (List ℕ)). length (frames es)) same);

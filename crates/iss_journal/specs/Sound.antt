@@ -7,7 +7,7 @@ use Rattle.iss_journal.specs.EntryViews.{entries_in}
 use Rattle.iss_journal.specs.Promises.{RestsOn}
 use Rattle.iss_journal.specs.declared.entries.Entries.{Entries}
 use Rattle.iss_journal.specs.declared.journal.Journal.{Journal}
-use Rattle.iss_journal.specs.declared.spare.Spare.{Spare}
+use Rattle.iss_journal.specs.declared.spare.Reserved.{Reserved}
 
 abbrev pub disk_of : {D : Type 0} → Journal D → D
 disk_of journal = journal.disk
@@ -26,21 +26,21 @@ longest_of (suc most) = Some most
 
 -- the longest entry for which there is room, where there is
 abbrev pub reserved_of : {D : Type 0} → Journal D → Option ℕ
-reserved_of journal = longest_of journal.reserved.below
+reserved_of journal = longest_of journal.reserved.limit
 
 -- room for some entries, in memory and on the disk
-pub record HasRoom (spare : Spare) (entries : Entries) (room : Room) : Type 0 where
+pub record HasRoom (spare : Reserved) (entries : Entries) (room : Room) : Type 0 where
   pub some : 1 ≤ spare.entries
-  pub in_memory : length (frames (entries_in entries)) + spare.below + 5 ≤ vec_capacity entries.bytes
+  pub in_memory : length (frames (entries_in entries)) + spare.limit + 5 ≤ vec_capacity entries.bytes
   pub for_marks : vec_len entries.marks + spare.entries ≤ vec_capacity entries.marks
   pub calls : 4 * spare.entries ≤ room.calls
-  pub on_disk : spare.below + 5 ≤ room.bytes
+  pub on_disk : spare.limit + 5 ≤ room.bytes
 
 -- While it is attached, its file is the frames of its entries and a closed gate, all of it synced; and the room that it
 -- holds ready is there.
 pub record IsSound {D : Type 0} (history : D → List File) (room : D → Room) (journal : Journal D) : Type 0 where
   pub rests : journal.attached ≡ true → IfTold (history journal.disk) (RestsOn (entries_in journal.entries))
-  pub room_kept : 0 < journal.reserved.below → HasRoom journal.reserved journal.entries (room journal.disk)
+  pub room_kept : 0 < journal.reserved.limit → HasRoom journal.reserved journal.entries (room journal.disk)
 
 -- the disk's file, the calls to come and whether the journal is attached are as before
 pub record NothingChanged {D : Type 0} (history : D → List File) (passes : D → Passes) (old new : Journal D) : Type 0 where

@@ -5,7 +5,7 @@ use crate::entries::Entries;
 use crate::errors::AttachError;
 use crate::keep::keep_entry;
 use crate::load::load;
-use crate::spare::{Spare, left_behind};
+use crate::spare::{Reserved, left_behind};
 use iss_disk::{Disk, EndError, Fused, NoMemory};
 use std::alloc::Global;
 
@@ -22,7 +22,7 @@ pub struct Journal<D: Disk> {
     entries: Entries,
     attached: bool,
     // The entries for which there is room.
-    reserved: Spare,
+    reserved: Reserved,
 }
 
 impl<D: Disk> Journal<D> {
@@ -45,9 +45,9 @@ impl<D: Disk> Journal<D> {
             disk,
             entries: Entries::new(alloc),
             attached: false,
-            reserved: Spare {
+            reserved: Reserved {
                 entries: 0,
-                below: 0,
+                limit: 0,
             },
         }
     }
@@ -73,7 +73,7 @@ impl<D: Disk> Journal<D> {
         ensures sound { IsSound D.history D.room self.new }
     {
         self.attached = false;
-        self.reserved.below = 0;
+        self.reserved.limit = 0;
         // A sync, a cut, a write and a sync.
         self.disk.reserve(4, 1)?;
         self.disk.sync()?;
@@ -125,8 +125,8 @@ impl<D: Disk> Journal<D> {
     #[inline(always)]
     fn make_ready(&mut self, bytes: u64) -> Result<(), NoMemory>
         requires sound { IsSound D.history D.room self.old }
-        ensures reserved { OnOk result (bytes < self.new.reserved.below) }
-        ensures ready { bytes < self.old.reserved.below → is_ok result ≡ true }
+        ensures reserved { OnOk result (bytes < self.new.reserved.limit) }
+        ensures ready { bytes < self.old.reserved.limit → is_ok result ≡ true }
         ensures entries { entries_of self.new ≡ entries_of self.old }
         ensures attached { is_attached self.new ≡ is_attached self.old }
         ensures history { D.history (disk_of self.new) ≡ D.history (disk_of self.old) }
@@ -135,7 +135,7 @@ impl<D: Disk> Journal<D> {
         ensures passes { D.passes (disk_of self.new) ≡ D.passes (disk_of self.old) }
         ensures sound { IsSound D.history D.room self.new }
     {
-        if bytes < self.reserved.below {
+        if bytes < self.reserved.limit {
             return Ok(());
         }
         self.make_room(bytes)
@@ -146,7 +146,7 @@ impl<D: Disk> Journal<D> {
     #[inline(never)]
     fn make_room(&mut self, bytes: u64) -> Result<(), NoMemory>
         requires sound { IsSound D.history D.room self.old }
-        ensures reserved { OnOk result (bytes < self.new.reserved.below) }
+        ensures reserved { OnOk result (bytes < self.new.reserved.limit) }
         ensures entries { entries_of self.new ≡ entries_of self.old }
         ensures attached { is_attached self.new ≡ is_attached self.old }
         ensures history { D.history (disk_of self.new) ≡ D.history (disk_of self.old) }
@@ -160,9 +160,9 @@ impl<D: Disk> Journal<D> {
         self.entries
             .reserve(SOME_ENTRIES as usize, longest as usize)?;
         self.disk.reserve(4 * SOME_ENTRIES, frames)?;
-        self.reserved = Spare {
+        self.reserved = Reserved {
             entries: SOME_ENTRIES,
-            below: longest + 1,
+            limit: longest + 1,
         };
         Ok(())
     }
@@ -228,7 +228,7 @@ impl<D: Disk> Journal<D> {
         let bytes = (head.len() + body.len()) as u64;
         self.make_ready(bytes)?;
         let left = left_behind(self.reserved, bytes);
-        self.reserved.below = 0;
+        self.reserved.limit = 0;
         self.attached = false;
         self.entries.stage(head, body);
         keep_entry(&mut self.disk, &self.entries, head, body)?;
@@ -268,7 +268,7 @@ impl<D: Fused> Journal<D> {
         ensures sound { IsSound D.history D.room self.new }
     {
         self.disk.restart();
-        self.reserved.below = 0;
+        self.reserved.limit = 0;
         self.attached = false;
     }
 }

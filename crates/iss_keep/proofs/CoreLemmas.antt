@@ -1,6 +1,6 @@
 -- The core of entries behind others, and of one more.
 use Rattle.std.proofs.Common.{◌≡◌, ℕ, List, [], ◌∷◌, ◌++◌, Option, Some, None, refl, sym, ap, ◌∙◌}
-use Rattle.iss_model.specs.Node.{Core, idle}
+use Rattle.iss_model.specs.Node.{Core, initial_core}
 use Rattle.iss_request.specs.declared.setups.Setup.{Setup}
 use Rattle.iss_sb.specs.Evidence.{Module}
 use Rattle.iss_keep.specs.Cores.{StopsAt, core_from, core_of, core_with, from_core}
@@ -27,7 +27,7 @@ module _ {Msg : Type 0} (s : Setup) (m : Module Msg) (me : ℕ) where
   pub one-more : (front : List (List ℕ)) (entry : List ℕ) (c d : Core Msg) → core_of s m me front ≡ Some c → core_with s m me c (event_in s.n entry) ≡ Some d →
       core_of s m me (front ++ entry ∷ []) ≡ Some d
   one-more front entry c d before then =
-      core-append front (entry ∷ []) idle
+      core-append front (entry ∷ []) initial_core
       ∙ ap (λ (o : Option (Core Msg)). from_core o (core_from s m me (entry ∷ []))) before
       ∙ alone (with_entry entry c)
       ∙ then
@@ -41,7 +41,7 @@ module _ {Msg : Type 0} (s : Setup) (m : Module Msg) (me : ℕ) where
       let rest : Core Msg → Option (Core Msg) = core_from s m me stops.behind in
       let none : core_of s m me entries ≡ None =
       ap (λ (es : List (List ℕ)). core_of s m me es) stops.is
-      ∙ core-append stops.front (stops.entry ∷ stops.behind) idle
+      ∙ core-append stops.front (stops.entry ∷ stops.behind) initial_core
       ∙ ap (λ (o : Option (Core Msg)). from_core o (core_from s m me (stops.entry ∷ stops.behind))) stops.before
       ∙ ap (λ (o : Option (Core Msg)). from_core o rest) stops.none in
       no-core c (sym none ∙ leads)

@@ -2,7 +2,7 @@
 use Rattle.std.proofs.Common.{◌≡◌, ◌∙◌, ◌++◌, ◌∷◌, ℕ, List, [], Option, Some, None, refl, sym, ap, subst}
 use Rattle.iss_base.specs.Lists.{Extends}
 use Rattle.iss_base.proofs.Lists.{extends-refl, extends-tail}
-use Rattle.iss_causes.specs.declared.causes.NodeEvent.{NodeEvent}
+use Rattle.iss_rules.specs.declared.events.NodeEvent.{NodeEvent}
 use Rattle.iss_model.specs.Frames.{frame_of}
 use Rattle.iss_model.specs.Node.{Core, Dropped, Stepped, Taken, Turn}
 use Rattle.iss_request.specs.declared.setups.Setup.{Setup}

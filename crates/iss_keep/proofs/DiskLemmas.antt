@@ -15,7 +15,7 @@ use Rattle.iss_journal.specs.Sound.{disk_of, entries_of}
 use Rattle.iss_journal.specs.declared.journal.Journal.{Journal}
 use Rattle.iss_keys.specs.Directories.{DirectoryView}
 use Rattle.iss_model.specs.Node.{Core}
-use Rattle.iss_node.specs.State.{NodeState}
+use Rattle.iss_node.specs.State.{NodeView}
 use Rattle.iss_request.specs.declared.ids.NodeId.{NodeId}
 use Rattle.iss_request.specs.declared.setups.Setup.{Setup}
 use Rattle.iss_sb.specs.Calls.{Relation}
@@ -67,10 +67,10 @@ rest-synced entries [] h = tt
 rest-synced entries (file ∷ past) h = subst (λ (f : File). Reads f.kept (holds entries)) (sym h.is) (gate-read entries h.gate h.closed h.short)
 
 -- of one that is not stale, what is synced are its entries
-pub kept-synced : {M Msg D : Type 0} (m : Module Msg) (stands : Relation M Msg) (history : D → List File) (room : D → Room) (directory : DirectoryView) (journal : Journal D)
-    (s : Setup) (me : NodeId) (node : NodeState M Msg) → IsKept m stands history room directory journal (state_over s me node journal false) →
+pub kept-synced : {M Msg D : Type 0} (m : Module Msg) (refines : Relation M Msg) (history : D → List File) (room : D → Room) (directory : DirectoryView) (journal : Journal D)
+    (s : Setup) (me : NodeId) (node : NodeView M Msg) → IsKept m refines history room directory journal (state_over s me node journal false) →
     IfTold (history (disk_of journal)) (λ file. Reads file.kept (holds (entries_of journal)))
-kept-synced m stands history room directory journal s me node kept =
+kept-synced m refines history room directory journal s me node kept =
     rest-synced (entries_of journal) (history (disk_of journal)) (kept.sound.rests (kept.attached refl))
 
 -- Of a file in memory, what was synced is a thing that a crash may leave.

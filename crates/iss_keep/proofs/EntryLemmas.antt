@@ -2,8 +2,8 @@
 use Rattle.std.proofs.Common.{◌≡◌, ℕ, Bool, true, false, cond, eqb, leb, suc, List, [], ◌∷◌, ◌<◌, Option, Some, None, refl, sym, ap, ◌∙◌, subst}
 use Rattle.std.proofs.lemmas.Bool.{le-leb, leb-true}
 use Rattle.iss_base.proofs.Lists.{is-eq}
-use Rattle.iss_causes.specs.declared.causes.NodeEvent.{NodeEvent}
-use Rattle.iss_causes.specs.declared.causes.NodeEvent.TheVariants.{AskFrom, Packet, Propose, Timeout}
+use Rattle.iss_rules.specs.declared.events.NodeEvent.{NodeEvent}
+use Rattle.iss_rules.specs.declared.events.NodeEvent.TheVariants.{AskFrom, Packet, Propose, Timeout}
 use Rattle.iss_request.specs.declared.ids.NodeId.{NodeId}
 use Rattle.iss_keep.specs.Entries.{IsEntryOf, NamesNode, ask_in, event_in, node_in, propose_in, spell_event, timeout_in}
 

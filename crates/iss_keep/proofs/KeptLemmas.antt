@@ -11,14 +11,14 @@ use Rattle.iss_keys.specs.KeyStates.{KeyState}
 use Rattle.iss_keys.proofs.DirectoryLemmas.{length-nodes}
 use Rattle.iss_rules.specs.Concrete.{keys_of, rules_of}
 use Rattle.iss_rules.specs.Formats.{formats_of}
-use Rattle.iss_model.specs.Node.{Core, Stepped, Taken as Was_taken, Turn, step}
+use Rattle.iss_model.specs.Node.{Core, Stepped, Taken as Step_taken, Turn, step}
 use Rattle.iss_rules.specs.Setups.{IsSetupOf}
-use Rattle.iss_causes.specs.declared.causes.NodeEvent.{NodeEvent}
-use Rattle.iss_causes.specs.declared.causes.NodeEvent.TheVariants.{AskFrom, Packet, Propose, Timeout}
-use Rattle.iss_causes.specs.declared.causes.Why.{Why}
-use Rattle.iss_node.specs.State.{NodeState, Stands}
+use Rattle.iss_rules.specs.declared.events.NodeEvent.{NodeEvent}
+use Rattle.iss_rules.specs.declared.events.NodeEvent.TheVariants.{AskFrom, Packet, Propose, Timeout}
+use Rattle.iss_rules.specs.declared.events.Why.{Why}
+use Rattle.iss_node.specs.State.{NodeView, RefinesCore}
 use Rattle.iss_node.specs.Steps.{IsAnswer as Node_answers, IsOfNodes}
-use Rattle.iss_node.specs.declared.answers.Answer.TheVariants.{Dropped as Node_drops, Taken as Node_takes}
+use Rattle.iss_node.specs.declared.answers.Answer.TheVariants.{Dropped as Node_dropped, Taken as Node_taken}
 use Rattle.iss_node.specs.declared.answers.Outcome.{Outcome}
 use Rattle.iss_request.specs.declared.ids.NodeId.{NodeId}
 use Rattle.iss_request.specs.declared.setups.Setup.{Setup}
@@ -26,7 +26,7 @@ use Rattle.iss_sb.specs.Evidence.{Module}
 use Rattle.iss_sb.specs.Calls.{AreToNodes, Relation}
 use Rattle.iss_keep.specs.Cores.{core_after, core_of, core_with, step_of}
 use Rattle.iss_keep.specs.Entries.{event_in, spell_event}
-use Rattle.iss_keep.specs.State.{AsksNobody, IsAt, IsKept, KeptState, LeadsTo, state_over}
+use Rattle.iss_keep.specs.State.{AsksNobody, IsKept, KeptRefinesCore, KeptState, LeadsTo, state_over}
 use Rattle.iss_keep.specs.Keeping.{HasStepped}
 use Rattle.iss_keep.specs.Replays.{IsOf, IsReplayed}
 use Rattle.iss_keep.specs.Steps.{IsAnswer, IsDrop, IsTurn, ShowsAsBefore, Writes, entries_after, makes_stale}
@@ -88,13 +88,13 @@ leads-on n entries event before after (inr nobody) more who = inr (still-nobody 
 leads-on n entries event before after (inl h) more (inl of) = inl (more of h)
 leads-on n entries event before after (inl h) more (inr who) = inr (nobody-asked n entries event who.0 who.1 who.2)
 
-module _ {M Msg D : Type 0} (m : Module Msg) (stands : Relation M Msg) (history : D → List File) (room : D → Room) (directory : DirectoryView) where
+module _ {M Msg D : Type 0} (m : Module Msg) (refines : Relation M Msg) (history : D → List File) (room : D → Room) (directory : DirectoryView) where
   not-both : (b : Bool) (P : Type 0) → b ≡ true → b ≡ false → P
   not-both b P t f = absurd (true≢false (sym t ∙ f))
 
   -- one that has to be reopened
-  pub stale-kept : (journal : Journal D) (v : KeptState M Msg D) → IsSetupOf m v.setup → v.me.0 < v.setup.n → directory ≡ keys_of v.setup → v.node.parts.setup ≡ v.setup → v.node.parts.me ≡ v.me →
-      IsSound history room journal → v.stale ≡ true → IsKept m stands history room directory journal v
+  pub stale-kept : (journal : Journal D) (v : KeptState M Msg D) → IsSetupOf m v.setup → v.me.0 < v.setup.n → directory ≡ keys_of v.setup → v.node.state.setup ≡ v.setup → v.node.state.me ≡ v.me →
+      IsSound history room journal → v.stale ≡ true → IsKept m refines history room directory journal v
   stale-kept journal v good member keys cluster number sound stale = record {
     good = good;
     member = member;
@@ -109,8 +109,8 @@ module _ {M Msg D : Type 0} (m : Module Msg) (stands : Relation M Msg) (history 
 
   -- one whose entries lead to the core that it stands for
   pub fresh-kept : (journal : Journal D) (v : KeptState M Msg D) (c : Core Msg) → IsSetupOf m v.setup → v.me.0 < v.setup.n → directory ≡ keys_of v.setup →
-      v.node.parts.setup ≡ v.setup → v.node.parts.me ≡ v.me → IsSound history room journal → is_attached journal ≡ true →
-      IfTold (history v.disk) (OnlyLeaves (λ bytes. Reads bytes (holds v.entries))) → IsAt m stands v c → LeadsTo m v c → IsKept m stands history room directory journal v
+      v.node.state.setup ≡ v.setup → v.node.state.me ≡ v.me → IsSound history room journal → is_attached journal ≡ true →
+      IfTold (history v.disk) (OnlyLeaves (λ bytes. Reads bytes (holds v.entries))) → KeptRefinesCore m refines v c → LeadsTo m v c → IsKept m refines history room directory journal v
   fresh-kept journal v c good member keys cluster number sound attached durable at leads = record {
     good = good;
     member = member;
@@ -124,34 +124,34 @@ module _ {M Msg D : Type 0} (m : Module Msg) (stands : Relation M Msg) (history 
   }
 
   -- the core of one that is not stale
-  standing : (v : KeptState M Msg D) → (v.stale ≡ true) ⊎ ((c : Core Msg) × IsAt m stands v c × LeadsTo m v c) → v.stale ≡ false →
-      (c : Core Msg) × IsAt m stands v c × LeadsTo m v c
+  standing : (v : KeptState M Msg D) → (v.stale ≡ true) ⊎ ((c : Core Msg) × KeptRefinesCore m refines v c × LeadsTo m v c) → v.stale ≡ false →
+      (c : Core Msg) × KeptRefinesCore m refines v c × LeadsTo m v c
   standing v (inl stale) fresh = not-both v.stale _ stale fresh
   standing v (inr h) fresh = h
 
-  pub its-core : (journal : Journal D) (v : KeptState M Msg D) → IsKept m stands history room directory journal v → v.stale ≡ false →
-      (c : Core Msg) × IsAt m stands v c × LeadsTo m v c
+  pub its-core : (journal : Journal D) (v : KeptState M Msg D) → IsKept m refines history room directory journal v → v.stale ≡ false →
+      (c : Core Msg) × KeptRefinesCore m refines v c × LeadsTo m v c
   its-core journal v kept fresh = standing v kept.kept fresh
 
   -- ---- a step of its node
 
-  module _ (before : Journal D) (old : KeptState M Msg D) (kept : IsKept m stands history room directory before old) (event : NodeEvent) (node : NodeState M Msg)
-      (setup : node.parts.setup ≡ old.node.parts.setup) (me : node.parts.me ≡ old.node.parts.me) where
+  module _ (before : Journal D) (old : KeptState M Msg D) (kept : IsKept m refines history room directory before old) (event : NodeEvent) (node : NodeView M Msg)
+      (setup : node.state.setup ≡ old.node.state.setup) (me : node.state.me ≡ old.node.state.me) where
     abbrev node_step : Core Msg → Stepped Msg
-    node_step c = step (formats_of old.node.parts.setup m) (rules_of old.node.parts.setup) m old.node.parts.me.0 c event
+    node_step c = step (formats_of old.node.state.setup m) (rules_of old.node.state.setup) m old.node.state.me.0 c event
 
     -- the step of the node is the step in its cluster
     same-step : (c : Core Msg) → node_step c ≡ step_of old.setup m old.me.0 c event
-    same-step c = ap (λ (s : Setup). step (formats_of s m) (rules_of s) m old.node.parts.me.0 c event) kept.cluster
+    same-step c = ap (λ (s : Setup). step (formats_of s m) (rules_of s) m old.node.state.me.0 c event) kept.cluster
         ∙ ap (λ (i : NodeId). step_of old.setup m i.0 c event) kept.number
 
     module _ (outcome : Outcome)
-        (answer : (c : Core Msg) → Stands m stands old.node c → Node_answers m stands (IsOfNodes old.node.parts.setup.n event) c (node_step c) node (Node_takes outcome)) where
-      own-peer : IsOfNodes old.setup.n event → IsOfNodes old.node.parts.setup.n event
+        (answer : (c : Core Msg) → RefinesCore m refines old.node c → Node_answers m refines (IsOfNodes old.node.state.setup.n event) c (node_step c) node (Node_taken outcome)) where
+      own-peer : IsOfNodes old.setup.n event → IsOfNodes old.node.state.setup.n event
       own-peer h = subst (λ (s : Setup). IsOfNodes s.n event) (sym kept.cluster) h
 
       -- entries that led to a core lead on with the event
-      led : (c : Core Msg) (turn : Turn Msg) → step_of old.setup m old.me.0 c event ≡ Was_taken turn → IsOfNodes old.setup.n event →
+      led : (c : Core Msg) (turn : Turn Msg) → step_of old.setup m old.me.0 c event ≡ Step_taken turn → IsOfNodes old.setup.n event →
           core_of old.setup m old.me.0 old.entries ≡ Some c → core_of old.setup m old.me.0 (old.entries ++ spell_event event ∷ []) ≡ Some turn.core
       led c turn is of before =
           let named = taken-named old.setup m kept.good old.me.0 c event turn of is in
@@ -160,18 +160,18 @@ module _ {M Msg D : Type 0} (m : Module Msg) (stands : Relation M Msg) (history 
           one-more old.setup m old.me.0 (old.entries) (spell_event event) c turn.core before with_event
 
       -- with the event in its journal it stands for the core after the step
-      pub took-turn : (journal : Journal D) → entries_of journal ≡ old.entries ++ spell_event event ∷ [] → (c : Core Msg) → IsAt m stands old c →
-          IsTurn m stands (IsOfNodes old.setup.n event) old c (step_of old.setup m old.me.0 c event) (state_over old.setup old.me node journal false) outcome
+      pub took-turn : (journal : Journal D) → entries_of journal ≡ old.entries ++ spell_event event ∷ [] → (c : Core Msg) → KeptRefinesCore m refines old c →
+          IsTurn m refines (IsOfNodes old.setup.n event) old c (step_of old.setup m old.me.0 c event) (state_over old.setup old.me node journal false) outcome
       took-turn journal entries c at =
           let a = answer c at.node in
-          let is : step_of old.setup m old.me.0 c event ≡ Was_taken a.turn = sym (same-step c) ∙ a.step_is in
+          let is : step_of old.setup m old.me.0 c event ≡ Step_taken a.turn = sym (same-step c) ∙ a.step_is in
           record {
             turn = a.turn;
             step_is = is;
-            at = record { fresh = refl; node = a.stands_for; cluster = setup ∙ kept.cluster; number = me ∙ kept.number };
-            stands_for = λ of for. record {
+            at = record { fresh = refl; node = a.refined; cluster = setup ∙ kept.cluster; number = me ∙ kept.number };
+            refined = λ of for. record {
               fresh = refl;
-              node = a.stands_for;
+              node = a.refined;
               cluster = setup ∙ kept.cluster;
               number = me ∙ kept.number;
               core = subst (λ (es : List (List ℕ)). core_of old.setup m old.me.0 es ≡ Some a.turn.core) (sym entries) (led c a.turn is of for.core);
@@ -181,24 +181,24 @@ module _ {M Msg D : Type 0} (m : Module Msg) (stands : Relation M Msg) (history 
           }
 
       took-leads : (journal : Journal D) → entries_of journal ≡ old.entries ++ spell_event event ∷ [] → (c : Core Msg) (turn : Turn Msg) →
-          step_of old.setup m old.me.0 c event ≡ Was_taken turn → LeadsTo m old c → LeadsTo m (state_over old.setup old.me node journal false) turn.core
+          step_of old.setup m old.me.0 c event ≡ Step_taken turn → LeadsTo m old c → LeadsTo m (state_over old.setup old.me node journal false) turn.core
       took-leads journal entries c turn is leads =
           subst (λ (es : List (List ℕ)). (core_of old.setup m old.me.0 es ≡ Some turn.core) ⊎ AsksNobody old.setup.n es) (sym entries)
           (leads-on old.setup.n old.entries event (core_of old.setup m old.me.0 old.entries ≡ Some c)
           (core_of old.setup m old.me.0 (old.entries ++ spell_event event ∷ []) ≡ Some turn.core) leads (led c turn is) (of-nodes old.setup.n event))
 
     module _ (why : Why)
-        (answer : (c : Core Msg) → Stands m stands old.node c → Node_answers m stands (IsOfNodes old.node.parts.setup.n event) c (node_step c) node (Node_drops why)) where
-      pub dropped-turn : (journal : Journal D) → entries_of journal ≡ old.entries → (c : Core Msg) → IsAt m stands old c →
-          IsDrop m stands old c (step_of old.setup m old.me.0 c event) (state_over old.setup old.me node journal false) why
+        (answer : (c : Core Msg) → RefinesCore m refines old.node c → Node_answers m refines (IsOfNodes old.node.state.setup.n event) c (node_step c) node (Node_dropped why)) where
+      pub dropped-turn : (journal : Journal D) → entries_of journal ≡ old.entries → (c : Core Msg) → KeptRefinesCore m refines old c →
+          IsDrop m refines old c (step_of old.setup m old.me.0 c event) (state_over old.setup old.me node journal false) why
       dropped-turn journal entries c at =
           let a = answer c at.node in
           record {
             step_is = sym (same-step c) ∙ a.step_is;
-            at = record { fresh = refl; node = a.stands_for; cluster = setup ∙ kept.cluster; number = me ∙ kept.number };
-            stands_for = λ for. record {
+            at = record { fresh = refl; node = a.refined; cluster = setup ∙ kept.cluster; number = me ∙ kept.number };
+            refined = λ for. record {
               fresh = refl;
-              node = a.stands_for;
+              node = a.refined;
               cluster = setup ∙ kept.cluster;
               number = me ∙ kept.number;
               core = subst (λ (es : List (List ℕ)). core_of old.setup m old.me.0 es ≡ Some c) (sym entries) for.core;
@@ -211,9 +211,9 @@ module _ {M Msg D : Type 0} (m : Module Msg) (stands : Relation M Msg) (history 
       abbrev left : Answer → KeptState M Msg D
       left answer = state_over old.setup old.me node journal (makes_stale answer)
 
-      pub answers : (answer : Answer) → HasStepped m stands event old.node node answer → entries_of journal ≡ entries_after old.entries (spell_event event) answer →
-          (c : Core Msg) → IsAt m stands old c →
-          IsAnswer m stands (IsOfNodes old.setup.n event) old c (step_of old.setup m old.me.0 c event) (left answer) answer
+      pub answers : (answer : Answer) → HasStepped m refines event old.node node answer → entries_of journal ≡ entries_after old.entries (spell_event event) answer →
+          (c : Core Msg) → KeptRefinesCore m refines old c →
+          IsAnswer m refines (IsOfNodes old.setup.n event) old c (step_of old.setup m old.me.0 c event) (left answer) answer
       answers (Taken outcome) stepped added c at = took-turn outcome stepped journal added c at
       answers (Dropped why) stepped added c at = dropped-turn why stepped journal added c at
       answers Failed stepped added c at = let t = stepped.1 c at.node in (t.0, sym (same-step c) ∙ t.1)
@@ -221,12 +221,12 @@ module _ {M Msg D : Type 0} (m : Module Msg) (stands : Relation M Msg) (history 
       answers NoMemory stepped added c at = tt
 
       fresh-after : (c : Core Msg) → IsSound history room journal → is_attached journal ≡ true →
-          IfTold (history (disk_of journal)) (OnlyLeaves (λ bytes. Reads bytes (holds (entries_of journal)))) → IsAt m stands (state_over old.setup old.me node journal false) c →
-          LeadsTo m (state_over old.setup old.me node journal false) c → IsKept m stands history room directory journal (state_over old.setup old.me node journal false)
+          IfTold (history (disk_of journal)) (OnlyLeaves (λ bytes. Reads bytes (holds (entries_of journal)))) → KeptRefinesCore m refines (state_over old.setup old.me node journal false) c →
+          LeadsTo m (state_over old.setup old.me node journal false) c → IsKept m refines history room directory journal (state_over old.setup old.me node journal false)
       fresh-after c sound attached durable at leads =
           fresh-kept journal (state_over old.setup old.me node journal false) c kept.good kept.member kept.keys (setup ∙ kept.cluster) (me ∙ kept.number) sound attached durable at leads
 
-      stale-after : IsSound history room journal → IsKept m stands history room directory journal (state_over old.setup old.me node journal true)
+      stale-after : IsSound history room journal → IsKept m refines history room directory journal (state_over old.setup old.me node journal true)
       stale-after sound =
           stale-kept journal (state_over old.setup old.me node journal true) kept.good kept.member kept.keys (setup ∙ kept.cluster) (me ∙ kept.number) sound refl
 
@@ -235,9 +235,9 @@ module _ {M Msg D : Type 0} (m : Module Msg) (stands : Relation M Msg) (history 
       durable-with es added told =
           subst (λ (xs : List (List ℕ)). IfTold (history (disk_of journal)) (OnlyLeaves (λ bytes. Reads bytes (holds xs)))) (sym added) told
 
-      pub kept-after : (answer : Answer) → HasStepped m stands event old.node node answer → entries_of journal ≡ entries_after old.entries (spell_event event) answer →
+      pub kept-after : (answer : Answer) → HasStepped m refines event old.node node answer → entries_of journal ≡ entries_after old.entries (spell_event event) answer →
           Writes old.entries (spell_event event) (history old.disk) (history (disk_of journal)) answer → IsSound history room journal →
-          (makes_stale answer ≡ false → is_attached journal ≡ true) → IsKept m stands history room directory journal (left answer)
+          (makes_stale answer ≡ false → is_attached journal ≡ true) → IsKept m refines history room directory journal (left answer)
       kept-after (Taken outcome) stepped added wrote sound attached =
           let h = its-core before old kept fresh in
           let t = took-turn outcome stepped journal added h.0 h.1 in
@@ -253,7 +253,7 @@ module _ {M Msg D : Type 0} (m : Module Msg) (stands : Relation M Msg) (history 
       kept-after Stale stepped added wrote sound attached = stale-after sound
       kept-after NoMemory stepped added wrote sound attached = stale-after sound
 
-      shows-after : (answer : Answer) → HasStepped m stands event old.node node answer → makes_stale answer ≡ true → (later : Bool) →
+      shows-after : (answer : Answer) → HasStepped m refines event old.node node answer → makes_stale answer ≡ true → (later : Bool) →
           ShowsAsBefore old (state_over old.setup old.me node journal later)
       shows-after (Taken outcome) stepped stale later = absurd (true≢false (sym stale))
       shows-after (Dropped why) stepped stale later = absurd (true≢false (sym stale))
@@ -262,11 +262,11 @@ module _ {M Msg D : Type 0} (m : Module Msg) (stands : Relation M Msg) (history 
       shows-after NoMemory stepped stale later = record { log = stepped.log; epoch = stepped.epoch }
 
       -- with what the call made of `stale`
-      module _ (later : Bool) (answer : Answer) (is : later ≡ makes_stale answer) (stepped : HasStepped m stands event old.node node answer) where
-        pub take-answers : entries_of journal ≡ entries_after old.entries (spell_event event) answer → (c : Core Msg) → IsAt m stands old c →
-            IsAnswer m stands (IsOfNodes old.setup.n event) old c (step_of old.setup m old.me.0 c event) (state_over old.setup old.me node journal later) answer
+      module _ (later : Bool) (answer : Answer) (is : later ≡ makes_stale answer) (stepped : HasStepped m refines event old.node node answer) where
+        pub take-answers : entries_of journal ≡ entries_after old.entries (spell_event event) answer → (c : Core Msg) → KeptRefinesCore m refines old c →
+            IsAnswer m refines (IsOfNodes old.setup.n event) old c (step_of old.setup m old.me.0 c event) (state_over old.setup old.me node journal later) answer
         take-answers added c at =
-            subst (λ (b : Bool). IsAnswer m stands (IsOfNodes old.setup.n event) old c (step_of old.setup m old.me.0 c event) (state_over old.setup old.me node journal b) answer) (sym is)
+            subst (λ (b : Bool). IsAnswer m refines (IsOfNodes old.setup.n event) old c (step_of old.setup m old.me.0 c event) (state_over old.setup old.me node journal b) answer) (sym is)
             (answers answer stepped added c at)
 
         -- a node that became stale shows what it showed
@@ -275,18 +275,18 @@ module _ {M Msg D : Type 0} (m : Module Msg) (stands : Relation M Msg) (history 
 
         pub take-kept : entries_of journal ≡ entries_after old.entries (spell_event event) answer →
             Writes old.entries (spell_event event) (history old.disk) (history (disk_of journal)) answer → IsSound history room journal →
-            (makes_stale answer ≡ false → is_attached journal ≡ true) → IsKept m stands history room directory journal (state_over old.setup old.me node journal later)
+            (makes_stale answer ≡ false → is_attached journal ≡ true) → IsKept m refines history room directory journal (state_over old.setup old.me node journal later)
         take-kept added wrote sound attached =
-            subst (λ (b : Bool). IsKept m stands history room directory journal (state_over old.setup old.me node journal b)) (sym is)
+            subst (λ (b : Bool). IsKept m refines history room directory journal (state_over old.setup old.me node journal b)) (sym is)
             (kept-after answer stepped added wrote sound attached)
 
   -- ---- reopening
 
-  module _ (journal : Journal D) (s : Setup) (i : NodeId) (node : NodeState M Msg) (good : IsSetupOf m s) (member : i.0 < s.n) (keys : directory ≡ keys_of s)
+  module _ (journal : Journal D) (s : Setup) (i : NodeId) (node : NodeView M Msg) (good : IsSetupOf m s) (member : i.0 < s.n) (keys : directory ≡ keys_of s)
       (sound : IsSound history room journal) where
-    pub reopened-kept : IsReplayed s m stands i.0 (entries_of journal) node → IsOf s i node → is_attached journal ≡ true →
+    pub reopened-kept : IsReplayed s m refines i.0 (entries_of journal) node → IsOf s i node → is_attached journal ≡ true →
         IfTold (history (disk_of journal)) (OnlyLeaves (λ bytes. Reads bytes (holds (entries_of journal)))) →
-        IsKept m stands history room directory journal (state_over s i node journal false)
+        IsKept m refines history room directory journal (state_over s i node journal false)
     reopened-kept h own attached durable =
         fresh-kept journal (state_over s i node journal false) h.0 good member keys own.cluster own.number sound attached durable
         (record { fresh = refl; node = h.1; cluster = own.cluster; number = own.number }) (inl h.2)

@@ -6,10 +6,10 @@ use Rattle.iss_model.proofs.Rows.{each-holds, settles-holds}
 use Rattle.iss_model.proofs.Steps.{Took, adopted, asked, cast, fired, handed, kept, received, sought, took, voted}
 use Rattle.iss_rules.specs.Concrete.{rules_of}
 use Rattle.iss_rules.specs.Formats.{formats_of}
-use Rattle.iss_model.specs.Node.{Core, Dropped, Early, Stepped, Taken, Turn, adopts_piece, idle, onward, settles, step, takes_each}
+use Rattle.iss_model.specs.Node.{Core, Dropped, Early, Stepped, Taken, Turn, adopts_piece, advance_epochs, initial_core, step, takes_each, then_turn}
 use Rattle.iss_rules.specs.Parcels.{Formats}
 use Rattle.iss_rules.specs.Rules.{Rules}
-use Rattle.iss_causes.specs.declared.causes.NodeEvent.{NodeEvent}
+use Rattle.iss_rules.specs.declared.events.NodeEvent.{NodeEvent}
 use Rattle.iss_request.specs.declared.setups.Setup.{Setup}
 use Rattle.iss_sb.specs.Evidence.{Module}
 use Rattle.iss_keep.specs.Cores.{core_after, core_from, core_of, core_with, from_core, step_of}
@@ -21,11 +21,11 @@ use Rattle.iss_keep.proofs.DiskLemmas.{same-held}
 -- ---- a step gives no leaf back
 
 module _ {Msg : Type 0} (F : Formats Msg) (R : Rules) (m : Module Msg) (me : ℕ) where
-  settles-more : (n : ℕ) (t : Turn Msg) → n ≤ t.core.leaf → n ≤ (settles F R m me t).core.leaf
+  settles-more : (n : ℕ) (t : Turn Msg) → n ≤ t.core.leaf → n ≤ (advance_epochs F R m me t).core.leaf
   settles-more n t h = settles-holds F R m me (λ u. n ≤ u.core.leaf) (λ u l input. Unit {0})
       (λ u l input k fit come. omega (arith, k)) (λ u k complete. omega (arith, k)) (λ u claims k. k) t h (λ done u x i k q r. tt)
 
-  each-more : (n e : ℕ) (early : List (Early Msg)) (t : Turn Msg) → n ≤ t.core.leaf → n ≤ (onward t (takes_each F R m me e early)).core.leaf
+  each-more : (n e : ℕ) (early : List (Early Msg)) (t : Turn Msg) → n ≤ t.core.leaf → n ≤ (then_turn t (takes_each F R m me e early)).core.leaf
   each-more n e early t h = each-holds F R m me (λ u. n ≤ u.core.leaf) (λ u l input. Unit {0})
       (λ u l input k fit come. omega (arith, k)) (λ u k complete. omega (arith, k)) (λ u claims k. k) e early t h (λ u x i k q r. tt)
 
@@ -62,7 +62,7 @@ module _ {Msg : Type 0} (s : Setup) (m : Module Msg) (me : ℕ) where
   apart-from (entry ∷ entries) c = turned-more c (event_in s.n entry) (makings_from s m me entries) (λ d. apart-from entries d)
 
   pub makings-apart : (entries : List (List ℕ)) → AreApart 0 (makings_of s m me entries)
-  makings-apart entries = apart-from entries idle
+  makings-apart entries = apart-from entries initial_core
 
   -- ---- what is appended later
 
@@ -91,7 +91,7 @@ module _ {Msg : Type 0} (s : Setup) (m : Module Msg) (me : ℕ) where
 
   pub makings-go-on : (front more : List (List ℕ)) (c : Core Msg) → core_of s m me front ≡ Some c →
       makings_of s m me (front ++ more) ≡ makings_of s m me front ++ makings_from s m me more c
-  makings-go-on front more c h = go-on front more idle c h
+  makings-go-on front more c h = go-on front more initial_core c h
 
   -- ---- a crash
 

@@ -7,10 +7,10 @@ use Rattle.iss_journal.specs.declared.errors.AttachError.{AttachError}
 use Rattle.iss_journal.specs.declared.errors.AttachError.TheVariants.{Damaged}
 use Rattle.iss_rules.proofs.Logs.{newborn-log}
 use Rattle.iss_rules.specs.Concrete.{rules_of}
-use Rattle.iss_model.specs.Node.{Core, idle}
-use Rattle.iss_causes.specs.declared.causes.NodeEvent.{NodeEvent}
-use Rattle.iss_causes.specs.declared.causes.Why.{Why}
-use Rattle.iss_node.specs.State.{NodeState, Stands}
+use Rattle.iss_model.specs.Node.{Core, initial_core}
+use Rattle.iss_rules.specs.declared.events.NodeEvent.{NodeEvent}
+use Rattle.iss_rules.specs.declared.events.Why.{Why}
+use Rattle.iss_node.specs.State.{NodeView, RefinesCore}
 use Rattle.iss_node.specs.Steps.{IsDrop, IsTurn}
 use Rattle.iss_node.specs.declared.answers.Outcome.{Outcome}
 use Rattle.iss_request.specs.declared.ids.NodeId.{NodeId}
@@ -23,17 +23,17 @@ use Rattle.iss_keep.specs.Cores.{StopsAt, core_after, core_of, core_with, step_o
 use Rattle.iss_keep.specs.Entries.{event_in}
 use Rattle.iss_keep.specs.Replays.{GoesTo, IsOf, IsReplayed}
 
-module _ {M Msg : Type 0} (s : Setup) (m : Module Msg) (stands : Relation M Msg) (me : ℕ) where
+module _ {M Msg : Type 0} (s : Setup) (m : Module Msg) (refines : Relation M Msg) (me : ℕ) where
   -- ---- one entry
 
-  module _ (c : Core Msg) (entry : List ℕ) (new : NodeState M Msg) where
-    pub goes-taken : (of : Type 0) (event : NodeEvent) (outcome : Outcome) → Some event ≡ event_in s.n entry → IsTurn m stands of (step_of s m me c event) new outcome → GoesTo s m stands me c entry new true
-    goes-taken of event outcome read a = (a.turn.core, a.stands_for, ap (core_with s m me c) (sym read) ∙ ap core_after a.step_is)
+  module _ (c : Core Msg) (entry : List ℕ) (new : NodeView M Msg) where
+    pub goes-taken : (of : Type 0) (event : NodeEvent) (outcome : Outcome) → Some event ≡ event_in s.n entry → IsTurn m refines of (step_of s m me c event) new outcome → GoesTo s m refines me c entry new true
+    goes-taken of event outcome read a = (a.turn.core, a.refined, ap (core_with s m me c) (sym read) ∙ ap core_after a.step_is)
 
-    pub goes-dropped : (event : NodeEvent) (why : Why) → Some event ≡ event_in s.n entry → IsDrop m stands c (step_of s m me c event) new why → GoesTo s m stands me c entry new false
+    pub goes-dropped : (event : NodeEvent) (why : Why) → Some event ≡ event_in s.n entry → IsDrop m refines c (step_of s m me c event) new why → GoesTo s m refines me c entry new false
     goes-dropped event why read a = ap (core_with s m me c) (sym read) ∙ ap core_after a.step_is
 
-    pub goes-nowhere : None ≡ event_in s.n entry → GoesTo s m stands me c entry new false
+    pub goes-nowhere : None ≡ event_in s.n entry → GoesTo s m refines me c entry new false
     goes-nowhere read = ap (core_with s m me c) (sym read)
 
   -- ---- a row of them
@@ -57,43 +57,43 @@ module _ {M Msg : Type 0} (s : Setup) (m : Module Msg) (stands : Relation M Msg)
 
 -- ---- the loop
 
-module _ {M Msg : Type 0} (s : Setup) (m : Module Msg) (stands : Relation M Msg) (me : NodeId) (entries : List (List ℕ)) where
-  pub replay-start : (node : NodeState M Msg) → Stands m stands node idle → IsReplayed s m stands me.0 (take 0 entries) node
-  replay-start node h = (idle, h, refl)
+module _ {M Msg : Type 0} (s : Setup) (m : Module Msg) (refines : Relation M Msg) (me : NodeId) (entries : List (List ℕ)) where
+  pub replay-start : (node : NodeView M Msg) → RefinesCore m refines node initial_core → IsReplayed s m refines me.0 (take 0 entries) node
+  replay-start node h = (initial_core, h, refl)
 
-  pub replay-end : (k : ℕ) (node : NodeState M Msg) → length entries ≤ k → IsReplayed s m stands me.0 (take k entries) node → IsReplayed s m stands me.0 entries node
-  replay-end k node all h = subst (λ (es : List (List ℕ)). IsReplayed s m stands me.0 es node) (take_all k entries all) h
+  pub replay-end : (k : ℕ) (node : NodeView M Msg) → length entries ≤ k → IsReplayed s m refines me.0 (take k entries) node → IsReplayed s m refines me.0 entries node
+  replay-end k node all h = subst (λ (es : List (List ℕ)). IsReplayed s m refines me.0 es node) (take_all k entries all) h
 
-  module _ (k : ℕ) (lt : k < length entries) (old new : NodeState M Msg) (entry : List ℕ) (is : entry ≡ get_or entries k []) (own : IsOf s me old)
-      (before : IsReplayed s m stands me.0 (take k entries) old) where
+  module _ (k : ℕ) (lt : k < length entries) (old new : NodeView M Msg) (entry : List ℕ) (is : entry ≡ get_or entries k []) (own : IsOf s me old)
+      (before : IsReplayed s m refines me.0 (take k entries) old) where
     -- the step of the node at its entry is the step in the cluster at entry k
-    here : (o : Option (Core Msg)) → core_with old.parts.setup m old.parts.me.0 before.0 (event_in old.parts.setup.n entry) ≡ o →
+    here : (o : Option (Core Msg)) → core_with old.state.setup m old.state.me.0 before.0 (event_in old.state.setup.n entry) ≡ o →
         core_with s m me.0 before.0 (event_in s.n (get_or entries k [])) ≡ o
     here o h =
         subst (λ (e : List ℕ). core_with s m me.0 before.0 (event_in s.n e) ≡ o) is
         (subst (λ (i : NodeId). core_with s m i.0 before.0 (event_in s.n entry) ≡ o) own.number
-        (subst (λ (t : Setup). core_with t m old.parts.me.0 before.0 (event_in t.n entry) ≡ o) own.cluster h))
+        (subst (λ (t : Setup). core_with t m old.state.me.0 before.0 (event_in t.n entry) ≡ o) own.cluster h))
 
-    pub replay-on : ((c : Core Msg) → Stands m stands old c → GoesTo old.parts.setup m stands old.parts.me.0 c entry new true) →
-        IsReplayed s m stands me.0 (take (k + 1) entries) new
+    pub replay-on : ((c : Core Msg) → RefinesCore m refines old c → GoesTo old.state.setup m refines old.state.me.0 c entry new true) →
+        IsReplayed s m refines me.0 (take (k + 1) entries) new
     replay-on goes =
         let g = goes before.0 before.1 in
-        (g.0, g.1, replayed-more s m stands me.0 entries k lt before.0 before.2 g.0 (here (Some g.0) g.2))
+        (g.0, g.1, replayed-more s m refines me.0 entries k lt before.0 before.2 g.0 (here (Some g.0) g.2))
 
-    pub replay-stops : ((c : Core Msg) → Stands m stands old c → GoesTo old.parts.setup m stands old.parts.me.0 c entry new false) →
+    pub replay-stops : ((c : Core Msg) → RefinesCore m refines old c → GoesTo old.state.setup m refines old.state.me.0 c entry new false) →
         (at : ℕ) → at ≡ length (frames (take k entries)) → StopsAt s m me.0 at entries
-    replay-stops goes at offset = stops-here s m stands me.0 entries k lt before.0 before.2 at offset (here None (goes before.0 before.1))
+    replay-stops goes at offset = stops-here s m refines me.0 entries k lt before.0 before.2 at offset (here None (goes before.0 before.1))
 
 -- it stays the node that it was
-pub still-of : {M Msg : Type 0} (s : Setup) (me : NodeId) (old new : NodeState M Msg) → IsOf s me old → (new.parts.setup ≡ old.parts.setup) × (new.parts.me ≡ old.parts.me) →
+pub still-of : {M Msg : Type 0} (s : Setup) (me : NodeId) (old new : NodeView M Msg) → IsOf s me old → (new.state.setup ≡ old.state.setup) × (new.state.me ≡ old.state.me) →
     IsOf s me new
 still-of s me old new own same = record { cluster = same.0 ∙ own.cluster; number = same.1 ∙ own.number }
 
 -- a node that has taken nothing shows an empty log, in epoch 0
-pub fresh-shown : {M Msg : Type 0} (m : Module Msg) (stands : Relation M Msg) (v : NodeState M Msg) → Stands m stands v idle →
-    (v.parts.log.entries ≡ []) × (v.parts.epoch ≡ 0)
-fresh-shown m stands v h =
-    (sym (reverse-reverse v.parts.log.entries) ∙ ap (λ (xs : List Value). reverse xs) (sym h.held.parts.tied.log ∙ newborn-log (rules_of v.parts.setup) m v.parts.me.0), h.held.parts.tied.epoch)
+pub fresh-shown : {M Msg : Type 0} (m : Module Msg) (refines : Relation M Msg) (v : NodeView M Msg) → RefinesCore m refines v initial_core →
+    (v.state.log.entries ≡ []) × (v.state.epoch ≡ 0)
+fresh-shown m refines v h =
+    (sym (reverse-reverse v.state.log.entries) ∙ ap (λ (xs : List Value). reverse xs) (sym h.held.state.tied.log ∙ newborn-log (rules_of v.state.setup) m v.state.me.0), h.held.state.tied.epoch)
 
 -- ---- results
 

@@ -5,11 +5,11 @@ use Rattle.std.specs.Prelude.{reverse}
 use Rattle.iss_base.specs.Lists.{Extends}
 use Rattle.iss_journal.specs.Frames.{max_entry}
 use Rattle.iss_log.specs.LogState.{GoesOn}
-use Rattle.iss_causes.specs.declared.causes.NodeEvent.{NodeEvent}
-use Rattle.iss_causes.specs.declared.causes.NodeEvent.TheVariants.{Packet as Gets}
+use Rattle.iss_rules.specs.declared.events.NodeEvent.{NodeEvent}
+use Rattle.iss_rules.specs.declared.events.NodeEvent.TheVariants.{Packet as On_packet}
 use Rattle.iss_rules.specs.Concrete.{rules_of}
 use Rattle.iss_rules.specs.Formats.{formats_of, parcel_in, whole}
-use Rattle.iss_model.specs.Node.{Core, Early, Taken, Turn, adopts_piece, onward, settles, step, takes_each}
+use Rattle.iss_model.specs.Node.{Core, Early, Taken, Turn, adopts_piece, advance_epochs, step, takes_each, then_turn}
 use Rattle.iss_rules.specs.Parcels.{Formats, Parcel}
 use Rattle.iss_rules.specs.Past.{before_own, log_of}
 use Rattle.iss_rules.specs.Rules.{Rules}
@@ -21,7 +21,7 @@ use Rattle.iss_rules.proofs.Layouts.{sound-rules}
 use Rattle.iss_model.proofs.Rows.{each-holds, settles-holds}
 use Rattle.iss_model.proofs.Steps.{Took, adopted, asked, cast, fired, handed, kept, received, sought, took, voted}
 use Rattle.iss_rules.proofs.Windows.{are-windows}
-use Rattle.iss_node.specs.State.{NodeState, Stands, bare}
+use Rattle.iss_node.specs.State.{NodeView, RefinesCore, bare}
 use Rattle.iss_node.specs.Steps.{IsOfNodes}
 use Rattle.iss_packet.proofs.OneSpelling.{packet_table}
 use Rattle.iss_packet.specs.Packets.{parse_packet}
@@ -50,7 +50,7 @@ module _ {Msg : Type 0} (s : Setup) (m : Module Msg) where
   parsed-short bytes k (Good p (b ∷ rest)) q h = nothing-read k _ h
   parsed-short bytes k (Bad at) q h = nothing-read k _ h
 
-  packet-short : (bytes : List ℕ) (k : Parcel Msg) → (formats_of s m).unwrap bytes ≡ Some k → length (spell_event (Gets bytes)) ≤ max_entry
+  packet-short : (bytes : List ℕ) (k : Parcel Msg) → (formats_of s m).unwrap bytes ≡ Some k → length (spell_event (On_packet bytes)) ≤ max_entry
   packet-short bytes k h = let l = parsed-short bytes k (parse_packet s.version s.n bytes) refl h in omega (arith, l)
 
   module _ (good : IsSetupOf m s) (me : ℕ) (c : Core Msg) where
@@ -85,11 +85,11 @@ module _ {Msg : Type 0} (s : Setup) (m : Module Msg) where
 -- ---- the epoch never falls
 
 module _ {Msg : Type 0} (F : Formats Msg) (R : Rules) (m : Module Msg) (me : ℕ) where
-  settles-rise : (n : ℕ) (t : Turn Msg) → n ≤ t.core.past.epoch → n ≤ (settles F R m me t).core.past.epoch
+  settles-rise : (n : ℕ) (t : Turn Msg) → n ≤ t.core.past.epoch → n ≤ (advance_epochs F R m me t).core.past.epoch
   settles-rise n t h = settles-holds F R m me (λ u. n ≤ u.core.past.epoch) (λ u l input. Unit {0})
       (λ u l input k fit come. k) (λ u k complete. omega (arith, k)) (λ u claims k. k) t h (λ done u x i k q r. tt)
 
-  each-rise : (n e : ℕ) (early : List (Early Msg)) (t : Turn Msg) → n ≤ t.core.past.epoch → n ≤ (onward t (takes_each F R m me e early)).core.past.epoch
+  each-rise : (n e : ℕ) (early : List (Early Msg)) (t : Turn Msg) → n ≤ t.core.past.epoch → n ≤ (then_turn t (takes_each F R m me e early)).core.past.epoch
   each-rise n e early t h = each-holds F R m me (λ u. n ≤ u.core.past.epoch) (λ u l input. Unit {0})
       (λ u l input k fit come. k) (λ u k complete. omega (arith, k)) (λ u claims k. k) e early t h (λ u x i k q r. tt)
 
@@ -122,30 +122,30 @@ log-cut a b h = ap (λ (xs : List Value). take (length a) xs) h.1 ∙ take_at a 
 pub log-long : (a b : List Value) → GoesOn a b → length a ≤ length b
 log-long a b h = let l = ap (λ (xs : List Value). length xs) h.1 in let k = length-append a h.0 in omega (arith, l, k)
 
-module _ {M Msg : Type 0} (m : Module Msg) (stands : Relation M Msg) (old new : NodeState M Msg) (c : Core Msg) (event : NodeEvent) (t : Turn Msg)
-    (good : IsSetupOf m old.parts.setup) (before : Stands m stands old c) (now : Stands m stands new t.core)
-    (taken : step (formats_of old.parts.setup m) (rules_of old.parts.setup) m old.parts.me.0 c event ≡ Taken t)
-    (setup : new.parts.setup ≡ old.parts.setup) (me : new.parts.me ≡ old.parts.me) where
+module _ {M Msg : Type 0} (m : Module Msg) (refines : Relation M Msg) (old new : NodeView M Msg) (c : Core Msg) (event : NodeEvent) (t : Turn Msg)
+    (good : IsSetupOf m old.state.setup) (before : RefinesCore m refines old c) (now : RefinesCore m refines new t.core)
+    (taken : step (formats_of old.state.setup m) (rules_of old.state.setup) m old.state.me.0 c event ≡ Taken t)
+    (setup : new.state.setup ≡ old.state.setup) (me : new.state.me ≡ old.state.me) where
   abbrev R : Rules
-  R = rules_of old.parts.setup
+  R = rules_of old.state.setup
 
   slots : HasSlots R
-  slots = record { some = (sound-rules m old.parts.setup good).some_slots; most = (sound-rules m old.parts.setup good).most }
+  slots = record { some = (sound-rules m old.state.setup good).some_slots; most = (sound-rules m old.state.setup good).most }
 
-  sound : IsSoundCore R m old.parts.me.0 c
+  sound : IsSoundCore R m old.state.me.0 c
   sound =
-      kept-sound (formats_of old.parts.setup m) R m old.parts.me.0 (bare c) c.early c.votes c.certs c.leaf
-      (subst (λ (d : Core Msg). IsSoundCore R m old.parts.me.0 d) (sym before.held.parts.core) before.held.parts.tied.sound)
+      kept-sound (formats_of old.state.setup m) R m old.state.me.0 (bare c) c.early c.votes c.certs c.leaf
+      (subst (λ (d : Core Msg). IsSoundCore R m old.state.me.0 d) (sym before.held.state.core) before.held.state.tied.sound)
 
-  log-now : log_of R m old.parts.me.0 t.core.past ≡ reverse new.parts.log.entries
-  log-now = subst (λ (s : Setup). log_of (rules_of s) m old.parts.me.0 t.core.past ≡ reverse new.parts.log.entries) setup
-      (subst (λ (i : ℕ). log_of (rules_of new.parts.setup) m i t.core.past ≡ reverse new.parts.log.entries) (ap (λ z. z.0) me) now.held.parts.tied.log)
+  log-now : log_of R m old.state.me.0 t.core.past ≡ reverse new.state.log.entries
+  log-now = subst (λ (s : Setup). log_of (rules_of s) m old.state.me.0 t.core.past ≡ reverse new.state.log.entries) setup
+      (subst (λ (i : ℕ). log_of (rules_of new.state.setup) m i t.core.past ≡ reverse new.state.log.entries) (ap (λ z. z.0) me) now.held.state.tied.log)
 
-  pub taken-goes-on : GoesOn old.parts.log.entries new.parts.log.entries
+  pub taken-goes-on : GoesOn old.state.log.entries new.state.log.entries
   taken-goes-on =
-      let grown = step-grown (formats_of old.parts.setup m) R m old.parts.me.0 slots (are-windows old.parts.setup) c event t sound taken in
-      turned old.parts.log.entries new.parts.log.entries
-      (grown.0, sym log-now ∙ grown.1 ∙ ap (λ (xs : List Value). grown.0 ++ xs) before.held.parts.tied.log)
+      let grown = step-grown (formats_of old.state.setup m) R m old.state.me.0 slots (are-windows old.state.setup) c event t sound taken in
+      turned old.state.log.entries new.state.log.entries
+      (grown.0, sym log-now ∙ grown.1 ∙ ap (λ (xs : List Value). grown.0 ++ xs) before.held.state.tied.log)
 
-  pub taken-later : old.parts.epoch ≤ new.parts.epoch
-  taken-later = let r = taken-rises (formats_of old.parts.setup m) R m old.parts.me.0 c event t taken in omega (arith, r, before.held.parts.tied.epoch, now.held.parts.tied.epoch)
+  pub taken-later : old.state.epoch ≤ new.state.epoch
+  taken-later = let r = taken-rises (formats_of old.state.setup m) R m old.state.me.0 c event t taken in omega (arith, r, before.held.state.tied.epoch, now.held.state.tied.epoch)

@@ -3,8 +3,8 @@ use Rattle.std.specs.Prelude.{◌≡◌, ℕ, List, [], ◌∷◌, ◌++◌, len
 use Rattle.iss_journal.specs.Frames.{frames}
 use Rattle.iss_rules.specs.Concrete.{rules_of}
 use Rattle.iss_rules.specs.Formats.{formats_of}
-use Rattle.iss_model.specs.Node.{Core, Dropped, Stepped, Taken, idle, step}
-use Rattle.iss_causes.specs.declared.causes.NodeEvent.{NodeEvent}
+use Rattle.iss_model.specs.Node.{Core, Dropped, Stepped, Taken, initial_core, step}
+use Rattle.iss_rules.specs.declared.events.NodeEvent.{NodeEvent}
 use Rattle.iss_request.specs.declared.setups.Setup.{Setup}
 use Rattle.iss_sb.specs.Evidence.{Module}
 use Rattle.iss_keep.specs.Entries.{event_in}
@@ -32,7 +32,7 @@ core_from s m me [] c = Some c
 core_from s m me (entry ∷ entries) c = from_core (core_with s m me c (event_in s.n entry)) (core_from s m me entries)
 
 abbrev pub core_of : {Msg : Type 0} → Setup → Module Msg → ℕ → List (List ℕ) → Option (Core Msg)
-core_of s m me entries = core_from s m me entries idle
+core_of s m me entries = core_from s m me entries initial_core
 
 -- Entries up to one that is no event, or that the node before it would drop; this is the offset of its gate.
 pub record StopsAt {Msg : Type 0} (s : Setup) (m : Module Msg) (me : ℕ) (at : ℕ) (entries : List (List ℕ)) : Type 0 where

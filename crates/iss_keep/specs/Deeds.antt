@@ -1,6 +1,6 @@
 -- What a row of entries did at a node: each event with the turn that it led to, newest first.
 use Rattle.std.specs.Prelude.{ℕ, List, [], ◌∷◌, Option, Some, None}
-use Rattle.iss_causes.specs.declared.causes.NodeEvent.{NodeEvent}
+use Rattle.iss_rules.specs.declared.events.NodeEvent.{NodeEvent}
 use Rattle.iss_model.specs.Node.{Dropped, Stepped, Taken}
 use Rattle.iss_request.specs.declared.setups.Setup.{Setup}
 use Rattle.iss_sb.specs.Evidence.{Module}

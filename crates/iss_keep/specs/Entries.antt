@@ -7,8 +7,8 @@
 --
 -- A leader and a peer are nodes. Nothing else is an event.
 use Rattle.std.specs.Prelude.{◌≡◌, ℕ, ◌<◌, ◌==◌, nat_lt, cond, List, [], ◌∷◌, Option, Some, None, refl}
-use Rattle.iss_causes.specs.declared.causes.NodeEvent.{NodeEvent}
-use Rattle.iss_causes.specs.declared.causes.NodeEvent.TheVariants.{AskFrom, Packet, Propose, Timeout}
+use Rattle.iss_rules.specs.declared.events.NodeEvent.{NodeEvent}
+use Rattle.iss_rules.specs.declared.events.NodeEvent.TheVariants.{AskFrom, Packet, Propose, Timeout}
 use Rattle.iss_request.specs.declared.ids.NodeId.{NodeId}
 
 -- ---- spelling

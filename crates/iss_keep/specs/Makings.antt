@@ -1,7 +1,7 @@
 -- What each entry of a row made at a node, and of which leaves of its keys.
 use Rattle.std.specs.Prelude.{ℕ, ◌≤◌, List, [], ◌∷◌, Option, Some, None}
-use Rattle.iss_model.specs.Node.{Core, Dropped, Stepped, Taken, Turn, idle}
-use Rattle.iss_causes.specs.declared.causes.NodeEvent.{NodeEvent}
+use Rattle.iss_model.specs.Node.{Core, Dropped, Stepped, Taken, Turn, initial_core}
+use Rattle.iss_rules.specs.declared.events.NodeEvent.{NodeEvent}
 use Rattle.iss_request.specs.declared.setups.Setup.{Setup}
 use Rattle.iss_sb.specs.Evidence.{Module}
 use Rattle.iss_keep.specs.Cores.{step_of}
@@ -32,7 +32,7 @@ makings_from s m me [] c = []
 makings_from s m me (entry ∷ entries) c = made_on c (turn_with s m me c (event_in s.n entry)) (makings_from s m me entries)
 
 abbrev pub makings_of : {Msg : Type 0} → Setup → Module Msg → ℕ → List (List ℕ) → List (Making Msg)
-makings_of s m me entries = makings_from s m me entries idle
+makings_of s m me entries = makings_from s m me entries initial_core
 
 -- no leaf is of two of them, nor below this one
 abbrev pub AreApart : {Msg : Type 0} → ℕ → List (Making Msg) → Type 0

@@ -1,7 +1,7 @@
 -- How a node goes on by an entry.
 use Rattle.std.specs.Prelude.{◌≡◌, ℕ, Bool, true, false, List, Some, None}
 use Rattle.iss_model.specs.Node.{Core}
-use Rattle.iss_node.specs.State.{NodeState, Stands}
+use Rattle.iss_node.specs.State.{NodeView, RefinesCore}
 use Rattle.iss_request.specs.declared.ids.NodeId.{NodeId}
 use Rattle.iss_request.specs.declared.setups.Setup.{Setup}
 use Rattle.iss_sb.specs.Calls.{Relation}
@@ -11,16 +11,16 @@ use Rattle.iss_keep.specs.Entries.{event_in}
 
 -- a node stands for the core that the entry leads to, or it leads to none
 abbrev pub GoesTo : {M Msg : Type 0} → Setup → Module Msg → Relation M Msg → ℕ → Core Msg → List ℕ →
-    NodeState M Msg → Bool → Type 0
-GoesTo {Msg = Msg} s m stands me c entry new true = (d : Core Msg) × Stands m stands new d × (core_with s m me c (event_in s.n entry) ≡ Some d)
-GoesTo s m stands me c entry new false = core_with s m me c (event_in s.n entry) ≡ None
+    NodeView M Msg → Bool → Type 0
+GoesTo {Msg = Msg} s m refines me c entry new true = (d : Core Msg) × RefinesCore m refines new d × (core_with s m me c (event_in s.n entry) ≡ Some d)
+GoesTo s m refines me c entry new false = core_with s m me c (event_in s.n entry) ≡ None
 
 -- a node stands for the core of these entries
 abbrev pub IsReplayed : {M Msg : Type 0} → Setup → Module Msg → Relation M Msg → ℕ → List (List ℕ) →
-    NodeState M Msg → Type 0
-IsReplayed {Msg = Msg} s m stands me entries v = (c : Core Msg) × Stands m stands v c × (core_of s m me entries ≡ Some c)
+    NodeView M Msg → Type 0
+IsReplayed {Msg = Msg} s m refines me entries v = (c : Core Msg) × RefinesCore m refines v c × (core_of s m me entries ≡ Some c)
 
 -- it is this node of this cluster
-pub record IsOf {M Msg : Type 0} (s : Setup) (me : NodeId) (v : NodeState M Msg) : Type 0 where
-  pub cluster : v.parts.setup ≡ s
-  pub number : v.parts.me ≡ me
+pub record IsOf {M Msg : Type 0} (s : Setup) (me : NodeId) (v : NodeView M Msg) : Type 0 where
+  pub cluster : v.state.setup ≡ s
+  pub number : v.state.me ≡ me

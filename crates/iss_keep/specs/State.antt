@@ -10,8 +10,8 @@ use Rattle.iss_keys.specs.Directories.{DirectoryView}
 use Rattle.iss_rules.specs.Concrete.{keys_of}
 use Rattle.iss_model.specs.Node.{Core}
 use Rattle.iss_rules.specs.Setups.{IsSetupOf}
-use Rattle.iss_causes.specs.declared.causes.NodeEvent.TheVariants.{AskFrom}
-use Rattle.iss_node.specs.State.{NodeState, Stands}
+use Rattle.iss_rules.specs.declared.events.NodeEvent.TheVariants.{AskFrom}
+use Rattle.iss_node.specs.State.{NodeView, RefinesCore}
 use Rattle.iss_request.specs.declared.ids.NodeId.{NodeId}
 use Rattle.iss_request.specs.declared.setups.Setup.{Setup}
 use Rattle.iss_sb.specs.Calls.{Relation}
@@ -22,32 +22,32 @@ use Rattle.iss_keep.specs.Entries.{spell_event}
 pub record KeptState (M Msg D : Type 0) : Type 0 where
   pub setup : Setup
   pub me : NodeId
-  pub node : NodeState M Msg
+  pub node : NodeView M Msg
   -- its journal: the disk below it, and its entries, the first appended first
   pub disk : D
   pub entries : List (List ℕ)
   -- it has to be reopened
   pub stale : Bool
 
-abbrev pub state_over : {M Msg D : Type 0} → Setup → NodeId → NodeState M Msg → Journal D → Bool → KeptState M Msg D
+abbrev pub state_over : {M Msg D : Type 0} → Setup → NodeId → NodeView M Msg → Journal D → Bool → KeptState M Msg D
 state_over s me node journal stale =
     record { setup = s; me = me; node = node; disk = disk_of journal; entries = entries_of journal; stale = stale }
 
 -- It is not stale, and its node stands for this core, the next leaf included, in its cluster and under its number.
-pub record IsAt {M Msg D : Type 0} (m : Module Msg) (stands : Relation M Msg)
+pub record KeptRefinesCore {M Msg D : Type 0} (m : Module Msg) (refines : Relation M Msg)
     (v : KeptState M Msg D) (c : Core Msg) : Type 0 where
   pub fresh : v.stale ≡ false
-  pub node : Stands m stands v.node c
-  pub cluster : v.node.parts.setup ≡ v.setup
-  pub number : v.node.parts.me ≡ v.me
+  pub node : RefinesCore m refines v.node c
+  pub cluster : v.node.state.setup ≡ v.setup
+  pub number : v.node.state.me ≡ v.me
 
 -- It stands for the core of the entries in its journal, the next leaf included.
-pub record StandsFor {M Msg D : Type 0} (m : Module Msg) (stands : Relation M Msg)
+pub record RefinesEntries {M Msg D : Type 0} (m : Module Msg) (refines : Relation M Msg)
     (v : KeptState M Msg D) (c : Core Msg) : Type 0 where
   pub fresh : v.stale ≡ false
-  pub node : Stands m stands v.node c
-  pub cluster : v.node.parts.setup ≡ v.setup
-  pub number : v.node.parts.me ≡ v.me
+  pub node : RefinesCore m refines v.node c
+  pub cluster : v.node.state.setup ≡ v.setup
+  pub number : v.node.state.me ≡ v.me
   pub core : core_of v.setup m v.me.0 v.entries ≡ Some c
 
 -- one of the entries asks a number that is no node: reopening finds damage there
@@ -64,14 +64,14 @@ LeadsTo m v c = (core_of v.setup m v.me.0 v.entries ≡ Some c) ⊎ AsksNobody v
 
 -- What holds of each: it is of a cluster, its journal is sound, and it is stale, or its entries, which every crash leaves, lead to
 -- the core that its node stands for.
-pub record IsKept {M Msg D : Type 0} (m : Module Msg) (stands : Relation M Msg)
+pub record IsKept {M Msg D : Type 0} (m : Module Msg) (refines : Relation M Msg)
     (history : D → List File) (room : D → Room) (directory : DirectoryView) (journal : Journal D) (v : KeptState M Msg D) : Type 0 where
   pub good : IsSetupOf m v.setup
   pub member : v.me.0 < v.setup.n
   pub keys : directory ≡ keys_of v.setup
-  pub cluster : v.node.parts.setup ≡ v.setup
-  pub number : v.node.parts.me ≡ v.me
+  pub cluster : v.node.state.setup ≡ v.setup
+  pub number : v.node.state.me ≡ v.me
   pub sound : IsSound history room journal
   pub attached : v.stale ≡ false → is_attached journal ≡ true
   pub durable : v.stale ≡ false → IfTold (history v.disk) (OnlyLeaves (λ bytes. Reads bytes (holds v.entries)))
-  pub kept : (v.stale ≡ true) ⊎ ((c : Core Msg) × IsAt m stands v c × LeadsTo m v c)
+  pub kept : (v.stale ≡ true) ⊎ ((c : Core Msg) × KeptRefinesCore m refines v c × LeadsTo m v c)

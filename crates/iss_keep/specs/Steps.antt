@@ -4,48 +4,48 @@ use Rattle.iss_disk.specs.Calls.{HasCause, IfTold, Passes, Runs, StaysHere}
 use Rattle.iss_disk.specs.File.{File}
 use Rattle.iss_journal.specs.Frames.{Reads, damaged, holds}
 use Rattle.iss_journal.specs.Promises.{ComesToRest, HoldsWithOrWithout, LeavesOnly, LosesNothing, OnlyLeaves, Works}
-use Rattle.iss_model.specs.Node.{Core, Dropped as Not_taken, Stepped, Taken as Was_taken, Turn}
-use Rattle.iss_causes.specs.declared.causes.Why.{Why}
+use Rattle.iss_model.specs.Node.{Core, Dropped as Step_dropped, Stepped, Taken as Step_taken, Turn}
+use Rattle.iss_rules.specs.declared.events.Why.{Why}
 use Rattle.iss_node.specs.Steps.{IsMade}
 use Rattle.iss_node.specs.declared.answers.Outcome.{Outcome}
 use Rattle.iss_request.specs.declared.setups.Setup.{Setup}
 use Rattle.iss_sb.specs.Calls.{AreToNodes, Relation}
 use Rattle.iss_sb.specs.Evidence.{Module}
 use Rattle.iss_keep.specs.Cores.{StopsAt}
-use Rattle.iss_keep.specs.State.{IsAt, KeptState, StandsFor}
+use Rattle.iss_keep.specs.State.{KeptRefinesCore, KeptState, RefinesEntries}
 use Rattle.iss_keep.specs.declared.answers.Answer.{Answer}
 use Rattle.iss_keep.specs.declared.answers.Answer.TheVariants.{Dropped, Failed, NoMemory, Stale, Taken}
 
 -- The event was taken: the node stands for the core after the step, and hands out what the step made. Where the event asks nobody but
 -- nodes, all of it is sent to nodes, and entries that led to the core before the step lead to the core after it.
-pub record IsTurn {M Msg D : Type 0} (m : Module Msg) (stands : Relation M Msg) (asked : Type 0)
+pub record IsTurn {M Msg D : Type 0} (m : Module Msg) (refines : Relation M Msg) (asked : Type 0)
     (old : KeptState M Msg D) (c : Core Msg) (stepped : Stepped Msg) (new : KeptState M Msg D) (outcome : Outcome) : Type 0 where
   pub turn : Turn Msg
-  pub step_is : stepped ≡ Was_taken turn
-  pub at : IsAt m stands new turn.core
-  pub stands_for : asked → StandsFor m stands old c → StandsFor m stands new turn.core
+  pub step_is : stepped ≡ Step_taken turn
+  pub at : KeptRefinesCore m refines new turn.core
+  pub refined : asked → RefinesEntries m refines old c → RefinesEntries m refines new turn.core
   pub made : IsMade turn outcome
   pub addressed : asked → AreToNodes new.setup.n outcome.sends
 
 -- It was dropped: nothing has changed.
-pub record IsDrop {M Msg D : Type 0} (m : Module Msg) (stands : Relation M Msg)
+pub record IsDrop {M Msg D : Type 0} (m : Module Msg) (refines : Relation M Msg)
     (old : KeptState M Msg D) (c : Core Msg) (stepped : Stepped Msg) (new : KeptState M Msg D) (why : Why) : Type 0 where
-  pub step_is : stepped ≡ Not_taken why
-  pub at : IsAt m stands new c
-  pub stands_for : StandsFor m stands old c → StandsFor m stands new c
+  pub step_is : stepped ≡ Step_dropped why
+  pub at : KeptRefinesCore m refines new c
+  pub refined : RefinesEntries m refines old c → RefinesEntries m refines new c
 
 -- a step that was taken
 abbrev pub IsTaken : {Msg : Type 0} → Stepped Msg → Type 0
-IsTaken {Msg = Msg} stepped = (turn : Turn Msg) × (stepped ≡ Was_taken turn)
+IsTaken {Msg = Msg} stepped = (turn : Turn Msg) × (stepped ≡ Step_taken turn)
 
 -- the answer to a step of the core that the node stands for; `asked` says that the event asks nobody but nodes
 abbrev pub IsAnswer : {M Msg D : Type 0} → Module Msg → Relation M Msg → Type 0 → KeptState M Msg D → Core Msg →
     Stepped Msg → KeptState M Msg D → Answer → Type 0
-IsAnswer m stands asked old c stepped new (Taken outcome) = IsTurn m stands asked old c stepped new outcome
-IsAnswer m stands asked old c stepped new (Dropped why) = IsDrop m stands old c stepped new why
-IsAnswer m stands asked old c stepped new Failed = IsTaken stepped
-IsAnswer m stands asked old c stepped new Stale = ⊥
-IsAnswer m stands asked old c stepped new NoMemory = Unit {0}
+IsAnswer m refines asked old c stepped new (Taken outcome) = IsTurn m refines asked old c stepped new outcome
+IsAnswer m refines asked old c stepped new (Dropped why) = IsDrop m refines old c stepped new why
+IsAnswer m refines asked old c stepped new Failed = IsTaken stepped
+IsAnswer m refines asked old c stepped new Stale = ⊥
+IsAnswer m refines asked old c stepped new NoMemory = Unit {0}
 
 -- whether the node has to be reopened after an answer
 abbrev pub makes_stale : Answer → Bool
@@ -129,8 +129,8 @@ IsDamaged s m me entries before at =
 
 -- the log and the epoch that it shows are as they were
 pub record ShowsAsBefore {M Msg D : Type 0} (old new : KeptState M Msg D) : Type 0 where
-  pub log : new.node.parts.log.entries ≡ old.node.parts.log.entries
-  pub epoch : new.node.parts.epoch ≡ old.node.parts.epoch
+  pub log : new.node.state.log.entries ≡ old.node.state.log.entries
+  pub epoch : new.node.state.epoch ≡ old.node.state.epoch
 
 -- it is the same node
 pub record IsSame {M Msg D : Type 0} (old new : KeptState M Msg D) : Type 0 where

@@ -3,9 +3,9 @@ ghost use Rattle.std.specs.Prelude.{◌≡◌};
 ghost use Rattle.iss_keep.specs.Keeping.{handed};
 ghost use Rattle.iss_keep.specs.Steps.{makes_stale};
 
-use iss_causes::Why;
 use iss_disk::EndError;
 use iss_node::{Answer as NodeAnswer, Outcome};
+use iss_rules::Why;
 
 /// What a kept node answers to an event.
 #[derive(Drop)]
@@ -36,7 +36,7 @@ pub(crate) fn makes_stale(made: &NodeAnswer, kept: &Result<(), EndError>) -> boo
 
 // What a node made is handed out where its entry is kept, and not else.
 #[inline(always)]
-pub(crate) fn hand_out(made: NodeAnswer, kept: Result<(), EndError>) -> Answer
+pub(crate) fn release(made: NodeAnswer, kept: Result<(), EndError>) -> Answer
     ensures { result ≡ handed made kept }
 {
     match kept {

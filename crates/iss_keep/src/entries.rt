@@ -1,10 +1,10 @@
 //! The events of a node as entries of its journal. `specs/Entries.antt` has the table.
 ghost use Rattle.std.specs.Prelude.{◌≡◌, ◌↔◌, ◌∷◌, ℕ, List, Some, IfOk};
-ghost use Rattle.iss_causes.specs.declared.causes.NodeEvent.{NodeEvent};
+ghost use Rattle.iss_rules.specs.declared.events.NodeEvent.{NodeEvent};
 ghost use Rattle.iss_keep.specs.Entries.{IsEntryOf, ask_in, event_in, node_in, propose_in, spell_event, timeout_in};
 
-use iss_causes::NodeEvent;
 use iss_request::{Bytes, NoMemory, NodeId};
+use iss_rules::NodeEvent;
 use std::alloc::Global;
 
 pub(crate) const PACKET: u8 = 1;

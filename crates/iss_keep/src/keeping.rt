@@ -9,16 +9,16 @@ ghost use Rattle.iss_keep.specs.Keeping.{HasEnded, HasStepped, handed};
 ghost use Rattle.iss_keep.specs.Steps.{IsWritten, makes_stale, sight};
 ghost use Rattle.iss_model.specs.Node.{Core};
 ghost use Rattle.iss_rules.specs.Setups.{IsSetupOf};
-ghost use Rattle.iss_node.specs.State.{Stands};
-ghost use Rattle.iss_node.specs.declared.answers.Answer.TheVariants.{Taken as Node_takes};
+ghost use Rattle.iss_node.specs.State.{RefinesCore};
+ghost use Rattle.iss_node.specs.declared.answers.Answer.TheVariants.{Taken as Node_taken};
 ghost use Rattle.iss_node.specs.declared.answers.Outcome.{Outcome};
 
 use crate::entries::{ASK, PACKET, PROPOSE, TIMEOUT};
-use iss_causes::NodeEvent;
 use iss_disk::{Disk, EndError};
 use iss_journal::Journal;
 use iss_node::{Answer as NodeAnswer, Node};
 use iss_request::{Epoch, NoMemory};
+use iss_rules::NodeEvent;
 use iss_sb::Sequenced;
 use std::alloc::Global;
 
@@ -79,7 +79,7 @@ fn append_event<D: Disk>(journal: &mut Journal<D>, event: &NodeEvent) -> Result<
 
 // Appends the entry of an event that was taken. Where that fails the node retreats to the log and the epoch from before.
 #[inline(always)]
-fn keep_entry<M: Sequenced, D: Disk>(
+fn append_or_retreat<M: Sequenced, D: Disk>(
     node: &mut Node<M>,
     journal: &mut Journal<D>,
     event: &NodeEvent,
@@ -89,12 +89,12 @@ fn keep_entry<M: Sequenced, D: Disk>(
     requires sound { IsSound D.history D.room journal.old }
     requires attached { is_attached journal.old ≡ true }
     requires short { length (spell_event event.now) ≤ max_entry }
-    requires slots { slots ≤ length node.old.parts.log.entries }
-    requires epoch { epoch.0 ≤ node.old.parts.epoch }
+    requires slots { slots ≤ length node.old.state.log.entries }
+    requires epoch { epoch.0 ≤ node.old.state.epoch }
     ensures written { (outcome : Outcome) → IsWritten (entries_of journal.old) (spell_event event.now)
         (sight D.history D.passes D.faults D.current D.files (disk_of journal.old))
-        (sight D.history D.passes D.faults D.current D.files (disk_of journal.new)) (entries_of journal.new) (handed (Node_takes outcome) result) }
-    ensures ended { (outcome : Outcome) → HasEnded outcome slots epoch.0 node.old node.new (handed (Node_takes outcome) result) }
+        (sight D.history D.passes D.faults D.current D.files (disk_of journal.new)) (entries_of journal.new) (handed (Node_taken outcome) result) }
+    ensures ended { (outcome : Outcome) → HasEnded outcome slots epoch.0 node.old node.new (handed (Node_taken outcome) result) }
     ensures sound { IsSound D.history D.room journal.new }
     ensures attached { OnOk result (is_attached journal.new ≡ true) }
 {
@@ -113,7 +113,7 @@ fn keep_entry<M: Sequenced, D: Disk>(
 
 // Steps the node, and keeps the entry where the event was taken, of which this is a copy. What the node made of it stands in `made`.
 #[inline(always)]
-fn step<M: Sequenced, D: Disk>(
+fn apply_then_append<M: Sequenced, D: Disk>(
     alloc: Global,
     node: &mut Node<M>,
     journal: &mut Journal<D>,
@@ -121,23 +121,23 @@ fn step<M: Sequenced, D: Disk>(
     copy: &NodeEvent,
     made: &mut NodeAnswer,
 ) -> Result<(), EndError>
-    requires good { IsSetupOf M.meaning node.old.parts.setup }
-    requires stands { (c : Core M.Msg) × Stands M.meaning M.stands node.old c }
+    requires good { IsSetupOf M.spec node.old.state.setup }
+    requires refines { (c : Core M.Msg) × RefinesCore M.spec M.refines node.old c }
     requires sound { IsSound D.history D.room journal.old }
     requires attached { is_attached journal.old ≡ true }
     requires copy { copy.now ≡ event }
     ensures written { IsWritten (entries_of journal.old) (spell_event copy.now) (sight D.history D.passes D.faults D.current D.files (disk_of journal.old))
         (sight D.history D.passes D.faults D.current D.files (disk_of journal.new)) (entries_of journal.new) (handed made.new result) }
-    ensures stepped { HasStepped M.meaning M.stands event node.old node.new (handed made.new result) }
+    ensures stepped { HasStepped M.spec M.refines event node.old node.new (handed made.new result) }
     ensures sound { IsSound D.history D.room journal.new }
     ensures attached { makes_stale (handed made.new result) ≡ false → is_attached journal.new ≡ true }
-    ensures same { (node.new.parts.setup ≡ node.old.parts.setup) × (node.new.parts.me ≡ node.old.parts.me) }
+    ensures same { (node.new.state.setup ≡ node.old.state.setup) × (node.new.state.me ≡ node.old.state.me) }
 {
     let slots = node.log().entries().len();
     let epoch = node.epoch();
     *made = node.take(alloc, event);
     match made {
-        NodeAnswer::Taken(_) => keep_entry(node, journal, copy, slots, epoch),
+        NodeAnswer::Taken(_) => append_or_retreat(node, journal, copy, slots, epoch),
         _ => Ok(()),
     }
 }
@@ -145,23 +145,23 @@ fn step<M: Sequenced, D: Disk>(
 /// Makes room for the entry of an event, steps the node, and keeps the entry where the event was taken. The node takes the event, so
 /// a copy of it is what is kept. What the node made of it stands in `made`: it is large, and moved once, where it is handed out.
 #[inline(always)]
-pub(crate) fn keep<M: Sequenced, D: Disk>(
+pub(crate) fn journal_and_apply<M: Sequenced, D: Disk>(
     alloc: Global,
     node: &mut Node<M>,
     journal: &mut Journal<D>,
     event: NodeEvent,
     made: &mut NodeAnswer,
 ) -> Result<(), EndError>
-    requires good { IsSetupOf M.meaning node.old.parts.setup }
-    requires stands { (c : Core M.Msg) × Stands M.meaning M.stands node.old c }
+    requires good { IsSetupOf M.spec node.old.state.setup }
+    requires refines { (c : Core M.Msg) × RefinesCore M.spec M.refines node.old c }
     requires sound { IsSound D.history D.room journal.old }
     requires attached { is_attached journal.old ≡ true }
     ensures written { IsWritten (entries_of journal.old) (spell_event event) (sight D.history D.passes D.faults D.current D.files (disk_of journal.old))
         (sight D.history D.passes D.faults D.current D.files (disk_of journal.new)) (entries_of journal.new) (handed made.new result) }
-    ensures stepped { HasStepped M.meaning M.stands event node.old node.new (handed made.new result) }
+    ensures stepped { HasStepped M.spec M.refines event node.old node.new (handed made.new result) }
     ensures sound { IsSound D.history D.room journal.new }
     ensures attached { makes_stale (handed made.new result) ≡ false → is_attached journal.new ≡ true }
-    ensures same { (node.new.parts.setup ≡ node.old.parts.setup) × (node.new.parts.me ≡ node.old.parts.me) }
+    ensures same { (node.new.state.setup ≡ node.old.state.setup) × (node.new.state.me ≡ node.old.state.me) }
 {
     let Ok(copy) = copy_event(&event) else {
         return Err(EndError::NoMemory);
@@ -169,5 +169,5 @@ pub(crate) fn keep<M: Sequenced, D: Disk>(
     if journal.reserve(entry_len(&copy)).is_err() {
         return Err(EndError::NoMemory);
     }
-    step(alloc, node, journal, event, &copy, made)
+    apply_then_append(alloc, node, journal, event, &copy, made)
 }

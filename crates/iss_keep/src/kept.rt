@@ -3,22 +3,22 @@ ghost use Rattle.std.specs.Prelude.{◌≡◌, ◌<◌, ◌≤◌, ◌↔◌, �
 ghost use Rattle.iss_disk.specs.Calls.{Restarts, Stays, script, up_to};
 ghost use Rattle.iss_keep.specs.Cores.{step_of};
 ghost use Rattle.iss_keep.specs.Entries.{spell_event};
-ghost use Rattle.iss_keep.specs.State.{IsAt, StandsFor};
+ghost use Rattle.iss_keep.specs.State.{KeptRefinesCore, RefinesEntries};
 ghost use Rattle.iss_keep.specs.Steps.{IsAnswer, IsAttached, IsDamaged, IsSame, IsWritten, LosesNone, ShowsAsBefore, makes_stale, sight};
 ghost use Rattle.iss_rules.specs.Concrete.{keys_of};
 ghost use Rattle.iss_model.specs.Node.{Core};
 ghost use Rattle.iss_rules.specs.Setups.{IsSetupOf};
 ghost use Rattle.iss_node.specs.Steps.{IsOfNodes};
 
-use crate::answers::{Answer, hand_out, makes_stale};
-use crate::keeping::keep;
+use crate::answers::{Answer, makes_stale, release};
+use crate::keeping::journal_and_apply;
 use crate::reopening::{open, start_fresh};
-use iss_causes::NodeEvent;
 use iss_disk::{Disk, Fused};
 use iss_journal::{AttachError, Journal};
 use iss_keys::SharedDirectory;
 use iss_node::{Answer as NodeAnswer, Node};
 use iss_request::{Epoch, NoMemory, NodeId, Setup};
+use iss_rules::NodeEvent;
 use iss_sb::Sequenced;
 use std::alloc::Global;
 use std::marker::Model;
@@ -43,7 +43,7 @@ impl<M: Sequenced, D: Disk> Model for Kept<M, D> {
 
     ghost view = { λ v. state_over v.setup v.me v.node v.journal v.stale };
 
-    ghost invariant = { λ v. IsKept M.meaning M.stands D.history D.room v.directory v.journal
+    ghost invariant = { λ v. IsKept M.spec M.refines D.history D.room v.directory v.journal
         (state_over v.setup v.me v.node v.journal v.stale) };
 }
 
@@ -57,13 +57,13 @@ impl<M: Sequenced, D: Disk + Drop> Kept<M, D> {
         me: NodeId,
         disk: D,
     ) -> Result<Kept<M, D>, NoMemory>
-        requires good { IsSetupOf M.meaning setup.now }
+        requires good { IsSetupOf M.spec setup.now }
         requires directory { directory.now ≡ keys_of setup.now }
         requires me { me.0 < setup.now.n }
         ensures same { IfOk result (λ v. (v.setup ≡ setup.now) × (v.me ≡ me)) }
         ensures stale { IfOk result (λ v. v.stale ≡ true) }
         ensures journal { IfOk result (λ v. (v.disk ≡ disk) × (v.entries ≡ [])) }
-        ensures shown { IfOk result (λ v. (v.node.parts.log.entries ≡ []) × (v.node.parts.epoch ≡ 0)) }
+        ensures shown { IfOk result (λ v. (v.node.state.log.entries ≡ []) × (v.node.state.epoch ≡ 0)) }
     {
         let node = start_fresh(alloc, setup, directory, me)?;
         let setup = setup.copy()?;
@@ -83,8 +83,8 @@ impl<M: Sequenced, D: Disk> Kept<M, D> {
     /// Takes an event: makes room for its entry, steps the node, appends the entry where the event was taken, and hands out what it
     /// made only then. An ask is never dropped, and one of a number that is no node leaves an entry that `reopen` finds damaged.
     pub fn take(&mut self, event: NodeEvent) -> Answer
-        ensures answer { (c : Core M.Msg) → IsAt M.meaning M.stands self.old c → IsAnswer M.meaning M.stands
-            (IsOfNodes self.old.setup.n event) self.old c (step_of self.old.setup M.meaning self.old.me.0 c event) self.new result }
+        ensures answer { (c : Core M.Msg) → KeptRefinesCore M.spec M.refines self.old c → IsAnswer M.spec M.refines
+            (IsOfNodes self.old.setup.n event) self.old c (step_of self.old.setup M.spec self.old.me.0 c event) self.new result }
         ensures refused { (result ≡ Answer.Stale) ↔ (self.old.stale ≡ true) }
         ensures stale { self.new.stale ≡ makes_stale result }
         ensures written { IsWritten self.old.entries (spell_event event) (sight D.history D.passes D.faults D.current D.files self.old.disk)
@@ -96,7 +96,7 @@ impl<M: Sequenced, D: Disk> Kept<M, D> {
             return Answer::Stale;
         }
         let mut made = NodeAnswer::Stale;
-        let kept = keep(
+        let kept = journal_and_apply(
             self.alloc,
             &mut self.node,
             &mut self.journal,
@@ -104,18 +104,18 @@ impl<M: Sequenced, D: Disk> Kept<M, D> {
             &mut made,
         );
         self.stale = makes_stale(&made, &kept);
-        hand_out(made, kept)
+        release(made, kept)
     }
 
     /// Makes the node anew from the entries of the journal. `Damaged` comes where the file is damaged, and where an entry is no event
     /// or is one that the node before it would drop.
     pub fn reopen(&mut self) -> Result<(), AttachError>
         ensures stale { self.new.stale ≡ not (is_ok result) }
-        ensures core { OnOk result ((c : Core M.Msg) × StandsFor M.meaning M.stands self.new c) }
+        ensures core { OnOk result ((c : Core M.Msg) × RefinesEntries M.spec M.refines self.new c) }
         ensures attached { OnOk result (IsAttached (sight D.history D.passes D.faults D.current D.files self.old.disk)
             (sight D.history D.passes D.faults D.current D.files self.new.disk) self.new.entries) }
         ensures damaged { (at : ℕ) → IsErrOf result (AttachError.Damaged at) →
-            IsDamaged self.old.setup M.meaning self.old.me.0 self.new.entries (D.history self.old.disk) at }
+            IsDamaged self.old.setup M.spec self.old.me.0 self.new.entries (D.history self.old.disk) at }
         ensures loses { LosesNone (sight D.history D.passes D.faults D.current D.files self.old.disk)
             (sight D.history D.passes D.faults D.current D.files self.new.disk) (IsErrOf result AttachError.Failed) }
         ensures shown { OnErr result (ShowsAsBefore self.old self.new) }
@@ -147,11 +147,11 @@ impl<M: Sequenced, D: Disk> Kept<M, D> {
 
     /// Gives up what came after the first slots: until it is reopened it shows these as its log, and the given epoch.
     pub fn retreat(&mut self, slots: usize, epoch: Epoch)
-        requires slots { slots ≤ length self.old.node.parts.log.entries }
-        requires epoch { epoch.0 ≤ self.old.node.parts.epoch }
+        requires slots { slots ≤ length self.old.node.state.log.entries }
+        requires epoch { epoch.0 ≤ self.old.node.state.epoch }
         ensures stale { self.new.stale ≡ true }
-        ensures log { self.new.node.parts.log.entries ≡ take slots self.old.node.parts.log.entries }
-        ensures epoch { self.new.node.parts.epoch ≡ epoch.0 }
+        ensures log { self.new.node.state.log.entries ≡ take slots self.old.node.state.log.entries }
+        ensures epoch { self.new.node.state.epoch ≡ epoch.0 }
         ensures journal { (self.new.disk ≡ self.old.disk) × (self.new.entries ≡ self.old.entries) }
         ensures same { IsSame self.old self.new }
     {

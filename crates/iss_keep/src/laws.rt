@@ -12,7 +12,7 @@ ghost use Rattle.iss_model.specs.Frames.{frame_of};
 ghost use Rattle.iss_model.specs.Node.{Core, Taken, Turn};
 ghost use Rattle.iss_rules.specs.Setups.{IsSetupOf};
 ghost use Rattle.iss_theorems.specs.Leaves.{SignsOnceEach, core_behind};
-ghost use Rattle.iss_causes.specs.declared.causes.NodeEvent.{NodeEvent};
+ghost use Rattle.iss_rules.specs.declared.events.NodeEvent.{NodeEvent};
 ghost use Rattle.iss_request.specs.declared.setups.Setup.{Setup};
 
 use iss_journal::a_file_has_one_reading;
@@ -23,9 +23,9 @@ use iss_theorems::leaves_sign_once;
 /// after it: these are the bytes that `Kept::take` may leave (`Writes`), and `reopen` makes the node of the entries that they hold.
 pub fn a_crash_leaves_one_of_two<M: Sequenced>()
     ensures { (s : Setup) (me : ℕ) (entries found : List (List ℕ)) (entry bytes : List ℕ) (c : Core M.Msg) (event : NodeEvent) (t : Turn M.Msg) →
-        core_of s M.meaning me entries ≡ Some c → event_in s.n entry ≡ Some event → step_of s M.meaning me c event ≡ Taken t →
+        core_of s M.spec me entries ≡ Some c → event_in s.n entry ≡ Some event → step_of s M.spec me c event ≡ Taken t →
         HoldsWithOrWithout entries entry bytes → Reads bytes (holds found) →
-        (core_of s M.meaning me found ≡ Some c) ⊎ (core_of s M.meaning me found ≡ Some t.core) }
+        (core_of s M.spec me found ≡ Some c) ⊎ (core_of s M.spec me found ≡ Some t.core) }
 {
     a_file_has_one_reading();
 }
@@ -33,9 +33,9 @@ pub fn a_crash_leaves_one_of_two<M: Sequenced>()
 /// What an entry makes it makes in each life of the node, whatever is appended later (`again`); and no leaf is of two entries, over all
 /// restarts (`apart`).
 pub fn leaves_are_of_one_entry<M: Sequenced>()
-    ensures again { (s : Setup) (me : ℕ) (entries more : List (List ℕ)) (c : Core M.Msg) → core_of s M.meaning me entries ≡ Some c →
-        makings_of s M.meaning me (entries ++ more) ≡ makings_of s M.meaning me entries ++ makings_from s M.meaning me more c }
-    ensures apart { (s : Setup) (me : ℕ) (entries : List (List ℕ)) → AreApart 0 (makings_of s M.meaning me entries) }
+    ensures again { (s : Setup) (me : ℕ) (entries more : List (List ℕ)) (c : Core M.Msg) → core_of s M.spec me entries ≡ Some c →
+        makings_of s M.spec me (entries ++ more) ≡ makings_of s M.spec me entries ++ makings_from s M.spec me more c }
+    ensures apart { (s : Setup) (me : ℕ) (entries : List (List ℕ)) → AreApart 0 (makings_of s M.spec me entries) }
 {}
 
 /// No leaf signs two statements, over all crashes and restarts. What a node's entries did (`core`: to the core that they lead to) has one
@@ -43,15 +43,15 @@ pub fn leaves_are_of_one_entry<M: Sequenced>()
 /// been told it (`signs`). An event that is taken is the next deed (`taken`), and what is appended later leaves all deeds as they are
 /// (`again`); so two signatures by one leaf that the node made are over one statement, whatever lives they were made in.
 pub fn leaves_are_of_one_statement<M: Sequenced>()
-    ensures signs { (s : Setup) → IsSetupOf M.meaning s → (me : ℕ) (entries : List (List ℕ)) →
-        SignsOnceEach (frame_of s M.meaning) me (deeds_of s M.meaning me entries) }
-    ensures core { (s : Setup) (me : ℕ) (entries : List (List ℕ)) (c : Core M.Msg) → core_of s M.meaning me entries ≡ Some c →
-        core_behind (deeds_of s M.meaning me entries) ≡ c }
+    ensures signs { (s : Setup) → IsSetupOf M.spec s → (me : ℕ) (entries : List (List ℕ)) →
+        SignsOnceEach (frame_of s M.spec) me (deeds_of s M.spec me entries) }
+    ensures core { (s : Setup) (me : ℕ) (entries : List (List ℕ)) (c : Core M.Msg) → core_of s M.spec me entries ≡ Some c →
+        core_behind (deeds_of s M.spec me entries) ≡ c }
     ensures taken { (s : Setup) (me : ℕ) (entries : List (List ℕ)) (entry : List ℕ) (c : Core M.Msg) (event : NodeEvent) (t : Turn M.Msg) →
-        core_of s M.meaning me entries ≡ Some c → event_in s.n entry ≡ Some event → step_of s M.meaning me c event ≡ Taken t →
-        deeds_of s M.meaning me (entries ++ entry ∷ []) ≡ record { event = event; turn = t } ∷ deeds_of s M.meaning me entries }
-    ensures again { (s : Setup) (me : ℕ) (entries more : List (List ℕ)) (c : Core M.Msg) → core_of s M.meaning me entries ≡ Some c →
-        Extends (deeds_of s M.meaning me entries) (deeds_of s M.meaning me (entries ++ more)) }
+        core_of s M.spec me entries ≡ Some c → event_in s.n entry ≡ Some event → step_of s M.spec me c event ≡ Taken t →
+        deeds_of s M.spec me (entries ++ entry ∷ []) ≡ record { event = event; turn = t } ∷ deeds_of s M.spec me entries }
+    ensures again { (s : Setup) (me : ℕ) (entries more : List (List ℕ)) (c : Core M.Msg) → core_of s M.spec me entries ≡ Some c →
+        Extends (deeds_of s M.spec me entries) (deeds_of s M.spec me (entries ++ more)) }
 {
     leaves_sign_once::<M>();
 }

@@ -5,9 +5,9 @@ ghost use Rattle.iss_keep.specs.Cores.{StopsAt};
 ghost use Rattle.iss_keep.specs.Replays.{GoesTo, IsOf, IsReplayed};
 ghost use Rattle.iss_keep.specs.Steps.{IsAttached, IsDamaged, LosesNone, sight};
 ghost use Rattle.iss_rules.specs.Concrete.{keys_of};
-ghost use Rattle.iss_model.specs.Node.{Core, idle};
+ghost use Rattle.iss_model.specs.Node.{Core, initial_core};
 ghost use Rattle.iss_rules.specs.Setups.{IsSetupOf};
-ghost use Rattle.iss_node.specs.State.{Stands};
+ghost use Rattle.iss_node.specs.State.{RefinesCore};
 
 use crate::entries::decode_entry;
 use iss_disk::Disk;
@@ -25,11 +25,11 @@ pub(crate) fn start_fresh<M: Sequenced>(
     directory: &SharedDirectory,
     me: NodeId,
 ) -> Result<Node<M>, NoMemory>
-    requires good { IsSetupOf M.meaning setup.now }
+    requires good { IsSetupOf M.spec setup.now }
     requires directory { directory.now ≡ keys_of setup.now }
     requires me { me.0 < setup.now.n }
-    ensures stands { IfOk result (λ node. Stands M.meaning M.stands node idle) }
-    ensures same { IfOk result (λ node. (node.parts.setup ≡ setup.now) × (node.parts.me ≡ me)) }
+    ensures refines { IfOk result (λ node. RefinesCore M.spec M.refines node initial_core) }
+    ensures same { IfOk result (λ node. (node.state.setup ≡ setup.now) × (node.state.me ≡ me)) }
 {
     let keys = directory.directory().keys_of_node(alloc, me.0);
     Node::start(alloc, setup, directory, me, keys)
@@ -42,10 +42,10 @@ fn replay_entry<M: Sequenced>(
     node: &mut Node<M>,
     entry: &[u8],
 ) -> Result<bool, NoMemory>
-    requires { n ≡ node.old.parts.setup.n }
-    ensures goes { IfOk result (λ taken. (c : Core M.Msg) → Stands M.meaning M.stands node.old c →
-        GoesTo node.old.parts.setup M.meaning M.stands node.old.parts.me.0 c entry.now node.new taken) }
-    ensures same { (node.new.parts.setup ≡ node.old.parts.setup) × (node.new.parts.me ≡ node.old.parts.me) }
+    requires { n ≡ node.old.state.setup.n }
+    ensures goes { IfOk result (λ taken. (c : Core M.Msg) → RefinesCore M.spec M.refines node.old c →
+        GoesTo node.old.state.setup M.spec M.refines node.old.state.me.0 c entry.now node.new taken) }
+    ensures same { (node.new.state.setup ≡ node.old.state.setup) × (node.new.state.me ≡ node.old.state.me) }
 {
     let Some(event) = decode_entry(alloc, n, entry)? else {
         return Ok(false);
@@ -66,12 +66,12 @@ fn replay<M: Sequenced, D: Disk>(
     me: NodeId,
     journal: &Journal<D>,
 ) -> Result<Node<M>, AttachError>
-    requires good { IsSetupOf M.meaning setup.now }
+    requires good { IsSetupOf M.spec setup.now }
     requires directory { directory.now ≡ keys_of setup.now }
     requires me { me.0 < setup.now.n }
-    ensures stands { IfOk result (IsReplayed setup.now M.meaning M.stands me.0 (entries_of journal.now)) }
+    ensures refines { IfOk result (IsReplayed setup.now M.spec M.refines me.0 (entries_of journal.now)) }
     ensures same { IfOk result (IsOf setup.now me) }
-    ensures damaged { (at : ℕ) → IsErrOf result (AttachError.Damaged at) → StopsAt setup.now M.meaning me.0 at (entries_of journal.now) }
+    ensures damaged { (at : ℕ) → IsErrOf result (AttachError.Damaged at) → StopsAt setup.now M.spec me.0 at (entries_of journal.now) }
     ensures sound { IsErrOf result AttachError.Failed → ⊥ }
 {
     let Ok(mut node) = start_fresh::<M>(alloc, setup, directory, me) else {
@@ -99,17 +99,17 @@ pub(crate) fn open<M: Sequenced, D: Disk>(
     me: NodeId,
     journal: &mut Journal<D>,
 ) -> Result<Node<M>, AttachError>
-    requires good { IsSetupOf M.meaning setup.now }
+    requires good { IsSetupOf M.spec setup.now }
     requires directory { directory.now ≡ keys_of setup.now }
     requires me { me.0 < setup.now.n }
     requires sound { IsSound D.history D.room journal.old }
-    ensures stands { IfOk result (IsReplayed setup.now M.meaning M.stands me.0 (entries_of journal.new)) }
+    ensures refines { IfOk result (IsReplayed setup.now M.spec M.refines me.0 (entries_of journal.new)) }
     ensures same { IfOk result (IsOf setup.now me) }
     ensures attached { OnOk result (IsAttached (sight D.history D.passes D.faults D.current D.files (disk_of journal.old))
         (sight D.history D.passes D.faults D.current D.files (disk_of journal.new)) (entries_of journal.new)) }
     ensures is_attached { OnOk result (is_attached journal.new ≡ true) }
     ensures damaged { (at : ℕ) → IsErrOf result (AttachError.Damaged at) →
-        IsDamaged setup.now M.meaning me.0 (entries_of journal.new) (D.history (disk_of journal.old)) at }
+        IsDamaged setup.now M.spec me.0 (entries_of journal.new) (D.history (disk_of journal.old)) at }
     ensures loses { LosesNone (sight D.history D.passes D.faults D.current D.files (disk_of journal.old))
         (sight D.history D.passes D.faults D.current D.files (disk_of journal.new)) (IsErrOf result AttachError.Failed) }
     ensures sound { IsSound D.history D.room journal.new }

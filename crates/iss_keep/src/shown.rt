@@ -1,6 +1,6 @@
 //! What a kept node shows of its core, while it is not stale. Its log and its epoch it shows always.
 ghost use Rattle.std.specs.Prelude.{◌≡◌, ℕ, IfOk, map, reverse};
-ghost use Rattle.iss_keep.specs.State.{IsAt};
+ghost use Rattle.iss_keep.specs.State.{KeptRefinesCore};
 ghost use Rattle.iss_rules.specs.Concrete.{rules_of};
 ghost use Rattle.iss_rules.specs.Formats.{formats_of};
 ghost use Rattle.iss_model.specs.Node.{Core};
@@ -13,46 +13,46 @@ use crate::kept::Kept;
 use iss_disk::Disk;
 use iss_log::Log;
 use iss_node::Accepted;
-use iss_request::{Batch, Epoch, NoMemory, NodeId, ReqId, Row, Slot};
+use iss_request::{Batch, Epoch, NoMemory, NodeId, ReqId, Seq, Slot};
 use iss_sb::{Claim, Sequenced};
 
 impl<M: Sequenced, D: Disk> Kept<M, D> {
     /// The log. While the node is stale it is the one from before the call that made it so; at first it is empty, and after a retreat
     /// what that left.
     pub fn log(&self) -> &Log
-        ensures shown { result.now ≡ self.now.node.parts.log }
-        ensures is { (c : Core M.Msg) → IsAt M.meaning M.stands self.now c →
-            log_of (rules_of self.now.setup) M.meaning self.now.me.0 c.past ≡ reverse result.now.entries }
+        ensures shown { result.now ≡ self.now.node.state.log }
+        ensures is { (c : Core M.Msg) → KeptRefinesCore M.spec M.refines self.now c →
+            log_of (rules_of self.now.setup) M.spec self.now.me.0 c.past ≡ reverse result.now.entries }
     {
         self.node.log()
     }
 
     /// The node's epoch, likewise.
     pub fn epoch(&self) -> Epoch
-        ensures shown { result.0 ≡ self.now.node.parts.epoch }
-        ensures is { (c : Core M.Msg) → IsAt M.meaning M.stands self.now c → result.0 ≡ c.past.epoch }
+        ensures shown { result.0 ≡ self.now.node.state.epoch }
+        ensures is { (c : Core M.Msg) → KeptRefinesCore M.spec M.refines self.now c → result.0 ≡ c.past.epoch }
     {
         self.node.epoch()
     }
 
     /// What these bytes claim that nodes signed, where they are a message of the node's epoch, whose leader leads there.
-    pub fn claims_of(&self, bytes: &[u8]) -> Result<Row<Claim>, NoMemory>
-        ensures { IfOk result (λ claims. (c : Core M.Msg) → IsAt M.meaning M.stands self.now c →
-            claims ≡ claims_of_bytes (formats_of self.now.setup M.meaning) (rules_of self.now.setup) M.meaning self.now.me.0 c bytes.now) }
+    pub fn claims_of(&self, bytes: &[u8]) -> Result<Seq<Claim>, NoMemory>
+        ensures { IfOk result (λ claims. (c : Core M.Msg) → KeptRefinesCore M.spec M.refines self.now c →
+            claims ≡ claims_of_bytes (formats_of self.now.setup M.spec) (rules_of self.now.setup) M.spec self.now.me.0 c bytes.now) }
     {
         self.node.claims_of(self.alloc, bytes)
     }
 
     /// The batches that the instances of the node's epoch accepted, in the order of time.
     pub fn accepted(&self) -> &[Accepted]
-        ensures { (c : Core M.Msg) (l : ℕ) → IsAt M.meaning M.stands self.now c → reverse (accepted_of l result.now) ≡ accepted_by c l }
+        ensures { (c : Core M.Msg) (l : ℕ) → KeptRefinesCore M.spec M.refines self.now c → reverse (accepted_of l result.now) ≡ accepted_by c l }
     {
         self.node.accepted()
     }
 
     /// The identities of the requests that wait, in order of arrival, and the batches in flight.
-    pub fn unordered(&self) -> Result<(Row<ReqId>, &[(Slot, Batch)]), NoMemory>
-        ensures { IfOk result (λ both. (c : Core M.Msg) → IsAt M.meaning M.stands self.now c →
+    pub fn unordered(&self) -> Result<(Seq<ReqId>, &[(Slot, Batch)]), NoMemory>
+        ensures { IfOk result (λ both. (c : Core M.Msg) → KeptRefinesCore M.spec M.refines self.now c →
             (both.0 ≡ ids c.waiting) × (both.1.now ≡ c.flight)) }
     {
         self.node.unordered(self.alloc)
@@ -60,16 +60,16 @@ impl<M: Sequenced, D: Disk> Kept<M, D> {
 
     /// Whether a proposal would find a slot to cast in.
     pub fn castable(&self) -> bool
-        ensures { (c : Core M.Msg) → IsAt M.meaning M.stands self.now c →
-            result ≡ is_castable_now (rules_of self.now.setup) M.meaning self.now.me.0 c }
+        ensures { (c : Core M.Msg) → KeptRefinesCore M.spec M.refines self.now c →
+            result ≡ is_castable_now (rules_of self.now.setup) M.spec self.now.me.0 c }
     {
         self.node.castable()
     }
 
     /// The leaders whose segment the node has not filled, ascending.
-    pub fn unfilled(&self) -> Result<Row<NodeId>, NoMemory>
-        ensures { IfOk result (λ leaders. (c : Core M.Msg) → IsAt M.meaning M.stands self.now c →
-            map (λ l. l.0) leaders ≡ unfilled (rules_of self.now.setup) M.meaning self.now.setup.n self.now.me.0 c.past) }
+    pub fn unfilled(&self) -> Result<Seq<NodeId>, NoMemory>
+        ensures { IfOk result (λ leaders. (c : Core M.Msg) → KeptRefinesCore M.spec M.refines self.now c →
+            map (λ l. l.0) leaders ≡ unfilled (rules_of self.now.setup) M.spec self.now.setup.n self.now.me.0 c.past) }
     {
         self.node.unfilled(self.alloc)
     }

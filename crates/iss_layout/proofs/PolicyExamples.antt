@@ -3,7 +3,7 @@
 use Rattle.std.proofs.Common.{◌≡◌, List, [], ◌∷◌, refl, Some}
 use Rattle.iss_request.specs.declared.ids.NodeId.{NodeId}
 use Rattle.iss_request.specs.declared.requests.Value.{Value}
-use Rattle.iss_request.specs.declared.requests.Value.TheVariants.{Nil, Batch as Holds}
+use Rattle.iss_request.specs.declared.requests.Value.TheVariants.{Nil, Batch as Value_batch}
 use Rattle.iss_request.specs.declared.setups.Kind.TheVariants.{Byzantine}
 use Rattle.iss_request.specs.declared.setups.Policy.{Policy}
 use Rattle.iss_request.specs.declared.setups.Policy.TheVariants.{Simple, Backoff, Blacklist}
@@ -36,7 +36,7 @@ abbrev but_1 : List NodeId
 but_1 = node 0 ∷ node 2 ∷ node 3 ∷ []
 
 abbrev empty : Value
-empty = Holds []
+empty = Value_batch []
 
 -- the values of an epoch, in the order of its slots, put before an older log
 abbrev then : List Value → Value → Value → Value → Value → List Value

@@ -5,7 +5,7 @@ ghost use Rattle.iss_request.specs.Setup.{IsGoodSetup};
 ghost use Rattle.iss_layout.specs.Layout.{Ended, first_slot, IsSlotOf, IsStanding, carried, conduct_of, leaders_by, may_lead, nodes_below, plan_by, slot_leader, leads, bucket_owner, bucket_of, segment};
 
 use crate::standing::{MOST_NODES, Standing};
-use iss_request::{Epoch, NoMemory, NodeId, ReqId, Row, Setup, Slot};
+use iss_request::{Epoch, NoMemory, NodeId, ReqId, Seq, Setup, Slot};
 use std::alloc::Global;
 use std::marker::Model;
 
@@ -99,10 +99,10 @@ impl Layout {
     }
 
     /// The slots of the epoch that a node leads, ascending.
-    pub fn slots_of(&self, alloc: Global, node: NodeId) -> Result<Row<Slot>, NoMemory>
+    pub fn slots_of(&self, alloc: Global, node: NodeId) -> Result<Seq<Slot>, NoMemory>
         ensures { IfOk result (λ slots. slots ≡ segment self.now node.0) }
     {
-        let mut slots = Row::new(alloc);
+        let mut slots = Seq::new(alloc);
         for k in 0..self.slots {
             let slot = Slot(self.start + k);
             if self.segment_of(slot) == node {

@@ -7,7 +7,7 @@ ghost use Rattle.iss_log.specs.Chains.{IsChainOf, chain_of, link_string, next_en
 
 use crate::log::size;
 use iss_keys::Directory;
-use iss_request::{Bytes, NoMemory, Row, Value, Writer, write_value};
+use iss_request::{Bytes, NoMemory, Seq, Value, Writer, write_value};
 use std::alloc::Global;
 use std::marker::Model;
 
@@ -72,7 +72,7 @@ impl Chains {
         &mut self,
         directory: &Directory,
         value: &Value,
-        hashed: &mut Row<Bytes>,
+        hashed: &mut Seq<Bytes>,
     ) -> Result<(), NoMemory>
         ensures joined { OnOk result ((log : List Value) → IsChainOf self.old log → IsChainOf self.new (log ++ value.now ∷ [])) }
         ensures hashed { OnOk result ((log : List Value) → IsChainOf self.old log
@@ -140,7 +140,7 @@ pub fn link(
     version: u8,
     before: &End,
     value: &Value,
-    hashed: &mut Row<Bytes>,
+    hashed: &mut Seq<Bytes>,
 ) -> Result<End, NoMemory>
     ensures end { IfOk result (λ end. end ≡ next_end version before.now value.now) }
     ensures hashed { OnOk result (hashed.new ≡ hashed.old ++ strings_of version before.now.chain value.now) }

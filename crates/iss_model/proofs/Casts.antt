@@ -13,7 +13,7 @@ use Rattle.iss_request.specs.declared.ids.Slot.{Slot}
 use Rattle.iss_request.specs.declared.requests.Batch.{Batch}
 use Rattle.iss_request.specs.declared.requests.Request.{Request}
 use Rattle.iss_request.specs.declared.requests.Value.{Value}
-use Rattle.iss_request.specs.declared.requests.Value.TheVariants.{Batch as Holds}
+use Rattle.iss_request.specs.declared.requests.Value.TheVariants.{Batch as Value_batch}
 use Rattle.iss_request.specs.declared.setups.Setup.{Setup}
 use Rattle.iss_sb.specs.declared.effects.Input.{Input}
 use Rattle.iss_sb.specs.declared.effects.Input.TheVariants.{Cast}
@@ -21,12 +21,12 @@ use Rattle.iss_sb.specs.declared.effects.Params.{Params}
 use Rattle.iss_sb.specs.Evidence.{IsReadBatch, Module, accepts, delivered}
 use Rattle.iss_sb.specs.Laws.{IsLawful}
 use Rattle.iss_sb.proofs.Read.{batch-read}
-use Rattle.iss_causes.specs.declared.causes.NodeEvent.{NodeEvent}
+use Rattle.iss_rules.specs.declared.events.NodeEvent.{NodeEvent}
 use Rattle.iss_rules.specs.Judge.{judge, marks}
 use Rattle.iss_buckets.specs.Waiting.{absent, cut}
 use Rattle.iss_rules.specs.Parcels.{Formats, OfRequest, Parcel}
 use Rattle.iss_rules.specs.Verdicts.{verdict}
-use Rattle.iss_model.specs.Node.{Core, Early, Taken, Turn, first_slot, flown, has_slot, idle, in_next_epoch, inputs, is_castable, is_mine, joined, next_slot, rests, returned, settles, step, adopts_piece, ends, onward, refiled, takes_each}
+use Rattle.iss_model.specs.Node.{Core, Early, Taken, Turn, first_slot, flown, has_slot, initial_core, in_next_epoch, step_unjudged, is_castable, is_mine, joined, next_slot, unchanged, returned, advance_epochs, step, adopts_piece, ends, then_turn, refiled, takes_each}
 use Rattle.iss_rules.specs.Votes.{cert_on, keeping, stable}
 use Rattle.iss_rules.specs.Past.{Past, Piece, adopted_at, adopts, advanced, asked_in, before, before_own, is_complete, log_of, params_of, start_of, takes}
 use Rattle.iss_rules.specs.Rules.{Rules}
@@ -100,7 +100,7 @@ module _ {Msg : Type 0} (F : Formats Msg) (R : Rules) (M : Module Msg) (me : ℕ
       }
 
   -- an input keeps it
-  pub inputs-sound : (c : Core Msg) (l : ℕ) (input : Input Msg) → IsSoundCore R M me c → IsSoundCore R M me (inputs F R M me c l input).core
+  pub inputs-sound : (c : Core Msg) (l : ℕ) (input : Input Msg) → IsSoundCore R M me c → IsSoundCore R M me (step_unjudged F R M me c l input).core
   inputs-sound c l input h =
       let past = takes R M me c.past l input c.leaf in
       let old = log_of R M me c.past in
@@ -161,7 +161,7 @@ module _ {Msg : Type 0} (F : Formats Msg) (R : Rules) (M : Module Msg) (me : ℕ
         unborn = h.unborn;
       }
 
-  pub inputs-ready : (c : Core Msg) (l : ℕ) (input : Input Msg) → IsReadyCore R M me c → IsReadyCore R M me (inputs F R M me c l input).core
+  pub inputs-ready : (c : Core Msg) (l : ℕ) (input : Input Msg) → IsReadyCore R M me c → IsReadyCore R M me (step_unjudged F R M me c l input).core
   inputs-ready c l input h =
       let new = log_of R M me (takes R M me c.past l input c.leaf) in
       record {
@@ -275,11 +275,11 @@ module _ {Msg : Type 0} (F : Formats Msg) (R : Rules) (M : Module Msg) (me : ℕ
           spelled = λ q i. h.spelled q (refiled-in (log_ids (joined (length (log_of R M me c.past)) new)) (log_ids new) new c.waiting c.flight q i);
         }
 
-    settles-ready : (t : Turn Msg) → IsReadyCore R M me t.core → IsReadyCore R M me (settles F R M me t).core
+    settles-ready : (t : Turn Msg) → IsReadyCore R M me t.core → IsReadyCore R M me (advance_epochs F R M me t).core
     settles-ready t h = settles-holds F R M me (λ t. IsReadyCore R M me t.core) (λ t l input. Unit {0})
         (λ t l input k fit come. inputs-ready t.core l input k) (λ t k complete. ends-ready t.core k complete) (λ t claims k. k) t h (λ done u x i k q r. tt)
 
-    each-ready : (e : ℕ) (xs : List (Early Msg)) (t : Turn Msg) → IsReadyCore R M me t.core → IsReadyCore R M me (onward t (takes_each F R M me e xs)).core
+    each-ready : (e : ℕ) (xs : List (Early Msg)) (t : Turn Msg) → IsReadyCore R M me t.core → IsReadyCore R M me (then_turn t (takes_each F R M me e xs)).core
     each-ready e xs t h = each-holds F R M me (λ t. IsReadyCore R M me t.core) (λ t l input. Unit {0})
         (λ t l input k fit come. inputs-ready t.core l input k) (λ t k complete. ends-ready t.core k complete) (λ t claims k. k) e xs t h
         (λ u x i k q r. tt)
@@ -320,12 +320,12 @@ module _ {Msg : Type 0} (F : Formats Msg) (R : Rules) (M : Module Msg) (me : ℕ
       logs = extends-trans _ _ _ k.logs (log-later R M me t.core.past (advanced t.core.past) (advanced-later R t.core.past (settled-core t.core k.sound)));
     }
 
-    settles-grown : (old : Past Msg) (t : Turn Msg) → Grown old t → Grown old (settles F R M me t)
+    settles-grown : (old : Past Msg) (t : Turn Msg) → Grown old t → Grown old (advance_epochs F R M me t)
     settles-grown old t h = settles-holds F R M me (Grown old) (λ t l input. Unit {0}) (λ t l input k fit come. inputs-grown old t l input k) (ends-grown old)
         (λ t claims k. record { sound = k.sound; logs = k.logs })
         t h (λ done u x i k q r. tt)
 
-    each-grown : (old : Past Msg) (e : ℕ) (xs : List (Early Msg)) (t : Turn Msg) → Grown old t → Grown old (onward t (takes_each F R M me e xs))
+    each-grown : (old : Past Msg) (e : ℕ) (xs : List (Early Msg)) (t : Turn Msg) → Grown old t → Grown old (then_turn t (takes_each F R M me e xs))
     each-grown old e xs t h = each-holds F R M me (Grown old) (λ t l input. Unit {0}) (λ t l input k fit come. inputs-grown old t l input k) (ends-grown old)
         (λ t claims k. record { sound = k.sound; logs = k.logs })
         e xs t h (λ u x i k q r. tt)
@@ -338,30 +338,30 @@ module _ {Msg : Type 0} (F : Formats Msg) (R : Rules) (M : Module Msg) (me : ℕ
           logs = log-later R M me c.past (adopts c.past piece) (adopts-later R c.past piece (settled-core c h));
         }
 
-    at-first : (c : Core Msg) → IsSoundCore R M me c → Grown c.past (rests c)
+    at-first : (c : Core Msg) → IsSoundCore R M me c → Grown c.past (unchanged c)
     at-first c h = record { sound = h; logs = extends-refl (log_of R M me c.past) }
 
     took-grown : (c : Core Msg) (event : NodeEvent) (t : Turn Msg) → IsSoundCore R M me c → Took F R M me c event t →
         Extends (log_of R M me c.past) (log_of R M me t.core.past)
-    took-grown c event t h (received k l msg u un b e i q) = rw q ((settles-grown c.past u (rw i.is (inputs-grown c.past (rests c) l _ (at-first c h)))).logs)
+    took-grown c event t h (received k l msg u un b e i q) = rw q ((settles-grown c.past u (rw i.is (inputs-grown c.past (unchanged c) l _ (at-first c h)))).logs)
     took-grown c event t h (kept k l msg u b e i) = rw i.is (extends-refl (log_of R M me c.past))
     took-grown c event t h (asked k q u b r) = rw r.is (extends-refl (log_of R M me c.past))
     took-grown c event t h (cast s u i q) =
         rw q ((settles-grown c.past u
-        (rw i.is (inputs-grown c.past (rests (casting F R M me c s)) me _ (at-first (casting F R M me c s) (casting-sound c s h))))).logs)
+        (rw i.is (inputs-grown c.past (unchanged (casting F R M me c s)) me _ (at-first (casting F R M me c s) (casting-sound c s h))))).logs)
     took-grown c event t h (voted k v u b r) = rw r.is (extends-refl (log_of R M me c.past))
     took-grown c event t h (handed k cert u b r) = rw r.is (extends-refl (log_of R M me c.past))
     took-grown c event t h (adopted k p u b a) =
         rw a.is ((each-grown c.past (suc c.past.epoch) c.early (adopts_piece R M me c p) (adopts-grown c p t h a)).logs)
     took-grown c event t h (sought peer q) = rw q (extends-refl (log_of R M me c.past))
-    took-grown c event t h (fired l u i q) = rw q ((settles-grown c.past u (rw i.is (inputs-grown c.past (rests c) l.0 _ (at-first c h)))).logs)
+    took-grown c event t h (fired l u i q) = rw q ((settles-grown c.past u (rw i.is (inputs-grown c.past (unchanged c) l.0 _ (at-first c h)))).logs)
 
     pub step-grown : (c : Core Msg) (event : NodeEvent) (t : Turn Msg) → IsSoundCore R M me c → step F R M me c event ≡ Taken t →
         Extends (log_of R M me c.past) (log_of R M me t.core.past)
     step-grown c event t h q = took-grown c event t h (took F R M me c event t q)
 
 -- a core that has taken nothing is sound
-pub idle-sound : {Msg : Type 0} (R : Rules) (M : Module Msg) (me : ℕ) → IsSoundCore R M me idle
+pub idle-sound : {Msg : Type 0} (R : Rules) (M : Module Msg) (me : ℕ) → IsSoundCore R M me initial_core
 idle-sound R M me = record {
   different = tt;
   signed = λ q i. absurd i;
@@ -373,7 +373,7 @@ idle-sound R M me = record {
   unborn = λ e l lt. refl;
 }
 
-pub idle-ready : {Msg : Type 0} (R : Rules) (M : Module Msg) (me : ℕ) → IsReadyCore R M me idle
+pub idle-ready : {Msg : Type 0} (R : Rules) (M : Module Msg) (me : ℕ) → IsReadyCore R M me initial_core
 idle-ready R M me = record { sound = idle-sound R M me; spelled = λ q i. absurd i }
 
 -- what a core casts
@@ -418,7 +418,7 @@ module _ {Msg : Type 0} (R : Rules) (M : Module Msg) (me : ℕ) (c : Core Msg) w
       let few = cut-few R.batch (is_mine R M me c) c.waiting in
       let batch = next_batch F R M me c in
       let read = batch-read s.version batch (omega (arith, few, low)) (λ q i. h q (cut-in R.batch (is_mine R M me c) c.waiting q i).0) in
-      subst (λ (t : Setup). IsReadAgain (spell_value t.version) (parse_value t.version) (Holds batch)) (sym setup) read
+      subst (λ (t : Setup). IsReadAgain (spell_value t.version) (parse_value t.version) (Value_batch batch)) (sym setup) read
 
   module _ (h : IsSoundCore R M me c) where
     abbrev bf : List Value

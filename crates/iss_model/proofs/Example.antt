@@ -10,13 +10,13 @@ use Rattle.iss_request.specs.declared.ids.Slot.{Slot}
 use Rattle.iss_request.specs.declared.requests.Batch.{Batch}
 use Rattle.iss_request.specs.declared.requests.Request.{Request}
 use Rattle.iss_request.specs.declared.requests.Value.{Value}
-use Rattle.iss_request.specs.declared.requests.Value.TheVariants.{Batch as Holds, Nil}
+use Rattle.iss_request.specs.declared.requests.Value.TheVariants.{Batch as Value_batch, Nil}
 use Rattle.iss_request.specs.declared.setups.Kind.TheVariants.{Stopping}
 use Rattle.iss_request.specs.declared.setups.Policy.TheVariants.{Backoff, Simple}
 use Rattle.iss_request.specs.declared.setups.Setup.{Setup}
 use Rattle.iss_request.specs.Fields.{Bad}
 use Rattle.iss_schedule.specs.declared.schedules.Event.{Event}
-use Rattle.iss_schedule.specs.declared.schedules.Event.TheVariants.{Request as Asks_order, Propose, Timeout as Times_out, Deliver, Calm, Pump}
+use Rattle.iss_schedule.specs.declared.schedules.Event.TheVariants.{Request as Event_request, Propose, Timeout as Event_timeout, Deliver, Calm, Pump}
 use Rattle.iss_sb.specs.declared.effects.Input.{Input}
 use Rattle.iss_sb.specs.declared.effects.Input.TheVariants.{Cast, Receive, Timeout}
 use Rattle.iss_sb.specs.declared.effects.Params.{Params}
@@ -31,7 +31,7 @@ use Rattle.iss_rules.specs.Rules.{Rules}
 use Rattle.iss_rules.specs.Past.{leads_in, log_of}
 use Rattle.iss_model.specs.Run.{Progress, begin_run, run}
 use Rattle.iss_model.specs.Views.{accepted_by, is_castable_now, unfilled}
-use Rattle.iss_causes.specs.declared.causes.NodeEvent.TheVariants.{Packet as Gets}
+use Rattle.iss_rules.specs.declared.events.NodeEvent.TheVariants.{Packet as On_packet}
 
 abbrev pub Word : Type 0
 Word = Slot × Batch
@@ -67,7 +67,7 @@ made_of (Some w) = record { sends = (To_all, w) ∷ []; accepted = Some w; strin
 
 abbrev pub told : ℕ → ℕ → Input Word → Option Value
 told leader s (Cast slot batch) = None
-told leader s (Receive from word) = cond ((from.0 == leader) && (word.0.0 == s)) (Some (Holds word.1)) None
+told leader s (Receive from word) = cond ((from.0 == leader) && (word.0.0 == s)) (Some (Value_batch word.1)) None
 told leader s Timeout = Some Nil
 
 abbrev pub first_told : ℕ → ℕ → List (Item Word) → Option Value
@@ -105,8 +105,8 @@ read_batch _ = []
 abbrev spell_values : List Value → List ℕ
 spell_values [] = []
 spell_values (Nil ∷ vs) = 0 ∷ spell_values vs
-spell_values (Holds [] ∷ vs) = 1 ∷ spell_values vs
-spell_values (Holds (q ∷ qs) ∷ vs) = 2 ∷ q.id.client ∷ q.id.number ∷ spell_byte q.payload ∷ spell_values vs
+spell_values (Value_batch [] ∷ vs) = 1 ∷ spell_values vs
+spell_values (Value_batch (q ∷ qs) ∷ vs) = 2 ∷ q.id.client ∷ q.id.number ∷ spell_byte q.payload ∷ spell_values vs
   where
     spell_byte : List ℕ → ℕ
     spell_byte [] = 0
@@ -115,9 +115,9 @@ spell_values (Holds (q ∷ qs) ∷ vs) = 2 ∷ q.id.client ∷ q.id.number ∷ s
 abbrev read_values : ℕ → List ℕ → List Value × List ℕ
 read_values zero bytes = ([], bytes)
 read_values (suc n) (zero ∷ bytes) = let r = read_values n bytes in (Nil ∷ r.0, r.1)
-read_values (suc n) (suc zero ∷ bytes) = let r = read_values n bytes in (Holds [] ∷ r.0, r.1)
+read_values (suc n) (suc zero ∷ bytes) = let r = read_values n bytes in (Value_batch [] ∷ r.0, r.1)
 read_values (suc n) (suc (suc kind) ∷ client ∷ number ∷ byte ∷ bytes) =
-    let r = read_values n bytes in (Holds (plain_request client number (byte ∷ []) ∷ []) ∷ r.0, r.1)
+    let r = read_values n bytes in (Value_batch (plain_request client number (byte ∷ []) ∷ []) ∷ r.0, r.1)
 read_values (suc n) _ = ([], [])
 
 -- signatures of two bytes each
@@ -170,7 +170,7 @@ short = record { wrap = λ k. spell k.from k.epoch k.body; unwrap = read }
 abbrev sketch : List Value → List ℕ
 sketch [] = []
 sketch (Nil ∷ older) = 0 ∷ sketch older
-sketch (Holds b ∷ older) = suc (length b) ∷ sketch older
+sketch (Value_batch b ∷ older) = suc (length b) ∷ sketch older
 
 -- rules that compute: every request counts as signed, a signature is a node and a leaf and verifies for the first n nodes, and
 -- nothing is hashed for logs
@@ -199,26 +199,26 @@ q = plain_request 0 0 (170 ∷ [])
 
 -- one request, which node 0 casts, and everything delivered
 abbrev first_run : List Event
-first_run = Asks_order 0 0 0 (170 ∷ []) ∷ Propose 0 ∷ Calm 10 ∷ []
+first_run = Event_request 0 0 0 (170 ∷ []) ∷ Propose 0 ∷ Calm 10 ∷ []
 
-one : after first_run 0 ≡ Holds (q ∷ []) ∷ []
+one : after first_run 0 ≡ Value_batch (q ∷ []) ∷ []
 unfolding after
 one = refl
 
-two : after first_run 1 ≡ Holds (q ∷ []) ∷ []
+two : after first_run 1 ≡ Value_batch (q ∷ []) ∷ []
 unfolding after
 two = refl
 
-three : after first_run 2 ≡ Holds (q ∷ []) ∷ []
+three : after first_run 2 ≡ Value_batch (q ∷ []) ∷ []
 unfolding after
 three = refl
 
 -- delivered to node 1 alone, and twice
-late : after (Asks_order 0 0 0 (170 ∷ []) ∷ Propose 0 ∷ Deliver 1 ∷ Deliver 1 ∷ []) 2 ≡ []
+late : after (Event_request 0 0 0 (170 ∷ []) ∷ Propose 0 ∷ Deliver 1 ∷ Deliver 1 ∷ []) 2 ≡ []
 unfolding after
 late = refl
 
-early : after (Asks_order 0 0 0 (170 ∷ []) ∷ Propose 0 ∷ Deliver 1 ∷ Deliver 1 ∷ []) 1 ≡ Holds (q ∷ []) ∷ []
+early : after (Event_request 0 0 0 (170 ∷ []) ∷ Propose 0 ∷ Deliver 1 ∷ Deliver 1 ∷ []) 1 ≡ Value_batch (q ∷ []) ∷ []
 unfolding after
 early = refl
 
@@ -234,7 +234,7 @@ ends : (core_after whole_epoch 1).past.epoch ≡ 1
 unfolding core_after
 ends = refl
 
-filled : after whole_epoch 1 ≡ Holds [] ∷ Holds [] ∷ Holds [] ∷ []
+filled : after whole_epoch 1 ≡ Value_batch [] ∷ Value_batch [] ∷ Value_batch [] ∷ []
 unfolding after
 filled = refl
 
@@ -247,7 +247,7 @@ unfolding core_after
 kept = refl
 
 -- which it takes as it ends the epoch itself
-caught_up : after (ahead ++ Deliver 1 ∷ Deliver 4 ∷ Deliver 7 ∷ []) 1 ≡ Holds [] ∷ Holds [] ∷ Holds [] ∷ Holds [] ∷ []
+caught_up : after (ahead ++ Deliver 1 ∷ Deliver 4 ∷ Deliver 7 ∷ []) 1 ≡ Value_batch [] ∷ Value_batch [] ∷ Value_batch [] ∷ Value_batch [] ∷ []
 unfolding after
 caught_up = refl
 
@@ -272,7 +272,7 @@ early_of (Dropped why) = []
 early_of (Taken t) = t.core.early
 
 abbrev last_told : Stepped Word
-last_told = step short easy telling 2 prepared (Gets (spell 2 0 (OfModule 2 (record { 0 = 2 }, []))))
+last_told = step short easy telling 2 prepared (On_packet (spell 2 0 (OfModule 2 (record { 0 = 2 }, []))))
 
 two_ended : epoch_of last_told ≡ Some 2
 unfolding core_after
@@ -284,7 +284,7 @@ none_left = refl
 
 -- a request that was cast in a slot that became nil waits again
 abbrev timed_out : List Event
-timed_out = Asks_order 0 0 0 (170 ∷ []) ∷ Propose 0 ∷ Times_out 0 (record { 0 = 0 }) ∷ []
+timed_out = Event_request 0 0 0 (170 ∷ []) ∷ Propose 0 ∷ Event_timeout 0 (record { 0 = 0 }) ∷ []
 
 nil : after timed_out 0 ≡ Nil ∷ []
 unfolding after
@@ -299,15 +299,15 @@ unfolding core_after
 landed = refl
 
 -- a number is inside the window of an epoch by the log before it: number 8 once number 0 is in the log, and its epoch over
-outside : (core_after (Asks_order 0 0 8 (170 ∷ []) ∷ []) 0).waiting ≡ []
+outside : (core_after (Event_request 0 0 8 (170 ∷ []) ∷ []) 0).waiting ≡ []
 unfolding core_after
 outside = refl
 
-still_outside : (core_after (first_run ++ Asks_order 0 0 8 (170 ∷ []) ∷ []) 0).waiting ≡ []
+still_outside : (core_after (first_run ++ Event_request 0 0 8 (170 ∷ []) ∷ []) 0).waiting ≡ []
 unfolding core_after
 still_outside = refl
 
-inside : (core_after (Asks_order 0 0 0 (170 ∷ []) ∷ whole_epoch ++ Asks_order 0 0 8 (170 ∷ []) ∷ []) 0).waiting ≡ plain_request 0 8 (170 ∷ []) ∷ []
+inside : (core_after (Event_request 0 0 0 (170 ∷ []) ∷ whole_epoch ++ Event_request 0 0 8 (170 ∷ []) ∷ []) 0).waiting ≡ plain_request 0 8 (170 ∷ []) ∷ []
 unfolding core_after
 inside = refl
 
@@ -328,7 +328,7 @@ has_cast : is_castable_now easy telling 0 (core_after (Propose 0 ∷ []) 0) ≡ 
 unfolding core_after
 has_cast = refl
 
-accepted : accepted_by (core_after (Asks_order 0 0 0 (170 ∷ []) ∷ Propose 0 ∷ []) 0) 0 ≡ (record { 0 = 0 }, q ∷ []) ∷ []
+accepted : accepted_by (core_after (Event_request 0 0 0 (170 ∷ []) ∷ Propose 0 ∷ []) 0) 0 ≡ (record { 0 = 0 }, q ∷ []) ∷ []
 unfolding core_after
 accepted = refl
 
@@ -340,7 +340,7 @@ abbrev core_backing : List Event → ℕ → Core Word
 core_backing events i = (run backing short (light (rules_of backing) 3) telling (begin_run backing) events).held.net.cores i
 
 abbrev one_failed : List Event
-one_failed = Times_out 0 (record { 0 = 1 }) ∷ Propose 0 ∷ Propose 2 ∷ Pump ∷ []
+one_failed = Event_timeout 0 (record { 0 = 1 }) ∷ Propose 0 ∷ Propose 2 ∷ Pump ∷ []
 
 left_out : leads_in (light (rules_of backing) 3) telling 0 (core_backing one_failed 0).past 1 ≡ false
 left_out = refl

@@ -11,7 +11,7 @@ use Rattle.iss_request.specs.declared.ids.Slot.{Slot}
 use Rattle.iss_request.specs.declared.requests.Batch.{Batch}
 use Rattle.iss_request.specs.declared.requests.Request.{Request}
 use Rattle.iss_request.specs.declared.requests.Value.{Value}
-use Rattle.iss_request.specs.declared.requests.Value.TheVariants.{Nil, Batch as Holds}
+use Rattle.iss_request.specs.declared.requests.Value.TheVariants.{Nil, Batch as Value_batch}
 use Rattle.iss_model.specs.Node.{flown, flying, is_nil_at, joined, returned}
 use Rattle.iss_model.proofs.Casts.{joined-newer}
 use Rattle.iss_model.proofs.Flights.{nil-below}
@@ -73,7 +73,7 @@ nil-stays a b s e lt = ap (λ (t : List Value). is_nil_at t s) e.1 ∙ nil-kept 
 pub record Stood (log : List Value) (s : ℕ) : Type 0 where
   pub older : List Value
   pub batch : Batch
-  pub part : Extends (Holds batch ∷ older) log
+  pub part : Extends (Value_batch batch ∷ older) log
   pub slot : length older ≡ s
 
 -- a slot of a log that is not nil holds a batch
@@ -83,7 +83,7 @@ not-nil (v ∷ older) s lt h = go (not-nil older s) (eqb s (length older)) refl 
   where
     here : (u : Value) → s ≡ length older → not (is_batch u) ≡ false → Stood (u ∷ older) s
     here Nil q k = absurd (true≢false k)
-    here (Holds b) q k = record { older = older; batch = b; part = extends-refl _; slot = sym q }
+    here (Value_batch b) q k = record { older = older; batch = b; part = extends-refl _; slot = sym q }
 
     differs : eqb s (length older) ≡ false → s < length older
     differs q = elim (leb_tells (suc s) (length older)) [

@@ -23,12 +23,12 @@ pub ids-join : (qs rs : List Request) → ids (qs ++ rs) ≡ ids qs ++ ids rs
 ids-join [] rs = refl
 ids-join (q ∷ qs) rs = ap (λ (xs : List ReqId). q.id ∷ xs) (ids-join qs rs)
 
-pub record AreParts (qs rs : List Request) : Type 0 where
+pub record RefinesBareCore (qs rs : List Request) : Type 0 where
   pub left : Different (ids qs)
   pub right : Different (ids rs)
   pub apart : (x : ReqId) → In x (ids qs) → In x (ids rs) → ⊥
 
-pub parts-of : (qs rs : List Request) → Different (ids (qs ++ rs)) → AreParts qs rs
+pub parts-of : (qs rs : List Request) → Different (ids (qs ++ rs)) → RefinesBareCore qs rs
 parts-of qs rs d =
     let e : Different (ids qs ++ ids rs) = subst (λ (xs : List ReqId). Different xs) (ids-join qs rs) d in
     record { left = different-left (ids qs) (ids rs) e; right = different-right (ids qs) (ids rs) e; apart = different-apart (ids qs) (ids rs) e }
@@ -77,7 +77,7 @@ pub returned-once : (log : List Value) (fs : List (Slot × Batch)) → Different
 returned-once log [] d = tt
 returned-once log (f ∷ fs) d = let p = parts-of f.1 (carried fs) d in go p (returned-once log fs p.right) (is_nil_at log f.0.0)
   where
-    go : AreParts f.1 (carried fs) → Different (ids (returned log fs)) → (b : Bool) → Different (ids (cond b (f.1 ++ returned log fs) (returned log fs)))
+    go : RefinesBareCore f.1 (carried fs) → Different (ids (returned log fs)) → (b : Bool) → Different (ids (cond b (f.1 ++ returned log fs) (returned log fs)))
     go p ih true = ids-once f.1 (returned log fs) p.left ih (λ x a b. p.apart x a (returned-ids log fs x b))
     go p ih false = ih
 
@@ -85,7 +85,7 @@ pub flying-once : (n : ℕ) (fs : List (Slot × Batch)) → Different (ids (carr
 flying-once n [] d = tt
 flying-once n (f ∷ fs) d = let p = parts-of f.1 (carried fs) d in go p (flying-once n fs p.right) (nat_lt f.0.0 n)
   where
-    go : AreParts f.1 (carried fs) → Different (ids (carried (flying n fs))) → (b : Bool) → Different (ids (carried (cond b (flying n fs) (f ∷ flying n fs))))
+    go : RefinesBareCore f.1 (carried fs) → Different (ids (carried (flying n fs))) → (b : Bool) → Different (ids (carried (cond b (flying n fs) (f ∷ flying n fs))))
     go p ih true = ih
     go p ih false = ids-once f.1 (carried (flying n fs)) p.left ih (λ x a b. p.apart x a (flying-ids n fs x b))
 
@@ -113,7 +113,7 @@ returned-apart log (f ∷ fs) d x a b =
     n : ℕ
     n = length log
 
-    go : AreParts f.1 (carried fs) → (In x (ids (returned log fs)) → In x (ids (carried (flying (length log) fs))) → ⊥) → (b1 : Bool) →
+    go : RefinesBareCore f.1 (carried fs) → (In x (ids (returned log fs)) → In x (ids (carried (flying (length log) fs))) → ⊥) → (b1 : Bool) →
         is_nil_at log f.0.0 ≡ b1 → (b2 : Bool) → nat_lt f.0.0 (length log) ≡ b2 →
         In x (ids (cond b1 (f.1 ++ returned log fs) (returned log fs))) →
         In x (ids (carried (cond b2 (flying (length log) fs) (f ∷ flying (length log) fs)))) → ⊥

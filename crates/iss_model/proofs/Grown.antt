@@ -5,12 +5,12 @@ use Rattle.iss_base.proofs.Lists.{extends-refl, extends-trans, same_or_not, set_
 use Rattle.iss_request.specs.declared.setups.Setup.{Setup}
 use Rattle.iss_sb.specs.declared.effects.Claim.{Claim}
 use Rattle.iss_sb.specs.Evidence.{Module, is_correct}
-use Rattle.iss_causes.specs.declared.causes.NodeEvent.{NodeEvent}
+use Rattle.iss_rules.specs.declared.events.NodeEvent.{NodeEvent}
 use Rattle.iss_rules.specs.Parcels.{Formats}
 use Rattle.iss_model.specs.Node.{Core, Dropped, Stepped, Taken, Turn, step}
 use Rattle.iss_rules.specs.Past.{log_of}
 use Rattle.iss_rules.specs.Rules.{Rules}
-use Rattle.iss_causes.specs.Ends.{End}
+use Rattle.iss_rules.specs.Ends.{End}
 use Rattle.iss_model.specs.Run.{Held, Net, after_step, at_core, by_collision, by_forged, collision_in, first_forged, node_of, turned_to}
 use Rattle.iss_model.specs.Runs.{pasts_of}
 use Rattle.iss_rules.proofs.Windows.{AreWindows}

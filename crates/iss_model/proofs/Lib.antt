@@ -12,3 +12,4 @@ pub mod Ranges
 pub mod Filed
 pub mod Places
 pub mod Example
+pub mod CourseExample

@@ -14,11 +14,11 @@ use Rattle.iss_sb.specs.declared.effects.Input.{Input}
 use Rattle.iss_sb.specs.declared.effects.Input.TheVariants.{Cast, Receive, Timeout}
 use Rattle.iss_sb.specs.Evidence.{Item, Module, accepts, one_or_none}
 use Rattle.iss_sb.specs.Laws.{IsLawful}
-use Rattle.iss_causes.specs.declared.causes.NodeEvent.{NodeEvent}
-use Rattle.iss_causes.specs.declared.causes.NodeEvent.TheVariants.{Packet as Gets, Propose as Proposes, Timeout as Fires, AskFrom as Asks}
-use Rattle.iss_causes.specs.declared.causes.Why.TheVariants.{NoKeys, NotLeader, OtherEpoch}
+use Rattle.iss_rules.specs.declared.events.NodeEvent.{NodeEvent}
+use Rattle.iss_rules.specs.declared.events.NodeEvent.TheVariants.{Packet as On_packet, Propose as On_propose, Timeout as On_timeout, AskFrom as On_ask}
+use Rattle.iss_rules.specs.declared.events.Why.TheVariants.{NoKeys, NotLeader, OtherEpoch}
 use Rattle.iss_rules.specs.Parcels.{Body, Formats, OfAsk, OfModule, OfPiece, OfRequest, OfVote, Parcel}
-use Rattle.iss_model.specs.Node.{Core, Dropped, Early, is_known, onward, Stepped, Taken, Turn, at_instance, casts_at, ended, flown, flying, has_leaves, in_next_epoch, inputs, is_castable, is_mine, is_nil_at, joined, keeps_early, next_slot, returned, rests, settled, settles, step, takes_bytes, takes_each, takes_early, takes_parcel, takes_request, tried, adopts_piece, asking, counted, ends, handing}
+use Rattle.iss_model.specs.Node.{Core, Dropped, Early, is_known, then_turn, Stepped, Taken, Turn, try_step, casts_at, ended, flown, flying, has_leaves, in_next_epoch, step_unjudged, is_castable, is_mine, is_nil_at, joined, keeps_early, next_slot, returned, unchanged, finish_step, advance_epochs, step, takes_bytes, takes_each, takes_early, takes_parcel, takes_request, or_unchanged, adopts_piece, asking, counted, ends, handing}
 use Rattle.iss_rules.specs.Votes.{cert_on}
 use Rattle.iss_rules.specs.Past.{Past, Piece, adopts, advanced, before, cut_at, is_complete, leads_in, log_of, made_in, params_of, start_of, taken_in, takes}
 use Rattle.iss_rules.specs.Rules.{Rules}
@@ -59,7 +59,7 @@ module _ {Msg : Type 0} (R : Rules) (M : Module Msg) (i : ℕ) where
     pub begun : start_of R (log_of R M i past) e ≤ f.0.0
 
   pub record Filed (past : Past Msg) (waiting : List Request) (flight : List (Slot × Batch)) : Type 0 where
-    pub settled : Settled R past
+    pub finish_step : Settled R past
     pub unborn : (e l : ℕ) → past.epoch < e → past.evidence e l ≡ []
     pub reached : start_of R (log_of R M i past) past.epoch ≤ length (log_of R M i past)
     pub waiting_once : Different (ids waiting)
@@ -155,8 +155,8 @@ module _ {Msg : Type 0} (R : Rules) (M : Module Msg) (i : ℕ) where
     refile-filed : start_of R log new.epoch ≤ length log → Settled R new → ((e l : ℕ) → new.epoch < e → new.evidence e l ≡ []) → Different (ids waiting) → Different (flown flight) →
         ((x : ReqId) → In x (ids waiting) → In x (flown flight) → ⊥) → ((x : ReqId) → In x (ids waiting) → In x (log_ids before_log) → ⊥) →
         ((f : Slot × Batch) → In f (flying (length log) flight) → WasCast new new.epoch f) → Filed new (left ++ back) (flying (length log) flight)
-    refile-filed far settled unborn w1 f1 apart unlogged cast = record {
-      settled = settled;
+    refile-filed far finish_step unborn w1 f1 apart unlogged cast = record {
+      settled = finish_step;
       unborn = unborn;
       reached = far;
       waiting_once = ids-once left back (absent-once gone waiting w1) (absent-once (log_ids log) (returned log flight) (returned-once log flight f1))
@@ -197,7 +197,7 @@ module _ {Msg : Type 0} (R : Rules) (M : Module Msg) (i : ℕ) where
     takes-unborn c l input leaf h e k lt = set_at2-other c.evidence c.epoch l _ e k (inl (omega (arith, lt))) ∙ h e k lt
 
     -- an input
-    pub inputs-keep : (c : Core Msg) (l : ℕ) (input : Input Msg) → FiledCore c → Keeps c (inputs F R M i c l input).core
+    pub inputs-keep : (c : Core Msg) (l : ℕ) (input : Input Msg) → FiledCore c → Keeps c (step_unjudged F R M i c l input).core
     inputs-keep c l input h =
         let new : Past Msg = takes R M i c.past l input c.leaf in
         let later : Later R c.past new = takes-later R M i c.past l input c.leaf h.settled in
@@ -258,18 +258,18 @@ module _ {Msg : Type 0} (R : Rules) (M : Module Msg) (i : ℕ) where
       ended-keeps : (c : Core Msg) (t : Turn Msg) → Keeps c t.core → Keeps c (ended F R M i t).core
       ended-keeps c t h = go (is_complete R M i t.core.past) refl
         where
-          go : (b : Bool) → is_complete R M i t.core.past ≡ b → Keeps c (cond b (onward t (λ d. ends F R M i d)) t).core
+          go : (b : Bool) → is_complete R M i t.core.past ≡ b → Keeps c (cond b (then_turn t (λ d. ends F R M i d)) t).core
           go true q = keeps-trans c t.core (ends F R M i t.core).core h (λ f. ends-keep t.core f q)
           go false q = h
 
       -- an input that was not refused
-      pub at-inputs : (c : Core Msg) (l : ℕ) (input : Input Msg) (t : Turn Msg) → at_instance F R M i c l input ≡ Taken t → t ≡ inputs F R M i c l input
+      pub at-inputs : (c : Core Msg) (l : ℕ) (input : Input Msg) (t : Turn Msg) → try_step F R M i c l input ≡ Taken t → t ≡ step_unjudged F R M i c l input
       at-inputs c l input t h = (input-taken F R M i c l input t h).is
 
-      tried-keeps : (c : Core Msg) (l : ℕ) (input : Input Msg) → FiledCore c → Keeps c (tried c (at_instance F R M i c l input)).core
-      tried-keeps c l input h = go (at_instance F R M i c l input) refl
+      tried-keeps : (c : Core Msg) (l : ℕ) (input : Input Msg) → FiledCore c → Keeps c (or_unchanged c (try_step F R M i c l input)).core
+      tried-keeps c l input h = go (try_step F R M i c l input) refl
         where
-          go : (o : Stepped Msg) → at_instance F R M i c l input ≡ o → Keeps c (tried c o).core
+          go : (o : Stepped Msg) → try_step F R M i c l input ≡ o → Keeps c (or_unchanged c o).core
           go (Dropped why) q = keeps-refl c h
           go (Taken t) q = subst (λ (u : Turn Msg). Keeps c u.core) (sym (at-inputs c l input t q)) (inputs-keep c l input h)
 
@@ -278,32 +278,32 @@ module _ {Msg : Type 0} (R : Rules) (M : Module Msg) (i : ℕ) where
       each-keeps e (x ∷ xs) c h =
           let input : Input Msg = Receive (record { 0 = x.from }) x.msg in
           let first : Keeps c (takes_early F R M i c x).core =
-          ended-keeps c (tried c (at_instance F R M i c x.leader input)) (tried-keeps c x.leader input h) in
+          ended-keeps c (or_unchanged c (try_step F R M i c x.leader input)) (tried-keeps c x.leader input h) in
           go (each-keeps e xs (takes_early F R M i c x).core) first (eqb c.past.epoch e)
         where
           go : (FiledCore (takes_early F R M i c x).core →
               Keeps (takes_early F R M i c x).core (takes_each F R M i e xs (takes_early F R M i c x).core).core) → Keeps c (takes_early F R M i c x).core →
-              (b : Bool) → Keeps c (cond b (onward (takes_early F R M i c x) (takes_each F R M i e xs)) (rests c)).core
+              (b : Bool) → Keeps c (cond b (then_turn (takes_early F R M i c x) (takes_each F R M i e xs)) (unchanged c)).core
           go ih first true = keeps-trans c (takes_early F R M i c x).core _ first ih
           go ih first false = keeps-refl c h
 
-      pub settles-keeps : (c : Core Msg) (t : Turn Msg) → Keeps c t.core → Keeps c (settles F R M i t).core
+      pub settles-keeps : (c : Core Msg) (t : Turn Msg) → Keeps c t.core → Keeps c (advance_epochs F R M i t).core
       settles-keeps c t h = go (is_complete R M i t.core.past) refl
         where
           e : ℕ
           e = suc t.core.past.epoch
 
           go : (b : Bool) → is_complete R M i t.core.past ≡ b →
-              Keeps c (cond b (onward (onward t (λ d. ends F R M i d)) (takes_each F R M i e t.core.early)) t).core
+              Keeps c (cond b (then_turn (then_turn t (λ d. ends F R M i d)) (takes_each F R M i e t.core.early)) t).core
           go true q = keeps-trans c (ends F R M i t.core).core _ (keeps-trans c t.core (ends F R M i t.core).core h (λ f. ends-keep t.core f q))
               (λ f. each-keeps e t.core.early (ends F R M i t.core).core f)
           go false q = h
 
-      settled-keeps : (c : Core Msg) (l : ℕ) (input : Input Msg) (t : Turn Msg) → FiledCore c → settled F R M i (at_instance F R M i c l input) ≡ Taken t →
+      settled-keeps : (c : Core Msg) (l : ℕ) (input : Input Msg) (t : Turn Msg) → FiledCore c → finish_step F R M i (try_step F R M i c l input) ≡ Taken t →
           Keeps c t.core
-      settled-keeps c l input t h = go (at_instance F R M i c l input) refl
+      settled-keeps c l input t h = go (try_step F R M i c l input) refl
         where
-          go : (o : Stepped Msg) → at_instance F R M i c l input ≡ o → settled F R M i o ≡ Taken t → Keeps c t.core
+          go : (o : Stepped Msg) → try_step F R M i c l input ≡ o → finish_step F R M i o ≡ Taken t → Keeps c t.core
           go (Dropped why) q k = absurd (untaken why t k)
           go (Taken u) q k =
               let first : Keeps c u.core = subst (λ (v : Turn Msg). Keeps c v.core) (sym (at-inputs c l input u q)) (inputs-keep c l input h) in
@@ -346,7 +346,7 @@ module _ {Msg : Type 0} (R : Rules) (M : Module Msg) (i : ℕ) where
       })
 
       early-keeps : (c : Core Msg) (x : Early Msg) (t : Turn Msg) → FiledCore c → keeps_early c x ≡ Taken t → Keeps c t.core
-      early-keeps c x t h k = still-keeps c t (rests (record c { early = c.early ++ x ∷ [] })) h (kept-taken F R M i c x t k).is refl refl refl
+      early-keeps c x t h k = still-keeps c t (unchanged (record c { early = c.early ++ x ∷ [] })) h (kept-taken F R M i c x t k).is refl refl refl
 
       -- a piece: nothing of the epoch is in flight any more
       adopts-keep : (c : Core Msg) (p : Sent_piece) (t : Turn Msg) → FiledCore c → IsAdopted F R M i c p t → Keeps c (adopts_piece R M i c p).core
@@ -381,7 +381,7 @@ module _ {Msg : Type 0} (R : Rules) (M : Module Msg) (i : ℕ) where
       parcel-keeps c from e (OfRequest q) t h k =
           let r = request-waits c q t k in
           subst (λ (d : Core Msg). Keeps c d) (sym r.1) (requested c q h r.0)
-      parcel-keeps c from e (OfVote v) t h k = let r = vote-taken F R M i c v t k in still-keeps c t (rests (counted R c v)) h r.is refl refl refl
+      parcel-keeps c from e (OfVote v) t h k = let r = vote-taken F R M i c v t k in still-keeps c t (unchanged (counted R c v)) h r.is refl refl refl
       parcel-keeps c from e OfAsk t h k =
           let r = hand-taken F R M i c from e t (cert_on c.certs e) refl k in
           still-keeps c t (handing F R M i c from e r.0) h r.1.is refl refl refl
@@ -401,7 +401,7 @@ module _ {Msg : Type 0} (R : Rules) (M : Module Msg) (i : ℕ) where
           next true k = early-keeps c early t h k
           next false k = absurd (untaken _ t k)
 
-          now : (b : Bool) → cond b (settled F R M i (at_instance F R M i c l input))
+          now : (b : Bool) → cond b (finish_step F R M i (try_step F R M i c l input))
               (cond (eqb e (suc c.past.epoch)) (keeps_early c early) (Dropped OtherEpoch)) ≡ Taken t → Keeps c t.core
           now true k = settled-keeps c l input t h k
           now false k = next (eqb e (suc c.past.epoch)) k
@@ -428,7 +428,7 @@ module _ {Msg : Type 0} (R : Rules) (M : Module Msg) (i : ℕ) where
             (k.0, far, a.1)
 
         cast-keeps : (c : Core Msg) (s : Slot) → FiledCore c → next_slot R M i c ≡ Some s →
-            Keeps c (inputs F R M i (casting c s) i (Cast s (next_batch c))).core
+            Keeps c (step_unjudged F R M i (casting c s) i (Cast s (next_batch c))).core
         cast-keeps c s h q =
             let opens : length (log_of R M i c.past) ≤ s.0 = (free-slot c s q).1 in
             let mine = is_mine R M i c in
@@ -484,14 +484,14 @@ module _ {Msg : Type 0} (R : Rules) (M : Module Msg) (i : ℕ) where
         casts-keep c None t h q k = absurd (untaken _ t k)
         casts-keep c (Some s) t h q k =
             let a = undropped (not (has_leaves M (params_of R M i c.past i) c.leaf)) NoKeys _ t k in
-            let first = inputs F R M i (casting c s) i (Cast s (next_batch c)) in
+            let first = step_unjudged F R M i (casting c s) i (Cast s (next_batch c)) in
             subst (λ (u : Turn Msg). Keeps c u.core) (sym (turn-is _ t a.1)) (settles-keeps c first (cast-keeps c s h q))
 
         -- each step
         pub step-keeps : (c : Core Msg) (event : NodeEvent) (t : Turn Msg) → FiledCore c → step F R M i c event ≡ Taken t → Keeps c t.core
-        step-keeps c (Gets bytes) t h k = bytes-keep c (F.unwrap bytes) t h k
-        step-keeps c Proposes t h k =
+        step-keeps c (On_packet bytes) t h k = bytes-keep c (F.unwrap bytes) t h k
+        step-keeps c On_propose t h k =
             let a = undropped (not (leads_in R M i c.past i)) NotLeader _ t k in
             casts-keep c (next_slot R M i c) t h refl a.1
-        step-keeps c (Fires l) t h k = settled-keeps c l.0 Timeout t h k
-        step-keeps c (Asks peer) t h k = still-keeps c t (asking F i c peer) h (turn-is _ t k) refl refl refl
+        step-keeps c (On_timeout l) t h k = settled-keeps c l.0 Timeout t h k
+        step-keeps c (On_ask peer) t h k = still-keeps c t (asking F i c peer) h (turn-is _ t k) refl refl refl

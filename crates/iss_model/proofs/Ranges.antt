@@ -3,11 +3,11 @@ use Rattle.std.proofs.Common.{List, [], ◌∷◌}
 use Rattle.iss_request.specs.declared.setups.Setup.{Setup}
 use Rattle.iss_schedule.specs.Events.{AreInRange, IsInRange}
 use Rattle.iss_schedule.specs.declared.schedules.Event.{Event}
-use Rattle.iss_schedule.specs.declared.schedules.Event.TheVariants.{Request as Asks_order, Propose, Timeout, Ask, Deliver, Lose, Pump, Calm, Hold, Free, Drop, Restart, Crash, Bytes}
+use Rattle.iss_schedule.specs.declared.schedules.Event.TheVariants.{Request as Event_request, Propose, Timeout, Ask, Deliver, Lose, Pump, Calm, Hold, Free, Drop, Restart, Crash, Bytes}
 use Rattle.iss_model.specs.Runs.{AreAtCores, IsAtCore}
 
 at-core : (s : Setup) (e : Event) → IsInRange s e → IsAtCore s e
-at-core s (Asks_order c client number payload) h = h.0
+at-core s (Event_request c client number payload) h = h.0
 at-core s (Propose c) h = h
 at-core s (Timeout c l) h = h.0
 at-core s (Ask c peer) h = h.0

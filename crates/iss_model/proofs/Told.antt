@@ -5,9 +5,9 @@ use Rattle.iss_base.proofs.Lists.{in_append}
 use Rattle.iss_request.specs.Fields.{IsReadAgain}
 use Rattle.iss_request.specs.declared.setups.Setup.{Setup}
 use Rattle.iss_sb.specs.Evidence.{Module}
-use Rattle.iss_causes.specs.declared.causes.NodeEvent.{NodeEvent}
+use Rattle.iss_rules.specs.declared.events.NodeEvent.{NodeEvent}
 use Rattle.iss_rules.specs.Parcels.{Formats}
-use Rattle.iss_model.specs.Node.{Core, Early, Turn, adopts_piece, onward, settles, takes_each}
+use Rattle.iss_model.specs.Node.{Core, Early, Turn, adopts_piece, advance_epochs, takes_each, then_turn}
 use Rattle.iss_rules.specs.Rules.{Rules}
 use Rattle.iss_rules.proofs.Faithful.{IsFaithful}
 use Rattle.iss_model.proofs.Rows.{each-holds, settles-holds}
@@ -18,11 +18,11 @@ abbrev pub AreTold : {Msg : Type 0} → Setup → Module Msg → Core Msg → Ty
 AreTold {Msg} s M d = (x : Early Msg) → In x d.early → (x.from < s.n) × IsReadAgain (M.spell s.version) (M.parse s.version) x.msg
 
 module _ {Msg : Type 0} (s : Setup) (F : Formats Msg) (R : Rules) (M : Module Msg) (faithful : IsFaithful s F M) (i : ℕ) where
-  settles-told : (t : Turn Msg) → AreTold s M t.core → AreTold s M (settles F R M i t).core
+  settles-told : (t : Turn Msg) → AreTold s M t.core → AreTold s M (advance_epochs F R M i t).core
   settles-told t k = settles-holds F R M i (λ t. AreTold s M t.core) (λ t l input. Unit {0}) (λ t l input z fit come. z) (λ t z complete x m. absurd m)
       (λ t claims z. z) t k (λ done u x m z q r. tt)
 
-  each-told : (e : ℕ) (xs : List (Early Msg)) (t : Turn Msg) → AreTold s M t.core → AreTold s M (onward t (takes_each F R M i e xs)).core
+  each-told : (e : ℕ) (xs : List (Early Msg)) (t : Turn Msg) → AreTold s M t.core → AreTold s M (then_turn t (takes_each F R M i e xs)).core
   each-told e xs t k = each-holds F R M i (λ t. AreTold s M t.core) (λ t l input. Unit {0}) (λ t l input z fit come. z) (λ t z complete x m. absurd m)
       (λ t claims z. z) e xs t k (λ u x m z q r. tt)
 

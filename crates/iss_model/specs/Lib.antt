@@ -4,3 +4,6 @@ pub mod Runs
 pub mod Sound
 pub mod Views
 pub mod Frames
+pub mod Courses
+pub mod Disks
+pub mod CourseFrames

@@ -2,7 +2,7 @@
 use Rattle.std.specs.Prelude.{ℕ, suc, ◌+◌, ◌-◌, ◌==◌, nat_lt, cond, Bool, false, not, ◌&&◌, ◌||◌}
 use Rattle.std.specs.Prelude.{List, [], ◌∷◌, ◌++◌, Option, Some, None, length, is_some, reverse, take}
 use Rattle.iss_buckets.specs.Waiting.{absent, cut, uncut}
-use Rattle.iss_base.specs.Lists.{over}
+use Rattle.iss_base.specs.Lists.{push_all}
 use Rattle.iss_checkpoint.specs.declared.votes.Cert.{Cert}
 use Rattle.iss_checkpoint.specs.declared.votes.Vote.{Vote}
 use Rattle.iss_keys.specs.KeyStates.{left_of}
@@ -23,13 +23,13 @@ use Rattle.iss_sb.specs.declared.effects.To.TheVariants.{All as To_all, One as T
 use Rattle.iss_transfer.specs.Adoption.{said_in, same_end}
 use Rattle.iss_transfer.specs.declared.pieces.Piece.{Piece as Sent_piece}
 use Rattle.iss_sb.specs.Evidence.{Item, Module, accepts, delivered}
-use Rattle.iss_causes.specs.declared.causes.NodeEvent.{NodeEvent}
-use Rattle.iss_causes.specs.declared.causes.NodeEvent.TheVariants.{Packet as Gets, Propose as Proposes, Timeout as Fires, AskFrom as Asks}
-use Rattle.iss_causes.specs.declared.causes.Refusal.{Refusal}
-use Rattle.iss_causes.specs.declared.causes.Why.{Why}
-use Rattle.iss_causes.specs.declared.causes.Why.TheVariants.{NotPacket, BadRequest, Known, OutOfWindow, OtherEpoch, EarlyFull, NotLeader, BadClaim, NothingToCast, NoKeys, Refused, NoCert, NotNeeded, WrongChain}
+use Rattle.iss_rules.specs.declared.events.NodeEvent.{NodeEvent}
+use Rattle.iss_rules.specs.declared.events.NodeEvent.TheVariants.{Packet as On_packet, Propose as On_propose, Timeout as On_timeout, AskFrom as On_ask}
+use Rattle.iss_rules.specs.declared.events.Refusal.{Refusal}
+use Rattle.iss_rules.specs.declared.events.Why.{Why}
+use Rattle.iss_rules.specs.declared.events.Why.TheVariants.{NotPacket, BadRequest, Known, OutOfWindow, OtherEpoch, EarlyFull, NotLeader, BadClaim, NothingToCast, NoKeys, Refused, NoCert, NotNeeded, WrongChain}
 use Rattle.iss_rules.specs.Judge.{marks}
-use Rattle.iss_rules.specs.Past.{Past, adopts, advanced, before_own, cut_at, ended_log, is_complete, leads_in, log_of, made_in, newborn, params_of, start_of, taken_in, takes}
+use Rattle.iss_rules.specs.Past.{Past, adopts, advanced, before_own, cut_at, ended_log, initial_history, is_complete, leads_in, log_of, made_in, params_of, start_of, taken_in, takes}
 use Rattle.iss_rules.specs.Rules.{Rules}
 use Rattle.iss_rules.specs.Parcels.{Body, Formats, OfAsk, OfModule, OfPiece, OfRequest, OfVote, Parcel}
 use Rattle.iss_rules.specs.Votes.{all_verify, cert_on, claim_of_vote, claims_of_cert, is_true_cert, keeping, stable, vote_by}
@@ -54,8 +54,8 @@ pub record Core (Msg : Type 0) : Type 0 where
   -- the next leaf to sign with
   pub leaf : ℕ
 
-abbrev pub idle : {Msg : Type 0} → Core Msg
-idle = record { past = newborn; waiting = []; flight = []; early = []; votes = []; certs = []; leaf = 0 }
+abbrev pub initial_core : {Msg : Type 0} → Core Msg
+initial_core = record { past = initial_history; waiting = []; flight = []; early = []; votes = []; certs = []; leaf = 0 }
 
 -- a node after a step, the packets that it made, in order, its own claims in them, the claims that it read of what had come
 -- early, and the strings that it hashed
@@ -118,8 +118,8 @@ own_claims M p i [] = []
 own_claims M p i (x ∷ xs) = only_by i (M.claims p i x.1) ++ own_claims M p i xs
 
 -- the node takes an input in the instance of leader l of its epoch
-abbrev pub inputs : {Msg : Type 0} → Formats Msg → Rules → Module Msg → ℕ → Core Msg → ℕ → Input Msg → Turn Msg
-inputs F R M me c l input =
+abbrev pub step_unjudged : {Msg : Type 0} → Formats Msg → Rules → Module Msg → ℕ → Core Msg → ℕ → Input Msg → Turn Msg
+step_unjudged F R M me c l input =
     let made = made_in R M me c.past l input c.leaf in
     record {
       core = refiled R M me c (takes R M me c.past l input c.leaf) (c.leaf + made.used);
@@ -144,24 +144,24 @@ claims_of_input M p (Receive from msg) = M.claims p from.0 msg
 claims_of_input M p Timeout = []
 
 -- an input in the instance of leader l, where it leads, what it claims verifies, keys are left and the judge agrees
-abbrev pub at_instance : {Msg : Type 0} → Formats Msg → Rules → Module Msg → ℕ → Core Msg → ℕ → Input Msg → Stepped Msg
-at_instance F R M me c l input =
+abbrev pub try_step : {Msg : Type 0} → Formats Msg → Rules → Module Msg → ℕ → Core Msg → ℕ → Input Msg → Stepped Msg
+try_step F R M me c l input =
     cond (not (leads_in R M me c.past l)) (Dropped NotLeader)
     (cond (not (all_verify R (claims_of_input M (params_of R M me c.past l) input))) (Dropped BadClaim)
     (cond (not (has_leaves M (params_of R M me c.past l) c.leaf)) (Dropped NoKeys)
-    (by_verdict (verdict_in R M me c.past l input) (inputs F R M me c l input))))
+    (by_verdict (verdict_in R M me c.past l input) (step_unjudged F R M me c l input))))
 
 -- the claims that a message in the instance of leader l holds, where that leads the node's epoch
 abbrev pub claims_in : {Msg : Type 0} → Rules → Module Msg → ℕ → Past Msg → ℕ → ℕ → Msg → List Claim
 claims_in R M me c from l msg = cond (leads_in R M me c l) (M.claims (params_of R M me c l) from msg) []
 
 -- nothing happens to a core
-abbrev pub rests : {Msg : Type 0} → Core Msg → Turn Msg
-rests c = record { core = c; sends = []; own = []; early = []; strings = [] }
+abbrev pub unchanged : {Msg : Type 0} → Core Msg → Turn Msg
+unchanged c = record { core = c; sends = []; own = []; early = []; strings = [] }
 
 -- a turn, and what follows of it
-abbrev pub onward : {Msg : Type 0} → Turn Msg → (Core Msg → Turn Msg) → Turn Msg
-onward t more =
+abbrev pub then_turn : {Msg : Type 0} → Turn Msg → (Core Msg → Turn Msg) → Turn Msg
+then_turn t more =
     let u = more t.core in
     record { core = u.core; sends = t.sends ++ u.sends; own = t.own ++ u.own; early = t.early ++ u.early; strings = t.strings ++ u.strings }
 
@@ -195,34 +195,34 @@ ends F R M me c =
 
 -- an epoch ends where the log holds all of it
 abbrev pub ended : {Msg : Type 0} → Formats Msg → Rules → Module Msg → ℕ → Turn Msg → Turn Msg
-ended F R M me t = cond (is_complete R M me t.core.past) (onward t (ends F R M me)) t
+ended F R M me t = cond (is_complete R M me t.core.past) (then_turn t (ends F R M me)) t
 
-abbrev pub tried : {Msg : Type 0} → Core Msg → Stepped Msg → Turn Msg
-tried c (Dropped why) = rests c
-tried c (Taken turn) = turn
+abbrev pub or_unchanged : {Msg : Type 0} → Core Msg → Stepped Msg → Turn Msg
+or_unchanged c (Dropped why) = unchanged c
+or_unchanged c (Taken turn) = turn
 
 -- an early message, as if it came now; one that is refused is gone, but its claims were read
 abbrev pub takes_early : {Msg : Type 0} → Formats Msg → Rules → Module Msg → ℕ → Core Msg → Early Msg → Turn Msg
 takes_early F R M me c x =
-    let t = ended F R M me (tried c (at_instance F R M me c x.leader (Receive (record { 0 = x.from }) x.msg))) in
+    let t = ended F R M me (or_unchanged c (try_step F R M me c x.leader (Receive (record { 0 = x.from }) x.msg))) in
     record t { early = claims_in R M me c.past x.from x.leader x.msg }
 
 -- all of them in turn, as long as epoch e lasts
 abbrev pub takes_each : {Msg : Type 0} → Formats Msg → Rules → Module Msg → ℕ → ℕ → List (Early Msg) → Core Msg → Turn Msg
-takes_each F R M me e [] c = rests c
+takes_each F R M me e [] c = unchanged c
 takes_each F R M me e (x ∷ xs) c =
-    cond (c.past.epoch == e) (onward (takes_early F R M me c x) (takes_each F R M me e xs)) (rests c)
+    cond (c.past.epoch == e) (then_turn (takes_early F R M me c x) (takes_each F R M me e xs)) (unchanged c)
 
 -- where a turn fills the epoch, the node votes, and the next one begins with what came early for it
-abbrev pub settles : {Msg : Type 0} → Formats Msg → Rules → Module Msg → ℕ → Turn Msg → Turn Msg
-settles F R M me t =
+abbrev pub advance_epochs : {Msg : Type 0} → Formats Msg → Rules → Module Msg → ℕ → Turn Msg → Turn Msg
+advance_epochs F R M me t =
     cond (is_complete R M me t.core.past)
-    (onward (onward t (ends F R M me)) (takes_each F R M me (suc t.core.past.epoch) t.core.early))
+    (then_turn (then_turn t (ends F R M me)) (takes_each F R M me (suc t.core.past.epoch) t.core.early))
     t
 
-abbrev pub settled : {Msg : Type 0} → Formats Msg → Rules → Module Msg → ℕ → Stepped Msg → Stepped Msg
-settled F R M me (Dropped why) = Dropped why
-settled F R M me (Taken turn) = Taken (settles F R M me turn)
+abbrev pub finish_step : {Msg : Type 0} → Formats Msg → Rules → Module Msg → ℕ → Stepped Msg → Stepped Msg
+finish_step F R M me (Dropped why) = Dropped why
+finish_step F R M me (Taken turn) = Taken (advance_epochs F R M me turn)
 
 -- the identities of what was cast
 abbrev pub flown : List (Slot × Batch) → List ReqId
@@ -238,19 +238,19 @@ takes_request R M me c q =
     cond (not (R.signed q)) (Dropped BadRequest)
     (cond (is_known R M me c q.id) (Dropped Known)
     (cond (not (R.inside (before_own R M me c.past) c.past.epoch q.id)) (Dropped OutOfWindow)
-    (Taken (rests (record c { waiting = c.waiting ++ q ∷ [] })))))
+    (Taken (unchanged (record c { waiting = c.waiting ++ q ∷ [] })))))
 
 -- how many early messages a node keeps
 abbrev pub early_most : ℕ
 early_most = 256
 
 abbrev pub keeps_early : {Msg : Type 0} → Core Msg → Early Msg → Stepped Msg
-keeps_early c x = cond (nat_lt (length c.early) early_most) (Taken (rests (record c { early = c.early ++ x ∷ [] }))) (Dropped EarlyFull)
+keeps_early c x = cond (nat_lt (length c.early) early_most) (Taken (unchanged (record c { early = c.early ++ x ∷ [] }))) (Dropped EarlyFull)
 
 -- a message of the node's epoch is taken, one of the next is kept
 abbrev pub takes_message : {Msg : Type 0} → Formats Msg → Rules → Module Msg → ℕ → Core Msg → ℕ → ℕ → ℕ → Msg → Stepped Msg
 takes_message F R M me c from e l msg =
-    cond (e == c.past.epoch) (settled F R M me (at_instance F R M me c l (Receive (record { 0 = from }) msg)))
+    cond (e == c.past.epoch) (finish_step F R M me (try_step F R M me c l (Receive (record { 0 = from }) msg)))
     (cond (e == suc c.past.epoch) (keeps_early c (record { from = from; leader = l; msg = msg }))
     (Dropped OtherEpoch))
 
@@ -268,7 +268,7 @@ takes_vote R c v =
     cond (nat_lt (suc c.past.epoch) v.epoch.0) (Dropped OtherEpoch)
     (cond (not (all_verify R (claim_of_vote R v ∷ []))) (Dropped BadClaim)
     (cond (is_counted c v) (Dropped Known)
-    (Taken (rests (counted R c v)))))
+    (Taken (unchanged (counted R c v)))))
 
 -- ---- asks
 
@@ -315,7 +315,7 @@ has_shape R before e p = (p.cert.epoch.0 == e) && (length p.values == R.slots be
 
 -- the log that the values lead to has the end that the certificate says
 abbrev pub leads_to : Rules → List Value → Sent_piece → Bool
-leads_to R before p = same_end (R.end (over p.values before)) (said_in p.cert)
+leads_to R before p = same_end (R.end (push_all p.values before)) (said_in p.cert)
 
 -- the values of its epoch are the node's, which ends the epoch with no vote
 abbrev pub adopts_piece : {Msg : Type 0} → Rules → Module Msg → ℕ → Core Msg → Sent_piece → Turn Msg
@@ -339,7 +339,7 @@ takes_piece F R M me c p =
     (cond (not (has_shape R before e p)) (Dropped OtherEpoch)
     (cond (not (is_true_cert R p.cert)) (Dropped BadClaim)
     (cond (not (leads_to R before p)) (Dropped WrongChain)
-    (Taken (onward (adopts_piece R M me c p) (takes_each F R M me (suc e) c.early)))))))
+    (Taken (then_turn (adopts_piece R M me c p) (takes_each F R M me (suc e) c.early)))))))
 
 -- ---- packets
 
@@ -386,13 +386,13 @@ casts_at F R M me c (Some s) =
     let batch = cut R.batch mine c.waiting in
     let d = record c { waiting = uncut R.batch mine c.waiting; flight = c.flight ++ (s, batch) ∷ [] } in
     cond (not (has_leaves M (params_of R M me c.past me) c.leaf)) (Dropped NoKeys)
-    (Taken (settles F R M me (inputs F R M me d me (Cast s batch))))
+    (Taken (advance_epochs F R M me (step_unjudged F R M me d me (Cast s batch))))
 
 -- one step of a node
 abbrev pub step : {Msg : Type 0} → Formats Msg → Rules → Module Msg → ℕ → Core Msg → NodeEvent → Stepped Msg
-step F R M me c (Gets bytes) = takes_bytes F R M me c (F.unwrap bytes)
-step F R M me c Proposes =
+step F R M me c (On_packet bytes) = takes_bytes F R M me c (F.unwrap bytes)
+step F R M me c On_propose =
     cond (not (leads_in R M me c.past me)) (Dropped NotLeader)
     (casts_at F R M me c (next_slot R M me c))
-step F R M me c (Fires l) = settled F R M me (at_instance F R M me c l.0 Timeout)
-step F R M me c (Asks peer) = Taken (asking F me c peer)
+step F R M me c (On_timeout l) = finish_step F R M me (try_step F R M me c l.0 Timeout)
+step F R M me c (On_ask peer) = Taken (asking F me c peer)

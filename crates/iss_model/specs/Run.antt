@@ -1,7 +1,7 @@
 -- All cores over a whole schedule: each event, up to the delivery that shows a forged claim or the step that shows a collision.
 use Rattle.std.specs.Prelude.{ℕ, zero, suc, ◌-◌, ◌==◌, ◌&&◌, nat_lt, not, cond, Bool, true, false, List, [], ◌∷◌, ◌++◌, Option, Some, None}
 use Rattle.std.specs.List.{filter}
-use Rattle.iss_base.specs.Lists.{below, first_of, nth, over, same_bytes, set_at}
+use Rattle.iss_base.specs.Lists.{below, first_of, nth, push_all, same_bytes, set_at}
 use Rattle.iss_network.specs.Network.{Network, cleared, due, empty_network, held_to, posted, settled}
 use Rattle.iss_network.specs.declared.packets.Sent.{Sent}
 use Rattle.iss_request.specs.Digest.{digest}
@@ -13,17 +13,17 @@ use Rattle.iss_sb.specs.declared.effects.To.{To}
 use Rattle.iss_sb.specs.declared.effects.To.TheVariants.{All as To_all, One as To_one}
 use Rattle.iss_sb.specs.Evidence.{Module, is_correct}
 use Rattle.iss_schedule.specs.declared.schedules.Event.{Event}
-use Rattle.iss_schedule.specs.declared.schedules.Event.TheVariants.{Request as Asks_order, Propose, Timeout, Ask, Deliver, Lose, Pump, Calm, Hold, Free, Drop, Restart, Crash, Bytes}
-use Rattle.iss_causes.specs.declared.causes.NodeEvent.{NodeEvent}
-use Rattle.iss_causes.specs.declared.causes.NodeEvent.TheVariants.{Packet as Gets, Propose as Proposes, Timeout as Fires, AskFrom as Asks}
-use Rattle.iss_causes.specs.declared.causes.Why.{Why}
-use Rattle.iss_causes.specs.declared.causes.Why.TheVariants.{NoPacket}
+use Rattle.iss_schedule.specs.declared.schedules.Event.TheVariants.{Request as Event_request, Propose, Timeout, Ask, Deliver, Lose, Pump, Calm, Hold, Free, Drop, Restart, Crash, Bytes}
+use Rattle.iss_rules.specs.declared.events.NodeEvent.{NodeEvent}
+use Rattle.iss_rules.specs.declared.events.NodeEvent.TheVariants.{Packet as On_packet, Propose as On_propose, Timeout as On_timeout, AskFrom as On_ask}
+use Rattle.iss_rules.specs.declared.events.Why.{Why}
+use Rattle.iss_rules.specs.declared.events.Why.TheVariants.{NoPacket}
 use Rattle.iss_rules.specs.Books.{Signed}
 use Rattle.iss_rules.specs.Parcels.{Formats, OfRequest}
-use Rattle.iss_model.specs.Node.{Core, Stepped, Dropped, Taken, Turn, idle, step}
+use Rattle.iss_model.specs.Node.{Core, Stepped, Dropped, Taken, Turn, initial_core, step}
 use Rattle.iss_rules.specs.Rules.{Rules}
 use Rattle.iss_model.specs.Views.{claims_of_bytes}
-use Rattle.iss_causes.specs.Ends.{Collision, End, Forged}
+use Rattle.iss_rules.specs.Ends.{Collision, End, Forged}
 use Rattle.iss_rules.specs.Concrete.{request_of}
 
 -- core i is node i; behind the nodes each faulty one has a second core, its twin, with the same keys
@@ -78,10 +78,10 @@ posted_all s w from (x ∷ xs) = posted_all s (posted_to w from x.1 (addressees 
 
 -- the claims that an event reads before its step, and those that the step read of what had come early
 abbrev pub claims_at : {Msg : Type 0} → Formats Msg → Rules → Module Msg → ℕ → Core Msg → NodeEvent → List Claim
-claims_at F R M me c (Gets bytes) = claims_of_bytes F R M me c bytes
-claims_at F R M me c Proposes = []
-claims_at F R M me c (Fires l) = []
-claims_at F R M me c (Asks peer) = []
+claims_at F R M me c (On_packet bytes) = claims_of_bytes F R M me c bytes
+claims_at F R M me c On_propose = []
+claims_at F R M me c (On_timeout l) = []
+claims_at F R M me c (On_ask peer) = []
 
 abbrev pub early_of : {Msg : Type 0} → Stepped Msg → List Claim
 early_of (Dropped why) = []
@@ -126,7 +126,7 @@ turned_to s h c t =
     record {
       net = record { cores = set_at h.net.cores c t.core; network = posted_all s h.net.network c t.sends };
       signed = booked s c t.own ++ h.signed;
-      hashed = over t.strings h.hashed;
+      hashed = push_all t.strings h.hashed;
     }
 
 abbrev pub by_collision : {Msg : Type 0} → Option End → Held Msg → Held Msg → Happening Msg
@@ -156,7 +156,7 @@ unless (Some end) d more = d
 -- packet k is taken by its core, and waits no more
 abbrev pub delivered_to : {Msg : Type 0} → Setup → Formats Msg → Rules → Module Msg → Held Msg → ℕ → Option Sent → Happening Msg
 delivered_to s F R M h k None = lost_by h NoPacket
-delivered_to s F R M h k (Some p) = at_core s F R M (with_network h (settled h.net.network k)) p.to (Gets p.bytes)
+delivered_to s F R M h k (Some p) = at_core s F R M (with_network h (settled h.net.network k)) p.to (On_packet p.bytes)
 
 abbrev pub delivers : {Msg : Type 0} → Setup → Formats Msg → Rules → Module Msg → Held Msg → ℕ → Happening Msg
 delivers s F R M h k = delivered_to s F R M h k (nth h.net.network.packets k)
@@ -185,29 +185,29 @@ loses h k (Some p) = done (with_network h (settled h.net.network k))
 
 -- bytes from nowhere reach a core only where nodes may do anything
 abbrev pub injects : {Msg : Type 0} → Setup → Formats Msg → Rules → Module Msg → Held Msg → ℕ → List ℕ → Happening Msg
-injects s F R M h c bytes = cond M.stopping (done h) (at_core s F R M h c (Gets bytes))
+injects s F R M h c bytes = cond M.stopping (done h) (at_core s F R M h c (On_packet bytes))
 
 -- No disk fails here: a crash is none, and a core that is made anew of all that it took is what it was.
-abbrev pub happens : {Msg : Type 0} → Setup → Formats Msg → Rules → Module Msg → Held Msg → Event → Happening Msg
-happens s F R M h (Asks_order c client number payload) =
-    at_core s F R M h c (Gets (F.wrap (record { from = 255; epoch = 0; body = OfRequest (request_of s client number payload) })))
-happens s F R M h (Propose c) = at_core s F R M h c Proposes
-happens s F R M h (Timeout c l) = at_core s F R M h c (Fires l)
-happens s F R M h (Ask c peer) = at_core s F R M h c (Asks peer)
-happens s F R M h (Deliver k) = delivers s F R M h k
-happens s F R M h (Lose k) = loses h k (nth h.net.network.packets k)
-happens s F R M h Pump = pumps s F R M h
-happens s F R M h (Calm m) = calms s F R M m h
-happens s F R M h (Hold c) = done (with_network h (held_to h.net.network c true))
-happens s F R M h (Free c) = done (with_network h (held_to h.net.network c false))
-happens s F R M h (Drop c) = done (with_network h (cleared h.net.network c))
-happens s F R M h (Restart c) = done h
-happens s F R M h (Crash c calls) = done h
-happens s F R M h (Bytes c bytes) = injects s F R M h c bytes
+abbrev pub apply_event : {Msg : Type 0} → Setup → Formats Msg → Rules → Module Msg → Held Msg → Event → Happening Msg
+apply_event s F R M h (Event_request c client number payload) =
+    at_core s F R M h c (On_packet (F.wrap (record { from = 255; epoch = 0; body = OfRequest (request_of s client number payload) })))
+apply_event s F R M h (Propose c) = at_core s F R M h c On_propose
+apply_event s F R M h (Timeout c l) = at_core s F R M h c (On_timeout l)
+apply_event s F R M h (Ask c peer) = at_core s F R M h c (On_ask peer)
+apply_event s F R M h (Deliver k) = delivers s F R M h k
+apply_event s F R M h (Lose k) = loses h k (nth h.net.network.packets k)
+apply_event s F R M h Pump = pumps s F R M h
+apply_event s F R M h (Calm m) = calms s F R M m h
+apply_event s F R M h (Hold c) = done (with_network h (held_to h.net.network c true))
+apply_event s F R M h (Free c) = done (with_network h (held_to h.net.network c false))
+apply_event s F R M h (Drop c) = done (with_network h (cleared h.net.network c))
+apply_event s F R M h (Restart c) = done h
+apply_event s F R M h (Crash c calls) = done h
+apply_event s F R M h (Bytes c bytes) = injects s F R M h c bytes
 
 -- nothing was taken; the empty string counts as hashed
 abbrev pub begin_net : {Msg : Type 0} → Setup → Net Msg
-begin_net s = record { cores = λ i. idle; network = empty_network (cores_of s) }
+begin_net s = record { cores = λ i. initial_core; network = empty_network (cores_of s) }
 
 abbrev pub begin_held : {Msg : Type 0} → Setup → Held Msg
 begin_held s = record { net = begin_net s; signed = []; hashed = [] ∷ [] }
@@ -231,16 +231,16 @@ abbrev pub ended_at : ℕ → Option End → Option (ℕ × End)
 ended_at k None = None
 ended_at k (Some end) = Some (k, end)
 
-abbrev pub goes_on : {Msg : Type 0} → Setup → Formats Msg → Rules → Module Msg → Progress Msg → Event → Progress Msg
-goes_on s F R M p e =
-    let d = happens s F R M p.held e in
+abbrev pub run_event : {Msg : Type 0} → Setup → Formats Msg → Rules → Module Msg → Progress Msg → Event → Progress Msg
+run_event s F R M p e =
+    let d = apply_event s F R M p.held e in
     record { held = d.held; event = suc p.event; drops = noted p.event d.lost p.drops; ended = ended_at p.event d.ended }
 
 -- a run that has ended goes no further
-abbrev pub goes_further : {Msg : Type 0} → Option (ℕ × End) → Setup → Formats Msg → Rules → Module Msg → Progress Msg → Event → Progress Msg
-goes_further None s F R M p e = goes_on s F R M p e
-goes_further (Some end) s F R M p e = p
+abbrev pub run_event_if_open : {Msg : Type 0} → Option (ℕ × End) → Setup → Formats Msg → Rules → Module Msg → Progress Msg → Event → Progress Msg
+run_event_if_open None s F R M p e = run_event s F R M p e
+run_event_if_open (Some end) s F R M p e = p
 
 abbrev pub run : {Msg : Type 0} → Setup → Formats Msg → Rules → Module Msg → Progress Msg → List Event → Progress Msg
 run s F R M p [] = p
-run s F R M p (e ∷ es) = run s F R M (goes_further p.ended s F R M p e) es
+run s F R M p (e ∷ es) = run s F R M (run_event_if_open p.ended s F R M p e) es

@@ -3,7 +3,7 @@ use Rattle.std.specs.Prelude.{◌≡◌, ℕ, ◌<◌, List, [], ◌∷◌, ◌+
 use Rattle.iss_request.specs.declared.requests.Value.{Value}
 use Rattle.iss_request.specs.declared.setups.Setup.{Setup}
 use Rattle.iss_schedule.specs.declared.schedules.Event.{Event}
-use Rattle.iss_schedule.specs.declared.schedules.Event.TheVariants.{Request as Asks_order, Propose, Timeout, Ask, Deliver, Lose, Pump, Calm, Hold, Free, Drop, Restart, Crash, Bytes}
+use Rattle.iss_schedule.specs.declared.schedules.Event.TheVariants.{Request as Event_request, Propose, Timeout, Ask, Deliver, Lose, Pump, Calm, Hold, Free, Drop, Restart, Crash, Bytes}
 use Rattle.iss_rules.specs.Past.{Past}
 use Rattle.iss_model.specs.Run.{Net, cores_of}
 
@@ -16,7 +16,7 @@ IsPrefix a b = (rest : List Value) × (b ≡ a ++ rest)
 
 -- the events happen at cores that are there
 abbrev pub IsAtCore : Setup → Event → Type 0
-IsAtCore s (Asks_order c client number payload) = c < cores_of s
+IsAtCore s (Event_request c client number payload) = c < cores_of s
 IsAtCore s (Propose c) = c < cores_of s
 IsAtCore s (Timeout c l) = c < cores_of s
 IsAtCore s (Ask c peer) = c < cores_of s

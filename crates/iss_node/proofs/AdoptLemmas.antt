@@ -24,7 +24,7 @@ use Rattle.iss_rules.specs.Concrete.{rules_of}
 use Rattle.iss_rules.specs.Formats.{formats_of}
 use Rattle.iss_rules.specs.Parcels.{Formats}
 use Rattle.iss_rules.specs.Votes.{cert_on, keeping}
-use Rattle.iss_model.specs.Node.{Core, Early as Kept_early, Turn, adopts_piece, grown_strings, in_next_epoch, joined, onward, returned, takes_each}
+use Rattle.iss_model.specs.Node.{Core, Early as Kept_early, Turn, adopts_piece, grown_strings, in_next_epoch, joined, returned, takes_each, then_turn}
 use Rattle.iss_rules.specs.Past.{Past, Piece, adopted_at, adopts, before_own, cell, log_of}
 use Rattle.iss_rules.specs.Rules.{Rules}
 use Rattle.iss_model.specs.Sound.{IsSoundCore}
@@ -38,8 +38,8 @@ use Rattle.iss_node.proofs.TiedLemmas.{AreRefiled, are-refiled, bf-long, bf-part
 use Rattle.iss_node.specs.Flights.{FlightState, IsLanded}
 use Rattle.iss_node.specs.Growth.{IsGrown, and_values, waits_on}
 use Rattle.iss_node.specs.Inputs.{HasGrown, IsChained}
-use Rattle.iss_node.specs.Shape.{IsReplica}
-use Rattle.iss_node.specs.State.{AreParts, IsTied, ReplicaState, bare, core_of, seen_early, slot_value}
+use Rattle.iss_node.specs.Shape.{IsNodeState}
+use Rattle.iss_node.specs.State.{RefinesBareCore, RefinesPast, StateView, bare, core_of, seen_early, slot_value}
 use Rattle.iss_node.specs.Steps.{IsHeldTurn, IsLater, IsNextEpoch, IsSameNode, IsTurnBehind, IsTurned}
 use Rattle.iss_node.specs.Transfers.{IsAdoptedBy, at_slots}
 use Rattle.iss_node.specs.declared.answers.Early.{Early}
@@ -58,7 +58,7 @@ use Rattle.iss_segment.specs.Ground.{noted_before}
 use Rattle.iss_transfer.specs.Adoption.{adopted_log, adoption, has_shape, log_before, said_in, same_end}
 use Rattle.iss_transfer.specs.declared.adopting.Adoption.TheVariants.{Adopt, BadCert, WrongChain, WrongEpoch}
 use Rattle.iss_transfer.specs.declared.pieces.Piece.{Piece as Sent_piece}
-use Rattle.iss_window.specs.Kept.{StandsFor}
+use Rattle.iss_window.specs.Kept.{RefinesNoted}
 
 -- ---- what an adoption tells
 
@@ -104,8 +104,8 @@ adoption-tells s w log e p hashed h = go (has_shape s e p) refl (is_cert w p.cer
 
 -- ---- the log with the values of a piece
 
-module _ {M Msg : Type 0} (m : Module Msg) (stands : M → Params → ℕ → List (Item Msg) → Type 0)
-    (v : ReplicaState M Msg) (shape : IsReplica m v) (past : Past Msg) (tied : IsTied m stands v past) (p : Sent_piece) (hashed : List (List ℕ))
+module _ {M Msg : Type 0} (m : Module Msg) (refines : M → Params → ℕ → List (Item Msg) → Type 0)
+    (v : StateView M Msg) (shape : IsNodeState m v) (past : Past Msg) (tied : RefinesPast m refines v past) (p : Sent_piece) (hashed : List (List ℕ))
     (told : IsAdoptable v.setup (voters_of v.setup v.directory) v.log.entries v.epoch p hashed)
     (log : LogState) (count : ℕ) (grown : IsGrown v.log (at_slots v.plan.start p.values) log count) where
   abbrev pub piece : Piece
@@ -160,13 +160,13 @@ module _ {M Msg : Type 0} (m : Module Msg) (stands : M → Params → ℕ → Li
   adopted-is : (i : ℕ) → adopted_at (piece ∷ past.adopted) past.epoch i ≡ nth p.values i
   adopted-is i =
       ap (λ (b : Bool). first_of (adopted_at past.adopted past.epoch i) (cond b (nth p.values i) None)) (eqb-same past.epoch)
-      ∙ ap (λ (o : Option Value). first_of o (nth p.values i)) (nothing-adopted v.setup shape.good.good m v.me.0 past (bounded m stands v shape past tied) before (bf-long m stands v shape past tied) i)
+      ∙ ap (λ (o : Option Value). first_of o (nth p.values i)) (nothing-adopted v.setup shape.good.good m v.me.0 past (bounded m refines v shape past tied) before (bf-long m refines v shape past tied) i)
 
   cell-is : (older : List Value) → Extends before older → length older < v.plan.start + v.setup.epoch →
       cell (rules_of v.setup) m v.me.0 next older ≡ first_of (slot_value (rules_of v.setup) m v.me.0 before past (length older)) (nth p.values (length older - v.plan.start))
   cell-is older x lt =
       let q = tied.start in
-      let n = bf-long m stands v shape past tied in
+      let n = bf-long m refines v shape past tied in
       epoch-cell v.setup shape.good.good m v.me.0 next past.epoch before n older x (omega (arith, lt, q))
       ∙ ap (λ (o : Option Value). first_of (slot_value (rules_of v.setup) m v.me.0 before past (length older)) o) (adopted-is (length older - length before))
       ∙ ap (λ (k : ℕ). first_of (slot_value (rules_of v.setup) m v.me.0 before past (length older)) (nth p.values (length older - k))) (n ∙ sym q)
@@ -175,7 +175,7 @@ module _ {M Msg : Type 0} (m : Module Msg) (stands : M → Params → ℕ → Li
   holds front over x is =
       let n = length-reverse front in
       let low = extends-length before (reverse front) over in
-      let len = bf-long m stands v shape past tied in
+      let len = bf-long m refines v shape past tied in
       let q = tied.start in
       elim (leb_tells (v.plan.start + v.setup.epoch) (length front)) [
         | inl t ↦ absurd (none-some x (sym (outside (length front) t.1) ∙ is))
@@ -191,7 +191,7 @@ module _ {M Msg : Type 0} (m : Module Msg) (stands : M → Params → ℕ → Li
   pub whole-log : Extends before (reverse log.entries) × IsLog (rules_of v.setup) m v.me.0 next (reverse log.entries)
   whole-log =
       let was : IsLog (rules_of v.setup) m v.me.0 past (reverse v.log.entries) = subst (λ (ys : List Value). IsLog (rules_of v.setup) m v.me.0 past ys) tied.log (log-chain (rules_of v.setup) m v.me.0 past) in
-      goes-on v.setup m v.me.0 next before log holds grown.joined v.log.entries grown.entries (bf-part m stands v shape past tied)
+      goes-on v.setup m v.me.0 next before log holds grown.joined v.log.entries grown.entries (bf-part m refines v shape past tied)
       (log-kept (rules_of v.setup) m v.me.0 past next (adopts-later (rules_of v.setup) past piece settled) (reverse v.log.entries) was)
 
   pub new-log : log_of (rules_of v.setup) m v.me.0 next ≡ reverse log.entries
@@ -217,7 +217,7 @@ module _ {M Msg : Type 0} (m : Module Msg) (stands : M → Params → ℕ → Li
   turned-log = sym (ap (λ (ys : List Value). reverse ys) tied.log ∙ reverse-reverse v.log.entries)
 
   is-adopted : (F : Formats Msg) → IsAdopted F (rules_of v.setup) m v.me.0 (core_of v past) p
-      (onward (adopts_piece (rules_of v.setup) m v.me.0 (core_of v past) p) (takes_each F (rules_of v.setup) m v.me.0 (suc past.epoch) (core_of v past).early))
+      (then_turn (adopts_piece (rules_of v.setup) m v.me.0 (core_of v past) p) (takes_each F (rules_of v.setup) m v.me.0 (suc past.epoch) (core_of v past).early))
   is-adopted F = record {
     epoch = told.epoch ∙ tied.epoch;
     of_epoch = told.of_epoch ∙ tied.epoch;
@@ -253,10 +253,10 @@ module _ {M Msg : Type 0} (m : Module Msg) (stands : M → Params → ℕ → Li
   module _ (chains : ChainsState) (chained : IsChainOf chains (v.log.entries ++ grown.joined)) (waiting : List Request) (flight : FlightState) (logged : List ReqId) (ballots : BallotsState)
       (joins : logged ≡ fold and_values v.logged grown.joined)
       (lands : IsLanded v.flight flight (length log.entries))
-      (returns : (all : List ReqId) (bf : List Value) → StandsFor v.windows (noted_before bf) → ((x : ReqId) → has_id x all ≡ (has_id x logged || has_id x (log_ids bf))) →
+      (returns : (all : List ReqId) (bf : List Value) → RefinesNoted v.windows (noted_before bf) → ((x : ReqId) → has_id x all ≡ (has_id x logged || has_id x (log_ids bf))) →
       AreNew (fold waits_on v.waiting grown.joined) (absent all (returned (reverse log.entries) v.flight.casts)) →
       waiting ≡ fold waits_on v.waiting grown.joined ++ absent all (returned (reverse log.entries) v.flight.casts)) where
-    abbrev pub after : ReplicaState M Msg
+    abbrev pub after : StateView M Msg
     after = record v { log = log; chains = chains; logged = logged; flight = flight; waiting = waiting; ballots = ballots }
 
     -- the past of the epoch with what was adopted
@@ -264,7 +264,7 @@ module _ {M Msg : Type 0} (m : Module Msg) (stands : M → Params → ℕ → Li
     with_it = record past { adopted = piece ∷ past.adopted }
 
     filed : AreRefiled m v past next v.keys.used waiting flight logged
-    filed = are-refiled m stands v shape past tied next v.keys.used log grown.joined grown.entries new-log turn-sound.different waiting flight logged joins lands returns
+    filed = are-refiled m refines v shape past tied next v.keys.used log grown.joined grown.entries new-log turn-sound.different waiting flight logged joins lands returns
 
     pub core-is : bare (adopts_piece (rules_of v.setup) m v.me.0 (core_of v past) p).core ≡ in_next_epoch (core_of after with_it)
     core-is = λ t. record { past = next; waiting = sym filed.waits t; flight = sym filed.flies t; early = []; votes = []; certs = []; leaf = v.keys.used }
@@ -279,7 +279,7 @@ module _ {M Msg : Type 0} (m : Module Msg) (stands : M → Params → ℕ → Li
       rests = tied.rests;
       standing = tied.standing;
       start = tied.start;
-      size = bf-long m stands v shape past tied;
+      size = bf-long m refines v shape past tied;
       part = whole-log.0;
       outside = outside;
       hole = grown.hole;
@@ -294,10 +294,10 @@ module _ {M Msg : Type 0} (m : Module Msg) (stands : M → Params → ℕ → Li
 -- ---- it stays the same node
 
 -- what is held of votes says nothing of it
-pub kept-same : {M Msg : Type 0} (v u w : ReplicaState M Msg) (ballots : BallotsState) → IsLater v u → IsLater (record u { ballots = ballots }) w → IsSameNode v w
+pub kept-same : {M Msg : Type 0} (v u w : StateView M Msg) (ballots : BallotsState) → IsLater v u → IsLater (record u { ballots = ballots }) w → IsSameNode v w
 kept-same v u w ballots h g = record { setup = g.setup ∙ h.setup; me = g.me ∙ h.me; log = goes-trans v.log.entries u.log.entries w.log.entries h.log g.log }
 
-pub same-on : {M Msg : Type 0} (v w x : ReplicaState M Msg) → IsSameNode v w → IsLater w x → IsSameNode v x
+pub same-on : {M Msg : Type 0} (v w x : StateView M Msg) → IsSameNode v w → IsLater w x → IsSameNode v x
 same-on v w x h g = record { setup = g.setup ∙ h.setup; me = g.me ∙ h.me; log = goes-trans v.log.entries w.log.entries x.log.entries h.log g.log }
 
 -- ---- the whole of it
@@ -306,67 +306,67 @@ same-on v w x h g = record { setup = g.setup ∙ h.setup; me = g.me ∙ h.me; lo
 abbrev bare_turn : {Msg : Type 0} → Rules → Module Msg → ℕ → Core Msg → Sent_piece → Turn Msg
 bare_turn R m me c p = let t = adopts_piece R m me c p in record t { core = bare t.core }
 
-module _ {M Msg : Type 0} (m : Module Msg) (stands : M → Params → ℕ → List (Item Msg) → Type 0)
-    (v u w new : ReplicaState M Msg) (shape : IsReplica m v) (p : Sent_piece) (hashed strings : List (List ℕ)) (ballots : BallotsState) (early : List (Early Msg)) (first o : Outcome)
+module _ {M Msg : Type 0} (m : Module Msg) (refines : M → Params → ℕ → List (Item Msg) → Type 0)
+    (v u w new : StateView M Msg) (shape : IsNodeState m v) (p : Sent_piece) (hashed strings : List (List ℕ)) (ballots : BallotsState) (early : List (Early Msg)) (first o : Outcome)
     (grown : HasGrown v u (at_slots v.plan.start p.values)) (chained : IsChained v u hashed strings)
     (keeps : (votes : List Vote) (certs : List Cert) → AreKept u.ballots votes certs → AreKept ballots votes (keeping certs p.cert (cert_on certs p.cert.epoch.0)))
-    (begun : IsNextEpoch stands (record u { ballots = ballots }) w early) (later : IsLater (record u { ballots = ballots }) w)
+    (begun : IsNextEpoch refines (record u { ballots = ballots }) w early) (later : IsLater (record u { ballots = ballots }) w)
     (is_first : first ≡ record { sends = []; own = []; early = []; hashed = strings })
-    (each : IsTurnBehind m stands w (λ F R me t. onward t (takes_each F R m me w.epoch (seen_early early))) first new o) (last : IsLater w new) where
-  first-turn : (past : Past Msg) → IsTied m stands v past → IsAdoptable v.setup (voters_of v.setup v.directory) v.log.entries v.epoch p hashed →
-      IsTurned m stands (bare_turn (rules_of v.setup) m v.me.0 (core_of v past) p) w first
+    (each : IsTurnBehind m refines w (λ F R me t. then_turn t (takes_each F R m me w.epoch (seen_early early))) first new o) (last : IsLater w new) where
+  first-turn : (past : Past Msg) → RefinesPast m refines v past → IsAdoptable v.setup (voters_of v.setup v.directory) v.log.entries v.epoch p hashed →
+      IsTurned m refines (bare_turn (rules_of v.setup) m v.me.0 (core_of v past) p) w first
   first-turn past tied told =
       let g = grown in
       let chain = chained.joined g.grown.joined g.grown.entries tied.chained in
-      let returns : (all : List ReqId) (bf : List Value) → StandsFor v.windows (noted_before bf) → ((x : ReqId) → has_id x all ≡ (has_id x u.logged || has_id x (log_ids bf))) →
+      let returns : (all : List ReqId) (bf : List Value) → RefinesNoted v.windows (noted_before bf) → ((x : ReqId) → has_id x all ≡ (has_id x u.logged || has_id x (log_ids bf))) →
       AreNew (fold waits_on v.waiting g.grown.joined) (absent all (returned (reverse u.log.entries) v.flight.casts)) →
       u.waiting ≡ fold waits_on v.waiting g.grown.joined ++ absent all (returned (reverse u.log.entries) v.flight.casts) =
       λ all bf noted members fresh. g.landed.waiting all (record { before = bf; noted = noted; members = members }) fresh in
-      let over = is-over m stands v shape past tied p hashed told u.log g.held g.grown u.chains chain.chained u.waiting u.flight u.logged ballots g.logged g.landed.landed returns in
-      let is = core-is m stands v shape past tied p hashed told u.log g.held g.grown u.chains chain.chained u.waiting u.flight u.logged ballots g.logged g.landed.landed returns in
-      let with_ballots : ReplicaState M Msg → ReplicaState M Msg = λ z. record z { ballots = ballots } in
-      let from : IsNextEpoch stands (record v { log = u.log; chains = u.chains; logged = u.logged; flight = u.flight; waiting = u.waiting; ballots = ballots }) w early =
-      subst (λ (z : ReplicaState M Msg). IsNextEpoch stands z w early) (ap with_ballots g.rest) begun in
+      let over = is-over m refines v shape past tied p hashed told u.log g.held g.grown u.chains chain.chained u.waiting u.flight u.logged ballots g.logged g.landed.landed returns in
+      let is = core-is m refines v shape past tied p hashed told u.log g.held g.grown u.chains chain.chained u.waiting u.flight u.logged ballots g.logged g.landed.landed returns in
+      let with_ballots : StateView M Msg → StateView M Msg = λ z. record z { ballots = ballots } in
+      let from : IsNextEpoch refines (record v { log = u.log; chains = u.chains; logged = u.logged; flight = u.flight; waiting = u.waiting; ballots = ballots }) w early =
+      subst (λ (z : StateView M Msg). IsNextEpoch refines z w early) (ap with_ballots g.rest) begun in
       record {
-        stands_for = subst (λ (c : Core Msg). AreParts m stands w c) (sym is) (next-parts m stands _ shape.slots _ _ over w early from);
+        refined = subst (λ (c : Core Msg). RefinesBareCore m refines w c) (sym is) (next-parts m refines _ shape.slots _ _ over w early from);
         made = record {
           sends = ap (λ (z : Outcome). z.sends) is_first;
           own = ap (λ (z : Outcome). z.own) is_first;
           early = ap (λ (z : Outcome). z.early) is_first;
-          hashed = ap (λ (z : Outcome). z.hashed) is_first ∙ strings-are m stands v shape past tied p hashed told u.log g.held g.grown strings chain.strings;
+          hashed = ap (λ (z : Outcome). z.hashed) is_first ∙ strings-are m refines v shape past tied p hashed told u.log g.held g.grown strings chain.strings;
         };
         addressed = subst (λ (xs : List (To × List ℕ)). AreToNodes w.setup.n xs) (sym (ap (λ (z : Outcome). z.sends) is_first)) tt;
       }
 
-  pub adopted-all : IsAdoptedBy m stands v p hashed new o
+  pub adopted-all : IsAdoptedBy m refines v p hashed new o
   adopted-all c h found =
       let F = formats_of v.setup m in
       let R = rules_of v.setup in
       let me = v.me.0 in
-      let tied = h.parts.tied in
+      let tied = h.state.tied in
       let told = adoption-tells v.setup (voters_of v.setup v.directory) v.log.entries v.epoch p hashed found in
       let e = suc c.past.epoch in
       let certs = keeping c.certs p.cert (cert_on c.certs c.past.epoch) in
       let start : Turn Msg = bare_turn R m me (bare c) p in
-      let turned : IsTurned m stands start w first = subst (λ (d : Core Msg). IsTurned m stands (bare_turn R m me d p) w first) (sym h.parts.core) (first-turn c.past tied told) in
-      let setup : w.setup ≡ v.setup = later.setup ∙ ap (λ (z : ReplicaState M Msg). z.setup) grown.rest in
-      let node : w.me ≡ v.me = later.me ∙ ap (λ (z : ReplicaState M Msg). z.me) grown.rest in
-      let epoch : w.epoch ≡ e = turned.stands_for.tied.epoch in
+      let turned : IsTurned m refines start w first = subst (λ (d : Core Msg). IsTurned m refines (bare_turn R m me d p) w first) (sym h.state.core) (first-turn c.past tied told) in
+      let setup : w.setup ≡ v.setup = later.setup ∙ ap (λ (z : StateView M Msg). z.setup) grown.rest in
+      let node : w.me ≡ v.me = later.me ∙ ap (λ (z : StateView M Msg). z.me) grown.rest in
+      let epoch : w.epoch ≡ e = turned.refined.tied.epoch in
       let kept : seen_early early ≡ c.early =
-      ap (λ (xs : List (Early Msg)). seen_early xs) (begun.kept ∙ ap (λ (z : ReplicaState M Msg). z.early) grown.rest) ∙ sym (ap (λ (d : Core Msg). d.early) h.parts.core) in
-      let there : IsTurned m stands (onward start (takes_each F R m me e c.early)) new o =
-      subst (λ (xs : List (Kept_early Msg)). IsTurned m stands (onward start (takes_each F R m me e xs)) new o) kept
-      (subst (λ (k : ℕ). IsTurned m stands (onward start (takes_each F R m me k (seen_early early))) new o) epoch
-      (subst (λ (i : NodeId). IsTurned m stands (onward start (takes_each F R m i.0 w.epoch (seen_early early))) new o) node
-      (subst (λ (s : Setup). IsTurned m stands (onward start (takes_each (formats_of s m) (rules_of s) m w.me.0 w.epoch (seen_early early))) new o) setup (each start turned)))) in
-      let framed : onward (adopts_piece R m me c p) (takes_each F R m me e c.early) ≡ with_turn F R m me c.votes certs (onward start (takes_each F R m me e c.early)) =
+      ap (λ (xs : List (Early Msg)). seen_early xs) (begun.kept ∙ ap (λ (z : StateView M Msg). z.early) grown.rest) ∙ sym (ap (λ (d : Core Msg). d.early) h.state.core) in
+      let there : IsTurned m refines (then_turn start (takes_each F R m me e c.early)) new o =
+      subst (λ (xs : List (Kept_early Msg)). IsTurned m refines (then_turn start (takes_each F R m me e xs)) new o) kept
+      (subst (λ (k : ℕ). IsTurned m refines (then_turn start (takes_each F R m me k (seen_early early))) new o) epoch
+      (subst (λ (i : NodeId). IsTurned m refines (then_turn start (takes_each F R m i.0 w.epoch (seen_early early))) new o) node
+      (subst (λ (s : Setup). IsTurned m refines (then_turn start (takes_each (formats_of s m) (rules_of s) m w.me.0 w.epoch (seen_early early))) new o) setup (each start turned)))) in
+      let framed : then_turn (adopts_piece R m me c p) (takes_each F R m me e c.early) ≡ with_turn F R m me c.votes certs (then_turn start (takes_each F R m me e c.early)) =
       onward-held F R m me c.votes certs start (takes_each F R m me e c.early) (each-held F R m me c.votes certs e c.early) in
       let own : AreKept ballots c.votes certs =
       subst (λ (k : ℕ). AreKept ballots c.votes (keeping c.certs p.cert (cert_on c.certs k))) (told.of_epoch ∙ tied.epoch)
-      (keeps c.votes c.certs (subst (λ (b : BallotsState). AreKept b c.votes c.certs) (sym (ap (λ (z : ReplicaState M Msg). z.ballots) grown.rest)) h.kept)) in
-      subst (λ (z : Turn Msg). IsHeldTurn m stands (Unit {0}) z new o) (sym framed) (record {
-        stands_for = record {
-          parts = record { core = ap (λ (z : Core Msg). bare z) there.stands_for.core; tied = there.stands_for.tied };
+      (keeps c.votes c.certs (subst (λ (b : BallotsState). AreKept b c.votes c.certs) (sym (ap (λ (z : StateView M Msg). z.ballots) grown.rest)) h.kept)) in
+      subst (λ (z : Turn Msg). IsHeldTurn m refines (Unit {0}) z new o) (sym framed) (record {
+        refined = record {
+          state = record { core = ap (λ (z : Core Msg). bare z) there.refined.core; tied = there.refined.tied };
           kept = subst (λ (b : BallotsState). AreKept b c.votes certs) (sym (last.ballots ∙ later.ballots)) own;
         };
         made = record { sends = there.made.sends; own = there.made.own; early = there.made.early; hashed = there.made.hashed };

@@ -7,23 +7,23 @@ use Rattle.std.specs.List.{list_any}
 use Rattle.iss_base.specs.Lists.{In, first_of}
 use Rattle.iss_base.proofs.Lists.{or-alone, or-assoc}
 use Rattle.iss_buckets.specs.Waiting.{cut, may_cast, uncut}
-use Rattle.iss_ids.proofs.Members.{has_id-and_ids, has_id-append}
+use Rattle.iss_window.proofs.Members.{has_id-and_ids, has_id-append}
 use Rattle.iss_layout.specs.Layout.{Plan, bucket_of, bucket_owner, is_node}
 use Rattle.iss_log.specs.LogState.{ahead_at, value_at}
 use Rattle.iss_model.proofs.Casts.{casting-sound}
 use Rattle.iss_rules.specs.Concrete.{number_of, plan_at, rules_of}
 use Rattle.iss_rules.specs.Formats.{formats_of}
 use Rattle.iss_rules.specs.Parcels.{Formats}
-use Rattle.iss_model.specs.Node.{Core, Dropped, Stepped, Taken, casts_at, first_slot, flown, has_leaves, has_slot, inputs, is_castable, is_mine, next_slot, settles, step}
+use Rattle.iss_model.specs.Node.{Core, Dropped, Stepped, Taken, advance_epochs, casts_at, first_slot, flown, has_leaves, has_slot, is_castable, is_mine, next_slot, step, step_unjudged}
 use Rattle.iss_rules.specs.Past.{Past, before_own, leads_in, log_of, params_of, taken_in}
 use Rattle.iss_model.specs.Sound.{IsSoundCore}
-use Rattle.iss_causes.specs.declared.causes.NodeEvent.TheVariants.{Propose as Proposes}
-use Rattle.iss_causes.specs.declared.causes.Why.TheVariants.{NotLeader, NothingToCast, NoKeys}
+use Rattle.iss_rules.specs.declared.events.NodeEvent.TheVariants.{Propose as On_propose}
+use Rattle.iss_rules.specs.declared.events.Why.TheVariants.{NotLeader, NothingToCast, NoKeys}
 use Rattle.iss_node.proofs.InputLemmas.{own-fair, own-slot}
 use Rattle.iss_node.specs.Casts.{IsCut, casting, is_open}
 use Rattle.iss_node.specs.Flights.{FlightState}
-use Rattle.iss_node.specs.Shape.{IsReplica}
-use Rattle.iss_node.specs.State.{IsTied, ReplicaState, core_of, led}
+use Rattle.iss_node.specs.Shape.{IsNodeState}
+use Rattle.iss_node.specs.State.{RefinesPast, StateView, core_of, led}
 use Rattle.iss_node.specs.Steps.{IsTurnOf, IsTurned}
 use Rattle.iss_node.specs.declared.answers.Outcome.{Outcome}
 use Rattle.iss_request.specs.Log.{has_id, ids}
@@ -62,19 +62,19 @@ held [] s lt = absurd (omega (arith, lt))
 held (x ∷ xs) zero lt = (x, refl)
 held (x ∷ xs) (suc s) lt = held xs s (omega (arith, lt))
 
-module _ {M Msg : Type 0} (m : Module Msg) (stands : M → Params → ℕ → List (Item Msg) → Type 0)
-    (v : ReplicaState M Msg) (shape : IsReplica m v) (past : Past Msg) (tied : IsTied m stands v past) where
+module _ {M Msg : Type 0} (m : Module Msg) (refines : M → Params → ℕ → List (Item Msg) → Type 0)
+    (v : StateView M Msg) (shape : IsNodeState m v) (past : Past Msg) (tied : RefinesPast m refines v past) where
   pub mine-is : (g : SegmentState M) → led v.segments v.me.0 ≡ Some g → (q : Request) → may_cast v.plan v.me.0 g.marked q ≡ is_mine (rules_of v.setup) m v.me.0 (core_of v past) q
   mine-is g at q =
       let plan = plan_at v.setup (before_own (rules_of v.setup) m v.me.0 past) past.epoch in
-      let owned = (own-fair m stands v shape past tied).owned (bucket_of plan q.id) in
+      let owned = (own-fair m refines v shape past tied).owned (bucket_of plan q.id) in
       let marked = (tied.instances v.me.0 g at).instance.marked in
       ap (λ (p : Plan). may_cast p v.me.0 g.marked q) tied.rests.divided
       ∙ ap (λ (b : Bool). b && not (has_id q.id g.marked)) (owner-is v.me.0 (bucket_owner plan (bucket_of plan q.id)) owned.owner owned.is)
       ∙ ap (λ (b : Bool). (number_of (bucket_owner plan (bucket_of plan q.id)) == v.me.0) && not b) (marked q.id)
 
   -- a node keeps what it is tied to after a cut
-  module _ (F : Formats Msg) (u : ReplicaState M Msg) (slot : Slot) (batch : Batch) (h : IsCut v u slot batch) where
+  module _ (F : Formats Msg) (u : StateView M Msg) (slot : Slot) (batch : Batch) (h : IsCut v u slot batch) where
     mine : Request → Bool
     mine = is_mine (rules_of v.setup) m v.me.0 (core_of v past)
 
@@ -91,7 +91,7 @@ module _ {M Msg : Type 0} (m : Module Msg) (stands : M → Params → ℕ → Li
         ≡ core_of (record v { waiting = u.waiting; flight = u.flight }) past
     cut-core = λ t. record { past = past; waiting = sym left t; flight = sym casts t; early = (core_of v past).early; votes = []; certs = []; leaf = v.keys.used }
 
-    pub cut-tied : IsTied m stands (record v { waiting = u.waiting; flight = u.flight }) past
+    pub cut-tied : RefinesPast m refines (record v { waiting = u.waiting; flight = u.flight }) past
     cut-tied = record {
       epoch = tied.epoch;
       log = tied.log;
@@ -115,16 +115,16 @@ module _ {M Msg : Type 0} (m : Module Msg) (stands : M → Params → ℕ → Li
     }
 
     -- the turn of a cast
-    pub cast-turned : (w : ReplicaState M Msg) (o : Outcome) (i : ℕ) → i ≡ u.me.0 → IsTurnOf m stands u (λ F R me c. inputs F R m me c i (Cast slot batch)) w o → IsTurned m stands (casting (formats_of v.setup m) (rules_of v.setup) m v.me.0 (core_of v past) slot) w o
+    pub cast-turned : (w : StateView M Msg) (o : Outcome) (i : ℕ) → i ≡ u.me.0 → IsTurnOf m refines u (λ F R me c. step_unjudged F R m me c i (Cast slot batch)) w o → IsTurned m refines (casting (formats_of v.setup m) (rules_of v.setup) m v.me.0 (core_of v past) slot) w o
     cast-turned w o i own all =
-        let u0 : ReplicaState M Msg = record v { waiting = u.waiting; flight = u.flight } in
-        let mine_is : i ≡ v.me.0 = own ∙ ap (λ (z : ReplicaState M Msg). z.me.0) h.rest in
-        let there : IsTurnOf m stands u0 (λ F R me c. inputs F R m me c i (Cast slot batch)) w o = subst (λ (z : ReplicaState M Msg). IsTurnOf m stands z (λ F R me c. inputs F R m me c i (Cast slot batch)) w o) h.rest all in
+        let u0 : StateView M Msg = record v { waiting = u.waiting; flight = u.flight } in
+        let mine_is : i ≡ v.me.0 = own ∙ ap (λ (z : StateView M Msg). z.me.0) h.rest in
+        let there : IsTurnOf m refines u0 (λ F R me c. step_unjudged F R m me c i (Cast slot batch)) w o = subst (λ (z : StateView M Msg). IsTurnOf m refines z (λ F R me c. step_unjudged F R m me c i (Cast slot batch)) w o) h.rest all in
         let turn = there past cut-tied in
-        let at_me : IsTurned m stands (inputs (formats_of v.setup m) (rules_of v.setup) m v.me.0 (core_of u0 past) v.me.0 (Cast slot batch)) w o =
-        subst (λ (k : ℕ). IsTurned m stands (inputs (formats_of v.setup m) (rules_of v.setup) m v.me.0 (core_of u0 past) k (Cast slot batch)) w o) mine_is turn in
-        subst (λ (c : Core Msg). IsTurned m stands (inputs (formats_of v.setup m) (rules_of v.setup) m v.me.0 c v.me.0 (Cast slot (cut v.setup.batch (is_mine (rules_of v.setup) m v.me.0 (core_of v past)) v.waiting))) w o) (sym cut-core)
-        (subst (λ (b : Batch). IsTurned m stands (inputs (formats_of v.setup m) (rules_of v.setup) m v.me.0 (core_of u0 past) v.me.0 (Cast slot b)) w o) taken at_me)
+        let at_me : IsTurned m refines (step_unjudged (formats_of v.setup m) (rules_of v.setup) m v.me.0 (core_of u0 past) v.me.0 (Cast slot batch)) w o =
+        subst (λ (k : ℕ). IsTurned m refines (step_unjudged (formats_of v.setup m) (rules_of v.setup) m v.me.0 (core_of u0 past) k (Cast slot batch)) w o) mine_is turn in
+        subst (λ (c : Core Msg). IsTurned m refines (step_unjudged (formats_of v.setup m) (rules_of v.setup) m v.me.0 c v.me.0 (Cast slot (cut v.setup.batch (is_mine (rules_of v.setup) m v.me.0 (core_of v past)) v.waiting))) w o) (sym cut-core)
+        (subst (λ (b : Batch). IsTurned m refines (step_unjudged (formats_of v.setup m) (rules_of v.setup) m v.me.0 (core_of u0 past) v.me.0 (Cast slot b)) w o) taken at_me)
 
   -- ---- the next slot
 
@@ -141,7 +141,7 @@ module _ {M Msg : Type 0} (m : Module Msg) (stands : M → Params → ℕ → Li
   -- the value of a slot of the node's own segment
   pub value-is : (l : ℕ) (s : Slot) → In s (params_of (rules_of v.setup) m v.me.0 past l).slots → value_at v.log s.0 ≡ delivered m (params_of (rules_of v.setup) m v.me.0 past l) v.me.0 (taken_in past l) s.0
   value-is l s i =
-      let own = own-slot m stands v shape past tied s.0 l i in
+      let own = own-slot m refines v shape past tied s.0 l i in
       let q = tied.start in
       tied.cells s.0 (omega (arith, q, own.0)) (omega (arith, q, own.1))
       ∙ ap (λ (k : ℕ). delivered m ((rules_of v.setup).params (before_own (rules_of v.setup) m v.me.0 past) past.epoch k) v.me.0 (taken_in past k) s.0) own.2
@@ -165,7 +165,7 @@ module _ {M Msg : Type 0} (m : Module Msg) (stands : M → Params → ℕ → Li
       go false q = refl
 
   pub next-is : (g : SegmentState M) → led v.segments v.me.0 ≡ Some g → (o : Option Slot) (slots : List Slot) → slots ≡ g.params.slots →
-      ((xs : List (Item Msg)) → IsInstance stands g xs → o ≡ first_slot (is_open m g.params g.me.0 xs v.log v.flight.casts) slots) → o ≡ next_slot (rules_of v.setup) m v.me.0 (core_of v past)
+      ((xs : List (Item Msg)) → IsInstance refines g xs → o ≡ first_slot (is_open m g.params g.me.0 xs v.log v.flight.casts) slots) → o ≡ next_slot (rules_of v.setup) m v.me.0 (core_of v past)
   next-is g at o slots slots_is h =
       let here = tied.instances v.me.0 g at in
       let p = params_of (rules_of v.setup) m v.me.0 past v.me.0 in
@@ -184,11 +184,11 @@ module _ {M Msg : Type 0} (m : Module Msg) (stands : M → Params → ℕ → Li
 
   abbrev pub proposed : Formats Msg → Bool → Option Slot → Stepped Msg
   proposed F b None = Dropped NothingToCast
-  proposed F b (Some s) = cond (not b) (Dropped NoKeys) (Taken (settles F (rules_of v.setup) m v.me.0 (casting F (rules_of v.setup) m v.me.0 (core_of v past) s)))
+  proposed F b (Some s) = cond (not b) (Dropped NoKeys) (Taken (advance_epochs F (rules_of v.setup) m v.me.0 (casting F (rules_of v.setup) m v.me.0 (core_of v past) s)))
 
   pub proposal-is : (F : Formats Msg) (a b : Bool) (o : Option Slot) →
       leads_in (rules_of v.setup) m v.me.0 past v.me.0 ≡ a → next_slot (rules_of v.setup) m v.me.0 (core_of v past) ≡ o → has_leaves m (params_of (rules_of v.setup) m v.me.0 past v.me.0) v.keys.used ≡ b →
-      step F (rules_of v.setup) m v.me.0 (core_of v past) Proposes ≡ cond (not a) (Dropped NotLeader) (proposed F b o)
+      step F (rules_of v.setup) m v.me.0 (core_of v past) On_propose ≡ cond (not a) (Dropped NotLeader) (proposed F b o)
   proposal-is F a b o ha ho hb =
       let no_leader : Stepped Msg = Dropped NotLeader in
       ap (λ (x : Bool). cond (not x) no_leader (casts_at F (rules_of v.setup) m v.me.0 (core_of v past) (next_slot (rules_of v.setup) m v.me.0 (core_of v past)))) ha
@@ -197,7 +197,7 @@ module _ {M Msg : Type 0} (m : Module Msg) (stands : M → Params → ℕ → Li
     where
       last : (z : Option Slot) → casts_at F (rules_of v.setup) m v.me.0 (core_of v past) z ≡ proposed F b z
       last None = refl
-      last (Some s) = let no_keys : Stepped Msg = Dropped NoKeys in ap (λ (x : Bool). cond (not x) no_keys (Taken (settles F (rules_of v.setup) m v.me.0 (casting F (rules_of v.setup) m v.me.0 (core_of v past) s)))) hb
+      last (Some s) = let no_keys : Stepped Msg = Dropped NoKeys in ap (λ (x : Bool). cond (not x) no_keys (Taken (advance_epochs F (rules_of v.setup) m v.me.0 (casting F (rules_of v.setup) m v.me.0 (core_of v past) s)))) hb
 
 -- ---- the slots that are open
 

@@ -15,8 +15,8 @@ use Rattle.iss_rules.specs.Past.{Past, leads_in, params_of}
 use Rattle.iss_model.specs.Views.{claims_of_parcel}
 use Rattle.iss_node.proofs.InstanceLemmas.{leads-is}
 use Rattle.iss_node.specs.Inputs.{IsHandedOut}
-use Rattle.iss_node.specs.Shape.{IsReplica}
-use Rattle.iss_node.specs.State.{IsTied, ReplicaState, core_of, led}
+use Rattle.iss_node.specs.Shape.{IsNodeState}
+use Rattle.iss_node.specs.State.{RefinesPast, StateView, core_of, led}
 use Rattle.iss_node.specs.declared.answers.Outcome.{Outcome}
 use Rattle.iss_packet.specs.declared.packets.Packet.{Packet}
 use Rattle.iss_request.specs.declared.ids.NodeId.{NodeId}
@@ -28,21 +28,21 @@ use Rattle.iss_sb.specs.declared.effects.To.{To}
 use Rattle.iss_segment.specs.Instance.{SegmentState}
 
 -- a node of the cluster is one of an instance's
-pub below : {M Msg : Type 0} (m : Module Msg) (v : ReplicaState M Msg) → IsReplica m v → (l k : ℕ) (g : SegmentState M) → Some g ≡ led v.segments l → k < v.setup.n → k < g.params.setup.n
+pub below : {M Msg : Type 0} (m : Module Msg) (v : StateView M Msg) → IsNodeState m v → (l k : ℕ) (g : SegmentState M) → Some g ≡ led v.segments l → k < v.setup.n → k < g.params.setup.n
 below m v shape l k g at lt = subst (λ (s : Setup). k < s.n) (sym (shape.segments l g (sym at)).setup) lt
 
-module _ {M Msg : Type 0} (m : Module Msg) (stands : M → Params → ℕ → List (Item Msg) → Type 0)
-    (v : ReplicaState M Msg) (past : Past Msg) (tied : IsTied m stands v past) (from l : ℕ) (msg : Msg) where
+module _ {M Msg : Type 0} (m : Module Msg) (refines : M → Params → ℕ → List (Item Msg) → Type 0)
+    (v : StateView M Msg) (past : Past Msg) (tied : RefinesPast m refines v past) (from l : ℕ) (msg : Msg) where
   -- the claims of a message whose leader leads, and of one whose leader does not
   pub claims-led : (g : SegmentState M) → Some g ≡ led v.segments l → (claims : List Claim) → claims ≡ m.claims g.params from msg → claims ≡ claims_in (rules_of v.setup) m v.me.0 past from l msg
   claims-led g at claims is =
-      let lead : leads_in (rules_of v.setup) m v.me.0 past l ≡ true = leads-is m stands v past tied l true (ap (λ (o : Option (SegmentState M)). is_some o) at) in
+      let lead : leads_in (rules_of v.setup) m v.me.0 past l ≡ true = leads-is m refines v past tied l true (ap (λ (o : Option (SegmentState M)). is_some o) at) in
       let same : claims ≡ m.claims (params_of (rules_of v.setup) m v.me.0 past l) from msg = is ∙ ap (λ (p : Params). m.claims p from msg) (tied.instances l g (sym at)).params in
       same ∙ sym (ap (λ (b : Bool). cond b (m.claims (params_of (rules_of v.setup) m v.me.0 past l) from msg) []) lead)
 
   pub claims-none : None ≡ led v.segments l → (claims : List Claim) → claims ≡ [] → claims ≡ claims_in (rules_of v.setup) m v.me.0 past from l msg
   claims-none at claims is =
-      let lead : leads_in (rules_of v.setup) m v.me.0 past l ≡ false = leads-is m stands v past tied l false (ap (λ (o : Option (SegmentState M)). is_some o) at) in
+      let lead : leads_in (rules_of v.setup) m v.me.0 past l ≡ false = leads-is m refines v past tied l false (ap (λ (o : Option (SegmentState M)). is_some o) at) in
       is ∙ sym (ap (λ (b : Bool). cond b (m.claims (params_of (rules_of v.setup) m v.me.0 past l) from msg) []) lead)
 
   -- where the leader leads, they are those of the instance
@@ -50,17 +50,17 @@ module _ {M Msg : Type 0} (m : Module Msg) (stands : M → Params → ℕ → Li
   claims-there lead = ap (λ (b : Bool). cond b (m.claims (params_of (rules_of v.setup) m v.me.0 past l) from msg) []) lead
 
 -- what the message of a packet claims that is of the node's epoch, and of one that is not
-pub packet-now : {M Msg : Type 0} (m : Module Msg) (stands : M → Params → ℕ → List (Item Msg) → Type 0) (v : ReplicaState M Msg) (past : Past Msg) (tied : IsTied m stands v past) (p : Packet) (msg : Msg) → p.epoch.0 ≡ v.epoch →
+pub packet-now : {M Msg : Type 0} (m : Module Msg) (refines : M → Params → ℕ → List (Item Msg) → Type 0) (v : StateView M Msg) (past : Past Msg) (tied : RefinesPast m refines v past) (p : Packet) (msg : Msg) → p.epoch.0 ≡ v.epoch →
     (claims : List Claim) → claims ≡ claims_in (rules_of v.setup) m v.me.0 past p.from p.leader msg → claims ≡ claims_of_parcel (rules_of v.setup) m v.me.0 (core_of v past) (message_in p (Some msg))
-packet-now m stands v past tied p msg is claims same =
+packet-now m refines v past tied p msg is claims same =
     let q = tied.epoch in
     let now : eqb p.epoch.0 past.epoch ≡ true = grind (arith, nat_tests, q, is) in
     same ∙ sym (ap (λ (b : Bool). cond b (claims_in (rules_of v.setup) m v.me.0 past p.from p.leader msg) []) now)
 
-pub packet-other : {M Msg : Type 0} (m : Module Msg) (stands : M → Params → ℕ → List (Item Msg) → Type 0) (v : ReplicaState M Msg) (past : Past Msg) (tied : IsTied m stands v past) (p : Packet) (o : Option Msg) → eqb p.epoch.0 v.epoch ≡ false →
+pub packet-other : {M Msg : Type 0} (m : Module Msg) (refines : M → Params → ℕ → List (Item Msg) → Type 0) (v : StateView M Msg) (past : Past Msg) (tied : RefinesPast m refines v past) (p : Packet) (o : Option Msg) → eqb p.epoch.0 v.epoch ≡ false →
     (claims : List Claim) → claims ≡ [] → claims ≡ claims_of_parcel (rules_of v.setup) m v.me.0 (core_of v past) (message_in p o)
-packet-other m stands v past tied p None other claims none = none
-packet-other m stands v past tied p (Some msg) other claims none =
+packet-other m refines v past tied p None other claims none = none
+packet-other m refines v past tied p (Some msg) other claims none =
     let over : eqb p.epoch.0 past.epoch ≡ false = ap (λ (k : ℕ). eqb p.epoch.0 k) (sym tied.epoch) ∙ other in
     none ∙ sym (ap (λ (b : Bool). cond b (claims_in (rules_of v.setup) m v.me.0 past p.from p.leader msg) []) over)
 
@@ -91,7 +91,7 @@ own-next {Msg} m p me xs i x lt is =
     sym (ap (λ (ys : List (To × Msg)). own_claims m p me ys) q ∙ own-append m p me (take i xs) x)
 
 -- what is handed out goes by the parts that an input leaves as they are
-pub handed-same : {M Msg : Type 0} (m : Module Msg) (v w : ReplicaState M Msg) (l : ℕ) (sends : List (To × Msg)) (hashed : List (List ℕ)) (o : Outcome) →
+pub handed-same : {M Msg : Type 0} (m : Module Msg) (v w : StateView M Msg) (l : ℕ) (sends : List (To × Msg)) (hashed : List (List ℕ)) (o : Outcome) →
     w.setup ≡ v.setup → w.me ≡ v.me → w.epoch ≡ v.epoch → w.segments ≡ v.segments → IsHandedOut m w l sends hashed o → IsHandedOut m v l sends hashed o
 handed-same m v w l sends hashed o s i e g h = record {
   sent = h.sent ∙ ap (λ (z : Setup). packed (formats_of z m) w.me.0 w.epoch l sends) s ∙ ap (λ (z : NodeId). packed (formats_of v.setup m) z.0 w.epoch l sends) i ∙ ap (λ (z : ℕ). packed (formats_of v.setup m) v.me.0 z l sends) e;

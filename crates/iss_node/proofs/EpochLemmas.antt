@@ -4,7 +4,7 @@ use Rattle.std.specs.List.{filter}
 use Rattle.std.proofs.Math.Seq.{take-suc}
 use Rattle.std.proofs.lemmas.List.{length-reverse}
 use Rattle.iss_base.specs.Lists.{Extends}
-use Rattle.iss_ids.proofs.Members.{has_id-append}
+use Rattle.iss_window.proofs.Members.{has_id-append}
 use Rattle.iss_layout.proofs.PastLemmas.{epochs-kept, slots-in}
 use Rattle.iss_layout.specs.Layout.{Conduct, Ended, IsStanding, Plan, conduct_of, epochs, next_ended, nils_in, plan_by, slots_from, slots_in}
 use Rattle.iss_keys.specs.Directories.{AreKeysOf}
@@ -23,8 +23,8 @@ use Rattle.iss_node.proofs.GrowthLemmas.{log_ids-append}
 use Rattle.iss_node.proofs.TiedLemmas.{bf-long, bf-part, bounded, split-log}
 use Rattle.iss_node.proofs.OwnEpoch.{has-slots, start-is}
 use Rattle.iss_node.specs.Epochs.{AreStarted, notes, params_by}
-use Rattle.iss_node.specs.Shape.{IsReplica}
-use Rattle.iss_node.specs.State.{AreParts, IsTied, IsTiedOver, ReplicaState, core_of, slot_value}
+use Rattle.iss_node.specs.Shape.{IsNodeState}
+use Rattle.iss_node.specs.State.{RefinesBareCore, RefinesPast, RefinesPastOver, StateView, core_of, slot_value}
 use Rattle.iss_request.specs.Log.{has_id, log_ids, same_id}
 use Rattle.iss_request.specs.declared.ids.ReqId.{ReqId}
 use Rattle.iss_request.specs.declared.ids.Slot.{Slot}
@@ -33,8 +33,8 @@ use Rattle.iss_sb.specs.Evidence.{Item, Module, accepts, delivered}
 use Rattle.iss_sb.specs.declared.effects.Params.{Params}
 use Rattle.iss_segment.specs.Ground.{RestsOn, noted_before}
 use Rattle.iss_segment.specs.Instance.{IsInstance, SameIds, SegmentState}
-use Rattle.iss_window.proofs.KeptLemmas.{stands-same}
-use Rattle.iss_window.specs.Kept.{Kept, StandsFor}
+use Rattle.iss_window.proofs.KeptLemmas.{refines-same}
+use Rattle.iss_window.specs.Kept.{Kept, RefinesNoted}
 use Rattle.iss_window.specs.Window.{Noted, and_closed, and_noted}
 
 -- ---- what was noted
@@ -61,7 +61,7 @@ notes-next n xs i d lt =
 -- ---- parts whose epoch is over
 
 -- a past in the next epoch has their log, and all of it stands before that epoch; before was the log before theirs
-pub record IsOver {M Msg : Type 0} (m : Module Msg) (v : ReplicaState M Msg) (before : List Value) (past : Past Msg) : Type 0 where
+pub record IsOver {M Msg : Type 0} (m : Module Msg) (v : StateView M Msg) (before : List Value) (past : Past Msg) : Type 0 where
   pub epoch : v.epoch ≡ past.epoch
   pub log : log_of (rules_of v.setup) m v.me.0 (advanced past) ≡ reverse v.log.entries
   pub own : before_own (rules_of v.setup) m v.me.0 (advanced past) ≡ reverse v.log.entries
@@ -81,11 +81,11 @@ pub record IsOver {M Msg : Type 0} (m : Module Msg) (v : ReplicaState M Msg) (be
   pub keys : AreKeysOf v.me.0 v.setup.keys v.keys
 
 -- such are those that are tied to a past whose epoch is complete
-pub over-tied : {M Msg : Type 0} (m : Module Msg) (stands : M → Params → ℕ → List (Item Msg) → Type 0) (v : ReplicaState M Msg) (shape : IsReplica m v) (past : Past Msg) (tied : IsTied m stands v past) →
+pub over-tied : {M Msg : Type 0} (m : Module Msg) (refines : M → Params → ℕ → List (Item Msg) → Type 0) (v : StateView M Msg) (shape : IsNodeState m v) (past : Past Msg) (tied : RefinesPast m refines v past) →
     is_complete (rules_of v.setup) m v.me.0 past ≡ true → IsOver m v (before_own (rules_of v.setup) m v.me.0 past) past
-over-tied m stands v shape past tied complete =
+over-tied m refines v shape past tied complete =
     let slots = has-slots v.setup shape.good.good in
-    let low = bounded m stands v shape past tied in
+    let low = bounded m refines v shape past tied in
     record {
       epoch = tied.epoch;
       log = advanced-log (rules_of v.setup) slots m v.me.0 past low ∙ tied.log;
@@ -98,8 +98,8 @@ over-tied m stands v shape past tied complete =
       rests = tied.rests;
       standing = tied.standing;
       start = tied.start;
-      size = bf-long m stands v shape past tied;
-      part = bf-part m stands v shape past tied;
+      size = bf-long m refines v shape past tied;
+      part = bf-part m refines v shape past tied;
       outside = tied.outside;
       hole = tied.hole;
       logged = λ x. tied.logged x ∙ ap (λ (ys : List Value). has_id x (log_ids (joined v.plan.start ys))) tied.log;
@@ -109,17 +109,17 @@ over-tied m stands v shape past tied complete =
       keys = tied.keys;
     }
 
-module _ {M Msg : Type 0} (m : Module Msg) (stands : M → Params → ℕ → List (Item Msg) → Type 0)
-    (v : ReplicaState M Msg) (slots : v.plan.slots ≡ v.setup.epoch) (before : List Value) (past : Past Msg) (over : IsOver m v before past)
+module _ {M Msg : Type 0} (m : Module Msg) (refines : M → Params → ℕ → List (Item Msg) → Type 0)
+    (v : StateView M Msg) (slots : v.plan.slots ≡ v.setup.epoch) (before : List Value) (past : Past Msg) (over : IsOver m v before past)
     (windows : Kept) (standing : List Conduct) (plan : Plan) (segments : List (Option (SegmentState M)))
     (fits : v.plan.start + v.setup.epoch + v.setup.epoch < 2 ^ 64)
     (learned : (p : List Ended) → IsStanding v.setup p v.standing →
     IsStanding v.setup (record { plan = v.plan; nils = filter (λ (s : Slot). is_nil_at (reverse v.log.entries) s.0) (slots_from v.plan.start v.setup.epoch) } ∷ p) standing)
-    (closed : (n : Noted) → StandsFor v.windows n → StandsFor windows (and_closed (notes n v.logged)))
+    (closed : (n : Noted) → RefinesNoted v.windows n → RefinesNoted windows (and_closed (notes n v.logged)))
     (width : windows.width ≡ v.windows.width)
     (divided : (p : List Ended) → IsStanding v.setup p standing → plan ≡ plan_by v.setup (v.epoch + 1) (v.plan.start + v.setup.epoch) (conduct_of p))
-    (started : AreStarted stands v.setup v.me (v.epoch + 1) plan segments) where
-  abbrev pub opened : ReplicaState M Msg
+    (started : AreStarted refines v.setup v.me (v.epoch + 1) plan segments) where
+  abbrev pub opened : StateView M Msg
   opened = record {
     setup = v.setup;
     me = v.me;
@@ -196,11 +196,11 @@ module _ {M Msg : Type 0} (m : Module Msg) (stands : M → Params → ℕ → Li
       ∙ sym (ap (λ (ys : List ReqId). has_id x ys) (log_ids-append (joined v.plan.start (reverse v.log.entries)) before))
       ∙ sym (ap (λ (ys : List Value). has_id x (log_ids ys)) whole)
 
-  noted-is : StandsFor windows (noted_before (reverse v.log.entries))
+  noted-is : RefinesNoted windows (noted_before (reverse v.log.entries))
   noted-is =
       let all : (x : ReqId) → has_id x (notes (noted_before before) v.logged).all ≡ has_id x (log_ids (reverse v.log.entries)) =
       λ x. noted-all x v.logged (noted_before before) ∙ members x in
-      stands-same windows (and_closed (notes (noted_before before) v.logged)) (noted_before (reverse v.log.entries))
+      refines-same windows (and_closed (notes (noted_before before) v.logged)) (noted_before (reverse v.log.entries))
       (closed (noted_before before) over.rests.noted) all all
 
   empty : (k : ℕ) → suc past.epoch * v.setup.epoch ≤ k → value_at v.log k ≡ None
@@ -214,7 +214,7 @@ module _ {M Msg : Type 0} (m : Module Msg) (stands : M → Params → ℕ → Li
   params-is : (l : ℕ) → params_by v.setup (v.epoch + 1) plan l ≡ (rules_of v.setup).params (reverse v.log.entries) (suc past.epoch) l
   params-is l = ap (λ (k : ℕ). params_by v.setup k plan l) at ∙ ap (λ (p : Plan). params_by v.setup (suc past.epoch) p l) plan-is
 
-  tied-over : IsTiedOver m stands opened (advanced past) (reverse v.log.entries)
+  tied-over : RefinesPastOver m refines opened (advanced past) (reverse v.log.entries)
   tied-over = record {
     epoch = at;
     log = over.log;
@@ -230,7 +230,7 @@ module _ {M Msg : Type 0} (m : Module Msg) (stands : M → Params → ℕ → Li
     instances = λ l g h. record {
       params = started.params l g h ∙ params-is l;
       node = started.node l g h;
-      instance = subst (λ (ys : List (Item Msg)). IsInstance stands g ys) (sym (over.unborn l)) (started.instances l g h);
+      instance = subst (λ (ys : List (Item Msg)). IsInstance refines g ys) (sym (over.unborn l)) (started.instances l g h);
     };
     accepted = λ l. sym (ap (λ (ys : List (Item Msg)). accepts ys) (over.unborn l));
     logged = λ x.
@@ -242,14 +242,14 @@ module _ {M Msg : Type 0} (m : Module Msg) (stands : M → Params → ℕ → Li
     keys = over.keys;
   }
 
-  pub parts-opened : AreParts m stands opened (in_next_epoch (core_of v past))
-  parts-opened = record { core = refl; tied = subst (λ (ys : List Value). IsTiedOver m stands opened (advanced past) ys) (sym over.own) tied-over }
+  pub parts-opened : RefinesBareCore m refines opened (in_next_epoch (core_of v past))
+  parts-opened = record { core = refl; tied = subst (λ (ys : List Value). RefinesPastOver m refines opened (advanced past) ys) (sym over.own) tied-over }
 
 -- ---- whether the epoch is over
 
-pub complete-is : {M Msg : Type 0} (m : Module Msg) (stands : M → Params → ℕ → List (Item Msg) → Type 0) (v : ReplicaState M Msg) (past : Past Msg) → IsTied m stands v past →
+pub complete-is : {M Msg : Type 0} (m : Module Msg) (refines : M → Params → ℕ → List (Item Msg) → Type 0) (v : StateView M Msg) (past : Past Msg) → RefinesPast m refines v past →
     nat_le (v.plan.start + v.setup.epoch) (length v.log.entries) ≡ is_complete (rules_of v.setup) m v.me.0 past
-complete-is m stands v past tied =
+complete-is m refines v past tied =
     let q = tied.start in
     let e : v.plan.start + v.setup.epoch ≡ start_of (rules_of v.setup) (log_of (rules_of v.setup) m v.me.0 past) (suc past.epoch) = let h = start-is v.setup (log_of (rules_of v.setup) m v.me.0 past) (suc past.epoch) in omega (arith, q, h) in
     let n : length v.log.entries ≡ length (log_of (rules_of v.setup) m v.me.0 past) = sym (ap (λ (ys : List Value). length ys) tied.log ∙ length-reverse v.log.entries) in

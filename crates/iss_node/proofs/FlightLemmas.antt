@@ -4,9 +4,9 @@ use Rattle.std.specs.Prelude.{nat_lt}
 use Rattle.std.proofs.lemmas.Bool.Decides.{nat_tests}
 use Rattle.std.proofs.lemmas.List.{append-nil}
 use Rattle.iss_base.specs.Lists.{Different, In}
-use Rattle.iss_ids.proofs.Members.{and-nor, has_id-append}
+use Rattle.iss_window.proofs.Members.{and-nor, has_id-append}
 use Rattle.iss_base.proofs.Lists.{in_append, in_left, in_right, or-alone, or-assoc}
-use Rattle.iss_model.proofs.Flights.{AreParts, flying-ids, ids-carried, ids-within, nil-below, parts-of}
+use Rattle.iss_model.proofs.Flights.{RefinesBareCore, flying-ids, ids-carried, ids-within, nil-below, parts-of}
 use Rattle.iss_rules.proofs.Ids.{ids-append, in-has}
 use Rattle.iss_model.specs.Node.{flown, flying, is_nil_at, returned}
 use Rattle.iss_model.specs.Sound.{carried}
@@ -106,7 +106,7 @@ landed-apart : (n : ℕ) (fs : List (Slot × Batch)) → Different (ids (carried
 landed-apart n [] d x a b = a
 landed-apart n (f ∷ fs) d x a b = let p = parts-of f.1 (carried fs) d in go p (landed-apart n fs p.right x) (nat_lt f.0.0 n) a b
   where
-    go : AreParts f.1 (carried fs) → (In x (ids (carried (landed n fs))) → In x (ids (carried (flying n fs))) → ⊥) → (c : Bool) →
+    go : RefinesBareCore f.1 (carried fs) → (In x (ids (carried (landed n fs))) → In x (ids (carried (flying n fs))) → ⊥) → (c : Bool) →
         In x (ids (carried (cond c (f ∷ landed n fs) (landed n fs)))) → In x (ids (carried (cond c (flying n fs) (f ∷ flying n fs)))) → ⊥
     go p ih true k m = elim (ids-append x f.1 (carried (landed n fs)) k) [ inl y ↦ p.apart x y (flying-ids n fs x m) | inr y ↦ ih y m ]
     go p ih false k m = elim (ids-append x f.1 (carried (flying n fs)) m) [ inl y ↦ p.apart x y (landed-within n fs x k) | inr y ↦ ih k y ]

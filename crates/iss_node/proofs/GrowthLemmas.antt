@@ -4,7 +4,7 @@ use Rattle.std.specs.Prelude.{fold}
 use Rattle.std.proofs.lemmas.List.{append-nil, reverse-append}
 use Rattle.iss_buckets.specs.Waiting.{absent}
 use Rattle.iss_buckets.proofs.WaitingLemmas.{absent_none}
-use Rattle.iss_ids.proofs.Members.{has_id-and_ids, has_id-append}
+use Rattle.iss_window.proofs.Members.{has_id-and_ids, has_id-append}
 use Rattle.iss_model.proofs.Casts.{joined-newer}
 use Rattle.iss_model.specs.Node.{joined}
 use Rattle.iss_node.specs.Growth.{and_values, waits_on}
@@ -13,7 +13,7 @@ use Rattle.iss_request.specs.Log.{has_id, ids, log_ids, value_ids}
 use Rattle.iss_request.specs.declared.ids.ReqId.{ReqId}
 use Rattle.iss_request.specs.declared.requests.Request.{Request}
 use Rattle.iss_request.specs.declared.requests.Value.{Value}
-use Rattle.iss_request.specs.declared.requests.Value.TheVariants.{Nil, Batch as Holds}
+use Rattle.iss_request.specs.declared.requests.Value.TheVariants.{Nil, Batch as Value_batch}
 use Rattle.iss_base.proofs.Lists.{or-flip}
 
 pub log_ids-append : (a b : List Value) → log_ids (a ++ b) ≡ log_ids a ++ log_ids b
@@ -33,7 +33,7 @@ absent-both a b (q ∷ qs) = go (has_id q.id b) refl (has_id q.id a) refl (absen
 
 waits-absent : (v : Value) (g : List ReqId) (qs : List Request) → waits_on (absent g qs) v ≡ absent (value_ids v ++ g) qs
 waits-absent Nil g qs = refl
-waits-absent (Holds b) g qs = absent-both (ids b) g qs
+waits-absent (Value_batch b) g qs = absent-both (ids b) g qs
 
 turned : (v : Value) (vs : List Value) (g : List ReqId) → log_ids (reverse vs) ++ (value_ids v ++ g) ≡ log_ids (reverse (v ∷ vs)) ++ g
 turned v vs g =
@@ -53,7 +53,7 @@ has_id-values x xs Nil = grown (has_id x xs)
     grown : (b : Bool) → b ≡ (b || false)
     grown true = refl
     grown false = refl
-has_id-values x xs (Holds b) = has_id-and_ids x xs b
+has_id-values x xs (Value_batch b) = has_id-and_ids x xs b
 
 or-turn : (a b c : Bool) → ((a || b) || c) ≡ (a || (c || b))
 or-turn true b c = refl

@@ -18,7 +18,7 @@ use Rattle.iss_rules.proofs.Longest.{Bounded}
 use Rattle.iss_rules.specs.Concrete.{number_of, plan_at, rules_of, start_at}
 use Rattle.iss_rules.specs.Formats.{formats_of}
 use Rattle.iss_rules.specs.Parcels.{Formats}
-use Rattle.iss_model.specs.Node.{Core, inputs, own_claims, packed, returned}
+use Rattle.iss_model.specs.Node.{Core, own_claims, packed, returned, step_unjudged}
 use Rattle.iss_rules.specs.Past.{Past, before_own, log_of, params_of, taken_in, takes}
 use Rattle.iss_model.specs.Sound.{IsSoundCore}
 use Rattle.iss_rules.proofs.Layouts.{start-times}
@@ -29,8 +29,8 @@ use Rattle.iss_node.specs.Cells.{given}
 use Rattle.iss_node.specs.Flights.{FlightState, IsLanded}
 use Rattle.iss_node.specs.Growth.{IsGrown, and_values, waits_on}
 use Rattle.iss_node.specs.Inputs.{and_accepted}
-use Rattle.iss_node.specs.Shape.{IsReplica}
-use Rattle.iss_node.specs.State.{AreParts, IsLed, IsTied, IsTiedOver, ReplicaState, accepted_of, core_of, led, slot_value}
+use Rattle.iss_node.specs.Shape.{IsNodeState}
+use Rattle.iss_node.specs.State.{IsLed, RefinesBareCore, RefinesPast, RefinesPastOver, StateView, accepted_of, core_of, led, slot_value}
 use Rattle.iss_node.specs.Steps.{IsMade}
 use Rattle.iss_node.specs.declared.answers.Accepted.{Accepted}
 use Rattle.iss_node.specs.declared.answers.Outcome.{Outcome}
@@ -51,7 +51,7 @@ use Rattle.iss_sb.specs.declared.effects.To.{To}
 use Rattle.iss_segment.specs.Answers.{IsInstanceTaken}
 use Rattle.iss_segment.specs.Ground.{noted_before}
 use Rattle.iss_segment.specs.Instance.{IsInstance, SegmentState}
-use Rattle.iss_window.specs.Kept.{StandsFor}
+use Rattle.iss_window.specs.Kept.{RefinesNoted}
 
 abbrev pub slot_at : ℕ → Slot
 slot_at k = record { 0 = k }
@@ -80,8 +80,8 @@ reverse-one xs (Some a) = reverse-append xs (a ∷ [])
 
 -- ---- a node in its epoch
 
-module _ {M Msg : Type 0} (m : Module Msg) (stands : M → Params → ℕ → List (Item Msg) → Type 0)
-    (v : ReplicaState M Msg) (shape : IsReplica m v) (past : Past Msg) (tied : IsTied m stands v past) where
+module _ {M Msg : Type 0} (m : Module Msg) (refines : M → Params → ℕ → List (Item Msg) → Type 0)
+    (v : StateView M Msg) (shape : IsNodeState m v) (past : Past Msg) (tied : RefinesPast m refines v past) where
   abbrev pub bf : List Value
   bf = before_own (rules_of v.setup) m v.me.0 past
 
@@ -107,7 +107,7 @@ module _ {M Msg : Type 0} (m : Module Msg) (stands : M → Params → ℕ → Li
   -- ---- the input of the instance of a leader
 
   module _ (laws : IsLawful m) (leader : NodeId) (input : Input Msg) (ef : Effects Msg) (was is : SegmentState M) (keys : KeyState)
-      (at : led v.segments leader.0 ≡ Some was) (taken : IsInstanceTaken m stands was is input v.keys keys ef)
+      (at : led v.segments leader.0 ≡ Some was) (taken : IsInstanceTaken m refines was is input v.keys keys ef)
       (log : LogState) (held : ℕ) (grown : IsGrown v.log ef.delivers log held) where
     abbrev P : Params
     P = (rules_of v.setup).params (before_own (rules_of v.setup) m v.me.0 past) past.epoch leader.0
@@ -121,7 +121,7 @@ module _ {M Msg : Type 0} (m : Module Msg) (stands : M → Params → ℕ → Li
     abbrev pub next : Past Msg
     next = takes (rules_of v.setup) m v.me.0 past leader.0 input v.keys.used
 
-    here : IsLed stands P v.me xs was
+    here : IsLed refines P v.me xs was
     here = tied.instances leader.0 was at
 
     own : AreKeysOf was.me.0 was.params.setup.keys v.keys
@@ -180,7 +180,7 @@ module _ {M Msg : Type 0} (m : Module Msg) (stands : M → Params → ℕ → Li
     outside : (k : ℕ) → past.epoch * v.setup.epoch + v.setup.epoch ≤ k → value_at log k ≡ None
     outside k le = let q = tied.start in kept k None (tied.outside k (omega (arith, q, le))) (none-given k (λ x h. let lt = (given-own k x h).1 in absurd (omega (arith, lt, le))))
 
-    turn-sound : (F : Formats Msg) → IsSoundCore (rules_of v.setup) m v.me.0 (inputs F (rules_of v.setup) m v.me.0 (core_of v past) leader.0 input).core
+    turn-sound : (F : Formats Msg) → IsSoundCore (rules_of v.setup) m v.me.0 (step_unjudged F (rules_of v.setup) m v.me.0 (core_of v past) leader.0 input).core
     turn-sound F = inputs-sound F (rules_of v.setup) m v.me.0 (core_of v past) leader.0 input tied.sound
 
     later : Later (rules_of v.setup) past next
@@ -195,7 +195,7 @@ module _ {M Msg : Type 0} (m : Module Msg) (stands : M → Params → ℕ → Li
     pub new-log : log_of (rules_of v.setup) m v.me.0 next ≡ reverse log.entries
     new-log =
         let was_log : IsLog (rules_of v.setup) m v.me.0 past (reverse v.log.entries) = subst (λ (ys : List Value). IsLog (rules_of v.setup) m v.me.0 past ys) tied.log (log-chain (rules_of v.setup) m v.me.0 past) in
-        log-is v.setup shape.good.good m v.me.0 next next-bounded (before_own (rules_of v.setup) m v.me.0 past) (bf-long m stands v shape past tied) log cells outside grown.hole v.log.entries grown.joined grown.entries (bf-part m stands v shape past tied)
+        log-is v.setup shape.good.good m v.me.0 next next-bounded (before_own (rules_of v.setup) m v.me.0 past) (bf-long m refines v shape past tied) log cells outside grown.hole v.log.entries grown.joined grown.entries (bf-part m refines v shape past tied)
         (log-kept (rules_of v.setup) m v.me.0 past next later (reverse v.log.entries) was_log)
 
     pub before-next : before_own (rules_of v.setup) m v.me.0 next ≡ before_own (rules_of v.setup) m v.me.0 past
@@ -208,10 +208,10 @@ module _ {M Msg : Type 0} (m : Module Msg) (stands : M → Params → ℕ → Li
         (notes : accepted ≡ and_accepted leader v.accepted ef.accepted)
         (joins : logged ≡ fold and_values v.logged grown.joined)
         (lands : IsLanded v.flight flight (length log.entries))
-        (returns : (all : List ReqId) (before : List Value) → StandsFor v.windows (noted_before before) → ((x : ReqId) → has_id x all ≡ (has_id x logged || has_id x (log_ids before))) →
+        (returns : (all : List ReqId) (before : List Value) → RefinesNoted v.windows (noted_before before) → ((x : ReqId) → has_id x all ≡ (has_id x logged || has_id x (log_ids before))) →
         AreNew (fold waits_on v.waiting grown.joined) (absent all (returned (reverse log.entries) v.flight.casts)) →
         waiting ≡ fold waits_on v.waiting grown.joined ++ absent all (returned (reverse log.entries) v.flight.casts)) where
-      abbrev pub after : ReplicaState M Msg
+      abbrev pub after : StateView M Msg
       after = record {
         setup = v.setup;
         me = v.me;
@@ -233,14 +233,14 @@ module _ {M Msg : Type 0} (m : Module Msg) (stands : M → Params → ℕ → Li
       }
 
       filed : (F : Formats Msg) → AreRefiled m v past next keys.used waiting flight logged
-      filed F = are-refiled m stands v shape past tied next keys.used log grown.joined grown.entries new-log (turn-sound F).different waiting flight logged joins lands returns
+      filed F = are-refiled m refines v shape past tied next keys.used log grown.joined grown.entries new-log (turn-sound F).different waiting flight logged joins lands returns
 
       leaf-core : keys.used ≡ v.keys.used + (m.makes P v.me.0 xs input v.keys.used).used
       leaf-core =
           subst (λ (p : Params). keys.used ≡ v.keys.used + (m.makes p v.me.0 xs input v.keys.used).used) here.params
           (subst (λ (i : NodeId). keys.used ≡ v.keys.used + (m.makes was.params i.0 xs input v.keys.used).used) here.node (taken.used xs here.instance own))
 
-      pub core-is : (F : Formats Msg) → (inputs F (rules_of v.setup) m v.me.0 (core_of v past) leader.0 input).core ≡ core_of after next
+      pub core-is : (F : Formats Msg) → (step_unjudged F (rules_of v.setup) m v.me.0 (core_of v past) leader.0 input).core ≡ core_of after next
       core-is F = λ t. record {
         past = next;
         waiting = sym (filed F).waits t;
@@ -251,31 +251,31 @@ module _ {M Msg : Type 0} (m : Module Msg) (stands : M → Params → ℕ → Li
         leaf = sym leaf-core t;
       }
 
-      instances : (k : ℕ) (g : SegmentState M) → led segments k ≡ Some g → IsLed stands ((rules_of v.setup).params (before_own (rules_of v.setup) m v.me.0 past) past.epoch k) v.me (taken_in next k) g
+      instances : (k : ℕ) (g : SegmentState M) → led segments k ≡ Some g → IsLed refines ((rules_of v.setup).params (before_own (rules_of v.setup) m v.me.0 past) past.epoch k) v.me (taken_in next k) g
       instances k g at_k = go (same_or_not k leader.0)
         where
-          stood : IsInstance stands is (item ∷ xs)
+          stood : IsInstance refines is (item ∷ xs)
           stood =
-              subst (λ (p : Params). IsInstance stands is (and_then m p v.me.0 xs input v.keys.used)) here.params
-              (subst (λ (i : NodeId). IsInstance stands is (and_then m was.params i.0 xs input v.keys.used)) here.node (taken.stands_for xs here.instance own))
+              subst (λ (p : Params). IsInstance refines is (and_then m p v.me.0 xs input v.keys.used)) here.params
+              (subst (λ (i : NodeId). IsInstance refines is (and_then m was.params i.0 xs input v.keys.used)) here.node (taken.refined xs here.instance own))
 
-          mine : IsLed stands P v.me (taken_in next leader.0) is
+          mine : IsLed refines P v.me (taken_in next leader.0) is
           mine = record {
             params = taken.same_params ∙ here.params;
             node = taken.same_node ∙ here.node;
-            instance = subst (λ (ys : List (Item Msg)). IsInstance stands is ys) (sym (set_at2-same past.evidence past.epoch leader.0 (item ∷ xs))) stood;
+            instance = subst (λ (ys : List (Item Msg)). IsInstance refines is ys) (sym (set_at2-same past.evidence past.epoch leader.0 (item ∷ xs))) stood;
           }
 
-          go : (k ≡ leader.0) ⊎ (k ≢ leader.0) → IsLed stands ((rules_of v.setup).params (before_own (rules_of v.setup) m v.me.0 past) past.epoch k) v.me (taken_in next k) g
+          go : (k ≡ leader.0) ⊎ (k ≢ leader.0) → IsLed refines ((rules_of v.setup).params (before_own (rules_of v.setup) m v.me.0 past) past.epoch k) v.me (taken_in next k) g
           go (inl q) =
               let same : led segments leader.0 ≡ Some g = subst (λ (i : ℕ). led segments i ≡ Some g) q at_k in
               let two : Some is ≡ Some g = sym there ∙ same in
               let is_g : is ≡ g = cc in
-              subst (λ (z : SegmentState M). IsLed stands ((rules_of v.setup).params (before_own (rules_of v.setup) m v.me.0 past) past.epoch k) v.me (taken_in next k) z) is_g
-              (subst (λ (i : ℕ). IsLed stands ((rules_of v.setup).params (before_own (rules_of v.setup) m v.me.0 past) past.epoch i) v.me (taken_in next i) is) (sym q) mine)
+              subst (λ (z : SegmentState M). IsLed refines ((rules_of v.setup).params (before_own (rules_of v.setup) m v.me.0 past) past.epoch k) v.me (taken_in next k) z) is_g
+              (subst (λ (i : ℕ). IsLed refines ((rules_of v.setup).params (before_own (rules_of v.setup) m v.me.0 past) past.epoch i) v.me (taken_in next i) is) (sym q) mine)
           go (inr ne) =
               let old : led v.segments k ≡ Some g = sym (others k ne) ∙ at_k in
-              subst (λ (ys : List (Item Msg)). IsLed stands ((rules_of v.setup).params (before_own (rules_of v.setup) m v.me.0 past) past.epoch k) v.me ys g)
+              subst (λ (ys : List (Item Msg)). IsLed refines ((rules_of v.setup).params (before_own (rules_of v.setup) m v.me.0 past) past.epoch k) v.me ys g)
               (sym (set_at2-other past.evidence past.epoch leader.0 (item ∷ xs) past.epoch k (inr ne))) (tied.instances k g old)
 
       leading : (k : ℕ) → is_some (led segments k) ≡ leads v.plan k
@@ -304,7 +304,7 @@ module _ {M Msg : Type 0} (m : Module Msg) (stands : M → Params → ℕ → Li
               ∙ tied.accepted k
               ∙ sym (ap (λ (ys : List (Item Msg)). accepts ys) (set_at2-other past.evidence past.epoch leader.0 (item ∷ xs) past.epoch k (inr (λ e. ne (sym e)))))
 
-      tied-over : (F : Formats Msg) → IsTiedOver m stands after next (before_own (rules_of v.setup) m v.me.0 past)
+      tied-over : (F : Formats Msg) → RefinesPastOver m refines after next (before_own (rules_of v.setup) m v.me.0 past)
       tied-over F = record {
         epoch = tied.epoch;
         log = new-log;
@@ -325,10 +325,10 @@ module _ {M Msg : Type 0} (m : Module Msg) (stands : M → Params → ℕ → Li
         keys = record { own = taken.within.same_secret ∙ tied.keys.own; tall = taken.within.same_height ∙ tied.keys.tall };
       }
 
-      pub parts-next : (F : Formats Msg) → AreParts m stands after (inputs F (rules_of v.setup) m v.me.0 (core_of v past) leader.0 input).core
-      parts-next F = record { core = core-is F; tied = subst (λ (ys : List Value). IsTiedOver m stands after next ys) (sym before-next) (tied-over F) }
+      pub parts-next : (F : Formats Msg) → RefinesBareCore m refines after (step_unjudged F (rules_of v.setup) m v.me.0 (core_of v past) leader.0 input).core
+      parts-next F = record { core = core-is F; tied = subst (λ (ys : List Value). RefinesPastOver m refines after next ys) (sym before-next) (tied-over F) }
 
-    sends-next : (F : Formats Msg) (sends : List (To × List ℕ)) → sends ≡ packed F v.me.0 v.epoch leader.0 ef.sends → sends ≡ (inputs F (rules_of v.setup) m v.me.0 (core_of v past) leader.0 input).sends
+    sends-next : (F : Formats Msg) (sends : List (To × List ℕ)) → sends ≡ packed F v.me.0 v.epoch leader.0 ef.sends → sends ≡ (step_unjudged F (rules_of v.setup) m v.me.0 (core_of v past) leader.0 input).sends
     sends-next F sends e =
         e ∙ ap (λ (k : ℕ). packed F v.me.0 k leader.0 ef.sends) tied.epoch ∙ ap (λ (ys : List (To × Msg)). packed F v.me.0 past.epoch leader.0 ys) took.sends
 
@@ -338,7 +338,7 @@ module _ {M Msg : Type 0} (m : Module Msg) (stands : M → Params → ℕ → Li
     -- what is handed out is what the model's step made
     pub made-next : (o : Outcome) → o.sends ≡ packed (formats_of v.setup m) v.me.0 v.epoch leader.0 ef.sends → o.own ≡ own_claims m is.params v.me.0 ef.sends → o.early ≡ [] →
         o.hashed ≡ ef.hashed ++ strings_from v.chains.version (chain_of v.chains.version v.log.entries) grown.joined →
-        IsMade (inputs (formats_of v.setup m) (rules_of v.setup) m v.me.0 (core_of v past) leader.0 input) o
+        IsMade (step_unjudged (formats_of v.setup m) (rules_of v.setup) m v.me.0 (core_of v past) leader.0 input) o
     made-next o sent own early hashed = record {
       sends = sends-next (formats_of v.setup m) o.sends sent;
       own = own

@@ -8,13 +8,13 @@ use Rattle.iss_rules.specs.Formats.{formats_of}
 use Rattle.iss_rules.specs.Parcels.{Formats}
 use Rattle.iss_rules.specs.Verdicts.{verdict, verdict_in}
 use Rattle.iss_rules.specs.Votes.{all_verify}
-use Rattle.iss_model.specs.Node.{Dropped, Turn, at_instance, by_verdict, claims_of_input, has_leaves, inputs}
+use Rattle.iss_model.specs.Node.{Dropped, Turn, by_verdict, claims_of_input, has_leaves, step_unjudged, try_step}
 use Rattle.iss_rules.specs.Past.{Past, before_own, leads_in, params_of, taken_in}
-use Rattle.iss_causes.specs.declared.causes.Refusal.{Refusal}
-use Rattle.iss_causes.specs.declared.causes.Why.TheVariants.{BadClaim, NotLeader, NoKeys, Refused}
+use Rattle.iss_rules.specs.declared.events.Refusal.{Refusal}
+use Rattle.iss_rules.specs.declared.events.Why.TheVariants.{BadClaim, NotLeader, NoKeys, Refused}
 use Rattle.iss_node.specs.Inputs.{IsAbsorbed, IsChained, IsHandedOut, IsInputTaken, IsVerdictAt}
-use Rattle.iss_node.specs.Shape.{IsReplica}
-use Rattle.iss_node.specs.State.{AreParts, IsTied, ReplicaState, core_of, led}
+use Rattle.iss_node.specs.Shape.{IsNodeState}
+use Rattle.iss_node.specs.State.{RefinesBareCore, RefinesPast, StateView, core_of, led}
 use Rattle.iss_node.specs.Steps.{IsLater, IsStepDropped, IsStepTaken, IsTurnOf, IsTurned}
 use Rattle.iss_node.specs.declared.answers.Outcome.{Outcome}
 use Rattle.iss_node.proofs.InputLemmas.{addressed-next, made-next, parts-next}
@@ -47,13 +47,13 @@ append-none (x ∷ a) = ap (λ ys. x ∷ ys) (append-none a)
 pub goes-same : (a b : List Value) → b ≡ a → GoesOn a b
 goes-same a b e = ([], e ∙ append-none a)
 
-pub later-trans : {M Msg : Type 0} (u v w : ReplicaState M Msg) → IsLater u v → IsLater v w → IsLater u w
+pub later-trans : {M Msg : Type 0} (u v w : StateView M Msg) → IsLater u v → IsLater v w → IsLater u w
 later-trans u v w g h = record { setup = h.setup ∙ g.setup; me = h.me ∙ g.me; log = goes-trans u.log.entries v.log.entries w.log.entries g.log h.log; ballots = h.ballots ∙ g.ballots }
 
-pub later-same : {M Msg : Type 0} (u v : ReplicaState M Msg) → v.setup ≡ u.setup → v.me ≡ u.me → v.log.entries ≡ u.log.entries → v.ballots ≡ u.ballots → IsLater u v
+pub later-same : {M Msg : Type 0} (u v : StateView M Msg) → v.setup ≡ u.setup → v.me ≡ u.me → v.log.entries ≡ u.log.entries → v.ballots ≡ u.ballots → IsLater u v
 later-same u v s i l b = record { setup = s; me = i; log = goes-same u.log.entries v.log.entries l; ballots = b }
 
-pub later-refl : {M Msg : Type 0} (u : ReplicaState M Msg) → IsLater u u
+pub later-refl : {M Msg : Type 0} (u : StateView M Msg) → IsLater u u
 later-refl u = later-same u u refl refl refl refl
 
 four : {Msg : Type 0} (a a' d d' b b' : Bool) (w w' : Option Refusal) (turn : Turn Msg) → a ≡ a' → d ≡ d' → b ≡ b' → w ≡ w' →
@@ -61,15 +61,15 @@ four : {Msg : Type 0} (a a' d d' b b' : Bool) (w w' : Option Refusal) (turn : Tu
     ≡ cond (not a') (Dropped NotLeader) (cond (not d') (Dropped BadClaim) (cond (not b') (Dropped NoKeys) (by_verdict w' turn)))
 four a a' d d' b b' w w' turn ha hd hb hw = rw (ha, hd, hb, hw) refl
 
-module _ {M Msg : Type 0} (m : Module Msg) (stands : M → Params → ℕ → List (Item Msg) → Type 0)
-    (v : ReplicaState M Msg) (past : Past Msg) (tied : IsTied m stands v past) (l : ℕ) where
+module _ {M Msg : Type 0} (m : Module Msg) (refines : M → Params → ℕ → List (Item Msg) → Type 0)
+    (v : StateView M Msg) (past : Past Msg) (tied : RefinesPast m refines v past) (l : ℕ) where
   pub leads-is : (b : Bool) → b ≡ is_some (led v.segments l) → leads_in (rules_of v.setup) m v.me.0 past l ≡ b
   leads-is b e = sym (e ∙ tied.leading l ∙ ap (λ (p : Plan). leads p l) tied.rests.divided)
 
   pub leaves-is : (g : SegmentState M) → led v.segments l ≡ Some g → (b : Bool) → b ≡ has_leaves m g.params v.keys.used → has_leaves m (params_of (rules_of v.setup) m v.me.0 past l) v.keys.used ≡ b
   leaves-is g at b e = sym (e ∙ ap (λ (p : Params). has_leaves m p v.keys.used) (tied.instances l g at).params)
 
-  pub verdict-is : (input : Input Msg) (g : SegmentState M) → led v.segments l ≡ Some g → (o : Option Refusal) → IsVerdictAt m stands v l input o → verdict_in (rules_of v.setup) m v.me.0 past l input ≡ o
+  pub verdict-is : (input : Input Msg) (g : SegmentState M) → led v.segments l ≡ Some g → (o : Option Refusal) → IsVerdictAt m refines v l input o → verdict_in (rules_of v.setup) m v.me.0 past l input ≡ o
   verdict-is input g at o h =
       let here = tied.instances l g at in
       let bf = before_own (rules_of v.setup) m v.me.0 past in
@@ -82,43 +82,43 @@ module _ {M Msg : Type 0} (m : Module Msg) (stands : M → Params → ℕ → Li
     pub instance-is : (a d b : Bool) (w : Option Refusal) → leads_in (rules_of v.setup) m v.me.0 past l ≡ a →
         all_verify (rules_of v.setup) (claims_of_input m (params_of (rules_of v.setup) m v.me.0 past l) input) ≡ d →
         has_leaves m (params_of (rules_of v.setup) m v.me.0 past l) v.keys.used ≡ b → verdict_in (rules_of v.setup) m v.me.0 past l input ≡ w →
-        at_instance F (rules_of v.setup) m v.me.0 (core_of v past) l input ≡
-        cond (not a) (Dropped NotLeader) (cond (not d) (Dropped BadClaim) (cond (not b) (Dropped NoKeys) (by_verdict w (inputs F (rules_of v.setup) m v.me.0 (core_of v past) l input))))
-    instance-is a d b w ha hd hb hw = four _ a _ d _ b _ w (inputs F (rules_of v.setup) m v.me.0 (core_of v past) l input) ha hd hb hw
+        try_step F (rules_of v.setup) m v.me.0 (core_of v past) l input ≡
+        cond (not a) (Dropped NotLeader) (cond (not d) (Dropped BadClaim) (cond (not b) (Dropped NoKeys) (by_verdict w (step_unjudged F (rules_of v.setup) m v.me.0 (core_of v past) l input))))
+    instance-is a d b w ha hd hb hw = four _ a _ d _ b _ w (step_unjudged F (rules_of v.setup) m v.me.0 (core_of v past) l input) ha hd hb hw
 
 -- nothing has changed
-pub same-parts : {M Msg : Type 0} (m : Module Msg) (stands : M → Params → ℕ → List (Item Msg) → Type 0) (v : ReplicaState M Msg) (past : Past Msg) → IsTied m stands v past → AreParts m stands v (core_of v past)
-same-parts m stands v past tied = record { core = refl; tied = tied }
+pub same-parts : {M Msg : Type 0} (m : Module Msg) (refines : M → Params → ℕ → List (Item Msg) → Type 0) (v : StateView M Msg) (past : Past Msg) → RefinesPast m refines v past → RefinesBareCore m refines v (core_of v past)
+same-parts m refines v past tied = record { core = refl; tied = tied }
 
 -- an input that was taken, and what it made, is the model's turn
-module _ {M Msg : Type 0} (m : Module Msg) (laws : IsLawful m) (stands : M → Params → ℕ → List (Item Msg) → Type 0)
-    (v : ReplicaState M Msg) (shape : IsReplica m v) (leader : NodeId) (input : Input Msg) (ef : Effects Msg) (w : ReplicaState M Msg) (outcome : Outcome)
-    (past : Past Msg) (tied : IsTied m stands v past) where
+module _ {M Msg : Type 0} (m : Module Msg) (laws : IsLawful m) (refines : M → Params → ℕ → List (Item Msg) → Type 0)
+    (v : StateView M Msg) (shape : IsNodeState m v) (leader : NodeId) (input : Input Msg) (ef : Effects Msg) (w : StateView M Msg) (outcome : Outcome)
+    (past : Past Msg) (tied : RefinesPast m refines v past) where
   inner : (segments : List (Option (SegmentState M))) (keys : KeyState) (was is : SegmentState M) → led v.segments leader.0 ≡ Some was → led segments leader.0 ≡ Some is → ((k : ℕ) → k ≢ leader.0 → led segments k ≡ led v.segments k) →
-      IsInstanceTaken m stands was is input v.keys keys ef → IsAbsorbed (record v { segments = segments; keys = keys }) w leader ef → IsHandedOut m (record v { segments = segments; keys = keys }) leader.0 ef.sends outcome.hashed outcome →
+      IsInstanceTaken m refines was is input v.keys keys ef → IsAbsorbed (record v { segments = segments; keys = keys }) w leader ef → IsHandedOut m (record v { segments = segments; keys = keys }) leader.0 ef.sends outcome.hashed outcome →
       IsChained (record v { segments = segments; keys = keys }) w ef.hashed outcome.hashed →
-      IsTurned m stands (inputs (formats_of v.setup m) (rules_of v.setup) m v.me.0 (core_of v past) leader.0 input) w outcome
+      IsTurned m refines (step_unjudged (formats_of v.setup m) (rules_of v.setup) m v.me.0 (core_of v past) leader.0 input) w outcome
   inner segments keys was is at there others taken a made chained =
       let F = formats_of v.setup m in
       let g = a.grown in
       let chain = chained.joined g.grown.joined g.grown.entries tied.chained in
-      let parts = parts-next m stands v shape past tied laws leader input ef was is keys at taken w.log g.held g.grown w.chains chain.chained segments w.accepted w.waiting w.flight w.logged
+      let parts = parts-next m refines v shape past tied laws leader input ef was is keys at taken w.log g.held g.grown w.chains chain.chained segments w.accepted w.waiting w.flight w.logged
       there others a.accepted g.logged g.landed.landed
       (λ all before noted members new. g.landed.waiting all (record { before = before; noted = noted; members = members }) new) F in
-      let addressed = addressed-next m stands v shape past tied laws leader input ef was is keys at taken w.log g.held g.grown F outcome.sends made.sent in
+      let addressed = addressed-next m refines v shape past tied laws leader input ef was is keys at taken w.log g.held g.grown F outcome.sends made.sent in
       record {
-        stands_for = subst (λ (z : ReplicaState M Msg). AreParts m stands z (inputs F (rules_of v.setup) m v.me.0 (core_of v past) leader.0 input).core) (sym g.rest) parts;
-        made = made-next m stands v shape past tied laws leader input ef was is keys at taken w.log g.held g.grown outcome made.sent (made.own is there) made.early chain.strings;
-        addressed = subst (λ (z : ReplicaState M Msg). AreToNodes z.setup.n outcome.sends) (sym g.rest) addressed;
+        refined = subst (λ (z : StateView M Msg). RefinesBareCore m refines z (step_unjudged F (rules_of v.setup) m v.me.0 (core_of v past) leader.0 input).core) (sym g.rest) parts;
+        made = made-next m refines v shape past tied laws leader input ef was is keys at taken w.log g.held g.grown outcome made.sent (made.own is there) made.early chain.strings;
+        addressed = subst (λ (z : StateView M Msg). AreToNodes z.setup.n outcome.sends) (sym g.rest) addressed;
       }
 
-  pub turned : (u : ReplicaState M Msg) → IsInputTaken m stands v u leader.0 input ef → IsAbsorbed u w leader ef → IsHandedOut m u leader.0 ef.sends outcome.hashed outcome → IsChained u w ef.hashed outcome.hashed →
-      IsTurned m stands (inputs (formats_of v.setup m) (rules_of v.setup) m v.me.0 (core_of v past) leader.0 input) w outcome
+  pub turned : (u : StateView M Msg) → IsInputTaken m refines v u leader.0 input ef → IsAbsorbed u w leader ef → IsHandedOut m u leader.0 ef.sends outcome.hashed outcome → IsChained u w ef.hashed outcome.hashed →
+      IsTurned m refines (step_unjudged (formats_of v.setup m) (rules_of v.setup) m v.me.0 (core_of v past) leader.0 input) w outcome
   turned u i a made chained =
       inner u.segments u.keys i.was i.is i.at i.there i.others i.taken
-      (subst (λ (z : ReplicaState M Msg). IsAbsorbed z w leader ef) i.rest a)
-      (subst (λ (z : ReplicaState M Msg). IsHandedOut m z leader.0 ef.sends outcome.hashed outcome) i.rest made)
-      (subst (λ (z : ReplicaState M Msg). IsChained z w ef.hashed outcome.hashed) i.rest chained)
+      (subst (λ (z : StateView M Msg). IsAbsorbed z w leader ef) i.rest a)
+      (subst (λ (z : StateView M Msg). IsHandedOut m z leader.0 ef.sends outcome.hashed outcome) i.rest made)
+      (subst (λ (z : StateView M Msg). IsChained z w ef.hashed outcome.hashed) i.rest chained)
 
 -- ---- the answers of an instance, and what each test found
 
@@ -126,47 +126,47 @@ some-there : {A : Type 0} (o : Option A) → true ≡ is_some o → (x : A) × (
 some-there None h = absurd (true≢false h)
 some-there (Some x) h = (x, refl)
 
-module _ {M Msg : Type 0} (m : Module Msg) (stands : M → Params → ℕ → List (Item Msg) → Type 0) (F : Formats Msg)
-    (v : ReplicaState M Msg) (l : ℕ) (input : Input Msg) (leading : true ≡ is_some (led v.segments l)) (past : Past Msg) (tied : IsTied m stands v past) where
+module _ {M Msg : Type 0} (m : Module Msg) (refines : M → Params → ℕ → List (Item Msg) → Type 0) (F : Formats Msg)
+    (v : StateView M Msg) (l : ℕ) (input : Input Msg) (leading : true ≡ is_some (led v.segments l)) (past : Past Msg) (tied : RefinesPast m refines v past) where
   pub drops-claims : false ≡ all_verify (rules_of v.setup) (claims_of_input m (params_of (rules_of v.setup) m v.me.0 past l) input) →
-      IsStepDropped m stands (core_of v past) (at_instance F (rules_of v.setup) m v.me.0 (core_of v past) l input) v BadClaim
+      IsStepDropped m refines (core_of v past) (try_step F (rules_of v.setup) m v.me.0 (core_of v past) l input) v BadClaim
   drops-claims claims = record {
-    step_is = instance-is m stands v past tied l F input true false _ _ (leads-is m stands v past tied l true leading) (sym claims) refl refl;
-    stands_for = same-parts m stands v past tied;
+    step_is = instance-is m refines v past tied l F input true false _ _ (leads-is m refines v past tied l true leading) (sym claims) refl refl;
+    refined = same-parts m refines v past tied;
   }
 
   module _ (claims : true ≡ all_verify (rules_of v.setup) (claims_of_input m (params_of (rules_of v.setup) m v.me.0 past l) input)) where
     pub drops-keys : ((g : SegmentState M) → led v.segments l ≡ Some g → AreKeysOf v.me.0 v.setup.keys v.keys → false ≡ has_leaves m g.params v.keys.used) →
-        IsStepDropped m stands (core_of v past) (at_instance F (rules_of v.setup) m v.me.0 (core_of v past) l input) v NoKeys
+        IsStepDropped m refines (core_of v past) (try_step F (rules_of v.setup) m v.me.0 (core_of v past) l input) v NoKeys
     drops-keys leaves =
         let g = some-there (led v.segments l) leading in
         record {
-          step_is = instance-is m stands v past tied l F input true true false _ (leads-is m stands v past tied l true leading) (sym claims) (leaves-is m stands v past tied l g.0 g.1 false (leaves g.0 g.1 tied.keys)) refl;
-          stands_for = same-parts m stands v past tied;
+          step_is = instance-is m refines v past tied l F input true true false _ (leads-is m refines v past tied l true leading) (sym claims) (leaves-is m refines v past tied l g.0 g.1 false (leaves g.0 g.1 tied.keys)) refl;
+          refined = same-parts m refines v past tied;
         }
 
     module _ (leaves : (g : SegmentState M) → led v.segments l ≡ Some g → AreKeysOf v.me.0 v.setup.keys v.keys → true ≡ has_leaves m g.params v.keys.used) where
-      pub drops-refused : (w : ReplicaState M Msg) (why : Refusal) → (w ≡ v) × IsVerdictAt m stands v l input (Some why) →
-          IsStepDropped m stands (core_of v past) (at_instance F (rules_of v.setup) m v.me.0 (core_of v past) l input) w (Refused why)
+      pub drops-refused : (w : StateView M Msg) (why : Refusal) → (w ≡ v) × IsVerdictAt m refines v l input (Some why) →
+          IsStepDropped m refines (core_of v past) (try_step F (rules_of v.setup) m v.me.0 (core_of v past) l input) w (Refused why)
       drops-refused w why h =
           let g = some-there (led v.segments l) leading in
           record {
-            step_is = instance-is m stands v past tied l F input true true true (Some why) (leads-is m stands v past tied l true leading) (sym claims) (leaves-is m stands v past tied l g.0 g.1 true (leaves g.0 g.1 tied.keys)) (verdict-is m stands v past tied l input g.0 g.1 (Some why) h.1);
-            stands_for = subst (λ (z : ReplicaState M Msg). AreParts m stands z (core_of v past)) (sym h.0) (same-parts m stands v past tied);
+            step_is = instance-is m refines v past tied l F input true true true (Some why) (leads-is m refines v past tied l true leading) (sym claims) (leaves-is m refines v past tied l g.0 g.1 true (leaves g.0 g.1 tied.keys)) (verdict-is m refines v past tied l input g.0 g.1 (Some why) h.1);
+            refined = subst (λ (z : StateView M Msg). RefinesBareCore m refines z (core_of v past)) (sym h.0) (same-parts m refines v past tied);
           }
 
-      pub takes-input : (w : ReplicaState M Msg) (o : Outcome) → IsVerdictAt m stands v l input None → IsTurned m stands (inputs F (rules_of v.setup) m v.me.0 (core_of v past) l input) w o →
-          IsStepTaken m stands (at_instance F (rules_of v.setup) m v.me.0 (core_of v past) l input) w o
+      pub takes-input : (w : StateView M Msg) (o : Outcome) → IsVerdictAt m refines v l input None → IsTurned m refines (step_unjudged F (rules_of v.setup) m v.me.0 (core_of v past) l input) w o →
+          IsStepTaken m refines (try_step F (rules_of v.setup) m v.me.0 (core_of v past) l input) w o
       takes-input w o h turn =
           let g = some-there (led v.segments l) leading in
           record {
-            turn = inputs F (rules_of v.setup) m v.me.0 (core_of v past) l input;
-            step_is = instance-is m stands v past tied l F input true true true None (leads-is m stands v past tied l true leading) (sym claims) (leaves-is m stands v past tied l g.0 g.1 true (leaves g.0 g.1 tied.keys)) (verdict-is m stands v past tied l input g.0 g.1 None h);
+            turn = step_unjudged F (rules_of v.setup) m v.me.0 (core_of v past) l input;
+            step_is = instance-is m refines v past tied l F input true true true None (leads-is m refines v past tied l true leading) (sym claims) (leaves-is m refines v past tied l g.0 g.1 true (leaves g.0 g.1 tied.keys)) (verdict-is m refines v past tied l input g.0 g.1 None h);
             turned = turn;
           }
 
-pub input-turn : {M Msg : Type 0} (m : Module Msg) (laws : IsLawful m) (stands : M → Params → ℕ → List (Item Msg) → Type 0) (v u w : ReplicaState M Msg) (shape : IsReplica m v) (leader : NodeId) (input : Input Msg) (ef : Effects Msg) (r : Result Outcome NoMemory) →
-    IsInputTaken m stands v u leader.0 input ef → OnOk r (IsAbsorbed u w leader ef) → IfOk r (λ o. IsHandedOut m u leader.0 ef.sends o.hashed o) → IfOk r (λ o. IsChained u w ef.hashed o.hashed) →
-    IfOk r (λ o. IsTurnOf m stands v (λ F R me c. inputs F R m me c leader.0 input) w o)
-input-turn m laws stands v u w shape leader input ef (Err e) i a s t = tt
-input-turn m laws stands v u w shape leader input ef (Ok o) i a s t = λ past tied. turned m laws stands v shape leader input ef w o past tied u i a s t
+pub input-turn : {M Msg : Type 0} (m : Module Msg) (laws : IsLawful m) (refines : M → Params → ℕ → List (Item Msg) → Type 0) (v u w : StateView M Msg) (shape : IsNodeState m v) (leader : NodeId) (input : Input Msg) (ef : Effects Msg) (r : Result Outcome NoMemory) →
+    IsInputTaken m refines v u leader.0 input ef → OnOk r (IsAbsorbed u w leader ef) → IfOk r (λ o. IsHandedOut m u leader.0 ef.sends o.hashed o) → IfOk r (λ o. IsChained u w ef.hashed o.hashed) →
+    IfOk r (λ o. IsTurnOf m refines v (λ F R me c. step_unjudged F R m me c leader.0 input) w o)
+input-turn m laws refines v u w shape leader input ef (Err e) i a s t = tt
+input-turn m laws refines v u w shape leader input ef (Ok o) i a s t = λ past tied. turned m laws refines v shape leader input ef w o past tied u i a s t

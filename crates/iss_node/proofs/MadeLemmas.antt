@@ -1,8 +1,8 @@
 -- What a turn made, and what is handed out of it.
 use Rattle.std.proofs.Common.{◌≡◌, ℕ, List, [], ◌++◌, Result, Ok, Err, ap, sym, ◌∙◌, subst}
 use Rattle.std.specs.Prelude.{OnOk}
-use Rattle.iss_model.specs.Node.{Core, Turn, onward, rests}
-use Rattle.iss_node.specs.Epochs.{both}
+use Rattle.iss_model.specs.Node.{Core, Turn, then_turn, unchanged}
+use Rattle.iss_node.specs.Epochs.{appended}
 use Rattle.iss_node.specs.Steps.{IsMade}
 use Rattle.iss_node.specs.declared.answers.Outcome.{Outcome}
 use Rattle.iss_sb.specs.Calls.{AreToNodes}
@@ -18,7 +18,7 @@ abbrev pub nothing : Outcome
 nothing = record { sends = []; own = []; early = []; hashed = [] }
 
 -- where nothing happens nothing is made, and nothing is sent to anybody
-pub nothing-made : {Msg : Type 0} (c : Core Msg) (o : Outcome) → o ≡ nothing → IsMade (rests c) o
+pub nothing-made : {Msg : Type 0} (c : Core Msg) (o : Outcome) → o ≡ nothing → IsMade (unchanged c) o
 nothing-made c o is = record {
   sends = ap (λ (z : Outcome). z.sends) is;
   own = ap (λ (z : Outcome). z.own) is;
@@ -43,7 +43,7 @@ early-made t o p claims read same is h = record {
 }
 
 -- one turn behind another
-pub both-made : {Msg : Type 0} (t : Turn Msg) (more : Core Msg → Turn Msg) (o p : Outcome) → IsMade t o → IsMade (more t.core) p → IsMade (onward t more) (both o p)
+pub both-made : {Msg : Type 0} (t : Turn Msg) (more : Core Msg → Turn Msg) (o p : Outcome) → IsMade t o → IsMade (more t.core) p → IsMade (then_turn t more) (appended o p)
 both-made t more o p h k =
     record {
       sends = ap (λ (xs : List (To × List ℕ)). xs ++ p.sends) h.sends ∙ ap (λ (xs : List (To × List ℕ)). t.sends ++ xs) k.sends;

@@ -11,14 +11,14 @@ use Rattle.iss_rules.specs.Concrete.{keys_of, rules_of}
 use Rattle.iss_rules.specs.Formats.{formats_of}
 use Rattle.iss_rules.specs.Parcels.{Formats}
 use Rattle.iss_rules.specs.Votes.{is_true_cert}
-use Rattle.iss_model.specs.Node.{Core, Dropped, Stepped, Taken, Turn, adopts_piece, has_shape, leads_to, onward, takes_each, takes_piece}
+use Rattle.iss_model.specs.Node.{Core, Dropped, Stepped, Taken, Turn, adopts_piece, has_shape, leads_to, takes_each, takes_piece, then_turn}
 use Rattle.iss_rules.specs.Past.{before_own, log_of, start_of}
 use Rattle.iss_rules.specs.Rules.{Rules}
-use Rattle.iss_causes.specs.declared.causes.Why.{Why}
-use Rattle.iss_causes.specs.declared.causes.Why.TheVariants.{BadClaim, NotNeeded, OtherEpoch, WrongChain as Wrong_chain}
+use Rattle.iss_rules.specs.declared.events.Why.{Why}
+use Rattle.iss_rules.specs.declared.events.Why.TheVariants.{BadClaim, NotNeeded, OtherEpoch, WrongChain as Wrong_chain}
 use Rattle.iss_node.proofs.OwnEpoch.{start-is}
-use Rattle.iss_node.specs.Shape.{IsReplica}
-use Rattle.iss_node.specs.State.{AreHeld, ReplicaState}
+use Rattle.iss_node.specs.Shape.{IsNodeState}
+use Rattle.iss_node.specs.State.{StateRefinesCore, StateView}
 use Rattle.iss_node.specs.Steps.{IsHeldDropped, IsHeldTaken}
 use Rattle.iss_node.specs.Transfers.{IsAdoptedBy}
 use Rattle.iss_node.specs.declared.answers.Outcome.{Outcome}
@@ -59,7 +59,7 @@ tests-meet {Msg} late far same shape cert chain t ours theirs hashed h k = rw (h
 ahead-is : (a b : ℕ) → nat_lt a b ≡ false → nat_lt b a ≡ not (eqb a b)
 ahead-is a b h = grind (arith, nat_tests)
 
-module _ {M Msg : Type 0} (m : Module Msg) (stands : M → Params → ℕ → List (Item Msg) → Type 0) (v : ReplicaState M Msg) (p : Piece) (c : Core Msg) (h : AreHeld m stands v c) where
+module _ {M Msg : Type 0} (m : Module Msg) (refines : M → Params → ℕ → List (Item Msg) → Type 0) (v : StateView M Msg) (p : Piece) (c : Core Msg) (h : StateRefinesCore m refines v c) where
   abbrev F : Formats Msg
   F = formats_of v.setup m
 
@@ -70,19 +70,19 @@ module _ {M Msg : Type 0} (m : Module Msg) (stands : M → Params → ℕ → Li
   log = log_of R m v.me.0 c.past
 
   abbrev turn : Turn Msg
-  turn = onward (adopts_piece R m v.me.0 c p) (takes_each F R m v.me.0 (suc c.past.epoch) c.early)
+  turn = then_turn (adopts_piece R m v.me.0 c p) (takes_each F R m v.me.0 (suc c.past.epoch) c.early)
 
-  module _ (shape : IsReplica m v) (timely : v.epoch ≤ p.epoch.0) where
+  module _ (shape : IsNodeState m v) (timely : v.epoch ≤ p.epoch.0) where
     entries-are : v.log.entries ≡ reverse log
-    entries-are = sym (reverse-reverse v.log.entries) ∙ ap (λ (xs : List Value). reverse xs) (sym h.parts.tied.log)
+    entries-are = sym (reverse-reverse v.log.entries) ∙ ap (λ (xs : List Value). reverse xs) (sym h.state.tied.log)
 
     -- the log holds all that comes before the epoch
     far : start_of R log c.past.epoch ≤ length log
     far =
         let starts = start-is v.setup log c.past.epoch in
-        let first = h.parts.tied.start in
-        let begun = h.parts.tied.begun in
-        let long = ap (λ (xs : List Value). length xs) h.parts.tied.log ∙ length-reverse v.log.entries in
+        let first = h.state.tied.start in
+        let begun = h.state.tied.begun in
+        let long = ap (λ (xs : List Value). length xs) h.state.tied.log ∙ length-reverse v.log.entries in
         omega (arith, starts, first, begun, long)
 
     abbrev own : Voters
@@ -98,7 +98,7 @@ module _ {M Msg : Type 0} (m : Module Msg) (stands : M → Params → ℕ → Li
     step-found : takes_piece F R m v.me.0 c p ≡ step_by (Taken turn) (adoption v.setup own (reverse log) c.past.epoch p)
     step-found =
         let e = c.past.epoch in
-        let late : nat_lt p.epoch.0 e ≡ false = not-large p.epoch.0 e (subst (λ (k : ℕ). k ≤ p.epoch.0) h.parts.tied.epoch timely) in
+        let late : nat_lt p.epoch.0 e ≡ false = not-large p.epoch.0 e (subst (λ (k : ℕ). k ≤ p.epoch.0) h.state.tied.epoch timely) in
         let mine = has_shape R (before_own R m v.me.0 c.past) e p in
         let chain : same_end ours (said_in p.cert) ≡ leads_to R (before_own R m v.me.0 c.past) p = ap (λ (z : End). same_end z (said_in p.cert)) (end-same v.setup log e p far) in
         tests-meet (nat_lt p.epoch.0 e) (nat_lt e p.epoch.0) (eqb p.epoch.0 e) mine (is_true_cert R p.cert) (leads_to R (before_own R m v.me.0 c.past) p) (Taken turn) ours (said_in p.cert) hashed late
@@ -108,10 +108,10 @@ module _ {M Msg : Type 0} (m : Module Msg) (stands : M → Params → ℕ → Li
     found-is : (found : Adoption) → ((xs : List Value) → IsChainOf v.chains xs → found ≡ adoption v.setup (voters_of v.setup v.directory) xs v.epoch p) →
         adoption v.setup own (reverse log) c.past.epoch p ≡ found
     found-is found is = sym
-        (is v.log.entries h.parts.tied.chained
+        (is v.log.entries h.state.tied.chained
         ∙ ap (λ (d : DirectoryView). adoption v.setup (voters_of v.setup d) v.log.entries v.epoch p) shape.directory
         ∙ ap (λ (xs : List Value). adoption v.setup own xs v.epoch p) entries-are
-        ∙ ap (λ (e : ℕ). adoption v.setup own (reverse log) e p) h.parts.tied.epoch)
+        ∙ ap (λ (e : ℕ). adoption v.setup own (reverse log) e p) h.state.tied.epoch)
 
     step-is : (found : Adoption) → ((xs : List Value) → IsChainOf v.chains xs → found ≡ adoption v.setup (voters_of v.setup v.directory) xs v.epoch p) →
         takes_piece F R m v.me.0 c p ≡ step_by (Taken turn) found
@@ -119,15 +119,15 @@ module _ {M Msg : Type 0} (m : Module Msg) (stands : M → Params → ℕ → Li
 
     -- one that a test refuses
     pub piece-refused : (found : Adoption) → ((xs : List Value) → IsChainOf v.chains xs → found ≡ adoption v.setup (voters_of v.setup v.directory) xs v.epoch p) →
-        (why : Why) → ((t : Stepped Msg) → step_by t found ≡ Dropped why) → IsHeldDropped m stands c (takes_piece F R m v.me.0 c p) v why
-    piece-refused found is why means = record { step_is = step-is found is ∙ means (Taken turn); stands_for = h }
+        (why : Why) → ((t : Stepped Msg) → step_by t found ≡ Dropped why) → IsHeldDropped m refines c (takes_piece F R m v.me.0 c p) v why
+    piece-refused found is why means = record { step_is = step-is found is ∙ means (Taken turn); refined = h }
 
     -- one that the node takes over
     pub piece-taken : (found : Adoption) → ((xs : List Value) → IsChainOf v.chains xs → found ≡ adoption v.setup (voters_of v.setup v.directory) xs v.epoch p) →
-        (strings : List (List ℕ)) → found ≡ Adopt strings → (w : ReplicaState M Msg) (o : Outcome) → IsAdoptedBy m stands v p strings w o →
-        IsHeldTaken m stands (Unit {0}) (takes_piece F R m v.me.0 c p) w o
+        (strings : List (List ℕ)) → found ≡ Adopt strings → (w : StateView M Msg) (o : Outcome) → IsAdoptedBy m refines v p strings w o →
+        IsHeldTaken m refines (Unit {0}) (takes_piece F R m v.me.0 c p) w o
     piece-taken found is strings good w o adopted = record {
       turn = turn;
       step_is = step-is found is ∙ ap (λ (z : Adoption). step_by (Taken turn) z) good;
-      turned = adopted c h (sym (is v.log.entries h.parts.tied.chained) ∙ good);
+      turned = adopted c h (sym (is v.log.entries h.state.tied.chained) ∙ good);
     }

@@ -3,14 +3,14 @@ use Rattle.std.proofs.Common.{◌≡◌, ℕ, Bool, true, false, List, [], ◌�
 use Rattle.std.specs.Prelude.{OnOk, fold}
 use Rattle.std.proofs.lemmas.List.{append-nil, length-reverse}
 use Rattle.iss_buckets.specs.Waiting.{AreNew, absent, waits}
-use Rattle.iss_ids.proofs.Members.{has_id-append}
+use Rattle.iss_window.proofs.Members.{has_id-append}
 use Rattle.iss_model.proofs.Casts.{requested-sound}
 use Rattle.iss_rules.specs.Concrete.{rules_of}
 use Rattle.iss_rules.specs.Formats.{formats_of}
-use Rattle.iss_model.specs.Node.{Dropped, Taken, Turn, is_known, is_nil_at, joined, rests, returned, takes_request}
+use Rattle.iss_model.specs.Node.{Dropped, Taken, Turn, is_known, is_nil_at, joined, returned, takes_request, unchanged}
 use Rattle.iss_rules.specs.Past.{Past, before_own, log_of}
 use Rattle.iss_model.specs.Sound.{IsSoundCore}
-use Rattle.iss_causes.specs.declared.causes.Why.TheVariants.{BadRequest, Known, OutOfWindow}
+use Rattle.iss_rules.specs.declared.events.Why.TheVariants.{BadRequest, Known, OutOfWindow}
 use Rattle.iss_node.proofs.GrowthLemmas.{log_ids-append}
 use Rattle.iss_node.proofs.TiedLemmas.{bf-long, bf-part, split-log}
 use Rattle.iss_log.specs.Chains.{ChainsState, IsChainOf}
@@ -26,9 +26,9 @@ use Rattle.iss_request.specs.declared.ids.NodeId.{NodeId}
 use Rattle.iss_sb.specs.declared.effects.Effects.{Effects}
 use Rattle.iss_sb.specs.declared.effects.To.{To}
 use Rattle.iss_segment.specs.Ground.{noted_before}
-use Rattle.iss_window.specs.Kept.{Kept, StandsFor}
-use Rattle.iss_node.specs.Shape.{IsReplica}
-use Rattle.iss_node.specs.State.{AreParts, IsTied, ReplicaState, core_of}
+use Rattle.iss_window.specs.Kept.{Kept, RefinesNoted}
+use Rattle.iss_node.specs.Shape.{IsNodeState}
+use Rattle.iss_node.specs.State.{RefinesBareCore, RefinesPast, StateView, core_of}
 use Rattle.iss_request.specs.Log.{has_id, ids, log_ids}
 use Rattle.iss_request.specs.declared.ids.ReqId.{ReqId}
 use Rattle.iss_request.specs.declared.ids.Slot.{Slot}
@@ -79,24 +79,24 @@ returned-more log (f ∷ fs) slot batch = elim (is_nil_at log f.0.0) as (λ b. c
 pub whole-next : {A : Type 0} (all done : List A) (q : A) (old new : List A) → all ≡ done ++ old → old ≡ q ∷ new → all ≡ (done ++ q ∷ []) ++ new
 whole-next all done q old new h k = h ∙ ap (λ (xs : List _). done ++ xs) k ∙ sym (append_assoc done (q ∷ []) new)
 
-pub rest-more : {M Msg : Type 0} (v u w : ReplicaState M Msg) → w ≡ record u { waiting = w.waiting } → u ≡ record v { waiting = u.waiting } → w ≡ record v { waiting = w.waiting }
-rest-more v u w a b = let f : ReplicaState _ _ → ReplicaState _ _ = λ z. record z { waiting = w.waiting } in a ∙ ap f b
+pub rest-more : {M Msg : Type 0} (v u w : StateView M Msg) → w ≡ record u { waiting = w.waiting } → u ≡ record v { waiting = u.waiting } → w ≡ record v { waiting = w.waiting }
+rest-more v u w a b = let f : StateView _ _ → StateView _ _ = λ z. record z { waiting = w.waiting } in a ∙ ap f b
 
 -- where nothing but the waiting list has moved, the same identities are the log's
-pub logged-still : {M Msg : Type 0} (v w : ReplicaState M Msg) → w ≡ record v { waiting = w.waiting } → (all : List ReqId) → AreLogged v all → AreLogged w all
-logged-still v w rest all h = subst (λ (z : ReplicaState _ _). AreLogged z all) (sym rest) (record { before = h.before; noted = h.noted; members = h.members })
+pub logged-still : {M Msg : Type 0} (v w : StateView M Msg) → w ≡ record v { waiting = w.waiting } → (all : List ReqId) → AreLogged v all → AreLogged w all
+logged-still v w rest all h = subst (λ (z : StateView _ _). AreLogged z all) (sym rest) (record { before = h.before; noted = h.noted; members = h.members })
 
 pub again-logged : (all : List ReqId) (now start : List Request) (done : List Request) (q : Request) → has_id q.id all ≡ true → now ≡ start ++ absent all done → now ≡ start ++ absent all (done ++ q ∷ [])
 again-logged all now start done q there h =
     h ∙ ap (λ (xs : List Request). start ++ xs) (sym (absent-more all done q ∙ ap (λ b. absent all done ++ cond b [] (q ∷ [])) there ∙ append-nil (absent all done)))
 
-pub again-waits : {M Msg : Type 0} (all : List ReqId) (now new : ReplicaState M Msg) (start batch done : List Request) (q : Request) (rest : List Request) → has_id q.id all ≡ false → now.waiting ≡ start ++ absent all done →
+pub again-waits : {M Msg : Type 0} (all : List ReqId) (now new : StateView M Msg) (start batch done : List Request) (q : Request) (rest : List Request) → has_id q.id all ≡ false → now.waiting ≡ start ++ absent all done →
     AreNew start (absent all batch) → batch ≡ done ++ q ∷ rest → (has_id q.id (ids now.waiting) ≡ false → new ≡ record now { waiting = now.waiting ++ q ∷ [] }) → new.waiting ≡ start ++ absent all (done ++ q ∷ [])
 again-waits all now new start batch done q rest gone h n whole put =
     let split : absent all batch ≡ absent all done ++ q ∷ absent all rest = ap (λ (xs : List Request). absent all xs) whole ∙ absent-join all done (q ∷ rest) ∙ ap (λ b. absent all done ++ cond b (absent all rest) (q ∷ absent all rest)) gone in
     let behind = new-back start (absent all done) (q ∷ absent all rest) (subst (λ (xs : List Request). AreNew start xs) split n) in
     let free : has_id q.id (ids now.waiting) ≡ false = ap (λ (xs : List Request). has_id q.id (ids xs)) h ∙ behind.0 in
-    ap (λ (z : ReplicaState _ _). z.waiting) (put free) ∙ ap (λ (xs : List Request). xs ++ q ∷ []) h ∙ append_assoc start (absent all done) (q ∷ [])
+    ap (λ (z : StateView _ _). z.waiting) (put free) ∙ ap (λ (xs : List Request). xs ++ q ∷ []) h ∙ append_assoc start (absent all done) (q ∷ [])
     ∙ ap (λ (xs : List Request). start ++ xs) (sym (absent-more all done q ∙ ap (λ b. absent all done ++ cond b [] (q ∷ [])) gone))
 
 returned-join : (log : List Value) (fs gs : List (Slot × Batch)) → returned log (fs ++ gs) ≡ returned log fs ++ returned log gs
@@ -127,16 +127,16 @@ back-some all log now new start casts done slot batch rest nil h n whole put =
 
 -- ---- what lands, and how the log grows
 
-pub landed-all : {M Msg : Type 0} (v u w : ReplicaState M Msg) (slots : ℕ) (gone : List (Slot × Batch)) (r : Result (Unit {0}) NoMemory) → u ≡ record v { flight = u.flight } → slots ≡ length v.log.entries → gone ≡ landed slots v.flight.casts → IsLanded v.flight u.flight slots →
+pub landed-all : {M Msg : Type 0} (v u w : StateView M Msg) (slots : ℕ) (gone : List (Slot × Batch)) (r : Result (Unit {0}) NoMemory) → u ≡ record v { flight = u.flight } → slots ≡ length v.log.entries → gone ≡ landed slots v.flight.casts → IsLanded v.flight u.flight slots →
     OnOk r ((all : List ReqId) → AreLogged u all → AreNew u.waiting (absent all (returned (reverse u.log.entries) gone)) → w.waiting ≡ u.waiting ++ absent all (returned (reverse u.log.entries) gone)) →
     w ≡ record u { waiting = w.waiting } → OnOk r (HasLanded v w)
 landed-all v u w slots gone (Err e) us n gone_is lands back rest = tt
 landed-all {M} {Msg} v u w slots gone (Ok x) us n gone_is lands back rest =
-    let flight : w.flight ≡ u.flight = ap (λ (z : ReplicaState M Msg). z.flight) rest in
-    let waiting : u.waiting ≡ v.waiting = ap (λ (z : ReplicaState M Msg). z.waiting) us in
-    let log : u.log ≡ v.log = ap (λ (z : ReplicaState M Msg). z.log) us in
-    let windows : u.windows ≡ v.windows = ap (λ (z : ReplicaState M Msg). z.windows) us in
-    let logged : u.logged ≡ v.logged = ap (λ (z : ReplicaState M Msg). z.logged) us in
+    let flight : w.flight ≡ u.flight = ap (λ (z : StateView M Msg). z.flight) rest in
+    let waiting : u.waiting ≡ v.waiting = ap (λ (z : StateView M Msg). z.waiting) us in
+    let log : u.log ≡ v.log = ap (λ (z : StateView M Msg). z.log) us in
+    let windows : u.windows ≡ v.windows = ap (λ (z : StateView M Msg). z.windows) us in
+    let logged : u.logged ≡ v.logged = ap (λ (z : StateView M Msg). z.logged) us in
     let same : returned (reverse u.log.entries) gone ≡ returned (reverse v.log.entries) v.flight.casts =
     ap (λ (l : LogState). returned (reverse l.entries) gone) log
     ∙ ap (λ (fs : List (Slot × Batch)). returned (reverse v.log.entries) fs) (gone_is ∙ ap (λ (k : ℕ). landed k v.flight.casts) (n ∙ sym (length-reverse v.log.entries)))
@@ -144,7 +144,7 @@ landed-all {M} {Msg} v u w slots gone (Ok x) us n gone_is lands back rest =
     record {
       landed = subst (λ (k : ℕ). IsLanded v.flight w.flight k) n (subst (λ (f : FlightState). IsLanded v.flight f slots) (sym flight) lands);
       waiting = λ all h new.
-          back all (record { before = h.before; noted = subst (λ (k : Kept). StandsFor k (noted_before h.before)) (sym windows) h.noted; members = λ y. h.members y ∙ ap (λ (xs : List ReqId). has_id y xs || has_id y (log_ids h.before)) (sym logged) })
+          back all (record { before = h.before; noted = subst (λ (k : Kept). RefinesNoted k (noted_before h.before)) (sym windows) h.noted; members = λ y. h.members y ∙ ap (λ (xs : List ReqId). has_id y xs || has_id y (log_ids h.before)) (sym logged) })
           (subst (λ (ws : List Request). AreNew ws (absent all (returned (reverse u.log.entries) gone))) (sym waiting) (subst (λ (qs : List Request). AreNew v.waiting (absent all qs)) (sym same) new))
           ∙ ap (λ (ws : List Request). ws ++ absent all (returned (reverse u.log.entries) gone)) waiting ∙ ap (λ (qs : List Request). v.waiting ++ absent all qs) same;
     }
@@ -153,17 +153,17 @@ drop-front : {A : Type 0} (xs ys : List A) → drop (length xs) (xs ++ ys) ≡ y
 drop-front [] ys = refl
 drop-front (x ∷ xs) ys = drop-front xs ys
 
-pub grown-all : {M Msg : Type 0} (v u w : ReplicaState M Msg) (delivers : List (Slot × Value)) (held : ℕ) (entries more : List Value) (r : Result (Unit {0}) NoMemory) → u ≡ record v { log = u.log; chains = u.chains; waiting = u.waiting; logged = u.logged } →
+pub grown-all : {M Msg : Type 0} (v u w : StateView M Msg) (delivers : List (Slot × Value)) (held : ℕ) (entries more : List Value) (r : Result (Unit {0}) NoMemory) → u ≡ record v { log = u.log; chains = u.chains; waiting = u.waiting; logged = u.logged } →
     IsGrown v.log delivers u.log held → entries ≡ u.log.entries → more ≡ drop held entries → u.waiting ≡ fold waits_on v.waiting more → u.logged ≡ fold and_values v.logged more →
     OnOk r (HasLanded u w) → w ≡ record u { waiting = w.waiting; flight = w.flight } → OnOk r (HasGrown v w delivers)
 grown-all v u w delivers held entries more (Err e) us grown entries_are more_is waits joins lands rest = tt
 grown-all {M} {Msg} v u w delivers held entries more (Ok x) us grown entries_are more_is waits joins lands rest =
     let joined_is : more ≡ grown.joined = more_is ∙ ap (λ (xs : List Value). drop held xs) (entries_are ∙ grown.entries) ∙ ap (λ (n : ℕ). drop n (v.log.entries ++ grown.joined)) grown.count ∙ drop-front v.log.entries grown.joined in
-    let log : w.log ≡ u.log = ap (λ (z : ReplicaState M Msg). z.log) rest in
-    let logged : w.logged ≡ u.logged = ap (λ (z : ReplicaState M Msg). z.logged) rest in
-    let chains : w.chains ≡ u.chains = ap (λ (z : ReplicaState M Msg). z.chains) rest in
+    let log : w.log ≡ u.log = ap (λ (z : StateView M Msg). z.log) rest in
+    let logged : w.logged ≡ u.logged = ap (λ (z : StateView M Msg). z.logged) rest in
+    let chains : w.chains ≡ u.chains = ap (λ (z : StateView M Msg). z.chains) rest in
     let waiting : u.waiting ≡ fold waits_on v.waiting grown.joined = waits ∙ ap (λ (xs : List Value). fold waits_on v.waiting xs) joined_is in
-    let onto : LogState → ChainsState → List ReqId → List Request → ReplicaState M Msg = λ l ch ids ws. record v { log = l; chains = ch; logged = ids; waiting = ws } in
+    let onto : LogState → ChainsState → List ReqId → List Request → StateView M Msg = λ l ch ids ws. record v { log = l; chains = ch; logged = ids; waiting = ws } in
     let as_now : u ≡ record v { log = w.log; chains = w.chains; logged = w.logged; waiting = fold waits_on v.waiting grown.joined } =
     us ∙ ap (λ (l : LogState). onto l u.chains u.logged u.waiting) (sym log) ∙ ap (λ (ch : ChainsState). onto w.log ch u.logged u.waiting) (sym chains)
     ∙ ap (λ (ids : List ReqId). onto w.log w.chains ids u.waiting) (sym logged) ∙ ap (λ (ws : List Request). onto w.log w.chains w.logged ws) waiting in
@@ -171,19 +171,19 @@ grown-all {M} {Msg} v u w delivers held entries more (Ok x) us grown entries_are
       held = held;
       grown = record { count = grown.count; joined = grown.joined; entries = ap (λ (l : LogState). l.entries) log ∙ grown.entries; values = λ s. ap (λ (l : LogState). value_at l s) log ∙ grown.values s; hole = ap (λ (l : LogState). value_at l (length l.entries)) log ∙ grown.hole };
       logged = logged ∙ joins ∙ ap (λ (xs : List Value). fold and_values v.logged xs) joined_is;
-      landed = subst (λ (z : ReplicaState M Msg). HasLanded z w) as_now lands;
-      rest = let f : ReplicaState M Msg → ReplicaState M Msg = λ z. record z { waiting = w.waiting; flight = w.flight } in rest ∙ ap f as_now;
+      landed = subst (λ (z : StateView M Msg). HasLanded z w) as_now lands;
+      rest = let f : StateView M Msg → StateView M Msg = λ z. record z { waiting = w.waiting; flight = w.flight } in rest ∙ ap f as_now;
     }
 
-pub absorbed-all : {M Msg : Type 0} (v u w : ReplicaState M Msg) (leader : NodeId) (e : Effects Msg) (ds : List (Slot × Value)) → u ≡ record v { accepted = and_accepted leader v.accepted e.accepted } → HasGrown u w ds → ds ≡ e.delivers → IsAbsorbed v w leader e
+pub absorbed-all : {M Msg : Type 0} (v u w : StateView M Msg) (leader : NodeId) (e : Effects Msg) (ds : List (Slot × Value)) → u ≡ record v { accepted = and_accepted leader v.accepted e.accepted } → HasGrown u w ds → ds ≡ e.delivers → IsAbsorbed v w leader e
 absorbed-all {M} {Msg} v u w leader e ds us grown is =
-    let accepted : w.accepted ≡ and_accepted leader v.accepted e.accepted = ap (λ (z : ReplicaState M Msg). z.accepted) grown.rest ∙ ap (λ (z : ReplicaState M Msg). z.accepted) us in
-    let with_it : List Accepted → ReplicaState M Msg = λ xs. record v { accepted = xs } in
+    let accepted : w.accepted ≡ and_accepted leader v.accepted e.accepted = ap (λ (z : StateView M Msg). z.accepted) grown.rest ∙ ap (λ (z : StateView M Msg). z.accepted) us in
+    let with_it : List Accepted → StateView M Msg = λ xs. record v { accepted = xs } in
     let now : u ≡ record v { accepted = w.accepted } = us ∙ ap with_it (sym accepted) in
-    record { accepted = accepted; grown = subst (λ (z : ReplicaState M Msg). HasGrown z w e.delivers) now (subst (λ (xs : List (Slot × Value)). HasGrown u w xs) is grown) }
+    record { accepted = accepted; grown = subst (λ (z : StateView M Msg). HasGrown z w e.delivers) now (subst (λ (xs : List (Slot × Value)). HasGrown u w xs) is grown) }
 
 -- the chain grew with it
-pub chained-all : {M Msg : Type 0} (v w : ReplicaState M Msg) (chains now : ChainsState) (held : ℕ) (entries more : List Value) (before after : List (List ℕ)) (r : Result (Unit {0}) NoMemory) →
+pub chained-all : {M Msg : Type 0} (v w : StateView M Msg) (chains now : ChainsState) (held : ℕ) (entries more : List Value) (before after : List (List ℕ)) (r : Result (Unit {0}) NoMemory) →
     entries ≡ w.log.entries → more ≡ drop held entries → held ≡ length v.log.entries → chains ≡ v.chains → w.chains ≡ now →
     ((log : List Value) → IsChainOf chains log → AreJoined chains log more now before after) → now.version ≡ chains.version → OnOk r (IsChained v w before after)
 chained-all v w chains now held entries more before after (Err e) entries_are more_is held_is chains_are now_is joins version = tt
@@ -197,28 +197,28 @@ chained-all v w chains now held entries more before after (Ok x) entries_are mor
 }
 
 -- a batch that was accepted before says nothing of it
-pub chained-after : {M Msg : Type 0} (v u w : ReplicaState M Msg) (accepted : List Accepted) (before after : List (List ℕ)) → u ≡ record v { accepted = accepted } → IsChained u w before after → IsChained v w before after
+pub chained-after : {M Msg : Type 0} (v u w : StateView M Msg) (accepted : List Accepted) (before after : List (List ℕ)) → u ≡ record v { accepted = accepted } → IsChained u w before after → IsChained v w before after
 chained-after {M} {Msg} v u w accepted before after is h =
-    let k : IsChained (record v { accepted = accepted }) w before after = subst (λ (z : ReplicaState M Msg). IsChained z w before after) is h in
+    let k : IsChained (record v { accepted = accepted }) w before after = subst (λ (z : StateView M Msg). IsChained z w before after) is h in
     record { joined = k.joined; version = k.version }
 
 -- what is handed out has the strings that it has
-pub now-its-own : {M Msg : Type 0} (m : Module Msg) (v : ReplicaState M Msg) (l : ℕ) (sends : List (To × Msg)) (strings : List (List ℕ)) (o : Outcome) → IsHandedOut m v l sends strings o → IsHandedOut m v l sends o.hashed o
+pub now-its-own : {M Msg : Type 0} (m : Module Msg) (v : StateView M Msg) (l : ℕ) (sends : List (To × Msg)) (strings : List (List ℕ)) (o : Outcome) → IsHandedOut m v l sends strings o → IsHandedOut m v l sends o.hashed o
 now-its-own m v l sends strings o h = record { sent = h.sent; own = h.own; early = h.early; hashed_is = refl }
 
 -- ---- what a node knows
 
-module _ {M Msg : Type 0} (m : Module Msg) (stands : M → Params → ℕ → List (Item Msg) → Type 0)
-    (v : ReplicaState M Msg) (shape : IsReplica m v) (past : Past Msg) (tied : IsTied m stands v past) where
+module _ {M Msg : Type 0} (m : Module Msg) (refines : M → Params → ℕ → List (Item Msg) → Type 0)
+    (v : StateView M Msg) (shape : IsNodeState m v) (past : Past Msg) (tied : RefinesPast m refines v past) where
   pub logged-all : AreLogged v (log_ids (log_of (rules_of v.setup) m v.me.0 past))
   logged-all = record {
     before = before_own (rules_of v.setup) m v.me.0 past;
     noted = tied.rests.noted;
     members = λ x.
         let q = tied.start in
-        let n = bf-long m stands v shape past tied in
+        let n = bf-long m refines v shape past tied in
         let bf = before_own (rules_of v.setup) m v.me.0 past in
-        let part = bf-part m stands v shape past tied in
+        let part = bf-part m refines v shape past tied in
         let whole : reverse v.log.entries ≡ joined v.plan.start (reverse v.log.entries) ++ bf = split-log (reverse v.log.entries) bf v.plan.start (q ∙ sym n) part in
         ap (λ (ys : List Value). has_id x (log_ids ys)) (tied.log ∙ whole)
         ∙ ap (λ (ys : List ReqId). has_id x ys) (log_ids-append (joined v.plan.start (reverse v.log.entries)) bf)
@@ -232,25 +232,25 @@ module _ {M Msg : Type 0} (m : Module Msg) (stands : M → Params → ℕ → Li
   pub inside-is : (x : ReqId) (p : Place) → p ≡ place_of v.windows.width (log_ids (before_own (rules_of v.setup) m v.me.0 past)) x → (rules_of v.setup).inside (before_own (rules_of v.setup) m v.me.0 past) past.epoch x ≡ is_inside p
   inside-is x p e = sym (ap (λ (o : Place). is_inside o) (e ∙ ap (λ (w : ℕ). place_of w (log_ids (before_own (rules_of v.setup) m v.me.0 past)) x) tied.rests.width))
 
-  pub inside-found : (x : ReqId) (b : Bool) (k : Kept) → k ≡ v.windows → ((n : Noted) → StandsFor k n → b ≡ is_inside (place_of k.width n.closed x)) → (rules_of v.setup).inside (before_own (rules_of v.setup) m v.me.0 past) past.epoch x ≡ b
+  pub inside-found : (x : ReqId) (b : Bool) (k : Kept) → k ≡ v.windows → ((n : Noted) → RefinesNoted k n → b ≡ is_inside (place_of k.width n.closed x)) → (rules_of v.setup).inside (before_own (rules_of v.setup) m v.me.0 past) past.epoch x ≡ b
   inside-found x b k is h =
       let bf = before_own (rules_of v.setup) m v.me.0 past in
-      let found = subst (λ (z : Kept). (n : Noted) → StandsFor z n → b ≡ is_inside (place_of z.width n.closed x)) is h in
+      let found = subst (λ (z : Kept). (n : Noted) → RefinesNoted z n → b ≡ is_inside (place_of z.width n.closed x)) is h in
       sym (found (noted_before bf) tied.rests.noted ∙ ap (λ (w : ℕ). is_inside (place_of w (log_ids bf) x)) tied.rests.width)
 
   -- the step of a request, by what the node finds
   pub request-is : (q : Request) (a b c : Bool) → (rules_of v.setup).signed q ≡ a → is_known (rules_of v.setup) m v.me.0 (core_of v past) q.id ≡ b → (rules_of v.setup).inside (before_own (rules_of v.setup) m v.me.0 past) past.epoch q.id ≡ c →
-      takes_request (rules_of v.setup) m v.me.0 (core_of v past) q ≡ cond (not a) (Dropped BadRequest) (cond b (Dropped Known) (cond (not c) (Dropped OutOfWindow) (Taken (rests (record (core_of v past) { waiting = v.waiting ++ q ∷ [] })))))
-  request-is q a b c ha hb hc = tests _ a _ b _ c (rests (record (core_of v past) { waiting = v.waiting ++ q ∷ [] })) ha hb hc
+      takes_request (rules_of v.setup) m v.me.0 (core_of v past) q ≡ cond (not a) (Dropped BadRequest) (cond b (Dropped Known) (cond (not c) (Dropped OutOfWindow) (Taken (unchanged (record (core_of v past) { waiting = v.waiting ++ q ∷ [] })))))
+  request-is q a b c ha hb hc = tests _ a _ b _ c (unchanged (record (core_of v past) { waiting = v.waiting ++ q ∷ [] })) ha hb hc
     where
       tests : (a a' b b' c c' : Bool) (turn : Turn Msg) → a ≡ a' → b ≡ b' → c ≡ c' →
           cond (not a) (Dropped BadRequest) (cond b (Dropped Known) (cond (not c) (Dropped OutOfWindow) (Taken turn))) ≡ cond (not a') (Dropped BadRequest) (cond b' (Dropped Known) (cond (not c') (Dropped OutOfWindow) (Taken turn)))
       tests a a' b b' c c' turn ha hb hc = rw (ha, hb, hc) refl
 
   -- a node keeps what it is tied to where only its requests and early messages move, and stay sound
-  module _ (w : ReplicaState M Msg) (rest : w ≡ record v { waiting = w.waiting; early = w.early }) where
-    pub moved : IsSoundCore (rules_of v.setup) m v.me.0 (core_of w past) → IsTied m stands w past
-    moved sound = subst (λ (z : ReplicaState M Msg). IsTied m stands z past) (sym rest) (record {
+  module _ (w : StateView M Msg) (rest : w ≡ record v { waiting = w.waiting; early = w.early }) where
+    pub moved : IsSoundCore (rules_of v.setup) m v.me.0 (core_of w past) → RefinesPast m refines w past
+    moved sound = subst (λ (z : StateView M Msg). RefinesPast m refines z past) (sym rest) (record {
       epoch = tied.epoch;
       log = tied.log;
       chained = tied.chained;
@@ -266,15 +266,15 @@ module _ {M Msg : Type 0} (m : Module Msg) (stands : M → Params → ℕ → Li
       accepted = tied.accepted;
       logged = tied.logged;
       flown = tied.flown;
-      sound = subst (λ (z : ReplicaState M Msg). IsSoundCore (rules_of v.setup) m v.me.0 (core_of z past)) rest sound;
+      sound = subst (λ (z : StateView M Msg). IsSoundCore (rules_of v.setup) m v.me.0 (core_of z past)) rest sound;
       keys = tied.keys;
     })
 
   -- one that waits
-  pub waits-parts : (q : Request) (w : ReplicaState M Msg) → w ≡ record v { waiting = v.waiting ++ q ∷ [] } → (rules_of v.setup).signed q ≡ true → is_known (rules_of v.setup) m v.me.0 (core_of v past) q.id ≡ false →
-      (rules_of v.setup).inside (before_own (rules_of v.setup) m v.me.0 past) past.epoch q.id ≡ true → AreParts m stands w (record (core_of v past) { waiting = v.waiting ++ q ∷ [] })
+  pub waits-parts : (q : Request) (w : StateView M Msg) → w ≡ record v { waiting = v.waiting ++ q ∷ [] } → (rules_of v.setup).signed q ≡ true → is_known (rules_of v.setup) m v.me.0 (core_of v past) q.id ≡ false →
+      (rules_of v.setup).inside (before_own (rules_of v.setup) m v.me.0 past) past.epoch q.id ≡ true → RefinesBareCore m refines w (record (core_of v past) { waiting = v.waiting ++ q ∷ [] })
   waits-parts q w is signed unknown inside =
       let sound : IsSoundCore (rules_of v.setup) m v.me.0 (record (core_of v past) { waiting = v.waiting ++ q ∷ [] }) =
-      requested-sound (formats_of v.setup m) (rules_of v.setup) m v.me.0 (core_of v past) q (rests (record (core_of v past) { waiting = v.waiting ++ q ∷ [] })) tied.sound (record { signed = signed; unknown = unknown; inside = inside; is = refl }) in
-      subst (λ (z : ReplicaState M Msg). AreParts m stands z (record (core_of v past) { waiting = v.waiting ++ q ∷ [] })) (sym is)
+      requested-sound (formats_of v.setup m) (rules_of v.setup) m v.me.0 (core_of v past) q (unchanged (record (core_of v past) { waiting = v.waiting ++ q ∷ [] })) tied.sound (record { signed = signed; unknown = unknown; inside = inside; is = refl }) in
+      subst (λ (z : StateView M Msg). RefinesBareCore m refines z (record (core_of v past) { waiting = v.waiting ++ q ∷ [] })) (sym is)
       (record { core = refl; tied = moved (record v { waiting = v.waiting ++ q ∷ [] }) refl sound })

@@ -5,7 +5,7 @@ use Rattle.iss_base.specs.Lists.{first_of, nth}
 use Rattle.iss_base.proofs.Lists.{none-some}
 use Rattle.iss_log.specs.LogState.{LogState, ahead_at, value_at}
 use Rattle.iss_node.specs.Cells.{given}
-use Rattle.iss_node.specs.State.{ReplicaState}
+use Rattle.iss_node.specs.State.{StateView}
 use Rattle.iss_node.specs.Transfers.{at_slots, held_slots}
 use Rattle.iss_request.specs.declared.ids.Slot.{Slot}
 use Rattle.iss_request.specs.declared.requests.Value.{Value}
@@ -51,7 +51,7 @@ pub at-least : (e k : ℕ) → 0 < k → e ≤ e * k
 at-least zero k lt = omega arith
 at-least (suc e) k lt = let h = at-least e k lt in omega (arith, h, lt)
 
-module _ {M Msg : Type 0} (v : ReplicaState M Msg) (e : ℕ) where
+module _ {M Msg : Type 0} (v : StateView M Msg) (e : ℕ) where
   pub no-slots : length v.log.entries < suc e * v.setup.epoch → None ≡ held_slots v e
   no-slots lt = let short : nat_le (suc e * v.setup.epoch) (length v.log.entries) ≡ false = grind (arith, nat_tests) in rw short refl
 

@@ -14,13 +14,13 @@ use Rattle.iss_log.specs.LogState.{empty_log}
 use Rattle.iss_rules.proofs.Logs.{newborn-log}
 use Rattle.iss_model.proofs.Casts.{idle-sound}
 use Rattle.iss_rules.specs.Concrete.{keys_of, plan_at, rules_of}
-use Rattle.iss_model.specs.Node.{idle, joined}
-use Rattle.iss_rules.specs.Past.{before_own, log_of, newborn}
+use Rattle.iss_model.specs.Node.{initial_core, joined}
+use Rattle.iss_rules.specs.Past.{before_own, initial_history, log_of}
 use Rattle.iss_rules.specs.Setups.{IsSetupOf}
 use Rattle.iss_model.specs.Sound.{IsSoundCore}
 use Rattle.iss_node.specs.Epochs.{AreStarted, params_by}
-use Rattle.iss_node.specs.Shape.{IsReplica}
-use Rattle.iss_node.specs.State.{IsTiedOver, ReplicaState, Stands, led}
+use Rattle.iss_node.specs.Shape.{IsNodeState}
+use Rattle.iss_node.specs.State.{RefinesCore, RefinesPastOver, StateView, led}
 use Rattle.iss_request.specs.Log.{has_id, log_ids}
 use Rattle.iss_request.specs.Setup.{AreRising}
 use Rattle.iss_request.specs.declared.ids.NodeId.{NodeId}
@@ -33,7 +33,7 @@ use Rattle.iss_sb.specs.declared.effects.Params.{Params}
 use Rattle.iss_sb.specs.Calls.{AreBelow, IsGoodParams}
 use Rattle.iss_sb.specs.Evidence.{Item, Module}
 use Rattle.iss_segment.specs.Instance.{IsInstance, SegmentState}
-use Rattle.iss_window.specs.Kept.{Kept, StandsFor}
+use Rattle.iss_window.specs.Kept.{Kept, RefinesNoted}
 use Rattle.iss_window.specs.Window.{none_noted}
 
 -- ---- the parameters of an instance
@@ -97,16 +97,16 @@ led-below gs l g h = elim (leb_tells (length gs) l) [
 ]
 
 -- the instances of the first k nodes
-pub record AreBegun {M Msg : Type 0} (stands : M → Params → ℕ → List (Item Msg) → Type 0) (s : Setup) (me : NodeId) (e : ℕ) (plan : Plan) (k : ℕ)
+pub record AreBegun {M Msg : Type 0} (refines : M → Params → ℕ → List (Item Msg) → Type 0) (s : Setup) (me : NodeId) (e : ℕ) (plan : Plan) (k : ℕ)
     (segments : List (Option (SegmentState M))) : Type 0 where
   pub count : length segments ≡ k
   pub leading : (l : ℕ) → l < k → is_some (led segments l) ≡ leads plan l
   pub params : (l : ℕ) (g : SegmentState M) → led segments l ≡ Some g → g.params ≡ params_by s e plan l
   pub node : (l : ℕ) (g : SegmentState M) → led segments l ≡ Some g → g.me ≡ me
-  pub instances : (l : ℕ) (g : SegmentState M) → led segments l ≡ Some g → IsInstance stands g []
+  pub instances : (l : ℕ) (g : SegmentState M) → led segments l ≡ Some g → IsInstance refines g []
 
-module _ {M Msg : Type 0} (stands : M → Params → ℕ → List (Item Msg) → Type 0) (s : Setup) (me : NodeId) (e : ℕ) (plan : Plan) where
-  pub begun-none : AreBegun {M = M} stands s me e plan 0 []
+module _ {M Msg : Type 0} (refines : M → Params → ℕ → List (Item Msg) → Type 0) (s : Setup) (me : NodeId) (e : ℕ) (plan : Plan) where
+  pub begun-none : AreBegun {M = M} refines s me e plan 0 []
   begun-none = record {
     count = refl;
     leading = λ l lt. absurd (omega (arith, lt));
@@ -115,8 +115,8 @@ module _ {M Msg : Type 0} (stands : M → Params → ℕ → List (Item Msg) →
     instances = λ l g h. absurd (let z : None ≡ Some g = h in cc);
   }
 
-  pub begun-next : (k : ℕ) (gs : List (Option (SegmentState M))) (o : Option (SegmentState M)) → AreBegun stands s me e plan k gs → is_some o ≡ leads plan k → IfSome o (λ g. IsInstance stands g []) →
-      IfSome o (λ g. g.params ≡ params_by s e plan k) → IfSome o (λ g. g.me ≡ me) → AreBegun stands s me e plan (k + 1) (gs ++ o ∷ [])
+  pub begun-next : (k : ℕ) (gs : List (Option (SegmentState M))) (o : Option (SegmentState M)) → AreBegun refines s me e plan k gs → is_some o ≡ leads plan k → IfSome o (λ g. IsInstance refines g []) →
+      IfSome o (λ g. g.params ≡ params_by s e plan k) → IfSome o (λ g. g.me ≡ me) → AreBegun refines s me e plan (k + 1) (gs ++ o ∷ [])
   begun-next k gs o h leading instance params node = record {
     count = let n = h.count in let q = length-append gs (o ∷ []) in omega (arith, n, q);
     leading = λ l lt. elim (same_or_not l k) [
@@ -125,7 +125,7 @@ module _ {M Msg : Type 0} (stands : M → Params → ℕ → List (Item Msg) →
     ];
     params = λ l g is. each (λ i x. x.params ≡ params_by s e plan i) params h.params l g is;
     node = λ l g is. each (λ i x. x.me ≡ me) node h.node l g is;
-    instances = λ l g is. each (λ i x. IsInstance stands x []) instance h.instances l g is;
+    instances = λ l g is. each (λ i x. IsInstance refines x []) instance h.instances l g is;
   }
     where
       at-end : (Q : ℕ → Option (SegmentState M) → Type 0) (l : ℕ) → l ≡ k → Q k o → Q l (led (gs ++ o ∷ []) l)
@@ -159,7 +159,7 @@ module _ {M Msg : Type 0} (stands : M → Params → ℕ → List (Item Msg) →
       go more true q x = let same : k.0 ≡ l = grind (arith, nat_tests) in omega (arith, same, h.1)
       go more false q x = more x
 
-  pub begun-all : (n : ℕ) (gs : List (Option (SegmentState M))) → AreBegun stands s me e plan n gs → IsGoodPlan plan → plan.nodes ≡ n → AreStarted stands s me e plan gs
+  pub begun-all : (n : ℕ) (gs : List (Option (SegmentState M))) → AreBegun refines s me e plan n gs → IsGoodPlan plan → plan.nodes ≡ n → AreStarted refines s me e plan gs
   begun-all n gs h good nodes = record {
     leading = λ l. elim (leb_tells n l) [
       | inl t ↦
@@ -179,13 +179,13 @@ module _ {M Msg : Type 0} (stands : M → Params → ℕ → List (Item Msg) →
 
 -- ---- a node that has taken nothing
 
-module _ {M Msg : Type 0} (m : Module Msg) (stands : M → Params → ℕ → List (Item Msg) → Type 0) (s t : Setup) (me : NodeId) (directory : DirectoryView) (plan : Plan) (windows : Kept) (standing : List Conduct)
+module _ {M Msg : Type 0} (m : Module Msg) (refines : M → Params → ℕ → List (Item Msg) → Type 0) (s t : Setup) (me : NodeId) (directory : DirectoryView) (plan : Plan) (windows : Kept) (standing : List Conduct)
     (gs : List (Option (SegmentState M))) (chains : ChainsState) (ballots : BallotsState) (keys : KeyState) (h : IsSetupOf m s) (t_is : t ≡ s) (directory_is : directory ≡ keys_of s) (low : me.0 < s.n)
     (divided : (p : List Ended) → IsStanding s p standing → plan ≡ plan_by s 0 0 (conduct_of p)) (stood : IsStanding s [] standing)
-    (noted : StandsFor windows none_noted) (width : windows.width ≡ s.window)
-    (started : AreStarted stands s me 0 plan gs) (count : length gs ≡ s.n)
+    (noted : RefinesNoted windows none_noted) (width : windows.width ≡ s.window)
+    (started : AreStarted refines s me 0 plan gs) (count : length gs ≡ s.n)
     (version : chains.version ≡ s.version) (chained : IsChainOf chains []) (ballots_is : ballots ≡ record { voters = voters_of s (keys_of s); all = [] }) where
-  abbrev pub begun : ReplicaState M Msg
+  abbrev pub begun : StateView M Msg
   begun = record {
     setup = t;
     me = me;
@@ -209,7 +209,7 @@ module _ {M Msg : Type 0} (m : Module Msg) (stands : M → Params → ℕ → Li
   plan-is : plan ≡ plan_by s 0 0 (conduct_of [])
   plan-is = divided [] stood
 
-  pub begun-shape : IsReplica m begun
+  pub begun-shape : IsNodeState m begun
   begun-shape =
       let high = h.good.epoch_high in
       let start : plan.start ≡ 0 = ap (λ (p : Plan). p.start) plan-is in
@@ -231,13 +231,13 @@ module _ {M Msg : Type 0} (m : Module Msg) (stands : M → Params → ℕ → Li
         voters = ap (λ (b : BallotsState). b.voters) ballots_is ∙ ap (λ (d : DirectoryView). voters_of s d) (sym directory_is) ∙ ap (λ (z : Setup). voters_of z directory) (sym t_is);
       }
 
-  no-log : log_of (rules_of t) m me.0 newborn ≡ []
+  no-log : log_of (rules_of t) m me.0 initial_history ≡ []
   no-log = newborn-log (rules_of t) m me.0
 
-  before-none : before_own (rules_of t) m me.0 newborn ≡ []
+  before-none : before_own (rules_of t) m me.0 initial_history ≡ []
   before-none = ap (λ (xs : List Value). oldest 0 xs) no-log
 
-  tied-first : (u : Setup) → u ≡ s → AreKeysOf me.0 s.keys keys → IsTiedOver m stands (record begun { setup = u }) newborn []
+  tied-first : (u : Setup) → u ≡ s → AreKeysOf me.0 s.keys keys → RefinesPastOver m refines (record begun { setup = u }) initial_history []
   tied-first u u_is own =
       let start : plan.start ≡ 0 = ap (λ (p : Plan). p.start) plan-is in
       record {
@@ -260,14 +260,14 @@ module _ {M Msg : Type 0} (m : Module Msg) (stands : M → Params → ℕ → Li
         keys = subst (λ (z : Setup). AreKeysOf me.0 z.keys keys) (sym u_is) own;
       }
     where
-      early-leaf : IsSoundCore (rules_of u) m me.0 idle → IsSoundCore (rules_of u) m me.0 (record idle { leaf = keys.used })
+      early-leaf : IsSoundCore (rules_of u) m me.0 initial_core → IsSoundCore (rules_of u) m me.0 (record initial_core { leaf = keys.used })
       early-leaf k = record { different = k.different; signed = k.signed; inside = k.inside; unordered = k.unordered; reached = k.reached; settled = k.settled; unborn = k.unborn }
 
-  pub begun-stands : AreKeysOf me.0 s.keys keys → Stands m stands (record { parts = begun; stale = false }) (record idle { leaf = keys.used })
-  begun-stands own = record {
+  pub begun-refines : AreKeysOf me.0 s.keys keys → RefinesCore m refines (record { state = begun; stale = false }) (record initial_core { leaf = keys.used })
+  begun-refines own = record {
     fresh = refl;
     held = record {
-      parts = record { core = refl; tied = subst (λ (xs : List Value). IsTiedOver m stands begun newborn xs) (sym before-none) (tied-first t t_is own) };
+      state = record { core = refl; tied = subst (λ (xs : List Value). RefinesPastOver m refines begun initial_history xs) (sym before-none) (tied-first t t_is own) };
       kept = subst (λ (b : BallotsState). AreKept b [] []) (sym ballots_is) (record { certs_are = λ e. refl; votes_are = λ e k h. refl });
     };
   }

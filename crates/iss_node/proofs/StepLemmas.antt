@@ -3,8 +3,8 @@ use Rattle.std.proofs.Common.{arith, inl, inr, ◌≡◌, ◌≢◌, ◌⊎◌, 
 use Rattle.iss_base.proofs.Lists.{same_or_not}
 use Rattle.iss_keys.specs.KeyStates.{KeyState}
 use Rattle.iss_node.specs.Inputs.{IsInputTaken, IsJudgedInput}
-use Rattle.iss_node.specs.Shape.{IsAt, IsReplica}
-use Rattle.iss_node.specs.State.{ReplicaState, led}
+use Rattle.iss_node.specs.Shape.{IsAt, IsNodeState}
+use Rattle.iss_node.specs.State.{StateView, led}
 use Rattle.iss_node.specs.Steps.{IsNodeInput}
 use Rattle.iss_request.specs.declared.setups.Setup.{Setup}
 use Rattle.iss_sb.specs.Calls.{IsGoodInput}
@@ -15,8 +15,8 @@ use Rattle.iss_sb.specs.declared.effects.Input.TheVariants.{Cast, Receive, Timeo
 use Rattle.iss_sb.specs.declared.effects.Params.{Params}
 use Rattle.iss_segment.specs.Answers.{IsInstanceTaken, IsJudgedStep, IsVerdict}
 use Rattle.iss_segment.specs.Instance.{SegmentState}
-use Rattle.iss_segment.specs.declared.segment.Halt.{Halt}
-use Rattle.iss_segment.specs.declared.segment.Halt.TheVariants.{Spent, Refused, NoMemory}
+use Rattle.iss_segment.specs.declared.segment.StepRefusal.{StepRefusal}
+use Rattle.iss_segment.specs.declared.segment.StepRefusal.TheVariants.{Spent, Refused, NoMemory}
 
 module _ {M : Type 0} where
   pub led-of : (gs : List (Option (SegmentState M))) (l : ℕ) (o : Option (SegmentState M)) → l < length gs → o ≡ get_or gs l o → led gs l ≡ o
@@ -53,7 +53,7 @@ good-input s p (Cast slot batch) is h = tt
 good-input s p (Receive from msg) is h = subst (λ (z : Setup). from.0 < z.n) (sym is) h
 good-input s p Timeout is h = tt
 
-module _ {M Msg : Type 0} (m : Module Msg) (stands : M → Params → ℕ → List (Item Msg) → Type 0) (v : ReplicaState M Msg) (shape : IsReplica m v) (l : ℕ) (low : l < v.setup.n) (g : SegmentState M)
+module _ {M Msg : Type 0} (m : Module Msg) (refines : M → Params → ℕ → List (Item Msg) → Type 0) (v : StateView M Msg) (shape : IsNodeState m v) (l : ℕ) (low : l < v.setup.n) (g : SegmentState M)
     (o : Option (SegmentState M)) (is : o ≡ get_or v.segments l o) (some : o ≡ Some g) where
   within : l < length v.segments
   within = let n = shape.count in omega (arith, n, low)
@@ -65,13 +65,13 @@ module _ {M Msg : Type 0} (m : Module Msg) (stands : M → Params → ℕ → Li
   placed = shape.segments l g place
 
   module _ (h : SegmentState M) (keys : KeyState) where
-    abbrev pub written : ReplicaState M Msg
+    abbrev pub written : StateView M Msg
     written = record v { segments = slice_set v.segments l (Some h); keys = keys }
 
     pub there : led (slice_set v.segments l (Some h)) l ≡ Some h
     there = led-set v.segments l (Some h) within
 
-    pub same-shape : (h.params ≡ g.params) × (h.me ≡ g.me) → IsReplica m written
+    pub same-shape : (h.params ≡ g.params) × (h.me ≡ g.me) → IsNodeState m written
     same-shape same = record {
       good = shape.good;
       me = shape.me;
@@ -100,7 +100,7 @@ module _ {M Msg : Type 0} (m : Module Msg) (stands : M → Params → ℕ → Li
             subst (λ (z : SegmentState M). IsAt v.setup v.me k z) same_one (subst (λ (i : ℕ). IsAt v.setup v.me i h) (sym q) mine)
         go k x at (inr ne) = shape.segments k x (sym (led-other v.segments l k (Some h) ne) ∙ at)
 
-    pub input-taken : (input : Input Msg) (e : Effects Msg) → IsInstanceTaken m stands g h input v.keys keys e → IsInputTaken m stands v written l input e
+    pub input-taken : (input : Input Msg) (e : Effects Msg) → IsInstanceTaken m refines g h input v.keys keys e → IsInputTaken m refines v written l input e
     input-taken input e taken = record {
       was = g;
       is = h;
@@ -117,13 +117,13 @@ module _ {M Msg : Type 0} (m : Module Msg) (stands : M → Params → ℕ → Li
         let gs : slice_set v.segments l (Some h) ≡ v.segments = set-same v.segments l (Some h) within (place ∙ ap (λ (z : SegmentState M). Some z) (sym same)) in
         λ i. record v { segments = gs i; keys = same_keys i }
 
-    pub judged-input : (input : Input Msg) (r : Result (Effects Msg) Halt) → IsJudgedStep m stands v.plan v.windows g h input v.keys keys r → IsJudgedInput m stands v written l input r
-    judged-input input (Ok e) j = (input-taken input e j.taken, (λ x at. one x at (λ z. IsVerdict m stands v.plan v.windows z input None) j.accepted))
+    pub judged-input : (input : Input Msg) (r : Result (Effects Msg) StepRefusal) → IsJudgedStep m refines v.plan v.windows g h input v.keys keys r → IsJudgedInput m refines v written l input r
+    judged-input input (Ok e) j = (input-taken input e j.taken, (λ x at. one x at (λ z. IsVerdict m refines v.plan v.windows z input None) j.accepted))
       where
         one : (x : SegmentState M) → led v.segments l ≡ Some x → (Q : SegmentState M → Type 0) → Q g → Q x
         one x at Q here = let two : Some g ≡ Some x = sym place ∙ at in let same : g ≡ x = cc in subst (λ (z : SegmentState M). Q z) same here
     judged-input input (Err Spent) j = tt
-    judged-input input (Err (Refused why)) j = (untouched j.same j.same_keys, (λ x at. one x at (λ z. IsVerdict m stands v.plan v.windows z input (Some why)) j.refused))
+    judged-input input (Err (Refused why)) j = (untouched j.same j.same_keys, (λ x at. one x at (λ z. IsVerdict m refines v.plan v.windows z input (Some why)) j.refused))
       where
         one : (x : SegmentState M) → led v.segments l ≡ Some x → (Q : SegmentState M → Type 0) → Q g → Q x
         one x at Q here = let two : Some g ≡ Some x = sym place ∙ at in let same : g ≡ x = cc in subst (λ (z : SegmentState M). Q z) same here

@@ -5,7 +5,7 @@ use Rattle.std.proofs.lemmas.List.{length-reverse, reverse-append, reverse-rever
 use Rattle.iss_base.specs.Lists.{Different, Extends}
 use Rattle.iss_base.proofs.Lists.{oldest-part, or-flip}
 use Rattle.iss_buckets.specs.Waiting.{AreNew, absent, waits}
-use Rattle.iss_ids.proofs.Members.{has_id-append}
+use Rattle.iss_window.proofs.Members.{has_id-append}
 use Rattle.iss_log.specs.Chains.{chain_of, strings_from}
 use Rattle.iss_log.specs.LogState.{LogState}
 use Rattle.iss_model.proofs.Casts.{joined-newer}
@@ -22,8 +22,8 @@ use Rattle.iss_node.proofs.GrowthLemmas.{log_ids-append, note-all, waiting-is}
 use Rattle.iss_node.proofs.OwnEpoch.{start-is}
 use Rattle.iss_node.specs.Flights.{FlightState, IsLanded, landed}
 use Rattle.iss_node.specs.Growth.{and_values, waits_on}
-use Rattle.iss_node.specs.Shape.{IsReplica}
-use Rattle.iss_node.specs.State.{IsTied, ReplicaState, core_of}
+use Rattle.iss_node.specs.Shape.{IsNodeState}
+use Rattle.iss_node.specs.State.{RefinesPast, StateView, core_of}
 use Rattle.iss_request.specs.Log.{has_id, ids, log_ids}
 use Rattle.iss_request.specs.declared.ids.ReqId.{ReqId}
 use Rattle.iss_request.specs.declared.ids.Slot.{Slot}
@@ -35,7 +35,7 @@ use Rattle.iss_sb.specs.Evidence.{Item, Module}
 use Rattle.iss_sb.specs.declared.effects.Params.{Params}
 use Rattle.iss_segment.specs.Ground.{noted_before}
 use Rattle.iss_segment.specs.Instance.{SameIds}
-use Rattle.iss_window.specs.Kept.{StandsFor}
+use Rattle.iss_window.specs.Kept.{RefinesNoted}
 
 -- ---- requests that are all different
 
@@ -79,14 +79,14 @@ grown-is s entries more old new p q =
     ∙ ap (λ (z : List Value). strings_from s.version (chain_of s.version entries) z) (reverse-reverse more)
 
 -- what a later past makes of the requests of a node, in its parts: those that wait, what is in flight, and the identities of the epoch
-pub record AreRefiled {M Msg : Type 0} (m : Module Msg) (v : ReplicaState M Msg) (past next : Past Msg) (leaf : ℕ) (waiting : List Request) (flight : FlightState) (logged : List ReqId) : Type 0 where
+pub record AreRefiled {M Msg : Type 0} (m : Module Msg) (v : StateView M Msg) (past next : Past Msg) (leaf : ℕ) (waiting : List Request) (flight : FlightState) (logged : List ReqId) : Type 0 where
   pub waits : waiting ≡ (refiled (rules_of v.setup) m v.me.0 (core_of v past) next leaf).waiting
   pub flies : flight.casts ≡ (refiled (rules_of v.setup) m v.me.0 (core_of v past) next leaf).flight
   pub same : SameIds flight.ids (flown flight.casts)
   pub noted : SameIds logged (log_ids (joined v.plan.start (log_of (rules_of v.setup) m v.me.0 next)))
 
-module _ {M Msg : Type 0} (m : Module Msg) (stands : M → Params → ℕ → List (Item Msg) → Type 0)
-    (v : ReplicaState M Msg) (shape : IsReplica m v) (past : Past Msg) (tied : IsTied m stands v past) where
+module _ {M Msg : Type 0} (m : Module Msg) (refines : M → Params → ℕ → List (Item Msg) → Type 0)
+    (v : StateView M Msg) (shape : IsNodeState m v) (past : Past Msg) (tied : RefinesPast m refines v past) where
   pub bounded : Bounded past
   bounded = record { evidence = tied.sound.unborn; adopted = tied.sound.settled }
 
@@ -108,7 +108,7 @@ module _ {M Msg : Type 0} (m : Module Msg) (stands : M → Params → ℕ → Li
       (waiting : List Request) (flight : FlightState) (logged : List ReqId)
       (joins : logged ≡ fold and_values v.logged more)
       (lands : IsLanded v.flight flight (length log.entries))
-      (returns : (all : List ReqId) (before : List Value) → StandsFor v.windows (noted_before before) → ((x : ReqId) → has_id x all ≡ (has_id x logged || has_id x (log_ids before))) →
+      (returns : (all : List ReqId) (before : List Value) → RefinesNoted v.windows (noted_before before) → ((x : ReqId) → has_id x all ≡ (has_id x logged || has_id x (log_ids before))) →
       AreNew (fold waits_on v.waiting more) (absent all (returned (reverse log.entries) v.flight.casts)) →
       waiting ≡ fold waits_on v.waiting more ++ absent all (returned (reverse log.entries) v.flight.casts)) where
     log-more : reverse log.entries ≡ reverse more ++ reverse v.log.entries

@@ -13,14 +13,14 @@ use Rattle.iss_rules.specs.Parcels.{Formats}
 use Rattle.iss_model.specs.Node.{Core, handing, hands_out, joined, values_of}
 use Rattle.iss_rules.specs.Past.{cut_at, log_of, start_of}
 use Rattle.iss_rules.specs.Rules.{Rules}
-use Rattle.iss_causes.specs.declared.causes.Why.TheVariants.{NoCert}
+use Rattle.iss_rules.specs.declared.events.Why.TheVariants.{NoCert}
 use Rattle.iss_node.proofs.OwnEpoch.{start-is}
-use Rattle.iss_node.specs.State.{AreHeld, ReplicaState}
+use Rattle.iss_node.specs.State.{StateRefinesCore, StateView}
 use Rattle.iss_node.specs.Steps.{IsHeldDropped, IsHeldTaken}
 use Rattle.iss_node.specs.Transfers.{IsHandedPiece, held_values}
 use Rattle.iss_node.specs.declared.answers.Outcome.{Outcome}
 use Rattle.iss_packet.specs.Packets.{spell_packet}
-use Rattle.iss_packet.specs.declared.packets.PacketKind.TheVariants.{Piece as Of_piece}
+use Rattle.iss_packet.specs.declared.packets.PacketKind.TheVariants.{Piece as Kind_piece}
 use Rattle.iss_request.specs.declared.ids.NodeId.{NodeId}
 use Rattle.iss_request.specs.declared.requests.Value.{Value}
 use Rattle.iss_request.specs.declared.setups.Setup.{Setup}
@@ -80,7 +80,7 @@ none-held false xs h = refl
 lt-of-le : (a b : ℕ) (t : Bool) → nat_le a b ≡ t → nat_lt b a ≡ not t
 lt-of-le a b t h = grind (arith, nat_tests)
 
-module _ {M Msg : Type 0} (m : Module Msg) (stands : M → Params → ℕ → List (Item Msg) → Type 0) (v : ReplicaState M Msg) (to : NodeId) (e : ℕ) (c : Core Msg) (h : AreHeld m stands v c) where
+module _ {M Msg : Type 0} (m : Module Msg) (refines : M → Params → ℕ → List (Item Msg) → Type 0) (v : StateView M Msg) (to : NodeId) (e : ℕ) (c : Core Msg) (h : StateRefinesCore m refines v c) where
   abbrev pub F : Formats Msg
   F = formats_of v.setup m
 
@@ -88,7 +88,7 @@ module _ {M Msg : Type 0} (m : Module Msg) (stands : M → Params → ℕ → Li
   R = rules_of v.setup
 
   log-is : log_of R m v.me.0 c.past ≡ reverse v.log.entries
-  log-is = h.parts.tied.log
+  log-is = h.state.tied.log
 
   -- whether the log lacks a slot of the epoch
   lacks : (t : Bool) → nat_le (suc e * v.setup.epoch) (length v.log.entries) ≡ t → nat_lt (length (log_of R m v.me.0 c.past)) (start_of R (log_of R m v.me.0 c.past) (suc e)) ≡ not t
@@ -97,25 +97,25 @@ module _ {M Msg : Type 0} (m : Module Msg) (stands : M → Params → ℕ → Li
       ∙ ap (λ (k : ℕ). nat_lt k (suc e * v.setup.epoch)) (ap (λ (ys : List Value). length ys) log-is ∙ length-reverse v.log.entries)
       ∙ lt-of-le (suc e * v.setup.epoch) (length v.log.entries) t q
 
-  pub hands-short : (o : Option Cert) (cert : Cert) → o ≡ Some cert → None ≡ held_values v e → IsHeldDropped m stands c (hands_out F R m v.me.0 c to.0 e o) v NoCert
-  hands-short o cert is gone = let short = lacks false (none-held _ _ gone) in record { step_is = rw (is, short) refl; stands_for = h }
+  pub hands-short : (o : Option Cert) (cert : Cert) → o ≡ Some cert → None ≡ held_values v e → IsHeldDropped m refines c (hands_out F R m v.me.0 c to.0 e o) v NoCert
+  hands-short o cert is gone = let short = lacks false (none-held _ _ gone) in record { step_is = rw (is, short) refl; refined = h }
 
   pub hands-so : (o : Option Cert) (p : Piece) (out : Outcome) → o ≡ Some p.cert → Some p.values ≡ held_values v e → p.epoch.0 ≡ e → IsHandedPiece v to p out → to.0 < v.setup.n → (asked : Type 0) →
-      IsHeldTaken m stands asked (hands_out F R m v.me.0 c to.0 e o) v out
+      IsHeldTaken m refines asked (hands_out F R m v.me.0 c to.0 e o) v out
   hands-so o p out is held epoch handed low asked =
       let both = some-held _ _ _ held in
       let full = lacks true both.0 in
       let values : p.values ≡ values_of R (log_of R m v.me.0 c.past) e =
       both.1 ∙ sym (values-are v.setup v.log.entries e (leb-true (suc e * v.setup.epoch) (length v.log.entries) both.0)) ∙ ap (λ (ys : List Value). values_of R ys e) (sym log-is) in
       let piece : p ≡ record { epoch = record { 0 = e }; values = values_of R (log_of R m v.me.0 c.past) e; cert = p.cert } = λ i. record { epoch = record { 0 = epoch i }; values = values i; cert = p.cert } in
-      let packet : Piece → List ℕ = λ z. spell_packet v.setup.version (record { kind = Of_piece; from = v.me.0; epoch = z.epoch; leader = 0; body = spell_piece v.setup.version z }) in
+      let packet : Piece → List ℕ = λ z. spell_packet v.setup.version (record { kind = Kind_piece; from = v.me.0; epoch = z.epoch; leader = 0; body = spell_piece v.setup.version z }) in
       let sent : out.sends ≡ (One to, packet (record { epoch = record { 0 = e }; values = values_of R (log_of R m v.me.0 c.past) e; cert = p.cert })) ∷ [] =
       handed.sent ∙ ap (λ (z : Piece). (One to, packet z) ∷ []) piece in
       record {
         turn = handing F R m v.me.0 c to.0 e p.cert;
         step_is = rw (is, full) refl;
         turned = record {
-          stands_for = h;
+          refined = h;
           made = record { sends = sent; own = handed.own; early = handed.early; hashed = handed.hashed };
           addressed = λ a. subst (λ (xs : List (To × List ℕ)). AreToNodes v.setup.n xs) (sym sent) (low, tt);
         };

@@ -19,14 +19,14 @@ use Rattle.iss_node.proofs.TiedLemmas.{bounded}
 use Rattle.iss_node.proofs.EpochLemmas.{over-tied}
 use Rattle.iss_node.proofs.NextLemmas.{next-parts}
 use Rattle.iss_node.proofs.OwnEpoch.{has-slots, start-is}
-use Rattle.iss_node.specs.Shape.{IsReplica}
-use Rattle.iss_node.specs.State.{AreParts, IsTied, ReplicaState, core_of, seen_early}
+use Rattle.iss_node.specs.Shape.{IsNodeState}
+use Rattle.iss_node.specs.State.{RefinesBareCore, RefinesPast, StateView, core_of, seen_early}
 use Rattle.iss_node.specs.Steps.{IsEnded, IsLater, IsNextEpoch, IsTurned}
 use Rattle.iss_node.specs.Votes.{IsVoteHandedOut, IsVoted}
 use Rattle.iss_node.specs.declared.answers.Early.{Early}
 use Rattle.iss_node.specs.declared.answers.Outcome.{Outcome}
 use Rattle.iss_packet.specs.Packets.{spell_packet}
-use Rattle.iss_packet.specs.declared.packets.PacketKind.TheVariants.{Vote as Of_vote}
+use Rattle.iss_packet.specs.declared.packets.PacketKind.TheVariants.{Vote as Kind_vote}
 use Rattle.iss_request.specs.declared.requests.Value.{Value}
 use Rattle.iss_sb.specs.Calls.{AreToNodes}
 use Rattle.iss_sb.specs.Evidence.{Item, Module}
@@ -35,9 +35,9 @@ use Rattle.iss_sb.specs.declared.effects.To.{To}
 use Rattle.iss_sb.specs.declared.effects.To.TheVariants.{All}
 
 -- a node whose next leaf signed keeps what it is tied to
-pub signed-tied : {M Msg : Type 0} (m : Module Msg) (stands : M → Params → ℕ → List (Item Msg) → Type 0) (v : ReplicaState M Msg) (past : Past Msg) → IsTied m stands v past →
-    IsTied m stands (record v { keys = record v.keys { used = v.keys.used + 1 } }) past
-signed-tied m stands v past tied = record {
+pub signed-tied : {M Msg : Type 0} (m : Module Msg) (refines : M → Params → ℕ → List (Item Msg) → Type 0) (v : StateView M Msg) (past : Past Msg) → RefinesPast m refines v past →
+    RefinesPast m refines (record v { keys = record v.keys { used = v.keys.used + 1 } }) past
+signed-tied m refines v past tied = record {
   epoch = tied.epoch;
   log = tied.log;
   chained = tied.chained;
@@ -57,7 +57,7 @@ signed-tied m stands v past tied = record {
   keys = record { own = tied.keys.own; tall = tied.keys.tall };
 }
 
-signed-shape : {M Msg : Type 0} (m : Module Msg) (v : ReplicaState M Msg) → IsReplica m v → IsReplica m (record v { keys = record v.keys { used = v.keys.used + 1 } })
+signed-shape : {M Msg : Type 0} (m : Module Msg) (v : StateView M Msg) → IsNodeState m v → IsNodeState m (record v { keys = record v.keys { used = v.keys.used + 1 } })
 signed-shape m v h = record {
   good = h.good;
   me = h.me;
@@ -74,15 +74,15 @@ signed-shape m v h = record {
 
 -- ---- the vote at an epoch's end
 
-module _ {M Msg : Type 0} (m : Module Msg) (stands : M → Params → ℕ → List (Item Msg) → Type 0) (v : ReplicaState M Msg) (shape : IsReplica m v)
-    (past : Past Msg) (tied : IsTied m stands v past) (complete : is_complete (rules_of v.setup) m v.me.0 past ≡ true) (u : ReplicaState M Msg) (vote : Vote) (voted : IsVoted v u vote) where
+module _ {M Msg : Type 0} (m : Module Msg) (refines : M → Params → ℕ → List (Item Msg) → Type 0) (v : StateView M Msg) (shape : IsNodeState m v)
+    (past : Past Msg) (tied : RefinesPast m refines v past) (complete : is_complete (rules_of v.setup) m v.me.0 past ≡ true) (u : StateView M Msg) (vote : Vote) (voted : IsVoted v u vote) where
   -- the log ends with the epoch
   whole : v.plan.start + v.setup.epoch ≡ length v.log.entries
   whole =
       let R = rules_of v.setup in
       let first = tied.start in
       let start = start-is v.setup (log_of R m v.me.0 past) (suc past.epoch) in
-      let long = ended-start R (has-slots v.setup shape.good.good) m v.me.0 past (bounded m stands v shape past tied) complete in
+      let long = ended-start R (has-slots v.setup shape.good.good) m v.me.0 past (bounded m refines v shape past tied) complete in
       let same = ap (λ (ys : List Value). length ys) tied.log ∙ length-reverse v.log.entries in
       omega (arith, first, start, long, same)
 
@@ -97,7 +97,7 @@ module _ {M Msg : Type 0} (m : Module Msg) (stands : M → Params → ℕ → Li
   end-is =
       let version = shape.version in
       let log : ended_log (rules_of v.setup) m v.me.0 past ≡ reverse v.log.entries =
-      ended-whole (rules_of v.setup) (has-slots v.setup shape.good.good) m v.me.0 past (bounded m stands v shape past tied) complete ∙ tied.log in
+      ended-whole (rules_of v.setup) (has-slots v.setup shape.good.good) m v.me.0 past (bounded m refines v shape past tied) complete ∙ tied.log in
       let end = tied.chained.ends (v.plan.start + v.setup.epoch) (omega (arith, whole)) in
       some-injective said (end_of v.chains.version (take (v.plan.start + v.setup.epoch) v.log.entries)) (sym voted.end ∙ end)
       ∙ ap (λ (k : ℕ). end_of k (take (v.plan.start + v.setup.epoch) v.log.entries)) version
@@ -123,26 +123,26 @@ module _ {M Msg : Type 0} (m : Module Msg) (stands : M → Params → ℕ → Li
   }
 
   -- it is handed out, and the next epoch begins
-  module _ (o : Outcome) (w : ReplicaState M Msg) (early : List (Early Msg)) (handed : IsVoteHandedOut u vote o) (next : IsNextEpoch stands u w early) (later : IsLater u w) where
-    abbrev pub after : ReplicaState M Msg
+  module _ (o : Outcome) (w : StateView M Msg) (early : List (Early Msg)) (handed : IsVoteHandedOut u vote o) (next : IsNextEpoch refines u w early) (later : IsLater u w) where
+    abbrev pub after : StateView M Msg
     after = record v { keys = record v.keys { used = v.keys.used + 1 } }
 
     there : IsVoteHandedOut after vote o
-    there = subst (λ (z : ReplicaState M Msg). IsVoteHandedOut z vote o) voted.rest handed
+    there = subst (λ (z : StateView M Msg). IsVoteHandedOut z vote o) voted.rest handed
 
-    begins : IsNextEpoch stands after w early
-    begins = subst (λ (z : ReplicaState M Msg). IsNextEpoch stands z w early) voted.rest next
+    begins : IsNextEpoch refines after w early
+    begins = subst (λ (z : StateView M Msg). IsNextEpoch refines z w early) voted.rest next
 
-    parts : AreParts m stands w (record (in_next_epoch (core_of v past)) { leaf = suc v.keys.used })
-    parts = subst (λ (k : ℕ). AreParts m stands w (record (in_next_epoch (core_of v past)) { leaf = k })) (add-one v.keys.used)
-        (next-parts m stands after shape.slots (before_own (rules_of v.setup) m v.me.0 past) past (over-tied m stands after (signed-shape m v shape) past (signed-tied m stands v past tied) complete) w early begins)
+    parts : RefinesBareCore m refines w (record (in_next_epoch (core_of v past)) { leaf = suc v.keys.used })
+    parts = subst (λ (k : ℕ). RefinesBareCore m refines w (record (in_next_epoch (core_of v past)) { leaf = k })) (add-one v.keys.used)
+        (next-parts m refines after shape.slots (before_own (rules_of v.setup) m v.me.0 past) past (over-tied m refines after (signed-shape m v shape) past (signed-tied m refines v past tied) complete) w early begins)
 
     abbrev packet : Vote → List ℕ
-    packet z = spell_packet v.setup.version (record { kind = Of_vote; from = z.by.0; epoch = z.epoch; leader = 0; body = spell_vote z })
+    packet z = spell_packet v.setup.version (record { kind = Kind_vote; from = z.by.0; epoch = z.epoch; leader = 0; body = spell_vote z })
 
-    pub ended-so : IsTurned m stands (ends (formats_of v.setup m) (rules_of v.setup) m v.me.0 (core_of v past)) w o
+    pub ended-so : IsTurned m refines (ends (formats_of v.setup m) (rules_of v.setup) m v.me.0 (core_of v past)) w o
     ended-so = record {
-      stands_for = parts;
+      refined = parts;
       made = record {
         sends = there.sent ∙ ap (λ (z : Vote). (All, packet z) ∷ []) vote-is;
         own = there.own ∙ ap (λ (z : Vote). claim_by v.setup.tag z ∷ []) vote-is;
@@ -153,9 +153,9 @@ module _ {M Msg : Type 0} (m : Module Msg) (stands : M → Params → ℕ → Li
     }
 
 -- the epoch's end
-pub ended-all : {M Msg : Type 0} (m : Module Msg) (stands : M → Params → ℕ → List (Item Msg) → Type 0) (v u w : ReplicaState M Msg) (shape : IsReplica m v) (vote : Vote) (o : Outcome) (early : List (Early Msg)) →
-    IsVoted v u vote → IsVoteHandedOut u vote o → IsNextEpoch stands u w early → IsLater u w → IsEnded m stands v w o early
-ended-all m stands v u w shape vote o early voted handed next later = record {
-  turned = λ past tied complete. ended-so m stands v shape past tied complete u vote voted o w early handed next later;
-  kept = next.kept ∙ ap (λ (z : ReplicaState _ _). z.early) voted.rest;
+pub ended-all : {M Msg : Type 0} (m : Module Msg) (refines : M → Params → ℕ → List (Item Msg) → Type 0) (v u w : StateView M Msg) (shape : IsNodeState m v) (vote : Vote) (o : Outcome) (early : List (Early Msg)) →
+    IsVoted v u vote → IsVoteHandedOut u vote o → IsNextEpoch refines u w early → IsLater u w → IsEnded m refines v w o early
+ended-all m refines v u w shape vote o early voted handed next later = record {
+  turned = λ past tied complete. ended-so m refines v shape past tied complete u vote voted o w early handed next later;
+  kept = next.kept ∙ ap (λ (z : StateView _ _). z.early) voted.rest;
 }

@@ -2,12 +2,12 @@
 use Rattle.std.specs.Prelude.{◌≡◌, ℕ, Bool, ◌&&◌, ◌==◌, not, is_some, List, [], ◌∷◌, ◌++◌, Some}
 use Rattle.std.specs.List.{list_any}
 use Rattle.iss_buckets.specs.Waiting.{cut, may_cast, uncut}
-use Rattle.iss_ids.specs.Set.{and_ids}
+use Rattle.iss_window.specs.Ids.{and_ids}
 use Rattle.iss_log.specs.LogState.{LogState, value_at}
 use Rattle.iss_rules.specs.Parcels.{Formats}
-use Rattle.iss_model.specs.Node.{Core, Turn, inputs, is_mine}
+use Rattle.iss_model.specs.Node.{Core, Turn, is_mine, step_unjudged}
 use Rattle.iss_rules.specs.Rules.{Rules}
-use Rattle.iss_node.specs.State.{ReplicaState, led}
+use Rattle.iss_node.specs.State.{StateView, led}
 use Rattle.iss_request.specs.declared.ids.Slot.{Slot}
 use Rattle.iss_request.specs.declared.requests.Batch.{Batch}
 use Rattle.iss_sb.specs.Evidence.{Item, Module}
@@ -21,7 +21,7 @@ is_open m p me xs log flight s = not (list_any (λ (x : Slot × Batch). x.0.0 ==
     (not (is_some (value_at log s.0)) && is_some (m.asks p me xs (Cast s [])))
 
 -- a batch was cut for a slot, by the marks of the node's own instance: its requests wait no more and are in flight
-pub record IsCut {M Msg : Type 0} (old new : ReplicaState M Msg) (slot : Slot) (batch : Batch) : Type 0 where
+pub record IsCut {M Msg : Type 0} (old new : StateView M Msg) (slot : Slot) (batch : Batch) : Type 0 where
   pub own : SegmentState M
   pub at : led old.segments old.me.0 ≡ Some own
   pub taken : batch ≡ cut old.setup.batch (may_cast old.plan old.me.0 own.marked) old.waiting
@@ -33,4 +33,4 @@ pub record IsCut {M Msg : Type 0} (old new : ReplicaState M Msg) (slot : Slot) (
 abbrev pub casting : {Msg : Type 0} → Formats Msg → Rules → Module Msg → ℕ → Core Msg → Slot → Turn Msg
 casting F R m me c s =
     let batch = cut R.batch (is_mine R m me c) c.waiting in
-    inputs F R m me (record c { waiting = uncut R.batch (is_mine R m me c) c.waiting; flight = c.flight ++ (s, batch) ∷ [] }) me (Cast s batch)
+    step_unjudged F R m me (record c { waiting = uncut R.batch (is_mine R m me c) c.waiting; flight = c.flight ++ (s, batch) ∷ [] }) me (Cast s batch)

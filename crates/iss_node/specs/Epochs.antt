@@ -4,7 +4,7 @@ use Rattle.std.specs.List.{filter}
 use Rattle.iss_layout.specs.Layout.{Ended, IsStanding, Plan, conduct_of, leads, plan_by, segment, slots_from}
 use Rattle.iss_rules.specs.Concrete.{keys_of}
 use Rattle.iss_model.specs.Node.{is_nil_at}
-use Rattle.iss_node.specs.State.{ReplicaState, led}
+use Rattle.iss_node.specs.State.{StateView, led}
 use Rattle.iss_node.specs.declared.answers.Outcome.{Outcome}
 use Rattle.iss_request.specs.declared.ids.NodeId.{NodeId}
 use Rattle.iss_request.specs.declared.ids.ReqId.{ReqId}
@@ -12,12 +12,12 @@ use Rattle.iss_request.specs.declared.setups.Setup.{Setup}
 use Rattle.iss_sb.specs.declared.effects.Params.{Params}
 use Rattle.iss_sb.specs.Calls.{Relation}
 use Rattle.iss_segment.specs.Instance.{IsInstance, SegmentState}
-use Rattle.iss_window.specs.Kept.{StandsFor}
+use Rattle.iss_window.specs.Kept.{RefinesNoted}
 use Rattle.iss_window.specs.Window.{Noted, and_closed, and_noted}
 
 -- what was made later, behind what was made before
-abbrev pub both : Outcome → Outcome → Outcome
-both a b = record { sends = a.sends ++ b.sends; own = a.own ++ b.own; early = a.early ++ b.early; hashed = a.hashed ++ b.hashed }
+abbrev pub appended : Outcome → Outcome → Outcome
+appended a b = record { sends = a.sends ++ b.sends; own = a.own ++ b.own; early = a.early ++ b.early; hashed = a.hashed ++ b.hashed }
 
 -- these identities were noted, one after the other
 abbrev pub notes : Noted → List ReqId → Noted
@@ -25,13 +25,13 @@ notes n [] = n
 notes n (x ∷ xs) = notes (and_noted n x) xs
 
 -- what the policy learns of the epoch: its division, and which of its slots became nil
-abbrev pub ended_of : {M Msg : Type 0} → ReplicaState M Msg → Ended
+abbrev pub ended_of : {M Msg : Type 0} → StateView M Msg → Ended
 ended_of v = record { plan = v.plan; nils = filter (λ s. is_nil_at (reverse v.log.entries) s.0) (slots_from v.plan.start v.setup.epoch) }
 
 -- the policy learned of the epoch, and the windows noted what joined the log in it and moved on
-pub record HasClosed {M Msg : Type 0} (old new : ReplicaState M Msg) : Type 0 where
+pub record HasClosed {M Msg : Type 0} (old new : StateView M Msg) : Type 0 where
   pub standing : (past : List Ended) → IsStanding old.setup past old.standing → IsStanding old.setup (ended_of old ∷ past) new.standing
-  pub windows : (n : Noted) → StandsFor old.windows n → StandsFor new.windows (and_closed (notes n old.logged))
+  pub windows : (n : Noted) → RefinesNoted old.windows n → RefinesNoted new.windows (and_closed (notes n old.logged))
   pub width : new.windows.width ≡ old.windows.width
 
 -- what the instance of a leader is started with
@@ -40,15 +40,15 @@ params_by s e plan l =
     record { setup = s; epoch = record { 0 = e }; leader = record { 0 = l }; slots = segment plan l; directory = keys_of s }
 
 -- fresh instances for the leaders alone
-pub record AreStarted {M Msg : Type 0} (stands : Relation M Msg) (s : Setup) (me : NodeId) (e : ℕ) (plan : Plan)
+pub record AreStarted {M Msg : Type 0} (refines : Relation M Msg) (s : Setup) (me : NodeId) (e : ℕ) (plan : Plan)
     (segments : List (Option (SegmentState M))) : Type 0 where
   pub leading : (l : ℕ) → is_some (led segments l) ≡ leads plan l
   pub params : (l : ℕ) (g : SegmentState M) → led segments l ≡ Some g → g.params ≡ params_by s e plan l
   pub node : (l : ℕ) (g : SegmentState M) → led segments l ≡ Some g → g.me ≡ me
-  pub instances : (l : ℕ) (g : SegmentState M) → led segments l ≡ Some g → IsInstance stands g []
+  pub instances : (l : ℕ) (g : SegmentState M) → led segments l ≡ Some g → IsInstance refines g []
 
 -- an epoch has begun, by what the policy carries
-pub record HasOpened {M Msg : Type 0} (stands : Relation M Msg) (old new : ReplicaState M Msg) (e start : ℕ) : Type 0 where
+pub record HasOpened {M Msg : Type 0} (refines : Relation M Msg) (old new : StateView M Msg) (e start : ℕ) : Type 0 where
   pub plan : (past : List Ended) → IsStanding old.setup past old.standing → new.plan ≡ plan_by old.setup e start (conduct_of past)
-  pub started : AreStarted stands old.setup old.me e new.plan new.segments
+  pub started : AreStarted refines old.setup old.me e new.plan new.segments
   pub rest : new ≡ record old { epoch = e; plan = new.plan; segments = new.segments; accepted = []; logged = [] }

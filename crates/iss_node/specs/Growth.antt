@@ -2,7 +2,7 @@
 use Rattle.std.specs.Prelude.{◌≡◌, ℕ, List, ◌++◌, length, None}
 use Rattle.iss_base.specs.Lists.{first_of}
 use Rattle.iss_buckets.specs.Waiting.{absent}
-use Rattle.iss_ids.specs.Set.{and_ids}
+use Rattle.iss_window.specs.Ids.{and_ids}
 use Rattle.iss_log.specs.Chains.{ChainsState, IsChainOf, chain_of, strings_from}
 use Rattle.iss_log.specs.LogState.{LogState, value_at}
 use Rattle.iss_node.specs.Cells.{given}
@@ -11,7 +11,7 @@ use Rattle.iss_request.specs.declared.ids.ReqId.{ReqId}
 use Rattle.iss_request.specs.declared.ids.Slot.{Slot}
 use Rattle.iss_request.specs.declared.requests.Request.{Request}
 use Rattle.iss_request.specs.declared.requests.Value.{Value}
-use Rattle.iss_request.specs.declared.requests.Value.TheVariants.{Nil, Batch as Holds}
+use Rattle.iss_request.specs.declared.requests.Value.TheVariants.{Nil, Batch as Value_batch}
 
 -- empty slots took what was delivered for them, and the log is the longest run of filled slots again
 pub record IsGrown (old : LogState) (ds : List (Slot × Value)) (new : LogState) (held : ℕ) : Type 0 where
@@ -24,11 +24,11 @@ pub record IsGrown (old : LogState) (ds : List (Slot × Value)) (new : LogState)
 -- the requests that wait once a value is in the log, and the identities of the log with it
 abbrev pub waits_on : List Request → Value → List Request
 waits_on qs Nil = qs
-waits_on qs (Holds b) = absent (ids b) qs
+waits_on qs (Value_batch b) = absent (ids b) qs
 
 abbrev pub and_values : List ReqId → Value → List ReqId
 and_values xs Nil = xs
-and_values xs (Holds b) = and_ids xs b
+and_values xs (Value_batch b) = and_ids xs b
 
 -- the chain went on with values, and these strings were hashed for them behind others
 pub record AreJoined (old : ChainsState) (log values : List Value) (new : ChainsState) (before after : List (List ℕ)) : Type 0 where

@@ -4,10 +4,10 @@ use Rattle.iss_buckets.specs.Waiting.{AreNew, absent}
 use Rattle.iss_log.specs.Chains.{IsChainOf}
 use Rattle.iss_rules.specs.Formats.{formats_of}
 use Rattle.iss_model.specs.Node.{own_claims, packed, returned}
-use Rattle.iss_causes.specs.declared.causes.Refusal.{Refusal}
+use Rattle.iss_rules.specs.declared.events.Refusal.{Refusal}
 use Rattle.iss_node.specs.Flights.{IsLanded}
 use Rattle.iss_node.specs.Growth.{AreJoined, IsGrown, and_values, waits_on}
-use Rattle.iss_node.specs.State.{ReplicaState, led}
+use Rattle.iss_node.specs.State.{StateView, led}
 use Rattle.iss_node.specs.declared.answers.Accepted.{Accepted}
 use Rattle.iss_node.specs.declared.answers.Outcome.{Outcome}
 use Rattle.iss_request.specs.Log.{has_id, log_ids}
@@ -24,37 +24,37 @@ use Rattle.iss_sb.specs.Calls.{Relation}
 use Rattle.iss_segment.specs.Answers.{IsInstanceTaken, IsVerdict}
 use Rattle.iss_segment.specs.Ground.{noted_before}
 use Rattle.iss_segment.specs.Instance.{SegmentState}
-use Rattle.iss_segment.specs.declared.segment.Halt.{Halt}
-use Rattle.iss_segment.specs.declared.segment.Halt.TheVariants.{Spent, Refused, NoMemory}
-use Rattle.iss_window.specs.Kept.{StandsFor}
+use Rattle.iss_segment.specs.declared.segment.StepRefusal.{StepRefusal}
+use Rattle.iss_segment.specs.declared.segment.StepRefusal.TheVariants.{Spent, Refused, NoMemory}
+use Rattle.iss_window.specs.Kept.{RefinesNoted}
 
 -- the instance of leader l took an input, and nothing else has changed but the keys
-pub record IsInputTaken {M Msg : Type 0} (m : Module Msg) (stands : Relation M Msg)
-    (old new : ReplicaState M Msg) (l : ℕ) (input : Input Msg) (e : Effects Msg) : Type 0 where
+pub record IsInputTaken {M Msg : Type 0} (m : Module Msg) (refines : Relation M Msg)
+    (old new : StateView M Msg) (l : ℕ) (input : Input Msg) (e : Effects Msg) : Type 0 where
   pub was : SegmentState M
   pub is : SegmentState M
   pub at : led old.segments l ≡ Some was
   pub there : led new.segments l ≡ Some is
   pub others : (k : ℕ) → k ≢ l → led new.segments k ≡ led old.segments k
-  pub taken : IsInstanceTaken m stands was is input old.keys new.keys e
+  pub taken : IsInstanceTaken m refines was is input old.keys new.keys e
   pub rest : new ≡ record old { segments = new.segments; keys = new.keys }
 
 -- what the judge says of it
-abbrev pub IsVerdictAt : {M Msg : Type 0} → Module Msg → Relation M Msg → ReplicaState M Msg → ℕ → Input Msg → Option Refusal → Type 0
-IsVerdictAt {M = M} m stands v l input answer = (g : SegmentState M) → led v.segments l ≡ Some g → IsVerdict m stands v.plan v.windows g input answer
+abbrev pub IsVerdictAt : {M Msg : Type 0} → Module Msg → Relation M Msg → StateView M Msg → ℕ → Input Msg → Option Refusal → Type 0
+IsVerdictAt {M = M} m refines v l input answer = (g : SegmentState M) → led v.segments l ≡ Some g → IsVerdict m refines v.plan v.windows g input answer
 
 -- an input that is judged first
-abbrev pub IsJudgedInput : {M Msg : Type 0} → Module Msg → Relation M Msg → ReplicaState M Msg → ReplicaState M Msg →
-    ℕ → Input Msg → Result (Effects Msg) Halt → Type 0
-IsJudgedInput m stands old new l input (Ok e) = IsInputTaken m stands old new l input e × IsVerdictAt m stands old l input None
-IsJudgedInput m stands old new l input (Err (Refused why)) = (new ≡ old) × IsVerdictAt m stands old l input (Some why)
-IsJudgedInput m stands old new l input (Err Spent) = Unit {0}
-IsJudgedInput m stands old new l input (Err NoMemory) = Unit {0}
+abbrev pub IsJudgedInput : {M Msg : Type 0} → Module Msg → Relation M Msg → StateView M Msg → StateView M Msg →
+    ℕ → Input Msg → Result (Effects Msg) StepRefusal → Type 0
+IsJudgedInput m refines old new l input (Ok e) = IsInputTaken m refines old new l input e × IsVerdictAt m refines old l input None
+IsJudgedInput m refines old new l input (Err (Refused why)) = (new ≡ old) × IsVerdictAt m refines old l input (Some why)
+IsJudgedInput m refines old new l input (Err Spent) = Unit {0}
+IsJudgedInput m refines old new l input (Err NoMemory) = Unit {0}
 
 -- these are the identities of the log: of earlier epochs, which the windows noted, and of this one
-pub record AreLogged {M Msg : Type 0} (v : ReplicaState M Msg) (all : List ReqId) : Type 0 where
+pub record AreLogged {M Msg : Type 0} (v : StateView M Msg) (all : List ReqId) : Type 0 where
   pub before : List Value
-  pub noted : StandsFor v.windows (noted_before before)
+  pub noted : RefinesNoted v.windows (noted_before before)
   pub members : (x : ReqId) → has_id x all ≡ (has_id x v.logged || has_id x (log_ids before))
 
 abbrev pub and_accepted : NodeId → List Accepted → Option (Slot × Batch) → List Accepted
@@ -62,14 +62,14 @@ and_accepted l xs None = xs
 and_accepted l xs (Some a) = xs ++ record { leader = l; slot = a.0; batch = a.1 } ∷ []
 
 -- what was cast in slots of the log is in flight no more; where the slot became nil it waits again, unless the log holds it
-pub record HasLanded {M Msg : Type 0} (old new : ReplicaState M Msg) : Type 0 where
+pub record HasLanded {M Msg : Type 0} (old new : StateView M Msg) : Type 0 where
   pub landed : IsLanded old.flight new.flight (length old.log.entries)
   pub waiting : (all : List ReqId) → AreLogged old all →
       AreNew old.waiting (absent all (returned (reverse old.log.entries) old.flight.casts)) →
       new.waiting ≡ old.waiting ++ absent all (returned (reverse old.log.entries) old.flight.casts)
 
 -- the log grew by what was delivered, as far as it goes
-pub record HasGrown {M Msg : Type 0} (old new : ReplicaState M Msg) (delivers : List (Slot × Value)) : Type 0 where
+pub record HasGrown {M Msg : Type 0} (old new : StateView M Msg) (delivers : List (Slot × Value)) : Type 0 where
   pub held : ℕ
   pub grown : IsGrown old.log delivers new.log held
   pub logged : new.logged ≡ fold and_values old.logged grown.joined
@@ -78,13 +78,13 @@ pub record HasGrown {M Msg : Type 0} (old new : ReplicaState M Msg) (delivers : 
   pub rest : new ≡ record old { log = new.log; chains = new.chains; logged = new.logged; flight = new.flight; waiting = new.waiting }
 
 -- the chain grew with the log, and the strings that were hashed for that stand behind others
-pub record IsChained {M Msg : Type 0} (old new : ReplicaState M Msg) (before after : List (List ℕ)) : Type 0 where
+pub record IsChained {M Msg : Type 0} (old new : StateView M Msg) (before after : List (List ℕ)) : Type 0 where
   pub joined : (more : List Value) → new.log.entries ≡ old.log.entries ++ more → IsChainOf old.chains old.log.entries →
       AreJoined old.chains old.log.entries more new.chains before after
   pub version : new.chains.version ≡ old.chains.version
 
 -- what a step of leader l's instance made, as the node hands it out: packets, its own claims in them, and what was hashed
-pub record IsHandedOut {M Msg : Type 0} (m : Module Msg) (v : ReplicaState M Msg) (l : ℕ) (sends : List (To × Msg)) (hashed : List (List ℕ))
+pub record IsHandedOut {M Msg : Type 0} (m : Module Msg) (v : StateView M Msg) (l : ℕ) (sends : List (To × Msg)) (hashed : List (List ℕ))
     (o : Outcome) : Type 0 where
   pub sent : o.sends ≡ packed (formats_of v.setup m) v.me.0 v.epoch l sends
   pub own : (g : SegmentState M) → led v.segments l ≡ Some g → o.own ≡ own_claims m g.params v.me.0 sends
@@ -92,6 +92,6 @@ pub record IsHandedOut {M Msg : Type 0} (m : Module Msg) (v : ReplicaState M Msg
   pub hashed_is : o.hashed ≡ hashed
 
 -- what a step of an instance made is the node's
-pub record IsAbsorbed {M Msg : Type 0} (old new : ReplicaState M Msg) (l : NodeId) (e : Effects Msg) : Type 0 where
+pub record IsAbsorbed {M Msg : Type 0} (old new : StateView M Msg) (l : NodeId) (e : Effects Msg) : Type 0 where
   pub accepted : new.accepted ≡ and_accepted l old.accepted e.accepted
   pub grown : HasGrown (record old { accepted = new.accepted }) new e.delivers

@@ -7,7 +7,7 @@ use Rattle.iss_node.specs.declared.parcels.Parcel.{Parcel}
 use Rattle.iss_checkpoint.specs.declared.votes.Vote.{Vote as Voted}
 use Rattle.iss_packet.specs.declared.packets.Packet.{Packet}
 use Rattle.iss_transfer.specs.declared.pieces.Ask.{Ask as Asked_for}
-use Rattle.iss_transfer.specs.declared.pieces.Piece.{Piece as Pieced}
+use Rattle.iss_transfer.specs.declared.pieces.Piece.{Piece as Sent_piece}
 
 abbrev pub seen_body : {Msg : Type 0} → Body Msg → Held Msg
 seen_body (Message leader msg) = OfModule leader.0 msg
@@ -32,7 +32,7 @@ abbrev pub body_of_ask : {Msg : Type 0} → Option Asked_for → Option (Body Ms
 body_of_ask None = None
 body_of_ask (Some a) = Some Ask
 
-abbrev pub body_of_piece : {Msg : Type 0} → Option Pieced → Option (Body Msg)
+abbrev pub body_of_piece : {Msg : Type 0} → Option Sent_piece → Option (Body Msg)
 body_of_piece None = None
 body_of_piece (Some p) = Some (Piece p)
 

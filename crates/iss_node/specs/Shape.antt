@@ -4,7 +4,7 @@ use Rattle.iss_checkpoint.specs.Votes.{voters_of}
 use Rattle.iss_rules.specs.Concrete.{keys_of}
 use Rattle.iss_model.specs.Node.{Core}
 use Rattle.iss_rules.specs.Setups.{IsSetupOf}
-use Rattle.iss_node.specs.State.{NodeState, ReplicaState, Stands, led}
+use Rattle.iss_node.specs.State.{NodeView, RefinesCore, StateView, led}
 use Rattle.iss_node.specs.declared.answers.Early.{Early}
 use Rattle.iss_request.specs.declared.ids.NodeId.{NodeId}
 use Rattle.iss_request.specs.declared.setups.Setup.{Setup}
@@ -23,7 +23,7 @@ abbrev pub AreFrom : {Msg : Type 0} → ℕ → List (Early Msg) → Type 0
 AreFrom n [] = Unit {0}
 AreFrom n (x ∷ xs) = (x.from.0 < n) × AreFrom n xs
 
-pub record IsReplica {M Msg : Type 0} (m : Module Msg) (v : ReplicaState M Msg) : Type 0 where
+pub record IsNodeState {M Msg : Type 0} (m : Module Msg) (v : StateView M Msg) : Type 0 where
   pub good : IsSetupOf m v.setup
   pub me : v.me.0 < v.setup.n
   pub directory : v.directory ≡ keys_of v.setup
@@ -37,5 +37,5 @@ pub record IsReplica {M Msg : Type 0} (m : Module Msg) (v : ReplicaState M Msg) 
   pub voters : v.ballots.voters ≡ voters_of v.setup v.directory
 
 -- a node stands for a core, or memory was wanting
-abbrev pub IsNode : {M Msg : Type 0} → Module Msg → Relation M Msg → NodeState M Msg → Type 0
-IsNode {Msg = Msg} m stands v = (v.stale ≡ true) ⊎ ((c : Core Msg) × Stands m stands v c)
+abbrev pub IsNode : {M Msg : Type 0} → Module Msg → Relation M Msg → NodeView M Msg → Type 0
+IsNode {Msg = Msg} m refines v = (v.stale ≡ true) ⊎ ((c : Core Msg) × RefinesCore m refines v c)

@@ -32,7 +32,7 @@ use Rattle.iss_segment.specs.Instance.{IsInstance, SameIds, SegmentState}
 use Rattle.iss_window.specs.Kept.{Kept}
 
 -- the parts of a node in its epoch
-pub record ReplicaState (M Msg : Type 0) : Type 0 where
+pub record StateView (M Msg : Type 0) : Type 0 where
   pub setup : Setup
   pub me : NodeId
   pub directory : DirectoryView
@@ -56,8 +56,8 @@ pub record ReplicaState (M Msg : Type 0) : Type 0 where
   pub ballots : BallotsState
   pub keys : KeyState
 
-pub record NodeState (M Msg : Type 0) : Type 0 where
-  pub parts : ReplicaState M Msg
+pub record NodeView (M Msg : Type 0) : Type 0 where
+  pub state : StateView M Msg
   -- memory was wanting
   pub stale : Bool
 
@@ -82,7 +82,7 @@ accepted_of l [] = []
 accepted_of l (x ∷ xs) = cond (x.leader.0 == l) ((x.slot, x.batch) ∷ accepted_of l xs) (accepted_of l xs)
 
 -- the core whose past this is, but for its votes and certificates, which no step of an instance looks at
-abbrev pub core_of : {M Msg : Type 0} → ReplicaState M Msg → Past Msg → Core Msg
+abbrev pub core_of : {M Msg : Type 0} → StateView M Msg → Past Msg → Core Msg
 core_of v past =
     record { past = past; waiting = v.waiting; flight = v.flight.casts; early = seen_early v.early; votes = []; certs = []; leaf = v.keys.used }
 
@@ -93,15 +93,15 @@ slot_value R M me before past s =
     delivered M (R.params before past.epoch l) me (taken_in past l) s
 
 -- the instance of a leader of the epoch stands for what the node took there
-pub record IsLed {M Msg : Type 0} (stands : Relation M Msg) (p : Params) (me : NodeId) (taken : List (Item Msg))
+pub record IsLed {M Msg : Type 0} (refines : Relation M Msg) (p : Params) (me : NodeId) (taken : List (Item Msg))
     (g : SegmentState M) : Type 0 where
   pub params : g.params ≡ p
   pub node : g.me ≡ me
-  pub instance : IsInstance stands g taken
+  pub instance : IsInstance refines g taken
 
 -- the parts stand for the past, over the log before its epoch
-pub record IsTiedOver {M Msg : Type 0} (m : Module Msg) (stands : Relation M Msg)
-    (v : ReplicaState M Msg) (past : Past Msg) (before : List Value) : Type 0 where
+pub record RefinesPastOver {M Msg : Type 0} (m : Module Msg) (refines : Relation M Msg)
+    (v : StateView M Msg) (past : Past Msg) (before : List Value) : Type 0 where
   pub epoch : v.epoch ≡ past.epoch
   pub log : log_of (rules_of v.setup) m v.me.0 past ≡ reverse v.log.entries
   pub chained : IsChainOf v.chains v.log.entries
@@ -117,7 +117,7 @@ pub record IsTiedOver {M Msg : Type 0} (m : Module Msg) (stands : Relation M Msg
   -- its instances
   pub leading : (l : ℕ) → is_some (led v.segments l) ≡ leads v.plan l
   pub instances : (l : ℕ) (g : SegmentState M) → led v.segments l ≡ Some g →
-      IsLed stands ((rules_of v.setup).params before past.epoch l) v.me (taken_in past l) g
+      IsLed refines ((rules_of v.setup).params before past.epoch l) v.me (taken_in past l) g
   pub accepted : (l : ℕ) → reverse (accepted_of l v.accepted) ≡ accepts (taken_in past l)
   -- the requests that are known
   pub logged : SameIds v.logged (log_ids (joined v.plan.start (log_of (rules_of v.setup) m v.me.0 past)))
@@ -125,13 +125,13 @@ pub record IsTiedOver {M Msg : Type 0} (m : Module Msg) (stands : Relation M Msg
   pub sound : IsSoundCore (rules_of v.setup) m v.me.0 (core_of v past)
   pub keys : AreKeysOf v.me.0 v.setup.keys v.keys
 
-abbrev pub IsTied : {M Msg : Type 0} → Module Msg → Relation M Msg → ReplicaState M Msg → Past Msg → Type 0
-IsTied m stands v past = IsTiedOver m stands v past (before_own (rules_of v.setup) m v.me.0 past)
+abbrev pub RefinesPast : {M Msg : Type 0} → Module Msg → Relation M Msg → StateView M Msg → Past Msg → Type 0
+RefinesPast m refines v past = RefinesPastOver m refines v past (before_own (rules_of v.setup) m v.me.0 past)
 
 -- the parts stand for a core. Of earlier epochs nothing is compared but the log
-pub record AreParts {M Msg : Type 0} (m : Module Msg) (stands : Relation M Msg) (v : ReplicaState M Msg) (c : Core Msg) : Type 0 where
+pub record RefinesBareCore {M Msg : Type 0} (m : Module Msg) (refines : Relation M Msg) (v : StateView M Msg) (c : Core Msg) : Type 0 where
   pub core : c ≡ core_of v c.past
-  pub tied : IsTied m stands v c.past
+  pub tied : RefinesPast m refines v c.past
 
 -- a core without its votes and certificates, and with others
 abbrev pub bare : {Msg : Type 0} → Core Msg → Core Msg
@@ -141,11 +141,11 @@ abbrev pub holding : {Msg : Type 0} → List Vote → List Cert → Core Msg →
 holding votes certs c = record c { votes = votes; certs = certs }
 
 -- the parts stand for a core, with its votes and certificates
-pub record AreHeld {M Msg : Type 0} (m : Module Msg) (stands : Relation M Msg) (v : ReplicaState M Msg) (c : Core Msg) : Type 0 where
-  pub parts : AreParts m stands v (bare c)
+pub record StateRefinesCore {M Msg : Type 0} (m : Module Msg) (refines : Relation M Msg) (v : StateView M Msg) (c : Core Msg) : Type 0 where
+  pub state : RefinesBareCore m refines v (bare c)
   pub kept : AreKept v.ballots c.votes c.certs
 
 -- the node stands for a core
-pub record Stands {M Msg : Type 0} (m : Module Msg) (stands : Relation M Msg) (v : NodeState M Msg) (c : Core Msg) : Type 0 where
+pub record RefinesCore {M Msg : Type 0} (m : Module Msg) (refines : Relation M Msg) (v : NodeView M Msg) (c : Core Msg) : Type 0 where
   pub fresh : v.stale ≡ false
-  pub held : AreHeld m stands v.parts c
+  pub held : StateRefinesCore m refines v.state c

@@ -4,12 +4,12 @@ use Rattle.iss_checkpoint.specs.Votes.{vote_statement}
 use Rattle.iss_rules.specs.Concrete.{rules_of}
 use Rattle.iss_rules.specs.Formats.{formats_of}
 use Rattle.iss_rules.specs.Votes.{claims_by}
-use Rattle.iss_model.specs.Node.{Core, adopts_piece, onward, only_by, takes_each}
-use Rattle.iss_node.specs.State.{AreHeld, ReplicaState}
+use Rattle.iss_model.specs.Node.{Core, adopts_piece, then_turn, only_by, takes_each}
+use Rattle.iss_node.specs.State.{StateRefinesCore, StateView}
 use Rattle.iss_node.specs.Steps.{IsHeldTurn}
 use Rattle.iss_node.specs.declared.answers.Outcome.{Outcome}
 use Rattle.iss_packet.specs.Packets.{spell_packet}
-use Rattle.iss_packet.specs.declared.packets.PacketKind.TheVariants.{Piece as Of_piece}
+use Rattle.iss_packet.specs.declared.packets.PacketKind.TheVariants.{Piece as Kind_piece}
 use Rattle.iss_request.specs.declared.ids.NodeId.{NodeId}
 use Rattle.iss_request.specs.declared.ids.Slot.{Slot}
 use Rattle.iss_request.specs.declared.requests.Value.{Value}
@@ -23,17 +23,17 @@ use Rattle.iss_transfer.specs.declared.pieces.Piece.{Piece}
 use Rattle.iss_checkpoint.specs.Votes.{voters_of}
 
 -- from which slot to which an epoch goes, if the log holds all of them, and their values
-abbrev pub held_slots : {M Msg : Type 0} → ReplicaState M Msg → ℕ → Option (ℕ × ℕ)
+abbrev pub held_slots : {M Msg : Type 0} → StateView M Msg → ℕ → Option (ℕ × ℕ)
 held_slots v e = cond (nat_le (suc e * v.setup.epoch) (length v.log.entries)) (Some (e * v.setup.epoch, suc e * v.setup.epoch)) None
 
-abbrev pub held_values : {M Msg : Type 0} → ReplicaState M Msg → ℕ → Option (List Value)
+abbrev pub held_values : {M Msg : Type 0} → StateView M Msg → ℕ → Option (List Value)
 held_values v e =
     cond (nat_le (suc e * v.setup.epoch) (length v.log.entries)) (Some (drop (e * v.setup.epoch) (take (suc e * v.setup.epoch) v.log.entries))) None
 
 -- a piece goes to one node, with the own claims of its certificate
-pub record IsHandedPiece {M Msg : Type 0} (v : ReplicaState M Msg) (to : NodeId) (p : Piece) (o : Outcome) : Type 0 where
+pub record IsHandedPiece {M Msg : Type 0} (v : StateView M Msg) (to : NodeId) (p : Piece) (o : Outcome) : Type 0 where
   pub sent : o.sends ≡
-      (One to, spell_packet v.setup.version (record { kind = Of_piece; from = v.me.0; epoch = p.epoch; leader = 0; body = spell_piece v.setup.version p })) ∷ []
+      (One to, spell_packet v.setup.version (record { kind = Kind_piece; from = v.me.0; epoch = p.epoch; leader = 0; body = spell_piece v.setup.version p })) ∷ []
   pub own : o.own ≡ only_by v.me.0 (claims_by (vote_statement v.setup.tag p.cert.epoch.0 p.cert.chain p.cert.requests) p.cert.signers)
   pub early : o.early ≡ []
   pub hashed : o.hashed ≡ []
@@ -44,10 +44,10 @@ at_slots s [] = []
 at_slots s (v ∷ vs) = (record { 0 = s }, v) ∷ at_slots (suc s) vs
 
 -- the node took over the values of its epoch, for which these strings were hashed, and what came early for the next one
-abbrev pub IsAdoptedBy : {M Msg : Type 0} → Module Msg → Relation M Msg → ReplicaState M Msg → Piece → List (List ℕ) →
-    ReplicaState M Msg → Outcome → Type 0
-IsAdoptedBy {Msg = Msg} m stands old p hashed new outcome = (c : Core Msg) → AreHeld m stands old c →
+abbrev pub IsAdoptedBy : {M Msg : Type 0} → Module Msg → Relation M Msg → StateView M Msg → Piece → List (List ℕ) →
+    StateView M Msg → Outcome → Type 0
+IsAdoptedBy {Msg = Msg} m refines old p hashed new outcome = (c : Core Msg) → StateRefinesCore m refines old c →
     adoption old.setup (voters_of old.setup old.directory) old.log.entries old.epoch p ≡ Adopt hashed →
-    IsHeldTurn m stands (Unit {0})
-    (onward (adopts_piece (rules_of old.setup) m old.me.0 c p) (takes_each (formats_of old.setup m) (rules_of old.setup) m old.me.0 (suc c.past.epoch) c.early))
+    IsHeldTurn m refines (Unit {0})
+    (then_turn (adopts_piece (rules_of old.setup) m old.me.0 c p) (takes_each (formats_of old.setup m) (rules_of old.setup) m old.me.0 (suc c.past.epoch) c.early))
     new outcome

@@ -1,6 +1,6 @@
 //! What a node answers.
-use iss_causes::Why;
-use iss_request::{Batch, Bytes, NodeId, Row, Slot};
+use iss_request::{Batch, Bytes, NodeId, Seq, Slot};
+use iss_rules::Why;
 use iss_sb::{Claim, To};
 use std::alloc::Global;
 
@@ -8,13 +8,13 @@ use std::alloc::Global;
 #[derive(Drop)]
 pub struct Outcome {
     /// Packets, in the order in which they were made.
-    pub sends: Row<(To, Bytes)>,
+    pub sends: Seq<(To, Bytes)>,
     /// The node's own claims in them.
-    pub own: Row<Claim>,
+    pub own: Seq<Claim>,
     /// The claims of what had come early and was tried, also where it was refused then.
-    pub early: Row<Claim>,
+    pub early: Seq<Claim>,
     /// The strings that were hashed, in the order in which they were.
-    pub hashed: Row<Bytes>,
+    pub hashed: Seq<Bytes>,
 }
 
 impl Outcome {
@@ -25,10 +25,10 @@ impl Outcome {
         ensures { result ≡ record { sends = []; own = []; early = []; hashed = [] } }
     {
         Outcome {
-            sends: Row::new(alloc),
-            own: Row::new(alloc),
-            early: Row::new(alloc),
-            hashed: Row::new(alloc),
+            sends: Seq::new(alloc),
+            own: Seq::new(alloc),
+            early: Seq::new(alloc),
+            hashed: Seq::new(alloc),
         }
     }
 }
@@ -45,7 +45,7 @@ pub enum Answer {
 
 /// Whether an event was taken, where there is memory.
 #[derive(Drop)]
-pub enum Stepped {
+pub enum StepResult {
     Taken(Outcome),
     Dropped(Why),
 }

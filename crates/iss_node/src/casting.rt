@@ -5,52 +5,52 @@ ghost use Rattle.iss_model.specs.Node.{first_slot, next_slot, step};
 ghost use Rattle.iss_rules.specs.Past.{Past};
 ghost use Rattle.iss_model.specs.Views.{is_castable_now};
 ghost use Rattle.iss_node.specs.Casts.{IsCut, casting, is_open};
-ghost use Rattle.iss_node.specs.State.{IsTied, core_of, led};
+ghost use Rattle.iss_node.specs.State.{RefinesPast, core_of, led};
 ghost use Rattle.iss_node.specs.Steps.{IsLater, IsStepOf, IsTurnOf};
 ghost use Rattle.iss_sb.specs.Evidence.{Item};
 ghost use Rattle.iss_segment.specs.Instance.{IsInstance, SegmentState};
 
-use crate::answers::{Outcome, Stepped};
+use crate::answers::{Outcome, StepResult};
 use crate::flight::Flight;
-use crate::replica::Replica;
-use iss_causes::{NodeEvent, Why};
+use crate::state::NodeState;
 use iss_log::Log;
 use iss_request::{Batch, NoMemory, Slot};
+use iss_rules::{NodeEvent, Why};
 use iss_sb::{Input, Sequenced};
 use iss_segment::Segment;
 use std::alloc::Global;
 
-impl<M: Sequenced> Replica<M> {
+impl<M: Sequenced> NodeState<M> {
     /// Casts a batch of waiting requests at the next slot that is free for it.
-    pub(crate) fn propose(&mut self, alloc: Global) -> Result<Stepped, NoMemory>
-        ensures answer { IfOk result (λ a. IsStepOf M.meaning M.stands self.old (λ F R me c. step F R M.meaning me c NodeEvent.Propose) self.new a) }
+    pub(crate) fn propose(&mut self, alloc: Global) -> Result<StepResult, NoMemory>
+        ensures answer { IfOk result (λ a. IsStepOf M.spec M.refines self.old (λ F R me c. step F R M.spec me c NodeEvent.Propose) self.new a) }
         ensures later { IsLater self.old self.new }
     {
         if !self.leads(self.me) {
-            return Ok(Stepped::Dropped(Why::NotLeader));
+            return Ok(StepResult::Dropped(Why::NotLeader));
         }
         let Some(slot) = self.next_slot() else {
-            return Ok(Stepped::Dropped(Why::NothingToCast));
+            return Ok(StepResult::Dropped(Why::NothingToCast));
         };
         if !self.has_leaves(self.me) {
-            return Ok(Stepped::Dropped(Why::NoKeys));
+            return Ok(StepResult::Dropped(Why::NoKeys));
         }
         let outcome = self.cast(alloc, slot)?;
-        Ok(Stepped::Taken(self.settles(alloc, outcome)?))
+        Ok(StepResult::Taken(self.advance_epochs(alloc, outcome)?))
     }
 
     /// Whether a proposal would find a slot to cast in.
     pub(crate) fn castable(&self) -> bool
-        ensures { (past : Past M.Msg) → IsTied M.meaning M.stands self.now past →
-            result ≡ is_castable_now (rules_of self.now.setup) M.meaning self.now.me.0 (core_of self.now past) }
+        ensures { (past : Past M.Msg) → RefinesPast M.spec M.refines self.now past →
+            result ≡ is_castable_now (rules_of self.now.setup) M.spec self.now.me.0 (core_of self.now past) }
     {
         self.leads(self.me) && self.next_slot().is_some()
     }
 
     // The first slot of the node's own segment that is neither cast nor filled and for which the module takes casts.
     fn next_slot(&self) -> Option<Slot>
-        ensures { (past : Past M.Msg) (g : SegmentState M) → IsTied M.meaning M.stands self.now past → led self.now.segments self.now.me.0 ≡ Some g →
-            result ≡ next_slot (rules_of self.now.setup) M.meaning self.now.me.0 (core_of self.now past) }
+        ensures { (past : Past M.Msg) (g : SegmentState M) → RefinesPast M.spec M.refines self.now past → led self.now.segments self.now.me.0 ≡ Some g →
+            result ≡ next_slot (rules_of self.now.setup) M.spec self.now.me.0 (core_of self.now past) }
     {
         M::laws();
         let segment = self.segment(self.me)?;
@@ -61,11 +61,11 @@ impl<M: Sequenced> Replica<M> {
     // Casts at a slot, which no test refuses.
     fn cast(&mut self, alloc: Global, slot: Slot) -> Result<Outcome, NoMemory>
         requires { self.old.me.0 < self.old.setup.n }
-        ensures taken { IfOk result (λ outcome. IsTurnOf M.meaning M.stands self.old (λ F R me c. casting F R M.meaning me c slot) self.new outcome) }
+        ensures taken { IfOk result (λ outcome. IsTurnOf M.spec M.refines self.old (λ F R me c. casting F R M.spec me c slot) self.new outcome) }
         ensures later { IsLater self.old self.new }
     {
         let batch = self.cut(alloc, slot)?;
-        self.input(alloc, self.me, Input::Cast { slot, batch })
+        self.step_unjudged(alloc, self.me, Input::Cast { slot, batch })
     }
 
     // Takes a batch of waiting requests, which are in flight then at the slot.
@@ -93,8 +93,8 @@ fn first_castable<M: Sequenced>(
     flight: &Flight,
     slots: &[Slot],
 ) -> Option<Slot>
-    ensures { (xs : List (Item M.Msg)) → IsInstance M.stands segment.now xs →
-        result ≡ first_slot (is_open M.meaning segment.now.params segment.now.me.0 xs log.now flight.now.casts) slots.now }
+    ensures { (xs : List (Item M.Msg)) → IsInstance M.refines segment.now xs →
+        result ≡ first_slot (is_open M.spec segment.now.params segment.now.me.0 xs log.now flight.now.casts) slots.now }
 {
     for slot in slots {
         if is_open(segment, log, flight, *slot) {
@@ -106,8 +106,8 @@ fn first_castable<M: Sequenced>(
 
 // Whether a slot is neither cast nor filled and the module takes casts there.
 fn is_open<M: Sequenced>(segment: &Segment<M>, log: &Log, flight: &Flight, slot: Slot) -> bool
-    ensures { (xs : List (Item M.Msg)) → IsInstance M.stands segment.now xs →
-        result ≡ is_open M.meaning segment.now.params segment.now.me.0 xs log.now flight.now.casts slot }
+    ensures { (xs : List (Item M.Msg)) → IsInstance M.refines segment.now xs →
+        result ≡ is_open M.spec segment.now.params segment.now.me.0 xs log.now flight.now.casts slot }
 {
     M::laws();
     !flight.is_cast(slot) && !log.filled(slot) && segment.casts(slot)

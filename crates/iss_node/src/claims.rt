@@ -7,7 +7,7 @@ ghost use Rattle.iss_rules.specs.Votes.{all_verify};
 ghost use Rattle.iss_model.specs.Node.{claims_in, claims_of_input, only_by, own_claims};
 ghost use Rattle.iss_rules.specs.Past.{Past, leads_in, params_of};
 ghost use Rattle.iss_node.specs.Inputs.{IsHandedOut};
-ghost use Rattle.iss_node.specs.State.{IsTied, led};
+ghost use Rattle.iss_node.specs.State.{RefinesPast, led};
 ghost use Rattle.iss_node.specs.Steps.{IsNodeInput};
 ghost use Rattle.iss_sb.specs.Calls.{IsGoodParams};
 ghost use Rattle.iss_sb.specs.declared.effects.Claim.{Claim as SaidToSign};
@@ -15,13 +15,13 @@ ghost use Rattle.iss_segment.specs.Instance.{SegmentState};
 
 use crate::answers::Outcome;
 use crate::parcels::pack;
-use crate::replica::Replica;
+use crate::state::NodeState;
 use iss_keys::Directory;
-use iss_request::{Bytes, NoMemory, NodeId, Row};
+use iss_request::{Bytes, NoMemory, NodeId, Seq};
 use iss_sb::{Claim, Input, Params, Sequenced, To};
 use std::alloc::Global;
 
-impl<M: Sequenced> Replica<M> {
+impl<M: Sequenced> NodeState<M> {
     /// What a message in the instance of a leader claims, where that leads the epoch.
     pub(crate) fn claims_in(
         &self,
@@ -29,15 +29,15 @@ impl<M: Sequenced> Replica<M> {
         leader: NodeId,
         from: NodeId,
         msg: &M::Msg,
-    ) -> Result<Row<Claim>, NoMemory>
+    ) -> Result<Seq<Claim>, NoMemory>
         requires { from.0 < self.now.setup.n }
-        ensures { IfOk result (λ claims. (past : Past M.Msg) → IsTied M.meaning M.stands self.now past →
-            claims ≡ claims_in (rules_of self.now.setup) M.meaning self.now.me.0 past from.0 leader.0 msg.now) }
+        ensures { IfOk result (λ claims. (past : Past M.Msg) → RefinesPast M.spec M.refines self.now past →
+            claims ≡ claims_in (rules_of self.now.setup) M.spec self.now.me.0 past from.0 leader.0 msg.now) }
     {
         let _setup = &self.setup;
         match self.segment(leader) {
             Some(segment) => M::claims(alloc, segment.params(), from, msg),
-            None => Ok(Row::new(alloc)),
+            None => Ok(Seq::new(alloc)),
         }
     }
 
@@ -49,10 +49,10 @@ impl<M: Sequenced> Replica<M> {
         input: &Input<M::Msg>,
     ) -> Result<bool, NoMemory>
         requires { IsNodeInput self.now.setup.n input.now }
-        ensures { IfOk result (λ b. (past : Past M.Msg) → IsTied M.meaning M.stands self.now past →
-            leads_in (rules_of self.now.setup) M.meaning self.now.me.0 past leader.0 ≡ true →
+        ensures { IfOk result (λ b. (past : Past M.Msg) → RefinesPast M.spec M.refines self.now past →
+            leads_in (rules_of self.now.setup) M.spec self.now.me.0 past leader.0 ≡ true →
             b ≡ all_verify (rules_of self.now.setup)
-            (claims_of_input M.meaning (params_of (rules_of self.now.setup) M.meaning self.now.me.0 past leader.0) input.now)) }
+            (claims_of_input M.spec (params_of (rules_of self.now.setup) M.spec self.now.me.0 past leader.0) input.now)) }
     {
         match input {
             Input::Receive { from, msg } => {
@@ -69,16 +69,16 @@ impl<M: Sequenced> Replica<M> {
         alloc: Global,
         leader: NodeId,
         sends: &[(To, M::Msg)],
-        hashed: Row<Bytes>,
+        hashed: Seq<Bytes>,
     ) -> Result<Outcome, NoMemory>
-        ensures { IfOk result (IsHandedOut M.meaning self.now leader.0 sends.now hashed) }
+        ensures { IfOk result (IsHandedOut M.spec self.now leader.0 sends.now hashed) }
     {
         let own = self.own_in(alloc, leader, sends)?;
         let packets = pack::<M>(alloc, &self.setup, self.epoch, self.me, leader, sends)?;
         Ok(Outcome {
             sends: packets,
             own,
-            early: Row::new(alloc),
+            early: Seq::new(alloc),
             hashed,
         })
     }
@@ -89,14 +89,14 @@ impl<M: Sequenced> Replica<M> {
         alloc: Global,
         leader: NodeId,
         sends: &[(To, M::Msg)],
-    ) -> Result<Row<Claim>, NoMemory>
+    ) -> Result<Seq<Claim>, NoMemory>
         ensures { IfOk result (λ own. (g : SegmentState M) → led self.now.segments leader.0 ≡ Some g →
-            own ≡ own_claims M.meaning g.params self.now.me.0 sends.now) }
+            own ≡ own_claims M.spec g.params self.now.me.0 sends.now) }
     {
         let _setup = &self.setup;
         match self.segment(leader) {
             Some(segment) => own_claims::<M>(alloc, segment.params(), self.me, sends),
-            None => Ok(Row::new(alloc)),
+            None => Ok(Seq::new(alloc)),
         }
     }
 }
@@ -107,12 +107,12 @@ fn own_claims<M: Sequenced>(
     p: &Params,
     me: NodeId,
     sends: &[(To, M::Msg)],
-) -> Result<Row<Claim>, NoMemory>
-    requires good { IsGoodParams M.meaning p.now }
+) -> Result<Seq<Claim>, NoMemory>
+    requires good { IsGoodParams M.spec p.now }
     requires me { me.0 < p.now.setup.n }
-    ensures { IfOk result (λ own. own ≡ own_claims M.meaning p.now me.0 sends.now) }
+    ensures { IfOk result (λ own. own ≡ own_claims M.spec p.now me.0 sends.now) }
 {
-    let mut own = Row::new(alloc);
+    let mut own = Seq::new(alloc);
     for (_, msg) in sends {
         let claims = M::claims(alloc, p, me, msg)?;
         put_own(&mut own, me, claims)?;
@@ -121,7 +121,7 @@ fn own_claims<M: Sequenced>(
 }
 
 /// Puts those of a node at the end.
-pub fn put_own(own: &mut Row<Claim>, me: NodeId, claims: Row<Claim>) -> Result<(), NoMemory>
+pub fn put_own(own: &mut Seq<Claim>, me: NodeId, claims: Seq<Claim>) -> Result<(), NoMemory>
     ensures { OnOk result (own.new ≡ own.old ++ only_by me.0 claims) }
 {
     for claim in claims.into_vec() {

@@ -2,42 +2,51 @@
 ghost use Rattle.std.specs.Prelude.{◌≡◌, ◌<◌, ◌+◌, ◌^◌, ◌++◌, IfOk, OnOk, reverse};
 ghost use Rattle.std.specs.List.{filter};
 ghost use Rattle.iss_layout.specs.Layout.{slots_from};
-ghost use Rattle.iss_model.specs.Node.{at_instance, is_nil_at, onward, settles, takes_each, takes_early, tried};
-ghost use Rattle.iss_node.specs.Epochs.{HasClosed, HasOpened, both, notes};
+ghost use Rattle.iss_model.specs.Node.{advance_epochs, is_nil_at, or_unchanged, takes_each, takes_early, then_turn, try_step};
+ghost use Rattle.iss_node.specs.Epochs.{HasClosed, HasOpened, appended, notes};
 ghost use Rattle.iss_node.specs.Shape.{AreFrom};
 ghost use Rattle.iss_node.specs.State.{seen_early, seen_one};
 ghost use Rattle.iss_node.specs.Steps.{IsEnded, IsLater, IsNextEpoch, IsSettled, IsTurnBehind, IsTurnOf};
-ghost use Rattle.iss_window.specs.Kept.{StandsFor};
+ghost use Rattle.iss_window.specs.Kept.{RefinesNoted};
 ghost use Rattle.iss_window.specs.Window.{Noted};
 
-use crate::answers::{Early, Outcome, Stepped};
+use crate::answers::{Early, Outcome, StepResult};
 use crate::growth::is_nil;
-use crate::replica::Replica;
 use crate::starting::start_segments;
-use iss_ids::Ids;
+use crate::state::NodeState;
 use iss_layout::Layout;
 use iss_log::Log;
-use iss_request::{Epoch, NoMemory, ReqId, Row, Slot};
+use iss_request::{Epoch, NoMemory, ReqId, Seq, Slot};
 use iss_sb::{Claim, Input, Sequenced};
-use iss_window::Windows;
+use iss_window::{Ids, Windows};
 use std::alloc::Global;
 use std::mem;
 
-impl<M: Sequenced> Replica<M> {
+impl<M: Sequenced> NodeState<M> {
     /// Where a step fills the epoch, the next one begins with what came early for it.
-    pub(crate) fn settled(&mut self, alloc: Global, step: Stepped) -> Result<Stepped, NoMemory>
-        ensures answer { IfOk result (λ a. IsSettled M.meaning M.stands self.old self.new step a) }
+    pub(crate) fn finish_step(
+        &mut self,
+        alloc: Global,
+        step: StepResult,
+    ) -> Result<StepResult, NoMemory>
+        ensures answer { IfOk result (λ a. IsSettled M.spec M.refines self.old self.new step a) }
         ensures later { IsLater self.old self.new }
     {
         match step {
-            Stepped::Taken(outcome) => Ok(Stepped::Taken(self.settles(alloc, outcome)?)),
-            Stepped::Dropped(why) => Ok(Stepped::Dropped(why)),
+            StepResult::Taken(outcome) => Ok(StepResult::Taken(self.advance_epochs(
+                alloc, outcome,
+            )?)),
+            StepResult::Dropped(why) => Ok(StepResult::Dropped(why)),
         }
     }
 
     /// The same of a turn that was made: the node votes on the epoch that it filled.
-    pub(crate) fn settles(&mut self, alloc: Global, outcome: Outcome) -> Result<Outcome, NoMemory>
-        ensures turn { IfOk result (λ o. IsTurnBehind M.meaning M.stands self.old (λ F R me t. settles F R M.meaning me t) outcome self.new o) }
+    pub(crate) fn advance_epochs(
+        &mut self,
+        alloc: Global,
+        outcome: Outcome,
+    ) -> Result<Outcome, NoMemory>
+        ensures turn { IfOk result (λ o. IsTurnBehind M.spec M.refines self.old (λ F R me t. advance_epochs F R M.spec me t) outcome self.new o) }
         ensures later { IsLater self.old self.new }
     {
         if !self.is_complete() {
@@ -45,14 +54,14 @@ impl<M: Sequenced> Replica<M> {
         }
         let mut all = outcome;
         let (vote, early) = self.end_epoch(alloc)?;
-        put_behind(&mut all, vote)?;
+        append_outcome(&mut all, vote)?;
         self.take_each(alloc, all, early)
     }
 
     // Votes on the node's epoch, which is over, and begins the next one. Gives the messages that came early for it.
     fn end_epoch(&mut self, alloc: Global) -> Result<(Outcome, Vec<Early<M::Msg>>), NoMemory>
-        ensures ended { IfOk result (λ both. IsEnded M.meaning M.stands self.old self.new both.0 both.1.items) }
-        ensures from { IfOk result (λ both. AreFrom self.new.setup.n both.1.items) }
+        ensures ended { IfOk result (λ appended. IsEnded M.spec M.refines self.old self.new appended.0 appended.1.items) }
+        ensures from { IfOk result (λ appended. AreFrom self.new.setup.n appended.1.items) }
         ensures later { IsLater self.old self.new }
     {
         let _setup = &self.setup;
@@ -70,8 +79,8 @@ impl<M: Sequenced> Replica<M> {
         early: Vec<Early<M::Msg>>,
     ) -> Result<Outcome, NoMemory>
         requires { AreFrom self.old.setup.n early.items }
-        ensures turn { IfOk result (λ o. IsTurnBehind M.meaning M.stands self.old
-            (λ F R me t. onward t (takes_each F R M.meaning me self.old.epoch (seen_early early.items))) outcome self.new o) }
+        ensures turn { IfOk result (λ o. IsTurnBehind M.spec M.refines self.old
+            (λ F R me t. then_turn t (takes_each F R M.spec me self.old.epoch (seen_early early.items))) outcome self.new o) }
         ensures later { IsLater self.old self.new }
     {
         let epoch = self.epoch;
@@ -79,7 +88,7 @@ impl<M: Sequenced> Replica<M> {
         for message in early {
             if self.epoch.0 == epoch.0 {
                 let more = self.take_early(alloc, message)?;
-                put_behind(&mut all, more)?;
+                append_outcome(&mut all, more)?;
             }
         }
         Ok(all)
@@ -88,14 +97,14 @@ impl<M: Sequenced> Replica<M> {
     // Takes an early message, as if it came now. One that is refused is gone, but its claims were read.
     fn take_early(&mut self, alloc: Global, message: Early<M::Msg>) -> Result<Outcome, NoMemory>
         requires { message.from.0 < self.old.setup.n }
-        ensures turn { IfOk result (λ o. IsTurnOf M.meaning M.stands self.old (λ F R me c. takes_early F R M.meaning me c (seen_one message)) self.new o) }
+        ensures turn { IfOk result (λ o. IsTurnOf M.spec M.refines self.old (λ F R me c. takes_early F R M.spec me c (seen_one message)) self.new o) }
         ensures later { IsLater self.old self.new }
     {
         let claims = self.claims_in(alloc, message.leader, message.from, &message.msg)?;
         let mut outcome = self.try_now(alloc, message)?;
         if self.is_complete() {
             let (vote, _gone) = self.end_epoch(alloc)?;
-            put_behind(&mut outcome, vote)?;
+            append_outcome(&mut outcome, vote)?;
         }
         Ok(with_early(outcome, claims))
     }
@@ -103,21 +112,21 @@ impl<M: Sequenced> Replica<M> {
     // Takes a message of the epoch, if it is not refused.
     fn try_now(&mut self, alloc: Global, message: Early<M::Msg>) -> Result<Outcome, NoMemory>
         requires { message.from.0 < self.old.setup.n }
-        ensures turn { IfOk result (λ o. IsTurnOf M.meaning M.stands self.old
-            (λ F R me c. tried c (at_instance F R M.meaning me c message.leader.0 (Input.Receive message.from message.msg))) self.new o) }
+        ensures turn { IfOk result (λ o. IsTurnOf M.spec M.refines self.old
+            (λ F R me c. or_unchanged c (try_step F R M.spec me c message.leader.0 (Input.Receive message.from message.msg))) self.new o) }
         ensures later { IsLater self.old self.new }
     {
         let Early { from, leader, msg } = message;
-        match self.at_instance(alloc, leader, Input::Receive { from, msg })? {
-            Stepped::Taken(outcome) => Ok(outcome),
-            Stepped::Dropped(_) => Ok(Outcome::nothing(alloc)),
+        match self.try_step(alloc, leader, Input::Receive { from, msg })? {
+            StepResult::Taken(outcome) => Ok(outcome),
+            StepResult::Dropped(_) => Ok(Outcome::nothing(alloc)),
         }
     }
 
     /// The epoch is over, and the next one begins with fresh instances. Gives the messages that came early for it. Want
     /// of memory comes also where slots would pass 2^64 - 1.
     pub(crate) fn next_epoch(&mut self, alloc: Global) -> Result<Vec<Early<M::Msg>>, NoMemory>
-        ensures next { IfOk result (λ early. IsNextEpoch M.stands self.old self.new early.items) }
+        ensures next { IfOk result (λ early. IsNextEpoch M.refines self.old self.new early.items) }
         ensures from { IfOk result (λ early. AreFrom self.new.setup.n early.items) }
         ensures later { IsLater self.old self.new }
     {
@@ -149,7 +158,7 @@ impl<M: Sequenced> Replica<M> {
     // An epoch begins, with fresh instances.
     fn open(&mut self, alloc: Global, epoch: Epoch, start: u64) -> Result<(), NoMemory>
         requires { start + self.old.setup.epoch < 2 ^ 64 }
-        ensures opened { OnOk result (HasOpened M.stands self.old self.new epoch.0 start) }
+        ensures opened { OnOk result (HasOpened M.refines self.old self.new epoch.0 start) }
         ensures later { IsLater self.old self.new }
     {
         let layout = Layout::of(&self.setup, epoch, start, &self.standing);
@@ -171,11 +180,11 @@ impl<M: Sequenced> Replica<M> {
 }
 
 // The slots among so many from the first on that hold nil, ascending.
-fn nil_slots(alloc: Global, log: &Log, first: u64, count: u64) -> Result<Row<Slot>, NoMemory>
+fn nil_slots(alloc: Global, log: &Log, first: u64, count: u64) -> Result<Seq<Slot>, NoMemory>
     requires { first + count < 2 ^ 64 }
     ensures { IfOk result (λ nils. nils ≡ filter (λ s. is_nil_at (reverse log.now.entries) s.0) (slots_from first count)) }
 {
-    let mut nils = Row::new(alloc);
+    let mut nils = Seq::new(alloc);
     for k in 0..count {
         let slot = Slot(first + k);
         if is_nil(log, slot) {
@@ -186,7 +195,7 @@ fn nil_slots(alloc: Global, log: &Log, first: u64, count: u64) -> Result<Row<Slo
 }
 
 fn note_all(windows: &mut Windows, ids: &[ReqId]) -> Result<(), NoMemory>
-    ensures noted { OnOk result ((n : Noted) → StandsFor windows.old n → StandsFor windows.new (notes n ids.now)) }
+    ensures noted { OnOk result ((n : Noted) → RefinesNoted windows.old n → RefinesNoted windows.new (notes n ids.now)) }
     ensures width { windows.new.width ≡ windows.old.width }
 {
     for id in ids {
@@ -196,7 +205,7 @@ fn note_all(windows: &mut Windows, ids: &[ReqId]) -> Result<(), NoMemory>
 }
 
 // A turn's outcome with these claims of what had come early.
-fn with_early(outcome: Outcome, claims: Row<Claim>) -> Outcome
+fn with_early(outcome: Outcome, claims: Seq<Claim>) -> Outcome
     ensures { result ≡ record outcome { early = claims } }
 {
     let Outcome {
@@ -214,8 +223,8 @@ fn with_early(outcome: Outcome, claims: Row<Claim>) -> Outcome
 }
 
 // Puts what was made later behind what was made before.
-fn put_behind(all: &mut Outcome, more: Outcome) -> Result<(), NoMemory>
-    ensures { OnOk result (all.new ≡ both all.old more) }
+fn append_outcome(all: &mut Outcome, more: Outcome) -> Result<(), NoMemory>
+    ensures { OnOk result (all.new ≡ appended all.old more) }
 {
     append(&mut all.sends, more.sends)?;
     append(&mut all.own, more.own)?;
@@ -223,7 +232,7 @@ fn put_behind(all: &mut Outcome, more: Outcome) -> Result<(), NoMemory>
     append(&mut all.hashed, more.hashed)
 }
 
-fn append<T: Drop>(row: &mut Row<T>, more: Row<T>) -> Result<(), NoMemory>
+fn append<T: Drop>(row: &mut Seq<T>, more: Seq<T>) -> Result<(), NoMemory>
     ensures { OnOk result (row.new ≡ row.old ++ more) }
 {
     for thing in more.into_vec() {

@@ -1,14 +1,14 @@
 //! The batches that a node cast, until their slots are in the log.
 ghost use Rattle.std.specs.Prelude.{◌≡◌, ◌<◌, ◌++◌, ◌∷◌, ◌&&◌, ◌==◌, [], not, OnOk, IfOk};
 ghost use Rattle.std.specs.List.{list_any};
-ghost use Rattle.iss_ids.specs.Set.{and_ids};
+ghost use Rattle.iss_window.specs.Ids.{and_ids};
 ghost use Rattle.iss_model.specs.Node.{flying, has_slot};
 ghost use Rattle.iss_node.specs.Flights.{FlightState, IsLanded, landed};
 ghost use Rattle.iss_request.specs.Log.{has_id, ids as request_ids};
 ghost use Rattle.iss_request.specs.declared.ids.ReqId.{ReqId};
 
-use iss_ids::Ids;
 use iss_request::{Batch, NoMemory, ReqId, Slot};
+use iss_window::Ids;
 use std::alloc::Global;
 use std::marker::Model;
 
@@ -69,7 +69,11 @@ impl Flight {
     }
 
     /// What was cast in slots below this number, taken out.
-    pub fn land(&mut self, alloc: Global, slots: u64) -> Result<Vec<(Slot, Batch)>, NoMemory>
+    pub fn take_completed(
+        &mut self,
+        alloc: Global,
+        slots: u64,
+    ) -> Result<Vec<(Slot, Batch)>, NoMemory>
         ensures gone { IfOk result (λ gone. gone.items ≡ landed slots self.old.casts) }
         ensures left { OnOk result (IsLanded self.old self.new slots) }
     {

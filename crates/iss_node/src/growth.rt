@@ -8,13 +8,13 @@ ghost use Rattle.iss_model.specs.Node.{is_nil_at};
 ghost use Rattle.iss_request.specs.declared.requests.Value.{Value as Held};
 
 use iss_buckets::Pending;
-use iss_ids::Ids;
 use iss_keys::Directory;
 use iss_log::{Chains, Log};
-use iss_request::{Bytes, NoMemory, Row, Slot, Value};
+use iss_request::{Bytes, NoMemory, Seq, Slot, Value};
+use iss_window::Ids;
 
 /// Puts what was delivered into the log, and lets the log go on as far as it can. Gives how many slots it held before.
-pub fn grow(log: &mut Log, delivers: Vec<(Slot, Value)>) -> Result<usize, NoMemory>
+pub fn extend_log(log: &mut Log, delivers: Vec<(Slot, Value)>) -> Result<usize, NoMemory>
     ensures grown { IfOk result (λ held. IsGrown log.old delivers.items log.new held) }
     ensures goes_on { GoesOn log.old.entries log.new.entries }
 {
@@ -40,7 +40,7 @@ pub fn join_all(
     directory: &Directory,
     chains: &mut Chains,
     values: &[Value],
-    hashed: &mut Row<Bytes>,
+    hashed: &mut Seq<Bytes>,
 ) -> Result<(), NoMemory>
     ensures joined { OnOk result ((log : List Held) → IsChainOf chains.old log →
         AreJoined chains.old log values.now chains.new hashed.old hashed.new) }
@@ -53,17 +53,21 @@ pub fn join_all(
 }
 
 /// The requests of values that joined the log wait no more, and their identities are noted.
-pub fn refile(values: &[Value], waiting: &mut Pending, logged: &mut Ids) -> Result<(), NoMemory>
+pub fn retire_ordered(
+    values: &[Value],
+    waiting: &mut Pending,
+    logged: &mut Ids,
+) -> Result<(), NoMemory>
     ensures waiting { OnOk result (waiting.new ≡ fold waits_on waiting.old values.now) }
     ensures logged { OnOk result (logged.new ≡ fold and_values logged.old values.now) }
 {
     for value in values {
-        refile_one(value, waiting, logged)?;
+        retire_value(value, waiting, logged)?;
     }
     Ok(())
 }
 
-fn refile_one(value: &Value, waiting: &mut Pending, logged: &mut Ids) -> Result<(), NoMemory>
+fn retire_value(value: &Value, waiting: &mut Pending, logged: &mut Ids) -> Result<(), NoMemory>
     ensures waiting { OnOk result (waiting.new ≡ waits_on waiting.old value.now) }
     ensures logged { OnOk result (logged.new ≡ and_values logged.old value.now) }
 {

@@ -1,51 +1,51 @@
 //! What a node's instances take.
 ghost use Rattle.std.specs.Prelude.{◌≡◌, ◌<◌, ◌≤◌, IfOk, OnOk, drop, length};
-ghost use Rattle.iss_model.specs.Node.{at_instance, inputs};
+ghost use Rattle.iss_model.specs.Node.{step_unjudged, try_step};
 ghost use Rattle.iss_node.specs.Inputs.{HasGrown, IsAbsorbed, IsChained, IsHandedOut, IsInputTaken, IsJudgedInput, and_accepted};
 ghost use Rattle.iss_node.specs.Steps.{IsLater, IsNodeInput, IsStepOf, IsTurnOf};
 
-use crate::answers::{Accepted, Outcome, Stepped};
-use crate::growth::{grow, join_all, refile};
-use crate::replica::Replica;
-use iss_causes::Why;
-use iss_request::{Batch, Bytes, NoMemory, NodeId, Row, Slot, Value};
+use crate::answers::{Accepted, Outcome, StepResult};
+use crate::growth::{extend_log, join_all, retire_ordered};
+use crate::state::NodeState;
+use iss_request::{Batch, Bytes, NoMemory, NodeId, Seq, Slot, Value};
+use iss_rules::Why;
 use iss_sb::{Effects, Input, Sequenced};
-use iss_segment::Halt;
+use iss_segment::StepRefusal;
 use std::alloc::Global;
 
-impl<M: Sequenced> Replica<M> {
+impl<M: Sequenced> NodeState<M> {
     /// An input in the instance of a leader, where it leads, what it claims verifies, keys are left and the judge agrees.
-    pub(crate) fn at_instance(
+    pub(crate) fn try_step(
         &mut self,
         alloc: Global,
         leader: NodeId,
         input: Input<M::Msg>,
-    ) -> Result<Stepped, NoMemory>
+    ) -> Result<StepResult, NoMemory>
         requires { IsNodeInput self.old.setup.n input }
-        ensures answer { IfOk result (λ a. IsStepOf M.meaning M.stands self.old (λ F R me c. at_instance F R M.meaning me c leader.0 input) self.new a) }
+        ensures answer { IfOk result (λ a. IsStepOf M.spec M.refines self.old (λ F R me c. try_step F R M.spec me c leader.0 input) self.new a) }
         ensures later { IsLater self.old self.new }
     {
         M::laws();
         let _setup = &self.setup;
         if !self.leads(leader) {
-            return Ok(Stepped::Dropped(Why::NotLeader));
+            return Ok(StepResult::Dropped(Why::NotLeader));
         }
         let credible = self.is_credible(alloc, leader, &input)?;
         if !credible {
-            return Ok(Stepped::Dropped(Why::BadClaim));
+            return Ok(StepResult::Dropped(Why::BadClaim));
         }
         if !self.has_leaves(leader) {
-            return Ok(Stepped::Dropped(Why::NoKeys));
+            return Ok(StepResult::Dropped(Why::NoKeys));
         }
-        match self.step(alloc, leader, input) {
-            Ok(effects) => Ok(Stepped::Taken(self.absorb(alloc, leader, effects)?)),
-            Err(Halt::Refused(refusal)) => Ok(Stepped::Dropped(Why::Refused(refusal))),
-            Err(Halt::Spent | Halt::NoMemory) => Err(NoMemory),
+        match self.judged_step(alloc, leader, input) {
+            Ok(effects) => Ok(StepResult::Taken(self.apply_effects(alloc, leader, effects)?)),
+            Err(StepRefusal::Refused(refusal)) => Ok(StepResult::Dropped(Why::Refused(refusal))),
+            Err(StepRefusal::Spent | StepRefusal::NoMemory) => Err(NoMemory),
         }
     }
 
     /// An input in the instance of a leader, which no test refuses.
-    pub(crate) fn input(
+    pub(crate) fn step_unjudged(
         &mut self,
         alloc: Global,
         leader: NodeId,
@@ -53,35 +53,35 @@ impl<M: Sequenced> Replica<M> {
     ) -> Result<Outcome, NoMemory>
         requires leader { leader.0 < self.old.setup.n }
         requires input { IsNodeInput self.old.setup.n input }
-        ensures taken { IfOk result (λ outcome. IsTurnOf M.meaning M.stands self.old (λ F R me c. inputs F R M.meaning me c leader.0 input) self.new outcome) }
+        ensures taken { IfOk result (λ outcome. IsTurnOf M.spec M.refines self.old (λ F R me c. step_unjudged F R M.spec me c leader.0 input) self.new outcome) }
         ensures later { IsLater self.old self.new }
     {
         M::laws();
         let _setup = &self.setup;
-        let effects = self.take(alloc, leader, input)?;
-        self.absorb(alloc, leader, effects)
+        let effects = self.unjudged_step(alloc, leader, input)?;
+        self.apply_effects(alloc, leader, effects)
     }
 
     // The instance of a leader takes an input that the judge accepts.
-    fn step(
+    fn judged_step(
         &mut self,
         alloc: Global,
         leader: NodeId,
         input: Input<M::Msg>,
-    ) -> Result<Effects<M::Msg>, Halt>
+    ) -> Result<Effects<M::Msg>, StepRefusal>
         requires leader { leader.0 < self.old.setup.n }
         requires input { IsNodeInput self.old.setup.n input }
-        ensures step { IsJudgedInput M.meaning M.stands self.old self.new leader.0 input result }
+        ensures step { IsJudgedInput M.spec M.refines self.old self.new leader.0 input result }
         ensures later { IsLater self.old self.new }
     {
         let Some(segment) = &mut self.segments[leader.0 as usize] else {
-            return Err(Halt::NoMemory);
+            return Err(StepRefusal::NoMemory);
         };
         segment.step(alloc, &self.layout, &self.windows, input, &mut self.keys)
     }
 
     // The instance of a leader takes an input that needs no judge.
-    fn take(
+    fn unjudged_step(
         &mut self,
         alloc: Global,
         leader: NodeId,
@@ -89,7 +89,7 @@ impl<M: Sequenced> Replica<M> {
     ) -> Result<Effects<M::Msg>, NoMemory>
         requires leader { leader.0 < self.old.setup.n }
         requires input { IsNodeInput self.old.setup.n input }
-        ensures taken { IfOk result (λ e. IsInputTaken M.meaning M.stands self.old self.new leader.0 input e) }
+        ensures taken { IfOk result (λ e. IsInputTaken M.spec M.refines self.old self.new leader.0 input e) }
         ensures later { IsLater self.old self.new }
     {
         let Some(segment) = &mut self.segments[leader.0 as usize] else {
@@ -102,14 +102,14 @@ impl<M: Sequenced> Replica<M> {
     }
 
     // What a step of an instance made is the node's.
-    fn absorb(
+    fn apply_effects(
         &mut self,
         alloc: Global,
         leader: NodeId,
         effects: Effects<M::Msg>,
     ) -> Result<Outcome, NoMemory>
         ensures absorbed { OnOk result (IsAbsorbed self.old self.new leader effects) }
-        ensures made { IfOk result (λ o. IsHandedOut M.meaning self.old leader.0 effects.sends o.hashed o) }
+        ensures made { IfOk result (λ o. IsHandedOut M.spec self.old leader.0 effects.sends o.hashed o) }
         ensures hashed { IfOk result (λ o. IsChained self.old self.new effects.hashed o.hashed) }
         ensures later { IsLater self.old self.new }
     {
@@ -121,7 +121,7 @@ impl<M: Sequenced> Replica<M> {
         } = effects;
         let mut strings = hashed;
         self.accept(leader, accepted)?;
-        self.grow(alloc, delivers.into_vec(), &mut strings)?;
+        self.apply_deliveries(alloc, delivers.into_vec(), &mut strings)?;
         self.hand_out(alloc, leader, sends.as_slice(), strings)
     }
 
@@ -142,22 +142,22 @@ impl<M: Sequenced> Replica<M> {
 
     /// The log grows by what was delivered: its requests wait no more, and what was cast in its slots is in flight no more. The
     /// strings that are hashed for what joins it are put behind others.
-    pub(crate) fn grow(
+    pub(crate) fn apply_deliveries(
         &mut self,
         alloc: Global,
         delivers: Vec<(Slot, Value)>,
-        hashed: &mut Row<Bytes>,
+        hashed: &mut Seq<Bytes>,
     ) -> Result<(), NoMemory>
         ensures grown { OnOk result (HasGrown self.old self.new delivers.items) }
         ensures hashed { OnOk result (IsChained self.old self.new hashed.old hashed.new) }
         ensures later { IsLater self.old self.new }
     {
-        let held = grow(&mut self.log, delivers)?;
+        let held = extend_log(&mut self.log, delivers)?;
         let joined = behind(self.log.entries(), held);
         let directory = self.directory.directory();
         join_all(directory, &mut self.chains, joined, hashed)?;
-        refile(joined, &mut self.waiting, &mut self.logged)?;
-        self.land(alloc)
+        retire_ordered(joined, &mut self.waiting, &mut self.logged)?;
+        self.complete_casts(alloc)
     }
 }
 

@@ -11,9 +11,9 @@ pub mod inputs;
 pub mod node;
 pub mod packets;
 pub mod parcels;
-pub mod replica;
 pub mod requests;
 pub mod starting;
+pub mod state;
 pub mod transfer;
 pub mod votes;
 

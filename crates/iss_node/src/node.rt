@@ -6,32 +6,31 @@ ghost use Rattle.iss_keys.specs.Directories.{AreKeysOf};
 ghost use Rattle.iss_log.specs.LogState.{value_at};
 ghost use Rattle.iss_rules.specs.Concrete.{keys_of, rules_of};
 ghost use Rattle.iss_rules.specs.Votes.{cert_on};
-ghost use Rattle.iss_model.specs.Node.{Core, idle, step};
+ghost use Rattle.iss_model.specs.Node.{Core, initial_core, step};
 ghost use Rattle.iss_rules.specs.Past.{Past, log_of};
 ghost use Rattle.iss_rules.specs.Setups.{IsSetupOf};
 ghost use Rattle.iss_model.specs.Views.{accepted_by, is_castable_now, is_unfilled, unfilled};
 ghost use Rattle.iss_model.specs.Frames.{claims_of_bytes_in, frame_of, step_in};
-ghost use Rattle.iss_node.specs.State.{IsTied, Stands, accepted_of};
+ghost use Rattle.iss_node.specs.State.{RefinesCore, RefinesPast, accepted_of};
 ghost use Rattle.iss_request.specs.Log.{ids};
 ghost use Rattle.iss_node.specs.Steps.{HasRetreated, IsAnswer, IsHeldStepOf, IsLeft, IsOfNodes, IsSameNode};
 
-use crate::answers::{Accepted, Answer, Stepped};
+use crate::answers::{Accepted, Answer, StepResult};
 use crate::flight::Flight;
-use crate::replica::Replica;
 use crate::starting::start_segments;
+use crate::state::NodeState;
 use iss_ballots::Ballots;
 use iss_buckets::Pending;
-use iss_causes::NodeEvent;
 use iss_checkpoint::Cert;
-use iss_ids::Ids;
 use iss_keys::{Keys, SharedDirectory};
 use iss_layout::laws::epochs_are_fair;
 use iss_layout::{Layout, Standing};
 use iss_log::{Chains, Log};
-use iss_request::{Batch, Epoch, NoMemory, NodeId, ReqId, Row, Setup, Slot};
+use iss_request::{Batch, Epoch, NoMemory, NodeId, ReqId, Seq, Setup, Slot};
+use iss_rules::NodeEvent;
 use iss_sb::{Claim, Input, Sequenced};
 use iss_segment::Segment;
-use iss_window::Windows;
+use iss_window::{Ids, Windows};
 use std::alloc::Global;
 use std::marker::Model;
 
@@ -39,19 +38,19 @@ use std::marker::Model;
 /// one that has retreated.
 #[derive(Drop)]
 pub struct Node<M: Sequenced> {
-    parts: Replica<M>,
+    state: NodeState<M>,
     stale: bool,
 }
 
 impl<M: Sequenced> Model for Node<M> {
     ghost use Rattle.iss_node.specs.Shape.{IsNode};
-    ghost use Rattle.iss_node.specs.State.{NodeState};
+    ghost use Rattle.iss_node.specs.State.{NodeView};
 
-    ghost Value = { NodeState M M.Msg };
+    ghost Value = { NodeView M M.Msg };
 
-    ghost view = { λ v. record { parts = v.parts; stale = v.stale } };
+    ghost view = { λ v. record { state = v.state; stale = v.stale } };
 
-    ghost invariant = { λ v. IsNode M.meaning M.stands (record { parts = v.parts; stale = v.stale }) };
+    ghost invariant = { λ v. IsNode M.spec M.refines (record { state = v.state; stale = v.stale }) };
 }
 
 impl<M: Sequenced> Node<M> {
@@ -63,12 +62,12 @@ impl<M: Sequenced> Node<M> {
         me: NodeId,
         keys: Keys,
     ) -> Result<Node<M>, NoMemory>
-        requires good { IsSetupOf M.meaning setup.now }
+        requires good { IsSetupOf M.spec setup.now }
         requires directory { directory.now ≡ keys_of setup.now }
         requires me { me.0 < setup.now.n }
         requires own { AreKeysOf me.0 setup.now.keys keys }
-        ensures stands { IfOk result (λ v. Stands M.meaning M.stands v (record idle { leaf = keys.used })) }
-        ensures same { IfOk result (λ v. (v.parts.setup ≡ setup.now) × (v.parts.me ≡ me)) }
+        ensures refines { IfOk result (λ v. RefinesCore M.spec M.refines v (record initial_core { leaf = keys.used })) }
+        ensures same { IfOk result (λ v. (v.state.setup ≡ setup.now) × (v.state.me ≡ me)) }
     {
         epochs_are_fair();
         let standing = Standing::new();
@@ -77,7 +76,7 @@ impl<M: Sequenced> Node<M> {
         let windows = Windows::new(alloc, setup)?;
         let chains = Chains::new(alloc, setup.version)?;
         let ballots = Ballots::new(alloc, setup, directory)?;
-        let parts = Replica {
+        let state = NodeState {
             setup: setup.copy()?,
             me,
             directory: directory.share(),
@@ -97,7 +96,7 @@ impl<M: Sequenced> Node<M> {
             keys,
         };
         Ok(Node {
-            parts,
+            state,
             stale: false,
         })
     }
@@ -105,31 +104,31 @@ impl<M: Sequenced> Node<M> {
     /// Takes an event. Where it is dropped nothing changes; after want of memory the node shows the log and the epoch
     /// that it had, and is stale from then on.
     pub fn take(&mut self, alloc: Global, event: NodeEvent) -> Answer
-        ensures answer { (c : Core M.Msg) → Stands M.meaning M.stands self.old c →
-            IsAnswer M.meaning M.stands (IsOfNodes self.old.parts.setup.n event) c
-            (step_in (frame_of self.old.parts.setup M.meaning) self.old.parts.me.0 c event) self.new result }
+        ensures answer { (c : Core M.Msg) → RefinesCore M.spec M.refines self.old c →
+            IsAnswer M.spec M.refines (IsOfNodes self.old.state.setup.n event) c
+            (step_in (frame_of self.old.state.setup M.spec) self.old.state.me.0 c event) self.new result }
         ensures left { IsLeft self.old self.new result }
-        ensures same { (self.new.parts.setup ≡ self.old.parts.setup) × (self.new.parts.me ≡ self.old.parts.me) }
+        ensures same { (self.new.state.setup ≡ self.old.state.setup) × (self.new.state.me ≡ self.old.state.me) }
     {
         if self.stale {
             return Answer::Stale;
         }
-        let held = self.parts.log.entries().len();
-        let epoch = self.parts.epoch;
+        let held = self.state.log.entries().len();
+        let epoch = self.state.epoch;
         // a turn that wants memory midway leaves it so
         self.stale = true;
-        match self.parts.turn(alloc, event) {
-            Ok(Stepped::Taken(outcome)) => {
+        match self.state.turn(alloc, event) {
+            Ok(StepResult::Taken(outcome)) => {
                 self.stale = false;
                 Answer::Taken(outcome)
             }
-            Ok(Stepped::Dropped(why)) => {
+            Ok(StepResult::Dropped(why)) => {
                 self.stale = false;
                 Answer::Dropped(why)
             }
             Err(_) => {
-                self.parts.log.cut(held);
-                self.parts.epoch = epoch;
+                self.state.log.cut(held);
+                self.state.epoch = epoch;
                 Answer::NoMemory
             }
         }
@@ -137,30 +136,30 @@ impl<M: Sequenced> Node<M> {
 
     /// What these bytes claim that nodes signed: a vote, a piece's certificate, or a message of the node's epoch, whose leader
     /// leads there.
-    pub fn claims_of(&self, alloc: Global, bytes: &[u8]) -> Result<Row<Claim>, NoMemory>
-        ensures { IfOk result (λ claims. (c : Core M.Msg) → Stands M.meaning M.stands self.now c →
-            claims ≡ claims_of_bytes_in (frame_of self.now.parts.setup M.meaning) self.now.parts.me.0 c bytes.now) }
+    pub fn claims_of(&self, alloc: Global, bytes: &[u8]) -> Result<Seq<Claim>, NoMemory>
+        ensures { IfOk result (λ claims. (c : Core M.Msg) → RefinesCore M.spec M.refines self.now c →
+            claims ≡ claims_of_bytes_in (frame_of self.now.state.setup M.spec) self.now.state.me.0 c bytes.now) }
     {
-        self.parts.claims_of_bytes(alloc, bytes)
+        self.state.claims_of_bytes(alloc, bytes)
     }
 
     /// The certificate of an epoch, if the node keeps one.
     pub fn cert_at(&self, epoch: Epoch) -> Option<&Cert>
-        ensures shown { option_map (λ c. c.now) result ≡ cert_in (slice_get self.now.parts.ballots.all epoch.0) }
-        ensures is { (c : Core M.Msg) → Stands M.meaning M.stands self.now c → option_map (λ c. c.now) result ≡ cert_on c.certs epoch.0 }
+        ensures shown { option_map (λ c. c.now) result ≡ cert_in (slice_get self.now.state.ballots.all epoch.0) }
+        ensures is { (c : Core M.Msg) → RefinesCore M.spec M.refines self.now c → option_map (λ c. c.now) result ≡ cert_on c.certs epoch.0 }
     {
-        self.parts.ballots.cert_at(epoch)
+        self.state.ballots.cert_at(epoch)
     }
 
     /// Gives up what came after the first slots: the log is these, and the epoch the given one. The node is stale from then on.
     pub fn retreat(&mut self, slots: usize, epoch: Epoch)
-        requires slots { slots ≤ length self.old.parts.log.entries }
-        requires epoch { epoch.0 ≤ self.old.parts.epoch }
+        requires slots { slots ≤ length self.old.state.log.entries }
+        requires epoch { epoch.0 ≤ self.old.state.epoch }
         ensures { HasRetreated self.old self.new slots epoch.0 }
     {
         self.stale = true;
-        self.parts.log.cut(slots);
-        self.parts.epoch = epoch;
+        self.state.log.cut(slots);
+        self.state.epoch = epoch;
     }
 
     /// Whether memory was wanting, or the node has retreated.
@@ -172,53 +171,53 @@ impl<M: Sequenced> Node<M> {
 
     /// The log.
     pub fn log(&self) -> &Log
-        ensures shown { result.now ≡ self.now.parts.log }
-        ensures is { (c : Core M.Msg) → Stands M.meaning M.stands self.now c →
-            log_of (rules_of self.now.parts.setup) M.meaning self.now.parts.me.0 c.past ≡ reverse result.now.entries }
+        ensures shown { result.now ≡ self.now.state.log }
+        ensures is { (c : Core M.Msg) → RefinesCore M.spec M.refines self.now c →
+            log_of (rules_of self.now.state.setup) M.spec self.now.state.me.0 c.past ≡ reverse result.now.entries }
     {
-        &self.parts.log
+        &self.state.log
     }
 
     /// The node's epoch.
     pub fn epoch(&self) -> Epoch
-        ensures shown { result.0 ≡ self.now.parts.epoch }
-        ensures is { (c : Core M.Msg) → Stands M.meaning M.stands self.now c → result.0 ≡ c.past.epoch }
+        ensures shown { result.0 ≡ self.now.state.epoch }
+        ensures is { (c : Core M.Msg) → RefinesCore M.spec M.refines self.now c → result.0 ≡ c.past.epoch }
     {
-        self.parts.epoch
+        self.state.epoch
     }
 
     /// The batches that the instances of the node's epoch accepted, in the order of time.
     pub fn accepted(&self) -> &[Accepted]
-        ensures { (c : Core M.Msg) (l : ℕ) → Stands M.meaning M.stands self.now c → reverse (accepted_of l result.now) ≡ accepted_by c l }
+        ensures { (c : Core M.Msg) (l : ℕ) → RefinesCore M.spec M.refines self.now c → reverse (accepted_of l result.now) ≡ accepted_by c l }
     {
-        self.parts.accepted.as_slice()
+        self.state.accepted.as_slice()
     }
 
     /// The identities of the requests that wait, in order of arrival, and the batches in flight.
-    pub fn unordered(&self, alloc: Global) -> Result<(Row<ReqId>, &[(Slot, Batch)]), NoMemory>
-        ensures { IfOk result (λ both. (c : Core M.Msg) → Stands M.meaning M.stands self.now c →
+    pub fn unordered(&self, alloc: Global) -> Result<(Seq<ReqId>, &[(Slot, Batch)]), NoMemory>
+        ensures { IfOk result (λ both. (c : Core M.Msg) → RefinesCore M.spec M.refines self.now c →
             (both.0 ≡ ids c.waiting) × (both.1.now ≡ c.flight)) }
     {
-        let waiting = self.parts.waiting.waiting(alloc)?;
-        Ok((waiting, self.parts.flight.casts()))
+        let waiting = self.state.waiting.waiting(alloc)?;
+        Ok((waiting, self.state.flight.casts()))
     }
 
     /// Whether a proposal would find a slot to cast in.
     pub fn castable(&self) -> bool
-        ensures { (c : Core M.Msg) → Stands M.meaning M.stands self.now c →
-            result ≡ is_castable_now (rules_of self.now.parts.setup) M.meaning self.now.parts.me.0 c }
+        ensures { (c : Core M.Msg) → RefinesCore M.spec M.refines self.now c →
+            result ≡ is_castable_now (rules_of self.now.state.setup) M.spec self.now.state.me.0 c }
     {
-        self.parts.castable()
+        self.state.castable()
     }
 
     /// The leaders whose segment the node has not filled, ascending.
-    pub fn unfilled(&self, alloc: Global) -> Result<Row<NodeId>, NoMemory>
-        ensures { IfOk result (λ leaders. (c : Core M.Msg) → Stands M.meaning M.stands self.now c →
-            map (λ l. l.0) leaders ≡ unfilled (rules_of self.now.parts.setup) M.meaning self.now.parts.setup.n self.now.parts.me.0 c.past) }
+    pub fn unfilled(&self, alloc: Global) -> Result<Seq<NodeId>, NoMemory>
+        ensures { IfOk result (λ leaders. (c : Core M.Msg) → RefinesCore M.spec M.refines self.now c →
+            map (λ l. l.0) leaders ≡ unfilled (rules_of self.now.state.setup) M.spec self.now.state.setup.n self.now.state.me.0 c.past) }
     {
-        let mut leaders = Row::new(alloc);
-        for node in 0..self.parts.setup.n {
-            if self.parts.is_unfilled(NodeId(node as u8)) {
+        let mut leaders = Seq::new(alloc);
+        for node in 0..self.state.setup.n {
+            if self.state.is_unfilled(NodeId(node as u8)) {
                 leaders.push(NodeId(node as u8))?;
             }
         }
@@ -226,19 +225,19 @@ impl<M: Sequenced> Node<M> {
     }
 }
 
-impl<M: Sequenced> Replica<M> {
+impl<M: Sequenced> NodeState<M> {
     // Takes an event.
-    fn turn(&mut self, alloc: Global, event: NodeEvent) -> Result<Stepped, NoMemory>
-        ensures answer { IfOk result (λ a. IsHeldStepOf M.meaning M.stands (IsOfNodes self.old.setup.n event) self.old
-            (λ F R me c. step F R M.meaning me c event) self.new a) }
+    fn turn(&mut self, alloc: Global, event: NodeEvent) -> Result<StepResult, NoMemory>
+        ensures answer { IfOk result (λ a. IsHeldStepOf M.spec M.refines (IsOfNodes self.old.setup.n event) self.old
+            (λ F R me c. step F R M.spec me c event) self.new a) }
         ensures same { IsSameNode self.old self.new }
     {
         match event {
             NodeEvent::Packet(bytes) => self.take_bytes(alloc, &bytes),
             NodeEvent::Propose => self.propose(alloc),
             NodeEvent::Timeout(leader) => {
-                let step = self.at_instance(alloc, leader, Input::Timeout)?;
-                self.settled(alloc, step)
+                let step = self.try_step(alloc, leader, Input::Timeout)?;
+                self.finish_step(alloc, step)
             }
             NodeEvent::AskFrom(peer) => self.ask_from(alloc, peer),
         }
@@ -246,8 +245,8 @@ impl<M: Sequenced> Replica<M> {
 
     // Whether a leader of the epoch has slots that are not filled.
     fn is_unfilled(&self, leader: NodeId) -> bool
-        ensures { (past : Past M.Msg) → IsTied M.meaning M.stands self.now past →
-            result ≡ is_unfilled (rules_of self.now.setup) M.meaning self.now.me.0 past leader.0 }
+        ensures { (past : Past M.Msg) → RefinesPast M.spec M.refines self.now past →
+            result ≡ is_unfilled (rules_of self.now.setup) M.spec self.now.me.0 past leader.0 }
     {
         match self.segment(leader) {
             Some(segment) => is_any_empty(&self.log, segment.params().slots.as_slice()),

@@ -3,38 +3,42 @@ ghost use Rattle.std.specs.Prelude.{◌≡◌, ◌<◌, ◌==◌, suc, true, IfO
 ghost use Rattle.iss_checkpoint.specs.Bodies.{parse_vote};
 ghost use Rattle.iss_rules.specs.Concrete.{rules_of};
 ghost use Rattle.iss_rules.specs.Formats.{message_in, parcel_of_kind, piece_in, vote_in, whole};
-ghost use Rattle.iss_model.specs.Node.{Core, at_instance, keeps_early, settled, takes_bytes, takes_message, takes_parcel};
+ghost use Rattle.iss_model.specs.Node.{Core, finish_step, keeps_early, takes_bytes, takes_message, takes_parcel, try_step};
 ghost use Rattle.iss_model.specs.Views.{claims_of_bytes, claims_of_parcel};
 ghost use Rattle.iss_model.specs.Frames.{claims_of_bytes_in, frame_of};
 ghost use Rattle.iss_node.specs.Parcels.{IsFromNode, seen_body};
-ghost use Rattle.iss_node.specs.State.{IsTied, seen_one};
+ghost use Rattle.iss_node.specs.State.{RefinesPast, seen_one};
 ghost use Rattle.iss_node.specs.Steps.{IsHeldStepOf, IsLater, IsSameNode, IsStepOf};
 ghost use Rattle.iss_packet.specs.Packets.{is_routed};
 ghost use Rattle.iss_transfer.specs.Bodies.{parse_piece};
 
-use crate::answers::{Early, Outcome, Stepped};
+use crate::answers::{Early, Outcome, StepResult};
 use crate::parcels::{Body, Parcel, read_message, unwrap};
-use crate::replica::Replica;
+use crate::state::NodeState;
 use iss_ballots::{claim_of_vote, claims_of_cert, piece_of, vote_of};
-use iss_causes::Why;
 use iss_packet::{Packet, PacketError, PacketKind};
-use iss_request::{Bytes, Epoch, NoMemory, NodeId, Row};
+use iss_request::{Bytes, Epoch, NoMemory, NodeId, Seq};
+use iss_rules::Why;
 use iss_sb::{Claim, Input, Sequenced};
 use std::alloc::Global;
 
 /// How many messages of the next epoch a node keeps.
 const EARLY_MOST: usize = 256;
 
-impl<M: Sequenced> Replica<M> {
+impl<M: Sequenced> NodeState<M> {
     /// Takes bytes that came.
-    pub(crate) fn take_bytes(&mut self, alloc: Global, bytes: &Bytes) -> Result<Stepped, NoMemory>
-        ensures answer { IfOk result (λ a. IsHeldStepOf M.meaning M.stands (Unit {0}) self.old
-            (λ F R me c. takes_bytes F R M.meaning me c (F.unwrap bytes.now)) self.new a) }
+    pub(crate) fn take_bytes(
+        &mut self,
+        alloc: Global,
+        bytes: &Bytes,
+    ) -> Result<StepResult, NoMemory>
+        ensures answer { IfOk result (λ a. IsHeldStepOf M.spec M.refines (Unit {0}) self.old
+            (λ F R me c. takes_bytes F R M.spec me c (F.unwrap bytes.now)) self.new a) }
         ensures same { IsSameNode self.old self.new }
     {
         match unwrap::<M>(alloc, &self.setup, bytes.as_slice())? {
             Some(parcel) => self.take_parcel(alloc, parcel),
-            None => Ok(Stepped::Dropped(Why::NotPacket)),
+            None => Ok(StepResult::Dropped(Why::NotPacket)),
         }
     }
 
@@ -43,41 +47,41 @@ impl<M: Sequenced> Replica<M> {
         &self,
         alloc: Global,
         bytes: &[u8],
-    ) -> Result<Row<Claim>, NoMemory>
-        ensures { IfOk result (λ claims. (c : Core M.Msg) → IsTied M.meaning M.stands self.now c.past →
-            claims ≡ claims_of_bytes_in (frame_of self.now.setup M.meaning) self.now.me.0 c bytes.now) }
+    ) -> Result<Seq<Claim>, NoMemory>
+        ensures { IfOk result (λ claims. (c : Core M.Msg) → RefinesPast M.spec M.refines self.now c.past →
+            claims ≡ claims_of_bytes_in (frame_of self.now.setup M.spec) self.now.me.0 c bytes.now) }
     {
         match Packet::decode(alloc, self.setup.version, self.setup.n, bytes) {
             Ok(packet) => self.claims_of_packet(alloc, &packet),
-            Err(PacketError::NotPacket) => Ok(Row::new(alloc)),
+            Err(PacketError::NotPacket) => Ok(Seq::new(alloc)),
             Err(PacketError::NoMemory) => Err(NoMemory),
         }
     }
 
     // What a packet claims. A message is read only where it is of the node's epoch.
-    fn claims_of_packet(&self, alloc: Global, packet: &Packet) -> Result<Row<Claim>, NoMemory>
+    fn claims_of_packet(&self, alloc: Global, packet: &Packet) -> Result<Seq<Claim>, NoMemory>
         requires { is_routed self.now.setup.n packet.now ≡ true }
-        ensures { IfOk result (λ claims. (c : Core M.Msg) → IsTied M.meaning M.stands self.now c.past →
-            claims ≡ claims_of_parcel (rules_of self.now.setup) M.meaning self.now.me.0 c
-            (parcel_of_kind M.meaning self.now.setup.version packet.now packet.now.kind)) }
+        ensures { IfOk result (λ claims. (c : Core M.Msg) → RefinesPast M.spec M.refines self.now c.past →
+            claims ≡ claims_of_parcel (rules_of self.now.setup) M.spec self.now.me.0 c
+            (parcel_of_kind M.spec self.now.setup.version packet.now packet.now.kind)) }
     {
         match packet.kind {
             PacketKind::Message => self.claims_of_message(alloc, packet),
             PacketKind::Vote => self.claims_of_vote(alloc, packet),
             PacketKind::Piece => self.claims_of_piece(alloc, packet),
-            PacketKind::Ask | PacketKind::Request => Ok(Row::new(alloc)),
+            PacketKind::Ask | PacketKind::Request => Ok(Seq::new(alloc)),
         }
     }
 
     // What the packet of a module's message claims.
-    fn claims_of_message(&self, alloc: Global, packet: &Packet) -> Result<Row<Claim>, NoMemory>
+    fn claims_of_message(&self, alloc: Global, packet: &Packet) -> Result<Seq<Claim>, NoMemory>
         requires { packet.now.from < self.now.setup.n }
-        ensures { IfOk result (λ claims. (c : Core M.Msg) → IsTied M.meaning M.stands self.now c.past →
-            claims ≡ claims_of_parcel (rules_of self.now.setup) M.meaning self.now.me.0 c
-            (message_in packet.now (whole (M.meaning.parse self.now.setup.version packet.now.body)))) }
+        ensures { IfOk result (λ claims. (c : Core M.Msg) → RefinesPast M.spec M.refines self.now c.past →
+            claims ≡ claims_of_parcel (rules_of self.now.setup) M.spec self.now.me.0 c
+            (message_in packet.now (whole (M.spec.parse self.now.setup.version packet.now.body)))) }
     {
         if packet.epoch.0 != self.epoch.0 {
-            return Ok(Row::new(alloc));
+            return Ok(Seq::new(alloc));
         }
         let body = &packet.body;
         match read_message::<M>(alloc, self.setup.version, body)? {
@@ -85,17 +89,17 @@ impl<M: Sequenced> Replica<M> {
                 let leader = NodeId(packet.leader);
                 self.claims_in(alloc, leader, NodeId(packet.from), &msg)
             }
-            None => Ok(Row::new(alloc)),
+            None => Ok(Seq::new(alloc)),
         }
     }
 
     // What the packet of a vote claims.
-    fn claims_of_vote(&self, alloc: Global, packet: &Packet) -> Result<Row<Claim>, NoMemory>
+    fn claims_of_vote(&self, alloc: Global, packet: &Packet) -> Result<Seq<Claim>, NoMemory>
         ensures { IfOk result (λ claims. (c : Core M.Msg) →
-            claims ≡ claims_of_parcel (rules_of self.now.setup) M.meaning self.now.me.0 c
+            claims ≡ claims_of_parcel (rules_of self.now.setup) M.spec self.now.me.0 c
             (vote_in packet.now (whole (parse_vote packet.now.from packet.now.epoch.0 packet.now.body)))) }
     {
-        let mut claims = Row::new(alloc);
+        let mut claims = Seq::new(alloc);
         if let Some(vote) = vote_of(alloc, packet)? {
             claims.push(claim_of_vote(alloc, &self.setup.tag, &vote)?)?;
         }
@@ -103,22 +107,22 @@ impl<M: Sequenced> Replica<M> {
     }
 
     // What the packet of a piece claims: the votes of its certificate.
-    fn claims_of_piece(&self, alloc: Global, packet: &Packet) -> Result<Row<Claim>, NoMemory>
+    fn claims_of_piece(&self, alloc: Global, packet: &Packet) -> Result<Seq<Claim>, NoMemory>
         ensures { IfOk result (λ claims. (c : Core M.Msg) →
-            claims ≡ claims_of_parcel (rules_of self.now.setup) M.meaning self.now.me.0 c
+            claims ≡ claims_of_parcel (rules_of self.now.setup) M.spec self.now.me.0 c
             (piece_in packet.now (whole (parse_piece self.now.setup.version packet.now.epoch.0 packet.now.body)))) }
     {
         match piece_of(alloc, self.setup.version, packet)? {
             Some(piece) => claims_of_cert(alloc, &self.setup.tag, &piece.cert),
-            None => Ok(Row::new(alloc)),
+            None => Ok(Seq::new(alloc)),
         }
     }
 
     // Takes what a packet holds.
-    fn take_parcel(&mut self, alloc: Global, parcel: Parcel<M::Msg>) -> Result<Stepped, NoMemory>
+    fn take_parcel(&mut self, alloc: Global, parcel: Parcel<M::Msg>) -> Result<StepResult, NoMemory>
         requires { IsFromNode self.old.setup.n parcel }
-        ensures answer { IfOk result (λ a. IsHeldStepOf M.meaning M.stands (Unit {0}) self.old
-            (λ F R me c. takes_parcel F R M.meaning me c parcel.from.0 parcel.epoch.0 (seen_body parcel.body)) self.new a) }
+        ensures answer { IfOk result (λ a. IsHeldStepOf M.spec M.refines (Unit {0}) self.old
+            (λ F R me c. takes_parcel F R M.spec me c parcel.from.0 parcel.epoch.0 (seen_body parcel.body)) self.new a) }
         ensures same { IsSameNode self.old self.new }
     {
         let Parcel { from, epoch, body } = parcel;
@@ -139,10 +143,10 @@ impl<M: Sequenced> Replica<M> {
         alloc: Global,
         epoch: Epoch,
         message: Early<M::Msg>,
-    ) -> Result<Stepped, NoMemory>
+    ) -> Result<StepResult, NoMemory>
         requires { message.from.0 < self.old.setup.n }
-        ensures answer { IfOk result (λ a. IsStepOf M.meaning M.stands self.old
-            (λ F R me c. takes_message F R M.meaning me c message.from.0 epoch.0 message.leader.0 message.msg) self.new a) }
+        ensures answer { IfOk result (λ a. IsStepOf M.spec M.refines self.old
+            (λ F R me c. takes_message F R M.spec me c message.from.0 epoch.0 message.leader.0 message.msg) self.new a) }
         ensures later { IsLater self.old self.new }
     {
         if epoch.0 == self.epoch.0 {
@@ -151,32 +155,32 @@ impl<M: Sequenced> Replica<M> {
         if is_next(self.epoch, epoch) {
             return self.keep_early(alloc, message);
         }
-        Ok(Stepped::Dropped(Why::OtherEpoch))
+        Ok(StepResult::Dropped(Why::OtherEpoch))
     }
 
     // Takes a module's message of the node's epoch.
-    fn take_now(&mut self, alloc: Global, message: Early<M::Msg>) -> Result<Stepped, NoMemory>
+    fn take_now(&mut self, alloc: Global, message: Early<M::Msg>) -> Result<StepResult, NoMemory>
         requires { message.from.0 < self.old.setup.n }
-        ensures answer { IfOk result (λ a. IsStepOf M.meaning M.stands self.old
-            (λ F R me c. settled F R M.meaning me (at_instance F R M.meaning me c message.leader.0 (Input.Receive message.from message.msg))) self.new a) }
+        ensures answer { IfOk result (λ a. IsStepOf M.spec M.refines self.old
+            (λ F R me c. finish_step F R M.spec me (try_step F R M.spec me c message.leader.0 (Input.Receive message.from message.msg))) self.new a) }
         ensures later { IsLater self.old self.new }
     {
         let Early { from, leader, msg } = message;
-        let step = self.at_instance(alloc, leader, Input::Receive { from, msg })?;
-        self.settled(alloc, step)
+        let step = self.try_step(alloc, leader, Input::Receive { from, msg })?;
+        self.finish_step(alloc, step)
     }
 
     // Keeps a message of the next epoch, unless as many are kept as a node keeps.
-    fn keep_early(&mut self, alloc: Global, message: Early<M::Msg>) -> Result<Stepped, NoMemory>
+    fn keep_early(&mut self, alloc: Global, message: Early<M::Msg>) -> Result<StepResult, NoMemory>
         requires { message.from.0 < self.old.setup.n }
-        ensures answer { IfOk result (λ a. IsStepOf M.meaning M.stands self.old (λ F R me c. keeps_early c (seen_one message)) self.new a) }
+        ensures answer { IfOk result (λ a. IsStepOf M.spec M.refines self.old (λ F R me c. keeps_early c (seen_one message)) self.new a) }
         ensures later { IsLater self.old self.new }
     {
         if self.early.len() >= EARLY_MOST {
-            return Ok(Stepped::Dropped(Why::EarlyFull));
+            return Ok(StepResult::Dropped(Why::EarlyFull));
         }
         self.early.push(message)?;
-        Ok(Stepped::Taken(Outcome::nothing(alloc)))
+        Ok(StepResult::Taken(Outcome::nothing(alloc)))
     }
 }
 

@@ -12,7 +12,7 @@ use iss_ballots::{ask_of, piece_of, vote_of};
 use iss_checkpoint::Vote;
 use iss_packet::{Packet, PacketError, PacketKind};
 use iss_request::{
-    Bytes, DecodeError, Epoch, Fields, NoMemory, NodeId, Request, Row, Setup, Writer,
+    Bytes, DecodeError, Epoch, Fields, NoMemory, NodeId, Request, Seq, Setup, Writer,
 };
 use iss_sb::{Sequenced, To};
 use iss_transfer::{Ask, Piece};
@@ -42,7 +42,7 @@ pub fn unwrap<M: Sequenced>(
     setup: &Setup,
     bytes: &[u8],
 ) -> Result<Option<Parcel<M::Msg>>, NoMemory>
-    ensures seen { IfOk result (λ parcel. seen parcel ≡ (formats_of setup.now M.meaning).unwrap bytes.now) }
+    ensures seen { IfOk result (λ parcel. seen parcel ≡ (formats_of setup.now M.spec).unwrap bytes.now) }
     ensures from { IfOk result (λ parcel. IfSome parcel (IsFromNode setup.now.n)) }
 {
     match Packet::decode(alloc, setup.version, setup.n, bytes) {
@@ -60,7 +60,7 @@ fn open<M: Sequenced>(
     packet: Packet,
 ) -> Result<Option<Parcel<M::Msg>>, NoMemory>
     requires { is_routed n packet ≡ true }
-    ensures seen { IfOk result (λ parcel. seen parcel ≡ parcel_of_kind M.meaning version packet packet.kind) }
+    ensures seen { IfOk result (λ parcel. seen parcel ≡ parcel_of_kind M.spec version packet packet.kind) }
     ensures from { IfOk result (λ parcel. IfSome parcel (IsFromNode n)) }
 {
     let _n = n;
@@ -115,7 +115,7 @@ fn open_message<M: Sequenced>(
     version: u8,
     packet: Packet,
 ) -> Result<Option<Parcel<M::Msg>>, NoMemory>
-    ensures seen { IfOk result (λ parcel. seen parcel ≡ message_in packet (whole (M.meaning.parse version packet.body))) }
+    ensures seen { IfOk result (λ parcel. seen parcel ≡ message_in packet (whole (M.spec.parse version packet.body))) }
     ensures from { IfOk result (λ parcel. IfSome parcel (λ k. k.from.0 ≡ packet.from)) }
 {
     let Some(msg) = read_message::<M>(alloc, version, &packet.body)? else {
@@ -137,7 +137,7 @@ pub fn read_message<M: Sequenced>(
     version: u8,
     bytes: &Bytes,
 ) -> Result<Option<M::Msg>, NoMemory>
-    ensures { IfOk result (λ msg. msg ≡ whole (M.meaning.parse version bytes.now)) }
+    ensures { IfOk result (λ msg. msg ≡ whole (M.spec.parse version bytes.now)) }
 {
     let mut fields = Fields::over_bytes(version, bytes);
     match M::decode(alloc, &mut fields) {
@@ -197,11 +197,11 @@ pub fn pack<M: Sequenced>(
     me: NodeId,
     leader: NodeId,
     sends: &[(To, M::Msg)],
-) -> Result<Row<(To, Bytes)>, NoMemory>
-    ensures { IfOk result (λ packets. packets ≡ packed (formats_of setup.now M.meaning) me.0 epoch.0 leader.0 sends.now) }
+) -> Result<Seq<(To, Bytes)>, NoMemory>
+    ensures { IfOk result (λ packets. packets ≡ packed (formats_of setup.now M.spec) me.0 epoch.0 leader.0 sends.now) }
 {
     let version = setup.version;
-    let mut packets = Row::new(alloc);
+    let mut packets = Seq::new(alloc);
     for (to, msg) in sends {
         packets.push((*to, wrap::<M>(alloc, version, epoch, me, leader, msg)?))?;
     }
@@ -218,7 +218,7 @@ fn wrap<M: Sequenced>(
     msg: &M::Msg,
 ) -> Result<Bytes, NoMemory>
     ensures { IfOk result (λ bytes. (s : Setup) → s.version ≡ version →
-        bytes ≡ (formats_of s M.meaning).wrap (record { from = me.0; epoch = epoch.0; body = OfModule leader.0 msg.now })) }
+        bytes ≡ (formats_of s M.spec).wrap (record { from = me.0; epoch = epoch.0; body = OfModule leader.0 msg.now })) }
 {
     let mut out = Writer::new(alloc, version);
     M::encode(msg, &mut out)?;

@@ -8,40 +8,40 @@ ghost use Rattle.iss_node.specs.Inputs.{AreLogged, HasLanded};
 ghost use Rattle.iss_node.specs.Steps.{IsLater, IsStepOf};
 ghost use Rattle.iss_request.specs.Log.{has_id, ids};
 ghost use Rattle.iss_request.specs.declared.ids.ReqId.{ReqId as Identity};
-ghost use Rattle.iss_window.specs.Kept.{StandsFor};
+ghost use Rattle.iss_window.specs.Kept.{RefinesNoted};
 ghost use Rattle.iss_window.specs.Window.{Noted, is_inside, place_of};
 
-use crate::answers::{Outcome, Stepped};
+use crate::answers::{Outcome, StepResult};
 use crate::growth::is_nil;
-use crate::replica::Replica;
-use iss_causes::Why;
+use crate::state::NodeState;
 use iss_request::{Batch, NoMemory, ReqId, Request, Slot};
+use iss_rules::Why;
 use iss_sb::Sequenced;
 use iss_segment::is_signed;
 use iss_window::{Place, Windows};
 use std::alloc::Global;
 
-impl<M: Sequenced> Replica<M> {
+impl<M: Sequenced> NodeState<M> {
     /// Takes a client's request: it waits, unless the node knows it or its number is outside the client's window.
     pub(crate) fn take_request(
         &mut self,
         alloc: Global,
         request: Request,
-    ) -> Result<Stepped, NoMemory>
-        ensures answer { IfOk result (λ a. IsStepOf M.meaning M.stands self.old (λ F R me c. takes_request R M.meaning me c request) self.new a) }
+    ) -> Result<StepResult, NoMemory>
+        ensures answer { IfOk result (λ a. IsStepOf M.spec M.refines self.old (λ F R me c. takes_request R M.spec me c request) self.new a) }
         ensures later { IsLater self.old self.new }
     {
         if !self.is_signed(&request) {
-            return Ok(Stepped::Dropped(Why::BadRequest));
+            return Ok(StepResult::Dropped(Why::BadRequest));
         }
         if self.knows(request.id) {
-            return Ok(Stepped::Dropped(Why::Known));
+            return Ok(StepResult::Dropped(Why::Known));
         }
         if !is_inside(&self.windows, request.id) {
-            return Ok(Stepped::Dropped(Why::OutOfWindow));
+            return Ok(StepResult::Dropped(Why::OutOfWindow));
         }
         self.wait(request)?;
-        Ok(Stepped::Taken(Outcome::nothing(alloc)))
+        Ok(StepResult::Taken(Outcome::nothing(alloc)))
     }
 
     // Whether a request's client signed it.
@@ -78,17 +78,17 @@ impl<M: Sequenced> Replica<M> {
 
     /// What was cast in slots of the log is no more in flight. Where such a slot became nil the requests wait again,
     /// behind all others, unless the log holds them.
-    pub(crate) fn land(&mut self, alloc: Global) -> Result<(), NoMemory>
+    pub(crate) fn complete_casts(&mut self, alloc: Global) -> Result<(), NoMemory>
         ensures landed { OnOk result (HasLanded self.old self.new) }
         ensures rest { self.new ≡ record self.old { waiting = self.new.waiting; flight = self.new.flight } }
     {
         let slots = self.log.entries().len() as u64;
-        let casts = self.flight.land(alloc, slots)?;
-        self.give_back(casts)
+        let casts = self.flight.take_completed(alloc, slots)?;
+        self.requeue_nil_casts(casts)
     }
 
     // What was cast in slots that became nil waits again.
-    fn give_back(&mut self, casts: Vec<(Slot, Batch)>) -> Result<(), NoMemory>
+    fn requeue_nil_casts(&mut self, casts: Vec<(Slot, Batch)>) -> Result<(), NoMemory>
         ensures back { OnOk result ((all : List Identity) → AreLogged self.old all →
             AreNew self.old.waiting (absent all (returned (reverse self.old.log.entries) casts.items)) →
             self.new.waiting ≡ self.old.waiting ++ absent all (returned (reverse self.old.log.entries) casts.items)) }
@@ -119,7 +119,7 @@ impl<M: Sequenced> Replica<M> {
 
 // Whether a request's number is inside its client's window.
 fn is_inside(windows: &Windows, id: ReqId) -> bool
-    ensures { (n : Noted) → StandsFor windows.now n → result ≡ is_inside (place_of windows.now.width n.closed id) }
+    ensures { (n : Noted) → RefinesNoted windows.now n → result ≡ is_inside (place_of windows.now.width n.closed id) }
 {
     match windows.test(id) {
         Place::Inside => true,

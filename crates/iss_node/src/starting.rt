@@ -22,12 +22,12 @@ pub fn start_segments<M: Sequenced>(
     layout: &Layout,
     me: NodeId,
 ) -> Result<Vec<Option<Segment<M>>>, NoMemory>
-    requires good { IsSetupOf M.meaning setup.now }
+    requires good { IsSetupOf M.spec setup.now }
     requires directory { directory.now ≡ keys_of setup.now }
     requires me { me.0 < setup.now.n }
     requires plan { IsGoodPlan layout.now }
     requires nodes { layout.now.nodes ≡ setup.now.n }
-    ensures started { IfOk result (λ segments. AreStarted M.stands setup.now me epoch.0 layout.now segments.items) }
+    ensures started { IfOk result (λ segments. AreStarted M.refines setup.now me epoch.0 layout.now segments.items) }
     ensures count { IfOk result (λ segments. length segments.items ≡ setup.now.n) }
 {
     let mut segments = Vec::new(alloc);
@@ -56,13 +56,13 @@ fn start_if_leader<M: Sequenced>(
     leader: NodeId,
     me: NodeId,
 ) -> Result<Option<Segment<M>>, NoMemory>
-    requires good { IsSetupOf M.meaning setup.now }
+    requires good { IsSetupOf M.spec setup.now }
     requires directory { directory.now ≡ keys_of setup.now }
     requires leader { leader.0 < setup.now.n }
     requires me { me.0 < setup.now.n }
     requires plan { IsGoodPlan layout.now }
     ensures leads { IfOk result (λ o. is_some o ≡ leads layout.now leader.0) }
-    ensures stands { IfOk result (λ o. IfSome o (λ g. IsInstance M.stands g [])) }
+    ensures refines { IfOk result (λ o. IfSome o (λ g. IsInstance M.refines g [])) }
     ensures params { IfOk result (λ o. IfSome o (λ g. g.params ≡ params_by setup.now epoch.0 layout.now leader.0)) }
     ensures node { IfOk result (λ o. IfSome o (λ g. g.me ≡ me)) }
 {

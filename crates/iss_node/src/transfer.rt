@@ -3,32 +3,32 @@ ghost use Rattle.std.specs.Prelude.{◌≡◌, ◌<◌, ◌≤◌, ◌∷◌, []
 ghost use Rattle.iss_checkpoint.specs.Votes.{voters_of};
 ghost use Rattle.iss_log.specs.Chains.{IsChainOf};
 ghost use Rattle.iss_rules.specs.Votes.{cert_on};
-ghost use Rattle.iss_model.specs.Node.{asking, hands_out, Taken as Was_taken, takes_piece};
+ghost use Rattle.iss_model.specs.Node.{asking, hands_out, Taken as Step_taken, takes_piece};
 ghost use Rattle.iss_node.specs.Transfers.{IsAdoptedBy, IsHandedPiece, at_slots, held_slots, held_values};
 ghost use Rattle.iss_request.specs.declared.requests.Value.{Value as Held};
 ghost use Rattle.iss_transfer.specs.Adoption.{adoption};
 ghost use Rattle.iss_node.specs.Steps.{IsHeldStepOf, IsOfNodes, IsSameNode};
 
-use crate::answers::{Outcome, Stepped};
+use crate::answers::{Outcome, StepResult};
 use crate::claims::put_own;
-use crate::replica::Replica;
+use crate::state::NodeState;
 use iss_ballots::{claims_of_cert, copy_of_cert, pack_ask, pack_piece};
-use iss_causes::{NodeEvent, Why};
 use iss_checkpoint::Cert;
-use iss_request::{Bytes, Epoch, NoMemory, NodeId, Row, Slot, Value};
+use iss_request::{Bytes, Epoch, NoMemory, NodeId, Seq, Slot, Value};
+use iss_rules::{NodeEvent, Why};
 use iss_sb::{Sequenced, To};
 use iss_transfer::{Adoption, Piece, adopt};
 use std::alloc::Global;
 
-impl<M: Sequenced> Replica<M> {
+impl<M: Sequenced> NodeState<M> {
     /// Asks a node for the epoch in which this one is.
-    pub(crate) fn ask_from(&mut self, alloc: Global, peer: NodeId) -> Result<Stepped, NoMemory>
-        ensures answer { IfOk result (λ a. IsHeldStepOf M.meaning M.stands (IsOfNodes self.old.setup.n (NodeEvent.AskFrom peer)) self.old
-            (λ F R me c. Was_taken (asking F me c peer)) self.new a) }
+    pub(crate) fn ask_from(&mut self, alloc: Global, peer: NodeId) -> Result<StepResult, NoMemory>
+        ensures answer { IfOk result (λ a. IsHeldStepOf M.spec M.refines (IsOfNodes self.old.setup.n (NodeEvent.AskFrom peer)) self.old
+            (λ F R me c. Step_taken (asking F me c peer)) self.new a) }
         ensures same { IsSameNode self.old self.new }
     {
         let bytes = pack_ask(alloc, self.setup.version, self.me, self.epoch)?;
-        Ok(Stepped::Taken(one_send(alloc, peer, bytes)?))
+        Ok(StepResult::Taken(one_send(alloc, peer, bytes)?))
     }
 
     /// Hands out the values of an epoch, where the node keeps its certificate and its log holds all of it.
@@ -37,29 +37,29 @@ impl<M: Sequenced> Replica<M> {
         alloc: Global,
         from: NodeId,
         epoch: Epoch,
-    ) -> Result<Stepped, NoMemory>
+    ) -> Result<StepResult, NoMemory>
         requires { from.0 < self.old.setup.n }
-        ensures answer { IfOk result (λ a. IsHeldStepOf M.meaning M.stands (Unit {0}) self.old
-            (λ F R me c. hands_out F R M.meaning me c from.0 epoch.0 (cert_on c.certs epoch.0)) self.new a) }
+        ensures answer { IfOk result (λ a. IsHeldStepOf M.spec M.refines (Unit {0}) self.old
+            (λ F R me c. hands_out F R M.spec me c from.0 epoch.0 (cert_on c.certs epoch.0)) self.new a) }
         ensures same { IsSameNode self.old self.new }
     {
         let Some(cert) = self.ballots.cert_at(epoch) else {
-            return Ok(Stepped::Dropped(Why::NoCert));
+            return Ok(StepResult::Dropped(Why::NoCert));
         };
         let cert = copy_of_cert(alloc, cert)?;
         let Some(values) = self.values_of(alloc, epoch)? else {
-            return Ok(Stepped::Dropped(Why::NoCert));
+            return Ok(StepResult::Dropped(Why::NoCert));
         };
         let piece = Piece {
             epoch,
             values,
             cert,
         };
-        Ok(Stepped::Taken(self.hand_out_piece(alloc, from, &piece)?))
+        Ok(StepResult::Taken(self.hand_out_piece(alloc, from, &piece)?))
     }
 
     // The values of an epoch, if the log holds all of them.
-    fn values_of(&self, alloc: Global, epoch: Epoch) -> Result<Option<Row<Value>>, NoMemory>
+    fn values_of(&self, alloc: Global, epoch: Epoch) -> Result<Option<Seq<Value>>, NoMemory>
         ensures { IfOk result (λ values. values ≡ held_values self.now epoch.0) }
     {
         let Some(slots) = self.slots_of(epoch) else {
@@ -94,21 +94,21 @@ impl<M: Sequenced> Replica<M> {
     }
 
     /// Takes over the values of the node's epoch, unless a cause refuses them: the epoch ends without the node's vote.
-    pub(crate) fn take_piece(&mut self, alloc: Global, piece: Piece) -> Result<Stepped, NoMemory>
-        ensures answer { IfOk result (λ a. IsHeldStepOf M.meaning M.stands (Unit {0}) self.old
-            (λ F R me c. takes_piece F R M.meaning me c piece) self.new a) }
+    pub(crate) fn take_piece(&mut self, alloc: Global, piece: Piece) -> Result<StepResult, NoMemory>
+        ensures answer { IfOk result (λ a. IsHeldStepOf M.spec M.refines (Unit {0}) self.old
+            (λ F R me c. takes_piece F R M.spec me c piece) self.new a) }
         ensures same { IsSameNode self.old self.new }
     {
         if piece.epoch.0 < self.epoch.0 {
-            return Ok(Stepped::Dropped(Why::NotNeeded));
+            return Ok(StepResult::Dropped(Why::NotNeeded));
         }
         match self.adoption(alloc, &piece)? {
-            Adoption::WrongEpoch => Ok(Stepped::Dropped(Why::OtherEpoch)),
-            Adoption::BadCert => Ok(Stepped::Dropped(Why::BadClaim)),
-            Adoption::WrongChain { .. } => Ok(Stepped::Dropped(Why::WrongChain)),
+            Adoption::WrongEpoch => Ok(StepResult::Dropped(Why::OtherEpoch)),
+            Adoption::BadCert => Ok(StepResult::Dropped(Why::BadClaim)),
+            Adoption::WrongChain { .. } => Ok(StepResult::Dropped(Why::WrongChain)),
             Adoption::Adopt { hashed } => {
                 let outcome = self.adopt(alloc, piece, hashed)?;
-                Ok(Stepped::Taken(outcome))
+                Ok(StepResult::Taken(outcome))
             }
         }
     }
@@ -142,15 +142,15 @@ impl<M: Sequenced> Replica<M> {
         &mut self,
         alloc: Global,
         piece: Piece,
-        hashed: Row<Bytes>,
+        hashed: Seq<Bytes>,
     ) -> Result<Outcome, NoMemory>
-        ensures adopted { IfOk result (λ o. IsAdoptedBy M.meaning M.stands self.old piece hashed self.new o) }
+        ensures adopted { IfOk result (λ o. IsAdoptedBy M.spec M.refines self.old piece hashed self.new o) }
         ensures same { IsSameNode self.old self.new }
     {
         let Piece { values, cert, .. } = piece;
         let mut strings = hashed;
         let delivers = at_slots(alloc, self.layout.first(), values)?;
-        self.grow(alloc, delivers, &mut strings)?;
+        self.apply_deliveries(alloc, delivers, &mut strings)?;
         self.ballots.keep(cert)?;
         let early = self.next_epoch(alloc)?;
         let mut outcome = Outcome::nothing(alloc);
@@ -168,10 +168,10 @@ fn between(values: &[Value], first: usize, end: usize) -> &[Value]
     &values[first..end]
 }
 
-fn copies_of(alloc: Global, values: &[Value]) -> Result<Row<Value>, NoMemory>
+fn copies_of(alloc: Global, values: &[Value]) -> Result<Seq<Value>, NoMemory>
     ensures { IfOk result (λ row. row ≡ values.now) }
 {
-    let mut copies = Row::new(alloc);
+    let mut copies = Seq::new(alloc);
     for value in values {
         copies.push(value.copy()?)?;
     }
@@ -179,7 +179,7 @@ fn copies_of(alloc: Global, values: &[Value]) -> Result<Row<Value>, NoMemory>
 }
 
 // Values with their slots, from the first on.
-fn at_slots(alloc: Global, first: Slot, values: Row<Value>) -> Result<Vec<(Slot, Value)>, NoMemory>
+fn at_slots(alloc: Global, first: Slot, values: Seq<Value>) -> Result<Vec<(Slot, Value)>, NoMemory>
     ensures { IfOk result (λ ds. ds.items ≡ at_slots first.0 values) }
 {
     let mut delivers = Vec::new(alloc);

@@ -4,17 +4,17 @@ ghost use Rattle.iss_model.specs.Node.{takes_vote};
 ghost use Rattle.iss_node.specs.Votes.{IsVoteHandedOut, IsVoted};
 ghost use Rattle.iss_node.specs.Steps.{IsHeldStepOf, IsLater, IsSameNode};
 
-use crate::answers::{Outcome, Stepped};
-use crate::replica::Replica;
+use crate::answers::{Outcome, StepResult};
+use crate::state::NodeState;
 use iss_ballots::{Taking, claim_of_vote, pack_vote};
-use iss_causes::Why;
 use iss_checkpoint::{Vote, vote_statement};
 use iss_log::End;
-use iss_request::{Bytes, Epoch, NoMemory, Row};
+use iss_request::{Bytes, Epoch, NoMemory, Seq};
+use iss_rules::Why;
 use iss_sb::{Sequenced, To};
 use std::alloc::Global;
 
-impl<M: Sequenced> Replica<M> {
+impl<M: Sequenced> NodeState<M> {
     /// The node's vote on its epoch, which is over, signed by the next leaf. Want of memory comes also where none is left, which
     /// no step lets happen.
     pub(crate) fn vote(&mut self) -> Result<Vote, NoMemory>
@@ -51,30 +51,30 @@ impl<M: Sequenced> Replica<M> {
     pub(crate) fn hand_out_vote(&self, alloc: Global, vote: &Vote) -> Result<Outcome, NoMemory>
         ensures { IfOk result (IsVoteHandedOut self.now vote.now) }
     {
-        let mut sends = Row::new(alloc);
+        let mut sends = Seq::new(alloc);
         sends.push((To::All, pack_vote(alloc, self.setup.version, vote)?))?;
-        let mut own = Row::new(alloc);
+        let mut own = Seq::new(alloc);
         own.push(claim_of_vote(alloc, &self.setup.tag, vote)?)?;
         Ok(Outcome {
             sends,
             own,
-            early: Row::new(alloc),
-            hashed: Row::new(alloc),
+            early: Seq::new(alloc),
+            hashed: Seq::new(alloc),
         })
     }
 
     /// Counts a vote on an epoch up to the next one, unless a cause refuses it.
-    pub(crate) fn take_vote(&mut self, alloc: Global, vote: Vote) -> Result<Stepped, NoMemory>
-        ensures answer { IfOk result (λ a. IsHeldStepOf M.meaning M.stands (Unit {0}) self.old (λ F R me c. takes_vote R c vote) self.new a) }
+    pub(crate) fn take_vote(&mut self, alloc: Global, vote: Vote) -> Result<StepResult, NoMemory>
+        ensures answer { IfOk result (λ a. IsHeldStepOf M.spec M.refines (Unit {0}) self.old (λ F R me c. takes_vote R c vote) self.new a) }
         ensures same { IsSameNode self.old self.new }
     {
         if is_far(self.epoch, vote.epoch) {
-            return Ok(Stepped::Dropped(Why::OtherEpoch));
+            return Ok(StepResult::Dropped(Why::OtherEpoch));
         }
         match self.ballots.take(vote)? {
-            Taking::Counted => Ok(Stepped::Taken(Outcome::nothing(alloc))),
-            Taking::BadSignature => Ok(Stepped::Dropped(Why::BadClaim)),
-            Taking::Known => Ok(Stepped::Dropped(Why::Known)),
+            Taking::Counted => Ok(StepResult::Taken(Outcome::nothing(alloc))),
+            Taking::BadSignature => Ok(StepResult::Dropped(Why::BadClaim)),
+            Taking::Known => Ok(StepResult::Dropped(Why::Known)),
         }
     }
 }

@@ -6,16 +6,16 @@ use Rattle.iss_rules.specs.Formats.{formats_of}
 use Rattle.iss_rules.specs.Parcels.{Formats}
 use Rattle.iss_rules.specs.Past.{log_of}
 use Rattle.iss_rules.specs.Rules.{Rules}
-use Rattle.iss_causes.specs.Ends.{End}
+use Rattle.iss_rules.specs.Ends.{End}
 use Rattle.iss_model.specs.Run.{Net, ended_at, node_of}
-use Rattle.iss_restarts.specs.Courses.{Course, goes_further, goes_on, happens}
-use Rattle.iss_restarts.specs.Headline.{course_after}
-use Rattle.iss_restarts.proofs.Told.{after-one, after-stays, end-notes-nothing, further-on}
+use Rattle.iss_model.specs.Courses.{Course, apply_event, run_event, run_event_if_open}
+use Rattle.iss_theorems.specs.Headline.{course_after}
+use Rattle.iss_theorems.proofs.Told.{after-one, after-stays, end-notes-nothing, further-on}
 use Rattle.iss_model.proofs.Twins.{node-is}
-use Rattle.iss_causes.specs.declared.causes.Why.{Why}
-use Rattle.iss_report.specs.Text.{drop_line, node_block}
+use Rattle.iss_rules.specs.declared.events.Why.{Why}
+use Rattle.iss_replay.specs.Text.{drop_line, node_block}
 use Rattle.iss_replay.specs.Report.{block_of, drop_lines, node_blocks}
-use Rattle.iss_replay.specs.Stands.{StandsForRun, end_at, end_kept, numbered}
+use Rattle.iss_replay.specs.Refines.{ReportRefinesRun, end_at, end_kept, numbered}
 use Rattle.iss_schedule.specs.declared.schedules.Event.{Event}
 use Rattle.iss_schedule.specs.Events.{AreInRange, IsInRange}
 use Rattle.iss_request.specs.Setup.{IsGoodSetup, node_count, nodes_of_kind}
@@ -28,12 +28,12 @@ use Rattle.iss_request.specs.declared.ids.NodeId.{NodeId}
 use Rattle.iss_request.specs.declared.requests.Value.{Value}
 use Rattle.iss_network.proofs.Keeping.{any_default}
 use Rattle.iss_world.proofs.PostLemmas.{take-next}
-use Rattle.iss_world.specs.Stands.{HasHappened, StandsAt, end_of, why_ended}
+use Rattle.iss_world.specs.Refines.{HasHappened, RefinesRun, end_of, why_ended}
 use Rattle.iss_world.specs.State.{WorldState}
-use Rattle.iss_world.specs.declared.ends.End.{End as Kept}
-use Rattle.iss_world.specs.declared.ends.End.TheVariants.{Forged as Kept_forged, Collision as Kept_collision}
-use Rattle.iss_world.specs.declared.world.Happened.{Happened}
-use Rattle.iss_world.specs.declared.world.Happened.TheVariants.{Done, Lost, Forged as Was_forged, Collision as Was_collision}
+use Rattle.iss_world.specs.declared.ends.Evidence.{Evidence}
+use Rattle.iss_world.specs.declared.ends.Evidence.TheVariants.{Forged as Evidence_forged, Collision as Evidence_collision}
+use Rattle.iss_world.specs.declared.world.EventResult.{EventResult}
+use Rattle.iss_world.specs.declared.world.EventResult.TheVariants.{Done, Lost, Forged as Result_forged, Collision as Result_collision}
 
 in-range-get : (s : Setup) (es : List Event) (i : ℕ) (d : Event) → AreInRange s es → i < length es → IsInRange s (get_or es i d)
 in-range-get s [] i d h lt = absurd (omega arith)
@@ -73,26 +73,26 @@ why-is : (k : ℕ) (o : Option End) (end : End) → why_ended (ended_at k o) ≡
 why-is k None end q = absurd (cc)
 why-is k (Some other) end q = q
 
-module _ {M Msg : Type 0} (m : Module Msg) (stands : Relation M Msg) where
-  happened-on : (s : Setup) (F : Formats Msg) (R : Rules) (later : WorldState M Msg) (p : Course Msg) (e : Event) (r : Happened) → end_kept None ≡ p.ended →
-      HasHappened m stands later p (goes_further p.ended s F R m p e) r → HasHappened m stands later p (goes_on s F R m p e) r
-  happened-on s F R later p e r going h = subst (λ (q : Course Msg). HasHappened m stands later p q r) (further-on s F R m p e (sym going)) h
+module _ {M Msg : Type 0} (m : Module Msg) (refines : Relation M Msg) where
+  happened-on : (s : Setup) (F : Formats Msg) (R : Rules) (later : WorldState M Msg) (p : Course Msg) (e : Event) (r : EventResult) → end_kept None ≡ p.ended →
+      HasHappened m refines later p (run_event_if_open p.ended s F R m p e) r → HasHappened m refines later p (run_event s F R m p e) r
+  happened-on s F R later p e r going h = subst (λ (q : Course Msg). HasHappened m refines later p q r) (further-on s F R m p e (sym going)) h
 
   -- an event that is not lost, one that is, and one in which the run ends
   pub went-on : (s : Setup) (F : Formats Msg) (R : Rules) (later : WorldState M Msg) (drops : List (ℕ × Why)) (p : Course Msg) (e : Event) →
-      HasHappened m stands later p (goes_further p.ended s F R m p e) Done → end_kept None ≡ p.ended → reverse drops ≡ p.drops →
-      StandsForRun m stands later drops None (goes_on s F R m p e)
+      HasHappened m refines later p (run_event_if_open p.ended s F R m p e) Done → end_kept None ≡ p.ended → reverse drops ≡ p.drops →
+      ReportRefinesRun m refines later drops None (run_event s F R m p e)
   went-on s F R later drops p e h going d =
       let r = happened-on s F R later p e Done going h in
-      record { stands_for = r.0; drops_are = d ∙ sym r.2; end_is = sym r.1 }
+      record { refined = r.0; drops_are = d ∙ sym r.2; end_is = sym r.1 }
 
   pub was-lost : (s : Setup) (F : Formats Msg) (R : Rules) (later : WorldState M Msg) (old drops : List (ℕ × Why)) (p : Course Msg) (e : Event) (k : ℕ) (why : Why) →
-      HasHappened m stands later p (goes_further p.ended s F R m p e) (Lost why) → end_kept None ≡ p.ended → p.event ≡ k → reverse old ≡ p.drops → drops ≡ old ++ (k, why) ∷ [] →
-      StandsForRun m stands later drops None (goes_on s F R m p e)
+      HasHappened m refines later p (run_event_if_open p.ended s F R m p e) (Lost why) → end_kept None ≡ p.ended → p.event ≡ k → reverse old ≡ p.drops → drops ≡ old ++ (k, why) ∷ [] →
+      ReportRefinesRun m refines later drops None (run_event s F R m p e)
   was-lost s F R later old drops p e k why h going n d is =
       let r = happened-on s F R later p e (Lost why) going h in
       record {
-        stands_for = r.0;
+        refined = r.0;
         drops_are =
             ap (λ (xs : List (ℕ × Why)). reverse xs) is ∙ reverse-append old ((k, why) ∷ [])
             ∙ ap (λ (xs : List (ℕ × Why)). (k, why) ∷ xs) d
@@ -101,45 +101,45 @@ module _ {M Msg : Type 0} (m : Module Msg) (stands : Relation M Msg) where
         end_is = sym r.1;
       }
 
-  has-ended : (s : Setup) (F : Formats Msg) (R : Rules) (later : WorldState M Msg) (drops : List (ℕ × Why)) (p : Course Msg) (e : Event) (k : ℕ) (end : Kept) →
-      StandsAt m stands later (goes_on s F R m p e) → why_ended (goes_on s F R m p e).ended ≡ Some (end_of end) → p.event ≡ k → reverse drops ≡ p.drops →
-      StandsForRun m stands later drops (numbered k (Some end)) (goes_on s F R m p e)
+  has-ended : (s : Setup) (F : Formats Msg) (R : Rules) (later : WorldState M Msg) (drops : List (ℕ × Why)) (p : Course Msg) (e : Event) (k : ℕ) (end : Evidence) →
+      RefinesRun m refines later (run_event s F R m p e) → why_ended (run_event s F R m p e).ended ≡ Some (end_of end) → p.event ≡ k → reverse drops ≡ p.drops →
+      ReportRefinesRun m refines later drops (numbered k (Some end)) (run_event s F R m p e)
   has-ended s F R later drops p e k end st why n d =
-      let is : (happens s F R m p.machines e).ended ≡ Some (end_of end) = why-is p.event (happens s F R m p.machines e).ended (end_of end) why in
+      let is : (apply_event s F R m p.machines e).ended ≡ Some (end_of end) = why-is p.event (apply_event s F R m p.machines e).ended (end_of end) why in
       record {
-        stands_for = st;
+        refined = st;
         drops_are = d ∙ sym (end-notes-nothing s F R m p e (end_of end) is);
         end_is = ap (λ (j : ℕ). ended_at j (Some (end_of end))) (sym n) ∙ ap (λ (o : Option End). ended_at p.event o) (sym is);
       }
 
   pub was-forged : (s : Setup) (F : Formats Msg) (R : Rules) (later : WorldState M Msg) (drops : List (ℕ × Why)) (p : Course Msg) (e : Event) (k : ℕ) (by : NodeId) (statement sig : List ℕ) →
-      HasHappened m stands later p (goes_further p.ended s F R m p e) (Was_forged by statement sig) → end_kept None ≡ p.ended → p.event ≡ k → reverse drops ≡ p.drops →
-      StandsForRun m stands later drops (numbered k (Some (Kept_forged (record { by = by; statement = statement; sig = sig })))) (goes_on s F R m p e)
+      HasHappened m refines later p (run_event_if_open p.ended s F R m p e) (Result_forged by statement sig) → end_kept None ≡ p.ended → p.event ≡ k → reverse drops ≡ p.drops →
+      ReportRefinesRun m refines later drops (numbered k (Some (Evidence_forged (record { by = by; statement = statement; sig = sig })))) (run_event s F R m p e)
   was-forged s F R later drops p e k by statement sig h going n d =
-      let r = happened-on s F R later p e (Was_forged by statement sig) going h in
-      has-ended s F R later drops p e k (Kept_forged (record { by = by; statement = statement; sig = sig })) r.0 r.1 n d
+      let r = happened-on s F R later p e (Result_forged by statement sig) going h in
+      has-ended s F R later drops p e k (Evidence_forged (record { by = by; statement = statement; sig = sig })) r.0 r.1 n d
 
   pub has-collided : (s : Setup) (F : Formats Msg) (R : Rules) (later : WorldState M Msg) (drops : List (ℕ × Why)) (p : Course Msg) (e : Event) (k : ℕ) (first second : List ℕ) →
-      HasHappened m stands later p (goes_further p.ended s F R m p e) (Was_collision first second) → end_kept None ≡ p.ended → p.event ≡ k → reverse drops ≡ p.drops →
-      StandsForRun m stands later drops (numbered k (Some (Kept_collision first second))) (goes_on s F R m p e)
+      HasHappened m refines later p (run_event_if_open p.ended s F R m p e) (Result_collision first second) → end_kept None ≡ p.ended → p.event ≡ k → reverse drops ≡ p.drops →
+      ReportRefinesRun m refines later drops (numbered k (Some (Evidence_collision first second))) (run_event s F R m p e)
   has-collided s F R later drops p e k first second h going n d =
-      let r = happened-on s F R later p e (Was_collision first second) going h in
-      has-ended s F R later drops p e k (Kept_collision first second) r.0 r.1 n d
+      let r = happened-on s F R later p e (Result_collision first second) going h in
+      has-ended s F R later drops p e k (Evidence_collision first second) r.0 r.1 n d
 
   -- one event more
   next-run : (s : Setup) (es : List Event) (i : ℕ) (e : Event) → i < length es → e ≡ get_or es i e → end_kept None ≡ (course_after s m (take i es)).ended →
-      course_after s m (take (i + 1) es) ≡ goes_on s (formats_of s m) (rules_of s) m (course_after s m (take i es)) e
+      course_after s m (take (i + 1) es) ≡ run_event s (formats_of s m) (rules_of s) m (course_after s m (take i es)) e
   next-run s es i e lt is going =
       ap (λ (fs : List Event). course_after s m fs) (take-next es i e lt is)
       ∙ after-one s m (take i es) e (sym going)
 
-  pub run-next : (s t : Setup) (later : WorldState M Msg) (drops : List (ℕ × Why)) (ended : Option (ℕ × Kept)) (es : List Event) (i : ℕ) (e : Event) →
+  pub run-next : (s t : Setup) (later : WorldState M Msg) (drops : List (ℕ × Why)) (ended : Option (ℕ × Evidence)) (es : List Event) (i : ℕ) (e : Event) →
       t ≡ s → i < length es → e ≡ get_or es i e → end_kept None ≡ (course_after s m (take i es)).ended →
-      StandsForRun m stands later drops ended (goes_on t (formats_of t m) (rules_of t) m (course_after s m (take i es)) e) → StandsForRun m stands later drops ended (course_after s m (take (i + 1) es))
+      ReportRefinesRun m refines later drops ended (run_event t (formats_of t m) (rules_of t) m (course_after s m (take i es)) e) → ReportRefinesRun m refines later drops ended (course_after s m (take (i + 1) es))
   run-next s t later drops ended es i e same lt is going h =
-      let there : StandsForRun m stands later drops ended (goes_on s (formats_of s m) (rules_of s) m (course_after s m (take i es)) e) =
-      subst (λ (u : Setup). StandsForRun m stands later drops ended (goes_on u (formats_of u m) (rules_of u) m (course_after s m (take i es)) e)) same h in
-      subst (λ (p : Course Msg). StandsForRun m stands later drops ended p) (sym (next-run s es i e lt is going)) there
+      let there : ReportRefinesRun m refines later drops ended (run_event s (formats_of s m) (rules_of s) m (course_after s m (take i es)) e) =
+      subst (λ (u : Setup). ReportRefinesRun m refines later drops ended (run_event u (formats_of u m) (rules_of u) m (course_after s m (take i es)) e)) same h in
+      subst (λ (p : Course Msg). ReportRefinesRun m refines later drops ended p) (sym (next-run s es i e lt is going)) there
 
   pub number-next : (s : Setup) (es : List Event) (i : ℕ) (e : Event) → i < length es → e ≡ get_or es i e → end_kept None ≡ (course_after s m (take i es)).ended →
       (course_after s m (take i es)).event ≡ i → (course_after s m (take (i + 1) es)).event ≡ i + 1
@@ -148,14 +148,14 @@ module _ {M Msg : Type 0} (m : Module Msg) (stands : Relation M Msg) where
       omega (arith, next, n)
 
   -- what comes after the end changes nothing
-  pub run-over : (s : Setup) (later : WorldState M Msg) (drops : List (ℕ × Why)) (end : ℕ × Kept) (es : List Event) (i : ℕ) →
-      StandsForRun m stands later drops (Some end) (course_after s m (take i es)) → StandsForRun m stands later drops (Some end) (course_after s m es)
+  pub run-over : (s : Setup) (later : WorldState M Msg) (drops : List (ℕ × Why)) (end : ℕ × Evidence) (es : List Event) (i : ℕ) →
+      ReportRefinesRun m refines later drops (Some end) (course_after s m (take i es)) → ReportRefinesRun m refines later drops (Some end) (course_after s m es)
   run-over s later drops end es i h =
       let p = course_after s m (take i es) in
       let whole : course_after s m es ≡ p =
       ap (λ (fs : List Event). course_after s m fs) (sym (take-append-drop i es))
       ∙ after-stays s m (take i es) (drop i es) (end_at end) (sym h.end_is) in
-      subst (λ (q : Course Msg). StandsForRun m stands later drops (Some end) q) (sym whole) h
+      subst (λ (q : Course Msg). ReportRefinesRun m refines later drops (Some end) q) (sym whole) h
 
   -- ---- blocks
 

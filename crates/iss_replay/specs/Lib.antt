@@ -1,2 +1,3 @@
 pub mod Report
-pub mod Stands
+pub mod Refines
+pub mod Text

@@ -3,10 +3,10 @@ use Rattle.std.specs.Prelude.{◌≡◌, ℕ, zero, suc, cond, List, [], ◌∷�
 use Rattle.iss_rules.specs.Concrete.{rules_of}
 use Rattle.iss_rules.specs.Past.{log_of}
 use Rattle.iss_model.specs.Run.{Net}
-use Rattle.iss_restarts.specs.Courses.{Course}
-use Rattle.iss_restarts.specs.Headline.{IsWhole, course_after}
-use Rattle.iss_causes.specs.declared.causes.Why.{Why}
-use Rattle.iss_report.specs.Text.{drop_line, end_line, node_block}
+use Rattle.iss_model.specs.Courses.{Course}
+use Rattle.iss_theorems.specs.Headline.{IsWhole, course_after}
+use Rattle.iss_rules.specs.declared.events.Why.{Why}
+use Rattle.iss_replay.specs.Text.{drop_line, end_line, node_block}
 use Rattle.iss_request.specs.declared.setups.Setup.{Setup}
 use Rattle.iss_schedule.specs.declared.schedules.Event.{Event}
 use Rattle.iss_sb.specs.Evidence.{Module, is_correct}

@@ -1,8 +1,10 @@
-//! The replay of a schedule: its events happen to a cluster, one after the other, and what came of them is told.
+//! The replay of a schedule: applies its events to a cluster, one after the other, and writes the text of the report.
 #![tactic(auto)]
 
+pub mod lines;
 pub mod replays;
 pub mod texts;
+pub mod words;
 
 pub use replays::{Report, replay};
 pub use texts::text;

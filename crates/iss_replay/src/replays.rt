@@ -1,20 +1,20 @@
 //! The events of a schedule, one after the other.
 ghost use Rattle.std.specs.Prelude.{◌≡◌, IfOk, None};
 ghost use Rattle.iss_model.specs.Frames.{frame_of};
-ghost use Rattle.iss_restarts.specs.Courses.{Course};
-ghost use Rattle.iss_restarts.specs.Frames.{goes_on_in};
-ghost use Rattle.iss_restarts.specs.Headline.{IsWhole, course_after};
+ghost use Rattle.iss_model.specs.Courses.{Course};
+ghost use Rattle.iss_model.specs.CourseFrames.{run_event_in};
+ghost use Rattle.iss_theorems.specs.Headline.{IsWhole, course_after};
 ghost use Rattle.iss_rules.specs.Setups.{IsSetupOf};
-ghost use Rattle.iss_replay.specs.Stands.{StandsForRun, numbered};
+ghost use Rattle.iss_replay.specs.Refines.{ReportRefinesRun, numbered};
 ghost use Rattle.iss_schedule.specs.Events.{AreInRange, IsInRange};
 
-use iss_causes::Why;
-use iss_request::{NoMemory, Row};
-use iss_restarts::restarts_change_nothing;
+use iss_request::{NoMemory, Seq};
+use iss_rules::Why;
 use iss_sb::{Claim, Sequenced};
 use iss_schedule::{Event, Schedule};
-use iss_world::ends::End;
-use iss_world::{Happened, World};
+use iss_theorems::restarts_change_nothing;
+use iss_world::ends::Evidence;
+use iss_world::{EventResult, World};
 use std::alloc::Global;
 
 /// What came of a schedule: its cluster as it stands at the end, the events that were lost, in their order, each with its number
@@ -22,8 +22,8 @@ use std::alloc::Global;
 #[derive(Drop)]
 pub struct Report<M: Sequenced> {
     pub world: World<M>,
-    pub drops: Row<(u64, Why)>,
-    pub ended: Option<(u64, End)>,
+    pub drops: Seq<(u64, Why)>,
+    pub ended: Option<(u64, Evidence)>,
 }
 
 /// Replays a schedule: what its events make of a cluster that has taken nothing, up to the event that shows a claim that its
@@ -32,11 +32,11 @@ pub struct Report<M: Sequenced> {
 /// and each request that a correct node took and kept is in its log, waits there or is in flight. The certificates that correct nodes
 /// keep are of logs of correct nodes, and what correct nodes adopted was delivered at one (ISS, whole protocol; crashes and recovery).
 pub fn replay<M: Sequenced>(alloc: Global, schedule: &Schedule) -> Result<Report<M>, NoMemory>
-    requires good { IsSetupOf M.meaning schedule.now.setup }
+    requires good { IsSetupOf M.spec schedule.now.setup }
     requires range { AreInRange schedule.now.setup schedule.now.events }
-    ensures run { IfOk result (λ r. StandsForRun M.meaning M.stands r.world r.drops r.ended (course_after schedule.now.setup M.meaning schedule.now.events)) }
-    ensures same { IfOk result (λ r. r.world.running.setup ≡ schedule.now.setup) }
-    ensures whole { IsWhole schedule.now.setup M.meaning schedule.now.events }
+    ensures run { IfOk result (λ r. ReportRefinesRun M.spec M.refines r.world r.drops r.ended (course_after schedule.now.setup M.spec schedule.now.events)) }
+    ensures same { IfOk result (λ r. r.world.simulation.setup ≡ schedule.now.setup) }
+    ensures whole { IsWhole schedule.now.setup M.spec schedule.now.events }
 {
     restarts_change_nothing::<M>();
     play(alloc, schedule)
@@ -44,14 +44,14 @@ pub fn replay<M: Sequenced>(alloc: Global, schedule: &Schedule) -> Result<Report
 
 // The events happen to a cluster that has taken nothing, up to the one in which the run ends.
 fn play<M: Sequenced>(alloc: Global, schedule: &Schedule) -> Result<Report<M>, NoMemory>
-    requires good { IsSetupOf M.meaning schedule.now.setup }
+    requires good { IsSetupOf M.spec schedule.now.setup }
     requires range { AreInRange schedule.now.setup schedule.now.events }
-    ensures run { IfOk result (λ r. StandsForRun M.meaning M.stands r.world r.drops r.ended (course_after schedule.now.setup M.meaning schedule.now.events)) }
-    ensures same { IfOk result (λ r. r.world.running.setup ≡ schedule.now.setup) }
+    ensures run { IfOk result (λ r. ReportRefinesRun M.spec M.refines r.world r.drops r.ended (course_after schedule.now.setup M.spec schedule.now.events)) }
+    ensures same { IfOk result (λ r. r.world.simulation.setup ≡ schedule.now.setup) }
 {
     let events = schedule.events.as_slice();
     let mut world = World::start(alloc, &schedule.setup)?;
-    let mut drops = Row::new(alloc);
+    let mut drops = Seq::new(alloc);
     for place in 0..events.len() {
         if let Some(end) = go_on(alloc, &mut world, &mut drops, place as u64, &events[place])? {
             let ended = Some((place as u64, end));
@@ -73,27 +73,27 @@ fn play<M: Sequenced>(alloc: Global, schedule: &Schedule) -> Result<Report<M>, N
 fn go_on<M: Sequenced>(
     alloc: Global,
     world: &mut World<M>,
-    drops: &mut Row<(u64, Why)>,
+    drops: &mut Seq<(u64, Why)>,
     number: u64,
     event: &Event,
-) -> Result<Option<End>, NoMemory>
-    requires { IsInRange world.old.running.setup event.now }
-    ensures went { IfOk result (λ end. (p : Course M.Msg) → p.event ≡ number → StandsForRun M.meaning M.stands world.old drops.old None p →
-        StandsForRun M.meaning M.stands world.new drops.new (numbered number end) (goes_on_in (frame_of world.old.running.setup M.meaning) p event.now)) }
-    ensures same { world.new.running.setup ≡ world.old.running.setup }
+) -> Result<Option<Evidence>, NoMemory>
+    requires { IsInRange world.old.simulation.setup event.now }
+    ensures went { IfOk result (λ end. (p : Course M.Msg) → p.event ≡ number → ReportRefinesRun M.spec M.refines world.old drops.old None p →
+        ReportRefinesRun M.spec M.refines world.new drops.new (numbered number end) (run_event_in (frame_of world.old.simulation.setup M.spec) p event.now)) }
+    ensures same { world.new.simulation.setup ≡ world.old.simulation.setup }
 {
     match world.event(alloc, event) {
-        Happened::Done => Ok(None),
-        Happened::Lost(why) => {
+        EventResult::Done => Ok(None),
+        EventResult::Lost(why) => {
             drops.push((number, why))?;
             Ok(None)
         }
-        Happened::Forged { by, statement, sig } => Ok(Some(End::Forged(Claim {
+        EventResult::Forged { by, statement, sig } => Ok(Some(Evidence::Forged(Claim {
             by,
             statement,
             sig,
         }))),
-        Happened::Collision { first, second } => Ok(Some(End::Collision { first, second })),
-        Happened::NoMemory | Happened::Stale => Err(NoMemory),
+        EventResult::Collision { first, second } => Ok(Some(Evidence::Collision { first, second })),
+        EventResult::NoMemory | EventResult::Stale => Err(NoMemory),
     }
 }

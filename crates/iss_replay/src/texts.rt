@@ -1,36 +1,36 @@
 //! The text of a report.
 ghost use Rattle.std.specs.Prelude.{◌≡◌, ◌<◌, ◌++◌, IfOk, List, OnOk, reverse};
-ghost use Rattle.iss_restarts.specs.Courses.{Course};
-ghost use Rattle.iss_restarts.specs.Headline.{course_after};
+ghost use Rattle.iss_model.specs.Courses.{Course};
+ghost use Rattle.iss_theorems.specs.Headline.{course_after};
 ghost use Rattle.iss_rules.specs.Setups.{IsSetupOf};
 ghost use Rattle.iss_replay.specs.Report.{IsReport, block_of, drop_lines, node_blocks, text_of};
-ghost use Rattle.iss_replay.specs.Stands.{StandsForRun, end_kept};
-ghost use Rattle.iss_report.specs.Text.{end_line};
+ghost use Rattle.iss_replay.specs.Refines.{ReportRefinesRun, end_kept};
+ghost use Rattle.iss_replay.specs.Text.{end_line};
 ghost use Rattle.iss_schedule.specs.Events.{AreInRange};
 ghost use Rattle.iss_schedule.specs.declared.schedules.Event.{Event};
-ghost use Rattle.iss_world.specs.Stands.{StandsAt};
+ghost use Rattle.iss_world.specs.Refines.{RefinesRun};
 
+use crate::lines::{put_collision, put_drop, put_forged, put_node, put_ok};
 use crate::replays::Report;
-use iss_causes::Why;
-use iss_report::{put_collision, put_drop, put_forged, put_node, put_ok};
 use iss_request::{Bytes, NoMemory, NodeId};
-use iss_restarts::restarts_change_nothing;
+use iss_rules::Why;
 use iss_sb::Sequenced;
+use iss_theorems::restarts_change_nothing;
 use iss_world::World;
 use iss_world::claims::is_correct;
-use iss_world::ends::End;
+use iss_world::ends::Evidence;
 use std::alloc::Global;
 
 /// The text of a report: a line for each event that was lost, the block of each correct node, and the last line. Where it is
 /// the report of a schedule, its logs are of one log, its requests are conserved, certificates are of logs of correct nodes, and
 /// what was adopted was delivered, as `replay` says.
 pub fn text<M: Sequenced>(alloc: Global, report: &Report<M>) -> Result<Bytes, NoMemory>
-    ensures tells { IfOk result (λ bytes. (p : Course M.Msg) → StandsForRun M.meaning M.stands report.now.world report.now.drops report.now.ended p →
-        bytes ≡ text_of report.now.world.running.setup M.meaning p) }
-    ensures reports { IfOk result (λ bytes. IsSetupOf M.meaning report.now.world.running.setup →
-        (events : List Event) → AreInRange report.now.world.running.setup events →
-        StandsForRun M.meaning M.stands report.now.world report.now.drops report.now.ended (course_after report.now.world.running.setup M.meaning events) →
-        IsReport report.now.world.running.setup M.meaning events bytes) }
+    ensures tells { IfOk result (λ bytes. (p : Course M.Msg) → ReportRefinesRun M.spec M.refines report.now.world report.now.drops report.now.ended p →
+        bytes ≡ text_of report.now.world.simulation.setup M.spec p) }
+    ensures reports { IfOk result (λ bytes. IsSetupOf M.spec report.now.world.simulation.setup →
+        (events : List Event) → AreInRange report.now.world.simulation.setup events →
+        ReportRefinesRun M.spec M.refines report.now.world report.now.drops report.now.ended (course_after report.now.world.simulation.setup M.spec events) →
+        IsReport report.now.world.simulation.setup M.spec events bytes) }
 {
     restarts_change_nothing::<M>();
     write(alloc, report)
@@ -38,8 +38,8 @@ pub fn text<M: Sequenced>(alloc: Global, report: &Report<M>) -> Result<Bytes, No
 
 // Writes the text.
 fn write<M: Sequenced>(alloc: Global, report: &Report<M>) -> Result<Bytes, NoMemory>
-    ensures { IfOk result (λ bytes. (p : Course M.Msg) → StandsForRun M.meaning M.stands report.now.world report.now.drops report.now.ended p →
-        bytes ≡ text_of report.now.world.running.setup M.meaning p) }
+    ensures { IfOk result (λ bytes. (p : Course M.Msg) → ReportRefinesRun M.spec M.refines report.now.world report.now.drops report.now.ended p →
+        bytes ≡ text_of report.now.world.simulation.setup M.spec p) }
 {
     let mut out = Vec::new(alloc);
     put_drops(&mut out, report.drops.as_slice())?;
@@ -60,8 +60,8 @@ fn put_drops(out: &mut Vec<u8>, drops: &[(u64, Why)]) -> Result<(), NoMemory>
 
 // Writes the block of each correct node, ascending.
 fn put_nodes<M: Sequenced>(out: &mut Vec<u8>, world: &World<M>) -> Result<(), NoMemory>
-    ensures { OnOk result ((p : Course M.Msg) → StandsAt M.meaning M.stands world.now p →
-        out.new.items ≡ out.old.items ++ node_blocks world.now.running.setup M.meaning p.machines.held.net world.now.running.setup.n) }
+    ensures { OnOk result ((p : Course M.Msg) → RefinesRun M.spec M.refines world.now p →
+        out.new.items ≡ out.old.items ++ node_blocks world.now.simulation.setup M.spec p.machines.held.net world.now.simulation.setup.n) }
 {
     let nodes = world.setup().n;
     for node in 0..nodes {
@@ -72,9 +72,9 @@ fn put_nodes<M: Sequenced>(out: &mut Vec<u8>, world: &World<M>) -> Result<(), No
 
 // Writes the block of one node, where it is correct.
 fn put_block<M: Sequenced>(out: &mut Vec<u8>, world: &World<M>, node: u32) -> Result<(), NoMemory>
-    requires { node < world.now.running.setup.n }
-    ensures { OnOk result ((p : Course M.Msg) → StandsAt M.meaning M.stands world.now p →
-        out.new.items ≡ out.old.items ++ block_of world.now.running.setup M.meaning p.machines.held.net node) }
+    requires { node < world.now.simulation.setup.n }
+    ensures { OnOk result ((p : Course M.Msg) → RefinesRun M.spec M.refines world.now p →
+        out.new.items ≡ out.old.items ++ block_of world.now.simulation.setup M.spec p.machines.held.net node) }
 {
     if !is_correct(world.setup(), node) {
         return Ok(());
@@ -83,13 +83,17 @@ fn put_block<M: Sequenced>(out: &mut Vec<u8>, world: &World<M>, node: u32) -> Re
 }
 
 // Writes how the run ended.
-fn put_end(alloc: Global, out: &mut Vec<u8>, ended: &Option<(u64, End)>) -> Result<(), NoMemory>
+fn put_end(
+    alloc: Global,
+    out: &mut Vec<u8>,
+    ended: &Option<(u64, Evidence)>,
+) -> Result<(), NoMemory>
     ensures { OnOk result (out.new.items ≡ out.old.items ++ end_line (end_kept ended.now)) }
 {
     match ended {
         None => put_ok(out),
-        Some((event, End::Forged(claim))) => put_forged(alloc, out, *event, claim),
-        Some((event, End::Collision { first, second })) => {
+        Some((event, Evidence::Forged(claim))) => put_forged(alloc, out, *event, claim),
+        Some((event, Evidence::Collision { first, second })) => {
             put_collision(alloc, out, *event, first.as_slice(), second.as_slice())
         }
     }

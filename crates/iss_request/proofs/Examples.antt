@@ -3,19 +3,19 @@ use Rattle.std.proofs.Common.{◌≡◌, [], ◌∷◌, refl}
 use Rattle.iss_request.specs.Fields.{Good, Bad}
 use Rattle.iss_request.specs.Parsing.{◌>>=◌, done, such_that, byte, number, block, digests, times, at_end, all_of}
 use Rattle.iss_request.specs.Formats.{spell_count, spell_batch, spell_value, parse_payload, parse_signature, parse_request, count_field, parse_count, parse_batch, parse_rest, parse_value}
-use Rattle.iss_request.specs.declared.requests.Value.TheVariants.{Nil, Batch as Holds}
+use Rattle.iss_request.specs.declared.requests.Value.TheVariants.{Nil, Batch as Value_batch}
 
 -- nil is one byte, and the empty batch is two, by the second version three
 nil_value : (spell_value 1 Nil ≡ 0 ∷ []) × (spell_value 2 Nil ≡ 0 ∷ [])
 unfolding spell_value
 nil_value = (refl, refl)
 
-empty_value : (spell_value 1 (Holds []) ≡ 1 ∷ 0 ∷ []) × (spell_value 2 (Holds []) ≡ 2 ∷ 0 ∷ 0 ∷ [])
+empty_value : (spell_value 1 (Value_batch []) ≡ 1 ∷ 0 ∷ []) × (spell_value 2 (Value_batch []) ≡ 2 ∷ 0 ∷ 0 ∷ [])
 unfolding spell_value spell_batch spell_count
 empty_value = (refl, refl)
 
 -- an empty batch with a byte behind it
-empty_read : (parse_value 1 (1 ∷ 0 ∷ 9 ∷ []) ≡ Good (Holds []) (9 ∷ [])) × (parse_value 2 (2 ∷ 0 ∷ 0 ∷ 9 ∷ []) ≡ Good (Holds []) (9 ∷ []))
+empty_read : (parse_value 1 (1 ∷ 0 ∷ 9 ∷ []) ≡ Good (Value_batch []) (9 ∷ [])) × (parse_value 2 (2 ∷ 0 ∷ 0 ∷ 9 ∷ []) ≡ Good (Value_batch []) (9 ∷ []))
 unfolding parse_value parse_rest parse_batch parse_count count_field such_that byte number times done ◌>>=◌
 empty_read = (refl, refl)
 

@@ -11,7 +11,7 @@ use Rattle.iss_request.specs.Formats.{spell_request, spell_count, spell_batch, s
 use Rattle.iss_request.specs.declared.errors.NoMemory.{NoMemory}
 use Rattle.iss_request.specs.declared.requests.Request.{Request}
 use Rattle.iss_request.specs.declared.requests.Value.{Value}
-use Rattle.iss_request.specs.declared.requests.Value.TheVariants.{Nil, Batch as Holds}
+use Rattle.iss_request.specs.declared.requests.Value.TheVariants.{Nil, Batch as Value_batch}
 use Rattle.iss_request.proofs.Readings.{read_then, unread_first, unread_then, read_done, read_passed}
 
 -- ---- the first byte of a value
@@ -26,13 +26,13 @@ batch_first version = first_of version (is_second version)
 pub other_first : (version n : ℕ) → n ≢ 0 → n ≢ version_byte version → is_first version n ≡ false
 other_first version n nil batch = rw (ne_eqb n 0 nil, ne_eqb n (version_byte version) batch) refl
 
-rest_of : (version : ℕ) (second : Bool) → parse_rest version (cond second 2 1) ≡ (parse_batch version >>= λ b. done (Holds b))
+rest_of : (version : ℕ) (second : Bool) → parse_rest version (cond second 2 1) ≡ (parse_batch version >>= λ b. done (Value_batch b))
 unfolding parse_rest
 rest_of version true = refl
 rest_of version false = refl
 
 -- what is read behind the byte of a batch
-pub batch_rest : (version : ℕ) → parse_rest version (version_byte version) ≡ (parse_batch version >>= λ b. done (Holds b))
+pub batch_rest : (version : ℕ) → parse_rest version (version_byte version) ≡ (parse_batch version >>= λ b. done (Value_batch b))
 batch_rest version = rest_of version (is_second version)
 
 -- ---- reading a value
@@ -43,13 +43,13 @@ nil_read a b first e r =
     let zero_read : IsRead byte a b 0 = subst (λ (n : ℕ). IsRead byte a b n) e r in
     read_then _ _ (read_passed _ _ zero_read refl) (read_done _ _)
 
-pub batch_read : (a b c : Reading) (first : ℕ) (batch : List Request) → first ≡ version_byte a.version → IsRead byte a b first → IsRead (parse_batch b.version) b c batch → IsRead (parse_value a.version) a c (Holds batch)
+pub batch_read : (a b c : Reading) (first : ℕ) (batch : List Request) → first ≡ version_byte a.version → IsRead byte a b first → IsRead (parse_batch b.version) b c batch → IsRead (parse_value a.version) a c (Value_batch batch)
 unfolding parse_value
 batch_read a b c first batch e r s =
     let byte_read : IsRead byte a b (version_byte a.version) = subst (λ (n : ℕ). IsRead byte a b n) e r in
     let requests_read : IsRead (parse_batch a.version) b c batch = subst (λ (v : ℕ). IsRead (parse_batch v) b c batch) r.version s in
     read_then _ _ (read_passed _ _ byte_read (batch_first a.version))
-    (subst (λ (p : Parser Value). IsRead p b c (Holds batch)) (sym (batch_rest a.version)) (read_then _ _ requests_read (read_done _ _)))
+    (subst (λ (p : Parser Value). IsRead p b c (Value_batch batch)) (sym (batch_rest a.version)) (read_then _ _ requests_read (read_done _ _)))
 
 pub batch_unread : (a b : Reading) (first at : ℕ) → first ≡ version_byte a.version → IsRead byte a b first → IsUnreadable (parse_batch b.version) b at → IsUnreadable (parse_value a.version) a at
 unfolding parse_value
@@ -109,7 +109,7 @@ pub nil_spelled : (version : ℕ) (v : Value) → v ≡ Nil → spell_value vers
 unfolding spell_value
 nil_spelled version v e = rw e refl
 
-pub holds_spelled : (version : ℕ) (v : Value) (b : List Request) → v ≡ Holds b → spell_value version v ≡ version_byte version ∷ spell_batch version b
+pub holds_spelled : (version : ℕ) (v : Value) (b : List Request) → v ≡ Value_batch b → spell_value version v ≡ version_byte version ∷ spell_batch version b
 unfolding spell_value
 holds_spelled version v b e = rw e refl
 
@@ -124,7 +124,7 @@ versioned_written r old mid new xs spelled e h =
     both_written r old mid new xs (spelled old.version) e (subst (λ (v : ℕ). OnOk r (new ≡ and_bytes mid (spelled v))) (ap (λ (w : Written). w.version) e) h)
 
 -- a batch that is written behind its byte
-pub holds_written : (r : Result (Unit {0}) NoMemory) (old mid new : Written) (v : Value) (b : List Request) (first : ℕ) → v ≡ Holds b → first ≡ version_byte old.version → mid ≡ and_bytes old (first ∷ []) → OnOk r (new ≡ and_bytes mid (spell_batch mid.version b)) → OnOk r (new ≡ and_bytes old (spell_value old.version v))
+pub holds_written : (r : Result (Unit {0}) NoMemory) (old mid new : Written) (v : Value) (b : List Request) (first : ℕ) → v ≡ Value_batch b → first ≡ version_byte old.version → mid ≡ and_bytes old (first ∷ []) → OnOk r (new ≡ and_bytes mid (spell_batch mid.version b)) → OnOk r (new ≡ and_bytes old (spell_value old.version v))
 holds_written r old mid new v b first is e m h =
     rw (holds_spelled old.version v b is)
     (versioned_written r old mid new (version_byte old.version ∷ []) (λ version. spell_batch version b) (subst (λ (n : ℕ). mid ≡ and_bytes old (n ∷ [])) e m) h)

@@ -5,7 +5,7 @@ use Rattle.iss_base.proofs.Lists.{and-true, eqb-same, is-eq, or-assoc}
 use Rattle.iss_request.specs.Log.{has_id, same_id}
 use Rattle.iss_request.specs.declared.ids.ReqId.{ReqId}
 use Rattle.iss_request.specs.declared.requests.Batch.{Batch}
-use Rattle.iss_request.specs.declared.requests.Value.TheVariants.{Batch as Holds}
+use Rattle.iss_request.specs.declared.requests.Value.TheVariants.{Batch as Value_batch}
 
 eqb-flip : (a b : ℕ) → eqb a b ≡ eqb b a
 eqb-flip a b = grind arith
@@ -32,5 +32,5 @@ pub has_id-append : (x : ReqId) (xs ys : List ReqId) → has_id x (xs ++ ys) ≡
 has_id-append x [] ys = refl
 has_id-append x (z ∷ xs) ys = ap (λ b. same_id x z || b) (has_id-append x xs ys) ∙ or-assoc (same_id x z) (has_id x xs) (has_id x ys)
 
-pub holds-injective : (b c : Batch) → Holds b ≡ Holds c → b ≡ c
+pub holds-injective : (b c : Batch) → Value_batch b ≡ Value_batch c → b ≡ c
 holds-injective b c h = cc

@@ -12,7 +12,7 @@ use Rattle.iss_request.specs.Formats.{is_second, version_byte, requests_most, Ha
 use Rattle.iss_request.specs.Formats.{spell_request, spell_count, spell_batch, spell_value, parse_payload, parse_signature, parse_request, count_field, parse_count, parse_batch, is_first, parse_rest, parse_value}
 use Rattle.iss_request.specs.declared.requests.Request.{Request}
 use Rattle.iss_request.specs.declared.requests.Value.{Value}
-use Rattle.iss_request.specs.declared.requests.Value.TheVariants.{Nil, Batch as Holds}
+use Rattle.iss_request.specs.declared.requests.Value.TheVariants.{Nil, Batch as Value_batch}
 use Rattle.iss_request.proofs.ParserLemmas.{then_good, then_bad, first_bad, then_parts, done_parts, test_passed, test_failed, test_parts, byte_again, byte_parts, wide16, wide32, number_again, number_parts, block_again, block_parts, digests_again, digests_parts}
 use Rattle.iss_request.proofs.FormatLemmas.{request_spelled, request_unspelled, batch_first, batch_rest, batch_spelled, batch_unspelled}
 
@@ -325,11 +325,11 @@ nil_whole version rest = then_good _ _ _ rest rest 0 Nil (test_passed (is_first 
 holds_first : (version : ℕ) (rest : List ℕ) → such_that (is_first version) byte (version_byte version ∷ rest) ≡ Good (version_byte version) rest
 holds_first version rest = test_passed (is_first version) byte _ rest (version_byte version) (byte_again (version_byte version) rest) (batch_first version)
 
-holds_good : (version : ℕ) (b : List Request) (bytes rest : List ℕ) → parse_batch version bytes ≡ Good b rest → parse_value version (version_byte version ∷ bytes) ≡ Good (Holds b) rest
+holds_good : (version : ℕ) (b : List Request) (bytes rest : List ℕ) → parse_batch version bytes ≡ Good b rest → parse_value version (version_byte version ∷ bytes) ≡ Good (Value_batch b) rest
 unfolding parse_value
 holds_good version b bytes rest e =
-    then_good _ _ _ bytes rest (version_byte version) (Holds b) (holds_first version bytes)
-    (ap (λ (p : Parser Value). p bytes) (batch_rest version) ∙ then_good _ _ bytes rest rest b (Holds b) e (done_good (Holds b) rest))
+    then_good _ _ _ bytes rest (version_byte version) (Value_batch b) (holds_first version bytes)
+    (ap (λ (p : Parser Value). p bytes) (batch_rest version) ∙ then_good _ _ bytes rest rest b (Value_batch b) e (done_good (Value_batch b) rest))
 
 holds_bad : (version : ℕ) (bytes : List ℕ) → IsBad (parse_batch version bytes) → IsBad (parse_value version (version_byte version ∷ bytes))
 unfolding parse_value
@@ -339,7 +339,7 @@ holds_bad version bytes bad =
 value_whole : (version : ℕ) (v : Value) → Whole (spell_value version v) (parse_value version) v
 unfolding spell_value
 value_whole version Nil = inl (λ rest. nil_whole version rest)
-value_whole version (Holds b) =
+value_whole version (Value_batch b) =
     elim (batch_whole version b) [
       | inl good ↦ inl (λ rest. holds_good version b (spell_batch version b ++ rest) rest (good rest))
       | inr bad ↦ inr (λ rest. holds_bad version (spell_batch version b ++ rest) (bad rest))
@@ -348,7 +348,7 @@ value_whole version (Holds b) =
 -- what a value is that was read
 abbrev IsValue : ℕ → List ℕ → List ℕ → Value → Type 0
 IsValue version bytes rest Nil = bytes ≡ 0 ∷ rest
-IsValue version bytes rest (Holds b) = (mid : List ℕ) × (bytes ≡ version_byte version ∷ mid) × IsBatch version mid rest b
+IsValue version bytes rest (Value_batch b) = (mid : List ℕ) × (bytes ≡ version_byte version ∷ mid) × IsBatch version mid rest b
 
 not_nil : (n m : ℕ) → (eqb (suc n) 0 || eqb (suc n) m) ≡ true → suc n ≡ m
 not_nil n m t = eqb-true (suc n) m (rw (ne_eqb (suc n) 0 (omega arith)) at t)
@@ -360,7 +360,7 @@ rest_parts version zero bytes rest v t e =
     subst (λ (x : Value). IsValue version (0 ∷ bytes) rest x) ends.0 (ap (λ (x : List ℕ). 0 ∷ x) ends.1)
 rest_parts version (suc n) bytes rest v t e =
     let a = then_parts _ _ bytes rest v e in
-    let ends = done_parts (Holds a.thing) v a.mid rest a.second in
+    let ends = done_parts (Value_batch a.thing) v a.mid rest a.second in
     let batch = subst (λ (x : List ℕ). IsBatch version bytes x a.thing) ends.1 (batch_parts version bytes a.mid a.thing a.first) in
     let first : suc n ≡ version_byte version = not_nil n (version_byte version) t in
     subst (λ (x : Value). IsValue version (suc n ∷ bytes) rest x) ends.0 (bytes, ap (λ (m : ℕ). m ∷ bytes) first, batch)
@@ -375,7 +375,7 @@ value_parts version bytes rest v e =
 value_only : (version : ℕ) (v : Value) (bytes rest : List ℕ) → IsValue version bytes rest v → bytes ≡ spell_value version v ++ rest
 unfolding spell_value
 value_only version Nil bytes rest is = is
-value_only version (Holds b) bytes rest is = is.1 ∙ ap (λ (x : List ℕ). version_byte version ∷ x) is.2.parts
+value_only version (Value_batch b) bytes rest is = is.1 ∙ ap (λ (x : List ℕ). version_byte version ∷ x) is.2.parts
 
 pub value_grammar : (version : ℕ) → IsGrammar (spell_value version) (parse_value version)
 value_grammar version = record { only = λ bytes rest v e. value_only version v bytes rest (value_parts version bytes rest v e); whole = value_whole version }
@@ -405,14 +405,14 @@ batch_table version b le h = batch_spelled version b le ∙ ap (λ (x : List ℕ
 
 table_parts : (version : ℕ) (v : Value) (bytes : List ℕ) → IsValue version bytes [] v → IsSpelledValue version v bytes
 table_parts version Nil bytes is = is
-table_parts version (Holds b) bytes is =
+table_parts version (Value_batch b) bytes is =
     let batch = is.2 in
     let spelled : is.0 ≡ spell_count version (length b) ++ flat_map request_bytes b = batch.parts ∙ append-nil (spell_batch version b) ∙ batch_table version b batch.few batch.spelled in
     (batch.few, batch.spelled, is.1 ∙ ap (λ (x : List ℕ). version_byte version ∷ x) spelled)
 
 table_again : (version : ℕ) (v : Value) (bytes : List ℕ) → IsSpelledValue version v bytes → parse_value version bytes ≡ Good v []
 table_again version Nil bytes h = ap (parse_value version) h ∙ nil_whole version []
-table_again version (Holds b) bytes h =
+table_again version (Value_batch b) bytes h =
     let spelled : bytes ≡ version_byte version ∷ (spell_batch version b ++ []) = h.2 ∙ ap (λ (x : List ℕ). version_byte version ∷ x) (sym (append-nil (spell_batch version b) ∙ batch_table version b h.0 h.1)) in
     ap (parse_value version) spelled ∙ holds_good version b (spell_batch version b ++ []) [] (batch_good version b h.0 (times_again b h.1) [])
 

@@ -13,7 +13,7 @@ use Rattle.std.specs.Int.{w16, w32, to_be_bytes}
 use Rattle.iss_request.specs.Parsing.{Parser, ◌>>=◌, done, such_that, byte, number, block, digests, times}
 use Rattle.iss_request.specs.declared.requests.Request.{Request}
 use Rattle.iss_request.specs.declared.requests.Value.{Value}
-use Rattle.iss_request.specs.declared.requests.Value.TheVariants.{Nil, Batch as Holds}
+use Rattle.iss_request.specs.declared.requests.Value.TheVariants.{Nil, Batch as Value_batch}
 
 -- ---- versions
 
@@ -32,12 +32,12 @@ requests_most version = if is_second version then 256 else 32
 
 abbrev pub is_batch : Value → Bool
 is_batch Nil = false
-is_batch (Holds b) = true
+is_batch (Value_batch b) = true
 
 -- the requests of a value: nil has none
 abbrev pub batch_of : Value → List Request
 batch_of Nil = []
-batch_of (Holds b) = b
+batch_of (Value_batch b) = b
 
 -- ---- what has a spelling
 
@@ -74,7 +74,7 @@ spell_batch version b = if nat_le (length b) (requests_most version) then spell_
 
 unfoldable pub spell_value : ℕ → Value → List ℕ
 spell_value version Nil = 0 ∷ []
-spell_value version (Holds b) = version_byte version ∷ spell_batch version b
+spell_value version (Value_batch b) = version_byte version ∷ spell_batch version b
 
 -- what is hashed as a value's digest
 abbrev pub value_string : ℕ → Value → List ℕ
@@ -93,7 +93,7 @@ value_bytes version b = version_byte version ∷ spell_count version (length b) 
 
 abbrev pub IsSpelledValue : ℕ → Value → List ℕ → Type 0
 IsSpelledValue version Nil bytes = bytes ≡ 0 ∷ []
-IsSpelledValue version (Holds b) bytes = (length b ≤ requests_most version) × AllByRecursion HasSpelling b × (bytes ≡ value_bytes version b)
+IsSpelledValue version (Value_batch b) bytes = (length b ≤ requests_most version) × AllByRecursion HasSpelling b × (bytes ≡ value_bytes version b)
 
 -- ---- reading
 
@@ -136,7 +136,7 @@ unfoldable pub parse_rest : ℕ → ℕ → Parser Value
 parse_rest version zero = done Nil
 parse_rest version (suc b) = do
   batch ← parse_batch version
-  done (Holds batch)
+  done (Value_batch batch)
 
 unfoldable pub parse_value : ℕ → Parser Value
 parse_value version = do

@@ -4,7 +4,7 @@ use Rattle.iss_base.specs.Lists.{Different}
 use Rattle.iss_request.specs.declared.ids.ReqId.{ReqId}
 use Rattle.iss_request.specs.declared.requests.Request.{Request}
 use Rattle.iss_request.specs.declared.requests.Value.{Value}
-use Rattle.iss_request.specs.declared.requests.Value.TheVariants.{Nil, Batch as Holds}
+use Rattle.iss_request.specs.declared.requests.Value.TheVariants.{Nil, Batch as Value_batch}
 
 -- whether two identities are the same
 abbrev pub same_id : ReqId → ReqId → Bool
@@ -21,7 +21,7 @@ ids (q ∷ qs) = q.id ∷ ids qs
 
 abbrev pub value_ids : Value → List ReqId
 value_ids Nil = []
-value_ids (Holds b) = ids b
+value_ids (Value_batch b) = ids b
 
 abbrev pub log_ids : List Value → List ReqId
 log_ids [] = []
@@ -34,7 +34,7 @@ Once log = Different (log_ids log)
 -- how many requests a value holds: nil none
 abbrev pub size_of : Value → ℕ
 size_of Nil = 0
-size_of (Holds b) = length b
+size_of (Value_batch b) = length b
 
 -- how many requests a log holds: the number of the first request of the value that comes next
 abbrev pub requests : List Value → ℕ

@@ -7,11 +7,11 @@ use std::marker::Model;
 
 /// Things in order, which contracts see as a list.
 #[derive(Drop, Debug)]
-pub struct Row<T> {
+pub struct Seq<T> {
     all: Vec<T>,
 }
 
-impl<T> Model for Row<T> {
+impl<T> Model for Seq<T> {
     ghost use Rattle.std.specs.Prelude.{List};
 
     ghost Value = { List T };
@@ -19,21 +19,21 @@ impl<T> Model for Row<T> {
     ghost view = { λ r. r.all.items };
 }
 
-impl<T: Drop> Row<T> {
+impl<T: Drop> Seq<T> {
     /// Nothing yet.
-    pub fn new(alloc: Global) -> Row<T>
+    pub fn new(alloc: Global) -> Seq<T>
         ensures { result ≡ [] }
     {
-        Row {
+        Seq {
             all: Vec::new(alloc),
         }
     }
 
     /// These things.
-    pub fn of(all: Vec<T>) -> Row<T>
+    pub fn of(all: Vec<T>) -> Seq<T>
         ensures { result ≡ all.items }
     {
-        Row { all }
+        Seq { all }
     }
 
     /// How many there are.

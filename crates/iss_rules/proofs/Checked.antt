@@ -4,7 +4,7 @@ use Rattle.std.specs.Prelude.{nat_lt}
 use Rattle.std.proofs.lemmas.Bool.{le-leb}
 use Rattle.std.proofs.Math.Seq.{take-append_seam}
 use Rattle.std.proofs.lemmas.List.{length-reverse, reverse-append, reverse-reverse}
-use Rattle.iss_base.specs.Lists.{oldest, over}
+use Rattle.iss_base.specs.Lists.{oldest, push_all}
 use Rattle.iss_base.proofs.Lists.{both, length-oldest, oldest-part}
 use Rattle.iss_checkpoint.specs.Votes.{are_signed, is_cert, is_signed, statement_of, voters_of}
 use Rattle.iss_checkpoint.specs.declared.votes.Cert.{Cert}
@@ -68,7 +68,7 @@ module _ (s : Setup) where
 
   -- and with the values of a piece behind it
   pub adopted-same : (log : List Value) (e : ℕ) (p : Piece) → start_of (rules_of s) log e ≤ length log →
-      adopted_log s (reverse log) e p ≡ reverse (over p.values (cut_at (rules_of s) log e))
+      adopted_log s (reverse log) e p ≡ reverse (push_all p.values (cut_at (rules_of s) log e))
   adopted-same log e p far =
       let bf = cut_at (rules_of s) log e in
       ap (λ (t : List Value). t ++ p.values) (before-same log e far) ∙
@@ -77,7 +77,7 @@ module _ (s : Setup) where
 
   -- so a piece leads to the same end, and is hashed alike
   pub end-same : (log : List Value) (e : ℕ) (p : Piece) → start_of (rules_of s) log e ≤ length log →
-      end_of s.version (adopted_log s (reverse log) e p) ≡ (rules_of s).end (over p.values (cut_at (rules_of s) log e))
+      end_of s.version (adopted_log s (reverse log) e p) ≡ (rules_of s).end (push_all p.values (cut_at (rules_of s) log e))
   end-same log e p far = ap (λ (t : List Value). end_of s.version t) (adopted-same log e p far)
 
   pub strings-same : (log : List Value) (e : ℕ) (p : Piece) → start_of (rules_of s) log e ≤ length log →

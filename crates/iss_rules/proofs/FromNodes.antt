@@ -10,7 +10,7 @@ use Rattle.iss_checkpoint.specs.declared.votes.Vote.{Vote as Voted}
 use Rattle.iss_packet.specs.Packets.{is_routed, is_routed_as, parse_packet, parse_parts}
 use Rattle.iss_packet.specs.declared.packets.Packet.{Packet}
 use Rattle.iss_packet.specs.declared.packets.PacketKind.{PacketKind}
-use Rattle.iss_packet.specs.declared.packets.PacketKind.TheVariants.{Message, Vote, Ask, Piece, Request as Asked}
+use Rattle.iss_packet.specs.declared.packets.PacketKind.TheVariants.{Message, Vote, Ask, Piece, Request as Kind_request}
 use Rattle.iss_request.specs.Fields.{Bad, Good, IsGrammar, IsReadAgain, Parsed}
 use Rattle.iss_request.specs.Formats.{HasSpelling, parse_request, parse_value, spell_value}
 use Rattle.iss_request.specs.declared.requests.Request.{Request}
@@ -22,7 +22,7 @@ use Rattle.iss_sb.specs.Evidence.{Module}
 use Rattle.iss_sb.proofs.Read.{read-again}
 use Rattle.iss_transfer.specs.Bodies.{AreSpelledValues, parse_ask, parse_piece}
 use Rattle.iss_transfer.specs.declared.pieces.Ask.{Ask as Asked_for}
-use Rattle.iss_transfer.specs.declared.pieces.Piece.{Piece as Pieced}
+use Rattle.iss_transfer.specs.declared.pieces.Piece.{Piece as Sent_piece}
 use Rattle.iss_transfer.proofs.PieceGrammar.{piece-table}
 use Rattle.iss_rules.specs.Formats.{ask_in, formats_of, message_in, parcel_in, parcel_of_kind, piece_in, request_in, vote_in, whole}
 use Rattle.iss_rules.specs.Parcels.{Body, OfAsk, OfModule, OfPiece, OfRequest, OfVote, Parcel}
@@ -85,7 +85,7 @@ module _ {Msg : Type 0} (k : Parcel Msg) where
   ask-sort p None h = absurd (none-some k h)
   ask-sort p (Some a) h = sorted _ 2 h refl
 
-  pub piece-sort : (p : Packet) (o : Option Pieced) → piece_in p o ≡ Some k → sort_of k.body ≡ 3
+  pub piece-sort : (p : Packet) (o : Option Sent_piece) → piece_in p o ≡ Some k → sort_of k.body ≡ 3
   piece-sort p None h = absurd (none-some k h)
   piece-sort p (Some x) h = sorted _ 3 h refl
 
@@ -105,32 +105,32 @@ values-read version (u ∷ vs) bytes h v (inl q) = subst (λ (z : Value). IsRead
 values-read version (u ∷ vs) bytes h v (inr i) = values-read version vs h.1 h.3 v i
 
 -- so are those of a piece
-pub pieces-read : {Msg : Type 0} (s : Setup) (M : Module Msg) (bytes : List ℕ) (k : Parcel Msg) (x : Pieced) → (formats_of s M).unwrap bytes ≡ Some k →
+pub pieces-read : {Msg : Type 0} (s : Setup) (M : Module Msg) (bytes : List ℕ) (k : Parcel Msg) (x : Sent_piece) → (formats_of s M).unwrap bytes ≡ Some k →
     k.body ≡ OfPiece x → (v : Value) → In v x.values → IsReadValue s v
 pieces-read {Msg} s M bytes k x u b v i = packet (whole (parse_packet s.version s.n bytes)) u
   where
-    same-piece : (y : Pieced) → ◌≡◌ {A = Body Msg} (OfPiece y) (OfPiece x) → y ≡ x
+    same-piece : (y : Sent_piece) → ◌≡◌ {A = Body Msg} (OfPiece y) (OfPiece x) → y ≡ x
     same-piece y e = cc
 
-    read : (e : ℕ) (body : List ℕ) (y : Pieced) (o : Parsed Pieced) → parse_piece s.version e body ≡ o → whole o ≡ Some y → In v y.values → IsReadValue s v
+    read : (e : ℕ) (body : List ℕ) (y : Sent_piece) (o : Parsed Sent_piece) → parse_piece s.version e body ≡ o → whole o ≡ Some y → In v y.values → IsReadValue s v
     read e body y (Good z []) q h m =
-        let r = (piece-table s.version e y body).0 (subst (λ (w : Pieced). parse_piece s.version e body ≡ Good w []) (some-injective z y h) q) in
+        let r = (piece-table s.version e y body).0 (subst (λ (w : Sent_piece). parse_piece s.version e body ≡ Good w []) (some-injective z y h) q) in
         values-read s.version y.values r.front r.values_spelled v m
     read e body y (Good z (a ∷ more)) q h m = absurd (none-some y h)
     read e body y (Bad at) q h m = absurd (none-some y h)
 
-    piece : (p : Packet) (o : Option Pieced) → whole (parse_piece s.version p.epoch.0 p.body) ≡ o → piece_in {Msg = Msg} p o ≡ Some k → IsReadValue s v
+    piece : (p : Packet) (o : Option Sent_piece) → whole (parse_piece s.version p.epoch.0 p.body) ≡ o → piece_in {Msg = Msg} p o ≡ Some k → IsReadValue s v
     piece p None e h = absurd (none-some k h)
     piece p (Some y) e h =
         let same : y ≡ x = same-piece y (ap (λ (z : Parcel Msg). z.body) (some-injective _ k h) ∙ b) in
-        read p.epoch.0 p.body y (parse_piece s.version p.epoch.0 p.body) refl e (subst (λ (z : Pieced). In v z.values) (sym same) i)
+        read p.epoch.0 p.body y (parse_piece s.version p.epoch.0 p.body) refl e (subst (λ (z : Sent_piece). In v z.values) (sym same) i)
 
     kind : (p : Packet) (kd : PacketKind) → parcel_of_kind M s.version p kd ≡ Some k → IsReadValue s v
     kind p Message h = absurd (other-sort k (OfPiece x) 0 3 b refl (message-sort k p (whole (M.parse s.version p.body)) h) (λ q. omega (arith, q)))
     kind p Vote h = absurd (other-sort k (OfPiece x) 1 3 b refl (vote-sort k p (whole (parse_vote p.from p.epoch.0 p.body)) h) (λ q. omega (arith, q)))
     kind p Ask h = absurd (other-sort k (OfPiece x) 2 3 b refl (ask-sort k p (whole (parse_ask p.epoch.0 p.body)) h) (λ q. omega (arith, q)))
     kind p Piece h = piece p (whole (parse_piece s.version p.epoch.0 p.body)) refl h
-    kind p Asked h = absurd (other-sort k (OfPiece x) 4 3 b refl (request-sort k p (whole (parse_request p.body)) h) (λ q. omega (arith, q)))
+    kind p Kind_request h = absurd (other-sort k (OfPiece x) 4 3 b refl (request-sort k p (whole (parse_request p.body)) h) (λ q. omega (arith, q)))
 
     packet : (o : Option Packet) → parcel_in M s.version o ≡ Some k → IsReadValue s v
     packet None h = absurd (none-some k h)
@@ -168,7 +168,7 @@ requests-spelled {Msg} s M bytes k q u b = packet (whole (parse_packet s.version
     kind p Ask h = absurd (other-sort k (OfRequest q) 2 4 b refl (ask-sort k p (whole (parse_ask p.epoch.0 p.body)) h) (λ e. omega (arith, e)))
     kind p Piece h =
         absurd (other-sort k (OfRequest q) 3 4 b refl (piece-sort k p (whole (parse_piece s.version p.epoch.0 p.body)) h) (λ e. omega (arith, e)))
-    kind p Asked h = request p (whole (parse_request p.body)) refl h
+    kind p Kind_request h = request p (whole (parse_request p.body)) refl h
 
     packet : (o : Option Packet) → parcel_in M s.version o ≡ Some k → HasSpelling q
     packet None h = absurd (none-some k h)
@@ -207,7 +207,7 @@ module _ {Msg : Type 0} (s : Setup) (M : Module Msg) (grammar : (version : ℕ) 
       kind p Ask r q h = absurd (other-sort k (OfModule l msg) 2 0 b refl (ask-sort k p (whole (parse_ask p.epoch.0 p.body)) h) (λ e. omega (arith, e)))
       kind p Piece r q h =
           absurd (other-sort k (OfModule l msg) 3 0 b refl (piece-sort k p (whole (parse_piece s.version p.epoch.0 p.body)) h) (λ e. omega (arith, e)))
-      kind p Asked r q h = request p (whole (parse_request p.body)) h
+      kind p Kind_request r q h = request p (whole (parse_request p.body)) h
 
       packet : (o : Option Packet) → whole (parse_packet s.version s.n bytes) ≡ o → parcel_in M s.version o ≡ Some k → Told k msg
       packet None e h = absurd (none-some k h)

@@ -7,7 +7,7 @@ use Rattle.iss_request.specs.declared.requests.Value.{Value}
 use Rattle.iss_sb.specs.declared.effects.Input.{Input}
 use Rattle.iss_sb.specs.declared.effects.Params.{Params}
 use Rattle.iss_sb.specs.Evidence.{Item, Module, delivered}
-use Rattle.iss_rules.specs.Past.{Past, Piece, adopted_at, before, before_at, cell, epoch_at, grow, grown, leader_at, log_of, made_in, params_at, start_of, takes, newborn}
+use Rattle.iss_rules.specs.Past.{Past, Piece, adopted_at, before, before_at, cell, epoch_at, grow, grown, leader_at, log_of, made_in, params_at, start_of, takes, initial_history}
 use Rattle.iss_rules.specs.Rules.{Rules}
 use Rattle.iss_rules.proofs.Epochs.{cut-extends}
 
@@ -136,9 +136,9 @@ grow-far R M me d n full (suc k) log h le = go (grow-far R M me d n full k) (cel
     go ih None e = elim (leb_tells n (length log)) [ inl t ↦ t.1 | inr t ↦ absurd (full log h t.1 e) ]
     go ih (Some v) e = ih (v ∷ log) (h, e) (omega (arith, le))
 
-newborn-empty : (R : Rules) {Msg : Type 0} (M : Module Msg) (me n : ℕ) → grow R M me newborn n [] ≡ []
+newborn-empty : (R : Rules) {Msg : Type 0} (M : Module Msg) (me n : ℕ) → grow R M me initial_history n [] ≡ []
 newborn-empty R M me zero = refl
 newborn-empty R M me (suc n) = refl
 
-pub newborn-log : (R : Rules) {Msg : Type 0} (M : Module Msg) (me : ℕ) → log_of R M me newborn ≡ []
+pub newborn-log : (R : Rules) {Msg : Type 0} (M : Module Msg) (me : ℕ) → log_of R M me initial_history ≡ []
 newborn-log R M me = newborn-empty R M me _

@@ -5,7 +5,7 @@ use Rattle.iss_checkpoint.specs.declared.votes.Vote.{Vote as Voted}
 use Rattle.iss_packet.specs.Packets.{parse_packet, spell_packet}
 use Rattle.iss_packet.specs.declared.packets.Packet.{Packet}
 use Rattle.iss_packet.specs.declared.packets.PacketKind.{PacketKind}
-use Rattle.iss_packet.specs.declared.packets.PacketKind.TheVariants.{Message, Vote, Ask, Piece, Request as Asked}
+use Rattle.iss_packet.specs.declared.packets.PacketKind.TheVariants.{Message, Vote, Ask, Piece, Request as Kind_request}
 use Rattle.iss_request.specs.Fields.{Bad, Good, Parsed}
 use Rattle.iss_request.specs.Formats.{parse_request, spell_request}
 use Rattle.iss_request.specs.declared.requests.Request.{Request}
@@ -13,7 +13,7 @@ use Rattle.iss_request.specs.declared.setups.Setup.{Setup}
 use Rattle.iss_sb.specs.Evidence.{Module}
 use Rattle.iss_transfer.specs.Bodies.{parse_ask, parse_piece, spell_ask, spell_piece}
 use Rattle.iss_transfer.specs.declared.pieces.Ask.{Ask as Asked_for}
-use Rattle.iss_transfer.specs.declared.pieces.Piece.{Piece as Pieced}
+use Rattle.iss_transfer.specs.declared.pieces.Piece.{Piece as Sent_piece}
 use Rattle.iss_rules.specs.Parcels.{Body, Formats, OfAsk, OfModule, OfPiece, OfRequest, OfVote, Parcel}
 
 -- the thing that takes up all of the bytes
@@ -30,7 +30,7 @@ packet_as M version from e (OfVote v) = record { kind = Vote; from = from; epoch
 packet_as M version from e OfAsk =
     record { kind = Ask; from = from; epoch = record { 0 = e }; leader = 0; body = spell_ask (record { epoch = record { 0 = e } }) }
 packet_as M version from e (OfPiece p) = record { kind = Piece; from = from; epoch = record { 0 = e }; leader = 0; body = spell_piece version p }
-packet_as M version from e (OfRequest q) = record { kind = Asked; from = from; epoch = record { 0 = e }; leader = 0; body = spell_request q }
+packet_as M version from e (OfRequest q) = record { kind = Kind_request; from = from; epoch = record { 0 = e }; leader = 0; body = spell_request q }
 
 -- what a body of each kind holds; votes, asks and pieces are of the packet's epoch, and a vote of its sender
 abbrev pub message_in : {Msg : Type 0} → Packet → Option Msg → Option (Parcel Msg)
@@ -49,7 +49,7 @@ abbrev pub ask_in : {Msg : Type 0} → Packet → Option Asked_for → Option (P
 ask_in p None = None
 ask_in p (Some a) = Some (record { from = p.from; epoch = p.epoch.0; body = OfAsk })
 
-abbrev pub piece_in : {Msg : Type 0} → Packet → Option Pieced → Option (Parcel Msg)
+abbrev pub piece_in : {Msg : Type 0} → Packet → Option Sent_piece → Option (Parcel Msg)
 piece_in p None = None
 piece_in p (Some x) = Some (record { from = p.from; epoch = p.epoch.0; body = OfPiece x })
 
@@ -58,7 +58,7 @@ parcel_of_kind M version p Message = message_in p (whole (M.parse version p.body
 parcel_of_kind M version p Vote = vote_in p (whole (parse_vote p.from p.epoch.0 p.body))
 parcel_of_kind M version p Ask = ask_in p (whole (parse_ask p.epoch.0 p.body))
 parcel_of_kind M version p Piece = piece_in p (whole (parse_piece version p.epoch.0 p.body))
-parcel_of_kind M version p Asked = request_in p (whole (parse_request p.body))
+parcel_of_kind M version p Kind_request = request_in p (whole (parse_request p.body))
 
 abbrev pub parcel_in : {Msg : Type 0} → Module Msg → ℕ → Option Packet → Option (Parcel Msg)
 parcel_in M version None = None

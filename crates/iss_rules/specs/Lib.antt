@@ -9,3 +9,4 @@ pub mod Past
 pub mod Rules
 pub mod Concrete
 pub mod Formats
+pub mod Ends

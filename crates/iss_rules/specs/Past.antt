@@ -1,7 +1,7 @@
 -- What a node's log rests on: what it took in each instance, and the log that follows.
 use Rattle.std.specs.Prelude.{ℕ, zero, suc, ◌+◌, ◌-◌, ◌*◌, ◌==◌, nat_le, Bool, cond}
 use Rattle.std.specs.Prelude.{List, [], ◌∷◌, Option, Some, None, length}
-use Rattle.iss_base.specs.Lists.{first_of, nth, oldest, over, set_at2}
+use Rattle.iss_base.specs.Lists.{first_of, nth, oldest, push_all, set_at2}
 use Rattle.iss_request.specs.declared.ids.Slot.{Slot}
 use Rattle.iss_request.specs.declared.requests.Batch.{Batch}
 use Rattle.iss_request.specs.declared.requests.Value.{Value}
@@ -111,8 +111,8 @@ takes R M me c l input leaf =
     }
 
 -- nothing has been taken
-abbrev pub newborn : {Msg : Type 0} → Past Msg
-newborn = record { epoch = 0; evidence = λ e l. []; adopted = [] }
+abbrev pub initial_history : {Msg : Type 0} → Past Msg
+initial_history = record { epoch = 0; evidence = λ e l. []; adopted = [] }
 
 -- whether the log holds the node's whole epoch, the past in the next epoch, and the log at the end of the epoch
 abbrev pub is_complete : {Msg : Type 0} → Rules → Module Msg → ℕ → Past Msg → Bool
@@ -130,4 +130,4 @@ adopts c p = record { epoch = suc c.epoch; evidence = c.evidence; adopted = p �
 
 -- the log that a piece leads to
 abbrev pub adopted_log : {Msg : Type 0} → Rules → Module Msg → ℕ → Past Msg → Piece → List Value
-adopted_log R M i c piece = over piece.values (before R M i c piece.epoch)
+adopted_log R M i c piece = push_all piece.values (before R M i c piece.epoch)

@@ -5,7 +5,7 @@ use Rattle.iss_request.specs.declared.requests.Batch.{Batch}
 use Rattle.iss_request.specs.declared.requests.Value.{Value}
 use Rattle.iss_sb.specs.declared.effects.Input.{Input}
 use Rattle.iss_sb.specs.Evidence.{Module, accepts}
-use Rattle.iss_causes.specs.declared.causes.Refusal.{Refusal}
+use Rattle.iss_rules.specs.declared.events.Refusal.{Refusal}
 use Rattle.iss_rules.specs.Judge.{judge, marks}
 use Rattle.iss_rules.specs.Past.{Past, asked_in, before_own, taken_in}
 use Rattle.iss_rules.specs.Rules.{Rules}

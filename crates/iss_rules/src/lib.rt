@@ -1,7 +1,9 @@
-//! The rules of a cluster under its set-up, the log that follows of what a node took, the judge, and packets in bytes,
-//! as definitions over lists (ISS, whole protocol). No code runs here.
+//! The rules of a cluster as definitions over lists: the log that follows from what a node took, the judge, and packets in
+//! bytes (ISS, whole protocol). Beside them the events of a node, the reasons of drops and refusals, and evidence.
 #![tactic(auto)]
 
+pub mod events;
 pub mod theorems;
 
+pub use events::{NodeEvent, Refusal, Why};
 pub use theorems::requests_are_signed;

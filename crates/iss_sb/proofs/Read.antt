@@ -7,7 +7,7 @@ use Rattle.iss_request.specs.Parsing.{Parser}
 use Rattle.iss_request.specs.Formats.{HasSpelling, parse_value, request_bytes, requests_most, spell_count, spell_value, version_byte}
 use Rattle.iss_request.specs.declared.requests.Batch.{Batch}
 use Rattle.iss_request.specs.declared.requests.Request.{Request}
-use Rattle.iss_request.specs.declared.requests.Value.TheVariants.{Batch as Holds}
+use Rattle.iss_request.specs.declared.requests.Value.TheVariants.{Batch as Value_batch}
 use Rattle.iss_request.proofs.OneSpelling.{value_grammar, value_related}
 
 bad-good : {A : Type 0} (x : A) (rest : List ℕ) (at : ℕ) → Bad at ≡ Good x rest → ⊥
@@ -23,10 +23,10 @@ each-spelled : (b : List Request) → ((q : Request) → In q b → HasSpelling 
 each-spelled [] h = tt
 each-spelled (q ∷ qs) h = (h q (inl refl), each-spelled qs (λ r i. h r (inr i)))
 
-pub batch-read : (version : ℕ) (b : Batch) → length b ≤ requests_most version → ((q : Request) → In q b → HasSpelling q) → IsReadAgain (spell_value version) (parse_value version) (Holds b)
+pub batch-read : (version : ℕ) (b : Batch) → length b ≤ requests_most version → ((q : Request) → In q b → HasSpelling q) → IsReadAgain (spell_value version) (parse_value version) (Value_batch b)
 batch-read version b few h =
     let bytes = version_byte version ∷ spell_count version (length b) ++ flat_map request_bytes b in
-    read-again (spell_value version) (parse_value version) (value_grammar version) bytes [] (Holds b) ((value_related version (Holds b) bytes).1 (few, each-spelled b h, refl))
+    read-again (spell_value version) (parse_value version) (value_grammar version) bytes [] (Value_batch b) ((value_related version (Value_batch b) bytes).1 (few, each-spelled b h, refl))
 
 -- what a reader reads by its version, a reader before it in the row reads by its own, which is the same
 pub read-by : {A : Type 0} (p : ℕ → Parser A) {v w : ℕ} {a b : Reading} {x : A} → v ≡ w → IsRead (p v) a b x → IsRead (p w) a b x

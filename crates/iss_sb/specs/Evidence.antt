@@ -9,7 +9,7 @@ use Rattle.iss_request.specs.declared.ids.NodeId.{NodeId}
 use Rattle.iss_request.specs.declared.ids.Slot.{Slot}
 use Rattle.iss_request.specs.declared.requests.Batch.{Batch}
 use Rattle.iss_request.specs.declared.requests.Value.{Value}
-use Rattle.iss_request.specs.declared.requests.Value.TheVariants.{Batch as Holds}
+use Rattle.iss_request.specs.declared.requests.Value.TheVariants.{Batch as Value_batch}
 use Rattle.iss_request.specs.declared.setups.Setup.{Setup}
 use Rattle.iss_sb.specs.declared.effects.Claim.{Claim}
 use Rattle.iss_sb.specs.declared.effects.Input.{Input}
@@ -126,7 +126,7 @@ Verifies p c = VerifiesBy p.directory.nodes c.by.0 c.statement c.sig
 
 -- a batch, and a message of the module, that are read again from their spelling: what came as bytes is
 abbrev pub IsReadBatch : Params → Batch → Type 0
-IsReadBatch p batch = IsReadAgain (spell_value p.setup.version) (parse_value p.setup.version) (Holds batch)
+IsReadBatch p batch = IsReadAgain (spell_value p.setup.version) (parse_value p.setup.version) (Value_batch batch)
 
 abbrev pub IsReadMessage : {M : Type 0} → Module M → Params → M → Type 0
 IsReadMessage m p msg = IsReadAgain (m.spell p.setup.version) (m.parse p.setup.version) msg

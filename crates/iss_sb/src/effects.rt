@@ -1,6 +1,6 @@
 //! What goes into a module and what comes out of it.
 use iss_keys::SharedDirectory;
-use iss_request::{Batch, Bytes, Epoch, NoMemory, NodeId, Row, Setup, Slot, Value};
+use iss_request::{Batch, Bytes, Epoch, NoMemory, NodeId, Seq, Setup, Slot, Value};
 use std::alloc::Global;
 
 /// What a module takes: a batch to broadcast at a slot, a message, or that time has run out.
@@ -33,7 +33,7 @@ pub struct Params {
     pub setup: Setup,
     pub epoch: Epoch,
     pub leader: NodeId,
-    pub slots: Row<Slot>,
+    pub slots: Seq<Slot>,
     pub directory: SharedDirectory,
 }
 
@@ -59,10 +59,10 @@ impl From<NoMemory> for StepError {
 /// it hashed.
 #[derive(Drop)]
 pub struct Effects<M> {
-    pub sends: Row<(To, M)>,
+    pub sends: Seq<(To, M)>,
     pub accepted: Option<(Slot, Batch)>,
-    pub delivers: Row<(Slot, Value)>,
-    pub hashed: Row<Bytes>,
+    pub delivers: Seq<(Slot, Value)>,
+    pub hashed: Seq<Bytes>,
 }
 
 impl<M: Drop> Effects<M> {
@@ -73,10 +73,10 @@ impl<M: Drop> Effects<M> {
         ensures { IsNothing result }
     {
         Effects {
-            sends: Row::new(alloc),
+            sends: Seq::new(alloc),
             accepted: None,
-            delivers: Row::new(alloc),
-            hashed: Row::new(alloc),
+            delivers: Seq::new(alloc),
+            hashed: Seq::new(alloc),
         }
     }
 }

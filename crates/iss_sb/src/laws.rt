@@ -6,7 +6,7 @@ use crate::sequenced::Sequenced;
 /// Every world that the moves of an instance lead to is a broadcast, as long as different strings of it have
 /// different digests (ISS, "Sequenced Broadcast"). It computes nothing: its contract is the theorem.
 pub fn broadcast<M: Sequenced>()
-    ensures { IsSafe M.meaning }
+    ensures { IsSafe M.spec }
 {
     M::laws()
 }

@@ -9,7 +9,7 @@ ghost use Rattle.iss_sb.specs.Laws.{IsLawful, IsSafe, SignsOnce};
 
 use crate::effects::{Claim, Effects, Input, Params, StepError};
 use iss_keys::Keys;
-use iss_request::{Batch, DecodeError, Fields, NoMemory, NodeId, Row, Slot, Writer};
+use iss_request::{Batch, DecodeError, Fields, NoMemory, NodeId, Seq, Slot, Writer};
 use std::alloc::Global;
 
 /// An implementation of Sequenced Broadcast. It knows of one epoch and of one leader's segment.
@@ -35,36 +35,36 @@ pub trait Sequenced: Drop + Sized {
     /// How many nodes withstand `f` faults.
     fn nodes_of(f: u32) -> u32
         requires { f ≤ 3 }
-        ensures { result ≡ meaning.nodes f };
+        ensures { result ≡ spec.nodes f };
 
     /// How many nodes decide where `f` may fail.
     fn quorum_of(f: u32) -> u32
         requires { f ≤ 3 }
-        ensures { result ≡ meaning.quorum f };
+        ensures { result ≡ spec.quorum f };
 
     /// The most signatures that one step makes.
     fn signs(p: &Params) -> u32
-        requires { IsGoodParams meaning p.now }
-        ensures { result ≡ meaning.signs p.now };
+        requires { IsGoodParams spec p.now }
+        ensures { result ≡ spec.signs p.now };
 
     /// An instance that has taken nothing.
     fn start(alloc: Global, p: &Params, me: NodeId) -> Result<Self, NoMemory>
-        requires good { IsGoodParams meaning p.now }
+        requires good { IsGoodParams spec p.now }
         requires me { me.0 < p.now.setup.n }
-        ensures { IfOk result (λ m. stands m p.now me.0 []) };
+        ensures { IfOk result (λ m. refines m p.now me.0 []) };
 
     /// Whether a batch cast at this slot would be taken.
     fn casts(&self, p: &Params, slot: Slot) -> bool
-        requires good { IsGoodParams meaning p.now }
-        ensures { (me : ℕ) (xs : List (Item Self.Msg)) (batch : Batch) → stands self.now p.now me xs →
-            (IsTrue result ↔ (meaning.asks p.now me xs (Input.Cast slot batch) ≡ Some (slot, batch))) };
+        requires good { IsGoodParams spec p.now }
+        ensures { (me : ℕ) (xs : List (Item Self.Msg)) (batch : Batch) → refines self.now p.now me xs →
+            (IsTrue result ↔ (spec.asks p.now me xs (Input.Cast slot batch) ≡ Some (slot, batch))) };
 
     /// The batch that a step with this input would accept. The host judges it first.
     fn asks<'a>(&'a self, p: &Params, i: &'a Input<Self::Msg>) -> Option<(Slot, &'a Batch)>
-        requires good { IsGoodParams meaning p.now }
+        requires good { IsGoodParams spec p.now }
         requires input { IsGoodInput p.now i.now }
-        ensures { (me : ℕ) (xs : List (Item Self.Msg)) → stands self.now p.now me xs →
-            named result ≡ meaning.asks p.now me xs i.now };
+        ensures { (me : ℕ) (xs : List (Item Self.Msg)) → refines self.now p.now me xs →
+            named result ≡ spec.asks p.now me xs i.now };
 
     /// Takes an input. With a verdict that is false nothing changes. `Spent` comes exactly where fewer leaves are left
     /// than `signs`, with nothing changed; after want of memory nothing is promised.
@@ -76,18 +76,18 @@ pub trait Sequenced: Drop + Sized {
         verdict: bool,
         keys: &mut Keys,
     ) -> Result<Effects<Self::Msg>, StepError>
-        requires good { IsGoodParams meaning p.now }
+        requires good { IsGoodParams spec p.now }
         requires input { IsGoodInput p.now i }
-        ensures { IsStep meaning stands p.now self.old self.new i verdict keys.old keys.new result };
+        ensures { IsStep spec refines p.now self.old self.new i verdict keys.old keys.new result };
 
     /// Writes a message by the writer's version: its number, its fields, its signature.
     fn encode(m: &Self::Msg, out: &mut Writer) -> Result<(), NoMemory>
-        ensures { OnOk result (out.new ≡ and_bytes out.old (meaning.spell out.old.version m.now)) };
+        ensures { OnOk result (out.new ≡ and_bytes out.old (spec.spell out.old.version m.now)) };
 
     /// Reads the message at the front, by the reader's version.
     fn decode(alloc: Global, f: &mut Fields) -> Result<Self::Msg, DecodeError>
-        ensures ok { IfOk result (λ m. IsRead (meaning.parse f.old.version) f.old f.new m) }
-        ensures bad { (at : ℕ) → result ≡ Err (DecodeError.BadField at) → IsUnreadable (meaning.parse f.old.version) f.old at };
+        ensures ok { IfOk result (λ m. IsRead (spec.parse f.old.version) f.old f.new m) }
+        ensures bad { (at : ℕ) → result ≡ Err (DecodeError.BadField at) → IsUnreadable (spec.parse f.old.version) f.old at };
 
     /// What a message says that nodes have signed, in the order of its bytes.
     fn claims(
@@ -95,17 +95,17 @@ pub trait Sequenced: Drop + Sized {
         p: &Params,
         from: NodeId,
         m: &Self::Msg,
-    ) -> Result<Row<Claim>, NoMemory>
-        requires good { IsGoodParams meaning p.now }
+    ) -> Result<Seq<Claim>, NoMemory>
+        requires good { IsGoodParams spec p.now }
         requires from { from.0 < p.now.setup.n }
-        ensures { IfOk result (λ claims. claims ≡ meaning.claims p.now from.0 m.now) };
+        ensures { IfOk result (λ claims. claims ≡ spec.claims p.now from.0 m.now) };
 
     /// The laws, each proved by the module. The body is empty.
     fn laws()
-        ensures tagged { meaning.tag ≡ TAG }
-        ensures stopping { meaning.stopping ≡ STOPPING }
-        ensures grammar { (version : ℕ) → IsGrammar (meaning.spell version) (meaning.parse version) }
-        ensures lawful { IsLawful meaning }
-        ensures safe { IsSafe meaning }
-        ensures signs_once { SignsOnce meaning };
+        ensures tagged { spec.tag ≡ TAG }
+        ensures stopping { spec.stopping ≡ STOPPING }
+        ensures grammar { (version : ℕ) → IsGrammar (spec.spell version) (spec.parse version) }
+        ensures lawful { IsLawful spec }
+        ensures safe { IsSafe spec }
+        ensures signs_once { SignsOnce spec };
 }

@@ -3,7 +3,7 @@ use Rattle.std.proofs.Common.{◌≡◌, ℕ, List, ◌∷◌, [], codes, refl, 
 use Rattle.std.specs.Fmt.{digits}
 use Rattle.hex.specs.Hex.{encode_with}
 use Rattle.iss_request.specs.declared.ids.NodeId.{NodeId}
-use Rattle.iss_schedule.specs.declared.errors.Why.TheVariants.{Cut}
+use Rattle.iss_schedule.specs.declared.errors.LineFault.TheVariants.{Cut}
 use Rattle.iss_schedule.specs.declared.schedules.Event.TheVariants.{Request, Propose, Timeout, Ask, Deliver, Lose, Pump, Calm, Hold, Free, Drop, Restart, Crash}
 use Rattle.iss_schedule.specs.declared.schedules.Schedule.{Schedule}
 use Rattle.iss_schedule.specs.BadLines.{IsFirstBad}

@@ -7,8 +7,8 @@ use Rattle.iss_base.specs.Lists.{nth}
 use Rattle.iss_base.proofs.Lists.{nth-below, some-injective}
 use Rattle.iss_request.specs.declared.ids.NodeId.{NodeId}
 use Rattle.iss_request.specs.declared.setups.Setup.{Setup}
-use Rattle.iss_schedule.specs.declared.errors.Why.{Why}
-use Rattle.iss_schedule.specs.declared.errors.Why.TheVariants.{Cut, Form, Faulty, Injected, Range, Size}
+use Rattle.iss_schedule.specs.declared.errors.LineFault.{LineFault}
+use Rattle.iss_schedule.specs.declared.errors.LineFault.TheVariants.{Cut, Form, Faulty, Injected, Range, Size}
 use Rattle.iss_schedule.specs.declared.errors.ReadError.{ReadError}
 use Rattle.iss_schedule.specs.declared.errors.ReadError.TheVariants.{BadLine, NoMemory}
 use Rattle.iss_schedule.specs.declared.schedules.Schedule.{Schedule}
@@ -69,7 +69,7 @@ form_at (g ∷ fs) zero f e = let same : Some g ≡ Some f = e in ap (λ (z : He
 form_at (g ∷ fs) (suc k) f e = form_at fs k f e
 
 -- what is wrong with the next line of a header
-line_bad : (front : List (List ℕ)) (rest : List ℕ) (f : HeaderField) (G : List ℕ → Type 0) → length front < 10 → nth header_fields (length front) ≡ Some f → ((line : List ℕ) → Begins (front ++ line ∷ []) → G line) → (why : Why) → IsLineFault (IsFieldFormed f) G rest why → IsBadRest front rest why
+line_bad : (front : List (List ℕ)) (rest : List ℕ) (f : HeaderField) (G : List ℕ → Type 0) → length front < 10 → nth header_fields (length front) ≡ Some f → ((line : List ℕ) → Begins (front ++ line ∷ []) → G line) → (why : LineFault) → IsLineFault (IsFieldFormed f) G rest why → IsBadRest front rest why
 line_bad front rest f G short place fits Cut x = (omega (arith, short), x, inl (omega (arith, short)))
 line_bad front rest f G short place fits Form x = (omega (arith, short), (x.0, (x.1.0, (λ has. x.1.1 (subst (λ (o : Option LineForm). IsFormed o x.0) (form_at header_fields (length front) f place) has)))))
 line_bad front rest f G short place fits Range x = (
@@ -92,7 +92,7 @@ line_bad front rest f G short place fits Injected x = absurd x
 line_bad front rest f G short place fits Size x = absurd x
 
 -- behind values in range a field was read amiss
-pub field_bad : (vs : List ℕ) (f : HeaderField) (more : List HeaderField) → AreSome header_fields [] vs (f ∷ more) → (text rest : List ℕ) → text ≡ ended (lines_of header_fields vs) ++ rest → (read : ℕ) → read ≡ suc (length vs) → (why : Why) → IsFieldFault f vs rest why → IsFirstBad text read why
+pub field_bad : (vs : List ℕ) (f : HeaderField) (more : List HeaderField) → AreSome header_fields [] vs (f ∷ more) → (text rest : List ℕ) → text ≡ ended (lines_of header_fields vs) ++ rest → (read : ℕ) → read ≡ suc (length vs) → (why : LineFault) → IsFieldFault f vs rest why → IsFirstBad text read why
 field_bad vs f more some text rest e read count why fault =
     let len = length_some header_fields [] vs (f ∷ more) some in
     let place : nth header_fields (length (lines_of header_fields vs)) ≡ Some f = subst (λ k. nth header_fields k ≡ Some f) (sym len) (field_behind header_fields [] vs f more some) in
@@ -116,7 +116,7 @@ next_is all place size lt =
     ∙ ap (λ k. get_or header_fields k (OneOf []) ∷ drop (suc place) header_fields) (sym (length-take-le place all (omega (arith, size, lt))))
 
 -- what was read as the field of this place was read as the next one
-pub read_at : (above : List ℕ) (old new : Place) (r : Result ℕ Why) (k : ℕ) (f : HeaderField) → length above ≡ k → f ≡ get_or header_fields k (OneOf []) → ReadsField f above old new r → ReadsField (next_field above) above old new r
+pub read_at : (above : List ℕ) (old new : Place) (r : Result ℕ LineFault) (k : ℕ) (f : HeaderField) → length above ≡ k → f ≡ get_or header_fields k (OneOf []) → ReadsField f above old new r → ReadsField (next_field above) above old new r
 read_at above old new r k f e is h = subst (λ (z : HeaderField). ReadsField z above old new r) (is ∙ ap (λ n. get_or header_fields n (OneOf [])) (sym e)) h
 
 -- one value more
@@ -135,7 +135,7 @@ one_more text all new place v rest left size lt some e cut ok is =
           (subst (λ (z : List ℕ). AreSome header_fields [] z more) grown (some_more header_fields [] vs v f more here ok)),
     )
 
-pub read_amiss : (text all : List ℕ) (place : ℕ) (rest : List ℕ) → length all ≡ 10 → place < 10 → AreSome header_fields [] (take place all) (drop place header_fields) → text ≡ ended (lines_of header_fields (take place all)) ++ rest → (read : ℕ) → read ≡ place + 1 → (why : Why) → IsFieldFault (next_field (take place all)) (take place all) rest why → IsFirstBad text read why
+pub read_amiss : (text all : List ℕ) (place : ℕ) (rest : List ℕ) → length all ≡ 10 → place < 10 → AreSome header_fields [] (take place all) (drop place header_fields) → text ≡ ended (lines_of header_fields (take place all)) ++ rest → (read : ℕ) → read ≡ place + 1 → (why : LineFault) → IsFieldFault (next_field (take place all)) (take place all) rest why → IsFirstBad text read why
 read_amiss text all place rest size lt some e read count why fault =
     let long = length-take-le place all (omega (arith, size, lt)) in
     field_bad (take place all) (next_field (take place all)) (drop (suc place) header_fields) (subst (AreSome header_fields [] (take place all)) (next_is all place size lt) some) text rest e read (omega (arith, count, long)) why fault
@@ -166,7 +166,7 @@ events_more s text es more e rest left pushed eq range ok cut =
 -- ---- the line of the faulty nodes
 
 -- behind ten lines of values in range that line was read amiss
-pub faulty_bad : (vs : List ℕ) (text rest : List ℕ) (read most n : ℕ) → AreValues header_fields [] vs → text ≡ ended (lines_of header_fields vs) ++ rest → read ≡ 11 → most ≡ most_faulty (row_at (value vs 1)).kind (value vs 2) → n ≡ (setup_with vs [] []).n → (why : Why) → IsFaultyLineFault most n rest why → IsFirstBad text read why
+pub faulty_bad : (vs : List ℕ) (text rest : List ℕ) (read most n : ℕ) → AreValues header_fields [] vs → text ≡ ended (lines_of header_fields vs) ++ rest → read ≡ 11 → most ≡ most_faulty (row_at (value vs 1)).kind (value vs 2) → n ≡ (setup_with vs [] []).n → (why : LineFault) → IsFaultyLineFault most n rest why → IsFirstBad text read why
 faulty_bad vs text rest read most n ok e count is nodes why fault =
     let len = length_lines header_fields [] vs ok in
     record {
@@ -198,7 +198,7 @@ faulty_bad vs text rest read most n ok e count is nodes why fault =
         let may : MayFail vs s.faulty = subst (λ (z : List ℕ). MayFail z s.faulty) (sym same.0) (known_faulty s known) in
         (s.faulty, (subst (λ k. AreFew k n s.faulty) (sym is) (subst (λ k. AreFew (most_faulty (row_at (value vs 1)).kind (value vs 2)) k s.faulty) (sym nodes) may), same.1))
 
-    bad : (why : Why) → IsFaultyLineFault most n rest why → IsBadRest (lines_of header_fields vs) rest why
+    bad : (why : LineFault) → IsFaultyLineFault most n rest why → IsBadRest (lines_of header_fields vs) rest why
     bad Cut x = (omega (arith, size), x, inl (omega (arith, size)))
     bad Form x = (omega (arith, size), (x.0, (x.1.0, (λ has. x.1.1 (unformed x.0 has)))))
     bad Faulty x = (omega (arith, size), (x.0, (x.1.0, (formed x.0 x.1.1, size, (λ b. let t = taken x.0 b in x.1.2 t.0 t.1.0 t.1.1)))))

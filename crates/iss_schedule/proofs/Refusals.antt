@@ -4,8 +4,8 @@ use Rattle.iss_base.specs.Lists.{nth}
 use Rattle.iss_base.proofs.Lists.{nth-beyond}
 use Rattle.iss_request.specs.declared.setups.Setup.{Setup}
 use Rattle.iss_request.specs.declared.setups.Kind.TheVariants.{Stopping}
-use Rattle.iss_schedule.specs.declared.errors.Why.{Why}
-use Rattle.iss_schedule.specs.declared.errors.Why.TheVariants.{Cut, Form, Faulty, Injected, Range, Size}
+use Rattle.iss_schedule.specs.declared.errors.LineFault.{LineFault}
+use Rattle.iss_schedule.specs.declared.errors.LineFault.TheVariants.{Cut, Form, Faulty, Injected, Range, Size}
 use Rattle.iss_schedule.specs.declared.errors.ReadError.{ReadError}
 use Rattle.iss_schedule.specs.declared.errors.ReadError.TheVariants.{BadLine, NoMemory}
 use Rattle.iss_schedule.specs.declared.schedules.Event.{Event}
@@ -67,7 +67,7 @@ stopping_front s lines known b =
     let t = b.begins.schedule in
     subst (λ (u : Setup). u.kind ≡ Stopping) (sym (same_header s t lines known b.begins.fine b.begins.front)) b.stops
 
-bad_event : (s : Setup) (lines : List (List ℕ)) (rest : List ℕ) (why : Why) → IsKnown s → (s.kind ≡ Stopping → BeginsStopping (header_lines s ++ lines)) → length lines < most_events → rest ≢ [] → IsEventBad s rest why → IsBadRest (header_lines s ++ lines) rest why
+bad_event : (s : Setup) (lines : List (List ℕ)) (rest : List ℕ) (why : LineFault) → IsKnown s → (s.kind ≡ Stopping → BeginsStopping (header_lines s ++ lines)) → length lines < most_events → rest ≢ [] → IsEventBad s rest why → IsBadRest (header_lines s ++ lines) rest why
 bad_event s lines rest Cut known stops few some bad = let n = length-append (header_lines s) lines in (omega arith, bad, inr some)
 bad_event s lines rest Form known stops few some bad =
     let n = length-append (header_lines s) lines in
@@ -104,7 +104,7 @@ begin_events s es known range few = record {
   front = take_all (header_lines s ++ map spell_event es);
 }
 
-bad_rest : (s : Setup) (text : List ℕ) (line : ℕ) (why : Why) → IsKnown s → (b : IsEventsBad s text line why) → IsBadRest (header_lines s ++ map spell_event b.events) b.rest why
+bad_rest : (s : Setup) (text : List ℕ) (line : ℕ) (why : LineFault) → IsKnown s → (b : IsEventsBad s text line why) → IsBadRest (header_lines s ++ map spell_event b.events) b.rest why
 unfolding begin_events
 bad_rest s text line why known b =
     let count = length_spelled b.events in
@@ -112,7 +112,7 @@ bad_rest s text line why known b =
     elim b.bad [
       | inl full ↦
           let at : length (header_lines s ++ map spell_event b.events) ≡ 11 + most_events = omega (arith, full.1) in
-          subst (λ (w : Why). IsBadRest (header_lines s ++ map spell_event b.events) b.rest w) (sym full.0) (at, b.some)
+          subst (λ (w : LineFault). IsBadRest (header_lines s ++ map spell_event b.events) b.rest w) (sym full.0) (at, b.some)
       | inr next ↦ bad_event s (map spell_event b.events) b.rest why known (λ stops. record { begins = begin_events s b.events known b.range b.few; stops = stops }) (omega (arith, next.0)) b.some next.1
     ]
 

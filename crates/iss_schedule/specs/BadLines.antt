@@ -1,8 +1,8 @@
 -- The first bad line of a text, and what is wrong with it.
 use Rattle.std.specs.Prelude.{◌≡◌, ◌≢◌, ◌⊎◌, ◌<◌, ◌≤◌, ◌+◌, ℕ, suc, List, [], ◌∷◌, ◌++◌, length, take}
 use Rattle.iss_request.specs.declared.setups.Kind.TheVariants.{Stopping}
-use Rattle.iss_schedule.specs.declared.errors.Why.{Why}
-use Rattle.iss_schedule.specs.declared.errors.Why.TheVariants.{Cut, Form, Faulty, Injected, Range, Size}
+use Rattle.iss_schedule.specs.declared.errors.LineFault.{LineFault}
+use Rattle.iss_schedule.specs.declared.errors.LineFault.TheVariants.{Cut, Form, Faulty, Injected, Range, Size}
 use Rattle.iss_schedule.specs.declared.errors.ReadError.{ReadError}
 use Rattle.iss_schedule.specs.declared.errors.ReadError.TheVariants.{BadLine, NoMemory}
 use Rattle.iss_schedule.specs.declared.schedules.Schedule.{Schedule}
@@ -33,7 +33,7 @@ IsInjected front line = (11 ≤ length front) × IsInjection line × BeginsStopp
 
 -- what is wrong with a line behind the good lines of the front; of several reasons the first counts. The eleventh line
 -- names the faulty nodes, and is out of their rule where no schedule in range goes on so
-abbrev pub IsFault : List (List ℕ) → List ℕ → Why → Type 0
+abbrev pub IsFault : List (List ℕ) → List ℕ → LineFault → Type 0
 IsFault front line Form = ¬ HasForm (length front) line
 IsFault front line Faulty = HasForm (length front) line × (length front ≡ 10) × ¬ Begins (front ++ line ∷ [])
 IsFault front line Injected = IsInjected front line
@@ -43,13 +43,13 @@ IsFault front line Size = ⊥
 
 -- what is wrong where the rest begins, behind the good lines of the front: there is an event too many, or the line is
 -- not whole, or it is whole and has a fault
-abbrev pub IsBadRest : List (List ℕ) → List ℕ → Why → Type 0
+abbrev pub IsBadRest : List (List ℕ) → List ℕ → LineFault → Type 0
 IsBadRest front rest Size = (length front ≡ 11 + most_events) × (rest ≢ [])
 IsBadRest front rest Cut = (length front < 11 + most_events) × Lacks 10 rest × ((length front < 11) ⊎ (rest ≢ []))
 IsBadRest front rest why = (length front < 11 + most_events) × ((line : List ℕ) × (IsNext line rest × IsFault front line why))
 
 -- the lines before this one begin a schedule in range, and with this one they do not
-pub record IsFirstBad (bytes : List ℕ) (line : ℕ) (why : Why) : Type 0 where
+pub record IsFirstBad (bytes : List ℕ) (line : ℕ) (why : LineFault) : Type 0 where
   pub front : List (List ℕ)
   pub rest : List ℕ
   pub text : bytes ≡ ended front ++ rest
@@ -58,7 +58,7 @@ pub record IsFirstBad (bytes : List ℕ) (line : ℕ) (why : Why) : Type 0 where
   pub bad : IsBadRest front rest why
 
 -- lines count from 1; a text that is too long has no good line, and line 0 is said to be bad
-abbrev pub IsBadLine : List ℕ → ℕ → Why → Type 0
+abbrev pub IsBadLine : List ℕ → ℕ → LineFault → Type 0
 IsBadLine bytes line why = ((most_bytes < length bytes) × (line ≡ 0) × (why ≡ Size)) ⊎ ((length bytes ≤ most_bytes) × IsFirstBad bytes line why)
 
 -- a text is refused for its first bad line; want of memory says nothing of it

@@ -4,8 +4,8 @@ use Rattle.hex.specs.Hex.{IsBytes}
 use Rattle.iss_base.specs.Lists.{nth}
 use Rattle.iss_request.specs.declared.setups.Kind.TheVariants.{Stopping}
 use Rattle.iss_request.specs.declared.setups.Setup.{Setup}
-use Rattle.iss_schedule.specs.declared.errors.Why.{Why}
-use Rattle.iss_schedule.specs.declared.errors.Why.TheVariants.{Cut, Form, Faulty, Injected, Range, Size}
+use Rattle.iss_schedule.specs.declared.errors.LineFault.{LineFault}
+use Rattle.iss_schedule.specs.declared.errors.LineFault.TheVariants.{Cut, Form, Faulty, Injected, Range, Size}
 use Rattle.iss_schedule.specs.declared.names.Name.{Name}
 use Rattle.iss_schedule.specs.declared.names.Name.TheVariants.{Request, Propose, Timeout, Ask, Deliver, Lose, Pump, Calm, Hold, Free, Drop, Restart, Crash, Bytes}
 use Rattle.iss_schedule.specs.Headers.{HeaderField, OneOf, Number, header_fields}
@@ -69,7 +69,7 @@ pub record IsInjection (line : List ℕ) : Type 0 where
 
 -- of a line that is no event in range: it is spelled wrongly, or gives bytes to a core where nodes only stop, or a number
 -- is out of range
-abbrev pub IsEventFault : Setup → List ℕ → Why → Type 0
+abbrev pub IsEventFault : Setup → List ℕ → LineFault → Type 0
 IsEventFault s line Form = ¬ IsEventLine line
 IsEventFault s line Injected = IsInjection line × (s.kind ≡ Stopping)
 IsEventFault s line Range = IsEventLine line × ¬ (IsInjection line × (s.kind ≡ Stopping))

@@ -8,8 +8,8 @@ use Rattle.iss_request.specs.declared.setups.Setup.{Setup}
 use Rattle.iss_schedule.specs.declared.errors.ReadError.{ReadError}
 use Rattle.iss_schedule.specs.declared.errors.ReadError.TheVariants.{BadLine, NoMemory}
 use Rattle.iss_schedule.specs.declared.schedules.Event.{Event}
-use Rattle.iss_schedule.specs.declared.errors.Why.{Why}
-use Rattle.iss_schedule.specs.declared.errors.Why.TheVariants.{Cut, Form, Faulty, Injected, Range, Size}
+use Rattle.iss_schedule.specs.declared.errors.LineFault.{LineFault}
+use Rattle.iss_schedule.specs.declared.errors.LineFault.TheVariants.{Cut, Form, Faulty, Injected, Range, Size}
 use Rattle.iss_schedule.specs.BadLines.{IsNext}
 use Rattle.iss_schedule.specs.Forms.{IsFieldFormed, IsFaultyFormed, IsEventFault}
 use Rattle.iss_schedule.specs.Headers.{HeaderField, faulty_line, spell_value, IsValue, IsGoodLine}
@@ -28,7 +28,7 @@ pub record GoesPast (line : List ℕ) (old new : Place) : Type 0 where
   pub whole : Lacks 10 line
 
 -- a header's line that should have been of one form and in range was not
-abbrev pub IsLineFault : (List ℕ → Type 0) → (List ℕ → Type 0) → List ℕ → Why → Type 0
+abbrev pub IsLineFault : (List ℕ → Type 0) → (List ℕ → Type 0) → List ℕ → LineFault → Type 0
 IsLineFault IsFormed IsGood rest Cut = Lacks 10 rest
 IsLineFault IsFormed IsGood rest Form = (line : List ℕ) × (IsNext line rest × ¬ IsFormed line)
 IsLineFault IsFormed IsGood rest Range = (line : List ℕ) × (IsNext line rest × IsFormed line × ¬ IsGood line)
@@ -36,11 +36,11 @@ IsLineFault IsFormed IsGood rest Faulty = ⊥
 IsLineFault IsFormed IsGood rest Injected = ⊥
 IsLineFault IsFormed IsGood rest Size = ⊥
 
-abbrev pub IsFieldFault : HeaderField → List ℕ → List ℕ → Why → Type 0
+abbrev pub IsFieldFault : HeaderField → List ℕ → List ℕ → LineFault → Type 0
 IsFieldFault f above rest why = IsLineFault (IsFieldFormed f) (IsGoodLine f above) rest why
 
 -- the reader went past a line that spells a value in range of the field, or says what is wrong with the line
-abbrev pub ReadsField : HeaderField → List ℕ → Place → Place → Result ℕ Why → Type 0
+abbrev pub ReadsField : HeaderField → List ℕ → Place → Place → Result ℕ LineFault → Type 0
 ReadsField f above old new (Ok v) = GoesPast (spell_value f v) old new × IsValue f above v
 ReadsField f above old new (Err why) = IsFieldFault f above old.rest why
 
@@ -54,7 +54,7 @@ most_faulty Byzantine f = f
 most_faulty Stopping f = 0
 
 -- the line that should have named faulty nodes names others, or is spelled otherwise
-abbrev pub IsFaultyLineFault : ℕ → ℕ → List ℕ → Why → Type 0
+abbrev pub IsFaultyLineFault : ℕ → ℕ → List ℕ → LineFault → Type 0
 IsFaultyLineFault most n rest Cut = Lacks 10 rest
 IsFaultyLineFault most n rest Form = (line : List ℕ) × (IsNext line rest × ¬ IsFaultyFormed line)
 IsFaultyLineFault most n rest Faulty =
@@ -68,7 +68,7 @@ IsFaultyRefused most n old (BadLine line why) = (line ≡ old.read + 1) × IsFau
 IsFaultyRefused most n old NoMemory = Unit {0}
 
 -- the next line is no event in range: it is not whole, or it has a fault and no event in range is spelled so
-abbrev pub IsEventBad : Setup → List ℕ → Why → Type 0
+abbrev pub IsEventBad : Setup → List ℕ → LineFault → Type 0
 IsEventBad s rest Cut = Lacks 10 rest
 IsEventBad s rest why = (line : List ℕ) × (IsNext line rest × IsEventFault s line why × ((e : Event) → IsInRange s e → line ≢ spell_event e))
 
@@ -78,7 +78,7 @@ IsEventRefused s old (BadLine line why) = (line ≡ old.read + 1) × IsEventBad 
 IsEventRefused s old NoMemory = Unit {0}
 
 -- behind events in range the next line is bad, or is one too many
-pub record IsEventsBad (s : Setup) (text : List ℕ) (line : ℕ) (why : Why) : Type 0 where
+pub record IsEventsBad (s : Setup) (text : List ℕ) (line : ℕ) (why : LineFault) : Type 0 where
   pub events : List Event
   pub rest : List ℕ
   pub front : text ≡ ended (map spell_event events) ++ rest

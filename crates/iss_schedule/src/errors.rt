@@ -8,7 +8,7 @@ use std::alloc::AllocError;
 
 /// What is wrong with a line. Of several reasons the one that stands first here counts, but for `Size`, which counts first.
 #[derive(Clone, Copy, Debug, PartialEq, Eq)]
-pub enum Why {
+pub enum LineFault {
     /// No line feed ends the line, or the text ends before its header is whole.
     Cut,
     /// The line is not spelled as its place asks.
@@ -27,7 +27,7 @@ pub enum Why {
 #[derive(Clone, Copy, Debug, PartialEq, Eq)]
 pub enum ReadError {
     /// The first bad line, numbered from 1, and what is wrong with it.
-    BadLine { line: u32, why: Why },
+    BadLine { line: u32, why: LineFault },
     /// Memory was wanting.
     NoMemory,
 }
@@ -55,7 +55,7 @@ impl From<AllocError> for ReadError {
 }
 
 // The line that was read last is bad.
-pub(crate) fn bad_line(lines: &Lines, why: Why) -> ReadError
+pub(crate) fn bad_line(lines: &Lines, why: LineFault) -> ReadError
     ensures { result ≡ BadLine lines.now.read why }
 {
     ReadError::BadLine {

@@ -5,7 +5,7 @@ ghost use Rattle.iss_schedule.specs.Headers.{faulty_line, node_words};
 ghost use Rattle.iss_schedule.specs.Places.{AreFew, GoesPast, IsFaultyRefused};
 ghost use Rattle.iss_schedule.specs.Reads.{Reads};
 
-use crate::errors::{ReadError, Why, bad_line};
+use crate::errors::{LineFault, ReadError, bad_line};
 use crate::lines::Lines;
 use crate::names::is_same;
 use crate::words::{Words, is_number, number_within};
@@ -96,15 +96,15 @@ fn nodes_of(alloc: Global, line: &[u8], most: u32, n: u32) -> Result<Option<Node
 }
 
 // What is wrong with a line that does not name faulty nodes as it should.
-fn fault_of(line: &[u8]) -> Why
-    ensures faulty { result ≡ Why.Faulty → IsFaultyFormed line.now }
-    ensures form { result ≡ Why.Form → ¬ IsFaultyFormed line.now }
-    ensures one { (result ≡ Why.Faulty) ⊎ (result ≡ Why.Form) }
+fn fault_of(line: &[u8]) -> LineFault
+    ensures faulty { result ≡ LineFault.Faulty → IsFaultyFormed line.now }
+    ensures form { result ≡ LineFault.Form → ¬ IsFaultyFormed line.now }
+    ensures one { (result ≡ LineFault.Faulty) ⊎ (result ≡ LineFault.Form) }
 {
     if is_formed(line) {
-        Why::Faulty
+        LineFault::Faulty
     } else {
-        Why::Form
+        LineFault::Form
     }
 }
 

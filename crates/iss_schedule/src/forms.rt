@@ -2,7 +2,7 @@
 ghost use Rattle.std.specs.Prelude.{◌≡◌, ◌↔◌, IsTrue, true, IfOk};
 ghost use Rattle.iss_schedule.specs.Forms.{number_count, has_bytes, AreArguments, IsEventFault};
 
-use crate::errors::Why;
+use crate::errors::LineFault;
 use crate::events::{bytes_in, is_stopping};
 use crate::names::{Name, name_of};
 use crate::words::{Words, is_number};
@@ -60,15 +60,15 @@ fn are_bytes(alloc: Global, words: &mut Words) -> Result<bool, NoMemory>
 }
 
 /// What is wrong with the line of an event that does not read as an event in range.
-pub fn fault_of(alloc: Global, setup: &Setup, line: &[u8]) -> Result<Why, NoMemory>
+pub fn fault_of(alloc: Global, setup: &Setup, line: &[u8]) -> Result<LineFault, NoMemory>
     ensures { IfOk result (IsEventFault setup.now line.now) }
 {
     let mut words = Words::of(line);
     let Some(word) = words.next() else {
-        return Ok(Why::Form);
+        return Ok(LineFault::Form);
     };
     let Some(name) = name_of(word) else {
-        return Ok(Why::Form);
+        return Ok(LineFault::Form);
     };
     if !are_arguments(
         alloc,
@@ -76,12 +76,12 @@ pub fn fault_of(alloc: Global, setup: &Setup, line: &[u8]) -> Result<Why, NoMemo
         ends_in_bytes(name),
         &mut words,
     )? {
-        return Ok(Why::Form);
+        return Ok(LineFault::Form);
     }
     if is_injection(name) && is_stopping(setup) {
-        Ok(Why::Injected)
+        Ok(LineFault::Injected)
     } else {
-        Ok(Why::Range)
+        Ok(LineFault::Range)
     }
 }
 

@@ -6,7 +6,7 @@ ghost use Rattle.iss_schedule.specs.Headers.{OneOf, Number, AreValues, header_fi
 ghost use Rattle.iss_schedule.specs.Places.{ReadsField, most_faulty as faults_of_kind};
 ghost use Rattle.iss_schedule.specs.Words.{Lacks, ended};
 
-use crate::errors::Why;
+use crate::errors::LineFault;
 use crate::lines::Lines;
 use crate::modules::{Module, module_at, place_of};
 use crate::names::is_same;
@@ -22,7 +22,7 @@ const RELAY: u8 = 1;
 pub const FIELDS: usize = 10;
 
 // Goes past a line that has to be this text, the only one of its field.
-fn expect(lines: &mut Lines, text: &[u8]) -> Result<u32, Why>
+fn expect(lines: &mut Lines, text: &[u8]) -> Result<u32, LineFault>
     requires { lines.old.read < 11 }
     ensures read { lines.new.read ≡ lines.old.read + 1 }
     ensures reads { (above : List ℕ) → ReadsField (OneOf (text.now ∷ [])) above lines.old lines.new result }
@@ -31,12 +31,12 @@ fn expect(lines: &mut Lines, text: &[u8]) -> Result<u32, Why>
     if is_same(line, text) {
         Ok(0)
     } else {
-        Err(Why::Form)
+        Err(LineFault::Form)
     }
 }
 
 // Goes past a line that has to name a module.
-fn module(lines: &mut Lines) -> Result<u32, Why>
+fn module(lines: &mut Lines) -> Result<u32, LineFault>
     requires { lines.old.read < 11 }
     ensures read { lines.new.read ≡ lines.old.read + 1 }
     ensures reads { (above : List ℕ) → ReadsField (OneOf (lines_of_rows module_rows)) above lines.old lines.new result }
@@ -44,7 +44,7 @@ fn module(lines: &mut Lines) -> Result<u32, Why>
     let line = lines.next()?;
     match place_of(line) {
         Some(place) => Ok(place),
-        None => Err(Why::Form),
+        None => Err(LineFault::Form),
     }
 }
 
@@ -117,7 +117,7 @@ pub fn most_faulty(values: &[u32]) -> u32
 }
 
 // Goes past a line that has to name a policy.
-fn policy(lines: &mut Lines) -> Result<u32, Why>
+fn policy(lines: &mut Lines) -> Result<u32, LineFault>
     requires { lines.old.read < 11 }
     ensures read { lines.new.read ≡ lines.old.read + 1 }
     ensures reads { (above : List ℕ) → ReadsField (OneOf policy_lines) above lines.old lines.new result }
@@ -130,7 +130,7 @@ fn policy(lines: &mut Lines) -> Result<u32, Why>
     } else if is_same(line, b"policy blacklist") {
         Ok(2)
     } else {
-        Err(Why::Form)
+        Err(LineFault::Form)
     }
 }
 
@@ -151,7 +151,7 @@ fn behind<'a>(line: &'a [u8], name: &[u8]) -> Option<&'a [u8]>
 }
 
 // Goes past a line that has to be this name and a number in range, at least the first and below the second.
-fn number(lines: &mut Lines, name: &[u8], low: u32, end: u32) -> Result<u32, Why>
+fn number(lines: &mut Lines, name: &[u8], low: u32, end: u32) -> Result<u32, LineFault>
     requires few { lines.old.read < 11 }
     requires name { Lacks 32 name.now }
     ensures read { lines.new.read ≡ lines.old.read + 1 }
@@ -159,20 +159,20 @@ fn number(lines: &mut Lines, name: &[u8], low: u32, end: u32) -> Result<u32, Why
 {
     let line = lines.next()?;
     let Some(word) = behind(line, name) else {
-        return Err(Why::Form);
+        return Err(LineFault::Form);
     };
     if let Some(number) = number_within(word, low, end) {
         return Ok(number);
     }
     if is_number(word) {
-        Err(Why::Range)
+        Err(LineFault::Range)
     } else {
-        Err(Why::Form)
+        Err(LineFault::Form)
     }
 }
 
 // Reads the line behind these values: the table of a header, a field on each line.
-fn read_field(lines: &mut Lines, above: &[u32]) -> Result<u32, Why>
+fn read_field(lines: &mut Lines, above: &[u32]) -> Result<u32, LineFault>
     requires lines { lines.old.read < 11 }
     requires few { length above.now < 10 }
     requires faults { value above.now 2 < 4 }
@@ -194,7 +194,7 @@ fn read_field(lines: &mut Lines, above: &[u32]) -> Result<u32, Why>
 }
 
 /// Reads the lines of a header: their values.
-pub fn read_header(lines: &mut Lines) -> Result<[u32; 10], Why>
+pub fn read_header(lines: &mut Lines) -> Result<[u32; 10], LineFault>
     requires { lines.old.read ≡ 0 }
     ensures read { OnOk result (lines.new.read ≡ 10) }
     ensures size { IfOk result (λ values. length values ≡ 10) }

@@ -15,7 +15,7 @@ pub mod schedules;
 mod words;
 mod writing;
 
-pub use errors::{ReadError, Why};
+pub use errors::{LineFault, ReadError};
 pub use reading::{MOST_BYTES, MOST_EVENTS, read};
 pub use schedules::{Event, Schedule};
 pub use writing::write;

@@ -3,7 +3,7 @@ ghost use Rattle.std.specs.Prelude.{◌≡◌, ◌↔◌, ◌<◌, ◌+◌, ◌^
 ghost use Rattle.iss_schedule.specs.Places.{Place, GoesPast};
 ghost use Rattle.iss_schedule.specs.Words.{Lacks};
 
-use crate::errors::Why;
+use crate::errors::LineFault;
 use crate::words::cut_at;
 use std::marker::Model;
 
@@ -55,11 +55,11 @@ impl<'a> Lines<'a> {
     }
 
     /// The next line, without its line feed.
-    pub fn next(&mut self) -> Result<&'a [u8], Why>
+    pub fn next(&mut self) -> Result<&'a [u8], LineFault>
         requires { self.old.read < 2 ^ 32 - 1 }
         ensures read { self.new.read ≡ self.old.read + 1 }
         ensures ok { IfOk result (λ line. GoesPast line.now self.old self.new) }
-        ensures cut { IfErr result (λ why. why ≡ Why.Cut) }
+        ensures cut { IfErr result (λ why. why ≡ LineFault.Cut) }
         ensures unended { IfErr result (λ _. Lacks 10 self.old.rest) }
         ensures kept { OnErr result (self.new.rest ≡ self.old.rest) }
     {
@@ -69,7 +69,7 @@ impl<'a> Lines<'a> {
                 self.rest = rest;
                 Ok(line)
             }
-            None => Err(Why::Cut),
+            None => Err(LineFault::Cut),
         }
     }
 }

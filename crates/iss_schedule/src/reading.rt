@@ -8,7 +8,7 @@ ghost use Rattle.iss_schedule.specs.Schedules.{IsSchedule, IsKnown, header_lines
 ghost use Rattle.iss_schedule.specs.Words.{ended};
 ghost use Rattle.iss_schedule.specs.declared.schedules.Schedule.{Schedule};
 
-use crate::errors::{ReadError, Why, bad_line};
+use crate::errors::{LineFault, ReadError, bad_line};
 use crate::events::event_of;
 use crate::faulty::read_faulty;
 use crate::forms::fault_of;
@@ -16,7 +16,7 @@ use crate::header::{most_faulty, nodes_of, read_header, setup_of};
 use crate::laws::texts_and_schedules;
 use crate::lines::Lines;
 use crate::schedules::{Event, Schedule};
-use iss_request::rows::Row;
+use iss_request::rows::Seq;
 use iss_request::setups::Setup;
 use std::alloc::Global;
 
@@ -27,7 +27,7 @@ pub const MOST_BYTES: usize = 16_777_216;
 pub const MOST_EVENTS: usize = 1_048_576;
 
 // Reads the lines behind the header, each an event.
-fn read_events(alloc: Global, setup: &Setup, lines: &mut Lines) -> Result<Row<Event>, ReadError>
+fn read_events(alloc: Global, setup: &Setup, lines: &mut Lines) -> Result<Seq<Event>, ReadError>
     requires known { IsKnown setup.now }
     requires read { lines.old.read ≡ 11 }
     ensures text { IfOk result (λ es. lines.old.rest ≡ ended (map spell_event es)) }
@@ -35,12 +35,12 @@ fn read_events(alloc: Global, setup: &Setup, lines: &mut Lines) -> Result<Row<Ev
     ensures few { IfOk result (λ es. length es ≤ most_events) }
     ensures bad { IfErr result (IsEventsRefused setup.now lines.old.rest) }
 {
-    let mut events = Row::new(alloc);
+    let mut events = Seq::new(alloc);
     'lines: while !lines.is_done() {
         if events.len() >= MOST_EVENTS {
             return Err(ReadError::BadLine {
                 line: lines.read() + 1,
-                why: Why::Size,
+                why: LineFault::Size,
             });
         }
         let event = read_event(alloc, setup, lines)?;
@@ -104,7 +104,7 @@ fn read_text(alloc: Global, bytes: &[u8]) -> Result<Schedule, ReadError>
     if bytes.len() > MOST_BYTES {
         return Err(ReadError::BadLine {
             line: 0,
-            why: Why::Size,
+            why: LineFault::Size,
         });
     }
     let mut lines = Lines::of(bytes);

@@ -1,7 +1,7 @@
 //! What a schedule says.
 use iss_request::bytes::Bytes;
 use iss_request::ids::NodeId;
-use iss_request::rows::Row;
+use iss_request::rows::Seq;
 use iss_request::setups::Setup;
 
 /// What happens at one moment of a run. Cores and packets are numbered from 0.
@@ -74,5 +74,5 @@ pub enum Event {
 #[derive(Drop, Debug)]
 pub struct Schedule {
     pub setup: Setup,
-    pub events: Row<Event>,
+    pub events: Seq<Event>,
 }

@@ -4,7 +4,7 @@ use Rattle.std.specs.List.{list_any}
 use Rattle.std.proofs.lemmas.Bool.Decides.{nat_tests}
 use Rattle.iss_layout.specs.Layout.{Plan, bucket_of, bucket_owner}
 use Rattle.iss_rules.specs.Concrete.{number_of, rules_of}
-use Rattle.iss_causes.specs.declared.causes.Refusal.TheVariants.{TooLarge, ForeignBucket, BadSignature, OutOfWindow, Ordered, Marked}
+use Rattle.iss_rules.specs.declared.events.Refusal.TheVariants.{TooLarge, ForeignBucket, BadSignature, OutOfWindow, Ordered, Marked}
 use Rattle.iss_request.specs.declared.setups.Setup.{Setup}
 use Rattle.iss_request.proofs.Identities.{same_id-flip}
 use Rattle.iss_rules.specs.Judge.{any, any_marked, judge}
@@ -12,7 +12,7 @@ use Rattle.iss_segment.specs.Marks.{twice}
 use Rattle.iss_request.specs.Log.{has_id, ids, log_ids, same_id}
 use Rattle.iss_request.specs.declared.requests.Value.{Value}
 use Rattle.iss_segment.specs.Ground.{RestsOn, noted_before}
-use Rattle.iss_window.specs.Kept.{Kept, StandsFor}
+use Rattle.iss_window.specs.Kept.{Kept, RefinesNoted}
 use Rattle.iss_window.specs.Window.{is_inside, place_of}
 use Rattle.iss_request.specs.declared.ids.ReqId.{ReqId}
 use Rattle.iss_request.specs.declared.requests.Request.{Request}
@@ -115,8 +115,8 @@ pub record AreFound (s : Setup) (plan : Plan) (windows : Kept) (leader : ℕ) (m
   pub large : nat_lt s.batch (length batch) ≡ a
   pub foreign : any (λ (q : Request). not (number_of (bucket_owner plan (bucket_of plan q.id)) == leader)) batch ≡ b
   pub unsigned : any (λ (q : Request). not ((rules_of s).signed q)) batch ≡ c
-  pub outside : (before : List Value) → StandsFor windows (noted_before before) → any (λ (q : Request). not (is_inside (place_of windows.width (log_ids before) q.id))) batch ≡ d
-  pub ordered : (before : List Value) → StandsFor windows (noted_before before) → any (λ (q : Request). has_id q.id (log_ids before)) batch ≡ e
+  pub outside : (before : List Value) → RefinesNoted windows (noted_before before) → any (λ (q : Request). not (is_inside (place_of windows.width (log_ids before) q.id))) batch ≡ d
+  pub ordered : (before : List Value) → RefinesNoted windows (noted_before before) → any (λ (q : Request). has_id q.id (log_ids before)) batch ≡ e
   pub doubled : any_marked marked (ids batch) ≡ f
 
 pub judged : (s : Setup) (plan : Plan) (windows : Kept) (leader : ℕ) (marked : List ReqId) (batch : List Request) (a b c d e f : Bool) → AreFound s plan windows leader marked batch a b c d e f →
@@ -146,7 +146,7 @@ module _ (s : Setup) (plan : Plan) (windows : Kept) (leader : ℕ) (marked : Lis
 
   -- nor where a number is outside its window
   pub judged-outside : any (λ (q : Request). not ((rules_of s).signed q)) batch ≡ false →
-      ((before : List Value) → StandsFor windows (noted_before before) → any (λ (q : Request). not (is_inside (place_of windows.width (log_ids before) q.id))) batch ≡ true) →
+      ((before : List Value) → RefinesNoted windows (noted_before before) → any (λ (q : Request). not (is_inside (place_of windows.width (log_ids before) q.id))) batch ≡ true) →
       (before : List Value) (epoch : ℕ) → RestsOn s before epoch plan windows → Some OutOfWindow ≡ judge (rules_of s) before epoch leader marked batch
   judged-outside signed outside before epoch r =
       sym (first-cause _ false _ false _ false _ true _ _ _ _

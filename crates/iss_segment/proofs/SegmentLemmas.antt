@@ -1,12 +1,12 @@
 use Rattle.std.proofs.Common.{◌≡◌, ℕ, Bool, true, false, List, [], ◌++◌, cond, ◌||◌, Option, Some, None, length, refl, sym, ap, ◌∙◌}
 use Rattle.std.specs.Prelude.{not, nat_lt, ◌==◌}
 use Rattle.iss_base.proofs.Lists.{or-flip}
-use Rattle.iss_ids.proofs.Members.{has_id-and_ids, has_id-append}
+use Rattle.iss_window.proofs.Members.{has_id-and_ids, has_id-append}
 use Rattle.iss_rules.specs.Judge.{any, judge, marks}
 use Rattle.iss_rules.specs.Verdicts.{verdict}
 use Rattle.iss_rules.specs.Rules.{Rules}
-use Rattle.iss_causes.specs.declared.causes.Refusal.{Refusal}
-use Rattle.iss_causes.specs.declared.causes.Refusal.TheVariants.{TooLarge, ForeignBucket, BadSignature, OutOfWindow, Ordered, Marked}
+use Rattle.iss_rules.specs.declared.events.Refusal.{Refusal}
+use Rattle.iss_rules.specs.declared.events.Refusal.TheVariants.{TooLarge, ForeignBucket, BadSignature, OutOfWindow, Ordered, Marked}
 use Rattle.iss_segment.proofs.MarksLemmas.{any_marked-same}
 use Rattle.iss_segment.specs.Answers.{IsInstanceTaken}
 use Rattle.iss_segment.specs.Marks.{and_marks}
@@ -55,14 +55,14 @@ marks-grow marked xs (Some a) same = λ x.
     ∙ or-flip (has_id x (marks xs)) (has_id x (ids a.1))
     ∙ sym (has_id-append x (ids a.1) (marks xs))
 
-pub instance-taken : {M Msg : Type 0} (m : Module Msg) (stands : M → Params → ℕ → List (Item Msg) → Type 0) (old : SegmentState M) (ordering : M) (marked : List ReqId) (i : Input Msg) (before later : KeyState) (e : Effects Msg) →
-    IsLawful m → IsTrueStep m stands old.params old.ordering ordering i before later e → marked ≡ and_marks old.marked e.accepted →
-    IsInstanceTaken m stands old (record { params = old.params; me = old.me; ordering = ordering; marked = marked }) i before later e
-instance-taken m stands old ordering marked i before later e laws step marked_is = record {
+pub instance-taken : {M Msg : Type 0} (m : Module Msg) (refines : M → Params → ℕ → List (Item Msg) → Type 0) (old : SegmentState M) (ordering : M) (marked : List ReqId) (i : Input Msg) (before later : KeyState) (e : Effects Msg) →
+    IsLawful m → IsTrueStep m refines old.params old.ordering ordering i before later e → marked ≡ and_marks old.marked e.accepted →
+    IsInstanceTaken m refines old (record { params = old.params; me = old.me; ordering = ordering; marked = marked }) i before later e
+instance-taken m refines old ordering marked i before later e laws step marked_is = record {
   same_params = refl;
   same_node = refl;
-  stands_for = λ xs h own. record {
-    ordering = step.stands_for old.me.0 xs h.ordering own;
+  refined = λ xs h own. record {
+    ordering = step.refined old.me.0 xs h.ordering own;
     marked =
         let is : e.accepted ≡ (m.makes old.params old.me.0 xs i before.used).accepted = (step.effects old.me.0 xs h.ordering own).accepted ∙ sym (laws.accepted old.params old.me.0 xs i before.used) in
         λ x. ap (λ (ys : List ReqId). has_id x ys) (marked_is ∙ ap (λ (o : Option (Slot × Batch)). and_marks old.marked o) is) ∙ marks-grow old.marked (accepts xs) (m.makes old.params old.me.0 xs i before.used).accepted h.marked x;

@@ -5,7 +5,7 @@ use Rattle.iss_rules.specs.Concrete.{plan_at}
 use Rattle.iss_request.specs.Log.{log_ids}
 use Rattle.iss_request.specs.declared.requests.Value.{Value}
 use Rattle.iss_request.specs.declared.setups.Setup.{Setup}
-use Rattle.iss_window.specs.Kept.{Kept, StandsFor}
+use Rattle.iss_window.specs.Kept.{Kept, RefinesNoted}
 use Rattle.iss_window.specs.Window.{Noted}
 
 -- what the log of earlier epochs holds was noted, and the windows moved since
@@ -15,4 +15,4 @@ noted_before before = record { all = log_ids before; closed = log_ids before }
 pub record RestsOn (s : Setup) (before : List Value) (e : ℕ) (plan : Plan) (windows : Kept) : Type 0 where
   pub divided : plan ≡ plan_at s before e
   pub width : windows.width ≡ s.window
-  pub noted : StandsFor windows (noted_before before)
+  pub noted : RefinesNoted windows (noted_before before)

@@ -1,6 +1,6 @@
 -- Identities that stand twice in one list, and those that are accepted.
 use Rattle.std.specs.Prelude.{Bool, false, ◌||◌, List, [], ◌∷◌, Option, Some, None}
-use Rattle.iss_ids.specs.Set.{and_ids}
+use Rattle.iss_window.specs.Ids.{and_ids}
 use Rattle.iss_request.specs.declared.ids.Slot.{Slot}
 use Rattle.iss_request.specs.declared.requests.Batch.{Batch}
 use Rattle.iss_request.specs.Log.{has_id}

@@ -8,16 +8,15 @@ ghost use Rattle.iss_request.specs.Log.{has_id, ids, log_ids, same_id};
 ghost use Rattle.iss_request.specs.declared.requests.Request.{Request};
 ghost use Rattle.iss_request.specs.declared.requests.Value.{Value};
 ghost use Rattle.iss_segment.specs.Ground.{RestsOn, noted_before};
-ghost use Rattle.iss_window.specs.Kept.{StandsFor};
+ghost use Rattle.iss_window.specs.Kept.{RefinesNoted};
 ghost use Rattle.iss_window.specs.Window.{is_inside, place_of};
 
 use crate::signatures::is_signed;
-use iss_causes::Refusal;
-use iss_ids::Ids;
 use iss_keys::Directory;
 use iss_layout::Layout;
 use iss_request::{NodeId, ReqId, Request, Setup};
-use iss_window::{Place, Windows};
+use iss_rules::Refusal;
+use iss_window::{Ids, Place, Windows};
 
 /// The first refusal that holds of a batch in the segment of this leader; none where the batch is accepted. `marked`
 /// are the identities that were accepted there before.
@@ -83,7 +82,7 @@ fn is_any_unsigned(directory: &Directory, batch: &[Request]) -> bool
 
 // Whether a number is outside its client's window.
 fn is_any_outside(windows: &Windows, batch: &[Request]) -> bool
-    ensures { (before : List Value) → StandsFor windows.now (noted_before before) →
+    ensures { (before : List Value) → RefinesNoted windows.now (noted_before before) →
         result ≡ any (λ (q : Request). not (is_inside (place_of windows.now.width (log_ids before) q.id))) batch.now }
 {
     for request in batch {
@@ -96,7 +95,7 @@ fn is_any_outside(windows: &Windows, batch: &[Request]) -> bool
 
 // Whether an identity stands in the log of earlier epochs.
 fn is_any_ordered(windows: &Windows, batch: &[Request]) -> bool
-    ensures { (before : List Value) → StandsFor windows.now (noted_before before) →
+    ensures { (before : List Value) → RefinesNoted windows.now (noted_before before) →
         result ≡ any (λ (q : Request). has_id q.id (log_ids before)) batch.now }
 {
     for request in batch {

@@ -7,5 +7,5 @@ pub mod judge;
 pub mod segment;
 pub mod signatures;
 
-pub use segment::{Halt, Segment};
+pub use segment::{Segment, StepRefusal};
 pub use signatures::{is_signed, sign_request};

@@ -14,20 +14,19 @@ ghost use Rattle.iss_segment.specs.Instance.{IsInstance, SegmentState};
 ghost use Rattle.iss_segment.specs.Marks.{and_marks};
 
 use crate::judge::refusal;
-use iss_causes::Refusal;
-use iss_ids::Ids;
 use iss_keys::Keys;
 use iss_layout::Layout;
 use iss_request::{Batch, NoMemory, NodeId, Slot};
+use iss_rules::Refusal;
 use iss_sb::{Effects, Input, Params, Sequenced, StepError};
-use iss_window::Windows;
+use iss_window::{Ids, Windows};
 use std::alloc::Global;
 use std::marker::Model;
 
 /// Why an instance took no input: fewer leaves are left than one step may sign with, the batch that the step would
 /// accept is refused, or memory was wanting.
 #[derive(Clone, Copy, Debug, PartialEq, Eq)]
-pub enum Halt {
+pub enum StepRefusal {
     Spent,
     Refused(Refusal),
     NoMemory,
@@ -51,15 +50,15 @@ impl<M: Sequenced> Model for Segment<M> {
 
     ghost view = { λ s. record { params = s.params; me = s.me; ordering = s.ordering; marked = s.marked } };
 
-    ghost invariant = { λ s. IsGoodParams M.meaning s.params × (s.me.0 < s.params.setup.n) };
+    ghost invariant = { λ s. IsGoodParams M.spec s.params × (s.me.0 < s.params.setup.n) };
 }
 
 impl<M: Sequenced> Segment<M> {
     /// An instance that has taken nothing.
     pub fn start(alloc: Global, params: Params, me: NodeId) -> Result<Segment<M>, NoMemory>
-        requires good { IsGoodParams M.meaning params }
+        requires good { IsGoodParams M.spec params }
         requires me { me.0 < params.setup.n }
-        ensures stands { IfOk result (λ s. IsInstance M.stands s []) }
+        ensures refines { IfOk result (λ s. IsInstance M.refines s []) }
         ensures same { IfOk result (λ s. (s.params ≡ params) × (s.me ≡ me)) }
     {
         let ordering = M::start(alloc, &params, me)?;
@@ -74,7 +73,7 @@ impl<M: Sequenced> Segment<M> {
     /// What the instance was started with.
     pub fn params(&self) -> &Params
         ensures same { result.now ≡ self.now.params }
-        ensures good { IsGoodParams M.meaning result.now }
+        ensures good { IsGoodParams M.spec result.now }
     {
         &self.params
     }
@@ -88,8 +87,8 @@ impl<M: Sequenced> Segment<M> {
 
     /// Whether the module takes a cast at this slot.
     pub fn casts(&self, slot: Slot) -> bool
-        ensures { (xs : List (Item M.Msg)) (batch : Batch) → IsInstance M.stands self.now xs →
-            (IsTrue result ↔ (M.meaning.asks self.now.params self.now.me.0 xs (Input.Cast slot batch) ≡ Some (slot, batch))) }
+        ensures { (xs : List (Item M.Msg)) (batch : Batch) → IsInstance M.refines self.now xs →
+            (IsTrue result ↔ (M.spec.asks self.now.params self.now.me.0 xs (Input.Cast slot batch) ≡ Some (slot, batch))) }
     {
         self.ordering.casts(&self.params, slot)
     }
@@ -125,21 +124,21 @@ impl<M: Sequenced> Segment<M> {
         windows: &Windows,
         input: Input<M::Msg>,
         keys: &mut Keys,
-    ) -> Result<Effects<M::Msg>, Halt>
+    ) -> Result<Effects<M::Msg>, StepRefusal>
         requires { IsGoodInput self.old.params input }
-        ensures step { IsJudgedStep M.meaning M.stands layout.now windows.now self.old self.new input keys.old keys.new result }
+        ensures step { IsJudgedStep M.spec M.refines layout.now windows.now self.old self.new input keys.old keys.new result }
         ensures same { (self.new.params ≡ self.old.params) × (self.new.me ≡ self.old.me) }
     {
         if keys.left() < M::signs(&self.params) {
-            return Err(Halt::Spent);
+            return Err(StepRefusal::Spent);
         }
         if let Some(refusal) = self.verdict(layout, windows, &input) {
-            return Err(Halt::Refused(refusal));
+            return Err(StepRefusal::Refused(refusal));
         }
         match self.take(alloc, input, keys) {
             Ok(effects) => Ok(effects),
-            Err(StepError::Spent) => Err(Halt::Spent),
-            Err(StepError::NoMemory) => Err(Halt::NoMemory),
+            Err(StepError::Spent) => Err(StepRefusal::Spent),
+            Err(StepError::NoMemory) => Err(StepRefusal::NoMemory),
         }
     }
 
@@ -151,7 +150,7 @@ impl<M: Sequenced> Segment<M> {
         keys: &mut Keys,
     ) -> Result<Effects<M::Msg>, StepError>
         requires { IsGoodInput self.old.params input }
-        ensures step { IsInstanceStep M.meaning M.stands self.old self.new input keys.old keys.new result }
+        ensures step { IsInstanceStep M.spec M.refines self.old self.new input keys.old keys.new result }
         ensures same { (self.new.params ≡ self.old.params) × (self.new.me ≡ self.old.me) }
     {
         M::laws();
@@ -163,7 +162,7 @@ impl<M: Sequenced> Segment<M> {
     // Why the batch that this input asks for is refused, if it is.
     fn verdict(&self, layout: &Layout, windows: &Windows, input: &Input<M::Msg>) -> Option<Refusal>
         requires input { IsGoodInput self.now.params input.now }
-        ensures { IsVerdict M.meaning M.stands layout.now windows.now self.now input.now result }
+        ensures { IsVerdict M.spec M.refines layout.now windows.now self.now input.now result }
     {
         match self.ordering.asks(&self.params, input) {
             Some((slot, batch)) => self.judge(layout, windows, slot, batch),

@@ -2,7 +2,7 @@
 -- other's claim, and vote; the third adopts the epoch under a certificate that the faulty one signed too.
 use Rattle.std.proofs.Common.{◌≡◌, inl, inr, ℕ, true, cond, List, [], ◌∷◌, ◌++◌, Option, Some, None, refl, sym, ap, ◌∙◌, subst, true≢false, arith}
 use Rattle.sha2.specs.Sha256.{compress, digest_bytes, first_words, hash_after, rounds, schedule, sha256}
-use Rattle.iss_base.specs.Lists.{Extends, In, over, set_at}
+use Rattle.iss_base.specs.Lists.{Extends, In, push_all, set_at}
 use Rattle.iss_base.proofs.Lists.{first-cases, in_append, in_right, set_at-other, set_at-same, some-injective}
 use Rattle.iss_request.specs.Formats.{parse_rest, parse_value, spell_value}
 use Rattle.iss_request.specs.Parsing.{◌>>=◌, byte, done, such_that}
@@ -10,7 +10,7 @@ use Rattle.iss_request.specs.Setup.{IsGoodSetup}
 use Rattle.iss_request.specs.declared.ids.Slot.{Slot}
 use Rattle.iss_request.specs.declared.requests.Batch.{Batch}
 use Rattle.iss_request.specs.declared.requests.Value.{Value}
-use Rattle.iss_request.specs.declared.requests.Value.TheVariants.{Nil, Batch as Holds}
+use Rattle.iss_request.specs.declared.requests.Value.TheVariants.{Nil, Batch as Value_batch}
 use Rattle.iss_request.specs.declared.setups.Kind.TheVariants.{Byzantine}
 use Rattle.iss_request.specs.declared.setups.Policy.TheVariants.{Simple}
 use Rattle.iss_request.specs.declared.setups.Setup.{Setup}
@@ -21,22 +21,22 @@ use Rattle.iss_sb.specs.Calls.{IsGoodParams}
 use Rattle.iss_sb.specs.Evidence.{IsReadMessage, Item, Module, Separate, accepts, delivered, is_correct}
 use Rattle.iss_sb.specs.Laws.{IsHeard, IsLawful, IsSafe}
 use Rattle.iss_sb.proofs.Read.{batch-read}
-use Rattle.iss_cluster.specs.Checkpoints.{scheme_of}
+use Rattle.iss_composition.specs.Checkpoints.{scheme_of}
 use Rattle.iss_rules.specs.Books.{Signed}
-use Rattle.iss_cluster.specs.Cluster.{Adopted, AllSpelled, Cert, Cluster, IsHashedLog, MayTake, Reach, Scheme, adopt, begin, chain, chain_strings, ends, move, vote_of}
-use Rattle.iss_rules.specs.Past.{adopts, advanced, is_complete, Past, Piece, asked_in, before, log_of, made_in, newborn, params_of, takes}
+use Rattle.iss_composition.specs.Cluster.{Adopted, AllSpelled, Cert, Cluster, IsHashedLog, MayTake, Reach, Scheme, adopt, begin, chain, chain_strings, ends, move, vote_of}
+use Rattle.iss_rules.specs.Past.{adopts, advanced, is_complete, Past, Piece, asked_in, before, log_of, made_in, initial_history, params_of, takes}
 use Rattle.iss_rules.specs.Concrete.{rules_of}
 use Rattle.iss_rules.specs.Verdicts.{verdict}
 use Rattle.iss_model.specs.Node.{own_claims}
-use Rattle.iss_cluster.specs.Ordered.{Among, Ordered}
+use Rattle.iss_composition.specs.Ordered.{Among, Ordered}
 use Rattle.iss_rules.specs.Rules.{Rules}
 use Rattle.iss_rules.specs.Setups.{IsSetupOf}
 use Rattle.iss_model.specs.Run.{as_signed, collision_in}
-use Rattle.iss_cluster.proofs.Chains.{hashed-older, spelled-older}
-use Rattle.iss_cluster.proofs.Checkpoints.{exact-of}
+use Rattle.iss_composition.proofs.Chains.{hashed-older, spelled-older}
+use Rattle.iss_composition.proofs.Checkpoints.{exact-of}
 use Rattle.iss_rules.proofs.Layouts.{own-verifies, sound-rules}
-use Rattle.iss_cluster.proofs.Reached.{composition}
-use Rattle.iss_cluster.proofs.Signing.{Word, is_slot, lawful, made_of, passes, sent-again, signing, slot-in, word-again}
+use Rattle.iss_composition.proofs.Reached.{composition}
+use Rattle.iss_composition.proofs.Signing.{Word, is_slot, lawful, made_of, passes, sent-again, signing, slot-in, word-again}
 use Rattle.iss_theorems.proofs.Tests.{over-new, over-old, own-is, separate-more}
 
 -- the module: as the one that signs, but each node delivers nil in all slots as soon as it takes anything
@@ -94,14 +94,14 @@ delivers-nil p me (x ∷ xs) s v h = elim (first-cases (delivered nodding p me x
   | inr a ↦ is-nil (x ∷ xs) v (passes (is_slot s p.slots) (nil_if (x ∷ xs)) v a.1).1
 ]
 
-no-batch : (b : Batch) → Holds b ≡ Nil → ⊥
+no-batch : (b : Batch) → Value_batch b ≡ Nil → ⊥
 no-batch b h = cc
 
 nodding-safe : IsSafe nodding
 nodding-safe p w good reached sep = record {
   agreement = λ i j s x y oki okj hi hj. delivers-nil p i (w i) s x hi ∙ sym (delivers-nil p j (w j) s y hj);
-  shared = λ i j s t b c oki okj hi hj. absurd (no-batch b (delivers-nil p i (w i) s.0 (Holds b) hi));
-  integrity = λ i s b okl oki h. absurd (no-batch b (delivers-nil p i (w i) s.0 (Holds b) h));
+  shared = λ i j s t b c oki okj hi hj. absurd (no-batch b (delivers-nil p i (w i) s.0 (Value_batch b) hi));
+  integrity = λ i s b okl oki h. absurd (no-batch b (delivers-nil p i (w i) s.0 (Value_batch b) h));
 }
 
 abbrev four : Setup
@@ -162,7 +162,7 @@ nils = Nil ∷ Nil ∷ Nil ∷ Nil ∷ []
 
 -- what is hashed for one epoch of nils, and the empty string, are all strings
 abbrev strings : List (List ℕ)
-strings = over (chain_strings S nils) ([] ∷ [])
+strings = push_all (chain_strings S nils) ([] ∷ [])
 
 -- a part of the log's strings
 abbrev IsPart : List Value → Type 0
@@ -272,7 +272,7 @@ abbrev hears : Input Word
 hears = Receive (record { 0 = 0 }) (slot, [])
 
 abbrev w0 : Net
-w0 = record { pasts = λ j. newborn; messages = []; book = []; strings = strings }
+w0 = record { pasts = λ j. initial_history; messages = []; book = []; strings = strings }
 
 abbrev w1 : Net
 w1 = after_move w0 0 0 casts

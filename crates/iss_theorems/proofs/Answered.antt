@@ -1,6 +1,6 @@
 -- An event at one core leads on: what a run holds stays what moves of a cluster lead to.
 use Rattle.std.proofs.Common.{◌≡◌, inl, inr, ℕ, suc, Bool, true, false, cond, eqb, List, [], ◌∷◌, ◌++◌, length, Option, Some, None, refl, sym, ap, ◌∙◌, subst}
-use Rattle.iss_base.specs.Lists.{In, over}
+use Rattle.iss_base.specs.Lists.{In, push_all}
 use Rattle.iss_base.proofs.Lists.{and-true, eqb-same, in_append, in_left, in_right}
 use Rattle.iss_checkpoint.specs.declared.votes.Cert.{Cert}
 use Rattle.iss_request.specs.declared.requests.Batch.{Batch}
@@ -13,16 +13,16 @@ use Rattle.iss_sb.specs.declared.effects.To.{To}
 use Rattle.iss_sb.specs.declared.effects.To.TheVariants.{One as To_one}
 use Rattle.iss_sb.specs.Evidence.{Module, Separate, is_correct}
 use Rattle.iss_transfer.specs.declared.pieces.Piece.{Piece as Sent_piece}
-use Rattle.iss_causes.specs.declared.causes.NodeEvent.{NodeEvent}
-use Rattle.iss_causes.specs.declared.causes.NodeEvent.TheVariants.{Packet as Gets}
+use Rattle.iss_rules.specs.declared.events.NodeEvent.{NodeEvent}
+use Rattle.iss_rules.specs.declared.events.NodeEvent.TheVariants.{Packet as On_packet}
 use Rattle.iss_rules.specs.Books.{Signed}
 use Rattle.iss_rules.specs.Parcels.{Body, Formats, OfAsk, OfModule, OfPiece, OfVote, Parcel}
 use Rattle.iss_rules.specs.Votes.{all_verify, claim_of_vote, claims_of_cert, is_true_cert}
-use Rattle.iss_model.specs.Node.{Core, Dropped, Early, Stepped, Taken, Turn, adopts_piece, asking, counted, handing, inputs, only_by, rests, settles, step, values_of}
-use Rattle.iss_cluster.specs.Ordered.{Among}
+use Rattle.iss_model.specs.Node.{Core, Dropped, Early, Stepped, Taken, Turn, adopts_piece, advance_epochs, asking, counted, handing, only_by, step, step_unjudged, unchanged, values_of}
+use Rattle.iss_composition.specs.Ordered.{Among}
 use Rattle.iss_rules.specs.Past.{leads_in, log_of, params_of}
 use Rattle.iss_rules.specs.Rules.{Rules}
-use Rattle.iss_causes.specs.Ends.{End}
+use Rattle.iss_rules.specs.Ends.{End}
 use Rattle.iss_model.specs.Run.{Held, after_step, as_signed, at_core, booked, by_collision, by_forged, claims_at, collision_in, early_of, first_forged, node_of, turned_to}
 use Rattle.iss_rules.proofs.Faithful.{is_message}
 use Rattle.iss_model.specs.Sound.{carried}
@@ -88,7 +88,7 @@ module _ {Msg : Type 0} (s : Setup) (F : Formats Msg) (R : Rules) (M : Module Ms
           )
 
       -- what is settled, of a core of this epoch
-      settled-fits : (u : Turn Msg) → Holds u → u.core.early ≡ c.early → u.core.past.epoch ≡ c.past.epoch → AreRead (settles F R M i u) → Holds (settles F R M i u)
+      settled-fits : (u : Turn Msg) → Holds u → u.core.early ≡ c.early → u.core.past.epoch ≡ c.past.epoch → AreRead (advance_epochs F R M i u) → Holds (advance_epochs F R M i u)
       settled-fits u k early epoch read =
           settles-holds F R M i Holds Comes (λ t l input z fit come. takes-fits s F R M o h ok i correct t l input z fit come)
           (λ t z complete. ends-fits s F R M o h ok i correct t z complete) (λ t claims z. reads-fits s F R M o h ok i correct t claims z) u k
@@ -96,34 +96,34 @@ module _ {Msg : Type 0} (s : Setup) (F : Formats Msg) (R : Rules) (M : Module Ms
           (λ y n. read y (r y n)))
 
       -- an input of this epoch, with all that follows
-      input-fits : (b : Core Msg) (l : ℕ) (input : Input Msg) (u : Turn Msg) → b.early ≡ c.early → b.past.epoch ≡ c.past.epoch → Turned (rests b) →
-          IsFit F R M i b l input → Comes (rests b) l input → u ≡ inputs F R M i b l input → AreRead (settles F R M i u) → Holds (settles F R M i u)
+      input-fits : (b : Core Msg) (l : ℕ) (input : Input Msg) (u : Turn Msg) → b.early ≡ c.early → b.past.epoch ≡ c.past.epoch → Turned (unchanged b) →
+          IsFit F R M i b l input → Comes (unchanged b) l input → u ≡ step_unjudged F R M i b l input → AreRead (advance_epochs F R M i u) → Holds (advance_epochs F R M i u)
       input-fits b l input u early epoch base fit come is read =
-          settled-fits u (subst Holds (sym is) (takes-fits s F R M o h ok i correct (rests b) l input (λ sep. base) fit come))
+          settled-fits u (subst Holds (sym is) (takes-fits s F R M o h ok i correct (unchanged b) l input (λ sep. base) fit come))
           (ap (λ (z : Turn Msg). z.core.early) is ∙ early) (ap (λ (z : Turn Msg). z.core.past.epoch) is ∙ epoch) read
 
-      resting : (d : Core Msg) → d.past ≡ c.past → IsReadyCore R M i d → (M.stopping ≡ true → AreSent d) → AreCertified s R h.signed d → Turned (rests d)
+      resting : (d : Core Msg) → d.past ≡ c.past → IsReadyCore R M i d → (M.stopping ≡ true → AreSent d) → AreCertified s R h.signed d → Turned (unchanged d)
       resting d q ready sent certified = turned.rests-fits s F R M o h ok i correct d q ready sent certified
 
       certified : AreCertified s R h.signed c
       certified = ok.certified i correct
 
-      base : IsReadyCore R M i c → Turned (rests c)
+      base : IsReadyCore R M i c → Turned (unchanged c)
       base ready = resting c refl ready (λ st. ok.sent st i) certified
 
       -- what bytes claim that hold a body of some epoch
-      read-of : (bytes : List ℕ) (k : Parcel Msg) (b : Body Msg) → F.unwrap bytes ≡ Some k → k.body ≡ b → claims_at F R M i c (Gets bytes) ≡ claims_of_body R M i c k.from k.epoch b
+      read-of : (bytes : List ℕ) (k : Parcel Msg) (b : Body Msg) → F.unwrap bytes ≡ Some k → k.body ≡ b → claims_at F R M i c (On_packet bytes) ≡ claims_of_body R M i c k.from k.epoch b
       read-of bytes k b un q = ap (λ (x : Option (Parcel Msg)). claims_of_parcel R M i c x) un ∙ ap (λ (y : Body Msg). claims_of_body R M i c k.from k.epoch y) q
 
       -- a message of this epoch comes
-      message-fits : (bytes : List ℕ) (k : Parcel Msg) (l : ℕ) (msg : Msg) (t u : Turn Msg) → Comes-here (Gets bytes) →
-          ((y : Claim) → In y (claims_at F R M i c (Gets bytes)) → In y reads) → AreRead t → IsReadyCore R M i c → F.unwrap bytes ≡ Some k → k.body ≡ OfModule l msg →
-          k.epoch ≡ c.past.epoch → IsFit F R M i c l (Receive (record { 0 = k.from }) msg) → u ≡ inputs F R M i c l (Receive (record { 0 = k.from }) msg) →
-          t ≡ settles F R M i u → Holds t
+      message-fits : (bytes : List ℕ) (k : Parcel Msg) (l : ℕ) (msg : Msg) (t u : Turn Msg) → Comes-here (On_packet bytes) →
+          ((y : Claim) → In y (claims_at F R M i c (On_packet bytes)) → In y reads) → AreRead t → IsReadyCore R M i c → F.unwrap bytes ≡ Some k → k.body ≡ OfModule l msg →
+          k.epoch ≡ c.past.epoch → IsFit F R M i c l (Receive (record { 0 = k.from }) msg) → u ≡ step_unjudged F R M i c l (Receive (record { 0 = k.from }) msg) →
+          t ≡ advance_epochs F R M i u → Holds t
       message-fits bytes k l msg t u comes first read was un b e fit is q =
           let told = o.faithful.told bytes k l msg un b in
           let p : Params = params_of R M i c.past l in
-          let are : claims_at F R M i c (Gets bytes) ≡ M.claims p k.from msg =
+          let are : claims_at F R M i c (On_packet bytes) ≡ M.claims p k.from msg =
           read-of bytes k (OfModule l msg) un b ∙ (ap (λ (n : ℕ). claims_of_body R M i c k.from n (OfModule l msg)) e ∙ here l msg k.from fit.leads) in
           let sent : M.stopping ≡ true → In (record { from = k.from; to = i; epoch = c.past.epoch; leader = l; msg = msg }) ok.messages =
           λ st. subst (λ (n : ℕ). In (record { from = k.from; to = i; epoch = n; leader = l; msg = msg }) ok.messages) e (comes.legit st k l msg un b) in
@@ -149,7 +149,7 @@ module _ {Msg : Type 0} (s : Setup) (F : Formats Msg) (R : Rules) (M : Module Ms
       }
 
       -- a piece is adopted
-      piece-fits : (bytes : List ℕ) (k : Parcel Msg) (p : Sent_piece) (t : Turn Msg) → ((y : Claim) → In y (claims_at F R M i c (Gets bytes)) → In y reads) →
+      piece-fits : (bytes : List ℕ) (k : Parcel Msg) (p : Sent_piece) (t : Turn Msg) → ((y : Claim) → In y (claims_at F R M i c (On_packet bytes)) → In y reads) →
           AreRead t → IsReadyCore R M i c → F.unwrap bytes ≡ Some k → k.body ≡ OfPiece p → IsAdopted F R M i c p t → Holds t
       piece-fits bytes k p t first read was un b a =
           let u : Turn Msg = adopts_piece R M i c p in
@@ -222,7 +222,7 @@ module _ {Msg : Type 0} (s : Setup) (F : Formats Msg) (R : Rules) (M : Module Ms
           let batch : Batch = next_batch F R M i c in
           let read_batch = cast-read R M i c F s (params_of R M i c.past i) (o.sound.setup _ _ _) o.sound.batch
           (λ y m. was.spelled y (in_left y c.waiting (carried c.flight) m)) in
-          let base2 : Turned (rests d) =
+          let base2 : Turned (unchanged d) =
           resting d refl (casting-ready F R M i c n was) (λ st. ok.sent st i) (record { votes = certified.votes; certs = certified.certs }) in
           subst Holds (sym q)
           (input-fits d i (Cast n batch) u refl refl base2 (cast-fit R M i c was.sound F o.law n u r) (refl, read_batch) r.is (subst AreRead q read))
@@ -250,7 +250,7 @@ module _ {Msg : Type 0} (s : Setup) (F : Formats Msg) (R : Rules) (M : Module Ms
           (still (asking F i c peer) refl was none-booked (λ x m. absurd (none-booked-at x m)) (alone (To_one peer) (record { from = i; epoch = c.past.epoch; body = OfAsk }) refl))
 
   turn-fits : (event : NodeEvent) (t : Turn Msg) → Comes-here event → first_forged s R h.signed (claims_at F R M (node_of s i) c event ++ t.early) ≡ None →
-      step F R M (node_of s i) c event ≡ Taken t → Separate (Among (over t.strings h.hashed)) → Fits (turned_to s h i t)
+      step F R M (node_of s i) c event ≡ Taken t → Separate (Among (push_all t.strings h.hashed)) → Fits (turned_to s h i t)
   turn-fits event t comes unf q sep = go (is_correct s i) refl
     where
       did : Took F R M (node_of s i) c event t

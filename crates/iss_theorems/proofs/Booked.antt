@@ -8,7 +8,7 @@ use Rattle.iss_sb.specs.declared.effects.Input.{Input}
 use Rattle.iss_sb.specs.declared.effects.Params.{Params}
 use Rattle.iss_sb.specs.Evidence.{Item, Module}
 use Rattle.iss_rules.specs.Books.{Signed}
-use Rattle.iss_cluster.specs.Cluster.{IsOwn}
+use Rattle.iss_composition.specs.Cluster.{IsOwn}
 use Rattle.iss_theorems.specs.Ends.{AreBooked}
 use Rattle.iss_model.specs.Node.{Core, own_claims}
 use Rattle.iss_rules.specs.Past.{Past, Piece, adopts, advanced, before, log_of, made_in, params_of, takes}

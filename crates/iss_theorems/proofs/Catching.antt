@@ -8,7 +8,7 @@ use Rattle.iss_network.specs.declared.packets.Sent.{Sent}
 use Rattle.iss_request.specs.Formats.{spell_batch, spell_count, spell_request, spell_value}
 use Rattle.iss_request.specs.Log.{size_of}
 use Rattle.iss_request.specs.declared.requests.Value.{Value}
-use Rattle.iss_request.specs.declared.requests.Value.TheVariants.{Batch as Holds, Nil}
+use Rattle.iss_request.specs.declared.requests.Value.TheVariants.{Batch as Value_batch, Nil}
 use Rattle.iss_request.specs.declared.setups.Setup.{Setup}
 use Rattle.iss_schedule.specs.declared.schedules.Event.{Event}
 use Rattle.iss_schedule.specs.declared.schedules.Event.TheVariants.{Propose, Ask, Deliver, Calm, Hold, Free, Drop, Bytes}
@@ -20,15 +20,15 @@ use Rattle.iss_sb.specs.declared.effects.To.TheVariants.{All}
 use Rattle.iss_sb.specs.Evidence.{Item, Module}
 use Rattle.iss_transfer.specs.declared.pieces.Piece.{Piece}
 use Rattle.sha2.specs.Sha256.{compress, digest_bytes, first_words, hash_after, rounds, schedule, sha256}
-use Rattle.iss_causes.specs.declared.causes.NodeEvent.TheVariants.{Packet as Gets, Propose as Proposes, Timeout as Fires}
-use Rattle.iss_causes.specs.declared.causes.Why.{Why}
-use Rattle.iss_causes.specs.declared.causes.Why.TheVariants.{BadClaim, Known, NoCert, NoKeys, NotNeeded, OtherEpoch, WrongChain}
+use Rattle.iss_rules.specs.declared.events.NodeEvent.TheVariants.{Packet as On_packet, Propose as On_propose, Timeout as On_timeout}
+use Rattle.iss_rules.specs.declared.events.Why.{Why}
+use Rattle.iss_rules.specs.declared.events.Why.TheVariants.{BadClaim, Known, NoCert, NoKeys, NotNeeded, OtherEpoch, WrongChain}
 use Rattle.iss_rules.specs.Concrete.{rules_of}
 use Rattle.iss_rules.specs.Parcels.{OfPiece, OfVote}
-use Rattle.iss_model.specs.Node.{Core, Dropped, Stepped, Taken, idle, step}
+use Rattle.iss_model.specs.Node.{Core, Dropped, Stepped, Taken, initial_core, step}
 use Rattle.iss_rules.specs.Past.{log_of}
 use Rattle.iss_rules.specs.Rules.{Rules}
-use Rattle.iss_causes.specs.Ends.{Forged}
+use Rattle.iss_rules.specs.Ends.{Forged}
 use Rattle.iss_model.specs.Run.{Progress, begin_run, run}
 use Rattle.iss_model.specs.Views.{claims_of_bytes}
 use Rattle.iss_model.proofs.Example.{Word, easy, light, plain, short, spell, telling}
@@ -48,7 +48,7 @@ abbrev behind : List Event
 behind = Hold 2 ∷ Propose 0 ∷ Propose 1 ∷ Propose 2 ∷ Calm 20 ∷ Drop 2 ∷ Free 2 ∷ Ask 2 (record { 0 = 0 }) ∷ Calm 20 ∷ []
 
 abbrev empties : List Value
-empties = Holds [] ∷ Holds [] ∷ Holds [] ∷ []
+empties = Value_batch [] ∷ Value_batch [] ∷ Value_batch [] ∷ []
 
 -- the certificate that nodes 0 and 1 make, each signing with its first leaf
 abbrev signed : ℕ → Signed
@@ -137,20 +137,20 @@ vote k e chain =
     spell k e (OfVote v)
 
 abbrev hears : Core Word → List ℕ → Stepped Word
-hears c bytes = step short easy telling 2 c (Gets bytes)
+hears c bytes = step short easy telling 2 c (On_packet bytes)
 
 -- a vote may be of any epoch up to the next
-far_vote : why_of (hears idle (vote 0 2 [])) ≡ Some OtherEpoch
+far_vote : why_of (hears initial_core (vote 0 2 [])) ≡ Some OtherEpoch
 far_vote = refl
 
-next_vote : why_of (hears idle (vote 0 1 [])) ≡ None
+next_vote : why_of (hears initial_core (vote 0 1 [])) ≡ None
 next_vote = refl
 
 -- it is of a node, and that is tested before whether it is known
-bad_vote : why_of (hears (core_of idle (hears idle (vote 0 0 []))) (vote 7 0 [])) ≡ Some BadClaim
+bad_vote : why_of (hears (core_of initial_core (hears initial_core (vote 0 0 []))) (vote 7 0 [])) ≡ Some BadClaim
 bad_vote = refl
 
-known_vote : why_of (hears (core_of idle (hears idle (vote 0 0 []))) (vote 0 0 (1 ∷ []))) ≡ Some Known
+known_vote : why_of (hears (core_of initial_core (hears initial_core (vote 0 0 []))) (vote 0 0 (1 ∷ []))) ≡ Some Known
 known_vote = refl
 
 -- the vote that first makes its like a quorum gives the certificate; one that says something else does not
@@ -158,14 +158,14 @@ abbrev counts : List (List ℕ) → Core Word → Core Word
 counts [] c = c
 counts (bytes ∷ more) c = counts more (core_of c (hears c bytes))
 
-two_minds : (counts (vote 0 0 (1 ∷ []) ∷ vote 1 0 (2 ∷ []) ∷ []) idle).certs ≡ []
+two_minds : (counts (vote 0 0 (1 ∷ []) ∷ vote 1 0 (2 ∷ []) ∷ []) initial_core).certs ≡ []
 two_minds = refl
 
-third : (counts (vote 0 0 (1 ∷ []) ∷ vote 1 0 (2 ∷ []) ∷ vote 2 0 (1 ∷ []) ∷ []) idle).certs ≡
+third : (counts (vote 0 0 (1 ∷ []) ∷ vote 1 0 (2 ∷ []) ∷ vote 2 0 (1 ∷ []) ∷ []) initial_core).certs ≡
     record { epoch = record { 0 = 0 }; chain = 1 ∷ []; requests = 0; signers = signed 0 ∷ signed 2 ∷ [] } ∷ []
 third = refl
 
-first_kept : (counts (vote 2 0 (1 ∷ []) ∷ vote 1 0 (1 ∷ []) ∷ vote 0 0 (1 ∷ []) ∷ []) idle).certs ≡
+first_kept : (counts (vote 2 0 (1 ∷ []) ∷ vote 1 0 (1 ∷ []) ∷ vote 0 0 (1 ∷ []) ∷ []) initial_core).certs ≡
     record { epoch = record { 0 = 0 }; chain = 1 ∷ []; requests = 0; signers = signed 1 ∷ signed 2 ∷ [] } ∷ []
 first_kept = refl
 
@@ -178,35 +178,35 @@ piece e values cert =
 abbrev with_signers : List Signed → Cert
 with_signers xs = record made { signers = xs }
 
-right_piece : why_of (hears idle (piece 0 empties made)) ≡ None
+right_piece : why_of (hears initial_core (piece 0 empties made)) ≡ None
 right_piece = refl
 
-past_piece : why_of (hears (core_of idle (hears idle (piece 0 empties made))) (piece 0 empties made)) ≡ Some NotNeeded
+past_piece : why_of (hears (core_of initial_core (hears initial_core (piece 0 empties made))) (piece 0 empties made)) ≡ Some NotNeeded
 past_piece = refl
 
-next_piece : why_of (hears idle (piece 1 empties made)) ≡ Some OtherEpoch
+next_piece : why_of (hears initial_core (piece 1 empties made)) ≡ Some OtherEpoch
 next_piece = refl
 
 -- first its shape, then its certificate, then its chain
-short_piece : why_of (hears idle (piece 0 (Holds [] ∷ Nil ∷ []) (with_signers []))) ≡ Some OtherEpoch
+short_piece : why_of (hears initial_core (piece 0 (Value_batch [] ∷ Nil ∷ []) (with_signers []))) ≡ Some OtherEpoch
 short_piece = refl
 
-few_signers : why_of (hears idle (piece 0 (Holds [] ∷ Holds [] ∷ Nil ∷ []) (with_signers (signed 0 ∷ [])))) ≡ Some BadClaim
+few_signers : why_of (hears initial_core (piece 0 (Value_batch [] ∷ Value_batch [] ∷ Nil ∷ []) (with_signers (signed 0 ∷ [])))) ≡ Some BadClaim
 few_signers = refl
 
-many_signers : why_of (hears idle (piece 0 empties (with_signers (signed 0 ∷ signed 1 ∷ signed 2 ∷ [])))) ≡ Some BadClaim
+many_signers : why_of (hears initial_core (piece 0 empties (with_signers (signed 0 ∷ signed 1 ∷ signed 2 ∷ [])))) ≡ Some BadClaim
 many_signers = refl
 
-twice_signed : why_of (hears idle (piece 0 empties (with_signers (signed 1 ∷ signed 1 ∷ [])))) ≡ Some BadClaim
+twice_signed : why_of (hears initial_core (piece 0 empties (with_signers (signed 1 ∷ signed 1 ∷ [])))) ≡ Some BadClaim
 twice_signed = refl
 
-no_node : why_of (hears idle (piece 0 empties (with_signers (signed 1 ∷ signed 7 ∷ [])))) ≡ Some BadClaim
+no_node : why_of (hears initial_core (piece 0 empties (with_signers (signed 1 ∷ signed 7 ∷ [])))) ≡ Some BadClaim
 no_node = refl
 
-nil_for_batch : why_of (hears idle (piece 0 (Holds [] ∷ Nil ∷ Holds [] ∷ []) made)) ≡ Some WrongChain
+nil_for_batch : why_of (hears initial_core (piece 0 (Value_batch [] ∷ Nil ∷ Value_batch [] ∷ []) made)) ≡ Some WrongChain
 nil_for_batch = refl
 
-wrong_count : why_of (hears idle (piece 0 empties (record made { requests = 1 }))) ≡ Some WrongChain
+wrong_count : why_of (hears initial_core (piece 0 empties (record made { requests = 1 }))) ≡ Some WrongChain
 wrong_count = refl
 
 -- what is hashed: the values of the piece, then those that join the log, each named here by its slot and its size
@@ -217,19 +217,19 @@ named n (v ∷ vs) = (n ∷ size_of v ∷ []) ∷ named (suc n) vs
 abbrev naming : Rules
 naming = record easy { hashes = λ log values. named (length log) values }
 
-hashed : strings_of (step short naming telling 2 (core (Propose 0 ∷ Propose 1 ∷ Deliver 2 ∷ []) 2) (Gets (piece 0 empties made))) ≡
+hashed : strings_of (step short naming telling 2 (core (Propose 0 ∷ Propose 1 ∷ Deliver 2 ∷ []) 2) (On_packet (piece 0 empties made))) ≡
     (0 ∷ 0 ∷ []) ∷ (1 ∷ 0 ∷ []) ∷ (2 ∷ 0 ∷ []) ∷ (1 ∷ 0 ∷ []) ∷ (2 ∷ 0 ∷ []) ∷ []
 unfolding core
 hashed = refl
 
 -- one leaf is kept back for the vote
 abbrev with_leaf : ℕ → Core Word
-with_leaf n = record idle { leaf = n }
+with_leaf n = record initial_core { leaf = n }
 
-no_leaf : why_of (step short easy telling 0 (with_leaf 16) (Fires (record { 0 = 0 }))) ≡ Some NoKeys
+no_leaf : why_of (step short easy telling 0 (with_leaf 16) (On_timeout (record { 0 = 0 }))) ≡ Some NoKeys
 no_leaf = refl
 
-last_leaf : why_of (step short easy telling 0 (with_leaf 15) (Fires (record { 0 = 0 }))) ≡ None
+last_leaf : why_of (step short easy telling 0 (with_leaf 15) (On_timeout (record { 0 = 0 }))) ≡ None
 last_leaf = refl
 
 -- under the rules of the set-up three empty batches lead to this chain, which the vote of each node says
@@ -245,15 +245,15 @@ casts_now s [] = None
 casts_now s (x ∷ xs) = first_of (casts_now s xs) (cast_now s x.input)
   where
     cast_now : ℕ → Input Word → Option Value
-    cast_now s (Cast slot batch) = cond (slot.0 == s) (Some (Holds batch)) None
-    cast_now s (Receive from word) = cond (word.0.0 == s) (Some (Holds word.1)) None
+    cast_now s (Cast slot batch) = cond (slot.0 == s) (Some (Value_batch batch)) None
+    cast_now s (Receive from word) = cond (word.0.0 == s) (Some (Value_batch word.1)) None
     cast_now s Timeout = None
 
 abbrev prompt : Module Word
 prompt = record telling { decided = λ p me xs s. casts_now s xs }
 
 abbrev last : Stepped Word
-last = step short easy prompt 0 ((run plain short easy prompt (begin_run plain) (Propose 1 ∷ Propose 2 ∷ Deliver 0 ∷ Deliver 3 ∷ [])).held.net.cores 0) Proposes
+last = step short easy prompt 0 ((run plain short easy prompt (begin_run plain) (Propose 1 ∷ Propose 2 ∷ Deliver 0 ∷ Deliver 3 ∷ [])).held.net.cores 0) On_propose
 
 abbrev sends_of : Stepped Word → List (To × List ℕ)
 sends_of (Dropped why) = []
@@ -270,17 +270,17 @@ vote_claimed : own_of last ≡ record { by = record { 0 = 0 }; statement = 0 ∷
 vote_claimed = refl
 
 -- what bytes claim: a vote its own, a piece its certificate's, of whatever epoch
-vote_claims : claims_of_bytes short easy telling 0 (idle {Msg = Word}) (vote 1 5 []) ≡
+vote_claims : claims_of_bytes short easy telling 0 (initial_core {Msg = Word}) (vote 1 5 []) ≡
     record { by = record { 0 = 1 }; statement = 5 ∷ 0 ∷ []; sig = 1 ∷ 0 ∷ [] } ∷ []
 vote_claims = refl
 
-piece_claims : claims_of_bytes short easy telling 0 (idle {Msg = Word}) (piece 0 empties made) ≡
+piece_claims : claims_of_bytes short easy telling 0 (initial_core {Msg = Word}) (piece 0 empties made) ≡
     record { by = record { 0 = 0 }; statement = 0 ∷ 0 ∷ 1 ∷ 1 ∷ 1 ∷ []; sig = 0 ∷ 0 ∷ [] } ∷
     record { by = record { 0 = 1 }; statement = 0 ∷ 0 ∷ 1 ∷ 1 ∷ 1 ∷ []; sig = 1 ∷ 0 ∷ [] } ∷ []
 piece_claims = refl
 
 -- a piece that is handed out claims the node's own vote
-handed : own_of (step short easy telling 0 (core behind 0) (Gets (3 ∷ 2 ∷ 0 ∷ []))) ≡
+handed : own_of (step short easy telling 0 (core behind 0) (On_packet (3 ∷ 2 ∷ 0 ∷ []))) ≡
     record { by = record { 0 = 0 }; statement = 0 ∷ 0 ∷ 1 ∷ 1 ∷ 1 ∷ []; sig = 0 ∷ 0 ∷ [] } ∷ []
 unfolding core
 handed = refl

@@ -8,8 +8,8 @@ use Rattle.iss_schedule.specs.declared.schedules.Event.{Event}
 use Rattle.iss_sb.specs.Evidence.{Module, delivered, is_correct}
 use Rattle.iss_sb.specs.Laws.{IsLawful, IsSafe}
 use Rattle.iss_theorems.specs.Certified.{AreOfLogs, WereDelivered}
-use Rattle.iss_cluster.specs.Checkpoints.{scheme_of}
-use Rattle.iss_cluster.specs.Cluster.{IsBooked, signers}
+use Rattle.iss_composition.specs.Checkpoints.{scheme_of}
+use Rattle.iss_composition.specs.Cluster.{IsBooked, signers}
 use Rattle.iss_rules.specs.Concrete.{rules_of}
 use Rattle.iss_rules.specs.Formats.{formats_of}
 use Rattle.iss_theorems.specs.OneLog.{run_after}
@@ -19,11 +19,11 @@ use Rattle.iss_rules.specs.Setups.{IsSetupOf}
 use Rattle.iss_rules.proofs.Faithful.{IsFaithful}
 use Rattle.iss_model.specs.Runs.{AreAtCores}
 use Rattle.iss_theorems.proofs.Certs.{in-signers, quorum-is, signs_of}
-use Rattle.iss_cluster.proofs.Checkpoints.{exact-of, quorums}
+use Rattle.iss_composition.proofs.Checkpoints.{exact-of, quorums}
 use Rattle.iss_theorems.proofs.Fits.{view}
 use Rattle.iss_rules.proofs.Logs.{log-chain}
 use Rattle.iss_theorems.proofs.OneLog.{premises}
-use Rattle.iss_cluster.proofs.Reached.{good-reach}
+use Rattle.iss_composition.proofs.Reached.{good-reach}
 use Rattle.iss_theorems.proofs.Runs.{run-fits}
 
 module _ {Msg : Type 0} (s : Setup) (M : Module Msg) (h : IsSetupOf M s) (faithful : IsFaithful s (formats_of s M) M) (law : IsLawful M) (safe : IsSafe M) where

@@ -14,9 +14,9 @@ use Rattle.iss_keys.proofs.DirectoryLemmas.{node-below}
 use Rattle.iss_request.specs.declared.setups.Setup.{Setup}
 use Rattle.iss_sb.specs.declared.effects.Claim.{Claim}
 use Rattle.iss_sb.specs.Evidence.{Module, is_correct}
-use Rattle.iss_cluster.specs.Checkpoints.{scheme_of}
+use Rattle.iss_composition.specs.Checkpoints.{scheme_of}
 use Rattle.iss_rules.specs.Books.{Signed}
-use Rattle.iss_cluster.specs.Cluster.{IsBooked, signers, Signature as Sign}
+use Rattle.iss_composition.specs.Cluster.{IsBooked, signers, Signature as Sign}
 use Rattle.iss_rules.specs.Votes.{are_true, cert_on, claims_by, is_true_cert, keeping, stable, vote_by}
 use Rattle.iss_model.specs.Node.{Core, counted}
 use Rattle.iss_rules.specs.SoundRules.{IsSoundRules}

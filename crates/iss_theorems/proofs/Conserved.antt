@@ -9,13 +9,13 @@ use Rattle.iss_request.specs.declared.ids.ReqId.{ReqId}
 use Rattle.iss_request.specs.declared.requests.Request.{Request}
 use Rattle.iss_request.specs.declared.setups.Setup.{Setup}
 use Rattle.iss_schedule.specs.declared.schedules.Event.{Event}
-use Rattle.iss_schedule.specs.declared.schedules.Event.TheVariants.{Request as Asks_order, Propose, Timeout as Times_out, Ask, Deliver, Lose, Pump, Calm, Hold, Free, Drop, Restart, Crash, Bytes}
+use Rattle.iss_schedule.specs.declared.schedules.Event.TheVariants.{Request as Event_request, Propose, Timeout as Event_timeout, Ask, Deliver, Lose, Pump, Calm, Hold, Free, Drop, Restart, Crash, Bytes}
 use Rattle.iss_sb.specs.declared.effects.Claim.{Claim}
 use Rattle.iss_sb.specs.Evidence.{Module}
 use Rattle.iss_sb.specs.Laws.{IsLawful, IsSafe}
-use Rattle.iss_causes.specs.declared.causes.NodeEvent.{NodeEvent}
-use Rattle.iss_causes.specs.declared.causes.NodeEvent.TheVariants.{Packet as Gets, Propose as Proposes, Timeout as Fires, AskFrom as Seeks}
-use Rattle.iss_cluster.specs.Checkpoints.{scheme_of}
+use Rattle.iss_rules.specs.declared.events.NodeEvent.{NodeEvent}
+use Rattle.iss_rules.specs.declared.events.NodeEvent.TheVariants.{Packet as On_packet, Propose as On_propose, Timeout as On_timeout, AskFrom as On_ask}
+use Rattle.iss_composition.specs.Checkpoints.{scheme_of}
 use Rattle.iss_rules.specs.Concrete.{rules_of, request_of}
 use Rattle.iss_theorems.specs.Conserved.{AcceptsOnce, IsConserved, One, WasAsked, asked_in, unless_ended}
 use Rattle.iss_rules.specs.Formats.{formats_of}
@@ -24,15 +24,15 @@ use Rattle.iss_model.specs.Node.{Core, Dropped, Stepped, Taken, Turn, flown, ste
 use Rattle.iss_theorems.specs.OneLog.{IsClusterRun, run_after}
 use Rattle.iss_rules.specs.Past.{Past, log_of}
 use Rattle.iss_rules.specs.Rules.{Rules}
-use Rattle.iss_causes.specs.Ends.{End}
-use Rattle.iss_model.specs.Run.{Happening, Held, Net, Progress, after_step, at_core, begin_net, begin_run, by_collision, by_forged, calms, collision_in, delivered_to, delivers, delivers_each, done, first_forged, goes_further, happens, loses, node_of, posted_all, pumps, run, turned_to, unless, with_network}
+use Rattle.iss_rules.specs.Ends.{End}
+use Rattle.iss_model.specs.Run.{Happening, Held, Net, Progress, after_step, apply_event, at_core, begin_net, begin_run, by_collision, by_forged, calms, collision_in, delivered_to, delivers, delivers_each, done, first_forged, loses, node_of, posted_all, pumps, run, run_event_if_open, turned_to, unless, with_network}
 use Rattle.iss_rules.specs.Setups.{IsSetupOf}
 use Rattle.iss_rules.proofs.Faithful.{IsFaithful, IsReadBack}
-use Rattle.iss_cluster.proofs.Good.{Good}
+use Rattle.iss_composition.proofs.Good.{Good}
 use Rattle.iss_rules.proofs.Ids.{ids-right}
 use Rattle.iss_theorems.proofs.OnePlace.{one-place, segments}
 use Rattle.iss_model.proofs.Places.{Filed, FiledCore, HasSegments, IsPlaced, Keeps, PlacedCore, keeps-refl, keeps-trans, request-waits, step-keeps}
-use Rattle.iss_cluster.proofs.Reached.{good-reach}
+use Rattle.iss_composition.proofs.Reached.{good-reach}
 use Rattle.iss_model.proofs.Twins.{correct-is}
 
 none : (x : ReqId) (o : Option End) → In x (unless_ended o []) → ⊥
@@ -121,7 +121,7 @@ module _ {Msg : Type 0} (s : Setup) (F : Formats Msg) (R : Rules) (M : Module Ms
 
   deliver-kept : (h : Held Msg) → AllFiled s R M h.net → (k : ℕ) (o : Option Sent) → kept h (delivered_to s F R M h k o).held
   deliver-kept h f k None = stays h f
-  deliver-kept h f k (Some p) = at-kept (with_network h (settled h.net.network k)) f p.to (Gets p.bytes)
+  deliver-kept h f k (Some p) = at-kept (with_network h (settled h.net.network k)) f p.to (On_packet p.bytes)
 
   unless-kept : (h : Held Msg) (d : Happening Msg) (more : Held Msg → Happening Msg) → kept h d.held →
       (AllFiled s R M d.held.net → kept d.held (more d.held).held) → (o : Option End) → kept h (unless o d more).held
@@ -144,16 +144,16 @@ module _ {Msg : Type 0} (s : Setup) (F : Formats Msg) (R : Rules) (M : Module Ms
   lose-kept h f k None = stays h f
   lose-kept h f k (Some p) = stays h f
 
-  inject-kept : (h : Held Msg) → AllFiled s R M h.net → (c : ℕ) (bytes : List ℕ) (b : Bool) → kept h (cond b (done h) (at_core s F R M h c (Gets bytes))).held
+  inject-kept : (h : Held Msg) → AllFiled s R M h.net → (c : ℕ) (bytes : List ℕ) (b : Bool) → kept h (cond b (done h) (at_core s F R M h c (On_packet bytes))).held
   inject-kept h f c bytes true = stays h f
-  inject-kept h f c bytes false = at-kept h f c (Gets bytes)
+  inject-kept h f c bytes false = at-kept h f c (On_packet bytes)
 
-  happens-kept : (h : Held Msg) → AllFiled s R M h.net → (e : Event) → kept h (happens s F R M h e).held
-  happens-kept h f (Asks_order c client number payload) =
-      at-kept h f c (Gets (F.wrap (record { from = 255; epoch = 0; body = OfRequest (request_of s client number payload) })))
-  happens-kept h f (Propose c) = at-kept h f c Proposes
-  happens-kept h f (Times_out c l) = at-kept h f c (Fires l)
-  happens-kept h f (Ask c peer) = at-kept h f c (Seeks peer)
+  happens-kept : (h : Held Msg) → AllFiled s R M h.net → (e : Event) → kept h (apply_event s F R M h e).held
+  happens-kept h f (Event_request c client number payload) =
+      at-kept h f c (On_packet (F.wrap (record { from = 255; epoch = 0; body = OfRequest (request_of s client number payload) })))
+  happens-kept h f (Propose c) = at-kept h f c On_propose
+  happens-kept h f (Event_timeout c l) = at-kept h f c (On_timeout l)
+  happens-kept h f (Ask c peer) = at-kept h f c (On_ask peer)
   happens-kept h f (Deliver k) = deliver-kept h f k (nth h.net.network.packets k)
   happens-kept h f (Lose k) = lose-kept h f k (nth h.net.network.packets k)
   happens-kept h f Pump = each-kept (due h.net.network) h f
@@ -165,28 +165,28 @@ module _ {Msg : Type 0} (s : Setup) (F : Formats Msg) (R : Rules) (M : Module Ms
   happens-kept h f (Crash c calls) = stays h f
   happens-kept h f (Bytes c bytes) = inject-kept h f c bytes M.stopping
 
-  goes-kept : (p : Progress Msg) → AllFiled s R M p.held.net → (e : Event) (o : Option (ℕ × End)) → kept p.held (goes_further o s F R M p e).held
+  goes-kept : (p : Progress Msg) → AllFiled s R M p.held.net → (e : Event) (o : Option (ℕ × End)) → kept p.held (run_event_if_open o s F R M p e).held
   goes-kept p f e None = happens-kept p.held f e
   goes-kept p f e (Some end) = stays p.held f
 
   pub run-kept : (es : List Event) (p : Progress Msg) → AllFiled s R M p.held.net → kept p.held (run s F R M p es).held
   run-kept [] p f = stays p.held f
   run-kept (e ∷ es) p f =
-      let g = goes_further p.ended s F R M p e in
+      let g = run_event_if_open p.ended s F R M p e in
       kept-trans s R M p.held.net g.held.net (run s F R M g es).held.net (goes-kept p f e p.ended) (λ z. run-kept es g z)
 
-  asked-now : (h : Held Msg) (e : Event) (i : ℕ) (x : ReqId) → In x (asked_in i e (happens s F R M h e)) →
-      PlacedCore R M (node_of s i) ((happens s F R M h e).held.net.cores i) x
-  asked-now h (Asks_order c client number payload) i x m = honest (first_forged s R h.signed _) (step F R M (node_of s c) (h.net.cores c) event) refl m
+  asked-now : (h : Held Msg) (e : Event) (i : ℕ) (x : ReqId) → In x (asked_in i e (apply_event s F R M h e)) →
+      PlacedCore R M (node_of s i) ((apply_event s F R M h e).held.net.cores i) x
+  asked-now h (Event_request c client number payload) i x m = honest (first_forged s R h.signed _) (step F R M (node_of s c) (h.net.cores c) event) refl m
     where
       q : Request
       q = request_of s client number payload
 
       event : NodeEvent
-      event = Gets (F.wrap (record { from = 255; epoch = 0; body = OfRequest q }))
+      event = On_packet (F.wrap (record { from = 255; epoch = 0; body = OfRequest q }))
 
       e : Event
-      e = Asks_order c client number payload
+      e = Event_request c client number payload
 
       turned : (t : Turn Msg) → step F R M (node_of s c) (h.net.cores c) event ≡ Taken t → (o : Option End) →
           In x (asked_in i e (by_collision o h (turned_to s h c t))) → PlacedCore R M (node_of s i) ((by_collision o h (turned_to s h c t)).held.net.cores i) x
@@ -206,34 +206,34 @@ module _ {Msg : Type 0} (s : Setup) (F : Formats Msg) (R : Rules) (M : Module Ms
           PlacedCore R M (node_of s i) ((by_forged f h (after_step s h c o)).held.net.cores i) x
       honest None o k z = taken o k z
       honest (Some claim) o k z = absurd z
-  asked-now h (Propose c) i x m = absurd (none x (happens s F R M h (Propose c)).ended m)
-  asked-now h (Times_out c l) i x m = absurd (none x (happens s F R M h (Times_out c l)).ended m)
-  asked-now h (Ask c peer) i x m = absurd (none x (happens s F R M h (Ask c peer)).ended m)
-  asked-now h (Deliver k) i x m = absurd (none x (happens s F R M h (Deliver k)).ended m)
-  asked-now h (Lose k) i x m = absurd (none x (happens s F R M h (Lose k)).ended m)
-  asked-now h Pump i x m = absurd (none x (happens s F R M h Pump).ended m)
-  asked-now h (Calm n) i x m = absurd (none x (happens s F R M h (Calm n)).ended m)
+  asked-now h (Propose c) i x m = absurd (none x (apply_event s F R M h (Propose c)).ended m)
+  asked-now h (Event_timeout c l) i x m = absurd (none x (apply_event s F R M h (Event_timeout c l)).ended m)
+  asked-now h (Ask c peer) i x m = absurd (none x (apply_event s F R M h (Ask c peer)).ended m)
+  asked-now h (Deliver k) i x m = absurd (none x (apply_event s F R M h (Deliver k)).ended m)
+  asked-now h (Lose k) i x m = absurd (none x (apply_event s F R M h (Lose k)).ended m)
+  asked-now h Pump i x m = absurd (none x (apply_event s F R M h Pump).ended m)
+  asked-now h (Calm n) i x m = absurd (none x (apply_event s F R M h (Calm n)).ended m)
   asked-now h (Hold c) i x m = absurd m
   asked-now h (Free c) i x m = absurd m
   asked-now h (Drop c) i x m = absurd m
   asked-now h (Restart c) i x m = absurd m
   asked-now h (Crash c calls) i x m = absurd m
-  asked-now h (Bytes c bytes) i x m = absurd (none x (happens s F R M h (Bytes c bytes)).ended m)
+  asked-now h (Bytes c bytes) i x m = absurd (none x (apply_event s F R M h (Bytes c bytes)).ended m)
 
   pub asked-placed : (es : List Event) (p : Progress Msg) → AllFiled s R M p.held.net → (i : ℕ) (x : ReqId) → WasAsked s F R M p es i x →
       PlacedCore R M (node_of s i) ((run s F R M p es).held.net.cores i) x
   asked-placed [] p f i x k = absurd k
   asked-placed (e ∷ es) p f i x (inl k) =
-      let g = goes_further p.ended s F R M p e in
+      let g = run_event_if_open p.ended s F R M p e in
       let f2 : AllFiled s R M g.held.net = all-filed s R M p.held.net g.held.net (goes-kept p f e p.ended) in
       (run-kept es g f2 i).kept x (now p.ended k)
     where
-      now : (o : Option (ℕ × End)) → In x (unless_ended o (asked_in i e (happens s F R M p.held e))) →
-          PlacedCore R M (node_of s i) ((goes_further o s F R M p e).held.net.cores i) x
+      now : (o : Option (ℕ × End)) → In x (unless_ended o (asked_in i e (apply_event s F R M p.held e))) →
+          PlacedCore R M (node_of s i) ((run_event_if_open o s F R M p e).held.net.cores i) x
       now None z = asked-now p.held e i x z
       now (Some end) z = absurd z
   asked-placed (e ∷ es) p f i x (inr k) =
-      let g = goes_further p.ended s F R M p e in
+      let g = run_event_if_open p.ended s F R M p e in
       asked-placed es g (all-filed s R M p.held.net g.held.net (goes-kept p f e p.ended)) i x k
 
 -- over every run

@@ -4,15 +4,15 @@ use Rattle.std.proofs.Common.{◌≡◌, ℕ, List, [], ◌∷◌, ◌++◌, len
 use Rattle.iss_request.specs.Formats.{spell_batch, spell_count, spell_request, spell_value}
 use Rattle.iss_request.specs.declared.requests.Batch.{Batch}
 use Rattle.iss_schedule.specs.declared.schedules.Event.{Event}
-use Rattle.iss_schedule.specs.declared.schedules.Event.TheVariants.{Request as Asks_order, Propose, Deliver, Calm, Hold, Bytes}
+use Rattle.iss_schedule.specs.declared.schedules.Event.TheVariants.{Request as Event_request, Propose, Deliver, Calm, Hold, Bytes}
 use Rattle.iss_sb.specs.declared.effects.To.TheVariants.{All as To_all, One as To_one}
 use Rattle.iss_sb.specs.Statements.{wide_bytes}
-use Rattle.iss_causes.specs.declared.causes.Why.TheVariants.{BadClaim, NotLeader}
+use Rattle.iss_rules.specs.declared.events.Why.TheVariants.{BadClaim, NotLeader}
 use Rattle.iss_model.specs.Node.{Core}
 use Rattle.iss_model.specs.Run.{addressees, node_of}
 use Rattle.iss_model.proofs.Example.{plain_request}
 use Rattle.iss_theorems.proofs.Forging.{after, four, heard}
-use Rattle.iss_cluster.proofs.Signing.{Word}
+use Rattle.iss_composition.proofs.Signing.{Word}
 
 -- both cores are node 3's, and what is sent to node 3 goes to both
 same_node : node_of four 4 ≡ 3
@@ -32,7 +32,7 @@ abbrev asked : Batch
 asked = plain_request 0 3 (170 ∷ []) ∷ []
 
 abbrev both_cast : List Event
-both_cast = Asks_order 3 0 3 (170 ∷ []) ∷ Propose 3 ∷ Propose 4 ∷ []
+both_cast = Event_request 3 0 3 (170 ∷ []) ∷ Propose 3 ∷ Propose 4 ∷ []
 
 core : List Event → ℕ → Core Word
 core events c = (heard events).held.net.cores c

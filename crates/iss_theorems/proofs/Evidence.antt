@@ -6,12 +6,12 @@ use Rattle.iss_network.specs.Network.{due, settled}
 use Rattle.iss_network.specs.declared.packets.Sent.{Sent}
 use Rattle.iss_request.specs.declared.setups.Setup.{Setup}
 use Rattle.iss_schedule.specs.declared.schedules.Event.{Event}
-use Rattle.iss_schedule.specs.declared.schedules.Event.TheVariants.{Request as Asks_order, Propose, Timeout as Times_out, Ask, Deliver, Lose, Pump, Calm, Hold, Free, Drop, Restart, Crash, Bytes}
+use Rattle.iss_schedule.specs.declared.schedules.Event.TheVariants.{Request as Event_request, Propose, Timeout as Event_timeout, Ask, Deliver, Lose, Pump, Calm, Hold, Free, Drop, Restart, Crash, Bytes}
 use Rattle.iss_sb.specs.declared.effects.Claim.{Claim}
 use Rattle.iss_sb.specs.Evidence.{Module}
 use Rattle.iss_sb.specs.Laws.{IsLawful, IsSafe}
-use Rattle.iss_causes.specs.declared.causes.NodeEvent.{NodeEvent}
-use Rattle.iss_causes.specs.declared.causes.NodeEvent.TheVariants.{Packet as Gets, Propose as Proposes, Timeout as Fires, AskFrom as Seeks}
+use Rattle.iss_rules.specs.declared.events.NodeEvent.{NodeEvent}
+use Rattle.iss_rules.specs.declared.events.NodeEvent.TheVariants.{Packet as On_packet, Propose as On_propose, Timeout as On_timeout, AskFrom as On_ask}
 use Rattle.iss_rules.specs.Concrete.{rules_of, request_of}
 use Rattle.iss_theorems.specs.Ends.{HasCollided, HasEvidence, IsForgery, Shows}
 use Rattle.iss_rules.specs.Formats.{formats_of}
@@ -20,8 +20,8 @@ use Rattle.iss_model.specs.Node.{Dropped, Stepped, Taken, Turn, step}
 use Rattle.iss_theorems.specs.OneLog.{run_after}
 use Rattle.iss_rules.specs.SoundRules.{IsSoundRules}
 use Rattle.iss_rules.specs.Rules.{Rules}
-use Rattle.iss_causes.specs.Ends.{Collision, End, Forged}
-use Rattle.iss_model.specs.Run.{Happening, Held, Progress, after_step, at_core, begin_run, by_collision, by_forged, calms, claims_at, collision_in, delivered_to, delivers, delivers_each, done, early_of, ended_at, first_forged, goes_further, happens, loses, node_of, pumps, run, turned_to, unless, with_network}
+use Rattle.iss_rules.specs.Ends.{Collision, End, Forged}
+use Rattle.iss_model.specs.Run.{Happening, Held, Progress, after_step, apply_event, at_core, begin_run, by_collision, by_forged, calms, claims_at, collision_in, delivered_to, delivers, delivers_each, done, early_of, ended_at, first_forged, loses, node_of, pumps, run, run_event_if_open, turned_to, unless, with_network}
 use Rattle.iss_rules.specs.Setups.{IsSetupOf}
 use Rattle.iss_rules.proofs.Faithful.{IsFaithful}
 use Rattle.iss_model.specs.Runs.{AreAtCores}
@@ -77,7 +77,7 @@ module _ {Msg : Type 0} (s : Setup) (F : Formats Msg) (R : Rules) (M : Module Ms
 
   delivered-tells : (h : Held Msg) (k : ℕ) (o : Option Sent) → Tells (delivered_to s F R M h k o)
   delivered-tells h k None = still-tells h
-  delivered-tells h k (Some p) = at-tells (with_network h (settled h.net.network k)) p.to (Gets p.bytes)
+  delivered-tells h k (Some p) = at-tells (with_network h (settled h.net.network k)) p.to (On_packet p.bytes)
 
   unless-tells : (d : Happening Msg) (more : Held Msg → Happening Msg) → Tells d → ((g : Held Msg) → Tells (more g)) → (o : Option End) →
       Tells (unless o d more)
@@ -100,23 +100,23 @@ module _ {Msg : Type 0} (s : Setup) (F : Formats Msg) (R : Rules) (M : Module Ms
   loses-tells h k None = still-tells h
   loses-tells h k (Some p) = still-tells (with_network h (settled h.net.network k))
 
-  injects-tells : (h : Held Msg) (c : ℕ) (bytes : List ℕ) (b : Bool) → Tells (cond b (done h) (at_core s F R M h c (Gets bytes)))
+  injects-tells : (h : Held Msg) (c : ℕ) (bytes : List ℕ) (b : Bool) → Tells (cond b (done h) (at_core s F R M h c (On_packet bytes)))
   injects-tells h c bytes true = still-tells h
-  injects-tells h c bytes false = at-tells h c (Gets bytes)
+  injects-tells h c bytes false = at-tells h c (On_packet bytes)
 
-  happens-tells : (h : Held Msg) (e : Event) → Tells (happens s F R M h e)
-  happens-tells h (Asks_order c client number payload) =
-      at-tells h c (Gets (F.wrap (record { from = 255; epoch = 0; body = OfRequest (request_of s client number payload) })))
-  happens-tells h (Propose c) = at-tells h c Proposes
-  happens-tells h (Times_out c l) = at-tells h c (Fires l)
-  happens-tells h (Ask c peer) = at-tells h c (Seeks peer)
+  happens-tells : (h : Held Msg) (e : Event) → Tells (apply_event s F R M h e)
+  happens-tells h (Event_request c client number payload) =
+      at-tells h c (On_packet (F.wrap (record { from = 255; epoch = 0; body = OfRequest (request_of s client number payload) })))
+  happens-tells h (Propose c) = at-tells h c On_propose
+  happens-tells h (Event_timeout c l) = at-tells h c (On_timeout l)
+  happens-tells h (Ask c peer) = at-tells h c (On_ask peer)
   happens-tells h (Deliver k) = delivered-tells h k (nth h.net.network.packets k)
   happens-tells h (Lose k) = loses-tells h k (nth h.net.network.packets k)
   happens-tells h Pump = each-tells (due h.net.network) h
   happens-tells h (Calm m) = calms-tells m h
-  happens-tells h (Hold c) = still-tells (happens s F R M h (Hold c)).held
-  happens-tells h (Free c) = still-tells (happens s F R M h (Free c)).held
-  happens-tells h (Drop c) = still-tells (happens s F R M h (Drop c)).held
+  happens-tells h (Hold c) = still-tells (apply_event s F R M h (Hold c)).held
+  happens-tells h (Free c) = still-tells (apply_event s F R M h (Free c)).held
+  happens-tells h (Drop c) = still-tells (apply_event s F R M h (Drop c)).held
   happens-tells h (Restart c) = still-tells h
   happens-tells h (Crash c calls) = still-tells h
   happens-tells h (Bytes c bytes) = injects-tells h c bytes M.stopping
@@ -124,9 +124,9 @@ module _ {Msg : Type 0} (s : Setup) (F : Formats Msg) (R : Rules) (M : Module Ms
   abbrev ProgressTells : Progress Msg → Type 0
   ProgressTells p = (k : ℕ) (end : End) → p.ended ≡ Some (k, end) → Shows s F R M p.held end
 
-  further-tells : (p : Progress Msg) → ProgressTells p → (e : Event) (o : Option (ℕ × End)) → ProgressTells (goes_further o s F R M p e)
+  further-tells : (p : Progress Msg) → ProgressTells p → (e : Event) (o : Option (ℕ × End)) → ProgressTells (run_event_if_open o s F R M p e)
   further-tells p a e (Some end) = a
-  further-tells p a e None = λ k end q. happens-tells p.held e end (at k end (happens s F R M p.held e).ended q)
+  further-tells p a e None = λ k end q. happens-tells p.held e end (at k end (apply_event s F R M p.held e).ended q)
     where
       at : (k : ℕ) (end : End) (o : Option End) → ended_at p.event o ≡ Some (k, end) → o ≡ Some end
       at k end None z = absurd (cc)
@@ -134,14 +134,14 @@ module _ {Msg : Type 0} (s : Setup) (F : Formats Msg) (R : Rules) (M : Module Ms
 
   pub run-tells : (es : List Event) (p : Progress Msg) → ProgressTells p → ProgressTells (run s F R M p es)
   run-tells [] p a = a
-  run-tells (e ∷ es) p a = run-tells es (goes_further p.ended s F R M p e) (further-tells p a e p.ended)
+  run-tells (e ∷ es) p a = run-tells es (run_event_if_open p.ended s F R M p e) (further-tells p a e p.ended)
 
 -- a run that has ended goes no further
 pub run-stays : {Msg : Type 0} (s : Setup) (F : Formats Msg) (R : Rules) (M : Module Msg) (es : List Event) (p : Progress Msg) (end : ℕ × End) →
     p.ended ≡ Some end → run s F R M p es ≡ p
 run-stays s F R M [] p end q = refl
 run-stays s F R M (e ∷ es) p end q =
-    let same : goes_further p.ended s F R M p e ≡ p = ap (λ (o : Option (ℕ × End)). goes_further o s F R M p e) q in
+    let same : run_event_if_open p.ended s F R M p e ≡ p = ap (λ (o : Option (ℕ × End)). run_event_if_open o s F R M p e) q in
     ap (λ (z : Progress _). run s F R M z es) same ∙ run-stays s F R M es p end q
 
 pub has-evidence : {Msg : Type 0} (s : Setup) (M : Module Msg) → IsSetupOf M s → IsFaithful s (formats_of s M) M → IsLawful M →

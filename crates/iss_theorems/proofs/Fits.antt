@@ -7,13 +7,13 @@ use Rattle.iss_request.specs.Setup.{IsGoodSetup}
 use Rattle.iss_request.specs.declared.setups.Setup.{Setup}
 use Rattle.iss_sb.specs.Laws.{IsLawful, IsSafe}
 use Rattle.iss_sb.specs.Evidence.{Module, Separate, is_correct}
-use Rattle.iss_cluster.specs.Checkpoints.{scheme_of}
-use Rattle.iss_cluster.specs.Cluster.{Cluster, IsHashedLog, Message, Reach}
+use Rattle.iss_composition.specs.Checkpoints.{scheme_of}
+use Rattle.iss_composition.specs.Cluster.{Cluster, IsHashedLog, Message, Reach}
 use Rattle.iss_theorems.specs.Ends.{AreBooked, AreVoted}
 use Rattle.iss_rules.specs.Parcels.{Formats, OfModule, Parcel}
 use Rattle.iss_model.specs.Node.{Core, Early}
 use Rattle.iss_rules.specs.SoundRules.{IsSoundRules}
-use Rattle.iss_cluster.specs.Ordered.{Among}
+use Rattle.iss_composition.specs.Ordered.{Among}
 use Rattle.iss_rules.specs.Past.{log_of}
 use Rattle.iss_rules.specs.Rules.{Rules}
 use Rattle.iss_model.specs.Run.{Held, node_of}

@@ -7,16 +7,16 @@ use Rattle.iss_request.specs.declared.setups.Kind.TheVariants.{Byzantine}
 use Rattle.iss_request.specs.declared.setups.Policy.TheVariants.{Simple}
 use Rattle.iss_request.specs.declared.setups.Setup.{Setup}
 use Rattle.iss_schedule.specs.declared.schedules.Event.{Event}
-use Rattle.iss_schedule.specs.declared.schedules.Event.TheVariants.{Request as Asks_order, Propose, Calm, Bytes}
+use Rattle.iss_schedule.specs.declared.schedules.Event.TheVariants.{Request as Event_request, Propose, Calm, Bytes}
 use Rattle.iss_sb.specs.Evidence.{Module}
 use Rattle.iss_sb.specs.Statements.{wide_bytes}
 use Rattle.iss_rules.specs.Books.{Signed}
 use Rattle.iss_rules.specs.Concrete.{rules_of}
 use Rattle.iss_rules.specs.Rules.{Rules}
-use Rattle.iss_causes.specs.Ends.{Forged}
+use Rattle.iss_rules.specs.Ends.{Forged}
 use Rattle.iss_model.specs.Run.{Progress, begin_run, run}
 use Rattle.iss_model.proofs.Example.{first_told, light, plain_request, short}
-use Rattle.iss_cluster.proofs.Signing.{Word, claim_of, signing}
+use Rattle.iss_composition.proofs.Signing.{Word, claim_of, signing}
 
 abbrev pub four : Setup
 four = record {
@@ -56,26 +56,26 @@ abbrev pub claim : ℕ → Signed
 claim leader = record { by = leader; statement = (claim_of ((rules_of four).params [] 0 leader) leader (record { 0 = leader }, batch)).statement }
 
 -- node 0 casts, and all take its message
-honest : (after (Asks_order 0 0 0 (170 ∷ []) ∷ Propose 0 ∷ Calm 5 ∷ [])).ended ≡ None
+honest : (after (Event_request 0 0 0 (170 ∷ []) ∷ Propose 0 ∷ Calm 5 ∷ [])).ended ≡ None
 unfolding wide_bytes spell_value spell_batch spell_count spell_request
 honest = refl
 
-booked : (after (Asks_order 0 0 0 (170 ∷ []) ∷ Propose 0 ∷ Calm 5 ∷ [])).held.signed ≡ claim 0 ∷ []
+booked : (after (Event_request 0 0 0 (170 ∷ []) ∷ Propose 0 ∷ Calm 5 ∷ [])).held.signed ≡ claim 0 ∷ []
 unfolding wide_bytes spell_value spell_batch spell_count spell_request
 booked = refl
 
 -- the message again, from nowhere
-repeated : (after (Asks_order 0 0 0 (170 ∷ []) ∷ Propose 0 ∷ Bytes 1 (told 0) ∷ [])).ended ≡ None
+repeated : (after (Event_request 0 0 0 (170 ∷ []) ∷ Propose 0 ∷ Bytes 1 (told 0) ∷ [])).ended ≡ None
 unfolding wide_bytes spell_value spell_batch spell_count spell_request
 repeated = refl
 
 -- before node 0 has signed it, it is forged, and the run ends: what follows does not happen
-forged : (after (Bytes 1 (told 0) ∷ Asks_order 0 0 0 (170 ∷ []) ∷ Propose 0 ∷ [])).ended ≡ Some
+forged : (after (Bytes 1 (told 0) ∷ Event_request 0 0 0 (170 ∷ []) ∷ Propose 0 ∷ [])).ended ≡ Some
     (0, Forged (claim_of ((rules_of four).params [] 0 0) 0 (record { 0 = 0 }, batch)))
 unfolding wide_bytes spell_value spell_batch spell_count spell_request
 forged = refl
 
-ended : (after (Bytes 1 (told 0) ∷ Asks_order 0 0 0 (170 ∷ []) ∷ Propose 0 ∷ [])).event ≡ 1
+ended : (after (Bytes 1 (told 0) ∷ Event_request 0 0 0 (170 ∷ []) ∷ Propose 0 ∷ [])).event ≡ 1
 unfolding wide_bytes spell_value spell_batch spell_count spell_request
 ended = refl
 

@@ -2,7 +2,7 @@
 use Rattle.std.proofs.Common.{◌≡◌, ℕ, List, [], ◌∷◌, inl, inr, refl}
 use Rattle.iss_request.specs.declared.ids.ReqId.{ReqId}
 use Rattle.iss_schedule.specs.declared.schedules.Event.{Event}
-use Rattle.iss_schedule.specs.declared.schedules.Event.TheVariants.{Request as Asks_order, Propose, Timeout as Times_out, Calm}
+use Rattle.iss_schedule.specs.declared.schedules.Event.TheVariants.{Request as Event_request, Propose, Timeout as Event_timeout, Calm}
 use Rattle.iss_theorems.specs.Conserved.{IsInOnePlace, WasAsked, first, second, third}
 use Rattle.iss_model.specs.Node.{Core}
 use Rattle.iss_model.specs.Run.{begin_run, run}
@@ -15,7 +15,7 @@ core : List Event → ℕ → Core Word
 core events i = (run plain short easy telling (begin_run plain) events).held.net.cores i
 
 abbrev asks : Event
-asks = Asks_order 0 0 0 (170 ∷ [])
+asks = Event_request 0 0 0 (170 ∷ [])
 
 -- it was taken, also where it is asked for again later
 taken : WasAsked plain short easy telling (begin_run plain) (asks ∷ Propose 0 ∷ asks ∷ []) 0 x
@@ -44,13 +44,13 @@ unfolding core
 ordered = first (inl refl) (λ h. h) (λ h. h)
 
 -- or its slot became nil, and it waits again
-returned : IsInOnePlace easy telling 0 (core (asks ∷ Propose 0 ∷ Times_out 0 (record { 0 = 0 }) ∷ []) 0) x
+returned : IsInOnePlace easy telling 0 (core (asks ∷ Propose 0 ∷ Event_timeout 0 (record { 0 = 0 }) ∷ []) 0) x
 unfolding core
 returned = second (λ h. h) (inl refl) (λ h. h)
 
 -- as it does in the next epoch, in which another node owns it
 abbrev next_epoch : List Event
-next_epoch = asks ∷ Propose 0 ∷ Times_out 0 (record { 0 = 0 }) ∷ Propose 1 ∷ Propose 2 ∷ Calm 10 ∷ Propose 0 ∷ Calm 10 ∷ []
+next_epoch = asks ∷ Propose 0 ∷ Event_timeout 0 (record { 0 = 0 }) ∷ Propose 1 ∷ Propose 2 ∷ Calm 10 ∷ Propose 0 ∷ Calm 10 ∷ []
 
 waits_on : IsInOnePlace easy telling 0 (core next_epoch 0) x
 unfolding core

@@ -19,8 +19,8 @@ use Rattle.iss_sb.specs.declared.effects.Params.{Params}
 use Rattle.iss_sb.specs.Evidence.{Item, Module}
 use Rattle.iss_sb.specs.Laws.{ComesWith, GoesWith, IsSignedBy, SignsEach, SignsOnce, WasSeen}
 use Rattle.iss_sb.specs.Legal.{AreMade}
-use Rattle.iss_causes.specs.declared.causes.NodeEvent.{NodeEvent}
-use Rattle.iss_causes.specs.declared.causes.NodeEvent.TheVariants.{Packet as Gets}
+use Rattle.iss_rules.specs.declared.events.NodeEvent.{NodeEvent}
+use Rattle.iss_rules.specs.declared.events.NodeEvent.TheVariants.{Packet as On_packet}
 use Rattle.iss_rules.specs.Concrete.{rules_of}
 use Rattle.iss_rules.specs.Formats.{formats_of}
 use Rattle.iss_rules.specs.Parcels.{Body, Formats, OfModule, OfPiece, OfVote, Parcel}
@@ -34,7 +34,7 @@ use Rattle.iss_rules.proofs.Layouts.{sound-rules}
 use Rattle.iss_rules.proofs.Logs.{before-later, takes-later}
 use Rattle.iss_rules.proofs.Windows.{AreWindows, are-windows}
 use Rattle.iss_model.specs.Frames.{Frame, frame_of}
-use Rattle.iss_model.specs.Node.{Core, Early, Turn, adopts_piece, claims_in, counted, in_next_epoch, inputs, onward, own_claims, rests, settles, takes_each, vote_on}
+use Rattle.iss_model.specs.Node.{Core, Early, Turn, adopts_piece, advance_epochs, claims_in, counted, in_next_epoch, own_claims, step_unjudged, takes_each, then_turn, unchanged, vote_on}
 use Rattle.iss_model.specs.Run.{claims_at}
 use Rattle.iss_model.specs.Sound.{IsSoundCore}
 use Rattle.iss_model.specs.Views.{claims_of_body, claims_of_parcel}
@@ -71,7 +71,7 @@ module _ (R : Rules) (me : ℕ) where
 module _ {Msg : Type 0} (s : Setup) (F : Formats Msg) (R : Rules) (M : Module Msg) (me : ℕ) (sound : IsSoundRules s M R) (windows : AreWindows R)
     (once : SignsOnce M) (signs : (leaf : ℕ) (statement : List ℕ) → R.signature me leaf statement ≡ signature_of (node_secret me) s.keys leaf statement) where
   abbrev W : Frame Msg
-  W = record { setup = s; formats = F; rules = R; meaning = M }
+  W = record { setup = s; formats = F; rules = R; spec = M }
 
   slots : HasSlots R
   slots = record { some = sound.some_slots; most = sound.most }
@@ -179,7 +179,7 @@ module _ {Msg : Type 0} (s : Setup) (F : Formats Msg) (R : Rules) (M : Module Ms
           (more-known row signed.statements heard (R.params bf c.past.epoch j) (taken_in c.past j) (k.instances j))
     ])
 
-    inputs-account : Accounts behind heard (inputs F R M me c l input).core
+    inputs-account : Accounts behind heard (step_unjudged F R M me c l input).core
     inputs-account = record {
       core = inputs-sound F R M me c l input k.core;
       each =
@@ -206,7 +206,7 @@ module _ {Msg : Type 0} (s : Setup) (F : Formats Msg) (R : Rules) (M : Module Ms
     own : (y : Claim) → In y t.own → Known R me row heard y
 
   module _ (first : List (List ℕ)) (heard : List Claim) where
-    rests-fair : (c : Core Msg) → Accounts first heard c → Accounted first heard (rests c)
+    rests-fair : (c : Core Msg) → Accounts first heard c → Accounted first heard (unchanged c)
     rests-fair c k = record { row = first; kept = λ y h. h; account = k; own = λ y i. absurd i }
 
     abbrev Comes : Turn Msg → ℕ → Input Msg → Type 0
@@ -264,14 +264,14 @@ module _ {Msg : Type 0} (s : Setup) (F : Formats Msg) (R : Rules) (M : Module Ms
     early-comes t x sub leads y h =
         sub y (subst (λ (b : Bool). In y (cond b (M.claims (params_of R M me t.core.past x.leader) x.from x.msg) [])) (sym leads) h)
 
-    settles-fair : (t : Turn Msg) → Accounted first heard t → ((y : Claim) → In y (settles F R M me t).early → In y heard) →
-        Accounted first heard (settles F R M me t)
+    settles-fair : (t : Turn Msg) → Accounted first heard t → ((y : Claim) → In y (advance_epochs F R M me t).early → In y heard) →
+        Accounted first heard (advance_epochs F R M me t)
     settles-fair t k sub = settles-holds F R M me (Accounted first heard) Comes
         (λ u l input h fit come. takes-fair u l input h fit.leads come) ends-fair reads-fair t k
         (λ done u x i h q r. early-comes u x (λ y m. sub y (r y m)))
 
     each-fair : (e : ℕ) (xs : List (Early Msg)) (t : Turn Msg) → Accounted first heard t → ((y : Claim) → In y (takes_each F R M me e xs t.core).early → In y heard) →
-        Accounted first heard (onward t (takes_each F R M me e xs))
+        Accounted first heard (then_turn t (takes_each F R M me e xs))
     each-fair e xs t k sub = each-holds F R M me (Accounted first heard) Comes
         (λ u l input h fit come. takes-fair u l input h fit.leads come) ends-fair reads-fair e xs t k
         (λ u x i h q r. early-comes u x (λ y m. sub y (r y m)))
@@ -347,13 +347,13 @@ module _ {Msg : Type 0} (s : Setup) (F : Formats Msg) (R : Rules) (M : Module Ms
   module _ (first : List (List ℕ)) (heard : List Claim) (c : Core Msg) (k : Accounts first heard c) where
     -- what is read of bytes
     read-of : (bytes : List ℕ) (q : Parcel Msg) (b : Body Msg) → F.unwrap bytes ≡ Some q → q.body ≡ b → (y : Claim) →
-        In y (claims_of_body R M me c q.from q.epoch b) → In y (claims_at F R M me c (Gets bytes))
+        In y (claims_of_body R M me c q.from q.epoch b) → In y (claims_at F R M me c (On_packet bytes))
     read-of bytes q b un is y h =
         subst (λ (o : Option (Parcel Msg)). In y (claims_of_parcel R M me c o)) (sym un)
         (subst (λ (z : Body Msg). In y (claims_of_body R M me c q.from q.epoch z)) (sym is) h)
 
     message-read : (bytes : List ℕ) (q : Parcel Msg) (l : ℕ) (msg : Msg) → F.unwrap bytes ≡ Some q → q.body ≡ OfModule l msg → q.epoch ≡ c.past.epoch →
-        leads_in R M me c.past l ≡ true → (y : Claim) → In y (M.claims (params_of R M me c.past l) q.from msg) → In y (claims_at F R M me c (Gets bytes))
+        leads_in R M me c.past l ≡ true → (y : Claim) → In y (M.claims (params_of R M me c.past l) q.from msg) → In y (claims_at F R M me c (On_packet bytes))
     message-read bytes q l msg un is e leads y h =
         read-of bytes q (OfModule l msg) un is y
         (subst (λ (b : Bool). In y (cond b (claims_in R M me c.past q.from l msg) [])) (sym (eq-eqb q.epoch c.past.epoch e))
@@ -375,27 +375,27 @@ module _ {Msg : Type 0} (s : Setup) (F : Formats Msg) (R : Rules) (M : Module Ms
         ((y : Claim) → In y t.early → In y heard) → Accounted first heard t
     took-fair event t (received {bytes} q l msg u un b e i is) now early =
         let input : Input Msg = Receive (record { 0 = q.from }) msg in
-        let first_move : Accounted first heard (inputs F R M me c l input) =
-        takes-fair first heard (rests c) l input (rests-fair first heard c k) i.leads (λ leads y h. now y (message-read bytes q l msg un b e leads y h)) in
-        is-turn t (settles F R M me u) is
-        (settles-fair first heard u (is-turn u (inputs F R M me c l input) i.is first_move)
+        let first_move : Accounted first heard (step_unjudged F R M me c l input) =
+        takes-fair first heard (unchanged c) l input (rests-fair first heard c k) i.leads (λ leads y h. now y (message-read bytes q l msg un b e leads y h)) in
+        is-turn t (advance_epochs F R M me u) is
+        (settles-fair first heard u (is-turn u (step_unjudged F R M me c l input) i.is first_move)
         (λ y m. early y (subst (λ (z : Turn Msg). In y z.early) (sym is) m)))
     took-fair event t (kept q l msg u b e i) now early =
         is-turn t _ i.is (rests-fair first heard _ (same-core _ (early-sound F R M me c _ k.core) refl refl refl refl))
     took-fair event t (asked q r u b i) now early =
         let d : Core Msg = record c { waiting = c.waiting ++ r ∷ [] } in
         let core : IsSoundCore R M me d = subst (λ (z : Turn Msg). IsSoundCore R M me z.core) i.is (requested-sound F R M me c r t k.core i) in
-        is-turn t (rests d) i.is (rests-fair first heard d (same-core d core refl refl refl refl))
+        is-turn t (unchanged d) i.is (rests-fair first heard d (same-core d core refl refl refl refl))
     took-fair event t (cast slot u i is) now early =
         let d : Core Msg = casting F R M me c slot in
-        let first_move = takes-fair first heard (rests d) me _ (rests-fair first heard d (same-core d (casting-sound F R M me c slot k.core) refl refl refl refl)) i.leads
+        let first_move = takes-fair first heard (unchanged d) me _ (rests-fair first heard d (same-core d (casting-sound F R M me c slot k.core) refl refl refl refl)) i.leads
         (λ leads y h. absurd h) in
-        is-turn t (settles F R M me u) is
+        is-turn t (advance_epochs F R M me u) is
         (settles-fair first heard u (is-turn u _ i.is first_move) (λ y m. early y (subst (λ (z : Turn Msg). In y z.early) (sym is) m)))
     took-fair event t (voted {bytes} q v u b i) now early =
         let a = and-true (R.verifies v.by.0 (R.voted v.epoch.0 v.chain v.requests) v.sig) true i.signed in
         let new : IsHeardVote heard v = record { verified = a.0; told = now (claim_of_vote R v) (read-of bytes q (OfVote v) u b (claim_of_vote R v) (inl refl)) } in
-        is-turn t (rests (counted R c v)) i.is (rests-fair first heard (counted R c v) (counted-account first heard c v k new))
+        is-turn t (unchanged (counted R c v)) i.is (rests-fair first heard (counted R c v) (counted-account first heard c v k new))
     took-fair event t (handed q cert u b i) now early =
         is-turn t _ i.is (record {
           row = first;
@@ -416,8 +416,8 @@ module _ {Msg : Type 0} (s : Setup) (F : Formats Msg) (R : Rules) (M : Module Ms
     took-fair event t (sought peer is) now early =
         is-turn t _ is (record { row = first; kept = λ y h. h; account = k; own = λ y m. absurd m })
     took-fair event t (fired l u i is) now early =
-        let first_move = takes-fair first heard (rests c) l.0 _ (rests-fair first heard c k) i.leads (λ leads y h. absurd h) in
-        is-turn t (settles F R M me u) is
+        let first_move = takes-fair first heard (unchanged c) l.0 _ (rests-fair first heard c k) i.leads (λ leads y h. absurd h) in
+        is-turn t (advance_epochs F R M me u) is
         (settles-fair first heard u (is-turn u _ i.is first_move) (λ y m. early y (subst (λ (z : Turn Msg). In y z.early) (sym is) m)))
 
   -- ---- a life

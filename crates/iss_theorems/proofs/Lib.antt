@@ -26,5 +26,11 @@ pub mod Doubles
 pub mod Booked
 pub mod Evidence
 pub mod Leaves
-pub mod Happened
+pub mod EventResult
 pub mod Lives
+pub mod Courses
+pub mod Entering
+pub mod CourseForging
+pub mod Numbers
+pub mod Told
+pub mod Whole

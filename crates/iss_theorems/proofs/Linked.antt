@@ -1,14 +1,14 @@
 -- What the steps hash of logs is what chains are made of.
 use Rattle.std.proofs.Common.{◌≡◌, ◌⊎◌, inl, inr, ℕ, List, [], ◌∷◌, length, reverse, refl, sym, ap, ◌∙◌, subst}
-use Rattle.iss_base.specs.Lists.{Extends, In, over}
+use Rattle.iss_base.specs.Lists.{Extends, In, push_all}
 use Rattle.iss_base.proofs.Lists.{in_left, in_right}
 use Rattle.iss_log.specs.Chains.{chain_of, linked, strings_from, strings_of, value_link}
 use Rattle.iss_log.proofs.ChainLemmas.{chain-append}
 use Rattle.iss_request.specs.Digest.{digest}
 use Rattle.iss_request.specs.declared.requests.Value.{Value}
 use Rattle.iss_request.specs.declared.setups.Setup.{Setup}
-use Rattle.iss_cluster.specs.Checkpoints.{scheme_of}
-use Rattle.iss_cluster.specs.Cluster.{chain, chain_strings}
+use Rattle.iss_composition.specs.Checkpoints.{scheme_of}
+use Rattle.iss_composition.specs.Cluster.{chain, chain_strings}
 use Rattle.iss_model.specs.Node.{joined}
 use Rattle.iss_model.proofs.Casts.{joined-newer}
 use Rattle.iss_rules.proofs.Reversed.{newest-last, over-turned}
@@ -22,7 +22,7 @@ module _ (s : Setup) where
       (sym (chain-append s.version (digest []) (reverse older) (v ∷ [])) ∙ ap (λ (t : List Value). chain_of s.version t) (sym (newest-last v older)))
 
   -- what is hashed for values behind a log
-  pub over-hashed : (vs log : List Value) (x : List ℕ) → In x (chain_strings (scheme_of s) (over vs log)) →
+  pub over-hashed : (vs log : List Value) (x : List ℕ) → In x (chain_strings (scheme_of s) (push_all vs log)) →
       In x (chain_strings (scheme_of s) log) ⊎ In x (strings_from s.version (chain_of s.version (reverse log)) vs)
   over-hashed [] log x h = inl h
   over-hashed (v ∷ vs) log x h =
@@ -47,6 +47,6 @@ module _ (s : Setup) where
       In x (chain_strings (scheme_of s) old) ⊎ In x (strings_from s.version (chain_of s.version (reverse old)) (reverse (joined (length old) new)))
   grown-hashed old new e x h =
       let fresh : joined (length old) new ≡ e.0 = ap (λ (t : List Value). joined (length old) t) e.1 ∙ joined-newer e.0 old in
-      let whole : new ≡ over (reverse (joined (length old) new)) old =
-      e.1 ∙ (sym (over-turned e.0 old) ∙ ap (λ (t : List Value). over (reverse t) old) (sym fresh)) in
+      let whole : new ≡ push_all (reverse (joined (length old) new)) old =
+      e.1 ∙ (sym (over-turned e.0 old) ∙ ap (λ (t : List Value). push_all (reverse t) old) (sym fresh)) in
       over-hashed (reverse (joined (length old) new)) old x (subst (λ (t : List Value). In x (chain_strings (scheme_of s) t)) whole h)

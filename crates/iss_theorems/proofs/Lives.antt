@@ -7,7 +7,7 @@ use Rattle.iss_request.specs.declared.setups.Setup.{Setup}
 use Rattle.iss_schedule.specs.declared.schedules.Event.{Event}
 use Rattle.iss_sb.specs.Evidence.{Module, is_correct}
 use Rattle.iss_sb.specs.Laws.{SignsOnce}
-use Rattle.iss_causes.specs.declared.causes.NodeEvent.{NodeEvent}
+use Rattle.iss_rules.specs.declared.events.NodeEvent.{NodeEvent}
 use Rattle.iss_rules.specs.Books.{Signed}
 use Rattle.iss_rules.specs.Concrete.{rules_of}
 use Rattle.iss_rules.specs.Formats.{formats_of}
@@ -18,13 +18,13 @@ use Rattle.iss_model.specs.Frames.{Frame}
 use Rattle.iss_model.specs.Node.{Core, Taken, Turn, step}
 use Rattle.iss_model.specs.Run.{Held, as_signed, begin_run, node_of, run, turned_to, with_network}
 use Rattle.iss_theorems.specs.Leaves.{AreLives, Deed, IsLife, core_behind, sent}
-use Rattle.iss_theorems.proofs.Happened.{run-holds}
+use Rattle.iss_theorems.proofs.EventResult.{run-holds}
 use Rattle.iss_theorems.proofs.Leaves.{signs-once-each}
 use Rattle.iss_theorems.proofs.Tests.{as_signed-append}
 
 module _ {Msg : Type 0} (s : Setup) (F : Formats Msg) (R : Rules) (M : Module Msg) where
   abbrev W : Frame Msg
-  W = record { setup = s; formats = F; rules = R; meaning = M }
+  W = record { setup = s; formats = F; rules = R; spec = M }
 
   -- the book has it of what a correct core sent
   record IsSentBy (deeds : ℕ → List (Deed Msg)) (x : Signed) : Type 0 where

@@ -1,6 +1,6 @@
 -- The run of every list of events is one of a cluster, and the logs that it prints are of one log.
 use Rattle.std.proofs.Common.{inl, inr, List, reverse, refl}
-use Rattle.iss_request.specs.declared.requests.Value.TheVariants.{Batch as Holds}
+use Rattle.iss_request.specs.declared.requests.Value.TheVariants.{Batch as Value_batch}
 use Rattle.iss_request.specs.declared.setups.Setup.{Setup}
 use Rattle.iss_schedule.specs.declared.schedules.Event.{Event}
 use Rattle.iss_sb.specs.Evidence.{Module}
@@ -8,14 +8,14 @@ use Rattle.iss_sb.specs.Laws.{IsLawful, IsSafe}
 use Rattle.iss_rules.specs.Concrete.{rules_of}
 use Rattle.iss_rules.specs.Formats.{formats_of}
 use Rattle.iss_theorems.specs.OneLog.{IsClusterRun, IsOneLog, pasts_after, run_after}
-use Rattle.iss_cluster.specs.Ordered.{Ordered}
+use Rattle.iss_composition.specs.Ordered.{Ordered}
 use Rattle.iss_rules.specs.Past.{log_of}
 use Rattle.iss_rules.specs.Setups.{IsSetupOf}
 use Rattle.iss_rules.proofs.Faithful.{IsFaithful}
 use Rattle.iss_model.specs.Runs.{AreAtCores}
 use Rattle.iss_rules.proofs.Layouts.{sound-rules}
 use Rattle.iss_model.proofs.Printed.{once-turned, turned, turned-cut}
-use Rattle.iss_cluster.proofs.Checkpoints.{exact-of}
+use Rattle.iss_composition.proofs.Checkpoints.{exact-of}
 use Rattle.iss_theorems.proofs.Fits.{Premises}
 use Rattle.iss_theorems.proofs.Runs.{run-fits, run-grows, run-ordered}
 use Rattle.iss_theorems.proofs.Voting.{rules-voting}
@@ -60,6 +60,6 @@ module _ {Msg : Type 0} (s : Setup) (M : Module Msg) (h : IsSetupOf M s) (faithf
         prefix = λ i j oki okj. elim (o.one i j oki okj) [ inl x ↦ inl (turned _ _ x) | inr x ↦ inr (turned _ _ x) ];
         once = λ i ok. once-turned (log_of (rules_of s) M i (pasts_after s M events i)) (o.once i ok);
         valid = λ i ok front back b is. o.valid i ok (reverse front) b
-            (turned-cut (log_of (rules_of s) M i (pasts_after s M events i)) front back (Holds b) is);
+            (turned-cut (log_of (rules_of s) M i (pasts_after s M events i)) front back (Value_batch b) is);
         grows = λ more low_more i ok. turned _ _ ((run-grows s (formats_of s M) (rules_of s) M given events more low low_more).logs i ok);
       }

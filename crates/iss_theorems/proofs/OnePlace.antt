@@ -10,30 +10,30 @@ use Rattle.iss_request.specs.declared.ids.Slot.{Slot}
 use Rattle.iss_request.specs.declared.requests.Batch.{Batch}
 use Rattle.iss_request.specs.declared.requests.Request.{Request}
 use Rattle.iss_request.specs.declared.requests.Value.{Value}
-use Rattle.iss_request.specs.declared.requests.Value.TheVariants.{Batch as Holds}
+use Rattle.iss_request.specs.declared.requests.Value.TheVariants.{Batch as Value_batch}
 use Rattle.iss_request.specs.declared.setups.Setup.{Setup}
 use Rattle.iss_sb.specs.Evidence.{IsReached, IsString, Module, Separate, accepts, is_correct}
 use Rattle.iss_sb.specs.Laws.{IsSafe}
-use Rattle.iss_cluster.specs.Cluster.{Backed, Cluster, IsTrueLog, Scheme, world_of}
+use Rattle.iss_composition.specs.Cluster.{Backed, Cluster, IsTrueLog, Scheme, world_of}
 use Rattle.iss_rules.specs.Concrete.{number_of, plan_at, rules_of, slots_at, start_at}
 use Rattle.iss_theorems.specs.Conserved.{AcceptsOnce, One, first, second, third}
 use Rattle.iss_rules.specs.Judge.{marks}
 use Rattle.iss_rules.proofs.Judged.{Judged, Accepted, accepted, entry-judged, one-slot, owner-of, unordered-of}
 use Rattle.iss_model.specs.Node.{flown}
 use Rattle.iss_rules.specs.SoundRules.{IsSoundRules}
-use Rattle.iss_cluster.specs.Ordered.{Among}
+use Rattle.iss_composition.specs.Ordered.{Among}
 use Rattle.iss_rules.specs.Past.{Past, before, before_at, cell, cut_at, epoch_at, leader_at, log_of, params_at, start_by, start_of}
 use Rattle.iss_rules.specs.Rules.{Rules}
 use Rattle.iss_rules.specs.Setups.{IsSetupOf}
-use Rattle.iss_cluster.proofs.Agree.{far-start, in-world, own-true, placed, right, separate-part, strings-are, world-at}
+use Rattle.iss_composition.proofs.Agree.{far-start, in-world, own-true, placed, right, separate-part, strings-are, world-at}
 use Rattle.iss_rules.proofs.Epochs.{cut-extends, epoch-high, epoch-low, epoch-unique, length-cut, start-cut, start-mono, start-within}
 use Rattle.iss_model.proofs.Filed.{Stood, flown-entry, not-nil}
-use Rattle.iss_cluster.proofs.Good.{Good}
+use Rattle.iss_composition.proofs.Good.{Good}
 use Rattle.iss_rules.proofs.Ids.{log_ids-extends}
 use Rattle.iss_rules.proofs.Layouts.{sound-rules}
 use Rattle.iss_rules.proofs.Logs.{log-chain}
 use Rattle.iss_rules.proofs.Longest.{cell-epoch}
-use Rattle.iss_cluster.proofs.Once.{Found, Valid, find, in-before, valid}
+use Rattle.iss_composition.proofs.Once.{Found, Valid, find, in-before, valid}
 use Rattle.iss_model.proofs.Places.{Filed, Gone, HasSegments, IsPlaced, WasCast}
 
 module _ {Msg : Type 0} (s : Setup) (S : Scheme) (R : Rules) (M : Module Msg) (safe : IsSafe M) (once : AcceptsOnce M)
@@ -106,16 +106,16 @@ module _ {Msg : Type 0} (s : Setup) (S : Scheme) (R : Rules) (M : Module Msg) (s
     at = record { 0 = length older }
 
     -- what stands in the log there, the node accepted there
-    own-accepted : (b : Batch) → Backed s R M w.pasts older (Holds b) → In {A = Slot × Batch} (at, b) here
+    own-accepted : (b : Batch) → Backed s R M w.pasts older (Value_batch b) → In {A = Slot × Batch} (at, b) here
     own-accepted b st =
-        let delivered = in-world s S R M safe sound w sep g older st.node st.correct (length older) (Holds b) st.is in
+        let delivered = in-world s S R M safe sound w sep g older st.node st.correct (length older) (Value_batch b) st.is in
         let told : In {A = Slot × Batch} (at, b) there =
-        (placed s S R M safe sound w sep g older (Holds b) st).integrity st.node at b leader-correct
+        (placed s S R M safe sound w sep g older (Value_batch b) st).integrity st.node at b leader-correct
         (right s S R M safe sound w sep g older st.node st.correct) delivered in
         subst (λ (xs : List (Slot × Batch)). In (at, b) xs) there-here told
 
     -- and nothing else
-    own-batch : (b : Batch) → Backed s R M w.pasts older (Holds b) → (c : Batch) → In {A = Slot × Batch} (at, c) here → c ≡ b
+    own-batch : (b : Batch) → Backed s R M w.pasts older (Value_batch b) → (c : Batch) → In {A = Slot × Batch} (at, c) here → c ≡ b
     own-batch b st c held =
         let d = epoch_at R older in
         let l = leader_at R older in
@@ -128,8 +128,8 @@ module _ {Msg : Type 0} (s : Setup) (S : Scheme) (R : Rules) (M : Module Msg) (s
         λ z k. subst (λ (xs : List (Slot × Batch)). In (at, z) xs) (sym there-here) k in
         once (params_at R older) (world_of s w.pasts d l) good reached apart leader-correct at c b (back c held) (back b (own-accepted b st))
 
-  stood-backed : (n : ℕ) (st : Stood log n) → Backed s R M w.pasts st.older (Holds st.batch)
-  stood-backed n st = (chain-part (Backed s R M w.pasts) st.part.0 (Holds st.batch) st.older
+  stood-backed : (n : ℕ) (st : Stood log n) → Backed s R M w.pasts st.older (Value_batch st.batch)
+  stood-backed n st = (chain-part (Backed s R M w.pasts) st.part.0 (Value_batch st.batch) st.older
       (subst (λ (t : List Value). IsTrueLog s R M w.pasts t) st.part.1 true_log)).1
 
   lower : (older : List Value) (v : Value) → Extends (v ∷ older) log → Extends older log
@@ -139,14 +139,14 @@ module _ {Msg : Type 0} (s : Setup) (S : Scheme) (R : Rules) (M : Module Msg) (s
   pub landed : (x : ReqId) → Gone R M i past x → In x (log_ids log)
   landed x gone =
       let st : Stood log gone.entry.0.0 = not-nil log gone.entry.0.0 gone.low gone.is in
-      let own : IsOwn st.older gone.epoch = own-place st.older (lower st.older (Holds st.batch) st.part) gone.epoch gone.begun gone.entry gone.cast st.slot in
+      let own : IsOwn st.older gone.epoch = own-place st.older (lower st.older (Value_batch st.batch) st.part) gone.epoch gone.begun gone.entry gone.cast st.slot in
       let slot : gone.entry.0 ≡ record { 0 = length st.older } = ap (λ (n : ℕ). let z : Slot = record { 0 = n } in z) (sym st.slot) in
       let held : In {A = Slot × Batch} (record { 0 = length st.older }, gone.entry.1) (accepts (past.evidence gone.epoch i)) =
       subst (λ (z : Slot). In {A = Slot × Batch} (z, gone.entry.1) (accepts (past.evidence gone.epoch i))) slot gone.cast.held in
       let same : gone.entry.1 ≡ st.batch = own-batch st.older gone.epoch own st.batch (stood-backed gone.entry.0.0 st) gone.entry.1 held in
       let within : In x (ids st.batch) = subst (λ (b : Batch). In x (ids b)) same gone.within in
       subst (λ (t : List Value). In x (log_ids t)) (sym st.part.1)
-      (log_ids-extends x st.part.0 (Holds st.batch ∷ st.older) (in_left x (ids st.batch) (log_ids st.older) within))
+      (log_ids-extends x st.part.0 (Value_batch st.batch ∷ st.older) (in_left x (ids st.batch) (log_ids st.older) within))
 
   -- what is in flight is not in the log
   module _ (waiting : List Request) (flight : List (Slot × Batch)) (h : Filed R M i past waiting flight) where
@@ -162,11 +162,11 @@ module _ {Msg : Type 0} (s : Setup) (S : Scheme) (R : Rules) (M : Module Msg) (s
     judged : Judged R bf e i held_here
     judged = g.judged i e i ok (omega arith)
 
-    begun-here : (low : List Value) (b : Batch) → Extends (Holds b ∷ low) log → epoch_at R low ≤ e
+    begun-here : (low : List Value) (b : Batch) → Extends (Value_batch b ∷ low) log → epoch_at R low ≤ e
     begun-here low b part =
         let P : List Value → Value → Type 0 = λ o u. cell R M i past o ≡ Some u in
-        let whole : Chain P (part.0 ++ (Holds b ∷ low)) = subst (λ (t : List Value). Chain P t) part.1 (log-chain R M i past) in
-        cell-epoch R M i past (record { evidence = h.unborn; adopted = h.settled.all }) low (Holds b) (chain-part P part.0 (Holds b) low whole).1
+        let whole : Chain P (part.0 ++ (Value_batch b ∷ low)) = subst (λ (t : List Value). Chain P t) part.1 (log-chain R M i past) in
+        cell-epoch R M i past (record { evidence = h.unborn; adopted = h.settled.all }) low (Value_batch b) (chain-part P part.0 (Value_batch b) low whole).1
 
     pub unlanded : (x : ReqId) → In x (flown flight) → In x (log_ids log) → ⊥
     unlanded x flying logged =
@@ -174,7 +174,7 @@ module _ {Msg : Type 0} (s : Setup) (S : Scheme) (R : Rules) (M : Module Msg) (s
         let cast : WasCast R M i past e f.0 = h.cast f.0 f.1 in
         let found : Found s S R M safe sound w sep g x log = find s S R M safe sound w sep g x log true_log logged in
         let low = found.older in
-        let part : Extends low log = lower low (Holds found.batch) found.part in
+        let part : Extends low log = lower low (Value_batch found.batch) found.part in
         let j = entry-judged R bf e i held_here judged f.0 cast.held in
         let mine : Accepted R bf e i (marks j.1) f.0.1 = accepted R bf e i (marks j.1) f.0.1 j.3 in
         let far : start_of R log e ≤ length log = far-start s S R M safe sound w sep g i ok e (omega arith) in
@@ -188,13 +188,13 @@ module _ {Msg : Type 0} (s : Setup) (S : Scheme) (R : Rules) (M : Module Msg) (s
                     absurd (omega (arith, st, y.1, start-mono R low (suc (epoch_at R low)) e t.1, epoch-high R seg.slots.some low))
               ] in
               unordered-of R bf e i (marks j.1) f.0.1 mine x f.2
-              (in-before (start_of R log e) (Holds found.batch ∷ low) log x found.part below (in_left x (ids found.batch) (log_ids low) found.within))
+              (in-before (start_of R log e) (Value_batch found.batch ∷ low) log x found.part below (in_left x (ids found.batch) (log_ids low) found.within))
           | inl t ↦
               -- of this epoch: its owner is this node, which accepted it at one slot
               let begun : epoch_at R low ≤ e = begun-here low found.batch found.part in
               let ee : epoch_at R low ≡ e = omega (arith, begun, t.1) in
               let start : before_at R low ≡ bf = sym (cut-extends R low log (epoch_at R low) part (epoch-low R low)) ∙ ap (λ (n : ℕ). cut_at R log n) ee in
-              let v : Valid s S R M safe sound w sep g low found.batch = valid s S R M safe sound w sep g low found.batch found.stands in
+              let v : Valid s S R M safe sound w sep g low found.batch = valid s S R M safe sound w sep g low found.batch found.refines in
               let o1 : R.owner bf e x ≡ i = owner-of R bf e i (marks j.1) f.0.1 mine x f.2 in
               let o2 : R.owner (before_at R low) (epoch_at R low) x ≡ leader_at R low =
               owner-of R (before_at R low) (epoch_at R low) (leader_at R low) (marks v.earlier) found.batch v.is x found.within in
@@ -202,8 +202,8 @@ module _ {Msg : Type 0} (s : Setup) (S : Scheme) (R : Rules) (M : Module Msg) (s
               subst (λ (n : ℕ). R.owner bf n x ≡ leader_at R low) ee
               (subst (λ (k : List Value). R.owner k (epoch_at R low) x ≡ leader_at R low) start o2) in
               let own : IsOwn low e = record { epoch = ee; start = start; leader = sym o3 ∙ o1 } in
-              let accepted_low = own-accepted low e own found.batch found.stands.is in
-              let longer : suc (length low) ≤ length log = extends-length (Holds found.batch ∷ low) log found.part in
+              let accepted_low = own-accepted low e own found.batch found.refines.is in
+              let longer : suc (length low) ≤ length log = extends-length (Value_batch found.batch ∷ low) log found.part in
               let opens : length log ≤ f.0.0.0 = h.open_slot f.0 f.1 in
               one-slot R bf e i held_here judged f.0 (record { 0 = length low }, found.batch) cast.held accepted_low
               (λ q. absurd (omega (arith, q, opens, longer))) x f.2 found.within

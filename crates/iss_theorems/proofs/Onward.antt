@@ -1,6 +1,6 @@
 -- A turn of a correct core goes on: it takes an input, or ends its epoch and votes, each a move of the cluster.
 use Rattle.std.proofs.Common.{◌≡◌, ◌≢◌, ◌⊎◌, inl, inr, ℕ, suc, ◌≤◌, Bool, true, false, cond, List, [], ◌++◌, length, reverse, Some, None, refl, sym, ap, ◌∙◌, subst, arith}
-use Rattle.iss_base.specs.Lists.{Extends, In, over}
+use Rattle.iss_base.specs.Lists.{Extends, In, push_all}
 use Rattle.iss_base.proofs.Lists.{in_append, in_left, in_right, same_or_not, some-injective}
 use Rattle.iss_network.specs.Network.{Network}
 use Rattle.iss_network.specs.declared.packets.Sent.{Sent}
@@ -13,12 +13,12 @@ use Rattle.iss_sb.specs.declared.effects.Params.{Params}
 use Rattle.iss_sb.specs.declared.effects.To.{To}
 use Rattle.iss_sb.specs.Evidence.{Made, Module, is_correct}
 use Rattle.iss_theorems.specs.Certified.{IsLogAt}
-use Rattle.iss_cluster.specs.Checkpoints.{scheme_of}
+use Rattle.iss_composition.specs.Checkpoints.{scheme_of}
 use Rattle.iss_rules.specs.Books.{Signed}
-use Rattle.iss_cluster.specs.Cluster.{AllSpelled, Cluster, IsHashedLog, IsOneOf, IsOwn, Message, Moved, Scheme, chain, chain_strings, ends, move, vote_of, vote_statement}
+use Rattle.iss_composition.specs.Cluster.{AllSpelled, Cluster, IsHashedLog, IsOneOf, IsOwn, Message, Moved, Scheme, chain, chain_strings, ends, move, vote_of, vote_statement}
 use Rattle.iss_rules.specs.Parcels.{Formats, OfModule, OfVote, Parcel}
 use Rattle.iss_rules.specs.Verdicts.{verdict_in}
-use Rattle.iss_model.specs.Node.{Core, Turn, grown_strings, inputs, joined, onward, own_claims, packed, vote_on, ends as ends_turn}
+use Rattle.iss_model.specs.Node.{Core, Turn, grown_strings, step_unjudged, joined, then_turn, own_claims, packed, vote_on, ends as ends_turn}
 use Rattle.iss_rules.specs.Past.{Past, advanced, before, cut_at, ended_log, is_complete, leads_in, log_of, made_in, params_of, start_of, takes}
 use Rattle.iss_rules.specs.Rules.{Rules}
 use Rattle.iss_model.specs.Run.{Held, as_signed, booked, posted_all, turned_to}
@@ -29,15 +29,15 @@ use Rattle.iss_model.proofs.Casts.{bounded-core, ends-ready, inputs-ready, settl
 use Rattle.iss_rules.proofs.Ending.{advanced-later, advanced-log, complete-far}
 use Rattle.iss_rules.proofs.Epochs.{start-cut}
 use Rattle.iss_theorems.proofs.Fits.{Fits, Premises, more-posted, view}
-use Rattle.iss_cluster.proofs.Good.{Good}
+use Rattle.iss_composition.proofs.Good.{Good}
 use Rattle.iss_theorems.proofs.Linked.{grown-hashed}
 use Rattle.iss_rules.proofs.Logs.{Later, later-refl, log-chain, log-later, takes-later}
-use Rattle.iss_cluster.proofs.Moves.{good-moved}
+use Rattle.iss_composition.proofs.Moves.{good-moved}
 use Rattle.iss_theorems.proofs.Posts.{posted-append, posted-in, told, told-is}
 use Rattle.iss_model.proofs.Rows.{IsFit, then_ends, then_reads, then_takes}
 use Rattle.iss_theorems.proofs.Spelled.{log-read, loose, loose-strings, loosen, read-spelled}
 use Rattle.iss_theorems.proofs.Standing.{log-at-later, voted-later}
-use Rattle.iss_cluster.proofs.Statements.{apart, leader-far, votes as votes_same}
+use Rattle.iss_composition.proofs.Statements.{apart, leader-far, votes as votes_same}
 use Rattle.iss_theorems.proofs.Tests.{booked-first, booked-last, booked-split, own-is}
 use Rattle.iss_theorems.proofs.Turned as turned
 use Rattle.iss_model.proofs.Twins.{addressee-core, core-low, faultless}
@@ -72,10 +72,10 @@ module _ {Msg : Type 0} (s : Setup) (F : Formats Msg) (R : Rules) (M : Module Ms
   pub there : (t : Turn Msg) (P : Past Msg → Type 0) → P t.core.past → P (pasts_of (turned_to s h i t).net i)
   there t P k = turned.there s F R M o h ok i t P k
 
-  string-old : (t : Turn Msg) (f : Core Msg → Turn Msg) (x : List ℕ) → In x (over t.strings h.hashed) → In x (over (onward t f).strings h.hashed)
+  string-old : (t : Turn Msg) (f : Core Msg → Turn Msg) (x : List ℕ) → In x (push_all t.strings h.hashed) → In x (push_all (then_turn t f).strings h.hashed)
   string-old t f x m = turned.string-old s F R M o h ok i correct t f x m
 
-  string-new : (t : Turn Msg) (f : Core Msg → Turn Msg) (x : List ℕ) → In x (f t.core).strings → In x (over (onward t f).strings h.hashed)
+  string-new : (t : Turn Msg) (f : Core Msg → Turn Msg) (x : List ℕ) → In x (f t.core).strings → In x (push_all (then_turn t f).strings h.hashed)
   string-new t f x m = turned.string-new s F R M o h ok i correct t f x m
 
   -- what a step hashes of a log that grows is all that is new in its chain
@@ -113,7 +113,7 @@ module _ {Msg : Type 0} (s : Setup) (F : Formats Msg) (R : Rules) (M : Module Ms
     later_past = takes R M i d l input t.core.leaf
 
     abbrev taking : Core Msg → Turn Msg
-    taking c = inputs F R M i c l input
+    taking c = step_unjudged F R M i c l input
 
     taken_later : Later R d later_past
     taken_later = takes-later R M i d l input t.core.leaf (settled-core F R M i t.core k.ready.sound)
@@ -121,11 +121,11 @@ module _ {Msg : Type 0} (s : Setup) (F : Formats Msg) (R : Rules) (M : Module Ms
     longer : Extends (log_of R M i d) (log_of R M i later_past)
     longer = log-later R M i d later_past taken_later
 
-    made_string : (x : List ℕ) → In x made.strings → In x (over u.strings h.hashed)
+    made_string : (x : List ℕ) → In x made.strings → In x (push_all u.strings h.hashed)
     made_string x m = string-new t taking x (in_left x made.strings (grown_strings R (log_of R M i d) (log_of R M i later_past)) m)
 
-    hashed : IsHashedLog S (over u.strings h.hashed) (log_of R M i later_past)
-    hashed = grown-all (log_of R M i d) (log_of R M i later_past) longer (over u.strings h.hashed) (λ x m. string-old t taking x (k.hashed x m))
+    hashed : IsHashedLog S (push_all u.strings h.hashed) (log_of R M i later_past)
+    hashed = grown-all (log_of R M i d) (log_of R M i later_past) longer (push_all u.strings h.hashed) (λ x m. string-old t taking x (k.hashed x m))
         (λ x m. string-new t taking x (in_right x made.strings (grown_strings R (log_of R M i d) (log_of R M i later_past)) m))
 
     is_own : (x : Signed) → In x (booked s i own) → IsOwn M p i made.sends x
@@ -141,7 +141,7 @@ module _ {Msg : Type 0} (s : Setup) (F : Formats Msg) (R : Rules) (M : Module Ms
     newer x m =
         in_left x (booked s i u.own) h.signed (booked-last s i t.own own x (subst (λ (b : Bool). In x (cond b (as_signed own) [])) (sym correct) m))
 
-    moved : (S₂ : Scheme) → IsHashedLog S₂ (over u.strings h.hashed) (log_of R M i later_past) → AllSpelled S₂ (log_of R M i later_past) →
+    moved : (S₂ : Scheme) → IsHashedLog S₂ (push_all u.strings h.hashed) (log_of R M i later_past) → AllSpelled S₂ (log_of R M i later_past) →
         Moved s S₂ R M (seen t k.messages) (seen u (fresh ++ k.messages)) i l input t.core.leaf
     moved S₂ log_hashed log_spelled = record {
       correct = correct;
@@ -161,7 +161,7 @@ module _ {Msg : Type 0} (s : Setup) (F : Formats Msg) (R : Rules) (M : Module Ms
       old_book = older;
       fresh_strings = λ x m. made_string x (subst (λ (y : Past Msg). In x (made_in R M i y l input t.core.leaf).strings) (here t) m);
       strings = λ x m. string-old t taking x m;
-      hashed = there u (λ (y : Past Msg). IsHashedLog S₂ (over u.strings h.hashed) (log_of R M i y)) log_hashed;
+      hashed = there u (λ (y : Past Msg). IsHashedLog S₂ (push_all u.strings h.hashed) (log_of R M i y)) log_hashed;
       spelled = there u (λ (y : Past Msg). AllSpelled S₂ (log_of R M i y)) log_spelled;
     }
 
@@ -170,7 +170,7 @@ module _ {Msg : Type 0} (s : Setup) (F : Formats Msg) (R : Rules) (M : Module Ms
         let v₀ : Cluster Msg = seen t k.messages in
         let w : Cluster Msg = seen u (fresh ++ k.messages) in
         let g = loosen s R M v₀ S (turned.good-at s F R M o v₀ (turned.less-apart s F R M o h ok i correct t taking sep) k.reach) in
-        let loose_hashed : IsHashedLog (loose S) (over u.strings h.hashed) (log_of R M i later_past) =
+        let loose_hashed : IsHashedLog (loose S) (push_all u.strings h.hashed) (log_of R M i later_past) =
         λ x z. hashed x (subst (λ (xs : List (List ℕ)). In x xs) (loose-strings S (log_of R M i later_past)) z) in
         let gw : Good s R M w (loose S) =
         good-moved s (loose S) R M o.safe o.law o.sound v₀ w sep g i l input t.core.leaf (moved (loose S) loose_hashed (λ v m. refl)) in
@@ -240,7 +240,7 @@ module _ {Msg : Type 0} (s : Setup) (F : Formats Msg) (R : Rules) (M : Module Ms
 
   pub takes-fits : (t : Turn Msg) (l : ℕ) (input : Input Msg) → Holds t → IsFit F R M i t.core l input → Comes t l input → Holds (then_takes F R M i t l input)
   takes-fits t l input k fit come sep =
-      takes-turned t l input (k (turned.less-apart s F R M o h ok i correct t (λ c. inputs F R M i c l input) sep)) fit come sep
+      takes-turned t l input (k (turned.less-apart s F R M o h ok i correct t (λ c. step_unjudged F R M i c l input) sep)) fit come sep
 
   pub reads-fits : (t : Turn Msg) (claims : List Claim) → Holds t → Holds (then_reads F R M i t claims)
   reads-fits t claims hold sep = let k = hold sep in record {
@@ -291,7 +291,7 @@ module _ {Msg : Type 0} (s : Setup) (F : Formats Msg) (R : Rules) (M : Module Ms
       | inr none ↦ absurd none
     ]
 
-    closed_hashed : IsHashedLog S (over closed.strings h.hashed) (log_of R M i (advanced full))
+    closed_hashed : IsHashedLog S (push_all closed.strings h.hashed) (log_of R M i (advanced full))
     closed_hashed x m = string-old t ending x (k.hashed x (subst (λ (log : List Value). In x (chain_strings S log)) same_log m))
 
     closed_good : Good s R M (seen t k.messages) S
@@ -315,7 +315,7 @@ module _ {Msg : Type 0} (s : Setup) (F : Formats Msg) (R : Rules) (M : Module Ms
               | inl a ↦ elim (booked-split s i t.own vote x a) [ inl y ↦ inl (in_left x (booked s i t.own) h.signed y) | inr y ↦ inr (is_vote x y) ]
               | inr b ↦ inl (in_right x (booked s i t.own) h.signed b)
             ]);
-        hashed = there closed (λ (y : Past Msg). IsHashedLog S (over closed.strings h.hashed) (log_of R M i y)) closed_hashed;
+        hashed = there closed (λ (y : Past Msg). IsHashedLog S (push_all closed.strings h.hashed) (log_of R M i y)) closed_hashed;
         spelled = there closed (λ (y : Past Msg). AllSpelled S (log_of R M i y)) closed_spelled;
       });
       posted = λ st q m.

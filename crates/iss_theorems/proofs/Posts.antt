@@ -6,7 +6,7 @@ use Rattle.iss_network.specs.Network.{Network, posted}
 use Rattle.iss_network.specs.declared.packets.Sent.{Sent}
 use Rattle.iss_request.specs.declared.setups.Setup.{Setup}
 use Rattle.iss_sb.specs.declared.effects.To.{To}
-use Rattle.iss_cluster.specs.Cluster.{IsOneOf, Message}
+use Rattle.iss_composition.specs.Cluster.{IsOneOf, Message}
 use Rattle.iss_rules.specs.Parcels.{Formats, OfModule}
 use Rattle.iss_model.specs.Node.{packed}
 use Rattle.iss_model.specs.Run.{addressees, posted_all, posted_to}

@@ -8,25 +8,25 @@ use Rattle.iss_request.specs.declared.requests.Request.{Request}
 use Rattle.iss_request.specs.declared.requests.Value.{Value}
 use Rattle.iss_request.specs.declared.setups.Setup.{Setup}
 use Rattle.iss_schedule.specs.declared.schedules.Event.{Event}
-use Rattle.iss_schedule.specs.declared.schedules.Event.TheVariants.{Request as Asks_order, Propose, Timeout as Times_out, Ask, Deliver, Lose, Pump, Calm, Hold, Free, Drop, Restart, Crash, Bytes}
+use Rattle.iss_schedule.specs.declared.schedules.Event.TheVariants.{Request as Event_request, Propose, Timeout as Event_timeout, Ask, Deliver, Lose, Pump, Calm, Hold, Free, Drop, Restart, Crash, Bytes}
 use Rattle.iss_sb.specs.Evidence.{Module}
-use Rattle.iss_causes.specs.declared.causes.NodeEvent.{NodeEvent}
-use Rattle.iss_causes.specs.declared.causes.NodeEvent.TheVariants.{Packet as Gets, Propose as Proposes, Timeout as Fires, AskFrom as Seeks}
-use Rattle.iss_cluster.specs.Checkpoints.{scheme_of}
-use Rattle.iss_cluster.specs.Cluster.{Cluster, Message, begin, chain_strings}
+use Rattle.iss_rules.specs.declared.events.NodeEvent.{NodeEvent}
+use Rattle.iss_rules.specs.declared.events.NodeEvent.TheVariants.{Packet as On_packet, Propose as On_propose, Timeout as On_timeout, AskFrom as On_ask}
+use Rattle.iss_composition.specs.Checkpoints.{scheme_of}
+use Rattle.iss_composition.specs.Cluster.{Cluster, Message, begin, chain_strings}
 use Rattle.iss_rules.specs.Parcels.{Body, Formats, OfRequest}
-use Rattle.iss_cluster.specs.Ordered.{Ordered}
+use Rattle.iss_composition.specs.Ordered.{Ordered}
 use Rattle.iss_rules.specs.Rules.{Rules}
-use Rattle.iss_causes.specs.Ends.{End}
+use Rattle.iss_rules.specs.Ends.{End}
 use Rattle.iss_rules.specs.Concrete.{request_of}
-use Rattle.iss_model.specs.Run.{Happening, Held, Progress, at_core, begin_run, calms, cores_of, delivered_to, delivers, delivers_each, done, goes_further, happens, loses, pumps, node_of, run, unless, with_network}
+use Rattle.iss_model.specs.Run.{Happening, Held, Progress, at_core, begin_run, calms, cores_of, delivered_to, delivers, delivers_each, done, run_event_if_open, apply_event, loses, pumps, node_of, run, unless, with_network}
 use Rattle.iss_rules.proofs.Faithful.{is_message}
 use Rattle.iss_model.specs.Runs.{AreAtCores, IsAtCore, pasts_of}
 use Rattle.iss_theorems.proofs.Answered.{at-fits}
 use Rattle.iss_rules.proofs.Logs.{newborn-log}
 use Rattle.iss_model.proofs.Casts.{idle-ready}
-use Rattle.iss_cluster.proofs.Checkpoints.{exact-of}
-use Rattle.iss_cluster.proofs.Reached.{composition}
+use Rattle.iss_composition.proofs.Checkpoints.{exact-of}
+use Rattle.iss_composition.proofs.Reached.{composition}
 use Rattle.iss_model.proofs.Grown.{Grows, at-grows, grows-trans, same-net}
 use Rattle.iss_theorems.proofs.Fits.{Fits as FitsBy, IsPosted, Premises, view}
 use Rattle.iss_theorems.proofs.Turned.{Comes-in}
@@ -35,7 +35,7 @@ use Rattle.iss_model.proofs.Twins.{core-low, faultless}
 pub run-append : {Msg : Type 0} (s : Setup) (F : Formats Msg) (R : Rules) (M : Module Msg) (es fs : List Event) (p : Progress Msg) →
     run s F R M p (es ++ fs) ≡ run s F R M (run s F R M p es) fs
 run-append s F R M [] fs p = refl
-run-append s F R M (e ∷ es) fs p = run-append s F R M es fs (goes_further p.ended s F R M p e)
+run-append s F R M (e ∷ es) fs p = run-append s F R M es fs (run_event_if_open p.ended s F R M p e)
 
 module _ {Msg : Type 0} (s : Setup) (F : Formats Msg) (R : Rules) (M : Module Msg) (o : Premises s F R M) where
   abbrev pub Fits : Held Msg → Type 0
@@ -100,7 +100,7 @@ module _ {Msg : Type 0} (s : Setup) (F : Formats Msg) (R : Rules) (M : Module Ms
   leads-unless h (Some end) d more ok f = ok
 
   -- a packet that carries a message that was sent
-  packet-comes : (h : Held Msg) (ok : Fits h) (p : Sent) → (M.stopping ≡ true → Posted ok.messages p) → Arrives h ok p.to (Gets p.bytes)
+  packet-comes : (h : Held Msg) (ok : Fits h) (p : Sent) → (M.stopping ≡ true → Posted ok.messages p) → Arrives h ok p.to (On_packet p.bytes)
   packet-comes h ok p posted = record { low = λ st. (posted st).low_to; legit = λ st k l msg u b. (posted st).carried k l msg u b }
 
   -- where nodes only stop, a core is a node
@@ -109,7 +109,7 @@ module _ {Msg : Type 0} (s : Setup) (F : Formats Msg) (R : Rules) (M : Module Ms
 
   -- bytes that were written for a request give no message of a module
   request-comes : (h : Held Msg) (ok : Fits h) (i : ℕ) → i < cores_of s → (q : Request) →
-      Arrives h ok i (Gets (F.wrap (record { from = 255; epoch = 0; body = OfRequest q })))
+      Arrives h ok i (On_packet (F.wrap (record { from = 255; epoch = 0; body = OfRequest q })))
   request-comes h ok i low q = record {
     low = λ st. is-node i low st;
     legit = λ st k l msg u b. absurd (true≢false (sym (ap (λ (x : Body Msg). is_message x) b) ∙
@@ -120,8 +120,8 @@ module _ {Msg : Type 0} (s : Setup) (F : Formats Msg) (R : Rules) (M : Module Ms
   leads-delivers h ok k None q = leads-same h ok
   leads-delivers h ok k (Some p) q =
       let g : Held Msg = with_network h (settled h.net.network k) in
-      leads-trans h g (at_core s F R M g p.to (Gets p.bytes)).held (leads-network h (settled h.net.network k) refl ok)
-      (λ okg. leads-at g okg p.to (Gets p.bytes) (packet-comes g okg p (λ st. okg.posted st p (nth-in h.net.network.packets k p q))))
+      leads-trans h g (at_core s F R M g p.to (On_packet p.bytes)).held (leads-network h (settled h.net.network k) refl ok)
+      (λ okg. leads-at g okg p.to (On_packet p.bytes) (packet-comes g okg p (λ st. okg.posted st p (nth-in h.net.network.packets k p q))))
 
   leads-each : (ks : List ℕ) (h : Held Msg) → Fits h → Leads h (delivers_each s F R M ks h).held
   leads-each [] h ok = leads-same h ok
@@ -140,18 +140,18 @@ module _ {Msg : Type 0} (s : Setup) (F : Formats Msg) (R : Rules) (M : Module Ms
   leads-loses h ok k (Some p) = leads-network h (settled h.net.network k) refl ok
 
   leads-injects : (h : Held Msg) → Fits h → (i : ℕ) (bytes : List ℕ) (b : Bool) → M.stopping ≡ b →
-      Leads h (cond b (done h) (at_core s F R M h i (Gets bytes))).held
+      Leads h (cond b (done h) (at_core s F R M h i (On_packet bytes))).held
   leads-injects h ok i bytes true q = leads-same h ok
   leads-injects h ok i bytes false q =
-      leads-at h ok i (Gets bytes) (record { low = λ st. absurd (true≢false (sym st ∙ q)); legit = λ st. absurd (true≢false (sym st ∙ q)) })
+      leads-at h ok i (On_packet bytes) (record { low = λ st. absurd (true≢false (sym st ∙ q)); legit = λ st. absurd (true≢false (sym st ∙ q)) })
 
-  pub leads-happens : (h : Held Msg) → Fits h → (e : Event) → IsAtCore s e → Leads h (happens s F R M h e).held
-  leads-happens h ok (Asks_order i client number payload) low =
-      leads-at h ok i (Gets (F.wrap (record { from = 255; epoch = 0; body = OfRequest (request_of s client number payload) })))
+  pub leads-happens : (h : Held Msg) → Fits h → (e : Event) → IsAtCore s e → Leads h (apply_event s F R M h e).held
+  leads-happens h ok (Event_request i client number payload) low =
+      leads-at h ok i (On_packet (F.wrap (record { from = 255; epoch = 0; body = OfRequest (request_of s client number payload) })))
       (request-comes h ok i low (request_of s client number payload))
-  leads-happens h ok (Propose i) low = leads-at h ok i Proposes (record { low = is-node i low; legit = λ st. tt })
-  leads-happens h ok (Times_out i l) low = leads-at h ok i (Fires l) (record { low = is-node i low; legit = λ st. tt })
-  leads-happens h ok (Ask i peer) low = leads-at h ok i (Seeks peer) (record { low = is-node i low; legit = λ st. tt })
+  leads-happens h ok (Propose i) low = leads-at h ok i On_propose (record { low = is-node i low; legit = λ st. tt })
+  leads-happens h ok (Event_timeout i l) low = leads-at h ok i (On_timeout l) (record { low = is-node i low; legit = λ st. tt })
+  leads-happens h ok (Ask i peer) low = leads-at h ok i (On_ask peer) (record { low = is-node i low; legit = λ st. tt })
   leads-happens h ok (Deliver k) low = leads-delivers h ok k (nth h.net.network.packets k) refl
   leads-happens h ok (Lose k) low = leads-loses h ok k (nth h.net.network.packets k)
   leads-happens h ok Pump low = leads-each (due h.net.network) h ok
@@ -163,14 +163,14 @@ module _ {Msg : Type 0} (s : Setup) (F : Formats Msg) (R : Rules) (M : Module Ms
   leads-happens h ok (Crash i calls) low = leads-same h ok
   leads-happens h ok (Bytes i bytes) low = leads-injects h ok i bytes M.stopping refl
 
-  leads-further : (o : Option (ℕ × End)) (p : Progress Msg) → Fits p.held → (e : Event) → IsAtCore s e → Leads p.held (goes_further o s F R M p e).held
+  leads-further : (o : Option (ℕ × End)) (p : Progress Msg) → Fits p.held → (e : Event) → IsAtCore s e → Leads p.held (run_event_if_open o s F R M p e).held
   leads-further None p ok e low = leads-happens p.held ok e low
   leads-further (Some end) p ok e low = leads-same p.held ok
 
   leads-run : (es : List Event) (p : Progress Msg) → Fits p.held → AreAtCores s es → Leads p.held (run s F R M p es).held
   leads-run [] p ok low = leads-same p.held ok
   leads-run (e ∷ es) p ok low =
-      let g = goes_further p.ended s F R M p e in
+      let g = run_event_if_open p.ended s F R M p e in
       leads-trans p.held g.held (run s F R M g es).held (leads-further p.ended p ok e low.0) (λ okg. leads-run es g okg low.1)
 
   start-fits : Fits (begin_run s).held

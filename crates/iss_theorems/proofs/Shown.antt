@@ -10,11 +10,11 @@ use Rattle.iss_sb.specs.declared.effects.Params.{Params}
 use Rattle.iss_sb.specs.declared.effects.To.{To}
 use Rattle.iss_sb.specs.Evidence.{Module, is_correct}
 use Rattle.iss_rules.specs.Books.{Signed}
-use Rattle.iss_cluster.specs.Cluster.{IsOwn}
+use Rattle.iss_composition.specs.Cluster.{IsOwn}
 use Rattle.iss_theorems.specs.Ends.{AreColliding}
 use Rattle.iss_model.specs.Node.{only_by, own_claims}
 use Rattle.iss_rules.specs.Rules.{Rules}
-use Rattle.iss_causes.specs.Ends.{Collision, End}
+use Rattle.iss_rules.specs.Ends.{Collision, End}
 use Rattle.iss_model.specs.Run.{as_signed, collision_in, collision_with, first_forged, has_signed, is_collision, is_forged}
 
 in-has : (i : ℕ) (statement : List ℕ) (xs : List Signed) → In (record { by = i; statement = statement }) xs → has_signed i statement xs ≡ true

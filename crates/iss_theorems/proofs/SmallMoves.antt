@@ -11,7 +11,7 @@ use Rattle.iss_rules.specs.Verdicts.{verdict_in}
 use Rattle.iss_rules.specs.Rules.{Rules}
 use Rattle.iss_model.specs.Node.{own_claims}
 use Rattle.iss_model.specs.Run.{as_signed}
-use Rattle.iss_cluster.specs.Cluster.{AllSpelled, AreVotes, Cert, IsBooked, IsVerified, Scheme, chain, chain_strings, signers, vote_of}
+use Rattle.iss_composition.specs.Cluster.{AllSpelled, AreVotes, Cert, IsBooked, IsVerified, Scheme, chain, chain_strings, signers, vote_of}
 
 pub data Small (Msg : Type 0) : Type 0 where
   Takes : (leader : ℕ) → (input : Input Msg) → (leaf : ℕ) → Small Msg

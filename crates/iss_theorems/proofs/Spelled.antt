@@ -10,24 +10,24 @@ use Rattle.iss_request.specs.Formats.{parse_value, spell_value}
 use Rattle.iss_request.specs.declared.ids.Slot.{Slot}
 use Rattle.iss_request.specs.declared.requests.Batch.{Batch}
 use Rattle.iss_request.specs.declared.requests.Value.{Value}
-use Rattle.iss_request.specs.declared.requests.Value.TheVariants.{Batch as Holds, Nil}
+use Rattle.iss_request.specs.declared.requests.Value.TheVariants.{Batch as Value_batch, Nil}
 use Rattle.iss_request.specs.declared.setups.Setup.{Setup}
 use Rattle.iss_request.proofs.OneSpelling.{value_grammar, value_related}
 use Rattle.iss_sb.specs.Evidence.{Module, Separate, accepts, delivered, is_correct}
 use Rattle.iss_sb.specs.Laws.{IsSafe}
 use Rattle.iss_sb.proofs.Read.{batch-read, read-again}
-use Rattle.iss_cluster.specs.Checkpoints.{is_good, scheme_of}
-use Rattle.iss_cluster.specs.Cluster.{Backed, Cluster, Scheme, chain, chain_strings}
+use Rattle.iss_composition.specs.Checkpoints.{is_good, scheme_of}
+use Rattle.iss_composition.specs.Cluster.{Backed, Cluster, Scheme, chain, chain_strings}
 use Rattle.iss_rules.specs.Judge.{marks}
 use Rattle.iss_rules.specs.SoundRules.{IsSoundRules}
-use Rattle.iss_cluster.specs.Ordered.{Among}
+use Rattle.iss_composition.specs.Ordered.{Among}
 use Rattle.iss_rules.specs.Past.{Past, Piece, adopted_at, before, before_at, epoch_at, leader_at, params_at}
 use Rattle.iss_rules.proofs.Logs.{IsLog, Later}
 use Rattle.iss_rules.specs.Rules.{Rules}
 use Rattle.iss_rules.proofs.Faithful.{IsReadValue}
-use Rattle.iss_cluster.proofs.Agree.{before-is, begun, in-world, placed, right, world-at}
+use Rattle.iss_composition.proofs.Agree.{before-is, begun, in-world, placed, right, world-at}
 use Rattle.iss_rules.proofs.Epochs.{epoch-low}
-use Rattle.iss_cluster.proofs.Good.{Good}
+use Rattle.iss_composition.proofs.Good.{Good}
 use Rattle.iss_rules.proofs.Judged.{accepted, entry-judged}
 use Rattle.iss_theorems.proofs.Voting.{IsVoting}
 
@@ -94,7 +94,7 @@ adopted-read s (p ∷ ps) are e k v h = elim (first-cases (adopted_at ps e k) (c
 module _ {Msg : Type 0} (s : Setup) (S : Scheme) (R : Rules) (M : Module Msg) (safe : IsSafe M) (sound : IsSoundRules s M R) (voting : IsVoting s R)
     (w : Cluster Msg) (sep : Separate (Among w.strings)) (g : Good s R M w S) where
   -- what a correct node accepted is read again
-  accepted-read : (j e l : ℕ) → is_correct s j ≡ true → (x : Slot × Batch) → In x (accepts ((w.pasts j).evidence e l)) → IsReadValue s (Holds x.1)
+  accepted-read : (j e l : ℕ) → is_correct s j ≡ true → (x : Slot × Batch) → In x (accepts ((w.pasts j).evidence e l)) → IsReadValue s (Value_batch x.1)
   accepted-read j e l ok x i = elim (leb_tells e (w.pasts j).epoch) [
     | inl t ↦
         let bf : List Value = before R M j (w.pasts j) e in
@@ -109,11 +109,11 @@ module _ {Msg : Type 0} (s : Setup) (S : Scheme) (R : Rules) (M : Module Msg) (s
   -- so is what one delivered
   backed-read : (older : List Value) (v : Value) → Backed s R M w.pasts older v → IsReadValue s v
   backed-read older Nil b = nil-read s
-  backed-read older (Holds x) b =
+  backed-read older (Value_batch x) b =
       let slot : Slot = record { 0 = length older } in
       let ok = right s S R M safe sound w sep g older b.node b.correct in
-      let is = in-world s S R M safe sound w sep g older b.node b.correct (length older) (Holds x) b.is in
-      let r = (placed s S R M safe sound w sep g older (Holds x) b).shared b.node b.node slot slot x x ok ok is is in
+      let is = in-world s S R M safe sound w sep g older b.node b.correct (length older) (Value_batch x) b.is in
+      let r = (placed s S R M safe sound w sep g older (Value_batch x) b).shared b.node b.node slot slot x x ok ok is is in
       let there : is_correct s r.node ≡ true = subst (λ (t : Setup). is_correct t r.node ≡ true) (sound.setup (before_at R older) (epoch_at R older) (leader_at R older)) r.correct in
       accepted-read r.node (epoch_at R older) (leader_at R older) there (slot, x)
       (subst (λ (xs : List _). In {A = Slot × Batch} (slot, x) (accepts xs)) (world-at s w (epoch_at R older) (leader_at R older) r.node there) r.first)

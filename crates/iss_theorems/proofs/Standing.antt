@@ -7,7 +7,7 @@ use Rattle.iss_request.specs.declared.setups.Setup.{Setup}
 use Rattle.iss_sb.specs.Evidence.{Module}
 use Rattle.iss_theorems.specs.Certified.{IsLogAt}
 use Rattle.iss_rules.specs.Books.{Signed}
-use Rattle.iss_cluster.specs.Cluster.{vote_statement}
+use Rattle.iss_composition.specs.Cluster.{vote_statement}
 use Rattle.iss_theorems.specs.Ends.{AreVoted, WasAdopted}
 use Rattle.iss_rules.specs.Past.{Past, before, log_of, start_of}
 use Rattle.iss_rules.specs.Rules.{Rules}

@@ -1,29 +1,29 @@
 -- A correct core adopts a piece, a move of the cluster.
 use Rattle.std.proofs.Common.{◌≡◌, ◌≢◌, ◌⊎◌, inl, inr, ℕ, true, List, [], ◌∷◌, ◌++◌, length, refl, sym, ap, ◌∙◌, subst, arith}
-use Rattle.iss_base.specs.Lists.{In, over}
+use Rattle.iss_base.specs.Lists.{In, push_all}
 use Rattle.iss_base.proofs.Lists.{in_left, in_right, oldest-part, same_or_not}
 use Rattle.iss_request.specs.declared.requests.Value.{Value}
 use Rattle.iss_request.specs.declared.setups.Setup.{Setup}
 use Rattle.iss_sb.specs.Evidence.{Module, is_correct}
 use Rattle.iss_transfer.specs.declared.pieces.Piece.{Piece as Sent_piece}
-use Rattle.iss_cluster.specs.Checkpoints.{scheme_of}
-use Rattle.iss_cluster.specs.Cluster.{AllSpelled, Cluster, IsBooked, IsHashedLog, Message, Scheme, adopt, chain, signers, vote_statement, Cert as Cluster_cert}
+use Rattle.iss_composition.specs.Checkpoints.{scheme_of}
+use Rattle.iss_composition.specs.Cluster.{AllSpelled, Cluster, IsBooked, IsHashedLog, Message, Scheme, adopt, chain, signers, vote_statement, Cert as Cluster_cert}
 use Rattle.iss_rules.specs.Parcels.{Formats}
 use Rattle.iss_rules.specs.Votes.{cert_on}
-use Rattle.iss_model.specs.Node.{Core, Turn, adopts_piece, grown_strings, rests}
+use Rattle.iss_model.specs.Node.{Core, Turn, adopts_piece, grown_strings, unchanged}
 use Rattle.iss_rules.specs.Past.{Past, Piece, adopted_log, adopts, before, before_own, log_of, start_of}
 use Rattle.iss_rules.specs.Rules.{Rules}
 use Rattle.iss_model.specs.Run.{Held, booked, turned_to}
-use Rattle.iss_cluster.specs.Ordered.{Among}
+use Rattle.iss_composition.specs.Ordered.{Among}
 use Rattle.iss_rules.proofs.Faithful.{IsReadValue}
 use Rattle.iss_model.specs.Runs.{pasts_of}
-use Rattle.iss_cluster.proofs.Agree.{separate-part}
+use Rattle.iss_composition.proofs.Agree.{separate-part}
 use Rattle.iss_theorems.proofs.Booked.{adopts-booked}
 use Rattle.iss_model.proofs.Casts.{adopts-ready}
 use Rattle.iss_theorems.proofs.Certs.{IsKeptCert, in-signers, keeping-certified, quorum-is, signs_of}
-use Rattle.iss_cluster.proofs.Chains.{strings-oldest}
+use Rattle.iss_composition.proofs.Chains.{strings-oldest}
 use Rattle.iss_theorems.proofs.Fits.{Fits, Premises, view}
-use Rattle.iss_cluster.proofs.Good.{Good}
+use Rattle.iss_composition.proofs.Good.{Good}
 use Rattle.iss_theorems.proofs.Linked.{over-hashed}
 use Rattle.iss_rules.proofs.Logs.{Later, log-chain, log-later}
 use Rattle.iss_rules.proofs.Pieces.{adopts-later}
@@ -36,7 +36,7 @@ use Rattle.iss_theorems.proofs.Voting.{leads-chained}
 use Rattle.iss_theorems.proofs.Onward as onward
 
 -- what values put over a log bring
-in-over : (v : Value) (vs log : List Value) → In v (over vs log) → In v vs ⊎ In v log
+in-over : (v : Value) (vs log : List Value) → In v (push_all vs log) → In v vs ⊎ In v log
 in-over v [] log h = inr h
 in-over v (u ∷ vs) log h = elim (in-over v vs (u ∷ log) h) [
   | inl a ↦ inl (inr a)
@@ -67,7 +67,7 @@ module _ {Msg : Type 0} (s : Setup) (F : Formats Msg) (R : Rules) (M : Module Ms
   there t P k = onward.there s F R M o h ok i correct t P k
 
   -- the node adopts a piece
-  module _ (base : Turned (rests (h.net.cores i))) (p : Sent_piece) (t : Turn Msg) (a : IsAdopted F R M i (h.net.cores i) p t)
+  module _ (base : Turned (unchanged (h.net.cores i))) (p : Sent_piece) (t : Turn Msg) (a : IsAdopted F R M i (h.net.cores i) p t)
       (read : (v : Value) → In v p.values → IsReadValue s v) (kept : IsKeptCert s R h.signed p.cert)
       (sep : Apart (adopts_piece R M i (h.net.cores i) p)) where
     abbrev core : Core Msg
@@ -97,30 +97,30 @@ module _ {Msg : Type 0} (s : Setup) (F : Formats Msg) (R : Rules) (M : Module Ms
     ahead : Later R owned joined_past
     ahead = adopts-later R owned piece (record { all = base.ready.sound.settled })
 
-    was : IsHashedLog S (over adopting.strings h.hashed) (log_of R M i owned)
+    was : IsHashedLog S (push_all adopting.strings h.hashed) (log_of R M i owned)
     was x m = over-old x adopting.strings h.hashed (base.hashed x m)
 
-    piece_hashed : IsHashedLog S (over adopting.strings h.hashed) (over p.values bf)
+    piece_hashed : IsHashedLog S (push_all adopting.strings h.hashed) (push_all p.values bf)
     piece_hashed x m = elim (over-hashed s p.values bf x m) [
       | inl y ↦ was x (strings-oldest S (start_of R (log_of R M i owned) owned.epoch) (log_of R M i owned) x y)
       | inr y ↦ over-new x adopting.strings h.hashed (in_left x piece_strings (grown_strings R (log_of R M i owned) (log_of R M i joined_past))
           (subst (λ (xs : List (List ℕ)). In x xs) (sym (o.voting.hashes bf p.values)) y))
     ]
 
-    adopted_hashed : IsHashedLog S (over adopting.strings h.hashed) (log_of R M i joined_past)
-    adopted_hashed = onward.grown-all s F R M o h ok i correct (log_of R M i owned) (log_of R M i joined_past) (log-later R M i owned joined_past ahead) (over adopting.strings h.hashed) was
+    adopted_hashed : IsHashedLog S (push_all adopting.strings h.hashed) (log_of R M i joined_past)
+    adopted_hashed = onward.grown-all s F R M o h ok i correct (log_of R M i owned) (log_of R M i joined_past) (log-later R M i owned joined_past ahead) (push_all adopting.strings h.hashed) was
         (λ x m. over-new x adopting.strings h.hashed (in_right x piece_strings (grown_strings R (log_of R M i owned) (log_of R M i joined_past)) m))
 
-    sep_base : Apart (rests core)
-    sep_base = separate-part (Among (over adopting.strings h.hashed)) (Among h.hashed) (λ x m. over-old x adopting.strings h.hashed m) sep
+    sep_base : Apart (unchanged core)
+    sep_base = separate-part (Among (push_all adopting.strings h.hashed)) (Among h.hashed) (λ x m. over-old x adopting.strings h.hashed m) sep
 
-    adopted_good : Good s R M (seen (rests core) base.messages) S
-    adopted_good = turned.good-at s F R M o (seen (rests core) base.messages) sep_base base.reach
+    adopted_good : Good s R M (seen (unchanged core) base.messages) S
+    adopted_good = turned.good-at s F R M o (seen (unchanged core) base.messages) sep_base base.reach
 
     log_spelled : AllSpelled S (log_of R M i owned)
-    log_spelled = subst (λ (y : Past Msg). AllSpelled S (log_of R M i y)) (here (rests core)) (adopted_good.spelled i correct)
+    log_spelled = subst (λ (y : Past Msg). AllSpelled S (log_of R M i y)) (here (unchanged core)) (adopted_good.spelled i correct)
 
-    piece_spelled : AllSpelled S (over p.values bf)
+    piece_spelled : AllSpelled S (push_all p.values bf)
     piece_spelled v m = elim (in-over v p.values bf m) [
       | inl y ↦ read-spelled s v (read v y)
       | inr y ↦
@@ -133,9 +133,9 @@ module _ {Msg : Type 0} (s : Setup) (F : Formats Msg) (R : Rules) (M : Module Ms
     adopted_pieces q (inr m) v n = base.pieces q m v n
 
     adopted_spelled : AllSpelled S (log_of R M i joined_past)
-    adopted_spelled v m = read-spelled s v (log-read s S R M o.safe o.sound o.voting (seen (rests core) base.messages) sep_base adopted_good i correct joined_past
-        (there (rests core) (λ (y : Past Msg). Later R y joined_past) ahead)
-        (there (rests core) (λ (y : Past Msg). (e l : ℕ) → joined_past.evidence e l ≡ y.evidence e l) (λ e l. refl)) adopted_pieces
+    adopted_spelled v m = read-spelled s v (log-read s S R M o.safe o.sound o.voting (seen (unchanged core) base.messages) sep_base adopted_good i correct joined_past
+        (there (unchanged core) (λ (y : Past Msg). Later R y joined_past) ahead)
+        (there (unchanged core) (λ (y : Past Msg). (e l : ℕ) → joined_past.evidence e l ≡ y.evidence e l) (λ e l. refl)) adopted_pieces
         (log_of R M i joined_past) (log-chain R M i joined_past) v m)
 
     votes : (j : ℕ) → In j (signers cert.signed) → is_correct s j ≡ true → IsBooked (booked s i [] ++ h.signed) j (vote_statement s owned.epoch cert.chain cert.number)
@@ -152,18 +152,18 @@ module _ {Msg : Type 0} (s : Setup) (F : Formats Msg) (R : Rules) (M : Module Ms
       messages = base.messages;
       reach = adopt i piece cert base.reach (record {
         correct = correct;
-        epoch = there (rests core) (λ (y : Past Msg). owned.epoch ≡ y.epoch) refl;
-        whole = there (rests core) (λ (y : Past Msg). length p.values ≡ R.slots (before R M i y owned.epoch) owned.epoch) a.whole;
+        epoch = there (unchanged core) (λ (y : Past Msg). owned.epoch ≡ y.epoch) refl;
+        whole = there (unchanged core) (λ (y : Past Msg). length p.values ≡ R.slots (before R M i y owned.epoch) owned.epoch) a.whole;
         quorum = quorum-is s M R o.sound o.voting p.cert a.certified;
         votes = votes;
-        chained = there (rests core) (λ (y : Past Msg). p.cert.chain ≡ chain S (adopted_log R M i y piece)) (leads-chained s R o.voting bf p a.leads);
-        piece_hashed = there (rests core) (λ (y : Past Msg). IsHashedLog S (over adopting.strings h.hashed) (adopted_log R M i y piece)) piece_hashed;
-        piece_spelled = there (rests core) (λ (y : Past Msg). AllSpelled S (adopted_log R M i y piece)) piece_spelled;
-        here = here adopting ∙ ap (λ (y : Past Msg). adopts y piece) (sym (here (rests core)));
-        other = λ j ne. other adopting j ne ∙ sym (other (rests core) j ne);
+        chained = there (unchanged core) (λ (y : Past Msg). p.cert.chain ≡ chain S (adopted_log R M i y piece)) (leads-chained s R o.voting bf p a.leads);
+        piece_hashed = there (unchanged core) (λ (y : Past Msg). IsHashedLog S (push_all adopting.strings h.hashed) (adopted_log R M i y piece)) piece_hashed;
+        piece_spelled = there (unchanged core) (λ (y : Past Msg). AllSpelled S (adopted_log R M i y piece)) piece_spelled;
+        here = here adopting ∙ ap (λ (y : Past Msg). adopts y piece) (sym (here (unchanged core)));
+        other = λ j ne. other adopting j ne ∙ sym (other (unchanged core) j ne);
         quiet = record { messages = λ st m z. z; old_book = λ x m. m; strings = λ x m. over-old x adopting.strings h.hashed m };
         book = λ x m. m;
-        hashed = there adopting (λ (y : Past Msg). IsHashedLog S (over adopting.strings h.hashed) (log_of R M i y)) adopted_hashed;
+        hashed = there adopting (λ (y : Past Msg). IsHashedLog S (push_all adopting.strings h.hashed) (log_of R M i y)) adopted_hashed;
         spelled = there adopting (λ (y : Past Msg). AllSpelled S (log_of R M i y)) adopted_spelled;
       });
       posted = base.posted;

@@ -1,6 +1,6 @@
 -- What the tests of a delivery and of a step say: of claims, of strings, and of a node's own claims in what it sends.
 use Rattle.std.proofs.Common.{◌≡◌, ◌⊎◌, inl, inr, ℕ, Bool, true, false, cond, eqb, not, ◌&&◌, List, [], ◌∷◌, ◌++◌, Option, Some, None, refl, sym, ap, ap₂, ◌∙◌, subst, true≢false}
-use Rattle.iss_base.specs.Lists.{In, first_of, over, same_bytes}
+use Rattle.iss_base.specs.Lists.{In, first_of, push_all, same_bytes}
 use Rattle.iss_base.proofs.Lists.{and-true, in_append, in_left, in_right, is-eq, same_bytes-is, same_bytes-refl}
 use Rattle.iss_request.specs.Digest.{digest}
 use Rattle.iss_request.specs.declared.setups.Setup.{Setup}
@@ -9,10 +9,10 @@ use Rattle.iss_sb.specs.declared.effects.Params.{Params}
 use Rattle.iss_sb.specs.declared.effects.To.{To}
 use Rattle.iss_sb.specs.Evidence.{Module, Separate, is_correct}
 use Rattle.iss_rules.specs.Books.{Signed}
-use Rattle.iss_cluster.specs.Cluster.{IsOwn}
+use Rattle.iss_composition.specs.Cluster.{IsOwn}
 use Rattle.iss_rules.specs.Votes.{all_verify}
 use Rattle.iss_model.specs.Node.{only_by, own_claims}
-use Rattle.iss_cluster.specs.Ordered.{Among}
+use Rattle.iss_composition.specs.Ordered.{Among}
 use Rattle.iss_rules.specs.Rules.{Rules}
 use Rattle.iss_model.specs.Run.{as_signed, booked, collision_in, collision_with, first_forged, has_signed, is_collision, is_forged}
 
@@ -81,23 +81,23 @@ separate-one x book h sep a b (inr p) (inl q) e = unlike x book h a p (e ∙ ap 
 separate-one x book h sep a b (inr p) (inr q) e = sep a b p q e
 
 -- where no new string collides, all are separate
-pub separate-more : (xs book : List (List ℕ)) → collision_in xs book ≡ None → Separate (Among book) → Separate (Among (over xs book))
+pub separate-more : (xs book : List (List ℕ)) → collision_in xs book ≡ None → Separate (Among book) → Separate (Among (push_all xs book))
 separate-more [] book h sep = sep
 separate-more (x ∷ xs) book h sep =
     let k = first-none (collision_with x book) (collision_in xs (x ∷ book)) h in
     separate-more xs (x ∷ book) k.1 (separate-one x book k.0 sep)
 
 -- what is put over a list stands in it, with all that stood there
-pub over-old : {A : Type 0} (x : A) (vs log : List A) → In x log → In x (over vs log)
+pub over-old : {A : Type 0} (x : A) (vs log : List A) → In x log → In x (push_all vs log)
 over-old x [] log h = h
 over-old x (v ∷ vs) log h = over-old x vs (v ∷ log) (inr h)
 
-pub over-new : {A : Type 0} (x : A) (vs log : List A) → In x vs → In x (over vs log)
+pub over-new : {A : Type 0} (x : A) (vs log : List A) → In x vs → In x (push_all vs log)
 over-new x [] log h = absurd h
 over-new x (v ∷ vs) log (inl e) = over-old x vs (v ∷ log) (inl e)
 over-new x (v ∷ vs) log (inr h) = over-new x vs (v ∷ log) h
 
-pub over-append : {A : Type 0} (a b log : List A) → over (a ++ b) log ≡ over b (over a log)
+pub over-append : {A : Type 0} (a b log : List A) → push_all (a ++ b) log ≡ push_all b (push_all a log)
 over-append [] b log = refl
 over-append (x ∷ a) b log = over-append a b (x ∷ log)
 

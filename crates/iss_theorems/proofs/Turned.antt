@@ -1,6 +1,6 @@
 -- The cluster in the course of a turn of a core, and what may come to it.
 use Rattle.std.proofs.Common.{◌≡◌, ◌≢◌, inl, inr, ℕ, ◌<◌, Bool, true, false, cond, List, [], ◌++◌, Some, None, refl, sym, ap, ◌∙◌, subst, true≢false}
-use Rattle.iss_base.specs.Lists.{In, over}
+use Rattle.iss_base.specs.Lists.{In, push_all}
 use Rattle.iss_base.proofs.Lists.{in_append, in_right, none-some, same_or_not, set_at-other, set_at-same}
 use Rattle.iss_network.specs.Network.{Network}
 use Rattle.iss_network.specs.declared.packets.Sent.{Sent}
@@ -13,32 +13,32 @@ use Rattle.iss_sb.specs.declared.effects.Input.TheVariants.{Cast, Receive, Timeo
 use Rattle.iss_sb.specs.declared.effects.Params.{Params}
 use Rattle.iss_sb.specs.declared.effects.To.{To}
 use Rattle.iss_sb.specs.Evidence.{IsCredible, IsReadBatch, Module, Separate, is_correct}
-use Rattle.iss_causes.specs.declared.causes.NodeEvent.{NodeEvent}
-use Rattle.iss_causes.specs.declared.causes.NodeEvent.TheVariants.{Packet as Gets, Propose as Proposes, Timeout as Fires, AskFrom as Asks}
-use Rattle.iss_cluster.specs.Checkpoints.{scheme_of}
+use Rattle.iss_rules.specs.declared.events.NodeEvent.{NodeEvent}
+use Rattle.iss_rules.specs.declared.events.NodeEvent.TheVariants.{Packet as On_packet, Propose as On_propose, Timeout as On_timeout, AskFrom as On_ask}
+use Rattle.iss_composition.specs.Checkpoints.{scheme_of}
 use Rattle.iss_rules.specs.Books.{Signed}
-use Rattle.iss_cluster.specs.Cluster.{Cluster, IsBooked, IsHashedLog, IsVerified, MayGet, MayTake, Message, Reach, Scheme, rest}
-use Rattle.iss_cluster.proofs.Heads.{Names}
+use Rattle.iss_composition.specs.Cluster.{Cluster, IsBooked, IsHashedLog, IsVerified, MayGet, MayTake, Message, Reach, Scheme, rest}
+use Rattle.iss_composition.proofs.Heads.{Names}
 use Rattle.iss_theorems.specs.Ends.{AreBooked, AreVoted}
 use Rattle.iss_rules.specs.Parcels.{Body, Formats, OfModule, Parcel}
 use Rattle.iss_rules.specs.Votes.{all_verify}
-use Rattle.iss_model.specs.Node.{Core, Turn, onward, rests}
+use Rattle.iss_model.specs.Node.{Core, Turn, then_turn, unchanged}
 use Rattle.iss_rules.specs.SoundRules.{IsSoundRules}
-use Rattle.iss_cluster.specs.Ordered.{Among}
+use Rattle.iss_composition.specs.Ordered.{Among}
 use Rattle.iss_rules.specs.Past.{Past, before, leads_in, log_of, params_of}
 use Rattle.iss_rules.specs.Rules.{Rules}
 use Rattle.iss_model.specs.Run.{Held, as_signed, booked, node_of, posted_all, turned_to}
 use Rattle.iss_rules.proofs.Faithful.{is_message}
 use Rattle.iss_model.specs.Runs.{pasts_of}
 use Rattle.iss_model.proofs.Ready.{IsReadyCore}
-use Rattle.iss_cluster.proofs.Agree.{separate-part}
+use Rattle.iss_composition.proofs.Agree.{separate-part}
 use Rattle.iss_theorems.proofs.Certs.{AreCertified, more-certified}
-use Rattle.iss_cluster.proofs.Checkpoints.{exact-of}
+use Rattle.iss_composition.proofs.Checkpoints.{exact-of}
 use Rattle.iss_rules.proofs.Ending.{HasSlots}
 use Rattle.iss_theorems.proofs.Fits.{AreSent as AreSentBy, Fits as FitsBy, IsPosted as IsPostedBy, Premises, view}
-use Rattle.iss_cluster.proofs.Good.{Good}
+use Rattle.iss_composition.proofs.Good.{Good}
 use Rattle.iss_theorems.proofs.Posts.{posted-from}
-use Rattle.iss_cluster.proofs.Reached.{good-reach}
+use Rattle.iss_composition.proofs.Reached.{good-reach}
 use Rattle.iss_model.proofs.Rows.{IsFit}
 use Rattle.iss_theorems.proofs.Spelled.{AreReadPieces}
 use Rattle.iss_theorems.proofs.Tests.{each-verifies, over-append, over-new, over-old}
@@ -125,11 +125,11 @@ module _ {Msg : Type 0} (s : Setup) (F : Formats Msg) (R : Rules) (M : Module Ms
 
     -- where nodes only stop: the core is a node, and a module's message that comes was sent to it
     abbrev pub Legit : NodeEvent → Type 0
-    Legit (Gets bytes) = (k : Parcel Msg) (l : ℕ) (msg : Msg) → F.unwrap bytes ≡ Some k → k.body ≡ OfModule l msg →
+    Legit (On_packet bytes) = (k : Parcel Msg) (l : ℕ) (msg : Msg) → F.unwrap bytes ≡ Some k → k.body ≡ OfModule l msg →
         In (record { from = k.from; to = i; epoch = k.epoch; leader = l; msg = msg }) ok.messages
-    Legit Proposes = Unit {0}
-    Legit (Fires l) = Unit {0}
-    Legit (Asks peer) = Unit {0}
+    Legit On_propose = Unit {0}
+    Legit (On_timeout l) = Unit {0}
+    Legit (On_ask peer) = Unit {0}
 
     pub record Comes-in (event : NodeEvent) : Type 0 where
       pub low : M.stopping ≡ true → i < s.n
@@ -139,7 +139,7 @@ module _ {Msg : Type 0} (s : Setup) (F : Formats Msg) (R : Rules) (M : Module Ms
     pub there : (t : Turn Msg) (P : Past Msg → Type 0) → P t.core.past → P (pasts_of (turned_to s h i t).net i)
     there t P k = subst P (sym (past-here t)) k
 
-    root-of : (t : Turn Msg) → In {A = List ℕ} [] (over t.strings h.hashed)
+    root-of : (t : Turn Msg) → In {A = List ℕ} [] (push_all t.strings h.hashed)
     root-of t = over-old [] t.strings h.hashed ok.root
 
     more-voted : (j : ℕ) (d : Past Msg) (new : List Signed) → AreVoted R M j d h.signed → AreVoted R M j d (new ++ h.signed)
@@ -147,7 +147,7 @@ module _ {Msg : Type 0} (s : Setup) (F : Formats Msg) (R : Rules) (M : Module Ms
 
     -- a core that is no correct node's may take anything
     pub faulty-fits : (t : Turn Msg) → (M.stopping ≡ true → i < s.n) → is_correct s i ≡ false → IsReadyCore R M (node_of s i) t.core → AreTold s M t.core →
-        Separate (Among (over t.strings h.hashed)) → Fits (turned_to s h i t)
+        Separate (Among (push_all t.strings h.hashed)) → Fits (turned_to s h i t)
     faulty-fits t low faulty core told sep =
         let none : M.stopping ≡ true → ⊥ = λ st. true≢false (sym (core-correct s (faultless s R M sound st) i (low st)) ∙ faulty) in
         let unsigned : (x : Signed) → In x (booked s i t.own) → ⊥ = λ x k. subst (λ (b : Bool). In x (cond b (as_signed t.own) [])) faulty k in
@@ -171,7 +171,7 @@ module _ {Msg : Type 0} (s : Setup) (F : Formats Msg) (R : Rules) (M : Module Ms
           sent = λ st. absurd (none st);
           booked = each-core (λ j d. is_correct s j ≡ true → AreBooked R M j d.past (booked s i t.own ++ h.signed)) t bad
               (λ j good e l item m x w. in_right x (booked s i t.own) h.signed (ok.booked j good e l item m x w));
-          hashed = each-core (λ j d. is_correct s j ≡ true → IsHashedLog S (over t.strings h.hashed) (log_of R M j d.past)) t bad
+          hashed = each-core (λ j d. is_correct s j ≡ true → IsHashedLog S (push_all t.strings h.hashed) (log_of R M j d.past)) t bad
               (λ j good x m. over-old x t.strings h.hashed (ok.hashed j good x m));
           pieces = each-core (λ j d. is_correct s j ≡ true → AreReadPieces s d.past.adopted) t bad ok.pieces;
           certified = each-core (λ j d. is_correct s j ≡ true → AreCertified s R (booked s i t.own ++ h.signed) d) t bad
@@ -207,28 +207,28 @@ module _ {Msg : Type 0} (s : Setup) (F : Formats Msg) (R : Rules) (M : Module Ms
         pub booked : AreBooked R M i t.core.past (booked s i t.own ++ h.signed)
         pub early : M.stopping ≡ true → AreSent messages i t.core
         pub old : (k : Message Msg) → In k ok.messages → In k messages
-        pub hashed : IsHashedLog S (over t.strings h.hashed) (log_of R M i t.core.past)
+        pub hashed : IsHashedLog S (push_all t.strings h.hashed) (log_of R M i t.core.past)
         pub pieces : AreReadPieces s t.core.past.adopted
         pub certified : AreCertified s R h.signed t.core
 
       -- as long as what was hashed is separate
       abbrev pub Apart : Turn Msg → Type 0
-      Apart t = Separate (Among (over t.strings h.hashed))
+      Apart t = Separate (Among (push_all t.strings h.hashed))
 
       abbrev pub Holds : Turn Msg → Type 0
       Holds t = Apart t → Turned t
 
-      pub string-old : (t : Turn Msg) (f : Core Msg → Turn Msg) (x : List ℕ) → In x (over t.strings h.hashed) → In x (over (onward t f).strings h.hashed)
+      pub string-old : (t : Turn Msg) (f : Core Msg → Turn Msg) (x : List ℕ) → In x (push_all t.strings h.hashed) → In x (push_all (then_turn t f).strings h.hashed)
       string-old t f x m = subst (λ (xs : List (List ℕ)). In x xs) (sym (over-append t.strings (f t.core).strings h.hashed))
-          (over-old x (f t.core).strings (over t.strings h.hashed) m)
+          (over-old x (f t.core).strings (push_all t.strings h.hashed) m)
 
-      pub string-new : (t : Turn Msg) (f : Core Msg → Turn Msg) (x : List ℕ) → In x (f t.core).strings → In x (over (onward t f).strings h.hashed)
+      pub string-new : (t : Turn Msg) (f : Core Msg → Turn Msg) (x : List ℕ) → In x (f t.core).strings → In x (push_all (then_turn t f).strings h.hashed)
       string-new t f x m = subst (λ (xs : List (List ℕ)). In x xs) (sym (over-append t.strings (f t.core).strings h.hashed))
-          (over-new x (f t.core).strings (over t.strings h.hashed) m)
+          (over-new x (f t.core).strings (push_all t.strings h.hashed) m)
 
-      pub less-apart : (t : Turn Msg) (f : Core Msg → Turn Msg) → Apart (onward t f) → Apart t
+      pub less-apart : (t : Turn Msg) (f : Core Msg → Turn Msg) → Apart (then_turn t f) → Apart t
       less-apart t f sep =
-          separate-part (Among (over (onward t f).strings h.hashed)) (Among (over t.strings h.hashed)) (λ x m. string-old t f x m) sep
+          separate-part (Among (push_all (then_turn t f).strings h.hashed)) (Among (push_all t.strings h.hashed)) (λ x m. string-old t f x m) sep
 
       pub turned-fits : (t : Turn Msg) → Turned t → AreTold s M t.core → Apart t → Fits (turned_to s h i t)
       turned-fits t k told sep = record {
@@ -242,7 +242,7 @@ module _ {Msg : Type 0} (s : Setup) (F : Formats Msg) (R : Rules) (M : Module Ms
         sent = λ st. each-core (λ j d. AreSent k.messages j d) t (k.early st) (λ j x m. k.old _ (ok.sent st j x m));
         booked = each-core (λ j d. is_correct s j ≡ true → AreBooked R M j d.past (booked s i t.own ++ h.signed)) t (λ good. k.booked)
             (λ j good e l item m x w. in_right x (booked s i t.own) h.signed (ok.booked j good e l item m x w));
-        hashed = each-core (λ j d. is_correct s j ≡ true → IsHashedLog S (over t.strings h.hashed) (log_of R M j d.past)) t (λ good. k.hashed)
+        hashed = each-core (λ j d. is_correct s j ≡ true → IsHashedLog S (push_all t.strings h.hashed) (log_of R M j d.past)) t (λ good. k.hashed)
             (λ j good x m. over-old x t.strings h.hashed (ok.hashed j good x m));
         pieces = each-core (λ j d. is_correct s j ≡ true → AreReadPieces s d.past.adopted) t (λ good. k.pieces) ok.pieces;
         certified = each-core (λ j d. is_correct s j ≡ true → AreCertified s R (booked s i t.own ++ h.signed) d) t
@@ -280,7 +280,7 @@ module _ {Msg : Type 0} (s : Setup) (F : Formats Msg) (R : Rules) (M : Module Ms
             (λ e l item m x w. in_right x (booked s i t.own) h.signed (ok.booked i correct e l item m x w));
         early = early;
         old = λ k m. m;
-        hashed = subst (λ (y : Past Msg). IsHashedLog S (over t.strings h.hashed) (log_of R M i y)) (sym q)
+        hashed = subst (λ (y : Past Msg). IsHashedLog S (push_all t.strings h.hashed) (log_of R M i y)) (sym q)
             (λ x m. over-old x t.strings h.hashed (ok.hashed i correct x m));
         pieces = subst (λ (y : Past Msg). AreReadPieces s y.adopted) (sym q) (ok.pieces i correct);
         certified = certified;
@@ -292,8 +292,8 @@ module _ {Msg : Type 0} (s : Setup) (F : Formats Msg) (R : Rules) (M : Module Ms
       }
 
       pub rests-fits : (d : Core Msg) → d.past ≡ c.past → IsReadyCore R M i d → (M.stopping ≡ true → AreSent ok.messages i d) →
-          AreCertified s R h.signed d → Turned (rests d)
-      rests-fits d q core early certified = still-fits (rests d) q core early certified (λ x m. absurd (no-own x m)) (λ x m. absurd (no-own x m)) (λ x m. absurd m)
+          AreCertified s R h.signed d → Turned (unchanged d)
+      rests-fits d q core early certified = still-fits (unchanged d) q core early certified (λ x m. absurd (no-own x m)) (λ x m. absurd (no-own x m)) (λ x m. absurd m)
 
       -- what may come to the core
       abbrev pub Credible : Past Msg → ℕ → ℕ → Msg → Type 0

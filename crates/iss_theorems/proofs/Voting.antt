@@ -1,6 +1,6 @@
 -- How nodes vote under a set-up, and what its rules say of that.
 use Rattle.std.proofs.Common.{◌≡◌, ℕ, true, List, reverse, refl, sym, ap, ap₂, ◌∙◌}
-use Rattle.iss_base.specs.Lists.{over}
+use Rattle.iss_base.specs.Lists.{push_all}
 use Rattle.iss_log.specs.Chains.{chain_of, end_of, strings_from}
 use Rattle.iss_log.specs.declared.chains.End.{End}
 use Rattle.iss_request.specs.Formats.{HasSpelling}
@@ -12,8 +12,8 @@ use Rattle.iss_sb.specs.Evidence.{Module}
 use Rattle.iss_transfer.specs.declared.pieces.Piece.{Piece as Sent_piece}
 use Rattle.iss_transfer.proofs.AdoptionLemmas.{same-end}
 use Rattle.iss_transfer.specs.Adoption.{said_in}
-use Rattle.iss_cluster.specs.Checkpoints.{scheme_of}
-use Rattle.iss_cluster.specs.Cluster.{chain, vote_statement}
+use Rattle.iss_composition.specs.Checkpoints.{scheme_of}
+use Rattle.iss_composition.specs.Cluster.{chain, vote_statement}
 use Rattle.iss_rules.specs.Concrete.{rules_of}
 use Rattle.iss_model.specs.Node.{leads_to}
 use Rattle.iss_rules.specs.Rules.{Rules}
@@ -54,7 +54,7 @@ module _ (s : Setup) (R : Rules) (voting : IsVoting s R) where
       ap₂ (λ (a : List ℕ) (q : ℕ). vote_statement s e a q) (end-chain log) (end-requests log)
 
   -- the values of a piece lead to what its certificate says
-  pub leads-chained : (before : List Value) (p : Sent_piece) → leads_to R before p ≡ true → p.cert.chain ≡ chain (scheme_of s) (over p.values before)
+  pub leads-chained : (before : List Value) (p : Sent_piece) → leads_to R before p ≡ true → p.cert.chain ≡ chain (scheme_of s) (push_all p.values before)
   leads-chained before p h =
-      let same : R.end (over p.values before) ≡ said_in p.cert = same-end (R.end (over p.values before)) (said_in p.cert) h in
-      sym (ap (λ (z : End). z.chain) same) ∙ end-chain (over p.values before)
+      let same : R.end (push_all p.values before) ≡ said_in p.cert = same-end (R.end (push_all p.values before)) (said_in p.cert) h in
+      sym (ap (λ (z : End). z.chain) same) ∙ end-chain (push_all p.values before)

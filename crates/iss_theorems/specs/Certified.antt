@@ -7,7 +7,7 @@ use Rattle.iss_request.specs.declared.requests.Value.{Value}
 use Rattle.iss_request.specs.declared.setups.Setup.{Setup}
 use Rattle.iss_schedule.specs.declared.schedules.Event.{Event}
 use Rattle.iss_sb.specs.Evidence.{Module, is_correct}
-use Rattle.iss_cluster.specs.Cluster.{Backed}
+use Rattle.iss_composition.specs.Cluster.{Backed}
 use Rattle.iss_rules.specs.Concrete.{rules_of}
 use Rattle.iss_rules.specs.Votes.{is_true_cert}
 use Rattle.iss_theorems.specs.OneLog.{pasts_after, run_after}

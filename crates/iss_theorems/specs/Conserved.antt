@@ -7,11 +7,11 @@ use Rattle.iss_request.specs.declared.ids.Slot.{Slot}
 use Rattle.iss_request.specs.declared.requests.Batch.{Batch}
 use Rattle.iss_request.specs.declared.setups.Setup.{Setup}
 use Rattle.iss_schedule.specs.declared.schedules.Event.{Event}
-use Rattle.iss_schedule.specs.declared.schedules.Event.TheVariants.{Request as Asks_order, Propose, Timeout, Ask, Deliver, Lose, Pump, Calm, Hold, Free, Drop, Restart, Crash, Bytes}
+use Rattle.iss_schedule.specs.declared.schedules.Event.TheVariants.{Request as Event_request, Propose, Timeout, Ask, Deliver, Lose, Pump, Calm, Hold, Free, Drop, Restart, Crash, Bytes}
 use Rattle.iss_sb.specs.declared.effects.Params.{Params}
 use Rattle.iss_sb.specs.Calls.{IsGoodParams}
 use Rattle.iss_sb.specs.Evidence.{IsReached, IsString, Module, Separate, World, accepts, is_correct}
-use Rattle.iss_causes.specs.declared.causes.Why.{Why}
+use Rattle.iss_rules.specs.declared.events.Why.{Why}
 use Rattle.iss_rules.specs.Concrete.{rules_of}
 use Rattle.iss_rules.specs.Formats.{formats_of}
 use Rattle.iss_rules.specs.Parcels.{Formats}
@@ -19,12 +19,12 @@ use Rattle.iss_model.specs.Node.{Core, flown}
 use Rattle.iss_rules.specs.Past.{log_of}
 use Rattle.iss_rules.specs.Rules.{Rules}
 use Rattle.iss_theorems.specs.OneLog.{run_after}
-use Rattle.iss_model.specs.Run.{Happening, Progress, begin_run, goes_further, happens}
+use Rattle.iss_model.specs.Run.{Happening, Progress, apply_event, begin_run, run_event_if_open}
 
 -- the identity of a request event at core i that was not lost
 abbrev pub asked_by : ℕ → Event → Option Why → List ReqId
-asked_by i (Asks_order c client number payload) None = cond (c == i) (record { client = client; number = number } ∷ []) []
-asked_by i (Asks_order c client number payload) (Some why) = []
+asked_by i (Event_request c client number payload) None = cond (c == i) (record { client = client; number = number } ∷ []) []
+asked_by i (Event_request c client number payload) (Some why) = []
 asked_by i (Propose c) lost = []
 asked_by i (Timeout c l) lost = []
 asked_by i (Ask c peer) lost = []
@@ -51,8 +51,8 @@ asked_in i e d = unless_ended d.ended (asked_by i e d.lost)
 abbrev pub WasAsked : {Msg : Type 0} → Setup → Formats Msg → Rules → Module Msg → Progress Msg → List Event → ℕ → ReqId → Type 0
 WasAsked s F R M p [] i x = ⊥
 WasAsked s F R M p (e ∷ es) i x =
-    In x (unless_ended p.ended (asked_in i e (happens s F R M p.held e))) ⊎
-    WasAsked s F R M (goes_further p.ended s F R M p e) es i x
+    In x (unless_ended p.ended (asked_in i e (apply_event s F R M p.held e))) ⊎
+    WasAsked s F R M (run_event_if_open p.ended s F R M p e) es i x
 
 -- exactly one of three
 pub data One (A B C : Type 0) : Type 0 where

@@ -1,15 +1,15 @@
 -- What the end of a run shows to anyone who has its schedule, and what its book holds.
 use Rattle.std.specs.Prelude.{◌≡◌, ◌⊎◌, ℕ, suc, ◌<◌, true, List, ◌∷◌, ◌++◌, Some}
-use Rattle.iss_base.specs.Lists.{In, over}
+use Rattle.iss_base.specs.Lists.{In, push_all}
 use Rattle.iss_keys.specs.Directories.{VerifiesBy, directory_of}
 use Rattle.iss_request.specs.Digest.{digest}
 use Rattle.iss_request.specs.declared.setups.Setup.{Setup}
 use Rattle.iss_schedule.specs.declared.schedules.Event.{Event}
 use Rattle.iss_sb.specs.declared.effects.Claim.{Claim}
 use Rattle.iss_sb.specs.Evidence.{Item, Module, is_correct}
-use Rattle.iss_causes.specs.declared.causes.NodeEvent.{NodeEvent}
+use Rattle.iss_rules.specs.declared.events.NodeEvent.{NodeEvent}
 use Rattle.iss_rules.specs.Books.{Signed}
-use Rattle.iss_cluster.specs.Cluster.{IsOwn}
+use Rattle.iss_composition.specs.Cluster.{IsOwn}
 use Rattle.iss_rules.specs.Concrete.{rules_of}
 use Rattle.iss_rules.specs.Formats.{formats_of}
 use Rattle.iss_rules.specs.Parcels.{Formats}
@@ -17,7 +17,7 @@ use Rattle.iss_model.specs.Node.{Taken, Turn, step}
 use Rattle.iss_theorems.specs.OneLog.{pasts_after, run_after}
 use Rattle.iss_rules.specs.Past.{Past, Piece, before}
 use Rattle.iss_rules.specs.Rules.{Rules}
-use Rattle.iss_causes.specs.Ends.{Collision, End, Forged}
+use Rattle.iss_rules.specs.Ends.{Collision, End, Forged}
 use Rattle.iss_model.specs.Run.{Held, claims_at, early_of, node_of}
 
 -- A core read the claim, which verifies by the rules, and so under the key of the node that it names. That node is correct,
@@ -36,7 +36,7 @@ pub record AreColliding (strings book : List (List ℕ)) (first second : List �
   pub earlier : List (List ℕ)
   pub later : List (List ℕ)
   pub is : strings ≡ earlier ++ second ∷ later
-  pub booked : In first (over earlier book)
+  pub booked : In first (push_all earlier book)
   pub same : digest first ≡ digest second
   pub different : first ≡ second → ⊥
 

@@ -3,13 +3,13 @@ use Rattle.std.specs.Prelude.{◌≡◌, ◌⊎◌, ℕ, true, List, [], ◌∷�
 use Rattle.iss_base.specs.Lists.{In}
 use Rattle.iss_request.specs.declared.setups.Setup.{Setup}
 use Rattle.iss_schedule.specs.declared.schedules.Event.{Event}
-use Rattle.iss_causes.specs.declared.causes.NodeEvent.{NodeEvent}
+use Rattle.iss_rules.specs.declared.events.NodeEvent.{NodeEvent}
 use Rattle.iss_sb.specs.declared.effects.Claim.{Claim}
 use Rattle.iss_sb.specs.Evidence.{Module, is_correct}
 use Rattle.iss_rules.specs.Books.{Signed}
 use Rattle.iss_rules.specs.Rules.{Rules}
 use Rattle.iss_model.specs.Frames.{Frame, claims_at_in, frame_of, step_in}
-use Rattle.iss_model.specs.Node.{Core, Taken, Turn, idle}
+use Rattle.iss_model.specs.Node.{Core, Taken, Turn, initial_core}
 use Rattle.iss_model.specs.Run.{as_signed, node_of}
 use Rattle.iss_theorems.specs.OneLog.{run_after}
 
@@ -20,7 +20,7 @@ pub record Deed (Msg : Type 0) : Type 0 where
 
 -- the core that a node's deeds, newest first, led to
 abbrev pub core_behind : {Msg : Type 0} → List (Deed Msg) → Core Msg
-core_behind [] = idle
+core_behind [] = initial_core
 core_behind (x ∷ xs) = x.turn.core
 
 -- each deed is a step of node me, from the core that the older ones led to

@@ -3,3 +3,4 @@ pub mod Conserved
 pub mod OneLog
 pub mod Ends
 pub mod Leaves
+pub mod Headline

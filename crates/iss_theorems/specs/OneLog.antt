@@ -3,15 +3,15 @@ use Rattle.std.specs.Prelude.{◌≡◌, ◌⊎◌, ℕ, true, List, ◌∷◌, 
 use Rattle.iss_request.specs.Log.{Once}
 use Rattle.iss_request.specs.declared.requests.Batch.{Batch}
 use Rattle.iss_request.specs.declared.requests.Value.{Value}
-use Rattle.iss_request.specs.declared.requests.Value.TheVariants.{Batch as Holds}
+use Rattle.iss_request.specs.declared.requests.Value.TheVariants.{Batch as Value_batch}
 use Rattle.iss_request.specs.declared.setups.Setup.{Setup}
 use Rattle.iss_schedule.specs.declared.schedules.Event.{Event}
 use Rattle.iss_sb.specs.Evidence.{Module, Separate, is_correct}
-use Rattle.iss_cluster.specs.Checkpoints.{scheme_of}
-use Rattle.iss_cluster.specs.Cluster.{Cluster, Reach}
+use Rattle.iss_composition.specs.Checkpoints.{scheme_of}
+use Rattle.iss_composition.specs.Cluster.{Cluster, Reach}
 use Rattle.iss_rules.specs.Concrete.{rules_of}
 use Rattle.iss_rules.specs.SoundRules.{IsSoundRules}
-use Rattle.iss_cluster.specs.Ordered.{Among, IsExact, WasAccepted}
+use Rattle.iss_composition.specs.Ordered.{Among, IsExact, WasAccepted}
 use Rattle.iss_rules.specs.Past.{Past, log_of}
 use Rattle.iss_model.specs.Run.{Progress, begin_run}
 use Rattle.iss_model.specs.Runs.{AreAtCores, IsPrefix, pasts_of}
@@ -49,7 +49,7 @@ pub record IsOneLog {Msg : Type 0} (s : Setup) (M : Module Msg) (events : List E
   pub once : (i : ℕ) → is_correct s i ≡ true → Once (printed s M events i)
   -- a correct node accepted each batch as valid, in the slot in which it is printed
   pub valid : (i : ℕ) → is_correct s i ≡ true → (front back : List Value) (b : Batch) →
-      printed s M events i ≡ front ++ Holds b ∷ back → WasAccepted s (rules_of s) M (pasts_after s M events) (reverse front) b
+      printed s M events i ≡ front ++ Value_batch b ∷ back → WasAccepted s (rules_of s) M (pasts_after s M events) (reverse front) b
   -- more events only make logs longer
   pub grows : (more : List Event) → AreAtCores s more → (i : ℕ) → is_correct s i ≡ true →
       IsPrefix (printed s M events i) (printed s M (events ++ more) i)

@@ -11,8 +11,8 @@ use iss_sb::Sequenced;
 /// No request is lost and none is in two places, whatever happens: each one that a correct core took is in its log, waits at it,
 /// or is in flight (ISS, "conservation").
 pub fn requests_are_conserved<M: Sequenced>()
-    ensures { (s : Setup) → IsSetupOf M.meaning s → AcceptsOnce M.meaning →
-        (events : List Event) → AreAtCores s events → IsConserved s M.meaning events }
+    ensures { (s : Setup) → IsSetupOf M.spec s → AcceptsOnce M.spec →
+        (events : List Event) → AreAtCores s events → IsConserved s M.spec events }
 {
     M::laws();
 }

@@ -1,12 +1,14 @@
-//! Every run is moves of a cluster. So what the composition says of clusters holds of every list of events: the theorems that
-//! the contracts of the program name (ISS, whole protocol).
+//! The theorems that the contracts of the program cite: every run, also one with disk failures and recovery, refines moves of
+//! a cluster, so the composition holds of it (ISS, whole protocol).
 #![tactic(auto)]
 
 pub mod conservation;
+pub mod recovery;
 pub mod signing;
 pub mod theorems;
 
 pub use conservation::requests_are_conserved;
+pub use recovery::restarts_change_nothing;
 pub use signing::leaves_sign_once;
 pub use theorems::{
     adopted_was_delivered, certificates_are_of_logs, cluster_runs, runs_end_with_evidence,

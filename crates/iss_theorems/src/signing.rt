@@ -12,9 +12,9 @@ use iss_sb::Sequenced;
 /// statement, which each signature of its own by that leaf is over. What it was told of its own signatures it may send on as it came
 /// (`node`). So it is with each core of a run, of which the book has what correct nodes sent as signed of their own (`runs`).
 pub fn leaves_sign_once<M: Sequenced>()
-    ensures node { (s : Setup) → IsSetupOf M.meaning s → (me : ℕ) (deeds : List (Deed M.Msg)) →
-        IsLife (frame_of s M.meaning) me deeds → SignsOnceEach (frame_of s M.meaning) me deeds }
-    ensures runs { (s : Setup) → IsSetupOf M.meaning s → (events : List Event) → AreLives s M.meaning events }
+    ensures node { (s : Setup) → IsSetupOf M.spec s → (me : ℕ) (deeds : List (Deed M.Msg)) →
+        IsLife (frame_of s M.spec) me deeds → SignsOnceEach (frame_of s M.spec) me deeds }
+    ensures runs { (s : Setup) → IsSetupOf M.spec s → (events : List Event) → AreLives s M.spec events }
 {
     M::laws();
 }

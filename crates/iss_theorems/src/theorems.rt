@@ -19,8 +19,8 @@ use iss_sb::Sequenced;
 /// cores took is what moves of a cluster lead to, with the run's books (`reached`). So the logs that correct nodes print are of
 /// one log, and more events only make them longer (`one_log`; ISS, whole protocol).
 pub fn cluster_runs<M: Sequenced>()
-    ensures reached { (s : Setup) → IsSetupOf M.meaning s → (events : List Event) → AreAtCores s events → IsClusterRun s M.meaning events }
-    ensures one_log { (s : Setup) → IsSetupOf M.meaning s → (events : List Event) → AreAtCores s events → IsOneLog s M.meaning events }
+    ensures reached { (s : Setup) → IsSetupOf M.spec s → (events : List Event) → AreAtCores s events → IsClusterRun s M.spec events }
+    ensures one_log { (s : Setup) → IsSetupOf M.spec s → (events : List Event) → AreAtCores s events → IsOneLog s M.spec events }
 {
     M::laws();
 }
@@ -28,7 +28,7 @@ pub fn cluster_runs<M: Sequenced>()
 /// A certificate that a correct node keeps has a quorum of true signatures, and says what the log of a correct signer was when
 /// that node ended the epoch (ISS, checkpoints).
 pub fn certificates_are_of_logs<M: Sequenced>()
-    ensures { (s : Setup) → IsSetupOf M.meaning s → (events : List Event) → AreAtCores s events → AreOfLogs s M.meaning events }
+    ensures { (s : Setup) → IsSetupOf M.spec s → (events : List Event) → AreAtCores s events → AreOfLogs s M.spec events }
 {
     M::laws();
 }
@@ -36,9 +36,9 @@ pub fn certificates_are_of_logs<M: Sequenced>()
 /// What a correct node adopted, a correct node delivered in the slot's instance (`delivered`; ISS, state transfer). What a node's
 /// own instance delivered counts before what it adopted (`first`).
 pub fn adopted_was_delivered<M: Sequenced>()
-    ensures delivered { (s : Setup) → IsSetupOf M.meaning s → (events : List Event) → AreAtCores s events → WereDelivered s M.meaning events }
-    ensures first { (R : Rules) (me : ℕ) (c : Past M.Msg) (older : List Value) (v u : Value) → Extends (v ∷ older) (log_of R M.meaning me c) →
-        delivered M.meaning (params_at R older) me (c.evidence (epoch_at R older) (leader_at R older)) (length older) ≡ Some u → v ≡ u }
+    ensures delivered { (s : Setup) → IsSetupOf M.spec s → (events : List Event) → AreAtCores s events → WereDelivered s M.spec events }
+    ensures first { (R : Rules) (me : ℕ) (c : Past M.Msg) (older : List Value) (v u : Value) → Extends (v ∷ older) (log_of R M.spec me c) →
+        delivered M.spec (params_at R older) me (c.evidence (epoch_at R older) (leader_at R older)) (length older) ≡ Some u → v ≡ u }
 {
     M::laws();
 }
@@ -47,7 +47,7 @@ pub fn adopted_was_delivered<M: Sequenced>()
 /// different strings of one digest, of which one was hashed before the other. What comes later changes nothing, and the book
 /// misses no claim and no vote that a correct node sent of its own.
 pub fn runs_end_with_evidence<M: Sequenced>()
-    ensures { (s : Setup) → IsSetupOf M.meaning s → (events : List Event) → AreAtCores s events → HasEvidence s M.meaning events }
+    ensures { (s : Setup) → IsSetupOf M.spec s → (events : List Event) → AreAtCores s events → HasEvidence s M.spec events }
 {
     M::laws();
 }

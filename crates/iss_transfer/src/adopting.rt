@@ -9,14 +9,14 @@ use crate::pieces::Piece;
 use iss_checkpoint::{Cert, check};
 use iss_keys::Directory;
 use iss_log::{Chains, End, link};
-use iss_request::{Bytes, Epoch, NoMemory, Row, Setup, Value};
+use iss_request::{Bytes, Epoch, NoMemory, Seq, Setup, Value};
 use std::alloc::Global;
 
 /// What becomes of a piece. It is adopted, and these strings were hashed for its values; or it is of another epoch or has not the
 /// values of all its slots; or its certificate is not true; or its values lead to another end than its certificate says.
 #[derive(Drop)]
 pub enum Adoption {
-    Adopt { hashed: Row<Bytes> },
+    Adopt { hashed: Seq<Bytes> },
     WrongEpoch,
     BadCert,
     WrongChain { ours: End, theirs: End },
@@ -61,7 +61,7 @@ fn end_from(
     version: u8,
     start: End,
     values: &[Value],
-    hashed: &mut Row<Bytes>,
+    hashed: &mut Seq<Bytes>,
 ) -> Result<End, NoMemory>
     ensures end { IfOk result (λ end. end ≡ end_from version start values.now) }
     ensures hashed { OnOk result (hashed.new ≡ hashed.old ++ strings_from version start.chain values.now) }
@@ -99,7 +99,7 @@ pub fn adopt(
         unreachable!();
     };
     let theirs = said_in(&piece.cert);
-    let mut hashed = Row::new(alloc);
+    let mut hashed = Seq::new(alloc);
     let ours = end_from(
         alloc,
         directory,

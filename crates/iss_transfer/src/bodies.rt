@@ -9,7 +9,7 @@ ghost use Rattle.iss_transfer.specs.Bodies.{fits, parse_ask, parse_piece, piece_
 use crate::pieces::{Ask, Piece};
 use iss_checkpoint::{read_cert, write_cert};
 use iss_request::{
-    Bytes, DecodeError, Epoch, Fields, NoMemory, Row, Value, Writer, read_value, write_value,
+    Bytes, DecodeError, Epoch, Fields, NoMemory, Seq, Value, Writer, read_value, write_value,
 };
 use std::alloc::Global;
 
@@ -51,11 +51,11 @@ pub fn write_piece(piece: &Piece, out: &mut Writer) -> Result<(), NoMemory>
     put_row(piece, out)
 }
 
-fn read_values(alloc: Global, count: u8, f: &mut Fields) -> Result<Row<Value>, DecodeError>
+fn read_values(alloc: Global, count: u8, f: &mut Fields) -> Result<Seq<Value>, DecodeError>
     ensures ok { IfOk result (λ vs. IsRead (times count (parse_value f.old.version)) f.old f.new vs) }
     ensures bad { (at : ℕ) → result ≡ Err (DecodeError.BadField at) → IsUnreadable (times count (parse_value f.old.version)) f.old at }
 {
-    let mut values = Row::new(alloc);
+    let mut values = Seq::new(alloc);
     for _ in 0..count {
         let value = read_value(alloc, f)?;
         values.push(value)?;

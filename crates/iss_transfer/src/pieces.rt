@@ -1,6 +1,6 @@
 //! What nodes send each other to catch up.
 use iss_checkpoint::Cert;
-use iss_request::{Epoch, Row, Value};
+use iss_request::{Epoch, Seq, Value};
 
 /// A node asks for the values of an epoch.
 #[derive(Clone, Copy, Debug, PartialEq, Eq)]
@@ -12,6 +12,6 @@ pub struct Ask {
 #[derive(Drop)]
 pub struct Piece {
     pub epoch: Epoch,
-    pub values: Row<Value>,
+    pub values: Seq<Value>,
     pub cert: Cert,
 }

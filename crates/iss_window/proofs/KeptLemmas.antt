@@ -9,7 +9,7 @@ use Rattle.iss_request.specs.declared.ids.ReqId.{ReqId}
 use Rattle.iss_request.proofs.Identities.{any-has_id, same_id-flip, same_id-tells}
 use Rattle.iss_window.specs.declared.windows.Place.TheVariants.{Below, Inside, Above}
 use Rattle.iss_window.specs.Window.{IsLow, Noted, and_closed, and_noted, id_of, none_noted, place_of}
-use Rattle.iss_window.specs.Kept.{AreNumbers, AreTaken, IsTable, Kept, StandsFor, is_noted, is_taken}
+use Rattle.iss_window.specs.Kept.{AreNumbers, AreTaken, IsTable, Kept, RefinesNoted, is_noted, is_taken}
 use Rattle.iss_window.proofs.LowLemmas.{low-is, low-same}
 
 -- ---- identities
@@ -69,15 +69,15 @@ swap true true c = refl
 swap true false c = refl
 swap false b c = refl
 
-pub noted-more : (k : Kept) (n : Noted) (x : ReqId) (new : List ReqId) → StandsFor k n → ((id : ReqId) → has_id id new ≡ (same_id id x || has_id id k.above))
-    → StandsFor (record { width = k.width; lows = k.lows; above = new }) (and_noted n x)
+pub noted-more : (k : Kept) (n : Noted) (x : ReqId) (new : List ReqId) → RefinesNoted k n → ((id : ReqId) → has_id id new ≡ (same_id id x || has_id id k.above))
+    → RefinesNoted (record { width = k.width; lows = k.lows; above = new }) (and_noted n x)
 noted-more k n x new st is = record {
   noted = λ id. ap (λ t. nat_lt id.number (slice_index k.lows id.client) || t) (is id)
       ∙ swap (nat_lt id.number (slice_index k.lows id.client)) (same_id id x) (has_id id k.above) ∙ ap (λ t. same_id id x || t) (st.noted id);
   lows = λ client lt. st.lows client lt;
 }
 
-pub noted-again : (k : Kept) (n : Noted) (x : ReqId) → StandsFor k n → has_id x n.all ≡ true → StandsFor k (and_noted n x)
+pub noted-again : (k : Kept) (n : Noted) (x : ReqId) → RefinesNoted k n → has_id x n.all ≡ true → RefinesNoted k (and_noted n x)
 noted-again k n x st there = record {
   noted = λ id. st.noted id ∙ go id (same_id id x) refl;
   lows = λ client lt. st.lows client lt;
@@ -88,8 +88,8 @@ noted-again k n x st there = record {
     go id false same = refl
 
 -- lists with the same identities serve alike
-pub stands-same : (k : Kept) (n m : Noted) → StandsFor k n → ((id : ReqId) → has_id id n.all ≡ has_id id m.all) → ((id : ReqId) → has_id id n.closed ≡ has_id id m.closed) → StandsFor k m
-stands-same k n m st all closed = record {
+pub refines-same : (k : Kept) (n m : Noted) → RefinesNoted k n → ((id : ReqId) → has_id id n.all ≡ has_id id m.all) → ((id : ReqId) → has_id id n.closed ≡ has_id id m.closed) → RefinesNoted k m
+refines-same k n m st all closed = record {
   noted = λ id. st.noted id ∙ all id;
   lows = λ client lt. low-same n.closed m.closed client (slice_index k.lows client) closed (st.lows client lt);
 }
@@ -181,8 +181,8 @@ table-set lows c next within most h = record {
 
 -- ---- an epoch ends
 
-pub closed : (k : Kept) (n : Noted) (lows : List ℕ) (above : List ReqId) → StandsFor k n → ((id : ReqId) → is_noted lows above id ≡ is_noted k.lows k.above id)
-    → ((client : ℕ) → client < 256 → has_id (id_of client (slice_index lows client)) above ≡ false) → StandsFor (record { width = k.width; lows = lows; above = above }) (and_closed n)
+pub closed : (k : Kept) (n : Noted) (lows : List ℕ) (above : List ReqId) → RefinesNoted k n → ((id : ReqId) → is_noted lows above id ≡ is_noted k.lows k.above id)
+    → ((client : ℕ) → client < 256 → has_id (id_of client (slice_index lows client)) above ≡ false) → RefinesNoted (record { width = k.width; lows = lows; above = above }) (and_closed n)
 closed k n lows above st same up = record {
   noted = λ id. same id ∙ st.noted id;
   lows = λ client lt. record {
@@ -206,8 +206,8 @@ zero-more [] h (suc j) = refl
 zero-more (x ∷ xs) h zero = h zero
 zero-more (x ∷ xs) h (suc j) = zero-more xs (λ i. h (suc i)) j
 
-pub stands-none : (width : ℕ) (lows : List ℕ) → ((j : ℕ) → slice_index lows j ≡ 0) → StandsFor (record { width = width; lows = lows; above = [] }) none_noted
-stands-none width lows zeros = record {
+pub refines-none : (width : ℕ) (lows : List ℕ) → ((j : ℕ) → slice_index lows j ≡ 0) → RefinesNoted (record { width = width; lows = lows; above = [] }) none_noted
+refines-none width lows zeros = record {
   noted = λ id. ap (λ k. nat_lt id.number k || false) (zeros id.client) ∙ nothing id.number;
   lows = λ client lt. record {
     absent = refl;

@@ -1,3 +1,4 @@
 mod Examples
 pub mod KeptLemmas
 pub mod LowLemmas
+pub mod Members

@@ -15,7 +15,7 @@ abbrev pub is_noted : List ℕ → List ReqId → ReqId → Bool
 is_noted lows above id = nat_lt id.number (slice_index lows id.client) || has_id id above
 
 -- what is kept stands for what was noted
-pub record StandsFor (k : Kept) (n : Noted) : Type 0 where
+pub record RefinesNoted (k : Kept) (n : Noted) : Type 0 where
   pub noted : (id : ReqId) → is_noted k.lows k.above id ≡ has_id id n.all
   pub lows : (client : ℕ) → client < 256 → IsLow n.closed client (slice_index k.lows client)
 

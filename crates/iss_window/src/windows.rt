@@ -2,7 +2,7 @@
 ghost use Rattle.std.specs.Prelude.{◌≡◌, ◌<◌, ◌≤◌, ◌^◌, ℕ, false, length, slice_index, IfOk, OnOk, OnErr, IsTrue, if◌then◌else◌};
 ghost use Rattle.iss_request.specs.Log.{has_id, same_id};
 ghost use Rattle.iss_request.specs.declared.ids.ReqId.{ReqId};
-ghost use Rattle.iss_window.specs.Kept.{AreNumbers, AreTaken, IsTable, StandsFor, is_noted};
+ghost use Rattle.iss_window.specs.Kept.{AreNumbers, AreTaken, IsTable, RefinesNoted, is_noted};
 ghost use Rattle.iss_window.specs.Window.{Noted, and_closed, and_noted, id_of, none_noted, place_of};
 
 use iss_request::{NoMemory, ReqId, Setup};
@@ -45,7 +45,7 @@ impl Model for Windows {
 impl Windows {
     /// Each window begins at 0, and nothing is noted.
     pub fn new(alloc: Global, setup: &Setup) -> Result<Windows, NoMemory>
-        ensures none { IfOk result (λ w. StandsFor w none_noted) }
+        ensures none { IfOk result (λ w. RefinesNoted w none_noted) }
         ensures width { IfOk result (λ w. w.width ≡ setup.now.window) }
     {
         Ok(Windows {
@@ -57,7 +57,7 @@ impl Windows {
 
     /// Where an identity lies to its client's window.
     pub fn test(&self, id: ReqId) -> Place
-        ensures { (n : Noted) → StandsFor self.now n → result ≡ place_of self.now.width n.closed id }
+        ensures { (n : Noted) → RefinesNoted self.now n → result ≡ place_of self.now.width n.closed id }
     {
         let low = self.lows[id.client as usize];
         let number = id.number as u64;
@@ -72,14 +72,14 @@ impl Windows {
 
     /// Whether an identity was noted.
     pub fn ordered(&self, id: ReqId) -> bool
-        ensures { (n : Noted) → StandsFor self.now n → result ≡ has_id id n.all }
+        ensures { (n : Noted) → RefinesNoted self.now n → result ≡ has_id id n.all }
     {
         (id.number as u64) < self.lows[id.client as usize] || self.above.contains(&id)
     }
 
     /// Notes an identity. The windows stay where they are until the epoch ends.
     pub fn note(&mut self, id: ReqId) -> Result<(), NoMemory>
-        ensures ok { OnOk result ((n : Noted) → StandsFor self.old n → StandsFor self.new (and_noted n id)) }
+        ensures ok { OnOk result ((n : Noted) → RefinesNoted self.old n → RefinesNoted self.new (and_noted n id)) }
         ensures width { self.new.width ≡ self.old.width }
         ensures err { OnErr result (self.new ≡ self.old) }
     {
@@ -91,7 +91,7 @@ impl Windows {
 
     /// The epoch has ended: each window begins now at the client's least number that was not noted.
     pub fn close_epoch(&mut self)
-        ensures closed { (n : Noted) → StandsFor self.old n → StandsFor self.new (and_closed n) }
+        ensures closed { (n : Noted) → RefinesNoted self.old n → RefinesNoted self.new (and_closed n) }
         ensures width { self.new.width ≡ self.old.width }
     {
         raise_all(&mut self.lows, &mut self.above);

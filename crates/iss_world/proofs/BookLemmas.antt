@@ -5,7 +5,7 @@ use Rattle.std.specs.List.{list_any}
 use Rattle.std.specs.Cmp.Lexicographic.{slice_cmp}
 use Rattle.std.specs.Ordering.{is_eq, nat_cmp}
 use Rattle.std.proofs.lemmas.Bool.{lt-ltb}
-use Rattle.iss_base.specs.Lists.{In, first_of, over, same_bytes}
+use Rattle.iss_base.specs.Lists.{In, first_of, push_all, same_bytes}
 use Rattle.iss_base.proofs.Lists.{none-some, same-test, same_bytes-is, same_bytes-refl, some-injective}
 use Rattle.iss_keys.proofs.DirectoryLemmas.{verified-by}
 use Rattle.iss_keys.specs.Directories.{DirectoryView, VerifiesBy}
@@ -13,7 +13,7 @@ use Rattle.iss_keys.specs.VerifiedBy.{is_verified_by}
 use Rattle.iss_rules.specs.Books.{Signed}
 use Rattle.iss_rules.specs.Concrete.{keys_of, rules_of}
 use Rattle.iss_rules.specs.Rules.{Rules}
-use Rattle.iss_causes.specs.Ends.{End, Collision}
+use Rattle.iss_rules.specs.Ends.{End, Collision}
 use Rattle.iss_model.specs.Run.{as_signed, booked, collision_in, collision_with, first_forged, has_signed, is_collision, is_forged}
 use Rattle.iss_theorems.proofs.Tests.{as_signed-append}
 use Rattle.iss_request.specs.Digest.{digest}
@@ -24,8 +24,8 @@ use Rattle.iss_sb.specs.declared.effects.Claim.{Claim}
 use Rattle.iss_sb.proofs.Cases.{same_list}
 use Rattle.iss_world.proofs.PostLemmas.{take-next}
 use Rattle.iss_world.specs.Books.{AreHashed, AreSigned, difference, string_at}
-use Rattle.iss_world.specs.Stands.{end_of}
-use Rattle.iss_world.specs.declared.ends.End.{End as Kept}
+use Rattle.iss_world.specs.Refines.{end_of}
+use Rattle.iss_world.specs.declared.ends.Evidence.{Evidence}
 
 -- ---- lists of bytes as keys
 
@@ -278,7 +278,7 @@ past-first None p q e h k = k h
 past-first (Some x) p q e h k = absurd (none-some x (sym h))
 
 pub collision-here : (xs : List (List ℕ)) (k : ℕ) (d : List ℕ) (book : List (List ℕ)) (e : End) → k < length xs → collision_in (take k xs) book ≡ None →
-    collision_with (get_or xs k d) (over (take k xs) book) ≡ Some e → collision_in xs book ≡ Some e
+    collision_with (get_or xs k d) (push_all (take k xs) book) ≡ Some e → collision_in xs book ≡ Some e
 collision-here [] k d book e lt h c = absurd (omega (arith, lt))
 collision-here (x ∷ xs) zero d book e lt h c = ap (λ (o : Option End). first_of o (collision_in xs (x ∷ book))) c
 collision-here (x ∷ xs) (suc k) d book e lt h c =
@@ -289,30 +289,30 @@ first-assoc : (o p q : Option End) → first_of o (first_of p q) ≡ first_of (f
 first-assoc None p q = refl
 first-assoc (Some x) p q = refl
 
-collision-append : (xs ys book : List (List ℕ)) → collision_in (xs ++ ys) book ≡ first_of (collision_in xs book) (collision_in ys (over xs book))
+collision-append : (xs ys book : List (List ℕ)) → collision_in (xs ++ ys) book ≡ first_of (collision_in xs book) (collision_in ys (push_all xs book))
 collision-append [] ys book = refl
 collision-append (x ∷ xs) ys book =
     ap (λ (o : Option End). first_of (collision_with x book) o) (collision-append xs ys (x ∷ book))
-    ∙ first-assoc (collision_with x book) (collision_in xs (x ∷ book)) (collision_in ys (over xs (x ∷ book)))
+    ∙ first-assoc (collision_with x book) (collision_in xs (x ∷ book)) (collision_in ys (push_all xs (x ∷ book)))
 
-over-append : (xs ys book : List (List ℕ)) → over (xs ++ ys) book ≡ over ys (over xs book)
+over-append : (xs ys book : List (List ℕ)) → push_all (xs ++ ys) book ≡ push_all ys (push_all xs book)
 over-append [] ys book = refl
 over-append (x ∷ xs) ys book = over-append xs ys (x ∷ book)
 
 -- the strings up to place k, none of which collides, and the one there
 pub record AreApart (v : List (List ℕ × List ℕ)) (strings : List (List ℕ)) (book : List (List ℕ)) : Type 0 where
   pub none : collision_in strings book ≡ None
-  pub booked : AreHashed v (over strings book)
+  pub booked : AreHashed v (push_all strings book)
 
 pub apart-next : (v : List (List ℕ × List ℕ)) (xs : List (List ℕ)) (k : ℕ) (x : List ℕ) (book : List (List ℕ)) → k < length xs → x ≡ get_or xs k x → collision_in (take k xs) book ≡ None →
-    collision_with x (over (take k xs) book) ≡ None → AreHashed v (x ∷ over (take k xs) book) → AreApart v (take (k + 1) xs) book
+    collision_with x (push_all (take k xs) book) ≡ None → AreHashed v (x ∷ push_all (take k xs) book) → AreApart v (take (k + 1) xs) book
 apart-next v xs k x book lt is h c b =
     let front : take (k + 1) xs ≡ take k xs ++ x ∷ [] = take-next xs k x lt is in
     record {
       none = ap (λ (ys : List (List ℕ)). collision_in ys book) front ∙ collision-append (take k xs) (x ∷ []) book
-          ∙ ap (λ (o : Option End). first_of o (first_of (collision_with x (over (take k xs) book)) None)) h
+          ∙ ap (λ (o : Option End). first_of o (first_of (collision_with x (push_all (take k xs) book)) None)) h
           ∙ ap (λ (o : Option End). let p : Option End = first_of o None in p) c;
-      booked = subst (λ (ys : List (List ℕ)). AreHashed v ys) (sym (ap (λ (ys : List (List ℕ)). over ys book) front ∙ over-append (take k xs) (x ∷ []) book)) b;
+      booked = subst (λ (ys : List (List ℕ)). AreHashed v ys) (sym (ap (λ (ys : List (List ℕ)). push_all ys book) front ∙ over-append (take k xs) (x ∷ []) book)) b;
     }
 
 pub if-ok : {A E : Type 0} (P Q : A → Type 0) (r : Result A E) → IfOk r P → ((x : A) → P x → Q x) → IfOk r Q
@@ -326,24 +326,24 @@ none-booked s c own v book no' h = subst (λ (b : Bool). AreSigned v (cond b (as
 pub all-booked : (s : Setup) (c : ℕ) (own : List Claim) (v : List (List ℕ)) (book : List Signed) → is_correct s c ≡ true → AreSigned v (as_signed own ++ book) → AreSigned v (booked s c own ++ book)
 all-booked s c own v book yes' h = subst (λ (b : Bool). AreSigned v (cond b (as_signed own) [] ++ book)) (sym yes') h
 
-some-end : (o : Option Kept) (p : Option End) → is_some o ≡ true → option_map end_of o ≡ p → (e : End) × (p ≡ Some e)
+some-end : (o : Option Evidence) (p : Option End) → is_some o ≡ true → option_map end_of o ≡ p → (e : End) × (p ≡ Some e)
 some-end (Some x) p q h = (end_of x, sym h)
 some-end None p q h = absurd (true≢false (sym q))
 
-pub not-some : (o : Option Kept) → is_some o ≡ false → o ≡ None
+pub not-some : (o : Option Evidence) → is_some o ≡ false → o ≡ None
 not-some None q = refl
 not-some (Some x) q = absurd (true≢false q)
 
-pub was-some : (o : Option Kept) → is_some o ≡ true → o ≡ None → ⊥
-was-some o q e = true≢false (sym q ∙ ap (λ (z : Option Kept). is_some z) e)
+pub was-some : (o : Option Evidence) → is_some o ≡ true → o ≡ None → ⊥
+was-some o q e = true≢false (sym q ∙ ap (λ (z : Option Evidence). is_some z) e)
 
 -- the string at place k is the first that collides
-pub collision-told : (xs : List (List ℕ)) (k : ℕ) (x : List ℕ) (book : List (List ℕ)) (o : Option Kept) → k < length xs → x ≡ get_or xs k x → collision_in (take k xs) book ≡ None →
-    is_some o ≡ true → option_map end_of o ≡ collision_with x (over (take k xs) book) → option_map end_of o ≡ collision_in xs book
+pub collision-told : (xs : List (List ℕ)) (k : ℕ) (x : List ℕ) (book : List (List ℕ)) (o : Option Evidence) → k < length xs → x ≡ get_or xs k x → collision_in (take k xs) book ≡ None →
+    is_some o ≡ true → option_map end_of o ≡ collision_with x (push_all (take k xs) book) → option_map end_of o ≡ collision_in xs book
 collision-told xs k x book o lt is none some h =
-    let e = some-end o (collision_with x (over (take k xs) book)) some h in
-    let here : collision_with (get_or xs k x) (over (take k xs) book) ≡ Some e.0 = ap (λ (z : List ℕ). collision_with z (over (take k xs) book)) (sym is) ∙ e.1 in
+    let e = some-end o (collision_with x (push_all (take k xs) book)) some h in
+    let here : collision_with (get_or xs k x) (push_all (take k xs) book) ≡ Some e.0 = ap (λ (z : List ℕ). collision_with z (push_all (take k xs) book)) (sym is) ∙ e.1 in
     h ∙ e.1 ∙ sym (collision-here xs k x book e.0 lt none here)
 
-pub no-collision-at : (x : List ℕ) (book : List (List ℕ)) (o : Option Kept) → is_some o ≡ false → option_map end_of o ≡ collision_with x book → collision_with x book ≡ None
-no-collision-at x book o no' h = sym h ∙ ap (λ (z : Option Kept). option_map end_of z) (not-some o no')
+pub no-collision-at : (x : List ℕ) (book : List (List ℕ)) (o : Option Evidence) → is_some o ≡ false → option_map end_of o ≡ collision_with x book → collision_with x book ≡ None
+no-collision-at x book o no' h = sym h ∙ ap (λ (z : Option Evidence). option_map end_of z) (not-some o no')

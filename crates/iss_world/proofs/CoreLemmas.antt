@@ -9,12 +9,12 @@ use Rattle.iss_network.specs.Network.{Network, empty_network}
 use Rattle.iss_request.specs.Setup.{AreRising, IsGoodSetup}
 use Rattle.iss_request.specs.declared.ids.NodeId.{NodeId}
 use Rattle.iss_request.specs.declared.setups.Setup.{Setup}
-use Rattle.iss_restarts.specs.Courses.{begin_machines}
+use Rattle.iss_model.specs.Courses.{begin_machines}
 use Rattle.iss_sb.specs.Calls.{Relation}
 use Rattle.iss_sb.specs.Evidence.{Module}
 use Rattle.iss_world.specs.Books.{AreHashed, AreSigned}
-use Rattle.iss_world.specs.Shape.{AreForCores, IsRunning}
-use Rattle.iss_world.specs.Stands.{AreFresh, IsFresh, Runs}
+use Rattle.iss_world.specs.Shape.{AreForCores, IsSimulation}
+use Rattle.iss_world.specs.Refines.{AreFresh, IsFresh, RefinesMachines}
 
 rising-at : (from n : ℕ) (xs : List NodeId) (j : ℕ) (d : NodeId) → AreRising from n xs → j < length xs → (slice_index_or xs j d).0 < n
 rising-at from n [] j d h lt = absurd (omega (arith, lt))
@@ -37,22 +37,22 @@ at-end (y ∷ ys) x g (suc i) e = elim (at-end ys x g i e) [
   | inr h ↦ inr (ap suc h.0, h.1)
 ]
 
-module _ {M Msg : Type 0} (m : Module Msg) (stands : Relation M Msg) where
-  pub fresh-more : (s : Setup) (n : ℕ) (xs : List (KeptState M Msg MemoryDisk)) (x : KeptState M Msg MemoryDisk) → AreFresh m stands s n xs → IsFresh m stands s n x → AreFresh m stands s (n + 1) (xs ++ x ∷ [])
+module _ {M Msg : Type 0} (m : Module Msg) (refines : Relation M Msg) where
+  pub fresh-more : (s : Setup) (n : ℕ) (xs : List (KeptState M Msg MemoryDisk)) (x : KeptState M Msg MemoryDisk) → AreFresh m refines s n xs → IsFresh m refines s n x → AreFresh m refines s (n + 1) (xs ++ x ∷ [])
   fresh-more s n xs x h f = record {
     count = length-append xs (x ∷ []) ∙ ap (λ k. k + 1) h.count;
     each = λ i g e. elim (at-end xs x g i e) [
       | inl t ↦ h.each i g t
-      | inr t ↦ subst (λ (k : ℕ). IsFresh m stands s k g) (sym (t.0 ∙ h.count)) (subst (λ (z : KeptState M Msg MemoryDisk). IsFresh m stands s n z) (sym t.1) f)
+      | inr t ↦ subst (λ (k : ℕ). IsFresh m refines s k g) (sym (t.0 ∙ h.count)) (subst (λ (z : KeptState M Msg MemoryDisk). IsFresh m refines s n z) (sym t.1) f)
     ];
   }
 
   pub fresh-running : (s t : Setup) (nodes : List (KeptState M Msg MemoryDisk)) (net : Network) (signed : List (List ℕ)) (hashed : List (List ℕ × List ℕ)) (cores : ℕ) → IsSetupOf m s → t ≡ s →
-      cores ≡ cores_of s → AreFresh m stands s (cores_of s) nodes → net ≡ empty_network cores →
-      IsRunning m (record { setup = t; nodes = nodes; network = net; signed = signed; hashed = hashed })
+      cores ≡ cores_of s → AreFresh m refines s (cores_of s) nodes → net ≡ empty_network cores →
+      IsSimulation m (record { setup = t; nodes = nodes; network = net; signed = signed; hashed = hashed })
   fresh-running s t nodes net signed hashed cores good e ec h en =
       let here : net ≡ empty_network (cores_of s) = en ∙ ap (λ (k : ℕ). empty_network k) ec in
-      let P : Setup → Type 0 = λ u. IsRunning m (record { setup = u; nodes = nodes; network = net; signed = signed; hashed = hashed }) in
+      let P : Setup → Type 0 = λ u. IsSimulation m (record { setup = u; nodes = nodes; network = net; signed = signed; hashed = hashed }) in
       subst P (sym e) (record {
         good = good;
         count = h.count;
@@ -66,10 +66,10 @@ module _ {M Msg : Type 0} (m : Module Msg) (stands : Relation M Msg) where
 
   -- fresh cores with no packets, and books with the empty string alone, stand for the start of a run
   pub fresh-runs : (s t : Setup) (nodes : List (KeptState M Msg MemoryDisk)) (net : Network) (signed : List (List ℕ)) (hashed : List (List ℕ × List ℕ)) (cores : ℕ) → cores ≡ cores_of s →
-      AreFresh m stands s (cores_of s) nodes → net ≡ empty_network cores → AreSigned signed [] → AreHashed hashed ([] ∷ []) →
-      Runs m stands (record { setup = t; nodes = nodes; network = net; signed = signed; hashed = hashed }) (begin_machines s)
+      AreFresh m refines s (cores_of s) nodes → net ≡ empty_network cores → AreSigned signed [] → AreHashed hashed ([] ∷ []) →
+      RefinesMachines m refines (record { setup = t; nodes = nodes; network = net; signed = signed; hashed = hashed }) (begin_machines s)
   fresh-runs s t nodes net signed hashed cores ec h e es eh = record {
-    cores = λ i g at. (h.each i g at).stands_for;
+    cores = λ i g at. (h.each i g at).refined;
     network = e ∙ ap (λ (k : ℕ). empty_network k) ec;
     signed = es;
     hashed = eh;

@@ -2,8 +2,8 @@
 use Rattle.std.proofs.Common.{◌≡◌, ℕ, ◌≤◌, Bool, true, false, List, [], ◌∷◌, ◌++◌, Option, Some, None, reverse, refl, sym, ap, ◌∙◌, subst, true≢false}
 use Rattle.std.proofs.lemmas.Bool.{le-leb, lt-leb}
 use Rattle.iss_base.proofs.Lists.{some-injective}
-use Rattle.iss_causes.specs.declared.causes.NodeEvent.{NodeEvent}
-use Rattle.iss_causes.specs.declared.causes.Why.{Why}
+use Rattle.iss_rules.specs.declared.events.NodeEvent.{NodeEvent}
+use Rattle.iss_rules.specs.declared.events.Why.{Why}
 use Rattle.iss_disk.specs.Calls.{IfTold, Passes, Restarts, Runs, Stays, script, up_to}
 use Rattle.iss_disk.specs.File.{File, settled}
 use Rattle.iss_disk.specs.MemoryLaws.{memory_here}
@@ -15,27 +15,27 @@ use Rattle.iss_keep.proofs.DiskLemmas.{attached-same, attached-synced, never-dam
 use Rattle.iss_keep.proofs.TakenLemmas.{taken-goes-on, taken-later}
 use Rattle.iss_keep.specs.Cores.{core_of, step_of}
 use Rattle.iss_keep.specs.Entries.{spell_event}
-use Rattle.iss_keep.specs.State.{IsAt, KeptState, StandsFor}
+use Rattle.iss_keep.specs.State.{KeptRefinesCore, KeptState, RefinesEntries}
 use Rattle.iss_keep.specs.Steps.{IsAnswer, IsAttached, IsDamaged, IsDrop, IsSame, IsTaken, IsTurn, IsWritten, LosesNone, ShowsAsBefore, Sight, makes_stale, sight}
 use Rattle.iss_keep.specs.declared.answers.Answer.{Answer}
-use Rattle.iss_keep.specs.declared.answers.Answer.TheVariants.{Dropped as Was_dropped, Failed, NoMemory, Stale, Taken as Was_kept}
+use Rattle.iss_keep.specs.declared.answers.Answer.TheVariants.{Dropped as Kept_dropped, Failed, NoMemory, Stale, Taken as Kept_taken}
 use Rattle.iss_log.specs.LogState.{GoesOn}
-use Rattle.iss_model.specs.Node.{Core, Dropped, Stepped, Taken, idle, step}
-use Rattle.iss_node.specs.State.{NodeState}
+use Rattle.iss_model.specs.Node.{Core, Dropped, Stepped, Taken, initial_core, step}
+use Rattle.iss_node.specs.State.{NodeView}
 use Rattle.iss_node.specs.Steps.{IsOfNodes}
 use Rattle.iss_node.specs.declared.answers.Outcome.{Outcome}
 use Rattle.iss_request.specs.declared.ids.NodeId.{NodeId}
 use Rattle.iss_request.specs.declared.requests.Value.{Value}
 use Rattle.iss_request.specs.declared.setups.Setup.{Setup}
-use Rattle.iss_restarts.specs.Courses.{after_step, core_of as core_of_kept}
-use Rattle.iss_restarts.specs.Disks.{Disk, entry_calls, fused, keeps, left_behind, may_keep}
+use Rattle.iss_model.specs.Courses.{after_step, core_of as core_of_kept}
+use Rattle.iss_model.specs.Disks.{Disk, entry_calls, fused, keeps, left_behind, may_keep}
 use Rattle.iss_rules.specs.Concrete.{rules_of}
 use Rattle.iss_rules.specs.Formats.{formats_of}
 use Rattle.iss_rules.specs.Past.{log_of}
 use Rattle.iss_rules.specs.Setups.{IsSetupOf}
 use Rattle.iss_sb.specs.Calls.{Relation}
 use Rattle.iss_sb.specs.Evidence.{Module}
-use Rattle.iss_world.specs.Stands.{IsThere, LeadsBy, ShowsCore, StandsOver, calls_to_come}
+use Rattle.iss_world.specs.Refines.{LeadsBy, RefinesMachine, RefinesOrShowsCore, ShowsCore, calls_to_come}
 use Rattle.iss_world.specs.Steps.{HasAnswered, IsKeptTurn, IsStop}
 
 -- the same node, and again
@@ -59,41 +59,41 @@ passes-failed (Some calls) now h = let r = runs-failed 4 calls now h in (lt-leb 
 read-told : (P : File → Type 0) (history : List File) (file : File) (past : List File) → history ≡ file ∷ past → IfTold history P → P file
 read-told P history file past told h = subst (λ (files : List File). IfTold files P) told h
 
-module _ {M Msg : Type 0} (m : Module Msg) (stands : Relation M Msg) where
+module _ {M Msg : Type 0} (m : Module Msg) (refines : Relation M Msg) where
   -- ---- what it shows
 
-  pub at-shows : (g : KeptState M Msg MemoryDisk) (c : Core Msg) → IsAt m stands g c → ShowsCore m g.setup g.me.0 g c
+  pub at-shows : (g : KeptState M Msg MemoryDisk) (c : Core Msg) → KeptRefinesCore m refines g c → ShowsCore m g.setup g.me.0 g c
   at-shows g c at = record {
-    log = subst (λ (s : Setup). log_of (rules_of s) m g.me.0 c.past ≡ reverse g.node.parts.log.entries) at.cluster
-        (subst (λ (i : NodeId). log_of (rules_of g.node.parts.setup) m i.0 c.past ≡ reverse g.node.parts.log.entries) at.number at.node.held.parts.tied.log);
-    epoch = at.node.held.parts.tied.epoch;
+    log = subst (λ (s : Setup). log_of (rules_of s) m g.me.0 c.past ≡ reverse g.node.state.log.entries) at.cluster
+        (subst (λ (i : NodeId). log_of (rules_of g.node.state.setup) m i.0 c.past ≡ reverse g.node.state.log.entries) at.number at.node.held.state.tied.log);
+    epoch = at.node.held.state.tied.epoch;
   }
 
-  there-shows : (g : KeptState M Msg MemoryDisk) (c : Core Msg) (failed : Bool) → IsThere m stands g c failed → ShowsCore m g.setup g.me.0 g c
+  there-shows : (g : KeptState M Msg MemoryDisk) (c : Core Msg) (failed : Bool) → RefinesOrShowsCore m refines g c failed → ShowsCore m g.setup g.me.0 g c
   there-shows g c false h = at-shows g c h
   there-shows g c true h = h.1
 
-  pub over-shows : (g : KeptState M Msg MemoryDisk) (c : Core Msg) (d : Disk) → StandsOver m stands g c d → ShowsCore m g.setup g.me.0 g c
+  pub over-shows : (g : KeptState M Msg MemoryDisk) (c : Core Msg) (d : Disk) → RefinesMachine m refines g c d → ShowsCore m g.setup g.me.0 g c
   over-shows g c d h = there-shows g c d.failed h.there
 
   -- it is stale where its disk has failed, and nowhere else
-  there-stale : (g : KeptState M Msg MemoryDisk) (c : Core Msg) (failed : Bool) → IsThere m stands g c failed → g.stale ≡ failed
+  there-stale : (g : KeptState M Msg MemoryDisk) (c : Core Msg) (failed : Bool) → RefinesOrShowsCore m refines g c failed → g.stale ≡ failed
   there-stale g c false h = h.fresh
   there-stale g c true h = h.0
 
-  pub over-stale : (g : KeptState M Msg MemoryDisk) (c : Core Msg) (d : Disk) → StandsOver m stands g c d → g.stale ≡ d.failed
+  pub over-stale : (g : KeptState M Msg MemoryDisk) (c : Core Msg) (d : Disk) → RefinesMachine m refines g c d → g.stale ≡ d.failed
   over-stale g c d h = there-stale g c d.failed h.there
 
-  pub at-working : (g : KeptState M Msg MemoryDisk) (c : Core Msg) (d : Disk) → StandsOver m stands g c d → d.failed ≡ false → IsAt m stands g c
-  at-working g c d h working = subst (λ (b : Bool). IsThere m stands g c b) working h.there
+  pub at-working : (g : KeptState M Msg MemoryDisk) (c : Core Msg) (d : Disk) → RefinesMachine m refines g c d → d.failed ≡ false → KeptRefinesCore m refines g c
+  at-working g c d h working = subst (λ (b : Bool). RefinesOrShowsCore m refines g c b) working h.there
 
   -- ---- the same node later
 
   module _ (old new : KeptState M Msg MemoryDisk) (same : IsSame old new) where
     shows-still : (c : Core Msg) → ShowsCore m old.setup old.me.0 old c → ShowsAsBefore old new → ShowsCore m new.setup new.me.0 new c
     shows-still c shown as-before = record {
-      log = subst (λ (s : Setup). log_of (rules_of s) m new.me.0 c.past ≡ reverse new.node.parts.log.entries) (sym same.setup)
-          (subst (λ (i : NodeId). log_of (rules_of old.setup) m i.0 c.past ≡ reverse new.node.parts.log.entries) (sym same.me)
+      log = subst (λ (s : Setup). log_of (rules_of s) m new.me.0 c.past ≡ reverse new.node.state.log.entries) (sym same.setup)
+          (subst (λ (i : NodeId). log_of (rules_of old.setup) m i.0 c.past ≡ reverse new.node.state.log.entries) (sym same.me)
           (shown.log ∙ ap (λ (vs : List Value). reverse vs) (sym as-before.log)));
       epoch = as-before.epoch ∙ shown.epoch;
     }
@@ -110,7 +110,7 @@ module _ {M Msg : Type 0} (m : Module Msg) (stands : Relation M Msg) where
         (subst (λ (i : NodeId). core_of old.setup m i.0 new.entries ≡ Some c) (sym same.me)
         (subst (λ (es : List (List ℕ)). core_of old.setup m old.me.0 es ≡ Some c) (sym entries) h))
 
-    at-still : (c : Core Msg) → new.node ≡ old.node → new.stale ≡ old.stale → IsAt m stands old c → IsAt m stands new c
+    at-still : (c : Core Msg) → new.node ≡ old.node → new.stale ≡ old.stale → KeptRefinesCore m refines old c → KeptRefinesCore m refines new c
     at-still c node stale at = record {
       fresh = stale ∙ at.fresh;
       node = rw node at.node;
@@ -120,11 +120,11 @@ module _ {M Msg : Type 0} (m : Module Msg) (stands : Relation M Msg) where
 
     -- ---- an event
 
-    module _ (c : Core Msg) (d : Disk) (over : StandsOver m stands old c d) (working : d.failed ≡ false) (event : NodeEvent) where
-      at-old : IsAt m stands old c
+    module _ (c : Core Msg) (d : Disk) (over : RefinesMachine m refines old c d) (working : d.failed ≡ false) (event : NodeEvent) where
+      at-old : KeptRefinesCore m refines old c
       at-old = at-working old c d over working
 
-      for-old : StandsFor m stands old c
+      for-old : RefinesEntries m refines old c
       for-old = record { fresh = at-old.fresh; node = at-old.node; cluster = at-old.cluster; number = at-old.number; core = over.leads }
 
       abbrev stepped : Stepped Msg
@@ -136,8 +136,8 @@ module _ {M Msg : Type 0} (m : Module Msg) (stands : Relation M Msg) where
       synced-now : (answer : Answer) → Written answer → IfTold (history_of new.disk.file) (λ file. Reads file.kept (holds new.entries))
       synced-now answer w = written-synced old.entries (spell_event event) (seen old.disk) (seen new.disk) new.entries answer w (stored-kept new.disk.file) over.synced
 
-      kept-turn : (outcome : Outcome) → IsOfNodes old.setup.n event → IsTurn m stands (IsOfNodes old.setup.n event) old c stepped new outcome →
-          Written (Was_kept outcome) → IsKeptTurn m stands d event stepped new outcome
+      kept-turn : (outcome : Outcome) → IsOfNodes old.setup.n event → IsTurn m refines (IsOfNodes old.setup.n event) old c stepped new outcome →
+          Written (Kept_taken outcome) → IsKeptTurn m refines d event stepped new outcome
       kept-turn outcome of t w =
           let calls = passes-kept d.passes (calls_of new.disk) (subst (λ (p : Passes). Runs 4 p (calls_of new.disk) true) over.calls w.device) in
           let later : after_step (core_of_kept (formats_of old.setup m) (rules_of old.setup) m old.me.0 d.kept)
@@ -148,31 +148,31 @@ module _ {M Msg : Type 0} (m : Module Msg) (stands : Relation M Msg) where
             step_is = t.step_is;
             room = calls.0;
             over = record {
-              there = subst (λ (b : Bool). IsThere m stands new t.turn.core b) (sym working) t.at;
+              there = subst (λ (b : Bool). RefinesOrShowsCore m refines new t.turn.core b) (sym working) t.at;
               entries = w.added ∙ ap (λ (es : List (List ℕ)). es ++ spell_event event ∷ []) over.entries;
-              leads = (t.stands_for of for-old).core;
+              leads = (t.refined of for-old).core;
               made = made-still (event ∷ d.kept) t.turn.core later;
-              synced = synced-now (Was_kept outcome) w;
+              synced = synced-now (Kept_taken outcome) w;
               calls = calls.1;
             };
             made = t.made;
             addressed = t.addressed of;
           }
 
-      dropped-answer : (why : Why) → IsDrop m stands old c stepped new why → Written (Was_dropped why) → (stepped ≡ Dropped why) × StandsOver m stands new c d
+      dropped-answer : (why : Why) → IsDrop m refines old c stepped new why → Written (Kept_dropped why) → (stepped ≡ Dropped why) × RefinesMachine m refines new c d
       dropped-answer why t w = (
         t.step_is,
         record {
-          there = subst (λ (b : Bool). IsThere m stands new c b) (sym working) t.at;
+          there = subst (λ (b : Bool). RefinesOrShowsCore m refines new c b) (sym working) t.at;
           entries = w.added ∙ over.entries;
-          leads = (t.stands_for for-old).core;
+          leads = (t.refined for-old).core;
           made = made-still d.kept c over.made;
-          synced = synced-now (Was_dropped why) w;
+          synced = synced-now (Kept_dropped why) w;
           calls = w.device ∙ over.calls;
         },
       )
 
-      stop-answer : IsTaken stepped → Written Failed → new.stale ≡ true → (new.stale ≡ true → ShowsAsBefore old new) → IsStop m stands c d stepped new
+      stop-answer : IsTaken stepped → Written Failed → new.stale ≡ true → (new.stale ≡ true → ShowsAsBefore old new) → IsStop m refines c d stepped new
       stop-answer t w stale shown =
           let calls = passes-failed d.passes (calls_of new.disk) (subst (λ (p : Passes). Runs 4 p (calls_of new.disk) false) over.calls w.device) in
           record {
@@ -190,43 +190,43 @@ module _ {M Msg : Type 0} (m : Module Msg) (stands : Relation M Msg) where
           }
 
       -- what a kept node answers says what became of the core and its disk
-      pub answered : (answer : Answer) → IsOfNodes old.setup.n event → IsAnswer m stands (IsOfNodes old.setup.n event) old c stepped new answer → Written answer →
-          new.stale ≡ makes_stale answer → (new.stale ≡ true → ShowsAsBefore old new) → HasAnswered m stands c d event stepped new answer
-      answered (Was_kept outcome) of t w stale shown = kept-turn outcome of t w
-      answered (Was_dropped why) of t w stale shown = dropped-answer why t w
+      pub answered : (answer : Answer) → IsOfNodes old.setup.n event → IsAnswer m refines (IsOfNodes old.setup.n event) old c stepped new answer → Written answer →
+          new.stale ≡ makes_stale answer → (new.stale ≡ true → ShowsAsBefore old new) → HasAnswered m refines c d event stepped new answer
+      answered (Kept_taken outcome) of t w stale shown = kept-turn outcome of t w
+      answered (Kept_dropped why) of t w stale shown = dropped-answer why t w
       answered Failed of t w stale shown = stop-answer t w stale shown
       answered Stale of t w stale shown = t
       answered NoMemory of t w stale shown = tt
 
       -- where it was kept, its log went on, and its epoch did not fall
-      module _ (good : IsSetupOf m old.setup) (outcome : Outcome) (k : IsKeptTurn m stands d event stepped new outcome) where
-        at-new : IsAt m stands new k.turn.core
+      module _ (good : IsSetupOf m old.setup) (outcome : Outcome) (k : IsKeptTurn m refines d event stepped new outcome) where
+        at-new : KeptRefinesCore m refines new k.turn.core
         at-new = at-working new k.turn.core (keeps d event) k.over working
 
-        node-step : step (formats_of old.node.parts.setup m) (rules_of old.node.parts.setup) m old.node.parts.me.0 c event ≡ Taken k.turn
+        node-step : step (formats_of old.node.state.setup m) (rules_of old.node.state.setup) m old.node.state.me.0 c event ≡ Taken k.turn
         node-step =
-            subst (λ (s : Setup). step_of s m old.node.parts.me.0 c event ≡ Taken k.turn) (sym at-old.cluster)
+            subst (λ (s : Setup). step_of s m old.node.state.me.0 c event ≡ Taken k.turn) (sym at-old.cluster)
             (subst (λ (i : NodeId). step_of old.setup m i.0 c event ≡ Taken k.turn) (sym at-old.number) k.step_is)
 
-        good-node : IsSetupOf m old.node.parts.setup
+        good-node : IsSetupOf m old.node.state.setup
         good-node = subst (λ (s : Setup). IsSetupOf m s) (sym at-old.cluster) good
 
-        cluster-now : new.node.parts.setup ≡ old.node.parts.setup
+        cluster-now : new.node.state.setup ≡ old.node.state.setup
         cluster-now = at-new.cluster ∙ same.setup ∙ sym at-old.cluster
 
-        number-now : new.node.parts.me ≡ old.node.parts.me
+        number-now : new.node.state.me ≡ old.node.state.me
         number-now = at-new.number ∙ same.me ∙ sym at-old.number
 
-        pub log-grown : GoesOn old.node.parts.log.entries new.node.parts.log.entries
-        log-grown = taken-goes-on m stands old.node new.node c event k.turn good-node at-old.node at-new.node node-step cluster-now number-now
+        pub log-grown : GoesOn old.node.state.log.entries new.node.state.log.entries
+        log-grown = taken-goes-on m refines old.node new.node c event k.turn good-node at-old.node at-new.node node-step cluster-now number-now
 
-        pub epoch-grown : old.node.parts.epoch ≤ new.node.parts.epoch
-        epoch-grown = taken-later m stands old.node new.node c event k.turn good-node at-old.node at-new.node node-step cluster-now number-now
+        pub epoch-grown : old.node.state.epoch ≤ new.node.state.epoch
+        epoch-grown = taken-later m refines old.node new.node c event k.turn good-node at-old.node at-new.node node-step cluster-now number-now
 
     -- ---- a disk that is to fail
 
-    pub fused-over : (c : Core Msg) (d : Disk) (calls : ℕ) → StandsOver m stands old c d → calls_of new.disk ≡ up_to calls → new.node ≡ old.node → new.entries ≡ old.entries →
-        new.stale ≡ old.stale → Stays (current_of old.disk) (current_of new.disk) (files_of old.disk) (files_of new.disk) → StandsOver m stands new c (fused d calls)
+    pub fused-over : (c : Core Msg) (d : Disk) (calls : ℕ) → RefinesMachine m refines old c d → calls_of new.disk ≡ up_to calls → new.node ≡ old.node → new.entries ≡ old.entries →
+        new.stale ≡ old.stale → Stays (current_of old.disk) (current_of new.disk) (files_of old.disk) (files_of new.disk) → RefinesMachine m refines new c (fused d calls)
     fused-over c d calls over passes node entries stale files =
         let history : history_of new.disk.file ≡ history_of old.disk.file =
         stays-here (λ (x : MemoryDisk). history_of x.file) files_of current_of memory_here old.disk new.disk files in
@@ -242,18 +242,18 @@ module _ {M Msg : Type 0} (m : Module Msg) (stands : Relation M Msg) where
       where
         as-before : ShowsAsBefore old new
         as-before = record {
-          log = ap (λ (v : NodeState M Msg). v.parts.log.entries) node;
-          epoch = ap (λ (v : NodeState M Msg). v.parts.epoch) node;
+          log = ap (λ (v : NodeView M Msg). v.state.log.entries) node;
+          epoch = ap (λ (v : NodeView M Msg). v.state.epoch) node;
         }
 
-        there-still : (failed : Bool) → IsThere m stands old c failed → IsThere m stands new c failed
+        there-still : (failed : Bool) → RefinesOrShowsCore m refines old c failed → RefinesOrShowsCore m refines new c failed
         there-still false h = at-still c node stale h
         there-still true h = (stale ∙ h.0, shows-still c h.1 as-before)
 
     -- ---- a core made anew
 
     -- after a restart of its disk a node has entries that lead to the core that it stood for
-    pub restarted-leads : (c : Core Msg) (d : Disk) → StandsOver m stands old c d → ((name : List ℕ) → Restarts (files_of old.disk name) (files_of new.disk name)) →
+    pub restarted-leads : (c : Core Msg) (d : Disk) → RefinesMachine m refines old c d → ((name : List ℕ) → Restarts (files_of old.disk name) (files_of new.disk name)) →
         current_of new.disk ≡ current_of old.disk → new.entries ≡ old.entries → LeadsBy m new d.kept c
     restarted-leads c d over restarts current entries = record {
       entries = entries ∙ over.entries;
@@ -265,8 +265,8 @@ module _ {M Msg : Type 0} (m : Module Msg) (stands : Relation M Msg) where
 
     module _ (one : (bytes : List ℕ) (r q : Reading) → Reads bytes r → Reads bytes q → r ≡ q) (events : List NodeEvent) (c : Core Msg) (leads : LeadsBy m old events c) where
       -- it is reopened at that core
-      pub reopened-over : (failed : Type 0) (e : Core Msg) → calls_of old.disk ≡ script [] → StandsFor m stands new e → IsAttached (seen old.disk) (seen new.disk) new.entries →
-          LosesNone (seen old.disk) (seen new.disk) failed → StandsOver m stands new c (record { kept = events; passes = None; failed = false })
+      pub reopened-over : (failed : Type 0) (e : Core Msg) → calls_of old.disk ≡ script [] → RefinesEntries m refines new e → IsAttached (seen old.disk) (seen new.disk) new.entries →
+          LosesNone (seen old.disk) (seen new.disk) failed → RefinesMachine m refines new c (record { kept = events; passes = None; failed = false })
       reopened-over failed e works for attached loses =
           let told = stored-told old.disk.file in
           let reads = read-told (λ file. Reads file.content (holds old.entries)) (history_of old.disk.file) told.0 told.1 told.2 leads.read in
@@ -274,7 +274,7 @@ module _ {M Msg : Type 0} (m : Module Msg) (stands : Relation M Msg) where
           let lead : core_of new.setup m new.me.0 new.entries ≡ Some c = leads-still c found leads.leads in
           let is : e ≡ c = some-injective e c (sym for.core ∙ lead) in
           record {
-            there = subst (λ (x : Core Msg). IsAt m stands new x) is (record { fresh = for.fresh; node = for.node; cluster = for.cluster; number = for.number });
+            there = subst (λ (x : Core Msg). KeptRefinesCore m refines new x) is (record { fresh = for.fresh; node = for.node; cluster = for.cluster; number = for.number });
             entries = found ∙ leads.entries;
             leads = lead;
             made = made-still events c leads.made;
@@ -290,7 +290,7 @@ module _ {M Msg : Type 0} (m : Module Msg) (stands : Relation M Msg) where
           never-damaged one old.setup m old.me.0 old.entries new.entries c leads.leads at told.0 told.1 reads (history_of old.disk.file) told.2 h
 
   -- over a new disk: no entries, and the core that has taken nothing
-  pub new-leads : (g : KeptState M Msg MemoryDisk) → g.entries ≡ [] → history_of g.disk.file ≡ settled [] ∷ [] → LeadsBy m g [] idle
+  pub new-leads : (g : KeptState M Msg MemoryDisk) → g.entries ≡ [] → history_of g.disk.file ≡ settled [] ∷ [] → LeadsBy m g [] initial_core
   new-leads g entries history = record {
     entries = entries;
     leads = ap (λ (es : List (List ℕ)). core_of g.setup m g.me.0 es) entries;

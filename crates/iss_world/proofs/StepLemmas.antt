@@ -2,7 +2,7 @@
 use Rattle.std.proofs.Common.{inl, inr, ◌≡◌, ◌≢◌, ◌⊎◌, ℕ, zero, suc, ◌<◌, ◌≤◌, Bool, true, false, cond, List, [], ◌∷◌, ◌++◌, length, take, set, slice_get, Option, Some, None, reverse, refl, sym, ap, ◌∙◌, subst, arith}
 use Rattle.std.specs.Prelude.{eqb, option_map}
 use Rattle.std.proofs.lemmas.Bool.Decides.{eqb_tells}
-use Rattle.iss_base.specs.Lists.{first_of, over, set_at}
+use Rattle.iss_base.specs.Lists.{first_of, push_all, set_at}
 use Rattle.iss_base.proofs.Lists.{none-some, set_at-same, some-injective}
 use Rattle.iss_keep.proofs.TakenLemmas.{log-cut, log-long}
 use Rattle.iss_rules.specs.Books.{Signed}
@@ -14,39 +14,39 @@ use Rattle.iss_log.specs.LogState.{GoesOn}
 use Rattle.iss_model.specs.Node.{Core, Dropped, Stepped, Taken, Turn, step}
 use Rattle.iss_rules.specs.Past.{log_of}
 use Rattle.iss_rules.specs.Rules.{Rules}
-use Rattle.iss_causes.specs.Ends.{End, Forged}
+use Rattle.iss_rules.specs.Ends.{End, Forged}
 use Rattle.iss_model.specs.Run.{Happening, Held, after_step, at_core, booked, by_collision, by_forged, claims_at, collision_in, done, early_of, ended_by, first_forged, node_of, posted_all, turned_to}
-use Rattle.iss_causes.specs.declared.causes.NodeEvent.{NodeEvent}
-use Rattle.iss_causes.specs.declared.causes.Why.{Why}
-use Rattle.iss_causes.specs.declared.causes.Why.TheVariants.{Stopped}
+use Rattle.iss_rules.specs.declared.events.NodeEvent.{NodeEvent}
+use Rattle.iss_rules.specs.declared.events.Why.{Why}
+use Rattle.iss_rules.specs.declared.events.Why.TheVariants.{Stopped}
 use Rattle.iss_disk.specs.declared.memory.MemoryDisk.{MemoryDisk}
-use Rattle.iss_keep.specs.State.{IsAt, KeptState}
+use Rattle.iss_keep.specs.State.{KeptRefinesCore, KeptState}
 use Rattle.iss_keep.specs.Steps.{IsSame}
 use Rattle.iss_keep.specs.declared.answers.Answer.{Answer}
-use Rattle.iss_keep.specs.declared.answers.Answer.TheVariants.{Dropped as Was_dropped, Failed, Taken as Was_kept}
+use Rattle.iss_keep.specs.declared.answers.Answer.TheVariants.{Dropped as Kept_dropped, Failed, Taken as Kept_taken}
 use Rattle.iss_network.specs.Network.{Network}
 use Rattle.iss_node.specs.Steps.{IsMade, IsOfNodes}
 use Rattle.iss_node.specs.declared.answers.Outcome.{Outcome}
 use Rattle.iss_request.specs.declared.ids.NodeId.{NodeId}
 use Rattle.iss_request.specs.declared.requests.Value.{Value}
 use Rattle.iss_request.specs.declared.setups.Setup.{Setup}
-use Rattle.iss_restarts.specs.Courses.{Machines, Upshot, at_machine, by_step, carried, core_of as core_of_kept, remade, stops, was_lost, went_on, with_disk}
-use Rattle.iss_restarts.specs.Disks.{Disk, fails, fused, keeps, may_keep, works_again}
+use Rattle.iss_model.specs.Courses.{Machines, Upshot, at_machine, by_step, core_of as core_of_kept, machines_done, machines_lost, recover, stops, with_disk, with_disks}
+use Rattle.iss_model.specs.Disks.{Disk, fails, fused, keeps, may_keep, works_again}
 use Rattle.iss_sb.specs.declared.effects.Claim.{Claim}
 use Rattle.iss_sb.specs.declared.effects.To.{To}
 use Rattle.iss_sb.specs.Calls.{AreToNodes, Relation}
 use Rattle.iss_sb.specs.Evidence.{Module}
-use Rattle.iss_restarts.proofs.Entering.{forged-first}
+use Rattle.iss_theorems.proofs.Entering.{forged-first}
 use Rattle.iss_world.proofs.BookLemmas.{forged-append}
 use Rattle.iss_world.proofs.OverLemmas.{at-working, epoch-grown, log-grown, over-shows, over-stale}
 use Rattle.iss_world.specs.Books.{AreHashed, AreSigned}
-use Rattle.iss_world.specs.Shape.{IsNetworkOf, IsRunning}
-use Rattle.iss_world.specs.Stands.{HasChanged, IsShown, Runs, Shows, ShowsCore, StandsOver, end_of}
-use Rattle.iss_world.specs.State.{RunningState}
+use Rattle.iss_world.specs.Shape.{IsNetworkOf, IsSimulation}
+use Rattle.iss_world.specs.Refines.{HasChanged, RefinesMachine, RefinesMachines, RefinesOrShows, ShowsCore, ShowsHeld, end_of}
+use Rattle.iss_world.specs.State.{SimulationState}
 use Rattle.iss_world.specs.Steps.{HasAnswered, IsBehind, IsKeptTurn, ends_by, forged_in, kept_at, kept_to, stepped_to}
-use Rattle.iss_world.specs.declared.ends.Change.{Change}
-use Rattle.iss_world.specs.declared.ends.Change.TheVariants.{Done, Lost, Ended}
-use Rattle.iss_world.specs.declared.ends.End.{End as Kept}
+use Rattle.iss_world.specs.declared.ends.EventOutcome.{EventOutcome}
+use Rattle.iss_world.specs.declared.ends.EventOutcome.TheVariants.{Done, Lost, Ended}
+use Rattle.iss_world.specs.declared.ends.Evidence.{Evidence}
 
 -- ---- lists of cores
 
@@ -119,11 +119,11 @@ module _ {Msg : Type 0} (s : Setup) (h : Held Msg) (c : ℕ) (t : Turn Msg) wher
   turn-done : ends_by s h.signed h.hashed t.early t.strings ≡ None → stepped_to s h c (Taken t) ≡ done (turned_to s h c t)
   turn-done q = going (first_forged s (rules_of s) h.signed t.early) (collision_in t.strings h.hashed) h (turned_to s h c t) q
 
-pub kept-end : (o : Option Kept) (e : Kept) (p : Option End) → o ≡ Some e → option_map end_of o ≡ p → Some (end_of e) ≡ p
-kept-end o e p q h = sym (ap (λ (z : Option Kept). option_map end_of z) q) ∙ h
+pub kept-end : (o : Option Evidence) (e : Evidence) (p : Option End) → o ≡ Some e → option_map end_of o ≡ p → Some (end_of e) ≡ p
+kept-end o e p q h = sym (ap (λ (z : Option Evidence). option_map end_of z) q) ∙ h
 
-pub no-end : (o : Option Kept) (p : Option End) → o ≡ None → option_map end_of o ≡ p → p ≡ None
-no-end o p q h = sym h ∙ ap (λ (z : Option Kept). option_map end_of z) q
+pub no-end : (o : Option Evidence) (p : Option End) → o ≡ None → option_map end_of o ≡ p → p ≡ None
+no-end o p q h = sym h ∙ ap (λ (z : Option Evidence). option_map end_of z) q
 
 -- why a step ends the run, by its early claims, and by its strings
 pub ends-forged : (s : Setup) (signed : List Signed) (hashed strings : List (List ℕ)) (early lent : List Claim) (claim : Claim) (o : Option Claim) → lent ≡ early → o ≡ Some claim →
@@ -157,11 +157,11 @@ module _ {Msg : Type 0} (m : Module Msg) (s : Setup) (F : Formats Msg) (w : Mach
   ended_with claim = record { machines = w; lost = None; ended = Some (Forged claim) }
 
   -- a core whose disk has failed takes nothing
-  pub machine-stopped : (w.disks c).failed ≡ true → at_machine s F (rules_of s) m w c event ≡ was_lost w Stopped
-  machine-stopped e = ap (λ (b : Bool). cond b (was_lost w Stopped) (by_step s F (rules_of s) m w c event its_step)) e
+  pub machine-stopped : (w.disks c).failed ≡ true → at_machine s F (rules_of s) m w c event ≡ machines_lost w Stopped
+  machine-stopped e = ap (λ (b : Bool). cond b (machines_lost w Stopped) (by_step s F (rules_of s) m w c event its_step)) e
 
   machine-goes : (w.disks c).failed ≡ false → at_machine s F (rules_of s) m w c event ≡ by_step s F (rules_of s) m w c event its_step
-  machine-goes e = ap (λ (b : Bool). cond b (was_lost w Stopped) (by_step s F (rules_of s) m w c event its_step)) e
+  machine-goes e = ap (λ (b : Bool). cond b (machines_lost w Stopped) (by_step s F (rules_of s) m w c event its_step)) e
 
   module _ (claims : List Claim) (are : claims ≡ claims_at F (rules_of s) m (node_of s c) (w.held.net.cores c) event) (working : (w.disks c).failed ≡ false) where
     abbrev room : Bool
@@ -173,11 +173,11 @@ module _ {Msg : Type 0} (m : Module Msg) (s : Setup) (F : Formats Msg) (w : Mach
 
     forged-step : (claim : Claim) → Some claim ≡ first_forged s (rules_of s) w.held.signed claims → (o : Stepped Msg) →
         by_step s F (rules_of s) m w c event o ≡ ended_with claim
-    forged-step claim is (Dropped why) = ap (λ (d : Happening Msg). carried w w.disks d) (at-forged m s F w.held c event claims are claim is)
+    forged-step claim is (Dropped why) = ap (λ (d : Happening Msg). with_disks w w.disks d) (at-forged m s F w.held c event claims are claim is)
     forged-step claim is (Taken turn) =
-        either room (carried w (kept_at w c event) (at_core s F (rules_of s) m w.held c event))
+        either room (with_disks w (kept_at w c event) (at_core s F (rules_of s) m w.held c event))
         (stops (first_forged s (rules_of s) w.held.signed (claims_at F (rules_of s) m (node_of s c) (w.held.net.cores c) event)) w c) (ended_with claim)
-        (ap (λ (d : Happening Msg). carried w (kept_at w c event) d) (at-forged m s F w.held c event claims are claim is))
+        (ap (λ (d : Happening Msg). with_disks w (kept_at w c event) d) (at-forged m s F w.held c event claims are claim is))
         (ap (λ (o : Option Claim). stops o w c) (first-is (Some claim) (sym is)))
 
     -- what it claims is forged
@@ -187,39 +187,39 @@ module _ {Msg : Type 0} (m : Module Msg) (s : Setup) (F : Formats Msg) (w : Mach
     kept-step : first_forged s (rules_of s) w.held.signed claims ≡ None → (o : Stepped Msg) → its_step ≡ o →
         by_step s F (rules_of s) m w c event o ≡ kept_to s w c event o
     kept-step none (Dropped why) q =
-        ap (λ (d : Happening Msg). carried w w.disks d) (at-stepped m s F w.held c event claims are none ∙ ap (λ (o : Stepped Msg). stepped_to s w.held c o) q)
+        ap (λ (d : Happening Msg). with_disks w w.disks d) (at-stepped m s F w.held c event claims are none ∙ ap (λ (o : Stepped Msg). stepped_to s w.held c o) q)
     kept-step none (Taken turn) q =
-        ap (λ (d : Happening Msg). cond room (carried w (kept_at w c event) d)
+        ap (λ (d : Happening Msg). cond room (with_disks w (kept_at w c event) d)
         (stops (first_forged s (rules_of s) w.held.signed (claims_at F (rules_of s) m (node_of s c) (w.held.net.cores c) event)) w c))
         (at-stepped m s F w.held c event claims are none ∙ ap (λ (o : Stepped Msg). stepped_to s w.held c o) q)
-        ∙ ap (λ (o : Option Claim). cond room (carried w (kept_at w c event) (stepped_to s w.held c (Taken turn))) (stops o w c)) (first-is None none)
+        ∙ ap (λ (o : Option Claim). cond room (with_disks w (kept_at w c event) (stepped_to s w.held c (Taken turn))) (stops o w c)) (first-is None none)
 
     -- and where nothing is, it is stepped
     pub machine-kept : first_forged s (rules_of s) w.held.signed claims ≡ None → at_machine s F (rules_of s) m w c event ≡ kept_to s w c event its_step
     machine-kept none = machine-goes working ∙ kept-step none its_step refl
 
-module _ {M Msg : Type 0} (m : Module Msg) (stands : Relation M Msg) where
+module _ {M Msg : Type 0} (m : Module Msg) (refines : Relation M Msg) where
   -- ---- what the cores show
 
-  core-shown : (v : RunningState M Msg) (i : ℕ) (g : KeptState M Msg MemoryDisk) (c : Core Msg) → IsRunning m v → slice_get v.nodes i ≡ Some g →
+  core-shown : (v : SimulationState M Msg) (i : ℕ) (g : KeptState M Msg MemoryDisk) (c : Core Msg) → IsSimulation m v → slice_get v.nodes i ≡ Some g →
       ShowsCore m g.setup g.me.0 g c → ShowsCore m v.setup (node_of v.setup i) g c
   core-shown v i g c r at shown = record {
-    log = subst (λ (k : ℕ). log_of (rules_of v.setup) m k c.past ≡ reverse g.node.parts.log.entries) (r.places i g at)
-        (subst (λ (s : Setup). log_of (rules_of s) m g.me.0 c.past ≡ reverse g.node.parts.log.entries) (r.setups i g at) shown.log);
+    log = subst (λ (k : ℕ). log_of (rules_of v.setup) m k c.past ≡ reverse g.node.state.log.entries) (r.places i g at)
+        (subst (λ (s : Setup). log_of (rules_of s) m g.me.0 c.past ≡ reverse g.node.state.log.entries) (r.setups i g at) shown.log);
     epoch = shown.epoch;
   }
 
-  pub runs-show : (v : RunningState M Msg) (w : Machines Msg) → IsRunning m v → Runs m stands v w → Shows m v w.held
-  runs-show v w r st i g at = core-shown v i g (w.held.net.cores i) r at (over-shows m stands g (w.held.net.cores i) (w.disks i) (st.cores i g at))
+  pub runs-show : (v : SimulationState M Msg) (w : Machines Msg) → IsSimulation m v → RefinesMachines m refines v w → ShowsHeld m v w.held
+  runs-show v w r st i g at = core-shown v i g (w.held.net.cores i) r at (over-shows m refines g (w.held.net.cores i) (w.disks i) (st.cores i g at))
 
-  pub shown-shows : (v : RunningState M Msg) (w : Machines Msg) → IsRunning m v → IsShown m stands v w → Shows m v w.held
+  pub shown-shows : (v : SimulationState M Msg) (w : Machines Msg) → IsSimulation m v → RefinesOrShows m refines v w → ShowsHeld m v w.held
   shown-shows v w r k = elim k [ inl st ↦ runs-show v w r st | inr sh ↦ sh ]
 
   -- ---- a node is replaced by a later state of it
 
-  pub still-running : (v : RunningState M Msg) (i : ℕ) (g later : KeptState M Msg MemoryDisk) (net : Network) (signed : List (List ℕ)) (hashed : List (List ℕ × List ℕ)) →
-      IsRunning m v → i < length v.nodes → slice_get v.nodes i ≡ Some g → IsSame g later → IsNetworkOf (length v.nodes) net →
-      IsRunning m (record { setup = v.setup; nodes = set v.nodes i later; network = net; signed = signed; hashed = hashed })
+  pub still-running : (v : SimulationState M Msg) (i : ℕ) (g later : KeptState M Msg MemoryDisk) (net : Network) (signed : List (List ℕ)) (hashed : List (List ℕ × List ℕ)) →
+      IsSimulation m v → i < length v.nodes → slice_get v.nodes i ≡ Some g → IsSame g later → IsNetworkOf (length v.nodes) net →
+      IsSimulation m (record { setup = v.setup; nodes = set v.nodes i later; network = net; signed = signed; hashed = hashed })
   still-running v i g later net signed hashed h lt at same hn = record {
     good = h.good;
     count = length-set_at v.nodes i later ∙ h.count;
@@ -234,12 +234,12 @@ module _ {M Msg : Type 0} (m : Module Msg) (stands : Relation M Msg) where
     ];
   }
 
-  pub same-network : (v : RunningState M Msg) → IsRunning m v → IsNetworkOf (length v.nodes) v.network
+  pub same-network : (v : SimulationState M Msg) → IsSimulation m v → IsNetworkOf (length v.nodes) v.network
   same-network v h = subst (λ (k : ℕ). IsNetworkOf k v.network) (sym h.count) h.network
 
   -- with another network, and other books
-  pub with-network : (v : RunningState M Msg) (net : Network) (signed : List (List ℕ)) (hashed : List (List ℕ × List ℕ)) → IsRunning m v → IsNetworkOf (length v.nodes) net →
-      IsRunning m (record { setup = v.setup; nodes = v.nodes; network = net; signed = signed; hashed = hashed })
+  pub with-network : (v : SimulationState M Msg) (net : Network) (signed : List (List ℕ)) (hashed : List (List ℕ × List ℕ)) → IsSimulation m v → IsNetworkOf (length v.nodes) net →
+      IsSimulation m (record { setup = v.setup; nodes = v.nodes; network = net; signed = signed; hashed = hashed })
   with-network v net signed hashed h hn = record {
     good = h.good;
     count = h.count;
@@ -248,39 +248,39 @@ module _ {M Msg : Type 0} (m : Module Msg) (stands : Relation M Msg) where
     places = h.places;
   }
 
-  module _ (v : RunningState M Msg) (i : ℕ) (g later : KeptState M Msg MemoryDisk) (r : IsRunning m v) (lt : i < length v.nodes) (at : slice_get v.nodes i ≡ Some g) where
-    abbrev v_later : RunningState M Msg
+  module _ (v : SimulationState M Msg) (i : ℕ) (g later : KeptState M Msg MemoryDisk) (r : IsSimulation m v) (lt : i < length v.nodes) (at : slice_get v.nodes i ≡ Some g) where
+    abbrev v_later : SimulationState M Msg
     v_later = record { setup = v.setup; nodes = set v.nodes i later; network = v.network; signed = v.signed; hashed = v.hashed }
 
     -- it stands for its core over its disk later, and all others stand as they stood
-    pub runs-later : (w next : Machines Msg) → Runs m stands v w → StandsOver m stands later (next.held.net.cores i) (next.disks i) →
+    pub runs-later : (w next : Machines Msg) → RefinesMachines m refines v w → RefinesMachine m refines later (next.held.net.cores i) (next.disks i) →
         ((j : ℕ) → eqb j i ≡ false → (next.held.net.cores j ≡ w.held.net.cores j) × (next.disks j ≡ w.disks j)) →
-        v.network ≡ next.held.net.network → AreSigned v.signed next.held.signed → AreHashed v.hashed next.held.hashed → Runs m stands v_later next
+        v.network ≡ next.held.net.network → AreSigned v.signed next.held.signed → AreHashed v.hashed next.held.hashed → RefinesMachines m refines v_later next
     runs-later w next st here there net signed hashed = record {
       cores = λ j k e. elim (written v.nodes i j later k lt e) [
-        | inl t ↦ subst (λ (x : ℕ). StandsOver m stands k (next.held.net.cores x) (next.disks x)) (sym t.1)
-            (subst (λ (z : KeptState M Msg MemoryDisk). StandsOver m stands z (next.held.net.cores i) (next.disks i)) (sym t.2) here)
-        | inr t ↦ subst (λ (c : Core Msg). StandsOver m stands k c (next.disks j)) (sym (there j t.0).0)
-            (subst (λ (d : Disk). StandsOver m stands k (w.held.net.cores j) d) (sym (there j t.0).1) (st.cores j k t.1))
+        | inl t ↦ subst (λ (x : ℕ). RefinesMachine m refines k (next.held.net.cores x) (next.disks x)) (sym t.1)
+            (subst (λ (z : KeptState M Msg MemoryDisk). RefinesMachine m refines z (next.held.net.cores i) (next.disks i)) (sym t.2) here)
+        | inr t ↦ subst (λ (c : Core Msg). RefinesMachine m refines k c (next.disks j)) (sym (there j t.0).0)
+            (subst (λ (d : Disk). RefinesMachine m refines k (w.held.net.cores j) d) (sym (there j t.0).1) (st.cores j k t.1))
       ];
       network = net;
       signed = signed;
       hashed = hashed;
     }
 
-    pub runs-disk : (w : Machines Msg) (d : Disk) → Runs m stands v w → StandsOver m stands later (w.held.net.cores i) d → Runs m stands v_later (with_disk w i d)
+    pub runs-disk : (w : Machines Msg) (d : Disk) → RefinesMachines m refines v w → RefinesMachine m refines later (w.held.net.cores i) d → RefinesMachines m refines v_later (with_disk w i d)
     runs-disk w d st here =
-        runs-later w (with_disk w i d) st (subst (λ (x : Disk). StandsOver m stands later (w.held.net.cores i) x) (sym (set_at-same w.disks i d)) here)
+        runs-later w (with_disk w i d) st (subst (λ (x : Disk). RefinesMachine m refines later (w.held.net.cores i) x) (sym (set_at-same w.disks i d)) here)
         (λ j e. (refl, ap (λ (b : Bool). cond b d (w.disks j)) e)) st.network st.signed st.hashed
 
     -- a disk that is to fail
-    pub crashed : (w : Machines Msg) (calls : ℕ) → Runs m stands v w → StandsOver m stands later (w.held.net.cores i) (fused (w.disks i) calls) →
-        HasChanged m stands v_later (went_on (with_disk w i (fused (w.disks i) calls))) Done
+    pub crashed : (w : Machines Msg) (calls : ℕ) → RefinesMachines m refines v w → RefinesMachine m refines later (w.held.net.cores i) (fused (w.disks i) calls) →
+        HasChanged m refines v_later (machines_done (with_disk w i (fused (w.disks i) calls))) Done
     crashed w calls st here = (runs-disk w (fused (w.disks i) calls) st here, refl, refl)
 
     -- a core that is made anew
-    pub remade-runs : (w : Machines Msg) → Runs m stands v w → StandsOver m stands later (w.held.net.cores i) (works_again (w.disks i)) →
-        HasChanged m stands v_later (went_on (remade v.setup (formats_of v.setup m) (rules_of v.setup) m w i)) Done
+    pub remade-runs : (w : Machines Msg) → RefinesMachines m refines v w → RefinesMachine m refines later (w.held.net.cores i) (works_again (w.disks i)) →
+        HasChanged m refines v_later (machines_done (recover v.setup (formats_of v.setup m) (rules_of v.setup) m w i)) Done
     remade-runs w st here =
         let kept : List NodeEvent = (w.disks i).kept in
         let c : Core Msg = core_of_kept (formats_of v.setup m) (rules_of v.setup) m (node_of v.setup i) kept in
@@ -288,32 +288,32 @@ module _ {M Msg : Type 0} (m : Module Msg) (stands : Relation M Msg) where
         let is : c ≡ w.held.net.cores i =
         subst (λ (k : ℕ). core_of_kept (formats_of v.setup m) (rules_of v.setup) m k kept ≡ w.held.net.cores i) (r.places i g at)
         (subst (λ (s : Setup). core_of_kept (formats_of s m) (rules_of s) m g.me.0 kept ≡ w.held.net.cores i) (r.setups i g at) mine) in (
-          runs-later w (remade v.setup (formats_of v.setup m) (rules_of v.setup) m w i) st
-              (subst (λ (x : Core Msg). StandsOver m stands later x (set_at w.disks i (works_again (w.disks i)) i)) (sym (set_at-same w.held.net.cores i c ∙ is))
-              (subst (λ (x : Disk). StandsOver m stands later (w.held.net.cores i) x) (sym (set_at-same w.disks i (works_again (w.disks i)))) here))
+          runs-later w (recover v.setup (formats_of v.setup m) (rules_of v.setup) m w i) st
+              (subst (λ (x : Core Msg). RefinesMachine m refines later x (set_at w.disks i (works_again (w.disks i)) i)) (sym (set_at-same w.held.net.cores i c ∙ is))
+              (subst (λ (x : Disk). RefinesMachine m refines later (w.held.net.cores i) x) (sym (set_at-same w.disks i (works_again (w.disks i)))) here))
               (λ j e. (ap (λ (b : Bool). cond b c (w.held.net.cores j)) e, ap (λ (b : Bool). cond b (works_again (w.disks i)) (w.disks j)) e))
               st.network st.signed st.hashed,
           refl,
           refl,
         )
 
-  module _ (v : RunningState M Msg) (i : ℕ) (g : KeptState M Msg MemoryDisk) (event : NodeEvent) (r : IsRunning m v) (at : slice_get v.nodes i ≡ Some g) where
+  module _ (v : SimulationState M Msg) (i : ℕ) (g : KeptState M Msg MemoryDisk) (event : NodeEvent) (r : IsSimulation m v) (at : slice_get v.nodes i ≡ Some g) where
     -- it is stale where its disk has failed
-    pub stale-here : (w : Machines Msg) → Runs m stands v w → g.stale ≡ (w.disks i).failed
-    stale-here w st = over-stale m stands g (w.held.net.cores i) (w.disks i) (st.cores i g at)
+    pub stale-here : (w : Machines Msg) → RefinesMachines m refines v w → g.stale ≡ (w.disks i).failed
+    stale-here w st = over-stale m refines g (w.held.net.cores i) (w.disks i) (st.cores i g at)
 
     -- its claims, as the model's core reads them
-    pub claims-here : (claims : List Claim) → ((c : Core Msg) → IsAt m stands g c →
-        claims ≡ claims_at (formats_of g.setup m) (rules_of g.setup) m g.me.0 c event) → (w : Machines Msg) → Runs m stands v w → (w.disks i).failed ≡ false →
+    pub claims-here : (claims : List Claim) → ((c : Core Msg) → KeptRefinesCore m refines g c →
+        claims ≡ claims_at (formats_of g.setup m) (rules_of g.setup) m g.me.0 c event) → (w : Machines Msg) → RefinesMachines m refines v w → (w.disks i).failed ≡ false →
         claims ≡ claims_at (formats_of v.setup m) (rules_of v.setup) m (node_of v.setup i) (w.held.net.cores i) event
     claims-here claims f w st working =
-        let there : IsAt m stands g (w.held.net.cores i) = at-working m stands g (w.held.net.cores i) (w.disks i) (st.cores i g at) working in
+        let there : KeptRefinesCore m refines g (w.held.net.cores i) = at-working m refines g (w.held.net.cores i) (w.disks i) (st.cores i g at) working in
         subst (λ (k : ℕ). claims ≡ claims_at (formats_of v.setup m) (rules_of v.setup) m k (w.held.net.cores i) event) (r.places i g at)
         (subst (λ (s : Setup). claims ≡ claims_at (formats_of s m) (rules_of s) m g.me.0 (w.held.net.cores i) event) (r.setups i g at) (f (w.held.net.cores i) there))
 
     module _ (later : KeptState M Msg MemoryDisk) (lt : i < length v.nodes) (same : IsSame g later) (nodes : IsOfNodes v.setup.n event) (answer : Answer)
-        (f : (c : Core Msg) (d : Disk) → StandsOver m stands g c d → d.failed ≡ false → IsOfNodes g.setup.n event →
-        HasAnswered m stands c d event (step (formats_of g.setup m) (rules_of g.setup) m g.me.0 c event) later answer) where
+        (f : (c : Core Msg) (d : Disk) → RefinesMachine m refines g c d → d.failed ≡ false → IsOfNodes g.setup.n event →
+        HasAnswered m refines c d event (step (formats_of g.setup m) (rules_of g.setup) m g.me.0 c event) later answer) where
       abbrev step_there : Machines Msg → Stepped Msg
       step_there w = step (formats_of g.setup m) (rules_of g.setup) m g.me.0 (w.held.net.cores i) event
 
@@ -326,37 +326,37 @@ module _ {M Msg : Type 0} (m : Module Msg) (stands : Relation M Msg) where
           ∙ ap (λ (s : Setup). step (formats_of s m) (rules_of s) m g.me.0 (w.held.net.cores i) event) (sym (r.setups i g at))
 
       -- the answer in its arms
-      answer-is : (w : Machines Msg) → Runs m stands v w → (w.disks i).failed ≡ false → (a : Answer) → answer ≡ a →
-          HasAnswered m stands (w.held.net.cores i) (w.disks i) event (step_there w) later a
+      answer-is : (w : Machines Msg) → RefinesMachines m refines v w → (w.disks i).failed ≡ false → (a : Answer) → answer ≡ a →
+          HasAnswered m refines (w.held.net.cores i) (w.disks i) event (step_there w) later a
       answer-is w st working a is =
           let named : IsOfNodes g.setup.n event = subst (λ (s : Setup). IsOfNodes s.n event) (sym (r.setups i g at)) nodes in
-          subst (λ (z : Answer). HasAnswered m stands (w.held.net.cores i) (w.disks i) event (step_there w) later z) is
+          subst (λ (z : Answer). HasAnswered m refines (w.held.net.cores i) (w.disks i) event (step_there w) later z) is
           (f (w.held.net.cores i) (w.disks i) (st.cores i g at) working named)
 
       -- it was dropped, and all is as it was
-      pub step-dropped : (why : Why) → answer ≡ Was_dropped why → (w : Machines Msg) → Runs m stands v w → (w.disks i).failed ≡ false →
-          HasChanged m stands (v_later v i g later r lt at) (kept_to v.setup w i event (step_here w)) (Lost why)
+      pub step-dropped : (why : Why) → answer ≡ Kept_dropped why → (w : Machines Msg) → RefinesMachines m refines v w → (w.disks i).failed ≡ false →
+          HasChanged m refines (v_later v i g later r lt at) (kept_to v.setup w i event (step_here w)) (Lost why)
       step-dropped why is w st working =
-          let t = answer-is w st working (Was_dropped why) is in
+          let t = answer-is w st working (Kept_dropped why) is in
           let dropped : step_here w ≡ Dropped why = same-step w ∙ t.0 in
-          subst (λ (s : Stepped Msg). HasChanged m stands (v_later v i g later r lt at) (kept_to v.setup w i event s) (Lost why)) (sym dropped)
+          subst (λ (s : Stepped Msg). HasChanged m refines (v_later v i g later r lt at) (kept_to v.setup w i event s) (Lost why)) (sym dropped)
           (runs-later v i g later r lt at w w st t.1 (λ j e. (refl, refl)) st.network st.signed st.hashed, refl, refl)
 
       -- the disk failed before the event was kept
-      pub step-stopped : answer ≡ Failed → (w : Machines Msg) → Runs m stands v w → (w.disks i).failed ≡ false →
-          HasChanged m stands (v_later v i g later r lt at) (kept_to v.setup w i event (step_here w)) (Lost Stopped)
+      pub step-stopped : answer ≡ Failed → (w : Machines Msg) → RefinesMachines m refines v w → (w.disks i).failed ≡ false →
+          HasChanged m refines (v_later v i g later r lt at) (kept_to v.setup w i event (step_here w)) (Lost Stopped)
       step-stopped is w st working =
           let t = answer-is w st working Failed is in
           let taken : step_here w ≡ Taken t.turn = same-step w ∙ t.step_is in
-          let stopped : kept_to v.setup w i event (Taken t.turn) ≡ was_lost (with_disk w i (fails (w.disks i))) Stopped =
-          ap (λ (b : Bool). cond b (carried w (kept_at w i event) (stepped_to v.setup w.held i (Taken t.turn))) (was_lost (with_disk w i (fails (w.disks i))) Stopped)) t.no_room in
-          subst (λ (u : Upshot Msg). HasChanged m stands (v_later v i g later r lt at) u (Lost Stopped)) (sym (ap (λ (s : Stepped Msg). kept_to v.setup w i event s) taken ∙ stopped))
+          let stopped : kept_to v.setup w i event (Taken t.turn) ≡ machines_lost (with_disk w i (fails (w.disks i))) Stopped =
+          ap (λ (b : Bool). cond b (with_disks w (kept_at w i event) (stepped_to v.setup w.held i (Taken t.turn))) (machines_lost (with_disk w i (fails (w.disks i))) Stopped)) t.no_room in
+          subst (λ (u : Upshot Msg). HasChanged m refines (v_later v i g later r lt at) u (Lost Stopped)) (sym (ap (λ (s : Stepped Msg). kept_to v.setup w i event s) taken ∙ stopped))
           (runs-disk v i g later r lt at w (fails (w.disks i)) st t.over, refl, refl)
 
       -- it was taken and kept
-      module _ (outcome : Outcome) (is : answer ≡ Was_kept outcome) (w : Machines Msg) (st : Runs m stands v w) (working : (w.disks i).failed ≡ false) where
-        pub turn-kept : IsKeptTurn m stands (w.disks i) event (step_there w) later outcome
-        turn-kept = answer-is w st working (Was_kept outcome) is
+      module _ (outcome : Outcome) (is : answer ≡ Kept_taken outcome) (w : Machines Msg) (st : RefinesMachines m refines v w) (working : (w.disks i).failed ≡ false) where
+        pub turn-kept : IsKeptTurn m refines (w.disks i) event (step_there w) later outcome
+        turn-kept = answer-is w st working (Kept_taken outcome) is
 
         pub turn-addressed : AreToNodes v.setup.n outcome.sends
         turn-addressed = subst (λ (s : Setup). AreToNodes s.n outcome.sends) (same.setup ∙ r.setups i g at) turn-kept.addressed
@@ -365,30 +365,30 @@ module _ {M Msg : Type 0} (m : Module Msg) (stands : Relation M Msg) where
         good-there = subst (λ (s : Setup). IsSetupOf m s) (sym (r.setups i g at)) r.good
 
         -- the log only grows, and so does the epoch
-        grown : GoesOn g.node.parts.log.entries later.node.parts.log.entries
-        grown = log-grown m stands g later same (w.held.net.cores i) (w.disks i) (st.cores i g at) working event good-there outcome turn-kept
+        grown : GoesOn g.node.state.log.entries later.node.state.log.entries
+        grown = log-grown m refines g later same (w.held.net.cores i) (w.disks i) (st.cores i g at) working event good-there outcome turn-kept
 
-        pub slots-kept : (slots : ℕ) → slots ≡ length g.node.parts.log.entries → (k : KeptState M Msg MemoryDisk) → slice_get (set v.nodes i later) i ≡ Some k →
-            slots ≤ length k.node.parts.log.entries
+        pub slots-kept : (slots : ℕ) → slots ≡ length g.node.state.log.entries → (k : KeptState M Msg MemoryDisk) → slice_get (set v.nodes i later) i ≡ Some k →
+            slots ≤ length k.node.state.log.entries
         slots-kept slots are k e =
-            let far = log-long g.node.parts.log.entries later.node.parts.log.entries grown in
+            let far = log-long g.node.state.log.entries later.node.state.log.entries grown in
             let there : k ≡ later = some-injective k later (sym e ∙ get-set_same v.nodes i later lt) in
-            subst (λ (z : KeptState M Msg MemoryDisk). slots ≤ length z.node.parts.log.entries) (sym there) (omega (arith, are, far))
+            subst (λ (z : KeptState M Msg MemoryDisk). slots ≤ length z.node.state.log.entries) (sym there) (omega (arith, are, far))
 
-        pub epoch-kept : (epoch : ℕ) → epoch ≡ g.node.parts.epoch → (k : KeptState M Msg MemoryDisk) → slice_get (set v.nodes i later) i ≡ Some k → epoch ≤ k.node.parts.epoch
+        pub epoch-kept : (epoch : ℕ) → epoch ≡ g.node.state.epoch → (k : KeptState M Msg MemoryDisk) → slice_get (set v.nodes i later) i ≡ Some k → epoch ≤ k.node.state.epoch
         epoch-kept epoch was k e =
-            let far = epoch-grown m stands g later same (w.held.net.cores i) (w.disks i) (st.cores i g at) working event good-there outcome turn-kept in
+            let far = epoch-grown m refines g later same (w.held.net.cores i) (w.disks i) (st.cores i g at) working event good-there outcome turn-kept in
             let there : k ≡ later = some-injective k later (sym e ∙ get-set_same v.nodes i later lt) in
-            subst (λ (z : KeptState M Msg MemoryDisk). epoch ≤ z.node.parts.epoch) (sym there) (omega (arith, was, far))
+            subst (λ (z : KeptState M Msg MemoryDisk). epoch ≤ z.node.state.epoch) (sym there) (omega (arith, was, far))
 
         -- the core has taken its turn, and all else stands as it stood
-        pub behind : (slots epoch : ℕ) → slots ≡ length g.node.parts.log.entries → epoch ≡ g.node.parts.epoch →
-            IsBehind m stands (v_later v i g later r lt at) w (kept_at w i event) i turn-kept.turn slots epoch
+        pub behind : (slots epoch : ℕ) → slots ≡ length g.node.state.log.entries → epoch ≡ g.node.state.epoch →
+            IsBehind m refines (v_later v i g later r lt at) w (kept_at w i event) i turn-kept.turn slots epoch
         behind slots epoch are was =
             let shown = runs-show v w r st i g at in
             record {
               cores = λ j k e. elim (written v.nodes i j later k lt e) [
-                | inl t ↦ rw t.0 (subst (λ (z : KeptState M Msg MemoryDisk). StandsOver m stands z turn-kept.turn.core (keeps (w.disks i) event)) (sym t.2) turn-kept.over)
+                | inl t ↦ rw t.0 (subst (λ (z : KeptState M Msg MemoryDisk). RefinesMachine m refines z turn-kept.turn.core (keeps (w.disks i) event)) (sym t.2) turn-kept.over)
                 | inr t ↦ rw t.0 (st.cores j k t.1)
               ];
               network = st.network;
@@ -396,9 +396,9 @@ module _ {M Msg : Type 0} (m : Module Msg) (stands : Relation M Msg) where
               hashed = st.hashed;
               log = λ k e.
                   let there : k ≡ later = some-injective k later (sym e ∙ get-set_same v.nodes i later lt) in
-                  let back : take slots k.node.parts.log.entries ≡ g.node.parts.log.entries =
-                  ap (λ (z : KeptState M Msg MemoryDisk). take slots z.node.parts.log.entries) there ∙ ap (λ (n : ℕ). take n later.node.parts.log.entries) are
-                  ∙ log-cut g.node.parts.log.entries later.node.parts.log.entries grown in
+                  let back : take slots k.node.state.log.entries ≡ g.node.state.log.entries =
+                  ap (λ (z : KeptState M Msg MemoryDisk). take slots z.node.state.log.entries) there ∙ ap (λ (n : ℕ). take n later.node.state.log.entries) are
+                  ∙ log-cut g.node.state.log.entries later.node.state.log.entries grown in
                   shown.log ∙ ap (λ (xs : List Value). reverse xs) (sym back);
               epoch = was ∙ shown.epoch;
             }
@@ -406,23 +406,23 @@ module _ {M Msg : Type 0} (m : Module Msg) (stands : Relation M Msg) where
         pub made-there : IsMade turn-kept.turn outcome
         made-there = turn-kept.made
 
-        pub step-taken : (new : RunningState M Msg) (x : Change) →
-            HasChanged m stands new (carried w (kept_at w i event) (stepped_to v.setup w.held i (Taken turn-kept.turn))) x → HasChanged m stands new (kept_to v.setup w i event (step_here w)) x
+        pub step-taken : (new : SimulationState M Msg) (x : EventOutcome) →
+            HasChanged m refines new (with_disks w (kept_at w i event) (stepped_to v.setup w.held i (Taken turn-kept.turn))) x → HasChanged m refines new (kept_to v.setup w i event (step_here w)) x
         step-taken new x k =
             let t = turn-kept in
             let taken : step_here w ≡ Taken t.turn = same-step w ∙ t.step_is in
-            let kept : kept_to v.setup w i event (Taken t.turn) ≡ carried w (kept_at w i event) (stepped_to v.setup w.held i (Taken t.turn)) =
-            ap (λ (b : Bool). cond b (carried w (kept_at w i event) (stepped_to v.setup w.held i (Taken t.turn))) (was_lost (with_disk w i (fails (w.disks i))) Stopped)) t.room in
-            subst (λ (u : Upshot Msg). HasChanged m stands new u x) (sym (ap (λ (s : Stepped Msg). kept_to v.setup w i event s) taken ∙ kept)) k
+            let kept : kept_to v.setup w i event (Taken t.turn) ≡ with_disks w (kept_at w i event) (stepped_to v.setup w.held i (Taken t.turn)) =
+            ap (λ (b : Bool). cond b (with_disks w (kept_at w i event) (stepped_to v.setup w.held i (Taken t.turn))) (machines_lost (with_disk w i (fails (w.disks i))) Stopped)) t.room in
+            subst (λ (u : Upshot Msg). HasChanged m refines new u x) (sym (ap (λ (s : Stepped Msg). kept_to v.setup w i event s) taken ∙ kept)) k
 
   -- ---- what became of a turn
 
-  module _ (v : RunningState M Msg) (i : ℕ) (r : IsRunning m v) (lt : i < length v.nodes) (w : Machines Msg) (behind-it : ℕ → Disk) (t : Turn Msg) (slots epoch : ℕ)
-      (b : IsBehind m stands v w behind-it i t slots epoch) where
+  module _ (v : SimulationState M Msg) (i : ℕ) (r : IsSimulation m v) (lt : i < length v.nodes) (w : Machines Msg) (behind-it : ℕ → Disk) (t : Turn Msg) (slots epoch : ℕ)
+      (b : IsBehind m refines v w behind-it i t slots epoch) where
     -- the core retreats
-    module _ (g later : KeptState M Msg MemoryDisk) (at : slice_get v.nodes i ≡ Some g) (cut : later.node.parts.log.entries ≡ take slots g.node.parts.log.entries)
-        (back : later.node.parts.epoch ≡ epoch) (net : Network) (signed : List (List ℕ)) (hashed : List (List ℕ × List ℕ)) where
-      pub shows-before : Shows m (record { setup = v.setup; nodes = set v.nodes i later; network = net; signed = signed; hashed = hashed }) w.held
+    module _ (g later : KeptState M Msg MemoryDisk) (at : slice_get v.nodes i ≡ Some g) (cut : later.node.state.log.entries ≡ take slots g.node.state.log.entries)
+        (back : later.node.state.epoch ≡ epoch) (net : Network) (signed : List (List ℕ)) (hashed : List (List ℕ × List ℕ)) where
+      pub shows-before : ShowsHeld m (record { setup = v.setup; nodes = set v.nodes i later; network = net; signed = signed; hashed = hashed }) w.held
       shows-before j k e = elim (written v.nodes i j later k lt e) [
         | inl z ↦ subst (λ (n : ℕ). ShowsCore m v.setup (node_of v.setup n) k (w.held.net.cores n)) (sym z.1)
             (subst (λ (x : KeptState M Msg MemoryDisk). ShowsCore m v.setup (node_of v.setup i) x (w.held.net.cores i)) (sym z.2) (record {
@@ -430,34 +430,34 @@ module _ {M Msg : Type 0} (m : Module Msg) (stands : Relation M Msg) where
               epoch = back ∙ b.epoch;
             }))
         | inr z ↦
-            let there : StandsOver m stands k (w.held.net.cores j) (behind-it j) =
-            subst (λ (c : Core Msg). StandsOver m stands k c (behind-it j)) (ap (λ (q : Bool). cond q t.core (w.held.net.cores j)) z.0) (b.cores j k z.1) in
-            core-shown v j k (w.held.net.cores j) r z.1 (over-shows m stands k (w.held.net.cores j) (behind-it j) there)
+            let there : RefinesMachine m refines k (w.held.net.cores j) (behind-it j) =
+            subst (λ (c : Core Msg). RefinesMachine m refines k c (behind-it j)) (ap (λ (q : Bool). cond q t.core (w.held.net.cores j)) z.0) (b.cores j k z.1) in
+            core-shown v j k (w.held.net.cores j) r z.1 (over-shows m refines k (w.held.net.cores j) (behind-it j) there)
       ]
 
-      pub turn-ended : (outcome : Outcome) (end : Kept) → IsMade t outcome → Some (end_of end) ≡ ends_by v.setup w.held.signed w.held.hashed outcome.early outcome.hashed →
-          HasChanged m stands (record { setup = v.setup; nodes = set v.nodes i later; network = net; signed = signed; hashed = hashed })
-          (carried w behind-it (stepped_to v.setup w.held i (Taken t))) (Ended end)
+      pub turn-ended : (outcome : Outcome) (end : Evidence) → IsMade t outcome → Some (end_of end) ≡ ends_by v.setup w.held.signed w.held.hashed outcome.early outcome.hashed →
+          HasChanged m refines (record { setup = v.setup; nodes = set v.nodes i later; network = net; signed = signed; hashed = hashed })
+          (with_disks w behind-it (stepped_to v.setup w.held i (Taken t))) (Ended end)
       turn-ended outcome end made is =
-          subst (λ (d : Happening Msg). HasChanged m stands (record { setup = v.setup; nodes = set v.nodes i later; network = net; signed = signed; hashed = hashed })
-          (carried w behind-it d) (Ended end))
+          subst (λ (d : Happening Msg). HasChanged m refines (record { setup = v.setup; nodes = set v.nodes i later; network = net; signed = signed; hashed = hashed })
+          (with_disks w behind-it d) (Ended end))
           (sym (turn-ends v.setup w.held i t (end_of end) (sym (is ∙ made-ends v.setup w.held t outcome made))))
           (shows-before, refl, refl)
 
-    pub turn-stands : (outcome : Outcome) (net : Network) (signed : List (List ℕ)) (hashed : List (List ℕ × List ℕ)) → IsMade t outcome →
+    pub turn-refines : (outcome : Outcome) (net : Network) (signed : List (List ℕ)) (hashed : List (List ℕ × List ℕ)) → IsMade t outcome →
         ends_by v.setup w.held.signed w.held.hashed outcome.early outcome.hashed ≡ None →
-        net ≡ posted_all v.setup v.network i outcome.sends → AreSigned signed (booked v.setup i outcome.own ++ w.held.signed) → AreHashed hashed (over outcome.hashed w.held.hashed) →
-        HasChanged m stands (record { setup = v.setup; nodes = v.nodes; network = net; signed = signed; hashed = hashed })
-        (carried w behind-it (stepped_to v.setup w.held i (Taken t))) Done
-    turn-stands outcome net signed hashed made none en es eh =
-        subst (λ (d : Happening Msg). HasChanged m stands (record { setup = v.setup; nodes = v.nodes; network = net; signed = signed; hashed = hashed }) (carried w behind-it d) Done)
+        net ≡ posted_all v.setup v.network i outcome.sends → AreSigned signed (booked v.setup i outcome.own ++ w.held.signed) → AreHashed hashed (push_all outcome.hashed w.held.hashed) →
+        HasChanged m refines (record { setup = v.setup; nodes = v.nodes; network = net; signed = signed; hashed = hashed })
+        (with_disks w behind-it (stepped_to v.setup w.held i (Taken t))) Done
+    turn-refines outcome net signed hashed made none en es eh =
+        subst (λ (d : Happening Msg). HasChanged m refines (record { setup = v.setup; nodes = v.nodes; network = net; signed = signed; hashed = hashed }) (with_disks w behind-it d) Done)
         (sym (turn-done v.setup w.held i t (sym (made-ends v.setup w.held t outcome made) ∙ none))) (
           record {
             cores = b.cores;
             network = en ∙ ap (λ (u : Network). posted_all v.setup u i outcome.sends) b.network
                 ∙ ap (λ (xs : List (To × List ℕ)). posted_all v.setup w.held.net.network i xs) made.sends;
             signed = subst (λ (cs : List Claim). AreSigned signed (booked v.setup i cs ++ w.held.signed)) made.own es;
-            hashed = subst (λ (xs : List (List ℕ)). AreHashed hashed (over xs w.held.hashed)) made.hashed eh;
+            hashed = subst (λ (xs : List (List ℕ)). AreHashed hashed (push_all xs w.held.hashed)) made.hashed eh;
           },
           refl,
           refl,

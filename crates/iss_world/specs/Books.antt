@@ -6,7 +6,7 @@ use Rattle.std.specs.Map.{lookup}
 use Rattle.std.specs.Ordering.{is_eq, nat_cmp}
 use Rattle.iss_base.specs.Lists.{In, same_bytes}
 use Rattle.iss_rules.specs.Books.{Signed}
-use Rattle.iss_causes.specs.Ends.{End, Collision}
+use Rattle.iss_rules.specs.Ends.{End, Collision}
 use Rattle.iss_model.specs.Run.{has_signed}
 use Rattle.iss_request.specs.Digest.{digest}
 

@@ -7,22 +7,22 @@ use Rattle.iss_log.specs.LogState.{first_number_of}
 use Rattle.iss_model.specs.Frames.{frame_of}
 use Rattle.iss_model.specs.Run.{Held}
 use Rattle.iss_request.specs.declared.setups.Setup.{Setup}
-use Rattle.iss_restarts.specs.Headline.{IsWhole, course_after, held_after, shown}
+use Rattle.iss_theorems.specs.Headline.{IsWhole, course_after, held_after, shown}
 use Rattle.iss_schedule.specs.declared.schedules.Event.{Event}
 use Rattle.iss_sb.specs.Evidence.{Module, is_correct}
 use Rattle.iss_sb.specs.Calls.{Relation}
 use Rattle.iss_theorems.specs.Leaves.{SignsOnceEach}
-use Rattle.iss_world.specs.Stands.{StandsAt}
+use Rattle.iss_world.specs.Refines.{RefinesRun}
 use Rattle.iss_world.specs.State.{WorldState}
-use Rattle.iss_world.specs.declared.world.Happened.{Happened}
-use Rattle.iss_world.specs.declared.world.Happened.TheVariants.{Done, Lost, Forged, Collision, NoMemory, Stale}
+use Rattle.iss_world.specs.declared.world.EventResult.{EventResult}
+use Rattle.iss_world.specs.declared.world.EventResult.TheVariants.{Done, Lost, Forged, Collision, NoMemory, Stale}
 
 -- the world stands for what these events make of a cluster that has taken nothing
-abbrev pub StandsAfter : {M Msg : Type 0} → Setup → Module Msg → Relation M Msg → WorldState M Msg → List Event → Type 0
-StandsAfter s m stands v events = StandsAt m stands v (course_after s m events)
+abbrev pub RefinesEvents : {M Msg : Type 0} → Setup → Module Msg → Relation M Msg → WorldState M Msg → List Event → Type 0
+RefinesEvents s m refines v events = RefinesRun m refines v (course_after s m events)
 
 -- there was memory for the event
-abbrev pub IsAnswered : Happened → Type 0
+abbrev pub IsAnswered : EventResult → Type 0
 IsAnswered Done = Unit {0}
 IsAnswered (Lost why) = Unit {0}
 IsAnswered (Forged by statement sig) = Unit {0}
@@ -38,15 +38,15 @@ AgreeOnNumbers s m h =
 
 -- No leaf of a core's keys signs two statements, over all crashes and restarts: what its journal's entries did has one for each leaf.
 abbrev pub SignOnce : {M Msg : Type 0} → Setup → Module Msg → WorldState M Msg → Type 0
-SignOnce {M = M} {Msg = Msg} s m v = (i : ℕ) (g : KeptState M Msg MemoryDisk) → slice_get v.running.nodes i ≡ Some g →
+SignOnce {M = M} {Msg = Msg} s m v = (i : ℕ) (g : KeptState M Msg MemoryDisk) → slice_get v.simulation.nodes i ≡ Some g →
     SignsOnceEach (frame_of s m) g.me.0 (deeds_of s m g.me.0 g.entries)
 
 -- The world stands for the run of these events, up to its end if it has ended. Whatever disks failed and cores were made anew, the run
 -- leads to what nodes come to that never stop, by the events that were kept: one log, with the same numbers; each request that a
 -- correct node took and kept is in one place; certificates are of logs, what was adopted was delivered, and an end has evidence.
-pub record IsHeadline {M Msg : Type 0} (s : Setup) (m : Module Msg) (stands : Relation M Msg)
+pub record IsHeadline {M Msg : Type 0} (s : Setup) (m : Module Msg) (refines : Relation M Msg)
     (v : WorldState M Msg) (events : List Event) : Type 0 where
-  pub run : StandsAfter s m stands v events
+  pub run : RefinesEvents s m refines v events
   pub whole : IsWhole s m events
   pub numbers : AgreeOnNumbers s m (held_after s m events)
   pub leaves : SignOnce s m v

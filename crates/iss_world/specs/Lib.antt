@@ -1,6 +1,6 @@
 pub mod Books
 pub mod Headline
 pub mod Shape
-pub mod Stands
+pub mod Refines
 pub mod State
 pub mod Steps

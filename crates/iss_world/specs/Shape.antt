@@ -7,8 +7,8 @@ use Rattle.iss_network.specs.declared.packets.Sent.{Sent}
 use Rattle.iss_disk.specs.declared.memory.MemoryDisk.{MemoryDisk}
 use Rattle.iss_keep.specs.State.{KeptState}
 use Rattle.iss_sb.specs.Evidence.{Module}
-use Rattle.iss_world.specs.State.{RunningState, WorldState}
-use Rattle.iss_world.specs.Stands.{IsStanding}
+use Rattle.iss_world.specs.State.{SimulationState, WorldState}
+use Rattle.iss_world.specs.Refines.{RefinesSome}
 use Rattle.iss_sb.specs.Calls.{Relation}
 
 -- the packets are for cores below n
@@ -21,7 +21,7 @@ pub record IsNetworkOf (n : ℕ) (w : Network) : Type 0 where
   pub held : length w.held ≡ n
   pub packets : AreForCores n w.packets
 
-pub record IsRunning {M Msg : Type 0} (m : Module Msg) (v : RunningState M Msg) : Type 0 where
+pub record IsSimulation {M Msg : Type 0} (m : Module Msg) (v : SimulationState M Msg) : Type 0 where
   pub good : IsSetupOf m v.setup
   pub count : length v.nodes ≡ cores_of v.setup
   pub network : IsNetworkOf (cores_of v.setup) v.network
@@ -30,4 +30,4 @@ pub record IsRunning {M Msg : Type 0} (m : Module Msg) (v : RunningState M Msg) 
 
 -- a world stands for some run, as long as that goes on and memory was never wanting
 abbrev pub IsWorld : {M Msg : Type 0} → Module Msg → Relation M Msg → WorldState M Msg → Type 0
-IsWorld m stands v = v.stale ≡ false → v.ended ≡ None → IsStanding m stands v.running
+IsWorld m refines v = v.stale ≡ false → v.ended ≡ None → RefinesSome m refines v.simulation

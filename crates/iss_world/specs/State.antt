@@ -4,9 +4,9 @@ use Rattle.iss_network.specs.Network.{Network}
 use Rattle.iss_disk.specs.declared.memory.MemoryDisk.{MemoryDisk}
 use Rattle.iss_keep.specs.State.{KeptState}
 use Rattle.iss_request.specs.declared.setups.Setup.{Setup}
-use Rattle.iss_world.specs.declared.ends.End.{End}
+use Rattle.iss_world.specs.declared.ends.Evidence.{Evidence}
 
-pub record RunningState (M Msg : Type 0) : Type 0 where
+pub record SimulationState (M Msg : Type 0) : Type 0 where
   pub setup : Setup
   -- the cores, ascending, each over a disk of its own
   pub nodes : List (KeptState M Msg MemoryDisk)
@@ -17,8 +17,8 @@ pub record RunningState (M Msg : Type 0) : Type 0 where
   pub hashed : List (List ℕ × List ℕ)
 
 pub record WorldState (M Msg : Type 0) : Type 0 where
-  pub running : RunningState M Msg
+  pub simulation : SimulationState M Msg
   -- why the run ended, if it has
-  pub ended : Option End
+  pub ended : Option Evidence
   -- whether memory was wanting in an event: then nothing is said of the rest
   pub stale : Bool

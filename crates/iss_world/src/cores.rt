@@ -1,6 +1,6 @@
 //! Which node each core runs, and cores at their start.
 ghost use Rattle.std.specs.Prelude.{◌≡◌, ◌<◌, ◌≤◌, ◌+◌, List, [], None, false, length, IfOk, OnOk};
-ghost use Rattle.iss_causes.specs.declared.causes.NodeEvent.{NodeEvent};
+ghost use Rattle.iss_rules.specs.declared.events.NodeEvent.{NodeEvent};
 ghost use Rattle.iss_disk.specs.Calls.{script};
 ghost use Rattle.iss_disk.specs.MemoryViews.{calls_of};
 ghost use Rattle.iss_keep.specs.Steps.{IsSame};
@@ -9,7 +9,7 @@ ghost use Rattle.iss_rules.specs.Concrete.{keys_of};
 ghost use Rattle.iss_model.specs.Run.{cores_of, node_of};
 ghost use Rattle.iss_rules.specs.Setups.{IsSetupOf};
 ghost use Rattle.iss_request.specs.Setup.{IsGoodSetup};
-ghost use Rattle.iss_world.specs.Stands.{AreFresh, IsFresh, LeadsBy, StandsOver};
+ghost use Rattle.iss_world.specs.Refines.{AreFresh, IsFresh, LeadsBy, RefinesMachine};
 
 use iss_disk::MemoryDisk;
 use iss_journal::{AttachError, a_file_has_one_reading};
@@ -57,9 +57,9 @@ pub fn start_cores<M: Sequenced>(
     setup: &Setup,
     directory: &SharedDirectory,
 ) -> Result<Vec<Kept<M, MemoryDisk>>, NoMemory>
-    requires good { IsSetupOf M.meaning setup.now }
+    requires good { IsSetupOf M.spec setup.now }
     requires directory { directory.now ≡ keys_of setup.now }
-    ensures { IfOk result (λ nodes. AreFresh M.meaning M.stands setup.now (cores_of setup.now) nodes.items) }
+    ensures { IfOk result (λ nodes. AreFresh M.spec M.refines setup.now (cores_of setup.now) nodes.items) }
 {
     let mut nodes = Vec::new(alloc);
     for core in 0..cores_of(setup) {
@@ -75,10 +75,10 @@ fn start_core<M: Sequenced>(
     directory: &SharedDirectory,
     core: u32,
 ) -> Result<Kept<M, MemoryDisk>, NoMemory>
-    requires good { IsSetupOf M.meaning setup.now }
+    requires good { IsSetupOf M.spec setup.now }
     requires directory { directory.now ≡ keys_of setup.now }
     requires core { core < cores_of setup.now }
-    ensures { IfOk result (λ node. IsFresh M.meaning M.stands setup.now core node) }
+    ensures { IfOk result (λ node. IsFresh M.spec M.refines setup.now core node) }
 {
     let disk = MemoryDisk::new(alloc)?;
     let mut node = Kept::over(alloc, setup, directory, node_of(setup, core), disk)?;
@@ -89,9 +89,9 @@ fn start_core<M: Sequenced>(
 /// Makes a kept node anew whose disk works, and has entries that lead to a core: then nothing but memory can be wanting.
 pub fn make_anew<M: Sequenced>(node: &mut Kept<M, MemoryDisk>) -> Result<(), NoMemory>
     requires works { calls_of node.old.disk ≡ script [] }
-    requires whole { (events : List NodeEvent) × (c : Core M.Msg) × LeadsBy M.meaning node.old events c }
-    ensures anew { OnOk result ((events : List NodeEvent) (c : Core M.Msg) → LeadsBy M.meaning node.old events c →
-        StandsOver M.meaning M.stands node.new c (record { kept = events; passes = None; failed = false })) }
+    requires whole { (events : List NodeEvent) × (c : Core M.Msg) × LeadsBy M.spec node.old events c }
+    ensures anew { OnOk result ((events : List NodeEvent) (c : Core M.Msg) → LeadsBy M.spec node.old events c →
+        RefinesMachine M.spec M.refines node.new c (record { kept = events; passes = None; failed = false })) }
     ensures same { IsSame node.old node.new }
 {
     a_file_has_one_reading();

@@ -1,26 +1,26 @@
 //! Why the run of a world ends.
 ghost use Rattle.std.specs.Prelude.{◌≡◌, IfOk};
 
-use iss_causes::Why;
 use iss_request::{Bytes, NoMemory};
+use iss_rules::Why;
 use iss_sb::Claim;
 
 /// Why a run ended: a claim of a correct node that it never made, or different strings of one digest, the one that was hashed
 /// earlier first.
 #[derive(Drop)]
-pub enum End {
+pub enum Evidence {
     Forged(Claim),
     Collision { first: Bytes, second: Bytes },
 }
 
-impl End {
+impl Evidence {
     /// The same end once more.
-    pub fn copy(&self) -> Result<End, NoMemory>
+    pub fn copy(&self) -> Result<Evidence, NoMemory>
         ensures { IfOk result (λ end. end ≡ self.now) }
     {
         match self {
-            End::Forged(claim) => Ok(End::Forged(copy_of(claim)?)),
-            End::Collision { first, second } => Ok(End::Collision {
+            Evidence::Forged(claim) => Ok(Evidence::Forged(copy_of(claim)?)),
+            Evidence::Collision { first, second } => Ok(Evidence::Collision {
                 first: first.copy()?,
                 second: second.copy()?,
             }),
@@ -41,8 +41,8 @@ pub fn copy_of(claim: &Claim) -> Result<Claim, NoMemory>
 
 // What an event changed: something, or nothing, and why, or the run ended in it.
 #[derive(Drop)]
-pub enum Change {
+pub enum EventOutcome {
     Done,
     Lost(Why),
-    Ended(End),
+    Ended(Evidence),
 }

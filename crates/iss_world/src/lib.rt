@@ -6,9 +6,9 @@ pub mod cores;
 pub mod ends;
 mod posting;
 mod requests;
-pub mod running;
+pub mod simulation;
 mod stepping;
 pub mod strings;
 pub mod world;
 
-pub use world::{Happened, World};
+pub use world::{EventResult, World};

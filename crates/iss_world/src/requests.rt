@@ -24,7 +24,7 @@ pub fn request_packet<M: Sequenced>(
     requires client { id.client < setup.now.clients }
     requires leaf { id.number < 2 ^ setup.now.keys }
     requires payload { length payload.now ≤ 256 }
-    ensures { IfOk result (λ bytes. bytes ≡ (formats_of setup.now M.meaning).wrap
+    ensures { IfOk result (λ bytes. bytes ≡ (formats_of setup.now M.spec).wrap
         (record { from = 255; epoch = 0; body = OfRequest (request_of setup.now id.client id.number payload.now) })) }
 {
     let keys = directory.keys_of_client(alloc, id.client);
@@ -39,7 +39,7 @@ pub fn request_packet<M: Sequenced>(
 // The packet of a request.
 fn wrapped<M: Sequenced>(alloc: Global, version: u8, request: &Request) -> Result<Bytes, NoMemory>
     ensures { IfOk result (λ bytes. (s : Setup) → s.version ≡ version →
-        bytes ≡ (formats_of s M.meaning).wrap (record { from = 255; epoch = 0; body = OfRequest request.now })) }
+        bytes ≡ (formats_of s M.spec).wrap (record { from = 255; epoch = 0; body = OfRequest request.now })) }
 {
     let mut body = Writer::new(alloc, version);
     write_request(request, &mut body)?;

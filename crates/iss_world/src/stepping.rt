@@ -1,34 +1,34 @@
 //! One event at a core: what it claims is tested, the core takes it, and what it made is tested, booked and posted.
 ghost use Rattle.std.specs.Prelude.{◌≡◌, ◌<◌, ◌≤◌, ℕ, false, IfOk, List, None, Some, length, option_map, slice_get};
-ghost use Rattle.iss_base.specs.Lists.{over};
+ghost use Rattle.iss_base.specs.Lists.{push_all};
 ghost use Rattle.iss_rules.specs.Books.{Signed};
 ghost use Rattle.iss_rules.specs.Concrete.{keys_of};
 ghost use Rattle.iss_model.specs.Node.{Core, Taken, Turn, step};
 ghost use Rattle.iss_model.specs.Run.{cores_of, node_of};
 ghost use Rattle.iss_model.specs.Frames.{claims_at_in, frame_of, step_in};
 ghost use Rattle.iss_disk.specs.declared.memory.MemoryDisk.{MemoryDisk};
-ghost use Rattle.iss_keep.specs.State.{IsAt, KeptState};
+ghost use Rattle.iss_keep.specs.State.{KeptRefinesCore, KeptState};
 ghost use Rattle.iss_keep.specs.Steps.{IsSame};
 ghost use Rattle.iss_node.specs.Steps.{IsMade, IsOfNodes};
-ghost use Rattle.iss_restarts.specs.Courses.{Machines, carried};
-ghost use Rattle.iss_restarts.specs.Disks.{Disk};
-ghost use Rattle.iss_restarts.specs.Frames.{at_machine_in};
+ghost use Rattle.iss_model.specs.Courses.{Machines, with_disks};
+ghost use Rattle.iss_model.specs.Disks.{Disk};
+ghost use Rattle.iss_model.specs.CourseFrames.{at_machine_in};
 ghost use Rattle.iss_sb.specs.Calls.{AreToNodes};
 ghost use Rattle.iss_world.specs.Books.{AreHashed, AreSigned};
-ghost use Rattle.iss_world.specs.Stands.{HasChanged, IsStanding, Runs, StandsOver, end_of};
+ghost use Rattle.iss_world.specs.Refines.{HasChanged, RefinesMachine, RefinesMachines, RefinesSome, end_of};
 ghost use Rattle.iss_world.specs.Steps.{HasAnswered, IsBehind, IsWorking, ends_by, kept_to, stepped_to};
 
 use crate::claims::{Claims, book_own};
-use crate::ends::{Change, End};
+use crate::ends::{EventOutcome, Evidence};
 use crate::posting::post_all;
-use crate::running::Running;
+use crate::simulation::Simulation;
 use crate::strings::Strings;
-use iss_causes::{NodeEvent, Why};
 use iss_disk::MemoryDisk;
 use iss_keep::{Answer, Kept};
 use iss_keys::Directory;
 use iss_node::Outcome;
-use iss_request::{Epoch, NoMemory, Row, Setup};
+use iss_request::{Epoch, NoMemory, Seq, Setup};
+use iss_rules::{NodeEvent, Why};
 use iss_sb::{Claim, Sequenced};
 use std::alloc::Global;
 
@@ -37,25 +37,28 @@ fn claims_at<M: Sequenced>(
     alloc: Global,
     node: &Kept<M, MemoryDisk>,
     event: &NodeEvent,
-) -> Result<Row<Claim>, NoMemory>
-    ensures { IfOk result (λ claims. (c : Core M.Msg) → IsAt M.meaning M.stands node.now c →
-        claims ≡ claims_at_in (frame_of node.now.setup M.meaning) node.now.me.0 c event.now) }
+) -> Result<Seq<Claim>, NoMemory>
+    ensures { IfOk result (λ claims. (c : Core M.Msg) → KeptRefinesCore M.spec M.refines node.now c →
+        claims ≡ claims_at_in (frame_of node.now.setup M.spec) node.now.me.0 c event.now) }
 {
     match event {
         NodeEvent::Packet(bytes) => node.claims_of(bytes.as_slice()),
-        NodeEvent::Propose => Ok(Row::new(alloc)),
-        NodeEvent::Timeout(_) => Ok(Row::new(alloc)),
-        NodeEvent::AskFrom(_) => Ok(Row::new(alloc)),
+        NodeEvent::Propose => Ok(Seq::new(alloc)),
+        NodeEvent::Timeout(_) => Ok(Seq::new(alloc)),
+        NodeEvent::AskFrom(_) => Ok(Seq::new(alloc)),
     }
 }
 
 // A kept node takes an event. The number of slots of its log and its epoch from before it are told too.
-fn take_at<M: Sequenced>(node: &mut Kept<M, MemoryDisk>, event: NodeEvent) -> (Answer, usize, Epoch)
-    ensures answer { (c : Core M.Msg) (d : Disk) → StandsOver M.meaning M.stands node.old c d → d.failed ≡ false →
-        IsOfNodes node.old.setup.n event → HasAnswered M.meaning M.stands c d event
-        (step_in (frame_of node.old.setup M.meaning) node.old.me.0 c event) node.new result.0 }
-    ensures slots { result.1 ≡ length node.old.node.parts.log.entries }
-    ensures epoch { result.2.0 ≡ node.old.node.parts.epoch }
+fn take_with_savepoint<M: Sequenced>(
+    node: &mut Kept<M, MemoryDisk>,
+    event: NodeEvent,
+) -> (Answer, usize, Epoch)
+    ensures answer { (c : Core M.Msg) (d : Disk) → RefinesMachine M.spec M.refines node.old c d → d.failed ≡ false →
+        IsOfNodes node.old.setup.n event → HasAnswered M.spec M.refines c d event
+        (step_in (frame_of node.old.setup M.spec) node.old.me.0 c event) node.new result.0 }
+    ensures slots { result.1 ≡ length node.old.node.state.log.entries }
+    ensures epoch { result.2.0 ≡ node.old.node.state.epoch }
     ensures same { IsSame node.old node.new }
 {
     let slots = node.log().entries().len();
@@ -72,38 +75,38 @@ fn ends(
     signed: &Claims,
     hashed: &mut Strings,
     outcome: &Outcome,
-) -> Result<Option<End>, NoMemory>
+) -> Result<Option<Evidence>, NoMemory>
     requires { directory.now ≡ keys_of setup.now }
     ensures told { IfOk result (λ end. (claims : List Signed) (strings : List (List ℕ)) → AreSigned signed.now claims → AreHashed hashed.old strings →
         option_map end_of end ≡ ends_by setup.now claims strings outcome.now.early outcome.now.hashed) }
     ensures booked { IfOk result (λ end. (strings : List (List ℕ)) → AreHashed hashed.old strings → end ≡ None →
-        AreHashed hashed.new (over outcome.now.hashed strings)) }
+        AreHashed hashed.new (push_all outcome.now.hashed strings)) }
 {
     let early = outcome.early.as_slice();
     match signed.first_forged(alloc, setup, directory, early)? {
-        Some(claim) => Ok(Some(End::Forged(claim))),
+        Some(claim) => Ok(Some(Evidence::Forged(claim))),
         None => hashed.book(directory, outcome.hashed.as_slice()),
     }
 }
 
-impl<M: Sequenced> Running<M> {
+impl<M: Sequenced> Simulation<M> {
     // A core takes an event, unless its disk has failed, or what the event claims is forged.
     pub(crate) fn take(
         &mut self,
         alloc: Global,
         core: u32,
         event: NodeEvent,
-    ) -> Result<Change, NoMemory>
+    ) -> Result<EventOutcome, NoMemory>
         requires core { core < cores_of self.old.setup }
         requires nodes { IsOfNodes self.old.setup.n event }
-        requires standing { IsStanding M.meaning M.stands self.old }
-        ensures happened { IfOk result (λ r. (w : Machines M.Msg) → Runs M.meaning M.stands self.old w →
-            HasChanged M.meaning M.stands self.new (at_machine_in (frame_of self.old.setup M.meaning) w core event) r) }
+        requires standing { RefinesSome M.spec M.refines self.old }
+        ensures happened { IfOk result (λ r. (w : Machines M.Msg) → RefinesMachines M.spec M.refines self.old w →
+            HasChanged M.spec M.refines self.new (at_machine_in (frame_of self.old.setup M.spec) w core event) r) }
         ensures same { self.new.setup ≡ self.old.setup }
     {
         let node = &self.nodes[core as usize];
         if node.stale() {
-            return Ok(Change::Lost(Why::Stopped));
+            return Ok(EventOutcome::Lost(Why::Stopped));
         }
         let claims = claims_at(alloc, node, &event)?;
         let directory = self.directory.directory();
@@ -111,26 +114,26 @@ impl<M: Sequenced> Running<M> {
             .signed
             .first_forged(alloc, &self.setup, directory, claims.as_slice())?;
         match forged {
-            Some(claim) => Ok(Change::Ended(End::Forged(claim))),
+            Some(claim) => Ok(EventOutcome::Ended(Evidence::Forged(claim))),
             None => self.step(alloc, core, event),
         }
     }
 
     // A core whose disk has not failed takes an event whose claims were tested.
-    fn step(&mut self, alloc: Global, core: u32, event: NodeEvent) -> Result<Change, NoMemory>
+    fn step(&mut self, alloc: Global, core: u32, event: NodeEvent) -> Result<EventOutcome, NoMemory>
         requires core { core < cores_of self.old.setup }
         requires nodes { IsOfNodes self.old.setup.n event }
-        requires working { IsWorking M.meaning M.stands self.old core }
-        ensures happened { IfOk result (λ r. (w : Machines M.Msg) → Runs M.meaning M.stands self.old w → (w.disks core).failed ≡ false →
-            HasChanged M.meaning M.stands self.new (kept_to self.old.setup w core event
-            (step_in (frame_of self.old.setup M.meaning) (node_of self.old.setup core) (w.held.net.cores core) event)) r) }
+        requires working { IsWorking M.spec M.refines self.old core }
+        ensures happened { IfOk result (λ r. (w : Machines M.Msg) → RefinesMachines M.spec M.refines self.old w → (w.disks core).failed ≡ false →
+            HasChanged M.spec M.refines self.new (kept_to self.old.setup w core event
+            (step_in (frame_of self.old.setup M.spec) (node_of self.old.setup core) (w.held.net.cores core) event)) r) }
         ensures same { self.new.setup ≡ self.old.setup }
     {
-        let (answer, slots, epoch) = take_at(&mut self.nodes[core as usize], event);
+        let (answer, slots, epoch) = take_with_savepoint(&mut self.nodes[core as usize], event);
         match answer {
             Answer::Taken(outcome) => self.taken(alloc, core, &outcome, slots, epoch),
-            Answer::Dropped(why) => Ok(Change::Lost(why)),
-            Answer::Failed => Ok(Change::Lost(Why::Stopped)),
+            Answer::Dropped(why) => Ok(EventOutcome::Lost(why)),
+            Answer::Failed => Ok(EventOutcome::Lost(Why::Stopped)),
             Answer::NoMemory | Answer::Stale => Err(NoMemory),
         }
     }
@@ -143,14 +146,14 @@ impl<M: Sequenced> Running<M> {
         outcome: &Outcome,
         slots: usize,
         epoch: Epoch,
-    ) -> Result<Change, NoMemory>
+    ) -> Result<EventOutcome, NoMemory>
         requires core { core < cores_of self.old.setup }
         requires addressed { AreToNodes self.old.setup.n outcome.now.sends }
-        requires slots { (g : KeptState M M.Msg MemoryDisk) → slice_get self.old.nodes core ≡ Some g → slots ≤ length g.node.parts.log.entries }
-        requires epoch { (g : KeptState M M.Msg MemoryDisk) → slice_get self.old.nodes core ≡ Some g → epoch.0 ≤ g.node.parts.epoch }
+        requires slots { (g : KeptState M M.Msg MemoryDisk) → slice_get self.old.nodes core ≡ Some g → slots ≤ length g.node.state.log.entries }
+        requires epoch { (g : KeptState M M.Msg MemoryDisk) → slice_get self.old.nodes core ≡ Some g → epoch.0 ≤ g.node.state.epoch }
         ensures happened { IfOk result (λ r. (w : Machines M.Msg) (behind : ℕ → Disk) (t : Turn M.Msg) →
-            IsBehind M.meaning M.stands self.old w behind core t slots epoch.0 → IsMade t outcome.now →
-            HasChanged M.meaning M.stands self.new (carried w behind (stepped_to self.old.setup w.held core (Taken t))) r) }
+            IsBehind M.spec M.refines self.old w behind core t slots epoch.0 → IsMade t outcome.now →
+            HasChanged M.spec M.refines self.new (with_disks w behind (stepped_to self.old.setup w.held core (Taken t))) r) }
         ensures same { self.new.setup ≡ self.old.setup }
     {
         let directory = self.directory.directory();
@@ -165,7 +168,7 @@ impl<M: Sequenced> Running<M> {
         match ended {
             Some(end) => {
                 self.nodes[core as usize].retreat(slots, epoch);
-                Ok(Change::Ended(end))
+                Ok(EventOutcome::Ended(end))
             }
             None => {
                 let own = outcome.own.as_slice();
@@ -176,7 +179,7 @@ impl<M: Sequenced> Running<M> {
                     core,
                     outcome.sends.as_slice(),
                 )?;
-                Ok(Change::Done)
+                Ok(EventOutcome::Done)
             }
         }
     }

@@ -1,12 +1,12 @@
 //! The book of what was hashed, which shows different strings of one digest.
 ghost use Rattle.std.specs.Prelude.{◌≡◌, ◌∷◌, [], ℕ, List, None, IfOk, option_map};
-ghost use Rattle.iss_base.specs.Lists.{over, same_bytes};
+ghost use Rattle.iss_base.specs.Lists.{push_all, same_bytes};
 ghost use Rattle.iss_model.specs.Run.{collision_in, collision_with};
 ghost use Rattle.iss_request.specs.Digest.{digest};
 ghost use Rattle.iss_world.specs.Books.{AreHashed, difference};
-ghost use Rattle.iss_world.specs.Stands.{end_of};
+ghost use Rattle.iss_world.specs.Refines.{end_of};
 
-use crate::ends::End;
+use crate::ends::Evidence;
 use iss_keys::Directory;
 use iss_request::{Bytes, NoMemory};
 use std::alloc::Global;
@@ -48,7 +48,7 @@ impl Strings {
     }
 
     // One string more, unless a different one of its digest is there.
-    fn add(&mut self, directory: &Directory, string: &Bytes) -> Result<Option<End>, NoMemory>
+    fn add(&mut self, directory: &Directory, string: &Bytes) -> Result<Option<Evidence>, NoMemory>
         ensures told { IfOk result (λ end. (book : List (List ℕ)) → AreHashed self.old book → option_map end_of end ≡ collision_with string.now book) }
         ensures booked { IfOk result (λ end. (book : List (List ℕ)) → AreHashed self.old book → end ≡ None → AreHashed self.new (string.now ∷ book)) }
     {
@@ -65,9 +65,9 @@ impl Strings {
         &mut self,
         directory: &Directory,
         strings: &[Bytes],
-    ) -> Result<Option<End>, NoMemory>
+    ) -> Result<Option<Evidence>, NoMemory>
         ensures told { IfOk result (λ end. (book : List (List ℕ)) → AreHashed self.old book → option_map end_of end ≡ collision_in strings.now book) }
-        ensures booked { IfOk result (λ end. (book : List (List ℕ)) → AreHashed self.old book → end ≡ None → AreHashed self.new (over strings.now book)) }
+        ensures booked { IfOk result (λ end. (book : List (List ℕ)) → AreHashed self.old book → end ≡ None → AreHashed self.new (push_all strings.now book)) }
     {
         for string in strings {
             let end = self.add(directory, string)?;
@@ -87,13 +87,13 @@ fn same(a: &[u8], b: &[u8]) -> bool
 }
 
 // The collision of two strings of one digest, if they differ.
-fn collision(first: &Bytes, second: &Bytes) -> Result<Option<End>, NoMemory>
+fn collision(first: &Bytes, second: &Bytes) -> Result<Option<Evidence>, NoMemory>
     ensures { IfOk result (λ end. option_map end_of end ≡ difference first.now second.now) }
 {
     if same(first.as_slice(), second.as_slice()) {
         return Ok(None);
     }
-    Ok(Some(End::Collision {
+    Ok(Some(Evidence::Collision {
         first: first.copy()?,
         second: second.copy()?,
     }))

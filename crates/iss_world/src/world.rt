@@ -2,32 +2,32 @@
 ghost use Rattle.std.specs.Prelude.{◌≡◌, ◌<◌, ◌++◌, ◌∷◌, [], IfOk, List, None, OnOk, reverse};
 ghost use Rattle.iss_model.specs.Run.{cores_of, node_of};
 ghost use Rattle.iss_model.specs.Frames.{frame_of};
-ghost use Rattle.iss_restarts.specs.Courses.{Course, Machines, begin_machines};
-ghost use Rattle.iss_restarts.specs.Frames.{goes_further_in};
+ghost use Rattle.iss_model.specs.Courses.{Course, Machines, begin_machines};
+ghost use Rattle.iss_model.specs.CourseFrames.{run_event_if_open_in};
 ghost use Rattle.iss_rules.specs.Setups.{IsSetupOf};
 ghost use Rattle.iss_schedule.specs.Events.{AreInRange, IsInRange};
 ghost use Rattle.iss_schedule.specs.declared.schedules.Event.{Event as Happens};
-ghost use Rattle.iss_world.specs.Headline.{IsAnswered, IsHeadline, StandsAfter};
+ghost use Rattle.iss_world.specs.Headline.{IsAnswered, IsHeadline, RefinesEvents};
 ghost use Rattle.iss_world.specs.Shape.{IsWorld};
-ghost use Rattle.iss_world.specs.Stands.{HasHappened, IsOverOr, IsStaleOr, IsStanding, StandsAt, StandsFor, StandsOver, awake, log_at, told_as};
+ghost use Rattle.iss_world.specs.Refines.{HasHappened, IsOverOr, IsStaleOr, RefinesMachine, RefinesRun, RefinesSome, WorldRefinesMachines, awake, log_at, told_as};
 
-use crate::ends::{Change, End};
-use crate::running::Running;
-use iss_causes::Why;
-use iss_cluster::composition;
+use crate::ends::{EventOutcome, Evidence};
+use crate::simulation::Simulation;
+use iss_composition::composition;
 use iss_disk::MemoryDisk;
 use iss_keep::{Kept, leaves_are_of_one_statement};
 use iss_log::Log;
 use iss_request::{Bytes, Epoch, NoMemory, NodeId, Setup, Value};
-use iss_restarts::restarts_change_nothing;
+use iss_rules::Why;
 use iss_sb::Sequenced;
 use iss_schedule::Event;
+use iss_theorems::restarts_change_nothing;
 use std::alloc::Global;
 use std::marker::Model;
 
 /// What an event did.
 #[derive(Drop)]
-pub enum Happened {
+pub enum EventResult {
     Done,
     /// Nothing has changed, for this cause.
     Lost(Why),
@@ -54,9 +54,9 @@ pub enum Happened {
 /// its twin, with the same keys.
 #[derive(Drop)]
 pub struct World<M: Sequenced> {
-    running: Running<M>,
+    simulation: Simulation<M>,
     // why the run ended, if it has: nothing happens any more
-    ended: Option<End>,
+    ended: Option<Evidence>,
     // set where memory was wanting: what an event left half done stands for nothing
     stale: bool,
 }
@@ -67,22 +67,22 @@ impl<M: Sequenced> Model for World<M> {
 
     ghost Value = { WorldState M M.Msg };
 
-    ghost view = { λ w. record { running = w.running; ended = w.ended; stale = w.stale } };
+    ghost view = { λ w. record { simulation = w.simulation; ended = w.ended; stale = w.stale } };
 
-    ghost invariant = { λ w. IsWorld M.meaning M.stands (record { running = w.running; ended = w.ended; stale = w.stale }) };
+    ghost invariant = { λ w. IsWorld M.spec M.refines (record { simulation = w.simulation; ended = w.ended; stale = w.stale }) };
 }
 
 impl<M: Sequenced> World<M> {
     /// Cores that have taken nothing, each with its node's keys, and no packets.
     pub fn start(alloc: Global, setup: &Setup) -> Result<World<M>, NoMemory>
-        requires { IsSetupOf M.meaning setup.now }
-        ensures stands { IfOk result (λ v. StandsFor M.meaning M.stands v (begin_machines setup.now)) }
-        ensures begun { IfOk result (λ v. StandsAfter setup.now M.meaning M.stands v []) }
-        ensures same { IfOk result (λ v. v.running.setup ≡ setup.now) }
+        requires { IsSetupOf M.spec setup.now }
+        ensures refines { IfOk result (λ v. WorldRefinesMachines M.spec M.refines v (begin_machines setup.now)) }
+        ensures begun { IfOk result (λ v. RefinesEvents setup.now M.spec M.refines v []) }
+        ensures same { IfOk result (λ v. v.simulation.setup ≡ setup.now) }
     {
-        let running = Running::start(alloc, setup)?;
+        let simulation = Simulation::start(alloc, setup)?;
         Ok(World {
-            running,
+            simulation,
             ended: None,
             stale: false,
         })
@@ -97,38 +97,38 @@ impl<M: Sequenced> World<M> {
     /// that a correct node took and kept is in its log, waits there or is in flight. The certificates that correct nodes keep are of logs
     /// of correct nodes, and what correct nodes adopted was delivered at one (ISS, whole protocol; crashes and recovery). No leaf of a
     /// core's keys signs two statements, over all restarts.
-    pub fn event(&mut self, alloc: Global, event: &Event) -> Happened
-        requires { IsInRange self.old.running.setup event.now }
-        ensures happened { (p : Course M.Msg) → StandsAt M.meaning M.stands self.old p →
-            HasHappened M.meaning M.stands self.new p (goes_further_in (frame_of self.old.running.setup M.meaning) p event.now) result }
-        ensures headline { (events : List Happens) → AreInRange self.old.running.setup events →
-            StandsAfter self.old.running.setup M.meaning M.stands self.old events → IsAnswered result →
-            IsHeadline self.old.running.setup M.meaning M.stands self.new (events ++ event.now ∷ []) }
+    pub fn event(&mut self, alloc: Global, event: &Event) -> EventResult
+        requires { IsInRange self.old.simulation.setup event.now }
+        ensures happened { (p : Course M.Msg) → RefinesRun M.spec M.refines self.old p →
+            HasHappened M.spec M.refines self.new p (run_event_if_open_in (frame_of self.old.simulation.setup M.spec) p event.now) result }
+        ensures headline { (events : List Happens) → AreInRange self.old.simulation.setup events →
+            RefinesEvents self.old.simulation.setup M.spec M.refines self.old events → IsAnswered result →
+            IsHeadline self.old.simulation.setup M.spec M.refines self.new (events ++ event.now ∷ []) }
         ensures stale { IsStaleOr self.old self.new result }
         ensures over { IsOverOr self.old self.new }
-        ensures same { self.new.running.setup ≡ self.old.running.setup }
+        ensures same { self.new.simulation.setup ≡ self.old.simulation.setup }
     {
         composition::<M>();
         restarts_change_nothing::<M>();
         leaves_are_of_one_statement::<M>();
         let _setup = self.running.setup();
         if self.stale {
-            return Happened::Stale;
+            return EventResult::Stale;
         }
         self.stale = true;
-        match goes_on(alloc, &mut self.running, &mut self.ended, event) {
+        match run_event(alloc, &mut self.running, &mut self.ended, event) {
             Ok(happened) => {
                 self.stale = false;
                 happened
             }
-            Err(_) => Happened::NoMemory,
+            Err(_) => EventResult::NoMemory,
         }
     }
 
     /// The set-up of the cluster.
     pub fn setup(&self) -> &Setup
-        ensures same { result.now ≡ self.now.running.setup }
-        ensures good { IsSetupOf M.meaning result.now }
+        ensures same { result.now ≡ self.now.simulation.setup }
+        ensures good { IsSetupOf M.spec result.now }
     {
         self.running.setup()
     }
@@ -136,65 +136,65 @@ impl<M: Sequenced> World<M> {
     /// The kept node that a core runs, whose calls show the core as long as the run goes on and its disk has not failed: what it
     /// accepted, what waits and is in flight there, and whether it can cast.
     pub fn node(&self, core: u32) -> &Kept<M, MemoryDisk>
-        requires { core < cores_of self.now.running.setup }
-        ensures stands { (w : Machines M.Msg) → StandsFor M.meaning M.stands self.now w →
-            StandsOver M.meaning M.stands result.now (w.held.net.cores core) (w.disks core) }
-        ensures same { (result.now.setup ≡ self.now.running.setup) × (result.now.me.0 ≡ node_of self.now.running.setup core) }
+        requires { core < cores_of self.now.simulation.setup }
+        ensures refines { (w : Machines M.Msg) → WorldRefinesMachines M.spec M.refines self.now w →
+            RefinesMachine M.spec M.refines result.now (w.held.net.cores core) (w.disks core) }
+        ensures same { (result.now.setup ≡ self.now.simulation.setup) × (result.now.me.0 ≡ node_of self.now.simulation.setup core) }
     {
         self.running.node(core)
     }
 
     /// A core's log.
     pub fn log(&self, core: u32) -> &Log
-        requires { core < cores_of self.now.running.setup }
-        ensures { (p : Course M.Msg) → StandsAt M.meaning M.stands self.now p →
-            log_at self.now.running.setup M.meaning p.machines.held core ≡ reverse result.now.entries }
+        requires { core < cores_of self.now.simulation.setup }
+        ensures { (p : Course M.Msg) → RefinesRun M.spec M.refines self.now p →
+            log_at self.now.simulation.setup M.spec p.machines.held core ≡ reverse result.now.entries }
     {
         self.running.log(core)
     }
 
     /// The values of a core's log, in the order of the slots.
     pub fn entries(&self, core: u32) -> &[Value]
-        requires { core < cores_of self.now.running.setup }
-        ensures { (p : Course M.Msg) → StandsAt M.meaning M.stands self.now p →
-            log_at self.now.running.setup M.meaning p.machines.held core ≡ reverse result.now }
+        requires { core < cores_of self.now.simulation.setup }
+        ensures { (p : Course M.Msg) → RefinesRun M.spec M.refines self.now p →
+            log_at self.now.simulation.setup M.spec p.machines.held core ≡ reverse result.now }
     {
         self.running.entries(core)
     }
 
     /// A core's epoch.
     pub fn epoch(&self, core: u32) -> Epoch
-        requires { core < cores_of self.now.running.setup }
-        ensures { (p : Course M.Msg) → StandsAt M.meaning M.stands self.now p → result.0 ≡ (p.machines.held.net.cores core).past.epoch }
+        requires { core < cores_of self.now.simulation.setup }
+        ensures { (p : Course M.Msg) → RefinesRun M.spec M.refines self.now p → result.0 ≡ (p.machines.held.net.cores core).past.epoch }
     {
         self.running.epoch(core)
     }
 }
 
 // The event happens, if the run goes on; if it has ended, its end is told again.
-fn goes_on<M: Sequenced>(
+fn run_event<M: Sequenced>(
     alloc: Global,
-    running: &mut Running<M>,
-    ended: &mut Option<End>,
+    simulation: &mut Simulation<M>,
+    ended: &mut Option<Evidence>,
     event: &Event,
-) -> Result<Happened, NoMemory>
-    requires range { IsInRange running.old.setup event.now }
-    requires standing { ended.old ≡ None → IsStanding M.meaning M.stands running.old }
-    ensures happened { IfOk result (λ r. (p : Course M.Msg) → StandsAt M.meaning M.stands (awake running.old ended.old) p →
-        HasHappened M.meaning M.stands (awake running.new ended.new) p (goes_further_in (frame_of running.old.setup M.meaning) p event.now) r) }
+) -> Result<EventResult, NoMemory>
+    requires range { IsInRange simulation.old.setup event.now }
+    requires standing { ended.old ≡ None → RefinesSome M.spec M.refines simulation.old }
+    ensures happened { IfOk result (λ r. (p : Course M.Msg) → RefinesRun M.spec M.refines (awake simulation.old ended.old) p →
+        HasHappened M.spec M.refines (awake simulation.new ended.new) p (run_event_if_open_in (frame_of simulation.old.setup M.spec) p event.now) r) }
     ensures answered { IfOk result (λ r. IsAnswered r) }
-    ensures world { OnOk result (IsWorld M.meaning M.stands (awake running.new ended.new)) }
-    ensures over { IsOverOr (awake running.old ended.old) (awake running.new ended.new) }
-    ensures same { running.new.setup ≡ running.old.setup }
+    ensures world { OnOk result (IsWorld M.spec M.refines (awake simulation.new ended.new)) }
+    ensures over { IsOverOr (awake simulation.old ended.old) (awake simulation.new ended.new) }
+    ensures same { simulation.new.setup ≡ simulation.old.setup }
 {
     if let Some(end) = ended {
-        return told(end);
+        return repeat_evidence(end);
     }
-    match running.event(alloc, event)? {
-        Change::Done => Ok(Happened::Done),
-        Change::Lost(why) => Ok(Happened::Lost(why)),
-        Change::Ended(end) => {
-            let happened = told(&end)?;
+    match simulation.event(alloc, event)? {
+        EventOutcome::Done => Ok(EventResult::Done),
+        EventOutcome::Lost(why) => Ok(EventResult::Lost(why)),
+        EventOutcome::Ended(end) => {
+            let happened = repeat_evidence(&end)?;
             *ended = Some(end);
             Ok(happened)
         }
@@ -202,16 +202,16 @@ fn goes_on<M: Sequenced>(
 }
 
 // The answer to an event of a run that has ended.
-fn told(end: &End) -> Result<Happened, NoMemory>
+fn repeat_evidence(end: &Evidence) -> Result<EventResult, NoMemory>
     ensures { IfOk result (λ r. r ≡ told_as end.now) }
 {
     match end {
-        End::Forged(claim) => Ok(Happened::Forged {
+        Evidence::Forged(claim) => Ok(EventResult::Forged {
             by: claim.by,
             statement: claim.statement.copy()?,
             sig: claim.sig.copy()?,
         }),
-        End::Collision { first, second } => Ok(Happened::Collision {
+        Evidence::Collision { first, second } => Ok(EventResult::Collision {
             first: first.copy()?,
             second: second.copy()?,
         }),

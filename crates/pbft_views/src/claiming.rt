@@ -9,7 +9,7 @@ ghost use Rattle.pbft_views.specs.Claims.{certificate_claims, certificates_claim
 
 use crate::choosing::choice_digest;
 use crate::goodness::primary;
-use iss_request::{Bytes, NoMemory, NodeId, Row, Slot, Value};
+use iss_request::{Bytes, NoMemory, NodeId, Seq, Slot, Value};
 use iss_sb::{Claim, Params};
 use pbft_wire::signing::{COMMIT, PRE_PREPARE, PREPARE};
 use pbft_wire::{
@@ -23,7 +23,7 @@ fn put_claim(
     by: NodeId,
     statement: Bytes,
     sig: &Bytes,
-    all: &mut Row<Claim>,
+    all: &mut Seq<Claim>,
 ) -> Result<(), NoMemory>
     ensures { OnOk result (all.new ≡ all.old ++ claim by.0 statement sig.now ∷ []) }
 {
@@ -37,7 +37,7 @@ fn put_vote_claims(
     mark: &Mark,
     statement: &Bytes,
     votes: &[Vote],
-    all: &mut Row<Claim>,
+    all: &mut Seq<Claim>,
 ) -> Result<(), NoMemory>
     requires { statement.now ≡ state_at p.now 2 mark.now.view mark.now.slot.0 mark.now.digest }
     ensures { OnOk result (all.new ≡ all.old ++ vote_claims p.now mark.now.view mark.now.slot.0 mark.now.digest votes.now) }
@@ -57,7 +57,7 @@ fn put_certificate_claims(
     p: &Params,
     mark: &Mark,
     c: &Certificate,
-    all: &mut Row<Claim>,
+    all: &mut Seq<Claim>,
 ) -> Result<(), NoMemory>
     requires good { IsGoodSetup p.now.setup }
     requires marked { mark.now ≡ mark_of p.now c.now }
@@ -74,8 +74,8 @@ fn put_certificates_claims(
     alloc: Global,
     p: &Params,
     certificates: &[Certificate],
-    marks: &mut Row<Mark>,
-    all: &mut Row<Claim>,
+    marks: &mut Seq<Mark>,
+    all: &mut Seq<Claim>,
 ) -> Result<(), NoMemory>
     requires { IsGoodSetup p.now.setup }
     ensures marked { OnOk result (marks.new ≡ marks.old ++ map (mark_of p.now) certificates.now) }
@@ -100,12 +100,12 @@ fn put_change_claims(
     view: u16,
     certificates: &[Certificate],
     sig: &Bytes,
-    all: &mut Row<Claim>,
+    all: &mut Seq<Claim>,
 ) -> Result<(), NoMemory>
     requires { IsGoodSetup p.now.setup }
     ensures { OnOk result (all.new ≡ all.old ++ change_claims p.now by.0 view certificates.now sig.now) }
 {
-    let mut marks = Row::new(alloc);
+    let mut marks = Seq::new(alloc);
     put_certificates_claims(alloc, p, certificates, &mut marks, all)?;
     if marks.len() > 255 {
         return Err(NoMemory);
@@ -118,7 +118,7 @@ fn put_changes_claims(
     alloc: Global,
     p: &Params,
     changes: &[Change],
-    all: &mut Row<Claim>,
+    all: &mut Seq<Claim>,
 ) -> Result<(), NoMemory>
     requires { IsGoodSetup p.now.setup }
     ensures { OnOk result (all.new ≡ all.old ++ changes_claims p.now changes.now) }
@@ -142,7 +142,7 @@ fn put_chosen_claim(
     changes: &[Change],
     slot: Slot,
     sig: &Bytes,
-    all: &mut Row<Claim>,
+    all: &mut Seq<Claim>,
 ) -> Result<(), NoMemory>
     ensures { OnOk result (all.new ≡ all.old ++ claim by.0 (state_at p.now 1 view slot.0 (digest_of p.now (choice changes.now slot.0))) sig.now ∷ []) }
 {
@@ -159,7 +159,7 @@ fn put_chosen_claims(
     changes: &[Change],
     slots: &[Slot],
     signatures: &[Bytes],
-    all: &mut Row<Claim>,
+    all: &mut Seq<Claim>,
 ) -> Result<(), NoMemory>
     ensures { OnOk result (all.new ≡ all.old ++ chosen_claims p.now by.0 view changes.now slots.now signatures.now) }
 {
@@ -184,10 +184,10 @@ fn claims_at(
     slot: Slot,
     digest: &[u8; 32],
     sig: &Bytes,
-) -> Result<Row<Claim>, NoMemory>
+) -> Result<Seq<Claim>, NoMemory>
     ensures { IfOk result (λ all. all ≡ claim from.0 (state_at p.now kind view slot.0 digest.now) sig.now ∷ []) }
 {
-    let mut all = Row::new(alloc);
+    let mut all = Seq::new(alloc);
     let statement = state_at(alloc, p, kind, view, slot, digest)?;
     put_claim(from, statement, sig, &mut all)?;
     Ok(all)
@@ -201,7 +201,7 @@ fn claims_of_proposal(
     slot: Slot,
     value: &Value,
     sig: &Bytes,
-) -> Result<Row<Claim>, NoMemory>
+) -> Result<Seq<Claim>, NoMemory>
     ensures { IfOk result (λ all. all ≡ claims p.now from.0 (PrePrepare view slot value.now sig.now)) }
 {
     let digest = digest_of(alloc, p, value);
@@ -215,11 +215,11 @@ fn claims_of_change(
     view: u16,
     certificates: &[Certificate],
     sig: &Bytes,
-) -> Result<Row<Claim>, NoMemory>
+) -> Result<Seq<Claim>, NoMemory>
     requires { IsGoodSetup p.now.setup }
     ensures { IfOk result (λ all. all ≡ claims p.now from.0 (ViewChange view certificates.now sig.now)) }
 {
-    let mut all = Row::new(alloc);
+    let mut all = Seq::new(alloc);
     put_change_claims(alloc, p, from, view, certificates, sig, &mut all)?;
     Ok(all)
 }
@@ -232,11 +232,11 @@ fn claims_of_new_view(
     changes: &[Change],
     signatures: &[Bytes],
     sig: &Bytes,
-) -> Result<Row<Claim>, NoMemory>
+) -> Result<Seq<Claim>, NoMemory>
     requires { IsGoodSetup p.now.setup }
     ensures { IfOk result (λ all. all ≡ claims p.now from.0 (NewView view changes.now signatures.now sig.now)) }
 {
-    let mut all = Row::new(alloc);
+    let mut all = Seq::new(alloc);
     put_changes_claims(alloc, p, changes, &mut all)?;
     let slots = p.slots.as_slice();
     put_chosen_claims(alloc, p, from, view, changes, slots, signatures, &mut all)?;
@@ -252,7 +252,7 @@ pub fn claims(
     p: &Params,
     from: NodeId,
     msg: &Message,
-) -> Result<Row<Claim>, NoMemory>
+) -> Result<Seq<Claim>, NoMemory>
     requires { IsGoodSetup p.now.setup }
     ensures { IfOk result (λ all. all ≡ claims p.now from.0 msg.now) }
 {

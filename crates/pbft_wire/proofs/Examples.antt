@@ -6,7 +6,7 @@ use Rattle.iss_request.specs.Formats.{spell_batch, spell_count, spell_value}
 use Rattle.iss_request.specs.Parsing.{◌>>=◌, byte, done, number, such_that}
 use Rattle.iss_request.specs.declared.ids.NodeId.{NodeId}
 use Rattle.iss_request.specs.declared.ids.Slot.{Slot}
-use Rattle.iss_request.specs.declared.requests.Value.TheVariants.{Nil, Batch as Holds}
+use Rattle.iss_request.specs.declared.requests.Value.TheVariants.{Nil, Batch as Value_batch}
 use Rattle.pbft_wire.specs.declared.messages.Certificate.{Certificate}
 use Rattle.pbft_wire.specs.declared.messages.Change.{Change}
 use Rattle.pbft_wire.specs.declared.messages.Vote.{Vote}
@@ -28,14 +28,14 @@ vote k = record { node = node k; sig = blank }
 
 -- slot 259 holds the empty batch in view 1
 abbrev certificate : List Vote → Certificate
-certificate prepares = record { slot = slot 259; view = 1; value = Holds []; sig = blank; prepares = prepares }
+certificate prepares = record { slot = slot 259; view = 1; value = Value_batch []; sig = blank; prepares = prepares }
 
-pre_prepare_spelled : spell 1 (PrePrepare 0 (slot 259) (Holds []) blank) ≡ 1 ∷ 0 ∷ 0 ∷ 0 ∷ 0 ∷ 0 ∷ 0 ∷ 0 ∷ 0 ∷ 1 ∷ 3 ∷ 1 ∷ 0 ∷ blank
+pre_prepare_spelled : spell 1 (PrePrepare 0 (slot 259) (Value_batch []) blank) ≡ 1 ∷ 0 ∷ 0 ∷ 0 ∷ 0 ∷ 0 ∷ 0 ∷ 0 ∷ 0 ∷ 1 ∷ 3 ∷ 1 ∷ 0 ∷ blank
 unfolding spell_value spell_batch spell_count
 pre_prepare_spelled = refl
 
 -- by the second version the batch inside is spelled otherwise; nil is well spelled too
-second_spelled : spell 2 (PrePrepare 0 (slot 259) (Holds []) blank) ≡ 1 ∷ 0 ∷ 0 ∷ 0 ∷ 0 ∷ 0 ∷ 0 ∷ 0 ∷ 0 ∷ 1 ∷ 3 ∷ 2 ∷ 0 ∷ 0 ∷ blank
+second_spelled : spell 2 (PrePrepare 0 (slot 259) (Value_batch []) blank) ≡ 1 ∷ 0 ∷ 0 ∷ 0 ∷ 0 ∷ 0 ∷ 0 ∷ 0 ∷ 0 ∷ 1 ∷ 3 ∷ 2 ∷ 0 ∷ 0 ∷ blank
 unfolding spell_value spell_batch spell_count
 second_spelled = refl
 

@@ -13,7 +13,7 @@ use Rattle.iss_request.specs.Parsing.{Parser, ◌>>=◌, byte, done, number, suc
 use Rattle.iss_request.specs.declared.ids.NodeId.{NodeId}
 use Rattle.iss_request.specs.declared.ids.Slot.{Slot}
 use Rattle.iss_request.specs.declared.requests.Value.{Value}
-use Rattle.iss_request.specs.declared.requests.Value.TheVariants.{Nil, Batch as Holds}
+use Rattle.iss_request.specs.declared.requests.Value.TheVariants.{Nil, Batch as Value_batch}
 use Rattle.pbft_wire.specs.declared.messages.Certificate.{Certificate}
 use Rattle.pbft_wire.specs.declared.messages.Change.{Change}
 use Rattle.pbft_wire.specs.declared.messages.Vote.{Vote}
@@ -32,7 +32,7 @@ fits_count n = nat_le n 255
 
 abbrev pub fits_value : ℕ → Value → Bool
 fits_value version Nil = true
-fits_value version (Holds b) = nat_le (length b) (requests_most version) && list_all has_spelling b
+fits_value version (Value_batch b) = nat_le (length b) (requests_most version) && list_all has_spelling b
 
 abbrev pub node_of_vote : Vote → ℕ
 node_of_vote x = x.node.0

@@ -2,7 +2,7 @@
 ghost use Rattle.std.specs.Prelude.{◌≡◌, IfOk};
 
 use crate::messages::{Certificate, Change, Vote};
-use iss_request::{NoMemory, Row};
+use iss_request::{NoMemory, Seq};
 use std::alloc::Global;
 
 impl Vote {
@@ -47,10 +47,10 @@ impl Change {
 }
 
 /// The same votes once more.
-pub fn copy_votes(alloc: Global, votes: &[Vote]) -> Result<Row<Vote>, NoMemory>
+pub fn copy_votes(alloc: Global, votes: &[Vote]) -> Result<Seq<Vote>, NoMemory>
     ensures { IfOk result (λ xs. xs ≡ votes.now) }
 {
-    let mut all = Row::new(alloc);
+    let mut all = Seq::new(alloc);
     for vote in votes {
         all.push(vote.copy()?)?;
     }
@@ -61,10 +61,10 @@ pub fn copy_votes(alloc: Global, votes: &[Vote]) -> Result<Row<Vote>, NoMemory>
 pub fn copy_certificates(
     alloc: Global,
     certificates: &[Certificate],
-) -> Result<Row<Certificate>, NoMemory>
+) -> Result<Seq<Certificate>, NoMemory>
     ensures { IfOk result (λ cs. cs ≡ certificates.now) }
 {
-    let mut all = Row::new(alloc);
+    let mut all = Seq::new(alloc);
     for c in certificates {
         all.push(c.copy(alloc)?)?;
     }
@@ -72,10 +72,10 @@ pub fn copy_certificates(
 }
 
 /// The same ViewChanges once more.
-pub fn copy_changes(alloc: Global, changes: &[Change]) -> Result<Row<Change>, NoMemory>
+pub fn copy_changes(alloc: Global, changes: &[Change]) -> Result<Seq<Change>, NoMemory>
     ensures { IfOk result (λ xs. xs ≡ changes.now) }
 {
-    let mut all = Row::new(alloc);
+    let mut all = Seq::new(alloc);
     for x in changes {
         all.push(x.copy(alloc)?)?;
     }

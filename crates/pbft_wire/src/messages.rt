@@ -1,5 +1,5 @@
 //! The messages of PBFT, each with its sender's signature.
-use iss_request::{Bytes, NodeId, Row, Slot, Value};
+use iss_request::{Bytes, NodeId, Seq, Slot, Value};
 
 /// A node's signature, where the statement follows from what it stands in.
 #[derive(Drop)]
@@ -15,7 +15,7 @@ pub struct Certificate {
     pub view: u16,
     pub value: Value,
     pub sig: Bytes,
-    pub prepares: Row<Vote>,
+    pub prepares: Seq<Vote>,
 }
 
 /// A node's ViewChange inside a NewView.
@@ -23,7 +23,7 @@ pub struct Certificate {
 pub struct Change {
     pub node: NodeId,
     pub view: u16,
-    pub certificates: Row<Certificate>,
+    pub certificates: Seq<Certificate>,
     pub sig: Bytes,
 }
 
@@ -52,13 +52,13 @@ pub enum Message {
     },
     ViewChange {
         view: u16,
-        certificates: Row<Certificate>,
+        certificates: Seq<Certificate>,
         sig: Bytes,
     },
     NewView {
         view: u16,
-        changes: Row<Change>,
-        signatures: Row<Bytes>,
+        changes: Seq<Change>,
+        signatures: Seq<Bytes>,
         sig: Bytes,
     },
 }

@@ -12,7 +12,7 @@ ghost use Rattle.pbft_wire.specs.declared.messages.Message.{Message};
 
 use crate::messages::{Certificate, Change, Message, Vote};
 use crate::signing::{COMMIT, NEW_VIEW, PRE_PREPARE, PREPARE, VIEW_CHANGE};
-use iss_request::{Bytes, DecodeError, Fields, NodeId, Row, Slot, read_signature, read_value};
+use iss_request::{Bytes, DecodeError, Fields, NodeId, Seq, Slot, read_signature, read_value};
 use std::alloc::Global;
 
 // ---- single fields
@@ -100,11 +100,11 @@ fn read_vote(alloc: Global, last: Option<NodeId>, f: &mut Fields) -> Result<Vote
     })
 }
 
-fn read_votes(alloc: Global, many: u8, f: &mut Fields) -> Result<Row<Vote>, DecodeError>
+fn read_votes(alloc: Global, many: u8, f: &mut Fields) -> Result<Seq<Vote>, DecodeError>
     ensures ok { IfOk result (λ all. IsRead (parse_votes many 0) f.old f.new all) }
     ensures bad { (at : ℕ) → result ≡ Err (DecodeError.BadField at) → IsUnreadable (parse_votes many 0) f.old at }
 {
-    let mut votes = Row::new(alloc);
+    let mut votes = Seq::new(alloc);
     let mut last = None;
     for _ in 0..many {
         let vote = read_vote(alloc, last, f)?;
@@ -141,11 +141,11 @@ fn read_certificates(
     alloc: Global,
     many: u8,
     f: &mut Fields,
-) -> Result<Row<Certificate>, DecodeError>
+) -> Result<Seq<Certificate>, DecodeError>
     ensures ok { IfOk result (λ all. IsRead (parse_certificates f.old.version many 0) f.old f.new all) }
     ensures bad { (at : ℕ) → result ≡ Err (DecodeError.BadField at) → IsUnreadable (parse_certificates f.old.version many 0) f.old at }
 {
-    let mut certificates = Row::new(alloc);
+    let mut certificates = Seq::new(alloc);
     let mut last = None;
     for _ in 0..many {
         let certificate = read_certificate(alloc, last, f)?;
@@ -185,11 +185,11 @@ fn read_node_change(
     Ok(change)
 }
 
-fn read_changes(alloc: Global, many: u8, f: &mut Fields) -> Result<Row<Change>, DecodeError>
+fn read_changes(alloc: Global, many: u8, f: &mut Fields) -> Result<Seq<Change>, DecodeError>
     ensures ok { IfOk result (λ all. IsRead (parse_changes f.old.version many 0) f.old f.new all) }
     ensures bad { (at : ℕ) → result ≡ Err (DecodeError.BadField at) → IsUnreadable (parse_changes f.old.version many 0) f.old at }
 {
-    let mut changes = Row::new(alloc);
+    let mut changes = Seq::new(alloc);
     let mut last = None;
     for _ in 0..many {
         let change = read_node_change(alloc, last, f)?;
@@ -199,11 +199,11 @@ fn read_changes(alloc: Global, many: u8, f: &mut Fields) -> Result<Row<Change>, 
     Ok(changes)
 }
 
-fn read_signatures(alloc: Global, many: u8, f: &mut Fields) -> Result<Row<Bytes>, DecodeError>
+fn read_signatures(alloc: Global, many: u8, f: &mut Fields) -> Result<Seq<Bytes>, DecodeError>
     ensures ok { IfOk result (λ all. IsRead (times many parse_signature) f.old f.new all) }
     ensures bad { (at : ℕ) → result ≡ Err (DecodeError.BadField at) → IsUnreadable (times many parse_signature) f.old at }
 {
-    let mut signatures = Row::new(alloc);
+    let mut signatures = Seq::new(alloc);
     for _ in 0..many {
         let sig = read_signature(alloc, f)?;
         signatures.push(sig)?;

@@ -7,7 +7,7 @@ ghost use Rattle.pbft_wire.specs.Statements.{digest_of, state_at, state_change, 
 ghost use Rattle.pbft_wire.specs.declared.messages.Certificate.{Certificate};
 
 use crate::messages::Certificate;
-use iss_request::{Bytes, NoMemory, Row, Slot, Value, Writer, write_value};
+use iss_request::{Bytes, NoMemory, Seq, Slot, Value, Writer, write_value};
 use iss_sb::{Params, put_head};
 use std::alloc::Global;
 
@@ -81,10 +81,10 @@ pub fn mark_of(alloc: Global, p: &Params, c: &Certificate) -> Mark
     }
 }
 
-fn marks_of(alloc: Global, p: &Params, certificates: &[Certificate]) -> Result<Row<Mark>, NoMemory>
+fn marks_of(alloc: Global, p: &Params, certificates: &[Certificate]) -> Result<Seq<Mark>, NoMemory>
     ensures { IfOk result (λ all. all ≡ map (mark_of p.now) certificates.now) }
 {
-    let mut all = Row::new(alloc);
+    let mut all = Seq::new(alloc);
     for c in certificates {
         all.push(mark_of(alloc, p, c))?;
     }

@@ -9,7 +9,7 @@ ghost use Rattle.raft_wire.specs.Entries.{parse_entry, parse_what, spell_entry, 
 
 use iss_request::values::write_batch;
 use iss_request::{
-    Batch, DecodeError, Fields, NoMemory, Row, Value, Writer, read_value, version_byte,
+    Batch, DecodeError, Fields, NoMemory, Seq, Value, Writer, read_value, version_byte,
 };
 use std::alloc::Global;
 
@@ -135,11 +135,11 @@ pub fn read_entry(alloc: Global, f: &mut Fields) -> Result<Entry, DecodeError>
 }
 
 /// Reads so many entries.
-pub fn read_entries(alloc: Global, count: u32, f: &mut Fields) -> Result<Row<Entry>, DecodeError>
+pub fn read_entries(alloc: Global, count: u32, f: &mut Fields) -> Result<Seq<Entry>, DecodeError>
     ensures ok { IfOk result (λ es. IsRead (times count (parse_entry f.old.version)) f.old f.new es) }
     ensures bad { (at : ℕ) → result ≡ Err (DecodeError.BadField at) → IsUnreadable (times count (parse_entry f.old.version)) f.old at }
 {
-    let mut entries = Row::new(alloc);
+    let mut entries = Seq::new(alloc);
     for _ in 0..count {
         let entry = read_entry(alloc, f)?;
         entries.push(entry)?;

@@ -1,6 +1,6 @@
 //! The messages of Raft.
 use crate::entries::Entry;
-use iss_request::Row;
+use iss_request::Seq;
 
 /// A leader's entries behind the previous one, a follower's answer to them, a candidate's question, and a vote.
 #[derive(Drop)]
@@ -10,7 +10,7 @@ pub enum Message {
         previous: u32,
         previous_term: u16,
         commit: u32,
-        entries: Row<Entry>,
+        entries: Seq<Entry>,
     },
     Reply {
         term: u16,

@@ -4,7 +4,7 @@ use Rattle.std.proofs.lemmas.Bool.Decides.{Decides-eqb}
 use Rattle.iss_request.specs.Fields.{Good}
 use Rattle.iss_request.specs.Formats.{parse_value, spell_value}
 use Rattle.iss_request.specs.declared.requests.Batch.{Batch}
-use Rattle.iss_request.specs.declared.requests.Value.TheVariants.{Batch as Holds}
+use Rattle.iss_request.specs.declared.requests.Value.TheVariants.{Batch as Value_batch}
 use Rattle.iss_request.proofs.OneSpelling.{value_grammar}
 use Rattle.iss_sb.specs.declared.effects.Params.{Params}
 use Rattle.iss_sb.specs.Evidence.{IsReadBatch}
@@ -19,16 +19,16 @@ same-is a b h = (Decides-eqb a b).1 h
 
 -- ---- strings
 
-good-holds : (b c : Batch) (x y : List ℕ) → Good (Holds b) x ≡ Good (Holds c) y → b ≡ c
+good-holds : (b c : Batch) (x y : List ℕ) → Good (Value_batch b) x ≡ Good (Value_batch c) y → b ≡ c
 good-holds b c x y h = cc
 
 -- one batch that is read as it is spelled is enough
 pub one-batch : (p : Params) (b c : Batch) → IsReadBatch p b → string_of p b ≡ string_of p c → b ≡ c
 one-batch p b c h e =
     let v : ℕ = p.setup.version in
-    let same : spell_value v (Holds b) ≡ spell_value v (Holds c) = cc in
-    let read : parse_value v (spell_value v (Holds c) ++ []) ≡ Good (Holds b) [] = ap (λ (s : List ℕ). parse_value v (s ++ [])) (sym same) ∙ h [] in
-    elim ((value_grammar v).whole (Holds c)) [
+    let same : spell_value v (Value_batch b) ≡ spell_value v (Value_batch c) = cc in
+    let read : parse_value v (spell_value v (Value_batch c) ++ []) ≡ Good (Value_batch b) [] = ap (λ (s : List ℕ). parse_value v (s ++ [])) (sym same) ∙ h [] in
+    elim ((value_grammar v).whole (Value_batch c)) [
       | inl good ↦ good-holds b c [] [] (sym read ∙ good [])
-      | inr bad ↦ let k = bad [] in absurd (good-bad (Holds b) [] k.0 (sym read ∙ k.1))
+      | inr bad ↦ let k = bad [] in absurd (good-bad (Value_batch b) [] k.0 (sym read ∙ k.1))
     ]

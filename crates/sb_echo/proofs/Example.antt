@@ -7,7 +7,7 @@ use Rattle.iss_request.specs.Formats.{spell_batch, spell_count, spell_value}
 use Rattle.iss_request.specs.declared.ids.NodeId.{NodeId}
 use Rattle.iss_request.specs.declared.ids.Slot.{Slot}
 use Rattle.iss_request.specs.declared.requests.Batch.{Batch}
-use Rattle.iss_request.specs.declared.requests.Value.TheVariants.{Batch as Holds}
+use Rattle.iss_request.specs.declared.requests.Value.TheVariants.{Batch as Value_batch}
 use Rattle.iss_request.specs.declared.setups.Kind.TheVariants.{Byzantine}
 use Rattle.iss_request.specs.declared.setups.Policy.TheVariants.{Simple}
 use Rattle.iss_request.specs.declared.setups.Setup.{Setup}
@@ -102,11 +102,11 @@ two : delivered echo p 1 (echo_from 1 (echo_from 0 (echo_from 0 word))) 0 ≡ No
 unfolding sha256 digest_bytes hash_after compress rounds schedule first_words spell_batch spell_count spell_value
 two = refl
 
-three : delivered echo p 1 (echo_from 2 (echo_from 1 (echo_from 0 word))) 0 ≡ Some (Holds b)
+three : delivered echo p 1 (echo_from 2 (echo_from 1 (echo_from 0 word))) 0 ≡ Some (Value_batch b)
 unfolding sha256 digest_bytes hash_after compress rounds schedule first_words spell_batch spell_count spell_value
 three = refl
 
-four : delivered echo p 1 (echo_from 3 (echo_from 2 (echo_from 1 (echo_from 0 word)))) 0 ≡ Some (Holds b)
+four : delivered echo p 1 (echo_from 3 (echo_from 2 (echo_from 1 (echo_from 0 word)))) 0 ≡ Some (Value_batch b)
 unfolding sha256 digest_bytes hash_after compress rounds schedule first_words spell_batch spell_count spell_value
 four = refl
 

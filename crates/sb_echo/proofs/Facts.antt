@@ -7,7 +7,7 @@ use Rattle.iss_request.specs.declared.ids.NodeId.{NodeId}
 use Rattle.iss_request.specs.declared.ids.Slot.{Slot}
 use Rattle.iss_request.specs.declared.requests.Batch.{Batch}
 use Rattle.iss_request.specs.declared.requests.Value.{Value}
-use Rattle.iss_request.specs.declared.requests.Value.TheVariants.{Batch as Holds}
+use Rattle.iss_request.specs.declared.requests.Value.TheVariants.{Batch as Value_batch}
 use Rattle.iss_sb.specs.declared.effects.Claim.{Claim}
 use Rattle.iss_sb.specs.declared.effects.Input.{Input}
 use Rattle.iss_sb.specs.declared.effects.Input.TheVariants.{Cast, Receive, Timeout}
@@ -123,7 +123,7 @@ once p me xs s b c made h k = some-injective b c (sym (accepted-taken p me xs (s
 
 pub record IsAccepted (p : Params) (me : ℕ) (xs : List (Item Word)) (a : Slot × Batch) : Type 0 where
   pub item : Item Word
-  pub stands : In item xs
+  pub refines : In item xs
   pub cause : IsOwn p me item.input a ⊎ IsTold p item.input a
   pub hashed : In (string_of p a.1) item.made.strings
 
@@ -133,14 +133,14 @@ accepted-cause p me (x ∷ xs) a made h = elim (accepts-cases x xs a h) [
   | inl q ↦
       let ask = made-accepted p me x xs a made q in
       let is : x.made ≡ made_of p me x.leaf (is_cast x.input) (Some a) = made.0 ∙ ap (made_of p me x.leaf (is_cast x.input)) ask in
-      record { item = x; stands = inl refl; cause = (asked p me xs x.input a ask).cause; hashed = rw is (inl refl) }
-  | inr k ↦ let r = accepted-cause p me xs a made.1 k in record { item = r.item; stands = inr r.stands; cause = r.cause; hashed = r.hashed }
+      record { item = x; refines = inl refl; cause = (asked p me xs x.input a ask).cause; hashed = rw is (inl refl) }
+  | inr k ↦ let r = accepted-cause p me xs a made.1 k in record { item = r.item; refines = inr r.refines; cause = r.cause; hashed = r.hashed }
 ]
 
 -- a message whose claims state the digest of what was accepted
 pub record IsSentFor (p : Params) (me : ℕ) (xs : List (Item Word)) (msg : Word) : Type 0 where
   pub accepted : Slot × Batch
-  pub stands : In accepted (accepts xs)
+  pub refines : In accepted (accepts xs)
   pub kind : ℕ
   pub states : (c : Claim) → In c (claims p me msg) → c.statement ≡ statement p kind accepted.0.0 (digest_of p accepted.1)
 
@@ -164,7 +164,7 @@ pub sent-for : (p : Params) (me : ℕ) (xs : List (Item Word)) (x : Item Word) (
 sent-for p me [] x to msg made h k = absurd h
 sent-for p me (y ∷ ys) x to msg made (inr h) k =
     let r = sent-for p me ys x to msg made.1 h k in
-    record { accepted = r.accepted; stands = accepts-old y ys r.accepted r.stands; kind = r.kind; states = r.states }
+    record { accepted = r.accepted; refines = accepts-old y ys r.accepted r.refines; kind = r.kind; states = r.states }
 sent-for p me (y ∷ ys) x to msg made (inl e) k = go (asks p me ys y.input) refl
   where
     go : (o : Option (Slot × Batch)) → asks p me ys y.input ≡ o → IsSentFor p me (y ∷ ys) msg
@@ -177,7 +177,7 @@ sent-for p me (y ∷ ys) x to msg made (inl e) k = go (asks p me ys y.input) ref
         by_case None is h = absurd h
         by_case (Some a) is h =
             let s = words-state p me y.leaf (is_cast y.input) a to msg h in
-            record { accepted = a; stands = accepts-new y ys a (ap (λ (z : Made Word). z.accepted) is); kind = s.0; states = s.1 }
+            record { accepted = a; refines = accepts-new y ys a (ap (λ (z : Made Word). z.accepted) is); kind = s.0; states = s.1 }
 
 -- ---- echoes
 
@@ -209,7 +209,7 @@ has_echo-is s d k (x ∷ xs) h = elim (or-cases (is_echo s d k x.input) (has_ech
 
 pub record IsDecided (p : Params) (xs : List (Item Word)) (s : ℕ) (v : Value) : Type 0 where
   pub batch : Batch
-  pub value : v ≡ Holds batch
+  pub value : v ≡ Value_batch batch
   pub within : has_slot s p.slots ≡ true
   pub taken : taken s xs ≡ Some batch
   pub echoed : is_echoed p s (digest_of p batch) xs ≡ true
@@ -221,11 +221,11 @@ decided-is p me xs s v h = go (taken s xs) refl h
     go None q r = absurd (cc)
     go (Some b) q r = there (has_slot s p.slots && is_echoed p s (digest_of p b) xs) refl r
       where
-        there : (t : Bool) → (has_slot s p.slots && is_echoed p s (digest_of p b) xs) ≡ t → (if t then Some (Holds b) else None) ≡ Some v → IsDecided p xs s v
+        there : (t : Bool) → (has_slot s p.slots && is_echoed p s (digest_of p b) xs) ≡ t → (if t then Some (Value_batch b) else None) ≡ Some v → IsDecided p xs s v
         there false u z = absurd (cc)
         there true u z =
             let k = and-true (has_slot s p.slots) (is_echoed p s (digest_of p b) xs) u in
-            record { batch = b; value = sym (some-injective (Holds b) v z); within = k.0; taken = q; echoed = k.1 }
+            record { batch = b; value = sym (some-injective (Value_batch b) v z); within = k.0; taken = q; echoed = k.1 }
 
 echoed-stays : (p : Params) (s : ℕ) (d : List ℕ) (y : Item Word) (xs : List (Item Word)) → is_echoed p s d xs ≡ true → is_echoed p s d (y ∷ xs) ≡ true
 echoed-stays p s d y xs h =

@@ -8,7 +8,7 @@ use Rattle.iss_request.specs.declared.ids.NodeId.{NodeId}
 use Rattle.iss_request.specs.declared.ids.Slot.{Slot}
 use Rattle.iss_request.specs.declared.requests.Batch.{Batch}
 use Rattle.iss_request.specs.declared.requests.Value.{Value}
-use Rattle.iss_request.specs.declared.requests.Value.TheVariants.{Batch as Holds}
+use Rattle.iss_request.specs.declared.requests.Value.TheVariants.{Batch as Value_batch}
 use Rattle.iss_sb.specs.declared.effects.Input.{Input}
 use Rattle.iss_sb.specs.declared.effects.Input.TheVariants.{Receive}
 use Rattle.iss_sb.specs.declared.effects.Params.{Params}
@@ -19,7 +19,7 @@ use Rattle.iss_sb.proofs.Delivered.{Delivers-from, delivered-decided}
 use Rattle.sb_echo.specs.declared.word.Word.{Word}
 use Rattle.sb_echo.specs.declared.word.Word.TheVariants.{Echo as Echo_word}
 use Rattle.sb_echo.specs.Echo.{decide, decided, digest_of, echo, has_echo, is_echo, is_echoed}
-use Rattle.sb_echo.specs.Stands.{one_at, place_for}
+use Rattle.sb_echo.specs.Refines.{one_at, place_for}
 use Rattle.sb_echo.proofs.Bytes.{is-same, same-is}
 use Rattle.sb_echo.proofs.Facts.{decided-stays}
 
@@ -56,7 +56,7 @@ pub decide-quiet : (p : Params) (s : ℕ) (x : Item Word) (xs : List (Item Word)
 decide-quiet p s x xs quiet None = refl
 decide-quiet p s x xs quiet (Some b) = go (has_slot s p.slots) refl
   where
-    go : (t : Bool) → has_slot s p.slots ≡ t → (if t && is_echoed p s (digest_of p b) (x ∷ xs) then Some (Holds b) else None) ≡ (if t && is_echoed p s (digest_of p b) xs then Some (Holds b) else None)
+    go : (t : Bool) → has_slot s p.slots ≡ t → (if t && is_echoed p s (digest_of p b) (x ∷ xs) then Some (Value_batch b) else None) ≡ (if t && is_echoed p s (digest_of p b) xs then Some (Value_batch b) else None)
     go false q = refl
     go true q =
         let same = count-alike (λ k. has_echo s (digest_of p b) k (x ∷ xs)) (λ k. has_echo s (digest_of p b) k xs) p.setup.n (λ k. quiet-echo s (digest_of p b) k x xs (quiet q (digest_of p b) k)) in

@@ -7,7 +7,7 @@ use Rattle.iss_base.proofs.Lists.{eqb-other, same_bytes-refl}
 use Rattle.iss_request.specs.Digest.{digest}
 use Rattle.iss_request.specs.Formats.{spell_batch, spell_count, spell_value}
 use Rattle.iss_request.specs.Setup.{IsGoodSetup}
-use Rattle.iss_request.specs.declared.requests.Value.TheVariants.{Batch as Holds}
+use Rattle.iss_request.specs.declared.requests.Value.TheVariants.{Batch as Value_batch}
 use Rattle.iss_sb.specs.declared.effects.Claim.{Claim}
 use Rattle.iss_sb.specs.declared.effects.Input.{Input}
 use Rattle.iss_sb.specs.declared.effects.Input.TheVariants.{Cast, Receive}
@@ -157,7 +157,7 @@ reached =
     let r4 : IsReached echo p w4 = after r3 (move-one cast (echo_from 0 word) (echo-of 1) 0 (claimed w3 1 (Echo (slot 0) d (sig 1 2 0)) (statement p 2 0 d) (sig 1 2 0) (omega arith) refl (echo-read 1) (verified-by 1 2 0 (omega arith) (omega arith)) (λ q. own-signed))) in
     after r4 (move-one cast (echo_from 1 (echo_from 0 word)) (echo-of 3) 0 (claimed w4 3 (Echo (slot 0) d (sig 3 2 0)) (statement p 2 0 d) (sig 3 2 0) (omega arith) refl (echo-read 3) (verified-by 3 2 0 (omega arith) (omega arith)) none-signed))
 
-delivers : delivered echo p 1 (w5 1) 0 ≡ Some (Holds b)
+delivers : delivered echo p 1 (w5 1) 0 ≡ Some (Value_batch b)
 unfolding sha256 digest_bytes hash_after compress rounds schedule first_words spell_batch spell_count spell_value
 delivers = refl
 
@@ -211,7 +211,7 @@ record ArePremisesMet : Type 0 where
   is_reached : IsReached echo params world_of
   are_separate : Separate (IsString world_of)
   was_signed : IsSigned echo params world_of 0 (statement params 2 0 d)
-  was_delivered : delivered echo params 1 (world_of 1) 0 ≡ Some (Holds b)
+  was_delivered : delivered echo params 1 (world_of 1) 0 ≡ Some (Value_batch b)
 
 premises-met : ArePremisesMet
 premises-met = record { params = p; world_of = w5; are_good = good; is_reached = reached; are_separate = separate; was_signed = echo-signed (echo_from 3 (echo_from 1 (echo_from 0 word))); was_delivered = delivers }

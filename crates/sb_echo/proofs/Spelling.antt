@@ -14,7 +14,7 @@ use Rattle.iss_request.proofs.ParserLemmas.{block_again, block_parts, byte_again
 use Rattle.iss_request.specs.declared.ids.Slot.{Slot}
 use Rattle.iss_request.specs.declared.requests.Batch.{Batch}
 use Rattle.iss_request.specs.declared.requests.Value.{Value}
-use Rattle.iss_request.specs.declared.requests.Value.TheVariants.{Nil, Batch as Holds}
+use Rattle.iss_request.specs.declared.requests.Value.TheVariants.{Nil, Batch as Value_batch}
 use Rattle.iss_sb.proofs.Read.{read-again}
 use Rattle.sb_echo.specs.declared.word.Word.{Word}
 use Rattle.sb_echo.specs.declared.word.Word.TheVariants.{Say, Echo}
@@ -68,7 +68,7 @@ module _ (version : ℕ) where
   abbrev fits-echo : Slot → List ℕ → List ℕ → Bool
   fits-echo slot d sig = nat_lt slot.0 (2 ^ 64) && ((length d == 32) && is_signature sig)
 
-  spelled-say : (slot : Slot) (batch : Batch) (sig : List ℕ) → fits-say slot sig ≡ true → spell version (Say slot batch sig) ≡ 1 ∷ to_be_bytes w64 slot.0 ++ spell_value version (Holds batch) ++ sig
+  spelled-say : (slot : Slot) (batch : Batch) (sig : List ℕ) → fits-say slot sig ≡ true → spell version (Say slot batch sig) ≡ 1 ∷ to_be_bytes w64 slot.0 ++ spell_value version (Value_batch batch) ++ sig
   spelled-say slot batch sig h = rw h refl
 
   spelled-echo : (slot : Slot) (d sig : List ℕ) → fits-echo slot d sig ≡ true → spell version (Echo slot d sig) ≡ 2 ∷ to_be_bytes w64 slot.0 ++ d ++ sig
@@ -77,9 +77,9 @@ module _ (version : ℕ) where
   regroup : (n : ℕ) (a b c rest : List ℕ) → (n ∷ a ++ b ++ c) ++ rest ≡ n ∷ (a ++ (b ++ (c ++ rest)))
   regroup n a b c rest = simp append_assoc
 
-  value-is : (v : Value) → is_batch v ≡ true → v ≡ Holds (batch_of v)
+  value-is : (v : Value) → is_batch v ≡ true → v ≡ Value_batch (batch_of v)
   value-is Nil h = absurd (true≢false (sym h))
-  value-is (Holds b) h = refl
+  value-is (Value_batch b) h = refl
 
   both : (a b : Bool) → a ≡ true → b ≡ true → (a && b) ≡ true
   both a b p q = rw (p, q) refl
@@ -97,10 +97,10 @@ module _ (version : ℕ) where
       let sig = signature_parts b.mid c.mid c.thing c.first in
       let read : a.mid ≡ spell_value version b.thing ++ b.mid = (value_grammar version).only a.mid b.mid b.thing value.0 in
       let fits = both _ _ (lt-ltb a.thing (2 ^ 64) slot.below) sig.shape in
-      let whole : bytes ≡ to_be_bytes w64 a.thing ++ (spell_value version (Holds (batch_of b.thing)) ++ (c.thing ++ rest)) =
-      slot.parts ∙ ap (λ (x : List ℕ). to_be_bytes w64 a.thing ++ x) (read ∙ ap (λ (v : Value). spell_value version v ++ b.mid) (value-is b.thing value.1) ∙ ap (λ (x : List ℕ). spell_value version (Holds (batch_of b.thing)) ++ x) (sig.parts ∙ ap (λ (x : List ℕ). c.thing ++ x) d.1)) in
+      let whole : bytes ≡ to_be_bytes w64 a.thing ++ (spell_value version (Value_batch (batch_of b.thing)) ++ (c.thing ++ rest)) =
+      slot.parts ∙ ap (λ (x : List ℕ). to_be_bytes w64 a.thing ++ x) (read ∙ ap (λ (v : Value). spell_value version v ++ b.mid) (value-is b.thing value.1) ∙ ap (λ (x : List ℕ). spell_value version (Value_batch (batch_of b.thing)) ++ x) (sig.parts ∙ ap (λ (x : List ℕ). c.thing ++ x) d.1)) in
       subst (λ (m : Word). 1 ∷ bytes ≡ spell version m ++ rest) d.0
-      (ap (λ (x : List ℕ). 1 ∷ x) whole ∙ sym (regroup 1 (to_be_bytes w64 a.thing) (spell_value version (Holds (batch_of b.thing))) c.thing rest)
+      (ap (λ (x : List ℕ). 1 ∷ x) whole ∙ sym (regroup 1 (to_be_bytes w64 a.thing) (spell_value version (Value_batch (batch_of b.thing))) c.thing rest)
       ∙ ap (λ (x : List ℕ). x ++ rest) (sym (spelled-say (record { 0 = a.thing }) (batch_of b.thing) c.thing fits)))
 
   echo-only : (bytes rest : List ℕ) (msg : Word) → parse_echo bytes ≡ Good msg rest → 2 ∷ bytes ≡ spell version msg ++ rest
@@ -153,19 +153,19 @@ module _ (version : ℕ) where
 
   module _ (slot : Slot) (batch : Batch) (sig : List ℕ) (lt : slot.0 < 2 ^ 64) (shape : is_signature sig ≡ true) (fits : fits-say slot sig ≡ true) (rest : List ℕ) where
     abbrev text : List ℕ
-    text = spell_value version (Holds batch) ++ (sig ++ rest)
+    text = spell_value version (Value_batch batch) ++ (sig ++ rest)
 
     abbrev all : List ℕ
     all = to_be_bytes w64 slot.0 ++ text
 
     say-bytes : spell version (Say slot batch sig) ++ rest ≡ 1 ∷ all
-    say-bytes = ap (λ (x : List ℕ). x ++ rest) (spelled-say slot batch sig fits) ∙ regroup 1 (to_be_bytes w64 slot.0) (spell_value version (Holds batch)) sig rest
+    say-bytes = ap (λ (x : List ℕ). x ++ rest) (spelled-say slot batch sig fits) ∙ regroup 1 (to_be_bytes w64 slot.0) (spell_value version (Value_batch batch)) sig rest
 
-    pub say-good : parse_value version text ≡ Good (Holds batch) (sig ++ rest) → parse version (spell version (Say slot batch sig) ++ rest) ≡ Good (Say slot batch sig) rest
+    pub say-good : parse_value version text ≡ Good (Value_batch batch) (sig ++ rest) → parse version (spell version (Say slot batch sig) ++ rest) ≡ Good (Say slot batch sig) rest
     say-good h =
         let msg : Word = Say slot batch sig in
-        let third = then_good parse_signature (made slot.0 (Holds batch)) (sig ++ rest) rest rest sig msg (signature_again sig rest shape) (done_good msg rest) in
-        let second = then_good (such_that is_batch (parse_value version)) (after_value slot.0) text (sig ++ rest) rest (Holds batch) msg (test_passed is_batch (parse_value version) text (sig ++ rest) (Holds batch) h refl) third in
+        let third = then_good parse_signature (made slot.0 (Value_batch batch)) (sig ++ rest) rest rest sig msg (signature_again sig rest shape) (done_good msg rest) in
+        let second = then_good (such_that is_batch (parse_value version)) (after_value slot.0) text (sig ++ rest) rest (Value_batch batch) msg (test_passed is_batch (parse_value version) text (sig ++ rest) (Value_batch batch) h refl) third in
         let first = then_good (number w64) after_slot all text rest slot.0 msg (number_again w64 (2 ^ 64) wide64 slot.0 text lt) second in
         let said : parse_say version all ≡ Good msg rest = rw parse_say-is first in
         rw (say-bytes, parse-is) (then_good (such_that known byte) after_message (1 ∷ all) all rest 1 msg (message-is 1 all refl) said)
@@ -197,7 +197,7 @@ module _ (version : ℕ) where
       go true q =
           let t = and-true (nat_lt slot.0 (2 ^ 64)) (is_signature sig) q in
           let lt = ltb-true slot.0 (2 ^ 64) t.0 in
-          elim ((value_grammar version).whole (Holds batch)) [
+          elim ((value_grammar version).whole (Value_batch batch)) [
             | inl again ↦ inl (λ rest. say-good slot batch sig lt t.1 q rest (again (sig ++ rest)))
             | inr bad ↦ inr (λ rest. say-bad slot batch sig lt t.1 q rest (bad (sig ++ rest)))
           ]
@@ -217,24 +217,24 @@ module _ (version : ℕ) where
   good-bad m rest at h = cc
 
   -- the batch of a word that is read as it is spelled is read so too
-  pub say-read : (slot : Slot) (batch : Batch) (sig : List ℕ) → IsReadAgain (spell version) (parse version) (Say slot batch sig) → IsReadAgain (spell_value version) (parse_value version) (Holds batch)
+  pub say-read : (slot : Slot) (batch : Batch) (sig : List ℕ) → IsReadAgain (spell version) (parse version) (Say slot batch sig) → IsReadAgain (spell_value version) (parse_value version) (Value_batch batch)
   say-read slot batch sig h = go (fits-say slot sig) refl
     where
       never : IsBad (parse version (spell version (Say slot batch sig) ++ [])) → ⊥
       never k = good-bad (Say slot batch sig) [] k.0 (sym (h []) ∙ k.1)
 
-      go : (t : Bool) → fits-say slot sig ≡ t → IsReadAgain (spell_value version) (parse_value version) (Holds batch)
+      go : (t : Bool) → fits-say slot sig ≡ t → IsReadAgain (spell_value version) (parse_value version) (Value_batch batch)
       go false q = absurd (never (rw q (none [])))
       go true q =
           let t = and-true (nat_lt slot.0 (2 ^ 64)) (is_signature sig) q in
           let lt = ltb-true slot.0 (2 ^ 64) t.0 in
-          elim ((value_grammar version).whole (Holds batch)) [
+          elim ((value_grammar version).whole (Value_batch batch)) [
             | inl again ↦ again
             | inr bad ↦ absurd (never (say-bad slot batch sig lt t.1 q [] (bad (sig ++ []))))
           ]
 
   -- what has a spelling is read again
-  pub say-again : (slot : Slot) (batch : Batch) (sig : List ℕ) → slot.0 < 2 ^ 64 → is_signature sig ≡ true → IsReadAgain (spell_value version) (parse_value version) (Holds batch) → IsReadAgain (spell version) (parse version) (Say slot batch sig)
+  pub say-again : (slot : Slot) (batch : Batch) (sig : List ℕ) → slot.0 < 2 ^ 64 → is_signature sig ≡ true → IsReadAgain (spell_value version) (parse_value version) (Value_batch batch) → IsReadAgain (spell version) (parse version) (Say slot batch sig)
   say-again slot batch sig lt shape h rest = say-good slot batch sig lt shape (both (nat_lt slot.0 (2 ^ 64)) (is_signature sig) (lt-ltb slot.0 (2 ^ 64) lt) shape) rest (h (sig ++ rest))
 
   pub echo-again : (slot : Slot) (d sig : List ℕ) → slot.0 < 2 ^ 64 → length d ≡ 32 → is_signature sig ≡ true → IsReadAgain (spell version) (parse version) (Echo slot d sig)
@@ -261,8 +261,8 @@ module _ (version : ℕ) where
       go true q =
           let t = and-true (nat_lt slot.0 (2 ^ 64)) (is_signature sig) q in
           let value = say-read slot batch sig (again-of (Say slot batch sig) bytes h) [] in
-          let alone : parse_value version (spell_value version (Holds batch)) ≡ Good (Holds batch) [] = ap (λ (x : List ℕ). parse_value version x) (sym (append-nil (spell_value version (Holds batch)))) ∙ value in
-          (ltb-true slot.0 (2 ^ 64) t.0, t.1, (spell_value version (Holds batch), (value_related version (Holds batch) (spell_value version (Holds batch))).0 alone, whole-is (Say slot batch sig) bytes h ∙ spelled-say slot batch sig q))
+          let alone : parse_value version (spell_value version (Value_batch batch)) ≡ Good (Value_batch batch) [] = ap (λ (x : List ℕ). parse_value version x) (sym (append-nil (spell_value version (Value_batch batch)))) ∙ value in
+          (ltb-true slot.0 (2 ^ 64) t.0, t.1, (spell_value version (Value_batch batch), (value_related version (Value_batch batch) (spell_value version (Value_batch batch))).0 alone, whole-is (Say slot batch sig) bytes h ∙ spelled-say slot batch sig q))
   read-spelled (Echo slot d sig) bytes h = go (fits-echo slot d sig) refl
     where
       go : (t : Bool) → fits-echo slot d sig ≡ t → IsSpelledWord version (Echo slot d sig) bytes
@@ -278,9 +278,9 @@ module _ (version : ℕ) where
   spelled-read : (msg : Word) (bytes : List ℕ) → IsSpelledWord version msg bytes → parse version bytes ≡ Good msg []
   spelled-read (Say slot batch sig) bytes h =
       let value : List ℕ = h.2.0 in
-      let read : parse_value version value ≡ Good (Holds batch) [] = (value_related version (Holds batch) value).1 h.2.1 in
-      let again = read-again (spell_value version) (parse_value version) (value_grammar version) value [] (Holds batch) read in
-      let is : value ≡ spell_value version (Holds batch) = (value_grammar version).only value [] (Holds batch) read ∙ append-nil (spell_value version (Holds batch)) in
+      let read : parse_value version value ≡ Good (Value_batch batch) [] = (value_related version (Value_batch batch) value).1 h.2.1 in
+      let again = read-again (spell_value version) (parse_value version) (value_grammar version) value [] (Value_batch batch) read in
+      let is : value ≡ spell_value version (Value_batch batch) = (value_grammar version).only value [] (Value_batch batch) read ∙ append-nil (spell_value version (Value_batch batch)) in
       let fits = both (nat_lt slot.0 (2 ^ 64)) (is_signature sig) (lt-ltb slot.0 (2 ^ 64) h.0) h.1 in
       alone-read (Say slot batch sig) bytes
       (h.2.2 ∙ ap (λ (x : List ℕ). 1 ∷ to_be_bytes w64 slot.0 ++ x ++ sig) is ∙ sym (spelled-say slot batch sig fits))

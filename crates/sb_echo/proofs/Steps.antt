@@ -7,7 +7,7 @@ use Rattle.iss_request.specs.declared.ids.NodeId.{NodeId}
 use Rattle.iss_request.specs.declared.ids.Slot.{Slot}
 use Rattle.iss_request.specs.declared.requests.Batch.{Batch}
 use Rattle.iss_request.specs.declared.requests.Value.{Value}
-use Rattle.iss_request.specs.declared.requests.Value.TheVariants.{Batch as Holds}
+use Rattle.iss_request.specs.declared.requests.Value.TheVariants.{Batch as Value_batch}
 use Rattle.iss_sb.specs.declared.effects.Effects.{Effects}
 use Rattle.iss_sb.specs.declared.effects.Input.{Input}
 use Rattle.iss_sb.specs.declared.effects.Input.TheVariants.{Cast, Receive, Timeout}
@@ -24,7 +24,7 @@ use Rattle.sb_echo.specs.declared.word.Word.{Word}
 use Rattle.sb_echo.specs.declared.word.Word.TheVariants.{Say, Echo as Echo_word}
 use Rattle.sb_echo.specs.Echo.{asks, batch_for, decide, decided, digest_of, echo, has_echo, is_cast, is_echo, is_echoed, is_open, made_of, makes, statement, taken, words}
 use Rattle.sb_echo.specs.Heard.{has}
-use Rattle.sb_echo.specs.Stands.{HasCompleted, HasTaken, Stands, completed_of, is_free, is_heard, may_cast, may_take, one_at, place_at, place_for}
+use Rattle.sb_echo.specs.Refines.{HasCompleted, HasTaken, Refines, completed_of, is_free, is_heard, may_cast, may_take, one_at, place_at, place_for}
 use Rattle.sb_echo.proofs.Bytes.{is-same, same-is}
 use Rattle.sb_echo.proofs.Facts.{accepted-is, decided-stays, none-is}
 use Rattle.sb_echo.proofs.Marks.{IsQuiet, count-alike, decide-quiet, delivers-at, echo-apart, newly, other, some-place}
@@ -34,11 +34,11 @@ record IsAt (p : Params) (o : Option Batch) (before now out : Option Value) : Ty
   pub value : out ≡ newly before now
   pub place : (if is_some out then Some Delivered else place_for p o before) ≡ place_for p o now
 
-at-fresh : (p : Params) (b : Batch) (t : Bool) → IsAt p (Some b) None (if t then Some (Holds b) else None) (if t then Some (Holds b) else None)
+at-fresh : (p : Params) (b : Batch) (t : Bool) → IsAt p (Some b) None (if t then Some (Value_batch b) else None) (if t then Some (Value_batch b) else None)
 at-fresh p b true = record { value = refl; place = refl }
 at-fresh p b false = record { value = refl; place = refl }
 
-module _ (m : Echo) (p : Params) (me : ℕ) (xs : List (Item Word)) (st : Stands m p me xs) where
+module _ (m : Echo) (p : Params) (me : ℕ) (xs : List (Item Word)) (st : Refines m p me xs) where
   -- ---- the tests
 
   heard-is : (s : ℕ) (d : List ℕ) → has_slot s p.slots ≡ true → is_heard m p s d ≡ is_echoed p s d xs
@@ -82,8 +82,8 @@ module _ (m : Echo) (p : Params) (me : ℕ) (xs : List (Item Word)) (st : Stands
   decided-idle : (i : Input Word) (leaf s : ℕ) → asks p me xs i ≡ None → IsQuiet p s i → decided p me (later i leaf) s ≡ decided p me xs s
   decided-idle i leaf s q quiet = decided-is-of i leaf s (taken s xs) (taken-idle i leaf s q) ∙ decide-quiet p s (item i leaf) xs quiet (taken s xs)
 
-  idle-stands : (i : Input Word) (leaf : ℕ) → asks p me xs i ≡ None → ((s : ℕ) → IsQuiet p s i) → Stands m p me (later i leaf)
-  idle-stands i leaf q quiet = record {
+  idle-refines : (i : Input Word) (leaf : ℕ) → asks p me xs i ≡ None → ((s : ℕ) → IsQuiet p s i) → Refines m p me (later i leaf)
+  idle-refines i leaf q quiet = record {
     node = st.node;
     places = λ s. same-place s (later i leaf) (taken-idle i leaf s q) (decided-idle i leaf s q (quiet s));
     heard = λ s d k within. let no = quiet s within d k in rw no (st.heard s d k within);
@@ -112,20 +112,20 @@ module _ (m : Echo) (p : Params) (me : ℕ) (xs : List (Item Word)) (st : Stands
   asks-as-say : (from : NodeId) (slot : Slot) (batch : Batch) (sig : List ℕ) (b : Bool) → may_take m p from slot ≡ b → asks p me xs (Receive from (Say slot batch sig)) ≡ (if b then Some (slot, batch) else None)
   asks-as-say from slot batch sig b h = asks-say from slot batch sig ∙ ap (λ (b : Bool). let o : Option (Slot × Batch) = if b then Some (slot, batch) else None in o) h
 
-  pub idle_cast-stands : (slot : Slot) (batch : Batch) (leaf : ℕ) → may_cast m p slot ≡ false → Stands m p me (and_then echo p me xs (Cast slot batch) leaf)
-  idle_cast-stands slot batch leaf h = idle-stands (Cast slot batch) leaf (asks-as-cast slot batch false h) (λ s within d k. refl)
+  pub idle_cast-refines : (slot : Slot) (batch : Batch) (leaf : ℕ) → may_cast m p slot ≡ false → Refines m p me (and_then echo p me xs (Cast slot batch) leaf)
+  idle_cast-refines slot batch leaf h = idle-refines (Cast slot batch) leaf (asks-as-cast slot batch false h) (λ s within d k. refl)
 
   pub idle_cast-taken : (slot : Slot) (batch : Batch) (leaf : ℕ) (e : Effects Word) → may_cast m p slot ≡ false → IsNothing e → IsTaken echo p me xs (Cast slot batch) leaf e
   idle_cast-taken slot batch leaf e h nothing = idle-taken (Cast slot batch) leaf e (asks-as-cast slot batch false h) (λ s within d k. refl) nothing
 
-  pub idle_say-stands : (from : NodeId) (slot : Slot) (batch : Batch) (sig : List ℕ) (leaf : ℕ) → may_take m p from slot ≡ false → Stands m p me (and_then echo p me xs (Receive from (Say slot batch sig)) leaf)
-  idle_say-stands from slot batch sig leaf h = idle-stands (Receive from (Say slot batch sig)) leaf (asks-as-say from slot batch sig false h) (λ s within d k. refl)
+  pub idle_say-refines : (from : NodeId) (slot : Slot) (batch : Batch) (sig : List ℕ) (leaf : ℕ) → may_take m p from slot ≡ false → Refines m p me (and_then echo p me xs (Receive from (Say slot batch sig)) leaf)
+  idle_say-refines from slot batch sig leaf h = idle-refines (Receive from (Say slot batch sig)) leaf (asks-as-say from slot batch sig false h) (λ s within d k. refl)
 
   pub idle_say-taken : (from : NodeId) (slot : Slot) (batch : Batch) (sig : List ℕ) (leaf : ℕ) (e : Effects Word) → may_take m p from slot ≡ false → IsNothing e → IsTaken echo p me xs (Receive from (Say slot batch sig)) leaf e
   idle_say-taken from slot batch sig leaf e h nothing = idle-taken (Receive from (Say slot batch sig)) leaf e (asks-as-say from slot batch sig false h) (λ s within d k. refl) nothing
 
-  pub idle_timeout-stands : (leaf : ℕ) → Stands m p me (and_then echo p me xs Timeout leaf)
-  idle_timeout-stands leaf = idle-stands Timeout leaf refl (λ s within d k. refl)
+  pub idle_timeout-refines : (leaf : ℕ) → Refines m p me (and_then echo p me xs Timeout leaf)
+  idle_timeout-refines leaf = idle-refines Timeout leaf refl (λ s within d k. refl)
 
   pub idle_timeout-taken : (leaf : ℕ) (e : Effects Word) → IsNothing e → IsTaken echo p me xs Timeout leaf e
   idle_timeout-taken leaf e nothing = idle-taken Timeout leaf e refl (λ s within d k. refl) nothing
@@ -134,8 +134,8 @@ module _ (m : Echo) (p : Params) (me : ℕ) (xs : List (Item Word)) (st : Stands
   outside-quiet : (from : NodeId) (slot : Slot) (d sig : List ℕ) → has_slot slot.0 p.slots ≡ false → (s : ℕ) → IsQuiet p s (Receive from (Echo_word slot d sig))
   outside-quiet from slot d sig out s within e k = echo-apart from slot d sig s e k (other slot.0 s (λ q. true≢false (sym within ∙ ap (λ (n : ℕ). has_slot n p.slots) q ∙ out)))
 
-  pub idle_echo-stands : (from : NodeId) (slot : Slot) (d sig : List ℕ) (leaf : ℕ) → has_slot slot.0 p.slots ≡ false → Stands m p me (and_then echo p me xs (Receive from (Echo_word slot d sig)) leaf)
-  idle_echo-stands from slot d sig leaf out = idle-stands (Receive from (Echo_word slot d sig)) leaf refl (outside-quiet from slot d sig out)
+  pub idle_echo-refines : (from : NodeId) (slot : Slot) (d sig : List ℕ) (leaf : ℕ) → has_slot slot.0 p.slots ≡ false → Refines m p me (and_then echo p me xs (Receive from (Echo_word slot d sig)) leaf)
+  idle_echo-refines from slot d sig leaf out = idle-refines (Receive from (Echo_word slot d sig)) leaf refl (outside-quiet from slot d sig out)
 
   pub idle_echo-taken : (from : NodeId) (slot : Slot) (d sig : List ℕ) (leaf : ℕ) (e : Effects Word) → has_slot slot.0 p.slots ≡ false → IsNothing e → IsTaken echo p me xs (Receive from (Echo_word slot d sig)) leaf e
   idle_echo-taken from slot d sig leaf e out nothing = idle-taken (Receive from (Echo_word slot d sig)) leaf e refl (outside-quiet from slot d sig out) nothing
@@ -158,7 +158,7 @@ module _ (m : Echo) (p : Params) (me : ℕ) (xs : List (Item Word)) (st : Stands
     taken-there : (s : ℕ) → (slot.0 == s) ≡ false → taken s (later i leaf) ≡ taken s xs
     taken-there s h = taken-is i leaf s (Some (slot, batch)) asked ∙ rw h (first_of-none (taken s xs))
 
-    decided-here : decided p me (later i leaf) slot.0 ≡ (if is_heard m p slot.0 (digest_of p batch) then Some (Holds batch) else None)
+    decided-here : decided p me (later i leaf) slot.0 ≡ (if is_heard m p slot.0 (digest_of p batch) then Some (Value_batch batch) else None)
     decided-here =
         let within = free.within in
         let heard = heard-is slot.0 (digest_of p batch) free.within in
@@ -167,25 +167,25 @@ module _ (m : Echo) (p : Params) (me : ℕ) (xs : List (Item Word)) (st : Stands
     decided-there : (s : ℕ) → (slot.0 == s) ≡ false → decided p me (later i leaf) s ≡ decided p me xs s
     decided-there s h = decided-is-of i leaf s (taken s xs) (taken-there s h) ∙ decide-quiet p s (item i leaf) xs (λ w d k. quiet s d k) (taken s xs)
 
-    place-here : (b : Bool) (d : List ℕ) → d ≡ digest_of p batch → ◌≡◌ {A = Option Place} (Some (if b then Delivered else Waiting d (Holds batch))) (place_for p (Some batch) (if b then Some (Holds batch) else None))
+    place-here : (b : Bool) (d : List ℕ) → d ≡ digest_of p batch → ◌≡◌ {A = Option Place} (Some (if b then Delivered else Waiting d (Value_batch batch))) (place_for p (Some batch) (if b then Some (Value_batch batch) else None))
     place-here true d e = refl
-    place-here false d e = ap (λ (z : List ℕ). let o : Option Place = Some (Waiting z (Holds batch)) in o) e
+    place-here false d e = ap (λ (z : List ℕ). let o : Option Place = Some (Waiting z (Value_batch batch)) in o) e
 
     taken-place : (n : Echo) (d : List ℕ) (e : Effects Word) → HasTaken p m n slot batch d e → (s : ℕ) → place_at s n ≡ place_for p (taken s (later i leaf)) (decided p me (later i leaf) s)
     taken-place n d e h s = h.places s ∙ go (slot.0 == s) refl
       where
-        go : (b : Bool) → (slot.0 == s) ≡ b → (if b then Some (if is_heard m p slot.0 d then Delivered else Waiting d (Holds batch)) else place_at s m) ≡ place_for p (taken s (later i leaf)) (decided p me (later i leaf) s)
+        go : (b : Bool) → (slot.0 == s) ≡ b → (if b then Some (if is_heard m p slot.0 d then Delivered else Waiting d (Value_batch batch)) else place_at s m) ≡ place_for p (taken s (later i leaf)) (decided p me (later i leaf) s)
         go false q = same-place s (later i leaf) (taken-there s q) (decided-there s q)
         go true q =
             let here : slot.0 ≡ s = is-same slot.0 s q in
-            subst (λ (z : ℕ). ◌≡◌ {A = Option Place} (Some (if is_heard m p slot.0 d then Delivered else Waiting d (Holds batch))) (place_for p (taken z (later i leaf)) (decided p me (later i leaf) z))) here
+            subst (λ (z : ℕ). ◌≡◌ {A = Option Place} (Some (if is_heard m p slot.0 d then Delivered else Waiting d (Value_batch batch))) (place_for p (taken z (later i leaf)) (decided p me (later i leaf) z))) here
             (place-here (is_heard m p slot.0 d) d h.digest
-            ∙ ap (λ (z : List ℕ). place_for p (Some batch) (if is_heard m p slot.0 z then Some (Holds batch) else None)) h.digest
+            ∙ ap (λ (z : List ℕ). place_for p (Some batch) (if is_heard m p slot.0 z then Some (Value_batch batch) else None)) h.digest
             ∙ ap (λ (o : Option Value). place_for p (Some batch) o) (sym decided-here)
             ∙ ap (λ (o : Option Batch). place_for p o (decided p me (later i leaf) slot.0)) (sym taken-here))
 
-    taken-stands : (n : Echo) (d : List ℕ) (e : Effects Word) → HasTaken p m n slot batch d e → Stands n p me (later i leaf)
-    taken-stands n d e h = record {
+    taken-refines : (n : Echo) (d : List ℕ) (e : Effects Word) → HasTaken p m n slot batch d e → Refines n p me (later i leaf)
+    taken-refines n d e h = record {
       node = ap (λ (a : NodeId). a.0) h.node ∙ st.node;
       places = taken-place n d e h;
       heard = λ s d' k within. let no = quiet s d' k in let same = h.heard in rw (same, no) (st.heard s d' k within);
@@ -199,16 +199,16 @@ module _ (m : Echo) (p : Params) (me : ℕ) (xs : List (Item Word)) (st : Stands
       sends = rw asked sends;
       accepted = accepted ∙ h.accepted ∙ sym asked;
       hashed = rw asked (hashed ∙ h.hashed);
-      delivers = delivers-at p me xs i leaf slot (if is_heard m p slot.0 (digest_of p batch) then Some (Holds batch) else None)
+      delivers = delivers-at p me xs i leaf slot (if is_heard m p slot.0 (digest_of p batch) then Some (Value_batch batch) else None)
           (sym decided-here ∙ ap (λ (o : Option Value). newly o (decided p me (later i leaf) slot.0)) (sym not-yet))
           (λ s ne. decided-there s (other slot.0 s ne)) f.delivers
-          (delivers ∙ h.delivers ∙ ap (λ (z : List ℕ). one_at slot (if is_heard m p slot.0 z then Some (Holds batch) else None)) h.digest);
+          (delivers ∙ h.delivers ∙ ap (λ (z : List ℕ). one_at slot (if is_heard m p slot.0 z then Some (Value_batch batch) else None)) h.digest);
     }
 
-  pub cast-stands : (slot : Slot) (batch : Batch) (leaf : ℕ) (n : Echo) (d : List ℕ) (e : Effects Word) → may_cast m p slot ≡ true → HasTaken p m n slot batch d e → Stands n p me (and_then echo p me xs (Cast slot batch) leaf)
-  cast-stands slot batch leaf n d e may h =
+  pub cast-refines : (slot : Slot) (batch : Batch) (leaf : ℕ) (n : Echo) (d : List ℕ) (e : Effects Word) → may_cast m p slot ≡ true → HasTaken p m n slot batch d e → Refines n p me (and_then echo p me xs (Cast slot batch) leaf)
+  cast-refines slot batch leaf n d e may h =
       let t = and-true (m.me.0 == p.leader.0) (is_free m p slot.0) may in
-      taken-stands (Cast slot batch) leaf slot batch (asks-as-cast slot batch true may) (λ s d k. refl) (free-parts slot.0 t.1) n d e h
+      taken-refines (Cast slot batch) leaf slot batch (asks-as-cast slot batch true may) (λ s d k. refl) (free-parts slot.0 t.1) n d e h
 
   pub cast-taken : (slot : Slot) (batch : Batch) (leaf : ℕ) (n : Echo) (d : List ℕ) (e f : Effects Word) → may_cast m p slot ≡ true → HasTaken p m n slot batch d e →
       f.sends ≡ words p me leaf true (slot, batch) → f.accepted ≡ e.accepted → f.hashed ≡ e.hashed → f.delivers ≡ e.delivers → IsTaken echo p me xs (Cast slot batch) leaf f
@@ -216,10 +216,10 @@ module _ (m : Echo) (p : Params) (me : ℕ) (xs : List (Item Word)) (st : Stands
       let t = and-true (m.me.0 == p.leader.0) (is_free m p slot.0) may in
       taken-effects (Cast slot batch) leaf slot batch (asks-as-cast slot batch true may) (λ s d k. refl) (free-parts slot.0 t.1) n d e f h
 
-  pub say-stands : (from : NodeId) (slot : Slot) (batch : Batch) (sig : List ℕ) (leaf : ℕ) (n : Echo) (d : List ℕ) (e : Effects Word) → may_take m p from slot ≡ true → HasTaken p m n slot batch d e → Stands n p me (and_then echo p me xs (Receive from (Say slot batch sig)) leaf)
-  say-stands from slot batch sig leaf n d e may h =
+  pub say-refines : (from : NodeId) (slot : Slot) (batch : Batch) (sig : List ℕ) (leaf : ℕ) (n : Echo) (d : List ℕ) (e : Effects Word) → may_take m p from slot ≡ true → HasTaken p m n slot batch d e → Refines n p me (and_then echo p me xs (Receive from (Say slot batch sig)) leaf)
+  say-refines from slot batch sig leaf n d e may h =
       let t = and-true (from.0 == p.leader.0) (is_free m p slot.0) may in
-      taken-stands (Receive from (Say slot batch sig)) leaf slot batch (asks-as-say from slot batch sig true may) (λ s d k. refl) (free-parts slot.0 t.1) n d e h
+      taken-refines (Receive from (Say slot batch sig)) leaf slot batch (asks-as-say from slot batch sig true may) (λ s d k. refl) (free-parts slot.0 t.1) n d e h
 
   pub say-taken : (from : NodeId) (slot : Slot) (batch : Batch) (sig : List ℕ) (leaf : ℕ) (n : Echo) (d : List ℕ) (e f : Effects Word) → may_take m p from slot ≡ true → HasTaken p m n slot batch d e →
       f.sends ≡ words p me leaf false (slot, batch) → f.accepted ≡ e.accepted → f.hashed ≡ e.hashed → f.delivers ≡ e.delivers → IsTaken echo p me xs (Receive from (Say slot batch sig)) leaf f
@@ -240,7 +240,7 @@ module _ (m : Echo) (p : Params) (me : ℕ) (xs : List (Item Word)) (st : Stands
     counted : (e : List ℕ) → is_heard h p slot.0 e ≡ is_echoed p slot.0 e (later i leaf)
     counted e = ap (λ c. nat_le p.setup.quorum c) (count-alike (λ k. has h.heard slot.0 e k) (λ k. has_echo slot.0 e k (later i leaf)) p.setup.n (λ k. heard-now slot.0 e k within))
 
-    decide-now : (b : Batch) → decide p slot.0 (later i leaf) (Some b) ≡ (if is_heard h p slot.0 (digest_of p b) then Some (Holds b) else None)
+    decide-now : (b : Batch) → decide p slot.0 (later i leaf) (Some b) ≡ (if is_heard h p slot.0 (digest_of p b) then Some (Value_batch b) else None)
     decide-now b = let c = counted (digest_of p b) in rw (within, c) refl
 
     at-slot : (o : Option Batch) → taken slot.0 xs ≡ o → IsAt p o (decide p slot.0 xs o) (decide p slot.0 (later i leaf) o) (completed_of h p slot.0 (place_for p o (decide p slot.0 xs o)))
@@ -280,8 +280,8 @@ module _ (m : Echo) (p : Params) (me : ℕ) (xs : List (Item Word)) (st : Stands
             ∙ ap (λ (o : Option Value). place_for p (taken slot.0 xs) o) (sym decided-now)
             ∙ ap (λ (o : Option Batch). place_for p o (decided p me (later i leaf) slot.0)) (sym (taken-idle i leaf slot.0 refl)))
 
-    pub echo-stands : Stands n p me (and_then echo p me xs (Receive from (Echo_word slot d sig)) leaf)
-    echo-stands = record {
+    pub echo-refines : Refines n p me (and_then echo p me xs (Receive from (Echo_word slot d sig)) leaf)
+    echo-refines = record {
       node = ap (λ (a : NodeId). a.0) (did.node ∙ same_node) ∙ st.node;
       places = echo-place;
       heard = λ s e k w. let same = did.heard in rw same (heard-now s e k w);
@@ -335,8 +335,8 @@ module _ (m : Echo) (p : Params) (me : ℕ) (xs : List (Item Word)) (st : Stands
   asks-of-say i from msg slot batch sig b e q h = ap (λ (i : Input Word). asks p me xs i) (e ∙ ap (λ (w : Word). Receive from w) q) ∙ asks-as-say from slot batch sig b h
 
 -- nothing taken yet
-pub start-stands : (m : Echo) (p : Params) (me : ℕ) → m.me.0 ≡ me → m.places.entries ≡ [] → ((s : ℕ) (d : List ℕ) (k : ℕ) → has m.heard s d k ≡ false) → Stands m p me []
-start-stands m p me same none unheard = record { node = same; places = λ s. rw none refl; heard = λ s d k within. unheard s d k }
+pub start-refines : (m : Echo) (p : Params) (me : ℕ) → m.me.0 ≡ me → m.places.entries ≡ [] → ((s : ℕ) (d : List ℕ) (k : ℕ) → has m.heard s d k ≡ false) → Refines m p me []
+start-refines m p me same none unheard = record { node = same; places = λ s. rw none refl; heard = λ s d k within. unheard s d k }
 
 -- ---- what is sent
 

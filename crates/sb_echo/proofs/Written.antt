@@ -6,7 +6,7 @@ use Rattle.iss_request.specs.Fields.{Written, and_bytes}
 use Rattle.iss_request.specs.Formats.{is_signature, spell_batch, spell_value, version_byte}
 use Rattle.iss_request.specs.declared.ids.Slot.{Slot}
 use Rattle.iss_request.specs.declared.requests.Batch.{Batch}
-use Rattle.iss_request.specs.declared.requests.Value.TheVariants.{Batch as Holds}
+use Rattle.iss_request.specs.declared.requests.Value.TheVariants.{Batch as Value_batch}
 use Rattle.iss_sb.specs.declared.effects.Params.{Params}
 use Rattle.iss_sb.specs.Statements.{statement_head}
 use Rattle.iss_sb.proofs.Statements.{eight-is}
@@ -25,7 +25,7 @@ statement-written p kind s digest version a b c d lt ha hb hc hd = let same = ei
 
 -- a message that has a spelling
 say-spelled : (version : ℕ) (slot : Slot) (batch : Batch) (sig : List ℕ) → slot.0 < 2 ^ 64 → is_signature sig ≡ true →
-    1 ∷ to_be_bytes w64 slot.0 ++ spell_value version (Holds batch) ++ sig ≡ spell version (Say slot batch sig)
+    1 ∷ to_be_bytes w64 slot.0 ++ spell_value version (Value_batch batch) ++ sig ≡ spell version (Say slot batch sig)
 say-spelled version slot batch sig lt shape = let low = lt-ltb slot.0 (2 ^ 64) lt in rw (low, shape) refl
 
 echo-spelled : (version : ℕ) (slot : Slot) (d sig : List ℕ) → slot.0 < 2 ^ 64 → length d ≡ 32 → is_signature sig ≡ true →

@@ -10,7 +10,7 @@ use Rattle.iss_request.specs.Parsing.{Parser, ◌>>=◌, block, byte, done, numb
 use Rattle.iss_request.specs.declared.ids.Slot.{Slot}
 use Rattle.iss_request.specs.declared.requests.Batch.{Batch}
 use Rattle.iss_request.specs.declared.requests.Value.{Value}
-use Rattle.iss_request.specs.declared.requests.Value.TheVariants.{Batch as Holds}
+use Rattle.iss_request.specs.declared.requests.Value.TheVariants.{Batch as Value_batch}
 use Rattle.iss_sb.specs.declared.effects.Claim.{Claim}
 use Rattle.iss_sb.specs.declared.effects.Input.{Input}
 use Rattle.iss_sb.specs.declared.effects.Input.TheVariants.{Cast, Receive, Timeout}
@@ -27,7 +27,7 @@ use Rattle.sb_echo.specs.declared.word.Word.TheVariants.{Say, Echo}
 
 -- what is hashed of a batch: the string of the value that holds it
 abbrev pub string_of : Params → Batch → List ℕ
-string_of p b = value_string p.setup.version (Holds b)
+string_of p b = value_string p.setup.version (Value_batch b)
 
 abbrev pub digest_of : Params → Batch → List ℕ
 digest_of p b = digest (string_of p b)
@@ -114,7 +114,7 @@ is_echoed p s d xs = nat_le p.setup.quorum (count_below (λ k. has_echo s d k xs
 
 abbrev pub decide : Params → ℕ → List (Item Word) → Option Batch → Option Value
 decide p s xs None = None
-decide p s xs (Some b) = if has_slot s p.slots && is_echoed p s (digest_of p b) xs then Some (Holds b) else None
+decide p s xs (Some b) = if has_slot s p.slots && is_echoed p s (digest_of p b) xs then Some (Value_batch b) else None
 
 abbrev pub decided : Params → ℕ → List (Item Word) → ℕ → Option Value
 decided p me xs s = decide p s xs (taken s xs)
@@ -125,14 +125,14 @@ decided p me xs s = decide p s xs (taken s xs)
 abbrev pub IsSpelledWord : ℕ → Word → List ℕ → Type 0
 IsSpelledWord version (Say slot batch sig) bytes =
     (slot.0 < 2 ^ 64) × (is_signature sig ≡ true)
-    × ((value : List ℕ) × IsSpelledValue version (Holds batch) value × (bytes ≡ 1 ∷ to_be_bytes w64 slot.0 ++ value ++ sig))
+    × ((value : List ℕ) × IsSpelledValue version (Value_batch batch) value × (bytes ≡ 1 ∷ to_be_bytes w64 slot.0 ++ value ++ sig))
 IsSpelledWord version (Echo slot d sig) bytes =
     (slot.0 < 2 ^ 64) × (length d ≡ 32) × (is_signature sig ≡ true) × (bytes ≡ 2 ∷ to_be_bytes w64 slot.0 ++ d ++ sig)
 
 -- one that has no spelling is written as the number of no message
 abbrev pub spell : ℕ → Word → List ℕ
 spell version (Say slot batch sig) =
-    if nat_lt slot.0 (2 ^ 64) && is_signature sig then 1 ∷ to_be_bytes w64 slot.0 ++ spell_value version (Holds batch) ++ sig else 0 ∷ []
+    if nat_lt slot.0 (2 ^ 64) && is_signature sig then 1 ∷ to_be_bytes w64 slot.0 ++ spell_value version (Value_batch batch) ++ sig else 0 ∷ []
 spell version (Echo slot d sig) =
     if nat_lt slot.0 (2 ^ 64) && ((length d == 32) && is_signature sig) then 2 ∷ to_be_bytes w64 slot.0 ++ d ++ sig else 0 ∷ []
 

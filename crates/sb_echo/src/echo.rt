@@ -3,14 +3,14 @@ ghost use Rattle.std.specs.Prelude.{◌≡◌, ℕ, ◌≤◌, List, IfOk};
 ghost use Rattle.iss_keys.specs.KeyStates.{KeyState, left_of};
 ghost use Rattle.iss_sb.specs.Calls.{IsGoodInput, IsGoodParams, IsStep, IsTrueStep, has_slot};
 ghost use Rattle.sb_echo.specs.Echo.{echo};
-ghost use Rattle.sb_echo.specs.Stands.{HasCompleted, HasTaken, Stands, is_complete, is_free, is_heard, may_cast, may_take, one_at};
+ghost use Rattle.sb_echo.specs.Refines.{HasCompleted, HasTaken, Refines, is_complete, is_free, is_heard, may_cast, may_take, one_at};
 
 use crate::echoes::Echoes;
 use crate::signing::{ECHO, SAY, digest_of, sign_word, string_of};
 use crate::wire;
 use crate::word::Word;
 use iss_keys::Keys;
-use iss_request::{Batch, DecodeError, Fields, NoMemory, NodeId, Row, Slot, Value, Writer};
+use iss_request::{Batch, DecodeError, Fields, NoMemory, NodeId, Seq, Slot, Value, Writer};
 use iss_sb::{Claim, Effects, Input, Params, Sequenced, StepError, To};
 use std::alloc::Global;
 use std::collections::BTreeMap;
@@ -39,10 +39,10 @@ fn is_inside(p: &Params, slot: Slot) -> bool
 }
 
 // What is delivered at a slot.
-fn one_at(alloc: Global, slot: Slot, value: Option<Value>) -> Result<Row<(Slot, Value)>, NoMemory>
+fn one_at(alloc: Global, slot: Slot, value: Option<Value>) -> Result<Seq<(Slot, Value)>, NoMemory>
     ensures { IfOk result (λ all. all ≡ one_at slot value) }
 {
-    let mut all = Row::new(alloc);
+    let mut all = Seq::new(alloc);
     let Some(value) = value else {
         return Ok(all);
     };
@@ -143,7 +143,7 @@ impl Echo {
     ) -> Result<Effects<Word>, NoMemory>
         requires good { IsGoodParams echo p.now }
         requires enough { 2 ≤ left_of keys.old }
-        ensures { IfOk result (λ e. IsTrueStep echo Stands p.now self.old self.new (Input.Cast slot batch) keys.old keys.new e) }
+        ensures { IfOk result (λ e. IsTrueStep echo Refines p.now self.old self.new (Input.Cast slot batch) keys.old keys.new e) }
     {
         if !self.may_cast(p, slot) {
             return Ok(Effects::nothing(alloc));
@@ -180,7 +180,7 @@ impl Echo {
         requires good { IsGoodParams echo p.now }
         requires enough { 2 ≤ left_of keys.old }
         ensures { IfOk result (λ e. (sig : List ℕ) →
-            IsTrueStep echo Stands p.now self.old self.new (Input.Receive from (Word.Say slot batch sig)) keys.old keys.new e) }
+            IsTrueStep echo Refines p.now self.old self.new (Input.Receive from (Word.Say slot batch sig)) keys.old keys.new e) }
     {
         if !self.may_take(p, from, slot) {
             return Ok(Effects::nothing(alloc));
@@ -203,7 +203,7 @@ impl Echo {
     ) -> Result<Effects<Word>, NoMemory>
         requires { IsGoodParams echo p.now }
         ensures { IfOk result (λ e. (sig : List ℕ) (keys : KeyState) → 2 ≤ left_of keys →
-            IsTrueStep echo Stands p.now self.old self.new (Input.Receive from (Word.Echo slot digest sig)) keys keys e) }
+            IsTrueStep echo Refines p.now self.old self.new (Input.Receive from (Word.Echo slot digest sig)) keys keys e) }
     {
         if !is_inside(p, slot) {
             return Ok(Effects::nothing(alloc));
@@ -229,9 +229,9 @@ impl Sequenced for Echo {
 
     ghost STOPPING = { false };
 
-    ghost meaning = { echo };
+    ghost spec = { echo };
 
-    ghost stands = { Stands };
+    ghost refines = { Refines };
 
     fn nodes_of(f: u32) -> u32 {
         3 * f + 1
@@ -290,7 +290,7 @@ impl Sequenced for Echo {
     ) -> Result<Effects<Word>, StepError>
         requires good { IsGoodParams echo p.now }
         requires input { IsGoodInput p.now i }
-        ensures { IsStep echo Stands p.now self.old self.new i verdict keys.old keys.new result }
+        ensures { IsStep echo Refines p.now self.old self.new i verdict keys.old keys.new result }
     {
         if keys.left() < 2 {
             return Err(StepError::Spent);
@@ -320,7 +320,7 @@ impl Sequenced for Echo {
         wire::read(alloc, f)
     }
 
-    fn claims(alloc: Global, p: &Params, from: NodeId, m: &Word) -> Result<Row<Claim>, NoMemory> {
+    fn claims(alloc: Global, p: &Params, from: NodeId, m: &Word) -> Result<Seq<Claim>, NoMemory> {
         wire::claims(alloc, p, from, m)
     }
 

@@ -1,7 +1,7 @@
 //! The bytes of the messages, and what they claim that nodes have signed.
 ghost use Rattle.std.specs.Prelude.{◌≡◌, ◌↔◌, ℕ, List, ◌∷◌, [], true, length, IfOk, OnOk, Err};
 ghost use Rattle.sb_echo.specs.declared.word.Word.{Word};
-ghost use Rattle.iss_request.specs.declared.requests.Value.TheVariants.{Batch as Holds};
+ghost use Rattle.iss_request.specs.declared.requests.Value.TheVariants.{Batch as Value_batch};
 ghost use Rattle.iss_request.specs.Fields.{Good, IsRead, IsUnreadable, and_bytes};
 ghost use Rattle.iss_request.specs.Formats.{is_batch, is_signature, parse_value};
 ghost use Rattle.iss_request.specs.Parsing.{block, such_that};
@@ -11,7 +11,7 @@ use crate::signing::{ECHO, SAY, digest_of, statement, string_of};
 use crate::word::Word;
 use iss_request::values::write_batch;
 use iss_request::{
-    Batch, Bytes, DecodeError, Fields, NoMemory, NodeId, Row, Slot, Value, Writer, read_signature,
+    Batch, Bytes, DecodeError, Fields, NoMemory, NodeId, Seq, Slot, Value, Writer, read_signature,
     read_value, version_byte,
 };
 use iss_sb::{Claim, Params};
@@ -128,7 +128,7 @@ fn array_of(bytes: &[u8]) -> [u8; 32]
 
 // Reads a value that is a batch.
 fn read_batch(alloc: Global, f: &mut Fields) -> Result<Batch, DecodeError>
-    ensures ok { IfOk result (λ b. IsRead (such_that is_batch (parse_value f.old.version)) f.old f.new (Holds b)) }
+    ensures ok { IfOk result (λ b. IsRead (such_that is_batch (parse_value f.old.version)) f.old f.new (Value_batch b)) }
     ensures bad { (at : ℕ) → result ≡ Err (DecodeError.BadField at) → IsUnreadable (such_that is_batch (parse_value f.old.version)) f.old at }
 {
     let no_batch = f.bad_field();
@@ -139,7 +139,7 @@ fn read_batch(alloc: Global, f: &mut Fields) -> Result<Batch, DecodeError>
 }
 
 /// What a message claims: its own signature.
-pub fn claims(alloc: Global, p: &Params, from: NodeId, msg: &Word) -> Result<Row<Claim>, NoMemory>
+pub fn claims(alloc: Global, p: &Params, from: NodeId, msg: &Word) -> Result<Seq<Claim>, NoMemory>
     ensures { IfOk result (λ all. all ≡ claims p.now from.0 msg.now) }
 {
     match msg {
@@ -160,10 +160,10 @@ fn one_claim(
     slot: Slot,
     digest: &[u8; 32],
     sig: &Bytes,
-) -> Result<Row<Claim>, NoMemory>
+) -> Result<Seq<Claim>, NoMemory>
     ensures { IfOk result (λ all. all ≡ claim from.0 (statement p.now kind slot.0 digest.now) sig.now ∷ []) }
 {
-    let mut all = Row::new(alloc);
+    let mut all = Seq::new(alloc);
     let statement = statement(alloc, p, kind, slot, digest)?;
     all.push(Claim {
         by: from,

@@ -12,7 +12,7 @@ use Rattle.hs_tree.specs.declared.messages.Message.TheVariants.{NewView, Prepare
 use Rattle.hs_tree.specs.Certificates.{digest_of, view_of}
 use Rattle.hs_tree.specs.Statements.{own_statement, statement, vote_statement}
 use Rattle.hs_tree.specs.Tree.{basic}
-use Rattle.sb_hotstuff.specs.declared.signing.Whom.TheVariants.{All as Whom_all, Leader}
+use Rattle.sb_hotstuff.specs.declared.signing.Recipient.TheVariants.{All as Recipient_all, Leader}
 use Rattle.sb_hotstuff.specs.Drafts.{IsDraft}
 use Rattle.sb_hotstuff.specs.HotStuff.{shows, to_leader, voted}
 use Rattle.sb_hotstuff.specs.Rules.{node_digest}
@@ -35,7 +35,7 @@ round-drafted p round v high sig stated hs hv h = record {
 }
 
 pub proposal-drafted : (p : Params) (view : ℕ) (what : What) (just : Certificate) (d sig stated : List ℕ) → d ≡ node_digest p view what just → sig ≡ [] → stated ≡ statement basic p 2 (four_bytes view ++ d) →
-    IsDraft p (record { to = Whom_all; msg = Prepare view what just sig; statement = stated }) ((To_all, Prepare view what just []) ∷ [])
+    IsDraft p (record { to = Recipient_all; msg = Prepare view what just sig; statement = stated }) ((To_all, Prepare view what just []) ∷ [])
 proposal-drafted p view what just d sig stated hd hs h = record {
   message = pair _ _ _ (ap (λ (z : List ℕ). Prepare view what just z) (sym hs));
   statement = h ∙ ap (λ (z : List ℕ). statement basic p 2 (four_bytes view ++ z)) hd;
@@ -53,7 +53,7 @@ shows-stated p phase view c = go (phase == 1) (phase == 2)
     go false false = refl
 
 pub shown-drafted : (p : Params) (phase view kind : ℕ) (c : Certificate) (msg : Message) (d stated : List ℕ) → msg ≡ shows phase view c → d ≡ digest_of c → kind ≡ kind_of phase → stated ≡ statement basic p kind (four_bytes view ++ d) →
-    IsDraft p (record { to = Whom_all; msg = msg; statement = stated }) ((To_all, shows phase view c) ∷ [])
+    IsDraft p (record { to = Recipient_all; msg = msg; statement = stated }) ((To_all, shows phase view c) ∷ [])
 shown-drafted p phase view kind c msg d stated hm hd hk h = record {
   message = pair _ _ _ (sym hm);
   statement = h ∙ (λ i. statement basic p (hk i) (four_bytes view ++ hd i)) ∙ sym (shows-stated p phase view c) ∙ ap (λ (z : Message). own_statement basic p z) (sym hm);

@@ -35,9 +35,9 @@ use Rattle.sb_hotstuff.specs.Delivered.{paired, value_with}
 use Rattle.sb_hotstuff.specs.Drafts.{AreDrafts, count_of}
 use Rattle.sb_hotstuff.specs.Accepted.{AreAccepted}
 use Rattle.sb_hotstuff.specs.HotStuff.{answers, asks, decided, decides, drafts, hotstuff, offered, proposals, sign_all, state, strings, strings_at, voted}
-use Rattle.sb_hotstuff.specs.Instances.{Adds, IsSigned, Stands, at_slot, what_at}
+use Rattle.sb_hotstuff.specs.Instances.{Adds, IsSigned, Refines, at_slot, what_at}
 use Rattle.sb_hotstuff.specs.Rules.{State, after, is_good, kept, may_cast, may_prepare, node_digest, proposed, with_node}
-use Rattle.sb_hotstuff.specs.Stands.{IsFor}
+use Rattle.sb_hotstuff.specs.Refines.{IsFor}
 use Rattle.sb_hotstuff.specs.Steps.{Does}
 use Rattle.sb_hotstuff.proofs.Paired.{branch-value, fresh-ascending, fresh-value, fresh-within, or-within, slots-more, value-fresh, value-some}
 use Rattle.sb_hotstuff.proofs.Signed.{count-few, drafts-long}
@@ -55,12 +55,12 @@ delivered-is p me xs n = delivered-decided hotstuff p me (λ s. refl) (λ xs y s
 
 module _ (p : Params) (m n : HotStuff) (i : Input Message) (o : Outcome) (a : Option (Slot × Batch)) (before later : KeyState) (e : Effects Message)
     (enough : 2 ≤ left_of before) (does : (s : State) → IsFor m.node s → Does p m.node n.node s i o) (signed : IsSigned p o a before later e)
-    (asked : (me : ℕ) (xs : List (Item Message)) → Stands m p me xs → a ≡ asks p me xs i) (more : Adds m.accepted n.accepted (one_or_none a))
+    (asked : (me : ℕ) (xs : List (Item Message)) → Refines m p me xs → a ≡ asks p me xs i) (more : Adds m.accepted n.accepted (one_or_none a))
     (inside : IfSome a (λ x. In x.0 p.slots)) (same : n.delivered ≡ m.delivered) (quiet : (s : State) (k : ℕ) → decides p s i k ≡ None) where
   used-is : later.used ≡ before.used + (count_of o.answer + count_of o.proposal)
   used-is = ap (λ (k : KeyState). k.used) signed.used
 
-  module _ (me : ℕ) (xs : List (Item Message)) (st : Stands m p me xs) where
+  module _ (me : ℕ) (xs : List (Item Message)) (st : Refines m p me xs) where
     abbrev s : State
     s = state p me xs
 
@@ -76,8 +76,8 @@ module _ (p : Params) (m n : HotStuff) (i : Input Message) (o : Outcome) (a : Op
     decided-same : (k : ℕ) → first_of (decided p me xs k) (decides p s i k) ≡ decided p me xs k
     decided-same k = ap (λ (r : Option Value). first_of (decided p me xs k) r) (quiet s k) ∙ first_of-none (decided p me xs k)
 
-    stands-then : (leaf : ℕ) → Stands n p me (and_then hotstuff p me xs i leaf)
-    stands-then leaf = record {
+    refines-then : (leaf : ℕ) → Refines n p me (and_then hotstuff p me xs i leaf)
+    refines-then leaf = record {
       node = ap (λ (z : NodeId). z.0) d.node ∙ st.node;
       keeps = subst (λ (k : ℕ). IsFor n.node (after p k s i)) st.node d.state;
       batches = subst (λ (z : Option (Slot × Batch)). AreAccepted n.accepted (one_or_none z ++ accepts xs)) (asked me xs st) (more (accepts xs) st.batches);
@@ -104,13 +104,13 @@ module _ (p : Params) (m n : HotStuff) (i : Input Message) (o : Outcome) (a : Op
         let both = length-append (answers p s (kept p me s i) i) (proposals (proposed p me s (kept p me s i) i)) in
         omega (arith, u, first, second, both)
 
-  pub true-step : IsTrueStep hotstuff Stands p m n i before later e
+  pub true-step : IsTrueStep hotstuff Refines p m n i before later e
   true-step =
       let u = used-is in
       let first = count-few o.answer in
       let second = count-few o.proposal in
       record {
-        stands_for = λ me xs st own. stands-then me xs st before.used;
+        refined = λ me xs st own. refines-then me xs st before.used;
         effects = λ me xs st own. takes me xs st own;
         used = λ me xs st own. uses me xs st;
         within = record {
@@ -134,13 +134,13 @@ pub record IsIdle (p : Params) (me : ℕ) (s : State) (i : Input Message) : Type
 
 module _ (p : Params) (good : IsGoodParams hotstuff p) (m n : HotStuff) (i : Input Message) (keys : KeyState) (e : Effects Message) (enough : 2 ≤ left_of keys)
     (sends : e.sends ≡ []) (accepted : e.accepted ≡ None) (hashed : e.hashed ≡ [])
-    (idle : (me : ℕ) (xs : List (Item Message)) → Stands m p me xs → IsIdle p me (state p me xs) i) (unasked : (me : ℕ) (xs : List (Item Message)) → Stands m p me xs → asks p me xs i ≡ None)
+    (idle : (me : ℕ) (xs : List (Item Message)) → Refines m p me xs → IsIdle p me (state p me xs) i) (unasked : (me : ℕ) (xs : List (Item Message)) → Refines m p me xs → asks p me xs i ≡ None)
     (node : n.node ≡ m.node) (batches : n.accepted ≡ m.accepted) (within : AllIn (slots_of e.delivers) p.slots)
-    (reached : (me : ℕ) (xs : List (Item Message)) → Stands m p me xs → (k : ℕ) → is_some (first_of (decided p me xs k) (decides p (state p me xs) i k)) ≡ has_slot k (take n.delivered p.slots))
-    (delivers : (me : ℕ) (xs : List (Item Message)) → Stands m p me xs → (leaf : ℕ) → Delivers hotstuff p me xs (and_then hotstuff p me xs i leaf) e.delivers) where
-  pub idle-step : IsTrueStep hotstuff Stands p m n i keys keys e
+    (reached : (me : ℕ) (xs : List (Item Message)) → Refines m p me xs → (k : ℕ) → is_some (first_of (decided p me xs k) (decides p (state p me xs) i k)) ≡ has_slot k (take n.delivered p.slots))
+    (delivers : (me : ℕ) (xs : List (Item Message)) → Refines m p me xs → (leaf : ℕ) → Delivers hotstuff p me xs (and_then hotstuff p me xs i leaf) e.delivers) where
+  pub idle-step : IsTrueStep hotstuff Refines p m n i keys keys e
   idle-step = record {
-    stands_for = λ me xs st own. record {
+    refined = λ me xs st own. record {
       node = ap (λ (z : Node). z.me.0) node ∙ st.node;
       keeps = subst (λ (z : State). IsFor n.node z) (sym (idle me xs st).state) (subst (λ (z : Node). IsFor z (state p me xs)) (sym node) st.keeps);
       batches = subst (λ (z : Option (Slot × Batch)). AreAccepted n.accepted (one_or_none z ++ accepts xs)) (sym (unasked me xs st)) (subst (λ (z : Accepted). AreAccepted z (accepts xs)) (sym batches) st.batches);
@@ -166,8 +166,8 @@ module _ (p : Params) (good : IsGoodParams hotstuff p) (m n : HotStuff) (i : Inp
   }
 
 -- nothing is decided anew
-module _ (p : Params) (m : HotStuff) (i : Input Message) (e : Effects Message) (nothing : e.delivers ≡ []) (quiet : (me : ℕ) (xs : List (Item Message)) → Stands m p me xs → (k : ℕ) → decides p (state p me xs) i k ≡ None)
-    (me : ℕ) (xs : List (Item Message)) (st : Stands m p me xs) where
+module _ (p : Params) (m : HotStuff) (i : Input Message) (e : Effects Message) (nothing : e.delivers ≡ []) (quiet : (me : ℕ) (xs : List (Item Message)) → Refines m p me xs → (k : ℕ) → decides p (state p me xs) i k ≡ None)
+    (me : ℕ) (xs : List (Item Message)) (st : Refines m p me xs) where
   still : (k : ℕ) → first_of (decided p me xs k) (decides p (state p me xs) i k) ≡ decided p me xs k
   still k = ap (λ (r : Option Value). first_of (decided p me xs k) r) (quiet me xs st k) ∙ first_of-none (decided p me xs k)
 
@@ -179,7 +179,7 @@ module _ (p : Params) (m : HotStuff) (i : Input Message) (e : Effects Message) (
       (Delivers-nothing hotstuff p me xs i leaf (λ t x h none. none-some x (sym none ∙ delivered-is p me xs t.0 ∙ sym (still t.0) ∙ h)))
 
 -- the branch of a node is decided
-module _ (p : Params) (good : IsGoodParams hotstuff p) (m : HotStuff) (i : Input Message) (e : Effects Message) (me : ℕ) (xs : List (Item Message)) (st : Stands m p me xs) (cs : List What)
+module _ (p : Params) (good : IsGoodParams hotstuff p) (m : HotStuff) (i : Input Message) (e : Effects Message) (me : ℕ) (xs : List (Item Message)) (st : Refines m p me xs) (cs : List What)
     (decides-is : (k : ℕ) → decides p (state p me xs) i k ≡ value_at_slot cs 0 p.slots k) (ds : e.delivers ≡ paired (drop m.delivered p.slots) (drop m.delivered (values cs))) where
   abbrev old : ℕ → Option Value
   old k = decided p me xs k
@@ -237,7 +237,7 @@ module _ (p : Params) (good : IsGoodParams hotstuff p) (m : HotStuff) (i : Input
 -- nothing is accepted
 pub plain-step : (p : Params) (m : HotStuff) (node : Node) (i : Input Message) (o : Outcome) (before later : KeyState) (e : Effects Message) → 2 ≤ left_of before →
     ((s : State) → IsFor m.node s → Does p m.node node s i o) → IsSigned p o None before later e → ((me : ℕ) (xs : List (Item Message)) → asks p me xs i ≡ None) →
-    ((s : State) (k : ℕ) → decides p s i k ≡ None) → IsTrueStep hotstuff Stands p m (record m { node = node }) i before later e
+    ((s : State) (k : ℕ) → decides p s i k ≡ None) → IsTrueStep hotstuff Refines p m (record m { node = node }) i before later e
 plain-step p m node i o before later e enough does signed unasked quiet =
     true-step p m (record m { node = node }) i o None before later e enough does signed (λ me xs st. sym (unasked me xs)) (λ old h. h) tt refl quiet
 
@@ -256,7 +256,7 @@ module _ (p : Params) (m : HotStuff) (node : Node) (accepted : Accepted) (slot :
   n = record m { node = node; accepted = accepted }
 
   pub cast-step : (at : Slot) (batch : Batch) → ((s : State) → IsFor m.node s → Does p m.node node s (Cast at batch) o) → a ≡ at_slot batch slot → Adds m.accepted accepted (one_or_none (at_slot batch slot)) →
-      ((s : State) (b : Batch) → IsFor m.node s → at_slot b slot ≡ (if may_cast p m.node.me.0 s at.0 then Some (at, b) else None)) → IsTrueStep hotstuff Stands p m n (Cast at batch) before later e
+      ((s : State) (b : Batch) → IsFor m.node s → at_slot b slot ≡ (if may_cast p m.node.me.0 s at.0 then Some (at, b) else None)) → IsTrueStep hotstuff Refines p m n (Cast at batch) before later e
   cast-step at batch does is adds free =
       true-step p m n (Cast at batch) o a before later e enough does signed
       (λ me xs st. is ∙ free (state p me xs) batch st.keeps ∙ ap (λ (k : ℕ). let r : Option (Slot × Batch) = if may_cast p k (state p me xs) at.0 then Some (at, batch) else None in r) st.node)
@@ -267,7 +267,7 @@ module _ (p : Params) (m : HotStuff) (node : Node) (accepted : Accepted) (slot :
       ((s : State) → IsFor m.node s → may_prepare p s from.0 view what just ≡ true → Does p m.node node s (Receive from (Prepare view what just sig)) o) →
       a ≡ what_at what slot → Adds m.accepted accepted (one_or_none (what_at what slot)) →
       ((s : State) (old : List (Slot × Batch)) → IsFor m.node s → AreAccepted m.accepted old → what_at what slot ≡ offered p s old what just) →
-      IsTrueStep hotstuff Stands p m n (Receive from (Prepare view what just sig)) before later e
+      IsTrueStep hotstuff Refines p m n (Receive from (Prepare view what just sig)) before later e
   prepare-step from view what just sig b yep may does is adds free =
       true-step p m n (Receive from (Prepare view what just sig)) o a before later e enough (λ s h. does s h (sym (may s h) ∙ yep)) signed
       (λ me xs st. is ∙ free (state p me xs) (accepts xs) st.keeps st.batches
@@ -281,7 +281,7 @@ none-within ds ss h = subst (λ (z : List (Slot × Value)). AllIn (slots_of z) s
 -- a proposal that does not pass its test
 pub unprepared-step : (p : Params) → IsGoodParams hotstuff p → (m : HotStuff) (keys : KeyState) (e : Effects Message) → 2 ≤ left_of keys → IsNothing e →
     (from : NodeId) (view : ℕ) (what : What) (just : Certificate) (sig : List ℕ) (b : Bool) → b ≡ false → ((s : State) → IsFor m.node s → b ≡ may_prepare p s from.0 view what just) →
-    IsTrueStep hotstuff Stands p m m (Receive from (Prepare view what just sig)) keys keys e
+    IsTrueStep hotstuff Refines p m m (Receive from (Prepare view what just sig)) keys keys e
 unprepared-step p good m keys e enough nothing from view what just sig b nope may =
     idle-step p good m m i keys e enough nothing.sends nothing.accepted nothing.hashed
     (λ me xs st. record {
@@ -295,7 +295,7 @@ unprepared-step p good m keys e enough nothing from view what just sig b nope ma
     i : Input Message
     i = Receive from (Prepare view what just sig)
 
-    not-may : (me : ℕ) (xs : List (Item Message)) → Stands m p me xs → may_prepare p (state p me xs) from.0 view what just ≡ false
+    not-may : (me : ℕ) (xs : List (Item Message)) → Refines m p me xs → may_prepare p (state p me xs) from.0 view what just ≡ false
     not-may me xs st = sym (may (state p me xs) st.keeps) ∙ nope
 
 -- a certificate of the last phase
@@ -308,37 +308,37 @@ module _ (p : Params) (good : IsGoodParams hotstuff p) (m : HotStuff) (keys : Ke
       decides p s said k ≡ (if t then value_at_slot (branch s.tree (digest_of shown)) 0 p.slots k else None)
   told s k t h = ap (λ (z : Bool). let r : Option Value = if z then value_at_slot (branch s.tree (digest_of shown)) 0 p.slots k else None in r) h
 
-  pub undecided-step : b ≡ false → e.delivers ≡ [] → IsTrueStep hotstuff Stands p m m said keys keys e
+  pub undecided-step : b ≡ false → e.delivers ≡ [] → IsTrueStep hotstuff Refines p m m said keys keys e
   undecided-step nope none =
       idle-step p good m m said keys e enough sends accepted hashed (λ me xs st. record { drafts_none = refl; strings_none = refl; state = refl }) (λ me xs st. refl) refl refl (none-within e.delivers p.slots none)
       (none-reached p m said e none quiet) (none-delivered p m said e none quiet)
     where
-      quiet : (me : ℕ) (xs : List (Item Message)) → Stands m p me xs → (k : ℕ) → decides p (state p me xs) said k ≡ None
+      quiet : (me : ℕ) (xs : List (Item Message)) → Refines m p me xs → (k : ℕ) → decides p (state p me xs) said k ≡ None
       quiet me xs st k = told (state p me xs) k false (sym (may (state p me xs) st.keeps) ∙ nope)
 
   module _ (yep : b ≡ true) (d : List ℕ) (vs : List Value) (slots : ℕ) (hd : d ≡ digest_of shown) (ds : e.delivers ≡ paired (drop m.delivered p.slots) vs)
       (behind : (ks : List Tree_node) → Keeps m.node.tree ks → vs ≡ drop m.delivered (values (branch ks d))) (full : (ks : List Tree_node) → Keeps m.node.tree ks → slots ≡ filled (branch ks d)) where
-    yes-said : (me : ℕ) (xs : List (Item Message)) → Stands m p me xs → (k : ℕ) → decides p (state p me xs) said k ≡ value_at_slot (branch (state p me xs).tree (digest_of shown)) 0 p.slots k
+    yes-said : (me : ℕ) (xs : List (Item Message)) → Refines m p me xs → (k : ℕ) → decides p (state p me xs) said k ≡ value_at_slot (branch (state p me xs).tree (digest_of shown)) 0 p.slots k
     yes-said me xs st k = told (state p me xs) k true (sym (may (state p me xs) st.keeps) ∙ yep)
 
-    given : (me : ℕ) (xs : List (Item Message)) → Stands m p me xs → e.delivers ≡ paired (drop m.delivered p.slots) (drop m.delivered (values (branch (state p me xs).tree (digest_of shown))))
+    given : (me : ℕ) (xs : List (Item Message)) → Refines m p me xs → e.delivers ≡ paired (drop m.delivered p.slots) (drop m.delivered (values (branch (state p me xs).tree (digest_of shown))))
     given me xs st = ds ∙ ap (λ (z : List Value). paired (drop m.delivered p.slots) z) (behind (state p me xs).tree st.keeps.tree ∙ ap (λ (z : List ℕ). drop m.delivered (values (branch (state p me xs).tree z))) hd)
 
-    many : (me : ℕ) (xs : List (Item Message)) → Stands m p me xs → slots ≡ filled (branch (state p me xs).tree (digest_of shown))
+    many : (me : ℕ) (xs : List (Item Message)) → Refines m p me xs → slots ≡ filled (branch (state p me xs).tree (digest_of shown))
     many me xs st = full (state p me xs).tree st.keeps.tree ∙ ap (λ (z : List ℕ). filled (branch (state p me xs).tree z)) hd
 
     inside : AllIn (slots_of e.delivers) p.slots
     inside = subst (λ (z : List (Slot × Value)). AllIn (slots_of z) p.slots) (sym ds) (fresh-within m.delivered p.slots vs)
 
-    now-given : (me : ℕ) (xs : List (Item Message)) → Stands m p me xs → (leaf : ℕ) → Delivers hotstuff p me xs (and_then hotstuff p me xs said leaf) e.delivers
+    now-given : (me : ℕ) (xs : List (Item Message)) → Refines m p me xs → (leaf : ℕ) → Delivers hotstuff p me xs (and_then hotstuff p me xs said leaf) e.delivers
     now-given me xs st leaf = branch-delivered p good m said e me xs st (branch (state p me xs).tree (digest_of shown)) (yes-said me xs st) (given me xs st) leaf
 
-    pub low-step : slots ≤ m.delivered → IsTrueStep hotstuff Stands p m m said keys keys e
+    pub low-step : slots ≤ m.delivered → IsTrueStep hotstuff Refines p m m said keys keys e
     low-step le =
         idle-step p good m m said keys e enough sends accepted hashed (λ me xs st. record { drafts_none = refl; strings_none = refl; state = refl }) (λ me xs st. refl) refl refl inside
         (λ me xs st k. low-reached p good m said e me xs st (branch (state p me xs).tree (digest_of shown)) (yes-said me xs st) (given me xs st) (let f = many me xs st in omega (arith, le, f)) k) now-given
 
-    pub high-step : m.delivered < slots → IsTrueStep hotstuff Stands p m (record m { delivered = slots }) said keys keys e
+    pub high-step : m.delivered < slots → IsTrueStep hotstuff Refines p m (record m { delivered = slots }) said keys keys e
     high-step lt =
         idle-step p good m (record m { delivered = slots }) said keys e enough sends accepted hashed (λ me xs st. record { drafts_none = refl; strings_none = refl; state = refl }) (λ me xs st. refl) refl refl inside
         (λ me xs st k. high-reached p good m said e me xs st (branch (state p me xs).tree (digest_of shown)) (yes-said me xs st) (given me xs st) (let f = many me xs st in omega (arith, lt, f)) k
@@ -349,7 +349,7 @@ module _ (p : Params) (good : IsGoodParams hotstuff p) (m : HotStuff) (keys : Ke
 no-some : (x : Slot × Batch) → ◌≡◌ {A = Option (Slot × Batch)} None (Some x) → ⊥
 no-some x h = cc
 
-pub casts-means : (p : Params) (m : HotStuff) (me : ℕ) (xs : List (Item Message)) → Stands m p me xs → (slot : Slot) (batch : Batch) (b : Bool) → ((s : State) → IsFor m.node s → b ≡ may_cast p m.node.me.0 s slot.0) →
+pub casts-means : (p : Params) (m : HotStuff) (me : ℕ) (xs : List (Item Message)) → Refines m p me xs → (slot : Slot) (batch : Batch) (b : Bool) → ((s : State) → IsFor m.node s → b ≡ may_cast p m.node.me.0 s slot.0) →
     IsTrue b ↔ (asks p me xs (Cast slot batch) ≡ Some (slot, batch))
 casts-means p m me xs st slot batch b h = (
   (λ t. asked true (sym is ∙ t)),

@@ -19,7 +19,7 @@ use Rattle.sb_hotstuff.specs.declared.state.Node.{Node}
 use Rattle.sb_hotstuff.specs.Drafts.{AreDrafts}
 use Rattle.sb_hotstuff.specs.HotStuff.{answers, proposals, shows, strings_at, taken_of, turn_strings, voted}
 use Rattle.sb_hotstuff.specs.Rules.{Kept, State, Turn, certificate, first_turn, is_reached, keeps_news, keeps_vote, kept, may_cast, may_prepare, next_turn, node_digest, proposed, turn, with_cast, with_news, with_node, with_turn, with_vote}
-use Rattle.sb_hotstuff.specs.Stands.{IsFor}
+use Rattle.sb_hotstuff.specs.Refines.{IsFor}
 use Rattle.sb_hotstuff.specs.Steps.{Does, IsAnswer, IsQuiet, Proposes}
 use Rattle.sb_hotstuff.specs.Tallies.{AreNews, AreVotes}
 use Rattle.sb_hotstuff.specs.declared.ballots.Ballots.{Ballots}

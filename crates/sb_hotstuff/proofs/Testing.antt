@@ -10,7 +10,7 @@ use Rattle.hs_tree.specs.Certificates.{digest_of, view_of}
 use Rattle.hs_tree.specs.Tree.{extends, is_known, plain_string}
 use Rattle.sb_hotstuff.specs.declared.state.Node.{Node}
 use Rattle.sb_hotstuff.specs.Rules.{State, is_allowed, is_just, is_safe, is_timely, may_prepare, node_digest, round_of, slots_below}
-use Rattle.sb_hotstuff.specs.Stands.{IsFor}
+use Rattle.sb_hotstuff.specs.Refines.{IsFor}
 
 module _ (p : Params) (m : Node) (s : State) (h : IsFor m s) (view : ℕ) (what : What) (just : Certificate) where
   pub locked : (parent lock node : List ℕ) (b : Bool) → parent ≡ digest_of just → lock ≡ digest_of m.lock → node ≡ digest (plain_string p.setup.version view parent what) → b ≡ same_bytes node lock →

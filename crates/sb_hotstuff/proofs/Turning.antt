@@ -27,7 +27,7 @@ use Rattle.sb_hotstuff.specs.declared.turns.Turns.{Turns}
 use Rattle.sb_hotstuff.specs.Drafts.{AreDrafts, IsDraft}
 use Rattle.sb_hotstuff.specs.HotStuff.{strings_at}
 use Rattle.sb_hotstuff.specs.Rules.{State, Turn, all_news, best, cast_turn, certificate, first_turn, is_ready, next_turn, nil_or_mark, node_digest, round_of, slots_below, turn, turn_after, turn_on}
-use Rattle.sb_hotstuff.specs.Stands.{IsFor, IsLow, is_last_ready}
+use Rattle.sb_hotstuff.specs.Refines.{IsFor, IsLow, is_last_ready}
 use Rattle.sb_hotstuff.specs.Steps.{IsQuiet, Proposes}
 use Rattle.sb_hotstuff.specs.Tallies.{AreTurns, last_of, own_of}
 

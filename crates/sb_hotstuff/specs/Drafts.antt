@@ -7,13 +7,13 @@ use Rattle.hs_tree.specs.declared.messages.Message.{Message}
 use Rattle.hs_tree.specs.Statements.{own_statement}
 use Rattle.hs_tree.specs.Tree.{basic}
 use Rattle.sb_hotstuff.specs.declared.signing.Draft.{Draft}
-use Rattle.sb_hotstuff.specs.declared.signing.Whom.{Whom}
-use Rattle.sb_hotstuff.specs.declared.signing.Whom.TheVariants.{All as Whom_all, Leader}
+use Rattle.sb_hotstuff.specs.declared.signing.Recipient.{Recipient}
+use Rattle.sb_hotstuff.specs.declared.signing.Recipient.TheVariants.{All as Recipient_all, Leader}
 use Rattle.sb_hotstuff.specs.HotStuff.{to_leader}
 
 -- the nodes that are meant
-abbrev pub to_nodes : Params → Whom → To
-to_nodes p Whom_all = To_all
+abbrev pub to_nodes : Params → Recipient → To
+to_nodes p Recipient_all = To_all
 to_nodes p (Leader round) = to_leader p round
 
 abbrev pub count_of : Option Draft → ℕ

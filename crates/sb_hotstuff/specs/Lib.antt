@@ -6,5 +6,5 @@ pub mod Rules
 pub mod Tallies
 pub mod Delivered
 pub mod Drafts
-pub mod Stands
+pub mod Refines
 pub mod Steps

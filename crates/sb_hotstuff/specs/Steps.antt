@@ -9,7 +9,7 @@ use Rattle.sb_hotstuff.specs.declared.state.Node.{Node}
 use Rattle.sb_hotstuff.specs.Drafts.{AreDrafts}
 use Rattle.sb_hotstuff.specs.HotStuff.{answers, proposals, strings, turn_strings}
 use Rattle.sb_hotstuff.specs.Rules.{State, Turn, after, kept, proposed, with_turn}
-use Rattle.sb_hotstuff.specs.Stands.{IsFor}
+use Rattle.sb_hotstuff.specs.Refines.{IsFor}
 
 pub record IsQuiet (o : Outcome) : Type 0 where
   pub answer : o.answer ≡ None

@@ -6,14 +6,14 @@ ghost use Rattle.iss_request.specs.declared.requests.Batch.{Batch};
 ghost use Rattle.sb_hotstuff.specs.Accepted.{AreAccepted, batches_in, is_among};
 ghost use Rattle.sb_hotstuff.specs.HotStuff.{same_batch, same_request, was_accepted};
 
-use iss_request::{Batch, NoMemory, Request, Row, Slot};
+use iss_request::{Batch, NoMemory, Request, Seq, Slot};
 use std::alloc::Global;
 use std::collections::BTreeMap;
 
 /// At each slot the batches that were accepted there.
 #[derive(Drop)]
 pub struct Accepted {
-    all: BTreeMap<u64, Row<Batch>>,
+    all: BTreeMap<u64, Seq<Batch>>,
 }
 
 fn same(a: &[u8], b: &[u8]) -> bool
@@ -56,12 +56,12 @@ fn is_among(batches: &[Batch], batch: &Batch) -> bool
 }
 
 // The batches, none where there is no row of them.
-fn batches_in(alloc: Global, batches: Option<Row<Batch>>) -> Row<Batch>
+fn batches_in(alloc: Global, batches: Option<Seq<Batch>>) -> Seq<Batch>
     ensures { result ≡ batches_in batches }
 {
     match batches {
         Some(batches) => batches,
-        None => Row::new(alloc),
+        None => Seq::new(alloc),
     }
 }
 
@@ -89,7 +89,7 @@ impl Accepted {
     pub fn keep(&mut self, alloc: Global, slot: Slot, batch: Batch) -> Result<(), NoMemory>
         ensures { OnOk result ((old : List (Slot × Batch)) → AreAccepted self.old old → AreAccepted self.new ((slot, batch) ∷ old)) }
     {
-        let before = self.all.insert(slot.0, Row::new(alloc))?;
+        let before = self.all.insert(slot.0, Seq::new(alloc))?;
         let mut batches = batches_in(alloc, before);
         batches.push(batch)?;
         self.all.insert(slot.0, batches)?;

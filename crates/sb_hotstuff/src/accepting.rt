@@ -8,7 +8,7 @@ ghost use Rattle.sb_hotstuff.specs.Accepted.{AreAccepted};
 ghost use Rattle.sb_hotstuff.specs.HotStuff.{offered, unless_accepted};
 ghost use Rattle.sb_hotstuff.specs.Instances.{Adds, at_slot, what_at};
 ghost use Rattle.sb_hotstuff.specs.Rules.{State, may_cast, slots_below};
-ghost use Rattle.sb_hotstuff.specs.Stands.{IsFor};
+ghost use Rattle.sb_hotstuff.specs.Refines.{IsFor};
 
 use crate::accepted::Accepted;
 use crate::state::Node;

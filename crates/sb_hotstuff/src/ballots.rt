@@ -8,7 +8,7 @@ ghost use Rattle.sb_hotstuff.specs.Rules.{Kept, vote_of, votes_of};
 ghost use Rattle.sb_hotstuff.specs.Tallies.{AreVotes, signed, vote_at};
 
 use hs_tree::{Certificate, Signed};
-use iss_request::{Bytes, NoMemory, NodeId, Row};
+use iss_request::{Bytes, NoMemory, NodeId, Seq};
 use std::alloc::Global;
 use std::collections::BTreeMap;
 
@@ -28,7 +28,7 @@ pub struct Ballots {
 }
 
 // Puts a vote, if there is one, behind others.
-fn put_vote(by: u8, sig: Option<&Bytes>, votes: &mut Row<Signed>) -> Result<(), NoMemory>
+fn put_vote(by: u8, sig: Option<&Bytes>, votes: &mut Seq<Signed>) -> Result<(), NoMemory>
     ensures { OnOk result (votes.new ≡ votes.old ++ one_or_none (signed by (option_copied sig.entry))) }
 {
     match sig {
@@ -81,10 +81,10 @@ impl Ballots {
         phase: u8,
         view: u32,
         digest: &[u8; 32],
-    ) -> Result<Row<Signed>, NoMemory>
+    ) -> Result<Seq<Signed>, NoMemory>
         ensures { IfOk result (λ all. (vs : List Kept) → AreVotes self.now vs → all ≡ votes_of n vs phase view digest.now) }
     {
-        let mut votes = Row::new(alloc);
+        let mut votes = Seq::new(alloc);
         for by in 0..n {
             put_vote(by, self.at(by, phase, view, digest), &mut votes)?;
         }

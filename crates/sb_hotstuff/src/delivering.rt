@@ -2,7 +2,7 @@
 ghost use Rattle.std.specs.Prelude.{◌≡◌, drop, IfOk};
 ghost use Rattle.sb_hotstuff.specs.Delivered.{paired};
 
-use iss_request::{NoMemory, Row, Slot, Value};
+use iss_request::{NoMemory, Seq, Slot, Value};
 use std::alloc::Global;
 
 /// The slots from this place of the segment on, each with a value, as long as there are both.
@@ -11,10 +11,10 @@ pub fn pair(
     slots: &[Slot],
     from: usize,
     values: Vec<Value>,
-) -> Result<Row<(Slot, Value)>, NoMemory>
+) -> Result<Seq<(Slot, Value)>, NoMemory>
     ensures { IfOk result (λ ds. ds ≡ paired (drop from slots.now) values.items) }
 {
-    let mut fresh = Row::new(alloc);
+    let mut fresh = Seq::new(alloc);
     let mut place = from;
     for value in values {
         let Some(slot) = slots.get(place) else {

@@ -7,9 +7,9 @@ ghost use Rattle.iss_sb.specs.Calls.{IsGoodInput, IsGoodParams, IsStep, IsTrueSt
 ghost use Rattle.hs_tree.specs.declared.messages.Message.TheVariants.{NewView, Prepare, PreCommit, Commit, Decide, Vote};
 ghost use Rattle.sb_hotstuff.specs.Accepted.{AreAccepted};
 ghost use Rattle.sb_hotstuff.specs.HotStuff.{asked_by, hotstuff, offered};
-ghost use Rattle.sb_hotstuff.specs.Instances.{Stands};
+ghost use Rattle.sb_hotstuff.specs.Instances.{Refines};
 ghost use Rattle.sb_hotstuff.specs.Rules.{State, may_prepare};
-ghost use Rattle.sb_hotstuff.specs.Stands.{IsFor};
+ghost use Rattle.sb_hotstuff.specs.Refines.{IsFor};
 
 use crate::accepted::Accepted;
 use crate::accepting::{cast_slot, keep_at, keep_what, offered_slot};
@@ -18,7 +18,7 @@ use crate::signing::claims;
 use crate::state::{Node, PHASES};
 use hs_tree::{Certificate, Message};
 use iss_keys::Keys;
-use iss_request::{Batch, Bytes, DecodeError, Fields, NoMemory, NodeId, Row, Slot, Writer};
+use iss_request::{Batch, Bytes, DecodeError, Fields, NoMemory, NodeId, Seq, Slot, Writer};
 use iss_sb::{Claim, Effects, Input, Params, Sequenced, StepError};
 use raft_wire::What;
 use std::alloc::Global;
@@ -86,7 +86,7 @@ impl HotStuff {
     ) -> Result<Effects<Message>, NoMemory>
         requires good { IsGoodParams hotstuff p.now }
         requires enough { 2 ≤ left_of keys.old }
-        ensures { IfOk result (λ e. IsTrueStep hotstuff Stands p.now self.old self.new (Input.Cast slot batch) keys.old keys.new e) }
+        ensures { IfOk result (λ e. IsTrueStep hotstuff Refines p.now self.old self.new (Input.Cast slot batch) keys.old keys.new e) }
     {
         let free = cast_slot(&self.node, p, slot);
         let accepted = keep_at(&mut self.accepted, alloc, free, &batch)?;
@@ -108,7 +108,7 @@ impl HotStuff {
         requires good { IsGoodParams hotstuff p.now }
         requires enough { 2 ≤ left_of keys.old }
         ensures { IfOk result (λ e. (sig : List ℕ) →
-            IsTrueStep hotstuff Stands p.now self.old self.new (Input.Receive from (Prepare view what just sig)) keys.old keys.new e) }
+            IsTrueStep hotstuff Refines p.now self.old self.new (Input.Receive from (Prepare view what just sig)) keys.old keys.new e) }
     {
         if !self.node.may_prepare(p, from, view, &what, &just) {
             return Ok(Effects::nothing(alloc));
@@ -129,7 +129,7 @@ impl HotStuff {
     ) -> Result<Effects<Message>, NoMemory>
         requires { IsGoodParams hotstuff p.now }
         ensures { IfOk result (λ e. (from : NodeId) (sig : List ℕ) (keys : KeyState) → 2 ≤ left_of keys →
-            IsTrueStep hotstuff Stands p.now self.old self.new (Input.Receive from (Decide view shown sig)) keys keys e) }
+            IsTrueStep hotstuff Refines p.now self.old self.new (Input.Receive from (Decide view shown sig)) keys keys e) }
     {
         let mut effects = Effects::nothing(alloc);
         if !self.node.may_deliver(p, view, &shown) {
@@ -159,7 +159,7 @@ impl HotStuff {
         requires good { IsGoodParams hotstuff p.now }
         requires enough { 2 ≤ left_of keys.old }
         ensures { IfOk result (λ e. (sig : List ℕ) →
-            IsTrueStep hotstuff Stands p.now self.old self.new (Input.Receive from (NewView round high sig)) keys.old keys.new e) }
+            IsTrueStep hotstuff Refines p.now self.old self.new (Input.Receive from (NewView round high sig)) keys.old keys.new e) }
     {
         let outcome = self.node.take_new_view(alloc, p, from, round, high)?;
         outcome.sign(alloc, p, None, keys)
@@ -178,7 +178,7 @@ impl HotStuff {
         requires good { IsGoodParams hotstuff p.now }
         requires enough { 2 ≤ left_of keys.old }
         ensures { IfOk result (λ e. (sig : List ℕ) →
-            IsTrueStep hotstuff Stands p.now self.old self.new (Input.Receive from (PreCommit view shown sig)) keys.old keys.new e) }
+            IsTrueStep hotstuff Refines p.now self.old self.new (Input.Receive from (PreCommit view shown sig)) keys.old keys.new e) }
     {
         let outcome = self.node.take_pre_commit(alloc, p, view, shown)?;
         outcome.sign(alloc, p, None, keys)
@@ -197,7 +197,7 @@ impl HotStuff {
         requires good { IsGoodParams hotstuff p.now }
         requires enough { 2 ≤ left_of keys.old }
         ensures { IfOk result (λ e. (sig : List ℕ) →
-            IsTrueStep hotstuff Stands p.now self.old self.new (Input.Receive from (Commit view shown sig)) keys.old keys.new e) }
+            IsTrueStep hotstuff Refines p.now self.old self.new (Input.Receive from (Commit view shown sig)) keys.old keys.new e) }
     {
         let outcome = self.node.take_commit(alloc, p, view, shown)?;
         outcome.sign(alloc, p, None, keys)
@@ -217,7 +217,7 @@ impl HotStuff {
     ) -> Result<Effects<Message>, NoMemory>
         requires good { IsGoodParams hotstuff p.now }
         requires enough { 2 ≤ left_of keys.old }
-        ensures { IfOk result (λ e. IsTrueStep hotstuff Stands p.now self.old self.new (Input.Receive from (Vote phase view digest sig)) keys.old keys.new e) }
+        ensures { IfOk result (λ e. IsTrueStep hotstuff Refines p.now self.old self.new (Input.Receive from (Vote phase view digest sig)) keys.old keys.new e) }
     {
         let outcome = self
             .node
@@ -236,7 +236,7 @@ impl HotStuff {
     ) -> Result<Effects<Message>, NoMemory>
         requires good { IsGoodParams hotstuff p.now }
         requires enough { 2 ≤ left_of keys.old }
-        ensures { IfOk result (λ e. IsTrueStep hotstuff Stands p.now self.old self.new (Input.Receive from msg) keys.old keys.new e) }
+        ensures { IfOk result (λ e. IsTrueStep hotstuff Refines p.now self.old self.new (Input.Receive from msg) keys.old keys.new e) }
     {
         match msg {
             Message::NewView { round, high, .. } => self.new_view(
@@ -271,7 +271,7 @@ impl HotStuff {
     ) -> Result<Effects<Message>, NoMemory>
         requires good { IsGoodParams hotstuff p.now }
         requires enough { 2 ≤ left_of keys.old }
-        ensures { IfOk result (λ e. IsTrueStep hotstuff Stands p.now self.old self.new Input.Timeout keys.old keys.new e) }
+        ensures { IfOk result (λ e. IsTrueStep hotstuff Refines p.now self.old self.new Input.Timeout keys.old keys.new e) }
     {
         let outcome = self.node.time_out(alloc, p)?;
         outcome.sign(alloc, p, None, keys)
@@ -291,9 +291,9 @@ impl Sequenced for HotStuff {
 
     ghost STOPPING = { false };
 
-    ghost meaning = { hotstuff };
+    ghost spec = { hotstuff };
 
-    ghost stands = { Stands };
+    ghost refines = { Refines };
 
     fn nodes_of(f: u32) -> u32 {
         3 * f + 1
@@ -343,7 +343,7 @@ impl Sequenced for HotStuff {
     ) -> Result<Effects<Message>, StepError>
         requires good { IsGoodParams hotstuff p.now }
         requires input { IsGoodInput p.now i }
-        ensures { IsStep hotstuff Stands p.now self.old self.new i verdict keys.old keys.new result }
+        ensures { IsStep hotstuff Refines p.now self.old self.new i verdict keys.old keys.new result }
     {
         if keys.left() < 2 {
             return Err(StepError::Spent);
@@ -371,7 +371,7 @@ impl Sequenced for HotStuff {
         p: &Params,
         from: NodeId,
         m: &Message,
-    ) -> Result<Row<Claim>, NoMemory> {
+    ) -> Result<Seq<Claim>, NoMemory> {
         claims(alloc, p, from, m)
     }
 

@@ -9,7 +9,7 @@ ghost use Rattle.sb_hotstuff.specs.Steps.{IsAnswer, IsQuiet};
 use crate::signing::{Draft, send};
 use hs_tree::Message;
 use iss_keys::Keys;
-use iss_request::{Batch, Bytes, NoMemory, Row, Slot};
+use iss_request::{Batch, Bytes, NoMemory, Seq, Slot};
 use iss_sb::{Effects, Params};
 use std::alloc::Global;
 
@@ -18,7 +18,7 @@ use std::alloc::Global;
 pub struct Outcome {
     pub answer: Option<Draft>,
     pub proposal: Option<Draft>,
-    pub hashed: Row<Bytes>,
+    pub hashed: Seq<Bytes>,
 }
 
 impl Outcome {
@@ -29,7 +29,7 @@ impl Outcome {
         Outcome {
             answer: None,
             proposal: None,
-            hashed: Row::new(alloc),
+            hashed: Seq::new(alloc),
         }
     }
 
@@ -40,7 +40,7 @@ impl Outcome {
         Outcome {
             answer: Some(answer),
             proposal: None,
-            hashed: Row::new(alloc),
+            hashed: Seq::new(alloc),
         }
     }
 
@@ -56,10 +56,10 @@ impl Outcome {
         requires enough { 2 ≤ left_of keys.old }
         ensures { IfOk result (λ e. IsSigned p.now self accepted keys.old keys.new e) }
     {
-        let mut sends = Row::new(alloc);
+        let mut sends = Seq::new(alloc);
         send(p, self.answer, keys, &mut sends)?;
         send(p, self.proposal, keys, &mut sends)?;
-        let delivers = Row::new(alloc);
+        let delivers = Seq::new(alloc);
         Ok(Effects {
             sends,
             accepted,

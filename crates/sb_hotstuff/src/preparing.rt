@@ -6,7 +6,7 @@ ghost use Rattle.iss_base.specs.Lists.{same_bytes};
 ghost use Rattle.hs_tree.specs.Certificates.{digest_of};
 ghost use Rattle.hs_tree.specs.Tree.{is_known};
 ghost use Rattle.sb_hotstuff.specs.Rules.{State, is_allowed, is_just, is_safe, may_prepare, node_digest, round_of, slots_below};
-ghost use Rattle.sb_hotstuff.specs.Stands.{IsFor};
+ghost use Rattle.sb_hotstuff.specs.Refines.{IsFor};
 
 use crate::state::{Node, is_allowed, is_just, round_of};
 use hs_tree::Certificate;

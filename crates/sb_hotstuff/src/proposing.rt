@@ -5,7 +5,7 @@ ghost use Rattle.iss_base.specs.Lists.{nth};
 ghost use Rattle.iss_sb.specs.Calls.{IsGoodParams};
 ghost use Rattle.sb_hotstuff.specs.HotStuff.{hotstuff};
 ghost use Rattle.sb_hotstuff.specs.Rules.{State, Turn, cast_turn, first_turn, next_turn, nil_or_mark, turn, turn_after};
-ghost use Rattle.sb_hotstuff.specs.Stands.{IsFor, IsLow, is_last_ready};
+ghost use Rattle.sb_hotstuff.specs.Refines.{IsFor, IsLow, is_last_ready};
 ghost use Rattle.sb_hotstuff.specs.Steps.{Proposes};
 ghost use Rattle.sb_hotstuff.specs.Tallies.{own_of};
 

@@ -5,7 +5,7 @@ ghost use Rattle.iss_sb.specs.Calls.{IsGoodParams};
 ghost use Rattle.hs_tree.specs.declared.messages.Message.TheVariants.{NewView, Prepare, PreCommit, Commit, Vote};
 ghost use Rattle.sb_hotstuff.specs.HotStuff.{hotstuff};
 ghost use Rattle.sb_hotstuff.specs.Rules.{State, may_prepare};
-ghost use Rattle.sb_hotstuff.specs.Stands.{IsFor};
+ghost use Rattle.sb_hotstuff.specs.Refines.{IsFor};
 ghost use Rattle.sb_hotstuff.specs.Steps.{Does};
 
 use crate::outcomes::Outcome;

@@ -20,7 +20,7 @@ use hs_tree::signing::{
 use hs_tree::wire::{COMMIT, DECIDE, PRE_COMMIT, PREPARE};
 use hs_tree::{Certificate, Message};
 use iss_keys::Keys;
-use iss_request::{Bytes, NoMemory, NodeId, Row};
+use iss_request::{Bytes, NoMemory, NodeId, Seq};
 use iss_sb::{Claim, Params, To, sign};
 use raft_wire::What;
 use std::alloc::Global;
@@ -30,7 +30,7 @@ pub const TAG: u8 = 4;
 
 /// Whom a message goes to: all nodes, or who leads a round.
 #[derive(Clone, Copy, Debug)]
-pub enum Whom {
+pub enum Recipient {
     All,
     Leader(u16),
 }
@@ -38,7 +38,7 @@ pub enum Whom {
 /// A message before it is signed: to whom it goes, and what its sender is to sign.
 #[derive(Drop)]
 pub struct Draft {
-    pub to: Whom,
+    pub to: Recipient,
     pub msg: Message,
     pub statement: Bytes,
 }
@@ -54,14 +54,14 @@ pub fn leader_of(p: &Params, round: u16) -> NodeId
 }
 
 // The nodes that are meant.
-fn to_nodes(p: &Params, to: Whom) -> To
+fn to_nodes(p: &Params, to: Recipient) -> To
     requires { IsGoodParams hotstuff p.now }
     ensures to { result ≡ to_nodes p.now to }
     ensures node { IsToNode p.now.setup.n result }
 {
     match to {
-        Whom::All => To::All,
-        Whom::Leader(round) => To::One(leader_of(p, round)),
+        Recipient::All => To::All,
+        Recipient::Leader(round) => To::One(leader_of(p, round)),
     }
 }
 
@@ -81,7 +81,7 @@ pub fn vote_draft(
     let round = round_of(view);
     let sig = Bytes::new(alloc);
     Ok(Draft {
-        to: Whom::Leader(round),
+        to: Recipient::Leader(round),
         msg: Message::Vote {
             phase,
             view,
@@ -129,7 +129,7 @@ pub fn shown_draft(
     let statement = node_statement(alloc, p, TAG, shown_kind(phase), view, &digest)?;
     let msg = shown_message(alloc, phase, view, shown);
     Ok(Draft {
-        to: Whom::All,
+        to: Recipient::All,
         msg,
         statement,
     })
@@ -149,7 +149,7 @@ pub fn proposal_draft(
     let statement = node_statement(alloc, p, TAG, PREPARE, view, digest)?;
     let sig = Bytes::new(alloc);
     Ok(Draft {
-        to: Whom::All,
+        to: Recipient::All,
         msg: Message::Prepare {
             view,
             what,
@@ -172,7 +172,7 @@ pub fn round_draft(
     let statement = round_statement(alloc, p, TAG, round, high.view())?;
     let sig = Bytes::new(alloc);
     Ok(Draft {
-        to: Whom::Leader(round),
+        to: Recipient::Leader(round),
         msg: Message::NewView { round, high, sig },
         statement,
     })
@@ -235,7 +235,7 @@ pub fn send(
     p: &Params,
     draft: Option<Draft>,
     keys: &mut Keys,
-    sends: &mut Row<(To, Message)>,
+    sends: &mut Seq<(To, Message)>,
 ) -> Result<(), NoMemory>
     requires good { IsGoodParams hotstuff p.now }
     requires left { 0 < left_of keys.old }
@@ -303,7 +303,7 @@ fn signature_of(m: &Message) -> &Bytes
 }
 
 // Puts what the certificate inside a message claims behind other claims.
-fn put_inside(alloc: Global, p: &Params, m: &Message, all: &mut Row<Claim>) -> Result<(), NoMemory>
+fn put_inside(alloc: Global, p: &Params, m: &Message, all: &mut Seq<Claim>) -> Result<(), NoMemory>
     ensures { OnOk result (all.new ≡ all.old ++ certificate_claims basic p.now (inside m.now)) }
 {
     match m {
@@ -330,10 +330,10 @@ fn own_claim(alloc: Global, p: &Params, from: NodeId, m: &Message) -> Result<Cla
 }
 
 /// What a message claims that nodes signed: the votes of the certificate in it, then its sender's own signature.
-pub fn claims(alloc: Global, p: &Params, from: NodeId, m: &Message) -> Result<Row<Claim>, NoMemory>
+pub fn claims(alloc: Global, p: &Params, from: NodeId, m: &Message) -> Result<Seq<Claim>, NoMemory>
     ensures { IfOk result (λ all. all ≡ claims basic p.now from.0 m.now) }
 {
-    let mut all = Row::new(alloc);
+    let mut all = Seq::new(alloc);
     put_inside(alloc, p, m, &mut all)?;
     let own = own_claim(alloc, p, from, m)?;
     all.push(own)?;

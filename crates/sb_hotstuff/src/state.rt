@@ -6,7 +6,7 @@ ghost use Rattle.hs_tree.specs.Tree.{is_known};
 ghost use Rattle.iss_sb.specs.Calls.{IsGoodParams};
 ghost use Rattle.sb_hotstuff.specs.HotStuff.{hotstuff};
 ghost use Rattle.sb_hotstuff.specs.Rules.{State, is_allowed, is_good, is_just, is_reached, is_shown, is_slot, is_timely, keeps_news, keeps_vote, may_cast, may_second, may_third, start};
-ghost use Rattle.sb_hotstuff.specs.Stands.{IsFor};
+ghost use Rattle.sb_hotstuff.specs.Refines.{IsFor};
 
 use crate::ballots::Ballots;
 use crate::news::Words;
@@ -14,7 +14,7 @@ use crate::signing::leader_of;
 use crate::turns::Turns;
 use hs_tree::certificates::is_phase;
 use hs_tree::{Certificate, Tree};
-use iss_request::{Batch, NodeId, Row, Slot};
+use iss_request::{Batch, NodeId, Seq, Slot};
 use iss_sb::Params;
 use raft_wire::What;
 use std::alloc::Global;
@@ -35,7 +35,7 @@ pub struct Node {
     pub(crate) second: bool,
     pub(crate) third: bool,
     // a leader's casts, turns, and the votes and words that it keeps
-    pub(crate) casts: Row<Batch>,
+    pub(crate) casts: Seq<Batch>,
     pub(crate) turns: Turns,
     pub(crate) votes: Ballots,
     pub(crate) news: Words,
@@ -100,7 +100,7 @@ impl Node {
             lock: Certificate::Root,
             second: false,
             third: false,
-            casts: Row::new(alloc),
+            casts: Seq::new(alloc),
             turns: Turns::new(alloc),
             votes: Ballots::new(alloc),
             news: Words::new(alloc),

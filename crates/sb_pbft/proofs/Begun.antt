@@ -20,13 +20,13 @@ use Rattle.pbft_wire.specs.declared.messages.Message.TheVariants.{ViewChange, Ne
 use Rattle.pbft_wire.specs.Statements.{string_of}
 use Rattle.pbft_views.specs.Choice.{certificates_of}
 use Rattle.pbft_views.specs.Good.{all_good, primary}
-use Rattle.sb_pbft.specs.declared.changes.Changes.{Changes}
+use Rattle.sb_pbft.specs.declared.changes.ViewChanges.{ViewChanges}
 use Rattle.sb_pbft.specs.declared.pbft.Pbft.{Pbft}
 use Rattle.sb_pbft.specs.declared.proposals.Proposals.{Proposals}
 use Rattle.sb_pbft.specs.Makes.{Draft, DraftNewView, DraftViewChange, choice_strings, uses_all, value_strings}
 use Rattle.sb_pbft.specs.Places.{change_at, proposal_at}
 use Rattle.sb_pbft.specs.Rules.{cons_some, enters, passes, when}
-use Rattle.sb_pbft.specs.Stands.{Does, HasHashed, Renews, Sent, Settles, chosen_among, held, is_due}
+use Rattle.sb_pbft.specs.Refines.{Does, HasHashed, Renews, Sent, Settles, chosen_among, held, is_due}
 use Rattle.sb_pbft.specs.Turns.{Held, Turn, and_change, changed, changes_at, completes_at, entered, gives_up, idle, tops_of, turn}
 use Rattle.sb_pbft.proofs.Doing.{does-nothing, does-sent, does-settled, turned}
 use Rattle.sb_pbft.proofs.Settled.{grouped, sent-none}
@@ -139,7 +139,7 @@ module _ (p : Params) (m : Pbft) (x : Change) where
       ∙ ap (λ (a : Bool). changed-by me (held m) a (completes_at p me (held m) (held m) x.view)) out
       ∙ ap (λ (b : Bool). changed-by me (held m) false b) same
 
-  module _ (all : Changes) (before : ℕ) where
+  module _ (all : ViewChanges) (before : ℕ) where
     abbrev kept : Pbft
     kept = record m { changes = all }
 
@@ -267,7 +267,7 @@ skipped-does p m from v xs ys sigs ss sig k e shown signed out nothing =
 -- ---- a ViewChange that is kept
 
 -- what the code did: it hashed, kept it, and sent the NewView that is due
-pub record Kept (p : Params) (m : Pbft) (x : Change) (cs : List Certificate) (all : Changes) (before : ℕ) (k l : KeyState)
+pub record Kept (p : Params) (m : Pbft) (x : Change) (cs : List Certificate) (all : ViewChanges) (before : ℕ) (k l : KeyState)
     (none e f : Effects Message) : Type 0 where
   pub keeps : (all_good p x.view x.certificates && not (is_some (change_at m.changes x.view x.node.0))) ≡ true
   pub nothing : IsNothing none
@@ -277,7 +277,7 @@ pub record Kept (p : Params) (m : Pbft) (x : Change) (cs : List Certificate) (al
   pub kept : (v k : ℕ) → change_at all v k ≡ first_of (change_at m.changes v k) (when ((x.node.0 == k) && (v == x.view)) x)
   pub renews : Renews p (is_due p (record m { changes = all }) x.view before) (record m { changes = all }) x.view k l e f
 
-pub change-does : (p : Params) (m : Pbft) (x : Change) (cs : List Certificate) (all : Changes) (before : ℕ) (k l : KeyState) (none e f : Effects Message) →
+pub change-does : (p : Params) (m : Pbft) (x : Change) (cs : List Certificate) (all : ViewChanges) (before : ℕ) (k l : KeyState) (none e f : Effects Message) →
     Kept p m x cs all before k l none e f → Does p m (record m { changes = all }) (Receive x.node (ViewChange x.view x.certificates x.sig)) k l f
 change-does p m x cs all before k l none e f b =
     let good = (and-true (all_good p x.view x.certificates) (not (is_some (change_at m.changes x.view x.node.0))) b.keeps).0 in

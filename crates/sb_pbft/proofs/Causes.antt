@@ -3,7 +3,7 @@ use Rattle.std.proofs.Common.{◌≡◌, ◌<◌, ◌∷◌, ◌∙◌, ℕ, tru
 use Rattle.iss_request.specs.declared.ids.Slot.{Slot}
 use Rattle.iss_request.specs.declared.requests.Batch.{Batch}
 use Rattle.iss_request.specs.declared.requests.Value.{Value}
-use Rattle.iss_request.specs.declared.requests.Value.TheVariants.{Batch as Holds}
+use Rattle.iss_request.specs.declared.requests.Value.TheVariants.{Batch as Value_batch}
 use Rattle.iss_sb.specs.Calls.{IsGoodParams, has_slot}
 use Rattle.iss_sb.specs.Evidence.{IsReached, IsSigned, Item, Made, World, is_correct}
 use Rattle.iss_sb.specs.Legal.{Front, IsLegal}
@@ -60,14 +60,14 @@ module _ (p : Params) (good : IsGoodParams pbft p) (w : World Message) (reached 
         let y = draft-of (state_at p 2 v s e) b in
         one-prepare p i (w i) v (record { 0 = s }) d e (among p good w reached i _ x _ (prepare-draft v s d x)) (among p good w reached i _ y _ (prepare-draft v s e y))
 
-    commit-stands : (v s : ℕ) (d : List ℕ) → IsSigned pbft p w i (state_at p 3 v s d) → Proposed p i (inputs (w i)) v s d
-    commit-stands v s d a = let x = draft-of (state_at p 3 v s d) a in commit-proposed p i (w i) v (record { 0 = s }) d (among p good w reached i _ x _ (commit-draft v s d x))
+    commit-refines : (v s : ℕ) (d : List ℕ) → IsSigned pbft p w i (state_at p 3 v s d) → Proposed p i (inputs (w i)) v s d
+    commit-refines v s d a = let x = draft-of (state_at p 3 v s d) a in commit-proposed p i (w i) v (record { 0 = s }) d (among p good w reached i _ x _ (commit-draft v s d x))
 
     same-proposed : (v s : ℕ) (d e : List ℕ) → Proposed p i (inputs (w i)) v s d → Proposed p i (inputs (w i)) v s e → d ≡ e
-    same-proposed v s d e x y = sym x.digest ∙ ap (digest_of p) (same-some (proposal p i (inputs (w i)) v s) x.value y.value x.stands y.stands) ∙ y.digest
+    same-proposed v s d e x y = sym x.digest ∙ ap (digest_of p) (same-some (proposal p i (inputs (w i)) v s) x.value y.value x.refines y.refines) ∙ y.digest
 
     pub one-commit-signed : (v s : ℕ) (d e : List ℕ) → IsSigned pbft p w i (state_at p 3 v s d) → IsSigned pbft p w i (state_at p 3 v s e) → d ≡ e
-    one-commit-signed v s d e a b = same-proposed v s d e (commit-stands v s d a) (commit-stands v s e b)
+    one-commit-signed v s d e a b = same-proposed v s d e (commit-refines v s d a) (commit-refines v s e b)
 
     -- ---- what a NewView stands on
 
@@ -112,8 +112,8 @@ module _ (p : Params) (good : IsGoodParams pbft p) (w : World Message) (reached 
     proposal-draft : (v s : ℕ) (d : List ℕ) (b : By i (state_at p 1 v s d)) → MakesProposal p i b.leaf b.draft v s d
     proposal-draft v s d b = makes-proposal p i b.leaf b.draft v s d b.states
 
-    first-stands : (t : List ℕ) (b : By i t) (s : ℕ) (d : List ℕ) (slot : Slot) (x : Value) → SameDraft b.draft (DraftPrePrepare slot x) → slot.0 ≡ s → digest_of p x ≡ d → Proposed p i (inputs (w i)) 0 s d
-    first-stands t b s d slot x same at_slot e =
+    first-refines : (t : List ℕ) (b : By i t) (s : ℕ) (d : List ℕ) (slot : Slot) (x : Value) → SameDraft b.draft (DraftPrePrepare slot x) → slot.0 ≡ s → digest_of p x ≡ d → Proposed p i (inputs (w i)) 0 s d
+    first-refines t b s d slot x same at_slot e =
         let r = first-proposed p i (w i) slot x (among p good w reached i t b _ same) in
         subst (λ (z : ℕ). Proposed p i (inputs (w i)) 0 z d) at_slot (subst (λ (z : List ℕ). Proposed p i (inputs (w i)) 0 slot.0 z) e r)
 
@@ -124,7 +124,7 @@ module _ (p : Params) (good : IsGoodParams pbft p) (w : World Message) (reached 
         mixed t u x y ys z same = let l = new-above v ys (started i correct u y v ys same).backed_by in absurd (omega (arith, l, z))
 
         by : (x : By i (state_at p 1 v s d)) (y : By i (state_at p 1 v s e)) → MakesProposal p i x.leaf x.draft v s d → MakesProposal p i y.leaf y.draft v s e → d ≡ e
-        by x y (at_first t c q z n k) (at_first u g r o m l) = same-proposed i correct 0 s d e (first-stands _ x s d t c q n k) (first-stands _ y s e u g r m l)
+        by x y (at_first t c q z n k) (at_first u g r o m l) = same-proposed i correct 0 s d e (first-refines _ x s d t c q n k) (first-refines _ y s e u g r m l)
         by x y (at_first t c q z n k) (at_new ys u r o m l) = absurd (mixed _ _ x y ys z r)
         by x y (at_new zs t q o n k) (at_first u g r z m l) = absurd (mixed _ _ y x zs z q)
         by x y (at_new zs t q o n k) (at_new ys u r j m l) =
@@ -136,7 +136,7 @@ module _ (p : Params) (good : IsGoodParams pbft p) (w : World Message) (reached 
 
     -- ---- why
 
-    accepts-of : (t : List ℕ) (b : By i t) (slot : Slot) (batch : Batch) (d : List ℕ) → Asked p i (inputs b.before) b.item.input (slot, batch) → digest_of p (Holds batch) ≡ d → Accepts p w i slot.0 d
+    accepts-of : (t : List ℕ) (b : By i t) (slot : Slot) (batch : Batch) (d : List ℕ) → Asked p i (inputs b.before) b.item.input (slot, batch) → digest_of p (Value_batch batch) ≡ d → Accepts p w i slot.0 d
     accepts-of t b slot batch d asks e = record {
       batch = batch;
       digest = e;
@@ -203,10 +203,10 @@ module _ (p : Params) (good : IsGoodParams pbft p) (w : World Message) (reached 
         let y = draft-of i correct (state_change p u cs) b in
         let m = makes-change p i y.leaf y.draft u cs y.states in
         let c = covers p i (w i) v (record { 0 = s }) d u m.certificates (among p good w reached i _ x _ (commit-draft i correct v s d x)) (among p good w reached i _ y _ m.is) l in
-        let k = m.each c.certificate c.stands in
+        let k = m.each c.certificate c.refines in
         let h = c.high in
         let e = k.view in
-        record { certificate = k.other; stands = k.stands; slot = k.slot ∙ c.slot; high = omega (arith, h, e) }
+        record { certificate = k.other; refines = k.refines; slot = k.slot ∙ c.slot; high = omega (arith, h, e) }
 
   pub node-facts : NodeFacts p w
   node-facts = record {

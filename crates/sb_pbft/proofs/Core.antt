@@ -10,7 +10,7 @@ use Rattle.iss_base.proofs.Quorum.{count-distinct}
 use Rattle.iss_request.specs.declared.ids.Slot.{Slot}
 use Rattle.iss_request.specs.declared.requests.Batch.{Batch}
 use Rattle.iss_request.specs.declared.requests.Value.{Value}
-use Rattle.iss_request.specs.declared.requests.Value.TheVariants.{Batch as Holds}
+use Rattle.iss_request.specs.declared.requests.Value.TheVariants.{Batch as Value_batch}
 use Rattle.iss_sb.specs.Calls.{IsGoodParams}
 use Rattle.iss_sb.specs.Evidence.{IsSigned, IsString, Separate, World, accepts, is_correct}
 use Rattle.iss_sb.specs.Laws.{SharedAcceptor}
@@ -61,8 +61,8 @@ module _ (p : Params) (w : World Message) where
   -- why a node voted: in view 0 it accepted the batch, above it is the choice
   pub record Accepts (j s : ℕ) (d : List ℕ) : Type 0 where
     pub batch : Batch
-    pub digest : digest_of p (Holds batch) ≡ d
-    pub known : IsKnown p w (Holds batch)
+    pub digest : digest_of p (Value_batch batch) ≡ d
+    pub known : IsKnown p w (Value_batch batch)
     pub accepted : Accepted j s batch
 
   pub record Chooses (v s : ℕ) (d : List ℕ) : Type 0 where
@@ -162,7 +162,7 @@ module _ (p : Params) (w : World Message) where
           let t = b.each x.0 x.1 (subst (λ (z : ℕ). is_correct p.setup z ≡ true) (sym x.2) m.correct) in
           let t' = subst (λ (z : ℕ). Signed z (state_change p v x.0.certificates)) x.2 t in
           let g = facts.covers m.node u s d v x.0.certificates m.correct (k.each m.node m.second m.correct) t' l in
-          let r = best-max s (certificates_of xs) g.certificate (in-certificates g.certificate x.0 xs x.1 g.stands) g.slot in
+          let r = best-max s (certificates_of xs) g.certificate (in-certificates g.certificate x.0 xs x.1 g.refines) g.slot in
           let hi = g.high in
           let e = r.2 in
           (r.0, r.1, omega (arith, hi, e))
@@ -201,15 +201,15 @@ module _ (p : Params) (w : World Message) where
         pub one-known : (x y : Value) → IsKnown p w x → IsKnown p w y → digest_of p x ≡ digest_of p y → x ≡ y
         one-known x y h k e = one-value p x y h.spelled k.spelled (sep (string_of p x) (string_of p y) h.hashed k.hashed e)
 
-        holds-same : (b c : Batch) → Holds b ≡ Holds c → b ≡ c
+        holds-same : (b c : Batch) → Value_batch b ≡ Value_batch c → b ≡ c
         holds-same b c h = cc
 
-        accepts-it : (j s : ℕ) (b : Batch) → IsKnown p w (Holds b) → Accepts j s (digest_of p (Holds b)) → Accepted j s b
+        accepts-it : (j s : ℕ) (b : Batch) → IsKnown p w (Value_batch b) → Accepts j s (digest_of p (Value_batch b)) → Accepted j s b
         accepts-it j s b i a =
-            let same = one-known (Holds a.batch) (Holds b) a.known i a.digest in
+            let same = one-known (Value_batch a.batch) (Value_batch b) a.known i a.digest in
             subst (λ (z : Batch). Accepted j s z) (holds-same a.batch b same) a.accepted
 
-        ground-floor : (s : ℕ) (b : Batch) → Certified 0 s (Holds b) → IsRooted p w s b
+        ground-floor : (s : ℕ) (b : Batch) → Certified 0 s (Value_batch b) → IsRooted p w s b
         ground-floor s b c =
             let n = c.count in
             let zero-is = primary-zero p (p.leader.0) good.leader in
@@ -219,7 +219,7 @@ module _ (p : Params) (w : World Message) where
                 count = omega (arith, n);
                 apart = c.apart;
                 below = voters-below 0 c.makers c.below;
-                each = λ j m h. elim (why 0 s j (digest_of p (Holds b)) h (voted 0 s j (Holds b) c m h)) [
+                each = λ j m h. elim (why 0 s j (digest_of p (Value_batch b)) h (voted 0 s j (Value_batch b) c m h)) [
                   | inl a ↦ accepts-it j s b c.known a.1
                   | inr a ↦ let z = a.0 in absurd (omega (arith, z))
                 ];
@@ -227,24 +227,24 @@ module _ (p : Params) (w : World Message) where
               led = or_left (p.leader.0 == primary p 0) (mem p.leader.0 c.makers) (eq-eqb p.leader.0 (primary p 0) (sym zero-is));
             }
 
-        best-value : (o : Option Certificate) (b : Batch) → value_or_nil o ≡ Holds b → (e : Certificate) × Is o e × (e.value ≡ Holds b)
+        best-value : (o : Option Certificate) (b : Batch) → value_or_nil o ≡ Value_batch b → (e : Certificate) × Is o e × (e.value ≡ Value_batch b)
         best-value None b h = absurd (cc)
         best-value (Some e) b h = (e, refl, h)
 
-        down : (n v s : ℕ) (b : Batch) → v < n → Certified v s (Holds b) → IsRooted p w s b
+        down : (n v s : ℕ) (b : Batch) → v < n → Certified v s (Value_batch b) → IsRooted p w s b
         down zero v s b l c = absurd (omega (arith, l))
         down (suc n) v s b l c = elim (cases_eq v 0) [
-          | inl e ↦ ground-floor s b (subst (λ (z : ℕ). Certified z s (Holds b)) e c)
+          | inl e ↦ ground-floor s b (subst (λ (z : ℕ). Certified z s (Value_batch b)) e c)
           | inr ne ↦
-              let k = backing v s (Holds b) (omega (arith, ne)) c in
-              let same = one-known (choice k.changes s) (Holds b) k.known c.known k.digest in
+              let k = backing v s (Value_batch b) (omega (arith, ne)) c in
+              let same = one-known (choice k.changes s) (Value_batch b) k.known c.known k.digest in
               let o = best-value (best s (certificates_of k.changes)) b same in
               let g = lower v s k.changes o.0 k.backed o.1 in
               let i = g.0 in
               down n o.0.view s b (omega (arith, i, l)) (subst (λ (z : Value). Certified o.0.view s z) o.2 g.1)
         ]
 
-        pub rooted : (v s : ℕ) (b : Batch) → Certified v s (Holds b) → IsRooted p w s b
+        pub rooted : (v s : ℕ) (b : Batch) → Certified v s (Value_batch b) → IsRooted p w s b
         rooted v s b c = down (suc v) v s b (omega arith) c
 
         -- what deliveries show

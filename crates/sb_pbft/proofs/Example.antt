@@ -8,7 +8,7 @@ use Rattle.iss_request.specs.declared.ids.NodeId.{NodeId}
 use Rattle.iss_request.specs.declared.ids.Slot.{Slot}
 use Rattle.iss_request.specs.declared.requests.Batch.{Batch}
 use Rattle.iss_request.specs.declared.requests.Value.{Value}
-use Rattle.iss_request.specs.declared.requests.Value.TheVariants.{Nil, Batch as Holds}
+use Rattle.iss_request.specs.declared.requests.Value.TheVariants.{Nil, Batch as Value_batch}
 use Rattle.iss_request.specs.declared.setups.Kind.TheVariants.{Byzantine}
 use Rattle.iss_request.specs.declared.setups.Policy.TheVariants.{Simple}
 use Rattle.iss_request.specs.declared.setups.Setup.{Setup}
@@ -64,7 +64,7 @@ abbrev pub b : Batch
 b = []
 
 abbrev pub d : List ℕ
-d = digest_of p (Holds b)
+d = digest_of p (Value_batch b)
 
 abbrev pub nil : List ℕ
 nil = digest_of p Nil
@@ -89,9 +89,9 @@ from k msg = Receive (node k) msg
 -- ---- the normal case. The leader casts the batch at slot 0, with leaf 5 as its next
 
 abbrev pub proposal : Message
-proposal = PrePrepare 0 (slot 0) (Holds b) (sig 0 5 1 0 0 d)
+proposal = PrePrepare 0 (slot 0) (Value_batch b) (sig 0 5 1 0 0 d)
 
-casts : makes p 0 [] (Cast (slot 0) b) 5 ≡ record { sends = (To_all, proposal) ∷ []; accepted = Some (slot 0, b); strings = string_of p (Holds b) ∷ []; used = 1 }
+casts : makes p 0 [] (Cast (slot 0) b) 5 ≡ record { sends = (To_all, proposal) ∷ []; accepted = Some (slot 0, b); strings = string_of p (Value_batch b) ∷ []; used = 1 }
 casts = refl
 
 casts_once : makes p 0 (next 0 5 (Cast (slot 0) b) []) (Cast (slot 0) b) 6 ≡ said [] [] 0
@@ -105,13 +105,13 @@ casts_its_own = refl
 abbrev pub prepare : ℕ → ℕ → Message
 prepare k leaf = Prepare 0 (slot 0) d (sig k leaf 2 0 0 d)
 
-prepares : makes p 1 [] (from 0 proposal) 9 ≡ record { sends = (To_all, prepare 1 9) ∷ []; accepted = Some (slot 0, b); strings = string_of p (Holds b) ∷ []; used = 1 }
+prepares : makes p 1 [] (from 0 proposal) 9 ≡ record { sends = (To_all, prepare 1 9) ∷ []; accepted = Some (slot 0, b); strings = string_of p (Value_batch b) ∷ []; used = 1 }
 prepares = refl
 
 not_of_another : asks p 1 [] (from 2 proposal) ≡ None
 not_of_another = refl
 
-not_in_another_view : asks p 1 [] (from 0 (PrePrepare 1 (slot 0) (Holds b) [])) ≡ None
+not_in_another_view : asks p 1 [] (from 0 (PrePrepare 1 (slot 0) (Value_batch b) [])) ≡ None
 not_in_another_view = refl
 
 not_nil : asks p 1 [] (from 0 (PrePrepare 0 (slot 0) Nil [])) ≡ None
@@ -135,7 +135,7 @@ abbrev pub certificate : Certificate
 certificate = record {
   slot = slot 0;
   view = 0;
-  value = Holds b;
+  value = Value_batch b;
   sig = sig 0 5 1 0 0 d;
   prepares = record { node = node 1; sig = sig 1 9 2 0 0 d } ∷ record { node = node 3; sig = sig 3 7 2 0 0 d } ∷ [];
 }
@@ -155,7 +155,7 @@ two : delivered pbft p 1 (and_commit 1 (and_commit 0 (and_commit 0 prepared))) 0
 unfolding sha256 digest_bytes hash_after compress rounds schedule first_words spell_batch spell_count spell_value
 two = refl
 
-three : delivered pbft p 1 (and_commit 3 (and_commit 1 (and_commit 0 (and_commit 0 prepared)))) 0 ≡ Some (Holds b)
+three : delivered pbft p 1 (and_commit 3 (and_commit 1 (and_commit 0 (and_commit 0 prepared)))) 0 ≡ Some (Value_batch b)
 unfolding sha256 digest_bytes hash_after compress rounds schedule first_words spell_batch spell_count spell_value
 three = refl
 
@@ -181,13 +181,13 @@ changes = change 1 11 1 (certificate ∷ []) ∷ change 2 3 1 [] ∷ change 3 4 
 abbrev pub renewal : Message
 renewal = NewView 1 changes (sig 1 12 1 1 0 d ∷ sig 1 13 1 1 4 nil ∷ []) (signature p 1 14 (state_new p 1))
 
-renews : makes p 1 waiting (from 3 (give_up 3 4 1 [])) 12 ≡ said (renewal ∷ []) (string_of p (Holds b) ∷ string_of p Nil ∷ []) 3
+renews : makes p 1 waiting (from 3 (give_up 3 4 1 [])) 12 ≡ said (renewal ∷ []) (string_of p (Value_batch b) ∷ string_of p Nil ∷ []) 3
 unfolding sha256 digest_bytes hash_after compress rounds schedule first_words spell_batch spell_count spell_value
 renews = refl
 
 -- node 2, which took nothing, takes it: Prepares for the batch and for nil
 abbrev pub strings_of_it : List (List ℕ)
-strings_of_it = string_of p (Holds b) ∷ string_of p (Holds b) ∷ string_of p Nil ∷ []
+strings_of_it = string_of p (Value_batch b) ∷ string_of p (Value_batch b) ∷ string_of p Nil ∷ []
 
 enters : makes p 2 [] (from 1 renewal) 5 ≡ said (Prepare 1 (slot 0) d (sig 2 5 2 1 0 d) ∷ Prepare 1 (slot 4) nil (sig 2 6 2 1 4 nil) ∷ []) strings_of_it 2
 unfolding sha256 digest_bytes hash_after compress rounds schedule first_words spell_batch spell_count spell_value
@@ -212,14 +212,14 @@ abbrev pub entered : List (Item Message)
 entered = next 2 5 (from 1 renewal) early
 
 -- its certificate of view 1 has the signature that stood in the NewView
-keeps_again : kept p 2 entered ≡ record { slot = slot 0; view = 1; value = Holds b; sig = sig 1 12 1 1 0 d; prepares = record { node = node 0; sig = sig 0 6 2 1 0 d } ∷ record { node = node 3; sig = sig 3 5 2 1 0 d } ∷ [] } ∷ []
+keeps_again : kept p 2 entered ≡ record { slot = slot 0; view = 1; value = Value_batch b; sig = sig 1 12 1 1 0 d; prepares = record { node = node 0; sig = sig 0 6 2 1 0 d } ∷ record { node = node 3; sig = sig 3 5 2 1 0 d } ∷ [] } ∷ []
 unfolding sha256 digest_bytes hash_after compress rounds schedule first_words spell_batch spell_count spell_value
 keeps_again = refl
 
 abbrev pub commit_again : ℕ → List (Item Message) → List (Item Message)
 commit_again k xs = next 2 8 (from k (Commit 1 (slot 0) d (sig k 9 3 1 0 d))) xs
 
-delivers : delivered pbft p 2 (commit_again 3 (commit_again 1 (commit_again 0 entered))) 0 ≡ Some (Holds b)
+delivers : delivered pbft p 2 (commit_again 3 (commit_again 1 (commit_again 0 entered))) 0 ≡ Some (Value_batch b)
 unfolding sha256 digest_bytes hash_after compress rounds schedule first_words spell_batch spell_count spell_value
 delivers = refl
 
@@ -240,18 +240,18 @@ abbrev pub of_view : ℕ → Value → List Vote → Certificate
 of_view v x voters = record { slot = slot 0; view = v; value = x; sig = []; prepares = voters }
 
 abbrev pub both_views : List (Item Message)
-both_views = next 2 1 (from 1 (give_up 1 3 2 (of_view 0 (Holds b) (votes 1 3) ∷ []))) (next 2 1 (from 0 (give_up 0 2 2 [])) [])
+both_views = next 2 1 (from 1 (give_up 1 3 2 (of_view 0 (Value_batch b) (votes 1 3) ∷ []))) (next 2 1 (from 0 (give_up 0 2 2 [])) [])
 
 higher_view : makes p 2 both_views (from 3 (give_up 3 4 2 (of_view 1 Nil (votes 0 2) ∷ []))) 1 ≡ said (
-    NewView 2 (change 0 2 2 [] ∷ change 1 3 2 (of_view 0 (Holds b) (votes 1 3) ∷ []) ∷ change 3 4 2 (of_view 1 Nil (votes 0 2) ∷ []) ∷ []) (sig 2 1 1 2 0 nil ∷ sig 2 2 1 2 4 nil ∷ []) (signature p 2 3 (state_new p 2)) ∷ [])
+    NewView 2 (change 0 2 2 [] ∷ change 1 3 2 (of_view 0 (Value_batch b) (votes 1 3) ∷ []) ∷ change 3 4 2 (of_view 1 Nil (votes 0 2) ∷ []) ∷ []) (sig 2 1 1 2 0 nil ∷ sig 2 2 1 2 4 nil ∷ []) (signature p 2 3 (state_new p 2)) ∷ [])
     (string_of p Nil ∷ string_of p Nil ∷ string_of p Nil ∷ []) 3
 higher_view = refl
 
-least_node : choice (change 0 2 2 (of_view 1 (Holds b) (votes 0 2) ∷ []) ∷ change 1 3 2 (of_view 1 Nil (votes 0 2) ∷ []) ∷ []) 0 ≡ Holds b
+least_node : choice (change 0 2 2 (of_view 1 (Value_batch b) (votes 0 2) ∷ []) ∷ change 1 3 2 (of_view 1 Nil (votes 0 2) ∷ []) ∷ []) 0 ≡ Value_batch b
 least_node = refl
 
 -- a certificate of the primary's Prepare, of one node twice, and in view 0 with nil, is not good; one that is not good is not kept
-not_good : (is_good p (of_view 0 (Holds b) (votes 0 1)) ≡ false) × (is_good p (of_view 0 (Holds b) (votes 1 1)) ≡ false) × (is_good p (of_view 0 Nil (votes 1 3)) ≡ false)
+not_good : (is_good p (of_view 0 (Value_batch b) (votes 0 1)) ≡ false) × (is_good p (of_view 0 (Value_batch b) (votes 1 1)) ≡ false) × (is_good p (of_view 0 Nil (votes 1 3)) ≡ false)
 not_good = (refl, refl, refl)
 
 not_kept : makes p 2 both_views (from 3 (give_up 3 4 2 (of_view 1 Nil (votes 1 2) ∷ []))) 1 ≡ said [] [] 0
@@ -263,9 +263,9 @@ abbrev pub alone : Params
 alone = record p { setup = record setup { f = 0; n = 1; quorum = 1; faulty = [] } }
 
 at_once : makes alone 0 [] (Cast (slot 4) b) 5 ≡ record {
-  sends = (To_all, PrePrepare 0 (slot 4) (Holds b) (sig 0 5 1 0 4 d)) ∷ (To_all, Commit 0 (slot 4) d (sig 0 6 3 0 4 d)) ∷ [];
+  sends = (To_all, PrePrepare 0 (slot 4) (Value_batch b) (sig 0 5 1 0 4 d)) ∷ (To_all, Commit 0 (slot 4) d (sig 0 6 3 0 4 d)) ∷ [];
   accepted = Some (slot 4, b);
-  strings = string_of p (Holds b) ∷ [];
+  strings = string_of p (Value_batch b) ∷ [];
   used = 2;
 }
 at_once = refl
@@ -274,10 +274,10 @@ abbrev pub one_cast : List (Item Message)
 one_cast = and_then pbft alone 0 [] (Cast (slot 4) b) 5
 
 -- the certificate has the signature of its own PrePrepare
-keeps_own : kept alone 0 one_cast ≡ record { slot = slot 4; view = 0; value = Holds b; sig = sig 0 5 1 0 4 d; prepares = [] } ∷ []
+keeps_own : kept alone 0 one_cast ≡ record { slot = slot 4; view = 0; value = Value_batch b; sig = sig 0 5 1 0 4 d; prepares = [] } ∷ []
 keeps_own = refl
 
-its_own : delivered pbft alone 0 (and_then pbft alone 0 one_cast (from 0 (Commit 0 (slot 4) d (sig 0 6 3 0 4 d))) 7) 4 ≡ Some (Holds b)
+its_own : delivered pbft alone 0 (and_then pbft alone 0 one_cast (from 0 (Commit 0 (slot 4) d (sig 0 6 3 0 4 d))) 7) 4 ≡ Some (Value_batch b)
 unfolding sha256 digest_bytes hash_after compress rounds schedule first_words spell_batch spell_count spell_value
 its_own = refl
 
@@ -292,8 +292,8 @@ unfolding wide_bytes
 new_bytes = refl
 
 -- claims stand in the order of the bytes: those of the certificates, the ViewChange's own, the PrePrepares', the message's
-its_claims : claims p 2 (NewView 2 (change 1 3 2 (of_view 0 (Holds b) (votes 1 3) ∷ []) ∷ []) ((1 ∷ []) ∷ (2 ∷ []) ∷ (3 ∷ []) ∷ []) (4 ∷ [])) ≡
+its_claims : claims p 2 (NewView 2 (change 1 3 2 (of_view 0 (Value_batch b) (votes 1 3) ∷ []) ∷ []) ((1 ∷ []) ∷ (2 ∷ []) ∷ (3 ∷ []) ∷ []) (4 ∷ [])) ≡
     claim 0 (state_at p 1 0 0 d) [] ∷ claim 1 (state_at p 2 0 0 d) [] ∷ claim 3 (state_at p 2 0 0 d) [] ∷
-    claim 1 (state_change p 2 (of_view 0 (Holds b) (votes 1 3) ∷ [])) (signature p 1 3 (state_change p 2 (of_view 0 (Holds b) (votes 1 3) ∷ []))) ∷
+    claim 1 (state_change p 2 (of_view 0 (Value_batch b) (votes 1 3) ∷ [])) (signature p 1 3 (state_change p 2 (of_view 0 (Value_batch b) (votes 1 3) ∷ []))) ∷
     claim 2 (state_at p 1 2 0 d) (1 ∷ []) ∷ claim 2 (state_at p 1 2 4 nil) (2 ∷ []) ∷ claim 2 (state_new p 2) (4 ∷ []) ∷ []
 its_claims = refl

@@ -9,7 +9,7 @@ use Rattle.iss_request.specs.Formats.{is_signature, spell_value}
 use Rattle.iss_request.specs.declared.ids.Slot.{Slot}
 use Rattle.iss_request.specs.declared.requests.Batch.{Batch}
 use Rattle.iss_request.specs.declared.requests.Value.{Value}
-use Rattle.iss_request.specs.declared.requests.Value.TheVariants.{Batch as Holds}
+use Rattle.iss_request.specs.declared.requests.Value.TheVariants.{Batch as Value_batch}
 use Rattle.iss_sb.specs.Calls.{IsGoodParams, has_slot}
 use Rattle.iss_sb.specs.Evidence.{IsReadBatch, Item}
 use Rattle.iss_sb.specs.Laws.{AreHeard, IsHeard}
@@ -34,7 +34,7 @@ use Rattle.sb_pbft.proofs.Asked.{asked-is}
 use Rattle.sb_pbft.proofs.Views.{Offers, Said, chosen-is, entered, offer-is, offered-is}
 
 abbrev pub FitsInput : Params → Said → Type 0
-FitsInput p (Cast s b) = fits_value p.setup.version (Holds b) ≡ true
+FitsInput p (Cast s b) = fits_value p.setup.version (Value_batch b) ≡ true
 FitsInput p (Receive from msg) = fits p.setup.version msg ≡ true
 FitsInput p Timeout = Unit {0}
 
@@ -42,8 +42,8 @@ abbrev pub AreFit : Params → List Said → Type 0
 AreFit p [] = Unit {0}
 AreFit p (i ∷ l) = FitsInput p i × AreFit p l
 
-pub batch-fits : (p : Params) (b : Batch) → IsReadBatch p b → fits_value p.setup.version (Holds b) ≡ true
-batch-fits p b h = (value-parts p.setup.version (spell_value p.setup.version (Holds b) ++ []) [] (Holds b) (h [])).fits
+pub batch-fits : (p : Params) (b : Batch) → IsReadBatch p b → fits_value p.setup.version (Value_batch b) ≡ true
+batch-fits p b h = (value-parts p.setup.version (spell_value p.setup.version (Value_batch b) ++ []) [] (Value_batch b) (h [])).fits
 
 pub heard-fits : (p : Params) (i : Said) → IsHeard pbft p i → FitsInput p i
 heard-fits p (Cast s b) h = batch-fits p b h
@@ -126,15 +126,15 @@ choice-fits version s xs h = go (best s (certificates_of xs)) refl
 -- ---- what is proposed
 
 module _ (p : Params) (me : ℕ) where
-  offered-fits : (m : Mode) (i : Said) (a : Slot × Batch) → FitsInput p i → Offers p me m i a → fits_value p.setup.version (Holds a.1) ≡ true
+  offered-fits : (m : Mode) (i : Said) (a : Slot × Batch) → FitsInput p i → Offers p me m i a → fits_value p.setup.version (Value_batch a.1) ≡ true
   offered-fits m i a f o = elim o.cause [
     | inl mine ↦ subst (λ (z : Said). FitsInput p z) mine.input f
     | inr told ↦
-        let g : FitsInput p (Receive p.leader (PrePrepare 0 a.0 (Holds a.1) told.sig)) = subst (λ (z : Said). FitsInput p z) told.input f in
-        (and-true (fits_value p.setup.version (Holds a.1)) (is_signature told.sig) (and-true (fits_slot a.0.0) _ (and-true (fits_view 0) _ g).1).1).0
+        let g : FitsInput p (Receive p.leader (PrePrepare 0 a.0 (Value_batch a.1) told.sig)) = subst (λ (z : Said). FitsInput p z) told.input f in
+        (and-true (fits_value p.setup.version (Value_batch a.1)) (is_signature told.sig) (and-true (fits_slot a.0.0) _ (and-true (fits_view 0) _ g).1).1).0
   ]
 
-  pub asked-fits : (l : List Said) (i : Said) (a : Slot × Batch) → FitsInput p i → ◌≡◌ {A = Option (Slot × Batch)} (asked p me l i) (Some a) → fits_value p.setup.version (Holds a.1) ≡ true
+  pub asked-fits : (l : List Said) (i : Said) (a : Slot × Batch) → FitsInput p i → ◌≡◌ {A = Option (Slot × Batch)} (asked p me l i) (Some a) → fits_value p.setup.version (Value_batch a.1) ≡ true
   asked-fits l i a f h = offered-fits (mode p l) i a f (offer-is p me (mode p l) i a (asked-is p me l i a h).offered)
 
   pub proposal-fits : (l : List Said) (v s : ℕ) (x : Value) → AreFit p l → proposal p me l v s ≡ Some x → fits_value p.setup.version x ≡ true
@@ -201,19 +201,19 @@ module _ (p : Params) (good : IsGoodParams pbft p) (me : ℕ) where
   first-shape : (m : Mode) (i : Said) (leaf : ℕ) (a : Slot × Batch) → FitsInput p i → Offers p me m i a → is_signature (first_sig p me leaf a i) ≡ true
   first-shape m i leaf a f o = elim o.cause [
     | inl mine ↦
-        subst (λ (z : Said). is_signature (first_sig p me leaf a z) ≡ true) (sym mine.input) (signature-shape pbft p good me leaf (state_at p 1 0 a.0.0 (digest_of p (Holds a.1))))
+        subst (λ (z : Said). is_signature (first_sig p me leaf a z) ≡ true) (sym mine.input) (signature-shape pbft p good me leaf (state_at p 1 0 a.0.0 (digest_of p (Value_batch a.1))))
     | inr told ↦
-        let g : FitsInput p (Receive p.leader (PrePrepare 0 a.0 (Holds a.1) told.sig)) = subst (λ (z : Said). FitsInput p z) told.input f in
-        let shape = (and-true (fits_value p.setup.version (Holds a.1)) (is_signature told.sig) (and-true (fits_slot a.0.0) _ (and-true (fits_view 0) _ g).1).1).1 in
+        let g : FitsInput p (Receive p.leader (PrePrepare 0 a.0 (Value_batch a.1) told.sig)) = subst (λ (z : Said). FitsInput p z) told.input f in
+        let shape = (and-true (fits_value p.setup.version (Value_batch a.1)) (is_signature told.sig) (and-true (fits_slot a.0.0) _ (and-true (fits_view 0) _ g).1).1).1 in
         subst (λ (z : Said). is_signature (first_sig p me leaf a z) ≡ true) (sym told.input) shape
   ]
 
   paired-offered : (m : Mode) (x : Item Message) (v s : ℕ) → FitsInput p x.input → Paired (offered (offer p me m x.input) v s) (offered_sig p me (offer p me m x.input) v s x)
   paired-offered m x v s f = go (offer p me m x.input) refl
     where
-      inner : (a : Slot × Batch) → Offers p me m x.input a → (b : Bool) → Paired (when b (Holds a.1)) (when b (first_sig p me x.leaf a x.input))
+      inner : (a : Slot × Batch) → Offers p me m x.input a → (b : Bool) → Paired (when b (Value_batch a.1)) (when b (first_sig p me x.leaf a x.input))
       inner a o false = neither_one refl refl
-      inner a o true = both_are (Holds a.1) (first_sig p me x.leaf a x.input) refl refl (first-shape m x.input x.leaf a f o)
+      inner a o true = both_are (Value_batch a.1) (first_sig p me x.leaf a x.input) refl refl (first-shape m x.input x.leaf a f o)
 
       go : (o : Option (Slot × Batch)) → ◌≡◌ {A = Option (Slot × Batch)} (offer p me m x.input) o → Paired (offered o v s) (offered_sig p me o v s x)
       go None q = neither_one refl refl

@@ -4,7 +4,7 @@ use Rattle.iss_base.specs.Lists.{In}
 use Rattle.iss_base.proofs.Lists.{in_append, in_left, in_right}
 use Rattle.iss_request.specs.declared.ids.Slot.{Slot}
 use Rattle.iss_request.specs.declared.requests.Value.{Value}
-use Rattle.iss_request.specs.declared.requests.Value.TheVariants.{Batch as Holds}
+use Rattle.iss_request.specs.declared.requests.Value.TheVariants.{Batch as Value_batch}
 use Rattle.iss_sb.specs.Evidence.{Item}
 use Rattle.iss_sb.specs.declared.effects.Input.TheVariants.{Timeout}
 use Rattle.iss_sb.specs.declared.effects.Params.{Params}
@@ -40,7 +40,7 @@ certified-in p me xs old (t ∷ ts) s x (inr h) e = certify-more p me xs t (read
 
 pub record IsKept (p : Params) (me : ℕ) (xs : List (Item Message)) (v : ℕ) (s : Slot) (d : List ℕ) : Type 0 where
   pub certificate : Certificate
-  pub stands : In certificate (kept p me xs)
+  pub refines : In certificate (kept p me xs)
   pub view : certificate.view ≡ v
   pub slot : certificate.slot ≡ s
   pub within : In s p.slots
@@ -75,8 +75,8 @@ pub record Commits (p : Params) (me : ℕ) (xs : List (Item Message)) (i : Said)
   pub digest : d ≡ digest_of p value
 
 pub commit-rule : (p : Params) (me : ℕ) (xs : List (Item Message)) (i : Said) (v : ℕ) (s : Slot) (d : List ℕ) → Rule p me xs i (DraftCommit v s d) → Commits p me xs i v s d
-commit-rule p me xs i v s d (by_cast a q b e) = absurd (no-pre v s a.0 d (Holds a.1) e)
-commit-rule p me xs i v s d (by_proposal a q b e) = absurd (no-prepare v 0 s a.0 d (digest_of p (Holds a.1)) e)
+commit-rule p me xs i v s d (by_cast a q b e) = absurd (no-pre v s a.0 d (Value_batch a.1) e)
+commit-rule p me xs i v s d (by_proposal a q b e) = absurd (no-prepare v 0 s a.0 d (digest_of p (Value_batch a.1)) e)
 commit-rule p me xs i v s d (by_votes t x w q e) =
     let r = same-commit v (mode p (i ∷ inputs xs)).view s t d (digest_of p x) e in
     record {
@@ -98,7 +98,7 @@ commit-kept p me (x ∷ xs) v s d h = elim (in_append (DraftCommit v s d) (draft
       let c : Certificate = certificate p me (x ∷ xs) (mode p (inputs (x ∷ xs))).view s r.value in
       record {
         certificate = c;
-        stands = in_left c (certified p me (x ∷ xs) (kept p me xs) p.slots) (kept p me xs) (certified-in p me (x ∷ xs) (kept p me xs) p.slots s r.value r.within r.ready);
+        refines = in_left c (certified p me (x ∷ xs) (kept p me xs) p.slots) (kept p me xs) (certified-in p me (x ∷ xs) (kept p me xs) p.slots s r.value r.within r.ready);
         view = sym r.view;
         slot = refl;
         within = r.within;
@@ -106,14 +106,14 @@ commit-kept p me (x ∷ xs) v s d h = elim (in_append (DraftCommit v s d) (draft
       }
   | inr k ↦
       let r = commit-kept p me xs v s d k in
-      record { certificate = r.certificate; stands = in_right r.certificate (certified p me (x ∷ xs) (kept p me xs) p.slots) (kept p me xs) r.stands; view = r.view; slot = r.slot; within = r.within; digest = r.digest }
+      record { certificate = r.certificate; refines = in_right r.certificate (certified p me (x ∷ xs) (kept p me xs) p.slots) (kept p me xs) r.refines; view = r.view; slot = r.slot; within = r.within; digest = r.digest }
 ]
 
 -- ---- the certificates of the highest views
 
 pub record Covered (s : Slot) (v : ℕ) (cs : List Certificate) : Type 0 where
   pub certificate : Certificate
-  pub stands : In certificate cs
+  pub refines : In certificate cs
   pub slot : certificate.slot.0 ≡ s.0
   pub high : v ≤ certificate.view
 
@@ -131,10 +131,10 @@ tops-cover cs (t ∷ ts) s c i e (inl q) =
     let at : c.slot.0 ≡ t.0 = ap (λ (z : Slot). z.0) (e ∙ q) in
     let b = best-max t.0 cs c i at in
     let n = best-in t.0 cs b.0 b.1 in
-    record { certificate = b.0; stands = cons-here (best t.0 cs) b.0 (tops cs ts) b.1; slot = n.1 ∙ sym (ap (λ (z : Slot). z.0) q); high = b.2 }
+    record { certificate = b.0; refines = cons-here (best t.0 cs) b.0 (tops cs ts) b.1; slot = n.1 ∙ sym (ap (λ (z : Slot). z.0) q); high = b.2 }
 tops-cover cs (t ∷ ts) s c i e (inr h) =
     let r = tops-cover cs ts s c i e h in
-    record { certificate = r.certificate; stands = cons-more (best t.0 cs) r.certificate (tops cs ts) r.stands; slot = r.slot; high = r.high }
+    record { certificate = r.certificate; refines = cons-more (best t.0 cs) r.certificate (tops cs ts) r.refines; slot = r.slot; high = r.high }
 
 -- ---- a ViewChange
 
@@ -161,8 +161,8 @@ passed-mode : (p : Params) (m : Mode) (i : Said) → SameInput i Timeout → pas
 passed-mode p m i e h = subst (λ (z : Said). (mode_after p m z).view ≡ m.view + 1) (sym e) (ap (λ (b : Bool). (cond b (let u : Mode = record { view = m.view + 1; active = false } in u) m).view) h)
 
 pub change-rule : (p : Params) (me : ℕ) (xs : List (Item Message)) (i : Said) (w : ℕ) (cs : List Certificate) → Rule p me xs i (DraftViewChange w cs) → IsPassed p me xs i w cs
-change-rule p me xs i w cs (by_cast a q b e) = absurd (no-change-pre w cs a.0 (Holds a.1) e)
-change-rule p me xs i w cs (by_proposal a q b e) = absurd (no-change-prepare w 0 cs a.0 (digest_of p (Holds a.1)) e)
+change-rule p me xs i w cs (by_cast a q b e) = absurd (no-change-pre w cs a.0 (Value_batch a.1) e)
+change-rule p me xs i w cs (by_proposal a q b e) = absurd (no-change-prepare w 0 cs a.0 (digest_of p (Value_batch a.1)) e)
 change-rule p me xs i w cs (by_votes t x k q e) = absurd (no-change-commit w (mode p (i ∷ inputs xs)).view cs t (digest_of p x) e)
 change-rule p me xs i w cs (by_timeout a b e) =
     let r = same-change w ((mode p (inputs xs)).view + 1) cs (tops (kept p me xs) p.slots) e in
@@ -190,7 +190,7 @@ covers p me (x ∷ xs) v s d w cs h k l = elim (in_append (DraftViewChange w cs)
             absurd (omega (arith, c, n, l))
         | inr a ↦
             let c = commit-kept p me xs v s d a in
-            let t = tops-cover (kept p me xs) p.slots s c.certificate c.stands c.slot c.within in
+            let t = tops-cover (kept p me xs) p.slots s c.certificate c.refines c.slot c.within in
             let up = subst (λ (z : ℕ). Covered s z (tops (kept p me xs) p.slots)) c.view t in
             subst (λ (z : List Certificate). Covered s v z) (sym r.holds) up
       ]

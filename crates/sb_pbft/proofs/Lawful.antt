@@ -6,7 +6,7 @@ use Rattle.iss_request.specs.declared.ids.NodeId.{NodeId}
 use Rattle.iss_request.specs.declared.ids.Slot.{Slot}
 use Rattle.iss_request.specs.declared.requests.Batch.{Batch}
 use Rattle.iss_request.specs.declared.requests.Value.{Value}
-use Rattle.iss_request.specs.declared.requests.Value.TheVariants.{Batch as Holds}
+use Rattle.iss_request.specs.declared.requests.Value.TheVariants.{Batch as Value_batch}
 use Rattle.iss_sb.specs.Calls.{IsGoodParams}
 use Rattle.iss_sb.specs.Evidence.{Item}
 use Rattle.iss_sb.specs.Laws.{IsLawful}
@@ -87,7 +87,7 @@ first-uses : (p : Params) (me : ℕ) (o : Option (Slot × Batch)) → uses_all p
 first-uses p me None = omega arith
 first-uses p me (Some a) = go (me == p.leader.0)
   where
-    go : (t : Bool) → uses_all p (cond t (DraftPrePrepare a.0 (Holds a.1)) (DraftPrepare 0 a.0 (digest_of p (Holds a.1))) ∷ []) ≤ 1
+    go : (t : Bool) → uses_all p (cond t (DraftPrePrepare a.0 (Value_batch a.1)) (DraftPrepare 0 a.0 (digest_of p (Value_batch a.1))) ∷ []) ≤ 1
     go true = omega arith
     go false = omega arith
 

@@ -8,7 +8,7 @@ use Rattle.iss_request.specs.declared.ids.NodeId.{NodeId}
 use Rattle.iss_request.specs.declared.ids.Slot.{Slot}
 use Rattle.iss_request.specs.declared.requests.Batch.{Batch}
 use Rattle.iss_request.specs.declared.requests.Value.{Value}
-use Rattle.iss_request.specs.declared.requests.Value.TheVariants.{Batch as Holds}
+use Rattle.iss_request.specs.declared.requests.Value.TheVariants.{Batch as Value_batch}
 use Rattle.iss_sb.specs.Calls.{IsGoodParams, has_slot}
 use Rattle.iss_sb.specs.Evidence.{Item, Made}
 use Rattle.iss_sb.specs.Laws.{ComesWith, GoesWith, IsSignedBy, SignsOnce, WasSeen}
@@ -82,11 +82,11 @@ module _ (p : Params) (me : ℕ) where
   -- ---- the signature of a proposal's PrePrepare
 
   -- in a NewView it stands where the slot stands
-  chosen-stands : (by v : ℕ) (ys : List Change) (ss : List Slot) (sigs : List (List ℕ)) (s : ℕ) (sig : List ℕ) → sig_for s ss sigs ≡ Some sig →
+  chosen-refines : (by v : ℕ) (ys : List Change) (ss : List Slot) (sigs : List (List ℕ)) (s : ℕ) (sig : List ℕ) → sig_for s ss sigs ≡ Some sig →
       In (claim by (state_at p 1 v s (digest_of p (choice ys s))) sig) (chosen_claims p by v ys ss sigs)
-  chosen-stands by v ys [] sigs s sig h = absurd (cc)
-  chosen-stands by v ys (r ∷ rs) [] s sig h = absurd (cc)
-  chosen-stands by v ys (r ∷ rs) (g ∷ gs) s sig h = go (r.0 == s) refl h (λ k. chosen-stands by v ys rs gs s sig k)
+  chosen-refines by v ys [] sigs s sig h = absurd (cc)
+  chosen-refines by v ys (r ∷ rs) [] s sig h = absurd (cc)
+  chosen-refines by v ys (r ∷ rs) (g ∷ gs) s sig h = go (r.0 == s) refl h (λ k. chosen-refines by v ys rs gs s sig k)
     where
       wanted : ℕ → List ℕ → Claim
       wanted t z = claim by (state_at p 1 v t (digest_of p (choice ys t))) z
@@ -107,13 +107,13 @@ module _ (p : Params) (me : ℕ) where
   -- of an own cast, or of the leader's message
   module _ (in_range : p.leader.0 < p.setup.n) where
     abbrev first_state : Slot × Batch → List ℕ
-    first_state a = state_at p 1 0 a.0.0 (digest_of p (Holds a.1))
+    first_state a = state_at p 1 0 a.0.0 (digest_of p (Value_batch a.1))
 
     cast-seen : (y : Item Message) (ys : List (Item Message)) (a : Slot × Batch) (sig : List ℕ) → y.made ≡ makes p me ys y.input y.leaf →
         ◌≡◌ {A = Option (Slot × Batch)} (asked p me (inputs ys) y.input) (Some a) → me ≡ p.leader.0 → SameInput y.input (Cast a.0 a.1) → first_sig p me y.leaf a y.input ≡ sig →
         Seen (y ∷ ys) (claim (primary p 0) (first_state a) sig)
     cast-seen y ys a sig made asks leads is h =
-        let d = DraftPrePrepare a.0 (Holds a.1) in
+        let d = DraftPrePrepare a.0 (Value_batch a.1) in
         let own_sig = signature p me y.leaf (first_state a) in
         let ask : ◌≡◌ {A = Option (Slot × Batch)} (asked p me (inputs ys) (Cast a.0 a.1)) (Some a) = subst (λ (z : Said). ◌≡◌ {A = Option (Slot × Batch)} (asked p me (inputs ys) z) (Some a)) is asks in
         let here = cast-sends p me ys a.0 a.1 y.leaf leads ask in
@@ -125,10 +125,10 @@ module _ (p : Params) (me : ℕ) where
         let by_is : me ≡ primary p 0 = leads ∙ sym (primary-zero p me in_range) in
         subst (λ (k : ℕ). Seen (y ∷ ys) (claim k (first_state a) sig)) by_is (subst (λ (z : List ℕ). Seen (y ∷ ys) (claim me (first_state a) z)) sig_is seen)
 
-    told-seen : (y : Item Message) (ys : List (Item Message)) (a : Slot × Batch) (told sig : List ℕ) → SameInput y.input (Receive p.leader (PrePrepare 0 a.0 (Holds a.1) told)) →
+    told-seen : (y : Item Message) (ys : List (Item Message)) (a : Slot × Batch) (told sig : List ℕ) → SameInput y.input (Receive p.leader (PrePrepare 0 a.0 (Value_batch a.1) told)) →
         first_sig p me y.leaf a y.input ≡ sig → Seen (y ∷ ys) (claim (primary p 0) (first_state a) sig)
     told-seen y ys a told sig is h =
-        let seen = came-with y (y ∷ ys) p.leader (PrePrepare 0 a.0 (Holds a.1) told) (claim p.leader.0 (first_state a) told) (inl refl) is (inl refl) in
+        let seen = came-with y (y ∷ ys) p.leader (PrePrepare 0 a.0 (Value_batch a.1) told) (claim p.leader.0 (first_state a) told) (inl refl) is (inl refl) in
         let sig_is : told ≡ sig = sym (ap (λ (z : Said). first_sig p me y.leaf a z) is) ∙ h in
         subst (λ (k : ℕ). Seen (y ∷ ys) (claim k (first_state a) sig)) (sym (primary-zero p me in_range))
         (subst (λ (z : List ℕ). Seen (y ∷ ys) (claim p.leader.0 (first_state a) z)) sig_is seen)
@@ -173,8 +173,8 @@ module _ (p : Params) (me : ℕ) where
             let c = chosen-is p m y.input v s x a in
             let e = entered p m c.from.0 v c.changes c.sigs c.enters in
             let first = first-some (chosen_sig p m y.input v s) _ sig (some-too _ _ x (chosen-signed p me m y.input v s) a) g in
-            let stands = chosen-stands c.from.0 v c.changes p.slots c.sigs s sig (sym (chosen-sig-is m y.input c.from v s c.changes c.sigs c.sig c.input c.within c.enters) ∙ first) in
-            let there = in_right _ (changes_claims p c.changes) _ (in_left _ (chosen_claims p c.from.0 v c.changes p.slots c.sigs) _ stands) in
+            let refines = chosen-refines c.from.0 v c.changes p.slots c.sigs s sig (sym (chosen-sig-is m y.input c.from v s c.changes c.sigs c.sig c.input c.within c.enters) ∙ first) in
+            let there = in_right _ (changes_claims p c.changes) _ (in_left _ (chosen_claims p c.from.0 v c.changes p.slots c.sigs) _ refines) in
             let seen = came-with y (y ∷ ys) c.from (NewView v c.changes c.sigs c.sig) (claim c.from.0 (state_at p 1 v s (digest_of p (choice c.changes s))) sig) (inl refl) c.input there in
             subst (λ (z : Value). Seen (y ∷ ys) (claim (primary p v) (state_at p 1 v s (digest_of p z)) sig)) c.value
             (subst (λ (k : ℕ). Seen (y ∷ ys) (claim k (state_at p 1 v s (digest_of p (choice c.changes s))) sig)) e.by seen)
@@ -187,8 +187,8 @@ module _ (p : Params) (me : ℕ) where
             subst (λ (z : ℕ). proposal p me (inputs ys) 0 z ≡ None) r.at_slot (subst (λ (z : ℕ). proposal p me (inputs ys) z s ≡ None) r.start b.0) in
             let asks = offer-asked p me (inputs ys) y.input r.offer r.is fresh in
             let seen = offer-seen y ys r.offer sig made.0 asks (offer-is p me m y.input r.offer r.is) (offered-sig-is o r.offer v s y sig r.is k) in
-            let at_slot = subst (λ (z : ℕ). Seen (y ∷ ys) (claim (primary p 0) (state_at p 1 0 z (digest_of p (Holds r.offer.1))) sig)) (sym r.at_slot) seen in
-            let at_view = subst (λ (z : ℕ). Seen (y ∷ ys) (claim (primary p z) (state_at p 1 z s (digest_of p (Holds r.offer.1))) sig)) (sym r.start) at_slot in
+            let at_slot = subst (λ (z : ℕ). Seen (y ∷ ys) (claim (primary p 0) (state_at p 1 0 z (digest_of p (Value_batch r.offer.1))) sig)) (sym r.at_slot) seen in
+            let at_view = subst (λ (z : ℕ). Seen (y ∷ ys) (claim (primary p z) (state_at p 1 z s (digest_of p (Value_batch r.offer.1))) sig)) (sym r.start) at_slot in
             subst (λ (z : Value). Seen (y ∷ ys) (claim (primary p v) (state_at p 1 v s (digest_of p z)) sig)) r.value at_view
 
     the-sig : (o : Option (List ℕ)) → is_some o ≡ true → o ≡ Some (or_empty o)
@@ -224,7 +224,7 @@ module _ (p : Params) (me : ℕ) where
               (the-sig (proposal_sig p me r.now v s.0) (some-too _ _ x (proposal-signed p me r.now v s.0) proposed)))
           | inr q ↦
               let u = vote-claim p v s.0 d (take (2 * p.setup.f) (prepares p (inputs r.now) v s.0 d)) t q in
-              subst (λ (z : Claim). Seen r.now z) (sym u.is) (prepare-seen r.now v s.0 d u.vote (in-take (2 * p.setup.f) u.vote (prepares p (inputs r.now) v s.0 d) u.stands))
+              subst (λ (z : Claim). Seen r.now z) (sym u.is) (prepare-seen r.now v s.0 d u.vote (in-take (2 * p.setup.f) u.vote (prepares p (inputs r.now) v s.0 d) u.refines))
         ])
 
   -- ---- what is signed by the leaves of a step
@@ -302,8 +302,8 @@ module _ (p : Params) (good : IsGoodParams pbft p) (me : ℕ) (xs : List (Item M
             let x = r.0 in
             let g = in-changes (change_of p (i ∷ inputs xs) v) 0 p.setup.n x (subst (λ (z : List Change). In x z) same r.1) in
             let k = change-of-is p (i ∷ inputs xs) v g.node x g.kept in
-            let stands : In c (claims p x.node.0 (ViewChange v x.certificates x.sig)) = subst (λ (z : ℕ). In c (change_claims p x.node.0 z x.certificates x.sig)) k.2.view r.2 in
-            inr (came-here k.0 x.node (ViewChange v x.certificates x.sig) c k.1 k.2.input stands)
+            let refines : In c (claims p x.node.0 (ViewChange v x.certificates x.sig)) = subst (λ (z : ℕ). In c (change_claims p x.node.0 z x.certificates x.sig)) k.2.view r.2 in
+            inr (came-here k.0 x.node (ViewChange v x.certificates x.sig) c k.1 k.2.input refines)
         | inr a ↦ elim (in_append c (chosen_claims p me v ys p.slots sigs) (claim me (state_new p v) last ∷ []) a) [
           | inl b ↦ inl (by-more p me leaf (choices p me v ys p.slots) (state_new p v ∷ []) c (choices-by p me leaf v ys p.slots c b))
           | inr b ↦

@@ -7,7 +7,7 @@ use Rattle.iss_base.proofs.Lists.{and-true, first-cases, in_append}
 use Rattle.iss_request.specs.declared.ids.NodeId.{NodeId}
 use Rattle.iss_request.specs.declared.ids.Slot.{Slot}
 use Rattle.iss_request.specs.declared.requests.Value.{Value}
-use Rattle.iss_request.specs.declared.requests.Value.TheVariants.{Batch as Holds}
+use Rattle.iss_request.specs.declared.requests.Value.TheVariants.{Batch as Value_batch}
 use Rattle.iss_sb.specs.Evidence.{Item}
 use Rattle.iss_sb.specs.declared.effects.Input.TheVariants.{Cast, Receive, Timeout}
 use Rattle.iss_sb.specs.declared.effects.Params.{Params}
@@ -142,8 +142,8 @@ same-new : (v w : ℕ) (ys zs : List Change) → SameDraft (DraftNewView v ys) (
 same-new v w ys zs h = (cc, cc)
 
 new-rule : (p : Params) (me : ℕ) (xs : List (Item Message)) (i : Said) (v : ℕ) (ys : List Change) → Rule p me xs i (DraftNewView v ys) → made_new p me (i ∷ inputs xs) v ≡ Some ys
-new-rule p me xs i v ys (by_cast a q b e) = absurd (no-pre v ys a.0 (Holds a.1) e)
-new-rule p me xs i v ys (by_proposal a q b e) = absurd (no-prepare v 0 ys a.0 (digest_of p (Holds a.1)) e)
+new-rule p me xs i v ys (by_cast a q b e) = absurd (no-pre v ys a.0 (Value_batch a.1) e)
+new-rule p me xs i v ys (by_proposal a q b e) = absurd (no-prepare v 0 ys a.0 (digest_of p (Value_batch a.1)) e)
 new-rule p me xs i v ys (by_votes s x w q e) = absurd (no-commit v (mode p (i ∷ inputs xs)).view ys s (digest_of p x) e)
 new-rule p me xs i v ys (by_timeout a b e) = absurd (no-change v _ ys _ e)
 new-rule p me xs i v ys (by_changes from w cs sig a b e) =
@@ -158,8 +158,8 @@ pub record StartsWith (p : Params) (me : ℕ) (xs : List (Item Message)) (i : Sa
   pub changes : ys ≡ changes p (i ∷ inputs xs) v
 
 pub starts-with : (p : Params) (me : ℕ) (xs : List (Item Message)) (i : Said) (v : ℕ) (ys : List Change) → Rule p me xs i (DraftNewView v ys) → StartsWith p me xs i v ys
-starts-with p me xs i v ys (by_cast a q b e) = absurd (no-pre v ys a.0 (Holds a.1) e)
-starts-with p me xs i v ys (by_proposal a q b e) = absurd (no-prepare v 0 ys a.0 (digest_of p (Holds a.1)) e)
+starts-with p me xs i v ys (by_cast a q b e) = absurd (no-pre v ys a.0 (Value_batch a.1) e)
+starts-with p me xs i v ys (by_proposal a q b e) = absurd (no-prepare v 0 ys a.0 (digest_of p (Value_batch a.1)) e)
 starts-with p me xs i v ys (by_votes s x w q e) = absurd (no-commit v (mode p (i ∷ inputs xs)).view ys s (digest_of p x) e)
 starts-with p me xs i v ys (by_timeout a b e) = absurd (no-change v _ ys _ e)
 starts-with p me xs i v ys (by_changes from w cs sig a b e) =
@@ -175,8 +175,8 @@ pub record IsFromChange (i : Said) (v : ℕ) : Type 0 where
   pub input : SameInput i (Receive from (ViewChange v certificates sig))
 
 pub from-change : (p : Params) (me : ℕ) (xs : List (Item Message)) (i : Said) (v : ℕ) (ys : List Change) → Rule p me xs i (DraftNewView v ys) → IsFromChange i v
-from-change p me xs i v ys (by_cast a q b e) = absurd (no-pre v ys a.0 (Holds a.1) e)
-from-change p me xs i v ys (by_proposal a q b e) = absurd (no-prepare v 0 ys a.0 (digest_of p (Holds a.1)) e)
+from-change p me xs i v ys (by_cast a q b e) = absurd (no-pre v ys a.0 (Value_batch a.1) e)
+from-change p me xs i v ys (by_proposal a q b e) = absurd (no-prepare v 0 ys a.0 (digest_of p (Value_batch a.1)) e)
 from-change p me xs i v ys (by_votes s x w q e) = absurd (no-commit v (mode p (i ∷ inputs xs)).view ys s (digest_of p x) e)
 from-change p me xs i v ys (by_timeout a b e) = absurd (no-change v _ ys _ e)
 from-change p me xs i v ys (by_changes from w cs sig a b e) =

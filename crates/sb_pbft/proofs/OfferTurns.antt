@@ -9,7 +9,7 @@ use Rattle.iss_request.specs.declared.ids.NodeId.{NodeId}
 use Rattle.iss_request.specs.declared.ids.Slot.{Slot}
 use Rattle.iss_request.specs.declared.requests.Batch.{Batch}
 use Rattle.iss_request.specs.declared.requests.Value.{Value}
-use Rattle.iss_request.specs.declared.requests.Value.TheVariants.{Batch as Holds}
+use Rattle.iss_request.specs.declared.requests.Value.TheVariants.{Batch as Value_batch}
 use Rattle.iss_sb.specs.Calls.{has_slot}
 use Rattle.iss_sb.specs.Evidence.{Item}
 use Rattle.iss_sb.specs.declared.effects.Input.TheVariants.{Cast, Receive}
@@ -127,9 +127,9 @@ module _ (p : Params) (me leaf : ℕ) (xs : List (Item Message)) where
                 (keeps (proposal_sig p me xs v s) (offered_sig p me (Some a) v s (item p me leaf xs i)) signed j);
           }
       | inr k ↦ record {
-        value = ap (λ (b : Bool). first_of (proposal p me (inputs xs) v s) (when b (Holds a.1))) k ∙ first_of-none (proposal p me (inputs xs) v s);
+        value = ap (λ (b : Bool). first_of (proposal p me (inputs xs) v s) (when b (Value_batch a.1))) k ∙ first_of-none (proposal p me (inputs xs) v s);
         whole =
-            ap (λ (b : Bool). placed p (first_of (proposal p me (inputs xs) v s) (when b (Holds a.1))) (first_of (proposal_sig p me xs v s) (when b (first_sig p me leaf a i)))) k ∙
+            ap (λ (b : Bool). placed p (first_of (proposal p me (inputs xs) v s) (when b (Value_batch a.1))) (first_of (proposal_sig p me xs v s) (when b (first_sig p me leaf a i)))) k ∙
             (λ j. placed p (first_of-none (proposal p me (inputs xs) v s) j) (first_of-none (proposal_sig p me xs v s) j));
       }
     ]
@@ -164,7 +164,7 @@ module _ (p : Params) (me leaf : ℕ) (xs : List (Item Message)) where
       abbrev at-first : ℕ → ℕ → Bool
       at-first v s = (v == 0) && (s == a.0.0)
 
-      proposal-with : (v s : ℕ) → proposal p me (i ∷ inputs xs) v s ≡ first_of (proposal p me (inputs xs) v s) (when (at-first v s) (Holds a.1))
+      proposal-with : (v s : ℕ) → proposal p me (i ∷ inputs xs) v s ≡ first_of (proposal p me (inputs xs) v s) (when (at-first v s) (Value_batch a.1))
       proposal-with v s = proposal-on v s ∙ ap (λ (o : Option (Slot × Batch)). first_of (proposal p me (inputs xs) v s) (offered o v s)) is.offered
 
       sig-with : (v s : ℕ) → proposal_sig p me (item p me leaf xs i ∷ xs) v s ≡ first_of (proposal_sig p me xs v s) (when (at-first v s) (first_sig p me leaf a i))
@@ -178,7 +178,7 @@ module _ (p : Params) (me leaf : ℕ) (xs : List (Item Message)) where
 
       prepared-apart : (v s : ℕ) → (v ≢ 0) ⊎ (s ≢ a.0.0) → prepared p me (i ∷ inputs xs) v s ≡ prepared p me (inputs xs) v s
       prepared-apart v s off = prepared-same p me i (inputs xs) v s
-          (proposal-with v s ∙ (ap (λ (b : Bool). first_of (proposal p me (inputs xs) v s) (when b (Holds a.1))) (elsewhere v s off) ∙ first_of-none (proposal p me (inputs xs) v s)))
+          (proposal-with v s ∙ (ap (λ (b : Bool). first_of (proposal p me (inputs xs) v s) (when b (Value_batch a.1))) (elsewhere v s off) ∙ first_of-none (proposal p me (inputs xs) v s)))
           (λ k. prepare-on v s k)
 
       committed-apart : (v s : ℕ) → (v ≢ 0) ⊎ (s ≢ a.0.0) → committed p me (i ∷ inputs xs) v s ≡ committed p me (inputs xs) v s
@@ -203,7 +203,7 @@ module _ (p : Params) (me leaf : ℕ) (xs : List (Item Message)) where
       first = first_proposal p a (first_sig p me leaf a i)
 
       put : (v s : ℕ) → (b : Bool) → at-first v s ≡ b → cond b (Some first) (placed p (proposal p me (inputs xs) v s) (proposal_sig p me xs v s)) ≡
-          placed p (first_of (proposal p me (inputs xs) v s) (when b (Holds a.1))) (first_of (proposal_sig p me xs v s) (when b (first_sig p me leaf a i)))
+          placed p (first_of (proposal p me (inputs xs) v s) (when b (Value_batch a.1))) (first_of (proposal_sig p me xs v s) (when b (first_sig p me leaf a i)))
       put v s false k = λ j. placed p (sym (first_of-none (proposal p me (inputs xs) v s)) j) (sym (first_of-none (proposal_sig p me xs v s)) j)
       put v s true k =
           let t = and-true (v == 0) (s == a.0.0) k in
@@ -211,7 +211,7 @@ module _ (p : Params) (me leaf : ℕ) (xs : List (Item Message)) where
           let f : s ≡ a.0.0 = eqb-true s a.0.0 t.1 in
           let none : proposal p me (inputs xs) v s ≡ None = (λ j. proposal p me (inputs xs) (e j) (f j)) ∙ is.fresh in
           let bare : proposal_sig p me xs v s ≡ None = unsigned p me xs v s none in
-          λ j. placed p (first_of (sym none j) (Some (Holds a.1))) (first_of (sym bare j) (Some (first_sig p me leaf a i)))
+          λ j. placed p (first_of (sym none j) (Some (Value_batch a.1))) (first_of (sym bare j) (Some (first_sig p me leaf a i)))
 
       with-first : with_proposal (model p me xs) 0 a.0.0 first ≡ mid p me (item p me leaf xs i) xs
       with-first = λ j. record (model p me xs) {

@@ -9,7 +9,7 @@ use Rattle.iss_request.specs.declared.ids.NodeId.{NodeId}
 use Rattle.iss_request.specs.declared.ids.Slot.{Slot}
 use Rattle.iss_request.specs.declared.requests.Batch.{Batch}
 use Rattle.iss_request.specs.declared.requests.Value.{Value}
-use Rattle.iss_request.specs.declared.requests.Value.TheVariants.{Batch as Holds}
+use Rattle.iss_request.specs.declared.requests.Value.TheVariants.{Batch as Value_batch}
 use Rattle.iss_sb.specs.Calls.{IsGoodParams, has_slot}
 use Rattle.iss_sb.specs.Evidence.{IsReached, IsSigned, Item, Made, World, is_correct}
 use Rattle.iss_sb.specs.Legal.{AreMade, Front}
@@ -88,10 +88,10 @@ module _ (p : Params) (me : ℕ) where
 
   -- the message that a cast sends
   pub cast-sends : (xs : List (Item Message)) (s : Slot) (b : Batch) (leaf : ℕ) → me ≡ p.leader.0 → ◌≡◌ {A = Option (Slot × Batch)} (asked p me (inputs xs) (Cast s b)) (Some (s, b)) →
-      In {A = To × Message} (To_all, sign p me leaf (DraftPrePrepare s (Holds b))) (makes p me xs (Cast s b) leaf).sends
+      In {A = To × Message} (To_all, sign p me leaf (DraftPrePrepare s (Value_batch b))) (makes p me xs (Cast s b) leaf).sends
   cast-sends xs s b leaf leads h =
-      let d = DraftPrePrepare s (Holds b) in
-      let first : first_draft p me (asked p me (inputs xs) (Cast s b)) ≡ d ∷ [] = ap (first_draft p me) h ∙ ap (λ (t : Bool). cond t d (DraftPrepare 0 s (digest_of p (Holds b))) ∷ []) (is-same me p.leader.0 leads) in
+      let d = DraftPrePrepare s (Value_batch b) in
+      let first : first_draft p me (asked p me (inputs xs) (Cast s b)) ≡ d ∷ [] = ap (first_draft p me) h ∙ ap (λ (t : Bool). cond t d (DraftPrepare 0 s (digest_of p (Value_batch b))) ∷ []) (is-same me p.leader.0 leads) in
       subst (λ (z : List Draft). In {A = To × Message} (To_all, sign p me leaf d) (sign_all p me leaf (z ++ by_slot p me xs (Cast s b) p.slots))) (sym first) (inl refl)
 
   -- ---- where a claim that is passed on stood: in a message that came, or in one of its own
@@ -111,7 +111,7 @@ module _ (p : Params) (me : ℕ) where
   source-front a xs by t f (sent y k to msg h s e) = sent y (front-in y a xs f k) to msg h s e
 
   says-by : (from : ℕ) (msg : Message) (c : Claim) (by : ℕ) (t : List ℕ) → In c (claims p from msg) → c.by.0 ≡ by → c.statement ≡ t → Says pbft p from msg by t
-  says-by from msg c by t i b e = record { claim = c; stands = i; named = b; is = e }
+  says-by from msg c by t i b e = record { claim = c; refines = i; named = b; is = e }
 
   pub offer-asked : (l : List Said) (i : Said) (a : Slot × Batch) → ◌≡◌ {A = Option (Slot × Batch)} (offer p me (mode p l) i) (Some a) → proposal p me l 0 a.0.0 ≡ None → ◌≡◌ {A = Option (Slot × Batch)} (asked p me l i) (Some a)
   offer-asked l i a h g = ap (asked_of p me l) h ∙ ap (λ (z : Option Value). unless z a) g
@@ -120,18 +120,18 @@ module _ (p : Params) (me : ℕ) where
     pub primary-zero : primary p 0 ≡ p.leader.0
     primary-zero = rw add-zero (mod-eq_of_lt in_range)
 
-    offered-source : (x : Item Message) (xs : List (Item Message)) (a : Slot × Batch) → x.made ≡ makes p me xs x.input x.leaf → ◌≡◌ {A = Option (Slot × Batch)} (asked p me (inputs xs) x.input) (Some a) → Offers p me (mode p (inputs xs)) x.input a → Source (x ∷ xs) (primary p 0) (state_at p 1 0 a.0.0 (digest_of p (Holds a.1)))
+    offered-source : (x : Item Message) (xs : List (Item Message)) (a : Slot × Batch) → x.made ≡ makes p me xs x.input x.leaf → ◌≡◌ {A = Option (Slot × Batch)} (asked p me (inputs xs) x.input) (Some a) → Offers p me (mode p (inputs xs)) x.input a → Source (x ∷ xs) (primary p 0) (state_at p 1 0 a.0.0 (digest_of p (Value_batch a.1)))
     offered-source x xs a made asks o = elim o.cause [
       | inl mine ↦
-          let d = DraftPrePrepare a.0 (Holds a.1) in
+          let d = DraftPrePrepare a.0 (Value_batch a.1) in
           let ask : ◌≡◌ {A = Option (Slot × Batch)} (asked p me (inputs xs) (Cast a.0 a.1)) (Some a) = subst (λ (z : Said). ◌≡◌ {A = Option (Slot × Batch)} (asked p me (inputs xs) z) (Some a)) mine.input asks in
           let here = cast-sends xs a.0 a.1 x.leaf mine.leads ask in
           let made_so : x.made ≡ makes p me xs (Cast a.0 a.1) x.leaf = made ∙ ap (λ (z : Said). makes p me xs z x.leaf) mine.input in
           let sends = subst (λ (z : Made Message). In {A = To × Message} (To_all, sign p me x.leaf d) z.sends) (sym made_so) here in
-          sent x (inl refl) To_all (sign p me x.leaf d) sends (says-by me (sign p me x.leaf d) (claim me (state_at p 1 0 a.0.0 (digest_of p (Holds a.1))) (signature p me x.leaf (state_at p 1 0 a.0.0 (digest_of p (Holds a.1))))) me _ (inl refl) refl refl) (primary-zero ∙ sym mine.leads)
+          sent x (inl refl) To_all (sign p me x.leaf d) sends (says-by me (sign p me x.leaf d) (claim me (state_at p 1 0 a.0.0 (digest_of p (Value_batch a.1))) (signature p me x.leaf (state_at p 1 0 a.0.0 (digest_of p (Value_batch a.1))))) me _ (inl refl) refl refl) (primary-zero ∙ sym mine.leads)
       | inr told ↦
-          came x (inl refl) p.leader (PrePrepare 0 a.0 (Holds a.1) told.sig) told.input
-          (says-by p.leader.0 (PrePrepare 0 a.0 (Holds a.1) told.sig) (claim p.leader.0 (state_at p 1 0 a.0.0 (digest_of p (Holds a.1))) told.sig) (primary p 0) _ (inl refl) (sym primary-zero) refl)
+          came x (inl refl) p.leader (PrePrepare 0 a.0 (Value_batch a.1) told.sig) told.input
+          (says-by p.leader.0 (PrePrepare 0 a.0 (Value_batch a.1) told.sig) (claim p.leader.0 (state_at p 1 0 a.0.0 (digest_of p (Value_batch a.1))) told.sig) (primary p 0) _ (inl refl) (sym primary-zero) refl)
     ]
 
     -- a proposal stands on a claim of its view's primary
@@ -149,8 +149,8 @@ module _ (p : Params) (me : ℕ) where
             let fresh : proposal p me (inputs ys) 0 o.offer.0.0 ≡ None = subst (λ (z : ℕ). proposal p me (inputs ys) 0 z ≡ None) o.at_slot (subst (λ (z : ℕ). proposal p me (inputs ys) z s ≡ None) o.start b.0) in
             let asks = offer-asked (inputs ys) y.input o.offer o.is fresh in
             let r = offered-source y ys o.offer made.0 asks (offer-is p me (mode p (inputs ys)) y.input o.offer o.is) in
-            let at_slot = subst (λ (z : ℕ). Source (y ∷ ys) (primary p 0) (state_at p 1 0 z (digest_of p (Holds o.offer.1)))) (sym o.at_slot) r in
-            let at_view = subst (λ (z : ℕ). Source (y ∷ ys) (primary p z) (state_at p 1 z s (digest_of p (Holds o.offer.1)))) (sym o.start) at_slot in
+            let at_slot = subst (λ (z : ℕ). Source (y ∷ ys) (primary p 0) (state_at p 1 0 z (digest_of p (Value_batch o.offer.1)))) (sym o.at_slot) r in
+            let at_view = subst (λ (z : ℕ). Source (y ∷ ys) (primary p z) (state_at p 1 z s (digest_of p (Value_batch o.offer.1)))) (sym o.start) at_slot in
             subst (λ (z : Value). Source (y ∷ ys) (primary p v) (state_at p 1 v s (digest_of p z))) o.value at_view
       ]
     ]
@@ -193,7 +193,7 @@ module _ (p : Params) (good : IsGoodParams pbft p) (me : ℕ) where
             subst (λ (z : Claim). Source p me r.now z.by.0 z.statement) (sym q) there
         | inr q ↦
             let u = vote-claim p v s.0 d (take (2 * p.setup.f) (prepares p (inputs r.now) v s.0 d)) t q in
-            let there = prepare-source p me r.now v s.0 d u.vote (in-take (2 * p.setup.f) u.vote (prepares p (inputs r.now) v s.0 d) u.stands) in
+            let there = prepare-source p me r.now v s.0 d u.vote (in-take (2 * p.setup.f) u.vote (prepares p (inputs r.now) v s.0 d) u.refines) in
             subst (λ (z : Claim). Source p me r.now z.by.0 z.statement) (sym u.is) there
       ])
 
@@ -215,7 +215,7 @@ module _ (p : Params) (good : IsGoodParams pbft p) (me : ℕ) where
   change-passes : (xs : List (Item Message)) (i : Said) (leaf v : ℕ) (cs : List Certificate) (t : List ℕ) → AreMade pbft p me xs → cs ≡ tops (kept p me xs) p.slots → Says pbft p me (sign p me leaf (DraftViewChange v cs)) me t → Stated xs i (sign p me leaf (DraftViewChange v cs)) t
   change-passes xs i leaf v cs t made same s =
       let sig = signature p me leaf (state_change p v cs) in
-      elim (in_append s.claim (certificates_claims p cs) (claim me (state_change p v cs) sig ∷ []) s.stands) [
+      elim (in_append s.claim (certificates_claims p cs) (claim me (state_change p v cs) sig ∷ []) s.refines) [
         | inl a ↦
             let r = claim-certificate p s.claim cs a in
             let k = in-tops (kept p me xs) p.slots r.0 (subst (λ (z : List Certificate). In r.0 z) same r.1) in
@@ -228,14 +228,14 @@ module _ (p : Params) (good : IsGoodParams pbft p) (me : ℕ) where
   new-passes xs i leaf v ys t same s =
       let sigs = choice_sigs p me leaf v ys p.slots in
       let sig = signature p me (leaf + length p.slots) (state_new p v) in
-      elim (in_append s.claim (changes_claims p ys) (chosen_claims p me v ys p.slots sigs ++ claim me (state_new p v) sig ∷ []) s.stands) [
+      elim (in_append s.claim (changes_claims p ys) (chosen_claims p me v ys p.slots sigs ++ claim me (state_new p v) sig ∷ []) s.refines) [
         | inl a ↦
             let r = claim-change p s.claim ys a in
             let x = r.0 in
             let g = in-changes (change_of p (i ∷ inputs xs) v) 0 p.setup.n x (subst (λ (z : List Change). In x z) same r.1) in
             let c = change-of-is p (i ∷ inputs xs) v g.node x g.kept in
-            let stands : In s.claim (claims p x.node.0 (ViewChange v x.certificates x.sig)) = subst (λ (z : ℕ). In s.claim (change_claims p x.node.0 z x.certificates x.sig)) c.2.view r.2 in
-            inr (old-input xs i c.0 x.node (ViewChange v x.certificates x.sig) t c.1 c.2.input (record { claim = s.claim; stands = stands; named = s.named; is = s.is }))
+            let refines : In s.claim (claims p x.node.0 (ViewChange v x.certificates x.sig)) = subst (λ (z : ℕ). In s.claim (change_claims p x.node.0 z x.certificates x.sig)) c.2.view r.2 in
+            inr (old-input xs i c.0 x.node (ViewChange v x.certificates x.sig) t c.1 c.2.input (record { claim = s.claim; refines = refines; named = s.named; is = s.is }))
         | inr a ↦ elim (in_append s.claim (chosen_claims p me v ys p.slots sigs) (claim me (state_new p v) sig ∷ []) a) [
           | inl b ↦ let r = chosen-claim p me v ys p.slots sigs s.claim b in inl (inl (r.slot, r.within, sym s.is ∙ r.is))
           | inr b ↦ inl (inr (only-one xs i t (state_new p v) sig s.claim b s.is))
@@ -243,16 +243,16 @@ module _ (p : Params) (good : IsGoodParams pbft p) (me : ℕ) where
       ]
 
   draft-passes : (xs : List (Item Message)) (i : Said) (leaf : ℕ) (d : Draft) (t : List ℕ) → AreMade pbft p me xs → Rule p me xs i d → Says pbft p me (sign p me leaf d) me t → Stated xs i (sign p me leaf d) t
-  draft-passes xs i leaf (DraftPrePrepare s x) t made r h = inl (only-one xs i t (state_at p 1 0 s.0 (digest_of p x)) _ h.claim h.stands h.is)
-  draft-passes xs i leaf (DraftPrepare v s d) t made r h = inl (only-one xs i t (state_at p 2 v s.0 d) _ h.claim h.stands h.is)
-  draft-passes xs i leaf (DraftCommit v s d) t made r h = inl (only-one xs i t (state_at p 3 v s.0 d) _ h.claim h.stands h.is)
+  draft-passes xs i leaf (DraftPrePrepare s x) t made r h = inl (only-one xs i t (state_at p 1 0 s.0 (digest_of p x)) _ h.claim h.refines h.is)
+  draft-passes xs i leaf (DraftPrepare v s d) t made r h = inl (only-one xs i t (state_at p 2 v s.0 d) _ h.claim h.refines h.is)
+  draft-passes xs i leaf (DraftCommit v s d) t made r h = inl (only-one xs i t (state_at p 3 v s.0 d) _ h.claim h.refines h.is)
   draft-passes xs i leaf (DraftViewChange v cs) t made r h = change-passes xs i leaf v cs t made (change-rule p me xs i v cs r).holds h
   draft-passes xs i leaf (DraftNewView v ys) t made r h = new-passes xs i leaf v ys t (starts-with p me xs i v ys r).changes h
 
 pub passes : (p : Params) → IsGoodParams pbft p → PassesOn pbft p (States p)
 passes p good w legal me i leaf correct may to msg t h k =
     let d = signed-draft p me leaf (drafts p me (w me) i) to msg h in
-    let r = rule-of p me (w me) i d.draft d.stands in
+    let r = rule-of p me (w me) i d.draft d.refines in
     let said = subst (λ (z : Message). Says pbft p me z me t) d.is k in
     subst (λ (z : Message). States p me z t ⊎ IsOld pbft p me (w me) i me t) (sym d.is) (draft-passes p good me (w me) i d.leaf d.draft t (legal.made me) r said)
 

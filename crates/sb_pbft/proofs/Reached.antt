@@ -4,7 +4,7 @@ use Rattle.sha2.specs.Sha256.{sha256, digest_bytes, hash_after, compress, rounds
 use Rattle.iss_base.specs.Lists.{In, same_bytes}
 use Rattle.iss_request.specs.Digest.{digest}
 use Rattle.iss_request.specs.Formats.{spell_batch, spell_count, spell_value}
-use Rattle.iss_request.specs.declared.requests.Value.TheVariants.{Nil, Batch as Holds}
+use Rattle.iss_request.specs.declared.requests.Value.TheVariants.{Nil, Batch as Value_batch}
 use Rattle.iss_sb.specs.declared.effects.To.{To}
 use Rattle.iss_sb.specs.declared.effects.To.TheVariants.{All as To_all}
 use Rattle.iss_sb.specs.Evidence.{Item, Made, IsHashed, IsSigned, IsString, Separate}
@@ -25,7 +25,7 @@ use Rattle.sb_pbft.proofs.Run.{Items, again, cast, certificate-signed, delivers,
 -- ---- its strings are separate: the empty one, that of the batch, that of nil
 
 abbrev OneOf : List ℕ → Type 0
-OneOf s = (s ≡ string_of p (Holds b)) ⊎ (s ≡ string_of p Nil)
+OneOf s = (s ≡ string_of p (Value_batch b)) ⊎ (s ≡ string_of p Nil)
 
 abbrev AreOf : List (List ℕ) → Type 0
 AreOf [] = Unit {0}
@@ -87,13 +87,13 @@ apart x y a c e f h = ap digest (sym e) ∙ h ∙ ap digest f
 
 one-string : (x y : List ℕ) → IsOne x → IsOne y → digest x ≡ digest y → x ≡ y
 one-string x y (inl e) (inl f) h = e ∙ sym f
-one-string x y (inl e) (inr (inl f)) h = absurd (different (digest []) d empty-batch (apart x y [] (string_of p (Holds b)) e f h))
+one-string x y (inl e) (inr (inl f)) h = absurd (different (digest []) d empty-batch (apart x y [] (string_of p (Value_batch b)) e f h))
 one-string x y (inl e) (inr (inr f)) h = absurd (different (digest []) nil empty-nil (apart x y [] (string_of p Nil) e f h))
-one-string x y (inr (inl e)) (inl f) h = absurd (different (digest []) d empty-batch (sym (apart x y (string_of p (Holds b)) [] e f h)))
+one-string x y (inr (inl e)) (inl f) h = absurd (different (digest []) d empty-batch (sym (apart x y (string_of p (Value_batch b)) [] e f h)))
 one-string x y (inr (inl e)) (inr (inl f)) h = e ∙ sym f
-one-string x y (inr (inl e)) (inr (inr f)) h = absurd (different d nil batch-nil (apart x y (string_of p (Holds b)) (string_of p Nil) e f h))
+one-string x y (inr (inl e)) (inr (inr f)) h = absurd (different d nil batch-nil (apart x y (string_of p (Value_batch b)) (string_of p Nil) e f h))
 one-string x y (inr (inr e)) (inl f) h = absurd (different (digest []) nil empty-nil (sym (apart x y (string_of p Nil) [] e f h)))
-one-string x y (inr (inr e)) (inr (inl f)) h = absurd (different d nil batch-nil (sym (apart x y (string_of p Nil) (string_of p (Holds b)) e f h)))
+one-string x y (inr (inr e)) (inr (inl f)) h = absurd (different d nil batch-nil (sym (apart x y (string_of p Nil) (string_of p (Value_batch b)) e f h)))
 one-string x y (inr (inr e)) (inr (inr f)) h = e ∙ sym f
 
 separate : Separate (IsString last)
@@ -114,7 +114,7 @@ proposed-again = record { correct = refl; signed = signed-again last (inl refl) 
 prepared-again : HasVoted p last 2 2 1 0 d
 prepared-again = record { correct = refl; signed = signed-two last (inr (inr (inl refl))) }
 
-batch-known : IsKnown p last (Holds b)
+batch-known : IsKnown p last (Value_batch b)
 batch-known = record { hashed = inr (record { node = 0; item = cast; taken = inr (inr (inl refl)); hashed = inl refl }); spelled = refl }
 
 is-certificate : IsCertificate p last certificate
@@ -130,7 +130,7 @@ record IsQuietAt : Type 0 where
   before : Items
   front : Front (item ∷ before) (last 2)
   older : Item Message
-  stands : In older before
+  refines : In older before
   gave_up : In {A = To × Message} (To_all, give_up 2 3 1 []) older.made.sends
   committed_it : In {A = To × Message} (To_all, Commit 1 (slot 0) d (sig 2 7 3 1 0 d)) item.made.sends
 
@@ -140,14 +140,14 @@ quiet-at = record {
   before = t3;
   front = inl refl;
   older = two_gave_up;
-  stands = inr (inr (inl refl));
+  refines = inr (inr (inl refl));
   gave_up = inl refl;
   committed_it = subst (λ (z : Made Message). In {A = To × Message} (To_all, Commit 1 (slot 0) d (sig 2 7 3 1 0 d)) z.sends) (sym two-commits) (inl refl);
 }
 
 -- and what the facts and laws give of it
 its-view : (v : ℕ) × IsDecidedView p last v 0 d
-its-view = decided-views p good last r17 1 0 (Holds b) refl delivers
+its-view = decided-views p good last r17 1 0 (Value_batch b) refl delivers
 
 its-root : IsRooted p last 0 b
 its-root = roots p good last r17 separate certificate b is-certificate refl

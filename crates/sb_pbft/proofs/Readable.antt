@@ -9,7 +9,7 @@ use Rattle.iss_request.specs.Formats.{is_signature}
 use Rattle.iss_request.specs.Slots.{AreAscending}
 use Rattle.iss_request.specs.declared.ids.Slot.{Slot}
 use Rattle.iss_request.specs.declared.requests.Value.{Value}
-use Rattle.iss_request.specs.declared.requests.Value.TheVariants.{Batch as Holds}
+use Rattle.iss_request.specs.declared.requests.Value.TheVariants.{Batch as Value_batch}
 use Rattle.iss_sb.specs.Calls.{IsGoodParams}
 use Rattle.iss_sb.specs.Evidence.{IsReadMessage, Item}
 use Rattle.iss_sb.specs.Laws.{AreHeard, IsHeard}
@@ -243,10 +243,10 @@ module _ (p : Params) (good : IsGoodParams pbft p) (me : ℕ) where
     rule-fits d (by_cast a q b e) =
         let o = offer-is p me (mode p (inputs xs)) i a (asked-is p me (inputs xs) i a q).offered in
         let s = has_slot-In a.0 p.slots o.within in
-        subst (λ (z : Draft). Fits leaf z) (sym e) (both _ _ (slot-fits a.0 s) (both _ _ (asked-fits p me (inputs xs) i a g q) (shape leaf (state_at p 1 0 a.0.0 (digest_of p (Holds a.1))))))
+        subst (λ (z : Draft). Fits leaf z) (sym e) (both _ _ (slot-fits a.0 s) (both _ _ (asked-fits p me (inputs xs) i a g q) (shape leaf (state_at p 1 0 a.0.0 (digest_of p (Value_batch a.1))))))
     rule-fits d (by_proposal a q b e) =
         let o = offer-is p me (mode p (inputs xs)) i a (asked-is p me (inputs xs) i a q).offered in
-        subst (λ (z : Draft). Fits leaf z) (sym e) (at-fits 0 leaf a.0 (Holds a.1) (state_at p 2 0 a.0.0 (digest_of p (Holds a.1))) (omega arith) (has_slot-In a.0 p.slots o.within))
+        subst (λ (z : Draft). Fits leaf z) (sym e) (at-fits 0 leaf a.0 (Value_batch a.1) (state_at p 2 0 a.0.0 (digest_of p (Value_batch a.1))) (omega arith) (has_slot-In a.0 p.slots o.within))
     rule-fits d (by_votes s x w q e) =
         let v = (mode p (i ∷ inputs xs)).view in
         subst (λ (z : Draft). Fits leaf z) (sym e) (at-fits v leaf s x (state_at p 3 v s.0 (digest_of p x)) now-low w)
@@ -269,5 +269,5 @@ module _ (p : Params) (good : IsGoodParams pbft p) (me : ℕ) where
   pub sent-again : (xs : List (Item Message)) (i : Said) (leaf : ℕ) (to : To) (msg : Message) → AreHeard pbft p me xs → IsHeard pbft p i → In {A = To × Message} (to, msg) (makes p me xs i leaf).sends → IsReadMessage pbft p msg
   sent-again xs i leaf to msg heard hears h =
       let d = signed-draft p me leaf (drafts p me xs i) to msg h in
-      let f = rule-fits xs i (heard-all p me xs heard) (heard-fits p i hears) d.leaf d.draft (rule-of p me xs i d.draft d.stands) in
+      let f = rule-fits xs i (heard-all p me xs heard) (heard-fits p i hears) d.leaf d.draft (rule-of p me xs i d.draft d.refines) in
       fits-again p.setup.version msg (subst (λ (z : Message). fits p.setup.version z ≡ true) (sym d.is) f)

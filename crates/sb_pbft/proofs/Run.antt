@@ -7,7 +7,7 @@ use Rattle.iss_base.specs.Lists.{In}
 use Rattle.iss_base.proofs.Lists.{both, eqb-other}
 use Rattle.iss_request.specs.Formats.{is_signature, spell_batch, spell_count, spell_value}
 use Rattle.iss_request.specs.Setup.{IsGoodSetup}
-use Rattle.iss_request.specs.declared.requests.Value.TheVariants.{Nil, Batch as Holds}
+use Rattle.iss_request.specs.declared.requests.Value.TheVariants.{Nil, Batch as Value_batch}
 use Rattle.iss_sb.specs.declared.effects.Claim.{Claim}
 use Rattle.iss_sb.specs.declared.effects.Input.{Input}
 use Rattle.iss_sb.specs.declared.effects.Input.TheVariants.{Cast, Timeout}
@@ -100,7 +100,7 @@ pub shape : (k leaf : ℕ) (st : List ℕ) → is_signature (signature p k leaf 
 shape k leaf st = signature-shape pbft p good k leaf st
 
 pub d-fit : (k leaf : ℕ) (st : List ℕ) → ((length d == 32) && is_signature (signature p k leaf st)) ≡ true
-d-fit k leaf st = both _ _ (eq-eqb (length d) 32 (digest-length p (Holds b))) (shape k leaf st)
+d-fit k leaf st = both _ _ (eq-eqb (length d) 32 (digest-length p (Value_batch b))) (shape k leaf st)
 
 pub prepare-fit : (k leaf : ℕ) → fits 1 (prepare k leaf) ≡ true
 prepare-fit k leaf = both _ _ refl (both _ _ refl (d-fit k leaf (state_at p 2 0 0 d)))
@@ -247,11 +247,11 @@ one-gives-up = refl
 pub two-gives-up : makes p 2 [] Timeout 3 ≡ said (give_up 2 3 1 [] ∷ []) [] 1
 two-gives-up = refl
 
-pub one-renews : makes p 1 o9 (from 3 (give_up 3 4 1 [])) 12 ≡ said (renewal ∷ []) (string_of p (Holds b) ∷ string_of p Nil ∷ []) 3
+pub one-renews : makes p 1 o9 (from 3 (give_up 3 4 1 [])) 12 ≡ said (renewal ∷ []) (string_of p (Value_batch b) ∷ string_of p Nil ∷ []) 3
 unfolding sha256 digest_bytes hash_after compress rounds schedule first_words spell_batch spell_count spell_value
 one-renews = refl
 
-pub two-prepares : makes p 2 t1 (from 1 renewal) 5 ≡ said (Prepare 1 (slot 0) d (sig 2 5 2 1 0 d) ∷ Prepare 1 (slot 4) nil (sig 2 6 2 1 4 nil) ∷ []) (string_of p (Holds b) ∷ string_of p (Holds b) ∷ string_of p Nil ∷ []) 2
+pub two-prepares : makes p 2 t1 (from 1 renewal) 5 ≡ said (Prepare 1 (slot 0) d (sig 2 5 2 1 0 d) ∷ Prepare 1 (slot 4) nil (sig 2 6 2 1 4 nil) ∷ []) (string_of p (Value_batch b) ∷ string_of p (Value_batch b) ∷ string_of p Nil ∷ []) 2
 unfolding sha256 digest_bytes hash_after compress rounds schedule first_words spell_batch spell_count spell_value
 two-prepares = refl
 
@@ -419,6 +419,6 @@ last = world z3 o10 t4
 pub r17 : IsReached pbft p last
 r17 = let w = world z3 o10 t3 in after r16 (move-two z3 o10 t3 (from 3 (again 3 5)) 7 (credible w 3 (again 3 5) (omega arith) (again-fit 3 5) (one-claim w 3 5 (state_at p 2 1 0 d) (omega arith) (omega arith) (of-three w (state_at p 2 1 0 d)))))
 
-pub delivers : delivered pbft p 1 (last 1) 0 ≡ Some (Holds b)
+pub delivers : delivered pbft p 1 (last 1) 0 ≡ Some (Value_batch b)
 unfolding sha256 digest_bytes hash_after compress rounds schedule first_words spell_batch spell_count spell_value
 delivers = refl

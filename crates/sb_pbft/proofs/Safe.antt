@@ -4,7 +4,7 @@ use Rattle.iss_base.specs.Lists.{In}
 use Rattle.iss_request.specs.declared.ids.Slot.{Slot}
 use Rattle.iss_request.specs.declared.requests.Batch.{Batch}
 use Rattle.iss_request.specs.declared.requests.Value.{Value}
-use Rattle.iss_request.specs.declared.requests.Value.TheVariants.{Batch as Holds}
+use Rattle.iss_request.specs.declared.requests.Value.TheVariants.{Batch as Value_batch}
 use Rattle.iss_sb.specs.Calls.{IsGoodParams}
 use Rattle.iss_sb.specs.Evidence.{IsReached, IsString, Item, Made, Separate, World, delivered}
 use Rattle.iss_sb.specs.Laws.{IsBroadcast, IsSafe}
@@ -78,12 +78,12 @@ module _ (p : Params) (good : IsGoodParams pbft p) (w : World Message) (reached 
       let xs = subst (λ (z : Made Message). In {A = To × Message} (to, ViewChange v cs sig) z.sends) m.made h in
       let a = signed-draft p i x.leaf (drafts p i m.before x.input) to (ViewChange v cs sig) xs in
       let change = sent-change p i a.leaf a.draft v cs sig a.is in
-      let drafted_change = drafted-in p i before m.before x (DraftViewChange v cs) m.front (subst (λ (z : Draft). In z (drafts p i m.before x.input)) change a.stands) in
+      let drafted_change = drafted-in p i before m.before x (DraftViewChange v cs) m.front (subst (λ (z : Draft). In z (drafts p i m.before x.input)) change a.refines) in
       let low = change-view p i before v cs drafted_change in
       let ys = subst (λ (z : Made Message). In {A = To × Message} (other, Commit c slot d tag) z.sends) made.0 g in
       let b = signed-draft p i y.leaf (drafts p i before y.input) other (Commit c slot d tag) ys in
       let commit = sent-commit p i b.leaf b.draft c slot d tag b.is in
-      let r = commit-rule p i before y.input c slot d (rule-of p i before y.input (DraftCommit c slot d) (subst (λ (z : Draft). In z (drafts p i before y.input)) commit b.stands)) in
+      let r = commit-rule p i before y.input c slot d (rule-of p i before y.input (DraftCommit c slot d) (subst (λ (z : Draft). In z (drafts p i before y.input)) commit b.refines)) in
       let now_at = r.view in
       let more = (grows p (mode p (inputs before)) y.input).view in
       omega (arith, low, now_at, more)
@@ -122,8 +122,8 @@ module _ (p : Params) (good : IsGoodParams pbft p) (w : World Message) (reached 
     pub roots : AreRooted p w
     roots c b h e = rooted p w good facts sep c.view c.slot.0 b (subst (λ (z : Value). Certified p w c.view c.slot.0 z) e (certified c h))
 
-    delivered-root : (i s : ℕ) (b : Batch) → delivered pbft p i (w i) s ≡ Some (Holds b) → IsRooted p w s b
-    delivered-root i s b h = let r = seen i s (Holds b) h in rooted p w good facts sep r.view s b r.shown
+    delivered-root : (i s : ℕ) (b : Batch) → delivered pbft p i (w i) s ≡ Some (Value_batch b) → IsRooted p w s b
+    delivered-root i s b h = let r = seen i s (Value_batch b) h in rooted p w good facts sep r.view s b r.shown
 
     agreement : (i j s : ℕ) (x y : Value) → delivered pbft p i (w i) s ≡ Some x → delivered pbft p j (w j) s ≡ Some y → x ≡ y
     agreement i j s x y h k =

@@ -7,7 +7,7 @@ use Rattle.iss_request.specs.declared.ids.NodeId.{NodeId}
 use Rattle.iss_request.specs.declared.ids.Slot.{Slot}
 use Rattle.iss_request.specs.declared.requests.Batch.{Batch}
 use Rattle.iss_request.specs.declared.requests.Value.{Value}
-use Rattle.iss_request.specs.declared.requests.Value.TheVariants.{Batch as Holds}
+use Rattle.iss_request.specs.declared.requests.Value.TheVariants.{Batch as Value_batch}
 use Rattle.iss_sb.specs.Evidence.{Item, Made}
 use Rattle.iss_sb.specs.Legal.{AreMade}
 use Rattle.iss_sb.specs.declared.effects.Input.TheVariants.{Cast, Receive, Timeout}
@@ -34,8 +34,8 @@ Asked p me l i a = ◌≡◌ {A = Option (Slot × Batch)} (asked p me l i) (Some
 
 -- the messages of an input, by the rule that makes them
 pub data Rule (p : Params) (me : ℕ) (xs : List (Item Message)) (i : Said) (d : Draft) : Type 0 where
-  by_cast : (a : Slot × Batch) → Asked p me (inputs xs) i a → (me == p.leader.0) ≡ true → SameDraft d (DraftPrePrepare a.0 (Holds a.1)) → Rule p me xs i d
-  by_proposal : (a : Slot × Batch) → Asked p me (inputs xs) i a → (me == p.leader.0) ≡ false → SameDraft d (DraftPrepare 0 a.0 (digest_of p (Holds a.1))) → Rule p me xs i d
+  by_cast : (a : Slot × Batch) → Asked p me (inputs xs) i a → (me == p.leader.0) ≡ true → SameDraft d (DraftPrePrepare a.0 (Value_batch a.1)) → Rule p me xs i d
+  by_proposal : (a : Slot × Batch) → Asked p me (inputs xs) i a → (me == p.leader.0) ≡ false → SameDraft d (DraftPrepare 0 a.0 (digest_of p (Value_batch a.1))) → Rule p me xs i d
   by_votes : (s : Slot) (x : Value) → In s p.slots → ready p me (i ∷ inputs xs) (kept p me xs) s.0 ≡ Some x → SameDraft d (DraftCommit (mode p (i ∷ inputs xs)).view s (digest_of p x)) → Rule p me xs i d
   by_timeout : SameInput i Timeout → passes (mode p (inputs xs)) ≡ true → SameDraft d (DraftViewChange ((mode p (inputs xs)).view + 1) (tops (kept p me xs) p.slots)) → Rule p me xs i d
   by_changes : (from : NodeId) (v : ℕ) (cs : List Certificate) (sig : List ℕ) → SameInput i (Receive from (ViewChange v cs sig)) → completes p me (inputs xs) i v ≡ true → SameDraft d (DraftNewView v (changes p (i ∷ inputs xs) v)) → Rule p me xs i d
@@ -45,7 +45,7 @@ first-rule : (p : Params) (me : ℕ) (xs : List (Item Message)) (i : Said) (d : 
 first-rule p me xs i d None e h = absurd h
 first-rule p me xs i d (Some a) e h = go (me == p.leader.0) refl h
   where
-    go : (b : Bool) → (me == p.leader.0) ≡ b → In d (cond b (DraftPrePrepare a.0 (Holds a.1)) (DraftPrepare 0 a.0 (digest_of p (Holds a.1))) ∷ []) → Rule p me xs i d
+    go : (b : Bool) → (me == p.leader.0) ≡ b → In d (cond b (DraftPrePrepare a.0 (Value_batch a.1)) (DraftPrepare 0 a.0 (digest_of p (Value_batch a.1))) ∷ []) → Rule p me xs i d
     go true q (inl k) = by_cast a e q k
     go true q (inr k) = absurd k
     go false q (inl k) = by_proposal a e q k
@@ -105,14 +105,14 @@ drafted p me (x ∷ xs) = drafts p me xs x.input ++ drafted p me xs
 
 pub record IsSignedDraft (p : Params) (me : ℕ) (ds : List Draft) (msg : Message) : Type 0 where
   pub draft : Draft
-  pub stands : In draft ds
+  pub refines : In draft ds
   pub leaf : ℕ
   pub is : msg ≡ sign p me leaf draft
 
 pub signed-draft : (p : Params) (me leaf : ℕ) (ds : List Draft) (to : To) (msg : Message) → In {A = To × Message} (to, msg) (sign_all p me leaf ds) → IsSignedDraft p me ds msg
 signed-draft p me leaf [] to msg h = absurd h
-signed-draft p me leaf (d ∷ ds) to msg (inl e) = record { draft = d; stands = inl refl; leaf = leaf; is = ap (λ (z : To × Message). z.1) e }
-signed-draft p me leaf (d ∷ ds) to msg (inr h) = let r = signed-draft p me (leaf + uses p d) ds to msg h in record { draft = r.draft; stands = inr r.stands; leaf = r.leaf; is = r.is }
+signed-draft p me leaf (d ∷ ds) to msg (inl e) = record { draft = d; refines = inl refl; leaf = leaf; is = ap (λ (z : To × Message). z.1) e }
+signed-draft p me leaf (d ∷ ds) to msg (inr h) = let r = signed-draft p me (leaf + uses p d) ds to msg h in record { draft = r.draft; refines = inr r.refines; leaf = r.leaf; is = r.is }
 
 pub record IsDrafted (p : Params) (me : ℕ) (xs : List (Item Message)) (msg : Message) : Type 0 where
   pub older : List (Item Message)
@@ -131,11 +131,11 @@ sent-drafted p me (y ∷ ys) x to msg made (inl e) k =
 
 pub record Proposed (p : Params) (me : ℕ) (l : List Said) (v s : ℕ) (d : List ℕ) : Type 0 where
   pub value : Value
-  pub stands : proposal p me l v s ≡ Some value
+  pub refines : proposal p me l v s ≡ Some value
   pub digest : digest_of p value ≡ d
 
 pub proposed-on : (p : Params) (me : ℕ) (l : List Said) (i : Said) (v s : ℕ) (d : List ℕ) → Proposed p me l v s d → Proposed p me (i ∷ l) v s d
-proposed-on p me l i v s d h = record { value = h.value; stands = persists p me l i v s h.value h.stands; digest = h.digest }
+proposed-on p me l i v s d h = record { value = h.value; refines = persists p me l i v s h.value h.refines; digest = h.digest }
 
 pub no-pre : (s t : Slot) (v : ℕ) (d : List ℕ) (x : Value) → SameDraft (DraftPrepare v s d) (DraftPrePrepare t x) → ⊥
 no-pre s t v d x h = cc
@@ -158,13 +158,13 @@ pub same-prepare : (v w : ℕ) (s t : Slot) (d e : List ℕ) → SameDraft (Draf
 same-prepare v w s t d e h = record { view = cc; slot = cc; digest = cc }
 
 prepare-rule : (p : Params) (me : ℕ) (xs : List (Item Message)) (i : Said) (v : ℕ) (s : Slot) (d : List ℕ) → Rule p me xs i (DraftPrepare v s d) → Proposed p me (i ∷ inputs xs) v s.0 d
-prepare-rule p me xs i v s d (by_cast a q b e) = absurd (no-pre s a.0 v d (Holds a.1) e)
+prepare-rule p me xs i v s d (by_cast a q b e) = absurd (no-pre s a.0 v d (Value_batch a.1) e)
 prepare-rule p me xs i v s d (by_proposal a q b e) =
-    let r = same-prepare v 0 s a.0 d (digest_of p (Holds a.1)) e in
+    let r = same-prepare v 0 s a.0 d (digest_of p (Value_batch a.1)) e in
     let there = proposed-offer p me (inputs xs) i a q in
     record {
-      value = Holds a.1;
-      stands = subst (λ (z : ℕ). proposal p me (i ∷ inputs xs) z s.0 ≡ Some (Holds a.1)) (sym r.view) (subst (λ (z : Slot). proposal p me (i ∷ inputs xs) 0 z.0 ≡ Some (Holds a.1)) (sym r.slot) there);
+      value = Value_batch a.1;
+      refines = subst (λ (z : ℕ). proposal p me (i ∷ inputs xs) z s.0 ≡ Some (Value_batch a.1)) (sym r.view) (subst (λ (z : Slot). proposal p me (i ∷ inputs xs) 0 z.0 ≡ Some (Value_batch a.1)) (sym r.slot) there);
       digest = sym r.digest;
     }
 prepare-rule p me xs i v s d (by_votes t x w q e) = absurd (no-commit s t v (mode p (i ∷ inputs xs)).view d (digest_of p x) e)
@@ -176,7 +176,7 @@ prepare-rule p me xs i v s d (by_view from w ys sigs sig t a b c k e) =
     let here : proposal p me (i ∷ inputs xs) w t.0 ≡ Some (choice ys t.0) = subst (λ (z : Said). proposal p me (z ∷ inputs xs) w t.0 ≡ Some (choice ys t.0)) (sym a) there in
     record {
       value = choice ys t.0;
-      stands = subst (λ (z : ℕ). proposal p me (i ∷ inputs xs) z s.0 ≡ Some (choice ys t.0)) (sym r.view) (subst (λ (z : Slot). proposal p me (i ∷ inputs xs) w z.0 ≡ Some (choice ys t.0)) (sym r.slot) here);
+      refines = subst (λ (z : ℕ). proposal p me (i ∷ inputs xs) z s.0 ≡ Some (choice ys t.0)) (sym r.view) (subst (λ (z : Slot). proposal p me (i ∷ inputs xs) w z.0 ≡ Some (choice ys t.0)) (sym r.slot) here);
       digest = sym r.digest;
     }
 
@@ -192,4 +192,4 @@ pub one-prepare : (p : Params) (me : ℕ) (xs : List (Item Message)) (v : ℕ) (
 one-prepare p me xs v s d e a b =
     let x = prepare-proposed p me xs v s d a in
     let y = prepare-proposed p me xs v s e b in
-    sym x.digest ∙ ap (digest_of p) (same-some (proposal p me (inputs xs) v s.0) x.value y.value x.stands y.stands) ∙ y.digest
+    sym x.digest ∙ ap (digest_of p) (same-some (proposal p me (inputs xs) v s.0) x.value y.value x.refines y.refines) ∙ y.digest

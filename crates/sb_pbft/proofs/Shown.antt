@@ -10,7 +10,7 @@ use Rattle.iss_request.specs.declared.ids.NodeId.{NodeId}
 use Rattle.iss_request.specs.declared.ids.Slot.{Slot}
 use Rattle.iss_request.specs.declared.requests.Batch.{Batch}
 use Rattle.iss_request.specs.declared.requests.Value.{Value}
-use Rattle.iss_request.specs.declared.requests.Value.TheVariants.{Batch as Holds}
+use Rattle.iss_request.specs.declared.requests.Value.TheVariants.{Batch as Value_batch}
 use Rattle.iss_sb.specs.Calls.{IsGoodParams, has_slot}
 use Rattle.iss_sb.specs.Evidence.{IsCredible, IsSigned, Item, Made, MayCome, Verifies, World, delivered, is_correct}
 use Rattle.iss_sb.specs.Legal.{AreMade, IsLegal}
@@ -95,10 +95,10 @@ module _ (p : Params) (good : IsGoodParams pbft p) (w : World Message) (legal : 
   pub source-granted : (i by : ℕ) (t : List ℕ) → Source p i (w i) by t → Granted p w by t
   source-granted i by t (came x k from msg q s) correct =
       let c = came-credible i x from msg k q in
-      let signed = c.signed s.claim s.stands (ap (λ (z : ℕ). is_correct p.setup z) s.named ∙ correct) in
+      let signed = c.signed s.claim s.refines (ap (λ (z : ℕ). is_correct p.setup z) s.named ∙ correct) in
       subst (λ (z : ℕ). IsSigned pbft p w z t) s.named (subst (λ (z : List ℕ). IsSigned pbft p w s.claim.by.0 z) s.is signed)
   source-granted i by t (sent x k to msg h s e) correct =
-      let signed : IsSigned pbft p w i t = record { item = x; taken = k; to = to; msg = msg; sent = h; claim = s.claim; made = s.stands; by = s.named; is = s.is } in
+      let signed : IsSigned pbft p w i t = record { item = x; taken = k; to = to; msg = msg; sent = h; claim = s.claim; made = s.refines; by = s.named; is = s.is } in
       subst (λ (z : ℕ). IsSigned pbft p w z t) (sym e) signed
 
   -- ---- what came fits
@@ -153,21 +153,21 @@ module _ (p : Params) (good : IsGoodParams pbft p) (w : World Message) (legal : 
         entered-known x before from v ys sigs sig (choice ys s) e (in_right (string_of p (choice ys s)) (value_strings p (certificates_of ys)) (choice_strings p ys p.slots) (in-choices p ys s p.slots h)) (choice-fits p.setup.version s ys (entry-fits x before from v ys sigs sig e).changes)
 
     -- the batch that is accepted
-    asked-in : (l : List Said) (input : Said) (a : Slot × Batch) → Offers p i (mode p l) input a → ◌≡◌ {A = Option (Slot × Batch)} (asked p i l input) (Some a) → In (string_of p (Holds a.1)) (strings p i l input)
+    asked-in : (l : List Said) (input : Said) (a : Slot × Batch) → Offers p i (mode p l) input a → ◌≡◌ {A = Option (Slot × Batch)} (asked p i l input) (Some a) → In (string_of p (Value_batch a.1)) (strings p i l input)
     asked-in l input a o h = elim o.cause [
       | inl mine ↦
           let ask : ◌≡◌ {A = Option (Slot × Batch)} (asked p i l (Cast a.0 a.1)) (Some a) = subst (λ (z : Said). ◌≡◌ {A = Option (Slot × Batch)} (asked p i l z) (Some a)) mine.input h in
-          subst (λ (z : Said). In (string_of p (Holds a.1)) (strings p i l z)) (sym mine.input) (subst (λ (z : Option (Slot × Batch)). In (string_of p (Holds a.1)) (asked_strings p z)) (sym ask) (inl refl))
+          subst (λ (z : Said). In (string_of p (Value_batch a.1)) (strings p i l z)) (sym mine.input) (subst (λ (z : Option (Slot × Batch)). In (string_of p (Value_batch a.1)) (asked_strings p z)) (sym ask) (inl refl))
       | inr told ↦
-          let m : Message = PrePrepare 0 a.0 (Holds a.1) told.sig in
+          let m : Message = PrePrepare 0 a.0 (Value_batch a.1) told.sig in
           let ask : ◌≡◌ {A = Option (Slot × Batch)} (asked p i l (Receive p.leader m)) (Some a) = subst (λ (z : Said). ◌≡◌ {A = Option (Slot × Batch)} (asked p i l z) (Some a)) told.input h in
-          subst (λ (z : Said). In (string_of p (Holds a.1)) (strings p i l z)) (sym told.input) (subst (λ (z : Option (Slot × Batch)). In (string_of p (Holds a.1)) (asked_strings p z)) (sym ask) (inl refl))
+          subst (λ (z : Said). In (string_of p (Value_batch a.1)) (strings p i l z)) (sym told.input) (subst (λ (z : Option (Slot × Batch)). In (string_of p (Value_batch a.1)) (asked_strings p z)) (sym ask) (inl refl))
     ]
 
-    pub asked-known : (x : Item Message) (before : List (Item Message)) (a : Slot × Batch) → In x (w i) → x.made ≡ makes p i before x.input x.leaf → ◌≡◌ {A = Option (Slot × Batch)} (asked p i (inputs before) x.input) (Some a) → IsKnown p w (Holds a.1)
+    pub asked-known : (x : Item Message) (before : List (Item Message)) (a : Slot × Batch) → In x (w i) → x.made ≡ makes p i before x.input x.leaf → ◌≡◌ {A = Option (Slot × Batch)} (asked p i (inputs before) x.input) (Some a) → IsKnown p w (Value_batch a.1)
     asked-known x before a k made h =
         let o = offer-is p i (mode p (inputs before)) x.input a (asked-is p i (inputs before) x.input a h).offered in
-        hashed-here x before (Holds a.1) k made (asked-in (inputs before) x.input a o h) (asked-fits p i (inputs before) x.input a (come-fits i x.input (legal.came i x k)) h)
+        hashed-here x before (Value_batch a.1) k made (asked-in (inputs before) x.input a o h) (asked-fits p i (inputs before) x.input a (come-fits i x.input (legal.came i x k)) h)
 
     pub proposal-known : (xs : List (Item Message)) (v s : ℕ) (x : Value) → Part xs → AreMade pbft p i xs → proposal p i (inputs xs) v s ≡ Some x → IsKnown p w x
     proposal-known [] v s x sub made h = absurd (cc)

@@ -6,7 +6,7 @@ use Rattle.iss_base.specs.Lists.{first_of}
 use Rattle.iss_base.proofs.Lists.{and-true}
 use Rattle.iss_request.specs.declared.ids.Slot.{Slot}
 use Rattle.iss_request.specs.declared.requests.Batch.{Batch}
-use Rattle.iss_request.specs.declared.requests.Value.TheVariants.{Batch as Holds}
+use Rattle.iss_request.specs.declared.requests.Value.TheVariants.{Batch as Value_batch}
 use Rattle.iss_sb.specs.Calls.{has_slot}
 use Rattle.iss_sb.specs.Evidence.{Item}
 use Rattle.iss_sb.specs.declared.effects.Input.TheVariants.{Cast, Receive, Timeout}
@@ -53,7 +53,7 @@ module _ (p : Params) (me : ℕ) where
   offered-signed None v s x = refl
   offered-signed (Some a) v s x = go ((v == 0) && (s == a.0.0))
     where
-      go : (b : Bool) → is_some (when b (Holds a.1)) ≡ is_some (when b (first_sig p me x.leaf a x.input))
+      go : (b : Bool) → is_some (when b (Value_batch a.1)) ≡ is_some (when b (first_sig p me x.leaf a x.input))
       go true = refl
       go false = refl
 

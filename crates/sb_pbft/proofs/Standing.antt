@@ -9,7 +9,7 @@ use Rattle.iss_request.specs.declared.ids.NodeId.{NodeId}
 use Rattle.iss_request.specs.declared.ids.Slot.{Slot}
 use Rattle.iss_request.specs.declared.requests.Batch.{Batch}
 use Rattle.iss_request.specs.declared.requests.Value.{Value}
-use Rattle.iss_request.specs.declared.requests.Value.TheVariants.{Batch as Holds, Nil}
+use Rattle.iss_request.specs.declared.requests.Value.TheVariants.{Batch as Value_batch, Nil}
 use Rattle.iss_sb.specs.declared.effects.Effects.{Effects}
 use Rattle.iss_sb.specs.declared.effects.Input.{Input}
 use Rattle.iss_sb.specs.declared.effects.Input.TheVariants.{Cast, Receive}
@@ -23,7 +23,7 @@ use Rattle.sb_pbft.specs.Makes.{Draft, sign_all, uses_all}
 use Rattle.sb_pbft.specs.Pbft.{asks, pbft}
 use Rattle.sb_pbft.specs.Places.{change_at, proposal_at, top_at, vote_at}
 use Rattle.sb_pbft.specs.Rules.{when}
-use Rattle.sb_pbft.specs.Stands.{Does, IsTurn, Stands, held, may_cast, may_take}
+use Rattle.sb_pbft.specs.Refines.{Does, IsTurn, Refines, held, may_cast, may_take}
 use Rattle.sb_pbft.specs.Turns.{Held, accepts_of, asked_at, idle, model, turn}
 use Rattle.sb_pbft.proofs.Proposed.{cast-asked, told-asked}
 use Rattle.sb_pbft.proofs.Turning.{turn-is}
@@ -33,7 +33,7 @@ use Rattle.sb_pbft.proofs.Turning.{turn-is}
 pub starts : (p : Params) (m : Pbft) → m.view ≡ 0 → m.active ≡ true → ((v s : ℕ) → proposal_at m.proposals v s ≡ None) →
     ((v s k : ℕ) → vote_at m.prepares v s k ≡ None) → ((v s k : ℕ) → vote_at m.commits v s k ≡ None) →
     ((v k : ℕ) → change_at m.changes v k ≡ None) → ((s : ℕ) → top_at m.tops s ≡ None) →
-    m.delivered.keys ≡ [] → Stands m p m.me.0 []
+    m.delivered.keys ≡ [] → Refines m p m.me.0 []
 starts p m view active proposals prepares commits changes tops empty = record {
   node = refl;
   state = λ j. record {
@@ -55,21 +55,21 @@ starts p m view active proposals prepares commits changes tops empty = record {
 module _ (p : Params) (good : IsGoodParams pbft p) (old new : Pbft) (i : Input Message) (b l : KeyState) (e : Effects Message)
     (d : Does p old new i b l e) where
   -- the turn of the list that the old state stands for
-  turned-so : (me : ℕ) (xs : List (Item Message)) → Stands old p me xs → AreKeysOf me p.setup.keys b →
+  turned-so : (me : ℕ) (xs : List (Item Message)) → Refines old p me xs → AreKeysOf me p.setup.keys b →
       IsTurn p new me b.used (turn p me b.used (model p me xs) i) e b l
   turned-so me xs st own =
       subst (λ (z : Held). IsTurn p new me b.used (turn p me b.used z i) e b l) st.state
       (subst (λ (k : ℕ). IsTurn p new k b.used (turn p k b.used (held old) i) e b l) st.node
       (d.turns (subst (λ (k : ℕ). AreKeysOf k p.setup.keys b) (sym st.node) own)))
 
-  stands-then : (me : ℕ) (xs : List (Item Message)) → Stands old p me xs → AreKeysOf me p.setup.keys b →
-      Stands new p me (and_then pbft p me xs i b.used)
-  stands-then me xs st own = record {
+  refines-then : (me : ℕ) (xs : List (Item Message)) → Refines old p me xs → AreKeysOf me p.setup.keys b →
+      Refines new p me (and_then pbft p me xs i b.used)
+  refines-then me xs st own = record {
     node = ap (λ (k : NodeId). k.0) d.node ∙ st.node;
     state = (turned-so me xs st own).holds ∙ (turn-is p me xs i b.used good).held;
   }
 
-  takes : (me : ℕ) (xs : List (Item Message)) → Stands old p me xs → AreKeysOf me p.setup.keys b → IsTaken pbft p me xs i b.used e
+  takes : (me : ℕ) (xs : List (Item Message)) → Refines old p me xs → AreKeysOf me p.setup.keys b → IsTaken pbft p me xs i b.used e
   takes me xs st own =
       let t = turned-so me xs st own in
       let w = turn-is p me xs i b.used good in
@@ -80,9 +80,9 @@ module _ (p : Params) (good : IsGoodParams pbft p) (old new : Pbft) (i : Input M
         delivers = subst (λ (z : List (Slot × Value)). Delivers pbft p me xs (and_then pbft p me xs i b.used) z) (sym t.delivers) w.delivers;
       }
 
-  pub true-step : 2 * length p.slots + 1 ≤ left_of b → IsTrueStep pbft Stands p old new i b l e
+  pub true-step : 2 * length p.slots + 1 ≤ left_of b → IsTrueStep pbft Refines p old new i b l e
   true-step enough = record {
-    stands_for = λ me xs st own. stands-then me xs st own;
+    refined = λ me xs st own. refines-then me xs st own;
     effects = λ me xs st own. takes me xs st own;
     used = λ me xs st own. (turned-so me xs st own).used ∙ ap (λ (ds : List Draft). b.used + uses_all p ds) (turn-is p me xs i b.used good).drafts;
     within = d.within;
@@ -96,7 +96,7 @@ accepts-is : (p : Params) (me leaf : ℕ) (h : Held) (i : Input Message) (o : Op
 accepts-is p me leaf h i None = refl
 accepts-is p me leaf h i (Some a) = refl
 
-module _ (p : Params) (good : IsGoodParams pbft p) (m : Pbft) (me : ℕ) (xs : List (Item Message)) (st : Stands m p me xs) where
+module _ (p : Params) (good : IsGoodParams pbft p) (m : Pbft) (me : ℕ) (xs : List (Item Message)) (st : Refines m p me xs) where
   asked-so : (i : Input Message) → ◌≡◌ {A = Option (Slot × Batch)} (asked_at p m.me.0 (held m) i) (asked_at p me (model p me xs) i)
   asked-so i = ap (λ (k : ℕ). asked_at p k (held m) i) st.node ∙ ap (λ (z : Held). asked_at p me z i) st.state
 
@@ -107,12 +107,12 @@ module _ (p : Params) (good : IsGoodParams pbft p) (m : Pbft) (me : ℕ) (xs : L
       ∙ sym (asked-so (Cast slot batch)) ∙ cast-asked p m slot batch
 
   pub asks-told : (from : NodeId) (v : ℕ) (slot : Slot) (batch : Batch) (sig : List ℕ) →
-      ◌≡◌ {A = Option (Slot × Batch)} (asks p me xs (Receive from (PrePrepare v slot (Holds batch) sig))) (when (may_take p m from.0 v slot.0) (slot, batch))
+      ◌≡◌ {A = Option (Slot × Batch)} (asks p me xs (Receive from (PrePrepare v slot (Value_batch batch) sig))) (when (may_take p m from.0 v slot.0) (slot, batch))
   asks-told from v slot batch sig =
-      sym (turn-is p me xs (Receive from (PrePrepare v slot (Holds batch) sig)) 0 good).accepted
-      ∙ accepts-is p me 0 (model p me xs) (Receive from (PrePrepare v slot (Holds batch) sig))
-      (asked_at p me (model p me xs) (Receive from (PrePrepare v slot (Holds batch) sig)))
-      ∙ sym (asked-so (Receive from (PrePrepare v slot (Holds batch) sig))) ∙ told-asked p m slot batch from v sig
+      sym (turn-is p me xs (Receive from (PrePrepare v slot (Value_batch batch) sig)) 0 good).accepted
+      ∙ accepts-is p me 0 (model p me xs) (Receive from (PrePrepare v slot (Value_batch batch) sig))
+      (asked_at p me (model p me xs) (Receive from (PrePrepare v slot (Value_batch batch) sig)))
+      ∙ sym (asked-so (Receive from (PrePrepare v slot (Value_batch batch) sig))) ∙ told-asked p m slot batch from v sig
 
   pub asks-of-cast : (i : Input Message) (slot : Slot) (batch : Batch) (t : Bool) → i ≡ Cast slot batch → t ≡ may_cast p m slot.0 →
       ◌≡◌ {A = Option (Slot × Batch)} (when {A = Slot × Batch} t (slot, batch)) (asks p me xs i)
@@ -120,7 +120,7 @@ module _ (p : Params) (good : IsGoodParams pbft p) (m : Pbft) (me : ℕ) (xs : L
       ap (λ (z : Bool). let x : Slot × Batch = (slot, batch) in when z x) may ∙ sym (asks-cast slot batch) ∙ ap (λ (z : Input Message). asks p me xs z) (sym is)
 
   pub asks-of-told : (i : Input Message) (from : NodeId) (msg : Message) (v : ℕ) (slot : Slot) (x : Value) (batch : Batch) (sig : List ℕ) (t : Bool) →
-      i ≡ Receive from msg → msg ≡ PrePrepare v slot x sig → x ≡ Holds batch → t ≡ may_take p m from.0 v slot.0 →
+      i ≡ Receive from msg → msg ≡ PrePrepare v slot x sig → x ≡ Value_batch batch → t ≡ may_take p m from.0 v slot.0 →
       ◌≡◌ {A = Option (Slot × Batch)} (when {A = Slot × Batch} t (slot, batch)) (asks p me xs i)
   asks-of-told i from msg v slot x batch sig t is says holds may =
       ap (λ (z : Bool). let x : Slot × Batch = (slot, batch) in when z x) may ∙ sym (asks-told from v slot batch sig)

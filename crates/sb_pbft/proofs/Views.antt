@@ -8,7 +8,7 @@ use Rattle.iss_request.specs.declared.ids.NodeId.{NodeId}
 use Rattle.iss_request.specs.declared.ids.Slot.{Slot}
 use Rattle.iss_request.specs.declared.requests.Batch.{Batch}
 use Rattle.iss_request.specs.declared.requests.Value.{Value}
-use Rattle.iss_request.specs.declared.requests.Value.TheVariants.{Batch as Holds, Nil}
+use Rattle.iss_request.specs.declared.requests.Value.TheVariants.{Batch as Value_batch, Nil}
 use Rattle.iss_sb.specs.Calls.{has_slot}
 use Rattle.iss_sb.specs.declared.effects.Input.{Input}
 use Rattle.iss_sb.specs.declared.effects.Input.TheVariants.{Cast, Receive, Timeout}
@@ -124,12 +124,12 @@ pub record IsOffered (v s : ℕ) (x : Value) (o : Option (Slot × Batch)) : Type
   pub is : ◌≡◌ {A = Option (Slot × Batch)} o (Some offer)
   pub start : v ≡ 0
   pub at_slot : s ≡ offer.0.0
-  pub value : Holds offer.1 ≡ x
+  pub value : Value_batch offer.1 ≡ x
 
 pub offered-is : (o : Option (Slot × Batch)) (v s : ℕ) (x : Value) → offered o v s ≡ Some x → IsOffered v s x o
 offered-is None v s x h = absurd (cc)
 offered-is (Some a) v s x h =
-    let w = when-is ((v == 0) && (s == a.0.0)) (Holds a.1) x h in
+    let w = when-is ((v == 0) && (s == a.0.0)) (Value_batch a.1) x h in
     let b = and-true (v == 0) (s == a.0.0) w.test in
     record { offer = a; is = refl; start = eqb-true v 0 b.0; at_slot = eqb-true s a.0.0 b.1; value = w.is }
 
@@ -140,7 +140,7 @@ pub record IsOwn (p : Params) (me : ℕ) (i : Said) (a : Slot × Batch) : Type 0
 pub record IsTold (p : Params) (me : ℕ) (i : Said) (a : Slot × Batch) : Type 0 where
   pub follows : (me == p.leader.0) ≡ false
   pub sig : List ℕ
-  pub input : SameInput i (Receive p.leader (PrePrepare 0 a.0 (Holds a.1) sig))
+  pub input : SameInput i (Receive p.leader (PrePrepare 0 a.0 (Value_batch a.1) sig))
 
 pub record Offers (p : Params) (me : ℕ) (m : Mode) (i : Said) (a : Slot × Batch) : Type 0 where
   pub view : m.view ≡ 0
@@ -161,7 +161,7 @@ offer-is p me m (Cast s b) a h =
     let o = open-is p m s.0 t.1 in
     subst (λ (z : Slot × Batch). Offers p me m (Cast s b) z) w.is (record { view = o.0; active = o.1; within = o.2; cause = inl (record { leads = eqb-true me p.leader.0 t.0; input = refl }) })
 offer-is p me m (Receive from (PrePrepare v s Nil sig)) a h = absurd (cc)
-offer-is p me m (Receive from (PrePrepare v s (Holds b) sig)) a h =
+offer-is p me m (Receive from (PrePrepare v s (Value_batch b) sig)) a h =
     let w = when-is {A = Slot × Batch} ((not (me == p.leader.0) && (from.0 == p.leader.0)) && ((v == 0) && is_open p m s.0)) (s, b) a h in
     let t = and-true (not (me == p.leader.0) && (from.0 == p.leader.0)) ((v == 0) && is_open p m s.0) w.test in
     let u = and-true (not (me == p.leader.0)) (from.0 == p.leader.0) t.0 in
@@ -169,8 +169,8 @@ offer-is p me m (Receive from (PrePrepare v s (Holds b) sig)) a h =
     let o = open-is p m s.0 k.1 in
     let leader : from ≡ p.leader = node-is from p.leader (eqb-true from.0 p.leader.0 u.1) in
     let start : v ≡ 0 = eqb-true v 0 k.0 in
-    let input : SameInput (Receive from (PrePrepare v s (Holds b) sig)) (Receive p.leader (PrePrepare 0 s (Holds b) sig)) = ap (λ (z : NodeId). Receive z (PrePrepare v s (Holds b) sig)) leader ∙ ap (λ (z : ℕ). Receive p.leader (PrePrepare z s (Holds b) sig)) start in
-    subst (λ (z : Slot × Batch). Offers p me m (Receive from (PrePrepare v s (Holds b) sig)) z) w.is (record { view = o.0; active = o.1; within = o.2; cause = inr (record { follows = not-true (me == p.leader.0) u.0; sig = sig; input = input }) })
+    let input : SameInput (Receive from (PrePrepare v s (Value_batch b) sig)) (Receive p.leader (PrePrepare 0 s (Value_batch b) sig)) = ap (λ (z : NodeId). Receive z (PrePrepare v s (Value_batch b) sig)) leader ∙ ap (λ (z : ℕ). Receive p.leader (PrePrepare z s (Value_batch b) sig)) start in
+    subst (λ (z : Slot × Batch). Offers p me m (Receive from (PrePrepare v s (Value_batch b) sig)) z) w.is (record { view = o.0; active = o.1; within = o.2; cause = inr (record { follows = not-true (me == p.leader.0) u.0; sig = sig; input = input }) })
 offer-is p me m (Receive from (Prepare v s d sig)) a h = absurd (cc)
 offer-is p me m (Receive from (Commit v s d sig)) a h = absurd (cc)
 offer-is p me m (Receive from (ViewChange v cs sig)) a h = absurd (cc)
@@ -218,7 +218,7 @@ persists p me l i v s x h =
 
 -- what is accepted, and what a NewView chooses, is the proposal
 
-pub proposed-offer : (p : Params) (me : ℕ) (l : List Said) (i : Said) (a : Slot × Batch) → ◌≡◌ {A = Option (Slot × Batch)} (asked p me l i) (Some a) → proposal p me (i ∷ l) 0 a.0.0 ≡ Some (Holds a.1)
+pub proposed-offer : (p : Params) (me : ℕ) (l : List Said) (i : Said) (a : Slot × Batch) → ◌≡◌ {A = Option (Slot × Batch)} (asked p me l i) (Some a) → proposal p me (i ∷ l) 0 a.0.0 ≡ Some (Value_batch a.1)
 proposed-offer p me l i a h =
     let k = asked-is p me l i a h in
     let o = offer-is p me (mode p l) i a k.offered in

@@ -6,7 +6,7 @@ use Rattle.iss_request.specs.declared.ids.NodeId.{NodeId}
 use Rattle.iss_request.specs.declared.ids.Slot.{Slot}
 use Rattle.iss_request.specs.declared.requests.Batch.{Batch}
 use Rattle.iss_request.specs.declared.requests.Value.{Value}
-use Rattle.iss_request.specs.declared.requests.Value.TheVariants.{Batch as Holds}
+use Rattle.iss_request.specs.declared.requests.Value.TheVariants.{Batch as Value_batch}
 use Rattle.iss_sb.specs.Evidence.{Item, accepts}
 use Rattle.iss_sb.specs.declared.effects.Input.TheVariants.{Receive}
 use Rattle.iss_sb.specs.declared.effects.Params.{Params}
@@ -34,7 +34,7 @@ commit-proposed p me (x ∷ xs) v s d h = elim (in_append (DraftCommit v s d) (d
       let r = commit-rule p me xs x.input v s d (rule-of p me xs x.input (DraftCommit v s d) k) in
       let l : List Said = x.input ∷ inputs xs in
       let a = (ready-is p me l (kept p me xs) s.0 r.value r.ready).prepared.proposed in
-      record { value = r.value; stands = subst (λ (z : ℕ). proposal p me l z s.0 ≡ Some r.value) (sym r.view) a; digest = sym r.digest }
+      record { value = r.value; refines = subst (λ (z : ℕ). proposal p me l z s.0 ≡ Some r.value) (sym r.view) a; digest = sym r.digest }
   | inr k ↦ proposed-on p me (inputs xs) x.input v s.0 d (commit-proposed p me xs v s d k)
 ]
 
@@ -61,13 +61,13 @@ same-first s t x y h = record { slot = cc; value = cc }
 pub record IsFirst (p : Params) (me : ℕ) (xs : List (Item Message)) (i : Said) (s : Slot) (x : Value) : Type 0 where
   pub batch : Batch
   pub asked : Asked p me (inputs xs) i (s, batch)
-  pub value : x ≡ Holds batch
+  pub value : x ≡ Value_batch batch
 
 pub first-of-rule : (p : Params) (me : ℕ) (xs : List (Item Message)) (i : Said) (s : Slot) (x : Value) → Rule p me xs i (DraftPrePrepare s x) → IsFirst p me xs i s x
 first-of-rule p me xs i s x (by_cast a q b e) =
-    let r = same-first s a.0 x (Holds a.1) e in
+    let r = same-first s a.0 x (Value_batch a.1) e in
     record { batch = a.1; asked = subst (λ (z : Slot). Asked p me (inputs xs) i (z, a.1)) (sym r.slot) q; value = r.value }
-first-of-rule p me xs i s x (by_proposal a q b e) = absurd (no-first-prepare s a.0 x 0 (digest_of p (Holds a.1)) e)
+first-of-rule p me xs i s x (by_proposal a q b e) = absurd (no-first-prepare s a.0 x 0 (digest_of p (Value_batch a.1)) e)
 first-of-rule p me xs i s x (by_votes t y w q e) = absurd (no-first-commit s t x (mode p (i ∷ inputs xs)).view (digest_of p y) e)
 first-of-rule p me xs i s x (by_timeout a b e) = absurd (no-first-change s x _ _ e)
 first-of-rule p me xs i s x (by_changes from v cs sig a b e) = absurd (no-first-new s x v _ e)
@@ -78,7 +78,7 @@ first-proposed p me [] s x h = absurd h
 first-proposed p me (y ∷ ys) s x h = elim (in_append (DraftPrePrepare s x) (drafts p me ys y.input) (drafted p me ys) h) [
   | inl k ↦
       let r = first-of-rule p me ys y.input s x (rule-of p me ys y.input (DraftPrePrepare s x) k) in
-      record { value = Holds r.batch; stands = proposed-offer p me (inputs ys) y.input (s, r.batch) r.asked; digest = ap (digest_of p) (sym r.value) }
+      record { value = Value_batch r.batch; refines = proposed-offer p me (inputs ys) y.input (s, r.batch) r.asked; digest = ap (digest_of p) (sym r.value) }
   | inr k ↦ proposed-on p me (inputs ys) y.input 0 s.0 (digest_of p x) (first-proposed p me ys s x k)
 ]
 
@@ -87,8 +87,8 @@ same-view-change v u cs ds h = cc
 
 -- nobody gives up for view 0
 pub change-above : (p : Params) (me : ℕ) (xs : List (Item Message)) (i : Said) (v : ℕ) (cs : List Certificate) → Rule p me xs i (DraftViewChange v cs) → 0 < v
-change-above p me xs i v cs (by_cast a q b e) = absurd (no-change-pre v cs a.0 (Holds a.1) e)
-change-above p me xs i v cs (by_proposal a q b e) = absurd (no-change-prepare v 0 cs a.0 (digest_of p (Holds a.1)) e)
+change-above p me xs i v cs (by_cast a q b e) = absurd (no-change-pre v cs a.0 (Value_batch a.1) e)
+change-above p me xs i v cs (by_proposal a q b e) = absurd (no-change-prepare v 0 cs a.0 (digest_of p (Value_batch a.1)) e)
 change-above p me xs i v cs (by_votes t y w q e) = absurd (no-change-commit v _ cs t (digest_of p y) e)
 change-above p me xs i v cs (by_timeout a b e) = let k = same-view-change v ((mode p (inputs xs)).view + 1) cs _ e in omega (arith, k)
 change-above p me xs i v cs (by_changes from u ds sig a b e) = absurd (no-change-new v u cs _ e)
@@ -96,13 +96,13 @@ change-above p me xs i v cs (by_view from u ys sigs sig t a b c k e) = absurd (n
 
 -- why a Prepare was sent
 pub data IsAnswer (p : Params) (me : ℕ) (xs : List (Item Message)) (i : Said) (v : ℕ) (s : Slot) (d : List ℕ) : Type 0 where
-  to_batch : (b : Batch) → Asked p me (inputs xs) i (s, b) → v ≡ 0 → digest_of p (Holds b) ≡ d → IsAnswer p me xs i v s d
+  to_batch : (b : Batch) → Asked p me (inputs xs) i (s, b) → v ≡ 0 → digest_of p (Value_batch b) ≡ d → IsAnswer p me xs i v s d
   to_view : (from : NodeId) (ys : List Change) (sigs : List (List ℕ)) (sig : List ℕ) → SameInput i (Receive from (NewView v ys sigs sig)) → enters p (mode p (inputs xs)) from.0 v ys sigs ≡ true → In s p.slots → digest_of p (choice ys s.0) ≡ d → IsAnswer p me xs i v s d
 
 pub answer-of-rule : (p : Params) (me : ℕ) (xs : List (Item Message)) (i : Said) (v : ℕ) (s : Slot) (d : List ℕ) → Rule p me xs i (DraftPrepare v s d) → IsAnswer p me xs i v s d
-answer-of-rule p me xs i v s d (by_cast a q b e) = absurd (no-pre s a.0 v d (Holds a.1) e)
+answer-of-rule p me xs i v s d (by_cast a q b e) = absurd (no-pre s a.0 v d (Value_batch a.1) e)
 answer-of-rule p me xs i v s d (by_proposal a q b e) =
-    let r = same-prepare v 0 s a.0 d (digest_of p (Holds a.1)) e in
+    let r = same-prepare v 0 s a.0 d (digest_of p (Value_batch a.1)) e in
     to_batch a.1 (subst (λ (z : Slot). Asked p me (inputs xs) i (z, a.1)) (sym r.slot) q) r.view (sym r.digest)
 answer-of-rule p me xs i v s d (by_votes t y w q e) = absurd (no-commit s t v (mode p (i ∷ inputs xs)).view d (digest_of p y) e)
 answer-of-rule p me xs i v s d (by_timeout a b e) = absurd (no-change s v _ d _ e)

@@ -5,7 +5,7 @@ use Rattle.iss_base.specs.Quorum.{all_below, distinct, mem}
 use Rattle.iss_request.specs.declared.ids.Slot.{Slot}
 use Rattle.iss_request.specs.declared.requests.Batch.{Batch}
 use Rattle.iss_request.specs.declared.requests.Value.{Value}
-use Rattle.iss_request.specs.declared.requests.Value.TheVariants.{Batch as Holds}
+use Rattle.iss_request.specs.declared.requests.Value.TheVariants.{Batch as Value_batch}
 use Rattle.iss_sb.specs.declared.effects.Claim.{Claim}
 use Rattle.iss_sb.specs.declared.effects.Params.{Params}
 use Rattle.iss_sb.specs.declared.effects.To.{To}
@@ -44,7 +44,7 @@ AreQuiet p w = (i v c : ℕ) (x y : Item Message) (before : List (Item Message))
 -- a certificate of the slot, of this view or a higher one
 pub record Shows (cs : List Certificate) (s v : ℕ) : Type 0 where
   pub certificate : Certificate
-  pub stands : In certificate cs
+  pub refines : In certificate cs
   pub slot : certificate.slot.0 ≡ s
   pub high : v ≤ certificate.view
 
@@ -121,4 +121,4 @@ AreOnce p w = (i : ℕ) (s : Slot) (b c : Batch) → In {A = Slot × Batch} (s, 
 
 -- a good certificate with a batch leads down to such a quorum of view 0
 abbrev pub AreRooted : Params → World Message → Type 0
-AreRooted p w = (c : Certificate) (b : Batch) → IsCertificate p w c → c.value ≡ Holds b → IsRooted p w c.slot.0 b
+AreRooted p w = (c : Certificate) (b : Batch) → IsCertificate p w c → c.value ≡ Value_batch b → IsRooted p w c.slot.0 b

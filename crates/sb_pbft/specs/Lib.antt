@@ -4,4 +4,4 @@ pub mod Pbft
 pub mod Facts
 pub mod Places
 pub mod Turns
-pub mod Stands
+pub mod Refines

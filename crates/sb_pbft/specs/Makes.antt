@@ -4,7 +4,7 @@ use Rattle.iss_base.specs.Lists.{first_of}
 use Rattle.iss_request.specs.declared.ids.Slot.{Slot}
 use Rattle.iss_request.specs.declared.requests.Batch.{Batch}
 use Rattle.iss_request.specs.declared.requests.Value.{Value}
-use Rattle.iss_request.specs.declared.requests.Value.TheVariants.{Batch as Holds}
+use Rattle.iss_request.specs.declared.requests.Value.TheVariants.{Batch as Value_batch}
 use Rattle.iss_sb.specs.declared.effects.Input.{Input}
 use Rattle.iss_sb.specs.declared.effects.Input.TheVariants.{Cast, Receive, Timeout}
 use Rattle.iss_sb.specs.declared.effects.Params.{Params}
@@ -30,7 +30,7 @@ inputs (x ∷ xs) = x.input ∷ inputs xs
 
 -- in view 0: of the own one, which is the first that a cast is signed for, or of the one that came
 abbrev pub first_sig : Params → ℕ → ℕ → Slot × Batch → Input Message → List ℕ
-first_sig p me leaf a (Cast slot batch) = signature p me leaf (state_at p 1 0 a.0.0 (digest_of p (Holds a.1)))
+first_sig p me leaf a (Cast slot batch) = signature p me leaf (state_at p 1 0 a.0.0 (digest_of p (Value_batch a.1)))
 first_sig p me leaf a (Receive from (PrePrepare v slot x sig)) = sig
 first_sig p me leaf a (Receive from (Prepare v slot d sig)) = []
 first_sig p me leaf a (Receive from (Commit v slot d sig)) = []
@@ -120,7 +120,7 @@ pub data Draft : Type 0 where
 -- what is accepted the leader proposes, and the others prepare
 abbrev pub first_draft : Params → ℕ → Option (Slot × Batch) → List Draft
 first_draft p me None = []
-first_draft p me (Some a) = cond (me == p.leader.0) (DraftPrePrepare a.0 (Holds a.1)) (DraftPrepare 0 a.0 (digest_of p (Holds a.1))) ∷ []
+first_draft p me (Some a) = cond (me == p.leader.0) (DraftPrePrepare a.0 (Value_batch a.1)) (DraftPrepare 0 a.0 (digest_of p (Value_batch a.1))) ∷ []
 
 -- what is sent first: of a proposal, of a view that is given up, of a view that begins
 abbrev pub lead : Params → ℕ → List (Item Message) → Input Message → List Draft
@@ -204,7 +204,7 @@ choice_strings p xs (s ∷ ss) = string_of p (choice xs s.0) ∷ choice_strings 
 
 abbrev pub asked_strings : Params → Option (Slot × Batch) → List (List ℕ)
 asked_strings p None = []
-asked_strings p (Some a) = string_of p (Holds a.1) ∷ []
+asked_strings p (Some a) = string_of p (Value_batch a.1) ∷ []
 
 -- of a batch that is accepted; of the values of a ViewChange's certificates, where it is kept, or of a NewView's; and
 -- then, where a NewView is made or taken, those of the choice by slot

@@ -6,12 +6,12 @@ use Rattle.std.specs.declared.cmp.Ordering.{Ordering}
 use Rattle.iss_base.specs.Lists.{same_bytes}
 use Rattle.pbft_wire.specs.declared.messages.Certificate.{Certificate}
 use Rattle.pbft_wire.specs.declared.messages.Change.{Change}
-use Rattle.sb_pbft.specs.declared.changes.Changes.{Changes}
+use Rattle.sb_pbft.specs.declared.changes.ViewChanges.{ViewChanges}
 use Rattle.sb_pbft.specs.declared.changes.Maker.{Maker}
 use Rattle.sb_pbft.specs.declared.proposals.Place.{Place}
 use Rattle.sb_pbft.specs.declared.proposals.Proposal.{Proposal}
 use Rattle.sb_pbft.specs.declared.proposals.Proposals.{Proposals}
-use Rattle.sb_pbft.specs.declared.tops.Tops.{Tops}
+use Rattle.sb_pbft.specs.declared.tops.PreparedCertificates.{PreparedCertificates}
 use Rattle.sb_pbft.specs.declared.tallies.Mark.{Mark}
 use Rattle.sb_pbft.specs.declared.tallies.Voted.{Voted}
 use Rattle.sb_pbft.specs.declared.tallies.Votes.{Votes}
@@ -47,8 +47,8 @@ signature_in (Some b) = b.sig
 abbrev pub by_maker : Maker → Maker → Ordering
 by_maker = (maker_ord.ghosts).cmp
 
-abbrev pub change_at : Changes → ℕ → ℕ → Option Change
+abbrev pub change_at : ViewChanges → ℕ → ℕ → Option Change
 change_at m v k = get by_maker m.first (record { view = v; node = k })
 
-abbrev pub top_at : Tops → ℕ → Option Certificate
+abbrev pub top_at : PreparedCertificates → ℕ → Option Certificate
 top_at m s = get nat_cmp m.highest s

@@ -5,7 +5,7 @@ use Rattle.iss_base.specs.Lists.{first_of, same_bytes}
 use Rattle.iss_request.specs.declared.ids.Slot.{Slot}
 use Rattle.iss_request.specs.declared.requests.Batch.{Batch}
 use Rattle.iss_request.specs.declared.requests.Value.{Value}
-use Rattle.iss_request.specs.declared.requests.Value.TheVariants.{Nil, Batch as Holds}
+use Rattle.iss_request.specs.declared.requests.Value.TheVariants.{Nil, Batch as Value_batch}
 use Rattle.iss_sb.specs.declared.effects.Input.{Input}
 use Rattle.iss_sb.specs.declared.effects.Input.TheVariants.{Cast, Receive, Timeout}
 use Rattle.iss_sb.specs.declared.effects.Params.{Params}
@@ -64,7 +64,7 @@ is_open p m s = (m.view == 0) && (m.active && has_slot s p.slots)
 abbrev pub offer : Params → ℕ → Mode → Input Message → Option (Slot × Batch)
 offer p me m (Cast slot batch) = when ((me == p.leader.0) && is_open p m slot.0) (slot, batch)
 offer p me m (Receive from (PrePrepare v slot Nil sig)) = None
-offer p me m (Receive from (PrePrepare v slot (Holds b) sig)) =
+offer p me m (Receive from (PrePrepare v slot (Value_batch b) sig)) =
     when ((not (me == p.leader.0) && (from.0 == p.leader.0)) && ((v == 0) && is_open p m slot.0)) (slot, b)
 offer p me m (Receive from (Prepare v slot d sig)) = None
 offer p me m (Receive from (Commit v slot d sig)) = None
@@ -75,7 +75,7 @@ offer p me m Timeout = None
 -- the value that an offer gives to (v, s)
 abbrev pub offered : Option (Slot × Batch) → ℕ → ℕ → Option Value
 offered None v s = None
-offered (Some a) v s = when ((v == 0) && (s == a.0.0)) (Holds a.1)
+offered (Some a) v s = when ((v == 0) && (s == a.0.0)) (Value_batch a.1)
 
 -- the value that an input gives to (v, s) as the choice of a new view
 abbrev pub chosen : Params → Mode → Input Message → ℕ → ℕ → Option Value

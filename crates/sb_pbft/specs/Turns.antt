@@ -6,7 +6,7 @@ use Rattle.iss_request.specs.declared.ids.NodeId.{NodeId}
 use Rattle.iss_request.specs.declared.ids.Slot.{Slot}
 use Rattle.iss_request.specs.declared.requests.Batch.{Batch}
 use Rattle.iss_request.specs.declared.requests.Value.{Value}
-use Rattle.iss_request.specs.declared.requests.Value.TheVariants.{Batch as Holds}
+use Rattle.iss_request.specs.declared.requests.Value.TheVariants.{Batch as Value_batch}
 use Rattle.iss_sb.specs.declared.effects.Input.{Input}
 use Rattle.iss_sb.specs.declared.effects.Input.TheVariants.{Cast, Receive, Timeout}
 use Rattle.iss_sb.specs.declared.effects.Params.{Params}
@@ -175,7 +175,7 @@ abbrev pub with_proposal : Held → ℕ → ℕ → Proposal → Held
 with_proposal h v s q = record h { proposal = set_at2 h.proposal v s (Some q) }
 
 abbrev pub first_proposal : Params → Slot × Batch → List ℕ → Proposal
-first_proposal p a sig = record { value = Holds a.1; digest = digest_of p (Holds a.1); sig = sig }
+first_proposal p a sig = record { value = Value_batch a.1; digest = digest_of p (Value_batch a.1); sig = sig }
 
 -- what was accepted is said first
 abbrev pub and_said : Params → ℕ → Slot × Batch → Turn → Turn

@@ -4,7 +4,7 @@ ghost use Rattle.iss_base.specs.Lists.{first_of};
 ghost use Rattle.sb_pbft.specs.Rules.{changes_from, when};
 ghost use Rattle.sb_pbft.specs.Places.{change_at};
 
-use iss_request::{NoMemory, NodeId, Row};
+use iss_request::{NoMemory, NodeId, Seq};
 use pbft_wire::Change;
 use std::alloc::Global;
 use std::collections::BTreeMap;
@@ -18,16 +18,16 @@ pub struct Maker {
 
 /// The ViewChanges that were kept.
 #[derive(Drop)]
-pub struct Changes {
+pub struct ViewChanges {
     pub(crate) first: BTreeMap<Maker, Change>,
 }
 
-impl Changes {
+impl ViewChanges {
     /// None kept.
-    pub fn new(alloc: Global) -> Changes
+    pub fn new(alloc: Global) -> ViewChanges
         ensures { (v k : ℕ) → change_at result v k ≡ None }
     {
-        Changes {
+        ViewChanges {
             first: BTreeMap::new(alloc),
         }
     }
@@ -70,10 +70,10 @@ impl Changes {
     }
 
     /// Those of the first `n` nodes once more, by ascending nodes.
-    pub fn all(&self, alloc: Global, view: u16, n: u8) -> Result<Row<Change>, NoMemory>
+    pub fn all(&self, alloc: Global, view: u16, n: u8) -> Result<Seq<Change>, NoMemory>
         ensures { IfOk result (λ all. all ≡ changes_from (change_at self.now view) 0 n) }
     {
-        let mut all = Row::new(alloc);
+        let mut all = Seq::new(alloc);
         for node in 0..n {
             let maker = Maker { view, node };
             if let Some(change) = self.first.get(&maker) {

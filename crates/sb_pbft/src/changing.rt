@@ -9,13 +9,13 @@ ghost use Rattle.sb_pbft.specs.Makes.{choice_strings, value_strings};
 ghost use Rattle.sb_pbft.specs.Pbft.{pbft};
 ghost use Rattle.sb_pbft.specs.Places.{proposal_at};
 ghost use Rattle.sb_pbft.specs.Rules.{enters, is_newer, passes};
-ghost use Rattle.sb_pbft.specs.Stands.{Does, HasHashed, Renews, chosen_among, held, is_due};
+ghost use Rattle.sb_pbft.specs.Refines.{Does, HasHashed, Renews, chosen_among, held, is_due};
 
 use crate::pbft::Pbft;
 use crate::proposals::{Proposal, Proposals};
 use crate::sending::{send_change, send_new_view};
 use iss_keys::Keys;
-use iss_request::{Bytes, NoMemory, NodeId, Row, Slot};
+use iss_request::{Bytes, NoMemory, NodeId, Seq, Slot};
 use iss_sb::{Effects, Input, Params};
 use pbft_views::{all_good, are_enough, choice, choice_string, primary};
 use pbft_wire::{Certificate, Change, Message, digest_of, string_of};
@@ -215,8 +215,8 @@ impl Pbft {
         p: &Params,
         from: NodeId,
         view: u16,
-        changes: Row<Change>,
-        signatures: Row<Bytes>,
+        changes: Seq<Change>,
+        signatures: Seq<Bytes>,
         keys: &mut Keys,
     ) -> Result<Effects<Message>, NoMemory>
         requires good { IsGoodParams pbft p.now }

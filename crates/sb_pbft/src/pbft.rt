@@ -4,14 +4,14 @@ ghost use Rattle.iss_keys.specs.KeyStates.{left_of};
 ghost use Rattle.iss_sb.specs.Calls.{IsGoodInput, IsGoodParams, IsStep, named};
 ghost use Rattle.iss_sb.specs.Evidence.{Item};
 ghost use Rattle.sb_pbft.specs.Pbft.{asks, pbft};
-ghost use Rattle.sb_pbft.specs.Stands.{Does, Stands};
+ghost use Rattle.sb_pbft.specs.Refines.{Does, Refines};
 
-use crate::changes::Changes;
+use crate::changes::ViewChanges;
 use crate::proposals::Proposals;
 use crate::tallies::Votes;
-use crate::tops::Tops;
+use crate::tops::PreparedCertificates;
 use iss_keys::Keys;
-use iss_request::{Batch, Bytes, DecodeError, Fields, NoMemory, NodeId, Row, Slot, Value, Writer};
+use iss_request::{Batch, Bytes, DecodeError, Fields, NoMemory, NodeId, Seq, Slot, Value, Writer};
 use iss_sb::{Claim, Effects, Input, Params, Sequenced, StepError};
 use pbft_wire::{Change, Message};
 use std::alloc::Global;
@@ -28,8 +28,8 @@ pub struct Pbft {
     pub(crate) prepares: Votes,
     // their digests alone
     pub(crate) commits: Votes,
-    pub(crate) changes: Changes,
-    pub(crate) tops: Tops,
+    pub(crate) changes: ViewChanges,
+    pub(crate) tops: PreparedCertificates,
     pub(crate) delivered: BTreeSet<u64>,
 }
 
@@ -69,7 +69,7 @@ impl Pbft {
     // The batch that a message offers, where it would be taken.
     fn offers<'a>(&'a self, p: &Params, from: NodeId, msg: &'a Message) -> Option<(Slot, &'a Batch)>
         requires good { IsGoodParams pbft p.now }
-        ensures { (me : ℕ) (xs : List (Item Message)) → Stands self.now p.now me xs →
+        ensures { (me : ℕ) (xs : List (Item Message)) → Refines self.now p.now me xs →
             named result ≡ asks p.now me xs (Input.Receive from msg.now) }
     {
         match msg {
@@ -160,9 +160,9 @@ impl Sequenced for Pbft {
 
     ghost STOPPING = { false };
 
-    ghost meaning = { pbft };
+    ghost spec = { pbft };
 
-    ghost stands = { Stands };
+    ghost refines = { Refines };
 
     fn nodes_of(f: u32) -> u32 {
         3 * f + 1
@@ -180,8 +180,8 @@ impl Sequenced for Pbft {
         let proposals = Proposals::new(alloc);
         let prepares = Votes::new(alloc);
         let commits = Votes::new(alloc);
-        let changes = Changes::new(alloc);
-        let tops = Tops::new(alloc);
+        let changes = ViewChanges::new(alloc);
+        let tops = PreparedCertificates::new(alloc);
         let delivered = BTreeSet::new(alloc);
         Ok(Pbft {
             me,
@@ -224,7 +224,7 @@ impl Sequenced for Pbft {
     ) -> Result<Effects<Message>, StepError>
         requires good { IsGoodParams pbft p.now }
         requires input { IsGoodInput p.now i }
-        ensures { IsStep pbft Stands p.now self.old self.new i verdict keys.old keys.new result }
+        ensures { IsStep pbft Refines p.now self.old self.new i verdict keys.old keys.new result }
     {
         if keys.left() < most_leaves(p) {
             return Err(StepError::Spent);
@@ -252,7 +252,7 @@ impl Sequenced for Pbft {
         p: &Params,
         from: NodeId,
         m: &Message,
-    ) -> Result<Row<Claim>, NoMemory> {
+    ) -> Result<Seq<Claim>, NoMemory> {
         pbft_views::claims(alloc, p, from, m)
     }
 

@@ -3,7 +3,7 @@ ghost use Rattle.std.specs.Prelude.{◌≡◌, ◌≤◌, ◌*◌, ◌+◌, leng
 ghost use Rattle.iss_keys.specs.KeyStates.{left_of};
 ghost use Rattle.iss_sb.specs.Calls.{IsGoodParams};
 ghost use Rattle.sb_pbft.specs.Pbft.{pbft};
-ghost use Rattle.sb_pbft.specs.Stands.{Does, HasAccepted, held, is_free, may_cast, may_take};
+ghost use Rattle.sb_pbft.specs.Refines.{Does, HasAccepted, held, is_free, may_cast, may_take};
 
 use crate::pbft::Pbft;
 use crate::proposals::Proposal;

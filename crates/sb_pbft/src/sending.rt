@@ -5,10 +5,10 @@ ghost use Rattle.iss_keys.specs.KeyStates.{left_of};
 ghost use Rattle.iss_sb.specs.Statements.{signature};
 ghost use Rattle.pbft_wire.specs.Statements.{state_at};
 ghost use Rattle.sb_pbft.specs.Makes.{DraftCommit, DraftNewView, DraftPrepare, DraftViewChange, choice_sigs};
-ghost use Rattle.sb_pbft.specs.Stands.{Sent};
+ghost use Rattle.sb_pbft.specs.Refines.{Sent};
 
 use iss_keys::Keys;
-use iss_request::{Bytes, NoMemory, Row, Slot};
+use iss_request::{Bytes, NoMemory, Seq, Slot};
 use iss_sb::{Params, To, sign};
 use pbft_views::choice_digest;
 use pbft_wire::signing::{COMMIT, PRE_PREPARE, PREPARE};
@@ -43,7 +43,7 @@ pub fn send_prepare(
     slot: Slot,
     digest: [u8; 32],
     keys: &mut Keys,
-    sends: &mut Row<(To, Message)>,
+    sends: &mut Seq<(To, Message)>,
 ) -> Result<(), NoMemory>
     requires { 0 < left_of keys.old }
     ensures sent { OnOk result (Sent p.now (DraftPrepare view slot digest ∷ []) keys.old keys.new sends.old sends.new) }
@@ -68,7 +68,7 @@ pub fn send_commit(
     slot: Slot,
     digest: [u8; 32],
     keys: &mut Keys,
-    sends: &mut Row<(To, Message)>,
+    sends: &mut Seq<(To, Message)>,
 ) -> Result<(), NoMemory>
     requires { 0 < left_of keys.old }
     ensures sent { OnOk result (Sent p.now (DraftCommit view slot digest ∷ []) keys.old keys.new sends.old sends.new) }
@@ -90,9 +90,9 @@ pub fn send_change(
     alloc: Global,
     p: &Params,
     view: u16,
-    certificates: Row<Certificate>,
+    certificates: Seq<Certificate>,
     keys: &mut Keys,
-    sends: &mut Row<(To, Message)>,
+    sends: &mut Seq<(To, Message)>,
 ) -> Result<(), NoMemory>
     requires few { length certificates ≤ 255 }
     requires enough { 0 < left_of keys.old }
@@ -117,7 +117,7 @@ fn sign_choices(
     changes: &[Change],
     slots: &[Slot],
     keys: &mut Keys,
-    all: &mut Row<Bytes>,
+    all: &mut Seq<Bytes>,
 ) -> Result<(), NoMemory>
     requires { length slots.now ≤ left_of keys.old }
     ensures sigs { OnOk result ((me : ℕ) → AreKeysOf me p.now.setup.keys keys.old →
@@ -139,15 +139,15 @@ pub fn send_new_view(
     alloc: Global,
     p: &Params,
     view: u16,
-    changes: Row<Change>,
+    changes: Seq<Change>,
     keys: &mut Keys,
-    sends: &mut Row<(To, Message)>,
+    sends: &mut Seq<(To, Message)>,
 ) -> Result<(), NoMemory>
     requires { length p.now.slots + 1 ≤ left_of keys.old }
     ensures { OnOk result (Sent p.now (DraftNewView view changes ∷ []) keys.old keys.new sends.old sends.new) }
 {
     let slots = p.slots.as_slice();
-    let mut signatures = Row::new(alloc);
+    let mut signatures = Seq::new(alloc);
     sign_choices(
         alloc,
         p,

@@ -3,7 +3,7 @@ ghost use Rattle.std.specs.Prelude.{◌≡◌, ◌≤◌, ◌*◌, ◌∷◌, []
 ghost use Rattle.iss_keys.specs.KeyStates.{left_of};
 ghost use Rattle.iss_sb.specs.Calls.{IsGoodParams};
 ghost use Rattle.sb_pbft.specs.Pbft.{pbft};
-ghost use Rattle.sb_pbft.specs.Stands.{Answers, Commits, HandsOver, HasCertified, HasDelivered, Settles, held};
+ghost use Rattle.sb_pbft.specs.Refines.{Answers, Commits, HandsOver, HasCertified, HasDelivered, Settles, held};
 ghost use Rattle.sb_pbft.specs.Turns.{committed_at, newly_at, prepared_at, ready_at};
 
 use crate::pbft::Pbft;
@@ -112,7 +112,7 @@ impl Pbft {
     }
 
     // A Prepare for the proposal of the view, where the node answers.
-    fn answer(
+    fn prepare_if_asked(
         &self,
         alloc: Global,
         p: &Params,
@@ -158,7 +158,7 @@ impl Pbft {
     }
 
     // Delivers what is to be delivered of the view at the slot.
-    fn hand_over(
+    fn deliver_committed(
         &mut self,
         p: &Params,
         view: u16,
@@ -190,9 +190,9 @@ impl Pbft {
         requires enough { 2 ≤ left_of keys.old }
         ensures { OnOk result (Settles p.now answers view (slot ∷ []) self.old self.new keys.old keys.new effects.old effects.new) }
     {
-        self.answer(alloc, p, answers, view, slot, keys, effects)?;
+        self.prepare_if_asked(alloc, p, answers, view, slot, keys, effects)?;
         self.commit(alloc, p, slot, keys, effects)?;
-        self.hand_over(p, view, slot, effects)?;
+        self.deliver_committed(p, view, slot, effects)?;
         Ok(())
     }
 

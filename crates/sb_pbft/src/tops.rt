@@ -4,23 +4,23 @@ ghost use Rattle.iss_base.specs.Lists.{set_at};
 ghost use Rattle.sb_pbft.specs.Places.{top_at};
 ghost use Rattle.sb_pbft.specs.Turns.{is_of, tops_of};
 
-use iss_request::{NoMemory, Row, Slot};
+use iss_request::{NoMemory, Seq, Slot};
 use pbft_wire::Certificate;
 use std::alloc::Global;
 use std::collections::BTreeMap;
 
 /// The certificates that were kept, the highest of each slot.
 #[derive(Drop)]
-pub struct Tops {
+pub struct PreparedCertificates {
     pub(crate) highest: BTreeMap<u64, Certificate>,
 }
 
-impl Tops {
+impl PreparedCertificates {
     /// None kept.
-    pub fn new(alloc: Global) -> Tops
+    pub fn new(alloc: Global) -> PreparedCertificates
         ensures { (s : ℕ) → top_at result s ≡ None }
     {
-        Tops {
+        PreparedCertificates {
             highest: BTreeMap::new(alloc),
         }
     }
@@ -44,10 +44,10 @@ impl Tops {
     }
 
     /// Those of these slots once more.
-    pub fn of_slots(&self, alloc: Global, slots: &[Slot]) -> Result<Row<Certificate>, NoMemory>
+    pub fn of_slots(&self, alloc: Global, slots: &[Slot]) -> Result<Seq<Certificate>, NoMemory>
         ensures { IfOk result (λ all. all ≡ tops_of (top_at self.now) slots.now) }
     {
-        let mut all = Row::new(alloc);
+        let mut all = Seq::new(alloc);
         for slot in slots {
             if let Some(certificate) = self.highest.get(&slot.0) {
                 all.push(certificate.copy(alloc)?)?;

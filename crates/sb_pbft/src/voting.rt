@@ -4,7 +4,7 @@ ghost use Rattle.iss_keys.specs.KeyStates.{left_of};
 ghost use Rattle.iss_sb.specs.Calls.{IsGoodParams, has_slot};
 ghost use Rattle.pbft_views.specs.Good.{primary};
 ghost use Rattle.sb_pbft.specs.Pbft.{pbft};
-ghost use Rattle.sb_pbft.specs.Stands.{Does};
+ghost use Rattle.sb_pbft.specs.Refines.{Does};
 
 use crate::pbft::Pbft;
 use iss_keys::Keys;

@@ -15,7 +15,7 @@ use Rattle.sb_raft.specs.declared.raft.Raft.{Raft}
 use Rattle.sb_raft.specs.Held.{paired}
 use Rattle.sb_raft.specs.Logs.{contents, filled}
 use Rattle.sb_raft.specs.Rules.{Follower, Leader, State, Step, raised, to}
-use Rattle.sb_raft.specs.Stands.{Does, IsLow, IsReply, OnlySends, held, newly}
+use Rattle.sb_raft.specs.Refines.{Does, IsLow, IsReply, OnlySends, held, newly}
 use Rattle.sb_raft.proofs.Newly.{paired-none}
 use Rattle.sb_raft.proofs.Steps.{Raise, level, higher, raise}
 

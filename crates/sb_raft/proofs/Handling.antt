@@ -18,7 +18,7 @@ use Rattle.sb_raft.specs.declared.raft.Raft.{Raft}
 use Rattle.sb_raft.specs.Held.{LogState, is_mergeable, paired, with_merged}
 use Rattle.sb_raft.specs.Logs.{contents, filled, fits_behind, merged, stay}
 use Rattle.sb_raft.specs.Rules.{Follower, Leader, State, Step, answer, appended, on_append, quiet, taken, to}
-use Rattle.sb_raft.specs.Stands.{Does, IsLow, IsReply, held, merges}
+use Rattle.sb_raft.specs.Refines.{Does, IsLow, IsReply, held, merges}
 use Rattle.sb_raft.proofs.Commits.{take_kept}
 use Rattle.sb_raft.proofs.Doing.{does-nothing, does-reply, rebased}
 use Rattle.sb_raft.proofs.Merging.{merged-reach}

@@ -22,7 +22,7 @@ use Rattle.sb_raft.specs.Kept.{kept}
 use Rattle.sb_raft.specs.Logs.{contents, entry, filled, nils}
 use Rattle.sb_raft.specs.Raft.{raft}
 use Rattle.sb_raft.specs.Rules.{Candidate, Leader, State, Step, advanced, answer, append_behind, appends, ask_vote, candidate, counted, filling, grants, greatest, is_candidate, is_leader, may_cast, may_commit, on_ask, on_cast, on_not_ok, on_ok, on_reply, on_timeout, on_vote, others, quiet, risen, spread, stands_up, to, to_each, won}
-use Rattle.sb_raft.specs.Stands.{Does, Fits, HasRoom, IsLow, OnlySends, cast_of, held}
+use Rattle.sb_raft.specs.Refines.{Does, Fits, HasRoom, IsLow, OnlySends, cast_of, held}
 use Rattle.sb_raft.proofs.Bounds.{Bounds, match-bounds, won-bounds}
 use Rattle.sb_raft.proofs.Doing.{does-nothing, does-only, everywhere, rebased, restep}
 use Rattle.sb_raft.proofs.Effects.{cast-parts}
@@ -231,8 +231,8 @@ module _ (p : Params) (m : Raft) where
       goes_not p low m.me (held m) m (is_leader (held m).role) (record { state = held m; sends = appends p me (held m) }) (if nat_lt m.term 65535 then stands_up p me (candidate me (held m)) else quiet (held m)) None e other
       (goes_not p low m.me (held m) m (nat_lt m.term 65535) (stands_up p me (candidate me (held m))) (quiet (held m)) None e last (does-nothing p low m m (quiet (held m)) e refl (λ _. refl) refl refl n))
 
-  pub timeout-stands : (new : Raft) (e : Effects Message) → is_leader (held m).role ≡ false → m.term < 65535 → Does p m.me low (held m) new (stands_up p me (candidate me (held m))) None e → Does p m.me low (held m) new (on_timeout p me (held m)) None e
-  timeout-stands new e other lt d =
+  pub timeout-refines : (new : Raft) (e : Effects Message) → is_leader (held m).role ≡ false → m.term < 65535 → Does p m.me low (held m) new (stands_up p me (candidate me (held m))) None e → Does p m.me low (held m) new (on_timeout p me (held m)) None e
+  timeout-refines new e other lt d =
       goes_not p low m.me (held m) new (is_leader (held m).role) (record { state = held m; sends = appends p me (held m) }) (if nat_lt m.term 65535 then stands_up p me (candidate me (held m)) else quiet (held m)) None e other
       (goes p low m.me (held m) new (nat_lt m.term 65535) (stands_up p me (candidate me (held m))) (quiet (held m)) None e (lt-ltb m.term 65535 lt) d)
 

@@ -8,7 +8,7 @@ use Rattle.iss_base.proofs.Quorum.{count-mono, or_right_true}
 use Rattle.iss_sb.specs.declared.effects.Params.{Params}
 use Rattle.sb_raft.specs.Logs.{term_at}
 use Rattle.sb_raft.specs.Rules.{State, greatest, holds, may_commit}
-use Rattle.sb_raft.specs.Stands.{IsHeld, IsMost, far}
+use Rattle.sb_raft.specs.Refines.{IsHeld, IsMost, far}
 
 -- ---- the greatest number of a range that passes a test, if any
 

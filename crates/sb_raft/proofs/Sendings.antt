@@ -7,7 +7,7 @@ use Rattle.iss_sb.specs.declared.effects.To.TheVariants.{One as To_one}
 use Rattle.iss_sb.specs.Calls.{AreToNodes}
 use Rattle.raft_wire.specs.declared.messages.Message.{Message}
 use Rattle.sb_raft.specs.Rules.{others, to, to_each}
-use Rattle.sb_raft.specs.Stands.{other}
+use Rattle.sb_raft.specs.Refines.{other}
 
 pub other-self : (me k : ℕ) → k ≡ me → other me k ≡ []
 other-self me k e = ap (λ (b : Bool). cond b [] (k ∷ [])) (subst (λ (z : ℕ). (k == z) ≡ true) e (eqb-same k))

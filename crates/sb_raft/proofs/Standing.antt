@@ -20,7 +20,7 @@ use Rattle.sb_raft.specs.declared.raft.Raft.{Raft}
 use Rattle.sb_raft.specs.Logs.{contents, filled}
 use Rattle.sb_raft.specs.Raft.{asks, raft, state, value_at}
 use Rattle.sb_raft.specs.Rules.{State, Step, is_candidate, may_cast, step}
-use Rattle.sb_raft.specs.Stands.{Does, IsLow, Stands, cast_of, held, newly}
+use Rattle.sb_raft.specs.Refines.{Does, IsLow, Refines, cast_of, held, newly}
 use Rattle.sb_raft.proofs.Bounds.{bounded}
 use Rattle.sb_raft.proofs.Delivers.{contents-both, delivered-is, grown, room}
 use Rattle.sb_raft.proofs.Few.{few, no-more}
@@ -64,8 +64,8 @@ module _ (p : Params) (good : IsGoodParams raft p) (me : ℕ) (xs : List (Item M
 
 -- ---- indices
 
-pub stands-low : (p : Params) → IsGoodParams raft p → (m : Raft) (me : ℕ) (xs : List (Item Message)) → Stands m p me xs → m.term < 2 ^ 16 → IsLow (held m)
-stands-low p good m me xs st low =
+pub refines-low : (p : Params) → IsGoodParams raft p → (m : Raft) (me : ℕ) (xs : List (Item Message)) → Refines m p me xs → m.term < 2 ^ 16 → IsLow (held m)
+refines-low p good m me xs st low =
     let f = few p good me xs in
     let s = state p me xs in
     let marks = no-more (is_candidate s.role) (length s.log) (65600 + s.term + filled s.log) f.marks in
@@ -79,30 +79,30 @@ stands-low p good m me xs st low =
 
 module _ (p : Params) (good : IsGoodParams raft p) (old new : Raft) (i : Input Message) (accepted : Option (Slot × Batch)) (e : Effects Message) (low : old.term < 2 ^ 16)
     (d : Does p old.me (IsLow (held old)) (held old) new (step p old.me.0 (held old) i) accepted e) where
-  step-same : (me : ℕ) (xs : List (Item Message)) → Stands old p me xs → step p old.me.0 (held old) i ≡ step p me (state p me xs) i
+  step-same : (me : ℕ) (xs : List (Item Message)) → Refines old p me xs → step p old.me.0 (held old) i ≡ step p me (state p me xs) i
   step-same me xs st = ap (λ (k : ℕ). step p k (held old) i) st.node ∙ ap (λ (z : State). step p me z i) st.state
 
-  stands-then : (me : ℕ) (xs : List (Item Message)) (leaf : ℕ) → Stands old p me xs → Stands new p me (and_then raft p me xs i leaf)
-  stands-then me xs leaf st = record {
+  refines-then : (me : ℕ) (xs : List (Item Message)) (leaf : ℕ) → Refines old p me xs → Refines new p me (and_then raft p me xs i leaf)
+  refines-then me xs leaf st = record {
     node = ap (λ z. z.0) d.node ∙ st.node;
-    state = d.state (stands-low p good old me xs st low) ∙ ap (λ (z : Step). z.state) (step-same me xs st);
+    state = d.state (refines-low p good old me xs st low) ∙ ap (λ (z : Step). z.state) (step-same me xs st);
   }
 
-  takes : ((me : ℕ) (xs : List (Item Message)) → Stands old p me xs → accepted ≡ asks p me xs i) → (me : ℕ) (xs : List (Item Message)) (leaf : ℕ) → Stands old p me xs → IsTaken raft p me xs i leaf e
+  takes : ((me : ℕ) (xs : List (Item Message)) → Refines old p me xs → accepted ≡ asks p me xs i) → (me : ℕ) (xs : List (Item Message)) (leaf : ℕ) → Refines old p me xs → IsTaken raft p me xs i leaf e
   takes asked me xs leaf st =
-      let later = stands-then me xs leaf st in
+      let later = refines-then me xs leaf st in
       let x : Item Message = record { input = i; leaf = leaf; made = raft.makes p me xs i leaf } in
       record {
-        sends = d.sends (stands-low p good old me xs st low) ∙ ap (λ (z : Step). z.sends) (step-same me xs st);
+        sends = d.sends (refines-low p good old me xs st low) ∙ ap (λ (z : Step). z.sends) (step-same me xs st);
         accepted = d.accepts ∙ asked me xs st;
         hashed = d.hashed;
         delivers = subst (λ (z : List (Slot × Value)). Delivers raft p me xs (x ∷ xs) z)
             (sym (d.delivers ∙ ap (λ (z : State). newly p z (held new)) st.state ∙ ap (λ (z : State). newly p (state p me xs) z) later.state)) (newly-delivered p good me xs x);
       }
 
-  pub true-step : ((me : ℕ) (xs : List (Item Message)) → Stands old p me xs → accepted ≡ asks p me xs i) → IfSome accepted (λ a. In a.0 p.slots) → (keys : KeyState) → IsTrueStep raft Stands p old new i keys keys e
+  pub true-step : ((me : ℕ) (xs : List (Item Message)) → Refines old p me xs → accepted ≡ asks p me xs i) → IfSome accepted (λ a. In a.0 p.slots) → (keys : KeyState) → IsTrueStep raft Refines p old new i keys keys e
   true-step asked inside keys = record {
-    stands_for = λ me xs st own. stands-then me xs keys.used st;
+    refined = λ me xs st own. refines-then me xs keys.used st;
     effects = λ me xs st own. takes asked me xs keys.used st;
     used = λ me xs st own. omega arith;
     within = record {
@@ -118,7 +118,7 @@ module _ (p : Params) (good : IsGoodParams raft p) (old new : Raft) (i : Input M
   }
 
 -- what is accepted with a cast is asked for, and of the segment
-pub cast-asked : (p : Params) (m : Raft) (me : ℕ) (xs : List (Item Message)) (slot : Slot) (batch : Batch) → Stands m p me xs → cast_of p (held m) slot batch ≡ asks p me xs (Cast slot batch)
+pub cast-asked : (p : Params) (m : Raft) (me : ℕ) (xs : List (Item Message)) (slot : Slot) (batch : Batch) → Refines m p me xs → cast_of p (held m) slot batch ≡ asks p me xs (Cast slot batch)
 cast-asked p m me xs slot batch st = ap (λ (z : State). cast_of p z slot batch) st.state
 
 pub cast-inside : (p : Params) (s : State) (slot : Slot) (batch : Batch) → IfSome (cast_of p s slot batch) (λ a. In a.0 p.slots)

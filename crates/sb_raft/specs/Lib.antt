@@ -5,4 +5,4 @@ pub mod Kept
 pub mod Logs
 pub mod Raft
 pub mod Rules
-pub mod Stands
+pub mod Refines

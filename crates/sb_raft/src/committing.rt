@@ -4,11 +4,11 @@ ghost use Rattle.iss_base.specs.Quorum.{count_below};
 ghost use Rattle.iss_sb.specs.Calls.{AreToNodes, IsGoodParams};
 ghost use Rattle.sb_raft.specs.Raft.{raft};
 ghost use Rattle.sb_raft.specs.Rules.{advanced, greatest, holds, may_commit};
-ghost use Rattle.sb_raft.specs.Stands.{Does, Fits, IsMost, far, held};
+ghost use Rattle.sb_raft.specs.Refines.{Does, Fits, IsMost, far, held};
 
 use crate::raft::Raft;
 use crate::sending::only;
-use iss_request::{NoMemory, NodeId, Row};
+use iss_request::{NoMemory, NodeId, Seq};
 use iss_sb::{Effects, Params, To};
 use raft_wire::Message;
 use std::alloc::Global;
@@ -82,7 +82,7 @@ impl Raft {
         &mut self,
         alloc: Global,
         p: &Params,
-        sends: Row<(To, Message)>,
+        sends: Seq<(To, Message)>,
     ) -> Result<Effects<Message>, NoMemory>
         requires good { IsGoodParams raft p.now }
         requires addressed { AreToNodes p.now.setup.n sends }

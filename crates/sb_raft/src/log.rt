@@ -4,7 +4,7 @@ ghost use Rattle.iss_request.specs.declared.requests.Value.{Value};
 ghost use Rattle.sb_raft.specs.Held.{is_mergeable, no_log, paired, same, starts_with, with_merged};
 ghost use Rattle.sb_raft.specs.Logs.{content, contents, filled, last_term, nils, term_at};
 
-use iss_request::{NoMemory, Row, Slot, Value};
+use iss_request::{NoMemory, Seq, Slot, Value};
 use raft_wire::{Entry, What};
 use std::alloc::Global;
 use std::marker::Model;
@@ -57,7 +57,7 @@ fn put_slot(
     slots: &[Slot],
     place: usize,
     value: Value,
-    fresh: &mut Row<(Slot, Value)>,
+    fresh: &mut Seq<(Slot, Value)>,
 ) -> Result<(), NoMemory>
     ensures { OnOk result (fresh.new ≡ fresh.old ++ paired (drop place slots.now) (value ∷ [])) }
 {
@@ -122,10 +122,10 @@ impl Log {
     }
 
     /// Copies of the entries behind an index.
-    pub fn behind(&self, alloc: Global, index: usize) -> Result<Row<Entry>, NoMemory>
+    pub fn behind(&self, alloc: Global, index: usize) -> Result<Seq<Entry>, NoMemory>
         ensures { IfOk result (λ es. es ≡ drop index self.now.entries) }
     {
-        let mut copies = Row::new(alloc);
+        let mut copies = Seq::new(alloc);
         for at in index..self.entries.len() {
             let entry = self.entries[at].copy()?;
             copies.push(entry)?;
@@ -209,7 +209,7 @@ impl Log {
 
     /// Puts entries behind an index: those that stand there go from the first on that differs in term. Nothing is changed
     /// where a committed one would go, or the log would be too long; the answer tells.
-    pub fn merge(&mut self, index: usize, entries: Row<Entry>) -> Result<bool, NoMemory>
+    pub fn merge(&mut self, index: usize, entries: Seq<Entry>) -> Result<bool, NoMemory>
         requires { index ≤ length self.old.entries }
         ensures tells { IfOk result (λ b. b ≡ is_mergeable self.old index entries) }
         ensures log { IfOk result (λ b. self.new ≡ (if b then with_merged self.old index entries else self.old)) }
@@ -231,7 +231,7 @@ impl Log {
     }
 
     // Commits one entry more, and puts the slot that it fills with its value.
-    fn pass(&mut self, slots: &[Slot], fresh: &mut Row<(Slot, Value)>) -> Result<(), NoMemory>
+    fn pass(&mut self, slots: &[Slot], fresh: &mut Seq<(Slot, Value)>) -> Result<(), NoMemory>
         requires { self.old.commit < length self.old.entries }
         ensures log { OnOk result (self.new ≡ record self.old { commit = self.old.commit + 1 }) }
         ensures fresh { OnOk result (fresh.new ≡ fresh.old ++ paired (drop (filled (take self.old.commit self.old.entries)) slots.now)
@@ -253,13 +253,13 @@ impl Log {
         alloc: Global,
         index: usize,
         slots: &[Slot],
-    ) -> Result<Row<(Slot, Value)>, NoMemory>
+    ) -> Result<Seq<(Slot, Value)>, NoMemory>
         requires { index ≤ length self.old.entries }
         ensures log { OnOk result (self.new ≡ record self.old { commit = max self.old.commit index }) }
         ensures filled { IfOk result (λ ds. ds ≡ paired (drop (filled (take self.old.commit self.old.entries)) slots.now)
             (contents (drop self.old.commit (take index self.old.entries)))) }
     {
-        let mut fresh = Row::new(alloc);
+        let mut fresh = Seq::new(alloc);
         'up: while self.commit < index {
             self.pass(slots, &mut fresh)?;
         }

@@ -10,17 +10,17 @@ use std::collections::BTreeMap;
 
 /// A thing for each node, the same for all but those that were set.
 #[derive(Drop)]
-pub struct Marks<T> {
+pub struct PerPeer<T> {
     pub(crate) set: BTreeMap<u8, T>,
     pub(crate) others: T,
 }
 
-impl<T: Copy + Drop> Marks<T> {
+impl<T: Copy + Drop> PerPeer<T> {
     /// The same for all.
-    pub fn all(alloc: Global, others: T) -> Marks<T>
+    pub fn all(alloc: Global, others: T) -> PerPeer<T>
         ensures { (k : ℕ) → kept result k ≡ others }
     {
-        Marks {
+        PerPeer {
             set: BTreeMap::new(alloc),
             others,
         }
@@ -46,7 +46,7 @@ impl<T: Copy + Drop> Marks<T> {
 }
 
 /// How many of the first `n` nodes are marked.
-pub fn count(marks: &Marks<bool>, n: u8) -> u32
+pub fn count(marks: &PerPeer<bool>, n: u8) -> u32
     ensures { result ≡ count_below (kept marks.now) n }
 {
     let mut count = 0u32;

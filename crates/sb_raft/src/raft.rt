@@ -3,31 +3,31 @@ ghost use Rattle.std.specs.Prelude.{◌≡◌, ◌<◌, None, IfOk};
 ghost use Rattle.iss_sb.specs.Calls.{IsGoodInput, IsGoodParams, IsStep};
 ghost use Rattle.sb_raft.specs.Raft.{raft};
 ghost use Rattle.sb_raft.specs.Rules.{is_candidate, is_leader, on_message};
-ghost use Rattle.sb_raft.specs.Stands.{Does, IsLow, Stands, held, role_of};
+ghost use Rattle.sb_raft.specs.Refines.{Does, IsLow, Refines, held, role_of};
 
 use crate::log::Log;
-use crate::marks::Marks;
+use crate::marks::PerPeer;
 use iss_keys::Keys;
-use iss_request::{Batch, DecodeError, Fields, NoMemory, NodeId, Row, Slot, Writer};
+use iss_request::{Batch, DecodeError, Fields, NoMemory, NodeId, Seq, Slot, Writer};
 use iss_sb::{Claim, Effects, Input, Params, Sequenced, StepError};
 use raft_wire::Message;
 use std::alloc::Global;
 
 /// What a node is in its term.
 #[derive(Clone, Copy, Debug)]
-pub enum Part {
+pub enum Role {
     Follower,
     Candidate,
     Leader,
 }
 
-impl Part {
+impl Role {
     /// Whether it leads.
     pub fn is_leader(self) -> bool
         ensures { result ≡ is_leader (role_of self) }
     {
         match self {
-            Part::Leader => true,
+            Role::Leader => true,
             _ => false,
         }
     }
@@ -37,7 +37,7 @@ impl Part {
         ensures { result ≡ is_candidate (role_of self) }
     {
         match self {
-            Part::Candidate => true,
+            Role::Candidate => true,
             _ => false,
         }
     }
@@ -50,13 +50,13 @@ pub struct Raft {
     pub(crate) term: u16,
     // whom it voted for in the term
     pub(crate) vote: Option<u8>,
-    pub(crate) part: Part,
+    pub(crate) part: Role,
     pub(crate) log: Log,
     // of a leader, for each other node: the index to send from, and how far the node is known to hold the log
-    pub(crate) next: Marks<usize>,
-    pub(crate) matched: Marks<usize>,
+    pub(crate) next: PerPeer<usize>,
+    pub(crate) matched: PerPeer<usize>,
     // who granted a candidate its term, itself included
-    pub(crate) granted: Marks<bool>,
+    pub(crate) granted: PerPeer<bool>,
 }
 
 impl Raft {
@@ -133,9 +133,9 @@ impl Sequenced for Raft {
 
     ghost STOPPING = { true };
 
-    ghost meaning = { raft };
+    ghost spec = { raft };
 
-    ghost stands = { Stands };
+    ghost refines = { Refines };
 
     fn nodes_of(f: u32) -> u32 {
         2 * f + 1
@@ -151,9 +151,9 @@ impl Sequenced for Raft {
 
     fn start(alloc: Global, p: &Params, me: NodeId) -> Result<Raft, NoMemory> {
         let part = if me == p.leader {
-            Part::Leader
+            Role::Leader
         } else {
-            Part::Follower
+            Role::Follower
         };
         Ok(Raft {
             me,
@@ -161,9 +161,9 @@ impl Sequenced for Raft {
             vote: Some(p.leader.0),
             part,
             log: Log::new(alloc),
-            next: Marks::all(alloc, 1),
-            matched: Marks::all(alloc, 0),
-            granted: Marks::all(alloc, false),
+            next: PerPeer::all(alloc, 1),
+            matched: PerPeer::all(alloc, 0),
+            granted: PerPeer::all(alloc, false),
         })
     }
 
@@ -194,7 +194,7 @@ impl Sequenced for Raft {
     ) -> Result<Effects<Message>, StepError>
         requires good { IsGoodParams raft p.now }
         requires input { IsGoodInput p.now i }
-        ensures { IsStep raft Stands p.now self.old self.new i verdict keys.old keys.new result }
+        ensures { IsStep raft Refines p.now self.old self.new i verdict keys.old keys.new result }
     {
         let _term = self.term();
         if !verdict {
@@ -220,8 +220,8 @@ impl Sequenced for Raft {
         _p: &Params,
         _from: NodeId,
         _m: &Message,
-    ) -> Result<Row<Claim>, NoMemory> {
-        Ok(Row::new(alloc))
+    ) -> Result<Seq<Claim>, NoMemory> {
+        Ok(Seq::new(alloc))
     }
 
     fn laws() {}

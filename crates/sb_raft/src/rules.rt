@@ -7,12 +7,12 @@ ghost use Rattle.sb_raft.specs.Logs.{fits_behind, up_to_date};
 ghost use Rattle.sb_raft.specs.Raft.{raft};
 ghost use Rattle.sb_raft.specs.Rules.{candidate, counted, free_for, grants, is_candidate, is_leader, is_slot, may_cast, on_append};
 ghost use Rattle.sb_raft.specs.Rules.{on_ask, on_cast, on_not_ok, on_ok, on_reply, on_timeout, on_vote, raised, stands_up, won};
-ghost use Rattle.sb_raft.specs.Stands.{Does, HasRoom, IsLow, cast_of, held, merges, role_of};
+ghost use Rattle.sb_raft.specs.Refines.{Does, HasRoom, IsLow, cast_of, held, merges, role_of};
 
-use crate::marks::{Marks, count};
-use crate::raft::{Part, Raft};
+use crate::marks::{PerPeer, count};
+use crate::raft::{Raft, Role};
 use crate::sending::{one, only, reply};
-use iss_request::{Batch, NoMemory, NodeId, Row, Slot};
+use iss_request::{Batch, NoMemory, NodeId, Seq, Slot};
 use iss_sb::{Effects, Params, To};
 use raft_wire::{Entry, Message, What};
 use std::alloc::Global;
@@ -30,7 +30,7 @@ impl Raft {
         if self.term < term {
             self.term = term;
             self.vote = None;
-            self.part = Part::Follower;
+            self.part = Role::Follower;
         }
     }
 
@@ -59,7 +59,7 @@ impl Raft {
         let what = What::Holds(batch.copy()?);
         let term = self.term;
         self.log.push(Entry { term, what })?;
-        let mut sends = Row::new(alloc);
+        let mut sends = Seq::new(alloc);
         self.append_to_others(alloc, p, &mut sends)?;
         let mut effects = self.advance(alloc, p, sends)?;
         effects.accepted = Some((slot, batch));
@@ -77,7 +77,7 @@ impl Raft {
         previous: u32,
         previous_term: u16,
         commit: u32,
-        entries: Row<Entry>,
+        entries: Seq<Entry>,
     ) -> Result<Effects<Message>, NoMemory>
         requires { from.0 < p.now.setup.n }
         ensures { IfOk result (λ e. Does p.now self.old.me (IsLow (held self.old)) (held self.old) self.new
@@ -86,7 +86,7 @@ impl Raft {
         if term != self.term {
             return reply(alloc, from, self.term, false, previous as usize);
         }
-        self.part = Part::Follower;
+        self.part = Role::Follower;
         if !self.fits_behind(previous as usize, previous_term) {
             return reply(alloc, from, self.term, false, previous as usize);
         }
@@ -109,7 +109,7 @@ impl Raft {
         from: NodeId,
         previous: usize,
         commit: usize,
-        entries: Row<Entry>,
+        entries: Seq<Entry>,
     ) -> Result<Effects<Message>, NoMemory>
         requires from { from.0 < p.now.setup.n }
         requires previous { previous ≤ length self.old.log.entries }
@@ -179,7 +179,7 @@ impl Raft {
         let held = self.matched.at(from).max(index);
         self.matched.put(from, held)?;
         self.next.put(from, held.saturating_add(1))?;
-        self.advance(alloc, p, Row::new(alloc))
+        self.advance(alloc, p, Seq::new(alloc))
     }
 
     fn was_sent_last(&self, node: NodeId, index: usize) -> bool
@@ -286,7 +286,7 @@ impl Raft {
             return Ok(Effects::nothing(alloc));
         }
         self.granted.put(from, true)?;
-        self.count_votes(alloc, p, Row::new(alloc))
+        self.count_votes(alloc, p, Seq::new(alloc))
     }
 
     // Leads if a quorum granted the term, and sends the log then, behind what is sent.
@@ -294,7 +294,7 @@ impl Raft {
         &mut self,
         alloc: Global,
         p: &Params,
-        sends: Row<(To, Message)>,
+        sends: Seq<(To, Message)>,
     ) -> Result<Effects<Message>, NoMemory>
         requires good { IsGoodParams raft p.now }
         requires addressed { AreToNodes p.now.setup.n sends }
@@ -318,9 +318,9 @@ impl Raft {
     {
         let missing = p.slots.len().saturating_sub(self.log.filled());
         let term = self.term;
-        self.part = Part::Leader;
-        self.next = Marks::all(alloc, self.log.len().saturating_add(1));
-        self.matched = Marks::all(alloc, 0);
+        self.part = Role::Leader;
+        self.next = PerPeer::all(alloc, self.log.len().saturating_add(1));
+        self.matched = PerPeer::all(alloc, 0);
         let what = What::Mark;
         self.log.push(Entry { term, what })?;
         self.log.push_nils(term, missing)
@@ -338,7 +338,7 @@ impl Raft {
             (on_timeout p.now self.old.me.0 (held self.old)) None e) }
     {
         if self.part.is_leader() {
-            let mut sends = Row::new(alloc);
+            let mut sends = Seq::new(alloc);
             self.append_to_others(alloc, p, &mut sends)?;
             return Ok(only(alloc, sends));
         }
@@ -356,8 +356,8 @@ impl Raft {
     {
         self.term += 1;
         self.vote = Some(self.me.0);
-        self.part = Part::Candidate;
-        self.granted = Marks::all(alloc, false);
+        self.part = Role::Candidate;
+        self.granted = PerPeer::all(alloc, false);
         self.granted.put(self.me, true)?;
         let sends = self.ask_others(alloc, p)?;
         self.count_votes(alloc, p, sends)

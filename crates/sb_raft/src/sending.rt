@@ -3,10 +3,10 @@ ghost use Rattle.std.specs.Prelude.{◌≡◌, ◌<◌, ◌≤◌, ◌^◌, ◌+
 ghost use Rattle.iss_sb.specs.Calls.{AreToNodes, IsGoodParams};
 ghost use Rattle.sb_raft.specs.Raft.{raft};
 ghost use Rattle.sb_raft.specs.Rules.{append_behind, appends, ask_vote, others, append_to, to, to_each};
-ghost use Rattle.sb_raft.specs.Stands.{Fits, IsReply, OnlySends, held, other};
+ghost use Rattle.sb_raft.specs.Refines.{Fits, IsReply, OnlySends, held, other};
 
 use crate::raft::Raft;
-use iss_request::{NoMemory, NodeId, Row};
+use iss_request::{NoMemory, NodeId, Seq};
 use iss_sb::{Effects, Params, To};
 use raft_wire::Message;
 use std::alloc::Global;
@@ -22,7 +22,7 @@ fn field_of(index: usize) -> u32
 }
 
 /// These messages, and nothing else.
-pub fn only(alloc: Global, sends: Row<(To, Message)>) -> Effects<Message>
+pub fn only(alloc: Global, sends: Seq<(To, Message)>) -> Effects<Message>
     ensures { OnlySends sends result }
 {
     let mut effects = Effects::nothing(alloc);
@@ -34,7 +34,7 @@ pub fn only(alloc: Global, sends: Row<(To, Message)>) -> Effects<Message>
 pub fn one(alloc: Global, node: NodeId, msg: Message) -> Result<Effects<Message>, NoMemory>
     ensures { IfOk result (λ e. OnlySends (to node.0 msg ∷ []) e) }
 {
-    let mut sends = Row::new(alloc);
+    let mut sends = Seq::new(alloc);
     sends.push((To::One(node), msg))?;
     Ok(only(alloc, sends))
 }
@@ -74,7 +74,7 @@ impl Raft {
         &self,
         alloc: Global,
         p: &Params,
-        sends: &mut Row<(To, Message)>,
+        sends: &mut Seq<(To, Message)>,
     ) -> Result<(), NoMemory>
         requires { IsGoodParams raft p.now }
         ensures appends { OnOk result (Fits (held self.now) → sends.new ≡ sends.old ++ appends p.now self.now.me.0 (held self.now)) }
@@ -91,7 +91,7 @@ impl Raft {
         &self,
         alloc: Global,
         node: NodeId,
-        sends: &mut Row<(To, Message)>,
+        sends: &mut Seq<(To, Message)>,
     ) -> Result<(), NoMemory>
         ensures appends { OnOk result (Fits (held self.now) → sends.new ≡ sends.old ++ to_each (append_to (held self.now)) (other self.now.me.0 node.0)) }
         ensures addressed { OnOk result ((n : ℕ) → node.0 < n → AreToNodes n sends.old → AreToNodes n sends.new) }
@@ -110,13 +110,13 @@ impl Raft {
         &self,
         alloc: Global,
         p: &Params,
-    ) -> Result<Row<(To, Message)>, NoMemory>
+    ) -> Result<Seq<(To, Message)>, NoMemory>
         requires { IsGoodParams raft p.now }
         ensures asks { IfOk result (λ sends. length self.now.log.entries < 2 ^ 32 →
             sends ≡ to_each (ask_vote (held self.now)) (others self.now.me.0 p.now.setup.n)) }
         ensures addressed { IfOk result (λ sends. AreToNodes p.now.setup.n sends) }
     {
-        let mut sends = Row::new(alloc);
+        let mut sends = Seq::new(alloc);
         for k in 0..p.setup.n as u8 {
             self.ask(NodeId(k), &mut sends)?;
         }
@@ -124,7 +124,7 @@ impl Raft {
     }
 
     // A candidate's question to a node, if it is another.
-    fn ask(&self, node: NodeId, sends: &mut Row<(To, Message)>) -> Result<(), NoMemory>
+    fn ask(&self, node: NodeId, sends: &mut Seq<(To, Message)>) -> Result<(), NoMemory>
         ensures asks { OnOk result (length self.now.log.entries < 2 ^ 32 →
             sends.new ≡ sends.old ++ to_each (ask_vote (held self.now)) (other self.now.me.0 node.0)) }
         ensures addressed { OnOk result ((n : ℕ) → node.0 < n → AreToNodes n sends.old → AreToNodes n sends.new) }

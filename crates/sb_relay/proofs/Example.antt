@@ -3,7 +3,7 @@ use Rattle.std.proofs.Common.{◌≡◌, ℕ, List, [], ◌∷◌, ◌++◌, Som
 use Rattle.iss_request.specs.declared.ids.NodeId.{NodeId}
 use Rattle.iss_request.specs.declared.ids.Slot.{Slot}
 use Rattle.iss_request.specs.declared.requests.Batch.{Batch}
-use Rattle.iss_request.specs.declared.requests.Value.TheVariants.{Batch as Holds}
+use Rattle.iss_request.specs.declared.requests.Value.TheVariants.{Batch as Value_batch}
 use Rattle.iss_request.specs.declared.setups.Setup.{Setup}
 use Rattle.iss_sb.specs.declared.effects.Input.TheVariants.{Cast, Receive, Timeout}
 use Rattle.iss_sb.specs.declared.effects.Params.{Params}
@@ -54,10 +54,10 @@ module _ (setup : Setup) (directory : DirectoryView) (b c : Batch) where
   abbrev after_word : List (Item Say)
   after_word = and_then relay p 1 [] (Receive (node 0) (say 0 b)) 0
 
-  delivers : delivered relay p 1 after_word 0 ≡ Some (Holds b)
+  delivers : delivered relay p 1 after_word 0 ≡ Some (Value_batch b)
   delivers = refl
 
-  delivers_first : delivered relay p 1 (and_then relay p 1 after_word (Receive (node 0) (say 0 c)) 0) 0 ≡ Some (Holds b)
+  delivers_first : delivered relay p 1 (and_then relay p 1 after_word (Receive (node 0) (say 0 c)) 0) 0 ≡ Some (Value_batch b)
   delivers_first = refl
 
   -- not the word of another node, nor one on a slot of another segment; nor does a cast deliver

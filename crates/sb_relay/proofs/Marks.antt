@@ -8,7 +8,7 @@ use Rattle.iss_request.specs.declared.ids.NodeId.{NodeId}
 use Rattle.iss_request.specs.declared.ids.Slot.{Slot}
 use Rattle.iss_request.specs.declared.requests.Batch.{Batch}
 use Rattle.iss_request.specs.declared.requests.Value.{Value}
-use Rattle.iss_request.specs.declared.requests.Value.TheVariants.{Batch as Holds}
+use Rattle.iss_request.specs.declared.requests.Value.TheVariants.{Batch as Value_batch}
 use Rattle.iss_sb.specs.declared.effects.Effects.{Effects}
 use Rattle.iss_sb.specs.declared.effects.Input.{Input}
 use Rattle.iss_sb.specs.declared.effects.Input.TheVariants.{Cast, Receive, Timeout}
@@ -21,7 +21,7 @@ use Rattle.iss_sb.proofs.Slots.{has_slot-In, slot-is}
 use Rattle.sb_relay.specs.declared.relay.Relay.{Relay}
 use Rattle.sb_relay.specs.declared.say.Say.{Say}
 use Rattle.sb_relay.specs.Relay.{asks, decided, is_for, made_of, relay, said, says}
-use Rattle.sb_relay.specs.Stands.{Stands, may_cast, may_deliver}
+use Rattle.sb_relay.specs.Refines.{Refines, may_cast, may_deliver}
 
 no_answer : {A : Type 0} (o : Option A) → is_some o ≡ false → o ≡ None
 no_answer None h = refl
@@ -68,19 +68,19 @@ pub record IsWord (p : Params) (s : ℕ) (from : NodeId) (msg : Say) (x : Value)
   pub within : has_slot s p.slots ≡ true
   pub leads : from.0 ≡ p.leader.0
   pub slot : msg.slot.0 ≡ s
-  pub value : x ≡ Holds msg.batch
+  pub value : x ≡ Value_batch msg.batch
 
 pub word-is : (p : Params) (s : ℕ) (from : NodeId) (msg : Say) (x : Value) → word p s (Receive from msg) ≡ Some x → IsWord p s from msg x
 word-is p s from msg x h = go (has_slot s p.slots) ((from.0 == p.leader.0) && (msg.slot.0 == s)) refl refl h
   where
-    go : (a b : Bool) → has_slot s p.slots ≡ a → ((from.0 == p.leader.0) && (msg.slot.0 == s)) ≡ b → (if a then (if b then Some (Holds msg.batch) else None) else None) ≡ Some x → IsWord p s from msg x
+    go : (a b : Bool) → has_slot s p.slots ≡ a → ((from.0 == p.leader.0) && (msg.slot.0 == s)) ≡ b → (if a then (if b then Some (Value_batch msg.batch) else None) else None) ≡ Some x → IsWord p s from msg x
     go true true q r k =
         let t = and-true (from.0 == p.leader.0) (msg.slot.0 == s) r in
         record { within = q; leads = is-eq from.0 p.leader.0 t.0; slot = is-eq msg.slot.0 s t.1; value = cc }
     go true false q r k = absurd (cc)
     go false b q r k = absurd (cc)
 
-pub is-word : (p : Params) (s : ℕ) (from : NodeId) (msg : Say) → has_slot s p.slots ≡ true → from.0 ≡ p.leader.0 → msg.slot.0 ≡ s → word p s (Receive from msg) ≡ Some (Holds msg.batch)
+pub is-word : (p : Params) (s : ℕ) (from : NodeId) (msg : Say) → has_slot s p.slots ≡ true → from.0 ≡ p.leader.0 → msg.slot.0 ≡ s → word p s (Receive from msg) ≡ Some (Value_batch msg.batch)
 is-word p s from msg within leads slot = rw (within, eq-eqb from.0 p.leader.0 leads, eq-eqb msg.slot.0 s slot) refl
 
 no-word-cast : (p : Params) (s : ℕ) (slot : Slot) (batch : Batch) → word p s (Cast slot batch) ≡ None
@@ -117,7 +117,7 @@ pub no-leaf : (o : Option (Slot × Batch)) (n : ℕ) → n ≡ n + (made_of o).u
 no-leaf None n = omega arith
 no-leaf (Some a) n = omega arith
 
-module _ (m : Relay) (p : Params) (me : ℕ) (xs : List (Item Say)) (st : Stands m p me xs) where
+module _ (m : Relay) (p : Params) (me : ℕ) (xs : List (Item Say)) (st : Refines m p me xs) where
   pub asks-is : (slot : Slot) (batch : Batch) → asks p me xs (Cast slot batch) ≡ (if may_cast m p slot then Some (slot, batch) else None)
   asks-is slot batch = rw (← st.node, ← st.cast slot.0) refl
 
@@ -125,19 +125,19 @@ module _ (m : Relay) (p : Params) (me : ℕ) (xs : List (Item Say)) (st : Stands
   asks-as slot batch b h = asks-is slot batch ∙ ap (λ (b : Bool). let o : Option (Slot × Batch) = if b then Some (slot, batch) else None in o) h
 
   -- the marks after one input more
-  stands-more : (i : Input Say) (leaf : ℕ) (n : Relay) → n.me ≡ m.me →
+  refines-more : (i : Input Say) (leaf : ℕ) (n : Relay) → n.me ≡ m.me →
       ((s : ℕ) → has_slot s n.cast ≡ (is_for s (made_of (asks p me xs i)).accepted || has_slot s m.cast)) →
       ((s : ℕ) → has_slot s n.delivered ≡ (has_slot s m.delivered || is_some (word p s i))) →
-      Stands n p me (and_then relay p me xs i leaf)
-  stands-more i leaf n same casts delivers = record {
+      Refines n p me (and_then relay p me xs i leaf)
+  refines-more i leaf n same casts delivers = record {
     node = ap (λ (a : NodeId). a.0) same ∙ st.node;
     cast = λ s. casts s ∙ ap (λ b. is_for s (made_of (asks p me xs i)).accepted || b) (st.cast s);
     delivered = λ s. delivers s ∙ ap (λ b. b || is_some (word p s i)) (st.delivered s) ∙ sym (is_some-first (decided p me xs s) (word p s i)) ∙ ap (λ (o : Option Value). is_some o) (sym (decided-more p me (record { input = i; leaf = leaf; made = made_of (asks p me xs i) }) xs s));
   }
 
   -- an input that accepts nothing and holds no word that is new
-  idle-stands : (i : Input Say) (leaf : ℕ) → asks p me xs i ≡ None → ((s : ℕ) → (has_slot s m.delivered || is_some (word p s i)) ≡ has_slot s m.delivered) → Stands m p me (and_then relay p me xs i leaf)
-  idle-stands i leaf none old = stands-more i leaf m refl (λ s. rw none refl) (λ s. sym (old s))
+  idle-refines : (i : Input Say) (leaf : ℕ) → asks p me xs i ≡ None → ((s : ℕ) → (has_slot s m.delivered || is_some (word p s i)) ≡ has_slot s m.delivered) → Refines m p me (and_then relay p me xs i leaf)
+  idle-refines i leaf none old = refines-more i leaf m refl (λ s. rw none refl) (λ s. sym (old s))
 
   decided-new : (i : Input Say) (leaf s : ℕ) (x : Value) → decided p me (and_then relay p me xs i leaf) s ≡ Some x → delivered relay p me xs s ≡ None → word p s i ≡ Some x
   decided-new i leaf s x d none =
@@ -154,23 +154,23 @@ module _ (m : Relay) (p : Params) (me : ℕ) (xs : List (Item Say)) (st : Stands
   }
 
   -- a cast that is not taken, and time that has run out
-  pub idle_cast-stands : (slot : Slot) (batch : Batch) (leaf : ℕ) → may_cast m p slot ≡ false → Stands m p me (and_then relay p me xs (Cast slot batch) leaf)
-  idle_cast-stands slot batch leaf h = idle-stands (Cast slot batch) leaf (asks-as slot batch false h) (λ s. rw (no-word-cast p s slot batch) (or-alone (has_slot s m.delivered)))
+  pub idle_cast-refines : (slot : Slot) (batch : Batch) (leaf : ℕ) → may_cast m p slot ≡ false → Refines m p me (and_then relay p me xs (Cast slot batch) leaf)
+  idle_cast-refines slot batch leaf h = idle-refines (Cast slot batch) leaf (asks-as slot batch false h) (λ s. rw (no-word-cast p s slot batch) (or-alone (has_slot s m.delivered)))
 
   pub idle_cast-taken : (slot : Slot) (batch : Batch) (leaf : ℕ) (e : Effects Say) → may_cast m p slot ≡ false → IsNothing e → IsTaken relay p me xs (Cast slot batch) leaf e
   idle_cast-taken slot batch leaf e h nothing = idle-taken (Cast slot batch) leaf e (asks-as slot batch false h) (λ s x w o. let n = no-word-cast p s.0 slot batch in absurd (cc)) nothing
 
-  pub idle_timeout-stands : (leaf : ℕ) → Stands m p me (and_then relay p me xs Timeout leaf)
-  idle_timeout-stands leaf = idle-stands Timeout leaf refl (λ s. rw (no-word-timeout p s) (or-alone (has_slot s m.delivered)))
+  pub idle_timeout-refines : (leaf : ℕ) → Refines m p me (and_then relay p me xs Timeout leaf)
+  idle_timeout-refines leaf = idle-refines Timeout leaf refl (λ s. rw (no-word-timeout p s) (or-alone (has_slot s m.delivered)))
 
   pub idle_timeout-taken : (leaf : ℕ) (e : Effects Say) → IsNothing e → IsTaken relay p me xs Timeout leaf e
   idle_timeout-taken leaf e nothing = idle-taken Timeout leaf e refl (λ s x w o. let n = no-word-timeout p s.0 in absurd (cc)) nothing
 
   -- a cast that is taken
-  pub cast-stands : (slot : Slot) (batch : Batch) (leaf : ℕ) (n : Relay) → may_cast m p slot ≡ true → n.me ≡ m.me → n.cast ≡ m.cast ++ slot ∷ [] → n.delivered ≡ m.delivered → Stands n p me (and_then relay p me xs (Cast slot batch) leaf)
-  cast-stands slot batch leaf n h same casts delivers =
+  pub cast-refines : (slot : Slot) (batch : Batch) (leaf : ℕ) (n : Relay) → may_cast m p slot ≡ true → n.me ≡ m.me → n.cast ≡ m.cast ++ slot ∷ [] → n.delivered ≡ m.delivered → Refines n p me (and_then relay p me xs (Cast slot batch) leaf)
+  cast-refines slot batch leaf n h same casts delivers =
       let asked = asks-as slot batch true h in
-      stands-more (Cast slot batch) leaf n same
+      refines-more (Cast slot batch) leaf n same
       (λ s. rw (asked, casts) (marked s m.cast slot ∙ or-flip (has_slot s m.cast) (slot.0 == s)))
       (λ s. rw (delivers, no-word-cast p s slot batch) (sym (or-alone (has_slot s m.delivered))))
 
@@ -207,16 +207,16 @@ module _ (m : Relay) (p : Params) (me : ℕ) (xs : List (Item Say)) (st : Stands
       go false (Some x) q r = let t = may-from from msg s x r q in absurd (true≢false (sym t ∙ h))
 
   -- a Say that delivers nothing
-  pub idle_say-stands : (from : NodeId) (msg : Say) (leaf : ℕ) → may_deliver m p from msg.slot ≡ false → Stands m p me (and_then relay p me xs (Receive from msg) leaf)
-  idle_say-stands from msg leaf h = idle-stands (Receive from msg) leaf refl (λ s. old-word from msg s h)
+  pub idle_say-refines : (from : NodeId) (msg : Say) (leaf : ℕ) → may_deliver m p from msg.slot ≡ false → Refines m p me (and_then relay p me xs (Receive from msg) leaf)
+  idle_say-refines from msg leaf h = idle-refines (Receive from msg) leaf refl (λ s. old-word from msg s h)
 
   pub idle_say-taken : (from : NodeId) (msg : Say) (leaf : ℕ) (e : Effects Say) → may_deliver m p from msg.slot ≡ false → IsNothing e → IsTaken relay p me xs (Receive from msg) leaf e
   idle_say-taken from msg leaf e h nothing = idle-taken (Receive from msg) leaf e refl
       (λ s x w o. let t = may-from from msg s.0 x w (fresh-of s.0 o) in true≢false (sym t ∙ h)) nothing
 
   -- a Say that delivers
-  pub say-stands : (from : NodeId) (msg : Say) (leaf : ℕ) (n : Relay) → may_deliver m p from msg.slot ≡ true → n.me ≡ m.me → n.cast ≡ m.cast → n.delivered ≡ m.delivered ++ msg.slot ∷ [] → Stands n p me (and_then relay p me xs (Receive from msg) leaf)
-  say-stands from msg leaf n h same casts delivers = stands-more (Receive from msg) leaf n same
+  pub say-refines : (from : NodeId) (msg : Say) (leaf : ℕ) (n : Relay) → may_deliver m p from msg.slot ≡ true → n.me ≡ m.me → n.cast ≡ m.cast → n.delivered ≡ m.delivered ++ msg.slot ∷ [] → Refines n p me (and_then relay p me xs (Receive from msg) leaf)
+  say-refines from msg leaf n h same casts delivers = refines-more (Receive from msg) leaf n same
       (λ s. rw casts refl)
       (λ s. rw delivers (marked s m.delivered msg.slot ∙ ap (λ b. has_slot s m.delivered || b) (told s (msg.slot.0 == s) refl)))
     where
@@ -232,26 +232,26 @@ module _ (m : Relay) (p : Params) (me : ℕ) (xs : List (Item Say)) (st : Stands
           none (Some x) r = let k = word-is p s from msg x r in absurd (true≢false (sym (eq-eqb msg.slot.0 s k.slot) ∙ q))
 
   pub say-taken : (from : NodeId) (msg : Say) (leaf : ℕ) (e : Effects Say) → may_deliver m p from msg.slot ≡ true →
-      e.sends ≡ [] → e.accepted ≡ None → e.delivers ≡ (msg.slot, Holds msg.batch) ∷ [] → e.hashed ≡ [] → IsTaken relay p me xs (Receive from msg) leaf e
+      e.sends ≡ [] → e.accepted ≡ None → e.delivers ≡ (msg.slot, Value_batch msg.batch) ∷ [] → e.hashed ≡ [] → IsTaken relay p me xs (Receive from msg) leaf e
   say-taken from msg leaf e h sends accepted delivers hashed = record {
     sends = sends;
     accepted = accepted;
     hashed = hashed;
-    delivers = rw delivers (Delivers-from relay p me xs (Receive from msg) leaf ((msg.slot, Holds msg.batch) ∷ []) (omega arith, tt) (λ s x. (one s x, only s x)));
+    delivers = rw delivers (Delivers-from relay p me xs (Receive from msg) leaf ((msg.slot, Value_batch msg.batch) ∷ []) (omega arith, tt) (λ s x. (one s x, only s x)));
   }
     where
-      now : (decided p me (and_then relay p me xs (Receive from msg) leaf) msg.slot.0 ≡ Some (Holds msg.batch)) × (delivered relay p me xs msg.slot.0 ≡ None)
+      now : (decided p me (and_then relay p me xs (Receive from msg) leaf) msg.slot.0 ≡ Some (Value_batch msg.batch)) × (delivered relay p me xs msg.slot.0 ≡ None)
       now =
           let t = deliver-test m p from msg.slot h in
           let none = none-of msg.slot.0 t.fresh in
           let open' : decided p me xs msg.slot.0 ≡ None = sym (delivered-is p me xs msg.slot.0) ∙ none in
           (decided-more p me (record { input = Receive from msg; leaf = leaf; made = made_of None }) xs msg.slot.0 ∙ rw open' (is-word p msg.slot.0 from msg t.within t.leads refl), none)
 
-      one : (s : Slot) (x : Value) → In {A = Slot × Value} (s, x) ((msg.slot, Holds msg.batch) ∷ []) → (decided p me (and_then relay p me xs (Receive from msg) leaf) s.0 ≡ Some x) × (delivered relay p me xs s.0 ≡ None)
+      one : (s : Slot) (x : Value) → In {A = Slot × Value} (s, x) ((msg.slot, Value_batch msg.batch) ∷ []) → (decided p me (and_then relay p me xs (Receive from msg) leaf) s.0 ≡ Some x) × (delivered relay p me xs s.0 ≡ None)
       one s x (inl q) = subst (λ (z : Slot × Value). (decided p me (and_then relay p me xs (Receive from msg) leaf) z.0.0 ≡ Some z.1) × (delivered relay p me xs z.0.0 ≡ None)) (sym q) now
       one s x (inr k) = absurd k
 
-      only : (s : Slot) (x : Value) → (decided p me (and_then relay p me xs (Receive from msg) leaf) s.0 ≡ Some x) × (delivered relay p me xs s.0 ≡ None) → In {A = Slot × Value} (s, x) ((msg.slot, Holds msg.batch) ∷ [])
+      only : (s : Slot) (x : Value) → (decided p me (and_then relay p me xs (Receive from msg) leaf) s.0 ≡ Some x) × (delivered relay p me xs s.0 ≡ None) → In {A = Slot × Value} (s, x) ((msg.slot, Value_batch msg.batch) ∷ [])
       only s x d =
           let k = word-is p s.0 from msg x (decided-new (Receive from msg) leaf s.0 x d.0 d.1) in
           inl (ap (λ (t : Slot). let z : Slot × Value = (t, x) in z) (slot-is s msg.slot (sym k.slot)) ∙ ap (λ (v : Value). let z : Slot × Value = (msg.slot, v) in z) k.value)

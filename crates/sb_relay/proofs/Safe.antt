@@ -9,7 +9,7 @@ use Rattle.iss_request.specs.declared.ids.NodeId.{NodeId}
 use Rattle.iss_request.specs.declared.ids.Slot.{Slot}
 use Rattle.iss_request.specs.declared.requests.Batch.{Batch}
 use Rattle.iss_request.specs.declared.requests.Value.{Value}
-use Rattle.iss_request.specs.declared.requests.Value.TheVariants.{Batch as Holds}
+use Rattle.iss_request.specs.declared.requests.Value.TheVariants.{Batch as Value_batch}
 use Rattle.iss_sb.specs.declared.effects.Input.{Input}
 use Rattle.iss_sb.specs.declared.effects.Input.TheVariants.{Cast, Receive, Timeout}
 use Rattle.iss_sb.specs.declared.effects.Params.{Params}
@@ -80,19 +80,19 @@ cast-of (x ∷ xs) s b h = elim (accepts-cases x xs (s, b) h) [
     or_true false = refl
 
 -- the leader's word stands in the list
-said-told : (p : Params) (xs : List (Item Say)) (s : ℕ) (v : Value) → said p.leader.0 s xs ≡ Some v → (msg : Say) × (x : Item Say) × (v ≡ Holds msg.batch) × (msg.slot.0 ≡ s) × In x xs × (x.input ≡ Receive p.leader msg)
+said-told : (p : Params) (xs : List (Item Say)) (s : ℕ) (v : Value) → said p.leader.0 s xs ≡ Some v → (msg : Say) × (x : Item Say) × (v ≡ Value_batch msg.batch) × (msg.slot.0 ≡ s) × In x xs × (x.input ≡ Receive p.leader msg)
 said-told p [] s v h = absurd (cc)
 said-told p (x ∷ xs) s v h = elim (first-cases (said p.leader.0 s xs) (says p.leader.0 s x.input) v h) [
   | inl a ↦ let r = said-told p xs s v a in (r.0, r.1, r.2, r.3, inr r.4, r.5)
   | inr a ↦ let r = word x.input refl a.1 in (r.0, x, r.1, r.2, inl refl, r.3)
 ]
   where
-    word : (i : Input Say) → x.input ≡ i → says p.leader.0 s i ≡ Some v → (msg : Say) × (v ≡ Holds msg.batch) × (msg.slot.0 ≡ s) × (x.input ≡ Receive p.leader msg)
+    word : (i : Input Say) → x.input ≡ i → says p.leader.0 s i ≡ Some v → (msg : Say) × (v ≡ Value_batch msg.batch) × (msg.slot.0 ≡ s) × (x.input ≡ Receive p.leader msg)
     word (Cast k b) q r = absurd (cc)
     word Timeout q r = absurd (cc)
     word (Receive from msg) q r = go ((from.0 == p.leader.0) && (msg.slot.0 == s)) refl r
       where
-        go : (t : Bool) → ((from.0 == p.leader.0) && (msg.slot.0 == s)) ≡ t → (if t then Some (Holds msg.batch) else None) ≡ Some v → (msg : Say) × (v ≡ Holds msg.batch) × (msg.slot.0 ≡ s) × (x.input ≡ Receive p.leader msg)
+        go : (t : Bool) → ((from.0 == p.leader.0) && (msg.slot.0 == s)) ≡ t → (if t then Some (Value_batch msg.batch) else None) ≡ Some v → (msg : Say) × (v ≡ Value_batch msg.batch) × (msg.slot.0 ≡ s) × (x.input ≡ Receive p.leader msg)
         go false t z = absurd (cc)
         go true t z =
             let k = and-true (from.0 == p.leader.0) (msg.slot.0 == s) t in
@@ -141,7 +141,7 @@ module _ (p : Params) (w : World Say) (legal : IsLegal relay p w) where
       sent-accepted p p.leader.0 (w p.leader.0) sent.item sent.to msg (legal.made p.leader.0) sent.taken sent.sent
 
   -- what is delivered, the leader accepted at the slot
-  owned : (i s : ℕ) (v : Value) → delivered relay p i (w i) s ≡ Some v → (b : Batch) × (v ≡ Holds b) × In {A = Slot × Batch} (record { 0 = s }, b) (accepts (w p.leader.0))
+  owned : (i s : ℕ) (v : Value) → delivered relay p i (w i) s ≡ Some v → (b : Batch) × (v ≡ Value_batch b) × In {A = Slot × Batch} (record { 0 = s }, b) (accepts (w p.leader.0))
   owned i s v d =
       let h = decided-said p i (w i) s v (sym (delivered-is p i (w i) s) ∙ d) in
       let t = said-told p (w i) s v h.1 in
@@ -149,9 +149,9 @@ module _ (p : Params) (w : World Say) (legal : IsLegal relay p w) where
       (t.0.batch, t.2, subst (λ (x : Slot). In {A = Slot × Batch} (x, t.0.batch) (accepts (w p.leader.0))) slot (told i t.1 t.0 t.4 t.5))
 
   -- a batch that is delivered, the leader accepted
-  owned_batch : (i : ℕ) (s : Slot) (b : Batch) → delivered relay p i (w i) s.0 ≡ Some (Holds b) → In {A = Slot × Batch} (s, b) (accepts (w p.leader.0))
+  owned_batch : (i : ℕ) (s : Slot) (b : Batch) → delivered relay p i (w i) s.0 ≡ Some (Value_batch b) → In {A = Slot × Batch} (s, b) (accepts (w p.leader.0))
   owned_batch i s b d =
-      let a = owned i s.0 (Holds b) d in
+      let a = owned i s.0 (Value_batch b) d in
       let same : a.0 ≡ b = sym (holds-injective b a.0 a.1) in
       subst (λ (x : Batch). In {A = Slot × Batch} (s, x) (accepts (w p.leader.0))) same a.2
 
@@ -160,7 +160,7 @@ module _ (p : Params) (w : World Say) (legal : IsLegal relay p w) where
     agreement = λ i j s x y _ _ d e.
         let a = owned i s x d in
         let b = owned j s y e in
-        a.1 ∙ ap (λ (t : Batch). Holds t) (once p p.leader.0 (w p.leader.0) (record { 0 = s }) a.0 b.0 (legal.made p.leader.0) a.2 b.2) ∙ sym b.1;
+        a.1 ∙ ap (λ (t : Batch). Value_batch t) (once p p.leader.0 (w p.leader.0) (record { 0 = s }) a.0 b.0 (legal.made p.leader.0) a.2 b.2) ∙ sym b.1;
     shared = λ i j s t b c _ _ d e. record { node = p.leader.0; correct = all-correct relay p good refl p.leader.0 good.leader; first = owned_batch i s b d; second = owned_batch j t c e };
     integrity = λ i s b _ _ d. owned_batch i s b d;
   }

@@ -10,7 +10,7 @@ use Rattle.iss_request.proofs.OneSpelling.{done_good, value_grammar, value_relat
 use Rattle.iss_request.proofs.ParserLemmas.{byte_again, byte_parts, done_parts, first_bad, number_again, number_parts, test_bad, test_failed, test_parts, test_passed, then_bad, then_good, then_parts, wide64}
 use Rattle.iss_request.specs.declared.requests.Batch.{Batch}
 use Rattle.iss_request.specs.declared.requests.Value.{Value}
-use Rattle.iss_request.specs.declared.requests.Value.TheVariants.{Nil, Batch as Holds}
+use Rattle.iss_request.specs.declared.requests.Value.TheVariants.{Nil, Batch as Value_batch}
 use Rattle.sb_relay.specs.declared.say.Say.{Say}
 use Rattle.sb_relay.specs.Relay.{IsSpelledSay, parse, spell}
 
@@ -30,9 +30,9 @@ is-one n h = eq-eqb n 1 h
 pub not-one : (n : ℕ) → n ≢ 1 → (n == 1) ≡ false
 not-one n h = ne_eqb n 1 h
 
-value-is : (v : Value) (batch : Batch) → is_batch v ≡ true → batch_of v ≡ batch → v ≡ Holds batch
+value-is : (v : Value) (batch : Batch) → is_batch v ≡ true → batch_of v ≡ batch → v ≡ Value_batch batch
 value-is Nil batch h e = absurd (true≢false (sym h))
-value-is (Holds b) batch h e = ap (λ (x : Batch). Holds x) e
+value-is (Value_batch b) batch h e = ap (λ (x : Batch). Value_batch x) e
 
 message-is : (text : List ℕ) → such_that (λ n. n == 1) byte (1 ∷ text) ≡ Good 1 text
 message-is text = test_passed (λ n. n == 1) byte (1 ∷ text) text 1 (byte_again 1 text) refl
@@ -42,14 +42,14 @@ module _ (version : ℕ) where
   unfolding parse
   parse-is = refl
 
-  pub spelled : (msg : Say) → msg.slot.0 < 2 ^ 64 → spell version msg ≡ 1 ∷ to_be_bytes w64 msg.slot.0 ++ spell_value version (Holds msg.batch)
+  pub spelled : (msg : Say) → msg.slot.0 < 2 ^ 64 → spell version msg ≡ 1 ∷ to_be_bytes w64 msg.slot.0 ++ spell_value version (Value_batch msg.batch)
   spelled msg lt = rw (lt-ltb msg.slot.0 (2 ^ 64) lt) refl
 
   -- what bytes are that are read as a message
   record IsSay (bytes rest : List ℕ) (msg : Say) : Type 0 where
     pub small : msg.slot.0 < 2 ^ 64
     pub value : List ℕ
-    pub read : parse_value version value ≡ Good (Holds msg.batch) rest
+    pub read : parse_value version value ≡ Good (Value_batch msg.batch) rest
     pub parts : bytes ≡ 1 ∷ to_be_bytes w64 msg.slot.0 ++ value
 
   say-parts : (bytes rest : List ℕ) (msg : Say) → parse version bytes ≡ Good msg rest → IsSay bytes rest msg
@@ -63,7 +63,7 @@ module _ (version : ℕ) where
       let second = number_parts w64 (2 ^ 64) wide64 a.mid b.mid b.thing b.first in
       let third = test_parts is_batch (parse_value version) b.mid c.mid c.thing c.first in
       let slot : b.thing ≡ msg.slot.0 = ap (λ (m : Say). m.slot.0) d.0 in
-      let batch : c.thing ≡ Holds msg.batch = value-is c.thing msg.batch third.1 (ap (λ (m : Say). m.batch) d.0) in
+      let batch : c.thing ≡ Value_batch msg.batch = value-is c.thing msg.batch third.1 (ap (λ (m : Say). m.batch) d.0) in
       let behind : c.mid ≡ rest = d.1 in
       let mid : a.mid ≡ to_be_bytes w64 msg.slot.0 ++ b.mid = rw slot at second.parts in
       let all : bytes ≡ a.thing ∷ a.mid = byte_parts bytes a.mid a.thing first.0 in
@@ -75,10 +75,10 @@ module _ (version : ℕ) where
       }
 
   -- where the value is read, the message is
-  said : (msg : Say) (text rest : List ℕ) → msg.slot.0 < 2 ^ 64 → parse_value version text ≡ Good (Holds msg.batch) rest → parse version (1 ∷ to_be_bytes w64 msg.slot.0 ++ text) ≡ Good msg rest
+  said : (msg : Say) (text rest : List ℕ) → msg.slot.0 < 2 ^ 64 → parse_value version text ≡ Good (Value_batch msg.batch) rest → parse version (1 ∷ to_be_bytes w64 msg.slot.0 ++ text) ≡ Good msg rest
   said msg text rest lt h =
-      let third = test_passed is_batch (parse_value version) text rest (Holds msg.batch) h refl in
-      let second = then_good (such_that is_batch (parse_value version)) (made msg.slot.0) text rest rest (Holds msg.batch) msg third (done_good msg rest) in
+      let third = test_passed is_batch (parse_value version) text rest (Value_batch msg.batch) h refl in
+      let second = then_good (such_that is_batch (parse_value version)) (made msg.slot.0) text rest rest (Value_batch msg.batch) msg third (done_good msg rest) in
       let first = then_good (number w64) (after_slot version) (to_be_bytes w64 msg.slot.0 ++ text) text rest msg.slot.0 msg (number_again w64 (2 ^ 64) wide64 msg.slot.0 text lt) second in
       let all = then_good (such_that (λ n. n == 1) byte) (after_message version) (1 ∷ to_be_bytes w64 msg.slot.0 ++ text) (to_be_bytes w64 msg.slot.0 ++ text) rest 1 msg (message-is (to_be_bytes w64 msg.slot.0 ++ text)) first in
       rw parse-is all
@@ -95,11 +95,11 @@ module _ (version : ℕ) where
       from (1 ∷ to_be_bytes w64 slot ++ text) _ all
 
   -- a spelling is read as its value is
-  pub say-again : (msg : Say) → msg.slot.0 < 2 ^ 64 → IsReadAgain (spell_value version) (parse_value version) (Holds msg.batch) → IsReadAgain (spell version) (parse version) msg
-  say-again msg lt again rest = subst (λ (l : List ℕ). parse version (l ++ rest) ≡ Good msg rest) (sym (spelled msg lt)) (said msg (spell_value version (Holds msg.batch) ++ rest) rest lt (again rest))
+  pub say-again : (msg : Say) → msg.slot.0 < 2 ^ 64 → IsReadAgain (spell_value version) (parse_value version) (Value_batch msg.batch) → IsReadAgain (spell version) (parse version) msg
+  say-again msg lt again rest = subst (λ (l : List ℕ). parse version (l ++ rest) ≡ Good msg rest) (sym (spelled msg lt)) (said msg (spell_value version (Value_batch msg.batch) ++ rest) rest lt (again rest))
 
-  say-bad : (msg : Say) → msg.slot.0 < 2 ^ 64 → ((rest : List ℕ) → IsBad (parse_value version (spell_value version (Holds msg.batch) ++ rest))) → (rest : List ℕ) → IsBad (parse version (spell version msg ++ rest))
-  say-bad msg lt bad rest = subst (λ (l : List ℕ). IsBad (parse version (l ++ rest))) (sym (spelled msg lt)) (unsaid msg.slot.0 (spell_value version (Holds msg.batch) ++ rest) lt (bad rest))
+  say-bad : (msg : Say) → msg.slot.0 < 2 ^ 64 → ((rest : List ℕ) → IsBad (parse_value version (spell_value version (Value_batch msg.batch) ++ rest))) → (rest : List ℕ) → IsBad (parse version (spell version msg ++ rest))
+  say-bad msg lt bad rest = subst (λ (l : List ℕ). IsBad (parse version (l ++ rest))) (sym (spelled msg lt)) (unsaid msg.slot.0 (spell_value version (Value_batch msg.batch) ++ rest) lt (bad rest))
 
   unspelled : (msg : Say) → nat_lt msg.slot.0 (2 ^ 64) ≡ false → (rest : List ℕ) → IsBad (parse version (spell version msg ++ rest))
   unspelled msg large rest = (0, rw (parse-is, large) (first_bad (such_that (λ n. n == 1) byte) (after_message version) (0 ∷ rest) 0 (test_failed (λ n. n == 1) byte (0 ∷ rest) rest 0 (byte_again 0 rest) refl)))
@@ -109,7 +109,7 @@ module _ (version : ℕ) where
     where
       go : (b : Bool) → nat_lt msg.slot.0 (2 ^ 64) ≡ b → IsReadAgain (spell version) (parse version) msg ⊎ ((rest : List ℕ) → IsBad (parse version (spell version msg ++ rest)))
       go false large = inr (λ rest. unspelled msg large rest)
-      go true small = let lt = ltb-true msg.slot.0 (2 ^ 64) small in elim ((value_grammar version).whole (Holds msg.batch)) [
+      go true small = let lt = ltb-true msg.slot.0 (2 ^ 64) small in elim ((value_grammar version).whole (Value_batch msg.batch)) [
         | inl again ↦ inl (λ rest. say-again msg lt again rest)
         | inr bad ↦ inr (λ rest. say-bad msg lt bad rest)
       ]
@@ -117,7 +117,7 @@ module _ (version : ℕ) where
   only : (bytes rest : List ℕ) (msg : Say) → parse version bytes ≡ Good msg rest → bytes ≡ spell version msg ++ rest
   only bytes rest msg h =
       let is = say-parts bytes rest msg h in
-      let value : is.value ≡ spell_value version (Holds msg.batch) ++ rest = (value_grammar version).only is.value rest (Holds msg.batch) is.read in
+      let value : is.value ≡ spell_value version (Value_batch msg.batch) ++ rest = (value_grammar version).only is.value rest (Value_batch msg.batch) is.read in
       rw (spelled msg is.small, is.parts, value) refl
 
   pub say-grammar : IsGrammar (spell version) (parse version)
@@ -126,8 +126,8 @@ module _ (version : ℕ) where
   -- the table
   pub say-related : (msg : Say) (bytes : List ℕ) → (parse version bytes ≡ Good msg []) ↔ IsSpelledSay version msg bytes
   say-related msg bytes = (
-    (λ h. let is = say-parts bytes [] msg h in (is.small, (is.value, (value_related version (Holds msg.batch) is.value).0 is.read, is.parts))),
-    (λ h. ap (parse version) h.1.2 ∙ said msg h.1.0 [] h.0 ((value_related version (Holds msg.batch) h.1.0).1 h.1.1)),
+    (λ h. let is = say-parts bytes [] msg h in (is.small, (is.value, (value_related version (Value_batch msg.batch) is.value).0 is.read, is.parts))),
+    (λ h. ap (parse version) h.1.2 ∙ said msg h.1.0 [] h.0 ((value_related version (Value_batch msg.batch) h.1.0).1 h.1.1)),
   )
 
 -- the bytes that are written one after the other are the spelling

@@ -1,2 +1,2 @@
 pub mod Relay
-pub mod Stands
+pub mod Refines

@@ -7,7 +7,7 @@ use Rattle.iss_request.specs.Parsing.{Parser, ◌>>=◌, byte, done, number, suc
 use Rattle.iss_request.specs.declared.ids.Slot.{Slot}
 use Rattle.iss_request.specs.declared.requests.Batch.{Batch}
 use Rattle.iss_request.specs.declared.requests.Value.{Value}
-use Rattle.iss_request.specs.declared.requests.Value.TheVariants.{Batch as Holds}
+use Rattle.iss_request.specs.declared.requests.Value.TheVariants.{Batch as Value_batch}
 use Rattle.iss_sb.specs.declared.effects.Input.{Input}
 use Rattle.iss_sb.specs.declared.effects.Input.TheVariants.{Cast, Receive, Timeout}
 use Rattle.iss_sb.specs.declared.effects.Params.{Params}
@@ -40,7 +40,7 @@ made_of (Some a) = record { sends = (To_all, record { slot = a.0; batch = a.1 })
 -- the batch that an input says is at the slot, if it is the leader's word on it
 abbrev pub says : ℕ → ℕ → Input Say → Option Value
 says leader s (Cast slot batch) = None
-says leader s (Receive from msg) = if (from.0 == leader) && (msg.slot.0 == s) then Some (Holds msg.batch) else None
+says leader s (Receive from msg) = if (from.0 == leader) && (msg.slot.0 == s) then Some (Value_batch msg.batch) else None
 says leader s Timeout = None
 
 -- the leader's first word on the slot
@@ -57,11 +57,11 @@ decided p me xs s = if has_slot s p.slots then said p.leader.0 s xs else None
 -- the message in bytes: its number, the slot, and a value, which is a batch
 abbrev pub IsSpelledSay : ℕ → Say → List ℕ → Type 0
 IsSpelledSay version msg bytes =
-    (msg.slot.0 < 2 ^ 64) × ((value : List ℕ) × IsSpelledValue version (Holds msg.batch) value × (bytes ≡ 1 ∷ to_be_bytes w64 msg.slot.0 ++ value))
+    (msg.slot.0 < 2 ^ 64) × ((value : List ℕ) × IsSpelledValue version (Value_batch msg.batch) value × (bytes ≡ 1 ∷ to_be_bytes w64 msg.slot.0 ++ value))
 
 -- one whose slot is too large has no spelling, and is written as the number of no message
 abbrev pub spell : ℕ → Say → List ℕ
-spell version msg = if nat_lt msg.slot.0 (2 ^ 64) then 1 ∷ to_be_bytes w64 msg.slot.0 ++ spell_value version (Holds msg.batch) else 0 ∷ []
+spell version msg = if nat_lt msg.slot.0 (2 ^ 64) then 1 ∷ to_be_bytes w64 msg.slot.0 ++ spell_value version (Value_batch msg.batch) else 0 ∷ []
 
 unfoldable pub parse : ℕ → Parser Say
 parse version = do

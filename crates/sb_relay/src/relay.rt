@@ -4,11 +4,11 @@ ghost use Rattle.iss_sb.specs.Calls.{IsGoodInput, IsGoodParams, IsStep, IsTaken}
 ghost use Rattle.iss_sb.specs.Evidence.{Item, and_then};
 ghost use Rattle.sb_relay.specs.declared.say.Say.{Say};
 ghost use Rattle.sb_relay.specs.Relay.{relay};
-ghost use Rattle.sb_relay.specs.Stands.{IsOfSegment, Stands, may_cast, may_deliver};
+ghost use Rattle.sb_relay.specs.Refines.{IsOfSegment, Refines, may_cast, may_deliver};
 
 use crate::say::Say;
 use iss_keys::Keys;
-use iss_request::{Batch, DecodeError, Fields, NoMemory, NodeId, Row, Slot, Value, Writer};
+use iss_request::{Batch, DecodeError, Fields, NoMemory, NodeId, Seq, Slot, Value, Writer};
 use iss_sb::{Claim, Effects, Input, Params, Sequenced, StepError, To};
 use std::alloc::Global;
 
@@ -16,8 +16,8 @@ use std::alloc::Global;
 #[derive(Drop, Debug)]
 pub struct Relay {
     me: NodeId,
-    cast: Row<Slot>,
-    delivered: Row<Slot>,
+    cast: Seq<Slot>,
+    delivered: Seq<Slot>,
 }
 
 impl Relay {
@@ -47,9 +47,9 @@ impl Relay {
         slot: Slot,
         batch: Batch,
     ) -> Result<Effects<Say>, NoMemory>
-        ensures stands { OnOk result ((me : ℕ) (xs : List (Item Say)) (leaf : ℕ) → Stands self.old p.now me xs →
-            Stands self.new p.now me (and_then relay p.now me xs (Input.Cast slot batch) leaf)) }
-        ensures effects { IfOk result (λ e. (me : ℕ) (xs : List (Item Say)) (leaf : ℕ) → Stands self.old p.now me xs →
+        ensures refines { OnOk result ((me : ℕ) (xs : List (Item Say)) (leaf : ℕ) → Refines self.old p.now me xs →
+            Refines self.new p.now me (and_then relay p.now me xs (Input.Cast slot batch) leaf)) }
+        ensures effects { IfOk result (λ e. (me : ℕ) (xs : List (Item Say)) (leaf : ℕ) → Refines self.old p.now me xs →
             IsTaken relay p.now me xs (Input.Cast slot batch) leaf e) }
         ensures within { IfOk result (λ e. IsOfSegment p.now e) }
     {
@@ -75,9 +75,9 @@ impl Relay {
         from: NodeId,
         said: Say,
     ) -> Result<Effects<Say>, NoMemory>
-        ensures stands { OnOk result ((me : ℕ) (xs : List (Item Say)) (leaf : ℕ) → Stands self.old p.now me xs →
-            Stands self.new p.now me (and_then relay p.now me xs (Input.Receive from said) leaf)) }
-        ensures effects { IfOk result (λ e. (me : ℕ) (xs : List (Item Say)) (leaf : ℕ) → Stands self.old p.now me xs →
+        ensures refines { OnOk result ((me : ℕ) (xs : List (Item Say)) (leaf : ℕ) → Refines self.old p.now me xs →
+            Refines self.new p.now me (and_then relay p.now me xs (Input.Receive from said) leaf)) }
+        ensures effects { IfOk result (λ e. (me : ℕ) (xs : List (Item Say)) (leaf : ℕ) → Refines self.old p.now me xs →
             IsTaken relay p.now me xs (Input.Receive from said) leaf e) }
         ensures within { IfOk result (λ e. IsOfSegment p.now e) }
     {
@@ -105,9 +105,9 @@ impl Sequenced for Relay {
 
     ghost STOPPING = { true };
 
-    ghost meaning = { relay };
+    ghost spec = { relay };
 
-    ghost stands = { Stands };
+    ghost refines = { Refines };
 
     fn nodes_of(_f: u32) -> u32 {
         3
@@ -124,8 +124,8 @@ impl Sequenced for Relay {
     fn start(alloc: Global, _p: &Params, me: NodeId) -> Result<Relay, NoMemory> {
         Ok(Relay {
             me,
-            cast: Row::new(alloc),
-            delivered: Row::new(alloc),
+            cast: Seq::new(alloc),
+            delivered: Seq::new(alloc),
         })
     }
 
@@ -156,7 +156,7 @@ impl Sequenced for Relay {
     ) -> Result<Effects<Say>, StepError>
         requires good { IsGoodParams relay p.now }
         requires input { IsGoodInput p.now i }
-        ensures { IsStep relay Stands p.now self.old self.new i verdict keys.old keys.new result }
+        ensures { IsStep relay Refines p.now self.old self.new i verdict keys.old keys.new result }
     {
         if !verdict {
             return Ok(Effects::nothing(alloc));
@@ -176,8 +176,8 @@ impl Sequenced for Relay {
         Say::read(alloc, f)
     }
 
-    fn claims(alloc: Global, _p: &Params, _from: NodeId, _m: &Say) -> Result<Row<Claim>, NoMemory> {
-        Ok(Row::new(alloc))
+    fn claims(alloc: Global, _p: &Params, _from: NodeId, _m: &Say) -> Result<Seq<Claim>, NoMemory> {
+        Ok(Seq::new(alloc))
     }
 
     fn laws() {}

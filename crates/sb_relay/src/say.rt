@@ -1,6 +1,6 @@
 //! The one message of the relay, and its bytes.
 ghost use Rattle.std.specs.Prelude.{◌≡◌, ◌↔◌, ℕ, List, [], IfOk, OnOk, Err};
-ghost use Rattle.iss_request.specs.declared.requests.Value.TheVariants.{Batch as Holds};
+ghost use Rattle.iss_request.specs.declared.requests.Value.TheVariants.{Batch as Value_batch};
 ghost use Rattle.iss_request.specs.Fields.{Good, IsRead, IsUnreadable, and_bytes};
 ghost use Rattle.iss_request.specs.Formats.{is_batch, parse_value};
 ghost use Rattle.iss_request.specs.Parsing.{such_that};
@@ -53,7 +53,7 @@ impl Say {
 
 /// Reads a value that is a batch.
 fn read_batch(alloc: Global, f: &mut Fields) -> Result<Batch, DecodeError>
-    ensures ok { IfOk result (λ b. IsRead (such_that is_batch (parse_value f.old.version)) f.old f.new (Holds b)) }
+    ensures ok { IfOk result (λ b. IsRead (such_that is_batch (parse_value f.old.version)) f.old f.new (Value_batch b)) }
     ensures bad { (at : ℕ) → result ≡ Err (DecodeError.BadField at) → IsUnreadable (such_that is_batch (parse_value f.old.version)) f.old at }
 {
     let no_batch = f.bad_field();

@@ -3,5 +3,5 @@ use Rattle.iss_keep.proofs.laws.leaves_are_of_one_entry.Goals as goal
 
 pub returns : goal.returns
 returns g c =
-    let m = g.M.Sequenced.meaning in
+    let m = g.M.Sequenced.spec in
     record { again = λ s me entries more d before. makings-go-on s m me entries more d before; apart = λ s me entries. makings-apart s m me entries }

@@ -1,7 +1,7 @@
 use Rattle.std.proofs.Common.{rules, ◌≡◌, ◌∙◌, ◌<◌, ◌≤◌, Bool, true, false, Ok, ap, sym, length, [], get_or}
 use Rattle.iss_journal.specs.Sound.{entries_of}
 use Rattle.iss_model.specs.Node.{Core}
-use Rattle.iss_node.specs.State.{Stands}
+use Rattle.iss_node.specs.State.{RefinesCore}
 use Rattle.iss_request.specs.declared.setups.Setup.{Setup}
 use Rattle.iss_keep.proofs.ReplayLemmas.{replay-end, replay-on, replay-start, replay-stops, same-gate, still-of, went}
 use Rattle.iss_keep.specs.Replays.{GoesTo}
@@ -9,7 +9,7 @@ use Rattle.iss_keep.proofs.reopening.replay.Goals as goal
 
 pub loop-k-init : goal.loop-k-init
 loop-k-init g c = (
-  replay-start c.args.setup.now g.M.Sequenced.meaning g.M.Sequenced.stands c.args.me (entries_of c.args.journal.now) _ c.in-Ok.ensures.stands,
+  replay-start c.args.setup.now g.M.Sequenced.spec g.M.Sequenced.refines c.args.me (entries_of c.args.journal.now) _ c.in-Ok.ensures.refines,
   record { cluster = c.in-Ok.ensures.same.0; number = c.in-Ok.ensures.same.1 },
 )
 
@@ -22,11 +22,11 @@ loop-k-preserved g c =
     let entry : c.get.result.now ≡ get_or (entries_of c.args.journal.now) c.loop-k.k [] = search rules in
     let took : c.replay_entry.result ≡ Ok true = search rules in
     let old = c.loop-k.node in (
-      replay-on c.args.setup.now g.M.Sequenced.meaning g.M.Sequenced.stands c.args.me (entries_of c.args.journal.now) c.loop-k.k lt old c.replay_entry.new.node c.get.result.now entry
+      replay-on c.args.setup.now g.M.Sequenced.spec g.M.Sequenced.refines c.args.me (entries_of c.args.journal.now) c.loop-k.k lt old c.replay_entry.new.node c.get.result.now entry
           c.loop-k.invariant.1 c.loop-k.invariant.0
           (went c.replay_entry.result true
-          (λ (b : Bool). (d : Core g.row.M-Msg.Denot) → Stands g.M.Sequenced.meaning g.M.Sequenced.stands old d →
-          GoesTo old.parts.setup g.M.Sequenced.meaning g.M.Sequenced.stands old.parts.me.0 d c.get.result.now c.replay_entry.new.node b)
+          (λ (b : Bool). (d : Core g.row.M-Msg.Denot) → RefinesCore g.M.Sequenced.spec g.M.Sequenced.refines old d →
+          GoesTo old.state.setup g.M.Sequenced.spec g.M.Sequenced.refines old.state.me.0 d c.get.result.now c.replay_entry.new.node b)
           took c.replay_entry.ensures.goes),
       still-of c.args.setup.now c.args.me old c.replay_entry.new.node c.loop-k.invariant.1 c.replay_entry.ensures.same,
     )
@@ -37,18 +37,18 @@ returns-then-not-taken-clause-damaged g c = λ at is.
     let entry : c.get.result.now ≡ get_or (entries_of c.args.journal.now) c.loop-k.k [] = search rules in
     let took : c.replay_entry.result ≡ Ok false = search rules in
     let old = c.loop-k.node in
-    replay-stops c.args.setup.now g.M.Sequenced.meaning g.M.Sequenced.stands c.args.me (entries_of c.args.journal.now) c.loop-k.k lt old c.replay_entry.new.node c.get.result.now entry
+    replay-stops c.args.setup.now g.M.Sequenced.spec g.M.Sequenced.refines c.args.me (entries_of c.args.journal.now) c.loop-k.k lt old c.replay_entry.new.node c.get.result.now entry
     c.loop-k.invariant.1 c.loop-k.invariant.0
     (went c.replay_entry.result false
-    (λ (b : Bool). (d : Core g.row.M-Msg.Denot) → Stands g.M.Sequenced.meaning g.M.Sequenced.stands old d →
-    GoesTo old.parts.setup g.M.Sequenced.meaning g.M.Sequenced.stands old.parts.me.0 d c.get.result.now c.replay_entry.new.node b)
+    (λ (b : Bool). (d : Core g.row.M-Msg.Denot) → RefinesCore g.M.Sequenced.spec g.M.Sequenced.refines old d →
+    GoesTo old.state.setup g.M.Sequenced.spec g.M.Sequenced.refines old.state.me.0 d c.get.result.now c.replay_entry.new.node b)
     took c.replay_entry.ensures.goes)
     at (same-gate _ at is ∙ c.gate_of.ensures)
 
-pub returns-clause-stands : goal.returns-clause-stands
-returns-clause-stands g c =
+pub returns-clause-refines : goal.returns-clause-refines
+returns-clause-refines g c =
     let all : length (entries_of c.args.journal.now) ≤ c.loop-k.k = search rules in
-    replay-end c.args.setup.now g.M.Sequenced.meaning g.M.Sequenced.stands c.args.me (entries_of c.args.journal.now) c.loop-k.k _ all c.loop-k.invariant.0
+    replay-end c.args.setup.now g.M.Sequenced.spec g.M.Sequenced.refines c.args.me (entries_of c.args.journal.now) c.loop-k.k _ all c.loop-k.invariant.0
 
 pub returns-clause-same : goal.returns-clause-same
 returns-clause-same g c = c.loop-k.invariant.1

@@ -5,4 +5,4 @@ use Rattle.iss_keep.proofs.reopening.replay.Given as goal
 
 abbrev pub invariant-loop-k : goal.invariant-loop-k
 invariant-loop-k g l =
-    IsReplayed l.setup g.M.Sequenced.meaning g.M.Sequenced.stands l.fn.me.0 (take l.k (entries_of l.journal)) l.node × IsOf l.setup l.fn.me l.node
+    IsReplayed l.setup g.M.Sequenced.spec g.M.Sequenced.refines l.fn.me.0 (take l.k (entries_of l.journal)) l.node × IsOf l.setup l.fn.me l.node

@@ -5,7 +5,7 @@ use Rattle.iss_node.proofs.claims.own_claims.Goals as goal
 
 pub loop-msg-preserved : goal.loop-msg-preserved
 loop-msg-preserved g c =
-    let m = g.M.Sequenced.meaning in
+    let m = g.M.Sequenced.spec in
     let p = c.args.p.now in
     let me = c.args.me.0 in
     let i = c.loop-msg.msg-index in

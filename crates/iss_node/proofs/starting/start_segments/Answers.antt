@@ -4,11 +4,11 @@ use Rattle.iss_node.proofs.starting.start_segments.Goals as goal
 
 pub loop-node-preserved : goal.loop-node-preserved
 loop-node-preserved g c =
-    subst (λ xs. AreBegun g.M.Sequenced.stands c.args.setup.now c.args.me c.args.epoch.0 c.args.layout.now (c.loop-node.node + 1) xs) (sym c.in_ok-push.ensures.items)
-    (begun-next g.M.Sequenced.stands c.args.setup.now c.args.me c.args.epoch.0 c.args.layout.now c.loop-node.node c.loop-node.segments.items c.in_ok-segment.segment c.loop-node.invariant c.in_ok-segment.ensures.leads c.in_ok-segment.ensures.stands c.in_ok-segment.ensures.params c.in_ok-segment.ensures.node)
+    subst (λ xs. AreBegun g.M.Sequenced.refines c.args.setup.now c.args.me c.args.epoch.0 c.args.layout.now (c.loop-node.node + 1) xs) (sym c.in_ok-push.ensures.items)
+    (begun-next g.M.Sequenced.refines c.args.setup.now c.args.me c.args.epoch.0 c.args.layout.now c.loop-node.node c.loop-node.segments.items c.in_ok-segment.segment c.loop-node.invariant c.in_ok-segment.ensures.leads c.in_ok-segment.ensures.refines c.in_ok-segment.ensures.params c.in_ok-segment.ensures.node)
 
 pub returns-clause-started : goal.returns-clause-started
 returns-clause-started g c =
     let all : c.loop-node.node ≡ c.args.setup.now.n = omega (arith, c.loop-node-test.false, c.loop-node.auto.node-end) in
-    begun-all g.M.Sequenced.stands c.args.setup.now c.args.me c.args.epoch.0 c.args.layout.now c.args.setup.now.n c.loop-node.segments.items
-    (subst (λ k. AreBegun g.M.Sequenced.stands c.args.setup.now c.args.me c.args.epoch.0 c.args.layout.now k c.loop-node.segments.items) all c.loop-node.invariant) c.requires.plan c.requires.nodes
+    begun-all g.M.Sequenced.refines c.args.setup.now c.args.me c.args.epoch.0 c.args.layout.now c.args.setup.now.n c.loop-node.segments.items
+    (subst (λ k. AreBegun g.M.Sequenced.refines c.args.setup.now c.args.me c.args.epoch.0 c.args.layout.now k c.loop-node.segments.items) all c.loop-node.invariant) c.requires.plan c.requires.nodes

@@ -1,18 +1,18 @@
 use Rattle.std.proofs.Common.{◌≡◌, ◌∙◌, ℕ, suc, List, [], Result, Ok, Err, refl, ap, subst, arith, codes, get_or}
-use Rattle.iss_schedule.specs.declared.errors.Why.{Why}
-use Rattle.iss_schedule.specs.declared.errors.Why.TheVariants.{Cut, Form, Faulty, Injected, Range, Size}
+use Rattle.iss_schedule.specs.declared.errors.LineFault.{LineFault}
+use Rattle.iss_schedule.specs.declared.errors.LineFault.TheVariants.{Cut, Form, Faulty, Injected, Range, Size}
 use Rattle.iss_schedule.specs.Headers.{Number, OneOf, header_fields, row_at, setup_with, value}
 use Rattle.iss_schedule.specs.Places.{Place, ReadsField}
 use Rattle.iss_schedule.proofs.Fronts.{read_at}
 use Rattle.iss_schedule.proofs.header.read_field.Goals as goal
 
 -- bounds that are counted from the values above
-number_at : (name : List ℕ) (low end : List ℕ → ℕ) (l e : ℕ) (above : List ℕ) (old new : Place) (r : Result ℕ Why) → l ≡ low above → e ≡ end above →
+number_at : (name : List ℕ) (low end : List ℕ → ℕ) (l e : ℕ) (above : List ℕ) (old new : Place) (r : Result ℕ LineFault) → l ≡ low above → e ≡ end above →
     ReadsField (Number name (λ _. l) (λ _. e)) above old new r → ReadsField (Number name low end) above old new r
 number_at name low end l e above old new r is is' h =
     go r (subst (λ x. ReadsField (Number name (λ _. low above) (λ _. x)) above old new r) is' (subst (λ x. ReadsField (Number name (λ _. x) (λ _. e)) above old new r) is h))
   where
-    bad : (why : Why) → ReadsField (Number name (λ _. low above) (λ _. end above)) above old new (Err why) → ReadsField (Number name low end) above old new (Err why)
+    bad : (why : LineFault) → ReadsField (Number name (λ _. low above) (λ _. end above)) above old new (Err why) → ReadsField (Number name low end) above old new (Err why)
     bad Cut h = h
     bad Form h = h
     bad Faulty h = h
@@ -20,15 +20,15 @@ number_at name low end l e above old new r is is' h =
     bad Range h = h
     bad Size h = h
 
-    go : (r : Result ℕ Why) → ReadsField (Number name (λ _. low above) (λ _. end above)) above old new r → ReadsField (Number name low end) above old new r
+    go : (r : Result ℕ LineFault) → ReadsField (Number name (λ _. low above) (λ _. end above)) above old new r → ReadsField (Number name low end) above old new r
     go (Ok v) h = h
     go (Err why) h = bad why h
 
-pub faults_at : (above : List ℕ) (old new : Place) (r : Result ℕ Why) (place end : ℕ) → place ≡ value above 1 → end ≡ suc (row_at place).most_faults →
+pub faults_at : (above : List ℕ) (old new : Place) (r : Result ℕ LineFault) (place end : ℕ) → place ≡ value above 1 → end ≡ suc (row_at place).most_faults →
     ReadsField (Number (codes "f") (λ _. 0) (λ _. end)) above old new r → ReadsField (get_or header_fields 2 (OneOf [])) above old new r
 faults_at above old new r place end here is = number_at (codes "f") (λ above. 0) (λ above. suc (row_at (value above 1)).most_faults) 0 end above old new r refl (is ∙ ap (λ k. suc (row_at k).most_faults) here)
 
-pub epoch_at : (above : List ℕ) (old new : Place) (r : Result ℕ Why) (low : ℕ) → low ≡ (setup_with above [] []).n →
+pub epoch_at : (above : List ℕ) (old new : Place) (r : Result ℕ LineFault) (low : ℕ) → low ≡ (setup_with above [] []).n →
     ReadsField (Number (codes "epoch") (λ _. low) (λ _. 65)) above old new r → ReadsField (get_or header_fields 3 (OneOf [])) above old new r
 epoch_at above old new r low is = number_at (codes "epoch") (λ above. (setup_with above [] []).n) (λ above. 65) low 65 above old new r is refl
 

@@ -5,7 +5,7 @@ use Rattle.iss_theorems.proofs.conservation.requests_are_conserved.Goals as goal
 
 pub returns : goal.returns
 returns g c =
-    let M = g.M.Sequenced.meaning in
+    let M = g.M.Sequenced.spec in
     let laws = c.laws.ensures in
     λ s h once events low.
     let written = faithful s M laws.grammar in

@@ -3,7 +3,7 @@ use Rattle.iss_theorems.proofs.Lives.{are-lives}
 use Rattle.iss_theorems.proofs.signing.leaves_sign_once.Goals as goal
 
 pub returns-clause-node : goal.returns-clause-node
-returns-clause-node g c = λ s h me deeds life. signs-once-each s g.M.Sequenced.meaning h c.laws.ensures.signs_once me deeds life
+returns-clause-node g c = λ s h me deeds life. signs-once-each s g.M.Sequenced.spec h c.laws.ensures.signs_once me deeds life
 
 pub returns-clause-runs : goal.returns-clause-runs
-returns-clause-runs g c = λ s h events. are-lives s g.M.Sequenced.meaning h c.laws.ensures.signs_once events
+returns-clause-runs g c = λ s h events. are-lives s g.M.Sequenced.spec h c.laws.ensures.signs_once events

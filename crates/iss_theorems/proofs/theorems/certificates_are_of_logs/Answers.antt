@@ -4,6 +4,6 @@ use Rattle.iss_theorems.proofs.theorems.certificates_are_of_logs.Goals as goal
 
 pub returns : goal.returns
 returns g c =
-    let M = g.M.Sequenced.meaning in
+    let M = g.M.Sequenced.spec in
     let laws = c.laws.ensures in
     λ s h. are-of-logs s M h (faithful s M laws.grammar) laws.lawful laws.safe

@@ -9,10 +9,10 @@ unreachable-requires-in-Err-Damaged g c =
     let whole = c.requires.whole in
     let is : c.reopen.result ≡ Err (Damaged c.in-Err-Damaged.field-0-0) =
     c.in-Err-Damaged.is ∙ ap (λ (e : AttachError). let r : Result (Unit {0}) AttachError = Err e in r) c.in-Err-Damaged.field-0-is in
-    not-damaged g.M.Sequenced.meaning g.M.Sequenced.stands c.args.node.now c.reopen.new.self c.reopen.ensures.same c.a_file_has_one_reading.ensures.one whole.0 whole.1 whole.2
+    not-damaged g.M.Sequenced.spec g.M.Sequenced.refines c.args.node.now c.reopen.new.self c.reopen.ensures.same c.a_file_has_one_reading.ensures.one whole.0 whole.1 whole.2
     c.in-Err-Damaged.field-0-0 (c.reopen.ensures.damaged c.in-Err-Damaged.field-0-0 is)
 
 pub returns-in-Ok-clause-anew : goal.returns-in-Ok-clause-anew
 returns-in-Ok-clause-anew g c = λ events d leads.
-    reopened-over g.M.Sequenced.meaning g.M.Sequenced.stands c.args.node.now c.reopen.new.self c.reopen.ensures.same c.a_file_has_one_reading.ensures.one events d leads _
+    reopened-over g.M.Sequenced.spec g.M.Sequenced.refines c.args.node.now c.reopen.new.self c.reopen.ensures.same c.a_file_has_one_reading.ensures.one events d leads _
     c.in-Ok.ensures.core.0 c.requires.works c.in-Ok.ensures.core.1 c.in-Ok.ensures.attached c.reopen.ensures.loses

@@ -1,7 +1,7 @@
 use Rattle.std.proofs.Common.{[], ap, ◌∙◌}
 use Rattle.iss_disk.specs.StoredViews.{history_of}
 use Rattle.iss_disk.specs.declared.memory.MemoryDisk.{MemoryDisk}
-use Rattle.iss_model.specs.Node.{idle}
+use Rattle.iss_model.specs.Node.{initial_core}
 use Rattle.iss_request.specs.declared.ids.NodeId.{NodeId}
 use Rattle.iss_world.proofs.OverLemmas.{new-leads}
 use Rattle.iss_world.proofs.cores.start_core.Goals as goal
@@ -9,15 +9,15 @@ use Rattle.iss_world.proofs.cores.start_core.Goals as goal
 pub make_anew-requires-clause-whole : goal.make_anew-requires-clause-whole
 make_anew-requires-clause-whole g c = (
   [],
-  idle,
-  new-leads g.M.Sequenced.meaning g.M.Sequenced.stands c.in_ok-node.node c.in_ok-node.ensures.journal.1
+  initial_core,
+  new-leads g.M.Sequenced.spec g.M.Sequenced.refines c.in_ok-node.node c.in_ok-node.ensures.journal.1
       (ap (λ (x : MemoryDisk). history_of x.file) c.in_ok-node.ensures.journal.0 ∙ c.in_ok-disk.ensures.history),
 )
 
 pub returns : goal.returns
 returns g c = record {
-  stands_for = c.in_ok-make_anew.ensures.anew [] idle
-      (new-leads g.M.Sequenced.meaning g.M.Sequenced.stands c.in_ok-node.node c.in_ok-node.ensures.journal.1
+  refined = c.in_ok-make_anew.ensures.anew [] initial_core
+      (new-leads g.M.Sequenced.spec g.M.Sequenced.refines c.in_ok-node.node c.in_ok-node.ensures.journal.1
       (ap (λ (x : MemoryDisk). history_of x.file) c.in_ok-node.ensures.journal.0 ∙ c.in_ok-disk.ensures.history));
   setup = c.in_ok-make_anew.ensures.same.setup ∙ c.in_ok-node.ensures.same.0;
   place = ap (λ (i : NodeId). i.0) (c.in_ok-make_anew.ensures.same.me ∙ c.in_ok-node.ensures.same.1) ∙ c.node_of.ensures.is;

@@ -1,5 +1,5 @@
 use Rattle.std.proofs.Common.{List, ℕ, subst}
-use Rattle.iss_base.specs.Lists.{over}
+use Rattle.iss_base.specs.Lists.{push_all}
 use Rattle.iss_world.specs.Books.{AreHashed}
 use Rattle.iss_world.proofs.BookLemmas.{if-ok}
 use Rattle.iss_world.proofs.StepLemmas.{ends-collided, ends-forged}
@@ -18,4 +18,4 @@ returns-in-None-clause-told c =
 pub returns-in-None-clause-booked : goal.returns-in-None-clause-booked
 returns-in-None-clause-booked c =
     if-ok _ _ c.book.result c.book.ensures.booked (λ end f strings hh none.
-    subst (λ (xs : List (List ℕ)). AreHashed c.book.new.self (over xs strings)) c.as_slice.ensures (f strings hh none))
+    subst (λ (xs : List (List ℕ)). AreHashed c.book.new.self (push_all xs strings)) c.as_slice.ensures (f strings hh none))

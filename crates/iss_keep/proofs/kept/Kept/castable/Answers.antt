@@ -7,7 +7,7 @@ use Rattle.iss_keep.proofs.kept.Kept.castable.Goals as goal
 
 pub returns : goal.returns
 returns g c =
-    let m = g.M.Sequenced.meaning in
+    let m = g.M.Sequenced.spec in
     rw (← c.self.view_is) (λ d for.
     subst (λ (i : NodeId). c.castable.result ≡ is_castable_now (rules_of c.self.inside.setup) m i.0 d) c.self.invariant.number
-    (subst (λ (s : Setup). c.castable.result ≡ is_castable_now (rules_of s) m c.self.inside.node.parts.me.0 d) c.self.invariant.cluster (c.castable.ensures d for.node)))
+    (subst (λ (s : Setup). c.castable.result ≡ is_castable_now (rules_of s) m c.self.inside.node.state.me.0 d) c.self.invariant.cluster (c.castable.ensures d for.node)))

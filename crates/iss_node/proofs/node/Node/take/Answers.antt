@@ -4,33 +4,33 @@ use Rattle.iss_rules.specs.Formats.{formats_of}
 use Rattle.iss_model.specs.Node.{step}
 use Rattle.iss_node.proofs.NodeLemmas.{answer-taken, node-taken}
 use Rattle.iss_node.specs.Shape.{IsNode}
-use Rattle.iss_node.specs.State.{NodeState, ReplicaState, Stands}
+use Rattle.iss_node.specs.State.{NodeView, RefinesCore, StateView}
 use Rattle.iss_node.specs.Steps.{IsHeldStepOf, IsOfNodes, IsTurn}
-use Rattle.iss_node.specs.declared.answers.Stepped.TheVariants.{Taken as Takes}
+use Rattle.iss_node.specs.declared.answers.StepResult.TheVariants.{Taken as Result_taken}
 use Rattle.iss_node.proofs.node.Node.take.Goals as goal
 
 pub invariant_of-self : goal.invariant_of-self
 invariant_of-self g c =
-    let m = g.M.Sequenced.meaning in
-    let v = c.self.inside.parts in
+    let m = g.M.Sequenced.spec in
+    let v = c.self.inside.state in
     let fresh : c.self.inside.stale ≡ false = search rules in
-    let was = subst (λ (s : Bool). IsNode m g.M.Sequenced.stands (record { parts = v; stale = s })) fresh c.self.invariant in
+    let was = subst (λ (s : Bool). IsNode m g.M.Sequenced.refines (record { state = v; stale = s })) fresh c.self.invariant in
     let answer = rw c.in-Ok-Taken.field-0-is at c.in-Ok-Taken.ensures.answer in
-    let taken : IsHeldStepOf m g.M.Sequenced.stands (IsOfNodes v.setup.n c.args.event) v (λ F R me d. step F R m me d c.args.event) c.turn.new.self (Takes c.in-Ok-Taken.outcome) = rw (← c.self-inside.view_is) answer in
-    subst (λ (z : ReplicaState g.row.M.Denot g.row.M-Msg.Denot). IsNode m g.M.Sequenced.stands (record { parts = z; stale = false })) (sym (ap (λ z. z.parts) c.self-inside-2.view_is))
-    (node-taken m g.M.Sequenced.stands v c.turn.new.self false c.args.event c.in-Ok-Taken.outcome taken refl was)
+    let taken : IsHeldStepOf m g.M.Sequenced.refines (IsOfNodes v.setup.n c.args.event) v (λ F R me d. step F R m me d c.args.event) c.turn.new.self (Result_taken c.in-Ok-Taken.outcome) = rw (← c.self-inside.view_is) answer in
+    subst (λ (z : StateView g.row.M.Denot g.row.M-Msg.Denot). IsNode m g.M.Sequenced.refines (record { state = z; stale = false })) (sym (ap (λ z. z.state) c.self-inside-2.view_is))
+    (node-taken m g.M.Sequenced.refines v c.turn.new.self false c.args.event c.in-Ok-Taken.outcome taken refl was)
 
 pub returns-in-Ok-Taken-clause-answer : goal.returns-in-Ok-Taken-clause-answer
 returns-in-Ok-Taken-clause-answer g c = rw c.in-Ok-Taken.field-0-is (λ d st.
-    let m = g.M.Sequenced.meaning in
-    let v = c.self.inside.parts in
+    let m = g.M.Sequenced.spec in
+    let v = c.self.inside.state in
     let fresh : c.self.inside.stale ≡ false = search rules in
-    let here : Stands m g.M.Sequenced.stands (record { parts = v; stale = c.self.inside.stale }) d = subst (λ (n : NodeState g.row.M.Denot g.row.M-Msg.Denot). Stands m g.M.Sequenced.stands n d) (sym c.self.view_is) st in
-    let there = subst (λ (s : Bool). Stands m g.M.Sequenced.stands (record { parts = v; stale = s }) d) fresh here in
+    let here : RefinesCore m g.M.Sequenced.refines (record { state = v; stale = c.self.inside.stale }) d = subst (λ (n : NodeView g.row.M.Denot g.row.M-Msg.Denot). RefinesCore m g.M.Sequenced.refines n d) (sym c.self.view_is) st in
+    let there = subst (λ (s : Bool). RefinesCore m g.M.Sequenced.refines (record { state = v; stale = s }) d) fresh here in
     let answer = rw c.in-Ok-Taken.field-0-is at c.in-Ok-Taken.ensures.answer in
-    let taken : IsHeldStepOf m g.M.Sequenced.stands (IsOfNodes v.setup.n c.args.event) v (λ F R me e. step F R m me e c.args.event) c.turn.new.self (Takes c.in-Ok-Taken.outcome) = rw (← c.self-inside.view_is) answer in
-    subst (λ (z : ReplicaState g.row.M.Denot g.row.M-Msg.Denot). IsTurn m g.M.Sequenced.stands (IsOfNodes c.args.self.now.parts.setup.n c.args.event) (step (formats_of c.args.self.now.parts.setup m) (rules_of c.args.self.now.parts.setup) m c.args.self.now.parts.me.0 d c.args.event) (record { parts = z; stale = false }) c.in-Ok-Taken.outcome)
-    (sym (ap (λ z. z.parts) c.self-inside-2.view_is))
-    (subst (λ (n : NodeState g.row.M.Denot g.row.M-Msg.Denot). IsTurn m g.M.Sequenced.stands (IsOfNodes n.parts.setup.n c.args.event) (step (formats_of n.parts.setup m) (rules_of n.parts.setup) m n.parts.me.0 d c.args.event) (record { parts = c.turn.new.self; stale = false }) c.in-Ok-Taken.outcome)
+    let taken : IsHeldStepOf m g.M.Sequenced.refines (IsOfNodes v.setup.n c.args.event) v (λ F R me e. step F R m me e c.args.event) c.turn.new.self (Result_taken c.in-Ok-Taken.outcome) = rw (← c.self-inside.view_is) answer in
+    subst (λ (z : StateView g.row.M.Denot g.row.M-Msg.Denot). IsTurn m g.M.Sequenced.refines (IsOfNodes c.args.self.now.state.setup.n c.args.event) (step (formats_of c.args.self.now.state.setup m) (rules_of c.args.self.now.state.setup) m c.args.self.now.state.me.0 d c.args.event) (record { state = z; stale = false }) c.in-Ok-Taken.outcome)
+    (sym (ap (λ z. z.state) c.self-inside-2.view_is))
+    (subst (λ (n : NodeView g.row.M.Denot g.row.M-Msg.Denot). IsTurn m g.M.Sequenced.refines (IsOfNodes n.state.setup.n c.args.event) (step (formats_of n.state.setup m) (rules_of n.state.setup) m n.state.me.0 d c.args.event) (record { state = c.turn.new.self; stale = false }) c.in-Ok-Taken.outcome)
     c.self.view_is
-    (answer-taken m g.M.Sequenced.stands v c.turn.new.self false c.args.event c.in-Ok-Taken.outcome taken d there)))
+    (answer-taken m g.M.Sequenced.refines v c.turn.new.self false c.args.event c.in-Ok-Taken.outcome taken d there)))

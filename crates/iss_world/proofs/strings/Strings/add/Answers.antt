@@ -1,8 +1,8 @@
 use Rattle.std.proofs.Common.{◌∙◌, Some, None, sym, ap, Option}
 use Rattle.std.specs.Prelude.{option_map}
 use Rattle.iss_world.proofs.BookLemmas.{at-digest, found-with, fresh-with, hashed-again, hashed-more, if-ok, put-digest}
-use Rattle.iss_world.specs.Stands.{end_of}
-use Rattle.iss_world.specs.declared.ends.End.{End}
+use Rattle.iss_world.specs.Refines.{end_of}
+use Rattle.iss_world.specs.declared.ends.Evidence.{Evidence}
 use Rattle.iss_world.proofs.strings.Strings.add.Goals as goal
 
 pub returns-in-Some-clause-told : goal.returns-in-Some-clause-told
@@ -16,7 +16,7 @@ returns-in-Some-clause-booked c =
     let v = c.self.inside.all.entries in
     let at = at-digest v c.digest-digest.result c.args.string.now c.as_slice.result.now (Some c.in-Some.first.now) c.digest-digest.ensures c.as_slice.ensures c.in-Some.ensures.value in
     rw (← c.self.view_is) (if-ok _ _ c.collision.result c.collision.ensures
-    (λ end e book h none. hashed-again v book c.in-Some.first.now c.args.string.now h at (sym e ∙ ap (λ (o : Option End). option_map end_of o) none)))
+    (λ end e book h none. hashed-again v book c.in-Some.first.now c.args.string.now h at (sym e ∙ ap (λ (o : Option Evidence). option_map end_of o) none)))
 
 pub returns-clause-told : goal.returns-clause-told
 returns-clause-told c =

@@ -1,7 +1,7 @@
 use Rattle.std.proofs.Common.{◌==◌, ◌∙◌, refl, sym, arith}
 use Rattle.iss_base.proofs.Lists.{and-true}
-use Rattle.sb_echo.specs.Stands.{is_free}
-use Rattle.sb_echo.proofs.Steps.{cast-stands, cast-taken, cast-used, idle_cast-stands, idle_cast-taken, said-words}
+use Rattle.sb_echo.specs.Refines.{is_free}
+use Rattle.sb_echo.proofs.Steps.{cast-refines, cast-taken, cast-used, idle_cast-refines, idle_cast-taken, said-words}
 use Rattle.sb_echo.proofs.Within.{none-used, nothing-within, same-owner, some-used, taken-within, twice-used}
 use Rattle.sb_echo.proofs.echo.Echo.cast.Goals as goal
 
@@ -10,7 +10,7 @@ returns-then-not-may_cast c =
     let no = sym c.if-not-may_cast.ensures in
     let used = c.args.keys.now.used in
     record {
-      stands_for = λ me xs st own. idle_cast-stands c.args.self.now c.args.p.now me xs st c.args.slot c.args.batch used no;
+      refined = λ me xs st own. idle_cast-refines c.args.self.now c.args.p.now me xs st c.args.slot c.args.batch used no;
       effects = λ me xs st own. idle_cast-taken c.args.self.now c.args.p.now me xs st c.args.slot c.args.batch used _ no c.nothing.ensures;
       used = λ me xs st own. none-used used _ (cast-used c.args.self.now c.args.p.now me xs st c.args.slot c.args.batch used _ no);
       within = nothing-within c.args.p.now c.args.keys.now _ c.nothing.ensures;
@@ -28,7 +28,7 @@ returns c =
     let once = c.in_ok-sig.ensures.used in
     let twice = twice-used c.args.keys.now _ _ once c.in_ok-own.ensures.used in
     record {
-      stands_for = λ me xs st own. cast-stands c.args.self.now c.args.p.now me xs st c.args.slot c.args.batch used _ _ _ may taken;
+      refined = λ me xs st own. cast-refines c.args.self.now c.args.p.now me xs st c.args.slot c.args.batch used _ _ _ may taken;
       effects = λ me xs st own. let signed = c.in_ok-own.ensures.sig me (same-owner me _ c.args.keys.now _ 1 once own) in cast-taken c.args.self.now c.args.p.now me xs st c.args.slot c.args.batch used _ _ _ _ may taken
           (sends ∙ said-words c.args.p.now me used c.args.slot c.args.batch _ _ _ _ c.in_ok-said.ensures taken.digest (c.in_ok-sig.ensures.sig me own) (rw once at signed)) refl refl refl;
       used = λ me xs st own. some-used c.args.keys.now _ 2 _ twice (cast-used c.args.self.now c.args.p.now me xs st c.args.slot c.args.batch used _ may);

@@ -1,5 +1,5 @@
 use Rattle.std.proofs.Common.{arith}
-use Rattle.sb_echo.proofs.Steps.{idle_timeout-stands, idle_timeout-taken}
+use Rattle.sb_echo.proofs.Steps.{idle_timeout-refines, idle_timeout-taken}
 use Rattle.sb_echo.proofs.Within.{nothing-within}
 use Rattle.sb_echo.proofs.echo.EchoSequenced.step.Goals as goal
 
@@ -13,7 +13,7 @@ pub returns : goal.returns
 returns c =
     let nothing = c.nothing-in-Timeout.ensures in
     rw (c.if-not-verdict.false, c.in-Timeout.is) (record {
-      stands_for = λ me xs st own. idle_timeout-stands c.args.self.now c.args.p.now me xs st c.args.keys.now.used;
+      refined = λ me xs st own. idle_timeout-refines c.args.self.now c.args.p.now me xs st c.args.keys.now.used;
       effects = λ me xs st own. idle_timeout-taken c.args.self.now c.args.p.now me xs st c.args.keys.now.used _ nothing;
       used = λ me xs st own. omega arith;
       within = nothing-within c.args.p.now c.args.keys.now _ nothing;

@@ -1,11 +1,11 @@
 use Rattle.std.proofs.Common.{◌==◌, List, arith, refl, sym, ap, ◌∙◌, [], ◌∷◌, false, Some}
 use Rattle.iss_base.proofs.Lists.{and-true}
-use Rattle.iss_request.specs.declared.requests.Value.TheVariants.{Batch as Holds}
+use Rattle.iss_request.specs.declared.requests.Value.TheVariants.{Batch as Value_batch}
 use Rattle.iss_sb.specs.Statements.{signature}
 use Rattle.iss_sb.specs.declared.effects.Input.TheVariants.{Cast}
 use Rattle.pbft_wire.specs.Statements.{state_at, string_of}
 use Rattle.sb_pbft.specs.Makes.{first_draft, first_sig}
-use Rattle.sb_pbft.specs.Stands.{held, is_free}
+use Rattle.sb_pbft.specs.Refines.{held, is_free}
 use Rattle.sb_pbft.specs.Turns.{first_proposal, with_proposal}
 use Rattle.sb_pbft.proofs.Doing.{does-nothing, does-settled}
 use Rattle.sb_pbft.proofs.Proposed.{cast-idle, cast-sent, cast-turn, first-few, free-slot, proposal-held, same-proposal}
@@ -30,7 +30,7 @@ returns c =
     let few = first-few p old slot batch in
     does-settled p (Cast slot batch) old (record old { proposals = c.put.new.self }) c.settle_at.new.self keys c.sign_at.new.keys c.settle_at.new.keys _ c.settle_at.new.effects
     (first_draft p old.me.0 (Some (slot, batch))) false 0 (slot ∷ [])
-    (with_proposal (held old) 0 slot.0 (first_proposal p (slot, batch) (first_sig p old.me.0 keys.used (slot, batch) (Cast slot batch)))) (string_of p (Holds batch) ∷ []) (Some (slot, batch))
+    (with_proposal (held old) 0 slot.0 (first_proposal p (slot, batch) (first_sig p old.me.0 keys.used (slot, batch) (Cast slot batch)))) (string_of p (Value_batch batch) ∷ []) (Some (slot, batch))
     refl
     (λ own. proposal-held p old slot batch c.put.new.self _ _
     (same-proposal p old slot batch _ _ _ _ got.value got.digest (c.in_ok-sig.ensures.sig old.me.0 own ∙ ap (λ (d : List _). signature p old.me.0 keys.used (state_at p 1 0 slot.0 d)) got.digest)) c.in_ok-put.ensures)

@@ -2,7 +2,7 @@ use Rattle.std.proofs.Common.{arith, refl, sym, [], ◌∷◌, false, None}
 use Rattle.iss_sb.proofs.Slots.{has_slot-In}
 use Rattle.iss_sb.specs.declared.effects.Input.TheVariants.{Receive}
 use Rattle.pbft_wire.specs.declared.messages.Message.TheVariants.{Commit}
-use Rattle.sb_pbft.specs.Stands.{held}
+use Rattle.sb_pbft.specs.Refines.{held}
 use Rattle.sb_pbft.specs.Turns.{and_commit}
 use Rattle.sb_pbft.proofs.Doing.{does-nothing, does-settled}
 use Rattle.sb_pbft.proofs.Settled.{sent-none}

@@ -1,11 +1,11 @@
 use Rattle.std.proofs.Common.{◌==◌, ◌&&◌, not, arith, refl, sym, [], ◌∷◌, false, Some}
 use Rattle.iss_base.proofs.Lists.{and-true}
-use Rattle.iss_request.specs.declared.requests.Value.TheVariants.{Batch as Holds}
+use Rattle.iss_request.specs.declared.requests.Value.TheVariants.{Batch as Value_batch}
 use Rattle.iss_sb.specs.declared.effects.Input.TheVariants.{Receive}
 use Rattle.pbft_wire.specs.declared.messages.Message.TheVariants.{PrePrepare}
 use Rattle.pbft_wire.specs.Statements.{string_of}
 use Rattle.sb_pbft.specs.Makes.{first_draft}
-use Rattle.sb_pbft.specs.Stands.{held, is_free}
+use Rattle.sb_pbft.specs.Refines.{held, is_free}
 use Rattle.sb_pbft.specs.Turns.{first_proposal, with_proposal}
 use Rattle.sb_pbft.proofs.Doing.{does-nothing, does-settled}
 use Rattle.sb_pbft.proofs.Proposed.{first-few, free-slot, not-is, proposal-held, same-proposal, told-idle, told-sent, told-turn}
@@ -13,7 +13,7 @@ use Rattle.sb_pbft.proofs.pbft.Pbft.take_pre_prepare.Goals as goal
 
 pub returns-then-not-may_take : goal.returns-then-not-may_take
 returns-then-not-may_take c =
-    does-nothing c.args.p.now (Receive c.args.from (PrePrepare c.args.view c.args.slot (Holds c.args.batch) c.args.sig)) c.args.self.now c.args.keys.now _
+    does-nothing c.args.p.now (Receive c.args.from (PrePrepare c.args.view c.args.slot (Value_batch c.args.batch) c.args.sig)) c.args.self.now c.args.keys.now _
     (told-idle c.args.p.now c.args.self.now c.args.slot c.args.batch c.args.keys.now.used c.args.from c.args.view c.args.sig (sym c.if-not-may_take.ensures)) c.nothing.ensures
 
 pub returns : goal.returns
@@ -30,9 +30,9 @@ returns c =
     let got = c.in_ok-value.ensures in
     let some = c.requires.good.some in
     let few = first-few p old slot batch in
-    does-settled p (Receive c.args.from (PrePrepare c.args.view slot (Holds batch) c.args.sig)) old (record old { proposals = c.put.new.self }) c.settle_at.new.self keys c.send_prepare.new.keys
+    does-settled p (Receive c.args.from (PrePrepare c.args.view slot (Value_batch batch) c.args.sig)) old (record old { proposals = c.put.new.self }) c.settle_at.new.self keys c.send_prepare.new.keys
     c.settle_at.new.keys _ c.settle_at.new.effects (first_draft p old.me.0 (Some (slot, batch))) false 0 (slot ∷ [])
-    (with_proposal (held old) 0 slot.0 (first_proposal p (slot, batch) c.args.sig)) (string_of p (Holds batch) ∷ []) (Some (slot, batch))
+    (with_proposal (held old) 0 slot.0 (first_proposal p (slot, batch) c.args.sig)) (string_of p (Value_batch batch) ∷ []) (Some (slot, batch))
     refl
     (λ own. proposal-held p old slot batch c.put.new.self _ _ (same-proposal p old slot batch _ _ _ _ got.value got.digest refl) c.in_ok-put.ensures)
     (told-sent p old slot batch other _ keys c.send_prepare.new.keys _ _ got.digest got.sends c.in_ok-send_prepare.ensures.sent)

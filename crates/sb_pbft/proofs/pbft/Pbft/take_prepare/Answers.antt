@@ -5,7 +5,7 @@ use Rattle.iss_sb.proofs.Slots.{has_slot-In}
 use Rattle.iss_sb.specs.declared.effects.Input.TheVariants.{Receive}
 use Rattle.pbft_wire.specs.declared.messages.Message.TheVariants.{Prepare}
 use Rattle.pbft_views.specs.Good.{primary}
-use Rattle.sb_pbft.specs.Stands.{held}
+use Rattle.sb_pbft.specs.Refines.{held}
 use Rattle.sb_pbft.specs.Turns.{and_prepare}
 use Rattle.sb_pbft.proofs.Doing.{does-nothing, does-settled}
 use Rattle.sb_pbft.proofs.Settled.{sent-none}

@@ -2,7 +2,7 @@ use Rattle.std.proofs.Common.{◌+◌, ◌∙◌, List, [], ◌∷◌, arith, le
 use Rattle.iss_request.specs.declared.ids.Slot.{Slot}
 use Rattle.iss_sb.specs.declared.effects.Input.TheVariants.{Timeout}
 use Rattle.sb_pbft.specs.Makes.{DraftViewChange}
-use Rattle.sb_pbft.specs.Stands.{held}
+use Rattle.sb_pbft.specs.Refines.{held}
 use Rattle.sb_pbft.specs.Turns.{tops_of}
 use Rattle.sb_pbft.proofs.Begun.{passed, timed-sent, tops-few}
 use Rattle.sb_pbft.proofs.Doing.{does-sent}

@@ -1,7 +1,7 @@
 use Rattle.std.proofs.Common.{◌≡◌, ◌++◌}
 use Rattle.iss_sb.specs.Calls.{AreToNodes}
 use Rattle.sb_raft.specs.Rules.{append_to, others, to_each}
-use Rattle.sb_raft.specs.Stands.{Fits, held}
+use Rattle.sb_raft.specs.Refines.{Fits, held}
 use Rattle.sb_raft.proofs.raft.Raft.append_to_others.Given as goal
 
 abbrev pub invariant-loop-k : goal.invariant-loop-k

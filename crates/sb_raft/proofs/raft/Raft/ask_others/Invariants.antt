@@ -1,7 +1,7 @@
 use Rattle.std.proofs.Common.{◌≡◌, ◌<◌, ◌^◌, length}
 use Rattle.iss_sb.specs.Calls.{AreToNodes}
 use Rattle.sb_raft.specs.Rules.{ask_vote, others, to_each}
-use Rattle.sb_raft.specs.Stands.{held}
+use Rattle.sb_raft.specs.Refines.{held}
 use Rattle.sb_raft.proofs.raft.Raft.ask_others.Given as goal
 
 abbrev pub invariant-loop-k : goal.invariant-loop-k

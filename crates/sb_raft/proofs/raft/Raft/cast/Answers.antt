@@ -3,7 +3,7 @@ use Rattle.iss_sb.specs.declared.effects.To.{To}
 use Rattle.raft_wire.specs.declared.messages.Message.{Message}
 use Rattle.sb_raft.specs.declared.raft.Raft.{Raft}
 use Rattle.sb_raft.specs.Rules.{appends}
-use Rattle.sb_raft.specs.Stands.{held}
+use Rattle.sb_raft.specs.Refines.{held}
 use Rattle.sb_raft.proofs.Leading.{cast-done, cast-idle, cast-state}
 use Rattle.sb_raft.proofs.raft.Raft.cast.Goals as goal
 

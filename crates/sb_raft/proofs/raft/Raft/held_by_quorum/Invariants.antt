@@ -1,4 +1,4 @@
-use Rattle.sb_raft.specs.Stands.{held}
+use Rattle.sb_raft.specs.Refines.{held}
 use Rattle.sb_raft.proofs.Reaching.{IsMostOf}
 use Rattle.sb_raft.proofs.raft.Raft.held_by_quorum.Given as goal
 

@@ -1,7 +1,7 @@
 use Rattle.std.proofs.Common.{◌≡◌, ◌≤◌}
 use Rattle.iss_base.specs.Quorum.{count_below}
 use Rattle.sb_raft.specs.Rules.{holds}
-use Rattle.sb_raft.specs.Stands.{held}
+use Rattle.sb_raft.specs.Refines.{held}
 use Rattle.sb_raft.proofs.raft.Raft.holders.Given as goal
 
 abbrev pub invariant-loop-k : goal.invariant-loop-k

@@ -3,7 +3,7 @@ use Rattle.iss_request.specs.declared.ids.Slot.{Slot}
 use Rattle.sb_raft.specs.declared.raft.Raft.{Raft}
 use Rattle.sb_raft.specs.Held.{paired, with_merged}
 use Rattle.sb_raft.specs.Logs.{contents, filled}
-use Rattle.sb_raft.specs.Stands.{held}
+use Rattle.sb_raft.specs.Refines.{held}
 use Rattle.sb_raft.proofs.Handling.{merge-done, merge-idle, merged-told, when-false, when-true}
 use Rattle.sb_raft.proofs.raft.Raft.merge.Goals as goal
 

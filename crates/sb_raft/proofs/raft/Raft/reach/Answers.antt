@@ -1,5 +1,5 @@
 use Rattle.std.proofs.Common.{sym, ◌∙◌}
-use Rattle.sb_raft.specs.Stands.{held}
+use Rattle.sb_raft.specs.Refines.{held}
 use Rattle.sb_raft.proofs.Reaching.{reached-at, reached-none}
 use Rattle.sb_raft.proofs.raft.Raft.reach.Goals as goal
 

@@ -1,6 +1,6 @@
 use Rattle.std.proofs.Common.{◌+◌, Some, refl}
 use Rattle.std.proofs.lemmas.Result.{IfOk-weaker}
-use Rattle.sb_raft.specs.declared.raft.Part.TheVariants.{Candidate}
+use Rattle.sb_raft.specs.declared.raft.Role.TheVariants.{Candidate}
 use Rattle.sb_raft.specs.declared.raft.Raft.{Raft}
 use Rattle.sb_raft.specs.Kept.{kept}
 use Rattle.sb_raft.proofs.Leading.{own-vote, stand-done}

@@ -5,7 +5,7 @@ use Rattle.iss_base.specs.Lists.{set_at}
 use Rattle.sb_raft.specs.declared.raft.Raft.{Raft}
 use Rattle.sb_raft.specs.Kept.{kept}
 use Rattle.sb_raft.specs.Rules.{answer, append_behind}
-use Rattle.sb_raft.specs.Stands.{IsLow, held}
+use Rattle.sb_raft.specs.Refines.{IsLow, held}
 use Rattle.sb_raft.proofs.Handling.{idle}
 use Rattle.sb_raft.proofs.Leading.{not-ok-done}
 use Rattle.sb_raft.proofs.raft.Raft.take_not_ok.Goals as goal

@@ -4,7 +4,7 @@ use Rattle.std.proofs.lemmas.Bool.{lt-leb}
 use Rattle.std.proofs.lemmas.Result.{IfOk-weaker}
 use Rattle.sb_raft.specs.declared.raft.Raft.{Raft}
 use Rattle.sb_raft.specs.Rules.{advanced, quiet}
-use Rattle.sb_raft.specs.Stands.{IsLow, held}
+use Rattle.sb_raft.specs.Refines.{IsLow, held}
 use Rattle.sb_raft.proofs.Handling.{idle}
 use Rattle.sb_raft.proofs.Leading.{ok-done}
 use Rattle.sb_raft.proofs.Steps.{with_match}

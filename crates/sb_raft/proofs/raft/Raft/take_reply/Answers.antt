@@ -1,7 +1,7 @@
 use Rattle.std.proofs.Common.{◌&&◌, ◌==◌, ◌∙◌, not, sym, None, if◌then◌else◌}
 use Rattle.std.proofs.lemmas.Result.{IfOk-weaker}
 use Rattle.sb_raft.specs.Rules.{is_leader, on_not_ok, on_ok}
-use Rattle.sb_raft.specs.Stands.{IsLow, held}
+use Rattle.sb_raft.specs.Refines.{IsLow, held}
 use Rattle.sb_raft.proofs.Handling.{goes, goes_not, idle}
 use Rattle.sb_raft.proofs.Leading.{reply-done}
 use Rattle.sb_raft.proofs.raft.Raft.take_reply.Goals as goal

@@ -2,7 +2,7 @@ use Rattle.std.proofs.Common.{◌&&◌, ◌==◌, [], ◌∙◌, refl, sym}
 use Rattle.std.proofs.lemmas.Result.{IfOk-weaker}
 use Rattle.sb_raft.specs.declared.raft.Raft.{Raft}
 use Rattle.sb_raft.specs.Rules.{counted, is_candidate}
-use Rattle.sb_raft.specs.Stands.{IsLow, held}
+use Rattle.sb_raft.specs.Refines.{IsLow, held}
 use Rattle.sb_raft.proofs.Handling.{idle}
 use Rattle.sb_raft.proofs.Leading.{vote-done}
 use Rattle.sb_raft.proofs.Steps.{with_granted}

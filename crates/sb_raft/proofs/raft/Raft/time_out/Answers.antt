@@ -5,8 +5,8 @@ use Rattle.iss_sb.specs.declared.effects.To.{To}
 use Rattle.iss_sb.specs.Calls.{AreToNodes}
 use Rattle.raft_wire.specs.declared.messages.Message.{Message}
 use Rattle.sb_raft.specs.Rules.{appends}
-use Rattle.sb_raft.specs.Stands.{held}
-use Rattle.sb_raft.proofs.Leading.{timeout-last, timeout-leader, timeout-stands}
+use Rattle.sb_raft.specs.Refines.{held}
+use Rattle.sb_raft.proofs.Leading.{timeout-last, timeout-leader, timeout-refines}
 use Rattle.sb_raft.proofs.raft.Raft.time_out.Goals as goal
 
 pub returns-then-is_leader : goal.returns-then-is_leader
@@ -24,4 +24,4 @@ returns-then-self-ge-LAST_TERM c =
 pub returns : goal.returns
 returns c =
     let m = c.args.self.now in
-    IfOk-weaker c.stand.result _ _ (λ e d. timeout-stands c.args.p.now m c.stand.new.self e (sym c.is_leader.ensures ∙ c.if-is_leader.false) c.if-self-ge-LAST_TERM.false d) c.stand.ensures
+    IfOk-weaker c.stand.result _ _ (λ e d. timeout-refines c.args.p.now m c.stand.new.self e (sym c.is_leader.ensures ∙ c.if-is_leader.false) c.if-self-ge-LAST_TERM.false d) c.stand.ensures

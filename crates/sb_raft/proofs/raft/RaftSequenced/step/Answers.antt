@@ -1,6 +1,6 @@
 use Rattle.std.proofs.Common.{None, refl, arith}
 use Rattle.iss_sb.specs.declared.effects.Input.TheVariants.{Cast, Receive, Timeout}
-use Rattle.sb_raft.specs.Stands.{cast_of, held}
+use Rattle.sb_raft.specs.Refines.{cast_of, held}
 use Rattle.sb_raft.proofs.Standing.{cast-asked, cast-inside, true-step}
 use Rattle.sb_raft.proofs.raft.RaftSequenced.step.Goals as goal
 

@@ -1,10 +1,10 @@
 use Rattle.std.proofs.Common.{refl, arith}
-use Rattle.sb_relay.proofs.Marks.{no-leaf, idle_timeout-stands, idle_timeout-taken}
+use Rattle.sb_relay.proofs.Marks.{no-leaf, idle_timeout-refines, idle_timeout-taken}
 use Rattle.sb_relay.proofs.relay.RelaySequenced.step.Goals as goal
 
 pub returns-in_ok-cast-in-Cast : goal.returns-in_ok-cast-in-Cast
 returns-in_ok-cast-in-Cast c = rw (c.if-not-verdict.false, c.in-Cast.is) (record {
-  stands_for = λ me xs st _. c.in_ok-cast-in-Cast.ensures.stands me xs c.args.keys.now.used st;
+  refined = λ me xs st _. c.in_ok-cast-in-Cast.ensures.refines me xs c.args.keys.now.used st;
   effects = λ me xs st _. c.in_ok-cast-in-Cast.ensures.effects me xs c.args.keys.now.used st;
   used = λ me xs st _. no-leaf _ c.args.keys.now.used;
   within = record {
@@ -21,7 +21,7 @@ returns-in_ok-cast-in-Cast c = rw (c.if-not-verdict.false, c.in-Cast.is) (record
 
 pub returns-in_ok-hear-in-Receive : goal.returns-in_ok-hear-in-Receive
 returns-in_ok-hear-in-Receive c = rw (c.if-not-verdict.false, c.in-Receive.is) (record {
-  stands_for = λ me xs st _. c.in_ok-hear-in-Receive.ensures.stands me xs c.args.keys.now.used st;
+  refined = λ me xs st _. c.in_ok-hear-in-Receive.ensures.refines me xs c.args.keys.now.used st;
   effects = λ me xs st _. c.in_ok-hear-in-Receive.ensures.effects me xs c.args.keys.now.used st;
   used = λ me xs st _. omega arith;
   within = record {
@@ -38,7 +38,7 @@ returns-in_ok-hear-in-Receive c = rw (c.if-not-verdict.false, c.in-Receive.is) (
 
 pub returns-in-Timeout : goal.returns-in-Timeout
 returns-in-Timeout c = let nothing = c.nothing-in-Timeout.ensures in rw (c.if-not-verdict.false, c.in-Timeout.is) (record {
-  stands_for = λ me xs st _. idle_timeout-stands c.args.self.now c.args.p.now me xs st c.args.keys.now.used;
+  refined = λ me xs st _. idle_timeout-refines c.args.self.now c.args.p.now me xs st c.args.keys.now.used;
   effects = λ me xs st _. idle_timeout-taken c.args.self.now c.args.p.now me xs st c.args.keys.now.used _ nothing;
   used = λ me xs st _. omega arith;
   within = record {

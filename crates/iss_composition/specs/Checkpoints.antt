@@ -1,0 +1,22 @@
+-- How logs are chained under a set-up, and whose votes make a certificate.
+use Rattle.std.specs.Prelude.{Bool, true, false, ◌&&◌, nat_le, ◌∷◌, ◌++◌, length}
+use Rattle.iss_base.specs.Quorum.{all_below, distinct}
+use Rattle.iss_request.specs.Fields.{Bad, Good, Parsed}
+use Rattle.iss_request.specs.Formats.{parse_value, spell_value, value_string}
+use Rattle.iss_request.specs.declared.setups.Setup.{Setup}
+use Rattle.iss_composition.specs.Cluster.{Scheme}
+
+abbrev pub is_good : {A : Type 0} → Parsed A → Bool
+is_good (Good thing rest) = true
+is_good (Bad at) = false
+
+-- a value is hashed behind the number 64, and a link behind 66: the digest of the log before and that of the value. Votes
+-- of as many different nodes as decide make a certificate
+abbrev pub scheme_of : Setup → Scheme
+scheme_of s =
+    record {
+      spells = λ v. is_good (parse_value s.version (spell_value s.version v));
+      spelled = λ v. value_string s.version v;
+      link = λ before value. 66 ∷ (before ++ value);
+      is_quorum = λ ks. all_below s.n ks && (distinct ks && nat_le s.quorum (length ks));
+    }

@@ -1,6 +1,0 @@
-use Rattle.std.proofs.Common.{◌≡◌, take}
-use Rattle.iss_ids.specs.Set.{and_ids}
-use Rattle.iss_ids.proofs.set.Ids.add_all.Given as goal
-
-abbrev pub invariant-loop-request : goal.invariant-loop-request
-invariant-loop-request l = l.self ≡ and_ids l.fn.self (take l.request-index l.requests)

@@ -1,6 +1,0 @@
-use Rattle.std.proofs.Common.{length, refl, ap}
-use Rattle.iss_node.proofs.RequestLemmas.{landed-all}
-use Rattle.iss_node.proofs.replica.Replica.land.Goals as goal
-
-pub returns-clause-landed : goal.returns-clause-landed
-returns-clause-landed g c = rw (← c.self.view_is) (landed-all _ _ _ _ _ c.give_back.result refl (ap (λ xs. length xs) c.entries.ensures) c.in_ok-casts.ensures.gone c.in_ok-casts.ensures.left c.give_back.ensures.back c.give_back.ensures.rest)

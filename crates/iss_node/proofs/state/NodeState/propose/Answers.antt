@@ -1,0 +1,41 @@
+use Rattle.std.proofs.Common.{◌≡◌, ◌∙◌, ap, sym, subst, true}
+use Rattle.std.specs.Prelude.{is_some}
+use Rattle.iss_node.proofs.InstanceLemmas.{leads-is, leaves-is}
+use Rattle.iss_node.proofs.ProposeLemmas.{no-keys, no-slot, proposed-so}
+use Rattle.iss_node.specs.Shape.{IsNodeState}
+use Rattle.iss_node.specs.State.{StateView, led}
+use Rattle.iss_node.proofs.state.NodeState.propose.Goals as goal
+use Rattle.iss_model.proofs.Casts.{some-there}
+
+pub returns-in_default-clause-answer : goal.returns-in_default-clause-answer
+returns-in_default-clause-answer g c = λ past tied.
+    let m = g.M.Sequenced.spec in
+    let v = c.args.self.now in
+    let shape : IsNodeState m v = subst (λ (z : StateView g.row.M.Denot g.row.M-Msg.Denot). IsNodeState m z) c.self.view_is c.self.invariant in
+    let some : true ≡ is_some (led v.segments v.me.0) = sym c.if-not-leads.false ∙ c.leads.ensures.leads ∙ ap (λ z. is_some (led v.segments z.me.0)) c.self.view_is in
+    let own = some-there (led v.segments v.me.0) (sym some) in
+    no-slot m g.M.Sequenced.refines v shape past tied (leads-is m g.M.Sequenced.refines v past tied v.me.0 true some)
+    (sym (c.next_slot.ensures past own.0 tied own.1) ∙ c.in_default.is)
+
+pub returns-then-not-has_leaves-clause-answer : goal.returns-then-not-has_leaves-clause-answer
+returns-then-not-has_leaves-clause-answer g c = λ past tied.
+    let m = g.M.Sequenced.spec in
+    let v = c.args.self.now in
+    let shape : IsNodeState m v = subst (λ (z : StateView g.row.M.Denot g.row.M-Msg.Denot). IsNodeState m z) c.self.view_is c.self.invariant in
+    let some : true ≡ is_some (led v.segments v.me.0) = sym c.if-not-leads.false ∙ c.leads.ensures.leads ∙ ap (λ z. is_some (led v.segments z.me.0)) c.self.view_is in
+    let own = some-there (led v.segments v.me.0) (sym some) in
+    no-keys m g.M.Sequenced.refines v shape past tied (leads-is m g.M.Sequenced.refines v past tied v.me.0 true some)
+    c.in-Some.slot (sym (c.next_slot.ensures past own.0 tied own.1) ∙ c.in-Some.is)
+    (leaves-is m g.M.Sequenced.refines v past tied v.me.0 own.0 own.1 _ (sym c.if-not-has_leaves.true ∙ c.has_leaves.ensures own.0 (ap (λ z. led v.segments z.me.0) c.self.view_is ∙ own.1) tied.keys))
+
+pub returns-clause-answer : goal.returns-clause-answer
+returns-clause-answer g c = λ past tied.
+    let m = g.M.Sequenced.spec in
+    let v = c.args.self.now in
+    let shape : IsNodeState m v = subst (λ (z : StateView g.row.M.Denot g.row.M-Msg.Denot). IsNodeState m z) c.self.view_is c.self.invariant in
+    let some : true ≡ is_some (led v.segments v.me.0) = sym c.if-not-leads.false ∙ c.leads.ensures.leads ∙ ap (λ z. is_some (led v.segments z.me.0)) c.self.view_is in
+    let own = some-there (led v.segments v.me.0) (sym some) in
+    proposed-so m g.M.Sequenced.refines v shape past tied (leads-is m g.M.Sequenced.refines v past tied v.me.0 true some)
+    c.in-Some.slot (sym (c.next_slot.ensures past own.0 tied own.1) ∙ c.in-Some.is)
+    (leaves-is m g.M.Sequenced.refines v past tied v.me.0 own.0 own.1 _ (sym c.if-not-has_leaves.false ∙ c.has_leaves.ensures own.0 (ap (λ z. led v.segments z.me.0) c.self.view_is ∙ own.1) tied.keys))
+    c.cast.new.self c.advance_epochs.new.self c.in_ok-outcome.outcome c.in_ok-advance_epochs.field-0 c.in_ok-outcome.ensures.later (c.in_ok-outcome.ensures.taken past tied) c.in_ok-advance_epochs.ensures.turn

@@ -1,0 +1,12 @@
+use Rattle.std.proofs.Common.{subst}
+use Rattle.iss_node.proofs.InstanceLemmas.{input-turn}
+use Rattle.iss_node.specs.Shape.{IsNodeState}
+use Rattle.iss_node.specs.State.{StateView}
+use Rattle.iss_node.proofs.state.NodeState.step_unjudged.Goals as goal
+
+pub returns-clause-taken : goal.returns-clause-taken
+returns-clause-taken g c =
+    let m = g.M.Sequenced.spec in
+    let v = c.args.self.now in
+    let shape : IsNodeState m v = subst (λ (z : StateView g.row.M.Denot g.row.M-Msg.Denot). IsNodeState m z) c.self.view_is c.self.invariant in
+    input-turn m c.laws.ensures.lawful g.M.Sequenced.refines v c.unjudged_step.new.self c.apply_effects.new.self shape c.args.leader c.args.input c.in_ok-effects.effects c.apply_effects.result c.in_ok-effects.ensures.taken c.apply_effects.ensures.absorbed c.apply_effects.ensures.made c.apply_effects.ensures.hashed

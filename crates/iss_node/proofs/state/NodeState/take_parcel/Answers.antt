@@ -1,0 +1,21 @@
+use Rattle.iss_model.specs.Node.{takes_message, takes_request}
+use Rattle.iss_node.proofs.HeldLemmas.{message-held, request-held}
+use Rattle.iss_node.proofs.LiftLemmas.{held-ok}
+use Rattle.iss_node.proofs.state.NodeState.take_parcel.Goals as goal
+
+pub returns-in-Request-clause-answer : goal.returns-in-Request-clause-answer
+returns-in-Request-clause-answer g c =
+    let m = g.M.Sequenced.spec in
+    let q = c.in-Request.request in
+    rw c.in-Request.is (held-ok m g.M.Sequenced.refines c.args.self.now c.take_request.new.self c.take_request.ensures.later (λ F R me d. takes_request R m me d q) (Unit {0}) c.take_request.result
+    (λ F R me votes certs d. request-held F R m me votes certs q d) c.take_request.ensures.answer)
+
+pub returns-in-Message-clause-answer : goal.returns-in-Message-clause-answer
+returns-in-Message-clause-answer g c =
+    let m = g.M.Sequenced.spec in
+    let from = c.args.parcel.from.0 in
+    let e = c.args.parcel.epoch.0 in
+    let l = c.in-Message.leader.0 in
+    let msg = c.in-Message.msg in
+    rw c.in-Message.is (held-ok m g.M.Sequenced.refines c.args.self.now c.take_message.new.self c.take_message.ensures.later (λ F R me d. takes_message F R m me d from e l msg) (Unit {0}) c.take_message.result
+    (λ F R me votes certs d. message-held F R m me votes certs from e l msg d) c.take_message.ensures.answer)

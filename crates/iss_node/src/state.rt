@@ -1,0 +1,133 @@
+//! The parts of a node, and what is asked of them.
+ghost use Rattle.std.specs.Prelude.{◌≡◌, ◌<◌, ◌+◌, Some, IsSome, IsTrue, is_some, nat_le, length, option_map};
+ghost use Rattle.iss_keys.specs.Directories.{AreKeysOf};
+ghost use Rattle.iss_model.specs.Node.{has_leaves};
+ghost use Rattle.iss_node.specs.State.{led};
+ghost use Rattle.iss_segment.specs.Instance.{SegmentState};
+
+use crate::answers::{Accepted, Early};
+use crate::flight::Flight;
+use iss_ballots::Ballots;
+use iss_buckets::Pending;
+use iss_keys::{Keys, SharedDirectory};
+use iss_layout::{Layout, Standing};
+use iss_log::{Chains, Log};
+use iss_request::{Epoch, NodeId, Setup};
+use iss_sb::Sequenced;
+use iss_segment::Segment;
+use iss_window::{Ids, Windows};
+use std::alloc::Global;
+use std::marker::Model;
+
+/// The parts of a node in its epoch. Of earlier epochs it keeps the values of the log with their chain, what the windows note,
+/// what the policy carries, and votes and certificates.
+#[derive(Drop)]
+pub struct NodeState<M: Sequenced> {
+    pub(crate) setup: Setup,
+    pub(crate) me: NodeId,
+    pub(crate) directory: SharedDirectory,
+    pub(crate) epoch: Epoch,
+    pub(crate) layout: Layout,
+    pub(crate) windows: Windows,
+    pub(crate) standing: Standing,
+    // by node: the instance that it leads, if it leads
+    pub(crate) segments: Vec<Option<Segment<M>>>,
+    pub(crate) accepted: Vec<Accepted>,
+    pub(crate) log: Log,
+    // what stands for each front of the log
+    pub(crate) chains: Chains,
+    pub(crate) waiting: Pending,
+    pub(crate) flight: Flight,
+    pub(crate) early: Vec<Early<M::Msg>>,
+    // the identities of the log in this epoch
+    pub(crate) logged: Ids,
+    // the votes of all nodes, and the certificates
+    pub(crate) ballots: Ballots,
+    pub(crate) keys: Keys,
+}
+
+impl<M: Sequenced> Model for NodeState<M> {
+    ghost use Rattle.iss_node.specs.Shape.{IsNodeState};
+    ghost use Rattle.iss_node.specs.State.{StateView};
+
+    ghost Value = { StateView M M.Msg };
+
+    ghost view = { λ v. record {
+      setup = v.setup;
+      me = v.me;
+      directory = v.directory;
+      epoch = v.epoch.0;
+      plan = v.layout;
+      windows = v.windows;
+      standing = v.standing;
+      segments = v.segments.items;
+      accepted = v.accepted.items;
+      log = v.log;
+      chains = v.chains;
+      waiting = v.waiting;
+      flight = v.flight;
+      early = v.early.items;
+      logged = v.logged;
+      ballots = v.ballots;
+      keys = v.keys;
+    } };
+
+    ghost invariant = { λ v. IsNodeState M.spec (record {
+      setup = v.setup;
+      me = v.me;
+      directory = v.directory;
+      epoch = v.epoch.0;
+      plan = v.layout;
+      windows = v.windows;
+      standing = v.standing;
+      segments = v.segments.items;
+      accepted = v.accepted.items;
+      log = v.log;
+      chains = v.chains;
+      waiting = v.waiting;
+      flight = v.flight;
+      early = v.early.items;
+      logged = v.logged;
+      ballots = v.ballots;
+      keys = v.keys;
+    }) };
+}
+
+impl<M: Sequenced> NodeState<M> {
+    /// The instance that a node leads, if it leads the epoch.
+    pub(crate) fn segment(&self, leader: NodeId) -> Option<&Segment<M>>
+        ensures led { option_map (λ g. g.now) result ≡ led self.now.segments leader.0 }
+        ensures below { IsSome result → leader.0 < self.now.setup.n }
+    {
+        match self.segments.get(leader.0 as usize) {
+            Some(Some(segment)) => Some(segment),
+            _ => None,
+        }
+    }
+
+    /// Whether a node leads the epoch.
+    pub(crate) fn leads(&self, leader: NodeId) -> bool
+        ensures leads { result ≡ is_some (led self.now.segments leader.0) }
+        ensures below { IsTrue result → leader.0 < self.now.setup.n }
+    {
+        self.segment(leader).is_some()
+    }
+
+    /// Whether enough leaves are left for a step of a leader's instance, and for the vote at an epoch's end.
+    pub(crate) fn has_leaves(&self, leader: NodeId) -> bool
+        ensures { (g : SegmentState M) → led self.now.segments leader.0 ≡ Some g → AreKeysOf self.now.me.0 self.now.setup.keys self.now.keys →
+            result ≡ has_leaves M.spec g.params self.now.keys.used }
+    {
+        match self.segment(leader) {
+            Some(segment) => self.keys.left() > M::signs(segment.params()),
+            None => false,
+        }
+    }
+
+    /// Whether the log holds the whole epoch.
+    pub(crate) fn is_complete(&self) -> bool
+        ensures { result ≡ nat_le (self.now.plan.start + self.now.setup.epoch) (length self.now.log.entries) }
+    {
+        self.layout.first().0 + self.setup.epoch <= self.log.entries().len() as u64
+    }
+}

@@ -1,4 +1,0 @@
-pub mod Courses
-pub mod Disks
-pub mod Frames
-pub mod Headline

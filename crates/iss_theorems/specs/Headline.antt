@@ -1,0 +1,153 @@
+-- What a run leads to in which disks fail and cores are made anew: what a run of nodes leads to that never do, and so one log.
+use Rattle.std.specs.Prelude.{◌≡◌, ◌⊎◌, ℕ, true, List, [], ◌∷◌, ◌++◌, Option, Some, None, reverse}
+use Rattle.iss_base.specs.Lists.{In}
+use Rattle.iss_checkpoint.specs.declared.votes.Cert.{Cert}
+use Rattle.iss_log.specs.LogState.{first_number_of}
+use Rattle.iss_request.specs.Log.{Once}
+use Rattle.iss_request.specs.declared.ids.ReqId.{ReqId}
+use Rattle.iss_request.specs.declared.requests.Batch.{Batch}
+use Rattle.iss_request.specs.declared.requests.Value.{Value}
+use Rattle.iss_request.specs.declared.requests.Value.TheVariants.{Batch as Value_batch}
+use Rattle.iss_request.specs.declared.setups.Setup.{Setup}
+use Rattle.iss_schedule.specs.declared.schedules.Event.{Event}
+use Rattle.iss_schedule.specs.declared.schedules.Event.TheVariants.{Request as Event_request, Propose, Timeout, Ask, Deliver, Lose, Pump, Calm, Hold, Free, Drop, Restart, Crash, Bytes}
+use Rattle.iss_sb.specs.Evidence.{Module, Separate, is_correct}
+use Rattle.iss_theorems.specs.Certified.{IsOfLog, WasDelivered}
+use Rattle.iss_composition.specs.Checkpoints.{scheme_of}
+use Rattle.iss_composition.specs.Cluster.{Cluster, Reach}
+use Rattle.iss_rules.specs.Concrete.{rules_of}
+use Rattle.iss_theorems.specs.Conserved.{AcceptsOnce, IsInOnePlace, asked_by, unless_ended}
+use Rattle.iss_theorems.specs.Ends.{AreBooked, AreVoted, Shows}
+use Rattle.iss_rules.specs.Formats.{formats_of}
+use Rattle.iss_rules.specs.Parcels.{Formats}
+use Rattle.iss_theorems.specs.OneLog.{run_after}
+use Rattle.iss_composition.specs.Ordered.{Among, IsExact, WasAccepted}
+use Rattle.iss_rules.specs.SoundRules.{IsSoundRules}
+use Rattle.iss_rules.specs.Past.{adopted_at, log_of}
+use Rattle.iss_rules.specs.Rules.{Rules}
+use Rattle.iss_rules.specs.Ends.{End}
+use Rattle.iss_model.specs.Run.{Held, node_of}
+use Rattle.iss_model.specs.Runs.{AreAtCores, IsPrefix, pasts_of}
+use Rattle.iss_model.specs.Courses.{Course, Machines, Upshot, apply_event, begin_course, core_of, course, run_event_if_open}
+
+abbrev pub course_after : {Msg : Type 0} → Setup → Module Msg → List Event → Course Msg
+course_after s M events = course s (formats_of s M) (rules_of s) M (begin_course s) events
+
+abbrev pub held_after : {Msg : Type 0} → Setup → Module Msg → List Event → Held Msg
+held_after s M events = (course_after s M events).machines.held
+
+-- ---- what enters
+
+-- no disk is to fail, and no core is made anew
+abbrev pub IsUndisturbed : Event → Type 0
+IsUndisturbed (Event_request c client number payload) = Unit {0}
+IsUndisturbed (Propose c) = Unit {0}
+IsUndisturbed (Timeout c l) = Unit {0}
+IsUndisturbed (Ask c peer) = Unit {0}
+IsUndisturbed (Deliver k) = Unit {0}
+IsUndisturbed (Lose k) = Unit {0}
+IsUndisturbed Pump = Unit {0}
+IsUndisturbed (Calm m) = Unit {0}
+IsUndisturbed (Hold c) = Unit {0}
+IsUndisturbed (Free c) = Unit {0}
+IsUndisturbed (Drop c) = Unit {0}
+IsUndisturbed (Restart c) = ⊥
+IsUndisturbed (Crash c calls) = ⊥
+IsUndisturbed (Bytes c bytes) = Unit {0}
+
+abbrev pub AreUndisturbed : List Event → Type 0
+AreUndisturbed [] = Unit {0}
+AreUndisturbed (e ∷ es) = IsUndisturbed e × AreUndisturbed es
+
+abbrev pub why_ended : Option (ℕ × End) → Option End
+why_ended None = None
+why_ended (Some at) = Some at.1
+
+-- Nodes whose disks never fail, and none of which is made anew, come to the same by these events: cores, packets and books are
+-- the same, and so is why the run ended. So an event that was not kept never enters.
+pub record Enters {Msg : Type 0} (s : Setup) (M : Module Msg) (events : List Event) : Type 0 where
+  pub entered : List Event
+  pub at_cores : AreAtCores s entered
+  pub undisturbed : AreUndisturbed entered
+  pub held : (run_after s M entered).held ≡ held_after s M events
+  pub ended : why_ended (run_after s M entered).ended ≡ why_ended (course_after s M events).ended
+
+-- each core is that of the events that its disk keeps
+abbrev pub AreOfTheirDisks : {Msg : Type 0} → Setup → Formats Msg → Rules → Module Msg → Machines Msg → Type 0
+AreOfTheirDisks s F R M w = (c : ℕ) → w.held.net.cores c ≡ core_of F R M (node_of s c) (w.disks c).kept
+
+-- ---- one log
+
+-- what the cores took is what the nodes of a cluster took after some moves, with the run's books
+pub record AreOfCluster {Msg : Type 0} (s : Setup) (M : Module Msg) (h : Held Msg) : Type 0 where
+  pub cluster : Cluster Msg
+  pub pasts : cluster.pasts ≡ pasts_of h.net
+  pub book : cluster.book ≡ h.signed
+  pub strings : cluster.strings ≡ h.hashed
+  pub reached : Reach s (scheme_of s) (rules_of s) M cluster
+  pub sound : IsSoundRules s M (rules_of s)
+  pub exact : IsExact s (scheme_of s) cluster
+  pub separate : Separate (Among cluster.strings)
+
+-- the log of a node, oldest first
+abbrev pub shown : {Msg : Type 0} → Setup → Module Msg → Held Msg → ℕ → List Value
+shown s M h i = reverse (log_of (rules_of s) M i (pasts_of h.net i))
+
+-- the logs that correct nodes print are of one log
+pub record AreOneLog {Msg : Type 0} (s : Setup) (M : Module Msg) (h : Held Msg) : Type 0 where
+  -- of two logs one is the beginning of the other
+  pub prefix : (i j : ℕ) → is_correct s i ≡ true → is_correct s j ≡ true →
+      IsPrefix (shown s M h i) (shown s M h j) ⊎ IsPrefix (shown s M h j) (shown s M h i)
+  -- no request stands twice in a log
+  pub once : (i : ℕ) → is_correct s i ≡ true → Once (shown s M h i)
+  -- a correct node accepted each batch as valid, in the slot in which it is printed
+  pub valid : (i : ℕ) → is_correct s i ≡ true → (front back : List Value) (b : Batch) →
+      shown s M h i ≡ front ++ Value_batch b ∷ back → WasAccepted s (rules_of s) M (pasts_of h.net) (reverse front) b
+  -- a slot that two correct nodes hold begins with the same number at both: the sum of the sizes of the batches before it
+  pub numbers : (i j slot k l : ℕ) → is_correct s i ≡ true → is_correct s j ≡ true → first_number_of (shown s M h i) slot ≡ Some k →
+      first_number_of (shown s M h j) slot ≡ Some l → k ≡ l
+
+-- certificates that correct nodes keep are of logs of correct nodes, and what correct nodes adopted was delivered at one
+pub record AreCertified {Msg : Type 0} (s : Setup) (M : Module Msg) (h : Held Msg) : Type 0 where
+  pub of_logs : (i : ℕ) → is_correct s i ≡ true → (c : Cert) → In c (h.net.cores i).certs → IsOfLog s (rules_of s) M (pasts_of h.net) c
+  pub delivered : (i : ℕ) → is_correct s i ≡ true → (e k : ℕ) (v : Value) → adopted_at (pasts_of h.net i).adopted e k ≡ Some v →
+      WasDelivered s (rules_of s) M (pasts_of h.net) e k v
+
+-- the book misses no claim and no vote that a correct node sent of its own
+pub record AreWritten {Msg : Type 0} (s : Setup) (M : Module Msg) (h : Held Msg) : Type 0 where
+  pub claims : (i : ℕ) → is_correct s i ≡ true → AreBooked (rules_of s) M i (pasts_of h.net i) h.signed
+  pub votes : (i : ℕ) → is_correct s i ≡ true → AreVoted (rules_of s) M i (pasts_of h.net i) h.signed
+
+-- ---- where requests are
+
+-- the identity of a request event at core i that was taken and kept
+abbrev pub asked_in : {Msg : Type 0} → ℕ → Event → Upshot Msg → List ReqId
+asked_in i e d = unless_ended d.ended (asked_by i e d.lost)
+
+abbrev pub WasAsked : {Msg : Type 0} → Setup → Formats Msg → Rules → Module Msg → Course Msg → List Event → ℕ → ReqId → Type 0
+WasAsked s F R M p [] i x = ⊥
+WasAsked s F R M p (e ∷ es) i x =
+    In x (unless_ended p.ended (asked_in i e (apply_event s F R M p.machines e))) ⊎
+    WasAsked s F R M (run_event_if_open p.ended s F R M p e) es i x
+
+-- ---- all of it
+
+-- What every run says of itself, whatever disks fail and cores are made anew.
+pub record IsWhole {Msg : Type 0} (s : Setup) (M : Module Msg) (events : List Event) : Type 0 where
+  pub enters : Enters s M events
+  pub disks : AreOfTheirDisks s (formats_of s M) (rules_of s) M (course_after s M events).machines
+  pub of_cluster : AreOfCluster s M (held_after s M events)
+  pub one_log : AreOneLog s M (held_after s M events)
+  -- more events only make logs longer
+  pub grows : (more : List Event) → AreAtCores s more → (i : ℕ) → is_correct s i ≡ true →
+      IsPrefix (shown s M (held_after s M events) i) (shown s M (held_after s M (events ++ more)) i)
+  -- each request that a correct core took is still there, once
+  pub conserved : AcceptsOnce M → (i : ℕ) → is_correct s i ≡ true → (x : ReqId) →
+      WasAsked s (formats_of s M) (rules_of s) M (begin_course s) events i x → IsInOnePlace (rules_of s) M i ((held_after s M events).net.cores i) x
+  pub certified : AreCertified s M (held_after s M events)
+  -- where the run has ended, that is shown by what it holds, and what comes later changes nothing
+  pub shows : (k : ℕ) (end : End) → (course_after s M events).ended ≡ Some (k, end) →
+      Shows s (formats_of s M) (rules_of s) M (held_after s M events) end
+  pub stays : (k : ℕ) (end : End) → (course_after s M events).ended ≡ Some (k, end) → (more : List Event) →
+      course_after s M (events ++ more) ≡ course_after s M events
+  pub written : AreWritten s M (held_after s M events)

@@ -1,0 +1,17 @@
+use Rattle.std.proofs.Common.{◌∙◌, ap, sym}
+use Rattle.iss_rules.specs.Concrete.{keys_of}
+use Rattle.iss_request.specs.declared.setups.Setup.{Setup}
+use Rattle.iss_world.proofs.CoreLemmas.{fresh-running, fresh-runs}
+use Rattle.iss_world.proofs.simulation.Simulation.start.Goals as goal
+
+pub invariant_of-result : goal.invariant_of-result
+invariant_of-result g c = (
+  fresh-running g.M.Sequenced.spec g.M.Sequenced.refines c.args.setup.now c.in_ok-copy.field-0 c.in_ok-start_cores.field-0.items c.in_ok-new.field-0 c.new-2.result c.in_ok-new-2.field-0
+      c.cores_of.result c.requires c.in_ok-copy.ensures c.cores_of.ensures c.in_ok-start_cores.ensures c.in_ok-new.ensures,
+  c.in_ok-directory.ensures ∙ ap (λ (z : Setup). keys_of z) (sym c.in_ok-copy.ensures),
+)
+
+pub returns-clause-refines : goal.returns-clause-refines
+returns-clause-refines g c =
+    fresh-runs g.M.Sequenced.spec g.M.Sequenced.refines c.args.setup.now c.in_ok-copy.field-0 c.in_ok-start_cores.field-0.items c.in_ok-new.field-0 c.new-2.result c.in_ok-new-2.field-0
+    c.cores_of.result c.cores_of.ensures c.in_ok-start_cores.ensures c.in_ok-new.ensures c.new-2.ensures c.in_ok-new-2.ensures

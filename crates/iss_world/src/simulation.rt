@@ -1,0 +1,335 @@
+//! The running cores of a cluster and the network between them, as long as there is memory.
+ghost use Rattle.std.specs.Prelude.{◌≡◌, ◌<◌, IfOk, Some, reverse, slice_get, true, false};
+ghost use Rattle.iss_base.specs.Lists.{nth};
+ghost use Rattle.iss_model.specs.Run.{cores_of, node_of};
+ghost use Rattle.iss_model.specs.Frames.{frame_of};
+ghost use Rattle.iss_model.specs.Courses.{Machines, begin_machines, loses, machines_done, with_disk, with_packets};
+ghost use Rattle.iss_model.specs.Disks.{fused};
+ghost use Rattle.iss_model.specs.CourseFrames.{apply_event_in, calms_in, delivers_each_in, delivers_in, injects_in, pumps_in, recover_in};
+ghost use Rattle.iss_rules.specs.Setups.{IsSetupOf};
+ghost use Rattle.iss_network.specs.Network.{cleared, due, held_to};
+ghost use Rattle.iss_schedule.specs.Events.{IsInRange};
+ghost use Rattle.iss_world.specs.Refines.{HasChanged, RefinesMachines, RefinesOrShows, RefinesSome, ShowsCore, log_at};
+
+use crate::claims::Claims;
+use crate::cores::{cores_of, directory_of, make_anew, start_cores};
+use crate::ends::EventOutcome;
+use crate::requests::request_packet;
+use crate::strings::Strings;
+use iss_disk::MemoryDisk;
+use iss_keep::Kept;
+use iss_keys::SharedDirectory;
+use iss_log::Log;
+use iss_network::Network;
+use iss_request::{Bytes, Epoch, Kind, NoMemory, ReqId, Setup, Value};
+use iss_rules::{NodeEvent, Why};
+use iss_sb::Sequenced;
+use iss_schedule::Event;
+use std::alloc::Global;
+use std::marker::Model;
+
+/// The cores of a cluster, the network between them, and the books of what was signed and hashed.
+#[derive(Drop)]
+pub struct Simulation<M: Sequenced> {
+    pub(crate) setup: Setup,
+    // the keys of all nodes and clients
+    pub(crate) directory: SharedDirectory,
+    // core `i` is the `i`-th, and each has a disk of its own
+    pub(crate) nodes: Vec<Kept<M, MemoryDisk>>,
+    pub(crate) network: Network,
+    // what correct nodes sent as signed of their own, and what was hashed
+    pub(crate) signed: Claims,
+    pub(crate) hashed: Strings,
+}
+
+impl<M: Sequenced> Model for Simulation<M> {
+    ghost use Rattle.std.specs.Prelude.{◌≡◌};
+    ghost use Rattle.iss_rules.specs.Concrete.{keys_of};
+    ghost use Rattle.iss_world.specs.State.{SimulationState};
+    ghost use Rattle.iss_world.specs.Shape.{IsSimulation};
+
+    ghost Value = { SimulationState M M.Msg };
+
+    ghost view = { λ w. record { setup = w.setup; nodes = w.nodes.items; network = w.network; signed = w.signed; hashed = w.hashed } };
+
+    ghost invariant = { λ w. IsSimulation M.spec
+        (record { setup = w.setup; nodes = w.nodes.items; network = w.network; signed = w.signed; hashed = w.hashed }) × (w.directory ≡ keys_of w.setup) };
+}
+
+impl<M: Sequenced> Simulation<M> {
+    /// Cores that have taken nothing, each with its node's keys, no packets, and nothing in the books but the empty string.
+    pub fn start(alloc: Global, setup: &Setup) -> Result<Simulation<M>, NoMemory>
+        requires { IsSetupOf M.spec setup.now }
+        ensures refines { IfOk result (λ v. RefinesMachines M.spec M.refines v (begin_machines setup.now)) }
+        ensures same { IfOk result (λ v. v.setup ≡ setup.now) }
+    {
+        let directory = directory_of(alloc, setup)?;
+        Ok(Simulation {
+            setup: setup.copy()?,
+            nodes: start_cores(alloc, setup, &directory)?,
+            network: Network::new(alloc, cores_of(setup))?,
+            signed: Claims::new(alloc),
+            hashed: Strings::new(alloc)?,
+            directory,
+        })
+    }
+
+    /// The event happens. After want of memory nothing is said of the cores.
+    pub fn event(&mut self, alloc: Global, event: &Event) -> Result<EventOutcome, NoMemory>
+        requires range { IsInRange self.old.setup event.now }
+        requires standing { RefinesSome M.spec M.refines self.old }
+        ensures happened { IfOk result (λ r. (w : Machines M.Msg) → RefinesMachines M.spec M.refines self.old w →
+            HasChanged M.spec M.refines self.new (apply_event_in (frame_of self.old.setup M.spec) w event.now) r) }
+        ensures same { self.new.setup ≡ self.old.setup }
+    {
+        match event {
+            Event::Request {
+                core,
+                client,
+                number,
+                payload,
+            } => {
+                let id = ReqId {
+                    client: *client,
+                    number: *number,
+                };
+                self.request(alloc, *core, id, payload)
+            }
+            Event::Propose { core } => self.take(alloc, *core, NodeEvent::Propose),
+            Event::Timeout { core, leader } => {
+                self.take(alloc, *core, NodeEvent::Timeout(*leader))
+            }
+            Event::Ask { core, peer } => self.take(alloc, *core, NodeEvent::AskFrom(*peer)),
+            Event::Deliver { packet } => self.deliver(alloc, *packet),
+            Event::Lose { packet } => Ok(self.lose(*packet)),
+            Event::Pump => self.pump(alloc),
+            Event::Calm { pumps } => self.calm(alloc, *pumps),
+            Event::Hold { core } => Ok(self.hold(*core)),
+            Event::Free { core } => Ok(self.free(*core)),
+            Event::Drop { core } => Ok(self.clear(*core)),
+            Event::Restart { core } => self.restart(*core),
+            Event::Crash { core, calls } => Ok(self.crash(*core, *calls)),
+            Event::Bytes { core, bytes } => self.inject(alloc, *core, bytes),
+        }
+    }
+
+    // A core takes the packet of a client's request.
+    fn request(
+        &mut self,
+        alloc: Global,
+        core: u32,
+        id: ReqId,
+        payload: &Bytes,
+    ) -> Result<EventOutcome, NoMemory>
+        requires range { IsInRange self.old.setup (Event.Request core id.client id.number payload.now) }
+        requires standing { RefinesSome M.spec M.refines self.old }
+        ensures happened { IfOk result (λ r. (w : Machines M.Msg) → RefinesMachines M.spec M.refines self.old w →
+            HasChanged M.spec M.refines self.new (apply_event_in (frame_of self.old.setup M.spec) w (Event.Request core id.client id.number payload.now)) r) }
+        ensures same { self.new.setup ≡ self.old.setup }
+    {
+        let directory = self.directory.directory();
+        let packet = request_packet::<M>(alloc, &self.setup, directory, id, payload)?;
+        self.take(alloc, core, NodeEvent::Packet(packet))
+    }
+
+    // A packet is taken by its core, whether or not it waits.
+    fn deliver(&mut self, alloc: Global, packet: u64) -> Result<EventOutcome, NoMemory>
+        requires { RefinesSome M.spec M.refines self.old }
+        ensures happened { IfOk result (λ r. (w : Machines M.Msg) → RefinesMachines M.spec M.refines self.old w →
+            HasChanged M.spec M.refines self.new (delivers_in (frame_of self.old.setup M.spec) w packet) r) }
+        ensures same { self.new.setup ≡ self.old.setup }
+    {
+        let Some(sent) = self.network.packet(packet) else {
+            return Ok(EventOutcome::Lost(Why::NoPacket));
+        };
+        let core = sent.to;
+        let bytes = sent.bytes.copy()?;
+        self.network.settle(packet);
+        self.take(alloc, core, NodeEvent::Packet(bytes))
+    }
+
+    // A packet waits no more.
+    fn lose(&mut self, packet: u64) -> EventOutcome
+        ensures happened { (w : Machines M.Msg) → RefinesMachines M.spec M.refines self.old w →
+            HasChanged M.spec M.refines self.new (loses w packet (nth w.held.net.network.packets packet)) result }
+        ensures same { self.new.setup ≡ self.old.setup }
+    {
+        match self.network.packet(packet) {
+            Some(_) => {
+                self.network.settle(packet);
+                EventOutcome::Done
+            }
+            None => EventOutcome::Lost(Why::NoPacket),
+        }
+    }
+
+    // What waits for cores that are not held, ascending.
+    fn due(&mut self, alloc: Global) -> Result<Vec<u64>, NoMemory>
+        ensures same { self.new ≡ self.old }
+        ensures found { IfOk result (λ packets. packets.items ≡ due self.old.network) }
+    {
+        self.network.due(alloc)
+    }
+
+    // What waits for cores that are not held is taken, ascending, up to a delivery that ends the run.
+    fn pump(&mut self, alloc: Global) -> Result<EventOutcome, NoMemory>
+        requires { RefinesSome M.spec M.refines self.old }
+        ensures happened { IfOk result (λ r. (w : Machines M.Msg) → RefinesMachines M.spec M.refines self.old w →
+            HasChanged M.spec M.refines self.new (pumps_in (frame_of self.old.setup M.spec) w) r) }
+        ensures same { self.new.setup ≡ self.old.setup }
+    {
+        let packets = self.due(alloc)?;
+        self.deliver_each(alloc, packets.as_slice())
+    }
+
+    // The packets are taken, in this order, up to a delivery that ends the run.
+    fn deliver_each(&mut self, alloc: Global, packets: &[u64]) -> Result<EventOutcome, NoMemory>
+        requires { RefinesSome M.spec M.refines self.old }
+        ensures happened { IfOk result (λ r. (w : Machines M.Msg) → RefinesMachines M.spec M.refines self.old w →
+            HasChanged M.spec M.refines self.new (delivers_each_in (frame_of self.old.setup M.spec) packets.now w) r) }
+        ensures same { self.new.setup ≡ self.old.setup }
+    {
+        for packet in packets {
+            if let EventOutcome::Ended(end) = self.deliver(alloc, *packet)? {
+                return Ok(EventOutcome::Ended(end));
+            }
+        }
+        Ok(EventOutcome::Done)
+    }
+
+    // So many pumps, fewer where one finds nothing, or ends the run.
+    fn calm(&mut self, alloc: Global, most: u32) -> Result<EventOutcome, NoMemory>
+        requires { RefinesSome M.spec M.refines self.old }
+        ensures happened { IfOk result (λ r. (w : Machines M.Msg) → RefinesMachines M.spec M.refines self.old w →
+            HasChanged M.spec M.refines self.new (calms_in (frame_of self.old.setup M.spec) most w) r) }
+        ensures same { self.new.setup ≡ self.old.setup }
+    {
+        for done in 0..most {
+            let packets = self.due(alloc)?;
+            if packets.len() == 0 {
+                return Ok(EventOutcome::Done);
+            }
+            if let EventOutcome::Ended(end) = self.deliver_each(alloc, packets.as_slice())? {
+                return Ok(EventOutcome::Ended(end));
+            }
+        }
+        Ok(EventOutcome::Done)
+    }
+
+    // Pumps pass over a core from now on.
+    fn hold(&mut self, core: u32) -> EventOutcome
+        requires { core < cores_of self.old.setup }
+        ensures happened { (w : Machines M.Msg) → RefinesMachines M.spec M.refines self.old w →
+            HasChanged M.spec M.refines self.new (machines_done (with_packets w (held_to w.held.net.network core true))) result }
+        ensures same { self.new.setup ≡ self.old.setup }
+    {
+        self.network.hold(core);
+        EventOutcome::Done
+    }
+
+    // Pumps pass over a core no longer.
+    fn free(&mut self, core: u32) -> EventOutcome
+        requires { core < cores_of self.old.setup }
+        ensures happened { (w : Machines M.Msg) → RefinesMachines M.spec M.refines self.old w →
+            HasChanged M.spec M.refines self.new (machines_done (with_packets w (held_to w.held.net.network core false))) result }
+        ensures same { self.new.setup ≡ self.old.setup }
+    {
+        self.network.free(core);
+        EventOutcome::Done
+    }
+
+    // No packet for a core waits any more.
+    fn clear(&mut self, core: u32) -> EventOutcome
+        requires { core < cores_of self.old.setup }
+        ensures happened { (w : Machines M.Msg) → RefinesMachines M.spec M.refines self.old w →
+            HasChanged M.spec M.refines self.new (machines_done (with_packets w (cleared w.held.net.network core))) result }
+        ensures same { self.new.setup ≡ self.old.setup }
+    {
+        self.network.drop_for(core);
+        EventOutcome::Done
+    }
+
+    // A core is made anew of what its disk keeps. What waits for it, and whether pumps pass over it, stays.
+    fn restart(&mut self, core: u32) -> Result<EventOutcome, NoMemory>
+        requires core { core < cores_of self.old.setup }
+        requires standing { RefinesSome M.spec M.refines self.old }
+        ensures happened { IfOk result (λ r. (w : Machines M.Msg) → RefinesMachines M.spec M.refines self.old w →
+            HasChanged M.spec M.refines self.new (machines_done (recover_in (frame_of self.old.setup M.spec) w core)) r) }
+        ensures same { self.new.setup ≡ self.old.setup }
+    {
+        let node = &mut self.nodes[core as usize];
+        node.restart();
+        make_anew(node)?;
+        Ok(EventOutcome::Done)
+    }
+
+    // So many calls of a core's disk pass from now on, and all others fail until it is made anew.
+    fn crash(&mut self, core: u32, calls: u32) -> EventOutcome
+        requires { core < cores_of self.old.setup }
+        ensures happened { (w : Machines M.Msg) → RefinesMachines M.spec M.refines self.old w →
+            HasChanged M.spec M.refines self.new (machines_done (with_disk w core (fused (w.disks core) calls))) result }
+        ensures same { self.new.setup ≡ self.old.setup }
+    {
+        self.nodes[core as usize].fuse(calls as u64);
+        EventOutcome::Done
+    }
+
+    // A core takes bytes from nowhere, where nodes may do anything.
+    fn inject(&mut self, alloc: Global, core: u32, bytes: &Bytes) -> Result<EventOutcome, NoMemory>
+        requires kind { self.old.setup.kind ≡ Kind.Byzantine }
+        requires core { core < cores_of self.old.setup }
+        requires standing { RefinesSome M.spec M.refines self.old }
+        ensures happened { IfOk result (λ r. (w : Machines M.Msg) → RefinesMachines M.spec M.refines self.old w →
+            HasChanged M.spec M.refines self.new (injects_in (frame_of self.old.setup M.spec) w core bytes.now) r) }
+        ensures same { self.new.setup ≡ self.old.setup }
+    {
+        let _ = &self.setup;
+        let packet = bytes.copy()?;
+        self.take(alloc, core, NodeEvent::Packet(packet))
+    }
+
+    /// The set-up of the cluster.
+    pub fn setup(&self) -> &Setup
+        ensures same { result.now ≡ self.now.setup }
+        ensures good { IsSetupOf M.spec result.now }
+    {
+        &self.setup
+    }
+
+    /// The kept node that a core runs.
+    pub fn node(&self, core: u32) -> &Kept<M, MemoryDisk>
+        requires { core < cores_of self.now.setup }
+        ensures at { slice_get self.now.nodes core ≡ Some result.now }
+        ensures shown { (w : Machines M.Msg) → RefinesOrShows M.spec M.refines self.now w →
+            ShowsCore M.spec self.now.setup (node_of self.now.setup core) result.now (w.held.net.cores core) }
+        ensures same { (result.now.setup ≡ self.now.setup) × (result.now.me.0 ≡ node_of self.now.setup core) }
+    {
+        &self.nodes[core as usize]
+    }
+
+    /// A core's log.
+    pub fn log(&self, core: u32) -> &Log
+        requires { core < cores_of self.now.setup }
+        ensures { (w : Machines M.Msg) → RefinesOrShows M.spec M.refines self.now w →
+            log_at self.now.setup M.spec w.held core ≡ reverse result.now.entries }
+    {
+        self.node(core).log()
+    }
+
+    /// The values of a core's log, in the order of the slots.
+    pub fn entries(&self, core: u32) -> &[Value]
+        requires { core < cores_of self.now.setup }
+        ensures { (w : Machines M.Msg) → RefinesOrShows M.spec M.refines self.now w →
+            log_at self.now.setup M.spec w.held core ≡ reverse result.now }
+    {
+        self.log(core).entries()
+    }
+
+    /// A core's epoch.
+    pub fn epoch(&self, core: u32) -> Epoch
+        requires { core < cores_of self.now.setup }
+        ensures { (w : Machines M.Msg) → RefinesOrShows M.spec M.refines self.now w → result.0 ≡ (w.held.net.cores core).past.epoch }
+    {
+        self.node(core).epoch()
+    }
+}

@@ -1,0 +1,232 @@
+//! One node that takes what is made by hand, good and bad, and what it answers: a table says both.
+ghost use Rattle.std.specs.Prelude.{◌<◌, IfOk};
+ghost use Rattle.iss_sb.specs.Calls.{IsGoodInput, IsGoodParams};
+ghost use Rattle.sb_hotstuff.specs.HotStuff.{hotstuff};
+
+use crate::instances::withstands;
+use hs_tree::hashing::digest_of_node;
+use hs_tree::{Certificate, Message, Signed};
+use iss_keys::Keys;
+use iss_request::{Batch, Bytes, NoMemory, NodeId, Seq, Slot};
+use iss_sb::{Input, Params, Sequenced};
+use raft_wire::What;
+use sb_hotstuff::HotStuff;
+use std::alloc::Global;
+use std::test::Fail;
+
+/// A node of the tree: a batch on the root, one on that, a nil on the root, and one that nobody knows.
+#[derive(Clone, Copy)]
+pub enum At {
+    First,
+    Second,
+    Nil,
+    Unknown,
+}
+
+/// Who voted, of four nodes.
+#[derive(Clone, Copy)]
+pub enum By {
+    Quorum,
+    OneLess,
+    OneMore,
+    Falling,
+    Twice,
+}
+
+/// A certificate: that of the root, or one of votes for a phase of a view.
+#[derive(Clone, Copy)]
+pub enum Shown {
+    Root,
+    Votes(u8, u32, At, By),
+}
+
+/// What comes: a message, a cast at a slot, or the round's end. `Shows` is the message that shows a quorum of a phase.
+#[derive(Clone, Copy)]
+pub enum Said {
+    Cast(u64),
+    Batch(u32, Shown),
+    Nil(u32, Shown),
+    Mark(u32, Shown),
+    Shows(u8, u32, Shown),
+    Vote(u8, u32, At),
+    NewView(u16, Shown),
+    Timeout,
+}
+
+/// What comes and from whom, how many messages are sent then, how many slots delivered, and whether a batch is accepted.
+#[derive(Clone, Copy)]
+pub struct Line(pub Said, pub u8, pub usize, pub usize, pub bool);
+
+/// A line of what leads to nothing.
+pub(crate) fn no(said: Said, from: u8) -> Line {
+    Line(said, from, 0, 0, false)
+}
+
+/// A line of what is answered by one message.
+pub(crate) fn answered(said: Said, from: u8) -> Line {
+    Line(said, from, 1, 0, false)
+}
+
+/// A quorum's votes of a phase of a view.
+pub(crate) fn good(phase: u8, view: u32, at: At) -> Shown {
+    Shown::Votes(phase, view, at, By::Quorum)
+}
+
+// A batch on a node.
+fn batch_on(alloc: Global, parent: &[u8; 32]) -> [u8; 32] {
+    digest_of_node(1, parent, &What::Holds(Batch::new(alloc)))
+}
+
+fn digest(alloc: Global, at: At) -> [u8; 32] {
+    match at {
+        At::First => batch_on(alloc, &[0; 32]),
+        At::Second => batch_on(alloc, &batch_on(alloc, &[0; 32])),
+        At::Nil => digest_of_node(1, &[0; 32], &What::Nil),
+        At::Unknown => [9; 32],
+    }
+}
+
+// A node stands on its own signature, which none but its host looks at: it is left empty.
+fn votes(alloc: Global, nodes: &[u8]) -> Result<Seq<Signed>, NoMemory> {
+    let mut votes = Seq::new(alloc);
+    for node in nodes {
+        votes.push(Signed {
+            by: NodeId(*node),
+            sig: Bytes::new(alloc),
+        })?;
+    }
+    Ok(votes)
+}
+
+fn voters(alloc: Global, by: By) -> Result<Seq<Signed>, NoMemory> {
+    match by {
+        By::Quorum => votes(alloc, &[0, 1, 3]),
+        By::OneLess => votes(alloc, &[0, 1]),
+        By::OneMore => votes(alloc, &[0, 1, 2, 3]),
+        By::Falling => votes(alloc, &[1, 0, 3]),
+        By::Twice => votes(alloc, &[0, 1, 1]),
+    }
+}
+
+fn certificate(alloc: Global, shown: Shown) -> Result<Certificate, NoMemory> {
+    match shown {
+        Shown::Root => Ok(Certificate::Root),
+        Shown::Votes(phase, view, at, by) => Ok(Certificate::Votes {
+            view,
+            phase,
+            digest: digest(alloc, at),
+            votes: voters(alloc, by)?,
+        }),
+    }
+}
+
+fn proposal(alloc: Global, view: u32, what: What, just: Shown) -> Result<Message, NoMemory> {
+    Ok(Message::Prepare {
+        view,
+        what,
+        just: certificate(alloc, just)?,
+        sig: Bytes::new(alloc),
+    })
+}
+
+fn shows(alloc: Global, phase: u8, view: u32, shown: Shown) -> Result<Message, NoMemory> {
+    let shown = certificate(alloc, shown)?;
+    let sig = Bytes::new(alloc);
+    match phase {
+        1 => Ok(Message::PreCommit { view, shown, sig }),
+        2 => Ok(Message::Commit { view, shown, sig }),
+        _ => Ok(Message::Decide { view, shown, sig }),
+    }
+}
+
+fn message(alloc: Global, said: Said) -> Result<Message, NoMemory> {
+    let sig = Bytes::new(alloc);
+    match said {
+        Said::Batch(view, just) => proposal(alloc, view, What::Holds(Batch::new(alloc)), just),
+        Said::Nil(view, just) => proposal(alloc, view, What::Nil, just),
+        Said::Mark(view, just) => proposal(alloc, view, What::Mark, just),
+        Said::Shows(phase, view, shown) => shows(alloc, phase, view, shown),
+        Said::Vote(phase, view, at) => Ok(Message::Vote {
+            phase,
+            view,
+            digest: digest(alloc, at),
+            sig,
+        }),
+        Said::NewView(round, high) => Ok(Message::NewView {
+            round,
+            high: certificate(alloc, high)?,
+            sig,
+        }),
+        _ => Err(NoMemory),
+    }
+}
+
+fn input(alloc: Global, p: &Params, said: Said, from: u8) -> Result<Input<Message>, Fail>
+    requires { from < p.now.setup.n }
+    ensures { IfOk result (λ i. IsGoodInput p.now i) }
+{
+    match said {
+        Said::Cast(slot) => Ok(Input::Cast {
+            slot: Slot(slot),
+            batch: Batch::new(alloc),
+        }),
+        Said::Timeout => Ok(Input::Timeout),
+        _ => Ok(Input::Receive {
+            from: NodeId(from),
+            msg: message(alloc, said)?,
+        }),
+    }
+}
+
+// Whether a line goes as it says.
+fn goes(
+    alloc: Global,
+    p: &Params,
+    node: &mut HotStuff,
+    keys: &mut Keys,
+    line: Line,
+) -> Result<bool, Fail>
+    requires { IsGoodParams hotstuff p.now }
+{
+    let Line(said, from, sends, delivers, accepts) = line;
+    if from as u32 >= p.setup.n {
+        return Ok(false);
+    }
+    let taken = input(alloc, p, said, from)?;
+    let effects = node.step(alloc, p, taken, true, keys)?;
+    let are_as_many = effects.sends.len() == sends && effects.delivers.len() == delivers;
+    Ok(are_as_many && effects.accepted.is_some() == accepts)
+}
+
+/// A node of four that has taken some lines.
+#[derive(Drop)]
+pub struct Taker {
+    node: HotStuff,
+    keys: Keys,
+}
+
+/// One that has taken nothing.
+pub(crate) fn new_taker(alloc: Global, p: &Params, me: u8) -> Result<Taker, Fail>
+    requires good { IsGoodParams hotstuff p.now }
+    requires node { me < p.now.setup.n }
+{
+    Ok(Taker {
+        node: HotStuff::start(alloc, p, NodeId(me))?,
+        keys: Keys::make(alloc, [0; 32], 4)?,
+    })
+}
+
+/// The first of the lines, one after the other, that does not go as it says at a node of four.
+pub(crate) fn first_wrong(alloc: Global, me: u8, lines: &[Line]) -> Result<Option<usize>, Fail> {
+    let p = withstands(alloc, 1)?;
+    if me as u32 >= p.setup.n {
+        return Ok(Some(lines.len()));
+    }
+    let mut taker = new_taker(alloc, &p, me)?;
+    for at in 0..lines.len() {
+        if !goes(alloc, &p, &mut taker.node, &mut taker.keys, lines[at])? {
+            return Ok(Some(at));
+        }
+    }
+    Ok(None)
+}

@@ -1,5 +1,0 @@
-//! Tests over public calls alone.
-mod four;
-mod liars;
-mod mutations;
-mod spelled;
