@@ -27,10 +27,10 @@ pub trait Sequenced: Drop + Sized {
     const STOPPING: bool;
 
     /// What the module is, over lists.
-    ghost meaning: { Module Self.Msg };
+    ghost spec: { Module Self.Msg };
 
     /// The value stands for this list, as that node of this instance.
-    ghost stands: { Self → Params → ℕ → List (Item Self.Msg) → Type 0 };
+    ghost refines: { Self → Params → ℕ → List (Item Self.Msg) → Type 0 };
 
     /// How many nodes withstand `f` faults.
     fn nodes_of(f: u32) -> u32
