@@ -13,8 +13,8 @@ use Rattle.iss_request.specs.declared.setups.Policy.TheVariants.{Simple}
 use Rattle.iss_request.specs.declared.setups.Setup.{Setup}
 use Rattle.iss_sb.specs.declared.effects.Params.{Params}
 use Rattle.iss_sb.specs.Statements.{wide_bytes}
-use Rattle.raft_wire.specs.declared.entries.What.TheVariants.{Nil, Holds, Mark}
-use Rattle.raft_wire.specs.Entries.{parse_what}
+use Rattle.iss_sb.specs.declared.content.Content.TheVariants.{Nil, Holds, Mark}
+use Rattle.iss_sb.specs.Content.{parse_content}
 use Rattle.hs_tree.specs.declared.certificates.Certificate.{Certificate}
 use Rattle.hs_tree.specs.declared.certificates.Certificate.TheVariants.{Root, Votes}
 use Rattle.hs_tree.specs.declared.certificates.Signed.{Signed}
@@ -104,7 +104,7 @@ unfolding spell_value spell_batch spell_count
 second_spelled = refl
 
 mark_read : parse 3 1 (2 ∷ 0 ∷ 0 ∷ 0 ∷ 1 ∷ 2 ∷ 0 ∷ 0 ∷ 0 ∷ 0 ∷ blank) ≡ Good (Prepare 1 Mark Root blank) []
-unfolding parse parse_prepare parse_what parse_certificate parse_votes parse_signature such_that byte number block digests done ◌>>=◌
+unfolding parse parse_prepare parse_content parse_certificate parse_votes parse_signature such_that byte number block digests done ◌>>=◌
 mark_read = refl
 
 shows_spelled : (spell 3 1 (PreCommit 1 Root blank) ≡ 3 ∷ 0 ∷ 0 ∷ 0 ∷ 1 ∷ 0 ∷ 0 ∷ 0 ∷ 0 ∷ blank) × (spell 3 1 (Commit 1 Root blank) ≡ 4 ∷ 0 ∷ 0 ∷ 0 ∷ 1 ∷ 0 ∷ 0 ∷ 0 ∷ 0 ∷ blank) × (spell 3 1 (Decide 1 Root blank) ≡ 5 ∷ 0 ∷ 0 ∷ 0 ∷ 1 ∷ 0 ∷ 0 ∷ 0 ∷ 0 ∷ blank)

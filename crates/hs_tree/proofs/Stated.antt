@@ -2,7 +2,7 @@
 use Rattle.std.proofs.Common.{◌≡◌, ◌<◌, ◌^◌, ℕ, List, [], ◌∷◌, ◌++◌, append_assoc, Option, refl, ap, ◌∙◌}
 use Rattle.sha2.specs.Sha256.{sha256}
 use Rattle.iss_sb.specs.Evidence.{one_or_none}
-use Rattle.raft_wire.specs.declared.entries.What.{What}
+use Rattle.iss_sb.specs.declared.content.Content.{Content}
 use Rattle.hs_tree.specs.Hashed.{IsHashed}
 use Rattle.std.specs.Int.{to_be_bytes, w16, w32}
 use Rattle.iss_request.specs.Fields.{Written, and_bytes}
@@ -52,7 +52,7 @@ claims-flat statement (v ∷ vs) = ap (λ (z : List Claim). claim v.by.0 stateme
 
 -- ---- a node that is hashed
 
-pub hashed-node : (version view : ℕ) (parent : List ℕ) (what : What) (value : Option (List ℕ)) (node bytes : List ℕ) (none mid all : List (List ℕ)) (d : List ℕ) → none ≡ [] → one_or_none value ≡ strings_of version (value_of what) →
+pub hashed-node : (version view : ℕ) (parent : List ℕ) (what : Content) (value : Option (List ℕ)) (node bytes : List ℕ) (none mid all : List (List ℕ)) (d : List ℕ) → none ≡ [] → one_or_none value ≡ strings_of version (value_of what) →
     mid ≡ none ++ one_or_none value → all ≡ mid ++ node ∷ [] → node ≡ plain_string version view parent what → bytes ≡ node → d ≡ sha256 bytes → IsHashed version view parent what (record { strings = all; digest = d })
 hashed-node version view parent what value node bytes none mid all d hn hv hm ha is hb hd = record {
   strings = ha ∙ ap (λ (z : List (List ℕ)). z ++ node ∷ []) (hm ∙ ap (λ (z : List (List ℕ)). z ++ one_or_none value) hn ∙ hv) ∙ ap (λ (z : List ℕ). strings_of version (value_of what) ++ z ∷ []) is;

@@ -4,7 +4,7 @@ use Rattle.iss_request.specs.Digest.{digest}
 use Rattle.iss_sb.specs.declared.effects.Claim.{Claim}
 use Rattle.iss_sb.specs.declared.effects.Params.{Params}
 use Rattle.iss_sb.specs.Statements.{four_bytes, statement_head, two_bytes}
-use Rattle.raft_wire.specs.declared.entries.What.{What}
+use Rattle.iss_sb.specs.declared.content.Content.{Content}
 use Rattle.hs_tree.specs.declared.certificates.Certificate.{Certificate}
 use Rattle.hs_tree.specs.declared.certificates.Certificate.TheVariants.{Root, Votes}
 use Rattle.hs_tree.specs.declared.certificates.Signed.{Signed}
@@ -14,10 +14,10 @@ use Rattle.hs_tree.specs.Certificates.{digest_of, view_of}
 use Rattle.hs_tree.specs.Tree.{Form}
 
 -- the string of the node that a proposal is of, and its digest
-abbrev pub node_string : Form → Params → ℕ → What → Certificate → List ℕ
+abbrev pub node_string : Form → Params → ℕ → Content → Certificate → List ℕ
 node_string form p view what just = form.string p.setup.version view (digest_of just) what
 
-abbrev pub node_digest : Form → Params → ℕ → What → Certificate → List ℕ
+abbrev pub node_digest : Form → Params → ℕ → Content → Certificate → List ℕ
 node_digest form p view what just = digest (node_string form p view what just)
 
 -- ---- statements: the instance, the number of the message, its fields

@@ -10,7 +10,7 @@ ghost use Rattle.hs_tree.specs.Tree.{plain_string, value_digest, value_of};
 use crate::certificates::has_shape;
 use crate::signing::{NODE, VALUE, kind_of};
 use iss_request::{Batch, Request, is_second, requests_most, version_byte};
-use raft_wire::What;
+use iss_sb::Content;
 use sha2::{Digest, Sha256};
 
 // The most bytes of a payload.
@@ -94,24 +94,24 @@ fn batch_digest(version: u8, batch: &Batch) -> [u8; 32]
 
 // The digest of nil as a value.
 fn nil_digest() -> [u8; 32]
-    ensures { (version : ℕ) → result ≡ value_digest version (value_of What.Nil) }
+    ensures { (version : ℕ) → result ≡ value_digest version (value_of Content.Nil) }
 {
     Sha256::digest([VALUE, 0])
 }
 
 // The digest of the value that a node holds; zeros for a mark.
-fn value_digest(version: u8, what: &What) -> [u8; 32]
+fn value_digest(version: u8, what: &Content) -> [u8; 32]
     ensures { result ≡ value_digest version (value_of what.now) }
 {
     match what {
-        What::Nil => nil_digest(),
-        What::Holds(batch) => batch_digest(version, batch),
-        What::Mark => [0; 32],
+        Content::Nil => nil_digest(),
+        Content::Holds(batch) => batch_digest(version, batch),
+        Content::Mark => [0; 32],
     }
 }
 
 /// The digest of the node with this content on a parent.
-pub fn digest_of_node(version: u8, parent: &[u8; 32], what: &What) -> [u8; 32]
+pub fn digest_of_node(version: u8, parent: &[u8; 32], what: &Content) -> [u8; 32]
     ensures { (view : ℕ) → result ≡ digest (plain_string version view parent.now what.now) }
 {
     let held = value_digest(version, what);

@@ -12,8 +12,7 @@ use crate::certificates::{Certificate, Signed};
 use crate::wire::{NEW_VIEW, VOTE};
 use iss_request::values::write_batch;
 use iss_request::{Batch, Bytes, NoMemory, Seq, Writer, version_byte};
-use iss_sb::{Claim, Params, put_head};
-use raft_wire::What;
+use iss_sb::{Claim, Content, Params, put_head};
 use sha2::{Digest, Sha256};
 use std::alloc::Global;
 
@@ -44,19 +43,19 @@ fn batch_string(alloc: Global, version: u8, batch: &Batch) -> Result<Bytes, NoMe
 }
 
 /// The string of the value that a node holds; a mark has none.
-pub fn held_string(alloc: Global, version: u8, what: &What) -> Result<Option<Bytes>, NoMemory>
+pub fn held_string(alloc: Global, version: u8, what: &Content) -> Result<Option<Bytes>, NoMemory>
     ensures { IfOk result (λ s. one_or_none s ≡ strings_of version (value_of what.now)) }
 {
     match what {
-        What::Nil => Ok(Some(nil_string(alloc, version)?)),
-        What::Holds(batch) => Ok(Some(batch_string(alloc, version, batch)?)),
-        What::Mark => Ok(None),
+        Content::Nil => Ok(Some(nil_string(alloc, version)?)),
+        Content::Holds(batch) => Ok(Some(batch_string(alloc, version, batch)?)),
+        Content::Mark => Ok(None),
     }
 }
 
 /// The digest of the value that a node holds, by its string; zeros for a mark. The directory remembers it, since each node asks
 /// for it more than once.
-pub fn held_digest(p: &Params, what: &What, string: &Option<Bytes>) -> [u8; 32]
+pub fn held_digest(p: &Params, what: &Content, string: &Option<Bytes>) -> [u8; 32]
     requires { one_or_none string.now ≡ strings_of p.now.setup.version (value_of what.now) }
     ensures { result ≡ value_digest p.now.setup.version (value_of what.now) }
 {
@@ -67,13 +66,13 @@ pub fn held_digest(p: &Params, what: &What, string: &Option<Bytes>) -> [u8; 32]
 }
 
 // What a node holds, as a number.
-pub(crate) fn kind_of(what: &What) -> u8
+pub(crate) fn kind_of(what: &Content) -> u8
     ensures { result ≡ kind_of what.now }
 {
     match what {
-        What::Nil => 0,
-        What::Holds(_) => 1,
-        What::Mark => 2,
+        Content::Nil => 0,
+        Content::Holds(_) => 1,
+        Content::Mark => 2,
     }
 }
 
@@ -82,7 +81,7 @@ pub fn node_string(
     alloc: Global,
     version: u8,
     parent: &[u8; 32],
-    what: &What,
+    what: &Content,
     held: &[u8; 32],
 ) -> Result<Bytes, NoMemory>
     requires { held.now ≡ value_digest version (value_of what.now) }
@@ -108,7 +107,7 @@ pub fn hash_node(
     alloc: Global,
     p: &Params,
     parent: &[u8; 32],
-    what: &What,
+    what: &Content,
 ) -> Result<Hashed, NoMemory>
     ensures { IfOk result (λ h. (view : ℕ) → IsHashed p.now.setup.version view parent.now what.now h) }
 {

@@ -10,8 +10,7 @@ use crate::certificates::{
 };
 use crate::messages::Message;
 use iss_request::{Bytes, DecodeError, Fields, NoMemory, Writer, read_signature};
-use raft_wire::What;
-use raft_wire::entries::{read_what, write_what};
+use iss_sb::{Content, read_content, write_content};
 use std::alloc::Global;
 
 const NO_MESSAGE: u8 = 0;
@@ -89,7 +88,7 @@ fn write_new_view(
 fn write_prepare(
     phases: u8,
     view: u32,
-    what: &What,
+    what: &Content,
     just: &Certificate,
     sig: &Bytes,
     out: &mut Writer,
@@ -102,7 +101,7 @@ fn write_prepare(
     }
     out.put_u8(PREPARE)?;
     out.put_u32(view)?;
-    write_what(what, out)?;
+    write_content(what, out)?;
     write_certificate(phases, just, out)?;
     out.put_bytes(sig)
 }
@@ -218,7 +217,7 @@ fn read_prepare(alloc: Global, phases: u8, f: &mut Fields) -> Result<Message, De
     ensures bad { (at : ℕ) → result ≡ Err (DecodeError.BadField at) → IsUnreadable (parse_prepare phases f.old.version) f.old at }
 {
     let view = f.read_u32()?;
-    let what = read_what(alloc, f)?;
+    let what = read_content(alloc, f)?;
     let just = read_certificate(alloc, phases, f)?;
     let sig = read_signature(alloc, f)?;
     Ok(Message::Prepare {

@@ -14,3 +14,5 @@ pub mod Inputs
 pub mod Fields
 pub mod Signers
 pub mod Cases
+pub mod Contents
+pub mod ContentFields

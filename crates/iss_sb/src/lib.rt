@@ -2,11 +2,13 @@
 //! and the laws that a module meets (ISS, "Sequenced Broadcast").
 #![tactic(auto)]
 
+pub mod content;
 pub mod effects;
 pub mod laws;
 pub mod sequenced;
 pub mod signing;
 
+pub use content::{Content, read_content, write_content};
 pub use effects::{Claim, Effects, Input, Params, StepError, To};
 pub use laws::broadcast;
 pub use sequenced::Sequenced;

@@ -20,7 +20,7 @@ use Rattle.hs_tree.specs.declared.certificates.Certificate.TheVariants.{Root, Vo
 use Rattle.hs_tree.specs.declared.certificates.Signed.{Signed}
 use Rattle.hs_tree.specs.declared.messages.Message.{Message}
 use Rattle.hs_tree.specs.declared.messages.Message.TheVariants.{NewView, Prepare, PreCommit, Commit, Decide, Vote}
-use Rattle.raft_wire.specs.declared.entries.What.TheVariants.{Nil}
+use Rattle.iss_sb.specs.declared.content.Content.TheVariants.{Nil}
 use Rattle.hs_tree.specs.Certificates.{digest_of, view_of}
 use Rattle.hs_tree.specs.Statements.{certificate_claims, claim, claims, inside, own_statement, signature_of, vote_claims, vote_statement, with_signature}
 use Rattle.hs_tree.specs.Tree.{basic, is_known}

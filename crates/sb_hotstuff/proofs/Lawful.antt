@@ -18,8 +18,8 @@ use Rattle.iss_sb.specs.Evidence.{Item, accepts}
 use Rattle.iss_sb.specs.Laws.{IsLawful}
 use Rattle.iss_sb.specs.Statements.{four_bytes, statement_head}
 use Rattle.iss_sb.proofs.Slots.{slot-is}
-use Rattle.raft_wire.specs.declared.entries.What.{What}
-use Rattle.raft_wire.specs.declared.entries.What.TheVariants.{Nil, Holds, Mark}
+use Rattle.iss_sb.specs.declared.content.Content.{Content}
+use Rattle.iss_sb.specs.declared.content.Content.TheVariants.{Nil, Holds, Mark}
 use Rattle.hs_tree.specs.declared.certificates.Certificate.{Certificate}
 use Rattle.hs_tree.specs.declared.certificates.Certificate.TheVariants.{Root, Votes}
 use Rattle.hs_tree.specs.declared.certificates.Signed.{Signed}
@@ -91,7 +91,7 @@ unless-In old b slots k x h = go (nth slots k) refl h
         let slot : s ≡ x.0 = cc in
         subst (λ (z : Slot). In z slots) slot (nth-in slots k s q)
 
-offered-In : (p : Params) (s : State) (old : List (Slot × Batch)) (what : What) (just : Certificate) (x : Slot × Batch) → offered p s old what just ≡ Some x → In x.0 p.slots
+offered-In : (p : Params) (s : State) (old : List (Slot × Batch)) (what : Content) (just : Certificate) (x : Slot × Batch) → offered p s old what just ≡ Some x → In x.0 p.slots
 offered-In p s old Nil just x h = absurd cc
 offered-In p s old (Holds b) just x h = unless-In old b p.slots (slots_below s just) x h
 offered-In p s old Mark just x h = absurd cc
@@ -114,7 +114,7 @@ asked-In p me xs Timeout x h = absurd cc
 
 -- ---- what is decided
 
-value-In : (cs : List What) (k : ℕ) (slots : List Slot) (s : Slot) (x : Value) → value_at_slot cs k slots s.0 ≡ Some x → In s slots
+value-In : (cs : List Content) (k : ℕ) (slots : List Slot) (s : Slot) (x : Value) → value_at_slot cs k slots s.0 ≡ Some x → In s slots
 value-In cs k [] s x h = absurd cc
 value-In cs k (t ∷ ts) s x h = go (t.0 == s.0) refl h (value-In cs (suc k) ts s x)
   where

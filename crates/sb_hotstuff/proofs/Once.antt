@@ -15,8 +15,8 @@ use Rattle.iss_sb.specs.Evidence.{IsReached, IsString, Item, Made, Separate, Wor
 use Rattle.iss_sb.specs.Legal.{Front, IsLegal}
 use Rattle.iss_sb.proofs.Legal.{front-in, front_self, front_trans, legal-reached, made-front}
 use Rattle.iss_sb.proofs.Worlds.{accepts-cases}
-use Rattle.raft_wire.specs.declared.entries.What.{What}
-use Rattle.raft_wire.specs.declared.entries.What.TheVariants.{Nil, Holds, Mark}
+use Rattle.iss_sb.specs.declared.content.Content.{Content}
+use Rattle.iss_sb.specs.declared.content.Content.TheVariants.{Nil, Holds, Mark}
 use Rattle.hs_tree.specs.declared.certificates.Certificate.{Certificate}
 use Rattle.hs_tree.specs.declared.messages.Message.{Message}
 use Rattle.hs_tree.specs.declared.messages.Message.TheVariants.{NewView, Prepare, PreCommit, Commit, Decide, Vote}
@@ -110,7 +110,7 @@ module _ (p : Params) (w : World Message) (good : IsGoodParams hotstuff p) (reac
       let t = if-in (may_prepare p st from.0 v what just) (offered p st (accepts older) what just) (s, b) h in
       go what e t.passed t.is
     where
-      go : (c : What) → x.input ≡ Receive from (Prepare v c just sig) → may_prepare p (state p l older) from.0 v c just ≡ true → offered p (state p l older) (accepts older) c just ≡ Some (s, b) → IsCastAt s b
+      go : (c : Content) → x.input ≡ Receive from (Prepare v c just sig) → may_prepare p (state p l older) from.0 v c just ≡ true → offered p (state p l older) (accepts older) c just ≡ Some (s, b) → IsCastAt s b
       go Nil is q o = absurd cc
       go (Holds c) is q o = by-proposal x older f from v c just sig s b is q (unless-is (accepts older) c (nth p.slots (slots_below (state p l older) just)) s b o)
       go Mark is q o = absurd cc

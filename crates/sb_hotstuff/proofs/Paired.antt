@@ -11,8 +11,8 @@ use Rattle.iss_request.specs.declared.requests.Value.TheVariants.{Nil as Value_n
 use Rattle.iss_sb.specs.Calls.{AllIn, has_slot, slots_of}
 use Rattle.iss_sb.specs.Evidence.{one_or_none}
 use Rattle.iss_sb.proofs.Slots.{another, drop-slot, slot-is}
-use Rattle.raft_wire.specs.declared.entries.What.{What}
-use Rattle.raft_wire.specs.declared.entries.What.TheVariants.{Nil, Holds, Mark}
+use Rattle.iss_sb.specs.declared.content.Content.{Content}
+use Rattle.iss_sb.specs.declared.content.Content.TheVariants.{Nil, Holds, Mark}
 use Rattle.hs_tree.specs.Known.{values}
 use Rattle.hs_tree.specs.Tree.{filled, value_at, value_at_slot, value_here, value_of}
 use Rattle.hs_tree.proofs.Branches.{length-values}
@@ -198,7 +198,7 @@ nth-one [] (Some v) (suc k) = rw (eqb-other (suc k) 0 (λ e. omega (arith, e))) 
 nth-one (x ∷ xs) o zero = rw (eqb-other 0 (suc (length xs)) (λ e. omega (arith, e))) refl
 nth-one (x ∷ xs) o (suc k) = nth-one xs o k ∙ ap (λ (b : Bool). if b then o else nth xs k) (sym (suc-same k (length xs)))
 
-value-nth : (cs : List What) (k : ℕ) → value_at cs k ≡ nth (values cs) k
+value-nth : (cs : List Content) (k : ℕ) → value_at cs k ≡ nth (values cs) k
 value-nth [] k = refl
 value-nth (c ∷ cs) k =
     here c (value-nth cs k) ∙ ap (λ (n : ℕ). let o : Option Value = if k == n then value_of c else nth (values cs) k in o) (sym (length-values cs)) ∙ sym (nth-one (values cs) (value_of c) k)
@@ -211,7 +211,7 @@ value-nth (c ∷ cs) k =
     mark e true q = e ∙ nth-beyond (values cs) k (let long = length-values cs in let same = is-eq k (filled cs) q in omega (arith, long, same))
     mark e false q = e
 
-    here : (c : What) → value_at cs k ≡ nth (values cs) k → value_here k (filled cs) c (value_at cs k) ≡ (if k == filled cs then value_of c else nth (values cs) k)
+    here : (c : Content) → value_at cs k ≡ nth (values cs) k → value_here k (filled cs) c (value_at cs k) ≡ (if k == filled cs then value_of c else nth (values cs) k)
     here Nil e = plain (Some Value_nil) e (k == filled cs)
     here (Holds b) e = plain (Some (Value_batch b)) e (k == filled cs)
     here Mark e = mark e (k == filled cs) refl
@@ -232,7 +232,7 @@ drop-none [] k h = refl
 drop-none (v ∷ vs) zero h = absurd cc
 drop-none (v ∷ vs) (suc k) h = drop-none vs k h
 
-slot-values : (n : ℕ) (cs : List What) (k : ℕ) (ss : List Slot) → value_at_slot cs k ss n ≡ value_with n ss (drop k (values cs))
+slot-values : (n : ℕ) (cs : List Content) (k : ℕ) (ss : List Slot) → value_at_slot cs k ss n ≡ value_with n ss (drop k (values cs))
 slot-values n cs k [] = refl
 slot-values n cs k (t ∷ ss) =
     ap (λ (o : Option Value). let r : Option Value = if t.0 == n then o else value_at_slot cs (suc k) ss n in r) (value-nth cs k)
@@ -248,5 +248,5 @@ slot-values n cs k (t ∷ ss) =
     go (Some v) q e = ap (λ (o : Option Value). let r : Option Value = if t.0 == n then Some v else o in r) e
 
 -- the value of a branch at a slot
-pub branch-value : (n : ℕ) (cs : List What) (ss : List Slot) → value_at_slot cs 0 ss n ≡ value_with n ss (values cs)
+pub branch-value : (n : ℕ) (cs : List Content) (ss : List Slot) → value_at_slot cs 0 ss n ≡ value_with n ss (values cs)
 branch-value n cs ss = slot-values n cs 0 ss

@@ -23,7 +23,7 @@ use Rattle.iss_sb.specs.Statements.{signature}
 use Rattle.iss_sb.proofs.Cases.{different}
 use Rattle.iss_sb.proofs.Read.{batch-read}
 use Rattle.iss_sb.proofs.Signatures.{signature-shape, signature-verifies}
-use Rattle.raft_wire.specs.declared.entries.What.TheVariants.{Holds}
+use Rattle.iss_sb.specs.declared.content.Content.TheVariants.{Holds}
 use Rattle.hs_tree.specs.declared.certificates.Certificate.{Certificate}
 use Rattle.hs_tree.specs.declared.certificates.Certificate.TheVariants.{Root, Votes}
 use Rattle.hs_tree.specs.declared.certificates.Signed.{Signed}
@@ -32,7 +32,7 @@ use Rattle.hs_tree.specs.declared.messages.Message.TheVariants.{Prepare, PreComm
 use Rattle.hs_tree.specs.Certificates.{IsSpelledCertificate, root_row, votes_row}
 use Rattle.hs_tree.specs.Statements.{claim, claims, own_statement, vote_statement}
 use Rattle.hs_tree.specs.Tree.{basic, plain_string, root}
-use Rattle.hs_tree.proofs.Contents.{batch-table}
+use Rattle.iss_sb.proofs.Contents.{batch-table}
 use Rattle.hs_tree.proofs.MessageGrammar.{spelled-read}
 use Rattle.sb_hotstuff.specs.HotStuff.{hotstuff, makes}
 use Rattle.sb_hotstuff.specs.Rules.{node_digest}

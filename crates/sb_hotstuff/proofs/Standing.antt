@@ -18,8 +18,8 @@ use Rattle.iss_sb.specs.declared.effects.To.{To}
 use Rattle.iss_sb.specs.Calls.{AllIn, AreToNodes, Delivers, IsGoodParams, IsNothing, IsTaken, IsTrueStep, has_slot, slots_of}
 use Rattle.iss_sb.specs.Evidence.{Item, accepts, and_then, delivered, one_or_none}
 use Rattle.iss_sb.proofs.Delivered.{Delivers-from, Delivers-nothing, delivered-decided}
-use Rattle.raft_wire.specs.declared.entries.What.{What}
-use Rattle.raft_wire.specs.declared.entries.What.TheVariants.{Nil, Holds, Mark}
+use Rattle.iss_sb.specs.declared.content.Content.{Content}
+use Rattle.iss_sb.specs.declared.content.Content.TheVariants.{Nil, Holds, Mark}
 use Rattle.hs_tree.specs.declared.certificates.Certificate.{Certificate}
 use Rattle.hs_tree.specs.declared.messages.Message.{Message}
 use Rattle.hs_tree.specs.declared.messages.Message.TheVariants.{Prepare, Decide}
@@ -179,7 +179,7 @@ module _ (p : Params) (m : HotStuff) (i : Input Message) (e : Effects Message) (
       (Delivers-nothing hotstuff p me xs i leaf (λ t x h none. none-some x (sym none ∙ delivered-is p me xs t.0 ∙ sym (still t.0) ∙ h)))
 
 -- the branch of a node is decided
-module _ (p : Params) (good : IsGoodParams hotstuff p) (m : HotStuff) (i : Input Message) (e : Effects Message) (me : ℕ) (xs : List (Item Message)) (st : Refines m p me xs) (cs : List What)
+module _ (p : Params) (good : IsGoodParams hotstuff p) (m : HotStuff) (i : Input Message) (e : Effects Message) (me : ℕ) (xs : List (Item Message)) (st : Refines m p me xs) (cs : List Content)
     (decides-is : (k : ℕ) → decides p (state p me xs) i k ≡ value_at_slot cs 0 p.slots k) (ds : e.delivers ≡ paired (drop m.delivered p.slots) (drop m.delivered (values cs))) where
   abbrev old : ℕ → Option Value
   old k = decided p me xs k
@@ -245,7 +245,7 @@ at-inside : (b : Batch) (o : Option Slot) (ss : List Slot) → IfSome o (λ s. I
 at-inside b None ss h = tt
 at-inside b (Some s) ss h = h
 
-what-inside : (what : What) (o : Option Slot) (ss : List Slot) → IfSome o (λ s. In s ss) → IfSome (what_at what o) (λ x. In x.0 ss)
+what-inside : (what : Content) (o : Option Slot) (ss : List Slot) → IfSome o (λ s. In s ss) → IfSome (what_at what o) (λ x. In x.0 ss)
 what-inside Nil o ss h = tt
 what-inside (Holds b) o ss h = at-inside b o ss h
 what-inside Mark o ss h = tt
@@ -263,7 +263,7 @@ module _ (p : Params) (m : HotStuff) (node : Node) (accepted : Accepted) (slot :
       (subst (λ (z : Option (Slot × Batch)). Adds m.accepted accepted (one_or_none z)) (sym is) adds)
       (subst (λ (z : Option (Slot × Batch)). IfSome z (λ x. In x.0 p.slots)) (sym is) (at-inside batch slot p.slots within)) refl (λ s k. refl)
 
-  pub prepare-step : (from : NodeId) (view : ℕ) (what : What) (just : Certificate) (sig : List ℕ) (b : Bool) → b ≡ true → ((s : State) → IsFor m.node s → b ≡ may_prepare p s from.0 view what just) →
+  pub prepare-step : (from : NodeId) (view : ℕ) (what : Content) (just : Certificate) (sig : List ℕ) (b : Bool) → b ≡ true → ((s : State) → IsFor m.node s → b ≡ may_prepare p s from.0 view what just) →
       ((s : State) → IsFor m.node s → may_prepare p s from.0 view what just ≡ true → Does p m.node node s (Receive from (Prepare view what just sig)) o) →
       a ≡ what_at what slot → Adds m.accepted accepted (one_or_none (what_at what slot)) →
       ((s : State) (old : List (Slot × Batch)) → IsFor m.node s → AreAccepted m.accepted old → what_at what slot ≡ offered p s old what just) →
@@ -280,7 +280,7 @@ none-within ds ss h = subst (λ (z : List (Slot × Value)). AllIn (slots_of z) s
 
 -- a proposal that does not pass its test
 pub unprepared-step : (p : Params) → IsGoodParams hotstuff p → (m : HotStuff) (keys : KeyState) (e : Effects Message) → 2 ≤ left_of keys → IsNothing e →
-    (from : NodeId) (view : ℕ) (what : What) (just : Certificate) (sig : List ℕ) (b : Bool) → b ≡ false → ((s : State) → IsFor m.node s → b ≡ may_prepare p s from.0 view what just) →
+    (from : NodeId) (view : ℕ) (what : Content) (just : Certificate) (sig : List ℕ) (b : Bool) → b ≡ false → ((s : State) → IsFor m.node s → b ≡ may_prepare p s from.0 view what just) →
     IsTrueStep hotstuff Refines p m m (Receive from (Prepare view what just sig)) keys keys e
 unprepared-step p good m keys e enough nothing from view what just sig b nope may =
     idle-step p good m m i keys e enough nothing.sends nothing.accepted nothing.hashed

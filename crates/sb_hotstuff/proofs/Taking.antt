@@ -9,7 +9,7 @@ use Rattle.iss_sb.specs.declared.effects.Input.TheVariants.{Cast, Receive}
 use Rattle.iss_sb.specs.declared.effects.Params.{Params}
 use Rattle.iss_sb.specs.declared.effects.To.{To}
 use Rattle.iss_sb.specs.declared.effects.To.TheVariants.{All as To_all}
-use Rattle.raft_wire.specs.declared.entries.What.{What}
+use Rattle.iss_sb.specs.declared.content.Content.{Content}
 use Rattle.hs_tree.specs.declared.certificates.Certificate.{Certificate}
 use Rattle.hs_tree.specs.declared.messages.Message.{Message}
 use Rattle.hs_tree.specs.declared.messages.Message.TheVariants.{NewView, Prepare, Vote}
@@ -103,7 +103,7 @@ module _ (p : Params) (m : Node) (s : State) (h : IsFor m s) where
         news = subst (λ (z : ℕ). AreNews words ((with_news s z round high).news)) (sym hw) more;
       }))
 
-  pub node-taken : (from : NodeId) (view : ℕ) (what : What) (just : Certificate) (sig parent : List ℕ) (hash : Hashed) (tree : Tree) (draft : Draft) → may_prepare p s from.0 view what just ≡ true → parent ≡ digest_of just → IsHashed p.setup.version view parent what hash →
+  pub node-taken : (from : NodeId) (view : ℕ) (what : Content) (just : Certificate) (sig parent : List ℕ) (hash : Hashed) (tree : Tree) (draft : Draft) → may_prepare p s from.0 view what just ≡ true → parent ≡ digest_of just → IsHashed p.setup.version view parent what hash →
       ((k : Tree_node) (ks : List Tree_node) → k.digest ≡ hash.digest → k.parent ≡ parent → k.what ≡ what → Keeps m.tree ks → Keeps tree (k ∷ ks)) → AreDrafts p (Some draft) (voted p 1 view hash.digest) →
       Does p m (record m { view = view; tree = tree; second = false; third = false }) s (Receive from (Prepare view what just sig)) (record { answer = Some draft; proposal = None; hashed = hash.strings })
   node-taken from view what just sig parent hash tree draft may hp hashed add drafted =

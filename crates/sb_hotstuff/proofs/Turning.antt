@@ -10,8 +10,8 @@ use Rattle.iss_request.specs.Digest.{digest}
 use Rattle.iss_request.specs.declared.requests.Batch.{Batch}
 use Rattle.iss_sb.specs.declared.effects.Params.{Params}
 use Rattle.iss_sb.specs.declared.effects.To.TheVariants.{All as To_all}
-use Rattle.raft_wire.specs.declared.entries.What.{What}
-use Rattle.raft_wire.specs.declared.entries.What.TheVariants.{Nil, Holds}
+use Rattle.iss_sb.specs.declared.content.Content.{Content}
+use Rattle.iss_sb.specs.declared.content.Content.TheVariants.{Nil, Holds}
 use Rattle.hs_tree.specs.declared.certificates.Certificate.{Certificate}
 use Rattle.hs_tree.specs.declared.certificates.Certificate.TheVariants.{Root}
 use Rattle.hs_tree.specs.declared.messages.Message.TheVariants.{Prepare}
@@ -41,7 +41,7 @@ proposes-none p m k o h quiet = record {
   hashed = quiet.hashed;
 }
 
-module _ (p : Params) (m : Node) (k : State) (view slots : ℕ) (just : Certificate) (what : What) (t : Turn) (is : t ≡ turn p view just what slots) where
+module _ (p : Params) (m : Node) (k : State) (view slots : ℕ) (just : Certificate) (what : Content) (t : Turn) (is : t ≡ turn p view just what slots) where
   pub node-is : (parent : List ℕ) (h : Hashed) → parent ≡ digest_of just → IsHashed p.setup.version view parent what h → h.digest ≡ node_digest p view what just
   node-is parent h hp hashed = hashed.digest_is ∙ ap (λ (z : List ℕ). digest (0x41 ∷ z ++ what_bytes p.setup.version what)) hp
 
@@ -183,7 +183,7 @@ module _ (p : Params) (m n : Node) (k : State) (o : Outcome) (h : IsFor m k) (fo
 
 -- ---- the first turn of a round
 
-pub first-one : (p : Params) (m n : Node) (k : State) (o : Outcome) (round count here slots : ℕ) (just : Certificate) (d : List ℕ) (known : Bool) (what : What) → IsFor m k → count ≡ length (all_news p.setup.n k.news round) → count ≡ p.setup.quorum →
+pub first-one : (p : Params) (m n : Node) (k : State) (o : Outcome) (round count here slots : ℕ) (just : Certificate) (d : List ℕ) (known : Bool) (what : Content) → IsFor m k → count ≡ length (all_news p.setup.n k.news round) → count ≡ p.setup.quorum →
     here ≡ m.view / 65536 → here ≤ round → 1 ≤ round → just ≡ best Root (all_news p.setup.n k.news round) → d ≡ digest_of just → known ≡ is_known k.tree d → known ≡ true → slots ≡ filled (branch k.tree d) → what ≡ nil_or_mark p slots →
     ((t : Turn) → t ≡ turn p (round * 65536 + 1) just what slots → slots < 2 ^ 63 → IsLow (own_of t) → IsFor m k → Proposes p m n k (Some t) o) → Proposes p m n k (first_turn p k round) o
 first-one p m n k o round count here slots just d known what h many full here_is le some just_is d_is known_is yep slots_is what_is make =
@@ -191,7 +191,7 @@ first-one p m n k o round count here slots just d known what h many full here_is
     (subst (λ (b : Bool). Proposes p m n k (if b then Some (turn p (round * 65536 + 1) high (nil_or_mark p (slots_below k high)) (slots_below k high)) else None) o) (sym there)
     (subst (λ (c : Certificate). Proposes p m n k (Some (turn p (round * 65536 + 1) c (nil_or_mark p (slots_below k c)) (slots_below k c))) o) just_is
     (subst (λ (z : ℕ). Proposes p m n k (Some (turn p (round * 65536 + 1) just (nil_or_mark p z) z)) o) slots_here
-    (subst (λ (z : What). Proposes p m n k (Some (turn p (round * 65536 + 1) just z slots)) o) what_is
+    (subst (λ (z : Content). Proposes p m n k (Some (turn p (round * 65536 + 1) just z slots)) o) what_is
     (make (turn p (round * 65536 + 1) just what slots) refl small (record { turn = omega arith; first = λ q. absurd (omega (arith, q, some)) }) h)))))
   where
     high : Certificate
@@ -216,5 +216,5 @@ first-one p m n k o round count here slots just d known what h many full here_is
         let long = h.tree.few d in
         let fits = m.tree.nodes.small in
         let ok = m.tree.nodes.ok in
-        let same = ap (λ (z : List What). filled z) (branch-path k.tree d) in
+        let same = ap (λ (z : List Content). filled z) (branch-path k.tree d) in
         omega (arith, slots_is, few, long, fits, ok.0, ok.1, same)

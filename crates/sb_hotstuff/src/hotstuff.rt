@@ -19,8 +19,7 @@ use crate::state::{Node, PHASES};
 use hs_tree::{Certificate, Message};
 use iss_keys::Keys;
 use iss_request::{Batch, Bytes, DecodeError, Fields, NoMemory, NodeId, Seq, Slot, Writer};
-use iss_sb::{Claim, Effects, Input, Params, Sequenced, StepError};
-use raft_wire::What;
+use iss_sb::{Claim, Content, Effects, Input, Params, Sequenced, StepError};
 use std::alloc::Global;
 
 /// A node's part in one instance: what it keeps for its rules, the batches that it accepted, and how many slots of the
@@ -39,7 +38,7 @@ impl HotStuff {
         p: &Params,
         from: NodeId,
         view: u32,
-        what: &'a What,
+        what: &'a Content,
         just: &'a Certificate,
     ) -> Option<(Slot, &'a Batch)>
         requires { IsGoodParams hotstuff p.now }
@@ -52,7 +51,7 @@ impl HotStuff {
         let Some(slot) = offered_slot(&self.node, &self.accepted, p, what, just) else {
             return None;
         };
-        let What::Holds(batch) = what else {
+        let Content::Holds(batch) = what else {
             return None;
         };
         Some((slot, batch))
@@ -101,7 +100,7 @@ impl HotStuff {
         p: &Params,
         from: NodeId,
         view: u32,
-        what: What,
+        what: Content,
         just: Certificate,
         keys: &mut Keys,
     ) -> Result<Effects<Message>, NoMemory>

@@ -13,12 +13,11 @@ use hs_tree::Certificate;
 use hs_tree::hashing::digest_of_node;
 use hs_tree::tree::same;
 use iss_request::NodeId;
-use iss_sb::Params;
-use raft_wire::What;
+use iss_sb::{Content, Params};
 
 impl Node {
     // Whether the proposal's node is the lock's: one that is proposed again.
-    fn is_locked(&self, p: &Params, what: &What, just: &Certificate) -> bool
+    fn is_locked(&self, p: &Params, what: &Content, just: &Certificate) -> bool
         ensures { (s : State) (view : ℕ) → IsFor self.now s → result ≡ same_bytes (node_digest p.now view what.now just.now) (digest_of s.lock) }
     {
         let node = digest_of_node(p.setup.version, &just.digest(), what);
@@ -26,7 +25,7 @@ impl Node {
     }
 
     // Whether the node extends the lock's, or its justification is above the lock. Only a node on none of these is hashed.
-    fn is_safe(&self, p: &Params, what: &What, just: &Certificate) -> bool
+    fn is_safe(&self, p: &Params, what: &Content, just: &Certificate) -> bool
         ensures { (s : State) (view : ℕ) → IsFor self.now s → result ≡ is_safe p.now s view what.now just.now }
     {
         if self.lock.view() < just.view() {
@@ -39,7 +38,7 @@ impl Node {
     }
 
     // Whether what is proposed may stand behind the branch of the certificate's node.
-    fn is_fit(&self, p: &Params, view: u32, what: &What, just: &Certificate) -> bool
+    fn is_fit(&self, p: &Params, view: u32, what: &Content, just: &Certificate) -> bool
         ensures { (s : State) → IsFor self.now s → result ≡ is_allowed p.now (round_of view) (slots_below s just.now) what.now }
     {
         is_allowed(p, round_of(view), self.tree.slots(&just.digest()), what)
@@ -58,7 +57,7 @@ impl Node {
         p: &Params,
         from: NodeId,
         view: u32,
-        what: &What,
+        what: &Content,
         just: &Certificate,
     ) -> bool
         requires { IsGoodParams hotstuff p.now }

@@ -17,18 +17,17 @@ use hs_tree::Certificate;
 use hs_tree::signing::hash_node;
 use hs_tree::tree::weight;
 use iss_request::{Batch, NoMemory};
-use iss_sb::Params;
-use raft_wire::What;
+use iss_sb::{Content, Params};
 use std::alloc::Global;
 
 // What is proposed behind so many slots where nothing is left to cast.
-fn nil_or_mark(p: &Params, slots: usize) -> What
+fn nil_or_mark(p: &Params, slots: usize) -> Content
     ensures { result ≡ nil_or_mark p.now slots }
 {
     if slots < p.slots.len() {
-        What::Nil
+        Content::Nil
     } else {
-        What::Mark
+        Content::Mark
     }
 }
 
@@ -40,7 +39,7 @@ impl Node {
         p: &Params,
         view: u32,
         just: Certificate,
-        what: What,
+        what: Content,
         slots: usize,
     ) -> Result<Outcome, NoMemory>
         ensures { IfOk result (λ o. (k : State) (t : Turn) → t ≡ turn p.now view just what slots → slots < 2 ^ 63 →
@@ -86,7 +85,7 @@ impl Node {
         let Some(batch) = self.cast_at(place) else {
             return Ok(Outcome::nothing(alloc));
         };
-        let what = What::Holds(batch.copy()?);
+        let what = Content::Holds(batch.copy()?);
         self.propose(alloc, p, view, just, what, slots)
     }
 
@@ -134,7 +133,7 @@ impl Node {
         if last.slots >= p.slots.len() {
             return Ok(Outcome::nothing(alloc));
         }
-        self.propose(alloc, p, view, just, What::Nil, last.slots)
+        self.propose(alloc, p, view, just, Content::Nil, last.slots)
     }
 
     /// The first turn of a round, once a quorum's words on it are kept.

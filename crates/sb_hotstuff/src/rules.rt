@@ -14,8 +14,7 @@ use crate::state::{Node, round_of};
 use hs_tree::Certificate;
 use hs_tree::signing::hash_node;
 use iss_request::{Batch, Bytes, NoMemory, NodeId, Slot};
-use iss_sb::{Input, Params};
-use raft_wire::What;
+use iss_sb::{Content, Input, Params};
 use std::alloc::Global;
 
 /// The last round that there is.
@@ -46,7 +45,7 @@ impl Node {
         alloc: Global,
         p: &Params,
         view: u32,
-        what: What,
+        what: Content,
         just: &Certificate,
     ) -> Result<Outcome, NoMemory>
         requires { IsGoodParams hotstuff p.now }

@@ -21,8 +21,7 @@ use hs_tree::wire::{COMMIT, DECIDE, PRE_COMMIT, PREPARE};
 use hs_tree::{Certificate, Message};
 use iss_keys::Keys;
 use iss_request::{Bytes, NoMemory, NodeId, Seq};
-use iss_sb::{Claim, Params, To, sign};
-use raft_wire::What;
+use iss_sb::{Claim, Content, Params, To, sign};
 use std::alloc::Global;
 
 /// The number of the module.
@@ -140,7 +139,7 @@ pub fn proposal_draft(
     alloc: Global,
     p: &Params,
     view: u32,
-    what: What,
+    what: Content,
     just: Certificate,
     digest: &[u8; 32],
 ) -> Result<Draft, NoMemory>

@@ -15,8 +15,7 @@ use crate::turns::Turns;
 use hs_tree::certificates::is_phase;
 use hs_tree::{Certificate, Tree};
 use iss_request::{Batch, NodeId, Seq, Slot};
-use iss_sb::Params;
-use raft_wire::What;
+use iss_sb::{Content, Params};
 use std::alloc::Global;
 
 /// How many phases a node passes.
@@ -66,13 +65,13 @@ pub fn is_just(p: &Params, view: u32, c: &Certificate) -> bool
 }
 
 /// What may stand behind so many slots.
-pub fn is_allowed(p: &Params, round: u16, slots: usize, what: &What) -> bool
+pub fn is_allowed(p: &Params, round: u16, slots: usize, what: &Content) -> bool
     ensures { result ≡ is_allowed p.now round slots what.now }
 {
     match what {
-        What::Nil => round >= 1 && slots < p.slots.len(),
-        What::Holds(_) => round == 0 && slots < p.slots.len(),
-        What::Mark => round >= 1 && slots >= p.slots.len(),
+        Content::Nil => round >= 1 && slots < p.slots.len(),
+        Content::Holds(_) => round == 0 && slots < p.slots.len(),
+        Content::Mark => round >= 1 && slots >= p.slots.len(),
     }
 }
 

@@ -8,8 +8,8 @@ use Rattle.iss_sb.specs.declared.effects.Input.{Input}
 use Rattle.iss_sb.specs.declared.effects.Input.TheVariants.{Receive}
 use Rattle.iss_sb.specs.declared.effects.Params.{Params}
 use Rattle.raft_wire.specs.declared.entries.Entry.{Entry}
-use Rattle.raft_wire.specs.declared.entries.What.{What}
-use Rattle.raft_wire.specs.declared.entries.What.TheVariants.{Holds}
+use Rattle.iss_sb.specs.declared.content.Content.{Content}
+use Rattle.iss_sb.specs.declared.content.Content.TheVariants.{Holds}
 use Rattle.raft_wire.specs.declared.messages.Message.{Message}
 use Rattle.raft_wire.specs.declared.messages.Message.TheVariants.{Append, Vote}
 use Rattle.sb_raft.specs.Rules.{candidate, is_leader, is_slot, may_cast, Role, Follower, Candidate, Leader, State, filling, free_for, may_merge, log_limit}
@@ -27,7 +27,7 @@ won_term : (p : Params) (s : State) → OfTerm s.term (filling p s)
 won_term p s x (inl e) = ap (λ (z : Entry). z.term) e
 won_term p s x (inr i) = nils_term s.term (length p.slots - filled s.log) x i
 
-one_term : (t : ℕ) (w : What) → OfTerm t (entry t w ∷ [])
+one_term : (t : ℕ) (w : Content) → OfTerm t (entry t w ∷ [])
 one_term t w x (inl e) = ap (λ (z : Entry). z.term) e
 one_term t w x (inr i) = elim i [ ]
 

@@ -9,8 +9,8 @@ use Rattle.iss_sb.specs.declared.effects.Params.{Params}
 use Rattle.iss_sb.specs.Calls.{IsGoodParams}
 use Rattle.iss_sb.specs.Evidence.{Item}
 use Rattle.raft_wire.specs.declared.entries.Entry.{Entry}
-use Rattle.raft_wire.specs.declared.entries.What.{What}
-use Rattle.raft_wire.specs.declared.entries.What.TheVariants.{Nil, Holds, Mark}
+use Rattle.iss_sb.specs.declared.content.Content.{Content}
+use Rattle.iss_sb.specs.declared.content.Content.TheVariants.{Nil, Holds, Mark}
 use Rattle.raft_wire.specs.declared.messages.Message.{Message}
 use Rattle.sb_raft.specs.Logs.{contents, content, entry, filled, nils}
 use Rattle.sb_raft.specs.Raft.{raft, state}
@@ -25,7 +25,7 @@ filled-both a b = ap (λ (vs : List Value). length vs) (contents-both a b) ∙ l
 pub content-low : (e : Entry) → length (content e.what) ≤ 1
 content-low e = go e.what
   where
-    go : (w : What) → length (content w) ≤ 1
+    go : (w : Content) → length (content w) ≤ 1
     go Nil = omega arith
     go (Holds b) = omega arith
     go Mark = omega arith

@@ -18,7 +18,7 @@ use Rattle.iss_sb.specs.Evidence.{Item}
 use Rattle.iss_sb.specs.Laws.{IsLawful, SignsOnce}
 use Rattle.iss_sb.proofs.Silent.{silent-once}
 use Rattle.raft_wire.specs.declared.entries.Entry.{Entry}
-use Rattle.raft_wire.specs.declared.entries.What.TheVariants.{Holds}
+use Rattle.iss_sb.specs.declared.content.Content.TheVariants.{Holds}
 use Rattle.raft_wire.specs.declared.messages.Message.{Message}
 use Rattle.raft_wire.specs.declared.messages.Message.TheVariants.{Append, Reply, AskVote, Vote}
 use Rattle.sb_raft.proofs.Ranges.{sends-read}

@@ -15,7 +15,7 @@ use Rattle.iss_sb.specs.Legal.{AreMade}
 use Rattle.iss_sb.proofs.Legal.{legal-reached}
 use Rattle.iss_sb.proofs.Worlds.{accepts-cases}
 use Rattle.raft_wire.specs.declared.entries.Entry.{Entry}
-use Rattle.raft_wire.specs.declared.entries.What.TheVariants.{Holds}
+use Rattle.iss_sb.specs.declared.content.Content.TheVariants.{Holds}
 use Rattle.raft_wire.specs.declared.messages.Message.{Message}
 use Rattle.sb_raft.specs.Facts.{AreOnce}
 use Rattle.sb_raft.specs.Logs.{entry, filled}

@@ -16,7 +16,7 @@ use Rattle.raft_wire.specs.declared.messages.Message.{Message}
 use Rattle.sb_raft.specs.Raft.{decided, raft, state}
 use Rattle.sb_raft.specs.Rules.{is_slot}
 use Rattle.sb_raft.proofs.Ballots.{Ballots}
-use Rattle.raft_wire.specs.declared.entries.What.TheVariants.{Holds}
+use Rattle.iss_sb.specs.declared.content.Content.TheVariants.{Holds}
 use Rattle.sb_raft.specs.Facts.{IsOwned}
 use Rattle.sb_raft.specs.Logs.{filled}
 use Rattle.iss_base.specs.Lists.{nth}

@@ -13,8 +13,8 @@ use crate::marks::{PerPeer, count};
 use crate::raft::{Raft, Role};
 use crate::sending::{one, only, reply};
 use iss_request::{Batch, NoMemory, NodeId, Seq, Slot};
-use iss_sb::{Effects, Params, To};
-use raft_wire::{Entry, Message, What};
+use iss_sb::{Content, Effects, Params, To};
+use raft_wire::{Entry, Message};
 use std::alloc::Global;
 
 /// The last term that there is.
@@ -56,7 +56,7 @@ impl Raft {
         if !self.may_cast(p, slot) {
             return Ok(Effects::nothing(alloc));
         }
-        let what = What::Holds(batch.copy()?);
+        let what = Content::Holds(batch.copy()?);
         let term = self.term;
         self.log.push(Entry { term, what })?;
         let mut sends = Seq::new(alloc);
@@ -321,7 +321,7 @@ impl Raft {
         self.part = Role::Leader;
         self.next = PerPeer::all(alloc, self.log.len().saturating_add(1));
         self.matched = PerPeer::all(alloc, 0);
-        let what = What::Mark;
+        let what = Content::Mark;
         self.log.push(Entry { term, what })?;
         self.log.push_nils(term, missing)
     }

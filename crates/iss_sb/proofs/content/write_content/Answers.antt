@@ -1,8 +1,8 @@
 use Rattle.std.proofs.Common.{ap, ◌∙◌}
 use Rattle.std.proofs.lemmas.Result.{on_ok_weaker}
 use Rattle.iss_request.specs.Formats.{version_byte}
-use Rattle.raft_wire.proofs.Written.{holds-written}
-use Rattle.raft_wire.proofs.entries.write_what.Goals as goal
+use Rattle.iss_sb.proofs.ContentFields.{holds-written}
+use Rattle.iss_sb.proofs.content.write_content.Goals as goal
 
 pub returns-in_ok-put_u8-in-Holds-2 : goal.returns-in_ok-put_u8-in-Holds-2
 returns-in_ok-put_u8-in-Holds-2 c =
