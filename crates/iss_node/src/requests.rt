@@ -3,8 +3,8 @@ ghost use Rattle.std.specs.Prelude.{◌≡◌, ◌++◌, ◌∷◌, ◌||◌, []
 ghost use Rattle.iss_buckets.specs.Waiting.{AreNew, absent};
 ghost use Rattle.iss_rules.specs.Concrete.{rules_of};
 ghost use Rattle.iss_model.specs.Node.{returned, takes_request};
-ghost use Rattle.iss_node.specs.Flights.{IsLanded};
-ghost use Rattle.iss_node.specs.Inputs.{AreLogged, HasLanded};
+ghost use Rattle.iss_node.specs.Flights.{IsCompleted};
+ghost use Rattle.iss_node.specs.Inputs.{AreLogged, HasCompletedCasts};
 ghost use Rattle.iss_node.specs.Steps.{IsLater, IsStepOf};
 ghost use Rattle.iss_request.specs.Log.{has_id, ids};
 ghost use Rattle.iss_request.specs.declared.ids.ReqId.{ReqId as Identity};
@@ -79,7 +79,7 @@ impl<M: Sequenced> NodeState<M> {
     /// What was cast in slots of the log is no more in flight. Where such a slot became nil the requests wait again,
     /// behind all others, unless the log holds them.
     pub(crate) fn complete_casts(&mut self, alloc: Global) -> Result<(), NoMemory>
-        ensures landed { OnOk result (HasLanded self.old self.new) }
+        ensures landed { OnOk result (HasCompletedCasts self.old self.new) }
         ensures rest { self.new ≡ record self.old { waiting = self.new.waiting; flight = self.new.flight } }
     {
         let slots = self.log.entries().len() as u64;

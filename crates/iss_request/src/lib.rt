@@ -7,7 +7,7 @@ pub mod errors;
 pub mod fields;
 pub mod ids;
 pub mod requests;
-pub mod rows;
+pub mod seqs;
 pub mod setups;
 pub mod values;
 pub mod versions;
@@ -17,7 +17,7 @@ pub use errors::{DecodeError, NoMemory};
 pub use fields::{Fields, Writer};
 pub use ids::{Epoch, NodeId, ReqId, Slot};
 pub use requests::{Batch, Request, Value};
-pub use rows::Seq;
+pub use seqs::Seq;
 pub use setups::{Kind, Nodes, Policy, Setup, quorum};
 pub use values::{
     decode_value, digest_of, encode_value, formats_are_exact, read_request, read_signature,

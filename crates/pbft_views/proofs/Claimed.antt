@@ -110,10 +110,10 @@ chosen-claim p by v xs (s ∷ ss) (sig ∷ sigs) t (inr h) = let r = chosen-clai
 -- a Prepare's claim in a certificate
 pub record IsVoteClaim (p : Params) (v s : ℕ) (d : List ℕ) (xs : List Vote) (t : Claim) : Type 0 where
   pub vote : Vote
-  pub refines : In vote xs
+  pub stands : In vote xs
   pub is : t ≡ claim vote.node.0 (state_at p 2 v s d) vote.sig
 
 pub vote-claim : (p : Params) (v s : ℕ) (d : List ℕ) (xs : List Vote) (t : Claim) → In t (vote_claims p v s d xs) → IsVoteClaim p v s d xs t
 vote-claim p v s d [] t h = absurd h
-vote-claim p v s d (x ∷ xs) t (inl e) = record { vote = x; refines = inl refl; is = e }
-vote-claim p v s d (x ∷ xs) t (inr h) = let r = vote-claim p v s d xs t h in record { vote = r.vote; refines = inr r.refines; is = r.is }
+vote-claim p v s d (x ∷ xs) t (inl e) = record { vote = x; stands = inl refl; is = e }
+vote-claim p v s d (x ∷ xs) t (inr h) = let r = vote-claim p v s d xs t h in record { vote = r.vote; stands = inr r.stands; is = r.is }

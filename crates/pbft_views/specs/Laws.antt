@@ -38,7 +38,7 @@ pub record HasChanges (p : Params) (v : ℕ) (xs : List Change) : Type 0 where
 -- of the slot none is of a higher view, and none of that view is of a lower node
 pub record IsHighest (xs : List Change) (s : ℕ) (c : Certificate) : Type 0 where
   pub change : Change
-  pub refines : In change xs
+  pub stands : In change xs
   pub holds : In c change.certificates
   pub slot : c.slot.0 ≡ s
   pub high : (y : Change) (d : Certificate) → In y xs → In d y.certificates → d.slot.0 ≡ s → d.view ≤ c.view

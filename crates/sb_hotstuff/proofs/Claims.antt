@@ -288,7 +288,7 @@ module _ (p : Params) where
       said-claims p G (inside msg) (sent-said p G me leaf (drafts p me s input) ds to msg sent)
 
   says-it : (from : ℕ) (msg : Message) (c : Claim) (k : ℕ) (t : List ℕ) → In c (claims basic p from msg) → c.by.0 ≡ k → c.statement ≡ t → Says hotstuff p from msg k t
-  says-it from msg c k t h by is = record { claim = c; refines = h; named = by; is = is }
+  says-it from msg c k t h by is = record { claim = c; stands = h; named = by; is = is }
 
   module _ (me : ℕ) (xs : List (Item Message)) (input : Input Message) (c : Claim) (k : ℕ) (t : List ℕ) (by : c.by.0 ≡ k) (is : c.statement ≡ t) where
     old-now : (y : Input Message) → input ≡ y → ComesWith hotstuff p c y → IsOld hotstuff p me xs input k t
@@ -310,7 +310,7 @@ module _ (p : Params) where
 
   pub passes-on : PassesOn hotstuff p (States p)
   passes-on w legal me input leaf correct may to msg statement sent said =
-      elim (in_append said.claim (certificate_claims basic p (inside msg)) (claim me (own_statement basic p msg) (signature_of msg) ∷ []) said.refines) [
+      elim (in_append said.claim (certificate_claims basic p (inside msg)) (claim me (own_statement basic p msg) (signature_of msg) ∷ []) said.stands) [
         | inl a ↦ inr (seen-old me (w me) input said.claim me statement said.named said.is (inside-seen me (w me) input leaf to msg sent said.claim a))
         | inr a ↦ inl (mine a)
       ]

@@ -122,7 +122,7 @@ module _ (p : Params) (w : World Message) (good : IsGoodParams hotstuff p) (lega
 
   record HasClaim (s : List ℕ) (vs : List Signed) (k : ℕ) : Type 0 where
     claim : Claim
-    refines : In claim (vote_claims s vs)
+    stands : In claim (vote_claims s vs)
     by : claim.by.0 ≡ k
     is : claim.statement ≡ s
 
@@ -131,8 +131,8 @@ module _ (p : Params) (w : World Message) (good : IsGoodParams hotstuff p) (lega
   signer-claim s (v ∷ vs) k h = go (k == v.by.0) refl h (signer-claim s vs k)
     where
       go : (b : Bool) → (k == v.by.0) ≡ b → (b || mem k (signers vs)) ≡ true → (mem k (signers vs) ≡ true → HasClaim s vs k) → HasClaim s (v ∷ vs) k
-      go true q r more = record { claim = claim v.by.0 s v.sig; refines = inl refl; by = sym (is-same k v.by.0 q); is = refl }
-      go false q r more = let c = more r in record { claim = c.claim; refines = inr c.refines; by = c.by; is = c.is }
+      go true q r more = record { claim = claim v.by.0 s v.sig; stands = inl refl; by = sym (is-same k v.by.0 q); is = refl }
+      go false q r more = let c = more r in record { claim = c.claim; stands = inr c.stands; by = c.by; is = c.is }
 
   by-votes : (phase view q v : ℕ) (d : List ℕ) (votes : List Signed) → is_quorum p.setup.quorum phase view (Votes v q d votes) ≡ true →
       ((c : Claim) → In c (vote_claims (vote_statement basic p q v d) votes) → Verifies p c) →
@@ -149,7 +149,7 @@ module _ (p : Params) (w : World Message) (good : IsGoodParams hotstuff p) (lega
         many = omega (arith, many, counted);
         each = λ k has correct.
             let c = signer-claim s votes k has in
-            let given = signed c.claim c.refines (ap (λ (z : ℕ). is_correct p.setup z) c.by ∙ correct) in
+            let given = signed c.claim c.stands (ap (λ (z : ℕ). is_correct p.setup z) c.by ∙ correct) in
             let own : IsSigned hotstuff p w k s = subst (λ (z : ℕ). IsSigned hotstuff p w z s) c.by (subst (λ (z : List ℕ). IsSigned hotstuff p w c.claim.by.0 z) c.is given) in
             subst (λ (z : ℕ). IsVoted w k z view d) (is-same q phase a.1) (subst (λ (z : ℕ). IsVoted w k q z d) (is-same v view a.0) (voted k q v d correct own));
       }

@@ -18,12 +18,12 @@ use Rattle.sb_hotstuff.specs.declared.outcomes.Outcome.{Outcome}
 use Rattle.sb_hotstuff.specs.Accepted.{AreAccepted}
 use Rattle.sb_hotstuff.specs.Drafts.{AreDrafts, count_of}
 use Rattle.sb_hotstuff.specs.HotStuff.{decided, sign_all, state}
-use Rattle.sb_hotstuff.specs.Refines.{IsFor}
+use Rattle.sb_hotstuff.specs.Refines.{RefinesState}
 
 -- the value stands for the list: it keeps its state and its batches, and has delivered the first slots, all that are decided
 pub record Refines (m : HotStuff) (p : Params) (me : ℕ) (xs : List (Item Message)) : Type 0 where
   pub node : m.node.me.0 ≡ me
-  pub keeps : IsFor m.node (state p me xs)
+  pub keeps : RefinesState m.node (state p me xs)
   pub batches : AreAccepted m.accepted (accepts xs)
   pub reached : (n : ℕ) → is_some (decided p me xs n) ≡ has_slot n (take m.delivered p.slots)
 

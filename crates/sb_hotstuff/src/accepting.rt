@@ -8,7 +8,7 @@ ghost use Rattle.sb_hotstuff.specs.Accepted.{AreAccepted};
 ghost use Rattle.sb_hotstuff.specs.HotStuff.{offered, unless_accepted};
 ghost use Rattle.sb_hotstuff.specs.Instances.{Adds, at_slot, what_at};
 ghost use Rattle.sb_hotstuff.specs.Rules.{State, may_cast, slots_below};
-ghost use Rattle.sb_hotstuff.specs.Refines.{IsFor};
+ghost use Rattle.sb_hotstuff.specs.Refines.{RefinesState};
 
 use crate::accepted::Accepted;
 use crate::state::Node;
@@ -34,7 +34,7 @@ fn free_slot(accepted: &Accepted, p: &Params, place: usize, batch: &Batch) -> Op
 
 /// The slot of a cast that may be taken.
 pub fn cast_slot(node: &Node, p: &Params, slot: Slot) -> Option<Slot>
-    ensures cast { (s : State) (batch : Batch) → IsFor node.now s →
+    ensures cast { (s : State) (batch : Batch) → RefinesState node.now s →
         at_slot batch result ≡ (if may_cast p.now node.now.me.0 s slot.0 then Some (slot, batch) else None) }
     ensures inside { IfSome result (λ s. In s p.now.slots) }
 {
@@ -52,7 +52,7 @@ pub fn offered_slot(
     what: &Content,
     just: &Certificate,
 ) -> Option<Slot>
-    ensures offered { (s : State) (old : List (Slot × Batch)) → IsFor node.now s → AreAccepted accepted.now old →
+    ensures offered { (s : State) (old : List (Slot × Batch)) → RefinesState node.now s → AreAccepted accepted.now old →
         what_at what.now result ≡ offered p.now s old what.now just.now }
     ensures inside { IfSome result (λ s. In s p.now.slots) }
 {

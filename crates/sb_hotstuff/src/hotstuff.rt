@@ -9,7 +9,7 @@ ghost use Rattle.sb_hotstuff.specs.Accepted.{AreAccepted};
 ghost use Rattle.sb_hotstuff.specs.HotStuff.{asked_by, hotstuff, offered};
 ghost use Rattle.sb_hotstuff.specs.Instances.{Refines};
 ghost use Rattle.sb_hotstuff.specs.Rules.{State, may_prepare};
-ghost use Rattle.sb_hotstuff.specs.Refines.{IsFor};
+ghost use Rattle.sb_hotstuff.specs.Refines.{RefinesState};
 
 use crate::accepted::Accepted;
 use crate::accepting::{cast_slot, keep_at, keep_what, offered_slot};
@@ -42,7 +42,7 @@ impl HotStuff {
         just: &'a Certificate,
     ) -> Option<(Slot, &'a Batch)>
         requires { IsGoodParams hotstuff p.now }
-        ensures { (s : State) (old : List (Slot × Batch)) → IsFor self.now.node s → AreAccepted self.now.accepted old →
+        ensures { (s : State) (old : List (Slot × Batch)) → RefinesState self.now.node s → AreAccepted self.now.accepted old →
             named result ≡ (if may_prepare p.now s from.0 view what.now just.now then offered p.now s old what.now just.now else None) }
     {
         if !self.node.may_prepare(p, from, view, what, just) {
@@ -60,7 +60,7 @@ impl HotStuff {
     // The batch that a message would have the node accept.
     fn asked<'a>(&'a self, p: &Params, from: NodeId, msg: &'a Message) -> Option<(Slot, &'a Batch)>
         requires { IsGoodParams hotstuff p.now }
-        ensures { (s : State) (old : List (Slot × Batch)) → IsFor self.now.node s → AreAccepted self.now.accepted old →
+        ensures { (s : State) (old : List (Slot × Batch)) → RefinesState self.now.node s → AreAccepted self.now.accepted old →
             named result ≡ asked_by p.now s old from.0 msg.now }
     {
         match msg {

@@ -173,8 +173,8 @@ module _ (p : Params) (me : ℕ) where
             let c = chosen-is p m y.input v s x a in
             let e = entered p m c.from.0 v c.changes c.sigs c.enters in
             let first = first-some (chosen_sig p m y.input v s) _ sig (some-too _ _ x (chosen-signed p me m y.input v s) a) g in
-            let refines = chosen-refines c.from.0 v c.changes p.slots c.sigs s sig (sym (chosen-sig-is m y.input c.from v s c.changes c.sigs c.sig c.input c.within c.enters) ∙ first) in
-            let there = in_right _ (changes_claims p c.changes) _ (in_left _ (chosen_claims p c.from.0 v c.changes p.slots c.sigs) _ refines) in
+            let stands = chosen-refines c.from.0 v c.changes p.slots c.sigs s sig (sym (chosen-sig-is m y.input c.from v s c.changes c.sigs c.sig c.input c.within c.enters) ∙ first) in
+            let there = in_right _ (changes_claims p c.changes) _ (in_left _ (chosen_claims p c.from.0 v c.changes p.slots c.sigs) _ stands) in
             let seen = came-with y (y ∷ ys) c.from (NewView v c.changes c.sigs c.sig) (claim c.from.0 (state_at p 1 v s (digest_of p (choice c.changes s))) sig) (inl refl) c.input there in
             subst (λ (z : Value). Seen (y ∷ ys) (claim (primary p v) (state_at p 1 v s (digest_of p z)) sig)) c.value
             (subst (λ (k : ℕ). Seen (y ∷ ys) (claim k (state_at p 1 v s (digest_of p (choice c.changes s))) sig)) e.by seen)
@@ -224,7 +224,7 @@ module _ (p : Params) (me : ℕ) where
               (the-sig (proposal_sig p me r.now v s.0) (some-too _ _ x (proposal-signed p me r.now v s.0) proposed)))
           | inr q ↦
               let u = vote-claim p v s.0 d (take (2 * p.setup.f) (prepares p (inputs r.now) v s.0 d)) t q in
-              subst (λ (z : Claim). Seen r.now z) (sym u.is) (prepare-seen r.now v s.0 d u.vote (in-take (2 * p.setup.f) u.vote (prepares p (inputs r.now) v s.0 d) u.refines))
+              subst (λ (z : Claim). Seen r.now z) (sym u.is) (prepare-seen r.now v s.0 d u.vote (in-take (2 * p.setup.f) u.vote (prepares p (inputs r.now) v s.0 d) u.stands))
         ])
 
   -- ---- what is signed by the leaves of a step
@@ -302,8 +302,8 @@ module _ (p : Params) (good : IsGoodParams pbft p) (me : ℕ) (xs : List (Item M
             let x = r.0 in
             let g = in-changes (change_of p (i ∷ inputs xs) v) 0 p.setup.n x (subst (λ (z : List Change). In x z) same r.1) in
             let k = change-of-is p (i ∷ inputs xs) v g.node x g.kept in
-            let refines : In c (claims p x.node.0 (ViewChange v x.certificates x.sig)) = subst (λ (z : ℕ). In c (change_claims p x.node.0 z x.certificates x.sig)) k.2.view r.2 in
-            inr (came-here k.0 x.node (ViewChange v x.certificates x.sig) c k.1 k.2.input refines)
+            let stands : In c (claims p x.node.0 (ViewChange v x.certificates x.sig)) = subst (λ (z : ℕ). In c (change_claims p x.node.0 z x.certificates x.sig)) k.2.view r.2 in
+            inr (came-here k.0 x.node (ViewChange v x.certificates x.sig) c k.1 k.2.input stands)
         | inr a ↦ elim (in_append c (chosen_claims p me v ys p.slots sigs) (claim me (state_new p v) last ∷ []) a) [
           | inl b ↦ inl (by-more p me leaf (choices p me v ys p.slots) (state_new p v ∷ []) c (choices-by p me leaf v ys p.slots c b))
           | inr b ↦

@@ -111,7 +111,7 @@ module _ (p : Params) (me : ℕ) where
   source-front a xs by t f (sent y k to msg h s e) = sent y (front-in y a xs f k) to msg h s e
 
   says-by : (from : ℕ) (msg : Message) (c : Claim) (by : ℕ) (t : List ℕ) → In c (claims p from msg) → c.by.0 ≡ by → c.statement ≡ t → Says pbft p from msg by t
-  says-by from msg c by t i b e = record { claim = c; refines = i; named = b; is = e }
+  says-by from msg c by t i b e = record { claim = c; stands = i; named = b; is = e }
 
   pub offer-asked : (l : List Said) (i : Said) (a : Slot × Batch) → ◌≡◌ {A = Option (Slot × Batch)} (offer p me (mode p l) i) (Some a) → proposal p me l 0 a.0.0 ≡ None → ◌≡◌ {A = Option (Slot × Batch)} (asked p me l i) (Some a)
   offer-asked l i a h g = ap (asked_of p me l) h ∙ ap (λ (z : Option Value). unless z a) g
@@ -193,7 +193,7 @@ module _ (p : Params) (good : IsGoodParams pbft p) (me : ℕ) where
             subst (λ (z : Claim). Source p me r.now z.by.0 z.statement) (sym q) there
         | inr q ↦
             let u = vote-claim p v s.0 d (take (2 * p.setup.f) (prepares p (inputs r.now) v s.0 d)) t q in
-            let there = prepare-source p me r.now v s.0 d u.vote (in-take (2 * p.setup.f) u.vote (prepares p (inputs r.now) v s.0 d) u.refines) in
+            let there = prepare-source p me r.now v s.0 d u.vote (in-take (2 * p.setup.f) u.vote (prepares p (inputs r.now) v s.0 d) u.stands) in
             subst (λ (z : Claim). Source p me r.now z.by.0 z.statement) (sym u.is) there
       ])
 
@@ -215,7 +215,7 @@ module _ (p : Params) (good : IsGoodParams pbft p) (me : ℕ) where
   change-passes : (xs : List (Item Message)) (i : Said) (leaf v : ℕ) (cs : List Certificate) (t : List ℕ) → AreMade pbft p me xs → cs ≡ tops (kept p me xs) p.slots → Says pbft p me (sign p me leaf (DraftViewChange v cs)) me t → Stated xs i (sign p me leaf (DraftViewChange v cs)) t
   change-passes xs i leaf v cs t made same s =
       let sig = signature p me leaf (state_change p v cs) in
-      elim (in_append s.claim (certificates_claims p cs) (claim me (state_change p v cs) sig ∷ []) s.refines) [
+      elim (in_append s.claim (certificates_claims p cs) (claim me (state_change p v cs) sig ∷ []) s.stands) [
         | inl a ↦
             let r = claim-certificate p s.claim cs a in
             let k = in-tops (kept p me xs) p.slots r.0 (subst (λ (z : List Certificate). In r.0 z) same r.1) in
@@ -228,14 +228,14 @@ module _ (p : Params) (good : IsGoodParams pbft p) (me : ℕ) where
   new-passes xs i leaf v ys t same s =
       let sigs = choice_sigs p me leaf v ys p.slots in
       let sig = signature p me (leaf + length p.slots) (state_new p v) in
-      elim (in_append s.claim (changes_claims p ys) (chosen_claims p me v ys p.slots sigs ++ claim me (state_new p v) sig ∷ []) s.refines) [
+      elim (in_append s.claim (changes_claims p ys) (chosen_claims p me v ys p.slots sigs ++ claim me (state_new p v) sig ∷ []) s.stands) [
         | inl a ↦
             let r = claim-change p s.claim ys a in
             let x = r.0 in
             let g = in-changes (change_of p (i ∷ inputs xs) v) 0 p.setup.n x (subst (λ (z : List Change). In x z) same r.1) in
             let c = change-of-is p (i ∷ inputs xs) v g.node x g.kept in
-            let refines : In s.claim (claims p x.node.0 (ViewChange v x.certificates x.sig)) = subst (λ (z : ℕ). In s.claim (change_claims p x.node.0 z x.certificates x.sig)) c.2.view r.2 in
-            inr (old-input xs i c.0 x.node (ViewChange v x.certificates x.sig) t c.1 c.2.input (record { claim = s.claim; refines = refines; named = s.named; is = s.is }))
+            let stands : In s.claim (claims p x.node.0 (ViewChange v x.certificates x.sig)) = subst (λ (z : ℕ). In s.claim (change_claims p x.node.0 z x.certificates x.sig)) c.2.view r.2 in
+            inr (old-input xs i c.0 x.node (ViewChange v x.certificates x.sig) t c.1 c.2.input (record { claim = s.claim; stands = stands; named = s.named; is = s.is }))
         | inr a ↦ elim (in_append s.claim (chosen_claims p me v ys p.slots sigs) (claim me (state_new p v) sig ∷ []) a) [
           | inl b ↦ let r = chosen-claim p me v ys p.slots sigs s.claim b in inl (inl (r.slot, r.within, sym s.is ∙ r.is))
           | inr b ↦ inl (inr (only-one xs i t (state_new p v) sig s.claim b s.is))
@@ -243,16 +243,16 @@ module _ (p : Params) (good : IsGoodParams pbft p) (me : ℕ) where
       ]
 
   draft-passes : (xs : List (Item Message)) (i : Said) (leaf : ℕ) (d : Draft) (t : List ℕ) → AreMade pbft p me xs → Rule p me xs i d → Says pbft p me (sign p me leaf d) me t → Stated xs i (sign p me leaf d) t
-  draft-passes xs i leaf (DraftPrePrepare s x) t made r h = inl (only-one xs i t (state_at p 1 0 s.0 (digest_of p x)) _ h.claim h.refines h.is)
-  draft-passes xs i leaf (DraftPrepare v s d) t made r h = inl (only-one xs i t (state_at p 2 v s.0 d) _ h.claim h.refines h.is)
-  draft-passes xs i leaf (DraftCommit v s d) t made r h = inl (only-one xs i t (state_at p 3 v s.0 d) _ h.claim h.refines h.is)
+  draft-passes xs i leaf (DraftPrePrepare s x) t made r h = inl (only-one xs i t (state_at p 1 0 s.0 (digest_of p x)) _ h.claim h.stands h.is)
+  draft-passes xs i leaf (DraftPrepare v s d) t made r h = inl (only-one xs i t (state_at p 2 v s.0 d) _ h.claim h.stands h.is)
+  draft-passes xs i leaf (DraftCommit v s d) t made r h = inl (only-one xs i t (state_at p 3 v s.0 d) _ h.claim h.stands h.is)
   draft-passes xs i leaf (DraftViewChange v cs) t made r h = change-passes xs i leaf v cs t made (change-rule p me xs i v cs r).holds h
   draft-passes xs i leaf (DraftNewView v ys) t made r h = new-passes xs i leaf v ys t (starts-with p me xs i v ys r).changes h
 
 pub passes : (p : Params) → IsGoodParams pbft p → PassesOn pbft p (States p)
 passes p good w legal me i leaf correct may to msg t h k =
     let d = signed-draft p me leaf (drafts p me (w me) i) to msg h in
-    let r = rule-of p me (w me) i d.draft d.refines in
+    let r = rule-of p me (w me) i d.draft d.stands in
     let said = subst (λ (z : Message). Says pbft p me z me t) d.is k in
     subst (λ (z : Message). States p me z t ⊎ IsOld pbft p me (w me) i me t) (sym d.is) (draft-passes p good me (w me) i d.leaf d.draft t (legal.made me) r said)
 

@@ -269,5 +269,5 @@ module _ (p : Params) (good : IsGoodParams pbft p) (me : ℕ) where
   pub sent-again : (xs : List (Item Message)) (i : Said) (leaf : ℕ) (to : To) (msg : Message) → AreHeard pbft p me xs → IsHeard pbft p i → In {A = To × Message} (to, msg) (makes p me xs i leaf).sends → IsReadMessage pbft p msg
   sent-again xs i leaf to msg heard hears h =
       let d = signed-draft p me leaf (drafts p me xs i) to msg h in
-      let f = rule-fits xs i (heard-all p me xs heard) (heard-fits p i hears) d.leaf d.draft (rule-of p me xs i d.draft d.refines) in
+      let f = rule-fits xs i (heard-all p me xs heard) (heard-fits p i hears) d.leaf d.draft (rule-of p me xs i d.draft d.stands) in
       fits-again p.setup.version msg (subst (λ (z : Message). fits p.setup.version z ≡ true) (sym d.is) f)

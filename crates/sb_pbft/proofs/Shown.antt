@@ -95,10 +95,10 @@ module _ (p : Params) (good : IsGoodParams pbft p) (w : World Message) (legal : 
   pub source-granted : (i by : ℕ) (t : List ℕ) → Source p i (w i) by t → Granted p w by t
   source-granted i by t (came x k from msg q s) correct =
       let c = came-credible i x from msg k q in
-      let signed = c.signed s.claim s.refines (ap (λ (z : ℕ). is_correct p.setup z) s.named ∙ correct) in
+      let signed = c.signed s.claim s.stands (ap (λ (z : ℕ). is_correct p.setup z) s.named ∙ correct) in
       subst (λ (z : ℕ). IsSigned pbft p w z t) s.named (subst (λ (z : List ℕ). IsSigned pbft p w s.claim.by.0 z) s.is signed)
   source-granted i by t (sent x k to msg h s e) correct =
-      let signed : IsSigned pbft p w i t = record { item = x; taken = k; to = to; msg = msg; sent = h; claim = s.claim; made = s.refines; by = s.named; is = s.is } in
+      let signed : IsSigned pbft p w i t = record { item = x; taken = k; to = to; msg = msg; sent = h; claim = s.claim; made = s.stands; by = s.named; is = s.is } in
       subst (λ (z : ℕ). IsSigned pbft p w z t) (sym e) signed
 
   -- ---- what came fits

@@ -6,10 +6,10 @@ ghost use Rattle.iss_sb.specs.Evidence.{Item};
 ghost use Rattle.sb_pbft.specs.Pbft.{asks, pbft};
 ghost use Rattle.sb_pbft.specs.Refines.{Does, Refines};
 
-use crate::changes::ViewChanges;
+use crate::prepared::PreparedCertificates;
 use crate::proposals::Proposals;
 use crate::tallies::Votes;
-use crate::tops::PreparedCertificates;
+use crate::view_changes::ViewChanges;
 use iss_keys::Keys;
 use iss_request::{Batch, Bytes, DecodeError, Fields, NoMemory, NodeId, Seq, Slot, Value, Writer};
 use iss_sb::{Claim, Effects, Input, Params, Sequenced, StepError};

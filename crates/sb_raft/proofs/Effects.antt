@@ -47,7 +47,7 @@ cast-leads p s slot h = (cast-parts p s slot h).leads
 
 pub data Turn (p : Params) (me : ℕ) (s : State) (i : Input Message) (v : State) : Type 0 where
   follows : v.role ≡ Follower → Turn p me s i v
-  refines : v.role ≡ Candidate → s.role ≡ Candidate → s.term ≡ v.term → v.log ≡ s.log → (v.granted ≡ s.granted) ⊎ ((j : NodeId) × (i ≡ Receive j (Vote v.term true)) × (v.granted ≡ set_at s.granted j.0 true)) → Turn p me s i v
+  stands : v.role ≡ Candidate → s.role ≡ Candidate → s.term ≡ v.term → v.log ≡ s.log → (v.granted ≡ s.granted) ⊎ ((j : NodeId) × (i ≡ Receive j (Vote v.term true)) × (v.granted ≡ set_at s.granted j.0 true)) → Turn p me s i v
   runs : v.role ≡ Candidate → s.term < v.term → v.log ≡ s.log → v.vote ≡ Some me → v.granted ≡ (λ k. k == me) → Turn p me s i v
   rules : v.role ≡ Leader → s.role ≡ Leader → s.term ≡ v.term → (own : List Entry) → v.log ≡ s.log ++ own → OfTerm v.term own → v.granted ≡ s.granted → Turn p me s i v
   wins : v.role ≡ Leader → s.role ≡ Candidate → s.term ≡ v.term → (j : NodeId) → i ≡ Receive j (Vote v.term true) → v.granted ≡ set_at s.granted j.0 true → p.setup.quorum ≤ count_below v.granted p.setup.n → (own : List Entry) → v.log ≡ s.log ++ own → OfTerm v.term own → Turn p me s i v
@@ -58,7 +58,7 @@ same_turn p me s i v r t l g = go s.role refl
   where
     go : (x : Role) → s.role ≡ x → Turn p me s i v
     go Follower e = follows (r ∙ e)
-    go Candidate e = refines (r ∙ e) e (sym t) l (inl g)
+    go Candidate e = stands (r ∙ e) e (sym t) l (inl g)
     go Leader e = rules (r ∙ e) e (sym t) [] (l ∙ sym (append-nil s.log)) (λ x i. elim i [ ]) g
 
 pub turn_level : (p : Params) (me : ℕ) (s : State) (i : Input Message) (v : State) → Handled p me s i v → Turn p me s i v
@@ -70,7 +70,7 @@ turn_level p me s i v (back j x ei r nx lx e) = same_turn p me s i v (ap (λ (z 
 turn_level p me s i v (grant j last lt ei g e) = same_turn p me s i v (ap (λ (z : State). z.role) e) (ap (λ (z : State). z.term) e) (ap (λ (z : State). z.log) e) (ap (λ (z : State). z.granted) e)
 turn_level p me s i v (voted j ei r e) =
     let t = ap (λ (z : State). z.term) e in
-    refines (ap (λ (z : State). z.role) e ∙ r) r (sym t) (ap (λ (z : State). z.log) e) (inr (j, subst (λ (z : ℕ). i ≡ Receive j (Vote z true)) (sym t) ei, ap (λ (z : State). z.granted) e))
+    stands (ap (λ (z : State). z.role) e ∙ r) r (sym t) (ap (λ (z : State). z.log) e) (inr (j, subst (λ (z : ℕ). i ≡ Receive j (Vote z true)) (sym t) ei, ap (λ (z : State). z.granted) e))
 turn_level p me s i v (win j ei r n e) =
     let t = ap (λ (z : State). z.term) e in
     let g = ap (λ (z : State). z.granted) e in
@@ -89,7 +89,7 @@ turn_level p me s i v (alone ei r n e) =
 -- after a message of a higher term the node follows, but for a timeout
 turn_raised : (p : Params) (me : ℕ) (s u : State) (i : Input Message) (v : State) → s.term < u.term → u.role ≡ Follower → u.log ≡ s.log → Turn p me u i v → u.term ≤ v.term → Turn p me s i v
 turn_raised p me s u i v l r lg (follows e) m = follows e
-turn_raised p me s u i v l r lg (refines a b c d e) m = let z = sym r ∙ b in cc
+turn_raised p me s u i v l r lg (stands a b c d e) m = let z = sym r ∙ b in cc
 turn_raised p me s u i v l r lg (runs a b c d e) m = runs a (omega arith) (c ∙ lg) d e
 turn_raised p me s u i v l r lg (rules a b c d e f g) m = let z = sym r ∙ b in cc
 turn_raised p me s u i v l r lg (wins a b c d e f g h k o) m = let z = sym r ∙ b in cc

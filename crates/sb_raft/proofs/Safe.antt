@@ -26,7 +26,7 @@ use Rattle.sb_raft.proofs.Histories.{lead_at}
 use Rattle.sb_raft.proofs.Inv.{Inv}
 use Rattle.sb_raft.proofs.Elections.{LeadOf, histories, mom, older, front_tail, facts, elected, later_term}
 use Rattle.sb_raft.proofs.Delivers.{delivered-is, take-drop}
-use Rattle.sb_raft.proofs.Batches.{later-plain, refines}
+use Rattle.sb_raft.proofs.Batches.{later-plain, stands}
 use Rattle.sb_raft.proofs.Casts.{first-cast}
 use Rattle.sb_raft.proofs.Agree.{agree, inv-of, keeps, starts}
 
@@ -68,7 +68,7 @@ module _ (p : Params) (w : World Message) (good : IsGoodParams raft p) (legal : 
       let n = (state p i (w i)).commit in
       let log = (state p i (w i)).log in
       let dx : decided p i (w i) s.0 ≡ Some (Value_batch c) = sym (delivered-is p i (w i) s.0) ∙ d in
-      let st = refines s.0 p.slots c (take n log) dx in
+      let st = stands s.0 p.slots c (take n log) dx in
       let whole : log ≡ st.front ++ (st.entry ∷ (st.rest ++ drop n log)) = sym (take-drop n log) ∙ (ap (λ (z : List Entry). z ++ drop n log) st.is ∙ append_assoc st.front (st.entry ∷ st.rest) (drop n log)) in
       let own = batch-owned i (w i) (front_self (w i)) st.front st.entry (st.rest ++ drop n log) c whole st.holds in
       let same : own.slot ≡ st.slot = some-injective own.slot st.slot (sym own.place ∙ st.place) in

@@ -6,7 +6,7 @@ ghost use Rattle.sb_raft.specs.Rules.{is_candidate, is_leader, on_message};
 ghost use Rattle.sb_raft.specs.Refines.{Does, IsLow, Refines, held, role_of};
 
 use crate::log::Log;
-use crate::marks::PerPeer;
+use crate::per_peer::PerPeer;
 use iss_keys::Keys;
 use iss_request::{Batch, DecodeError, Fields, NoMemory, NodeId, Seq, Slot, Writer};
 use iss_sb::{Claim, Effects, Input, Params, Sequenced, StepError};

@@ -9,7 +9,7 @@ ghost use Rattle.sb_raft.specs.Rules.{candidate, counted, free_for, grants, is_c
 ghost use Rattle.sb_raft.specs.Rules.{on_ask, on_cast, on_not_ok, on_ok, on_reply, on_timeout, on_vote, raised, stands_up, won};
 ghost use Rattle.sb_raft.specs.Refines.{Does, HasRoom, IsLow, cast_of, held, merges, role_of};
 
-use crate::marks::{PerPeer, count};
+use crate::per_peer::{PerPeer, count};
 use crate::raft::{Raft, Role};
 use crate::sending::{one, only, reply};
 use iss_request::{Batch, NoMemory, NodeId, Seq, Slot};

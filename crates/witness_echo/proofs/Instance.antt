@@ -36,7 +36,7 @@ use Rattle.sb_echo.specs.declared.word.Word.TheVariants.{Say, Echo}
 use Rattle.sb_echo.specs.Echo.{claim, claims, digest_of, echo, statement, string_of}
 use Rattle.sb_echo.proofs.Lawful.{digest-length}
 use Rattle.sb_echo.proofs.Spelling.{echo-again, say-again}
-use Rattle.witness_echo.specs.Shown.{IsShown, batch, echoed, four, instance, rules, said}
+use Rattle.witness_echo.specs.Shown.{IsWitness, batch, echoed, four, instance, rules, said}
 
 setup-good : IsGoodSetup four
 setup-good = record {
@@ -308,7 +308,7 @@ by-few x (inr (inl q)) e = absurd (omega (arith, ap (λ (y : Signed). y.by) q, e
 by-few x (inr (inr (inl q))) e = absurd (omega (arith, ap (λ (y : Signed). y.by) q, e))
 by-few x (inr (inr (inr none))) e = none
 
-pub shown : ((w : Cluster Word) → Separate (Among w.strings) → Reach four S R echo w → Ordered four R echo w.pasts) → IsShown
+pub shown : ((w : Cluster Word) → Separate (Among w.strings) → Reach four S R echo w → Ordered four R echo w.pasts) → IsWitness
 shown composed = record {
   cluster = w5;
   reached = r5.reach;

@@ -1,8 +1,8 @@
 use Rattle.std.proofs.Common.{◌∙◌, sym}
 use Rattle.sb_pbft.specs.Places.{top_at}
 use Rattle.sb_pbft.proofs.Tables.{tops-step, tops-still}
-use Rattle.sb_pbft.proofs.tops.PreparedCertificates.of_slots.Goals as goal
-use Rattle.sb_pbft.proofs.tops.PreparedCertificates.of_slots.Goals.{in-Some+in_ok-copy+in_ok-push, in_default}
+use Rattle.sb_pbft.proofs.prepared.PreparedCertificates.of_slots.Goals as goal
+use Rattle.sb_pbft.proofs.prepared.PreparedCertificates.of_slots.Goals.{in-Some+in_ok-copy+in_ok-push, in_default}
 
 pub loop-slot-preserved : goal.loop-slot-preserved
 loop-slot-preserved c =

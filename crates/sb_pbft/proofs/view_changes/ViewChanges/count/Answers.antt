@@ -1,7 +1,7 @@
 use Rattle.sb_pbft.specs.Places.{change_at}
 use Rattle.sb_pbft.proofs.Tables.{change-count-step, change-count-still}
-use Rattle.sb_pbft.proofs.changes.ViewChanges.count.Goals as goal
-use Rattle.sb_pbft.proofs.changes.ViewChanges.count.Goals.{then-has, else-has}
+use Rattle.sb_pbft.proofs.view_changes.ViewChanges.count.Goals as goal
+use Rattle.sb_pbft.proofs.view_changes.ViewChanges.count.Goals.{then-has, else-has}
 
 pub loop-node-preserved : goal.loop-node-preserved
 loop-node-preserved c =

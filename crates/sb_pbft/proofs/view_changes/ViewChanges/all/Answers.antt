@@ -1,8 +1,8 @@
 use Rattle.std.proofs.Common.{◌∙◌, sym}
 use Rattle.sb_pbft.specs.Places.{change_at}
 use Rattle.sb_pbft.proofs.Tables.{change-step, change-still}
-use Rattle.sb_pbft.proofs.changes.ViewChanges.all.Goals as goal
-use Rattle.sb_pbft.proofs.changes.ViewChanges.all.Goals.{in-Some+in_ok-copy+in_ok-push, in_default}
+use Rattle.sb_pbft.proofs.view_changes.ViewChanges.all.Goals as goal
+use Rattle.sb_pbft.proofs.view_changes.ViewChanges.all.Goals.{in-Some+in_ok-copy+in_ok-push, in_default}
 
 pub loop-node-preserved : goal.loop-node-preserved
 loop-node-preserved c =
