@@ -10,24 +10,16 @@ use Rattle.iss_request.specs.Formats.{spell_batch, spell_value, value_string, ve
 use Rattle.iss_request.specs.declared.requests.Batch.{Batch}
 use Rattle.iss_request.specs.declared.requests.Value.TheVariants.{Nil as Value_nil, Batch as Value_batch}
 use Rattle.iss_sb.specs.declared.effects.Params.{Params}
-use Rattle.iss_sb.specs.Statements.{four_bytes, statement_head, two_bytes}
+use Rattle.iss_sb.specs.Statements.{claim, four_bytes, statement_head, two_bytes}
 use Rattle.iss_sb.proofs.Statements.{four-is, two-is}
 use Rattle.iss_sb.specs.declared.effects.Claim.{Claim}
 use Rattle.std.specs.List.{flat_map}
 use Rattle.hs_tree.specs.declared.certificates.Signed.{Signed}
-use Rattle.hs_tree.specs.Statements.{claim, statement, vote_claims, vote_statement}
+use Rattle.hs_tree.specs.Statements.{statement, vote_claims, vote_statement}
 use Rattle.hs_tree.specs.Tree.{Form, plain_string, strings_of, value_of}
 
 abbrev start : ℕ → Written
 start version = record { version = version; bytes = [] }
-
-pub nil-written : (version : ℕ) (a b : Written) → a ≡ and_bytes (start version) (0x40 ∷ []) → b ≡ and_bytes a (0 ∷ []) → b.bytes ≡ value_string version Value_nil
-unfolding spell_value
-nil-written version a b ha hb = rw (hb, ha) refl
-
-pub batch-written : (version : ℕ) (batch : Batch) (a b c : Written) (first : ℕ) → first ≡ version_byte version → a ≡ and_bytes (start version) (0x40 ∷ []) → b ≡ and_bytes a (first ∷ []) → c ≡ and_bytes b (spell_batch b.version batch) → c.bytes ≡ value_string version (Value_batch batch)
-unfolding spell_value
-batch-written version batch a b c first hf ha hb hc = rw (hc, hb, hf, ha) refl
 
 pub vote-written : (p : Params) (form : Form) (tag phase view version : ℕ) (digest : List ℕ) (a b c d e : Written) → view < 2 ^ 32 → form.tag ≡ tag → a ≡ and_bytes (start version) (statement_head p tag) → b ≡ and_bytes a (6 ∷ []) → c ≡ and_bytes b (phase ∷ []) →
     d ≡ and_bytes c (to_be_bytes w32 view) → e ≡ and_bytes d digest → e.bytes ≡ vote_statement form p phase view digest

@@ -3,7 +3,7 @@ use Rattle.std.specs.Prelude.{ℕ, List, [], ◌∷◌, ◌++◌}
 use Rattle.iss_request.specs.Digest.{digest}
 use Rattle.iss_sb.specs.declared.effects.Claim.{Claim}
 use Rattle.iss_sb.specs.declared.effects.Params.{Params}
-use Rattle.iss_sb.specs.Statements.{four_bytes, statement_head, two_bytes}
+use Rattle.iss_sb.specs.Statements.{claim, four_bytes, statement_head, two_bytes}
 use Rattle.iss_sb.specs.declared.content.Content.{Content}
 use Rattle.hs_tree.specs.declared.certificates.Certificate.{Certificate}
 use Rattle.hs_tree.specs.declared.certificates.Certificate.TheVariants.{Root, Votes}
@@ -63,9 +63,6 @@ inside (Decide view shown sig) = shown
 inside (Vote phase view d sig) = Root
 
 -- ---- claims, in the order of the bytes
-
-abbrev pub claim : ℕ → List ℕ → List ℕ → Claim
-claim by statement sig = record { by = record { 0 = by }; statement = statement; sig = sig }
 
 abbrev pub vote_claims : List ℕ → List Signed → List Claim
 vote_claims statement [] = []

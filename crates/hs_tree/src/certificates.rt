@@ -6,7 +6,9 @@ ghost use Rattle.iss_request.specs.Formats.{is_signature};
 ghost use Rattle.iss_request.specs.Parsing.{block, byte, such_that};
 ghost use Rattle.hs_tree.specs.Certificates.{digest_of, fits, is_phase, is_quorum, is_rising, is_signed, parse_certificate, parse_signed, parse_signers, parse_votes, spell_certificate, spell_signed, view_of, votes_row};
 
-use iss_request::{Bytes, DecodeError, Fields, NoMemory, NodeId, Seq, Writer, read_signature};
+use iss_request::{
+    Bytes, DecodeError, Fields, NoMemory, NodeId, Seq, Writer, has_shape, read_signature,
+};
 use std::alloc::Global;
 
 // What stands for a certificate without a spelling: view 1, and no phase.
@@ -118,18 +120,6 @@ impl Certificate {
     }
 }
 
-/// Whether bytes have the shape of a signature: a height, a leaf, 67 digests and one for each level.
-pub fn has_shape(sig: &[u8]) -> bool
-    ensures { result ≡ is_signature sig.now }
-{
-    match sig {
-        [] => false,
-        [height, rest @ ..] => {
-            2 <= *height && *height <= 12 && rest.len() == 4 + 32 * (67 + *height as usize)
-        }
-    }
-}
-
 /// Whether a vote is of one of so many phases.
 pub fn is_phase(phases: u8, phase: u8) -> bool
     ensures { result ≡ is_phase phases phase }
@@ -232,24 +222,6 @@ pub fn write_certificate(
 
 // ---- reading
 
-/// Reads a digest.
-pub fn read_digest(f: &mut Fields) -> Result<[u8; 32], DecodeError>
-    ensures ok { IfOk result (λ d. IsRead (block 32) f.old f.new d) }
-    ensures bad { (at : ℕ) → result ≡ Err (DecodeError.BadField at) → IsUnreadable (block 32) f.old at }
-{
-    let bytes = f.read_bytes(32)?;
-    Ok(array_of(bytes))
-}
-
-fn array_of(bytes: &[u8]) -> [u8; 32]
-    requires { length bytes.now ≡ 32 }
-    ensures { result ≡ bytes.now }
-{
-    let mut digest = [0; 32];
-    digest.copy_from_slice(bytes);
-    digest
-}
-
 /// Reads a phase.
 pub fn read_phase(phases: u8, f: &mut Fields) -> Result<u8, DecodeError>
     ensures ok { IfOk result (λ n. IsRead (such_that (is_phase phases) byte) f.old f.new n) }
@@ -304,7 +276,7 @@ fn read_votes(
     ensures bad { (at : ℕ) → result ≡ Err (DecodeError.BadField at) → IsUnreadable (parse_votes phases view) f.old at }
 {
     let phase = read_phase(phases, f)?;
-    let digest = read_digest(f)?;
+    let digest = f.read_digest()?;
     let count = f.read_u8()?;
     let votes = read_signers(alloc, count, f)?;
     Ok(Certificate::Votes {

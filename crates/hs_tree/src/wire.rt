@@ -5,11 +5,9 @@ ghost use Rattle.hs_tree.specs.declared.certificates.Certificate.{Certificate};
 ghost use Rattle.hs_tree.specs.declared.messages.Message.{Message};
 ghost use Rattle.hs_tree.specs.Messages.{is_message, parse, parse_new_view, parse_prepare, parse_shown, parse_vote, spell, spell_shown};
 
-use crate::certificates::{
-    Certificate, has_shape, is_phase, read_certificate, read_digest, read_phase, write_certificate,
-};
+use crate::certificates::{Certificate, is_phase, read_certificate, read_phase, write_certificate};
 use crate::messages::Message;
-use iss_request::{Bytes, DecodeError, Fields, NoMemory, Writer, read_signature};
+use iss_request::{Bytes, DecodeError, Fields, NoMemory, Writer, has_shape, read_signature};
 use iss_sb::{Content, read_content, write_content};
 use std::alloc::Global;
 
@@ -254,7 +252,7 @@ fn read_vote(alloc: Global, phases: u8, f: &mut Fields) -> Result<Message, Decod
 {
     let phase = read_phase(phases, f)?;
     let view = f.read_u32()?;
-    let digest = read_digest(f)?;
+    let digest = f.read_digest()?;
     let sig = read_signature(alloc, f)?;
     Ok(Message::Vote {
         phase,

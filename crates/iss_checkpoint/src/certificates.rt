@@ -4,9 +4,10 @@ ghost use Rattle.std.specs.List.{flat_map};
 ghost use Rattle.iss_request.specs.Fields.{IsRead, IsUnreadable, and_bytes};
 ghost use Rattle.iss_checkpoint.specs.Certificates.{are_rising, cert_fits, cert_row, parse_cert, parse_signed, parse_signers, spell_cert, spell_signed};
 
-use crate::bodies::{has_shape, read_digest};
 use crate::votes::{Cert, Signed};
-use iss_request::{DecodeError, Epoch, Fields, NoMemory, NodeId, Seq, Writer, read_signature};
+use iss_request::{
+    DecodeError, Epoch, Fields, NoMemory, NodeId, Seq, Writer, has_shape, read_signature,
+};
 use std::alloc::Global;
 
 // What stands for a certificate without a spelling: one signer, whose signature has height 1.
@@ -109,7 +110,7 @@ pub fn read_cert(alloc: Global, epoch: Epoch, f: &mut Fields) -> Result<Cert, De
     ensures ok { IfOk result (λ c. IsRead (parse_cert epoch.0) f.old f.new c) }
     ensures bad { (at : ℕ) → result ≡ Err (DecodeError.BadField at) → IsUnreadable (parse_cert epoch.0) f.old at }
 {
-    let chain = read_digest(f)?;
+    let chain = f.read_digest()?;
     let requests = f.read_u64()?;
     let count = f.read_u8()?;
     let signers = read_signers(alloc, count, f)?;

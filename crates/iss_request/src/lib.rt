@@ -20,7 +20,8 @@ pub use requests::{Batch, Request, Value};
 pub use seqs::Seq;
 pub use setups::{Kind, Nodes, Policy, Setup, quorum};
 pub use values::{
-    decode_value, digest_of, encode_value, formats_are_exact, read_request, read_signature,
-    read_value, write_request, write_value,
+    batch_digest, batch_string, decode_value, digest_of, encode_value, formats_are_exact,
+    has_shape, is_spellable, read_batch_value, read_request, read_signature, read_value,
+    value_string, write_batch_value, write_request, write_value,
 };
 pub use versions::{is_second, requests_most, version_byte};

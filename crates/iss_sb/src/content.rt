@@ -1,13 +1,11 @@
 //! The content of a log entry (Raft) or of a tree node (HotStuff), and its bytes.
 ghost use Rattle.std.specs.Prelude.{◌≡◌, ℕ, IfOk, OnOk, Err};
 ghost use Rattle.iss_request.specs.Fields.{IsRead, IsUnreadable, and_bytes};
-ghost use Rattle.iss_request.specs.Formats.{is_batch, parse_value};
-ghost use Rattle.iss_request.specs.Parsing.{such_that};
-ghost use Rattle.iss_request.specs.declared.requests.Value.TheVariants.{Batch as Value_batch};
 ghost use Rattle.iss_sb.specs.Content.{parse_content, spell_content};
 
-use iss_request::values::write_batch;
-use iss_request::{Batch, DecodeError, Fields, NoMemory, Value, Writer, read_value, version_byte};
+use iss_request::{
+    Batch, DecodeError, Fields, NoMemory, Writer, read_batch_value, write_batch_value,
+};
 use std::alloc::Global;
 
 const NIL: u8 = 0;
@@ -45,23 +43,9 @@ pub fn write_content(content: &Content, out: &mut Writer) -> Result<(), NoMemory
         Content::Nil => out.put_u8(NIL),
         Content::Holds(batch) => {
             out.put_u8(HOLDS)?;
-            let first = version_byte(out.version());
-            out.put_u8(first)?;
-            write_batch(batch, out)
+            write_batch_value(batch, out)
         }
         Content::Mark => out.put_u8(MARK),
-    }
-}
-
-// Reads a value that is a batch.
-fn read_batch(alloc: Global, f: &mut Fields) -> Result<Batch, DecodeError>
-    ensures ok { IfOk result (λ b. IsRead (such_that is_batch (parse_value f.old.version)) f.old f.new (Value_batch b)) }
-    ensures bad { (at : ℕ) → result ≡ Err (DecodeError.BadField at) → IsUnreadable (such_that is_batch (parse_value f.old.version)) f.old at }
-{
-    let no_batch = f.bad_field();
-    match read_value(alloc, f)? {
-        Value::Batch(batch) => Ok(batch),
-        Value::Nil => Err(no_batch),
     }
 }
 
@@ -75,7 +59,7 @@ pub fn read_content(alloc: Global, f: &mut Fields) -> Result<Content, DecodeErro
     match kind {
         NIL => Ok(Content::Nil),
         HOLDS => {
-            let batch = read_batch(alloc, f)?;
+            let batch = read_batch_value(alloc, f)?;
             Ok(Content::Holds(batch))
         }
         MARK => Ok(Content::Mark),

@@ -9,7 +9,7 @@ pub mod sequenced;
 pub mod signing;
 
 pub use content::{Content, read_content, write_content};
-pub use effects::{Claim, Effects, Input, Params, StepError, To};
+pub use effects::{Claim, Effects, Input, Params, StepError, To, is_next};
 pub use laws::broadcast;
 pub use sequenced::Sequenced;
 pub use signing::{put_head, sign};

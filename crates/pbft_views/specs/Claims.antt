@@ -3,6 +3,7 @@ use Rattle.std.specs.Prelude.{ℕ, List, [], ◌∷◌, ◌++◌}
 use Rattle.iss_request.specs.declared.ids.Slot.{Slot}
 use Rattle.iss_sb.specs.declared.effects.Claim.{Claim}
 use Rattle.iss_sb.specs.declared.effects.Params.{Params}
+use Rattle.iss_sb.specs.Statements.{claim}
 use Rattle.pbft_wire.specs.declared.messages.Certificate.{Certificate}
 use Rattle.pbft_wire.specs.declared.messages.Change.{Change}
 use Rattle.pbft_wire.specs.declared.messages.Vote.{Vote}
@@ -11,9 +12,6 @@ use Rattle.pbft_wire.specs.declared.messages.Message.TheVariants.{PrePrepare, Pr
 use Rattle.pbft_wire.specs.Statements.{digest_of, state_at, state_change, state_new}
 use Rattle.pbft_views.specs.Choice.{choice}
 use Rattle.pbft_views.specs.Good.{primary}
-
-abbrev pub claim : ℕ → List ℕ → List ℕ → Claim
-claim by statement sig = record { by = record { 0 = by }; statement = statement; sig = sig }
 
 abbrev pub vote_claims : Params → ℕ → ℕ → List ℕ → List Vote → List Claim
 vote_claims p v s d [] = []

@@ -5,7 +5,8 @@ ghost use Rattle.pbft_wire.specs.Marks.{mark_of};
 ghost use Rattle.pbft_wire.specs.Statements.{digest_of, state_at};
 ghost use Rattle.pbft_wire.specs.declared.messages.Message.TheVariants.{NewView, PrePrepare, ViewChange};
 ghost use Rattle.pbft_views.specs.Choice.{choice};
-ghost use Rattle.pbft_views.specs.Claims.{certificate_claims, certificates_claims, change_claims, changes_claims, chosen_claims, claim, claims, vote_claims};
+ghost use Rattle.iss_sb.specs.Statements.{claim};
+ghost use Rattle.pbft_views.specs.Claims.{certificate_claims, certificates_claims, change_claims, changes_claims, chosen_claims, claims, vote_claims};
 
 use crate::choosing::choice_digest;
 use crate::goodness::primary;

@@ -1,9 +1,9 @@
 //! The messages from their bytes, field by field in the order of the parsers.
 ghost use Rattle.std.specs.Int.{w64};
-ghost use Rattle.std.specs.Prelude.{◌≡◌, ℕ, List, length, nat_le, IfOk, Err};
+ghost use Rattle.std.specs.Prelude.{◌≡◌, ℕ, List, nat_le, IfOk, Err};
 ghost use Rattle.iss_request.specs.Fields.{IsRead, IsUnreadable};
 ghost use Rattle.iss_request.specs.Formats.{parse_signature};
-ghost use Rattle.iss_request.specs.Parsing.{block, byte, number, such_that, times};
+ghost use Rattle.iss_request.specs.Parsing.{byte, number, such_that, times};
 ghost use Rattle.iss_request.specs.declared.ids.Slot.{Slot};
 ghost use Rattle.pbft_wire.specs.Certificates.{after_node, after_slot};
 ghost use Rattle.pbft_wire.specs.Certificates.{count, parse_certificate, parse_certificates, parse_change, parse_vote, parse_votes};
@@ -67,23 +67,6 @@ fn read_slot(last: Option<Slot>, f: &mut Fields) -> Result<u64, DecodeError>
         return Err(no_slot);
     }
     Ok(slot)
-}
-
-fn read_digest(f: &mut Fields) -> Result<[u8; 32], DecodeError>
-    ensures ok { IfOk result (λ d. IsRead (block 32) f.old f.new d) }
-    ensures bad { (at : ℕ) → result ≡ Err (DecodeError.BadField at) → IsUnreadable (block 32) f.old at }
-{
-    let bytes = f.read_bytes(32)?;
-    Ok(array_of(bytes))
-}
-
-fn array_of(bytes: &[u8]) -> [u8; 32]
-    requires { length bytes.now ≡ 32 }
-    ensures { result ≡ bytes.now }
-{
-    let mut digest = [0; 32];
-    digest.copy_from_slice(bytes);
-    digest
 }
 
 // ---- votes, certificates, ViewChanges
@@ -261,7 +244,7 @@ fn read_at(alloc: Global, f: &mut Fields) -> Result<At, DecodeError>
 {
     let view = f.read_u16()?;
     let slot = f.read_u64()?;
-    let digest = read_digest(f)?;
+    let digest = f.read_digest()?;
     let sig = read_signature(alloc, f)?;
     Ok(At {
         view,

@@ -11,28 +11,12 @@ ghost use Rattle.pbft_wire.specs.Messages.{as_is, at_bytes, fits, fits_at, fits_
 use crate::messages::{Certificate, Change, Message, Vote};
 use crate::reading::{node_follows, slot_follows};
 use crate::signing::{COMMIT, NEW_VIEW, PRE_PREPARE, PREPARE, VIEW_CHANGE};
-use iss_request::{Bytes, NoMemory, Request, Slot, Value, Writer, requests_most, write_value};
+use iss_request::{
+    Bytes, NoMemory, Request, Slot, Value, Writer, has_shape, is_spellable, requests_most,
+    write_value,
+};
 
 // ---- what has a spelling
-
-fn has_shape(sig: &[u8]) -> bool
-    ensures { result ≡ is_signature sig.now }
-{
-    match sig {
-        [] => false,
-        [height, rest @ ..] => {
-            2 <= *height && *height <= 12 && rest.len() == 4 + 32 * (67 + *height as usize)
-        }
-    }
-}
-
-fn is_spellable(request: &Request) -> bool
-    ensures { result ≡ has_spelling request.now }
-{
-    // Its range is part of the answer.
-    let _number = request.id.number;
-    request.payload.len() <= 256 && has_shape(request.sig.as_slice())
-}
 
 fn requests_fit(requests: &[Request]) -> bool
     ensures { result ≡ list_all has_spelling requests.now }

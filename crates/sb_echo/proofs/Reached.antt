@@ -21,7 +21,8 @@ use Rattle.iss_sb.proofs.Read.{batch-read}
 use Rattle.iss_sb.proofs.Signatures.{signature-shape, signature-verifies}
 use Rattle.sb_echo.specs.declared.word.Word.{Word}
 use Rattle.sb_echo.specs.declared.word.Word.TheVariants.{Say, Echo}
-use Rattle.sb_echo.specs.Echo.{claim, claims, echo, statement, string_of}
+use Rattle.iss_sb.specs.Statements.{claim}
+use Rattle.sb_echo.specs.Echo.{claims, echo, statement, string_of}
 use Rattle.sb_echo.proofs.Example.{b, cast, d, echo_from, node, p, setup, sig, slot, word}
 use Rattle.sb_echo.proofs.Safe.{echo-safe}
 use Rattle.sb_echo.proofs.Lawful.{digest-length}

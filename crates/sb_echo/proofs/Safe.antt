@@ -22,7 +22,8 @@ use Rattle.iss_sb.proofs.Quorums.{Meets, few-faulty, meets}
 use Rattle.sb_echo.specs.declared.word.Word.{Word}
 use Rattle.sb_echo.specs.declared.word.Word.TheVariants.{Say, Echo}
 use Rattle.iss_sb.proofs.Statements.{statement-same}
-use Rattle.sb_echo.specs.Echo.{claim, digest_of, echo, has_echo, statement, string_of, tag}
+use Rattle.iss_sb.specs.Statements.{claim}
+use Rattle.sb_echo.specs.Echo.{digest_of, echo, has_echo, statement, string_of, tag}
 use Rattle.sb_echo.proofs.Bytes.{one-batch}
 use Rattle.sb_echo.proofs.Facts.{IsTold, accepted-cause, decided-is, decided-stays, has_echo-is, once, sent-for, taken-accepted}
 use Rattle.sb_echo.proofs.Spelling.{say-read}

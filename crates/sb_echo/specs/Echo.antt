@@ -19,7 +19,7 @@ use Rattle.iss_sb.specs.declared.effects.To.{To}
 use Rattle.iss_sb.specs.declared.effects.To.TheVariants.{All as To_all}
 use Rattle.iss_sb.specs.Calls.{has_slot}
 use Rattle.iss_sb.specs.Evidence.{Item, Made, Module}
-use Rattle.iss_sb.specs.Statements.{eight_bytes, signature, statement_head}
+use Rattle.iss_sb.specs.Statements.{claim, eight_bytes, signature, statement_head}
 use Rattle.sb_echo.specs.declared.word.Word.{Word}
 use Rattle.sb_echo.specs.declared.word.Word.TheVariants.{Say, Echo}
 
@@ -38,9 +38,6 @@ tag = 6
 -- what is signed: the instance, the kind of the message, the slot, the digest
 abbrev pub statement : Params → ℕ → ℕ → List ℕ → List ℕ
 statement p kind s d = statement_head p tag ++ (kind ∷ (eight_bytes s ++ d))
-
-abbrev pub claim : ℕ → List ℕ → List ℕ → Claim
-claim by statement sig = record { by = record { 0 = by }; statement = statement; sig = sig }
 
 -- a message claims its own signature
 abbrev pub claims : Params → ℕ → Word → List Claim

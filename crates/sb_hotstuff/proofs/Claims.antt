@@ -11,7 +11,7 @@ use Rattle.iss_sb.specs.declared.effects.Input.TheVariants.{Cast, Receive, Timeo
 use Rattle.iss_sb.specs.declared.effects.Params.{Params}
 use Rattle.iss_sb.specs.declared.effects.To.{To}
 use Rattle.iss_sb.specs.Evidence.{Item, one_or_none}
-use Rattle.iss_sb.specs.Statements.{signature}
+use Rattle.iss_sb.specs.Statements.{claim, signature}
 use Rattle.iss_sb.proofs.Claims.{IsOld, PassesOn, Says, before, now, own}
 use Rattle.iss_sb.proofs.Leaves.{by-first, by-next}
 use Rattle.iss_sb.specs.Laws.{ComesWith, IsSignedBy, SignsOnce, WasSeen}
@@ -22,7 +22,7 @@ use Rattle.hs_tree.specs.declared.messages.Message.{Message}
 use Rattle.hs_tree.specs.declared.messages.Message.TheVariants.{NewView, Prepare, PreCommit, Commit, Decide, Vote}
 use Rattle.iss_sb.specs.declared.content.Content.TheVariants.{Nil}
 use Rattle.hs_tree.specs.Certificates.{digest_of, view_of}
-use Rattle.hs_tree.specs.Statements.{certificate_claims, claim, claims, inside, own_statement, signature_of, vote_claims, vote_statement, with_signature}
+use Rattle.hs_tree.specs.Statements.{certificate_claims, claims, inside, own_statement, signature_of, vote_claims, vote_statement, with_signature}
 use Rattle.hs_tree.specs.Tree.{basic, is_known}
 use Rattle.sb_hotstuff.specs.HotStuff.{answers, answers_heard, drafts, hotstuff, proposals, shows, sign_all, state, voted}
 use Rattle.sb_hotstuff.specs.Rules.{Kept, News, State, Turn, all_news, best, cast_turn, certificate, first_turn, heard, is_for, is_reached, is_ready, keeps_news, keeps_vote, kept, may_cast, may_end, may_prepare, may_second, may_third, news_of, next_turn, nil_or_mark, node_digest, proposed, round_of, slots_below, turn, turn_after, turn_on, vote_of, votes_of, with_cast, with_news, with_node, with_round, with_turn, with_vote}

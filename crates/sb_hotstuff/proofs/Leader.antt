@@ -11,12 +11,12 @@ use Rattle.iss_sb.specs.declared.effects.Input.TheVariants.{Cast, Receive, Timeo
 use Rattle.iss_sb.specs.declared.effects.Params.{Params}
 use Rattle.iss_sb.specs.declared.effects.To.{To}
 use Rattle.iss_sb.specs.declared.effects.To.TheVariants.{All as To_all}
-use Rattle.iss_sb.specs.Calls.{IsGoodParams}
+use Rattle.iss_sb.specs.Calls.{IsGoodParams, is_slot}
 use Rattle.iss_sb.specs.Evidence.{Item, IsString, Made, World, accepts}
 use Rattle.iss_sb.specs.Laws.{AreHeard}
 use Rattle.iss_sb.specs.Legal.{IsLegal}
 use Rattle.iss_sb.specs.Statements.{signature}
-use Rattle.iss_sb.proofs.Slots.{slot-is}
+use Rattle.iss_sb.proofs.Slots.{slot-is, slot-some}
 use Rattle.iss_sb.proofs.Worlds.{accepts-new, accepts-old}
 use Rattle.iss_sb.specs.declared.content.Content.{Content}
 use Rattle.iss_sb.specs.declared.content.Content.TheVariants.{Nil, Holds, Mark}
@@ -31,7 +31,7 @@ use Rattle.hs_tree.specs.Tree.{basic, filled, is_known, root, weight}
 use Rattle.iss_sb.proofs.Contents.{content-table}
 use Rattle.sb_hotstuff.specs.Facts.{Leads}
 use Rattle.sb_hotstuff.specs.HotStuff.{answers, asks, drafts, hotstuff, makes, proposals, shows, sign_all, state, strings_at, taken_of, turn_strings, voted}
-use Rattle.sb_hotstuff.specs.Rules.{State, Turn, all_news, best, cast_turn, certificate, first_turn, heard, is_reached, is_ready, is_slot, keeps_news, keeps_vote, kept, may_cast, may_end, may_prepare, may_second, may_third, next_turn, nil_or_mark, node_digest, proposed, round_of, slots_below, turn, turn_after, turn_on, with_cast, with_round, with_turn}
+use Rattle.sb_hotstuff.specs.Rules.{State, Turn, all_news, best, cast_turn, certificate, first_turn, heard, is_reached, is_ready, keeps_news, keeps_vote, kept, may_cast, may_end, may_prepare, may_second, may_third, next_turn, nil_or_mark, node_digest, proposed, round_of, slots_below, turn, turn_after, turn_on, with_cast, with_round, with_turn}
 use Rattle.iss_sb.proofs.Cases.{by-both}
 use Rattle.sb_hotstuff.proofs.Basics.{by-if, by-test, is-same}
 use Rattle.sb_hotstuff.proofs.Casts.{Same, after-kept, heard-same, state-more}
@@ -258,20 +258,13 @@ module _ (p : Params) (w : World Message) (good : IsGoodParams hotstuff p) (lega
   nth-last (a ∷ cs) c b zero h = inl h
   nth-last (a ∷ cs) c b (suc k) h = elim (nth-last cs c b k h) [ inl q ↦ inl q | inr q ↦ inr (ap suc q.0, q.1) ]
 
-  pub slot-of : (k : ℕ) (slot : Slot) → is_slot slot.0 (nth p.slots k) ≡ true → nth p.slots k ≡ Some slot
-  slot-of k slot h = go (nth p.slots k) refl h
-    where
-      go : (o : Option Slot) → nth p.slots k ≡ o → is_slot slot.0 o ≡ true → nth p.slots k ≡ Some slot
-      go None q e = absurd (true≢false (sym e))
-      go (Some t) q e = q ∙ ap (λ (z : Slot). Some z) (slot-is t slot (is-same t.0 slot.0 e))
-
   cast-kept : (s : State) (slot : Slot) (b : Batch) → may_cast p me s slot.0 ≡ true → In {A = Slot × Batch} (slot, b) (accepts (w me)) → Later (with_cast s b).casts → LeaderOk s → LeaderOk (with_cast s b)
   cast-kept s slot b q a l h = record {
     turns = h.turns;
     casts = λ k c e. elim (nth-last s.casts b c k e) [
       | inl old ↦ h.casts k c old
       | inr new ↦
-          let there = slot-of (length s.casts) slot (and-true _ (is_slot slot.0 (nth p.slots (length s.casts))) q).1 in
+          let there = slot-some slot (nth p.slots (length s.casts)) (and-true _ (is_slot slot.0 (nth p.slots (length s.casts))) q).1 in
           record { accepted = (slot, ap (λ (n : ℕ). nth p.slots n) new.0 ∙ there, subst (λ (z : Batch). In {A = Slot × Batch} (slot, z) (accepts (w me))) new.1 a); cast = l k c e }
     ];
   }

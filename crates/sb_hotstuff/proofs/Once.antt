@@ -10,7 +10,7 @@ use Rattle.iss_request.specs.declared.requests.Batch.{Batch}
 use Rattle.iss_sb.specs.declared.effects.Input.{Input}
 use Rattle.iss_sb.specs.declared.effects.Input.TheVariants.{Cast, Receive, Timeout}
 use Rattle.iss_sb.specs.declared.effects.Params.{Params}
-use Rattle.iss_sb.specs.Calls.{IsGoodParams}
+use Rattle.iss_sb.specs.Calls.{IsGoodParams, is_slot}
 use Rattle.iss_sb.specs.Evidence.{IsReached, IsString, Item, Made, Separate, World, accepts, is_correct}
 use Rattle.iss_sb.specs.Legal.{Front, IsLegal}
 use Rattle.iss_sb.proofs.Legal.{front-in, front_self, front_trans, legal-reached, made-front}
@@ -25,11 +25,10 @@ use Rattle.hs_tree.specs.Tree.{branch, root}
 use Rattle.hs_tree.proofs.Nodes.{branch-is}
 use Rattle.sb_hotstuff.specs.Facts.{AreOnce, Leads}
 use Rattle.sb_hotstuff.specs.HotStuff.{asks, hotstuff, offered, state, unless_accepted, was_accepted}
-use Rattle.sb_hotstuff.specs.Rules.{is_slot, may_cast, may_prepare, slots_below}
+use Rattle.sb_hotstuff.specs.Rules.{may_cast, may_prepare, slots_below}
 use Rattle.sb_hotstuff.proofs.Basics.{if-in, if-not, if-some}
 use Rattle.sb_hotstuff.proofs.Casts.{cast-new, front-more}
-use Rattle.sb_hotstuff.proofs.Leader.{slot-of}
-use Rattle.iss_sb.proofs.Slots.{ascending-above}
+use Rattle.iss_sb.proofs.Slots.{ascending-above, slot-some}
 use Rattle.sb_hotstuff.proofs.Safe.{leader-signed, proposed-cast, voted-reached}
 use Rattle.sb_hotstuff.proofs.Single.{AreVoted, is-taken, parts, state-tree, taken-has}
 
@@ -77,7 +76,7 @@ module _ (p : Params) (w : World Message) (good : IsGoodParams hotstuff p) (reac
       let casts = (state p l older).casts in
       record {
         place = length casts;
-        slot = slot-of p w good legal voted l (length casts) s (and-true _ (is_slot s.0 (nth p.slots (length casts))) q).1;
+        slot = slot-some s (nth p.slots (length casts)) (and-true _ (is_slot s.0 (nth p.slots (length casts))) q).1;
         cast = front-more p l (x ∷ older) (w l) f (length casts) b (cast-new p l x older s b e q);
       }
 

@@ -26,7 +26,8 @@ use Rattle.hs_tree.specs.declared.messages.Message.{Message}
 use Rattle.hs_tree.specs.declared.messages.Message.TheVariants.{Prepare}
 use Rattle.hs_tree.specs.Certificates.{digest_of}
 use Rattle.hs_tree.specs.Paths.{Has, hash}
-use Rattle.hs_tree.specs.Statements.{certificate_claims, claim, own_statement, vote_statement}
+use Rattle.iss_sb.specs.Statements.{claim}
+use Rattle.hs_tree.specs.Statements.{certificate_claims, own_statement, vote_statement}
 use Rattle.hs_tree.specs.Tree.{basic, filled, root, value_at, value_at_slot}
 use Rattle.sb_hotstuff.specs.Facts.{AreAgreed, AreBacked, AreExtending, AreFromLeader, AreRested, AreSafeVotes, HaveOneNode, HaveSharedAcceptor, IsVoted, Leads, VoteOnce}
 use Rattle.sb_hotstuff.specs.HotStuff.{hotstuff, state}

@@ -33,7 +33,8 @@ use Rattle.hs_tree.specs.declared.messages.Message.{Message}
 use Rattle.hs_tree.specs.declared.messages.Message.TheVariants.{NewView, Prepare, PreCommit, Commit, Decide, Vote}
 use Rattle.hs_tree.specs.Certificates.{digest_of, is_quorum, signers, view_of}
 use Rattle.hs_tree.specs.Paths.{Has, IsTree}
-use Rattle.hs_tree.specs.Statements.{certificate_claims, claim, inside, vote_claims, vote_statement}
+use Rattle.iss_sb.specs.Statements.{claim}
+use Rattle.hs_tree.specs.Statements.{certificate_claims, inside, vote_claims, vote_statement}
 use Rattle.hs_tree.specs.Tree.{basic, branch, filled, is_known, plain_string, root, strings_of, value_of}
 use Rattle.iss_sb.proofs.Contents.{content-table}
 use Rattle.hs_tree.proofs.MessageGrammar.{read-spelled}

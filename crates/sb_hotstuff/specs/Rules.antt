@@ -3,6 +3,7 @@ use Rattle.std.specs.Prelude.{ℕ, zero, suc, ◌+◌, ◌*◌, ◌/◌, ◌%◌
 use Rattle.iss_base.specs.Lists.{nth, same_bytes}
 use Rattle.iss_request.specs.declared.ids.Slot.{Slot}
 use Rattle.iss_request.specs.declared.requests.Batch.{Batch}
+use Rattle.iss_sb.specs.Calls.{is_slot}
 use Rattle.iss_sb.specs.declared.effects.Input.{Input}
 use Rattle.iss_sb.specs.declared.effects.Input.TheVariants.{Cast, Receive, Timeout}
 use Rattle.iss_sb.specs.declared.effects.Params.{Params}
@@ -138,10 +139,6 @@ best c [] = c
 best c (d ∷ ds) = if nat_lt (view_of c) (view_of d) then best d ds else best c ds
 
 -- ---- a cast at the leader in the first round, at the next slot
-
-abbrev pub is_slot : ℕ → Option Slot → Bool
-is_slot s None = false
-is_slot s (Some t) = t.0 == s
 
 abbrev pub may_cast : Params → ℕ → State → ℕ → Bool
 may_cast p me s slot = ((me == p.leader.0) && (round_of s.view == 0)) && is_slot slot (nth p.slots (length s.casts))

@@ -3,9 +3,9 @@ ghost use Rattle.std.specs.Prelude.{◌≡◌, ◌/◌, ◌&&◌, IsTrue};
 ghost use Rattle.iss_base.specs.Lists.{In, nth};
 ghost use Rattle.hs_tree.specs.Certificates.{digest_of};
 ghost use Rattle.hs_tree.specs.Tree.{is_known};
-ghost use Rattle.iss_sb.specs.Calls.{IsGoodParams};
+ghost use Rattle.iss_sb.specs.Calls.{is_slot, IsGoodParams};
 ghost use Rattle.sb_hotstuff.specs.HotStuff.{hotstuff};
-ghost use Rattle.sb_hotstuff.specs.Rules.{State, is_allowed, is_good, is_just, is_reached, is_shown, is_slot, is_timely, keeps_news, keeps_vote, may_cast, may_second, may_third, start};
+ghost use Rattle.sb_hotstuff.specs.Rules.{State, is_allowed, is_good, is_just, is_reached, is_shown, is_timely, keeps_news, keeps_vote, may_cast, may_second, may_third, start};
 ghost use Rattle.sb_hotstuff.specs.Refines.{RefinesState};
 
 use crate::ballots::Ballots;
@@ -15,7 +15,7 @@ use crate::turns::Turns;
 use hs_tree::certificates::is_phase;
 use hs_tree::{Certificate, Tree};
 use iss_request::{Batch, NodeId, Seq, Slot};
-use iss_sb::{Content, Params};
+use iss_sb::{Content, Params, is_next};
 use std::alloc::Global;
 
 /// How many phases a node passes.
@@ -72,16 +72,6 @@ pub fn is_allowed(p: &Params, round: u16, slots: usize, what: &Content) -> bool
         Content::Nil => round >= 1 && slots < p.slots.len(),
         Content::Holds(_) => round == 0 && slots < p.slots.len(),
         Content::Mark => round >= 1 && slots >= p.slots.len(),
-    }
-}
-
-// Whether the slot is that of this place in the segment.
-fn is_next(p: &Params, place: usize, slot: Slot) -> bool
-    ensures { result ≡ is_slot slot.0 (nth p.now.slots place) }
-{
-    match p.slots.as_slice().get(place) {
-        Some(next) => *next == slot,
-        None => false,
     }
 }
 

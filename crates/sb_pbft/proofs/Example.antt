@@ -18,7 +18,7 @@ use Rattle.iss_sb.specs.declared.effects.Params.{Params}
 use Rattle.iss_sb.specs.declared.effects.To.{To}
 use Rattle.iss_sb.specs.declared.effects.To.TheVariants.{All as To_all}
 use Rattle.iss_sb.specs.Evidence.{Item, Made, and_then, delivered}
-use Rattle.iss_sb.specs.Statements.{signature, wide_bytes}
+use Rattle.iss_sb.specs.Statements.{claim, signature, wide_bytes}
 use Rattle.pbft_wire.specs.declared.messages.Certificate.{Certificate}
 use Rattle.pbft_wire.specs.declared.messages.Change.{Change}
 use Rattle.pbft_wire.specs.declared.messages.Vote.{Vote}
@@ -26,7 +26,7 @@ use Rattle.pbft_wire.specs.declared.messages.Message.{Message}
 use Rattle.pbft_wire.specs.declared.messages.Message.TheVariants.{PrePrepare, Prepare, Commit, ViewChange, NewView}
 use Rattle.pbft_wire.specs.Statements.{digest_of, state_at, state_change, state_new, string_of}
 use Rattle.pbft_views.specs.Choice.{choice}
-use Rattle.pbft_views.specs.Claims.{claim, claims}
+use Rattle.pbft_views.specs.Claims.{claims}
 use Rattle.pbft_views.specs.Good.{is_good}
 use Rattle.sb_pbft.specs.Makes.{kept, makes}
 use Rattle.sb_pbft.specs.Pbft.{asks, pbft}

@@ -13,7 +13,7 @@ use Rattle.iss_sb.specs.Calls.{IsGoodParams, has_slot}
 use Rattle.iss_sb.specs.Evidence.{Item, Made}
 use Rattle.iss_sb.specs.Laws.{ComesWith, GoesWith, IsSignedBy, SignsOnce, WasSeen}
 use Rattle.iss_sb.specs.Legal.{AreMade, Front}
-use Rattle.iss_sb.specs.Statements.{signature}
+use Rattle.iss_sb.specs.Statements.{claim, signature}
 use Rattle.iss_sb.specs.declared.effects.Claim.{Claim}
 use Rattle.iss_sb.specs.declared.effects.Input.TheVariants.{Cast, Receive}
 use Rattle.iss_sb.specs.declared.effects.Params.{Params}
@@ -28,7 +28,7 @@ use Rattle.pbft_wire.specs.declared.messages.Message.{Message}
 use Rattle.pbft_wire.specs.declared.messages.Message.TheVariants.{NewView, PrePrepare, Prepare, ViewChange}
 use Rattle.pbft_wire.specs.declared.messages.Vote.{Vote}
 use Rattle.pbft_views.specs.Choice.{choice}
-use Rattle.pbft_views.specs.Claims.{certificate_claims, certificates_claims, change_claims, changes_claims, chosen_claims, claim, claims}
+use Rattle.pbft_views.specs.Claims.{certificate_claims, certificates_claims, change_claims, changes_claims, chosen_claims, claims}
 use Rattle.pbft_views.specs.Good.{primary}
 use Rattle.pbft_views.proofs.Claimed.{claim-certificate, claim-change, vote-claim}
 use Rattle.sb_pbft.specs.Makes.{Draft, DraftCommit, DraftNewView, DraftPrePrepare, DraftPrepare, DraftViewChange, certificate, choice_sigs, chosen_sig, drafts, first_sig, inputs, kept, makes, offered_sig, or_empty, proposal_sig, sig_for, sign, sign_all, tops, uses, uses_all}

@@ -13,7 +13,7 @@ use Rattle.iss_request.specs.declared.requests.Value.TheVariants.{Batch as Value
 use Rattle.iss_sb.specs.Calls.{IsGoodParams, has_slot}
 use Rattle.iss_sb.specs.Evidence.{IsReached, IsSigned, Item, Made, World, is_correct}
 use Rattle.iss_sb.specs.Legal.{AreMade, Front}
-use Rattle.iss_sb.specs.Statements.{signature}
+use Rattle.iss_sb.specs.Statements.{claim, signature}
 use Rattle.iss_sb.specs.declared.effects.Claim.{Claim}
 use Rattle.iss_sb.specs.declared.effects.Input.TheVariants.{Cast, Receive}
 use Rattle.iss_sb.specs.declared.effects.Params.{Params}
@@ -28,7 +28,7 @@ use Rattle.pbft_wire.specs.declared.messages.Message.{Message}
 use Rattle.pbft_wire.specs.declared.messages.Message.TheVariants.{Commit, NewView, PrePrepare, Prepare, ViewChange}
 use Rattle.pbft_wire.specs.declared.messages.Vote.{Vote}
 use Rattle.pbft_views.specs.Choice.{choice}
-use Rattle.pbft_views.specs.Claims.{certificate_claims, certificates_claims, change_claims, changes_claims, chosen_claims, claim, claims}
+use Rattle.pbft_views.specs.Claims.{certificate_claims, certificates_claims, change_claims, changes_claims, chosen_claims, claims}
 use Rattle.pbft_views.specs.Good.{primary}
 use Rattle.pbft_views.proofs.Claimed.{chosen-claim, claim-certificate, claim-change, vote-claim}
 use Rattle.sb_pbft.specs.Makes.{Draft, DraftCommit, DraftNewView, DraftPrePrepare, DraftPrepare, DraftViewChange, by_slot, certificate, choice_sigs, drafts, first_draft, inputs, kept, makes, sign, sign_all, tops}

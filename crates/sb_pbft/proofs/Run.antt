@@ -15,7 +15,7 @@ use Rattle.iss_sb.specs.declared.effects.To.{To}
 use Rattle.iss_sb.specs.declared.effects.To.TheVariants.{All as To_all}
 use Rattle.iss_sb.specs.Calls.{IsGoodParams}
 use Rattle.iss_sb.specs.Evidence.{Item, Made, World, IsCredible, IsReached, IsReadBatch, at_start, after, IsSigned, MayCome, Move, Verifies, delivered, empty_world, is_correct}
-use Rattle.iss_sb.specs.Statements.{signature}
+use Rattle.iss_sb.specs.Statements.{claim, signature}
 use Rattle.iss_sb.proofs.Read.{batch-read}
 use Rattle.iss_sb.proofs.Signatures.{signature-shape, signature-verifies}
 use Rattle.pbft_wire.specs.declared.messages.Message.{Message}
@@ -24,7 +24,7 @@ use Rattle.pbft_wire.specs.Certificates.{fits_certificate}
 use Rattle.pbft_wire.specs.Messages.{fits}
 use Rattle.pbft_wire.specs.Statements.{state_at, state_change, state_new, string_of}
 use Rattle.pbft_wire.proofs.MessageGrammar.{fits-again}
-use Rattle.pbft_views.specs.Claims.{certificate_claims, claim, claims}
+use Rattle.pbft_views.specs.Claims.{certificate_claims, claims}
 use Rattle.pbft_views.proofs.Statements.{digest-length}
 use Rattle.sb_pbft.specs.Makes.{makes}
 use Rattle.sb_pbft.specs.Pbft.{pbft}

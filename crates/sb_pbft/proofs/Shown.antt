@@ -25,7 +25,8 @@ use Rattle.pbft_wire.specs.declared.messages.Message.TheVariants.{NewView, PrePr
 use Rattle.pbft_wire.specs.declared.messages.Vote.{Vote}
 use Rattle.pbft_wire.proofs.MessageGrammar.{fits-read}
 use Rattle.pbft_views.specs.Choice.{certificates_of, choice}
-use Rattle.pbft_views.specs.Claims.{claim, vote_claims}
+use Rattle.iss_sb.specs.Statements.{claim}
+use Rattle.pbft_views.specs.Claims.{vote_claims}
 use Rattle.pbft_views.specs.Good.{primary}
 use Rattle.pbft_views.specs.Laws.{nodes_of}
 use Rattle.pbft_views.proofs.Good.{nodes-length}

@@ -14,7 +14,8 @@ use Rattle.iss_sb.specs.declared.content.Content.{Content}
 use Rattle.iss_sb.specs.declared.content.Content.TheVariants.{Holds}
 use Rattle.raft_wire.specs.declared.messages.Message.{Message}
 use Rattle.sb_raft.specs.Raft.{asks, raft, state}
-use Rattle.sb_raft.specs.Rules.{Follower, Candidate, Leader, State, is_slot, may_cast}
+use Rattle.iss_sb.specs.Calls.{is_slot}
+use Rattle.sb_raft.specs.Rules.{Follower, Candidate, Leader, State, may_cast}
 use Rattle.sb_raft.specs.Logs.{entry, filled}
 use Rattle.sb_raft.proofs.Steps.{Raise, level, higher, Handled, none, down, copy, reply, back, grant, voted, win, casts, times, alone, Next, next_cases}
 use Rattle.sb_raft.proofs.Effects.{cast-parts}

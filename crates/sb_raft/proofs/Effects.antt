@@ -12,7 +12,8 @@ use Rattle.iss_sb.specs.declared.content.Content.{Content}
 use Rattle.iss_sb.specs.declared.content.Content.TheVariants.{Holds}
 use Rattle.raft_wire.specs.declared.messages.Message.{Message}
 use Rattle.raft_wire.specs.declared.messages.Message.TheVariants.{Append, Vote}
-use Rattle.sb_raft.specs.Rules.{candidate, is_leader, is_slot, may_cast, Role, Follower, Candidate, Leader, State, filling, free_for, may_merge, log_limit}
+use Rattle.iss_sb.specs.Calls.{is_slot}
+use Rattle.sb_raft.specs.Rules.{candidate, is_leader, may_cast, Role, Follower, Candidate, Leader, State, filling, free_for, may_merge, log_limit}
 use Rattle.iss_base.specs.Quorum.{count_below}
 use Rattle.sb_raft.specs.Logs.{entry, fits_behind, last_term, merge, merged, nils, stay, filled}
 use Rattle.sb_raft.proofs.Core.{OfTerm}

@@ -9,7 +9,7 @@ use Rattle.iss_request.specs.declared.requests.Batch.{Batch}
 use Rattle.iss_sb.specs.declared.effects.Input.{Input}
 use Rattle.iss_sb.specs.declared.effects.Input.TheVariants.{Cast, Receive, Timeout}
 use Rattle.iss_sb.specs.declared.effects.Params.{Params}
-use Rattle.iss_sb.specs.Calls.{IsGoodParams}
+use Rattle.iss_sb.specs.Calls.{IsGoodParams, is_slot}
 use Rattle.iss_sb.specs.Evidence.{Item, Made, World, IsReached, accepts}
 use Rattle.iss_sb.specs.Legal.{AreMade}
 use Rattle.iss_sb.proofs.Legal.{legal-reached}
@@ -20,7 +20,7 @@ use Rattle.raft_wire.specs.declared.messages.Message.{Message}
 use Rattle.sb_raft.specs.Facts.{AreOnce}
 use Rattle.sb_raft.specs.Logs.{entry, filled}
 use Rattle.sb_raft.specs.Raft.{asks, raft, state}
-use Rattle.sb_raft.specs.Rules.{Follower, Candidate, Leader, State, Step, appends, is_slot, may_cast, on_cast, quiet, spread, step}
+use Rattle.sb_raft.specs.Rules.{Follower, Candidate, Leader, State, Step, appends, may_cast, on_cast, quiet, spread, step}
 use Rattle.sb_raft.proofs.Batches.{cl, fl, no-role}
 use Rattle.sb_raft.proofs.Effects.{Turn, follows, stands, runs, rules, wins, wins_alone, turn, cast-parts}
 use Rattle.sb_raft.proofs.Few.{filled-both}

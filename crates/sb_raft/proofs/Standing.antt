@@ -14,6 +14,7 @@ use Rattle.iss_sb.specs.declared.effects.Params.{Params}
 use Rattle.iss_sb.specs.Calls.{AllIn, Delivers, IsGoodParams, IsTaken, IsTrueStep, slots_of}
 use Rattle.iss_sb.specs.Evidence.{Item, and_then, delivered}
 use Rattle.iss_sb.specs.declared.effects.Input.TheVariants.{Cast}
+use Rattle.iss_sb.proofs.Slots.{place-In}
 use Rattle.raft_wire.specs.declared.entries.Entry.{Entry}
 use Rattle.raft_wire.specs.declared.messages.Message.{Message}
 use Rattle.sb_raft.specs.declared.raft.Raft.{Raft}
@@ -24,7 +25,7 @@ use Rattle.sb_raft.specs.Refines.{Does, IsLow, Refines, cast_of, held, newly}
 use Rattle.sb_raft.proofs.Bounds.{bounded}
 use Rattle.sb_raft.proofs.Delivers.{contents-both, delivered-is, grown, room}
 use Rattle.sb_raft.proofs.Few.{few, no-more}
-use Rattle.sb_raft.proofs.Lawful.{cast-next, nth-In}
+use Rattle.sb_raft.proofs.Lawful.{cast-next}
 use Rattle.sb_raft.proofs.Newly.{decided-fresh, fresh-ascending, fresh-decided, fresh-within}
 use Rattle.sb_raft.proofs.Prefixes.{pre_rest}
 
@@ -125,5 +126,5 @@ pub cast-inside : (p : Params) (s : State) (slot : Slot) (batch : Batch) → IfS
 cast-inside p s slot batch = go (may_cast p s slot.0) refl
   where
     go : (b : Bool) → may_cast p s slot.0 ≡ b → IfSome {T = Slot × Batch} (if b then Some (slot, batch) else None) (λ a. In a.0 p.slots)
-    go true h = nth-In slot p.slots (filled s.log) (cast-next p s slot.0 h)
+    go true h = place-In slot p.slots (filled s.log) (cast-next p s slot.0 h)
     go false h = tt

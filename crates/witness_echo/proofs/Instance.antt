@@ -13,7 +13,7 @@ use Rattle.iss_sb.specs.declared.effects.Input.{Input}
 use Rattle.iss_sb.specs.declared.effects.Input.TheVariants.{Cast, Receive}
 use Rattle.iss_sb.specs.Calls.{IsGoodParams}
 use Rattle.iss_sb.specs.Evidence.{IsCredible, IsReadBatch, IsReadMessage, Separate, is_correct}
-use Rattle.iss_sb.specs.Statements.{signature}
+use Rattle.iss_sb.specs.Statements.{claim, signature}
 use Rattle.iss_sb.proofs.Read.{batch-read}
 use Rattle.iss_sb.proofs.Signatures.{signature-shape}
 use Rattle.iss_composition.specs.Checkpoints.{is_good, scheme_of}
@@ -33,7 +33,7 @@ use Rattle.iss_rules.proofs.Layouts.{however-signed, own-verifies, sound-rules}
 use Rattle.iss_theorems.proofs.Tests.{over-new, over-old, own-is, separate-more}
 use Rattle.sb_echo.specs.declared.word.Word.{Word}
 use Rattle.sb_echo.specs.declared.word.Word.TheVariants.{Say, Echo}
-use Rattle.sb_echo.specs.Echo.{claim, claims, digest_of, echo, statement, string_of}
+use Rattle.sb_echo.specs.Echo.{claims, digest_of, echo, statement, string_of}
 use Rattle.sb_echo.proofs.Lawful.{digest-length}
 use Rattle.sb_echo.proofs.Spelling.{echo-again, say-again}
 use Rattle.witness_echo.specs.Shown.{IsWitness, batch, echoed, four, instance, rules, said}

@@ -3,7 +3,7 @@ use Rattle.sha2.specs.Hashers.{Holds256}
 use Rattle.iss_request.specs.Formats.{version_byte, spell_batch}
 use Rattle.iss_request.specs.declared.requests.Value.TheVariants.{Batch as Value_batch}
 use Rattle.iss_request.proofs.FormatLemmas.{holds_spelled}
-use Rattle.hs_tree.proofs.hashing.batch_digest.Goals as goal
+use Rattle.iss_request.proofs.values.batch_digest.Goals as goal
 
 pub returns : goal.returns
 returns c =

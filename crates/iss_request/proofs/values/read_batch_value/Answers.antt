@@ -2,7 +2,7 @@ use Rattle.std.proofs.Common.{refl}
 use Rattle.iss_request.specs.Formats.{is_batch, parse_value}
 use Rattle.iss_request.specs.Parsing.{such_that}
 use Rattle.iss_request.proofs.Readings.{exit, named, read_passed, unread_failed, unread_tested}
-use Rattle.sb_relay.proofs.say.read_batch.Goals as goal
+use Rattle.iss_request.proofs.values.read_batch_value.Goals as goal
 
 pub returns-in_err-batch-clause-bad : goal.returns-in_err-batch-clause-bad
 returns-in_err-batch-clause-bad c =
