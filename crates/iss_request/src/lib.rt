@@ -18,9 +18,9 @@ pub use fields::{Fields, Writer};
 pub use ids::{Epoch, NodeId, ReqId, Slot};
 pub use requests::{Batch, Request, Value};
 pub use seqs::Seq;
-pub use setups::{Kind, Nodes, Policy, Setup, quorum};
+pub use setups::{Kind, Nodes, Policy, Setup, nodes_of_kind, quorum};
 pub use values::{
-    decode_value, digest_of, encode_value, formats_are_exact, read_request, read_signature,
-    read_value, write_request, write_value,
+    decode_value, digest_of, encode_value, formats_are_exact, has_shape, read_request,
+    read_signature, read_value, write_request, write_value,
 };
 pub use versions::{is_second, requests_most, version_byte};

@@ -36,8 +36,9 @@ fn is_tree_height(height: u8) -> bool
     2 <= height && height <= 12
 }
 
-// Whether bytes have the shape of a signature: a height, a leaf, 67 digests and one for each level.
-fn has_shape(sig: &[u8]) -> bool
+/// Whether bytes have the shape of a signature: a height, a leaf, 67 digests and one for each level. Whether it
+/// verifies is not looked at.
+pub fn has_shape(sig: &[u8]) -> bool
     ensures { result ≡ is_signature sig.now }
 {
     match sig {
