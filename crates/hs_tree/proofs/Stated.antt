@@ -14,7 +14,7 @@ use Rattle.iss_sb.specs.Statements.{claim, four_bytes, statement_head, two_bytes
 use Rattle.iss_sb.proofs.Statements.{four-is, two-is}
 use Rattle.iss_sb.specs.declared.effects.Claim.{Claim}
 use Rattle.std.specs.List.{flat_map}
-use Rattle.hs_tree.specs.declared.certificates.Signed.{Signed}
+use Rattle.iss_sb.specs.declared.signers.Signed.{Signed}
 use Rattle.hs_tree.specs.Statements.{statement, vote_claims, vote_statement}
 use Rattle.hs_tree.specs.Tree.{Form, plain_string, strings_of, value_of}
 

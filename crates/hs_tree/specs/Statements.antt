@@ -7,7 +7,7 @@ use Rattle.iss_sb.specs.Statements.{claim, four_bytes, statement_head, two_bytes
 use Rattle.iss_sb.specs.declared.content.Content.{Content}
 use Rattle.hs_tree.specs.declared.certificates.Certificate.{Certificate}
 use Rattle.hs_tree.specs.declared.certificates.Certificate.TheVariants.{Root, Votes}
-use Rattle.hs_tree.specs.declared.certificates.Signed.{Signed}
+use Rattle.iss_sb.specs.declared.signers.Signed.{Signed}
 use Rattle.hs_tree.specs.declared.messages.Message.{Message}
 use Rattle.hs_tree.specs.declared.messages.Message.TheVariants.{NewView, Prepare, PreCommit, Commit, Decide, Vote}
 use Rattle.hs_tree.specs.Certificates.{digest_of, view_of}

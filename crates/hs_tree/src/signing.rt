@@ -6,10 +6,10 @@ ghost use Rattle.hs_tree.specs.Hashed.{IsHashed};
 ghost use Rattle.hs_tree.specs.Statements.{certificate_claims, statement, vote_claims, vote_statement};
 ghost use Rattle.hs_tree.specs.Tree.{Form, kind_of, plain_string, strings_of, value_digest, value_of};
 
-use crate::certificates::{Certificate, Signed};
+use crate::certificates::Certificate;
 use crate::wire::{NEW_VIEW, VOTE};
 use iss_request::{Bytes, NoMemory, Seq, Value, Writer, batch_string, value_string};
-use iss_sb::{Claim, Content, Params, put_head};
+use iss_sb::{Claim, Content, Params, Signed, put_head};
 use sha2::{Digest, Sha256};
 use std::alloc::Global;
 

@@ -11,10 +11,10 @@ ghost use Rattle.pbft_views.specs.Claims.{certificate_claims, certificates_claim
 use crate::choosing::choice_digest;
 use crate::goodness::primary;
 use iss_request::{Bytes, NoMemory, NodeId, Seq, Slot, Value};
-use iss_sb::{Claim, Params};
+use iss_sb::{Claim, Params, Signed};
 use pbft_wire::signing::{COMMIT, PRE_PREPARE, PREPARE};
 use pbft_wire::{
-    Certificate, Change, Mark, Message, Vote, digest_of, mark_of, state_at, state_marked, state_new,
+    Certificate, Change, Mark, Message, digest_of, mark_of, state_at, state_marked, state_new,
 };
 use std::alloc::Global;
 
@@ -37,7 +37,7 @@ fn put_vote_claims(
     p: &Params,
     mark: &Mark,
     statement: &Bytes,
-    votes: &[Vote],
+    votes: &[Signed],
     all: &mut Seq<Claim>,
 ) -> Result<(), NoMemory>
     requires { statement.now ≡ state_at p.now 2 mark.now.view mark.now.slot.0 mark.now.digest }
@@ -47,7 +47,7 @@ fn put_vote_claims(
         [] => Ok(()),
         [first, others @ ..] => {
             let again = statement.copy()?;
-            put_claim(first.node, again, &first.sig, all)?;
+            put_claim(first.by, again, &first.sig, all)?;
             put_vote_claims(p, mark, statement, others, all)
         }
     }

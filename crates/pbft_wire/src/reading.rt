@@ -6,13 +6,14 @@ ghost use Rattle.iss_request.specs.Formats.{parse_signature};
 ghost use Rattle.iss_request.specs.Parsing.{byte, number, such_that, times};
 ghost use Rattle.iss_request.specs.declared.ids.Slot.{Slot};
 ghost use Rattle.pbft_wire.specs.Certificates.{after_node, after_slot};
-ghost use Rattle.pbft_wire.specs.Certificates.{count, parse_certificate, parse_certificates, parse_change, parse_vote, parse_votes};
+ghost use Rattle.pbft_wire.specs.Certificates.{count, parse_certificate, parse_certificates, parse_change};
 ghost use Rattle.pbft_wire.specs.Messages.{commit, parse, parse_at, parse_changes, parse_new_view, parse_node_change, parse_pre_prepare, parse_view_change, prepare};
 ghost use Rattle.pbft_wire.specs.declared.messages.Message.{Message};
 
-use crate::messages::{Certificate, Change, Message, Vote};
+use crate::messages::{Certificate, Change, Message};
 use crate::signing::{COMMIT, NEW_VIEW, PRE_PREPARE, PREPARE, VIEW_CHANGE};
 use iss_request::{Bytes, DecodeError, Fields, NodeId, Seq, Slot, read_signature, read_value};
+use iss_sb::read_signers;
 use std::alloc::Global;
 
 // ---- single fields
@@ -69,33 +70,7 @@ fn read_slot(last: Option<Slot>, f: &mut Fields) -> Result<u64, DecodeError>
     Ok(slot)
 }
 
-// ---- votes, certificates, ViewChanges
-
-fn read_vote(alloc: Global, last: Option<NodeId>, f: &mut Fields) -> Result<Vote, DecodeError>
-    ensures ok { IfOk result (λ v. IsRead (parse_vote (after_node last)) f.old f.new v) }
-    ensures bad { (at : ℕ) → result ≡ Err (DecodeError.BadField at) → IsUnreadable (parse_vote (after_node last)) f.old at }
-{
-    let node = read_node(last, f)?;
-    let sig = read_signature(alloc, f)?;
-    Ok(Vote {
-        node: NodeId(node),
-        sig,
-    })
-}
-
-fn read_votes(alloc: Global, many: u8, f: &mut Fields) -> Result<Seq<Vote>, DecodeError>
-    ensures ok { IfOk result (λ all. IsRead (parse_votes many 0) f.old f.new all) }
-    ensures bad { (at : ℕ) → result ≡ Err (DecodeError.BadField at) → IsUnreadable (parse_votes many 0) f.old at }
-{
-    let mut votes = Seq::new(alloc);
-    let mut last = None;
-    for _ in 0..many {
-        let vote = read_vote(alloc, last, f)?;
-        last = Some(vote.node);
-        votes.push(vote)?;
-    }
-    Ok(votes)
-}
+// ---- certificates, ViewChanges
 
 fn read_certificate(
     alloc: Global,
@@ -110,7 +85,7 @@ fn read_certificate(
     let value = read_value(alloc, f)?;
     let sig = read_signature(alloc, f)?;
     let many = read_count(f)?;
-    let prepares = read_votes(alloc, many, f)?;
+    let prepares = read_signers(alloc, many, f)?;
     Ok(Certificate {
         slot: Slot(slot),
         view,

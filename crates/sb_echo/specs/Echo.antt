@@ -11,6 +11,8 @@ use Rattle.iss_request.specs.declared.ids.Slot.{Slot}
 use Rattle.iss_request.specs.declared.requests.Batch.{Batch}
 use Rattle.iss_request.specs.declared.requests.Value.{Value}
 use Rattle.iss_request.specs.declared.requests.Value.TheVariants.{Batch as Value_batch}
+use Rattle.iss_request.specs.Setup.{nodes_of_kind, quorum_of_kind}
+use Rattle.iss_request.specs.declared.setups.Kind.TheVariants.{Byzantine}
 use Rattle.iss_sb.specs.declared.effects.Claim.{Claim}
 use Rattle.iss_sb.specs.declared.effects.Input.{Input}
 use Rattle.iss_sb.specs.declared.effects.Input.TheVariants.{Cast, Receive, Timeout}
@@ -157,8 +159,8 @@ parse version = do
 -- f Byzantine nodes of 3f+1
 abbrev pub echo : Module Word
 echo = record {
-  nodes = λ f. 3 * f + 1;
-  quorum = λ f. 2 * f + 1;
+  nodes = nodes_of_kind Byzantine;
+  quorum = quorum_of_kind Byzantine;
   stopping = false;
   tag = tag;
   signs = λ p. 2;

@@ -31,7 +31,7 @@ use Rattle.sb_hotstuff.specs.declared.accepted.Accepted.{Accepted}
 use Rattle.sb_hotstuff.specs.declared.hotstuff.HotStuff.{HotStuff}
 use Rattle.sb_hotstuff.specs.declared.state.Node.{Node}
 use Rattle.sb_hotstuff.specs.declared.outcomes.Outcome.{Outcome}
-use Rattle.sb_hotstuff.specs.Delivered.{paired, value_with}
+use Rattle.iss_sb.specs.Paired.{paired, value_with}
 use Rattle.sb_hotstuff.specs.Drafts.{AreDrafts, count_of}
 use Rattle.sb_hotstuff.specs.Accepted.{AreAccepted}
 use Rattle.sb_hotstuff.specs.HotStuff.{answers, asks, decided, decides, drafts, hotstuff, offered, proposals, sign_all, state, strings, strings_at, voted}
@@ -39,7 +39,8 @@ use Rattle.sb_hotstuff.specs.Instances.{Adds, IsSigned, Refines, at_slot, what_a
 use Rattle.sb_hotstuff.specs.Rules.{State, after, is_good, kept, may_cast, may_prepare, node_digest, proposed, with_node}
 use Rattle.sb_hotstuff.specs.Refines.{RefinesState}
 use Rattle.sb_hotstuff.specs.Steps.{Does}
-use Rattle.sb_hotstuff.proofs.Paired.{branch-value, fresh-ascending, fresh-value, fresh-within, or-within, slots-more, value-fresh, value-some}
+use Rattle.iss_sb.proofs.Paired.{fresh-ascending, fresh-within}
+use Rattle.sb_hotstuff.proofs.Paired.{branch-value, fresh-value, or-within, slots-more, value-fresh, value-some}
 use Rattle.sb_hotstuff.proofs.Signed.{count-few, drafts-long}
 
 -- ---- what is decided stays, so what is delivered is what is decided

@@ -5,6 +5,8 @@ use Rattle.iss_request.specs.declared.ids.Slot.{Slot}
 use Rattle.iss_request.specs.declared.requests.Batch.{Batch}
 use Rattle.iss_request.specs.declared.requests.Request.{Request}
 use Rattle.iss_request.specs.declared.requests.Value.{Value}
+use Rattle.iss_request.specs.Setup.{nodes_of_kind, quorum_of_kind}
+use Rattle.iss_request.specs.declared.setups.Kind.TheVariants.{Byzantine}
 use Rattle.iss_sb.specs.declared.effects.Input.{Input}
 use Rattle.iss_sb.specs.declared.effects.Input.TheVariants.{Cast, Receive, Timeout}
 use Rattle.iss_sb.specs.declared.effects.Params.{Params}
@@ -162,8 +164,8 @@ decided p me (x ∷ xs) n = first_of (decided p me xs n) (decides p (state p me 
 -- f Byzantine nodes of 3f+1
 abbrev pub hotstuff : Module Message
 hotstuff = record {
-  nodes = λ f. 3 * f + 1;
-  quorum = λ f. 2 * f + 1;
+  nodes = nodes_of_kind Byzantine;
+  quorum = quorum_of_kind Byzantine;
   stopping = false;
   tag = basic.tag;
   signs = λ p. 2;

@@ -3,7 +3,7 @@ ghost use Rattle.std.specs.Prelude.{◌≡◌, ◌≤◌, ℕ, List, IfOk, None,
 ghost use Rattle.iss_keys.specs.KeyStates.{KeyState, left_of};
 ghost use Rattle.iss_request.specs.declared.ids.Slot.{Slot};
 ghost use Rattle.iss_request.specs.declared.requests.Batch.{Batch};
-ghost use Rattle.iss_sb.specs.Calls.{IsGoodInput, IsGoodParams, IsStep, IsTrueStep, named};
+ghost use Rattle.iss_sb.specs.Calls.{IsGoodInput, IsGoodParams, IsTrueStep, named};
 ghost use Rattle.hs_tree.specs.declared.messages.Message.TheVariants.{NewView, Prepare, PreCommit, Commit, Decide, Vote};
 ghost use Rattle.sb_hotstuff.specs.Accepted.{AreAccepted};
 ghost use Rattle.sb_hotstuff.specs.HotStuff.{asked_by, hotstuff, offered};
@@ -18,8 +18,11 @@ use crate::signing::claims;
 use crate::state::{Node, PHASES};
 use hs_tree::{Certificate, Message};
 use iss_keys::Keys;
-use iss_request::{Batch, Bytes, DecodeError, Fields, NoMemory, NodeId, Seq, Slot, Writer};
-use iss_sb::{Claim, Content, Effects, Input, Params, Sequenced, StepError};
+use iss_request::{
+    Batch, Bytes, DecodeError, Fields, Kind, NoMemory, NodeId, Seq, Slot, Writer, nodes_of_kind,
+    quorum,
+};
+use iss_sb::{Claim, Content, Effects, Input, Params, Sequenced, asks_if};
 use std::alloc::Global;
 
 /// A node's part in one instance: what it keeps for its rules, the batches that it accepted, and how many slots of the
@@ -295,11 +298,11 @@ impl Sequenced for HotStuff {
     ghost refines = { Refines };
 
     fn nodes_of(f: u32) -> u32 {
-        3 * f + 1
+        nodes_of_kind(Kind::Byzantine, f)
     }
 
     fn quorum_of(f: u32) -> u32 {
-        2 * f + 1
+        quorum(Kind::Byzantine, f)
     }
 
     fn signs(_p: &Params) -> u32 {
@@ -320,40 +323,28 @@ impl Sequenced for HotStuff {
 
     fn asks<'a>(&'a self, p: &Params, i: &'a Input<Message>) -> Option<(Slot, &'a Batch)> {
         match i {
-            Input::Cast { slot, batch } => {
-                if self.node.may_cast(p, *slot) {
-                    Some((*slot, batch))
-                } else {
-                    None
-                }
-            }
+            Input::Cast { slot, batch } => asks_if(self.node.may_cast(p, *slot), *slot, batch),
             Input::Receive { from, msg } => self.asked(p, *from, msg),
             Input::Timeout => None,
         }
     }
 
-    fn step(
+    fn apply(
         &mut self,
         alloc: Global,
         p: &Params,
         i: Input<Message>,
-        verdict: bool,
         keys: &mut Keys,
-    ) -> Result<Effects<Message>, StepError>
+    ) -> Result<Effects<Message>, NoMemory>
         requires good { IsGoodParams hotstuff p.now }
         requires input { IsGoodInput p.now i }
-        ensures { IsStep hotstuff Refines p.now self.old self.new i verdict keys.old keys.new result }
+        requires enough { hotstuff.signs p.now ≤ left_of keys.old }
+        ensures { IfOk result (λ e. IsTrueStep hotstuff Refines p.now self.old self.new i keys.old keys.new e) }
     {
-        if keys.left() < 2 {
-            return Err(StepError::Spent);
-        }
-        if !verdict {
-            return Ok(Effects::nothing(alloc));
-        }
         match i {
-            Input::Cast { slot, batch } => Ok(self.cast(alloc, p, slot, batch, keys)?),
-            Input::Receive { from, msg } => Ok(self.receive(alloc, p, from, msg, keys)?),
-            Input::Timeout => Ok(self.time_out(alloc, p, keys)?),
+            Input::Cast { slot, batch } => self.cast(alloc, p, slot, batch, keys),
+            Input::Receive { from, msg } => self.receive(alloc, p, from, msg, keys),
+            Input::Timeout => self.time_out(alloc, p, keys),
         }
     }
 

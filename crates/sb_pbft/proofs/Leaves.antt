@@ -26,7 +26,7 @@ use Rattle.pbft_wire.specs.declared.messages.Certificate.{Certificate}
 use Rattle.pbft_wire.specs.declared.messages.Change.{Change}
 use Rattle.pbft_wire.specs.declared.messages.Message.{Message}
 use Rattle.pbft_wire.specs.declared.messages.Message.TheVariants.{NewView, PrePrepare, Prepare, ViewChange}
-use Rattle.pbft_wire.specs.declared.messages.Vote.{Vote}
+use Rattle.iss_sb.specs.declared.signers.Signed.{Signed}
 use Rattle.pbft_views.specs.Choice.{choice}
 use Rattle.pbft_views.specs.Claims.{certificate_claims, certificates_claims, change_claims, changes_claims, chosen_claims, claims}
 use Rattle.pbft_views.specs.Good.{primary}
@@ -195,17 +195,17 @@ module _ (p : Params) (me : ℕ) where
     the-sig None h = absurd (false≢true h)
     the-sig (Some sig) h = refl
 
-    prepare-seen : (xs : List (Item Message)) (v s : ℕ) (d : List ℕ) (x : Vote) → In x (prepares p (inputs xs) v s d) → Seen xs (claim x.node.0 (state_at p 2 v s d) x.sig)
+    prepare-seen : (xs : List (Item Message)) (v s : ℕ) (d : List ℕ) (x : Signed) → In x (prepares p (inputs xs) v s d) → Seen xs (claim x.by.0 (state_at p 2 v s d) x.sig)
     prepare-seen xs v s d x i =
         let k = in-voters (prepare_of p (inputs xs) v s) d 0 p.setup.n x i in
-        let r = prepare-of-is p (inputs xs) v s x.node.0 k.ballot k.kept in
+        let r = prepare-of-is p (inputs xs) v s x.by.0 k.ballot k.kept in
         let b = r.2 in
         let msg : Message = Prepare v b.slot k.ballot.digest k.ballot.sig in
         let seen : Seen xs (claim b.from.0 (state_at p 2 v b.slot.0 k.ballot.digest) k.ballot.sig) =
         came-among xs b.from msg _ (subst (λ (z : Said). In z (inputs xs)) b.input r.1) (inl refl) in
-        subst (λ (z : List ℕ). Seen xs (claim x.node.0 (state_at p 2 v s d) z)) k.sig
-        (subst (λ (z : List ℕ). Seen xs (claim x.node.0 (state_at p 2 v s z) k.ballot.sig)) k.digest
-        (subst (λ (z : ℕ). Seen xs (claim x.node.0 (state_at p 2 v z k.ballot.digest) k.ballot.sig)) b.at_slot
+        subst (λ (z : List ℕ). Seen xs (claim x.by.0 (state_at p 2 v s d) z)) k.sig
+        (subst (λ (z : List ℕ). Seen xs (claim x.by.0 (state_at p 2 v s z) k.ballot.sig)) k.digest
+        (subst (λ (z : ℕ). Seen xs (claim x.by.0 (state_at p 2 v z k.ballot.digest) k.ballot.sig)) b.at_slot
         (subst (λ (z : ℕ). Seen xs (claim z (state_at p 2 v b.slot.0 k.ballot.digest) k.ballot.sig)) b.by seen)))
 
     certificate-seen : (xs : List (Item Message)) (c : Certificate) (t : Claim) → AreMade pbft p me xs → In c (kept p me xs) → In t (certificate_claims p c) → Seen xs t

@@ -26,7 +26,7 @@ use Rattle.pbft_wire.specs.declared.messages.Certificate.{Certificate}
 use Rattle.pbft_wire.specs.declared.messages.Change.{Change}
 use Rattle.pbft_wire.specs.declared.messages.Message.{Message}
 use Rattle.pbft_wire.specs.declared.messages.Message.TheVariants.{Commit, NewView, PrePrepare, Prepare, ViewChange}
-use Rattle.pbft_wire.specs.declared.messages.Vote.{Vote}
+use Rattle.iss_sb.specs.declared.signers.Signed.{Signed}
 use Rattle.pbft_views.specs.Choice.{choice}
 use Rattle.pbft_views.specs.Claims.{certificate_claims, certificates_claims, change_claims, changes_claims, chosen_claims, claims}
 use Rattle.pbft_views.specs.Good.{primary}
@@ -156,23 +156,23 @@ module _ (p : Params) (me : ℕ) where
     ]
 
   -- votes stand on claims of those who voted
-  pub prepare-source : (xs : List (Item Message)) (v s : ℕ) (d : List ℕ) (x : Vote) → In x (prepares p (inputs xs) v s d) → Source xs x.node.0 (state_at p 2 v s d)
+  pub prepare-source : (xs : List (Item Message)) (v s : ℕ) (d : List ℕ) (x : Signed) → In x (prepares p (inputs xs) v s d) → Source xs x.by.0 (state_at p 2 v s d)
   prepare-source xs v s d x i =
       let k = in-voters (prepare_of p (inputs xs) v s) d 0 p.setup.n x i in
-      let r = prepare-of-is p (inputs xs) v s x.node.0 k.ballot k.kept in
+      let r = prepare-of-is p (inputs xs) v s x.by.0 k.ballot k.kept in
       let b = r.2 in
       let m : Message = Prepare v b.slot k.ballot.digest k.ballot.sig in
       let same : state_at p 2 v b.slot.0 k.ballot.digest ≡ state_at p 2 v s d = ap (λ (z : ℕ). state_at p 2 v z k.ballot.digest) b.at_slot ∙ ap (λ (z : List ℕ). state_at p 2 v s z) k.digest in
-      source-in xs r.0 x.node.0 (state_at p 2 v s d) b.from m (subst (λ (z : Said). In z (inputs xs)) b.input r.1) (says-by b.from.0 m (claim b.from.0 (state_at p 2 v b.slot.0 k.ballot.digest) k.ballot.sig) x.node.0 _ (inl refl) b.by same)
+      source-in xs r.0 x.by.0 (state_at p 2 v s d) b.from m (subst (λ (z : Said). In z (inputs xs)) b.input r.1) (says-by b.from.0 m (claim b.from.0 (state_at p 2 v b.slot.0 k.ballot.digest) k.ballot.sig) x.by.0 _ (inl refl) b.by same)
 
-  pub commit-source : (xs : List (Item Message)) (v s : ℕ) (d : List ℕ) (x : Vote) → In x (commits p (inputs xs) v s d) → Source xs x.node.0 (state_at p 3 v s d)
+  pub commit-source : (xs : List (Item Message)) (v s : ℕ) (d : List ℕ) (x : Signed) → In x (commits p (inputs xs) v s d) → Source xs x.by.0 (state_at p 3 v s d)
   commit-source xs v s d x i =
       let k = in-voters (commit_of p (inputs xs) v s) d 0 p.setup.n x i in
-      let r = commit-of-is p (inputs xs) v s x.node.0 k.ballot k.kept in
+      let r = commit-of-is p (inputs xs) v s x.by.0 k.ballot k.kept in
       let b = r.2 in
       let m : Message = Commit v b.slot k.ballot.digest k.ballot.sig in
       let same : state_at p 3 v b.slot.0 k.ballot.digest ≡ state_at p 3 v s d = ap (λ (z : ℕ). state_at p 3 v z k.ballot.digest) b.at_slot ∙ ap (λ (z : List ℕ). state_at p 3 v s z) k.digest in
-      source-in xs r.0 x.node.0 (state_at p 3 v s d) b.from m (subst (λ (z : Said). In z (inputs xs)) b.input r.1) (says-by b.from.0 m (claim b.from.0 (state_at p 3 v b.slot.0 k.ballot.digest) k.ballot.sig) x.node.0 _ (inl refl) b.by same)
+      source-in xs r.0 x.by.0 (state_at p 3 v s d) b.from m (subst (λ (z : Said). In z (inputs xs)) b.input r.1) (says-by b.from.0 m (claim b.from.0 (state_at p 3 v b.slot.0 k.ballot.digest) k.ballot.sig) x.by.0 _ (inl refl) b.by same)
 
 -- ---- what is passed on
 

@@ -12,7 +12,8 @@ use Rattle.raft_wire.specs.declared.entries.Entry.{Entry}
 use Rattle.iss_sb.specs.declared.content.Content.{Content}
 use Rattle.iss_sb.specs.declared.content.Content.TheVariants.{Nil, Holds, Mark}
 use Rattle.raft_wire.specs.declared.messages.Message.{Message}
-use Rattle.sb_raft.specs.Raft.{state, value_at}
+use Rattle.iss_sb.specs.Paired.{value_with}
+use Rattle.sb_raft.specs.Raft.{state}
 use Rattle.sb_raft.specs.Rules.{Role, Follower, Candidate, Leader, State, candidate, filling}
 use Rattle.sb_raft.specs.Logs.{content, contents, filled, nils}
 use Rattle.iss_sb.specs.Legal.{Front}
@@ -42,19 +43,19 @@ batch-is a b h = cc
 no-nil : (b : Batch) (A : Type 0) → Some Value_nil ≡ Some (Value_batch b) → A
 no-nil b A h = absurd cc
 
-pub stands : (s : ℕ) (slots : List Slot) (b : Batch) (log : List Entry) → value_at s slots (contents log) ≡ Some (Value_batch b) → Stands s slots b log
+pub stands : (s : ℕ) (slots : List Slot) (b : Batch) (log : List Entry) → value_with s slots (contents log) ≡ Some (Value_batch b) → Stands s slots b log
 stands s [] b [] h = absurd cc
 stands s (t ∷ ts) b [] h = absurd cc
 stands s slots b (e ∷ es) h = go e.what refl slots (λ ts k. stands s ts b es k) h
   where
-    go : (w : Content) → e.what ≡ w → (slots : List Slot) → ((ts : List Slot) → value_at s ts (contents es) ≡ Some (Value_batch b) → Stands s ts b es) → value_at s slots (content w ++ contents es) ≡ Some (Value_batch b) → Stands s slots b (e ∷ es)
+    go : (w : Content) → e.what ≡ w → (slots : List Slot) → ((ts : List Slot) → value_with s ts (contents es) ≡ Some (Value_batch b) → Stands s ts b es) → value_with s slots (content w ++ contents es) ≡ Some (Value_batch b) → Stands s slots b (e ∷ es)
     go Mark q slots rec h =
         let r = rec slots h in
         record { front = e ∷ r.front; entry = r.entry; rest = r.rest; is = ap (λ (z : List Entry). e ∷ z) r.is; holds = r.holds; slot = r.slot; place = subst (λ (z : Content). nth slots (length (content z ++ contents r.front)) ≡ Some r.slot) (sym q) r.place; same = r.same }
     go Nil q [] rec h = absurd cc
     go Nil q (t ∷ ts) rec h = by (t.0 == s) h
       where
-        by : (c : Bool) → (if c then Some Value_nil else value_at s ts (contents es)) ≡ Some (Value_batch b) → Stands s (t ∷ ts) b (e ∷ es)
+        by : (c : Bool) → (if c then Some Value_nil else value_with s ts (contents es)) ≡ Some (Value_batch b) → Stands s (t ∷ ts) b (e ∷ es)
         by true h = no-nil b _ h
         by false h =
             let r = rec ts h in
@@ -62,7 +63,7 @@ stands s slots b (e ∷ es) h = go e.what refl slots (λ ts k. stands s ts b es 
     go (Holds a) q [] rec h = absurd cc
     go (Holds a) q (t ∷ ts) rec h = by (t.0 == s) refl h
       where
-        by : (c : Bool) → (t.0 == s) ≡ c → (if c then Some (Value_batch a) else value_at s ts (contents es)) ≡ Some (Value_batch b) → Stands s (t ∷ ts) b (e ∷ es)
+        by : (c : Bool) → (t.0 == s) ≡ c → (if c then Some (Value_batch a) else value_with s ts (contents es)) ≡ Some (Value_batch b) → Stands s (t ∷ ts) b (e ∷ es)
         by true k h = record { front = []; entry = e; rest = es; is = refl; holds = q ∙ ap (λ (z : Batch). Holds z) (batch-is a b h); slot = t; place = refl; same = eqb-true t.0 s k }
         by false k h =
             let r = rec ts h in

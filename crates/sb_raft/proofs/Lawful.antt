@@ -23,7 +23,8 @@ use Rattle.iss_sb.specs.declared.content.Content.TheVariants.{Holds}
 use Rattle.raft_wire.specs.declared.messages.Message.{Message}
 use Rattle.raft_wire.specs.declared.messages.Message.TheVariants.{Append, Reply, AskVote, Vote}
 use Rattle.sb_raft.proofs.Ranges.{sends-read}
-use Rattle.sb_raft.specs.Raft.{asks, raft, state, value_at}
+use Rattle.iss_sb.specs.Paired.{value_with}
+use Rattle.sb_raft.specs.Raft.{asks, raft, state}
 use Rattle.sb_raft.specs.Rules.{Follower, State, Step, advanced, answer, append_to, append_behind, appended, appends, ask_vote, candidate, counted, greatest, is_leader, last_timed_term, matched_at, may_cast, may_commit, may_merge, on_append, on_ask, on_not_ok, on_ok, on_reply, on_timeout, on_vote, on_message, others, quiet, raised, risen, spread, stands_up, step, taken, to_each, with_commit, won}
 use Rattle.sb_raft.specs.Logs.{entry, filled, fits_behind}
 
@@ -132,12 +133,12 @@ pub some-only : {A : Type 0} (t : Bool) (x y : A) → (if t then Some x else Non
 some-only true x y h = (refl, cc)
 some-only false x y h = absurd cc
 
-value-In : (s : Slot) (slots : List Slot) (vs : List Value) (x : Value) → value_at s.0 slots vs ≡ Some x → In s slots
+value-In : (s : Slot) (slots : List Slot) (vs : List Value) (x : Value) → value_with s.0 slots vs ≡ Some x → In s slots
 value-In s [] vs x h = absurd cc
 value-In s (t ∷ slots) [] x h = absurd cc
 value-In s (t ∷ slots) (v ∷ vs) x h = go (t.0 == s.0) refl h (value-In s slots vs x)
   where
-    go : (b : Bool) → (t.0 == s.0) ≡ b → (if b then Some v else value_at s.0 slots vs) ≡ Some x → (value_at s.0 slots vs ≡ Some x → In s slots) → In s (t ∷ slots)
+    go : (b : Bool) → (t.0 == s.0) ≡ b → (if b then Some v else value_with s.0 slots vs) ≡ Some x → (value_with s.0 slots vs ≡ Some x → In s slots) → In s (t ∷ slots)
     go true q k more = inl (slot-is s t (sym ((Decides-eqb t.0 s.0).0 q)))
     go false q k more = inr (more k)
 

@@ -19,14 +19,16 @@ use Rattle.raft_wire.specs.declared.entries.Entry.{Entry}
 use Rattle.raft_wire.specs.declared.messages.Message.{Message}
 use Rattle.sb_raft.specs.declared.raft.Raft.{Raft}
 use Rattle.sb_raft.specs.Logs.{contents, filled}
-use Rattle.sb_raft.specs.Raft.{asks, raft, state, value_at}
+use Rattle.iss_sb.specs.Paired.{value_with}
+use Rattle.sb_raft.specs.Raft.{asks, raft, state}
 use Rattle.sb_raft.specs.Rules.{State, Step, is_candidate, may_cast, step}
 use Rattle.sb_raft.specs.Refines.{Does, IsLow, Refines, cast_of, held, newly}
 use Rattle.sb_raft.proofs.Bounds.{bounded}
 use Rattle.sb_raft.proofs.Delivers.{contents-both, delivered-is, grown, room}
 use Rattle.sb_raft.proofs.Few.{few, no-more}
 use Rattle.sb_raft.proofs.Lawful.{cast-next}
-use Rattle.sb_raft.proofs.Newly.{decided-fresh, fresh-ascending, fresh-decided, fresh-within}
+use Rattle.iss_sb.proofs.Paired.{fresh-ascending, fresh-within}
+use Rattle.sb_raft.proofs.Newly.{decided-fresh, fresh-decided}
 use Rattle.sb_raft.proofs.Prefixes.{pre_rest}
 
 -- ---- what becomes delivered
@@ -56,12 +58,12 @@ module _ (p : Params) (good : IsGoodParams raft p) (me : ℕ) (xs : List (Item M
       now : (t : Slot) (y : Value) → In {A = Slot × Value} (t, y) (newly p s v) → (delivered raft p me (x ∷ xs) t.0 ≡ Some y) × (delivered raft p me xs t.0 ≡ None)
       now t y i =
           let f = fresh-decided 0 t y p.slots (contents before) (contents (drop s.commit (take v.commit v.log))) good.rising i in
-          (delivered-is p me (x ∷ xs) t.0 ∙ subst (λ (z : List Value). value_at t.0 p.slots z ≡ Some y) (sym contents-now) f.0, delivered-is p me xs t.0 ∙ f.1)
+          (delivered-is p me (x ∷ xs) t.0 ∙ subst (λ (z : List Value). value_with t.0 p.slots z ≡ Some y) (sym contents-now) f.0, delivered-is p me xs t.0 ∙ f.1)
 
       fresh : (t : Slot) (y : Value) → delivered raft p me (x ∷ xs) t.0 ≡ Some y → delivered raft p me xs t.0 ≡ None → In {A = Slot × Value} (t, y) (newly p s v)
       fresh t y h n =
           decided-fresh t y p.slots (contents before) (contents (drop s.commit (take v.commit v.log)))
-          (subst (λ (z : List Value). value_at t.0 p.slots z ≡ Some y) contents-now (sym (delivered-is p me (x ∷ xs) t.0) ∙ h)) (sym (delivered-is p me xs t.0) ∙ n)
+          (subst (λ (z : List Value). value_with t.0 p.slots z ≡ Some y) contents-now (sym (delivered-is p me (x ∷ xs) t.0) ∙ h)) (sym (delivered-is p me xs t.0) ∙ n)
 
 -- ---- indices
 

@@ -1,7 +1,8 @@
 //! A node's log, and how much of it is committed.
 ghost use Rattle.std.specs.Prelude.{◌≡◌, ◌<◌, ◌≤◌, ◌+◌, ◌-◌, ◌^◌, ◌++◌, ◌∷◌, [], length, take, drop, max, option_to_list, IfOk, OnOk, if◌then◌else◌};
 ghost use Rattle.iss_request.specs.declared.requests.Value.{Value};
-ghost use Rattle.sb_raft.specs.Held.{is_mergeable, no_log, paired, same, starts_with, with_merged};
+ghost use Rattle.iss_sb.specs.Paired.{paired};
+ghost use Rattle.sb_raft.specs.Held.{is_mergeable, no_log, same, starts_with, with_merged};
 ghost use Rattle.sb_raft.specs.Logs.{content, contents, filled, last_term, nils, term_at};
 
 use iss_request::{NoMemory, Seq, Slot, Value};

@@ -5,10 +5,10 @@ ghost use Rattle.sb_hotstuff.specs.HotStuff.{hotstuff};
 
 use crate::instances::withstands;
 use hs_tree::hashing::digest_of_node;
-use hs_tree::{Certificate, Message, Signed};
+use hs_tree::{Certificate, Message};
 use iss_keys::Keys;
 use iss_request::{Batch, Bytes, NoMemory, NodeId, Seq, Slot};
-use iss_sb::{Content, Input, Params, Sequenced};
+use iss_sb::{Content, Input, Params, Sequenced, Signed};
 use sb_hotstuff::HotStuff;
 use std::alloc::Global;
 use std::test::Fail;

@@ -15,6 +15,7 @@ use Rattle.iss_sb.specs.Calls.{IsGoodParams}
 use Rattle.iss_sb.specs.Evidence.{IsCredible, IsReadBatch, IsReadMessage, Separate, is_correct}
 use Rattle.iss_sb.specs.Statements.{claim, signature}
 use Rattle.iss_sb.proofs.Read.{batch-read}
+use Rattle.iss_sb.proofs.Setups.{good-by}
 use Rattle.iss_sb.proofs.Signatures.{signature-shape}
 use Rattle.iss_composition.specs.Checkpoints.{is_good, scheme_of}
 use Rattle.iss_rules.specs.Books.{Signed}
@@ -39,28 +40,7 @@ use Rattle.sb_echo.proofs.Spelling.{echo-again, say-again}
 use Rattle.witness_echo.specs.Shown.{IsWitness, batch, echoed, four, instance, rules, said}
 
 setup-good : IsGoodSetup four
-setup-good = record {
-  version = refl;
-  faults = omega arith;
-  relay_faults = λ h. absurd (omega (arith, h));
-  relay_kind = λ h. absurd (omega (arith, h));
-  nodes = refl;
-  majority = refl;
-  epoch_low = omega arith;
-  epoch_high = omega arith;
-  buckets_low = omega arith;
-  buckets_high = omega arith;
-  batch_low = omega arith;
-  batch_high = omega arith;
-  window_low = omega arith;
-  window_high = omega arith;
-  clients_low = omega arith;
-  clients_high = omega arith;
-  keys_low = omega arith;
-  keys_high = omega arith;
-  few_faulty = omega arith;
-  rising_faulty = (omega arith, omega arith, tt);
-}
+setup-good = good-by four refl
 
 setup-of : IsSetupOf echo four
 setup-of = record { good = setup-good; tag = refl; kind = refl; nodes = refl; majority = refl }

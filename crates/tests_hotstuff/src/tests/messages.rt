@@ -4,9 +4,9 @@ use hs_tree::signing::{
     held_digest, held_string, node_statement, node_string, put_certificate_claims, round_statement,
     vote_statement,
 };
-use hs_tree::{Certificate, Message, Signed, read, write};
+use hs_tree::{Certificate, Message, read, write};
 use iss_request::{Batch, Bytes, DecodeError, Fields, NodeId, Seq, Writer};
-use iss_sb::{Content, Params};
+use iss_sb::{Content, Params, Signed};
 use sha2::{Digest, Sha256};
 use std::alloc::Global;
 use std::test::Fail;
