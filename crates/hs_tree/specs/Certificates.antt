@@ -100,6 +100,7 @@ parse_signed from = do
   done (record { by = record { 0 = by }; sig = sig })
 
 -- so many of them, the nodes rising
+-- rule: HotStuff: The voters of a certificate are strictly ascending, and an error names the first other
 unfoldable pub parse_signers : ℕ → ℕ → Parser (List Signed)
 parse_signers zero from = done []
 parse_signers (suc count) from = do

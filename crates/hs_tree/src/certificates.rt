@@ -279,6 +279,7 @@ fn read_signed(alloc: Global, from: u16, f: &mut Fields) -> Result<Signed, Decod
     })
 }
 
+// rule: HotStuff: The voters of a certificate are strictly ascending, and an error names the first other
 fn read_signers(alloc: Global, count: u8, f: &mut Fields) -> Result<Seq<Signed>, DecodeError>
     ensures ok { IfOk result (λ votes. IsRead (parse_signers count 0) f.old f.new votes) }
     ensures bad { (at : ℕ) → result ≡ Err (DecodeError.BadField at) → IsUnreadable (parse_signers count 0) f.old at }

@@ -37,6 +37,7 @@ abbrev pub AreRising : ℕ → List Signed → Type 0
 AreRising from [] = Unit {0}
 AreRising from (x ∷ xs) = (from ≤ x.by.0) × (is_signature x.sig ≡ true) × AreRising (suc x.by.0) xs
 
+-- rule: Checkpoints: A certificate has one encoding: chain, count, signers with their signatures
 pub record IsSpelledCert (e : ℕ) (c : Cert) (bytes : List ℕ) : Type 0 where
   pub epoch : c.epoch.0 ≡ e
   pub chain_fits : length c.chain ≡ 32
@@ -55,6 +56,7 @@ parse_signed from = do
   done (record { by = record { 0 = by }; sig = sig })
 
 -- so many of them, the nodes rising
+-- rule: Checkpoints: A certificate is read only if its signers are strictly ascending
 unfoldable pub parse_signers : ℕ → ℕ → Parser (List Signed)
 parse_signers zero from = done []
 parse_signers (suc count) from = do

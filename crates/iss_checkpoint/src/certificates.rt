@@ -63,6 +63,7 @@ fn put_row(cert: &Cert, out: &mut Writer) -> Result<(), NoMemory>
 }
 
 /// Writes a certificate. One that has no spelling is written as bytes that no reader takes.
+// rule: Checkpoints: A certificate has one encoding: chain, count, signers with their signatures
 pub fn write_cert(cert: &Cert, out: &mut Writer) -> Result<(), NoMemory>
     ensures { OnOk result (out.new ≡ and_bytes out.old (spell_cert cert.now)) }
 {
@@ -90,6 +91,7 @@ fn read_signed(alloc: Global, from: u16, f: &mut Fields) -> Result<Signed, Decod
     })
 }
 
+// rule: Checkpoints: A certificate is read only if its signers are strictly ascending
 fn read_signers(alloc: Global, count: u8, f: &mut Fields) -> Result<Seq<Signed>, DecodeError>
     ensures ok { IfOk result (λ xs. IsRead (parse_signers count 0) f.old f.new xs) }
     ensures bad { (at : ℕ) → result ≡ Err (DecodeError.BadField at) → IsUnreadable (parse_signers count 0) f.old at }

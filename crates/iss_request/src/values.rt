@@ -37,6 +37,7 @@ fn is_tree_height(height: u8) -> bool
 }
 
 // Whether bytes have the shape of a signature: a height, a leaf, 67 digests and one for each level.
+// rule: Formats: A signature begins with its tree's height, from 2 to 12, which fixes its length
 fn has_shape(sig: &[u8]) -> bool
     ensures { result ≡ is_signature sig.now }
 {
@@ -57,6 +58,7 @@ fn is_spellable(request: &Request) -> bool
 }
 
 /// Writes a request. One that has no spelling is written as bytes that no reader takes.
+// rule: Formats: A request has one encoding: client, number, a payload of at most 256 bytes, signature
 pub fn write_request(request: &Request, out: &mut Writer) -> Result<(), NoMemory>
     ensures { OnOk result (out.new ≡ and_bytes out.old (spell_request request.now)) }
 {
@@ -112,6 +114,7 @@ fn write_requests(requests: &[Request], out: &mut Writer) -> Result<(), NoMemory
 }
 
 /// Writes a value. One that has no spelling is written as bytes that no reader takes.
+// rule: Formats: A value has one encoding a version: nil, or a batch after a version byte and a count
 pub fn write_value(value: &Value, out: &mut Writer) -> Result<(), NoMemory>
     ensures { OnOk result (out.new ≡ and_bytes out.old (spell_value out.old.version value.now)) }
 {
@@ -311,6 +314,7 @@ fn hash_requests(requests: &[Request], hasher: &mut Sha256)
 }
 
 /// The digest of a value's spelling.
+// rule: Formats: A value's digest is the hash of its encoding after a byte of its own
 pub fn digest_of(version: u8, value: &Value) -> [u8; 32]
     ensures { result ≡ sha256 (value_string version value.now) }
 {
