@@ -79,6 +79,7 @@ Ends words left held held_now Forged = (answer : Answer) × (IsAnswered words le
 Ends words left held held_now Collision = (answer : Answer) × (IsAnswered words left answer × Prints answer held held_now Collision)
 
 -- the statuses of an answer that is printed whole
+-- rule: Program: Each exit status comes exactly where its cause does
 abbrev pub IsAnswerStatus : Status → Type 0
 IsAnswerStatus Done = Unit {0}
 IsAnswerStatus RefusedWords = Unit {0}

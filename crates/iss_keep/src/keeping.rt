@@ -78,6 +78,8 @@ fn append_event<D: Disk>(journal: &mut Journal<D>, event: &NodeEvent) -> Result<
 }
 
 // Appends the entry of an event that was taken. Where that fails the node retreats to the log and the epoch from before.
+// rule: Recovery: An event takes four disk calls, and is kept only if all four pass
+// rule: Persistence: An event is kept before its outcome is handed out
 #[inline(always)]
 fn append_or_retreat<M: Sequenced, D: Disk>(
     node: &mut Node<M>,
@@ -112,6 +114,7 @@ fn append_or_retreat<M: Sequenced, D: Disk>(
 }
 
 // Steps the node, and keeps the entry where the event was taken, of which this is a copy. What the node made of it stands in `made`.
+// rule: Persistence: A dropped event changes nothing and is not kept
 #[inline(always)]
 fn apply_then_append<M: Sequenced, D: Disk>(
     alloc: Global,
@@ -144,6 +147,7 @@ fn apply_then_append<M: Sequenced, D: Disk>(
 
 /// Makes room for the entry of an event, steps the node, and keeps the entry where the event was taken. The node takes the event, so
 /// a copy of it is what is kept. What the node made of it stands in `made`: it is large, and moved once, where it is handed out.
+// rule: Persistence: Room for the entry is reserved before the node steps
 #[inline(always)]
 pub(crate) fn journal_and_apply<M: Sequenced, D: Disk>(
     alloc: Global,

@@ -48,6 +48,7 @@ impl<M: Sequenced> NodeState<M> {
     }
 
     // The first slot of the node's own segment that is neither cast nor filled and for which the module takes casts.
+    // rule: Buckets: A leader proposes at its least slot that is neither proposed nor filled
     fn next_slot(&self) -> Option<Slot>
         ensures { (past : Past M.Msg) (g : SegmentState M) → RefinesPast M.spec M.refines self.now past → led self.now.segments self.now.me.0 ≡ Some g →
             result ≡ next_slot (rules_of self.now.setup) M.spec self.now.me.0 (core_of self.now past) }

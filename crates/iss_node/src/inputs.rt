@@ -15,6 +15,7 @@ use std::alloc::Global;
 
 impl<M: Sequenced> NodeState<M> {
     /// An input in the instance of a leader, where it leads, what it claims verifies, keys are left and the judge agrees.
+    // rule: Acceptance: An instance takes an input if it leads, its claims verify, leaves are left, no refusal
     pub(crate) fn try_step(
         &mut self,
         alloc: Global,

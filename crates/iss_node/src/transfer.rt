@@ -32,6 +32,7 @@ impl<M: Sequenced> NodeState<M> {
     }
 
     /// Hands out the values of an epoch, where the node keeps its certificate and its log holds all of it.
+    // rule: Transfer: An ask is answered to the asker alone, if the node has the epoch and its certificate
     pub(crate) fn take_ask(
         &mut self,
         alloc: Global,
@@ -138,6 +139,7 @@ impl<M: Sequenced> NodeState<M> {
 
     // The values of a piece are the node's where it has none, its certificate is kept, and the next epoch begins with what came
     // early for it.
+    // rule: Transfer: An adopted piece of the own epoch fills the empty slots and ends the epoch without a vote
     fn adopt(
         &mut self,
         alloc: Global,

@@ -44,6 +44,7 @@ SignOnce {M = M} {Msg = Msg} s m v = (i : ℕ) (g : KeptState M Msg MemoryDisk) 
 -- The world stands for the run of these events, up to its end if it has ended. Whatever disks failed and cores were made anew, the run
 -- leads to what nodes come to that never stop, by the events that were kept: one log, with the same numbers; each request that a
 -- correct node took and kept is in one place; certificates are of logs, what was adopted was delivered, and an end has evidence.
+-- rule: Runs: After each event the world refines the run with that event
 pub record IsHeadline {M Msg : Type 0} (s : Setup) (m : Module Msg) (refines : Relation M Msg)
     (v : WorldState M Msg) (events : List Event) : Type 0 where
   pub run : RefinesEvents s m refines v events

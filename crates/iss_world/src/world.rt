@@ -97,6 +97,10 @@ impl<M: Sequenced> World<M> {
     /// that a correct node took and kept is in its log, waits there or is in flight. The certificates that correct nodes keep are of logs
     /// of correct nodes, and what correct nodes adopted was delivered at one (ISS, whole protocol; crashes and recovery). No leaf of a
     /// core's keys signs two statements, over all restarts.
+    // rule: Runs: A node or a world that ran out of memory says so from then on
+    // rule: Runs: After each event the world refines the run with that event
+    // rule: Checkpoints: A certificate that a correct node keeps certifies the log of a correct signer
+    // rule: Transfer: A value that a correct node adopted was delivered in that slot by a correct node
     pub fn event(&mut self, alloc: Global, event: &Event) -> EventResult
         requires { IsInRange self.old.simulation.setup event.now }
         ensures happened { (p : Course M.Msg) → RefinesRun M.spec M.refines self.old p →
