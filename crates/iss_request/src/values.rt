@@ -367,6 +367,7 @@ pub fn batch_digest(version: u8, batch: &Batch) -> [u8; 32]
 }
 
 /// The digest of a value's spelling. It needs no memory for the string.
+// rule: Formats: A value's digest is the hash of its encoding after a byte of its own
 pub fn digest_of(version: u8, value: &Value) -> [u8; 32]
     ensures { result ≡ sha256 (value_string version value.now) }
 {
