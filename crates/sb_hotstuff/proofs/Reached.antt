@@ -163,7 +163,7 @@ shown-spelled phase leaf low high = record {
   phase_fits = high;
   digest_fits = length-sha256 _;
   count_fits = omega arith;
-  rising = (omega arith, shape 0 leaf (states phase), (omega arith, shape 1 leaf (states phase), (omega arith, shape 3 leaf (states phase), tt)));
+  signers = (omega arith, shape 0 leaf (states phase), (omega arith, shape 1 leaf (states phase), (omega arith, shape 3 leaf (states phase), tt)));
   row = refl;
 }
 

@@ -27,7 +27,8 @@ use Rattle.hs_tree.specs.declared.certificates.Certificate.TheVariants.{Root, Vo
 use Rattle.iss_sb.specs.declared.signers.Signed.{Signed}
 use Rattle.hs_tree.specs.declared.messages.Message.{Message}
 use Rattle.hs_tree.specs.declared.messages.Message.TheVariants.{NewView, Prepare, PreCommit, Commit, Decide, Vote}
-use Rattle.hs_tree.specs.Certificates.{AreRisingVotes, IsSpelledCertificate, digest_of, root_row, view_of, votes_row}
+use Rattle.iss_sb.specs.Signers.{AreSigners}
+use Rattle.hs_tree.specs.Certificates.{IsSpelledCertificate, digest_of, root_row, view_of, votes_row}
 use Rattle.hs_tree.specs.Messages.{IsSpelledMessage, spell}
 use Rattle.hs_tree.specs.Statements.{own_statement, with_signature}
 use Rattle.hs_tree.specs.Tree.{basic, is_known}
@@ -100,9 +101,9 @@ module _ (p : Params) (good : IsGoodParams hotstuff p) where
   NodesBelow n [] = Unit {0}
   NodesBelow n (v ∷ vs) = (v.by.0 < n) × NodesBelow n vs
 
-  one-signed : (vs : List Kept) (phase view : ℕ) (d : List ℕ) (k : ℕ) → SignedAll vs → AreRisingVotes k (one_or_none (vote_of vs phase view d k))
+  one-signed : (vs : List Kept) (phase view : ℕ) (d : List ℕ) (k : ℕ) → SignedAll vs → AreSigners k (one_or_none (vote_of vs phase view d k))
   one-signed [] phase view d k h = tt
-  one-signed (v ∷ vs) phase view d k h = by-if (λ (o : Option Signed). AreRisingVotes k (one_or_none o)) _ (Some (record { by = record { 0 = k }; sig = v.sig })) (vote_of vs phase view d k)
+  one-signed (v ∷ vs) phase view d k h = by-if (λ (o : Option Signed). AreSigners k (one_or_none o)) _ (Some (record { by = record { 0 = k }; sig = v.sig })) (vote_of vs phase view d k)
       (omega arith, h.0, tt) (one-signed vs phase view d k h.1)
 
   one-below : (vs : List Kept) (phase view : ℕ) (d : List ℕ) (k : ℕ) → NodesBelow (suc k) (one_or_none (vote_of vs phase view d k))
@@ -122,15 +123,15 @@ module _ (p : Params) (good : IsGoodParams hotstuff p) where
   votes-below zero vs phase view d = tt
   votes-below (suc k) vs phase view d = below-append (suc k) (votes_of k vs phase view d) _ (wider k (votes_of k vs phase view d) (votes-below k vs phase view d)) (one-below vs phase view d k)
 
-  lower : (a b : ℕ) (vs : List Signed) → a ≤ b → AreRisingVotes b vs → AreRisingVotes a vs
+  lower : (a b : ℕ) (vs : List Signed) → a ≤ b → AreSigners b vs → AreSigners a vs
   lower a b [] le h = tt
   lower a b (v ∷ vs) le h = let l = h.0 in (omega (arith, le, l), h.1, h.2)
 
-  rising-append : (from k : ℕ) (xs ys : List Signed) → from ≤ k → AreRisingVotes from xs → NodesBelow k xs → AreRisingVotes k ys → AreRisingVotes from (xs ++ ys)
+  rising-append : (from k : ℕ) (xs ys : List Signed) → from ≤ k → AreSigners from xs → NodesBelow k xs → AreSigners k ys → AreSigners from (xs ++ ys)
   rising-append from k [] ys le h b g = lower from k ys le g
   rising-append from k (x ∷ xs) ys le h b g = let l = b.0 in (h.0, h.1, rising-append (suc x.by.0) k xs ys (omega (arith, l)) h.2 b.1 g)
 
-  votes-rise : (n : ℕ) (vs : List Kept) (phase view : ℕ) (d : List ℕ) → SignedAll vs → AreRisingVotes 0 (votes_of n vs phase view d)
+  votes-rise : (n : ℕ) (vs : List Kept) (phase view : ℕ) (d : List ℕ) → SignedAll vs → AreSigners 0 (votes_of n vs phase view d)
   votes-rise zero vs phase view d h = tt
   votes-rise (suc k) vs phase view d h = rising-append 0 k (votes_of k vs phase view d) _ (omega arith) (votes-rise k vs phase view d h) (votes-below k vs phase view d) (one-signed vs phase view d k h)
 
@@ -157,7 +158,7 @@ module _ (p : Params) (good : IsGoodParams hotstuff p) where
       let votes = votes_of p.setup.n s.votes phase view d in
       let n = nodes-few in
       let few = votes-few p.setup.n s.votes phase view d in
-      (votes_row view phase d votes, record { view_low = l; view_fits = m; phase_low = a; phase_fits = b; digest_fits = long; count_fits = omega (arith, n, few); rising = votes-rise p.setup.n s.votes phase view d h; row = refl })
+      (votes_row view phase d votes, record { view_low = l; view_fits = m; phase_low = a; phase_fits = b; digest_fits = long; count_fits = omega (arith, n, few); signers = votes-rise p.setup.n s.votes phase view d h; row = refl })
 
   -- ---- the best of kept words
 
