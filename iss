@@ -1,5 +1,5 @@
 #!/bin/sh
-# Runs the program: ./iss replay < rows/first-run
+# Runs the program: ./iss replay < rows/basics/first-run
 # Takes the proved build where it is newer than all sources, and else builds without proof.
 here=$(cd "$(dirname "$0")" && pwd)
 build=$here/crates/iss/out/iss

@@ -3,7 +3,7 @@
 # `rt try` writes the whole program as intermediate code, here with the words given. Its checks and its fills of locals are left out, the sources' hints
 # on inlining are put in, and LLVM compiles the rest with the words of a proved build, which still takes a seventh fewer instructions. What it prints is no more proved than that of `rt try`.
 set -eu
-[ $# -ge 2 ] || { echo "usage: bench/unproved.sh CRATE OUT [WORD..]" >&2; exit 2; }
+[ $# -ge 2 ] || { echo "usage: tools/unproved.py CRATE OUT [WORD..]" >&2; exit 2; }
 kit=$(dirname "$(dirname "$(readlink -f "$(command -v rt)")")")
 top=$(cd "$(dirname "$0")/.." && pwd)
 crate=$1
