@@ -110,8 +110,8 @@ again() {
     }'
 }
 
-# The seconds of the best of ROUNDS runs, and the most memory of one in MB. Nothing where a run fails, as when it is out of
-# memory.
+# The seconds of the best of ROUNDS runs, and the most memory of one in MB. Nothing where a run fails, for example out
+# of memory.
 cost() {
     local best="" most=0 clock user system seconds kilobytes
     for _ in $(seq "${ROUNDS:-7}"); do
