@@ -1,7 +1,8 @@
--- How a certificate is spelled in the body of a packet whose head names the epoch.
+-- How a certificate is encoded in the body of a packet whose head names the epoch. The signers are strictly ascending,
+-- and at least one of a quorum's signers is correct.
 --
---   certificate   chain (32 bytes), number of requests (8), count (1), and so many times a node (1) and its signature, the nodes
---                 rising
+--   certificate   chain (32 bytes), number of requests (8), count (1), and that many signers, each a node (1) and its
+--                 signature, the nodes strictly ascending
 use Rattle.std.specs.Prelude.{◌≡◌, ℕ, zero, suc, ◌<◌, ◌≤◌, ◌^◌, nat_le, nat_lt, ◌==◌, ◌&&◌, Bool, true, List, [], ◌∷◌, ◌++◌, length, if◌then◌else◌, replicate}
 use Rattle.std.specs.Int.{to_be_bytes, w64}
 use Rattle.std.specs.List.{flat_map}

@@ -1,4 +1,4 @@
--- Things in a row whose numbers rise, none below the first number that is allowed.
+-- Rows of things with strictly ascending numbers, none below the first that is allowed.
 use Rattle.std.specs.Prelude.{ℕ, zero, suc, ◌&&◌, Bool, true, List, [], ◌∷◌}
 use Rattle.iss_request.specs.Parsing.{Parser, ◌>>=◌, done}
 

@@ -1,8 +1,7 @@
--- How the entries of a log are spelled in bytes, and how they are read.
+-- How the entries of a log are encoded and decoded. An entry is a term and its content: nil, a batch or a mark. A
+-- value follows the version of the formats.
 --
 --   entry   term (2 bytes), then 0 for nil; 1 and a value that is a batch; 2 for a mark
---
--- The value is spelled and read by the version of the formats.
 use Rattle.std.specs.Prelude.{◌≡◌, ◌<◌, ℕ, ◌^◌, ◌==◌, nat_lt, nat_le, List, [], ◌∷◌, ◌++◌, if◌then◌else◌}
 use Rattle.std.specs.Int.{to_be_bytes, w16}
 use Rattle.iss_request.specs.Formats.{IsSpelledValue, batch_of, is_batch, parse_value, spell_value}
