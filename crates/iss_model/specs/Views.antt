@@ -1,4 +1,4 @@
--- What a node shows of its core, and the claims in bytes that come to it: those of a message of its epoch, of a vote,
+-- What a node shows of its core, and the claims in bytes that it receives: those of a message of its epoch, of a vote,
 -- and of a piece's certificate.
 use Rattle.std.specs.Prelude.{ℕ, Bool, true, cond, ◌&&◌, ◌==◌, not, is_some, List, [], ◌∷◌, Option, Some, None}
 use Rattle.std.specs.List.{filter}
