@@ -1,5 +1,5 @@
--- The invariants of machines and worlds, whatever happened to them: a good set-up, a kept node for each core, a
--- network between that many cores.
+-- The invariants of a simulation and of a world, whatever happened to them: a good set-up, a kept node for each core,
+-- a network between that many cores.
 use Rattle.std.specs.Prelude.{◌≡◌, ◌<◌, ℕ, false, List, [], ◌∷◌, length, None, Some, slice_get}
 use Rattle.iss_model.specs.Run.{cores_of, node_of}
 use Rattle.iss_rules.specs.Setups.{IsSetupOf}
