@@ -1,4 +1,6 @@
--- Waiting requests: a list in the order of arrival, no identity twice.
+-- The waiting requests of a node: a list in order of arrival, in which no identity stands twice. A batch is cut from
+-- the first n requests that the node may cast: their bucket is its own, and nothing marks them. The model cuts batches
+-- by these same definitions.
 use Rattle.std.specs.Prelude.{◌≡◌, ◌&&◌, not, ℕ, zero, suc, Bool, cond, false, List, [], ◌∷◌, ◌++◌}
 use Rattle.iss_request.specs.Log.{has_id, ids}
 use Rattle.iss_request.specs.declared.ids.ReqId.{ReqId}

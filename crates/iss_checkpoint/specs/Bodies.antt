@@ -1,4 +1,4 @@
--- How a vote is spelled in the body of its packet, whose head names the node and the epoch.
+-- How a vote is encoded in the body of its packet, whose head names the node and the epoch.
 --
 --   vote     chain (32 bytes), number of requests (8), signature
 use Rattle.std.specs.Prelude.{◌≡◌, ℕ, ◌<◌, ◌^◌, nat_lt, ◌==◌, ◌&&◌, Bool, true, List, ◌++◌, length, if◌then◌else◌, replicate}

@@ -1,4 +1,5 @@
--- How a certificate is spelled in the body of a packet whose head names the epoch.
+-- How a certificate is encoded in the body of a packet whose head names the epoch. The signers are strictly ascending,
+-- and at least one of a quorum's signers is correct.
 --
 --   certificate   chain (32 bytes), number of requests (8), count (1), and that many signers
 use Rattle.std.specs.Prelude.{◌≡◌, ℕ, ◌<◌, ◌^◌, nat_lt, ◌==◌, ◌&&◌, Bool, List, ◌∷◌, ◌++◌, length, if◌then◌else◌, replicate}

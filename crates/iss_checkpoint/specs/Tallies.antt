@@ -1,4 +1,6 @@
--- The votes on one epoch that were counted, one of each node, and what becomes of a further one.
+-- The votes on one epoch that were counted, one for each node, and what becomes of a further one. A vote is refused
+-- for the first test that fails. Votes are compared by what they say, and a certificate is made of all those that
+-- agree, as soon as they are a quorum.
 use Rattle.std.specs.Prelude.{◌≡◌, ◌≢◌, ℕ, zero, suc, ◌==◌, ◌&&◌, not, Bool, true, if◌then◌else◌, List, [], ◌∷◌, ◌++◌, length, Option, Some, None, is_some, Result, Ok, Err}
 use Rattle.std.specs.Map.{lookup}
 use Rattle.std.specs.Ordering.{is_eq, nat_cmp}

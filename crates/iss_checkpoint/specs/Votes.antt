@@ -1,4 +1,6 @@
--- Votes on the log at an epoch's end, and certificates: that a quorum of nodes signed the same.
+-- Votes on the log at the end of an epoch (the checkpoints of ISS), and certificates. A vote signs the digest of the
+-- log and the number of its requests. A certificate is exactly a quorum of true signatures of one such statement, by
+-- strictly ascending nodes.
 use Rattle.std.specs.Prelude.{◌≡◌, ℕ, suc, ◌<◌, ◌≤◌, nat_lt, nat_le, ◌==◌, ◌&&◌, Bool, true, List, [], ◌∷◌, ◌++◌, length}
 use Rattle.iss_base.specs.Lists.{In}
 use Rattle.iss_keys.specs.Directories.{DirectoryView, VerifiesBy}

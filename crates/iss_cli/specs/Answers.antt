@@ -1,4 +1,6 @@
--- What the program answers to its words and its input.
+-- What the program answers to its words and its input. For the text of a schedule it is the report of the run, and
+-- else the number of the first bad line and the reason. The whole answer is printed, or a prefix of it where the sink
+-- failed or memory ran out. Each exit status says which of these happened, so a failed sink is never passed over.
 use Rattle.std.specs.Prelude.{◌≡◌, ◌⊎◌, ℕ, Option, List, [], ◌∷◌, ◌++◌, take, codes, decimal}
 use Rattle.iss_schedule.specs.declared.errors.LineFault.{LineFault}
 use Rattle.iss_schedule.specs.declared.errors.LineFault.TheVariants.{Cut, Form, Faulty, Injected, Range, Size}

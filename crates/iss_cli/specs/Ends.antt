@@ -1,4 +1,6 @@
--- What the calls of sources and sinks do. Of a source or a sink that tells nothing of its bytes, nothing is said.
+-- What sources and sinks of bytes do. A source gives the next bytes of its input, and none only at its end; a sink
+-- keeps what it was given. Each counts its failed calls, and the count never falls. A source or sink that tells
+-- nothing about its bytes, as real files and pipes do, promises nothing about them.
 use Rattle.std.specs.Prelude.{◌≡◌, ◌⊎◌, ℕ, ◌≤◌, Option, None, Some, List, [], ◌++◌, length, take, drop}
 pub use Rattle.iss_base.specs.Counts.{Rose}
 

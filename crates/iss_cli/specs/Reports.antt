@@ -1,4 +1,6 @@
--- The report of a schedule's run under its module, and what is promised of the run.
+-- The report of a schedule's run under its module, and what is promised of that run. The promise is the one of the
+-- recovery theorem: one log, conserved requests, certificates of correct logs, evidence where the run ends early.
+-- There is one line here for each module that a schedule can name.
 use Rattle.std.specs.Prelude.{◌≡◌, ℕ, Option, Some, None}
 use Rattle.iss_theorems.specs.Conserved.{AcceptsOnce}
 use Rattle.iss_rules.specs.Ends.{End, Forged, Collision}

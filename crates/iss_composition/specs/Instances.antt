@@ -1,4 +1,5 @@
--- Which instance a statement names.
+-- Which instance a statement names: cluster, epoch, leader and the module's tag. Claims of different instances are
+-- never the same statement, and a vote is no instance's claim.
 use Rattle.std.specs.Prelude.{◌≡◌, ℕ, List}
 use Rattle.iss_sb.specs.declared.effects.Params.{Params}
 

@@ -1,4 +1,6 @@
--- The core that a row of entries leads to: that of a node which took their events in turn, and nothing else.
+-- The core of a list of entries: the model's step over their events in turn, from a core that has taken nothing. There
+-- is none where an entry is no event, or one that the core before it drops. The first such entry is named by the
+-- offset of its gate.
 use Rattle.std.specs.Prelude.{◌≡◌, ℕ, List, [], ◌∷◌, ◌++◌, length, Option, Some, None}
 use Rattle.iss_journal.specs.Frames.{frames}
 use Rattle.iss_rules.specs.Concrete.{rules_of}

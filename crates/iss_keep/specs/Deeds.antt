@@ -1,4 +1,5 @@
--- What a row of entries did at a node: each event with the turn that it led to, newest first.
+-- What a list of entries did at a node: each event with the turn it led to, newest first. These are a life of the
+-- node, up to the core that the entries lead to. No leaf in them signs two statements, so none does over all restarts.
 use Rattle.std.specs.Prelude.{ℕ, List, [], ◌∷◌, Option, Some, None}
 use Rattle.iss_rules.specs.declared.events.NodeEvent.{NodeEvent}
 use Rattle.iss_model.specs.Node.{Dropped, Stepped, Taken}

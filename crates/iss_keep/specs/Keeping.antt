@@ -1,4 +1,5 @@
--- What the parts of one event leave of the node: its step, and the entry behind that.
+-- What the two halves of a journaled event leave: the step of the node, and the append of its entry. The step's
+-- outcome is handed out only with its entry; else the node retreats to the log and epoch from before.
 use Rattle.std.specs.Prelude.{◌≡◌, ℕ, Result, Ok, Err}
 use Rattle.iss_disk.specs.declared.errors.EndError.{EndError}
 use Rattle.iss_disk.specs.declared.errors.EndError.TheVariants.{Failed as Disk_failed, NoMemory as Disk_no_memory}

@@ -1,4 +1,5 @@
--- What each entry of a row made at a node, and of which leaves of its keys.
+-- What each entry of a journal made at a node: its turn, and the first leaf it may have used. It makes the same in
+-- each recovery, whatever was appended behind it. No leaf belongs to two entries.
 use Rattle.std.specs.Prelude.{ℕ, ◌≤◌, List, [], ◌∷◌, Option, Some, None}
 use Rattle.iss_model.specs.Node.{Core, Dropped, Stepped, Taken, Turn, initial_core}
 use Rattle.iss_rules.specs.declared.events.NodeEvent.{NodeEvent}

@@ -1,4 +1,7 @@
--- What a kept node answers.
+-- What a kept node answers. `take`: the event was taken with four device calls, was dropped with none, or was taken
+-- while the disk failed. `reopen`: the entries are those of the file, which is brought to rest and loses none of them;
+-- a refusal names the damaged place. A crash in between leaves the node as before the event or as after it. Meanwhile
+-- a stale node shows the log and epoch from before.
 use Rattle.std.specs.Prelude.{◌≡◌, ◌⊎◌, ℕ, Bool, true, false, List, [], ◌∷◌, ◌++◌}
 use Rattle.iss_disk.specs.Calls.{HasCause, IfTold, Passes, Runs, StaysHere}
 use Rattle.iss_disk.specs.File.{File}

@@ -1,4 +1,8 @@
--- Which node leads which slots of an epoch, and which node owns which bucket of requests.
+-- Which node leads which slots of an epoch, and which node owns which bucket of requests. Leaders follow from set-up,
+-- epoch and the log before it, by one of three policies (simple, backoff, blacklist). The slots of an epoch go round
+-- among its leaders. A bucket's owner is its home node, which moves on by one each epoch, if that leads; else the
+-- leaders take turns. For this the log is cut into the epochs that have ended, each with its slots that hold nil.
+-- There is always a leader: where the policy admits none, all nodes lead.
 use Rattle.std.specs.Prelude.{◌≡◌, ℕ, zero, suc, ◌+◌, ◌-◌, ◌*◌, ◌%◌, ◌^◌, ◌<◌, ◌≤◌, ◌==◌, min, max, nat_lt, nat_le}
 use Rattle.std.specs.Prelude.{Bool, true, false, not, ◌&&◌, List, [], ◌∷◌, ◌++◌, length, Option, Some, None, get_or, slice_get, if◌then◌else◌, ◌↔◌}
 use Rattle.std.specs.List.{count_by, filter, list_any}

@@ -1,5 +1,6 @@
--- The digests that stand for a log. A value is hashed behind the number 64, and a link behind 66: the digest of the log before,
--- and that of the value. The chain of no value is the digest of no byte.
+-- The digest chain that identifies a log. A value is hashed behind the byte 64, and a link behind 66: the digest of
+-- the log before, and that of the value. The chain of no value is the digest of no byte. An end is a chain and the
+-- number of requests up to it.
 use Rattle.std.specs.Prelude.{◌≡◌, ℕ, suc, ◌+◌, ◌≤◌, List, [], ◌∷◌, ◌++◌, length, take, Some, slice_get}
 use Rattle.iss_request.specs.Digest.{digest}
 use Rattle.iss_request.specs.Formats.{value_string}

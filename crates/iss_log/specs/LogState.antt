@@ -1,4 +1,6 @@
--- What is seen of a log: the values that joined it, in the order of the slots, and the values that are filled behind it.
+-- What is seen of a log: the values that joined it in slot order, and the values filled ahead of it. Filling a slot
+-- tells whether it is past, filled already, or filled now. Advancing makes the log the longest run of filled slots
+-- from 0. The number of a request is that of the requests before it; nil has none.
 use Rattle.std.specs.Prelude.{◌≡◌, ℕ, ◌<◌, ◌≤◌, nat_lt, ◌==◌, List, [], ◌++◌, length, take, Option, Some, None, IsSome, slice_get, slice_index, if◌then◌else◌, Result, Ok, Err}
 use Rattle.std.specs.Map.{lookup}
 use Rattle.std.specs.Ordering.{is_eq, nat_cmp}

@@ -1,5 +1,7 @@
--- A run in which disks fail and cores are made anew. A core keeps each event on its disk before anything of the event is handed out,
--- and one whose disk has failed takes nothing until it is made anew of the events that the disk keeps.
+-- A run in which disks fail and cores recover. A core journals each event before anything of it is handed out. A core
+-- whose disk has failed takes nothing; an event that is dropped makes no device call. If the disk fails at an event,
+-- nothing of the step comes out, and the core is as before. A restarted core is the one that its journaled events lead
+-- to; it sends nothing, and network and books stay.
 use Rattle.std.specs.Prelude.{ℕ, zero, suc, cond, true, false, List, [], ◌∷◌, Option, Some, None}
 use Rattle.iss_base.specs.Lists.{nth, set_at}
 use Rattle.iss_network.specs.Network.{Network, cleared, due, held_to, settled}

@@ -1,4 +1,5 @@
--- The disk of a core, as a run sees it: which events of the core it keeps, and which of its calls pass.
+-- The disk of a core, as a run sees it: the journaled events, newest first, how many calls pass before all others
+-- fail, and whether one has failed since the last restart. An event is journaled by four calls, or not at all.
 use Rattle.std.specs.Prelude.{ℕ, ◌-◌, nat_le, Bool, true, false, List, [], ◌∷◌, Option, Some, None}
 use Rattle.iss_rules.specs.declared.events.NodeEvent.{NodeEvent}
 

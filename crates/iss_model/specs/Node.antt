@@ -1,4 +1,8 @@
--- One node over all epochs: what it holds, and one step of it.
+-- One replica over all epochs: what a core holds, and one step of it. A core has its past, waiting requests, batches
+-- in flight, early messages, votes, certificates, and the next leaf. Bytes decode to a request, a module's message, a
+-- vote, an ask or a piece; each is taken or dropped for the first cause that holds. A proposal casts a batch of own
+-- waiting requests at the first free slot. When the log holds the whole epoch, the replica votes, enters the next one,
+-- and takes what came early. A turn is what a step leads to: the core, the sends, the claims and the hashed strings.
 use Rattle.std.specs.Prelude.{ℕ, suc, ◌+◌, ◌-◌, ◌==◌, nat_lt, cond, Bool, false, not, ◌&&◌, ◌||◌}
 use Rattle.std.specs.Prelude.{List, [], ◌∷◌, ◌++◌, Option, Some, None, length, is_some, reverse, take}
 use Rattle.iss_buckets.specs.Waiting.{absent, cut, uncut}

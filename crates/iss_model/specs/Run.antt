@@ -1,4 +1,8 @@
--- All cores over a whole schedule: each event, up to the delivery that shows a forged claim or the step that shows a collision.
+-- A run: all cores and the network over a schedule. Cores below n are the nodes; behind them each faulty node has a
+-- second core, its twin, with the same keys. Two books record what correct nodes signed and what any core hashed. An
+-- event first tests the claims that it reads against the book, and then its strings. A forged claim of a correct node
+-- ends the run, and so do two strings of one digest. What is held then is what stood before that delivery. A lost
+-- event is noted with its number and cause.
 use Rattle.std.specs.Prelude.{ℕ, zero, suc, ◌-◌, ◌==◌, ◌&&◌, nat_lt, not, cond, Bool, true, false, List, [], ◌∷◌, ◌++◌, Option, Some, None}
 use Rattle.std.specs.List.{filter}
 use Rattle.iss_base.specs.Lists.{below, first_of, nth, push_all, same_bytes, set_at}

@@ -1,4 +1,5 @@
--- What a node shows of its core.
+-- What a node shows of its core, and the claims in bytes that it receives: those of a message of its epoch, of a vote,
+-- and of a piece's certificate.
 use Rattle.std.specs.Prelude.{ℕ, Bool, true, cond, ◌&&◌, ◌==◌, not, is_some, List, [], ◌∷◌, Option, Some, None}
 use Rattle.std.specs.List.{filter}
 use Rattle.iss_base.specs.Lists.{below}

@@ -1,4 +1,5 @@
--- The network: every packet that was sent, which of them wait, and which cores pumps pass over.
+-- The network: every packet that was sent, in order, the numbers of those that wait, and which cores are held. A pump
+-- delivers what waits for cores that are not held. A packet may be delivered again.
 use Rattle.std.specs.Prelude.{ℕ, ◌==◌, cond, Bool, false, List, [], ◌∷◌, ◌++◌, length, Option, Some, None, replicate, slice_set}
 use Rattle.iss_base.specs.Lists.{nth}
 use Rattle.iss_network.specs.declared.packets.Sent.{Sent}

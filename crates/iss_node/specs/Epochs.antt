@@ -1,4 +1,5 @@
--- How an epoch's end changes the parts of a node.
+-- How the end of an epoch changes a node: the policy and the windows learn what joined the log, and fresh instances
+-- start for the leaders of the next epoch.
 use Rattle.std.specs.Prelude.{◌≡◌, ℕ, [], ◌∷◌, ◌++◌, List, Some, is_some, reverse, Option}
 use Rattle.std.specs.List.{filter}
 use Rattle.iss_layout.specs.Layout.{Ended, IsStanding, Plan, conduct_of, leads, plan_by, segment, slots_from}

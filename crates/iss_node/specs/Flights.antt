@@ -1,4 +1,4 @@
--- What is in flight at a node.
+-- The batches in flight at a node: those that it cast in slots which its log does not hold yet.
 use Rattle.std.specs.Prelude.{◌≡◌, ℕ, ◌&&◌, not, nat_lt, cond, List, [], ◌∷◌}
 use Rattle.iss_model.specs.Node.{flown, flying}
 use Rattle.iss_request.specs.Log.{has_id}

@@ -1,4 +1,5 @@
--- What the input of an instance does to the parts of a node.
+-- What the input of one instance does to a node: the instance's step, its verdict, the log's growth, and what is
+-- handed out.
 use Rattle.std.specs.Prelude.{◌≡◌, ◌≢◌, ℕ, ◌||◌, List, ◌++◌, [], ◌∷◌, Option, Some, None, Result, Ok, Err, fold, length, reverse}
 use Rattle.iss_buckets.specs.Waiting.{AreNew, absent}
 use Rattle.iss_log.specs.Chains.{IsChainOf}

@@ -1,4 +1,4 @@
--- What is seen of a parcel: the model's.
+-- A parcel of the code, seen as the model's parcel.
 use Rattle.std.specs.Prelude.{ℕ, ◌<◌, Option, Some, None}
 use Rattle.iss_rules.specs.Parcels.{Body as ModelBody, OfAsk, OfModule, OfPiece, OfRequest, OfVote, Parcel as Carried}
 use Rattle.iss_node.specs.declared.parcels.Body.{Body}

@@ -1,4 +1,6 @@
--- What is seen of a node, and which model core it stands for.
+-- What is seen of a node, and when it refines a core of the model. Its log, waiting requests, batches in flight, marks
+-- and ballots are the core's, and each instance refines the list of what was taken there. Of earlier epochs only the
+-- log is compared. Most steps look at no vote, so they are stated for a core without votes and certificates.
 use Rattle.std.specs.Prelude.{◌≡◌, ℕ, ◌+◌, ◌*◌, ◌<◌, ◌≤◌, ◌==◌, Bool, false, cond, is_some, List, [], ◌∷◌, length, reverse, Option, Some, None, slice_get}
 use Rattle.iss_keys.specs.Directories.{AreKeysOf, DirectoryView}
 use Rattle.iss_keys.specs.KeyStates.{KeyState}

@@ -1,4 +1,7 @@
--- What a node's answer to an event says of the model's step.
+-- What a node's answer says about the model's step. If the model takes the event, the node refines the core after it
+-- and hands out what the model makes: packets in order, own claims, read claims, hashed strings. If the model drops
+-- it, nothing changes, for the same cause. Where memory runs out the node is stale, and shows the log and epoch that
+-- it had.
 use Rattle.std.specs.Prelude.{◌≡◌, ◌<◌, ◌+◌, ◌^◌, ℕ, true, List, [], take}
 use Rattle.iss_log.specs.LogState.{GoesOn}
 use Rattle.iss_rules.specs.Concrete.{rules_of}

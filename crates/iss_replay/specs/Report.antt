@@ -1,4 +1,5 @@
--- The text that tells how far a run has come.
+-- The text that tells how far a run has come: lost events, a block for each correct node, and the last line. Where the
+-- run ended early, the logs are those from before the delivery that ended it.
 use Rattle.std.specs.Prelude.{◌≡◌, ℕ, zero, suc, cond, List, [], ◌∷◌, ◌++◌}
 use Rattle.iss_rules.specs.Concrete.{rules_of}
 use Rattle.iss_rules.specs.Past.{log_of}

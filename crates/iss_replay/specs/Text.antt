@@ -1,4 +1,6 @@
--- The text of a report, line by line. Logs are newest first; numbers are in decimal digits.
+-- The text of a report, line by line. A node's block has its epoch, slots and requests, and a line for each slot with
+-- the number of its first request. A lost event has a line with its cause. The last line is `end ok`, or the event
+-- that ended the run with its evidence. Logs are newest first here; numbers are decimal.
 use Rattle.std.specs.Prelude.{ℕ, List, [], ◌∷◌, ◌++◌, length, codes, decimal, Option, Some, None}
 use Rattle.iss_request.specs.Log.{requests}
 use Rattle.iss_request.specs.declared.requests.Request.{Request}

@@ -1,4 +1,7 @@
--- The rules of a cluster under its set-up.
+-- The rules of a cluster, taken from its set-up: the layout gives leaders and buckets, the windows the admitted
+-- numbers, and keys that follow from the numbers of nodes and clients give signatures. An epoch starts at the sum of
+-- the lengths before it, and never so late that a slot would pass 2^64. A request is signed by its client over
+-- identity and payload; a client that does not exist has no key.
 use Rattle.std.specs.Prelude.{ℕ, zero, suc, ◌-◌, ◌^◌, ◌&&◌, Bool, List, ◌∷◌, ◌++◌, length, reverse, cond, nat_le, nat_lt, Option, Some, None}
 use Rattle.std.specs.Int.{to_be_bytes, w16, w32}
 use Rattle.iss_checkpoint.specs.Votes.{vote_statement}

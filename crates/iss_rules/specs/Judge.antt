@@ -1,4 +1,6 @@
--- Whether a batch is accepted in a segment: the first refusal that holds of any of its requests.
+-- Whether a batch is accepted in a segment: the first refusal that holds for it or for any of its requests. In order:
+-- too many requests; a bucket that the leader does not own; no such client, or a bad signature; a number outside its
+-- window; a request that the log before the epoch holds; one accepted before in this segment, or twice in the batch.
 use Rattle.std.specs.Prelude.{ℕ, Bool, false, not, ◌||◌, ◌==◌, nat_lt, cond, List, [], ◌∷◌, ◌++◌, length, Option, Some, None}
 use Rattle.std.specs.List.{list_any}
 use Rattle.iss_request.specs.Log.{has_id, ids, log_ids}

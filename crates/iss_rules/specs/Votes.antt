@@ -1,4 +1,5 @@
--- Votes and certificates that a node holds: whose they are, whether they are true, and when votes make a certificate.
+-- Votes and certificates that a node holds. A certificate is true if it has exactly a quorum of true signatures of
+-- strictly ascending nodes. It is made from votes that say the same as soon as they are exactly a quorum.
 use Rattle.std.specs.Prelude.{ℕ, suc, ◌==◌, nat_le, cond, Bool, true, ◌&&◌, List, [], ◌∷◌, Option, Some, None, length}
 use Rattle.std.specs.List.{list_all}
 use Rattle.iss_checkpoint.specs.Tallies.{certificate_by}

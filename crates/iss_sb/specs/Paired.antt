@@ -1,4 +1,4 @@
--- Slots with the values that stand there.
+-- Slots with the values that are delivered there.
 use Rattle.std.specs.Prelude.{ℕ, ◌==◌, List, [], ◌∷◌, Option, Some, None, if◌then◌else◌}
 use Rattle.iss_request.specs.declared.ids.Slot.{Slot}
 use Rattle.iss_request.specs.declared.requests.Value.{Value}

@@ -1,4 +1,5 @@
--- What the statements of a cluster begin with, and their signatures.
+-- What signed statements begin with: the cluster's tag, epoch, leader and the module's number. Numbers are encoded so
+-- that different ones have different bytes, whatever their size.
 use Rattle.std.specs.Prelude.{ℕ, ◌/◌, ◌^◌, List, [], ◌∷◌, ◌++◌}
 use Rattle.std.specs.Int.{bytes_high_first}
 use Rattle.iss_keys.specs.Directories.{node_secret}

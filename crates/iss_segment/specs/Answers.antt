@@ -1,4 +1,5 @@
--- What an instance answers to an input.
+-- What an instance answers to an input: it was taken, the judge refuses it, or too few leaves are left. In the last
+-- two cases nothing changes.
 use Rattle.std.specs.Prelude.{◌≡◌, ℕ, ◌+◌, ◌<◌, ◌≤◌, List, Option, Some, None, Result, Ok, Err}
 use Rattle.iss_keys.specs.Directories.{AreKeysOf}
 use Rattle.iss_keys.specs.KeyStates.{KeyState, left_of}

@@ -1,4 +1,5 @@
--- What is seen of an instance, and what it stands for.
+-- One instance: parameters, node, module state, and the identities that it accepted. It refines the list of inputs
+-- that it took if its module does, and its identities have the same members as the model's marks.
 use Rattle.std.specs.Prelude.{◌≡◌, ℕ, List}
 use Rattle.iss_rules.specs.Judge.{marks}
 use Rattle.iss_request.specs.Log.{has_id}

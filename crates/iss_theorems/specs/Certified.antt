@@ -1,4 +1,6 @@
--- What certificates stand for, and what was adopted under them.
+-- What a certificate says: a quorum signed it, among them a correct node, whose log at the end of the epoch has this
+-- chain and number of requests. And what adoption says: each adopted value was delivered by a correct node in its
+-- slot's instance.
 use Rattle.std.specs.Prelude.{◌≡◌, ℕ, suc, ◌+◌, ◌<◌, true, List, length, Some}
 use Rattle.iss_base.specs.Lists.{In}
 use Rattle.iss_checkpoint.specs.declared.votes.Cert.{Cert}

@@ -1,4 +1,5 @@
--- Where the requests are that a core took: each identity in one place.
+-- No request is lost: each identity that a correct core took is in exactly one of its log, its waiting list and its
+-- batches in flight. This asks that a correct leader accepts one batch per slot.
 use Rattle.std.specs.Prelude.{◌≡◌, ◌⊎◌, ℕ, true, cond, ◌==◌, List, [], ◌∷◌, Option, Some, None}
 use Rattle.iss_base.specs.Lists.{In}
 use Rattle.iss_request.specs.Log.{ids, log_ids}

@@ -1,4 +1,6 @@
--- What the end of a run shows to anyone who has its schedule, and what its book holds.
+-- The evidence with which a run ends early. A forgery: a core read a claim that verifies under the key of a correct
+-- node, which never sent it. A collision: a core hashed the second of two different strings of one digest. The book
+-- misses no claim that a correct node sent, nor its votes, so the evidence convinces anyone who has the schedule.
 use Rattle.std.specs.Prelude.{◌≡◌, ◌⊎◌, ℕ, suc, ◌<◌, true, List, ◌∷◌, ◌++◌, Some}
 use Rattle.iss_base.specs.Lists.{In, push_all}
 use Rattle.iss_keys.specs.Directories.{VerifiesBy, directory_of}

@@ -1,4 +1,7 @@
--- What a run leads to in which disks fail and cores are made anew: what a run of nodes leads to that never do, and so one log.
+-- The recovery theorem: a run with disk failures and restarts equals a run without any, by the events that were
+-- journaled. Cores, packets, books and the end of the run are the same. So all that holds for runs holds here: one
+-- log, conserved requests, certificates of correct logs, adopted values that were delivered, and evidence for an early
+-- end.
 use Rattle.std.specs.Prelude.{◌≡◌, ◌⊎◌, ℕ, true, List, [], ◌∷◌, ◌++◌, Option, Some, None, reverse}
 use Rattle.iss_base.specs.Lists.{In}
 use Rattle.iss_checkpoint.specs.declared.votes.Cert.{Cert}

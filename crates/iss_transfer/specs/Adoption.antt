@@ -1,4 +1,6 @@
--- When the values of a piece are taken over, and what the log then is.
+-- When a replica adopts the values of a piece: the epoch and length fit, the certificate is true, and the values lead
+-- from its log to what the certificate says. The first test that fails is the reason of a refusal. Then the log is the
+-- one before the epoch with these values behind it.
 use Rattle.std.specs.Prelude.{◌≡◌, ℕ, ◌*◌, ◌==◌, ◌&&◌, not, Bool, true, if◌then◌else◌, List, [], ◌++◌, length, take}
 use Rattle.iss_base.specs.Lists.{In, same_bytes}
 use Rattle.iss_keys.specs.Directories.{DirectoryView, VerifiesBy}

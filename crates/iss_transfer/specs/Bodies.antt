@@ -1,7 +1,7 @@
--- How asks and pieces are spelled in the bodies of their packets, whose head names the epoch.
+-- How asks and pieces are encoded in the bodies of their packets, whose head names the epoch.
 --
 --   ask      nothing
---   piece    count (1 byte), and so many values; the certificate of the same epoch
+--   piece    count (1 byte), and that many values; the certificate of the same epoch
 use Rattle.std.specs.Prelude.{◌≡◌, ℕ, ◌<◌, nat_lt, ◌==◌, ◌&&◌, Bool, List, [], ◌∷◌, ◌++◌, length, if◌then◌else◌}
 use Rattle.std.specs.List.{flat_map}
 use Rattle.iss_request.specs.Formats.{IsSpelledValue, parse_value, spell_value}

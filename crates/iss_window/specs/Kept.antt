@@ -1,4 +1,5 @@
--- What windows keep in place of all that was noted.
+-- What the code keeps for a window: each client's least number that is missing, and the identities from there on that
+-- were noted.
 use Rattle.std.specs.Prelude.{◌≡◌, ℕ, ◌<◌, ◌≤◌, ◌^◌, nat_lt, nat_le, ◌==◌, ◌&&◌, ◌||◌, Bool, true, false, if◌then◌else◌, List, length, slice_index}
 use Rattle.iss_request.specs.Log.{has_id}
 use Rattle.iss_request.specs.declared.ids.ReqId.{ReqId}

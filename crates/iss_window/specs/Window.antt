@@ -1,4 +1,6 @@
--- The windows of the clients, as functions of the identities that were noted and of the epochs' ends.
+-- The windows of the clients, as functions of the identities that were noted and of the ends of epochs. A client's
+-- window begins at its least number that was not noted before the last epoch's end. A number outside its window is
+-- refused.
 use Rattle.std.specs.Prelude.{◌≡◌, ℕ, zero, suc, ◌+◌, ◌<◌, nat_lt, Bool, true, false, if◌then◌else◌, List, [], ◌∷◌, length}
 use Rattle.iss_request.specs.Log.{has_id}
 use Rattle.iss_request.specs.declared.ids.ReqId.{ReqId}

@@ -1,4 +1,6 @@
--- What an event promises of a world that stood for the run of the events before it.
+-- What an event promises for a world that refined the run of the events before it: it refines the run with this event.
+-- The recovery theorem holds for that run, numbers agree between nodes, and no leaf signs two statements over all
+-- restarts.
 use Rattle.std.specs.Prelude.{◌≡◌, ℕ, true, List, Some, slice_get}
 use Rattle.iss_disk.specs.declared.memory.MemoryDisk.{MemoryDisk}
 use Rattle.iss_keep.specs.Deeds.{deeds_of}

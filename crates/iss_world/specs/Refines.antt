@@ -1,4 +1,6 @@
--- Which run, in which disks fail and cores are made anew, the running cores and a world stand for, and what an event made of it.
+-- When a simulation and a world refine a run with disk failures and restarts, and what an event made of it. A kept
+-- node refines a core over its disk: it is at the core, or its disk has failed and it shows the core's log and epoch.
+-- Its entries are the events that the disk keeps. The networks are the same, and the books hold what the run's hold.
 use Rattle.std.specs.Prelude.{◌≡◌, ◌⊎◌, ◌↔◌, ℕ, Bool, true, false, List, [], ◌∷◌, ◌++◌, length, Option, Some, None, option_map, reverse, slice_get}
 use Rattle.iss_rules.specs.Ends.{End, Forged, Collision}
 use Rattle.iss_rules.specs.declared.events.NodeEvent.{NodeEvent}
