@@ -1,4 +1,4 @@
--- Each entry has leaves of its own, and what is appended later changes nothing of what it made.
+-- Every entry uses its own leaves, and appending entries does not change what earlier entries produced.
 use Rattle.std.proofs.Common.{arith, ◌≡◌, ◌⊎◌, inl, inr, ℕ, suc, ◌≤◌, List, [], ◌∷◌, ◌++◌, Option, Some, None, refl, ap, ◌∙◌, subst}
 use Rattle.iss_journal.specs.Frames.{Reading, Reads, holds}
 use Rattle.iss_journal.specs.Promises.{HoldsWithOrWithout}
@@ -46,7 +46,7 @@ module _ {Msg : Type 0} (F : Formats Msg) (R : Rules) (m : Module Msg) (me : ℕ
 -- ---- a row of entries
 
 module _ {Msg : Type 0} (s : Setup) (m : Module Msg) (me : ℕ) where
-  -- the turn of a core's step, if there is one
+  -- The turn of a core's step, if the step was accepted.
   stepped-more : (c : Core Msg) (event : NodeEvent) (o : Stepped Msg) → step_of s m me c event ≡ o → (more : Core Msg → List (Making Msg)) →
       ((d : Core Msg) → AreApart d.leaf (more d)) → AreApart c.leaf (made_on c (turn_in o) more)
   stepped-more c event (Dropped why) q more rest = tt

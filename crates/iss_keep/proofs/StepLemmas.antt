@@ -1,4 +1,4 @@
--- What a step leaves of a node, and what its entry leaves behind it.
+-- What a step leaves of a node, and what appending its entry leaves after that.
 use Rattle.std.proofs.Common.{◌≡◌, ℕ, ◌≤◌, length, take, refl, sym, ap, ◌∙◌, subst}
 use Rattle.iss_journal.specs.Frames.{max_entry}
 use Rattle.iss_log.specs.LogState.{GoesOn}
@@ -34,7 +34,7 @@ shows-itself v = record { log = refl; epoch = refl }
 module _ {M Msg : Type 0} (m : Module Msg) (refines : Relation M Msg) (event : NodeEvent) (old taken : NodeView M Msg) (outcome : Outcome)
     (good : IsSetupOf m old.state.setup) (core : (c : Core Msg) × RefinesCore m refines old c) (setup : taken.state.setup ≡ old.state.setup) (me : taken.state.me ≡ old.state.me)
     (answer : Answers m refines event old taken (Node_taken outcome)) where
-  -- its entry fits into a journal
+  -- The entry is short enough for a journal.
   pub short : (copy : NodeEvent) → copy ≡ event → length (spell_event copy) ≤ max_entry
   short copy is =
       let a = answer core.0 core.1 in
@@ -45,7 +45,7 @@ module _ {M Msg : Type 0} (m : Module Msg) (refines : Relation M Msg) (event : N
       let a = answer core.0 core.1 in
       taken-goes-on m refines old taken core.0 event a.turn good core.1 a.refined a.step_is setup me
 
-  -- the log and the epoch from before can be gone back to
+  -- The node can retreat to the log and epoch that it had before the step.
   pub longer : (slots : ℕ) → slots ≡ length old.state.log.entries → slots ≤ length taken.state.log.entries
   longer slots is =
       subst (λ (k : ℕ). k ≤ length taken.state.log.entries) (sym is) (log-long old.state.log.entries taken.state.log.entries grown)

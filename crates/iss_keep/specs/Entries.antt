@@ -63,7 +63,7 @@ abbrev pub event_in : ℕ → List ℕ → Option NodeEvent
 event_in n [] = None
 event_in n (kind ∷ rest) = event_of_kind n kind rest
 
--- Of four nodes, node 3 leads or is asked, and node 4 is none.
+-- In a cluster of four, node 3 may lead or be asked. Node 4 does not exist.
 timeout : event_in 4 (3 ∷ 3 ∷ []) ≡ Some (Timeout (record { 0 = 3 }))
 timeout = refl
 
