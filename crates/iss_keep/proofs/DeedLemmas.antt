@@ -49,7 +49,7 @@ module _ {Msg : Type 0} (s : Setup) (m : Module Msg) (me : ℕ) where
   deeds-core [] done c h = same-core s m me (core_behind done) c h
   deeds-core (entry ∷ entries) done c h = core-step (event_in s.n entry) done entries c h (λ x k. deeds-core entries x c k)
 
-  -- ---- what is appended later
+  -- ---- entries appended later
 
   on-by : (o : Stepped Msg) (event : NodeEvent) (done : List (Deed Msg)) (front more : List (List ℕ)) (c : Core Msg) → from_core (core_after o) (core_from s m me front) ≡ Some c →
       ((x : List (Deed Msg)) → core_from s m me front (core_behind x) ≡ Some c → deeds_on s m me (front ++ more) x ≡ deeds_on s m me more (deeds_on s m me front x)) →

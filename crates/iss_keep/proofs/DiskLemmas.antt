@@ -27,7 +27,7 @@ use Rattle.iss_keep.specs.Steps.{IsAttached, IsDamaged, IsWritten, LosesNone, Si
 use Rattle.iss_keep.specs.declared.answers.Answer.{Answer}
 use Rattle.iss_keep.specs.declared.answers.Answer.TheVariants.{Dropped, Failed, NoMemory, Stale, Taken}
 
--- ---- what a file holds is settled: `one` is what iss_journal's `a_file_has_one_reading` says
+-- ---- a file has one reading: `one` is the law `a_file_has_one_reading` of iss_journal
 
 pub same-held : (es fs : List (List ℕ)) → holds es ≡ holds fs → es ≡ fs
 same-held es fs h = cc
@@ -161,7 +161,7 @@ pub new-read : (history : List File) → history ≡ settled [] ∷ [] →
     IfTold history (λ file. Reads file.content (holds [])) × IfTold history (λ file. Reads file.kept (holds []))
 new-read history is = rw is (inl (omega arith, refl), inl (omega arith, refl))
 
--- ---- which calls pass
+-- ---- which calls succeed
 
 -- If no call of the disk fails, reopening succeeds and leaves that so.
 pub reopens-well : (before now : Sight) (failed : Type 0) → LosesNone before now failed → before.passes ≡ script [] → (now.passes ≡ script []) × (failed → ⊥)

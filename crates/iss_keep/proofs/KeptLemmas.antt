@@ -205,7 +205,7 @@ module _ {M Msg D : Type 0} (m : Module Msg) (refines : Relation M Msg) (history
             };
           }
 
-    -- ---- what the whole call leaves, where the node was not stale
+    -- ---- the effect of the whole call on a node that was not stale
 
     module _ (fresh : old.stale ≡ false) (journal : Journal D) where
       abbrev left : Answer → KeptState M Msg D

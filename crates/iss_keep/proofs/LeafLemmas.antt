@@ -18,7 +18,7 @@ use Rattle.iss_keep.specs.Makings.{AreApart, Making, made_on, makings_from, maki
 use Rattle.iss_keep.proofs.CoreLemmas.{one-more}
 use Rattle.iss_keep.proofs.DiskLemmas.{same-held}
 
--- ---- a step gives no leaf back
+-- ---- a step never reuses a leaf
 
 module _ {Msg : Type 0} (F : Formats Msg) (R : Rules) (m : Module Msg) (me : ℕ) where
   settles-more : (n : ℕ) (t : Turn Msg) → n ≤ t.core.leaf → n ≤ (advance_epochs F R m me t).core.leaf
@@ -43,7 +43,7 @@ module _ {Msg : Type 0} (F : Formats Msg) (R : Rules) (m : Module Msg) (me : ℕ
   pub taken-more : (c : Core Msg) (event : NodeEvent) (t : Turn Msg) → step F R m me c event ≡ Taken t → c.leaf ≤ t.core.leaf
   taken-more c event t h = took-more c event t (took F R m me c event t h)
 
--- ---- a row of entries
+-- ---- a list of entries
 
 module _ {Msg : Type 0} (s : Setup) (m : Module Msg) (me : ℕ) where
   -- The turn of a core's step, if the step was accepted.
@@ -64,7 +64,7 @@ module _ {Msg : Type 0} (s : Setup) (m : Module Msg) (me : ℕ) where
   pub makings-apart : (entries : List (List ℕ)) → AreApart 0 (makings_of s m me entries)
   makings-apart entries = apart-from entries initial_core
 
-  -- ---- what is appended later
+  -- ---- entries appended later
 
   pub nowhere : (d : Core Msg) (P : Type 0) → None ≡ Some d → P
   nowhere d P h = absurd (cc)

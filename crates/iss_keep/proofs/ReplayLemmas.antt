@@ -36,7 +36,7 @@ module _ {M Msg : Type 0} (s : Setup) (m : Module Msg) (refines : Relation M Msg
     pub goes-nowhere : None ≡ event_in s.n entry → GoesTo s m refines me c entry new false
     goes-nowhere read = ap (core_with s m me c) (sym read)
 
-  -- ---- a row of them
+  -- ---- a list of entries
 
   module _ (entries : List (List ℕ)) (k : ℕ) (lt : k < length entries) (c : Core Msg) (before : core_of s m me (take k entries) ≡ Some c) where
     pub replayed-more : (d : Core Msg) → core_with s m me c (event_in s.n (get_or entries k [])) ≡ Some d → core_of s m me (take (k + 1) entries) ≡ Some d

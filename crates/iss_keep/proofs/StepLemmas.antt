@@ -17,7 +17,7 @@ use Rattle.iss_keep.specs.declared.answers.Answer.{Answer}
 use Rattle.iss_keep.specs.declared.answers.Answer.TheVariants.{Dropped, Failed, NoMemory, Stale, Taken}
 use Rattle.iss_keep.proofs.TakenLemmas.{log-cut, log-long, taken-goes-on, taken-later, taken-short}
 
--- ---- where the event was not taken
+-- ---- the event was not accepted
 
 pub shows-spoiled : {M Msg : Type 0} (old new : NodeView M Msg) → IsSpoiled old new → ShowsSame old new
 shows-spoiled old new h = record { log = h.log; epoch = h.epoch }
@@ -29,7 +29,7 @@ shows-stale old new same =
 pub shows-itself : {M Msg : Type 0} (v : NodeView M Msg) → ShowsSame v v
 shows-itself v = record { log = refl; epoch = refl }
 
--- ---- where it was
+-- ---- the event was accepted
 
 module _ {M Msg : Type 0} (m : Module Msg) (refines : Relation M Msg) (event : NodeEvent) (old taken : NodeView M Msg) (outcome : Outcome)
     (good : IsSetupOf m old.state.setup) (core : (c : Core Msg) × RefinesCore m refines old c) (setup : taken.state.setup ≡ old.state.setup) (me : taken.state.me ≡ old.state.me)

@@ -108,7 +108,7 @@ module _ {Msg : Type 0} (F : Formats Msg) (R : Rules) (m : Module Msg) (me : ℕ
   pub taken-rises : (c : Core Msg) (event : NodeEvent) (t : Turn Msg) → step F R m me c event ≡ Taken t → c.past.epoch ≤ t.core.past.epoch
   taken-rises c event t h = took-rise c event t (took F R m me c event t h)
 
--- ---- the log goes on
+-- ---- the log is extended
 
 turned : (a b : List Value) → Extends (reverse a) (reverse b) → GoesOn a b
 turned a b h = (

@@ -11,7 +11,7 @@ use Rattle.iss_rules.specs.declared.events.NodeEvent.{NodeEvent}
 use Rattle.iss_rules.specs.declared.events.NodeEvent.TheVariants.{AskFrom, Packet, Propose, Timeout}
 use Rattle.iss_request.specs.declared.ids.NodeId.{NodeId}
 
--- ---- spelling
+-- ---- encoding
 
 abbrev pub packet_entry : List ℕ → List ℕ
 packet_entry bytes = 1 ∷ bytes
@@ -22,7 +22,7 @@ spell_event Propose = 2 ∷ []
 spell_event (Timeout leader) = 3 ∷ leader.0 ∷ []
 spell_event (AskFrom peer) = 4 ∷ peer.0 ∷ []
 
--- ---- the table: which entry is which event of a cluster of n nodes
+-- ---- the table: which entry encodes which event, in a cluster of n nodes
 
 abbrev pub NamesNode : ℕ → NodeEvent → Type 0
 NamesNode n (Packet bytes) = Unit {0}
@@ -33,7 +33,7 @@ NamesNode n (AskFrom peer) = peer.0 < n
 abbrev pub IsEntryOf : ℕ → List ℕ → NodeEvent → Type 0
 IsEntryOf n entry event = (entry ≡ spell_event event) × NamesNode n event
 
--- ---- reading
+-- ---- decoding
 
 abbrev pub propose_in : List ℕ → Option NodeEvent
 propose_in [] = Some Propose

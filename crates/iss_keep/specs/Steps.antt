@@ -58,7 +58,7 @@ makes_stale Failed = true
 makes_stale Stale = true
 makes_stale NoMemory = true
 
--- ---- what an answer leaves on the disk
+-- ---- the disk after an answer
 
 -- What contracts see of a disk: the history of its current file, the results of coming calls, the number of faults, the
 -- current file's name, and the history of each file.
@@ -140,7 +140,7 @@ IsDamaged s m me entries before at =
     IfTold before (λ file. Reads file.content (damaged at))
     ⊎ (IfTold before (λ file. Reads file.content (holds entries)) × StopsAt s m me at entries)
 
--- ---- what stays
+-- ---- what does not change
 
 -- The node reports the same log and epoch as before.
 pub record ShowsAsBefore {M Msg D : Type 0} (old new : KeptState M Msg D) : Type 0 where
