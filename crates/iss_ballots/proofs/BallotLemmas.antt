@@ -1,4 +1,4 @@
--- What a vote, a certificate and a further place do to what is held, and to the lists that it stands for.
+-- The effect of a vote, of a certificate and of a new epoch on the state, and on the lists that it refines.
 use Rattle.std.proofs.Common.{arith, inl, inr, ◌≡◌, ◌≢◌, ◌⊎◌, ℕ, zero, suc, ◌<◌, Bool, true, false, ◌||◌, ◌==◌, cond, not, List, [], ◌∷◌, ◌++◌, Option, Some, None, Result, Ok, Err, IfOk, is_some, length, slice_get, slice_set, refl, sym, ap, ◌∙◌, subst, true≢false}
 use Rattle.std.specs.Prelude.{OnErr}
 use Rattle.iss_request.specs.declared.errors.NoMemory.{NoMemory}
@@ -20,7 +20,7 @@ use Rattle.iss_rules.specs.Votes.{cert_on, keeping, vote_by}
 
 -- ---- places
 
--- a place more: it is the last one, or one that was there
+-- An index of the longer list is the last one, or was there before.
 pub place-more : {A : Type 0} (xs : List A) (x : A) (e : ℕ) → ((slice_get (xs ++ x ∷ []) e ≡ Some x) × (slice_get xs e ≡ None) × (e ≡ length xs)) ⊎ (slice_get (xs ++ x ∷ []) e ≡ slice_get xs e)
 place-more [] x zero = inl (refl, refl, refl)
 place-more [] x (suc e) = inr refl
@@ -71,7 +71,7 @@ set-tallied w all e now lt tallied here d b h = elim (same_or_not d e) [
   | inr ne ↦ tallied d b (sym (set-there all e d now ne) ∙ h)
 ]
 
--- what no list says of the epoch stays
+-- If the lists do not change for this epoch, the state still refines them.
 pub set-kept : (v : BallotsState) (e : ℕ) (now : Ballot) (votes more : List Vote) (certs others : List Cert) → e < length v.all → AreKept v votes certs →
     ((d : ℕ) → d ≢ e → cert_on others d ≡ cert_on certs d) → ((d k : ℕ) → d ≢ e → vote_by more d k ≡ vote_by votes d k) →
     cert_in (Some now) ≡ cert_on others e → ((k : ℕ) → cert_on others e ≡ None → vote_in (Some now) k ≡ vote_by more e k) →
@@ -143,7 +143,7 @@ twice-of t v h = go (v.epoch.0 == t.epoch) (is_signed t.voters (statement_of t.v
     go true false qs k qk r = absurd (unlike (clash Unsigned Twice r))
     go false s qs k qk r = absurd (apart (clash OtherEpoch Twice r))
 
--- a vote on the tally's epoch that is refused for its signature is not signed
+-- A vote on the tally's epoch that is refused for its signature is not signed.
 unsigned-of : (t : TallyState) (v : Vote) → v.epoch.0 ≡ t.epoch → (refusal t v ≡ Some Unsigned) ⊎ (refusal t v ≡ Some OtherEpoch) → is_signed t.voters (statement_of t.voters v) v.by.0 v.sig ≡ false
 unsigned-of t v same h = go (v.epoch.0 == t.epoch) own (is_signed t.voters (statement_of t.voters v) v.by.0 v.sig) refl (is_some (vote_at t.votes v.by.0)) h
   where
@@ -194,7 +194,7 @@ module _ (b : BallotsState) (v : Vote) (lt : v.epoch.0 < length b.all) (tallied 
   still-tallied (Open t) now BadSignature at h = set-tallied b.voters b.all v.epoch.0 now lt tallied (subst (λ (z : Ballot). IsOpenAt b.voters v.epoch.0 z) (sym h.1) (tallied v.epoch.0 (Open t) at))
   still-tallied (Open t) now Counted at h = set-tallied b.voters b.all v.epoch.0 now lt tallied (counted-tallied t h.tally at h.counted now h.is)
 
-  -- whatever the answer of a count
+  -- The same for each result of a count.
   pub any-tallied : (old now : Ballot) (r : Result Taking NoMemory) → slice_get b.all v.epoch.0 ≡ Some old → IfOk r (IsTakenAt old v now) → OnErr r (now ≡ old) → AreOpen b.voters (slice_set b.all v.epoch.0 now)
   any-tallied old now (Ok k) at h e = still-tallied old now k at h
   any-tallied old now (Err x) at h e = set-tallied b.voters b.all v.epoch.0 now lt tallied (subst (λ (z : Ballot). IsOpenAt b.voters v.epoch.0 z) (sym e) (tallied v.epoch.0 old at))
@@ -205,7 +205,7 @@ module _ (b : BallotsState) (v : Vote) (votes : List Vote) (certs : List Cert) (
   abbrev pub set-at : Ballot → BallotsState
   set-at now = record b { all = slice_set b.all v.epoch.0 now }
 
-  -- nothing changes
+  -- Nothing changes.
   same-kept : (now : Ballot) → slice_get b.all v.epoch.0 ≡ Some now → AreKept (set-at now) votes certs
   same-kept now at = set-kept b v.epoch.0 now votes votes certs certs lt kept (λ d ne. refl) (λ d k ne. refl)
       (sym (ap (λ (o : Option Ballot). cert_in o) at) ∙ kept.certs_are v.epoch.0)
@@ -274,7 +274,7 @@ module _ (b : BallotsState) (v : Vote) (votes : List Vote) (certs : List Cert) (
             subst (λ (z : Ballot). AreKept (set-at z) (v ∷ votes) (stable_by b.voters (v ∷ votes) v ++ certs)) (sym (is ∙ now-is)) (after (length theirs.signers == b.voters.quorum) refl),
           )
 
-  -- what became of a vote at its ballot is what became of it
+  -- The effect on the epoch gives the effect on the lists.
   pub taken-so : (old now : Ballot) (k : Taking) → slice_get b.all v.epoch.0 ≡ Some old → (is_some (cert_in (Some old)) ≡ true → is_true b.voters v ≡ true) → IsTakenAt old v now k → IsTaken votes certs v (set-at now) k
   taken-so (Stable c) now Known at signed h = subst (λ (z : Ballot). IsTaken votes certs v (set-at z) Known) (sym h) (stable-known c at (signed refl))
   taken-so (Stable c) now Counted at signed h = absurd h
@@ -283,7 +283,7 @@ module _ (b : BallotsState) (v : Vote) (votes : List Vote) (certs : List Cert) (
   taken-so (Open t) now BadSignature at signed h = subst (λ (z : Ballot). IsTaken votes certs v (set-at z) BadSignature) (sym h.1) (tallied-unsigned t at h.0)
   taken-so (Open t) now Counted at signed h = tallied-counted t at h.tally h.counted now h.is
 
--- whatever the answer of a count at the ballot of a place that was reached
+-- The same for each result of a count, after the vector was extended.
 pub any-taken : (first b : BallotsState) (v : Vote) (old now : Ballot) (r : Result Taking NoMemory) → v.epoch.0 < length b.all → AreOpen b.voters b.all → ((votes : List Vote) (certs : List Cert) → AreKept first votes certs → AreKept b votes certs) →
     slice_get b.all v.epoch.0 ≡ Some old → (is_some (cert_in (Some old)) ≡ true → is_true b.voters v ≡ true) → IfOk r (IsTakenAt old v now) →
     IfOk r (λ (t : Taking). (votes : List Vote) (certs : List Cert) → AreKept first votes certs → IsTaken votes certs v (record b { all = slice_set b.all v.epoch.0 now }) t)

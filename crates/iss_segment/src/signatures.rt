@@ -1,4 +1,4 @@
-//! Requests as their clients sign them.
+//! The signatures of clients on requests.
 ghost use Rattle.std.specs.Prelude.{◌≡◌, ◌+◌, ◌^◌, ◌<◌, ◌≤◌, IfOk, length, take};
 ghost use Rattle.iss_keys.specs.Signatures.{signature_of};
 ghost use Rattle.iss_rules.specs.Concrete.{is_signed_by, request_statement};
@@ -6,15 +6,15 @@ ghost use Rattle.iss_rules.specs.Concrete.{is_signed_by, request_statement};
 use iss_keys::{Directory, Keys};
 use iss_request::{Bytes, NoMemory, ReqId, Request};
 
-/// The most bytes of a payload, and what stands before it in a statement.
+/// The longest payload, in bytes.
 const PAYLOAD_MOST: usize = 256;
 
 const HEAD: usize = 8;
 
-// What a client's statement begins with.
+// The first byte of a client's statement.
 const REQUEST: u8 = 0x30;
 
-/// Whether a request's client signed it. It takes no memory.
+/// Whether the request's client signed it. Allocates nothing.
 pub fn is_signed(directory: &Directory, request: &Request) -> bool
     ensures { result ≡ is_signed_by directory.now request.now }
 {
@@ -30,11 +30,13 @@ pub fn is_signed(directory: &Directory, request: &Request) -> bool
     directory.verify_client(request.id.client, statement, request.sig.as_slice())
 }
 
-/// The client's signature of a request, by the leaf of the request's number.
+/// The client's signature of a request, by the leaf whose index is the request's number. The only error is out of
+/// memory.
 pub fn sign_request(keys: &Keys, id: ReqId, payload: &[u8]) -> Result<Bytes, NoMemory>
     requires leaf { id.number < 2 ^ keys.now.height }
     requires payload { length payload.now ≤ 256 }
-    ensures { IfOk result (λ sig. sig ≡ signature_of keys.now.secret keys.now.height id.number (request_statement id payload.now)) }
+    ensures { IfOk result (λ sig. sig ≡ signature_of keys.now.secret keys.now.height id.number
+        (request_statement id payload.now)) }
 {
     let mut buffer = [0u8; HEAD + PAYLOAD_MOST];
     put_statement(id, payload, &mut buffer);
@@ -45,7 +47,7 @@ pub fn sign_request(keys: &Keys, id: ReqId, payload: &[u8]) -> Result<Bytes, NoM
     }
 }
 
-// Puts what a client signs at the front of a buffer.
+// Writes the statement that a client signs to the beginning of a buffer.
 fn put_statement(id: ReqId, payload: &[u8], buffer: &mut [u8])
     requires payload { length payload.now ≤ 256 }
     requires room { 8 + length payload.now ≤ length buffer.old }
@@ -57,7 +59,7 @@ fn put_statement(id: ReqId, payload: &[u8], buffer: &mut [u8])
     buffer[8..8 + payload.len()].copy_from_slice(payload);
 }
 
-// The first bytes of a buffer.
+// The first `count` bytes of a buffer.
 fn front(buffer: &[u8], count: usize) -> &[u8]
     requires { count ≤ length buffer.now }
     ensures { result.now ≡ take count buffer.now }
