@@ -18,7 +18,7 @@ use Rattle.iss_checkpoint.specs.declared.votes.Signed.{Signed}
 use Rattle.iss_checkpoint.specs.declared.votes.Vote.{Vote}
 use Rattle.iss_rules.specs.Votes.{cert_on, keeping, vote_by}
 
--- ---- places
+-- ---- indices
 
 -- An index of the longer list is the last one, or was there before.
 pub place-more : {A : Type 0} (xs : List A) (x : A) (e : ℕ) → ((slice_get (xs ++ x ∷ []) e ≡ Some x) × (slice_get xs e ≡ None) × (e ≡ length xs)) ⊎ (slice_get (xs ++ x ∷ []) e ≡ slice_get xs e)
@@ -39,7 +39,7 @@ set-there (y ∷ xs) zero (suc d) x ne = refl
 set-there (y ∷ xs) (suc e) zero x ne = refl
 set-there (y ∷ xs) (suc e) (suc d) x ne = set-there xs e d x (λ q. ne (ap suc q))
 
--- ---- a further place, with no vote
+-- ---- a new epoch without votes
 
 pub reached-tallied : (w : Voters) (all : List Ballot) (t : TallyState) → AreOpen w all → t.voters ≡ w → t.epoch ≡ length all → AreOpen w (all ++ Open t ∷ [])
 reached-tallied w all t tallied voters epoch e b h = elim (place-more all (Open t) e) [
@@ -61,7 +61,7 @@ reached-kept v t votes certs none h = record {
   ];
 }
 
--- ---- one place takes another ballot
+-- ---- the state of one epoch changes
 
 pub set-tallied : (w : Voters) (all : List Ballot) (e : ℕ) (now : Ballot) → e < length all → AreOpen w all → IsOpenAt w e now → AreOpen w (slice_set all e now)
 set-tallied w all e now lt tallied here d b h = elim (same_or_not d e) [
@@ -89,7 +89,7 @@ set-kept v e now votes more certs others lt h certs_stay votes_stay cert_here vo
   ];
 }
 
--- ---- a vote more, and a certificate more, in the lists
+-- ---- one more vote or certificate in the lists
 
 cert-here : (c : Cert) (certs : List Cert) → cert_on (c ∷ certs) c.epoch.0 ≡ Some c
 cert-here c certs = let q = eqb-same c.epoch.0 in rw q refl
@@ -103,7 +103,7 @@ vote-here v votes tally k h = let q = eqb-same v.epoch.0 in rw q (ap (λ (o : Op
 vote-there : (v : Vote) (votes : List Vote) (d k : ℕ) → d ≢ v.epoch.0 → vote_by (v ∷ votes) d k ≡ vote_by votes d k
 vote-there v votes d k ne = let q = eqb-other v.epoch.0 d (λ e. ne (sym e)) in rw q refl
 
--- ---- what a tally finds
+-- ---- the checks of a tally
 
 record IsFree (t : TallyState) (v : Vote) : Type 0 where
   signed : is_signed t.voters (statement_of t.voters v) v.by.0 v.sig ≡ true
@@ -159,7 +159,7 @@ unsigned-of t v same h = go (v.epoch.0 == t.epoch) own (is_signed t.voters (stat
     go true qe true qs true (inl r) = let q = some-injective Twice Unsigned r in absurd (cc)
     go true qe true qs true (inr r) = let q = some-injective Twice OtherEpoch r in absurd (cc)
 
--- ---- the answers of a count
+-- ---- the results of a count
 
 pub counted-so : (t u : TallyState) (v : Vote) → IsCounted t v u → length (certificate u v).signers ≢ t.voters.quorum → IsCountedAt t v (Open u)
 counted-so t u v h few =
@@ -173,7 +173,7 @@ stable-so t u v c h many is =
     let test : (length (certificate u v).signers == u.voters.quorum) ≡ true = ap (λ (k : ℕ). length (certificate u v).signers == k) (sym (many ∙ sym (ap (λ (w : Voters). w.quorum) voters))) ∙ eqb-same _ in
     record { tally = u; counted = h; is = rw test (ap (λ (z : Cert). Stable z) is) }
 
--- ---- the ballot of a place stays one of it
+-- ---- the state of an epoch keeps its epoch
 
 module _ (b : BallotsState) (v : Vote) (lt : v.epoch.0 < length b.all) (tallied : AreOpen b.voters b.all) where
   counted-tallied : (t u : TallyState) → slice_get b.all v.epoch.0 ≡ Some (Open t) → IsCounted t v u → (now : Ballot) → now ≡ settled_by u v → IsOpenAt b.voters v.epoch.0 now
@@ -199,7 +199,7 @@ module _ (b : BallotsState) (v : Vote) (lt : v.epoch.0 < length b.all) (tallied 
   any-tallied old now (Ok k) at h e = still-tallied old now k at h
   any-tallied old now (Err x) at h e = set-tallied b.voters b.all v.epoch.0 now lt tallied (subst (λ (z : Ballot). IsOpenAt b.voters v.epoch.0 z) (sym e) (tallied v.epoch.0 old at))
 
--- ---- a vote at the ballot of its epoch
+-- ---- a vote on its epoch
 
 module _ (b : BallotsState) (v : Vote) (votes : List Vote) (certs : List Cert) (kept : AreKept b votes certs) (lt : v.epoch.0 < length b.all) (tallied : AreOpen b.voters b.all) where
   abbrev pub set-at : Ballot → BallotsState
@@ -290,7 +290,7 @@ pub any-taken : (first b : BallotsState) (v : Vote) (old now : Ballot) (r : Resu
 any-taken first b v old now (Ok k) lt tallied kept at signed h = λ votes certs was. taken-so b v votes certs (kept votes certs was) lt tallied old now k at signed h
 any-taken first b v old now (Err x) lt tallied kept at signed h = tt
 
--- ---- a certificate that is kept where there is none
+-- ---- a certificate for an epoch that has none
 
 keeps-none : (b : BallotsState) (c : Cert) (t : TallyState) (votes : List Vote) (certs : List Cert) → c.epoch.0 < length b.all → slice_get b.all c.epoch.0 ≡ Some (Open t) → AreKept b votes certs →
     AreKept (record b { all = slice_set b.all c.epoch.0 (Stable c) }) votes (keeping certs c (cert_on certs c.epoch.0))

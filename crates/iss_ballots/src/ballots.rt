@@ -38,7 +38,7 @@ pub struct Ballots {
     alloc: Global,
     setup: Setup,
     directory: SharedDirectory,
-    // by epoch
+    // By epoch.
     all: Vec<Ballot>,
 }
 

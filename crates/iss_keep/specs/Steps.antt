@@ -134,7 +134,7 @@ pub record LosesNone (before now : Sight) (failed : Type 0) : Type 0 where
   pub works : Works before.passes now.passes failed
   pub others : StaysHere before.current now.current before.files now.files
 
--- Either the file is damaged at this offset, or all entries are read and the node refuses the one behind this gate.
+-- Either the file is damaged at this offset, or all entries are read and the node refuses the one after this gate.
 abbrev pub IsDamaged : {Msg : Type 0} → Setup → Module Msg → ℕ → List (List ℕ) → List File → ℕ → Type 0
 IsDamaged s m me entries before at =
     IfTold before (λ file. Reads file.content (damaged at))

@@ -1,4 +1,4 @@
--- A node that takes over the values of a piece stands for the core of the model's step.
+-- Adopting a piece refines the model's step.
 use Rattle.std.proofs.Common.{arith, inl, inr, ◌≡◌, ℕ, suc, ◌+◌, ◌-◌, ◌*◌, ◌<◌, ◌≤◌, Bool, true, false, ◌&&◌, ◌==◌, ◌||◌, cond, List, [], ◌∷◌, ◌++◌, Option, Some, None, length, length-append, reverse, refl, sym, ap, ◌∙◌, subst, le_antisymm}
 use Rattle.std.specs.Prelude.{fold}
 use Rattle.std.proofs.lemmas.Bool.Decides.{leb_tells}
@@ -60,7 +60,7 @@ use Rattle.iss_transfer.specs.declared.adopting.Adoption.TheVariants.{Adopt, Bad
 use Rattle.iss_transfer.specs.declared.pieces.Piece.{Piece as Sent_piece}
 use Rattle.iss_window.specs.Kept.{RefinesNoted}
 
--- ---- what an adoption tells
+-- ---- the result of the check
 
 pub record IsAdoptable (s : Setup) (w : Voters) (log : List Value) (e : ℕ) (p : Sent_piece) (hashed : List (List ℕ)) : Type 0 where
   pub epoch : p.epoch.0 ≡ e
@@ -138,7 +138,7 @@ module _ {M Msg : Type 0} (m : Module Msg) (refines : M → Params → ℕ → L
       let n = nth-some p.values (k - v.plan.start) (omega (arith, lo, hi, whole)) in
       first-some (value_at v.log k) None (nth p.values (k - v.plan.start)) n.0 n.1 (sym (value-is k lo) ∙ none)
 
-  -- the log ends with the epoch
+  -- The log ends with the epoch.
   size : length log.entries ≡ v.plan.start + v.setup.epoch
   size =
       let more = ap (λ (ys : List Value). length ys) grown.entries in
@@ -248,7 +248,7 @@ module _ {M Msg : Type 0} (m : Module Msg) (refines : M → Params → ℕ → L
       ∙ ap (λ (k : ℕ). (rules_of v.setup).hashes before p.values ++ strings_from k (chain_of k v.log.entries) grown.joined) shape.version
       ∙ ap (λ (xs : List (List ℕ)). (rules_of v.setup).hashes before p.values ++ xs) (sym (grown-is v.setup v.log.entries grown.joined _ _ tied.log (new-log ∙ ap (λ (ys : List Value). reverse ys) grown.entries)))
 
-  -- ---- the parts before the next epoch begins
+  -- ---- the state before the next epoch starts
 
   module _ (chains : ChainsState) (chained : IsChainOf chains (v.log.entries ++ grown.joined)) (waiting : List Request) (flight : FlightState) (logged : List ReqId) (ballots : BallotsState)
       (joins : logged ≡ fold and_values v.logged grown.joined)
@@ -259,7 +259,7 @@ module _ {M Msg : Type 0} (m : Module Msg) (refines : M → Params → ℕ → L
     abbrev pub after : StateView M Msg
     after = record v { log = log; chains = chains; logged = logged; flight = flight; waiting = waiting; ballots = ballots }
 
-    -- the past of the epoch with what was adopted
+    -- The history with the adopted epoch.
     abbrev pub with_it : Past Msg
     with_it = record past { adopted = piece ∷ past.adopted }
 
@@ -291,18 +291,18 @@ module _ {M Msg : Type 0} (m : Module Msg) (refines : M → Params → ℕ → L
       keys = tied.keys;
     }
 
--- ---- it stays the same node
+-- ---- set-up and identity are the same
 
--- what is held of votes says nothing of it
+-- Votes and certificates do not matter for this.
 pub kept-same : {M Msg : Type 0} (v u w : StateView M Msg) (ballots : BallotsState) → IsLater v u → IsLater (record u { ballots = ballots }) w → IsSameNode v w
 kept-same v u w ballots h g = record { setup = g.setup ∙ h.setup; me = g.me ∙ h.me; log = goes-trans v.log.entries u.log.entries w.log.entries h.log g.log }
 
 pub same-on : {M Msg : Type 0} (v w x : StateView M Msg) → IsSameNode v w → IsLater w x → IsSameNode v x
 same-on v w x h g = record { setup = g.setup ∙ h.setup; me = g.me ∙ h.me; log = goes-trans v.log.entries w.log.entries x.log.entries h.log g.log }
 
--- ---- the whole of it
+-- ---- the whole adoption
 
--- the turn of a core without votes and certificates
+-- The turn of a core without votes and certificates.
 abbrev bare_turn : {Msg : Type 0} → Rules → Module Msg → ℕ → Core Msg → Sent_piece → Turn Msg
 bare_turn R m me c p = let t = adopts_piece R m me c p in record t { core = bare t.core }
 

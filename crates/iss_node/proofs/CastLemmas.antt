@@ -1,4 +1,4 @@
--- How a node casts.
+-- A proposal refines the model's step.
 use Rattle.std.proofs.Common.{arith, inl, inr, ◌≡◌, ℕ, zero, nat_lt, slice_get, suc, ◌+◌, ◌<◌, Bool, true, false, List, [], ◌∷◌, ◌++◌, cond, ◌==◌, ◌||◌, ◌&&◌, not, Option, Some, None, length, drop, get_or, refl, sym, ap, ◌∙◌, subst, add-one, drop-cons}
 use Rattle.std.proofs.lemmas.Bool.Decides.{nat_tests}
 use Rattle.std.proofs.lemmas.List.{length-reverse}
@@ -40,7 +40,7 @@ use Rattle.iss_segment.specs.Instance.{IsInstance, SegmentState}
 
 -- ---- the batch that is cut
 
--- tests that agree everywhere cut the same
+-- Predicates that agree everywhere cut the same batch.
 cut-is : (p r : Request → Bool) → ((q : Request) → p q ≡ r q) → (n : ℕ) (qs : List Request) → cut n p qs ≡ cut n r qs
 cut-is p r same n qs = let tests : p ≡ r = λ i q. same q i in ap (λ (f : Request → Bool). cut n f qs) tests
 
@@ -56,7 +56,7 @@ flown-more x (f ∷ fs) slot batch =
     has_id-append x (ids f.1) (flown (fs ++ (slot, batch) ∷ [])) ∙ ap (λ b. has_id x (ids f.1) || b) (flown-more x fs slot batch)
     ∙ or-assoc (has_id x (ids f.1)) (has_id x (flown fs)) (has_id x (ids batch)) ∙ ap (λ b. b || has_id x (ids batch)) (sym (has_id-append x (ids f.1) (flown fs)))
 
--- a slot below a list's length holds a value
+-- An index below a list's length has an element.
 held : {A : Type 0} (xs : List A) (s : ℕ) → s < length xs → (x : A) × (slice_get xs s ≡ Some x)
 held [] s lt = absurd (omega (arith, lt))
 held (x ∷ xs) zero lt = (x, refl)
@@ -73,7 +73,7 @@ module _ {M Msg : Type 0} (m : Module Msg) (refines : M → Params → ℕ → L
       ∙ ap (λ (b : Bool). b && not (has_id q.id g.marked)) (owner-is v.me.0 (bucket_owner plan (bucket_of plan q.id)) owned.owner owned.is)
       ∙ ap (λ (b : Bool). (number_of (bucket_owner plan (bucket_of plan q.id)) == v.me.0) && not b) (marked q.id)
 
-  -- a node keeps what it is tied to after a cut
+  -- After a cut the state still refines its history.
   module _ (F : Formats Msg) (u : StateView M Msg) (slot : Slot) (batch : Batch) (h : IsCut v u slot batch) where
     mine : Request → Bool
     mine = is_mine (rules_of v.setup) m v.me.0 (core_of v past)
@@ -114,7 +114,7 @@ module _ {M Msg : Type 0} (m : Module Msg) (refines : M → Params → ℕ → L
       keys = tied.keys;
     }
 
-    -- the turn of a cast
+    -- The turn of a proposal.
     pub cast-turned : (w : StateView M Msg) (o : Outcome) (i : ℕ) → i ≡ u.me.0 → IsTurnOf m refines u (λ F R me c. step_unjudged F R m me c i (Cast slot batch)) w o → IsTurned m refines (casting (formats_of v.setup m) (rules_of v.setup) m v.me.0 (core_of v past) slot) w o
     cast-turned w o i own all =
         let u0 : StateView M Msg = record v { waiting = u.waiting; flight = u.flight } in
@@ -138,7 +138,7 @@ module _ {M Msg : Type 0} (m : Module Msg) (refines : M → Params → ℕ → L
       ap (λ b. cond b (Some s) (first_slot p ss)) (same s (inl refl))
       ∙ ap (λ (o : Option Slot). cond (q s) (Some s) o) (first-same p q ss (λ t i. same t (inr i)))
 
-  -- the value of a slot of the node's own segment
+  -- The value of a slot in the node's own segment.
   pub value-is : (l : ℕ) (s : Slot) → In s (params_of (rules_of v.setup) m v.me.0 past l).slots → value_at v.log s.0 ≡ delivered m (params_of (rules_of v.setup) m v.me.0 past l) v.me.0 (taken_in past l) s.0
   value-is l s i =
       let own = own-slot m refines v shape past tied s.0 l i in
@@ -146,7 +146,7 @@ module _ {M Msg : Type 0} (m : Module Msg) (refines : M → Params → ℕ → L
       tied.cells s.0 (omega (arith, q, own.0)) (omega (arith, q, own.1))
       ∙ ap (λ (k : ℕ). delivered m ((rules_of v.setup).params (before_own (rules_of v.setup) m v.me.0 past) past.epoch k) v.me.0 (taken_in past k) s.0) own.2
 
-  -- a slot that the log holds is filled
+  -- A slot of the log has a value.
   behind-log : (s : ℕ) (a b : Bool) → (a && (not (is_some (value_at v.log s)) && b)) ≡ (not (nat_lt s (length (log_of (rules_of v.setup) m v.me.0 past))) && (a && (not (is_some (value_at v.log s)) && b)))
   behind-log s a b = go (nat_lt s (length (log_of (rules_of v.setup) m v.me.0 past))) refl
     where

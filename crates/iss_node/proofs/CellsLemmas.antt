@@ -37,7 +37,7 @@ and-none : (o : Option Value) → o ≡ first_of o None
 and-none None = refl
 and-none (Some y) = refl
 
--- a slot that holds a value keeps it; an empty one takes what comes
+-- A slot with a value keeps it. An empty slot takes what is delivered.
 keeps : (o : Option Value) (b : Bool) (x : Value) → o ≢ None → o ≡ first_of o (if b then Some x else None)
 keeps None b x h = absurd (h refl)
 keeps (Some y) b x h = refl
@@ -65,7 +65,7 @@ module _ (old new : LogState) (slot : Slot) (value : Value) where
   entries Already h = ap (λ (l : LogState). l.entries) h.same
   entries Past h = ap (λ (l : LogState). l.entries) h.same
 
-  -- one value more
+  -- One more value.
   pub filled-next : (start : LogState) (ds : List (Slot × Value)) (fill : Fill) → AreFilled start ds old → IsFill old slot.0 value new (Ok fill) → AreFilled start (ds ++ (slot, value) ∷ []) new
   filled-next start ds fill so_far h = record {
     values = λ s.

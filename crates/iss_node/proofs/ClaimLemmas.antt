@@ -1,4 +1,4 @@
--- What the node says of claims is what the model says.
+-- The node reads the same claims as the model.
 use Rattle.std.proofs.Common.{◌≡◌, ◌≢◌, ◌∙◌, ◌↔◌, ℕ, ◌+◌, ◌<◌, Bool, true, false, eqb, cond, List, [], ◌∷◌, ◌++◌, append_assoc, Option, Some, None, length, take, get_or, refl, sym, ap, subst, add-one, arith}
 use Rattle.std.proofs.lemmas.List.{append-nil}
 use Rattle.std.proofs.Math.Seq.{take-suc}
@@ -27,13 +27,13 @@ use Rattle.iss_sb.specs.declared.effects.Params.{Params}
 use Rattle.iss_sb.specs.declared.effects.To.{To}
 use Rattle.iss_segment.specs.Instance.{SegmentState}
 
--- a node of the cluster is one of an instance's
+-- A node of the cluster is a node of the instance's set-up.
 pub below : {M Msg : Type 0} (m : Module Msg) (v : StateView M Msg) → IsNodeState m v → (l k : ℕ) (g : SegmentState M) → Some g ≡ led v.segments l → k < v.setup.n → k < g.params.setup.n
 below m v shape l k g at lt = subst (λ (s : Setup). k < s.n) (sym (shape.segments l g (sym at)).setup) lt
 
 module _ {M Msg : Type 0} (m : Module Msg) (refines : M → Params → ℕ → List (Item Msg) → Type 0)
     (v : StateView M Msg) (past : Past Msg) (tied : RefinesPast m refines v past) (from l : ℕ) (msg : Msg) where
-  -- the claims of a message whose leader leads, and of one whose leader does not
+  -- The claims of a message, by whether its leader leads the epoch.
   pub claims-led : (g : SegmentState M) → Some g ≡ led v.segments l → (claims : List Claim) → claims ≡ m.claims g.params from msg → claims ≡ claims_in (rules_of v.setup) m v.me.0 past from l msg
   claims-led g at claims is =
       let lead : leads_in (rules_of v.setup) m v.me.0 past l ≡ true = leads-is m refines v past tied l true (ap (λ (o : Option (SegmentState M)). is_some o) at) in
@@ -45,11 +45,11 @@ module _ {M Msg : Type 0} (m : Module Msg) (refines : M → Params → ℕ → L
       let lead : leads_in (rules_of v.setup) m v.me.0 past l ≡ false = leads-is m refines v past tied l false (ap (λ (o : Option (SegmentState M)). is_some o) at) in
       is ∙ sym (ap (λ (b : Bool). cond b (m.claims (params_of (rules_of v.setup) m v.me.0 past l) from msg) []) lead)
 
-  -- where the leader leads, they are those of the instance
+  -- If the leader leads the epoch, they are the claims that the instance reads.
   pub claims-there : leads_in (rules_of v.setup) m v.me.0 past l ≡ true → claims_in (rules_of v.setup) m v.me.0 past from l msg ≡ m.claims (params_of (rules_of v.setup) m v.me.0 past l) from msg
   claims-there lead = ap (λ (b : Bool). cond b (m.claims (params_of (rules_of v.setup) m v.me.0 past l) from msg) []) lead
 
--- what the message of a packet claims that is of the node's epoch, and of one that is not
+-- The claims of a message in a packet, by whether it belongs to the current epoch.
 pub packet-now : {M Msg : Type 0} (m : Module Msg) (refines : M → Params → ℕ → List (Item Msg) → Type 0) (v : StateView M Msg) (past : Past Msg) (tied : RefinesPast m refines v past) (p : Packet) (msg : Msg) → p.epoch.0 ≡ v.epoch →
     (claims : List Claim) → claims ≡ claims_in (rules_of v.setup) m v.me.0 past p.from p.leader msg → claims ≡ claims_of_parcel (rules_of v.setup) m v.me.0 (core_of v past) (message_in p (Some msg))
 packet-now m refines v past tied p msg is claims same =
@@ -90,7 +90,7 @@ own-next {Msg} m p me xs i x lt is =
     let q : take (i + 1) xs ≡ take i xs ++ x ∷ [] = rw add-one (take-suc xs i x lt ∙ ap (λ (y : To × Msg). take i xs ++ y ∷ []) (sym is)) in
     sym (ap (λ (ys : List (To × Msg)). own_claims m p me ys) q ∙ own-append m p me (take i xs) x)
 
--- what is handed out goes by the parts that an input leaves as they are
+-- The outcome depends only on what an input leaves unchanged.
 pub handed-same : {M Msg : Type 0} (m : Module Msg) (v w : StateView M Msg) (l : ℕ) (sends : List (To × Msg)) (hashed : List (List ℕ)) (o : Outcome) →
     w.setup ≡ v.setup → w.me ≡ v.me → w.epoch ≡ v.epoch → w.segments ≡ v.segments → IsHandedOut m w l sends hashed o → IsHandedOut m v l sends hashed o
 handed-same m v w l sends hashed o s i e g h = record {
@@ -100,7 +100,7 @@ handed-same m v w l sends hashed o s i e g h = record {
   hashed_is = h.hashed_is;
 }
 
--- one more that is a node's, and one that is another's
+-- One more claim, by whether it names this node.
 pub own-put : (me : ℕ) (before own xs : List Claim) (x : Claim) → own ≡ before ++ only_by me xs → x.by.0 ≡ me → own ++ x ∷ [] ≡ before ++ only_by me (xs ++ x ∷ [])
 own-put me before own xs x is mine =
     let here : eqb x.by.0 me ≡ true = grind (arith, nat_tests, mine) in
@@ -111,7 +111,7 @@ pub own-left : (me : ℕ) (before own xs : List Claim) (x : Claim) → own ≡ b
 own-left me before own xs x is other =
     is ∙ sym (ap (λ (ys : List Claim). before ++ ys) (only-more me xs x ∙ ap (λ (b : Bool). only_by me xs ++ cond b (x ∷ []) []) (eqb-other x.by.0 me other) ∙ append-nil (only_by me xs)))
 
--- what the directory says is whether the signature is the node's
+-- The directory verifies a signature if and only if it is valid.
 pub verified-is : (d : DirectoryView) (k : ℕ) (statement other sig another : List ℕ) (b : Bool) → statement ≡ other → sig ≡ another → ((b ≡ true) ↔ VerifiesBy d.nodes k statement sig) → b ≡ is_verified_by d.nodes k other another
 verified-is d k statement other sig another b is same h =
     same-test b (is_verified_by d.nodes k other another)

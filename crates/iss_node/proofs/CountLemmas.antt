@@ -1,4 +1,4 @@
--- What becomes of a vote at a node.
+-- Counting a vote refines the model's step.
 use Rattle.std.proofs.Common.{◌≡◌, ℕ, suc, Bool, true, false, cond, not, List, [], ◌∷◌, ◌++◌, nat_lt, refl, sym, ap, ◌∙◌, subst}
 use Rattle.iss_ballots.specs.Ballots.{AreKept, BallotsState, is_held, is_true, stable_by}
 use Rattle.iss_checkpoint.specs.Votes.{Voters, voters_of}
@@ -21,17 +21,17 @@ use Rattle.iss_request.specs.declared.setups.Setup.{Setup}
 use Rattle.iss_sb.specs.Evidence.{Item, Module}
 use Rattle.iss_sb.specs.declared.effects.Params.{Params}
 
--- a vote's claim verifies where the vote is true
+-- The claim of a vote is valid if and only if its signature is.
 pub true-verified : (s : Setup) (w : Voters) (v : Vote) → w ≡ voters_of s (keys_of s) → all_verify (rules_of s) (claim_of_vote (rules_of s) v ∷ []) ≡ is_true w v
 true-verified s w v is = sym (vote-same s v) ∙ ap (λ (z : Voters). is_true z v) (sym is)
 
--- the step of a vote, by what the node finds
+-- The model's step for a vote, by the results of the node's checks.
 pub vote-step : {Msg : Type 0} (R : Rules) (c : Core Msg) (v : Vote) (a b k : Bool) → nat_lt (suc c.past.epoch) v.epoch.0 ≡ a → all_verify R (claim_of_vote R v ∷ []) ≡ b → is_counted c v ≡ k →
     takes_vote R c v ≡ cond a (Dropped OtherEpoch) (cond (not b) (Dropped BadClaim) (cond k (Dropped Known) (Taken (unchanged (counted R c v)))))
 vote-step R c v a b k ha hb hk = rw (ha, hb, hk) refl
 
 module _ {M Msg : Type 0} (m : Module Msg) (refines : M → Params → ℕ → List (Item Msg) → Type 0) (v : StateView M Msg) where
-  -- a node keeps what it is tied to where only its ballots move
+  -- If only the ballots change, the state still refines its history.
   pub ballots-tied : (ballots : BallotsState) (past : Past Msg) → RefinesPast m refines v past → RefinesPast m refines (record v { ballots = ballots }) past
   ballots-tied ballots past tied = record {
     epoch = tied.epoch;
@@ -59,7 +59,7 @@ module _ {M Msg : Type 0} (m : Module Msg) (refines : M → Params → ℕ → L
       subst (λ (z : StateView M Msg). StateRefinesCore m refines z (record c { votes = votes; certs = certs })) (sym is)
       (record { state = record { core = h.state.core; tied = ballots-tied ballots c.past h.state.tied }; kept = k })
 
-  -- of an epoch that is too far ahead
+  -- A vote on an epoch too far ahead.
   pub vote-far : (vote : Vote) (c : Core Msg) → StateRefinesCore m refines v c → nat_lt (suc v.epoch) vote.epoch.0 ≡ true → IsHeldDropped m refines c (takes_vote (rules_of v.setup) c vote) v OtherEpoch
   vote-far vote c h far =
       let epoch : v.epoch ≡ c.past.epoch = h.state.tied.epoch in

@@ -5,7 +5,7 @@ use Rattle.std.proofs.lemmas.List.Elements.{All-append, All-filter}
 use Rattle.iss_layout.specs.Layout.{IsSlotOf, Plan, slots_from}
 use Rattle.iss_request.specs.declared.ids.Slot.{Slot}
 
--- ---- slots in a row
+-- ---- consecutive slots
 
 all-one : (P : Slot → Type 0) (x : Slot) → P x → All P (x ∷ [])
 all-one P x h zero d lt = h
@@ -19,7 +19,7 @@ slots-within first last (suc k) le =
     All-append (λ (s : Slot). (first ≤ s.0) × (s.0 < last)) (slots_from first k) (record { 0 = first + k } ∷ [])
     (slots-within first last k (omega (arith, le))) (all-one (λ (s : Slot). (first ≤ s.0) × (s.0 < last)) (record { 0 = first + k }) (low, high))
 
--- the slots of an epoch that are kept are of it
+-- Filtered slots of an epoch are slots of that epoch.
 pub are-of : (plan : Plan) (p : Slot → Bool) (count : ℕ) → plan.slots ≡ count → All (λ (s : Slot). IsSlotOf plan s.0) (filter p (slots_from plan.start count))
 are-of plan p count is =
     subst (λ (k : ℕ). All (λ (s : Slot). IsSlotOf plan s.0) (filter p (slots_from plan.start k))) is

@@ -1,4 +1,4 @@
--- The end of an epoch: the node stands for the core in the next one.
+-- At the end of an epoch the node refines the core in the next one.
 use Rattle.std.proofs.Common.{arith, ◌≡◌, ℕ, suc, ◌+◌, ◌-◌, ◌*◌, ◌^◌, ◌<◌, ◌≤◌, Bool, true, false, get_or, add-one, List, [], ◌∷◌, ◌++◌, ◌||◌, Option, None, length, take, reverse, refl, sym, ap, ◌∙◌, subst, nat_le}
 use Rattle.std.specs.List.{filter}
 use Rattle.std.proofs.Math.Seq.{take-suc}
@@ -37,7 +37,7 @@ use Rattle.iss_window.proofs.KeptLemmas.{refines-same}
 use Rattle.iss_window.specs.Kept.{Kept, RefinesNoted}
 use Rattle.iss_window.specs.Window.{Noted, and_closed, and_noted}
 
--- ---- what was noted
+-- ---- identities noted by the windows
 
 or-move : (a b c : Bool) → (a || (b || c)) ≡ ((b || a) || c)
 or-move true true c = refl
@@ -58,9 +58,10 @@ notes-next n xs i d lt =
     let e : take (i + 1) xs ≡ take i xs ++ get_or xs i d ∷ [] = rw add-one (take-suc xs i d lt) in
     ap (λ (ys : List ReqId). notes n ys) e ∙ notes-more n (take i xs) (get_or xs i d)
 
--- ---- parts whose epoch is over
+-- ---- a state whose epoch is complete
 
--- a past in the next epoch has their log, and all of it stands before that epoch; before was the log before theirs
+-- A history in the next epoch has the same log, all of it before that epoch. `before` is the log before the epoch that
+-- ends.
 pub record IsOver {M Msg : Type 0} (m : Module Msg) (v : StateView M Msg) (before : List Value) (past : Past Msg) : Type 0 where
   pub epoch : v.epoch ≡ past.epoch
   pub log : log_of (rules_of v.setup) m v.me.0 (advanced past) ≡ reverse v.log.entries
@@ -80,7 +81,7 @@ pub record IsOver {M Msg : Type 0} (m : Module Msg) (v : StateView M Msg) (befor
   pub sound : IsSoundCore (rules_of v.setup) m v.me.0 (in_next_epoch (core_of v past))
   pub keys : AreKeysOf v.me.0 v.setup.keys v.keys
 
--- such are those that are tied to a past whose epoch is complete
+-- This holds for a state that refines a history with a complete epoch.
 pub over-tied : {M Msg : Type 0} (m : Module Msg) (refines : M → Params → ℕ → List (Item Msg) → Type 0) (v : StateView M Msg) (shape : IsNodeState m v) (past : Past Msg) (tied : RefinesPast m refines v past) →
     is_complete (rules_of v.setup) m v.me.0 past ≡ true → IsOver m v (before_own (rules_of v.setup) m v.me.0 past) past
 over-tied m refines v shape past tied complete =
@@ -149,7 +150,7 @@ module _ {M Msg : Type 0} (m : Module Msg) (refines : M → Params → ℕ → L
   room : start_at v.setup (reverse v.log.entries) (suc past.epoch) ≡ suc past.epoch * v.setup.epoch
   room = let b = begins in start-times v.setup (reverse v.log.entries) (suc past.epoch) (omega (arith, fits, b))
 
-  -- the epochs of the log are those before, and the one that has ended
+  -- The epochs of the log are the earlier ones, and the one that ends.
   same-epochs : epochs v.setup past.epoch (reverse v.log.entries) ≡ epochs v.setup past.epoch before
   same-epochs =
       let n = over.size in
@@ -185,7 +186,7 @@ module _ {M Msg : Type 0} (m : Module Msg) (refines : M → Params → ℕ → L
   plan-start : plan.start ≡ suc past.epoch * v.setup.epoch
   plan-start = ap (λ (p : Plan). p.start) plan-is ∙ room
 
-  -- the identities of the log: those of the epoch, and those before it
+  -- The identities of the log are those of the epoch, and those before it.
   members : (x : ReqId) → (has_id x v.logged || has_id x (log_ids before)) ≡ has_id x (log_ids (reverse v.log.entries))
   members x =
       let q = over.start in
@@ -245,7 +246,7 @@ module _ {M Msg : Type 0} (m : Module Msg) (refines : M → Params → ℕ → L
   pub parts-opened : RefinesBareCore m refines opened (in_next_epoch (core_of v past))
   parts-opened = record { core = refl; tied = subst (λ (ys : List Value). RefinesPastOver m refines opened (advanced past) ys) (sym over.own) tied-over }
 
--- ---- whether the epoch is over
+-- ---- whether the epoch is complete
 
 pub complete-is : {M Msg : Type 0} (m : Module Msg) (refines : M → Params → ℕ → List (Item Msg) → Type 0) (v : StateView M Msg) (past : Past Msg) → RefinesPast m refines v past →
     nat_le (v.plan.start + v.setup.epoch) (length v.log.entries) ≡ is_complete (rules_of v.setup) m v.me.0 past

@@ -1,4 +1,4 @@
--- What lands, and what stays in flight.
+-- Which proposals are completed, and which stay in flight.
 use Rattle.std.proofs.Common.{arith, ◌≡◌, inl, inr, ℕ, ◌<◌, ◌≤◌, Bool, true, false, cond, List, [], ◌∷◌, ◌++◌, ◌||◌, ◌&&◌, not, length, refl, sym, ap, ◌∙◌, true≢false}
 use Rattle.std.specs.Prelude.{nat_lt}
 use Rattle.std.proofs.lemmas.Bool.Decides.{nat_tests}
@@ -42,7 +42,7 @@ flown-append (y ∷ xs) ys x =
 module _ (n : ℕ) (done : List (Slot × Batch)) (slot : Slot) (batch : Batch) (gone left : List (Slot × Batch)) (all now new : List ReqId)
     (gone_is : gone ≡ landed n done) (left_is : left ≡ flying n done)
     (now_is : (x : ReqId) → has_id x now ≡ (has_id x all && not (has_id x (flown (landed n done))))) where
-  -- one that lands
+  -- A proposal that is completed.
   pub landed-gone : slot.0 < n → gone ++ (slot, batch) ∷ [] ≡ landed n (done ++ (slot, batch) ∷ [])
   landed-gone lt =
       let below : nat_lt slot.0 n ≡ true = grind (arith, nat_tests) in
@@ -61,7 +61,7 @@ module _ (n : ℕ) (done : List (Slot × Batch)) (slot : Slot) (batch : Batch) (
       ∙ ap (λ b. has_id x all && not b) (ap (λ b. has_id x (flown (landed n done)) || b) (sym (or-alone (has_id x (ids batch))) ∙ sym (has_id-append x (ids batch) [])) ∙ sym (flown-append (landed n done) ((slot, batch) ∷ []) x))
       ∙ ap (λ (xs : List (Slot × Batch)). has_id x all && not (has_id x (flown xs))) (sym is)
 
-  -- one that stays
+  -- A proposal that stays in flight.
   pub kept-gone : n ≤ slot.0 → gone ≡ landed n (done ++ (slot, batch) ∷ [])
   kept-gone le =
       let above : nat_lt slot.0 n ≡ false = grind (arith, nat_tests) in
@@ -75,7 +75,7 @@ module _ (n : ℕ) (done : List (Slot × Batch)) (slot : Slot) (batch : Batch) (
   pub kept-ids : n ≤ slot.0 → (x : ReqId) → has_id x now ≡ (has_id x all && not (has_id x (flown (landed n (done ++ (slot, batch) ∷ [])))))
   kept-ids le x = now_is x ∙ ap (λ (xs : List (Slot × Batch)). has_id x all && not (has_id x (flown xs))) (sym gone_is ∙ kept-gone le)
 
--- ---- the set of what stays
+-- ---- the identities that stay in flight
 
 split-flown : (n : ℕ) (fs : List (Slot × Batch)) (x : ReqId) → has_id x (flown fs) ≡ (has_id x (flown (landed n fs)) || has_id x (flown (flying n fs)))
 split-flown n [] x = refl
@@ -101,7 +101,7 @@ landed-in n (f ∷ fs) q h = go (landed-in n fs q) (nat_lt f.0.0 n) h
 landed-within : (n : ℕ) (fs : List (Slot × Batch)) (x : ReqId) → In x (ids (carried (landed n fs))) → In x (ids (carried fs))
 landed-within n fs = ids-within (carried (landed n fs)) (carried fs) (landed-in n fs)
 
--- what lands is not what stays, where no identity flies twice
+-- If no identity is in flight twice, completed and remaining proposals have no identity in common.
 landed-apart : (n : ℕ) (fs : List (Slot × Batch)) → Different (ids (carried fs)) → (x : ReqId) → In x (ids (carried (landed n fs))) → In x (ids (carried (flying n fs))) → ⊥
 landed-apart n [] d x a b = a
 landed-apart n (f ∷ fs) d x a b = let p = parts-of f.1 (carried fs) d in go p (landed-apart n fs p.right x) (nat_lt f.0.0 n) a b
@@ -124,7 +124,7 @@ still-flown n fs x d = go (has_id x (flown (landed n fs))) refl (has_id x (flown
     go false hl true hy a e = let q : a ≡ true = e ∙ ap (λ b. b || has_id x (flown (flying n fs))) hl ∙ hy in rw (hy, hl, q) refl
     go false hl false hy a e = let q : a ≡ false = e ∙ ap (λ b. b || has_id x (flown (flying n fs))) hl ∙ hy in rw (hy, hl, q) refl
 
--- what comes back has landed
+-- Requests that wait again belong to completed proposals.
 pub returned-landed : (log : List Value) (fs : List (Slot × Batch)) → returned log (landed (length log) fs) ≡ returned log fs
 returned-landed log [] = refl
 returned-landed log (f ∷ fs) = go (nat_lt f.0.0 (length log)) refl (is_nil_at log f.0.0) refl (returned-landed log fs)

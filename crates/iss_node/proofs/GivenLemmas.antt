@@ -1,4 +1,4 @@
--- What is delivered for a slot.
+-- The values delivered for a slot.
 use Rattle.std.proofs.Common.{inl, inr, arith, ◌≡◌, ◌≢◌, ℕ, Bool, true, false, List, [], ◌∷◌, ◌==◌, Option, Some, None, refl, sym, ap, ◌∙◌, subst, if◌then◌else◌}
 use Rattle.std.proofs.lemmas.Bool.Decides.{nat_tests}
 use Rattle.iss_base.specs.Lists.{In, first_of}
@@ -45,7 +45,7 @@ slot-in (d ∷ ds) slots k x all h = go (d.0.0 == k) refl (slot-in ds slots k x 
 first-same : (o a b : Option Value) (y : Value) → o ≡ Some y → first_of o a ≡ first_of o b
 first-same o a b y e = ap (λ (p : Option Value). first_of p a) e ∙ sym (ap (λ (p : Option Value). first_of p b) e)
 
--- an input takes the value of each slot from what was delivered before to what is delivered after it
+-- The effect of an input on the delivered value of each slot.
 pub slot-next : {Msg : Type 0} (m : Module Msg) (p : Params) (me : ℕ) (xs : List (Item Msg)) (item : Item Msg) (ds : List (Slot × Value)) (k : ℕ) →
     (In-later : (x : Value) → In {A = Slot × Value} (record { 0 = k }, x) ds → (delivered m p me (item ∷ xs) k ≡ Some x) × (delivered m p me xs k ≡ None)) →
     (later-In : (x : Value) → delivered m p me (item ∷ xs) k ≡ Some x → delivered m p me xs k ≡ None → In {A = Slot × Value} (record { 0 = k }, x) ds) →

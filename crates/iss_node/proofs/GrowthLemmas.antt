@@ -1,4 +1,4 @@
--- What a grown log does to waiting requests and to the identities of the log.
+-- The effect of a longer log on waiting requests and on the identities of the log.
 use Rattle.std.proofs.Common.{◌≡◌, Bool, true, false, List, [], ◌∷◌, ◌++◌, ◌||◌, length, reverse, refl, sym, ap, ◌∙◌, append_assoc}
 use Rattle.std.specs.Prelude.{fold}
 use Rattle.std.proofs.lemmas.List.{append-nil, reverse-append}
@@ -20,7 +20,7 @@ pub log_ids-append : (a b : List Value) → log_ids (a ++ b) ≡ log_ids a ++ lo
 log_ids-append [] b = refl
 log_ids-append (v ∷ a) b = ap (λ xs. value_ids v ++ xs) (log_ids-append a b) ∙ sym (append_assoc (value_ids v) (log_ids a) (log_ids b))
 
--- to go without some, and then without others, is to go without all of them
+-- Removing two lists in turn removes their concatenation.
 absent-both : (a b : List ReqId) (qs : List Request) → absent a (absent b qs) ≡ absent (a ++ b) qs
 absent-both a b [] = refl
 absent-both a b (q ∷ qs) = go (has_id q.id b) refl (has_id q.id a) refl (absent-both a b qs) (has_id-append q.id a b)
@@ -74,7 +74,7 @@ note-all x (v ∷ vs) xs =
     ∙ or-turn (has_id x xs) (has_id x (value_ids v)) (has_id x (log_ids (reverse vs)))
     ∙ ap (λ b. has_id x xs || b) (sym (has_id-append x (log_ids (reverse vs)) (value_ids v)) ∙ ap (λ ys. has_id x ys) (ap (λ ys. log_ids (reverse vs) ++ ys) (sym (append-nil (value_ids v))) ∙ sym (log_ids-append (reverse vs) (v ∷ [])) ∙ ap (λ ys. log_ids ys) (sym (reverse-append (v ∷ []) vs))))
 
--- with a log that was `old` and has grown by `more`, in slot order
+-- With a log that was `old` and was extended by `more`, in slot order.
 module _ (old more : List Value) where
   newest : reverse (old ++ more) ≡ reverse more ++ reverse old
   newest = reverse-append old more

@@ -1,4 +1,4 @@
--- A step that looks at no vote makes the same of a core with votes and certificates, which stay.
+-- A step that reads no votes does the same at a core with votes and certificates, and keeps them.
 use Rattle.std.proofs.Common.{◌≡◌, ℕ, suc, ◌==◌, Bool, true, false, cond, not, List, [], ◌∷◌, ◌++◌, Option, Some, None, refl, sym, ap, ◌∙◌, subst}
 use Rattle.std.specs.Prelude.{nat_lt, length}
 use Rattle.iss_ballots.specs.Ballots.{AreKept, BallotsState}
@@ -126,10 +126,10 @@ module _ {Msg : Type 0} (F : Formats Msg) (R : Rules) (m : Module Msg) (me : ℕ
   pub proposed-held : (c : Core Msg) → step F R m me (holding votes certs c) On_propose ≡ with_step (step F R m me c On_propose)
   proposed-held c = drop-held (not (leads_in R m me c.past me)) NotLeader _ _ (casts-held c (next_slot R m me c))
 
--- ---- so what is shown of a core without votes holds of every core
+-- ---- so a proof for cores without votes holds for every core
 
 module _ {M Msg : Type 0} (m : Module Msg) (refines : M → Params → ℕ → List (Item Msg) → Type 0) (v w : StateView M Msg) (later : IsLater v w) where
-  -- parts whose ballots have not changed stand for the core with the same votes and certificates
+  -- If the ballots do not change, the state refines a core with the same votes and certificates.
   pub held-parts : (c d : Core Msg) → StateRefinesCore m refines v c → RefinesBareCore m refines w d → StateRefinesCore m refines w (holding c.votes c.certs d)
   held-parts c d h k = record {
     state = record { core = ap (λ (z : Core Msg). bare z) k.core; tied = k.tied };

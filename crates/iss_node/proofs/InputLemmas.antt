@@ -1,4 +1,4 @@
--- A node whose instance took an input stands for the core after it.
+-- If an instance takes an input, the node refines the core after it.
 use Rattle.std.proofs.Common.{arith, inl, inr, ◌≡◌, ◌≢◌, ◌⊎◌, ℕ, ◌+◌, ◌*◌, ◌^◌, ◌<◌, ◌≤◌, true, false, List, [], ◌∷◌, ◌++◌, ◌==◌, ◌||◌, cond, Option, Some, None, length, length-append, reverse, refl, sym, ap, ◌∙◌, subst}
 use Rattle.std.specs.Prelude.{fold, is_some}
 use Rattle.std.proofs.lemmas.Bool.Decides.{nat_tests}
@@ -94,7 +94,7 @@ module _ {M Msg : Type 0} (m : Module Msg) (refines : M → Params → ℕ → L
       let fits : start_at v.setup (before_own (rules_of v.setup) m v.me.0 past) past.epoch + v.setup.epoch ≤ 2 ^ 64 = omega (arith, f, q, b) in
       fair (plan_at v.setup (before_own (rules_of v.setup) m v.me.0 past) past.epoch) (good_plan v.setup past.epoch (start_at v.setup (before_own (rules_of v.setup) m v.me.0 past) past.epoch) (before_own (rules_of v.setup) m v.me.0 past) shape.good.good fits)
 
-  -- a slot of a leader's segment
+  -- A slot of a leader's segment.
   pub own-slot : (k l : ℕ) → In (slot_at k) (segment (plan_at v.setup (before_own (rules_of v.setup) m v.me.0 past) past.epoch) l) →
       (past.epoch * v.setup.epoch ≤ k) × (k < past.epoch * v.setup.epoch + v.setup.epoch) × ((rules_of v.setup).leader (before_own (rules_of v.setup) m v.me.0 past) past.epoch k ≡ l)
   own-slot k l h =
@@ -335,7 +335,7 @@ module _ {M Msg : Type 0} (m : Module Msg) (refines : M → Params → ℕ → L
     abbrev made : Made Msg
     made = m.makes P v.me.0 xs input v.keys.used
 
-    -- what is handed out is what the model's step made
+    -- The outcome is that of the model's step.
     pub made-next : (o : Outcome) → o.sends ≡ packed (formats_of v.setup m) v.me.0 v.epoch leader.0 ef.sends → o.own ≡ own_claims m is.params v.me.0 ef.sends → o.early ≡ [] →
         o.hashed ≡ ef.hashed ++ strings_from v.chains.version (chain_of v.chains.version v.log.entries) grown.joined →
         IsMade (step_unjudged (formats_of v.setup m) (rules_of v.setup) m v.me.0 (core_of v past) leader.0 input) o

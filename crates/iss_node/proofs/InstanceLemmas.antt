@@ -1,4 +1,4 @@
--- What the tests before an input say of the model's step.
+-- The checks before an input agree with the model's step.
 use Rattle.std.proofs.Common.{◌≡◌, ◌≢◌, ℕ, Bool, true, false, List, [], ◌∷◌, ◌++◌, cond, not, Option, Some, None, Result, Ok, Err, IfOk, refl, sym, ap, ◌∙◌, subst, true≢false}
 use Rattle.std.specs.Prelude.{OnOk, is_some}
 use Rattle.iss_layout.specs.Layout.{Plan, leads}
@@ -86,11 +86,11 @@ module _ {M Msg : Type 0} (m : Module Msg) (refines : M → Params → ℕ → L
         cond (not a) (Dropped NotLeader) (cond (not d) (Dropped BadClaim) (cond (not b) (Dropped NoKeys) (by_verdict w (step_unjudged F (rules_of v.setup) m v.me.0 (core_of v past) l input))))
     instance-is a d b w ha hd hb hw = four _ a _ d _ b _ w (step_unjudged F (rules_of v.setup) m v.me.0 (core_of v past) l input) ha hd hb hw
 
--- nothing has changed
+-- Nothing has changed.
 pub same-parts : {M Msg : Type 0} (m : Module Msg) (refines : M → Params → ℕ → List (Item Msg) → Type 0) (v : StateView M Msg) (past : Past Msg) → RefinesPast m refines v past → RefinesBareCore m refines v (core_of v past)
 same-parts m refines v past tied = record { core = refl; tied = tied }
 
--- an input that was taken, and what it made, is the model's turn
+-- An input that was taken, with its effects, is the model's turn.
 module _ {M Msg : Type 0} (m : Module Msg) (laws : IsLawful m) (refines : M → Params → ℕ → List (Item Msg) → Type 0)
     (v : StateView M Msg) (shape : IsNodeState m v) (leader : NodeId) (input : Input Msg) (ef : Effects Msg) (w : StateView M Msg) (outcome : Outcome)
     (past : Past Msg) (tied : RefinesPast m refines v past) where
@@ -120,7 +120,7 @@ module _ {M Msg : Type 0} (m : Module Msg) (laws : IsLawful m) (refines : M → 
       (subst (λ (z : StateView M Msg). IsHandedOut m z leader.0 ef.sends outcome.hashed outcome) i.rest made)
       (subst (λ (z : StateView M Msg). IsChained z w ef.hashed outcome.hashed) i.rest chained)
 
--- ---- the answers of an instance, and what each test found
+-- ---- the results of an instance, and of each check
 
 some-there : {A : Type 0} (o : Option A) → true ≡ is_some o → (x : A) × (o ≡ Some x)
 some-there None h = absurd (true≢false h)

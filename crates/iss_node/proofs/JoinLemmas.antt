@@ -1,4 +1,4 @@
--- How a chain goes on with values, one after the other.
+-- A chain is extended by values, one at a time.
 use Rattle.std.proofs.Common.{◌≡◌, ℕ, ◌+◌, ◌<◌, ◌≤◌, List, [], ◌∷◌, ◌++◌, length, take, get_or, append_assoc, append-nil, sym, ap, ◌∙◌, subst}
 use Rattle.std.proofs.lemmas.List.{take_all}
 use Rattle.iss_log.proofs.ChainLemmas.{chain-append, strings-more}

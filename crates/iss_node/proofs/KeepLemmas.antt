@@ -1,4 +1,4 @@
--- Which epoch a message is of: of the present one it is taken, of the next one it is kept.
+-- A message of the current epoch is taken, and one of the next epoch is kept.
 use Rattle.std.proofs.Common.{arith, ◌≡◌, ℕ, suc, true, false, List, eqb, refl, sym, ap, ◌∙◌, subst}
 use Rattle.std.proofs.lemmas.Bool.Decides.{nat_tests}
 use Rattle.iss_rules.specs.Concrete.{rules_of}

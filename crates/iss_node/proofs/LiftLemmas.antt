@@ -1,4 +1,4 @@
--- A node's step, put together of the steps of its parts.
+-- A node's step, composed of the steps of its parts.
 use Rattle.std.proofs.Common.{◌≡◌, ℕ, List, Result, IfOk, subst}
 use Rattle.std.proofs.lemmas.Result.{IfOk-weaker}
 use Rattle.iss_rules.specs.Concrete.{rules_of}
@@ -17,19 +17,19 @@ use Rattle.iss_request.specs.declared.setups.Setup.{Setup}
 use Rattle.iss_sb.specs.Evidence.{Item, Module}
 use Rattle.iss_sb.specs.declared.effects.Params.{Params}
 
--- a later node is the same one
+-- Set-up and identity of a later node are the same.
 pub same-later : {M Msg : Type 0} (v w : StateView M Msg) → IsLater v w → IsSameNode v w
 same-later v w later = record { setup = later.setup; me = later.me; log = later.log }
 
 module _ {M Msg : Type 0} (m : Module Msg) (refines : M → Params → ℕ → List (Item Msg) → Type 0) where
-  -- a step that looks at no vote, whatever the answer
+  -- A step that reads no votes, for every result.
   pub held-ok : {E : Type 0} (v w : StateView M Msg) (later : IsLater v w) (step : Formats Msg → Rules → ℕ → Core Msg → Stepped Msg) (asked : Type 0) (r : Result StepResult E) →
       ((F : Formats Msg) (R : Rules) (me : ℕ) (votes : List Vote) (certs : List Cert) (c : Core Msg) → step F R me (holding votes certs c) ≡ with_step F R m me votes certs (step F R me c)) →
       IfOk r (λ a. IsStepOf m refines v step w a) → IfOk r (λ a. IsHeldStepOf m refines asked v step w a)
   held-ok v w later step asked r frame h =
       IfOk-weaker r (λ a. IsStepOf m refines v step w a) (λ a. IsHeldStepOf m refines asked v step w a) (λ a k. held-step m refines v w later step asked a frame k) h
 
-  -- what follows of a step that was made
+  -- The completion of a step.
   settled-of : (v mid w : StateView M Msg) (first : Formats Msg → Rules → ℕ → Core Msg → Stepped Msg) (step a : StepResult) → IsLater v mid → IsStepOf m refines v first mid step →
       IsSettled m refines mid w step a → IsStepOf m refines v (λ F R me c. finish_step F R m me (first F R me c)) w a
   settled-of v mid w first step a later h follows = λ past tied.

@@ -1,4 +1,4 @@
--- What a turn made, and what is handed out of it.
+-- The outcome of a turn.
 use Rattle.std.proofs.Common.{◌≡◌, ℕ, List, [], ◌++◌, Result, Ok, Err, ap, sym, ◌∙◌, subst}
 use Rattle.std.specs.Prelude.{OnOk}
 use Rattle.iss_model.specs.Node.{Core, Turn, then_turn, unchanged}
@@ -9,7 +9,7 @@ use Rattle.iss_sb.specs.Calls.{AreToNodes}
 use Rattle.iss_sb.specs.declared.effects.Claim.{Claim}
 use Rattle.iss_sb.specs.declared.effects.To.{To}
 
--- what holds in any case holds where the answer is good
+-- What always holds also holds if the result is Ok.
 pub on-ok : {A E : Type 0} (r : Result A E) (P : Type 0) → P → OnOk r P
 on-ok (Ok x) P h = h
 on-ok (Err e) P h = tt
@@ -17,7 +17,7 @@ on-ok (Err e) P h = tt
 abbrev pub nothing : Outcome
 nothing = record { sends = []; own = []; early = []; hashed = [] }
 
--- where nothing happens nothing is made, and nothing is sent to anybody
+-- A turn that changes nothing has an empty outcome.
 pub nothing-made : {Msg : Type 0} (c : Core Msg) (o : Outcome) → o ≡ nothing → IsMade (unchanged c) o
 nothing-made c o is = record {
   sends = ap (λ (z : Outcome). z.sends) is;
@@ -29,11 +29,11 @@ nothing-made c o is = record {
 pub nothing-sent : (n : ℕ) (o : Outcome) → o ≡ nothing → AreToNodes n o.sends
 nothing-sent n o is = subst (λ (xs : List (To × List ℕ)). AreToNodes n xs) (sym (ap (λ (z : Outcome). z.sends) is)) tt
 
--- a later core changes nothing of what was made
+-- The core does not matter for the outcome.
 pub still-made : {Msg : Type 0} (t : Turn Msg) (c : Core Msg) (o : Outcome) → IsMade t o → IsMade (record t { core = c }) o
 still-made t c o h = record { sends = h.sends; own = h.own; early = h.early; hashed = h.hashed }
 
--- with the claims of what had come early
+-- The outcome with the claims of an early message.
 pub early-made : {Msg : Type 0} (t : Turn Msg) (o p : Outcome) (claims read : List Claim) → claims ≡ read → p ≡ record o { early = claims } → IsMade t o → IsMade (record t { early = read }) p
 early-made t o p claims read same is h = record {
   sends = ap (λ (z : Outcome). z.sends) is ∙ h.sends;
@@ -42,7 +42,7 @@ early-made t o p claims read same is h = record {
   hashed = ap (λ (z : Outcome). z.hashed) is ∙ h.hashed;
 }
 
--- one turn behind another
+-- The outcome of two turns in sequence.
 pub both-made : {Msg : Type 0} (t : Turn Msg) (more : Core Msg → Turn Msg) (o p : Outcome) → IsMade t o → IsMade (more t.core) p → IsMade (then_turn t more) (appended o p)
 both-made t more o p h k =
     record {

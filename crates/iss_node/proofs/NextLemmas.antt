@@ -1,4 +1,4 @@
--- The next epoch begins.
+-- The next epoch starts.
 use Rattle.std.proofs.Common.{arith, ◌≡◌, ℕ, ◌+◌, ◌^◌, ◌<◌, Bool, true, false, List, [], ◌∷◌, Option, length, reverse, refl, sym, ap, ◌∙◌, subst, nat_le}
 use Rattle.std.specs.List.{filter}
 use Rattle.iss_layout.specs.Layout.{Conduct, Ended, IsStanding, Plan, plan_by, slots_from}
@@ -30,7 +30,7 @@ use Rattle.iss_segment.specs.Instance.{SegmentState}
 use Rattle.iss_window.specs.Kept.{Kept, RefinesNoted}
 use Rattle.iss_window.specs.Window.{Noted, and_closed}
 
--- the parts with fresh instances keep what holds of every node
+-- A state with fresh instances keeps the invariant.
 pub opened-shape : {M Msg : Type 0} (m : Module Msg) (refines : M → Params → ℕ → List (Item Msg) → Type 0) (v : StateView M Msg) → IsNodeState m v →
     (e start : ℕ) (c : ℕ → Conduct) (plan : Plan) (gs : List (Option (SegmentState M))) → start + v.setup.epoch < 2 ^ 64 → plan ≡ plan_by v.setup e start c →
     AreStarted refines v.setup v.me e plan gs → length gs ≡ v.setup.n → (accepted : List Accepted) (logged : List ReqId) →
@@ -55,7 +55,7 @@ opened-shape m refines v shape e start c plan gs fits is started count accepted 
       voters = shape.voters;
     }
 
--- nothing is kept for the epoch after the next one
+-- The invariant holds without early messages.
 pub emptied-shape : {M Msg : Type 0} (m : Module Msg) (v : StateView M Msg) → IsNodeState m v → IsNodeState m (record v { early = [] })
 emptied-shape m v h = record {
   good = h.good;
@@ -71,7 +71,7 @@ emptied-shape m v h = record {
   voters = h.voters;
 }
 
--- parts whose epoch is over stand for the core in the next one, once it has begun
+-- If the epoch is complete, the state with the next epoch started refines the core in that epoch.
 module _ {M Msg : Type 0} (m : Module Msg) (refines : M → Params → ℕ → List (Item Msg) → Type 0)
     (v : StateView M Msg) (slots : v.plan.slots ≡ v.setup.epoch) (before : List Value) (past : Past Msg) (over : IsOver m v before past) where
   inner : v.plan.start + v.setup.epoch + v.setup.epoch < 2 ^ 64 → (standing : List Conduct) (windows : Kept) (w : StateView M Msg) →
@@ -88,34 +88,34 @@ module _ {M Msg : Type 0} (m : Module Msg) (refines : M → Params → ℕ → L
       (inner h.fits h.over.standing h.over.windows h.begun h.closed.standing h.closed.windows h.closed.width
       (subst (λ (z : StateView M Msg). HasOpened refines z h.begun (v.epoch + 1) (v.plan.start + v.setup.epoch)) h.rest h.opened))
 
--- what the log's length says of the epoch
+-- The length of the log decides whether the epoch is complete.
 pub is-over : {M Msg : Type 0} (m : Module Msg) (refines : M → Params → ℕ → List (Item Msg) → Type 0) (v : StateView M Msg) (b c : Bool) → b ≡ nat_le (v.plan.start + v.setup.epoch) (length v.log.entries) → b ≡ c →
     (past : Past Msg) → RefinesPast m refines v past → is_complete (rules_of v.setup) m v.me.0 past ≡ c
 is-over m refines v b c h k past tied = sym (complete-is m refines v past tied) ∙ sym h ∙ k
 
--- a list of no length is empty
+-- A list of length 0 is empty.
 pub empty : {A : Type 0} (xs : List A) → length xs ≡ 0 → xs ≡ []
 empty [] h = refl
 empty (x ∷ xs) h = absurd (omega (arith, h))
 
--- what nothing was accepted in yet
+-- The state right after the start: no batch was accepted in the epoch.
 pub begun-so : {M Msg : Type 0} (v : StateView M Msg) (e : ℕ) (plan : Plan) (gs : List (Option (SegmentState M))) (accepted : List Accepted) (logged : List ReqId) → accepted ≡ [] → logged ≡ [] →
     record v { epoch = e; plan = plan; segments = gs; accepted = accepted; logged = logged } ≡ record v { epoch = e; plan = plan; segments = gs; accepted = []; logged = [] }
 begun-so v e plan gs accepted logged a l = λ i. record v { epoch = e; plan = plan; segments = gs; accepted = a i; logged = l i }
 
--- a cut changes nothing of what holds of every node
+-- A cut keeps the invariant.
 uncut-so : {M Msg : Type 0} (m : Module Msg) (v w : StateView M Msg) → IsNodeState m (record v { waiting = w.waiting; flight = w.flight }) → IsNodeState m v
 uncut-so m v w h = record { good = h.good; me = h.me; directory = h.directory; count = h.count; slots = h.slots; nodes = h.nodes; fits = h.fits; segments = h.segments; early = h.early; version = h.version; voters = h.voters }
 
 pub uncut-shape : {M Msg : Type 0} (m : Module Msg) (v u : StateView M Msg) (slot : Slot) (batch : Batch) → IsCut v u slot batch → IsNodeState m u → IsNodeState m v
 uncut-shape m v u slot batch h shape = uncut-so m v u (subst (λ (z : StateView _ _). IsNodeState m z) h.rest shape)
 
--- ---- an early message, and what follows where it fills the epoch
+-- ---- an early message, and the end of the epoch if it fills it
 
 module _ {M Msg : Type 0} (m : Module Msg) (refines : M → Params → ℕ → List (Item Msg) → Type 0) (v u : StateView M Msg) (later : IsLater v u) (x : Early Msg) (o : Outcome)
     (b : Bool) (asked : b ≡ nat_le (u.plan.start + u.setup.epoch) (length u.log.entries))
     (went : IsTurnOf m refines v (λ F R me c. or_unchanged c (try_step F R m me c x.leader.0 (Receive x.from x.msg))) u o) where
-  -- the turn of one whose claims were read
+  -- The turn of an early message whose claims were read.
   with-claims : (past : Past Msg) (w : StateView M Msg) (all p : Outcome) (claims : List Claim) → claims ≡ claims_in (rules_of v.setup) m v.me.0 past x.from.0 x.leader.0 x.msg → p ≡ record all { early = claims } →
       IsTurned m refines (ended (formats_of v.setup m) (rules_of v.setup) m v.me.0 (or_unchanged (core_of v past) (try_step (formats_of v.setup m) (rules_of v.setup) m v.me.0 (core_of v past) x.leader.0 (Receive x.from x.msg)))) w all →
       IsTurned m refines (takes_early (formats_of v.setup m) (rules_of v.setup) m v.me.0 (core_of v past) (seen_one x)) w p

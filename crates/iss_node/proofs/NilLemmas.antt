@@ -1,4 +1,4 @@
--- Which slots of a log hold nil.
+-- Which slots of a log are nil.
 use Rattle.std.proofs.Common.{arith, ◌≡◌, ℕ, suc, ◌+◌, ◌<◌, ◌≤◌, true, false, eqb, not, List, [], ◌∷◌, ◌++◌, length, length-append, take, drop, get_or, reverse, refl, sym, ap, ◌∙◌, add-one, drop-cons, append_assoc}
 use Rattle.std.proofs.lemmas.Bool.Decides.{nat_tests}
 use Rattle.std.proofs.lemmas.List.{length-reverse, length-take-le, reverse-append, take-append-drop}
@@ -12,7 +12,7 @@ nil-past (v ∷ older) s le =
     let apart : eqb s (length older) ≡ false = grind (arith, nat_tests) in
     rw apart (nil-past older s (omega (arith, le)))
 
--- the value of a slot, below later ones
+-- The value of a slot below later ones.
 nil-below : (newer older : List Value) (v : Value) → is_nil_at (newer ++ v ∷ older) (length older) ≡ not (is_batch v)
 nil-below [] older v =
     let here : eqb (length older) (length older) ≡ true = grind (arith, nat_tests) in

@@ -1,4 +1,4 @@
--- A node's answers, from the steps of its parts.
+-- A node's answers follow from the steps of its parts.
 use Rattle.std.proofs.Common.{arith, inl, inr, ◌≡◌, ℕ, ◌≤◌, Bool, false, List, [], ◌∷◌, ◌++◌, length, length-append, take, refl, sym, ap, ◌∙◌, true≢false}
 use Rattle.iss_log.specs.LogState.{GoesOn}
 use Rattle.iss_rules.specs.Concrete.{rules_of}
@@ -42,7 +42,7 @@ module _ {M Msg : Type 0} (m : Module Msg) (refines : M → Params → ℕ → L
   pub node-dropped : (why : Why) → IsHeldStepOf m refines asked v (λ F R me c. step F R m me c event) w (Result_dropped why) → s ≡ false → IsNode m refines (record { state = v; stale = s }) → IsNode m refines (record { state = w; stale = s })
   node-dropped why h q n = let c = fresh-core q n in let a = answer-dropped why h c.0 c.1 in inr (c.0, a.refined)
 
--- ---- the log that a stale node shows
+-- ---- the log that a stale node reports
 
 front-of : (a b : List Value) → take (length a) (a ++ b) ≡ a
 front-of [] b = refl

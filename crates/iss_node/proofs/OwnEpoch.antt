@@ -1,4 +1,4 @@
--- The slots of a node's epoch, and the log that they make.
+-- The slots of a node's epoch, and the log that they form.
 use Rattle.std.proofs.Common.{arith, inl, inr, ◌≡◌, ℕ, zero, suc, ◌+◌, ◌-◌, ◌*◌, ◌<◌, ◌≤◌, List, [], ◌∷◌, ◌++◌, Option, Some, None, length, length-append, reverse, refl, sym, ap, ◌∙◌, subst, append_assoc, slice_get}
 use Rattle.std.proofs.lemmas.Bool.Decides.{leb_tells}
 use Rattle.std.proofs.lemmas.List.{append-nil, length-reverse, reverse-append}
@@ -44,7 +44,7 @@ module _ (s : Setup) (good : IsGoodSetup s) {Msg : Type 0} (m : Module Msg) (me 
       ap (λ (z : ℕ). first_of (delivered m ((rules_of s).params before z ((rules_of s).leader before z k)) me (d.evidence z ((rules_of s).leader before z k)) k) (adopted_at d.adopted z (k - length before))) he
       ∙ ap (λ (y : List Value). first_of (delivered m ((rules_of s).params y e ((rules_of s).leader y e k)) me (d.evidence e ((rules_of s).leader y e k)) k) (adopted_at d.adopted e (k - length y))) hf
 
-  -- what the instances delivered there, else what was adopted
+  -- A slot of the epoch has what the instances delivered, or else what was adopted.
   pub epoch-cell : (older : List Value) → Extends bf older → length older < e * s.epoch + s.epoch →
       cell (rules_of s) m me d older ≡ first_of (slot_value (rules_of s) m me bf (record d { epoch = e }) (length older)) (adopted_at d.adopted e (length older - length bf))
   epoch-cell older x lt =
@@ -60,7 +60,7 @@ module _ (s : Setup) (good : IsGoodSetup s) {Msg : Type 0} (m : Module Msg) (me 
       ∙ oldest-extends (length bf) bf older x within ∙ oldest-all (length bf) bf within in
       in-epoch (length older) (epoch_at (rules_of s) older) (before_at (rules_of s) older) same q
 
--- ---- a log goes on
+-- ---- a log is extended
 
 module _ (s : Setup) {Msg : Type 0} (m : Module Msg) (me : ℕ) (d : Past Msg) (bf : List Value) (log : LogState)
     (holds : (front : List Value) → Extends bf (reverse front) → (v : Value) → value_at log (length front) ≡ Some v → cell (rules_of s) m me d (reverse front) ≡ Some v) where
@@ -69,7 +69,7 @@ module _ (s : Setup) {Msg : Type 0} (m : Module Msg) (me : ℕ) (d : Past Msg) (
       let g : slice_get log.entries (length front) ≡ Some v = ap (λ (xs : List Value). slice_get xs (length front)) e ∙ at_end front v more in
       ap (λ (o : Option Value). first_of o (ahead_at log.ahead (length front))) g
 
-  -- as far as its slots hold what the cells hold
+  -- The log as far as the slots agree with the model's cells.
   pub goes-on : (more front : List Value) → log.entries ≡ front ++ more → Extends bf (reverse front) → IsLog (rules_of s) m me d (reverse front) → Extends bf (reverse log.entries) × IsLog (rules_of s) m me d (reverse log.entries)
   goes-on [] front e x h =
       let is : front ≡ log.entries = sym (e ∙ append-nil front) in
@@ -97,7 +97,7 @@ module _ (s : Setup) (good : IsGoodSetup s) {Msg : Type 0} (m : Module Msg) (me 
       ∙ ap (λ (o : Option Value). first_of (slot_value (rules_of s) m me bf d (length older)) o) (nothing-adopted (length older - length bf))
       ∙ first_of-none (slot_value (rules_of s) m me bf d (length older))
 
-  -- no cell behind the epoch is filled
+  -- No cell after the epoch is filled.
   pub past-end : (older : List Value) → d.epoch * s.epoch + s.epoch ≤ length older → cell (rules_of s) m me d older ≡ None
   past-end older le = go (cell (rules_of s) m me d older) refl
     where
@@ -110,7 +110,7 @@ module _ (s : Setup) (good : IsGoodSetup s) {Msg : Type 0} (m : Module Msg) (me 
           let next = start-is s older (suc d.epoch) in
           absurd (omega (arith, high, mono, next, le))
 
-  -- a log behind which nothing is filled is the node's
+  -- If no slot is filled right after a log, it is the node's log.
   pub log-ends : (xs : List Value) → IsLog (rules_of s) m me d xs → cell (rules_of s) m me d xs ≡ None → log_of (rules_of s) m me d ≡ xs
   log-ends xs h none = go (longest (rules_of s) (has-slots s good).some (has-slots s good).most m me d b xs h)
     where
@@ -130,7 +130,7 @@ module _ (s : Setup) (good : IsGoodSetup s) {Msg : Type 0} (m : Module Msg) (me 
       (cells : (k : ℕ) → d.epoch * s.epoch ≤ k → k < d.epoch * s.epoch + s.epoch → value_at log k ≡ slot_value (rules_of s) m me bf d k)
       (outside : (k : ℕ) → d.epoch * s.epoch + s.epoch ≤ k → value_at log k ≡ None)
       (hole : value_at log (length log.entries) ≡ None) where
-    -- the cell behind a part of the log
+    -- The cell right after a prefix of the log.
     behind : (front : List Value) → Extends bf (reverse front) → (o : Option Value) → value_at log (length front) ≡ o → cell (rules_of s) m me d (reverse front) ≡ o
     behind front x o is =
         let n = length-reverse front in
@@ -145,6 +145,6 @@ module _ (s : Setup) (good : IsGoodSetup s) {Msg : Type 0} (m : Module Msg) (me 
               own-cell (reverse front) x lt ∙ ap (λ (k : ℕ). slot_value (rules_of s) m me bf d k) n ∙ sym (cells (length front) low t.1) ∙ is
         ]
 
-    -- the log is what the slots hold, from a front of it on
+    -- The log is what the slots hold, starting from a prefix.
     pub log-is : (front more : List Value) → log.entries ≡ front ++ more → Extends bf (reverse front) → IsLog (rules_of s) m me d (reverse front) → log_of (rules_of s) m me d ≡ reverse log.entries
     log-is front more e x h = let all = goes-on s m me d bf log (λ part y v is. behind part y (Some v) is) more front e x h in log-ends (reverse log.entries) all.1 (behind log.entries all.0 None hole)

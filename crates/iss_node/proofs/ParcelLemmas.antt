@@ -6,7 +6,7 @@ use Rattle.iss_model.specs.Node.{packed}
 use Rattle.iss_request.specs.Fields.{IsUnreadable, Parsed, Reading, left}
 use Rattle.iss_sb.specs.declared.effects.To.{To}
 
--- what does not begin with a thing is not one whole
+-- Bytes that do not begin with a valid encoding are not whole.
 pub bad-whole : {A : Type 0} (parse : ℕ → List ℕ → Parsed A) (r : Reading) (version : ℕ) (bytes : List ℕ) (at : ℕ) → r ≡ record { version = version; all = bytes; at = 0 } → IsUnreadable (parse r.version) r at → whole (parse version bytes) ≡ None
 bad-whole parse r version bytes at is h =
     let e : left r ≡ bytes = ap (λ (z : Reading). left z) is in

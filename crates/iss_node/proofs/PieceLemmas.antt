@@ -1,4 +1,4 @@
--- What becomes of a piece at a node.
+-- Taking a piece refines the model's step.
 use Rattle.std.proofs.Common.{arith, ◌≡◌, ℕ, suc, ◌≤◌, Bool, true, false, ◌&&◌, cond, eqb, if◌then◌else◌, not, List, length, reverse, nat_lt, refl, sym, ap, ap₂, ◌∙◌, subst}
 use Rattle.std.proofs.lemmas.Bool.Decides.{nat_tests}
 use Rattle.std.proofs.lemmas.List.{length-reverse, reverse-reverse}
@@ -31,7 +31,7 @@ use Rattle.iss_transfer.specs.declared.adopting.Adoption.TheVariants.{Adopt, Bad
 use Rattle.iss_transfer.specs.declared.pieces.Piece.{Piece}
 use Rattle.iss_segment.proofs.MarksLemmas.{not-large}
 
--- what is found, by three tests, and the step that a finding means
+-- The results of three checks, and the step that they imply.
 abbrev found_by : Bool → Bool → Bool → End → End → List (List ℕ) → Adoption
 found_by shape cert chain ours theirs hashed =
     if not shape then WrongEpoch else if not cert then BadCert else if not chain then WrongChain ours theirs else Adopt hashed
@@ -76,7 +76,7 @@ module _ {M Msg : Type 0} (m : Module Msg) (refines : M → Params → ℕ → L
     entries-are : v.log.entries ≡ reverse log
     entries-are = sym (reverse-reverse v.log.entries) ∙ ap (λ (xs : List Value). reverse xs) (sym h.state.tied.log)
 
-    -- the log holds all that comes before the epoch
+    -- The log has all slots before the epoch.
     far : start_of R log c.past.epoch ≤ length log
     far =
         let starts = start-is v.setup log c.past.epoch in
@@ -94,7 +94,7 @@ module _ {M Msg : Type 0} (m : Module Msg) (refines : M → Params → ℕ → L
     abbrev hashed : List (List ℕ)
     hashed = strings_from v.setup.version (chain_of v.setup.version (log_before v.setup (reverse log) c.past.epoch)) p.values
 
-    -- the model's step is what iss_transfer finds
+    -- The model's step agrees with the check of iss_transfer.
     step-found : takes_piece F R m v.me.0 c p ≡ step_by (Taken turn) (adoption v.setup own (reverse log) c.past.epoch p)
     step-found =
         let e = c.past.epoch in
@@ -117,12 +117,12 @@ module _ {M Msg : Type 0} (m : Module Msg) (refines : M → Params → ℕ → L
         takes_piece F R m v.me.0 c p ≡ step_by (Taken turn) found
     step-is found is = step-found ∙ ap (λ (z : Adoption). step_by (Taken turn) z) (found-is found is)
 
-    -- one that a test refuses
+    -- A piece that is refused.
     pub piece-refused : (found : Adoption) → ((xs : List Value) → IsChainOf v.chains xs → found ≡ adoption v.setup (voters_of v.setup v.directory) xs v.epoch p) →
         (why : Why) → ((t : Stepped Msg) → step_by t found ≡ Dropped why) → IsHeldDropped m refines c (takes_piece F R m v.me.0 c p) v why
     piece-refused found is why means = record { step_is = step-is found is ∙ means (Taken turn); refined = h }
 
-    -- one that the node takes over
+    -- A piece that is adopted.
     pub piece-taken : (found : Adoption) → ((xs : List Value) → IsChainOf v.chains xs → found ≡ adoption v.setup (voters_of v.setup v.directory) xs v.epoch p) →
         (strings : List (List ℕ)) → found ≡ Adopt strings → (w : StateView M Msg) (o : Outcome) → IsAdoptedBy m refines v p strings w o →
         IsHeldTaken m refines (Unit {0}) (takes_piece F R m v.me.0 c p) w o

@@ -1,4 +1,4 @@
--- A proposal, by what the node finds.
+-- A proposal, by the results of the node's checks.
 use Rattle.std.proofs.Common.{◌≡◌, ℕ, List, true, false, Some, None, refl, subst}
 use Rattle.iss_rules.specs.Concrete.{rules_of}
 use Rattle.iss_rules.specs.Formats.{formats_of}

@@ -1,4 +1,4 @@
--- What a node shows, and how it keeps early messages.
+-- What a node reports, and how it keeps early messages.
 use Rattle.std.proofs.Common.{arith, inl, inr, ◌≡◌, ℕ, suc, ◌<◌, ◌≤◌, Bool, true, false, List, [], ◌∷◌, ◌++◌, ◌||◌, ◌&&◌, cond, not, Option, Some, length, refl, sym, ap, ◌∙◌, subst}
 use Rattle.std.specs.Prelude.{is_some, nat_lt}
 use Rattle.std.specs.List.{list_any}

@@ -1,4 +1,4 @@
--- What a node knows of a request, and how it waits.
+-- What a node knows about a request, and how requests wait.
 use Rattle.std.proofs.Common.{◌≡◌, ℕ, Bool, true, false, List, [], ◌∷◌, ◌++◌, ◌||◌, cond, not, length, reverse, drop, Result, Ok, Err, refl, sym, ap, ◌∙◌, subst, append_assoc, true≢false}
 use Rattle.std.specs.Prelude.{OnOk, fold}
 use Rattle.std.proofs.lemmas.List.{append-nil, length-reverse}
@@ -46,7 +46,7 @@ known-waits false b h = refl
 
 -- ---- requests that wait again
 
--- a request that the log holds is left out, another waits
+-- A request in the log is left out. Any other waits.
 pub absent-more : (all : List ReqId) (qs : List Request) (q : Request) → absent all (qs ++ q ∷ []) ≡ absent all qs ++ cond (has_id q.id all) [] (q ∷ [])
 absent-more all [] q = refl
 absent-more all (r ∷ qs) q = elim (has_id r.id all) as (λ b. cond b (absent all (qs ++ q ∷ [])) (r ∷ absent all (qs ++ q ∷ [])) ≡ cond b (absent all qs) (r ∷ absent all qs) ++ cond (has_id q.id all) [] (q ∷ [])) [
@@ -82,7 +82,7 @@ whole-next all done q old new h k = h ∙ ap (λ (xs : List _). done ++ xs) k �
 pub rest-more : {M Msg : Type 0} (v u w : StateView M Msg) → w ≡ record u { waiting = w.waiting } → u ≡ record v { waiting = u.waiting } → w ≡ record v { waiting = w.waiting }
 rest-more v u w a b = let f : StateView _ _ → StateView _ _ = λ z. record z { waiting = w.waiting } in a ∙ ap f b
 
--- where nothing but the waiting list has moved, the same identities are the log's
+-- If only the waiting list changes, the identities of the log stay the same.
 pub logged-still : {M Msg : Type 0} (v w : StateView M Msg) → w ≡ record v { waiting = w.waiting } → (all : List ReqId) → AreLogged v all → AreLogged w all
 logged-still v w rest all h = subst (λ (z : StateView _ _). AreLogged z all) (sym rest) (record { before = h.before; noted = h.noted; members = h.members })
 
@@ -106,12 +106,12 @@ returned-join log (f ∷ fs) gs = elim (is_nil_at log f.0.0) as (λ b. cond b (f
   | false ↦ returned-join log fs gs
 ]
 
--- what was cast in a slot that did not become nil does not come back
+-- The requests of a proposal whose slot is not nil do not wait again.
 pub back-none : (all : List ReqId) (log : List Value) (now start : List Request) (done : List (Slot × Batch)) (slot : Slot) (batch : Batch) → is_nil_at log slot.0 ≡ false → now ≡ start ++ absent all (returned log done) → now ≡ start ++ absent all (returned log (done ++ (slot, batch) ∷ []))
 back-none all log now start done slot batch nil h =
     h ∙ ap (λ (xs : List Request). start ++ absent all xs) (sym (returned-more log done slot batch ∙ ap (λ b. returned log done ++ cond b batch []) nil ∙ append-nil (returned log done)))
 
--- and what was cast in one that did waits again
+-- The requests of a proposal whose slot is nil wait again.
 pub back-some : (all : List ReqId) (log : List Value) (now new start : List Request) (casts done : List (Slot × Batch)) (slot : Slot) (batch : Batch) (rest : List (Slot × Batch)) → is_nil_at log slot.0 ≡ true →
     now ≡ start ++ absent all (returned log done) → AreNew start (absent all (returned log casts)) → casts ≡ done ++ (slot, batch) ∷ rest → (AreNew now (absent all batch) → new ≡ now ++ absent all batch) →
     new ≡ start ++ absent all (returned log (done ++ (slot, batch) ∷ []))
@@ -125,7 +125,7 @@ back-some all log now new start casts done slot batch rest nil h n whole put =
     put free ∙ ap (λ (xs : List Request). xs ++ absent all batch) h ∙ append_assoc start (absent all (returned log done)) (absent all batch)
     ∙ ap (λ (xs : List Request). start ++ xs) (sym (ap (λ (xs : List Request). absent all xs) (returned-more log done slot batch ∙ ap (λ b. returned log done ++ cond b batch []) nil) ∙ absent-join all (returned log done) batch))
 
--- ---- what lands, and how the log grows
+-- ---- completed proposals, and the longer log
 
 pub landed-all : {M Msg : Type 0} (v u w : StateView M Msg) (slots : ℕ) (gone : List (Slot × Batch)) (r : Result (Unit {0}) NoMemory) → u ≡ record v { flight = u.flight } → slots ≡ length v.log.entries → gone ≡ landed slots v.flight.casts → IsLanded v.flight u.flight slots →
     OnOk r ((all : List ReqId) → AreLogged u all → AreNew u.waiting (absent all (returned (reverse u.log.entries) gone)) → w.waiting ≡ u.waiting ++ absent all (returned (reverse u.log.entries) gone)) →
@@ -182,7 +182,7 @@ absorbed-all {M} {Msg} v u w leader e ds us grown is =
     let now : u ≡ record v { accepted = w.accepted } = us ∙ ap with_it (sym accepted) in
     record { accepted = accepted; grown = subst (λ (z : StateView M Msg). HasGrown z w e.delivers) now (subst (λ (xs : List (Slot × Value)). HasGrown u w xs) is grown) }
 
--- the chain grew with it
+-- The chain was extended with the log.
 pub chained-all : {M Msg : Type 0} (v w : StateView M Msg) (chains now : ChainsState) (held : ℕ) (entries more : List Value) (before after : List (List ℕ)) (r : Result (Unit {0}) NoMemory) →
     entries ≡ w.log.entries → more ≡ drop held entries → held ≡ length v.log.entries → chains ≡ v.chains → w.chains ≡ now →
     ((log : List Value) → IsChainOf chains log → AreJoined chains log more now before after) → now.version ≡ chains.version → OnOk r (IsChained v w before after)
@@ -196,17 +196,17 @@ chained-all v w chains now held entries more before after (Ok x) entries_are mor
   version = ap (λ (z : ChainsState). z.version) now_is ∙ version ∙ ap (λ (z : ChainsState). z.version) chains_are;
 }
 
--- a batch that was accepted before says nothing of it
+-- An accepted batch does not matter for the chain.
 pub chained-after : {M Msg : Type 0} (v u w : StateView M Msg) (accepted : List Accepted) (before after : List (List ℕ)) → u ≡ record v { accepted = accepted } → IsChained u w before after → IsChained v w before after
 chained-after {M} {Msg} v u w accepted before after is h =
     let k : IsChained (record v { accepted = accepted }) w before after = subst (λ (z : StateView M Msg). IsChained z w before after) is h in
     record { joined = k.joined; version = k.version }
 
--- what is handed out has the strings that it has
+-- The outcome has exactly the strings that were hashed.
 pub now-its-own : {M Msg : Type 0} (m : Module Msg) (v : StateView M Msg) (l : ℕ) (sends : List (To × Msg)) (strings : List (List ℕ)) (o : Outcome) → IsHandedOut m v l sends strings o → IsHandedOut m v l sends o.hashed o
 now-its-own m v l sends strings o h = record { sent = h.sent; own = h.own; early = h.early; hashed_is = refl }
 
--- ---- what a node knows
+-- ---- the requests that a node knows
 
 module _ {M Msg : Type 0} (m : Module Msg) (refines : M → Params → ℕ → List (Item Msg) → Type 0)
     (v : StateView M Msg) (shape : IsNodeState m v) (past : Past Msg) (tied : RefinesPast m refines v past) where
@@ -238,7 +238,7 @@ module _ {M Msg : Type 0} (m : Module Msg) (refines : M → Params → ℕ → L
       let found = subst (λ (z : Kept). (n : Noted) → RefinesNoted z n → b ≡ is_inside (place_of z.width n.closed x)) is h in
       sym (found (noted_before bf) tied.rests.noted ∙ ap (λ (w : ℕ). is_inside (place_of w (log_ids bf) x)) tied.rests.width)
 
-  -- the step of a request, by what the node finds
+  -- The model's step for a request, by the results of the node's checks.
   pub request-is : (q : Request) (a b c : Bool) → (rules_of v.setup).signed q ≡ a → is_known (rules_of v.setup) m v.me.0 (core_of v past) q.id ≡ b → (rules_of v.setup).inside (before_own (rules_of v.setup) m v.me.0 past) past.epoch q.id ≡ c →
       takes_request (rules_of v.setup) m v.me.0 (core_of v past) q ≡ cond (not a) (Dropped BadRequest) (cond b (Dropped Known) (cond (not c) (Dropped OutOfWindow) (Taken (unchanged (record (core_of v past) { waiting = v.waiting ++ q ∷ [] })))))
   request-is q a b c ha hb hc = tests _ a _ b _ c (unchanged (record (core_of v past) { waiting = v.waiting ++ q ∷ [] })) ha hb hc
@@ -247,7 +247,7 @@ module _ {M Msg : Type 0} (m : Module Msg) (refines : M → Params → ℕ → L
           cond (not a) (Dropped BadRequest) (cond b (Dropped Known) (cond (not c) (Dropped OutOfWindow) (Taken turn))) ≡ cond (not a') (Dropped BadRequest) (cond b' (Dropped Known) (cond (not c') (Dropped OutOfWindow) (Taken turn)))
       tests a a' b b' c c' turn ha hb hc = rw (ha, hb, hc) refl
 
-  -- a node keeps what it is tied to where only its requests and early messages move, and stay sound
+  -- If only requests and early messages change, and stay sound, the state still refines its history.
   module _ (w : StateView M Msg) (rest : w ≡ record v { waiting = w.waiting; early = w.early }) where
     pub moved : IsSoundCore (rules_of v.setup) m v.me.0 (core_of w past) → RefinesPast m refines w past
     moved sound = subst (λ (z : StateView M Msg). RefinesPast m refines z past) (sym rest) (record {
@@ -270,7 +270,7 @@ module _ {M Msg : Type 0} (m : Module Msg) (refines : M → Params → ℕ → L
       keys = tied.keys;
     })
 
-  -- one that waits
+  -- A request that waits.
   pub waits-parts : (q : Request) (w : StateView M Msg) → w ≡ record v { waiting = v.waiting ++ q ∷ [] } → (rules_of v.setup).signed q ≡ true → is_known (rules_of v.setup) m v.me.0 (core_of v past) q.id ≡ false →
       (rules_of v.setup).inside (before_own (rules_of v.setup) m v.me.0 past) past.epoch q.id ≡ true → RefinesBareCore m refines w (record (core_of v past) { waiting = v.waiting ++ q ∷ [] })
   waits-parts q w is signed unknown inside =

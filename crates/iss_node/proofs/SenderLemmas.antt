@@ -1,4 +1,4 @@
--- Whom a packet comes from.
+-- The sender of a packet.
 use Rattle.std.proofs.Common.{arith, ◌≡◌, ℕ, ◌<◌, Bool, true, false, ◌&&◌, nat_lt, Option, Some, None, Result, Ok, Err, IfOk, IfSome, refl, sym, subst}
 use Rattle.std.proofs.lemmas.Bool.Decides.{nat_tests}
 use Rattle.iss_node.specs.Parcels.{IsFromNode, carried}
@@ -25,7 +25,7 @@ body-from {Msg} n k lt = go k.body
     go (OfPiece p) = lt
     go (OfClient q) = tt
 
--- a kind that only nodes send
+-- A kind of packet that only nodes send.
 pub sender-below : (n : ℕ) (p : Packet) (kind : PacketKind) → p.kind ≡ kind → is_routed n p ≡ true → (is_routed_as n kind p.from p.epoch.0 p.leader ≡ true → nat_lt p.from n ≡ true) → p.from < n
 unfolding is_routed
 sender-below n p kind is routed of_node =

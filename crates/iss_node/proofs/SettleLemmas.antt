@@ -1,4 +1,4 @@
--- What follows of a step: the end of the epoch, and early messages in turn.
+-- The completion of a step: the end of the epoch, and early messages in order.
 use Rattle.std.proofs.Common.{arith, ◌≡◌, ℕ, suc, true, false, List, [], ◌∷◌, ◌++◌, eqb, Result, Ok, Err, IfOk, refl, sym, ap, ◌∙◌, subst, append_assoc}
 use Rattle.std.proofs.lemmas.Bool.Decides.{nat_tests}
 use Rattle.std.proofs.lemmas.List.{append-nil}
@@ -28,7 +28,7 @@ if-ok (Ok x) P Q h f = f x h
 if-ok (Err e) P Q h f = tt
 
 module _ {M Msg : Type 0} (m : Module Msg) (refines : M → Params → ℕ → List (Item Msg) → Type 0) where
-  -- what holds at the core of a past holds at each core that the parts stand for
+  -- What holds for the core of each history holds for each core that the state refines.
   pub at-core : (v : StateView M Msg) (c : Core Msg) → RefinesBareCore m refines v c → (Q : Core Msg → Type 0) → ((past : Past Msg) → RefinesPast m refines v past → Q (core_of v past)) → Q c
   at-core v c h Q all = subst (λ (d : Core Msg). Q d) (sym h.core) (all c.past h.tied)
 
@@ -57,7 +57,7 @@ module _ {M Msg : Type 0} (m : Module Msg) (refines : M → Params → ℕ → L
   to-nodes n [] ys h k = k
   to-nodes n (x ∷ xs) ys h k = (h.0, to-nodes n xs ys h.1 k)
 
-  -- the vote at an epoch's end, behind what a turn made
+  -- The vote at the end of an epoch, after the outcome of a turn.
   voted-behind : (v u : StateView M Msg) (t : Turn Msg) (first vote : Outcome) (early : List (Early Msg)) → is_complete (rules_of v.setup) m v.me.0 t.core.past ≡ true →
       IsEnded m refines v u vote early → IsLater v u → IsTurned m refines t v first →
       IsTurned m refines (then_turn t (ends (formats_of v.setup m) (rules_of v.setup) m v.me.0)) u (appended first vote)
@@ -96,7 +96,7 @@ module _ {M Msg : Type 0} (m : Module Msg) (refines : M → Params → ℕ → L
       (subst (λ (i : NodeId). IsTurned m refines (then_turn begun (takes_each (formats_of u.setup m) (rules_of u.setup) m i.0 u.epoch (seen_early early))) w last) later.me went))) in
       subst (λ (z : Turn Msg). IsTurned m refines z w last) (sym (filled-is (formats_of v.setup m) (rules_of v.setup) v.me.0 t complete)) there
 
-  -- what is settled of a step
+  -- The completion of a step that was accepted.
   pub settled-taken : (v w : StateView M Msg) (first last : Outcome) → IsTurnBehind m refines v (λ F R me t. advance_epochs F R m me t) first w last → (c : Core Msg) (step : Stepped Msg) →
       IsStep m refines c step v (Result_taken first) → IsStep m refines c (finish_step (formats_of v.setup m) (rules_of v.setup) m v.me.0 step) w (Result_taken last)
   settled-taken v w first last h c step s = record {
@@ -129,16 +129,16 @@ module _ {M Msg : Type 0} (m : Module Msg) (refines : M → Params → ℕ → L
       subst (λ (z : Turn Msg). IsTurned m refines z u (appended o vote)) (sym (ended-on (formats_of v.setup m) (rules_of v.setup) v.me.0 t complete))
       (voted-behind v u t o vote early complete next later h)
 
-  -- by the set-up that stays
+  -- The set-up does not change.
   pub ended-by : (v u w : StateView M Msg) (t : Turn Msg) (o : Outcome) → IsLater v u → IsTurned m refines (ended (formats_of u.setup m) (rules_of u.setup) m u.me.0 t) w o →
       IsTurned m refines (ended (formats_of v.setup m) (rules_of v.setup) m v.me.0 t) w o
   ended-by v u w t o later h =
       subst (λ (s : Setup). IsTurned m refines (ended (formats_of s m) (rules_of s) m v.me.0 t) w o) later.setup
       (subst (λ (i : NodeId). IsTurned m refines (ended (formats_of u.setup m) (rules_of u.setup) m i.0 t) w o) later.me h)
 
-  -- ---- early messages in turn
+  -- ---- early messages in order
 
-  -- what is left of the messages is owed by the turn so far
+  -- What the turn so far and the remaining messages make together is fixed.
   pub record Owes (start : StateView M Msg) (now : StateView M Msg) (all : Outcome) (done : List (Early Msg)) (t : Turn Msg) : Type 0 where
     pub so_far : Turn Msg
     pub refined : RefinesBareCore m refines now so_far.core
@@ -167,7 +167,7 @@ module _ {M Msg : Type 0} (m : Module Msg) (refines : M → Params → ℕ → L
   each-off F R me e [] c h = refl
   each-off F R me e (x ∷ xs) c h = rw h refl
 
-  -- the next message, while the epoch lasts
+  -- The next message, while the epoch lasts.
   pub owes-next : (start now new : StateView M Msg) (all more : Outcome) (done : List (Early Msg)) (x : Early Msg) (t : Turn Msg) (later : IsLater start now) (after : IsLater now new) → now.epoch ≡ start.epoch →
       IsTurnOf m refines now (λ F R me c. takes_early F R m me c (seen_one x)) new more → Owes start now all done t → Owes start new (appended all more) (done ++ x ∷ []) t
   owes-next start now new all more done x t later after lasts taken o =
@@ -197,7 +197,7 @@ module _ {M Msg : Type 0} (m : Module Msg) (refines : M → Params → ℕ → L
       onward-at : (u : Turn Msg) (f g : Core Msg → Turn Msg) → f u.core ≡ g u.core → then_turn u f ≡ then_turn u g
       onward-at u f g h = ap (λ (z : Turn Msg). let y : Turn Msg = record { core = z.core; sends = u.sends ++ z.sends; own = u.own ++ z.own; early = u.early ++ z.early; strings = u.strings ++ z.strings } in y) h
 
-  -- and none once it is over
+  -- No message is taken once the epoch is over.
   pub owes-none : (start now : StateView M Msg) (all : Outcome) (done : List (Early Msg)) (x : Early Msg) (t : Turn Msg) → eqb now.epoch start.epoch ≡ false →
       Owes start now all done t → Owes start now all (done ++ x ∷ []) t
   owes-none start now all done x t over o =

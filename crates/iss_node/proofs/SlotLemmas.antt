@@ -30,13 +30,13 @@ in-slice [] k lt = absurd (omega (arith, lt))
 in-slice (x ∷ xs) zero lt = (x, refl)
 in-slice (x ∷ xs) (suc k) lt = in-slice xs k (omega (arith, lt))
 
--- a slot of the log holds a value
+-- A slot of the log has a value.
 pub not-empty : (log : LogState) (k : ℕ) → k < length log.entries → value_at log k ≡ None → ⊥
 not-empty log k lt none =
     let x = in-slice log.entries k lt in
     none-some x.0 (sym none ∙ ap (λ (o : Option Value). first_of o (ahead_at log.ahead k)) x.1)
 
--- one value more
+-- One more value.
 pub at-next : (first : ℕ) (xs : List Value) (v : Value) → at_slots first (xs ++ v ∷ []) ≡ at_slots first xs ++ (record { 0 = first + length xs }, v) ∷ []
 at-next first [] v = let same : first ≡ first + 0 = omega arith in ap (λ (k : ℕ). let x : Slot × Value = (record { 0 = k }, v) in x ∷ []) same
 at-next first (x ∷ xs) v =
@@ -46,7 +46,7 @@ at-next first (x ∷ xs) v =
 
 -- ---- the slots of an epoch
 
--- where there is a slot in each, no number of epochs has fewer slots
+-- If an epoch has at least one slot, e epochs have at least e slots.
 pub at-least : (e k : ℕ) → 0 < k → e ≤ e * k
 at-least zero k lt = omega arith
 at-least (suc e) k lt = let h = at-least e k lt in omega (arith, h, lt)

@@ -1,4 +1,4 @@
--- How the instances of an epoch are started, and a node that has taken nothing.
+-- The instances of an epoch at its start, and a node that has taken no event.
 use Rattle.std.proofs.Common.{inl, inr, arith, ◌≡◌, ℕ, zero, suc, ◌+◌, ◌*◌, ◌^◌, ◌<◌, ◌≤◌, Bool, true, false, List, [], ◌∷◌, ◌++◌, ◌==◌, ◌||◌, Option, Some, None, IfSome, length, refl, sym, ap, ◌∙◌, subst, length-append, true≢false}
 use Rattle.std.specs.Prelude.{is_some}
 use Rattle.std.specs.List.{list_any}
@@ -74,7 +74,7 @@ pub copy-is : (s t : Setup) (e : ℕ) (l : NodeId) (slots : List Slot) (director
     record { setup = t; epoch = record { 0 = e }; leader = l; slots = slots; directory = directory } ≡ params_by s e plan l.0
 copy-is s t e l slots directory plan t_is slots_are keys_are = λ i. record { setup = t_is i; epoch = record { 0 = e }; leader = l; slots = slots_are i; directory = (keys_are) i }
 
--- ---- rows of instances
+-- ---- lists of instances
 
 led-front : {M : Type 0} (gs hs : List (Option (SegmentState M))) (l : ℕ) → l < length gs → led (gs ++ hs) l ≡ led gs l
 led-front [] hs l lt = absurd (omega (arith, lt))
@@ -96,7 +96,7 @@ led-below gs l g h = elim (leb_tells (length gs) l) [
   | inr t ↦ t.1
 ]
 
--- the instances of the first k nodes
+-- The instances of the first k nodes.
 pub record AreBegun {M Msg : Type 0} (refines : M → Params → ℕ → List (Item Msg) → Type 0) (s : Setup) (me : NodeId) (e : ℕ) (plan : Plan) (k : ℕ)
     (segments : List (Option (SegmentState M))) : Type 0 where
   pub count : length segments ≡ k
@@ -177,7 +177,7 @@ module _ {M Msg : Type 0} (refines : M → Params → ℕ → List (Item Msg) �
       none l le true q = let lt = rising-less 0 plan.nodes plan.leaders l good.rising q in absurd (omega (arith, lt, nodes, le))
       none l le false q = q
 
--- ---- a node that has taken nothing
+-- ---- a node that has taken no event
 
 module _ {M Msg : Type 0} (m : Module Msg) (refines : M → Params → ℕ → List (Item Msg) → Type 0) (s t : Setup) (me : NodeId) (directory : DirectoryView) (plan : Plan) (windows : Kept) (standing : List Conduct)
     (gs : List (Option (SegmentState M))) (chains : ChainsState) (ballots : BallotsState) (keys : KeyState) (h : IsSetupOf m s) (t_is : t ≡ s) (directory_is : directory ≡ keys_of s) (low : me.0 < s.n)

@@ -1,4 +1,4 @@
--- The shape of a node stays when one of its instances takes an input.
+-- A node keeps its invariant when one of its instances takes an input.
 use Rattle.std.proofs.Common.{arith, inl, inr, ◌≡◌, ◌≢◌, ◌⊎◌, ℕ, zero, suc, ◌<◌, List, [], ◌∷◌, Option, Some, None, Result, Ok, Err, length, get_or, slice_set, refl, sym, ap, ◌∙◌, subst}
 use Rattle.iss_base.proofs.Lists.{same_or_not}
 use Rattle.iss_keys.specs.KeyStates.{KeyState}
@@ -41,13 +41,13 @@ module _ {M : Type 0} where
   set-length (g ∷ gs) zero o = refl
   set-length (g ∷ gs) (suc l) o = ap suc (set-length gs l o)
 
-  -- what is written where it stands changes nothing
+  -- Writing an element where it already is changes nothing.
   set-same : (gs : List (Option (SegmentState M))) (l : ℕ) (o : Option (SegmentState M)) → l < length gs → led gs l ≡ o → slice_set gs l o ≡ gs
   set-same [] l o lt is = refl
   set-same (g ∷ gs) zero o lt is = ap (λ (p : Option (SegmentState M)). p ∷ gs) (sym is)
   set-same (g ∷ gs) (suc l) o lt is = ap (λ (ps : List (Option (SegmentState M))). g ∷ ps) (set-same gs l o (omega (arith, lt)) is)
 
--- the sender of a message is a node of the instance's set-up
+-- The sender of a message is a node of the instance's set-up.
 pub good-input : {Msg : Type 0} (s : Setup) (p : Params) (input : Input Msg) → p.setup ≡ s → IsNodeInput s.n input → IsGoodInput p input
 good-input s p (Cast slot batch) is h = tt
 good-input s p (Receive from msg) is h = subst (λ (z : Setup). from.0 < z.n) (sym is) h
@@ -111,7 +111,7 @@ module _ {M Msg : Type 0} (m : Module Msg) (refines : M → Params → ℕ → L
       rest = refl;
     }
 
-    -- nothing has changed where the instance and the keys are as before
+    -- If the instance and the keys do not change, nothing changes.
     untouched : h ≡ g → keys ≡ v.keys → written ≡ v
     untouched same same_keys =
         let gs : slice_set v.segments l (Some h) ≡ v.segments = set-same v.segments l (Some h) within (place ∙ ap (λ (z : SegmentState M). Some z) (sym same)) in

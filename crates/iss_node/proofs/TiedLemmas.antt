@@ -1,4 +1,4 @@
--- What the parts that are tied to a past say of its log, and what its growth makes of requests.
+-- What a state that refines a history says about its log, and the effect of a longer log on requests.
 use Rattle.std.proofs.Common.{arith, inl, ◌≡◌, ℕ, suc, ◌+◌, ◌-◌, ◌*◌, ◌≤◌, false, List, [], ◌∷◌, ◌++◌, ◌||◌, ◌&&◌, not, length, length-append, take, reverse, refl, sym, ap, ◌∙◌, subst, append_assoc}
 use Rattle.std.specs.Prelude.{fold}
 use Rattle.std.proofs.lemmas.List.{length-reverse, reverse-append, reverse-reverse}
@@ -39,7 +39,7 @@ use Rattle.iss_window.specs.Kept.{RefinesNoted}
 
 -- ---- requests that are all different
 
--- what stands behind a list, all identities being different, is new to it
+-- If all identities are different, those after a list are new to it.
 pub new-of : (qs w : List Request) → Different (ids (w ++ qs)) → AreNew w qs
 new-of [] w d = tt
 new-of (q ∷ qs) w d =
@@ -48,7 +48,7 @@ new-of (q ∷ qs) w d =
     let rest : Different (ids ((w ++ q ∷ []) ++ qs)) = subst (λ (xs : List Request). Different (ids xs)) (sym (append_assoc w (q ∷ []) qs)) d in
     (none, new-of qs (w ++ q ∷ []) rest)
 
--- ---- the newest part of a log that goes on
+-- ---- the newest part of a log that is extended
 
 take-over : {A : Type 0} (newer old : List A) (n : ℕ) → take (length newer + n) (newer ++ old) ≡ newer ++ take n old
 take-over [] old n = ap (λ (k : ℕ). take k old) (let q : 0 + n ≡ n = omega arith in q)
@@ -62,13 +62,13 @@ joined-more newer old n le =
     let q : length (newer ++ old) - n ≡ length newer + (length old - n) = omega (arith, long, le) in
     ap (λ (k : ℕ). take k (newer ++ old)) q ∙ take-over newer old (length old - n)
 
--- a log is its newest part and what is below
+-- A log is its newest part and the rest.
 pub split-log : (all low : List Value) (n : ℕ) → n ≡ length low → Extends low all → all ≡ joined n all ++ low
 split-log all low n is x =
     let q : joined n all ≡ x.0 = ap (λ (k : ℕ). joined k all) is ∙ ap (λ (ys : List Value). joined (length low) ys) x.1 ∙ joined-newer x.0 low in
     x.1 ∙ ap (λ (ys : List Value). ys ++ low) (sym q)
 
--- the strings of what joins a log, which the model has the other way round
+-- The strings hashed for new values; the model has its log newest first.
 pub grown-is : (s : Setup) (entries more old new : List Value) → old ≡ reverse entries → new ≡ reverse (entries ++ more) →
     grown_strings (rules_of s) old new ≡ strings_from s.version (chain_of s.version entries) more
 grown-is s entries more old new p q =
@@ -78,7 +78,7 @@ grown-is s entries more old new p q =
     ∙ ap (λ (z : List Value). strings_from s.version (chain_of s.version entries) (reverse z)) (ap (λ (z : List Value). joined (length (reverse entries)) z) (reverse-append entries more) ∙ joined-newer (reverse more) (reverse entries))
     ∙ ap (λ (z : List Value). strings_from s.version (chain_of s.version entries) z) (reverse-reverse more)
 
--- what a later past makes of the requests of a node, in its parts: those that wait, what is in flight, and the identities of the epoch
+-- The requests of a node after a later history: those that wait, those in flight, and the identities of the epoch.
 pub record AreRefiled {M Msg : Type 0} (m : Module Msg) (v : StateView M Msg) (past next : Past Msg) (leaf : ℕ) (waiting : List Request) (flight : FlightState) (logged : List ReqId) : Type 0 where
   pub waits : waiting ≡ (refiled (rules_of v.setup) m v.me.0 (core_of v past) next leaf).waiting
   pub flies : flight.casts ≡ (refiled (rules_of v.setup) m v.me.0 (core_of v past) next leaf).flight
@@ -96,11 +96,11 @@ module _ {M Msg : Type 0} (m : Module Msg) (refines : M → Params → ℕ → L
   pub bf-long : length (before_own (rules_of v.setup) m v.me.0 past) ≡ past.epoch * v.setup.epoch
   bf-long = length-cut (rules_of v.setup) (log_of (rules_of v.setup) m v.me.0 past) past.epoch reached ∙ start-is v.setup (log_of (rules_of v.setup) m v.me.0 past) past.epoch
 
-  -- the log before the epoch stands in the log
+  -- The log before the epoch is a prefix of the log.
   pub bf-part : Extends (before_own (rules_of v.setup) m v.me.0 past) (reverse v.log.entries)
   bf-part = subst (λ (xs : List Value). Extends (before_own (rules_of v.setup) m v.me.0 past) xs) tied.log (oldest-part (start_of (rules_of v.setup) (log_of (rules_of v.setup) m v.me.0 past) past.epoch) (log_of (rules_of v.setup) m v.me.0 past))
 
-  -- ---- the log goes on, and a later past has it
+  -- ---- the log is extended, and a later history has it
 
   module _ (next : Past Msg) (leaf : ℕ) (log : LogState) (more : List Value) (entries : log.entries ≡ v.log.entries ++ more)
       (new-log : log_of (rules_of v.setup) m v.me.0 next ≡ reverse log.entries)
@@ -127,7 +127,7 @@ module _ {M Msg : Type 0} (m : Module Msg) (refines : M → Params → ℕ → L
         ∙ ap (λ (ys : List ReqId). has_id x ys) (sym (log_ids-append (reverse more) (joined v.plan.start (reverse v.log.entries))))
         ∙ ap (λ (ys : List Value). has_id x (log_ids ys)) (sym (joined-more (reverse more) (reverse v.log.entries) v.plan.start low) ∙ ap (λ (ys : List Value). joined v.plan.start ys) (sym log-more ∙ sym new-log))
 
-    -- the whole log: that of the epoch, and what was before it
+    -- The whole log is that of the epoch after the log before it.
     whole : log_of (rules_of v.setup) m v.me.0 next ≡ joined v.plan.start (log_of (rules_of v.setup) m v.me.0 next) ++ before_own (rules_of v.setup) m v.me.0 past
     whole = let q = tied.start in split-log (log_of (rules_of v.setup) m v.me.0 next) (before_own (rules_of v.setup) m v.me.0 past) v.plan.start (q ∙ sym bf-long)
         (subst (λ (ys : List Value). Extends (before_own (rules_of v.setup) m v.me.0 past) ys) (sym (new-log ∙ log-more)) (longer (before_own (rules_of v.setup) m v.me.0 past) (reverse v.log.entries) (reverse more) bf-part))

@@ -1,4 +1,4 @@
--- How a node asks, and what it hands out.
+-- Asking for an epoch and handing one out refines the model's step.
 use Rattle.std.proofs.Common.{arith, ◌≡◌, ℕ, suc, ◌*◌, ◌<◌, ◌≤◌, Bool, true, false, cond, not, List, [], ◌∷◌, ◌++◌, Option, Some, None, drop, length, nat_le, nat_lt, reverse, take, refl, sym, ap, ◌∙◌, subst}
 use Rattle.std.proofs.lemmas.Bool.{leb-true}
 use Rattle.std.proofs.lemmas.Bool.Decides.{nat_tests}
@@ -32,12 +32,12 @@ use Rattle.iss_sb.specs.declared.effects.To.TheVariants.{One}
 use Rattle.iss_transfer.specs.Bodies.{spell_piece}
 use Rattle.iss_transfer.specs.declared.pieces.Piece.{Piece}
 
--- ---- the values of an epoch, which the model has the other way round
+-- ---- the values of an epoch; the model has them newest first
 
 parted : {A : Type 0} (n : ℕ) (xs : List A) → reverse xs ≡ reverse (drop n xs) ++ reverse (take n xs)
 parted n xs = ap (λ ys. reverse ys) (sym (take-append-drop n xs)) ∙ reverse-append (take n xs) (drop n xs)
 
--- the oldest values of a log are its first slots
+-- The oldest values of a log are its first slots.
 oldest-taken : {A : Type 0} (n : ℕ) (xs : List A) → n ≤ length xs → oldest n (reverse xs) ≡ reverse (take n xs)
 oldest-taken n xs le =
     let front = reverse (take n xs) in
@@ -66,7 +66,7 @@ values-are s entries e le =
     ∙ ap (λ (k : ℕ). reverse (joined k (reverse ys))) size
     ∙ newer-dropped ys (e * s.epoch) (omega (arith, room))
 
--- ---- what is handed out
+-- ---- the outcome
 
 some-held : (b : Bool) (xs ys : List Value) → Some ys ≡ cond b (Some xs) None → (b ≡ true) × (ys ≡ xs)
 some-held true xs ys h = (refl, some-injective ys xs h)
@@ -76,7 +76,7 @@ none-held : (b : Bool) (xs : List Value) → None ≡ cond b (Some xs) None → 
 none-held true xs h = absurd (none-some xs h)
 none-held false xs h = refl
 
--- a test that turns another round
+-- A comparison and its negation.
 lt-of-le : (a b : ℕ) (t : Bool) → nat_le a b ≡ t → nat_lt b a ≡ not t
 lt-of-le a b t h = grind (arith, nat_tests)
 
@@ -90,7 +90,7 @@ module _ {M Msg : Type 0} (m : Module Msg) (refines : M → Params → ℕ → L
   log-is : log_of R m v.me.0 c.past ≡ reverse v.log.entries
   log-is = h.state.tied.log
 
-  -- whether the log lacks a slot of the epoch
+  -- Whether the log lacks a slot of the epoch.
   lacks : (t : Bool) → nat_le (suc e * v.setup.epoch) (length v.log.entries) ≡ t → nat_lt (length (log_of R m v.me.0 c.past)) (start_of R (log_of R m v.me.0 c.past) (suc e)) ≡ not t
   lacks t q =
       ap (λ (k : ℕ). nat_lt (length (log_of R m v.me.0 c.past)) k) (start-is v.setup (log_of R m v.me.0 c.past) (suc e))

@@ -1,4 +1,4 @@
--- What a node shows of its core.
+-- What a node reports about its core.
 use Rattle.std.proofs.Common.{◌≡◌, ℕ, ◌+◌, Bool, true, false, List, [], ◌∷◌, ◌++◌, cond, map, refl, sym, ap, ◌∙◌, add-one}
 use Rattle.std.specs.List.{filter}
 use Rattle.std.proofs.lemmas.List.{append-nil}
@@ -9,7 +9,7 @@ use Rattle.iss_model.specs.Views.{is_unfilled, unfilled}
 use Rattle.iss_request.specs.declared.ids.NodeId.{NodeId}
 use Rattle.iss_sb.specs.Evidence.{Module}
 
--- ---- the leaders below a number that have not filled their segment
+-- ---- the leaders below a bound whose segments are not filled
 
 filter-more : (p : ℕ → Bool) (xs : List ℕ) (k : ℕ) → filter p (xs ++ k ∷ []) ≡ filter p xs ++ cond (p k) (k ∷ []) []
 filter-more p [] k = refl

@@ -1,4 +1,4 @@
--- A node that votes at its epoch's end, and what it counts of others' votes.
+-- Voting at the end of an epoch refines the model's step.
 use Rattle.std.proofs.Common.{arith, ◌≡◌, ℕ, suc, ◌+◌, true, List, [], ◌∷◌, length, reverse, take, sym, ap, ◌∙◌, subst, add-one}
 use Rattle.std.proofs.lemmas.List.{length-reverse, reverse-reverse, take_all}
 use Rattle.iss_base.proofs.Lists.{some-injective}
@@ -34,7 +34,7 @@ use Rattle.iss_sb.specs.declared.effects.Params.{Params}
 use Rattle.iss_sb.specs.declared.effects.To.{To}
 use Rattle.iss_sb.specs.declared.effects.To.TheVariants.{All}
 
--- a node whose next leaf signed keeps what it is tied to
+-- After the next leaf signed, the state still refines its history.
 pub signed-tied : {M Msg : Type 0} (m : Module Msg) (refines : M → Params → ℕ → List (Item Msg) → Type 0) (v : StateView M Msg) (past : Past Msg) → RefinesPast m refines v past →
     RefinesPast m refines (record v { keys = record v.keys { used = v.keys.used + 1 } }) past
 signed-tied m refines v past tied = record {
@@ -76,7 +76,7 @@ signed-shape m v h = record {
 
 module _ {M Msg : Type 0} (m : Module Msg) (refines : M → Params → ℕ → List (Item Msg) → Type 0) (v : StateView M Msg) (shape : IsNodeState m v)
     (past : Past Msg) (tied : RefinesPast m refines v past) (complete : is_complete (rules_of v.setup) m v.me.0 past ≡ true) (u : StateView M Msg) (vote : Vote) (voted : IsVoted v u vote) where
-  -- the log ends with the epoch
+  -- The log ends with the epoch.
   whole : v.plan.start + v.setup.epoch ≡ length v.log.entries
   whole =
       let R = rules_of v.setup in
@@ -92,7 +92,7 @@ module _ {M Msg : Type 0} (m : Module Msg) (refines : M → Params → ℕ → L
   abbrev pub own : Vote
   own = vote_on (rules_of v.setup) m v.me.0 (core_of v past)
 
-  -- what stands for the log at the end of the epoch
+  -- The digest and the number of requests of the log at the end of the epoch.
   end-is : said ≡ (rules_of v.setup).end (ended_log (rules_of v.setup) m v.me.0 past)
   end-is =
       let version = shape.version in
@@ -122,7 +122,7 @@ module _ {M Msg : Type 0} (m : Module Msg) (refines : M → Params → ℕ → L
     sig = sig-is i;
   }
 
-  -- it is handed out, and the next epoch begins
+  -- The vote is sent, and the next epoch starts.
   module _ (o : Outcome) (w : StateView M Msg) (early : List (Early Msg)) (handed : IsVoteHandedOut u vote o) (next : IsNextEpoch refines u w early) (later : IsLater u w) where
     abbrev pub after : StateView M Msg
     after = record v { keys = record v.keys { used = v.keys.used + 1 } }
@@ -152,7 +152,7 @@ module _ {M Msg : Type 0} (m : Module Msg) (refines : M → Params → ℕ → L
       addressed = subst (λ (xs : List (To × List ℕ)). AreToNodes w.setup.n xs) (sym there.sent) (tt, tt);
     }
 
--- the epoch's end
+-- The whole end of the epoch.
 pub ended-all : {M Msg : Type 0} (m : Module Msg) (refines : M → Params → ℕ → List (Item Msg) → Type 0) (v u w : StateView M Msg) (shape : IsNodeState m v) (vote : Vote) (o : Outcome) (early : List (Early Msg)) →
     IsVoted v u vote → IsVoteHandedOut u vote o → IsNextEpoch refines u w early → IsLater u w → IsEnded m refines v w o early
 ended-all m refines v u w shape vote o early voted handed next later = record {

@@ -90,7 +90,7 @@ pub or-skip : (r a b : Bool) → r ≡ a → r ≡ false → (a || b) ≡ b
 or-skip r true b e h = cc
 or-skip r false b e h = refl
 
--- ---- the judge, cause by cause
+-- ---- the check, reason by reason
 
 -- A test from index i on holds for the request there, or for a later one.
 pub any-next : (p : Request → Bool) (qs : List Request) (i : ℕ) (q : Request) → i < length qs → q ≡ get_or qs i q → any p (drop i qs) ≡ (p q || any p (drop (i + 1) qs))

@@ -88,8 +88,8 @@ impl<M: Sequenced> Segment<M> {
     /// Whether the module would accept a proposal for this slot.
     pub fn casts(&self, slot: Slot) -> bool
         ensures { (xs : List (Item M.Msg)) (batch : Batch) → IsInstance M.refines self.now xs →
-            (IsTrue result ↔ (M.spec.asks self.now.params self.now.me.0 xs (Input.Cast slot batch)
-            ≡ Some (slot, batch))) }
+            (IsTrue result ↔ (M.spec.asks self.now.params self.now.me.0 xs (Input.Cast slot batch) ≡ Some
+            (slot, batch))) }
     {
         self.ordering.casts(&self.params, slot)
     }

@@ -18,7 +18,7 @@ const REQUEST: u8 = 0x30;
 pub fn is_signed(directory: &Directory, request: &Request) -> bool
     ensures { result ≡ is_signed_by directory.now request.now }
 {
-    // Its range is part of the answer.
+    // The proof needs that the number fits into 32 bits.
     let _number = request.id.number;
     let payload = request.payload.as_slice();
     if payload.len() > PAYLOAD_MOST {

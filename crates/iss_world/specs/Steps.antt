@@ -96,6 +96,6 @@ pub record IsBehind {M Msg : Type 0} (m : Module Msg) (refines : Relation M Msg)
   pub signed : AreSigned v.signed w.held.signed
   pub hashed : AreHashed v.hashed w.held.hashed
   pub log : (g : KeptState M Msg MemoryDisk) → slice_get v.nodes c ≡ Some g →
-      log_of (rules_of v.setup) m (node_of v.setup c) (w.held.net.cores c).past
-      ≡ reverse (take slots g.node.state.log.entries)
+      log_of (rules_of v.setup) m (node_of v.setup c) (w.held.net.cores c).past ≡ reverse
+      (take slots g.node.state.log.entries)
   pub epoch : at ≡ (w.held.net.cores c).past.epoch

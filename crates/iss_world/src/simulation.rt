@@ -32,7 +32,7 @@ use std::marker::Model;
 #[derive(Drop)]
 pub struct Simulation<M: Sequenced> {
     pub(crate) setup: Setup,
-    // the keys of all nodes and clients
+    // The keys of all nodes and clients.
     pub(crate) directory: SharedDirectory,
     // Core `i` is at index `i`, and each core has its own disk.
     pub(crate) nodes: Vec<Kept<M, MemoryDisk>>,
