@@ -19,7 +19,7 @@ use Rattle.iss_rules.specs.Past.{Past, before_own, leads_in, log_of, params_of, 
 use Rattle.iss_model.specs.Sound.{IsSoundCore}
 use Rattle.iss_rules.specs.declared.events.NodeEvent.TheVariants.{Propose as On_propose}
 use Rattle.iss_rules.specs.declared.events.Why.TheVariants.{NotLeader, NothingToCast, NoKeys}
-use Rattle.iss_node.proofs.InputLemmas.{own-fair, own-slot}
+use Rattle.iss_node.proofs.Inputs.InputRefines.{own-fair, own-slot}
 use Rattle.iss_node.specs.Casts.{IsCut, casting, is_open}
 use Rattle.iss_node.specs.Flights.{FlightState}
 use Rattle.iss_node.specs.Shape.{IsNodeState}

@@ -6,7 +6,7 @@ use Rattle.iss_model.specs.Node.{Turn, advance_epochs, has_leaves, next_slot, st
 use Rattle.iss_rules.specs.Past.{Past, leads_in, params_of}
 use Rattle.iss_rules.specs.declared.events.NodeEvent.TheVariants.{Propose as On_propose}
 use Rattle.iss_rules.specs.declared.events.Why.TheVariants.{NothingToCast, NoKeys}
-use Rattle.iss_node.proofs.CastLemmas.{proposal-is}
+use Rattle.iss_node.proofs.Inputs.ProposalRefines.{proposal-is}
 use Rattle.iss_node.specs.Casts.{casting}
 use Rattle.iss_node.specs.Shape.{IsNodeState}
 use Rattle.iss_node.specs.State.{RefinesPast, StateView, core_of}

@@ -16,7 +16,7 @@ use Rattle.iss_rules.specs.declared.events.NodeEvent.TheVariants.{Propose as On_
 use Rattle.iss_rules.specs.declared.events.Refusal.{Refusal}
 use Rattle.iss_rules.specs.declared.events.Why.{Why}
 use Rattle.iss_rules.specs.declared.events.Why.TheVariants.{BadClaim, BadRequest, EarlyFull, Known, NoKeys, NotLeader, OtherEpoch, OutOfWindow}
-use Rattle.iss_node.proofs.SettleLemmas.{at-core}
+use Rattle.iss_node.proofs.EpochEnd.StepCompletes.{at-core}
 use Rattle.iss_node.specs.Casts.{casting}
 use Rattle.iss_node.specs.State.{RefinesBareCore, StateRefinesCore, StateView, bare, holding}
 use Rattle.iss_node.specs.Steps.{IsHeldStep, IsHeldStepOf, IsLater, IsStep, IsStepOf}

@@ -28,13 +28,13 @@ use Rattle.iss_model.specs.Node.{Core, Early as Kept_early, Turn, adopts_piece, 
 use Rattle.iss_rules.specs.Past.{Past, Piece, adopted_at, adopts, before_own, cell, log_of}
 use Rattle.iss_rules.specs.Rules.{Rules}
 use Rattle.iss_model.specs.Sound.{IsSoundCore}
-use Rattle.iss_node.proofs.EpochLemmas.{IsOver}
-use Rattle.iss_node.proofs.HeldLemmas.{each-held, onward-held, with_turn}
-use Rattle.iss_node.proofs.InstanceLemmas.{goes-trans}
-use Rattle.iss_node.proofs.NextLemmas.{next-parts}
-use Rattle.iss_node.proofs.OwnEpoch.{epoch-cell, goes-on, has-slots, log-is, nothing-adopted, start-is}
-use Rattle.iss_node.proofs.SlotLemmas.{given-at, not-empty}
-use Rattle.iss_node.proofs.TiedLemmas.{AreRefiled, are-refiled, bf-long, bf-part, bounded, grown-is}
+use Rattle.iss_node.proofs.EpochEnd.EpochEndRefines.{IsOver}
+use Rattle.iss_node.proofs.Steps.VotesDoNotMatter.{each-held, onward-held, with_turn}
+use Rattle.iss_node.proofs.Inputs.ChecksRefine.{goes-trans}
+use Rattle.iss_node.proofs.EpochEnd.NextEpochStarts.{next-parts}
+use Rattle.iss_node.proofs.Log.LogIsDelivered.{epoch-cell, goes-on, has-slots, log-is, nothing-adopted, start-is}
+use Rattle.iss_node.proofs.Log.EpochSlots.{given-at, not-empty}
+use Rattle.iss_node.proofs.Log.LogIsExtended.{AreRefiled, are-refiled, bf-long, bf-part, bounded, grown-is}
 use Rattle.iss_node.specs.Flights.{FlightState, IsLanded}
 use Rattle.iss_node.specs.Growth.{IsGrown, and_values, waits_on}
 use Rattle.iss_node.specs.Inputs.{HasGrown, IsChained}

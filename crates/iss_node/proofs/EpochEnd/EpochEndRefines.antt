@@ -19,9 +19,9 @@ use Rattle.iss_model.specs.Node.{flown, in_next_epoch, is_nil_at, joined}
 use Rattle.iss_rules.specs.Past.{Past, advanced, before_own, is_complete, log_of, start_of}
 use Rattle.iss_model.specs.Sound.{IsSoundCore}
 use Rattle.iss_rules.proofs.Layouts.{start-times}
-use Rattle.iss_node.proofs.GrowthLemmas.{log_ids-append}
-use Rattle.iss_node.proofs.TiedLemmas.{bf-long, bf-part, bounded, split-log}
-use Rattle.iss_node.proofs.OwnEpoch.{has-slots, start-is}
+use Rattle.iss_node.proofs.Requests.OrderedLeaveWaiting.{log_ids-append}
+use Rattle.iss_node.proofs.Log.LogIsExtended.{bf-long, bf-part, bounded, split-log}
+use Rattle.iss_node.proofs.Log.LogIsDelivered.{has-slots, start-is}
 use Rattle.iss_node.specs.Epochs.{AreStarted, notes, params_by}
 use Rattle.iss_node.specs.Shape.{IsNodeState}
 use Rattle.iss_node.specs.State.{RefinesBareCore, RefinesPast, RefinesPastOver, StateView, core_of, slot_value}

@@ -8,7 +8,7 @@ use Rattle.iss_model.specs.Node.{Core, Stepped, finish_step}
 use Rattle.iss_rules.specs.Rules.{Rules}
 use Rattle.iss_checkpoint.specs.declared.votes.Cert.{Cert}
 use Rattle.iss_checkpoint.specs.declared.votes.Vote.{Vote}
-use Rattle.iss_node.proofs.HeldLemmas.{held-step, with_step}
+use Rattle.iss_node.proofs.Steps.VotesDoNotMatter.{held-step, with_step}
 use Rattle.iss_node.specs.State.{StateView, core_of, holding}
 use Rattle.iss_node.specs.Steps.{IsHeldStepOf, IsLater, IsSameNode, IsSettled, IsStep, IsStepOf}
 use Rattle.iss_node.specs.declared.answers.StepResult.{StepResult}

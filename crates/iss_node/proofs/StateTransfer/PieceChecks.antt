@@ -16,7 +16,7 @@ use Rattle.iss_rules.specs.Past.{before_own, log_of, start_of}
 use Rattle.iss_rules.specs.Rules.{Rules}
 use Rattle.iss_rules.specs.declared.events.Why.{Why}
 use Rattle.iss_rules.specs.declared.events.Why.TheVariants.{BadClaim, NotNeeded, OtherEpoch, WrongChain as Wrong_chain}
-use Rattle.iss_node.proofs.OwnEpoch.{start-is}
+use Rattle.iss_node.proofs.Log.LogIsDelivered.{start-is}
 use Rattle.iss_node.specs.Shape.{IsNodeState}
 use Rattle.iss_node.specs.State.{StateRefinesCore, StateView}
 use Rattle.iss_node.specs.Steps.{IsHeldDropped, IsHeldTaken}

@@ -6,12 +6,12 @@ use Rattle.iss_rules.specs.Concrete.{rules_of}
 use Rattle.iss_rules.specs.Formats.{formats_of}
 use Rattle.iss_model.specs.Node.{Turn, claims_in, ended, in_next_epoch, is_nil_at, or_unchanged, takes_early, try_step}
 use Rattle.iss_rules.specs.Past.{Past, is_complete}
-use Rattle.iss_node.proofs.EpochLemmas.{IsOver, complete-is, parts-opened}
+use Rattle.iss_node.proofs.EpochEnd.EpochEndRefines.{IsOver, complete-is, parts-opened}
 use Rattle.iss_node.specs.Epochs.{AreStarted, HasOpened, appended, notes}
 use Rattle.iss_node.specs.Shape.{IsNodeState}
 use Rattle.iss_node.specs.State.{RefinesBareCore, RefinesPast, StateView, core_of, seen_one}
-use Rattle.iss_node.proofs.MadeLemmas.{early-made}
-use Rattle.iss_node.proofs.SettleLemmas.{early-not, early-on, ended-by}
+use Rattle.iss_node.proofs.Steps.OutcomesCompose.{early-made}
+use Rattle.iss_node.proofs.EpochEnd.StepCompletes.{early-not, early-on, ended-by}
 use Rattle.iss_node.specs.Casts.{IsCut}
 use Rattle.iss_node.specs.Steps.{IsEnded, IsLater, IsNextEpoch, IsTurnOf, IsTurned}
 use Rattle.iss_node.specs.declared.answers.Outcome.{Outcome}

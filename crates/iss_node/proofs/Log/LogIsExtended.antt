@@ -17,9 +17,9 @@ use Rattle.iss_rules.specs.Concrete.{rules_of}
 use Rattle.iss_model.specs.Node.{Core, flown, flying, grown_strings, joined, refiled, returned}
 use Rattle.iss_rules.specs.Past.{Past, before_own, log_of, start_of}
 use Rattle.iss_model.specs.Sound.{carried, held}
-use Rattle.iss_node.proofs.FlightLemmas.{still-flown}
-use Rattle.iss_node.proofs.GrowthLemmas.{log_ids-append, note-all, waiting-is}
-use Rattle.iss_node.proofs.OwnEpoch.{start-is}
+use Rattle.iss_node.proofs.Requests.ProposalsComplete.{still-flown}
+use Rattle.iss_node.proofs.Requests.OrderedLeaveWaiting.{log_ids-append, note-all, waiting-is}
+use Rattle.iss_node.proofs.Log.LogIsDelivered.{start-is}
 use Rattle.iss_node.specs.Flights.{FlightState, IsLanded, landed}
 use Rattle.iss_node.specs.Growth.{and_values, waits_on}
 use Rattle.iss_node.specs.Shape.{IsNodeState}

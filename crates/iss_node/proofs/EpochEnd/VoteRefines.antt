@@ -15,10 +15,10 @@ use Rattle.iss_rules.specs.Concrete.{rules_of}
 use Rattle.iss_rules.specs.Formats.{formats_of}
 use Rattle.iss_model.specs.Node.{ends, in_next_epoch, vote_on}
 use Rattle.iss_rules.specs.Past.{Past, before_own, ended_log, is_complete, log_of}
-use Rattle.iss_node.proofs.TiedLemmas.{bounded}
-use Rattle.iss_node.proofs.EpochLemmas.{over-tied}
-use Rattle.iss_node.proofs.NextLemmas.{next-parts}
-use Rattle.iss_node.proofs.OwnEpoch.{has-slots, start-is}
+use Rattle.iss_node.proofs.Log.LogIsExtended.{bounded}
+use Rattle.iss_node.proofs.EpochEnd.EpochEndRefines.{over-tied}
+use Rattle.iss_node.proofs.EpochEnd.NextEpochStarts.{next-parts}
+use Rattle.iss_node.proofs.Log.LogIsDelivered.{has-slots, start-is}
 use Rattle.iss_node.specs.Shape.{IsNodeState}
 use Rattle.iss_node.specs.State.{RefinesBareCore, RefinesPast, StateView, core_of, seen_early}
 use Rattle.iss_node.specs.Steps.{IsEnded, IsLater, IsNextEpoch, IsTurned}

@@ -17,7 +17,7 @@ use Rattle.iss_node.specs.Shape.{IsNodeState}
 use Rattle.iss_node.specs.State.{RefinesBareCore, RefinesPast, StateView, core_of, led}
 use Rattle.iss_node.specs.Steps.{IsLater, IsStepDropped, IsStepTaken, IsTurnOf, IsTurned}
 use Rattle.iss_node.specs.declared.answers.Outcome.{Outcome}
-use Rattle.iss_node.proofs.InputLemmas.{addressed-next, made-next, parts-next}
+use Rattle.iss_node.proofs.Inputs.InputRefines.{addressed-next, made-next, parts-next}
 use Rattle.iss_request.specs.declared.ids.NodeId.{NodeId}
 use Rattle.iss_request.specs.declared.requests.Value.{Value}
 use Rattle.iss_keys.specs.Directories.{AreKeysOf}

@@ -14,7 +14,7 @@ use Rattle.iss_model.specs.Node.{Core, handing, hands_out, joined, values_of}
 use Rattle.iss_rules.specs.Past.{cut_at, log_of, start_of}
 use Rattle.iss_rules.specs.Rules.{Rules}
 use Rattle.iss_rules.specs.declared.events.Why.TheVariants.{NoCert}
-use Rattle.iss_node.proofs.OwnEpoch.{start-is}
+use Rattle.iss_node.proofs.Log.LogIsDelivered.{start-is}
 use Rattle.iss_node.specs.State.{StateRefinesCore, StateView}
 use Rattle.iss_node.specs.Steps.{IsHeldDropped, IsHeldTaken}
 use Rattle.iss_node.specs.Transfers.{IsHandedPiece, held_values}

@@ -22,9 +22,9 @@ use Rattle.iss_model.specs.Node.{Core, own_claims, packed, returned, step_unjudg
 use Rattle.iss_rules.specs.Past.{Past, before_own, log_of, params_of, taken_in, takes}
 use Rattle.iss_model.specs.Sound.{IsSoundCore}
 use Rattle.iss_rules.proofs.Layouts.{start-times}
-use Rattle.iss_node.proofs.GivenLemmas.{slot-in, slot-next}
-use Rattle.iss_node.proofs.OwnEpoch.{log-is}
-use Rattle.iss_node.proofs.TiedLemmas.{AreRefiled, are-refiled, bf-long, bf-part, grown-is}
+use Rattle.iss_node.proofs.Inputs.DeliveredValues.{slot-in, slot-next}
+use Rattle.iss_node.proofs.Log.LogIsDelivered.{log-is}
+use Rattle.iss_node.proofs.Log.LogIsExtended.{AreRefiled, are-refiled, bf-long, bf-part, grown-is}
 use Rattle.iss_node.specs.Cells.{given}
 use Rattle.iss_node.specs.Flights.{FlightState, IsLanded}
 use Rattle.iss_node.specs.Growth.{IsGrown, and_values, waits_on}

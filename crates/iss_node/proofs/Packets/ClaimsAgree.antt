@@ -13,7 +13,7 @@ use Rattle.iss_rules.specs.Formats.{formats_of, message_in}
 use Rattle.iss_model.specs.Node.{claims_in, only_by, own_claims, packed}
 use Rattle.iss_rules.specs.Past.{Past, leads_in, params_of}
 use Rattle.iss_model.specs.Views.{claims_of_parcel}
-use Rattle.iss_node.proofs.InstanceLemmas.{leads-is}
+use Rattle.iss_node.proofs.Inputs.ChecksRefine.{leads-is}
 use Rattle.iss_node.specs.Inputs.{IsHandedOut}
 use Rattle.iss_node.specs.Shape.{IsNodeState}
 use Rattle.iss_node.specs.State.{RefinesPast, StateView, core_of, led}

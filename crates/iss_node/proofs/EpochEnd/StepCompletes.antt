@@ -9,7 +9,7 @@ use Rattle.iss_rules.specs.Parcels.{Formats}
 use Rattle.iss_model.specs.Node.{Core, Early as Kept_early, Stepped, Turn, advance_epochs, ended, ends, finish_step, or_unchanged, takes_each, takes_early, then_turn, unchanged}
 use Rattle.iss_rules.specs.Past.{Past, is_complete}
 use Rattle.iss_rules.specs.Rules.{Rules}
-use Rattle.iss_node.proofs.MadeLemmas.{both-made, nothing, nothing-made, nothing-sent}
+use Rattle.iss_node.proofs.Steps.OutcomesCompose.{both-made, nothing, nothing-made, nothing-sent}
 use Rattle.iss_node.specs.Epochs.{appended}
 use Rattle.iss_node.specs.State.{RefinesBareCore, RefinesPast, StateView, core_of, seen_early, seen_one}
 use Rattle.iss_node.specs.Steps.{IsEnded, IsLater, IsMade, IsStep, IsTurnBehind, IsTurnOf, IsTurned}

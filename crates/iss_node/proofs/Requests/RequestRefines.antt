@@ -11,11 +11,11 @@ use Rattle.iss_model.specs.Node.{Dropped, Taken, Turn, is_known, is_nil_at, join
 use Rattle.iss_rules.specs.Past.{Past, before_own, log_of}
 use Rattle.iss_model.specs.Sound.{IsSoundCore}
 use Rattle.iss_rules.specs.declared.events.Why.TheVariants.{BadRequest, Known, OutOfWindow}
-use Rattle.iss_node.proofs.GrowthLemmas.{log_ids-append}
-use Rattle.iss_node.proofs.TiedLemmas.{bf-long, bf-part, split-log}
+use Rattle.iss_node.proofs.Requests.OrderedLeaveWaiting.{log_ids-append}
+use Rattle.iss_node.proofs.Log.LogIsExtended.{bf-long, bf-part, split-log}
 use Rattle.iss_log.specs.Chains.{ChainsState, IsChainOf}
 use Rattle.iss_log.specs.LogState.{LogState, value_at}
-use Rattle.iss_node.proofs.FlightLemmas.{returned-landed}
+use Rattle.iss_node.proofs.Requests.ProposalsComplete.{returned-landed}
 use Rattle.iss_node.specs.Flights.{FlightState, IsLanded, landed}
 use Rattle.iss_node.specs.Growth.{AreJoined, IsGrown, and_values, waits_on}
 use Rattle.iss_node.specs.Inputs.{AreLogged, HasGrown, HasLanded, IsAbsorbed, IsChained, IsHandedOut, and_accepted}
