@@ -69,8 +69,8 @@ pub record Sight : Type 0 where
   pub current : List ℕ
   pub files : List ℕ → List File
 
-abbrev pub sight : {D : Type 0} → (D → List File) → (D → Passes) → (D → ℕ) → (D → List ℕ) → (D → List ℕ → List File) →
-    D → Sight
+abbrev pub sight : {D : Type 0} → (D → List File) → (D → Passes) → (D → ℕ) → (D → List ℕ) →
+    (D → List ℕ → List File) → D → Sight
 sight history passes faults current files disk =
     record {
       history = history disk;

@@ -100,8 +100,8 @@ fn append_or_retreat<M: Sequenced, D: Disk>(
         (sight D.history D.passes D.faults D.current D.files (disk_of journal.old))
         (sight D.history D.passes D.faults D.current D.files (disk_of journal.new)) (entries_of journal.new)
         (handed (Node_taken outcome) result) }
-    ensures ended { (outcome : Outcome) → HasEnded outcome slots epoch.0 node.old node.new
-        (handed (Node_taken outcome) result) }
+    ensures ended { (outcome : Outcome) →
+        HasEnded outcome slots epoch.0 node.old node.new (handed (Node_taken outcome) result) }
     ensures sound { IsSound D.history D.room journal.new }
     ensures attached { OnOk result (is_attached journal.new ≡ true) }
 {

@@ -1,4 +1,4 @@
-//! A kept node: a replica with a write-ahead journal.
+//! A kept node: a replica with a journal of its events.
 ghost use Rattle.std.specs.Prelude.{◌≡◌, ◌<◌, ◌≤◌, ◌↔◌, ℕ, [], List, true, false, not, take, is_ok, length, IfOk, OnOk, OnErr, IsErrOf};
 ghost use Rattle.iss_disk.specs.Calls.{Restarts, Stays, script, up_to};
 ghost use Rattle.iss_keep.specs.Cores.{step_of};
@@ -85,8 +85,8 @@ impl<M: Sequenced, D: Disk> Kept<M, D> {
     /// dropped; if its peer does not exist, `reopen` will report its entry as damage.
     pub fn take(&mut self, event: NodeEvent) -> Answer
         ensures answer { (c : Core M.Msg) → KeptRefinesCore M.spec M.refines self.old c → IsAnswer M.spec M.refines
-            (IsOfNodes self.old.setup.n event) self.old c (step_of self.old.setup M.spec self.old.me.0 c event)
-            self.new result }
+            (IsOfNodes self.old.setup.n event) self.old c
+            (step_of self.old.setup M.spec self.old.me.0 c event) self.new result }
         ensures refused { (result ≡ Answer.Stale) ↔ (self.old.stale ≡ true) }
         ensures stale { self.new.stale ≡ makes_stale result }
         ensures written { IsWritten self.old.entries (spell_event event)

@@ -54,8 +54,8 @@ pub fn leaves_are_of_one_statement<M: Sequenced>()
     ensures taken { (s : Setup) (me : ℕ) (entries : List (List ℕ)) (entry : List ℕ) (c : Core M.Msg) (event : NodeEvent)
         (t : Turn M.Msg) →
         core_of s M.spec me entries ≡ Some c → event_in s.n entry ≡ Some event → step_of s M.spec me c event ≡ Taken t →
-        deeds_of s M.spec me (entries ++ entry ∷ []) ≡ record { event = event; turn = t } ∷ deeds_of s M.spec
-        me entries }
+        deeds_of s M.spec me (entries ++ entry ∷ [])
+        ≡ record { event = event; turn = t } ∷ deeds_of s M.spec me entries }
     ensures again { (s : Setup) (me : ℕ) (entries more : List (List ℕ)) (c : Core M.Msg) →
         core_of s M.spec me entries ≡ Some c →
         Extends (deeds_of s M.spec me entries) (deeds_of s M.spec me (entries ++ more)) }

@@ -38,8 +38,8 @@ impl<M: Sequenced, D: Disk> Kept<M, D> {
     /// The signatures that a packet claims, if it is a message of the node's current epoch for a leader of that epoch.
     pub fn claims_of(&self, bytes: &[u8]) -> Result<Seq<Claim>, NoMemory>
         ensures { IfOk result (λ claims. (c : Core M.Msg) → KeptRefinesCore M.spec M.refines self.now c →
-            claims ≡ claims_of_bytes (formats_of self.now.setup M.spec) (rules_of self.now.setup) M.spec self.now.me.0 c
-            bytes.now) }
+            claims ≡ claims_of_bytes (formats_of self.now.setup M.spec)
+            (rules_of self.now.setup) M.spec self.now.me.0 c bytes.now) }
     {
         self.node.claims_of(self.alloc, bytes)
     }

@@ -62,8 +62,8 @@ IsStep m refines c stepped new (Result_dropped why) = IsStepDropped m refines c 
 abbrev pub IsStepOf : {M Msg : Type 0} → Module Msg → Relation M Msg → StateView M Msg →
     (Formats Msg → Rules → ℕ → Core Msg → Stepped Msg) → StateView M Msg → StepResult → Type 0
 IsStepOf {Msg = Msg} m refines old step new answer = (past : Past Msg) → RefinesPast m refines old past →
-    IsStep m refines (core_of old past) (step (formats_of old.setup m) (rules_of old.setup) old.me.0 (core_of old past))
-    new answer
+    IsStep m refines (core_of old past)
+    (step (formats_of old.setup m) (rules_of old.setup) old.me.0 (core_of old past)) new answer
 
 abbrev pub IsTurnOf : {M Msg : Type 0} → Module Msg → Relation M Msg → StateView M Msg →
     (Formats Msg → Rules → ℕ → Core Msg → Turn Msg) → StateView M Msg → Outcome → Type 0

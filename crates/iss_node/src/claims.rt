@@ -136,8 +136,8 @@ pub fn put_own(own: &mut Seq<Claim>, me: NodeId, claims: Seq<Claim>) -> Result<(
 
 // Whether every claimed signature is valid.
 fn all_verify(directory: &Directory, claims: &[Claim]) -> bool
-    ensures { result ≡ list_all (λ (c : SaidToSign). is_verified_by directory.now.nodes c.by.0 c.statement c.sig)
-        claims.now }
+    ensures { result ≡ list_all
+        (λ (c : SaidToSign). is_verified_by directory.now.nodes c.by.0 c.statement c.sig) claims.now }
 {
     claims.iter().all(|claim| verifies(directory, claim))
 }

@@ -216,8 +216,8 @@ impl<M: Sequenced> Node<M> {
     /// The leaders whose segments are not yet filled, ascending.
     pub fn unfilled(&self, alloc: Global) -> Result<Seq<NodeId>, NoMemory>
         ensures { IfOk result (λ leaders. (c : Core M.Msg) → RefinesCore M.spec M.refines self.now c →
-            map (λ l. l.0) leaders ≡ unfilled (rules_of self.now.state.setup) M.spec self.now.state.setup.n
-            self.now.state.me.0 c.past) }
+            map (λ l. l.0) leaders ≡ unfilled
+            (rules_of self.now.state.setup) M.spec self.now.state.setup.n self.now.state.me.0 c.past) }
     {
         let mut leaders = Seq::new(alloc);
         for node in 0..self.state.setup.n {

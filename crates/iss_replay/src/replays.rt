@@ -79,8 +79,8 @@ fn go_on<M: Sequenced>(
     event: &Event,
 ) -> Result<Option<Evidence>, NoMemory>
     requires { IsInRange world.old.simulation.setup event.now }
-    ensures went { IfOk result (λ end. (p : Course M.Msg) → p.event ≡ number →
-        ReportRefinesRun M.spec M.refines world.old drops.old None p →
+    ensures went { IfOk result
+        (λ end. (p : Course M.Msg) → p.event ≡ number → ReportRefinesRun M.spec M.refines world.old drops.old None p →
         ReportRefinesRun M.spec M.refines world.new drops.new (numbered number end)
         (run_event_in (frame_of world.old.simulation.setup M.spec) p event.now)) }
     ensures same { world.new.simulation.setup ≡ world.old.simulation.setup }

@@ -64,8 +64,8 @@ fn put_drops(out: &mut Vec<u8>, drops: &[(u64, Why)]) -> Result<(), NoMemory>
 // Writes the block of each correct node, ascending.
 fn put_nodes<M: Sequenced>(out: &mut Vec<u8>, world: &World<M>) -> Result<(), NoMemory>
     ensures { OnOk result ((p : Course M.Msg) → RefinesRun M.spec M.refines world.now p →
-        out.new.items ≡ out.old.items ++ node_blocks world.now.simulation.setup M.spec p.machines.held.net
-        world.now.simulation.setup.n) }
+        out.new.items ≡ out.old.items
+        ++ node_blocks world.now.simulation.setup M.spec p.machines.held.net world.now.simulation.setup.n) }
 {
     let nodes = world.setup().n;
     for node in 0..nodes {

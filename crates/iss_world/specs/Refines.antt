@@ -93,8 +93,8 @@ pub record RefinesMachines {M Msg : Type 0} (m : Module Msg) (refines : Relation
 -- Each kept node reports the log and epoch of its core.
 abbrev pub ShowsHeld : {M Msg : Type 0} → Module Msg → SimulationState M Msg → Held Msg → Type 0
 ShowsHeld {M = M} {Msg = Msg} m v h =
-    (i : ℕ) (g : KeptState M Msg MemoryDisk) → slice_get v.nodes i ≡ Some g → ShowsCore m v.setup (node_of v.setup i) g
-    (h.net.cores i)
+    (i : ℕ) (g : KeptState M Msg MemoryDisk) → slice_get v.nodes i ≡ Some g →
+    ShowsCore m v.setup (node_of v.setup i) g (h.net.cores i)
 
 -- The simulation refines these machines, or at least reports their logs and epochs.
 abbrev pub RefinesOrShows : {M Msg : Type 0} → Module Msg → Relation M Msg → SimulationState M Msg →

@@ -230,8 +230,8 @@ impl<M: Sequenced> Simulation<M> {
     fn hold(&mut self, core: u32) -> EventOutcome
         requires { core < cores_of self.old.setup }
         ensures happened { (w : Machines M.Msg) → RefinesMachines M.spec M.refines self.old w →
-            HasChanged M.spec M.refines self.new (machines_done (with_packets w (held_to w.held.net.network core true)))
-            result }
+            HasChanged M.spec M.refines self.new
+            (machines_done (with_packets w (held_to w.held.net.network core true))) result }
         ensures same { self.new.setup ≡ self.old.setup }
     {
         self.network.hold(core);
@@ -254,8 +254,8 @@ impl<M: Sequenced> Simulation<M> {
     fn clear(&mut self, core: u32) -> EventOutcome
         requires { core < cores_of self.old.setup }
         ensures happened { (w : Machines M.Msg) → RefinesMachines M.spec M.refines self.old w →
-            HasChanged M.spec M.refines self.new (machines_done (with_packets w (cleared w.held.net.network core)))
-            result }
+            HasChanged M.spec M.refines self.new
+            (machines_done (with_packets w (cleared w.held.net.network core))) result }
         ensures same { self.new.setup ≡ self.old.setup }
     {
         self.network.drop_for(core);
@@ -268,8 +268,8 @@ impl<M: Sequenced> Simulation<M> {
         requires core { core < cores_of self.old.setup }
         requires standing { RefinesSome M.spec M.refines self.old }
         ensures happened { IfOk result (λ r. (w : Machines M.Msg) → RefinesMachines M.spec M.refines self.old w →
-            HasChanged M.spec M.refines self.new (machines_done (recover_in (frame_of self.old.setup M.spec) w core))
-            r) }
+            HasChanged M.spec M.refines self.new
+            (machines_done (recover_in (frame_of self.old.setup M.spec) w core)) r) }
         ensures same { self.new.setup ≡ self.old.setup }
     {
         let node = &mut self.nodes[core as usize];

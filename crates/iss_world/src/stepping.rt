@@ -160,8 +160,8 @@ impl<M: Sequenced> Simulation<M> {
             epoch.0 ≤ g.node.state.epoch }
         ensures happened { IfOk result (λ r. (w : Machines M.Msg) (behind : ℕ → Disk) (t : Turn M.Msg) →
             IsBehind M.spec M.refines self.old w behind core t slots epoch.0 → IsMade t outcome.now →
-            HasChanged M.spec M.refines self.new (with_disks w behind (stepped_to self.old.setup w.held core (Taken t)))
-            r) }
+            HasChanged M.spec M.refines self.new
+            (with_disks w behind (stepped_to self.old.setup w.held core (Taken t))) r) }
         ensures same { self.new.setup ≡ self.old.setup }
     {
         let directory = self.directory.directory();

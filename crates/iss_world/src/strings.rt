@@ -49,7 +49,8 @@ impl Strings {
 
     // Adds a string. Returns the collision if another string has the same digest.
     fn add(&mut self, directory: &Directory, string: &Bytes) -> Result<Option<Evidence>, NoMemory>
-        ensures told { IfOk result (λ end. (book : List (List ℕ)) → AreHashed self.old book →
+        ensures told { IfOk result
+            (λ end. (book : List (List ℕ)) → AreHashed self.old book →
             option_map end_of end ≡ collision_with string.now book) }
         ensures booked { IfOk result (λ end. (book : List (List ℕ)) → AreHashed self.old book → end ≡ None →
             AreHashed self.new (string.now ∷ book)) }
@@ -68,7 +69,8 @@ impl Strings {
         directory: &Directory,
         strings: &[Bytes],
     ) -> Result<Option<Evidence>, NoMemory>
-        ensures told { IfOk result (λ end. (book : List (List ℕ)) → AreHashed self.old book →
+        ensures told { IfOk result
+            (λ end. (book : List (List ℕ)) → AreHashed self.old book →
             option_map end_of end ≡ collision_in strings.now book) }
         ensures booked { IfOk result (λ end. (book : List (List ℕ)) → AreHashed self.old book → end ≡ None →
             AreHashed self.new (push_all strings.now book)) }
