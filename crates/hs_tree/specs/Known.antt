@@ -7,7 +7,7 @@ use Rattle.std.specs.Ordering.{nat_cmp}
 use Rattle.iss_base.specs.Lists.{same_bytes}
 use Rattle.iss_request.specs.declared.requests.Value.{Value}
 use Rattle.iss_sb.specs.Evidence.{one_or_none}
-use Rattle.raft_wire.specs.declared.entries.What.{What}
+use Rattle.iss_sb.specs.declared.content.Content.{Content}
 use Rattle.hs_tree.specs.declared.tree.Known.{Known}
 use Rattle.hs_tree.specs.declared.tree.Tree.{Tree}
 use Rattle.hs_tree.specs.Tree.{Node, filled, is_known, root, value_of, weight}
@@ -19,12 +19,12 @@ abbrev pub path : List Node → List ℕ → List Node
 path [] d = []
 path (k ∷ ks) d = if same_bytes k.digest d then k ∷ path ks k.parent else path ks d
 
-abbrev pub whats : List Node → List What
+abbrev pub whats : List Node → List Content
 whats [] = []
 whats (k ∷ ks) = k.what ∷ whats ks
 
 -- what a branch holds for the slots, in their order. A mark holds no slot
-abbrev pub values : List What → List Value
+abbrev pub values : List Content → List Value
 values [] = []
 values (c ∷ cs) = values cs ++ one_or_none (value_of c)
 

@@ -3,21 +3,21 @@ use Rattle.std.specs.Prelude.{ℕ, List, [], ◌∷◌, ◌++◌}
 use Rattle.iss_request.specs.Digest.{digest}
 use Rattle.iss_sb.specs.declared.effects.Claim.{Claim}
 use Rattle.iss_sb.specs.declared.effects.Params.{Params}
-use Rattle.iss_sb.specs.Statements.{four_bytes, statement_head, two_bytes}
-use Rattle.raft_wire.specs.declared.entries.What.{What}
+use Rattle.iss_sb.specs.Statements.{claim, four_bytes, statement_head, two_bytes}
+use Rattle.iss_sb.specs.declared.content.Content.{Content}
 use Rattle.hs_tree.specs.declared.certificates.Certificate.{Certificate}
 use Rattle.hs_tree.specs.declared.certificates.Certificate.TheVariants.{Root, Votes}
-use Rattle.hs_tree.specs.declared.certificates.Signed.{Signed}
+use Rattle.iss_sb.specs.declared.signers.Signed.{Signed}
 use Rattle.hs_tree.specs.declared.messages.Message.{Message}
 use Rattle.hs_tree.specs.declared.messages.Message.TheVariants.{NewView, Prepare, PreCommit, Commit, Decide, Vote}
 use Rattle.hs_tree.specs.Certificates.{digest_of, view_of}
 use Rattle.hs_tree.specs.Tree.{Form}
 
 -- the string of the node that a proposal is of, and its digest
-abbrev pub node_string : Form → Params → ℕ → What → Certificate → List ℕ
+abbrev pub node_string : Form → Params → ℕ → Content → Certificate → List ℕ
 node_string form p view what just = form.string p.setup.version view (digest_of just) what
 
-abbrev pub node_digest : Form → Params → ℕ → What → Certificate → List ℕ
+abbrev pub node_digest : Form → Params → ℕ → Content → Certificate → List ℕ
 node_digest form p view what just = digest (node_string form p view what just)
 
 -- ---- statements: the instance, the number of the message, its fields
@@ -63,9 +63,6 @@ inside (Decide view shown sig) = shown
 inside (Vote phase view d sig) = Root
 
 -- ---- claims, in the order of the bytes
-
-abbrev pub claim : ℕ → List ℕ → List ℕ → Claim
-claim by statement sig = record { by = record { 0 = by }; statement = statement; sig = sig }
 
 abbrev pub vote_claims : List ℕ → List Signed → List Claim
 vote_claims statement [] = []

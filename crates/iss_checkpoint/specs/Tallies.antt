@@ -9,7 +9,7 @@ use Rattle.iss_checkpoint.specs.declared.tallies.Added.TheVariants.{Counted, Sta
 use Rattle.iss_checkpoint.specs.declared.tallies.Refusal.{Refusal}
 use Rattle.iss_checkpoint.specs.declared.tallies.Refusal.TheVariants.{OtherEpoch, BadSignature, Twice}
 use Rattle.iss_checkpoint.specs.declared.votes.Cert.{Cert}
-use Rattle.iss_checkpoint.specs.declared.votes.Signed.{Signed}
+use Rattle.iss_sb.specs.declared.signers.Signed.{Signed}
 use Rattle.iss_checkpoint.specs.declared.votes.Vote.{Vote}
 use Rattle.iss_checkpoint.specs.Votes.{Voters, is_cert, is_signed, statement_of}
 

@@ -1,12 +1,13 @@
 //! Votes as bytes: the body of a packet that names the node and the epoch. They are the same by every version.
-ghost use Rattle.std.specs.Prelude.{◌≡◌, ℕ, [], length, IfOk, OnOk, Err};
+ghost use Rattle.std.specs.Prelude.{◌≡◌, ℕ, [], IfOk, OnOk, Err};
 ghost use Rattle.iss_request.specs.Fields.{Bad, Good, IsRead, IsUnreadable, and_bytes};
-ghost use Rattle.iss_request.specs.Formats.{is_signature};
-ghost use Rattle.iss_request.specs.Parsing.{all_of, block};
+ghost use Rattle.iss_request.specs.Parsing.{all_of};
 ghost use Rattle.iss_checkpoint.specs.Bodies.{fits, parse_vote, spell_vote, vote_row};
 
 use crate::votes::Vote;
-use iss_request::{Bytes, DecodeError, Epoch, Fields, NoMemory, NodeId, Writer, read_signature};
+use iss_request::{
+    Bytes, DecodeError, Epoch, Fields, NoMemory, NodeId, Writer, has_shape, read_signature,
+};
 use std::alloc::Global;
 
 // By which version a vote is read and written: any.
@@ -14,18 +15,6 @@ const VERSION: u8 = 1;
 
 // What stands for a vote without a spelling: a signature of height 0.
 const NO_VOTE: [u8; 41] = [0; 41];
-
-// Whether bytes have the shape of a signature: a height, a leaf, 67 digests and one for each level.
-pub(crate) fn has_shape(sig: &[u8]) -> bool
-    ensures { result ≡ is_signature sig.now }
-{
-    match sig {
-        [] => false,
-        [height, rest @ ..] => {
-            2 <= *height && *height <= 12 && rest.len() == 4 + 32 * (67 + *height as usize)
-        }
-    }
-}
 
 fn has_spelling(vote: &Vote) -> bool
     ensures { result ≡ fits vote.now }
@@ -53,23 +42,6 @@ pub fn write_vote(vote: &Vote, out: &mut Writer) -> Result<(), NoMemory>
     put_row(vote, out)
 }
 
-fn array_of(bytes: &[u8]) -> [u8; 32]
-    requires { length bytes.now ≡ 32 }
-    ensures { result ≡ bytes.now }
-{
-    let mut digest = [0; 32];
-    digest.copy_from_slice(bytes);
-    digest
-}
-
-pub(crate) fn read_digest(f: &mut Fields) -> Result<[u8; 32], DecodeError>
-    ensures ok { IfOk result (λ d. IsRead (block 32) f.old f.new d) }
-    ensures bad { (at : ℕ) → result ≡ Err (DecodeError.BadField at) → IsUnreadable (block 32) f.old at }
-{
-    let bytes = f.read_bytes(32)?;
-    Ok(array_of(bytes))
-}
-
 /// Reads the vote of a node on an epoch. `BadField` names the first field that does not fit.
 pub fn read_vote(
     alloc: Global,
@@ -80,7 +52,7 @@ pub fn read_vote(
     ensures ok { IfOk result (λ v. IsRead (parse_vote by.0 epoch.0) f.old f.new v) }
     ensures bad { (at : ℕ) → result ≡ Err (DecodeError.BadField at) → IsUnreadable (parse_vote by.0 epoch.0) f.old at }
 {
-    let chain = read_digest(f)?;
+    let chain = f.read_digest()?;
     let requests = f.read_u64()?;
     let sig = read_signature(alloc, f)?;
     Ok(Vote {

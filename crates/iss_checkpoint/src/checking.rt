@@ -2,9 +2,10 @@
 ghost use Rattle.std.specs.Prelude.{◌≡◌, ◌≤◌, ℕ};
 ghost use Rattle.iss_checkpoint.specs.Votes.{Voters, are_signed, is_cert, is_signed, voters_of};
 
-use crate::votes::{Cert, Signed, vote_statement};
+use crate::votes::{Cert, vote_statement};
 use iss_keys::Directory;
 use iss_request::Setup;
+use iss_sb::Signed;
 
 /// Whether a node below `n` signed a statement so.
 pub fn is_signed(directory: &Directory, n: u32, statement: &[u8], by: u8, sig: &[u8]) -> bool

@@ -4,9 +4,10 @@ ghost use Rattle.iss_checkpoint.specs.Tallies.{IsAdded, IsChecked, IsCounted, ce
 ghost use Rattle.iss_checkpoint.specs.Votes.{is_signed, statement_of, voters_of};
 
 use crate::checking::is_signed;
-use crate::votes::{Cert, Signed, Vote, vote_statement};
+use crate::votes::{Cert, Vote, vote_statement};
 use iss_keys::SharedDirectory;
 use iss_request::{Epoch, NoMemory, Seq, Setup};
+use iss_sb::Signed;
 use std::alloc::Global;
 use std::collections::BTreeMap;
 use std::marker::Model;

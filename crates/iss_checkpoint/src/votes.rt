@@ -4,6 +4,7 @@ ghost use Rattle.std.specs.Int.{to_be_bytes, w64};
 ghost use Rattle.iss_checkpoint.specs.Votes.{vote_statement};
 
 use iss_request::{Bytes, Epoch, NodeId, Seq};
+use iss_sb::Signed;
 
 /// What a node says of its log at the end of an epoch, under its signature: the digest of the log's chain, and how many requests
 /// the log holds.
@@ -12,13 +13,6 @@ pub struct Vote {
     pub epoch: Epoch,
     pub chain: [u8; 32],
     pub requests: u64,
-    pub by: NodeId,
-    pub sig: Bytes,
-}
-
-/// A node's signature.
-#[derive(Drop)]
-pub struct Signed {
     pub by: NodeId,
     pub sig: Bytes,
 }

@@ -7,7 +7,7 @@ use Rattle.iss_journal.specs.EntryViews.{entries_in}
 use Rattle.iss_journal.specs.Promises.{RestsOn}
 use Rattle.iss_journal.specs.declared.entries.Entries.{Entries}
 use Rattle.iss_journal.specs.declared.journal.Journal.{Journal}
-use Rattle.iss_journal.specs.declared.spare.Reserved.{Reserved}
+use Rattle.iss_journal.specs.declared.reserved.Reserved.{Reserved}
 
 abbrev pub disk_of : {D : Type 0} → Journal D → D
 disk_of journal = journal.disk

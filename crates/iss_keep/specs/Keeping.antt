@@ -53,10 +53,10 @@ HasEnded outcome slots epoch old new NoMemory = HasRetreated old new slots epoch
 
 -- What the caller receives, given the node's answer and the result of the append. An event that was not accepted is not
 -- appended.
-abbrev pub handed : {A : Type 0} → NodeAnswer → Result A EndError → Answer
-handed (Node_taken outcome) (Ok x) = Taken outcome
-handed (Node_dropped why) (Ok x) = Dropped why
-handed Node_no_memory (Ok x) = NoMemory
-handed Node_stale (Ok x) = NoMemory
-handed made (Err Disk_failed) = Failed
-handed made (Err Disk_no_memory) = NoMemory
+abbrev pub released : {A : Type 0} → NodeAnswer → Result A EndError → Answer
+released (Node_taken outcome) (Ok x) = Taken outcome
+released (Node_dropped why) (Ok x) = Dropped why
+released Node_no_memory (Ok x) = NoMemory
+released Node_stale (Ok x) = NoMemory
+released made (Err Disk_failed) = Failed
+released made (Err Disk_no_memory) = NoMemory

@@ -1,6 +1,6 @@
 // The answers of a kept node.
 ghost use Rattle.std.specs.Prelude.{◌≡◌};
-ghost use Rattle.iss_keep.specs.Keeping.{handed};
+ghost use Rattle.iss_keep.specs.Keeping.{released};
 ghost use Rattle.iss_keep.specs.Steps.{makes_stale};
 
 use iss_disk::EndError;
@@ -26,7 +26,7 @@ pub enum Answer {
 // Whether the node has to be reopened, given its answer and the result of the append.
 #[inline(always)]
 pub(crate) fn makes_stale(made: &NodeAnswer, kept: &Result<(), EndError>) -> bool
-    ensures { result ≡ makes_stale (handed made.now kept.now) }
+    ensures { result ≡ makes_stale (released made.now kept.now) }
 {
     match (made, kept) {
         (NodeAnswer::Taken(_), Ok(())) => false,
@@ -38,7 +38,7 @@ pub(crate) fn makes_stale(made: &NodeAnswer, kept: &Result<(), EndError>) -> boo
 // Releases the node's answer only if the append succeeded.
 #[inline(always)]
 pub(crate) fn release(made: NodeAnswer, kept: Result<(), EndError>) -> Answer
-    ensures { result ≡ handed made kept }
+    ensures { result ≡ released made kept }
 {
     match kept {
         Ok(()) => match made {

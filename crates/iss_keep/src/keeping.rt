@@ -5,7 +5,7 @@ ghost use Rattle.iss_journal.specs.Frames.{Reads, holds, max_entry};
 ghost use Rattle.iss_journal.specs.Promises.{HoldsWithOrWithout, LeavesOnly, OnlyLeaves};
 ghost use Rattle.iss_journal.specs.Sound.{IsSound, NothingChanged, disk_of, entries_of, is_attached};
 ghost use Rattle.iss_keep.specs.Entries.{spell_event};
-ghost use Rattle.iss_keep.specs.Keeping.{HasEnded, HasStepped, handed};
+ghost use Rattle.iss_keep.specs.Keeping.{HasEnded, HasStepped, released};
 ghost use Rattle.iss_keep.specs.Steps.{IsWritten, makes_stale, sight};
 ghost use Rattle.iss_model.specs.Node.{Core};
 ghost use Rattle.iss_rules.specs.Setups.{IsSetupOf};
@@ -99,9 +99,9 @@ fn append_or_retreat<M: Sequenced, D: Disk>(
     ensures written { (outcome : Outcome) → IsWritten (entries_of journal.old) (spell_event event.now)
         (sight D.history D.passes D.faults D.current D.files (disk_of journal.old))
         (sight D.history D.passes D.faults D.current D.files (disk_of journal.new)) (entries_of journal.new)
-        (handed (Node_taken outcome) result) }
+        (released (Node_taken outcome) result) }
     ensures ended { (outcome : Outcome) →
-        HasEnded outcome slots epoch.0 node.old node.new (handed (Node_taken outcome) result) }
+        HasEnded outcome slots epoch.0 node.old node.new (released (Node_taken outcome) result) }
     ensures sound { IsSound D.history D.room journal.new }
     ensures attached { OnOk result (is_attached journal.new ≡ true) }
 {
@@ -137,10 +137,10 @@ fn apply_then_append<M: Sequenced, D: Disk>(
     ensures written { IsWritten (entries_of journal.old) (spell_event copy.now)
         (sight D.history D.passes D.faults D.current D.files (disk_of journal.old))
         (sight D.history D.passes D.faults D.current D.files (disk_of journal.new)) (entries_of journal.new)
-        (handed made.new result) }
-    ensures stepped { HasStepped M.spec M.refines event node.old node.new (handed made.new result) }
+        (released made.new result) }
+    ensures stepped { HasStepped M.spec M.refines event node.old node.new (released made.new result) }
     ensures sound { IsSound D.history D.room journal.new }
-    ensures attached { makes_stale (handed made.new result) ≡ false → is_attached journal.new ≡ true }
+    ensures attached { makes_stale (released made.new result) ≡ false → is_attached journal.new ≡ true }
     ensures same { (node.new.state.setup ≡ node.old.state.setup) × (node.new.state.me ≡ node.old.state.me) }
 {
     let slots = node.log().entries().len();
@@ -170,10 +170,10 @@ pub(crate) fn journal_and_apply<M: Sequenced, D: Disk>(
     ensures written { IsWritten (entries_of journal.old) (spell_event event)
         (sight D.history D.passes D.faults D.current D.files (disk_of journal.old))
         (sight D.history D.passes D.faults D.current D.files (disk_of journal.new)) (entries_of journal.new)
-        (handed made.new result) }
-    ensures stepped { HasStepped M.spec M.refines event node.old node.new (handed made.new result) }
+        (released made.new result) }
+    ensures stepped { HasStepped M.spec M.refines event node.old node.new (released made.new result) }
     ensures sound { IsSound D.history D.room journal.new }
-    ensures attached { makes_stale (handed made.new result) ≡ false → is_attached journal.new ≡ true }
+    ensures attached { makes_stale (released made.new result) ≡ false → is_attached journal.new ≡ true }
     ensures same { (node.new.state.setup ≡ node.old.state.setup) × (node.new.state.me ≡ node.old.state.me) }
 {
     let Ok(copy) = copy_event(&event) else {

@@ -7,13 +7,11 @@ ghost use Rattle.iss_log.specs.Chains.{IsChainOf, chain_of, link_string, next_en
 
 use crate::log::size;
 use iss_keys::Directory;
-use iss_request::{Bytes, NoMemory, Seq, Value, Writer, write_value};
+use iss_request::{Bytes, NoMemory, Seq, Value, value_string};
 use std::alloc::Global;
 use std::marker::Model;
 
-// The byte before a value that is hashed, and before a link.
-const VALUE: u8 = 0x40;
-
+// The byte before a link that is hashed.
 const LINK: u8 = 0x42;
 
 /// What stands for a log: the digest of its chain, and how many requests it holds.
@@ -104,16 +102,6 @@ impl Chains {
     }
 }
 
-/// The string of a value, by a version.
-pub fn string_of(alloc: Global, version: u8, value: &Value) -> Result<Bytes, NoMemory>
-    ensures { IfOk result (λ s. s ≡ value_string version value.now) }
-{
-    let mut out = Writer::new(alloc, version);
-    out.put_u8(VALUE)?;
-    write_value(value, &mut out)?;
-    Ok(out.into_bytes())
-}
-
 // The string of a link: the digest of the log before, and that of the value.
 fn link_of(alloc: Global, before: &[u8; 32], value: &[u8; 32]) -> Result<Bytes, NoMemory>
     ensures { IfOk result (λ s. s ≡ link_string before.now value.now) }
@@ -146,7 +134,7 @@ pub fn link(
     ensures hashed { OnOk result (hashed.new ≡ hashed.old ++ strings_of version before.now.chain value.now) }
 {
     let requests = before.requests.checked_add(size(value)).ok_or(NoMemory)?;
-    let string = string_of(alloc, version, value)?;
+    let string = value_string(alloc, version, value)?;
     let digest = digest_of(directory, &string);
     let link = link_of(alloc, &before.chain, &digest)?;
     let chain = digest_of(directory, &link);

@@ -86,8 +86,8 @@ returned log (x ∷ xs) = cond (is_nil_at log x.0.0) (x.1 ++ returned log xs) (r
 
 -- a batch that enters the log waits no more and flies no more; what was cast in a slot that became nil waits again, behind all
 -- others, unless the log holds it
-abbrev pub refiled : {Msg : Type 0} → Rules → Module Msg → ℕ → Core Msg → Past Msg → ℕ → Core Msg
-refiled R M me c past leaf =
+abbrev pub after_growth : {Msg : Type 0} → Rules → Module Msg → ℕ → Core Msg → Past Msg → ℕ → Core Msg
+after_growth R M me c past leaf =
     let old = log_of R M me c.past in
     let log = log_of R M me past in
     record {
@@ -122,7 +122,7 @@ abbrev pub step_unjudged : {Msg : Type 0} → Formats Msg → Rules → Module M
 step_unjudged F R M me c l input =
     let made = made_in R M me c.past l input c.leaf in
     record {
-      core = refiled R M me c (takes R M me c.past l input c.leaf) (c.leaf + made.used);
+      core = after_growth R M me c (takes R M me c.past l input c.leaf) (c.leaf + made.used);
       sends = packed F me c.past.epoch l made.sends;
       own = own_claims M (params_of R M me c.past l) me made.sends;
       early = [];
@@ -323,7 +323,7 @@ adopts_piece R M me c p =
     let past = adopts c.past (record { epoch = c.past.epoch; values = p.values }) in
     let before = before_own R M me c.past in
     record {
-      core = record (refiled R M me c past c.leaf) { early = []; certs = keeping c.certs p.cert (cert_on c.certs c.past.epoch) };
+      core = record (after_growth R M me c past c.leaf) { early = []; certs = keeping c.certs p.cert (cert_on c.certs c.past.epoch) };
       sends = [];
       own = [];
       early = [];

@@ -1,7 +1,7 @@
 pub mod EpochEnd
-pub mod Inputs
+pub mod Instances
 pub mod Log
-pub mod Packets
-pub mod Requests
 pub mod StateTransfer
 pub mod Steps
+pub mod WaitingRequests
+pub mod Wire

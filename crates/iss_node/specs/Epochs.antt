@@ -11,7 +11,7 @@ use Rattle.iss_request.specs.declared.ids.ReqId.{ReqId}
 use Rattle.iss_request.specs.declared.setups.Setup.{Setup}
 use Rattle.iss_sb.specs.declared.effects.Params.{Params}
 use Rattle.iss_sb.specs.Calls.{Relation}
-use Rattle.iss_segment.specs.Instance.{IsInstance, SegmentState}
+use Rattle.iss_segment.specs.Instance.{RefinesItems, SegmentState}
 use Rattle.iss_window.specs.Kept.{RefinesNoted}
 use Rattle.iss_window.specs.Window.{Noted, and_closed, and_noted}
 
@@ -60,7 +60,7 @@ pub record AreStarted {M Msg : Type 0} (refines : Relation M Msg) (s : Setup) (m
   pub leading : (l : ℕ) → is_some (led segments l) ≡ leads plan l
   pub params : (l : ℕ) (g : SegmentState M) → led segments l ≡ Some g → g.params ≡ params_by s e plan l
   pub node : (l : ℕ) (g : SegmentState M) → led segments l ≡ Some g → g.me ≡ me
-  pub instances : (l : ℕ) (g : SegmentState M) → led segments l ≡ Some g → IsInstance refines g []
+  pub instances : (l : ℕ) (g : SegmentState M) → led segments l ≡ Some g → RefinesItems refines g []
 
 -- An epoch was started, with the layout that the leader policy gives it.
 pub record HasOpened {M Msg : Type 0} (refines : Relation M Msg) (old new : StateView M Msg)

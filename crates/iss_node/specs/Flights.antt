@@ -13,11 +13,11 @@ pub record FlightState : Type 0 where
   pub ids : List ReqId
 
 -- The proposals for slots below n.
-abbrev pub landed : ℕ → List (Slot × Batch) → List (Slot × Batch)
-landed n [] = []
-landed n (x ∷ xs) = cond (nat_lt x.0.0 n) (x ∷ landed n xs) (landed n xs)
+abbrev pub completed : ℕ → List (Slot × Batch) → List (Slot × Batch)
+completed n [] = []
+completed n (x ∷ xs) = cond (nat_lt x.0.0 n) (x ∷ completed n xs) (completed n xs)
 
 -- Proposals for slots below n are no longer in flight.
-pub record IsLanded (old new : FlightState) (n : ℕ) : Type 0 where
+pub record IsCompleted (old new : FlightState) (n : ℕ) : Type 0 where
   pub casts : new.casts ≡ flying n old.casts
-  pub ids : (x : ReqId) → has_id x new.ids ≡ (has_id x old.ids && not (has_id x (flown (landed n old.casts))))
+  pub ids : (x : ReqId) → has_id x new.ids ≡ (has_id x old.ids && not (has_id x (flown (completed n old.casts))))

@@ -5,7 +5,7 @@ use Rattle.iss_log.specs.Chains.{IsChainOf}
 use Rattle.iss_rules.specs.Formats.{formats_of}
 use Rattle.iss_model.specs.Node.{own_claims, packed, returned}
 use Rattle.iss_rules.specs.declared.events.Refusal.{Refusal}
-use Rattle.iss_node.specs.Flights.{IsLanded}
+use Rattle.iss_node.specs.Flights.{IsCompleted}
 use Rattle.iss_node.specs.Growth.{AreJoined, IsGrown, and_values, waits_on}
 use Rattle.iss_node.specs.State.{StateView, led}
 use Rattle.iss_node.specs.declared.answers.Accepted.{Accepted}
@@ -66,24 +66,26 @@ and_accepted l xs (Some a) = xs ++ record { leader = l; slot = a.0; batch = a.1 
 
 -- Proposals for slots of the log are no longer in flight. If the slot became nil, their requests wait again, unless
 -- they are in the log.
-pub record HasLanded {M Msg : Type 0} (old new : StateView M Msg) : Type 0 where
-  pub landed : IsLanded old.flight new.flight (length old.log.entries)
+pub record HasCompletedCasts {M Msg : Type 0} (old new : StateView M Msg) : Type 0 where
+  pub landed : IsCompleted old.flight new.flight (length old.log.entries)
   pub waiting : (all : List ReqId) → AreLogged old all →
       AreNew old.waiting (absent all (returned (reverse old.log.entries) old.flight.casts)) →
       new.waiting ≡ old.waiting ++ absent all (returned (reverse old.log.entries) old.flight.casts)
 
 -- The log was extended by what was delivered, as far as slots are filled.
-pub record HasGrown {M Msg : Type 0} (old new : StateView M Msg) (delivers : List (Slot × Value)) : Type 0 where
+pub record HasAppliedDeliveries {M Msg : Type 0} (old new : StateView M Msg)
+    (delivers : List (Slot × Value)) : Type 0 where
   pub held : ℕ
   pub grown : IsGrown old.log delivers new.log held
   pub logged : new.logged ≡ fold and_values old.logged grown.joined
   -- Ordered requests no longer wait.
-  pub landed : HasLanded (record old {
-    log = new.log;
-    chains = new.chains;
-    logged = new.logged;
-    waiting = fold waits_on old.waiting grown.joined;
-  }) new
+  pub landed : HasCompletedCasts
+      (record old {
+        log = new.log;
+        chains = new.chains;
+        logged = new.logged;
+        waiting = fold waits_on old.waiting grown.joined;
+      }) new
   pub rest : new ≡ record old {
     log = new.log;
     chains = new.chains;
@@ -108,6 +110,6 @@ pub record IsHandedOut {M Msg : Type 0} (m : Module Msg) (v : StateView M Msg) (
   pub hashed_is : o.hashed ≡ hashed
 
 -- The effects of an instance's step were applied to the node.
-pub record IsAbsorbed {M Msg : Type 0} (old new : StateView M Msg) (l : NodeId) (e : Effects Msg) : Type 0 where
+pub record HasAppliedEffects {M Msg : Type 0} (old new : StateView M Msg) (l : NodeId) (e : Effects Msg) : Type 0 where
   pub accepted : new.accepted ≡ and_accepted l old.accepted e.accepted
-  pub grown : HasGrown (record old { accepted = new.accepted }) new e.delivers
+  pub grown : HasAppliedDeliveries (record old { accepted = new.accepted }) new e.delivers

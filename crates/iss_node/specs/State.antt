@@ -28,7 +28,7 @@ use Rattle.iss_sb.specs.Evidence.{Item, Module, accepts, delivered}
 use Rattle.iss_sb.specs.declared.effects.Params.{Params}
 use Rattle.iss_sb.specs.Calls.{Relation}
 use Rattle.iss_segment.specs.Ground.{RestsOn}
-use Rattle.iss_segment.specs.Instance.{IsInstance, SameIds, SegmentState}
+use Rattle.iss_segment.specs.Instance.{RefinesItems, SameIds, SegmentState}
 use Rattle.iss_window.specs.Kept.{Kept}
 
 -- The state of a node in its epoch.
@@ -101,11 +101,11 @@ slot_value R M me before past s =
     delivered M (R.params before past.epoch l) me (taken_in past l) s
 
 -- The instance of a leader refines the inputs that the node took for it.
-pub record IsLed {M Msg : Type 0} (refines : Relation M Msg) (p : Params) (me : NodeId) (taken : List (Item Msg))
+pub record RefinesTaken {M Msg : Type 0} (refines : Relation M Msg) (p : Params) (me : NodeId) (taken : List (Item Msg))
     (g : SegmentState M) : Type 0 where
   pub params : g.params ≡ p
   pub node : g.me ≡ me
-  pub instance : IsInstance refines g taken
+  pub instance : RefinesItems refines g taken
 
 -- The state refines this history. `before` is the log before the current epoch.
 pub record RefinesPastOver {M Msg : Type 0} (m : Module Msg) (refines : Relation M Msg)
@@ -126,7 +126,7 @@ pub record RefinesPastOver {M Msg : Type 0} (m : Module Msg) (refines : Relation
   -- The instances of the epoch.
   pub leading : (l : ℕ) → is_some (led v.segments l) ≡ leads v.plan l
   pub instances : (l : ℕ) (g : SegmentState M) → led v.segments l ≡ Some g →
-      IsLed refines ((rules_of v.setup).params before past.epoch l) v.me (taken_in past l) g
+      RefinesTaken refines ((rules_of v.setup).params before past.epoch l) v.me (taken_in past l) g
   pub accepted : (l : ℕ) → reverse (accepted_of l v.accepted) ≡ accepts (taken_in past l)
   -- The requests that the node knows.
   pub logged : SameIds v.logged (log_ids (joined v.plan.start (log_of (rules_of v.setup) m v.me.0 past)))

@@ -8,7 +8,7 @@ ghost use Rattle.iss_node.specs.Casts.{IsCut, casting, is_open};
 ghost use Rattle.iss_node.specs.State.{RefinesPast, core_of, led};
 ghost use Rattle.iss_node.specs.Steps.{IsLater, IsStepOf, IsTurnOf};
 ghost use Rattle.iss_sb.specs.Evidence.{Item};
-ghost use Rattle.iss_segment.specs.Instance.{IsInstance, SegmentState};
+ghost use Rattle.iss_segment.specs.Instance.{RefinesItems, SegmentState};
 
 use crate::answers::{Outcome, StepResult};
 use crate::flight::Flight;
@@ -98,7 +98,7 @@ fn first_castable<M: Sequenced>(
     flight: &Flight,
     slots: &[Slot],
 ) -> Option<Slot>
-    ensures { (xs : List (Item M.Msg)) → IsInstance M.refines segment.now xs →
+    ensures { (xs : List (Item M.Msg)) → RefinesItems M.refines segment.now xs →
         result ≡ first_slot (is_open M.spec segment.now.params segment.now.me.0 xs log.now flight.now.casts) slots.now }
 {
     for slot in slots {
@@ -111,7 +111,7 @@ fn first_castable<M: Sequenced>(
 
 // Whether the slot has no value, no proposal in flight, and the module accepts proposals for it.
 fn is_open<M: Sequenced>(segment: &Segment<M>, log: &Log, flight: &Flight, slot: Slot) -> bool
-    ensures { (xs : List (Item M.Msg)) → IsInstance M.refines segment.now xs →
+    ensures { (xs : List (Item M.Msg)) → RefinesItems M.refines segment.now xs →
         result ≡ is_open M.spec segment.now.params segment.now.me.0 xs log.now flight.now.casts slot }
 {
     M::laws();

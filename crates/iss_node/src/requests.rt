@@ -3,8 +3,8 @@ ghost use Rattle.std.specs.Prelude.{◌≡◌, ◌++◌, ◌∷◌, ◌||◌, []
 ghost use Rattle.iss_buckets.specs.Waiting.{AreNew, absent};
 ghost use Rattle.iss_rules.specs.Concrete.{rules_of};
 ghost use Rattle.iss_model.specs.Node.{returned, takes_request};
-ghost use Rattle.iss_node.specs.Flights.{IsLanded};
-ghost use Rattle.iss_node.specs.Inputs.{AreLogged, HasLanded};
+ghost use Rattle.iss_node.specs.Flights.{IsCompleted};
+ghost use Rattle.iss_node.specs.Inputs.{AreLogged, HasCompletedCasts};
 ghost use Rattle.iss_node.specs.Steps.{IsLater, IsStepOf};
 ghost use Rattle.iss_request.specs.Log.{has_id, ids};
 ghost use Rattle.iss_request.specs.declared.ids.ReqId.{ReqId as Identity};
@@ -81,7 +81,7 @@ impl<M: Sequenced> NodeState<M> {
     /// Removes the proposals whose slots are now in the log. If such a slot became nil, its requests wait again at the
     /// end of the list, unless they are in the log.
     pub(crate) fn complete_casts(&mut self, alloc: Global) -> Result<(), NoMemory>
-        ensures landed { OnOk result (HasLanded self.old self.new) }
+        ensures landed { OnOk result (HasCompletedCasts self.old self.new) }
         ensures rest { self.new ≡ record self.old { waiting = self.new.waiting; flight = self.new.flight } }
     {
         let slots = self.log.entries().len() as u64;

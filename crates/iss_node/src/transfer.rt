@@ -5,7 +5,7 @@ ghost use Rattle.iss_log.specs.Chains.{IsChainOf};
 ghost use Rattle.iss_rules.specs.Votes.{cert_on};
 ghost use Rattle.iss_model.specs.Node.{asking, hands_out, Taken as Step_taken, takes_piece};
 ghost use Rattle.iss_node.specs.Transfers.{IsAdoptedBy, IsHandedPiece, at_slots, held_slots, held_values};
-ghost use Rattle.iss_request.specs.declared.requests.Value.{Value as Held};
+ghost use Rattle.iss_request.specs.declared.requests.Value.{Value as LogValue};
 ghost use Rattle.iss_transfer.specs.Adoption.{adoption};
 ghost use Rattle.iss_node.specs.Steps.{IsHeldStepOf, IsOfNodes, IsSameNode};
 
@@ -119,7 +119,7 @@ impl<M: Sequenced> NodeState<M> {
     // Whether the node may adopt the piece. `NoMemory` also if the log lacks a slot before the epoch, which never
     // happens.
     fn adoption(&self, alloc: Global, piece: &Piece) -> Result<Adoption, NoMemory>
-        ensures { IfOk result (λ a. (log : List Held) → IsChainOf self.now.chains log →
+        ensures { IfOk result (λ a. (log : List LogValue) → IsChainOf self.now.chains log →
             a ≡ adoption self.now.setup (voters_of self.now.setup self.now.directory) log self.now.epoch piece.now) }
     {
         let Some(start) = self.epoch.0.checked_mul(self.setup.epoch) else {

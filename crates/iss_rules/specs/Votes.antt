@@ -3,7 +3,7 @@ use Rattle.std.specs.Prelude.{ℕ, suc, ◌==◌, nat_le, cond, Bool, true, ◌&
 use Rattle.std.specs.List.{list_all}
 use Rattle.iss_checkpoint.specs.Tallies.{certificate_by}
 use Rattle.iss_checkpoint.specs.declared.votes.Cert.{Cert}
-use Rattle.iss_checkpoint.specs.declared.votes.Signed.{Signed}
+use Rattle.iss_sb.specs.declared.signers.Signed.{Signed}
 use Rattle.iss_checkpoint.specs.declared.votes.Vote.{Vote}
 use Rattle.iss_sb.specs.declared.effects.Claim.{Claim}
 use Rattle.iss_rules.specs.Rules.{Rules}

@@ -3,6 +3,7 @@ use Rattle.std.specs.Prelude.{ℕ, ◌/◌, ◌^◌, List, [], ◌∷◌, ◌++�
 use Rattle.std.specs.Int.{bytes_high_first}
 use Rattle.iss_keys.specs.Directories.{node_secret}
 use Rattle.iss_keys.specs.Signatures.{signature_of}
+use Rattle.iss_sb.specs.declared.effects.Claim.{Claim}
 use Rattle.iss_sb.specs.declared.effects.Params.{Params}
 
 -- a number as a first byte and `low` more, high first. Below 256 ^ (low + 1) they are its bytes; the first takes all that
@@ -30,3 +31,7 @@ statement_head p tag = head_of p.setup.tag p.epoch.0 p.leader.0 tag
 -- the signature of node me by a leaf of its keys
 abbrev pub signature : Params → ℕ → ℕ → List ℕ → List ℕ
 signature p me leaf statement = signature_of (node_secret me) p.setup.keys leaf statement
+
+-- the claim that the node of this number signed the statement
+abbrev pub claim : ℕ → List ℕ → List ℕ → Claim
+claim by statement sig = record { by = record { 0 = by }; statement = statement; sig = sig }

@@ -1,4 +1,8 @@
 //! What goes into a module and what comes out of it.
+ghost use Rattle.std.specs.Prelude.{◌≡◌};
+ghost use Rattle.iss_base.specs.Lists.{nth};
+ghost use Rattle.iss_sb.specs.Calls.{is_slot};
+
 use iss_keys::SharedDirectory;
 use iss_request::{Batch, Bytes, Epoch, NoMemory, NodeId, Seq, Setup, Slot, Value};
 use std::alloc::Global;
@@ -35,6 +39,16 @@ pub struct Params {
     pub leader: NodeId,
     pub slots: Seq<Slot>,
     pub directory: SharedDirectory,
+}
+
+/// Whether the slot is that of this place in the segment.
+pub fn is_next(p: &Params, place: usize, slot: Slot) -> bool
+    ensures { result ≡ is_slot slot.0 (nth p.now.slots place) }
+{
+    match p.slots.as_slice().get(place) {
+        Some(next) => *next == slot,
+        None => false,
+    }
 }
 
 /// Why a step was not made: fewer leaves are left than one step may sign with, or memory was wanting.

@@ -1,9 +1,10 @@
 //! The trait of an ordering module. Nothing above it knows more of a module than these clauses.
-ghost use Rattle.std.specs.Prelude.{◌≡◌, ℕ, ◌<◌, ◌≤◌, ◌↔◌, List, [], Bool, IfOk, OnOk, IsTrue, Some};
+ghost use Rattle.std.specs.Prelude.{◌≡◌, ℕ, ◌<◌, ◌≤◌, ◌↔◌, if◌then◌else◌, List, [], Bool, IfOk, OnOk, IsTrue, Some, None};
 ghost use Rattle.iss_request.specs.declared.requests.Batch.{Batch};
 ghost use Rattle.iss_sb.specs.declared.effects.Params.{Params};
 ghost use Rattle.iss_request.specs.Fields.{IsGrammar, IsRead, IsUnreadable, and_bytes};
-ghost use Rattle.iss_sb.specs.Calls.{IsStep, IsGoodParams, IsGoodInput, named};
+ghost use Rattle.iss_keys.specs.KeyStates.{left_of};
+ghost use Rattle.iss_sb.specs.Calls.{IsStep, IsTrueStep, IsGoodParams, IsGoodInput, named};
 ghost use Rattle.iss_sb.specs.Evidence.{Item, Module};
 ghost use Rattle.iss_sb.specs.Laws.{IsLawful, IsSafe, SignsOnce};
 
@@ -27,10 +28,10 @@ pub trait Sequenced: Drop + Sized {
     const STOPPING: bool;
 
     /// What the module is, over lists.
-    ghost meaning: { Module Self.Msg };
+    ghost spec: { Module Self.Msg };
 
     /// The value stands for this list, as that node of this instance.
-    ghost stands: { Self → Params → ℕ → List (Item Self.Msg) → Type 0 };
+    ghost refines: { Self → Params → ℕ → List (Item Self.Msg) → Type 0 };
 
     /// How many nodes withstand `f` faults.
     fn nodes_of(f: u32) -> u32
@@ -66,9 +67,23 @@ pub trait Sequenced: Drop + Sized {
         ensures { (me : ℕ) (xs : List (Item Self.Msg)) → refines self.now p.now me xs →
             named result ≡ spec.asks p.now me xs i.now };
 
+    /// Takes an input whose verdict is true, with leaves for all that a step may sign. After out of memory nothing is
+    /// promised.
+    fn apply(
+        &mut self,
+        alloc: Global,
+        p: &Params,
+        i: Input<Self::Msg>,
+        keys: &mut Keys,
+    ) -> Result<Effects<Self::Msg>, NoMemory>
+        requires good { IsGoodParams spec p.now }
+        requires input { IsGoodInput p.now i }
+        requires enough { spec.signs p.now ≤ left_of keys.old }
+        ensures { IfOk result (λ e. IsTrueStep spec refines p.now self.old self.new i keys.old keys.new e) };
+
     /// Takes an input. With a verdict that is false nothing changes. `Spent` comes exactly where fewer leaves are left
-    /// than `signs`, with nothing changed; after want of memory nothing is promised.
-    fn step(
+    /// than `signs`, with nothing changed; after out of memory nothing is promised.
+    final fn step(
         &mut self,
         alloc: Global,
         p: &Params,
@@ -78,7 +93,16 @@ pub trait Sequenced: Drop + Sized {
     ) -> Result<Effects<Self::Msg>, StepError>
         requires good { IsGoodParams spec p.now }
         requires input { IsGoodInput p.now i }
-        ensures { IsStep spec refines p.now self.old self.new i verdict keys.old keys.new result };
+        ensures { IsStep spec refines p.now self.old self.new i verdict keys.old keys.new result }
+    {
+        if keys.left() < Self::signs(p) {
+            return Err(StepError::Spent);
+        }
+        if !verdict {
+            return Ok(Effects::nothing(alloc));
+        }
+        Ok(self.apply(alloc, p, i, keys)?)
+    }
 
     /// Writes a message by the writer's version: its number, its fields, its signature.
     fn encode(m: &Self::Msg, out: &mut Writer) -> Result<(), NoMemory>
@@ -108,4 +132,11 @@ pub trait Sequenced: Drop + Sized {
         ensures lawful { IsLawful spec }
         ensures safe { IsSafe spec }
         ensures signs_once { SignsOnce spec };
+}
+
+/// What `asks` says of a cast: its batch, where the cast would be taken.
+pub fn asks_if(casts: bool, slot: Slot, batch: &Batch) -> Option<(Slot, &Batch)>
+    ensures { named result ≡ (if casts then Some (slot, batch.now) else None) }
+{
+    if casts { Some((slot, batch)) } else { None }
 }

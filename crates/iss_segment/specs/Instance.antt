@@ -19,7 +19,7 @@ abbrev pub SameIds : List ReqId → List ReqId → Type 0
 SameIds a b = (x : ReqId) → has_id x a ≡ has_id x b
 
 -- The instance refines this list of inputs.
-pub record IsInstance {M Msg : Type 0} (refines : M → Params → ℕ → List (Item Msg) → Type 0) (g : SegmentState M)
+pub record RefinesItems {M Msg : Type 0} (refines : M → Params → ℕ → List (Item Msg) → Type 0) (g : SegmentState M)
     (xs : List (Item Msg)) : Type 0 where
   pub ordering : refines g.ordering g.params g.me.0 xs
   pub marked : SameIds g.marked (marks (accepts xs))

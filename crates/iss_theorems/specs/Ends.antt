@@ -48,9 +48,9 @@ pub record HasCollided {Msg : Type 0} (s : Setup) (F : Formats Msg) (R : Rules) 
   pub taken : step F R M (node_of s core) (h.net.cores core) event ≡ Taken turn
   pub strings : AreColliding turn.strings h.hashed first second
 
-abbrev pub Shows : {Msg : Type 0} → Setup → Formats Msg → Rules → Module Msg → Held Msg → End → Type 0
-Shows s F R M h (Forged claim) = IsForgery s F R M h claim
-Shows s F R M h (Collision first second) = HasCollided s F R M h first second
+abbrev pub IsEvidenced : {Msg : Type 0} → Setup → Formats Msg → Rules → Module Msg → Held Msg → End → Type 0
+IsEvidenced s F R M h (Forged claim) = IsForgery s F R M h claim
+IsEvidenced s F R M h (Collision first second) = HasCollided s F R M h first second
 
 -- the book has each claim that node i sent of its own, in any instance
 abbrev pub AreBooked : {Msg : Type 0} → Rules → Module Msg → ℕ → Past Msg → List Signed → Type 0
@@ -70,7 +70,7 @@ AreVoted R M i c book =
 -- Where the run has ended, that is shown by what it holds; what comes later changes nothing; and the book misses no claim
 -- and no vote that a correct node sent of its own, so that what is not there was not sent.
 pub record HasEvidence {Msg : Type 0} (s : Setup) (M : Module Msg) (events : List Event) : Type 0 where
-  pub shown : (k : ℕ) (end : End) → (run_after s M events).ended ≡ Some (k, end) → Shows s (formats_of s M) (rules_of s) M (run_after s M events).held end
+  pub shown : (k : ℕ) (end : End) → (run_after s M events).ended ≡ Some (k, end) → IsEvidenced s (formats_of s M) (rules_of s) M (run_after s M events).held end
   pub stays : (k : ℕ) (end : End) → (run_after s M events).ended ≡ Some (k, end) → (more : List Event) → run_after s M (events ++ more) ≡ run_after s M events
   pub booked : (i : ℕ) → is_correct s i ≡ true → AreBooked (rules_of s) M i (pasts_after s M events i) (run_after s M events).held.signed
   pub voted : (i : ℕ) → is_correct s i ≡ true → AreVoted (rules_of s) M i (pasts_after s M events i) (run_after s M events).held.signed

@@ -17,7 +17,7 @@ use Rattle.iss_composition.specs.Checkpoints.{scheme_of}
 use Rattle.iss_composition.specs.Cluster.{Cluster, Reach}
 use Rattle.iss_rules.specs.Concrete.{rules_of}
 use Rattle.iss_theorems.specs.Conserved.{AcceptsOnce, IsInOnePlace, asked_by, unless_ended}
-use Rattle.iss_theorems.specs.Ends.{AreBooked, AreVoted, Shows}
+use Rattle.iss_theorems.specs.Ends.{AreBooked, AreVoted, IsEvidenced}
 use Rattle.iss_rules.specs.Formats.{formats_of}
 use Rattle.iss_rules.specs.Parcels.{Formats}
 use Rattle.iss_theorems.specs.OneLog.{run_after}
@@ -147,7 +147,7 @@ pub record IsWhole {Msg : Type 0} (s : Setup) (M : Module Msg) (events : List Ev
   pub certified : AreCertified s M (held_after s M events)
   -- where the run has ended, that is shown by what it holds, and what comes later changes nothing
   pub shows : (k : ℕ) (end : End) → (course_after s M events).ended ≡ Some (k, end) →
-      Shows s (formats_of s M) (rules_of s) M (held_after s M events) end
+      IsEvidenced s (formats_of s M) (rules_of s) M (held_after s M events) end
   pub stays : (k : ℕ) (end : End) → (course_after s M events).ended ≡ Some (k, end) → (more : List Event) →
       course_after s M (events ++ more) ≡ course_after s M events
   pub written : AreWritten s M (held_after s M events)

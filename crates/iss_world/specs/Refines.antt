@@ -158,9 +158,9 @@ abbrev pub awake : {M Msg : Type 0} → SimulationState M Msg → Option Evidenc
 awake v end = record { simulation = v; ended = end; stale = false }
 
 -- The result of every event once this evidence has stopped the run.
-abbrev pub told_as : Evidence → EventResult
-told_as (Evidence_forged claim) = Result_forged claim.by claim.statement claim.sig
-told_as (Evidence_collision first second) = Result_collision first second
+abbrev pub result_of : Evidence → EventResult
+result_of (Evidence_forged claim) = Result_forged claim.by claim.statement claim.sig
+result_of (Evidence_collision first second) = Result_collision first second
 
 abbrev pub why_ended : Option (ℕ × End) → Option End
 why_ended None = None

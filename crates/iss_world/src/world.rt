@@ -6,10 +6,10 @@ ghost use Rattle.iss_model.specs.Courses.{Course, Machines, begin_machines};
 ghost use Rattle.iss_model.specs.CourseFrames.{run_event_if_open_in};
 ghost use Rattle.iss_rules.specs.Setups.{IsSetupOf};
 ghost use Rattle.iss_schedule.specs.Events.{AreInRange, IsInRange};
-ghost use Rattle.iss_schedule.specs.declared.schedules.Event.{Event as Happens};
+ghost use Rattle.iss_schedule.specs.declared.schedules.Event.{Event as ScheduleEvent};
 ghost use Rattle.iss_world.specs.Headline.{IsAnswered, IsHeadline, RefinesEvents};
 ghost use Rattle.iss_world.specs.Shape.{IsWorld};
-ghost use Rattle.iss_world.specs.Refines.{HasHappened, IsOverOr, IsStaleOr, RefinesMachine, RefinesRun, RefinesSome, WorldRefinesMachines, awake, log_at, told_as};
+ghost use Rattle.iss_world.specs.Refines.{HasHappened, IsOverOr, IsStaleOr, RefinesMachine, RefinesRun, RefinesSome, WorldRefinesMachines, awake, log_at, result_of};
 
 use crate::ends::{EventOutcome, Evidence};
 use crate::simulation::Simulation;
@@ -98,7 +98,7 @@ impl<M: Sequenced> World<M> {
         ensures happened { (p : Course M.Msg) → RefinesRun M.spec M.refines self.old p →
             HasHappened M.spec M.refines self.new p
             (run_event_if_open_in (frame_of self.old.simulation.setup M.spec) p event.now) result }
-        ensures headline { (events : List Happens) → AreInRange self.old.simulation.setup events →
+        ensures headline { (events : List ScheduleEvent) → AreInRange self.old.simulation.setup events →
             RefinesEvents self.old.simulation.setup M.spec M.refines self.old events → IsAnswered result →
             IsHeadline self.old.simulation.setup M.spec M.refines self.new (events ++ event.now ∷ []) }
         ensures stale { IsStaleOr self.old self.new result }
@@ -204,7 +204,7 @@ fn run_event<M: Sequenced>(
 
 // The result of an event once this evidence has stopped the run.
 fn repeat_evidence(end: &Evidence) -> Result<EventResult, NoMemory>
-    ensures { IfOk result (λ r. r ≡ told_as end.now) }
+    ensures { IfOk result (λ r. r ≡ result_of end.now) }
 {
     match end {
         Evidence::Forged(claim) => Ok(EventResult::Forged {

@@ -6,16 +6,16 @@ use Rattle.iss_sb.specs.declared.effects.Params.{Params}
 use Rattle.iss_sb.specs.Calls.{has_slot}
 use Rattle.pbft_wire.specs.declared.messages.Certificate.{Certificate}
 use Rattle.pbft_wire.specs.declared.messages.Change.{Change}
-use Rattle.pbft_wire.specs.declared.messages.Vote.{Vote}
+use Rattle.iss_sb.specs.declared.signers.Signed.{Signed}
 
 -- the primary of a view: the leader of the segment in view 0, and then the nodes in turn
 abbrev pub primary : Params → ℕ → ℕ
 primary p v = (p.leader.0 + v) % p.setup.n
 
 -- of nodes below n other than this one, ascending
-abbrev pub are_voters : Params → ℕ → ℕ → List Vote → Bool
+abbrev pub are_voters : Params → ℕ → ℕ → List Signed → Bool
 are_voters p but from [] = true
-are_voters p but from (x ∷ xs) = (nat_le from x.node.0 && (nat_lt x.node.0 p.setup.n && not (x.node.0 == but))) && are_voters p but (suc x.node.0) xs
+are_voters p but from (x ∷ xs) = (nat_le from x.by.0 && (nat_lt x.by.0 p.setup.n && not (x.by.0 == but))) && are_voters p but (suc x.by.0) xs
 
 -- of a slot of the segment, with exactly 2f Prepares of different nodes other than the primary; in view 0 with a batch
 abbrev pub is_good : Params → Certificate → Bool

@@ -13,10 +13,10 @@ use Rattle.std.specs.List.{list_all, flat_map}
 use Rattle.iss_request.specs.Formats.{IsSpelledValue, is_signature, parse_signature, parse_value, spell_value}
 use Rattle.iss_request.specs.Parsing.{Parser, ◌>>=◌, block, byte, done, number, such_that, times}
 use Rattle.iss_request.specs.declared.ids.Slot.{Slot}
+use Rattle.iss_sb.specs.Ascending.{all_ascend, ascending}
 use Rattle.pbft_wire.specs.declared.messages.Change.{Change}
 use Rattle.pbft_wire.specs.declared.messages.Message.{Message}
 use Rattle.pbft_wire.specs.declared.messages.Message.TheVariants.{PrePrepare, Prepare, Commit, ViewChange, NewView}
-use Rattle.pbft_wire.specs.Rising.{all_rise, rising}
 use Rattle.pbft_wire.specs.Certificates.{IsSpelledChange, change_bytes, count, fits_change, fits_count, fits_slot, fits_value, fits_view, parse_change}
 
 -- ---- what has a spelling
@@ -29,7 +29,7 @@ fits_node_change version from x = nat_le from x.node.0 && fits_change version x.
 
 -- ViewChanges of nodes from this one on
 abbrev pub fits_changes : ℕ → ℕ → List Change → Bool
-fits_changes version from xs = all_rise (fits_node_change version) node_of_change from xs
+fits_changes version from xs = all_ascend (fits_node_change version) node_of_change from xs
 
 abbrev pub fits_at : ℕ → ℕ → List ℕ → List ℕ → Bool
 fits_at v s d sig = fits_view v && (fits_slot s && ((length d == 32) && is_signature sig))
@@ -120,7 +120,7 @@ parse_node_change version from = do
   parse_change version node
 
 abbrev pub parse_changes : ℕ → ℕ → ℕ → Parser (List Change)
-parse_changes version many from = rising (parse_node_change version) node_of_change many from
+parse_changes version many from = ascending (parse_node_change version) node_of_change many from
 
 unfoldable pub parse_pre_prepare : ℕ → Parser Message
 parse_pre_prepare version = do

@@ -11,6 +11,8 @@ use Rattle.iss_request.specs.declared.ids.Slot.{Slot}
 use Rattle.iss_request.specs.declared.requests.Batch.{Batch}
 use Rattle.iss_request.specs.declared.requests.Value.{Value}
 use Rattle.iss_request.specs.declared.requests.Value.TheVariants.{Batch as Value_batch}
+use Rattle.iss_request.specs.Setup.{nodes_of_kind, quorum_of_kind}
+use Rattle.iss_request.specs.declared.setups.Kind.TheVariants.{Byzantine}
 use Rattle.iss_sb.specs.declared.effects.Claim.{Claim}
 use Rattle.iss_sb.specs.declared.effects.Input.{Input}
 use Rattle.iss_sb.specs.declared.effects.Input.TheVariants.{Cast, Receive, Timeout}
@@ -19,7 +21,7 @@ use Rattle.iss_sb.specs.declared.effects.To.{To}
 use Rattle.iss_sb.specs.declared.effects.To.TheVariants.{All as To_all}
 use Rattle.iss_sb.specs.Calls.{has_slot}
 use Rattle.iss_sb.specs.Evidence.{Item, Made, Module}
-use Rattle.iss_sb.specs.Statements.{eight_bytes, signature, statement_head}
+use Rattle.iss_sb.specs.Statements.{claim, eight_bytes, signature, statement_head}
 use Rattle.sb_echo.specs.declared.word.Word.{Word}
 use Rattle.sb_echo.specs.declared.word.Word.TheVariants.{Say, Echo}
 
@@ -38,9 +40,6 @@ tag = 6
 -- what is signed: the instance, the kind of the message, the slot, the digest
 abbrev pub statement : Params → ℕ → ℕ → List ℕ → List ℕ
 statement p kind s d = statement_head p tag ++ (kind ∷ (eight_bytes s ++ d))
-
-abbrev pub claim : ℕ → List ℕ → List ℕ → Claim
-claim by statement sig = record { by = record { 0 = by }; statement = statement; sig = sig }
 
 -- a message claims its own signature
 abbrev pub claims : Params → ℕ → Word → List Claim
@@ -160,8 +159,8 @@ parse version = do
 -- f Byzantine nodes of 3f+1
 abbrev pub echo : Module Word
 echo = record {
-  nodes = λ f. 3 * f + 1;
-  quorum = λ f. 2 * f + 1;
+  nodes = nodes_of_kind Byzantine;
+  quorum = quorum_of_kind Byzantine;
   stopping = false;
   tag = tag;
   signs = λ p. 2;

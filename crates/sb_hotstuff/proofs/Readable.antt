@@ -13,30 +13,31 @@ use Rattle.iss_sb.specs.declared.effects.Input.{Input}
 use Rattle.iss_sb.specs.declared.effects.Input.TheVariants.{Cast, Receive, Timeout}
 use Rattle.iss_sb.specs.declared.effects.Params.{Params}
 use Rattle.iss_sb.specs.declared.effects.To.{To}
-use Rattle.iss_sb.specs.Calls.{IsGoodParams}
+use Rattle.iss_sb.specs.Calls.{IsGoodParams, is_slot}
 use Rattle.iss_sb.specs.Evidence.{Item, IsReadBatch, IsReadMessage, one_or_none}
 use Rattle.iss_sb.specs.Laws.{AreHeard, IsHeard}
 use Rattle.iss_sb.specs.Statements.{signature}
 use Rattle.iss_sb.proofs.Signatures.{signature-shape}
-use Rattle.raft_wire.specs.declared.entries.What.{What}
-use Rattle.raft_wire.specs.declared.entries.What.TheVariants.{Nil, Holds, Mark}
-use Rattle.raft_wire.specs.Entries.{IsSpelledWhat}
+use Rattle.iss_sb.proofs.Slots.{place-below}
+use Rattle.iss_sb.specs.declared.content.Content.{Content}
+use Rattle.iss_sb.specs.declared.content.Content.TheVariants.{Nil, Holds, Mark}
+use Rattle.iss_sb.specs.Content.{IsSpelledContent}
 use Rattle.hs_tree.specs.declared.certificates.Certificate.{Certificate}
 use Rattle.hs_tree.specs.declared.certificates.Certificate.TheVariants.{Root, Votes}
-use Rattle.hs_tree.specs.declared.certificates.Signed.{Signed}
+use Rattle.iss_sb.specs.declared.signers.Signed.{Signed}
 use Rattle.hs_tree.specs.declared.messages.Message.{Message}
 use Rattle.hs_tree.specs.declared.messages.Message.TheVariants.{NewView, Prepare, PreCommit, Commit, Decide, Vote}
 use Rattle.hs_tree.specs.Certificates.{AreRisingVotes, IsSpelledCertificate, digest_of, root_row, view_of, votes_row}
 use Rattle.hs_tree.specs.Messages.{IsSpelledMessage, spell}
 use Rattle.hs_tree.specs.Statements.{own_statement, with_signature}
 use Rattle.hs_tree.specs.Tree.{basic, is_known}
-use Rattle.hs_tree.proofs.Contents.{batch-table}
+use Rattle.iss_sb.proofs.Contents.{batch-table}
 use Rattle.hs_tree.proofs.MessageGrammar.{read-spelled, spelled-read}
 use Rattle.sb_hotstuff.specs.HotStuff.{answers, answers_heard, drafts, hotstuff, makes, proposals, shows, sign_all, state, voted}
-use Rattle.sb_hotstuff.specs.Rules.{Kept, News, State, Turn, after, all_news, best, cast_turn, certificate, first_turn, heard, is_own_turn, is_reached, is_ready, is_slot, keeps_news, keeps_vote, kept, may_cast, may_end, may_prepare, may_second, may_third, news_of, next_turn, nil_or_mark, node_digest, proposed, round_of, slots_below, turn, turn_after, turn_of, turn_on, vote_of, votes_of, with_cast, with_news, with_node, with_round, with_turn, with_vote}
+use Rattle.sb_hotstuff.specs.Rules.{Kept, News, State, Turn, after, all_news, best, cast_turn, certificate, first_turn, heard, is_own_turn, is_reached, is_ready, keeps_news, keeps_vote, kept, may_cast, may_end, may_prepare, may_second, may_third, news_of, next_turn, nil_or_mark, node_digest, proposed, round_of, slots_below, turn, turn_after, turn_of, turn_on, vote_of, votes_of, with_cast, with_news, with_node, with_round, with_turn, with_vote}
 use Rattle.sb_hotstuff.proofs.Basics.{by-if, by-test, is-same}
 
-digest-long : (p : Params) (view : ℕ) (what : What) (just : Certificate) → length (node_digest p view what just) ≡ 32
+digest-long : (p : Params) (view : ℕ) (what : Content) (just : Certificate) → length (node_digest p view what just) ≡ 32
 digest-long p view what just = length-sha256 _
 
 module _ (p : Params) (good : IsGoodParams hotstuff p) where
@@ -45,8 +46,8 @@ module _ (p : Params) (good : IsGoodParams hotstuff p) where
   abbrev pub Spelled : Certificate → Type 0
   Spelled c = (bytes : List ℕ) × IsSpelledCertificate 3 c bytes
 
-  abbrev pub SpelledWhat : What → Type 0
-  SpelledWhat what = (bytes : List ℕ) × IsSpelledWhat p.setup.version what bytes
+  abbrev pub SpelledWhat : Content → Type 0
+  SpelledWhat what = (bytes : List ℕ) × IsSpelledContent p.setup.version what bytes
 
   abbrev SpelledAs : Message → Type 0
   SpelledAs msg = (bytes : List ℕ) × IsSpelledMessage 3 p.setup.version msg bytes
@@ -198,7 +199,7 @@ module _ (p : Params) (good : IsGoodParams hotstuff p) where
   mark-spelled : SpelledWhat Mark
   mark-spelled = (2 ∷ [], refl)
 
-  turn-new : (view : ℕ) (just : Certificate) (what : What) (slots : ℕ) → 1 ≤ view → round_of view ≤ 65535 → turn_of view ≤ suc (slots) → Spelled just → SpelledWhat what → NewTurn (turn p view just what slots)
+  turn-new : (view : ℕ) (just : Certificate) (what : Content) (slots : ℕ) → 1 ≤ view → round_of view ≤ 65535 → turn_of view ≤ suc (slots) → Spelled just → SpelledWhat what → NewTurn (turn p view just what slots)
   turn-new view just what slots a b c h g = record { fits = record { some = a; round_fits = b; turn_fits = omega (arith, c); long = digest-long p view what just }; just = h; what = g }
 
   cast-new : (view : ℕ) (just : Certificate) (slots : ℕ) (casts : List Batch) (k : ℕ) → 1 ≤ view → round_of view ≤ 65535 → turn_of view ≤ suc slots → Spelled just → ReadAll casts → MayTurn (cast_turn p view just slots (nth casts k))
@@ -280,13 +281,6 @@ module _ (p : Params) (good : IsGoodParams hotstuff p) where
   heard-fits me s from (Vote phase view d sig) m h = by-if Fits (keeps_vote p s from phase view d) (with_vote s from phase view d sig) s
       (record { high = h.high; votes = (m.1.signed, h.votes); news = h.news; turns = h.turns; casts = h.casts; few = h.few }) h
 
-  slot-some : (k : ℕ) (s : ℕ) → is_slot s (nth p.slots k) ≡ true → k < length p.slots
-  slot-some k s h = go (nth p.slots k) refl h
-    where
-      go : (o : Option Slot) → nth p.slots k ≡ o → is_slot s o ≡ true → k < length p.slots
-      go None q e = absurd (true≢false (sym e))
-      go (Some t) q e = nth-below p.slots k t q
-
   cast-fits : (s : State) (b : Batch) → length s.casts < length p.slots → IsReadBatch p b → Fits s → Fits (with_cast s b)
   cast-fits s b l r h =
       let n = length-append s.casts (b ∷ []) in
@@ -314,7 +308,7 @@ module _ (p : Params) (good : IsGoodParams hotstuff p) where
 
   pub kept-fits : (me : ℕ) (s : State) (i : Input Message) → Heard i → Fits s → Fits (kept p me s i)
   kept-fits me s (Cast slot batch) m h = by-test Fits (may_cast p me s slot.0) (with_cast s batch) s
-      (λ q. cast-fits s batch (slot-some (length s.casts) slot.0 (and-true _ (is_slot slot.0 (nth p.slots (length s.casts))) q).1) m h) h
+      (λ q. cast-fits s batch (place-below slot.0 p.slots (length s.casts) (and-true _ (is_slot slot.0 (nth p.slots (length s.casts))) q).1) m h) h
   kept-fits me s (Receive from msg) m h = heard-fits me s from.0 msg m h
   kept-fits me s Timeout m h = by-if Fits (may_end s) (with_round s) s (record { high = h.high; votes = h.votes; news = h.news; turns = h.turns; casts = h.casts; few = h.few }) h
 

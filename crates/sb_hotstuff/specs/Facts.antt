@@ -11,8 +11,8 @@ use Rattle.iss_sb.specs.declared.effects.To.{To}
 use Rattle.iss_sb.specs.Evidence.{Item, IsString, World, accepts, delivered, is_correct}
 use Rattle.iss_sb.specs.Laws.{SharedAcceptor}
 use Rattle.iss_sb.specs.Legal.{Front}
-use Rattle.raft_wire.specs.declared.entries.What.{What}
-use Rattle.raft_wire.specs.declared.entries.What.TheVariants.{Holds}
+use Rattle.iss_sb.specs.declared.content.Content.{Content}
+use Rattle.iss_sb.specs.declared.content.Content.TheVariants.{Holds}
 use Rattle.hs_tree.specs.declared.messages.Message.{Message}
 use Rattle.hs_tree.specs.declared.messages.Message.TheVariants.{Vote}
 use Rattle.hs_tree.specs.Paths.{Has, Path, hash}
@@ -52,14 +52,14 @@ pub record AreRested (p : Params) (w : World Message) : Type 0 where
 
 -- ---- branches whose strings were hashed
 
-abbrev pub Leads : Params → World Message → List ℕ → List ℕ → List What → Type 0
+abbrev pub Leads : Params → World Message → List ℕ → List ℕ → List Content → Type 0
 Leads p w d e cs = Path p.setup.version (IsString w) d e cs
 
 -- the node stands on one that has a certificate of the first phase in a view between these
 pub record StandsAbove (p : Params) (w : World Message) (low high : ℕ) (e : List ℕ) : Type 0 where
   pub view : ℕ
   pub parent : List ℕ
-  pub what : What
+  pub what : Content
   pub above : low < view
   pub below : view < high
   pub has : Has p.setup.version (IsString w) parent what
@@ -74,7 +74,7 @@ pub record IsSafeVote (p : Params) (w : World Message) (u v : ℕ) (e : List ℕ
   pub high : u ≤ view
   pub low : view < v
   pub lock : IsCertified p w 2 view node
-  pub safe : ((cs : List What) × Leads p w e node cs) ⊎ StandsAbove p w view v e
+  pub safe : ((cs : List Content) × Leads p w e node cs) ⊎ StandsAbove p w view v e
 
 abbrev pub AreSafeVotes : Params → World Message → Type 0
 AreSafeVotes p w = (i u v : ℕ) (d e : List ℕ) → IsVoted w i 3 u d → IsVoted w i 1 v e → u < v → IsSafeVote p w u v e
@@ -87,7 +87,7 @@ HaveOneNode p w = (view : ℕ) (d e : List ℕ) → IsCertified p w 1 view d →
 
 -- the node of a first phase's certificate, at or above the view of one of the third phase, extends that one's node
 abbrev pub AreExtending : Params → World Message → Type 0
-AreExtending p w = (u v : ℕ) (d e : List ℕ) → u ≤ v → IsCertified p w 3 u d → IsCertified p w 1 v e → (cs : List What) × Leads p w e d cs
+AreExtending p w = (u v : ℕ) (d e : List ℕ) → u ≤ v → IsCertified p w 3 u d → IsCertified p w 1 v e → (cs : List Content) × Leads p w e d cs
 
 -- a delivered batch has a quorum of first votes for its node, and each correct node among them accepted it at the slot
 pub record IsBacked (p : Params) (w : World Message) (s : Slot) (b : Batch) : Type 0 where

@@ -5,6 +5,8 @@ use Rattle.iss_request.specs.declared.ids.Slot.{Slot}
 use Rattle.iss_request.specs.declared.requests.Batch.{Batch}
 use Rattle.iss_request.specs.declared.requests.Request.{Request}
 use Rattle.iss_request.specs.declared.requests.Value.{Value}
+use Rattle.iss_request.specs.Setup.{nodes_of_kind, quorum_of_kind}
+use Rattle.iss_request.specs.declared.setups.Kind.TheVariants.{Byzantine}
 use Rattle.iss_sb.specs.declared.effects.Input.{Input}
 use Rattle.iss_sb.specs.declared.effects.Input.TheVariants.{Cast, Receive, Timeout}
 use Rattle.iss_sb.specs.declared.effects.Params.{Params}
@@ -12,8 +14,8 @@ use Rattle.iss_sb.specs.declared.effects.To.{To}
 use Rattle.iss_sb.specs.declared.effects.To.TheVariants.{All as To_all, One as To_one}
 use Rattle.iss_sb.specs.Evidence.{Item, Made, Module, accepts}
 use Rattle.iss_sb.specs.Statements.{signature}
-use Rattle.raft_wire.specs.declared.entries.What.{What}
-use Rattle.raft_wire.specs.declared.entries.What.TheVariants.{Nil, Holds, Mark}
+use Rattle.iss_sb.specs.declared.content.Content.{Content}
+use Rattle.iss_sb.specs.declared.content.Content.TheVariants.{Nil, Holds, Mark}
 use Rattle.hs_tree.specs.declared.certificates.Certificate.{Certificate}
 use Rattle.hs_tree.specs.declared.messages.Message.{Message}
 use Rattle.hs_tree.specs.declared.messages.Message.TheVariants.{NewView, Prepare, PreCommit, Commit, Decide, Vote}
@@ -48,7 +50,7 @@ unless_accepted old b None = None
 unless_accepted old b (Some s) = if was_accepted s.0 b old then None else Some (s, b)
 
 -- the batch stands at the slot behind those of the branch below it
-abbrev pub offered : Params → State → List (Slot × Batch) → What → Certificate → Option (Slot × Batch)
+abbrev pub offered : Params → State → List (Slot × Batch) → Content → Certificate → Option (Slot × Batch)
 offered p s old Nil just = None
 offered p s old (Holds b) just = unless_accepted old b (nth p.slots (slots_below s just))
 offered p s old Mark just = None
@@ -106,7 +108,7 @@ sign_all p me leaf (x ∷ xs) = (x.0, with_signature (signature p me leaf (own_s
 
 -- ---- what is hashed: of the node that is taken, and of the one that is proposed, the value's string and the node's
 
-abbrev pub strings_at : Params → ℕ → What → Certificate → List (List ℕ)
+abbrev pub strings_at : Params → ℕ → Content → Certificate → List (List ℕ)
 strings_at p view what just = strings_of p.setup.version (value_of what) ++ node_string basic p view what just ∷ []
 
 abbrev pub taken_strings : Params → State → ℕ → Message → List (List ℕ)
@@ -162,8 +164,8 @@ decided p me (x ∷ xs) n = first_of (decided p me xs n) (decides p (state p me 
 -- f Byzantine nodes of 3f+1
 abbrev pub hotstuff : Module Message
 hotstuff = record {
-  nodes = λ f. 3 * f + 1;
-  quorum = λ f. 2 * f + 1;
+  nodes = nodes_of_kind Byzantine;
+  quorum = quorum_of_kind Byzantine;
   stopping = false;
   tag = basic.tag;
   signs = λ p. 2;

@@ -14,7 +14,7 @@ pub record IsLow (t : Last) : Type 0 where
   pub first : t.view / 65536 ≡ 0 → t.slots ≤ t.view
 
 -- the code keeps what this state is
-pub record IsFor (m : Node) (s : State) : Type 0 where
+pub record RefinesState (m : Node) (s : State) : Type 0 where
   pub view : m.view ≡ s.view
   pub tree : Keeps m.tree s.tree
   pub high : m.high ≡ s.high

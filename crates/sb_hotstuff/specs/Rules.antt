@@ -3,15 +3,16 @@ use Rattle.std.specs.Prelude.{ℕ, zero, suc, ◌+◌, ◌*◌, ◌/◌, ◌%◌
 use Rattle.iss_base.specs.Lists.{nth, same_bytes}
 use Rattle.iss_request.specs.declared.ids.Slot.{Slot}
 use Rattle.iss_request.specs.declared.requests.Batch.{Batch}
+use Rattle.iss_sb.specs.Calls.{is_slot}
 use Rattle.iss_sb.specs.declared.effects.Input.{Input}
 use Rattle.iss_sb.specs.declared.effects.Input.TheVariants.{Cast, Receive, Timeout}
 use Rattle.iss_sb.specs.declared.effects.Params.{Params}
 use Rattle.iss_sb.specs.Evidence.{one_or_none}
-use Rattle.raft_wire.specs.declared.entries.What.{What}
-use Rattle.raft_wire.specs.declared.entries.What.TheVariants.{Nil, Holds, Mark}
+use Rattle.iss_sb.specs.declared.content.Content.{Content}
+use Rattle.iss_sb.specs.declared.content.Content.TheVariants.{Nil, Holds, Mark}
 use Rattle.hs_tree.specs.declared.certificates.Certificate.{Certificate}
 use Rattle.hs_tree.specs.declared.certificates.Certificate.TheVariants.{Root, Votes}
-use Rattle.hs_tree.specs.declared.certificates.Signed.{Signed}
+use Rattle.iss_sb.specs.declared.signers.Signed.{Signed}
 use Rattle.hs_tree.specs.declared.messages.Message.{Message}
 use Rattle.hs_tree.specs.declared.messages.Message.TheVariants.{NewView, Prepare, PreCommit, Commit, Decide, Vote}
 use Rattle.hs_tree.specs.Certificates.{digest_of, is_phase, is_quorum, view_of}
@@ -29,7 +30,7 @@ turn_of view = view % 65536
 abbrev pub leader_of : Params → ℕ → ℕ
 leader_of p round = (p.leader.0 + round) % p.setup.n
 
-abbrev pub node_digest : Params → ℕ → What → Certificate → List ℕ
+abbrev pub node_digest : Params → ℕ → Content → Certificate → List ℕ
 node_digest p view what just = Statements.node_digest basic p view what just
 
 -- a certificate of a quorum's votes for this phase in this view, which is that of a turn
@@ -48,7 +49,7 @@ pub record Turn : Type 0 where
   pub view : ℕ
   pub digest : List ℕ
   pub just : Certificate
-  pub what : What
+  pub what : Content
   pub slots : ℕ
 
 -- a vote for one of these, and a word on the start of a round
@@ -139,10 +140,6 @@ best c (d ∷ ds) = if nat_lt (view_of c) (view_of d) then best d ds else best c
 
 -- ---- a cast at the leader in the first round, at the next slot
 
-abbrev pub is_slot : ℕ → Option Slot → Bool
-is_slot s None = false
-is_slot s (Some t) = t.0 == s
-
 abbrev pub may_cast : Params → ℕ → State → ℕ → Bool
 may_cast p me s slot = ((me == p.leader.0) && (round_of s.view == 0)) && is_slot slot (nth p.slots (length s.casts))
 
@@ -152,13 +149,13 @@ with_cast s b = record s { casts = s.casts ++ b ∷ [] }
 -- ---- a proposal
 
 -- the node extends the lock's, or its justification is above the lock
-abbrev pub is_safe : Params → State → ℕ → What → Certificate → Bool
+abbrev pub is_safe : Params → State → ℕ → Content → Certificate → Bool
 is_safe p s view what just =
     (same_bytes (node_digest p view what just) (digest_of s.lock) || extends s.tree (digest_of just) (digest_of s.lock)) ||
     nat_lt (view_of s.lock) (view_of just)
 
 -- what may stand behind so many slots: batches in the first round alone, then nil, and marks once all slots are filled
-abbrev pub is_allowed : Params → ℕ → ℕ → What → Bool
+abbrev pub is_allowed : Params → ℕ → ℕ → Content → Bool
 is_allowed p round slots Nil = nat_le 1 round && nat_lt slots (length p.slots)
 is_allowed p round slots (Holds b) = (round == 0) && nat_lt slots (length p.slots)
 is_allowed p round slots Mark = nat_le 1 round && not (nat_lt slots (length p.slots))
@@ -170,12 +167,12 @@ is_timely p s from view = (from == leader_of p (round_of view)) && (nat_lt s.vie
 abbrev pub slots_below : State → Certificate → ℕ
 slots_below s just = filled (branch s.tree (digest_of just))
 
-abbrev pub may_prepare : Params → State → ℕ → ℕ → What → Certificate → Bool
+abbrev pub may_prepare : Params → State → ℕ → ℕ → Content → Certificate → Bool
 may_prepare p s from view what just =
     (is_timely p s from view && (is_just p view just && is_known s.tree (digest_of just))) &&
     (is_safe p s view what just && is_allowed p (round_of view) (slots_below s just) what)
 
-abbrev pub with_node : Params → State → ℕ → What → Certificate → State
+abbrev pub with_node : Params → State → ℕ → Content → Certificate → State
 with_node p s view what just = record s {
   view = view;
   tree = record { view = view; digest = node_digest p view what just; from = view_of just; parent = digest_of just; what = what } ∷ s.tree;
@@ -219,7 +216,7 @@ kept p me s Timeout = if may_end s then with_round s else s
 
 -- ---- the next turn, on the certificate of the last one
 
-abbrev pub turn : Params → ℕ → Certificate → What → ℕ → Turn
+abbrev pub turn : Params → ℕ → Certificate → Content → ℕ → Turn
 turn p view just what slots = record { view = view; digest = node_digest p view what just; just = just; what = what; slots = weight what + slots }
 
 abbrev pub cast_turn : Params → ℕ → Certificate → ℕ → Option Batch → Option Turn
@@ -243,7 +240,7 @@ next_turn p s (t ∷ ts) = if is_ready p s t then turn_after p s t else None
 
 -- ---- the first turn of a round, on the best certificate of a quorum's words
 
-abbrev pub nil_or_mark : Params → ℕ → What
+abbrev pub nil_or_mark : Params → ℕ → Content
 nil_or_mark p slots = if nat_lt slots (length p.slots) then Nil else Mark
 
 abbrev pub turn_on : Params → State → ℕ → Certificate → Option Turn

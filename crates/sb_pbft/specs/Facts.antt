@@ -44,7 +44,7 @@ AreQuiet p w = (i v c : ℕ) (x y : Item Message) (before : List (Item Message))
 -- a certificate of the slot, of this view or a higher one
 pub record Shows (cs : List Certificate) (s v : ℕ) : Type 0 where
   pub certificate : Certificate
-  pub refines : In certificate cs
+  pub stands : In certificate cs
   pub slot : certificate.slot.0 ≡ s
   pub high : v ≤ certificate.view
 

@@ -11,7 +11,7 @@ use Rattle.iss_sb.specs.declared.effects.Input.TheVariants.{Cast, Receive, Timeo
 use Rattle.iss_sb.specs.declared.effects.Params.{Params}
 use Rattle.iss_sb.specs.Calls.{has_slot}
 use Rattle.pbft_wire.specs.declared.messages.Change.{Change}
-use Rattle.pbft_wire.specs.declared.messages.Vote.{Vote}
+use Rattle.iss_sb.specs.declared.signers.Signed.{Signed}
 use Rattle.pbft_wire.specs.declared.messages.Message.{Message}
 use Rattle.pbft_wire.specs.declared.messages.Message.TheVariants.{PrePrepare, Prepare, Commit, ViewChange, NewView}
 use Rattle.pbft_wire.specs.Statements.{digest_of}
@@ -143,19 +143,19 @@ commit_of p [] v s k = None
 commit_of p (i ∷ l) v s k = first_of (commit_of p l v s k) (commit_in p i v s k)
 
 -- the vote of node k put in front, if it is for the digest
-abbrev pub cons_vote : List ℕ → ℕ → Option Ballot → List Vote → List Vote
+abbrev pub cons_vote : List ℕ → ℕ → Option Ballot → List Signed → List Signed
 cons_vote d k None xs = xs
-cons_vote d k (Some b) xs = cond (same_bytes d b.digest) (record { node = record { 0 = k }; sig = b.sig } ∷ xs) xs
+cons_vote d k (Some b) xs = cond (same_bytes d b.digest) (record { by = record { 0 = k }; sig = b.sig } ∷ xs) xs
 
 -- of the m nodes from k on those that voted for the digest
-abbrev pub voters : (ℕ → Option Ballot) → List ℕ → ℕ → ℕ → List Vote
+abbrev pub voters : (ℕ → Option Ballot) → List ℕ → ℕ → ℕ → List Signed
 voters g d k zero = []
 voters g d k (suc m) = cons_vote d k (g k) (voters g d (suc k) m)
 
-abbrev pub prepares : Params → List (Input Message) → ℕ → ℕ → List ℕ → List Vote
+abbrev pub prepares : Params → List (Input Message) → ℕ → ℕ → List ℕ → List Signed
 prepares p l v s d = voters (prepare_of p l v s) d 0 p.setup.n
 
-abbrev pub commits : Params → List (Input Message) → ℕ → ℕ → List ℕ → List Vote
+abbrev pub commits : Params → List (Input Message) → ℕ → ℕ → List ℕ → List Signed
 commits p l v s d = voters (commit_of p l v s) d 0 p.setup.n
 
 -- the value of the proposal with Prepares of 2f different nodes other than the primary

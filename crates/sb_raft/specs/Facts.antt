@@ -11,7 +11,7 @@ use Rattle.iss_sb.specs.Evidence.{Item, World, accepts, delivered}
 use Rattle.iss_sb.specs.Laws.{SharedAcceptor}
 use Rattle.iss_sb.specs.Legal.{Front}
 use Rattle.raft_wire.specs.declared.entries.Entry.{Entry}
-use Rattle.raft_wire.specs.declared.entries.What.TheVariants.{Holds}
+use Rattle.iss_sb.specs.declared.content.Content.TheVariants.{Holds}
 use Rattle.raft_wire.specs.declared.messages.Message.{Message}
 use Rattle.sb_raft.specs.Logs.{filled, term_at}
 use Rattle.sb_raft.specs.Raft.{commit, raft, raft_log, state}

@@ -37,9 +37,3 @@ is_mergeable l index es = nat_le l.commit (index + stay (drop index l.entries) e
 
 abbrev pub with_merged : LogState → ℕ → List Entry → LogState
 with_merged l index es = record l { entries = merged l.entries index es }
-
--- slots, each with a value
-abbrev pub paired : List Slot → List Value → List (Slot × Value)
-paired [] vs = []
-paired (s ∷ ss) [] = []
-paired (s ∷ ss) (v ∷ vs) = (s, v) ∷ paired ss vs

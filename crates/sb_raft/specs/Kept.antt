@@ -2,7 +2,7 @@
 use Rattle.std.specs.Prelude.{ℕ, Option, Some, None}
 use Rattle.std.specs.BTreeMap.{get}
 use Rattle.std.specs.Ordering.{nat_cmp}
-use Rattle.sb_raft.specs.declared.marks.PerPeer.{PerPeer}
+use Rattle.sb_raft.specs.declared.per_peer.PerPeer.{PerPeer}
 
 abbrev pub or_others : {T : Type 0} → Option T → T → T
 or_others None others = others

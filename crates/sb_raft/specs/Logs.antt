@@ -3,10 +3,10 @@ use Rattle.std.specs.Prelude.{ℕ, zero, suc, ◌==◌, ◌&&◌, ◌||◌, Bool
 use Rattle.iss_request.specs.declared.requests.Value.{Value}
 use Rattle.iss_request.specs.declared.requests.Value.TheVariants.{Nil as Value_nil, Batch as Value_batch}
 use Rattle.raft_wire.specs.declared.entries.Entry.{Entry}
-use Rattle.raft_wire.specs.declared.entries.What.{What}
-use Rattle.raft_wire.specs.declared.entries.What.TheVariants.{Nil, Holds, Mark}
+use Rattle.iss_sb.specs.declared.content.Content.{Content}
+use Rattle.iss_sb.specs.declared.content.Content.TheVariants.{Nil, Holds, Mark}
 
-abbrev pub entry : ℕ → What → Entry
+abbrev pub entry : ℕ → Content → Entry
 entry term what = record { term = term; what = what }
 
 -- the term of the last entry, 0 where there is none
@@ -20,7 +20,7 @@ term_at log i = last_term (take i log)
 
 -- ---- what a log holds for the slots, in their order. A mark holds no slot
 
-abbrev pub content : What → List Value
+abbrev pub content : Content → List Value
 content Nil = Value_nil ∷ []
 content (Holds batch) = Value_batch batch ∷ []
 content Mark = []

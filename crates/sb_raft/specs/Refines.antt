@@ -17,7 +17,7 @@ use Rattle.raft_wire.specs.declared.messages.Message.TheVariants.{Reply}
 use Rattle.sb_raft.specs.declared.raft.Role.{Role as CodeRole}
 use Rattle.sb_raft.specs.declared.raft.Role.TheVariants.{Follower as Role_follower, Candidate as Role_candidate, Leader as Role_leader}
 use Rattle.sb_raft.specs.declared.raft.Raft.{Raft}
-use Rattle.sb_raft.specs.Held.{paired}
+use Rattle.iss_sb.specs.Paired.{paired}
 use Rattle.sb_raft.specs.Kept.{kept}
 use Rattle.sb_raft.specs.Logs.{contents, filled}
 use Rattle.sb_raft.specs.Raft.{state}

@@ -3,15 +3,15 @@ use Rattle.std.specs.Prelude.{ℕ, zero, suc, ◌+◌, ◌-◌, ◌==◌, ◌&&�
 use Rattle.std.specs.Prelude.{nat_lt, nat_le, max, min, List, [], length, drop, Option, Some, None}
 use Rattle.iss_base.specs.Lists.{nth, set_at}
 use Rattle.iss_base.specs.Quorum.{count_below}
-use Rattle.iss_request.specs.declared.ids.Slot.{Slot}
 use Rattle.iss_request.specs.declared.requests.Batch.{Batch}
+use Rattle.iss_sb.specs.Calls.{is_slot}
 use Rattle.iss_sb.specs.declared.effects.Input.{Input}
 use Rattle.iss_sb.specs.declared.effects.Input.TheVariants.{Cast, Receive, Timeout}
 use Rattle.iss_sb.specs.declared.effects.Params.{Params}
 use Rattle.iss_sb.specs.declared.effects.To.{To}
 use Rattle.iss_sb.specs.declared.effects.To.TheVariants.{One as To_one}
 use Rattle.raft_wire.specs.declared.entries.Entry.{Entry}
-use Rattle.raft_wire.specs.declared.entries.What.TheVariants.{Holds, Mark}
+use Rattle.iss_sb.specs.declared.content.Content.TheVariants.{Holds, Mark}
 use Rattle.raft_wire.specs.declared.messages.Message.{Message}
 use Rattle.raft_wire.specs.declared.messages.Message.TheVariants.{Append, Reply, AskVote, Vote}
 use Rattle.sb_raft.specs.Logs.{entry, filled, fits_behind, last_term, merged, nils, stay, term_at, up_to_date}
@@ -126,10 +126,6 @@ abbrev pub raised : State → ℕ → State
 raised s t = if nat_lt s.term t then record s { term = t; vote = None; role = Follower } else s
 
 -- ---- casts: the leader of term 1 takes them in that term, each at the next slot
-
-abbrev pub is_slot : ℕ → Option Slot → Bool
-is_slot s None = false
-is_slot s (Some t) = t.0 == s
 
 abbrev pub may_cast : Params → State → ℕ → Bool
 may_cast p s slot = (is_leader s.role && (s.term == 1)) && is_slot slot (nth p.slots (filled s.log))

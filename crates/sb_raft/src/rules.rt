@@ -1,20 +1,19 @@
 //! The rules of Raft, a function a rule.
 ghost use Rattle.std.specs.Prelude.{◌≡◌, ◌<◌, ◌≤◌, ◌-◌, ◌^◌, ◌==◌, ◌&&◌, true, not, nat_le, OnOk, None, IfOk, length};
-ghost use Rattle.iss_base.specs.Lists.{nth};
 ghost use Rattle.iss_sb.specs.Calls.{AreToNodes, IsGoodParams};
 ghost use Rattle.sb_raft.specs.Kept.{kept};
 ghost use Rattle.sb_raft.specs.Logs.{fits_behind, up_to_date};
 ghost use Rattle.sb_raft.specs.Raft.{raft};
-ghost use Rattle.sb_raft.specs.Rules.{candidate, counted, free_for, grants, is_candidate, is_leader, is_slot, may_cast, on_append};
+ghost use Rattle.sb_raft.specs.Rules.{candidate, counted, free_for, grants, is_candidate, is_leader, may_cast, on_append};
 ghost use Rattle.sb_raft.specs.Rules.{on_ask, on_cast, on_not_ok, on_ok, on_reply, on_timeout, on_vote, raised, stands_up, won};
 ghost use Rattle.sb_raft.specs.Refines.{Does, HasRoom, IsLow, cast_of, held, merges, role_of};
 
-use crate::marks::{PerPeer, count};
+use crate::per_peer::{PerPeer, count};
 use crate::raft::{Raft, Role};
 use crate::sending::{one, only, reply};
 use iss_request::{Batch, NoMemory, NodeId, Seq, Slot};
-use iss_sb::{Effects, Params, To};
-use raft_wire::{Entry, Message, What};
+use iss_sb::{Content, Effects, Params, To, is_next};
+use raft_wire::{Entry, Message};
 use std::alloc::Global;
 
 /// The last term that there is.
@@ -56,7 +55,7 @@ impl Raft {
         if !self.may_cast(p, slot) {
             return Ok(Effects::nothing(alloc));
         }
-        let what = What::Holds(batch.copy()?);
+        let what = Content::Holds(batch.copy()?);
         let term = self.term;
         self.log.push(Entry { term, what })?;
         let mut sends = Seq::new(alloc);
@@ -321,7 +320,7 @@ impl Raft {
         self.part = Role::Leader;
         self.next = PerPeer::all(alloc, self.log.len().saturating_add(1));
         self.matched = PerPeer::all(alloc, 0);
-        let what = What::Mark;
+        let what = Content::Mark;
         self.log.push(Entry { term, what })?;
         self.log.push_nils(term, missing)
     }
@@ -361,15 +360,5 @@ impl Raft {
         self.granted.put(self.me, true)?;
         let sends = self.ask_others(alloc, p)?;
         self.count_votes(alloc, p, sends)
-    }
-}
-
-// Whether the slot is that of this place in the segment.
-fn is_next(p: &Params, place: usize, slot: Slot) -> bool
-    ensures { result ≡ is_slot slot.0 (nth p.now.slots place) }
-{
-    match p.slots.as_slice().get(place) {
-        Some(next) => *next == slot,
-        None => false,
     }
 }

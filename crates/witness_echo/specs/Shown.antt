@@ -57,7 +57,7 @@ abbrev pub echoed : List ℕ
 echoed = statement instance 2 0 (digest_of instance batch)
 
 -- a cluster that moves lead to, and what is to be seen in it
-pub record IsShown : Type 0 where
+pub record IsWitness : Type 0 where
   pub cluster : Cluster Word
   pub reached : Reach four (scheme_of four) rules echo cluster
   pub sound : IsSoundRules four echo rules

@@ -19,7 +19,7 @@ use Rattle.iss_model.specs.Node.{flown, in_next_epoch, is_nil_at, joined}
 use Rattle.iss_rules.specs.Past.{Past, advanced, before_own, is_complete, log_of, start_of}
 use Rattle.iss_model.specs.Sound.{IsSoundCore}
 use Rattle.iss_rules.proofs.Layouts.{start-times}
-use Rattle.iss_node.proofs.Requests.OrderedLeaveWaiting.{log_ids-append}
+use Rattle.iss_node.proofs.WaitingRequests.OrderedLeaveWaiting.{log_ids-append}
 use Rattle.iss_node.proofs.Log.LogIsExtended.{bf-long, bf-part, bounded, split-log}
 use Rattle.iss_node.proofs.Log.LogIsDelivered.{has-slots, start-is}
 use Rattle.iss_node.specs.Epochs.{AreStarted, notes, params_by}
@@ -32,7 +32,7 @@ use Rattle.iss_request.specs.declared.requests.Value.{Value}
 use Rattle.iss_sb.specs.Evidence.{Item, Module, accepts, delivered}
 use Rattle.iss_sb.specs.declared.effects.Params.{Params}
 use Rattle.iss_segment.specs.Ground.{RestsOn, noted_before}
-use Rattle.iss_segment.specs.Instance.{IsInstance, SameIds, SegmentState}
+use Rattle.iss_segment.specs.Instance.{RefinesItems, SameIds, SegmentState}
 use Rattle.iss_window.proofs.KeptLemmas.{refines-same}
 use Rattle.iss_window.specs.Kept.{Kept, RefinesNoted}
 use Rattle.iss_window.specs.Window.{Noted, and_closed, and_noted}
@@ -231,7 +231,7 @@ module _ {M Msg : Type 0} (m : Module Msg) (refines : M → Params → ℕ → L
     instances = λ l g h. record {
       params = started.params l g h ∙ params-is l;
       node = started.node l g h;
-      instance = subst (λ (ys : List (Item Msg)). IsInstance refines g ys) (sym (over.unborn l)) (started.instances l g h);
+      instance = subst (λ (ys : List (Item Msg)). RefinesItems refines g ys) (sym (over.unborn l)) (started.instances l g h);
     };
     accepted = λ l. sym (ap (λ (ys : List (Item Msg)). accepts ys) (over.unborn l));
     logged = λ x.

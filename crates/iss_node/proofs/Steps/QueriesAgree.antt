@@ -12,9 +12,9 @@ use Rattle.iss_model.specs.Node.{Dropped, Early as Kept_early, Stepped, Taken, k
 use Rattle.iss_rules.specs.Past.{Past, leads_in, params_of, taken_in}
 use Rattle.iss_model.specs.Views.{are_filled, is_unfilled}
 use Rattle.iss_rules.specs.declared.events.Why.TheVariants.{EarlyFull}
-use Rattle.iss_node.proofs.Inputs.ProposalRefines.{value-is}
-use Rattle.iss_node.proofs.Inputs.ChecksRefine.{leads-is}
-use Rattle.iss_node.proofs.Requests.RequestRefines.{moved}
+use Rattle.iss_node.proofs.Instances.ProposalRefines.{value-is}
+use Rattle.iss_node.proofs.Instances.ChecksRefine.{leads-is}
+use Rattle.iss_node.proofs.WaitingRequests.RequestRefines.{moved}
 use Rattle.iss_node.specs.Shape.{AreFrom, IsNodeState}
 use Rattle.iss_node.specs.State.{RefinesBareCore, RefinesPast, StateView, core_of, led, seen_early, seen_one}
 use Rattle.iss_node.specs.declared.answers.Early.{Early}

@@ -1,6 +1,6 @@
 use Rattle.std.proofs.Common.{◌∙◌, ◌++◌, ◌∷◌, [], ◌<◌, ◌≤◌, length, sym, ap, subst, arith}
 use Rattle.iss_model.specs.Node.{unchanged}
-use Rattle.iss_node.proofs.Inputs.ChecksRefine.{same-parts}
+use Rattle.iss_node.proofs.Instances.ChecksRefine.{same-parts}
 use Rattle.iss_node.proofs.Steps.OutcomesCompose.{nothing-made, nothing-sent}
 use Rattle.iss_node.proofs.Steps.QueriesAgree.{early-full, early-kept, early-parts, with-early}
 use Rattle.iss_node.specs.Shape.{IsNodeState}

@@ -1,8 +1,8 @@
 use Rattle.std.proofs.Common.{arith, rules, ◌≡◌, ◌∙◌, ◌++◌, ◌∷◌, [], ◌<◌, List, ap, sym, subst}
 use Rattle.std.proofs.lemmas.List.{append-nil}
-use Rattle.iss_node.proofs.Inputs.ChecksRefine.{later-refl, later-trans}
+use Rattle.iss_node.proofs.Instances.ChecksRefine.{later-refl, later-trans}
 use Rattle.iss_node.proofs.EpochEnd.NextEpochStarts.{empty}
-use Rattle.iss_node.proofs.Requests.RequestRefines.{whole-next}
+use Rattle.iss_node.proofs.WaitingRequests.RequestRefines.{whole-next}
 use Rattle.iss_node.proofs.EpochEnd.StepCompletes.{Owes, owes-first, owes-last, owes-next, owes-none}
 use Rattle.iss_node.specs.Shape.{AreFrom}
 use Rattle.iss_node.specs.declared.answers.Early.{Early}

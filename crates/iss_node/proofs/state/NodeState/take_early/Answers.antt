@@ -1,5 +1,5 @@
 use Rattle.std.proofs.Common.{◌∙◌, ap, subst, sym}
-use Rattle.iss_node.proofs.Inputs.ChecksRefine.{later-trans}
+use Rattle.iss_node.proofs.Instances.ChecksRefine.{later-trans}
 use Rattle.iss_node.proofs.EpochEnd.NextEpochStarts.{early-goes, early-stays}
 use Rattle.iss_node.specs.State.{StateView}
 use Rattle.iss_node.specs.Steps.{IsLater}
