@@ -55,6 +55,7 @@ Leads nodes o [] = o ≡ None
 Leads nodes o (k ∷ ks) = (n : Known) × (known_at nodes o ≡ Some n) × IsKept n k ks × Leads nodes n.above ks
 
 -- the code keeps these nodes, the newest first
+-- rule: HotStuff: A branch is what its nodes hold, even where a digest repeats
 pub record Keeps (t : Tree) (ks : List Node) : Type 0 where
   pub leads : (d : List ℕ) → Leads t.nodes.items (place t d) (path ks d)
   pub known : (d : List ℕ) → is_known ks d ≡ (is_some (place t d) || same_bytes d root)

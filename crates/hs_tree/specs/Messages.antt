@@ -95,6 +95,7 @@ pub record IsSpelledVote (phases phase view : ℕ) (d sig bytes : List ℕ) : Ty
   pub signed : is_signature sig ≡ true
   pub row : bytes ≡ vote_row phase view d sig
 
+-- rule: HotStuff: A message has one encoding for its number of phases and version
 abbrev pub IsSpelledMessage : ℕ → ℕ → Message → List ℕ → Type 0
 IsSpelledMessage phases version (NewView round high sig) bytes = IsSpelledNewView phases round high sig bytes
 IsSpelledMessage phases version (Prepare view what just sig) bytes = IsSpelledPrepare phases version view what just sig bytes

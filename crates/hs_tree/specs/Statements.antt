@@ -73,5 +73,6 @@ certificate_claims form p Root = []
 certificate_claims form p (Votes view phase d votes) = vote_claims (vote_statement form p phase view d) votes
 
 -- the votes of the certificate inside, then the message's own signature
+-- rule: HotStuff: A message claims the votes of its certificate, then its sender's signature
 abbrev pub claims : Form → Params → ℕ → Message → List Claim
 claims form p from msg = certificate_claims form p (inside msg) ++ claim from (own_statement form p msg) (signature_of msg) ∷ []

@@ -43,6 +43,7 @@ abbrev pub what_bytes : ℕ → Content → List ℕ
 what_bytes version what = kind_of what ∷ value_digest version (value_of what)
 
 -- a node that is proposed again in another view is the same node
+-- rule: HotStuff: A node's digest covers its parent, its kind and the digest of its value
 abbrev pub plain_string : ℕ → ℕ → List ℕ → Content → List ℕ
 plain_string version view parent what = 0x41 ∷ parent ++ what_bytes version what
 

@@ -20,6 +20,7 @@ fn value_digest(version: u8, what: &Content) -> [u8; 32]
 }
 
 /// The digest of the node with this content on a parent.
+// rule: HotStuff: A node's digest covers its parent, its kind and the digest of its value
 pub fn digest_of_node(version: u8, parent: &[u8; 32], what: &Content) -> [u8; 32]
     ensures { (view : ℕ) → result ≡ digest (plain_string version view parent.now what.now) }
 {

@@ -53,6 +53,7 @@ pub(crate) fn kind_of(what: &Content) -> u8
 }
 
 /// The string of the node with this content on a parent, by the digest of the content's value.
+// rule: HotStuff: A node's digest covers its parent, its kind and the digest of its value
 pub fn node_string(
     alloc: Global,
     version: u8,

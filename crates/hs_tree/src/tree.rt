@@ -184,6 +184,7 @@ impl Tree {
     }
 
     /// One node more, which stands on the newest of its parent's digest.
+    // rule: HotStuff: A branch is what its nodes hold, even where a digest repeats
     pub fn add(&mut self, digest: [u8; 32], parent: [u8; 32], what: Content) -> Result<(), NoMemory>
         ensures { OnOk result ((k : Node) (ks : List Node) → k.digest ≡ digest → k.parent ≡ parent → k.what ≡ what →
             Keeps self.old ks → Keeps self.new (k ∷ ks)) }

@@ -35,6 +35,7 @@ pub const VOTE: u8 = 6;
 
 /// Writes a message, where nodes pass so many phases: its number, its fields, its signature. One that has no spelling is
 /// written as bytes that no reader takes.
+// rule: HotStuff: A message has one encoding for its number of phases and version
 pub fn write(phases: u8, msg: &Message, out: &mut Writer) -> Result<(), NoMemory>
     ensures { OnOk result (out.new ≡ and_bytes out.old (spell phases out.old.version msg.now)) }
 {

@@ -74,6 +74,7 @@ impl Ballots {
 
     /// Counts a vote, unless its signature is invalid, its signer voted before, or the epoch has a certificate. If a
     /// quorum then agrees, the epoch gets its certificate. The only error is out of memory.
+    // rule: Checkpoints: The vote that completes a quorum gives the epoch's certificate; no later one does
     pub fn take(&mut self, vote: Vote) -> Result<Taking, NoMemory>
         ensures taken { IfOk result (λ t. (votes : List Voted) (certs : List Certificate) →
             AreKept self.old votes certs → IsTaken votes certs vote self.new t) }
@@ -88,6 +89,7 @@ impl Ballots {
     }
 
     /// Keeps a certificate, unless its epoch already has one. The only error is out of memory.
+    // rule: Checkpoints: Of each epoch the first certificate is kept, counted or adopted
     pub fn keep(&mut self, cert: Cert) -> Result<(), NoMemory>
         ensures kept { OnOk result ((votes : List Voted) (certs : List Certificate) → AreKept self.old votes certs →
             AreKept self.new votes (keeping certs cert (cert_on certs cert.epoch.0))) }

@@ -14,6 +14,7 @@ abbrev pub may_cast : Plan → ℕ → List ReqId → Request → Bool
 may_cast p owner marked q = is_node owner (bucket_owner p (bucket_of p q.id)) && not (has_id q.id marked)
 
 -- the first n requests that pass a test, and what they leave
+-- rule: Buckets: A batch takes the first waiting requests of the leader's buckets that are not marked
 abbrev pub cut : ℕ → (Request → Bool) → List Request → List Request
 cut n passes [] = []
 cut zero passes (q ∷ qs) = []
@@ -25,11 +26,14 @@ uncut zero passes (q ∷ qs) = q ∷ qs
 uncut (suc n) passes (q ∷ qs) = cond (passes q) (uncut n passes qs) (q ∷ uncut (suc n) passes qs)
 
 -- the requests whose identity is not among these
+-- rule: Buckets: A request that enters the log waits no more
 abbrev pub absent : List ReqId → List Request → List Request
 absent gone [] = []
 absent gone (q ∷ qs) = cond (has_id q.id gone) (absent gone qs) (q ∷ absent gone qs)
 
 -- no two of the requests have one identity, and none of them waits
+-- rule: Buckets: A request waits at most once, in order of arrival
+-- rule: Buckets: Requests that return wait behind all others
 abbrev pub AreNew : List Request → List Request → Type 0
 AreNew waiting [] = Unit {0}
 AreNew waiting (q ∷ qs) = (waits q.id waiting ≡ false) × AreNew (waiting ++ q ∷ []) qs

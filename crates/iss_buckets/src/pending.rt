@@ -63,6 +63,7 @@ impl Pending {
     }
 
     /// Puts a request at the end, unless its identity waits already.
+    // rule: Buckets: A request waits at most once, in order of arrival
     pub fn add(&mut self, request: Request) -> Result<Added, NoMemory>
         ensures known { (result ≡ Ok Added.Known) ↔ (waits request.id self.old ≡ true) }
         ensures known_same { result ≡ Ok Added.Known → self.new ≡ self.old }
@@ -78,6 +79,7 @@ impl Pending {
 
     /// Takes out the first `max` requests, in the order of arrival, whose bucket the owner owns and whose identity is
     /// not marked.
+    // rule: Buckets: A batch takes the first waiting requests of the leader's buckets that are not marked
     pub fn cut(
         &mut self,
         alloc: Global,
@@ -111,6 +113,7 @@ impl Pending {
     }
 
     /// Puts requests at the end, whose identities are all different and of which none waits.
+    // rule: Buckets: Requests that return wait behind all others
     pub fn put_back(&mut self, batch: &Batch) -> Result<(), NoMemory>
         requires { AreNew self.old batch.now }
         ensures { OnOk result (self.new ≡ self.old ++ batch.now) }
@@ -119,6 +122,7 @@ impl Pending {
     }
 
     /// Takes out the requests that have an identity of the batch.
+    // rule: Buckets: A request that enters the log waits no more
     pub fn drop_ordered(&mut self, batch: &Batch)
         ensures { self.new ≡ absent (ids batch.now) self.old }
     {

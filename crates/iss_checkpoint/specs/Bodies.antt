@@ -21,6 +21,7 @@ abbrev pub spell_vote : Vote → List ℕ
 spell_vote v = if fits v then vote_row v else no_vote
 
 -- the table as a relation between the votes of a node on an epoch and bytes
+-- rule: Checkpoints: A vote has one encoding in a packet's body: chain, count, signature
 pub record IsSpelledVote (by e : ℕ) (v : Vote) (bytes : List ℕ) : Type 0 where
   pub own : v.by.0 ≡ by
   pub epoch : v.epoch.0 ≡ e

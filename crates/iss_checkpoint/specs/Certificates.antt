@@ -23,6 +23,7 @@ spell_cert c = if cert_fits c then cert_row c else no_cert
 
 -- ---- the table as a relation between the certificates of an epoch and bytes
 
+-- rule: Checkpoints: A certificate has one encoding: chain, count, signers with their signatures
 pub record IsSpelledCert (e : ℕ) (c : Cert) (bytes : List ℕ) : Type 0 where
   pub epoch : c.epoch.0 ≡ e
   pub chain_fits : length c.chain ≡ 32

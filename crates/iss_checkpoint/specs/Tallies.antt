@@ -29,6 +29,7 @@ with_vote votes v k = if v.by.0 == k then Some v else vote_at votes k
 
 -- ---- why a vote is not counted, by the first cause that holds
 
+-- rule: Checkpoints: A tally refuses a vote for its first fault: other epoch, bad signature, repeated
 abbrev pub refusal : TallyState → Vote → Option Refusal
 refusal t v =
     if not (v.epoch.0 == t.epoch) then Some OtherEpoch
@@ -38,6 +39,7 @@ refusal t v =
 
 -- ---- a certificate of equal votes
 
+-- rule: Checkpoints: Two votes agree if their chains and counts are equal
 abbrev pub say_same : Vote → Vote → Bool
 say_same v w = (w.requests == v.requests) && same_bytes w.chain v.chain
 
@@ -67,6 +69,7 @@ pub record IsCounted (old : TallyState) (v : Vote) (new : TallyState) : Type 0 w
   pub others : new ≡ record old { votes = new.votes }
 
 -- the vote that makes its like a quorum gives their certificate; one that comes later gives none
+-- rule: Checkpoints: The vote that completes a quorum gives the epoch's certificate; no later one does
 abbrev pub IsAdded : TallyState → Vote → TallyState → Result Added NoMemory → Type 0
 IsAdded old v new (Ok Counted) = IsCounted old v new × (length (certificate new v).signers ≢ old.voters.quorum)
 IsAdded old v new (Ok (Stable c)) = IsCounted old v new × (length (certificate new v).signers ≡ old.voters.quorum) × (c ≡ certificate new v)

@@ -26,6 +26,7 @@ voters_of s d = voters_in s.tag s.n s.quorum d
 
 -- what a vote signs: an epoch, the chain of the log at its end, and how many requests that log holds. It stands where the
 -- statements of a leader 255 and a module 0 would, and there are none
+-- rule: Checkpoints: A vote signs the cluster, the epoch, the log's chain and its request count
 abbrev pub vote_statement : List ℕ → ℕ → List ℕ → ℕ → List ℕ
 vote_statement tag e chain number = head_of tag e 255 0 ++ (0 ∷ (chain ++ eight_bytes number))
 
@@ -45,6 +46,7 @@ are_signed w statement from [] = true
 are_signed w statement from (x ∷ xs) = nat_le from x.by.0 && (is_signed w statement x.by.0 x.sig && are_signed w statement (suc x.by.0) xs)
 
 -- whether a certificate has exactly a quorum of signers, ascending, each of whom signed what it says
+-- rule: Checkpoints: A certificate has exactly a quorum of strictly ascending signers who all signed it
 abbrev pub is_cert : Voters → Cert → Bool
 is_cert w c = (length c.signers == w.quorum) && are_signed w (cert_statement w c) 0 c.signers
 
@@ -62,6 +64,7 @@ pub record IsCert (w : Voters) (c : Cert) : Type 0 where
   pub signed : HaveSigned w (cert_statement w c) 0 c.signers
 
 -- a correct node is among the signers, and signed what the certificate says
+-- rule: Checkpoints: A certificate has a correct signer
 pub record HasCorrectSigner (s : Setup) (d : DirectoryView) (c : Cert) : Type 0 where
   pub signer : Signed
   pub among : In signer c.signers

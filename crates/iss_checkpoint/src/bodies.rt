@@ -33,6 +33,7 @@ fn put_row(vote: &Vote, out: &mut Writer) -> Result<(), NoMemory>
 }
 
 /// Writes a vote. One that has no spelling is written as bytes that no reader takes.
+// rule: Checkpoints: A vote has one encoding in a packet's body: chain, count, signature
 pub fn write_vote(vote: &Vote, out: &mut Writer) -> Result<(), NoMemory>
     ensures { OnOk result (out.new ≡ and_bytes out.old (spell_vote vote.now)) }
 {

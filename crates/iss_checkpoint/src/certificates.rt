@@ -32,6 +32,7 @@ fn put_row(cert: &Cert, out: &mut Writer) -> Result<(), NoMemory>
 }
 
 /// Writes a certificate. One that has no spelling is written as bytes that no reader takes.
+// rule: Checkpoints: A certificate has one encoding: chain, count, signers with their signatures
 pub fn write_cert(cert: &Cert, out: &mut Writer) -> Result<(), NoMemory>
     ensures { OnOk result (out.new ≡ and_bytes out.old (spell_cert cert.now)) }
 {

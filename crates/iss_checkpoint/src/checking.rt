@@ -44,6 +44,8 @@ fn are_signed(
 }
 
 /// Whether a certificate has exactly a quorum of signers, ascending, each of whom signed what it says.
+// rule: Checkpoints: A certificate has exactly a quorum of strictly ascending signers who all signed it
+// rule: Checkpoints: A certificate has a correct signer
 pub fn check(setup: &Setup, directory: &Directory, cert: &Cert) -> bool
     ensures { result ≡ is_cert (voters_of setup.now directory.now) cert.now }
 {

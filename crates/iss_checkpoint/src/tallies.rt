@@ -71,6 +71,7 @@ impl Tally {
     }
 
     /// Counts a vote, unless a cause refuses it. The vote that makes its like a quorum gives their certificate.
+    // rule: Checkpoints: The vote that completes a quorum gives the epoch's certificate; no later one does
     pub fn add(&mut self, vote: Vote) -> Result<Added, NoMemory>
         ensures added { IsAdded self.old vote self.new result }
         ensures checked { IsChecked self.old.voters result }
@@ -88,6 +89,7 @@ impl Tally {
     }
 
     // The first cause that refuses a vote.
+    // rule: Checkpoints: A tally refuses a vote for its first fault: other epoch, bad signature, repeated
     fn refusal(&self, vote: &Vote) -> Option<Refusal>
         ensures { result ≡ refusal self.now vote.now }
     {
@@ -188,6 +190,7 @@ impl Tally {
 }
 
 // Whether two votes say the same.
+// rule: Checkpoints: Two votes agree if their chains and counts are equal
 fn say_same(vote: &Vote, other: &Vote) -> bool
     ensures { result ≡ say_same vote.now other.now }
 {

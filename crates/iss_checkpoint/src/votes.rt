@@ -48,6 +48,7 @@ fn word(chain: &[u8; 32], requests: u64) -> [u8; 40]
 }
 
 /// What a vote signs: the cluster, the epoch, no leader and no module, the chain and the count. It takes no memory.
+// rule: Checkpoints: A vote signs the cluster, the epoch, the log's chain and its request count
 pub fn vote_statement(tag: &[u8; 32], epoch: u64, chain: &[u8; 32], requests: u64) -> [u8; 83]
     ensures { result ≡ vote_statement tag.now epoch chain.now requests }
 {

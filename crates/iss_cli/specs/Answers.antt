@@ -89,6 +89,7 @@ Ends words left held held_now Collision = (answer : Answer)
     × (IsAnswered words left answer × Prints answer held held_now Collision)
 
 -- The statuses of an answer that is printed whole.
+-- rule: Program: Each exit status comes exactly where its cause does
 abbrev pub IsAnswerStatus : Status → Type 0
 IsAnswerStatus Done = Unit {0}
 IsAnswerStatus RefusedWords = Unit {0}

@@ -3,6 +3,7 @@ use Rattle.std.specs.Prelude.{◌≡◌, ◌⊎◌, ℕ, ◌≤◌, Option, None
 pub use Rattle.iss_base.specs.Counts.{Rose}
 
 -- A failure was counted. The count never falls, and it changes only if something failed.
+-- rule: Program: A failure is reported only where the source or the sink counted one
 pub record HasCause (before now : ℕ) (failed : Type 0) : Type 0 where
   pub never_falls : before ≤ now
   pub rose : failed → Rose before now
@@ -25,6 +26,7 @@ Takes n None left_now slice slice_now = left_now ≡ None
 Takes n (Some left) left_now slice slice_now = Taken n left left_now slice slice_now
 
 -- At most `most` of the remaining bytes were read.
+-- rule: Program: The input is read to its end, at most one byte past the limit
 abbrev pub Drains : ℕ → Option (List ℕ) → Option (List ℕ) → Type 0
 Drains most None left_now = left_now ≡ None
 Drains most (Some left) left_now = (n : ℕ) × (n ≤ most) × (left_now ≡ Some (drop n left))

@@ -22,6 +22,7 @@ pub record Under (number : ℕ) (Holds : (Msg : Type 0) → Module Msg → Type 
   pub of_hotstuff : number ≡ hotstuff.tag → Holds _ hotstuff
 
 -- The status of a run.
+-- rule: Program: A run that ends with evidence exits with 6 or 7, and reports the logs before it
 abbrev pub status_of : Option (ℕ × End) → Status
 status_of None = Done
 status_of (Some (event, Forged claim)) = Status_forged

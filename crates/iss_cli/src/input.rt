@@ -8,6 +8,7 @@ use std::alloc::Global;
 
 /// Reads the rest of a source, but at most `most` bytes, `piece` bytes at a time. Fails if the source fails, or if
 /// memory runs out.
+// rule: Program: The input is read to its end, at most one byte past the limit
 pub fn read_up_to<I: Source>(
     alloc: Global,
     input: &mut I,

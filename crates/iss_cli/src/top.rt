@@ -35,6 +35,7 @@ const PIECE: usize = 65_536;
 /// For every schedule the headline holds (`promised`, see `one_log`).
 ///
 /// Errors are detected in the order words, source, input, sink. Memory may run out at any point.
+// rule: Program: Each exit status comes exactly where its cause does
 pub fn run<I: Source, O: Sink>(
     alloc: Global,
     words: &[String],

@@ -3,6 +3,7 @@ use Rattle.std.specs.Prelude.{◌≡◌, ℕ, List}
 use Rattle.iss_sb.specs.declared.effects.Params.{Params}
 
 -- the instance of a module with these parameters is the one in that cluster (by its digest), epoch and leader, of that tag
+-- rule: Signatures: A statement belongs to one instance: one cluster, epoch, leader and module
 pub record IsInstance (p : Params) (mark : ℕ) (domain : List ℕ) (e l tag : ℕ) : Type 0 where
   pub cluster : domain ≡ p.setup.tag
   pub epoch : e ≡ p.epoch.0

@@ -22,6 +22,7 @@ is_written (write ∷ writes) i = (nat_le write.0 i && nat_lt i (write.0 + lengt
 
 -- A crash may leave these bytes: each range written since the last sync, and what lies behind the old end, may hold
 -- anything. Other bytes stand as they were kept.
+-- rule: Disk: A crash may change only bytes written since the last sync
 pub record Image (file : File) (bytes : List ℕ) : Type 0 where
   pub long_enough : file.shortest ≤ length bytes
   pub short_enough : length bytes ≤ file.longest

@@ -37,6 +37,7 @@ pub record ClosesAfter (entries : List (List ℕ)) (file : List ℕ) : Type 0 wh
   pub short : AreShort entries
 
 -- entries, and then at this offset an open gate behind which no whole entry stands
+-- rule: Journal: A file without a reading is damaged, at the offset of its gate
 pub record BreaksAt (at : ℕ) (file : List ℕ) : Type 0 where
   pub entries : List (List ℕ)
   pub rest : List ℕ
@@ -51,6 +52,7 @@ pub data Reading : Type 0 where
   damaged : ℕ → Reading
 
 -- A file of at most one byte is an empty journal. Of any other exactly one of these readings is right.
+-- rule: Journal: Attaching reads entries up to the first closed gate, and cuts off the rest
 abbrev pub Reads : List ℕ → Reading → Type 0
 Reads file (holds entries) = ((length file ≤ 1) × (entries ≡ [])) ⊎ ((1 < length file) × ClosesAfter entries file)
 Reads file (damaged at) = (1 < length file) × BreaksAt at file

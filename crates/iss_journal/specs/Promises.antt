@@ -14,6 +14,7 @@ LeavesOnly P [] new = new ≡ []
 LeavesOnly P (file ∷ past) new = (added : List File) × (new ≡ added ++ file ∷ past) × OnlyLeaves P file × EachState (OnlyLeaves P) added
 
 -- the file holds these entries, or these and one more
+-- rule: Journal: An append writes its entry, syncs, opens the gate, and syncs
 abbrev pub HoldsWithOrWithout : List (List ℕ) → List ℕ → List ℕ → Type 0
 HoldsWithOrWithout entries entry bytes = Reads bytes (holds entries) ⊎ Reads bytes (holds (entries ++ entry ∷ []))
 

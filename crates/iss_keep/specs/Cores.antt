@@ -31,10 +31,12 @@ abbrev pub core_from : {Msg : Type 0} → Setup → Module Msg → ℕ → List 
 core_from s m me [] c = Some c
 core_from s m me (entry ∷ entries) c = from_core (core_with s m me c (event_in s.n entry)) (core_from s m me entries)
 
+-- rule: Persistence: A reopened node is that of its entries, with its next leaf
 abbrev pub core_of : {Msg : Type 0} → Setup → Module Msg → ℕ → List (List ℕ) → Option (Core Msg)
 core_of s m me entries = core_from s m me entries initial_core
 
 -- The first entry that does not decode, or that the node would drop at that point. `at` is the byte offset of its gate.
+-- rule: Persistence: An entry that is no event of its node is damage, at the offset of its gate
 pub record StopsAt {Msg : Type 0} (s : Setup) (m : Module Msg) (me : ℕ) (at : ℕ)
     (entries : List (List ℕ)) : Type 0 where
   pub front : List (List ℕ)

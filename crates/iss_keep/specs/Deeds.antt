@@ -24,5 +24,6 @@ abbrev pub deeds_on : {Msg : Type 0} → Setup → Module Msg → ℕ → List (
 deeds_on s m me [] done = done
 deeds_on s m me (entry ∷ entries) done = did_with s m me (event_in s.n entry) done (deeds_on s m me entries)
 
+-- rule: Persistence: No leaf signs two statements, over all restarts
 abbrev pub deeds_of : {Msg : Type 0} → Setup → Module Msg → ℕ → List (List ℕ) → List (Deed Msg)
 deeds_of s m me entries = deeds_on s m me entries []

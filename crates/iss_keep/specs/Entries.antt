@@ -30,6 +30,7 @@ NamesNode n Propose = Unit {0}
 NamesNode n (Timeout leader) = leader.0 < n
 NamesNode n (AskFrom peer) = peer.0 < n
 
+-- rule: Persistence: An event has one entry, and an entry encodes at most one event
 abbrev pub IsEntryOf : ℕ → List ℕ → NodeEvent → Type 0
 IsEntryOf n entry event = (entry ≡ spell_event event) × NamesNode n event
 

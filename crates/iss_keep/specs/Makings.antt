@@ -36,6 +36,7 @@ abbrev pub makings_of : {Msg : Type 0} → Setup → Module Msg → ℕ → List
 makings_of s m me entries = makings_from s m me entries initial_core
 
 -- The ranges of leaves are disjoint and ascending, and none begins below `leaf`.
+-- rule: Persistence: No leaf is used by two entries, over all restarts
 abbrev pub AreApart : {Msg : Type 0} → ℕ → List (Making Msg) → Type 0
 AreApart leaf [] = Unit {0}
 AreApart leaf (x ∷ xs) = (leaf ≤ x.first) × (x.first ≤ x.turn.core.leaf) × AreApart x.turn.core.leaf xs

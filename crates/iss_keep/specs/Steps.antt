@@ -81,6 +81,7 @@ sight history passes faults current files disk =
     }
 
 -- The journal's entries after this answer to an event with this entry.
+-- rule: Persistence: A dropped event changes nothing and is not kept
 abbrev pub entries_after : List (List ℕ) → List ℕ → Answer → List (List ℕ)
 entries_after entries entry (Taken outcome) = entries ++ entry ∷ []
 entries_after entries entry (Dropped why) = entries
@@ -91,6 +92,7 @@ entries_after entries entry NoMemory = entries
 -- A crash at any moment of a write leaves the entries, with or without the new one. After `Taken`, every crash image
 -- holds the new entry. After `Failed`, the synced part of the file holds the entries without it. No other answer writes
 -- to the file.
+-- rule: Persistence: An event is kept before its outcome is handed out
 abbrev pub Writes : List (List ℕ) → List ℕ → List File → List File → Answer → Type 0
 Writes entries entry before now (Taken outcome) =
     LeavesOnly (HoldsWithOrWithout entries entry) before now
@@ -110,6 +112,7 @@ Calls before now Stale = now ≡ before
 Calls before now NoMemory = now ≡ before
 
 -- The journal and its disk after an answer to an event with this entry. `later` is the journal's new entries.
+-- rule: Persistence: Room for the entry is reserved before the node steps
 pub record IsWritten (entries : List (List ℕ)) (entry : List ℕ) (before now : Sight) (later : List (List ℕ))
     (answer : Answer) : Type 0 where
   pub added : later ≡ entries_after entries entry answer
@@ -143,6 +146,7 @@ IsDamaged s m me entries before at =
 -- ---- what does not change
 
 -- The node reports the same log and epoch as before.
+-- rule: Persistence: A stale node takes nothing and shows the log and epoch from before
 pub record ShowsAsBefore {M Msg D : Type 0} (old new : KeptState M Msg D) : Type 0 where
   pub log : new.node.state.log.entries ≡ old.node.state.log.entries
   pub epoch : new.node.state.epoch ≡ old.node.state.epoch

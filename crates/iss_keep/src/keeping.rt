@@ -83,6 +83,8 @@ fn append_event<D: Disk>(journal: &mut Journal<D>, event: &NodeEvent) -> Result<
 
 // Appends the entry of an accepted event. If that fails, the node retreats to its earlier log (of `slots` slots) and
 // `epoch`.
+// rule: Recovery: An event takes four disk calls, and is kept only if all four pass
+// rule: Persistence: An event is kept before its outcome is handed out
 #[inline(always)]
 fn append_or_retreat<M: Sequenced, D: Disk>(
     node: &mut Node<M>,
@@ -120,6 +122,7 @@ fn append_or_retreat<M: Sequenced, D: Disk>(
 
 // Applies `event`. If the node accepted it, appends `copy` (the same event) to the journal. The node's answer is left
 // in `made`.
+// rule: Persistence: A dropped event changes nothing and is not kept
 #[inline(always)]
 fn apply_then_append<M: Sequenced, D: Disk>(
     alloc: Global,
@@ -155,6 +158,7 @@ fn apply_then_append<M: Sequenced, D: Disk>(
 /// Reserves room for the entry, applies `event`, and appends the entry if the node accepted the event. Room comes
 /// first: an accepted event must not fail for memory. The node consumes the event, so the entry is made from a copy.
 /// The node's answer is large; it is left in `made`, to be moved only once.
+// rule: Persistence: Room for the entry is reserved before the node steps
 #[inline(always)]
 pub(crate) fn journal_and_apply<M: Sequenced, D: Disk>(
     alloc: Global,

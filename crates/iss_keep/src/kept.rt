@@ -83,6 +83,7 @@ impl<M: Sequenced, D: Disk> Kept<M, D> {
     /// Takes an event: reserves room for its entry, steps the node, appends the entry if the event was accepted, and
     /// only then releases the outcome. Answers `Stale` if and only if the node has to be reopened. An ask is never
     /// dropped; if its peer does not exist, `reopen` will report its entry as damage.
+    // rule: Persistence: A stale node takes nothing and shows the log and epoch from before
     pub fn take(&mut self, event: NodeEvent) -> Answer
         ensures answer { (c : Core M.Msg) → KeptRefinesCore M.spec M.refines self.old c → IsAnswer M.spec M.refines
             (IsOfNodes self.old.setup.n event) self.old c

@@ -15,6 +15,7 @@ abbrev pub chain_start : List ℕ → ℕ → ℕ → List ℕ
 chain_start secret q i = sha256 (0x10 ∷ secret ++ to_be_bytes w32 q ++ to_be_bytes w16 i)
 
 -- step j of chain i of leaf q, from x
+-- rule: Signatures: A step of a hash chain hashes its leaf, chain and step with the value before
 abbrev pub chain_step : ℕ → ℕ → ℕ → List ℕ → List ℕ
 chain_step q i j x = sha256 (0x11 ∷ to_be_bytes w32 q ++ to_be_bytes w16 i ++ j ∷ [] ++ x)
 
@@ -50,6 +51,7 @@ abbrev pub checksum : List ℕ → ℕ
 checksum m = sum_below (λ k. 15 - nibble m k) 64
 
 -- digit i of a digest: its own 64, and then the three of its checksum, the high one first
+-- rule: Signatures: A leaf signs the digits of a statement's digest and of their checksum
 unfoldable pub digit : List ℕ → ℕ → ℕ
 digit m i =
     if nat_lt i 64 then nibble m i

@@ -9,6 +9,7 @@ pub record KeyState : Type 0 where
   pub used : ℕ
 
 -- how many leaves are left
+-- rule: Signatures: A key signs with its least unused leaf
 abbrev pub left_of : KeyState → ℕ
 left_of k = 2 ^ k.height - k.used
 

@@ -42,6 +42,7 @@ abbrev pub root_from : List ℕ → List ℕ → ℕ → List ℕ
 root_from s sig h = part_root (leaf_number sig) (statement_digest s) (drop 5 sig) h
 
 -- sig is a signature of statement s under the public key of this root and height
+-- rule: Signatures: A signature verifies if its chains and its path lead to the root of the key
 pub record Verifies (root : List ℕ) (h : ℕ) (s sig : List ℕ) : Type 0 where
   pub exact : length sig ≡ 2149 + 32 * h
   pub height : slice_index sig 0 ≡ h

@@ -8,6 +8,7 @@ abbrev pub inner : List ℕ → List ℕ → List ℕ
 inner left right = sha256 (0x13 ∷ left ++ right)
 
 -- node p of level k, from the left: level 0 has the leaves
+-- rule: Signatures: A hash tree over the leaves gives the root that is the public key
 unfoldable pub node : List ℕ → ℕ → ℕ → List ℕ
 node secret zero p = leaf_value secret p
 node secret (suc k) p = inner (node secret k (2 * p)) (node secret k (2 * p + 1))

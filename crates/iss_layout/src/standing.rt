@@ -77,6 +77,7 @@ impl Standing {
     }
 
     // Whether a node is among the at most f whose greatest slots that became nil are the greatest.
+    // rule: Layout: The blacklist leaves out the at most f nodes with the greatest nil slots
     fn is_listed(&self, setup: &Setup, node: NodeId) -> bool
         requires good { IsGoodSetup setup.now }
         requires node { node.0 < setup.now.n }
@@ -152,6 +153,7 @@ fn doubled(weight: u32) -> u32
 }
 
 // What is known of a node after an epoch, by whether it led and by the greatest slot that became nil under it there.
+// rule: Layout: A leader with a nil slot is banned for its weight, which doubles up to 64; else it loses one
 fn changed(known: Record, led: bool, worst: Option<Slot>) -> Record
     ensures { shown result ≡ changed (shown known) led (behind worst) }
 {

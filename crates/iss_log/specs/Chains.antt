@@ -22,6 +22,7 @@ abbrev pub strings_of : ℕ → List ℕ → Value → List (List ℕ)
 strings_of version before v = value_string version v ∷ value_link version before v ∷ []
 
 -- values in the order of their slots behind a chain, and all that is hashed for them
+-- rule: Log: The chain of a log links the digest of each value, also of nil, to the chain before it
 abbrev pub chain_from : ℕ → List ℕ → List Value → List ℕ
 chain_from version before [] = before
 chain_from version before (v ∷ vs) = chain_from version (linked version before v) vs
@@ -34,6 +35,7 @@ abbrev pub chain_of : ℕ → List Value → List ℕ
 chain_of version log = chain_from version (digest []) log
 
 -- what stands for a log, and for one value more
+-- rule: Log: The end of a log counts requests, not slots
 abbrev pub end_of : ℕ → List Value → End
 end_of version log = record { chain = chain_of version log; requests = requests log }
 

@@ -26,6 +26,7 @@ abbrev pub value_at : LogState → ℕ → Option Value
 value_at l s = first_of (slice_get l.entries s) (ahead_at l.ahead s)
 
 -- the number of the first request of a slot, nothing past the log: as many requests stand before it
+-- rule: Log: A request's number is the sum of earlier batch sizes plus its place; nil counts 0
 abbrev pub first_number_of : List Value → ℕ → Option ℕ
 first_number_of entries s = if nat_lt s (length entries) then Some (requests (take s entries)) else None
 
@@ -45,6 +46,7 @@ pub record IsAlready (old : LogState) (slot : ℕ) (new : LogState) : Type 0 whe
   pub same : new ≡ old
 
 -- what filling a slot does, by its answer
+-- rule: Log: A slot is filled once
 abbrev pub IsFill : LogState → ℕ → Value → LogState → Result Fill NoMemory → Type 0
 IsFill old slot value new (Ok Filled) = IsFilled old slot value new
 IsFill old slot value new (Ok Already) = IsAlready old slot new

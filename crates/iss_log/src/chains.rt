@@ -122,6 +122,8 @@ fn digest_of(directory: &Directory, string: &Bytes) -> [u8; 32]
 
 /// What stands for a log and one value more. The strings that are hashed for it are put behind others: the value's and the link's.
 /// Want of memory comes also where the number of requests would pass 2^64 - 1.
+// rule: Log: The chain of a log links the digest of each value, also of nil, to the chain before it
+// rule: Log: The end of a log counts requests, not slots
 pub fn link(
     alloc: Global,
     directory: &Directory,

@@ -56,6 +56,7 @@ impl Log {
     }
 
     /// Puts a value in an empty slot. It joins the log at the next `advance` that reaches it.
+    // rule: Log: A slot is filled once
     pub fn fill(&mut self, slot: Slot, value: Value) -> Result<Fill, NoMemory>
         ensures { IsFill self.old slot.0 value self.new result }
     {
@@ -71,6 +72,7 @@ impl Log {
 
     /// Takes into the log all that follows it without a gap. Want of memory comes also where the number of requests
     /// would pass 2^64 - 1. What stood in the log before still does then, in front.
+    // rule: Log: The log is the longest run of filled slots from slot 0
     pub fn advance(&mut self) -> Result<Joined, NoMemory>
         ensures ok { IfOk result (λ joined. IsAdvanced self.old self.new joined.slots) }
         ensures err { OnErr result (GoesOn self.old.entries self.new.entries) }
@@ -99,6 +101,7 @@ impl Log {
     }
 
     /// The number of the first request of a slot's value, `None` past the log.
+    // rule: Log: A request's number is the sum of earlier batch sizes plus its place; nil counts 0
     pub fn first_number(&self, slot: Slot) -> Option<u64>
         ensures { result ≡ first_number_of self.now.entries slot.0 }
     {

@@ -56,6 +56,7 @@ with_disks w behind d = record { machines = record { held = d.held; disks = disk
 
 -- The disk fails before the event is kept: what came was read and may be forged, but nothing that the step made is handed out, and
 -- the core is as it was.
+-- rule: Recovery: An event that is not kept is lost (`Stopped`), and the core is as it was before
 abbrev pub stops : {Msg : Type 0} → Option Claim → Machines Msg → ℕ → Upshot Msg
 stops None w c = machines_lost (with_disk w c (fails (w.disks c))) Stopped
 stops (Some claim) w c = record { machines = w; lost = None; ended = Some (Forged claim) }
@@ -69,6 +70,7 @@ by_step s F R M w c event (Taken turn) =
     (stops (first_forged s R w.held.signed (claims_at F R M (node_of s c) (w.held.net.cores c) event)) w c)
 
 -- core c takes an event; where its disk has failed nothing is read
+-- rule: Recovery: A core whose disk has failed takes and reads nothing until it recovers
 abbrev pub at_machine : {Msg : Type 0} → Setup → Formats Msg → Rules → Module Msg → Machines Msg → ℕ → NodeEvent → Upshot Msg
 at_machine s F R M w c event =
     cond (w.disks c).failed
@@ -88,6 +90,7 @@ core_of F R M me (event ∷ older) =
 
 -- Core c is made anew of what its disk keeps. It sends nothing of that again; what waits for it waits on, and pumps that passed over
 -- it still do.
+-- rule: Recovery: A recovered core is that of its kept events; it sends nothing and its packets still wait
 abbrev pub recover : {Msg : Type 0} → Setup → Formats Msg → Rules → Module Msg → Machines Msg → ℕ → Machines Msg
 recover s F R M w c =
     record {
@@ -107,10 +110,12 @@ unless None d more = more d.machines
 unless (Some end) d more = d
 
 -- packet k is taken by its core, and waits no more
+-- rule: Recovery: A missing packet is reported before the disk is asked
 abbrev pub delivered_to : {Msg : Type 0} → Setup → Formats Msg → Rules → Module Msg → Machines Msg → ℕ → Option Sent → Upshot Msg
 delivered_to s F R M w k None = machines_lost w NoPacket
 delivered_to s F R M w k (Some p) = at_machine s F R M (with_packets w (settled w.held.net.network k)) p.to (On_packet p.bytes)
 
+-- rule: Network: A delivered packet is taken by its core, whether or not it still waits
 abbrev pub delivers : {Msg : Type 0} → Setup → Formats Msg → Rules → Module Msg → Machines Msg → ℕ → Upshot Msg
 delivers s F R M w k = delivered_to s F R M w k (nth w.held.net.network.packets k)
 
@@ -126,12 +131,14 @@ abbrev pub pumps : {Msg : Type 0} → Setup → Formats Msg → Rules → Module
 pumps s F R M w = delivers_each s F R M (due w.held.net.network) w
 
 -- so many pumps; a pump that finds nothing changes nothing
+-- rule: Network: A calm is n pumps, fewer if one finds nothing or ends the run
 abbrev pub calms : {Msg : Type 0} → Setup → Formats Msg → Rules → Module Msg → ℕ → Machines Msg → Upshot Msg
 calms s F R M zero w = machines_done w
 calms s F R M (suc m) w =
     let d = pumps s F R M w in
     unless d.ended d (calms s F R M m)
 
+-- rule: Network: A lost packet waits no more
 abbrev pub loses : {Msg : Type 0} → Machines Msg → ℕ → Option Sent → Upshot Msg
 loses w k None = machines_lost w NoPacket
 loses w k (Some p) = machines_done (with_packets w (settled w.held.net.network k))

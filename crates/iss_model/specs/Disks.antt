@@ -19,6 +19,7 @@ abbrev pub entry_calls : ℕ
 entry_calls = 4
 
 -- whether the next event is kept, and the calls that are left behind it
+-- rule: Recovery: An event takes four disk calls, and is kept only if all four pass
 abbrev pub may_keep : Option ℕ → Bool
 may_keep None = true
 may_keep (Some calls) = nat_le entry_calls calls
@@ -35,6 +36,7 @@ abbrev pub fails : Disk → Disk
 fails d = record { kept = d.kept; passes = Some 0; failed = true }
 
 -- so many calls pass from now on; a disk that has failed stays one that has
+-- rule: Recovery: After a crash n more disk calls of a core pass, and all others fail until it recovers
 abbrev pub fused : Disk → ℕ → Disk
 fused d calls = record { kept = d.kept; passes = Some calls; failed = d.failed }
 

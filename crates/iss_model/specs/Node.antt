@@ -80,6 +80,7 @@ abbrev pub joined : ℕ → List Value → List Value
 joined n log = take (length log - n) log
 
 -- what was cast in slots that became nil, in the order of the casts
+-- rule: Epochs: Requests proposed in a slot that became nil wait again, unless they are ordered
 abbrev pub returned : List Value → List (Slot × Batch) → List Request
 returned log [] = []
 returned log (x ∷ xs) = cond (is_nil_at log x.0.0) (x.1 ++ returned log xs) (returned log xs)
@@ -113,6 +114,7 @@ abbrev pub only_by : ℕ → List Claim → List Claim
 only_by i [] = []
 only_by i (c ∷ cs) = cond (c.by.0 == i) (c ∷ only_by i cs) (only_by i cs)
 
+-- rule: Evidence: An outcome lists the node's own claims in all that it sends
 abbrev pub own_claims : {Msg : Type 0} → Module Msg → Params → ℕ → List (To × Msg) → List Claim
 own_claims M p i [] = []
 own_claims M p i (x ∷ xs) = only_by i (M.claims p i x.1) ++ own_claims M p i xs
@@ -134,6 +136,7 @@ by_verdict None turn = Taken turn
 by_verdict (Some x) turn = Dropped (Refused x)
 
 -- one leaf is kept for the vote at an epoch's end
+-- rule: Acceptance: A node keeps one leaf back for its vote at the end of the epoch
 abbrev pub has_leaves : {Msg : Type 0} → Module Msg → Params → ℕ → Bool
 has_leaves M p leaf = not (nat_lt (left_of (record { secret = []; height = p.setup.keys; used = leaf })) (suc (M.signs p)))
 
@@ -144,6 +147,7 @@ claims_of_input M p (Receive from msg) = M.claims p from.0 msg
 claims_of_input M p Timeout = []
 
 -- an input in the instance of leader l, where it leads, what it claims verifies, keys are left and the judge agrees
+-- rule: Acceptance: An instance takes an input if it leads, its claims verify, leaves are left, no refusal
 abbrev pub try_step : {Msg : Type 0} → Formats Msg → Rules → Module Msg → ℕ → Core Msg → ℕ → Input Msg → Stepped Msg
 try_step F R M me c l input =
     cond (not (leads_in R M me c.past l)) (Dropped NotLeader)
@@ -182,6 +186,7 @@ vote_on R M me c =
     }
 
 -- a node that ends its epoch votes, and the next one begins
+-- rule: Checkpoints: A node whose log ends an epoch votes to all on the log's chain and request count
 abbrev pub ends : {Msg : Type 0} → Formats Msg → Rules → Module Msg → ℕ → Core Msg → Turn Msg
 ends F R M me c =
     let v = vote_on R M me c in
@@ -202,18 +207,21 @@ or_unchanged c (Dropped why) = unchanged c
 or_unchanged c (Taken turn) = turn
 
 -- an early message, as if it came now; one that is refused is gone, but its claims were read
+-- rule: Evidence: The claims of an early message are read even where the message is then refused
 abbrev pub takes_early : {Msg : Type 0} → Formats Msg → Rules → Module Msg → ℕ → Core Msg → Early Msg → Turn Msg
 takes_early F R M me c x =
     let t = ended F R M me (or_unchanged c (try_step F R M me c x.leader (Receive (record { 0 = x.from }) x.msg))) in
     record t { early = claims_in R M me c.past x.from x.leader x.msg }
 
 -- all of them in turn, as long as epoch e lasts
+-- rule: Epochs: Early messages are taken once each, in order of arrival, while their epoch lasts
 abbrev pub takes_each : {Msg : Type 0} → Formats Msg → Rules → Module Msg → ℕ → ℕ → List (Early Msg) → Core Msg → Turn Msg
 takes_each F R M me e [] c = unchanged c
 takes_each F R M me e (x ∷ xs) c =
     cond (c.past.epoch == e) (then_turn (takes_early F R M me c x) (takes_each F R M me e xs)) (unchanged c)
 
 -- where a turn fills the epoch, the node votes, and the next one begins with what came early for it
+-- rule: Epochs: An epoch ends when the log holds all of it, and the next begins with fresh instances
 abbrev pub advance_epochs : {Msg : Type 0} → Formats Msg → Rules → Module Msg → ℕ → Turn Msg → Turn Msg
 advance_epochs F R M me t =
     cond (is_complete R M me t.core.past)
@@ -233,6 +241,8 @@ flown (x ∷ xs) = ids x.1 ++ flown xs
 abbrev pub is_known : {Msg : Type 0} → Rules → Module Msg → ℕ → Core Msg → ReqId → Bool
 is_known R M me c x = has_id x (ids c.waiting) || (has_id x (flown c.flight) || has_id x (log_ids (log_of R M me c.past)))
 
+-- rule: Acceptance: A request that its client did not sign is dropped before any other test
+-- rule: Acceptance: A request is taken inside its window, if not waiting, in flight or ordered
 abbrev pub takes_request : {Msg : Type 0} → Rules → Module Msg → ℕ → Core Msg → Request → Stepped Msg
 takes_request R M me c q =
     cond (not (R.signed q)) (Dropped BadRequest)
@@ -244,6 +254,7 @@ takes_request R M me c q =
 abbrev pub early_most : ℕ
 early_most = 256
 
+-- rule: Epochs: A message of the next epoch is kept for it, up to a fixed number of them
 abbrev pub keeps_early : {Msg : Type 0} → Core Msg → Early Msg → Stepped Msg
 keeps_early c x = cond (nat_lt (length c.early) early_most) (Taken (unchanged (record c { early = c.early ++ x ∷ [] }))) (Dropped EarlyFull)
 
@@ -263,6 +274,7 @@ counted R c v = record c { votes = v ∷ c.votes; certs = stable R (v ∷ c.vote
 abbrev pub is_counted : {Msg : Type 0} → Core Msg → Vote → Bool
 is_counted c v = is_some (cert_on c.certs v.epoch.0) || is_some (vote_by c.votes v.epoch.0 v.by.0)
 
+-- rule: Checkpoints: A node drops a vote that is far ahead, unverified or known, and counts any other
 abbrev pub takes_vote : {Msg : Type 0} → Rules → Core Msg → Vote → Stepped Msg
 takes_vote R c v =
     cond (nat_lt (suc c.past.epoch) v.epoch.0) (Dropped OtherEpoch)
@@ -289,6 +301,7 @@ handing F R M me c to e cert =
     }
 
 -- the node hands out an epoch, where it keeps its certificate and holds all of it
+-- rule: Transfer: An ask is answered to the asker alone, if the node has the epoch and its certificate
 abbrev pub hands_out : {Msg : Type 0} → Formats Msg → Rules → Module Msg → ℕ → Core Msg → ℕ → ℕ → Option Cert → Stepped Msg
 hands_out F R M me c to e None = Dropped NoCert
 hands_out F R M me c to e (Some cert) =
@@ -297,6 +310,7 @@ hands_out F R M me c to e (Some cert) =
     (Taken (handing F R M me c to e cert))
 
 -- the node asks another for its own epoch
+-- rule: Network: An ask goes to each core of the node that is asked, for the asker's own epoch
 abbrev pub asking : {Msg : Type 0} → Formats Msg → ℕ → Core Msg → NodeId → Turn Msg
 asking F me c peer =
     record {
@@ -330,6 +344,7 @@ adopts_piece R M me c p =
       strings = R.hashes before p.values ++ grown_strings R (log_of R M me c.past) (log_of R M me past);
     }
 
+-- rule: Transfer: An adopted piece of the own epoch fills the empty slots and ends the epoch without a vote
 abbrev pub takes_piece : {Msg : Type 0} → Formats Msg → Rules → Module Msg → ℕ → Core Msg → Sent_piece → Stepped Msg
 takes_piece F R M me c p =
     let e = c.past.epoch in
@@ -372,6 +387,7 @@ first_slot p [] = None
 first_slot p (s ∷ ss) = cond (p s) (Some s) (first_slot p ss)
 
 -- the first of them that the log does not hold
+-- rule: Buckets: A leader proposes at its least slot that is neither proposed nor filled
 abbrev pub next_slot : {Msg : Type 0} → Rules → Module Msg → ℕ → Core Msg → Option Slot
 next_slot R M me c =
     let p = params_of R M me c.past me in

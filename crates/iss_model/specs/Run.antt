@@ -31,6 +31,7 @@ abbrev pub number_at : Option NodeId → ℕ
 number_at None = 0
 number_at (Some k) = k.0
 
+-- rule: Runs: A faulty node runs as two cores with the same keys
 abbrev pub node_of : Setup → ℕ → ℕ
 node_of s c = cond (nat_lt c s.n) c (number_at (nth s.faulty (c - s.n)))
 
@@ -64,6 +65,7 @@ abbrev pub with_network : {Msg : Type 0} → Held Msg → Network → Held Msg
 with_network h network = record { net = record { cores = h.net.cores; network = network }; signed = h.signed; hashed = h.hashed }
 
 -- a send to all makes a packet for each core, ascending; a send to a node one for each of its cores
+-- rule: Network: A send to all is a packet for each core, a send to a node one for each of its cores
 abbrev pub addressees : Setup → To → List ℕ
 addressees s To_all = below (cores_of s)
 addressees s (To_one k) = filter (λ c. node_of s c == k.0) (below (cores_of s))
@@ -118,6 +120,7 @@ as_signed [] = []
 as_signed (c ∷ cs) = record { by = c.by.0; statement = c.statement } ∷ as_signed cs
 
 -- what goes into the book of a step of core c: of a faulty node's cores nothing
+-- rule: Evidence: The claims that correct nodes send are booked, and none of a faulty node
 abbrev pub booked : Setup → ℕ → List Claim → List Signed
 booked s c own = cond (is_correct s c) (as_signed own) []
 
@@ -142,6 +145,7 @@ by_forged None h next = next
 by_forged (Some claim) h next = ended_by h (Forged claim)
 
 -- core c takes an event. The claims of what it takes, then those of what had come early, are tested against the book before it
+-- rule: Evidence: A verified claim that its correct signer never sent ends the run before the step
 abbrev pub at_core : {Msg : Type 0} → Setup → Formats Msg → Rules → Module Msg → Held Msg → ℕ → NodeEvent → Happening Msg
 at_core s F R M h c event =
     let core = h.net.cores c in

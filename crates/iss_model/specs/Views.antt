@@ -49,5 +49,6 @@ abbrev pub claims_of_parcel : {Msg : Type 0} → Rules → Module Msg → ℕ �
 claims_of_parcel R M me c None = []
 claims_of_parcel R M me c (Some k) = claims_of_body R M me c k.from k.epoch k.body
 
+-- rule: Evidence: The claims of a packet are all signatures of its vote, certificate or message
 abbrev pub claims_of_bytes : {Msg : Type 0} → Formats Msg → Rules → Module Msg → ℕ → Core Msg → List ℕ → List Claim
 claims_of_bytes F R M me c bytes = claims_of_parcel R M me c (F.unwrap bytes)

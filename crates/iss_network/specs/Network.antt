@@ -36,10 +36,12 @@ not_for packets c [] = []
 not_for packets c (k ∷ ks) = cond (is_for (nth packets k) c) (not_for packets c ks) (k ∷ not_for packets c ks)
 
 -- no packet for core c waits any more
+-- rule: Network: A drop ends the waiting of all packets for a core
 abbrev pub cleared : Network → ℕ → Network
 cleared w c = record w { waits = not_for w.packets c w.waits }
 
 -- pumps pass over core c, or no longer
+-- rule: Network: Pumps pass over a core that is held
 abbrev pub held_to : Network → ℕ → Bool → Network
 held_to w c b = record w { held = slice_set w.held c b }
 
@@ -56,5 +58,6 @@ not_held packets held [] = []
 not_held packets held (k ∷ ks) = cond (is_held held (nth packets k)) (not_held packets held ks) (k ∷ not_held packets held ks)
 
 -- what a pump takes now: the packets that wait for cores that are not held, ascending
+-- rule: Network: A pump takes what waits for cores that are not held, in ascending order
 abbrev pub due : Network → List ℕ
 due w = not_held w.packets w.held w.waits

@@ -194,6 +194,7 @@ pub record IsSpoiled {M Msg : Type 0} (old new : NodeView M Msg) : Type 0 where
   pub epoch : new.state.epoch ≡ old.state.epoch
 
 -- What an answer says about any node, stale or not.
+-- rule: Runs: A node or a world that ran out of memory says so from then on
 abbrev pub IsLeft : {M Msg : Type 0} → NodeView M Msg → NodeView M Msg → Answer → Type 0
 IsLeft old new (Taken outcome) = Unit {0}
 IsLeft old new (Dropped why) = Unit {0}
@@ -201,6 +202,7 @@ IsLeft old new NoMemory = IsSpoiled old new
 IsLeft old new Stale = (old.stale ≡ true) × (new ≡ old)
 
 -- The node truncated its log to its first slots, set its epoch back, and is stale.
+-- rule: Persistence: A node that retreats keeps the given prefix of its log and takes nothing more
 pub record HasRetreated {M Msg : Type 0} (old new : NodeView M Msg) (slots e : ℕ) : Type 0 where
   pub stale : new.stale ≡ true
   pub log : new.state.log.entries ≡ take slots old.state.log.entries

@@ -50,6 +50,7 @@ impl<M: Sequenced> NodeState<M> {
 
     // The first slot of the node's own segment that has no value, no proposal in flight, and for which the module
     // accepts proposals.
+    // rule: Buckets: A leader proposes at its least slot that is neither proposed nor filled
     fn next_slot(&self) -> Option<Slot>
         ensures { (past : Past M.Msg) (g : SegmentState M) → RefinesPast M.spec M.refines self.now past →
             led self.now.segments self.now.me.0 ≡ Some g →

@@ -42,6 +42,7 @@ impl<M: Sequenced> NodeState<M> {
     }
 
     /// Whether every signature claimed by an input for `leader`'s instance is valid.
+    // rule: Acceptance: A message with a claim that does not verify under its signer's key is dropped
     pub(crate) fn is_credible(
         &self,
         alloc: Global,
@@ -104,6 +105,7 @@ impl<M: Sequenced> NodeState<M> {
 }
 
 // The node's own signatures in the messages that it sends.
+// rule: Evidence: An outcome lists the node's own claims in all that it sends
 fn own_claims<M: Sequenced>(
     alloc: Global,
     p: &Params,

@@ -77,6 +77,7 @@ impl<M: Sequenced> NodeState<M> {
     }
 
     /// Takes early messages in order while the epoch lasts. Their outcomes are appended to `outcome`.
+    // rule: Epochs: Early messages are taken once each, in order of arrival, while their epoch lasts
     pub(crate) fn take_each(
         &mut self,
         alloc: Global,
@@ -102,6 +103,7 @@ impl<M: Sequenced> NodeState<M> {
 
     // Takes an early message as if it arrived now. If it is refused it is lost, but its claimed signatures are
     // reported.
+    // rule: Evidence: The claims of an early message are read even where the message is then refused
     fn take_early(&mut self, alloc: Global, message: Early<M::Msg>) -> Result<Outcome, NoMemory>
         requires { message.from.0 < self.old.setup.n }
         ensures turn { IfOk result
@@ -135,6 +137,7 @@ impl<M: Sequenced> NodeState<M> {
 
     /// Ends the epoch and starts the next one with fresh instances. Returns the messages that arrived early for it.
     /// `NoMemory` also if slots would exceed 2^64 - 1.
+    // rule: Epochs: An epoch ends when the log holds all of it, and the next begins with fresh instances
     pub(crate) fn next_epoch(&mut self, alloc: Global) -> Result<Vec<Early<M::Msg>>, NoMemory>
         ensures next { IfOk result (λ early. IsNextEpoch M.refines self.old self.new early.items) }
         ensures from { IfOk result (λ early. AreFrom self.new.setup.n early.items) }
@@ -153,6 +156,8 @@ impl<M: Sequenced> NodeState<M> {
     }
 
     // Tells the leader policy which slots of the epoch are nil, and moves the clients' windows on.
+    // rule: Epochs: The policy reads the nil slots of an epoch before the next one is divided
+    // rule: Epochs: Windows move at the end of an epoch
     fn close(&mut self, alloc: Global) -> Result<(), NoMemory>
         ensures closed { OnOk result (HasClosed self.old self.new) }
         ensures rest { self.new ≡ record self.old { standing = self.new.standing; windows = self.new.windows } }

@@ -16,6 +16,7 @@ use std::alloc::Global;
 impl<M: Sequenced> NodeState<M> {
     /// Steps `leader`'s instance, unless (in this order) `leader` does not lead this epoch, a claimed signature is
     /// invalid, too few one-time keys are left, or the batch is refused.
+    // rule: Acceptance: An instance takes an input if it leads, its claims verify, leaves are left, no refusal
     pub(crate) fn try_step(
         &mut self,
         alloc: Global,

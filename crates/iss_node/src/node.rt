@@ -104,6 +104,7 @@ impl<M: Sequenced> Node<M> {
 
     /// Takes an event. A dropped event changes nothing. After `NoMemory` the node is stale, and reports the log and
     /// epoch from before the event.
+    // rule: Signatures: A node signs at most one statement with each leaf
     pub fn take(&mut self, alloc: Global, event: NodeEvent) -> Answer
         ensures answer { (c : Core M.Msg) → RefinesCore M.spec M.refines self.old c →
             IsAnswer M.spec M.refines (IsOfNodes self.old.state.setup.n event) c
@@ -154,6 +155,7 @@ impl<M: Sequenced> Node<M> {
     }
 
     /// Truncates the log to its first `slots` slots and sets the epoch back. The node is stale from then on.
+    // rule: Persistence: A node that retreats keeps the given prefix of its log and takes nothing more
     pub fn retreat(&mut self, slots: usize, epoch: Epoch)
         requires slots { slots ≤ length self.old.state.log.entries }
         requires epoch { epoch.0 ≤ self.old.state.epoch }

@@ -43,6 +43,7 @@ impl<M: Sequenced> NodeState<M> {
     }
 
     /// The signatures that received bytes claim.
+    // rule: Evidence: The claims of a packet are all signatures of its vote, certificate or message
     pub(crate) fn claims_of_bytes(
         &self,
         alloc: Global,
@@ -174,6 +175,7 @@ impl<M: Sequenced> NodeState<M> {
     }
 
     // Keeps a message of the next epoch, unless `EARLY_MOST` are already kept.
+    // rule: Epochs: A message of the next epoch is kept for it, up to a fixed number of them
     fn keep_early(&mut self, alloc: Global, message: Early<M::Msg>) -> Result<StepResult, NoMemory>
         requires { message.from.0 < self.old.setup.n }
         ensures answer { IfOk result

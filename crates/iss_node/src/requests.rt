@@ -24,6 +24,8 @@ use std::alloc::Global;
 impl<M: Sequenced> NodeState<M> {
     /// Takes a client's request. It waits to be proposed, unless its signature is invalid, the node knows it, or its
     /// number is outside the client's window.
+    // rule: Acceptance: A request is taken inside its window, if not waiting, in flight or ordered
+    // rule: Epochs: A request that a correct node took is in one place: its log, waiting, or in flight
     pub(crate) fn take_request(
         &mut self,
         alloc: Global,
@@ -47,6 +49,7 @@ impl<M: Sequenced> NodeState<M> {
     }
 
     // Whether a request's client signed it.
+    // rule: Acceptance: A request that its client did not sign is dropped before any other test
     fn is_signed(&self, request: &Request) -> bool
         ensures { result ≡ (rules_of self.now.setup).signed request.now }
     {
@@ -90,6 +93,7 @@ impl<M: Sequenced> NodeState<M> {
     }
 
     // Puts the requests of proposals that became nil back into the waiting list.
+    // rule: Epochs: Requests proposed in a slot that became nil wait again, unless they are ordered
     fn requeue_nil_casts(&mut self, casts: Vec<(Slot, Batch)>) -> Result<(), NoMemory>
         ensures back { OnOk result ((all : List Identity) → AreLogged self.old all →
             AreNew self.old.waiting (absent all (returned (reverse self.old.log.entries) casts.items)) →

@@ -115,6 +115,7 @@ impl<M: Sequenced> NodeState<M> {
 
     /// Whether enough one-time keys are left for a step of this leader's instance, and then one for the vote at the end
     /// of the epoch.
+    // rule: Acceptance: A node keeps one leaf back for its vote at the end of the epoch
     pub(crate) fn has_leaves(&self, leader: NodeId) -> bool
         ensures { (g : SegmentState M) → led self.now.segments leader.0 ≡ Some g →
             AreKeysOf self.now.me.0 self.now.setup.keys self.now.keys →

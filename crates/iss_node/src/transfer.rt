@@ -34,6 +34,7 @@ impl<M: Sequenced> NodeState<M> {
 
     /// Answers an ask with the values of an epoch, if the node has its certificate and all of its slots. Otherwise
     /// drops it with `NoCert`.
+    // rule: Transfer: An ask is answered to the asker alone, if the node has the epoch and its certificate
     pub(crate) fn take_ask(
         &mut self,
         alloc: Global,
@@ -141,6 +142,7 @@ impl<M: Sequenced> NodeState<M> {
 
     // Adopts a piece: its values fill the slots that have none, and its certificate is kept. The next epoch starts,
     // with the messages that arrived early for it.
+    // rule: Transfer: An adopted piece of the own epoch fills the empty slots and ends the epoch without a vote
     fn adopt(
         &mut self,
         alloc: Global,

@@ -29,6 +29,7 @@ abbrev pub kind_at : ℕ → PacketKind
 kind_at b = if b == 1 then Message else (if b == 2 then Vote else (if b == 3 then Ask else (if b == 4 then Piece else Request)))
 
 -- whether the packet's kind fits its sender, epoch and leader in a cluster of n nodes
+-- rule: Formats: A packet has one encoding a version, and its kind fits its sender, epoch and leader
 abbrev pub is_routed_as : ℕ → PacketKind → ℕ → ℕ → ℕ → Bool
 is_routed_as n Message from epoch leader = nat_lt from n && nat_lt leader n
 is_routed_as n Vote from epoch leader = nat_lt from n && (leader == 0)

@@ -17,6 +17,7 @@ drop_lines [] = []
 drop_lines (d ∷ older) = drop_lines older ++ drop_line d.0 d.1
 
 -- The block of node i, if it is correct. A faulty node has none.
+-- rule: Reports: A faulty node has no block
 abbrev pub block_of : {Msg : Type 0} → Setup → Module Msg → Net Msg → ℕ → List ℕ
 block_of s M w i = cond (is_correct s i)
     (node_block i (w.cores i).past.epoch (log_of (rules_of s) M i (w.cores i).past)) []
@@ -33,6 +34,7 @@ text_of s M p = drop_lines p.drops ++ node_blocks s M p.machines.held.net s.n ++
 
 -- The bytes are the text of the run of these events, up to the evidence that stopped it, if any. The headline
 -- (`IsWhole`) holds for that run.
+-- rule: Reports: A replay runs all events and reports all of them
 pub record IsReport {Msg : Type 0} (s : Setup) (M : Module Msg) (events : List Event) (bytes : List ℕ) : Type 0 where
   pub tells : bytes ≡ text_of s M (course_after s M events)
   pub whole : IsWhole s M events

@@ -39,6 +39,7 @@ why_word NotNeeded = codes "NotNeeded"
 why_word WrongChain = codes "WrongChain"
 
 -- Each line ends with one line feed, the byte 10.
+-- rule: Reports: Each lost event is reported with its cause
 abbrev pub drop_line : ℕ → Why → List ℕ
 drop_line event why = codes "drop " ++ decimal event ++ codes " " ++ why_word why ++ 10 ∷ []
 
@@ -82,5 +83,6 @@ node_line node epoch slots count = codes "node " ++ decimal node ++ codes " epoc
     ++ decimal slots
     ++ codes " requests " ++ decimal count ++ 10 ∷ []
 
+-- rule: Reports: A node's block has its epoch, and each slot with its first number and its requests
 abbrev pub node_block : ℕ → ℕ → List Value → List ℕ
 node_block node epoch log = node_line node epoch (length log) (requests log) ++ slot_lines log

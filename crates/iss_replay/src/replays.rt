@@ -28,6 +28,8 @@ pub struct Report<M: Sequenced> {
 
 /// Applies the events of a schedule to a new cluster, in order, up to an event that reveals evidence. The headline
 /// holds for the run (`whole`, see `IsWhole` in `iss_theorems`). The only error is out of memory.
+// rule: Log: Of two correct nodes' logs one is a prefix of the other, and no request is in one twice
+// rule: Recovery: A run with crashes refines the run of its kept events without crashes
 pub fn replay<M: Sequenced>(alloc: Global, schedule: &Schedule) -> Result<Report<M>, NoMemory>
     requires good { IsSetupOf M.spec schedule.now.setup }
     requires range { AreInRange schedule.now.setup schedule.now.events }
@@ -71,6 +73,8 @@ fn play<M: Sequenced>(alloc: Global, schedule: &Schedule) -> Result<Report<M>, N
 }
 
 // Applies the next event. If it is lost, notes its number and reason. Returns the evidence if the event reveals some.
+// rule: Reports: A replay runs all events and reports all of them
+// rule: Program: A run that ends with evidence exits with 6 or 7, and reports the logs before it
 fn go_on<M: Sequenced>(
     alloc: Global,
     world: &mut World<M>,

@@ -38,6 +38,7 @@ pub record IsRead {A : Type 0} (parse : List ℕ → Parsed A) (before later : R
   pub behind : later.at + length (left later) ≡ before.at + length (left before)
 
 -- why nothing was read: `at` is the offset of the first field that does not fit
+-- rule: Formats: A decoding error names the offset of the first field that does not fit
 pub record IsUnreadable {A : Type 0} (parse : List ℕ → Parsed A) (before : Reading) (at : ℕ) : Type 0 where
   pub after : ℕ
   pub found : parse (left before) ≡ Bad after

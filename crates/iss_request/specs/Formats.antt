@@ -44,6 +44,7 @@ batch_of (Value_batch b) = b
 abbrev pub is_height : ℕ → Bool
 is_height h = nat_le 2 h && nat_le h 12
 
+-- rule: Formats: A signature begins with its tree's height, from 2 to 12, which fixes its length
 abbrev pub is_signature : List ℕ → Bool
 is_signature [] = false
 is_signature (h ∷ rest) = is_height h && (length rest == 4 + 32 * (67 + h))
@@ -77,6 +78,7 @@ spell_value version Nil = 0 ∷ []
 spell_value version (Value_batch b) = version_byte version ∷ spell_batch version b
 
 -- what is hashed as a value's digest
+-- rule: Formats: A value's digest is the hash of its encoding after a byte of its own
 abbrev pub value_string : ℕ → Value → List ℕ
 value_string version v = 0x40 ∷ spell_value version v
 
@@ -85,12 +87,14 @@ value_string version v = 0x40 ∷ spell_value version v
 abbrev pub HasSpelling : Request → Type 0
 HasSpelling r = has_spelling r ≡ true
 
+-- rule: Formats: A request has one encoding: client, number, a payload of at most 256 bytes, signature
 abbrev pub IsSpelledRequest : Request → List ℕ → Type 0
 IsSpelledRequest r bytes = HasSpelling r × (bytes ≡ request_bytes r)
 
 abbrev pub value_bytes : ℕ → List Request → List ℕ
 value_bytes version b = version_byte version ∷ spell_count version (length b) ++ flat_map request_bytes b
 
+-- rule: Formats: A value has one encoding a version: nil, or a batch after a version byte and a count
 abbrev pub IsSpelledValue : ℕ → Value → List ℕ → Type 0
 IsSpelledValue version Nil bytes = bytes ≡ 0 ∷ []
 IsSpelledValue version (Value_batch b) bytes = (length b ≤ requests_most version) × AllByRecursion HasSpelling b × (bytes ≡ value_bytes version b)

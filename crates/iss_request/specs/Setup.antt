@@ -31,6 +31,7 @@ abbrev pub AreRising : ℕ → ℕ → List NodeId → Type 0
 AreRising from n [] = Unit {0}
 AreRising from n (i ∷ is) = (from ≤ i.0) × (i.0 < n) × AreRising (suc i.0) n is
 
+-- rule: Formats: A set-up's fields are in range, and its nodes and quorum fit its fault model and f
 pub record IsGoodSetup (s : Setup) : Type 0 where
   -- the second is not there yet
   pub version : s.version ≡ 1

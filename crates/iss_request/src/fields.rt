@@ -78,6 +78,7 @@ impl<'a> Fields<'a> {
     }
 
     /// The error that names the next field.
+    // rule: Formats: A decoding error names the offset of the first field that does not fit
     pub fn bad_field(&self) -> DecodeError
         ensures { result ≡ DecodeError.BadField self.now.at }
     {

@@ -41,6 +41,7 @@ fn is_tree_height(height: u8) -> bool
 
 /// Whether bytes have the shape of a signature: a height, a leaf, 67 digests and one for each level. Whether it
 /// verifies is not looked at.
+// rule: Formats: A signature begins with its tree's height, from 2 to 12, which fixes its length
 pub fn has_shape(sig: &[u8]) -> bool
     ensures { result ≡ is_signature sig.now }
 {
@@ -62,6 +63,7 @@ pub fn is_spellable(request: &Request) -> bool
 }
 
 /// Writes a request. One that has no spelling is written as bytes that no reader takes.
+// rule: Formats: A request has one encoding: client, number, a payload of at most 256 bytes, signature
 pub fn write_request(request: &Request, out: &mut Writer) -> Result<(), NoMemory>
     ensures { OnOk result (out.new ≡ and_bytes out.old (spell_request request.now)) }
 {
@@ -126,6 +128,7 @@ pub fn write_batch_value(batch: &Batch, out: &mut Writer) -> Result<(), NoMemory
 }
 
 /// Writes a value. One that has no spelling is written as bytes that no reader takes.
+// rule: Formats: A value has one encoding a version: nil, or a batch after a version byte and a count
 pub fn write_value(value: &Value, out: &mut Writer) -> Result<(), NoMemory>
     ensures { OnOk result (out.new ≡ and_bytes out.old (spell_value out.old.version value.now)) }
 {
@@ -364,6 +367,7 @@ pub fn batch_digest(version: u8, batch: &Batch) -> [u8; 32]
 }
 
 /// The digest of a value's spelling. It needs no memory for the string.
+// rule: Formats: A value's digest is the hash of its encoding after a byte of its own
 pub fn digest_of(version: u8, value: &Value) -> [u8; 32]
     ensures { result ≡ sha256 (value_string version value.now) }
 {

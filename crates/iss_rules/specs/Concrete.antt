@@ -30,6 +30,7 @@ least a b = cond (nat_le a b) a b
 
 -- where an epoch starts, by the log before it: the sum of the lengths of those before it. Slots are numbers below 2^64, so
 -- that no epoch is given a start from which it would pass them
+-- rule: Layout: An epoch begins where the one before it ends
 abbrev pub start_at : Setup → List Value → ℕ → ℕ
 start_at s log zero = 0
 start_at s log (suc e) = least (start_by (slots_at s) log (suc e)) (2 ^ 64 - slots_at s log (suc e))
@@ -43,10 +44,12 @@ abbrev pub keys_of : Setup → DirectoryView
 keys_of s = directory_of s.n s.clients s.keys
 
 -- what a client signs: a byte that no other statement begins with, who it is, the request's number, and the payload behind its length
+-- rule: Signatures: A client signs its number, the request's number, and the payload after its length
 abbrev pub request_statement : ReqId → List ℕ → List ℕ
 request_statement id payload = 0x30 ∷ id.client ∷ to_be_bytes w32 id.number ++ to_be_bytes w16 (length payload) ++ payload
 
 -- whether a request is signed by its client. No statement has a number of more than four bytes, nor a payload of more than 256
+-- rule: Signatures: A request is signed if its signature verifies under its client's key
 abbrev pub is_signed_by : DirectoryView → Request → Bool
 is_signed_by d q =
     nat_lt q.id.number (2 ^ 32) && (nat_le (length q.payload) 256 && is_verified_by d.clients q.id.client (request_statement q.id q.payload) q.sig)
@@ -80,6 +83,7 @@ rules_of s =
     }
 
 -- a request that its client signed, by the leaf of the request's number
+-- rule: Signatures: A request of a schedule is signed by its client, with the leaf of its number
 abbrev pub request_of : Setup → ℕ → ℕ → List ℕ → Request
 request_of s client number payload =
     let id : ReqId = record { client = client; number = number } in

@@ -21,6 +21,9 @@ any_marked marked [] = false
 any_marked marked (x ∷ xs) = has_id x marked || any_marked (x ∷ marked) xs
 
 -- none where the batch is accepted in epoch e by the leader l, over the log before e and the marks so far
+-- rule: Acceptance: A batch is refused for its first fault: size, bucket, signature, window, ordered, marked
+-- rule: Acceptance: A batch with a request that its client did not sign is refused
+-- rule: Acceptance: A batch is refused where its leader does not own the bucket of each request
 abbrev pub judge : Rules → List Value → ℕ → ℕ → List ReqId → Batch → Option Refusal
 judge R before e l marked batch =
     cond (nat_lt R.batch (length batch)) (Some TooLarge)
@@ -31,6 +34,7 @@ judge R before e l marked batch =
     (cond (any_marked marked (ids batch)) (Some Marked) None)))))
 
 -- the identities of an accept list
+-- rule: Acceptance: An accepted request is marked to the end of its epoch, also where its slot becomes nil
 abbrev pub marks : List (Slot × Batch) → List ReqId
 marks [] = []
 marks (x ∷ xs) = ids x.1 ++ marks xs

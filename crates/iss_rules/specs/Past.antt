@@ -74,6 +74,7 @@ grow R M me c zero log = log
 grow R M me c (suc n) log = grown (cell R M me c log) log (grow R M me c n)
 
 -- a node's log: the longest run of values from slot 0 (no epoch past the node's own has any)
+-- rule: Log: The log is the longest run of filled slots from slot 0
 abbrev pub log_of : {Msg : Type 0} → Rules → Module Msg → ℕ → Past Msg → List Value
 log_of R M me c = grow R M me c (suc c.epoch * R.most) []
 

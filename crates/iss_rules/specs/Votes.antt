@@ -9,6 +9,7 @@ use Rattle.iss_sb.specs.declared.effects.Claim.{Claim}
 use Rattle.iss_rules.specs.Rules.{Rules}
 
 -- whether each of these claims is one of the node that it names
+-- rule: Acceptance: A message with a claim that does not verify under its signer's key is dropped
 abbrev pub all_verify : Rules → List Claim → Bool
 all_verify R cs = list_all (λ (c : Claim). R.verifies c.by.0 c.statement c.sig) cs
 
@@ -25,6 +26,7 @@ cert_on [] e = None
 cert_on (c ∷ cs) e = cond (c.epoch.0 == e) (Some c) (cert_on cs e)
 
 -- the certificate of all votes that say the same as v, as soon as they are of a quorum
+-- rule: Checkpoints: The vote that completes a quorum gives the epoch's certificate; no later one does
 abbrev pub stable : Rules → List Vote → Vote → List Cert
 stable R votes v =
     let c = certificate_by (vote_by votes v.epoch.0) v R.nodes in
@@ -47,6 +49,7 @@ abbrev pub is_true_cert : Rules → Cert → Bool
 is_true_cert R c = (length c.signers == R.quorum) && are_true R (R.voted c.epoch.0 c.chain c.requests) 0 c.signers
 
 -- the certificate is kept where none of its epoch is
+-- rule: Checkpoints: Of each epoch the first certificate is kept, counted or adopted
 abbrev pub keeping : List Cert → Cert → Option Cert → List Cert
 keeping certs c None = c ∷ certs
 keeping certs c (Some other) = certs

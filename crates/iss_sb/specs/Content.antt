@@ -12,6 +12,7 @@ use Rattle.iss_sb.specs.declared.content.Content.TheVariants.{Nil, Holds, Mark}
 
 -- ---- spelling
 
+-- rule: Raft: An entry holds nil, a batch or a mark
 abbrev pub spell_content : ℕ → Content → List ℕ
 spell_content version Nil = 0 ∷ []
 spell_content version (Holds batch) = 1 ∷ spell_value version (Value_batch batch)

@@ -140,6 +140,7 @@ pub record IsCredible {M : Type 0} (m : Module M) (p : Params) (Verified : Claim
   pub signed : (c : Claim) → In c (m.claims p from msg) → is_correct p.setup c.by.0 ≡ true → Signed c.by.0 c.statement
 
 -- a message that may come to node i: where nodes only stop, one that was sent to it; else any that is credible
+-- rule: Modules: A message that arrives was sent, or verifies and its correct signers signed it
 abbrev pub MayArrive : {M : Type 0} → Bool → Module M → Params → World M → ℕ → ℕ → M → Type 0
 MayArrive true m p w i from msg = IsSent w from i msg
 MayArrive false m p w i from msg = IsCredible m p (Verifies p) (IsSigned m p w) from msg

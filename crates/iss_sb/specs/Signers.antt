@@ -29,5 +29,6 @@ parse_signed from = do
   done (record { by = record { 0 = by }; sig = sig })
 
 -- n of them
+-- rule: Signers: The signers of a certificate are strictly ascending, and an error names the first other
 abbrev pub parse_signers : ℕ → ℕ → Parser (List Signed)
 parse_signers n from = ascending parse_signed signer_of n from

@@ -21,6 +21,7 @@ abbrev pub eight_bytes : ℕ → List ℕ
 eight_bytes n = wide_bytes 7 n
 
 -- the cluster, an epoch, a leader, and the tag of a module
+-- rule: Signatures: A statement names its cluster, epoch, leader, module and kind
 abbrev pub head_of : List ℕ → ℕ → ℕ → ℕ → List ℕ
 head_of cluster e l tag = cluster ++ eight_bytes e ++ l ∷ tag ∷ []
 
@@ -29,6 +30,7 @@ abbrev pub statement_head : Params → ℕ → List ℕ
 statement_head p tag = head_of p.setup.tag p.epoch.0 p.leader.0 tag
 
 -- the signature of node me by a leaf of its keys
+-- rule: Signatures: A node signs exactly its statement, with its next leaf
 abbrev pub signature : Params → ℕ → ℕ → List ℕ → List ℕ
 signature p me leaf statement = signature_of (node_secret me) p.setup.keys leaf statement
 

@@ -50,6 +50,7 @@ pub fn write_content(content: &Content, out: &mut Writer) -> Result<(), NoMemory
 }
 
 /// Reads a content. `BadField` names the kind where there is no such, and the value where it is no batch.
+// rule: Raft: An entry holds nil, a batch or a mark
 pub fn read_content(alloc: Global, f: &mut Fields) -> Result<Content, DecodeError>
     ensures ok { IfOk result (λ w. IsRead (parse_content f.old.version) f.old f.new w) }
     ensures bad { (at : ℕ) → result ≡ Err (DecodeError.BadField at) → IsUnreadable (parse_content f.old.version) f.old at }

@@ -83,6 +83,8 @@ pub trait Sequenced: Drop + Sized {
 
     /// Takes an input. With a verdict that is false nothing changes. `Spent` comes exactly where fewer leaves are left
     /// than `signs`, with nothing changed; after out of memory nothing is promised.
+    // rule: Modules: Correct nodes deliver equal values, each accepted by them and cast by a correct leader
+    // rule: Modules: A step whose batch is refused changes nothing
     final fn step(
         &mut self,
         alloc: Global,
@@ -105,6 +107,7 @@ pub trait Sequenced: Drop + Sized {
     }
 
     /// Writes a message by the writer's version: its number, its fields, its signature.
+    // rule: Modules: Decoding gives back the message that was sent
     fn encode(m: &Self::Msg, out: &mut Writer) -> Result<(), NoMemory>
         ensures { OnOk result (out.new ≡ and_bytes out.old (spec.spell out.old.version m.now)) };
 
@@ -114,6 +117,7 @@ pub trait Sequenced: Drop + Sized {
         ensures bad { (at : ℕ) → result ≡ Err (DecodeError.BadField at) → IsUnreadable (spec.parse f.old.version) f.old at };
 
     /// What a message says that nodes have signed, in the order of its bytes.
+    // rule: Modules: A message that arrives was sent, or verifies and its correct signers signed it
     fn claims(
         alloc: Global,
         p: &Params,

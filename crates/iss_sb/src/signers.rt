@@ -87,6 +87,7 @@ fn read_signed(alloc: Global, from: u16, f: &mut Fields) -> Result<Signed, Decod
 }
 
 /// Reads `count` signers. `BadField` names the first field that does not fit, as a node that is not above the last.
+// rule: Signers: The signers of a certificate are strictly ascending, and an error names the first other
 pub fn read_signers(alloc: Global, count: u8, f: &mut Fields) -> Result<Seq<Signed>, DecodeError>
     ensures ok { IfOk result (λ xs. IsRead (parse_signers count 0) f.old f.new xs) }
     ensures bad { (at : ℕ) → result ≡ Err (DecodeError.BadField at) → IsUnreadable (parse_signers count 0) f.old at }

@@ -49,6 +49,7 @@ IsBadRest front rest Cut = (length front < 11 + most_events) × Lacks 10 rest ×
 IsBadRest front rest why = (length front < 11 + most_events) × ((line : List ℕ) × (IsNext line rest × IsFault front line why))
 
 -- the lines before this one begin a schedule in range, and with this one they do not
+-- rule: Schedules: The first bad line is named, with the first reason that holds
 pub record IsFirstBad (bytes : List ℕ) (line : ℕ) (why : LineFault) : Type 0 where
   pub front : List (List ℕ)
   pub rest : List ℕ

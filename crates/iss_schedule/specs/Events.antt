@@ -36,6 +36,8 @@ IsPayload payload = IsBytes payload × (length payload ≤ 256)
 
 -- which events a cluster of this set-up may meet: a core is one of its cores, a leader or a peer is a node, a client
 -- signs with a leaf of its tree, and only a module that withstands any fault meets bytes of no node
+-- rule: Schedules: An ask names one of the cores and one of the nodes
+-- rule: Schedules: A crash lets 0 to 1,000 disk calls of a core pass
 abbrev pub IsInRange : Setup → Event → Type 0
 IsInRange s (Request core client number payload) = (core < cores_of s) × (client < s.clients) × (number < 2 ^ s.keys) × IsPayload payload
 IsInRange s (Propose core) = core < cores_of s

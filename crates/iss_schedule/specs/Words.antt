@@ -29,5 +29,6 @@ abbrev pub AreDigits : List ℕ → Type 0
 AreDigits word = EachIndex word (λ k. (48 ≤ slice_index word k) × (slice_index word k ≤ 57))
 
 -- a number of any size: decimal digits, without a leading zero
+-- rule: Schedules: A number is decimal digits without a leading zero
 abbrev pub IsNumber : List ℕ → Type 0
 IsNumber word = AreDigits word × (0 < length word) × (slice_index word 0 ≡ 48 → length word ≡ 1)

@@ -21,6 +21,7 @@ use iss_window::{Ids, Place, Windows};
 /// The first reason to refuse a batch in this leader's segment. `None` if the batch is accepted. `marked` are the
 /// identities that the segment accepted earlier. (ISS: valid requests, from the leader's buckets, neither accepted in
 /// this epoch nor delivered before.)
+// rule: Acceptance: A batch is refused for its first fault: size, bucket, signature, window, ordered, marked
 pub fn refusal(
     setup: &Setup,
     directory: &Directory,
@@ -52,6 +53,7 @@ pub fn refusal(
 }
 
 // Whether some request's bucket belongs to another leader.
+// rule: Acceptance: A batch is refused where its leader does not own the bucket of each request
 fn is_any_foreign(layout: &Layout, leader: NodeId, batch: &[Request]) -> bool
     ensures { result ≡ any (λ (q : Request). not
         (number_of (bucket_owner layout.now (bucket_of layout.now q.id)) == leader.0)) batch.now }
@@ -76,6 +78,7 @@ fn owner(layout: &Layout, id: ReqId) -> NodeId
 }
 
 // Whether some request is not validly signed by its client.
+// rule: Acceptance: A batch with a request that its client did not sign is refused
 fn is_any_unsigned(directory: &Directory, batch: &[Request]) -> bool
     ensures { result ≡ any (λ (q : Request). not (is_signed_by directory.now q)) batch.now }
 {

@@ -176,6 +176,7 @@ impl<M: Sequenced> Segment<M> {
 }
 
 // Adds the identities of an accepted batch.
+// rule: Acceptance: An accepted request is marked to the end of its epoch, also where its slot becomes nil
 fn mark(marked: &mut Ids, accepted: &Option<(Slot, Batch)>) -> Result<(), NoMemory>
     ensures { OnOk result (marked.new ≡ and_marks marked.old accepted.now) }
 {

@@ -30,6 +30,7 @@ pub record IsOfLog {Msg : Type 0} (s : Setup) (R : Rules) (M : Module Msg) (past
   pub log : IsLogAt R M signer.by.0 c.epoch.0 (pasts signer.by.0) c.chain c.requests
 
 -- so of each certificate that a correct node keeps
+-- rule: Checkpoints: A certificate that a correct node keeps certifies the log of a correct signer
 abbrev pub AreOfLogs : {Msg : Type 0} → Setup → Module Msg → List Event → Type 0
 AreOfLogs s M events =
     (i : ℕ) → is_correct s i ≡ true → (c : Cert) → In c ((run_after s M events).held.net.cores i).certs →
@@ -43,6 +44,7 @@ pub record WasDelivered {Msg : Type 0} (s : Setup) (R : Rules) (M : Module Msg) 
   pub is : Backed s R M pasts older v
 
 -- so of each value that a correct node adopted
+-- rule: Transfer: A value that a correct node adopted was delivered in that slot by a correct node
 abbrev pub WereDelivered : {Msg : Type 0} → Setup → Module Msg → List Event → Type 0
 WereDelivered s M events =
     (i : ℕ) → is_correct s i ≡ true → (e k : ℕ) (v : Value) → adopted_at (pasts_after s M events i).adopted e k ≡ Some v →

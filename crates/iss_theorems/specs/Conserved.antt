@@ -71,6 +71,7 @@ AcceptsOnce {Msg} m =
     (slot : Slot) (b c : Batch) → In {A = Slot × Batch} (slot, b) (accepts (w p.leader.0)) → In {A = Slot × Batch} (slot, c) (accepts (w p.leader.0)) → b ≡ c
 
 -- each request that a correct core took is still there, once
+-- rule: Epochs: A request that a correct node took is in one place: its log, waiting, or in flight
 abbrev pub IsConserved : {Msg : Type 0} → Setup → Module Msg → List Event → Type 0
 IsConserved s M events =
     (i : ℕ) → is_correct s i ≡ true → (x : ReqId) → WasAsked s (formats_of s M) (rules_of s) M (begin_run s) events i x →

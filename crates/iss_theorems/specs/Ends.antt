@@ -32,6 +32,7 @@ pub record IsForgery {Msg : Type 0} (s : Setup) (F : Formats Msg) (R : Rules) (M
   pub unsent : In (record { by = c.by.0; statement = c.statement }) h.signed → ⊥
 
 -- Different strings of one digest: the second is one of these, and the first stood in the book, or came before it among these.
+-- rule: Evidence: Two strings of one digest end the run, and the earlier one is named first
 pub record AreColliding (strings book : List (List ℕ)) (first second : List ℕ) : Type 0 where
   pub earlier : List (List ℕ)
   pub later : List (List ℕ)

@@ -94,6 +94,7 @@ abbrev pub shown : {Msg : Type 0} → Setup → Module Msg → Held Msg → ℕ 
 shown s M h i = reverse (log_of (rules_of s) M i (pasts_of h.net i))
 
 -- the logs that correct nodes print are of one log
+-- rule: Log: Of two correct nodes' logs one is a prefix of the other, and no request is in one twice
 pub record AreOneLog {Msg : Type 0} (s : Setup) (M : Module Msg) (h : Held Msg) : Type 0 where
   -- of two logs one is the beginning of the other
   pub prefix : (i j : ℕ) → is_correct s i ≡ true → is_correct s j ≡ true →
@@ -133,6 +134,7 @@ WasAsked s F R M p (e ∷ es) i x =
 -- ---- all of it
 
 -- What every run says of itself, whatever disks fail and cores are made anew.
+-- rule: Recovery: A run with crashes refines the run of its kept events without crashes
 pub record IsWhole {Msg : Type 0} (s : Setup) (M : Module Msg) (events : List Event) : Type 0 where
   pub enters : Enters s M events
   pub disks : AreOfTheirDisks s (formats_of s M) (rules_of s) M (course_after s M events).machines

@@ -47,6 +47,7 @@ AreOfRow W me row (x ∷ xs) =
 
 -- Each leaf that the node has used is of one statement: there is a row of them, one for each leaf up to the next, and whatever the node
 -- sent as signed of its own is signed by a leaf over the statement of its place. A claim that the node was told may be sent on as it came.
+-- rule: Signatures: A node signs at most one statement with each leaf
 pub record SignsOnceEach {Msg : Type 0} (W : Frame Msg) (me : ℕ) (deeds : List (Deed Msg)) : Type 0 where
   pub row : List (List ℕ)
   pub each : length row ≡ (core_behind deeds).leaf

@@ -35,6 +35,7 @@ same_end ours theirs = (ours.requests == theirs.requests) && same_bytes ours.cha
 
 -- a piece of the epoch, under a true certificate, whose values lead to the end that the certificate says. Else the first of these
 -- that fails; of the last one both ends
+-- rule: Transfer: A piece is adopted if it is whole, its certificate good, and its values match the chain
 abbrev pub adoption : Setup → Voters → List Value → ℕ → Piece → Adoption
 adoption s w log e p =
     let ours = end_of s.version (adopted_log s log e p) in
@@ -44,6 +45,7 @@ adoption s w log e p =
     else Adopt (strings_from s.version (chain_of s.version (log_before s log e)) p.values)
 
 -- a correct node signed that a log at the end of an epoch has this chain and so many requests
+-- rule: Transfer: What is adopted has a chain and count that a correct node signed
 pub record IsSaidByCorrect (s : Setup) (d : DirectoryView) (e : ℕ) (log : List Value) : Type 0 where
   pub node : ℕ
   pub sig : List ℕ

@@ -16,6 +16,7 @@ use Rattle.iss_transfer.specs.declared.pieces.Piece.{Piece}
 abbrev pub spell_ask : Ask → List ℕ
 spell_ask a = []
 
+-- rule: Transfer: An ask has an empty body
 unfoldable pub parse_ask : ℕ → Parser Ask
 parse_ask e = done (record { epoch = record { 0 = e } })
 
@@ -49,6 +50,7 @@ AreSpelledValues version [] bytes = bytes ≡ []
 AreSpelledValues version (v ∷ vs) bytes =
     (first : List ℕ) × (others : List ℕ) × IsSpelledValue version v first × AreSpelledValues version vs others × (bytes ≡ first ++ others)
 
+-- rule: Transfer: A piece has one encoding a version: count, values, and the certificate of its epoch
 pub record IsSpelledPiece (version e : ℕ) (p : Piece) (bytes : List ℕ) : Type 0 where
   pub own : p.epoch.0 ≡ e
   pub count_fits : length p.values < 256

@@ -74,6 +74,8 @@ fn end_from(
 }
 
 /// Whether a node may take over a piece in an epoch, by the chain of its log before that epoch.
+// rule: Transfer: A piece is adopted if it is whole, its certificate good, and its values match the chain
+// rule: Transfer: What is adopted has a chain and count that a correct node signed
 pub fn adopt(
     alloc: Global,
     setup: &Setup,

@@ -87,6 +87,7 @@ pub fn encode_ask(alloc: Global, ask: &Ask) -> Bytes
 }
 
 /// The ask that bytes spell, all of them. There is none but that of no bytes, so what stands there does not fit. It takes no memory.
+// rule: Transfer: An ask has an empty body
 pub fn decode_ask(epoch: Epoch, bytes: &[u8]) -> Result<Ask, DecodeError>
     ensures ok { IfOk result (λ a. parse_ask epoch.0 bytes.now ≡ Good a []) }
     ensures bad { (at : ℕ) → result ≡ Err (DecodeError.BadField at) → all_of (parse_ask epoch.0) bytes.now ≡ Bad at }
@@ -99,6 +100,7 @@ pub fn decode_ask(epoch: Epoch, bytes: &[u8]) -> Result<Ask, DecodeError>
 }
 
 /// The bytes of a piece. One that has no spelling gives bytes that are no piece's.
+// rule: Transfer: A piece has one encoding a version: count, values, and the certificate of its epoch
 pub fn encode_piece(alloc: Global, version: u8, piece: &Piece) -> Result<Bytes, NoMemory>
     ensures { IfOk result (λ bytes. bytes ≡ spell_piece version piece.now) }
 {

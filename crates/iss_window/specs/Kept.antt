@@ -11,6 +11,7 @@ pub record Kept : Type 0 where
   pub above : List ReqId
 
 -- all numbers below a client's least were noted
+-- rule: Windows: A number is ordered if it is below its client's least unordered one or was recorded
 abbrev pub is_noted : List ℕ → List ReqId → ReqId → Bool
 is_noted lows above id = nat_lt id.number (slice_index lows id.client) || has_id id above
 

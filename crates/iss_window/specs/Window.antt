@@ -29,6 +29,7 @@ low_from (suc more) ids client number =
     if has_id (id_of client number) ids then low_from more ids client (suc number) else number
 
 -- the least number of a client that is not among the identities: so many numbers more than there are cannot all be among them
+-- rule: Windows: A client's window begins at its least number that was not ordered before the epoch
 abbrev pub low : List ReqId → ℕ → ℕ
 low ids client = low_from (length ids) ids client 0
 
@@ -37,10 +38,12 @@ pub record IsLow (ids : List ReqId) (client number : ℕ) : Type 0 where
   pub below : (t : ℕ) → t < number → has_id (id_of client t) ids ≡ true
 
 -- where a number lies to a window of a given width
+-- rule: Windows: A number is inside its window from the first number on, up to the window's width
 abbrev pub place_in : ℕ → ℕ → ℕ → Place
 place_in low width number = if nat_lt number low then Below else if nat_lt number (low + width) then Inside else Above
 
 -- where an identity lies, by the identities that were noted before the epoch
+-- rule: Epochs: Windows move at the end of an epoch
 abbrev pub place_of : ℕ → List ReqId → ReqId → Place
 place_of width closed id = place_in (low closed id.client) width id.number
 

@@ -48,6 +48,7 @@ SignOnce {M = M} {Msg = Msg} s m v = (i : ℕ) (g : KeptState M Msg MemoryDisk) 
 -- The headline. The world refines the run of these events, up to the evidence that stopped it, if any (`run`). The
 -- theorems of composition and recovery hold for that run (`whole`). Correct nodes number requests alike (`numbers`),
 -- and no leaf signs two statements (`leaves`).
+-- rule: Runs: After each event the world refines the run with that event
 pub record IsHeadline {M Msg : Type 0} (s : Setup) (m : Module Msg) (refines : Relation M Msg)
     (v : WorldState M Msg) (events : List Event) : Type 0 where
   pub run : RefinesEvents s m refines v events

@@ -139,6 +139,7 @@ pub record WorldRefinesMachines {M Msg : Type 0} (m : Module Msg) (refines : Rel
   pub simulation : RefinesMachines m refines v.simulation w
 
 -- The run has stopped with this evidence, and the world reports the state from before.
+-- rule: Evidence: A world whose run has ended repeats its evidence and shows the state before it
 pub record HasEnded {M Msg : Type 0} (m : Module Msg) (v : WorldState M Msg) (h : Held Msg) (end : End) : Type 0 where
   pub fresh : v.stale ≡ false
   pub ended : option_map end_of v.ended ≡ Some end

@@ -175,6 +175,7 @@ impl Claims {
 }
 
 /// Records what a core's step signed, if its node is correct.
+// rule: Evidence: The claims that correct nodes send are booked, and none of a faulty node
 pub fn book_own(
     alloc: Global,
     setup: &Setup,

@@ -14,6 +14,7 @@ use std::alloc::Global;
 
 /// The packet of a request that its client signs, with the leaf whose index is the request's number. The only error is
 /// out of memory.
+// rule: Signatures: A request of a schedule is signed by its client, with the leaf of its number
 pub fn request_packet<M: Sequenced>(
     alloc: Global,
     setup: &Setup,

@@ -83,6 +83,7 @@ impl<M: Sequenced> Simulation<M> {
     }
 
     /// Applies one event. The only error is out of memory; after that nothing is known about the cores.
+    // rule: Network: An ask goes to each core of the node that is asked, for the asker's own epoch
     pub fn event(&mut self, alloc: Global, event: &Event) -> Result<EventOutcome, NoMemory>
         requires range { IsInRange self.old.setup event.now }
         requires standing { RefinesSome M.spec M.refines self.old }
@@ -143,6 +144,8 @@ impl<M: Sequenced> Simulation<M> {
     }
 
     // Delivers a packet to its core, also one that was delivered or lost before (a duplicate).
+    // rule: Network: A delivered packet is taken by its core, whether or not it still waits
+    // rule: Recovery: A missing packet is reported before the disk is asked
     fn deliver(&mut self, alloc: Global, packet: u64) -> Result<EventOutcome, NoMemory>
         requires { RefinesSome M.spec M.refines self.old }
         ensures happened { IfOk result (λ r. (w : Machines M.Msg) → RefinesMachines M.spec M.refines self.old w →
@@ -159,6 +162,7 @@ impl<M: Sequenced> Simulation<M> {
     }
 
     // Loses a packet: it is no longer in flight.
+    // rule: Network: A lost packet waits no more
     fn lose(&mut self, packet: u64) -> EventOutcome
         ensures happened { (w : Machines M.Msg) → RefinesMachines M.spec M.refines self.old w →
             HasChanged M.spec M.refines self.new (loses w packet (nth w.held.net.network.packets packet)) result }
@@ -208,6 +212,7 @@ impl<M: Sequenced> Simulation<M> {
     }
 
     // At most `most` pumps. Stops early if nothing is in flight, or if a delivery reveals evidence.
+    // rule: Network: A calm is n pumps, fewer if one finds nothing or ends the run
     fn calm(&mut self, alloc: Global, most: u32) -> Result<EventOutcome, NoMemory>
         requires { RefinesSome M.spec M.refines self.old }
         ensures happened { IfOk result (λ r. (w : Machines M.Msg) → RefinesMachines M.spec M.refines self.old w →
@@ -264,6 +269,7 @@ impl<M: Sequenced> Simulation<M> {
 
     // Restarts a core: it recovers from what its disk has synced. Packets in flight for it stay, and so does whether it
     // is held.
+    // rule: Recovery: A recovered core is that of its kept events; it sends nothing and its packets still wait
     fn restart(&mut self, core: u32) -> Result<EventOutcome, NoMemory>
         requires core { core < cores_of self.old.setup }
         requires standing { RefinesSome M.spec M.refines self.old }
@@ -279,6 +285,7 @@ impl<M: Sequenced> Simulation<M> {
     }
 
     // Lets the next `calls` calls of a core's disk succeed. All later ones fail until the core is restarted.
+    // rule: Recovery: After a crash n more disk calls of a core pass, and all others fail until it recovers
     fn crash(&mut self, core: u32, calls: u32) -> EventOutcome
         requires { core < cores_of self.old.setup }
         ensures happened { (w : Machines M.Msg) → RefinesMachines M.spec M.refines self.old w →

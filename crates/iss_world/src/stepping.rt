@@ -94,6 +94,8 @@ fn ends(
 impl<M: Sequenced> Simulation<M> {
     // A core takes an event. It is lost if the core's disk has failed. It stops the run if the event claims a forged
     // signature.
+    // rule: Evidence: A verified claim that its correct signer never sent ends the run before the step
+    // rule: Recovery: A core whose disk has failed takes and reads nothing until it recovers
     pub(crate) fn take(
         &mut self,
         alloc: Global,
@@ -123,6 +125,7 @@ impl<M: Sequenced> Simulation<M> {
     }
 
     // A core with a working disk takes an event whose claims were tested.
+    // rule: Recovery: An event that is not kept is lost (`Stopped`), and the core is as it was before
     fn step(&mut self, alloc: Global, core: u32, event: NodeEvent) -> Result<EventOutcome, NoMemory>
         requires core { core < cores_of self.old.setup }
         requires nodes { IsOfNodes self.old.setup.n event }
@@ -144,6 +147,7 @@ impl<M: Sequenced> Simulation<M> {
 
     // A core accepted and journaled an event. Either its outcome reveals evidence and the core retreats, or its
     // signatures are recorded and its packets posted.
+    // rule: Evidence: A world whose run has ended repeats its evidence and shows the state before it
     fn taken(
         &mut self,
         alloc: Global,

@@ -64,6 +64,7 @@ impl Strings {
     }
 
     /// Adds the strings of a step, in order. Stops at the first that collides, and returns the collision.
+    // rule: Evidence: Two strings of one digest end the run, and the earlier one is named first
     pub fn book(
         &mut self,
         directory: &Directory,

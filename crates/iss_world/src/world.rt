@@ -93,6 +93,10 @@ impl<M: Sequenced> World<M> {
     /// Applies one event. If it reveals evidence, the world rolls back to before that delivery and answers every later
     /// event with the same evidence. After `NoMemory` the world is stale. Otherwise the world refines the run with this
     /// event added (`happened`), for which the headline holds (`headline`, see `IsHeadline`).
+    // rule: Runs: A node or a world that ran out of memory says so from then on
+    // rule: Runs: After each event the world refines the run with that event
+    // rule: Checkpoints: A certificate that a correct node keeps certifies the log of a correct signer
+    // rule: Transfer: A value that a correct node adopted was delivered in that slot by a correct node
     pub fn event(&mut self, alloc: Global, event: &Event) -> EventResult
         requires { IsInRange self.old.simulation.setup event.now }
         ensures happened { (p : Course M.Msg) → RefinesRun M.spec M.refines self.old p →

@@ -30,5 +30,6 @@ value_or_nil (Some c) = c.value
 
 -- the value of the certificate of the highest view, of the least node where several have that view, since the nodes
 -- ascend; nil where there is none
+-- rule: PBFT: A new view proposes the value of the certificate of the highest view, else nil
 abbrev pub choice : List Change → ℕ → Value
 choice xs s = value_or_nil (best s (certificates_of xs))

@@ -39,6 +39,7 @@ chosen_claims p by v xs [] sigs = []
 chosen_claims p by v xs (s ∷ ss) [] = []
 chosen_claims p by v xs (s ∷ ss) (sig ∷ sigs) = claim by (state_at p 1 v s.0 (digest_of p (choice xs s.0))) sig ∷ chosen_claims p by v xs ss sigs
 
+-- rule: PBFT: A message claims each signature in it, in the order of its bytes
 abbrev pub claims : Params → ℕ → Message → List Claim
 claims p by (PrePrepare v slot x sig) = claim by (state_at p 1 v slot.0 (digest_of p x)) sig ∷ []
 claims p by (Prepare v slot d sig) = claim by (state_at p 2 v slot.0 d) sig ∷ []

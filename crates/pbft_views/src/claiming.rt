@@ -248,6 +248,7 @@ fn claims_of_new_view(
 
 /// What a message says that nodes have signed, in the order of its bytes. A ViewChange of more certificates than a byte
 /// counts has no statement in bytes, which is answered as want of memory.
+// rule: PBFT: A message claims each signature in it, in the order of its bytes
 pub fn claims(
     alloc: Global,
     p: &Params,

@@ -53,6 +53,7 @@ fn is_batch(value: &Value) -> bool
 
 /// Whether a certificate is good: of a slot of the segment, with exactly 2f Prepares of different nodes other than the
 /// primary, and in view 0 with a batch.
+// rule: PBFT: A prepared certificate has Prepares of 2f distinct replicas other than the primary
 pub fn is_good(p: &Params, c: &Certificate) -> bool
     requires { IsGoodSetup p.now.setup }
     ensures { result ≡ is_good p.now c.now }
@@ -97,6 +98,7 @@ fn are_changes(p: &Params, view: u16, from: u32, changes: &[Change]) -> bool
 }
 
 /// Whether a view begins with these ViewChanges: 2f+1 of them.
+// rule: PBFT: A new view needs ViewChanges of 2f+1 distinct replicas with certificates of lower views
 pub fn are_enough(p: &Params, view: u16, changes: &[Change]) -> bool
     requires { IsGoodSetup p.now.setup }
     ensures { result ≡ are_enough p.now view changes.now }

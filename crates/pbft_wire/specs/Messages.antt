@@ -102,6 +102,7 @@ pub record IsSpelledNew (version v : ℕ) (xs : List Change) (sigs : List (List 
   pub signed : is_signature sig ≡ true
   pub row : bytes ≡ 5 ∷ (to_be_bytes w16 v ++ (length xs ∷ (changes ++ (length sigs ∷ (signatures ++ sig)))))
 
+-- rule: PBFT: A message has one encoding, with replicas and slots strictly ascending
 abbrev pub IsSpelledMessage : ℕ → Message → List ℕ → Type 0
 IsSpelledMessage version (PrePrepare v slot x sig) bytes =
     (v < 2 ^ 16) × (slot.0 < 2 ^ 64) × (is_signature sig ≡ true) ×

@@ -88,6 +88,7 @@ fn marks_of(alloc: Global, p: &Params, certificates: &[Certificate]) -> Result<S
 // ---- statements
 
 /// The statement of a PrePrepare, a Prepare or a Commit for the value of this digest.
+// rule: PBFT: A signature covers the instance, kind, view, slot and digest
 pub fn state_at(
     alloc: Global,
     p: &Params,
@@ -122,6 +123,7 @@ pub fn state_change(
 }
 
 /// The statement of a ViewChange with certificates of these marks.
+// rule: PBFT: A ViewChange signs the slot, view and digest of each prepared certificate
 pub fn state_marked(alloc: Global, p: &Params, view: u16, marks: &[Mark]) -> Result<Bytes, NoMemory>
     requires { length marks.now ≤ 255 }
     ensures { IfOk result (λ s. (cs : List Certificate) → marks.now ≡ map (mark_of p.now) cs → s ≡ state_change p.now view cs) }

@@ -339,6 +339,7 @@ fn put_message(msg: &Message, out: &mut Writer) -> Result<(), NoMemory>
 
 /// Writes a message: its number, its fields, its signature. One that has no spelling is written as bytes that no reader
 /// takes.
+// rule: PBFT: A message has one encoding, with replicas and slots strictly ascending
 pub fn write(msg: &Message, out: &mut Writer) -> Result<(), NoMemory>
     ensures { OnOk result (out.new ≡ and_bytes out.old (spell out.old.version msg.now)) }
 {

@@ -69,6 +69,7 @@ pub record IsSpelledAppend (version term previous previous_term commit : ℕ) (e
   pub spelled : AreSpelledEntries version es entries
   pub row : bytes ≡ append_row term previous previous_term commit (length es) entries
 
+-- rule: Raft: A message has one encoding, and an error names the first field that does not fit
 abbrev pub IsSpelledMessage : ℕ → Message → List ℕ → Type 0
 IsSpelledMessage version (Append term previous previous_term commit es) bytes = IsSpelledAppend version term previous previous_term commit es bytes
 IsSpelledMessage version (Reply term ok index) bytes = (term < 2 ^ 16) × (index < 2 ^ 32) × (bytes ≡ reply_row term ok index)

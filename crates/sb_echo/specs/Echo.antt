@@ -42,6 +42,7 @@ abbrev pub statement : Params → ℕ → ℕ → List ℕ → List ℕ
 statement p kind s d = statement_head p tag ++ (kind ∷ (eight_bytes s ++ d))
 
 -- a message claims its own signature
+-- rule: Echo: A message claims its sender's signature
 abbrev pub claims : Params → ℕ → Word → List Claim
 claims p from (Say slot batch sig) = claim from (statement p 1 slot.0 (digest_of p batch)) sig ∷ []
 claims p from (Echo slot d sig) = claim from (statement p 2 slot.0 d) sig ∷ []
@@ -71,6 +72,7 @@ is_open p s xs = has_slot s p.slots && not (is_some (taken s xs))
 -- ---- rules
 
 -- the leader takes a cast at an open slot, and a node the leader's word on one
+-- rule: Echo: A node takes the leader's first batch for a slot and echoes its digest once
 abbrev pub asks : Params → ℕ → List (Item Word) → Input Word → Option (Slot × Batch)
 asks p me xs (Cast slot batch) = if (me == p.leader.0) && is_open p slot.0 xs then Some (slot, batch) else None
 asks p me xs (Receive from (Say slot batch sig)) = if (from.0 == p.leader.0) && is_open p slot.0 xs then Some (slot, batch) else None
@@ -115,6 +117,7 @@ abbrev pub decide : Params → ℕ → List (Item Word) → Option Batch → Opt
 decide p s xs None = None
 decide p s xs (Some b) = if has_slot s p.slots && is_echoed p s (digest_of p b) xs then Some (Value_batch b) else None
 
+-- rule: Echo: A quorum of echoes decides the batch that was taken
 abbrev pub decided : Params → ℕ → List (Item Word) → ℕ → Option Value
 decided p me xs s = decide p s xs (taken s xs)
 

@@ -171,6 +171,7 @@ impl Echo {
     }
 
     // A node takes the leader's first word on a slot, and echoes its digest to all.
+    // rule: Echo: A node takes the leader's first batch for a slot and echoes its digest once
     fn take_say(
         &mut self,
         alloc: Global,
@@ -196,6 +197,7 @@ impl Echo {
     }
 
     // A node hears an echo, and delivers what it took at the slot once a quorum echoed it. It signs nothing.
+    // rule: Echo: A quorum of echoes decides the batch that was taken
     fn take_echo(
         &mut self,
         alloc: Global,

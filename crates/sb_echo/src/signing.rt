@@ -35,6 +35,7 @@ pub fn digest_of(p: &Params, batch: &Batch, string: &Bytes) -> [u8; 32]
 }
 
 /// The statement that a batch of this digest was said, or taken, at the slot.
+// rule: Signatures: A statement names its cluster, epoch, leader, module and kind
 pub fn statement(
     alloc: Global,
     p: &Params,

@@ -94,6 +94,7 @@ fn read_echo(alloc: Global, f: &mut Fields) -> Result<Word, DecodeError>
 }
 
 /// What a message claims: its own signature.
+// rule: Echo: A message claims its sender's signature
 pub fn claims(alloc: Global, p: &Params, from: NodeId, msg: &Word) -> Result<Seq<Claim>, NoMemory>
     ensures { IfOk result (λ all. all ≡ claims p.now from.0 msg.now) }
 {

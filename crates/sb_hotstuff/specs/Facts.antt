@@ -33,6 +33,7 @@ pub record IsVoted (w : World Message) (i phase view : ℕ) (d : List ℕ) : Typ
   pub vote : VotedIn item phase view d
 
 -- at an input a node votes once; later votes are of views that never fall, and of one view of other phases
+-- rule: HotStuff: A replica votes once for a phase of a view, in views that never decrease
 pub record VoteOnce (w : World Message) : Type 0 where
   pub one : (i : ℕ) (x : Item Message) (phase view q v : ℕ) (d e : List ℕ) → In x (w i) → VotedIn x phase view d → VotedIn x q v e →
       (phase ≡ q) × (view ≡ v) × (d ≡ e)
@@ -115,6 +116,7 @@ AreFromLeader p w = (i : ℕ) (s : Slot) (b : Batch) → is_correct p.setup p.le
     delivered hotstuff p i (w i) s.0 ≡ Some (Value_batch b) → In {A = Slot × Batch} (s, b) (accepts (w p.leader.0))
 
 -- and accepts one batch at a slot
+-- rule: HotStuff: A correct leader accepts one batch a slot
 abbrev pub AreOnce : Params → World Message → Type 0
 AreOnce p w = is_correct p.setup p.leader.0 ≡ true → (slot : Slot) (b c : Batch) →
     In {A = Slot × Batch} (slot, b) (accepts (w p.leader.0)) → In {A = Slot × Batch} (slot, c) (accepts (w p.leader.0)) → b ≡ c

@@ -45,6 +45,7 @@ abbrev pub was_accepted : ℕ → Batch → List (Slot × Batch) → Bool
 was_accepted s b [] = false
 was_accepted s b (a ∷ old) = ((a.0.0 == s) && same_batch a.1 b) || was_accepted s b old
 
+-- rule: HotStuff: A batch is accepted once at a slot
 abbrev pub unless_accepted : List (Slot × Batch) → Batch → Option Slot → Option (Slot × Batch)
 unless_accepted old b None = None
 unless_accepted old b (Some s) = if was_accepted s.0 b old then None else Some (s, b)
@@ -89,6 +90,7 @@ answers_heard p s k from (Decide view shown sig) = []
 answers_heard p s k from (Vote phase view d sig) =
     if keeps_vote p s from phase view d && is_reached p k phase view d then (To_all, shows phase view (certificate p k phase view d)) ∷ [] else []
 
+-- rule: HotStuff: A timeout enters the next round and tells its leader the highest certificate
 abbrev pub answers : Params → State → State → Input Message → List (To × Message)
 answers p s k (Cast slot batch) = []
 answers p s k (Receive from msg) = answers_heard p s k from.0 msg
@@ -150,6 +152,7 @@ decides_heard p s (Decide view shown sig) n =
     if is_good p 3 view shown && is_known s.tree (digest_of shown) then value_at_slot (branch s.tree (digest_of shown)) 0 p.slots n else None
 decides_heard p s (Vote phase view d sig) n = None
 
+-- rule: HotStuff: A certificate of the third phase delivers its node's branch, each slot once
 abbrev pub decides : Params → State → Input Message → ℕ → Option Value
 decides p s (Cast slot batch) n = None
 decides p s (Receive from msg) n = decides_heard p s msg n

@@ -34,6 +34,7 @@ abbrev pub node_digest : Params → ℕ → Content → Certificate → List ℕ
 node_digest p view what just = Statements.node_digest basic p view what just
 
 -- a certificate of a quorum's votes for this phase in this view, which is that of a turn
+-- rule: HotStuff: A certificate has the votes of exactly a quorum
 abbrev pub is_good : Params → ℕ → ℕ → Certificate → Bool
 is_good p phase view c = nat_le 1 (turn_of view) && is_quorum p.setup.quorum phase view c
 
@@ -149,18 +150,21 @@ with_cast s b = record s { casts = s.casts ++ b ∷ [] }
 -- ---- a proposal
 
 -- the node extends the lock's, or its justification is above the lock
+-- rule: HotStuff: A proposal is safe if it extends the lock or its certificate is above the lock
 abbrev pub is_safe : Params → State → ℕ → Content → Certificate → Bool
 is_safe p s view what just =
     (same_bytes (node_digest p view what just) (digest_of s.lock) || extends s.tree (digest_of just) (digest_of s.lock)) ||
     nat_lt (view_of s.lock) (view_of just)
 
 -- what may stand behind so many slots: batches in the first round alone, then nil, and marks once all slots are filled
+-- rule: HotStuff: Batches are proposed in round 0 only; later rounds propose nil, then marks
 abbrev pub is_allowed : Params → ℕ → ℕ → Content → Bool
 is_allowed p round slots Nil = nat_le 1 round && nat_lt slots (length p.slots)
 is_allowed p round slots (Holds b) = (round == 0) && nat_lt slots (length p.slots)
 is_allowed p round slots Mark = nat_le 1 round && not (nat_lt slots (length p.slots))
 
 -- from the view's leader, in a view above the own
+-- rule: HotStuff: A proposal is taken only in a view above the replica's own
 abbrev pub is_timely : Params → State → ℕ → ℕ → Bool
 is_timely p s from view = (from == leader_of p (round_of view)) && (nat_lt s.view view && nat_le 1 (turn_of view))
 
@@ -201,6 +205,7 @@ with_round s = record s { view = suc (round_of s.view) * 65536; second = false; 
 
 -- ---- what is kept of an input, but for the turn that it leads to
 
+-- rule: HotStuff: Only a certificate of the second phase becomes the lock, which never decreases
 abbrev pub heard : Params → ℕ → State → ℕ → Message → State
 heard p me s from (NewView round high sig) = if keeps_news p me s from round high then with_news s from round high else s
 heard p me s from (Prepare view what just sig) = if may_prepare p s from view what just then with_node p s view what just else s
@@ -234,6 +239,7 @@ turn_after p s t =
     (if nat_lt t.slots (length p.slots) then Some (turn p (suc t.view) (certificate p s 1 t.view t.digest) Nil t.slots) else None)
 
 -- the newest turn is the last
+-- rule: HotStuff: The next turn extends the last one, once its first and last quorum were shown
 abbrev pub next_turn : Params → State → List Turn → Option Turn
 next_turn p s [] = if round_of s.view == 0 then cast_turn p 1 Root 0 (nth s.casts 0) else None
 next_turn p s (t ∷ ts) = if is_ready p s t then turn_after p s t else None
@@ -248,6 +254,7 @@ turn_on p s round high =
     if is_known s.tree (digest_of high)
     then Some (turn p (round * 65536 + 1) high (nil_or_mark p (slots_below s high)) (slots_below s high)) else None
 
+-- rule: HotStuff: A round begins on the highest certificate of a quorum of NewViews
 abbrev pub first_turn : Params → State → ℕ → Option Turn
 first_turn p s round =
     if (length (all_news p.setup.n s.news round) == p.setup.quorum) && nat_le (round_of s.view) round

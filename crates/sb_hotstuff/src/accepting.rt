@@ -45,6 +45,8 @@ pub fn cast_slot(node: &Node, p: &Params, slot: Slot) -> Option<Slot>
 }
 
 /// The slot behind the branch of the certificate's node, where a batch is to stand there that was not accepted there.
+// rule: HotStuff: A batch is accepted once at a slot
+// rule: HotStuff: A correct leader accepts one batch a slot
 pub fn offered_slot(
     node: &Node,
     accepted: &Accepted,

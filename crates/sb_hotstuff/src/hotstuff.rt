@@ -122,6 +122,8 @@ impl HotStuff {
     }
 
     // What the branch of a decided node holds for slots that are not delivered is delivered.
+    // rule: HotStuff: A certificate of the third phase delivers its node's branch, each slot once
+    // rule: Modules: A step delivers exactly what the module's definition delivers
     fn decide(
         &mut self,
         alloc: Global,

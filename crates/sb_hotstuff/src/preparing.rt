@@ -25,6 +25,7 @@ impl Node {
     }
 
     // Whether the node extends the lock's, or its justification is above the lock. Only a node on none of these is hashed.
+    // rule: HotStuff: A proposal is safe if it extends the lock or its certificate is above the lock
     fn is_safe(&self, p: &Params, what: &Content, just: &Certificate) -> bool
         ensures { (s : State) (view : ℕ) → RefinesState self.now s → result ≡ is_safe p.now s view what.now just.now }
     {

@@ -100,6 +100,7 @@ impl Node {
     }
 
     /// The turn behind the last one, if it is ready.
+    // rule: HotStuff: The next turn extends the last one, once its first and last quorum were shown
     pub(crate) fn next(&mut self, alloc: Global, p: &Params) -> Result<Outcome, NoMemory>
         requires { IsGoodParams hotstuff p.now }
         ensures { IfOk result (λ o. (k : State) → RefinesState self.old k → Proposes p.now self.old self.new k (next_turn p.now k k.turns) o) }
@@ -137,6 +138,7 @@ impl Node {
     }
 
     /// The first turn of a round, once a quorum's words on it are kept.
+    // rule: HotStuff: A round begins on the highest certificate of a quorum of NewViews
     pub(crate) fn first(
         &mut self,
         alloc: Global,

@@ -90,6 +90,7 @@ impl Node {
     }
 
     /// A certificate of the second phase: it becomes the lock, and the node is voted for in the third.
+    // rule: HotStuff: Only a certificate of the second phase becomes the lock, which never decreases
     pub fn take_commit(
         &mut self,
         alloc: Global,
@@ -168,6 +169,7 @@ impl Node {
     }
 
     /// The round ends, if there is another: its leader is told the highest certificate.
+    // rule: HotStuff: A timeout enters the next round and tells its leader the highest certificate
     pub fn time_out(&mut self, alloc: Global, p: &Params) -> Result<Outcome, NoMemory>
         requires { IsGoodParams hotstuff p.now }
         ensures { IfOk result (λ o. (s : State) → RefinesState self.old s → Does p.now self.old self.new s Input.Timeout o) }

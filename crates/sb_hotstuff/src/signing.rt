@@ -330,6 +330,7 @@ fn own_claim(alloc: Global, p: &Params, from: NodeId, m: &Message) -> Result<Cla
 }
 
 /// What a message claims that nodes signed: the votes of the certificate in it, then its sender's own signature.
+// rule: HotStuff: A message claims the votes of its certificate, then its sender's signature
 pub fn claims(alloc: Global, p: &Params, from: NodeId, m: &Message) -> Result<Seq<Claim>, NoMemory>
     ensures { IfOk result (λ all. all ≡ claims basic p.now from.0 m.now) }
 {

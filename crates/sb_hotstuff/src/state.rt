@@ -48,6 +48,7 @@ pub fn round_of(view: u32) -> u16
 }
 
 /// Whether a certificate is one of a quorum's votes for this phase in this view, which is that of a turn.
+// rule: HotStuff: A certificate has the votes of exactly a quorum
 pub fn is_good(p: &Params, phase: u8, view: u32, c: &Certificate) -> bool
     ensures { result ≡ is_good p.now phase view c.now }
 {
@@ -65,6 +66,7 @@ pub fn is_just(p: &Params, view: u32, c: &Certificate) -> bool
 }
 
 /// What may stand behind so many slots.
+// rule: HotStuff: Batches are proposed in round 0 only; later rounds propose nil, then marks
 pub fn is_allowed(p: &Params, round: u16, slots: usize, what: &Content) -> bool
     ensures { result ≡ is_allowed p.now round slots what.now }
 {
@@ -108,6 +110,7 @@ impl Node {
     }
 
     /// Whether a proposal is its view's leader's, in a view above the own.
+    // rule: HotStuff: A proposal is taken only in a view above the replica's own
     pub fn is_timely(&self, p: &Params, from: NodeId, view: u32) -> bool
         requires { IsGoodParams hotstuff p.now }
         ensures { (s : State) → RefinesState self.now s → result ≡ is_timely p.now s from.0 view }
@@ -123,6 +126,7 @@ impl Node {
     }
 
     /// Whether the node is to vote in the second phase of the view.
+    // rule: HotStuff: A replica votes once for a phase of a view, in views that never decrease
     pub fn may_second(&self, p: &Params, view: u32, shown: &Certificate) -> bool
         ensures { (s : State) → RefinesState self.now s → result ≡ may_second p.now s view shown.now }
     {

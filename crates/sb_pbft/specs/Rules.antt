@@ -33,6 +33,7 @@ abbrev pub is_newer : Mode → ℕ → Bool
 is_newer m v = nat_lt m.view v || ((m.view == v) && not m.active)
 
 -- where a NewView is taken: of the primary of a newer view, with 2f+1 ViewChanges and a signature for each slot
+-- rule: PBFT: A replica enters a view above its own, or its inactive own one, by the primary's NewView
 abbrev pub enters : Params → Mode → ℕ → ℕ → List Change → List (List ℕ) → Bool
 enters p m from v xs sigs = is_newer m v && (are_enough p v xs && ((from == primary p v) && (nat_lt 0 v && (length sigs == length p.slots))))
 
@@ -56,11 +57,13 @@ mode p (i ∷ l) = mode_after p (mode p l) i
 -- ---- proposals
 
 -- view 0, active, and a slot of the segment
+-- rule: PBFT: A replica takes a batch for a slot once, in view 0 while that is active
 abbrev pub is_open : Params → Mode → ℕ → Bool
 is_open p m s = (m.view == 0) && (m.active && has_slot s p.slots)
 
 -- what an input proposes in view 0, but for that there may be a proposal already: the leader's cast, and its PrePrepare
 -- of a batch
+-- rule: PBFT: The leader alone casts, and replicas take a batch from the leader alone
 abbrev pub offer : Params → ℕ → Mode → Input Message → Option (Slot × Batch)
 offer p me m (Cast slot batch) = when ((me == p.leader.0) && is_open p m slot.0) (slot, batch)
 offer p me m (Receive from (PrePrepare v slot Nil sig)) = None
@@ -125,6 +128,8 @@ prepare_in p (Receive from (ViewChange w cs sig)) v s k = None
 prepare_in p (Receive from (NewView w xs sigs sig)) v s k = None
 prepare_in p Timeout v s k = None
 
+-- rule: PBFT: A replica's first Prepare and first Commit count, once a view and slot
+-- rule: PBFT: A Prepare of the primary does not count
 abbrev pub prepare_of : Params → List (Input Message) → ℕ → ℕ → ℕ → Option Ballot
 prepare_of p [] v s k = None
 prepare_of p (i ∷ l) v s k = first_of (prepare_of p l v s k) (prepare_in p i v s k)
@@ -192,6 +197,7 @@ change_in p (Receive from (ViewChange w cs sig)) v k =
 change_in p (Receive from (NewView w xs sigs sig)) v k = None
 change_in p Timeout v k = None
 
+-- rule: PBFT: A replica's first good ViewChange of a view is kept
 abbrev pub change_of : Params → List (Input Message) → ℕ → ℕ → Option Change
 change_of p [] v k = None
 change_of p (i ∷ l) v k = first_of (change_of p l v k) (change_in p i v k)

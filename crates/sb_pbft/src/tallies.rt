@@ -41,6 +41,7 @@ impl Votes {
     }
 
     /// Keeps a node's vote, if it is the node's first there.
+    // rule: PBFT: A replica's first Prepare and first Commit count, once a view and slot
     pub fn keep(
         &mut self,
         view: u16,

@@ -72,6 +72,7 @@ pub data MayBeCommitted (p : Params) (me : ℕ) (xs : List (Item Message)) : ℕ
   counted : {i : ℕ} → IsCounted p me xs i → MayBeCommitted p me xs i
 
 -- the greatest of these
+-- rule: Raft: The commit index is the greatest that may be committed
 pub record IsCommitted (p : Params) (me : ℕ) (xs : List (Item Message)) (c : ℕ) : Type 0 where
   pub may : MayBeCommitted p me xs c
   pub most : (i : ℕ) → MayBeCommitted p me xs i → i ≤ c

@@ -59,6 +59,7 @@ pub record AreByFirst (p : Params) (w : World Message) : Type 0 where
       raft_log p i a ≡ front ++ (e ∷ rest) → e.what ≡ Holds b → IsOwned p w front b
 
 -- a node accepts one batch at a slot
+-- rule: Raft: A node accepts one batch a slot
 abbrev pub AreOnce : Params → World Message → Type 0
 AreOnce p w = (i : ℕ) (s : Slot) (b c : Batch) → In {A = Slot × Batch} (s, b) (accepts (w i)) → In {A = Slot × Batch} (s, c) (accepts (w i)) → b ≡ c
 

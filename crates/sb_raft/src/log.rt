@@ -211,6 +211,7 @@ impl Log {
 
     /// Puts entries behind an index: those that stand there go from the first on that differs in term. Nothing is changed
     /// where a committed one would go, or the log would be too long; the answer tells.
+    // rule: Raft: A log has at most 65,600 entries after an Append
     pub fn merge(&mut self, index: usize, entries: Seq<Entry>) -> Result<bool, NoMemory>
         requires { index ≤ length self.old.entries }
         ensures tells { IfOk result (λ b. b ≡ is_mergeable self.old index entries) }

@@ -22,6 +22,7 @@ const LAST_TERM: u16 = 65_535;
 impl Raft {
     // ---- a message of a higher term: the node takes the term, has given no vote in it, and follows
 
+    // rule: Raft: A higher term makes a node a follower of that term, with no vote given in it
     pub(crate) fn raise(&mut self, term: u16)
         ensures me { self.new.me ≡ self.old.me }
         ensures state { held self.new ≡ raised (held self.old) term }
@@ -41,6 +42,8 @@ impl Raft {
         self.part.is_leader() && self.term == 1 && is_next(p, self.log.filled(), slot)
     }
 
+    // rule: Raft: The leader of the first term takes casts, each at the next slot
+    // rule: Raft: A node accepts one batch a slot
     pub(crate) fn cast(
         &mut self,
         alloc: Global,
@@ -67,6 +70,7 @@ impl Raft {
 
     // ---- Appends. One of a lower term, or whose previous entry is not there, is answered not ok
 
+    // rule: Raft: An Append of a lower term is refused with the node's own term
     pub(crate) fn take_append(
         &mut self,
         alloc: Global,
@@ -101,6 +105,8 @@ impl Raft {
 
     // The entries behind an index that is there: those that differ in term from what was sent go. Nothing that is committed
     // goes, and the log stays short enough; else there is no answer.
+    // rule: Raft: An Append keeps committed entries and removes entries that differ in term
+    // rule: Raft: An Append commits only entries that it covers
     fn merge(
         &mut self,
         alloc: Global,
@@ -160,6 +166,7 @@ impl Raft {
     }
 
     // An ok within the log: the match rises.
+    // rule: Raft: A follower's match index never decreases within a term
     fn take_ok(
         &mut self,
         alloc: Global,
@@ -188,6 +195,7 @@ impl Raft {
     }
 
     // Not ok, of the Append that was sent last: one entry more is sent.
+    // rule: Raft: After a refused Append the leader sends one entry more
     fn take_not_ok(
         &mut self,
         alloc: Global,
@@ -232,6 +240,7 @@ impl Raft {
         term == self.term && self.is_free_for(from) && self.is_up_to_date(last, last_term)
     }
 
+    // rule: Raft: A node gives one vote a term, to a candidate whose log is up to date
     pub(crate) fn take_ask(
         &mut self,
         alloc: Global,
@@ -310,6 +319,7 @@ impl Raft {
     }
 
     // Leads, with a mark of the term, and nil for each missing slot. What is sent next stands behind the old log.
+    // rule: Raft: A new leader fills the rest of its segment with a mark and nil entries
     fn lead(&mut self, alloc: Global, p: &Params) -> Result<(), NoMemory>
         ensures within { self.old.log.commit ≤ length self.old.log.entries }
         ensures me { OnOk result (self.new.me ≡ self.old.me) }
@@ -327,6 +337,8 @@ impl Raft {
 
     // ---- timeouts: a leader sends the log once more, another node stands for the next term, if there is one
 
+    // rule: Raft: A timeout makes a node a candidate of the next term, up to the last term
+    // rule: Raft: A leader that times out sends its log to all others again
     pub(crate) fn time_out(
         &mut self,
         alloc: Global,

@@ -41,6 +41,7 @@ impl Relay {
     }
 
     /// Says the batch to all, where it may be cast.
+    // rule: Relay: The leader sends one batch a slot
     fn cast(
         &mut self,
         alloc: Global,
@@ -69,6 +70,8 @@ impl Relay {
     }
 
     /// Delivers what a node said, where it is to be delivered.
+    // rule: Relay: The leader's first batch for a slot is delivered, once
+    // rule: Modules: A step delivers exactly what the module's definition delivers
     fn hear(
         &mut self,
         alloc: Global,
