@@ -1,4 +1,5 @@
--- The book has each claim that a node sent of its own: what an input adds to the node's past, its step puts into the book.
+-- The book has each claim that a node sent of its own: what an input adds to the node's past, its step puts into the
+-- book.
 use Rattle.std.proofs.Common.{◌≡◌, inl, inr, ℕ, ◌≤◌, List, ◌∷◌, subst, arith, le_trans}
 use Rattle.std.proofs.lemmas.Bool.Decides.{leb_tells}
 use Rattle.iss_base.specs.Lists.{In}

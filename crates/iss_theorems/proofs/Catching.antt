@@ -108,7 +108,8 @@ once_signed : (core behind 0).leaf ≡ 1
 unfolding core
 once_signed = refl
 
--- an ask with no certificate yet, a message of an epoch that is over, votes that come again or once there is a certificate
+-- an ask with no certificate yet, a message of an epoch that is over, votes that come again or once there is a
+-- certificate
 abbrev refused : List Event
 refused =
     Ask 0 (record { 0 = 1 }) ∷ Deliver 0 ∷ Propose 0 ∷ Propose 1 ∷ Propose 2 ∷ Calm 2 ∷ Deliver 9 ∷ Deliver 10 ∷ Deliver 12 ∷ Deliver 15 ∷

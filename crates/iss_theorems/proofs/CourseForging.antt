@@ -1,5 +1,5 @@
--- Runs of four nodes that are computed, of which the last is faulty, and whose disks fail: what is read, booked and tested of an event
--- that is not kept.
+-- Runs of four nodes that are computed, of which the last is faulty, and whose disks fail: what is read, booked and
+-- tested of an event that is not kept.
 use Rattle.std.proofs.Common.{◌≡◌, ℕ, List, [], ◌∷◌, ◌++◌, Some, None, refl}
 use Rattle.iss_request.specs.Formats.{spell_batch, spell_count, spell_request, spell_value}
 use Rattle.iss_request.specs.declared.requests.Batch.{Batch}
@@ -63,8 +63,8 @@ sent_now : (course_of (unkept ++ Restart 0 ∷ Propose 0 ∷ Bytes 1 told ∷ []
 unfolding wide_bytes spell_value spell_batch spell_count spell_request
 sent_now = refl
 
--- What came early is read in the event in which it is tried, and only where that is kept. Node 1 keeps three of the four messages of
--- epoch 0; its disk fails at the last, by which the epoch would end
+-- What came early is read in the event in which it is tried, and only where that is kept. Node 1 keeps three of the
+-- four messages of epoch 0; its disk fails at the last, by which the epoch would end
 abbrev hearing : Module Word
 hearing = record signing { decided = λ p me xs s. first_told p.leader.0 s xs }
 

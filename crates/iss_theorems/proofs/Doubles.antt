@@ -1,5 +1,5 @@
--- Runs of four nodes that are computed, of which node 3 is faulty: it has two cores, 3 and its twin 4, and each takes its own
--- course with the same keys.
+-- Runs of four nodes that are computed, of which node 3 is faulty: it has two cores, 3 and its twin 4, and each takes
+-- its own course with the same keys.
 use Rattle.std.proofs.Common.{◌≡◌, ℕ, List, [], ◌∷◌, ◌++◌, length, None, refl}
 use Rattle.iss_request.specs.Formats.{spell_batch, spell_count, spell_request, spell_value}
 use Rattle.iss_request.specs.declared.requests.Batch.{Batch}

@@ -1,4 +1,5 @@
--- A run in which disks fail goes along with one of nodes that never stop, event by event: what is kept enters, and what is not is left out.
+-- A run in which disks fail goes along with one of nodes that never stop, event by event: what is kept enters, and what
+-- is not is left out.
 use Rattle.std.proofs.Common.{◌≡◌, ◌⊎◌, inl, inr, ℕ, zero, suc, Bool, true, false, cond, List, [], ◌∷◌, ◌++◌, Option, Some, None, refl, sym, ap, ◌∙◌, subst}
 use Rattle.std.proofs.Math.Path.{fun_ext}
 use Rattle.iss_base.specs.Lists.{In, nth, set_at}
@@ -115,8 +116,8 @@ module _ {Msg : Type 0} (s : Setup) (F : Formats Msg) (R : Rules) (M : Module Ms
 
   -- ---- one core
 
-  -- Core c takes an event, by which nodes that never stop come from h to the same by e, and by no more than is skipped where the event
-  -- does not enter.
+  -- Core c takes an event, by which nodes that never stop come from h to the same by e, and by no more than is skipped
+  -- where the event does not enter.
   module _ (h : Held Msg) (w : Machines Msg) (own : Own w) (c : ℕ) (event : NodeEvent) (e : Event) (low : IsAtCore s e) (calm : IsUndisturbed e)
       (same : free_happens s F R M h e ≡ at_core s F R M w.held c event)
       (skip : (n : ℕ) (drops : List (ℕ × Why)) → By none (at_start h n drops) w.held None) where

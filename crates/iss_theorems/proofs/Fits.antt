@@ -27,7 +27,8 @@ use Rattle.iss_theorems.proofs.Standing.{AreStanding}
 use Rattle.iss_model.proofs.Told.{AreTold}
 use Rattle.iss_theorems.proofs.Voting.{IsVoting}
 
--- what a run is shown from: sound rules that vote, faithful formats, a module that keeps its laws, windows, and a good set-up
+-- what a run is shown from: sound rules that vote, faithful formats, a module that keeps its laws, windows, and a good
+-- set-up
 pub record Premises {Msg : Type 0} (s : Setup) (F : Formats Msg) (R : Rules) (M : Module Msg) : Type 0 where
   pub sound : IsSoundRules s M R
   pub faithful : IsFaithful s F M
@@ -55,8 +56,8 @@ module _ {Msg : Type 0} (s : Setup) (F : Formats Msg) (R : Rules) (M : Module Ms
   AreSent messages j d = (x : Early Msg) → In x d.early →
       In (record { from = x.from; to = j; epoch = suc d.past.epoch; leader = x.leader; msg = x.msg }) messages
 
-  -- what the run holds is what moves of a cluster lead to, all that was hashed for logs is in its book, and what is kept of votes
-  -- and certificates is true: each stands for the log of its node
+  -- what the run holds is what moves of a cluster lead to, all that was hashed for logs is in its book, and what is
+  -- kept of votes and certificates is true: each stands for the log of its node
   pub record Fits (h : Held Msg) : Type 0 where
     pub messages : List (Message Msg)
     pub reach : Reach s (scheme_of s) R M (view h messages)

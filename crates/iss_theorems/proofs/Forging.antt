@@ -1,5 +1,5 @@
--- Runs of four nodes that are computed, of which the last is faulty: what is forged ends a run, and what was signed, or is
--- in the faulty node's name, does not.
+-- Runs of four nodes that are computed, of which the last is faulty: what is forged ends a run, and what was signed, or
+-- is in the faulty node's name, does not.
 use Rattle.std.proofs.Common.{◌≡◌, ℕ, ◌+◌, List, [], ◌∷◌, length, Some, None, refl}
 use Rattle.iss_request.specs.Formats.{spell_batch, spell_count, spell_request, spell_value}
 use Rattle.iss_request.specs.declared.requests.Batch.{Batch}

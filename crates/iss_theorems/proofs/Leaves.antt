@@ -1,4 +1,5 @@
--- Each leaf that a node uses is of one statement: a module's, by the module's law, or a vote's. All else of its own that a node sends it was told.
+-- Each leaf that a node uses is of one statement: a module's, by the module's law, or a vote's. All else of its own
+-- that a node sends it was told.
 use Rattle.std.proofs.Common.{◌≡◌, ◌⊎◌, ◌∙◌, ◌+◌, ◌++◌, ◌∷◌, ℕ, suc, Bool, true, false, cond, eqb, List, [], length, length-append, Option, Some, None, refl, sym, ap, subst, inl, inr, arith, add-zero, eq-eqb}
 use Rattle.std.specs.Prelude.{slice_get}
 use Rattle.iss_sb.proofs.Leaves.{row-left, row-right}
@@ -92,7 +93,8 @@ module _ {Msg : Type 0} (s : Setup) (F : Formats Msg) (R : Rules) (M : Module Ms
     verified : R.verifies v.by.0 (R.voted v.epoch.0 v.chain v.requests) v.sig ≡ true
     told : In (claim_of_vote R v) heard
 
-  -- the row of a core is as long as its next leaf; its epoch's instances are known, and what it keeps of votes and certificates was heard
+  -- the row of a core is as long as its next leaf; its epoch's instances are known, and what it keeps of votes and
+  -- certificates was heard
   record Accounts (row : List (List ℕ)) (heard : List Claim) (c : Core Msg) : Type 0 where
     core : IsSoundCore R M me c
     each : length row ≡ c.leaf

@@ -1,4 +1,5 @@
--- What the cores of a run did: each core is what the life of its node led to, and the book has what correct nodes sent in theirs.
+-- What the cores of a run did: each core is what the life of its node led to, and the book has what correct nodes sent
+-- in theirs.
 use Rattle.std.proofs.Common.{◌≡◌, ◌∙◌, ◌++◌, ◌∷◌, ℕ, Bool, true, false, cond, List, [], refl, sym, ap, subst, inl, inr}
 use Rattle.iss_base.specs.Lists.{In, set_at}
 use Rattle.iss_base.proofs.Lists.{in_append, in_left, in_right, same_or_not, set_at-other, set_at-same}

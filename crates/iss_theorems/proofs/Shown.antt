@@ -1,5 +1,5 @@
--- What an end shows: a forged claim is of a correct node and in no book, and a collision is of two strings of one digest. And
--- the book has each claim that a correct node sent of its own.
+-- What an end shows: a forged claim is of a correct node and in no book, and a collision is of two strings of one
+-- digest. And the book has each claim that a correct node sent of its own.
 use Rattle.std.proofs.Common.{◌≡◌, inl, inr, ℕ, Bool, true, false, cond, eqb, not, ◌&&◌, List, [], ◌∷◌, Some, refl, sym, ap, ◌∙◌, subst, true≢false}
 use Rattle.iss_base.specs.Lists.{In, same_bytes}
 use Rattle.iss_base.proofs.Lists.{and-true, eqb-same, first-cases, in_left, in_right, not-true, same_bytes-is, same_bytes-refl, some-injective}

@@ -1,5 +1,5 @@
--- An event at a node may be many moves of it: it takes an input, ends its epoch and votes, adopts an epoch, and takes what
--- had come early for the next. Claims are read against the book before the event.
+-- An event at a node may be many moves of it: it takes an input, ends its epoch and votes, adopts an epoch, and takes
+-- what had come early for the next. Claims are read against the book before the event.
 use Rattle.std.specs.Prelude.{◌≡◌, ℕ, true, List, [], ◌∷◌, ◌++◌, length, None}
 use Rattle.iss_request.specs.declared.setups.Setup.{Setup}
 use Rattle.iss_sb.specs.declared.effects.Input.{Input}

@@ -1,4 +1,5 @@
--- A vote in the book stands for the log of its node at the end of an epoch, and each epoch that a node ended itself is voted for.
+-- A vote in the book stands for the log of its node at the end of an epoch, and each epoch that a node ended itself is
+-- voted for.
 use Rattle.std.proofs.Common.{◌≡◌, ◌⊎◌, inl, inr, ℕ, suc, ◌<◌, ◌≤◌, List, length, sym, subst, arith, le_trans}
 use Rattle.iss_base.specs.Lists.{In}
 use Rattle.iss_base.proofs.Lists.{in_right}

@@ -1,4 +1,5 @@
--- What a run in which disks fail tells of its events: one in which it ends is not lost, and what was lost is numbered in order.
+-- What a run in which disks fail tells of its events: one in which it ends is not lost, and what was lost is numbered
+-- in order.
 use Rattle.std.proofs.Common.{◌≡◌, inl, inr, ℕ, zero, suc, ◌+◌, ◌<◌, ◌≤◌, Bool, true, false, cond, List, [], ◌∷◌, ◌++◌, length, Option, Some, None, refl, sym, ap, ◌∙◌, subst, arith}
 use Rattle.iss_base.specs.Lists.{In, nth, set_at}
 use Rattle.iss_base.proofs.Lists.{some-injective}

@@ -259,7 +259,8 @@ module _ {Msg : Type 0} (s : Setup) (F : Formats Msg) (R : Rules) (M : Module Ms
         separate = sep;
       }
 
-      -- nothing happens to a log: a request or a vote waits, a message is kept, a packet is answered, or a batch is about to be cast
+      -- nothing happens to a log: a request or a vote waits, a message is kept, a packet is answered, or a batch is
+      -- about to be cast
       pub still-fits : (t : Turn Msg) → t.core.past ≡ c.past → IsReadyCore R M i t.core → (M.stopping ≡ true → AreSent ok.messages i t.core) →
           AreCertified s R h.signed t.core → ((x : Signed) → In x (booked s i t.own) → In x h.signed) →
           ((x : Signed) → In x (booked s i t.own) → x.by ≡ i) → Silent t.sends → Turned t

@@ -1,4 +1,5 @@
--- What a run says of itself in which disks fail and cores are made anew, carried over from the run of nodes that never stop.
+-- What a run says of itself in which disks fail and cores are made anew, carried over from the run of nodes that never
+-- stop.
 use Rattle.std.proofs.Common.{◌≡◌, inl, inr, ℕ, true, List, [], ◌++◌, Option, Some, None, refl, sym, ap, ◌∙◌, subst, append-nil}
 use Rattle.iss_base.proofs.Lists.{some-injective}
 use Rattle.iss_request.specs.declared.requests.Value.{Value}
