@@ -1,4 +1,5 @@
--- Runs with crashes and restarts that are computed: the three nodes of the runs without, whose leaders tell all what they cast.
+-- Runs with crashes and restarts that are computed: the three nodes of the runs without, whose leaders tell all what
+-- they cast.
 use Rattle.std.proofs.Common.{◌≡◌, ℕ, List, [], ◌∷◌, length, reverse, refl}
 use Rattle.iss_network.specs.Network.{due}
 use Rattle.iss_request.specs.declared.requests.Request.{Request}
@@ -31,7 +32,8 @@ one_slot : after stops_once 0 ≡ Value_batch [] ∷ []
 unfolding after
 one_slot = refl
 
--- a disk that fails after so many calls, a request and its cast, and all that waits delivered once the node is there again
+-- a disk that fails after so many calls, a request and its cast, and all that waits delivered once the node is there
+-- again
 abbrev failing_after : ℕ → List Event
 failing_after calls = Crash 0 calls ∷ Event_request 0 0 0 (170 ∷ []) ∷ Propose 0 ∷ Restart 0 ∷ Calm 10 ∷ []
 

@@ -1,5 +1,5 @@
--- Runs that are computed: three nodes, epochs of three slots, and a module by which the leader tells all what it casts, and
--- its slots become nil where its time runs out. Packets are spelled as short as these runs allow.
+-- Runs that are computed: three nodes, epochs of three slots, and a module by which the leader tells all what it casts,
+-- and its slots become nil where its time runs out. Packets are spelled as short as these runs allow.
 use Rattle.std.proofs.Common.{◌≡◌, ℕ, zero, suc, ◌==◌, ◌&&◌, cond, true, false, List, [], ◌∷◌, ◌++◌, length, Option, Some, None, reverse, refl}
 use Rattle.std.specs.Prelude.{drop, nat_lt, take}
 use Rattle.iss_checkpoint.specs.declared.votes.Cert.{Cert}
@@ -172,8 +172,8 @@ sketch [] = []
 sketch (Nil ∷ older) = 0 ∷ sketch older
 sketch (Value_batch b ∷ older) = suc (length b) ∷ sketch older
 
--- rules that compute: every request counts as signed, a signature is a node and a leaf and verifies for the first n nodes, and
--- nothing is hashed for logs
+-- rules that compute: every request counts as signed, a signature is a node and a leaf and verifies for the first n
+-- nodes, and nothing is hashed for logs
 abbrev pub light : Rules → ℕ → Rules
 light R n =
     record R {
@@ -298,7 +298,8 @@ landed : (core_after timed_out 0).flight ≡ []
 unfolding core_after
 landed = refl
 
--- a number is inside the window of an epoch by the log before it: number 8 once number 0 is in the log, and its epoch over
+-- a number is inside the window of an epoch by the log before it: number 8 once number 0 is in the log, and its epoch
+-- over
 outside : (core_after (Event_request 0 0 8 (170 ∷ []) ∷ []) 0).waiting ≡ []
 unfolding core_after
 outside = refl

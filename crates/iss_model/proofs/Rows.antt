@@ -1,4 +1,5 @@
--- A turn is a row of small moves: inputs that are taken, and ends of epochs. What each of them keeps holds of what the event led to.
+-- A turn is a row of small moves: inputs that are taken, and ends of epochs. What each of them keeps holds of what the
+-- event led to.
 use Rattle.std.proofs.Common.{◌≡◌, inl, inr, ℕ, suc, Bool, true, false, cond, eqb, List, [], ◌∷◌, ◌++◌, None, refl, sym, ap, ◌∙◌, subst, append_assoc}
 use Rattle.std.proofs.lemmas.List.{append-nil}
 use Rattle.iss_base.specs.Lists.{In}
