@@ -1,5 +1,5 @@
--- A cluster that signs: one node that leads, casts, and votes at the end of its epoch. Each claim and the vote are in the
--- book, every premise of the composition holds, and so what it says of this cluster is had by applying it.
+-- A cluster that signs: one node that leads, casts, and votes at the end of its epoch. Each claim and the vote are in
+-- the book, every premise of the composition holds, and so what it says of this cluster is had by applying it.
 use Rattle.std.proofs.Common.{◌≡◌, ◌≢◌, inl, inr, ℕ, suc, ◌==◌, ◌&&◌, ◌+◌, ◌*◌, ◌≤◌, ◌<◌, Bool, true, false, cond, eqb, List, [], ◌∷◌, ◌++◌, Option, Some, None, refl, sym, ap, ap₂, ◌∙◌, subst, arith, true≢false, replicate}
 use Rattle.sha2.specs.Sha256.{compress, digest_bytes, first_words, hash_after, rounds, schedule, sha256}
 use Rattle.iss_base.specs.Lists.{In, set_at}

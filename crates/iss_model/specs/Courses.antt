@@ -21,7 +21,7 @@ use Rattle.iss_model.specs.Run.{Happening, Held, at_core, begin_held, claims_at,
 use Rattle.iss_rules.specs.Concrete.{request_of}
 use Rattle.iss_model.specs.Disks.{Disk, fails, fused, keeps, may_keep, new_disk, works_again}
 
--- the state of a run without disks, and the disk of each core
+-- the state of a run (cores, network, books), and the disk of each core
 pub record Machines (Msg : Type 0) : Type 0 where
   pub held : Held Msg
   pub disks : ℕ → Disk
@@ -54,8 +54,11 @@ disks_behind (Some end) before behind = before
 
 -- the outcome of an event that was journaled or dropped, with the disks after it
 abbrev pub with_disks : {Msg : Type 0} → Machines Msg → (ℕ → Disk) → Happening Msg → Upshot Msg
-with_disks w behind d = record { machines = record { held = d.held; disks = disks_behind d.ended w.disks behind };
-    lost = d.lost; ended = d.ended }
+with_disks w behind d = record {
+  machines = record { held = d.held; disks = disks_behind d.ended w.disks behind };
+  lost = d.lost;
+  ended = d.ended;
+}
 
 -- The disk fails before the event is journaled. A forged claim in what was received still stops the run. Otherwise
 -- nothing of the step takes effect: the core is unchanged and sends nothing.
@@ -98,8 +101,10 @@ abbrev pub recover : {Msg : Type 0} → Setup → Formats Msg → Rules → Modu
 recover s F R M w c =
     record {
       held = record {
-        net = record { cores = set_at w.held.net.cores c (core_of F R M (node_of s c) (w.disks c).kept);
-        network = w.held.net.network };
+        net = record {
+          cores = set_at w.held.net.cores c (core_of F R M (node_of s c) (w.disks c).kept);
+          network = w.held.net.network;
+        };
         signed = w.held.signed;
         hashed = w.held.hashed;
       };
@@ -188,8 +193,12 @@ begin_course s = record { machines = begin_machines s; event = 0; drops = []; en
 abbrev pub run_event : {Msg : Type 0} → Setup → Formats Msg → Rules → Module Msg → Course Msg → Event → Course Msg
 run_event s F R M p e =
     let d = apply_event s F R M p.machines e in
-    record { machines = d.machines; event = suc p.event; drops = noted p.event d.lost p.drops;
-    ended = ended_at p.event d.ended }
+    record {
+      machines = d.machines;
+      event = suc p.event;
+      drops = noted p.event d.lost p.drops;
+      ended = ended_at p.event d.ended;
+    }
 
 -- a run that has stopped stays as it is
 abbrev pub run_event_if_open : {Msg : Type 0} → Option (ℕ × End) → Setup → Formats Msg → Rules → Module Msg →

@@ -57,8 +57,15 @@ pub record Core (Msg : Type 0) : Type 0 where
 
 -- the state of a node that took no event
 abbrev pub initial_core : {Msg : Type 0} → Core Msg
-initial_core = record { past = initial_history; waiting = []; flight = []; early = []; votes = [];
-    certs = []; leaf = 0 }
+initial_core = record {
+  past = initial_history;
+  waiting = [];
+  flight = [];
+  early = [];
+  votes = [];
+  certs = [];
+  leaf = 0;
+}
 
 -- The outcome of a step: the new core, the packets to send (in order), the own claims in them, the claims in early
 -- messages that were taken, and the strings hashed.
@@ -133,7 +140,7 @@ step_unjudged F R M me c l input =
       own = own_claims M (params_of R M me c.past l) me made.sends;
       early = [];
       strings = made.strings ++ grown_strings R (log_of R M me c.past)
-      (log_of R M me (takes R M me c.past l input c.leaf));
+          (log_of R M me (takes R M me c.past l input c.leaf));
     }
 
 -- a batch that the judge refuses drops the event
@@ -173,8 +180,13 @@ unchanged c = record { core = c; sends = []; own = []; early = []; strings = [] 
 abbrev pub then_turn : {Msg : Type 0} → Turn Msg → (Core Msg → Turn Msg) → Turn Msg
 then_turn t more =
     let u = more t.core in
-    record { core = u.core; sends = t.sends ++ u.sends; own = t.own ++ u.own; early = t.early ++ u.early;
-    strings = t.strings ++ u.strings }
+    record {
+      core = u.core;
+      sends = t.sends ++ u.sends;
+      own = t.own ++ u.own;
+      early = t.early ++ u.early;
+      strings = t.strings ++ u.strings;
+    }
 
 -- the next epoch begins, with no early messages
 abbrev pub in_next_epoch : {Msg : Type 0} → Core Msg → Core Msg
@@ -301,8 +313,11 @@ values_of R log e = reverse (joined (length (cut_at R log e)) (cut_at R log (suc
 -- The reply to a lagging node: the epoch's values with its certificate, which may hold the node's own vote.
 abbrev pub handing : {Msg : Type 0} → Formats Msg → Rules → Module Msg → ℕ → Core Msg → ℕ → ℕ → Cert → Turn Msg
 handing F R M me c to e cert =
-    let piece : Sent_piece = record { epoch = record { 0 = e }; values = values_of R (log_of R M me c.past) e;
-    cert = cert } in
+    let piece : Sent_piece = record {
+      epoch = record { 0 = e };
+      values = values_of R (log_of R M me c.past) e;
+      cert = cert;
+    } in
     record {
       core = c;
       sends = (To_one (record { 0 = to }), F.wrap (record { from = me; epoch = e; body = OfPiece piece })) ∷ [];
@@ -347,8 +362,11 @@ adopts_piece R M me c p =
     let past = adopts c.past (record { epoch = c.past.epoch; values = p.values }) in
     let before = before_own R M me c.past in
     record {
-      core = record (refiled R M me c past c.leaf) { early = []; certs = keeping c.certs p.cert
-      (cert_on c.certs c.past.epoch) };
+      core = record (refiled R M me c past c.leaf) {
+        early = [];
+        certs = keeping c.certs p.cert
+            (cert_on c.certs c.past.epoch);
+      };
       sends = [];
       own = [];
       early = [];

@@ -64,8 +64,11 @@ ended_by h end = record { held = h; lost = None; ended = Some end }
 
 -- only the network changes
 abbrev pub with_network : {Msg : Type 0} → Held Msg → Network → Held Msg
-with_network h network = record { net = record { cores = h.net.cores; network = network }; signed = h.signed;
-    hashed = h.hashed }
+with_network h network = record {
+  net = record { cores = h.net.cores; network = network };
+  signed = h.signed;
+  hashed = h.hashed;
+}
 
 -- A send to all posts one packet to each core, ascending. A send to one node posts one to each of its cores.
 abbrev pub addressees : Setup → To → List ℕ
@@ -251,8 +254,12 @@ ended_at k (Some end) = Some (k, end)
 abbrev pub run_event : {Msg : Type 0} → Setup → Formats Msg → Rules → Module Msg → Progress Msg → Event → Progress Msg
 run_event s F R M p e =
     let d = apply_event s F R M p.held e in
-    record { held = d.held; event = suc p.event; drops = noted p.event d.lost p.drops;
-    ended = ended_at p.event d.ended }
+    record {
+      held = d.held;
+      event = suc p.event;
+      drops = noted p.event d.lost p.drops;
+      ended = ended_at p.event d.ended;
+    }
 
 -- a run that has stopped stays as it is
 abbrev pub run_event_if_open : {Msg : Type 0} → Option (ℕ × End) → Setup → Formats Msg → Rules → Module Msg →

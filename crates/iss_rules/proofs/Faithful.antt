@@ -26,9 +26,9 @@ is_message (OfRequest q) = false
 abbrev pub IsReadValue : Setup → Value → Type 0
 IsReadValue s v = IsReadAgain (spell_value s.version) (parse_value s.version) v
 
--- what the formats owe: of what is written, a node's messages and requests, and that nothing else is read as a message; and of
--- what is read, that a request has a spelling, that a module's message came under a node's name and is read again of its own
--- bytes, and that the values of a piece are
+-- what the formats owe: of what is written, a node's messages and requests, and that nothing else is read as a message;
+-- and of what is read, that a request has a spelling, that a module's message came under a node's name and is read
+-- again of its own bytes, and that the values of a piece are
 pub record IsFaithful {Msg : Type 0} (s : Setup) (F : Formats Msg) (M : Module Msg) : Type 0 where
   pub messages : (from e l : ℕ) (msg : Msg) → from < s.n → l < s.n →
       IsReadBack F (record { from = from; epoch = e; body = OfModule l msg })

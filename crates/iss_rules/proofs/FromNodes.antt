@@ -1,5 +1,5 @@
--- What is read of packets: a module's message came under a node's name and is read again of its bytes, as the values of a piece
--- are; and a request has a spelling.
+-- What is read of packets: a module's message came under a node's name and is read again of its bytes, as the values of
+-- a piece are; and a request has a spelling.
 use Rattle.std.proofs.Common.{◌≡◌, inl, inr, ℕ, suc, ◌<◌, true, false, ◌&&◌, List, [], ◌∷◌, Option, Some, None, refl, sym, ap, ◌∙◌, subst, arith, true≢false}
 use Rattle.std.specs.Prelude.{nat_lt}
 use Rattle.std.proofs.lemmas.Bool.Decides.{leb_tells}

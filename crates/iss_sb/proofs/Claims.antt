@@ -1,5 +1,5 @@
--- Claims inside a message that stood in earlier ones. A claim of a node's own inside a certificate that it sends on would
--- be its own cause in a legal world; this lemma says once that it never is.
+-- Claims inside a message that stood in earlier ones. A claim of a node's own inside a certificate that it sends on
+-- would be its own cause in a legal world; this lemma says once that it never is.
 use Rattle.std.proofs.Common.{◌≡◌, ◌⊎◌, ℕ, Bool, true, false, List, sym, subst, ap, ◌∙◌, inl, inr}
 use Rattle.iss_base.specs.Lists.{In}
 use Rattle.iss_request.specs.declared.ids.NodeId.{NodeId}

@@ -1,5 +1,5 @@
--- Nodes that rise, each with its signature: what is spelled of them is read again, what is read is spelled so, and those that
--- are read one after another are what the parser of all of them finds.
+-- Nodes that rise, each with its signature: what is spelled of them is read again, what is read is spelled so, and
+-- those that are read one after another are what the parser of all of them finds.
 use Rattle.std.proofs.Common.{◌≡◌, ◌≤◌, ℕ, zero, suc, Bool, true, List, [], ◌∷◌, ◌++◌, length, append_assoc, append-nil, refl, sym, ap, ◌∙◌, subst}
 use Rattle.std.specs.Prelude.{nat_le}
 use Rattle.std.specs.List.{flat_map}

@@ -71,8 +71,11 @@ WasAdopted c e = (piece : Piece) × In piece c.adopted × (piece.epoch ≡ e)
 abbrev pub AreVoted : {Msg : Type 0} → Rules → Module Msg → ℕ → Past Msg → List Signed → Type 0
 AreVoted R M i c book =
     (e : ℕ) → e < c.epoch → WasAdopted c e ⊎
-    In (record { by = i; statement = R.voted e (R.end (before R M i c (suc e))).chain
-    (R.end (before R M i c (suc e))).requests }) book
+    In (record {
+      by = i;
+      statement = R.voted e (R.end (before R M i c (suc e))).chain
+          (R.end (before R M i c (suc e))).requests;
+    }) book
 
 -- A run that stopped shows its evidence (`shown`), and later events change nothing (`stays`). The book is complete for
 -- correct nodes: a statement that is not in it was never sent (`booked`, `voted`).
