@@ -10,24 +10,29 @@ use Rattle.iss_request.specs.Parsing.{Parser, ◌>>=◌, block, byte, done, numb
 use Rattle.iss_checkpoint.specs.declared.votes.Cert.{Cert}
 use Rattle.iss_checkpoint.specs.declared.votes.Signed.{Signed}
 
--- whether nodes rise, none below the first number that is allowed, each with a signature
+-- whether signers are strictly ascending from the first allowed number on, each with a well-formed signature
 abbrev pub are_rising : ℕ → List Signed → Bool
 are_rising from [] = true
 are_rising from (x ∷ xs) = nat_le from x.by.0 && (is_signature x.sig && are_rising (suc x.by.0) xs)
 
+-- whether the certificate has an encoding
 abbrev pub cert_fits : Cert → Bool
-cert_fits c = (length c.chain == 32) && (nat_lt c.requests (2 ^ 64) && (nat_lt (length c.signers) 256 && are_rising 0 c.signers))
+cert_fits c = (length c.chain == 32) &&
+    (nat_lt c.requests (2 ^ 64) && (nat_lt (length c.signers) 256 && are_rising 0 c.signers))
 
 abbrev pub spell_signed : Signed → List ℕ
 spell_signed x = x.by.0 ∷ x.sig
 
+-- the encoding
 abbrev pub cert_row : Cert → List ℕ
 cert_row c = c.chain ++ (to_be_bytes w64 c.requests ++ (length c.signers ∷ flat_map spell_signed c.signers))
 
--- one that has no spelling is written as one with a signature of height 1
+-- A certificate without an encoding is written as these bytes, whose signature has height 1: they decode to no
+-- certificate.
 abbrev pub no_cert : List ℕ
 no_cert = replicate 43 1
 
+-- what is written for a certificate
 abbrev pub spell_cert : Cert → List ℕ
 spell_cert c = if cert_fits c then cert_row c else no_cert
 
@@ -47,14 +52,14 @@ pub record IsSpelledCert (e : ℕ) (c : Cert) (bytes : List ℕ) : Type 0 where
 
 -- ---- reading
 
--- a node, none below the first number that is allowed, and its signature
+-- a signer, not below the first allowed number, and its signature
 unfoldable pub parse_signed : ℕ → Parser Signed
 parse_signed from = do
   by ← such_that (λ n. nat_le from n) byte
   sig ← parse_signature
   done (record { by = record { 0 = by }; sig = sig })
 
--- so many of them, the nodes rising
+-- n of these, the signers strictly ascending
 unfoldable pub parse_signers : ℕ → ℕ → Parser (List Signed)
 parse_signers zero from = done []
 parse_signers (suc count) from = do

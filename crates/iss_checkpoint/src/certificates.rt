@@ -1,4 +1,4 @@
-//! Certificates as bytes: the body of a packet that names the epoch, and the end of a longer one.
+//! Stable checkpoint certificates in bytes: the body of a packet that names the epoch, or the end of a longer one.
 ghost use Rattle.std.specs.Prelude.{◌≡◌, ◌<◌, ◌≤◌, ℕ, length, IfOk, OnOk, Err};
 ghost use Rattle.std.specs.List.{flat_map};
 ghost use Rattle.iss_request.specs.Fields.{IsRead, IsUnreadable, and_bytes};
@@ -9,12 +9,12 @@ use crate::votes::{Cert, Signed};
 use iss_request::{DecodeError, Epoch, Fields, NoMemory, NodeId, Seq, Writer, read_signature};
 use std::alloc::Global;
 
-// What stands for a certificate without a spelling: one signer, whose signature has height 1.
+// Written for a certificate without an encoding: its one signature has height 1, so it decodes to no certificate.
 const NO_CERT: [u8; 43] = [1; 43];
 
 // ---- writing
 
-// Whether the nodes rise, none below the first number that is allowed, each with a signature.
+// Whether signers are strictly ascending from the first allowed number on, each with a well-formed signature.
 fn are_rising(from: u16, signers: &[Signed]) -> bool
     requires { from ≤ 256 }
     ensures { result ≡ are_rising from signers.now }
@@ -31,7 +31,7 @@ fn are_rising(from: u16, signers: &[Signed]) -> bool
 fn has_spelling(cert: &Cert) -> bool
     ensures { result ≡ cert_fits cert.now }
 {
-    // Its range is part of the answer.
+    // Names the value, so that the proof sees its range.
     let _requests = cert.requests;
     cert.signers.len() < 256 && are_rising(0, cert.signers.as_slice())
 }
@@ -62,7 +62,7 @@ fn put_row(cert: &Cert, out: &mut Writer) -> Result<(), NoMemory>
     put_signers(cert.signers.as_slice(), out)
 }
 
-/// Writes a certificate. One that has no spelling is written as bytes that no reader takes.
+/// Appends a certificate's encoding. One without an encoding is written as bytes that no reader accepts.
 pub fn write_cert(cert: &Cert, out: &mut Writer) -> Result<(), NoMemory>
     ensures { OnOk result (out.new ≡ and_bytes out.old (spell_cert cert.now)) }
 {
@@ -104,7 +104,7 @@ fn read_signers(alloc: Global, count: u8, f: &mut Fields) -> Result<Seq<Signed>,
     Ok(signers)
 }
 
-/// Reads a certificate of an epoch. `BadField` names the first field that does not fit.
+/// Decodes a certificate of an epoch. `BadField` names the first field that does not fit.
 pub fn read_cert(alloc: Global, epoch: Epoch, f: &mut Fields) -> Result<Cert, DecodeError>
     ensures ok { IfOk result (λ c. IsRead (parse_cert epoch.0) f.old f.new c) }
     ensures bad { (at : ℕ) → result ≡ Err (DecodeError.BadField at) → IsUnreadable (parse_cert epoch.0) f.old at }

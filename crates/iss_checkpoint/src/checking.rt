@@ -1,4 +1,4 @@
-//! Whether signatures and certificates are true. Nothing here takes memory.
+//! The validity of signatures and certificates. Nothing here allocates memory.
 ghost use Rattle.std.specs.Prelude.{◌≡◌, ◌≤◌, ℕ};
 ghost use Rattle.iss_checkpoint.specs.Votes.{Voters, are_signed, is_cert, is_signed, voters_of};
 
@@ -6,7 +6,7 @@ use crate::votes::{Cert, Signed, vote_statement};
 use iss_keys::Directory;
 use iss_request::Setup;
 
-/// Whether a node below `n` signed a statement so.
+/// Whether node `by`, below `n`, validly signed the statement.
 pub fn is_signed(directory: &Directory, n: u32, statement: &[u8], by: u8, sig: &[u8]) -> bool
     ensures { (w : Voters) → w.n ≡ n → w.keys ≡ directory.now.nodes → result ≡ is_signed w statement.now by sig.now }
 {
@@ -16,7 +16,7 @@ pub fn is_signed(directory: &Directory, n: u32, statement: &[u8], by: u8, sig: &
     directory.verify_node(by, statement, sig)
 }
 
-// Whether nodes that rise, none below the first number that is allowed, signed a statement.
+// Whether signers are strictly ascending, none below `from`, each with a valid signature of the statement.
 fn are_signed(
     directory: &Directory,
     n: u32,
@@ -25,7 +25,8 @@ fn are_signed(
     signers: &[Signed],
 ) -> bool
     requires { from ≤ 256 }
-    ensures { (w : Voters) → w.n ≡ n → w.keys ≡ directory.now.nodes → result ≡ are_signed w statement.now from signers.now }
+    ensures { (w : Voters) → w.n ≡ n → w.keys ≡ directory.now.nodes →
+        result ≡ are_signed w statement.now from signers.now }
 {
     match signers {
         [] => true,
@@ -42,7 +43,7 @@ fn are_signed(
     }
 }
 
-/// Whether a certificate has exactly a quorum of signers, ascending, each of whom signed what it says.
+/// Whether a certificate is valid: exactly a quorum of signers, strictly ascending, each signature valid.
 pub fn check(setup: &Setup, directory: &Directory, cert: &Cert) -> bool
     ensures { result ≡ is_cert (voters_of setup.now directory.now) cert.now }
 {

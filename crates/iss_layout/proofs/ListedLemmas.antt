@@ -1,4 +1,5 @@
--- The blacklist leaves out at most f nodes: of those that it lists, one has the least slot, and all of them have one as great.
+-- The blacklist leaves out at most f nodes: of those that it lists, one has the least slot, and all of them have one as
+-- great.
 use Rattle.std.proofs.Common.{◌≡◌, ◌⊎◌, inl, inr, ⊎_elim, ℕ, ◌+◌, ◌≤◌, Bool, true, false, cond, not, nat_lt, nat_le, List, [], ◌∷◌, length, refl, sym, ap, ◌∙◌, subst, arith}
 use Rattle.std.proofs.lemmas.Bool.{cases_Bool}
 use Rattle.std.proofs.lemmas.Bool.Decides.{nat_tests}

@@ -1,5 +1,5 @@
--- The policies over logs of four nodes with epochs of four slots, one for each node in the first: nil at slot 1 lies with
--- node 1.
+-- The policies over logs of four nodes with epochs of four slots, one for each node in the first: nil at slot 1 lies
+-- with node 1.
 use Rattle.std.proofs.Common.{◌≡◌, List, [], ◌∷◌, refl, Some}
 use Rattle.iss_request.specs.declared.ids.NodeId.{NodeId}
 use Rattle.iss_request.specs.declared.requests.Value.{Value}
