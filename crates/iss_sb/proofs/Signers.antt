@@ -1,5 +1,5 @@
--- Nodes that rise, each with its signature: what is spelled of them is read again, what is read is spelled so, and
--- those that are read one after another are what the parser of all of them finds.
+-- Lists of signers, strictly ascending, with their signatures. What is encoded decodes again, what decodes was encoded
+-- so, and reading them one after another is what the parser of the list does.
 use Rattle.std.proofs.Common.{◌≡◌, ◌≤◌, ℕ, zero, suc, Bool, true, List, [], ◌∷◌, ◌++◌, length, append_assoc, append-nil, refl, sym, ap, ◌∙◌, subst}
 use Rattle.std.specs.Prelude.{nat_le}
 use Rattle.std.specs.List.{flat_map}
@@ -14,18 +14,18 @@ use Rattle.iss_request.proofs.Readings.{read_done, read_then, unread_first, unre
 abbrev pub from_on : ℕ → ℕ → Bool
 from_on from n = nat_le from n
 
--- behind the node
+-- after the node
 abbrev pub after_by : {A : Type 0} → (ℕ → List ℕ → A) → ℕ → Parser A
 after_by made by = parse_signature >>= λ sig. done (made by sig)
 
--- behind the first of so many and one
+-- after the first of n + 1
 abbrev pub after_first : {A : Type 0} → (A → ℕ) → (ℕ → ℕ → Parser (List A)) → ℕ → A → Parser (List A)
 after_first node all count x = all count (suc (node x)) >>= λ others. done (x ∷ others)
 
 abbrev pub spell_by : {A : Type 0} → (A → ℕ) → (A → List ℕ) → A → List ℕ
 spell_by node sig x = node x ∷ sig x
 
--- how a thing that has a node and a signature is read, and how so many of them are, where `Rises` says that they rise
+-- how one signer with its signature is read, and how n of them are, where `Rises` means strictly ascending
 pub record IsSignersGrammar {A : Type 0} (node : A → ℕ) (sig : A → List ℕ) (made : ℕ → List ℕ → A) (Rises : ℕ → List A → Type 0) (one : ℕ → Parser A) (all : ℕ → ℕ → Parser (List A)) : Type 0 where
   pub whole : (x : A) → made (node x) (sig x) ≡ x
   pub node_is : (by : ℕ) (s : List ℕ) → node (made by s) ≡ by
@@ -43,13 +43,13 @@ pub record IsSigner {A : Type 0} (node : A → ℕ) (sig : A → List ℕ) (from
   pub shape : is_signature (sig x) ≡ true
   pub parts : bytes ≡ spell_by node sig x ++ rest
 
--- so many that were read
+-- n that were read
 pub record AreSigners {A : Type 0} (node : A → ℕ) (sig : A → List ℕ) (Rises : ℕ → List A → Type 0) (from count : ℕ) (bytes rest : List ℕ) (xs : List A) : Type 0 where
   pub rising : Rises from xs
   pub many : length xs ≡ count
   pub parts : bytes ≡ flat_map (spell_by node sig) xs ++ rest
 
--- of `total` things these are read; `count` are still to come, none below `from`
+-- of `total` signers these were read; `count` are still to come, none below `from`
 pub record Continues {A : Type 0} (all : ℕ → ℕ → Parser (List A)) (total : ℕ) (start : Reading) (count from : ℕ) (here : Reading) (got : List A) : Type 0 where
   pub rest : (later : Reading) (xs : List A) → IsRead (all count from) here later xs → IsRead (all total 0) start later (got ++ xs)
   pub fails : (at : ℕ) → IsUnreadable (all count from) here at → IsUnreadable (all total 0) start at

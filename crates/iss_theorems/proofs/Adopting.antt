@@ -1,5 +1,5 @@
--- A cluster of four nodes, of which one is faulty: two nodes fill an epoch, one of them with a message that carries the
--- other's claim, and vote; the third adopts the epoch under a certificate that the faulty one signed too.
+-- A cluster of four nodes, one of them faulty. Two nodes fill an epoch, one of them with a message that carries the
+-- other's claim, and vote. The third adopts the epoch under a certificate that the faulty node signed too.
 use Rattle.std.proofs.Common.{◌≡◌, inl, inr, ℕ, true, cond, List, [], ◌∷◌, ◌++◌, Option, Some, None, refl, sym, ap, ◌∙◌, subst, true≢false, arith}
 use Rattle.sha2.specs.Sha256.{compress, digest_bytes, first_words, hash_after, rounds, schedule, sha256}
 use Rattle.iss_base.specs.Lists.{Extends, In, push_all, set_at}
@@ -39,7 +39,8 @@ use Rattle.iss_composition.proofs.Reached.{composition}
 use Rattle.iss_composition.proofs.Signing.{Word, is_slot, lawful, made_of, passes, sent-again, signing, slot-in, word-again}
 use Rattle.iss_theorems.proofs.Tests.{over-new, over-old, own-is, separate-more}
 
--- the module: as the one that signs, but each node delivers nil in all slots as soon as it takes anything
+-- The module of the example: like the one that signs, but each node delivers nil in all slots as soon as it takes any
+-- input.
 
 abbrev nil_if : List (Item Word) → Option Value
 nil_if [] = None
@@ -160,7 +161,7 @@ S = scheme_of four
 abbrev nils : List Value
 nils = Nil ∷ Nil ∷ Nil ∷ Nil ∷ []
 
--- what is hashed for one epoch of nils, and the empty string, are all strings
+-- the strings hashed for an epoch of nils, and the empty string, are all strings
 abbrev strings : List (List ℕ)
 strings = push_all (chain_strings S nils) ([] ∷ [])
 
@@ -260,7 +261,7 @@ votes w r i correct complete part =
       same = refl;
     }
 
--- node 0 casts, and its time runs out in each other instance; node 1 takes its message
+-- node 0 proposes, and its timers fire in all other instances; node 1 takes its message
 
 abbrev slot : Slot
 slot = record { 0 = 0 }
@@ -326,7 +327,7 @@ r4 = moves w3 r3 0 3 Timeout refl refl tt refl ([], refl)
 r5 : Reached w5
 r5 = votes w4 r4 0 refl refl ([], refl)
 
--- the message's bytes are read, and its claim is node 0's, and in the book
+-- the message decodes, and its claim is node 0's and in the book
 word-read : IsReadMessage nodding (params_of R nodding 1 (w5.pasts 1) 0) (slot, [])
 word-read = word-again 1 slot [] (batch-read 1 [] (omega arith) (λ q i. absurd i))
 
@@ -353,7 +354,7 @@ r9 = moves w8 r8 1 3 Timeout refl refl tt refl ([], refl)
 r10 : Reached w10
 r10 = votes w9 r9 1 refl refl ([], refl)
 
--- node 2 adopts the epoch under the votes of nodes 0 and 1 and of the faulty node, of which nothing is asked
+-- node 2 adopts the epoch under the votes of nodes 0 and 1 and of the faulty node, whose vote may be anything
 
 abbrev piece : Piece
 piece = record { epoch = 0; values = nils }
@@ -391,7 +392,7 @@ the-adoption = record {
 pub reached : Reach four S R nodding last_net
 reached = adopt 2 piece cert r10.reach the-adoption
 
--- the digests are computed, and no two are the same
+-- the digests are computed, and are pairwise different
 no-collision : collision_in (chain_strings S nils) ([] ∷ []) ≡ None
 unfolding spell_value sha256 digest_bytes hash_after compress rounds schedule first_words
 no-collision = refl
@@ -404,7 +405,7 @@ root-separate a b (inr none) q h = absurd none
 pub separate : Separate (Among last_net.strings)
 separate = separate-more (chain_strings S nils) ([] ∷ []) no-collision root-separate
 
--- node 2 has taken nothing, and its log is the others'
+-- node 2 took no input, and its log equals the others'
 pub log-adopted : log_of R nodding 2 (last_net.pasts 2) ≡ nils
 log-adopted = refl
 

@@ -1,4 +1,4 @@
--- An event at one core leads on: what a run holds stays what moves of a cluster lead to.
+-- An event at one core keeps the run's invariant: its state is reached by moves of a cluster.
 use Rattle.std.proofs.Common.{◌≡◌, inl, inr, ℕ, suc, Bool, true, false, cond, eqb, List, [], ◌∷◌, ◌++◌, length, Option, Some, None, refl, sym, ap, ◌∙◌, subst}
 use Rattle.iss_base.specs.Lists.{In, push_all}
 use Rattle.iss_base.proofs.Lists.{and-true, eqb-same, in_append, in_left, in_right}
@@ -64,16 +64,16 @@ module _ {Msg : Type 0} (s : Setup) (F : Formats Msg) (R : Rules) (M : Module Ms
     abbrev Comes : Turn Msg → ℕ → Input Msg → Type 0
     Comes t l input = turned.Comes s F R M o h ok i correct t l input
 
-    -- nothing that a turn reads is forged
+    -- nothing that a step reads is forged
     module _ (reads : List Claim) (unf : first_forged s R h.signed reads ≡ None) where
       abbrev AreRead : Turn Msg → Type 0
       AreRead t = (y : Claim) → In y t.early → In y reads
 
-      -- a claim that is read and verifies is a true signature
+      -- a claim that was read and has a valid signature was signed
       true-sign : (y : Claim) → In y reads → R.verifies y.by.0 y.statement y.sig ≡ true → IsTrueSign s R h.signed y.by.0 y.statement y.sig
       true-sign y m v = record { verifies = v; booked = λ good. unforged s R h.signed reads unf y m v good }
 
-      -- what had come early may come, of a core of the next epoch
+      -- an early message may be received by a core of the next epoch
       early-comes : (v : Turn Msg) (x : Early Msg) → In x c.early → v.core.past.epoch ≡ suc c.past.epoch →
           ((y : Claim) → In y (claims_early F R M i v.core x) → In y reads) → Comes v x.leader (Receive (record { 0 = x.from }) x.msg)
       early-comes v x was next read =
@@ -87,7 +87,7 @@ module _ {Msg : Type 0} (s : Setup) (F : Formats Msg) (R : Rules) (M : Module Ms
                 (λ y n v2 good. unforged s R h.signed reads unf y (read y (subst (λ (ys : List Claim). In y ys) (sym are) n)) v2 good) ver,
           )
 
-      -- what is settled, of a core of this epoch
+      -- an accepted step of a core of this epoch, with all that follows
       settled-fits : (u : Turn Msg) → Holds u → u.core.early ≡ c.early → u.core.past.epoch ≡ c.past.epoch → AreRead (advance_epochs F R M i u) → Holds (advance_epochs F R M i u)
       settled-fits u k early epoch read =
           settles-holds F R M i Holds Comes (λ t l input z fit come. takes-fits s F R M o h ok i correct t l input z fit come)
@@ -111,11 +111,11 @@ module _ {Msg : Type 0} (s : Setup) (F : Formats Msg) (R : Rules) (M : Module Ms
       base : IsReadyCore R M i c → Turned (unchanged c)
       base ready = resting c refl ready (λ st. ok.sent st i) certified
 
-      -- what bytes claim that hold a body of some epoch
+      -- the claims of bytes, by the kind of their content
       read-of : (bytes : List ℕ) (k : Parcel Msg) (b : Body Msg) → F.unwrap bytes ≡ Some k → k.body ≡ b → claims_at F R M i c (On_packet bytes) ≡ claims_of_body R M i c k.from k.epoch b
       read-of bytes k b un q = ap (λ (x : Option (Parcel Msg)). claims_of_parcel R M i c x) un ∙ ap (λ (y : Body Msg). claims_of_body R M i c k.from k.epoch y) q
 
-      -- a message of this epoch comes
+      -- a message of this epoch is received
       message-fits : (bytes : List ℕ) (k : Parcel Msg) (l : ℕ) (msg : Msg) (t u : Turn Msg) → Comes-here (On_packet bytes) →
           ((y : Claim) → In y (claims_at F R M i c (On_packet bytes)) → In y reads) → AreRead t → IsReadyCore R M i c → F.unwrap bytes ≡ Some k → k.body ≡ OfModule l msg →
           k.epoch ≡ c.past.epoch → IsFit F R M i c l (Receive (record { 0 = k.from }) msg) → u ≡ step_unjudged F R M i c l (Receive (record { 0 = k.from }) msg) →
@@ -138,7 +138,7 @@ module _ {Msg : Type 0} (s : Setup) (F : Formats Msg) (R : Rules) (M : Module Ms
               let cs : List Claim = M.claims (params_of R M i c.past l) from msg in
               ap (λ (b : Bool). cond b (cond (leads_in R M i c.past l) cs []) []) (eqb-same c.past.epoch) ∙ ap (λ (b : Bool). cond b cs []) leads
 
-      -- the claims of a certificate that is read are true signatures
+      -- a received certificate that is valid has signers who signed it
       read-cert : (x : Cert) → is_true_cert R x ≡ true → ((y : Claim) → In y (claims_of_cert R x) → In y reads) → IsKeptCert s R h.signed x
       read-cert x true_cert first = record {
         certified = true_cert;
@@ -162,7 +162,7 @@ module _ {Msg : Type 0} (s : Setup) (F : Formats Msg) (R : Rules) (M : Module Ms
           (suc c.past.epoch) c.early u done
           (λ v x m z q r. early-comes v x m q (λ y n. subst AreRead a.is read y (r y n))))
 
-      -- a certificate that is handed out claims nothing new
+      -- a certificate that is sent to a peer claims nothing new
       handed-own : (x : Cert) → In x c.certs → (y : Signed) → In y (booked s i (only_by i (claims_of_cert R x))) → In y h.signed
       handed-own x m y n =
           let statement : List ℕ = R.voted x.epoch.0 x.chain x.requests in
@@ -194,7 +194,7 @@ module _ {Msg : Type 0} (s : Setup) (F : Formats Msg) (R : Rules) (M : Module Ms
       none-booked : (x : Signed) → In x (booked s i []) → In x h.signed
       none-booked x m = absurd (none-booked-at x m)
 
-      -- an event that the core takes
+      -- an event that the core accepts
       took-fits : (event : NodeEvent) (t : Turn Msg) → Comes-here event → ((y : Claim) → In y (claims_at F R M i c event) → In y reads) → AreRead t →
           IsReadyCore R M i c → IsReadyCore R M i t.core → Took F R M i c event t → Holds t
       took-fits event t comes first read was core (received {bytes} k l msg u un b e inp q) =

@@ -1,5 +1,5 @@
--- The book has each claim that a node sent of its own: what an input adds to the node's past, its step puts into the
--- book.
+-- The book holds each claim that a node signed and sent: a step that adds an input to the node's history adds its
+-- claims to the book.
 use Rattle.std.proofs.Common.{◌≡◌, inl, inr, ℕ, ◌≤◌, List, ◌∷◌, subst, arith, le_trans}
 use Rattle.std.proofs.lemmas.Bool.Decides.{leb_tells}
 use Rattle.iss_base.specs.Lists.{In}
@@ -28,7 +28,7 @@ module _ {Msg : Type 0} (R : Rules) (M : Module Msg) (i : ℕ) (c : Core Msg) (s
   before-stays d later e le =
       before-later R M i c.past d e later (le_trans (start-mono R (log_of R M i c.past) e c.past.epoch le) sound.reached)
 
-  -- items that were there are booked still
+  -- the claims of older entries are still in the book
   old-booked : (book : List Signed) → AreBooked R M i c.past book → (d : Past Msg) → Later R c.past d → (e l : ℕ) (item : Item Msg) →
       In item (c.past.evidence e l) → (x : Signed) → IsOwn M (R.params (before R M i d e) e l) i item.made.sends x → In x book
   old-booked book ok d later e l item m x own = elim (leb_tells e c.past.epoch) [

@@ -1,4 +1,4 @@
--- Votes, certificates, asks and pieces in runs and steps that are computed: three nodes, epochs of three slots.
+-- Votes, certificates, asks and pieces in computed runs and steps: three nodes, epochs of three slots.
 use Rattle.std.proofs.Common.{◌≡◌, ℕ, suc, ◌==◌, cond, List, [], ◌∷◌, length, Option, Some, None, reverse, refl}
 use Rattle.iss_base.specs.Lists.{first_of}
 use Rattle.iss_checkpoint.specs.declared.votes.Cert.{Cert}
@@ -43,7 +43,7 @@ core events i = (run_of events).held.net.cores i
 after : List Event → ℕ → List Value
 after events i = reverse (log_of easy telling i ((run_of events).held.net.cores i).past)
 
--- node 2 is behind, and asks node 0
+-- node 2 lags, and asks node 0
 abbrev behind : List Event
 behind = Hold 2 ∷ Propose 0 ∷ Propose 1 ∷ Propose 2 ∷ Calm 20 ∷ Drop 2 ∷ Free 2 ∷ Ask 2 (record { 0 = 0 }) ∷ Calm 20 ∷ []
 
@@ -57,7 +57,7 @@ signed k = record { by = record { 0 = k }; sig = k ∷ 0 ∷ [] }
 abbrev made : Cert
 made = record { epoch = record { 0 = 0 }; chain = 1 ∷ 1 ∷ 1 ∷ []; requests = 0; signers = signed 0 ∷ signed 1 ∷ [] }
 
--- by whom packets were sent, for whom, and what they are: 0 a message, 2 a vote, 3 an ask, 4 a piece
+-- the sender, the recipient and the kind of each packet: 0 a message, 2 a vote, 3 an ask, 4 a piece
 abbrev routes : List Sent → List (ℕ × ℕ × List ℕ)
 routes [] = []
 routes (p ∷ ps) = (p.from, p.to, first p.bytes) ∷ routes ps
@@ -108,8 +108,7 @@ once_signed : (core behind 0).leaf ≡ 1
 unfolding core
 once_signed = refl
 
--- an ask with no certificate yet, a message of an epoch that is over, votes that come again or once there is a
--- certificate
+-- an ask without a certificate yet, a message of a past epoch, votes that come again or after the certificate
 abbrev refused : List Event
 refused =
     Ask 0 (record { 0 = 1 }) ∷ Deliver 0 ∷ Propose 0 ∷ Propose 1 ∷ Propose 2 ∷ Calm 2 ∷ Deliver 9 ∷ Deliver 10 ∷ Deliver 12 ∷ Deliver 15 ∷
@@ -147,14 +146,14 @@ far_vote = refl
 next_vote : why_of (hears initial_core (vote 0 1 [])) ≡ None
 next_vote = refl
 
--- it is of a node, and that is tested before whether it is known
+-- an invalid signature is found before a vote is known
 bad_vote : why_of (hears (core_of initial_core (hears initial_core (vote 0 0 []))) (vote 7 0 [])) ≡ Some BadClaim
 bad_vote = refl
 
 known_vote : why_of (hears (core_of initial_core (hears initial_core (vote 0 0 []))) (vote 0 0 (1 ∷ []))) ≡ Some Known
 known_vote = refl
 
--- the vote that first makes its like a quorum gives the certificate; one that says something else does not
+-- the vote that completes a quorum of equal votes gives the certificate; a different vote does not
 abbrev counts : List (List ℕ) → Core Word → Core Word
 counts [] c = c
 counts (bytes ∷ more) c = counts more (core_of c (hears c bytes))
@@ -188,7 +187,7 @@ past_piece = refl
 next_piece : why_of (hears initial_core (piece 1 empties made)) ≡ Some OtherEpoch
 next_piece = refl
 
--- first its shape, then its certificate, then its chain
+-- the shape is tested first, then the certificate, then the chain
 short_piece : why_of (hears initial_core (piece 0 (Value_batch [] ∷ Nil ∷ []) (with_signers []))) ≡ Some OtherEpoch
 short_piece = refl
 
@@ -233,14 +232,14 @@ no_leaf = refl
 last_leaf : why_of (step short easy telling 0 (with_leaf 15) (On_timeout (record { 0 = 0 }))) ≡ None
 last_leaf = refl
 
--- under the rules of the set-up three empty batches lead to this chain, which the vote of each node says
+-- under the set-up's rules three empty batches lead to this chain, which each node's vote states
 chained : ((rules_of plain).end empties).chain ≡
     181 ∷ 191 ∷ 129 ∷ 2 ∷ 154 ∷ 140 ∷ 156 ∷ 142 ∷ 220 ∷ 220 ∷ 193 ∷ 197 ∷ 184 ∷ 124 ∷ 20 ∷ 15 ∷
     246 ∷ 188 ∷ 175 ∷ 62 ∷ 215 ∷ 219 ∷ 1 ∷ 67 ∷ 202 ∷ 57 ∷ 113 ∷ 19 ∷ 171 ∷ 42 ∷ 189 ∷ 203 ∷ []
 unfolding spell_value spell_batch spell_count spell_request sha256 digest_bytes hash_after compress rounds schedule first_words
 chained = refl
 
--- a module that delivers what it casts at once: the vote comes behind the step's sends, and claims are in their order
+-- for a module that delivers its proposal at once, the vote follows the step's sends, and claims are in their order
 abbrev casts_now : ℕ → List (Item Word) → Option Value
 casts_now s [] = None
 casts_now s (x ∷ xs) = first_of (casts_now s xs) (cast_now s x.input)
@@ -270,7 +269,7 @@ vote_behind = refl
 vote_claimed : own_of last ≡ record { by = record { 0 = 0 }; statement = 0 ∷ 0 ∷ 1 ∷ 1 ∷ 1 ∷ []; sig = 0 ∷ 0 ∷ [] } ∷ []
 vote_claimed = refl
 
--- what bytes claim: a vote its own, a piece its certificate's, of whatever epoch
+-- the claims of bytes: a vote's own, and a piece's certificate's, for any epoch
 vote_claims : claims_of_bytes short easy telling 0 (initial_core {Msg = Word}) (vote 1 5 []) ≡
     record { by = record { 0 = 1 }; statement = 5 ∷ 0 ∷ []; sig = 1 ∷ 0 ∷ [] } ∷ []
 vote_claims = refl
@@ -280,13 +279,13 @@ piece_claims : claims_of_bytes short easy telling 0 (initial_core {Msg = Word}) 
     record { by = record { 0 = 1 }; statement = 0 ∷ 0 ∷ 1 ∷ 1 ∷ 1 ∷ []; sig = 1 ∷ 0 ∷ [] } ∷ []
 piece_claims = refl
 
--- a piece that is handed out claims the node's own vote
+-- a piece that is sent to a peer claims the node's own vote
 handed : own_of (step short easy telling 0 (core behind 0) (On_packet (3 ∷ 2 ∷ 0 ∷ []))) ≡
     record { by = record { 0 = 0 }; statement = 0 ∷ 0 ∷ 1 ∷ 1 ∷ 1 ∷ []; sig = 0 ∷ 0 ∷ [] } ∷ []
 unfolding core
 handed = refl
 
--- a vote that its node never sent ends the run, unless the node is faulty
+-- a vote that its node never signed stops the run, unless the node is faulty
 forged_vote : (forging (Bytes 1 (vote 0 0 []) ∷ [])).ended ≡
     Some (0, Forged (record { by = record { 0 = 0 }; statement = 0 ∷ 0 ∷ []; sig = 0 ∷ 0 ∷ [] }))
 forged_vote = refl
@@ -294,7 +293,8 @@ forged_vote = refl
 faulty_vote : (forging (Bytes 1 (vote 3 0 []) ∷ [])).ended ≡ None
 faulty_vote = refl
 
--- with digests: epochs of one slot, node 2 catches up, and nothing collides of what is hashed, each value with its link
+-- with digests and epochs of one slot: node 2 recovers its lag, and no hashed strings collide, values and links
+-- included
 abbrev tiny : Setup
 tiny = record plain { epoch = 1 }
 

@@ -1,4 +1,4 @@
--- In every run a certificate stands for the log of a correct signer, and what was adopted was delivered.
+-- In every run a certificate describes the log of a correct signer, and what was adopted was delivered.
 use Rattle.std.proofs.Common.{◌≡◌, ℕ, true, List, ◌∷◌, ◌++◌, length, Some, sym, ◌∙◌, refl, subst}
 use Rattle.iss_base.specs.Lists.{Chain, Extends}
 use Rattle.iss_base.proofs.Lists.{chain-part, some-injective}
@@ -55,7 +55,7 @@ module _ {Msg : Type 0} (s : Setup) (M : Module Msg) (h : IsSetupOf M s) (faithf
       let t = (good.adopted i e k v ok a).1 in
       record { older = t.older; epoch = t.epoch; place = t.place; is = t.is }
 
--- what a node's instance delivered counts before what it adopted
+-- a value delivered by a node's own instance takes precedence over an adopted one
 pub delivered-first : {Msg : Type 0} (R : Rules) (M : Module Msg) (me : ℕ) (c : Past Msg) (older : List Value) (v u : Value) → Extends (v ∷ older) (log_of R M me c) →
     delivered M (params_at R older) me (c.evidence (epoch_at R older) (leader_at R older)) (length older) ≡ Some u → v ≡ u
 delivered-first R M me c older v u longer is =

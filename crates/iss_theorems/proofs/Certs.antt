@@ -1,4 +1,4 @@
--- The votes and certificates that a node keeps are true, and the book has what correct nodes signed of them.
+-- The votes and certificates that a node keeps are valid, and the book has those that correct nodes signed.
 use Rattle.std.proofs.Common.{◌≡◌, inl, inr, ℕ, zero, suc, ◌<◌, ◌≤◌, Bool, true, false, ◌&&◌, cond, eqb, nat_le, List, [], ◌∷◌, ◌++◌, length, Option, Some, None, refl, sym, ap, ◌∙◌, subst, arith, true≢false}
 use Rattle.std.proofs.lemmas.Bool.{le-leb}
 use Rattle.std.proofs.lemmas.Bool.Decides.{leb_tells}
@@ -23,7 +23,7 @@ use Rattle.iss_rules.specs.SoundRules.{IsSoundRules}
 use Rattle.iss_rules.specs.Rules.{Rules}
 use Rattle.iss_theorems.proofs.Voting.{IsVoting}
 
--- signatures as a cluster's certificate has them
+-- the signatures, as a cluster's certificate has them
 abbrev pub signs_of : List Signature → List Sign
 signs_of [] = []
 signs_of (x ∷ xs) = record { by = x.by.0; sig = x.sig } ∷ signs_of xs
@@ -85,7 +85,7 @@ module _ (R : Rules) where
       let fresh : mem x.by.0 (signers (signs_of xs)) ≡ false = none-below statement (suc x.by.0) xs b.1 x.by.0 (omega arith) in
       rw fresh (rising-distinct statement (suc x.by.0) xs b.1)
 
-  -- a signature more
+  -- one more signature
   true-more : (statement : List ℕ) (from k : ℕ) (xs : List Signature) (x : Signature) → are_true R statement from xs ≡ true →
       ((y : Signature) → In y xs → y.by.0 < k) → from ≤ x.by.0 → k ≤ x.by.0 → R.verifies x.by.0 statement x.sig ≡ true →
       are_true R statement from (xs ++ x ∷ []) ≡ true
@@ -98,7 +98,7 @@ module _ (R : Rules) where
       both (nat_le from y.by.0) _ a.0 (both (R.verifies y.by.0 statement y.sig) _ b.0
       (true-more statement (suc y.by.0) k ys x b.1 (λ z i. low z (inr i)) (omega (arith, first, lk)) lk v))
 
-  -- a vote of node k on an epoch that verifies
+  -- a vote of node k for an epoch with a valid signature
   pub record IsVoteOf (e k : ℕ) (w : Vote) : Type 0 where
     pub own : w.by.0 ≡ k
     pub epoch : w.epoch.0 ≡ e
@@ -136,7 +136,7 @@ module _ (R : Rules) where
       | inr b ↦ in-if n x (f n) refl b
     ]
 
-    -- it is one of the statement
+    -- the claim is of this statement
     same-statement : (w : Vote) → w.epoch.0 ≡ v.epoch.0 → say_same v w ≡ true → R.voted w.epoch.0 w.chain w.requests ≡ statement
     same-statement w e h =
         let a = and-true (eqb w.requests v.requests) (same_bytes w.chain v.chain) h in
@@ -169,7 +169,7 @@ module _ (R : Rules) where
                 (subst (λ (z : List ℕ). R.verifies w.by.0 z w.sig ≡ true) (same-statement w is.epoch s) is.signed)
 
 module _ (s : Setup) (R : Rules) where
-  -- a signature of a statement, which the book has of a correct node
+  -- a valid signature of the statement, which is in the book if its signer is correct
   pub record IsTrueSign (book : List Signed) (by : ℕ) (statement sig : List ℕ) : Type 0 where
     pub verifies : R.verifies by statement sig ≡ true
     pub booked : is_correct s by ≡ true → IsBooked book by statement
@@ -181,7 +181,7 @@ module _ (s : Setup) (R : Rules) where
     pub certified : is_true_cert R c ≡ true
     pub signs : (x : Signature) → In x c.signers → IsTrueSign book x.by.0 (R.voted c.epoch.0 c.chain c.requests) x.sig
 
-  -- so of all that a core keeps
+  -- all votes and certificates that a core keeps are such
   pub record AreCertified {Msg : Type 0} (book : List Signed) (c : Core Msg) : Type 0 where
     pub votes : AreTrueVotes book c.votes
     pub certs : (x : Cert) → In x c.certs → IsKeptCert book x
@@ -222,7 +222,7 @@ module _ (s : Setup) (R : Rules) where
     found : (k : ℕ) (w : Vote) → vote_by votes v.epoch.0 k ≡ Some w → IsVoteOf R v.epoch.0 k w
     found k w h = let r = vote-there votes v.epoch.0 k w h in record { own = r.2; epoch = r.1; signed = (are w r.0).verifies }
 
-    -- the certificate that a vote completes is kept with true signatures
+    -- the certificate that a vote completes has valid signatures
     pub stable-kept : (x : Cert) → In x (stable R votes v) → IsKeptCert book x
     stable-kept x h = go (eqb (length made.signers) R.quorum) refl h
       where
@@ -248,7 +248,7 @@ module _ (s : Setup) (R : Rules) where
         go true q (inr e) = absurd e
         go false q e = absurd e
 
-  -- a vote more
+  -- one more vote
   pub counted-certified : {Msg : Type 0} (book : List Signed) (c : Core Msg) (v : Vote) → AreCertified book c →
       IsTrueSign book v.by.0 (R.voted v.epoch.0 v.chain v.requests) v.sig → AreCertified book (counted R c v)
   counted-certified book c v h new =
@@ -265,14 +265,14 @@ module _ (s : Setup) (R : Rules) where
         ];
       }
 
-  -- a certificate of another node is kept where none is
+  -- a certificate from a peer is kept if the epoch has none
   pub keeping-certified : (book : List Signed) (certs : List Cert) (x : Cert) (o : Option Cert) → ((y : Cert) → In y certs → IsKeptCert book y) → IsKeptCert book x →
       (y : Cert) → In y (keeping certs x o) → IsKeptCert book y
   keeping-certified book certs x None old new y (inl q) = subst (λ (z : Cert). IsKeptCert book z) (sym q) new
   keeping-certified book certs x None old new y (inr i) = old y i
   keeping-certified book certs x (Some other) old new y i = old y i
 
--- the signers of a true certificate are of a quorum
+-- the signers of a valid certificate form a quorum
 pub quorum-is : {Msg : Type 0} (s : Setup) (M : Module Msg) (R : Rules) → IsSoundRules s M R → IsVoting s R → (c : Cert) → is_true_cert R c ≡ true →
     (scheme_of s).is_quorum (signers (signs_of c.signers)) ≡ true
 quorum-is s M R sound voting c h =

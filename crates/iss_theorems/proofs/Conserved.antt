@@ -1,4 +1,4 @@
--- Conservation: in every run each identity that a correct core took is in one place.
+-- Conservation: in every run each request that a correct core accepted is in exactly one place.
 use Rattle.std.proofs.Common.{◌≡◌, ◌⊎◌, inl, inr, ℕ, zero, suc, Bool, true, false, cond, eqb, List, [], ◌∷◌, Option, Some, None, refl, sym, subst, arith}
 use Rattle.iss_base.specs.Lists.{In, nth, set_at}
 use Rattle.iss_base.proofs.Lists.{is-eq, same_or_not, set_at-other, set_at-same}
@@ -76,7 +76,7 @@ module _ {Msg : Type 0} (s : Setup) (R : Rules) (M : Module Msg) where
     open_slot = λ f k. absurd k;
   }
 
--- a request that is taken waits
+-- a request that is accepted waits
 module _ {Msg : Type 0} (s : Setup) (F : Formats Msg) (R : Rules) (M : Module Msg) (seg : HasSegments R) where
   pub waits-now : (c : Core Msg) (i : ℕ) (q : Request) (t : Turn Msg) (o : Option (Parcel Msg)) →
       (o ≡ Some (record { from = 255; epoch = 0; body = OfRequest q })) ⊎ (o ≡ None) → takes_bytes F R M i c o ≡ Taken t → In q.id (ids t.core.waiting)
@@ -236,7 +236,7 @@ module _ {Msg : Type 0} (s : Setup) (F : Formats Msg) (R : Rules) (M : Module Ms
       let g = run_event_if_open p.ended s F R M p e in
       asked-placed es g (all-filed s R M p.held.net g.held.net (goes-kept p f e p.ended)) i x k
 
--- over every run
+-- in every run
 pub conserved : {Msg : Type 0} (s : Setup) (M : Module Msg) → IsSetupOf M s → IsFaithful s (formats_of s M) M → IsLawful M → IsSafe M → AcceptsOnce M →
     (events : List Event) → IsClusterRun s M events → IsConserved s M events
 conserved {Msg} s M h faithful law safe once events c i ok x asked =

@@ -1,5 +1,5 @@
--- Runs of four nodes that are computed, of which the last is faulty, and whose disks fail: what is read, booked and
--- tested of an event that is not kept.
+-- Computed runs of four nodes, the last of them faulty, whose disks fail: what is read, booked and tested of an event
+-- that is not journaled.
 use Rattle.std.proofs.Common.{◌≡◌, ℕ, List, [], ◌∷◌, ◌++◌, Some, None, refl}
 use Rattle.iss_request.specs.Formats.{spell_batch, spell_count, spell_request, spell_value}
 use Rattle.iss_request.specs.declared.requests.Batch.{Batch}
@@ -25,19 +25,19 @@ batch = plain_request 0 0 (170 ∷ []) ∷ []
 abbrev course_of : List Event → Course Word
 course_of events = course four short easy signing (begin_course four) events
 
--- a message in the instance of node 0, under its name, and what it claims
+-- a message in the instance of node 0, from node 0, with a claim
 abbrev told : List ℕ
 told = 0 ∷ 0 ∷ 0 ∷ 0 ∷ 0 ∷ 0 ∷ 0 ∷ 170 ∷ []
 
 abbrev forged : End
 forged = Forged (claim_of ((rules_of four).params [] 0 0) 0 (record { 0 = 0 }, batch))
 
--- what comes is read before the step, also in the event in which the disk fails
+-- received bytes are read before the step, also in the event in which the disk fails
 read_before : (course_of (Crash 1 0 ∷ Bytes 1 told ∷ [])).ended ≡ Some (1, forged)
 unfolding wide_bytes spell_value spell_batch spell_count spell_request
 read_before = refl
 
--- and from then on nothing is
+-- after that nothing is read
 not_read : (course_of (Crash 1 0 ∷ Event_request 1 0 1 (170 ∷ []) ∷ Bytes 1 told ∷ [])).ended ≡ None
 unfolding wide_bytes spell_value spell_batch spell_count spell_request
 not_read = refl
@@ -46,7 +46,7 @@ lost_both : (course_of (Crash 1 0 ∷ Event_request 1 0 1 (170 ∷ []) ∷ Bytes
 unfolding wide_bytes spell_value spell_batch spell_count spell_request
 lost_both = refl
 
--- node 0 casts, but that is not kept: it sent nothing as its own, and a message that says so is forged
+-- node 0 proposes, but that is not journaled: it has sent nothing, and a message that claims so is forged
 abbrev unkept : List Event
 unkept = Event_request 0 0 0 (170 ∷ []) ∷ Crash 0 3 ∷ Propose 0 ∷ []
 
@@ -58,13 +58,13 @@ never_sent : (course_of (unkept ++ Bytes 1 told ∷ [])).ended ≡ Some (3, forg
 unfolding wide_bytes spell_value spell_batch spell_count spell_request
 never_sent = refl
 
--- once it has cast after its restart, the same message is none that is forged
+-- once it has proposed after its restart, the same message is not forged
 sent_now : (course_of (unkept ++ Restart 0 ∷ Propose 0 ∷ Bytes 1 told ∷ [])).ended ≡ None
 unfolding wide_bytes spell_value spell_batch spell_count spell_request
 sent_now = refl
 
--- What came early is read in the event in which it is tried, and only where that is kept. Node 1 keeps three of the
--- four messages of epoch 0; its disk fails at the last, by which the epoch would end
+-- Early messages are read when they are taken, and only if that step is journaled. Node 1 keeps three of the four
+-- messages of epoch 0; its disk fails at the last, which would end the epoch.
 abbrev hearing : Module Word
 hearing = record signing { decided = λ p me xs s. first_told p.leader.0 s xs }
 
@@ -81,7 +81,7 @@ not_tried : (heard all_but_one).ended ≡ None
 unfolding wide_bytes spell_value spell_batch spell_count spell_request
 not_tried = refl
 
--- the message is kept with what it had taken, and ends the run where the epoch ends
+-- once the step that ends the epoch is journaled, the early message is read, and stops the run
 tried : (heard (all_but_one ++ Restart 1 ∷ Deliver 16 ∷ [])).ended ≡ Some (8, Forged (claim_of ((rules_of four).params [] 1 0) 0 (record { 0 = 4 }, batch)))
 unfolding wide_bytes spell_value spell_batch spell_count spell_request
 tried = refl

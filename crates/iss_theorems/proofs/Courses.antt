@@ -1,4 +1,4 @@
--- Runs of nodes that never stop, put one behind another, and courses that have ended.
+-- Failure-free runs in sequence, and runs with disks that have stopped.
 use Rattle.std.proofs.Common.{◌≡◌, ◌⊎◌, inl, inr, ℕ, List, [], ◌∷◌, ◌++◌, Option, Some, None, refl, sym, ap, ◌∙◌, subst}
 use Rattle.iss_base.specs.Lists.{In}
 use Rattle.iss_request.specs.declared.ids.ReqId.{ReqId}
@@ -40,7 +40,8 @@ module _ {Msg : Type 0} (s : Setup) (F : Formats Msg) (R : Rules) (M : Module Ms
   abbrev pub standing : Held Msg → ℕ → List (ℕ × Why) → Progress Msg
   standing h n drops = record { held = h; event = n; drops = drops; ended = None }
 
-  -- By these events nodes that never stop come from there to what is held, with this end, and took what was asked.
+  -- These events lead a failure-free run from there to this state, with this evidence, and these requests were
+  -- accepted.
   pub record Leads (asks : ℕ → ReqId → Type 0) (q : Progress Msg) (g : Held Msg) (o : Option End) : Type 0 where
     pub events : List Event
     pub at_cores : AreAtCores s events
@@ -49,7 +50,7 @@ module _ {Msg : Type 0} (s : Setup) (F : Formats Msg) (R : Rules) (M : Module Ms
     pub ended : why_ended (run s F R M q events).ended ≡ o
     pub asked : (i : ℕ) (x : ReqId) → asks i x → FreeAsked s F R M q events i x
 
-  -- nothing was asked for
+  -- no request was accepted
   abbrev pub nobody : ℕ → ReqId → Type 0
   nobody i x = ⊥
 
@@ -141,7 +142,7 @@ module _ {Msg : Type 0} (s : Setup) (F : Formats Msg) (R : Rules) (M : Module Ms
   nobody-asked (e ∷ es) w n drops at i x (inl a) = a
   nobody-asked (e ∷ es) w n drops at i x (inr a) = nobody-asked es w n drops at i x a
 
-  -- a course is one or the other
+  -- a run with disks has stopped or not
   pub going-is : (p : Course Msg) → p.ended ≡ None → p ≡ going p.machines p.event p.drops
   going-is p q =
       let by_end : Option (ℕ × End) → Course Msg = λ z. record { machines = p.machines; event = p.event; drops = p.drops; ended = z } in

@@ -1,5 +1,5 @@
--- Runs of four nodes that are computed, of which node 3 is faulty: it has two cores, 3 and its twin 4, and each takes
--- its own course with the same keys.
+-- Computed runs of four nodes, of which node 3 is faulty. It has two cores, 3 and its twin 4, which act independently
+-- with the same keys.
 use Rattle.std.proofs.Common.{◌≡◌, ℕ, List, [], ◌∷◌, ◌++◌, length, None, refl}
 use Rattle.iss_request.specs.Formats.{spell_batch, spell_count, spell_request, spell_value}
 use Rattle.iss_request.specs.declared.requests.Batch.{Batch}
@@ -14,7 +14,7 @@ use Rattle.iss_model.proofs.Example.{plain_request}
 use Rattle.iss_theorems.proofs.Forging.{after, four, heard}
 use Rattle.iss_composition.proofs.Signing.{Word}
 
--- both cores are node 3's, and what is sent to node 3 goes to both
+-- both cores run node 3, and what is sent to node 3 goes to both
 same_node : node_of four 4 ≡ 3
 same_node = refl
 
@@ -27,7 +27,7 @@ to_one = refl
 to_correct : addressees four (To_one (record { 0 = 2 })) ≡ 2 ∷ []
 to_correct = refl
 
--- core 3 casts a request, and its twin, which has none, casts nothing, in the same slot
+-- core 3 proposes a request, and its twin, which has none, proposes an empty batch at the same slot
 abbrev asked : Batch
 asked = plain_request 0 3 (170 ∷ []) ∷ []
 
@@ -45,7 +45,7 @@ other : (core both_cast 4).flight ≡ (record { 0 = 3 }, []) ∷ []
 unfolding core wide_bytes spell_value spell_batch spell_count spell_request
 other = refl
 
--- nothing of it is booked, and whoever hears either goes on
+-- nothing of it enters the book, and a core that receives either continues
 unbooked : (heard (both_cast ++ Calm 1 ∷ [])).held.signed ≡ []
 unfolding wide_bytes spell_value spell_batch spell_count spell_request
 unbooked = refl
@@ -54,7 +54,7 @@ goes_on : (heard (both_cast ++ Calm 1 ∷ [])).ended ≡ None
 unfolding wide_bytes spell_value spell_batch spell_count spell_request
 goes_on = refl
 
--- core 3 is held, and its twin ends the epoch and casts in the next one under node 3's name
+-- core 3 is held; its twin ends the epoch and proposes in the next one as node 3
 abbrev ahead : List Event
 ahead =
     Hold 3 ∷ Propose 0 ∷ Propose 1 ∷ Propose 2 ∷ Propose 3 ∷ Calm 1 ∷ Propose 0 ∷ Propose 1 ∷ Propose 2 ∷ Propose 4 ∷
@@ -71,12 +71,12 @@ still_first : (core ahead 3).past.epoch ≡ 0
 unfolding core wide_bytes spell_value spell_batch spell_count spell_request
 still_first = refl
 
--- what comes early to core 3 of the next epoch
+-- the message of the next epoch comes early to core 3
 kept : length (core ahead 3).early ≡ 4
 unfolding core wide_bytes spell_value spell_batch spell_count spell_request
 kept = refl
 
--- ends that epoch too, once its own is over
+-- and is taken, and ends that epoch too, when core 3 ends its own
 two_ended : (core caught_up 3).past.epoch ≡ 2
 unfolding core wide_bytes spell_value spell_batch spell_count spell_request
 two_ended = refl
@@ -85,7 +85,7 @@ all_booked : (heard caught_up).ended ≡ None
 unfolding wide_bytes spell_value spell_batch spell_count spell_request
 all_booked = refl
 
--- a message with a claim that does not verify is dropped for that, where its leader leads
+-- a message with an invalid claim is dropped for that, if its leader leads
 unverified : (after (Bytes 1 (0 ∷ 5 ∷ 0 ∷ 3 ∷ 3 ∷ 0 ∷ 0 ∷ 170 ∷ []) ∷ [])).drops ≡ (0, BadClaim) ∷ []
 unfolding wide_bytes spell_value spell_batch spell_count spell_request
 unverified = refl

@@ -1,5 +1,5 @@
--- A run in which disks fail goes along with one of nodes that never stop, event by event: what is kept enters, and what
--- is not is left out.
+-- A run with disk failures is simulated by a failure-free one, event by event: journaled events enter it, and others
+-- are left out.
 use Rattle.std.proofs.Common.{◌≡◌, ◌⊎◌, inl, inr, ℕ, zero, suc, Bool, true, false, cond, List, [], ◌∷◌, ◌++◌, Option, Some, None, refl, sym, ap, ◌∙◌, subst}
 use Rattle.std.proofs.Math.Path.{fun_ext}
 use Rattle.iss_base.specs.Lists.{In, nth, set_at}
@@ -30,7 +30,7 @@ use Rattle.iss_model.specs.Courses.{Course, Machines, Upshot, after_step, apply_
 use Rattle.iss_model.specs.Disks.{Disk, fails, fused, keeps, may_keep, works_again}
 use Rattle.iss_theorems.specs.Headline.{AreOfTheirDisks, IsUndisturbed, WasAsked, asked_in, why_ended}
 
--- a claim that is forged among these is the first among more
+-- a forged claim that is the first in a list is the first in a longer one
 forged-else : (b : Bool) (c : Claim) (o p : Option Claim) (claim : Claim) → (o ≡ Some claim → p ≡ Some claim) → cond b (Some c) o ≡ Some claim → cond b (Some c) p ≡ Some claim
 forged-else true c o p claim more h = h
 forged-else false c o p claim more h = more h
@@ -41,7 +41,7 @@ forged-first s R book [] ds claim h = absurd (cc)
 forged-first s R book (c ∷ cs) ds claim h =
     forged-else (is_forged s R book c) c (first_forged s R book cs) (first_forged s R book (cs ++ ds)) claim (λ k. forged-first s R book cs ds claim k) h
 
--- where an event was lost, nothing was asked for in it
+-- a lost event accepts no request
 lost-asks-nothing : (i : ℕ) (e : Event) (why : Why) (x : ReqId) → In x (asked_by i e (Some why)) → ⊥
 lost-asks-nothing i (Event_request c client number payload) why x m = m
 lost-asks-nothing i (Propose c) why x m = m
@@ -84,7 +84,7 @@ module _ {Msg : Type 0} (s : Setup) (F : Formats Msg) (R : Rules) (M : Module Ms
     | inr ne ↦ rw (set_at-other w.disks c d j ne) (own j)
   ]
 
-  -- a core takes an event, which its disk keeps
+  -- a core takes an event, which its disk journals
   turned-kept : (w : Machines Msg) → Own w → (c : ℕ) (event : NodeEvent) (t : Turn Msg) → step F R M (node_of s c) (w.held.net.cores c) event ≡ Taken t →
       Own (record { held = turned_to s w.held c t; disks = set_at w.disks c (keeps (w.disks c) event) })
   turned-kept w own c event t q j =
@@ -116,20 +116,20 @@ module _ {Msg : Type 0} (s : Setup) (F : Formats Msg) (R : Rules) (M : Module Ms
 
   -- ---- one core
 
-  -- Core c takes an event, by which nodes that never stop come from h to the same by e, and by no more than is skipped
-  -- where the event does not enter.
+  -- Core c takes an event. The failure-free run goes from h to the same state by e, or by nothing if the event does not
+  -- enter.
   module _ (h : Held Msg) (w : Machines Msg) (own : Own w) (c : ℕ) (event : NodeEvent) (e : Event) (low : IsAtCore s e) (calm : IsUndisturbed e)
       (same : free_happens s F R M h e ≡ at_core s F R M w.held c event)
       (skip : (n : ℕ) (drops : List (ℕ × Why)) → By none (at_start h n drops) w.held None) where
     abbrev asks_of : Upshot Msg → ℕ → ReqId → Type 0
     asks_of d i x = In x (asked_in i e d)
 
-    -- it enters
+    -- the event enters
     carries : (behind : ℕ → Disk) (g : Happening Msg) → free_happens s F R M h e ≡ g → Own (with_disks w behind g).machines →
         Goes (asks_of (with_disks w behind g)) h (with_disks w behind g)
     carries behind g q k = record { leads = λ n drops. leads-one s F R M e low calm h n drops g q; own = k }
 
-    -- it does not
+    -- the event does not enter
     skips : (disks : ℕ → Disk) → Own (record { held = w.held; disks = disks }) →
         Goes (asks_of (machines_lost (record { held = w.held; disks = disks }) Stopped)) h (machines_lost (record { held = w.held; disks = disks }) Stopped)
     skips disks k = record {
@@ -144,7 +144,7 @@ module _ {Msg : Type 0} (s : Setup) (F : Formats Msg) (R : Rules) (M : Module Ms
     abbrev claims : List Claim
     claims = claims_at F R M node (w.held.net.cores c) event
 
-    -- what happens at the core, by what its step is
+    -- what happens at the core, by the result of its step
     abbrev at_step : Stepped Msg → Happening Msg
     at_step o = by_forged (first_forged s R w.held.signed (claims ++ early_of o)) w.held (free_step s w.held c o)
 
@@ -164,7 +164,7 @@ module _ {Msg : Type 0} (s : Setup) (F : Formats Msg) (R : Rules) (M : Module Ms
     taken-own t q None (Some end) = own
     taken-own t q (Some claim) o = own
 
-    -- a claim that is forged in what comes ends the run before the step
+    -- a forged claim in what is received stops the run before the step
     forged-here : (claim : Claim) → first_forged s R w.held.signed claims ≡ Some claim → at_step its_step ≡ ended_by w.held (Forged claim)
     forged-here claim z =
         ap (λ (f : Option Claim). by_forged f w.held (free_step s w.held c its_step)) (forged-first s R w.held.signed claims (early_of its_step) claim z)
@@ -193,7 +193,7 @@ module _ {Msg : Type 0} (s : Setup) (F : Formats Msg) (R : Rules) (M : Module Ms
 
   -- ---- packets
 
-  -- nothing is asked for by a delivery
+  -- a delivery accepts no request
   unasked : (e : Event) → ((i : ℕ) (o : Option Why) → asked_by i e o ≡ []) → (d : Upshot Msg) (i : ℕ) (x : ReqId) → In x (asked_in i e d) → none i x
   unasked e nothing d i x m = ends-ask-nothing d.ended x (subst (λ (xs : List ReqId). In x (unless_ended d.ended xs)) (nothing i d.lost) m)
 
@@ -246,7 +246,7 @@ module _ {Msg : Type 0} (s : Setup) (F : Formats Msg) (R : Rules) (M : Module Ms
 
   -- ---- restarts
 
-  -- what a disk keeps makes the core that it is
+  -- replaying a core's journal gives the core itself
   remade-same : (w : Machines Msg) → Own w → (c : ℕ) → (recover s F R M w c).held ≡ w.held
   remade-same w own c =
       let with_cores : (ℕ → Core Msg) → Held Msg = λ f. record { net = record { cores = f; network = w.held.net.network }; signed = w.held.signed; hashed = w.held.hashed } in
@@ -309,7 +309,7 @@ module _ {Msg : Type 0} (s : Setup) (F : Formats Msg) (R : Rules) (M : Module Ms
     pub leads : (n : ℕ) (drops : List (ℕ × Why)) → By asks (at_start h n drops) p.machines.held (why_ended p.ended)
     pub own : Own p.machines
 
-  -- an event, and what comes behind it
+  -- an event, and the events after it
   behind-follows : (es : List Event) (w : Machines Msg) (d : Upshot Msg) (asks : ℕ → ReqId → Type 0) (k : ℕ) (lost : List (ℕ × Why)) (o : Option End) → d.ended ≡ o →
       Goes asks w.held d → Follows (WasAsked s F R M (going s F R M d.machines (suc k) lost) es) d.machines.held (course s F R M (going s F R M d.machines (suc k) lost) es) →
       Follows (λ i x. asks i x ⊎ WasAsked s F R M (record { machines = d.machines; event = suc k; drops = lost; ended = ended_at k o }) es i x) w.held

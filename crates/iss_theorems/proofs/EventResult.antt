@@ -1,4 +1,4 @@
--- What each turn of a core keeps, and the network's changes too, every run keeps.
+-- Every run keeps what each step of a core and each change of the network keeps.
 use Rattle.std.proofs.Common.{◌≡◌, ℕ, zero, suc, Bool, true, false, cond, List, [], ◌∷◌, Option, Some, None, refl}
 use Rattle.iss_base.specs.Lists.{nth}
 use Rattle.iss_network.specs.Network.{Network, due, settled}

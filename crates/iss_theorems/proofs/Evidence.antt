@@ -1,4 +1,4 @@
--- Where a run has ended, what it holds shows why.
+-- A run that stopped shows why.
 use Rattle.std.proofs.Common.{◌≡◌, ℕ, zero, suc, Bool, true, false, cond, List, [], ◌∷◌, ◌++◌, Option, Some, None, refl, sym, ap, ◌∙◌, subst}
 use Rattle.iss_base.specs.Lists.{nth}
 use Rattle.iss_base.proofs.Lists.{some-injective}
@@ -31,7 +31,7 @@ use Rattle.iss_theorems.proofs.Runs.{run-append, run-fits}
 use Rattle.iss_theorems.proofs.Shown.{collided-with, collision-shown, forged-shown}
 
 module _ {Msg : Type 0} (s : Setup) (F : Formats Msg) (R : Rules) (M : Module Msg) (sound : IsSoundRules s M R) where
-  -- what an event leads to shows why it ended, if it did
+  -- the outcome of an event shows its evidence, if it has any
   abbrev Tells : Happening Msg → Type 0
   Tells d = (end : End) → d.ended ≡ Some end → Shows s F R M d.held end
 
@@ -136,7 +136,7 @@ module _ {Msg : Type 0} (s : Setup) (F : Formats Msg) (R : Rules) (M : Module Ms
   run-tells [] p a = a
   run-tells (e ∷ es) p a = run-tells es (run_event_if_open p.ended s F R M p e) (further-tells p a e p.ended)
 
--- a run that has ended goes no further
+-- a run that has stopped stays as it is
 pub run-stays : {Msg : Type 0} (s : Setup) (F : Formats Msg) (R : Rules) (M : Module Msg) (es : List Event) (p : Progress Msg) (end : ℕ × End) →
     p.ended ≡ Some end → run s F R M p es ≡ p
 run-stays s F R M [] p end q = refl

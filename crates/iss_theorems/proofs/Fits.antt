@@ -1,4 +1,4 @@
--- What a run holds fits a cluster: it is what moves lead to, with the run's books.
+-- The run's invariant: its state is reached by moves of a cluster, with the run's books.
 use Rattle.std.proofs.Common.{◌≡◌, ℕ, ◌<◌, suc, true, List, [], ◌++◌, Some}
 use Rattle.iss_base.specs.Lists.{In}
 use Rattle.iss_base.proofs.Lists.{in_right}
@@ -27,8 +27,8 @@ use Rattle.iss_theorems.proofs.Standing.{AreStanding}
 use Rattle.iss_model.proofs.Told.{AreTold}
 use Rattle.iss_theorems.proofs.Voting.{IsVoting}
 
--- what a run is shown from: sound rules that vote, faithful formats, a module that keeps its laws, windows, and a good
--- set-up
+-- the premises of the invariant: sound rules that vote, faithful formats, a module that keeps its laws, windows, and a
+-- good set-up
 pub record Premises {Msg : Type 0} (s : Setup) (F : Formats Msg) (R : Rules) (M : Module Msg) : Type 0 where
   pub sound : IsSoundRules s M R
   pub faithful : IsFaithful s F M
@@ -42,7 +42,7 @@ module _ {Msg : Type 0} (s : Setup) (F : Formats Msg) (R : Rules) (M : Module Ms
   abbrev pub view : Held Msg → List (Message Msg) → Cluster Msg
   view h messages = record { pasts = pasts_of h.net; messages = messages; book = h.signed; strings = h.hashed }
 
-  -- a packet for a node: a module's message that is read of it was sent
+  -- a packet for a node: the module's message that it holds was sent
   pub record IsPosted (messages : List (Message Msg)) (p : Sent) : Type 0 where
     pub low_to : p.to < s.n
     pub carried : (k : Parcel Msg) (l : ℕ) (msg : Msg) → F.unwrap p.bytes ≡ Some k → k.body ≡ OfModule l msg →
@@ -51,13 +51,13 @@ module _ {Msg : Type 0} (s : Setup) (F : Formats Msg) (R : Rules) (M : Module Ms
   pub more-posted : (a b : List (Message Msg)) (p : Sent) → IsPosted b p → IsPosted (a ++ b) p
   more-posted a b p h = record { low_to = h.low_to; carried = λ k l msg u q. in_right _ a b (h.carried k l msg u q) }
 
-  -- what came early to core j, where nodes only stop: it was sent to it, in the epoch after its own
+  -- the early messages of core j, in the crash-stop model: each was sent to it, in the epoch after its own
   abbrev pub AreSent : List (Message Msg) → ℕ → Core Msg → Type 0
   AreSent messages j d = (x : Early Msg) → In x d.early →
       In (record { from = x.from; to = j; epoch = suc d.past.epoch; leader = x.leader; msg = x.msg }) messages
 
-  -- what the run holds is what moves of a cluster lead to, all that was hashed for logs is in its book, and what is
-  -- kept of votes and certificates is true: each stands for the log of its node
+  -- The state is reached by moves of a cluster, the book has all strings hashed for logs, and kept votes and
+  -- certificates are valid: each describes the log of its signer.
   pub record Fits (h : Held Msg) : Type 0 where
     pub messages : List (Message Msg)
     pub reach : Reach s (scheme_of s) R M (view h messages)

@@ -1,5 +1,5 @@
--- Runs of four nodes that are computed, of which the last is faulty: what is forged ends a run, and what was signed, or
--- is in the faulty node's name, does not.
+-- Computed runs of four nodes, the last of them faulty: a forged claim stops a run; a signed one, or one of the faulty
+-- node, does not.
 use Rattle.std.proofs.Common.{◌≡◌, ℕ, ◌+◌, List, [], ◌∷◌, length, Some, None, refl}
 use Rattle.iss_request.specs.Formats.{spell_batch, spell_count, spell_request, spell_value}
 use Rattle.iss_request.specs.declared.requests.Batch.{Batch}
@@ -38,7 +38,7 @@ four = record {
   tag = [];
 }
 
--- what a node or a client is said to have signed counts as verified, so that runs compute
+-- claims count as verified here, so that runs compute
 abbrev easy : Rules
 easy = light (rules_of four) 4
 
@@ -48,14 +48,14 @@ batch = plain_request 0 0 (170 ∷ []) ∷ []
 abbrev pub after : List Event → Progress Word
 after events = run four short easy signing (begin_run four) events
 
--- a message in the instance of a leader, under its name: slot and batch
+-- a message in the instance of a leader, from the leader: slot and batch
 abbrev told : ℕ → List ℕ
 told leader = 0 ∷ leader ∷ 0 ∷ leader ∷ leader ∷ 0 ∷ 0 ∷ 170 ∷ []
 
 abbrev pub claim : ℕ → Signed
 claim leader = record { by = leader; statement = (claim_of ((rules_of four).params [] 0 leader) leader (record { 0 = leader }, batch)).statement }
 
--- node 0 casts, and all take its message
+-- node 0 proposes, and all take its message
 honest : (after (Event_request 0 0 0 (170 ∷ []) ∷ Propose 0 ∷ Calm 5 ∷ [])).ended ≡ None
 unfolding wide_bytes spell_value spell_batch spell_count spell_request
 honest = refl
@@ -64,12 +64,12 @@ booked : (after (Event_request 0 0 0 (170 ∷ []) ∷ Propose 0 ∷ Calm 5 ∷ [
 unfolding wide_bytes spell_value spell_batch spell_count spell_request
 booked = refl
 
--- the message again, from nowhere
+-- the message again, injected
 repeated : (after (Event_request 0 0 0 (170 ∷ []) ∷ Propose 0 ∷ Bytes 1 (told 0) ∷ [])).ended ≡ None
 unfolding wide_bytes spell_value spell_batch spell_count spell_request
 repeated = refl
 
--- before node 0 has signed it, it is forged, and the run ends: what follows does not happen
+-- before node 0 has signed it, it is forged, and the run stops: later events do nothing
 forged : (after (Bytes 1 (told 0) ∷ Event_request 0 0 0 (170 ∷ []) ∷ Propose 0 ∷ [])).ended ≡ Some
     (0, Forged (claim_of ((rules_of four).params [] 0 0) 0 (record { 0 = 0 }, batch)))
 unfolding wide_bytes spell_value spell_batch spell_count spell_request
@@ -84,21 +84,21 @@ faulty : (after (Bytes 1 (told 3) ∷ [])).ended ≡ None
 unfolding wide_bytes spell_value spell_batch spell_count spell_request
 faulty = refl
 
--- what comes early is read as its epoch begins. For this each node takes what a leader tells, so that epochs end
+-- Early messages are read as their epoch begins. Here each node delivers what a leader sends, so that epochs end.
 abbrev hearing : Module Word
 hearing = record signing { decided = λ p me xs s. first_told p.leader.0 s xs }
 
 abbrev pub heard : List Event → Progress Word
 heard events = run four short easy hearing (begin_run four) events
 
--- a message for the next epoch, in the name of a node, in the instance of a leader at its slot
+-- a message for the next epoch, from a node, in the instance of a leader at its slot
 abbrev early : ℕ → ℕ → List ℕ
 early from leader = 0 ∷ from ∷ 1 ∷ leader ∷ (4 + leader) ∷ 0 ∷ 0 ∷ 170 ∷ []
 
 abbrev whole_epoch : List Event
 whole_epoch = Propose 0 ∷ Propose 1 ∷ Propose 2 ∷ Propose 3 ∷ Calm 1 ∷ []
 
--- a forged one ends the run then, and not as it comes
+-- a forged one stops the run when it is taken, not when it arrives
 waits : (heard (Bytes 1 (early 0 0) ∷ [])).ended ≡ None
 unfolding wide_bytes spell_value spell_batch spell_count spell_request
 waits = refl
@@ -112,7 +112,7 @@ early_taken : length (((heard (Bytes 1 (early 3 3) ∷ whole_epoch)).held.net.co
 unfolding wide_bytes spell_value spell_batch spell_count spell_request
 early_taken = refl
 
--- and one that does not verify is gone
+-- one with an invalid claim is dropped
 early_gone : length (((heard (Bytes 1 (early 5 3) ∷ whole_epoch)).held.net.cores 1).past.evidence 1 3) ≡ 0
 unfolding wide_bytes spell_value spell_batch spell_count spell_request
 early_gone = refl

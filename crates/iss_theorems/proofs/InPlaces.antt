@@ -1,4 +1,4 @@
--- Runs that are computed: where a request is from the event by which it is taken.
+-- Computed runs: where a request is from the event that accepts it.
 use Rattle.std.proofs.Common.{◌≡◌, ℕ, List, [], ◌∷◌, inl, inr, refl}
 use Rattle.iss_request.specs.declared.ids.ReqId.{ReqId}
 use Rattle.iss_schedule.specs.declared.schedules.Event.{Event}
@@ -17,7 +17,7 @@ core events i = (run plain short easy telling (begin_run plain) events).held.net
 abbrev asks : Event
 asks = Event_request 0 0 0 (170 ∷ [])
 
--- it was taken, also where it is asked for again later
+-- it was accepted, also if it is asked for again later
 taken : WasAsked plain short easy telling (begin_run plain) (asks ∷ Propose 0 ∷ asks ∷ []) 0 x
 taken = inl (inl refl)
 
@@ -33,12 +33,12 @@ waits : IsInOnePlace easy telling 0 (core (asks ∷ []) 0) x
 unfolding core
 waits = second (λ h. h) (inl refl) (λ h. h)
 
--- it is cast
+-- it is in flight
 flies : IsInOnePlace easy telling 0 (core (asks ∷ Propose 0 ∷ asks ∷ []) 0) x
 unfolding core
 flies = third (λ h. h) (λ h. h) (inl refl)
 
--- it is ordered
+-- it is in the log
 ordered : IsInOnePlace easy telling 0 (core (asks ∷ Propose 0 ∷ Calm 10 ∷ []) 0) x
 unfolding core
 ordered = first (inl refl) (λ h. h) (λ h. h)
@@ -48,7 +48,7 @@ returned : IsInOnePlace easy telling 0 (core (asks ∷ Propose 0 ∷ Event_timeo
 unfolding core
 returned = second (λ h. h) (inl refl) (λ h. h)
 
--- as it does in the next epoch, in which another node owns it
+-- as it does in the next epoch, in which another node owns its bucket
 abbrev next_epoch : List Event
 next_epoch = asks ∷ Propose 0 ∷ Event_timeout 0 (record { 0 = 0 }) ∷ Propose 1 ∷ Propose 2 ∷ Calm 10 ∷ Propose 0 ∷ Calm 10 ∷ []
 

@@ -1,5 +1,5 @@
--- Each leaf that a node uses is of one statement: a module's, by the module's law, or a vote's. All else of its own
--- that a node sends it was told.
+-- Each leaf that a node uses signs one statement: a module's, by the module's law, or a vote's. Every other own claim
+-- that a node sends, it had received.
 use Rattle.std.proofs.Common.{◌≡◌, ◌⊎◌, ◌∙◌, ◌+◌, ◌++◌, ◌∷◌, ℕ, suc, Bool, true, false, cond, eqb, List, [], length, length-append, Option, Some, None, refl, sym, ap, subst, inl, inr, arith, add-zero, eq-eqb}
 use Rattle.std.specs.Prelude.{slice_get}
 use Rattle.iss_sb.proofs.Leaves.{row-left, row-right}
@@ -61,7 +61,7 @@ module _ (R : Rules) (me : ℕ) where
       c.sig ≡ R.signature me (length row + place) c.statement → IsOfRow R me (row ++ more) c
   row-next row more place c there sig = record { leaf = length row + place; statement = row-right row more place ∙ there; signature = sig }
 
-  -- a claim of its own that a node may send: it is of the row, or was heard
+  -- an own claim that a node may send: it is of the row, or was received
   abbrev Known : List (List ℕ) → List Claim → Claim → Type 0
   Known row heard c = IsOfRow R me row c ⊎ In c heard
 
@@ -77,7 +77,7 @@ module _ {Msg : Type 0} (s : Setup) (F : Formats Msg) (R : Rules) (M : Module Ms
   slots : HasSlots R
   slots = record { some = sound.some_slots; most = sound.most }
 
-  -- in an instance all is made by the module, and the claims of its own that were seen there are known
+  -- all entries of the instance are the module's, and all own claims in it are known
   record IsKnownIn (row : List (List ℕ)) (heard : List Claim) (p : Params) (xs : List (Item Msg)) : Type 0 where
     made : AreMade M p me xs
     seen : (y : Claim) → y.by.0 ≡ me → WasSeen M p me xs y → Known R me row heard y
@@ -88,13 +88,13 @@ module _ {Msg : Type 0} (s : Setup) (F : Formats Msg) (R : Rules) (M : Module Ms
   more-known : (row more : List (List ℕ)) (heard : List Claim) (p : Params) (xs : List (Item Msg)) → IsKnownIn row heard p xs → IsKnownIn (row ++ more) heard p xs
   more-known row more heard p xs h = record { made = h.made; seen = λ y by w. known-more R me row more heard y (h.seen y by w) }
 
-  -- a vote that was heard
+  -- a vote that was received
   record IsHeardVote (heard : List Claim) (v : Vote) : Type 0 where
     verified : R.verifies v.by.0 (R.voted v.epoch.0 v.chain v.requests) v.sig ≡ true
     told : In (claim_of_vote R v) heard
 
-  -- the row of a core is as long as its next leaf; its epoch's instances are known, and what it keeps of votes and
-  -- certificates was heard
+  -- The row of a core is as long as its next leaf. Its epoch's instances are known, and its votes and certificates were
+  -- received.
   record Accounts (row : List (List ℕ)) (heard : List Claim) (c : Core Msg) : Type 0 where
     core : IsSoundCore R M me c
     each : length row ≡ c.leaf
@@ -260,7 +260,7 @@ module _ {Msg : Type 0} (s : Setup) (F : Formats Msg) (R : Rules) (M : Module Ms
     reads-fair : (t : Turn Msg) (claims : List Claim) → Accounted first heard t → Accounted first heard (then_reads F R M me t claims)
     reads-fair t claims k = record { row = k.row; kept = k.kept; account = k.account; own = k.own }
 
-    -- what came early, and was read as it was taken
+    -- an early message, read as it was taken
     early-comes : (t : Turn Msg) (x : Early Msg) → ((y : Claim) → In y (claims_in R M me t.core.past x.from x.leader x.msg) → In y heard) →
         Comes t x.leader (early_input F R M me x)
     early-comes t x sub leads y h =

@@ -1,4 +1,4 @@
--- What the steps hash of logs is what chains are made of.
+-- The strings that steps hash for logs are those of the chain.
 use Rattle.std.proofs.Common.{◌≡◌, ◌⊎◌, inl, inr, ℕ, List, [], ◌∷◌, length, reverse, refl, sym, ap, ◌∙◌, subst}
 use Rattle.iss_base.specs.Lists.{Extends, In, push_all}
 use Rattle.iss_base.proofs.Lists.{in_left, in_right}
@@ -21,7 +21,7 @@ module _ (s : Setup) where
       ap (λ (t : List ℕ). linked s.version t v) (chain-is older) ∙
       (sym (chain-append s.version (digest []) (reverse older) (v ∷ [])) ∙ ap (λ (t : List Value). chain_of s.version t) (sym (newest-last v older)))
 
-  -- what is hashed for values behind a log
+  -- what is hashed for values after a log
   pub over-hashed : (vs log : List Value) (x : List ℕ) → In x (chain_strings (scheme_of s) (push_all vs log)) →
       In x (chain_strings (scheme_of s) log) ⊎ In x (strings_from s.version (chain_of s.version (reverse log)) vs)
   over-hashed [] log x h = inl h

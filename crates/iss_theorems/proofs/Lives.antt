@@ -1,5 +1,5 @@
--- What the cores of a run did: each core is what the life of its node led to, and the book has what correct nodes sent
--- in theirs.
+-- The history of each core of a run: each core is the result of its node's history, and the book holds what correct
+-- nodes sent in theirs.
 use Rattle.std.proofs.Common.{◌≡◌, ◌∙◌, ◌++◌, ◌∷◌, ℕ, Bool, true, false, cond, List, [], refl, sym, ap, subst, inl, inr}
 use Rattle.iss_base.specs.Lists.{In, set_at}
 use Rattle.iss_base.proofs.Lists.{in_append, in_left, in_right, same_or_not, set_at-other, set_at-same}
@@ -27,7 +27,7 @@ module _ {Msg : Type 0} (s : Setup) (F : Formats Msg) (R : Rules) (M : Module Ms
   abbrev W : Frame Msg
   W = record { setup = s; formats = F; rules = R; spec = M }
 
-  -- the book has it of what a correct core sent
+  -- a correct core sent the booked statement
   record IsSentBy (deeds : ℕ → List (Deed Msg)) (x : Signed) : Type 0 where
     core : ℕ
     correct : is_correct s core ≡ true
@@ -73,7 +73,7 @@ module _ {Msg : Type 0} (s : Setup) (F : Formats Msg) (R : Rules) (M : Module Ms
         subst (λ (xs : List (Deed Msg)). In x (as_signed (sent xs))) (sym here)
         (subst (λ (ys : List Signed). In x ys) (sym (as_signed-append t.own (sent (k.deeds c)))) m)
 
-    -- what was sent before was sent
+    -- what was sent stays sent
     sent-still : (i : ℕ) (x : Signed) → In x (as_signed (sent (k.deeds i))) → In x (as_signed (sent (now i)))
     sent-still i x m = elim (same_or_not i c) [
       | inl e ↦

@@ -1,4 +1,4 @@
--- The number that a slot of a log begins with.
+-- The number of the first request of a slot.
 use Rattle.std.proofs.Common.{◌≡◌, ℕ, ◌<◌, Bool, true, false, List, length, take, Some, None, refl, sym, ap, ◌∙◌, arith}
 use Rattle.std.specs.Prelude.{if◌then◌else◌, nat_lt}
 use Rattle.std.proofs.lemmas.Bool.{ltb-true}
@@ -13,7 +13,7 @@ was-some : (b : Bool) (x k : ℕ) → (if b then Some x else None) ≡ Some k �
 was-some true x k e = (refl, some-injective x k e)
 was-some false x k e = absurd cc
 
--- a log that goes on has the same numbers where it was
+-- a longer log has the same numbers at the old slots
 pub same-numbers : (a b : List Value) (slot k l : ℕ) → IsPrefix a b → first_number_of a slot ≡ Some k → first_number_of b slot ≡ Some l → k ≡ l
 same-numbers a b slot k l (rest, is) ka lb =
     let short = was-some (nat_lt slot (length a)) (requests (take slot a)) k ka in

@@ -1,4 +1,4 @@
--- The run of every list of events is one of a cluster, and the logs that it prints are of one log.
+-- Every run refines moves of a cluster, and the logs of its correct nodes are prefixes of one log.
 use Rattle.std.proofs.Common.{inl, inr, List, reverse, refl}
 use Rattle.iss_request.specs.declared.requests.Value.TheVariants.{Batch as Value_batch}
 use Rattle.iss_request.specs.declared.setups.Setup.{Setup}
@@ -21,7 +21,7 @@ use Rattle.iss_theorems.proofs.Runs.{run-fits, run-grows, run-ordered}
 use Rattle.iss_theorems.proofs.Voting.{rules-voting}
 use Rattle.iss_rules.proofs.Windows.{are-windows}
 
--- what a run of a good set-up is shown from
+-- the premises of the run's invariant, for a good set-up
 pub premises : {Msg : Type 0} (s : Setup) (M : Module Msg) → IsSetupOf M s → IsFaithful s (formats_of s M) M → IsLawful M → IsSafe M →
     Premises s (formats_of s M) (rules_of s) M
 premises s M h faithful law safe = record {

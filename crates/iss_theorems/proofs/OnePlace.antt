@@ -1,4 +1,4 @@
--- Conservation in a cluster: each identity that a correct core took is in one place.
+-- Conservation in a cluster: each request that a correct core accepted is in exactly one place.
 use Rattle.std.proofs.Common.{◌≡◌, inl, inr, ℕ, zero, suc, ◌-◌, ◌^◌, ◌≤◌, ◌<◌, true, List, [], ◌∷◌, ◌++◌, length, Some, sym, ap, ◌∙◌, subst, arith, append_assoc}
 use Rattle.std.proofs.lemmas.Bool.Decides.{leb_tells}
 use Rattle.iss_base.specs.Lists.{Chain, Extends, In}
@@ -48,7 +48,7 @@ module _ {Msg : Type 0} (s : Setup) (S : Scheme) (R : Rules) (M : Module Msg) (s
   true_log : IsTrueLog s R M w.pasts log
   true_log = own-true s S R M safe sound w sep g i ok
 
-  -- a value of the log at a slot that the node cast in an epoch is of the instance in which it cast
+  -- a log value at a slot where the node proposed in an epoch is of the instance in which it proposed
   record IsOwn (older : List Value) (e : ℕ) : Type 0 where
     pub epoch : epoch_at R older ≡ e
     pub start : before_at R older ≡ before R M i past e
@@ -105,7 +105,7 @@ module _ {Msg : Type 0} (s : Setup) (S : Scheme) (R : Rules) (M : Module Msg) (s
     abbrev at : Slot
     at = record { 0 = length older }
 
-    -- what stands in the log there, the node accepted there
+    -- the node accepted what the log holds there
     own-accepted : (b : Batch) → Backed s R M w.pasts older (Value_batch b) → In {A = Slot × Batch} (at, b) here
     own-accepted b st =
         let delivered = in-world s S R M safe sound w sep g older st.node st.correct (length older) (Value_batch b) st.is in
@@ -135,7 +135,7 @@ module _ {Msg : Type 0} (s : Setup) (S : Scheme) (R : Rules) (M : Module Msg) (s
   lower : (older : List Value) (v : Value) → Extends (v ∷ older) log → Extends older log
   lower older v part = (part.0 ++ (v ∷ []), part.1 ∙ sym (append_assoc part.0 (v ∷ []) older))
 
-  -- what was cast in a slot that holds a batch stands in the log
+  -- what was proposed at a slot that holds a batch is in the log
   pub landed : (x : ReqId) → Gone R M i past x → In x (log_ids log)
   landed x gone =
       let st : Stood log gone.entry.0.0 = not-nil log gone.entry.0.0 gone.low gone.is in
@@ -180,7 +180,7 @@ module _ {Msg : Type 0} (s : Setup) (S : Scheme) (R : Rules) (M : Module Msg) (s
         let far : start_of R log e ≤ length log = far-start s S R M safe sound w sep g i ok e (omega arith) in
         elim (leb_tells e (epoch_at R low)) [
           | inr t ↦
-              -- of an earlier epoch: it stood in the log before this one
+              -- of an earlier epoch: it was in the log before this one
               let below : length low < start_of R log e = elim (leb_tells (start_of R log e) (length low)) [
                 | inr y ↦ y.1
                 | inl y ↦

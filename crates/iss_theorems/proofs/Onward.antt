@@ -1,4 +1,4 @@
--- A turn of a correct core goes on: it takes an input, or ends its epoch and votes, each a move of the cluster.
+-- A step of a correct core takes an input, or ends its epoch and votes. Each is a move of the cluster.
 use Rattle.std.proofs.Common.{◌≡◌, ◌≢◌, ◌⊎◌, inl, inr, ℕ, suc, ◌≤◌, Bool, true, false, cond, List, [], ◌++◌, length, reverse, Some, None, refl, sym, ap, ◌∙◌, subst, arith}
 use Rattle.iss_base.specs.Lists.{Extends, In, push_all}
 use Rattle.iss_base.proofs.Lists.{in_append, in_left, in_right, same_or_not, some-injective}
@@ -78,7 +78,7 @@ module _ {Msg : Type 0} (s : Setup) (F : Formats Msg) (R : Rules) (M : Module Ms
   string-new : (t : Turn Msg) (f : Core Msg → Turn Msg) (x : List ℕ) → In x (f t.core).strings → In x (push_all (then_turn t f).strings h.hashed)
   string-new t f x m = turned.string-new s F R M o h ok i correct t f x m
 
-  -- what a step hashes of a log that grows is all that is new in its chain
+  -- the strings that a step hashes as its log grows are all that is new in the chain
   pub grown-all : (old new : List Value) → Extends old new → (all : List (List ℕ)) → IsHashedLog S all old → ((x : List ℕ) → In x (grown_strings R old new) → In x all) →
       IsHashedLog S all new
   grown-all old new longer all was fresh x m = elim (grown-hashed s old new longer x m) [
@@ -208,7 +208,7 @@ module _ {Msg : Type 0} (s : Setup) (F : Formats Msg) (R : Rules) (M : Module Ms
       voted = voted-later R M i d later_past taken_later k.ready.sound.reached (booked s i t.own ++ h.signed) (booked s i u.own ++ h.signed) older k.voted;
     }
       where
-        -- what a module signs is no vote
+        -- a module signs no vote
         no_vote : (n : ℕ) (a : List ℕ) (q : ℕ) → In (record { by = i; statement = vote_statement s n a q }) (booked s i u.own ++ h.signed) →
             In (record { by = i; statement = vote_statement s n a q }) (booked s i t.own ++ h.signed)
         no_vote n a q m = elim (in_append _ (booked s i u.own) h.signed m) [

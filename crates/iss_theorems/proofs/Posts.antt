@@ -1,4 +1,4 @@
--- Which packets a node's sends make, and which messages they carry.
+-- The packets of a node's sends, and the messages in them.
 use Rattle.std.proofs.Common.{◌≡◌, ◌⊎◌, inl, inr, ℕ, List, [], ◌∷◌, ◌++◌, refl, sym, ap, ◌∙◌}
 use Rattle.iss_base.specs.Lists.{In}
 use Rattle.iss_base.proofs.Lists.{in_append, in_left, in_right}
@@ -56,7 +56,7 @@ in-told_to i d l msg [] j h = absurd h
 in-told_to i d l msg (k ∷ js) j (inl e) = inl (ap (λ (t : ℕ). record { from = i; to = t; epoch = d; leader = l; msg = msg }) e)
 in-told_to i d l msg (k ∷ js) j (inr h) = inr (in-told_to i d l msg js j h)
 
--- packets are old, or one of these
+-- a packet is old, or one of these
 posted_to-in : (js : List ℕ) (w : Network) (from : ℕ) (bytes : List ℕ) (p : Sent) → In p (posted_to w from bytes js).packets →
     In p w.packets ⊎ ((p.bytes ≡ bytes) × In p.to js)
 posted_to-in [] w from bytes p h = inl h
@@ -68,7 +68,7 @@ posted_to-in (j ∷ js) w from bytes p h = elim (posted_to-in js (posted w (reco
   ]
 ]
 
--- the packet carries a message of the sends
+-- the packet holds a message of the sends
 pub record Carries {Msg : Type 0} (s : Setup) (F : Formats Msg) (i d l : ℕ) (sends : List (To × Msg)) (p : Sent) : Type 0 where
   pub to : To
   pub msg : Msg
@@ -105,7 +105,7 @@ posted-in s F i d l (x ∷ xs) w p h =
       ]
     ]
 
--- packets are old, or of one of the sends
+-- a packet is old, or of one of the sends
 pub posted-from : (s : Setup) (from : ℕ) (sends : List (To × List ℕ)) (w : Network) (p : Sent) → In p (posted_all s w from sends).packets →
     In p w.packets ⊎ ((x : To × List ℕ) × In x sends × (p.bytes ≡ x.1) × In p.to (addressees s x.0))
 posted-from s from [] w p h = inl h

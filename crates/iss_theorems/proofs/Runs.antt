@@ -1,4 +1,4 @@
--- A run, up to its end, is a chain of moves of a cluster with the run's books.
+-- A run, until it stops, is a sequence of moves of a cluster with the run's books.
 use Rattle.std.proofs.Common.{◌≡◌, inl, inr, ℕ, ◌<◌, zero, suc, Bool, true, false, cond, List, [], ◌∷◌, ◌++◌, Option, Some, None, refl, sym, ap, ◌∙◌, subst, arith, true≢false}
 use Rattle.iss_base.specs.Lists.{In, nth}
 use Rattle.iss_base.proofs.Lists.{nth-in}
@@ -53,7 +53,7 @@ module _ {Msg : Type 0} (s : Setup) (F : Formats Msg) (R : Rules) (M : Module Ms
   same : (w v : Held Msg) → v.net.cores ≡ w.net.cores → Grows s R M w.net v.net
   same w v q = same-net s R M w v q
 
-  -- which packets wait and who is held changes nothing
+  -- which packets wait and which cores are held does not matter
   network-fits : (h : Held Msg) (net : Network) → net.packets ≡ h.net.network.packets → Fits h → Fits (with_network h net)
   network-fits h net q ok = record {
     messages = ok.messages;
@@ -99,15 +99,15 @@ module _ {Msg : Type 0} (s : Setup) (F : Formats Msg) (R : Rules) (M : Module Ms
   leads-unless h None d more ok f = leads-trans h d.held (more d.held).held ok (f d.held)
   leads-unless h (Some end) d more ok f = ok
 
-  -- a packet that carries a message that was sent
+  -- a packet that holds a message that was sent
   packet-comes : (h : Held Msg) (ok : Fits h) (p : Sent) → (M.stopping ≡ true → Posted ok.messages p) → Arrives h ok p.to (On_packet p.bytes)
   packet-comes h ok p posted = record { low = λ st. (posted st).low_to; legit = λ st k l msg u b. (posted st).carried k l msg u b }
 
-  -- where nodes only stop, a core is a node
+  -- in the crash-stop model each core is a node
   is-node : (i : ℕ) → i < cores_of s → M.stopping ≡ true → i < s.n
   is-node i low st = core-low s (faultless s R M o.sound st) i low
 
-  -- bytes that were written for a request give no message of a module
+  -- the bytes of a request decode to no message of a module
   request-comes : (h : Held Msg) (ok : Fits h) (i : ℕ) → i < cores_of s → (q : Request) →
       Arrives h ok i (On_packet (F.wrap (record { from = 255; epoch = 0; body = OfRequest q })))
   request-comes h ok i low q = record {
@@ -191,11 +191,11 @@ module _ {Msg : Type 0} (s : Setup) (F : Formats Msg) (R : Rules) (M : Module Ms
     separate = λ a b ia ib q. elim ia [ inl x ↦ elim ib [ inl y ↦ x ∙ sym y | inr none ↦ absurd none ] | inr none ↦ absurd none ];
   }
 
-  -- after any events, up to the end of the run, what it holds is what moves lead to
+  -- the invariant holds after any events, until the run stops
   pub run-fits : (events : List Event) → AreAtCores s events → Fits (run s F R M (begin_run s) events).held
   run-fits events low = (leads-run events (begin_run s) start-fits low).fits
 
-  -- more events make logs longer
+  -- more events extend logs
   pub run-grows : (events more : List Event) → AreAtCores s events → AreAtCores s more →
       Grows s R M (run s F R M (begin_run s) events).held.net (run s F R M (begin_run s) (events ++ more)).held.net
   run-grows events more low low_more =
@@ -203,7 +203,7 @@ module _ {Msg : Type 0} (s : Setup) (F : Formats Msg) (R : Rules) (M : Module Ms
       subst (λ (q : Progress Msg). Grows s R M p.held.net q.held.net) (sym (run-append s F R M events more (begin_run s)))
       (leads-run more p (run-fits events low) low_more).grows
 
-  -- and the logs of correct nodes are of one log
+  -- the logs of correct nodes are prefixes of one log
   pub run-ordered : (events : List Event) → AreAtCores s events → Ordered s R M (pasts_of (run s F R M (begin_run s) events).held.net)
   run-ordered events low =
       let h : Held Msg = (run s F R M (begin_run s) events).held in

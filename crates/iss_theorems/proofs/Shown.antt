@@ -1,5 +1,5 @@
--- What an end shows: a forged claim is of a correct node and in no book, and a collision is of two strings of one
--- digest. And the book has each claim that a correct node sent of its own.
+-- What evidence shows: a forged claim is of a correct node and in no book; a collision is of two strings with one
+-- digest. The book has each claim that a correct node signed and sent.
 use Rattle.std.proofs.Common.{◌≡◌, inl, inr, ℕ, Bool, true, false, cond, eqb, not, ◌&&◌, List, [], ◌∷◌, Some, refl, sym, ap, ◌∙◌, subst, true≢false}
 use Rattle.iss_base.specs.Lists.{In, same_bytes}
 use Rattle.iss_base.proofs.Lists.{and-true, eqb-same, first-cases, in_left, in_right, not-true, same_bytes-is, same_bytes-refl, some-injective}
@@ -61,7 +61,7 @@ forged-shown s R book (d ∷ ds) c h = go (is_forged s R book d) refl h (forged-
 ends-same : (a b c d : List ℕ) → Collision a b ≡ Collision c d → (a ≡ c) × (b ≡ d)
 ends-same a b c d h = (cc, cc)
 
--- the string x collides with one of the book
+-- the string x collides with one in the book
 record Collides (book : List (List ℕ)) (x a b : List ℕ) : Type 0 where
   is : x ≡ b
   booked : In a book
@@ -87,7 +87,7 @@ with-shown x (y ∷ book) a b h = go (is_collision y x) refl h (with-shown x boo
     go true q k ih = let e = ends-same y x a b (some-injective _ _ k) in rw (← e.0, ← e.1) (here q)
     go false q k ih = let r = ih k in record { is = r.is; booked = inr r.booked; same = r.same; different = r.different }
 
--- what ends a run by the strings of a step is a collision
+-- if a step's strings stop the run, they collide
 with-collided : (x : List ℕ) (book : List (List ℕ)) (end : End) → collision_with x book ≡ Some end → (a : List ℕ) × (b : List ℕ) × (end ≡ Collision a b)
 with-collided x [] end h = absurd (cc)
 with-collided x (y ∷ book) end h = go (is_collision y x) h (with-collided x book end)

@@ -1,5 +1,5 @@
--- An event at a node may be many moves of it: it takes an input, ends its epoch and votes, adopts an epoch, and takes
--- what had come early for the next. Claims are read against the book before the event.
+-- An event at a node may be many moves: the node takes an input, ends its epoch and votes, adopts an epoch, and takes
+-- early messages of the next. Claims are tested against the book before the event.
 use Rattle.std.specs.Prelude.{◌≡◌, ℕ, true, List, [], ◌∷◌, ◌++◌, length, None}
 use Rattle.iss_request.specs.declared.setups.Setup.{Setup}
 use Rattle.iss_sb.specs.declared.effects.Input.{Input}
@@ -23,7 +23,7 @@ past_after R M i c (Takes l input leaf) = takes R M i c l input leaf
 past_after R M i c Ends = advanced c
 past_after R M i c (Adopts piece cert) = adopts c piece
 
--- what it signs of its own, and what it hashes
+-- the own statements that it signs, and the strings that it hashes
 abbrev pub signs_at : {Msg : Type 0} → Setup → Scheme → Rules → Module Msg → ℕ → Past Msg → Small Msg → List Signed
 signs_at s S R M i c (Takes l input leaf) = as_signed (own_claims M (params_of R M i c l) i (made_in R M i c l input leaf).sends)
 signs_at s S R M i c Ends = record { by = i; statement = vote_of s S R M i c } ∷ []
@@ -34,7 +34,7 @@ hashes_at S R M i c (Takes l input leaf) = (made_in R M i c l input leaf).string
 hashes_at S R M i c Ends = chain_strings S (log_of R M i (advanced c))
 hashes_at S R M i c (Adopts piece cert) = chain_strings S (adopted_log R M i c piece) ++ chain_strings S (log_of R M i (adopts c piece))
 
--- what may come, by this book
+-- what may be received, by this book
 abbrev pub MayHear : {Msg : Type 0} → Rules → Module Msg → List Signed → ℕ → Past Msg → ℕ → Input Msg → Type 0
 MayHear R M book i c l (Cast slot batch) = (i ≡ l) × IsReadBatch (params_of R M i c l) batch
 MayHear R M book i c l (Receive from msg) = IsCredible M (params_of R M i c l) (IsVerified R) (IsBooked book) from.0 msg
@@ -60,7 +60,7 @@ IsRight s S R M book i c (Takes l input leaf) = IsRightInput s R M book i c l in
 IsRight s S R M book i c Ends = is_complete R M i c ≡ true
 IsRight s S R M book i c (Adopts piece cert) = IsRightPiece s S R M book i c piece cert
 
--- a row of them, in order
+-- a sequence of moves
 abbrev pub past_of : {Msg : Type 0} → Rules → Module Msg → ℕ → Past Msg → List (Small Msg) → Past Msg
 past_of R M i c [] = c
 past_of R M i c (x ∷ xs) = past_of R M i (past_after R M i c x) xs

@@ -1,4 +1,4 @@
--- What stands in logs has a spelling: what the judge accepts has, and so has what is read of a piece.
+-- All values in logs have encodings: what the judge accepts has, and so has what is read of a piece.
 use Rattle.std.proofs.Common.{◌≡◌, inl, inr, ℕ, ◌≤◌, ◌-◌, Bool, true, false, cond, eqb, List, [], ◌∷◌, length, Some, None, refl, sym, ap, ap₂, ◌∙◌, subst, arith}
 use Rattle.std.proofs.lemmas.Bool.Decides.{leb_tells}
 use Rattle.std.proofs.lemmas.List.{append-nil}
@@ -31,7 +31,7 @@ use Rattle.iss_composition.proofs.Good.{Good}
 use Rattle.iss_rules.proofs.Judged.{accepted, entry-judged}
 use Rattle.iss_theorems.proofs.Voting.{IsVoting}
 
--- a value that is read again counts as spelled
+-- a value that decodes from its encoding counts as encodable
 pub read-spelled : (s : Setup) (v : Value) → IsReadValue s v → (scheme_of s).spells v ≡ true
 read-spelled s v h =
     let flat = append-nil (spell_value s.version v) in
@@ -40,7 +40,7 @@ read-spelled s v h =
 nil-read : (s : Setup) → IsReadValue s Nil
 nil-read s = read-again (spell_value s.version) (parse_value s.version) (value_grammar s.version) (0 ∷ []) [] Nil ((value_related s.version Nil (0 ∷ [])).1 refl)
 
--- the same chains, with no care for spellings
+-- the same chains, without regard to encodings
 abbrev pub loose : Scheme → Scheme
 loose S = record S { spells = λ v. true }
 
@@ -76,7 +76,7 @@ loosen s R M w S g = record {
   root = g.root;
 }
 
--- the values of pieces are read again
+-- the values of pieces have encodings
 abbrev pub AreReadPieces : Setup → List Piece → Type 0
 AreReadPieces s ps = (p : Piece) → In p ps → (v : Value) → In v p.values → IsReadValue s v
 
@@ -93,7 +93,7 @@ adopted-read s (p ∷ ps) are e k v h = elim (first-cases (adopted_at ps e k) (c
 
 module _ {Msg : Type 0} (s : Setup) (S : Scheme) (R : Rules) (M : Module Msg) (safe : IsSafe M) (sound : IsSoundRules s M R) (voting : IsVoting s R)
     (w : Cluster Msg) (sep : Separate (Among w.strings)) (g : Good s R M w S) where
-  -- what a correct node accepted is read again
+  -- what a correct node accepted has an encoding
   accepted-read : (j e l : ℕ) → is_correct s j ≡ true → (x : Slot × Batch) → In x (accepts ((w.pasts j).evidence e l)) → IsReadValue s (Value_batch x.1)
   accepted-read j e l ok x i = elim (leb_tells e (w.pasts j).epoch) [
     | inl t ↦
@@ -106,7 +106,7 @@ module _ {Msg : Type 0} (s : Setup) (S : Scheme) (R : Rules) (M : Module Msg) (s
     | inr t ↦ absurd (subst (λ (xs : List _). In x (accepts xs)) (g.unborn j e l ok t.1) i)
   ]
 
-  -- so is what one delivered
+  -- so has what one delivered
   backed-read : (older : List Value) (v : Value) → Backed s R M w.pasts older v → IsReadValue s v
   backed-read older Nil b = nil-read s
   backed-read older (Value_batch x) b =
@@ -118,7 +118,7 @@ module _ {Msg : Type 0} (s : Setup) (S : Scheme) (R : Rules) (M : Module Msg) (s
       accepted-read r.node (epoch_at R older) (leader_at R older) there (slot, x)
       (subst (λ (xs : List _). In {A = Slot × Batch} (slot, x) (accepts xs)) (world-at s w (epoch_at R older) (leader_at R older) r.node there) r.first)
 
-  -- and all that stands in a log of a node, with more pieces whose values are
+  -- and every value of a node's log, if adopted values have
   pub log-read : (i : ℕ) → is_correct s i ≡ true → (d : Past Msg) → Later R (w.pasts i) d → ((e l : ℕ) → d.evidence e l ≡ (w.pasts i).evidence e l) →
       AreReadPieces s d.adopted → (xs : List Value) → IsLog R M i d xs → (v : Value) → In v xs → IsReadValue s v
   log-read i ok d later same are [] h v m = absurd m

@@ -1,5 +1,5 @@
--- A vote in the book stands for the log of its node at the end of an epoch, and each epoch that a node ended itself is
--- voted for.
+-- A vote in the book describes its node's log at the end of an epoch, and each epoch that a node ended itself is voted
+-- for.
 use Rattle.std.proofs.Common.{◌≡◌, ◌⊎◌, inl, inr, ℕ, suc, ◌<◌, ◌≤◌, List, length, sym, subst, arith, le_trans}
 use Rattle.iss_base.specs.Lists.{In}
 use Rattle.iss_base.proofs.Lists.{in_right}
@@ -15,7 +15,7 @@ use Rattle.iss_rules.specs.Rules.{Rules}
 use Rattle.iss_rules.proofs.Epochs.{start-mono}
 use Rattle.iss_rules.proofs.Logs.{Later, before-later}
 
--- each vote of node i in the book is one on its log
+-- each vote of node i in the book describes its log
 abbrev pub AreStanding : {Msg : Type 0} → Setup → Rules → Module Msg → ℕ → Past Msg → List Signed → Type 0
 AreStanding s R M i c book =
     (e : ℕ) (a : List ℕ) (q : ℕ) → In (record { by = i; statement = vote_statement s e a q }) book → IsLogAt R M i e c a q

@@ -1,4 +1,4 @@
--- A correct core adopts a piece, a move of the cluster.
+-- The adoption of a piece by a correct core is a move of the cluster.
 use Rattle.std.proofs.Common.{◌≡◌, ◌≢◌, ◌⊎◌, inl, inr, ℕ, true, List, [], ◌∷◌, ◌++◌, length, refl, sym, ap, ◌∙◌, subst, arith}
 use Rattle.iss_base.specs.Lists.{In, push_all}
 use Rattle.iss_base.proofs.Lists.{in_left, in_right, oldest-part, same_or_not}
@@ -35,7 +35,7 @@ use Rattle.iss_theorems.proofs.Turned as turned
 use Rattle.iss_theorems.proofs.Voting.{leads-chained}
 use Rattle.iss_theorems.proofs.Onward as onward
 
--- what values put over a log bring
+-- what values add to a log
 in-over : (v : Value) (vs log : List Value) → In v (push_all vs log) → In v vs ⊎ In v log
 in-over v [] log h = inr h
 in-over v (u ∷ vs) log h = elim (in-over v vs (u ∷ log) h) [

@@ -1,4 +1,4 @@
--- What the tests of a delivery and of a step say: of claims, of strings, and of a node's own claims in what it sends.
+-- What the checks of a delivery and of a step find out about claims, strings, and own claims in what a node sends.
 use Rattle.std.proofs.Common.{◌≡◌, ◌⊎◌, inl, inr, ℕ, Bool, true, false, cond, eqb, not, ◌&&◌, List, [], ◌∷◌, ◌++◌, Option, Some, None, refl, sym, ap, ap₂, ◌∙◌, subst, true≢false}
 use Rattle.iss_base.specs.Lists.{In, first_of, push_all, same_bytes}
 use Rattle.iss_base.proofs.Lists.{and-true, in_append, in_left, in_right, is-eq, same_bytes-is, same_bytes-refl}
@@ -16,7 +16,7 @@ use Rattle.iss_composition.specs.Ordered.{Among}
 use Rattle.iss_rules.specs.Rules.{Rules}
 use Rattle.iss_model.specs.Run.{as_signed, booked, collision_in, collision_with, first_forged, has_signed, is_collision, is_forged}
 
--- tests on bytes, claims and strings
+-- checks of bytes, claims and strings
 
 pub has-booked : (i : ℕ) (statement : List ℕ) (xs : List Signed) → has_signed i statement xs ≡ true → In (record { by = i; statement = statement }) xs
 has-booked i statement [] h = absurd (true≢false (sym h))
@@ -80,14 +80,14 @@ separate-one x book h sep a b (inl p) (inr q) e = p ∙ sym (unlike x book h b q
 separate-one x book h sep a b (inr p) (inl q) e = unlike x book h a p (e ∙ ap digest q) ∙ sym q
 separate-one x book h sep a b (inr p) (inr q) e = sep a b p q e
 
--- where no new string collides, all are separate
+-- if no new string collides, no strings collide
 pub separate-more : (xs book : List (List ℕ)) → collision_in xs book ≡ None → Separate (Among book) → Separate (Among (push_all xs book))
 separate-more [] book h sep = sep
 separate-more (x ∷ xs) book h sep =
     let k = first-none (collision_with x book) (collision_in xs (x ∷ book)) h in
     separate-more xs (x ∷ book) k.1 (separate-one x book k.0 sep)
 
--- what is put over a list stands in it, with all that stood there
+-- a list keeps its elements when others are added
 pub over-old : {A : Type 0} (x : A) (vs log : List A) → In x log → In x (push_all vs log)
 over-old x [] log h = h
 over-old x (v ∷ vs) log h = over-old x vs (v ∷ log) (inr h)
@@ -101,7 +101,7 @@ pub over-append : {A : Type 0} (a b log : List A) → push_all (a ++ b) log ≡ 
 over-append [] b log = refl
 over-append (x ∷ a) b log = over-append a b (x ∷ log)
 
--- a node's own claims in what it sends
+-- own claims in what a node sends
 
 pub as_signed-append : (a b : List Claim) → as_signed (a ++ b) ≡ as_signed a ++ as_signed b
 as_signed-append [] b = refl
@@ -152,7 +152,7 @@ module _ {Msg : Type 0} (M : Module Msg) (p : Params) (i : ℕ) where
             r.2 ∙ ap (λ (n : ℕ). record { by = n; statement = r.0.statement }) o.by;
       }
 
--- the book after two parts of a turn
+-- the book after two parts of a step
 module _ (s : Setup) (i : ℕ) (a b : List Claim) where
   booked-append : booked s i (a ++ b) ≡ booked s i a ++ booked s i b
   booked-append = go (is_correct s i)

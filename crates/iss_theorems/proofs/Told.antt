@@ -1,5 +1,5 @@
--- What a run in which disks fail tells of its events: one in which it ends is not lost, and what was lost is numbered
--- in order.
+-- What a run with disk failures reports of its events: the event that stops it is not lost, and lost events are
+-- numbered in order.
 use Rattle.std.proofs.Common.{◌≡◌, inl, inr, ℕ, zero, suc, ◌+◌, ◌<◌, ◌≤◌, Bool, true, false, cond, List, [], ◌∷◌, ◌++◌, length, Option, Some, None, refl, sym, ap, ◌∙◌, subst, arith}
 use Rattle.iss_base.specs.Lists.{In, nth, set_at}
 use Rattle.iss_base.proofs.Lists.{some-injective}
@@ -28,7 +28,7 @@ use Rattle.iss_theorems.proofs.Courses.{course-append}
 
 -- ---- numbers
 
--- each is numbered below n, and below the one that came behind it, newest first
+-- each number is below n and below the next one, newest first
 abbrev pub AreNumbered : ℕ → List (ℕ × Why) → Type 0
 AreNumbered n [] = Unit {0}
 AreNumbered n (d ∷ older) = (d.0 < n) × AreNumbered d.0 older
@@ -46,7 +46,7 @@ numbered-noted : (n : ℕ) (o : Option Why) (drops : List (ℕ × Why)) → AreN
 numbered-noted n None drops a = numbered-wider n (suc n) drops (omega arith) a
 numbered-noted n (Some why) drops a = (omega arith, a)
 
--- where a run ends in an event, the next would be the one behind it
+-- if an event stops the run, the next number is the one after it
 ended-then : (n : ℕ) (o : Option End) (k : ℕ) (end : End) → ended_at n o ≡ Some (k, end) → (k ≡ n) × (o ≡ Some end)
 ended-then n None k end q = absurd (cc)
 ended-then n (Some other) k end q =
@@ -62,7 +62,7 @@ module _ {Msg : Type 0} (s : Setup) (F : Formats Msg) (R : Rules) (M : Module Ms
   untold : (d : Upshot Msg) → d.ended ≡ None → IsToldOnce d
   untold d going end q = absurd (cc)
 
-  -- so it is at a core that keeps all that it takes
+  -- so at a core that journals all that it takes
   turn-once : (h : Held Msg) (c : ℕ) (o : Stepped Msg) (end : End) → (free_step s h c o).ended ≡ Some end → (free_step s h c o).lost ≡ None
   turn-once h c (Dropped why) end q = absurd (cc)
   turn-once h c (Taken t) end q = go (collision_in t.strings h.hashed)
@@ -152,7 +152,7 @@ module _ {Msg : Type 0} (s : Setup) (F : Formats Msg) (R : Rules) (M : Module Ms
   told-once w (Crash c calls) = untold (apply_event s F R M w (Crash c calls)) refl
   told-once w (Bytes c bytes) = injects-once w c bytes M.stopping
 
-  -- so nothing is noted in it
+  -- the event that stops the run is not noted as lost
   pub end-notes-nothing : (p : Course Msg) (e : Event) (end : End) → (apply_event s F R M p.machines e).ended ≡ Some end → (run_event s F R M p e).drops ≡ p.drops
   end-notes-nothing p e end q = ap (λ (o : Option Why). noted p.event o p.drops) (told-once p.machines e end q)
 
@@ -170,7 +170,7 @@ module _ {Msg : Type 0} (s : Setup) (F : Formats Msg) (R : Rules) (M : Module Ms
 
   -- ---- numbers of a course
 
-  -- what was lost is numbered in order, and so is the end
+  -- lost events are numbered in order, and so is the event that stopped the run
   pub record IsCounted (p : Course Msg) : Type 0 where
     pub drops : AreNumbered p.event p.drops
     pub end : (k : ℕ) (end : End) → p.ended ≡ Some (k, end) → k < p.event
@@ -192,7 +192,7 @@ module _ {Msg : Type 0} (s : Setup) (F : Formats Msg) (R : Rules) (M : Module Ms
   pub begin-counted : IsCounted (begin_course s)
   begin-counted = record { drops = tt; end = λ k end q. absurd (cc) }
 
-  -- a run that goes on has counted all events
+  -- a run that has not stopped has counted all events
   counted-on : (p : Course Msg) (e : Event) (more : ℕ) (o : Option (ℕ × End)) → p.ended ≡ o → (n : Course Msg) → n ≡ run_event_if_open p.ended s F R M p e →
       (later : Course Msg) → ((at : ℕ × End) → p.ended ≡ Some at → later ≡ p) → later.ended ≡ None → later.event ≡ n.event + more → later.event ≡ p.event + suc more
   counted-on p e more None z n is later over q rest =

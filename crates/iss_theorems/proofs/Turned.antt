@@ -1,4 +1,4 @@
--- The cluster in the course of a turn of a core, and what may come to it.
+-- The cluster during a step of a core, and what the core may receive.
 use Rattle.std.proofs.Common.{◌≡◌, ◌≢◌, inl, inr, ℕ, ◌<◌, Bool, true, false, cond, List, [], ◌++◌, Some, None, refl, sym, ap, ◌∙◌, subst, true≢false}
 use Rattle.iss_base.specs.Lists.{In, push_all}
 use Rattle.iss_base.proofs.Lists.{in_append, in_right, none-some, same_or_not, set_at-other, set_at-same}
@@ -77,7 +77,7 @@ module _ {Msg : Type 0} (s : Setup) (F : Formats Msg) (R : Rules) (M : Module Ms
   pub slots : HasSlots R
   slots = record { some = sound.some_slots; most = sound.most }
 
-  -- a cluster that moves lead to is good
+  -- a reached cluster is good
   pub good-at : (w : Cluster Msg) → Separate (Among w.strings) → Reach s S R M w → Good s R M w S
   good-at w sep r = good-reach s S R M o.safe o.law sound w (exact-of s o.good w) sep r
 
@@ -115,7 +115,7 @@ module _ {Msg : Type 0} (s : Setup) (F : Formats Msg) (R : Rules) (M : Module Ms
       | inr ne ↦ rw (set_at-other h.net.cores i t.core j ne) (there j)
     ]
 
-    -- of the other cores all stays
+    -- the other cores are unchanged
     each-other : (P : ℕ → Core Msg → Type 0) (t : Turn Msg) → P i t.core → ((j : ℕ) → j ≢ i → P j (h.net.cores j)) → (j : ℕ) →
         P j ((turned_to s h i t).net.cores j)
     each-other P t here there j = elim (same_or_not j i) [
@@ -123,7 +123,7 @@ module _ {Msg : Type 0} (s : Setup) (F : Formats Msg) (R : Rules) (M : Module Ms
       | inr ne ↦ rw (set_at-other h.net.cores i t.core j ne) (there j ne)
     ]
 
-    -- where nodes only stop: the core is a node, and a module's message that comes was sent to it
+    -- in the crash-stop model: the core is a node, and a module's message that it receives was sent to it
     abbrev pub Legit : NodeEvent → Type 0
     Legit (On_packet bytes) = (k : Parcel Msg) (l : ℕ) (msg : Msg) → F.unwrap bytes ≡ Some k → k.body ≡ OfModule l msg →
         In (record { from = k.from; to = i; epoch = k.epoch; leader = l; msg = msg }) ok.messages
@@ -135,7 +135,7 @@ module _ {Msg : Type 0} (s : Setup) (F : Formats Msg) (R : Rules) (M : Module Ms
       pub low : M.stopping ≡ true → i < s.n
       pub legit : M.stopping ≡ true → Legit event
 
-    -- a fact of the core's past, where it stands in the net
+    -- a fact of the core's history, as part of the net
     pub there : (t : Turn Msg) (P : Past Msg → Type 0) → P t.core.past → P (pasts_of (turned_to s h i t).net i)
     there t P k = subst P (sym (past-here t)) k
 
@@ -145,7 +145,7 @@ module _ {Msg : Type 0} (s : Setup) (F : Formats Msg) (R : Rules) (M : Module Ms
     more-voted : (j : ℕ) (d : Past Msg) (new : List Signed) → AreVoted R M j d h.signed → AreVoted R M j d (new ++ h.signed)
     more-voted j d new are e lt = elim (are e lt) [ inl a ↦ inl a | inr b ↦ inr (in_right _ new h.signed b) ]
 
-    -- a core that is no correct node's may take anything
+    -- a core that runs no correct node may take anything
     pub faulty-fits : (t : Turn Msg) → (M.stopping ≡ true → i < s.n) → is_correct s i ≡ false → IsReadyCore R M (node_of s i) t.core → AreTold s M t.core →
         Separate (Among (push_all t.strings h.hashed)) → Fits (turned_to s h i t)
     faulty-fits t low faulty core told sep =
@@ -195,7 +195,7 @@ module _ {Msg : Type 0} (s : Setup) (F : Formats Msg) (R : Rules) (M : Module Ms
         go false k = k
 
     module _ (correct : is_correct s i ≡ true) where
-      -- the cluster in the course of a turn of a correct core: all that was sent before it is still there
+      -- the cluster during a step of a correct core: all that was sent before the step is still there
       pub record Turned (t : Turn Msg) : Type 0 where
         pub messages : List (Message Msg)
         pub reach : Reach s S R M (seen (turned_to s h i t) messages)
@@ -211,7 +211,7 @@ module _ {Msg : Type 0} (s : Setup) (F : Formats Msg) (R : Rules) (M : Module Ms
         pub pieces : AreReadPieces s t.core.past.adopted
         pub certified : AreCertified s R h.signed t.core
 
-      -- as long as what was hashed is separate
+      -- as long as no hashed strings collide
       abbrev pub Apart : Turn Msg → Type 0
       Apart t = Separate (Among (push_all t.strings h.hashed))
 
@@ -259,8 +259,8 @@ module _ {Msg : Type 0} (s : Setup) (F : Formats Msg) (R : Rules) (M : Module Ms
         separate = sep;
       }
 
-      -- nothing happens to a log: a request or a vote waits, a message is kept, a packet is answered, or a batch is
-      -- about to be cast
+      -- no log changes: a request or a vote is stored, a message is kept, a packet is answered, or a batch is about to
+      -- be proposed
       pub still-fits : (t : Turn Msg) → t.core.past ≡ c.past → IsReadyCore R M i t.core → (M.stopping ≡ true → AreSent ok.messages i t.core) →
           AreCertified s R h.signed t.core → ((x : Signed) → In x (booked s i t.own) → In x h.signed) →
           ((x : Signed) → In x (booked s i t.own) → x.by ≡ i) → Silent t.sends → Turned t
@@ -296,7 +296,7 @@ module _ {Msg : Type 0} (s : Setup) (F : Formats Msg) (R : Rules) (M : Module Ms
           AreCertified s R h.signed d → Turned (unchanged d)
       rests-fits d q core early certified = still-fits (unchanged d) q core early certified (λ x m. absurd (no-own x m)) (λ x m. absurd (no-own x m)) (λ x m. absurd m)
 
-      -- what may come to the core
+      -- what the core may receive
       abbrev pub Credible : Past Msg → ℕ → ℕ → Msg → Type 0
       Credible d l from msg = IsCredible M (params_of R M i d l) (IsVerified R) (IsBooked h.signed) from msg
 
@@ -331,7 +331,7 @@ module _ {Msg : Type 0} (s : Setup) (F : Formats Msg) (R : Rules) (M : Module Ms
       may-take t k l (Receive from msg) fit m = may-get M.stopping refl t k from.0 l msg m.0 (m.1 fit.leads fit.claims)
       may-take t k l Timeout fit m = tt
 
-      -- a message that was read is credible in an instance where its claims verify and none of them is forged
+      -- a message that was read is credible in an instance where its claims are valid and none is forged
       pub credible : (d : Past Msg) (l from : ℕ) (msg : Msg) → from < s.n → IsReadAgain (M.spell s.version) (M.parse s.version) msg →
           ((y : Claim) → In y (M.claims (params_of R M i d l) from msg) → R.verifies y.by.0 y.statement y.sig ≡ true → is_correct s y.by.0 ≡ true →
           In (record { by = y.by.0; statement = y.statement }) h.signed) →

@@ -1,4 +1,5 @@
--- Whatever row of moves an event is at a correct node, the cluster is reached, with all that was signed and hashed.
+-- Whatever sequence of moves an event is at a correct node, the cluster is reached, with all that was signed and
+-- hashed.
 use Rattle.std.proofs.Common.{◌≡◌, ◌≢◌, inl, inr, ℕ, Bool, true, false, List, [], ◌∷◌, ◌++◌, refl, sym, ap, ◌∙◌, subst, append_assoc, true≢false}
 use Rattle.iss_base.specs.Lists.{In, set_at}
 use Rattle.iss_base.proofs.Lists.{in_append, in_left, in_right, set_at-other, set_at-same}
@@ -118,7 +119,7 @@ module _ {Msg : Type 0} (s : Setup) (S : Scheme) (R : Rules) (M : Module Msg) (f
         spelled = subst (λ (p : Past Msg). AllSpelled S (log_of R M i p)) (sym here) spelled;
       })
 
-  -- the row of an event, its claims read against a book before it
+  -- the moves of an event, whose claims are read against the book before it
   pub row : (xs : List (Small Msg)) (w : Cluster Msg) → Reach s S R M w → (book : List Signed) → ((x : Signed) → In x book → In x w.book) → (c : Past Msg) →
       w.pasts i ≡ c → AreRight s S R M book i c xs →
       Refines w (past_of R M i c xs) (signs_of s S R M i c xs) (hashes_of S R M i c xs)

@@ -1,4 +1,4 @@
--- How nodes vote under a set-up, and what its rules say of that.
+-- How nodes vote under a set-up, and what its rules imply for votes.
 use Rattle.std.proofs.Common.{◌≡◌, ℕ, true, List, reverse, refl, sym, ap, ap₂, ◌∙◌}
 use Rattle.iss_base.specs.Lists.{push_all}
 use Rattle.iss_log.specs.Chains.{chain_of, end_of, strings_from}
@@ -22,7 +22,7 @@ use Rattle.iss_rules.proofs.Layouts.{signed-spelled}
 use Rattle.iss_log.proofs.LogLemmas.{requests-turned}
 use Rattle.iss_theorems.proofs.Linked.{chain-is}
 
--- the rules chain logs and vote for them as the set-up has it, and what they count as signed has a spelling
+-- the rules chain logs and vote for them as the set-up has it, and a signed request has an encoding
 pub record IsVoting (s : Setup) (R : Rules) : Type 0 where
   pub ends : (log : List Value) → R.end log ≡ end_of s.version (reverse log)
   pub hashes : (log values : List Value) → R.hashes log values ≡ strings_from s.version (chain_of s.version (reverse log)) values
@@ -40,20 +40,20 @@ rules-voting M s h = record {
 }
 
 module _ (s : Setup) (R : Rules) (voting : IsVoting s R) where
-  -- the end that stands for a log
+  -- the end that identifies a log has its chain digest
   pub end-chain : (log : List Value) → (R.end log).chain ≡ chain (scheme_of s) log
   end-chain log = ap (λ (e : End). e.chain) (voting.ends log) ∙ sym (chain-is s log)
 
   pub end-requests : (log : List Value) → (R.end log).requests ≡ requests log
   end-requests log = ap (λ (e : End). e.requests) (voting.ends log) ∙ requests-turned log
 
-  -- so a vote on it is one on its chain
+  -- so a vote for it is one for its chain
   pub voted-is : (e : ℕ) (log : List Value) → R.voted e (R.end log).chain (R.end log).requests ≡ vote_statement s e (chain (scheme_of s) log) (requests log)
   voted-is e log =
       voting.voted e (R.end log).chain (R.end log).requests ∙
       ap₂ (λ (a : List ℕ) (q : ℕ). vote_statement s e a q) (end-chain log) (end-requests log)
 
-  -- the values of a piece lead to what its certificate says
+  -- the values of a piece lead to the chain that its certificate states
   pub leads-chained : (before : List Value) (p : Sent_piece) → leads_to R before p ≡ true → p.cert.chain ≡ chain (scheme_of s) (push_all p.values before)
   leads-chained before p h =
       let same : R.end (push_all p.values before) ≡ said_in p.cert = same-end (R.end (push_all p.values before)) (said_in p.cert) h in

@@ -1,5 +1,4 @@
--- What a run says of itself in which disks fail and cores are made anew, carried over from the run of nodes that never
--- stop.
+-- The headline of a run with disk failures and recovery, carried over from the failure-free run.
 use Rattle.std.proofs.Common.{◌≡◌, inl, inr, ℕ, true, List, [], ◌++◌, Option, Some, None, refl, sym, ap, ◌∙◌, subst, append-nil}
 use Rattle.iss_base.proofs.Lists.{some-injective}
 use Rattle.iss_request.specs.declared.requests.Value.{Value}
@@ -22,7 +21,7 @@ use Rattle.iss_theorems.proofs.Courses.{Leads, course-append, course-over, going
 use Rattle.iss_theorems.proofs.Entering.{Follows, begin-own, follows}
 use Rattle.iss_theorems.proofs.Numbers.{same-numbers}
 
--- why a run ended, and in which event
+-- why a run stopped, and in which event
 ended-is : (o : Option (ℕ × End)) (end : End) → why_ended o ≡ Some end → (k : ℕ) × (o ≡ Some (k, end))
 ended-is None end q = absurd (cc)
 ended-is (Some at) end q = let there : End → Option (ℕ × End) = λ z. Some (at.0, z) in (at.0, ap there (some-injective at.1 end q))
@@ -43,7 +42,7 @@ module _ {Msg : Type 0} (s : Setup) (M : Module Msg)
       (held_after s M events) (why_ended (course_after s M events).ended)
   entering = all.leads 0 []
 
-  -- the same, of the run of nodes by what entered
+  -- the same for the failure-free run of the events that entered
   of-cluster : AreOfCluster s M (held_after s M events)
   of-cluster =
       let c = runs entering.events entering.at_cores in
@@ -96,7 +95,7 @@ module _ {Msg : Type 0} (s : Setup) (M : Module Msg)
   longer : (more : List Event) → course_after s M (events ++ more) ≡ course s (formats_of s M) (rules_of s) M so_far more
   longer more = course-append s (formats_of s M) (rules_of s) M events more (begin_course s)
 
-  -- a run that has ended goes no further
+  -- a run that has stopped stays as it is
   stays : (at : ℕ × End) → so_far.ended ≡ Some at → (more : List Event) → course_after s M (events ++ more) ≡ so_far
   stays at q more =
       let F = formats_of s M in
@@ -104,7 +103,7 @@ module _ {Msg : Type 0} (s : Setup) (M : Module Msg)
       let is = over-is s F R M so_far at q in
       longer more ∙ ap (λ (p : Course Msg). course s F R M p more) is ∙ course-over s F R M more so_far.machines so_far.event so_far.drops at ∙ sym is
 
-  -- what enters of more events comes behind what entered of these
+  -- the events that enter of a longer run extend those of this one
   module _ (more : List Event) (low_more : AreAtCores s more) (i : ℕ) (ok : is_correct s i ≡ true) where
     grows-on : so_far.ended ≡ None → IsPrefix (shown s M (held_after s M events) i) (shown s M (held_after s M (events ++ more)) i)
     grows-on q =
