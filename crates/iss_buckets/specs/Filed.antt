@@ -40,8 +40,8 @@ is_in_bucket buckets b (Some q) = bucket_of_id buckets q.id == b
 
 -- each bucket's queue holds the arrival numbers of its requests
 abbrev pub AreQueued : List (ℕ × Request) → List (List ℕ) → Type 0
-AreQueued es queues = (b k : ℕ) → b < length queues → has_number queues b k ≡ is_in_bucket (length queues) b
-    (kept_at es k)
+AreQueued es queues = (b k : ℕ) → b < length queues →
+    has_number queues b k ≡ is_in_bucket (length queues) b (kept_at es k)
 
 -- ---- the next request that passes a test, from a number on
 

@@ -94,8 +94,8 @@ IsBooked book k statement = In (record { by = k; statement = statement }) book
 abbrev pub MayGet : {Msg : Type 0} → Bool → Setup → Rules → Module Msg → Cluster Msg → ℕ → ℕ → ℕ → Msg → Type 0
 MayGet true s R M w i l from msg =
     In (record { from = from; to = i; epoch = (w.pasts i).epoch; leader = l; msg = msg }) w.messages
-MayGet false s R M w i l from msg = IsCredible M (params_of R M i (w.pasts i) l) (IsVerified R)
-    (IsBooked w.book) from msg
+MayGet false s R M w i l from msg =
+    IsCredible M (params_of R M i (w.pasts i) l) (IsVerified R) (IsBooked w.book) from msg
 
 -- Which inputs node i may take: proposals only as the leader, the messages above, and timeouts at any time.
 abbrev pub MayTake : {Msg : Type 0} → Setup → Rules → Module Msg → Cluster Msg → ℕ → ℕ → Input Msg → Type 0

@@ -130,8 +130,8 @@ conduct_of past i = record { weight = weight past i; ban = ban past i; worst = p
 
 -- Blacklist: a node is listed if a slot became nil under it, and at most f nodes (itself included) have one as late.
 abbrev pub is_listed : Setup → (ℕ → Conduct) → NodeId → Bool
-is_listed s c i = nat_lt 0 (c i.0).worst && nat_le
-    (count_by (λ j. nat_le (c i.0).worst (c j.0).worst) (nodes_below s.n)) s.f
+is_listed s c i = nat_lt 0 (c i.0).worst &&
+    nat_le (count_by (λ j. nat_le (c i.0).worst (c j.0).worst) (nodes_below s.n)) s.f
 
 abbrev pub may_lead : Policy → Setup → (ℕ → Conduct) → NodeId → Bool
 may_lead Simple s c i = true

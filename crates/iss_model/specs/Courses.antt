@@ -159,8 +159,8 @@ injects s F R M w c bytes = cond M.stopping (machines_done w) (at_machine s F R 
 -- One event of a schedule. A request arrives as a packet of sender 255, which is no node.
 abbrev pub apply_event : {Msg : Type 0} → Setup → Formats Msg → Rules → Module Msg → Machines Msg → Event → Upshot Msg
 apply_event s F R M w (Event_request c client number payload) =
-    at_machine s F R M w c (On_packet
-    (F.wrap (record { from = 255; epoch = 0; body = OfRequest (request_of s client number payload) })))
+    at_machine s F R M w c
+    (On_packet (F.wrap (record { from = 255; epoch = 0; body = OfRequest (request_of s client number payload) })))
 apply_event s F R M w (Propose c) = at_machine s F R M w c On_propose
 apply_event s F R M w (Timeout c l) = at_machine s F R M w c (On_timeout l)
 apply_event s F R M w (Ask c peer) = at_machine s F R M w c (On_ask peer)

@@ -364,8 +364,7 @@ adopts_piece R M me c p =
     record {
       core = record (refiled R M me c past c.leaf) {
         early = [];
-        certs = keeping c.certs p.cert
-            (cert_on c.certs c.past.epoch);
+        certs = keeping c.certs p.cert (cert_on c.certs c.past.epoch);
       };
       sends = [];
       own = [];
@@ -405,8 +404,8 @@ takes_bytes F R M me c (Some k) = takes_parcel F R M me c k.from k.epoch k.body
 -- whether the node may propose the request: it owns the bucket, and has not accepted the request in its own instance
 abbrev pub is_mine : {Msg : Type 0} → Rules → Module Msg → ℕ → Core Msg → Request → Bool
 is_mine R M me c q =
-    (R.owner (before_own R M me c.past) c.past.epoch q.id == me) && not
-    (has_id q.id (marks (accepts (taken_in c.past me))))
+    (R.owner (before_own R M me c.past) c.past.epoch q.id == me) &&
+    not (has_id q.id (marks (accepts (taken_in c.past me))))
 
 abbrev pub has_slot : ℕ → List (Slot × Batch) → Bool
 has_slot s [] = false

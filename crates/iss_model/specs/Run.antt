@@ -209,8 +209,8 @@ injects s F R M h c bytes = cond M.stopping (done h) (at_core s F R M h c (On_pa
 -- packet of sender 255, which is no node.
 abbrev pub apply_event : {Msg : Type 0} → Setup → Formats Msg → Rules → Module Msg → Held Msg → Event → Happening Msg
 apply_event s F R M h (Event_request c client number payload) =
-    at_core s F R M h c (On_packet
-    (F.wrap (record { from = 255; epoch = 0; body = OfRequest (request_of s client number payload) })))
+    at_core s F R M h c
+    (On_packet (F.wrap (record { from = 255; epoch = 0; body = OfRequest (request_of s client number payload) })))
 apply_event s F R M h (Propose c) = at_core s F R M h c On_propose
 apply_event s F R M h (Timeout c l) = at_core s F R M h c (On_timeout l)
 apply_event s F R M h (Ask c peer) = at_core s F R M h c (On_ask peer)

@@ -29,8 +29,8 @@ IsKept packets flags queues held =
     × (length queues ≡ length held)
     × ((k : ℕ) (p : Sent) → nth packets k ≡ Some p → p.to < length held)
     × ((c : ℕ) → c < length queues → list_all (for_core packets c) (slice_index_or queues c []) ≡ true)
-    × ((c : ℕ) → c < length queues → filter (is_set flags) (slice_index_or queues c []) ≡ filter (for_core packets c)
-    (flagged flags))
+    × ((c : ℕ) → c < length queues →
+    filter (is_set flags) (slice_index_or queues c []) ≡ filter (for_core packets c) (flagged flags))
 
 -- the packets that wait for core c, unless it is held
 abbrev pub gathered : Network → ℕ → List ℕ

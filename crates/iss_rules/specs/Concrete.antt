@@ -51,8 +51,8 @@ request_statement id payload = 0x30 ∷ id.client ∷ to_be_bytes w32 id.number 
 -- Whether the client signed the request. Its number must fit four bytes, and its payload is at most 256 bytes.
 abbrev pub is_signed_by : DirectoryView → Request → Bool
 is_signed_by d q =
-    nat_lt q.id.number (2 ^ 32) && (nat_le (length q.payload) 256 && is_verified_by d.clients q.id.client
-    (request_statement q.id q.payload) q.sig)
+    nat_lt q.id.number (2 ^ 32) && (nat_le (length q.payload) 256 &&
+    is_verified_by d.clients q.id.client (request_statement q.id q.payload) q.sig)
 
 -- the rules of a set-up: the layout divides epochs, and signatures are of the nodes' and clients' keys
 abbrev pub rules_of : Setup → Rules

@@ -42,8 +42,8 @@ claims_of_cert R c = claims_by (R.voted c.epoch.0 c.chain c.requests) c.signers
 -- Signers strictly ascending, every signature valid.
 abbrev pub are_true : Rules → List ℕ → ℕ → List Signed → Bool
 are_true R statement from [] = true
-are_true R statement from (x ∷ xs) = nat_le from x.by.0 && (R.verifies x.by.0 statement x.sig && are_true R statement
-    (suc x.by.0) xs)
+are_true R statement from (x ∷ xs) =
+    nat_le from x.by.0 && (R.verifies x.by.0 statement x.sig && are_true R statement (suc x.by.0) xs)
 
 -- the same of a certificate, with exactly a quorum of signers
 abbrev pub is_true_cert : Rules → Cert → Bool

@@ -146,8 +146,8 @@ IsReadMessage m p msg = IsReadAgain (m.spell p.setup.version) (m.parse p.setup.v
 
 -- Byzantine delivery. The adversary may deliver any message that decodes, names an existing sender, carries only valid
 -- signatures, and attributes to correct nodes only statements that they signed.
-pub record IsCredible {M : Type 0} (m : Module M) (p : Params) (Verified : Claim → Type 0) (Signed : ℕ → List ℕ →
-    Type 0) (from : ℕ) (msg : M) : Type 0 where
+pub record IsCredible {M : Type 0} (m : Module M) (p : Params) (Verified : Claim → Type 0)
+    (Signed : ℕ → List ℕ → Type 0) (from : ℕ) (msg : M) : Type 0 where
   pub named : from < p.setup.n
   pub read : IsReadMessage m p msg
   pub verified : (c : Claim) → In c (m.claims p from msg) → Verified c

@@ -48,6 +48,6 @@ pub record WasDelivered {Msg : Type 0} (s : Setup) (R : Rules) (M : Module Msg) 
 -- this holds for each value that a correct node adopted by state transfer
 abbrev pub WereDelivered : {Msg : Type 0} → Setup → Module Msg → List Event → Type 0
 WereDelivered s M events =
-    (i : ℕ) → is_correct s i ≡ true → (e k : ℕ) (v : Value) → adopted_at (pasts_after s M events i).adopted e k
-    ≡ Some v →
+    (i : ℕ) → is_correct s i ≡ true → (e k : ℕ) (v : Value) →
+    adopted_at (pasts_after s M events i).adopted e k ≡ Some v →
     WasDelivered s (rules_of s) M (pasts_after s M events) e k v

@@ -78,6 +78,6 @@ AcceptsOnce {Msg} m =
 -- No loss: each request that a correct core accepted is still there, in exactly one place.
 abbrev pub IsConserved : {Msg : Type 0} → Setup → Module Msg → List Event → Type 0
 IsConserved s M events =
-    (i : ℕ) → is_correct s i ≡ true → (x : ReqId) → WasAsked s (formats_of s M) (rules_of s) M
-    (begin_run s) events i x →
+    (i : ℕ) → is_correct s i ≡ true → (x : ReqId) →
+    WasAsked s (formats_of s M) (rules_of s) M (begin_run s) events i x →
     IsInOnePlace (rules_of s) M i ((run_after s M events).held.net.cores i) x

@@ -73,8 +73,7 @@ AreVoted R M i c book =
     (e : ℕ) → e < c.epoch → WasAdopted c e ⊎
     In (record {
       by = i;
-      statement = R.voted e (R.end (before R M i c (suc e))).chain
-          (R.end (before R M i c (suc e))).requests;
+      statement = R.voted e (R.end (before R M i c (suc e))).chain (R.end (before R M i c (suc e))).requests;
     }) book
 
 -- A run that stopped shows its evidence (`shown`), and later events change nothing (`stays`). The book is complete for

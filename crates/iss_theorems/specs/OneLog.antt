@@ -49,8 +49,8 @@ pub record IsOneLog {Msg : Type 0} (s : Setup) (M : Module Msg) (events : List E
   pub once : (i : ℕ) → is_correct s i ≡ true → Once (printed s M events i)
   -- a correct node accepted each batch as valid, at the slot where the log holds it
   pub valid : (i : ℕ) → is_correct s i ≡ true → (front back : List Value) (b : Batch) →
-      printed s M events i ≡ front ++ Value_batch b ∷ back → WasAccepted s (rules_of s) M (pasts_after s M events)
-      (reverse front) b
+      printed s M events i ≡ front ++ Value_batch b ∷ back →
+      WasAccepted s (rules_of s) M (pasts_after s M events) (reverse front) b
   -- more events only extend correct logs
   pub grows : (more : List Event) → AreAtCores s more → (i : ℕ) → is_correct s i ≡ true →
       IsPrefix (printed s M events i) (printed s M (events ++ more) i)
