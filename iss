@@ -1,12 +1,11 @@
 #!/bin/sh
-# Runs the program: ./iss replay < rows/first-run
-# Takes the proved build where it is newer than all sources, and else builds without proof.
-here=$(cd "$(dirname "$0")" && pwd)
-build=$here/crates/iss/out/iss
-rt=${RT:-$(command -v rt || echo /opt/rattle/bin/rt)}
-
-if [ -x "$build" ] && [ -z "$(find "$here"/crates.txt "$here"/crates/*/src "$here"/crates/*/specs "$here"/crates/*/proofs -newer "$build" 2>/dev/null | head -n 1)" ]; then
-    exec "$build" "$@"
+# Runs the program on a schedule: ./iss replay < rows/basics/first-run
+# It is the proved build where that is newer than all sources. Otherwise it is one without proof, which is built once
+# and kept (tools/program).
+# Exit status: the program's own (docs/SCHEDULES.md), or 70 where no program could be built.
+top=$(dirname "$(readlink -f "$0")")
+if [ $# -ne 1 ] || [ "$1" != replay ]; then
+    echo "usage: ./iss replay < SCHEDULE (for example rows/basics/first-run; see docs/SCHEDULES.md)" >&2
 fi
-echo "iss: no proved build of these sources; built without proof (\`rt run\` in crates/iss proves and builds)" >&2
-cd "$here/crates/iss" && exec "$rt" try --seconds 600 -- "$@" 2>/dev/null
+program=$("$top/tools/program" iss < /dev/null) || exit 70
+exec "$program" "$@"

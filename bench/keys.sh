@@ -1,8 +1,8 @@
 #!/usr/bin/env bash
-# Times keys on the proved build, on one processor (CPU=n chooses it): digests, trees, signatures and
-# verifications, each beside what its digests cost by themselves in the same run.
+# Times keys on one processor (CPU=n chooses it): digests, trees, signatures and verifications, each beside what its
+# digests cost by themselves in the same run.
+# It takes the proved build (`rt run` in crates/benches) where that is newer than the sources, and otherwise an
+# optimized one without proof.
 set -eu
-cd "$(dirname "$0")/../crates/benches"
-rt run > out.log 2>&1 || { cat out.log >&2; rm -f out.log; exit 1; }
-rm -f out.log
-exec taskset -c "${CPU:-0}" out/benches keys
+program=$("$(dirname "$0")/../tools/program" --fast benches)
+exec taskset -c "${CPU:-0}" "$program" keys

@@ -1,8 +1,8 @@
 #!/usr/bin/env bash
-# Times Raft on the proved build, on one processor (CPU=n chooses it): a segment of 64 slots over seven nodes, with batches of 0, 4 and 32
-# requests, and the repair of a node that missed 250 to 2,000 elections. Of each the best of ROUNDS runs counts.
+# Times Raft on one processor (CPU=n chooses it): a segment of 64 slots over seven nodes, with batches of 0, 4 and 32
+# requests, and the repair of a node that missed 250 to 2,000 elections. The best of ROUNDS runs counts.
+# It takes the proved build (`rt run` in crates/benches_modules) where that is newer than the sources, and otherwise an
+# optimized one without proof.
 set -eu
-cd "$(dirname "$0")/../crates/benches_modules"
-rt run > out.log 2>&1 || { cat out.log >&2; rm -f out.log; exit 1; }
-rm -f out.log
-exec taskset -c "${CPU:-0}" out/benches_modules raft "${ROUNDS:-7}"
+program=$("$(dirname "$0")/../tools/program" --fast benches_modules)
+exec taskset -c "${CPU:-0}" "$program" raft "${ROUNDS:-7}"

@@ -1,26 +1,29 @@
 #!/bin/bash
-# Times the proved build of the program on schedules of a kind and a size, and prints for each the events a second, the most memory
-# that was taken, and how many times the time of the size before. The best of ROUNDS runs counts, each in 2 GB of memory. Time is
-# that of the clock, or with COUNT=processor what the run took of a processor, which other work on the machine changes less.
+# Times the program on schedules of a kind and a size, and prints for each the events a second, the most memory that was
+# taken, and how many times the time of the size before. The best of ROUNDS runs counts, each in 2 GB of memory. Time is
+# that of the clock, or with COUNT=processor what the run took of a processor, which other work changes less.
+# It takes the proved build (`rt run` in crates/iss) where that is newer than the sources, and otherwise an
+# optimized one without proof.
 #
 #   bench/replay.sh                     all kinds at the sizes below
 #   bench/replay.sh KIND SIZE..         one kind at these sizes
 #   bench/replay.sh --print KIND SIZE   the schedule itself
 #
-# one       requests, proposals, deliveries and pumps in turn, in one epoch that never ends
+# one       requests, proposals, deliveries and pumps in turn, n lines in one epoch that never ends
 # mixed     the same over as many epochs as come
-# epochs    so many lines over epochs of 64 slots, one epoch for each 69 lines
-# random    so many deliveries of few packets in random order
-# shuffled  so many different packets, each delivered once, those of an epoch in random order
-# again     so many different packets of many epochs, which are then all delivered once more, in random order
+# epochs    n lines over epochs of 64 slots, one epoch for each 69 lines
+# random    n deliveries of few packets in random order
+# shuffled  n different packets, each delivered once, those of an epoch in random order
+# again     n different packets of many epochs, which are then all delivered once more, in random order
 
 # A set-up of three nodes under this policy, with keys of this height.
 header() {
-    printf '%s\n' "iss 1" "module relay" "f 0" "epoch 64" "buckets 256" "batch 32" "window 64" "policy $1" "clients 256" "keys $2" "faulty none"
+    printf '%s\n' "iss 1" "module relay" "f 0" "epoch 64" "buckets 256" "batch 32" "window 64" \
+        "policy $1" "clients 256" "keys $2" "faulty none"
 }
 
-# A request, a proposal, a delivery and a pump in turn. There are as many identities as the windows hold, so that clients' trees cost
-# the same from there on.
+# A request, a proposal, a delivery and a pump in turn. There are as many identities as the windows hold, so that
+# clients' trees cost the same from there on.
 mixed() {
     header simple 6
     awk -v lines="$1" 'BEGIN {
@@ -49,7 +52,7 @@ one() {
     }'
 }
 
-# 64 proposals, whose 192 packets are then delivered in random order, each again and again: so many deliveries.
+# 64 proposals, whose 192 packets are then delivered in random order, each again and again: n deliveries.
 random() {
     header simple 2
     awk -v lines="$1" 'BEGIN {
@@ -61,7 +64,8 @@ random() {
 
 # Four requests, 64 proposals and a calm in each epoch. Clients' trees are as high as their requests need.
 epochs() {
-    header backoff "$(awk -v lines="$1" 'BEGIN { for (keys = 2; 2 ^ keys < lines / 69 * 4 / 256 + 1; keys++); print keys }')"
+    local requests='lines / 69 * 4 / 256 + 1'
+    header backoff "$(awk -v lines="$1" "BEGIN { for (keys = 2; 2 ^ keys < $requests; keys++); print keys }")"
     awk -v lines="$1" 'BEGIN {
         for (i = 0; i < lines - 11; i++) {
             k = i % 69
@@ -81,13 +85,15 @@ shuffled() {
         for (sent = 0; sent < packets; sent += 192) {
             for (i = 0; i < 64; i++) print "propose " i % 3
             for (i = 0; i < 192; i++) order[i] = i
-            for (i = 191; i > 0; i--) { j = int((i + 1) * rand()); k = order[i]; order[i] = order[j]; order[j] = k }
+            for (i = 191; i > 0; i--) {
+                j = int((i + 1) * rand()); k = order[i]; order[i] = order[j]; order[j] = k
+            }
             for (i = 0; i < 192; i++) print "deliver " sent + order[i]
         }
     }'
 }
 
-# 64 proposals and a calm in each epoch until there are so many packets, and then each of them in random order.
+# 64 proposals and a calm in each epoch until there are n packets, and then each of them in random order.
 again() {
     header simple 2
     awk -v packets="$1" 'BEGIN {
@@ -97,12 +103,15 @@ again() {
             print "calm 2"
         }
         for (i = 0; i < packets; i++) order[i] = i
-        for (i = packets - 1; i > 0; i--) { j = int((i + 1) * rand()); k = order[i]; order[i] = order[j]; order[j] = k }
+        for (i = packets - 1; i > 0; i--) {
+            j = int((i + 1) * rand()); k = order[i]; order[i] = order[j]; order[j] = k
+        }
         for (i = 0; i < packets; i++) print "deliver " order[i]
     }'
 }
 
-# The seconds of the best of ROUNDS runs, and the most memory of one in MB. Nothing where a run does not end well, as without memory.
+# The seconds of the best of ROUNDS runs, and the most memory of one in MB. Nothing where a run fails, for example out
+# of memory.
 cost() {
     local best="" most=0 clock user system seconds kilobytes
     for _ in $(seq "${ROUNDS:-7}"); do
@@ -145,8 +154,7 @@ if [ "$1" = --print ]; then
     exit
 fi
 top=$(cd "$(dirname "$0")/.." && pwd)
-build=$top/crates/iss/out/iss
-[ -x "$build" ] || { echo "bench: prove and build first: cd crates/iss && rt run"; exit 1; }
+build=$("$top/tools/program" --fast iss) || exit
 [ -x /usr/bin/time ] || { echo "bench: /usr/bin/time is wanted (Debian's package time)"; exit 1; }
 TIMEFORMAT='%3R %3U %3S'
 work=$(mktemp -d)

@@ -1,8 +1,8 @@
 #!/usr/bin/env bash
-# Times runs with signatures on the proved build, on one processor (CPU=n chooses it), beside the digests that they cannot do without, in the
-# same process. The best of ROUNDS counts.
+# Times runs with signatures on one processor (CPU=n chooses it), beside the digests that they need, in the same
+# process. The best of ROUNDS counts.
+# It takes the proved build (`rt run` in crates/benches_runs) where that is newer than the sources, and otherwise an
+# optimized one without proof.
 set -eu
-cd "$(dirname "$0")/../crates/benches_runs"
-rt run > out.log 2>&1 || { cat out.log >&2; rm -f out.log; exit 1; }
-rm -f out.log
-exec taskset -c "${CPU:-0}" out/benches_runs "${ROUNDS:-10}"
+program=$("$(dirname "$0")/../tools/program" --fast benches_runs)
+exec taskset -c "${CPU:-0}" "$program" "${ROUNDS:-10}"

@@ -1,8 +1,8 @@
 #!/usr/bin/env bash
-# Times a node that catches up over many epochs on the proved build, on one processor (CPU=n chooses it), beside the digests that it cannot do
-# without, in the same process. The best of ROUNDS counts.
+# Times a node that catches up over many epochs on one processor (CPU=n chooses it), beside the digests that it needs,
+# in the same process. The best of ROUNDS counts.
+# It takes the proved build (`rt run` in crates/benches_transfer) where that is newer than the sources, and otherwise an
+# optimized one without proof.
 set -eu
-cd "$(dirname "$0")/../crates/benches_transfer"
-rt run > out.log 2>&1 || { cat out.log >&2; rm -f out.log; exit 1; }
-rm -f out.log
-exec taskset -c "${CPU:-0}" out/benches_transfer "${ROUNDS:-5}"
+program=$("$(dirname "$0")/../tools/program" --fast benches_transfer)
+exec taskset -c "${CPU:-0}" "$program" "${ROUNDS:-5}"

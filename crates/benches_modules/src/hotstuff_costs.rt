@@ -10,8 +10,7 @@ use crate::raft::{Timed, batch};
 use bench_digests::digests::{Best, Digests, NONE_YET, nanos_since, time_digests};
 use hs_tree::signing::held_string;
 use iss_request::{Batch, Bytes};
-use iss_sb::Params;
-use raft_wire::What;
+use iss_sb::{Content, Params};
 use sha2::{Digest, Sha256};
 use std::alloc::Global;
 use std::time::Instant;
@@ -108,7 +107,7 @@ fn digests_of(p: &Params, cost: Cost) -> Digests {
 // The string of a value.
 fn value_string(alloc: Global, requests: u32) -> Timed<Bytes> {
     let batch = batch(alloc, requests)?;
-    match held_string(alloc, 1, &What::Holds(batch))? {
+    match held_string(alloc, 1, &Content::Holds(batch))? {
         Some(string) => Ok(string),
         None => Ok(Bytes::new(alloc)),
     }

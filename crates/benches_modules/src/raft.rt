@@ -9,8 +9,8 @@ use iss_request::{
     Batch, Bytes, Epoch, Kind, NoMemory, NodeId, Nodes, Policy, ReqId, Request, Seq, Setup, Slot,
     Value, Writer,
 };
-use iss_sb::{Effects, Input, Params, Sequenced, To};
-use raft_wire::{Entry, Message, What};
+use iss_sb::{Content, Effects, Input, Params, Sequenced, To};
+use raft_wire::{Entry, Message};
 use sb_raft::Raft;
 use std::alloc::Global;
 use std::collections::VecDeque;
@@ -162,7 +162,7 @@ fn nothing_seen(alloc: Global, keeps: bool) -> Option<Seen> {
 fn batches_in(entries: &[Entry]) -> u64 {
     let mut count = 0u64;
     for entry in entries {
-        if let What::Holds(_) = &entry.what {
+        if let Content::Holds(_) = &entry.what {
             count = count.wrapping_add(1);
         }
     }

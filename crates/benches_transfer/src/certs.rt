@@ -3,10 +3,11 @@ ghost use Rattle.std.specs.Prelude.{◌≤◌};
 
 use bench_digests::signers::{client_key, node_key, signature_by};
 use iss_ballots::pack_piece;
-use iss_checkpoint::{Cert, Signed};
+use iss_checkpoint::Cert;
 use iss_keys::Keys;
 use iss_log::End;
 use iss_request::{Bytes, Epoch, NoMemory, NodeId, Seq, Value};
+use iss_sb::Signed;
 use iss_transfer::Piece;
 use std::alloc::Global;
 use std::test::Fail;

@@ -8,8 +8,8 @@ use Rattle.std.specs.Ordering.{is_eq, nat_cmp}
 use Rattle.iss_base.specs.Lists.{same_bytes}
 use Rattle.iss_request.specs.declared.requests.Value.{Value}
 use Rattle.iss_sb.specs.Evidence.{one_or_none}
-use Rattle.raft_wire.specs.declared.entries.What.{What}
-use Rattle.raft_wire.specs.declared.entries.What.TheVariants.{Nil, Holds, Mark}
+use Rattle.iss_sb.specs.declared.content.Content.{Content}
+use Rattle.iss_sb.specs.declared.content.Content.TheVariants.{Nil, Holds, Mark}
 use Rattle.hs_tree.specs.declared.tree.Known.{Known}
 use Rattle.iss_sb.proofs.Cases.{same_list}
 use Rattle.hs_tree.specs.declared.tree.Tree.{Tree}
@@ -22,7 +22,7 @@ branch-path (k ∷ ks) d = go (same_bytes k.digest d) (branch-path ks k.parent) 
   where
     go : (b : Bool) → branch ks k.parent ≡ whats (path ks k.parent) → branch ks d ≡ whats (path ks d) →
         (if b then k.what ∷ branch ks k.parent else branch ks d) ≡ whats (if b then k ∷ path ks k.parent else path ks d)
-    go true up on = ap (λ (z : List What). k.what ∷ z) up
+    go true up on = ap (λ (z : List Content). k.what ∷ z) up
     go false up on = on
 
 or-twice : (a b : Bool) → (a || (a || b)) ≡ (a || b)
@@ -42,7 +42,7 @@ extends-path (k ∷ ks) d e = go (same_bytes k.digest d) (extends-path ks k.pare
     go true up on = ap (λ (z : Bool). same_bytes d e || z) up
     go false up on = ap (λ (z : Bool). same_bytes d e || z) on ∙ or-twice (same_bytes d e) (meets e (path ks d))
 
-pub weight-few : (c : What) → weight c ≤ 1
+pub weight-few : (c : Content) → weight c ≤ 1
 weight-few Nil = omega arith
 weight-few (Holds b) = omega arith
 weight-few Mark = omega arith
@@ -148,16 +148,16 @@ module _ (nodes : List Known) (here : Option ℕ) (e : List ℕ) (ks : List Node
 
 -- ---- values of a branch
 
-pub length-values : (cs : List What) → length (values cs) ≡ filled cs
+pub length-values : (cs : List Content) → length (values cs) ≡ filled cs
 length-values [] = refl
 length-values (c ∷ cs) = let both = length-append (values cs) (one_or_none (value_of c)) in let rest = length-values cs in let here = single c in omega (arith, both, rest, here)
   where
-    single : (c : What) → length (one_or_none (value_of c)) ≡ weight c
+    single : (c : Content) → length (one_or_none (value_of c)) ≡ weight c
     single Nil = refl
     single (Holds b) = refl
     single Mark = refl
 
-held-few : (c : What) → length (one_or_none (value_of c)) ≤ 1
+held-few : (c : Content) → length (one_or_none (value_of c)) ≤ 1
 held-few Nil = omega arith
 held-few (Holds b) = omega arith
 held-few Mark = omega arith
@@ -208,7 +208,7 @@ module _ (nodes : List Known) (here : Option ℕ) (from : ℕ) (ks : List Node) 
       split : (vs : List Value) → one_or_none (value_of n.what) ≡ vs → drop from (values (whats ks)) ≡ drop from (values (whats a.rest) ++ vs) ++ reverse found
       split vs e =
           h.same ∙ ap (λ (z : List Node). drop from (values (whats z)) ++ reverse found) a.is
-          ∙ ap (λ (z : What). drop from (values (whats a.rest) ++ one_or_none (value_of z)) ++ reverse found) (sym a.kept.what)
+          ∙ ap (λ (z : Content). drop from (values (whats a.rest) ++ one_or_none (value_of z)) ++ reverse found) (sym a.kept.what)
           ∙ ap (λ (z : List Value). drop from (values (whats a.rest) ++ z) ++ reverse found) e
 
       left_over : count + 1 + length a.rest ≡ length ks
@@ -219,7 +219,7 @@ module _ (nodes : List Known) (here : Option ℕ) (from : ℕ) (ks : List Node) 
         where
           le : from + 1 ≤ weight n.what + length (values (whats a.rest))
           le =
-              let what = ap (λ (z : What). weight z) a.kept.what in
+              let what = ap (λ (z : Content). weight z) a.kept.what in
               let slots = a.kept.slots in
               let long = length-values (whats a.rest) in
               omega (arith, what, slots, long, lt)
@@ -295,7 +295,7 @@ module _ (t : Tree) (ks : List Node) (d : List ℕ) (h : Keeps t ks) (o : Option
   from-place = subst (λ (z : Option ℕ). Leads t.nodes.items z (path ks d)) (sym at) (h.leads d)
 
   pub slots-there : (n : ℕ) → n ≡ filled (whats (path ks d)) → n ≡ filled (branch ks d)
-  slots-there n e = e ∙ ap (λ (z : List What). filled z) (sym (branch-path ks d))
+  slots-there n e = e ∙ ap (λ (z : List Content). filled z) (sym (branch-path ks d))
 
   pub extends-same : (e : List ℕ) (b : Bool) → same_bytes d e ≡ true → b ≡ true → b ≡ extends ks d e
   extends-same e b yep is = is ∙ sym (extends-path ks d e ∙ ap (λ (z : Bool). z || meets e (path ks d)) yep)
@@ -304,7 +304,7 @@ module _ (t : Tree) (ks : List Node) (d : List ℕ) (h : Keeps t ks) (o : Option
   extends-other e b other is = is ∙ sym (extends-path ks d e ∙ ap (λ (z : Bool). z || meets e (path ks d)) other)
 
   pub values-there : (from : ℕ) (vs : List Value) → vs ≡ drop from (values (whats (path ks d))) → vs ≡ drop from (values (branch ks d))
-  values-there from vs e = e ∙ ap (λ (z : List What). drop from (values z)) (sym (branch-path ks d))
+  values-there from vs e = e ∙ ap (λ (z : List Content). drop from (values z)) (sym (branch-path ks d))
 
 -- the root's digest, as a constant
 pub has-there : (t : Tree) (ks : List Node) (d : List ℕ) → Keeps t ks → (b : Bool) → is_some (place t d) ≡ b → (c : Bool) → c ≡ (b || same_bytes d root) → c ≡ is_known ks d

@@ -2,63 +2,30 @@
 use Rattle.std.proofs.Common.{◌≡◌, ◌<◌, ℕ, zero, suc, ◌^◌, ◌==◌, ◌&&◌, Bool, true, false, List, [], ◌∷◌, ◌++◌, length, refl, sym, ap, ◌∙◌, subst, inl, inr, arith}
 use Rattle.std.specs.Prelude.{nat_le, nat_lt}
 use Rattle.std.specs.Int.{to_be_bytes, w32}
-use Rattle.std.specs.List.{flat_map, list_all}
+use Rattle.std.specs.List.{flat_map}
 use Rattle.std.proofs.lemmas.Bool.{le-leb, leb-true, lt-ltb, ltb-true}
 use Rattle.std.proofs.lemmas.Bool.Decides.{Decides-eqb}
 use Rattle.iss_base.proofs.Lists.{and-true, both}
 use Rattle.iss_request.specs.Fields.{Good, IsGrammar}
-use Rattle.iss_request.specs.Formats.{is_signature}
 use Rattle.iss_request.specs.Parsing.{Parser, ◌>>=◌, block, byte, done, number, such_that}
 use Rattle.iss_request.proofs.OneSpelling.{done_good}
 use Rattle.iss_request.proofs.ParserLemmas.{block_parts, byte_parts, done_parts, number_parts, test_parts, then_parts, wide32}
 use Rattle.iss_sb.proofs.Fields.{few}
-use Rattle.iss_sb.proofs.Signers.{IsSignersGrammar, signers-again, signers-parts}
+use Rattle.iss_sb.specs.Signers.{are_signers, parse_signers, spell_signed}
+use Rattle.iss_sb.proofs.SignerGrammar.{signers-again, signers-are, signers-fit, signers-parts}
 use Rattle.hs_tree.specs.declared.certificates.Certificate.{Certificate}
 use Rattle.hs_tree.specs.declared.certificates.Certificate.TheVariants.{Root, Votes}
-use Rattle.hs_tree.specs.declared.certificates.Signed.{Signed}
-use Rattle.hs_tree.specs.Certificates.{AreRisingVotes, AreSpelledVotes, IsSpelledCertificate, are_votes, fits, is_phase, is_rising, is_signed, no_certificate, parse_certificate, parse_signed, parse_signers, parse_votes, root_row, spell_certificate, spell_signed, votes_row}
+use Rattle.iss_sb.specs.declared.signers.Signed.{Signed}
+use Rattle.hs_tree.specs.Certificates.{AreSpelledVotes, IsSpelledCertificate, are_votes, fits, is_phase, no_certificate, parse_certificate, parse_votes, root_row, spell_certificate, votes_row}
 use Rattle.hs_tree.proofs.Rows.{Again, Never, Whole, block-field, by-same, byte-field, byte-never, first-never, glue, last-again, never-same, number-field, then-again, then-never}
-
--- ---- nodes and signatures, rising
-
-abbrev signed : ℕ → List ℕ → Signed
-signed by sig = record { by = record { 0 = by }; sig = sig }
-
-pub votes-grammar : IsSignersGrammar (λ (v : Signed). v.by.0) (λ (v : Signed). v.sig) signed AreRisingVotes parse_signed parse_signers
-unfolding parse_signed parse_signers
-votes-grammar = record {
-  whole = λ v. refl;
-  node_is = λ by s. refl;
-  sig_is = λ by s. refl;
-  none_rise = λ from. tt;
-  first_rises = λ from v vs le shape more. (le, shape, more);
-  rises = λ from v vs h. h;
-  one_is = λ from. refl;
-  none_is = λ from. refl;
-  more_is = λ count from. refl;
-}
-
-pub rising-is : (from : ℕ) (votes : List Signed) → AreRisingVotes from votes → (is_rising from votes ≡ true) × (list_all is_signed votes ≡ true)
-rising-is from [] h = (refl, refl)
-rising-is from (v ∷ vs) h =
-    let more = rising-is (suc v.by.0) vs h.2 in
-    (both (nat_le from v.by.0) (is_rising (suc v.by.0) vs) (le-leb from v.by.0 h.0) more.0, both (is_signature v.sig) (list_all is_signed vs) h.1 more.1)
-
-rising-of : (from : ℕ) (votes : List Signed) → is_rising from votes ≡ true → list_all is_signed votes ≡ true → AreRisingVotes from votes
-rising-of from [] h g = tt
-rising-of from (v ∷ vs) h g =
-    let a = and-true (nat_le from v.by.0) (is_rising (suc v.by.0) vs) h in
-    let b = and-true (is_signature v.sig) (list_all is_signed vs) g in
-    (leb-true from v.by.0 a.0, b.0, rising-of (suc v.by.0) vs a.1 b.1)
 
 -- ---- what fits
 
 fits-is : (phases view phase : ℕ) (d : List ℕ) (votes : List Signed) (bytes : List ℕ) → AreSpelledVotes phases view phase d votes bytes → fits phases view phase d votes ≡ true
 fits-is phases view phase d votes bytes h =
-    let r = rising-is 0 votes h.rising in
     both _ _ (both _ _ (lt-ltb 0 view h.view_low) (lt-ltb view (2 ^ 32) h.view_fits))
     (both _ _ (both _ _ (both _ _ (le-leb 1 phase h.phase_low) (le-leb phase phases h.phase_fits)) ((Decides-eqb (length d) 32).1 h.digest_fits))
-    (both _ _ (lt-ltb (length votes) 256 h.count_fits) (both _ _ r.0 r.1)))
+    (both _ _ (lt-ltb (length votes) 256 h.count_fits) (signers-fit 0 votes h.signers)))
 
 fits-of : (phases view phase : ℕ) (d : List ℕ) (votes : List Signed) → fits phases view phase d votes ≡ true → AreSpelledVotes phases view phase d votes (votes_row view phase d votes)
 fits-of phases view phase d votes h =
@@ -67,8 +34,7 @@ fits-of phases view phase d votes h =
     let b = and-true (is_phase phases phase && (length d == 32)) (are_votes votes) a.1 in
     let q = and-true (is_phase phases phase) (length d == 32) b.0 in
     let k = and-true (nat_le 1 phase) (nat_le phase phases) q.0 in
-    let c = and-true (nat_lt (length votes) 256) (is_rising 0 votes && list_all is_signed votes) b.1 in
-    let n = and-true (is_rising 0 votes) (list_all is_signed votes) c.1 in
+    let c = and-true (nat_lt (length votes) 256) (are_signers 0 votes) b.1 in
     record {
       view_low = ltb-true 0 view v.0;
       view_fits = ltb-true view (2 ^ 32) v.1;
@@ -76,7 +42,7 @@ fits-of phases view phase d votes h =
       phase_fits = leb-true phase phases k.1;
       digest_fits = (Decides-eqb (length d) 32).0 q.1;
       count_fits = ltb-true (length votes) 256 c.0;
-      rising = rising-of 0 votes n.0 n.1;
+      signers = signers-are 0 votes c.1;
       row = refl;
     }
 
@@ -114,7 +80,7 @@ module _ (phases : ℕ) where
   behind-again less phase d votes bytes h =
       let c : Certificate = Votes (suc less) phase d votes in
       let text = flat_map spell_signed votes in
-      let signers = last-again (parse_signers (length votes) 0) (make (suc less) phase d) text votes (signers-again votes-grammar 0 votes h.rising) in
+      let signers = last-again (parse_signers (length votes) 0) (make (suc less) phase d) text votes (signers-again 0 votes h.signers) in
       let count = then-again (such_that few byte) (after_count (suc less) phase d) (length votes ∷ []) text (length votes) c (byte-field few (length votes) (lt-ltb (length votes) 256 h.count_fits)) signers in
       let digest = then-again (block 32) (after_digest (suc less) phase) d (length votes ∷ text) d c (block-field 32 d h.digest_fits) count in
       let is = both _ _ (le-leb 1 phase h.phase_low) (le-leb phase phases h.phase_fits) in
@@ -156,14 +122,14 @@ module _ (phases : ℕ) where
       let range = and-true (nat_le 1 a.thing) (nat_le a.thing phases) phase.1 in
       let digest = block_parts 32 a.mid b.mid b.thing b.first in
       let count = test_parts few byte b.mid n.mid n.thing n.first in
-      let votes = signers-parts votes-grammar n.thing 0 n.mid v.mid v.thing v.first in
+      let votes = signers-parts n.thing 0 n.mid v.mid v.thing v.first in
       let text = flat_map spell_signed v.thing in
       let small : length v.thing < 256 = subst (λ (k : ℕ). k < 256) (sym votes.many) (ltb-true n.thing 256 count.1) in
       let counted : b.mid ≡ (length v.thing ∷ text) ++ rest = byte_parts b.mid n.mid n.thing count.0 ∙ ap (λ (k : ℕ). k ∷ n.mid) (sym votes.many) ∙ ap (λ (x : List ℕ). length v.thing ∷ x) (votes.parts ∙ ap (λ (x : List ℕ). text ++ x) d.1) in
       let inner : mid ≡ (a.thing ∷ b.thing ++ length v.thing ∷ text) ++ rest = byte_parts mid a.mid a.thing phase.0 ∙ ap (λ (x : List ℕ). a.thing ∷ x) (glue b.thing (length v.thing ∷ text) a.mid b.mid rest digest.parts counted) in
       subst (λ (z : Certificate). IsCertificate bytes rest z) d.0 (record {
         front = votes_row (suc less) a.thing b.thing v.thing;
-        spelled = record { view_low = omega arith; view_fits = below; phase_low = leb-true 1 a.thing range.0; phase_fits = leb-true a.thing phases range.1; digest_fits = digest.len; count_fits = small; rising = votes.rising; row = refl };
+        spelled = record { view_low = omega arith; view_fits = below; phase_low = leb-true 1 a.thing range.0; phase_fits = leb-true a.thing phases range.1; digest_fits = digest.len; count_fits = small; signers = votes.signers; row = refl };
         parts = glue (to_be_bytes w32 (suc less)) (a.thing ∷ b.thing ++ length v.thing ∷ text) bytes mid rest front inner;
       })
 

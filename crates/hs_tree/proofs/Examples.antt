@@ -13,13 +13,15 @@ use Rattle.iss_request.specs.declared.setups.Policy.TheVariants.{Simple}
 use Rattle.iss_request.specs.declared.setups.Setup.{Setup}
 use Rattle.iss_sb.specs.declared.effects.Params.{Params}
 use Rattle.iss_sb.specs.Statements.{wide_bytes}
-use Rattle.raft_wire.specs.declared.entries.What.TheVariants.{Nil, Holds, Mark}
-use Rattle.raft_wire.specs.Entries.{parse_what}
+use Rattle.iss_sb.specs.declared.content.Content.TheVariants.{Nil, Holds, Mark}
+use Rattle.iss_sb.specs.Content.{parse_content}
 use Rattle.hs_tree.specs.declared.certificates.Certificate.{Certificate}
 use Rattle.hs_tree.specs.declared.certificates.Certificate.TheVariants.{Root, Votes}
-use Rattle.hs_tree.specs.declared.certificates.Signed.{Signed}
+use Rattle.iss_sb.specs.declared.signers.Signed.{Signed}
+use Rattle.iss_sb.specs.Ascending.{ascending}
+use Rattle.iss_sb.specs.Signers.{parse_signed}
 use Rattle.hs_tree.specs.declared.messages.Message.TheVariants.{NewView, Prepare, PreCommit, Commit, Decide, Vote}
-use Rattle.hs_tree.specs.Certificates.{is_quorum, parse_certificate, parse_signed, parse_signers, parse_votes, spell_certificate}
+use Rattle.hs_tree.specs.Certificates.{is_quorum, parse_certificate, parse_votes, spell_certificate}
 use Rattle.hs_tree.specs.Messages.{parse, parse_prepare, parse_vote, spell}
 use Rattle.hs_tree.specs.Statements.{claims, own_statement}
 use Rattle.hs_tree.specs.Tree.{Node, basic, branch, chained, extends, filled, is_known, plain_string, root, value_at, value_at_slot, viewed_string}
@@ -65,7 +67,7 @@ no_view = refl
 -- the second of two nodes that fall is the field that does not fit: behind the view, the phase, the digest, the count, and the first
 -- node and its signature
 falling : parse_certificate 3 (0 ∷ 1 ∷ 0 ∷ 1 ∷ 1 ∷ (d ++ (2 ∷ 3 ∷ (blank ++ (3 ∷ blank))))) ≡ Bad (38 + (1 + 2213))
-unfolding parse_certificate parse_votes parse_signers parse_signed parse_signature such_that byte number block digests done ◌>>=◌
+unfolding parse_certificate parse_votes ascending parse_signed parse_signature such_that byte number block digests done ◌>>=◌
 falling = refl
 
 no_phase : parse_certificate 3 (0 ∷ 1 ∷ 0 ∷ 1 ∷ 4 ∷ d) ≡ Bad 4
@@ -104,7 +106,7 @@ unfolding spell_value spell_batch spell_count
 second_spelled = refl
 
 mark_read : parse 3 1 (2 ∷ 0 ∷ 0 ∷ 0 ∷ 1 ∷ 2 ∷ 0 ∷ 0 ∷ 0 ∷ 0 ∷ blank) ≡ Good (Prepare 1 Mark Root blank) []
-unfolding parse parse_prepare parse_what parse_certificate parse_votes parse_signature such_that byte number block digests done ◌>>=◌
+unfolding parse parse_prepare parse_content parse_certificate parse_votes parse_signature such_that byte number block digests done ◌>>=◌
 mark_read = refl
 
 shows_spelled : (spell 3 1 (PreCommit 1 Root blank) ≡ 3 ∷ 0 ∷ 0 ∷ 0 ∷ 1 ∷ 0 ∷ 0 ∷ 0 ∷ 0 ∷ blank) × (spell 3 1 (Commit 1 Root blank) ≡ 4 ∷ 0 ∷ 0 ∷ 0 ∷ 1 ∷ 0 ∷ 0 ∷ 0 ∷ 0 ∷ blank) × (spell 3 1 (Decide 1 Root blank) ≡ 5 ∷ 0 ∷ 0 ∷ 0 ∷ 1 ∷ 0 ∷ 0 ∷ 0 ∷ 0 ∷ blank)

@@ -2,7 +2,6 @@ pub mod Branches
 mod Examples
 mod Reading
 pub mod CertificateGrammar
-pub mod Contents
 pub mod MessageGrammar
 pub mod Nodes
 pub mod Places

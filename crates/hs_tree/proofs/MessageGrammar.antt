@@ -11,15 +11,15 @@ use Rattle.iss_request.specs.Formats.{is_signature, parse_signature}
 use Rattle.iss_request.specs.Parsing.{Parser, ◌>>=◌, block, byte, done, number, such_that}
 use Rattle.iss_request.proofs.OneSpelling.{signature_parts}
 use Rattle.iss_request.proofs.ParserLemmas.{block_parts, byte_parts, done_parts, number_parts, test_parts, then_parts, wide16, wide32}
-use Rattle.raft_wire.specs.declared.entries.What.{What}
-use Rattle.raft_wire.specs.Entries.{parse_what, spell_what}
+use Rattle.iss_sb.specs.declared.content.Content.{Content}
+use Rattle.iss_sb.specs.Content.{parse_content, spell_content}
 use Rattle.hs_tree.specs.declared.certificates.Certificate.{Certificate}
 use Rattle.hs_tree.specs.declared.messages.Message.{Message}
 use Rattle.hs_tree.specs.declared.messages.Message.TheVariants.{NewView, Prepare, PreCommit, Commit, Decide, Vote}
 use Rattle.hs_tree.specs.Certificates.{is_phase, parse_certificate, spell_certificate}
 use Rattle.hs_tree.specs.Messages.{IsSpelledMessage, IsSpelledShown, fields_of, fits_shown, fits_vote, has_shows, is_message, is_view, new_view_row, no_message, parse, parse_new_view, parse_prepare, parse_shown, parse_vote, prepare_row, shown_row, spell, spell_shown, vote_row}
 use Rattle.hs_tree.proofs.CertificateGrammar.{certificate-again, certificate-parts, certificate-spelled, certificate-whole}
-use Rattle.hs_tree.proofs.Contents.{what-grammar, what-read, what-related, what-table, what-whole}
+use Rattle.iss_sb.proofs.Contents.{content-grammar, content-read, content-related, content-table, content-whole}
 use Rattle.hs_tree.proofs.Rows.{Again, Fate, HasFate, Never, Whole, again-fate, again-whole, block-field, by-same, byte-field, byte-never, fate-again, fate-fate, fate-of, fate-same, first-never, glue, last-again, never-same, number-field, signature-field, then-again, whole-of}
 
 module _ (phases version : ℕ) where
@@ -35,14 +35,14 @@ module _ (phases version : ℕ) where
   unfolding parse_new_view
   parse_new_view-is = refl
 
-  abbrev after_just : ℕ → What → Certificate → Parser Message
+  abbrev after_just : ℕ → Content → Certificate → Parser Message
   after_just view what just = parse_signature >>= λ sig. done (Prepare view what just sig)
 
-  abbrev after_what : ℕ → What → Parser Message
+  abbrev after_what : ℕ → Content → Parser Message
   after_what view what = parse_certificate phases >>= after_just view what
 
   abbrev after_view : ℕ → Parser Message
-  after_view view = parse_what version >>= after_what view
+  after_view view = parse_content version >>= after_what view
 
   parse_prepare-is : parse_prepare phases version ≡ (number w32 >>= after_view)
   unfolding parse_prepare
@@ -105,14 +105,14 @@ module _ (phases version : ℕ) where
   prepare-parts : (bytes rest : List ℕ) (msg : Message) → parse_prepare phases version bytes ≡ Good msg rest → IsRow msg (2 ∷ bytes) rest
   prepare-parts bytes rest msg h =
       let a = then_parts (number w32) after_view bytes rest msg (rw parse_prepare-is at h) in
-      let k = then_parts (parse_what version) (after_what a.thing) a.mid rest msg a.second in
+      let k = then_parts (parse_content version) (after_what a.thing) a.mid rest msg a.second in
       let b = then_parts (parse_certificate phases) (after_just a.thing k.thing) k.mid rest msg k.second in
       let c = then_parts parse_signature (λ sig. done (Prepare a.thing k.thing b.thing sig)) b.mid rest msg b.second in
       let d = done_parts (Prepare a.thing k.thing b.thing c.thing) msg c.mid rest c.second in
       let view = number_parts w32 (2 ^ 32) wide32 bytes a.mid a.thing a.first in
-      let what = what-related version k.thing (what-read version k.thing a.mid k.mid k.first) in
-      let text = spell_what version k.thing in
-      let held : a.mid ≡ text ++ k.mid = (what-grammar version).only a.mid k.mid k.thing k.first in
+      let what = content-related version k.thing (content-read version k.thing a.mid k.mid k.first) in
+      let text = spell_content version k.thing in
+      let held : a.mid ≡ text ++ k.mid = (content-grammar version).only a.mid k.mid k.thing k.first in
       let just = certificate-parts phases k.mid b.mid b.thing b.first in
       let sig = signature_parts b.mid c.mid c.thing c.first in
       let ends : b.mid ≡ c.thing ++ rest = sig.parts ∙ ap (λ (x : List ℕ). c.thing ++ x) d.1 in
@@ -269,8 +269,8 @@ module _ (phases version : ℕ) where
       let row : front ≡ new_view_row round (spell_certificate phases high) sig = h.row ∙ ap (λ (x : List ℕ). new_view_row round x sig) (certificate-spelled phases high h.certificate h.spelled) in
       rw (both _ _ (lt-ltb round (2 ^ 16) h.round_fits) h.signed) row
   spelled-is (Prepare view what just sig) front h =
-      let row : front ≡ prepare_row view (spell_what version what) (spell_certificate phases just) sig =
-      h.row ∙ ap (λ (x : List ℕ). prepare_row view x h.certificate sig) (what-table version what h.behind h.what_is).0 ∙ ap (λ (x : List ℕ). prepare_row view (spell_what version what) x sig) (certificate-spelled phases just h.certificate h.spelled) in
+      let row : front ≡ prepare_row view (spell_content version what) (spell_certificate phases just) sig =
+      h.row ∙ ap (λ (x : List ℕ). prepare_row view x h.certificate sig) (content-table version what h.behind h.what_is).0 ∙ ap (λ (x : List ℕ). prepare_row view (spell_content version what) x sig) (certificate-spelled phases just h.certificate h.spelled) in
       rw (both _ _ (lt-ltb view (2 ^ 32) h.view_fits) h.signed) row
   spelled-is (PreCommit view shown sig) front h = shown-spelled 3 view shown sig front h
   spelled-is (Commit view shown sig) front h = shown-spelled 4 view shown sig front h
@@ -306,13 +306,13 @@ module _ (phases version : ℕ) where
       let all = again-fate read (number w16) after_round (to_be_bytes w16 round) (certificate ++ sig) round msg (number-field w16 (2 ^ 16) wide16 round low) second in
       number-fate read 1 (to_be_bytes w16 round ++ certificate ++ sig) msg refl (fate-same read (to_be_bytes w16 round ++ certificate ++ sig) (parse_new_view phases) _ msg parse_new_view-is all)
 
-  prepare-fate : (read behind : Bool) (view : ℕ) (what : What) (just : Certificate) (sig text certificate : List ℕ) → view < 2 ^ 32 → is_signature sig ≡ true →
-      Fate read text (parse_what version) what → Fate behind certificate (parse_certificate phases) just → Fate (read && behind) (prepare_row view text certificate sig) (parse phases version) (Prepare view what just sig)
+  prepare-fate : (read behind : Bool) (view : ℕ) (what : Content) (just : Certificate) (sig text certificate : List ℕ) → view < 2 ^ 32 → is_signature sig ≡ true →
+      Fate read text (parse_content version) what → Fate behind certificate (parse_certificate phases) just → Fate (read && behind) (prepare_row view text certificate sig) (parse phases version) (Prepare view what just sig)
   prepare-fate read behind view what just sig text certificate low shape g h =
       let msg : Message = Prepare view what just sig in
       let last = last-again parse_signature (λ s. Prepare view what just s) sig sig (signature-field sig shape) in
       let third = fate-again behind (parse_certificate phases) (after_just view what) certificate sig just msg h last in
-      let second = fate-fate read behind (parse_what version) (after_what view) text (certificate ++ sig) what msg g third in
+      let second = fate-fate read behind (parse_content version) (after_what view) text (certificate ++ sig) what msg g third in
       let all = again-fate (read && behind) (number w32) after_view (to_be_bytes w32 view) (text ++ (certificate ++ sig)) view msg (number-field w32 (2 ^ 32) wide32 view low) second in
       number-fate (read && behind) 2 (to_be_bytes w32 view ++ (text ++ (certificate ++ sig))) msg refl (fate-same (read && behind) (to_be_bytes w32 view ++ (text ++ (certificate ++ sig))) (parse_prepare phases version) _ msg parse_prepare-is all)
 
@@ -365,9 +365,9 @@ module _ (phases version : ℕ) where
       go false q = inr (rw q none)
       go true q =
           let a = and-true (is_view view) (is_signature sig) q in
-          let w = fate-of (spell_what version what) (parse_what version) what (what-whole version what) in
+          let w = fate-of (spell_content version what) (parse_content version) what (content-whole version what) in
           let c = certificate-fate just in
-          rw q (whole-of (w.read && c.read) (prepare_row view (spell_what version what) (spell_certificate phases just) sig) (parse phases version) (Prepare view what just sig) (prepare-fate w.read c.read view what just sig (spell_what version what) (spell_certificate phases just) (ltb-true view (2 ^ 32) a.0) a.1 w.fate c.fate))
+          rw q (whole-of (w.read && c.read) (prepare_row view (spell_content version what) (spell_certificate phases just) sig) (parse phases version) (Prepare view what just sig) (prepare-fate w.read c.read view what just sig (spell_content version what) (spell_certificate phases just) (ltb-true view (2 ^ 32) a.0) a.1 w.fate c.fate))
   whole (PreCommit view shown sig) = shown-whole PreCommit 3 view shown sig (known-shown 3 refl refl refl refl) refl
   whole (Commit view shown sig) = shown-whole Commit 4 view shown sig (known-shown 4 refl refl refl refl) refl
   whole (Decide view shown sig) = shown-whole Decide 5 view shown sig (known-shown 5 refl refl refl refl) refl
@@ -400,8 +400,8 @@ module _ (phases version : ℕ) where
       subst (λ (x : List ℕ). Again x (parse phases version) (NewView round high sig)) (sym h.row)
       (new_view-fate true round high sig h.certificate h.round_fits h.signed (certificate-again phases high h.certificate h.spelled))
   table-again (Prepare view what just sig) bytes h =
-      let w = what-table version what h.behind h.what_is in
-      let read = subst (λ (x : List ℕ). Again x (parse_what version) what) (sym w.0) w.1 in
+      let w = content-table version what h.behind h.what_is in
+      let read = subst (λ (x : List ℕ). Again x (parse_content version) what) (sym w.0) w.1 in
       subst (λ (x : List ℕ). Again x (parse phases version) (Prepare view what just sig)) (sym h.row)
       (prepare-fate true true view what just sig h.behind h.certificate h.view_fits h.signed read (certificate-again phases just h.certificate h.spelled))
   table-again (PreCommit view shown sig) bytes h = shown-table PreCommit 3 view shown sig bytes (known-shown 3 refl refl refl refl) refl h

@@ -4,31 +4,31 @@ use Rattle.std.proofs.lemmas.Bool.Decides.{Decides-eqb}
 use Rattle.iss_request.specs.declared.requests.Batch.{Batch}
 use Rattle.iss_request.specs.declared.requests.Value.{Value}
 use Rattle.iss_request.specs.declared.requests.Value.TheVariants.{Batch as Value_batch}
-use Rattle.raft_wire.specs.declared.entries.What.{What}
-use Rattle.raft_wire.specs.declared.entries.What.TheVariants.{Nil, Holds, Mark}
+use Rattle.iss_sb.specs.declared.content.Content.{Content}
+use Rattle.iss_sb.specs.declared.content.Content.TheVariants.{Nil, Holds, Mark}
 use Rattle.hs_tree.specs.Tree.{filled, value_at, value_here, value_of, weight}
 
 batch-same : (b c : Batch) → Value_batch b ≡ Value_batch c → b ≡ c
 batch-same b c h = cc
 
 -- a batch at a place stands on top, or below
-pub here-is : (k n : ℕ) (c : What) (o : Option Value) (b : Batch) → value_here k n c o ≡ Some (Value_batch b) → ((k ≡ n) × (c ≡ Holds b)) ⊎ (o ≡ Some (Value_batch b))
+pub here-is : (k n : ℕ) (c : Content) (o : Option Value) (b : Batch) → value_here k n c o ≡ Some (Value_batch b) → ((k ≡ n) × (c ≡ Holds b)) ⊎ (o ≡ Some (Value_batch b))
 here-is k n c o b h = go (k == n) refl c h
   where
-    go : (t : Bool) → (k == n) ≡ t → (c : What) → (if t && (weight c == 1) then value_of c else o) ≡ Some (Value_batch b) → ((k ≡ n) × (c ≡ Holds b)) ⊎ (o ≡ Some (Value_batch b))
+    go : (t : Bool) → (k == n) ≡ t → (c : Content) → (if t && (weight c == 1) then value_of c else o) ≡ Some (Value_batch b) → ((k ≡ n) × (c ≡ Holds b)) ⊎ (o ≡ Some (Value_batch b))
     go false q c e = inr e
     go true q Nil e = absurd cc
     go true q (Holds x) e = inl ((Decides-eqb k n).0 q, (let v : Value_batch x ≡ Value_batch b = cc in ap (λ (z : Batch). Holds z) (batch-same x b v)))
     go true q Mark e = inr e
 
-one-below : (k n m : ℕ) (c : What) (o : Option Value) (x : Value) → k < n → n ≤ m → o ≡ Some x → (if (k == m) && (weight c == 1) then value_of c else o) ≡ Some x
+one-below : (k n m : ℕ) (c : Content) (o : Option Value) (x : Value) → k < n → n ≤ m → o ≡ Some x → (if (k == m) && (weight c == 1) then value_of c else o) ≡ Some x
 one-below k n m c o x l r h = go (k == m) refl
   where
     go : (b : Bool) → (k == m) ≡ b → (if b && (weight c == 1) then value_of c else o) ≡ Some x
     go true q = let e = (Decides-eqb k m).0 q in absurd (omega (arith, e, l, r))
     go false q = h
 
-value-low : (cs : List What) (k : ℕ) (x : Value) → value_at cs k ≡ Some x → k < filled cs
+value-low : (cs : List Content) (k : ℕ) (x : Value) → value_at cs k ≡ Some x → k < filled cs
 value-low [] k x h = absurd cc
 value-low (c ∷ cs) k x h = go (k == filled cs) (weight c == 1) refl refl h (value-low cs k x)
   where
@@ -37,10 +37,10 @@ value-low (c ∷ cs) k x h = go (k == filled cs) (weight c == 1) refl refl h (va
     go true false q r e on = let z = on e in omega (arith, z)
     go false b q r e on = let z = on e in omega (arith, z)
 
-filled-more : (xs ys : List What) → filled ys ≤ filled (xs ++ ys)
+filled-more : (xs ys : List Content) → filled ys ≤ filled (xs ++ ys)
 filled-more [] ys = omega arith
 filled-more (x ∷ xs) ys = let h = filled-more xs ys in omega (arith, h)
 
-pub value-on : (xs ys : List What) (k : ℕ) (x : Value) → value_at ys k ≡ Some x → value_at (xs ++ ys) k ≡ Some x
+pub value-on : (xs ys : List Content) (k : ℕ) (x : Value) → value_at ys k ≡ Some x → value_at (xs ++ ys) k ≡ Some x
 value-on [] ys k x h = h
 value-on (c ∷ xs) ys k x h = one-below k (filled ys) (filled (xs ++ ys)) c (value_at (xs ++ ys) k) x (value-low ys k x h) (filled-more xs ys) (value-on xs ys k x h)

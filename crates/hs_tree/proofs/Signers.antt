@@ -7,7 +7,7 @@ use Rattle.iss_base.specs.Quorum.{distinct, mem}
 use Rattle.iss_base.proofs.Lists.{and-true, both}
 use Rattle.hs_tree.specs.declared.certificates.Certificate.{Certificate}
 use Rattle.hs_tree.specs.declared.certificates.Certificate.TheVariants.{Root, Votes}
-use Rattle.hs_tree.specs.declared.certificates.Signed.{Signed}
+use Rattle.iss_sb.specs.declared.signers.Signed.{Signed}
 use Rattle.hs_tree.specs.Certificates.{is_quorum, is_rising, signers, votes_in}
 
 same-length : (votes : List Signed) → length (signers votes) ≡ length votes

@@ -2,7 +2,7 @@
 use Rattle.std.proofs.Common.{◌≡◌, ◌<◌, ◌^◌, ℕ, List, [], ◌∷◌, ◌++◌, append_assoc, Option, refl, ap, ◌∙◌}
 use Rattle.sha2.specs.Sha256.{sha256}
 use Rattle.iss_sb.specs.Evidence.{one_or_none}
-use Rattle.raft_wire.specs.declared.entries.What.{What}
+use Rattle.iss_sb.specs.declared.content.Content.{Content}
 use Rattle.hs_tree.specs.Hashed.{IsHashed}
 use Rattle.std.specs.Int.{to_be_bytes, w16, w32}
 use Rattle.iss_request.specs.Fields.{Written, and_bytes}
@@ -10,24 +10,16 @@ use Rattle.iss_request.specs.Formats.{spell_batch, spell_value, value_string, ve
 use Rattle.iss_request.specs.declared.requests.Batch.{Batch}
 use Rattle.iss_request.specs.declared.requests.Value.TheVariants.{Nil as Value_nil, Batch as Value_batch}
 use Rattle.iss_sb.specs.declared.effects.Params.{Params}
-use Rattle.iss_sb.specs.Statements.{four_bytes, statement_head, two_bytes}
+use Rattle.iss_sb.specs.Statements.{claim, four_bytes, statement_head, two_bytes}
 use Rattle.iss_sb.proofs.Statements.{four-is, two-is}
 use Rattle.iss_sb.specs.declared.effects.Claim.{Claim}
 use Rattle.std.specs.List.{flat_map}
-use Rattle.hs_tree.specs.declared.certificates.Signed.{Signed}
-use Rattle.hs_tree.specs.Statements.{claim, statement, vote_claims, vote_statement}
+use Rattle.iss_sb.specs.declared.signers.Signed.{Signed}
+use Rattle.hs_tree.specs.Statements.{statement, vote_claims, vote_statement}
 use Rattle.hs_tree.specs.Tree.{Form, plain_string, strings_of, value_of}
 
 abbrev start : ℕ → Written
 start version = record { version = version; bytes = [] }
-
-pub nil-written : (version : ℕ) (a b : Written) → a ≡ and_bytes (start version) (0x40 ∷ []) → b ≡ and_bytes a (0 ∷ []) → b.bytes ≡ value_string version Value_nil
-unfolding spell_value
-nil-written version a b ha hb = rw (hb, ha) refl
-
-pub batch-written : (version : ℕ) (batch : Batch) (a b c : Written) (first : ℕ) → first ≡ version_byte version → a ≡ and_bytes (start version) (0x40 ∷ []) → b ≡ and_bytes a (first ∷ []) → c ≡ and_bytes b (spell_batch b.version batch) → c.bytes ≡ value_string version (Value_batch batch)
-unfolding spell_value
-batch-written version batch a b c first hf ha hb hc = rw (hc, hb, hf, ha) refl
 
 pub vote-written : (p : Params) (form : Form) (tag phase view version : ℕ) (digest : List ℕ) (a b c d e : Written) → view < 2 ^ 32 → form.tag ≡ tag → a ≡ and_bytes (start version) (statement_head p tag) → b ≡ and_bytes a (6 ∷ []) → c ≡ and_bytes b (phase ∷ []) →
     d ≡ and_bytes c (to_be_bytes w32 view) → e ≡ and_bytes d digest → e.bytes ≡ vote_statement form p phase view digest
@@ -52,7 +44,7 @@ claims-flat statement (v ∷ vs) = ap (λ (z : List Claim). claim v.by.0 stateme
 
 -- ---- a node that is hashed
 
-pub hashed-node : (version view : ℕ) (parent : List ℕ) (what : What) (value : Option (List ℕ)) (node bytes : List ℕ) (none mid all : List (List ℕ)) (d : List ℕ) → none ≡ [] → one_or_none value ≡ strings_of version (value_of what) →
+pub hashed-node : (version view : ℕ) (parent : List ℕ) (what : Content) (value : Option (List ℕ)) (node bytes : List ℕ) (none mid all : List (List ℕ)) (d : List ℕ) → none ≡ [] → one_or_none value ≡ strings_of version (value_of what) →
     mid ≡ none ++ one_or_none value → all ≡ mid ++ node ∷ [] → node ≡ plain_string version view parent what → bytes ≡ node → d ≡ sha256 bytes → IsHashed version view parent what (record { strings = all; digest = d })
 hashed-node version view parent what value node bytes none mid all d hn hv hm ha is hb hd = record {
   strings = ha ∙ ap (λ (z : List (List ℕ)). z ++ node ∷ []) (hm ∙ ap (λ (z : List (List ℕ)). z ++ one_or_none value) hn ∙ hv) ∙ ap (λ (z : List ℕ). strings_of version (value_of what) ++ z ∷ []) is;

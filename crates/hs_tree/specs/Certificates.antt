@@ -1,15 +1,16 @@
--- How certificates are spelled in bytes, and how they are read.
+-- How certificates of HotStuff are encoded and decoded. A certificate is the root's, or votes of strictly ascending
+-- nodes for a digest in a view and a phase. A good one has exactly a quorum of votes.
 --
---   certificate   view (4 bytes); 0 is the root's, and ends here; else phase (1), digest (32), count (1), and so many times a
---                 node (1) and its signature, the nodes rising
+--   certificate   view (4 bytes); 0 is the root's, and ends here; else phase (1), digest (32), count (1), and that
+--                 many signers, strictly ascending
 use Rattle.std.specs.Prelude.{◌≡◌, ◌≤◌, ◌<◌, ℕ, zero, suc, ◌^◌, ◌==◌, ◌&&◌, Bool, true, false, nat_lt, nat_le, List, [], ◌∷◌, ◌++◌, length, if◌then◌else◌}
 use Rattle.std.specs.Int.{to_be_bytes, w32}
-use Rattle.std.specs.List.{flat_map, list_all}
-use Rattle.iss_request.specs.Formats.{is_signature, parse_signature}
+use Rattle.std.specs.List.{flat_map}
 use Rattle.iss_request.specs.Parsing.{Parser, ◌>>=◌, block, byte, done, number, such_that}
+use Rattle.iss_sb.specs.declared.signers.Signed.{Signed}
+use Rattle.iss_sb.specs.Signers.{AreSigners, are_signers, parse_signers, spell_signed}
 use Rattle.hs_tree.specs.declared.certificates.Certificate.{Certificate}
 use Rattle.hs_tree.specs.declared.certificates.Certificate.TheVariants.{Root, Votes}
-use Rattle.hs_tree.specs.declared.certificates.Signed.{Signed}
 use Rattle.hs_tree.specs.Tree.{root}
 
 abbrev pub view_of : Certificate → ℕ
@@ -43,15 +44,9 @@ is_quorum quorum phase view (Votes w q d votes) = ((w == view) && (q == phase)) 
 abbrev pub is_phase : ℕ → ℕ → Bool
 is_phase phases n = nat_le 1 n && nat_le n phases
 
-abbrev pub is_signed : Signed → Bool
-is_signed v = is_signature v.sig
-
-abbrev pub spell_signed : Signed → List ℕ
-spell_signed v = v.by.0 ∷ v.sig
-
--- votes in rising order, each with a signature
+-- as many as a byte counts, of nodes strictly ascending, each with a signature
 abbrev pub are_votes : List Signed → Bool
-are_votes votes = nat_lt (length votes) 256 && (is_rising 0 votes && list_all is_signed votes)
+are_votes votes = nat_lt (length votes) 256 && are_signers 0 votes
 
 abbrev pub fits : ℕ → ℕ → ℕ → List ℕ → List Signed → Bool
 fits phases view phase d votes = (nat_lt 0 view && nat_lt view (2 ^ 32)) && ((is_phase phases phase && (length d == 32)) && are_votes votes)
@@ -72,10 +67,6 @@ spell_certificate phases (Votes view phase d votes) = if fits phases view phase 
 
 -- ---- the table as a relation between certificates and bytes
 
-abbrev pub AreRisingVotes : ℕ → List Signed → Type 0
-AreRisingVotes from [] = Unit {0}
-AreRisingVotes from (v ∷ vs) = (from ≤ v.by.0) × (is_signature v.sig ≡ true) × AreRisingVotes (suc v.by.0) vs
-
 pub record AreSpelledVotes (phases view phase : ℕ) (d : List ℕ) (votes : List Signed) (bytes : List ℕ) : Type 0 where
   pub view_low : 1 ≤ view
   pub view_fits : view < 2 ^ 32
@@ -83,7 +74,7 @@ pub record AreSpelledVotes (phases view phase : ℕ) (d : List ℕ) (votes : Lis
   pub phase_fits : phase ≤ phases
   pub digest_fits : length d ≡ 32
   pub count_fits : length votes < 256
-  pub rising : AreRisingVotes 0 votes
+  pub signers : AreSigners 0 votes
   pub row : bytes ≡ votes_row view phase d votes
 
 abbrev pub IsSpelledCertificate : ℕ → Certificate → List ℕ → Type 0
@@ -91,21 +82,6 @@ IsSpelledCertificate phases Root bytes = bytes ≡ root_row
 IsSpelledCertificate phases (Votes view phase d votes) bytes = AreSpelledVotes phases view phase d votes bytes
 
 -- ---- reading
-
--- a node, none below the first number that is allowed, and its signature
-unfoldable pub parse_signed : ℕ → Parser Signed
-parse_signed from = do
-  by ← such_that (λ n. nat_le from n) byte
-  sig ← parse_signature
-  done (record { by = record { 0 = by }; sig = sig })
-
--- so many of them, the nodes rising
-unfoldable pub parse_signers : ℕ → ℕ → Parser (List Signed)
-parse_signers zero from = done []
-parse_signers (suc count) from = do
-  vote ← parse_signed from
-  others ← parse_signers count (suc vote.by.0)
-  done (vote ∷ others)
 
 -- what stands behind the view: nothing where it is the root's
 unfoldable pub parse_votes : ℕ → ℕ → Parser Certificate

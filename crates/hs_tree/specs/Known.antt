@@ -1,5 +1,6 @@
--- What the code keeps of the tree: the nodes in a row, each with the place of its parent, and of each digest the place of
--- the newest node that has it.
+-- How the code keeps the tree: the known nodes in a row, each with the place of its parent, and for each digest the
+-- place of the newest node that has it. From each digest upwards the places lead along the branch of the definitions.
+-- A branch gives the values of the slots.
 use Rattle.std.specs.Prelude.{◌≡◌, ◌≤◌, ℕ, suc, ◌+◌, ◌||◌, Bool, false, List, [], ◌∷◌, ◌++◌, map, length, slice_get, is_some, Option, Some, None, if◌then◌else◌}
 use Rattle.std.specs.BTreeMap.{get}
 use Rattle.std.specs.Cmp.Lexicographic.{slice_cmp}
@@ -7,7 +8,7 @@ use Rattle.std.specs.Ordering.{nat_cmp}
 use Rattle.iss_base.specs.Lists.{same_bytes}
 use Rattle.iss_request.specs.declared.requests.Value.{Value}
 use Rattle.iss_sb.specs.Evidence.{one_or_none}
-use Rattle.raft_wire.specs.declared.entries.What.{What}
+use Rattle.iss_sb.specs.declared.content.Content.{Content}
 use Rattle.hs_tree.specs.declared.tree.Known.{Known}
 use Rattle.hs_tree.specs.declared.tree.Tree.{Tree}
 use Rattle.hs_tree.specs.Tree.{Node, filled, is_known, root, value_of, weight}
@@ -19,12 +20,12 @@ abbrev pub path : List Node → List ℕ → List Node
 path [] d = []
 path (k ∷ ks) d = if same_bytes k.digest d then k ∷ path ks k.parent else path ks d
 
-abbrev pub whats : List Node → List What
+abbrev pub whats : List Node → List Content
 whats [] = []
 whats (k ∷ ks) = k.what ∷ whats ks
 
 -- what a branch holds for the slots, in their order. A mark holds no slot
-abbrev pub values : List What → List Value
+abbrev pub values : List Content → List Value
 values [] = []
 values (c ∷ cs) = values cs ++ one_or_none (value_of c)
 
@@ -55,6 +56,7 @@ Leads nodes o [] = o ≡ None
 Leads nodes o (k ∷ ks) = (n : Known) × (known_at nodes o ≡ Some n) × IsKept n k ks × Leads nodes n.above ks
 
 -- the code keeps these nodes, the newest first
+-- rule: HotStuff: A branch is what its nodes hold, even where a digest repeats
 pub record Keeps (t : Tree) (ks : List Node) : Type 0 where
   pub leads : (d : List ℕ) → Leads t.nodes.items (place t d) (path ks d)
   pub known : (d : List ℕ) → is_known ks d ≡ (is_some (place t d) || same_bytes d root)

@@ -1,4 +1,6 @@
--- How the messages of HotStuff are spelled in bytes, and how they are read. Numbers have their highest byte first.
+-- How the six messages of HotStuff are encoded and decoded, for any number of phases and version of the formats. The
+-- table is also stated as a relation, so each message has exactly one encoding. A bad field is named where it stands:
+-- among votes it is the first node that does not ascend. Numbers have their highest byte first.
 --
 --   message       its number (1 byte), its fields, and its signature
 --   NewView       1: round (2), certificate
@@ -9,8 +11,8 @@ use Rattle.std.specs.Prelude.{◌≡◌, ◌≤◌, ◌<◌, ℕ, ◌^◌, ◌==
 use Rattle.std.specs.Int.{to_be_bytes, w16, w32}
 use Rattle.iss_request.specs.Formats.{is_signature, parse_signature}
 use Rattle.iss_request.specs.Parsing.{Parser, ◌>>=◌, block, byte, done, number, such_that}
-use Rattle.raft_wire.specs.declared.entries.What.{What}
-use Rattle.raft_wire.specs.Entries.{IsSpelledWhat, parse_what, spell_what}
+use Rattle.iss_sb.specs.declared.content.Content.{Content}
+use Rattle.iss_sb.specs.Content.{IsSpelledContent, parse_content, spell_content}
 use Rattle.hs_tree.specs.declared.certificates.Certificate.{Certificate}
 use Rattle.hs_tree.specs.declared.messages.Message.{Message}
 use Rattle.hs_tree.specs.declared.messages.Message.TheVariants.{NewView, Prepare, PreCommit, Commit, Decide, Vote}
@@ -55,7 +57,7 @@ abbrev pub spell : ℕ → ℕ → Message → List ℕ
 spell phases version (NewView round high sig) =
     if nat_lt round (2 ^ 16) && is_signature sig then new_view_row round (spell_certificate phases high) sig else no_message
 spell phases version (Prepare view what just sig) =
-    if is_view view && is_signature sig then prepare_row view (spell_what version what) (spell_certificate phases just) sig else no_message
+    if is_view view && is_signature sig then prepare_row view (spell_content version what) (spell_certificate phases just) sig else no_message
 spell phases version (PreCommit view shown sig) = spell_shown phases 3 view shown sig
 spell phases version (Commit view shown sig) = spell_shown phases 4 view shown sig
 spell phases version (Decide view shown sig) = spell_shown phases 5 view shown sig
@@ -70,10 +72,10 @@ pub record IsSpelledNewView (phases round : ℕ) (high : Certificate) (sig bytes
   pub signed : is_signature sig ≡ true
   pub row : bytes ≡ new_view_row round certificate sig
 
-pub record IsSpelledPrepare (phases version view : ℕ) (what : What) (just : Certificate) (sig bytes : List ℕ) : Type 0 where
+pub record IsSpelledPrepare (phases version view : ℕ) (what : Content) (just : Certificate) (sig bytes : List ℕ) : Type 0 where
   pub view_fits : view < 2 ^ 32
   pub behind : List ℕ
-  pub what_is : IsSpelledWhat version what behind
+  pub what_is : IsSpelledContent version what behind
   pub certificate : List ℕ
   pub spelled : IsSpelledCertificate phases just certificate
   pub signed : is_signature sig ≡ true
@@ -95,6 +97,7 @@ pub record IsSpelledVote (phases phase view : ℕ) (d sig bytes : List ℕ) : Ty
   pub signed : is_signature sig ≡ true
   pub row : bytes ≡ vote_row phase view d sig
 
+-- rule: HotStuff: A message has one encoding for its number of phases and version
 abbrev pub IsSpelledMessage : ℕ → ℕ → Message → List ℕ → Type 0
 IsSpelledMessage phases version (NewView round high sig) bytes = IsSpelledNewView phases round high sig bytes
 IsSpelledMessage phases version (Prepare view what just sig) bytes = IsSpelledPrepare phases version view what just sig bytes
@@ -115,7 +118,7 @@ parse_new_view phases = do
 unfoldable pub parse_prepare : ℕ → ℕ → Parser Message
 parse_prepare phases version = do
   view ← number w32
-  what ← parse_what version
+  what ← parse_content version
   just ← parse_certificate phases
   sig ← parse_signature
   done (Prepare view what just sig)

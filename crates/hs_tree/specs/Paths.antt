@@ -1,26 +1,27 @@
--- Branches of the tree as paths, whatever replica knows them, where the strings of their nodes are among given ones.
+-- Branches of the tree as paths, whichever replica knows them. A path is made of nodes whose strings are among given
+-- hashed ones, so two replicas can speak of the same branch.
 use Rattle.std.specs.Prelude.{◌≡◌, ℕ, true, List, [], ◌∷◌, length, Some}
 use Rattle.iss_request.specs.Digest.{digest}
 use Rattle.iss_request.specs.Fields.{IsReadAgain}
 use Rattle.iss_request.specs.Formats.{value_string}
 use Rattle.iss_request.specs.declared.requests.Value.{Value}
-use Rattle.raft_wire.specs.declared.entries.What.{What}
-use Rattle.raft_wire.specs.Entries.{parse_what, spell_what}
+use Rattle.iss_sb.specs.declared.content.Content.{Content}
+use Rattle.iss_sb.specs.Content.{parse_content, spell_content}
 use Rattle.hs_tree.specs.Tree.{Node, is_known, plain_string, value_of}
 
 -- the digest of the node that stands on the parent
-abbrev pub hash : ℕ → List ℕ → What → List ℕ
+abbrev pub hash : ℕ → List ℕ → Content → List ℕ
 hash version parent what = digest (plain_string version 0 parent what)
 
 -- a node on a parent, whose strings are among these
-pub record Has (version : ℕ) (Is : List ℕ → Type 0) (parent : List ℕ) (what : What) : Type 0 where
+pub record Has (version : ℕ) (Is : List ℕ → Type 0) (parent : List ℕ) (what : Content) : Type 0 where
   pub long : length parent ≡ 32
-  pub read : IsReadAgain (spell_what version) (parse_what version) what
+  pub read : IsReadAgain (spell_content version) (parse_content version) what
   pub node : Is (plain_string version 0 parent what)
   pub value : (v : Value) → value_of what ≡ Some v → Is (value_string version v)
 
 -- from the node d down to e, these contents, the newest first
-abbrev pub Path : ℕ → (List ℕ → Type 0) → List ℕ → List ℕ → List What → Type 0
+abbrev pub Path : ℕ → (List ℕ → Type 0) → List ℕ → List ℕ → List Content → Type 0
 Path version Is d e [] = d ≡ e
 Path version Is d e (c ∷ cs) = (a : List ℕ) × Has version Is a c × (hash version a c ≡ d) × Path version Is a e cs
 

@@ -1,23 +1,24 @@
--- What the sender of a message signs, and what a message claims that nodes signed.
+-- What the sender of a message signs, and the claims of a message: the votes of its certificate, and then its own
+-- signature. A claim says that a node signed a statement.
 use Rattle.std.specs.Prelude.{ℕ, List, [], ◌∷◌, ◌++◌}
 use Rattle.iss_request.specs.Digest.{digest}
 use Rattle.iss_sb.specs.declared.effects.Claim.{Claim}
 use Rattle.iss_sb.specs.declared.effects.Params.{Params}
-use Rattle.iss_sb.specs.Statements.{four_bytes, statement_head, two_bytes}
-use Rattle.raft_wire.specs.declared.entries.What.{What}
+use Rattle.iss_sb.specs.Statements.{claim, four_bytes, statement_head, two_bytes}
+use Rattle.iss_sb.specs.declared.content.Content.{Content}
 use Rattle.hs_tree.specs.declared.certificates.Certificate.{Certificate}
 use Rattle.hs_tree.specs.declared.certificates.Certificate.TheVariants.{Root, Votes}
-use Rattle.hs_tree.specs.declared.certificates.Signed.{Signed}
+use Rattle.iss_sb.specs.declared.signers.Signed.{Signed}
 use Rattle.hs_tree.specs.declared.messages.Message.{Message}
 use Rattle.hs_tree.specs.declared.messages.Message.TheVariants.{NewView, Prepare, PreCommit, Commit, Decide, Vote}
 use Rattle.hs_tree.specs.Certificates.{digest_of, view_of}
 use Rattle.hs_tree.specs.Tree.{Form}
 
 -- the string of the node that a proposal is of, and its digest
-abbrev pub node_string : Form → Params → ℕ → What → Certificate → List ℕ
+abbrev pub node_string : Form → Params → ℕ → Content → Certificate → List ℕ
 node_string form p view what just = form.string p.setup.version view (digest_of just) what
 
-abbrev pub node_digest : Form → Params → ℕ → What → Certificate → List ℕ
+abbrev pub node_digest : Form → Params → ℕ → Content → Certificate → List ℕ
 node_digest form p view what just = digest (node_string form p view what just)
 
 -- ---- statements: the instance, the number of the message, its fields
@@ -64,9 +65,6 @@ inside (Vote phase view d sig) = Root
 
 -- ---- claims, in the order of the bytes
 
-abbrev pub claim : ℕ → List ℕ → List ℕ → Claim
-claim by statement sig = record { by = record { 0 = by }; statement = statement; sig = sig }
-
 abbrev pub vote_claims : List ℕ → List Signed → List Claim
 vote_claims statement [] = []
 vote_claims statement (v ∷ vs) = claim v.by.0 statement v.sig ∷ vote_claims statement vs
@@ -76,5 +74,6 @@ certificate_claims form p Root = []
 certificate_claims form p (Votes view phase d votes) = vote_claims (vote_statement form p phase view d) votes
 
 -- the votes of the certificate inside, then the message's own signature
+-- rule: HotStuff: A message claims the votes of its certificate, then its sender's signature
 abbrev pub claims : Form → Params → ℕ → Message → List Claim
 claims form p from msg = certificate_claims form p (inside msg) ++ claim from (own_statement form p msg) (signature_of msg) ∷ []

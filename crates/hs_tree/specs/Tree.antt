@@ -1,7 +1,7 @@
--- The tree: the string of a node, the nodes that a replica knows, and their branches.
---
--- A node stands on its parent and holds nil, a batch, or a mark, which holds no slot. The root has no content; its digest is
--- that of the empty string.
+-- The tree of HotStuff (Yin and others, 2019): the string of a node, the nodes that a replica knows, and their
+-- branches. A node has a parent and holds nil, a batch, or a mark, which fills no slot. The k-th node of a branch that
+-- is no mark holds the k-th slot of the segment. The root has no content; its digest is that of the empty string.
+-- HotStuff and its chained form differ in the module's tag, the number of phases, and a node's string.
 use Rattle.std.specs.Prelude.{ℕ, suc, ◌+◌, ◌==◌, ◌&&◌, ◌||◌, Bool, List, [], ◌∷◌, ◌++◌, replicate, Option, Some, None, if◌then◌else◌}
 use Rattle.iss_base.specs.Lists.{same_bytes}
 use Rattle.iss_request.specs.Digest.{digest}
@@ -10,18 +10,18 @@ use Rattle.iss_request.specs.declared.ids.Slot.{Slot}
 use Rattle.iss_request.specs.declared.requests.Value.{Value}
 use Rattle.iss_request.specs.declared.requests.Value.TheVariants.{Nil as Value_nil, Batch as Value_batch}
 use Rattle.iss_sb.specs.Statements.{four_bytes}
-use Rattle.raft_wire.specs.declared.entries.What.{What}
-use Rattle.raft_wire.specs.declared.entries.What.TheVariants.{Nil, Holds, Mark}
+use Rattle.iss_sb.specs.declared.content.Content.{Content}
+use Rattle.iss_sb.specs.declared.content.Content.TheVariants.{Nil, Holds, Mark}
 
 -- ---- strings and digests
 
 -- a mark has no value
-abbrev pub value_of : What → Option Value
+abbrev pub value_of : Content → Option Value
 value_of Nil = Some Value_nil
 value_of (Holds b) = Some (Value_batch b)
 value_of Mark = None
 
-abbrev pub kind_of : What → ℕ
+abbrev pub kind_of : Content → ℕ
 kind_of Nil = 0
 kind_of (Holds b) = 1
 kind_of Mark = 2
@@ -39,15 +39,16 @@ abbrev pub root : List ℕ
 root = digest []
 
 -- what a node holds, as it stands in the node's string
-abbrev pub what_bytes : ℕ → What → List ℕ
+abbrev pub what_bytes : ℕ → Content → List ℕ
 what_bytes version what = kind_of what ∷ value_digest version (value_of what)
 
 -- a node that is proposed again in another view is the same node
-abbrev pub plain_string : ℕ → ℕ → List ℕ → What → List ℕ
+-- rule: HotStuff: A node's digest covers its parent, its kind and the digest of its value
+abbrev pub plain_string : ℕ → ℕ → List ℕ → Content → List ℕ
 plain_string version view parent what = 0x41 ∷ parent ++ what_bytes version what
 
 -- where a node has one view
-abbrev pub viewed_string : ℕ → ℕ → List ℕ → What → List ℕ
+abbrev pub viewed_string : ℕ → ℕ → List ℕ → Content → List ℕ
 viewed_string version view parent what = 0x44 ∷ four_bytes view ++ parent ++ what_bytes version what
 
 -- what HotStuff and its chained form differ in: the module's tag, how many phases a node passes, and, by a version, the
@@ -55,7 +56,7 @@ viewed_string version view parent what = 0x44 ∷ four_bytes view ++ parent ++ w
 pub record Form : Type 0 where
   pub tag : ℕ
   pub phases : ℕ
-  pub string : ℕ → ℕ → List ℕ → What → List ℕ
+  pub string : ℕ → ℕ → List ℕ → Content → List ℕ
 
 abbrev pub basic : Form
 basic = record { tag = 4; phases = 3; string = plain_string }
@@ -71,14 +72,14 @@ pub record Node : Type 0 where
   -- its justification: view and digest of the parent
   pub from : ℕ
   pub parent : List ℕ
-  pub what : What
+  pub what : Content
 
 abbrev pub is_known : List Node → List ℕ → Bool
 is_known [] d = same_bytes d root
 is_known (k ∷ ks) d = same_bytes k.digest d || is_known ks d
 
 -- what stands from the node up to the root
-abbrev pub branch : List Node → List ℕ → List What
+abbrev pub branch : List Node → List ℕ → List Content
 branch [] d = []
 branch (k ∷ ks) d = if same_bytes k.digest d then k.what ∷ branch ks k.parent else branch ks d
 
@@ -90,24 +91,24 @@ extends (k ∷ ks) d e = same_bytes d e || (if same_bytes k.digest d then extend
 -- ---- the slots of a branch, which is kept newest first
 
 -- how many slots a node holds
-abbrev pub weight : What → ℕ
+abbrev pub weight : Content → ℕ
 weight Nil = 1
 weight (Holds b) = 1
 weight Mark = 0
 
-abbrev pub filled : List What → ℕ
+abbrev pub filled : List Content → ℕ
 filled [] = 0
 filled (c ∷ cs) = weight c + filled cs
 
-abbrev pub value_here : ℕ → ℕ → What → Option Value → Option Value
+abbrev pub value_here : ℕ → ℕ → Content → Option Value → Option Value
 value_here k n c below = if (k == n) && (weight c == 1) then value_of c else below
 
 -- the value at the place, from 0 at the root on
-abbrev pub value_at : List What → ℕ → Option Value
+abbrev pub value_at : List Content → ℕ → Option Value
 value_at [] k = None
 value_at (c ∷ cs) k = value_here k (filled cs) c (value_at cs k)
 
 -- the value at the slot of this number, where the first of the slots has place k
-abbrev pub value_at_slot : List What → ℕ → List Slot → ℕ → Option Value
+abbrev pub value_at_slot : List Content → ℕ → List Slot → ℕ → Option Value
 value_at_slot cs k [] s = None
 value_at_slot cs k (t ∷ ts) s = if t.0 == s then value_at cs k else value_at_slot cs (suc k) ts s

@@ -1,23 +1,16 @@
 //! Certificates: that so many nodes voted, and their bytes.
-ghost use Rattle.std.specs.Prelude.{◌≡◌, ◌<◌, ◌≤◌, ℕ, List, true, length, IfOk, OnOk, Err};
-ghost use Rattle.std.specs.List.{flat_map, list_all};
+ghost use Rattle.std.specs.Prelude.{◌≡◌, ◌<◌, ◌≤◌, ℕ, List, length, IfOk, OnOk, Err};
 ghost use Rattle.iss_request.specs.Fields.{IsRead, IsUnreadable, and_bytes};
-ghost use Rattle.iss_request.specs.Formats.{is_signature};
 ghost use Rattle.iss_request.specs.Parsing.{block, byte, such_that};
-ghost use Rattle.hs_tree.specs.Certificates.{digest_of, fits, is_phase, is_quorum, is_rising, is_signed, parse_certificate, parse_signed, parse_signers, parse_votes, spell_certificate, spell_signed, view_of, votes_row};
+ghost use Rattle.iss_request.specs.Formats.{is_signature};
+ghost use Rattle.hs_tree.specs.Certificates.{digest_of, fits, is_phase, is_quorum, is_rising, parse_certificate, parse_votes, spell_certificate, view_of, votes_row};
 
-use iss_request::{Bytes, DecodeError, Fields, NoMemory, NodeId, Seq, Writer, read_signature};
+use iss_request::{DecodeError, Fields, NoMemory, Seq, Writer};
+use iss_sb::{Signed, are_signers, copy_signers, put_signers, read_signers};
 use std::alloc::Global;
 
 // What stands for a certificate without a spelling: view 1, and no phase.
 const NO_CERTIFICATE: [u8; 5] = [0, 0, 0, 1, 0];
-
-/// A node's signature.
-#[derive(Drop)]
-pub struct Signed {
-    pub by: NodeId,
-    pub sig: Bytes,
-}
 
 /// That nodes voted for the tree node of this digest, in a view and a phase of it; or that it is the root, for which nobody votes.
 #[derive(Drop)]
@@ -29,28 +22,6 @@ pub enum Certificate {
         digest: [u8; 32],
         votes: Seq<Signed>,
     },
-}
-
-impl Signed {
-    /// Another with equal content.
-    pub fn copy(&self) -> Result<Signed, NoMemory>
-        ensures { IfOk result (λ v. v ≡ self.now) }
-    {
-        let sig = self.sig.copy()?;
-        Ok(Signed { by: self.by, sig })
-    }
-}
-
-// Other votes with equal content.
-fn copy_votes(alloc: Global, votes: &[Signed]) -> Result<Seq<Signed>, NoMemory>
-    ensures { IfOk result (λ vs. vs ≡ votes.now) }
-{
-    let mut copies = Seq::new(alloc);
-    for vote in votes {
-        let copy = vote.copy()?;
-        copies.push(copy)?;
-    }
-    Ok(copies)
 }
 
 impl Certificate {
@@ -86,7 +57,7 @@ impl Certificate {
                 digest,
                 votes,
             } => {
-                let votes = copy_votes(alloc, votes.as_slice())?;
+                let votes = copy_signers(alloc, votes.as_slice())?;
                 Ok(Certificate::Votes {
                     view: *view,
                     phase: *phase,
@@ -118,18 +89,6 @@ impl Certificate {
     }
 }
 
-/// Whether bytes have the shape of a signature: a height, a leaf, 67 digests and one for each level.
-pub fn has_shape(sig: &[u8]) -> bool
-    ensures { result ≡ is_signature sig.now }
-{
-    match sig {
-        [] => false,
-        [height, rest @ ..] => {
-            2 <= *height && *height <= 12 && rest.len() == 4 + 32 * (67 + *height as usize)
-        }
-    }
-}
-
 /// Whether a vote is of one of so many phases.
 pub fn is_phase(phases: u8, phase: u8) -> bool
     ensures { result ≡ is_phase phases phase }
@@ -153,15 +112,6 @@ fn are_rising(from: u16, votes: &[Signed]) -> bool
     }
 }
 
-fn are_signed(votes: &[Signed]) -> bool
-    ensures { result ≡ list_all is_signed votes.now }
-{
-    match votes {
-        [] => true,
-        [first, others @ ..] => has_shape(first.sig.as_slice()) && are_signed(others),
-    }
-}
-
 // Whether votes have a spelling in a certificate.
 fn has_spelling(phases: u8, view: u32, phase: u8, digest: &[u8; 32], votes: &[Signed]) -> bool
     ensures { result ≡ fits phases view phase digest.now votes.now }
@@ -169,23 +119,7 @@ fn has_spelling(phases: u8, view: u32, phase: u8, digest: &[u8; 32], votes: &[Si
     if view == 0 || !is_phase(phases, phase) || votes.len() > 255 {
         return false;
     }
-    are_rising(0, votes) && are_signed(votes)
-}
-
-fn write_signed(vote: &Signed, out: &mut Writer) -> Result<(), NoMemory>
-    ensures { OnOk result (out.new ≡ and_bytes out.old (spell_signed vote.now)) }
-{
-    out.put_u8(vote.by.0)?;
-    out.put_bytes(vote.sig.as_slice())
-}
-
-fn write_signers(votes: &[Signed], out: &mut Writer) -> Result<(), NoMemory>
-    ensures { OnOk result (out.new ≡ and_bytes out.old (flat_map spell_signed votes.now)) }
-{
-    for vote in votes {
-        write_signed(vote, out)?;
-    }
-    Ok(())
+    are_signers(0, votes)
 }
 
 fn write_votes(
@@ -202,7 +136,7 @@ fn write_votes(
     out.put_u8(phase)?;
     out.put_bytes(digest)?;
     out.put_u8(votes.len() as u8)?;
-    write_signers(votes, out)
+    put_signers(votes, out)
 }
 
 /// Writes a certificate, where nodes pass so many phases. One that has no spelling is written as bytes that no reader takes.
@@ -232,24 +166,6 @@ pub fn write_certificate(
 
 // ---- reading
 
-/// Reads a digest.
-pub fn read_digest(f: &mut Fields) -> Result<[u8; 32], DecodeError>
-    ensures ok { IfOk result (λ d. IsRead (block 32) f.old f.new d) }
-    ensures bad { (at : ℕ) → result ≡ Err (DecodeError.BadField at) → IsUnreadable (block 32) f.old at }
-{
-    let bytes = f.read_bytes(32)?;
-    Ok(array_of(bytes))
-}
-
-fn array_of(bytes: &[u8]) -> [u8; 32]
-    requires { length bytes.now ≡ 32 }
-    ensures { result ≡ bytes.now }
-{
-    let mut digest = [0; 32];
-    digest.copy_from_slice(bytes);
-    digest
-}
-
 /// Reads a phase.
 pub fn read_phase(phases: u8, f: &mut Fields) -> Result<u8, DecodeError>
     ensures ok { IfOk result (λ n. IsRead (such_that (is_phase phases) byte) f.old f.new n) }
@@ -263,36 +179,6 @@ pub fn read_phase(phases: u8, f: &mut Fields) -> Result<u8, DecodeError>
     Ok(phase)
 }
 
-fn read_signed(alloc: Global, from: u16, f: &mut Fields) -> Result<Signed, DecodeError>
-    ensures ok { IfOk result (λ v. IsRead (parse_signed from) f.old f.new v) }
-    ensures bad { (at : ℕ) → result ≡ Err (DecodeError.BadField at) → IsUnreadable (parse_signed from) f.old at }
-{
-    let too_low = f.bad_field();
-    let by = f.read_u8()?;
-    if (by as u16) < from {
-        return Err(too_low);
-    }
-    let sig = read_signature(alloc, f)?;
-    Ok(Signed {
-        by: NodeId(by),
-        sig,
-    })
-}
-
-fn read_signers(alloc: Global, count: u8, f: &mut Fields) -> Result<Seq<Signed>, DecodeError>
-    ensures ok { IfOk result (λ votes. IsRead (parse_signers count 0) f.old f.new votes) }
-    ensures bad { (at : ℕ) → result ≡ Err (DecodeError.BadField at) → IsUnreadable (parse_signers count 0) f.old at }
-{
-    let mut votes = Seq::new(alloc);
-    let mut from: u16 = 0;
-    for _ in 0..count {
-        let vote = read_signed(alloc, from, f)?;
-        from = vote.by.0 as u16 + 1;
-        votes.push(vote)?;
-    }
-    Ok(votes)
-}
-
 fn read_votes(
     alloc: Global,
     phases: u8,
@@ -304,7 +190,7 @@ fn read_votes(
     ensures bad { (at : ℕ) → result ≡ Err (DecodeError.BadField at) → IsUnreadable (parse_votes phases view) f.old at }
 {
     let phase = read_phase(phases, f)?;
-    let digest = read_digest(f)?;
+    let digest = f.read_digest()?;
     let count = f.read_u8()?;
     let votes = read_signers(alloc, count, f)?;
     Ok(Certificate::Votes {

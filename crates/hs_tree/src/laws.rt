@@ -4,7 +4,7 @@ ghost use Rattle.iss_base.specs.Lists.{In};
 ghost use Rattle.iss_base.specs.Quorum.{distinct};
 ghost use Rattle.iss_request.specs.Fields.{Good, IsGrammar};
 ghost use Rattle.iss_sb.specs.Evidence.{Separate};
-ghost use Rattle.raft_wire.specs.declared.entries.What.{What};
+ghost use Rattle.iss_sb.specs.declared.content.Content.{Content};
 ghost use Rattle.hs_tree.specs.Certificates.{is_quorum, signers, votes_in};
 ghost use Rattle.hs_tree.specs.Messages.{IsSpelledMessage, parse, spell};
 ghost use Rattle.hs_tree.specs.Paths.{IsTree, Path};
@@ -34,6 +34,6 @@ pub fn certificates_count_nodes()
 pub fn one_digest_one_branch()
     ensures leads { (version : ℕ) (hashed : List (List ℕ)) (ks : List Node) (d : List ℕ) → IsTree version (λ s. In s hashed) ks →
         is_known ks d ≡ true → Path version (λ s. In s hashed) d root (branch ks d) }
-    ensures one { (version : ℕ) (hashed : List (List ℕ)) (d : List ℕ) (xs ys : List What) → Separate (λ s. In s hashed) → In [] hashed →
+    ensures one { (version : ℕ) (hashed : List (List ℕ)) (d : List ℕ) (xs ys : List Content) → Separate (λ s. In s hashed) → In [] hashed →
         Path version (λ s. In s hashed) d root xs → Path version (λ s. In s hashed) d root ys → xs ≡ ys }
 {}

@@ -10,7 +10,7 @@ pub mod signing;
 pub mod tree;
 pub mod wire;
 
-pub use certificates::{Certificate, Signed};
+pub use certificates::Certificate;
 pub use laws::{certificates_count_nodes, messages_are_exact, one_digest_one_branch};
 pub use messages::Message;
 pub use tree::Tree;

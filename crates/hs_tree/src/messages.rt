@@ -1,7 +1,7 @@
 //! The messages of HotStuff.
 use crate::certificates::Certificate;
 use iss_request::Bytes;
-use raft_wire::What;
+use iss_sb::Content;
 
 /// What nodes say to each other, each under its sender's signature: that a round has begun, with the highest certificate
 /// that the sender knows; a proposal on the node of a certificate; the certificates of the three phases; and a vote.
@@ -14,7 +14,7 @@ pub enum Message {
     },
     Prepare {
         view: u32,
-        what: What,
+        what: Content,
         just: Certificate,
         sig: Bytes,
     },

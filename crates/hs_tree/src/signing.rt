@@ -1,62 +1,37 @@
 //! What is hashed of a node of the tree, and what is signed.
 ghost use Rattle.std.specs.Prelude.{◌≡◌, ℕ, ◌++◌, IfOk, OnOk};
-ghost use Rattle.iss_request.specs.Formats.{value_string};
-ghost use Rattle.iss_request.specs.declared.requests.Value.TheVariants.{Nil as Value_nil, Batch as Value_batch};
 ghost use Rattle.iss_sb.specs.Evidence.{one_or_none};
-ghost use Rattle.iss_sb.specs.Statements.{four_bytes, two_bytes};
+ghost use Rattle.iss_sb.specs.Statements.{claim, four_bytes, two_bytes};
 ghost use Rattle.hs_tree.specs.Hashed.{IsHashed};
-ghost use Rattle.hs_tree.specs.Statements.{certificate_claims, claim, statement, vote_claims, vote_statement};
+ghost use Rattle.hs_tree.specs.Statements.{certificate_claims, statement, vote_claims, vote_statement};
 ghost use Rattle.hs_tree.specs.Tree.{Form, kind_of, plain_string, strings_of, value_digest, value_of};
 
-use crate::certificates::{Certificate, Signed};
+use crate::certificates::Certificate;
 use crate::wire::{NEW_VIEW, VOTE};
-use iss_request::values::write_batch;
-use iss_request::{Batch, Bytes, NoMemory, Seq, Writer, version_byte};
-use iss_sb::{Claim, Params, put_head};
-use raft_wire::What;
+use iss_request::{Bytes, NoMemory, Seq, Value, Writer, batch_string, value_string};
+use iss_sb::{Claim, Content, Params, Signed, put_head};
 use sha2::{Digest, Sha256};
 use std::alloc::Global;
 
-// The byte before a value that is hashed, and before a node.
-pub(crate) const VALUE: u8 = 0x40;
-
+// The byte before a node that is hashed.
 pub(crate) const NODE: u8 = 0x41;
 
 // ---- what is hashed
 
-fn nil_string(alloc: Global, version: u8) -> Result<Bytes, NoMemory>
-    ensures { IfOk result (λ s. s ≡ value_string version Value_nil) }
-{
-    let mut out = Writer::new(alloc, version);
-    out.put_u8(VALUE)?;
-    out.put_u8(0)?;
-    Ok(out.into_bytes())
-}
-
-fn batch_string(alloc: Global, version: u8, batch: &Batch) -> Result<Bytes, NoMemory>
-    ensures { IfOk result (λ s. s ≡ value_string version (Value_batch batch.now)) }
-{
-    let mut out = Writer::new(alloc, version);
-    out.put_u8(VALUE)?;
-    out.put_u8(version_byte(version))?;
-    write_batch(batch, &mut out)?;
-    Ok(out.into_bytes())
-}
-
 /// The string of the value that a node holds; a mark has none.
-pub fn held_string(alloc: Global, version: u8, what: &What) -> Result<Option<Bytes>, NoMemory>
+pub fn held_string(alloc: Global, version: u8, what: &Content) -> Result<Option<Bytes>, NoMemory>
     ensures { IfOk result (λ s. one_or_none s ≡ strings_of version (value_of what.now)) }
 {
     match what {
-        What::Nil => Ok(Some(nil_string(alloc, version)?)),
-        What::Holds(batch) => Ok(Some(batch_string(alloc, version, batch)?)),
-        What::Mark => Ok(None),
+        Content::Nil => Ok(Some(value_string(alloc, version, &Value::Nil)?)),
+        Content::Holds(batch) => Ok(Some(batch_string(alloc, version, batch)?)),
+        Content::Mark => Ok(None),
     }
 }
 
 /// The digest of the value that a node holds, by its string; zeros for a mark. The directory remembers it, since each node asks
 /// for it more than once.
-pub fn held_digest(p: &Params, what: &What, string: &Option<Bytes>) -> [u8; 32]
+pub fn held_digest(p: &Params, what: &Content, string: &Option<Bytes>) -> [u8; 32]
     requires { one_or_none string.now ≡ strings_of p.now.setup.version (value_of what.now) }
     ensures { result ≡ value_digest p.now.setup.version (value_of what.now) }
 {
@@ -67,22 +42,23 @@ pub fn held_digest(p: &Params, what: &What, string: &Option<Bytes>) -> [u8; 32]
 }
 
 // What a node holds, as a number.
-pub(crate) fn kind_of(what: &What) -> u8
+pub(crate) fn kind_of(what: &Content) -> u8
     ensures { result ≡ kind_of what.now }
 {
     match what {
-        What::Nil => 0,
-        What::Holds(_) => 1,
-        What::Mark => 2,
+        Content::Nil => 0,
+        Content::Holds(_) => 1,
+        Content::Mark => 2,
     }
 }
 
 /// The string of the node with this content on a parent, by the digest of the content's value.
+// rule: HotStuff: A node's digest covers its parent, its kind and the digest of its value
 pub fn node_string(
     alloc: Global,
     version: u8,
     parent: &[u8; 32],
-    what: &What,
+    what: &Content,
     held: &[u8; 32],
 ) -> Result<Bytes, NoMemory>
     requires { held.now ≡ value_digest version (value_of what.now) }
@@ -108,7 +84,7 @@ pub fn hash_node(
     alloc: Global,
     p: &Params,
     parent: &[u8; 32],
-    what: &What,
+    what: &Content,
 ) -> Result<Hashed, NoMemory>
     ensures { IfOk result (λ h. (view : ℕ) → IsHashed p.now.setup.version view parent.now what.now h) }
 {

@@ -8,7 +8,7 @@ ghost use Rattle.hs_tree.specs.Known.{Keeps, Leads, known_at, meets, place, valu
 ghost use Rattle.hs_tree.specs.Tree.{Node, branch, extends, filled, is_known, value_of, weight};
 
 use iss_request::{NoMemory, Seq, Value};
-use raft_wire::What;
+use iss_sb::Content;
 use std::alloc::Global;
 use std::collections::BTreeMap;
 
@@ -20,7 +20,7 @@ const ROOT: [u8; 32] = [0; 32];
 #[derive(Drop)]
 pub struct Known {
     parent: [u8; 32],
-    what: What,
+    what: Content,
     above: Option<usize>,
     depth: usize,
     slots: usize,
@@ -41,23 +41,23 @@ pub fn same(a: &[u8; 32], b: &[u8; 32]) -> bool
 }
 
 /// How many slots a content fills.
-pub fn weight(what: &What) -> usize
+pub fn weight(what: &Content) -> usize
     ensures { result ≡ weight what.now }
 {
     match what {
-        What::Mark => 0,
+        Content::Mark => 0,
         _ => 1,
     }
 }
 
 // Puts the value that a node holds behind others; a mark has none.
-fn put_value(what: &What, found: &mut Vec<Value>) -> Result<(), NoMemory>
+fn put_value(what: &Content, found: &mut Vec<Value>) -> Result<(), NoMemory>
     ensures { OnOk result (found.new.items ≡ found.old.items ++ one_or_none (value_of what.now)) }
 {
     match what {
-        What::Nil => Ok(found.push(Value::Nil)?),
-        What::Holds(batch) => Ok(found.push(Value::Batch(batch.copy()?))?),
-        What::Mark => Ok(()),
+        Content::Nil => Ok(found.push(Value::Nil)?),
+        Content::Holds(batch) => Ok(found.push(Value::Batch(batch.copy()?))?),
+        Content::Mark => Ok(()),
     }
 }
 
@@ -184,7 +184,8 @@ impl Tree {
     }
 
     /// One node more, which stands on the newest of its parent's digest.
-    pub fn add(&mut self, digest: [u8; 32], parent: [u8; 32], what: What) -> Result<(), NoMemory>
+    // rule: HotStuff: A branch is what its nodes hold, even where a digest repeats
+    pub fn add(&mut self, digest: [u8; 32], parent: [u8; 32], what: Content) -> Result<(), NoMemory>
         ensures { OnOk result ((k : Node) (ks : List Node) → k.digest ≡ digest → k.parent ≡ parent → k.what ≡ what →
             Keeps self.old ks → Keeps self.new (k ∷ ks)) }
     {

@@ -5,13 +5,10 @@ ghost use Rattle.hs_tree.specs.declared.certificates.Certificate.{Certificate};
 ghost use Rattle.hs_tree.specs.declared.messages.Message.{Message};
 ghost use Rattle.hs_tree.specs.Messages.{is_message, parse, parse_new_view, parse_prepare, parse_shown, parse_vote, spell, spell_shown};
 
-use crate::certificates::{
-    Certificate, has_shape, is_phase, read_certificate, read_digest, read_phase, write_certificate,
-};
+use crate::certificates::{Certificate, is_phase, read_certificate, read_phase, write_certificate};
 use crate::messages::Message;
-use iss_request::{Bytes, DecodeError, Fields, NoMemory, Writer, read_signature};
-use raft_wire::What;
-use raft_wire::entries::{read_what, write_what};
+use iss_request::{Bytes, DecodeError, Fields, NoMemory, Writer, has_shape, read_signature};
+use iss_sb::{Content, read_content, write_content};
 use std::alloc::Global;
 
 const NO_MESSAGE: u8 = 0;
@@ -38,6 +35,7 @@ pub const VOTE: u8 = 6;
 
 /// Writes a message, where nodes pass so many phases: its number, its fields, its signature. One that has no spelling is
 /// written as bytes that no reader takes.
+// rule: HotStuff: A message has one encoding for its number of phases and version
 pub fn write(phases: u8, msg: &Message, out: &mut Writer) -> Result<(), NoMemory>
     ensures { OnOk result (out.new ≡ and_bytes out.old (spell phases out.old.version msg.now)) }
 {
@@ -89,7 +87,7 @@ fn write_new_view(
 fn write_prepare(
     phases: u8,
     view: u32,
-    what: &What,
+    what: &Content,
     just: &Certificate,
     sig: &Bytes,
     out: &mut Writer,
@@ -102,7 +100,7 @@ fn write_prepare(
     }
     out.put_u8(PREPARE)?;
     out.put_u32(view)?;
-    write_what(what, out)?;
+    write_content(what, out)?;
     write_certificate(phases, just, out)?;
     out.put_bytes(sig)
 }
@@ -218,7 +216,7 @@ fn read_prepare(alloc: Global, phases: u8, f: &mut Fields) -> Result<Message, De
     ensures bad { (at : ℕ) → result ≡ Err (DecodeError.BadField at) → IsUnreadable (parse_prepare phases f.old.version) f.old at }
 {
     let view = f.read_u32()?;
-    let what = read_what(alloc, f)?;
+    let what = read_content(alloc, f)?;
     let just = read_certificate(alloc, phases, f)?;
     let sig = read_signature(alloc, f)?;
     Ok(Message::Prepare {
@@ -255,7 +253,7 @@ fn read_vote(alloc: Global, phases: u8, f: &mut Fields) -> Result<Message, Decod
 {
     let phase = read_phase(phases, f)?;
     let view = f.read_u32()?;
-    let digest = read_digest(f)?;
+    let digest = f.read_digest()?;
     let sig = read_signature(alloc, f)?;
     Ok(Message::Vote {
         phase,

@@ -14,7 +14,7 @@ use Rattle.iss_checkpoint.specs.Votes.{Voters, is_signed, statement_of}
 use Rattle.iss_checkpoint.specs.declared.tallies.Refusal.{Refusal}
 use Rattle.iss_checkpoint.specs.declared.tallies.Refusal.TheVariants.{BadSignature as Unsigned, OtherEpoch, Twice}
 use Rattle.iss_checkpoint.specs.declared.votes.Cert.{Cert}
-use Rattle.iss_checkpoint.specs.declared.votes.Signed.{Signed}
+use Rattle.iss_sb.specs.declared.signers.Signed.{Signed}
 use Rattle.iss_checkpoint.specs.declared.votes.Vote.{Vote}
 use Rattle.iss_rules.specs.Votes.{cert_on, keeping, vote_by}
 

@@ -1,7 +1,7 @@
 -- What packets hold, and what is claimed in them.
 use Rattle.std.proofs.Common.{◌≡◌, ℕ, ◌+◌, ◌<◌, List, [], ◌∷◌, ◌++◌, Some, None, length, take, get_or, refl, sym, ap, ◌∙◌, add-one}
 use Rattle.std.proofs.Math.Seq.{take-suc}
-use Rattle.iss_checkpoint.specs.declared.votes.Signed.{Signed}
+use Rattle.iss_sb.specs.declared.signers.Signed.{Signed}
 use Rattle.iss_rules.specs.Formats.{whole}
 use Rattle.iss_rules.specs.Votes.{claims_by}
 use Rattle.iss_request.specs.Fields.{Bad, Good, IsBad, Parsed}

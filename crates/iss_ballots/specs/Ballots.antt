@@ -1,4 +1,6 @@
--- What is held of the votes on each epoch, and which lists of votes and certificates that stands for.
+-- What a node holds of the votes on each epoch: a tally, or a certificate once there is one. It is compared with the
+-- model's lists by look-ups alone: the certificate of each epoch, and without one each node's vote. A vote is refused
+-- for the first test that fails. If it completes a quorum, the certificate is made of all votes that say the same.
 use Rattle.std.specs.Prelude.{◌≡◌, ◌⊎◌, ℕ, ◌||◌, ◌==◌, cond, Bool, false, true, List, [], ◌∷◌, ◌++◌, length, Option, Some, None, is_some, slice_get}
 use Rattle.iss_ballots.specs.declared.ballots.Ballot.{Ballot}
 use Rattle.iss_ballots.specs.declared.ballots.Ballot.TheVariants.{Open, Stable}

@@ -73,6 +73,7 @@ impl Ballots {
 
     /// Takes a vote: it is counted, unless its signature is not true, or its signer's vote was counted, or the epoch has its
     /// certificate. The one that makes its like a quorum gives the epoch its certificate.
+    // rule: Checkpoints: The vote that completes a quorum gives the epoch's certificate; no later one does
     pub fn take(&mut self, vote: Vote) -> Result<Taking, NoMemory>
         ensures taken { IfOk result (λ t. (votes : List Voted) (certs : List Certificate) →
             AreKept self.old votes certs → IsTaken votes certs vote self.new t) }
@@ -87,6 +88,7 @@ impl Ballots {
     }
 
     /// Keeps a certificate, unless one of its epoch is kept.
+    // rule: Checkpoints: Of each epoch the first certificate is kept, counted or adopted
     pub fn keep(&mut self, cert: Cert) -> Result<(), NoMemory>
         ensures kept { OnOk result ((votes : List Voted) (certs : List Certificate) → AreKept self.old votes certs →
             AreKept self.new votes (keeping certs cert (cert_on certs cert.epoch.0))) }

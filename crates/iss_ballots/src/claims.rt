@@ -4,9 +4,9 @@ ghost use Rattle.iss_ballots.specs.Claims.{claim_by};
 ghost use Rattle.iss_checkpoint.specs.Votes.{vote_statement};
 ghost use Rattle.iss_rules.specs.Votes.{claims_by};
 
-use iss_checkpoint::{Cert, Signed, Vote, vote_statement};
+use iss_checkpoint::{Cert, Vote, vote_statement};
 use iss_request::{Bytes, NoMemory, Seq};
-use iss_sb::Claim;
+use iss_sb::{Claim, Signed};
 use std::alloc::Global;
 
 /// What a vote claims in the cluster of a tag.

@@ -5,9 +5,10 @@ ghost use Rattle.iss_rules.specs.Formats.{whole};
 ghost use Rattle.iss_packet.specs.Packets.{spell_packet};
 ghost use Rattle.iss_transfer.specs.Bodies.{parse_ask, parse_piece, spell_piece};
 
-use iss_checkpoint::{Cert, Signed, Vote, decode_vote, encode_vote};
+use iss_checkpoint::{Cert, Vote, decode_vote, encode_vote};
 use iss_packet::{Packet, PacketKind};
-use iss_request::{Bytes, DecodeError, Epoch, NoMemory, NodeId, Seq};
+use iss_request::{Bytes, DecodeError, Epoch, NoMemory, NodeId};
+use iss_sb::copy_signers;
 use iss_transfer::{Ask, Piece, decode_ask, decode_piece, encode_piece};
 use std::alloc::Global;
 
@@ -107,17 +108,6 @@ pub fn copy_of_cert(alloc: Global, cert: &Cert) -> Result<Cert, NoMemory>
         epoch: cert.epoch,
         chain: cert.chain,
         requests: cert.requests,
-        signers: copy_of_signers(alloc, cert.signers.as_slice())?,
+        signers: copy_signers(alloc, cert.signers.as_slice())?,
     })
-}
-
-fn copy_of_signers(alloc: Global, signers: &[Signed]) -> Result<Seq<Signed>, NoMemory>
-    ensures { IfOk result (λ xs. xs ≡ signers.now) }
-{
-    let mut copies = Seq::new(alloc);
-    for signed in signers {
-        let sig = signed.sig.copy()?;
-        copies.push(Signed { by: signed.by, sig })?;
-    }
-    Ok(copies)
 }

@@ -1,4 +1,5 @@
--- How the waiting requests are kept: each under the number by which it came, and for each bucket the numbers of its requests.
+-- How the code keeps waiting requests: each under the number of its arrival, and for each bucket the strictly
+-- ascending numbers of its requests. The next request of a bucket is the first from a number on that passes a test.
 use Rattle.std.specs.Prelude.{◌≡◌, ℕ, suc, min, not, ◌+◌, ◌%◌, ◌<◌, ◌≤◌, ◌==◌, ◌&&◌, Bool, true, false, if◌then◌else◌, List, [], ◌∷◌, length, get_or, Option, Some, None}
 use Rattle.std.specs.List.{list_any}
 use Rattle.std.specs.Map.{lookup}

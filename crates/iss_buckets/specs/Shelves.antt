@@ -1,4 +1,4 @@
--- What a shelf keeps beside its requests.
+-- What the code keeps beside the waiting requests: a number above all of theirs, and the number of each identity.
 use Rattle.std.specs.Prelude.{◌≡◌, ℕ, ◌<◌, ◌^◌, List, Some}
 use Rattle.std.specs.Map.{lookup}
 use Rattle.iss_request.specs.Log.{same_id}

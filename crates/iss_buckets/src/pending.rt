@@ -64,6 +64,7 @@ impl Pending {
 
     /// Adds a request at the end, unless its identity waits already. The only error is out of memory, and then nothing
     /// changes.
+    // rule: Buckets: A request waits at most once, in order of arrival
     pub fn add(&mut self, request: Request) -> Result<Added, NoMemory>
         ensures known { (result ≡ Ok Added.Known) ↔ (waits request.id self.old ≡ true) }
         ensures known_same { result ≡ Ok Added.Known → self.new ≡ self.old }
@@ -79,6 +80,7 @@ impl Pending {
 
     /// Takes out the first `max` requests, in order of arrival, whose bucket `owner` owns and whose identity is not
     /// marked. The only error is out of memory.
+    // rule: Buckets: A batch takes the first waiting requests of the leader's buckets that are not marked
     pub fn cut(
         &mut self,
         alloc: Global,
@@ -112,6 +114,7 @@ impl Pending {
     }
 
     /// Adds requests at the end. Their identities must be different, and none of them may wait.
+    // rule: Buckets: Requests that return wait behind all others
     pub fn put_back(&mut self, batch: &Batch) -> Result<(), NoMemory>
         requires { AreNew self.old batch.now }
         ensures { OnOk result (self.new ≡ self.old ++ batch.now) }
@@ -120,6 +123,7 @@ impl Pending {
     }
 
     /// Removes the requests whose identity is in the batch.
+    // rule: Buckets: A request that enters the log waits no more
     pub fn drop_ordered(&mut self, batch: &Batch)
         ensures { self.new ≡ absent (ids batch.now) self.old }
     {

@@ -1,21 +1,23 @@
 -- A certificate has at most one encoding, and bytes decode to a certificate exactly if the table relates them.
-use Rattle.std.proofs.Common.{◌≡◌, ◌↔◌, inl, inr, ℕ, suc, ◌<◌, ◌^◌, ◌==◌, ◌&&◌, Bool, true, false, List, [], ◌∷◌, ◌++◌, length, replicate, append_assoc, append-nil, refl, sym, ap, ◌∙◌, subst, ◌⊎◌, arith}
+use Rattle.std.proofs.Common.{◌≡◌, ◌↔◌, inl, inr, ℕ, ◌<◌, ◌^◌, ◌==◌, ◌&&◌, Bool, true, false, List, [], ◌∷◌, ◌++◌, length, replicate, append_assoc, append-nil, refl, sym, ap, ◌∙◌, subst, ◌⊎◌, arith}
 use Rattle.std.specs.Prelude.{nat_le, nat_lt}
 use Rattle.std.specs.Int.{to_be_bytes, w64}
 use Rattle.std.specs.List.{flat_map}
-use Rattle.std.proofs.lemmas.Bool.{le-leb, leb-true, lt-ltb, ltb-true}
+use Rattle.std.proofs.lemmas.Bool.{lt-ltb, ltb-true}
 use Rattle.std.proofs.lemmas.Bool.Decides.{Decides-eqb}
 use Rattle.iss_base.proofs.Lists.{and-true, both}
 use Rattle.iss_request.specs.Fields.{Good, IsBad, IsReadAgain}
-use Rattle.iss_request.specs.Formats.{is_signature, parse_signature}
+use Rattle.iss_request.specs.Formats.{parse_signature}
 use Rattle.iss_request.specs.Parsing.{Parser, ◌>>=◌, block, byte, done, number, such_that}
 use Rattle.iss_request.proofs.OneSpelling.{done_good}
 use Rattle.iss_request.proofs.ParserLemmas.{block_again, block_parts, byte_again, byte_parts, done_parts, first_bad, number_again, number_parts, test_parts, test_passed, then_bad, then_good, then_parts, wide64}
+use Rattle.iss_sb.specs.Ascending.{ascending}
+use Rattle.iss_sb.specs.Signers.{are_signers, parse_signed, parse_signers, spell_signed}
 use Rattle.iss_sb.proofs.Fields.{few}
-use Rattle.iss_sb.proofs.Signers.{IsSignersGrammar, after_by, from_on, signers-again, signers-parts}
+use Rattle.iss_sb.proofs.SignerGrammar.{signers-again, signers-are, signers-fit, signers-parts}
 use Rattle.iss_checkpoint.specs.declared.votes.Cert.{Cert}
-use Rattle.iss_checkpoint.specs.declared.votes.Signed.{Signed}
-use Rattle.iss_checkpoint.specs.Certificates.{AreRising, IsSpelledCert, are_rising, cert_fits, cert_row, no_cert, parse_cert, parse_signed, parse_signers, spell_cert, spell_signed}
+use Rattle.iss_sb.specs.declared.signers.Signed.{Signed}
+use Rattle.iss_checkpoint.specs.Certificates.{IsSpelledCert, cert_fits, cert_row, no_cert, parse_cert, spell_cert}
 use Rattle.iss_checkpoint.proofs.VoteGrammar.{low-never}
 
 -- ---- the parsers, field by field
@@ -40,56 +42,25 @@ parse_cert-is e = refl
 same-parser : {A : Type 0} (p q : Parser A) (bytes : List ℕ) → p ≡ q → p bytes ≡ q bytes
 same-parser p q bytes e = ap (λ f. f bytes) e
 
--- ---- signers are nodes that rise, each with its signature
-
-abbrev signed : ℕ → List ℕ → Signed
-signed by sig = record { by = record { 0 = by }; sig = sig }
-
-pub signers-grammar : IsSignersGrammar (λ (x : Signed). x.by.0) (λ (x : Signed). x.sig) signed AreRising parse_signed parse_signers
-unfolding parse_signed parse_signers
-signers-grammar = record {
-  whole = λ x. refl;
-  node_is = λ by s. refl;
-  sig_is = λ by s. refl;
-  none_rise = λ from. tt;
-  first_rises = λ from x xs le shape more. (le, shape, more);
-  rises = λ from x xs h. h;
-  one_is = λ from. refl;
-  none_is = λ from. refl;
-  more_is = λ count from. refl;
-}
-
-rising-is : (from : ℕ) (xs : List Signed) → AreRising from xs → are_rising from xs ≡ true
-rising-is from [] h = refl
-rising-is from (x ∷ xs) h =
-    both (nat_le from x.by.0) (is_signature x.sig && are_rising (suc x.by.0) xs) (le-leb from x.by.0 h.0) (both (is_signature x.sig) (are_rising (suc x.by.0) xs) h.1 (rising-is (suc x.by.0) xs h.2))
-
-rising-of : (from : ℕ) (xs : List Signed) → are_rising from xs ≡ true → AreRising from xs
-rising-of from [] h = tt
-rising-of from (x ∷ xs) h =
-    let a = and-true (nat_le from x.by.0) (is_signature x.sig && are_rising (suc x.by.0) xs) h in
-    let b = and-true (is_signature x.sig) (are_rising (suc x.by.0) xs) a.1 in
-    (leb-true from x.by.0 a.0, b.0, rising-of (suc x.by.0) xs b.1)
-
 -- ---- what fits
 
 fits-is : (e : ℕ) (c : Cert) (bytes : List ℕ) → IsSpelledCert e c bytes → cert_fits c ≡ true
 fits-is e c bytes h =
     both (length c.chain == 32) _ ((Decides-eqb (length c.chain) 32).1 h.chain_fits)
     (both (nat_lt c.requests (2 ^ 64)) _ (lt-ltb c.requests (2 ^ 64) h.count_fits)
-    (both (nat_lt (length c.signers) 256) (are_rising 0 c.signers) (lt-ltb (length c.signers) 256 h.signers_fit) (rising-is 0 c.signers h.rising)))
+    (both (nat_lt (length c.signers) 256) (are_signers 0 c.signers) (lt-ltb (length c.signers) 256 h.signers_fit) (signers-fit 0 c.signers h.signers)))
 
 fits-of : (c : Cert) → cert_fits c ≡ true → IsSpelledCert c.epoch.0 c (cert_row c)
 fits-of c h =
-    let k = and-true (length c.chain == 32) (nat_lt c.requests (2 ^ 64) && (nat_lt (length c.signers) 256 && are_rising 0 c.signers)) h in
-    let n = and-true (nat_lt c.requests (2 ^ 64)) (nat_lt (length c.signers) 256 && are_rising 0 c.signers) k.1 in
-    let s = and-true (nat_lt (length c.signers) 256) (are_rising 0 c.signers) n.1 in
+    let k = and-true (length c.chain == 32) (nat_lt c.requests (2 ^ 64) && (nat_lt (length c.signers) 256 && are_signers 0 c.signers)) h in
+    let n = and-true (nat_lt c.requests (2 ^ 64)) (nat_lt (length c.signers) 256 && are_signers 0 c.signers) k.1 in
+    let s = and-true (nat_lt (length c.signers) 256) (are_signers 0 c.signers) n.1 in
     record {
       epoch = refl;
       chain_fits = (Decides-eqb (length c.chain) 32).0 k.0;
       count_fits = ltb-true c.requests (2 ^ 64) n.0;
       signers_fit = ltb-true (length c.signers) 256 s.0;
-      rising = rising-of 0 c.signers s.1;
+      signers = signers-are 0 c.signers s.1;
       row = refl;
     }
 
@@ -104,7 +75,7 @@ row-again e c bytes rest h =
     let many = length c.signers in
     let behind : List ℕ = many ∷ (text ++ rest) in
     let all : List ℕ = c.chain ++ (count ++ behind) in
-    let last = then_good (parse_signers many 0) (λ signers. done (made at c.chain c.requests signers)) (text ++ rest) rest rest c.signers c (signers-again signers-grammar 0 c.signers h.rising rest) (done_good c rest) in
+    let last = then_good (parse_signers many 0) (λ signers. done (made at c.chain c.requests signers)) (text ++ rest) rest rest c.signers c (signers-again 0 c.signers h.signers rest) (done_good c rest) in
     let third = then_good (such_that few byte) (after_count at c.chain c.requests) behind (text ++ rest) rest many c (test_passed few byte behind (text ++ rest) many (byte_again many (text ++ rest)) (lt-ltb many 256 h.signers_fit)) last in
     let second = then_good (number w64) (after_requests at c.chain) (count ++ behind) behind rest c.requests c (number_again w64 (2 ^ 64) wide64 c.requests behind h.count_fits) third in
     let first = then_good (block 32) (after_chain at) all (count ++ behind) rest c.chain c (block_again c.chain (count ++ behind) 32 h.chain_fits) second in
@@ -116,14 +87,11 @@ abbrev ones : ℕ
 ones = 72340172838076673
 
 one-never : (rest : List ℕ) → IsBad (parse_signers 1 0 (1 ∷ (1 ∷ rest)))
+unfolding parse_signed ascending
 one-never rest =
     let k = low-never 1 refl rest in
-    let sig = first_bad parse_signature (λ sig. done (signed 1 sig)) (1 ∷ rest) k.0 k.1 in
-    let by = test_passed (from_on 0) byte (1 ∷ (1 ∷ rest)) (1 ∷ rest) 1 (byte_again 1 (1 ∷ rest)) refl in
-    let signer = then_bad (such_that (from_on 0) byte) (after_by signed) (1 ∷ (1 ∷ rest)) (1 ∷ rest) 1 k.0 by sig in (
-      _,
-      same-parser (parse_signers 1 0) _ (1 ∷ (1 ∷ rest)) (signers-grammar.more_is 0 0) ∙ first_bad (parse_signed 0) _ (1 ∷ (1 ∷ rest)) _ (same-parser (parse_signed 0) _ (1 ∷ (1 ∷ rest)) (signers-grammar.one_is 0) ∙ signer),
-    )
+    let by = test_passed (λ n. nat_le 0 n) byte (1 ∷ (1 ∷ rest)) (1 ∷ rest) 1 (byte_again 1 (1 ∷ rest)) refl in
+    (_, first_bad _ _ _ _ (then_bad _ _ _ (1 ∷ rest) 1 k.0 by (first_bad parse_signature _ (1 ∷ rest) k.0 k.1)))
 
 never : (e : ℕ) (rest : List ℕ) → IsBad (parse_cert e (no_cert ++ rest))
 never e rest =
@@ -153,14 +121,14 @@ was-read e bytes rest c h =
     let chain = block_parts 32 bytes a.mid a.thing a.first in
     let requests = number_parts w64 (2 ^ 64) wide64 a.mid n.mid n.thing n.first in
     let count = test_parts few byte n.mid k.mid k.thing k.first in
-    let read = signers-parts signers-grammar k.thing 0 k.mid s.mid s.thing s.first in
+    let read = signers-parts k.thing 0 k.mid s.mid s.thing s.first in
     let text = flat_map spell_signed s.thing in
     let number = to_be_bytes w64 n.thing in
     let small : length s.thing < 256 = subst (λ (z : ℕ). z < 256) (sym read.many) (ltb-true k.thing 256 count.1) in
     let behind : n.mid ≡ length s.thing ∷ (text ++ rest) = byte_parts n.mid k.mid k.thing count.0 ∙ ap (λ (z : ℕ). z ∷ k.mid) (sym read.many) ∙ ap (λ (z : List ℕ). length s.thing ∷ z) (read.parts ∙ ap (λ (z : List ℕ). text ++ z) d.1) in
     let flat : bytes ≡ a.thing ++ (number ++ (length s.thing ∷ (text ++ rest))) = chain.parts ∙ ap (λ (z : List ℕ). a.thing ++ z) (requests.parts ∙ ap (λ (z : List ℕ). number ++ z) behind) in
     subst (λ (z : Cert). WasRead e bytes rest z) d.0 (record {
-      spelled = record { epoch = refl; chain_fits = chain.len; count_fits = requests.below; signers_fit = small; rising = read.rising; row = refl };
+      spelled = record { epoch = refl; chain_fits = chain.len; count_fits = requests.below; signers_fit = small; signers = read.signers; row = refl };
       parts = flat ∙ sym (row-flat a.thing number text rest (length s.thing));
     })
 
@@ -196,6 +164,6 @@ pub cert-table : (e : ℕ) (c : Cert) (bytes : List ℕ) → (parse_cert e bytes
 cert-table e c bytes = (
   λ h. let r = was-read e bytes [] c h in
       let is = r.spelled in
-      record { epoch = is.epoch; chain_fits = is.chain_fits; count_fits = is.count_fits; signers_fit = is.signers_fit; rising = is.rising; row = r.parts ∙ append-nil (cert_row c) },
+      record { epoch = is.epoch; chain_fits = is.chain_fits; count_fits = is.count_fits; signers_fit = is.signers_fit; signers = is.signers; row = r.parts ∙ append-nil (cert_row c) },
   λ s. ap (parse_cert e) (sym (append-nil bytes)) ∙ cert-again e c bytes [] s,
 )

@@ -2,7 +2,7 @@
 use Rattle.std.proofs.Common.{◌≡◌, ℕ, [], ◌∷◌, length, refl, Some, replicate}
 use Rattle.iss_keys.specs.VerifiedBy.{is_true_under, is_verified_by}
 use Rattle.iss_sb.specs.Statements.{wide_bytes}
-use Rattle.iss_checkpoint.specs.declared.votes.Signed.{Signed}
+use Rattle.iss_sb.specs.declared.signers.Signed.{Signed}
 use Rattle.iss_checkpoint.specs.declared.votes.Vote.{Vote}
 use Rattle.iss_checkpoint.specs.declared.tallies.Refusal.TheVariants.{OtherEpoch, BadSignature}
 use Rattle.iss_checkpoint.specs.Tallies.{TallyState, certificate, refusal, signed_below, vote_at, with_vote}

@@ -22,7 +22,7 @@ use Rattle.iss_request.specs.declared.setups.Setup.{Setup}
 use Rattle.iss_sb.specs.Evidence.{has_node, is_correct}
 use Rattle.iss_sb.proofs.Statements.{eight-is}
 use Rattle.iss_checkpoint.specs.declared.votes.Cert.{Cert}
-use Rattle.iss_checkpoint.specs.declared.votes.Signed.{Signed}
+use Rattle.iss_sb.specs.declared.signers.Signed.{Signed}
 use Rattle.iss_checkpoint.specs.Votes.{HasCorrectSigner, HasSigned, HaveSigned, IsCert, Voters, are_signed, cert_statement, is_cert, is_signed, vote_statement, voters_of}
 
 -- ---- the statement

@@ -8,7 +8,7 @@ use Rattle.iss_base.specs.Lists.{In, same_bytes}
 use Rattle.iss_base.proofs.Lists.{and-true, both, in_append, is-eq, same_bytes-is, same_bytes-refl, eqb-same}
 use Rattle.iss_sb.proofs.Cases.{same_number}
 use Rattle.iss_checkpoint.specs.declared.votes.Cert.{Cert}
-use Rattle.iss_checkpoint.specs.declared.votes.Signed.{Signed}
+use Rattle.iss_sb.specs.declared.signers.Signed.{Signed}
 use Rattle.iss_checkpoint.specs.declared.votes.Vote.{Vote}
 use Rattle.iss_checkpoint.specs.Votes.{Voters, are_signed, cert_statement, is_cert, is_signed, statement_of}
 use Rattle.iss_checkpoint.specs.Tallies.{AreVotes, IsVoteOf, TallyState, certificate_by, refusal, say_same, signed_below, signed_if, vote_at, with_vote}

@@ -1,4 +1,4 @@
--- How a vote is spelled in the body of its packet, whose head names the node and the epoch.
+-- How a vote is encoded in the body of its packet, whose head names the node and the epoch.
 --
 --   vote     chain (32 bytes), number of requests (8), signature
 use Rattle.std.specs.Prelude.{◌≡◌, ℕ, ◌<◌, ◌^◌, nat_lt, ◌==◌, ◌&&◌, Bool, true, List, ◌++◌, length, if◌then◌else◌, replicate}
@@ -24,6 +24,7 @@ abbrev pub spell_vote : Vote → List ℕ
 spell_vote v = if fits v then vote_row v else no_vote
 
 -- the table as a relation between a node's votes for an epoch and bytes
+-- rule: Checkpoints: A vote has one encoding in a packet's body: chain, count, signature
 pub record IsSpelledVote (by e : ℕ) (v : Vote) (bytes : List ℕ) : Type 0 where
   pub own : v.by.0 ≡ by
   pub epoch : v.epoch.0 ≡ e

@@ -1,4 +1,6 @@
--- The votes on one epoch that were counted, one of each node, and what becomes of a further one.
+-- The votes on one epoch that were counted, one for each node, and what becomes of a further one. A vote is refused
+-- for the first test that fails. Votes are compared by what they say, and a certificate is made of all those that
+-- agree, as soon as they are a quorum.
 use Rattle.std.specs.Prelude.{◌≡◌, ◌≢◌, ℕ, zero, suc, ◌==◌, ◌&&◌, not, Bool, true, if◌then◌else◌, List, [], ◌∷◌, ◌++◌, length, Option, Some, None, is_some, Result, Ok, Err}
 use Rattle.std.specs.Map.{lookup}
 use Rattle.std.specs.Ordering.{is_eq, nat_cmp}
@@ -9,7 +11,7 @@ use Rattle.iss_checkpoint.specs.declared.tallies.Added.TheVariants.{Counted, Sta
 use Rattle.iss_checkpoint.specs.declared.tallies.Refusal.{Refusal}
 use Rattle.iss_checkpoint.specs.declared.tallies.Refusal.TheVariants.{OtherEpoch, BadSignature, Twice}
 use Rattle.iss_checkpoint.specs.declared.votes.Cert.{Cert}
-use Rattle.iss_checkpoint.specs.declared.votes.Signed.{Signed}
+use Rattle.iss_sb.specs.declared.signers.Signed.{Signed}
 use Rattle.iss_checkpoint.specs.declared.votes.Vote.{Vote}
 use Rattle.iss_checkpoint.specs.Votes.{Voters, is_cert, is_signed, statement_of}
 
@@ -29,6 +31,7 @@ with_vote votes v k = if v.by.0 == k then Some v else vote_at votes k
 
 -- ---- why a vote is not counted, by the first cause that holds
 
+-- rule: Checkpoints: A tally refuses a vote for its first fault: other epoch, bad signature, repeated
 abbrev pub refusal : TallyState → Vote → Option Refusal
 refusal t v =
     if not (v.epoch.0 == t.epoch) then Some OtherEpoch
@@ -38,6 +41,7 @@ refusal t v =
 
 -- ---- a certificate of equal votes
 
+-- rule: Checkpoints: Two votes agree if their chains and counts are equal
 abbrev pub say_same : Vote → Vote → Bool
 say_same v w = (w.requests == v.requests) && same_bytes w.chain v.chain
 
@@ -72,6 +76,7 @@ pub record IsCounted (old : TallyState) (v : Vote) (new : TallyState) : Type 0 w
   pub others : new ≡ record old { votes = new.votes }
 
 -- The vote that completes a quorum of equal votes gives their certificate. A later vote gives none.
+-- rule: Checkpoints: The vote that completes a quorum gives the epoch's certificate; no later one does
 abbrev pub IsAdded : TallyState → Vote → TallyState → Result Added NoMemory → Type 0
 IsAdded old v new (Ok Counted) = IsCounted old v new × (length (certificate new v).signers ≢ old.voters.quorum)
 IsAdded old v new (Ok (Stable c)) = IsCounted old v new × (length (certificate new v).signers ≡ old.voters.quorum)

@@ -1,4 +1,6 @@
--- Votes on the log at an epoch's end, and certificates: that a quorum of nodes signed the same.
+-- Votes on the log at the end of an epoch (the checkpoints of ISS), and certificates. A vote signs the digest of the
+-- log and the number of its requests. A certificate is exactly a quorum of true signatures of one such statement, by
+-- strictly ascending nodes.
 use Rattle.std.specs.Prelude.{◌≡◌, ℕ, suc, ◌<◌, ◌≤◌, nat_lt, nat_le, ◌==◌, ◌&&◌, Bool, true, List, [], ◌∷◌, ◌++◌, length}
 use Rattle.iss_base.specs.Lists.{In}
 use Rattle.iss_keys.specs.Directories.{DirectoryView, VerifiesBy}
@@ -8,7 +10,7 @@ use Rattle.iss_request.specs.declared.setups.Setup.{Setup}
 use Rattle.iss_sb.specs.Evidence.{is_correct}
 use Rattle.iss_sb.specs.Statements.{eight_bytes, head_of}
 use Rattle.iss_checkpoint.specs.declared.votes.Cert.{Cert}
-use Rattle.iss_checkpoint.specs.declared.votes.Signed.{Signed}
+use Rattle.iss_sb.specs.declared.signers.Signed.{Signed}
 use Rattle.iss_checkpoint.specs.declared.votes.Vote.{Vote}
 
 -- Whose votes count: the cluster by its tag, its number of nodes, its quorum, and the nodes' public keys.
@@ -26,6 +28,7 @@ voters_of s d = voters_in s.tag s.n s.quorum d
 
 -- What a checkpoint vote signs: the epoch, the chain digest of the log at its end, and the number of requests in that
 -- log. It names leader 255 and module 0, which do not exist, so it equals no statement of an instance.
+-- rule: Checkpoints: A vote signs the cluster, the epoch, the log's chain and its request count
 abbrev pub vote_statement : List ℕ → ℕ → List ℕ → ℕ → List ℕ
 vote_statement tag e chain number = head_of tag e 255 0 ++ (0 ∷ (chain ++ eight_bytes number))
 
@@ -48,6 +51,7 @@ are_signed w statement from (x ∷ xs) =
     nat_le from x.by.0 && (is_signed w statement x.by.0 x.sig && are_signed w statement (suc x.by.0) xs)
 
 -- a certificate is valid: exactly a quorum of signers, strictly ascending, each signature valid
+-- rule: Checkpoints: A certificate has exactly a quorum of strictly ascending signers who all signed it
 abbrev pub is_cert : Voters → Cert → Bool
 is_cert w c = (length c.signers == w.quorum) && are_signed w (cert_statement w c) 0 c.signers
 
@@ -66,6 +70,7 @@ pub record IsCert (w : Voters) (c : Cert) : Type 0 where
   pub signed : HaveSigned w (cert_statement w c) 0 c.signers
 
 -- a correct node is among the signers, and signed what the certificate states
+-- rule: Checkpoints: A certificate has a correct signer
 pub record HasCorrectSigner (s : Setup) (d : DirectoryView) (c : Cert) : Type 0 where
   pub signer : Signed
   pub among : In signer c.signers

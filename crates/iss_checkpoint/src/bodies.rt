@@ -1,13 +1,14 @@
 //! Checkpoint votes in bytes: the body of a packet that names the node and the epoch. All format versions are the same
 //! here.
-ghost use Rattle.std.specs.Prelude.{◌≡◌, ℕ, [], length, IfOk, OnOk, Err};
+ghost use Rattle.std.specs.Prelude.{◌≡◌, ℕ, [], IfOk, OnOk, Err};
 ghost use Rattle.iss_request.specs.Fields.{Bad, Good, IsRead, IsUnreadable, and_bytes};
-ghost use Rattle.iss_request.specs.Formats.{is_signature};
-ghost use Rattle.iss_request.specs.Parsing.{all_of, block};
+ghost use Rattle.iss_request.specs.Parsing.{all_of};
 ghost use Rattle.iss_checkpoint.specs.Bodies.{fits, parse_vote, spell_vote, vote_row};
 
 use crate::votes::Vote;
-use iss_request::{Bytes, DecodeError, Epoch, Fields, NoMemory, NodeId, Writer, read_signature};
+use iss_request::{
+    Bytes, DecodeError, Epoch, Fields, NoMemory, NodeId, Writer, has_shape, read_signature,
+};
 use std::alloc::Global;
 
 // The format version used to encode and decode votes: any, since all are the same.
@@ -15,18 +16,6 @@ const VERSION: u8 = 1;
 
 // Written for a vote without an encoding: its signature has height 0, so it decodes to no vote.
 const NO_VOTE: [u8; 41] = [0; 41];
-
-// Whether the bytes have the shape of a signature: a height, a leaf, 67 digests, and one digest for each level.
-pub(crate) fn has_shape(sig: &[u8]) -> bool
-    ensures { result ≡ is_signature sig.now }
-{
-    match sig {
-        [] => false,
-        [height, rest @ ..] => {
-            2 <= *height && *height <= 12 && rest.len() == 4 + 32 * (67 + *height as usize)
-        }
-    }
-}
 
 fn has_spelling(vote: &Vote) -> bool
     ensures { result ≡ fits vote.now }
@@ -45,6 +34,7 @@ fn put_row(vote: &Vote, out: &mut Writer) -> Result<(), NoMemory>
 }
 
 /// Appends a vote's encoding. A vote without one is written as bytes that no reader accepts.
+// rule: Checkpoints: A vote has one encoding in a packet's body: chain, count, signature
 pub fn write_vote(vote: &Vote, out: &mut Writer) -> Result<(), NoMemory>
     ensures { OnOk result (out.new ≡ and_bytes out.old (spell_vote vote.now)) }
 {
@@ -52,23 +42,6 @@ pub fn write_vote(vote: &Vote, out: &mut Writer) -> Result<(), NoMemory>
         return out.put_bytes(&NO_VOTE);
     }
     put_row(vote, out)
-}
-
-fn array_of(bytes: &[u8]) -> [u8; 32]
-    requires { length bytes.now ≡ 32 }
-    ensures { result ≡ bytes.now }
-{
-    let mut digest = [0; 32];
-    digest.copy_from_slice(bytes);
-    digest
-}
-
-pub(crate) fn read_digest(f: &mut Fields) -> Result<[u8; 32], DecodeError>
-    ensures ok { IfOk result (λ d. IsRead (block 32) f.old f.new d) }
-    ensures bad { (at : ℕ) → result ≡ Err (DecodeError.BadField at) → IsUnreadable (block 32) f.old at }
-{
-    let bytes = f.read_bytes(32)?;
-    Ok(array_of(bytes))
 }
 
 /// Decodes a node's vote for an epoch. `BadField` names the first field that does not fit.
@@ -81,7 +54,7 @@ pub fn read_vote(
     ensures ok { IfOk result (λ v. IsRead (parse_vote by.0 epoch.0) f.old f.new v) }
     ensures bad { (at : ℕ) → result ≡ Err (DecodeError.BadField at) → IsUnreadable (parse_vote by.0 epoch.0) f.old at }
 {
-    let chain = read_digest(f)?;
+    let chain = f.read_digest()?;
     let requests = f.read_u64()?;
     let sig = read_signature(alloc, f)?;
     Ok(Vote {

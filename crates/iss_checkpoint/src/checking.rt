@@ -2,9 +2,10 @@
 ghost use Rattle.std.specs.Prelude.{◌≡◌, ◌≤◌, ℕ};
 ghost use Rattle.iss_checkpoint.specs.Votes.{Voters, are_signed, is_cert, is_signed, voters_of};
 
-use crate::votes::{Cert, Signed, vote_statement};
+use crate::votes::{Cert, vote_statement};
 use iss_keys::Directory;
 use iss_request::Setup;
+use iss_sb::Signed;
 
 /// Whether node `by`, below `n`, validly signed the statement.
 pub fn is_signed(directory: &Directory, n: u32, statement: &[u8], by: u8, sig: &[u8]) -> bool
@@ -44,6 +45,8 @@ fn are_signed(
 }
 
 /// Whether a certificate is valid: exactly a quorum of signers, strictly ascending, each signature valid.
+// rule: Checkpoints: A certificate has exactly a quorum of strictly ascending signers who all signed it
+// rule: Checkpoints: A certificate has a correct signer
 pub fn check(setup: &Setup, directory: &Directory, cert: &Cert) -> bool
     ensures { result ≡ is_cert (voters_of setup.now directory.now) cert.now }
 {

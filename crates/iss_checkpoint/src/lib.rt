@@ -14,4 +14,4 @@ pub use certificates::{read_cert, write_cert};
 pub use checking::check;
 pub use laws::{certificates_are_exact, certificates_have_a_correct_signer, votes_are_exact};
 pub use tallies::{Added, Refusal, Tally};
-pub use votes::{Cert, Signed, Vote, vote_statement};
+pub use votes::{Cert, Vote, vote_statement};

@@ -4,9 +4,10 @@ ghost use Rattle.iss_checkpoint.specs.Tallies.{IsAdded, IsChecked, IsCounted, ce
 ghost use Rattle.iss_checkpoint.specs.Votes.{is_signed, statement_of, voters_of};
 
 use crate::checking::is_signed;
-use crate::votes::{Cert, Signed, Vote, vote_statement};
+use crate::votes::{Cert, Vote, vote_statement};
 use iss_keys::SharedDirectory;
 use iss_request::{Epoch, NoMemory, Seq, Setup};
+use iss_sb::Signed;
 use std::alloc::Global;
 use std::collections::BTreeMap;
 use std::marker::Model;
@@ -82,6 +83,7 @@ impl Tally {
 
     /// Counts a vote, unless it is refused. The vote that completes a quorum of equal votes gives their certificate.
     /// The only error is out of memory, and then nothing changes.
+    // rule: Checkpoints: The vote that completes a quorum gives the epoch's certificate; no later one does
     pub fn add(&mut self, vote: Vote) -> Result<Added, NoMemory>
         ensures added { IsAdded self.old vote self.new result }
         ensures checked { IsChecked self.old.voters result }
@@ -99,6 +101,7 @@ impl Tally {
     }
 
     // The first reason to refuse a vote.
+    // rule: Checkpoints: A tally refuses a vote for its first fault: other epoch, bad signature, repeated
     fn refusal(&self, vote: &Vote) -> Option<Refusal>
         ensures { result ≡ refusal self.now vote.now }
     {
@@ -202,6 +205,7 @@ impl Tally {
 }
 
 // Whether two votes certify the same log.
+// rule: Checkpoints: Two votes agree if their chains and counts are equal
 fn say_same(vote: &Vote, other: &Vote) -> bool
     ensures { result ≡ say_same vote.now other.now }
 {

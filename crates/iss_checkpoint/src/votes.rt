@@ -4,6 +4,7 @@ ghost use Rattle.std.specs.Int.{to_be_bytes, w64};
 ghost use Rattle.iss_checkpoint.specs.Votes.{vote_statement};
 
 use iss_request::{Bytes, Epoch, NodeId, Seq};
+use iss_sb::Signed;
 
 /// A node's signed vote on its log at the end of an epoch: the chain digest of the log, and the number of requests in
 /// it.
@@ -12,13 +13,6 @@ pub struct Vote {
     pub epoch: Epoch,
     pub chain: [u8; 32],
     pub requests: u64,
-    pub by: NodeId,
-    pub sig: Bytes,
-}
-
-/// A signer and its signature.
-#[derive(Drop)]
-pub struct Signed {
     pub by: NodeId,
     pub sig: Bytes,
 }
@@ -55,6 +49,7 @@ fn word(chain: &[u8; 32], requests: u64) -> [u8; 40]
 
 /// What a checkpoint vote signs: cluster, epoch, no leader, no module, chain digest, number of requests. It needs no
 /// memory.
+// rule: Checkpoints: A vote signs the cluster, the epoch, the log's chain and its request count
 pub fn vote_statement(tag: &[u8; 32], epoch: u64, chain: &[u8; 32], requests: u64) -> [u8; 83]
     ensures { result ≡ vote_statement tag.now epoch chain.now requests }
 {

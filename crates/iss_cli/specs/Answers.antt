@@ -1,4 +1,6 @@
--- What the program answers to its words and its input.
+-- What the program answers to its words and its input. For the text of a schedule it is the report of the run, and
+-- else the number of the first bad line and the reason. The whole answer is printed, or a prefix of it where the sink
+-- failed or memory ran out. Each exit status says which of these happened, so a failed sink is never passed over.
 use Rattle.std.specs.Prelude.{◌≡◌, ◌⊎◌, ℕ, Option, List, [], ◌∷◌, ◌++◌, take, codes, decimal}
 use Rattle.iss_schedule.specs.declared.errors.LineFault.{LineFault}
 use Rattle.iss_schedule.specs.declared.errors.LineFault.TheVariants.{Cut, Form, Faulty, Injected, Range, Size}
@@ -79,6 +81,7 @@ Ends words left held held_now Forged = (answer : Answer) × (IsAnswered words le
 Ends words left held held_now Collision = (answer : Answer) × (IsAnswered words left answer × Prints answer held held_now Collision)
 
 -- the statuses of an answer that is printed whole
+-- rule: Program: Each exit status comes exactly where its cause does
 abbrev pub IsAnswerStatus : Status → Type 0
 IsAnswerStatus Done = Unit {0}
 IsAnswerStatus RefusedWords = Unit {0}

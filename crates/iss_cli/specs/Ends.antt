@@ -1,8 +1,11 @@
--- What the calls of sources and sinks do. Of a source or a sink that tells nothing of its bytes, nothing is said.
+-- What sources and sinks of bytes do. A source gives the next bytes of its input, and none only at its end; a sink
+-- keeps what it was given. Each counts its failed calls, and the count never falls. A source or sink that tells
+-- nothing about its bytes, as real files and pipes do, promises nothing about them.
 use Rattle.std.specs.Prelude.{◌≡◌, ◌⊎◌, ℕ, ◌≤◌, Option, None, Some, List, [], ◌++◌, length, take, drop}
 pub use Rattle.iss_base.specs.Counts.{Rose}
 
 -- A failure has a cause, which was counted; the count never falls, and where nothing failed it is as before.
+-- rule: Program: A failure is reported only where the source or the sink counted one
 pub record HasCause (before now : ℕ) (failed : Type 0) : Type 0 where
   pub never_falls : before ≤ now
   pub rose : failed → Rose before now
@@ -25,6 +28,7 @@ Takes n None left_now slice slice_now = left_now ≡ None
 Takes n (Some left) left_now slice slice_now = Taken n left left_now slice slice_now
 
 -- at most n bytes are taken of those that were left
+-- rule: Program: The input is read to its end, at most one byte past the limit
 abbrev pub Drains : ℕ → Option (List ℕ) → Option (List ℕ) → Type 0
 Drains most None left_now = left_now ≡ None
 Drains most (Some left) left_now = (n : ℕ) × (n ≤ most) × (left_now ≡ Some (drop n left))

@@ -1,4 +1,6 @@
--- The report of a schedule's run under its module, and what is promised of the run.
+-- The report of a schedule's run under its module, and what is promised of that run. The promise is the one of the
+-- recovery theorem: one log, conserved requests, certificates of correct logs, evidence where the run ends early.
+-- There is one line here for each module that a schedule can name.
 use Rattle.std.specs.Prelude.{◌≡◌, ℕ, Option, Some, None}
 use Rattle.iss_theorems.specs.Conserved.{AcceptsOnce}
 use Rattle.iss_rules.specs.Ends.{End, Forged, Collision}
@@ -22,6 +24,7 @@ pub record Under (number : ℕ) (Holds : (Msg : Type 0) → Module Msg → Type 
   pub of_hotstuff : number ≡ hotstuff.tag → Holds _ hotstuff
 
 -- how a run's end is told to who called
+-- rule: Program: A run that ends with evidence exits with 6 or 7, and reports the logs before it
 abbrev pub status_of : Option (ℕ × End) → Status
 status_of None = Done
 status_of (Some (event, Forged claim)) = Status_forged

@@ -29,6 +29,7 @@ impl Script {
     }
 
     // One call more, which fails where its number says so.
+    // rule: Program: A failure is reported only where the source or the sink counted one
     fn call(&mut self) -> Result<(), Failed>
         ensures cause { HasCause self.old.faults self.new.faults (IsErr result) }
         ensures failing { self.new.failing ≡ self.old.failing }

@@ -7,6 +7,7 @@ use crate::errors::EndError;
 use std::alloc::Global;
 
 /// The bytes that a source has left, but not more than `most`. They are asked for in pieces of so many bytes.
+// rule: Program: The input is read to its end, at most one byte past the limit
 pub fn read_up_to<I: Source>(
     alloc: Global,
     input: &mut I,

@@ -37,6 +37,7 @@ const PIECE: usize = 65_536;
 /// adopted was delivered at one (`promised`).
 ///
 /// Causes are met in the order words, source, input, printing; want of memory may come anywhere.
+// rule: Program: Each exit status comes exactly where its cause does
 pub fn run<I: Source, O: Sink>(
     alloc: Global,
     words: &[String],

@@ -36,7 +36,7 @@ module _ {Msg : Type 0} (s : Setup) (S : Scheme) (R : Rules) (M : Module Msg) (s
   at older = record { 0 = length older }
 
   -- a value of a true log
-  pub record Refines (older : List Value) (v : Value) : Type 0 where
+  pub record Stands (older : List Value) (v : Value) : Type 0 where
     pub log : IsTrueLog s R M w.pasts older
     pub is : Backed s R M w.pasts older v
 
@@ -54,7 +54,7 @@ module _ {Msg : Type 0} (s : Setup) (S : Scheme) (R : Rules) (M : Module Msg) (s
   left_over : (older : List Value) (i : ℕ) → is_correct (params_at R older).setup i ≡ true → is_correct s i ≡ true
   left_over older i ok = subst (λ (t : Setup). is_correct t i ≡ true) (sound.setup (before_at R older) (epoch_at R older) (leader_at R older)) ok
 
-  pub taken : (older : List Value) (b : Batch) → Refines older (Value_batch b) → (j : ℕ) (n : Slot) (c : Batch) → is_correct s j ≡ true →
+  pub taken : (older : List Value) (b : Batch) → Stands older (Value_batch b) → (j : ℕ) (n : Slot) (c : Batch) → is_correct s j ≡ true →
       delivered M (params_at R older) j ((w.pasts j).evidence (epoch_at R older) (leader_at R older)) n.0 ≡ Some (Value_batch c) → Taken older (at older) n b c
   taken older b st j n c okj h =
       let e = epoch_at R older in
@@ -85,7 +85,7 @@ module _ {Msg : Type 0} (s : Setup) (S : Scheme) (R : Rules) (M : Module Msg) (s
     pub judged : judge R (before_at R older) (epoch_at R older) (leader_at R older) (marks earlier) b ≡ None
     pub is : Accepted R (before_at R older) (epoch_at R older) (leader_at R older) (marks earlier) b
 
-  pub valid : (older : List Value) (b : Batch) → Refines older (Value_batch b) → Valid older b
+  pub valid : (older : List Value) (b : Batch) → Stands older (Value_batch b) → Valid older b
   valid older b st =
       let t : Taken older (at older) (at older) b b = taken older b st st.is.node (at older) b st.is.correct st.is.is in
       let a = entry-judged R (before_at R older) (epoch_at R older) (leader_at R older) _ t.judged (at older, b) t.first in
@@ -108,7 +108,7 @@ module _ {Msg : Type 0} (s : Setup) (S : Scheme) (R : Rules) (M : Module Msg) (s
   pub record Found (z : ReqId) (log : List Value) : Type 0 where
     pub older : List Value
     pub batch : Batch
-    pub refines : Refines older (Value_batch batch)
+    pub stands : Stands older (Value_batch batch)
     pub within : In z (ids batch)
     pub part : Extends (Value_batch batch ∷ older) log
 
@@ -116,16 +116,16 @@ module _ {Msg : Type 0} (s : Setup) (S : Scheme) (R : Rules) (M : Module Msg) (s
   find z [] h k = absurd k
   find z (Nil ∷ older) h k =
       let f : Found z older = find z older h.0 k in
-      record { older = f.older; batch = f.batch; refines = f.refines; within = f.within; part = extends-cons _ _ Nil f.part }
+      record { older = f.older; batch = f.batch; stands = f.stands; within = f.within; part = extends-cons _ _ Nil f.part }
   find z (Value_batch b ∷ older) h k = elim (in_append z (ids b) (log_ids older) k) [
-    | inl a ↦ record { older = older; batch = b; refines = record { log = h.0; is = h.1 }; within = a; part = extends-refl _ }
+    | inl a ↦ record { older = older; batch = b; stands = record { log = h.0; is = h.1 }; within = a; part = extends-refl _ }
     | inr a ↦
         let f : Found z older = find z older h.0 a in
-        record { older = f.older; batch = f.batch; refines = f.refines; within = f.within; part = extends-cons _ _ (Value_batch b) f.part }
+        record { older = f.older; batch = f.batch; stands = f.stands; within = f.within; part = extends-cons _ _ (Value_batch b) f.part }
   ]
 
   -- the value above `low`, in the same epoch, has another batch
-  same-epoch : (older low : List Value) (b c : Batch) (z : ReqId) → Refines older (Value_batch b) → Refines low (Value_batch c) → length low < length older →
+  same-epoch : (older low : List Value) (b c : Batch) (z : ReqId) → Stands older (Value_batch b) → Stands low (Value_batch c) → length low < length older →
       Extends low older → epoch_at R low ≡ epoch_at R older → In z (ids b) → In z (ids c) → ⊥
   same-epoch older low b c z st sl lt x ee zb zc =
       let e = epoch_at R older in
@@ -147,7 +147,7 @@ module _ {Msg : Type 0} (s : Setup) (S : Scheme) (R : Rules) (M : Module Msg) (s
       let t : Taken older (at older) (at low) b c = taken older b st j (at low) c sl.is.correct d1 in
       one-slot R (before_at R older) e (leader_at R older) _ t.judged (at older, b) (at low, c) t.first t.second (λ q. absurd (omega (arith, q, lt))) z zb zc
 
-  apart : (older : List Value) (b : Batch) → Refines older (Value_batch b) → (z : ReqId) → In z (ids b) → In z (log_ids older) → ⊥
+  apart : (older : List Value) (b : Batch) → Stands older (Value_batch b) → (z : ReqId) → In z (ids b) → In z (log_ids older) → ⊥
   apart older b st z zb zo =
       let f : Found z older = find z older st.log zo in
       let x : Extends f.older older = (f.part.0 ++ (Value_batch f.batch ∷ []), f.part.1 ∙ sym (append_assoc f.part.0 (Value_batch f.batch ∷ []) f.older)) in
@@ -156,7 +156,7 @@ module _ {Msg : Type 0} (s : Setup) (S : Scheme) (R : Rules) (M : Module Msg) (s
       elim (leb_tells (epoch_at R older) (epoch_at R f.older)) [
         | inl t ↦
             let mono : epoch_at R f.older ≤ epoch_at R older = epoch-mono R sound.some_slots f.older older x in
-            same-epoch older f.older b f.batch z st f.refines len x (omega (arith, mono, t.1)) zb f.within
+            same-epoch older f.older b f.batch z st f.stands len x (omega (arith, mono, t.1)) zb f.within
         | inr t ↦
             let below : length f.older < start_of R older (epoch_at R older) = epoch-below R sound.some_slots f.older older x t.1 in
             unordered-of R (before_at R older) (epoch_at R older) (leader_at R older) (marks vb.earlier) b vb.is z zb
@@ -168,5 +168,5 @@ module _ {Msg : Type 0} (s : Setup) (S : Scheme) (R : Rules) (M : Module Msg) (s
   once [] h = tt
   once (Nil ∷ older) h = once older h.0
   once (Value_batch b ∷ older) h =
-      let st : Refines older (Value_batch b) = record { log = h.0; is = h.1 } in
+      let st : Stands older (Value_batch b) = record { log = h.0; is = h.1 } in
       different-append (ids b) (log_ids older) (valid older b st).is.different (once older h.0) (apart older b st)

@@ -27,6 +27,7 @@ use Rattle.iss_sb.specs.Evidence.{IsReadMessage, Item, Made, Module, Separate, W
 use Rattle.iss_sb.specs.Laws.{IsBroadcast, IsHeard, IsLawful, IsSafe}
 use Rattle.iss_sb.specs.Statements.{eight_bytes, signature, statement_head}
 use Rattle.iss_sb.proofs.Read.{batch-read}
+use Rattle.iss_sb.proofs.Setups.{good-by}
 use Rattle.iss_composition.specs.Checkpoints.{scheme_of}
 use Rattle.iss_rules.specs.Books.{Signed}
 use Rattle.iss_composition.specs.Cluster.{Cluster, Ended, Moved, Reach, Scheme, begin, chain_strings, ends, move, vote_of, vote_statement}
@@ -251,28 +252,7 @@ alone = record {
 }
 
 pub setup-good : IsGoodSetup alone
-setup-good = record {
-  version = refl;
-  faults = omega arith;
-  relay_faults = λ h. refl;
-  relay_kind = λ h. absurd (omega (arith, h));
-  nodes = refl;
-  majority = refl;
-  epoch_low = omega arith;
-  epoch_high = omega arith;
-  buckets_low = omega arith;
-  buckets_high = omega arith;
-  batch_low = omega arith;
-  batch_high = omega arith;
-  window_low = omega arith;
-  window_high = omega arith;
-  clients_low = omega arith;
-  clients_high = omega arith;
-  keys_low = omega arith;
-  keys_high = omega arith;
-  few_faulty = omega arith;
-  rising_faulty = tt;
-}
+setup-good = good-by alone refl
 
 setup-of : IsSetupOf signing alone
 setup-of = record { good = setup-good; tag = refl; kind = refl; nodes = refl; majority = refl }

@@ -1,4 +1,5 @@
--- How logs are chained under a set-up, and whose votes make a certificate.
+-- How logs are chained under a set-up, and whose votes make a certificate. A value is hashed behind the byte 64 and a
+-- link behind 66. A quorum of distinct nodes decides.
 use Rattle.std.specs.Prelude.{Bool, true, false, ◌&&◌, nat_le, ◌∷◌, ◌++◌, length}
 use Rattle.iss_base.specs.Quorum.{all_below, distinct}
 use Rattle.iss_request.specs.Fields.{Bad, Good, Parsed}

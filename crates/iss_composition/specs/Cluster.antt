@@ -1,5 +1,9 @@
--- All nodes over all epochs, as far as logs depend on them, and what may happen to them. Nothing here runs: a run of
--- the cluster is shown to be a chain of these moves.
+-- The cluster of the composition theorem: all nodes over all epochs, as far as their logs depend on them. It is what
+-- each node took, the modules' messages that were sent, the statements that nodes signed, and the strings they hashed.
+-- Its moves: a node takes an input that its judge accepts; a node whose log holds its epoch enters the next one and
+-- may vote; a node adopts an epoch under a certificate; anything that no instance sees. In Byzantine worlds any
+-- message may come that decodes, whose claims verify, and whose claims of correct nodes were made. Nothing here runs:
+-- runs are shown to be chains of these moves.
 use Rattle.std.specs.Prelude.{◌≡◌, ◌≢◌, ◌⊎◌, ℕ, ◌≤◌, Bool, true, false, cond, List, [], ◌∷◌, ◌++◌, length, Some, None}
 use Rattle.iss_base.specs.Lists.{Chain, In}
 use Rattle.iss_request.specs.Digest.{digest}

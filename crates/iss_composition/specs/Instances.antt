@@ -1,8 +1,10 @@
--- Which instance a statement names.
+-- Which instance a statement names: cluster, epoch, leader and the module's tag. Claims of different instances are
+-- never the same statement, and a vote is no instance's claim.
 use Rattle.std.specs.Prelude.{◌≡◌, ℕ, List}
 use Rattle.iss_sb.specs.declared.effects.Params.{Params}
 
 -- the parameters are of this cluster (by its digest), epoch, leader and module tag
+-- rule: Signatures: A statement belongs to one instance: one cluster, epoch, leader and module
 pub record IsInstance (p : Params) (mark : ℕ) (domain : List ℕ) (e l tag : ℕ) : Type 0 where
   pub cluster : domain ≡ p.setup.tag
   pub epoch : e ≡ p.epoch.0

@@ -1,4 +1,7 @@
--- What holds of every cluster that moves lead to, and what it takes.
+-- The result of the composition, and its premises. Of two correct nodes' logs one is a prefix of the other, and no
+-- request stands twice. Each batch was accepted by a correct node that judged it over the log before its epoch. Each
+-- instance is a reached world of its module. Nodes in one epoch have the same log before it. The premises: encodings
+-- have one reading, and each quorum has a correct node.
 use Rattle.std.specs.Prelude.{◌≡◌, ◌⊎◌, ℕ, ◌≤◌, true, List, [], ◌∷◌, ◌++◌, length, None}
 use Rattle.iss_base.specs.Lists.{Extends, In}
 use Rattle.iss_request.specs.Digest.{digest}

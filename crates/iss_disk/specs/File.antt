@@ -1,4 +1,7 @@
--- One file of a disk: what a read of it gives, and what a crash may leave of it.
+-- The disk model: one file, what a read of it gives, and which crash images it has. A state has the content at the
+-- last sync, and the later writes with the least and greatest length between them. A crash leaves any length between
+-- these. Bytes stay as synced where no later write covers them and before the old end; all others may hold anything.
+-- Trusted is that real disks keep to this.
 use Rattle.std.specs.Prelude.{◌≡◌, ℕ, ◌+◌, ◌<◌, ◌≤◌, min, max, Bool, false, ◌&&◌, ◌||◌, nat_le, nat_lt, List, [], ◌∷◌, ◌++◌, length, take, drop, slice_index}
 
 -- A file, since the last sync that succeeded.
@@ -22,6 +25,7 @@ is_written (write ∷ writes) i = (nat_le write.0 i && nat_lt i (write.0 + lengt
 
 -- A crash may leave these bytes: each range written since the last sync, and what lies behind the old end, may hold
 -- anything. Other bytes stand as they were kept.
+-- rule: Disk: A crash may change only bytes written since the last sync
 pub record Image (file : File) (bytes : List ℕ) : Type 0 where
   pub long_enough : file.shortest ≤ length bytes
   pub short_enough : length bytes ≤ file.longest

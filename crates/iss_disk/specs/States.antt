@@ -1,4 +1,5 @@
--- The states that a file of a memory disk went through. They are read off its content by undoing its calls, the last one first.
+-- The states that a file of a disk in memory went through. They are read off the present content by undoing its calls,
+-- the last one first: a note says where bytes stood, and what was taken away is kept.
 use Rattle.std.specs.Prelude.{◌≡◌, ℕ, ◌+◌, ◌-◌, ◌≤◌, Bool, true, false, List, [], ◌∷◌, ◌++◌, length, take, drop, refl}
 use Rattle.iss_disk.specs.File.{File, settled, wrote, shortened, synced, restarted}
 use Rattle.iss_disk.specs.declared.call.Call.{Call}
@@ -27,6 +28,7 @@ with_part at len former content = take at content ++ former ++ drop (at + len) c
 
 -- The states, newest first, after these calls, newest first, which left this content. What they took away are the bytes that are lost,
 -- oldest first.
+-- rule: Disk: Undoing a memory disk's calls gives each state that its file went through
 abbrev pub states : List Call → List ℕ → List ℕ → List File
 states [] lost content = settled [] ∷ []
 states (ToEnd at over ∷ calls) lost content =
@@ -70,6 +72,7 @@ is_pending (Restarted at over ∷ calls) = false
 
 -- A file holds what its newest state holds, and what was synced: that is the content up to an offset, then bytes that are set apart, and
 -- then the content from another offset on.
+-- rule: Disk: Synced bytes stay until the next sync, whatever is written over or cut off
 pub record IsStored (states : List File) (content behind : List ℕ) (same resumes : ℕ) : Type 0 where
   pub is_content : (newest states).content ≡ content
   pub is_kept : (newest states).kept ≡ take same content ++ (behind ++ drop resumes content)

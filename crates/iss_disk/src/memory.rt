@@ -183,6 +183,7 @@ impl Fused for MemoryDisk {
         self.fate = Fate::Fused(calls);
     }
 
+    // rule: Disk: A crash may change only bytes written since the last sync
     fn restart(&mut self) {
         self.file.restart();
         restart_all(&mut self.others);

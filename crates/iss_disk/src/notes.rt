@@ -49,6 +49,7 @@ impl Notes {
     }
 
     // Notes that so many bytes were written where the file ended, and synced, and then the gate before them opened, and synced.
+    // rule: Disk: A note keeps its calls in their order
     #[inline(always)]
     pub(crate) fn push_opened(&mut self, len: u32)
         requires { 1 ≤ room_in self.old }

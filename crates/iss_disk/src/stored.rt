@@ -210,6 +210,7 @@ fn take_tail(content: &[u8], lost: &mut Vec<u8>, at: usize)
 }
 
 // Takes away what so many bytes are about to be written over, from an offset on, and tells the call that undoes it.
+// rule: Disk: Undoing a memory disk's calls gives each state that its file went through
 fn take_away(content: &[u8], lost: &mut Vec<u8>, at: usize, len: usize) -> Call
     requires within { at ≤ length content.now }
     requires room { vec_len lost.old + min len (length content.now - at) ≤ vec_capacity lost.old }
@@ -303,6 +304,7 @@ impl StoredFile {
     }
 
     // Writes one byte over the last one before what was just kept, as a gate is opened: no more than that byte is set apart.
+    // rule: Disk: Synced bytes stay until the next sync, whatever is written over or cut off
     #[inline(always)]
     fn write_over(&mut self, at: usize, byte: u8)
         requires call { 1 ≤ (room_of self.old).calls }

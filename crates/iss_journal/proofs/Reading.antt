@@ -8,7 +8,7 @@ use Rattle.iss_journal.proofs.Crash.{only_settled, reads_closed}
 use Rattle.iss_journal.specs.EntryViews.{entries_in}
 use Rattle.iss_journal.specs.Sound.{HasRoom, longest_of}
 use Rattle.iss_journal.specs.declared.entries.Entries.{Entries}
-use Rattle.iss_journal.specs.declared.spare.Reserved.{Reserved}
+use Rattle.iss_journal.specs.declared.reserved.Reserved.{Reserved}
 use Rattle.iss_journal.proofs.Grammar.{one_reading}
 use Rattle.iss_journal.proofs.Steps.{between_leaves, each_append}
 

@@ -1,4 +1,7 @@
--- The bytes of a journal's file: any number of entries, each behind an open gate and its length, and then one closed gate.
+-- The bytes of a journal's file. A frame is an open gate (byte 1), the entry's length in four bytes and the entry. A
+-- file holds entries if it is their frames and then a byte other than 1; a file of at most one byte holds none. It is
+-- damaged at an offset if frames lead up to it, and there is an open gate without a whole entry behind it. Each list
+-- of bytes has exactly one such reading.
 use Rattle.std.specs.Prelude.{◌≡◌, ◌≢◌, ◌⊎◌, ℕ, ◌+◌, ◌<◌, ◌≤◌, List, [], ◌∷◌, ◌++◌, length, take, refl}
 use Rattle.std.specs.Int.{w32, to_be_bytes, from_be_bytes}
 use Rattle.std.specs.Coded.{×_prop, Unit-prop, le_prop}
@@ -37,6 +40,7 @@ pub record ClosesAfter (entries : List (List ℕ)) (file : List ℕ) : Type 0 wh
   pub short : AreShort entries
 
 -- entries, and then at this offset an open gate behind which no whole entry stands
+-- rule: Journal: A file without a reading is damaged, at the offset of its gate
 pub record BreaksAt (at : ℕ) (file : List ℕ) : Type 0 where
   pub entries : List (List ℕ)
   pub rest : List ℕ
@@ -51,6 +55,7 @@ pub data Reading : Type 0 where
   damaged : ℕ → Reading
 
 -- A file of at most one byte is an empty journal. Of any other exactly one of these readings is right.
+-- rule: Journal: Attaching reads entries up to the first closed gate, and cuts off the rest
 abbrev pub Reads : List ℕ → Reading → Type 0
 Reads file (holds entries) = ((length file ≤ 1) × (entries ≡ [])) ⊎ ((1 < length file) × ClosesAfter entries file)
 Reads file (damaged at) = (1 < length file) × BreaksAt at file

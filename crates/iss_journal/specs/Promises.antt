@@ -1,4 +1,6 @@
--- What a journal promises of a file, whatever a crash makes of it.
+-- What a journal promises for every crash. At each moment of an append a crash leaves these entries, or these and the
+-- new one. Attaching loses no entry that every crash before it would have left. At rest the file is the frames of the
+-- entries and one closed gate, all of it synced.
 use Rattle.std.specs.Prelude.{◌≡◌, ◌≢◌, ◌⊎◌, ℕ, ◌+◌, ◌<◌, ◌≤◌, List, [], ◌∷◌, ◌++◌, length, take}
 use Rattle.iss_disk.specs.File.{File, Image, settled}
 use Rattle.iss_disk.specs.Calls.{EachState, Passes, script}
@@ -14,6 +16,7 @@ LeavesOnly P [] new = new ≡ []
 LeavesOnly P (file ∷ past) new = (added : List File) × (new ≡ added ++ file ∷ past) × OnlyLeaves P file × EachState (OnlyLeaves P) added
 
 -- the file holds these entries, or these and one more
+-- rule: Journal: An append writes its entry, syncs, opens the gate, and syncs
 abbrev pub HoldsWithOrWithout : List (List ℕ) → List ℕ → List ℕ → Type 0
 HoldsWithOrWithout entries entry bytes = Reads bytes (holds entries) ⊎ Reads bytes (holds (entries ++ entry ∷ []))
 

@@ -1,4 +1,4 @@
--- Where entries lie in the bytes of a file.
+-- Where entries lie in the bytes of a file: offsets of gates, and the bytes between them.
 use Rattle.std.specs.Prelude.{◌≡◌, ℕ, zero, suc, ◌+◌, ◌*◌, ◌<◌, ◌≤◌, List, [], ◌∷◌, length, take, drop, get_or}
 use Rattle.std.specs.Int.{w32, from_be_bytes}
 use Rattle.iss_journal.specs.Frames.{frames, AreShort}
@@ -29,6 +29,7 @@ pub record IsBook (bytes : List ℕ) (count last : ℕ) : Type 0 where
   pub short : AreShort (entries_at bytes count)
 
 -- Of each eighth entry, the first one among them, the offset of its gate is remembered.
+-- rule: Journal: The offset of each eighth gate is remembered; the others follow from lengths
 pub record AreMarks (marks : List ℕ) (entries : List (List ℕ)) : Type 0 where
   pub lies : (i : ℕ) → i < length marks → get_or marks i 0 ≡ length (frames (take (8 * i) entries))
   pub enough : length entries ≤ 8 * length marks

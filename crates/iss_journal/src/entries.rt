@@ -76,6 +76,7 @@ fn end_of(bytes: &[u8], gate: usize) -> usize
 }
 
 // Remembers where the gate of an entry lies that comes behind so many, if it is one of the eighth ones.
+// rule: Journal: The offset of each eighth gate is remembered; the others follow from lengths
 #[inline(always)]
 pub(crate) fn mark(marks: &mut Vec<u64>, count: usize, gate: usize)
     requires room { vec_len marks.old < vec_capacity marks.old }

@@ -5,7 +5,7 @@ use crate::entries::Entries;
 use crate::errors::AttachError;
 use crate::keep::keep_entry;
 use crate::load::load;
-use crate::spare::{Reserved, left_behind};
+use crate::reserved::{Reserved, left_behind};
 use iss_disk::{Disk, EndError, Fused, NoMemory};
 use std::alloc::Global;
 

@@ -10,6 +10,7 @@ use iss_disk::{Disk, Failed};
 
 /// Writes a staged entry of two parts behind the last gate, which is closed and stays so until the entry is on the disk;
 /// only then it is opened.
+// rule: Journal: An append writes its entry, syncs, opens the gate, and syncs
 #[inline(always)]
 pub(crate) fn keep_entry<D: Disk>(
     disk: &mut D,

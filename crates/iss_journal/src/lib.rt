@@ -7,9 +7,9 @@ mod journal;
 mod keep;
 mod laws;
 mod load;
+mod reserved;
 mod scan;
 mod settle;
-mod spare;
 
 pub use entries::{Entries, MAX_ENTRY};
 pub use errors::AttachError;

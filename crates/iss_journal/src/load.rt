@@ -14,6 +14,7 @@ use iss_disk::{Disk, EndError};
 use std::alloc::Global;
 
 /// Reads the current file, as far as it reaches.
+// rule: Journal: A file without a reading is damaged, at the offset of its gate
 fn read_file<D: Disk>(alloc: Global, disk: &mut D) -> Result<Vec<u8>, EndError>
     ensures content { IfOk result (λ bytes. IfTold (D.history disk.old) (λ file. bytes.items ≡ file.content)) }
     ensures history { D.history disk.new ≡ D.history disk.old }

@@ -17,6 +17,7 @@ pub enum Found {
 
 // Where the gate behind an entry stands, if behind the open gate at an offset there stand a length, the entry and the
 // next gate.
+// rule: Journal: Attaching reads entries up to the first closed gate, and cuts off the rest
 fn next_gate(bytes: &[u8], gate: usize) -> Option<usize>
     requires { gate < length bytes.now }
     ensures whole { IfSome result (λ next. IsWhole (drop (gate + 1) bytes.now)) }

@@ -1,4 +1,6 @@
--- The core that a row of entries leads to: that of a node which took their events in turn, and nothing else.
+-- The core of a list of entries: the model's step over their events in turn, from a core that has taken nothing. There
+-- is none where an entry is no event, or one that the core before it drops. The first such entry is named by the
+-- offset of its gate.
 use Rattle.std.specs.Prelude.{◌≡◌, ℕ, List, [], ◌∷◌, ◌++◌, length, Option, Some, None}
 use Rattle.iss_journal.specs.Frames.{frames}
 use Rattle.iss_rules.specs.Concrete.{rules_of}
@@ -31,10 +33,12 @@ abbrev pub core_from : {Msg : Type 0} → Setup → Module Msg → ℕ → List 
 core_from s m me [] c = Some c
 core_from s m me (entry ∷ entries) c = from_core (core_with s m me c (event_in s.n entry)) (core_from s m me entries)
 
+-- rule: Persistence: A reopened node is that of its entries, with its next leaf
 abbrev pub core_of : {Msg : Type 0} → Setup → Module Msg → ℕ → List (List ℕ) → Option (Core Msg)
 core_of s m me entries = core_from s m me entries initial_core
 
 -- Entries up to one that is no event, or that the node before it would drop; this is the offset of its gate.
+-- rule: Persistence: An entry that is no event of its node is damage, at the offset of its gate
 pub record StopsAt {Msg : Type 0} (s : Setup) (m : Module Msg) (me : ℕ) (at : ℕ) (entries : List (List ℕ)) : Type 0 where
   pub front : List (List ℕ)
   pub entry : List ℕ

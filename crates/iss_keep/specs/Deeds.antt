@@ -1,4 +1,5 @@
--- What a row of entries did at a node: each event with the turn that it led to, newest first.
+-- What a list of entries did at a node: each event with the turn it led to, newest first. These are a life of the
+-- node, up to the core that the entries lead to. No leaf in them signs two statements, so none does over all restarts.
 use Rattle.std.specs.Prelude.{ℕ, List, [], ◌∷◌, Option, Some, None}
 use Rattle.iss_rules.specs.declared.events.NodeEvent.{NodeEvent}
 use Rattle.iss_model.specs.Node.{Dropped, Stepped, Taken}
@@ -22,5 +23,6 @@ abbrev pub deeds_on : {Msg : Type 0} → Setup → Module Msg → ℕ → List (
 deeds_on s m me [] done = done
 deeds_on s m me (entry ∷ entries) done = did_with s m me (event_in s.n entry) done (deeds_on s m me entries)
 
+-- rule: Persistence: No leaf signs two statements, over all restarts
 abbrev pub deeds_of : {Msg : Type 0} → Setup → Module Msg → ℕ → List (List ℕ) → List (Deed Msg)
 deeds_of s m me entries = deeds_on s m me entries []

@@ -1,11 +1,10 @@
--- The events of a node as the entries of its journal.
+-- The events of a node as the entries of its journal. An event has one entry, and an entry is at most one event. A
+-- leader or a peer is a node; nothing else is an event.
 --
 --   01 and a packet's bytes      the packet came
 --   02                           the node was to propose
---   03, leader (1 byte)          the time for the leader's segment ran out
+--   03, leader (1 byte)          the timer of the leader's segment fired
 --   04, peer (1 byte)            the node asked a peer for its epoch
---
--- A leader and a peer are nodes. Nothing else is an event.
 use Rattle.std.specs.Prelude.{◌≡◌, ℕ, ◌<◌, ◌==◌, nat_lt, cond, List, [], ◌∷◌, Option, Some, None, refl}
 use Rattle.iss_rules.specs.declared.events.NodeEvent.{NodeEvent}
 use Rattle.iss_rules.specs.declared.events.NodeEvent.TheVariants.{AskFrom, Packet, Propose, Timeout}
@@ -30,6 +29,7 @@ NamesNode n Propose = Unit {0}
 NamesNode n (Timeout leader) = leader.0 < n
 NamesNode n (AskFrom peer) = peer.0 < n
 
+-- rule: Persistence: An event has one entry, and an entry encodes at most one event
 abbrev pub IsEntryOf : ℕ → List ℕ → NodeEvent → Type 0
 IsEntryOf n entry event = (entry ≡ spell_event event) × NamesNode n event
 

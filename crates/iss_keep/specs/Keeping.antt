@@ -1,4 +1,5 @@
--- What the parts of one event leave of the node: its step, and the entry behind that.
+-- What the two halves of a journaled event leave: the step of the node, and the append of its entry. The step's
+-- outcome is handed out only with its entry; else the node retreats to the log and epoch from before.
 use Rattle.std.specs.Prelude.{◌≡◌, ℕ, Result, Ok, Err}
 use Rattle.iss_disk.specs.declared.errors.EndError.{EndError}
 use Rattle.iss_disk.specs.declared.errors.EndError.TheVariants.{Failed as Disk_failed, NoMemory as Disk_no_memory}
@@ -51,10 +52,10 @@ HasEnded outcome slots epoch old new Stale = ⊥
 HasEnded outcome slots epoch old new NoMemory = HasRetreated old new slots epoch
 
 -- what is handed out of what a node answered, where its entry was appended so: an event that was not taken has none
-abbrev pub handed : {A : Type 0} → NodeAnswer → Result A EndError → Answer
-handed (Node_taken outcome) (Ok x) = Taken outcome
-handed (Node_dropped why) (Ok x) = Dropped why
-handed Node_no_memory (Ok x) = NoMemory
-handed Node_stale (Ok x) = NoMemory
-handed made (Err Disk_failed) = Failed
-handed made (Err Disk_no_memory) = NoMemory
+abbrev pub released : {A : Type 0} → NodeAnswer → Result A EndError → Answer
+released (Node_taken outcome) (Ok x) = Taken outcome
+released (Node_dropped why) (Ok x) = Dropped why
+released Node_no_memory (Ok x) = NoMemory
+released Node_stale (Ok x) = NoMemory
+released made (Err Disk_failed) = Failed
+released made (Err Disk_no_memory) = NoMemory

@@ -1,4 +1,5 @@
--- What each entry of a row made at a node, and of which leaves of its keys.
+-- What each entry of a journal made at a node: its turn, and the first leaf it may have used. It makes the same in
+-- each recovery, whatever was appended behind it. No leaf belongs to two entries.
 use Rattle.std.specs.Prelude.{ℕ, ◌≤◌, List, [], ◌∷◌, Option, Some, None}
 use Rattle.iss_model.specs.Node.{Core, Dropped, Stepped, Taken, Turn, initial_core}
 use Rattle.iss_rules.specs.declared.events.NodeEvent.{NodeEvent}
@@ -35,6 +36,7 @@ abbrev pub makings_of : {Msg : Type 0} → Setup → Module Msg → ℕ → List
 makings_of s m me entries = makings_from s m me entries initial_core
 
 -- no leaf is of two of them, nor below this one
+-- rule: Persistence: No leaf is used by two entries, over all restarts
 abbrev pub AreApart : {Msg : Type 0} → ℕ → List (Making Msg) → Type 0
 AreApart leaf [] = Unit {0}
 AreApart leaf (x ∷ xs) = (leaf ≤ x.first) × (x.first ≤ x.turn.core.leaf) × AreApart x.turn.core.leaf xs

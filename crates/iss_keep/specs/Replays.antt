@@ -1,4 +1,5 @@
--- How a node goes on by an entry.
+-- Recovery entry by entry: a node that refines a core goes on to the core that the next entry leads to, or the entry
+-- leads nowhere.
 use Rattle.std.specs.Prelude.{◌≡◌, ℕ, Bool, true, false, List, Some, None}
 use Rattle.iss_model.specs.Node.{Core}
 use Rattle.iss_node.specs.State.{NodeView, RefinesCore}

@@ -1,4 +1,7 @@
--- What is seen of a kept node, and which model core it stands for.
+-- What is seen of a kept node: a node, the disk and entries of its journal, and whether it is stale. It refines a core
+-- if it is not stale, its node refines that core, next leaf included, and the entries lead to it. In any case it is
+-- stale, or every crash leaves these entries, and they lead to the core that its node refines, if each ask in them
+-- names a node.
 use Rattle.std.specs.Prelude.{◌≡◌, ◌⊎◌, ℕ, ◌<◌, ◌≤◌, Bool, true, false, List, ◌∷◌, ◌++◌, Some}
 use Rattle.iss_disk.specs.Calls.{IfTold, Room}
 use Rattle.iss_disk.specs.File.{File}

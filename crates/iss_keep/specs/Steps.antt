@@ -1,4 +1,7 @@
--- What a kept node answers.
+-- What a kept node answers. `take`: the event was taken with four device calls, was dropped with none, or was taken
+-- while the disk failed. `reopen`: the entries are those of the file, which is brought to rest and loses none of them;
+-- a refusal names the damaged place. A crash in between leaves the node as before the event or as after it. Meanwhile
+-- a stale node shows the log and epoch from before.
 use Rattle.std.specs.Prelude.{◌≡◌, ◌⊎◌, ℕ, Bool, true, false, List, [], ◌∷◌, ◌++◌}
 use Rattle.iss_disk.specs.Calls.{HasCause, IfTold, Passes, Runs, StaysHere}
 use Rattle.iss_disk.specs.File.{File}
@@ -70,6 +73,7 @@ sight history passes faults current files disk =
     record { history = history disk; passes = passes disk; faults = faults disk; current = current disk; files = files disk }
 
 -- the entries of its journal after an answer to an event with this entry
+-- rule: Persistence: A dropped event changes nothing and is not kept
 abbrev pub entries_after : List (List ℕ) → List ℕ → Answer → List (List ℕ)
 entries_after entries entry (Taken outcome) = entries ++ entry ∷ []
 entries_after entries entry (Dropped why) = entries
@@ -79,6 +83,7 @@ entries_after entries entry NoMemory = entries
 
 -- A crash at any moment of a call that wrote leaves the entries, with the new one or without. Once the event was taken every
 -- crash leaves it; where the disk failed, what was synced holds the entries without it. All other answers leave the file alone.
+-- rule: Persistence: An event is kept before its outcome is handed out
 abbrev pub Writes : List (List ℕ) → List ℕ → List File → List File → Answer → Type 0
 Writes entries entry before now (Taken outcome) =
     LeavesOnly (HoldsWithOrWithout entries entry) before now × IfTold now (OnlyLeaves (λ bytes. Reads bytes (holds (entries ++ entry ∷ []))))
@@ -97,6 +102,7 @@ Calls before now Stale = now ≡ before
 Calls before now NoMemory = now ≡ before
 
 -- What an answer says of the journal, which has these entries later, and of its disk, for an event with this entry.
+-- rule: Persistence: Room for the entry is reserved before the node steps
 pub record IsWritten (entries : List (List ℕ)) (entry : List ℕ) (before now : Sight) (later : List (List ℕ)) (answer : Answer) : Type 0 where
   pub added : later ≡ entries_after entries entry answer
   pub file : Writes entries entry before.history now.history answer
@@ -128,6 +134,7 @@ IsDamaged s m me entries before at =
 -- ---- what stays
 
 -- the log and the epoch that it shows are as they were
+-- rule: Persistence: A stale node takes nothing and shows the log and epoch from before
 pub record ShowsAsBefore {M Msg D : Type 0} (old new : KeptState M Msg D) : Type 0 where
   pub log : new.node.state.log.entries ≡ old.node.state.log.entries
   pub epoch : new.node.state.epoch ≡ old.node.state.epoch

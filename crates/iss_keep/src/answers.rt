@@ -1,6 +1,6 @@
 // What a kept node answers.
 ghost use Rattle.std.specs.Prelude.{◌≡◌};
-ghost use Rattle.iss_keep.specs.Keeping.{handed};
+ghost use Rattle.iss_keep.specs.Keeping.{released};
 ghost use Rattle.iss_keep.specs.Steps.{makes_stale};
 
 use iss_disk::EndError;
@@ -25,7 +25,7 @@ pub enum Answer {
 // Whether a node has to be reopened after what it made, where its entry was appended so.
 #[inline(always)]
 pub(crate) fn makes_stale(made: &NodeAnswer, kept: &Result<(), EndError>) -> bool
-    ensures { result ≡ makes_stale (handed made.now kept.now) }
+    ensures { result ≡ makes_stale (released made.now kept.now) }
 {
     match (made, kept) {
         (NodeAnswer::Taken(_), Ok(())) => false,
@@ -37,7 +37,7 @@ pub(crate) fn makes_stale(made: &NodeAnswer, kept: &Result<(), EndError>) -> boo
 // What a node made is handed out where its entry is kept, and not else.
 #[inline(always)]
 pub(crate) fn release(made: NodeAnswer, kept: Result<(), EndError>) -> Answer
-    ensures { result ≡ handed made kept }
+    ensures { result ≡ released made kept }
 {
     match kept {
         Ok(()) => match made {

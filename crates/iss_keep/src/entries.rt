@@ -89,6 +89,7 @@ fn read_packet(alloc: Global, rest: &[u8]) -> Result<NodeEvent, NoMemory>
 }
 
 /// The event that an entry is, in a cluster of `n` nodes, if it is one.
+// rule: Persistence: An event has one entry, and an entry encodes at most one event
 pub fn decode_entry(alloc: Global, n: u32, entry: &[u8]) -> Result<Option<NodeEvent>, NoMemory>
     ensures { IfOk result (λ event. event ≡ event_in n entry.now) }
 {

@@ -5,7 +5,7 @@ ghost use Rattle.iss_journal.specs.Frames.{Reads, holds, max_entry};
 ghost use Rattle.iss_journal.specs.Promises.{HoldsWithOrWithout, LeavesOnly, OnlyLeaves};
 ghost use Rattle.iss_journal.specs.Sound.{IsSound, NothingChanged, disk_of, entries_of, is_attached};
 ghost use Rattle.iss_keep.specs.Entries.{spell_event};
-ghost use Rattle.iss_keep.specs.Keeping.{HasEnded, HasStepped, handed};
+ghost use Rattle.iss_keep.specs.Keeping.{HasEnded, HasStepped, released};
 ghost use Rattle.iss_keep.specs.Steps.{IsWritten, makes_stale, sight};
 ghost use Rattle.iss_model.specs.Node.{Core};
 ghost use Rattle.iss_rules.specs.Setups.{IsSetupOf};
@@ -78,6 +78,8 @@ fn append_event<D: Disk>(journal: &mut Journal<D>, event: &NodeEvent) -> Result<
 }
 
 // Appends the entry of an event that was taken. Where that fails the node retreats to the log and the epoch from before.
+// rule: Recovery: An event takes four disk calls, and is kept only if all four pass
+// rule: Persistence: An event is kept before its outcome is handed out
 #[inline(always)]
 fn append_or_retreat<M: Sequenced, D: Disk>(
     node: &mut Node<M>,
@@ -93,8 +95,8 @@ fn append_or_retreat<M: Sequenced, D: Disk>(
     requires epoch { epoch.0 ≤ node.old.state.epoch }
     ensures written { (outcome : Outcome) → IsWritten (entries_of journal.old) (spell_event event.now)
         (sight D.history D.passes D.faults D.current D.files (disk_of journal.old))
-        (sight D.history D.passes D.faults D.current D.files (disk_of journal.new)) (entries_of journal.new) (handed (Node_taken outcome) result) }
-    ensures ended { (outcome : Outcome) → HasEnded outcome slots epoch.0 node.old node.new (handed (Node_taken outcome) result) }
+        (sight D.history D.passes D.faults D.current D.files (disk_of journal.new)) (entries_of journal.new) (released (Node_taken outcome) result) }
+    ensures ended { (outcome : Outcome) → HasEnded outcome slots epoch.0 node.old node.new (released (Node_taken outcome) result) }
     ensures sound { IsSound D.history D.room journal.new }
     ensures attached { OnOk result (is_attached journal.new ≡ true) }
 {
@@ -112,6 +114,7 @@ fn append_or_retreat<M: Sequenced, D: Disk>(
 }
 
 // Steps the node, and keeps the entry where the event was taken, of which this is a copy. What the node made of it stands in `made`.
+// rule: Persistence: A dropped event changes nothing and is not kept
 #[inline(always)]
 fn apply_then_append<M: Sequenced, D: Disk>(
     alloc: Global,
@@ -127,10 +130,10 @@ fn apply_then_append<M: Sequenced, D: Disk>(
     requires attached { is_attached journal.old ≡ true }
     requires copy { copy.now ≡ event }
     ensures written { IsWritten (entries_of journal.old) (spell_event copy.now) (sight D.history D.passes D.faults D.current D.files (disk_of journal.old))
-        (sight D.history D.passes D.faults D.current D.files (disk_of journal.new)) (entries_of journal.new) (handed made.new result) }
-    ensures stepped { HasStepped M.spec M.refines event node.old node.new (handed made.new result) }
+        (sight D.history D.passes D.faults D.current D.files (disk_of journal.new)) (entries_of journal.new) (released made.new result) }
+    ensures stepped { HasStepped M.spec M.refines event node.old node.new (released made.new result) }
     ensures sound { IsSound D.history D.room journal.new }
-    ensures attached { makes_stale (handed made.new result) ≡ false → is_attached journal.new ≡ true }
+    ensures attached { makes_stale (released made.new result) ≡ false → is_attached journal.new ≡ true }
     ensures same { (node.new.state.setup ≡ node.old.state.setup) × (node.new.state.me ≡ node.old.state.me) }
 {
     let slots = node.log().entries().len();
@@ -144,6 +147,7 @@ fn apply_then_append<M: Sequenced, D: Disk>(
 
 /// Makes room for the entry of an event, steps the node, and keeps the entry where the event was taken. The node takes the event, so
 /// a copy of it is what is kept. What the node made of it stands in `made`: it is large, and moved once, where it is handed out.
+// rule: Persistence: Room for the entry is reserved before the node steps
 #[inline(always)]
 pub(crate) fn journal_and_apply<M: Sequenced, D: Disk>(
     alloc: Global,
@@ -157,10 +161,10 @@ pub(crate) fn journal_and_apply<M: Sequenced, D: Disk>(
     requires sound { IsSound D.history D.room journal.old }
     requires attached { is_attached journal.old ≡ true }
     ensures written { IsWritten (entries_of journal.old) (spell_event event) (sight D.history D.passes D.faults D.current D.files (disk_of journal.old))
-        (sight D.history D.passes D.faults D.current D.files (disk_of journal.new)) (entries_of journal.new) (handed made.new result) }
-    ensures stepped { HasStepped M.spec M.refines event node.old node.new (handed made.new result) }
+        (sight D.history D.passes D.faults D.current D.files (disk_of journal.new)) (entries_of journal.new) (released made.new result) }
+    ensures stepped { HasStepped M.spec M.refines event node.old node.new (released made.new result) }
     ensures sound { IsSound D.history D.room journal.new }
-    ensures attached { makes_stale (handed made.new result) ≡ false → is_attached journal.new ≡ true }
+    ensures attached { makes_stale (released made.new result) ≡ false → is_attached journal.new ≡ true }
     ensures same { (node.new.state.setup ≡ node.old.state.setup) × (node.new.state.me ≡ node.old.state.me) }
 {
     let Ok(copy) = copy_event(&event) else {

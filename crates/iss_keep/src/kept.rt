@@ -82,6 +82,7 @@ impl<M: Sequenced, D: Disk + Drop> Kept<M, D> {
 impl<M: Sequenced, D: Disk> Kept<M, D> {
     /// Takes an event: makes room for its entry, steps the node, appends the entry where the event was taken, and hands out what it
     /// made only then. An ask is never dropped, and one of a number that is no node leaves an entry that `reopen` finds damaged.
+    // rule: Persistence: A stale node takes nothing and shows the log and epoch from before
     pub fn take(&mut self, event: NodeEvent) -> Answer
         ensures answer { (c : Core M.Msg) → KeptRefinesCore M.spec M.refines self.old c → IsAnswer M.spec M.refines
             (IsOfNodes self.old.setup.n event) self.old c (step_of self.old.setup M.spec self.old.me.0 c event) self.new result }

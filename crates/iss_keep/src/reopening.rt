@@ -59,6 +59,10 @@ fn replay_entry<M: Sequenced>(
 }
 
 // The node that takes the entries in turn. `Damaged` names the gate of the first that is no event or would be dropped.
+// rule: Persistence: A reopened node is that of its entries, with its next leaf
+// rule: Persistence: An entry that is no event of its node is damage, at the offset of its gate
+// rule: Persistence: No leaf is used by two entries, over all restarts
+// rule: Persistence: No leaf signs two statements, over all restarts
 fn replay<M: Sequenced, D: Disk>(
     alloc: Global,
     setup: &Setup,

@@ -1,4 +1,5 @@
--- The keys of all nodes and clients. Their secrets follow from their numbers alone, for demonstration.
+-- The public keys of all nodes and clients. Their secrets follow from their numbers alone, for demonstration: anyone
+-- can compute them. A signature under a number without a key is false.
 use Rattle.std.specs.Prelude.{◌≡◌, ℕ, List, [], ◌∷◌, IsSomeAnd, Some, slice_get}
 use Rattle.sha2.specs.Sha256.{sha256}
 use Rattle.iss_keys.specs.Pieces.{listed}
@@ -23,6 +24,7 @@ abbrev pub public_keys_of : (ℕ → List ℕ) → ℕ → ℕ → List PublicKe
 public_keys_of secret_of h n = listed (λ i. public_key (secret_of i) h) n
 
 -- the directory of n nodes and so many clients, all with trees of height h
+-- rule: Signatures: All keys are a function of the numbers of nodes and clients and the trees' height
 abbrev pub directory_of : ℕ → ℕ → ℕ → DirectoryView
 directory_of n clients h = record {
   nodes = public_keys_of node_secret h n;

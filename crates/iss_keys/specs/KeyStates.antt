@@ -1,4 +1,5 @@
--- What contracts see of a key and of its public key.
+-- What contracts see of a key: its secret, its height, and how many leaves are used, which are those below that
+-- number. Of a public key they see root and height.
 use Rattle.std.specs.Prelude.{ℕ, ◌-◌, ◌^◌, ◌≤◌, List}
 use Rattle.iss_keys.specs.Trees.{root_of}
 
@@ -9,6 +10,7 @@ pub record KeyState : Type 0 where
   pub used : ℕ
 
 -- how many leaves are left
+-- rule: Signatures: A key signs with its least unused leaf
 abbrev pub left_of : KeyState → ℕ
 left_of k = 2 ^ k.height - k.used
 

@@ -1,4 +1,5 @@
--- The tree over the leaves of a secret. Its first byte 0x13 marks an inner node's hash.
+-- The Merkle tree over the leaves of a secret. Node p of level k is a leaf at level 0, else the hash of the two nodes
+-- below, behind the byte 0x13. In memory the root is at place 1, and the nodes under place i are at 2i and 2i + 1.
 use Rattle.std.specs.Prelude.{◌≡◌, ℕ, zero, suc, ◌+◌, ◌-◌, ◌*◌, ◌/◌, ◌%◌, ◌^◌, ◌<◌, ◌≤◌, ◌==◌, List, [], ◌∷◌, ◌++◌, length, slice_index_or, if◌then◌else◌}
 use Rattle.sha2.specs.Sha256.{sha256}
 use Rattle.iss_keys.specs.Chains.{leaf_value}
@@ -8,6 +9,7 @@ abbrev pub inner : List ℕ → List ℕ → List ℕ
 inner left right = sha256 (0x13 ∷ left ++ right)
 
 -- node p of level k, from the left: level 0 has the leaves
+-- rule: Signatures: A hash tree over the leaves gives the root that is the public key
 unfoldable pub node : List ℕ → ℕ → ℕ → List ℕ
 node secret zero p = leaf_value secret p
 node secret (suc k) p = inner (node secret k (2 * p)) (node secret k (2 * p + 1))

@@ -55,6 +55,7 @@ impl Answer {
     }
 
     // The answer, if it is one to this question.
+    // rule: Signatures: A remembered answer is found by all bytes of what was asked, never by a part
     fn answer(&self, key: &PublicKey, statement: &[u8], signature: &[u8]) -> Option<bool>
         ensures right { IfSome result (λ verifies. IsTrue verifies ↔ Verifies key.now.root key.now.height statement.now signature.now) }
         ensures found { self.now ≡ record { key = key.now; statement = statement.now; signature = signature.now } → IsSome result }

@@ -40,6 +40,7 @@ fn message_of_step(leaf: u32, chain: u16, step: u8, x: &[u8; 32]) -> [u8; 40]
 }
 
 // One step along a chain.
+// rule: Signatures: A step of a hash chain hashes its leaf, chain and step with the value before
 fn step_of_chain(leaf: u32, chain: u16, step: u8, x: [u8; 32]) -> [u8; 32]
     ensures { result ≡ chain_step leaf chain step x }
 {

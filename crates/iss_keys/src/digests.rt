@@ -136,6 +136,7 @@ impl Digests {
     }
 
     /// The SHA-256 digest of a string: remembered, or made and then remembered.
+    // rule: Signatures: A remembered answer is found by all bytes of what was asked, never by a part
     pub fn digest(&self, string: &[u8]) -> [u8; 32]
         ensures { result ≡ sha256 string.now }
     {

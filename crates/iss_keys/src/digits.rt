@@ -40,6 +40,7 @@ pub fn checksum_of(digest: &[u8; 32]) -> u16
 }
 
 /// Digit `i` of a digest and its checksum.
+// rule: Signatures: A leaf signs the digits of a statement's digest and of their checksum
 #[tactic(auto, unfolding(crate::specs::Chains::digit))]
 pub fn digit_of(digest: &[u8; 32], sum: u16, i: u16) -> u8
     requires sum { sum ≡ checksum digest.now }

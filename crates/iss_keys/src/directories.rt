@@ -49,6 +49,7 @@ fn verify_by(
 impl Directory {
     /// The directory of nodes and clients whose trees all have one height. Each public key is made when it
     /// is first needed, which takes 1,072 small hashes a leaf and no memory.
+    // rule: Signatures: All keys are a function of the numbers of nodes and clients and the trees' height
     pub fn make(alloc: Global, n: u32, clients: u32, height: u8) -> Result<Directory, NoMemory>
         requires n { n ≤ 256 }
         requires clients { clients ≤ 256 }

@@ -161,6 +161,8 @@ impl Keys {
 
     /// Signs by the least leaf that is not used, which is used from then on. After either error the key is
     /// as it was.
+    // rule: Signatures: A key signs with its least unused leaf
+    // rule: Signatures: A node signs at most one statement with each leaf
     pub fn sign(&mut self, statement: &[u8]) -> Result<Vec<u8>, SignError>
         ensures exact { IfOk result (λ sig. sig.items ≡ signature_of self.old.secret self.old.height self.old.used statement.now) }
         ensures verifies { IfOk result (λ sig. Verifies (root_of self.old.secret self.old.height) self.old.height statement.now sig.items) }

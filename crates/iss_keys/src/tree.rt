@@ -59,6 +59,7 @@ pub fn tree_of(alloc: Global, secret: &[u8; 32], height: u8) -> Result<Vec<[u8; 
 }
 
 // A node of the tree over a secret. It takes no memory: at most one digest of each level is waiting.
+// rule: Signatures: A hash tree over the leaves gives the root that is the public key
 #[tactic(auto, unfolding(crate::specs::Trees::node))]
 fn node_of(secret: &[u8; 32], level: u8, place: u32) -> [u8; 32]
     requires { (place + 1) * 2 ^ level ≤ 4096 }

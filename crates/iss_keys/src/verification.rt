@@ -79,6 +79,7 @@ fn root_of_part(leaf: u32, height: u8, digest: &[u8; 32], part: &[u8]) -> [u8; 3
 }
 
 /// Whether `signature` is one of `statement` under `key`. It takes no memory, and any bytes may be given.
+// rule: Signatures: A signature verifies if its chains and its path lead to the root of the key
 pub fn verify(key: &PublicKey, statement: &[u8], signature: &[u8]) -> bool
     ensures { IsTrue result ↔ Verifies key.now.root key.now.height statement.now signature.now }
 {

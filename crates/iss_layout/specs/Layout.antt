@@ -1,4 +1,8 @@
--- Which node leads which slots of an epoch, and which node owns which bucket of requests.
+-- Which node leads which slots of an epoch, and which node owns which bucket of requests. Leaders follow from set-up,
+-- epoch and the log before it, by one of three policies (simple, backoff, blacklist). The slots of an epoch go round
+-- among its leaders. A bucket's owner is its home node, which moves on by one each epoch, if that leads; else the
+-- leaders take turns. For this the log is cut into the epochs that have ended, each with its slots that hold nil.
+-- There is always a leader: where the policy admits none, all nodes lead.
 use Rattle.std.specs.Prelude.{◌≡◌, ℕ, zero, suc, ◌+◌, ◌-◌, ◌*◌, ◌%◌, ◌^◌, ◌<◌, ◌≤◌, ◌==◌, min, max, nat_lt, nat_le}
 use Rattle.std.specs.Prelude.{Bool, true, false, not, ◌&&◌, List, [], ◌∷◌, ◌++◌, length, Option, Some, None, get_or, slice_get, if◌then◌else◌, ◌↔◌}
 use Rattle.std.specs.List.{count_by, filter, list_any}
@@ -46,6 +50,7 @@ abbrev pub IsSlotOf : Plan → ℕ → Type 0
 IsSlotOf p s = (first_slot p ≤ s) × (s < first_slot p + p.slots)
 
 -- the slots of an epoch are dealt to its leaders round-robin
+-- rule: Layout: The leaders of an epoch take its slots in turn
 abbrev pub slot_leader : Plan → ℕ → Option NodeId
 slot_leader p s = at_turn p.leaders (s - first_slot p)
 
@@ -57,10 +62,12 @@ abbrev pub home : Plan → ℕ → ℕ
 home p b = (b + p.epoch) % p.nodes
 
 -- The home owns the bucket if it leads. Otherwise the leaders share such buckets round-robin.
+-- rule: Layout: A bucket's home moves by one node an epoch and owns it if it leads; else leaders take turns
 abbrev pub bucket_owner : Plan → ℕ → Option NodeId
 bucket_owner p b = if leads p (home p b) then Some (node (home p b)) else at_turn p.leaders (b + p.epoch)
 
 -- the bucket of a request
+-- rule: Layout: A request's bucket is a function of its client and number alone
 abbrev pub bucket_of : Plan → ReqId → ℕ
 bucket_of p q = (q.client + q.number) % p.buckets
 
@@ -98,6 +105,7 @@ has_failed x i = list_any (is_slot_of_leader x.plan i) x.nils
 abbrev pub doubled : ℕ → ℕ
 doubled w = if w == 0 then 1 else min (2 * w) 64
 
+-- rule: Layout: A leader with a nil slot is banned for its weight, which doubles up to 64; else it loses one
 abbrev pub weight : List Ended → ℕ → ℕ
 weight [] i = 0
 weight (x ∷ past) i = if leads x.plan i then (if has_failed x i then doubled (weight past i) else weight past i - 1)
@@ -129,6 +137,7 @@ abbrev pub conduct_of : List Ended → ℕ → Conduct
 conduct_of past i = record { weight = weight past i; ban = ban past i; worst = past_all (nils_under past i) }
 
 -- Blacklist: a node is listed if a slot became nil under it, and at most f nodes (itself included) have one as late.
+-- rule: Layout: The blacklist leaves out the at most f nodes with the greatest nil slots
 abbrev pub is_listed : Setup → (ℕ → Conduct) → NodeId → Bool
 is_listed s c i = nat_lt 0 (c i.0).worst &&
     nat_le (count_by (λ j. nat_le (c i.0).worst (c j.0).worst) (nodes_below s.n)) s.f
@@ -175,6 +184,8 @@ abbrev pub with_next : Setup → ℕ → List Value → List Ended → List Ende
 with_next s e log past = next_ended s e log past ∷ past
 
 -- the first e epochs of a log, newest first
+-- rule: Layout: Who leads an epoch is a function of the log before it
+-- rule: Epochs: The policy reads the nil slots of an epoch before the next one is divided
 abbrev pub epochs : Setup → ℕ → List Value → List Ended
 epochs s zero log = []
 epochs s (suc e) log = with_next s e log (epochs s e log)

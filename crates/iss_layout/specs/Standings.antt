@@ -1,4 +1,4 @@
--- How a standing keeps what it knows of a node, and how an epoch changes it.
+-- How the code keeps what the past epochs say about a node, and how the end of an epoch changes it.
 use Rattle.std.specs.Prelude.{ℕ, suc, ◌-◌, max, nat_lt, Bool, if◌then◌else◌, Option, Some, None}
 use Rattle.iss_request.specs.declared.ids.Slot.{Slot}
 use Rattle.iss_layout.specs.Layout.{Conduct, doubled}

@@ -50,6 +50,8 @@ impl Model for Layout {
 impl Layout {
     /// The division of an epoch, given its first slot and the standing after all earlier epochs. All of its slots must
     /// be below 2^64.
+    // rule: Layout: Who leads an epoch is a function of the log before it
+    // rule: Layout: An epoch begins where the one before it ends
     pub fn of(setup: &Setup, epoch: Epoch, start: u64, standing: &Standing) -> Layout
         requires good { IsGoodSetup setup.now }
         requires fits { start + setup.now.epoch ≤ 2 ^ 64 }
@@ -91,6 +93,7 @@ impl Layout {
     }
 
     /// The leader of a slot of the epoch. Slots are dealt to the leaders round-robin.
+    // rule: Layout: The leaders of an epoch take its slots in turn
     pub fn segment_of(&self, slot: Slot) -> NodeId
         requires { IsSlotOf self.now slot.0 }
         ensures { slot_leader self.now slot.0 ≡ Some result }
@@ -113,6 +116,7 @@ impl Layout {
     }
 
     /// The leader that owns a bucket. The bucket must be below `buckets`.
+    // rule: Layout: A bucket's home moves by one node an epoch and owns it if it leads; else leaders take turns
     pub fn owner_of(&self, bucket: u32) -> NodeId
         requires { bucket < self.now.buckets }
         ensures { bucket_owner self.now bucket ≡ Some result }
@@ -134,6 +138,7 @@ impl Layout {
     }
 
     /// The bucket of a request.
+    // rule: Layout: A request's bucket is a function of its client and number alone
     pub fn bucket_of(&self, id: ReqId) -> u32
         ensures value { result ≡ bucket_of self.now id }
         ensures below { result < self.now.buckets }

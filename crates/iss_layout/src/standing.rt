@@ -77,6 +77,7 @@ impl Standing {
     }
 
     // Whether the blacklist excludes the node: a slot became nil under it, and at most f nodes have one as late.
+    // rule: Layout: The blacklist leaves out the at most f nodes with the greatest nil slots
     fn is_listed(&self, setup: &Setup, node: NodeId) -> bool
         requires good { IsGoodSetup setup.now }
         requires node { node.0 < setup.now.n }
@@ -153,6 +154,7 @@ fn doubled(weight: u32) -> u32
 }
 
 // What is known of a node after an epoch. `worst` is the greatest slot that became nil under it there.
+// rule: Layout: A leader with a nil slot is banned for its weight, which doubles up to 64; else it loses one
 fn changed(known: Record, led: bool, worst: Option<Slot>) -> Record
     ensures { shown result ≡ changed (shown known) led (behind worst) }
 {

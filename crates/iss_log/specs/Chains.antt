@@ -1,5 +1,6 @@
--- The digests that stand for a log. A value is hashed behind the number 64, and a link behind 66: the digest of the log before,
--- and that of the value. The chain of no value is the digest of no byte.
+-- The digest chain that identifies a log. A value is hashed behind the byte 64, and a link behind 66: the digest of
+-- the log before, and that of the value. The chain of no value is the digest of no byte. An end is a chain and the
+-- number of requests up to it.
 use Rattle.std.specs.Prelude.{◌≡◌, ℕ, suc, ◌+◌, ◌≤◌, List, [], ◌∷◌, ◌++◌, length, take, Some, slice_get}
 use Rattle.iss_request.specs.Digest.{digest}
 use Rattle.iss_request.specs.Formats.{value_string}
@@ -23,6 +24,7 @@ abbrev pub strings_of : ℕ → List ℕ → Value → List (List ℕ)
 strings_of version before v = value_string version v ∷ value_link version before v ∷ []
 
 -- the chain digest with these values added, and all that is hashed for them
+-- rule: Log: The chain of a log links the digest of each value, also of nil, to the chain before it
 abbrev pub chain_from : ℕ → List ℕ → List Value → List ℕ
 chain_from version before [] = before
 chain_from version before (v ∷ vs) = chain_from version (linked version before v) vs
@@ -36,6 +38,7 @@ abbrev pub chain_of : ℕ → List Value → List ℕ
 chain_of version log = chain_from version (digest []) log
 
 -- what identifies a log, and the same with one more value
+-- rule: Log: The end of a log counts requests, not slots
 abbrev pub end_of : ℕ → List Value → End
 end_of version log = record { chain = chain_of version log; requests = requests log }
 

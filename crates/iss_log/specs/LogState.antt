@@ -1,4 +1,6 @@
--- What is seen of a log: the values that joined it, in the order of the slots, and the values that are filled behind it.
+-- What is seen of a log: the values that joined it in slot order, and the values filled ahead of it. Filling a slot
+-- tells whether it is past, filled already, or filled now. Advancing makes the log the longest run of filled slots
+-- from 0. The number of a request is that of the requests before it; nil has none.
 use Rattle.std.specs.Prelude.{◌≡◌, ℕ, ◌<◌, ◌≤◌, nat_lt, ◌==◌, List, [], ◌++◌, length, take, Option, Some, None, IsSome, slice_get, slice_index, if◌then◌else◌, Result, Ok, Err}
 use Rattle.std.specs.Map.{lookup}
 use Rattle.std.specs.Ordering.{is_eq, nat_cmp}
@@ -26,6 +28,7 @@ abbrev pub value_at : LogState → ℕ → Option Value
 value_at l s = first_of (slice_get l.entries s) (ahead_at l.ahead s)
 
 -- The number of a slot's first request, which is the count of requests in earlier slots. None past the log.
+-- rule: Log: A request's number is the sum of earlier batch sizes plus its place; nil counts 0
 abbrev pub first_number_of : List Value → ℕ → Option ℕ
 first_number_of entries s = if nat_lt s (length entries) then Some (requests (take s entries)) else None
 
@@ -47,6 +50,7 @@ pub record IsAlready (old : LogState) (slot : ℕ) (new : LogState) : Type 0 whe
   pub same : new ≡ old
 
 -- what filling a slot does, by its result
+-- rule: Log: A slot is filled once
 abbrev pub IsFill : LogState → ℕ → Value → LogState → Result Fill NoMemory → Type 0
 IsFill old slot value new (Ok Filled) = IsFilled old slot value new
 IsFill old slot value new (Ok Already) = IsAlready old slot new

@@ -7,13 +7,11 @@ ghost use Rattle.iss_log.specs.Chains.{IsChainOf, chain_of, link_string, next_en
 
 use crate::log::size;
 use iss_keys::Directory;
-use iss_request::{Bytes, NoMemory, Seq, Value, Writer, write_value};
+use iss_request::{Bytes, NoMemory, Seq, Value, value_string};
 use std::alloc::Global;
 use std::marker::Model;
 
-// The byte before a value that is hashed, and the byte before a link.
-const VALUE: u8 = 0x40;
-
+// The first byte of a link's string.
 const LINK: u8 = 0x42;
 
 /// What identifies a log: its chain digest, and the number of requests in it.
@@ -106,16 +104,6 @@ impl Chains {
     }
 }
 
-/// The string that is hashed for a value.
-pub fn string_of(alloc: Global, version: u8, value: &Value) -> Result<Bytes, NoMemory>
-    ensures { IfOk result (λ s. s ≡ value_string version value.now) }
-{
-    let mut out = Writer::new(alloc, version);
-    out.put_u8(VALUE)?;
-    write_value(value, &mut out)?;
-    Ok(out.into_bytes())
-}
-
 // The string of a link: the digest of the log before, and the digest of the value.
 fn link_of(alloc: Global, before: &[u8; 32], value: &[u8; 32]) -> Result<Bytes, NoMemory>
     ensures { IfOk result (λ s. s ≡ link_string before.now value.now) }
@@ -137,6 +125,8 @@ fn digest_of(directory: &Directory, string: &Bytes) -> [u8; 32]
 
 /// What identifies a log with one more value. The strings hashed for it are appended: the value's and the link's. The
 /// error is out of memory, also if the requests pass 2^64 - 1.
+// rule: Log: The chain of a log links the digest of each value, also of nil, to the chain before it
+// rule: Log: The end of a log counts requests, not slots
 pub fn link(
     alloc: Global,
     directory: &Directory,
@@ -149,7 +139,7 @@ pub fn link(
     ensures hashed { OnOk result (hashed.new ≡ hashed.old ++ strings_of version before.now.chain value.now) }
 {
     let requests = before.requests.checked_add(size(value)).ok_or(NoMemory)?;
-    let string = string_of(alloc, version, value)?;
+    let string = value_string(alloc, version, value)?;
     let digest = digest_of(directory, &string);
     let link = link_of(alloc, &before.chain, &digest)?;
     let chain = digest_of(directory, &link);

@@ -6,5 +6,5 @@
 pub mod chains;
 pub mod log;
 
-pub use chains::{Chains, End, link, string_of};
+pub use chains::{Chains, End, link};
 pub use log::{Fill, Joined, Log};

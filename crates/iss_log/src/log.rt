@@ -60,6 +60,7 @@ impl Log {
 
     /// Puts a value in an empty slot. It joins the log at the next `advance` that reaches it. On out of memory nothing
     /// changes.
+    // rule: Log: A slot is filled once
     pub fn fill(&mut self, slot: Slot, value: Value) -> Result<Fill, NoMemory>
         ensures { IsFill self.old slot.0 value self.new result }
     {
@@ -75,6 +76,7 @@ impl Log {
 
     /// Adds to the log all values that follow it without a gap. The error is out of memory, also if the requests pass
     /// 2^64 - 1. The old log stays a prefix then.
+    // rule: Log: The log is the longest run of filled slots from slot 0
     pub fn advance(&mut self) -> Result<Joined, NoMemory>
         ensures ok { IfOk result (λ joined. IsAdvanced self.old self.new joined.slots) }
         ensures err { OnErr result (GoesOn self.old.entries self.new.entries) }
@@ -103,6 +105,7 @@ impl Log {
     }
 
     /// The number of a slot's first request, or `None` past the log.
+    // rule: Log: A request's number is the sum of earlier batch sizes plus its place; nil counts 0
     pub fn first_number(&self, slot: Slot) -> Option<u64>
         ensures { result ≡ first_number_of self.now.entries slot.0 }
     {

@@ -26,7 +26,7 @@ use Rattle.iss_rules.specs.Judge.{judge, marks}
 use Rattle.iss_buckets.specs.Waiting.{absent, cut}
 use Rattle.iss_rules.specs.Parcels.{Formats, OfRequest, Parcel}
 use Rattle.iss_rules.specs.Verdicts.{verdict}
-use Rattle.iss_model.specs.Node.{Core, Early, Taken, Turn, first_slot, flown, has_slot, initial_core, in_next_epoch, step_unjudged, is_castable, is_mine, joined, next_slot, unchanged, returned, advance_epochs, step, adopts_piece, ends, then_turn, refiled, takes_each}
+use Rattle.iss_model.specs.Node.{Core, Early, Taken, Turn, first_slot, flown, has_slot, initial_core, in_next_epoch, step_unjudged, is_castable, is_mine, joined, next_slot, unchanged, returned, advance_epochs, step, adopts_piece, ends, then_turn, after_growth, takes_each}
 use Rattle.iss_rules.specs.Votes.{cert_on, keeping, stable}
 use Rattle.iss_rules.specs.Past.{Past, Piece, adopted_at, adopts, advanced, asked_in, before, before_own, is_complete, log_of, params_of, start_of, takes}
 use Rattle.iss_rules.specs.Rules.{Rules}
@@ -76,17 +76,17 @@ module _ {Msg : Type 0} (F : Formats Msg) (R : Rules) (M : Module Msg) (me : ℕ
       R.inside (before_own R M me past) past.epoch x ≡ true) →
       start_of R (log_of R M me past) past.epoch ≤ length (log_of R M me past) →
       ((e k : ℕ) (v : Value) → adopted_at past.adopted e k ≡ Some v → e < past.epoch) → ((e l : ℕ) → past.epoch < e → past.evidence e l ≡ []) →
-      IsSoundCore R M me (refiled R M me c past leaf)
+      IsSoundCore R M me (after_growth R M me c past leaf)
   refiled-sound c past leaf h later inside reached settled unborn =
       let old = log_of R M me c.past in
       let new = log_of R M me past in
       let gone = log_ids (joined (length old) new) in
       let grown : Extends old new = log-later R M me c.past past later in
-      let within : (q : Request) → In q (held (refiled R M me c past leaf)) → In q (held c) = refiled-in gone (log_ids new) new c.waiting c.flight in
+      let within : (q : Request) → In q (held (after_growth R M me c past leaf)) → In q (held c) = refiled-in gone (log_ids new) new c.waiting c.flight in
       record {
         different = refiled-once gone (log_ids new) new c.waiting c.flight h.different;
         signed = λ q i. h.signed q (within q i);
-        inside = λ x i none. inside x (ids-within (held (refiled R M me c past leaf)) (held c) within x i) none
+        inside = λ x i none. inside x (ids-within (held (after_growth R M me c past leaf)) (held c) within x i) none
             (λ k. none (subst (λ (t : List Value). In x (log_ids t)) (sym grown.1) (log_ids-extends x grown.0 old k)));
         unordered = λ x i j. elim (ids-append x (absent gone c.waiting) (absent (log_ids new) (returned new c.flight)) i) [
           | inl a ↦
@@ -256,7 +256,7 @@ module _ {Msg : Type 0} (F : Formats Msg) (R : Rules) (M : Module Msg) (me : ℕ
         let ahead : Extends bf (before_own R M me past) =
         subst (λ (xs : List Value). Extends bf (oldest (start_of R new (suc c.past.epoch)) xs)) (sym part.1)
         (oldest-holds (start_of R new (suc c.past.epoch)) part.0 bf (omega (arith, long, start, next))) in
-        kept-sound (refiled R M me c past c.leaf) [] c.votes (keeping c.certs p.cert (cert_on c.certs c.past.epoch)) c.leaf
+        kept-sound (after_growth R M me c past c.leaf) [] c.votes (keeping c.certs p.cert (cert_on c.certs c.past.epoch)) c.leaf
         (refiled-sound c past c.leaf h later
         (λ x i none fresh. windows.kept bf (before_own R M me past) c.past.epoch (suc c.past.epoch) x (h.inside x i fresh) ahead (omega arith)
         (λ k.

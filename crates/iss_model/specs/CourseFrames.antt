@@ -1,4 +1,4 @@
--- What disks and restarts do in the frame of a run: `NAME_in` is what NAME is in a frame.
+-- What disks and restarts do in the frame of a run. Definitions in a frame have the suffix `_in`.
 use Rattle.std.specs.Prelude.{ℕ, List}
 use Rattle.iss_schedule.specs.declared.schedules.Event.{Event}
 use Rattle.iss_rules.specs.declared.events.NodeEvent.{NodeEvent}

@@ -1,5 +1,7 @@
--- A run in which disks fail and cores are made anew. A core keeps each event on its disk before anything of the event is handed out,
--- and one whose disk has failed takes nothing until it is made anew of the events that the disk keeps.
+-- A run in which disks fail and cores recover. A core journals each event before anything of it is handed out. A core
+-- whose disk has failed takes nothing; an event that is dropped makes no device call. If the disk fails at an event,
+-- nothing of the step comes out, and the core is as before. A restarted core is the one that its journaled events lead
+-- to; it sends nothing, and network and books stay.
 use Rattle.std.specs.Prelude.{ℕ, zero, suc, cond, true, false, List, [], ◌∷◌, Option, Some, None}
 use Rattle.iss_base.specs.Lists.{nth, set_at}
 use Rattle.iss_network.specs.Network.{Network, cleared, due, held_to, settled}
@@ -62,6 +64,7 @@ with_disks w behind d = record {
 
 -- The disk fails before the event is journaled. A forged claim in what was received still stops the run. Otherwise
 -- nothing of the step takes effect: the core is unchanged and sends nothing.
+-- rule: Recovery: An event that is not kept is lost (`Stopped`), and the core is as it was before
 abbrev pub stops : {Msg : Type 0} → Option Claim → Machines Msg → ℕ → Upshot Msg
 stops None w c = machines_lost (with_disk w c (fails (w.disks c))) Stopped
 stops (Some claim) w c = record { machines = w; lost = None; ended = Some (Forged claim) }
@@ -76,6 +79,7 @@ by_step s F R M w c event (Taken turn) =
     (stops (first_forged s R w.held.signed (claims_at F R M (node_of s c) (w.held.net.cores c) event)) w c)
 
 -- Core c takes an event. If its disk has failed, it reads nothing and the event is lost.
+-- rule: Recovery: A core whose disk has failed takes and reads nothing until it recovers
 abbrev pub at_machine : {Msg : Type 0} → Setup → Formats Msg → Rules → Module Msg → Machines Msg → ℕ →
     NodeEvent → Upshot Msg
 at_machine s F R M w c event =
@@ -97,6 +101,7 @@ core_of F R M me (event ∷ older) =
 
 -- Core c is recovered from its journal. It sends nothing again. Packets that wait for it still wait, and a hold on it
 -- stays.
+-- rule: Recovery: A recovered core is that of its kept events; it sends nothing and its packets still wait
 abbrev pub recover : {Msg : Type 0} → Setup → Formats Msg → Rules → Module Msg → Machines Msg → ℕ → Machines Msg
 recover s F R M w c =
     record {
@@ -119,12 +124,14 @@ unless None d more = more d.machines
 unless (Some end) d more = d
 
 -- packet k is taken by its core and leaves the queue
+-- rule: Recovery: A missing packet is reported before the disk is asked
 abbrev pub delivered_to : {Msg : Type 0} → Setup → Formats Msg → Rules → Module Msg → Machines Msg → ℕ →
     Option Sent → Upshot Msg
 delivered_to s F R M w k None = machines_lost w NoPacket
 delivered_to s F R M w k (Some p) = at_machine s F R M (with_packets w (settled w.held.net.network k)) p.to
     (On_packet p.bytes)
 
+-- rule: Network: A delivered packet is taken by its core, whether or not it still waits
 abbrev pub delivers : {Msg : Type 0} → Setup → Formats Msg → Rules → Module Msg → Machines Msg → ℕ → Upshot Msg
 delivers s F R M w k = delivered_to s F R M w k (nth w.held.net.network.packets k)
 
@@ -141,6 +148,7 @@ abbrev pub pumps : {Msg : Type 0} → Setup → Formats Msg → Rules → Module
 pumps s F R M w = delivers_each s F R M (due w.held.net.network) w
 
 -- n pumps; a pump that finds no packet changes nothing
+-- rule: Network: A calm is n pumps, fewer if one finds nothing or ends the run
 abbrev pub calms : {Msg : Type 0} → Setup → Formats Msg → Rules → Module Msg → ℕ → Machines Msg → Upshot Msg
 calms s F R M zero w = machines_done w
 calms s F R M (suc m) w =
@@ -148,6 +156,7 @@ calms s F R M (suc m) w =
     unless d.ended d (calms s F R M m)
 
 -- packet k leaves the queue undelivered
+-- rule: Network: A lost packet waits no more
 abbrev pub loses : {Msg : Type 0} → Machines Msg → ℕ → Option Sent → Upshot Msg
 loses w k None = machines_lost w NoPacket
 loses w k (Some p) = machines_done (with_packets w (settled w.held.net.network k))

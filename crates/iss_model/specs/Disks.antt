@@ -1,4 +1,5 @@
--- The disk of a core, as a run sees it: which events of the core it keeps, and which of its calls pass.
+-- The disk of a core, as a run sees it: the journaled events, newest first, how many calls pass before all others
+-- fail, and whether one has failed since the last restart. An event is journaled by four calls, or not at all.
 use Rattle.std.specs.Prelude.{ℕ, ◌-◌, nat_le, Bool, true, false, List, [], ◌∷◌, Option, Some, None}
 use Rattle.iss_rules.specs.declared.events.NodeEvent.{NodeEvent}
 
@@ -20,6 +21,7 @@ abbrev pub entry_calls : ℕ
 entry_calls = 4
 
 -- whether enough calls are left to journal the next event
+-- rule: Recovery: An event takes four disk calls, and is kept only if all four pass
 abbrev pub may_keep : Option ℕ → Bool
 may_keep None = true
 may_keep (Some calls) = nat_le entry_calls calls
@@ -38,6 +40,7 @@ abbrev pub fails : Disk → Disk
 fails d = record { kept = d.kept; passes = Some 0; failed = true }
 
 -- n more calls succeed and all later ones fail; a disk that has failed stays failed
+-- rule: Recovery: After a crash n more disk calls of a core pass, and all others fail until it recovers
 abbrev pub fused : Disk → ℕ → Disk
 fused d calls = record { kept = d.kept; passes = Some calls; failed = d.failed }
 

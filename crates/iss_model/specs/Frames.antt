@@ -1,4 +1,5 @@
--- The frame of a run: all that stays the same in it. `NAME_in` is what NAME is in a frame.
+-- The frame of a run: set-up, formats, rules and module, which stay the same throughout it. Definitions in a frame
+-- have the suffix `_in`.
 use Rattle.std.specs.Prelude.{ℕ, List}
 use Rattle.iss_request.specs.declared.setups.Setup.{Setup}
 use Rattle.iss_schedule.specs.declared.schedules.Event.{Event}

@@ -1,4 +1,8 @@
--- One node over all epochs: what it holds, and one step of it.
+-- One replica over all epochs: what a core holds, and one step of it. A core has its past, waiting requests, batches
+-- in flight, early messages, votes, certificates, and the next leaf. Bytes decode to a request, a module's message, a
+-- vote, an ask or a piece; each is taken or dropped for the first cause that holds. A proposal casts a batch of own
+-- waiting requests at the first free slot. When the log holds the whole epoch, the replica votes, enters the next one,
+-- and takes what came early. A turn is what a step leads to: the core, the sends, the claims and the hashed strings.
 use Rattle.std.specs.Prelude.{ℕ, suc, ◌+◌, ◌-◌, ◌==◌, nat_lt, cond, Bool, false, not, ◌&&◌, ◌||◌}
 use Rattle.std.specs.Prelude.{List, [], ◌∷◌, ◌++◌, Option, Some, None, length, is_some, reverse, take}
 use Rattle.iss_buckets.specs.Waiting.{absent, cut, uncut}
@@ -91,14 +95,15 @@ abbrev pub joined : ℕ → List Value → List Value
 joined n log = take (length log - n) log
 
 -- the own requests at slots that became nil, in the order of their proposals
+-- rule: Epochs: Requests proposed in a slot that became nil wait again, unless they are ordered
 abbrev pub returned : List Value → List (Slot × Batch) → List Request
 returned log [] = []
 returned log (x ∷ xs) = cond (is_nil_at log x.0.0) (x.1 ++ returned log xs) (returned log xs)
 
 -- The core after its log grew. Ordered requests leave the waiting list, and filled slots leave the flight. Own requests
 -- at slots that became nil are queued again, last, unless the log holds them.
-abbrev pub refiled : {Msg : Type 0} → Rules → Module Msg → ℕ → Core Msg → Past Msg → ℕ → Core Msg
-refiled R M me c past leaf =
+abbrev pub after_growth : {Msg : Type 0} → Rules → Module Msg → ℕ → Core Msg → Past Msg → ℕ → Core Msg
+after_growth R M me c past leaf =
     let old = log_of R M me c.past in
     let log = log_of R M me past in
     record {
@@ -126,6 +131,7 @@ only_by i [] = []
 only_by i (c ∷ cs) = cond (c.by.0 == i) (c ∷ only_by i cs) (only_by i cs)
 
 -- the own claims of node i in the messages that it sends
+-- rule: Evidence: An outcome lists the node's own claims in all that it sends
 abbrev pub own_claims : {Msg : Type 0} → Module Msg → Params → ℕ → List (To × Msg) → List Claim
 own_claims M p i [] = []
 own_claims M p i (x ∷ xs) = only_by i (M.claims p i x.1) ++ own_claims M p i xs
@@ -135,7 +141,7 @@ abbrev pub step_unjudged : {Msg : Type 0} → Formats Msg → Rules → Module M
 step_unjudged F R M me c l input =
     let made = made_in R M me c.past l input c.leaf in
     record {
-      core = refiled R M me c (takes R M me c.past l input c.leaf) (c.leaf + made.used);
+      core = after_growth R M me c (takes R M me c.past l input c.leaf) (c.leaf + made.used);
       sends = packed F me c.past.epoch l made.sends;
       own = own_claims M (params_of R M me c.past l) me made.sends;
       early = [];
@@ -149,6 +155,7 @@ by_verdict None turn = Taken turn
 by_verdict (Some x) turn = Dropped (Refused x)
 
 -- the step may sign and still leave one leaf for the checkpoint vote
+-- rule: Acceptance: A node keeps one leaf back for its vote at the end of the epoch
 abbrev pub has_leaves : {Msg : Type 0} → Module Msg → Params → ℕ → Bool
 has_leaves M p leaf = not (nat_lt (left_of (record { secret = []; height = p.setup.keys; used = leaf }))
     (suc (M.signs p)))
@@ -161,6 +168,7 @@ claims_of_input M p Timeout = []
 
 -- Steps the instance of leader l, unless (in this order) l does not lead this epoch, a claimed signature is invalid,
 -- too few leaves are left, or the judge refuses the batch.
+-- rule: Acceptance: An instance takes an input if it leads, its claims verify, leaves are left, no refusal
 abbrev pub try_step : {Msg : Type 0} → Formats Msg → Rules → Module Msg → ℕ → Core Msg → ℕ → Input Msg → Stepped Msg
 try_step F R M me c l input =
     cond (not (leads_in R M me c.past l)) (Dropped NotLeader)
@@ -205,6 +213,7 @@ vote_on R M me c =
     }
 
 -- a node that ends its epoch sends its checkpoint vote to all, and begins the next epoch
+-- rule: Checkpoints: A node whose log ends an epoch votes to all on the log's chain and request count
 abbrev pub ends : {Msg : Type 0} → Formats Msg → Rules → Module Msg → ℕ → Core Msg → Turn Msg
 ends F R M me c =
     let v = vote_on R M me c in
@@ -226,12 +235,14 @@ or_unchanged c (Dropped why) = unchanged c
 or_unchanged c (Taken turn) = turn
 
 -- Takes an early message as if it arrived now. If it is dropped it is gone, but its claims were read.
+-- rule: Evidence: The claims of an early message are read even where the message is then refused
 abbrev pub takes_early : {Msg : Type 0} → Formats Msg → Rules → Module Msg → ℕ → Core Msg → Early Msg → Turn Msg
 takes_early F R M me c x =
     let t = ended F R M me (or_unchanged c (try_step F R M me c x.leader (Receive (record { 0 = x.from }) x.msg))) in
     record t { early = claims_in R M me c.past x.from x.leader x.msg }
 
 -- takes early messages in order while the node is in epoch e
+-- rule: Epochs: Early messages are taken once each, in order of arrival, while their epoch lasts
 abbrev pub takes_each : {Msg : Type 0} → Formats Msg → Rules → Module Msg → ℕ → ℕ → List (Early Msg) →
     Core Msg → Turn Msg
 takes_each F R M me e [] c = unchanged c
@@ -239,6 +250,7 @@ takes_each F R M me e (x ∷ xs) c =
     cond (c.past.epoch == e) (then_turn (takes_early F R M me c x) (takes_each F R M me e xs)) (unchanged c)
 
 -- If the step filled the epoch, the node votes, begins the next epoch, and takes the messages that came early for it.
+-- rule: Epochs: An epoch ends when the log holds all of it, and the next begins with fresh instances
 abbrev pub advance_epochs : {Msg : Type 0} → Formats Msg → Rules → Module Msg → ℕ → Turn Msg → Turn Msg
 advance_epochs F R M me t =
     cond (is_complete R M me t.core.past)
@@ -262,6 +274,8 @@ is_known R M me c x = has_id x (ids c.waiting) ||
 
 -- A client's request is queued, unless (in this order) it is unsigned or of no client, already known, or outside the
 -- client's window.
+-- rule: Acceptance: A request that its client did not sign is dropped before any other test
+-- rule: Acceptance: A request is taken inside its window, if not waiting, in flight or ordered
 abbrev pub takes_request : {Msg : Type 0} → Rules → Module Msg → ℕ → Core Msg → Request → Stepped Msg
 takes_request R M me c q =
     cond (not (R.signed q)) (Dropped BadRequest)
@@ -274,6 +288,7 @@ abbrev pub early_most : ℕ
 early_most = 256
 
 -- a message of the next epoch is kept, if there is room
+-- rule: Epochs: A message of the next epoch is kept for it, up to a fixed number of them
 abbrev pub keeps_early : {Msg : Type 0} → Core Msg → Early Msg → Stepped Msg
 keeps_early c x = cond (nat_lt (length c.early) early_most) (Taken (unchanged (record c { early = c.early ++ x ∷ [] })))
     (Dropped EarlyFull)
@@ -297,6 +312,7 @@ abbrev pub is_counted : {Msg : Type 0} → Core Msg → Vote → Bool
 is_counted c v = is_some (cert_on c.certs v.epoch.0) || is_some (vote_by c.votes v.epoch.0 v.by.0)
 
 -- A checkpoint vote is counted, unless its epoch is more than one ahead, its signature is invalid, or it is known.
+-- rule: Checkpoints: A node drops a vote that is far ahead, unverified or known, and counts any other
 abbrev pub takes_vote : {Msg : Type 0} → Rules → Core Msg → Vote → Stepped Msg
 takes_vote R c v =
     cond (nat_lt (suc c.past.epoch) v.epoch.0) (Dropped OtherEpoch)
@@ -327,6 +343,7 @@ handing F R M me c to e cert =
     }
 
 -- the node sends an epoch to a lagging node, if it has the epoch's certificate and all of its values
+-- rule: Transfer: An ask is answered to the asker alone, if the node has the epoch and its certificate
 abbrev pub hands_out : {Msg : Type 0} → Formats Msg → Rules → Module Msg → ℕ → Core Msg → ℕ → ℕ →
     Option Cert → Stepped Msg
 hands_out F R M me c to e None = Dropped NoCert
@@ -336,6 +353,7 @@ hands_out F R M me c to e (Some cert) =
     (Taken (handing F R M me c to e cert))
 
 -- the node asks a peer for the epoch that it is in
+-- rule: Network: An ask goes to each core of the node that is asked, for the asker's own epoch
 abbrev pub asking : {Msg : Type 0} → Formats Msg → ℕ → Core Msg → NodeId → Turn Msg
 asking F me c peer =
     record {
@@ -362,7 +380,7 @@ adopts_piece R M me c p =
     let past = adopts c.past (record { epoch = c.past.epoch; values = p.values }) in
     let before = before_own R M me c.past in
     record {
-      core = record (refiled R M me c past c.leaf) {
+      core = record (after_growth R M me c past c.leaf) {
         early = [];
         certs = keeping c.certs p.cert (cert_on c.certs c.past.epoch);
       };
@@ -374,6 +392,7 @@ adopts_piece R M me c p =
 
 -- State transfer: a piece is adopted, unless (in this order) its epoch is past, its epoch is ahead, its shape is wrong,
 -- its certificate is invalid, or its values do not lead to the certified log.
+-- rule: Transfer: An adopted piece of the own epoch fills the empty slots and ends the epoch without a vote
 abbrev pub takes_piece : {Msg : Type 0} → Formats Msg → Rules → Module Msg → ℕ → Core Msg → Sent_piece → Stepped Msg
 takes_piece F R M me c p =
     let e = c.past.epoch in
@@ -423,6 +442,7 @@ first_slot p [] = None
 first_slot p (s ∷ ss) = cond (p s) (Some s) (first_slot p ss)
 
 -- the node's first free slot that the log does not hold
+-- rule: Buckets: A leader proposes at its least slot that is neither proposed nor filled
 abbrev pub next_slot : {Msg : Type 0} → Rules → Module Msg → ℕ → Core Msg → Option Slot
 next_slot R M me c =
     let p = params_of R M me c.past me in

@@ -1,4 +1,8 @@
--- All cores over a whole schedule: each event, up to the delivery that shows a forged claim or the step that shows a collision.
+-- A run: all cores and the network over a schedule. Cores below n are the nodes; behind them each faulty node has a
+-- second core, its twin, with the same keys. Two books record what correct nodes signed and what any core hashed. An
+-- event first tests the claims that it reads against the book, and then its strings. A forged claim of a correct node
+-- ends the run, and so do two strings of one digest. What is held then is what stood before that delivery. A lost
+-- event is noted with its number and cause.
 use Rattle.std.specs.Prelude.{ℕ, zero, suc, ◌-◌, ◌==◌, ◌&&◌, nat_lt, not, cond, Bool, true, false, List, [], ◌∷◌, ◌++◌, Option, Some, None}
 use Rattle.std.specs.List.{filter}
 use Rattle.iss_base.specs.Lists.{below, first_of, nth, push_all, same_bytes, set_at}
@@ -31,6 +35,7 @@ abbrev pub number_at : Option NodeId → ℕ
 number_at None = 0
 number_at (Some k) = k.0
 
+-- rule: Runs: A faulty node runs as two cores with the same keys
 abbrev pub node_of : Setup → ℕ → ℕ
 node_of s c = cond (nat_lt c s.n) c (number_at (nth s.faulty (c - s.n)))
 
@@ -71,6 +76,7 @@ with_network h network = record {
 }
 
 -- A send to all posts one packet to each core, ascending. A send to one node posts one to each of its cores.
+-- rule: Network: A send to all is a packet for each core, a send to a node one for each of its cores
 abbrev pub addressees : Setup → To → List ℕ
 addressees s To_all = below (cores_of s)
 addressees s (To_one k) = filter (λ c. node_of s c == k.0) (below (cores_of s))
@@ -130,6 +136,7 @@ as_signed [] = []
 as_signed (c ∷ cs) = record { by = c.by.0; statement = c.statement } ∷ as_signed cs
 
 -- the statements of a step that enter the book: none if the core's node is faulty
+-- rule: Evidence: The claims that correct nodes send are booked, and none of a faulty node
 abbrev pub booked : Setup → ℕ → List Claim → List Signed
 booked s c own = cond (is_correct s c) (as_signed own) []
 
@@ -156,6 +163,7 @@ by_forged (Some claim) h next = ended_by h (Forged claim)
 
 -- Core c takes an event. Each claim that it read is tested against the book as it was before the step; a forged one
 -- stops the run. So does a hash collision in the step.
+-- rule: Evidence: A verified claim that its correct signer never sent ends the run before the step
 abbrev pub at_core : {Msg : Type 0} → Setup → Formats Msg → Rules → Module Msg → Held Msg → ℕ → NodeEvent →
     Happening Msg
 at_core s F R M h c event =

@@ -1,4 +1,4 @@
--- What each core of a run took, and where events happen.
+-- What each core of a run took, and at which cores events happen.
 use Rattle.std.specs.Prelude.{◌≡◌, ℕ, ◌<◌, List, [], ◌∷◌, ◌++◌}
 use Rattle.iss_request.specs.declared.requests.Value.{Value}
 use Rattle.iss_request.specs.declared.setups.Setup.{Setup}

@@ -1,4 +1,5 @@
--- What holds of every core of every run, so that its own casts are accepted.
+-- What holds of every core of every run. What waits and what is in flight is distinct, signed, and inside the windows
+-- unless the log has it. The log holds all before the epoch. So the judge accepts what such a core casts.
 use Rattle.std.specs.Prelude.{◌≡◌, ℕ, ◌≤◌, ◌<◌, List, [], ◌∷◌, ◌++◌, length, true, Some}
 use Rattle.iss_base.specs.Lists.{Different, In}
 use Rattle.iss_request.specs.Log.{ids, log_ids}

@@ -1,4 +1,5 @@
--- What a node shows of its core.
+-- What a node shows of its core, and the claims in bytes that it receives: those of a message of its epoch, of a vote,
+-- and of a piece's certificate.
 use Rattle.std.specs.Prelude.{ℕ, Bool, true, cond, ◌&&◌, ◌==◌, not, is_some, List, [], ◌∷◌, Option, Some, None}
 use Rattle.std.specs.List.{filter}
 use Rattle.iss_base.specs.Lists.{below}
@@ -49,5 +50,6 @@ abbrev pub claims_of_parcel : {Msg : Type 0} → Rules → Module Msg → ℕ �
 claims_of_parcel R M me c None = []
 claims_of_parcel R M me c (Some k) = claims_of_body R M me c k.from k.epoch k.body
 
+-- rule: Evidence: The claims of a packet are all signatures of its vote, certificate or message
 abbrev pub claims_of_bytes : {Msg : Type 0} → Formats Msg → Rules → Module Msg → ℕ → Core Msg → List ℕ → List Claim
 claims_of_bytes F R M me c bytes = claims_of_parcel R M me c (F.unwrap bytes)

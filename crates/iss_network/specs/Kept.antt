@@ -1,4 +1,5 @@
--- How a network is kept: a flag for each packet that says whether it waits, and for each core the numbers of its packets.
+-- How the code keeps a network: a flag for each packet that says whether it waits, and for each core a queue of packet
+-- numbers. Numbers that no longer wait are dropped late.
 use Rattle.std.specs.Prelude.{ℕ, ◌<◌, ◌≡◌, cond, Bool, true, false, List, [], ◌∷◌, length, filter, Some, slice_set, slice_index_or}
 use Rattle.std.specs.List.{list_all}
 use Rattle.iss_base.specs.Lists.{nth, below}

@@ -99,6 +99,7 @@ impl Network {
     }
 
     /// Pumps skip this core from now on.
+    // rule: Network: Pumps pass over a core that is held
     pub fn hold(&mut self, core: u32)
         requires { core < length self.old.held }
         ensures { self.new ≡ held_to self.old core true }
@@ -115,6 +116,7 @@ impl Network {
     }
 
     /// All packets for this core stop waiting.
+    // rule: Network: A drop ends the waiting of all packets for a core
     pub fn drop_for(&mut self, core: u32)
         requires { core < length self.old.held }
         ensures { self.new ≡ cleared self.old core }
@@ -124,6 +126,7 @@ impl Network {
 
     /// What a pump delivers now: the numbers of the packets that wait for cores that are not held, ascending. The only
     /// error is out of memory.
+    // rule: Network: A pump takes what waits for cores that are not held, in ascending order
     pub fn due(&mut self, alloc: Global) -> Result<Vec<u64>, NoMemory>
         ensures same { self.new ≡ self.old }
         ensures found { IfOk result (λ numbers. numbers.items ≡ due self.old) }

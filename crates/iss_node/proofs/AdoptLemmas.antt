@@ -35,9 +35,9 @@ use Rattle.iss_node.proofs.NextLemmas.{next-parts}
 use Rattle.iss_node.proofs.OwnEpoch.{epoch-cell, goes-on, has-slots, log-is, nothing-adopted, start-is}
 use Rattle.iss_node.proofs.SlotLemmas.{given-at, not-empty}
 use Rattle.iss_node.proofs.TiedLemmas.{AreRefiled, are-refiled, bf-long, bf-part, bounded, grown-is}
-use Rattle.iss_node.specs.Flights.{FlightState, IsLanded}
+use Rattle.iss_node.specs.Flights.{FlightState, IsCompleted}
 use Rattle.iss_node.specs.Growth.{IsGrown, and_values, waits_on}
-use Rattle.iss_node.specs.Inputs.{HasGrown, IsChained}
+use Rattle.iss_node.specs.Inputs.{HasAppliedDeliveries, IsChained}
 use Rattle.iss_node.specs.Shape.{IsNodeState}
 use Rattle.iss_node.specs.State.{RefinesBareCore, RefinesPast, StateView, bare, core_of, seen_early, slot_value}
 use Rattle.iss_node.specs.Steps.{IsHeldTurn, IsLater, IsNextEpoch, IsSameNode, IsTurnBehind, IsTurned}
@@ -252,7 +252,7 @@ module _ {M Msg : Type 0} (m : Module Msg) (refines : M → Params → ℕ → L
 
   module _ (chains : ChainsState) (chained : IsChainOf chains (v.log.entries ++ grown.joined)) (waiting : List Request) (flight : FlightState) (logged : List ReqId) (ballots : BallotsState)
       (joins : logged ≡ fold and_values v.logged grown.joined)
-      (lands : IsLanded v.flight flight (length log.entries))
+      (lands : IsCompleted v.flight flight (length log.entries))
       (returns : (all : List ReqId) (bf : List Value) → RefinesNoted v.windows (noted_before bf) → ((x : ReqId) → has_id x all ≡ (has_id x logged || has_id x (log_ids bf))) →
       AreNew (fold waits_on v.waiting grown.joined) (absent all (returned (reverse log.entries) v.flight.casts)) →
       waiting ≡ fold waits_on v.waiting grown.joined ++ absent all (returned (reverse log.entries) v.flight.casts)) where
@@ -308,7 +308,7 @@ bare_turn R m me c p = let t = adopts_piece R m me c p in record t { core = bare
 
 module _ {M Msg : Type 0} (m : Module Msg) (refines : M → Params → ℕ → List (Item Msg) → Type 0)
     (v u w new : StateView M Msg) (shape : IsNodeState m v) (p : Sent_piece) (hashed strings : List (List ℕ)) (ballots : BallotsState) (early : List (Early Msg)) (first o : Outcome)
-    (grown : HasGrown v u (at_slots v.plan.start p.values)) (chained : IsChained v u hashed strings)
+    (grown : HasAppliedDeliveries v u (at_slots v.plan.start p.values)) (chained : IsChained v u hashed strings)
     (keeps : (votes : List Vote) (certs : List Cert) → AreKept u.ballots votes certs → AreKept ballots votes (keeping certs p.cert (cert_on certs p.cert.epoch.0)))
     (begun : IsNextEpoch refines (record u { ballots = ballots }) w early) (later : IsLater (record u { ballots = ballots }) w)
     (is_first : first ≡ record { sends = []; own = []; early = []; hashed = strings })

@@ -36,7 +36,7 @@ use Rattle.iss_request.specs.declared.requests.Value.{Value}
 use Rattle.iss_sb.specs.Evidence.{Item, Module, delivered}
 use Rattle.iss_sb.specs.declared.effects.Input.TheVariants.{Cast}
 use Rattle.iss_sb.specs.declared.effects.Params.{Params}
-use Rattle.iss_segment.specs.Instance.{IsInstance, SegmentState}
+use Rattle.iss_segment.specs.Instance.{RefinesItems, SegmentState}
 
 -- ---- the batch that is cut
 
@@ -165,7 +165,7 @@ module _ {M Msg : Type 0} (m : Module Msg) (refines : M → Params → ℕ → L
       go false q = refl
 
   pub next-is : (g : SegmentState M) → led v.segments v.me.0 ≡ Some g → (o : Option Slot) (slots : List Slot) → slots ≡ g.params.slots →
-      ((xs : List (Item Msg)) → IsInstance refines g xs → o ≡ first_slot (is_open m g.params g.me.0 xs v.log v.flight.casts) slots) → o ≡ next_slot (rules_of v.setup) m v.me.0 (core_of v past)
+      ((xs : List (Item Msg)) → RefinesItems refines g xs → o ≡ first_slot (is_open m g.params g.me.0 xs v.log v.flight.casts) slots) → o ≡ next_slot (rules_of v.setup) m v.me.0 (core_of v past)
   next-is g at o slots slots_is h =
       let here = tied.instances v.me.0 g at in
       let p = params_of (rules_of v.setup) m v.me.0 past v.me.0 in

@@ -32,7 +32,7 @@ use Rattle.iss_request.specs.declared.requests.Value.{Value}
 use Rattle.iss_sb.specs.Evidence.{Item, Module, accepts, delivered}
 use Rattle.iss_sb.specs.declared.effects.Params.{Params}
 use Rattle.iss_segment.specs.Ground.{RestsOn, noted_before}
-use Rattle.iss_segment.specs.Instance.{IsInstance, SameIds, SegmentState}
+use Rattle.iss_segment.specs.Instance.{RefinesItems, SameIds, SegmentState}
 use Rattle.iss_window.proofs.KeptLemmas.{refines-same}
 use Rattle.iss_window.specs.Kept.{Kept, RefinesNoted}
 use Rattle.iss_window.specs.Window.{Noted, and_closed, and_noted}
@@ -230,7 +230,7 @@ module _ {M Msg : Type 0} (m : Module Msg) (refines : M → Params → ℕ → L
     instances = λ l g h. record {
       params = started.params l g h ∙ params-is l;
       node = started.node l g h;
-      instance = subst (λ (ys : List (Item Msg)). IsInstance refines g ys) (sym (over.unborn l)) (started.instances l g h);
+      instance = subst (λ (ys : List (Item Msg)). RefinesItems refines g ys) (sym (over.unborn l)) (started.instances l g h);
     };
     accepted = λ l. sym (ap (λ (ys : List (Item Msg)). accepts ys) (over.unborn l));
     logged = λ x.

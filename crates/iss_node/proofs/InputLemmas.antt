@@ -26,11 +26,11 @@ use Rattle.iss_node.proofs.GivenLemmas.{slot-in, slot-next}
 use Rattle.iss_node.proofs.OwnEpoch.{log-is}
 use Rattle.iss_node.proofs.TiedLemmas.{AreRefiled, are-refiled, bf-long, bf-part, grown-is}
 use Rattle.iss_node.specs.Cells.{given}
-use Rattle.iss_node.specs.Flights.{FlightState, IsLanded}
+use Rattle.iss_node.specs.Flights.{FlightState, IsCompleted}
 use Rattle.iss_node.specs.Growth.{IsGrown, and_values, waits_on}
 use Rattle.iss_node.specs.Inputs.{and_accepted}
 use Rattle.iss_node.specs.Shape.{IsNodeState}
-use Rattle.iss_node.specs.State.{IsLed, RefinesBareCore, RefinesPast, RefinesPastOver, StateView, accepted_of, core_of, led, slot_value}
+use Rattle.iss_node.specs.State.{RefinesBareCore, RefinesPast, RefinesPastOver, RefinesTaken, StateView, accepted_of, core_of, led, slot_value}
 use Rattle.iss_node.specs.Steps.{IsMade}
 use Rattle.iss_node.specs.declared.answers.Accepted.{Accepted}
 use Rattle.iss_node.specs.declared.answers.Outcome.{Outcome}
@@ -50,7 +50,7 @@ use Rattle.iss_sb.specs.declared.effects.Params.{Params}
 use Rattle.iss_sb.specs.declared.effects.To.{To}
 use Rattle.iss_segment.specs.Answers.{IsInstanceTaken}
 use Rattle.iss_segment.specs.Ground.{noted_before}
-use Rattle.iss_segment.specs.Instance.{IsInstance, SegmentState}
+use Rattle.iss_segment.specs.Instance.{RefinesItems, SegmentState}
 use Rattle.iss_window.specs.Kept.{RefinesNoted}
 
 abbrev pub slot_at : ℕ → Slot
@@ -121,7 +121,7 @@ module _ {M Msg : Type 0} (m : Module Msg) (refines : M → Params → ℕ → L
     abbrev pub next : Past Msg
     next = takes (rules_of v.setup) m v.me.0 past leader.0 input v.keys.used
 
-    here : IsLed refines P v.me xs was
+    here : RefinesTaken refines P v.me xs was
     here = tied.instances leader.0 was at
 
     own : AreKeysOf was.me.0 was.params.setup.keys v.keys
@@ -207,7 +207,7 @@ module _ {M Msg : Type 0} (m : Module Msg) (refines : M → Params → ℕ → L
         (there : led segments leader.0 ≡ Some is) (others : (k : ℕ) → k ≢ leader.0 → led segments k ≡ led v.segments k)
         (notes : accepted ≡ and_accepted leader v.accepted ef.accepted)
         (joins : logged ≡ fold and_values v.logged grown.joined)
-        (lands : IsLanded v.flight flight (length log.entries))
+        (lands : IsCompleted v.flight flight (length log.entries))
         (returns : (all : List ReqId) (before : List Value) → RefinesNoted v.windows (noted_before before) → ((x : ReqId) → has_id x all ≡ (has_id x logged || has_id x (log_ids before))) →
         AreNew (fold waits_on v.waiting grown.joined) (absent all (returned (reverse log.entries) v.flight.casts)) →
         waiting ≡ fold waits_on v.waiting grown.joined ++ absent all (returned (reverse log.entries) v.flight.casts)) where
@@ -251,31 +251,31 @@ module _ {M Msg : Type 0} (m : Module Msg) (refines : M → Params → ℕ → L
         leaf = sym leaf-core t;
       }
 
-      instances : (k : ℕ) (g : SegmentState M) → led segments k ≡ Some g → IsLed refines ((rules_of v.setup).params (before_own (rules_of v.setup) m v.me.0 past) past.epoch k) v.me (taken_in next k) g
+      instances : (k : ℕ) (g : SegmentState M) → led segments k ≡ Some g → RefinesTaken refines ((rules_of v.setup).params (before_own (rules_of v.setup) m v.me.0 past) past.epoch k) v.me (taken_in next k) g
       instances k g at_k = go (same_or_not k leader.0)
         where
-          stood : IsInstance refines is (item ∷ xs)
+          stood : RefinesItems refines is (item ∷ xs)
           stood =
-              subst (λ (p : Params). IsInstance refines is (and_then m p v.me.0 xs input v.keys.used)) here.params
-              (subst (λ (i : NodeId). IsInstance refines is (and_then m was.params i.0 xs input v.keys.used)) here.node (taken.refined xs here.instance own))
+              subst (λ (p : Params). RefinesItems refines is (and_then m p v.me.0 xs input v.keys.used)) here.params
+              (subst (λ (i : NodeId). RefinesItems refines is (and_then m was.params i.0 xs input v.keys.used)) here.node (taken.refined xs here.instance own))
 
-          mine : IsLed refines P v.me (taken_in next leader.0) is
+          mine : RefinesTaken refines P v.me (taken_in next leader.0) is
           mine = record {
             params = taken.same_params ∙ here.params;
             node = taken.same_node ∙ here.node;
-            instance = subst (λ (ys : List (Item Msg)). IsInstance refines is ys) (sym (set_at2-same past.evidence past.epoch leader.0 (item ∷ xs))) stood;
+            instance = subst (λ (ys : List (Item Msg)). RefinesItems refines is ys) (sym (set_at2-same past.evidence past.epoch leader.0 (item ∷ xs))) stood;
           }
 
-          go : (k ≡ leader.0) ⊎ (k ≢ leader.0) → IsLed refines ((rules_of v.setup).params (before_own (rules_of v.setup) m v.me.0 past) past.epoch k) v.me (taken_in next k) g
+          go : (k ≡ leader.0) ⊎ (k ≢ leader.0) → RefinesTaken refines ((rules_of v.setup).params (before_own (rules_of v.setup) m v.me.0 past) past.epoch k) v.me (taken_in next k) g
           go (inl q) =
               let same : led segments leader.0 ≡ Some g = subst (λ (i : ℕ). led segments i ≡ Some g) q at_k in
               let two : Some is ≡ Some g = sym there ∙ same in
               let is_g : is ≡ g = cc in
-              subst (λ (z : SegmentState M). IsLed refines ((rules_of v.setup).params (before_own (rules_of v.setup) m v.me.0 past) past.epoch k) v.me (taken_in next k) z) is_g
-              (subst (λ (i : ℕ). IsLed refines ((rules_of v.setup).params (before_own (rules_of v.setup) m v.me.0 past) past.epoch i) v.me (taken_in next i) is) (sym q) mine)
+              subst (λ (z : SegmentState M). RefinesTaken refines ((rules_of v.setup).params (before_own (rules_of v.setup) m v.me.0 past) past.epoch k) v.me (taken_in next k) z) is_g
+              (subst (λ (i : ℕ). RefinesTaken refines ((rules_of v.setup).params (before_own (rules_of v.setup) m v.me.0 past) past.epoch i) v.me (taken_in next i) is) (sym q) mine)
           go (inr ne) =
               let old : led v.segments k ≡ Some g = sym (others k ne) ∙ at_k in
-              subst (λ (ys : List (Item Msg)). IsLed refines ((rules_of v.setup).params (before_own (rules_of v.setup) m v.me.0 past) past.epoch k) v.me ys g)
+              subst (λ (ys : List (Item Msg)). RefinesTaken refines ((rules_of v.setup).params (before_own (rules_of v.setup) m v.me.0 past) past.epoch k) v.me ys g)
               (sym (set_at2-other past.evidence past.epoch leader.0 (item ∷ xs) past.epoch k (inr ne))) (tied.instances k g old)
 
       leading : (k : ℕ) → is_some (led segments k) ≡ leads v.plan k

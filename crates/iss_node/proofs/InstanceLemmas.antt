@@ -12,7 +12,7 @@ use Rattle.iss_model.specs.Node.{Dropped, Turn, by_verdict, claims_of_input, has
 use Rattle.iss_rules.specs.Past.{Past, before_own, leads_in, params_of, taken_in}
 use Rattle.iss_rules.specs.declared.events.Refusal.{Refusal}
 use Rattle.iss_rules.specs.declared.events.Why.TheVariants.{BadClaim, NotLeader, NoKeys, Refused}
-use Rattle.iss_node.specs.Inputs.{IsAbsorbed, IsChained, IsHandedOut, IsInputTaken, IsVerdictAt}
+use Rattle.iss_node.specs.Inputs.{HasAppliedEffects, IsChained, IsHandedOut, IsInputTaken, IsVerdictAt}
 use Rattle.iss_node.specs.Shape.{IsNodeState}
 use Rattle.iss_node.specs.State.{RefinesBareCore, RefinesPast, StateView, core_of, led}
 use Rattle.iss_node.specs.Steps.{IsLater, IsStepDropped, IsStepTaken, IsTurnOf, IsTurned}
@@ -95,7 +95,7 @@ module _ {M Msg : Type 0} (m : Module Msg) (laws : IsLawful m) (refines : M → 
     (v : StateView M Msg) (shape : IsNodeState m v) (leader : NodeId) (input : Input Msg) (ef : Effects Msg) (w : StateView M Msg) (outcome : Outcome)
     (past : Past Msg) (tied : RefinesPast m refines v past) where
   inner : (segments : List (Option (SegmentState M))) (keys : KeyState) (was is : SegmentState M) → led v.segments leader.0 ≡ Some was → led segments leader.0 ≡ Some is → ((k : ℕ) → k ≢ leader.0 → led segments k ≡ led v.segments k) →
-      IsInstanceTaken m refines was is input v.keys keys ef → IsAbsorbed (record v { segments = segments; keys = keys }) w leader ef → IsHandedOut m (record v { segments = segments; keys = keys }) leader.0 ef.sends outcome.hashed outcome →
+      IsInstanceTaken m refines was is input v.keys keys ef → HasAppliedEffects (record v { segments = segments; keys = keys }) w leader ef → IsHandedOut m (record v { segments = segments; keys = keys }) leader.0 ef.sends outcome.hashed outcome →
       IsChained (record v { segments = segments; keys = keys }) w ef.hashed outcome.hashed →
       IsTurned m refines (step_unjudged (formats_of v.setup m) (rules_of v.setup) m v.me.0 (core_of v past) leader.0 input) w outcome
   inner segments keys was is at there others taken a made chained =
@@ -112,11 +112,11 @@ module _ {M Msg : Type 0} (m : Module Msg) (laws : IsLawful m) (refines : M → 
         addressed = subst (λ (z : StateView M Msg). AreToNodes z.setup.n outcome.sends) (sym g.rest) addressed;
       }
 
-  pub turned : (u : StateView M Msg) → IsInputTaken m refines v u leader.0 input ef → IsAbsorbed u w leader ef → IsHandedOut m u leader.0 ef.sends outcome.hashed outcome → IsChained u w ef.hashed outcome.hashed →
+  pub turned : (u : StateView M Msg) → IsInputTaken m refines v u leader.0 input ef → HasAppliedEffects u w leader ef → IsHandedOut m u leader.0 ef.sends outcome.hashed outcome → IsChained u w ef.hashed outcome.hashed →
       IsTurned m refines (step_unjudged (formats_of v.setup m) (rules_of v.setup) m v.me.0 (core_of v past) leader.0 input) w outcome
   turned u i a made chained =
       inner u.segments u.keys i.was i.is i.at i.there i.others i.taken
-      (subst (λ (z : StateView M Msg). IsAbsorbed z w leader ef) i.rest a)
+      (subst (λ (z : StateView M Msg). HasAppliedEffects z w leader ef) i.rest a)
       (subst (λ (z : StateView M Msg). IsHandedOut m z leader.0 ef.sends outcome.hashed outcome) i.rest made)
       (subst (λ (z : StateView M Msg). IsChained z w ef.hashed outcome.hashed) i.rest chained)
 
@@ -166,7 +166,7 @@ module _ {M Msg : Type 0} (m : Module Msg) (refines : M → Params → ℕ → L
           }
 
 pub input-turn : {M Msg : Type 0} (m : Module Msg) (laws : IsLawful m) (refines : M → Params → ℕ → List (Item Msg) → Type 0) (v u w : StateView M Msg) (shape : IsNodeState m v) (leader : NodeId) (input : Input Msg) (ef : Effects Msg) (r : Result Outcome NoMemory) →
-    IsInputTaken m refines v u leader.0 input ef → OnOk r (IsAbsorbed u w leader ef) → IfOk r (λ o. IsHandedOut m u leader.0 ef.sends o.hashed o) → IfOk r (λ o. IsChained u w ef.hashed o.hashed) →
+    IsInputTaken m refines v u leader.0 input ef → OnOk r (HasAppliedEffects u w leader ef) → IfOk r (λ o. IsHandedOut m u leader.0 ef.sends o.hashed o) → IfOk r (λ o. IsChained u w ef.hashed o.hashed) →
     IfOk r (λ o. IsTurnOf m refines v (λ F R me c. step_unjudged F R m me c leader.0 input) w o)
 input-turn m laws refines v u w shape leader input ef (Err e) i a s t = tt
 input-turn m laws refines v u w shape leader input ef (Ok o) i a s t = λ past tied. turned m laws refines v shape leader input ef w o past tied u i a s t

@@ -16,9 +16,9 @@ use Rattle.iss_node.proofs.TiedLemmas.{bf-long, bf-part, split-log}
 use Rattle.iss_log.specs.Chains.{ChainsState, IsChainOf}
 use Rattle.iss_log.specs.LogState.{LogState, value_at}
 use Rattle.iss_node.proofs.FlightLemmas.{returned-landed}
-use Rattle.iss_node.specs.Flights.{FlightState, IsLanded, landed}
+use Rattle.iss_node.specs.Flights.{FlightState, IsCompleted, completed}
 use Rattle.iss_node.specs.Growth.{AreJoined, IsGrown, and_values, waits_on}
-use Rattle.iss_node.specs.Inputs.{AreLogged, HasGrown, HasLanded, IsAbsorbed, IsChained, IsHandedOut, and_accepted}
+use Rattle.iss_node.specs.Inputs.{AreLogged, HasAppliedDeliveries, HasAppliedEffects, HasCompletedCasts, IsChained, IsHandedOut, and_accepted}
 use Rattle.iss_node.specs.declared.answers.Accepted.{Accepted}
 use Rattle.iss_node.specs.declared.answers.Outcome.{Outcome}
 use Rattle.iss_request.specs.declared.errors.NoMemory.{NoMemory}
@@ -127,9 +127,9 @@ back-some all log now new start casts done slot batch rest nil h n whole put =
 
 -- ---- what lands, and how the log grows
 
-pub landed-all : {M Msg : Type 0} (v u w : StateView M Msg) (slots : ℕ) (gone : List (Slot × Batch)) (r : Result (Unit {0}) NoMemory) → u ≡ record v { flight = u.flight } → slots ≡ length v.log.entries → gone ≡ landed slots v.flight.casts → IsLanded v.flight u.flight slots →
+pub landed-all : {M Msg : Type 0} (v u w : StateView M Msg) (slots : ℕ) (gone : List (Slot × Batch)) (r : Result (Unit {0}) NoMemory) → u ≡ record v { flight = u.flight } → slots ≡ length v.log.entries → gone ≡ completed slots v.flight.casts → IsCompleted v.flight u.flight slots →
     OnOk r ((all : List ReqId) → AreLogged u all → AreNew u.waiting (absent all (returned (reverse u.log.entries) gone)) → w.waiting ≡ u.waiting ++ absent all (returned (reverse u.log.entries) gone)) →
-    w ≡ record u { waiting = w.waiting } → OnOk r (HasLanded v w)
+    w ≡ record u { waiting = w.waiting } → OnOk r (HasCompletedCasts v w)
 landed-all v u w slots gone (Err e) us n gone_is lands back rest = tt
 landed-all {M} {Msg} v u w slots gone (Ok x) us n gone_is lands back rest =
     let flight : w.flight ≡ u.flight = ap (λ (z : StateView M Msg). z.flight) rest in
@@ -139,10 +139,10 @@ landed-all {M} {Msg} v u w slots gone (Ok x) us n gone_is lands back rest =
     let logged : u.logged ≡ v.logged = ap (λ (z : StateView M Msg). z.logged) us in
     let same : returned (reverse u.log.entries) gone ≡ returned (reverse v.log.entries) v.flight.casts =
     ap (λ (l : LogState). returned (reverse l.entries) gone) log
-    ∙ ap (λ (fs : List (Slot × Batch)). returned (reverse v.log.entries) fs) (gone_is ∙ ap (λ (k : ℕ). landed k v.flight.casts) (n ∙ sym (length-reverse v.log.entries)))
+    ∙ ap (λ (fs : List (Slot × Batch)). returned (reverse v.log.entries) fs) (gone_is ∙ ap (λ (k : ℕ). completed k v.flight.casts) (n ∙ sym (length-reverse v.log.entries)))
     ∙ returned-landed (reverse v.log.entries) v.flight.casts in
     record {
-      landed = subst (λ (k : ℕ). IsLanded v.flight w.flight k) n (subst (λ (f : FlightState). IsLanded v.flight f slots) (sym flight) lands);
+      landed = subst (λ (k : ℕ). IsCompleted v.flight w.flight k) n (subst (λ (f : FlightState). IsCompleted v.flight f slots) (sym flight) lands);
       waiting = λ all h new.
           back all (record { before = h.before; noted = subst (λ (k : Kept). RefinesNoted k (noted_before h.before)) (sym windows) h.noted; members = λ y. h.members y ∙ ap (λ (xs : List ReqId). has_id y xs || has_id y (log_ids h.before)) (sym logged) })
           (subst (λ (ws : List Request). AreNew ws (absent all (returned (reverse u.log.entries) gone))) (sym waiting) (subst (λ (qs : List Request). AreNew v.waiting (absent all qs)) (sym same) new))
@@ -155,7 +155,7 @@ drop-front (x ∷ xs) ys = drop-front xs ys
 
 pub grown-all : {M Msg : Type 0} (v u w : StateView M Msg) (delivers : List (Slot × Value)) (held : ℕ) (entries more : List Value) (r : Result (Unit {0}) NoMemory) → u ≡ record v { log = u.log; chains = u.chains; waiting = u.waiting; logged = u.logged } →
     IsGrown v.log delivers u.log held → entries ≡ u.log.entries → more ≡ drop held entries → u.waiting ≡ fold waits_on v.waiting more → u.logged ≡ fold and_values v.logged more →
-    OnOk r (HasLanded u w) → w ≡ record u { waiting = w.waiting; flight = w.flight } → OnOk r (HasGrown v w delivers)
+    OnOk r (HasCompletedCasts u w) → w ≡ record u { waiting = w.waiting; flight = w.flight } → OnOk r (HasAppliedDeliveries v w delivers)
 grown-all v u w delivers held entries more (Err e) us grown entries_are more_is waits joins lands rest = tt
 grown-all {M} {Msg} v u w delivers held entries more (Ok x) us grown entries_are more_is waits joins lands rest =
     let joined_is : more ≡ grown.joined = more_is ∙ ap (λ (xs : List Value). drop held xs) (entries_are ∙ grown.entries) ∙ ap (λ (n : ℕ). drop n (v.log.entries ++ grown.joined)) grown.count ∙ drop-front v.log.entries grown.joined in
@@ -171,16 +171,16 @@ grown-all {M} {Msg} v u w delivers held entries more (Ok x) us grown entries_are
       held = held;
       grown = record { count = grown.count; joined = grown.joined; entries = ap (λ (l : LogState). l.entries) log ∙ grown.entries; values = λ s. ap (λ (l : LogState). value_at l s) log ∙ grown.values s; hole = ap (λ (l : LogState). value_at l (length l.entries)) log ∙ grown.hole };
       logged = logged ∙ joins ∙ ap (λ (xs : List Value). fold and_values v.logged xs) joined_is;
-      landed = subst (λ (z : StateView M Msg). HasLanded z w) as_now lands;
+      landed = subst (λ (z : StateView M Msg). HasCompletedCasts z w) as_now lands;
       rest = let f : StateView M Msg → StateView M Msg = λ z. record z { waiting = w.waiting; flight = w.flight } in rest ∙ ap f as_now;
     }
 
-pub absorbed-all : {M Msg : Type 0} (v u w : StateView M Msg) (leader : NodeId) (e : Effects Msg) (ds : List (Slot × Value)) → u ≡ record v { accepted = and_accepted leader v.accepted e.accepted } → HasGrown u w ds → ds ≡ e.delivers → IsAbsorbed v w leader e
+pub absorbed-all : {M Msg : Type 0} (v u w : StateView M Msg) (leader : NodeId) (e : Effects Msg) (ds : List (Slot × Value)) → u ≡ record v { accepted = and_accepted leader v.accepted e.accepted } → HasAppliedDeliveries u w ds → ds ≡ e.delivers → HasAppliedEffects v w leader e
 absorbed-all {M} {Msg} v u w leader e ds us grown is =
     let accepted : w.accepted ≡ and_accepted leader v.accepted e.accepted = ap (λ (z : StateView M Msg). z.accepted) grown.rest ∙ ap (λ (z : StateView M Msg). z.accepted) us in
     let with_it : List Accepted → StateView M Msg = λ xs. record v { accepted = xs } in
     let now : u ≡ record v { accepted = w.accepted } = us ∙ ap with_it (sym accepted) in
-    record { accepted = accepted; grown = subst (λ (z : StateView M Msg). HasGrown z w e.delivers) now (subst (λ (xs : List (Slot × Value)). HasGrown u w xs) is grown) }
+    record { accepted = accepted; grown = subst (λ (z : StateView M Msg). HasAppliedDeliveries z w e.delivers) now (subst (λ (xs : List (Slot × Value)). HasAppliedDeliveries u w xs) is grown) }
 
 -- the chain grew with it
 pub chained-all : {M Msg : Type 0} (v w : StateView M Msg) (chains now : ChainsState) (held : ℕ) (entries more : List Value) (before after : List (List ℕ)) (r : Result (Unit {0}) NoMemory) →

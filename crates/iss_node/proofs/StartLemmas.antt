@@ -32,7 +32,7 @@ use Rattle.iss_keys.specs.KeyStates.{KeyState}
 use Rattle.iss_sb.specs.declared.effects.Params.{Params}
 use Rattle.iss_sb.specs.Calls.{AreBelow, IsGoodParams}
 use Rattle.iss_sb.specs.Evidence.{Item, Module}
-use Rattle.iss_segment.specs.Instance.{IsInstance, SegmentState}
+use Rattle.iss_segment.specs.Instance.{RefinesItems, SegmentState}
 use Rattle.iss_window.specs.Kept.{Kept, RefinesNoted}
 use Rattle.iss_window.specs.Window.{none_noted}
 
@@ -103,7 +103,7 @@ pub record AreBegun {M Msg : Type 0} (refines : M → Params → ℕ → List (I
   pub leading : (l : ℕ) → l < k → is_some (led segments l) ≡ leads plan l
   pub params : (l : ℕ) (g : SegmentState M) → led segments l ≡ Some g → g.params ≡ params_by s e plan l
   pub node : (l : ℕ) (g : SegmentState M) → led segments l ≡ Some g → g.me ≡ me
-  pub instances : (l : ℕ) (g : SegmentState M) → led segments l ≡ Some g → IsInstance refines g []
+  pub instances : (l : ℕ) (g : SegmentState M) → led segments l ≡ Some g → RefinesItems refines g []
 
 module _ {M Msg : Type 0} (refines : M → Params → ℕ → List (Item Msg) → Type 0) (s : Setup) (me : NodeId) (e : ℕ) (plan : Plan) where
   pub begun-none : AreBegun {M = M} refines s me e plan 0 []
@@ -115,7 +115,7 @@ module _ {M Msg : Type 0} (refines : M → Params → ℕ → List (Item Msg) �
     instances = λ l g h. absurd (let z : None ≡ Some g = h in cc);
   }
 
-  pub begun-next : (k : ℕ) (gs : List (Option (SegmentState M))) (o : Option (SegmentState M)) → AreBegun refines s me e plan k gs → is_some o ≡ leads plan k → IfSome o (λ g. IsInstance refines g []) →
+  pub begun-next : (k : ℕ) (gs : List (Option (SegmentState M))) (o : Option (SegmentState M)) → AreBegun refines s me e plan k gs → is_some o ≡ leads plan k → IfSome o (λ g. RefinesItems refines g []) →
       IfSome o (λ g. g.params ≡ params_by s e plan k) → IfSome o (λ g. g.me ≡ me) → AreBegun refines s me e plan (k + 1) (gs ++ o ∷ [])
   begun-next k gs o h leading instance params node = record {
     count = let n = h.count in let q = length-append gs (o ∷ []) in omega (arith, n, q);
@@ -125,7 +125,7 @@ module _ {M Msg : Type 0} (refines : M → Params → ℕ → List (Item Msg) �
     ];
     params = λ l g is. each (λ i x. x.params ≡ params_by s e plan i) params h.params l g is;
     node = λ l g is. each (λ i x. x.me ≡ me) node h.node l g is;
-    instances = λ l g is. each (λ i x. IsInstance refines x []) instance h.instances l g is;
+    instances = λ l g is. each (λ i x. RefinesItems refines x []) instance h.instances l g is;
   }
     where
       at-end : (Q : ℕ → Option (SegmentState M) → Type 0) (l : ℕ) → l ≡ k → Q k o → Q l (led (gs ++ o ∷ []) l)

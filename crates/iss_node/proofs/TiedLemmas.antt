@@ -14,13 +14,13 @@ use Rattle.iss_model.proofs.Flights.{parts-of}
 use Rattle.iss_rules.proofs.Ids.{has-not}
 use Rattle.iss_rules.proofs.Longest.{Bounded}
 use Rattle.iss_rules.specs.Concrete.{rules_of}
-use Rattle.iss_model.specs.Node.{Core, flown, flying, grown_strings, joined, refiled, returned}
+use Rattle.iss_model.specs.Node.{Core, after_growth, flown, flying, grown_strings, joined, returned}
 use Rattle.iss_rules.specs.Past.{Past, before_own, log_of, start_of}
 use Rattle.iss_model.specs.Sound.{carried, held}
 use Rattle.iss_node.proofs.FlightLemmas.{still-flown}
 use Rattle.iss_node.proofs.GrowthLemmas.{log_ids-append, note-all, waiting-is}
 use Rattle.iss_node.proofs.OwnEpoch.{start-is}
-use Rattle.iss_node.specs.Flights.{FlightState, IsLanded, landed}
+use Rattle.iss_node.specs.Flights.{FlightState, IsCompleted, completed}
 use Rattle.iss_node.specs.Growth.{and_values, waits_on}
 use Rattle.iss_node.specs.Shape.{IsNodeState}
 use Rattle.iss_node.specs.State.{RefinesPast, StateView, core_of}
@@ -80,8 +80,8 @@ grown-is s entries more old new p q =
 
 -- what a later past makes of the requests of a node, in its parts: those that wait, what is in flight, and the identities of the epoch
 pub record AreRefiled {M Msg : Type 0} (m : Module Msg) (v : StateView M Msg) (past next : Past Msg) (leaf : ℕ) (waiting : List Request) (flight : FlightState) (logged : List ReqId) : Type 0 where
-  pub waits : waiting ≡ (refiled (rules_of v.setup) m v.me.0 (core_of v past) next leaf).waiting
-  pub flies : flight.casts ≡ (refiled (rules_of v.setup) m v.me.0 (core_of v past) next leaf).flight
+  pub waits : waiting ≡ (after_growth (rules_of v.setup) m v.me.0 (core_of v past) next leaf).waiting
+  pub flies : flight.casts ≡ (after_growth (rules_of v.setup) m v.me.0 (core_of v past) next leaf).flight
   pub same : SameIds flight.ids (flown flight.casts)
   pub noted : SameIds logged (log_ids (joined v.plan.start (log_of (rules_of v.setup) m v.me.0 next)))
 
@@ -104,10 +104,10 @@ module _ {M Msg : Type 0} (m : Module Msg) (refines : M → Params → ℕ → L
 
   module _ (next : Past Msg) (leaf : ℕ) (log : LogState) (more : List Value) (entries : log.entries ≡ v.log.entries ++ more)
       (new-log : log_of (rules_of v.setup) m v.me.0 next ≡ reverse log.entries)
-      (different : Different (ids (held (refiled (rules_of v.setup) m v.me.0 (core_of v past) next leaf))))
+      (different : Different (ids (held (after_growth (rules_of v.setup) m v.me.0 (core_of v past) next leaf))))
       (waiting : List Request) (flight : FlightState) (logged : List ReqId)
       (joins : logged ≡ fold and_values v.logged more)
-      (lands : IsLanded v.flight flight (length log.entries))
+      (lands : IsCompleted v.flight flight (length log.entries))
       (returns : (all : List ReqId) (before : List Value) → RefinesNoted v.windows (noted_before before) → ((x : ReqId) → has_id x all ≡ (has_id x logged || has_id x (log_ids before))) →
       AreNew (fold waits_on v.waiting more) (absent all (returned (reverse log.entries) v.flight.casts)) →
       waiting ≡ fold waits_on v.waiting more ++ absent all (returned (reverse log.entries) v.flight.casts)) where
@@ -153,14 +153,14 @@ module _ {M Msg : Type 0} (m : Module Msg) (refines : M → Params → ℕ → L
 
     fresh : AreNew (fold waits_on v.waiting more) (absent (log_ids (log_of (rules_of v.setup) m v.me.0 next)) (returned (reverse log.entries) v.flight.casts))
     fresh =
-        let core : Core Msg = refiled (rules_of v.setup) m v.me.0 (core_of v past) next leaf in
+        let core : Core Msg = after_growth (rules_of v.setup) m v.me.0 (core_of v past) next leaf in
         let p = parts-of core.waiting (carried core.flight) different in
         let d = new-of (absent (log_ids (log_of (rules_of v.setup) m v.me.0 next)) (returned (log_of (rules_of v.setup) m v.me.0 next) v.flight.casts))
         (absent (log_ids (joined (length (log_of (rules_of v.setup) m v.me.0 past)) (log_of (rules_of v.setup) m v.me.0 next))) v.waiting) p.left in
         subst (λ (ys : List Request). AreNew ys (absent (log_ids (log_of (rules_of v.setup) m v.me.0 next)) (returned (reverse log.entries) v.flight.casts))) (sym still-waits)
         (subst (λ (zs : List Request). AreNew (absent (log_ids (joined (length (log_of (rules_of v.setup) m v.me.0 past)) (log_of (rules_of v.setup) m v.me.0 next))) v.waiting) zs) (sym back-is) d)
 
-    waiting-core : waiting ≡ (refiled (rules_of v.setup) m v.me.0 (core_of v past) next leaf).waiting
+    waiting-core : waiting ≡ (after_growth (rules_of v.setup) m v.me.0 (core_of v past) next leaf).waiting
     waiting-core =
         returns (log_ids (log_of (rules_of v.setup) m v.me.0 next)) (before_own (rules_of v.setup) m v.me.0 past) tied.rests.noted members fresh
         ∙ ap (λ (ys : List Request). ys ++ absent (log_ids (log_of (rules_of v.setup) m v.me.0 next)) (returned (reverse log.entries) v.flight.casts)) still-waits
@@ -176,7 +176,7 @@ module _ {M Msg : Type 0} (m : Module Msg) (refines : M → Params → ℕ → L
     flown-is x =
         let p = parts-of v.waiting (carried v.flight.casts) tied.sound.different in
         lands.ids x
-        ∙ ap (λ b. b && not (has_id x (flown (landed (length log.entries) v.flight.casts)))) (tied.flown x)
+        ∙ ap (λ b. b && not (has_id x (flown (completed (length log.entries) v.flight.casts)))) (tied.flown x)
         ∙ sym (still-flown (length log.entries) v.flight.casts x p.right)
         ∙ ap (λ (fs : List (Slot × Batch)). has_id x (flown fs)) (sym lands.casts)
 

@@ -1,4 +1,5 @@
--- How a node casts: which slots are open, and which requests go into the batch.
+-- How a node casts: the first open slot of its segment, and the first waiting requests whose buckets it owns and that
+-- nothing marks.
 use Rattle.std.specs.Prelude.{◌≡◌, ℕ, Bool, ◌&&◌, ◌==◌, not, is_some, List, [], ◌∷◌, ◌++◌, Some}
 use Rattle.std.specs.List.{list_any}
 use Rattle.iss_buckets.specs.Waiting.{cut, may_cast, uncut}

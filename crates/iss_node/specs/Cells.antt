@@ -1,4 +1,5 @@
--- What deliveries do to the slots of a log.
+-- What deliveries do to the slots of a log: an empty slot takes the first value delivered for it, and no other slot
+-- changes.
 use Rattle.std.specs.Prelude.{◌≡◌, ℕ, ◌==◌, List, [], ◌∷◌, Option, Some, None, if◌then◌else◌}
 use Rattle.iss_base.specs.Lists.{first_of}
 use Rattle.iss_log.specs.LogState.{LogState, value_at}

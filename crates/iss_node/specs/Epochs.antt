@@ -1,4 +1,5 @@
--- How an epoch's end changes the parts of a node.
+-- How the end of an epoch changes a node: the policy and the windows learn what joined the log, and fresh instances
+-- start for the leaders of the next epoch.
 use Rattle.std.specs.Prelude.{◌≡◌, ℕ, [], ◌∷◌, ◌++◌, List, Some, is_some, reverse, Option}
 use Rattle.std.specs.List.{filter}
 use Rattle.iss_layout.specs.Layout.{Ended, IsStanding, Plan, conduct_of, leads, plan_by, segment, slots_from}
@@ -11,7 +12,7 @@ use Rattle.iss_request.specs.declared.ids.ReqId.{ReqId}
 use Rattle.iss_request.specs.declared.setups.Setup.{Setup}
 use Rattle.iss_sb.specs.declared.effects.Params.{Params}
 use Rattle.iss_sb.specs.Calls.{Relation}
-use Rattle.iss_segment.specs.Instance.{IsInstance, SegmentState}
+use Rattle.iss_segment.specs.Instance.{RefinesItems, SegmentState}
 use Rattle.iss_window.specs.Kept.{RefinesNoted}
 use Rattle.iss_window.specs.Window.{Noted, and_closed, and_noted}
 
@@ -45,7 +46,7 @@ pub record AreStarted {M Msg : Type 0} (refines : Relation M Msg) (s : Setup) (m
   pub leading : (l : ℕ) → is_some (led segments l) ≡ leads plan l
   pub params : (l : ℕ) (g : SegmentState M) → led segments l ≡ Some g → g.params ≡ params_by s e plan l
   pub node : (l : ℕ) (g : SegmentState M) → led segments l ≡ Some g → g.me ≡ me
-  pub instances : (l : ℕ) (g : SegmentState M) → led segments l ≡ Some g → IsInstance refines g []
+  pub instances : (l : ℕ) (g : SegmentState M) → led segments l ≡ Some g → RefinesItems refines g []
 
 -- an epoch has begun, by what the policy carries
 pub record HasOpened {M Msg : Type 0} (refines : Relation M Msg) (old new : StateView M Msg) (e start : ℕ) : Type 0 where

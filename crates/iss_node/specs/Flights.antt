@@ -1,4 +1,4 @@
--- What is in flight at a node.
+-- The batches in flight at a node: those that it cast in slots which its log does not hold yet.
 use Rattle.std.specs.Prelude.{◌≡◌, ℕ, ◌&&◌, not, nat_lt, cond, List, [], ◌∷◌}
 use Rattle.iss_model.specs.Node.{flown, flying}
 use Rattle.iss_request.specs.Log.{has_id}
@@ -13,11 +13,11 @@ pub record FlightState : Type 0 where
   pub ids : List ReqId
 
 -- what was cast in slots below n
-abbrev pub landed : ℕ → List (Slot × Batch) → List (Slot × Batch)
-landed n [] = []
-landed n (x ∷ xs) = cond (nat_lt x.0.0 n) (x ∷ landed n xs) (landed n xs)
+abbrev pub completed : ℕ → List (Slot × Batch) → List (Slot × Batch)
+completed n [] = []
+completed n (x ∷ xs) = cond (nat_lt x.0.0 n) (x ∷ completed n xs) (completed n xs)
 
 -- what was cast below n is no more in flight
-pub record IsLanded (old new : FlightState) (n : ℕ) : Type 0 where
+pub record IsCompleted (old new : FlightState) (n : ℕ) : Type 0 where
   pub casts : new.casts ≡ flying n old.casts
-  pub ids : (x : ReqId) → has_id x new.ids ≡ (has_id x old.ids && not (has_id x (flown (landed n old.casts))))
+  pub ids : (x : ReqId) → has_id x new.ids ≡ (has_id x old.ids && not (has_id x (flown (completed n old.casts))))

@@ -1,4 +1,4 @@
--- How a log grows by deliveries, and what that does to a node's requests.
+-- How a log grows by deliveries, and what that does to waiting requests, marks and the digest chain.
 use Rattle.std.specs.Prelude.{◌≡◌, ℕ, List, ◌++◌, length, None}
 use Rattle.iss_base.specs.Lists.{first_of}
 use Rattle.iss_buckets.specs.Waiting.{absent}

@@ -1,11 +1,12 @@
--- What the input of an instance does to the parts of a node.
+-- What the input of one instance does to a node: the instance's step, its verdict, the log's growth, and what is
+-- handed out.
 use Rattle.std.specs.Prelude.{◌≡◌, ◌≢◌, ℕ, ◌||◌, List, ◌++◌, [], ◌∷◌, Option, Some, None, Result, Ok, Err, fold, length, reverse}
 use Rattle.iss_buckets.specs.Waiting.{AreNew, absent}
 use Rattle.iss_log.specs.Chains.{IsChainOf}
 use Rattle.iss_rules.specs.Formats.{formats_of}
 use Rattle.iss_model.specs.Node.{own_claims, packed, returned}
 use Rattle.iss_rules.specs.declared.events.Refusal.{Refusal}
-use Rattle.iss_node.specs.Flights.{IsLanded}
+use Rattle.iss_node.specs.Flights.{IsCompleted}
 use Rattle.iss_node.specs.Growth.{AreJoined, IsGrown, and_values, waits_on}
 use Rattle.iss_node.specs.State.{StateView, led}
 use Rattle.iss_node.specs.declared.answers.Accepted.{Accepted}
@@ -62,19 +63,19 @@ and_accepted l xs None = xs
 and_accepted l xs (Some a) = xs ++ record { leader = l; slot = a.0; batch = a.1 } ∷ []
 
 -- what was cast in slots of the log is in flight no more; where the slot became nil it waits again, unless the log holds it
-pub record HasLanded {M Msg : Type 0} (old new : StateView M Msg) : Type 0 where
-  pub landed : IsLanded old.flight new.flight (length old.log.entries)
+pub record HasCompletedCasts {M Msg : Type 0} (old new : StateView M Msg) : Type 0 where
+  pub landed : IsCompleted old.flight new.flight (length old.log.entries)
   pub waiting : (all : List ReqId) → AreLogged old all →
       AreNew old.waiting (absent all (returned (reverse old.log.entries) old.flight.casts)) →
       new.waiting ≡ old.waiting ++ absent all (returned (reverse old.log.entries) old.flight.casts)
 
 -- the log grew by what was delivered, as far as it goes
-pub record HasGrown {M Msg : Type 0} (old new : StateView M Msg) (delivers : List (Slot × Value)) : Type 0 where
+pub record HasAppliedDeliveries {M Msg : Type 0} (old new : StateView M Msg) (delivers : List (Slot × Value)) : Type 0 where
   pub held : ℕ
   pub grown : IsGrown old.log delivers new.log held
   pub logged : new.logged ≡ fold and_values old.logged grown.joined
   -- what joined waits no more
-  pub landed : HasLanded (record old { log = new.log; chains = new.chains; logged = new.logged; waiting = fold waits_on old.waiting grown.joined }) new
+  pub landed : HasCompletedCasts (record old { log = new.log; chains = new.chains; logged = new.logged; waiting = fold waits_on old.waiting grown.joined }) new
   pub rest : new ≡ record old { log = new.log; chains = new.chains; logged = new.logged; flight = new.flight; waiting = new.waiting }
 
 -- the chain grew with the log, and the strings that were hashed for that stand behind others
@@ -92,6 +93,6 @@ pub record IsHandedOut {M Msg : Type 0} (m : Module Msg) (v : StateView M Msg) (
   pub hashed_is : o.hashed ≡ hashed
 
 -- what a step of an instance made is the node's
-pub record IsAbsorbed {M Msg : Type 0} (old new : StateView M Msg) (l : NodeId) (e : Effects Msg) : Type 0 where
+pub record HasAppliedEffects {M Msg : Type 0} (old new : StateView M Msg) (l : NodeId) (e : Effects Msg) : Type 0 where
   pub accepted : new.accepted ≡ and_accepted l old.accepted e.accepted
-  pub grown : HasGrown (record old { accepted = new.accepted }) new e.delivers
+  pub grown : HasAppliedDeliveries (record old { accepted = new.accepted }) new e.delivers

@@ -1,6 +1,6 @@
--- What is seen of a parcel: the model's.
+-- A parcel of the code, seen as the model's parcel.
 use Rattle.std.specs.Prelude.{ℕ, ◌<◌, Option, Some, None}
-use Rattle.iss_rules.specs.Parcels.{Body as Held, OfAsk, OfModule, OfPiece, OfRequest, OfVote, Parcel as Carried}
+use Rattle.iss_rules.specs.Parcels.{Body as ModelBody, OfAsk, OfModule, OfPiece, OfRequest, OfVote, Parcel as Carried}
 use Rattle.iss_node.specs.declared.parcels.Body.{Body}
 use Rattle.iss_node.specs.declared.parcels.Body.TheVariants.{Ask, Message, Piece, Request, Vote}
 use Rattle.iss_node.specs.declared.parcels.Parcel.{Parcel}
@@ -9,7 +9,7 @@ use Rattle.iss_packet.specs.declared.packets.Packet.{Packet}
 use Rattle.iss_transfer.specs.declared.pieces.Ask.{Ask as Asked_for}
 use Rattle.iss_transfer.specs.declared.pieces.Piece.{Piece as Sent_piece}
 
-abbrev pub seen_body : {Msg : Type 0} → Body Msg → Held Msg
+abbrev pub seen_body : {Msg : Type 0} → Body Msg → ModelBody Msg
 seen_body (Message leader msg) = OfModule leader.0 msg
 seen_body (Vote v) = OfVote v
 seen_body Ask = OfAsk

@@ -1,4 +1,5 @@
--- What holds of every node, whatever it took.
+-- The invariant of a node, whatever it took: its instances are of its set-up and identity, and it refines some core
+-- unless it is stale.
 use Rattle.std.specs.Prelude.{◌≡◌, ◌⊎◌, ℕ, ◌+◌, ◌^◌, ◌<◌, true, List, [], ◌∷◌, length, Some}
 use Rattle.iss_checkpoint.specs.Votes.{voters_of}
 use Rattle.iss_rules.specs.Concrete.{keys_of}

@@ -1,4 +1,6 @@
--- What is seen of a node, and which model core it stands for.
+-- What is seen of a node, and when it refines a core of the model. Its log, waiting requests, batches in flight, marks
+-- and ballots are the core's, and each instance refines the list of what was taken there. Of earlier epochs only the
+-- log is compared. Most steps look at no vote, so they are stated for a core without votes and certificates.
 use Rattle.std.specs.Prelude.{◌≡◌, ℕ, ◌+◌, ◌*◌, ◌<◌, ◌≤◌, ◌==◌, Bool, false, cond, is_some, List, [], ◌∷◌, length, reverse, Option, Some, None, slice_get}
 use Rattle.iss_keys.specs.Directories.{AreKeysOf, DirectoryView}
 use Rattle.iss_keys.specs.KeyStates.{KeyState}
@@ -28,7 +30,7 @@ use Rattle.iss_sb.specs.Evidence.{Item, Module, accepts, delivered}
 use Rattle.iss_sb.specs.declared.effects.Params.{Params}
 use Rattle.iss_sb.specs.Calls.{Relation}
 use Rattle.iss_segment.specs.Ground.{RestsOn}
-use Rattle.iss_segment.specs.Instance.{IsInstance, SameIds, SegmentState}
+use Rattle.iss_segment.specs.Instance.{RefinesItems, SameIds, SegmentState}
 use Rattle.iss_window.specs.Kept.{Kept}
 
 -- the parts of a node in its epoch
@@ -93,11 +95,11 @@ slot_value R M me before past s =
     delivered M (R.params before past.epoch l) me (taken_in past l) s
 
 -- the instance of a leader of the epoch stands for what the node took there
-pub record IsLed {M Msg : Type 0} (refines : Relation M Msg) (p : Params) (me : NodeId) (taken : List (Item Msg))
+pub record RefinesTaken {M Msg : Type 0} (refines : Relation M Msg) (p : Params) (me : NodeId) (taken : List (Item Msg))
     (g : SegmentState M) : Type 0 where
   pub params : g.params ≡ p
   pub node : g.me ≡ me
-  pub instance : IsInstance refines g taken
+  pub instance : RefinesItems refines g taken
 
 -- the parts stand for the past, over the log before its epoch
 pub record RefinesPastOver {M Msg : Type 0} (m : Module Msg) (refines : Relation M Msg)
@@ -117,7 +119,7 @@ pub record RefinesPastOver {M Msg : Type 0} (m : Module Msg) (refines : Relation
   -- its instances
   pub leading : (l : ℕ) → is_some (led v.segments l) ≡ leads v.plan l
   pub instances : (l : ℕ) (g : SegmentState M) → led v.segments l ≡ Some g →
-      IsLed refines ((rules_of v.setup).params before past.epoch l) v.me (taken_in past l) g
+      RefinesTaken refines ((rules_of v.setup).params before past.epoch l) v.me (taken_in past l) g
   pub accepted : (l : ℕ) → reverse (accepted_of l v.accepted) ≡ accepts (taken_in past l)
   -- the requests that are known
   pub logged : SameIds v.logged (log_ids (joined v.plan.start (log_of (rules_of v.setup) m v.me.0 past)))

@@ -1,4 +1,7 @@
--- What a node's answer to an event says of the model's step.
+-- What a node's answer says about the model's step. If the model takes the event, the node refines the core after it
+-- and hands out what the model makes: packets in order, own claims, read claims, hashed strings. If the model drops
+-- it, nothing changes, for the same cause. Where memory runs out the node is stale, and shows the log and epoch that
+-- it had.
 use Rattle.std.specs.Prelude.{◌≡◌, ◌<◌, ◌+◌, ◌^◌, ℕ, true, List, [], take}
 use Rattle.iss_log.specs.LogState.{GoesOn}
 use Rattle.iss_rules.specs.Concrete.{rules_of}
@@ -188,6 +191,7 @@ pub record IsSpoiled {M Msg : Type 0} (old new : NodeView M Msg) : Type 0 where
   pub epoch : new.state.epoch ≡ old.state.epoch
 
 -- what an answer says whatever the node stands for
+-- rule: Runs: A node or a world that ran out of memory says so from then on
 abbrev pub IsLeft : {M Msg : Type 0} → NodeView M Msg → NodeView M Msg → Answer → Type 0
 IsLeft old new (Taken outcome) = Unit {0}
 IsLeft old new (Dropped why) = Unit {0}
@@ -195,6 +199,7 @@ IsLeft old new NoMemory = IsSpoiled old new
 IsLeft old new Stale = (old.stale ≡ true) × (new ≡ old)
 
 -- the node gave up what came after the first slots, and its epoch is this one; it takes nothing more
+-- rule: Persistence: A node that retreats keeps the given prefix of its log and takes nothing more
 pub record HasRetreated {M Msg : Type 0} (old new : NodeView M Msg) (slots e : ℕ) : Type 0 where
   pub stale : new.stale ≡ true
   pub log : new.state.log.entries ≡ take slots old.state.log.entries

@@ -1,4 +1,4 @@
--- How a node hands out an epoch, and takes one over.
+-- State transfer: how a node hands out an epoch that its log holds, and how it adopts one under a certificate.
 use Rattle.std.specs.Prelude.{◌≡◌, ℕ, suc, ◌*◌, List, [], ◌∷◌, Option, Some, None, cond, drop, length, nat_le, take}
 use Rattle.iss_checkpoint.specs.Votes.{vote_statement}
 use Rattle.iss_rules.specs.Concrete.{rules_of}

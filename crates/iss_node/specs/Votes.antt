@@ -1,4 +1,5 @@
--- How a node votes.
+-- How a node votes: its next leaf signs the end of its log for the epoch, and the vote goes to all nodes with its
+-- claim.
 use Rattle.std.specs.Prelude.{◌≡◌, ◌+◌, [], ◌∷◌, Some, slice_get}
 use Rattle.iss_ballots.specs.Claims.{claim_by}
 use Rattle.iss_checkpoint.specs.Bodies.{spell_vote}

@@ -8,7 +8,7 @@ ghost use Rattle.iss_node.specs.Casts.{IsCut, casting, is_open};
 ghost use Rattle.iss_node.specs.State.{RefinesPast, core_of, led};
 ghost use Rattle.iss_node.specs.Steps.{IsLater, IsStepOf, IsTurnOf};
 ghost use Rattle.iss_sb.specs.Evidence.{Item};
-ghost use Rattle.iss_segment.specs.Instance.{IsInstance, SegmentState};
+ghost use Rattle.iss_segment.specs.Instance.{RefinesItems, SegmentState};
 
 use crate::answers::{Outcome, StepResult};
 use crate::flight::Flight;
@@ -48,6 +48,7 @@ impl<M: Sequenced> NodeState<M> {
     }
 
     // The first slot of the node's own segment that is neither cast nor filled and for which the module takes casts.
+    // rule: Buckets: A leader proposes at its least slot that is neither proposed nor filled
     fn next_slot(&self) -> Option<Slot>
         ensures { (past : Past M.Msg) (g : SegmentState M) → RefinesPast M.spec M.refines self.now past → led self.now.segments self.now.me.0 ≡ Some g →
             result ≡ next_slot (rules_of self.now.setup) M.spec self.now.me.0 (core_of self.now past) }
@@ -93,7 +94,7 @@ fn first_castable<M: Sequenced>(
     flight: &Flight,
     slots: &[Slot],
 ) -> Option<Slot>
-    ensures { (xs : List (Item M.Msg)) → IsInstance M.refines segment.now xs →
+    ensures { (xs : List (Item M.Msg)) → RefinesItems M.refines segment.now xs →
         result ≡ first_slot (is_open M.spec segment.now.params segment.now.me.0 xs log.now flight.now.casts) slots.now }
 {
     for slot in slots {
@@ -106,7 +107,7 @@ fn first_castable<M: Sequenced>(
 
 // Whether a slot is neither cast nor filled and the module takes casts there.
 fn is_open<M: Sequenced>(segment: &Segment<M>, log: &Log, flight: &Flight, slot: Slot) -> bool
-    ensures { (xs : List (Item M.Msg)) → IsInstance M.refines segment.now xs →
+    ensures { (xs : List (Item M.Msg)) → RefinesItems M.refines segment.now xs →
         result ≡ is_open M.spec segment.now.params segment.now.me.0 xs log.now flight.now.casts slot }
 {
     M::laws();

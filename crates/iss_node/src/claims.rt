@@ -42,6 +42,7 @@ impl<M: Sequenced> NodeState<M> {
     }
 
     /// Whether each claim of an input in the instance of a leader of the epoch is one of the node that it names.
+    // rule: Acceptance: A message with a claim that does not verify under its signer's key is dropped
     pub(crate) fn is_credible(
         &self,
         alloc: Global,
@@ -102,6 +103,7 @@ impl<M: Sequenced> NodeState<M> {
 }
 
 // A node's own claims in what it sends.
+// rule: Evidence: An outcome lists the node's own claims in all that it sends
 fn own_claims<M: Sequenced>(
     alloc: Global,
     p: &Params,

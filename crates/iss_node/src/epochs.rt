@@ -72,6 +72,7 @@ impl<M: Sequenced> NodeState<M> {
     }
 
     /// Takes early messages in turn, as long as the epoch lasts. What they make goes behind what was made before.
+    // rule: Epochs: Early messages are taken once each, in order of arrival, while their epoch lasts
     pub(crate) fn take_each(
         &mut self,
         alloc: Global,
@@ -95,6 +96,7 @@ impl<M: Sequenced> NodeState<M> {
     }
 
     // Takes an early message, as if it came now. One that is refused is gone, but its claims were read.
+    // rule: Evidence: The claims of an early message are read even where the message is then refused
     fn take_early(&mut self, alloc: Global, message: Early<M::Msg>) -> Result<Outcome, NoMemory>
         requires { message.from.0 < self.old.setup.n }
         ensures turn { IfOk result (λ o. IsTurnOf M.spec M.refines self.old (λ F R me c. takes_early F R M.spec me c (seen_one message)) self.new o) }
@@ -125,6 +127,7 @@ impl<M: Sequenced> NodeState<M> {
 
     /// The epoch is over, and the next one begins with fresh instances. Gives the messages that came early for it. Want
     /// of memory comes also where slots would pass 2^64 - 1.
+    // rule: Epochs: An epoch ends when the log holds all of it, and the next begins with fresh instances
     pub(crate) fn next_epoch(&mut self, alloc: Global) -> Result<Vec<Early<M::Msg>>, NoMemory>
         ensures next { IfOk result (λ early. IsNextEpoch M.refines self.old self.new early.items) }
         ensures from { IfOk result (λ early. AreFrom self.new.setup.n early.items) }
@@ -143,6 +146,8 @@ impl<M: Sequenced> NodeState<M> {
     }
 
     // The policy learns which slots of the epoch became nil, and the windows move on.
+    // rule: Epochs: The policy reads the nil slots of an epoch before the next one is divided
+    // rule: Epochs: Windows move at the end of an epoch
     fn close(&mut self, alloc: Global) -> Result<(), NoMemory>
         ensures closed { OnOk result (HasClosed self.old self.new) }
         ensures rest { self.new ≡ record self.old { standing = self.new.standing; windows = self.new.windows } }

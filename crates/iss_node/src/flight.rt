@@ -3,7 +3,7 @@ ghost use Rattle.std.specs.Prelude.{◌≡◌, ◌<◌, ◌++◌, ◌∷◌, ◌
 ghost use Rattle.std.specs.List.{list_any};
 ghost use Rattle.iss_window.specs.Ids.{and_ids};
 ghost use Rattle.iss_model.specs.Node.{flying, has_slot};
-ghost use Rattle.iss_node.specs.Flights.{FlightState, IsLanded, landed};
+ghost use Rattle.iss_node.specs.Flights.{FlightState, IsCompleted, completed};
 ghost use Rattle.iss_request.specs.Log.{has_id, ids as request_ids};
 ghost use Rattle.iss_request.specs.declared.ids.ReqId.{ReqId};
 
@@ -74,8 +74,8 @@ impl Flight {
         alloc: Global,
         slots: u64,
     ) -> Result<Vec<(Slot, Batch)>, NoMemory>
-        ensures gone { IfOk result (λ gone. gone.items ≡ landed slots self.old.casts) }
-        ensures left { OnOk result (IsLanded self.old self.new slots) }
+        ensures gone { IfOk result (λ gone. gone.items ≡ completed slots self.old.casts) }
+        ensures left { OnOk result (IsCompleted self.old self.new slots) }
     {
         let casts = std::mem::replace(&mut self.casts, Vec::new(alloc));
         let mut gone = Vec::new(alloc);

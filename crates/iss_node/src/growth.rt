@@ -5,7 +5,7 @@ ghost use Rattle.iss_log.specs.Chains.{IsChainOf};
 ghost use Rattle.iss_node.specs.Growth.{AreJoined, IsGrown, and_values, waits_on};
 ghost use Rattle.iss_node.specs.Cells.{AreFilled};
 ghost use Rattle.iss_model.specs.Node.{is_nil_at};
-ghost use Rattle.iss_request.specs.declared.requests.Value.{Value as Held};
+ghost use Rattle.iss_request.specs.declared.requests.Value.{Value as LogValue};
 
 use iss_buckets::Pending;
 use iss_keys::Directory;
@@ -42,7 +42,7 @@ pub fn join_all(
     values: &[Value],
     hashed: &mut Seq<Bytes>,
 ) -> Result<(), NoMemory>
-    ensures joined { OnOk result ((log : List Held) → IsChainOf chains.old log →
+    ensures joined { OnOk result ((log : List LogValue) → IsChainOf chains.old log →
         AreJoined chains.old log values.now chains.new hashed.old hashed.new) }
     ensures version { chains.new.version ≡ chains.old.version }
 {

@@ -1,7 +1,7 @@
 //! What a node's instances take.
 ghost use Rattle.std.specs.Prelude.{◌≡◌, ◌<◌, ◌≤◌, IfOk, OnOk, drop, length};
 ghost use Rattle.iss_model.specs.Node.{step_unjudged, try_step};
-ghost use Rattle.iss_node.specs.Inputs.{HasGrown, IsAbsorbed, IsChained, IsHandedOut, IsInputTaken, IsJudgedInput, and_accepted};
+ghost use Rattle.iss_node.specs.Inputs.{HasAppliedDeliveries, HasAppliedEffects, IsChained, IsHandedOut, IsInputTaken, IsJudgedInput, and_accepted};
 ghost use Rattle.iss_node.specs.Steps.{IsLater, IsNodeInput, IsStepOf, IsTurnOf};
 
 use crate::answers::{Accepted, Outcome, StepResult};
@@ -15,6 +15,7 @@ use std::alloc::Global;
 
 impl<M: Sequenced> NodeState<M> {
     /// An input in the instance of a leader, where it leads, what it claims verifies, keys are left and the judge agrees.
+    // rule: Acceptance: An instance takes an input if it leads, its claims verify, leaves are left, no refusal
     pub(crate) fn try_step(
         &mut self,
         alloc: Global,
@@ -108,7 +109,7 @@ impl<M: Sequenced> NodeState<M> {
         leader: NodeId,
         effects: Effects<M::Msg>,
     ) -> Result<Outcome, NoMemory>
-        ensures absorbed { OnOk result (IsAbsorbed self.old self.new leader effects) }
+        ensures absorbed { OnOk result (HasAppliedEffects self.old self.new leader effects) }
         ensures made { IfOk result (λ o. IsHandedOut M.spec self.old leader.0 effects.sends o.hashed o) }
         ensures hashed { IfOk result (λ o. IsChained self.old self.new effects.hashed o.hashed) }
         ensures later { IsLater self.old self.new }
@@ -148,7 +149,7 @@ impl<M: Sequenced> NodeState<M> {
         delivers: Vec<(Slot, Value)>,
         hashed: &mut Seq<Bytes>,
     ) -> Result<(), NoMemory>
-        ensures grown { OnOk result (HasGrown self.old self.new delivers.items) }
+        ensures grown { OnOk result (HasAppliedDeliveries self.old self.new delivers.items) }
         ensures hashed { OnOk result (IsChained self.old self.new hashed.old hashed.new) }
         ensures later { IsLater self.old self.new }
     {

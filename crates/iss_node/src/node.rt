@@ -103,6 +103,7 @@ impl<M: Sequenced> Node<M> {
 
     /// Takes an event. Where it is dropped nothing changes; after want of memory the node shows the log and the epoch
     /// that it had, and is stale from then on.
+    // rule: Signatures: A node signs at most one statement with each leaf
     pub fn take(&mut self, alloc: Global, event: NodeEvent) -> Answer
         ensures answer { (c : Core M.Msg) → RefinesCore M.spec M.refines self.old c →
             IsAnswer M.spec M.refines (IsOfNodes self.old.state.setup.n event) c
@@ -152,6 +153,7 @@ impl<M: Sequenced> Node<M> {
     }
 
     /// Gives up what came after the first slots: the log is these, and the epoch the given one. The node is stale from then on.
+    // rule: Persistence: A node that retreats keeps the given prefix of its log and takes nothing more
     pub fn retreat(&mut self, slots: usize, epoch: Epoch)
         requires slots { slots ≤ length self.old.state.log.entries }
         requires epoch { epoch.0 ≤ self.old.state.epoch }

@@ -43,6 +43,7 @@ impl<M: Sequenced> NodeState<M> {
     }
 
     /// What bytes claim that come to the node.
+    // rule: Evidence: The claims of a packet are all signatures of its vote, certificate or message
     pub(crate) fn claims_of_bytes(
         &self,
         alloc: Global,
@@ -171,6 +172,7 @@ impl<M: Sequenced> NodeState<M> {
     }
 
     // Keeps a message of the next epoch, unless as many are kept as a node keeps.
+    // rule: Epochs: A message of the next epoch is kept for it, up to a fixed number of them
     fn keep_early(&mut self, alloc: Global, message: Early<M::Msg>) -> Result<StepResult, NoMemory>
         requires { message.from.0 < self.old.setup.n }
         ensures answer { IfOk result (λ a. IsStepOf M.spec M.refines self.old (λ F R me c. keeps_early c (seen_one message)) self.new a) }

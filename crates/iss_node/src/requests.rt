@@ -3,8 +3,8 @@ ghost use Rattle.std.specs.Prelude.{◌≡◌, ◌++◌, ◌∷◌, ◌||◌, []
 ghost use Rattle.iss_buckets.specs.Waiting.{AreNew, absent};
 ghost use Rattle.iss_rules.specs.Concrete.{rules_of};
 ghost use Rattle.iss_model.specs.Node.{returned, takes_request};
-ghost use Rattle.iss_node.specs.Flights.{IsLanded};
-ghost use Rattle.iss_node.specs.Inputs.{AreLogged, HasLanded};
+ghost use Rattle.iss_node.specs.Flights.{IsCompleted};
+ghost use Rattle.iss_node.specs.Inputs.{AreLogged, HasCompletedCasts};
 ghost use Rattle.iss_node.specs.Steps.{IsLater, IsStepOf};
 ghost use Rattle.iss_request.specs.Log.{has_id, ids};
 ghost use Rattle.iss_request.specs.declared.ids.ReqId.{ReqId as Identity};
@@ -23,6 +23,8 @@ use std::alloc::Global;
 
 impl<M: Sequenced> NodeState<M> {
     /// Takes a client's request: it waits, unless the node knows it or its number is outside the client's window.
+    // rule: Acceptance: A request is taken inside its window, if not waiting, in flight or ordered
+    // rule: Epochs: A request that a correct node took is in one place: its log, waiting, or in flight
     pub(crate) fn take_request(
         &mut self,
         alloc: Global,
@@ -45,6 +47,7 @@ impl<M: Sequenced> NodeState<M> {
     }
 
     // Whether a request's client signed it.
+    // rule: Acceptance: A request that its client did not sign is dropped before any other test
     fn is_signed(&self, request: &Request) -> bool
         ensures { result ≡ (rules_of self.now.setup).signed request.now }
     {
@@ -79,7 +82,7 @@ impl<M: Sequenced> NodeState<M> {
     /// What was cast in slots of the log is no more in flight. Where such a slot became nil the requests wait again,
     /// behind all others, unless the log holds them.
     pub(crate) fn complete_casts(&mut self, alloc: Global) -> Result<(), NoMemory>
-        ensures landed { OnOk result (HasLanded self.old self.new) }
+        ensures landed { OnOk result (HasCompletedCasts self.old self.new) }
         ensures rest { self.new ≡ record self.old { waiting = self.new.waiting; flight = self.new.flight } }
     {
         let slots = self.log.entries().len() as u64;
@@ -88,6 +91,7 @@ impl<M: Sequenced> NodeState<M> {
     }
 
     // What was cast in slots that became nil waits again.
+    // rule: Epochs: Requests proposed in a slot that became nil wait again, unless they are ordered
     fn requeue_nil_casts(&mut self, casts: Vec<(Slot, Batch)>) -> Result<(), NoMemory>
         ensures back { OnOk result ((all : List Identity) → AreLogged self.old all →
             AreNew self.old.waiting (absent all (returned (reverse self.old.log.entries) casts.items)) →

@@ -4,7 +4,7 @@ ghost use Rattle.iss_layout.specs.Layout.{IsGoodPlan, leads};
 ghost use Rattle.iss_rules.specs.Concrete.{keys_of};
 ghost use Rattle.iss_rules.specs.Setups.{IsSetupOf};
 ghost use Rattle.iss_node.specs.Epochs.{AreStarted, params_by};
-ghost use Rattle.iss_segment.specs.Instance.{IsInstance};
+ghost use Rattle.iss_segment.specs.Instance.{RefinesItems};
 
 use iss_keys::SharedDirectory;
 use iss_layout::Layout;
@@ -62,7 +62,7 @@ fn start_if_leader<M: Sequenced>(
     requires me { me.0 < setup.now.n }
     requires plan { IsGoodPlan layout.now }
     ensures leads { IfOk result (λ o. is_some o ≡ leads layout.now leader.0) }
-    ensures refines { IfOk result (λ o. IfSome o (λ g. IsInstance M.refines g [])) }
+    ensures refines { IfOk result (λ o. IfSome o (λ g. RefinesItems M.refines g [])) }
     ensures params { IfOk result (λ o. IfSome o (λ g. g.params ≡ params_by setup.now epoch.0 layout.now leader.0)) }
     ensures node { IfOk result (λ o. IfSome o (λ g. g.me ≡ me)) }
 {

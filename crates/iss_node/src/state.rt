@@ -114,6 +114,7 @@ impl<M: Sequenced> NodeState<M> {
     }
 
     /// Whether enough leaves are left for a step of a leader's instance, and for the vote at an epoch's end.
+    // rule: Acceptance: A node keeps one leaf back for its vote at the end of the epoch
     pub(crate) fn has_leaves(&self, leader: NodeId) -> bool
         ensures { (g : SegmentState M) → led self.now.segments leader.0 ≡ Some g → AreKeysOf self.now.me.0 self.now.setup.keys self.now.keys →
             result ≡ has_leaves M.spec g.params self.now.keys.used }

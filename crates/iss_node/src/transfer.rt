@@ -5,7 +5,7 @@ ghost use Rattle.iss_log.specs.Chains.{IsChainOf};
 ghost use Rattle.iss_rules.specs.Votes.{cert_on};
 ghost use Rattle.iss_model.specs.Node.{asking, hands_out, Taken as Step_taken, takes_piece};
 ghost use Rattle.iss_node.specs.Transfers.{IsAdoptedBy, IsHandedPiece, at_slots, held_slots, held_values};
-ghost use Rattle.iss_request.specs.declared.requests.Value.{Value as Held};
+ghost use Rattle.iss_request.specs.declared.requests.Value.{Value as LogValue};
 ghost use Rattle.iss_transfer.specs.Adoption.{adoption};
 ghost use Rattle.iss_node.specs.Steps.{IsHeldStepOf, IsOfNodes, IsSameNode};
 
@@ -32,6 +32,7 @@ impl<M: Sequenced> NodeState<M> {
     }
 
     /// Hands out the values of an epoch, where the node keeps its certificate and its log holds all of it.
+    // rule: Transfer: An ask is answered to the asker alone, if the node has the epoch and its certificate
     pub(crate) fn take_ask(
         &mut self,
         alloc: Global,
@@ -116,7 +117,7 @@ impl<M: Sequenced> NodeState<M> {
     // Whether the node may take over a piece in its epoch. Want of memory comes also where the log lacks a slot before the
     // epoch, which no node's does.
     fn adoption(&self, alloc: Global, piece: &Piece) -> Result<Adoption, NoMemory>
-        ensures { IfOk result (λ a. (log : List Held) → IsChainOf self.now.chains log →
+        ensures { IfOk result (λ a. (log : List LogValue) → IsChainOf self.now.chains log →
             a ≡ adoption self.now.setup (voters_of self.now.setup self.now.directory) log self.now.epoch piece.now) }
     {
         let Some(start) = self.epoch.0.checked_mul(self.setup.epoch) else {
@@ -138,6 +139,7 @@ impl<M: Sequenced> NodeState<M> {
 
     // The values of a piece are the node's where it has none, its certificate is kept, and the next epoch begins with what came
     // early for it.
+    // rule: Transfer: An adopted piece of the own epoch fills the empty slots and ends the epoch without a vote
     fn adopt(
         &mut self,
         alloc: Global,

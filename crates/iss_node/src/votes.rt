@@ -17,6 +17,7 @@ use std::alloc::Global;
 impl<M: Sequenced> NodeState<M> {
     /// The node's vote on its epoch, which is over, signed by the next leaf. Want of memory comes also where none is left, which
     /// no step lets happen.
+    // rule: Checkpoints: A node whose log ends an epoch votes to all on the log's chain and request count
     pub(crate) fn vote(&mut self) -> Result<Vote, NoMemory>
         ensures voted { IfOk result (λ v. IsVoted self.old self.new v) }
         ensures later { IsLater self.old self.new }
@@ -64,6 +65,7 @@ impl<M: Sequenced> NodeState<M> {
     }
 
     /// Counts a vote on an epoch up to the next one, unless a cause refuses it.
+    // rule: Checkpoints: A node drops a vote that is far ahead, unverified or known, and counts any other
     pub(crate) fn take_vote(&mut self, alloc: Global, vote: Vote) -> Result<StepResult, NoMemory>
         ensures answer { IfOk result (λ a. IsHeldStepOf M.spec M.refines (Unit {0}) self.old (λ F R me c. takes_vote R c vote) self.new a) }
         ensures same { IsSameNode self.old self.new }

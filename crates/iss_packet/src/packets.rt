@@ -145,6 +145,7 @@ fn read_parts(alloc: Global, f: &mut Fields) -> Result<Packet, DecodeError>
 
 impl Packet {
     // Whether the kind fits the sender, the epoch and the leader in a cluster of n nodes.
+    // rule: Formats: A packet has one encoding a version, and its kind fits its sender, epoch and leader
     #[tactic(auto, unfolding(crate::specs::Packets::is_routed))]
     fn has_route(&self, n: u32) -> bool
         ensures { result ≡ is_routed n self.now }

@@ -1,4 +1,4 @@
--- Which run so far a report stands for.
+-- When a report refines a run so far: its world does, its losses are the run's, and so is its end.
 use Rattle.std.specs.Prelude.{◌≡◌, ℕ, List, Option, option_map, reverse}
 use Rattle.iss_rules.specs.Ends.{End}
 use Rattle.iss_model.specs.Courses.{Course}

@@ -1,4 +1,5 @@
--- The text that tells how far a run has come.
+-- The text that tells how far a run has come: lost events, a block for each correct node, and the last line. Where the
+-- run ended early, the logs are those from before the delivery that ended it.
 use Rattle.std.specs.Prelude.{◌≡◌, ℕ, zero, suc, cond, List, [], ◌∷◌, ◌++◌}
 use Rattle.iss_rules.specs.Concrete.{rules_of}
 use Rattle.iss_rules.specs.Past.{log_of}
@@ -17,6 +18,7 @@ drop_lines [] = []
 drop_lines (d ∷ older) = drop_lines older ++ drop_line d.0 d.1
 
 -- the block of node i, with the log of its core; of a faulty node nothing is told
+-- rule: Reports: A faulty node has no block
 abbrev pub block_of : {Msg : Type 0} → Setup → Module Msg → Net Msg → ℕ → List ℕ
 block_of s M w i = cond (is_correct s i) (node_block i (w.cores i).past.epoch (log_of (rules_of s) M i (w.cores i).past)) []
 
@@ -33,6 +35,7 @@ text_of s M p = drop_lines p.drops ++ node_blocks s M p.machines.held.net s.n ++
 -- The bytes report these events: they are the text of their run, up to its end, which it shows evidence for. Whatever disks failed and
 -- cores were made anew, its logs are of one log, which more events only make longer, each request that a correct node took and kept is in
 -- one place, certificates are of logs of correct nodes, and what was adopted was delivered.
+-- rule: Reports: A replay runs all events and reports all of them
 pub record IsReport {Msg : Type 0} (s : Setup) (M : Module Msg) (events : List Event) (bytes : List ℕ) : Type 0 where
   pub tells : bytes ≡ text_of s M (course_after s M events)
   pub whole : IsWhole s M events

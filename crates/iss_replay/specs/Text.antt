@@ -1,4 +1,6 @@
--- The text of a report, line by line. Logs are newest first; numbers are in decimal digits.
+-- The text of a report, line by line. A node's block has its epoch, slots and requests, and a line for each slot with
+-- the number of its first request. A lost event has a line with its cause. The last line is `end ok`, or the event
+-- that ended the run with its evidence. Logs are newest first here; numbers are decimal.
 use Rattle.std.specs.Prelude.{ℕ, List, [], ◌∷◌, ◌++◌, length, codes, decimal, Option, Some, None}
 use Rattle.iss_request.specs.Log.{requests}
 use Rattle.iss_request.specs.declared.requests.Request.{Request}
@@ -39,6 +41,7 @@ why_word NotNeeded = codes "NotNeeded"
 why_word WrongChain = codes "WrongChain"
 
 -- each line ends with one line feed, the byte 10
+-- rule: Reports: Each lost event is reported with its cause
 abbrev pub drop_line : ℕ → Why → List ℕ
 drop_line event why = codes "drop " ++ decimal event ++ codes " " ++ why_word why ++ 10 ∷ []
 
@@ -81,5 +84,6 @@ abbrev pub node_line : ℕ → ℕ → ℕ → ℕ → List ℕ
 node_line node epoch slots count = codes "node " ++ decimal node ++ codes " epoch " ++ decimal epoch ++ codes " slots " ++ decimal slots
     ++ codes " requests " ++ decimal count ++ 10 ∷ []
 
+-- rule: Reports: A node's block has its epoch, and each slot with its first number and its requests
 abbrev pub node_block : ℕ → ℕ → List Value → List ℕ
 node_block node epoch log = node_line node epoch (length log) (requests log) ++ slot_lines log

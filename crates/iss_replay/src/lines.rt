@@ -13,6 +13,7 @@ use iss_sb::Claim;
 use std::alloc::Global;
 
 /// Writes the line of an event that was lost.
+// rule: Reports: Each lost event is reported with its cause
 pub fn put_drop(out: &mut Vec<u8>, event: u64, why: Why) -> Result<(), NoMemory>
     ensures { OnOk result (out.new.items ≡ out.old.items ++ drop_line event why) }
 {
@@ -81,6 +82,7 @@ pub fn put_collision(
 }
 
 /// Writes a node's block: its line, and a line for each slot of its log.
+// rule: Reports: A node's block has its epoch, and each slot with its first number and its requests
 pub fn put_node(out: &mut Vec<u8>, node: NodeId, epoch: Epoch, log: &Log) -> Result<(), NoMemory>
     ensures { OnOk result (out.new.items ≡ out.old.items ++ node_block node.0 epoch.0 (reverse log.now.entries)) }
 {

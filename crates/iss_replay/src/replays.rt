@@ -31,6 +31,8 @@ pub struct Report<M: Sequenced> {
 /// log, in which no request stands twice and each batch was accepted as valid by a correct node, and which more events only make longer;
 /// and each request that a correct node took and kept is in its log, waits there or is in flight. The certificates that correct nodes
 /// keep are of logs of correct nodes, and what correct nodes adopted was delivered at one (ISS, whole protocol; crashes and recovery).
+// rule: Log: Of two correct nodes' logs one is a prefix of the other, and no request is in one twice
+// rule: Recovery: A run with crashes refines the run of its kept events without crashes
 pub fn replay<M: Sequenced>(alloc: Global, schedule: &Schedule) -> Result<Report<M>, NoMemory>
     requires good { IsSetupOf M.spec schedule.now.setup }
     requires range { AreInRange schedule.now.setup schedule.now.events }
@@ -70,6 +72,8 @@ fn play<M: Sequenced>(alloc: Global, schedule: &Schedule) -> Result<Report<M>, N
 }
 
 // The next event happens; where it is lost, its number and the cause are noted. Says why the run ends, where it ends in it.
+// rule: Reports: A replay runs all events and reports all of them
+// rule: Program: A run that ends with evidence exits with 6 or 7, and reports the logs before it
 fn go_on<M: Sequenced>(
     alloc: Global,
     world: &mut World<M>,

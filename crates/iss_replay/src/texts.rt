@@ -71,6 +71,7 @@ fn put_nodes<M: Sequenced>(out: &mut Vec<u8>, world: &World<M>) -> Result<(), No
 }
 
 // Writes the block of one node, where it is correct.
+// rule: Reports: A faulty node has no block
 fn put_block<M: Sequenced>(out: &mut Vec<u8>, world: &World<M>, node: u32) -> Result<(), NoMemory>
     requires { node < world.now.simulation.setup.n }
     ensures { OnOk result ((p : Course M.Msg) → RefinesRun M.spec M.refines world.now p →

@@ -1,11 +1,10 @@
--- How requests and values are spelled in bytes, and how they are read. Numbers have their highest byte first.
+-- How requests and values are encoded and decoded. Numbers have their highest byte first. A version is any number: 2
+-- is the second, and every other number means the first.
 --
 --   request     client (1 byte), number (4), length of the payload (2, at most 256), payload, signature
 --   value       0 for nil; 1, count (1 byte, at most 32), requests
 --               in version 2: 0 for nil; 2, count (2 bytes, at most 256), requests
 --   signature   height of the key's tree (1 byte, 2 to 12), leaf (4), 67 + height digests of 32 bytes
---
--- A version is any number: 2 is the second, and by every other number things are spelled as by the first.
 use Rattle.std.specs.Prelude.{◌≡◌, ◌≤◌, ℕ, zero, suc, ◌+◌, ◌*◌, ◌^◌, List, [], ◌∷◌, ◌++◌, length}
 use Rattle.std.specs.Prelude.{Bool, true, false, nat_le, nat_lt, ◌==◌, ◌&&◌, ◌||◌, if◌then◌else◌}
 use Rattle.std.specs.List.{AllByRecursion, flat_map}
@@ -44,6 +43,7 @@ batch_of (Value_batch b) = b
 abbrev pub is_height : ℕ → Bool
 is_height h = nat_le 2 h && nat_le h 12
 
+-- rule: Formats: A signature begins with its tree's height, from 2 to 12, which fixes its length
 abbrev pub is_signature : List ℕ → Bool
 is_signature [] = false
 is_signature (h ∷ rest) = is_height h && (length rest == 4 + 32 * (67 + h))
@@ -77,6 +77,7 @@ spell_value version Nil = 0 ∷ []
 spell_value version (Value_batch b) = version_byte version ∷ spell_batch version b
 
 -- what is hashed as a value's digest
+-- rule: Formats: A value's digest is the hash of its encoding after a byte of its own
 abbrev pub value_string : ℕ → Value → List ℕ
 value_string version v = 0x40 ∷ spell_value version v
 
@@ -85,12 +86,14 @@ value_string version v = 0x40 ∷ spell_value version v
 abbrev pub HasSpelling : Request → Type 0
 HasSpelling r = has_spelling r ≡ true
 
+-- rule: Formats: A request has one encoding: client, number, a payload of at most 256 bytes, signature
 abbrev pub IsSpelledRequest : Request → List ℕ → Type 0
 IsSpelledRequest r bytes = HasSpelling r × (bytes ≡ request_bytes r)
 
 abbrev pub value_bytes : ℕ → List Request → List ℕ
 value_bytes version b = version_byte version ∷ spell_count version (length b) ++ flat_map request_bytes b
 
+-- rule: Formats: A value has one encoding a version: nil, or a batch after a version byte and a count
 abbrev pub IsSpelledValue : ℕ → Value → List ℕ → Type 0
 IsSpelledValue version Nil bytes = bytes ≡ 0 ∷ []
 IsSpelledValue version (Value_batch b) bytes = (length b ≤ requests_most version) × AllByRecursion HasSpelling b × (bytes ≡ value_bytes version b)

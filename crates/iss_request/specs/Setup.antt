@@ -1,4 +1,6 @@
--- Which set-ups are good: the ranges of a header, and the counts of its kind.
+-- Which set-ups are good: each number of a header in its range, and the node count and quorum of its kind. These are
+-- 3f + 1 and 2f + 1 for Byzantine nodes, 2f + 1 and f + 1 for stopping ones, and 3 and 2 for the relay. At most f
+-- nodes are named faulty, none where they only stop.
 use Rattle.std.specs.Prelude.{◌≡◌, ℕ, suc, ◌+◌, ◌*◌, ◌<◌, ◌≤◌, ◌==◌, if◌then◌else◌, List, [], ◌∷◌, length}
 use Rattle.iss_request.specs.declared.ids.NodeId.{NodeId}
 use Rattle.iss_request.specs.declared.setups.Kind.{Kind}
@@ -31,6 +33,7 @@ abbrev pub AreRising : ℕ → ℕ → List NodeId → Type 0
 AreRising from n [] = Unit {0}
 AreRising from n (i ∷ is) = (from ≤ i.0) × (i.0 < n) × AreRising (suc i.0) n is
 
+-- rule: Formats: A set-up's fields are in range, and its nodes and quorum fit its fault model and f
 pub record IsGoodSetup (s : Setup) : Type 0 where
   -- the second is not there yet
   pub version : s.version ≡ 1

@@ -78,6 +78,7 @@ impl<'a> Fields<'a> {
     }
 
     /// The error that names the next field.
+    // rule: Formats: A decoding error names the offset of the first field that does not fit
     pub fn bad_field(&self) -> DecodeError
         ensures { result ≡ DecodeError.BadField self.now.at }
     {
@@ -253,6 +254,30 @@ impl<'a> Fields<'a> {
             None => Err(missing),
         }
     }
+
+    /// The next 32 bytes as a digest, or the error that names them.
+    pub fn read_digest(&mut self) -> Result<[u8; 32], DecodeError>
+        ensures ok { IfOk result (λ d. IsRead (block 32) self.old self.new d) }
+        ensures bad { (at : ℕ) → result ≡ Err (DecodeError.BadField at) → IsUnreadable (block 32) self.old at }
+        ensures still { OnErr result (self.new ≡ self.old) }
+        ensures enough { result ≢ Err DecodeError.NoMemory }
+    {
+        let missing = self.bad_field();
+        match self.take_bytes(32) {
+            Some(found) => Ok(array_of(found)),
+            None => Err(missing),
+        }
+    }
+}
+
+// The array that 32 bytes fill.
+fn array_of(bytes: &[u8]) -> [u8; 32]
+    requires { length bytes.now ≡ 32 }
+    ensures { result ≡ bytes.now }
+{
+    let mut digest = [0; 32];
+    digest.copy_from_slice(bytes);
+    digest
 }
 
 // The number that eight bytes spell.

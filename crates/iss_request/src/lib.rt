@@ -7,7 +7,7 @@ pub mod errors;
 pub mod fields;
 pub mod ids;
 pub mod requests;
-pub mod rows;
+pub mod seqs;
 pub mod setups;
 pub mod values;
 pub mod versions;
@@ -17,10 +17,11 @@ pub use errors::{DecodeError, NoMemory};
 pub use fields::{Fields, Writer};
 pub use ids::{Epoch, NodeId, ReqId, Slot};
 pub use requests::{Batch, Request, Value};
-pub use rows::Seq;
-pub use setups::{Kind, Nodes, Policy, Setup, quorum};
+pub use seqs::Seq;
+pub use setups::{Kind, Nodes, Policy, Setup, nodes_of_kind, quorum};
 pub use values::{
-    decode_value, digest_of, encode_value, formats_are_exact, read_request, read_signature,
-    read_value, write_request, write_value,
+    batch_digest, batch_string, decode_value, digest_of, encode_value, formats_are_exact,
+    has_shape, is_spellable, read_batch_value, read_request, read_signature, read_value,
+    value_string, write_batch_value, write_request, write_value,
 };
 pub use versions::{is_second, requests_most, version_byte};

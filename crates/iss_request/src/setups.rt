@@ -1,7 +1,7 @@
 //! The set-up of a cluster: what its schedule's header says, and what follows of it.
 ghost use Rattle.std.specs.Prelude.{◌≡◌, ◌≤◌, ◌++◌, ◌∷◌, [], length, IfOk, OnOk, OnErr, IsTrue, ◌↔◌};
 ghost use Rattle.std.specs.List.{Contains};
-ghost use Rattle.iss_request.specs.Setup.{quorum_of_kind};
+ghost use Rattle.iss_request.specs.Setup.{nodes_of_kind, quorum_of_kind};
 
 use crate::errors::NoMemory;
 use crate::ids::NodeId;
@@ -92,6 +92,17 @@ impl Setup {
         ensures { IfOk result (λ s. s ≡ self.now) }
     {
         Ok(self.clone()?)
+    }
+}
+
+/// How many nodes withstand `f` faults of a kind (PBFT, Raft).
+pub fn nodes_of_kind(kind: Kind, f: u32) -> u32
+    requires { f ≤ 3 }
+    ensures { result ≡ nodes_of_kind kind f }
+{
+    match kind {
+        Kind::Byzantine => 3 * f + 1,
+        Kind::Stopping => 2 * f + 1,
     }
 }
 

@@ -5,8 +5,8 @@ ghost use Rattle.std.specs.List.{flat_map};
 ghost use Rattle.sha2.specs.Hashers.{Holds256};
 ghost use Rattle.sha2.specs.Sha256.{sha256};
 ghost use Rattle.iss_request.specs.Fields.{and_bytes, IsRead, IsUnreadable, IsGrammar, Good, Bad};
-ghost use Rattle.iss_request.specs.Parsing.{all_of, times};
-ghost use Rattle.iss_request.specs.Formats.{requests_most, IsSpelledRequest, IsSpelledValue, is_height, is_signature, has_spelling};
+ghost use Rattle.iss_request.specs.Parsing.{all_of, such_that, times};
+ghost use Rattle.iss_request.specs.Formats.{requests_most, IsSpelledRequest, IsSpelledValue, is_batch, is_height, is_signature, has_spelling};
 ghost use Rattle.iss_request.specs.Formats.{request_bytes, spell_request, spell_count, spell_batch, spell_value, value_string};
 ghost use Rattle.iss_request.specs.Formats.{parse_payload, parse_signature, parse_request, count_field, parse_count, parse_batch, parse_rest, parse_value};
 ghost use Rattle.iss_request.specs.declared.requests.Request.{Request};
@@ -27,6 +27,9 @@ const PAYLOAD_MAX: u16 = 256;
 // What stands for a request without a spelling: a length that is too large, and nothing behind it.
 const NO_REQUEST: [u8; 7] = [0, 0, 0, 0, 0, 255, 255];
 
+// The byte before a value that is hashed.
+const VALUE: u8 = 0x40;
+
 // What stands for a batch without a spelling: by either version a count that is too large, and nothing behind it.
 const NO_BATCH: [u8; 2] = [255, 255];
 
@@ -36,8 +39,10 @@ fn is_tree_height(height: u8) -> bool
     2 <= height && height <= 12
 }
 
-// Whether bytes have the shape of a signature: a height, a leaf, 67 digests and one for each level.
-fn has_shape(sig: &[u8]) -> bool
+/// Whether bytes have the shape of a signature: a height, a leaf, 67 digests and one for each level. Whether it
+/// verifies is not looked at.
+// rule: Formats: A signature begins with its tree's height, from 2 to 12, which fixes its length
+pub fn has_shape(sig: &[u8]) -> bool
     ensures { result ≡ is_signature sig.now }
 {
     match sig {
@@ -48,7 +53,8 @@ fn has_shape(sig: &[u8]) -> bool
     }
 }
 
-fn is_spellable(request: &Request) -> bool
+/// Whether a request has a spelling: its payload is not too long, and its signature has the shape of one.
+pub fn is_spellable(request: &Request) -> bool
     ensures { result ≡ has_spelling request.now }
 {
     // Its range is part of the answer.
@@ -57,6 +63,7 @@ fn is_spellable(request: &Request) -> bool
 }
 
 /// Writes a request. One that has no spelling is written as bytes that no reader takes.
+// rule: Formats: A request has one encoding: client, number, a payload of at most 256 bytes, signature
 pub fn write_request(request: &Request, out: &mut Writer) -> Result<(), NoMemory>
     ensures { OnOk result (out.new ≡ and_bytes out.old (spell_request request.now)) }
 {
@@ -111,17 +118,23 @@ fn write_requests(requests: &[Request], out: &mut Writer) -> Result<(), NoMemory
     Ok(())
 }
 
+/// Writes a batch as a value: the byte of the version, then the batch.
+pub fn write_batch_value(batch: &Batch, out: &mut Writer) -> Result<(), NoMemory>
+    ensures { OnOk result (out.new ≡ and_bytes out.old (spell_value out.old.version (Value.Batch batch.now))) }
+{
+    let first = version_byte(out.version());
+    out.put_u8(first)?;
+    write_batch(batch, out)
+}
+
 /// Writes a value. One that has no spelling is written as bytes that no reader takes.
+// rule: Formats: A value has one encoding a version: nil, or a batch after a version byte and a count
 pub fn write_value(value: &Value, out: &mut Writer) -> Result<(), NoMemory>
     ensures { OnOk result (out.new ≡ and_bytes out.old (spell_value out.old.version value.now)) }
 {
     match value {
         Value::Nil => out.put_u8(0),
-        Value::Batch(batch) => {
-            let first = version_byte(out.version());
-            out.put_u8(first)?;
-            write_batch(batch, out)
-        }
+        Value::Batch(batch) => write_batch_value(batch, out),
     }
 }
 
@@ -234,6 +247,18 @@ pub fn read_value(alloc: Global, f: &mut Fields) -> Result<Value, DecodeError>
     Ok(Value::Batch(batch))
 }
 
+/// Reads a value that is a batch. `BadField` names the first field that does not fit: the value where it is nil.
+pub fn read_batch_value(alloc: Global, f: &mut Fields) -> Result<Batch, DecodeError>
+    ensures ok { IfOk result (λ b. IsRead (such_that is_batch (parse_value f.old.version)) f.old f.new (Value.Batch b)) }
+    ensures bad { (at : ℕ) → result ≡ Err (DecodeError.BadField at) → IsUnreadable (such_that is_batch (parse_value f.old.version)) f.old at }
+{
+    let no_batch = f.bad_field();
+    match read_value(alloc, f)? {
+        Value::Batch(batch) => Ok(batch),
+        Value::Nil => Err(no_batch),
+    }
+}
+
 /// The bytes of a value. One that has no spelling gives bytes that are no value's.
 pub fn encode_value(alloc: Global, version: u8, value: &Value) -> Result<Bytes, NoMemory>
     ensures { IfOk result (λ bytes. bytes ≡ spell_value version value.now) }
@@ -310,20 +335,46 @@ fn hash_requests(requests: &[Request], hasher: &mut Sha256)
     }
 }
 
-/// The digest of a value's spelling.
+/// The string that is hashed of a value.
+pub fn value_string(alloc: Global, version: u8, value: &Value) -> Result<Bytes, NoMemory>
+    ensures { IfOk result (λ s. s ≡ value_string version value.now) }
+{
+    let mut out = Writer::new(alloc, version);
+    out.put_u8(VALUE)?;
+    write_value(value, &mut out)?;
+    Ok(out.into_bytes())
+}
+
+/// The string that is hashed of a batch, which is a value.
+pub fn batch_string(alloc: Global, version: u8, batch: &Batch) -> Result<Bytes, NoMemory>
+    ensures { IfOk result (λ s. s ≡ value_string version (Value.Batch batch.now)) }
+{
+    let mut out = Writer::new(alloc, version);
+    out.put_u8(VALUE)?;
+    write_batch_value(batch, &mut out)?;
+    Ok(out.into_bytes())
+}
+
+/// The digest of a batch as a value. It needs no memory for the string.
+pub fn batch_digest(version: u8, batch: &Batch) -> [u8; 32]
+    ensures { result ≡ sha256 (value_string version (Value.Batch batch.now)) }
+{
+    let mut hasher = Sha256::new();
+    hasher.update([VALUE]);
+    hasher.update([version_byte(version)]);
+    hash_batch(version, batch, &mut hasher);
+    hasher.finalize()
+}
+
+/// The digest of a value's spelling. It needs no memory for the string.
+// rule: Formats: A value's digest is the hash of its encoding after a byte of its own
 pub fn digest_of(version: u8, value: &Value) -> [u8; 32]
     ensures { result ≡ sha256 (value_string version value.now) }
 {
-    let mut hasher = Sha256::new();
-    hasher.update([0x40u8]);
     match value {
-        Value::Nil => hasher.update([0u8]),
-        Value::Batch(batch) => {
-            hasher.update([version_byte(version)]);
-            hash_batch(version, batch, &mut hasher);
-        }
+        Value::Nil => Sha256::digest([VALUE, 0]),
+        Value::Batch(batch) => batch_digest(version, batch),
     }
-    hasher.finalize()
 }
 
 /// By each version each request and each value has at most one spelling, no spelling begins another one, and what has

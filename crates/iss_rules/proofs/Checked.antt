@@ -8,7 +8,7 @@ use Rattle.iss_base.specs.Lists.{oldest, push_all}
 use Rattle.iss_base.proofs.Lists.{both, length-oldest, oldest-part}
 use Rattle.iss_checkpoint.specs.Votes.{are_signed, is_cert, is_signed, statement_of, voters_of}
 use Rattle.iss_checkpoint.specs.declared.votes.Cert.{Cert}
-use Rattle.iss_checkpoint.specs.declared.votes.Signed.{Signed}
+use Rattle.iss_sb.specs.declared.signers.Signed.{Signed}
 use Rattle.iss_checkpoint.specs.declared.votes.Vote.{Vote}
 use Rattle.iss_keys.specs.VerifiedBy.{is_verified_by}
 use Rattle.iss_keys.proofs.DirectoryLemmas.{node-below, verified-by}

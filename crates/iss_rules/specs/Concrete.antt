@@ -1,4 +1,7 @@
--- The rules of a cluster under its set-up.
+-- The rules of a cluster, taken from its set-up: the layout gives leaders and buckets, the windows the admitted
+-- numbers, and keys that follow from the numbers of nodes and clients give signatures. An epoch starts at the sum of
+-- the lengths before it, and never so late that a slot would pass 2^64. A request is signed by its client over
+-- identity and payload; a client that does not exist has no key.
 use Rattle.std.specs.Prelude.{ℕ, zero, suc, ◌-◌, ◌^◌, ◌&&◌, Bool, List, ◌∷◌, ◌++◌, length, reverse, cond, nat_le, nat_lt, Option, Some, None}
 use Rattle.std.specs.Int.{to_be_bytes, w16, w32}
 use Rattle.iss_checkpoint.specs.Votes.{vote_statement}
@@ -30,6 +33,7 @@ least a b = cond (nat_le a b) a b
 
 -- Where an epoch starts: the sum of the lengths of the epochs before it. Slots are below 2^64, so a start is capped
 -- such that its epoch stays below that.
+-- rule: Layout: An epoch begins where the one before it ends
 abbrev pub start_at : Setup → List Value → ℕ → ℕ
 start_at s log zero = 0
 start_at s log (suc e) = least (start_by (slots_at s) log (suc e)) (2 ^ 64 - slots_at s log (suc e))
@@ -44,11 +48,13 @@ keys_of s = directory_of s.n s.clients s.keys
 
 -- What a client signs: a first byte that no other statement has, the client, the request's number, and the payload
 -- after its length.
+-- rule: Signatures: A client signs its number, the request's number, and the payload after its length
 abbrev pub request_statement : ReqId → List ℕ → List ℕ
 request_statement id payload = 0x30 ∷ id.client ∷ to_be_bytes w32 id.number ++ to_be_bytes w16 (length payload)
     ++ payload
 
 -- Whether the client signed the request. Its number must fit four bytes, and its payload is at most 256 bytes.
+-- rule: Signatures: A request is signed if its signature verifies under its client's key
 abbrev pub is_signed_by : DirectoryView → Request → Bool
 is_signed_by d q =
     nat_lt q.id.number (2 ^ 32) && (nat_le (length q.payload) 256 &&
@@ -83,6 +89,7 @@ rules_of s =
     }
 
 -- a request signed by its client, with the leaf of the request's number
+-- rule: Signatures: A request of a schedule is signed by its client, with the leaf of its number
 abbrev pub request_of : Setup → ℕ → ℕ → List ℕ → Request
 request_of s client number payload =
     let id : ReqId = record { client = client; number = number } in

@@ -1,4 +1,5 @@
--- Why a run ends.
+-- Why a run ends early: a claim of a correct node that it never made, or two different strings with one digest. Either
+-- is evidence that a cryptographic assumption failed.
 use Rattle.std.specs.Prelude.{ℕ, List}
 use Rattle.iss_sb.specs.declared.effects.Claim.{Claim}
 

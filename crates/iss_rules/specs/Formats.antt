@@ -1,4 +1,5 @@
--- How a node's packets are written in bytes, and read.
+-- How packets are encoded and decoded under a set-up. A module's message uses the module's own encoding in the
+-- packet's body. Node and epoch of a vote and of a piece are the packet's. Bytes must be used up.
 use Rattle.std.specs.Prelude.{ℕ, [], ◌∷◌, Option, Some, None}
 use Rattle.iss_checkpoint.specs.Bodies.{parse_vote, spell_vote}
 use Rattle.iss_checkpoint.specs.declared.votes.Vote.{Vote as Voted}

@@ -1,4 +1,6 @@
--- Whether a batch is accepted in a segment: the first refusal that holds of any of its requests.
+-- Whether a batch is accepted in a segment: the first refusal that holds for it or for any of its requests. In order:
+-- too many requests; a bucket that the leader does not own; no such client, or a bad signature; a number outside its
+-- window; a request that the log before the epoch holds; one accepted before in this segment, or twice in the batch.
 use Rattle.std.specs.Prelude.{ℕ, Bool, false, not, ◌||◌, ◌==◌, nat_lt, cond, List, [], ◌∷◌, ◌++◌, length, Option, Some, None}
 use Rattle.std.specs.List.{list_any}
 use Rattle.iss_request.specs.Log.{has_id, ids, log_ids}
@@ -22,6 +24,9 @@ any_marked marked (x ∷ xs) = has_id x marked || any_marked (x ∷ marked) xs
 
 -- The judge: the first reason to refuse a batch of leader l in epoch e, or none. It sees the log before the epoch and
 -- the requests already accepted in this instance (`marked`).
+-- rule: Acceptance: A batch is refused for its first fault: size, bucket, signature, window, ordered, marked
+-- rule: Acceptance: A batch with a request that its client did not sign is refused
+-- rule: Acceptance: A batch is refused where its leader does not own the bucket of each request
 abbrev pub judge : Rules → List Value → ℕ → ℕ → List ReqId → Batch → Option Refusal
 judge R before e l marked batch =
     cond (nat_lt R.batch (length batch)) (Some TooLarge)
@@ -32,6 +37,7 @@ judge R before e l marked batch =
     (cond (any_marked marked (ids batch)) (Some Marked) None)))))
 
 -- the identities of all accepted requests
+-- rule: Acceptance: An accepted request is marked to the end of its epoch, also where its slot becomes nil
 abbrev pub marks : List (Slot × Batch) → List ReqId
 marks [] = []
 marks (x ∷ xs) = ids x.1 ++ marks xs

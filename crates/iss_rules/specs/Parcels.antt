@@ -1,4 +1,4 @@
--- What a packet holds, whatever its bytes.
+-- A parcel, what a packet holds: a module's message, a vote, an ask, a piece or a request.
 use Rattle.std.specs.Prelude.{ℕ, List, Option}
 use Rattle.iss_checkpoint.specs.declared.votes.Vote.{Vote}
 use Rattle.iss_request.specs.declared.requests.Request.{Request}

@@ -1,4 +1,7 @@
--- What a node's log rests on: what it took in each instance, and the log that follows.
+-- A replica's past, and the log that follows from it. The past is its epoch, what it took in each instance, and the
+-- pieces that it adopted. A slot's value is what its instance delivered there, else what was adopted. The log is the
+-- longest run of such values from slot 0, so it is never stored. From it follow the epoch, the leader and the log
+-- before the epoch of each slot.
 use Rattle.std.specs.Prelude.{ℕ, zero, suc, ◌+◌, ◌-◌, ◌*◌, ◌==◌, nat_le, Bool, cond}
 use Rattle.std.specs.Prelude.{List, [], ◌∷◌, Option, Some, None, length}
 use Rattle.iss_base.specs.Lists.{first_of, nth, oldest, push_all, set_at2}
@@ -75,6 +78,7 @@ grow R M me c zero log = log
 grow R M me c (suc n) log = grown (cell R M me c log) log (grow R M me c n)
 
 -- A node's log: the longest sequence of values from slot 0 without a gap. Epochs after the node's own have no values.
+-- rule: Log: The log is the longest run of filled slots from slot 0
 abbrev pub log_of : {Msg : Type 0} → Rules → Module Msg → ℕ → Past Msg → List Value
 log_of R M me c = grow R M me c (suc c.epoch * R.most) []
 

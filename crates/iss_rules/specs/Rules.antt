@@ -1,4 +1,6 @@
--- The rules of the log, as functions of the log before an epoch. Logs are newest first.
+-- The rules of the protocol as functions of the log before an epoch. They give its length and leaders, the owners of
+-- buckets, and which requests are signed and inside their window. They also say how an instance starts, what a vote
+-- states, and what is hashed for a log. The theory is proved for any such rules. Logs are newest first.
 use Rattle.std.specs.Prelude.{ℕ, List, Bool}
 use Rattle.iss_log.specs.declared.chains.End.{End}
 use Rattle.iss_request.specs.declared.ids.ReqId.{ReqId}

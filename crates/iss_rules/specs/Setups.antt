@@ -1,4 +1,4 @@
--- A set-up that is a module's.
+-- When a set-up is one of a module: it is good, and its number, kind, node count and quorum are the module's.
 use Rattle.std.specs.Prelude.{◌≡◌}
 use Rattle.iss_request.specs.Setup.{IsGoodSetup}
 use Rattle.iss_request.specs.declared.setups.Setup.{Setup}

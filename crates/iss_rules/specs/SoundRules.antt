@@ -1,4 +1,5 @@
--- What rules owe.
+-- What the theory asks of rules. Epochs have slots, a slot's leader leads its epoch, instances start with good
+-- parameters, batches have encodings, and what verifies was signed by a node's key.
 use Rattle.std.specs.Prelude.{◌≡◌, ℕ, ◌<◌, ◌≤◌, true, List}
 use Rattle.iss_keys.specs.Directories.{VerifiesBy, directory_of}
 use Rattle.iss_request.specs.Formats.{requests_most}

@@ -1,4 +1,4 @@
--- What the judge says of a node's input.
+-- What the judge says about the batch that a node's input asks to accept.
 use Rattle.std.specs.Prelude.{ℕ, List, Option, Some, None}
 use Rattle.iss_request.specs.declared.ids.Slot.{Slot}
 use Rattle.iss_request.specs.declared.requests.Batch.{Batch}

@@ -1,14 +1,16 @@
--- Votes and certificates that a node holds: whose they are, whether they are true, and when votes make a certificate.
+-- Votes and certificates that a node holds. A certificate is true if it has exactly a quorum of true signatures of
+-- strictly ascending nodes. It is made from votes that say the same as soon as they are exactly a quorum.
 use Rattle.std.specs.Prelude.{ℕ, suc, ◌==◌, nat_le, cond, Bool, true, ◌&&◌, List, [], ◌∷◌, Option, Some, None, length}
 use Rattle.std.specs.List.{list_all}
 use Rattle.iss_checkpoint.specs.Tallies.{certificate_by}
 use Rattle.iss_checkpoint.specs.declared.votes.Cert.{Cert}
-use Rattle.iss_checkpoint.specs.declared.votes.Signed.{Signed}
+use Rattle.iss_sb.specs.declared.signers.Signed.{Signed}
 use Rattle.iss_checkpoint.specs.declared.votes.Vote.{Vote}
 use Rattle.iss_sb.specs.declared.effects.Claim.{Claim}
 use Rattle.iss_rules.specs.Rules.{Rules}
 
 -- whether each claimed signature is valid
+-- rule: Acceptance: A message with a claim that does not verify under its signer's key is dropped
 abbrev pub all_verify : Rules → List Claim → Bool
 all_verify R cs = list_all (λ (c : Claim). R.verifies c.by.0 c.statement c.sig) cs
 
@@ -26,6 +28,7 @@ cert_on [] e = None
 cert_on (c ∷ cs) e = cond (c.epoch.0 == e) (Some c) (cert_on cs e)
 
 -- the certificate of all votes equal to v, once they form a quorum
+-- rule: Checkpoints: The vote that completes a quorum gives the epoch's certificate; no later one does
 abbrev pub stable : Rules → List Vote → Vote → List Cert
 stable R votes v =
     let c = certificate_by (vote_by votes v.epoch.0) v R.nodes in
@@ -50,6 +53,7 @@ abbrev pub is_true_cert : Rules → Cert → Bool
 is_true_cert R c = (length c.signers == R.quorum) && are_true R (R.voted c.epoch.0 c.chain c.requests) 0 c.signers
 
 -- a certificate is kept unless its epoch already has one
+-- rule: Checkpoints: Of each epoch the first certificate is kept, counted or adopted
 abbrev pub keeping : List Cert → Cert → Option Cert → List Cert
 keeping certs c None = c ∷ certs
 keeping certs c (Some other) = certs

@@ -17,7 +17,7 @@ module _ {M : Type 0} (m : Module M) (p : Params) where
   -- the message of a sender claims that a node signed the statement
   pub record Says (from : ℕ) (msg : M) (by : ℕ) (statement : List ℕ) : Type 0 where
     pub claim : Claim
-    pub refines : In claim (m.claims p from msg)
+    pub stands : In claim (m.claims p from msg)
     pub named : claim.by.0 ≡ by
     pub is : claim.statement ≡ statement
 
@@ -50,7 +50,7 @@ module _ {M : Type 0} (m : Module M) (p : Params) where
     said-signed : (w : World M) → m.stopping ≡ false → (i : ℕ) (from : NodeId) (msg : M) (by : ℕ) (statement : List ℕ) → MayCome m p w i (Receive from msg) → Says from.0 msg by statement → is_correct p.setup by ≡ true → IsSigned m p w by statement
     said-signed w byzantine i from msg by statement may s correct =
         let c : IsCredible m p (Verifies p) (IsSigned m p w) from.0 msg = subst (λ (b : Bool). MayArrive b m p w i from.0 msg) byzantine may in
-        let signed = c.signed s.claim s.refines (ap (λ (k : ℕ). is_correct p.setup k) s.named ∙ correct) in
+        let signed = c.signed s.claim s.stands (ap (λ (k : ℕ). is_correct p.setup k) s.named ∙ correct) in
         subst (λ (k : ℕ). IsSigned m p w k statement) s.named (subst (λ (t : List ℕ). IsSigned m p w s.claim.by.0 t) s.is signed)
 
     module _ (byzantine : m.stopping ≡ false) (passes : PassesOn) (w later : World M) (legal : IsLegal m p w) (stated : AreStated w) (move : Move m p w later) where
@@ -60,7 +60,7 @@ module _ {M : Type 0} (m : Module M) (p : Params) where
       old-signed : (statement : List ℕ) → IsOld move.node (w move.node) move.input move.node statement → IsSigned m p w move.node statement
       old-signed statement (now from msg q s) = said-signed w byzantine move.node from msg move.node statement (subst (λ (y : Input M). MayCome m p w move.node y) q move.may) s move.correct
       old-signed statement (before x k from msg q s) = said-signed w byzantine move.node from msg move.node statement (subst (λ (y : Input M). MayCome m p w move.node y) q (legal.came move.node x k)) s move.correct
-      old-signed statement (own x k to msg sent s) = record { item = x; taken = k; to = to; msg = msg; sent = sent; claim = s.claim; made = s.refines; by = s.named; is = s.is }
+      old-signed statement (own x k to msg sent s) = record { item = x; taken = k; to = to; msg = msg; sent = sent; claim = s.claim; made = s.stands; by = s.named; is = s.is }
 
       fresh : (to : To) (msg : M) (statement : List ℕ) → In {A = To × M} (to, msg) (added m p w later move).made.sends → Says move.node msg move.node statement → IsStated later move.node statement
       fresh to msg statement sent s = elim (passes w legal move.node move.input move.leaf move.correct move.may to msg statement sent s) [
@@ -73,7 +73,7 @@ module _ {M : Type 0} (m : Module M) (p : Params) where
         | inl k ↦ keep i statement (stated i statement correct (record { item = h.item; taken = k; to = h.to; msg = h.msg; sent = h.sent; claim = h.claim; made = h.made; by = h.by; is = h.is }))
         | inr k ↦
             let sent = subst (λ (z : Item M). In {A = To × M} (h.to, h.msg) z.made.sends) k.1 h.sent in
-            let said : Says i h.msg i statement = record { claim = h.claim; refines = h.made; named = h.by; is = h.is } in
+            let said : Says i h.msg i statement = record { claim = h.claim; stands = h.made; named = h.by; is = h.is } in
             subst (λ (z : ℕ). IsStated later z statement) (sym k.0) (fresh h.to h.msg statement sent (subst (λ (z : ℕ). Says z h.msg z statement) k.0 said))
       ]
 

@@ -1,19 +1,14 @@
 -- A message's number, digests and counts, read field by field.
-use Rattle.std.proofs.Common.{◌≡◌, ◌<◌, ℕ, Bool, true, false, List, length, subst}
+use Rattle.std.proofs.Common.{◌≡◌, ◌<◌, ℕ, Bool, true, false, List, subst}
 use Rattle.std.specs.Prelude.{nat_lt}
 use Rattle.std.proofs.lemmas.Bool.{lt-ltb}
-use Rattle.iss_request.specs.Fields.{Good, Bad, IsRead, IsUnreadable, Reading, left}
-use Rattle.iss_request.specs.Parsing.{Parser, ◌>>=◌, block, byte, such_that}
-use Rattle.iss_request.proofs.ParserLemmas.{block_parts}
+use Rattle.iss_request.specs.Fields.{Good, Bad, IsRead, IsUnreadable, Reading}
+use Rattle.iss_request.specs.Parsing.{Parser, ◌>>=◌, byte, such_that}
 use Rattle.iss_request.proofs.Readings.{read_passed, read_then, unread_failed, unread_first, unread_tested, unread_then}
 
 -- bytes that decode are not also faulty
 pub good-bad : {A : Type 0} (x : A) (rest : List ℕ) (at : ℕ) → Good x rest ≡ Bad at → ⊥
 good-bad x rest at h = cc
-
--- a digest that was read has 32 bytes
-pub digest-long : {a b : Reading} (d : List ℕ) → IsRead (block 32) a b d → length d ≡ 32
-digest-long {a} {b} d h = (block_parts 32 (left a) (left b) d h.found).len
 
 -- ---- a count, which is a byte's
 

@@ -1,3 +1,4 @@
+pub mod Ascending
 pub mod Delivered
 pub mod Worlds
 pub mod Slots
@@ -12,5 +13,9 @@ pub mod Leaves
 pub mod Heard
 pub mod Inputs
 pub mod Fields
-pub mod Signers
+pub mod SignerGrammar
 pub mod Cases
+pub mod Setups
+pub mod Paired
+pub mod Contents
+pub mod ContentFields

@@ -1,11 +1,11 @@
 -- Slots of a segment.
-use Rattle.std.proofs.Common.{◌≡◌, ◌<◌, ◌≤◌, ℕ, zero, suc, Bool, true, false, ◌||◌, ◌==◌, List, [], ◌∷◌, drop, refl, sym, ap, subst, inl, inr, true≢false, arith}
-use Rattle.iss_base.specs.Lists.{In}
+use Rattle.std.proofs.Common.{◌≡◌, ◌<◌, ◌≤◌, ℕ, zero, suc, Bool, true, false, ◌||◌, ◌==◌, List, [], ◌∷◌, length, drop, Option, Some, None, refl, sym, ap, subst, inl, inr, true≢false, arith}
+use Rattle.iss_base.specs.Lists.{In, nth}
 use Rattle.iss_base.proofs.Lists.{eqb-other, is-eq}
 use Rattle.iss_request.specs.Slots.{AreAscending}
 use Rattle.iss_request.specs.declared.ids.NodeId.{NodeId}
 use Rattle.iss_request.specs.declared.ids.Slot.{Slot}
-use Rattle.iss_sb.specs.Calls.{AreBelow, has_slot}
+use Rattle.iss_sb.specs.Calls.{AreBelow, has_slot, is_slot}
 
 -- slots and nodes are their numbers
 pub slot-is : (a b : Slot) → a.0 ≡ b.0 → a ≡ b
@@ -27,6 +27,22 @@ pub below-In : (bound : ℕ) (s : Slot) (slots : List Slot) → AreBelow bound s
 below-In bound s [] low h = absurd h
 below-In bound s (t ∷ slots) low (inl e) = subst (λ (z : Slot). z.0 < bound) (sym e) low.0
 below-In bound s (t ∷ slots) low (inr h) = below-In bound s slots low.1 h
+
+-- ---- a slot at a place of the segment
+
+pub slot-some : (s : Slot) (o : Option Slot) → is_slot s.0 o ≡ true → o ≡ Some s
+slot-some s None h = absurd (true≢false (sym h))
+slot-some s (Some t) h = ap (λ (z : Slot). let o : Option Slot = Some z in o) (slot-is t s (is-eq t.0 s.0 h))
+
+pub place-In : (s : Slot) (slots : List Slot) (k : ℕ) → is_slot s.0 (nth slots k) ≡ true → In s slots
+place-In s [] k h = absurd (true≢false (sym h))
+place-In s (t ∷ slots) zero h = inl (slot-is s t (sym (is-eq t.0 s.0 h)))
+place-In s (t ∷ slots) (suc k) h = inr (place-In s slots k h)
+
+pub place-below : (s : ℕ) (slots : List Slot) (k : ℕ) → is_slot s (nth slots k) ≡ true → k < length slots
+place-below s [] k h = absurd (true≢false (sym h))
+place-below s (t ∷ slots) zero h = omega arith
+place-below s (t ∷ slots) (suc k) h = let r = place-below s slots k h in omega (arith, r)
 
 -- ---- slots that rise
 

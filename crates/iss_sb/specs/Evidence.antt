@@ -1,4 +1,8 @@
--- A module as definitions over lists that forget nothing, and the world of one instance. Lists are newest first.
+-- What an ordering module is, over the list of all inputs that a replica took, newest first. An item is an input, the
+-- least unused leaf, and what was made at it. A module says what an input asks to accept, what it makes, and what the
+-- list decides at a slot. A world of one instance has such a list for each node. One move: a correct node takes an
+-- input that may come. Stopping nodes get messages that were sent; else any message may come that decodes, whose
+-- claims verify, and whose claims of correct nodes are true.
 use Rattle.std.specs.Prelude.{◌≡◌, ◌≢◌, ℕ, ◌<◌, Bool, true, false, ◌&&◌, not, nat_lt, ◌==◌, ◌||◌, List, [], ◌∷◌, ◌++◌, Option, Some, None, ◌⊎◌}
 use Rattle.iss_base.specs.Lists.{In, first_of}
 use Rattle.iss_request.specs.Digest.{digest}
@@ -154,6 +158,7 @@ pub record IsCredible {M : Type 0} (m : Module M) (p : Params) (Verified : Claim
   pub signed : (c : Claim) → In c (m.claims p from msg) → is_correct p.setup c.by.0 ≡ true → Signed c.by.0 c.statement
 
 -- Which messages node i may receive. Crash-stop: those sent to it. Byzantine: any credible message.
+-- rule: Modules: A message that arrives was sent, or verifies and its correct signers signed it
 abbrev pub MayArrive : {M : Type 0} → Bool → Module M → Params → World M → ℕ → ℕ → M → Type 0
 MayArrive true m p w i from msg = IsSent w from i msg
 MayArrive false m p w i from msg = IsCredible m p (Verifies p) (IsSigned m p w) from msg

@@ -1,4 +1,8 @@
 //! The inputs of a module, and the effects of a step.
+ghost use Rattle.std.specs.Prelude.{◌≡◌};
+ghost use Rattle.iss_base.specs.Lists.{nth};
+ghost use Rattle.iss_sb.specs.Calls.{is_slot};
+
 use iss_keys::SharedDirectory;
 use iss_request::{Batch, Bytes, Epoch, NoMemory, NodeId, Seq, Setup, Slot, Value};
 use std::alloc::Global;
@@ -38,6 +42,16 @@ pub struct Params {
     pub leader: NodeId,
     pub slots: Seq<Slot>,
     pub directory: SharedDirectory,
+}
+
+/// Whether `slot` is the slot at this place of the segment.
+pub fn is_next(p: &Params, place: usize, slot: Slot) -> bool
+    ensures { result ≡ is_slot slot.0 (nth p.now.slots place) }
+{
+    match p.slots.as_slice().get(place) {
+        Some(next) => *next == slot,
+        None => false,
+    }
 }
 
 /// Why a step was not made.

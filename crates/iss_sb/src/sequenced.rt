@@ -1,9 +1,10 @@
 //! The trait of an ordering module. The layers above rely only on these contracts.
-ghost use Rattle.std.specs.Prelude.{◌≡◌, ℕ, ◌<◌, ◌≤◌, ◌↔◌, List, [], Bool, IfOk, OnOk, IsTrue, Some};
+ghost use Rattle.std.specs.Prelude.{◌≡◌, ℕ, ◌<◌, ◌≤◌, ◌↔◌, if◌then◌else◌, List, [], Bool, IfOk, OnOk, IsTrue, Some, None};
 ghost use Rattle.iss_request.specs.declared.requests.Batch.{Batch};
 ghost use Rattle.iss_sb.specs.declared.effects.Params.{Params};
 ghost use Rattle.iss_request.specs.Fields.{IsGrammar, IsRead, IsUnreadable, and_bytes};
-ghost use Rattle.iss_sb.specs.Calls.{IsStep, IsGoodParams, IsGoodInput, named};
+ghost use Rattle.iss_keys.specs.KeyStates.{left_of};
+ghost use Rattle.iss_sb.specs.Calls.{IsStep, IsTrueStep, IsGoodParams, IsGoodInput, named};
 ghost use Rattle.iss_sb.specs.Evidence.{Item, Module};
 ghost use Rattle.iss_sb.specs.Laws.{IsLawful, IsSafe, SignsOnce};
 
@@ -68,9 +69,25 @@ pub trait Sequenced: Drop + Sized {
         ensures { (me : ℕ) (xs : List (Item Self.Msg)) → refines self.now p.now me xs →
             named result ≡ spec.asks p.now me xs i.now };
 
+    /// Takes an input whose batch the host has accepted. At least `signs` leaves must be left. The only error is out of
+    /// memory, and then nothing is promised of the instance.
+    fn apply(
+        &mut self,
+        alloc: Global,
+        p: &Params,
+        i: Input<Self::Msg>,
+        keys: &mut Keys,
+    ) -> Result<Effects<Self::Msg>, NoMemory>
+        requires good { IsGoodParams spec p.now }
+        requires input { IsGoodInput p.now i }
+        requires enough { spec.signs p.now ≤ left_of keys.old }
+        ensures { IfOk result (λ e. IsTrueStep spec refines p.now self.old self.new i keys.old keys.new e) };
+
     /// Takes an input. If `verdict` is false, nothing changes. `Spent` is returned exactly if fewer than `signs` leaves
     /// are left, and then nothing changes. After `NoMemory` nothing is promised of the instance.
-    fn step(
+    // rule: Modules: Correct nodes deliver equal values, each accepted by them and cast by a correct leader
+    // rule: Modules: A step whose batch is refused changes nothing
+    final fn step(
         &mut self,
         alloc: Global,
         p: &Params,
@@ -80,10 +97,20 @@ pub trait Sequenced: Drop + Sized {
     ) -> Result<Effects<Self::Msg>, StepError>
         requires good { IsGoodParams spec p.now }
         requires input { IsGoodInput p.now i }
-        ensures { IsStep spec refines p.now self.old self.new i verdict keys.old keys.new result };
+        ensures { IsStep spec refines p.now self.old self.new i verdict keys.old keys.new result }
+    {
+        if keys.left() < Self::signs(p) {
+            return Err(StepError::Spent);
+        }
+        if !verdict {
+            return Ok(Effects::nothing(alloc));
+        }
+        Ok(self.apply(alloc, p, i, keys)?)
+    }
 
     /// Appends the encoding of a message in the writer's version: its number, its fields, its signature. The only error
     /// is out of memory.
+    // rule: Modules: Decoding gives back the message that was sent
     fn encode(m: &Self::Msg, out: &mut Writer) -> Result<(), NoMemory>
         ensures { OnOk result (out.new ≡ and_bytes out.old (spec.spell out.old.version m.now)) };
 
@@ -96,6 +123,7 @@ pub trait Sequenced: Drop + Sized {
 
     /// Which nodes the message says have signed which statements, in the order of its bytes. The only error is out of
     /// memory.
+    // rule: Modules: A message that arrives was sent, or verifies and its correct signers signed it
     fn claims(
         alloc: Global,
         p: &Params,
@@ -116,4 +144,11 @@ pub trait Sequenced: Drop + Sized {
         ensures lawful { IsLawful spec }
         ensures safe { IsSafe spec }
         ensures signs_once { SignsOnce spec };
+}
+
+/// What `asks` returns for a proposal: its batch, if it would be accepted.
+pub fn asks_if(casts: bool, slot: Slot, batch: &Batch) -> Option<(Slot, &Batch)>
+    ensures { named result ≡ (if casts then Some (slot, batch.now) else None) }
+{
+    if casts { Some((slot, batch)) } else { None }
 }

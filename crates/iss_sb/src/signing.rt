@@ -12,6 +12,8 @@ use iss_request::{Bytes, NoMemory, Writer};
 
 /// Appends the head of every statement of an instance: cluster, epoch, leader, module. So a signature counts in one
 /// instance only. The only error is out of memory.
+// rule: Signatures: A statement names its cluster, epoch, leader, module and kind
+// rule: Signatures: A statement belongs to one instance: one cluster, epoch, leader and module
 pub fn put_head(p: &Params, module_tag: u8, out: &mut Writer) -> Result<(), NoMemory>
     ensures { OnOk result (out.new ≡ and_bytes out.old (statement_head p.now module_tag)) }
 {
@@ -22,6 +24,8 @@ pub fn put_head(p: &Params, module_tag: u8, out: &mut Writer) -> Result<(), NoMe
 }
 
 /// Signs a statement with the next one-time leaf, which must exist. The only error is out of memory.
+// rule: Signatures: A node signs exactly its statement, with its next leaf
+// rule: Modules: The k-th leaf that a step uses signs its k-th statement
 pub fn sign(statement: &Bytes, keys: &mut Keys) -> Result<Bytes, NoMemory>
     requires { 0 < left_of keys.old }
     ensures sig { IfOk result (λ sig. (p : Params) (me : ℕ) → AreKeysOf me p.setup.keys keys.old →

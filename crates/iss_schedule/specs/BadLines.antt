@@ -1,4 +1,6 @@
--- The first bad line of a text, and what is wrong with it.
+-- The first bad line of a text, and what is wrong with it. The lines before it begin a schedule, and with it no
+-- schedule goes on. Reasons: too many events, a cut line, a wrong form, bad faulty nodes, bytes for a core of stopping
+-- nodes, or a number out of range. Each text is a schedule, or has exactly one first bad line with one reason.
 use Rattle.std.specs.Prelude.{◌≡◌, ◌≢◌, ◌⊎◌, ◌<◌, ◌≤◌, ◌+◌, ℕ, suc, List, [], ◌∷◌, ◌++◌, length, take}
 use Rattle.iss_request.specs.declared.setups.Kind.TheVariants.{Stopping}
 use Rattle.iss_schedule.specs.declared.errors.LineFault.{LineFault}
@@ -49,6 +51,7 @@ IsBadRest front rest Cut = (length front < 11 + most_events) × Lacks 10 rest ×
 IsBadRest front rest why = (length front < 11 + most_events) × ((line : List ℕ) × (IsNext line rest × IsFault front line why))
 
 -- the lines before this one begin a schedule in range, and with this one they do not
+-- rule: Schedules: The first bad line is named, with the first reason that holds
 pub record IsFirstBad (bytes : List ℕ) (line : ℕ) (why : LineFault) : Type 0 where
   pub front : List (List ℕ)
   pub rest : List ℕ

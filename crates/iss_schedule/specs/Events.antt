@@ -1,4 +1,5 @@
--- Events as lines, and their ranges.
+-- Events as lines, and their ranges: cores, leaders, peers, clients and numbers that exist, payloads of at most 256
+-- bytes, 1 to 1,000 pumps, and 0 to 1,000 calls before a crash. Bytes for a core need a Byzantine module.
 use Rattle.std.specs.Prelude.{◌≡◌, ◌<◌, ◌≤◌, ◌^◌, ℕ, List, [], ◌∷◌, length, decimal}
 use Rattle.hex.specs.Hex.{IsBytes}
 use Rattle.iss_request.specs.declared.setups.Kind.TheVariants.{Byzantine}
@@ -36,6 +37,8 @@ IsPayload payload = IsBytes payload × (length payload ≤ 256)
 
 -- which events a cluster of this set-up may meet: a core is one of its cores, a leader or a peer is a node, a client
 -- signs with a leaf of its tree, and only a module that withstands any fault meets bytes of no node
+-- rule: Schedules: An ask names one of the cores and one of the nodes
+-- rule: Schedules: A crash lets 0 to 1,000 disk calls of a core pass
 abbrev pub IsInRange : Setup → Event → Type 0
 IsInRange s (Request core client number payload) = (core < cores_of s) × (client < s.clients) × (number < 2 ^ s.keys) × IsPayload payload
 IsInRange s (Propose core) = core < cores_of s

@@ -1,5 +1,6 @@
--- The header: a table of its lines, and the set-up that their values give. A field, a module or a policy is one line more.
--- Its last line names the faulty nodes.
+-- The header of a schedule: a table of its lines, and the set-up that their values give. A line has one of some words,
+-- or a name and a number within two bounds, which may depend on the lines above. The last line names the faulty nodes.
+-- A module is one row of the module table: its word, number, kind, and most faults.
 use Rattle.std.specs.Prelude.{◌≡◌, ◌⊎◌, ◌<◌, ◌==◌, ℕ, suc, List, [], ◌∷◌, ◌++◌, length, get_or, codes, if◌then◌else◌, decimal}
 use Rattle.iss_request.specs.Setup.{node_count, quorum_count}
 use Rattle.iss_request.specs.declared.setups.Kind.{Kind}
@@ -28,6 +29,7 @@ abbrev pub relay_row : ModuleRow
 relay_row = row (codes "module relay") 1 Stopping 0
 
 -- the modules that have a word; one that has none is a line less, here and in the table of the code
+-- rule: Schedules: A module is one row: its word, its number, its fault model, the most faults
 abbrev pub module_rows : List ModuleRow
 module_rows =
     relay_row
@@ -124,6 +126,7 @@ pub data HeaderField : Type 0 where
   Number : (name : List ℕ) → (low end : List ℕ → ℕ) → HeaderField
 
 -- an epoch has a slot for each node
+-- rule: Schedules: A header line is one of its field's texts, or a name and a number in range
 abbrev pub header_fields : List HeaderField
 header_fields =
     OneOf (codes "iss 1" ∷ [])
@@ -177,6 +180,7 @@ node_words [] = []
 node_words (i ∷ is) = decimal i.0 ∷ node_words is
 
 -- it names the faulty nodes
+-- rule: Schedules: Faulty nodes are strictly ascending, at most f, and none where nodes only crash
 abbrev pub faulty_line : List NodeId → List ℕ
 faulty_line [] = codes "faulty none"
 faulty_line (i ∷ is) = line_of (codes "faulty" ∷ node_words (i ∷ is))

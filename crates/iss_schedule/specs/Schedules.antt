@@ -1,4 +1,6 @@
--- Schedules and their texts.
+-- Schedules and their texts. A schedule has a good set-up of a module that has a word, events in range, and at most
+-- 1,048,576 of them; its text has at most 16,777,216 bytes. The cluster's tag is the SHA-256 of a letter C and the
+-- header's lines. A schedule has one text, and a text is that of at most one schedule.
 use Rattle.std.specs.Prelude.{◌≡◌, ◌≤◌, ℕ, List, [], ◌∷◌, ◌++◌, length, map}
 use Rattle.sha2.specs.Sha256.{sha256}
 use Rattle.iss_request.specs.Setup.{IsGoodSetup}
@@ -13,6 +15,7 @@ abbrev pub header_lines : Setup → List (List ℕ)
 header_lines s = lines_of header_fields (values_of s) ++ faulty_line s.faulty ∷ []
 
 -- the tag of a cluster is the digest of a letter C and its header
+-- rule: Schedules: The cluster's tag is the digest of the header's lines
 abbrev pub cluster_tag : Setup → List ℕ
 cluster_tag s = sha256 (0x43 ∷ ended (header_lines s))
 
@@ -20,6 +23,7 @@ cluster_tag s = sha256 (0x43 ∷ ended (header_lines s))
 abbrev pub schedule_lines : Schedule → List (List ℕ)
 schedule_lines s = header_lines s.setup ++ map spell_event s.events
 
+-- rule: Schedules: A schedule is a header of eleven fields, then one event a line
 abbrev pub text_of : Schedule → List ℕ
 text_of s = ended (schedule_lines s)
 
@@ -27,6 +31,7 @@ text_of s = ended (schedule_lines s)
 abbrev pub most_bytes : ℕ
 most_bytes = 16777216
 
+-- rule: Schedules: A schedule has at most 16 MiB and 1,048,576 events
 abbrev pub most_events : ℕ
 most_events = 1048576
 

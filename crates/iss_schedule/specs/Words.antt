@@ -1,4 +1,5 @@
--- Texts, lines and words.
+-- Texts, lines and words. A line is words parted by one space; a text is lines, each ended by one line feed. Bytes are
+-- lower case hexadecimal, `-` for none. Numbers are decimal without leading zeros.
 use Rattle.std.specs.Prelude.{◌≡◌, ◌≢◌, ◌≤◌, ◌<◌, ◌==◌, ℕ, List, [], ◌∷◌, ◌++◌, length, codes, EachIndex, slice_index}
 use Rattle.std.specs.List.{slice_split, join_with_byte}
 use Rattle.hex.specs.Hex.{encode_lower}
@@ -29,5 +30,6 @@ abbrev pub AreDigits : List ℕ → Type 0
 AreDigits word = EachIndex word (λ k. (48 ≤ slice_index word k) × (slice_index word k ≤ 57))
 
 -- a number of any size: decimal digits, without a leading zero
+-- rule: Schedules: A number is decimal digits without a leading zero
 abbrev pub IsNumber : List ℕ → Type 0
 IsNumber word = AreDigits word × (0 < length word) × (slice_index word 0 ≡ 48 → length word ≡ 1)

@@ -55,6 +55,7 @@ impl From<AllocError> for ReadError {
 }
 
 // The line that was read last is bad.
+// rule: Schedules: The first bad line is named, with the first reason that holds
 pub(crate) fn bad_line(lines: &Lines, why: LineFault) -> ReadError
     ensures { result ≡ BadLine lines.now.read why }
 {

@@ -70,6 +70,7 @@ pub fn bytes_in(alloc: Global, words: &mut Words) -> Result<Option<Bytes>, NoMem
 }
 
 // How many cores the cluster has.
+// rule: Schedules: A faulty node has a second core, numbered after the nodes
 fn count_of_cores(setup: &Setup) -> u32
     requires good { IsGoodSetup setup.now }
     ensures { result ≡ cores_of setup.now }
@@ -114,6 +115,7 @@ fn timeout_in(setup: &Setup, words: &mut Words) -> Option<Event>
 }
 
 // An ask, behind its name.
+// rule: Schedules: An ask names one of the cores and one of the nodes
 fn ask_in(setup: &Setup, words: &mut Words) -> Option<Event>
     requires good { IsGoodSetup setup.now }
     ensures { Reads event_words (IsInRange setup.now) (text_of_name Name.Ask ∷ words.old) result }
@@ -123,6 +125,7 @@ fn ask_in(setup: &Setup, words: &mut Words) -> Option<Event>
 }
 
 // How many calls the last word lets pass.
+// rule: Schedules: A crash lets 0 to 1,000 disk calls of a core pass
 fn calls_in(words: &mut Words) -> Option<u32>
     ensures { Reads last_number (λ calls. calls ≤ 1000) words.old result }
 {

@@ -109,6 +109,7 @@ fn fault_of(line: &[u8]) -> LineFault
 }
 
 /// Reads the line that names the faulty nodes, so many at most, ascending, with numbers below n.
+// rule: Schedules: Faulty nodes are strictly ascending, at most f, and none where nodes only crash
 pub fn read_faulty(alloc: Global, lines: &mut Lines, most: u32, n: u32) -> Result<Nodes, ReadError>
     requires read { lines.old.read ≡ 10 }
     requires few { most < 256 }

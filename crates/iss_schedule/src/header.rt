@@ -172,6 +172,7 @@ fn number(lines: &mut Lines, name: &[u8], low: u32, end: u32) -> Result<u32, Lin
 }
 
 // Reads the line behind these values: the table of a header, a field on each line.
+// rule: Schedules: A header line is one of its field's texts, or a name and a number in range
 fn read_field(lines: &mut Lines, above: &[u32]) -> Result<u32, LineFault>
     requires lines { lines.old.read < 11 }
     requires few { length above.now < 10 }
@@ -211,6 +212,7 @@ pub fn read_header(lines: &mut Lines) -> Result<[u32; 10], LineFault>
 }
 
 // The tag of the cluster with this header.
+// rule: Schedules: The cluster's tag is the digest of the header's lines
 fn tag_of(header: &[u8]) -> [u8; 32]
     ensures { result ≡ sha256 (0x43 ∷ header.now) }
 {
@@ -232,6 +234,7 @@ fn policy_of(place: u32) -> Policy
 }
 
 /// The set-up of the cluster whose header has these values, these faulty nodes and this text.
+// rule: Formats: A set-up's fields are in range, and its nodes and quorum fit its fault model and f
 pub fn setup_of(values: &[u32], faulty: Nodes, text: &[u8]) -> Setup
     requires size { length values.now ≡ 10 }
     requires range { AreValues header_fields [] values.now }

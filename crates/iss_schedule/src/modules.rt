@@ -25,6 +25,7 @@ const MODULES: &[Module] = &[
     Module { line: b"module hotstuff", number: 4, kind: Kind::Byzantine, most_faults: 3 },
 ];
 
+// rule: Schedules: A module is one row: its word, its number, its fault model, the most faults
 fn modules() -> &'static [Module]
     ensures { see_all result.now ≡ module_rows }
 {

@@ -27,6 +27,7 @@ pub const MOST_BYTES: usize = 16_777_216;
 pub const MOST_EVENTS: usize = 1_048_576;
 
 // Reads the lines behind the header, each an event.
+// rule: Schedules: A schedule has at most 16 MiB and 1,048,576 events
 fn read_events(alloc: Global, setup: &Setup, lines: &mut Lines) -> Result<Seq<Event>, ReadError>
     requires known { IsKnown setup.now }
     requires read { lines.old.read ≡ 11 }
@@ -119,6 +120,7 @@ fn read_text(alloc: Global, bytes: &[u8]) -> Result<Schedule, ReadError>
 ///
 /// `BadLine` exactly where no schedule has this text, with the first line that makes it so, numbered from 1, and the
 /// first reason for it; `NoMemory` where memory was wanting.
+// rule: Schedules: A schedule is a header of eleven fields, then one event a line
 pub fn read(alloc: Global, bytes: &[u8]) -> Result<Schedule, ReadError>
     ensures ok { IfOk result (IsSchedule bytes.now) }
     ensures good { IfOk result (λ s. IsGoodSetup s.setup) }

@@ -162,6 +162,7 @@ fn are_digits(word: &[u8]) -> bool
 }
 
 /// Whether the word is a number of any size: digits without a leading zero.
+// rule: Schedules: A number is decimal digits without a leading zero
 pub fn is_number(word: &[u8]) -> bool
     ensures { IsTrue result ↔ IsNumber word.now }
 {

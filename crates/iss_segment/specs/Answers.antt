@@ -1,4 +1,5 @@
--- What an instance answers to an input.
+-- What an instance answers to an input: it was taken, the judge refuses it, or too few leaves are left. In the last
+-- two cases nothing changes.
 use Rattle.std.specs.Prelude.{◌≡◌, ℕ, ◌+◌, ◌<◌, ◌≤◌, List, Option, Some, None, Result, Ok, Err}
 use Rattle.iss_keys.specs.Directories.{AreKeysOf}
 use Rattle.iss_keys.specs.KeyStates.{KeyState, left_of}
@@ -15,7 +16,7 @@ use Rattle.iss_sb.specs.declared.effects.Params.{Params}
 use Rattle.iss_sb.specs.declared.effects.StepError.{StepError}
 use Rattle.iss_sb.specs.declared.effects.StepError.TheVariants.{Spent, NoMemory}
 use Rattle.iss_segment.specs.Ground.{RestsOn}
-use Rattle.iss_segment.specs.Instance.{IsInstance, SegmentState}
+use Rattle.iss_segment.specs.Instance.{RefinesItems, SegmentState}
 use Rattle.iss_segment.specs.declared.segment.StepRefusal.{StepRefusal}
 use Rattle.iss_segment.specs.declared.segment.StepRefusal.TheVariants.{Spent as Refusal_spent, Refused, NoMemory as Refusal_no_memory}
 use Rattle.iss_window.specs.Kept.{Kept}
@@ -25,11 +26,11 @@ pub record IsInstanceTaken {M Msg : Type 0} (m : Module Msg) (refines : M → Pa
     (old new : SegmentState M) (i : Input Msg) (before later : KeyState) (e : Effects Msg) : Type 0 where
   pub same_params : new.params ≡ old.params
   pub same_node : new.me ≡ old.me
-  pub refined : (xs : List (Item Msg)) → IsInstance refines old xs → AreKeysOf old.me.0 old.params.setup.keys before →
-      IsInstance refines new (and_then m old.params old.me.0 xs i before.used)
-  pub effects : (xs : List (Item Msg)) → IsInstance refines old xs → AreKeysOf old.me.0 old.params.setup.keys before →
+  pub refined : (xs : List (Item Msg)) → RefinesItems refines old xs → AreKeysOf old.me.0 old.params.setup.keys before →
+      RefinesItems refines new (and_then m old.params old.me.0 xs i before.used)
+  pub effects : (xs : List (Item Msg)) → RefinesItems refines old xs → AreKeysOf old.me.0 old.params.setup.keys before →
       IsTaken m old.params old.me.0 xs i before.used e
-  pub used : (xs : List (Item Msg)) → IsInstance refines old xs → AreKeysOf old.me.0 old.params.setup.keys before →
+  pub used : (xs : List (Item Msg)) → RefinesItems refines old xs → AreKeysOf old.me.0 old.params.setup.keys before →
       later.used ≡ before.used + (m.makes old.params old.me.0 xs i before.used).used
   pub within : IsWithin m old.params before later e
   pub enough : m.signs old.params ≤ left_of before
@@ -50,7 +51,7 @@ IsInstanceStep m refines old new i before later (Err NoMemory) = Unit {0}
 abbrev pub IsVerdict : {M Msg : Type 0} → Module Msg → (M → Params → ℕ → List (Item Msg) → Type 0) → Plan → Kept → SegmentState M →
     Input Msg → Option Refusal → Type 0
 IsVerdict {Msg = Msg} m refines plan windows g i answer =
-    (before : List Value) (xs : List (Item Msg)) → RestsOn g.params.setup before g.params.epoch.0 plan windows → IsInstance refines g xs →
+    (before : List Value) (xs : List (Item Msg)) → RestsOn g.params.setup before g.params.epoch.0 plan windows → RefinesItems refines g xs →
     verdict (rules_of g.params.setup) before g.params.epoch.0 g.params.leader.0 (accepts xs) (m.asks g.params g.me.0 xs i) ≡ answer
 
 -- the judge accepts what the input asks for, and the input was taken

@@ -1,4 +1,4 @@
--- What an epoch rests on: its division and its windows, by the log before it.
+-- What an epoch depends on: its division and its windows, by the log before it.
 use Rattle.std.specs.Prelude.{◌≡◌, ℕ, List}
 use Rattle.iss_layout.specs.Layout.{Plan}
 use Rattle.iss_rules.specs.Concrete.{plan_at}

@@ -1,4 +1,4 @@
--- Identities that stand twice in one list, and those that are accepted.
+-- Identities that stand twice in a list, and the marks after a batch is accepted.
 use Rattle.std.specs.Prelude.{Bool, false, ◌||◌, List, [], ◌∷◌, Option, Some, None}
 use Rattle.iss_window.specs.Ids.{and_ids}
 use Rattle.iss_request.specs.declared.ids.Slot.{Slot}

@@ -20,6 +20,7 @@ use iss_window::{Ids, Place, Windows};
 
 /// The first refusal that holds of a batch in the segment of this leader; none where the batch is accepted. `marked`
 /// are the identities that were accepted there before.
+// rule: Acceptance: A batch is refused for its first fault: size, bucket, signature, window, ordered, marked
 pub fn refusal(
     setup: &Setup,
     directory: &Directory,
@@ -51,6 +52,7 @@ pub fn refusal(
 }
 
 // Whether the bucket of a request is another node's.
+// rule: Acceptance: A batch is refused where its leader does not own the bucket of each request
 fn is_any_foreign(layout: &Layout, leader: NodeId, batch: &[Request]) -> bool
     ensures { result ≡ any (λ (q : Request). not (number_of (bucket_owner layout.now (bucket_of layout.now q.id)) == leader.0)) batch.now }
 {
@@ -74,6 +76,7 @@ fn owner(layout: &Layout, id: ReqId) -> NodeId
 }
 
 // Whether a request's signature is not its client's.
+// rule: Acceptance: A batch with a request that its client did not sign is refused
 fn is_any_unsigned(directory: &Directory, batch: &[Request]) -> bool
     ensures { result ≡ any (λ (q : Request). not (is_signed_by directory.now q)) batch.now }
 {

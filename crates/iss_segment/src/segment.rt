@@ -10,7 +10,7 @@ ghost use Rattle.iss_sb.specs.Calls.{IsGoodInput, IsGoodParams};
 ghost use Rattle.iss_sb.specs.Evidence.{Item, accepts};
 ghost use Rattle.iss_segment.specs.Answers.{IsInstanceStep, IsJudgedStep, IsVerdict};
 ghost use Rattle.iss_segment.specs.Ground.{RestsOn};
-ghost use Rattle.iss_segment.specs.Instance.{IsInstance, SegmentState};
+ghost use Rattle.iss_segment.specs.Instance.{RefinesItems, SegmentState};
 ghost use Rattle.iss_segment.specs.Marks.{and_marks};
 
 use crate::judge::refusal;
@@ -58,7 +58,7 @@ impl<M: Sequenced> Segment<M> {
     pub fn start(alloc: Global, params: Params, me: NodeId) -> Result<Segment<M>, NoMemory>
         requires good { IsGoodParams M.spec params }
         requires me { me.0 < params.setup.n }
-        ensures refines { IfOk result (λ s. IsInstance M.refines s []) }
+        ensures refines { IfOk result (λ s. RefinesItems M.refines s []) }
         ensures same { IfOk result (λ s. (s.params ≡ params) × (s.me ≡ me)) }
     {
         let ordering = M::start(alloc, &params, me)?;
@@ -87,7 +87,7 @@ impl<M: Sequenced> Segment<M> {
 
     /// Whether the module takes a cast at this slot.
     pub fn casts(&self, slot: Slot) -> bool
-        ensures { (xs : List (Item M.Msg)) (batch : Batch) → IsInstance M.refines self.now xs →
+        ensures { (xs : List (Item M.Msg)) (batch : Batch) → RefinesItems M.refines self.now xs →
             (IsTrue result ↔ (M.spec.asks self.now.params self.now.me.0 xs (Input.Cast slot batch) ≡ Some (slot, batch))) }
     {
         self.ordering.casts(&self.params, slot)
@@ -172,6 +172,7 @@ impl<M: Sequenced> Segment<M> {
 }
 
 // Notes the identities of a batch that was accepted.
+// rule: Acceptance: An accepted request is marked to the end of its epoch, also where its slot becomes nil
 fn mark(marked: &mut Ids, accepted: &Option<(Slot, Batch)>) -> Result<(), NoMemory>
     ensures { OnOk result (marked.new ≡ and_marks marked.old accepted.now) }
 {

@@ -15,6 +15,7 @@ const HEAD: usize = 8;
 const REQUEST: u8 = 0x30;
 
 /// Whether a request's client signed it. It takes no memory.
+// rule: Signatures: A request is signed if its signature verifies under its client's key
 pub fn is_signed(directory: &Directory, request: &Request) -> bool
     ensures { result ≡ is_signed_by directory.now request.now }
 {
@@ -46,6 +47,7 @@ pub fn sign_request(keys: &Keys, id: ReqId, payload: &[u8]) -> Result<Bytes, NoM
 }
 
 // Puts what a client signs at the front of a buffer.
+// rule: Signatures: A client signs its number, the request's number, and the payload after its length
 fn put_statement(id: ReqId, payload: &[u8], buffer: &mut [u8])
     requires payload { length payload.now ≤ 256 }
     requires room { 8 + length payload.now ≤ length buffer.old }

@@ -21,6 +21,7 @@ use Rattle.iss_sb.specs.Calls.{IsGoodParams}
 use Rattle.iss_sb.specs.Evidence.{IsReadMessage, Item, Module, Separate, accepts, delivered, is_correct}
 use Rattle.iss_sb.specs.Laws.{IsHeard, IsLawful, IsSafe}
 use Rattle.iss_sb.proofs.Read.{batch-read}
+use Rattle.iss_sb.proofs.Setups.{good-by}
 use Rattle.iss_composition.specs.Checkpoints.{scheme_of}
 use Rattle.iss_rules.specs.Books.{Signed}
 use Rattle.iss_composition.specs.Cluster.{Adopted, AllSpelled, Cert, Cluster, IsHashedLog, MayTake, Reach, Scheme, adopt, begin, chain, chain_strings, ends, move, vote_of}
@@ -126,28 +127,7 @@ four = record {
 }
 
 setup-good : IsGoodSetup four
-setup-good = record {
-  version = refl;
-  faults = omega arith;
-  relay_faults = λ h. absurd (omega (arith, h));
-  relay_kind = λ h. absurd (omega (arith, h));
-  nodes = refl;
-  majority = refl;
-  epoch_low = omega arith;
-  epoch_high = omega arith;
-  buckets_low = omega arith;
-  buckets_high = omega arith;
-  batch_low = omega arith;
-  batch_high = omega arith;
-  window_low = omega arith;
-  window_high = omega arith;
-  clients_low = omega arith;
-  clients_high = omega arith;
-  keys_low = omega arith;
-  keys_high = omega arith;
-  few_faulty = omega arith;
-  rising_faulty = (omega arith, omega arith, tt);
-}
+setup-good = good-by four refl
 
 setup-of : IsSetupOf nodding four
 setup-of = record { good = setup-good; tag = refl; kind = refl; nodes = refl; majority = refl }

@@ -8,7 +8,7 @@ use Rattle.iss_base.specs.Quorum.{all_below, distinct, mem}
 use Rattle.iss_base.proofs.Lists.{and-true, both, eqb-other, in_append, is-eq, same_bytes-is, some-injective}
 use Rattle.iss_checkpoint.specs.Tallies.{certificate_by, say_same, signed_below, signed_if}
 use Rattle.iss_checkpoint.specs.declared.votes.Cert.{Cert}
-use Rattle.iss_checkpoint.specs.declared.votes.Signed.{Signed as Signature}
+use Rattle.iss_sb.specs.declared.signers.Signed.{Signed as Signature}
 use Rattle.iss_checkpoint.specs.declared.votes.Vote.{Vote}
 use Rattle.iss_keys.proofs.DirectoryLemmas.{node-below}
 use Rattle.iss_request.specs.declared.setups.Setup.{Setup}

@@ -10,7 +10,7 @@ use Rattle.iss_rules.specs.declared.events.Why.{Why}
 use Rattle.iss_rules.specs.Parcels.{Formats}
 use Rattle.iss_rules.specs.Rules.{Rules}
 use Rattle.iss_rules.specs.Ends.{End}
-use Rattle.iss_model.specs.Run.{Happening, Held, Progress, ended_at, run, run_event_if_open as free_further, apply_event as free_happens}
+use Rattle.iss_model.specs.Run.{Happening, Held, Progress, ended_at, run, run_event_if_open as free_run_event, apply_event as free_apply_event}
 use Rattle.iss_model.specs.Runs.{AreAtCores, IsAtCore}
 use Rattle.iss_theorems.proofs.Runs.{run-append}
 use Rattle.iss_model.specs.Courses.{Course, Machines, course, run_event_if_open}
@@ -32,8 +32,8 @@ module _ {Msg : Type 0} (s : Setup) (F : Formats Msg) (R : Rules) (M : Module Ms
   asked-append [] fs q i x (inl a) = absurd a
   asked-append [] fs q i x (inr b) = b
   asked-append (e ∷ es) fs q i x (inl (inl a)) = inl a
-  asked-append (e ∷ es) fs q i x (inl (inr a)) = inr (asked-append es fs (free_further q.ended s F R M q e) i x (inl a))
-  asked-append (e ∷ es) fs q i x (inr b) = inr (asked-append es fs (free_further q.ended s F R M q e) i x (inr b))
+  asked-append (e ∷ es) fs q i x (inl (inr a)) = inr (asked-append es fs (free_run_event q.ended s F R M q e) i x (inl a))
+  asked-append (e ∷ es) fs q i x (inr b) = inr (asked-append es fs (free_run_event q.ended s F R M q e) i x (inr b))
 
   -- ---- a run of nodes that goes on
 
@@ -65,13 +65,13 @@ module _ {Msg : Type 0} (s : Setup) (F : Formats Msg) (R : Rules) (M : Module Ms
   why-at n (Some end) = refl
 
   pub leads-one : (e : Event) → IsAtCore s e → IsUndisturbed e → (h : Held Msg) (n : ℕ) (drops : List (ℕ × Why)) (d : Happening Msg) →
-      free_happens s F R M h e ≡ d → Leads (λ i x. In x (free_asked i e d)) (standing h n drops) d.held d.ended
+      free_apply_event s F R M h e ≡ d → Leads (λ i x. In x (free_asked i e d)) (standing h n drops) d.held d.ended
   leads-one e low calm h n drops d q = record {
     events = e ∷ [];
     at_cores = (low, tt);
     undisturbed = (calm, tt);
     held = ap (λ (z : Happening Msg). z.held) q;
-    ended = why-at n (free_happens s F R M h e).ended ∙ ap (λ (z : Happening Msg). z.ended) q;
+    ended = why-at n (free_apply_event s F R M h e).ended ∙ ap (λ (z : Happening Msg). z.ended) q;
     asked = λ i x a. inl (subst (λ (z : Happening Msg). In x (free_asked i e z)) (sym q) a);
   }
 

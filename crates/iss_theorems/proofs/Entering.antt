@@ -22,7 +22,7 @@ use Rattle.iss_model.specs.Node.{Core, Dropped, Stepped, Taken, Turn, step}
 use Rattle.iss_rules.specs.Parcels.{Formats, OfRequest}
 use Rattle.iss_rules.specs.Rules.{Rules}
 use Rattle.iss_rules.specs.Ends.{End, Forged}
-use Rattle.iss_model.specs.Run.{Happening, Held, Progress, at_core, by_collision, by_forged, claims_at, collision_in, done, early_of, ended_at, ended_by, first_forged, is_forged, lost_by, node_of, noted, turned_to, with_network, after_step as free_step, delivered_to as free_delivered, apply_event as free_happens, loses as free_loses}
+use Rattle.iss_model.specs.Run.{Happening, Held, Progress, at_core, by_collision, by_forged, claims_at, collision_in, done, early_of, ended_at, ended_by, first_forged, is_forged, lost_by, node_of, noted, turned_to, with_network, after_step as free_step, delivered_to as free_delivered, apply_event as free_apply_event, loses as free_loses}
 use Rattle.iss_rules.specs.Concrete.{request_of}
 use Rattle.iss_model.specs.Runs.{AreAtCores, IsAtCore}
 use Rattle.iss_theorems.proofs.Courses.{Leads, course-over, going, leads-less, leads-none, leads-on, leads-one, leads-same, nobody, nobody-asked, over, standing}
@@ -119,13 +119,13 @@ module _ {Msg : Type 0} (s : Setup) (F : Formats Msg) (R : Rules) (M : Module Ms
   -- Core c takes an event. The failure-free run goes from h to the same state by e, or by nothing if the event does not
   -- enter.
   module _ (h : Held Msg) (w : Machines Msg) (own : Own w) (c : ℕ) (event : NodeEvent) (e : Event) (low : IsAtCore s e) (calm : IsUndisturbed e)
-      (same : free_happens s F R M h e ≡ at_core s F R M w.held c event)
+      (same : free_apply_event s F R M h e ≡ at_core s F R M w.held c event)
       (skip : (n : ℕ) (drops : List (ℕ × Why)) → By none (at_start h n drops) w.held None) where
     abbrev asks_of : Upshot Msg → ℕ → ReqId → Type 0
     asks_of d i x = In x (asked_in i e d)
 
     -- the event enters
-    carries : (behind : ℕ → Disk) (g : Happening Msg) → free_happens s F R M h e ≡ g → Own (with_disks w behind g).machines →
+    carries : (behind : ℕ → Disk) (g : Happening Msg) → free_apply_event s F R M h e ≡ g → Own (with_disks w behind g).machines →
         Goes (asks_of (with_disks w behind g)) h (with_disks w behind g)
     carries behind g q k = record { leads = λ n drops. leads-one s F R M e low calm h n drops g q; own = k }
 
@@ -197,7 +197,7 @@ module _ {Msg : Type 0} (s : Setup) (F : Formats Msg) (R : Rules) (M : Module Ms
   unasked : (e : Event) → ((i : ℕ) (o : Option Why) → asked_by i e o ≡ []) → (d : Upshot Msg) (i : ℕ) (x : ReqId) → In x (asked_in i e d) → none i x
   unasked e nothing d i x m = ends-ask-nothing d.ended x (subst (λ (xs : List ReqId). In x (unless_ended d.ended xs)) (nothing i d.lost) m)
 
-  goes-network : (w : Machines Msg) → Own w → (net : Network) (e : Event) → IsAtCore s e → IsUndisturbed e → free_happens s F R M w.held e ≡ done (with_network w.held net) →
+  goes-network : (w : Machines Msg) → Own w → (net : Network) (e : Event) → IsAtCore s e → IsUndisturbed e → free_apply_event s F R M w.held e ≡ done (with_network w.held net) →
       Goes none w.held (machines_done (with_packets w net))
   goes-network w own net e low calm same = record {
     leads = λ n drops. leads-less s F R M (λ i x. In x (free_asked i e (done (with_network w.held net)))) none (at_start w.held n drops) (with_network w.held net) None

@@ -13,7 +13,7 @@ use Rattle.iss_sb.specs.Laws.{IsLawful, IsSafe}
 use Rattle.iss_rules.specs.declared.events.NodeEvent.{NodeEvent}
 use Rattle.iss_rules.specs.declared.events.NodeEvent.TheVariants.{Packet as On_packet, Propose as On_propose, Timeout as On_timeout, AskFrom as On_ask}
 use Rattle.iss_rules.specs.Concrete.{rules_of, request_of}
-use Rattle.iss_theorems.specs.Ends.{HasCollided, HasEvidence, IsForgery, Shows}
+use Rattle.iss_theorems.specs.Ends.{HasCollided, HasEvidence, IsEvidenced, IsForgery}
 use Rattle.iss_rules.specs.Formats.{formats_of}
 use Rattle.iss_rules.specs.Parcels.{Formats, OfRequest}
 use Rattle.iss_model.specs.Node.{Dropped, Stepped, Taken, Turn, step}
@@ -33,9 +33,9 @@ use Rattle.iss_theorems.proofs.Shown.{collided-with, collision-shown, forged-sho
 module _ {Msg : Type 0} (s : Setup) (F : Formats Msg) (R : Rules) (M : Module Msg) (sound : IsSoundRules s M R) where
   -- the outcome of an event shows its evidence, if it has any
   abbrev Tells : Happening Msg → Type 0
-  Tells d = (end : End) → d.ended ≡ Some end → Shows s F R M d.held end
+  Tells d = (end : End) → d.ended ≡ Some end → IsEvidenced s F R M d.held end
 
-  still-tells : (g : Held Msg) (end : End) → None ≡ Some end → Shows s F R M g end
+  still-tells : (g : Held Msg) (end : End) → None ≡ Some end → IsEvidenced s F R M g end
   still-tells g end q = absurd (cc)
 
   module _ (h : Held Msg) (c : ℕ) (event : NodeEvent) where
@@ -47,7 +47,7 @@ module _ {Msg : Type 0} (s : Setup) (F : Formats Msg) (R : Rules) (M : Module Ms
         let is : Collision w.0 w.1 ≡ other = sym w.2 ∙ some-injective end other e in
         let shown : HasCollided s F R M h w.0 w.1 =
         record { core = c; event = event; turn = t; taken = q; strings = collision-shown t.strings h.hashed w.0 w.1 (k ∙ ap (λ (z : End). Some z) w.2) } in
-        subst (λ (z : End). Shows s F R M h z) is shown
+        subst (λ (z : End). IsEvidenced s F R M h z) is shown
 
     after-tells : (o : Stepped Msg) → step F R M (node_of s c) (h.net.cores c) event ≡ o → Tells (after_step s h c o)
     after-tells (Dropped why) q = still-tells h
@@ -70,7 +70,7 @@ module _ {Msg : Type 0} (s : Setup) (F : Formats Msg) (R : Rules) (M : Module Ms
           correct = r.correct;
           unsent = r.absent;
         } in
-        subst (λ (z : End). Shows s F R M h z) (some-injective (Forged claim) other e) shown
+        subst (λ (z : End). IsEvidenced s F R M h z) (some-injective (Forged claim) other e) shown
 
     at-tells : Tells (at_core s F R M h c event)
     at-tells = forged-tells (first_forged s R h.signed reads) refl
@@ -122,7 +122,7 @@ module _ {Msg : Type 0} (s : Setup) (F : Formats Msg) (R : Rules) (M : Module Ms
   happens-tells h (Bytes c bytes) = injects-tells h c bytes M.stopping
 
   abbrev ProgressTells : Progress Msg → Type 0
-  ProgressTells p = (k : ℕ) (end : End) → p.ended ≡ Some (k, end) → Shows s F R M p.held end
+  ProgressTells p = (k : ℕ) (end : End) → p.ended ≡ Some (k, end) → IsEvidenced s F R M p.held end
 
   further-tells : (p : Progress Msg) → ProgressTells p → (e : Event) (o : Option (ℕ × End)) → ProgressTells (run_event_if_open o s F R M p e)
   further-tells p a e (Some end) = a

@@ -7,7 +7,7 @@ use Rattle.iss_base.specs.Lists.{In}
 use Rattle.iss_base.proofs.Lists.{and-true, in_append, in_left, in_right, is-eq, same_bytes-is, same_or_not, set_at2-other, set_at2-same}
 use Rattle.iss_checkpoint.specs.Tallies.{certificate_by}
 use Rattle.iss_checkpoint.specs.declared.votes.Cert.{Cert}
-use Rattle.iss_checkpoint.specs.declared.votes.Signed.{Signed as Signature}
+use Rattle.iss_sb.specs.declared.signers.Signed.{Signed as Signature}
 use Rattle.iss_checkpoint.specs.declared.votes.Vote.{Vote}
 use Rattle.iss_keys.specs.Directories.{node_secret}
 use Rattle.iss_keys.specs.Signatures.{signature_of}

@@ -194,7 +194,7 @@ module _ {Msg : Type 0} (s : Setup) (S : Scheme) (R : Rules) (M : Module Msg) (s
               let begun : epoch_at R low ≤ e = begun-here low found.batch found.part in
               let ee : epoch_at R low ≡ e = omega (arith, begun, t.1) in
               let start : before_at R low ≡ bf = sym (cut-extends R low log (epoch_at R low) part (epoch-low R low)) ∙ ap (λ (n : ℕ). cut_at R log n) ee in
-              let v : Valid s S R M safe sound w sep g low found.batch = valid s S R M safe sound w sep g low found.batch found.refines in
+              let v : Valid s S R M safe sound w sep g low found.batch = valid s S R M safe sound w sep g low found.batch found.stands in
               let o1 : R.owner bf e x ≡ i = owner-of R bf e i (marks j.1) f.0.1 mine x f.2 in
               let o2 : R.owner (before_at R low) (epoch_at R low) x ≡ leader_at R low =
               owner-of R (before_at R low) (epoch_at R low) (leader_at R low) (marks v.earlier) found.batch v.is x found.within in
@@ -202,7 +202,7 @@ module _ {Msg : Type 0} (s : Setup) (S : Scheme) (R : Rules) (M : Module Msg) (s
               subst (λ (n : ℕ). R.owner bf n x ≡ leader_at R low) ee
               (subst (λ (k : List Value). R.owner k (epoch_at R low) x ≡ leader_at R low) start o2) in
               let own : IsOwn low e = record { epoch = ee; start = start; leader = sym o3 ∙ o1 } in
-              let accepted_low = own-accepted low e own found.batch found.refines.is in
+              let accepted_low = own-accepted low e own found.batch found.stands.is in
               let longer : suc (length low) ≤ length log = extends-length (Value_batch found.batch ∷ low) log found.part in
               let opens : length log ≤ f.0.0.0 = h.open_slot f.0 f.1 in
               one-slot R bf e i held_here judged f.0 (record { 0 = length low }, found.batch) cast.held accepted_low

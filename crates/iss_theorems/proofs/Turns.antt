@@ -19,7 +19,7 @@ module _ {Msg : Type 0} (s : Setup) (S : Scheme) (R : Rules) (M : Module Msg) (f
   after w c signed hashed = record { pasts = set_at w.pasts i c; messages = w.messages; book = signed ++ w.book; strings = hashed ++ w.strings }
 
   -- a reached cluster, with node i there, and these books
-  pub record Refines (w : Cluster Msg) (c : Past Msg) (signed : List Signed) (hashed : List (List ℕ)) : Type 0 where
+  pub record Stands (w : Cluster Msg) (c : Past Msg) (signed : List Signed) (hashed : List (List ℕ)) : Type 0 where
     pub cluster : Cluster Msg
     pub reached : Reach s S R M cluster
     pub here : cluster.pasts i ≡ c
@@ -122,7 +122,7 @@ module _ {Msg : Type 0} (s : Setup) (S : Scheme) (R : Rules) (M : Module Msg) (f
   -- the moves of an event, whose claims are read against the book before it
   pub row : (xs : List (Small Msg)) (w : Cluster Msg) → Reach s S R M w → (book : List Signed) → ((x : Signed) → In x book → In x w.book) → (c : Past Msg) →
       w.pasts i ≡ c → AreRight s S R M book i c xs →
-      Refines w (past_of R M i c xs) (signs_of s S R M i c xs) (hashes_of S R M i c xs)
+      Stands w (past_of R M i c xs) (signs_of s S R M i c xs) (hashes_of S R M i c xs)
   row [] w r book sub c q right = record { cluster = w; reached = r; here = q; other = λ j ne. refl; book = refl; strings = refl }
   row (x ∷ xs) w r book sub c q right =
       let d : Past Msg = past_after R M i c x in

@@ -12,7 +12,7 @@ use Rattle.iss_model.specs.Run.{Held, Progress, begin_held, begin_run}
 use Rattle.iss_model.specs.Runs.{AreAtCores, IsPrefix}
 use Rattle.iss_theorems.specs.Certified.{AreOfLogs, WereDelivered}
 use Rattle.iss_theorems.specs.Conserved.{AcceptsOnce, IsConserved, IsInOnePlace}
-use Rattle.iss_theorems.specs.Ends.{HasEvidence, Shows}
+use Rattle.iss_theorems.specs.Ends.{HasEvidence, IsEvidenced}
 use Rattle.iss_theorems.specs.OneLog.{IsClusterRun, IsOneLog, run_after}
 use Rattle.iss_theorems.proofs.Runs.{run-append}
 use Rattle.iss_model.specs.Courses.{Course, begin_course, begin_machines, course}
@@ -83,11 +83,11 @@ module _ {Msg : Type 0} (s : Setup) (M : Module Msg)
       let e = evidence entering.events entering.at_cores in
       subst (λ (h : Held Msg). AreWritten s M h) entering.held (record { claims = e.booked; votes = e.voted })
 
-  shows : (k : ℕ) (end : End) → (course_after s M events).ended ≡ Some (k, end) → Shows s (formats_of s M) (rules_of s) M (held_after s M events) end
+  shows : (k : ℕ) (end : End) → (course_after s M events).ended ≡ Some (k, end) → IsEvidenced s (formats_of s M) (rules_of s) M (held_after s M events) end
   shows k end q =
       let e = evidence entering.events entering.at_cores in
       let there = ended-is (run_after s M entering.events).ended end (entering.ended ∙ ap (λ (o : Option (ℕ × End)). why_ended o) q) in
-      subst (λ (h : Held Msg). Shows s (formats_of s M) (rules_of s) M h end) entering.held (e.shown there.0 end there.1)
+      subst (λ (h : Held Msg). IsEvidenced s (formats_of s M) (rules_of s) M h end) entering.held (e.shown there.0 end there.1)
 
   abbrev so_far : Course Msg
   so_far = course_after s M events

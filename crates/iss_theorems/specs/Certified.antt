@@ -1,8 +1,10 @@
--- What certificates stand for, and what was adopted under them.
+-- What a certificate says: a quorum signed it, among them a correct node, whose log at the end of the epoch has this
+-- chain and number of requests. And what adoption says: each adopted value was delivered by a correct node in its
+-- slot's instance.
 use Rattle.std.specs.Prelude.{◌≡◌, ℕ, suc, ◌+◌, ◌<◌, true, List, length, Some}
 use Rattle.iss_base.specs.Lists.{In}
 use Rattle.iss_checkpoint.specs.declared.votes.Cert.{Cert}
-use Rattle.iss_checkpoint.specs.declared.votes.Signed.{Signed}
+use Rattle.iss_sb.specs.declared.signers.Signed.{Signed}
 use Rattle.iss_request.specs.declared.requests.Value.{Value}
 use Rattle.iss_request.specs.declared.setups.Setup.{Setup}
 use Rattle.iss_schedule.specs.declared.schedules.Event.{Event}
@@ -32,6 +34,7 @@ pub record IsOfLog {Msg : Type 0} (s : Setup) (R : Rules) (M : Module Msg) (past
   pub log : IsLogAt R M signer.by.0 c.epoch.0 (pasts signer.by.0) c.chain c.requests
 
 -- this holds for each certificate that a correct node keeps
+-- rule: Checkpoints: A certificate that a correct node keeps certifies the log of a correct signer
 abbrev pub AreOfLogs : {Msg : Type 0} → Setup → Module Msg → List Event → Type 0
 AreOfLogs s M events =
     (i : ℕ) → is_correct s i ≡ true → (c : Cert) → In c ((run_after s M events).held.net.cores i).certs →
@@ -46,6 +49,7 @@ pub record WasDelivered {Msg : Type 0} (s : Setup) (R : Rules) (M : Module Msg) 
   pub is : Backed s R M pasts older v
 
 -- this holds for each value that a correct node adopted by state transfer
+-- rule: Transfer: A value that a correct node adopted was delivered in that slot by a correct node
 abbrev pub WereDelivered : {Msg : Type 0} → Setup → Module Msg → List Event → Type 0
 WereDelivered s M events =
     (i : ℕ) → is_correct s i ≡ true → (e k : ℕ) (v : Value) →

@@ -1,4 +1,5 @@
--- Where the requests are that a core took: each identity in one place.
+-- No request is lost: each identity that a correct core took is in exactly one of its log, its waiting list and its
+-- batches in flight. This asks that a correct leader accepts one batch per slot.
 use Rattle.std.specs.Prelude.{◌≡◌, ◌⊎◌, ℕ, true, cond, ◌==◌, List, [], ◌∷◌, Option, Some, None}
 use Rattle.iss_base.specs.Lists.{In}
 use Rattle.iss_request.specs.Log.{ids, log_ids}
@@ -76,6 +77,7 @@ AcceptsOnce {Msg} m =
     In {A = Slot × Batch} (slot, c) (accepts (w p.leader.0)) → b ≡ c
 
 -- No loss: each request that a correct core accepted is still there, in exactly one place.
+-- rule: Epochs: A request that a correct node took is in one place: its log, waiting, or in flight
 abbrev pub IsConserved : {Msg : Type 0} → Setup → Module Msg → List Event → Type 0
 IsConserved s M events =
     (i : ℕ) → is_correct s i ≡ true → (x : ReqId) →

@@ -1,4 +1,6 @@
--- What the end of a run shows to anyone who has its schedule, and what its book holds.
+-- The evidence with which a run ends early. A forgery: a core read a claim that verifies under the key of a correct
+-- node, which never sent it. A collision: a core hashed the second of two different strings of one digest. The book
+-- misses no claim that a correct node sent, nor its votes, so the evidence convinces anyone who has the schedule.
 use Rattle.std.specs.Prelude.{◌≡◌, ◌⊎◌, ℕ, suc, ◌<◌, true, List, ◌∷◌, ◌++◌, Some}
 use Rattle.iss_base.specs.Lists.{In, push_all}
 use Rattle.iss_keys.specs.Directories.{VerifiesBy, directory_of}
@@ -35,6 +37,7 @@ pub record IsForgery {Msg : Type 0} (s : Setup) (F : Formats Msg) (R : Rules) (M
 
 -- Two different strings with one digest. The second is one of `strings`. The first is in the book, or precedes it in
 -- `strings`.
+-- rule: Evidence: Two strings of one digest end the run, and the earlier one is named first
 pub record AreColliding (strings book : List (List ℕ)) (first second : List ℕ) : Type 0 where
   pub earlier : List (List ℕ)
   pub later : List (List ℕ)
@@ -53,9 +56,9 @@ pub record HasCollided {Msg : Type 0} (s : Setup) (F : Formats Msg) (R : Rules) 
   pub strings : AreColliding turn.strings h.hashed first second
 
 -- what each kind of evidence shows
-abbrev pub Shows : {Msg : Type 0} → Setup → Formats Msg → Rules → Module Msg → Held Msg → End → Type 0
-Shows s F R M h (Forged claim) = IsForgery s F R M h claim
-Shows s F R M h (Collision first second) = HasCollided s F R M h first second
+abbrev pub IsEvidenced : {Msg : Type 0} → Setup → Formats Msg → Rules → Module Msg → Held Msg → End → Type 0
+IsEvidenced s F R M h (Forged claim) = IsForgery s F R M h claim
+IsEvidenced s F R M h (Collision first second) = HasCollided s F R M h first second
 
 -- the book holds each statement that node i signed and sent, in any instance
 abbrev pub AreBooked : {Msg : Type 0} → Rules → Module Msg → ℕ → Past Msg → List Signed → Type 0
@@ -80,7 +83,7 @@ AreVoted R M i c book =
 -- correct nodes: a statement that is not in it was never sent (`booked`, `voted`).
 pub record HasEvidence {Msg : Type 0} (s : Setup) (M : Module Msg) (events : List Event) : Type 0 where
   pub shown : (k : ℕ) (end : End) → (run_after s M events).ended ≡ Some (k, end) →
-      Shows s (formats_of s M) (rules_of s) M (run_after s M events).held end
+      IsEvidenced s (formats_of s M) (rules_of s) M (run_after s M events).held end
   pub stays : (k : ℕ) (end : End) → (run_after s M events).ended ≡ Some (k, end) → (more : List Event) →
       run_after s M (events ++ more) ≡ run_after s M events
   pub booked : (i : ℕ) → is_correct s i ≡ true → AreBooked (rules_of s) M i (pasts_after s M events i)

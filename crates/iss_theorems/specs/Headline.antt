@@ -1,4 +1,7 @@
--- What a run leads to in which disks fail and cores are made anew: what a run of nodes leads to that never do, and so one log.
+-- The recovery theorem: a run with disk failures and restarts equals a run without any, by the events that were
+-- journaled. Cores, packets, books and the end of the run are the same. So all that holds for runs holds here: one
+-- log, conserved requests, certificates of correct logs, adopted values that were delivered, and evidence for an early
+-- end.
 use Rattle.std.specs.Prelude.{◌≡◌, ◌⊎◌, ℕ, true, List, [], ◌∷◌, ◌++◌, Option, Some, None, reverse}
 use Rattle.iss_base.specs.Lists.{In}
 use Rattle.iss_checkpoint.specs.declared.votes.Cert.{Cert}
@@ -17,7 +20,7 @@ use Rattle.iss_composition.specs.Checkpoints.{scheme_of}
 use Rattle.iss_composition.specs.Cluster.{Cluster, Reach}
 use Rattle.iss_rules.specs.Concrete.{rules_of}
 use Rattle.iss_theorems.specs.Conserved.{AcceptsOnce, IsInOnePlace, asked_by, unless_ended}
-use Rattle.iss_theorems.specs.Ends.{AreBooked, AreVoted, Shows}
+use Rattle.iss_theorems.specs.Ends.{AreBooked, AreVoted, IsEvidenced}
 use Rattle.iss_rules.specs.Formats.{formats_of}
 use Rattle.iss_rules.specs.Parcels.{Formats}
 use Rattle.iss_theorems.specs.OneLog.{run_after}
@@ -94,6 +97,7 @@ abbrev pub shown : {Msg : Type 0} → Setup → Module Msg → Held Msg → ℕ 
 shown s M h i = reverse (log_of (rules_of s) M i (pasts_of h.net i))
 
 -- Agreement and integrity: the logs of correct nodes are prefixes of one log.
+-- rule: Log: Of two correct nodes' logs one is a prefix of the other, and no request is in one twice
 pub record AreOneLog {Msg : Type 0} (s : Setup) (M : Module Msg) (h : Held Msg) : Type 0 where
   -- of two correct logs, one is a prefix of the other
   pub prefix : (i j : ℕ) → is_correct s i ≡ true → is_correct s j ≡ true →
@@ -142,6 +146,7 @@ WasAsked s F R M p (e ∷ es) i x =
 -- The headline. It holds for every ordering module and every schedule: for any faulty nodes, network, disk failures and
 -- restarts. It assumes nothing of signatures or SHA-256: a run that breaks one of them stops and shows the evidence.
 -- Other crates cite this record.
+-- rule: Recovery: A run with crashes refines the run of its kept events without crashes
 pub record IsWhole {Msg : Type 0} (s : Setup) (M : Module Msg) (events : List Event) : Type 0 where
   -- crash recovery: the run equals a failure-free run of the events that were journaled
   pub enters : Enters s M events
@@ -162,7 +167,7 @@ pub record IsWhole {Msg : Type 0} (s : Setup) (M : Module Msg) (events : List Ev
   pub certified : AreCertified s M (held_after s M events)
   -- Evidence: a run that stopped shows a forged signature or a collision, and later events change nothing.
   pub shows : (k : ℕ) (end : End) → (course_after s M events).ended ≡ Some (k, end) →
-      Shows s (formats_of s M) (rules_of s) M (held_after s M events) end
+      IsEvidenced s (formats_of s M) (rules_of s) M (held_after s M events) end
   pub stays : (k : ℕ) (end : End) → (course_after s M events).ended ≡ Some (k, end) → (more : List Event) →
       course_after s M (events ++ more) ≡ course_after s M events
   -- the book of signed statements is complete for correct nodes

@@ -1,4 +1,6 @@
--- What the leaves of a node's keys signed, over all that the node did.
+-- One-time keys stay one-time. A deed is an event that a node took and its turn; a life is a row of deeds, each a step
+-- from the core before. For each life there is one statement per used leaf, and each own claim is signed by a leaf
+-- over its statement, or was heard before.
 use Rattle.std.specs.Prelude.{◌≡◌, ◌⊎◌, ℕ, true, List, [], ◌∷◌, ◌++◌, Some, length, slice_get}
 use Rattle.iss_base.specs.Lists.{In}
 use Rattle.iss_request.specs.declared.setups.Setup.{Setup}
@@ -47,6 +49,7 @@ AreOfRow W me row (x ∷ xs) =
 
 -- No leaf signs two statements: `row` gives each used leaf its one statement. Every signature of its own that the node
 -- sends is by a leaf over that leaf's statement, or the node had received it.
+-- rule: Signatures: A node signs at most one statement with each leaf
 pub record SignsOnceEach {Msg : Type 0} (W : Frame Msg) (me : ℕ) (deeds : List (Deed Msg)) : Type 0 where
   pub row : List (List ℕ)
   pub each : length row ≡ (core_behind deeds).leaf

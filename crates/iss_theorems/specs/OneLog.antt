@@ -1,4 +1,6 @@
--- What a run prints, up to its end, and what a reader wants of it.
+-- Agreement, for every run and with no premise on claims or digests. Of two correct nodes' printed logs one is a
+-- prefix of the other, and no request stands twice. Each batch was accepted as valid by a correct node that judged it
+-- over the log before its epoch. More events only extend the logs.
 use Rattle.std.specs.Prelude.{◌≡◌, ◌⊎◌, ℕ, true, List, ◌∷◌, ◌++◌, reverse}
 use Rattle.iss_request.specs.Log.{Once}
 use Rattle.iss_request.specs.declared.requests.Batch.{Batch}

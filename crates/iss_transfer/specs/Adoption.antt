@@ -1,4 +1,6 @@
--- When the values of a piece are taken over, and what the log then is.
+-- When a replica adopts the values of a piece: the epoch and length fit, the certificate is true, and the values lead
+-- from its log to what the certificate says. The first test that fails is the reason of a refusal. Then the log is the
+-- one before the epoch with these values behind it.
 use Rattle.std.specs.Prelude.{◌≡◌, ℕ, ◌*◌, ◌==◌, ◌&&◌, not, Bool, true, if◌then◌else◌, List, [], ◌++◌, length, take}
 use Rattle.iss_base.specs.Lists.{In, same_bytes}
 use Rattle.iss_keys.specs.Directories.{DirectoryView, VerifiesBy}
@@ -36,6 +38,7 @@ same_end ours theirs = (ours.requests == theirs.requests) && same_bytes ours.cha
 
 -- A piece is adopted if it has the shape of epoch e, its certificate is valid, and its values lead to the log that the
 -- certificate states. Otherwise the result is the first of these that fails.
+-- rule: Transfer: A piece is adopted if it is whole, its certificate good, and its values match the chain
 abbrev pub adoption : Setup → Voters → List Value → ℕ → Piece → Adoption
 adoption s w log e p =
     let ours = end_of s.version (adopted_log s log e p) in
@@ -45,6 +48,7 @@ adoption s w log e p =
     else Adopt (strings_from s.version (chain_of s.version (log_before s log e)) p.values)
 
 -- a correct node signed that its log at the end of epoch e has this log's chain digest and number of requests
+-- rule: Transfer: What is adopted has a chain and count that a correct node signed
 pub record IsSaidByCorrect (s : Setup) (d : DirectoryView) (e : ℕ) (log : List Value) : Type 0 where
   pub node : ℕ
   pub sig : List ℕ

@@ -1,7 +1,7 @@
--- How asks and pieces are spelled in the bodies of their packets, whose head names the epoch.
+-- How asks and pieces are encoded in the bodies of their packets, whose head names the epoch.
 --
 --   ask      nothing
---   piece    count (1 byte), and so many values; the certificate of the same epoch
+--   piece    count (1 byte), and that many values; the certificate of the same epoch
 use Rattle.std.specs.Prelude.{◌≡◌, ℕ, ◌<◌, nat_lt, ◌==◌, ◌&&◌, Bool, List, [], ◌∷◌, ◌++◌, length, if◌then◌else◌}
 use Rattle.std.specs.List.{flat_map}
 use Rattle.iss_request.specs.Formats.{IsSpelledValue, parse_value, spell_value}
@@ -16,6 +16,7 @@ use Rattle.iss_transfer.specs.declared.pieces.Piece.{Piece}
 abbrev pub spell_ask : Ask → List ℕ
 spell_ask a = []
 
+-- rule: Transfer: An ask has an empty body
 unfoldable pub parse_ask : ℕ → Parser Ask
 parse_ask e = done (record { epoch = record { 0 = e } })
 
@@ -51,6 +52,7 @@ AreSpelledValues version (v ∷ vs) bytes =
     (first : List ℕ) × (others : List ℕ) × IsSpelledValue version v first × AreSpelledValues version vs others
     × (bytes ≡ first ++ others)
 
+-- rule: Transfer: A piece has one encoding a version: count, values, and the certificate of its epoch
 pub record IsSpelledPiece (version e : ℕ) (p : Piece) (bytes : List ℕ) : Type 0 where
   pub own : p.epoch.0 ≡ e
   pub count_fits : length p.values < 256

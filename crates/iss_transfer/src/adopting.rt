@@ -79,6 +79,8 @@ fn end_from(
 
 /// Whether a node may adopt a piece in this epoch, given the chain of its log. `chains` must hold the log before the
 /// epoch. The only error is out of memory.
+// rule: Transfer: A piece is adopted if it is whole, its certificate good, and its values match the chain
+// rule: Transfer: What is adopted has a chain and count that a correct node signed
 pub fn adopt(
     alloc: Global,
     setup: &Setup,

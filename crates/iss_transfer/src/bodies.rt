@@ -89,6 +89,7 @@ pub fn encode_ask(alloc: Global, ask: &Ask) -> Bytes
 }
 
 /// Decodes an ask. Only the empty body is one; otherwise `BadField` names the first byte. It needs no memory.
+// rule: Transfer: An ask has an empty body
 pub fn decode_ask(epoch: Epoch, bytes: &[u8]) -> Result<Ask, DecodeError>
     ensures ok { IfOk result (λ a. parse_ask epoch.0 bytes.now ≡ Good a []) }
     ensures bad { (at : ℕ) → result ≡ Err (DecodeError.BadField at) → all_of (parse_ask epoch.0) bytes.now ≡ Bad at }
@@ -101,6 +102,7 @@ pub fn decode_ask(epoch: Epoch, bytes: &[u8]) -> Result<Ask, DecodeError>
 }
 
 /// The encoding of a piece. A piece without one gives bytes that decode to no piece. The only error is out of memory.
+// rule: Transfer: A piece has one encoding a version: count, values, and the certificate of its epoch
 pub fn encode_piece(alloc: Global, version: u8, piece: &Piece) -> Result<Bytes, NoMemory>
     ensures { IfOk result (λ bytes. bytes ≡ spell_piece version piece.now) }
 {

@@ -1,4 +1,4 @@
--- A set of identities, as the list of them in the order in which they came.
+-- A set of identities, seen as the list of them in order of arrival. Only membership is asked of it.
 use Rattle.std.specs.Prelude.{List, [], ◌∷◌, ◌++◌, if◌then◌else◌, fold}
 use Rattle.iss_request.specs.Log.{has_id}
 use Rattle.iss_request.specs.declared.ids.ReqId.{ReqId}

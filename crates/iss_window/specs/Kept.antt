@@ -1,4 +1,5 @@
--- What windows keep in place of all that was noted.
+-- What the code keeps for a window: each client's least number that is missing, and the identities from there on that
+-- were noted.
 use Rattle.std.specs.Prelude.{◌≡◌, ℕ, ◌<◌, ◌≤◌, ◌^◌, nat_lt, nat_le, ◌==◌, ◌&&◌, ◌||◌, Bool, true, false, if◌then◌else◌, List, length, slice_index}
 use Rattle.iss_request.specs.Log.{has_id}
 use Rattle.iss_request.specs.declared.ids.ReqId.{ReqId}
@@ -11,6 +12,7 @@ pub record Kept : Type 0 where
   pub above : List ReqId
 
 -- all numbers below a client's low watermark were noted
+-- rule: Windows: A number is ordered if it is below its client's least unordered one or was recorded
 abbrev pub is_noted : List ℕ → List ReqId → ReqId → Bool
 is_noted lows above id = nat_lt id.number (slice_index lows id.client) || has_id id above
 

@@ -1,4 +1,6 @@
--- The windows of the clients, as functions of the identities that were noted and of the epochs' ends.
+-- The windows of the clients, as functions of the identities that were noted and of the ends of epochs. A client's
+-- window begins at its least number that was not noted before the last epoch's end. A number outside its window is
+-- refused.
 use Rattle.std.specs.Prelude.{◌≡◌, ℕ, zero, suc, ◌+◌, ◌<◌, nat_lt, Bool, true, false, if◌then◌else◌, List, [], ◌∷◌, length}
 use Rattle.iss_request.specs.Log.{has_id}
 use Rattle.iss_request.specs.declared.ids.ReqId.{ReqId}
@@ -32,6 +34,7 @@ low_from (suc more) ids client number =
 
 -- The client's low watermark: its least number that is not in the list. Among its first length + 1 numbers one is
 -- missing.
+-- rule: Windows: A client's window begins at its least number that was not ordered before the epoch
 abbrev pub low : List ReqId → ℕ → ℕ
 low ids client = low_from (length ids) ids client 0
 
@@ -41,10 +44,12 @@ pub record IsLow (ids : List ReqId) (client number : ℕ) : Type 0 where
   pub below : (t : ℕ) → t < number → has_id (id_of client t) ids ≡ true
 
 -- whether a number is below, inside or above the window of this width
+-- rule: Windows: A number is inside its window from the first number on, up to the window's width
 abbrev pub place_in : ℕ → ℕ → ℕ → Place
 place_in low width number = if nat_lt number low then Below else if nat_lt number (low + width) then Inside else Above
 
 -- the same for an identity, given the identities noted before the epoch
+-- rule: Epochs: Windows move at the end of an epoch
 abbrev pub place_of : ℕ → List ReqId → ReqId → Place
 place_of width closed id = place_in (low closed id.client) width id.number
 

@@ -56,6 +56,7 @@ impl Windows {
     }
 
     /// Where the identity lies relative to its client's window.
+    // rule: Windows: A number is inside its window from the first number on, up to the window's width
     pub fn test(&self, id: ReqId) -> Place
         ensures { (n : Noted) → RefinesNoted self.now n → result ≡ place_of self.now.width n.closed id }
     {
@@ -71,6 +72,7 @@ impl Windows {
     }
 
     /// Whether the identity was noted.
+    // rule: Windows: A number is ordered if it is below its client's least unordered one or was recorded
     pub fn ordered(&self, id: ReqId) -> bool
         ensures { (n : Noted) → RefinesNoted self.now n → result ≡ has_id id n.all }
     {
@@ -128,6 +130,7 @@ fn raise_all(lows: &mut Vec<u64>, above: &mut HashSet<ReqId>)
 }
 
 // Removes the client's consecutive numbers from `from` on, and gives the first one that is missing.
+// rule: Windows: A client's window begins at its least number that was not ordered before the epoch
 fn raise(above: &mut HashSet<ReqId>, client: u8, low: u64) -> u64
     requires low { low ≤ 2 ^ 32 }
     requires numbers { AreNumbers above.old.keys }

@@ -12,7 +12,7 @@ use Rattle.iss_rules.specs.Rules.{Rules}
 use Rattle.iss_schedule.specs.declared.schedules.Event.{Event}
 use Rattle.iss_sb.specs.Calls.{Relation}
 use Rattle.iss_sb.specs.Evidence.{Module}
-use Rattle.iss_world.specs.Refines.{HasChanged, HasHappened, RefinesMachines, RefinesOrShows, RefinesRun, RefinesRunUntil, awake, end_of, told_as}
+use Rattle.iss_world.specs.Refines.{HasChanged, HasHappened, RefinesMachines, RefinesOrShows, RefinesRun, RefinesRunUntil, awake, end_of, result_of}
 use Rattle.iss_world.specs.State.{SimulationState, WorldState}
 use Rattle.iss_world.specs.declared.ends.EventOutcome.{EventOutcome}
 use Rattle.iss_world.specs.declared.ends.EventOutcome.TheVariants.{Ended}
@@ -39,22 +39,22 @@ module _ {M Msg : Type 0} (m : Module Msg) (refines : Relation M Msg) where
   then_ended k drops w o = record { machines = w; event = suc k; drops = drops; ended = ended_at k o }
 
   told-ended : (v : SimulationState M Msg) (old : Course Msg) (d : Upshot Msg) (k : ℕ) (drops : List (ℕ × Why)) (end : Evidence) → HasChanged m refines v d (Ended end) →
-      HasHappened m refines (awake v (Some end)) old (then_ended k drops d.machines d.ended) (told_as end)
+      HasHappened m refines (awake v (Some end)) old (then_ended k drops d.machines d.ended) (result_of end)
   told-ended v old d k drops (Forged claim) h =
-      subst (λ (o : Option End). HasHappened m refines (awake v (Some (Forged claim))) old (then_ended k drops d.machines o) (told_as (Forged claim))) (sym h.2)
+      subst (λ (o : Option End). HasHappened m refines (awake v (Some (Forged claim))) old (then_ended k drops d.machines o) (result_of (Forged claim))) (sym h.2)
       (record { fresh = refl; ended = refl; shows = h.0 }, refl)
   told-ended v old d k drops (Collision first second) h =
-      subst (λ (o : Option End). HasHappened m refines (awake v (Some (Collision first second))) old (then_ended k drops d.machines o) (told_as (Collision first second))) (sym h.2)
+      subst (λ (o : Option End). HasHappened m refines (awake v (Some (Collision first second))) old (then_ended k drops d.machines o) (result_of (Collision first second))) (sym h.2)
       (record { fresh = refl; ended = refl; shows = h.0 }, refl)
 
   module _ (s : Setup) (F : Formats Msg) (R : Rules) (v later : SimulationState M Msg) (before : Option Evidence) (p : Course Msg) (e : Event) (r : EventOutcome) (end : Evidence)
       (none : before ≡ None) (was : r ≡ Ended end) (happened : (w : Machines Msg) → RefinesMachines m refines v w → HasChanged m refines later (apply_event s F R m w e) r) where
-    goes-then : (o : Option (ℕ × End)) → RefinesRunUntil m refines (awake v before) p.machines o → HasHappened m refines (awake later (Some end)) p (run_event_if_open o s F R m p e) (told_as end)
+    goes-then : (o : Option (ℕ × End)) → RefinesRunUntil m refines (awake v before) p.machines o → HasHappened m refines (awake later (Some end)) p (run_event_if_open o s F R m p e) (result_of end)
     goes-then None k =
         let d : Upshot Msg = apply_event s F R m p.machines e in
         told-ended later p d p.event (noted p.event d.lost p.drops) end (subst (λ (x : EventOutcome). HasChanged m refines later d x) was (happened p.machines k.simulation))
     goes-then (Some at) k = absurd (none-some at.1 (subst (λ (o : Option Evidence). option_map end_of o ≡ Some at.1) none k.ended))
 
-    pub goes-ended : (x : EventResult) → x ≡ told_as end → RefinesRun m refines (awake v before) p →
+    pub goes-ended : (x : EventResult) → x ≡ result_of end → RefinesRun m refines (awake v before) p →
         HasHappened m refines (awake later (Some end)) p (run_event_if_open p.ended s F R m p e) x
     goes-ended x told st = subst (λ (y : EventResult). HasHappened m refines (awake later (Some end)) p (run_event_if_open p.ended s F R m p e) y) (sym told) (goes-then p.ended st)

@@ -1,4 +1,5 @@
--- What the books of a world hold.
+-- How the code keeps the two books. The book of claims answers as the model's list does. Each string stands under its
+-- digest, so different strings of one digest are found.
 use Rattle.std.specs.Prelude.{◌≡◌, ℕ, Bool, cond, List, ◌∷◌, Option, Some, None}
 use Rattle.std.specs.Cmp.Lexicographic.{slice_cmp}
 use Rattle.std.specs.List.{list_any}

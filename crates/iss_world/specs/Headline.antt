@@ -1,4 +1,6 @@
--- What an event promises of a world that stood for the run of the events before it.
+-- What an event promises for a world that refined the run of the events before it: it refines the run with this event.
+-- The recovery theorem holds for that run, numbers agree between nodes, and no leaf signs two statements over all
+-- restarts.
 use Rattle.std.specs.Prelude.{◌≡◌, ℕ, true, List, Some, slice_get}
 use Rattle.iss_disk.specs.declared.memory.MemoryDisk.{MemoryDisk}
 use Rattle.iss_keep.specs.Deeds.{deeds_of}
@@ -44,6 +46,7 @@ SignOnce {M = M} {Msg = Msg} s m v = (i : ℕ) (g : KeptState M Msg MemoryDisk) 
 -- The world stands for the run of these events, up to its end if it has ended. Whatever disks failed and cores were made anew, the run
 -- leads to what nodes come to that never stop, by the events that were kept: one log, with the same numbers; each request that a
 -- correct node took and kept is in one place; certificates are of logs, what was adopted was delivered, and an end has evidence.
+-- rule: Runs: After each event the world refines the run with that event
 pub record IsHeadline {M Msg : Type 0} (s : Setup) (m : Module Msg) (refines : Relation M Msg)
     (v : WorldState M Msg) (events : List Event) : Type 0 where
   pub run : RefinesEvents s m refines v events

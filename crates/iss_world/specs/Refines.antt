@@ -1,4 +1,6 @@
--- Which run, in which disks fail and cores are made anew, the running cores and a world stand for, and what an event made of it.
+-- When a simulation and a world refine a run with disk failures and restarts, and what an event made of it. A kept
+-- node refines a core over its disk: it is at the core, or its disk has failed and it shows the core's log and epoch.
+-- Its entries are the events that the disk keeps. The networks are the same, and the books hold what the run's hold.
 use Rattle.std.specs.Prelude.{◌≡◌, ◌⊎◌, ◌↔◌, ℕ, Bool, true, false, List, [], ◌∷◌, ◌++◌, length, Option, Some, None, option_map, reverse, slice_get}
 use Rattle.iss_rules.specs.Ends.{End, Forged, Collision}
 use Rattle.iss_rules.specs.declared.events.NodeEvent.{NodeEvent}
@@ -126,6 +128,7 @@ pub record WorldRefinesMachines {M Msg : Type 0} (m : Module Msg) (refines : Rel
   pub simulation : RefinesMachines m refines v.simulation w
 
 -- its run has ended so, and it shows what was held before
+-- rule: Evidence: A world whose run has ended repeats its evidence and shows the state before it
 pub record HasEnded {M Msg : Type 0} (m : Module Msg) (v : WorldState M Msg) (h : Held Msg) (end : End) : Type 0 where
   pub fresh : v.stale ≡ false
   pub ended : option_map end_of v.ended ≡ Some end
@@ -144,9 +147,9 @@ abbrev pub awake : {M Msg : Type 0} → SimulationState M Msg → Option Evidenc
 awake v end = record { simulation = v; ended = end; stale = false }
 
 -- the answer of a run that has ended
-abbrev pub told_as : Evidence → EventResult
-told_as (Evidence_forged claim) = Result_forged claim.by claim.statement claim.sig
-told_as (Evidence_collision first second) = Result_collision first second
+abbrev pub result_of : Evidence → EventResult
+result_of (Evidence_forged claim) = Result_forged claim.by claim.statement claim.sig
+result_of (Evidence_collision first second) = Result_collision first second
 
 abbrev pub why_ended : Option (ℕ × End) → Option End
 why_ended None = None

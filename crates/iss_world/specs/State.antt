@@ -1,4 +1,5 @@
--- What is seen of a world.
+-- What is seen of a world: set-up, kept nodes over their disks, network, books, why the run ended, and whether memory
+-- ran out.
 use Rattle.std.specs.Prelude.{ℕ, Bool, List, Option}
 use Rattle.iss_network.specs.Network.{Network}
 use Rattle.iss_disk.specs.declared.memory.MemoryDisk.{MemoryDisk}

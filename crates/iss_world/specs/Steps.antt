@@ -1,4 +1,5 @@
--- One step of a core, from the test of what it claims to what is kept, booked and posted.
+-- One step of a core in the world: test what it claims, step and journal, test what it made, book it and post it.
+-- Where the disk fails nothing of the step comes out.
 use Rattle.std.specs.Prelude.{◌≡◌, ℕ, true, false, cond, List, Option, Some, None, reverse, slice_get, take}
 use Rattle.iss_base.specs.Lists.{first_of, set_at}
 use Rattle.iss_rules.specs.Ends.{End, Forged}

@@ -174,6 +174,7 @@ impl Claims {
 }
 
 /// Books the claims of a core's step, if its node is correct.
+// rule: Evidence: The claims that correct nodes send are booked, and none of a faulty node
 pub fn book_own(
     alloc: Global,
     setup: &Setup,

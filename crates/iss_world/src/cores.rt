@@ -28,6 +28,7 @@ pub fn cores_of(setup: &Setup) -> u32
 }
 
 /// The node that a core runs.
+// rule: Runs: A faulty node runs as two cores with the same keys
 pub fn node_of(setup: &Setup, core: u32) -> NodeId
     requires good { IsGoodSetup setup.now }
     requires core { core < cores_of setup.now }

@@ -34,6 +34,7 @@ pub fn post_all(
 }
 
 // Posts the packets of one send.
+// rule: Network: A send to all is a packet for each core, a send to a node one for each of its cores
 fn post_send(
     network: &mut Network,
     setup: &Setup,

@@ -13,6 +13,7 @@ use iss_segment::sign_request;
 use std::alloc::Global;
 
 /// The packet of a request that its client signs, by the leaf of the request's number.
+// rule: Signatures: A request of a schedule is signed by its client, with the leaf of its number
 pub fn request_packet<M: Sequenced>(
     alloc: Global,
     setup: &Setup,

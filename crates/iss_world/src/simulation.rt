@@ -75,6 +75,7 @@ impl<M: Sequenced> Simulation<M> {
     }
 
     /// The event happens. After want of memory nothing is said of the cores.
+    // rule: Network: An ask goes to each core of the node that is asked, for the asker's own epoch
     pub fn event(&mut self, alloc: Global, event: &Event) -> Result<EventOutcome, NoMemory>
         requires range { IsInRange self.old.setup event.now }
         requires standing { RefinesSome M.spec M.refines self.old }
@@ -133,6 +134,8 @@ impl<M: Sequenced> Simulation<M> {
     }
 
     // A packet is taken by its core, whether or not it waits.
+    // rule: Network: A delivered packet is taken by its core, whether or not it still waits
+    // rule: Recovery: A missing packet is reported before the disk is asked
     fn deliver(&mut self, alloc: Global, packet: u64) -> Result<EventOutcome, NoMemory>
         requires { RefinesSome M.spec M.refines self.old }
         ensures happened { IfOk result (λ r. (w : Machines M.Msg) → RefinesMachines M.spec M.refines self.old w →
@@ -149,6 +152,7 @@ impl<M: Sequenced> Simulation<M> {
     }
 
     // A packet waits no more.
+    // rule: Network: A lost packet waits no more
     fn lose(&mut self, packet: u64) -> EventOutcome
         ensures happened { (w : Machines M.Msg) → RefinesMachines M.spec M.refines self.old w →
             HasChanged M.spec M.refines self.new (loses w packet (nth w.held.net.network.packets packet)) result }
@@ -198,6 +202,7 @@ impl<M: Sequenced> Simulation<M> {
     }
 
     // So many pumps, fewer where one finds nothing, or ends the run.
+    // rule: Network: A calm is n pumps, fewer if one finds nothing or ends the run
     fn calm(&mut self, alloc: Global, most: u32) -> Result<EventOutcome, NoMemory>
         requires { RefinesSome M.spec M.refines self.old }
         ensures happened { IfOk result (λ r. (w : Machines M.Msg) → RefinesMachines M.spec M.refines self.old w →
@@ -250,6 +255,7 @@ impl<M: Sequenced> Simulation<M> {
     }
 
     // A core is made anew of what its disk keeps. What waits for it, and whether pumps pass over it, stays.
+    // rule: Recovery: A recovered core is that of its kept events; it sends nothing and its packets still wait
     fn restart(&mut self, core: u32) -> Result<EventOutcome, NoMemory>
         requires core { core < cores_of self.old.setup }
         requires standing { RefinesSome M.spec M.refines self.old }
@@ -264,6 +270,7 @@ impl<M: Sequenced> Simulation<M> {
     }
 
     // So many calls of a core's disk pass from now on, and all others fail until it is made anew.
+    // rule: Recovery: After a crash n more disk calls of a core pass, and all others fail until it recovers
     fn crash(&mut self, core: u32, calls: u32) -> EventOutcome
         requires { core < cores_of self.old.setup }
         ensures happened { (w : Machines M.Msg) → RefinesMachines M.spec M.refines self.old w →

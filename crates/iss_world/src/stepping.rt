@@ -91,6 +91,8 @@ fn ends(
 
 impl<M: Sequenced> Simulation<M> {
     // A core takes an event, unless its disk has failed, or what the event claims is forged.
+    // rule: Evidence: A verified claim that its correct signer never sent ends the run before the step
+    // rule: Recovery: A core whose disk has failed takes and reads nothing until it recovers
     pub(crate) fn take(
         &mut self,
         alloc: Global,
@@ -120,6 +122,7 @@ impl<M: Sequenced> Simulation<M> {
     }
 
     // A core whose disk has not failed takes an event whose claims were tested.
+    // rule: Recovery: An event that is not kept is lost (`Stopped`), and the core is as it was before
     fn step(&mut self, alloc: Global, core: u32, event: NodeEvent) -> Result<EventOutcome, NoMemory>
         requires core { core < cores_of self.old.setup }
         requires nodes { IsOfNodes self.old.setup.n event }
@@ -139,6 +142,7 @@ impl<M: Sequenced> Simulation<M> {
     }
 
     // A core has taken a step and kept it, which ends the run or is done.
+    // rule: Evidence: A world whose run has ended repeats its evidence and shows the state before it
     fn taken(
         &mut self,
         alloc: Global,

@@ -61,6 +61,7 @@ impl Strings {
     }
 
     /// Books the strings of a step, one after the other, up to one that differs from a string of its digest.
+    // rule: Evidence: Two strings of one digest end the run, and the earlier one is named first
     pub fn book(
         &mut self,
         directory: &Directory,

@@ -6,10 +6,10 @@ ghost use Rattle.iss_model.specs.Courses.{Course, Machines, begin_machines};
 ghost use Rattle.iss_model.specs.CourseFrames.{run_event_if_open_in};
 ghost use Rattle.iss_rules.specs.Setups.{IsSetupOf};
 ghost use Rattle.iss_schedule.specs.Events.{AreInRange, IsInRange};
-ghost use Rattle.iss_schedule.specs.declared.schedules.Event.{Event as Happens};
+ghost use Rattle.iss_schedule.specs.declared.schedules.Event.{Event as ScheduleEvent};
 ghost use Rattle.iss_world.specs.Headline.{IsAnswered, IsHeadline, RefinesEvents};
 ghost use Rattle.iss_world.specs.Shape.{IsWorld};
-ghost use Rattle.iss_world.specs.Refines.{HasHappened, IsOverOr, IsStaleOr, RefinesMachine, RefinesRun, RefinesSome, WorldRefinesMachines, awake, log_at, told_as};
+ghost use Rattle.iss_world.specs.Refines.{HasHappened, IsOverOr, IsStaleOr, RefinesMachine, RefinesRun, RefinesSome, WorldRefinesMachines, awake, log_at, result_of};
 
 use crate::ends::{EventOutcome, Evidence};
 use crate::simulation::Simulation;
@@ -97,11 +97,15 @@ impl<M: Sequenced> World<M> {
     /// that a correct node took and kept is in its log, waits there or is in flight. The certificates that correct nodes keep are of logs
     /// of correct nodes, and what correct nodes adopted was delivered at one (ISS, whole protocol; crashes and recovery). No leaf of a
     /// core's keys signs two statements, over all restarts.
+    // rule: Runs: A node or a world that ran out of memory says so from then on
+    // rule: Runs: After each event the world refines the run with that event
+    // rule: Checkpoints: A certificate that a correct node keeps certifies the log of a correct signer
+    // rule: Transfer: A value that a correct node adopted was delivered in that slot by a correct node
     pub fn event(&mut self, alloc: Global, event: &Event) -> EventResult
         requires { IsInRange self.old.simulation.setup event.now }
         ensures happened { (p : Course M.Msg) → RefinesRun M.spec M.refines self.old p →
             HasHappened M.spec M.refines self.new p (run_event_if_open_in (frame_of self.old.simulation.setup M.spec) p event.now) result }
-        ensures headline { (events : List Happens) → AreInRange self.old.simulation.setup events →
+        ensures headline { (events : List ScheduleEvent) → AreInRange self.old.simulation.setup events →
             RefinesEvents self.old.simulation.setup M.spec M.refines self.old events → IsAnswered result →
             IsHeadline self.old.simulation.setup M.spec M.refines self.new (events ++ event.now ∷ []) }
         ensures stale { IsStaleOr self.old self.new result }
@@ -203,7 +207,7 @@ fn run_event<M: Sequenced>(
 
 // The answer to an event of a run that has ended.
 fn repeat_evidence(end: &Evidence) -> Result<EventResult, NoMemory>
-    ensures { IfOk result (λ r. r ≡ told_as end.now) }
+    ensures { IfOk result (λ r. r ≡ result_of end.now) }
 {
     match end {
         Evidence::Forged(claim) => Ok(EventResult::Forged {

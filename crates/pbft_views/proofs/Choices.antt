@@ -161,7 +161,7 @@ module _ (p : Params) (v s : ℕ) where
       go : Split s x.certificates (certificates_of xs) → Chosen xs s → Chosen (x ∷ xs) s
       go (front e q i up over) r = some e q (record {
         change = x;
-        refines = inl refl;
+        stands = inl refl;
         holds = i;
         slot = (best-in s (x.certificates ++ certificates_of xs) e q).1;
         high = high;
@@ -181,7 +181,7 @@ module _ (p : Params) (v s : ℕ) where
       ])
       go (behind q lower) (some e b is) = some e (q ∙ b) (record {
         change = is.change;
-        refines = inr is.refines;
+        stands = inr is.stands;
         holds = is.holds;
         slot = is.slot;
         high = high;

@@ -5,15 +5,15 @@ use Rattle.iss_base.proofs.Lists.{in_append, in_left, in_right}
 use Rattle.iss_request.specs.declared.ids.Slot.{Slot}
 use Rattle.iss_sb.specs.declared.effects.Claim.{Claim}
 use Rattle.iss_sb.specs.declared.effects.Params.{Params}
-use Rattle.iss_sb.specs.Statements.{statement_head, two_bytes}
+use Rattle.iss_sb.specs.Statements.{claim, statement_head, two_bytes}
 use Rattle.pbft_wire.specs.declared.messages.Certificate.{Certificate}
 use Rattle.pbft_wire.specs.declared.messages.Change.{Change}
-use Rattle.pbft_wire.specs.declared.messages.Vote.{Vote}
+use Rattle.iss_sb.specs.declared.signers.Signed.{Signed}
 use Rattle.pbft_wire.specs.declared.messages.Message.{Message}
 use Rattle.pbft_wire.specs.declared.messages.Message.TheVariants.{PrePrepare, Prepare, Commit, ViewChange, NewView}
 use Rattle.pbft_wire.specs.Statements.{digest_of, state_at, statement, tag}
 use Rattle.pbft_views.specs.Choice.{choice}
-use Rattle.pbft_views.specs.Claims.{certificate_claims, certificates_claims, change_claims, changes_claims, chosen_claims, claim, claims, vote_claims}
+use Rattle.pbft_views.specs.Claims.{certificate_claims, certificates_claims, change_claims, changes_claims, chosen_claims, claims, vote_claims}
 use Rattle.pbft_views.specs.Good.{primary}
 
 -- ---- each claim names its instance
@@ -34,9 +34,9 @@ named-more p by kind v fields sig cs more c (inr h) = more c h
 named-both : (p : Params) (cs ds : List Claim) → AreNamed p cs → AreNamed p ds → AreNamed p (cs ++ ds)
 named-both p cs ds left right c h = elim (in_append c cs ds h) [ inl k ↦ left c k | inr k ↦ right c k ]
 
-votes-named : (p : Params) (v s : ℕ) (d : List ℕ) (xs : List Vote) → AreNamed p (vote_claims p v s d xs)
+votes-named : (p : Params) (v s : ℕ) (d : List ℕ) (xs : List Signed) → AreNamed p (vote_claims p v s d xs)
 votes-named p v s d [] = named-none p
-votes-named p v s d (x ∷ xs) = named-more p x.node.0 2 v _ x.sig _ (votes-named p v s d xs)
+votes-named p v s d (x ∷ xs) = named-more p x.by.0 2 v _ x.sig _ (votes-named p v s d xs)
 
 certificates-named : (p : Params) (cs : List Certificate) → AreNamed p (certificates_claims p cs)
 certificates-named p [] = named-none p
@@ -108,12 +108,12 @@ chosen-claim p by v xs (s ∷ ss) (sig ∷ sigs) t (inl e) = record { slot = s; 
 chosen-claim p by v xs (s ∷ ss) (sig ∷ sigs) t (inr h) = let r = chosen-claim p by v xs ss sigs t h in record { slot = r.slot; within = inr r.within; by_sender = r.by_sender; is = r.is }
 
 -- a Prepare's claim in a certificate
-pub record IsVoteClaim (p : Params) (v s : ℕ) (d : List ℕ) (xs : List Vote) (t : Claim) : Type 0 where
-  pub vote : Vote
-  pub refines : In vote xs
-  pub is : t ≡ claim vote.node.0 (state_at p 2 v s d) vote.sig
+pub record IsVoteClaim (p : Params) (v s : ℕ) (d : List ℕ) (xs : List Signed) (t : Claim) : Type 0 where
+  pub vote : Signed
+  pub stands : In vote xs
+  pub is : t ≡ claim vote.by.0 (state_at p 2 v s d) vote.sig
 
-pub vote-claim : (p : Params) (v s : ℕ) (d : List ℕ) (xs : List Vote) (t : Claim) → In t (vote_claims p v s d xs) → IsVoteClaim p v s d xs t
+pub vote-claim : (p : Params) (v s : ℕ) (d : List ℕ) (xs : List Signed) (t : Claim) → In t (vote_claims p v s d xs) → IsVoteClaim p v s d xs t
 vote-claim p v s d [] t h = absurd h
-vote-claim p v s d (x ∷ xs) t (inl e) = record { vote = x; refines = inl refl; is = e }
-vote-claim p v s d (x ∷ xs) t (inr h) = let r = vote-claim p v s d xs t h in record { vote = r.vote; refines = inr r.refines; is = r.is }
+vote-claim p v s d (x ∷ xs) t (inl e) = record { vote = x; stands = inl refl; is = e }
+vote-claim p v s d (x ∷ xs) t (inr h) = let r = vote-claim p v s d xs t h in record { vote = r.vote; stands = inr r.stands; is = r.is }

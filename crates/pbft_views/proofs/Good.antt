@@ -11,14 +11,14 @@ use Rattle.iss_sb.specs.Calls.{has_slot}
 use Rattle.iss_sb.proofs.Slots.{has_slot-In}
 use Rattle.pbft_wire.specs.declared.messages.Certificate.{Certificate}
 use Rattle.pbft_wire.specs.declared.messages.Change.{Change}
-use Rattle.pbft_wire.specs.declared.messages.Vote.{Vote}
+use Rattle.iss_sb.specs.declared.signers.Signed.{Signed}
 use Rattle.pbft_views.specs.Good.{all_good, are_changes, are_enough, are_voters, is_good, primary}
 use Rattle.pbft_views.specs.Laws.{HasChanges, HasVotes, makers_of, nodes_of}
 use Rattle.pbft_views.proofs.Numbers.{apart-cons, below-from, mem-cases}
 
 -- ---- voters
 
-pub nodes-length : (xs : List Vote) → length (nodes_of xs) ≡ length xs
+pub nodes-length : (xs : List Signed) → length (nodes_of xs) ≡ length xs
 nodes-length [] = refl
 nodes-length (x ∷ xs) = ap suc (nodes-length xs)
 
@@ -27,35 +27,35 @@ pub record IsVoter (p : Params) (but from j : ℕ) : Type 0 where
   pub high : j < p.setup.n
   pub other : (j == but) ≡ false
 
-record Voters (p : Params) (but from : ℕ) (x : Vote) (xs : List Vote) : Type 0 where
-  pub first : IsVoter p but from x.node.0
-  pub rest : are_voters p but (suc x.node.0) xs ≡ true
+record Voters (p : Params) (but from : ℕ) (x : Signed) (xs : List Signed) : Type 0 where
+  pub first : IsVoter p but from x.by.0
+  pub rest : are_voters p but (suc x.by.0) xs ≡ true
 
-voters-parts : (p : Params) (but from : ℕ) (x : Vote) (xs : List Vote) → are_voters p but from (x ∷ xs) ≡ true → Voters p but from x xs
+voters-parts : (p : Params) (but from : ℕ) (x : Signed) (xs : List Signed) → are_voters p but from (x ∷ xs) ≡ true → Voters p but from x xs
 voters-parts p but from x xs h =
-    let a = and-true (nat_le from x.node.0 && (nat_lt x.node.0 p.setup.n && not (x.node.0 == but))) (are_voters p but (suc x.node.0) xs) h in
-    let b = and-true (nat_le from x.node.0) (nat_lt x.node.0 p.setup.n && not (x.node.0 == but)) a.0 in
-    let c = and-true (nat_lt x.node.0 p.setup.n) (not (x.node.0 == but)) b.1 in
-    record { first = record { low = leb-true from x.node.0 b.0; high = ltb-true x.node.0 p.setup.n c.0; other = not-true (x.node.0 == but) c.1 }; rest = a.1 }
+    let a = and-true (nat_le from x.by.0 && (nat_lt x.by.0 p.setup.n && not (x.by.0 == but))) (are_voters p but (suc x.by.0) xs) h in
+    let b = and-true (nat_le from x.by.0) (nat_lt x.by.0 p.setup.n && not (x.by.0 == but)) a.0 in
+    let c = and-true (nat_lt x.by.0 p.setup.n) (not (x.by.0 == but)) b.1 in
+    record { first = record { low = leb-true from x.by.0 b.0; high = ltb-true x.by.0 p.setup.n c.0; other = not-true (x.by.0 == but) c.1 }; rest = a.1 }
 
-pub voter-at : (p : Params) (but from : ℕ) (xs : List Vote) (j : ℕ) → are_voters p but from xs ≡ true → mem j (nodes_of xs) ≡ true → IsVoter p but from j
+pub voter-at : (p : Params) (but from : ℕ) (xs : List Signed) (j : ℕ) → are_voters p but from xs ≡ true → mem j (nodes_of xs) ≡ true → IsVoter p but from j
 voter-at p but from [] j h m = absurd (false≢true m)
 voter-at p but from (x ∷ xs) j h m =
     let v = voters-parts p but from x xs h in
-    elim (mem-cases j x.node.0 (nodes_of xs) m) [
+    elim (mem-cases j x.by.0 (nodes_of xs) m) [
       | inl e ↦ subst (λ (z : ℕ). IsVoter p but from z) (sym e) v.first
       | inr k ↦
-          let r = voter-at p but (suc x.node.0) xs j v.rest k in
+          let r = voter-at p but (suc x.by.0) xs j v.rest k in
           let l = v.first.low in
           let o = r.low in
           record { low = omega (arith, l, o); high = r.high; other = r.other }
     ]
 
-voters-apart : (p : Params) (but from : ℕ) (xs : List Vote) → are_voters p but from xs ≡ true → distinct (nodes_of xs) ≡ true
+voters-apart : (p : Params) (but from : ℕ) (xs : List Signed) → are_voters p but from xs ≡ true → distinct (nodes_of xs) ≡ true
 voters-apart p but from [] h = refl
 voters-apart p but from (x ∷ xs) h =
     let v = voters-parts p but from x xs h in
-    apart-cons x.node.0 (nodes_of xs) (λ m. let r = voter-at p but (suc x.node.0) xs x.node.0 v.rest m in let l = r.low in absurd (omega (arith, l))) (voters-apart p but (suc x.node.0) xs v.rest)
+    apart-cons x.by.0 (nodes_of xs) (λ m. let r = voter-at p but (suc x.by.0) xs x.by.0 v.rest m in let l = r.low in absurd (omega (arith, l))) (voters-apart p but (suc x.by.0) xs v.rest)
 
 -- ---- certificates
 

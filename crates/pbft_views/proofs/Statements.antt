@@ -48,7 +48,7 @@ at-same p k l v w s t d e h =
 -- a certificate of that slot, view and digest
 pub record HasMark (p : Params) (c : Certificate) (cs : List Certificate) : Type 0 where
   pub other : Certificate
-  pub refines : In other cs
+  pub stands : In other cs
   pub slot : other.slot.0 ≡ c.slot.0
   pub view : other.view ≡ c.view
   pub digest : digest_of p other.value ≡ digest_of p c.value
@@ -69,12 +69,12 @@ marks-same p (x ∷ cs) (y ∷ ds) c n e h =
     elim h [
       | inl q ↦ record {
         other = y;
-        refines = inl refl;
+        stands = inl refl;
         slot = sym a.0 ∙ ap (λ (z : Certificate). z.slot.0) (sym q);
         view = sym b.0 ∙ ap (λ (z : Certificate). z.view) (sym q);
         digest = sym d.0 ∙ ap (λ (z : Certificate). digest_of p z.value) (sym q);
       }
-      | inr k ↦ let r = marks-same p cs ds c (same-length (length cs) (length ds) n) d.1 k in record { other = r.other; refines = inr r.refines; slot = r.slot; view = r.view; digest = r.digest }
+      | inr k ↦ let r = marks-same p cs ds c (same-length (length cs) (length ds) n) d.1 k in record { other = r.other; stands = inr r.stands; slot = r.slot; view = r.view; digest = r.digest }
     ]
 
 pub record SameChange (p : Params) (v w : ℕ) (cs ds : List Certificate) : Type 0 where

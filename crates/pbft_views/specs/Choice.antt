@@ -1,4 +1,5 @@
--- What a new view proposes at a slot, of the ViewChanges that it begins with.
+-- What a new view proposes at a slot, given the ViewChanges that it begins with: the value of the certificate of the
+-- highest view, that of the lowest node on a tie, and nil if there is none (PBFT).
 use Rattle.std.specs.Prelude.{ℕ, ◌==◌, cond, nat_lt, List, [], ◌∷◌, ◌++◌, Option, Some, None}
 use Rattle.iss_request.specs.declared.requests.Value.{Value}
 use Rattle.iss_request.specs.declared.requests.Value.TheVariants.{Nil}
@@ -30,5 +31,6 @@ value_or_nil (Some c) = c.value
 
 -- the value of the certificate of the highest view, of the least node where several have that view, since the nodes
 -- ascend; nil where there is none
+-- rule: PBFT: A new view proposes the value of the certificate of the highest view, else nil
 abbrev pub choice : List Change → ℕ → Value
 choice xs s = value_or_nil (best s (certificates_of xs))

@@ -3,21 +3,19 @@ use Rattle.std.specs.Prelude.{ℕ, List, [], ◌∷◌, ◌++◌}
 use Rattle.iss_request.specs.declared.ids.Slot.{Slot}
 use Rattle.iss_sb.specs.declared.effects.Claim.{Claim}
 use Rattle.iss_sb.specs.declared.effects.Params.{Params}
+use Rattle.iss_sb.specs.Statements.{claim}
 use Rattle.pbft_wire.specs.declared.messages.Certificate.{Certificate}
 use Rattle.pbft_wire.specs.declared.messages.Change.{Change}
-use Rattle.pbft_wire.specs.declared.messages.Vote.{Vote}
+use Rattle.iss_sb.specs.declared.signers.Signed.{Signed}
 use Rattle.pbft_wire.specs.declared.messages.Message.{Message}
 use Rattle.pbft_wire.specs.declared.messages.Message.TheVariants.{PrePrepare, Prepare, Commit, ViewChange, NewView}
 use Rattle.pbft_wire.specs.Statements.{digest_of, state_at, state_change, state_new}
 use Rattle.pbft_views.specs.Choice.{choice}
 use Rattle.pbft_views.specs.Good.{primary}
 
-abbrev pub claim : ℕ → List ℕ → List ℕ → Claim
-claim by statement sig = record { by = record { 0 = by }; statement = statement; sig = sig }
-
-abbrev pub vote_claims : Params → ℕ → ℕ → List ℕ → List Vote → List Claim
+abbrev pub vote_claims : Params → ℕ → ℕ → List ℕ → List Signed → List Claim
 vote_claims p v s d [] = []
-vote_claims p v s d (x ∷ xs) = claim x.node.0 (state_at p 2 v s d) x.sig ∷ vote_claims p v s d xs
+vote_claims p v s d (x ∷ xs) = claim x.by.0 (state_at p 2 v s d) x.sig ∷ vote_claims p v s d xs
 
 -- of the primary's PrePrepare, and of the Prepares
 abbrev pub certificate_claims : Params → Certificate → List Claim
@@ -41,6 +39,7 @@ chosen_claims p by v xs [] sigs = []
 chosen_claims p by v xs (s ∷ ss) [] = []
 chosen_claims p by v xs (s ∷ ss) (sig ∷ sigs) = claim by (state_at p 1 v s.0 (digest_of p (choice xs s.0))) sig ∷ chosen_claims p by v xs ss sigs
 
+-- rule: PBFT: A message claims each signature in it, in the order of its bytes
 abbrev pub claims : Params → ℕ → Message → List Claim
 claims p by (PrePrepare v slot x sig) = claim by (state_at p 1 v slot.0 (digest_of p x)) sig ∷ []
 claims p by (Prepare v slot d sig) = claim by (state_at p 2 v slot.0 d) sig ∷ []

@@ -1,4 +1,4 @@
--- What a good certificate has, and what the choice of a new view is, said once more without the functions that find them.
+-- What a good certificate has, and what the choice of a new view is, restated without the functions that compute them.
 use Rattle.std.specs.Prelude.{◌≡◌, ◌<◌, ◌≤◌, ℕ, ◌+◌, ◌*◌, true, List, [], ◌∷◌, length}
 use Rattle.iss_base.specs.Lists.{In}
 use Rattle.iss_base.specs.Quorum.{all_below, distinct}
@@ -8,12 +8,12 @@ use Rattle.iss_request.specs.declared.requests.Value.TheVariants.{Nil}
 use Rattle.iss_sb.specs.declared.effects.Params.{Params}
 use Rattle.pbft_wire.specs.declared.messages.Certificate.{Certificate}
 use Rattle.pbft_wire.specs.declared.messages.Change.{Change}
-use Rattle.pbft_wire.specs.declared.messages.Vote.{Vote}
+use Rattle.iss_sb.specs.declared.signers.Signed.{Signed}
 use Rattle.pbft_views.specs.Good.{primary}
 
-abbrev pub nodes_of : List Vote → List ℕ
+abbrev pub nodes_of : List Signed → List ℕ
 nodes_of [] = []
-nodes_of (x ∷ xs) = x.node.0 ∷ nodes_of xs
+nodes_of (x ∷ xs) = x.by.0 ∷ nodes_of xs
 
 abbrev pub makers_of : List Change → List ℕ
 makers_of [] = []
@@ -38,7 +38,7 @@ pub record HasChanges (p : Params) (v : ℕ) (xs : List Change) : Type 0 where
 -- of the slot none is of a higher view, and none of that view is of a lower node
 pub record IsHighest (xs : List Change) (s : ℕ) (c : Certificate) : Type 0 where
   pub change : Change
-  pub refines : In change xs
+  pub stands : In change xs
   pub holds : In c change.certificates
   pub slot : c.slot.0 ≡ s
   pub high : (y : Change) (d : Certificate) → In y xs → In d y.certificates → d.slot.0 ≡ s → d.view ≤ c.view

@@ -50,6 +50,7 @@ pub fn best<'a>(slot: Slot, certificates: &'a [Certificate]) -> Option<&'a Certi
 }
 
 /// The certificate of the highest view at the slot among those of ViewChanges, the first of these.
+// rule: PBFT: A new view proposes the value of the certificate of the highest view, else nil
 pub fn best_shown<'a>(slot: Slot, changes: &'a [Change]) -> Option<&'a Certificate>
     ensures { option_copied result ≡ best slot.0 (certificates_of changes.now) }
 {

@@ -5,15 +5,16 @@ ghost use Rattle.pbft_wire.specs.Marks.{mark_of};
 ghost use Rattle.pbft_wire.specs.Statements.{digest_of, state_at};
 ghost use Rattle.pbft_wire.specs.declared.messages.Message.TheVariants.{NewView, PrePrepare, ViewChange};
 ghost use Rattle.pbft_views.specs.Choice.{choice};
-ghost use Rattle.pbft_views.specs.Claims.{certificate_claims, certificates_claims, change_claims, changes_claims, chosen_claims, claim, claims, vote_claims};
+ghost use Rattle.iss_sb.specs.Statements.{claim};
+ghost use Rattle.pbft_views.specs.Claims.{certificate_claims, certificates_claims, change_claims, changes_claims, chosen_claims, claims, vote_claims};
 
 use crate::choosing::choice_digest;
 use crate::goodness::primary;
 use iss_request::{Bytes, NoMemory, NodeId, Seq, Slot, Value};
-use iss_sb::{Claim, Params};
+use iss_sb::{Claim, Params, Signed};
 use pbft_wire::signing::{COMMIT, PRE_PREPARE, PREPARE};
 use pbft_wire::{
-    Certificate, Change, Mark, Message, Vote, digest_of, mark_of, state_at, state_marked, state_new,
+    Certificate, Change, Mark, Message, digest_of, mark_of, state_at, state_marked, state_new,
 };
 use std::alloc::Global;
 
@@ -36,7 +37,7 @@ fn put_vote_claims(
     p: &Params,
     mark: &Mark,
     statement: &Bytes,
-    votes: &[Vote],
+    votes: &[Signed],
     all: &mut Seq<Claim>,
 ) -> Result<(), NoMemory>
     requires { statement.now ≡ state_at p.now 2 mark.now.view mark.now.slot.0 mark.now.digest }
@@ -46,7 +47,7 @@ fn put_vote_claims(
         [] => Ok(()),
         [first, others @ ..] => {
             let again = statement.copy()?;
-            put_claim(first.node, again, &first.sig, all)?;
+            put_claim(first.by, again, &first.sig, all)?;
             put_vote_claims(p, mark, statement, others, all)
         }
     }
@@ -247,6 +248,7 @@ fn claims_of_new_view(
 
 /// What a message says that nodes have signed, in the order of its bytes. A ViewChange of more certificates than a byte
 /// counts has no statement in bytes, which is answered as want of memory.
+// rule: PBFT: A message claims each signature in it, in the order of its bytes
 pub fn claims(
     alloc: Global,
     p: &Params,

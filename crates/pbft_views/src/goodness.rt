@@ -6,8 +6,8 @@ ghost use Rattle.iss_sb.specs.Calls.{has_slot};
 ghost use Rattle.pbft_views.specs.Good.{all_good, are_changes, are_enough, are_voters, is_good, primary};
 
 use iss_request::{NodeId, Slot, Value};
-use iss_sb::Params;
-use pbft_wire::{Certificate, Change, Vote};
+use iss_sb::{Params, Signed};
+use pbft_wire::{Certificate, Change};
 
 /// The primary of a view.
 pub fn primary(p: &Params, view: u16) -> NodeId
@@ -26,17 +26,17 @@ pub fn has_slot(p: &Params, slot: Slot) -> bool
 }
 
 // Whether votes are of nodes other than this one, ascending from the first number that is allowed.
-fn are_voters(p: &Params, but: NodeId, from: u32, votes: &[Vote]) -> bool
+fn are_voters(p: &Params, but: NodeId, from: u32, votes: &[Signed]) -> bool
     requires { from ≤ 256 }
     ensures { result ≡ are_voters p.now but.0 from votes.now }
 {
     match votes {
         [] => true,
         [first, others @ ..] => {
-            let node = first.node.0 as u32;
+            let node = first.by.0 as u32;
             from <= node
                 && node < p.setup.n
-                && first.node.0 != but.0
+                && first.by.0 != but.0
                 && are_voters(p, but, node + 1, others)
         }
     }
@@ -53,6 +53,7 @@ fn is_batch(value: &Value) -> bool
 
 /// Whether a certificate is good: of a slot of the segment, with exactly 2f Prepares of different nodes other than the
 /// primary, and in view 0 with a batch.
+// rule: PBFT: A prepared certificate has Prepares of 2f distinct replicas other than the primary
 pub fn is_good(p: &Params, c: &Certificate) -> bool
     requires { IsGoodSetup p.now.setup }
     ensures { result ≡ is_good p.now c.now }
@@ -97,6 +98,7 @@ fn are_changes(p: &Params, view: u16, from: u32, changes: &[Change]) -> bool
 }
 
 /// Whether a view begins with these ViewChanges: 2f+1 of them.
+// rule: PBFT: A new view needs ViewChanges of 2f+1 distinct replicas with certificates of lower views
 pub fn are_enough(p: &Params, view: u16, changes: &[Change]) -> bool
     requires { IsGoodSetup p.now.setup }
     ensures { result ≡ are_enough p.now view changes.now }

@@ -9,12 +9,13 @@ use Rattle.iss_request.specs.Formats.{is_signature, spell_value}
 use Rattle.iss_request.specs.Parsing.{byte, number}
 use Rattle.iss_request.proofs.OneSpelling.{done_good, signature_again, signature_parts}
 use Rattle.iss_request.proofs.ParserLemmas.{byte_again, byte_parts, done_parts, test_parts, test_passed, then_good, then_parts}
+use Rattle.iss_sb.specs.Signers.{are_signers, is_signer, parse_signed, signer_of, spell_signed}
+use Rattle.iss_sb.proofs.Ascending.{IsExact, IsText, ascending-again, ascending-parts, in-front}
+use Rattle.iss_sb.proofs.SignerGrammar.{signed-exact}
 use Rattle.pbft_wire.specs.declared.messages.Certificate.{Certificate}
 use Rattle.pbft_wire.specs.declared.messages.Change.{Change}
-use Rattle.pbft_wire.specs.declared.messages.Vote.{Vote}
-use Rattle.pbft_wire.specs.Certificates.{certificate_bytes, change_bytes, fits_certificate, fits_certificates, fits_change, fits_count, fits_from, fits_slot, fits_value, fits_view, fits_vote, fits_votes, node_of_vote, parse_certificate, parse_change, parse_vote, slot_of, vote_bytes}
-use Rattle.pbft_wire.proofs.Rising.{in-front, IsExact, rising-again, rising-parts}
-use Rattle.pbft_wire.proofs.Fields.{IsText, count-again, count-parts, slot-again, slot-parts, value-again, value-parts, view-again, view-parts}
+use Rattle.pbft_wire.specs.Certificates.{certificate_bytes, change_bytes, fits_certificate, fits_certificates, fits_change, fits_count, fits_from, fits_slot, fits_value, fits_view, parse_certificate, parse_change, slot_of}
+use Rattle.pbft_wire.proofs.Fields.{count-again, count-parts, slot-again, slot-parts, value-again, value-parts, view-again, view-parts}
 
 -- ---- regrouping
 
@@ -33,32 +34,6 @@ counted-four a b c d n v r = simp append_assoc
 pub counted-twice : (a : List ℕ) (n : ℕ) (b : List ℕ) (k : ℕ) (c d r : List ℕ) → (a ++ (n ∷ (b ++ (k ∷ (c ++ d))))) ++ r ≡ a ++ (n ∷ (b ++ (k ∷ (c ++ (d ++ r)))))
 counted-twice a n b k c d r = simp append_assoc
 
--- ---- votes
-
-vote-again : (x : Vote) (from : ℕ) (rest : List ℕ) → fits_vote from x ≡ true → parse_vote from (vote_bytes x ++ rest) ≡ Good x rest
-unfolding parse_vote
-vote-again x from rest e =
-    let u = and-true (nat_le from x.node.0) (is_signature x.sig) e in
-    then_good _ _ _ (x.sig ++ rest) rest x.node.0 x (test_passed (λ k. nat_le from k) byte _ _ x.node.0 (byte_again x.node.0 (x.sig ++ rest)) u.0)
-    (then_good _ _ _ rest rest x.sig x (signature_again x.sig rest u.1) (done_good x rest))
-
-vote-parts : (from : ℕ) (bytes rest : List ℕ) (x : Vote) → parse_vote from bytes ≡ Good x rest → IsText (fits_vote from x) (vote_bytes x) bytes rest
-unfolding parse_vote
-vote-parts from bytes rest x e =
-    let a = then_parts _ _ bytes rest x e in
-    let b = then_parts _ _ a.mid rest x a.second in
-    let made : Vote = record { node = record { 0 = a.thing }; sig = b.thing } in
-    let d = done_parts made x b.mid rest b.second in
-    let node = test_parts (λ k. nat_le from k) byte bytes a.mid a.thing a.first in
-    let sig = signature_parts a.mid b.mid b.thing b.first in
-    subst (λ (z : Vote). IsText (fits_vote from z) (vote_bytes z) bytes rest) d.0 (record {
-      parts = byte_parts bytes a.mid a.thing node.0 ∙ ap (λ (z : List ℕ). a.thing ∷ z) (sig.parts ∙ in-front b.thing d.1);
-      fits = both _ _ node.1 sig.shape;
-    })
-
-vote-exact : IsExact parse_vote fits_vote vote_bytes
-vote-exact = record { again = vote-again; parts = vote-parts }
-
 module _ (version : ℕ) where
   -- ---- certificates
 
@@ -66,23 +41,23 @@ module _ (version : ℕ) where
   unfolding parse_certificate
   certificate-again c from rest e =
       let a = and-true (nat_le from c.slot.0) (fits_certificate version c) e in
-      let b = and-true (fits_slot c.slot.0) (fits_view c.view && (fits_value version c.value && (is_signature c.sig && (fits_count (length c.prepares) && fits_votes 0 c.prepares)))) a.1 in
-      let d = and-true (fits_view c.view) (fits_value version c.value && (is_signature c.sig && (fits_count (length c.prepares) && fits_votes 0 c.prepares))) b.1 in
-      let f = and-true (fits_value version c.value) (is_signature c.sig && (fits_count (length c.prepares) && fits_votes 0 c.prepares)) d.1 in
-      let g = and-true (is_signature c.sig) (fits_count (length c.prepares) && fits_votes 0 c.prepares) f.1 in
-      let h = and-true (fits_count (length c.prepares)) (fits_votes 0 c.prepares) g.1 in
-      let votes : List ℕ = flat_map vote_bytes c.prepares ++ rest in
+      let b = and-true (fits_slot c.slot.0) (fits_view c.view && (fits_value version c.value && (is_signature c.sig && (fits_count (length c.prepares) && are_signers 0 c.prepares)))) a.1 in
+      let d = and-true (fits_view c.view) (fits_value version c.value && (is_signature c.sig && (fits_count (length c.prepares) && are_signers 0 c.prepares))) b.1 in
+      let f = and-true (fits_value version c.value) (is_signature c.sig && (fits_count (length c.prepares) && are_signers 0 c.prepares)) d.1 in
+      let g = and-true (is_signature c.sig) (fits_count (length c.prepares) && are_signers 0 c.prepares) f.1 in
+      let h = and-true (fits_count (length c.prepares)) (are_signers 0 c.prepares) g.1 in
+      let votes : List ℕ = flat_map spell_signed c.prepares ++ rest in
       let after_sig : List ℕ = length c.prepares ∷ votes in
       let after_value : List ℕ = c.sig ++ after_sig in
       let after_view : List ℕ = spell_value version c.value ++ after_value in
       let after_slot : List ℕ = to_be_bytes w16 c.view ++ after_view in
-      ap (parse_certificate version from) (counted-four (to_be_bytes w64 c.slot.0) (to_be_bytes w16 c.view) (spell_value version c.value) c.sig (length c.prepares) (flat_map vote_bytes c.prepares) rest) ∙
+      ap (parse_certificate version from) (counted-four (to_be_bytes w64 c.slot.0) (to_be_bytes w16 c.view) (spell_value version c.value) c.sig (length c.prepares) (flat_map spell_signed c.prepares) rest) ∙
       then_good _ _ _ after_slot rest c.slot.0 c (test_passed (λ s. nat_le from s) (number w64) _ _ c.slot.0 (slot-again c.slot.0 after_slot b.0) a.0)
       (then_good _ _ _ after_view rest c.view c (view-again c.view after_view d.0)
       (then_good _ _ _ after_value rest c.value c (value-again version c.value after_value f.0)
       (then_good _ _ _ after_sig rest c.sig c (signature_again c.sig after_sig g.0)
       (then_good _ _ _ votes rest (length c.prepares) c (count-again (length c.prepares) votes h.0)
-      (then_good _ _ _ rest rest c.prepares c (rising-again parse_vote node_of_vote fits_vote vote_bytes vote-exact c.prepares 0 rest h.1) (done_good c rest))))))
+      (then_good _ _ _ rest rest c.prepares c (ascending-again parse_signed signer_of is_signer spell_signed signed-exact c.prepares 0 rest h.1) (done_good c rest))))))
 
   abbrev IsCertificate : ℕ → List ℕ → List ℕ → Certificate → Type 0
   IsCertificate from bytes rest c = IsText (fits_from version from c) (certificate_bytes version c) bytes rest
@@ -104,8 +79,8 @@ module _ (version : ℕ) where
       let value = value-parts version b.mid c.mid c.thing c.first in
       let sig = signature_parts c.mid d.mid d.thing d.first in
       let many = count-parts d.mid f.mid f.thing f.first in
-      let votes = rising-parts parse_vote node_of_vote fits_vote vote_bytes vote-exact f.thing 0 f.mid g.mid g.thing g.first in
-      let text : List ℕ = flat_map vote_bytes g.thing in
+      let votes = ascending-parts parse_signed signer_of is_signer spell_signed signed-exact f.thing 0 f.mid g.mid g.thing g.first in
+      let text : List ℕ = flat_map spell_signed g.thing in
       let same : f.thing ≡ length g.thing = sym votes.counted in
       let end_ : d.mid ≡ length g.thing ∷ (text ++ rest) = many.parts ∙ ap (λ (n : ℕ). n ∷ f.mid) same ∙ ap (λ (z : List ℕ). length g.thing ∷ z) (votes.parts ∙ in-front text ends.1) in
       let behind : a.mid ≡ to_be_bytes w16 b.thing ++ (spell_value version c.thing ++ (d.thing ++ (length g.thing ∷ (text ++ rest)))) = view.parts ∙ in-front (to_be_bytes w16 b.thing) (value.parts ∙ in-front (spell_value version c.thing) (sig.parts ∙ in-front d.thing end_)) in
@@ -138,7 +113,7 @@ module _ (version : ℕ) where
       ap (parse_change version x.node.0) (counted (to_be_bytes w16 x.view) (length cs) (flat_map (certificate_bytes version) cs) x.sig rest) ∙
       then_good _ _ _ (length cs ∷ all) rest x.view x (view-again x.view (length cs ∷ all) a.0)
       (then_good _ _ _ all rest (length cs) x (count-again (length cs) all d.0)
-      (then_good _ _ _ sig rest cs x (rising-again (parse_certificate version) slot_of (fits_from version) (certificate_bytes version) certificate-exact cs 0 sig d.1)
+      (then_good _ _ _ sig rest cs x (ascending-again (parse_certificate version) slot_of (fits_from version) (certificate_bytes version) certificate-exact cs 0 sig d.1)
       (then_good _ _ _ rest rest x.sig x (signature_again x.sig rest b.1) (done_good x rest))))
 
   pub record IsChange (node : ℕ) (bytes rest : List ℕ) (x : Change) : Type 0 where
@@ -157,7 +132,7 @@ module _ (version : ℕ) where
       let ends = done_parts made x d.mid rest d.second in
       let view = view-parts bytes a.mid a.thing a.first in
       let many = count-parts a.mid b.mid b.thing b.first in
-      let all = rising-parts (parse_certificate version) slot_of (fits_from version) (certificate_bytes version) certificate-exact b.thing 0 b.mid c.mid c.thing c.first in
+      let all = ascending-parts (parse_certificate version) slot_of (fits_from version) (certificate_bytes version) certificate-exact b.thing 0 b.mid c.mid c.thing c.first in
       let sig = signature_parts c.mid d.mid d.thing d.first in
       let text : List ℕ = flat_map (certificate_bytes version) c.thing in
       let same : b.thing ≡ length c.thing = sym all.counted in

@@ -7,9 +7,9 @@ use Rattle.iss_request.specs.Parsing.{◌>>=◌, byte, done, number, such_that}
 use Rattle.iss_request.specs.declared.ids.NodeId.{NodeId}
 use Rattle.iss_request.specs.declared.ids.Slot.{Slot}
 use Rattle.iss_request.specs.declared.requests.Value.TheVariants.{Nil, Batch as Value_batch}
+use Rattle.iss_sb.specs.declared.signers.Signed.{Signed}
 use Rattle.pbft_wire.specs.declared.messages.Certificate.{Certificate}
 use Rattle.pbft_wire.specs.declared.messages.Change.{Change}
-use Rattle.pbft_wire.specs.declared.messages.Vote.{Vote}
 use Rattle.pbft_wire.specs.declared.messages.Message.TheVariants.{PrePrepare, Prepare, Commit, ViewChange, NewView}
 use Rattle.pbft_wire.specs.Certificates.{count, parse_change}
 use Rattle.pbft_wire.specs.Messages.{parse, parse_at, parse_new_view, parse_view_change, spell}
@@ -23,11 +23,11 @@ node k = record { 0 = k }
 abbrev blank : List ℕ
 blank = 2 ∷ replicate (4 + 32 * 69) 0
 
-abbrev vote : ℕ → Vote
-vote k = record { node = node k; sig = blank }
+abbrev vote : ℕ → Signed
+vote k = record { by = node k; sig = blank }
 
 -- slot 259 holds the empty batch in view 1
-abbrev certificate : List Vote → Certificate
+abbrev certificate : List Signed → Certificate
 certificate prepares = record { slot = slot 259; view = 1; value = Value_batch []; sig = blank; prepares = prepares }
 
 pre_prepare_spelled : spell 1 (PrePrepare 0 (slot 259) (Value_batch []) blank) ≡ 1 ∷ 0 ∷ 0 ∷ 0 ∷ 0 ∷ 0 ∷ 0 ∷ 0 ∷ 0 ∷ 1 ∷ 3 ∷ 1 ∷ 0 ∷ blank

@@ -13,19 +13,9 @@ use Rattle.iss_request.specs.declared.requests.Value.{Value}
 use Rattle.iss_request.specs.declared.requests.Value.TheVariants.{Nil, Batch as Value_batch}
 use Rattle.iss_request.proofs.OneSpelling.{value_grammar, value_related}
 use Rattle.iss_request.proofs.ParserLemmas.{byte_again, byte_parts, number_again, number_parts, test_parts, test_passed, wide16, wide64}
+use Rattle.iss_sb.proofs.Ascending.{IsText}
 use Rattle.iss_sb.proofs.Fields.{good-bad}
 use Rattle.pbft_wire.specs.Certificates.{count, fits_count, fits_slot, fits_value, fits_view}
-
--- what was read is spelled so, and has a spelling
-pub record IsText (ok : Bool) (text bytes rest : List ℕ) : Type 0 where
-  pub parts : bytes ≡ text ++ rest
-  pub fits : ok ≡ true
-
--- and there are so many
-pub record AreText (ok : Bool) (many wanted : ℕ) (text bytes rest : List ℕ) : Type 0 where
-  pub parts : bytes ≡ text ++ rest
-  pub fits : ok ≡ true
-  pub counted : many ≡ wanted
 
 -- ---- numbers
 

@@ -1,5 +1,4 @@
 pub mod Fields
-pub mod Rising
 pub mod CertificateGrammar
 pub mod MessageGrammar
 pub mod Written

@@ -18,8 +18,8 @@ use Rattle.pbft_wire.specs.declared.messages.Message.{Message}
 use Rattle.pbft_wire.specs.declared.messages.Message.TheVariants.{PrePrepare, Prepare, Commit, ViewChange, NewView}
 use Rattle.pbft_wire.specs.Certificates.{change_bytes, fits_change, fits_count, fits_slot, fits_value, fits_view}
 use Rattle.pbft_wire.specs.Messages.{as_is, at_bytes, commit, fields_of, fits, fits_at, fits_changes, is_known, message_bytes, node_change_bytes, parse, parse_at, parse_node_change, node_of_change, fits_node_change, parse_new_view, parse_pre_prepare, parse_view_change, prepare, spell}
-use Rattle.pbft_wire.proofs.Rising.{in-front, IsExact, rising-again, rising-parts}
-use Rattle.pbft_wire.proofs.Fields.{AreText, IsText, count-again, count-parts, slot-again, slot-parts, value-again, value-parts, view-again, view-parts}
+use Rattle.iss_sb.proofs.Ascending.{AreText, IsExact, IsText, ascending-again, ascending-parts, in-front}
+use Rattle.pbft_wire.proofs.Fields.{count-again, count-parts, slot-again, slot-parts, value-again, value-parts, view-again, view-parts}
 use Rattle.pbft_wire.proofs.CertificateGrammar.{change-again, change-parts, counted-twice, fits_one, four, text_one}
 
 -- ---- signatures of PrePrepares
@@ -203,7 +203,7 @@ module _ (version : ℕ) where
       let ends = done_parts (NewView a.thing c.thing f.thing g.thing) msg g.mid rest g.second in
       let view = view-parts bytes a.mid a.thing a.first in
       let many = count-parts a.mid b.mid b.thing b.first in
-      let all = rising-parts (parse_node_change version) node_of_change (fits_node_change version) (node_change_bytes version) node_change-exact b.thing 0 b.mid c.mid c.thing c.first in
+      let all = ascending-parts (parse_node_change version) node_of_change (fits_node_change version) (node_change_bytes version) node_change-exact b.thing 0 b.mid c.mid c.thing c.first in
       let more = count-parts c.mid d.mid d.thing d.first in
       let sigs = sigs-parts d.thing d.mid f.mid f.thing f.first in
       let sig = signature_parts f.mid g.mid g.thing g.first in
@@ -236,7 +236,7 @@ module _ (version : ℕ) where
       ap (parse_new_view version) (counted-twice (to_be_bytes w16 v) (length xs) (flat_map (node_change_bytes version) xs) (length sigs) (flat_map as_is sigs) sig rest) ∙
       then_good _ _ _ (length xs ∷ all) rest v msg (view-again v (length xs ∷ all) a.0)
       (then_good _ _ _ all rest (length xs) msg (count-again (length xs) all c.0)
-      (then_good _ _ _ second rest xs msg (rising-again (parse_node_change version) node_of_change (fits_node_change version) (node_change_bytes version) node_change-exact xs 0 second c.1)
+      (then_good _ _ _ second rest xs msg (ascending-again (parse_node_change version) node_of_change (fits_node_change version) (node_change_bytes version) node_change-exact xs 0 second c.1)
       (then_good _ _ _ signed rest (length sigs) msg (count-again (length sigs) signed f.0)
       (then_good _ _ _ last rest sigs msg (sigs-again sigs last f.1)
       (then_good _ _ _ rest rest sig msg (signature_again sig rest d.1) (done_good msg rest))))))

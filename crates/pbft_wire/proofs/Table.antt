@@ -7,36 +7,22 @@ use Rattle.std.proofs.lemmas.Bool.{eq-eqb, eqb-true, leb-true, le-leb, lt-ltb, l
 use Rattle.iss_base.proofs.Lists.{and-true, both}
 use Rattle.iss_request.specs.Fields.{Good}
 use Rattle.iss_request.specs.Formats.{is_signature, spell_value}
+use Rattle.iss_sb.specs.Signers.{are_signers, spell_signed}
+use Rattle.iss_sb.proofs.Ascending.{in-front}
+use Rattle.iss_sb.proofs.SignerGrammar.{signers-are, signers-fit}
 use Rattle.pbft_wire.specs.declared.messages.Certificate.{Certificate}
 use Rattle.pbft_wire.specs.declared.messages.Change.{Change}
-use Rattle.pbft_wire.specs.declared.messages.Vote.{Vote}
 use Rattle.pbft_wire.specs.declared.messages.Message.{Message}
 use Rattle.pbft_wire.specs.declared.messages.Message.TheVariants.{PrePrepare, Prepare, Commit, ViewChange, NewView}
-use Rattle.pbft_wire.specs.Certificates.{AreSpelledCertificates, AreSpelledVotes, IsSpelledCertificate, IsSpelledChange, certificate_bytes, change_bytes, fits_certificate, fits_certificates, fits_change, fits_count, fits_slot, fits_value, fits_view, fits_votes, vote_bytes}
+use Rattle.pbft_wire.specs.Certificates.{AreSpelledCertificates, IsSpelledCertificate, IsSpelledChange, certificate_bytes, change_bytes, fits_certificate, fits_certificates, fits_change, fits_count, fits_slot, fits_value, fits_view}
 use Rattle.pbft_wire.specs.Messages.{AreSpelledChanges, AreSpelledSignatures, IsSpelledAt, IsSpelledMessage, as_is, at_bytes, fits, fits_at, fits_changes, message_bytes, node_change_bytes, parse}
 use Rattle.pbft_wire.proofs.Fields.{value-bytes, value-fits, value-spelled}
 use Rattle.pbft_wire.proofs.MessageGrammar.{message-again, message-parts}
-use Rattle.pbft_wire.proofs.Rising.{in-front}
 
 -- it has a spelling, which these bytes are
 pub record Spells (ok : Bool) (text bytes : List ℕ) : Type 0 where
   pub fits : ok ≡ true
   pub is : bytes ≡ text
-
--- ---- votes
-
-votes-table : (from : ℕ) (xs : List Vote) → fits_votes from xs ≡ true → AreSpelledVotes from xs (flat_map vote_bytes xs)
-votes-table from [] h = refl
-votes-table from (x ∷ xs) h =
-    let t = and-true (nat_le from x.node.0 && is_signature x.sig) (fits_votes (suc x.node.0) xs) h in
-    let u = and-true (nat_le from x.node.0) (is_signature x.sig) t.0 in
-    (flat_map vote_bytes xs, leb-true from x.node.0 u.0, u.1, votes-table (suc x.node.0) xs t.1, refl)
-
-votes-bytes : (from : ℕ) (xs : List Vote) (bytes : List ℕ) → AreSpelledVotes from xs bytes → Spells (fits_votes from xs) (flat_map vote_bytes xs) bytes
-votes-bytes from [] bytes h = record { fits = refl; is = h }
-votes-bytes from (x ∷ xs) bytes h =
-    let r = votes-bytes (suc x.node.0) xs h.0 h.3 in
-    record { fits = both _ _ (both _ _ (le-leb from x.node.0 h.1) h.2) r.fits; is = h.4 ∙ ap (λ (z : List ℕ). x.node.0 ∷ (x.sig ++ z)) r.is }
 
 module _ (version : ℕ) where
   -- ---- certificates
@@ -47,7 +33,7 @@ module _ (version : ℕ) where
       let d = and-true (fits_view c.view) _ b.1 in
       let f = and-true (fits_value version c.value) _ d.1 in
       let g = and-true (is_signature c.sig) _ f.1 in
-      let k = and-true (fits_count (length c.prepares)) (fits_votes 0 c.prepares) g.1 in
+      let k = and-true (fits_count (length c.prepares)) (are_signers 0 c.prepares) g.1 in
       record {
         slot_fits = ltb-true c.slot.0 (2 ^ 64) b.0;
         view_fits = ltb-true c.view (2 ^ 16) d.0;
@@ -55,19 +41,16 @@ module _ (version : ℕ) where
         value_is = value-spelled version c.value f.0;
         signed = g.0;
         few = leb-true (length c.prepares) 255 k.0;
-        votes = flat_map vote_bytes c.prepares;
-        votes_are = votes-table 0 c.prepares k.1;
+        votes = signers-are 0 c.prepares k.1;
         row = refl;
       }
 
   certificate-bytes : (c : Certificate) (bytes : List ℕ) → IsSpelledCertificate version c bytes → Spells (fits_certificate version c) (certificate_bytes version c) bytes
   certificate-bytes c bytes h =
-      let votes = votes-bytes 0 c.prepares h.votes h.votes_are in
       let value : h.value ≡ spell_value version c.value = value-bytes version c.value h.value h.value_is in
       record {
-        fits = both _ _ (lt-ltb c.slot.0 (2 ^ 64) h.slot_fits) (both _ _ (lt-ltb c.view (2 ^ 16) h.view_fits) (both _ _ (value-fits version c.value h.value h.value_is) (both _ _ h.signed (both _ _ (le-leb (length c.prepares) 255 h.few) votes.fits))));
-        is = h.row ∙ ap (λ (z : List ℕ). to_be_bytes w64 c.slot.0 ++ (to_be_bytes w16 c.view ++ (z ++ (c.sig ++ (length c.prepares ∷ h.votes))))) value
-            ∙ ap (λ (z : List ℕ). to_be_bytes w64 c.slot.0 ++ (to_be_bytes w16 c.view ++ (spell_value version c.value ++ (c.sig ++ (length c.prepares ∷ z))))) votes.is;
+        fits = both _ _ (lt-ltb c.slot.0 (2 ^ 64) h.slot_fits) (both _ _ (lt-ltb c.view (2 ^ 16) h.view_fits) (both _ _ (value-fits version c.value h.value h.value_is) (both _ _ h.signed (both _ _ (le-leb (length c.prepares) 255 h.few) (signers-fit 0 c.prepares h.votes)))));
+        is = h.row ∙ ap (λ (z : List ℕ). to_be_bytes w64 c.slot.0 ++ (to_be_bytes w16 c.view ++ (z ++ (c.sig ++ (length c.prepares ∷ flat_map spell_signed c.prepares))))) value;
       }
 
   certificates-table : (from : ℕ) (cs : List Certificate) → fits_certificates version from cs ≡ true → AreSpelledCertificates version from cs (flat_map (certificate_bytes version) cs)

@@ -1,10 +1,8 @@
--- How certificates and ViewChanges are spelled in bytes, and how they are read. Numbers have their highest byte first.
+-- How certificates and ViewChanges of PBFT are encoded and decoded. A node or slot that does not ascend is itself the
+-- field that does not fit. Numbers have their highest byte first; values follow the version of the formats.
 --
---   vote          node (1 byte), signature
---   certificate   slot (8), view (2), value, signature, count (1), so many votes with their nodes ascending
---   ViewChange    view (2), count (1), so many certificates with their slots ascending, signature
---
--- Values are spelled and read by the version of the formats.
+--   certificate   slot (8 bytes), view (2), value, signature, count (1), that many signers, strictly ascending
+--   ViewChange    view (2), count (1), that many certificates with their slots strictly ascending, signature
 use Rattle.std.specs.Prelude.{◌≡◌, ◌≤◌, ◌<◌, ℕ, suc, ◌^◌, ◌&&◌, Bool, true, nat_lt, nat_le, List, [], ◌∷◌, ◌++◌, length, Option, Some, None}
 use Rattle.std.specs.Int.{to_be_bytes, w16, w64}
 use Rattle.std.specs.List.{list_all, flat_map}
@@ -14,10 +12,10 @@ use Rattle.iss_request.specs.declared.ids.NodeId.{NodeId}
 use Rattle.iss_request.specs.declared.ids.Slot.{Slot}
 use Rattle.iss_request.specs.declared.requests.Value.{Value}
 use Rattle.iss_request.specs.declared.requests.Value.TheVariants.{Nil, Batch as Value_batch}
+use Rattle.iss_sb.specs.Ascending.{all_ascend, ascending}
+use Rattle.iss_sb.specs.Signers.{AreSigners, are_signers, parse_signers, spell_signed}
 use Rattle.pbft_wire.specs.declared.messages.Certificate.{Certificate}
 use Rattle.pbft_wire.specs.declared.messages.Change.{Change}
-use Rattle.pbft_wire.specs.declared.messages.Vote.{Vote}
-use Rattle.pbft_wire.specs.Rising.{all_rise, rising}
 
 -- ---- what has a spelling: numbers in range, counts of one byte, nodes and slots ascending
 
@@ -34,20 +32,10 @@ abbrev pub fits_value : ℕ → Value → Bool
 fits_value version Nil = true
 fits_value version (Value_batch b) = nat_le (length b) (requests_most version) && list_all has_spelling b
 
-abbrev pub node_of_vote : Vote → ℕ
-node_of_vote x = x.node.0
-
-abbrev pub fits_vote : ℕ → Vote → Bool
-fits_vote from x = nat_le from x.node.0 && is_signature x.sig
-
--- of nodes from this one on
-abbrev pub fits_votes : ℕ → List Vote → Bool
-fits_votes from xs = all_rise fits_vote node_of_vote from xs
-
 abbrev pub fits_certificate : ℕ → Certificate → Bool
 fits_certificate version c =
     fits_slot c.slot.0 &&
-    (fits_view c.view && (fits_value version c.value && (is_signature c.sig && (fits_count (length c.prepares) && fits_votes 0 c.prepares))))
+    (fits_view c.view && (fits_value version c.value && (is_signature c.sig && (fits_count (length c.prepares) && are_signers 0 c.prepares))))
 
 abbrev pub slot_of : Certificate → ℕ
 slot_of c = c.slot.0
@@ -57,30 +45,21 @@ fits_from version from c = nat_le from c.slot.0 && fits_certificate version c
 
 -- of slots from this one on
 abbrev pub fits_certificates : ℕ → ℕ → List Certificate → Bool
-fits_certificates version from cs = all_rise (fits_from version) slot_of from cs
+fits_certificates version from cs = all_ascend (fits_from version) slot_of from cs
 
 abbrev pub fits_change : ℕ → ℕ → List Certificate → List ℕ → Bool
 fits_change version v cs sig = fits_view v && ((fits_count (length cs) && fits_certificates version 0 cs) && is_signature sig)
 
 -- ---- spelling
 
-abbrev pub vote_bytes : Vote → List ℕ
-vote_bytes x = x.node.0 ∷ x.sig
-
 abbrev pub certificate_bytes : ℕ → Certificate → List ℕ
 certificate_bytes version c =
-    to_be_bytes w64 c.slot.0 ++ (to_be_bytes w16 c.view ++ (spell_value version c.value ++ (c.sig ++ (length c.prepares ∷ flat_map vote_bytes c.prepares))))
+    to_be_bytes w64 c.slot.0 ++ (to_be_bytes w16 c.view ++ (spell_value version c.value ++ (c.sig ++ (length c.prepares ∷ flat_map spell_signed c.prepares))))
 
 abbrev pub change_bytes : ℕ → ℕ → List Certificate → List ℕ → List ℕ
 change_bytes version v cs sig = to_be_bytes w16 v ++ (length cs ∷ (flat_map (certificate_bytes version) cs ++ sig))
 
 -- ---- the table as a relation between things and bytes
-
--- nodes ascend from this one on
-abbrev pub AreSpelledVotes : ℕ → List Vote → List ℕ → Type 0
-AreSpelledVotes from [] bytes = bytes ≡ []
-AreSpelledVotes from (x ∷ xs) bytes =
-    (others : List ℕ) × (from ≤ x.node.0) × (is_signature x.sig ≡ true) × AreSpelledVotes (suc x.node.0) xs others × (bytes ≡ x.node.0 ∷ (x.sig ++ others))
 
 pub record IsSpelledCertificate (version : ℕ) (c : Certificate) (bytes : List ℕ) : Type 0 where
   pub slot_fits : c.slot.0 < 2 ^ 64
@@ -89,9 +68,8 @@ pub record IsSpelledCertificate (version : ℕ) (c : Certificate) (bytes : List 
   pub value_is : IsSpelledValue version c.value value
   pub signed : is_signature c.sig ≡ true
   pub few : length c.prepares ≤ 255
-  pub votes : List ℕ
-  pub votes_are : AreSpelledVotes 0 c.prepares votes
-  pub row : bytes ≡ to_be_bytes w64 c.slot.0 ++ (to_be_bytes w16 c.view ++ (value ++ (c.sig ++ (length c.prepares ∷ votes))))
+  pub votes : AreSigners 0 c.prepares
+  pub row : bytes ≡ to_be_bytes w64 c.slot.0 ++ (to_be_bytes w16 c.view ++ (value ++ (c.sig ++ (length c.prepares ∷ flat_map spell_signed c.prepares))))
 
 -- slots ascend from this one on
 abbrev pub AreSpelledCertificates : ℕ → ℕ → List Certificate → List ℕ → Type 0
@@ -113,16 +91,6 @@ pub record IsSpelledChange (version v : ℕ) (cs : List Certificate) (sig bytes 
 unfoldable pub count : Parser ℕ
 count = such_that fits_count byte
 
--- of a node from this one on
-unfoldable pub parse_vote : ℕ → Parser Vote
-parse_vote from = do
-  node ← such_that (λ k. nat_le from k) byte
-  sig ← parse_signature
-  done (record { node = record { 0 = node }; sig = sig })
-
-abbrev pub parse_votes : ℕ → ℕ → Parser (List Vote)
-parse_votes many from = rising parse_vote node_of_vote many from
-
 -- of a slot from this one on
 unfoldable pub parse_certificate : ℕ → ℕ → Parser Certificate
 parse_certificate version from = do
@@ -131,11 +99,11 @@ parse_certificate version from = do
   value ← parse_value version
   sig ← parse_signature
   votes ← count
-  prepares ← parse_votes votes 0
+  prepares ← parse_signers votes 0
   done (record { slot = record { 0 = slot }; view = view; value = value; sig = sig; prepares = prepares })
 
 abbrev pub parse_certificates : ℕ → ℕ → ℕ → Parser (List Certificate)
-parse_certificates version many from = rising (parse_certificate version) slot_of many from
+parse_certificates version many from = ascending (parse_certificate version) slot_of many from
 
 -- of this node
 unfoldable pub parse_change : ℕ → ℕ → Parser Change

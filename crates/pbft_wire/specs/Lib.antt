@@ -1,4 +1,3 @@
-pub mod Rising
 pub mod Certificates
 pub mod Messages
 pub mod Statements

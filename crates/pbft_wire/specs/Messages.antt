@@ -1,22 +1,23 @@
--- How the messages of PBFT are spelled in bytes, and how they are read. Numbers have their highest byte first.
+-- How the messages of PBFT are encoded and decoded. The table is also stated as a relation, so each message has
+-- exactly one encoding. Numbers have their highest byte first.
 --
 --   message      its number (1 byte), its fields, its sender's signature
 --   PrePrepare   1: view (2), slot (8), value
 --   Prepare      2: view (2), slot (8), digest (32)
 --   Commit       3: view (2), slot (8), digest (32)
---   ViewChange   4: view (2), count (1), so many certificates with their slots ascending
---   NewView      5: view (2), count (1), so many ViewChanges, each a node (1) and the ViewChange's fields and signature,
---                with the nodes ascending, count (1), so many signatures
+--   ViewChange   4: view (2), count (1), that many certificates with their slots strictly ascending
+--   NewView      5: view (2), count (1), that many ViewChanges, each a node (1) and the ViewChange's fields and
+--                signature, with the nodes strictly ascending, count (1), that many signatures
 use Rattle.std.specs.Prelude.{◌≡◌, ◌≤◌, ◌<◌, ℕ, suc, ◌^◌, ◌==◌, ◌&&◌, ◌||◌, Bool, true, nat_le, List, [], ◌∷◌, ◌++◌, length, if◌then◌else◌}
 use Rattle.std.specs.Int.{to_be_bytes, w16, w64}
 use Rattle.std.specs.List.{list_all, flat_map}
 use Rattle.iss_request.specs.Formats.{IsSpelledValue, is_signature, parse_signature, parse_value, spell_value}
 use Rattle.iss_request.specs.Parsing.{Parser, ◌>>=◌, block, byte, done, number, such_that, times}
 use Rattle.iss_request.specs.declared.ids.Slot.{Slot}
+use Rattle.iss_sb.specs.Ascending.{all_ascend, ascending}
 use Rattle.pbft_wire.specs.declared.messages.Change.{Change}
 use Rattle.pbft_wire.specs.declared.messages.Message.{Message}
 use Rattle.pbft_wire.specs.declared.messages.Message.TheVariants.{PrePrepare, Prepare, Commit, ViewChange, NewView}
-use Rattle.pbft_wire.specs.Rising.{all_rise, rising}
 use Rattle.pbft_wire.specs.Certificates.{IsSpelledChange, change_bytes, count, fits_change, fits_count, fits_slot, fits_value, fits_view, parse_change}
 
 -- ---- what has a spelling
@@ -29,7 +30,7 @@ fits_node_change version from x = nat_le from x.node.0 && fits_change version x.
 
 -- ViewChanges of nodes from this one on
 abbrev pub fits_changes : ℕ → ℕ → List Change → Bool
-fits_changes version from xs = all_rise (fits_node_change version) node_of_change from xs
+fits_changes version from xs = all_ascend (fits_node_change version) node_of_change from xs
 
 abbrev pub fits_at : ℕ → ℕ → List ℕ → List ℕ → Bool
 fits_at v s d sig = fits_view v && (fits_slot s && ((length d == 32) && is_signature sig))
@@ -102,6 +103,7 @@ pub record IsSpelledNew (version v : ℕ) (xs : List Change) (sigs : List (List 
   pub signed : is_signature sig ≡ true
   pub row : bytes ≡ 5 ∷ (to_be_bytes w16 v ++ (length xs ∷ (changes ++ (length sigs ∷ (signatures ++ sig)))))
 
+-- rule: PBFT: A message has one encoding, with replicas and slots strictly ascending
 abbrev pub IsSpelledMessage : ℕ → Message → List ℕ → Type 0
 IsSpelledMessage version (PrePrepare v slot x sig) bytes =
     (v < 2 ^ 16) × (slot.0 < 2 ^ 64) × (is_signature sig ≡ true) ×
@@ -120,7 +122,7 @@ parse_node_change version from = do
   parse_change version node
 
 abbrev pub parse_changes : ℕ → ℕ → ℕ → Parser (List Change)
-parse_changes version many from = rising (parse_node_change version) node_of_change many from
+parse_changes version many from = ascending (parse_node_change version) node_of_change many from
 
 unfoldable pub parse_pre_prepare : ℕ → Parser Message
 parse_pre_prepare version = do

@@ -1,5 +1,5 @@
--- What PBFT's nodes sign: the instance, the kind of the message, and its fields. Numbers are written so that different
--- ones differ whatever their size.
+-- What PBFT's replicas sign: the instance, the kind of the message, and its fields. Numbers are encoded so that
+-- different ones differ, whatever their size.
 --
 --   1 PrePrepare, 2 Prepare, 3 Commit   view, slot, the value's digest
 --   4 ViewChange                        view, count, and slot, view, the value's digest of each certificate
@@ -27,6 +27,7 @@ abbrev pub statement : Params → ℕ → ℕ → List ℕ → List ℕ
 statement p kind v fields = statement_head p tag ++ (kind ∷ (two_bytes v ++ fields))
 
 -- of a PrePrepare, a Prepare, a Commit
+-- rule: PBFT: A signature covers the instance, kind, view, slot and digest
 abbrev pub state_at : Params → ℕ → ℕ → ℕ → List ℕ → List ℕ
 state_at p kind v s d = statement p kind v (eight_bytes s ++ d)
 
@@ -35,6 +36,7 @@ abbrev pub marks : Params → List Certificate → List ℕ
 marks p [] = []
 marks p (c ∷ cs) = eight_bytes c.slot.0 ++ (two_bytes c.view ++ (digest_of p c.value ++ marks p cs))
 
+-- rule: PBFT: A ViewChange signs the slot, view and digest of each prepared certificate
 abbrev pub state_change : Params → ℕ → List Certificate → List ℕ
 state_change p v cs = statement p 4 v (length cs ∷ marks p cs)
 

@@ -1,21 +1,10 @@
-//! Votes, certificates and ViewChanges once more.
+//! Certificates and ViewChanges once more.
 ghost use Rattle.std.specs.Prelude.{◌≡◌, IfOk};
 
-use crate::messages::{Certificate, Change, Vote};
+use crate::messages::{Certificate, Change};
 use iss_request::{NoMemory, Seq};
+use iss_sb::copy_signers;
 use std::alloc::Global;
-
-impl Vote {
-    /// The same vote once more.
-    pub fn copy(&self) -> Result<Vote, NoMemory>
-        ensures { IfOk result (λ x. x ≡ self.now) }
-    {
-        Ok(Vote {
-            node: self.node,
-            sig: self.sig.copy()?,
-        })
-    }
-}
 
 impl Certificate {
     /// The same certificate once more.
@@ -27,7 +16,7 @@ impl Certificate {
             view: self.view,
             value: self.value.copy()?,
             sig: self.sig.copy()?,
-            prepares: copy_votes(alloc, self.prepares.as_slice())?,
+            prepares: copy_signers(alloc, self.prepares.as_slice())?,
         })
     }
 }
@@ -44,17 +33,6 @@ impl Change {
             sig: self.sig.copy()?,
         })
     }
-}
-
-/// The same votes once more.
-pub fn copy_votes(alloc: Global, votes: &[Vote]) -> Result<Seq<Vote>, NoMemory>
-    ensures { IfOk result (λ xs. xs ≡ votes.now) }
-{
-    let mut all = Seq::new(alloc);
-    for vote in votes {
-        all.push(vote.copy()?)?;
-    }
-    Ok(all)
 }
 
 /// The same certificates once more.

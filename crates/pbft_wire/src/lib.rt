@@ -8,9 +8,9 @@ pub mod reading;
 pub mod signing;
 pub mod writing;
 
-pub use copies::{copy_certificates, copy_changes, copy_votes};
+pub use copies::{copy_certificates, copy_changes};
 pub use laws::messages_are_exact;
-pub use messages::{Certificate, Change, Message, Vote};
+pub use messages::{Certificate, Change, Message};
 pub use reading::read;
 pub use signing::{
     Mark, digest_of, mark_of, state_at, state_change, state_marked, state_new, string_of,

@@ -1,12 +1,6 @@
 //! The messages of PBFT, each with its sender's signature.
 use iss_request::{Bytes, NodeId, Seq, Slot, Value};
-
-/// A node's signature, where the statement follows from what it stands in.
-#[derive(Drop)]
-pub struct Vote {
-    pub node: NodeId,
-    pub sig: Bytes,
-}
+use iss_sb::Signed;
 
 /// That a value was prepared at a slot in a view: the signature of the primary's PrePrepare, and those of Prepares.
 #[derive(Drop)]
@@ -15,7 +9,7 @@ pub struct Certificate {
     pub view: u16,
     pub value: Value,
     pub sig: Bytes,
-    pub prepares: Seq<Vote>,
+    pub prepares: Seq<Signed>,
 }
 
 /// A node's ViewChange inside a NewView.

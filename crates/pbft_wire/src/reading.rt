@@ -1,18 +1,19 @@
 //! The messages from their bytes, field by field in the order of the parsers.
 ghost use Rattle.std.specs.Int.{w64};
-ghost use Rattle.std.specs.Prelude.{◌≡◌, ℕ, List, length, nat_le, IfOk, Err};
+ghost use Rattle.std.specs.Prelude.{◌≡◌, ℕ, List, nat_le, IfOk, Err};
 ghost use Rattle.iss_request.specs.Fields.{IsRead, IsUnreadable};
 ghost use Rattle.iss_request.specs.Formats.{parse_signature};
-ghost use Rattle.iss_request.specs.Parsing.{block, byte, number, such_that, times};
+ghost use Rattle.iss_request.specs.Parsing.{byte, number, such_that, times};
 ghost use Rattle.iss_request.specs.declared.ids.Slot.{Slot};
 ghost use Rattle.pbft_wire.specs.Certificates.{after_node, after_slot};
-ghost use Rattle.pbft_wire.specs.Certificates.{count, parse_certificate, parse_certificates, parse_change, parse_vote, parse_votes};
+ghost use Rattle.pbft_wire.specs.Certificates.{count, parse_certificate, parse_certificates, parse_change};
 ghost use Rattle.pbft_wire.specs.Messages.{commit, parse, parse_at, parse_changes, parse_new_view, parse_node_change, parse_pre_prepare, parse_view_change, prepare};
 ghost use Rattle.pbft_wire.specs.declared.messages.Message.{Message};
 
-use crate::messages::{Certificate, Change, Message, Vote};
+use crate::messages::{Certificate, Change, Message};
 use crate::signing::{COMMIT, NEW_VIEW, PRE_PREPARE, PREPARE, VIEW_CHANGE};
 use iss_request::{Bytes, DecodeError, Fields, NodeId, Seq, Slot, read_signature, read_value};
+use iss_sb::read_signers;
 use std::alloc::Global;
 
 // ---- single fields
@@ -69,50 +70,7 @@ fn read_slot(last: Option<Slot>, f: &mut Fields) -> Result<u64, DecodeError>
     Ok(slot)
 }
 
-fn read_digest(f: &mut Fields) -> Result<[u8; 32], DecodeError>
-    ensures ok { IfOk result (λ d. IsRead (block 32) f.old f.new d) }
-    ensures bad { (at : ℕ) → result ≡ Err (DecodeError.BadField at) → IsUnreadable (block 32) f.old at }
-{
-    let bytes = f.read_bytes(32)?;
-    Ok(array_of(bytes))
-}
-
-fn array_of(bytes: &[u8]) -> [u8; 32]
-    requires { length bytes.now ≡ 32 }
-    ensures { result ≡ bytes.now }
-{
-    let mut digest = [0; 32];
-    digest.copy_from_slice(bytes);
-    digest
-}
-
-// ---- votes, certificates, ViewChanges
-
-fn read_vote(alloc: Global, last: Option<NodeId>, f: &mut Fields) -> Result<Vote, DecodeError>
-    ensures ok { IfOk result (λ v. IsRead (parse_vote (after_node last)) f.old f.new v) }
-    ensures bad { (at : ℕ) → result ≡ Err (DecodeError.BadField at) → IsUnreadable (parse_vote (after_node last)) f.old at }
-{
-    let node = read_node(last, f)?;
-    let sig = read_signature(alloc, f)?;
-    Ok(Vote {
-        node: NodeId(node),
-        sig,
-    })
-}
-
-fn read_votes(alloc: Global, many: u8, f: &mut Fields) -> Result<Seq<Vote>, DecodeError>
-    ensures ok { IfOk result (λ all. IsRead (parse_votes many 0) f.old f.new all) }
-    ensures bad { (at : ℕ) → result ≡ Err (DecodeError.BadField at) → IsUnreadable (parse_votes many 0) f.old at }
-{
-    let mut votes = Seq::new(alloc);
-    let mut last = None;
-    for _ in 0..many {
-        let vote = read_vote(alloc, last, f)?;
-        last = Some(vote.node);
-        votes.push(vote)?;
-    }
-    Ok(votes)
-}
+// ---- certificates, ViewChanges
 
 fn read_certificate(
     alloc: Global,
@@ -127,7 +85,7 @@ fn read_certificate(
     let value = read_value(alloc, f)?;
     let sig = read_signature(alloc, f)?;
     let many = read_count(f)?;
-    let prepares = read_votes(alloc, many, f)?;
+    let prepares = read_signers(alloc, many, f)?;
     Ok(Certificate {
         slot: Slot(slot),
         view,
@@ -261,7 +219,7 @@ fn read_at(alloc: Global, f: &mut Fields) -> Result<At, DecodeError>
 {
     let view = f.read_u16()?;
     let slot = f.read_u64()?;
-    let digest = read_digest(f)?;
+    let digest = f.read_digest()?;
     let sig = read_signature(alloc, f)?;
     Ok(At {
         view,

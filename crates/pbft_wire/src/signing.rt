@@ -7,7 +7,7 @@ ghost use Rattle.pbft_wire.specs.Statements.{digest_of, state_at, state_change, 
 ghost use Rattle.pbft_wire.specs.declared.messages.Certificate.{Certificate};
 
 use crate::messages::Certificate;
-use iss_request::{Bytes, NoMemory, Seq, Slot, Value, Writer, write_value};
+use iss_request::{Bytes, NoMemory, Seq, Slot, Value, Writer, value_string};
 use iss_sb::{Params, put_head};
 use std::alloc::Global;
 
@@ -37,17 +37,11 @@ pub struct Mark {
     pub digest: [u8; 32],
 }
 
-// The byte before a value that is hashed.
-const VALUE: u8 = 0x40;
-
 /// The string that is hashed of a value.
 pub fn string_of(alloc: Global, p: &Params, value: &Value) -> Result<Bytes, NoMemory>
     ensures { IfOk result (λ s. s ≡ string_of p.now value.now) }
 {
-    let mut out = Writer::new(alloc, p.setup.version);
-    out.put_u8(VALUE)?;
-    write_value(value, &mut out)?;
-    Ok(out.into_bytes())
+    value_string(alloc, p.setup.version, value)
 }
 
 fn has_requests(value: &Value) -> bool {
@@ -94,6 +88,7 @@ fn marks_of(alloc: Global, p: &Params, certificates: &[Certificate]) -> Result<S
 // ---- statements
 
 /// The statement of a PrePrepare, a Prepare or a Commit for the value of this digest.
+// rule: PBFT: A signature covers the instance, kind, view, slot and digest
 pub fn state_at(
     alloc: Global,
     p: &Params,
@@ -128,6 +123,7 @@ pub fn state_change(
 }
 
 /// The statement of a ViewChange with certificates of these marks.
+// rule: PBFT: A ViewChange signs the slot, view and digest of each prepared certificate
 pub fn state_marked(alloc: Global, p: &Params, view: u16, marks: &[Mark]) -> Result<Bytes, NoMemory>
     requires { length marks.now ≤ 255 }
     ensures { IfOk result (λ s. (cs : List Certificate) → marks.now ≡ map (mark_of p.now) cs → s ≡ state_change p.now view cs) }

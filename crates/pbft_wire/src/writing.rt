@@ -3,36 +3,21 @@ ghost use Rattle.std.specs.Prelude.{◌≡◌, ◌≤◌, ◌∷◌, ◌++◌, �
 ghost use Rattle.std.specs.List.{flat_map, list_all};
 ghost use Rattle.iss_request.specs.Fields.{and_bytes};
 ghost use Rattle.iss_request.specs.Formats.{has_spelling, is_signature, spell_value};
-ghost use Rattle.pbft_wire.specs.Certificates.{certificate_bytes, change_bytes, vote_bytes};
-ghost use Rattle.pbft_wire.specs.Certificates.{fits_certificate, fits_certificates, fits_change, fits_value, fits_votes};
+ghost use Rattle.pbft_wire.specs.Certificates.{certificate_bytes, change_bytes};
+ghost use Rattle.pbft_wire.specs.Certificates.{fits_certificate, fits_certificates, fits_change, fits_value};
 ghost use Rattle.pbft_wire.specs.declared.messages.Message.TheVariants.{NewView, PrePrepare};
 ghost use Rattle.pbft_wire.specs.Messages.{as_is, at_bytes, fits, fits_at, fits_changes, message_bytes, new_bytes, node_change_bytes, spell};
 
-use crate::messages::{Certificate, Change, Message, Vote};
+use crate::messages::{Certificate, Change, Message};
 use crate::reading::{node_follows, slot_follows};
 use crate::signing::{COMMIT, NEW_VIEW, PRE_PREPARE, PREPARE, VIEW_CHANGE};
-use iss_request::{Bytes, NoMemory, Request, Slot, Value, Writer, requests_most, write_value};
+use iss_request::{
+    Bytes, NoMemory, Request, Slot, Value, Writer, has_shape, is_spellable, requests_most,
+    write_value,
+};
+use iss_sb::{are_signers, put_signers};
 
 // ---- what has a spelling
-
-fn has_shape(sig: &[u8]) -> bool
-    ensures { result ≡ is_signature sig.now }
-{
-    match sig {
-        [] => false,
-        [height, rest @ ..] => {
-            2 <= *height && *height <= 12 && rest.len() == 4 + 32 * (67 + *height as usize)
-        }
-    }
-}
-
-fn is_spellable(request: &Request) -> bool
-    ensures { result ≡ has_spelling request.now }
-{
-    // Its range is part of the answer.
-    let _number = request.id.number;
-    request.payload.len() <= 256 && has_shape(request.sig.as_slice())
-}
 
 fn requests_fit(requests: &[Request]) -> bool
     ensures { result ≡ list_all has_spelling requests.now }
@@ -51,19 +36,6 @@ fn value_fits(version: u8, value: &Value) -> bool
     }
 }
 
-fn votes_fit(votes: &[Vote]) -> bool
-    ensures { result ≡ fits_votes 0 votes.now }
-{
-    let mut last = None;
-    for vote in votes {
-        if !node_follows(last, vote.node.0) || !has_shape(vote.sig.as_slice()) {
-            return false;
-        }
-        last = Some(vote.node);
-    }
-    true
-}
-
 fn certificate_fits(version: u8, c: &Certificate) -> bool
     ensures { result ≡ fits_certificate version c.now }
 {
@@ -73,7 +45,7 @@ fn certificate_fits(version: u8, c: &Certificate) -> bool
     value_fits(version, &c.value)
         && has_shape(c.sig.as_slice())
         && c.prepares.len() <= 255
-        && votes_fit(c.prepares.as_slice())
+        && are_signers(0, c.prepares.as_slice())
 }
 
 fn certificates_fit(version: u8, certificates: &[Certificate]) -> bool
@@ -191,22 +163,6 @@ fn is_well_formed(version: u8, msg: &Message) -> bool
 
 // ---- writing
 
-fn put_vote(vote: &Vote, out: &mut Writer) -> Result<(), NoMemory>
-    ensures { OnOk result (out.new ≡ and_bytes out.old (vote_bytes vote.now)) }
-{
-    out.put_u8(vote.node.0)?;
-    out.put_bytes(vote.sig.as_slice())
-}
-
-fn put_votes(votes: &[Vote], out: &mut Writer) -> Result<(), NoMemory>
-    ensures { OnOk result (out.new ≡ and_bytes out.old (flat_map vote_bytes votes.now)) }
-{
-    for vote in votes {
-        put_vote(vote, out)?;
-    }
-    Ok(())
-}
-
 fn put_certificate(c: &Certificate, out: &mut Writer) -> Result<(), NoMemory>
     requires { fits_certificate out.old.version c.now ≡ true }
     ensures { OnOk result (out.new ≡ and_bytes out.old (certificate_bytes out.old.version c.now)) }
@@ -216,7 +172,7 @@ fn put_certificate(c: &Certificate, out: &mut Writer) -> Result<(), NoMemory>
     write_value(&c.value, out)?;
     out.put_bytes(c.sig.as_slice())?;
     out.put_u8(c.prepares.len() as u8)?;
-    put_votes(c.prepares.as_slice(), out)
+    put_signers(c.prepares.as_slice(), out)
 }
 
 fn put_certificates(certificates: &[Certificate], out: &mut Writer) -> Result<(), NoMemory>
@@ -383,6 +339,7 @@ fn put_message(msg: &Message, out: &mut Writer) -> Result<(), NoMemory>
 
 /// Writes a message: its number, its fields, its signature. One that has no spelling is written as bytes that no reader
 /// takes.
+// rule: PBFT: A message has one encoding, with replicas and slots strictly ascending
 pub fn write(msg: &Message, out: &mut Writer) -> Result<(), NoMemory>
     ensures { OnOk result (out.new ≡ and_bytes out.old (spell out.old.version msg.now)) }
 {

@@ -4,14 +4,15 @@ use Rattle.iss_request.specs.Fields.{Good, Bad}
 use Rattle.iss_request.specs.Formats.{count_field, parse_batch, parse_count, parse_rest, parse_value, spell_batch, spell_count, spell_value}
 use Rattle.iss_request.specs.Parsing.{◌>>=◌, byte, done, number, such_that, times}
 use Rattle.raft_wire.specs.declared.entries.Entry.{Entry}
-use Rattle.raft_wire.specs.declared.entries.What.{What}
-use Rattle.raft_wire.specs.declared.entries.What.TheVariants.{Holds, Mark}
+use Rattle.iss_sb.specs.declared.content.Content.{Content}
+use Rattle.iss_sb.specs.declared.content.Content.TheVariants.{Holds, Mark}
 use Rattle.raft_wire.specs.declared.messages.Message.{Message}
 use Rattle.raft_wire.specs.declared.messages.Message.TheVariants.{Append, Reply, AskVote, Vote}
-use Rattle.raft_wire.specs.Entries.{parse_batch_what, parse_entry, parse_what}
+use Rattle.iss_sb.specs.Content.{parse_batch_content, parse_content}
+use Rattle.raft_wire.specs.Entries.{parse_entry}
 use Rattle.raft_wire.specs.Messages.{parse, parse_append, parse_flag, parse_vote, spell}
 
-abbrev entry : ℕ → What → Entry
+abbrev entry : ℕ → Content → Entry
 entry term what = record { term = term; what = what }
 
 -- behind index 258 of term 1: a mark of term 3 and an empty batch of it; committed up to 5
@@ -26,7 +27,7 @@ unfolding spell_value spell_batch spell_count
 append_spelled = refl
 
 append_read : parse 1 row ≡ Good sent []
-unfolding parse parse_append parse_entry parse_what parse_batch_what parse_value parse_rest parse_batch parse_count count_field such_that byte number times done ◌>>=◌
+unfolding parse parse_append parse_entry parse_content parse_batch_content parse_value parse_rest parse_batch parse_count count_field such_that byte number times done ◌>>=◌
 append_read = refl
 
 -- by the second version the empty batch inside is spelled otherwise
@@ -57,10 +58,10 @@ unfolding parse parse_vote parse_flag such_that byte number done ◌>>=◌
 no_flag = refl
 
 no_kind : (parse_entry 1 (0 ∷ 1 ∷ 3 ∷ []) ≡ Bad 2) × (parse_entry 1 (0 ∷ 1 ∷ 1 ∷ 0 ∷ []) ≡ Bad 3)
-unfolding parse_entry parse_what parse_batch_what parse_value parse_rest such_that byte number done ◌>>=◌
+unfolding parse_entry parse_content parse_batch_content parse_value parse_rest such_that byte number done ◌>>=◌
 no_kind = (refl, refl)
 
 -- what has no spelling is no message's bytes: a term above 65,535
 no_spelling : (spell 1 (Vote 65536 true) ≡ 0 ∷ []) × (parse_entry 1 (0 ∷ 0 ∷ 255 ∷ []) ≡ Bad 2)
-unfolding parse_entry parse_what such_that byte number ◌>>=◌
+unfolding parse_entry parse_content such_that byte number ◌>>=◌
 no_spelling = (refl, refl)

@@ -9,12 +9,13 @@ use Rattle.iss_request.specs.Fields.{Good, IsBad, IsGrammar}
 use Rattle.iss_request.specs.Parsing.{Parser, ◌>>=◌, byte, done, number, such_that, times}
 use Rattle.iss_request.proofs.OneSpelling.{Whole, done_good, times_parts, times_whole}
 use Rattle.iss_request.proofs.ParserLemmas.{IsWide, byte_again, byte_parts, done_parts, first_bad, number_again, number_parts, test_failed, test_parts, test_passed, then_bad, then_good, then_parts, wide16, wide32}
+use Rattle.iss_sb.proofs.Contents.{bad-by}
 use Rattle.raft_wire.specs.declared.entries.Entry.{Entry}
 use Rattle.raft_wire.specs.declared.messages.Message.{Message}
 use Rattle.raft_wire.specs.declared.messages.Message.TheVariants.{Append, Reply, AskVote, Vote}
 use Rattle.raft_wire.specs.Entries.{parse_entry, spell_entry}
 use Rattle.raft_wire.specs.Messages.{IsSpelledMessage, append_row, ask_row, fields_of, fits_append, flag, is_index, is_known, is_term, parse, parse_append, parse_ask, parse_flag, parse_reply, parse_vote, reply_row, spell, vote_row}
-use Rattle.raft_wire.proofs.EntryGrammar.{bad-by, entry-grammar}
+use Rattle.raft_wire.proofs.EntryGrammar.{entry-grammar}
 use Rattle.raft_wire.proofs.EntryTable.{entries-bytes, entries-related, entries-table}
 
 -- ---- a number, and what stands behind it

@@ -5,13 +5,14 @@ use Rattle.iss_request.specs.Fields.{IsReadAgain}
 use Rattle.iss_request.specs.Formats.{parse_value, spell_value}
 use Rattle.iss_request.specs.declared.requests.Batch.{Batch}
 use Rattle.iss_request.specs.declared.requests.Value.TheVariants.{Batch as Value_batch}
-use Rattle.iss_request.proofs.OneSpelling.{value_related}
 use Rattle.iss_sb.proofs.Read.{read-again}
+use Rattle.iss_sb.proofs.Contents.{batch-table}
 use Rattle.raft_wire.specs.declared.entries.Entry.{Entry}
-use Rattle.raft_wire.specs.declared.entries.What.{What}
-use Rattle.raft_wire.specs.declared.entries.What.TheVariants.{Nil, Holds, Mark}
+use Rattle.iss_sb.specs.declared.content.Content.{Content}
+use Rattle.iss_sb.specs.declared.content.Content.TheVariants.{Nil, Holds, Mark}
 use Rattle.raft_wire.specs.declared.messages.Message.{Message}
-use Rattle.raft_wire.specs.Entries.{AreSpelledEntries, IsSpelledEntry, IsSpelledWhat}
+use Rattle.iss_sb.specs.Content.{IsSpelledContent}
+use Rattle.raft_wire.specs.Entries.{AreSpelledEntries, IsSpelledEntry}
 use Rattle.raft_wire.specs.Messages.{IsSpelledMessage, parse, spell}
 use Rattle.raft_wire.proofs.EntryTable.{front-whole}
 use Rattle.raft_wire.proofs.MessageGrammar.{message-grammar, message-related}
@@ -46,7 +47,7 @@ module _ (version : ℕ) where
       let others = have-entries es (λ e i. h e (inr i)) in
       (first.bytes ++ others.0, (first.bytes, others.0, first.spelled, others.1, refl))
 
-  entry-has : (term : ℕ) (what : What) (behind : List ℕ) → term < 2 ^ 16 → IsSpelledWhat version what behind → HasBytes (record { term = term; what = what })
+  entry-has : (term : ℕ) (what : Content) (behind : List ℕ) → term < 2 ^ 16 → IsSpelledContent version what behind → HasBytes (record { term = term; what = what })
   entry-has term what behind lt h = record { bytes = _; spelled = record { term = lt; behind = behind; what = h; row = refl } }
 
   pub nil-has : (term : ℕ) → term < 2 ^ 16 → HasBytes (record { term = term; what = Nil })
@@ -57,7 +58,4 @@ module _ (version : ℕ) where
 
   -- a batch that is read again
   pub batch-has : (term : ℕ) (b : Batch) → term < 2 ^ 16 → IsReadAgain (spell_value version) (parse_value version) (Value_batch b) → HasBytes (record { term = term; what = Holds b })
-  batch-has term b lt h =
-      let value = spell_value version (Value_batch b) in
-      let table = (value_related version (Value_batch b) value).0 (front-whole (parse_value version) (Value_batch b) value h) in
-      entry-has term (Holds b) (1 ∷ value) lt (value, table, refl)
+  batch-has term b lt h = let row = batch-table version b h in entry-has term (Holds b) row.0 lt row.1

@@ -2,16 +2,7 @@
 use Rattle.std.proofs.Common.{◌≡◌, ℕ, List, [], ◌∷◌, append_assoc}
 use Rattle.std.specs.Int.{to_be_bytes, w16, w32}
 use Rattle.iss_request.specs.Fields.{Written, and_bytes}
-use Rattle.iss_request.specs.Formats.{spell_batch, spell_value, version_byte}
-use Rattle.iss_request.specs.declared.requests.Batch.{Batch}
-use Rattle.raft_wire.specs.declared.entries.What.TheVariants.{Holds}
-use Rattle.raft_wire.specs.Entries.{spell_what}
 use Rattle.raft_wire.specs.Messages.{append_row}
-
-pub holds-written : (batch : Batch) (a b c d : Written) (first : ℕ) → first ≡ version_byte b.version → b ≡ and_bytes a (1 ∷ []) → c ≡ and_bytes b (first ∷ []) →
-    d ≡ and_bytes c (spell_batch c.version batch) → d ≡ and_bytes a (spell_what a.version (Holds batch))
-unfolding spell_value
-holds-written batch a b c d first hf hb hc hd = rw (hd, hc, hf, hb) (simp append_assoc)
 
 pub append-written : (term previous previous_term commit count : ℕ) (entries : ℕ → List ℕ) (a b c d e f g h : Written) →
     b ≡ and_bytes a (1 ∷ []) → c ≡ and_bytes b (to_be_bytes w16 term) → d ≡ and_bytes c (to_be_bytes w32 previous) → e ≡ and_bytes d (to_be_bytes w16 previous_term) →

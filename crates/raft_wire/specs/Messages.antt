@@ -1,7 +1,8 @@
--- How the messages of Raft are spelled in bytes, and how they are read. Numbers have their highest byte first.
+-- How the messages of Raft are encoded and decoded. The table is also stated as a relation, so each message has
+-- exactly one encoding. Numbers have their highest byte first.
 --
 --   message   its number (1 byte), then its fields
---   Append    1: term (2), previous index (4), previous term (2), commit (4), count (4), so many entries
+--   Append    1: term (2), previous index (4), previous term (2), commit (4), count (4), that many entries
 --   Reply     2: term (2), ok (1 byte, 0 or 1), index (4)
 --   AskVote   3: term (2), last index (4), last term (2)
 --   Vote      4: term (2), granted (1 byte, 0 or 1)
@@ -69,6 +70,7 @@ pub record IsSpelledAppend (version term previous previous_term commit : ℕ) (e
   pub spelled : AreSpelledEntries version es entries
   pub row : bytes ≡ append_row term previous previous_term commit (length es) entries
 
+-- rule: Raft: A message has one encoding, and an error names the first field that does not fit
 abbrev pub IsSpelledMessage : ℕ → Message → List ℕ → Type 0
 IsSpelledMessage version (Append term previous previous_term commit es) bytes = IsSpelledAppend version term previous previous_term commit es bytes
 IsSpelledMessage version (Reply term ok index) bytes = (term < 2 ^ 16) × (index < 2 ^ 32) × (bytes ≡ reply_row term ok index)

@@ -6,7 +6,7 @@ pub mod laws;
 pub mod messages;
 pub mod wire;
 
-pub use entries::{Entry, What};
+pub use entries::Entry;
 pub use laws::messages_are_exact;
 pub use messages::Message;
 pub use wire::{read, write};

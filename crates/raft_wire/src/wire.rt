@@ -22,6 +22,7 @@ const ASK_VOTE: u8 = 3;
 const VOTE: u8 = 4;
 
 /// Writes a message: its number, then its fields. One that has no spelling is written as the number of no message.
+// rule: Raft: A message has one encoding, and an error names the first field that does not fit
 pub fn write(msg: &Message, out: &mut Writer) -> Result<(), NoMemory>
     ensures { OnOk result (out.new ≡ and_bytes out.old (spell out.old.version msg.now)) }
 {

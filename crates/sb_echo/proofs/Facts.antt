@@ -123,7 +123,7 @@ once p me xs s b c made h k = some-injective b c (sym (accepted-taken p me xs (s
 
 pub record IsAccepted (p : Params) (me : ℕ) (xs : List (Item Word)) (a : Slot × Batch) : Type 0 where
   pub item : Item Word
-  pub refines : In item xs
+  pub stands : In item xs
   pub cause : IsOwn p me item.input a ⊎ IsTold p item.input a
   pub hashed : In (string_of p a.1) item.made.strings
 
@@ -133,14 +133,14 @@ accepted-cause p me (x ∷ xs) a made h = elim (accepts-cases x xs a h) [
   | inl q ↦
       let ask = made-accepted p me x xs a made q in
       let is : x.made ≡ made_of p me x.leaf (is_cast x.input) (Some a) = made.0 ∙ ap (made_of p me x.leaf (is_cast x.input)) ask in
-      record { item = x; refines = inl refl; cause = (asked p me xs x.input a ask).cause; hashed = rw is (inl refl) }
-  | inr k ↦ let r = accepted-cause p me xs a made.1 k in record { item = r.item; refines = inr r.refines; cause = r.cause; hashed = r.hashed }
+      record { item = x; stands = inl refl; cause = (asked p me xs x.input a ask).cause; hashed = rw is (inl refl) }
+  | inr k ↦ let r = accepted-cause p me xs a made.1 k in record { item = r.item; stands = inr r.stands; cause = r.cause; hashed = r.hashed }
 ]
 
 -- a message whose claims state the digest of what was accepted
 pub record IsSentFor (p : Params) (me : ℕ) (xs : List (Item Word)) (msg : Word) : Type 0 where
   pub accepted : Slot × Batch
-  pub refines : In accepted (accepts xs)
+  pub stands : In accepted (accepts xs)
   pub kind : ℕ
   pub states : (c : Claim) → In c (claims p me msg) → c.statement ≡ statement p kind accepted.0.0 (digest_of p accepted.1)
 
@@ -164,7 +164,7 @@ pub sent-for : (p : Params) (me : ℕ) (xs : List (Item Word)) (x : Item Word) (
 sent-for p me [] x to msg made h k = absurd h
 sent-for p me (y ∷ ys) x to msg made (inr h) k =
     let r = sent-for p me ys x to msg made.1 h k in
-    record { accepted = r.accepted; refines = accepts-old y ys r.accepted r.refines; kind = r.kind; states = r.states }
+    record { accepted = r.accepted; stands = accepts-old y ys r.accepted r.stands; kind = r.kind; states = r.states }
 sent-for p me (y ∷ ys) x to msg made (inl e) k = go (asks p me ys y.input) refl
   where
     go : (o : Option (Slot × Batch)) → asks p me ys y.input ≡ o → IsSentFor p me (y ∷ ys) msg
@@ -177,7 +177,7 @@ sent-for p me (y ∷ ys) x to msg made (inl e) k = go (asks p me ys y.input) ref
         by_case None is h = absurd h
         by_case (Some a) is h =
             let s = words-state p me y.leaf (is_cast y.input) a to msg h in
-            record { accepted = a; refines = accepts-new y ys a (ap (λ (z : Made Word). z.accepted) is); kind = s.0; states = s.1 }
+            record { accepted = a; stands = accepts-new y ys a (ap (λ (z : Made Word). z.accepted) is); kind = s.0; states = s.1 }
 
 -- ---- echoes
 

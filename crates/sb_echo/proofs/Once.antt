@@ -8,9 +8,9 @@ use Rattle.iss_sb.specs.declared.effects.Claim.{Claim}
 use Rattle.iss_sb.specs.declared.effects.Params.{Params}
 use Rattle.iss_sb.specs.declared.effects.To.{To}
 use Rattle.iss_sb.specs.Laws.{IsSignedBy, SignsOnce}
-use Rattle.iss_sb.specs.Statements.{signature}
+use Rattle.iss_sb.specs.Statements.{claim, signature}
 use Rattle.sb_echo.specs.declared.word.Word.{Word}
-use Rattle.sb_echo.specs.Echo.{asks, claim, claims, digest_of, echo, echo_of, is_cast, made_of, say, statement}
+use Rattle.sb_echo.specs.Echo.{asks, claims, digest_of, echo, echo_of, is_cast, made_of, say, statement}
 
 module _ (p : Params) (me leaf : ℕ) where
   abbrev said : Slot × Batch → List ℕ

@@ -18,38 +18,19 @@ use Rattle.iss_sb.specs.Calls.{IsGoodParams}
 use Rattle.iss_sb.specs.Evidence.{Item, World, IsCredible, IsHashed, IsReached, IsReadBatch, IsReadMessage, at_start, after, IsSigned, IsString, MayCome, Move, Separate, Verifies, and_then, delivered, empty_world, is_correct}
 use Rattle.iss_sb.specs.Laws.{IsBroadcast}
 use Rattle.iss_sb.proofs.Read.{batch-read}
+use Rattle.iss_sb.proofs.Setups.{good-by}
 use Rattle.iss_sb.proofs.Signatures.{signature-shape, signature-verifies}
 use Rattle.sb_echo.specs.declared.word.Word.{Word}
 use Rattle.sb_echo.specs.declared.word.Word.TheVariants.{Say, Echo}
-use Rattle.sb_echo.specs.Echo.{claim, claims, echo, statement, string_of}
+use Rattle.iss_sb.specs.Statements.{claim}
+use Rattle.sb_echo.specs.Echo.{claims, echo, statement, string_of}
 use Rattle.sb_echo.proofs.Example.{b, cast, d, echo_from, node, p, setup, sig, slot, word}
 use Rattle.sb_echo.proofs.Safe.{echo-safe}
 use Rattle.sb_echo.proofs.Lawful.{digest-length}
 use Rattle.sb_echo.proofs.Spelling.{echo-again, say-again}
 
 good-setup : IsGoodSetup setup
-good-setup = record {
-  version = refl;
-  faults = omega arith;
-  relay_faults = λ h. absurd (let k : 6 ≡ 1 = h in omega arith);
-  relay_kind = λ h. absurd (let k : 6 ≡ 1 = h in omega arith);
-  nodes = refl;
-  majority = refl;
-  epoch_low = omega arith;
-  epoch_high = omega arith;
-  buckets_low = omega arith;
-  buckets_high = omega arith;
-  batch_low = omega arith;
-  batch_high = omega arith;
-  window_low = omega arith;
-  window_high = omega arith;
-  clients_low = omega arith;
-  clients_high = omega arith;
-  keys_low = omega arith;
-  keys_high = omega arith;
-  few_faulty = omega arith;
-  rising_faulty = (omega arith, omega arith, tt);
-}
+good-setup = good-by setup refl
 
 good : IsGoodParams echo p
 good = record {

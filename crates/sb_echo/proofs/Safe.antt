@@ -22,7 +22,8 @@ use Rattle.iss_sb.proofs.Quorums.{Meets, few-faulty, meets}
 use Rattle.sb_echo.specs.declared.word.Word.{Word}
 use Rattle.sb_echo.specs.declared.word.Word.TheVariants.{Say, Echo}
 use Rattle.iss_sb.proofs.Statements.{statement-same}
-use Rattle.sb_echo.specs.Echo.{claim, digest_of, echo, has_echo, statement, string_of, tag}
+use Rattle.iss_sb.specs.Statements.{claim}
+use Rattle.sb_echo.specs.Echo.{digest_of, echo, has_echo, statement, string_of, tag}
 use Rattle.sb_echo.proofs.Bytes.{one-batch}
 use Rattle.sb_echo.proofs.Facts.{IsTold, accepted-cause, decided-is, decided-stays, has_echo-is, once, sent-for, taken-accepted}
 use Rattle.sb_echo.proofs.Spelling.{say-read}
@@ -30,14 +31,14 @@ use Rattle.sb_echo.proofs.Spelling.{say-read}
 -- node k accepted a batch of this digest at the slot
 record Took (p : Params) (w : World Word) (k s : ℕ) (d : List ℕ) : Type 0 where
   pub batch : Batch
-  pub refines : In {A = Slot × Batch} (record { 0 = s }, batch) (accepts (w k))
+  pub stands : In {A = Slot × Batch} (record { 0 = s }, batch) (accepts (w k))
   pub is : digest_of p batch ≡ d
 
 -- what a delivered value rests on
 record Rests (p : Params) (w : World Word) (i s : ℕ) (v : Value) : Type 0 where
   pub batch : Batch
   pub value : v ≡ Value_batch batch
-  pub refines : In {A = Slot × Batch} (record { 0 = s }, batch) (accepts (w i))
+  pub stands : In {A = Slot × Batch} (record { 0 = s }, batch) (accepts (w i))
   pub enough : p.setup.quorum ≤ count_below (λ k. has_echo s (digest_of p batch) k (w i)) p.setup.n
 
 module _ (p : Params) (w : World Word) (legal : IsLegal echo p w) where
@@ -46,7 +47,7 @@ module _ (p : Params) (w : World Word) (legal : IsLegal echo p w) where
   signed-took k kind s d h =
       let r = sent-for p k (w k) h.item h.to h.msg (legal.made k) h.taken h.sent in
       let same = statement-same 7 p tag r.kind kind r.accepted.0.0 s (digest_of p r.accepted.1) d (sym (r.states h.claim h.made) ∙ h.is) in
-      subst (λ (t : ℕ). Took p w k t d) same.number (record { batch = r.accepted.1; refines = r.refines; is = same.behind })
+      subst (λ (t : ℕ). Took p w k t d) same.number (record { batch = r.accepted.1; stands = r.stands; is = same.behind })
 
   -- what came to a node
   came-signed : (i : ℕ) (x : Item Word) (from : NodeId) (msg : Word) → In x (w i) → x.input ≡ Receive from msg → IsCredible echo p (Verifies p) (IsSigned echo p w) from.0 msg
@@ -76,14 +77,14 @@ module _ (p : Params) (w : World Word) (legal : IsLegal echo p w) where
   accepted-read i a h =
       let r = accepted-cause p i (w i) a (legal.made i) h in
       elim r.cause [
-        | inl own ↦ came-cast i r.item a r.refines own.input
-        | inr told ↦ say-read p.setup.version a.0 a.1 told.sig (came-signed i r.item p.leader (Say a.0 a.1 told.sig) r.refines told.input).read
+        | inl own ↦ came-cast i r.item a r.stands own.input
+        | inr told ↦ say-read p.setup.version a.0 a.1 told.sig (came-signed i r.item p.leader (Say a.0 a.1 told.sig) r.stands told.input).read
       ]
 
   a-string : (i : ℕ) (a : Slot × Batch) → In a (accepts (w i)) → IsString w (string_of p a.1)
   a-string i a h =
       let r = accepted-cause p i (w i) a (legal.made i) h in
-      inr (record { node = i; item = r.item; taken = r.refines; hashed = r.hashed })
+      inr (record { node = i; item = r.item; taken = r.stands; hashed = r.hashed })
 
   one : (i : ℕ) (s : Slot) (b c : Batch) → In {A = Slot × Batch} (s, b) (accepts (w i)) → In {A = Slot × Batch} (s, c) (accepts (w i)) → b ≡ c
   one i s b c h k = once p i (w i) s b c (legal.made i) h k
@@ -96,13 +97,13 @@ module _ (p : Params) (w : World Word) (legal : IsLegal echo p w) where
     -- what a node took of the digest of a batch that another accepted is that batch
     took-is : (k i s : ℕ) (b : Batch) → Took p w k s (digest_of p b) → In {A = Slot × Batch} (record { 0 = s }, b) (accepts (w i)) → In {A = Slot × Batch} (record { 0 = s }, b) (accepts (w k))
     took-is k i s b t h =
-        let same = same-batch k i (record { 0 = s }) t.batch b t.refines h t.is in
-        subst (λ (z : Batch). In {A = Slot × Batch} (record { 0 = s }, z) (accepts (w k))) same t.refines
+        let same = same-batch k i (record { 0 = s }) t.batch b t.stands h t.is in
+        subst (λ (z : Batch). In {A = Slot × Batch} (record { 0 = s }, z) (accepts (w k))) same t.stands
 
     rests : (i s : ℕ) (v : Value) → delivered echo p i (w i) s ≡ Some v → Rests p w i s v
     rests i s v h =
         let d = decided-is p i (w i) s v (sym (delivered-decided echo p i (λ s. refl) (decided-stays p i) (w i) s) ∙ h) in
-        record { batch = d.batch; value = d.value; refines = taken-accepted (w i) s d.batch d.taken; enough = leb-true _ _ d.echoed }
+        record { batch = d.batch; value = d.value; stands = taken-accepted (w i) s d.batch d.taken; enough = leb-true _ _ d.echoed }
 
     module _ (good : IsGoodParams echo p) where
       both-echoed : (t u : ℕ → Bool) → p.setup.quorum ≤ count_below t p.setup.n → p.setup.quorum ≤ count_below u p.setup.n → Meets p t u
@@ -113,8 +114,8 @@ module _ (p : Params) (w : World Word) (legal : IsLegal echo p w) where
           let m = both-echoed (λ k. has_echo s (digest_of p a.batch) k (w i)) (λ k. has_echo s (digest_of p b.batch) k (w j)) a.enough b.enough in
           let t = echo-took i s (digest_of p a.batch) m.node m.first m.correct in
           let u = echo-took j s (digest_of p b.batch) m.node m.second m.correct in
-          let both = one m.node (record { 0 = s }) t.batch u.batch t.refines u.refines in
-          let same = same-batch i j (record { 0 = s }) a.batch b.batch a.refines b.refines (sym t.is ∙ ap (digest_of p) both ∙ u.is) in
+          let both = one m.node (record { 0 = s }) t.batch u.batch t.stands u.stands in
+          let same = same-batch i j (record { 0 = s }) a.batch b.batch a.stands b.stands (sym t.is ∙ ap (digest_of p) both ∙ u.is) in
           a.value ∙ ap (λ (z : Batch). Value_batch z) same ∙ sym b.value
 
       share : (i j : ℕ) (s t : Slot) (b c : Batch) → In {A = Slot × Batch} (s, b) (accepts (w i)) → In {A = Slot × Batch} (t, c) (accepts (w j)) →
@@ -134,7 +135,7 @@ module _ (p : Params) (w : World Word) (legal : IsLegal echo p w) where
           let r = accepted-cause p i (w i) (s, b) (legal.made i) h in
           elim r.cause [
             | inl own ↦ subst (λ (z : ℕ). In {A = Slot × Batch} (s, b) (accepts (w z))) own.leads h
-            | inr told ↦ took-is p.leader.0 i s.0 b (told-took i r.item (s, b) r.refines told correct) h
+            | inr told ↦ took-is p.leader.0 i s.0 b (told-took i r.item (s, b) r.stands told correct) h
           ]
 
       holds-is : (b c : Batch) → Value_batch b ≡ Value_batch c → b ≡ c
@@ -142,19 +143,19 @@ module _ (p : Params) (w : World Word) (legal : IsLegal echo p w) where
 
       -- a batch that is delivered
       record Lies (i : ℕ) (s : Slot) (b : Batch) : Type 0 where
-        pub refines : In {A = Slot × Batch} (s, b) (accepts (w i))
+        pub stands : In {A = Slot × Batch} (s, b) (accepts (w i))
         pub enough : p.setup.quorum ≤ count_below (λ k. has_echo s.0 (digest_of p b) k (w i)) p.setup.n
 
       lies : (i : ℕ) (s : Slot) (b : Batch) → delivered echo p i (w i) s.0 ≡ Some (Value_batch b) → Lies i s b
       lies i s b d =
           let r = rests i s.0 (Value_batch b) d in
-          subst (λ (z : Batch). Lies i s z) (sym (holds-is b r.batch r.value)) (record { refines = r.refines; enough = r.enough })
+          subst (λ (z : Batch). Lies i s z) (sym (holds-is b r.batch r.value)) (record { stands = r.stands; enough = r.enough })
 
       is-broadcast : IsBroadcast echo p w
       is-broadcast = record {
         agreement = λ i j s x y _ _ d e. agree i j s x y (rests i s x d) (rests j s y e);
-        shared = λ i j s t b c _ _ d e. let a = lies i s b d in let u = lies j t c e in share i j s t b c a.refines u.refines a.enough u.enough;
-        integrity = λ i s b correct _ d. owned i s b correct (lies i s b d).refines;
+        shared = λ i j s t b c _ _ d e. let a = lies i s b d in let u = lies j t c e in share i j s t b c a.stands u.stands a.enough u.enough;
+        integrity = λ i s b correct _ d. owned i s b correct (lies i s b d).stands;
       }
 
 pub echo-safe : IsSafe echo

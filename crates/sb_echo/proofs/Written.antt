@@ -3,7 +3,7 @@ use Rattle.std.proofs.Common.{◌≡◌, ◌<◌, ◌^◌, ℕ, true, List, [], 
 use Rattle.std.specs.Int.{to_be_bytes, w64}
 use Rattle.std.proofs.lemmas.Bool.{lt-ltb}
 use Rattle.iss_request.specs.Fields.{Written, and_bytes}
-use Rattle.iss_request.specs.Formats.{is_signature, spell_batch, spell_value, version_byte}
+use Rattle.iss_request.specs.Formats.{is_signature, spell_value}
 use Rattle.iss_request.specs.declared.ids.Slot.{Slot}
 use Rattle.iss_request.specs.declared.requests.Batch.{Batch}
 use Rattle.iss_request.specs.declared.requests.Value.TheVariants.{Batch as Value_batch}
@@ -11,14 +11,10 @@ use Rattle.iss_sb.specs.declared.effects.Params.{Params}
 use Rattle.iss_sb.specs.Statements.{statement_head}
 use Rattle.iss_sb.proofs.Statements.{eight-is}
 use Rattle.sb_echo.specs.declared.word.Word.TheVariants.{Say, Echo}
-use Rattle.sb_echo.specs.Echo.{spell, statement, string_of}
+use Rattle.sb_echo.specs.Echo.{spell, statement}
 
 abbrev start : ℕ → Written
 start version = record { version = version; bytes = [] }
-
-pub string-written : (p : Params) (batch : Batch) (a b c : Written) (first : ℕ) → first ≡ version_byte p.setup.version → a ≡ and_bytes (start p.setup.version) (0x40 ∷ []) → b ≡ and_bytes a (first ∷ []) → c ≡ and_bytes b (spell_batch b.version batch) → c.bytes ≡ string_of p batch
-unfolding spell_value
-string-written p batch a b c first hf ha hb hc = rw (hc, hb, hf, ha) refl
 
 pub statement-written : (p : Params) (kind s : ℕ) (digest : List ℕ) (version : ℕ) (a b c d : Written) → s < 2 ^ 64 → a ≡ and_bytes (start version) (statement_head p 6) → b ≡ and_bytes a (kind ∷ []) → c ≡ and_bytes b (to_be_bytes w64 s) → d ≡ and_bytes c digest → d.bytes ≡ statement p kind s digest
 statement-written p kind s digest version a b c d lt ha hb hc hd = let same = eight-is s lt in rw (hd, hc, hb, ha, same) (simp append_assoc)
@@ -32,10 +28,9 @@ echo-spelled : (version : ℕ) (slot : Slot) (d sig : List ℕ) → slot.0 < 2 ^
     2 ∷ to_be_bytes w64 slot.0 ++ d ++ sig ≡ spell version (Echo slot d sig)
 echo-spelled version slot d sig lt long shape = let low = lt-ltb slot.0 (2 ^ 64) lt in rw (low, long, shape) refl
 
-pub say-written : (slot : Slot) (batch : Batch) (sig sent : List ℕ) (a b c d e f : Written) (first : ℕ) → slot.0 < 2 ^ 64 → is_signature sig ≡ true → sent ≡ sig → first ≡ version_byte c.version → b ≡ and_bytes a (1 ∷ []) → c ≡ and_bytes b (to_be_bytes w64 slot.0) →
-    d ≡ and_bytes c (first ∷ []) → e ≡ and_bytes d (spell_batch d.version batch) → f ≡ and_bytes e sent → f ≡ and_bytes a (spell a.version (Say slot batch sig))
-unfolding spell_value
-say-written slot batch sig sent a b c d e f first lt shape hs hf hb hc hd he h = let spelled = say-spelled a.version slot batch sig lt shape in rw (← spelled, h, hs, he, hd, hf, hc, hb) (simp append_assoc)
+pub say-written : (slot : Slot) (batch : Batch) (sig sent : List ℕ) (a b c d e : Written) → slot.0 < 2 ^ 64 → is_signature sig ≡ true → sent ≡ sig → b ≡ and_bytes a (1 ∷ []) → c ≡ and_bytes b (to_be_bytes w64 slot.0) →
+    d ≡ and_bytes c (spell_value c.version (Value_batch batch)) → e ≡ and_bytes d sent → e ≡ and_bytes a (spell a.version (Say slot batch sig))
+say-written slot batch sig sent a b c d e lt shape hs hb hc hd he = let spelled = say-spelled a.version slot batch sig lt shape in rw (← spelled, he, hs, hd, hc, hb) (simp append_assoc)
 
 pub echo-written : (slot : Slot) (digest sig sent : List ℕ) (a b c d e : Written) → slot.0 < 2 ^ 64 → length digest ≡ 32 → is_signature sig ≡ true → sent ≡ sig → b ≡ and_bytes a (2 ∷ []) → c ≡ and_bytes b (to_be_bytes w64 slot.0) →
     d ≡ and_bytes c digest → e ≡ and_bytes d sent → e ≡ and_bytes a (spell a.version (Echo slot digest sig))

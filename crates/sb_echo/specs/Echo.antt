@@ -1,5 +1,6 @@
--- Echo: the leader says a batch to all, each node echoes the digest of the first batch that it took at a slot, and
--- the echoes of a quorum decide what the node itself took there.
+-- Echo, a small Byzantine broadcast (3f+1 nodes, module 6). The leader sends a batch to all. Each node echoes the
+-- digest of the first batch that it took at a slot. Echoes of a quorum decide what the node itself took there. Batches
+-- are known by the digest of their string; what is taken is echoed once, with the next leaf, or two at the leader.
 use Rattle.std.specs.Prelude.{◌≡◌, ℕ, ◌+◌, ◌*◌, ◌^◌, ◌<◌, ◌==◌, ◌&&◌, ◌||◌, Bool, true, false, not, cond, nat_lt, nat_le, List, [], ◌∷◌, ◌++◌, length, Option, Some, None, is_some, if◌then◌else◌}
 use Rattle.std.specs.Int.{to_be_bytes, w64}
 use Rattle.iss_base.specs.Lists.{first_of, same_bytes}
@@ -11,6 +12,8 @@ use Rattle.iss_request.specs.declared.ids.Slot.{Slot}
 use Rattle.iss_request.specs.declared.requests.Batch.{Batch}
 use Rattle.iss_request.specs.declared.requests.Value.{Value}
 use Rattle.iss_request.specs.declared.requests.Value.TheVariants.{Batch as Value_batch}
+use Rattle.iss_request.specs.Setup.{nodes_of_kind, quorum_of_kind}
+use Rattle.iss_request.specs.declared.setups.Kind.TheVariants.{Byzantine}
 use Rattle.iss_sb.specs.declared.effects.Claim.{Claim}
 use Rattle.iss_sb.specs.declared.effects.Input.{Input}
 use Rattle.iss_sb.specs.declared.effects.Input.TheVariants.{Cast, Receive, Timeout}
@@ -19,7 +22,7 @@ use Rattle.iss_sb.specs.declared.effects.To.{To}
 use Rattle.iss_sb.specs.declared.effects.To.TheVariants.{All as To_all}
 use Rattle.iss_sb.specs.Calls.{has_slot}
 use Rattle.iss_sb.specs.Evidence.{Item, Made, Module}
-use Rattle.iss_sb.specs.Statements.{eight_bytes, signature, statement_head}
+use Rattle.iss_sb.specs.Statements.{claim, eight_bytes, signature, statement_head}
 use Rattle.sb_echo.specs.declared.word.Word.{Word}
 use Rattle.sb_echo.specs.declared.word.Word.TheVariants.{Say, Echo}
 
@@ -39,10 +42,8 @@ tag = 6
 abbrev pub statement : Params → ℕ → ℕ → List ℕ → List ℕ
 statement p kind s d = statement_head p tag ++ (kind ∷ (eight_bytes s ++ d))
 
-abbrev pub claim : ℕ → List ℕ → List ℕ → Claim
-claim by statement sig = record { by = record { 0 = by }; statement = statement; sig = sig }
-
 -- a message claims its own signature
+-- rule: Echo: A message claims its sender's signature
 abbrev pub claims : Params → ℕ → Word → List Claim
 claims p from (Say slot batch sig) = claim from (statement p 1 slot.0 (digest_of p batch)) sig ∷ []
 claims p from (Echo slot d sig) = claim from (statement p 2 slot.0 d) sig ∷ []
@@ -72,6 +73,7 @@ is_open p s xs = has_slot s p.slots && not (is_some (taken s xs))
 -- ---- rules
 
 -- the leader takes a cast at an open slot, and a node the leader's word on one
+-- rule: Echo: A node takes the leader's first batch for a slot and echoes its digest once
 abbrev pub asks : Params → ℕ → List (Item Word) → Input Word → Option (Slot × Batch)
 asks p me xs (Cast slot batch) = if (me == p.leader.0) && is_open p slot.0 xs then Some (slot, batch) else None
 asks p me xs (Receive from (Say slot batch sig)) = if (from.0 == p.leader.0) && is_open p slot.0 xs then Some (slot, batch) else None
@@ -116,6 +118,7 @@ abbrev pub decide : Params → ℕ → List (Item Word) → Option Batch → Opt
 decide p s xs None = None
 decide p s xs (Some b) = if has_slot s p.slots && is_echoed p s (digest_of p b) xs then Some (Value_batch b) else None
 
+-- rule: Echo: A quorum of echoes decides the batch that was taken
 abbrev pub decided : Params → ℕ → List (Item Word) → ℕ → Option Value
 decided p me xs s = decide p s xs (taken s xs)
 
@@ -160,8 +163,8 @@ parse version = do
 -- f Byzantine nodes of 3f+1
 abbrev pub echo : Module Word
 echo = record {
-  nodes = λ f. 3 * f + 1;
-  quorum = λ f. 2 * f + 1;
+  nodes = nodes_of_kind Byzantine;
+  quorum = quorum_of_kind Byzantine;
   stopping = false;
   tag = tag;
   signs = λ p. 2;

@@ -1,7 +1,7 @@
 //! The rules of echo, and that it is an ordering module.
 ghost use Rattle.std.specs.Prelude.{◌≡◌, ℕ, ◌≤◌, List, IfOk};
 ghost use Rattle.iss_keys.specs.KeyStates.{KeyState, left_of};
-ghost use Rattle.iss_sb.specs.Calls.{IsGoodInput, IsGoodParams, IsStep, IsTrueStep, has_slot};
+ghost use Rattle.iss_sb.specs.Calls.{IsGoodInput, IsGoodParams, IsTrueStep, has_slot};
 ghost use Rattle.sb_echo.specs.Echo.{echo};
 ghost use Rattle.sb_echo.specs.Refines.{HasCompleted, HasTaken, Refines, is_complete, is_free, is_heard, may_cast, may_take, one_at};
 
@@ -10,8 +10,11 @@ use crate::signing::{ECHO, SAY, digest_of, sign_word, string_of};
 use crate::wire;
 use crate::word::Word;
 use iss_keys::Keys;
-use iss_request::{Batch, DecodeError, Fields, NoMemory, NodeId, Seq, Slot, Value, Writer};
-use iss_sb::{Claim, Effects, Input, Params, Sequenced, StepError, To};
+use iss_request::{
+    Batch, DecodeError, Fields, Kind, NoMemory, NodeId, Seq, Slot, Value, Writer, nodes_of_kind,
+    quorum,
+};
+use iss_sb::{Claim, Effects, Input, Params, Sequenced, To, asks_if};
 use std::alloc::Global;
 use std::collections::BTreeMap;
 
@@ -168,6 +171,7 @@ impl Echo {
     }
 
     // A node takes the leader's first word on a slot, and echoes its digest to all.
+    // rule: Echo: A node takes the leader's first batch for a slot and echoes its digest once
     fn take_say(
         &mut self,
         alloc: Global,
@@ -193,6 +197,7 @@ impl Echo {
     }
 
     // A node hears an echo, and delivers what it took at the slot once a quorum echoed it. It signs nothing.
+    // rule: Echo: A quorum of echoes decides the batch that was taken
     fn take_echo(
         &mut self,
         alloc: Global,
@@ -234,11 +239,11 @@ impl Sequenced for Echo {
     ghost refines = { Refines };
 
     fn nodes_of(f: u32) -> u32 {
-        3 * f + 1
+        nodes_of_kind(Kind::Byzantine, f)
     }
 
     fn quorum_of(f: u32) -> u32 {
-        2 * f + 1
+        quorum(Kind::Byzantine, f)
     }
 
     fn signs(_p: &Params) -> u32 {
@@ -259,13 +264,7 @@ impl Sequenced for Echo {
 
     fn asks<'a>(&'a self, p: &Params, i: &'a Input<Word>) -> Option<(Slot, &'a Batch)> {
         match i {
-            Input::Cast { slot, batch } => {
-                if self.may_cast(p, *slot) {
-                    Some((*slot, batch))
-                } else {
-                    None
-                }
-            }
+            Input::Cast { slot, batch } => asks_if(self.may_cast(p, *slot), *slot, batch),
             Input::Receive {
                 from,
                 msg: Word::Say { slot, batch, .. },
@@ -280,33 +279,23 @@ impl Sequenced for Echo {
         }
     }
 
-    fn step(
+    fn apply(
         &mut self,
         alloc: Global,
         p: &Params,
         i: Input<Word>,
-        verdict: bool,
         keys: &mut Keys,
-    ) -> Result<Effects<Word>, StepError>
+    ) -> Result<Effects<Word>, NoMemory>
         requires good { IsGoodParams echo p.now }
         requires input { IsGoodInput p.now i }
-        ensures { IsStep echo Refines p.now self.old self.new i verdict keys.old keys.new result }
+        requires enough { echo.signs p.now ≤ left_of keys.old }
+        ensures { IfOk result (λ e. IsTrueStep echo Refines p.now self.old self.new i keys.old keys.new e) }
     {
-        if keys.left() < 2 {
-            return Err(StepError::Spent);
-        }
-        if !verdict {
-            return Ok(Effects::nothing(alloc));
-        }
         match i {
-            Input::Cast { slot, batch } => Ok(self.cast(alloc, p, slot, batch, keys)?),
+            Input::Cast { slot, batch } => self.cast(alloc, p, slot, batch, keys),
             Input::Receive { from, msg } => match msg {
-                Word::Say { slot, batch, .. } => Ok(self.take_say(
-                    alloc, p, from, slot, batch, keys,
-                )?),
-                Word::Echo { slot, digest, .. } => Ok(self.take_echo(
-                    alloc, p, from, slot, digest,
-                )?),
+                Word::Say { slot, batch, .. } => self.take_say(alloc, p, from, slot, batch, keys),
+                Word::Echo { slot, digest, .. } => self.take_echo(alloc, p, from, slot, digest),
             },
             Input::Timeout => Ok(Effects::nothing(alloc)),
         }

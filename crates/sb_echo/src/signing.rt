@@ -6,8 +6,7 @@ ghost use Rattle.iss_sb.specs.Statements.{signature};
 ghost use Rattle.sb_echo.specs.Echo.{digest_of, statement, string_of};
 
 use iss_keys::Keys;
-use iss_request::values::write_batch;
-use iss_request::{Batch, Bytes, NoMemory, Slot, Writer, version_byte};
+use iss_request::{Batch, Bytes, NoMemory, Slot, Writer, batch_string};
 use iss_sb::{Params, put_head, sign};
 use std::alloc::Global;
 
@@ -24,12 +23,7 @@ pub const ECHO: u8 = 2;
 pub fn string_of(alloc: Global, p: &Params, batch: &Batch) -> Result<Bytes, NoMemory>
     ensures { IfOk result (λ s. s ≡ string_of p.now batch.now) }
 {
-    let version = p.setup.version;
-    let mut out = Writer::new(alloc, version);
-    out.put_u8(0x40)?;
-    out.put_u8(version_byte(version))?;
-    write_batch(batch, &mut out)?;
-    Ok(out.into_bytes())
+    batch_string(alloc, p.setup.version, batch)
 }
 
 /// The digest of a batch, by its string.
@@ -41,6 +35,7 @@ pub fn digest_of(p: &Params, batch: &Batch, string: &Bytes) -> [u8; 32]
 }
 
 /// The statement that a batch of this digest was said, or taken, at the slot.
+// rule: Signatures: A statement names its cluster, epoch, leader, module and kind
 pub fn statement(
     alloc: Global,
     p: &Params,

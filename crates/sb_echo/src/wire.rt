@@ -1,36 +1,22 @@
 //! The bytes of the messages, and what they claim that nodes have signed.
-ghost use Rattle.std.specs.Prelude.{◌≡◌, ◌↔◌, ℕ, List, ◌∷◌, [], true, length, IfOk, OnOk, Err};
+ghost use Rattle.std.specs.Prelude.{◌≡◌, ◌↔◌, ℕ, List, ◌∷◌, [], true, IfOk, OnOk, Err};
 ghost use Rattle.sb_echo.specs.declared.word.Word.{Word};
-ghost use Rattle.iss_request.specs.declared.requests.Value.TheVariants.{Batch as Value_batch};
 ghost use Rattle.iss_request.specs.Fields.{Good, IsRead, IsUnreadable, and_bytes};
-ghost use Rattle.iss_request.specs.Formats.{is_batch, is_signature, parse_value};
-ghost use Rattle.iss_request.specs.Parsing.{block, such_that};
-ghost use Rattle.sb_echo.specs.Echo.{IsSpelledWord, claim, claims, parse, parse_echo, parse_say, spell, statement};
+ghost use Rattle.iss_request.specs.Formats.{is_signature};
+ghost use Rattle.iss_sb.specs.Statements.{claim};
+ghost use Rattle.sb_echo.specs.Echo.{IsSpelledWord, claims, parse, parse_echo, parse_say, spell, statement};
 
 use crate::signing::{ECHO, SAY, digest_of, statement, string_of};
 use crate::word::Word;
-use iss_request::values::write_batch;
 use iss_request::{
-    Batch, Bytes, DecodeError, Fields, NoMemory, NodeId, Seq, Slot, Value, Writer, read_signature,
-    read_value, version_byte,
+    Batch, Bytes, DecodeError, Fields, NoMemory, NodeId, Seq, Slot, Writer, has_shape,
+    read_batch_value, read_signature, write_batch_value,
 };
 use iss_sb::{Claim, Params};
 use std::alloc::Global;
 
 /// The number of no message.
 const NO_MESSAGE: u8 = 0;
-
-// Whether bytes have the shape of a signature.
-fn has_shape(sig: &[u8]) -> bool
-    ensures { result ≡ is_signature sig.now }
-{
-    match sig {
-        [] => false,
-        [height, rest @ ..] => {
-            2 <= *height && *height <= 12 && rest.len() == 4 + 32 * (67 + *height as usize)
-        }
-    }
-}
 
 /// Writes a message: its number, the slot, the batch as a value or the digest, the signature. One that has no
 /// spelling is written as bytes that no reader takes.
@@ -59,9 +45,7 @@ fn write_say(slot: Slot, batch: &Batch, sig: &Bytes, out: &mut Writer) -> Result
 {
     out.put_u8(SAY)?;
     out.put_u64(slot.0)?;
-    let first = version_byte(out.version());
-    out.put_u8(first)?;
-    write_batch(batch, out)?;
+    write_batch_value(batch, out)?;
     out.put_bytes(sig.as_slice())
 }
 
@@ -94,7 +78,7 @@ fn read_say(alloc: Global, f: &mut Fields) -> Result<Word, DecodeError>
     ensures bad { (at : ℕ) → result ≡ Err (DecodeError.BadField at) → IsUnreadable (parse_say f.old.version) f.old at }
 {
     let slot = Slot(f.read_u64()?);
-    let batch = read_batch(alloc, f)?;
+    let batch = read_batch_value(alloc, f)?;
     let sig = read_signature(alloc, f)?;
     Ok(Word::Say { slot, batch, sig })
 }
@@ -104,41 +88,13 @@ fn read_echo(alloc: Global, f: &mut Fields) -> Result<Word, DecodeError>
     ensures bad { (at : ℕ) → result ≡ Err (DecodeError.BadField at) → IsUnreadable parse_echo f.old at }
 {
     let slot = Slot(f.read_u64()?);
-    let digest = read_digest(f)?;
+    let digest = f.read_digest()?;
     let sig = read_signature(alloc, f)?;
     Ok(Word::Echo { slot, digest, sig })
 }
 
-fn read_digest(f: &mut Fields) -> Result<[u8; 32], DecodeError>
-    ensures ok { IfOk result (λ d. IsRead (block 32) f.old f.new d) }
-    ensures bad { (at : ℕ) → result ≡ Err (DecodeError.BadField at) → IsUnreadable (block 32) f.old at }
-{
-    let bytes = f.read_bytes(32)?;
-    Ok(array_of(bytes))
-}
-
-fn array_of(bytes: &[u8]) -> [u8; 32]
-    requires { length bytes.now ≡ 32 }
-    ensures { result ≡ bytes.now }
-{
-    let mut digest = [0; 32];
-    digest.copy_from_slice(bytes);
-    digest
-}
-
-// Reads a value that is a batch.
-fn read_batch(alloc: Global, f: &mut Fields) -> Result<Batch, DecodeError>
-    ensures ok { IfOk result (λ b. IsRead (such_that is_batch (parse_value f.old.version)) f.old f.new (Value_batch b)) }
-    ensures bad { (at : ℕ) → result ≡ Err (DecodeError.BadField at) → IsUnreadable (such_that is_batch (parse_value f.old.version)) f.old at }
-{
-    let no_batch = f.bad_field();
-    match read_value(alloc, f)? {
-        Value::Batch(batch) => Ok(batch),
-        Value::Nil => Err(no_batch),
-    }
-}
-
 /// What a message claims: its own signature.
+// rule: Echo: A message claims its sender's signature
 pub fn claims(alloc: Global, p: &Params, from: NodeId, msg: &Word) -> Result<Seq<Claim>, NoMemory>
     ensures { IfOk result (λ all. all ≡ claims p.now from.0 msg.now) }
 {

@@ -7,7 +7,7 @@ use Rattle.iss_base.proofs.Lists.{and-true}
 use Rattle.iss_sb.specs.declared.effects.Params.{Params}
 use Rattle.iss_sb.specs.Statements.{four_bytes, statement_head}
 use Rattle.iss_sb.proofs.Statements.{head-same, wide-same}
-use Rattle.raft_wire.specs.declared.entries.What.{What}
+use Rattle.iss_sb.specs.declared.content.Content.{Content}
 use Rattle.hs_tree.specs.declared.certificates.Certificate.{Certificate}
 use Rattle.hs_tree.specs.declared.certificates.Certificate.TheVariants.{Root, Votes}
 use Rattle.hs_tree.specs.declared.messages.Message.{Message}
@@ -128,7 +128,7 @@ own-vote p (Vote q v e sig) phase view d h =
 
 -- one whose own statement is a proposal's is a proposal of that view and node
 pub record IsProposal (p : Params) (msg : Message) (view : ℕ) (d : List ℕ) : Type 0 where
-  pub what : What
+  pub what : Content
   pub just : Certificate
   pub sig : List ℕ
   pub is : msg ≡ Prepare view what just sig

@@ -13,7 +13,7 @@ use Rattle.iss_sb.specs.declared.effects.To.TheVariants.{All as To_all}
 use Rattle.iss_sb.specs.Evidence.{Item, Made}
 use Rattle.iss_sb.specs.Legal.{AreMade}
 use Rattle.iss_sb.specs.Statements.{signature}
-use Rattle.raft_wire.specs.declared.entries.What.{What}
+use Rattle.iss_sb.specs.declared.content.Content.{Content}
 use Rattle.hs_tree.specs.declared.certificates.Certificate.{Certificate}
 use Rattle.hs_tree.specs.declared.messages.Message.{Message}
 use Rattle.hs_tree.specs.declared.messages.Message.TheVariants.{NewView, Prepare, PreCommit, Commit, Decide, Vote}
@@ -27,7 +27,7 @@ use Rattle.sb_hotstuff.proofs.Basics.{by-test, second-is, third-is}
 
 pub record IsFirst (p : Params) (s : State) (i : Input Message) (view : ℕ) (d : List ℕ) : Type 0 where
   pub from : NodeId
-  pub what : What
+  pub what : Content
   pub just : Certificate
   pub sig : List ℕ
   pub is : i ≡ Receive from (Prepare view what just sig)
@@ -170,7 +170,7 @@ turn-view s (Some t) = refl
 same : (v : ℕ) → v ≤ v
 same v = omega arith
 
-pub prepare-above : (p : Params) (s : State) (from view : ℕ) (what : What) (just : Certificate) → may_prepare p s from view what just ≡ true → s.view < view
+pub prepare-above : (p : Params) (s : State) (from view : ℕ) (what : Content) (just : Certificate) → may_prepare p s from view what just ≡ true → s.view < view
 prepare-above p s from view what just h =
     let a = and-true _ _ h in
     let b = and-true _ _ a.0 in
@@ -235,7 +235,7 @@ cause-one p s i phase view q v d e (by_first f) (by_first g) =
     let a : view ≡ v = cc in
     let c : f.what ≡ g.what = cc in
     let j : f.just ≡ g.just = cc in
-    (refl, a, f.digest_is ∙ ap (λ (z : ℕ). node_digest p z f.what f.just) a ∙ ap (λ (z : What). node_digest p v z f.just) c ∙ ap (λ (z : Certificate). node_digest p v g.what z) j ∙ sym g.digest_is)
+    (refl, a, f.digest_is ∙ ap (λ (z : ℕ). node_digest p z f.what f.just) a ∙ ap (λ (z : Content). node_digest p v z f.just) c ∙ ap (λ (z : Certificate). node_digest p v g.what z) j ∙ sym g.digest_is)
 cause-one p s i phase view q v d e (by_first f) (by_second g) = absurd (let k : Receive f.from (Prepare view f.what f.just f.sig) ≡ Receive g.from (PreCommit v g.shown g.sig) = sym f.is ∙ g.is in cc)
 cause-one p s i phase view q v d e (by_first f) (by_third g) = absurd (let k : Receive f.from (Prepare view f.what f.just f.sig) ≡ Receive g.from (Commit v g.shown g.sig) = sym f.is ∙ g.is in cc)
 cause-one p s i phase view q v d e (by_second f) (by_first g) = absurd (let k : Receive f.from (PreCommit view f.shown f.sig) ≡ Receive g.from (Prepare v g.what g.just g.sig) = sym f.is ∙ g.is in cc)

@@ -11,18 +11,18 @@ use Rattle.iss_sb.specs.declared.effects.Input.TheVariants.{Cast, Receive, Timeo
 use Rattle.iss_sb.specs.declared.effects.Params.{Params}
 use Rattle.iss_sb.specs.declared.effects.To.{To}
 use Rattle.iss_sb.specs.Evidence.{Item, one_or_none}
-use Rattle.iss_sb.specs.Statements.{signature}
+use Rattle.iss_sb.specs.Statements.{claim, signature}
 use Rattle.iss_sb.proofs.Claims.{IsOld, PassesOn, Says, before, now, own}
 use Rattle.iss_sb.proofs.Leaves.{by-first, by-next}
 use Rattle.iss_sb.specs.Laws.{ComesWith, IsSignedBy, SignsOnce, WasSeen}
 use Rattle.hs_tree.specs.declared.certificates.Certificate.{Certificate}
 use Rattle.hs_tree.specs.declared.certificates.Certificate.TheVariants.{Root, Votes}
-use Rattle.hs_tree.specs.declared.certificates.Signed.{Signed}
+use Rattle.iss_sb.specs.declared.signers.Signed.{Signed}
 use Rattle.hs_tree.specs.declared.messages.Message.{Message}
 use Rattle.hs_tree.specs.declared.messages.Message.TheVariants.{NewView, Prepare, PreCommit, Commit, Decide, Vote}
-use Rattle.raft_wire.specs.declared.entries.What.TheVariants.{Nil}
+use Rattle.iss_sb.specs.declared.content.Content.TheVariants.{Nil}
 use Rattle.hs_tree.specs.Certificates.{digest_of, view_of}
-use Rattle.hs_tree.specs.Statements.{certificate_claims, claim, claims, inside, own_statement, signature_of, vote_claims, vote_statement, with_signature}
+use Rattle.hs_tree.specs.Statements.{certificate_claims, claims, inside, own_statement, signature_of, vote_claims, vote_statement, with_signature}
 use Rattle.hs_tree.specs.Tree.{basic, is_known}
 use Rattle.sb_hotstuff.specs.HotStuff.{answers, answers_heard, drafts, hotstuff, proposals, shows, sign_all, state, voted}
 use Rattle.sb_hotstuff.specs.Rules.{Kept, News, State, Turn, all_news, best, cast_turn, certificate, first_turn, heard, is_for, is_reached, is_ready, keeps_news, keeps_vote, kept, may_cast, may_end, may_prepare, may_second, may_third, news_of, next_turn, nil_or_mark, node_digest, proposed, round_of, slots_below, turn, turn_after, turn_on, vote_of, votes_of, with_cast, with_news, with_node, with_round, with_turn, with_vote}
@@ -288,7 +288,7 @@ module _ (p : Params) where
       said-claims p G (inside msg) (sent-said p G me leaf (drafts p me s input) ds to msg sent)
 
   says-it : (from : ℕ) (msg : Message) (c : Claim) (k : ℕ) (t : List ℕ) → In c (claims basic p from msg) → c.by.0 ≡ k → c.statement ≡ t → Says hotstuff p from msg k t
-  says-it from msg c k t h by is = record { claim = c; refines = h; named = by; is = is }
+  says-it from msg c k t h by is = record { claim = c; stands = h; named = by; is = is }
 
   module _ (me : ℕ) (xs : List (Item Message)) (input : Input Message) (c : Claim) (k : ℕ) (t : List ℕ) (by : c.by.0 ≡ k) (is : c.statement ≡ t) where
     old-now : (y : Input Message) → input ≡ y → ComesWith hotstuff p c y → IsOld hotstuff p me xs input k t
@@ -310,7 +310,7 @@ module _ (p : Params) where
 
   pub passes-on : PassesOn hotstuff p (States p)
   passes-on w legal me input leaf correct may to msg statement sent said =
-      elim (in_append said.claim (certificate_claims basic p (inside msg)) (claim me (own_statement basic p msg) (signature_of msg) ∷ []) said.refines) [
+      elim (in_append said.claim (certificate_claims basic p (inside msg)) (claim me (own_statement basic p msg) (signature_of msg) ∷ []) said.stands) [
         | inl a ↦ inr (seen-old me (w me) input said.claim me statement said.named said.is (inside-seen me (w me) input leaf to msg sent said.claim a))
         | inr a ↦ inl (mine a)
       ]

@@ -9,8 +9,8 @@ use Rattle.iss_sb.specs.declared.effects.Params.{Params}
 use Rattle.iss_sb.specs.Calls.{IsGoodParams}
 use Rattle.iss_sb.specs.Evidence.{IsString, Separate, World, is_correct}
 use Rattle.iss_sb.proofs.Quorums.{Meets, few-faulty, meets}
-use Rattle.raft_wire.specs.declared.entries.What.{What}
-use Rattle.raft_wire.specs.declared.entries.What.TheVariants.{Holds}
+use Rattle.iss_sb.specs.declared.content.Content.{Content}
+use Rattle.iss_sb.specs.declared.content.Content.TheVariants.{Holds}
 use Rattle.hs_tree.specs.declared.messages.Message.{Message}
 use Rattle.hs_tree.specs.Paths.{Has, hash}
 use Rattle.hs_tree.specs.Tree.{filled, root, value_at}
@@ -25,17 +25,17 @@ quorums-meet p good t u tq uq = let nodes = good.nodes in let majority = good.ma
 -- ---- what single nodes show
 
 module _ (p : Params) (w : World Message) (acc : ℕ → ℕ → Batch → Type 0) where
-  abbrev Holder : List ℕ → What → Type 0
+  abbrev Holder : List ℕ → Content → Type 0
   Holder a c = Has p.setup.version (IsString w) a c
 
   -- a first vote: the node, with its justification. Node k accepted its batch at the place where it stands
   pub record First (k view : ℕ) (d : List ℕ) : Type 0 where
     pub parent : List ℕ
-    pub what : What
+    pub what : Content
     pub has : Has p.setup.version (IsString w) parent what
     pub digest_is : hash p.setup.version parent what ≡ d
     pub just : (parent ≡ root) ⊎ ((x : ℕ) × (x < view) × IsCertified p w 1 x parent)
-    pub accepted : (cs : List What) (b : Batch) → Leads p w parent root cs → what ≡ Holds b → acc k (filled cs) b
+    pub accepted : (cs : List Content) (b : Batch) → Leads p w parent root cs → what ≡ Holds b → acc k (filled cs) b
 
   pub record Facts : Type 0 where
     pub one : (k v : ℕ) (d e : List ℕ) → IsVoted w k 1 v d → IsVoted w k 1 v e → d ≡ e
@@ -47,7 +47,7 @@ module _ (p : Params) (w : World Message) (acc : ℕ → ℕ → Batch → Type 
   pub record Accepted (k : ℕ) (b : Batch) : Type 0 where
     pub view : ℕ
     pub parent : List ℕ
-    pub below : List What
+    pub below : List Content
     pub has : Has p.setup.version (IsString w) parent (Holds b)
     pub certified : IsCertified p w 1 view (hash p.setup.version parent (Holds b))
     pub leads : Leads p w parent root below
@@ -67,7 +67,7 @@ module _ (p : Params) (w : World Message) (acc : ℕ → ℕ → Batch → Type 
     pub third-first : (v : ℕ) (d : List ℕ) → IsCertified p w 3 v d → IsCertified p w 1 v d
     third-first v d c = let j = some 3 v d c in second-first v d (facts.third j.0 v d j.2)
 
-    above : (n u : ℕ) (d : List ℕ) (v : ℕ) (e : List ℕ) → v < n → u ≤ v → IsCertified p w 3 u d → IsCertified p w 1 v e → (cs : List What) × Leads p w e d cs
+    above : (n u : ℕ) (d : List ℕ) (v : ℕ) (e : List ℕ) → v < n → u ≤ v → IsCertified p w 3 u d → IsCertified p w 1 v e → (cs : List Content) × Leads p w e d cs
     above zero u d v e l m c g = absurd (omega arith)
     above (suc n) u d v e l m c g = elim (cases_eq u v) [
       | inl q ↦ ([], one-node v e d g (subst (λ (z : ℕ). IsCertified p w 1 z d) q (third-first u d c)))
@@ -89,29 +89,29 @@ module _ (p : Params) (w : World Message) (acc : ℕ → ℕ → Batch → Type 
     ]
 
     -- the node of a prepare certificate at or above a commit certificate's view extends that one's node
-    pub extends-it : (u : ℕ) (d : List ℕ) (v : ℕ) (e : List ℕ) → u ≤ v → IsCertified p w 3 u d → IsCertified p w 1 v e → (cs : List What) × Leads p w e d cs
+    pub extends-it : (u : ℕ) (d : List ℕ) (v : ℕ) (e : List ℕ) → u ≤ v → IsCertified p w 3 u d → IsCertified p w 1 v e → (cs : List Content) × Leads p w e d cs
     extends-it u d v e m c g = above (suc v) u d v e (omega arith) m c g
 
     module _ (sep : Separate (IsString w)) where
-      pub same-branch : (d : List ℕ) (xs ys : List What) → Leads p w d root xs → Leads p w d root ys → xs ≡ ys
+      pub same-branch : (d : List ℕ) (xs ys : List Content) → Leads p w d root xs → Leads p w d root ys → xs ≡ ys
       same-branch = branch-one p.setup.version (IsString w) sep (inl refl)
 
-      pub same-node : (a b : List ℕ) (c e : What) → Holder a c → Holder b e → hash p.setup.version a c ≡ hash p.setup.version b e → (a ≡ b) × (c ≡ e)
+      pub same-node : (a b : List ℕ) (c e : Content) → Holder a c → Holder b e → hash p.setup.version a c ≡ hash p.setup.version b e → (a ≡ b) × (c ≡ e)
       same-node = has-same p.setup.version (IsString w) sep
 
-      agree-below : (u : ℕ) (d : List ℕ) (v : ℕ) (e : List ℕ) (k : ℕ) (cs es : List What) (x y : Value) → u ≤ v → IsCertified p w 3 u d → IsCertified p w 3 v e →
+      agree-below : (u : ℕ) (d : List ℕ) (v : ℕ) (e : List ℕ) (k : ℕ) (cs es : List Content) (x y : Value) → u ≤ v → IsCertified p w 3 u d → IsCertified p w 3 v e →
           Leads p w d root cs → Leads p w e root es → value_at cs k ≡ Some x → value_at es k ≡ Some y → x ≡ y
       agree-below u d v e k cs es x y m c g bd be hx hy =
           let r = extends-it u d v e m c (third-first v e g) in
           let q = path-on p.setup.version (IsString w) e d root r.0 cs r.1 bd in
           let same = same-branch e es (r.0 ++ cs) be q in
           let a : value_at (r.0 ++ cs) k ≡ Some x = value-on r.0 cs k x hx in
-          let b : value_at (r.0 ++ cs) k ≡ Some y = ap (λ (z : List What). value_at z k) (sym same) ∙ hy in
+          let b : value_at (r.0 ++ cs) k ≡ Some y = ap (λ (z : List Content). value_at z k) (sym same) ∙ hy in
           let both : Some x ≡ Some y = sym a ∙ b in
           cc
 
       -- what stands at a place of two decided branches is the same
-      pub agree : (u : ℕ) (d : List ℕ) (v : ℕ) (e : List ℕ) (k : ℕ) (cs es : List What) (x y : Value) → IsCertified p w 3 u d → IsCertified p w 3 v e →
+      pub agree : (u : ℕ) (d : List ℕ) (v : ℕ) (e : List ℕ) (k : ℕ) (cs es : List Content) (x y : Value) → IsCertified p w 3 u d → IsCertified p w 3 v e →
           Leads p w d root cs → Leads p w e root es → value_at cs k ≡ Some x → value_at es k ≡ Some y → x ≡ y
       agree u d v e k cs es x y c g bd be hx hy = elim (cases_lt v u) [
         | inl l ↦ sym (agree-below v e u d k es cs y x (omega arith) g c be bd hy hx)
@@ -120,7 +120,7 @@ module _ (p : Params) (w : World Message) (acc : ℕ → ℕ → Batch → Type 
 
     module _ (sep : Separate (IsString w)) (first : (k v : ℕ) (d : List ℕ) → IsVoted w k 1 v d → First k v d) where
       -- the batch on top of a certified branch
-      top : (v : ℕ) (d a : List ℕ) (b : Batch) (cs : List What) → IsCertified p w 1 v d → Holder a (Holds b) → hash p.setup.version a (Holds b) ≡ d → Leads p w a root cs → Accepted (filled cs) b
+      top : (v : ℕ) (d a : List ℕ) (b : Batch) (cs : List Content) → IsCertified p w 1 v d → Holder a (Holds b) → hash p.setup.version a (Holds b) ≡ d → Leads p w a root cs → Accepted (filled cs) b
       top v d a b cs q i h br = record {
         view = v;
         parent = a;
@@ -140,7 +140,7 @@ module _ (p : Params) (w : World Message) (acc : ℕ → ℕ → Batch → Type 
       }
 
       -- the parent of a certified node is the root or certified
-      below-it : (v : ℕ) (d a : List ℕ) (c : What) → IsCertified p w 1 v d → Holder a c → hash p.setup.version a c ≡ d → (a ≡ root) ⊎ ((x : ℕ) × IsCertified p w 1 x a)
+      below-it : (v : ℕ) (d a : List ℕ) (c : Content) → IsCertified p w 1 v d → Holder a c → hash p.setup.version a c ≡ d → (a ≡ root) ⊎ ((x : ℕ) × IsCertified p w 1 x a)
       below-it v d a c q i h =
           let j = some 1 v d q in
           let f = first j.0 v d j.2 in
@@ -150,19 +150,19 @@ module _ (p : Params) (w : World Message) (acc : ℕ → ℕ → Batch → Type 
             | inr z ↦ inr (z.0, subst (λ (y : List ℕ). IsCertified p w 1 z.0 y) s.0 z.2)
           ]
 
-      root-or : (b : Batch) (k : ℕ) (cs : List What) (a : List ℕ) → ((v : ℕ) → IsCertified p w 1 v a → value_at cs k ≡ Some (Value_batch b) → Accepted k b) →
+      root-or : (b : Batch) (k : ℕ) (cs : List Content) (a : List ℕ) → ((v : ℕ) → IsCertified p w 1 v a → value_at cs k ≡ Some (Value_batch b) → Accepted k b) →
           (a ≡ root) ⊎ ((v : ℕ) × IsCertified p w 1 v a) → Leads p w a root cs → value_at cs k ≡ Some (Value_batch b) → Accepted k b
       root-or b k [] a r s br h = absurd cc
       root-or b k (c ∷ cs) a r (inl z) br h = absurd (no-root p.setup.version (IsString w) sep (inl refl) br.0 c br.1 (br.2 ∙ z))
       root-or b k (c ∷ cs) a r (inr z) br h = r z.0 z.1 h
 
       -- a batch of a certified branch was accepted by a quorum there
-      pub accepted-root : (cs : List What) (v : ℕ) (d : List ℕ) (k : ℕ) (b : Batch) → IsCertified p w 1 v d → Leads p w d root cs → value_at cs k ≡ Some (Value_batch b) → Accepted k b
+      pub accepted-root : (cs : List Content) (v : ℕ) (d : List ℕ) (k : ℕ) (b : Batch) → IsCertified p w 1 v d → Leads p w d root cs → value_at cs k ≡ Some (Value_batch b) → Accepted k b
       accepted-root [] v d k b q br h = absurd cc
       accepted-root (c ∷ cs) v d k b q br h = elim (here-is k (filled cs) c (value_at cs k) b h) [
         | inl z ↦
-            let i = subst (λ (y : What). Holder br.0 y) z.1 br.1 in
-            let e : hash p.setup.version br.0 (Holds b) ≡ d = subst (λ (y : What). hash p.setup.version br.0 y ≡ d) z.1 br.2 in
+            let i = subst (λ (y : Content). Holder br.0 y) z.1 br.1 in
+            let e : hash p.setup.version br.0 (Holds b) ≡ d = subst (λ (y : Content). hash p.setup.version br.0 y ≡ d) z.1 br.2 in
             subst (λ (y : ℕ). Accepted y b) (sym z.0) (top v d br.0 b cs q i e br.3)
         | inr z ↦ root-or b k cs br.0 (λ x g r. accepted-root cs x br.0 k b g br.3 r) (below-it v d br.0 c q br.1 br.2) br.3 z
       ]

@@ -5,7 +5,7 @@ use Rattle.iss_sb.specs.declared.effects.To.{To}
 use Rattle.iss_sb.specs.declared.effects.To.TheVariants.{All as To_all}
 use Rattle.iss_sb.specs.Calls.{AreToNodes, IsToNode}
 use Rattle.iss_sb.specs.Statements.{four_bytes, two_bytes}
-use Rattle.raft_wire.specs.declared.entries.What.{What}
+use Rattle.iss_sb.specs.declared.content.Content.{Content}
 use Rattle.hs_tree.specs.declared.certificates.Certificate.{Certificate}
 use Rattle.hs_tree.specs.declared.messages.Message.{Message}
 use Rattle.hs_tree.specs.declared.messages.Message.TheVariants.{NewView, Prepare, PreCommit, Commit, Decide, Vote}
@@ -34,7 +34,7 @@ round-drafted p round v high sig stated hs hv h = record {
   statement = h ∙ ap (λ (z : ℕ). statement basic p 1 (two_bytes round ++ four_bytes z)) hv;
 }
 
-pub proposal-drafted : (p : Params) (view : ℕ) (what : What) (just : Certificate) (d sig stated : List ℕ) → d ≡ node_digest p view what just → sig ≡ [] → stated ≡ statement basic p 2 (four_bytes view ++ d) →
+pub proposal-drafted : (p : Params) (view : ℕ) (what : Content) (just : Certificate) (d sig stated : List ℕ) → d ≡ node_digest p view what just → sig ≡ [] → stated ≡ statement basic p 2 (four_bytes view ++ d) →
     IsDraft p (record { to = Recipient_all; msg = Prepare view what just sig; statement = stated }) ((To_all, Prepare view what just []) ∷ [])
 proposal-drafted p view what just d sig stated hd hs h = record {
   message = pair _ _ _ (ap (λ (z : List ℕ). Prepare view what just z) (sym hs));

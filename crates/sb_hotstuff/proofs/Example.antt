@@ -18,10 +18,10 @@ use Rattle.iss_sb.specs.declared.effects.To.{To}
 use Rattle.iss_sb.specs.declared.effects.To.TheVariants.{All as To_all, One as To_one}
 use Rattle.iss_sb.specs.Evidence.{Item, and_then, delivered}
 use Rattle.iss_sb.specs.Statements.{signature}
-use Rattle.raft_wire.specs.declared.entries.What.TheVariants.{Nil, Holds, Mark}
+use Rattle.iss_sb.specs.declared.content.Content.TheVariants.{Nil, Holds, Mark}
 use Rattle.hs_tree.specs.declared.certificates.Certificate.{Certificate}
 use Rattle.hs_tree.specs.declared.certificates.Certificate.TheVariants.{Root, Votes}
-use Rattle.hs_tree.specs.declared.certificates.Signed.{Signed}
+use Rattle.iss_sb.specs.declared.signers.Signed.{Signed}
 use Rattle.hs_tree.specs.declared.messages.Message.{Message}
 use Rattle.hs_tree.specs.declared.messages.Message.TheVariants.{NewView, Prepare, PreCommit, Commit, Decide, Vote}
 use Rattle.hs_tree.specs.Statements.{own_statement, with_signature}

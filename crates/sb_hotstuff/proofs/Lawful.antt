@@ -13,23 +13,23 @@ use Rattle.iss_sb.specs.declared.effects.Input.TheVariants.{Cast, Receive, Timeo
 use Rattle.iss_sb.specs.declared.effects.Params.{Params}
 use Rattle.iss_sb.specs.declared.effects.To.{To}
 use Rattle.iss_sb.specs.declared.effects.To.TheVariants.{One as To_one}
-use Rattle.iss_sb.specs.Calls.{AreToNodes, IsToNode}
+use Rattle.iss_sb.specs.Calls.{AreToNodes, IsToNode, is_slot}
 use Rattle.iss_sb.specs.Evidence.{Item, accepts}
 use Rattle.iss_sb.specs.Laws.{IsLawful}
-use Rattle.iss_sb.specs.Statements.{four_bytes, statement_head}
-use Rattle.iss_sb.proofs.Slots.{slot-is}
-use Rattle.raft_wire.specs.declared.entries.What.{What}
-use Rattle.raft_wire.specs.declared.entries.What.TheVariants.{Nil, Holds, Mark}
+use Rattle.iss_sb.specs.Statements.{claim, four_bytes, statement_head}
+use Rattle.iss_sb.proofs.Slots.{slot-is, place-In}
+use Rattle.iss_sb.specs.declared.content.Content.{Content}
+use Rattle.iss_sb.specs.declared.content.Content.TheVariants.{Nil, Holds, Mark}
 use Rattle.hs_tree.specs.declared.certificates.Certificate.{Certificate}
 use Rattle.hs_tree.specs.declared.certificates.Certificate.TheVariants.{Root, Votes}
-use Rattle.hs_tree.specs.declared.certificates.Signed.{Signed}
+use Rattle.iss_sb.specs.declared.signers.Signed.{Signed}
 use Rattle.hs_tree.specs.declared.messages.Message.{Message}
 use Rattle.hs_tree.specs.declared.messages.Message.TheVariants.{NewView, Prepare, PreCommit, Commit, Decide, Vote}
 use Rattle.hs_tree.specs.Certificates.{digest_of}
-use Rattle.hs_tree.specs.Statements.{certificate_claims, claim, claims, inside, own_statement, signature_of, vote_claims}
+use Rattle.hs_tree.specs.Statements.{certificate_claims, claims, inside, own_statement, signature_of, vote_claims}
 use Rattle.hs_tree.specs.Tree.{basic, branch, is_known, value_at, value_at_slot}
 use Rattle.sb_hotstuff.specs.HotStuff.{answers, answers_heard, asked_by, asks, decided, decides, drafts, hotstuff, offered, proposals, sign_all, state, unless_accepted, voted, was_accepted}
-use Rattle.sb_hotstuff.specs.Rules.{State, Turn, is_good, is_reached, is_slot, keeps_vote, kept, may_cast, may_end, may_prepare, may_second, may_third, node_digest, proposed, round_of, slots_below}
+use Rattle.sb_hotstuff.specs.Rules.{State, Turn, is_good, is_reached, keeps_vote, kept, may_cast, may_end, may_prepare, may_second, may_third, node_digest, proposed, round_of, slots_below}
 use Rattle.sb_hotstuff.proofs.Basics.{IsIf, by-if, if-in, if-not, if-some, is-same}
 use Rattle.sb_hotstuff.proofs.Readable.{sent-again}
 
@@ -74,13 +74,6 @@ module _ (p : Params) (me : ℕ) (xs : List (Item Message)) where
   castable : (s : Slot) (b c : Batch) → asks p me xs (Cast s b) ≡ Some (s, b) → asks p me xs (Cast s c) ≡ Some (s, c)
   castable s b c h = rw ((cast-is s b (s, b) h).passed) refl
 
-pub slot-In : (slots : List Slot) (k : ℕ) (s : Slot) → is_slot s.0 (nth slots k) ≡ true → In s slots
-slot-In slots k s h = go (nth slots k) refl h
-  where
-    go : (o : Option Slot) → nth slots k ≡ o → is_slot s.0 o ≡ true → In s slots
-    go None q e = absurd (true≢false (sym e))
-    go (Some t) q e = nth-in slots k s (q ∙ ap (λ (z : Slot). Some z) (slot-is t s (is-same t.0 s.0 e)))
-
 unless-In : (old : List (Slot × Batch)) (b : Batch) (slots : List Slot) (k : ℕ) (x : Slot × Batch) → unless_accepted old b (nth slots k) ≡ Some x → In x.0 slots
 unless-In old b slots k x h = go (nth slots k) refl h
   where
@@ -91,7 +84,7 @@ unless-In old b slots k x h = go (nth slots k) refl h
         let slot : s ≡ x.0 = cc in
         subst (λ (z : Slot). In z slots) slot (nth-in slots k s q)
 
-offered-In : (p : Params) (s : State) (old : List (Slot × Batch)) (what : What) (just : Certificate) (x : Slot × Batch) → offered p s old what just ≡ Some x → In x.0 p.slots
+offered-In : (p : Params) (s : State) (old : List (Slot × Batch)) (what : Content) (just : Certificate) (x : Slot × Batch) → offered p s old what just ≡ Some x → In x.0 p.slots
 offered-In p s old Nil just x h = absurd cc
 offered-In p s old (Holds b) just x h = unless-In old b p.slots (slots_below s just) x h
 offered-In p s old Mark just x h = absurd cc
@@ -108,13 +101,13 @@ asked-In : (p : Params) (me : ℕ) (xs : List (Item Message)) (i : Input Message
 asked-In p me xs (Cast s b) x h =
     let c = cast-is p me xs s b x h in
     let t = and-true _ (is_slot s.0 (nth p.slots (length (state p me xs).casts))) c.passed in
-    subst (λ (z : Slot × Batch). In z.0 p.slots) c.is (slot-In p.slots (length (state p me xs).casts) s t.1)
+    subst (λ (z : Slot × Batch). In z.0 p.slots) c.is (place-In s p.slots (length (state p me xs).casts) t.1)
 asked-In p me xs (Receive from msg) x h = heard-In p (state p me xs) (accepts xs) from.0 msg x h
 asked-In p me xs Timeout x h = absurd cc
 
 -- ---- what is decided
 
-value-In : (cs : List What) (k : ℕ) (slots : List Slot) (s : Slot) (x : Value) → value_at_slot cs k slots s.0 ≡ Some x → In s slots
+value-In : (cs : List Content) (k : ℕ) (slots : List Slot) (s : Slot) (x : Value) → value_at_slot cs k slots s.0 ≡ Some x → In s slots
 value-In cs k [] s x h = absurd cc
 value-In cs k (t ∷ ts) s x h = go (t.0 == s.0) refl h (value-In cs (suc k) ts s x)
   where

@@ -11,15 +11,15 @@ use Rattle.iss_sb.specs.declared.effects.Input.TheVariants.{Cast, Receive, Timeo
 use Rattle.iss_sb.specs.declared.effects.Params.{Params}
 use Rattle.iss_sb.specs.declared.effects.To.{To}
 use Rattle.iss_sb.specs.declared.effects.To.TheVariants.{All as To_all}
-use Rattle.iss_sb.specs.Calls.{IsGoodParams}
+use Rattle.iss_sb.specs.Calls.{IsGoodParams, is_slot}
 use Rattle.iss_sb.specs.Evidence.{Item, IsString, Made, World, accepts}
 use Rattle.iss_sb.specs.Laws.{AreHeard}
 use Rattle.iss_sb.specs.Legal.{IsLegal}
 use Rattle.iss_sb.specs.Statements.{signature}
-use Rattle.iss_sb.proofs.Slots.{slot-is}
+use Rattle.iss_sb.proofs.Slots.{slot-is, slot-some}
 use Rattle.iss_sb.proofs.Worlds.{accepts-new, accepts-old}
-use Rattle.raft_wire.specs.declared.entries.What.{What}
-use Rattle.raft_wire.specs.declared.entries.What.TheVariants.{Nil, Holds, Mark}
+use Rattle.iss_sb.specs.declared.content.Content.{Content}
+use Rattle.iss_sb.specs.declared.content.Content.TheVariants.{Nil, Holds, Mark}
 use Rattle.hs_tree.specs.declared.certificates.Certificate.{Certificate}
 use Rattle.hs_tree.specs.declared.certificates.Certificate.TheVariants.{Root}
 use Rattle.hs_tree.specs.declared.messages.Message.{Message}
@@ -28,10 +28,10 @@ use Rattle.hs_tree.specs.Certificates.{digest_of}
 use Rattle.hs_tree.specs.Paths.{Has, hash}
 use Rattle.hs_tree.specs.Statements.{own_statement, with_signature}
 use Rattle.hs_tree.specs.Tree.{basic, filled, is_known, root, weight}
-use Rattle.hs_tree.proofs.Contents.{what-table}
+use Rattle.iss_sb.proofs.Contents.{content-table}
 use Rattle.sb_hotstuff.specs.Facts.{Leads}
 use Rattle.sb_hotstuff.specs.HotStuff.{answers, asks, drafts, hotstuff, makes, proposals, shows, sign_all, state, strings_at, taken_of, turn_strings, voted}
-use Rattle.sb_hotstuff.specs.Rules.{State, Turn, all_news, best, cast_turn, certificate, first_turn, heard, is_reached, is_ready, is_slot, keeps_news, keeps_vote, kept, may_cast, may_end, may_prepare, may_second, may_third, next_turn, nil_or_mark, node_digest, proposed, round_of, slots_below, turn, turn_after, turn_on, with_cast, with_round, with_turn}
+use Rattle.sb_hotstuff.specs.Rules.{State, Turn, all_news, best, cast_turn, certificate, first_turn, heard, is_reached, is_ready, keeps_news, keeps_vote, kept, may_cast, may_end, may_prepare, may_second, may_third, next_turn, nil_or_mark, node_digest, proposed, round_of, slots_below, turn, turn_after, turn_on, with_cast, with_round, with_turn}
 use Rattle.iss_sb.proofs.Cases.{by-both}
 use Rattle.sb_hotstuff.proofs.Basics.{by-if, by-test, is-same}
 use Rattle.sb_hotstuff.proofs.Casts.{Same, after-kept, heard-same, state-more}
@@ -40,7 +40,7 @@ use Rattle.sb_hotstuff.proofs.Single.{AreVoted, acc, hashed-has}
 
 -- ---- what is not yet signed
 
-prepare-unsigned : (s t : List ℕ) (msg : Message) (view : ℕ) (what : What) (just : Certificate) → Prepare view what just s ≡ with_signature t msg → (sig : List ℕ) × (msg ≡ Prepare view what just sig)
+prepare-unsigned : (s t : List ℕ) (msg : Message) (view : ℕ) (what : Content) (just : Certificate) → Prepare view what just s ≡ with_signature t msg → (sig : List ℕ) × (msg ≡ Prepare view what just sig)
 prepare-unsigned s t (NewView round high old) view what just h = absurd cc
 prepare-unsigned s t (PreCommit v shown old) view what just h = absurd cc
 prepare-unsigned s t (Commit v shown old) view what just h = absurd cc
@@ -48,7 +48,7 @@ prepare-unsigned s t (Decide v shown old) view what just h = absurd cc
 prepare-unsigned s t (Vote q v e old) view what just h = absurd cc
 prepare-unsigned s t (Prepare v c j old) view what just h = (old, (let a : v ≡ view = cc in let b : c ≡ what = cc in let d : j ≡ just = cc in cc))
 
-unsigned : (p : Params) (me leaf : ℕ) (ds : List (To × Message)) (to : To) (view : ℕ) (what : What) (just : Certificate) (sig : List ℕ) → In {A = To × Message} (to, Prepare view what just sig) (sign_all p me leaf ds) →
+unsigned : (p : Params) (me leaf : ℕ) (ds : List (To × Message)) (to : To) (view : ℕ) (what : Content) (just : Certificate) (sig : List ℕ) → In {A = To × Message} (to, Prepare view what just sig) (sign_all p me leaf ds) →
     (old : List ℕ) × In {A = To × Message} (to, Prepare view what just old) ds
 unsigned p me leaf [] to view what just sig h = absurd h
 unsigned p me leaf (x ∷ ds) to view what just sig (inl e) =
@@ -58,14 +58,14 @@ unsigned p me leaf (x ∷ ds) to view what just sig (inl e) =
 unsigned p me leaf (x ∷ ds) to view what just sig (inr k) = let r = unsigned p me (suc leaf) ds to view what just sig k in (r.0, inr r.1)
 
 -- a proposal that is sent is that of the turn which the input led to
-pub record IsTurn (o : Option Turn) (view : ℕ) (what : What) (just : Certificate) : Type 0 where
+pub record IsTurn (o : Option Turn) (view : ℕ) (what : Content) (just : Certificate) : Type 0 where
   pub turn : Turn
   pub is : o ≡ Some turn
   pub view_is : turn.view ≡ view
   pub what_is : turn.what ≡ what
   pub just_is : turn.just ≡ just
 
-module _ (p : Params) (to : To) (view : ℕ) (what : What) (just : Certificate) (sig : List ℕ) where
+module _ (p : Params) (to : To) (view : ℕ) (what : Content) (just : Certificate) (sig : List ℕ) where
   abbrev Sent : List (To × Message) → Type 0
   Sent ds = In {A = To × Message} (to, Prepare view what just sig) ds
 
@@ -107,7 +107,7 @@ module _ (p : Params) (to : To) (view : ℕ) (what : What) (just : Certificate) 
       let c : t.just ≡ just = cc in
       record { turn = t; is = refl; view_is = a; what_is = b; just_is = c }
 
-pub proposal-turn : (p : Params) (me leaf : ℕ) (xs : List (Item Message)) (i : Input Message) (to : To) (view : ℕ) (what : What) (just : Certificate) (sig : List ℕ) → In {A = To × Message} (to, Prepare view what just sig) (makes p me xs i leaf).sends →
+pub proposal-turn : (p : Params) (me leaf : ℕ) (xs : List (Item Message)) (i : Input Message) (to : To) (view : ℕ) (what : Content) (just : Certificate) (sig : List ℕ) → In {A = To × Message} (to, Prepare view what just sig) (makes p me xs i leaf).sends →
     IsTurn (proposed p me (state p me xs) (kept p me (state p me xs) i) i) view what just
 proposal-turn p me leaf xs i to view what just sig h =
     let s = state p me xs in
@@ -121,7 +121,7 @@ proposal-turn p me leaf xs i to view what just sig h =
 -- ---- the turns of a legal list
 
 module _ (p : Params) (w : World Message) (good : IsGoodParams hotstuff p) (legal : IsLegal hotstuff p w) (voted_so : AreVoted p w) (me : ℕ) where
-  abbrev Holder : List ℕ → What → Type 0
+  abbrev Holder : List ℕ → Content → Type 0
   Holder a c = Has p.setup.version (IsString w) a c
 
   -- a cast that the node has in the end too
@@ -140,7 +140,7 @@ module _ (p : Params) (w : World Message) (good : IsGoodParams hotstuff p) (lega
     pub place : ℕ
     pub view_is : t.view ≡ suc place
     pub cast : IsCast place batch
-    pub below : List What
+    pub below : List Content
     pub leads : Leads p w (digest_of t.just) root below
     pub full : filled below ≡ place
 
@@ -167,7 +167,7 @@ module _ (p : Params) (w : World Message) (good : IsGoodParams hotstuff p) (lega
 
   -- ---- the next turn
 
-  cast-ok : (view : ℕ) (just : Certificate) (slots place : ℕ) (o : Option Batch) (below : List What) → view ≡ suc place → ((b : Batch) → o ≡ Some b → IsCast place b) → Leads p w (digest_of just) root below → filled below ≡ place →
+  cast-ok : (view : ℕ) (just : Certificate) (slots place : ℕ) (o : Option Batch) (below : List Content) → view ≡ suc place → ((b : Batch) → o ≡ Some b → IsCast place b) → Leads p w (digest_of just) root below → filled below ≡ place →
       MayOk (cast_turn p view just slots o)
   cast-ok view just slots place None below v h l f = tt
   cast-ok view just slots place (Some b) below v h l f =
@@ -175,7 +175,7 @@ module _ (p : Params) (w : World Message) (good : IsGoodParams hotstuff p) (lega
       record { digest_is = refl; early = λ z. c; batch = λ x q. c }
 
   -- a turn of a later round proposes no batch
-  later-ok : (view : ℕ) (just : Certificate) (what : What) (slots : ℕ) → (round_of view ≡ 0 → ⊥) → ((b : Batch) → what ≡ Holds b → ⊥) → TurnOk (turn p view just what slots)
+  later-ok : (view : ℕ) (just : Certificate) (what : Content) (slots : ℕ) → (round_of view ≡ 0 → ⊥) → ((b : Batch) → what ≡ Holds b → ⊥) → TurnOk (turn p view just what slots)
   later-ok view just what slots late none = record { digest_is = refl; early = λ z. absurd (late z); batch = λ b q. absurd (none b q) }
 
   nil-none : (b : Batch) → Nil ≡ Holds b → ⊥
@@ -243,7 +243,7 @@ module _ (p : Params) (w : World Message) (good : IsGoodParams hotstuff p) (lega
       go None e h = tt
       go (Some t) e h =
           let all : x.made.strings ≡ taken_of p s i ++ strings_at p t.view t.what t.just = made ∙ ap (λ (o : Option Turn). taken_of p s i ++ turn_strings p o) e in
-          hashed-has p w good legal voted_so me x t.view t.what t.just q (digest-length p good t.just h.just) (what-table p.setup.version t.what h.what.0 h.what.1).1
+          hashed-has p w good legal voted_so me x t.view t.what t.just q (digest-length p good t.just h.just) (content-table p.setup.version t.what h.what.0 h.what.1).1
           (λ z m. subst (λ (y : List (List ℕ)). In z y) (sym all) (in_right z (taken_of p s i) (strings_at p t.view t.what t.just) m))
 
   -- ---- the state
@@ -258,20 +258,13 @@ module _ (p : Params) (w : World Message) (good : IsGoodParams hotstuff p) (lega
   nth-last (a ∷ cs) c b zero h = inl h
   nth-last (a ∷ cs) c b (suc k) h = elim (nth-last cs c b k h) [ inl q ↦ inl q | inr q ↦ inr (ap suc q.0, q.1) ]
 
-  pub slot-of : (k : ℕ) (slot : Slot) → is_slot slot.0 (nth p.slots k) ≡ true → nth p.slots k ≡ Some slot
-  slot-of k slot h = go (nth p.slots k) refl h
-    where
-      go : (o : Option Slot) → nth p.slots k ≡ o → is_slot slot.0 o ≡ true → nth p.slots k ≡ Some slot
-      go None q e = absurd (true≢false (sym e))
-      go (Some t) q e = q ∙ ap (λ (z : Slot). Some z) (slot-is t slot (is-same t.0 slot.0 e))
-
   cast-kept : (s : State) (slot : Slot) (b : Batch) → may_cast p me s slot.0 ≡ true → In {A = Slot × Batch} (slot, b) (accepts (w me)) → Later (with_cast s b).casts → LeaderOk s → LeaderOk (with_cast s b)
   cast-kept s slot b q a l h = record {
     turns = h.turns;
     casts = λ k c e. elim (nth-last s.casts b c k e) [
       | inl old ↦ h.casts k c old
       | inr new ↦
-          let there = slot-of (length s.casts) slot (and-true _ (is_slot slot.0 (nth p.slots (length s.casts))) q).1 in
+          let there = slot-some slot (nth p.slots (length s.casts)) (and-true _ (is_slot slot.0 (nth p.slots (length s.casts))) q).1 in
           record { accepted = (slot, ap (λ (n : ℕ). nth p.slots n) new.0 ∙ there, subst (λ (z : Batch). In {A = Slot × Batch} (slot, z) (accepts (w me))) new.1 a); cast = l k c e }
     ];
   }
@@ -321,7 +314,7 @@ module _ (p : Params) (w : World Message) (good : IsGoodParams hotstuff p) (lega
       turn-ok k (proposed p me s k x.input) ok (proposed-ok s k x.input ok) (step-holds x xs h)
 
   -- what a node sends as a proposal
-  pub record IsProposed (view : ℕ) (what : What) (just : Certificate) : Type 0 where
+  pub record IsProposed (view : ℕ) (what : Content) (just : Certificate) : Type 0 where
     pub turn : Turn
     pub view_is : turn.view ≡ view
     pub what_is : turn.what ≡ what
@@ -329,7 +322,7 @@ module _ (p : Params) (w : World Message) (good : IsGoodParams hotstuff p) (lega
     pub ok : TurnOk turn
     pub has : Holder (digest_of turn.just) turn.what
 
-  pub proposal-why : (x : Item Message) (xs : List (Item Message)) (to : To) (view : ℕ) (what : What) (just : Certificate) (sig : List ℕ) → IsPart (x ∷ xs) → In {A = To × Message} (to, Prepare view what just sig) x.made.sends → IsProposed view what just
+  pub proposal-why : (x : Item Message) (xs : List (Item Message)) (to : To) (view : ℕ) (what : Content) (just : Certificate) (sig : List ℕ) → IsPart (x ∷ xs) → In {A = To × Message} (to, Prepare view what just sig) x.made.sends → IsProposed view what just
   proposal-why x xs to view what just sig h sent =
       let s = state p me xs in
       let k = kept p me s x.input in

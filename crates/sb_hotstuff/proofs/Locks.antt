@@ -11,7 +11,7 @@ use Rattle.iss_sb.specs.declared.effects.Params.{Params}
 use Rattle.iss_sb.specs.Calls.{IsGoodParams}
 use Rattle.iss_sb.specs.Evidence.{Item, IsString, World, delivered}
 use Rattle.iss_sb.specs.Legal.{AreMade, IsLegal}
-use Rattle.raft_wire.specs.declared.entries.What.{What}
+use Rattle.iss_sb.specs.declared.content.Content.{Content}
 use Rattle.hs_tree.specs.declared.certificates.Certificate.{Certificate}
 use Rattle.hs_tree.specs.declared.messages.Message.{Message}
 use Rattle.hs_tree.specs.declared.messages.Message.TheVariants.{NewView, Prepare, PreCommit, Commit, Decide, Vote}
@@ -187,7 +187,7 @@ module _ (p : Params) (w : World Message) (good : IsGoodParams hotstuff p) (lega
   pub record Shown (n : ℕ) (x : Value) : Type 0 where
     pub view : ℕ
     pub node : List ℕ
-    pub whats : List What
+    pub whats : List Content
     pub cert : IsCertified p w 3 view node
     pub is_branch : Leads p w node root whats
     pub value : value_at_slot whats 0 p.slots n ≡ Some x

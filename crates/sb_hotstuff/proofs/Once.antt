@@ -10,13 +10,13 @@ use Rattle.iss_request.specs.declared.requests.Batch.{Batch}
 use Rattle.iss_sb.specs.declared.effects.Input.{Input}
 use Rattle.iss_sb.specs.declared.effects.Input.TheVariants.{Cast, Receive, Timeout}
 use Rattle.iss_sb.specs.declared.effects.Params.{Params}
-use Rattle.iss_sb.specs.Calls.{IsGoodParams}
+use Rattle.iss_sb.specs.Calls.{IsGoodParams, is_slot}
 use Rattle.iss_sb.specs.Evidence.{IsReached, IsString, Item, Made, Separate, World, accepts, is_correct}
 use Rattle.iss_sb.specs.Legal.{Front, IsLegal}
 use Rattle.iss_sb.proofs.Legal.{front-in, front_self, front_trans, legal-reached, made-front}
 use Rattle.iss_sb.proofs.Worlds.{accepts-cases}
-use Rattle.raft_wire.specs.declared.entries.What.{What}
-use Rattle.raft_wire.specs.declared.entries.What.TheVariants.{Nil, Holds, Mark}
+use Rattle.iss_sb.specs.declared.content.Content.{Content}
+use Rattle.iss_sb.specs.declared.content.Content.TheVariants.{Nil, Holds, Mark}
 use Rattle.hs_tree.specs.declared.certificates.Certificate.{Certificate}
 use Rattle.hs_tree.specs.declared.messages.Message.{Message}
 use Rattle.hs_tree.specs.declared.messages.Message.TheVariants.{NewView, Prepare, PreCommit, Commit, Decide, Vote}
@@ -25,11 +25,10 @@ use Rattle.hs_tree.specs.Tree.{branch, root}
 use Rattle.hs_tree.proofs.Nodes.{branch-is}
 use Rattle.sb_hotstuff.specs.Facts.{AreOnce, Leads}
 use Rattle.sb_hotstuff.specs.HotStuff.{asks, hotstuff, offered, state, unless_accepted, was_accepted}
-use Rattle.sb_hotstuff.specs.Rules.{is_slot, may_cast, may_prepare, slots_below}
+use Rattle.sb_hotstuff.specs.Rules.{may_cast, may_prepare, slots_below}
 use Rattle.sb_hotstuff.proofs.Basics.{if-in, if-not, if-some}
 use Rattle.sb_hotstuff.proofs.Casts.{cast-new, front-more}
-use Rattle.sb_hotstuff.proofs.Leader.{slot-of}
-use Rattle.iss_sb.proofs.Slots.{ascending-above}
+use Rattle.iss_sb.proofs.Slots.{ascending-above, slot-some}
 use Rattle.sb_hotstuff.proofs.Safe.{leader-signed, proposed-cast, voted-reached}
 use Rattle.sb_hotstuff.proofs.Single.{AreVoted, is-taken, parts, state-tree, taken-has}
 
@@ -77,7 +76,7 @@ module _ (p : Params) (w : World Message) (good : IsGoodParams hotstuff p) (reac
       let casts = (state p l older).casts in
       record {
         place = length casts;
-        slot = slot-of p w good legal voted l (length casts) s (and-true _ (is_slot s.0 (nth p.slots (length casts))) q).1;
+        slot = slot-some s (nth p.slots (length casts)) (and-true _ (is_slot s.0 (nth p.slots (length casts))) q).1;
         cast = front-more p l (x ∷ older) (w l) f (length casts) b (cast-new p l x older s b e q);
       }
 
@@ -110,7 +109,7 @@ module _ (p : Params) (w : World Message) (good : IsGoodParams hotstuff p) (reac
       let t = if-in (may_prepare p st from.0 v what just) (offered p st (accepts older) what just) (s, b) h in
       go what e t.passed t.is
     where
-      go : (c : What) → x.input ≡ Receive from (Prepare v c just sig) → may_prepare p (state p l older) from.0 v c just ≡ true → offered p (state p l older) (accepts older) c just ≡ Some (s, b) → IsCastAt s b
+      go : (c : Content) → x.input ≡ Receive from (Prepare v c just sig) → may_prepare p (state p l older) from.0 v c just ≡ true → offered p (state p l older) (accepts older) c just ≡ Some (s, b) → IsCastAt s b
       go Nil is q o = absurd cc
       go (Holds c) is q o = by-proposal x older f from v c just sig s b is q (unless-is (accepts older) c (nth p.slots (slots_below (state p l older) just)) s b o)
       go Mark is q o = absurd cc

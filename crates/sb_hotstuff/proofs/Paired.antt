@@ -11,16 +11,13 @@ use Rattle.iss_request.specs.declared.requests.Value.TheVariants.{Nil as Value_n
 use Rattle.iss_sb.specs.Calls.{AllIn, has_slot, slots_of}
 use Rattle.iss_sb.specs.Evidence.{one_or_none}
 use Rattle.iss_sb.proofs.Slots.{another, drop-slot, slot-is}
-use Rattle.raft_wire.specs.declared.entries.What.{What}
-use Rattle.raft_wire.specs.declared.entries.What.TheVariants.{Nil, Holds, Mark}
+use Rattle.iss_sb.specs.Paired.{paired, value_with}
+use Rattle.iss_sb.proofs.Paired.{pair-value, paired-none, paired-slot, value-pair}
+use Rattle.iss_sb.specs.declared.content.Content.{Content}
+use Rattle.iss_sb.specs.declared.content.Content.TheVariants.{Nil, Holds, Mark}
 use Rattle.hs_tree.specs.Known.{values}
 use Rattle.hs_tree.specs.Tree.{filled, value_at, value_at_slot, value_here, value_of}
 use Rattle.hs_tree.proofs.Branches.{length-values}
-use Rattle.sb_hotstuff.specs.Delivered.{paired, value_with}
-
-pub paired-none : (ss : List Slot) → paired ss [] ≡ []
-paired-none [] = refl
-paired-none (s ∷ ss) = refl
 
 drop-over : (ss : List Slot) (k : ℕ) → length ss ≤ k → drop k ss ≡ []
 drop-over [] zero h = refl
@@ -63,35 +60,6 @@ slot-inside (s ∷ ss) (suc k) d h = inr (slot-inside ss k d (omega (arith, h)))
 value-none : (n : ℕ) (ss : List Slot) → value_with n ss [] ≡ None
 value-none n [] = refl
 value-none n (s ∷ ss) = refl
-
-paired-slot : (s : Slot) (x : Value) (ss : List Slot) (vs : List Value) → In {A = Slot × Value} (s, x) (paired ss vs) → In s ss
-paired-slot s x [] vs h = absurd h
-paired-slot s x (t ∷ ss) [] h = absurd h
-paired-slot s x (t ∷ ss) (v ∷ vs) (inl e) = inl (ap (λ (z : Slot × Value). z.0) e)
-paired-slot s x (t ∷ ss) (v ∷ vs) (inr h) = inr (paired-slot s x ss vs h)
-
-pair-value : (low : ℕ) (s : Slot) (x : Value) (ss : List Slot) (vs : List Value) → AreAscending low ss → In {A = Slot × Value} (s, x) (paired ss vs) → value_with s.0 ss vs ≡ Some x
-pair-value low s x [] vs a h = absurd h
-pair-value low s x (t ∷ ss) [] a h = absurd h
-pair-value low s x (t ∷ ss) (v ∷ vs) a (inl e) =
-    let here : (t.0 == s.0) ≡ true = subst (λ (z : Slot). (t.0 == z.0) ≡ true) (sym (ap (λ (z : Slot × Value). z.0) e)) (eqb-same t.0) in
-    let is : x ≡ v = ap (λ (z : Slot × Value). z.1) e in
-    rw (here, is) refl
-pair-value low s x (t ∷ ss) (v ∷ vs) a (inr h) =
-    let other = another low t s ss a (paired-slot s x ss vs h) in
-    rw other (pair-value (suc t.0) s x ss vs a.1 h)
-
-value-pair : (s : Slot) (x : Value) (ss : List Slot) (vs : List Value) → value_with s.0 ss vs ≡ Some x → In {A = Slot × Value} (s, x) (paired ss vs)
-value-pair s x [] vs h = absurd cc
-value-pair s x (t ∷ ss) [] h = absurd cc
-value-pair s x (t ∷ ss) (v ∷ vs) h = go (t.0 == s.0) refl h (value-pair s x ss vs)
-  where
-    go : (b : Bool) → (t.0 == s.0) ≡ b → (if b then Some v else value_with s.0 ss vs) ≡ Some x → (value_with s.0 ss vs ≡ Some x → In {A = Slot × Value} (s, x) (paired ss vs)) → In {A = Slot × Value} (s, x) ((t, v) ∷ paired ss vs)
-    go true q k more =
-        let slot : s ≡ t = sym (slot-is t s (is-eq t.0 s.0 q)) in
-        let is : x ≡ v = sym cc in
-        inl (λ i. (slot i, is i))
-    go false q k more = inr (more k)
 
 -- ---- behind the first so many slots
 
@@ -151,33 +119,6 @@ or-within true b h = refl
 or-within false true h = absurd (true≢false (sym (h refl)))
 or-within false false h = refl
 
--- ---- they ascend, and are of the segment
-
-lower : (a b : ℕ) (ss : List Slot) → a ≤ b → AreAscending b ss → AreAscending a ss
-lower a b [] le h = tt
-lower a b (s ∷ ss) le h = let l = h.0 in (omega (arith, l, le), h.1)
-
-ascending-drop : (low k : ℕ) (ss : List Slot) → AreAscending low ss → AreAscending low (drop k ss)
-ascending-drop low zero ss h = h
-ascending-drop low (suc k) [] h = tt
-ascending-drop low (suc k) (s ∷ ss) h = let l = h.0 in lower low (suc s.0) (drop k ss) (omega (arith, l)) (ascending-drop (suc s.0) k ss h.1)
-
-paired-ascending : (low : ℕ) (ss : List Slot) (vs : List Value) → AreAscending low ss → AreAscending low (slots_of (paired ss vs))
-paired-ascending low [] vs h = tt
-paired-ascending low (s ∷ ss) [] h = tt
-paired-ascending low (s ∷ ss) (v ∷ vs) h = (h.0, paired-ascending (suc s.0) ss vs h.1)
-
-pub fresh-ascending : (low k : ℕ) (ss : List Slot) (ws : List Value) → AreAscending low ss → AreAscending low (slots_of (paired (drop k ss) ws))
-fresh-ascending low k ss ws h = paired-ascending low (drop k ss) ws (ascending-drop low k ss h)
-
-all-paired : (ss all : List Slot) (vs : List Value) → ((s : Slot) → In s ss → In s all) → AllIn (slots_of (paired ss vs)) all
-all-paired [] all vs h = tt
-all-paired (s ∷ ss) all [] h = tt
-all-paired (s ∷ ss) all (v ∷ vs) h = (h s (inl refl), all-paired ss all vs (λ t i. h t (inr i)))
-
-pub fresh-within : (k : ℕ) (ss : List Slot) (ws : List Value) → AllIn (slots_of (paired (drop k ss) ws)) ss
-fresh-within k ss ws = all-paired (drop k ss) ss ws (λ s i. drop-slot s k ss i)
-
 -- ---- the values of a branch
 
 suc-same : (k l : ℕ) → (suc k == suc l) ≡ (k == l)
@@ -198,7 +139,7 @@ nth-one [] (Some v) (suc k) = rw (eqb-other (suc k) 0 (λ e. omega (arith, e))) 
 nth-one (x ∷ xs) o zero = rw (eqb-other 0 (suc (length xs)) (λ e. omega (arith, e))) refl
 nth-one (x ∷ xs) o (suc k) = nth-one xs o k ∙ ap (λ (b : Bool). if b then o else nth xs k) (sym (suc-same k (length xs)))
 
-value-nth : (cs : List What) (k : ℕ) → value_at cs k ≡ nth (values cs) k
+value-nth : (cs : List Content) (k : ℕ) → value_at cs k ≡ nth (values cs) k
 value-nth [] k = refl
 value-nth (c ∷ cs) k =
     here c (value-nth cs k) ∙ ap (λ (n : ℕ). let o : Option Value = if k == n then value_of c else nth (values cs) k in o) (sym (length-values cs)) ∙ sym (nth-one (values cs) (value_of c) k)
@@ -211,7 +152,7 @@ value-nth (c ∷ cs) k =
     mark e true q = e ∙ nth-beyond (values cs) k (let long = length-values cs in let same = is-eq k (filled cs) q in omega (arith, long, same))
     mark e false q = e
 
-    here : (c : What) → value_at cs k ≡ nth (values cs) k → value_here k (filled cs) c (value_at cs k) ≡ (if k == filled cs then value_of c else nth (values cs) k)
+    here : (c : Content) → value_at cs k ≡ nth (values cs) k → value_here k (filled cs) c (value_at cs k) ≡ (if k == filled cs then value_of c else nth (values cs) k)
     here Nil e = plain (Some Value_nil) e (k == filled cs)
     here (Holds b) e = plain (Some (Value_batch b)) e (k == filled cs)
     here Mark e = mark e (k == filled cs) refl
@@ -232,7 +173,7 @@ drop-none [] k h = refl
 drop-none (v ∷ vs) zero h = absurd cc
 drop-none (v ∷ vs) (suc k) h = drop-none vs k h
 
-slot-values : (n : ℕ) (cs : List What) (k : ℕ) (ss : List Slot) → value_at_slot cs k ss n ≡ value_with n ss (drop k (values cs))
+slot-values : (n : ℕ) (cs : List Content) (k : ℕ) (ss : List Slot) → value_at_slot cs k ss n ≡ value_with n ss (drop k (values cs))
 slot-values n cs k [] = refl
 slot-values n cs k (t ∷ ss) =
     ap (λ (o : Option Value). let r : Option Value = if t.0 == n then o else value_at_slot cs (suc k) ss n in r) (value-nth cs k)
@@ -248,5 +189,5 @@ slot-values n cs k (t ∷ ss) =
     go (Some v) q e = ap (λ (o : Option Value). let r : Option Value = if t.0 == n then Some v else o in r) e
 
 -- the value of a branch at a slot
-pub branch-value : (n : ℕ) (cs : List What) (ss : List Slot) → value_at_slot cs 0 ss n ≡ value_with n ss (values cs)
+pub branch-value : (n : ℕ) (cs : List Content) (ss : List Slot) → value_at_slot cs 0 ss n ≡ value_with n ss (values cs)
 branch-value n cs ss = slot-values n cs 0 ss

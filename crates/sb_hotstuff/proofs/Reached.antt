@@ -19,20 +19,21 @@ use Rattle.iss_sb.specs.declared.effects.To.TheVariants.{One as To_one}
 use Rattle.iss_sb.specs.Calls.{IsGoodParams}
 use Rattle.iss_sb.specs.Evidence.{Item, World, IsCredible, IsHashed, IsReached, IsReadMessage, at_start, after, IsSigned, IsString, MayCome, Move, Separate, Verifies, and_then, delivered, empty_world, is_correct}
 use Rattle.iss_sb.specs.Laws.{IsBroadcast}
-use Rattle.iss_sb.specs.Statements.{signature}
+use Rattle.iss_sb.specs.Statements.{claim, signature}
 use Rattle.iss_sb.proofs.Cases.{different}
 use Rattle.iss_sb.proofs.Read.{batch-read}
+use Rattle.iss_sb.proofs.Setups.{good-by}
 use Rattle.iss_sb.proofs.Signatures.{signature-shape, signature-verifies}
-use Rattle.raft_wire.specs.declared.entries.What.TheVariants.{Holds}
+use Rattle.iss_sb.specs.declared.content.Content.TheVariants.{Holds}
 use Rattle.hs_tree.specs.declared.certificates.Certificate.{Certificate}
 use Rattle.hs_tree.specs.declared.certificates.Certificate.TheVariants.{Root, Votes}
-use Rattle.hs_tree.specs.declared.certificates.Signed.{Signed}
+use Rattle.iss_sb.specs.declared.signers.Signed.{Signed}
 use Rattle.hs_tree.specs.declared.messages.Message.{Message}
 use Rattle.hs_tree.specs.declared.messages.Message.TheVariants.{Prepare, PreCommit, Commit, Decide, Vote}
 use Rattle.hs_tree.specs.Certificates.{IsSpelledCertificate, root_row, votes_row}
-use Rattle.hs_tree.specs.Statements.{claim, claims, own_statement, vote_statement}
+use Rattle.hs_tree.specs.Statements.{claims, own_statement, vote_statement}
 use Rattle.hs_tree.specs.Tree.{basic, plain_string, root}
-use Rattle.hs_tree.proofs.Contents.{batch-table}
+use Rattle.iss_sb.proofs.Contents.{batch-table}
 use Rattle.hs_tree.proofs.MessageGrammar.{spelled-read}
 use Rattle.sb_hotstuff.specs.HotStuff.{hotstuff, makes}
 use Rattle.sb_hotstuff.specs.Rules.{node_digest}
@@ -40,28 +41,7 @@ use Rattle.sb_hotstuff.proofs.Example.{b, node, setup, slot}
 use Rattle.sb_hotstuff.proofs.Safe.{hotstuff-safe}
 
 good-setup : IsGoodSetup setup
-good-setup = record {
-  version = refl;
-  faults = omega arith;
-  relay_faults = λ h. absurd (let k : 4 ≡ 1 = h in omega arith);
-  relay_kind = λ h. absurd (let k : 4 ≡ 1 = h in omega arith);
-  nodes = refl;
-  majority = refl;
-  epoch_low = omega arith;
-  epoch_high = omega arith;
-  buckets_low = omega arith;
-  buckets_high = omega arith;
-  batch_low = omega arith;
-  batch_high = omega arith;
-  window_low = omega arith;
-  window_high = omega arith;
-  clients_low = omega arith;
-  clients_high = omega arith;
-  keys_low = omega arith;
-  keys_high = omega arith;
-  few_faulty = omega arith;
-  rising_faulty = (omega arith, omega arith, tt);
-}
+good-setup = good-by setup refl
 
 -- the Byzantine node leads
 abbrev q : Params
@@ -183,7 +163,7 @@ shown-spelled phase leaf low high = record {
   phase_fits = high;
   digest_fits = length-sha256 _;
   count_fits = omega arith;
-  rising = (omega arith, shape 0 leaf (states phase), (omega arith, shape 1 leaf (states phase), (omega arith, shape 3 leaf (states phase), tt)));
+  signers = (omega arith, shape 0 leaf (states phase), (omega arith, shape 1 leaf (states phase), (omega arith, shape 3 leaf (states phase), tt)));
   row = refl;
 }
 

@@ -13,30 +13,32 @@ use Rattle.iss_sb.specs.declared.effects.Input.{Input}
 use Rattle.iss_sb.specs.declared.effects.Input.TheVariants.{Cast, Receive, Timeout}
 use Rattle.iss_sb.specs.declared.effects.Params.{Params}
 use Rattle.iss_sb.specs.declared.effects.To.{To}
-use Rattle.iss_sb.specs.Calls.{IsGoodParams}
+use Rattle.iss_sb.specs.Calls.{IsGoodParams, is_slot}
 use Rattle.iss_sb.specs.Evidence.{Item, IsReadBatch, IsReadMessage, one_or_none}
 use Rattle.iss_sb.specs.Laws.{AreHeard, IsHeard}
 use Rattle.iss_sb.specs.Statements.{signature}
 use Rattle.iss_sb.proofs.Signatures.{signature-shape}
-use Rattle.raft_wire.specs.declared.entries.What.{What}
-use Rattle.raft_wire.specs.declared.entries.What.TheVariants.{Nil, Holds, Mark}
-use Rattle.raft_wire.specs.Entries.{IsSpelledWhat}
+use Rattle.iss_sb.proofs.Slots.{place-below}
+use Rattle.iss_sb.specs.declared.content.Content.{Content}
+use Rattle.iss_sb.specs.declared.content.Content.TheVariants.{Nil, Holds, Mark}
+use Rattle.iss_sb.specs.Content.{IsSpelledContent}
 use Rattle.hs_tree.specs.declared.certificates.Certificate.{Certificate}
 use Rattle.hs_tree.specs.declared.certificates.Certificate.TheVariants.{Root, Votes}
-use Rattle.hs_tree.specs.declared.certificates.Signed.{Signed}
+use Rattle.iss_sb.specs.declared.signers.Signed.{Signed}
 use Rattle.hs_tree.specs.declared.messages.Message.{Message}
 use Rattle.hs_tree.specs.declared.messages.Message.TheVariants.{NewView, Prepare, PreCommit, Commit, Decide, Vote}
-use Rattle.hs_tree.specs.Certificates.{AreRisingVotes, IsSpelledCertificate, digest_of, root_row, view_of, votes_row}
+use Rattle.iss_sb.specs.Signers.{AreSigners}
+use Rattle.hs_tree.specs.Certificates.{IsSpelledCertificate, digest_of, root_row, view_of, votes_row}
 use Rattle.hs_tree.specs.Messages.{IsSpelledMessage, spell}
 use Rattle.hs_tree.specs.Statements.{own_statement, with_signature}
 use Rattle.hs_tree.specs.Tree.{basic, is_known}
-use Rattle.hs_tree.proofs.Contents.{batch-table}
+use Rattle.iss_sb.proofs.Contents.{batch-table}
 use Rattle.hs_tree.proofs.MessageGrammar.{read-spelled, spelled-read}
 use Rattle.sb_hotstuff.specs.HotStuff.{answers, answers_heard, drafts, hotstuff, makes, proposals, shows, sign_all, state, voted}
-use Rattle.sb_hotstuff.specs.Rules.{Kept, News, State, Turn, after, all_news, best, cast_turn, certificate, first_turn, heard, is_own_turn, is_reached, is_ready, is_slot, keeps_news, keeps_vote, kept, may_cast, may_end, may_prepare, may_second, may_third, news_of, next_turn, nil_or_mark, node_digest, proposed, round_of, slots_below, turn, turn_after, turn_of, turn_on, vote_of, votes_of, with_cast, with_news, with_node, with_round, with_turn, with_vote}
+use Rattle.sb_hotstuff.specs.Rules.{Kept, News, State, Turn, after, all_news, best, cast_turn, certificate, first_turn, heard, is_own_turn, is_reached, is_ready, keeps_news, keeps_vote, kept, may_cast, may_end, may_prepare, may_second, may_third, news_of, next_turn, nil_or_mark, node_digest, proposed, round_of, slots_below, turn, turn_after, turn_of, turn_on, vote_of, votes_of, with_cast, with_news, with_node, with_round, with_turn, with_vote}
 use Rattle.sb_hotstuff.proofs.Basics.{by-if, by-test, is-same}
 
-digest-long : (p : Params) (view : ℕ) (what : What) (just : Certificate) → length (node_digest p view what just) ≡ 32
+digest-long : (p : Params) (view : ℕ) (what : Content) (just : Certificate) → length (node_digest p view what just) ≡ 32
 digest-long p view what just = length-sha256 _
 
 module _ (p : Params) (good : IsGoodParams hotstuff p) where
@@ -45,8 +47,8 @@ module _ (p : Params) (good : IsGoodParams hotstuff p) where
   abbrev pub Spelled : Certificate → Type 0
   Spelled c = (bytes : List ℕ) × IsSpelledCertificate 3 c bytes
 
-  abbrev pub SpelledWhat : What → Type 0
-  SpelledWhat what = (bytes : List ℕ) × IsSpelledWhat p.setup.version what bytes
+  abbrev pub SpelledWhat : Content → Type 0
+  SpelledWhat what = (bytes : List ℕ) × IsSpelledContent p.setup.version what bytes
 
   abbrev SpelledAs : Message → Type 0
   SpelledAs msg = (bytes : List ℕ) × IsSpelledMessage 3 p.setup.version msg bytes
@@ -99,9 +101,9 @@ module _ (p : Params) (good : IsGoodParams hotstuff p) where
   NodesBelow n [] = Unit {0}
   NodesBelow n (v ∷ vs) = (v.by.0 < n) × NodesBelow n vs
 
-  one-signed : (vs : List Kept) (phase view : ℕ) (d : List ℕ) (k : ℕ) → SignedAll vs → AreRisingVotes k (one_or_none (vote_of vs phase view d k))
+  one-signed : (vs : List Kept) (phase view : ℕ) (d : List ℕ) (k : ℕ) → SignedAll vs → AreSigners k (one_or_none (vote_of vs phase view d k))
   one-signed [] phase view d k h = tt
-  one-signed (v ∷ vs) phase view d k h = by-if (λ (o : Option Signed). AreRisingVotes k (one_or_none o)) _ (Some (record { by = record { 0 = k }; sig = v.sig })) (vote_of vs phase view d k)
+  one-signed (v ∷ vs) phase view d k h = by-if (λ (o : Option Signed). AreSigners k (one_or_none o)) _ (Some (record { by = record { 0 = k }; sig = v.sig })) (vote_of vs phase view d k)
       (omega arith, h.0, tt) (one-signed vs phase view d k h.1)
 
   one-below : (vs : List Kept) (phase view : ℕ) (d : List ℕ) (k : ℕ) → NodesBelow (suc k) (one_or_none (vote_of vs phase view d k))
@@ -121,15 +123,15 @@ module _ (p : Params) (good : IsGoodParams hotstuff p) where
   votes-below zero vs phase view d = tt
   votes-below (suc k) vs phase view d = below-append (suc k) (votes_of k vs phase view d) _ (wider k (votes_of k vs phase view d) (votes-below k vs phase view d)) (one-below vs phase view d k)
 
-  lower : (a b : ℕ) (vs : List Signed) → a ≤ b → AreRisingVotes b vs → AreRisingVotes a vs
+  lower : (a b : ℕ) (vs : List Signed) → a ≤ b → AreSigners b vs → AreSigners a vs
   lower a b [] le h = tt
   lower a b (v ∷ vs) le h = let l = h.0 in (omega (arith, le, l), h.1, h.2)
 
-  rising-append : (from k : ℕ) (xs ys : List Signed) → from ≤ k → AreRisingVotes from xs → NodesBelow k xs → AreRisingVotes k ys → AreRisingVotes from (xs ++ ys)
+  rising-append : (from k : ℕ) (xs ys : List Signed) → from ≤ k → AreSigners from xs → NodesBelow k xs → AreSigners k ys → AreSigners from (xs ++ ys)
   rising-append from k [] ys le h b g = lower from k ys le g
   rising-append from k (x ∷ xs) ys le h b g = let l = b.0 in (h.0, h.1, rising-append (suc x.by.0) k xs ys (omega (arith, l)) h.2 b.1 g)
 
-  votes-rise : (n : ℕ) (vs : List Kept) (phase view : ℕ) (d : List ℕ) → SignedAll vs → AreRisingVotes 0 (votes_of n vs phase view d)
+  votes-rise : (n : ℕ) (vs : List Kept) (phase view : ℕ) (d : List ℕ) → SignedAll vs → AreSigners 0 (votes_of n vs phase view d)
   votes-rise zero vs phase view d h = tt
   votes-rise (suc k) vs phase view d h = rising-append 0 k (votes_of k vs phase view d) _ (omega arith) (votes-rise k vs phase view d h) (votes-below k vs phase view d) (one-signed vs phase view d k h)
 
@@ -156,7 +158,7 @@ module _ (p : Params) (good : IsGoodParams hotstuff p) where
       let votes = votes_of p.setup.n s.votes phase view d in
       let n = nodes-few in
       let few = votes-few p.setup.n s.votes phase view d in
-      (votes_row view phase d votes, record { view_low = l; view_fits = m; phase_low = a; phase_fits = b; digest_fits = long; count_fits = omega (arith, n, few); rising = votes-rise p.setup.n s.votes phase view d h; row = refl })
+      (votes_row view phase d votes, record { view_low = l; view_fits = m; phase_low = a; phase_fits = b; digest_fits = long; count_fits = omega (arith, n, few); signers = votes-rise p.setup.n s.votes phase view d h; row = refl })
 
   -- ---- the best of kept words
 
@@ -198,7 +200,7 @@ module _ (p : Params) (good : IsGoodParams hotstuff p) where
   mark-spelled : SpelledWhat Mark
   mark-spelled = (2 ∷ [], refl)
 
-  turn-new : (view : ℕ) (just : Certificate) (what : What) (slots : ℕ) → 1 ≤ view → round_of view ≤ 65535 → turn_of view ≤ suc (slots) → Spelled just → SpelledWhat what → NewTurn (turn p view just what slots)
+  turn-new : (view : ℕ) (just : Certificate) (what : Content) (slots : ℕ) → 1 ≤ view → round_of view ≤ 65535 → turn_of view ≤ suc (slots) → Spelled just → SpelledWhat what → NewTurn (turn p view just what slots)
   turn-new view just what slots a b c h g = record { fits = record { some = a; round_fits = b; turn_fits = omega (arith, c); long = digest-long p view what just }; just = h; what = g }
 
   cast-new : (view : ℕ) (just : Certificate) (slots : ℕ) (casts : List Batch) (k : ℕ) → 1 ≤ view → round_of view ≤ 65535 → turn_of view ≤ suc slots → Spelled just → ReadAll casts → MayTurn (cast_turn p view just slots (nth casts k))
@@ -280,13 +282,6 @@ module _ (p : Params) (good : IsGoodParams hotstuff p) where
   heard-fits me s from (Vote phase view d sig) m h = by-if Fits (keeps_vote p s from phase view d) (with_vote s from phase view d sig) s
       (record { high = h.high; votes = (m.1.signed, h.votes); news = h.news; turns = h.turns; casts = h.casts; few = h.few }) h
 
-  slot-some : (k : ℕ) (s : ℕ) → is_slot s (nth p.slots k) ≡ true → k < length p.slots
-  slot-some k s h = go (nth p.slots k) refl h
-    where
-      go : (o : Option Slot) → nth p.slots k ≡ o → is_slot s o ≡ true → k < length p.slots
-      go None q e = absurd (true≢false (sym e))
-      go (Some t) q e = nth-below p.slots k t q
-
   cast-fits : (s : State) (b : Batch) → length s.casts < length p.slots → IsReadBatch p b → Fits s → Fits (with_cast s b)
   cast-fits s b l r h =
       let n = length-append s.casts (b ∷ []) in
@@ -314,7 +309,7 @@ module _ (p : Params) (good : IsGoodParams hotstuff p) where
 
   pub kept-fits : (me : ℕ) (s : State) (i : Input Message) → Heard i → Fits s → Fits (kept p me s i)
   kept-fits me s (Cast slot batch) m h = by-test Fits (may_cast p me s slot.0) (with_cast s batch) s
-      (λ q. cast-fits s batch (slot-some (length s.casts) slot.0 (and-true _ (is_slot slot.0 (nth p.slots (length s.casts))) q).1) m h) h
+      (λ q. cast-fits s batch (place-below slot.0 p.slots (length s.casts) (and-true _ (is_slot slot.0 (nth p.slots (length s.casts))) q).1) m h) h
   kept-fits me s (Receive from msg) m h = heard-fits me s from.0 msg m h
   kept-fits me s Timeout m h = by-if Fits (may_end s) (with_round s) s (record { high = h.high; votes = h.votes; news = h.news; turns = h.turns; casts = h.casts; few = h.few }) h
 

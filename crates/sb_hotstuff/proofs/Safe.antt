@@ -19,14 +19,15 @@ use Rattle.iss_sb.proofs.Claims.{signed-stated}
 use Rattle.iss_sb.proofs.Heard.{heard-reached}
 use Rattle.iss_sb.proofs.Legal.{accepts-front, front-in, legal-reached, made-at, made-front}
 use Rattle.iss_sb.proofs.Slots.{slot-is}
-use Rattle.raft_wire.specs.declared.entries.What.{What}
-use Rattle.raft_wire.specs.declared.entries.What.TheVariants.{Holds}
+use Rattle.iss_sb.specs.declared.content.Content.{Content}
+use Rattle.iss_sb.specs.declared.content.Content.TheVariants.{Holds}
 use Rattle.hs_tree.specs.declared.certificates.Certificate.{Certificate}
 use Rattle.hs_tree.specs.declared.messages.Message.{Message}
 use Rattle.hs_tree.specs.declared.messages.Message.TheVariants.{Prepare}
 use Rattle.hs_tree.specs.Certificates.{digest_of}
 use Rattle.hs_tree.specs.Paths.{Has, hash}
-use Rattle.hs_tree.specs.Statements.{certificate_claims, claim, own_statement, vote_statement}
+use Rattle.iss_sb.specs.Statements.{claim}
+use Rattle.hs_tree.specs.Statements.{certificate_claims, own_statement, vote_statement}
 use Rattle.hs_tree.specs.Tree.{basic, filled, root, value_at, value_at_slot}
 use Rattle.sb_hotstuff.specs.Facts.{AreAgreed, AreBacked, AreExtending, AreFromLeader, AreRested, AreSafeVotes, HaveOneNode, HaveSharedAcceptor, IsVoted, Leads, VoteOnce}
 use Rattle.sb_hotstuff.specs.HotStuff.{hotstuff, state}
@@ -43,7 +44,7 @@ use Rattle.sb_hotstuff.proofs.Single.{AreVoted, acc, allowed-low, came, first-ca
 
 -- ---- the value at a slot stands at its place
 
-slot-agree : (cs es : List What) (slots : List Slot) (k s : ℕ) (x y : Value) → ((n : ℕ) → value_at cs n ≡ Some x → value_at es n ≡ Some y → x ≡ y) → value_at_slot cs k slots s ≡ Some x → value_at_slot es k slots s ≡ Some y → x ≡ y
+slot-agree : (cs es : List Content) (slots : List Slot) (k s : ℕ) (x y : Value) → ((n : ℕ) → value_at cs n ≡ Some x → value_at es n ≡ Some y → x ≡ y) → value_at_slot cs k slots s ≡ Some x → value_at_slot es k slots s ≡ Some y → x ≡ y
 slot-agree cs es [] k s x y h a b = absurd cc
 slot-agree cs es (t ∷ slots) k s x y h a b = go (t.0 == s) a b (slot-agree cs es slots (suc k) s x y h)
   where
@@ -52,14 +53,14 @@ slot-agree cs es (t ∷ slots) k s x y h a b = go (t.0 == s) a b (slot-agree cs 
     go true a b more = h k a b
     go false a b more = more a b
 
-record Place (cs : List What) (slots : List Slot) (k s : ℕ) (x : Value) : Type 0 where
+record Place (cs : List Content) (slots : List Slot) (k s : ℕ) (x : Value) : Type 0 where
   pub at : ℕ
   pub slot : Slot
   pub there : nth slots at ≡ Some slot
   pub is : slot.0 ≡ s
   pub value : value_at cs (k + at) ≡ Some x
 
-place : (cs : List What) (slots : List Slot) (k s : ℕ) (x : Value) → value_at_slot cs k slots s ≡ Some x → Place cs slots k s x
+place : (cs : List Content) (slots : List Slot) (k s : ℕ) (x : Value) → value_at_slot cs k slots s ≡ Some x → Place cs slots k s x
 place cs [] k s x h = absurd cc
 place cs (t ∷ slots) k s x h = go (t.0 == s) refl h (place cs slots (suc k) s x)
   where
@@ -210,8 +211,8 @@ module _ (p : Params) (w : World Message) (good : IsGoodParams hotstuff p) (reac
         let f = first-cause p w good legal voted sep k v d h in
         let mine = taken-has p w good legal voted k h.item v f.what f.just h.taken (is-taken p w good legal voted k h.item sp.older f.from v f.what f.just f.sig h.taken sp.made f.is f.may) in
         let same = same-node p w (acc p w) good facts sep (digest_of f.just) parent f.what (Holds b) mine has (sym f.digest_is ∙ e) in
-        let is : h.item.input ≡ Receive f.from (Prepare v (Holds b) f.just f.sig) = subst (λ (z : What). h.item.input ≡ Receive f.from (Prepare v z f.just f.sig)) same.1 f.is in
-        let may = subst (λ (z : What). may_prepare p s f.from.0 v z f.just ≡ true) same.1 f.may in
+        let is : h.item.input ≡ Receive f.from (Prepare v (Holds b) f.just f.sig) = subst (λ (z : Content). h.item.input ≡ Receive f.from (Prepare v z f.just f.sig)) same.1 f.is in
+        let may = subst (λ (z : Content). may_prepare p s f.from.0 v z f.just ≡ true) same.1 f.may in
         record { view = v; just = f.just; parent_is = same.0; signed = leader-signed k h.item s f.from v b f.just f.sig h.taken is may }
 
     -- what a node took up to an item of its list
@@ -229,7 +230,7 @@ module _ (p : Params) (w : World Message) (good : IsGoodParams hotstuff p) (reac
         front-heard me a (y ∷ l) (inr g) h = front-heard me a l g h.2
 
     -- what a correct leader signed as a proposal is its cast at the place behind the node's branch
-    pub proposed-cast : (l v : ℕ) (just : Certificate) (b : Batch) (parent : List ℕ) (below : List What) → is_correct p.setup l ≡ true → IsSigned hotstuff p w l (own_statement basic p (Prepare v (Holds b) just [])) →
+    pub proposed-cast : (l v : ℕ) (just : Certificate) (b : Batch) (parent : List ℕ) (below : List Content) → is_correct p.setup l ≡ true → IsSigned hotstuff p w l (own_statement basic p (Prepare v (Holds b) just [])) →
         digest_of just ≡ parent → Has p.setup.version (IsString w) parent (Holds b) → Leads p w parent root below → IsCast p w good legal voted l (filled below) b
     proposed-cast l v just b parent below correct signed e has leads =
         let s = signed-stated hotstuff p (States p) refl (passes-on p) w reached l (own_statement basic p (Prepare v (Holds b) just [])) correct signed in
@@ -238,7 +239,7 @@ module _ (p : Params) (w : World Message) (good : IsGoodParams hotstuff p) (reac
         let sent = subst (λ (z : Message). In {A = To × Message} (s.to, z) s.item.made.sends) mine.is s.sent in
         let t = proposal-why p w good legal voted l s.item at.before s.to v mine.what mine.just mine.sig (part l s.item at.before at.front) sent in
         let one : hash p.setup.version (digest_of t.turn.just) t.turn.what ≡ hash p.setup.version parent (Holds b) =
-        ap (λ (c : Certificate). hash p.setup.version (digest_of c) t.turn.what) t.just_is ∙ ap (λ (c : What). hash p.setup.version (digest_of mine.just) c) t.what_is ∙ mine.digest_is ∙ ap (λ (z : List ℕ). hash p.setup.version z (Holds b)) e in
+        ap (λ (c : Certificate). hash p.setup.version (digest_of c) t.turn.what) t.just_is ∙ ap (λ (c : Content). hash p.setup.version (digest_of mine.just) c) t.what_is ∙ mine.digest_is ∙ ap (λ (z : List ℕ). hash p.setup.version z (Holds b)) e in
         let same = same-node p w (acc p w) good facts sep (digest_of t.turn.just) parent t.turn.what (Holds b) t.has has one in
         let c = t.ok.batch b same.1 in
         let paths = same-branch p w (acc p w) good facts sep parent c.below below (subst (λ (z : List ℕ). Leads p w z root c.below) same.0 c.leads) leads in

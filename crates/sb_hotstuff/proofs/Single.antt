@@ -23,19 +23,20 @@ use Rattle.iss_sb.specs.Legal.{AreMade, IsLegal}
 use Rattle.iss_sb.proofs.Legal.{accepts-front, front-in, made-at, made-front}
 use Rattle.iss_sb.proofs.Signatures.{verifies-below}
 use Rattle.iss_sb.proofs.Worlds.{accepts-new, accepts-old}
-use Rattle.raft_wire.specs.declared.entries.What.{What}
-use Rattle.raft_wire.specs.declared.entries.What.TheVariants.{Holds}
-use Rattle.raft_wire.specs.Entries.{parse_what, spell_what}
+use Rattle.iss_sb.specs.declared.content.Content.{Content}
+use Rattle.iss_sb.specs.declared.content.Content.TheVariants.{Holds}
+use Rattle.iss_sb.specs.Content.{parse_content, spell_content}
 use Rattle.hs_tree.specs.declared.certificates.Certificate.{Certificate}
 use Rattle.hs_tree.specs.declared.certificates.Certificate.TheVariants.{Root, Votes}
-use Rattle.hs_tree.specs.declared.certificates.Signed.{Signed}
+use Rattle.iss_sb.specs.declared.signers.Signed.{Signed}
 use Rattle.hs_tree.specs.declared.messages.Message.{Message}
 use Rattle.hs_tree.specs.declared.messages.Message.TheVariants.{NewView, Prepare, PreCommit, Commit, Decide, Vote}
 use Rattle.hs_tree.specs.Certificates.{digest_of, is_quorum, signers, view_of}
 use Rattle.hs_tree.specs.Paths.{Has, IsTree}
-use Rattle.hs_tree.specs.Statements.{certificate_claims, claim, inside, vote_claims, vote_statement}
+use Rattle.iss_sb.specs.Statements.{claim}
+use Rattle.hs_tree.specs.Statements.{certificate_claims, inside, vote_claims, vote_statement}
 use Rattle.hs_tree.specs.Tree.{basic, branch, filled, is_known, plain_string, root, strings_of, value_of}
-use Rattle.hs_tree.proofs.Contents.{what-table}
+use Rattle.iss_sb.proofs.Contents.{content-table}
 use Rattle.hs_tree.proofs.MessageGrammar.{read-spelled}
 use Rattle.hs_tree.proofs.Nodes.{branch-is, branch-one}
 use Rattle.hs_tree.proofs.Signers.{quorum-nodes}
@@ -122,7 +123,7 @@ module _ (p : Params) (w : World Message) (good : IsGoodParams hotstuff p) (lega
 
   record HasClaim (s : List ℕ) (vs : List Signed) (k : ℕ) : Type 0 where
     claim : Claim
-    refines : In claim (vote_claims s vs)
+    stands : In claim (vote_claims s vs)
     by : claim.by.0 ≡ k
     is : claim.statement ≡ s
 
@@ -131,8 +132,8 @@ module _ (p : Params) (w : World Message) (good : IsGoodParams hotstuff p) (lega
   signer-claim s (v ∷ vs) k h = go (k == v.by.0) refl h (signer-claim s vs k)
     where
       go : (b : Bool) → (k == v.by.0) ≡ b → (b || mem k (signers vs)) ≡ true → (mem k (signers vs) ≡ true → HasClaim s vs k) → HasClaim s (v ∷ vs) k
-      go true q r more = record { claim = claim v.by.0 s v.sig; refines = inl refl; by = sym (is-same k v.by.0 q); is = refl }
-      go false q r more = let c = more r in record { claim = c.claim; refines = inr c.refines; by = c.by; is = c.is }
+      go true q r more = record { claim = claim v.by.0 s v.sig; stands = inl refl; by = sym (is-same k v.by.0 q); is = refl }
+      go false q r more = let c = more r in record { claim = c.claim; stands = inr c.stands; by = c.by; is = c.is }
 
   by-votes : (phase view q v : ℕ) (d : List ℕ) (votes : List Signed) → is_quorum p.setup.quorum phase view (Votes v q d votes) ≡ true →
       ((c : Claim) → In c (vote_claims (vote_statement basic p q v d) votes) → Verifies p c) →
@@ -149,7 +150,7 @@ module _ (p : Params) (w : World Message) (good : IsGoodParams hotstuff p) (lega
         many = omega (arith, many, counted);
         each = λ k has correct.
             let c = signer-claim s votes k has in
-            let given = signed c.claim c.refines (ap (λ (z : ℕ). is_correct p.setup z) c.by ∙ correct) in
+            let given = signed c.claim c.stands (ap (λ (z : ℕ). is_correct p.setup z) c.by ∙ correct) in
             let own : IsSigned hotstuff p w k s = subst (λ (z : ℕ). IsSigned hotstuff p w z s) c.by (subst (λ (z : List ℕ). IsSigned hotstuff p w c.claim.by.0 z) c.is given) in
             subst (λ (z : ℕ). IsVoted w k z view d) (is-same q phase a.1) (subst (λ (z : ℕ). IsVoted w k q z d) (is-same v view a.0) (voted k q v d correct own));
       }
@@ -201,14 +202,14 @@ module _ (p : Params) (w : World Message) (good : IsGoodParams hotstuff p) (lega
 
   -- ---- nodes that were taken or proposed were hashed
 
-  abbrev pub Holder : List ℕ → What → Type 0
+  abbrev pub Holder : List ℕ → Content → Type 0
   Holder a c = Has p.setup.version (IsString w) a c
 
-  value-in : (what : What) (v : Value) → value_of what ≡ Some v → In (value_string p.setup.version v) (strings_of p.setup.version (value_of what))
+  value-in : (what : Content) (v : Value) → value_of what ≡ Some v → In (value_string p.setup.version v) (strings_of p.setup.version (value_of what))
   value-in what v e = rw e (inl refl)
 
   -- the strings of a node are among those of an item
-  pub hashed-has : (me : ℕ) (x : Item Message) (view : ℕ) (what : What) (just : Certificate) → In x (w me) → length (digest_of just) ≡ 32 → IsReadAgain (spell_what p.setup.version) (parse_what p.setup.version) what →
+  pub hashed-has : (me : ℕ) (x : Item Message) (view : ℕ) (what : Content) (just : Certificate) → In x (w me) → length (digest_of just) ≡ 32 → IsReadAgain (spell_content p.setup.version) (parse_content p.setup.version) what →
       ((z : List ℕ) → In z (strings_at p view what just) → In z x.made.strings) → Holder (digest_of just) what
   hashed-has me x view what just k long read all = record {
     long = long;
@@ -217,15 +218,15 @@ module _ (p : Params) (w : World Message) (good : IsGoodParams hotstuff p) (lega
     value = λ v e. inr (record { node = me; item = x; taken = k; hashed = all (value_string p.setup.version v) (in_left _ (strings_of p.setup.version (value_of what)) _ (value-in what v e)) });
   }
 
-  pub record IsTaken (me : ℕ) (x : Item Message) (view : ℕ) (what : What) (just : Certificate) : Type 0 where
+  pub record IsTaken (me : ℕ) (x : Item Message) (view : ℕ) (what : Content) (just : Certificate) : Type 0 where
     pub all : (z : List ℕ) → In z (strings_at p view what just) → In z x.made.strings
     pub long : length (digest_of just) ≡ 32
-    pub read : IsReadAgain (spell_what p.setup.version) (parse_what p.setup.version) what
+    pub read : IsReadAgain (spell_content p.setup.version) (parse_content p.setup.version) what
 
-  pub taken-has : (me : ℕ) (x : Item Message) (view : ℕ) (what : What) (just : Certificate) → In x (w me) → IsTaken me x view what just → Holder (digest_of just) what
+  pub taken-has : (me : ℕ) (x : Item Message) (view : ℕ) (what : Content) (just : Certificate) → In x (w me) → IsTaken me x view what just → Holder (digest_of just) what
   taken-has me x view what just k t = hashed-has me x view what just k t.long t.read t.all
 
-  pub is-taken : (me : ℕ) (x : Item Message) (older : List (Item Message)) (from : NodeId) (view : ℕ) (what : What) (just : Certificate) (sig : List ℕ) → In x (w me) → AreMade hotstuff p me (x ∷ older) →
+  pub is-taken : (me : ℕ) (x : Item Message) (older : List (Item Message)) (from : NodeId) (view : ℕ) (what : Content) (just : Certificate) (sig : List ℕ) → In x (w me) → AreMade hotstuff p me (x ∷ older) →
       x.input ≡ Receive from (Prepare view what just sig) → may_prepare p (state p me older) from.0 view what just ≡ true → IsTaken me x view what just
   is-taken me x older from view what just sig k made e may =
       let s = state p me older in
@@ -237,7 +238,7 @@ module _ (p : Params) (w : World Message) (good : IsGoodParams hotstuff p) (lega
       record {
         all = λ z q. subst (λ (y : List (List ℕ)). In z y) (sym all) (in_left z (strings_at p view what just) [] q);
         long = digest-length p good just (row.certificate, row.spelled);
-        read = (what-table p.setup.version what row.behind row.what_is).1;
+        read = (content-table p.setup.version what row.behind row.what_is).1;
       }
 
   -- ---- the tree of a list
@@ -245,13 +246,13 @@ module _ (p : Params) (w : World Message) (good : IsGoodParams hotstuff p) (lega
   abbrev pub AllHere : ℕ → List (Item Message) → Type 0
   AllHere me xs = (x : Item Message) → In x xs → In x (w me)
 
-  pub record Parts (s : State) (view : ℕ) (what : What) (just : Certificate) : Type 0 where
+  pub record Parts (s : State) (view : ℕ) (what : Content) (just : Certificate) : Type 0 where
     pub just_is : is_just p view just ≡ true
     pub known : is_known s.tree (digest_of just) ≡ true
     pub safe : is_safe p s view what just ≡ true
     pub allowed : is_allowed p (round_of view) (slots_below s just) what ≡ true
 
-  pub parts : (s : State) (from view : ℕ) (what : What) (just : Certificate) → may_prepare p s from view what just ≡ true → Parts s view what just
+  pub parts : (s : State) (from view : ℕ) (what : Content) (just : Certificate) → may_prepare p s from view what just ≡ true → Parts s view what just
   parts s from view what just h =
       let a = and-true _ _ h in
       let b = and-true _ _ a.0 in
@@ -292,7 +293,7 @@ module _ (p : Params) (w : World Message) (good : IsGoodParams hotstuff p) (lega
   pub spot-here : (k : ℕ) (x : Item Message) (q : In x (w k)) → AllHere k (Here k x q).older
   spot-here k x q y h = (Here k x q).inside_it y (inr h)
 
-  pub just-why : (view from : ℕ) (what : What) (just : Certificate) (sig : List ℕ) → Came p w from (Prepare view what just sig) → is_just p view just ≡ true → (just ≡ Root) ⊎ ((view_of just < view) × IsCertified p w 1 (view_of just) (digest_of just))
+  pub just-why : (view from : ℕ) (what : Content) (just : Certificate) (sig : List ℕ) → Came p w from (Prepare view what just sig) → is_just p view just ≡ true → (just ≡ Root) ⊎ ((view_of just < view) × IsCertified p w 1 (view_of just) (digest_of just))
   just-why view from what Root sig m h = inl refl
   just-why view from what (Votes v q d votes) sig m h =
       let t = and-true (is_good p 1 v (Votes v q d votes)) (nat_lt v view) h in
@@ -313,7 +314,7 @@ module _ (p : Params) (w : World Message) (good : IsGoodParams hotstuff p) (lega
 
   module _ (sep : Separate (IsString w)) where
     -- what a node accepts with a first vote
-    accepted-why : (k v : ℕ) (x : Item Message) (d : List ℕ) (q : In x (w k)) → (f : IsFirst p (state p k (Here k x q).older) x.input v d) → (cs : List What) (b : Batch) → Leads p w (digest_of f.just) root cs → f.what ≡ Holds b →
+    accepted-why : (k v : ℕ) (x : Item Message) (d : List ℕ) (q : In x (w k)) → (f : IsFirst p (state p k (Here k x q).older) x.input v d) → (cs : List Content) (b : Batch) → Leads p w (digest_of f.just) root cs → f.what ≡ Holds b →
         acc p w k (filled cs) b
     accepted-why k v x d q f cs b br full =
         let sp = Here k x q in
@@ -323,12 +324,12 @@ module _ (p : Params) (w : World Message) (good : IsGoodParams hotstuff p) (lega
         let mine = branch-is p.setup.version (IsString w) s.tree (digest_of f.just) tree ps.known in
         let n = slots_below s f.just in
         let same : cs ≡ branch s.tree (digest_of f.just) = branch-one p.setup.version (IsString w) sep (inl refl) (digest_of f.just) cs (branch s.tree (digest_of f.just)) br mine in
-        let low = (allowed-low (round_of v) n b (ap (λ (c : What). is_allowed p (round_of v) n c) (sym full) ∙ ps.allowed)).1 in
+        let low = (allowed-low (round_of v) n b (ap (λ (c : Content). is_allowed p (round_of v) n c) (sym full) ∙ ps.allowed)).1 in
         let asked : x.made.accepted ≡ asks p k sp.older x.input = ap (λ (z : Made Message). z.accepted) sp.made.0 in
         let at : asks p k sp.older (Receive f.from (Prepare v f.what f.just f.sig)) ≡ offered p s (accepts sp.older) f.what f.just = rw (f.may) refl in
-        let all : x.made.accepted ≡ unless_accepted (accepts sp.older) b (nth p.slots n) = asked ∙ ap (λ (z : Input Message). asks p k sp.older z) f.is ∙ at ∙ ap (λ (c : What). offered p s (accepts sp.older) c f.just) full in
+        let all : x.made.accepted ≡ unless_accepted (accepts sp.older) b (nth p.slots n) = asked ∙ ap (λ (z : Input Message). asks p k sp.older z) f.is ∙ at ∙ ap (λ (c : Content). offered p s (accepts sp.older) c f.just) full in
         let r = offered-why k x sp.older b n low all in
-        subst (λ (z : List What). acc p w k (filled z) b) (sym same) (r.0, r.1, sp.accepts_in (r.0, b) r.2)
+        subst (λ (z : List Content). acc p w k (filled z) b) (sym same) (r.0, r.1, sp.accepts_in (r.0, b) r.2)
 
     first-by : (k v : ℕ) (d : List ℕ) (h : IsVoted w k 1 v d) → IsFirst p (state p k (Here k h.item h.taken).older) h.item.input v d → First p w (acc p w) k v d
     first-by k v d h f =

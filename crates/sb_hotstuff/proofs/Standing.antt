@@ -18,8 +18,8 @@ use Rattle.iss_sb.specs.declared.effects.To.{To}
 use Rattle.iss_sb.specs.Calls.{AllIn, AreToNodes, Delivers, IsGoodParams, IsNothing, IsTaken, IsTrueStep, has_slot, slots_of}
 use Rattle.iss_sb.specs.Evidence.{Item, accepts, and_then, delivered, one_or_none}
 use Rattle.iss_sb.proofs.Delivered.{Delivers-from, Delivers-nothing, delivered-decided}
-use Rattle.raft_wire.specs.declared.entries.What.{What}
-use Rattle.raft_wire.specs.declared.entries.What.TheVariants.{Nil, Holds, Mark}
+use Rattle.iss_sb.specs.declared.content.Content.{Content}
+use Rattle.iss_sb.specs.declared.content.Content.TheVariants.{Nil, Holds, Mark}
 use Rattle.hs_tree.specs.declared.certificates.Certificate.{Certificate}
 use Rattle.hs_tree.specs.declared.messages.Message.{Message}
 use Rattle.hs_tree.specs.declared.messages.Message.TheVariants.{Prepare, Decide}
@@ -31,15 +31,16 @@ use Rattle.sb_hotstuff.specs.declared.accepted.Accepted.{Accepted}
 use Rattle.sb_hotstuff.specs.declared.hotstuff.HotStuff.{HotStuff}
 use Rattle.sb_hotstuff.specs.declared.state.Node.{Node}
 use Rattle.sb_hotstuff.specs.declared.outcomes.Outcome.{Outcome}
-use Rattle.sb_hotstuff.specs.Delivered.{paired, value_with}
+use Rattle.iss_sb.specs.Paired.{paired, value_with}
 use Rattle.sb_hotstuff.specs.Drafts.{AreDrafts, count_of}
 use Rattle.sb_hotstuff.specs.Accepted.{AreAccepted}
 use Rattle.sb_hotstuff.specs.HotStuff.{answers, asks, decided, decides, drafts, hotstuff, offered, proposals, sign_all, state, strings, strings_at, voted}
 use Rattle.sb_hotstuff.specs.Instances.{Adds, IsSigned, Refines, at_slot, what_at}
 use Rattle.sb_hotstuff.specs.Rules.{State, after, is_good, kept, may_cast, may_prepare, node_digest, proposed, with_node}
-use Rattle.sb_hotstuff.specs.Refines.{IsFor}
+use Rattle.sb_hotstuff.specs.Refines.{RefinesState}
 use Rattle.sb_hotstuff.specs.Steps.{Does}
-use Rattle.sb_hotstuff.proofs.Paired.{branch-value, fresh-ascending, fresh-value, fresh-within, or-within, slots-more, value-fresh, value-some}
+use Rattle.iss_sb.proofs.Paired.{fresh-ascending, fresh-within}
+use Rattle.sb_hotstuff.proofs.Paired.{branch-value, fresh-value, or-within, slots-more, value-fresh, value-some}
 use Rattle.sb_hotstuff.proofs.Signed.{count-few, drafts-long}
 
 -- ---- what is decided stays, so what is delivered is what is decided
@@ -54,7 +55,7 @@ delivered-is p me xs n = delivered-decided hotstuff p me (λ s. refl) (λ xs y s
 -- ---- a step whose rule makes an outcome, which is signed
 
 module _ (p : Params) (m n : HotStuff) (i : Input Message) (o : Outcome) (a : Option (Slot × Batch)) (before later : KeyState) (e : Effects Message)
-    (enough : 2 ≤ left_of before) (does : (s : State) → IsFor m.node s → Does p m.node n.node s i o) (signed : IsSigned p o a before later e)
+    (enough : 2 ≤ left_of before) (does : (s : State) → RefinesState m.node s → Does p m.node n.node s i o) (signed : IsSigned p o a before later e)
     (asked : (me : ℕ) (xs : List (Item Message)) → Refines m p me xs → a ≡ asks p me xs i) (more : Adds m.accepted n.accepted (one_or_none a))
     (inside : IfSome a (λ x. In x.0 p.slots)) (same : n.delivered ≡ m.delivered) (quiet : (s : State) (k : ℕ) → decides p s i k ≡ None) where
   used-is : later.used ≡ before.used + (count_of o.answer + count_of o.proposal)
@@ -79,7 +80,7 @@ module _ (p : Params) (m n : HotStuff) (i : Input Message) (o : Outcome) (a : Op
     refines-then : (leaf : ℕ) → Refines n p me (and_then hotstuff p me xs i leaf)
     refines-then leaf = record {
       node = ap (λ (z : NodeId). z.0) d.node ∙ st.node;
-      keeps = subst (λ (k : ℕ). IsFor n.node (after p k s i)) st.node d.state;
+      keeps = subst (λ (k : ℕ). RefinesState n.node (after p k s i)) st.node d.state;
       batches = subst (λ (z : Option (Slot × Batch)). AreAccepted n.accepted (one_or_none z ++ accepts xs)) (asked me xs st) (more (accepts xs) st.batches);
       reached = λ k. ap (λ (r : Option Value). is_some r) (decided-same k) ∙ st.reached k ∙ ap (λ (z : ℕ). has_slot k (take z p.slots)) (sym same);
     }
@@ -142,7 +143,7 @@ module _ (p : Params) (good : IsGoodParams hotstuff p) (m n : HotStuff) (i : Inp
   idle-step = record {
     refined = λ me xs st own. record {
       node = ap (λ (z : Node). z.me.0) node ∙ st.node;
-      keeps = subst (λ (z : State). IsFor n.node z) (sym (idle me xs st).state) (subst (λ (z : Node). IsFor z (state p me xs)) (sym node) st.keeps);
+      keeps = subst (λ (z : State). RefinesState n.node z) (sym (idle me xs st).state) (subst (λ (z : Node). RefinesState z (state p me xs)) (sym node) st.keeps);
       batches = subst (λ (z : Option (Slot × Batch)). AreAccepted n.accepted (one_or_none z ++ accepts xs)) (sym (unasked me xs st)) (subst (λ (z : Accepted). AreAccepted z (accepts xs)) (sym batches) st.batches);
       reached = reached me xs st;
     };
@@ -179,7 +180,7 @@ module _ (p : Params) (m : HotStuff) (i : Input Message) (e : Effects Message) (
       (Delivers-nothing hotstuff p me xs i leaf (λ t x h none. none-some x (sym none ∙ delivered-is p me xs t.0 ∙ sym (still t.0) ∙ h)))
 
 -- the branch of a node is decided
-module _ (p : Params) (good : IsGoodParams hotstuff p) (m : HotStuff) (i : Input Message) (e : Effects Message) (me : ℕ) (xs : List (Item Message)) (st : Refines m p me xs) (cs : List What)
+module _ (p : Params) (good : IsGoodParams hotstuff p) (m : HotStuff) (i : Input Message) (e : Effects Message) (me : ℕ) (xs : List (Item Message)) (st : Refines m p me xs) (cs : List Content)
     (decides-is : (k : ℕ) → decides p (state p me xs) i k ≡ value_at_slot cs 0 p.slots k) (ds : e.delivers ≡ paired (drop m.delivered p.slots) (drop m.delivered (values cs))) where
   abbrev old : ℕ → Option Value
   old k = decided p me xs k
@@ -236,7 +237,7 @@ module _ (p : Params) (good : IsGoodParams hotstuff p) (m : HotStuff) (i : Input
 
 -- nothing is accepted
 pub plain-step : (p : Params) (m : HotStuff) (node : Node) (i : Input Message) (o : Outcome) (before later : KeyState) (e : Effects Message) → 2 ≤ left_of before →
-    ((s : State) → IsFor m.node s → Does p m.node node s i o) → IsSigned p o None before later e → ((me : ℕ) (xs : List (Item Message)) → asks p me xs i ≡ None) →
+    ((s : State) → RefinesState m.node s → Does p m.node node s i o) → IsSigned p o None before later e → ((me : ℕ) (xs : List (Item Message)) → asks p me xs i ≡ None) →
     ((s : State) (k : ℕ) → decides p s i k ≡ None) → IsTrueStep hotstuff Refines p m (record m { node = node }) i before later e
 plain-step p m node i o before later e enough does signed unasked quiet =
     true-step p m (record m { node = node }) i o None before later e enough does signed (λ me xs st. sym (unasked me xs)) (λ old h. h) tt refl quiet
@@ -245,7 +246,7 @@ at-inside : (b : Batch) (o : Option Slot) (ss : List Slot) → IfSome o (λ s. I
 at-inside b None ss h = tt
 at-inside b (Some s) ss h = h
 
-what-inside : (what : What) (o : Option Slot) (ss : List Slot) → IfSome o (λ s. In s ss) → IfSome (what_at what o) (λ x. In x.0 ss)
+what-inside : (what : Content) (o : Option Slot) (ss : List Slot) → IfSome o (λ s. In s ss) → IfSome (what_at what o) (λ x. In x.0 ss)
 what-inside Nil o ss h = tt
 what-inside (Holds b) o ss h = at-inside b o ss h
 what-inside Mark o ss h = tt
@@ -255,18 +256,18 @@ module _ (p : Params) (m : HotStuff) (node : Node) (accepted : Accepted) (slot :
   abbrev n : HotStuff
   n = record m { node = node; accepted = accepted }
 
-  pub cast-step : (at : Slot) (batch : Batch) → ((s : State) → IsFor m.node s → Does p m.node node s (Cast at batch) o) → a ≡ at_slot batch slot → Adds m.accepted accepted (one_or_none (at_slot batch slot)) →
-      ((s : State) (b : Batch) → IsFor m.node s → at_slot b slot ≡ (if may_cast p m.node.me.0 s at.0 then Some (at, b) else None)) → IsTrueStep hotstuff Refines p m n (Cast at batch) before later e
+  pub cast-step : (at : Slot) (batch : Batch) → ((s : State) → RefinesState m.node s → Does p m.node node s (Cast at batch) o) → a ≡ at_slot batch slot → Adds m.accepted accepted (one_or_none (at_slot batch slot)) →
+      ((s : State) (b : Batch) → RefinesState m.node s → at_slot b slot ≡ (if may_cast p m.node.me.0 s at.0 then Some (at, b) else None)) → IsTrueStep hotstuff Refines p m n (Cast at batch) before later e
   cast-step at batch does is adds free =
       true-step p m n (Cast at batch) o a before later e enough does signed
       (λ me xs st. is ∙ free (state p me xs) batch st.keeps ∙ ap (λ (k : ℕ). let r : Option (Slot × Batch) = if may_cast p k (state p me xs) at.0 then Some (at, batch) else None in r) st.node)
       (subst (λ (z : Option (Slot × Batch)). Adds m.accepted accepted (one_or_none z)) (sym is) adds)
       (subst (λ (z : Option (Slot × Batch)). IfSome z (λ x. In x.0 p.slots)) (sym is) (at-inside batch slot p.slots within)) refl (λ s k. refl)
 
-  pub prepare-step : (from : NodeId) (view : ℕ) (what : What) (just : Certificate) (sig : List ℕ) (b : Bool) → b ≡ true → ((s : State) → IsFor m.node s → b ≡ may_prepare p s from.0 view what just) →
-      ((s : State) → IsFor m.node s → may_prepare p s from.0 view what just ≡ true → Does p m.node node s (Receive from (Prepare view what just sig)) o) →
+  pub prepare-step : (from : NodeId) (view : ℕ) (what : Content) (just : Certificate) (sig : List ℕ) (b : Bool) → b ≡ true → ((s : State) → RefinesState m.node s → b ≡ may_prepare p s from.0 view what just) →
+      ((s : State) → RefinesState m.node s → may_prepare p s from.0 view what just ≡ true → Does p m.node node s (Receive from (Prepare view what just sig)) o) →
       a ≡ what_at what slot → Adds m.accepted accepted (one_or_none (what_at what slot)) →
-      ((s : State) (old : List (Slot × Batch)) → IsFor m.node s → AreAccepted m.accepted old → what_at what slot ≡ offered p s old what just) →
+      ((s : State) (old : List (Slot × Batch)) → RefinesState m.node s → AreAccepted m.accepted old → what_at what slot ≡ offered p s old what just) →
       IsTrueStep hotstuff Refines p m n (Receive from (Prepare view what just sig)) before later e
   prepare-step from view what just sig b yep may does is adds free =
       true-step p m n (Receive from (Prepare view what just sig)) o a before later e enough (λ s h. does s h (sym (may s h) ∙ yep)) signed
@@ -280,7 +281,7 @@ none-within ds ss h = subst (λ (z : List (Slot × Value)). AllIn (slots_of z) s
 
 -- a proposal that does not pass its test
 pub unprepared-step : (p : Params) → IsGoodParams hotstuff p → (m : HotStuff) (keys : KeyState) (e : Effects Message) → 2 ≤ left_of keys → IsNothing e →
-    (from : NodeId) (view : ℕ) (what : What) (just : Certificate) (sig : List ℕ) (b : Bool) → b ≡ false → ((s : State) → IsFor m.node s → b ≡ may_prepare p s from.0 view what just) →
+    (from : NodeId) (view : ℕ) (what : Content) (just : Certificate) (sig : List ℕ) (b : Bool) → b ≡ false → ((s : State) → RefinesState m.node s → b ≡ may_prepare p s from.0 view what just) →
     IsTrueStep hotstuff Refines p m m (Receive from (Prepare view what just sig)) keys keys e
 unprepared-step p good m keys e enough nothing from view what just sig b nope may =
     idle-step p good m m i keys e enough nothing.sends nothing.accepted nothing.hashed
@@ -300,7 +301,7 @@ unprepared-step p good m keys e enough nothing from view what just sig b nope ma
 
 -- a certificate of the last phase
 module _ (p : Params) (good : IsGoodParams hotstuff p) (m : HotStuff) (keys : KeyState) (e : Effects Message) (enough : 2 ≤ left_of keys) (sends : e.sends ≡ []) (accepted : e.accepted ≡ None) (hashed : e.hashed ≡ [])
-    (from : NodeId) (view : ℕ) (shown : Certificate) (sig : List ℕ) (b : Bool) (may : (s : State) → IsFor m.node s → b ≡ (is_good p 3 view shown && is_known s.tree (digest_of shown))) where
+    (from : NodeId) (view : ℕ) (shown : Certificate) (sig : List ℕ) (b : Bool) (may : (s : State) → RefinesState m.node s → b ≡ (is_good p 3 view shown && is_known s.tree (digest_of shown))) where
   abbrev said : Input Message
   said = Receive from (Decide view shown sig)
 
@@ -349,7 +350,7 @@ module _ (p : Params) (good : IsGoodParams hotstuff p) (m : HotStuff) (keys : Ke
 no-some : (x : Slot × Batch) → ◌≡◌ {A = Option (Slot × Batch)} None (Some x) → ⊥
 no-some x h = cc
 
-pub casts-means : (p : Params) (m : HotStuff) (me : ℕ) (xs : List (Item Message)) → Refines m p me xs → (slot : Slot) (batch : Batch) (b : Bool) → ((s : State) → IsFor m.node s → b ≡ may_cast p m.node.me.0 s slot.0) →
+pub casts-means : (p : Params) (m : HotStuff) (me : ℕ) (xs : List (Item Message)) → Refines m p me xs → (slot : Slot) (batch : Batch) (b : Bool) → ((s : State) → RefinesState m.node s → b ≡ may_cast p m.node.me.0 s slot.0) →
     IsTrue b ↔ (asks p me xs (Cast slot batch) ≡ Some (slot, batch))
 casts-means p m me xs st slot batch b h = (
   (λ t. asked true (sym is ∙ t)),

@@ -9,7 +9,7 @@ use Rattle.iss_sb.specs.declared.effects.Input.TheVariants.{Cast, Receive}
 use Rattle.iss_sb.specs.declared.effects.Params.{Params}
 use Rattle.iss_sb.specs.declared.effects.To.{To}
 use Rattle.iss_sb.specs.declared.effects.To.TheVariants.{All as To_all}
-use Rattle.raft_wire.specs.declared.entries.What.{What}
+use Rattle.iss_sb.specs.declared.content.Content.{Content}
 use Rattle.hs_tree.specs.declared.certificates.Certificate.{Certificate}
 use Rattle.hs_tree.specs.declared.messages.Message.{Message}
 use Rattle.hs_tree.specs.declared.messages.Message.TheVariants.{NewView, Prepare, Vote}
@@ -19,7 +19,7 @@ use Rattle.sb_hotstuff.specs.declared.state.Node.{Node}
 use Rattle.sb_hotstuff.specs.Drafts.{AreDrafts}
 use Rattle.sb_hotstuff.specs.HotStuff.{answers, proposals, shows, strings_at, taken_of, turn_strings, voted}
 use Rattle.sb_hotstuff.specs.Rules.{Kept, State, Turn, certificate, first_turn, is_reached, keeps_news, keeps_vote, kept, may_cast, may_prepare, next_turn, node_digest, proposed, turn, with_cast, with_news, with_node, with_turn, with_vote}
-use Rattle.sb_hotstuff.specs.Refines.{IsFor}
+use Rattle.sb_hotstuff.specs.Refines.{RefinesState}
 use Rattle.sb_hotstuff.specs.Steps.{Does, IsAnswer, IsQuiet, Proposes}
 use Rattle.sb_hotstuff.specs.Tallies.{AreNews, AreVotes}
 use Rattle.sb_hotstuff.specs.declared.ballots.Ballots.{Ballots}
@@ -34,14 +34,14 @@ use Rattle.sb_hotstuff.proofs.Turning.{node-is, strings-are}
 
 -- the parts of a step, put together
 module _ (p : Params) (old new : Node) (s : State) (i : Input Message) (o : Outcome) where
-  pub does : (k : State) (t : Option Turn) (xs : List (To × Message)) (ss : List (List ℕ)) → kept p old.me.0 s i ≡ k → proposed p old.me.0 s k i ≡ t → answers p s k i ≡ xs → taken_of p s i ≡ ss → new.me ≡ old.me → IsFor new (with_turn k t) →
+  pub does : (k : State) (t : Option Turn) (xs : List (To × Message)) (ss : List (List ℕ)) → kept p old.me.0 s i ≡ k → proposed p old.me.0 s k i ≡ t → answers p s k i ≡ xs → taken_of p s i ≡ ss → new.me ≡ old.me → RefinesState new (with_turn k t) →
       AreDrafts p o.answer xs → AreDrafts p o.proposal (proposals t) → o.hashed ≡ ss ++ turn_strings p t → Does p old new s i o
   does k t xs ss ek et ea es me state answer proposal hashed =
       let prop : proposed p old.me.0 s (kept p old.me.0 s i) i ≡ t = ap (λ (z : State). proposed p old.me.0 s z i) ek ∙ et in
       let ans : answers p s (kept p old.me.0 s i) i ≡ xs = ap (λ (z : State). answers p s z i) ek ∙ ea in
       record {
         node = me;
-        state = subst (λ (z : State). IsFor new z) (λ j. with_turn (sym ek j) (sym prop j)) state;
+        state = subst (λ (z : State). RefinesState new z) (λ j. with_turn (sym ek j) (sym prop j)) state;
         answer = subst (λ (z : List (To × Message)). AreDrafts p o.answer z) (sym ans) answer;
         proposal = subst (λ (z : Option Turn). AreDrafts p o.proposal (proposals z)) (sym prop) proposal;
         hashed = hashed ∙ (λ j. sym es j ++ turn_strings p (sym prop j));
@@ -59,17 +59,17 @@ module _ (p : Params) (old new : Node) (s : State) (i : Input Message) (o : Outc
 when : {A : Type 0} (b : Bool) (x y : A) → b ≡ true → (if b then x else y) ≡ x
 when b x y h = ap (λ (z : Bool). if z then x else y) h
 
-module _ (p : Params) (m : Node) (s : State) (h : IsFor m s) where
+module _ (p : Params) (m : Node) (s : State) (h : RefinesState m s) where
   abbrev me : ℕ
   me = m.me.0
 
   pub cast-led : (slot : Slot) (batch : Batch) (n : Node) (o : Outcome) (b : Bool) (mid : Node) → b ≡ may_cast p me s slot.0 → b ≡ true → mid.me ≡ m.me → (casts : List Batch) → casts ≡ m.casts ++ batch ∷ [] → mid ≡ record m { casts = casts } →
-      ((k : State) → IsFor mid k → Proposes p mid n k (next_turn p k k.turns) o) → Does p m n s (Cast slot batch) o
+      ((k : State) → RefinesState mid k → Proposes p mid n k (next_turn p k k.turns) o) → Does p m n s (Cast slot batch) o
   cast-led slot batch n o b mid hb e same casts hc hm d =
       let t = sym hb ∙ e in
       let k : State = with_cast s batch in
       led p m n s (Cast slot batch) o mid k (next_turn p k k.turns) (when (may_cast p me s slot.0) k s t) (when (may_cast p me s slot.0) (next_turn p k k.turns) None t) refl refl same
-      (d k (subst (λ (z : Node). IsFor z k) (sym hm) (record {
+      (d k (subst (λ (z : Node). RefinesState z k) (sym hm) (record {
         view = h.view;
         tree = h.tree;
         high = h.high;
@@ -84,7 +84,7 @@ module _ (p : Params) (m : Node) (s : State) (h : IsFor m s) where
       })))
 
   pub news-led : (from round : ℕ) (who : NodeId) (high : Certificate) (sig : List ℕ) (n : Node) (o : Outcome) (b : Bool) (words : Words) → who.0 ≡ from → b ≡ keeps_news p me s from round high → b ≡ true → AreNews words ((with_news s from round high).news) →
-      ((k : State) → IsFor (record m { news = words }) k → Proposes p (record m { news = words }) n k (first_turn p k round) o) → Does p m n s (Receive who (NewView round high sig)) o
+      ((k : State) → RefinesState (record m { news = words }) k → Proposes p (record m { news = words }) n k (first_turn p k round) o) → Does p m n s (Receive who (NewView round high sig)) o
   news-led from round who high sig n o b words hw hb e more d =
       let t : keeps_news p me s who.0 round high ≡ true = subst (λ (z : ℕ). keeps_news p me s z round high ≡ true) (sym hw) (sym hb ∙ e) in
       let k : State = with_news s who.0 round high in
@@ -103,7 +103,7 @@ module _ (p : Params) (m : Node) (s : State) (h : IsFor m s) where
         news = subst (λ (z : ℕ). AreNews words ((with_news s z round high).news)) (sym hw) more;
       }))
 
-  pub node-taken : (from : NodeId) (view : ℕ) (what : What) (just : Certificate) (sig parent : List ℕ) (hash : Hashed) (tree : Tree) (draft : Draft) → may_prepare p s from.0 view what just ≡ true → parent ≡ digest_of just → IsHashed p.setup.version view parent what hash →
+  pub node-taken : (from : NodeId) (view : ℕ) (what : Content) (just : Certificate) (sig parent : List ℕ) (hash : Hashed) (tree : Tree) (draft : Draft) → may_prepare p s from.0 view what just ≡ true → parent ≡ digest_of just → IsHashed p.setup.version view parent what hash →
       ((k : Tree_node) (ks : List Tree_node) → k.digest ≡ hash.digest → k.parent ≡ parent → k.what ≡ what → Keeps m.tree ks → Keeps tree (k ∷ ks)) → AreDrafts p (Some draft) (voted p 1 view hash.digest) →
       Does p m (record m { view = view; tree = tree; second = false; third = false }) s (Receive from (Prepare view what just sig)) (record { answer = Some draft; proposal = None; hashed = hash.strings })
   node-taken from view what just sig parent hash tree draft may hp hashed add drafted =
@@ -139,7 +139,7 @@ module _ (p : Params) (m : Node) (s : State) (h : IsFor m s) where
     t : keeps_vote p s from.0 phase view d ≡ true
     t = sym hb ∙ e
 
-    pub voted-for : IsFor mid k
+    pub voted-for : RefinesState mid k
     voted-for = record {
       view = h.view;
       tree = h.tree;

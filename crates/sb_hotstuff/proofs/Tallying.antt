@@ -9,7 +9,7 @@ use Rattle.iss_base.specs.Lists.{same_bytes}
 use Rattle.iss_sb.specs.Evidence.{one_or_none}
 use Rattle.hs_tree.specs.declared.certificates.Certificate.{Certificate}
 use Rattle.hs_tree.specs.declared.certificates.Certificate.TheVariants.{Root}
-use Rattle.hs_tree.specs.declared.certificates.Signed.{Signed}
+use Rattle.iss_sb.specs.declared.signers.Signed.{Signed}
 use Rattle.hs_tree.specs.Certificates.{view_of}
 use Rattle.iss_sb.proofs.Cases.{added, both_equal, same_list, same_number}
 use Rattle.sb_hotstuff.specs.declared.ballots.Ballot.{Ballot}

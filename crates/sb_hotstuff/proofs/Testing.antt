@@ -4,15 +4,15 @@ use Rattle.std.specs.Prelude.{nat_lt}
 use Rattle.iss_base.specs.Lists.{same_bytes}
 use Rattle.iss_request.specs.Digest.{digest}
 use Rattle.iss_sb.specs.declared.effects.Params.{Params}
-use Rattle.raft_wire.specs.declared.entries.What.{What}
+use Rattle.iss_sb.specs.declared.content.Content.{Content}
 use Rattle.hs_tree.specs.declared.certificates.Certificate.{Certificate}
 use Rattle.hs_tree.specs.Certificates.{digest_of, view_of}
 use Rattle.hs_tree.specs.Tree.{extends, is_known, plain_string}
 use Rattle.sb_hotstuff.specs.declared.state.Node.{Node}
 use Rattle.sb_hotstuff.specs.Rules.{State, is_allowed, is_just, is_safe, is_timely, may_prepare, node_digest, round_of, slots_below}
-use Rattle.sb_hotstuff.specs.Refines.{IsFor}
+use Rattle.sb_hotstuff.specs.Refines.{RefinesState}
 
-module _ (p : Params) (m : Node) (s : State) (h : IsFor m s) (view : ℕ) (what : What) (just : Certificate) where
+module _ (p : Params) (m : Node) (s : State) (h : RefinesState m s) (view : ℕ) (what : Content) (just : Certificate) where
   pub locked : (parent lock node : List ℕ) (b : Bool) → parent ≡ digest_of just → lock ≡ digest_of m.lock → node ≡ digest (plain_string p.setup.version view parent what) → b ≡ same_bytes node lock →
       b ≡ same_bytes (node_digest p view what just) (digest_of s.lock)
   locked parent lock node b hp hl hn hb =

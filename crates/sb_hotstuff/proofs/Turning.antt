@@ -10,8 +10,8 @@ use Rattle.iss_request.specs.Digest.{digest}
 use Rattle.iss_request.specs.declared.requests.Batch.{Batch}
 use Rattle.iss_sb.specs.declared.effects.Params.{Params}
 use Rattle.iss_sb.specs.declared.effects.To.TheVariants.{All as To_all}
-use Rattle.raft_wire.specs.declared.entries.What.{What}
-use Rattle.raft_wire.specs.declared.entries.What.TheVariants.{Nil, Holds}
+use Rattle.iss_sb.specs.declared.content.Content.{Content}
+use Rattle.iss_sb.specs.declared.content.Content.TheVariants.{Nil, Holds}
 use Rattle.hs_tree.specs.declared.certificates.Certificate.{Certificate}
 use Rattle.hs_tree.specs.declared.certificates.Certificate.TheVariants.{Root}
 use Rattle.hs_tree.specs.declared.messages.Message.TheVariants.{Prepare}
@@ -27,12 +27,12 @@ use Rattle.sb_hotstuff.specs.declared.turns.Turns.{Turns}
 use Rattle.sb_hotstuff.specs.Drafts.{AreDrafts, IsDraft}
 use Rattle.sb_hotstuff.specs.HotStuff.{strings_at}
 use Rattle.sb_hotstuff.specs.Rules.{State, Turn, all_news, best, cast_turn, certificate, first_turn, is_ready, next_turn, nil_or_mark, node_digest, round_of, slots_below, turn, turn_after, turn_on}
-use Rattle.sb_hotstuff.specs.Refines.{IsFor, IsLow, is_last_ready}
+use Rattle.sb_hotstuff.specs.Refines.{IsLow, RefinesState, is_last_ready}
 use Rattle.sb_hotstuff.specs.Steps.{IsQuiet, Proposes}
 use Rattle.sb_hotstuff.specs.Tallies.{AreTurns, last_of, own_of}
 
 -- no turn at all
-pub proposes-none : (p : Params) (m : Node) (k : State) (o : Outcome) → IsFor m k → IsQuiet o → Proposes p m m k None o
+pub proposes-none : (p : Params) (m : Node) (k : State) (o : Outcome) → RefinesState m k → IsQuiet o → Proposes p m m k None o
 proposes-none p m k o h quiet = record {
   node = refl;
   state = h;
@@ -41,7 +41,7 @@ proposes-none p m k o h quiet = record {
   hashed = quiet.hashed;
 }
 
-module _ (p : Params) (m : Node) (k : State) (view slots : ℕ) (just : Certificate) (what : What) (t : Turn) (is : t ≡ turn p view just what slots) where
+module _ (p : Params) (m : Node) (k : State) (view slots : ℕ) (just : Certificate) (what : Content) (t : Turn) (is : t ≡ turn p view just what slots) where
   pub node-is : (parent : List ℕ) (h : Hashed) → parent ≡ digest_of just → IsHashed p.setup.version view parent what h → h.digest ≡ node_digest p view what just
   node-is parent h hp hashed = hashed.digest_is ∙ ap (λ (z : List ℕ). digest (0x41 ∷ z ++ what_bytes p.setup.version what)) hp
 
@@ -56,7 +56,7 @@ module _ (p : Params) (m : Node) (k : State) (view slots : ℕ) (just : Certific
       let same : node_digest p view what just ≡ d = sym (hd ∙ node-is parent h hp hashed) in
       ap (λ (z : Turn). own_of z) is ∙ (λ i. record { view = view; digest = same i; slots = exact i })
 
-  pub proposes-one : (turns : Turns) (draft : Draft) (parent : List ℕ) (h : Hashed) → parent ≡ digest_of just → IsHashed p.setup.version view parent what h → IsLow (own_of t) → IsFor m k → AreTurns turns (t ∷ k.turns) →
+  pub proposes-one : (turns : Turns) (draft : Draft) (parent : List ℕ) (h : Hashed) → parent ≡ digest_of just → IsHashed p.setup.version view parent what h → IsLow (own_of t) → RefinesState m k → AreTurns turns (t ∷ k.turns) →
       IsDraft p draft ((To_all, Prepare view what just []) ∷ []) → Proposes p m (record m { turns = turns }) k (Some t) (record { answer = None; proposal = Some draft; hashed = h.strings })
   proposes-one turns draft parent h hp hashed low f more drafted = record {
     node = refl;
@@ -81,14 +81,14 @@ module _ (p : Params) (m : Node) (k : State) (view slots : ℕ) (just : Certific
 
 -- ---- casts
 
-module _ (p : Params) (m n : Node) (k : State) (o : Outcome) (view slots place : ℕ) (just : Certificate) (h : IsFor m k) where
+module _ (p : Params) (m n : Node) (k : State) (o : Outcome) (view slots place : ℕ) (just : Certificate) (h : RefinesState m k) where
   pub cast-none : nth m.casts place ≡ None → IsQuiet o → Proposes p m m k (cast_turn p view just slots (nth k.casts place)) o
   cast-none e quiet =
       let none : nth k.casts place ≡ None = ap (λ (z : List Batch). nth z place) (sym h.casts) ∙ e in
       subst (λ (z : Option Batch). Proposes p m m k (cast_turn p view just slots z) o) (sym none) (proposes-none p m k o h quiet)
 
   pub cast-some : (b c : Batch) → nth m.casts place ≡ Some b → c ≡ b → slots < 2 ^ 63 → view % 65536 ≤ slots + 2 → slots + 1 ≤ view →
-      ((t : Turn) → t ≡ turn p view just (Holds c) slots → slots < 2 ^ 63 → IsLow (own_of t) → IsFor m k → Proposes p m n k (Some t) o) → Proposes p m n k (cast_turn p view just slots (nth k.casts place)) o
+      ((t : Turn) → t ≡ turn p view just (Holds c) slots → slots < 2 ^ 63 → IsLow (own_of t) → RefinesState m k → Proposes p m n k (Some t) o) → Proposes p m n k (cast_turn p view just slots (nth k.casts place)) o
   cast-some b c e same small low first d =
       let some : nth k.casts place ≡ Some c = ap (λ (z : List Batch). nth z place) (sym h.casts) ∙ e ∙ ap (λ (z : Batch). let w : Option Batch = Some z in w) (sym same) in
       subst (λ (z : Option Batch). Proposes p m n k (cast_turn p view just slots z) o) (sym some)
@@ -101,12 +101,12 @@ after_last p k l =
     if round_of l.view == 0 then cast_turn p (suc l.view) (certificate p k 1 l.view l.digest) l.slots (nth k.casts l.view) else
     (if nat_lt l.slots (length p.slots) then Some (turn p (suc l.view) (certificate p k 1 l.view l.digest) Nil l.slots) else None)
 
-module _ (p : Params) (m n : Node) (k : State) (o : Outcome) (t : Turn) (last : Last) (is : own_of t ≡ last) (low : IsLow last) (h : IsFor m k)
+module _ (p : Params) (m n : Node) (k : State) (o : Outcome) (t : Turn) (last : Last) (is : own_of t ≡ last) (low : IsLow last) (h : RefinesState m k)
     (view round : ℕ) (just : Certificate) (round_is : round ≡ last.view / 65536) (fits : round < 65536) (more : view ≡ min (last.view + 1) 4294967295) (cert : just ≡ certificate p k 1 last.view last.digest) where
   back : Proposes p m n k (after_last p k last) o → Proposes p m n k (turn_after p k t) o
   back d = subst (λ (l : Last). Proposes p m n k (after_last p k l) o) (sym is) d
 
-  pub after-cast : round ≡ 0 → (slots : ℕ) → slots ≡ last.slots → (slots < 2 ^ 63 → view % 65536 ≤ slots + 2 → slots + 1 ≤ view → IsFor m k → Proposes p m n k (cast_turn p view just slots (nth k.casts last.view)) o) →
+  pub after-cast : round ≡ 0 → (slots : ℕ) → slots ≡ last.slots → (slots < 2 ^ 63 → view % 65536 ≤ slots + 2 → slots + 1 ≤ view → RefinesState m k → Proposes p m n k (cast_turn p view just slots (nth k.casts last.view)) o) →
       Proposes p m n k (turn_after p k t) o
   after-cast zero_is slots hs d =
       let zero_round : last.view / 65536 ≡ 0 = sym round_is ∙ zero_is in
@@ -122,7 +122,7 @@ module _ (p : Params) (m n : Node) (k : State) (o : Outcome) (t : Turn) (last : 
       (subst (λ (z : ℕ). Proposes p m n k (cast_turn p view just z (nth k.casts last.view)) o) hs made))))
 
   pub after-nil : 1 ≤ round → last.slots < length p.slots → length p.slots ≤ 64 →
-      ((u : Turn) → u ≡ turn p view just Nil last.slots → last.slots < 2 ^ 63 → IsLow (own_of u) → IsFor m k → Proposes p m n k (Some u) o) → Proposes p m n k (turn_after p k t) o
+      ((u : Turn) → u ≡ turn p view just Nil last.slots → last.slots < 2 ^ 63 → IsLow (own_of u) → RefinesState m k → Proposes p m n k (Some u) o) → Proposes p m n k (turn_after p k t) o
   after-nil some lt few d =
       let turns = low.turn in
       let next : view ≡ suc last.view = omega (arith, more, turns, lt, few, fits, round_is) in
@@ -154,7 +154,7 @@ newest : (ts : List Turn) (last : Last) → last_of ts ≡ Some last → Newest 
 newest [] last e = absurd cc
 newest (t ∷ ts) last e = record { turn = t; rest = ts; list = refl; own = cc }
 
-module _ (p : Params) (m n : Node) (k : State) (o : Outcome) (h : IsFor m k) (found : Option Last) (found_is : found ≡ last_of k.turns) where
+module _ (p : Params) (m n : Node) (k : State) (o : Outcome) (h : RefinesState m k) (found : Option Last) (found_is : found ≡ last_of k.turns) where
   pub next-cast : found ≡ None → (round : ℕ) → round ≡ m.view / 65536 → round ≡ 0 → Proposes p m n k (cast_turn p 1 Root 0 (nth k.casts 0)) o → Proposes p m n k (next_turn p k k.turns) o
   next-cast e round round_is zero_is d =
       let ts : k.turns ≡ [] = none-last k.turns (sym found_is ∙ e) in
@@ -175,7 +175,7 @@ module _ (p : Params) (m n : Node) (k : State) (o : Outcome) (h : IsFor m k) (fo
         subst (λ (z : List Turn). Proposes p m m k (next_turn p k z) o) (sym new.list)
         (subst (λ (z : Bool). Proposes p m m k (if z then turn_after p k new.turn else None) o) (sym (ready-is b hb ∙ not_yet)) (proposes-none p m k o h quiet))
 
-    pub next-after : (b : Bool) → b ≡ is_last_ready p k last → b ≡ true → ((t : Turn) → own_of t ≡ last → IsLow last → IsFor m k → Proposes p m n k (turn_after p k t) o) → Proposes p m n k (next_turn p k k.turns) o
+    pub next-after : (b : Bool) → b ≡ is_last_ready p k last → b ≡ true → ((t : Turn) → own_of t ≡ last → IsLow last → RefinesState m k → Proposes p m n k (turn_after p k t) o) → Proposes p m n k (next_turn p k k.turns) o
     next-after b hb yet d =
         subst (λ (z : List Turn). Proposes p m n k (next_turn p k z) o) (sym new.list)
         (subst (λ (z : Bool). Proposes p m n k (if z then turn_after p k new.turn else None) o) (sym (ready-is b hb ∙ yet))
@@ -183,15 +183,15 @@ module _ (p : Params) (m n : Node) (k : State) (o : Outcome) (h : IsFor m k) (fo
 
 -- ---- the first turn of a round
 
-pub first-one : (p : Params) (m n : Node) (k : State) (o : Outcome) (round count here slots : ℕ) (just : Certificate) (d : List ℕ) (known : Bool) (what : What) → IsFor m k → count ≡ length (all_news p.setup.n k.news round) → count ≡ p.setup.quorum →
+pub first-one : (p : Params) (m n : Node) (k : State) (o : Outcome) (round count here slots : ℕ) (just : Certificate) (d : List ℕ) (known : Bool) (what : Content) → RefinesState m k → count ≡ length (all_news p.setup.n k.news round) → count ≡ p.setup.quorum →
     here ≡ m.view / 65536 → here ≤ round → 1 ≤ round → just ≡ best Root (all_news p.setup.n k.news round) → d ≡ digest_of just → known ≡ is_known k.tree d → known ≡ true → slots ≡ filled (branch k.tree d) → what ≡ nil_or_mark p slots →
-    ((t : Turn) → t ≡ turn p (round * 65536 + 1) just what slots → slots < 2 ^ 63 → IsLow (own_of t) → IsFor m k → Proposes p m n k (Some t) o) → Proposes p m n k (first_turn p k round) o
+    ((t : Turn) → t ≡ turn p (round * 65536 + 1) just what slots → slots < 2 ^ 63 → IsLow (own_of t) → RefinesState m k → Proposes p m n k (Some t) o) → Proposes p m n k (first_turn p k round) o
 first-one p m n k o round count here slots just d known what h many full here_is le some just_is d_is known_is yep slots_is what_is make =
     subst (λ (b : Bool). Proposes p m n k (if b then turn_on p k round high else None) o) (sym test)
     (subst (λ (b : Bool). Proposes p m n k (if b then Some (turn p (round * 65536 + 1) high (nil_or_mark p (slots_below k high)) (slots_below k high)) else None) o) (sym there)
     (subst (λ (c : Certificate). Proposes p m n k (Some (turn p (round * 65536 + 1) c (nil_or_mark p (slots_below k c)) (slots_below k c))) o) just_is
     (subst (λ (z : ℕ). Proposes p m n k (Some (turn p (round * 65536 + 1) just (nil_or_mark p z) z)) o) slots_here
-    (subst (λ (z : What). Proposes p m n k (Some (turn p (round * 65536 + 1) just z slots)) o) what_is
+    (subst (λ (z : Content). Proposes p m n k (Some (turn p (round * 65536 + 1) just z slots)) o) what_is
     (make (turn p (round * 65536 + 1) just what slots) refl small (record { turn = omega arith; first = λ q. absurd (omega (arith, q, some)) }) h)))))
   where
     high : Certificate
@@ -216,5 +216,5 @@ first-one p m n k o round count here slots just d known what h many full here_is
         let long = h.tree.few d in
         let fits = m.tree.nodes.small in
         let ok = m.tree.nodes.ok in
-        let same = ap (λ (z : List What). filled z) (branch-path k.tree d) in
+        let same = ap (λ (z : List Content). filled z) (branch-path k.tree d) in
         omega (arith, slots_is, few, long, fits, ok.0, ok.1, same)

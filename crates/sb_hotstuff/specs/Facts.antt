@@ -1,4 +1,6 @@
--- What holds of a world of HotStuff that moves lead to: the facts that agreement stands on, in their order.
+-- Facts about every reached world of HotStuff, in the order in which agreement follows from them. A node votes once
+-- per view and phase. Votes of a later phase need a certificate of the one before. A vote respects the lock, so
+-- certificates of later views extend what was decided. What is delivered was accepted by each correct voter.
 use Rattle.std.specs.Prelude.{◌≡◌, ◌≢◌, ◌<◌, ◌≤◌, ◌⊎◌, ℕ, Bool, true, List, ◌∷◌, Some}
 use Rattle.iss_base.specs.Lists.{In}
 use Rattle.iss_base.specs.Quorum.{count_below}
@@ -11,8 +13,8 @@ use Rattle.iss_sb.specs.declared.effects.To.{To}
 use Rattle.iss_sb.specs.Evidence.{Item, IsString, World, accepts, delivered, is_correct}
 use Rattle.iss_sb.specs.Laws.{SharedAcceptor}
 use Rattle.iss_sb.specs.Legal.{Front}
-use Rattle.raft_wire.specs.declared.entries.What.{What}
-use Rattle.raft_wire.specs.declared.entries.What.TheVariants.{Holds}
+use Rattle.iss_sb.specs.declared.content.Content.{Content}
+use Rattle.iss_sb.specs.declared.content.Content.TheVariants.{Holds}
 use Rattle.hs_tree.specs.declared.messages.Message.{Message}
 use Rattle.hs_tree.specs.declared.messages.Message.TheVariants.{Vote}
 use Rattle.hs_tree.specs.Paths.{Has, Path, hash}
@@ -33,6 +35,7 @@ pub record IsVoted (w : World Message) (i phase view : ℕ) (d : List ℕ) : Typ
   pub vote : VotedIn item phase view d
 
 -- at an input a node votes once; later votes are of views that never fall, and of one view of other phases
+-- rule: HotStuff: A replica votes once for a phase of a view, in views that never decrease
 pub record VoteOnce (w : World Message) : Type 0 where
   pub one : (i : ℕ) (x : Item Message) (phase view q v : ℕ) (d e : List ℕ) → In x (w i) → VotedIn x phase view d → VotedIn x q v e →
       (phase ≡ q) × (view ≡ v) × (d ≡ e)
@@ -52,14 +55,14 @@ pub record AreRested (p : Params) (w : World Message) : Type 0 where
 
 -- ---- branches whose strings were hashed
 
-abbrev pub Leads : Params → World Message → List ℕ → List ℕ → List What → Type 0
+abbrev pub Leads : Params → World Message → List ℕ → List ℕ → List Content → Type 0
 Leads p w d e cs = Path p.setup.version (IsString w) d e cs
 
 -- the node stands on one that has a certificate of the first phase in a view between these
 pub record StandsAbove (p : Params) (w : World Message) (low high : ℕ) (e : List ℕ) : Type 0 where
   pub view : ℕ
   pub parent : List ℕ
-  pub what : What
+  pub what : Content
   pub above : low < view
   pub below : view < high
   pub has : Has p.setup.version (IsString w) parent what
@@ -74,7 +77,7 @@ pub record IsSafeVote (p : Params) (w : World Message) (u v : ℕ) (e : List ℕ
   pub high : u ≤ view
   pub low : view < v
   pub lock : IsCertified p w 2 view node
-  pub safe : ((cs : List What) × Leads p w e node cs) ⊎ StandsAbove p w view v e
+  pub safe : ((cs : List Content) × Leads p w e node cs) ⊎ StandsAbove p w view v e
 
 abbrev pub AreSafeVotes : Params → World Message → Type 0
 AreSafeVotes p w = (i u v : ℕ) (d e : List ℕ) → IsVoted w i 3 u d → IsVoted w i 1 v e → u < v → IsSafeVote p w u v e
@@ -87,7 +90,7 @@ HaveOneNode p w = (view : ℕ) (d e : List ℕ) → IsCertified p w 1 view d →
 
 -- the node of a first phase's certificate, at or above the view of one of the third phase, extends that one's node
 abbrev pub AreExtending : Params → World Message → Type 0
-AreExtending p w = (u v : ℕ) (d e : List ℕ) → u ≤ v → IsCertified p w 3 u d → IsCertified p w 1 v e → (cs : List What) × Leads p w e d cs
+AreExtending p w = (u v : ℕ) (d e : List ℕ) → u ≤ v → IsCertified p w 3 u d → IsCertified p w 1 v e → (cs : List Content) × Leads p w e d cs
 
 -- a delivered batch has a quorum of first votes for its node, and each correct node among them accepted it at the slot
 pub record IsBacked (p : Params) (w : World Message) (s : Slot) (b : Batch) : Type 0 where
@@ -115,6 +118,7 @@ AreFromLeader p w = (i : ℕ) (s : Slot) (b : Batch) → is_correct p.setup p.le
     delivered hotstuff p i (w i) s.0 ≡ Some (Value_batch b) → In {A = Slot × Batch} (s, b) (accepts (w p.leader.0))
 
 -- and accepts one batch at a slot
+-- rule: HotStuff: A correct leader accepts one batch a slot
 abbrev pub AreOnce : Params → World Message → Type 0
 AreOnce p w = is_correct p.setup p.leader.0 ≡ true → (slot : Slot) (b c : Batch) →
     In {A = Slot × Batch} (slot, b) (accepts (w p.leader.0)) → In {A = Slot × Batch} (slot, c) (accepts (w p.leader.0)) → b ≡ c

@@ -1,10 +1,13 @@
--- HotStuff as a module: its definitions over the list of what a node took.
+-- HotStuff as a module: what a replica accepts, sends, hashes and decides, over the list of what it took. 3f+1
+-- replicas, 2f+1 decide.
 use Rattle.std.specs.Prelude.{ℕ, suc, ◌+◌, ◌*◌, ◌==◌, ◌&&◌, ◌||◌, Bool, true, false, List, [], ◌∷◌, ◌++◌, length, Option, Some, None, if◌then◌else◌}
 use Rattle.iss_base.specs.Lists.{first_of, nth, same_bytes}
 use Rattle.iss_request.specs.declared.ids.Slot.{Slot}
 use Rattle.iss_request.specs.declared.requests.Batch.{Batch}
 use Rattle.iss_request.specs.declared.requests.Request.{Request}
 use Rattle.iss_request.specs.declared.requests.Value.{Value}
+use Rattle.iss_request.specs.Setup.{nodes_of_kind, quorum_of_kind}
+use Rattle.iss_request.specs.declared.setups.Kind.TheVariants.{Byzantine}
 use Rattle.iss_sb.specs.declared.effects.Input.{Input}
 use Rattle.iss_sb.specs.declared.effects.Input.TheVariants.{Cast, Receive, Timeout}
 use Rattle.iss_sb.specs.declared.effects.Params.{Params}
@@ -12,8 +15,8 @@ use Rattle.iss_sb.specs.declared.effects.To.{To}
 use Rattle.iss_sb.specs.declared.effects.To.TheVariants.{All as To_all, One as To_one}
 use Rattle.iss_sb.specs.Evidence.{Item, Made, Module, accepts}
 use Rattle.iss_sb.specs.Statements.{signature}
-use Rattle.raft_wire.specs.declared.entries.What.{What}
-use Rattle.raft_wire.specs.declared.entries.What.TheVariants.{Nil, Holds, Mark}
+use Rattle.iss_sb.specs.declared.content.Content.{Content}
+use Rattle.iss_sb.specs.declared.content.Content.TheVariants.{Nil, Holds, Mark}
 use Rattle.hs_tree.specs.declared.certificates.Certificate.{Certificate}
 use Rattle.hs_tree.specs.declared.messages.Message.{Message}
 use Rattle.hs_tree.specs.declared.messages.Message.TheVariants.{NewView, Prepare, PreCommit, Commit, Decide, Vote}
@@ -43,12 +46,13 @@ abbrev pub was_accepted : ℕ → Batch → List (Slot × Batch) → Bool
 was_accepted s b [] = false
 was_accepted s b (a ∷ old) = ((a.0.0 == s) && same_batch a.1 b) || was_accepted s b old
 
+-- rule: HotStuff: A batch is accepted once at a slot
 abbrev pub unless_accepted : List (Slot × Batch) → Batch → Option Slot → Option (Slot × Batch)
 unless_accepted old b None = None
 unless_accepted old b (Some s) = if was_accepted s.0 b old then None else Some (s, b)
 
 -- the batch stands at the slot behind those of the branch below it
-abbrev pub offered : Params → State → List (Slot × Batch) → What → Certificate → Option (Slot × Batch)
+abbrev pub offered : Params → State → List (Slot × Batch) → Content → Certificate → Option (Slot × Batch)
 offered p s old Nil just = None
 offered p s old (Holds b) just = unless_accepted old b (nth p.slots (slots_below s just))
 offered p s old Mark just = None
@@ -87,6 +91,7 @@ answers_heard p s k from (Decide view shown sig) = []
 answers_heard p s k from (Vote phase view d sig) =
     if keeps_vote p s from phase view d && is_reached p k phase view d then (To_all, shows phase view (certificate p k phase view d)) ∷ [] else []
 
+-- rule: HotStuff: A timeout enters the next round and tells its leader the highest certificate
 abbrev pub answers : Params → State → State → Input Message → List (To × Message)
 answers p s k (Cast slot batch) = []
 answers p s k (Receive from msg) = answers_heard p s k from.0 msg
@@ -106,7 +111,7 @@ sign_all p me leaf (x ∷ xs) = (x.0, with_signature (signature p me leaf (own_s
 
 -- ---- what is hashed: of the node that is taken, and of the one that is proposed, the value's string and the node's
 
-abbrev pub strings_at : Params → ℕ → What → Certificate → List (List ℕ)
+abbrev pub strings_at : Params → ℕ → Content → Certificate → List (List ℕ)
 strings_at p view what just = strings_of p.setup.version (value_of what) ++ node_string basic p view what just ∷ []
 
 abbrev pub taken_strings : Params → State → ℕ → Message → List (List ℕ)
@@ -148,6 +153,7 @@ decides_heard p s (Decide view shown sig) n =
     if is_good p 3 view shown && is_known s.tree (digest_of shown) then value_at_slot (branch s.tree (digest_of shown)) 0 p.slots n else None
 decides_heard p s (Vote phase view d sig) n = None
 
+-- rule: HotStuff: A certificate of the third phase delivers its node's branch, each slot once
 abbrev pub decides : Params → State → Input Message → ℕ → Option Value
 decides p s (Cast slot batch) n = None
 decides p s (Receive from msg) n = decides_heard p s msg n
@@ -162,8 +168,8 @@ decided p me (x ∷ xs) n = first_of (decided p me xs n) (decides p (state p me 
 -- f Byzantine nodes of 3f+1
 abbrev pub hotstuff : Module Message
 hotstuff = record {
-  nodes = λ f. 3 * f + 1;
-  quorum = λ f. 2 * f + 1;
+  nodes = nodes_of_kind Byzantine;
+  quorum = quorum_of_kind Byzantine;
   stopping = false;
   tag = basic.tag;
   signs = λ p. 2;

@@ -1,4 +1,5 @@
--- What the code of an instance stands for, and what the parts of its steps give.
+-- When an instance of the code refines a list of inputs, and what the parts of its steps give. The messages of an
+-- outcome are signed one after the other.
 use Rattle.std.specs.Prelude.{◌≡◌, ℕ, ◌+◌, List, [], ◌++◌, take, Option, Some, None, is_some}
 use Rattle.iss_keys.specs.Directories.{AreKeysOf}
 use Rattle.iss_keys.specs.KeyStates.{KeyState}
@@ -9,8 +10,8 @@ use Rattle.iss_sb.specs.declared.effects.Params.{Params}
 use Rattle.iss_sb.specs.declared.effects.To.{To}
 use Rattle.iss_sb.specs.Calls.{AreToNodes, has_slot}
 use Rattle.iss_sb.specs.Evidence.{Item, accepts}
-use Rattle.raft_wire.specs.declared.entries.What.{What}
-use Rattle.raft_wire.specs.declared.entries.What.TheVariants.{Nil, Holds, Mark}
+use Rattle.iss_sb.specs.declared.content.Content.{Content}
+use Rattle.iss_sb.specs.declared.content.Content.TheVariants.{Nil, Holds, Mark}
 use Rattle.hs_tree.specs.declared.messages.Message.{Message}
 use Rattle.sb_hotstuff.specs.declared.accepted.Accepted.{Accepted}
 use Rattle.sb_hotstuff.specs.declared.hotstuff.HotStuff.{HotStuff}
@@ -18,12 +19,12 @@ use Rattle.sb_hotstuff.specs.declared.outcomes.Outcome.{Outcome}
 use Rattle.sb_hotstuff.specs.Accepted.{AreAccepted}
 use Rattle.sb_hotstuff.specs.Drafts.{AreDrafts, count_of}
 use Rattle.sb_hotstuff.specs.HotStuff.{decided, sign_all, state}
-use Rattle.sb_hotstuff.specs.Refines.{IsFor}
+use Rattle.sb_hotstuff.specs.Refines.{RefinesState}
 
 -- the value stands for the list: it keeps its state and its batches, and has delivered the first slots, all that are decided
 pub record Refines (m : HotStuff) (p : Params) (me : ℕ) (xs : List (Item Message)) : Type 0 where
   pub node : m.node.me.0 ≡ me
-  pub keeps : IsFor m.node (state p me xs)
+  pub keeps : RefinesState m.node (state p me xs)
   pub batches : AreAccepted m.accepted (accepts xs)
   pub reached : (n : ℕ) → is_some (decided p me xs n) ≡ has_slot n (take m.delivered p.slots)
 
@@ -32,7 +33,7 @@ abbrev pub at_slot : Batch → Option Slot → Option (Slot × Batch)
 at_slot b None = None
 at_slot b (Some s) = Some (s, b)
 
-abbrev pub what_at : What → Option Slot → Option (Slot × Batch)
+abbrev pub what_at : Content → Option Slot → Option (Slot × Batch)
 what_at Nil o = None
 what_at (Holds b) o = at_slot b o
 what_at Mark o = None

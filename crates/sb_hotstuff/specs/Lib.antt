@@ -4,7 +4,6 @@ pub mod HotStuff
 pub mod Instances
 pub mod Rules
 pub mod Tallies
-pub mod Delivered
 pub mod Drafts
 pub mod Refines
 pub mod Steps

@@ -1,4 +1,4 @@
--- What HotStuff's code keeps, and what its rules do.
+-- What HotStuff's code keeps, and when it is the state of the definitions.
 use Rattle.std.specs.Prelude.{◌≡◌, ◌≤◌, ◌+◌, ◌/◌, ◌%◌, ◌&&◌, nat_le, Bool, Some}
 use Rattle.iss_sb.specs.declared.effects.Params.{Params}
 use Rattle.hs_tree.specs.Known.{Keeps}
@@ -14,7 +14,7 @@ pub record IsLow (t : Last) : Type 0 where
   pub first : t.view / 65536 ≡ 0 → t.slots ≤ t.view
 
 -- the code keeps what this state is
-pub record IsFor (m : Node) (s : State) : Type 0 where
+pub record RefinesState (m : Node) (s : State) : Type 0 where
   pub view : m.view ≡ s.view
   pub tree : Keeps m.tree s.tree
   pub high : m.high ≡ s.high

@@ -1,17 +1,21 @@
--- The rules of HotStuff: what a node keeps, what it takes of an input, and the proposals that an input leads a leader to.
+-- The rules of HotStuff (basic HotStuff, Yin and others, 2019). A view is a round and a turn in it. Each rule is a
+-- test and what it changes: a cast, a proposal that is safe against the lock, certificates of the three phases, the
+-- end of a round, and the leader's votes and new-view messages. An input leads to at most one proposal: the next turn
+-- once the last one has its quorums, or a new round's first on the best certificate.
 use Rattle.std.specs.Prelude.{ℕ, zero, suc, ◌+◌, ◌*◌, ◌/◌, ◌%◌, ◌==◌, ◌&&◌, ◌||◌, Bool, true, false, not, nat_lt, nat_le, List, [], ◌∷◌, ◌++◌, length, Option, Some, None, is_some, if◌then◌else◌}
 use Rattle.iss_base.specs.Lists.{nth, same_bytes}
 use Rattle.iss_request.specs.declared.ids.Slot.{Slot}
 use Rattle.iss_request.specs.declared.requests.Batch.{Batch}
+use Rattle.iss_sb.specs.Calls.{is_slot}
 use Rattle.iss_sb.specs.declared.effects.Input.{Input}
 use Rattle.iss_sb.specs.declared.effects.Input.TheVariants.{Cast, Receive, Timeout}
 use Rattle.iss_sb.specs.declared.effects.Params.{Params}
 use Rattle.iss_sb.specs.Evidence.{one_or_none}
-use Rattle.raft_wire.specs.declared.entries.What.{What}
-use Rattle.raft_wire.specs.declared.entries.What.TheVariants.{Nil, Holds, Mark}
+use Rattle.iss_sb.specs.declared.content.Content.{Content}
+use Rattle.iss_sb.specs.declared.content.Content.TheVariants.{Nil, Holds, Mark}
 use Rattle.hs_tree.specs.declared.certificates.Certificate.{Certificate}
 use Rattle.hs_tree.specs.declared.certificates.Certificate.TheVariants.{Root, Votes}
-use Rattle.hs_tree.specs.declared.certificates.Signed.{Signed}
+use Rattle.iss_sb.specs.declared.signers.Signed.{Signed}
 use Rattle.hs_tree.specs.declared.messages.Message.{Message}
 use Rattle.hs_tree.specs.declared.messages.Message.TheVariants.{NewView, Prepare, PreCommit, Commit, Decide, Vote}
 use Rattle.hs_tree.specs.Certificates.{digest_of, is_phase, is_quorum, view_of}
@@ -29,10 +33,11 @@ turn_of view = view % 65536
 abbrev pub leader_of : Params → ℕ → ℕ
 leader_of p round = (p.leader.0 + round) % p.setup.n
 
-abbrev pub node_digest : Params → ℕ → What → Certificate → List ℕ
+abbrev pub node_digest : Params → ℕ → Content → Certificate → List ℕ
 node_digest p view what just = Statements.node_digest basic p view what just
 
 -- a certificate of a quorum's votes for this phase in this view, which is that of a turn
+-- rule: HotStuff: A certificate has the votes of exactly a quorum
 abbrev pub is_good : Params → ℕ → ℕ → Certificate → Bool
 is_good p phase view c = nat_le 1 (turn_of view) && is_quorum p.setup.quorum phase view c
 
@@ -48,7 +53,7 @@ pub record Turn : Type 0 where
   pub view : ℕ
   pub digest : List ℕ
   pub just : Certificate
-  pub what : What
+  pub what : Content
   pub slots : ℕ
 
 -- a vote for one of these, and a word on the start of a round
@@ -139,10 +144,6 @@ best c (d ∷ ds) = if nat_lt (view_of c) (view_of d) then best d ds else best c
 
 -- ---- a cast at the leader in the first round, at the next slot
 
-abbrev pub is_slot : ℕ → Option Slot → Bool
-is_slot s None = false
-is_slot s (Some t) = t.0 == s
-
 abbrev pub may_cast : Params → ℕ → State → ℕ → Bool
 may_cast p me s slot = ((me == p.leader.0) && (round_of s.view == 0)) && is_slot slot (nth p.slots (length s.casts))
 
@@ -152,30 +153,33 @@ with_cast s b = record s { casts = s.casts ++ b ∷ [] }
 -- ---- a proposal
 
 -- the node extends the lock's, or its justification is above the lock
-abbrev pub is_safe : Params → State → ℕ → What → Certificate → Bool
+-- rule: HotStuff: A proposal is safe if it extends the lock or its certificate is above the lock
+abbrev pub is_safe : Params → State → ℕ → Content → Certificate → Bool
 is_safe p s view what just =
     (same_bytes (node_digest p view what just) (digest_of s.lock) || extends s.tree (digest_of just) (digest_of s.lock)) ||
     nat_lt (view_of s.lock) (view_of just)
 
 -- what may stand behind so many slots: batches in the first round alone, then nil, and marks once all slots are filled
-abbrev pub is_allowed : Params → ℕ → ℕ → What → Bool
+-- rule: HotStuff: Batches are proposed in round 0 only; later rounds propose nil, then marks
+abbrev pub is_allowed : Params → ℕ → ℕ → Content → Bool
 is_allowed p round slots Nil = nat_le 1 round && nat_lt slots (length p.slots)
 is_allowed p round slots (Holds b) = (round == 0) && nat_lt slots (length p.slots)
 is_allowed p round slots Mark = nat_le 1 round && not (nat_lt slots (length p.slots))
 
 -- from the view's leader, in a view above the own
+-- rule: HotStuff: A proposal is taken only in a view above the replica's own
 abbrev pub is_timely : Params → State → ℕ → ℕ → Bool
 is_timely p s from view = (from == leader_of p (round_of view)) && (nat_lt s.view view && nat_le 1 (turn_of view))
 
 abbrev pub slots_below : State → Certificate → ℕ
 slots_below s just = filled (branch s.tree (digest_of just))
 
-abbrev pub may_prepare : Params → State → ℕ → ℕ → What → Certificate → Bool
+abbrev pub may_prepare : Params → State → ℕ → ℕ → Content → Certificate → Bool
 may_prepare p s from view what just =
     (is_timely p s from view && (is_just p view just && is_known s.tree (digest_of just))) &&
     (is_safe p s view what just && is_allowed p (round_of view) (slots_below s just) what)
 
-abbrev pub with_node : Params → State → ℕ → What → Certificate → State
+abbrev pub with_node : Params → State → ℕ → Content → Certificate → State
 with_node p s view what just = record s {
   view = view;
   tree = record { view = view; digest = node_digest p view what just; from = view_of just; parent = digest_of just; what = what } ∷ s.tree;
@@ -204,6 +208,7 @@ with_round s = record s { view = suc (round_of s.view) * 65536; second = false; 
 
 -- ---- what is kept of an input, but for the turn that it leads to
 
+-- rule: HotStuff: Only a certificate of the second phase becomes the lock, which never decreases
 abbrev pub heard : Params → ℕ → State → ℕ → Message → State
 heard p me s from (NewView round high sig) = if keeps_news p me s from round high then with_news s from round high else s
 heard p me s from (Prepare view what just sig) = if may_prepare p s from view what just then with_node p s view what just else s
@@ -219,7 +224,7 @@ kept p me s Timeout = if may_end s then with_round s else s
 
 -- ---- the next turn, on the certificate of the last one
 
-abbrev pub turn : Params → ℕ → Certificate → What → ℕ → Turn
+abbrev pub turn : Params → ℕ → Certificate → Content → ℕ → Turn
 turn p view just what slots = record { view = view; digest = node_digest p view what just; just = just; what = what; slots = weight what + slots }
 
 abbrev pub cast_turn : Params → ℕ → Certificate → ℕ → Option Batch → Option Turn
@@ -237,13 +242,14 @@ turn_after p s t =
     (if nat_lt t.slots (length p.slots) then Some (turn p (suc t.view) (certificate p s 1 t.view t.digest) Nil t.slots) else None)
 
 -- the newest turn is the last
+-- rule: HotStuff: The next turn extends the last one, once its first and last quorum were shown
 abbrev pub next_turn : Params → State → List Turn → Option Turn
 next_turn p s [] = if round_of s.view == 0 then cast_turn p 1 Root 0 (nth s.casts 0) else None
 next_turn p s (t ∷ ts) = if is_ready p s t then turn_after p s t else None
 
 -- ---- the first turn of a round, on the best certificate of a quorum's words
 
-abbrev pub nil_or_mark : Params → ℕ → What
+abbrev pub nil_or_mark : Params → ℕ → Content
 nil_or_mark p slots = if nat_lt slots (length p.slots) then Nil else Mark
 
 abbrev pub turn_on : Params → State → ℕ → Certificate → Option Turn
@@ -251,6 +257,7 @@ turn_on p s round high =
     if is_known s.tree (digest_of high)
     then Some (turn p (round * 65536 + 1) high (nil_or_mark p (slots_below s high)) (slots_below s high)) else None
 
+-- rule: HotStuff: A round begins on the highest certificate of a quorum of NewViews
 abbrev pub first_turn : Params → State → ℕ → Option Turn
 first_turn p s round =
     if (length (all_news p.setup.n s.news round) == p.setup.quorum) && nat_le (round_of s.view) round

@@ -1,4 +1,5 @@
--- What the rules of HotStuff's code do, over any state that the code keeps.
+-- What each handler of HotStuff's code does, over any state that the code keeps: the input was taken as the
+-- definitions say, and a turn was proposed or not.
 use Rattle.std.specs.Prelude.{◌≡◌, [], Option, Some, None}
 use Rattle.iss_sb.specs.declared.effects.Input.{Input}
 use Rattle.iss_sb.specs.declared.effects.Params.{Params}
@@ -9,7 +10,7 @@ use Rattle.sb_hotstuff.specs.declared.state.Node.{Node}
 use Rattle.sb_hotstuff.specs.Drafts.{AreDrafts}
 use Rattle.sb_hotstuff.specs.HotStuff.{answers, proposals, strings, turn_strings}
 use Rattle.sb_hotstuff.specs.Rules.{State, Turn, after, kept, proposed, with_turn}
-use Rattle.sb_hotstuff.specs.Refines.{IsFor}
+use Rattle.sb_hotstuff.specs.Refines.{RefinesState}
 
 pub record IsQuiet (o : Outcome) : Type 0 where
   pub answer : o.answer ≡ None
@@ -24,7 +25,7 @@ pub record IsAnswer (d : Draft) (o : Outcome) : Type 0 where
 -- a turn, if there is one, was added to the state k
 pub record Proposes (p : Params) (old new : Node) (k : State) (t : Option Turn) (o : Outcome) : Type 0 where
   pub node : new.me ≡ old.me
-  pub state : IsFor new (with_turn k t)
+  pub state : RefinesState new (with_turn k t)
   pub answer : o.answer ≡ None
   pub proposal : AreDrafts p o.proposal (proposals t)
   pub hashed : o.hashed ≡ turn_strings p t
@@ -32,7 +33,7 @@ pub record Proposes (p : Params) (old new : Node) (k : State) (t : Option Turn) 
 -- the input was taken in the state s
 pub record Does (p : Params) (old new : Node) (s : State) (i : Input Message) (o : Outcome) : Type 0 where
   pub node : new.me ≡ old.me
-  pub state : IsFor new (after p old.me.0 s i)
+  pub state : RefinesState new (after p old.me.0 s i)
   pub answer : AreDrafts p o.answer (answers p s (kept p old.me.0 s i) i)
   pub proposal : AreDrafts p o.proposal (proposals (proposed p old.me.0 s (kept p old.me.0 s i) i))
   pub hashed : o.hashed ≡ strings p old.me.0 s i

@@ -1,4 +1,4 @@
--- What the code keeps of a leader: votes, words on rounds, and turns.
+-- What the code keeps at a leader: votes, new-view messages and turns, compared with the definitions by look-ups.
 use Rattle.std.specs.Prelude.{◌≡◌, ℕ, zero, suc, List, [], ◌∷◌, ◌++◌, nat_lt, is_some, Option, Some, None, if◌then◌else◌}
 use Rattle.std.specs.BTreeMap.{get}
 use Rattle.std.specs.BTreeSet.{contains}
@@ -7,7 +7,7 @@ use Rattle.iss_base.specs.Quorum.{count_below}
 use Rattle.iss_sb.specs.Evidence.{one_or_none}
 use Rattle.hs_tree.specs.declared.certificates.Certificate.{Certificate}
 use Rattle.hs_tree.specs.declared.certificates.Certificate.TheVariants.{Root}
-use Rattle.hs_tree.specs.declared.certificates.Signed.{Signed}
+use Rattle.iss_sb.specs.declared.signers.Signed.{Signed}
 use Rattle.hs_tree.specs.Certificates.{view_of}
 use Rattle.sb_hotstuff.specs.declared.ballots.Ballot.{Ballot}
 use Rattle.sb_hotstuff.specs.declared.ballots.Ballots.{Ballots}

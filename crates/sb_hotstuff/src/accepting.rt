@@ -8,14 +8,13 @@ ghost use Rattle.sb_hotstuff.specs.Accepted.{AreAccepted};
 ghost use Rattle.sb_hotstuff.specs.HotStuff.{offered, unless_accepted};
 ghost use Rattle.sb_hotstuff.specs.Instances.{Adds, at_slot, what_at};
 ghost use Rattle.sb_hotstuff.specs.Rules.{State, may_cast, slots_below};
-ghost use Rattle.sb_hotstuff.specs.Refines.{IsFor};
+ghost use Rattle.sb_hotstuff.specs.Refines.{RefinesState};
 
 use crate::accepted::Accepted;
 use crate::state::Node;
 use hs_tree::Certificate;
 use iss_request::{Batch, NoMemory, Slot};
-use iss_sb::Params;
-use raft_wire::What;
+use iss_sb::{Content, Params};
 use std::alloc::Global;
 
 // The slot at this place of the segment, unless the batch was accepted there.
@@ -35,7 +34,7 @@ fn free_slot(accepted: &Accepted, p: &Params, place: usize, batch: &Batch) -> Op
 
 /// The slot of a cast that may be taken.
 pub fn cast_slot(node: &Node, p: &Params, slot: Slot) -> Option<Slot>
-    ensures cast { (s : State) (batch : Batch) → IsFor node.now s →
+    ensures cast { (s : State) (batch : Batch) → RefinesState node.now s →
         at_slot batch result ≡ (if may_cast p.now node.now.me.0 s slot.0 then Some (slot, batch) else None) }
     ensures inside { IfSome result (λ s. In s p.now.slots) }
 {
@@ -46,18 +45,20 @@ pub fn cast_slot(node: &Node, p: &Params, slot: Slot) -> Option<Slot>
 }
 
 /// The slot behind the branch of the certificate's node, where a batch is to stand there that was not accepted there.
+// rule: HotStuff: A batch is accepted once at a slot
+// rule: HotStuff: A correct leader accepts one batch a slot
 pub fn offered_slot(
     node: &Node,
     accepted: &Accepted,
     p: &Params,
-    what: &What,
+    what: &Content,
     just: &Certificate,
 ) -> Option<Slot>
-    ensures offered { (s : State) (old : List (Slot × Batch)) → IsFor node.now s → AreAccepted accepted.now old →
+    ensures offered { (s : State) (old : List (Slot × Batch)) → RefinesState node.now s → AreAccepted accepted.now old →
         what_at what.now result ≡ offered p.now s old what.now just.now }
     ensures inside { IfSome result (λ s. In s p.now.slots) }
 {
-    let What::Holds(batch) = what else {
+    let Content::Holds(batch) = what else {
         return None;
     };
     let place = node.tree.slots(&just.digest());
@@ -88,13 +89,13 @@ pub fn keep_what(
     accepted: &mut Accepted,
     alloc: Global,
     slot: Option<Slot>,
-    what: &What,
+    what: &Content,
 ) -> Result<Option<(Slot, Batch)>, NoMemory>
     ensures is { IfOk result (λ a. a ≡ what_at what.now slot) }
     ensures kept { OnOk result (Adds accepted.old accepted.new (one_or_none (what_at what.now slot))) }
 {
     match what {
-        What::Holds(batch) => keep_at(accepted, alloc, slot, batch),
+        Content::Holds(batch) => keep_at(accepted, alloc, slot, batch),
         _ => Ok(None),
     }
 }

@@ -3,12 +3,13 @@ ghost use Rattle.std.specs.Prelude.{◌≡◌, ◌∷◌, ◌++◌, ℕ, List, [
 ghost use Rattle.std.specs.Option.{option_copied};
 ghost use Rattle.iss_sb.specs.Evidence.{one_or_none};
 ghost use Rattle.hs_tree.specs.declared.certificates.Certificate.TheVariants.{Votes};
-ghost use Rattle.hs_tree.specs.declared.certificates.Signed.{Signed};
+ghost use Rattle.iss_sb.specs.declared.signers.Signed.{Signed};
 ghost use Rattle.sb_hotstuff.specs.Rules.{Kept, vote_of, votes_of};
 ghost use Rattle.sb_hotstuff.specs.Tallies.{AreVotes, signed, vote_at};
 
-use hs_tree::{Certificate, Signed};
+use hs_tree::Certificate;
 use iss_request::{Bytes, NoMemory, NodeId, Seq};
+use iss_sb::Signed;
 use std::alloc::Global;
 use std::collections::BTreeMap;
 

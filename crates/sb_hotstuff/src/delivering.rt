@@ -1,6 +1,6 @@
 //! Slots with the values that stand there.
 ghost use Rattle.std.specs.Prelude.{◌≡◌, drop, IfOk};
-ghost use Rattle.sb_hotstuff.specs.Delivered.{paired};
+ghost use Rattle.iss_sb.specs.Paired.{paired};
 
 use iss_request::{NoMemory, Seq, Slot, Value};
 use std::alloc::Global;

@@ -3,13 +3,13 @@ ghost use Rattle.std.specs.Prelude.{◌≡◌, ◌≤◌, ℕ, List, IfOk, None,
 ghost use Rattle.iss_keys.specs.KeyStates.{KeyState, left_of};
 ghost use Rattle.iss_request.specs.declared.ids.Slot.{Slot};
 ghost use Rattle.iss_request.specs.declared.requests.Batch.{Batch};
-ghost use Rattle.iss_sb.specs.Calls.{IsGoodInput, IsGoodParams, IsStep, IsTrueStep, named};
+ghost use Rattle.iss_sb.specs.Calls.{IsGoodInput, IsGoodParams, IsTrueStep, named};
 ghost use Rattle.hs_tree.specs.declared.messages.Message.TheVariants.{NewView, Prepare, PreCommit, Commit, Decide, Vote};
 ghost use Rattle.sb_hotstuff.specs.Accepted.{AreAccepted};
 ghost use Rattle.sb_hotstuff.specs.HotStuff.{asked_by, hotstuff, offered};
 ghost use Rattle.sb_hotstuff.specs.Instances.{Refines};
 ghost use Rattle.sb_hotstuff.specs.Rules.{State, may_prepare};
-ghost use Rattle.sb_hotstuff.specs.Refines.{IsFor};
+ghost use Rattle.sb_hotstuff.specs.Refines.{RefinesState};
 
 use crate::accepted::Accepted;
 use crate::accepting::{cast_slot, keep_at, keep_what, offered_slot};
@@ -18,9 +18,11 @@ use crate::signing::claims;
 use crate::state::{Node, PHASES};
 use hs_tree::{Certificate, Message};
 use iss_keys::Keys;
-use iss_request::{Batch, Bytes, DecodeError, Fields, NoMemory, NodeId, Seq, Slot, Writer};
-use iss_sb::{Claim, Effects, Input, Params, Sequenced, StepError};
-use raft_wire::What;
+use iss_request::{
+    Batch, Bytes, DecodeError, Fields, Kind, NoMemory, NodeId, Seq, Slot, Writer, nodes_of_kind,
+    quorum,
+};
+use iss_sb::{Claim, Content, Effects, Input, Params, Sequenced, asks_if};
 use std::alloc::Global;
 
 /// A node's part in one instance: what it keeps for its rules, the batches that it accepted, and how many slots of the
@@ -39,11 +41,11 @@ impl HotStuff {
         p: &Params,
         from: NodeId,
         view: u32,
-        what: &'a What,
+        what: &'a Content,
         just: &'a Certificate,
     ) -> Option<(Slot, &'a Batch)>
         requires { IsGoodParams hotstuff p.now }
-        ensures { (s : State) (old : List (Slot × Batch)) → IsFor self.now.node s → AreAccepted self.now.accepted old →
+        ensures { (s : State) (old : List (Slot × Batch)) → RefinesState self.now.node s → AreAccepted self.now.accepted old →
             named result ≡ (if may_prepare p.now s from.0 view what.now just.now then offered p.now s old what.now just.now else None) }
     {
         if !self.node.may_prepare(p, from, view, what, just) {
@@ -52,7 +54,7 @@ impl HotStuff {
         let Some(slot) = offered_slot(&self.node, &self.accepted, p, what, just) else {
             return None;
         };
-        let What::Holds(batch) = what else {
+        let Content::Holds(batch) = what else {
             return None;
         };
         Some((slot, batch))
@@ -61,7 +63,7 @@ impl HotStuff {
     // The batch that a message would have the node accept.
     fn asked<'a>(&'a self, p: &Params, from: NodeId, msg: &'a Message) -> Option<(Slot, &'a Batch)>
         requires { IsGoodParams hotstuff p.now }
-        ensures { (s : State) (old : List (Slot × Batch)) → IsFor self.now.node s → AreAccepted self.now.accepted old →
+        ensures { (s : State) (old : List (Slot × Batch)) → RefinesState self.now.node s → AreAccepted self.now.accepted old →
             named result ≡ asked_by p.now s old from.0 msg.now }
     {
         match msg {
@@ -101,7 +103,7 @@ impl HotStuff {
         p: &Params,
         from: NodeId,
         view: u32,
-        what: What,
+        what: Content,
         just: Certificate,
         keys: &mut Keys,
     ) -> Result<Effects<Message>, NoMemory>
@@ -120,6 +122,8 @@ impl HotStuff {
     }
 
     // What the branch of a decided node holds for slots that are not delivered is delivered.
+    // rule: HotStuff: A certificate of the third phase delivers its node's branch, each slot once
+    // rule: Modules: A step delivers exactly what the module's definition delivers
     fn decide(
         &mut self,
         alloc: Global,
@@ -296,11 +300,11 @@ impl Sequenced for HotStuff {
     ghost refines = { Refines };
 
     fn nodes_of(f: u32) -> u32 {
-        3 * f + 1
+        nodes_of_kind(Kind::Byzantine, f)
     }
 
     fn quorum_of(f: u32) -> u32 {
-        2 * f + 1
+        quorum(Kind::Byzantine, f)
     }
 
     fn signs(_p: &Params) -> u32 {
@@ -321,40 +325,28 @@ impl Sequenced for HotStuff {
 
     fn asks<'a>(&'a self, p: &Params, i: &'a Input<Message>) -> Option<(Slot, &'a Batch)> {
         match i {
-            Input::Cast { slot, batch } => {
-                if self.node.may_cast(p, *slot) {
-                    Some((*slot, batch))
-                } else {
-                    None
-                }
-            }
+            Input::Cast { slot, batch } => asks_if(self.node.may_cast(p, *slot), *slot, batch),
             Input::Receive { from, msg } => self.asked(p, *from, msg),
             Input::Timeout => None,
         }
     }
 
-    fn step(
+    fn apply(
         &mut self,
         alloc: Global,
         p: &Params,
         i: Input<Message>,
-        verdict: bool,
         keys: &mut Keys,
-    ) -> Result<Effects<Message>, StepError>
+    ) -> Result<Effects<Message>, NoMemory>
         requires good { IsGoodParams hotstuff p.now }
         requires input { IsGoodInput p.now i }
-        ensures { IsStep hotstuff Refines p.now self.old self.new i verdict keys.old keys.new result }
+        requires enough { hotstuff.signs p.now ≤ left_of keys.old }
+        ensures { IfOk result (λ e. IsTrueStep hotstuff Refines p.now self.old self.new i keys.old keys.new e) }
     {
-        if keys.left() < 2 {
-            return Err(StepError::Spent);
-        }
-        if !verdict {
-            return Ok(Effects::nothing(alloc));
-        }
         match i {
-            Input::Cast { slot, batch } => Ok(self.cast(alloc, p, slot, batch, keys)?),
-            Input::Receive { from, msg } => Ok(self.receive(alloc, p, from, msg, keys)?),
-            Input::Timeout => Ok(self.time_out(alloc, p, keys)?),
+            Input::Cast { slot, batch } => self.cast(alloc, p, slot, batch, keys),
+            Input::Receive { from, msg } => self.receive(alloc, p, from, msg, keys),
+            Input::Timeout => self.time_out(alloc, p, keys),
         }
     }
 

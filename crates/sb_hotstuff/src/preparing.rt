@@ -6,28 +6,28 @@ ghost use Rattle.iss_base.specs.Lists.{same_bytes};
 ghost use Rattle.hs_tree.specs.Certificates.{digest_of};
 ghost use Rattle.hs_tree.specs.Tree.{is_known};
 ghost use Rattle.sb_hotstuff.specs.Rules.{State, is_allowed, is_just, is_safe, may_prepare, node_digest, round_of, slots_below};
-ghost use Rattle.sb_hotstuff.specs.Refines.{IsFor};
+ghost use Rattle.sb_hotstuff.specs.Refines.{RefinesState};
 
 use crate::state::{Node, is_allowed, is_just, round_of};
 use hs_tree::Certificate;
 use hs_tree::hashing::digest_of_node;
 use hs_tree::tree::same;
 use iss_request::NodeId;
-use iss_sb::Params;
-use raft_wire::What;
+use iss_sb::{Content, Params};
 
 impl Node {
     // Whether the proposal's node is the lock's: one that is proposed again.
-    fn is_locked(&self, p: &Params, what: &What, just: &Certificate) -> bool
-        ensures { (s : State) (view : ℕ) → IsFor self.now s → result ≡ same_bytes (node_digest p.now view what.now just.now) (digest_of s.lock) }
+    fn is_locked(&self, p: &Params, what: &Content, just: &Certificate) -> bool
+        ensures { (s : State) (view : ℕ) → RefinesState self.now s → result ≡ same_bytes (node_digest p.now view what.now just.now) (digest_of s.lock) }
     {
         let node = digest_of_node(p.setup.version, &just.digest(), what);
         same(&node, &self.lock.digest())
     }
 
     // Whether the node extends the lock's, or its justification is above the lock. Only a node on none of these is hashed.
-    fn is_safe(&self, p: &Params, what: &What, just: &Certificate) -> bool
-        ensures { (s : State) (view : ℕ) → IsFor self.now s → result ≡ is_safe p.now s view what.now just.now }
+    // rule: HotStuff: A proposal is safe if it extends the lock or its certificate is above the lock
+    fn is_safe(&self, p: &Params, what: &Content, just: &Certificate) -> bool
+        ensures { (s : State) (view : ℕ) → RefinesState self.now s → result ≡ is_safe p.now s view what.now just.now }
     {
         if self.lock.view() < just.view() {
             return true;
@@ -39,15 +39,15 @@ impl Node {
     }
 
     // Whether what is proposed may stand behind the branch of the certificate's node.
-    fn is_fit(&self, p: &Params, view: u32, what: &What, just: &Certificate) -> bool
-        ensures { (s : State) → IsFor self.now s → result ≡ is_allowed p.now (round_of view) (slots_below s just.now) what.now }
+    fn is_fit(&self, p: &Params, view: u32, what: &Content, just: &Certificate) -> bool
+        ensures { (s : State) → RefinesState self.now s → result ≡ is_allowed p.now (round_of view) (slots_below s just.now) what.now }
     {
         is_allowed(p, round_of(view), self.tree.slots(&just.digest()), what)
     }
 
     // Whether a proposal in the view may stand on the certificate's node.
     fn is_founded(&self, p: &Params, view: u32, just: &Certificate) -> bool
-        ensures { (s : State) → IsFor self.now s → result ≡ (is_just p.now view just.now && is_known s.tree (digest_of just.now)) }
+        ensures { (s : State) → RefinesState self.now s → result ≡ (is_just p.now view just.now && is_known s.tree (digest_of just.now)) }
     {
         is_just(p, view, just) && self.tree.has(&just.digest())
     }
@@ -58,11 +58,11 @@ impl Node {
         p: &Params,
         from: NodeId,
         view: u32,
-        what: &What,
+        what: &Content,
         just: &Certificate,
     ) -> bool
         requires { IsGoodParams hotstuff p.now }
-        ensures { (s : State) → IsFor self.now s → result ≡ may_prepare p.now s from.0 view what.now just.now }
+        ensures { (s : State) → RefinesState self.now s → result ≡ may_prepare p.now s from.0 view what.now just.now }
     {
         if !self.is_timely(p, from, view) || !self.is_founded(p, view, just) {
             return false;

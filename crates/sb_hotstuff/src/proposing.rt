@@ -5,7 +5,7 @@ ghost use Rattle.iss_base.specs.Lists.{nth};
 ghost use Rattle.iss_sb.specs.Calls.{IsGoodParams};
 ghost use Rattle.sb_hotstuff.specs.HotStuff.{hotstuff};
 ghost use Rattle.sb_hotstuff.specs.Rules.{State, Turn, cast_turn, first_turn, next_turn, nil_or_mark, turn, turn_after};
-ghost use Rattle.sb_hotstuff.specs.Refines.{IsFor, IsLow, is_last_ready};
+ghost use Rattle.sb_hotstuff.specs.Refines.{IsLow, RefinesState, is_last_ready};
 ghost use Rattle.sb_hotstuff.specs.Steps.{Proposes};
 ghost use Rattle.sb_hotstuff.specs.Tallies.{own_of};
 
@@ -17,18 +17,17 @@ use hs_tree::Certificate;
 use hs_tree::signing::hash_node;
 use hs_tree::tree::weight;
 use iss_request::{Batch, NoMemory};
-use iss_sb::Params;
-use raft_wire::What;
+use iss_sb::{Content, Params};
 use std::alloc::Global;
 
 // What is proposed behind so many slots where nothing is left to cast.
-fn nil_or_mark(p: &Params, slots: usize) -> What
+fn nil_or_mark(p: &Params, slots: usize) -> Content
     ensures { result ≡ nil_or_mark p.now slots }
 {
     if slots < p.slots.len() {
-        What::Nil
+        Content::Nil
     } else {
-        What::Mark
+        Content::Mark
     }
 }
 
@@ -40,11 +39,11 @@ impl Node {
         p: &Params,
         view: u32,
         just: Certificate,
-        what: What,
+        what: Content,
         slots: usize,
     ) -> Result<Outcome, NoMemory>
         ensures { IfOk result (λ o. (k : State) (t : Turn) → t ≡ turn p.now view just what slots → slots < 2 ^ 63 →
-            IsLow (own_of t) → IsFor self.old k → Proposes p.now self.old self.new k (Some t) o) }
+            IsLow (own_of t) → RefinesState self.old k → Proposes p.now self.old self.new k (Some t) o) }
     {
         let parent = just.digest();
         let node = hash_node(alloc, p, &parent, &what)?;
@@ -80,20 +79,20 @@ impl Node {
         slots: usize,
         place: usize,
     ) -> Result<Outcome, NoMemory>
-        ensures { IfOk result (λ o. (k : State) → slots < 2 ^ 63 → view % 65536 ≤ slots + 2 → slots + 1 ≤ view → IsFor self.old k →
+        ensures { IfOk result (λ o. (k : State) → slots < 2 ^ 63 → view % 65536 ≤ slots + 2 → slots + 1 ≤ view → RefinesState self.old k →
             Proposes p.now self.old self.new k (cast_turn p.now view just slots (nth k.casts place)) o) }
     {
         let Some(batch) = self.cast_at(place) else {
             return Ok(Outcome::nothing(alloc));
         };
-        let what = What::Holds(batch.copy()?);
+        let what = Content::Holds(batch.copy()?);
         self.propose(alloc, p, view, just, what, slots)
     }
 
     // Whether the last turn has shown the first quorum and the last one, and the node is in no later round.
     fn is_ready(&self, p: &Params, last: &Last) -> bool
         requires { IsGoodParams hotstuff p.now }
-        ensures { (s : State) → IsFor self.now s → result ≡ is_last_ready p.now s last.now }
+        ensures { (s : State) → RefinesState self.now s → result ≡ is_last_ready p.now s last.now }
     {
         self.is_reached(p, 1, last.view, &last.digest)
             && self.is_reached(p, PHASES, last.view, &last.digest)
@@ -101,9 +100,10 @@ impl Node {
     }
 
     /// The turn behind the last one, if it is ready.
+    // rule: HotStuff: The next turn extends the last one, once its first and last quorum were shown
     pub(crate) fn next(&mut self, alloc: Global, p: &Params) -> Result<Outcome, NoMemory>
         requires { IsGoodParams hotstuff p.now }
-        ensures { IfOk result (λ o. (k : State) → IsFor self.old k → Proposes p.now self.old self.new k (next_turn p.now k k.turns) o) }
+        ensures { IfOk result (λ o. (k : State) → RefinesState self.old k → Proposes p.now self.old self.new k (next_turn p.now k k.turns) o) }
     {
         let Some(last) = self.turns.last() else {
             if round_of(self.view) != 0 {
@@ -120,7 +120,7 @@ impl Node {
     // The turn behind one that is ready.
     fn turn_after(&mut self, alloc: Global, p: &Params, last: Last) -> Result<Outcome, NoMemory>
         requires { IsGoodParams hotstuff p.now }
-        ensures { IfOk result (λ o. (k : State) (t : Turn) → own_of t ≡ last → IsLow last → IsFor self.old k →
+        ensures { IfOk result (λ o. (k : State) (t : Turn) → own_of t ≡ last → IsLow last → RefinesState self.old k →
             Proposes p.now self.old self.new k (turn_after p.now k t) o) }
     {
         let n = p.setup.n as u8;
@@ -134,10 +134,11 @@ impl Node {
         if last.slots >= p.slots.len() {
             return Ok(Outcome::nothing(alloc));
         }
-        self.propose(alloc, p, view, just, What::Nil, last.slots)
+        self.propose(alloc, p, view, just, Content::Nil, last.slots)
     }
 
     /// The first turn of a round, once a quorum's words on it are kept.
+    // rule: HotStuff: A round begins on the highest certificate of a quorum of NewViews
     pub(crate) fn first(
         &mut self,
         alloc: Global,
@@ -146,7 +147,7 @@ impl Node {
     ) -> Result<Outcome, NoMemory>
         requires good { IsGoodParams hotstuff p.now }
         requires round { 1 ≤ round }
-        ensures { IfOk result (λ o. (k : State) → IsFor self.old k → Proposes p.now self.old self.new k (first_turn p.now k round) o) }
+        ensures { IfOk result (λ o. (k : State) → RefinesState self.old k → Proposes p.now self.old self.new k (first_turn p.now k round) o) }
     {
         let n = p.setup.n as u8;
         if self.news.count(n, round) != p.setup.quorum || round_of(self.view) > round {

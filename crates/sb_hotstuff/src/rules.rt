@@ -5,7 +5,7 @@ ghost use Rattle.iss_sb.specs.Calls.{IsGoodParams};
 ghost use Rattle.hs_tree.specs.declared.messages.Message.TheVariants.{NewView, Prepare, PreCommit, Commit, Vote};
 ghost use Rattle.sb_hotstuff.specs.HotStuff.{hotstuff};
 ghost use Rattle.sb_hotstuff.specs.Rules.{State, may_prepare};
-ghost use Rattle.sb_hotstuff.specs.Refines.{IsFor};
+ghost use Rattle.sb_hotstuff.specs.Refines.{RefinesState};
 ghost use Rattle.sb_hotstuff.specs.Steps.{Does};
 
 use crate::outcomes::Outcome;
@@ -14,8 +14,7 @@ use crate::state::{Node, round_of};
 use hs_tree::Certificate;
 use hs_tree::signing::hash_node;
 use iss_request::{Batch, Bytes, NoMemory, NodeId, Slot};
-use iss_sb::{Input, Params};
-use raft_wire::What;
+use iss_sb::{Content, Input, Params};
 use std::alloc::Global;
 
 /// The last round that there is.
@@ -31,7 +30,7 @@ impl Node {
         batch: Batch,
     ) -> Result<Outcome, NoMemory>
         requires { IsGoodParams hotstuff p.now }
-        ensures { IfOk result (λ o. (s : State) → IsFor self.old s → Does p.now self.old self.new s (Input.Cast slot batch) o) }
+        ensures { IfOk result (λ o. (s : State) → RefinesState self.old s → Does p.now self.old self.new s (Input.Cast slot batch) o) }
     {
         if !self.may_cast(p, slot) {
             return Ok(Outcome::nothing(alloc));
@@ -46,11 +45,11 @@ impl Node {
         alloc: Global,
         p: &Params,
         view: u32,
-        what: What,
+        what: Content,
         just: &Certificate,
     ) -> Result<Outcome, NoMemory>
         requires { IsGoodParams hotstuff p.now }
-        ensures { IfOk result (λ o. (s : State) (from : NodeId) (sig : List ℕ) → IsFor self.old s → may_prepare p.now s from.0 view what just.now ≡ true →
+        ensures { IfOk result (λ o. (s : State) (from : NodeId) (sig : List ℕ) → RefinesState self.old s → may_prepare p.now s from.0 view what just.now ≡ true →
             Does p.now self.old self.new s (Input.Receive from (Prepare view what just.now sig)) o) }
     {
         let parent = just.digest();
@@ -77,7 +76,7 @@ impl Node {
         shown: Certificate,
     ) -> Result<Outcome, NoMemory>
         requires { IsGoodParams hotstuff p.now }
-        ensures { IfOk result (λ o. (s : State) (from : NodeId) (sig : List ℕ) → IsFor self.old s →
+        ensures { IfOk result (λ o. (s : State) (from : NodeId) (sig : List ℕ) → RefinesState self.old s →
             Does p.now self.old self.new s (Input.Receive from (PreCommit view shown sig)) o) }
     {
         if !self.may_second(p, view, &shown) {
@@ -91,6 +90,7 @@ impl Node {
     }
 
     /// A certificate of the second phase: it becomes the lock, and the node is voted for in the third.
+    // rule: HotStuff: Only a certificate of the second phase becomes the lock, which never decreases
     pub fn take_commit(
         &mut self,
         alloc: Global,
@@ -99,7 +99,7 @@ impl Node {
         shown: Certificate,
     ) -> Result<Outcome, NoMemory>
         requires { IsGoodParams hotstuff p.now }
-        ensures { IfOk result (λ o. (s : State) (from : NodeId) (sig : List ℕ) → IsFor self.old s →
+        ensures { IfOk result (λ o. (s : State) (from : NodeId) (sig : List ℕ) → RefinesState self.old s →
             Does p.now self.old self.new s (Input.Receive from (Commit view shown sig)) o) }
     {
         if !self.may_third(p, view, &shown) {
@@ -124,7 +124,7 @@ impl Node {
         sig: Bytes,
     ) -> Result<Outcome, NoMemory>
         requires { IsGoodParams hotstuff p.now }
-        ensures { IfOk result (λ o. (s : State) → IsFor self.old s →
+        ensures { IfOk result (λ o. (s : State) → RefinesState self.old s →
             Does p.now self.old self.new s (Input.Receive from (Vote phase view digest sig)) o) }
     {
         if !self.keeps_vote(p, from, phase, view, &digest) {
@@ -155,7 +155,7 @@ impl Node {
         high: Certificate,
     ) -> Result<Outcome, NoMemory>
         requires { IsGoodParams hotstuff p.now }
-        ensures { IfOk result (λ o. (s : State) (sig : List ℕ) → IsFor self.old s →
+        ensures { IfOk result (λ o. (s : State) (sig : List ℕ) → RefinesState self.old s →
             Does p.now self.old self.new s (Input.Receive from (NewView round high sig)) o) }
     {
         if round == 0 {
@@ -169,9 +169,10 @@ impl Node {
     }
 
     /// The round ends, if there is another: its leader is told the highest certificate.
+    // rule: HotStuff: A timeout enters the next round and tells its leader the highest certificate
     pub fn time_out(&mut self, alloc: Global, p: &Params) -> Result<Outcome, NoMemory>
         requires { IsGoodParams hotstuff p.now }
-        ensures { IfOk result (λ o. (s : State) → IsFor self.old s → Does p.now self.old self.new s Input.Timeout o) }
+        ensures { IfOk result (λ o. (s : State) → RefinesState self.old s → Does p.now self.old self.new s Input.Timeout o) }
     {
         let round = round_of(self.view);
         if round >= LAST_ROUND {

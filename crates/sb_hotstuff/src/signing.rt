@@ -7,7 +7,8 @@ ghost use Rattle.iss_sb.specs.declared.effects.To.{To};
 ghost use Rattle.iss_sb.specs.declared.effects.To.TheVariants.{All as To_all};
 ghost use Rattle.hs_tree.specs.declared.messages.Message.{Message};
 ghost use Rattle.hs_tree.specs.declared.messages.Message.TheVariants.{NewView, Prepare};
-ghost use Rattle.hs_tree.specs.Statements.{certificate_claims, claim, claims, inside, own_statement, signature_of, with_signature};
+ghost use Rattle.iss_sb.specs.Statements.{claim};
+ghost use Rattle.hs_tree.specs.Statements.{certificate_claims, claims, inside, own_statement, signature_of, with_signature};
 ghost use Rattle.hs_tree.specs.Tree.{basic};
 ghost use Rattle.sb_hotstuff.specs.Drafts.{AreDrafts, count_of, to_nodes};
 ghost use Rattle.sb_hotstuff.specs.HotStuff.{hotstuff, shows, sign_all, to_leader, voted};
@@ -21,8 +22,7 @@ use hs_tree::wire::{COMMIT, DECIDE, PRE_COMMIT, PREPARE};
 use hs_tree::{Certificate, Message};
 use iss_keys::Keys;
 use iss_request::{Bytes, NoMemory, NodeId, Seq};
-use iss_sb::{Claim, Params, To, sign};
-use raft_wire::What;
+use iss_sb::{Claim, Content, Params, To, sign};
 use std::alloc::Global;
 
 /// The number of the module.
@@ -140,7 +140,7 @@ pub fn proposal_draft(
     alloc: Global,
     p: &Params,
     view: u32,
-    what: What,
+    what: Content,
     just: Certificate,
     digest: &[u8; 32],
 ) -> Result<Draft, NoMemory>
@@ -330,6 +330,7 @@ fn own_claim(alloc: Global, p: &Params, from: NodeId, m: &Message) -> Result<Cla
 }
 
 /// What a message claims that nodes signed: the votes of the certificate in it, then its sender's own signature.
+// rule: HotStuff: A message claims the votes of its certificate, then its sender's signature
 pub fn claims(alloc: Global, p: &Params, from: NodeId, m: &Message) -> Result<Seq<Claim>, NoMemory>
     ensures { IfOk result (λ all. all ≡ claims basic p.now from.0 m.now) }
 {

@@ -3,10 +3,10 @@ ghost use Rattle.std.specs.Prelude.{◌≡◌, ◌/◌, ◌&&◌, IsTrue};
 ghost use Rattle.iss_base.specs.Lists.{In, nth};
 ghost use Rattle.hs_tree.specs.Certificates.{digest_of};
 ghost use Rattle.hs_tree.specs.Tree.{is_known};
-ghost use Rattle.iss_sb.specs.Calls.{IsGoodParams};
+ghost use Rattle.iss_sb.specs.Calls.{is_slot, IsGoodParams};
 ghost use Rattle.sb_hotstuff.specs.HotStuff.{hotstuff};
-ghost use Rattle.sb_hotstuff.specs.Rules.{State, is_allowed, is_good, is_just, is_reached, is_shown, is_slot, is_timely, keeps_news, keeps_vote, may_cast, may_second, may_third, start};
-ghost use Rattle.sb_hotstuff.specs.Refines.{IsFor};
+ghost use Rattle.sb_hotstuff.specs.Rules.{State, is_allowed, is_good, is_just, is_reached, is_shown, is_timely, keeps_news, keeps_vote, may_cast, may_second, may_third, start};
+ghost use Rattle.sb_hotstuff.specs.Refines.{RefinesState};
 
 use crate::ballots::Ballots;
 use crate::news::Words;
@@ -15,8 +15,7 @@ use crate::turns::Turns;
 use hs_tree::certificates::is_phase;
 use hs_tree::{Certificate, Tree};
 use iss_request::{Batch, NodeId, Seq, Slot};
-use iss_sb::Params;
-use raft_wire::What;
+use iss_sb::{Content, Params, is_next};
 use std::alloc::Global;
 
 /// How many phases a node passes.
@@ -49,6 +48,7 @@ pub fn round_of(view: u32) -> u16
 }
 
 /// Whether a certificate is one of a quorum's votes for this phase in this view, which is that of a turn.
+// rule: HotStuff: A certificate has the votes of exactly a quorum
 pub fn is_good(p: &Params, phase: u8, view: u32, c: &Certificate) -> bool
     ensures { result ≡ is_good p.now phase view c.now }
 {
@@ -66,23 +66,14 @@ pub fn is_just(p: &Params, view: u32, c: &Certificate) -> bool
 }
 
 /// What may stand behind so many slots.
-pub fn is_allowed(p: &Params, round: u16, slots: usize, what: &What) -> bool
+// rule: HotStuff: Batches are proposed in round 0 only; later rounds propose nil, then marks
+pub fn is_allowed(p: &Params, round: u16, slots: usize, what: &Content) -> bool
     ensures { result ≡ is_allowed p.now round slots what.now }
 {
     match what {
-        What::Nil => round >= 1 && slots < p.slots.len(),
-        What::Holds(_) => round == 0 && slots < p.slots.len(),
-        What::Mark => round >= 1 && slots >= p.slots.len(),
-    }
-}
-
-// Whether the slot is that of this place in the segment.
-fn is_next(p: &Params, place: usize, slot: Slot) -> bool
-    ensures { result ≡ is_slot slot.0 (nth p.now.slots place) }
-{
-    match p.slots.as_slice().get(place) {
-        Some(next) => *next == slot,
-        None => false,
+        Content::Nil => round >= 1 && slots < p.slots.len(),
+        Content::Holds(_) => round == 0 && slots < p.slots.len(),
+        Content::Mark => round >= 1 && slots >= p.slots.len(),
     }
 }
 
@@ -90,7 +81,7 @@ impl Node {
     /// One that has taken nothing.
     pub fn start(alloc: Global, me: NodeId) -> Node
         ensures me { result.me ≡ me }
-        ensures state { IsFor result start }
+        ensures state { RefinesState result start }
     {
         Node {
             me,
@@ -109,7 +100,7 @@ impl Node {
 
     /// Whether a batch may be cast at the slot: by the leader in the first round, at the next one.
     pub fn may_cast(&self, p: &Params, slot: Slot) -> bool
-        ensures may { (s : State) → IsFor self.now s → result ≡ may_cast p.now self.now.me.0 s slot.0 }
+        ensures may { (s : State) → RefinesState self.now s → result ≡ may_cast p.now self.now.me.0 s slot.0 }
         ensures inside { IsTrue result → In slot p.now.slots }
     {
         if self.me != p.leader || round_of(self.view) != 0 {
@@ -119,37 +110,39 @@ impl Node {
     }
 
     /// Whether a proposal is its view's leader's, in a view above the own.
+    // rule: HotStuff: A proposal is taken only in a view above the replica's own
     pub fn is_timely(&self, p: &Params, from: NodeId, view: u32) -> bool
         requires { IsGoodParams hotstuff p.now }
-        ensures { (s : State) → IsFor self.now s → result ≡ is_timely p.now s from.0 view }
+        ensures { (s : State) → RefinesState self.now s → result ≡ is_timely p.now s from.0 view }
     {
         from == leader_of(p, round_of(view)) && self.view < view && view % 65536 >= 1
     }
 
     // Whether a certificate of the own view is good for the phase, and on a known node.
     fn is_shown(&self, p: &Params, phase: u8, view: u32, shown: &Certificate) -> bool
-        ensures { (s : State) → IsFor self.now s → result ≡ is_shown p.now s phase view shown.now }
+        ensures { (s : State) → RefinesState self.now s → result ≡ is_shown p.now s phase view shown.now }
     {
         is_good(p, phase, view, shown) && view == self.view && self.tree.has(&shown.digest())
     }
 
     /// Whether the node is to vote in the second phase of the view.
+    // rule: HotStuff: A replica votes once for a phase of a view, in views that never decrease
     pub fn may_second(&self, p: &Params, view: u32, shown: &Certificate) -> bool
-        ensures { (s : State) → IsFor self.now s → result ≡ may_second p.now s view shown.now }
+        ensures { (s : State) → RefinesState self.now s → result ≡ may_second p.now s view shown.now }
     {
         self.is_shown(p, 1, view, shown) && !self.second
     }
 
     /// Whether the node is to vote in the third phase of the view.
     pub fn may_third(&self, p: &Params, view: u32, shown: &Certificate) -> bool
-        ensures { (s : State) → IsFor self.now s → result ≡ may_third p.now s view shown.now }
+        ensures { (s : State) → RefinesState self.now s → result ≡ may_third p.now s view shown.now }
     {
         self.is_shown(p, 2, view, shown) && !self.third
     }
 
     /// Whether the certificate decides the branch of its node.
     pub fn may_deliver(&self, p: &Params, view: u32, shown: &Certificate) -> bool
-        ensures { (s : State) → IsFor self.now s → result ≡ (is_good p.now 3 view shown.now && is_known s.tree (digest_of shown.now)) }
+        ensures { (s : State) → RefinesState self.now s → result ≡ (is_good p.now 3 view shown.now && is_known s.tree (digest_of shown.now)) }
     {
         is_good(p, PHASES, view, shown) && self.tree.has(&shown.digest())
     }
@@ -164,7 +157,7 @@ impl Node {
         digest: &[u8; 32],
     ) -> bool
         requires { IsGoodParams hotstuff p.now }
-        ensures { (s : State) → IsFor self.now s → result ≡ keeps_vote p.now s from.0 phase view digest.now }
+        ensures { (s : State) → RefinesState self.now s → result ≡ keeps_vote p.now s from.0 phase view digest.now }
     {
         is_phase(PHASES, phase)
             && self.turns.has(view, digest)
@@ -175,7 +168,7 @@ impl Node {
     /// Whether just a quorum's votes are kept.
     pub fn is_reached(&self, p: &Params, phase: u8, view: u32, digest: &[u8; 32]) -> bool
         requires { IsGoodParams hotstuff p.now }
-        ensures { (s : State) → IsFor self.now s → result ≡ is_reached p.now s phase view digest.now }
+        ensures { (s : State) → RefinesState self.now s → result ≡ is_reached p.now s phase view digest.now }
     {
         self.votes.count(p.setup.n as u8, phase, view, digest) == p.setup.quorum
     }
@@ -184,7 +177,7 @@ impl Node {
     /// a quorum.
     pub fn keeps_news(&self, p: &Params, from: NodeId, round: u16, high: &Certificate) -> bool
         requires { IsGoodParams hotstuff p.now }
-        ensures { (s : State) → IsFor self.now s → result ≡ keeps_news p.now self.now.me.0 s from.0 round high.now }
+        ensures { (s : State) → RefinesState self.now s → result ≡ keeps_news p.now self.now.me.0 s from.0 round high.now }
     {
         round >= 1
             && self.me == leader_of(p, round)

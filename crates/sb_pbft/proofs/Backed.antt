@@ -17,7 +17,8 @@ use Rattle.pbft_wire.specs.declared.messages.Change.{Change}
 use Rattle.pbft_wire.specs.declared.messages.Message.{Message}
 use Rattle.pbft_wire.specs.declared.messages.Message.TheVariants.{NewView, ViewChange}
 use Rattle.pbft_views.specs.Choice.{certificates_of, choice}
-use Rattle.pbft_views.specs.Claims.{certificates_claims, change_claims, changes_claims, chosen_claims, claim}
+use Rattle.iss_sb.specs.Statements.{claim}
+use Rattle.pbft_views.specs.Claims.{certificates_claims, change_claims, changes_claims, chosen_claims}
 use Rattle.pbft_views.specs.Good.{all_good, are_changes, are_enough, primary}
 use Rattle.pbft_views.specs.Laws.{nodes_of}
 use Rattle.pbft_views.proofs.Choices.{certificate-from}

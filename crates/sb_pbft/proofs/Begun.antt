@@ -20,7 +20,7 @@ use Rattle.pbft_wire.specs.declared.messages.Message.TheVariants.{ViewChange, Ne
 use Rattle.pbft_wire.specs.Statements.{string_of}
 use Rattle.pbft_views.specs.Choice.{certificates_of}
 use Rattle.pbft_views.specs.Good.{all_good, primary}
-use Rattle.sb_pbft.specs.declared.changes.ViewChanges.{ViewChanges}
+use Rattle.sb_pbft.specs.declared.view_changes.ViewChanges.{ViewChanges}
 use Rattle.sb_pbft.specs.declared.pbft.Pbft.{Pbft}
 use Rattle.sb_pbft.specs.declared.proposals.Proposals.{Proposals}
 use Rattle.sb_pbft.specs.Makes.{Draft, DraftNewView, DraftViewChange, choice_strings, uses_all, value_strings}

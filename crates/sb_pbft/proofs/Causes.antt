@@ -64,7 +64,7 @@ module _ (p : Params) (good : IsGoodParams pbft p) (w : World Message) (reached 
     commit-refines v s d a = let x = draft-of (state_at p 3 v s d) a in commit-proposed p i (w i) v (record { 0 = s }) d (among p good w reached i _ x _ (commit-draft v s d x))
 
     same-proposed : (v s : ℕ) (d e : List ℕ) → Proposed p i (inputs (w i)) v s d → Proposed p i (inputs (w i)) v s e → d ≡ e
-    same-proposed v s d e x y = sym x.digest ∙ ap (digest_of p) (same-some (proposal p i (inputs (w i)) v s) x.value y.value x.refines y.refines) ∙ y.digest
+    same-proposed v s d e x y = sym x.digest ∙ ap (digest_of p) (same-some (proposal p i (inputs (w i)) v s) x.value y.value x.stands y.stands) ∙ y.digest
 
     pub one-commit-signed : (v s : ℕ) (d e : List ℕ) → IsSigned pbft p w i (state_at p 3 v s d) → IsSigned pbft p w i (state_at p 3 v s e) → d ≡ e
     one-commit-signed v s d e a b = same-proposed v s d e (commit-refines v s d a) (commit-refines v s e b)
@@ -203,10 +203,10 @@ module _ (p : Params) (good : IsGoodParams pbft p) (w : World Message) (reached 
         let y = draft-of i correct (state_change p u cs) b in
         let m = makes-change p i y.leaf y.draft u cs y.states in
         let c = covers p i (w i) v (record { 0 = s }) d u m.certificates (among p good w reached i _ x _ (commit-draft i correct v s d x)) (among p good w reached i _ y _ m.is) l in
-        let k = m.each c.certificate c.refines in
+        let k = m.each c.certificate c.stands in
         let h = c.high in
         let e = k.view in
-        record { certificate = k.other; refines = k.refines; slot = k.slot ∙ c.slot; high = omega (arith, h, e) }
+        record { certificate = k.other; stands = k.stands; slot = k.slot ∙ c.slot; high = omega (arith, h, e) }
 
   pub node-facts : NodeFacts p w
   node-facts = record {

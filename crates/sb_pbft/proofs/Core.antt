@@ -162,7 +162,7 @@ module _ (p : Params) (w : World Message) where
           let t = b.each x.0 x.1 (subst (λ (z : ℕ). is_correct p.setup z ≡ true) (sym x.2) m.correct) in
           let t' = subst (λ (z : ℕ). Signed z (state_change p v x.0.certificates)) x.2 t in
           let g = facts.covers m.node u s d v x.0.certificates m.correct (k.each m.node m.second m.correct) t' l in
-          let r = best-max s (certificates_of xs) g.certificate (in-certificates g.certificate x.0 xs x.1 g.refines) g.slot in
+          let r = best-max s (certificates_of xs) g.certificate (in-certificates g.certificate x.0 xs x.1 g.stands) g.slot in
           let hi = g.high in
           let e = r.2 in
           (r.0, r.1, omega (arith, hi, e))

@@ -108,7 +108,7 @@ module _ (p : Params) (good : IsGoodParams pbft p) (w : World Message) (reached 
     pub made : item.made ≡ makes p i before item.input item.leaf
     pub draft : Draft
     pub leaf : ℕ
-    pub refines : In draft (drafts p i before item.input)
+    pub stands : In draft (drafts p i before item.input)
     pub states : States p i (sign p i leaf draft) t
 
   pub signed-drafted : (i : ℕ) (t : List ℕ) → is_correct p.setup i ≡ true → IsSigned pbft p w i t → IsDraftedBy i t
@@ -125,13 +125,13 @@ module _ (p : Params) (good : IsGoodParams pbft p) (w : World Message) (reached 
         made = m.made;
         draft = d.draft;
         leaf = d.leaf;
-        refines = d.refines;
+        stands = d.stands;
         states = subst (λ (z : Message). States p i z t) d.is s.states;
       }
 
   -- among all that the node drafted
   pub among : (i : ℕ) (t : List ℕ) (d : IsDraftedBy i t) (e : Draft) → SameDraft d.draft e → In e (drafted p i (w i))
-  among i t d e same = drafted-in p i (w i) d.before d.item e d.front (subst (λ (z : Draft). In z (drafts p i d.before d.item.input)) same d.refines)
+  among i t d e same = drafted-in p i (w i) d.before d.item e d.front (subst (λ (z : Draft). In z (drafts p i d.before d.item.input)) same d.stands)
 
   pub by-rule : (i : ℕ) (t : List ℕ) (d : IsDraftedBy i t) (e : Draft) → SameDraft d.draft e → Rule p i d.before d.item.input e
-  by-rule i t d e same = rule-of p i d.before d.item.input e (subst (λ (z : Draft). In z (drafts p i d.before d.item.input)) same d.refines)
+  by-rule i t d e same = rule-of p i d.before d.item.input e (subst (λ (z : Draft). In z (drafts p i d.before d.item.input)) same d.stands)

@@ -18,15 +18,15 @@ use Rattle.iss_sb.specs.declared.effects.Params.{Params}
 use Rattle.iss_sb.specs.declared.effects.To.{To}
 use Rattle.iss_sb.specs.declared.effects.To.TheVariants.{All as To_all}
 use Rattle.iss_sb.specs.Evidence.{Item, Made, and_then, delivered}
-use Rattle.iss_sb.specs.Statements.{signature, wide_bytes}
+use Rattle.iss_sb.specs.Statements.{claim, signature, wide_bytes}
 use Rattle.pbft_wire.specs.declared.messages.Certificate.{Certificate}
 use Rattle.pbft_wire.specs.declared.messages.Change.{Change}
-use Rattle.pbft_wire.specs.declared.messages.Vote.{Vote}
+use Rattle.iss_sb.specs.declared.signers.Signed.{Signed}
 use Rattle.pbft_wire.specs.declared.messages.Message.{Message}
 use Rattle.pbft_wire.specs.declared.messages.Message.TheVariants.{PrePrepare, Prepare, Commit, ViewChange, NewView}
 use Rattle.pbft_wire.specs.Statements.{digest_of, state_at, state_change, state_new, string_of}
 use Rattle.pbft_views.specs.Choice.{choice}
-use Rattle.pbft_views.specs.Claims.{claim, claims}
+use Rattle.pbft_views.specs.Claims.{claims}
 use Rattle.pbft_views.specs.Good.{is_good}
 use Rattle.sb_pbft.specs.Makes.{kept, makes}
 use Rattle.sb_pbft.specs.Pbft.{asks, pbft}
@@ -137,7 +137,7 @@ certificate = record {
   view = 0;
   value = Value_batch b;
   sig = sig 0 5 1 0 0 d;
-  prepares = record { node = node 1; sig = sig 1 9 2 0 0 d } ∷ record { node = node 3; sig = sig 3 7 2 0 0 d } ∷ [];
+  prepares = record { by = node 1; sig = sig 1 9 2 0 0 d } ∷ record { by = node 3; sig = sig 3 7 2 0 0 d } ∷ [];
 }
 
 keeps : kept p 1 prepared ≡ certificate ∷ []
@@ -212,7 +212,7 @@ abbrev pub entered : List (Item Message)
 entered = next 2 5 (from 1 renewal) early
 
 -- its certificate of view 1 has the signature that stood in the NewView
-keeps_again : kept p 2 entered ≡ record { slot = slot 0; view = 1; value = Value_batch b; sig = sig 1 12 1 1 0 d; prepares = record { node = node 0; sig = sig 0 6 2 1 0 d } ∷ record { node = node 3; sig = sig 3 5 2 1 0 d } ∷ [] } ∷ []
+keeps_again : kept p 2 entered ≡ record { slot = slot 0; view = 1; value = Value_batch b; sig = sig 1 12 1 1 0 d; prepares = record { by = node 0; sig = sig 0 6 2 1 0 d } ∷ record { by = node 3; sig = sig 3 5 2 1 0 d } ∷ [] } ∷ []
 unfolding sha256 digest_bytes hash_after compress rounds schedule first_words spell_batch spell_count spell_value
 keeps_again = refl
 
@@ -233,10 +233,10 @@ empty_view = refl
 
 -- ---- with two of different views the choice is that of the higher view, of the least node in a tie. View 2 is node 2's
 
-abbrev pub votes : ℕ → ℕ → List Vote
-votes j k = record { node = node j; sig = [] } ∷ record { node = node k; sig = [] } ∷ []
+abbrev pub votes : ℕ → ℕ → List Signed
+votes j k = record { by = node j; sig = [] } ∷ record { by = node k; sig = [] } ∷ []
 
-abbrev pub of_view : ℕ → Value → List Vote → Certificate
+abbrev pub of_view : ℕ → Value → List Signed → Certificate
 of_view v x voters = record { slot = slot 0; view = v; value = x; sig = []; prepares = voters }
 
 abbrev pub both_views : List (Item Message)

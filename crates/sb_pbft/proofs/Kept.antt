@@ -40,7 +40,7 @@ certified-in p me xs old (t ∷ ts) s x (inr h) e = certify-more p me xs t (read
 
 pub record IsKept (p : Params) (me : ℕ) (xs : List (Item Message)) (v : ℕ) (s : Slot) (d : List ℕ) : Type 0 where
   pub certificate : Certificate
-  pub refines : In certificate (kept p me xs)
+  pub stands : In certificate (kept p me xs)
   pub view : certificate.view ≡ v
   pub slot : certificate.slot ≡ s
   pub within : In s p.slots
@@ -98,7 +98,7 @@ commit-kept p me (x ∷ xs) v s d h = elim (in_append (DraftCommit v s d) (draft
       let c : Certificate = certificate p me (x ∷ xs) (mode p (inputs (x ∷ xs))).view s r.value in
       record {
         certificate = c;
-        refines = in_left c (certified p me (x ∷ xs) (kept p me xs) p.slots) (kept p me xs) (certified-in p me (x ∷ xs) (kept p me xs) p.slots s r.value r.within r.ready);
+        stands = in_left c (certified p me (x ∷ xs) (kept p me xs) p.slots) (kept p me xs) (certified-in p me (x ∷ xs) (kept p me xs) p.slots s r.value r.within r.ready);
         view = sym r.view;
         slot = refl;
         within = r.within;
@@ -106,14 +106,14 @@ commit-kept p me (x ∷ xs) v s d h = elim (in_append (DraftCommit v s d) (draft
       }
   | inr k ↦
       let r = commit-kept p me xs v s d k in
-      record { certificate = r.certificate; refines = in_right r.certificate (certified p me (x ∷ xs) (kept p me xs) p.slots) (kept p me xs) r.refines; view = r.view; slot = r.slot; within = r.within; digest = r.digest }
+      record { certificate = r.certificate; stands = in_right r.certificate (certified p me (x ∷ xs) (kept p me xs) p.slots) (kept p me xs) r.stands; view = r.view; slot = r.slot; within = r.within; digest = r.digest }
 ]
 
 -- ---- the certificates of the highest views
 
 pub record Covered (s : Slot) (v : ℕ) (cs : List Certificate) : Type 0 where
   pub certificate : Certificate
-  pub refines : In certificate cs
+  pub stands : In certificate cs
   pub slot : certificate.slot.0 ≡ s.0
   pub high : v ≤ certificate.view
 
@@ -131,10 +131,10 @@ tops-cover cs (t ∷ ts) s c i e (inl q) =
     let at : c.slot.0 ≡ t.0 = ap (λ (z : Slot). z.0) (e ∙ q) in
     let b = best-max t.0 cs c i at in
     let n = best-in t.0 cs b.0 b.1 in
-    record { certificate = b.0; refines = cons-here (best t.0 cs) b.0 (tops cs ts) b.1; slot = n.1 ∙ sym (ap (λ (z : Slot). z.0) q); high = b.2 }
+    record { certificate = b.0; stands = cons-here (best t.0 cs) b.0 (tops cs ts) b.1; slot = n.1 ∙ sym (ap (λ (z : Slot). z.0) q); high = b.2 }
 tops-cover cs (t ∷ ts) s c i e (inr h) =
     let r = tops-cover cs ts s c i e h in
-    record { certificate = r.certificate; refines = cons-more (best t.0 cs) r.certificate (tops cs ts) r.refines; slot = r.slot; high = r.high }
+    record { certificate = r.certificate; stands = cons-more (best t.0 cs) r.certificate (tops cs ts) r.stands; slot = r.slot; high = r.high }
 
 -- ---- a ViewChange
 
@@ -190,7 +190,7 @@ covers p me (x ∷ xs) v s d w cs h k l = elim (in_append (DraftViewChange w cs)
             absurd (omega (arith, c, n, l))
         | inr a ↦
             let c = commit-kept p me xs v s d a in
-            let t = tops-cover (kept p me xs) p.slots s c.certificate c.refines c.slot c.within in
+            let t = tops-cover (kept p me xs) p.slots s c.certificate c.stands c.slot c.within in
             let up = subst (λ (z : ℕ). Covered s z (tops (kept p me xs) p.slots)) c.view t in
             subst (λ (z : List Certificate). Covered s v z) (sym r.holds) up
       ]

@@ -13,7 +13,7 @@ use Rattle.iss_sb.specs.Calls.{IsGoodParams, has_slot}
 use Rattle.iss_sb.specs.Evidence.{Item, Made}
 use Rattle.iss_sb.specs.Laws.{ComesWith, GoesWith, IsSignedBy, SignsOnce, WasSeen}
 use Rattle.iss_sb.specs.Legal.{AreMade, Front}
-use Rattle.iss_sb.specs.Statements.{signature}
+use Rattle.iss_sb.specs.Statements.{claim, signature}
 use Rattle.iss_sb.specs.declared.effects.Claim.{Claim}
 use Rattle.iss_sb.specs.declared.effects.Input.TheVariants.{Cast, Receive}
 use Rattle.iss_sb.specs.declared.effects.Params.{Params}
@@ -26,9 +26,9 @@ use Rattle.pbft_wire.specs.declared.messages.Certificate.{Certificate}
 use Rattle.pbft_wire.specs.declared.messages.Change.{Change}
 use Rattle.pbft_wire.specs.declared.messages.Message.{Message}
 use Rattle.pbft_wire.specs.declared.messages.Message.TheVariants.{NewView, PrePrepare, Prepare, ViewChange}
-use Rattle.pbft_wire.specs.declared.messages.Vote.{Vote}
+use Rattle.iss_sb.specs.declared.signers.Signed.{Signed}
 use Rattle.pbft_views.specs.Choice.{choice}
-use Rattle.pbft_views.specs.Claims.{certificate_claims, certificates_claims, change_claims, changes_claims, chosen_claims, claim, claims}
+use Rattle.pbft_views.specs.Claims.{certificate_claims, certificates_claims, change_claims, changes_claims, chosen_claims, claims}
 use Rattle.pbft_views.specs.Good.{primary}
 use Rattle.pbft_views.proofs.Claimed.{claim-certificate, claim-change, vote-claim}
 use Rattle.sb_pbft.specs.Makes.{Draft, DraftCommit, DraftNewView, DraftPrePrepare, DraftPrepare, DraftViewChange, certificate, choice_sigs, chosen_sig, drafts, first_sig, inputs, kept, makes, offered_sig, or_empty, proposal_sig, sig_for, sign, sign_all, tops, uses, uses_all}
@@ -173,8 +173,8 @@ module _ (p : Params) (me : ℕ) where
             let c = chosen-is p m y.input v s x a in
             let e = entered p m c.from.0 v c.changes c.sigs c.enters in
             let first = first-some (chosen_sig p m y.input v s) _ sig (some-too _ _ x (chosen-signed p me m y.input v s) a) g in
-            let refines = chosen-refines c.from.0 v c.changes p.slots c.sigs s sig (sym (chosen-sig-is m y.input c.from v s c.changes c.sigs c.sig c.input c.within c.enters) ∙ first) in
-            let there = in_right _ (changes_claims p c.changes) _ (in_left _ (chosen_claims p c.from.0 v c.changes p.slots c.sigs) _ refines) in
+            let stands = chosen-refines c.from.0 v c.changes p.slots c.sigs s sig (sym (chosen-sig-is m y.input c.from v s c.changes c.sigs c.sig c.input c.within c.enters) ∙ first) in
+            let there = in_right _ (changes_claims p c.changes) _ (in_left _ (chosen_claims p c.from.0 v c.changes p.slots c.sigs) _ stands) in
             let seen = came-with y (y ∷ ys) c.from (NewView v c.changes c.sigs c.sig) (claim c.from.0 (state_at p 1 v s (digest_of p (choice c.changes s))) sig) (inl refl) c.input there in
             subst (λ (z : Value). Seen (y ∷ ys) (claim (primary p v) (state_at p 1 v s (digest_of p z)) sig)) c.value
             (subst (λ (k : ℕ). Seen (y ∷ ys) (claim k (state_at p 1 v s (digest_of p (choice c.changes s))) sig)) e.by seen)
@@ -195,17 +195,17 @@ module _ (p : Params) (me : ℕ) where
     the-sig None h = absurd (false≢true h)
     the-sig (Some sig) h = refl
 
-    prepare-seen : (xs : List (Item Message)) (v s : ℕ) (d : List ℕ) (x : Vote) → In x (prepares p (inputs xs) v s d) → Seen xs (claim x.node.0 (state_at p 2 v s d) x.sig)
+    prepare-seen : (xs : List (Item Message)) (v s : ℕ) (d : List ℕ) (x : Signed) → In x (prepares p (inputs xs) v s d) → Seen xs (claim x.by.0 (state_at p 2 v s d) x.sig)
     prepare-seen xs v s d x i =
         let k = in-voters (prepare_of p (inputs xs) v s) d 0 p.setup.n x i in
-        let r = prepare-of-is p (inputs xs) v s x.node.0 k.ballot k.kept in
+        let r = prepare-of-is p (inputs xs) v s x.by.0 k.ballot k.kept in
         let b = r.2 in
         let msg : Message = Prepare v b.slot k.ballot.digest k.ballot.sig in
         let seen : Seen xs (claim b.from.0 (state_at p 2 v b.slot.0 k.ballot.digest) k.ballot.sig) =
         came-among xs b.from msg _ (subst (λ (z : Said). In z (inputs xs)) b.input r.1) (inl refl) in
-        subst (λ (z : List ℕ). Seen xs (claim x.node.0 (state_at p 2 v s d) z)) k.sig
-        (subst (λ (z : List ℕ). Seen xs (claim x.node.0 (state_at p 2 v s z) k.ballot.sig)) k.digest
-        (subst (λ (z : ℕ). Seen xs (claim x.node.0 (state_at p 2 v z k.ballot.digest) k.ballot.sig)) b.at_slot
+        subst (λ (z : List ℕ). Seen xs (claim x.by.0 (state_at p 2 v s d) z)) k.sig
+        (subst (λ (z : List ℕ). Seen xs (claim x.by.0 (state_at p 2 v s z) k.ballot.sig)) k.digest
+        (subst (λ (z : ℕ). Seen xs (claim x.by.0 (state_at p 2 v z k.ballot.digest) k.ballot.sig)) b.at_slot
         (subst (λ (z : ℕ). Seen xs (claim z (state_at p 2 v b.slot.0 k.ballot.digest) k.ballot.sig)) b.by seen)))
 
     certificate-seen : (xs : List (Item Message)) (c : Certificate) (t : Claim) → AreMade pbft p me xs → In c (kept p me xs) → In t (certificate_claims p c) → Seen xs t
@@ -224,7 +224,7 @@ module _ (p : Params) (me : ℕ) where
               (the-sig (proposal_sig p me r.now v s.0) (some-too _ _ x (proposal-signed p me r.now v s.0) proposed)))
           | inr q ↦
               let u = vote-claim p v s.0 d (take (2 * p.setup.f) (prepares p (inputs r.now) v s.0 d)) t q in
-              subst (λ (z : Claim). Seen r.now z) (sym u.is) (prepare-seen r.now v s.0 d u.vote (in-take (2 * p.setup.f) u.vote (prepares p (inputs r.now) v s.0 d) u.refines))
+              subst (λ (z : Claim). Seen r.now z) (sym u.is) (prepare-seen r.now v s.0 d u.vote (in-take (2 * p.setup.f) u.vote (prepares p (inputs r.now) v s.0 d) u.stands))
         ])
 
   -- ---- what is signed by the leaves of a step
@@ -302,8 +302,8 @@ module _ (p : Params) (good : IsGoodParams pbft p) (me : ℕ) (xs : List (Item M
             let x = r.0 in
             let g = in-changes (change_of p (i ∷ inputs xs) v) 0 p.setup.n x (subst (λ (z : List Change). In x z) same r.1) in
             let k = change-of-is p (i ∷ inputs xs) v g.node x g.kept in
-            let refines : In c (claims p x.node.0 (ViewChange v x.certificates x.sig)) = subst (λ (z : ℕ). In c (change_claims p x.node.0 z x.certificates x.sig)) k.2.view r.2 in
-            inr (came-here k.0 x.node (ViewChange v x.certificates x.sig) c k.1 k.2.input refines)
+            let stands : In c (claims p x.node.0 (ViewChange v x.certificates x.sig)) = subst (λ (z : ℕ). In c (change_claims p x.node.0 z x.certificates x.sig)) k.2.view r.2 in
+            inr (came-here k.0 x.node (ViewChange v x.certificates x.sig) c k.1 k.2.input stands)
         | inr a ↦ elim (in_append c (chosen_claims p me v ys p.slots sigs) (claim me (state_new p v) last ∷ []) a) [
           | inl b ↦ inl (by-more p me leaf (choices p me v ys p.slots) (state_new p v ∷ []) c (choices-by p me leaf v ys p.slots c b))
           | inr b ↦

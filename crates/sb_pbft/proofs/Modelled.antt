@@ -25,7 +25,7 @@ count-vote : (d : List ℕ) (k : ℕ) (o : Option Ballot) (m : ℕ) (g : ℕ →
 count-vote d k None m g = refl
 count-vote d k (Some b) m g = go (same_bytes d b.digest)
   where
-    go : (t : Bool) → length (cond t (record { node = record { 0 = k }; sig = b.sig } ∷ voters g d (suc k) m) (voters g d (suc k) m)) ≡ cond t (suc (length (voters g d (suc k) m))) (length (voters g d (suc k) m))
+    go : (t : Bool) → length (cond t (record { by = record { 0 = k }; sig = b.sig } ∷ voters g d (suc k) m) (voters g d (suc k) m)) ≡ cond t (suc (length (voters g d (suc k) m))) (length (voters g d (suc k) m))
     go true = refl
     go false = refl
 

@@ -13,7 +13,7 @@ use Rattle.iss_request.specs.declared.requests.Value.TheVariants.{Batch as Value
 use Rattle.iss_sb.specs.Calls.{IsGoodParams, has_slot}
 use Rattle.iss_sb.specs.Evidence.{IsReached, IsSigned, Item, Made, World, is_correct}
 use Rattle.iss_sb.specs.Legal.{AreMade, Front}
-use Rattle.iss_sb.specs.Statements.{signature}
+use Rattle.iss_sb.specs.Statements.{claim, signature}
 use Rattle.iss_sb.specs.declared.effects.Claim.{Claim}
 use Rattle.iss_sb.specs.declared.effects.Input.TheVariants.{Cast, Receive}
 use Rattle.iss_sb.specs.declared.effects.Params.{Params}
@@ -26,9 +26,9 @@ use Rattle.pbft_wire.specs.declared.messages.Certificate.{Certificate}
 use Rattle.pbft_wire.specs.declared.messages.Change.{Change}
 use Rattle.pbft_wire.specs.declared.messages.Message.{Message}
 use Rattle.pbft_wire.specs.declared.messages.Message.TheVariants.{Commit, NewView, PrePrepare, Prepare, ViewChange}
-use Rattle.pbft_wire.specs.declared.messages.Vote.{Vote}
+use Rattle.iss_sb.specs.declared.signers.Signed.{Signed}
 use Rattle.pbft_views.specs.Choice.{choice}
-use Rattle.pbft_views.specs.Claims.{certificate_claims, certificates_claims, change_claims, changes_claims, chosen_claims, claim, claims}
+use Rattle.pbft_views.specs.Claims.{certificate_claims, certificates_claims, change_claims, changes_claims, chosen_claims, claims}
 use Rattle.pbft_views.specs.Good.{primary}
 use Rattle.pbft_views.proofs.Claimed.{chosen-claim, claim-certificate, claim-change, vote-claim}
 use Rattle.sb_pbft.specs.Makes.{Draft, DraftCommit, DraftNewView, DraftPrePrepare, DraftPrepare, DraftViewChange, by_slot, certificate, choice_sigs, drafts, first_draft, inputs, kept, makes, sign, sign_all, tops}
@@ -111,7 +111,7 @@ module _ (p : Params) (me : ℕ) where
   source-front a xs by t f (sent y k to msg h s e) = sent y (front-in y a xs f k) to msg h s e
 
   says-by : (from : ℕ) (msg : Message) (c : Claim) (by : ℕ) (t : List ℕ) → In c (claims p from msg) → c.by.0 ≡ by → c.statement ≡ t → Says pbft p from msg by t
-  says-by from msg c by t i b e = record { claim = c; refines = i; named = b; is = e }
+  says-by from msg c by t i b e = record { claim = c; stands = i; named = b; is = e }
 
   pub offer-asked : (l : List Said) (i : Said) (a : Slot × Batch) → ◌≡◌ {A = Option (Slot × Batch)} (offer p me (mode p l) i) (Some a) → proposal p me l 0 a.0.0 ≡ None → ◌≡◌ {A = Option (Slot × Batch)} (asked p me l i) (Some a)
   offer-asked l i a h g = ap (asked_of p me l) h ∙ ap (λ (z : Option Value). unless z a) g
@@ -156,23 +156,23 @@ module _ (p : Params) (me : ℕ) where
     ]
 
   -- votes stand on claims of those who voted
-  pub prepare-source : (xs : List (Item Message)) (v s : ℕ) (d : List ℕ) (x : Vote) → In x (prepares p (inputs xs) v s d) → Source xs x.node.0 (state_at p 2 v s d)
+  pub prepare-source : (xs : List (Item Message)) (v s : ℕ) (d : List ℕ) (x : Signed) → In x (prepares p (inputs xs) v s d) → Source xs x.by.0 (state_at p 2 v s d)
   prepare-source xs v s d x i =
       let k = in-voters (prepare_of p (inputs xs) v s) d 0 p.setup.n x i in
-      let r = prepare-of-is p (inputs xs) v s x.node.0 k.ballot k.kept in
+      let r = prepare-of-is p (inputs xs) v s x.by.0 k.ballot k.kept in
       let b = r.2 in
       let m : Message = Prepare v b.slot k.ballot.digest k.ballot.sig in
       let same : state_at p 2 v b.slot.0 k.ballot.digest ≡ state_at p 2 v s d = ap (λ (z : ℕ). state_at p 2 v z k.ballot.digest) b.at_slot ∙ ap (λ (z : List ℕ). state_at p 2 v s z) k.digest in
-      source-in xs r.0 x.node.0 (state_at p 2 v s d) b.from m (subst (λ (z : Said). In z (inputs xs)) b.input r.1) (says-by b.from.0 m (claim b.from.0 (state_at p 2 v b.slot.0 k.ballot.digest) k.ballot.sig) x.node.0 _ (inl refl) b.by same)
+      source-in xs r.0 x.by.0 (state_at p 2 v s d) b.from m (subst (λ (z : Said). In z (inputs xs)) b.input r.1) (says-by b.from.0 m (claim b.from.0 (state_at p 2 v b.slot.0 k.ballot.digest) k.ballot.sig) x.by.0 _ (inl refl) b.by same)
 
-  pub commit-source : (xs : List (Item Message)) (v s : ℕ) (d : List ℕ) (x : Vote) → In x (commits p (inputs xs) v s d) → Source xs x.node.0 (state_at p 3 v s d)
+  pub commit-source : (xs : List (Item Message)) (v s : ℕ) (d : List ℕ) (x : Signed) → In x (commits p (inputs xs) v s d) → Source xs x.by.0 (state_at p 3 v s d)
   commit-source xs v s d x i =
       let k = in-voters (commit_of p (inputs xs) v s) d 0 p.setup.n x i in
-      let r = commit-of-is p (inputs xs) v s x.node.0 k.ballot k.kept in
+      let r = commit-of-is p (inputs xs) v s x.by.0 k.ballot k.kept in
       let b = r.2 in
       let m : Message = Commit v b.slot k.ballot.digest k.ballot.sig in
       let same : state_at p 3 v b.slot.0 k.ballot.digest ≡ state_at p 3 v s d = ap (λ (z : ℕ). state_at p 3 v z k.ballot.digest) b.at_slot ∙ ap (λ (z : List ℕ). state_at p 3 v s z) k.digest in
-      source-in xs r.0 x.node.0 (state_at p 3 v s d) b.from m (subst (λ (z : Said). In z (inputs xs)) b.input r.1) (says-by b.from.0 m (claim b.from.0 (state_at p 3 v b.slot.0 k.ballot.digest) k.ballot.sig) x.node.0 _ (inl refl) b.by same)
+      source-in xs r.0 x.by.0 (state_at p 3 v s d) b.from m (subst (λ (z : Said). In z (inputs xs)) b.input r.1) (says-by b.from.0 m (claim b.from.0 (state_at p 3 v b.slot.0 k.ballot.digest) k.ballot.sig) x.by.0 _ (inl refl) b.by same)
 
 -- ---- what is passed on
 
@@ -193,7 +193,7 @@ module _ (p : Params) (good : IsGoodParams pbft p) (me : ℕ) where
             subst (λ (z : Claim). Source p me r.now z.by.0 z.statement) (sym q) there
         | inr q ↦
             let u = vote-claim p v s.0 d (take (2 * p.setup.f) (prepares p (inputs r.now) v s.0 d)) t q in
-            let there = prepare-source p me r.now v s.0 d u.vote (in-take (2 * p.setup.f) u.vote (prepares p (inputs r.now) v s.0 d) u.refines) in
+            let there = prepare-source p me r.now v s.0 d u.vote (in-take (2 * p.setup.f) u.vote (prepares p (inputs r.now) v s.0 d) u.stands) in
             subst (λ (z : Claim). Source p me r.now z.by.0 z.statement) (sym u.is) there
       ])
 
@@ -215,7 +215,7 @@ module _ (p : Params) (good : IsGoodParams pbft p) (me : ℕ) where
   change-passes : (xs : List (Item Message)) (i : Said) (leaf v : ℕ) (cs : List Certificate) (t : List ℕ) → AreMade pbft p me xs → cs ≡ tops (kept p me xs) p.slots → Says pbft p me (sign p me leaf (DraftViewChange v cs)) me t → Stated xs i (sign p me leaf (DraftViewChange v cs)) t
   change-passes xs i leaf v cs t made same s =
       let sig = signature p me leaf (state_change p v cs) in
-      elim (in_append s.claim (certificates_claims p cs) (claim me (state_change p v cs) sig ∷ []) s.refines) [
+      elim (in_append s.claim (certificates_claims p cs) (claim me (state_change p v cs) sig ∷ []) s.stands) [
         | inl a ↦
             let r = claim-certificate p s.claim cs a in
             let k = in-tops (kept p me xs) p.slots r.0 (subst (λ (z : List Certificate). In r.0 z) same r.1) in
@@ -228,14 +228,14 @@ module _ (p : Params) (good : IsGoodParams pbft p) (me : ℕ) where
   new-passes xs i leaf v ys t same s =
       let sigs = choice_sigs p me leaf v ys p.slots in
       let sig = signature p me (leaf + length p.slots) (state_new p v) in
-      elim (in_append s.claim (changes_claims p ys) (chosen_claims p me v ys p.slots sigs ++ claim me (state_new p v) sig ∷ []) s.refines) [
+      elim (in_append s.claim (changes_claims p ys) (chosen_claims p me v ys p.slots sigs ++ claim me (state_new p v) sig ∷ []) s.stands) [
         | inl a ↦
             let r = claim-change p s.claim ys a in
             let x = r.0 in
             let g = in-changes (change_of p (i ∷ inputs xs) v) 0 p.setup.n x (subst (λ (z : List Change). In x z) same r.1) in
             let c = change-of-is p (i ∷ inputs xs) v g.node x g.kept in
-            let refines : In s.claim (claims p x.node.0 (ViewChange v x.certificates x.sig)) = subst (λ (z : ℕ). In s.claim (change_claims p x.node.0 z x.certificates x.sig)) c.2.view r.2 in
-            inr (old-input xs i c.0 x.node (ViewChange v x.certificates x.sig) t c.1 c.2.input (record { claim = s.claim; refines = refines; named = s.named; is = s.is }))
+            let stands : In s.claim (claims p x.node.0 (ViewChange v x.certificates x.sig)) = subst (λ (z : ℕ). In s.claim (change_claims p x.node.0 z x.certificates x.sig)) c.2.view r.2 in
+            inr (old-input xs i c.0 x.node (ViewChange v x.certificates x.sig) t c.1 c.2.input (record { claim = s.claim; stands = stands; named = s.named; is = s.is }))
         | inr a ↦ elim (in_append s.claim (chosen_claims p me v ys p.slots sigs) (claim me (state_new p v) sig ∷ []) a) [
           | inl b ↦ let r = chosen-claim p me v ys p.slots sigs s.claim b in inl (inl (r.slot, r.within, sym s.is ∙ r.is))
           | inr b ↦ inl (inr (only-one xs i t (state_new p v) sig s.claim b s.is))
@@ -243,16 +243,16 @@ module _ (p : Params) (good : IsGoodParams pbft p) (me : ℕ) where
       ]
 
   draft-passes : (xs : List (Item Message)) (i : Said) (leaf : ℕ) (d : Draft) (t : List ℕ) → AreMade pbft p me xs → Rule p me xs i d → Says pbft p me (sign p me leaf d) me t → Stated xs i (sign p me leaf d) t
-  draft-passes xs i leaf (DraftPrePrepare s x) t made r h = inl (only-one xs i t (state_at p 1 0 s.0 (digest_of p x)) _ h.claim h.refines h.is)
-  draft-passes xs i leaf (DraftPrepare v s d) t made r h = inl (only-one xs i t (state_at p 2 v s.0 d) _ h.claim h.refines h.is)
-  draft-passes xs i leaf (DraftCommit v s d) t made r h = inl (only-one xs i t (state_at p 3 v s.0 d) _ h.claim h.refines h.is)
+  draft-passes xs i leaf (DraftPrePrepare s x) t made r h = inl (only-one xs i t (state_at p 1 0 s.0 (digest_of p x)) _ h.claim h.stands h.is)
+  draft-passes xs i leaf (DraftPrepare v s d) t made r h = inl (only-one xs i t (state_at p 2 v s.0 d) _ h.claim h.stands h.is)
+  draft-passes xs i leaf (DraftCommit v s d) t made r h = inl (only-one xs i t (state_at p 3 v s.0 d) _ h.claim h.stands h.is)
   draft-passes xs i leaf (DraftViewChange v cs) t made r h = change-passes xs i leaf v cs t made (change-rule p me xs i v cs r).holds h
   draft-passes xs i leaf (DraftNewView v ys) t made r h = new-passes xs i leaf v ys t (starts-with p me xs i v ys r).changes h
 
 pub passes : (p : Params) → IsGoodParams pbft p → PassesOn pbft p (States p)
 passes p good w legal me i leaf correct may to msg t h k =
     let d = signed-draft p me leaf (drafts p me (w me) i) to msg h in
-    let r = rule-of p me (w me) i d.draft d.refines in
+    let r = rule-of p me (w me) i d.draft d.stands in
     let said = subst (λ (z : Message). Says pbft p me z me t) d.is k in
     subst (λ (z : Message). States p me z t ⊎ IsOld pbft p me (w me) i me t) (sym d.is) (draft-passes p good me (w me) i d.leaf d.draft t (legal.made me) r said)
 

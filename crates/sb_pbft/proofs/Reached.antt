@@ -130,7 +130,7 @@ record IsQuietAt : Type 0 where
   before : Items
   front : Front (item ∷ before) (last 2)
   older : Item Message
-  refines : In older before
+  stands : In older before
   gave_up : In {A = To × Message} (To_all, give_up 2 3 1 []) older.made.sends
   committed_it : In {A = To × Message} (To_all, Commit 1 (slot 0) d (sig 2 7 3 1 0 d)) item.made.sends
 
@@ -140,7 +140,7 @@ quiet-at = record {
   before = t3;
   front = inl refl;
   older = two_gave_up;
-  refines = inr (inr (inl refl));
+  stands = inr (inr (inl refl));
   gave_up = inl refl;
   committed_it = subst (λ (z : Made Message). In {A = To × Message} (To_all, Commit 1 (slot 0) d (sig 2 7 3 1 0 d)) z.sends) (sym two-commits) (inl refl);
 }

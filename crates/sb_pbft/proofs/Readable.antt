@@ -20,14 +20,15 @@ use Rattle.iss_sb.specs.declared.effects.Params.{Params}
 use Rattle.iss_sb.specs.declared.effects.To.{To}
 use Rattle.iss_sb.proofs.Signatures.{signature-shape}
 use Rattle.iss_sb.proofs.Slots.{below-In, has_slot-In}
-use Rattle.pbft_wire.specs.Certificates.{fits_certificate, fits_certificates, fits_change, fits_slot, fits_view, fits_votes}
+use Rattle.pbft_wire.specs.Certificates.{fits_certificate, fits_certificates, fits_change, fits_slot, fits_view}
 use Rattle.pbft_wire.specs.Messages.{fits, fits_at, fits_changes}
 use Rattle.pbft_wire.specs.Statements.{digest_of, state_at, state_change, state_new, statement}
 use Rattle.pbft_wire.specs.declared.messages.Certificate.{Certificate}
 use Rattle.pbft_wire.specs.declared.messages.Change.{Change}
 use Rattle.pbft_wire.specs.declared.messages.Message.{Message}
 use Rattle.pbft_wire.specs.declared.messages.Message.TheVariants.{NewView, Prepare, ViewChange}
-use Rattle.pbft_wire.specs.declared.messages.Vote.{Vote}
+use Rattle.iss_sb.specs.declared.signers.Signed.{Signed}
+use Rattle.iss_sb.specs.Signers.{are_signers}
 use Rattle.pbft_wire.proofs.MessageGrammar.{fits-again}
 use Rattle.pbft_views.specs.Choice.{best, choice}
 use Rattle.pbft_views.proofs.Choices.{best-in}
@@ -44,22 +45,22 @@ use Rattle.sb_pbft.proofs.Votes.{prepare-of-is}
 
 -- ---- votes
 
-voters-fit : (g : ℕ → Option Ballot) (d : List ℕ) (from k m : ℕ) → from ≤ k → ((j : ℕ) (b : Ballot) → g j ≡ Some b → is_signature b.sig ≡ true) → fits_votes from (voters g d k m) ≡ true
+voters-fit : (g : ℕ → Option Ballot) (d : List ℕ) (from k m : ℕ) → from ≤ k → ((j : ℕ) (b : Ballot) → g j ≡ Some b → is_signature b.sig ≡ true) → are_signers from (voters g d k m) ≡ true
 voters-fit g d from k zero low h = refl
 voters-fit g d from k (suc m) low h = go (λ n l. voters-fit g d n (suc k) m l h) (g k) refl
   where
-    with_it : ((n : ℕ) → n ≤ suc k → fits_votes n (voters g d (suc k) m) ≡ true) → (b : Ballot) → is_signature b.sig ≡ true → (t : Bool) → fits_votes from (cond t (record { node = record { 0 = k }; sig = b.sig } ∷ voters g d (suc k) m) (voters g d (suc k) m)) ≡ true
+    with_it : ((n : ℕ) → n ≤ suc k → are_signers n (voters g d (suc k) m) ≡ true) → (b : Ballot) → is_signature b.sig ≡ true → (t : Bool) → are_signers from (cond t (record { by = record { 0 = k }; sig = b.sig } ∷ voters g d (suc k) m) (voters g d (suc k) m)) ≡ true
     with_it r b e false = r from (omega (arith, low))
     with_it r b e true = both _ _ (both _ _ (le-leb from k low) e) (r (suc k) (omega arith))
 
-    go : ((n : ℕ) → n ≤ suc k → fits_votes n (voters g d (suc k) m) ≡ true) → (o : Option Ballot) → g k ≡ o → fits_votes from (cons_vote d k o (voters g d (suc k) m)) ≡ true
+    go : ((n : ℕ) → n ≤ suc k → are_signers n (voters g d (suc k) m) ≡ true) → (o : Option Ballot) → g k ≡ o → are_signers from (cons_vote d k o (voters g d (suc k) m)) ≡ true
     go r None e = r from (omega (arith, low))
     go r (Some b) e = with_it r b (h k b e) (same_bytes d b.digest)
 
-take-fit : (n from : ℕ) (xs : List Vote) → fits_votes from xs ≡ true → fits_votes from (take n xs) ≡ true
+take-fit : (n from : ℕ) (xs : List Signed) → are_signers from xs ≡ true → are_signers from (take n xs) ≡ true
 take-fit zero from xs h = refl
 take-fit (suc n) from [] h = h
-take-fit (suc n) from (x ∷ xs) h = let t = and-true (nat_le from x.node.0 && is_signature x.sig) (fits_votes (suc x.node.0) xs) h in both _ _ t.0 (take-fit n (suc x.node.0) xs t.1)
+take-fit (suc n) from (x ∷ xs) h = let t = and-true (nat_le from x.by.0 && is_signature x.sig) (are_signers (suc x.by.0) xs) h in both _ _ t.0 (take-fit n (suc x.by.0) xs t.1)
 
 prepare-shape : (p : Params) (l : List Said) (v s k : ℕ) (b : Ballot) → AreFit p l → prepare_of p l v s k ≡ Some b → is_signature b.sig ≡ true
 prepare-shape p l v s k b f h =
@@ -201,7 +202,7 @@ module _ (p : Params) (good : IsGoodParams pbft p) (me : ℕ) where
       (both _ _ (few-votes (length (take (2 * p.setup.f) votes)) (take-few (2 * p.setup.f) votes))
       (take-fit (2 * p.setup.f) 0 votes (voters-fit (prepare_of p (inputs xs) v s.0) (digest_of p x) 0 0 p.setup.n (omega arith) (λ j b e. prepare-shape p (inputs xs) v s.0 j b f e)))))))
     where
-      take-few : (n : ℕ) (ys : List Vote) → length (take n ys) ≤ n
+      take-few : (n : ℕ) (ys : List Signed) → length (take n ys) ≤ n
       take-few zero ys = omega arith
       take-few (suc n) [] = omega arith
       take-few (suc n) (y ∷ ys) = let r = take-few n ys in omega (arith, r)
@@ -269,5 +270,5 @@ module _ (p : Params) (good : IsGoodParams pbft p) (me : ℕ) where
   pub sent-again : (xs : List (Item Message)) (i : Said) (leaf : ℕ) (to : To) (msg : Message) → AreHeard pbft p me xs → IsHeard pbft p i → In {A = To × Message} (to, msg) (makes p me xs i leaf).sends → IsReadMessage pbft p msg
   sent-again xs i leaf to msg heard hears h =
       let d = signed-draft p me leaf (drafts p me xs i) to msg h in
-      let f = rule-fits xs i (heard-all p me xs heard) (heard-fits p i hears) d.leaf d.draft (rule-of p me xs i d.draft d.refines) in
+      let f = rule-fits xs i (heard-all p me xs heard) (heard-fits p i hears) d.leaf d.draft (rule-of p me xs i d.draft d.stands) in
       fits-again p.setup.version msg (subst (λ (z : Message). fits p.setup.version z ≡ true) (sym d.is) f)

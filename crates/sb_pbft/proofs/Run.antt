@@ -15,8 +15,9 @@ use Rattle.iss_sb.specs.declared.effects.To.{To}
 use Rattle.iss_sb.specs.declared.effects.To.TheVariants.{All as To_all}
 use Rattle.iss_sb.specs.Calls.{IsGoodParams}
 use Rattle.iss_sb.specs.Evidence.{Item, Made, World, IsCredible, IsReached, IsReadBatch, at_start, after, IsSigned, MayCome, Move, Verifies, delivered, empty_world, is_correct}
-use Rattle.iss_sb.specs.Statements.{signature}
+use Rattle.iss_sb.specs.Statements.{claim, signature}
 use Rattle.iss_sb.proofs.Read.{batch-read}
+use Rattle.iss_sb.proofs.Setups.{good-by}
 use Rattle.iss_sb.proofs.Signatures.{signature-shape, signature-verifies}
 use Rattle.pbft_wire.specs.declared.messages.Message.{Message}
 use Rattle.pbft_wire.specs.declared.messages.Message.TheVariants.{Prepare, Commit}
@@ -24,35 +25,14 @@ use Rattle.pbft_wire.specs.Certificates.{fits_certificate}
 use Rattle.pbft_wire.specs.Messages.{fits}
 use Rattle.pbft_wire.specs.Statements.{state_at, state_change, state_new, string_of}
 use Rattle.pbft_wire.proofs.MessageGrammar.{fits-again}
-use Rattle.pbft_views.specs.Claims.{certificate_claims, claim, claims}
+use Rattle.pbft_views.specs.Claims.{certificate_claims, claims}
 use Rattle.pbft_views.proofs.Statements.{digest-length}
 use Rattle.sb_pbft.specs.Makes.{makes}
 use Rattle.sb_pbft.specs.Pbft.{pbft}
 use Rattle.sb_pbft.proofs.Example.{b, certificate, commit, d, from, give_up, next, nil, p, prepare, proposal, renewal, said, setup, sig, slot}
 
 pub good-setup : IsGoodSetup setup
-good-setup = record {
-  version = refl;
-  faults = omega arith;
-  relay_faults = λ h. absurd (let k : 3 ≡ 1 = h in omega arith);
-  relay_kind = λ h. absurd (let k : 3 ≡ 1 = h in omega arith);
-  nodes = refl;
-  majority = refl;
-  epoch_low = omega arith;
-  epoch_high = omega arith;
-  buckets_low = omega arith;
-  buckets_high = omega arith;
-  batch_low = omega arith;
-  batch_high = omega arith;
-  window_low = omega arith;
-  window_high = omega arith;
-  clients_low = omega arith;
-  clients_high = omega arith;
-  keys_low = omega arith;
-  keys_high = omega arith;
-  few_faulty = omega arith;
-  rising_faulty = (omega arith, omega arith, tt);
-}
+good-setup = good-by setup refl
 
 pub good : IsGoodParams pbft p
 good = record {

@@ -78,12 +78,12 @@ module _ (p : Params) (good : IsGoodParams pbft p) (w : World Message) (reached 
       let xs = subst (λ (z : Made Message). In {A = To × Message} (to, ViewChange v cs sig) z.sends) m.made h in
       let a = signed-draft p i x.leaf (drafts p i m.before x.input) to (ViewChange v cs sig) xs in
       let change = sent-change p i a.leaf a.draft v cs sig a.is in
-      let drafted_change = drafted-in p i before m.before x (DraftViewChange v cs) m.front (subst (λ (z : Draft). In z (drafts p i m.before x.input)) change a.refines) in
+      let drafted_change = drafted-in p i before m.before x (DraftViewChange v cs) m.front (subst (λ (z : Draft). In z (drafts p i m.before x.input)) change a.stands) in
       let low = change-view p i before v cs drafted_change in
       let ys = subst (λ (z : Made Message). In {A = To × Message} (other, Commit c slot d tag) z.sends) made.0 g in
       let b = signed-draft p i y.leaf (drafts p i before y.input) other (Commit c slot d tag) ys in
       let commit = sent-commit p i b.leaf b.draft c slot d tag b.is in
-      let r = commit-rule p i before y.input c slot d (rule-of p i before y.input (DraftCommit c slot d) (subst (λ (z : Draft). In z (drafts p i before y.input)) commit b.refines)) in
+      let r = commit-rule p i before y.input c slot d (rule-of p i before y.input (DraftCommit c slot d) (subst (λ (z : Draft). In z (drafts p i before y.input)) commit b.stands)) in
       let now_at = r.view in
       let more = (grows p (mode p (inputs before)) y.input).view in
       omega (arith, low, now_at, more)

@@ -105,14 +105,14 @@ drafted p me (x ∷ xs) = drafts p me xs x.input ++ drafted p me xs
 
 pub record IsSignedDraft (p : Params) (me : ℕ) (ds : List Draft) (msg : Message) : Type 0 where
   pub draft : Draft
-  pub refines : In draft ds
+  pub stands : In draft ds
   pub leaf : ℕ
   pub is : msg ≡ sign p me leaf draft
 
 pub signed-draft : (p : Params) (me leaf : ℕ) (ds : List Draft) (to : To) (msg : Message) → In {A = To × Message} (to, msg) (sign_all p me leaf ds) → IsSignedDraft p me ds msg
 signed-draft p me leaf [] to msg h = absurd h
-signed-draft p me leaf (d ∷ ds) to msg (inl e) = record { draft = d; refines = inl refl; leaf = leaf; is = ap (λ (z : To × Message). z.1) e }
-signed-draft p me leaf (d ∷ ds) to msg (inr h) = let r = signed-draft p me (leaf + uses p d) ds to msg h in record { draft = r.draft; refines = inr r.refines; leaf = r.leaf; is = r.is }
+signed-draft p me leaf (d ∷ ds) to msg (inl e) = record { draft = d; stands = inl refl; leaf = leaf; is = ap (λ (z : To × Message). z.1) e }
+signed-draft p me leaf (d ∷ ds) to msg (inr h) = let r = signed-draft p me (leaf + uses p d) ds to msg h in record { draft = r.draft; stands = inr r.stands; leaf = r.leaf; is = r.is }
 
 pub record IsDrafted (p : Params) (me : ℕ) (xs : List (Item Message)) (msg : Message) : Type 0 where
   pub older : List (Item Message)
@@ -131,11 +131,11 @@ sent-drafted p me (y ∷ ys) x to msg made (inl e) k =
 
 pub record Proposed (p : Params) (me : ℕ) (l : List Said) (v s : ℕ) (d : List ℕ) : Type 0 where
   pub value : Value
-  pub refines : proposal p me l v s ≡ Some value
+  pub stands : proposal p me l v s ≡ Some value
   pub digest : digest_of p value ≡ d
 
 pub proposed-on : (p : Params) (me : ℕ) (l : List Said) (i : Said) (v s : ℕ) (d : List ℕ) → Proposed p me l v s d → Proposed p me (i ∷ l) v s d
-proposed-on p me l i v s d h = record { value = h.value; refines = persists p me l i v s h.value h.refines; digest = h.digest }
+proposed-on p me l i v s d h = record { value = h.value; stands = persists p me l i v s h.value h.stands; digest = h.digest }
 
 pub no-pre : (s t : Slot) (v : ℕ) (d : List ℕ) (x : Value) → SameDraft (DraftPrepare v s d) (DraftPrePrepare t x) → ⊥
 no-pre s t v d x h = cc
@@ -164,7 +164,7 @@ prepare-rule p me xs i v s d (by_proposal a q b e) =
     let there = proposed-offer p me (inputs xs) i a q in
     record {
       value = Value_batch a.1;
-      refines = subst (λ (z : ℕ). proposal p me (i ∷ inputs xs) z s.0 ≡ Some (Value_batch a.1)) (sym r.view) (subst (λ (z : Slot). proposal p me (i ∷ inputs xs) 0 z.0 ≡ Some (Value_batch a.1)) (sym r.slot) there);
+      stands = subst (λ (z : ℕ). proposal p me (i ∷ inputs xs) z s.0 ≡ Some (Value_batch a.1)) (sym r.view) (subst (λ (z : Slot). proposal p me (i ∷ inputs xs) 0 z.0 ≡ Some (Value_batch a.1)) (sym r.slot) there);
       digest = sym r.digest;
     }
 prepare-rule p me xs i v s d (by_votes t x w q e) = absurd (no-commit s t v (mode p (i ∷ inputs xs)).view d (digest_of p x) e)
@@ -176,7 +176,7 @@ prepare-rule p me xs i v s d (by_view from w ys sigs sig t a b c k e) =
     let here : proposal p me (i ∷ inputs xs) w t.0 ≡ Some (choice ys t.0) = subst (λ (z : Said). proposal p me (z ∷ inputs xs) w t.0 ≡ Some (choice ys t.0)) (sym a) there in
     record {
       value = choice ys t.0;
-      refines = subst (λ (z : ℕ). proposal p me (i ∷ inputs xs) z s.0 ≡ Some (choice ys t.0)) (sym r.view) (subst (λ (z : Slot). proposal p me (i ∷ inputs xs) w z.0 ≡ Some (choice ys t.0)) (sym r.slot) here);
+      stands = subst (λ (z : ℕ). proposal p me (i ∷ inputs xs) z s.0 ≡ Some (choice ys t.0)) (sym r.view) (subst (λ (z : Slot). proposal p me (i ∷ inputs xs) w z.0 ≡ Some (choice ys t.0)) (sym r.slot) here);
       digest = sym r.digest;
     }
 
@@ -192,4 +192,4 @@ pub one-prepare : (p : Params) (me : ℕ) (xs : List (Item Message)) (v : ℕ) (
 one-prepare p me xs v s d e a b =
     let x = prepare-proposed p me xs v s d a in
     let y = prepare-proposed p me xs v s e b in
-    sym x.digest ∙ ap (digest_of p) (same-some (proposal p me (inputs xs) v s.0) x.value y.value x.refines y.refines) ∙ y.digest
+    sym x.digest ∙ ap (digest_of p) (same-some (proposal p me (inputs xs) v s.0) x.value y.value x.stands y.stands) ∙ y.digest

@@ -22,10 +22,11 @@ use Rattle.pbft_wire.specs.declared.messages.Certificate.{Certificate}
 use Rattle.pbft_wire.specs.declared.messages.Change.{Change}
 use Rattle.pbft_wire.specs.declared.messages.Message.{Message}
 use Rattle.pbft_wire.specs.declared.messages.Message.TheVariants.{NewView, PrePrepare}
-use Rattle.pbft_wire.specs.declared.messages.Vote.{Vote}
+use Rattle.iss_sb.specs.declared.signers.Signed.{Signed}
 use Rattle.pbft_wire.proofs.MessageGrammar.{fits-read}
 use Rattle.pbft_views.specs.Choice.{certificates_of, choice}
-use Rattle.pbft_views.specs.Claims.{claim, vote_claims}
+use Rattle.iss_sb.specs.Statements.{claim}
+use Rattle.pbft_views.specs.Claims.{vote_claims}
 use Rattle.pbft_views.specs.Good.{primary}
 use Rattle.pbft_views.specs.Laws.{nodes_of}
 use Rattle.pbft_views.proofs.Good.{nodes-length}
@@ -43,27 +44,27 @@ use Rattle.sb_pbft.proofs.Votes.{in-voters, node-vote, prepare-of-is, voters-apa
 
 -- ---- lists of votes
 
-pub vote-in : (p : Params) (v s : ℕ) (d : List ℕ) (x : Vote) (xs : List Vote) → In x xs → In (claim x.node.0 (state_at p 2 v s d) x.sig) (vote_claims p v s d xs)
+pub vote-in : (p : Params) (v s : ℕ) (d : List ℕ) (x : Signed) (xs : List Signed) → In x xs → In (claim x.by.0 (state_at p 2 v s d) x.sig) (vote_claims p v s d xs)
 vote-in p v s d x [] h = absurd h
-vote-in p v s d x (y ∷ ys) (inl e) = inl (ap (λ (z : Vote). claim z.node.0 (state_at p 2 v s d) z.sig) e)
+vote-in p v s d x (y ∷ ys) (inl e) = inl (ap (λ (z : Signed). claim z.by.0 (state_at p 2 v s d) z.sig) e)
 vote-in p v s d x (y ∷ ys) (inr h) = inr (vote-in p v s d x ys h)
 
-mem-take : (n j : ℕ) (xs : List Vote) → mem j (nodes_of (take n xs)) ≡ true → mem j (nodes_of xs) ≡ true
+mem-take : (n j : ℕ) (xs : List Signed) → mem j (nodes_of (take n xs)) ≡ true → mem j (nodes_of xs) ≡ true
 mem-take zero j xs h = absurd (false≢true h)
 mem-take (suc n) j [] h = h
-mem-take (suc n) j (x ∷ xs) h = elim (mem-cases j x.node.0 (nodes_of (take n xs)) h) [
-  | inl e ↦ or_left (j == x.node.0) (mem j (nodes_of xs)) (eq-eqb j x.node.0 e)
-  | inr e ↦ or_right_true (j == x.node.0) (mem j (nodes_of xs)) (mem-take n j xs e)
+mem-take (suc n) j (x ∷ xs) h = elim (mem-cases j x.by.0 (nodes_of (take n xs)) h) [
+  | inl e ↦ or_left (j == x.by.0) (mem j (nodes_of xs)) (eq-eqb j x.by.0 e)
+  | inr e ↦ or_right_true (j == x.by.0) (mem j (nodes_of xs)) (mem-take n j xs e)
 ]
 
-take-apart : (n : ℕ) (xs : List Vote) → distinct (nodes_of xs) ≡ true → distinct (nodes_of (take n xs)) ≡ true
+take-apart : (n : ℕ) (xs : List Signed) → distinct (nodes_of xs) ≡ true → distinct (nodes_of (take n xs)) ≡ true
 take-apart zero xs h = refl
 take-apart (suc n) [] h = refl
 take-apart (suc n) (x ∷ xs) h =
-    let a = and-true (not (mem x.node.0 (nodes_of xs))) (distinct (nodes_of xs)) h in
-    apart-cons x.node.0 (nodes_of (take n xs)) (λ m. true≢false (sym (mem-take n x.node.0 xs m) ∙ not-true (mem x.node.0 (nodes_of xs)) a.0)) (take-apart n xs a.1)
+    let a = and-true (not (mem x.by.0 (nodes_of xs))) (distinct (nodes_of xs)) h in
+    apart-cons x.by.0 (nodes_of (take n xs)) (λ m. true≢false (sym (mem-take n x.by.0 xs m) ∙ not-true (mem x.by.0 (nodes_of xs)) a.0)) (take-apart n xs a.1)
 
-take-count : (n : ℕ) (xs : List Vote) → n ≤ length xs → length (nodes_of (take n xs)) ≡ n
+take-count : (n : ℕ) (xs : List Signed) → n ≤ length xs → length (nodes_of (take n xs)) ≡ n
 take-count zero xs h = refl
 take-count (suc n) [] h = absurd (omega (arith, h))
 take-count (suc n) (x ∷ xs) h = ap suc (take-count n xs (omega (arith, h)))
@@ -95,10 +96,10 @@ module _ (p : Params) (good : IsGoodParams pbft p) (w : World Message) (legal : 
   pub source-granted : (i by : ℕ) (t : List ℕ) → Source p i (w i) by t → Granted p w by t
   source-granted i by t (came x k from msg q s) correct =
       let c = came-credible i x from msg k q in
-      let signed = c.signed s.claim s.refines (ap (λ (z : ℕ). is_correct p.setup z) s.named ∙ correct) in
+      let signed = c.signed s.claim s.stands (ap (λ (z : ℕ). is_correct p.setup z) s.named ∙ correct) in
       subst (λ (z : ℕ). IsSigned pbft p w z t) s.named (subst (λ (z : List ℕ). IsSigned pbft p w s.claim.by.0 z) s.is signed)
   source-granted i by t (sent x k to msg h s e) correct =
-      let signed : IsSigned pbft p w i t = record { item = x; taken = k; to = to; msg = msg; sent = h; claim = s.claim; made = s.refines; by = s.named; is = s.is } in
+      let signed : IsSigned pbft p w i t = record { item = x; taken = k; to = to; msg = msg; sent = h; claim = s.claim; made = s.stands; by = s.named; is = s.is } in
       subst (λ (z : ℕ). IsSigned pbft p w z t) (sym e) signed
 
   -- ---- what came fits
@@ -193,7 +194,7 @@ module _ (p : Params) (good : IsGoodParams pbft p) (w : World Message) (legal : 
         let votes = prepares p (inputs xs) v s d in
         let g = prepare_of p (inputs xs) v s in
         let but = primary p v in
-        let vote : (j : ℕ) → mem j (nodes_of (take (2 * p.setup.f) votes)) ≡ true → (y : Vote) × In y votes × (y.node.0 ≡ j) = λ j m. node-vote j votes (mem-take (2 * p.setup.f) j votes m) in
+        let vote : (j : ℕ) → mem j (nodes_of (take (2 * p.setup.f) votes)) ≡ true → (y : Signed) × In y votes × (y.by.0 ≡ j) = λ j m. node-vote j votes (mem-take (2 * p.setup.f) j votes m) in
         record {
           makers = nodes_of (take (2 * p.setup.f) votes);
           count = take-count (2 * p.setup.f) votes (leb-true (2 * p.setup.f) (length votes) enough);
@@ -201,12 +202,12 @@ module _ (p : Params) (good : IsGoodParams pbft p) (w : World Message) (legal : 
               (λ m.
               let y = vote but m in
               let k = in-voters g d 0 p.setup.n y.0 y.1 in
-              let r = prepare-of-is p (inputs xs) v s y.0.node.0 k.ballot k.kept in
-              true≢false (sym (eq-eqb y.0.node.0 but y.2) ∙ r.2.other))
+              let r = prepare-of-is p (inputs xs) v s y.0.by.0 k.ballot k.kept in
+              true≢false (sym (eq-eqb y.0.by.0 but y.2) ∙ r.2.other))
               (take-apart (2 * p.setup.f) votes (voters-apart g d 0 p.setup.n));
           below = below-from p.setup.n (nodes_of (take (2 * p.setup.f) votes)) (λ j m. let y = vote j m in let u = (in-voters g d 0 p.setup.n y.0 y.1).high in let e = y.2 in omega (arith, u, e));
           first = source-granted i but (state_at p 1 v s d) (source-part xs but _ sub (proposal-source p i good.leader xs v s x made h));
-          rest = λ j m. let y = vote j m in subst (λ (z : ℕ). Granted p w z (state_at p 2 v s d)) y.2 (source-granted i y.0.node.0 (state_at p 2 v s d) (source-part xs y.0.node.0 _ sub (prepare-source p i xs v s d y.0 y.1)));
+          rest = λ j m. let y = vote j m in subst (λ (z : ℕ). Granted p w z (state_at p 2 v s d)) y.2 (source-granted i y.0.by.0 (state_at p 2 v s d) (source-part xs y.0.by.0 _ sub (prepare-source p i xs v s d y.0 y.1)));
           known = proposal-known xs v s x sub made h;
         }
 
@@ -221,7 +222,7 @@ module _ (p : Params) (good : IsGoodParams pbft p) (w : World Message) (legal : 
           count = omega (arith, long, le);
           apart = voters-apart g d 0 p.setup.n;
           below = below-from p.setup.n (nodes_of votes) (λ j m. let y = node-vote j votes m in let u = (in-voters g d 0 p.setup.n y.0 y.1).high in let e = y.2 in omega (arith, u, e));
-          each = λ j m. let y = node-vote j votes m in subst (λ (z : ℕ). Granted p w z (state_at p 3 v s d)) y.2 (source-granted i y.0.node.0 (state_at p 3 v s d) (source-part xs y.0.node.0 _ sub (commit-source p i xs v s d y.0 y.1)));
+          each = λ j m. let y = node-vote j votes m in subst (λ (z : ℕ). Granted p w z (state_at p 3 v s d)) y.2 (source-granted i y.0.by.0 (state_at p 3 v s d) (source-part xs y.0.by.0 _ sub (commit-source p i xs v s d y.0 y.1)));
         }
 
     -- what is delivered

@@ -6,7 +6,7 @@ use Rattle.iss_base.specs.Lists.{same_bytes}
 use Rattle.iss_request.specs.declared.ids.Slot.{Slot}
 use Rattle.pbft_wire.specs.declared.messages.Certificate.{Certificate}
 use Rattle.pbft_wire.specs.declared.messages.Change.{Change}
-use Rattle.pbft_wire.specs.declared.messages.Vote.{Vote}
+use Rattle.iss_sb.specs.declared.signers.Signed.{Signed}
 use Rattle.sb_pbft.specs.Places.{has_voted, signature_in}
 use Rattle.sb_pbft.specs.Turns.{tops_of}
 use Rattle.sb_pbft.specs.Rules.{Ballot, changes_from, cons_some, cons_vote, voters}
@@ -18,20 +18,20 @@ one-voter g d k zero = let e : k + 0 ≡ k = omega arith in rw e refl
 one-voter g d k (suc m) =
     let e : suc k + m ≡ k + suc m = omega arith in
     let more = one-voter g d (suc k) m in
-    ap (λ (xs : List Vote). cons_vote d k (g k) xs) (rw e at more) ∙ front-vote d k (g k) (voters g d (suc k) m) (cons_vote d (k + suc m) (g (k + suc m)) [])
+    ap (λ (xs : List Signed). cons_vote d k (g k) xs) (rw e at more) ∙ front-vote d k (g k) (voters g d (suc k) m) (cons_vote d (k + suc m) (g (k + suc m)) [])
   where
-    front-vote : (d : List ℕ) (k : ℕ) (o : Option Ballot) (xs ys : List Vote) → cons_vote d k o (xs ++ ys) ≡ cons_vote d k o xs ++ ys
+    front-vote : (d : List ℕ) (k : ℕ) (o : Option Ballot) (xs ys : List Signed) → cons_vote d k o (xs ++ ys) ≡ cons_vote d k o xs ++ ys
     front-vote d k None xs ys = refl
     front-vote d k (Some b) xs ys = go (same_bytes d b.digest)
       where
-        go : (t : Bool) → cond t (record { node = record { 0 = k }; sig = b.sig } ∷ (xs ++ ys)) (xs ++ ys) ≡ cond t (record { node = record { 0 = k }; sig = b.sig } ∷ xs) xs ++ ys
+        go : (t : Bool) → cond t (record { by = record { 0 = k }; sig = b.sig } ∷ (xs ++ ys)) (xs ++ ys) ≡ cond t (record { by = record { 0 = k }; sig = b.sig } ∷ xs) xs ++ ys
         go true = refl
         go false = refl
 
 pub voter-next : (g : ℕ → Option Ballot) (d : List ℕ) (m : ℕ) → voters g d 0 (suc m) ≡ voters g d 0 m ++ cons_vote d m (g m) []
 voter-next g d m = let e : 0 + m ≡ m = omega arith in let h = one-voter g d 0 m in rw e at h
 
-vote-in : (d : List ℕ) (k : ℕ) (o : Option Ballot) → has_voted d o ≡ true → cons_vote d k o [] ≡ record { node = record { 0 = k }; sig = signature_in o } ∷ []
+vote-in : (d : List ℕ) (k : ℕ) (o : Option Ballot) → has_voted d o ≡ true → cons_vote d k o [] ≡ record { by = record { 0 = k }; sig = signature_in o } ∷ []
 vote-in d k None h = absurd cc
 vote-in d k (Some b) h = let e : same_bytes d b.digest ≡ true = h in rw e refl
 
@@ -47,7 +47,7 @@ counted-suc : (g : ℕ → Option Ballot) (d : List ℕ) (m n : ℕ) → has_vot
 counted-suc g d m n h e =
     let a = voter-next g d m in
     let b = vote-in d m (g m) h in
-    let c = length-one (voters g d 0 m) (record { node = record { 0 = m }; sig = signature_in (g m) }) in
+    let c = length-one (voters g d 0 m) (record { by = record { 0 = m }; sig = signature_in (g m) }) in
     rw (a, b, c) (omega (arith, e))
 
 pub uncounted : (g : ℕ → Option Ballot) (d : List ℕ) (m : ℕ) → has_voted d (g m) ≡ false → voters g d 0 (suc m) ≡ voters g d 0 m
@@ -74,14 +74,14 @@ take-full (suc n) (x ∷ xs) ys h = let k : n ≤ length (take n xs) = omega (ar
 next-is : (m : ℕ) → suc m ≡ m + 1
 next-is m = omega arith
 
-pub taken : (g : ℕ → Option Ballot) (d : List ℕ) (m most : ℕ) (vs : List Vote) → vs ≡ take most (voters g d 0 m) → length vs < most → has_voted d (g m) ≡ true →
-    vs ++ record { node = record { 0 = m }; sig = signature_in (g m) } ∷ [] ≡ take most (voters g d 0 (suc m))
+pub taken : (g : ℕ → Option Ballot) (d : List ℕ) (m most : ℕ) (vs : List Signed) → vs ≡ take most (voters g d 0 m) → length vs < most → has_voted d (g m) ≡ true →
+    vs ++ record { by = record { 0 = m }; sig = signature_in (g m) } ∷ [] ≡ take most (voters g d 0 (suc m))
 taken g d m most vs e few h =
-    let x : Vote = record { node = record { 0 = m }; sig = signature_in (g m) } in
+    let x : Signed = record { by = record { 0 = m }; sig = signature_in (g m) } in
     let b = vote-in d m (g m) h in
     let next = voter-next g d m in
-    let k : length (take most (voters g d 0 m)) < most = subst (λ (l : List Vote). length l < most) e few in
-    ap (λ (l : List Vote). l ++ x ∷ []) e ∙ sym (take-one most (voters g d 0 m) x k) ∙ ap (λ (l : List Vote). take most l) (sym (next ∙ ap (λ (l : List Vote). voters g d 0 m ++ l) b))
+    let k : length (take most (voters g d 0 m)) < most = subst (λ (l : List Signed). length l < most) e few in
+    ap (λ (l : List Signed). l ++ x ∷ []) e ∙ sym (take-one most (voters g d 0 m) x k) ∙ ap (λ (l : List Signed). take most l) (sym (next ∙ ap (λ (l : List Signed). voters g d 0 m ++ l) b))
 
 -- ---- ViewChanges
 
@@ -145,26 +145,26 @@ pub count-still : (g : ℕ → Option Ballot) (d : List ℕ) (m n r : ℕ) (t : 
     (r ≡ length (voters g d 0 (m + 1))) × (r ≤ m + 1)
 count-still g d m n r t is gone h e =
     let k = h.1 in
-    (e ∙ h.0 ∙ ap (λ (l : List Vote). length l) (sym (subst (λ (z : ℕ). voters g d 0 z ≡ voters g d 0 m) (next-is m) (uncounted g d m (sym is ∙ gone)))), omega (arith, e, k))
+    (e ∙ h.0 ∙ ap (λ (l : List Signed). length l) (sym (subst (λ (z : ℕ). voters g d 0 z ≡ voters g d 0 m) (next-is m) (uncounted g d m (sym is ∙ gone)))), omega (arith, e, k))
 
-pub votes-step : (g : ℕ → Option Ballot) (d : List ℕ) (m most : ℕ) (vs ws : List Vote) (x : Vote) (t : Bool) → vs ≡ take most (voters g d 0 m) →
-    length vs < most → t ≡ has_voted d (g m) → t ≡ true → x ≡ record { node = record { 0 = m }; sig = signature_in (g m) } → ws ≡ vs ++ x ∷ [] →
+pub votes-step : (g : ℕ → Option Ballot) (d : List ℕ) (m most : ℕ) (vs ws : List Signed) (x : Signed) (t : Bool) → vs ≡ take most (voters g d 0 m) →
+    length vs < most → t ≡ has_voted d (g m) → t ≡ true → x ≡ record { by = record { 0 = m }; sig = signature_in (g m) } → ws ≡ vs ++ x ∷ [] →
     ws ≡ take most (voters g d 0 (m + 1))
 votes-step g d m most vs ws x t e few is here what h =
-    h ∙ ap (λ (y : Vote). vs ++ y ∷ []) what ∙ subst (λ (z : ℕ). vs ++ record { node = record { 0 = m }; sig = signature_in (g m) } ∷ [] ≡ take most (voters g d 0 z)) (next-is m)
+    h ∙ ap (λ (y : Signed). vs ++ y ∷ []) what ∙ subst (λ (z : ℕ). vs ++ record { by = record { 0 = m }; sig = signature_in (g m) } ∷ [] ≡ take most (voters g d 0 z)) (next-is m)
     (taken g d m most vs e few (sym is ∙ here))
 
-pub votes-out : (g : ℕ → Option Ballot) (d : List ℕ) (m most : ℕ) (vs ws : List Vote) (t : Bool) → vs ≡ take most (voters g d 0 m) → t ≡ has_voted d (g m) → t ≡ false → ws ≡ vs →
+pub votes-out : (g : ℕ → Option Ballot) (d : List ℕ) (m most : ℕ) (vs ws : List Signed) (t : Bool) → vs ≡ take most (voters g d 0 m) → t ≡ has_voted d (g m) → t ≡ false → ws ≡ vs →
     ws ≡ take most (voters g d 0 (m + 1))
 votes-out g d m most vs ws t e is gone h =
-    h ∙ e ∙ ap (λ (l : List Vote). take most l) (sym (subst (λ (z : ℕ). voters g d 0 z ≡ voters g d 0 m) (next-is m) (uncounted g d m (sym is ∙ gone))))
+    h ∙ e ∙ ap (λ (l : List Signed). take most l) (sym (subst (λ (z : ℕ). voters g d 0 z ≡ voters g d 0 m) (next-is m) (uncounted g d m (sym is ∙ gone))))
 
-pub votes-full : (g : ℕ → Option Ballot) (d : List ℕ) (m most : ℕ) (vs ws : List Vote) → vs ≡ take most (voters g d 0 m) → most ≤ length vs → ws ≡ vs →
+pub votes-full : (g : ℕ → Option Ballot) (d : List ℕ) (m most : ℕ) (vs ws : List Signed) → vs ≡ take most (voters g d 0 m) → most ≤ length vs → ws ≡ vs →
     ws ≡ take most (voters g d 0 (m + 1))
 votes-full g d m most vs ws e high h =
-    let at : most ≤ length (take most (voters g d 0 m)) = subst (λ (l : List Vote). most ≤ length l) e high in
+    let at : most ≤ length (take most (voters g d 0 m)) = subst (λ (l : List Signed). most ≤ length l) e high in
     let same : take most (voters g d 0 (suc m)) ≡ take most (voters g d 0 m) =
-    ap (λ (l : List Vote). take most l) (voter-next g d m) ∙ take-full most (voters g d 0 m) (cons_vote d m (g m) []) at in
+    ap (λ (l : List Signed). take most l) (voter-next g d m) ∙ take-full most (voters g d 0 m) (cons_vote d m (g m) []) at in
     h ∙ e ∙ sym (subst (λ (z : ℕ). take most (voters g d 0 z) ≡ take most (voters g d 0 m)) (next-is m) same)
 
 pub change-count-step : (g : ℕ → Option Change) (m n r : ℕ) (t : Bool) → t ≡ is_some (g m) → t ≡ true → (n ≡ length (changes_from g 0 m)) × (n ≤ m) → r ≡ n + 1 →

@@ -11,7 +11,7 @@ use Rattle.iss_sb.specs.Calls.{has_slot}
 use Rattle.iss_sb.specs.declared.effects.Input.TheVariants.{Cast, Receive, Timeout}
 use Rattle.iss_sb.specs.declared.effects.Params.{Params}
 use Rattle.pbft_wire.specs.declared.messages.Message.TheVariants.{Commit, NewView, PrePrepare, Prepare, ViewChange}
-use Rattle.pbft_wire.specs.declared.messages.Vote.{Vote}
+use Rattle.iss_sb.specs.declared.signers.Signed.{Signed}
 use Rattle.pbft_views.specs.Good.{primary}
 use Rattle.pbft_views.specs.Laws.{nodes_of}
 use Rattle.pbft_views.proofs.Numbers.{apart-cons, mem-cases}
@@ -99,32 +99,32 @@ commit-of-is p (i ∷ l) v s k b h = elim (first-cases (commit_of p l v s k) (co
 
 -- ---- who voted for a digest
 
-pub record IsVoted (g : ℕ → Option Ballot) (d : List ℕ) (k m : ℕ) (x : Vote) : Type 0 where
+pub record IsVoted (g : ℕ → Option Ballot) (d : List ℕ) (k m : ℕ) (x : Signed) : Type 0 where
   pub ballot : Ballot
-  pub kept : g x.node.0 ≡ Some ballot
+  pub kept : g x.by.0 ≡ Some ballot
   pub digest : ballot.digest ≡ d
   pub sig : ballot.sig ≡ x.sig
-  pub low : k ≤ x.node.0
-  pub high : x.node.0 < k + m
+  pub low : k ≤ x.by.0
+  pub high : x.by.0 < k + m
 
-voted-more : (g : ℕ → Option Ballot) (d : List ℕ) (k m : ℕ) (x : Vote) → IsVoted g d (suc k) m x → IsVoted g d k (suc m) x
+voted-more : (g : ℕ → Option Ballot) (d : List ℕ) (k m : ℕ) (x : Signed) → IsVoted g d (suc k) m x → IsVoted g d k (suc m) x
 voted-more g d k m x a =
     let l = a.low in
     let h = a.high in
     record { ballot = a.ballot; kept = a.kept; digest = a.digest; sig = a.sig; low = omega (arith, l); high = omega (arith, h) }
 
-pub in-voters : (g : ℕ → Option Ballot) (d : List ℕ) (k m : ℕ) (x : Vote) → In x (voters g d k m) → IsVoted g d k m x
+pub in-voters : (g : ℕ → Option Ballot) (d : List ℕ) (k m : ℕ) (x : Signed) → In x (voters g d k m) → IsVoted g d k m x
 in-voters g d k zero x h = absurd h
 in-voters g d k (suc m) x h = go (in-voters g d (suc k) m x) (g k) refl h
   where
-    vote : List ℕ → Vote
-    vote sig = record { node = record { 0 = k }; sig = sig }
+    vote : List ℕ → Signed
+    vote sig = record { by = record { 0 = k }; sig = sig }
 
     with_it : (In x (voters g d (suc k) m) → IsVoted g d (suc k) m x) → (b : Ballot) → g k ≡ Some b → (t : Bool) → same_bytes d b.digest ≡ t → In x (cond t (vote b.sig ∷ voters g d (suc k) m) (voters g d (suc k) m)) → IsVoted g d k (suc m) x
     with_it r b e false q i = voted-more g d k m x (r i)
     with_it r b e true q (inl i) =
-        let n : x.node.0 ≡ k = ap (λ (z : Vote). z.node.0) i in
-        record { ballot = b; kept = ap g n ∙ e; digest = sym (same_bytes-is d b.digest q); sig = sym (ap (λ (z : Vote). z.sig) i); low = omega (arith, n); high = omega (arith, n) }
+        let n : x.by.0 ≡ k = ap (λ (z : Signed). z.by.0) i in
+        record { ballot = b; kept = ap g n ∙ e; digest = sym (same_bytes-is d b.digest q); sig = sym (ap (λ (z : Signed). z.sig) i); low = omega (arith, n); high = omega (arith, n) }
     with_it r b e true q (inr i) = voted-more g d k m x (r i)
 
     go : (In x (voters g d (suc k) m) → IsVoted g d (suc k) m x) → (o : Option Ballot) → g k ≡ o → In x (cons_vote d k o (voters g d (suc k) m)) → IsVoted g d k (suc m) x
@@ -132,9 +132,9 @@ in-voters g d k (suc m) x h = go (in-voters g d (suc k) m x) (g k) refl h
     go r (Some b) e i = with_it r b e (same_bytes d b.digest) refl i
 
 -- whoever is named voted
-pub node-vote : (j : ℕ) (xs : List Vote) → mem j (nodes_of xs) ≡ true → (x : Vote) × In x xs × (x.node.0 ≡ j)
+pub node-vote : (j : ℕ) (xs : List Signed) → mem j (nodes_of xs) ≡ true → (x : Signed) × In x xs × (x.by.0 ≡ j)
 node-vote j [] h = absurd (false≢true h)
-node-vote j (x ∷ xs) h = elim (mem-cases j x.node.0 (nodes_of xs) h) [
+node-vote j (x ∷ xs) h = elim (mem-cases j x.by.0 (nodes_of xs) h) [
   | inl e ↦ (x, inl refl, sym e)
   | inr m ↦ let r = node-vote j xs m in (r.0, inr r.1, r.2)
 ]
@@ -150,7 +150,7 @@ voters-apart g d k (suc m) = go (voters-apart g d (suc k) m) (g k)
         let e = r.2 in
         absurd (omega (arith, l, e))
 
-    with_it : distinct (nodes_of (voters g d (suc k) m)) ≡ true → (sig : List ℕ) (t : Bool) → distinct (nodes_of (cond t (record { node = record { 0 = k }; sig = sig } ∷ voters g d (suc k) m) (voters g d (suc k) m))) ≡ true
+    with_it : distinct (nodes_of (voters g d (suc k) m)) ≡ true → (sig : List ℕ) (t : Bool) → distinct (nodes_of (cond t (record { by = record { 0 = k }; sig = sig } ∷ voters g d (suc k) m) (voters g d (suc k) m))) ≡ true
     with_it r sig false = r
     with_it r sig true = apart-cons k (nodes_of (voters g d (suc k) m)) fresh r
 

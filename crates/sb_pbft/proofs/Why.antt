@@ -34,7 +34,7 @@ commit-proposed p me (x ∷ xs) v s d h = elim (in_append (DraftCommit v s d) (d
       let r = commit-rule p me xs x.input v s d (rule-of p me xs x.input (DraftCommit v s d) k) in
       let l : List Said = x.input ∷ inputs xs in
       let a = (ready-is p me l (kept p me xs) s.0 r.value r.ready).prepared.proposed in
-      record { value = r.value; refines = subst (λ (z : ℕ). proposal p me l z s.0 ≡ Some r.value) (sym r.view) a; digest = sym r.digest }
+      record { value = r.value; stands = subst (λ (z : ℕ). proposal p me l z s.0 ≡ Some r.value) (sym r.view) a; digest = sym r.digest }
   | inr k ↦ proposed-on p me (inputs xs) x.input v s.0 d (commit-proposed p me xs v s d k)
 ]
 
@@ -78,7 +78,7 @@ first-proposed p me [] s x h = absurd h
 first-proposed p me (y ∷ ys) s x h = elim (in_append (DraftPrePrepare s x) (drafts p me ys y.input) (drafted p me ys) h) [
   | inl k ↦
       let r = first-of-rule p me ys y.input s x (rule-of p me ys y.input (DraftPrePrepare s x) k) in
-      record { value = Value_batch r.batch; refines = proposed-offer p me (inputs ys) y.input (s, r.batch) r.asked; digest = ap (digest_of p) (sym r.value) }
+      record { value = Value_batch r.batch; stands = proposed-offer p me (inputs ys) y.input (s, r.batch) r.asked; digest = ap (digest_of p) (sym r.value) }
   | inr k ↦ proposed-on p me (inputs ys) y.input 0 s.0 (digest_of p x) (first-proposed p me ys s x k)
 ]
 

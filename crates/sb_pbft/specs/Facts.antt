@@ -1,4 +1,7 @@
--- What holds of a world of PBFT that moves lead to: the facts that agreement stands on. Of a faulty node nothing is known.
+-- Facts about every reached world of PBFT, from which agreement follows. A correct replica signs one PrePrepare,
+-- Prepare and Commit per view and slot. Its ViewChange shows a certificate for each slot that it committed. A new view
+-- proposes the choice of 2f+1 ViewChanges. So from a decided view on, good certificates have its digest. Nothing is
+-- known about Byzantine replicas.
 use Rattle.std.specs.Prelude.{◌≡◌, ◌<◌, ◌≤◌, ℕ, ◌+◌, ◌*◌, true, List, ◌∷◌, length, Some}
 use Rattle.iss_base.specs.Lists.{In}
 use Rattle.iss_base.specs.Quorum.{all_below, distinct, mem}
@@ -44,7 +47,7 @@ AreQuiet p w = (i v c : ℕ) (x y : Item Message) (before : List (Item Message))
 -- a certificate of the slot, of this view or a higher one
 pub record Shows (cs : List Certificate) (s v : ℕ) : Type 0 where
   pub certificate : Certificate
-  pub refines : In certificate cs
+  pub stands : In certificate cs
   pub slot : certificate.slot.0 ≡ s
   pub high : v ≤ certificate.view
 

@@ -1,8 +1,11 @@
--- PBFT as a module.
+-- PBFT as a module (Castro and Liskov, 1999): 3f+1 replicas of which f may be Byzantine. A slot is decided in any
+-- view, the lowest if there are several.
 use Rattle.std.specs.Prelude.{ℕ, ◌+◌, ◌*◌, false, List, length, Option}
 use Rattle.iss_request.specs.declared.ids.Slot.{Slot}
 use Rattle.iss_request.specs.declared.requests.Batch.{Batch}
 use Rattle.iss_request.specs.declared.requests.Value.{Value}
+use Rattle.iss_request.specs.Setup.{nodes_of_kind, quorum_of_kind}
+use Rattle.iss_request.specs.declared.setups.Kind.TheVariants.{Byzantine}
 use Rattle.iss_sb.specs.declared.effects.Input.{Input}
 use Rattle.iss_sb.specs.declared.effects.Params.{Params}
 use Rattle.iss_sb.specs.Evidence.{Item, Module}
@@ -23,8 +26,8 @@ decided p me xs s = lowest (λ v. committed p me (inputs xs) v s) (mode p (input
 -- f Byzantine nodes of 3f+1. A NewView signs for each slot and for itself, and a Commit may stand beside each
 abbrev pub pbft : Module Message
 pbft = record {
-  nodes = λ f. 3 * f + 1;
-  quorum = λ f. 2 * f + 1;
+  nodes = nodes_of_kind Byzantine;
+  quorum = quorum_of_kind Byzantine;
   stopping = false;
   tag = tag;
   signs = λ p. 2 * length p.slots + 1;

@@ -1,4 +1,5 @@
--- What the code's tables hold at a place.
+-- What the code's tables hold at a place: proposals by view and slot, votes by node too, ViewChanges by view and node,
+-- and each slot's highest certificate.
 use Rattle.std.specs.Prelude.{ℕ, Bool, false, List, [], Option, Some, None}
 use Rattle.std.specs.BTreeMap.{get}
 use Rattle.std.specs.Ordering.{nat_cmp}
@@ -6,12 +7,12 @@ use Rattle.std.specs.declared.cmp.Ordering.{Ordering}
 use Rattle.iss_base.specs.Lists.{same_bytes}
 use Rattle.pbft_wire.specs.declared.messages.Certificate.{Certificate}
 use Rattle.pbft_wire.specs.declared.messages.Change.{Change}
-use Rattle.sb_pbft.specs.declared.changes.ViewChanges.{ViewChanges}
-use Rattle.sb_pbft.specs.declared.changes.Maker.{Maker}
+use Rattle.sb_pbft.specs.declared.view_changes.ViewChanges.{ViewChanges}
+use Rattle.sb_pbft.specs.declared.view_changes.Maker.{Maker}
 use Rattle.sb_pbft.specs.declared.proposals.Place.{Place}
 use Rattle.sb_pbft.specs.declared.proposals.Proposal.{Proposal}
 use Rattle.sb_pbft.specs.declared.proposals.Proposals.{Proposals}
-use Rattle.sb_pbft.specs.declared.tops.PreparedCertificates.{PreparedCertificates}
+use Rattle.sb_pbft.specs.declared.prepared.PreparedCertificates.{PreparedCertificates}
 use Rattle.sb_pbft.specs.declared.tallies.Mark.{Mark}
 use Rattle.sb_pbft.specs.declared.tallies.Voted.{Voted}
 use Rattle.sb_pbft.specs.declared.tallies.Votes.{Votes}

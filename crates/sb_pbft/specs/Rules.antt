@@ -1,5 +1,7 @@
--- What a node makes of its inputs, as functions of their list, the newest first: its view, its proposals, the votes
--- and ViewChanges that it keeps.
+-- PBFT's rules as functions of the list of inputs, newest first: the view and whether it is active, the proposal at a
+-- view and slot, and the first Prepare, Commit and ViewChange of each replica. A slot is prepared with Prepares of 2f
+-- replicas other than the primary, and committed with Commits of 2f+1. A NewView is due with the (2f+1)-th good
+-- ViewChange.
 use Rattle.std.specs.Prelude.{ℕ, zero, suc, ◌+◌, ◌*◌, ◌==◌, ◌&&◌, ◌||◌, Bool, true, false, not, cond, nat_lt, nat_le, List, [], ◌∷◌, length, Option, Some, None}
 use Rattle.iss_base.specs.Lists.{first_of, same_bytes}
 use Rattle.iss_request.specs.declared.ids.Slot.{Slot}
@@ -11,7 +13,7 @@ use Rattle.iss_sb.specs.declared.effects.Input.TheVariants.{Cast, Receive, Timeo
 use Rattle.iss_sb.specs.declared.effects.Params.{Params}
 use Rattle.iss_sb.specs.Calls.{has_slot}
 use Rattle.pbft_wire.specs.declared.messages.Change.{Change}
-use Rattle.pbft_wire.specs.declared.messages.Vote.{Vote}
+use Rattle.iss_sb.specs.declared.signers.Signed.{Signed}
 use Rattle.pbft_wire.specs.declared.messages.Message.{Message}
 use Rattle.pbft_wire.specs.declared.messages.Message.TheVariants.{PrePrepare, Prepare, Commit, ViewChange, NewView}
 use Rattle.pbft_wire.specs.Statements.{digest_of}
@@ -33,6 +35,7 @@ abbrev pub is_newer : Mode → ℕ → Bool
 is_newer m v = nat_lt m.view v || ((m.view == v) && not m.active)
 
 -- where a NewView is taken: of the primary of a newer view, with 2f+1 ViewChanges and a signature for each slot
+-- rule: PBFT: A replica enters a view above its own, or its inactive own one, by the primary's NewView
 abbrev pub enters : Params → Mode → ℕ → ℕ → List Change → List (List ℕ) → Bool
 enters p m from v xs sigs = is_newer m v && (are_enough p v xs && ((from == primary p v) && (nat_lt 0 v && (length sigs == length p.slots))))
 
@@ -56,11 +59,13 @@ mode p (i ∷ l) = mode_after p (mode p l) i
 -- ---- proposals
 
 -- view 0, active, and a slot of the segment
+-- rule: PBFT: A replica takes a batch for a slot once, in view 0 while that is active
 abbrev pub is_open : Params → Mode → ℕ → Bool
 is_open p m s = (m.view == 0) && (m.active && has_slot s p.slots)
 
 -- what an input proposes in view 0, but for that there may be a proposal already: the leader's cast, and its PrePrepare
 -- of a batch
+-- rule: PBFT: The leader alone casts, and replicas take a batch from the leader alone
 abbrev pub offer : Params → ℕ → Mode → Input Message → Option (Slot × Batch)
 offer p me m (Cast slot batch) = when ((me == p.leader.0) && is_open p m slot.0) (slot, batch)
 offer p me m (Receive from (PrePrepare v slot Nil sig)) = None
@@ -125,6 +130,8 @@ prepare_in p (Receive from (ViewChange w cs sig)) v s k = None
 prepare_in p (Receive from (NewView w xs sigs sig)) v s k = None
 prepare_in p Timeout v s k = None
 
+-- rule: PBFT: A replica's first Prepare and first Commit count, once a view and slot
+-- rule: PBFT: A Prepare of the primary does not count
 abbrev pub prepare_of : Params → List (Input Message) → ℕ → ℕ → ℕ → Option Ballot
 prepare_of p [] v s k = None
 prepare_of p (i ∷ l) v s k = first_of (prepare_of p l v s k) (prepare_in p i v s k)
@@ -143,19 +150,19 @@ commit_of p [] v s k = None
 commit_of p (i ∷ l) v s k = first_of (commit_of p l v s k) (commit_in p i v s k)
 
 -- the vote of node k put in front, if it is for the digest
-abbrev pub cons_vote : List ℕ → ℕ → Option Ballot → List Vote → List Vote
+abbrev pub cons_vote : List ℕ → ℕ → Option Ballot → List Signed → List Signed
 cons_vote d k None xs = xs
-cons_vote d k (Some b) xs = cond (same_bytes d b.digest) (record { node = record { 0 = k }; sig = b.sig } ∷ xs) xs
+cons_vote d k (Some b) xs = cond (same_bytes d b.digest) (record { by = record { 0 = k }; sig = b.sig } ∷ xs) xs
 
 -- of the m nodes from k on those that voted for the digest
-abbrev pub voters : (ℕ → Option Ballot) → List ℕ → ℕ → ℕ → List Vote
+abbrev pub voters : (ℕ → Option Ballot) → List ℕ → ℕ → ℕ → List Signed
 voters g d k zero = []
 voters g d k (suc m) = cons_vote d k (g k) (voters g d (suc k) m)
 
-abbrev pub prepares : Params → List (Input Message) → ℕ → ℕ → List ℕ → List Vote
+abbrev pub prepares : Params → List (Input Message) → ℕ → ℕ → List ℕ → List Signed
 prepares p l v s d = voters (prepare_of p l v s) d 0 p.setup.n
 
-abbrev pub commits : Params → List (Input Message) → ℕ → ℕ → List ℕ → List Vote
+abbrev pub commits : Params → List (Input Message) → ℕ → ℕ → List ℕ → List Signed
 commits p l v s d = voters (commit_of p l v s) d 0 p.setup.n
 
 -- the value of the proposal with Prepares of 2f different nodes other than the primary
@@ -192,6 +199,7 @@ change_in p (Receive from (ViewChange w cs sig)) v k =
 change_in p (Receive from (NewView w xs sigs sig)) v k = None
 change_in p Timeout v k = None
 
+-- rule: PBFT: A replica's first good ViewChange of a view is kept
 abbrev pub change_of : Params → List (Input Message) → ℕ → ℕ → Option Change
 change_of p [] v k = None
 change_of p (i ∷ l) v k = first_of (change_of p l v k) (change_in p i v k)

@@ -1,4 +1,5 @@
--- What a node holds, and what an input makes of it.
+-- PBFT's rules once more, as functions of what a replica holds and not of the whole list. A theorem ties both: what is
+-- held after an input, and what is sent, are what the list's functions say.
 use Rattle.std.specs.Prelude.{◌≡◌, ℕ, ◌+◌, ◌*◌, ◌==◌, ◌&&◌, ◌||◌, Bool, true, false, not, cond, nat_lt, nat_le, List, [], ◌∷◌, ◌++◌, length, take}
 use Rattle.std.specs.Prelude.{Option, Some, None, is_some}
 use Rattle.iss_base.specs.Lists.{first_of, set_at, set_at2}
@@ -81,6 +82,7 @@ is_of v None = false
 is_of v (Some c) = v == c.view
 
 -- what is prepared in the own view and was not committed to there
+-- rule: PBFT: A replica commits once a view and slot to what 2f distinct replicas prepared
 abbrev pub ready_at : Params → Held → ℕ → Option Proposal
 ready_at p h s = cond (h.mode.active && not (is_of h.mode.view (h.top s))) (prepared_at p h h.mode.view s) None
 
@@ -95,6 +97,7 @@ certificate_of p h slot (Some q) = Some (record {
 })
 
 -- committed in this view, and not delivered before
+-- rule: PBFT: A slot is delivered once, when 2f+1 distinct replicas committed it in one view
 abbrev pub newly_at : Params → Held → ℕ → ℕ → Option Proposal
 newly_at p h v s = cond (h.done s) None (committed_at p h v s)
 
@@ -200,6 +203,7 @@ abbrev pub changes_at : Params → Held → ℕ → List Change
 changes_at p h v = changes_from (h.change v) 0 p.setup.n
 
 -- whether they become enough between the two, at the primary
+-- rule: PBFT: The primary sends a NewView once, with the ViewChange that makes 2f+1
 abbrev pub completes_at : Params → ℕ → Held → Held → ℕ → Bool
 completes_at p me h u v =
     ((me == primary p v) && nat_le h.mode.view v) &&
@@ -232,6 +236,7 @@ abbrev pub tops_of : (ℕ → Option Certificate) → List Slot → List Certifi
 tops_of top [] = []
 tops_of top (s ∷ ss) = cons_some (top s.0) (tops_of top ss)
 
+-- rule: PBFT: A timeout leaves the view and sends each slot's certificate of the highest view
 abbrev pub gives_up : Params → Held → Turn
 gives_up p h = record (idle (record h { mode = record { view = h.mode.view + 1; active = false } })) {
   drafts = DraftViewChange (h.mode.view + 1) (tops_of h.top p.slots) ∷ [];

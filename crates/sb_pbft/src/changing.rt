@@ -109,6 +109,7 @@ impl Pbft {
     // ---- ViewChanges, and the NewView of the primary for which they are enough
 
     // Whether a ViewChange is kept: its node's first that is good.
+    // rule: PBFT: A replica's first good ViewChange of a view is kept
     fn keeps(&self, p: &Params, change: &Change) -> bool
         requires { IsGoodParams pbft p.now }
         ensures { result ≡ (all_good p.now change.now.view change.now.certificates &&
@@ -129,6 +130,7 @@ impl Pbft {
     }
 
     // The NewView of the ViewChanges that are kept, where it is due.
+    // rule: PBFT: The primary sends a NewView once, with the ViewChange that makes 2f+1
     fn renew(
         &self,
         alloc: Global,
@@ -185,6 +187,7 @@ impl Pbft {
     }
 
     // Whether a NewView is taken.
+    // rule: PBFT: A replica enters a view above its own, or its inactive own one, by the primary's NewView
     fn enters(
         &self,
         p: &Params,
@@ -250,6 +253,7 @@ impl Pbft {
         self.view < u16::MAX
     }
 
+    // rule: PBFT: A timeout leaves the view and sends each slot's certificate of the highest view
     pub(crate) fn time_out(
         &mut self,
         alloc: Global,

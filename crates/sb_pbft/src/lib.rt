@@ -2,17 +2,17 @@
 //! Byzantine Fault Tolerance"; ISS, "Sequenced Broadcast").
 #![tactic(auto)]
 
-pub mod changes;
 pub mod changing;
 pub mod facts;
 pub mod laws;
 pub mod pbft;
+pub mod prepared;
 pub mod proposals;
 pub mod proposing;
 pub mod sending;
 pub mod settling;
 pub mod tallies;
-pub mod tops;
+pub mod view_changes;
 pub mod voting;
 
 pub use facts::{

@@ -1,18 +1,21 @@
 //! A node's part in an instance of PBFT, and that PBFT is an ordering module.
 ghost use Rattle.std.specs.Prelude.{◌≡◌, ◌≤◌, ◌*◌, ◌+◌, ℕ, List, length, IfOk};
 ghost use Rattle.iss_keys.specs.KeyStates.{left_of};
-ghost use Rattle.iss_sb.specs.Calls.{IsGoodInput, IsGoodParams, IsStep, named};
+ghost use Rattle.iss_sb.specs.Calls.{IsGoodInput, IsGoodParams, IsTrueStep, named};
 ghost use Rattle.iss_sb.specs.Evidence.{Item};
 ghost use Rattle.sb_pbft.specs.Pbft.{asks, pbft};
 ghost use Rattle.sb_pbft.specs.Refines.{Does, Refines};
 
-use crate::changes::ViewChanges;
+use crate::prepared::PreparedCertificates;
 use crate::proposals::Proposals;
 use crate::tallies::Votes;
-use crate::tops::PreparedCertificates;
+use crate::view_changes::ViewChanges;
 use iss_keys::Keys;
-use iss_request::{Batch, Bytes, DecodeError, Fields, NoMemory, NodeId, Seq, Slot, Value, Writer};
-use iss_sb::{Claim, Effects, Input, Params, Sequenced, StepError};
+use iss_request::{
+    Batch, Bytes, DecodeError, Fields, Kind, NoMemory, NodeId, Seq, Slot, Value, Writer,
+    nodes_of_kind, quorum,
+};
+use iss_sb::{Claim, Effects, Input, Params, Sequenced, asks_if};
 use pbft_wire::{Change, Message};
 use std::alloc::Global;
 use std::collections::BTreeSet;
@@ -165,11 +168,11 @@ impl Sequenced for Pbft {
     ghost refines = { Refines };
 
     fn nodes_of(f: u32) -> u32 {
-        3 * f + 1
+        nodes_of_kind(Kind::Byzantine, f)
     }
 
     fn quorum_of(f: u32) -> u32 {
-        2 * f + 1
+        quorum(Kind::Byzantine, f)
     }
 
     fn signs(p: &Params) -> u32 {
@@ -202,40 +205,28 @@ impl Sequenced for Pbft {
 
     fn asks<'a>(&'a self, p: &Params, i: &'a Input<Message>) -> Option<(Slot, &'a Batch)> {
         match i {
-            Input::Cast { slot, batch } => {
-                if self.may_cast(p, *slot) {
-                    Some((*slot, batch))
-                } else {
-                    None
-                }
-            }
+            Input::Cast { slot, batch } => asks_if(self.may_cast(p, *slot), *slot, batch),
             Input::Receive { from, msg } => self.offers(p, *from, msg),
             Input::Timeout => None,
         }
     }
 
-    fn step(
+    fn apply(
         &mut self,
         alloc: Global,
         p: &Params,
         i: Input<Message>,
-        verdict: bool,
         keys: &mut Keys,
-    ) -> Result<Effects<Message>, StepError>
+    ) -> Result<Effects<Message>, NoMemory>
         requires good { IsGoodParams pbft p.now }
         requires input { IsGoodInput p.now i }
-        ensures { IsStep pbft Refines p.now self.old self.new i verdict keys.old keys.new result }
+        requires enough { pbft.signs p.now ≤ left_of keys.old }
+        ensures { IfOk result (λ e. IsTrueStep pbft Refines p.now self.old self.new i keys.old keys.new e) }
     {
-        if keys.left() < most_leaves(p) {
-            return Err(StepError::Spent);
-        }
-        if !verdict {
-            return Ok(Effects::nothing(alloc));
-        }
         match i {
-            Input::Cast { slot, batch } => Ok(self.cast(alloc, p, slot, batch, keys)?),
-            Input::Receive { from, msg } => Ok(self.receive(alloc, p, from, msg, keys)?),
-            Input::Timeout => Ok(self.time_out(alloc, p, keys)?),
+            Input::Cast { slot, batch } => self.cast(alloc, p, slot, batch, keys),
+            Input::Receive { from, msg } => self.receive(alloc, p, from, msg, keys),
+            Input::Timeout => self.time_out(alloc, p, keys),
         }
     }
 

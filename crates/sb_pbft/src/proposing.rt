@@ -36,6 +36,7 @@ fn accept(
 
 impl Pbft {
     // Whether a batch may be taken at the slot: view 0 stands, and has no proposal there.
+    // rule: PBFT: A replica takes a batch for a slot once, in view 0 while that is active
     fn is_free(&self, p: &Params, slot: Slot) -> bool
         ensures { result ≡ is_free p.now (held self.now) slot.0 }
     {
@@ -50,6 +51,7 @@ impl Pbft {
     }
 
     /// Whether a PrePrepare of a batch may be taken: the leader's, in view 0.
+    // rule: PBFT: The leader alone casts, and replicas take a batch from the leader alone
     pub(crate) fn may_take(&self, p: &Params, from: NodeId, view: u16, slot: Slot) -> bool
         ensures { result ≡ may_take p.now self.now from.0 view slot.0 }
     {

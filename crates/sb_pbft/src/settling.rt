@@ -45,6 +45,7 @@ impl Pbft {
     }
 
     // Whether a Commit is due in the own view.
+    // rule: PBFT: A replica commits once a view and slot to what 2f distinct replicas prepared
     fn is_ready(&self, p: &Params, slot: Slot) -> bool
         requires { IsGoodParams pbft p.now }
         ensures { result ≡ is_some (ready_at p.now (held self.now) slot.0) }
@@ -53,6 +54,7 @@ impl Pbft {
     }
 
     // Whether what is committed in the view is to be delivered.
+    // rule: PBFT: A slot is delivered once, when 2f+1 distinct replicas committed it in one view
     fn is_new(&self, p: &Params, view: u16, slot: Slot) -> bool
         requires { IsGoodParams pbft p.now }
         ensures { result ≡ is_some (newly_at p.now (held self.now) view slot.0) }
@@ -158,6 +160,7 @@ impl Pbft {
     }
 
     // Delivers what is to be delivered of the view at the slot.
+    // rule: Modules: A step delivers exactly what the module's definition delivers
     fn deliver_committed(
         &mut self,
         p: &Params,

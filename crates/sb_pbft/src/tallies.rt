@@ -5,7 +5,7 @@ ghost use Rattle.sb_pbft.specs.Rules.{Ballot, is_at, voters, when};
 ghost use Rattle.sb_pbft.specs.Places.{has_voted, signature_in, vote_at};
 
 use iss_request::{Bytes, NoMemory, NodeId, Seq, Slot};
-use pbft_wire::Vote;
+use iss_sb::Signed;
 use std::alloc::Global;
 use std::collections::BTreeMap;
 
@@ -41,6 +41,7 @@ impl Votes {
     }
 
     /// Keeps a node's vote, if it is the node's first there.
+    // rule: PBFT: A replica's first Prepare and first Commit count, once a view and slot
     pub fn keep(
         &mut self,
         view: u16,
@@ -116,15 +117,15 @@ impl Votes {
         digest: &[u8; 32],
         n: u8,
         most: u32,
-    ) -> Result<Seq<Vote>, NoMemory>
+    ) -> Result<Seq<Signed>, NoMemory>
         ensures { IfOk result (λ votes. votes ≡ take most (voters (vote_at self.now view slot.0) digest.now 0 n)) }
     {
         let mut votes = Seq::new(alloc);
         for node in 0..n {
             if votes.len() < most as usize && self.has_voted(view, slot, digest, node) {
                 let sig = self.signature(alloc, view, slot, node)?;
-                votes.push(Vote {
-                    node: NodeId(node),
+                votes.push(Signed {
+                    by: NodeId(node),
                     sig,
                 })?;
             }

@@ -15,6 +15,7 @@ use pbft_wire::Message;
 use std::alloc::Global;
 
 // Whether a node's Prepare counts: at a slot of the segment, and not the primary's own.
+// rule: PBFT: A Prepare of the primary does not count
 fn counts(p: &Params, from: NodeId, view: u16, slot: Slot) -> bool
     requires { IsGoodParams pbft p.now }
     ensures { result ≡ (has_slot slot.0 p.now.slots && not (from.0 == primary p.now view)) }

@@ -16,7 +16,7 @@ use Rattle.raft_wire.specs.declared.messages.Message.TheVariants.{Append, Reply,
 use Rattle.sb_raft.specs.Committed.{another_answered, has_answered, is_answer, leads_term}
 use Rattle.sb_raft.specs.Raft.{raft_log, state}
 use Rattle.sb_raft.specs.Rules.{Role, Follower, Candidate, Leader, State, Step, advanced, is_leader, on_ok, on_reply, quiet, raised}
-use Rattle.sb_raft.proofs.Effects.{Turn, follows, refines, runs, rules, wins, wins_alone, term_level, turn}
+use Rattle.sb_raft.proofs.Effects.{Turn, follows, stands, runs, rules, wins, wins_alone, term_level, turn}
 use Rattle.sb_raft.proofs.Histories.{LeadIn, cand_never, lead_here, lead_term}
 use Rattle.sb_raft.proofs.Steps.{Raise, leader_is, level, higher, next, up, advanced-state, with_match, Handled, none, down, copy, reply, back, grant, voted, win, casts, times, alone, Next, next_cases}
 
@@ -215,7 +215,7 @@ module _ (p : Params) (me : ℕ) where
     where
       old : ((state p me xs).role ≡ Leader → not (k == me) ≡ true → has_answered p me (state p me xs).term i xs k ≡ true → i ≤ (state p me xs).matched k) → (m : List Entry) × LeadIn p me xs (state p me (x ∷ xs)).term m → has_answered p me (state p me (x ∷ xs)).term i xs k ≡ true → Turn p me (state p me xs) x.input (state p me (x ∷ xs)) → i ≤ (state p me (x ∷ xs)).matched k
       old ih l a (follows e) = no-role (state p me (x ∷ xs)).role Follower Leader _ e r refl refl
-      old ih l a (refines e b c d f) = no-role (state p me (x ∷ xs)).role Candidate Leader _ e r refl refl
+      old ih l a (stands e b c d f) = no-role (state p me (x ∷ xs)).role Candidate Leader _ e r refl refl
       old ih l a (runs e b c d f) = no-role (state p me (x ∷ xs)).role Candidate Leader _ e r refl refl
       old ih l a (rules e b c own f g o) =
           let before = ih b ne (subst (λ (z : ℕ). has_answered p me z i xs k ≡ true) (sym c) a) in

@@ -9,10 +9,11 @@ use Rattle.iss_sb.specs.declared.effects.Params.{Params}
 use Rattle.iss_sb.specs.Evidence.{Item, World}
 use Rattle.iss_base.proofs.Lists.{in_append}
 use Rattle.raft_wire.specs.declared.entries.Entry.{Entry}
-use Rattle.raft_wire.specs.declared.entries.What.{What}
-use Rattle.raft_wire.specs.declared.entries.What.TheVariants.{Nil, Holds, Mark}
+use Rattle.iss_sb.specs.declared.content.Content.{Content}
+use Rattle.iss_sb.specs.declared.content.Content.TheVariants.{Nil, Holds, Mark}
 use Rattle.raft_wire.specs.declared.messages.Message.{Message}
-use Rattle.sb_raft.specs.Raft.{state, value_at}
+use Rattle.iss_sb.specs.Paired.{value_with}
+use Rattle.sb_raft.specs.Raft.{state}
 use Rattle.sb_raft.specs.Rules.{Role, Follower, Candidate, Leader, State, candidate, filling}
 use Rattle.sb_raft.specs.Logs.{content, contents, filled, nils}
 use Rattle.iss_sb.specs.Legal.{Front}
@@ -26,7 +27,7 @@ use Rattle.sb_raft.proofs.Elections.{LeadOf, histories, mom, older, front_tail, 
 
 -- ---- the place of a value
 
-pub record Refines (s : ℕ) (slots : List Slot) (b : Batch) (log : List Entry) : Type 0 where
+pub record Stands (s : ℕ) (slots : List Slot) (b : Batch) (log : List Entry) : Type 0 where
   pub front : List Entry
   pub entry : Entry
   pub rest : List Entry
@@ -42,35 +43,35 @@ batch-is a b h = cc
 no-nil : (b : Batch) (A : Type 0) → Some Value_nil ≡ Some (Value_batch b) → A
 no-nil b A h = absurd cc
 
-pub refines : (s : ℕ) (slots : List Slot) (b : Batch) (log : List Entry) → value_at s slots (contents log) ≡ Some (Value_batch b) → Refines s slots b log
-refines s [] b [] h = absurd cc
-refines s (t ∷ ts) b [] h = absurd cc
-refines s slots b (e ∷ es) h = go e.what refl slots (λ ts k. refines s ts b es k) h
+pub stands : (s : ℕ) (slots : List Slot) (b : Batch) (log : List Entry) → value_with s slots (contents log) ≡ Some (Value_batch b) → Stands s slots b log
+stands s [] b [] h = absurd cc
+stands s (t ∷ ts) b [] h = absurd cc
+stands s slots b (e ∷ es) h = go e.what refl slots (λ ts k. stands s ts b es k) h
   where
-    go : (w : What) → e.what ≡ w → (slots : List Slot) → ((ts : List Slot) → value_at s ts (contents es) ≡ Some (Value_batch b) → Refines s ts b es) → value_at s slots (content w ++ contents es) ≡ Some (Value_batch b) → Refines s slots b (e ∷ es)
+    go : (w : Content) → e.what ≡ w → (slots : List Slot) → ((ts : List Slot) → value_with s ts (contents es) ≡ Some (Value_batch b) → Stands s ts b es) → value_with s slots (content w ++ contents es) ≡ Some (Value_batch b) → Stands s slots b (e ∷ es)
     go Mark q slots rec h =
         let r = rec slots h in
-        record { front = e ∷ r.front; entry = r.entry; rest = r.rest; is = ap (λ (z : List Entry). e ∷ z) r.is; holds = r.holds; slot = r.slot; place = subst (λ (z : What). nth slots (length (content z ++ contents r.front)) ≡ Some r.slot) (sym q) r.place; same = r.same }
+        record { front = e ∷ r.front; entry = r.entry; rest = r.rest; is = ap (λ (z : List Entry). e ∷ z) r.is; holds = r.holds; slot = r.slot; place = subst (λ (z : Content). nth slots (length (content z ++ contents r.front)) ≡ Some r.slot) (sym q) r.place; same = r.same }
     go Nil q [] rec h = absurd cc
     go Nil q (t ∷ ts) rec h = by (t.0 == s) h
       where
-        by : (c : Bool) → (if c then Some Value_nil else value_at s ts (contents es)) ≡ Some (Value_batch b) → Refines s (t ∷ ts) b (e ∷ es)
+        by : (c : Bool) → (if c then Some Value_nil else value_with s ts (contents es)) ≡ Some (Value_batch b) → Stands s (t ∷ ts) b (e ∷ es)
         by true h = no-nil b _ h
         by false h =
             let r = rec ts h in
-            record { front = e ∷ r.front; entry = r.entry; rest = r.rest; is = ap (λ (z : List Entry). e ∷ z) r.is; holds = r.holds; slot = r.slot; place = subst (λ (z : What). nth (t ∷ ts) (length (content z ++ contents r.front)) ≡ Some r.slot) (sym q) r.place; same = r.same }
+            record { front = e ∷ r.front; entry = r.entry; rest = r.rest; is = ap (λ (z : List Entry). e ∷ z) r.is; holds = r.holds; slot = r.slot; place = subst (λ (z : Content). nth (t ∷ ts) (length (content z ++ contents r.front)) ≡ Some r.slot) (sym q) r.place; same = r.same }
     go (Holds a) q [] rec h = absurd cc
     go (Holds a) q (t ∷ ts) rec h = by (t.0 == s) refl h
       where
-        by : (c : Bool) → (t.0 == s) ≡ c → (if c then Some (Value_batch a) else value_at s ts (contents es)) ≡ Some (Value_batch b) → Refines s (t ∷ ts) b (e ∷ es)
+        by : (c : Bool) → (t.0 == s) ≡ c → (if c then Some (Value_batch a) else value_with s ts (contents es)) ≡ Some (Value_batch b) → Stands s (t ∷ ts) b (e ∷ es)
         by true k h = record { front = []; entry = e; rest = es; is = refl; holds = q ∙ ap (λ (z : Batch). Holds z) (batch-is a b h); slot = t; place = refl; same = eqb-true t.0 s k }
         by false k h =
             let r = rec ts h in
-            record { front = e ∷ r.front; entry = r.entry; rest = r.rest; is = ap (λ (z : List Entry). e ∷ z) r.is; holds = r.holds; slot = r.slot; place = subst (λ (z : What). nth (t ∷ ts) (length (content z ++ contents r.front)) ≡ Some r.slot) (sym q) r.place; same = r.same }
+            record { front = e ∷ r.front; entry = r.entry; rest = r.rest; is = ap (λ (z : List Entry). e ∷ z) r.is; holds = r.holds; slot = r.slot; place = subst (λ (z : Content). nth (t ∷ ts) (length (content z ++ contents r.front)) ≡ Some r.slot) (sym q) r.place; same = r.same }
 
 -- ---- what a new leader adds holds no batch
 
-no-batch : (w : What) (b : Batch) (A : Type 0) → (w ≡ Nil) ⊎ (w ≡ Mark) → w ≡ Holds b → A
+no-batch : (w : Content) (b : Batch) (A : Type 0) → (w ≡ Nil) ⊎ (w ≡ Mark) → w ≡ Holds b → A
 no-batch w b A (inl e) h = absurd cc
 no-batch w b A (inr e) h = absurd cc
 

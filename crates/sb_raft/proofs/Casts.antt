@@ -10,11 +10,12 @@ use Rattle.iss_sb.specs.Evidence.{Item, Made, World, accepts}
 use Rattle.iss_sb.specs.Legal.{AreMade, Front}
 use Rattle.iss_sb.proofs.Worlds.{accepts-new, accepts-old}
 use Rattle.raft_wire.specs.declared.entries.Entry.{Entry}
-use Rattle.raft_wire.specs.declared.entries.What.{What}
-use Rattle.raft_wire.specs.declared.entries.What.TheVariants.{Holds}
+use Rattle.iss_sb.specs.declared.content.Content.{Content}
+use Rattle.iss_sb.specs.declared.content.Content.TheVariants.{Holds}
 use Rattle.raft_wire.specs.declared.messages.Message.{Message}
 use Rattle.sb_raft.specs.Raft.{asks, raft, state}
-use Rattle.sb_raft.specs.Rules.{Follower, Candidate, Leader, State, is_slot, may_cast}
+use Rattle.iss_sb.specs.Calls.{is_slot}
+use Rattle.sb_raft.specs.Rules.{Follower, Candidate, Leader, State, may_cast}
 use Rattle.sb_raft.specs.Logs.{entry, filled}
 use Rattle.sb_raft.proofs.Steps.{Raise, level, higher, Handled, none, down, copy, reply, back, grant, voted, win, casts, times, alone, Next, next_cases}
 use Rattle.sb_raft.proofs.Effects.{cast-parts}
@@ -33,7 +34,7 @@ no-split : (P : List Entry) (x : Entry) (xs : List Entry) (A : Type 0) → [] �
 no-split [] x xs A h = absurd cc
 no-split (q ∷ P) x xs A h = absurd cc
 
-holds-is : (a b : Batch) (w : What) → Holds a ≡ w → w ≡ Holds b → a ≡ b
+holds-is : (a b : Batch) (w : Content) → Holds a ≡ w → w ≡ Holds b → a ≡ b
 holds-is a b w h k = cc
 
 asks-is : (p : Params) (k : ℕ) (l : List (Item Message)) (c : Slot) (d : Batch) → may_cast p (state p k l) c.0 ≡ true → asks p k l (Cast c d) ≡ Some (c, d)

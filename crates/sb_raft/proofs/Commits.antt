@@ -18,7 +18,7 @@ use Rattle.sb_raft.proofs.Logs.{Prefix, Moment, Tail}
 use Rattle.sb_raft.proofs.Prefixes.{pre_refl, pre_trans, pre_compare, pre_short, pre_length, last_of}
 use Rattle.sb_raft.proofs.Core.{Copy, Committed, all_fine, all_lead, copied_has, leads, agreement, completeness, Good}
 use Rattle.sb_raft.proofs.Steps.{next, with_copy}
-use Rattle.sb_raft.proofs.Effects.{Turn, follows, refines, runs, rules, wins, wins_alone, turn, next_term, fits_parts}
+use Rattle.sb_raft.proofs.Effects.{Turn, follows, stands, runs, rules, wins, wins_alone, turn, next_term, fits_parts}
 use Rattle.iss_sb.proofs.Legal.{front_self, front_trans}
 use Rattle.sb_raft.proofs.Histories.{lead_front, lead_here}
 use Rattle.sb_raft.proofs.Elections.{LeadOf, histories, mom, older, front_tail, legal_front, append_lead, append_sent, take_drop, take_count, previous, term_last, facts}
@@ -99,7 +99,7 @@ module _ (p : Params) (w : World Message) (inv : Inv p w) where
     pub front : List Entry
     pub done : Done term front
     pub room : (state p k l).commit ≤ length (state p k l).log
-    pub refines : Prefix (take (state p k l).commit (state p k l).log) front
+    pub stands : Prefix (take (state p k l).commit (state p k l).log) front
 
   abbrev Ok : ℕ → List (Item Message) → Type 0
   Ok k l = ((state p k l).commit ≡ 0) ⊎ Sure k l
@@ -175,7 +175,7 @@ module _ (p : Params) (w : World Message) (inv : Inv p w) where
         leader = me;
         log = (state p me l).log;
         lead = here;
-        refines = pre_take c (state p me l).log;
+        stands = pre_take c (state p me l).log;
         makers = λ z. (z == me) || nat_le c ((state p me l).matched z);
         majority = majority-is p w inv (λ z. (z == me) || nat_le c ((state p me l).matched z)) q;
         each = λ k m. elim (or_cases (k == me) (nat_le c ((state p me l).matched k)) m) [
@@ -216,7 +216,7 @@ module _ (p : Params) (w : World Message) (inv : Inv p w) where
         front = s.front;
         done = s.done;
         room = omega arith;
-        refines = subst (λ (z : List Entry). Prefix z s.front) (sym (ap (λ (z : ℕ). take z (state p k (i ∷ l)).log) e ∙ take_pre (state p k l).commit (state p k l).log (state p k (i ∷ l)).log f room)) s.refines;
+        stands = subst (λ (z : List Entry). Prefix z s.front) (sym (ap (λ (z : ℕ). take z (state p k (i ∷ l)).log) e ∙ take_pre (state p k l).commit (state p k l).log (state p k (i ∷ l)).log f room)) s.stands;
       })
 
   ok_counted : (k : ℕ) (i : Item Message) (l : List (Item Message)) (c : ℕ) → Front (i ∷ l) (w k) → (state p k (i ∷ l)).commit ≡ c → 1 ≤ c → c ≤ length (state p k (i ∷ l)).log → last_term (take c (state p k (i ∷ l)).log) ≡ (state p k (i ∷ l)).term → p.setup.quorum ≤ count_below (λ z. (z == k) || nat_le c ((state p k (i ∷ l)).matched z)) p.setup.n → (state p k (i ∷ l)).role ≡ Leader → Ok k (i ∷ l)
@@ -228,7 +228,7 @@ module _ (p : Params) (w : World Message) (inv : Inv p w) where
         front = take c (state p k (i ∷ l)).log;
         done = d;
         room = omega arith;
-        refines = subst (λ (z : ℕ). Prefix (take z (state p k (i ∷ l)).log) (take c (state p k (i ∷ l)).log)) (sym e) (pre_refl (take c (state p k (i ∷ l)).log));
+        stands = subst (λ (z : ℕ). Prefix (take z (state p k (i ∷ l)).log) (take c (state p k (i ∷ l)).log)) (sym e) (pre_refl (take c (state p k (i ∷ l)).log));
       })
 
   abbrev OkBelow : ℕ → Type 0
@@ -254,7 +254,7 @@ module _ (p : Params) (w : World Message) (inv : Inv p w) where
           no : (state p k (i ∷ l)).role ≡ Follower → ((state p k (i ∷ l)).role ≡ Leader) ⊎ ((state p k (i ∷ l)).role ≡ Candidate) → ⊥
           no a (inl b) = cc
           no a (inr b) = cc
-      before rec (refines a b c d e) = rec (inr b)
+      before rec (stands a b c d e) = rec (inr b)
       before rec (runs a b c d e) = lower b
       before rec (rules a b c own e o g) = rec (inl b)
       before rec (wins a b c j ei eg m own eo ot) = rec (inr b)
@@ -305,7 +305,7 @@ module _ (p : Params) (w : World Message) (inv : Inv p w) where
                 front = s.front;
                 done = s.done;
                 room = omega arith;
-                refines = subst (λ (z : List Entry). Prefix z s.front) (sym (ap (λ (z : ℕ). take z (state p k (i ∷ l)).log) e ∙ same_front)) s.refines;
+                stands = subst (λ (z : List Entry). Prefix z s.front) (sym (ap (λ (z : ℕ). take z (state p k (i ∷ l)).log) e ∙ same_front)) s.stands;
               })
 
           from_leader : ((front : List Entry) × LeadOf p w (state p k (i ∷ l)).term j.0 (front ++ es) × (length front ≡ prev) × Prefix (front ++ es) (state p k (i ∷ l)).log) → ((d : List (Item Message)) × Front d (w j.0) × ((state p j.0 d).role ≡ Leader) × ((state p k (i ∷ l)).term ≡ (state p j.0 d).term) × (c ≤ (state p j.0 d).commit) × ((front : List Entry) × ((state p j.0 d).log ≡ front ++ es) × (length front ≡ prev) × (last_term front ≡ pt))) → (state p k l).commit < min c (prev + length es) → Ok k (i ∷ l)
@@ -347,7 +347,7 @@ module _ (p : Params) (w : World Message) (inv : Inv p w) where
                     front = s.front;
                     done = s.done;
                     room = omega arith;
-                    refines = subst (λ (z : List Entry). Prefix z s.front) (sym cut) (pre_trans (take (state p k (i ∷ l)).commit (state p j.0 src.0).log) (take (state p j.0 src.0).commit (state p j.0 src.0).log) s.front less s.refines);
+                    stands = subst (λ (z : List Entry). Prefix z s.front) (sym cut) (pre_trans (take (state p k (i ∷ l)).commit (state p j.0 src.0).log) (take (state p j.0 src.0).commit (state p j.0 src.0).log) s.front less s.stands);
                   })
 
   ok_below : (n : ℕ) → OkBelow n
@@ -362,7 +362,7 @@ module _ (p : Params) (w : World Message) (inv : Inv p w) where
       go (inl z) = subst (λ (c : ℕ). Prefix (take c (state p i a).log) m) (sym z) tt
       go (inr x) =
           let low = x.low in
-          pre_trans _ x.front m x.refines (completeness p.setup.f (LeadOf p w) (histories p w) (facts p w inv) x.term t j x.front m (omega (arith, low, later)) x.done lead)
+          pre_trans _ x.front m x.stands (completeness p.setup.f (LeadOf p w) (histories p w) (facts p w inv) x.term t j x.front m (omega (arith, low, later)) x.done lead)
 
   -- what two nodes have committed, at any two moments: the one is the front of the other
   pub committed_agree : (i j : ℕ) (a b : List (Item Message)) → Front a (w i) → Front b (w j) → Prefix (take (state p i a).commit (state p i a).log) (take (state p j b).commit (state p j b).log) ⊎ Prefix (take (state p j b).commit (state p j b).log) (take (state p i a).commit (state p i a).log)
@@ -375,6 +375,6 @@ module _ (p : Params) (w : World Message) (inv : Inv p w) where
       go (inl z) y = inl (subst (λ (c : ℕ). Prefix (take c (state p i a).log) (take (state p j b).commit (state p j b).log)) (sym z) tt)
       go (inr x) (inl z) = inr (subst (λ (c : ℕ). Prefix (take c (state p j b).log) (take (state p i a).commit (state p i a).log)) (sym z) tt)
       go (inr x) (inr y) = elim (agreement p.setup.f (LeadOf p w) (histories p w) (facts p w inv) x.term y.term x.front y.front x.done y.done) [
-        | inl q ↦ pre_compare _ _ y.front (pre_trans (take (state p i a).commit (state p i a).log) x.front y.front x.refines q) y.refines
-        | inr q ↦ pre_compare _ _ x.front x.refines (pre_trans (take (state p j b).commit (state p j b).log) y.front x.front y.refines q)
+        | inl q ↦ pre_compare _ _ y.front (pre_trans (take (state p i a).commit (state p i a).log) x.front y.front x.stands q) y.stands
+        | inr q ↦ pre_compare _ _ x.front x.stands (pre_trans (take (state p j b).commit (state p j b).log) y.front x.front y.stands q)
       ]

@@ -136,7 +136,7 @@ pub record Committed (f : ℕ) (Lead : ℕ → ℕ → List Entry → Type 0) (h
   pub leader : ℕ
   pub log : List Entry
   pub lead : Lead t leader log
-  pub refines : Prefix C log
+  pub stands : Prefix C log
   pub makers : ℕ → Bool
   pub majority : Majority f makers
   pub each : (k : ℕ) → makers k ≡ true → (o : Moment) × (r : List Moment) × Tail (o ∷ r) (hist k) × (o.term ≡ t) × Prefix C o.log
@@ -368,11 +368,11 @@ module _ (f : ℕ) (Lead : ℕ → ℕ → List Entry → Type 0) (hist : ℕ �
             | inl e ↦
                 let a = subst (λ (z : ℕ). Lead z d.leader d.log) (sym e) d.lead in
                 elim (leads t d.leader c.leader d.log c.log a c.lead) [
-                  | inl x ↦ elim (pre_compare C d.log c.log c.refines x) [
+                  | inl x ↦ elim (pre_compare C d.log c.log c.stands x) [
                     | inl y ↦ new y
                     | inr y ↦ subst (λ (z : List Entry). Prefix C z) (sym (d.stays (pre_trans d.log C q.log y g))) g
                   ]
-                  | inr x ↦ new (pre_trans C c.log d.log c.refines x)
+                  | inr x ↦ new (pre_trans C c.log d.log c.stands x)
                 ]
             | inr ne ↦ new (ih o.term d.leader d.log l (omega arith) d.lead)
           ]
@@ -435,7 +435,7 @@ module _ (f : ℕ) (Lead : ℕ → ℕ → List Entry → Type 0) (hist : ℕ �
                 | inl p ↦ p
                 | inr p ↦
                     let i = pre_in x.1 base C p (subst (λ (z : List Entry). In x.1 z) (sym x.2) (in_last x.0 x.1)) in
-                    let tt' = (all_lead t c.leader c.log c.lead).1 x.1 (pre_in x.1 C c.log c.refines i) in
+                    let tt' = (all_lead t c.leader c.log c.lead).1 x.1 (pre_in x.1 C c.log c.stands i) in
                     absurd (omega arith)
               ] in
               elim x.3 [
@@ -449,8 +449,8 @@ module _ (f : ℕ) (Lead : ℕ → ℕ → List Entry → Type 0) (hist : ℕ �
                           let long = pre_length C log held in
                           let fit : Prefix C base ⊎ Prefix base C → Prefix C base = λ w. elim w [ inl p ↦ p | inr p ↦ pre_short base C p (omega arith) ] in
                           elim (leads t c.leader lx.leader c.log (x.0 ++ (x.1 ∷ lx.rest)) c.lead a) [
-                            | inl p ↦ fit (pre_compare C base (x.0 ++ (x.1 ∷ lx.rest)) (pre_trans C c.log (x.0 ++ (x.1 ∷ lx.rest)) c.refines p) front)
-                            | inr p ↦ fit (pre_compare C base c.log c.refines (pre_trans base (x.0 ++ (x.1 ∷ lx.rest)) c.log front p))
+                            | inl p ↦ fit (pre_compare C base (x.0 ++ (x.1 ∷ lx.rest)) (pre_trans C c.log (x.0 ++ (x.1 ∷ lx.rest)) c.stands p) front)
+                            | inr p ↦ fit (pre_compare C base c.log c.stands (pre_trans base (x.0 ++ (x.1 ∷ lx.rest)) c.log front p))
                           ]
                       | inr ne ↦ higher (omega arith)
                     ]
@@ -467,12 +467,12 @@ module _ (f : ℕ) (Lead : ℕ → ℕ → List Entry → Type 0) (hist : ℕ �
   -- two committed fronts: one is the front of the other
   pub agreement : (t u : ℕ) (C D : List Entry) → Committed f Lead hist t C → Committed f Lead hist u D → Prefix C D ⊎ Prefix D C
   agreement t u C D c d = elim (cases_lt t u) [
-    | inl l ↦ pre_compare C D d.log (completeness t u d.leader C d.log l c d.lead) d.refines
+    | inl l ↦ pre_compare C D d.log (completeness t u d.leader C d.log l c d.lead) d.stands
     | inr l ↦ elim (cases_eq t u) [
       | inl e ↦ elim (leads t c.leader d.leader c.log d.log c.lead (subst (λ (z : ℕ). Lead z d.leader d.log) (sym e) d.lead)) [
-        | inl p ↦ pre_compare C D d.log (pre_trans C c.log d.log c.refines p) d.refines
-        | inr p ↦ pre_compare C D c.log c.refines (pre_trans D d.log c.log d.refines p)
+        | inl p ↦ pre_compare C D d.log (pre_trans C c.log d.log c.stands p) d.stands
+        | inr p ↦ pre_compare C D c.log c.stands (pre_trans D d.log c.log d.stands p)
       ]
-      | inr ne ↦ pre_compare C D c.log c.refines (completeness u t c.leader D c.log (omega arith) d c.lead)
+      | inr ne ↦ pre_compare C D c.log c.stands (completeness u t c.leader D c.log (omega arith) d c.lead)
     ]
   ]

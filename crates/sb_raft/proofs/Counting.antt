@@ -7,7 +7,7 @@ use Rattle.iss_request.specs.declared.requests.Value.{Value}
 use Rattle.raft_wire.specs.declared.entries.Entry.{Entry}
 use Rattle.sb_raft.specs.Held.{AreCounted, LogState, same, starts_with}
 use Rattle.sb_raft.specs.Logs.{content, entry, filled, last_term, nils, term_at}
-use Rattle.raft_wire.specs.declared.entries.What.TheVariants.{Nil}
+use Rattle.iss_sb.specs.declared.content.Content.TheVariants.{Nil}
 use Rattle.sb_raft.proofs.Few.{filled-both}
 
 filled-one : (e : Entry) → filled (e ∷ []) ≡ length (content e.what)

@@ -8,7 +8,8 @@ use Rattle.iss_sb.specs.Evidence.{Item, delivered}
 use Rattle.iss_sb.proofs.Delivered.{delivered-decided}
 use Rattle.raft_wire.specs.declared.entries.Entry.{Entry}
 use Rattle.raft_wire.specs.declared.messages.Message.{Message}
-use Rattle.sb_raft.specs.Raft.{decided, state, value_at, raft}
+use Rattle.iss_sb.specs.Paired.{value_with}
+use Rattle.sb_raft.specs.Raft.{decided, state, raft}
 use Rattle.sb_raft.specs.Rules.{State}
 use Rattle.sb_raft.specs.Logs.{content, contents, merge}
 use Rattle.sb_raft.proofs.Logs.{Prefix}
@@ -65,20 +66,20 @@ pub contents-both : (a b : List Entry) → contents (a ++ b) ≡ contents a ++ c
 contents-both [] b = refl
 contents-both (e ∷ a) b = ap (λ (z : List Value). content e.what ++ z) (contents-both a b) ∙ sym (append_assoc (content e.what) (contents a) (contents b))
 
-value-more : (s : ℕ) (slots : List Slot) (vs ws : List Value) (x : Value) → value_at s slots vs ≡ Some x → value_at s slots (vs ++ ws) ≡ Some x
+value-more : (s : ℕ) (slots : List Slot) (vs ws : List Value) (x : Value) → value_with s slots vs ≡ Some x → value_with s slots (vs ++ ws) ≡ Some x
 value-more s [] vs ws x h = absurd cc
 value-more s (t ∷ slots) [] ws x h = absurd cc
 value-more s (t ∷ slots) (v ∷ vs) ws x h = go (t.0 == s) h (value-more s slots vs ws x)
   where
-    go : (b : Bool) → (if b then Some v else value_at s slots vs) ≡ Some x → (value_at s slots vs ≡ Some x → value_at s slots (vs ++ ws) ≡ Some x) → (if b then Some v else value_at s slots (vs ++ ws)) ≡ Some x
+    go : (b : Bool) → (if b then Some v else value_with s slots vs) ≡ Some x → (value_with s slots vs ≡ Some x → value_with s slots (vs ++ ws) ≡ Some x) → (if b then Some v else value_with s slots (vs ++ ws)) ≡ Some x
     go true h r = h
     go false h r = r h
 
-pub value-front : (s : ℕ) (slots : List Slot) (a b : List Entry) (x : Value) → Prefix a b → value_at s slots (contents a) ≡ Some x → value_at s slots (contents b) ≡ Some x
+pub value-front : (s : ℕ) (slots : List Slot) (a b : List Entry) (x : Value) → Prefix a b → value_with s slots (contents a) ≡ Some x → value_with s slots (contents b) ≡ Some x
 value-front s slots a b x f h =
     let r = pre_rest a b f in
     let e = ap contents r.1 ∙ contents-both a r.0 in
-    subst (λ (z : List Value). value_at s slots z ≡ Some x) (sym e) (value-more s slots (contents a) (contents r.0) x h)
+    subst (λ (z : List Value). value_with s slots z ≡ Some x) (sym e) (value-more s slots (contents a) (contents r.0) x h)
 
 -- what is committed now begins with what was
 pub grown : (p : Params) (me : ℕ) (xs : List (Item Message)) (y : Item Message) →
@@ -92,7 +93,7 @@ decided-stays p me xs y s x h =
 decided-start : (p : Params) (me : ℕ) (s : ℕ) → decided p me [] s ≡ None
 decided-start p me s = go p.slots
   where
-    go : (slots : List Slot) → value_at s slots [] ≡ None
+    go : (slots : List Slot) → value_with s slots [] ≡ None
     go [] = refl
     go (t ∷ ts) = refl
 

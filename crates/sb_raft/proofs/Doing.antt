@@ -12,11 +12,11 @@ use Rattle.raft_wire.specs.declared.entries.Entry.{Entry}
 use Rattle.raft_wire.specs.declared.messages.Message.{Message}
 use Rattle.raft_wire.specs.declared.messages.Message.TheVariants.{Reply}
 use Rattle.sb_raft.specs.declared.raft.Raft.{Raft}
-use Rattle.sb_raft.specs.Held.{paired}
+use Rattle.iss_sb.specs.Paired.{paired}
 use Rattle.sb_raft.specs.Logs.{contents, filled}
 use Rattle.sb_raft.specs.Rules.{Follower, Leader, State, Step, raised, to}
 use Rattle.sb_raft.specs.Refines.{Does, IsLow, IsReply, OnlySends, held, newly}
-use Rattle.sb_raft.proofs.Newly.{paired-none}
+use Rattle.iss_sb.proofs.Paired.{paired-none}
 use Rattle.sb_raft.proofs.Steps.{Raise, level, higher, raise}
 
 -- functions that agree everywhere

@@ -8,11 +8,12 @@ use Rattle.iss_sb.specs.declared.effects.Input.{Input}
 use Rattle.iss_sb.specs.declared.effects.Input.TheVariants.{Receive}
 use Rattle.iss_sb.specs.declared.effects.Params.{Params}
 use Rattle.raft_wire.specs.declared.entries.Entry.{Entry}
-use Rattle.raft_wire.specs.declared.entries.What.{What}
-use Rattle.raft_wire.specs.declared.entries.What.TheVariants.{Holds}
+use Rattle.iss_sb.specs.declared.content.Content.{Content}
+use Rattle.iss_sb.specs.declared.content.Content.TheVariants.{Holds}
 use Rattle.raft_wire.specs.declared.messages.Message.{Message}
 use Rattle.raft_wire.specs.declared.messages.Message.TheVariants.{Append, Vote}
-use Rattle.sb_raft.specs.Rules.{candidate, is_leader, is_slot, may_cast, Role, Follower, Candidate, Leader, State, filling, free_for, may_merge, log_limit}
+use Rattle.iss_sb.specs.Calls.{is_slot}
+use Rattle.sb_raft.specs.Rules.{candidate, is_leader, may_cast, Role, Follower, Candidate, Leader, State, filling, free_for, may_merge, log_limit}
 use Rattle.iss_base.specs.Quorum.{count_below}
 use Rattle.sb_raft.specs.Logs.{entry, fits_behind, last_term, merge, merged, nils, stay, filled}
 use Rattle.sb_raft.proofs.Core.{OfTerm}
@@ -27,7 +28,7 @@ won_term : (p : Params) (s : State) → OfTerm s.term (filling p s)
 won_term p s x (inl e) = ap (λ (z : Entry). z.term) e
 won_term p s x (inr i) = nils_term s.term (length p.slots - filled s.log) x i
 
-one_term : (t : ℕ) (w : What) → OfTerm t (entry t w ∷ [])
+one_term : (t : ℕ) (w : Content) → OfTerm t (entry t w ∷ [])
 one_term t w x (inl e) = ap (λ (z : Entry). z.term) e
 one_term t w x (inr i) = elim i [ ]
 
@@ -47,7 +48,7 @@ cast-leads p s slot h = (cast-parts p s slot h).leads
 
 pub data Turn (p : Params) (me : ℕ) (s : State) (i : Input Message) (v : State) : Type 0 where
   follows : v.role ≡ Follower → Turn p me s i v
-  refines : v.role ≡ Candidate → s.role ≡ Candidate → s.term ≡ v.term → v.log ≡ s.log → (v.granted ≡ s.granted) ⊎ ((j : NodeId) × (i ≡ Receive j (Vote v.term true)) × (v.granted ≡ set_at s.granted j.0 true)) → Turn p me s i v
+  stands : v.role ≡ Candidate → s.role ≡ Candidate → s.term ≡ v.term → v.log ≡ s.log → (v.granted ≡ s.granted) ⊎ ((j : NodeId) × (i ≡ Receive j (Vote v.term true)) × (v.granted ≡ set_at s.granted j.0 true)) → Turn p me s i v
   runs : v.role ≡ Candidate → s.term < v.term → v.log ≡ s.log → v.vote ≡ Some me → v.granted ≡ (λ k. k == me) → Turn p me s i v
   rules : v.role ≡ Leader → s.role ≡ Leader → s.term ≡ v.term → (own : List Entry) → v.log ≡ s.log ++ own → OfTerm v.term own → v.granted ≡ s.granted → Turn p me s i v
   wins : v.role ≡ Leader → s.role ≡ Candidate → s.term ≡ v.term → (j : NodeId) → i ≡ Receive j (Vote v.term true) → v.granted ≡ set_at s.granted j.0 true → p.setup.quorum ≤ count_below v.granted p.setup.n → (own : List Entry) → v.log ≡ s.log ++ own → OfTerm v.term own → Turn p me s i v
@@ -58,7 +59,7 @@ same_turn p me s i v r t l g = go s.role refl
   where
     go : (x : Role) → s.role ≡ x → Turn p me s i v
     go Follower e = follows (r ∙ e)
-    go Candidate e = refines (r ∙ e) e (sym t) l (inl g)
+    go Candidate e = stands (r ∙ e) e (sym t) l (inl g)
     go Leader e = rules (r ∙ e) e (sym t) [] (l ∙ sym (append-nil s.log)) (λ x i. elim i [ ]) g
 
 pub turn_level : (p : Params) (me : ℕ) (s : State) (i : Input Message) (v : State) → Handled p me s i v → Turn p me s i v
@@ -70,7 +71,7 @@ turn_level p me s i v (back j x ei r nx lx e) = same_turn p me s i v (ap (λ (z 
 turn_level p me s i v (grant j last lt ei g e) = same_turn p me s i v (ap (λ (z : State). z.role) e) (ap (λ (z : State). z.term) e) (ap (λ (z : State). z.log) e) (ap (λ (z : State). z.granted) e)
 turn_level p me s i v (voted j ei r e) =
     let t = ap (λ (z : State). z.term) e in
-    refines (ap (λ (z : State). z.role) e ∙ r) r (sym t) (ap (λ (z : State). z.log) e) (inr (j, subst (λ (z : ℕ). i ≡ Receive j (Vote z true)) (sym t) ei, ap (λ (z : State). z.granted) e))
+    stands (ap (λ (z : State). z.role) e ∙ r) r (sym t) (ap (λ (z : State). z.log) e) (inr (j, subst (λ (z : ℕ). i ≡ Receive j (Vote z true)) (sym t) ei, ap (λ (z : State). z.granted) e))
 turn_level p me s i v (win j ei r n e) =
     let t = ap (λ (z : State). z.term) e in
     let g = ap (λ (z : State). z.granted) e in
@@ -89,7 +90,7 @@ turn_level p me s i v (alone ei r n e) =
 -- after a message of a higher term the node follows, but for a timeout
 turn_raised : (p : Params) (me : ℕ) (s u : State) (i : Input Message) (v : State) → s.term < u.term → u.role ≡ Follower → u.log ≡ s.log → Turn p me u i v → u.term ≤ v.term → Turn p me s i v
 turn_raised p me s u i v l r lg (follows e) m = follows e
-turn_raised p me s u i v l r lg (refines a b c d e) m = let z = sym r ∙ b in cc
+turn_raised p me s u i v l r lg (stands a b c d e) m = let z = sym r ∙ b in cc
 turn_raised p me s u i v l r lg (runs a b c d e) m = runs a (omega arith) (c ∙ lg) d e
 turn_raised p me s u i v l r lg (rules a b c d e f g) m = let z = sym r ∙ b in cc
 turn_raised p me s u i v l r lg (wins a b c d e f g h k o) m = let z = sym r ∙ b in cc

@@ -1,20 +1,19 @@
 -- How long a log can be, whatever was heard: its marks are counted.
-use Rattle.std.proofs.Common.{◌≡◌, ℕ, zero, suc, ◌+◌, ◌-◌, ◌<◌, ◌≤◌, ◌==◌, Bool, true, false, cond, List, [], ◌∷◌, ◌++◌, length, refl, sym, subst, ap, ◌∙◌, true≢false, arith}
+use Rattle.std.proofs.Common.{◌≡◌, ℕ, zero, suc, ◌+◌, ◌-◌, ◌<◌, ◌≤◌, ◌==◌, Bool, true, false, cond, List, [], ◌∷◌, ◌++◌, length, refl, sym, subst, ap, ◌∙◌, arith}
 use Rattle.std.proofs.lemmas.List.{length-append}
-use Rattle.iss_base.specs.Lists.{nth}
-use Rattle.iss_request.specs.declared.ids.Slot.{Slot}
 use Rattle.iss_request.specs.declared.requests.Value.{Value}
 use Rattle.iss_sb.specs.declared.effects.Input.{Input}
 use Rattle.iss_sb.specs.declared.effects.Params.{Params}
 use Rattle.iss_sb.specs.Calls.{IsGoodParams}
 use Rattle.iss_sb.specs.Evidence.{Item}
+use Rattle.iss_sb.proofs.Slots.{place-below}
 use Rattle.raft_wire.specs.declared.entries.Entry.{Entry}
-use Rattle.raft_wire.specs.declared.entries.What.{What}
-use Rattle.raft_wire.specs.declared.entries.What.TheVariants.{Nil, Holds, Mark}
+use Rattle.iss_sb.specs.declared.content.Content.{Content}
+use Rattle.iss_sb.specs.declared.content.Content.TheVariants.{Nil, Holds, Mark}
 use Rattle.raft_wire.specs.declared.messages.Message.{Message}
 use Rattle.sb_raft.specs.Logs.{contents, content, entry, filled, nils}
 use Rattle.sb_raft.specs.Raft.{raft, state}
-use Rattle.sb_raft.specs.Rules.{Role, Follower, Leader, State, candidate, filling, is_candidate, is_slot}
+use Rattle.sb_raft.specs.Rules.{Role, Follower, Leader, State, candidate, filling, is_candidate}
 use Rattle.sb_raft.proofs.Delivers.{contents-both}
 use Rattle.sb_raft.proofs.Effects.{cast-parts, fits_parts}
 use Rattle.sb_raft.proofs.Steps.{Raise, level, higher, Handled, none, down, copy, reply, back, grant, voted, win, casts, times, alone, Next, next_cases, with_granted}
@@ -25,7 +24,7 @@ filled-both a b = ap (λ (vs : List Value). length vs) (contents-both a b) ∙ l
 pub content-low : (e : Entry) → length (content e.what) ≤ 1
 content-low e = go e.what
   where
-    go : (w : What) → length (content w) ≤ 1
+    go : (w : Content) → length (content w) ≤ 1
     go Nil = omega arith
     go (Holds b) = omega arith
     go Mark = omega arith
@@ -49,11 +48,6 @@ nils-fill t (suc k) = ap suc (nils-fill t k)
 
 pub filling-long : (p : Params) (s : State) → length (filling p s) ≡ suc (length p.slots - filled s.log)
 filling-long p s = ap suc (nils-long s.term (length p.slots - filled s.log))
-
-slot-below : (s : ℕ) (slots : List Slot) (k : ℕ) → is_slot s (nth slots k) ≡ true → k < length slots
-slot-below s [] k h = absurd (true≢false (sym h))
-slot-below s (t ∷ slots) zero h = omega arith
-slot-below s (t ∷ slots) (suc k) h = let r = slot-below s slots k h in omega (arith, r)
 
 pub no-more : (c : Bool) (a x : ℕ) → a + cond c 1 0 ≤ x → a ≤ x
 no-more true a x h = omega (arith, h)
@@ -132,7 +126,7 @@ module _ (p : Params) (good : IsGoodParams raft p) (me : ℕ) where
       let role : v.role ≡ u.role = ap (λ (z : State). z.role) e in
       let l : length v.log ≡ suc (length u.log) = ap (λ (x : List Entry). length x) log ∙ (let k = length-append u.log (one ∷ []) in omega (arith, k)) in
       let f : filled v.log ≡ suc (filled u.log) = ap filled log ∙ (let k = filled-both u.log (one ∷ []) in omega (arith, k)) in
-      let room = slot-below s.0 p.slots (filled u.log) (cast-parts p u s.0 mc).next in
+      let room = place-below s.0 p.slots (filled u.log) (cast-parts p u s.0 mc).next in
       let few = good.few in
       let m : length v.log + cond (is_candidate v.role) 1 0 ≤ 65600 + u.term + filled v.log = subst (λ (x : Role). length v.log + cond (is_candidate x) 1 0 ≤ 65600 + u.term + filled v.log) (sym role) (one-more (is_candidate u.role) (length u.log) (length v.log) u.term (filled u.log) (filled v.log) r.marks l f) in
       record {

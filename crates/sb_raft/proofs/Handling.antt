@@ -15,7 +15,8 @@ use Rattle.raft_wire.specs.declared.entries.Entry.{Entry}
 use Rattle.raft_wire.specs.declared.messages.Message.{Message}
 use Rattle.raft_wire.specs.declared.messages.Message.TheVariants.{Reply}
 use Rattle.sb_raft.specs.declared.raft.Raft.{Raft}
-use Rattle.sb_raft.specs.Held.{LogState, is_mergeable, paired, with_merged}
+use Rattle.iss_sb.specs.Paired.{paired}
+use Rattle.sb_raft.specs.Held.{LogState, is_mergeable, with_merged}
 use Rattle.sb_raft.specs.Logs.{contents, filled, fits_behind, merged, stay}
 use Rattle.sb_raft.specs.Rules.{Follower, Leader, State, Step, answer, appended, on_append, quiet, taken, to}
 use Rattle.sb_raft.specs.Refines.{Does, IsLow, IsReply, held, merges}

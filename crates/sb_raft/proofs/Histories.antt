@@ -21,7 +21,7 @@ use Rattle.iss_sb.proofs.Legal.{front_self}
 use Rattle.sb_raft.proofs.Logs.{Prefix}
 use Rattle.sb_raft.proofs.Prefixes.{pre_refl, pre_trans, pre_append}
 use Rattle.sb_raft.proofs.Core.{OfTerm}
-use Rattle.sb_raft.proofs.Effects.{Turn, follows, refines, runs, rules, wins, wins_alone, turn, next_term, next_vote}
+use Rattle.sb_raft.proofs.Effects.{Turn, follows, stands, runs, rules, wins, wins_alone, turn, next_term, next_vote}
 
 -- the leader of term 1, with a log of that term alone. Nobody granted it that term
 pub record IsFirst (p : Params) (me : ℕ) (xs : List (Item Message)) : Type 0 where
@@ -121,7 +121,7 @@ module _ (p : Params) (me : ℕ) where
 
       go : ((state p me l).role ≡ Candidate → LeadIn p me l (state p me l).term m → ⊥) → Turn p me (state p me l) i.input (state p me (i ∷ l)) → ⊥
       go ih (follows a) = cc
-      go ih (refines a b c d e) = ih b (subst (λ (z : ℕ). LeadIn p me l z m) (sym c) h)
+      go ih (stands a b c d e) = ih b (subst (λ (z : ℕ). LeadIn p me l z m) (sym c) h)
       go ih (runs a b c d e) = below b
       go ih (rules a b c d e f g) = not_both (state p me (i ∷ l)).role a r
       go ih (wins a b c d e f g k o q) = not_both (state p me (i ∷ l)).role a r
@@ -138,7 +138,7 @@ module _ (p : Params) (me : ℕ) where
 
       go : ((state p me l).role ≡ Leader → LeadIn p me l (state p me l).term m → Prefix m (state p me l).log) → Turn p me (state p me l) i.input (state p me (i ∷ l)) → Prefix m (state p me (i ∷ l)).log
       go ih (follows a) = cc
-      go ih (refines a b c d e) = absurd (not_both (state p me (i ∷ l)).role r a)
+      go ih (stands a b c d e) = absurd (not_both (state p me (i ∷ l)).role r a)
       go ih (runs a b c d e) = below b
       go ih (rules a b c own e f g) = subst (λ (z : List Entry). Prefix m z) (sym e) (pre_trans m (state p me l).log ((state p me l).log ++ own) (ih b (subst (λ (z : ℕ). LeadIn p me l z m) (sym c) h)) (pre_append (state p me l).log own))
       go ih (wins a b c d e f g k o q) = absurd (cand_never l m b (subst (λ (z : ℕ). LeadIn p me l z m) (sym c) h))
@@ -240,7 +240,7 @@ module _ (p : Params) (me : ℕ) where
 
       go : (((state p me l).role ≡ Leader) ⊎ ((state p me l).role ≡ Candidate) → IsFirst p me l ⊎ Later l) → Turn p me (state p me l) i.input (state p me (i ∷ l)) → IsFirst p me (i ∷ l) ⊎ Later (i ∷ l)
       go ih (follows a) = absurd (follower_no (state p me (i ∷ l)).role a r)
-      go ih (refines a b c d e) = elim (ih (inr b)) [
+      go ih (stands a b c d e) = elim (ih (inr b)) [
         | inl x ↦ absurd (no_first x b)
         | inr x ↦ inr (more x [] c (d ∙ sym (append-nil (state p me l).log)) (λ x i. elim i [ ]) (λ q. refl) (λ q. b))
       ]
@@ -295,7 +295,7 @@ module _ (p : Params) (me : ℕ) where
 
       go : (((state p me l).role ≡ Leader) ⊎ ((state p me l).role ≡ Candidate) → IsFirst p me l ⊎ Counts w l) → Turn p me (state p me l) i.input (state p me (i ∷ l)) → IsFirst p me (i ∷ l) ⊎ Counts w (i ∷ l)
       go ih (follows a) = absurd (follower_no (state p me (i ∷ l)).role a r)
-      go ih (refines a b c d e) = elim (ih (inr b)) [
+      go ih (stands a b c d e) = elim (ih (inr b)) [
         | inl x ↦ absurd (no_first x b)
         | inr x ↦ elim e [
           | inl q ↦ inr (old x c q (λ z. absurd (not_both (state p me (i ∷ l)).role z a)))

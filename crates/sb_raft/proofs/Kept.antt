@@ -11,7 +11,7 @@ use Rattle.sb_raft.specs.Raft.{makes, raft, state}
 use Rattle.sb_raft.specs.Rules.{Candidate, Leader}
 use Rattle.sb_raft.proofs.Ballots.{Ballot, Ballots}
 use Rattle.iss_sb.specs.Legal.{Front}
-use Rattle.sb_raft.proofs.Effects.{Turn, follows, refines, runs, rules, wins, wins_alone, turn}
+use Rattle.sb_raft.proofs.Effects.{Turn, follows, stands, runs, rules, wins, wins_alone, turn}
 use Rattle.iss_sb.proofs.Legal.{front_self, front_trans}
 use Rattle.sb_raft.proofs.Histories.{LeadIn, VotedIn, cand_never, lead_at, Later, origin, counts}
 use Rattle.sb_raft.proofs.Inv.{Inv, MaySend, majority-is}
@@ -81,7 +81,7 @@ module _ (p : Params) (w u : World Message) (inv : Inv p w) (v : Move raft p w u
     where
       go : Turn p v.node (state p v.node (w v.node)) v.input (state p v.node now) → Ballot p w v.node k (state p v.node now).term
       go (follows a) = cc
-      go (refines a b c d e) = cc
+      go (stands a b c d e) = cc
       go (runs a b c d e) = cc
       go (rules a b c own e f g) = subst (λ (z : ℕ). Ballot p w v.node k z) c (inv.ballots v.node (w v.node) (front_self (w v.node)) b k (subst (λ (z : ℕ → Bool). z k ≡ true) g m) ne)
       go (wins a b c j ei eg n own eo ot) =

@@ -1,5 +1,5 @@
 -- The laws of Raft's single steps.
-use Rattle.std.proofs.Common.{◌≡◌, ◌≤◌, ◌<◌, ◌+◌, ℕ, zero, suc, Bool, true, false, ◌==◌, ◌&&◌, cond, if◌then◌else◌, List, [], ◌∷◌, ◌++◌, length, Some, None, refl, sym, ap, subst, inl, inr, arith, true≢false}
+use Rattle.std.proofs.Common.{◌≡◌, ◌≤◌, ◌<◌, ◌+◌, ℕ, zero, suc, Bool, true, false, ◌==◌, ◌&&◌, cond, if◌then◌else◌, List, [], ◌∷◌, ◌++◌, length, Some, None, refl, sym, subst, inl, inr, arith}
 use Rattle.std.specs.Prelude.{nat_lt}
 use Rattle.std.proofs.lemmas.Bool.Decides.{Decides-eqb}
 use Rattle.iss_base.specs.Lists.{In, nth, set_at}
@@ -13,17 +13,19 @@ use Rattle.iss_sb.specs.declared.effects.Input.TheVariants.{Cast, Receive, Timeo
 use Rattle.iss_sb.specs.declared.effects.Params.{Params}
 use Rattle.iss_sb.specs.declared.effects.To.{To}
 use Rattle.iss_sb.specs.declared.effects.To.TheVariants.{One as To_one}
-use Rattle.iss_sb.specs.Calls.{AreToNodes, IsToNode, IsGoodInput}
+use Rattle.iss_sb.specs.Calls.{AreToNodes, IsToNode, IsGoodInput, is_slot}
 use Rattle.iss_sb.specs.Evidence.{Item}
 use Rattle.iss_sb.specs.Laws.{IsLawful, SignsOnce}
 use Rattle.iss_sb.proofs.Silent.{silent-once}
+use Rattle.iss_sb.proofs.Slots.{place-In, slot-is}
 use Rattle.raft_wire.specs.declared.entries.Entry.{Entry}
-use Rattle.raft_wire.specs.declared.entries.What.TheVariants.{Holds}
+use Rattle.iss_sb.specs.declared.content.Content.TheVariants.{Holds}
 use Rattle.raft_wire.specs.declared.messages.Message.{Message}
 use Rattle.raft_wire.specs.declared.messages.Message.TheVariants.{Append, Reply, AskVote, Vote}
 use Rattle.sb_raft.proofs.Ranges.{sends-read}
-use Rattle.sb_raft.specs.Raft.{asks, raft, state, value_at}
-use Rattle.sb_raft.specs.Rules.{Follower, State, Step, advanced, answer, append_to, append_behind, appended, appends, ask_vote, candidate, counted, greatest, is_leader, is_slot, last_timed_term, matched_at, may_cast, may_commit, may_merge, on_append, on_ask, on_not_ok, on_ok, on_reply, on_timeout, on_vote, on_message, others, quiet, raised, risen, spread, stands_up, step, taken, to_each, with_commit, won}
+use Rattle.iss_sb.specs.Paired.{value_with}
+use Rattle.sb_raft.specs.Raft.{asks, raft, state}
+use Rattle.sb_raft.specs.Rules.{Follower, State, Step, advanced, answer, append_to, append_behind, appended, appends, ask_vote, candidate, counted, greatest, is_leader, last_timed_term, matched_at, may_cast, may_commit, may_merge, on_append, on_ask, on_not_ok, on_ok, on_reply, on_timeout, on_vote, on_message, others, quiet, raised, risen, spread, stands_up, step, taken, to_each, with_commit, won}
 use Rattle.sb_raft.specs.Logs.{entry, filled, fits_behind}
 
 pub by_if : {A : Type 0} (P : A → Type 0) (t : Bool) (x y : A) → P x → P y → P (if t then x else y)
@@ -127,25 +129,17 @@ module _ (p : Params) (me : ℕ) where
 
 -- ---- casts and slots
 
-slot_eta : (a b : Slot) → a.0 ≡ b.0 → a ≡ b
-slot_eta a b h = ap (λ (n : ℕ). let s : Slot = record { 0 = n } in s) h
-
 pub some-only : {A : Type 0} (t : Bool) (x y : A) → (if t then Some x else None) ≡ Some y → (t ≡ true) × (y ≡ x)
 some-only true x y h = (refl, cc)
 some-only false x y h = absurd cc
 
-pub nth-In : (s : Slot) (slots : List Slot) (k : ℕ) → is_slot s.0 (nth slots k) ≡ true → In s slots
-nth-In s [] k h = absurd (true≢false (sym h))
-nth-In s (t ∷ slots) zero h = inl (slot_eta s t (sym ((Decides-eqb t.0 s.0).0 h)))
-nth-In s (t ∷ slots) (suc k) h = inr (nth-In s slots k h)
-
-value-In : (s : Slot) (slots : List Slot) (vs : List Value) (x : Value) → value_at s.0 slots vs ≡ Some x → In s slots
+value-In : (s : Slot) (slots : List Slot) (vs : List Value) (x : Value) → value_with s.0 slots vs ≡ Some x → In s slots
 value-In s [] vs x h = absurd cc
 value-In s (t ∷ slots) [] x h = absurd cc
 value-In s (t ∷ slots) (v ∷ vs) x h = go (t.0 == s.0) refl h (value-In s slots vs x)
   where
-    go : (b : Bool) → (t.0 == s.0) ≡ b → (if b then Some v else value_at s.0 slots vs) ≡ Some x → (value_at s.0 slots vs ≡ Some x → In s slots) → In s (t ∷ slots)
-    go true q k more = inl (slot_eta s t (sym ((Decides-eqb t.0 s.0).0 q)))
+    go : (b : Bool) → (t.0 == s.0) ≡ b → (if b then Some v else value_with s.0 slots vs) ≡ Some x → (value_with s.0 slots vs ≡ Some x → In s slots) → In s (t ∷ slots)
+    go true q k more = inl (slot-is s t (sym ((Decides-eqb t.0 s.0).0 q)))
     go false q k more = inr (more k)
 
 pub cast-next : (p : Params) (s : State) (slot : ℕ) → may_cast p s slot ≡ true → is_slot slot (nth p.slots (filled s.log)) ≡ true
@@ -154,7 +148,7 @@ cast-next p s slot h = (and-true (is_leader s.role && (s.term == 1)) (is_slot sl
 cast-within : (p : Params) (s : State) (slot : Slot) (batch : Batch) (x : Slot × Batch) → (if may_cast p s slot.0 then Some (slot, batch) else None) ≡ Some x → In x.0 p.slots
 cast-within p s slot batch x h =
     let t = some-only (may_cast p s slot.0) (slot, batch) x h in
-    subst (λ (z : Slot × Batch). In z.0 p.slots) (sym t.1) (nth-In slot p.slots _ (cast-next p s slot.0 t.0))
+    subst (λ (z : Slot × Batch). In z.0 p.slots) (sym t.1) (place-In slot p.slots _ (cast-next p s slot.0 t.0))
 
 -- only a cast asks
 asked : (p : Params) (me : ℕ) (xs : List (Item Message)) (x : Slot × Batch) (i : Input Message) → asks p me xs i ≡ Some x → In x.0 p.slots

@@ -13,11 +13,12 @@ use Rattle.iss_sb.specs.declared.effects.Effects.{Effects}
 use Rattle.iss_sb.specs.declared.effects.Params.{Params}
 use Rattle.iss_sb.specs.declared.effects.To.{To}
 use Rattle.iss_sb.specs.Calls.{AreToNodes, IsGoodParams, IsNothing}
-use Rattle.raft_wire.specs.declared.entries.What.TheVariants.{Holds, Mark}
+use Rattle.iss_sb.specs.declared.content.Content.TheVariants.{Holds, Mark}
 use Rattle.raft_wire.specs.declared.messages.Message.{Message}
 use Rattle.raft_wire.specs.declared.messages.Message.TheVariants.{Vote}
 use Rattle.sb_raft.specs.declared.raft.Raft.{Raft}
-use Rattle.sb_raft.specs.Held.{LogState, paired}
+use Rattle.iss_sb.specs.Paired.{paired}
+use Rattle.sb_raft.specs.Held.{LogState}
 use Rattle.sb_raft.specs.Kept.{kept}
 use Rattle.sb_raft.specs.Logs.{contents, entry, filled, nils}
 use Rattle.sb_raft.specs.Raft.{raft}

@@ -9,20 +9,20 @@ use Rattle.iss_request.specs.declared.requests.Batch.{Batch}
 use Rattle.iss_sb.specs.declared.effects.Input.{Input}
 use Rattle.iss_sb.specs.declared.effects.Input.TheVariants.{Cast, Receive, Timeout}
 use Rattle.iss_sb.specs.declared.effects.Params.{Params}
-use Rattle.iss_sb.specs.Calls.{IsGoodParams}
+use Rattle.iss_sb.specs.Calls.{IsGoodParams, is_slot}
 use Rattle.iss_sb.specs.Evidence.{Item, Made, World, IsReached, accepts}
 use Rattle.iss_sb.specs.Legal.{AreMade}
 use Rattle.iss_sb.proofs.Legal.{legal-reached}
 use Rattle.iss_sb.proofs.Worlds.{accepts-cases}
 use Rattle.raft_wire.specs.declared.entries.Entry.{Entry}
-use Rattle.raft_wire.specs.declared.entries.What.TheVariants.{Holds}
+use Rattle.iss_sb.specs.declared.content.Content.TheVariants.{Holds}
 use Rattle.raft_wire.specs.declared.messages.Message.{Message}
 use Rattle.sb_raft.specs.Facts.{AreOnce}
 use Rattle.sb_raft.specs.Logs.{entry, filled}
 use Rattle.sb_raft.specs.Raft.{asks, raft, state}
-use Rattle.sb_raft.specs.Rules.{Follower, Candidate, Leader, State, Step, appends, is_slot, may_cast, on_cast, quiet, spread, step}
+use Rattle.sb_raft.specs.Rules.{Follower, Candidate, Leader, State, Step, appends, may_cast, on_cast, quiet, spread, step}
 use Rattle.sb_raft.proofs.Batches.{cl, fl, no-role}
-use Rattle.sb_raft.proofs.Effects.{Turn, follows, refines, runs, rules, wins, wins_alone, turn, cast-parts}
+use Rattle.sb_raft.proofs.Effects.{Turn, follows, stands, runs, rules, wins, wins_alone, turn, cast-parts}
 use Rattle.sb_raft.proofs.Few.{filled-both}
 use Rattle.sb_raft.proofs.Histories.{term_one}
 use Rattle.sb_raft.proofs.Lawful.{some-only}
@@ -78,7 +78,7 @@ stood-later p me (y ∷ l) r = go (turn p me (state p me l) y.input) (stood-late
   where
     go : Turn p me (state p me l) y.input (state p me (y ∷ l)) → ((state p me l).role ≡ Candidate → 1 < (state p me l).term) → 1 < (state p me (y ∷ l)).term
     go (follows a) ih = no-role (state p me (y ∷ l)).role Follower Candidate _ a r fc
-    go (refines a b t lg g) ih = omega (arith, ih b, t)
+    go (stands a b t lg g) ih = omega (arith, ih b, t)
     go (runs a lt lg v g) ih = omega (arith, term_one p me l, lt)
     go (rules a b t own lg o g) ih = no-role (state p me (y ∷ l)).role Leader Candidate _ a r lc
     go (wins a b t j e g n own lg o) ih = no-role (state p me (y ∷ l)).role Leader Candidate _ a r lc
@@ -108,7 +108,7 @@ filled-so-far p me (y ∷ l) m s b i r t = elim (accepts-cases y l (s, b) i) [
   where
     go : Turn p me (state p me l) y.input (state p me (y ∷ l)) → ((state p me l).role ≡ Leader → (state p me l).term ≡ 1 → IsFilled p me l s.0) → IsFilled p me (y ∷ l) s.0
     go (follows a) ih = no-role (state p me (y ∷ l)).role Follower Leader _ a r fl
-    go (refines a b t' lg g) ih = no-role (state p me (y ∷ l)).role Candidate Leader _ a r cl
+    go (stands a b t' lg g) ih = no-role (state p me (y ∷ l)).role Candidate Leader _ a r cl
     go (runs a lt lg v g) ih = no-role (state p me (y ∷ l)).role Candidate Leader _ a r cl
     go (rules a b' t' own lg o g) ih =
         let was = ih b' (t' ∙ t) in

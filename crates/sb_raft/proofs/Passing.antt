@@ -6,13 +6,15 @@ use Rattle.std.proofs.lemmas.List.{drop-drop, length-drop, length-take, length-t
 use Rattle.iss_request.specs.declared.ids.Slot.{Slot}
 use Rattle.iss_request.specs.declared.requests.Value.{Value}
 use Rattle.raft_wire.specs.declared.entries.Entry.{Entry}
-use Rattle.sb_raft.specs.Held.{AreCounted, LogState, paired}
+use Rattle.iss_sb.specs.Paired.{paired}
+use Rattle.sb_raft.specs.Held.{AreCounted, LogState}
 use Rattle.sb_raft.specs.Logs.{content, contents, filled}
 use Rattle.sb_raft.proofs.Counting.{counted-pass}
 use Rattle.sb_raft.proofs.Delivers.{contents-both}
 use Rattle.sb_raft.proofs.Few.{filled-both}
 use Rattle.sb_raft.proofs.Merging.{take-both}
-use Rattle.sb_raft.proofs.Newly.{paired-both, paired-none}
+use Rattle.iss_sb.proofs.Paired.{paired-none}
+use Rattle.sb_raft.proofs.Newly.{paired-both}
 
 module _ (es : List Entry) (d : Entry) (at : ℕ) (lt : at < length es) where
   abbrev here : Entry

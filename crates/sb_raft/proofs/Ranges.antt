@@ -16,7 +16,7 @@ use Rattle.iss_sb.specs.Evidence.{Item, IsReadMessage}
 use Rattle.iss_sb.specs.Laws.{AreHeard, IsHeard}
 use Rattle.iss_sb.proofs.Cases.{by-both}
 use Rattle.raft_wire.specs.declared.entries.Entry.{Entry}
-use Rattle.raft_wire.specs.declared.entries.What.TheVariants.{Holds}
+use Rattle.iss_sb.specs.declared.content.Content.TheVariants.{Holds}
 use Rattle.raft_wire.specs.declared.messages.Message.{Message}
 use Rattle.raft_wire.specs.declared.messages.Message.TheVariants.{Append, Reply, AskVote, Vote}
 use Rattle.raft_wire.specs.Messages.{IsSpelledAppend, spell}

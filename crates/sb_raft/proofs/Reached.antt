@@ -13,6 +13,7 @@ use Rattle.iss_sb.specs.declared.effects.To.TheVariants.{One as To_one}
 use Rattle.iss_sb.specs.Calls.{IsGoodParams}
 use Rattle.iss_sb.specs.Evidence.{Item, World, IsReadBatch, IsReached, IsString, MayCome, Move, Separate, after, and_then, at_start, delivered, empty_world}
 use Rattle.iss_sb.specs.Laws.{IsBroadcast}
+use Rattle.iss_sb.proofs.Setups.{good-by}
 use Rattle.raft_wire.specs.declared.messages.Message.{Message}
 use Rattle.raft_wire.specs.declared.messages.Message.TheVariants.{Append, Reply}
 use Rattle.sb_raft.specs.Raft.{raft}
@@ -20,28 +21,7 @@ use Rattle.sb_raft.proofs.Example.{b, cast, committed, copied, e1, node, p, setu
 use Rattle.sb_raft.proofs.Safe.{raft-safe}
 
 good-setup : IsGoodSetup setup
-good-setup = record {
-  version = refl;
-  faults = omega arith;
-  relay_faults = λ h. absurd (let k : 2 ≡ 1 = h in omega arith);
-  relay_kind = λ h. absurd (let k : 2 ≡ 1 = h in omega arith);
-  nodes = refl;
-  majority = refl;
-  epoch_low = omega arith;
-  epoch_high = omega arith;
-  buckets_low = omega arith;
-  buckets_high = omega arith;
-  batch_low = omega arith;
-  batch_high = omega arith;
-  window_low = omega arith;
-  window_high = omega arith;
-  clients_low = omega arith;
-  clients_high = omega arith;
-  keys_low = omega arith;
-  keys_high = omega arith;
-  few_faulty = refl;
-  rising_faulty = tt;
-}
+good-setup = good-by setup refl
 
 good : IsGoodParams raft p
 good = record {

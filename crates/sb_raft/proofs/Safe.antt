@@ -1,5 +1,5 @@
 -- Raft is a broadcast in every world of legal lists and ballots, and both are kept.
-use Rattle.std.proofs.Common.{◌≡◌, ℕ, true, List, ◌∷◌, ◌++◌, take, drop, append_assoc, refl, sym, subst, ap, ◌∙◌, inl, inr, Option, Some, None, true≢false}
+use Rattle.std.proofs.Common.{◌≡◌, ℕ, List, ◌∷◌, ◌++◌, take, drop, append_assoc, refl, sym, subst, ap, ◌∙◌, inl, inr, Some}
 use Rattle.iss_base.specs.Lists.{In}
 use Rattle.iss_request.specs.declared.ids.Slot.{Slot}
 use Rattle.iss_request.specs.declared.requests.Batch.{Batch}
@@ -10,32 +10,25 @@ use Rattle.iss_sb.specs.Evidence.{Item, World, accepts, delivered}
 use Rattle.iss_sb.specs.Laws.{IsBroadcast, IsSafe}
 use Rattle.iss_sb.specs.Legal.{Front, IsLegal}
 use Rattle.iss_sb.proofs.Legal.{accepts-front, all-correct, front_self, made-front, safe-kept}
+use Rattle.iss_sb.proofs.Slots.{slot-is, slot-some}
 use Rattle.iss_base.proofs.Lists.{in_right}
 use Rattle.raft_wire.specs.declared.entries.Entry.{Entry}
 use Rattle.raft_wire.specs.declared.messages.Message.{Message}
 use Rattle.sb_raft.specs.Raft.{decided, raft, state}
-use Rattle.sb_raft.specs.Rules.{is_slot}
 use Rattle.sb_raft.proofs.Ballots.{Ballots}
-use Rattle.raft_wire.specs.declared.entries.What.TheVariants.{Holds}
+use Rattle.iss_sb.specs.declared.content.Content.TheVariants.{Holds}
 use Rattle.sb_raft.specs.Facts.{IsOwned}
 use Rattle.sb_raft.specs.Logs.{filled}
 use Rattle.iss_base.specs.Lists.{nth}
-use Rattle.iss_base.proofs.Lists.{is-eq, some-injective}
+use Rattle.iss_base.proofs.Lists.{some-injective}
 use Rattle.sb_raft.proofs.Core.{all_fine}
 use Rattle.sb_raft.proofs.Histories.{lead_at}
 use Rattle.sb_raft.proofs.Inv.{Inv}
 use Rattle.sb_raft.proofs.Elections.{LeadOf, histories, mom, older, front_tail, facts, elected, later_term}
 use Rattle.sb_raft.proofs.Delivers.{delivered-is, take-drop}
-use Rattle.sb_raft.proofs.Batches.{later-plain, refines}
+use Rattle.sb_raft.proofs.Batches.{later-plain, stands}
 use Rattle.sb_raft.proofs.Casts.{first-cast}
 use Rattle.sb_raft.proofs.Agree.{agree, inv-of, keeps, starts}
-
-slot_eta : (a b : Slot) → a.0 ≡ b.0 → a ≡ b
-slot_eta a b h = ap (λ (n : ℕ). let s : Slot = record { 0 = n } in s) h
-
-slot-some : (s : Slot) (o : Option Slot) → is_slot s.0 o ≡ true → o ≡ Some s
-slot-some s None h = absurd (true≢false (sym h))
-slot-some s (Some t) h = ap (λ (z : Slot). let o : Option Slot = Some z in o) (slot_eta t s (is-eq t.0 s.0 h))
 
 module _ (p : Params) (w : World Message) (good : IsGoodParams raft p) (legal : IsLegal raft p w) (b : Ballots p w) where
   inv : Inv p w
@@ -68,11 +61,11 @@ module _ (p : Params) (w : World Message) (good : IsGoodParams raft p) (legal : 
       let n = (state p i (w i)).commit in
       let log = (state p i (w i)).log in
       let dx : decided p i (w i) s.0 ≡ Some (Value_batch c) = sym (delivered-is p i (w i) s.0) ∙ d in
-      let st = refines s.0 p.slots c (take n log) dx in
+      let st = stands s.0 p.slots c (take n log) dx in
       let whole : log ≡ st.front ++ (st.entry ∷ (st.rest ++ drop n log)) = sym (take-drop n log) ∙ (ap (λ (z : List Entry). z ++ drop n log) st.is ∙ append_assoc st.front (st.entry ∷ st.rest) (drop n log)) in
       let own = batch-owned i (w i) (front_self (w i)) st.front st.entry (st.rest ++ drop n log) c whole st.holds in
       let same : own.slot ≡ st.slot = some-injective own.slot st.slot (sym own.place ∙ st.place) in
-      subst (λ (z : Slot). In {A = Slot × Batch} (z, c) (accepts (w p.leader.0))) (same ∙ slot_eta st.slot s st.same) own.taken
+      subst (λ (z : Slot). In {A = Slot × Batch} (z, c) (accepts (w p.leader.0))) (same ∙ slot-is st.slot s st.same) own.taken
 
   is-broadcast : IsBroadcast raft p w
   is-broadcast = record {

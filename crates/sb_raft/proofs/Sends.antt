@@ -14,7 +14,7 @@ use Rattle.iss_sb.specs.declared.effects.To.TheVariants.{All as To_all, One as T
 use Rattle.iss_sb.specs.Evidence.{Reaches}
 use Rattle.iss_sb.proofs.Cases.{by-both}
 use Rattle.raft_wire.specs.declared.entries.Entry.{Entry}
-use Rattle.raft_wire.specs.declared.entries.What.TheVariants.{Holds}
+use Rattle.iss_sb.specs.declared.content.Content.TheVariants.{Holds}
 use Rattle.raft_wire.specs.declared.messages.Message.{Message}
 use Rattle.raft_wire.specs.declared.messages.Message.TheVariants.{Append, Reply, AskVote, Vote}
 use Rattle.sb_raft.specs.Rules.{Follower, Leader, State, Step, advanced, answer, append_behind, append_to, appended, appends, ask_vote, candidate, counted, grants, is_candidate, is_leader, last_timed_term, may_cast, may_commit, may_merge, on_append, on_ask, on_cast, on_not_ok, on_ok, on_reply, on_timeout, on_vote, others, quiet, raised, risen, spread, stands_up, step, taken, to_each, won}

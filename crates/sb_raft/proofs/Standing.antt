@@ -14,18 +14,21 @@ use Rattle.iss_sb.specs.declared.effects.Params.{Params}
 use Rattle.iss_sb.specs.Calls.{AllIn, Delivers, IsGoodParams, IsTaken, IsTrueStep, slots_of}
 use Rattle.iss_sb.specs.Evidence.{Item, and_then, delivered}
 use Rattle.iss_sb.specs.declared.effects.Input.TheVariants.{Cast}
+use Rattle.iss_sb.proofs.Slots.{place-In}
 use Rattle.raft_wire.specs.declared.entries.Entry.{Entry}
 use Rattle.raft_wire.specs.declared.messages.Message.{Message}
 use Rattle.sb_raft.specs.declared.raft.Raft.{Raft}
 use Rattle.sb_raft.specs.Logs.{contents, filled}
-use Rattle.sb_raft.specs.Raft.{asks, raft, state, value_at}
+use Rattle.iss_sb.specs.Paired.{value_with}
+use Rattle.sb_raft.specs.Raft.{asks, raft, state}
 use Rattle.sb_raft.specs.Rules.{State, Step, is_candidate, may_cast, step}
 use Rattle.sb_raft.specs.Refines.{Does, IsLow, Refines, cast_of, held, newly}
 use Rattle.sb_raft.proofs.Bounds.{bounded}
 use Rattle.sb_raft.proofs.Delivers.{contents-both, delivered-is, grown, room}
 use Rattle.sb_raft.proofs.Few.{few, no-more}
-use Rattle.sb_raft.proofs.Lawful.{cast-next, nth-In}
-use Rattle.sb_raft.proofs.Newly.{decided-fresh, fresh-ascending, fresh-decided, fresh-within}
+use Rattle.sb_raft.proofs.Lawful.{cast-next}
+use Rattle.iss_sb.proofs.Paired.{fresh-ascending, fresh-within}
+use Rattle.sb_raft.proofs.Newly.{decided-fresh, fresh-decided}
 use Rattle.sb_raft.proofs.Prefixes.{pre_rest}
 
 -- ---- what becomes delivered
@@ -55,12 +58,12 @@ module _ (p : Params) (good : IsGoodParams raft p) (me : ℕ) (xs : List (Item M
       now : (t : Slot) (y : Value) → In {A = Slot × Value} (t, y) (newly p s v) → (delivered raft p me (x ∷ xs) t.0 ≡ Some y) × (delivered raft p me xs t.0 ≡ None)
       now t y i =
           let f = fresh-decided 0 t y p.slots (contents before) (contents (drop s.commit (take v.commit v.log))) good.rising i in
-          (delivered-is p me (x ∷ xs) t.0 ∙ subst (λ (z : List Value). value_at t.0 p.slots z ≡ Some y) (sym contents-now) f.0, delivered-is p me xs t.0 ∙ f.1)
+          (delivered-is p me (x ∷ xs) t.0 ∙ subst (λ (z : List Value). value_with t.0 p.slots z ≡ Some y) (sym contents-now) f.0, delivered-is p me xs t.0 ∙ f.1)
 
       fresh : (t : Slot) (y : Value) → delivered raft p me (x ∷ xs) t.0 ≡ Some y → delivered raft p me xs t.0 ≡ None → In {A = Slot × Value} (t, y) (newly p s v)
       fresh t y h n =
           decided-fresh t y p.slots (contents before) (contents (drop s.commit (take v.commit v.log)))
-          (subst (λ (z : List Value). value_at t.0 p.slots z ≡ Some y) contents-now (sym (delivered-is p me (x ∷ xs) t.0) ∙ h)) (sym (delivered-is p me xs t.0) ∙ n)
+          (subst (λ (z : List Value). value_with t.0 p.slots z ≡ Some y) contents-now (sym (delivered-is p me (x ∷ xs) t.0) ∙ h)) (sym (delivered-is p me xs t.0) ∙ n)
 
 -- ---- indices
 
@@ -125,5 +128,5 @@ pub cast-inside : (p : Params) (s : State) (slot : Slot) (batch : Batch) → IfS
 cast-inside p s slot batch = go (may_cast p s slot.0) refl
   where
     go : (b : Bool) → may_cast p s slot.0 ≡ b → IfSome {T = Slot × Batch} (if b then Some (slot, batch) else None) (λ a. In a.0 p.slots)
-    go true h = nth-In slot p.slots (filled s.log) (cast-next p s slot.0 h)
+    go true h = place-In slot p.slots (filled s.log) (cast-next p s slot.0 h)
     go false h = tt

@@ -10,7 +10,7 @@ use Rattle.iss_sb.specs.declared.effects.Input.TheVariants.{Cast, Receive, Timeo
 use Rattle.iss_sb.specs.declared.effects.Params.{Params}
 use Rattle.iss_sb.proofs.Cases.{by-both}
 use Rattle.raft_wire.specs.declared.entries.Entry.{Entry}
-use Rattle.raft_wire.specs.declared.entries.What.TheVariants.{Holds}
+use Rattle.iss_sb.specs.declared.content.Content.TheVariants.{Holds}
 use Rattle.raft_wire.specs.declared.messages.Message.{Message}
 use Rattle.raft_wire.specs.declared.messages.Message.TheVariants.{Append, Reply, AskVote, Vote}
 use Rattle.sb_raft.specs.Rules.{Role, Follower, Candidate, Leader, State, Step, advanced, answer, append_behind, appended, appends, candidate, counted, grants, greatest, is_candidate, is_leader, last_timed_term, matched_at, may_cast, may_commit, may_merge, on_append, on_ask, on_cast, on_not_ok, on_ok, on_reply, on_timeout, on_vote, quiet, raised, risen, spread, stands_up, step, taken, won}

@@ -1,5 +1,6 @@
--- What holds of a world of Raft that moves lead to: the facts that agreement stands on. What node i had taken at a moment
--- is a front of its list.
+-- Facts about every reached world of Raft, as in the paper: one leader per term, log matching, and committed entries
+-- in the log of each later leader. From them follow agreement and that the segment's leader accepted what is
+-- delivered. What a replica had taken at a moment is a tail of its list.
 use Rattle.std.specs.Prelude.{◌≡◌, ◌<◌, ◌≤◌, ℕ, List, ◌∷◌, ◌++◌, length, take, Some}
 use Rattle.iss_base.specs.Lists.{In, nth}
 use Rattle.iss_request.specs.declared.ids.Slot.{Slot}
@@ -11,7 +12,7 @@ use Rattle.iss_sb.specs.Evidence.{Item, World, accepts, delivered}
 use Rattle.iss_sb.specs.Laws.{SharedAcceptor}
 use Rattle.iss_sb.specs.Legal.{Front}
 use Rattle.raft_wire.specs.declared.entries.Entry.{Entry}
-use Rattle.raft_wire.specs.declared.entries.What.TheVariants.{Holds}
+use Rattle.iss_sb.specs.declared.content.Content.TheVariants.{Holds}
 use Rattle.raft_wire.specs.declared.messages.Message.{Message}
 use Rattle.sb_raft.specs.Logs.{filled, term_at}
 use Rattle.sb_raft.specs.Raft.{commit, raft, raft_log, state}
@@ -59,6 +60,7 @@ pub record AreByFirst (p : Params) (w : World Message) : Type 0 where
       raft_log p i a ≡ front ++ (e ∷ rest) → e.what ≡ Holds b → IsOwned p w front b
 
 -- a node accepts one batch at a slot
+-- rule: Raft: A node accepts one batch a slot
 abbrev pub AreOnce : Params → World Message → Type 0
 AreOnce p w = (i : ℕ) (s : Slot) (b c : Batch) → In {A = Slot × Batch} (s, b) (accepts (w i)) → In {A = Slot × Batch} (s, c) (accepts (w i)) → b ≡ c
 

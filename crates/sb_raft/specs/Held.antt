@@ -1,4 +1,5 @@
--- What the parts of the code hold.
+-- What the parts of Raft's code hold: a log as its entries, with counts of the slots that they fill, and its committed
+-- index.
 use Rattle.std.specs.Prelude.{◌≡◌, ◌≤◌, ℕ, suc, ◌+◌, ◌==◌, ◌&&◌, Bool, false, cond, nat_le, List, [], ◌∷◌, drop, length, take}
 use Rattle.iss_request.specs.declared.ids.Slot.{Slot}
 use Rattle.iss_request.specs.declared.requests.Value.{Value}
@@ -37,9 +38,3 @@ is_mergeable l index es = nat_le l.commit (index + stay (drop index l.entries) e
 
 abbrev pub with_merged : LogState → ℕ → List Entry → LogState
 with_merged l index es = record l { entries = merged l.entries index es }
-
--- slots, each with a value
-abbrev pub paired : List Slot → List Value → List (Slot × Value)
-paired [] vs = []
-paired (s ∷ ss) [] = []
-paired (s ∷ ss) (v ∷ vs) = (s, v) ∷ paired ss vs

@@ -1,8 +1,8 @@
--- What the code keeps for a node: what was set, or what is kept for all others.
+-- What the code keeps for each peer: what was set for it, or a default.
 use Rattle.std.specs.Prelude.{ℕ, Option, Some, None}
 use Rattle.std.specs.BTreeMap.{get}
 use Rattle.std.specs.Ordering.{nat_cmp}
-use Rattle.sb_raft.specs.declared.marks.PerPeer.{PerPeer}
+use Rattle.sb_raft.specs.declared.per_peer.PerPeer.{PerPeer}
 
 abbrev pub or_others : {T : Type 0} → Option T → T → T
 or_others None others = others

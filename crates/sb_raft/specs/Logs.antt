@@ -1,12 +1,13 @@
--- Logs, the first entry first. The first index is 1, and the term at index 0 is 0.
+-- Logs, the first entry first. The first index is 1, and the term at index 0 is 0. A log's contents are the values
+-- that it gives to the slots; a mark gives none. Merging puts sent entries behind a previous index.
 use Rattle.std.specs.Prelude.{ℕ, zero, suc, ◌==◌, ◌&&◌, ◌||◌, Bool, cond, nat_lt, nat_le, List, [], ◌∷◌, ◌++◌, length, take, drop}
 use Rattle.iss_request.specs.declared.requests.Value.{Value}
 use Rattle.iss_request.specs.declared.requests.Value.TheVariants.{Nil as Value_nil, Batch as Value_batch}
 use Rattle.raft_wire.specs.declared.entries.Entry.{Entry}
-use Rattle.raft_wire.specs.declared.entries.What.{What}
-use Rattle.raft_wire.specs.declared.entries.What.TheVariants.{Nil, Holds, Mark}
+use Rattle.iss_sb.specs.declared.content.Content.{Content}
+use Rattle.iss_sb.specs.declared.content.Content.TheVariants.{Nil, Holds, Mark}
 
-abbrev pub entry : ℕ → What → Entry
+abbrev pub entry : ℕ → Content → Entry
 entry term what = record { term = term; what = what }
 
 -- the term of the last entry, 0 where there is none
@@ -20,7 +21,7 @@ term_at log i = last_term (take i log)
 
 -- ---- what a log holds for the slots, in their order. A mark holds no slot
 
-abbrev pub content : What → List Value
+abbrev pub content : Content → List Value
 content Nil = Value_nil ∷ []
 content (Holds batch) = Value_batch batch ∷ []
 content Mark = []

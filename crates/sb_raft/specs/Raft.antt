@@ -1,11 +1,15 @@
--- Raft as a module: its definitions over the list of what a node took.
+-- Raft as a module (Ongaro and Ousterhout, 2014): 2f+1 replicas of which f may stop. Its state is the fold of the step
+-- over what a replica took; the committed part of the log decides the slots.
 use Rattle.std.specs.Prelude.{ℕ, ◌+◌, ◌*◌, ◌==◌, true, List, [], ◌∷◌, take, Option, Some, None, if◌then◌else◌}
 use Rattle.iss_request.specs.declared.ids.Slot.{Slot}
 use Rattle.iss_request.specs.declared.requests.Batch.{Batch}
 use Rattle.iss_request.specs.declared.requests.Value.{Value}
+use Rattle.iss_request.specs.Setup.{nodes_of_kind, quorum_of_kind}
+use Rattle.iss_request.specs.declared.setups.Kind.TheVariants.{Stopping}
 use Rattle.iss_sb.specs.declared.effects.Input.{Input}
 use Rattle.iss_sb.specs.declared.effects.Input.TheVariants.{Cast, Receive, Timeout}
 use Rattle.iss_sb.specs.declared.effects.Params.{Params}
+use Rattle.iss_sb.specs.Paired.{value_with}
 use Rattle.iss_sb.specs.Evidence.{Item, Made, Module}
 use Rattle.raft_wire.specs.declared.entries.Entry.{Entry}
 use Rattle.raft_wire.specs.declared.messages.Message.{Message}
@@ -35,21 +39,15 @@ raft_log p me xs = (state p me xs).log
 abbrev pub commit : Params → ℕ → List (Item Message) → ℕ
 commit p me xs = (state p me xs).commit
 
--- the k-th content is the k-th slot's
-abbrev pub value_at : ℕ → List Slot → List Value → Option Value
-value_at s [] vs = None
-value_at s (t ∷ ts) [] = None
-value_at s (t ∷ ts) (v ∷ vs) = if t.0 == s then Some v else value_at s ts vs
-
 -- what the committed part of the log holds at the slot
 abbrev pub decided : Params → ℕ → List (Item Message) → ℕ → Option Value
-decided p me xs s = value_at s p.slots (contents (take (commit p me xs) (raft_log p me xs)))
+decided p me xs s = value_with s p.slots (contents (take (commit p me xs) (raft_log p me xs)))
 
 -- f stopped nodes of 2f+1
 abbrev pub raft : Module Message
 raft = record {
-  nodes = λ f. 2 * f + 1;
-  quorum = λ f. f + 1;
+  nodes = nodes_of_kind Stopping;
+  quorum = quorum_of_kind Stopping;
   stopping = true;
   tag = 2;
   signs = λ p. 0;

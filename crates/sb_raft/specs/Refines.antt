@@ -1,4 +1,5 @@
--- What Raft's code holds, and what its rules do.
+-- When Raft's code refines a list of inputs: it holds the state that the list leads to. Each rule of the code does
+-- what the definition of the same rule does, where indices fit the messages' fields, which holds for every list.
 use Rattle.std.specs.Prelude.{◌≡◌, ◌<◌, ◌≤◌, ◌+◌, ◌-◌, ◌^◌, ◌==◌, ℕ, Bool, true, cond}
 use Rattle.std.specs.Prelude.{min, List, [], ◌∷◌, length, take, drop, Option, Some, None, if◌then◌else◌}
 use Rattle.iss_base.specs.Quorum.{count_below}
@@ -17,7 +18,7 @@ use Rattle.raft_wire.specs.declared.messages.Message.TheVariants.{Reply}
 use Rattle.sb_raft.specs.declared.raft.Role.{Role as CodeRole}
 use Rattle.sb_raft.specs.declared.raft.Role.TheVariants.{Follower as Role_follower, Candidate as Role_candidate, Leader as Role_leader}
 use Rattle.sb_raft.specs.declared.raft.Raft.{Raft}
-use Rattle.sb_raft.specs.Held.{paired}
+use Rattle.iss_sb.specs.Paired.{paired}
 use Rattle.sb_raft.specs.Kept.{kept}
 use Rattle.sb_raft.specs.Logs.{contents, filled}
 use Rattle.sb_raft.specs.Raft.{state}

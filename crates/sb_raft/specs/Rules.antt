@@ -1,17 +1,18 @@
--- The rules of Raft: what one node's state becomes with one input, and what it sends. A function a rule.
+-- The rules of Raft: what a replica's state becomes with one input, and what it sends. Each rule is one function: a
+-- newer term, a cast, an Append, its reply, commitment, a vote request, a vote, and a timeout.
 use Rattle.std.specs.Prelude.{ℕ, zero, suc, ◌+◌, ◌-◌, ◌==◌, ◌&&◌, ◌||◌, Bool, true, false, not, cond, ◌∷◌, ◌++◌, if◌then◌else◌}
 use Rattle.std.specs.Prelude.{nat_lt, nat_le, max, min, List, [], length, drop, Option, Some, None}
 use Rattle.iss_base.specs.Lists.{nth, set_at}
 use Rattle.iss_base.specs.Quorum.{count_below}
-use Rattle.iss_request.specs.declared.ids.Slot.{Slot}
 use Rattle.iss_request.specs.declared.requests.Batch.{Batch}
+use Rattle.iss_sb.specs.Calls.{is_slot}
 use Rattle.iss_sb.specs.declared.effects.Input.{Input}
 use Rattle.iss_sb.specs.declared.effects.Input.TheVariants.{Cast, Receive, Timeout}
 use Rattle.iss_sb.specs.declared.effects.Params.{Params}
 use Rattle.iss_sb.specs.declared.effects.To.{To}
 use Rattle.iss_sb.specs.declared.effects.To.TheVariants.{One as To_one}
 use Rattle.raft_wire.specs.declared.entries.Entry.{Entry}
-use Rattle.raft_wire.specs.declared.entries.What.TheVariants.{Holds, Mark}
+use Rattle.iss_sb.specs.declared.content.Content.TheVariants.{Holds, Mark}
 use Rattle.raft_wire.specs.declared.messages.Message.{Message}
 use Rattle.raft_wire.specs.declared.messages.Message.TheVariants.{Append, Reply, AskVote, Vote}
 use Rattle.sb_raft.specs.Logs.{entry, filled, fits_behind, last_term, merged, nils, stay, term_at, up_to_date}
@@ -113,6 +114,7 @@ abbrev pub with_commit : Params → ℕ → Step → ℕ → Step
 with_commit p me made i = if nat_lt made.state.commit i then risen p me (record made.state { commit = i }) made.sends else made
 
 -- after what a rule made
+-- rule: Raft: A leader commits by counting an entry of its own term, and all entries before it
 abbrev pub advanced : Params → ℕ → Step → Step
 advanced p me made = with_commit p me made (greatest (may_commit p me made.state) made.state.commit (length made.state.log))
 
@@ -122,18 +124,16 @@ spread p me s = advanced p me (record { state = s; sends = appends p me s })
 
 -- ---- a message of a higher term: the node takes the term, has given no vote in it, and follows
 
+-- rule: Raft: A higher term makes a node a follower of that term, with no vote given in it
 abbrev pub raised : State → ℕ → State
 raised s t = if nat_lt s.term t then record s { term = t; vote = None; role = Follower } else s
 
 -- ---- casts: the leader of term 1 takes them in that term, each at the next slot
 
-abbrev pub is_slot : ℕ → Option Slot → Bool
-is_slot s None = false
-is_slot s (Some t) = t.0 == s
-
 abbrev pub may_cast : Params → State → ℕ → Bool
 may_cast p s slot = (is_leader s.role && (s.term == 1)) && is_slot slot (nth p.slots (filled s.log))
 
+-- rule: Raft: The leader of the first term takes casts, each at the next slot
 abbrev pub on_cast : Params → ℕ → State → ℕ → Batch → Step
 on_cast p me s slot batch =
     if may_cast p s slot
@@ -146,9 +146,11 @@ abbrev pub log_limit : ℕ
 log_limit = 65600
 
 -- nothing that is committed goes, and the log stays short enough. Else there is no answer
+-- rule: Raft: A log has at most 65,600 entries after an Append
 abbrev pub may_merge : State → ℕ → List Entry → Bool
 may_merge s previous es = nat_le s.commit (previous + stay (drop previous s.log) es) && nat_le (length (merged s.log previous es)) log_limit
 
+-- rule: Raft: An Append commits only entries that it covers
 abbrev pub appended : State → ℕ → ℕ → List Entry → State
 appended s previous commit es = record s { log = merged s.log previous es; commit = max s.commit (min commit (previous + length es)) }
 
@@ -159,6 +161,8 @@ taken s from previous previous_term commit es =
     then (if may_merge s previous es then answer (appended s previous commit es) from (Reply s.term true (previous + length es)) else quiet s)
     else answer s from (Reply s.term false previous)
 
+-- rule: Raft: An Append keeps committed entries and removes entries that differ in term
+-- rule: Raft: An Append of a lower term is refused with the node's own term
 abbrev pub on_append : State → ℕ → ℕ → ℕ → ℕ → ℕ → List Entry → Step
 on_append s from term previous previous_term commit es =
     if term == s.term
@@ -171,10 +175,12 @@ on_append s from term previous previous_term commit es =
 abbrev pub matched_at : State → ℕ → ℕ → State
 matched_at s j i = record s { matched = set_at s.matched j i; next = set_at s.next j (i + 1) }
 
+-- rule: Raft: A follower's match index never decreases within a term
 abbrev pub on_ok : Params → ℕ → State → ℕ → ℕ → Step
 on_ok p me s from i = if nat_le i (length s.log) then advanced p me (quiet (matched_at s from (max (s.matched from) i))) else quiet s
 
 -- not ok, of the Append that was sent last: one entry more is sent
+-- rule: Raft: After a refused Append the leader sends one entry more
 abbrev pub on_not_ok : State → ℕ → ℕ → Step
 on_not_ok s from i =
     if (i == s.next from - 1) && nat_le 1 i
@@ -196,6 +202,7 @@ free_for (Some k) j = k == j
 abbrev pub grants : State → ℕ → ℕ → ℕ → ℕ → Bool
 grants s from term last last_term = (term == s.term) && (free_for s.vote from && up_to_date s.log last last_term)
 
+-- rule: Raft: A node gives one vote a term, to a candidate whose log is up to date
 abbrev pub on_ask : State → ℕ → ℕ → ℕ → ℕ → Step
 on_ask s from term last last_term =
     if grants s from term last last_term
@@ -209,6 +216,7 @@ abbrev pub filling : Params → State → List Entry
 filling p s = entry s.term Mark ∷ nils s.term (length p.slots - filled s.log)
 
 -- what is sent next stands behind the old log
+-- rule: Raft: A new leader fills the rest of its segment with a mark and nil entries
 abbrev pub won : Params → State → State
 won p s = record s { role = Leader; log = s.log ++ filling p s; next = λ k. length s.log + 1; matched = λ k. 0 }
 
@@ -238,6 +246,8 @@ ask_vote s k = AskVote s.term (length s.log) (last_term s.log)
 abbrev pub stands_up : Params → ℕ → State → Step
 stands_up p me s = counted p me s (to_each (ask_vote s) (others me p.setup.n))
 
+-- rule: Raft: A timeout makes a node a candidate of the next term, up to the last term
+-- rule: Raft: A leader that times out sends its log to all others again
 abbrev pub on_timeout : Params → ℕ → State → Step
 on_timeout p me s =
     if is_leader s.role

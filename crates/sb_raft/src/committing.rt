@@ -62,6 +62,7 @@ impl Raft {
     }
 
     // The greatest index above commit of an entry of the own term that a quorum holds, commit where there is none.
+    // rule: Raft: The commit index is the greatest that may be committed
     fn reach(&self, p: &Params) -> usize
         requires { IsGoodParams raft p.now }
         ensures { result ≡ greatest (may_commit p.now self.now.me.0 (held self.now)) self.now.log.commit (length self.now.log.entries) }
@@ -78,6 +79,8 @@ impl Raft {
     }
 
     // Commits what a quorum holds, and if that is more than before tells all others, behind what is sent.
+    // rule: Raft: A leader commits by counting an entry of its own term, and all entries before it
+    // rule: Modules: A step delivers exactly what the module's definition delivers
     pub(crate) fn advance(
         &mut self,
         alloc: Global,

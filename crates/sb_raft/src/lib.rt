@@ -6,7 +6,7 @@ pub mod committing;
 pub mod facts;
 pub mod laws;
 pub mod log;
-pub mod marks;
+pub mod per_peer;
 pub mod raft;
 pub mod rules;
 pub mod sending;

@@ -1,11 +1,13 @@
 //! A node's log, and how much of it is committed.
 ghost use Rattle.std.specs.Prelude.{◌≡◌, ◌<◌, ◌≤◌, ◌+◌, ◌-◌, ◌^◌, ◌++◌, ◌∷◌, [], length, take, drop, max, option_to_list, IfOk, OnOk, if◌then◌else◌};
 ghost use Rattle.iss_request.specs.declared.requests.Value.{Value};
-ghost use Rattle.sb_raft.specs.Held.{is_mergeable, no_log, paired, same, starts_with, with_merged};
+ghost use Rattle.iss_sb.specs.Paired.{paired};
+ghost use Rattle.sb_raft.specs.Held.{is_mergeable, no_log, same, starts_with, with_merged};
 ghost use Rattle.sb_raft.specs.Logs.{content, contents, filled, last_term, nils, term_at};
 
 use iss_request::{NoMemory, Seq, Slot, Value};
-use raft_wire::{Entry, What};
+use iss_sb::Content;
+use raft_wire::Entry;
 use std::alloc::Global;
 use std::marker::Model;
 
@@ -32,22 +34,22 @@ impl Model for Log {
 }
 
 // What an entry holds for a slot, if it holds one.
-fn content_of(what: &What) -> Result<Option<Value>, NoMemory>
+fn content_of(what: &Content) -> Result<Option<Value>, NoMemory>
     ensures { IfOk result (λ v. option_to_list v ≡ content what.now) }
 {
     match what {
-        What::Nil => Ok(Some(Value::Nil)),
-        What::Holds(batch) => Ok(Some(Value::Batch(batch.copy()?))),
-        What::Mark => Ok(None),
+        Content::Nil => Ok(Some(Value::Nil)),
+        Content::Holds(batch) => Ok(Some(Value::Batch(batch.copy()?))),
+        Content::Mark => Ok(None),
     }
 }
 
 // How many slots an entry fills.
-fn fills(what: &What) -> usize
+fn fills(what: &Content) -> usize
     ensures { result ≡ length (content what.now) }
 {
     match what {
-        What::Mark => 0,
+        Content::Mark => 0,
         _ => 1,
     }
 }
@@ -201,7 +203,7 @@ impl Log {
         ensures { OnOk result (self.new ≡ record self.old { entries = self.old.entries ++ nils term count }) }
     {
         for _ in 0..count {
-            let what = What::Nil;
+            let what = Content::Nil;
             self.push(Entry { term, what })?;
         }
         Ok(())
@@ -209,6 +211,7 @@ impl Log {
 
     /// Puts entries behind an index: those that stand there go from the first on that differs in term. Nothing is changed
     /// where a committed one would go, or the log would be too long; the answer tells.
+    // rule: Raft: A log has at most 65,600 entries after an Append
     pub fn merge(&mut self, index: usize, entries: Seq<Entry>) -> Result<bool, NoMemory>
         requires { index ≤ length self.old.entries }
         ensures tells { IfOk result (λ b. b ≡ is_mergeable self.old index entries) }

@@ -1,15 +1,18 @@
 //! A node's part in an instance of Raft, and that Raft is an ordering module.
-ghost use Rattle.std.specs.Prelude.{◌≡◌, ◌<◌, None, IfOk};
-ghost use Rattle.iss_sb.specs.Calls.{IsGoodInput, IsGoodParams, IsStep};
+ghost use Rattle.std.specs.Prelude.{◌≡◌, ◌<◌, ◌≤◌, None, IfOk};
+ghost use Rattle.iss_keys.specs.KeyStates.{left_of};
+ghost use Rattle.iss_sb.specs.Calls.{IsGoodInput, IsGoodParams, IsTrueStep};
 ghost use Rattle.sb_raft.specs.Raft.{raft};
 ghost use Rattle.sb_raft.specs.Rules.{is_candidate, is_leader, on_message};
 ghost use Rattle.sb_raft.specs.Refines.{Does, IsLow, Refines, held, role_of};
 
 use crate::log::Log;
-use crate::marks::PerPeer;
+use crate::per_peer::PerPeer;
 use iss_keys::Keys;
-use iss_request::{Batch, DecodeError, Fields, NoMemory, NodeId, Seq, Slot, Writer};
-use iss_sb::{Claim, Effects, Input, Params, Sequenced, StepError};
+use iss_request::{
+    Batch, DecodeError, Fields, Kind, NoMemory, NodeId, Seq, Slot, Writer, nodes_of_kind, quorum,
+};
+use iss_sb::{Claim, Effects, Input, Params, Sequenced, asks_if};
 use raft_wire::Message;
 use std::alloc::Global;
 
@@ -138,11 +141,11 @@ impl Sequenced for Raft {
     ghost refines = { Refines };
 
     fn nodes_of(f: u32) -> u32 {
-        2 * f + 1
+        nodes_of_kind(Kind::Stopping, f)
     }
 
     fn quorum_of(f: u32) -> u32 {
-        f + 1
+        quorum(Kind::Stopping, f)
     }
 
     fn signs(_p: &Params) -> u32 {
@@ -173,37 +176,28 @@ impl Sequenced for Raft {
 
     fn asks<'a>(&'a self, p: &Params, i: &'a Input<Message>) -> Option<(Slot, &'a Batch)> {
         match i {
-            Input::Cast { slot, batch } => {
-                if self.may_cast(p, *slot) {
-                    Some((*slot, batch))
-                } else {
-                    None
-                }
-            }
+            Input::Cast { slot, batch } => asks_if(self.may_cast(p, *slot), *slot, batch),
             _ => None,
         }
     }
 
-    fn step(
+    fn apply(
         &mut self,
         alloc: Global,
         p: &Params,
         i: Input<Message>,
-        verdict: bool,
-        keys: &mut Keys,
-    ) -> Result<Effects<Message>, StepError>
+        _keys: &mut Keys,
+    ) -> Result<Effects<Message>, NoMemory>
         requires good { IsGoodParams raft p.now }
         requires input { IsGoodInput p.now i }
-        ensures { IsStep raft Refines p.now self.old self.new i verdict keys.old keys.new result }
+        requires enough { raft.signs p.now ≤ left_of _keys.old }
+        ensures { IfOk result (λ e. IsTrueStep raft Refines p.now self.old self.new i _keys.old _keys.new e) }
     {
         let _term = self.term();
-        if !verdict {
-            return Ok(Effects::nothing(alloc));
-        }
         match i {
-            Input::Cast { slot, batch } => Ok(self.cast(alloc, p, slot, batch)?),
-            Input::Receive { from, msg } => Ok(self.receive(alloc, p, from, msg)?),
-            Input::Timeout => Ok(self.time_out(alloc, p)?),
+            Input::Cast { slot, batch } => self.cast(alloc, p, slot, batch),
+            Input::Receive { from, msg } => self.receive(alloc, p, from, msg),
+            Input::Timeout => self.time_out(alloc, p),
         }
     }
 

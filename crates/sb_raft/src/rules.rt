@@ -1,20 +1,19 @@
 //! The rules of Raft, a function a rule.
 ghost use Rattle.std.specs.Prelude.{◌≡◌, ◌<◌, ◌≤◌, ◌-◌, ◌^◌, ◌==◌, ◌&&◌, true, not, nat_le, OnOk, None, IfOk, length};
-ghost use Rattle.iss_base.specs.Lists.{nth};
 ghost use Rattle.iss_sb.specs.Calls.{AreToNodes, IsGoodParams};
 ghost use Rattle.sb_raft.specs.Kept.{kept};
 ghost use Rattle.sb_raft.specs.Logs.{fits_behind, up_to_date};
 ghost use Rattle.sb_raft.specs.Raft.{raft};
-ghost use Rattle.sb_raft.specs.Rules.{candidate, counted, free_for, grants, is_candidate, is_leader, is_slot, may_cast, on_append};
+ghost use Rattle.sb_raft.specs.Rules.{candidate, counted, free_for, grants, is_candidate, is_leader, may_cast, on_append};
 ghost use Rattle.sb_raft.specs.Rules.{on_ask, on_cast, on_not_ok, on_ok, on_reply, on_timeout, on_vote, raised, stands_up, won};
 ghost use Rattle.sb_raft.specs.Refines.{Does, HasRoom, IsLow, cast_of, held, merges, role_of};
 
-use crate::marks::{PerPeer, count};
+use crate::per_peer::{PerPeer, count};
 use crate::raft::{Raft, Role};
 use crate::sending::{one, only, reply};
 use iss_request::{Batch, NoMemory, NodeId, Seq, Slot};
-use iss_sb::{Effects, Params, To};
-use raft_wire::{Entry, Message, What};
+use iss_sb::{Content, Effects, Params, To, is_next};
+use raft_wire::{Entry, Message};
 use std::alloc::Global;
 
 /// The last term that there is.
@@ -23,6 +22,7 @@ const LAST_TERM: u16 = 65_535;
 impl Raft {
     // ---- a message of a higher term: the node takes the term, has given no vote in it, and follows
 
+    // rule: Raft: A higher term makes a node a follower of that term, with no vote given in it
     pub(crate) fn raise(&mut self, term: u16)
         ensures me { self.new.me ≡ self.old.me }
         ensures state { held self.new ≡ raised (held self.old) term }
@@ -42,6 +42,8 @@ impl Raft {
         self.part.is_leader() && self.term == 1 && is_next(p, self.log.filled(), slot)
     }
 
+    // rule: Raft: The leader of the first term takes casts, each at the next slot
+    // rule: Raft: A node accepts one batch a slot
     pub(crate) fn cast(
         &mut self,
         alloc: Global,
@@ -56,7 +58,7 @@ impl Raft {
         if !self.may_cast(p, slot) {
             return Ok(Effects::nothing(alloc));
         }
-        let what = What::Holds(batch.copy()?);
+        let what = Content::Holds(batch.copy()?);
         let term = self.term;
         self.log.push(Entry { term, what })?;
         let mut sends = Seq::new(alloc);
@@ -68,6 +70,7 @@ impl Raft {
 
     // ---- Appends. One of a lower term, or whose previous entry is not there, is answered not ok
 
+    // rule: Raft: An Append of a lower term is refused with the node's own term
     pub(crate) fn take_append(
         &mut self,
         alloc: Global,
@@ -102,6 +105,8 @@ impl Raft {
 
     // The entries behind an index that is there: those that differ in term from what was sent go. Nothing that is committed
     // goes, and the log stays short enough; else there is no answer.
+    // rule: Raft: An Append keeps committed entries and removes entries that differ in term
+    // rule: Raft: An Append commits only entries that it covers
     fn merge(
         &mut self,
         alloc: Global,
@@ -161,6 +166,7 @@ impl Raft {
     }
 
     // An ok within the log: the match rises.
+    // rule: Raft: A follower's match index never decreases within a term
     fn take_ok(
         &mut self,
         alloc: Global,
@@ -189,6 +195,7 @@ impl Raft {
     }
 
     // Not ok, of the Append that was sent last: one entry more is sent.
+    // rule: Raft: After a refused Append the leader sends one entry more
     fn take_not_ok(
         &mut self,
         alloc: Global,
@@ -233,6 +240,7 @@ impl Raft {
         term == self.term && self.is_free_for(from) && self.is_up_to_date(last, last_term)
     }
 
+    // rule: Raft: A node gives one vote a term, to a candidate whose log is up to date
     pub(crate) fn take_ask(
         &mut self,
         alloc: Global,
@@ -311,6 +319,7 @@ impl Raft {
     }
 
     // Leads, with a mark of the term, and nil for each missing slot. What is sent next stands behind the old log.
+    // rule: Raft: A new leader fills the rest of its segment with a mark and nil entries
     fn lead(&mut self, alloc: Global, p: &Params) -> Result<(), NoMemory>
         ensures within { self.old.log.commit ≤ length self.old.log.entries }
         ensures me { OnOk result (self.new.me ≡ self.old.me) }
@@ -321,13 +330,15 @@ impl Raft {
         self.part = Role::Leader;
         self.next = PerPeer::all(alloc, self.log.len().saturating_add(1));
         self.matched = PerPeer::all(alloc, 0);
-        let what = What::Mark;
+        let what = Content::Mark;
         self.log.push(Entry { term, what })?;
         self.log.push_nils(term, missing)
     }
 
     // ---- timeouts: a leader sends the log once more, another node stands for the next term, if there is one
 
+    // rule: Raft: A timeout makes a node a candidate of the next term, up to the last term
+    // rule: Raft: A leader that times out sends its log to all others again
     pub(crate) fn time_out(
         &mut self,
         alloc: Global,
@@ -361,15 +372,5 @@ impl Raft {
         self.granted.put(self.me, true)?;
         let sends = self.ask_others(alloc, p)?;
         self.count_votes(alloc, p, sends)
-    }
-}
-
-// Whether the slot is that of this place in the segment.
-fn is_next(p: &Params, place: usize, slot: Slot) -> bool
-    ensures { result ≡ is_slot slot.0 (nth p.now.slots place) }
-{
-    match p.slots.as_slice().get(place) {
-        Some(next) => *next == slot,
-        None => false,
     }
 }

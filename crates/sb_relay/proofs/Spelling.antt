@@ -4,7 +4,7 @@ use Rattle.std.specs.Prelude.{nat_lt, ◌↔◌}
 use Rattle.std.specs.Int.{to_be_bytes, w64}
 use Rattle.std.proofs.lemmas.Bool.{eq-eqb, eqb-true, lt-ltb, ltb-true, ne_eqb}
 use Rattle.iss_request.specs.Fields.{Good, Bad, IsBad, IsGrammar, IsReadAgain, Written, and_bytes}
-use Rattle.iss_request.specs.Formats.{batch_of, is_batch, parse_value, spell_batch, spell_value, version_byte}
+use Rattle.iss_request.specs.Formats.{batch_of, is_batch, parse_value, spell_value}
 use Rattle.iss_request.specs.Parsing.{Parser, ◌>>=◌, byte, done, number, such_that}
 use Rattle.iss_request.proofs.OneSpelling.{done_good, value_grammar, value_related}
 use Rattle.iss_request.proofs.ParserLemmas.{byte_again, byte_parts, done_parts, first_bad, number_again, number_parts, test_bad, test_failed, test_parts, test_passed, then_bad, then_good, then_parts, wide64}
@@ -131,7 +131,6 @@ module _ (version : ℕ) where
   )
 
 -- the bytes that are written one after the other are the spelling
-pub written : (msg : Say) (start a b c later : Written) (first : ℕ) → msg.slot.0 < 2 ^ 64 → first ≡ version_byte b.version → a ≡ and_bytes start (1 ∷ []) → b ≡ and_bytes a (to_be_bytes w64 msg.slot.0) →
-    c ≡ and_bytes b (first ∷ []) → later ≡ and_bytes c (spell_batch c.version msg.batch) → later ≡ and_bytes start (spell start.version msg)
-unfolding spell_value
-written msg start a b c later first lt hf ha hb hc hl = rw (spelled start.version msg lt, hl, hc, hf, hb, ha) (simp append_assoc)
+pub written : (msg : Say) (start a b later : Written) → msg.slot.0 < 2 ^ 64 → a ≡ and_bytes start (1 ∷ []) → b ≡ and_bytes a (to_be_bytes w64 msg.slot.0) →
+    later ≡ and_bytes b (spell_value b.version (Value_batch msg.batch)) → later ≡ and_bytes start (spell start.version msg)
+written msg start a b later lt ha hb hl = rw (spelled start.version msg lt, hl, hb, ha) (simp append_assoc)

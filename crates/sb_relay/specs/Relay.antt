@@ -1,4 +1,7 @@
--- The relay: the leader says each batch that is cast to it to all, and a node takes the leader's first word on a slot.
+-- The relay, the smallest module: the leader sends each batch that is cast to all, and a node takes the leader's first
+-- word on a slot. It has three nodes, withstands no fault, and signs nothing.
+--
+--   message   1, slot (8 bytes), a value that is a batch
 use Rattle.std.specs.Prelude.{◌≡◌, ℕ, ◌==◌, ◌&&◌, ◌||◌, Bool, true, false, not, nat_lt, ◌^◌, ◌<◌, List, [], ◌∷◌, ◌++◌, Option, Some, None, if◌then◌else◌}
 use Rattle.std.specs.Int.{to_be_bytes, w64}
 use Rattle.iss_base.specs.Lists.{first_of}
@@ -27,6 +30,7 @@ was_cast s [] = false
 was_cast s (x ∷ xs) = is_for s x.made.accepted || was_cast s xs
 
 -- the leader accepts a cast at a slot of its segment where it has cast nothing; nothing else is accepted
+-- rule: Relay: The leader sends one batch a slot
 abbrev pub asks : Params → ℕ → List (Item Say) → Input Say → Option (Slot × Batch)
 asks p me xs (Cast slot batch) = if (me == p.leader.0) && (has_slot slot.0 p.slots && not (was_cast slot.0 xs)) then Some (slot, batch) else None
 asks p me xs (Receive from msg) = None
@@ -49,6 +53,7 @@ said leader s [] = None
 said leader s (x ∷ xs) = first_of (said leader s xs) (says leader s x.input)
 
 -- a slot of the segment is decided by the leader's word
+-- rule: Relay: The leader's first batch for a slot is delivered, once
 abbrev pub decided : Params → ℕ → List (Item Say) → ℕ → Option Value
 decided p me xs s = if has_slot s p.slots then said p.leader.0 s xs else None
 

@@ -1,6 +1,7 @@
 //! The relay's two rules, and that it is an ordering module.
-ghost use Rattle.std.specs.Prelude.{◌≡◌, ℕ, List, IfOk, OnOk};
-ghost use Rattle.iss_sb.specs.Calls.{IsGoodInput, IsGoodParams, IsStep, IsTaken};
+ghost use Rattle.std.specs.Prelude.{◌≡◌, ◌≤◌, ℕ, List, IfOk, OnOk};
+ghost use Rattle.iss_keys.specs.KeyStates.{left_of};
+ghost use Rattle.iss_sb.specs.Calls.{IsGoodInput, IsGoodParams, IsTaken, IsTrueStep};
 ghost use Rattle.iss_sb.specs.Evidence.{Item, and_then};
 ghost use Rattle.sb_relay.specs.declared.say.Say.{Say};
 ghost use Rattle.sb_relay.specs.Relay.{relay};
@@ -9,7 +10,7 @@ ghost use Rattle.sb_relay.specs.Refines.{IsOfSegment, Refines, may_cast, may_del
 use crate::say::Say;
 use iss_keys::Keys;
 use iss_request::{Batch, DecodeError, Fields, NoMemory, NodeId, Seq, Slot, Value, Writer};
-use iss_sb::{Claim, Effects, Input, Params, Sequenced, StepError, To};
+use iss_sb::{Claim, Effects, Input, Params, Sequenced, To, asks_if};
 use std::alloc::Global;
 
 /// A node's part in one instance: which slots of the segment it cast, and which it delivered.
@@ -40,6 +41,7 @@ impl Relay {
     }
 
     /// Says the batch to all, where it may be cast.
+    // rule: Relay: The leader sends one batch a slot
     fn cast(
         &mut self,
         alloc: Global,
@@ -68,6 +70,8 @@ impl Relay {
     }
 
     /// Delivers what a node said, where it is to be delivered.
+    // rule: Relay: The leader's first batch for a slot is delivered, once
+    // rule: Modules: A step delivers exactly what the module's definition delivers
     fn hear(
         &mut self,
         alloc: Global,
@@ -135,32 +139,23 @@ impl Sequenced for Relay {
 
     fn asks<'a>(&'a self, p: &Params, i: &'a Input<Say>) -> Option<(Slot, &'a Batch)> {
         match i {
-            Input::Cast { slot, batch } => {
-                if self.may_cast(p, *slot) {
-                    Some((*slot, batch))
-                } else {
-                    None
-                }
-            }
+            Input::Cast { slot, batch } => asks_if(self.may_cast(p, *slot), *slot, batch),
             _ => None,
         }
     }
 
-    fn step(
+    fn apply(
         &mut self,
         alloc: Global,
         p: &Params,
         i: Input<Say>,
-        verdict: bool,
-        keys: &mut Keys,
-    ) -> Result<Effects<Say>, StepError>
+        _keys: &mut Keys,
+    ) -> Result<Effects<Say>, NoMemory>
         requires good { IsGoodParams relay p.now }
         requires input { IsGoodInput p.now i }
-        ensures { IsStep relay Refines p.now self.old self.new i verdict keys.old keys.new result }
+        requires enough { relay.signs p.now ≤ left_of _keys.old }
+        ensures { IfOk result (λ e. IsTrueStep relay Refines p.now self.old self.new i _keys.old _keys.new e) }
     {
-        if !verdict {
-            return Ok(Effects::nothing(alloc));
-        }
         match i {
             Input::Cast { slot, batch } => Ok(self.cast(alloc, p, slot, batch)?),
             Input::Receive { from, msg } => Ok(self.hear(alloc, p, from, msg)?),

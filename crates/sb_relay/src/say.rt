@@ -1,14 +1,10 @@
 //! The one message of the relay, and its bytes.
 ghost use Rattle.std.specs.Prelude.{◌≡◌, ◌↔◌, ℕ, List, [], IfOk, OnOk, Err};
-ghost use Rattle.iss_request.specs.declared.requests.Value.TheVariants.{Batch as Value_batch};
 ghost use Rattle.iss_request.specs.Fields.{Good, IsRead, IsUnreadable, and_bytes};
-ghost use Rattle.iss_request.specs.Formats.{is_batch, parse_value};
-ghost use Rattle.iss_request.specs.Parsing.{such_that};
 ghost use Rattle.sb_relay.specs.Relay.{IsSpelledSay, parse, spell};
 
-use iss_request::values::write_batch;
 use iss_request::{
-    Batch, DecodeError, Fields, NoMemory, Slot, Value, Writer, read_value, version_byte,
+    Batch, DecodeError, Fields, NoMemory, Slot, Writer, read_batch_value, write_batch_value,
 };
 use std::alloc::Global;
 
@@ -29,9 +25,7 @@ impl Say {
     {
         out.put_u8(SAY)?;
         out.put_u64(self.slot.0)?;
-        let first = version_byte(out.version());
-        out.put_u8(first)?;
-        write_batch(&self.batch, out)
+        write_batch_value(&self.batch, out)
     }
 
     /// Reads the message at the front. `BadField` names the first field that does not fit: the number where it is
@@ -46,20 +40,8 @@ impl Say {
             return Err(no_message);
         }
         let slot = Slot(f.read_u64()?);
-        let batch = read_batch(alloc, f)?;
+        let batch = read_batch_value(alloc, f)?;
         Ok(Say { slot, batch })
-    }
-}
-
-/// Reads a value that is a batch.
-fn read_batch(alloc: Global, f: &mut Fields) -> Result<Batch, DecodeError>
-    ensures ok { IfOk result (λ b. IsRead (such_that is_batch (parse_value f.old.version)) f.old f.new (Value_batch b)) }
-    ensures bad { (at : ℕ) → result ≡ Err (DecodeError.BadField at) → IsUnreadable (such_that is_batch (parse_value f.old.version)) f.old at }
-{
-    let no_batch = f.bad_field();
-    match read_value(alloc, f)? {
-        Value::Batch(batch) => Ok(batch),
-        Value::Nil => Err(no_batch),
     }
 }
 

@@ -5,11 +5,10 @@ ghost use Rattle.sb_hotstuff.specs.HotStuff.{hotstuff};
 
 use crate::instances::withstands;
 use hs_tree::hashing::digest_of_node;
-use hs_tree::{Certificate, Message, Signed};
+use hs_tree::{Certificate, Message};
 use iss_keys::Keys;
 use iss_request::{Batch, Bytes, NoMemory, NodeId, Seq, Slot};
-use iss_sb::{Input, Params, Sequenced};
-use raft_wire::What;
+use iss_sb::{Content, Input, Params, Sequenced, Signed};
 use sb_hotstuff::HotStuff;
 use std::alloc::Global;
 use std::test::Fail;
@@ -74,14 +73,14 @@ pub(crate) fn good(phase: u8, view: u32, at: At) -> Shown {
 
 // A batch on a node.
 fn batch_on(alloc: Global, parent: &[u8; 32]) -> [u8; 32] {
-    digest_of_node(1, parent, &What::Holds(Batch::new(alloc)))
+    digest_of_node(1, parent, &Content::Holds(Batch::new(alloc)))
 }
 
 fn digest(alloc: Global, at: At) -> [u8; 32] {
     match at {
         At::First => batch_on(alloc, &[0; 32]),
         At::Second => batch_on(alloc, &batch_on(alloc, &[0; 32])),
-        At::Nil => digest_of_node(1, &[0; 32], &What::Nil),
+        At::Nil => digest_of_node(1, &[0; 32], &Content::Nil),
         At::Unknown => [9; 32],
     }
 }
@@ -120,7 +119,7 @@ fn certificate(alloc: Global, shown: Shown) -> Result<Certificate, NoMemory> {
     }
 }
 
-fn proposal(alloc: Global, view: u32, what: What, just: Shown) -> Result<Message, NoMemory> {
+fn proposal(alloc: Global, view: u32, what: Content, just: Shown) -> Result<Message, NoMemory> {
     Ok(Message::Prepare {
         view,
         what,
@@ -142,9 +141,9 @@ fn shows(alloc: Global, phase: u8, view: u32, shown: Shown) -> Result<Message, N
 fn message(alloc: Global, said: Said) -> Result<Message, NoMemory> {
     let sig = Bytes::new(alloc);
     match said {
-        Said::Batch(view, just) => proposal(alloc, view, What::Holds(Batch::new(alloc)), just),
-        Said::Nil(view, just) => proposal(alloc, view, What::Nil, just),
-        Said::Mark(view, just) => proposal(alloc, view, What::Mark, just),
+        Said::Batch(view, just) => proposal(alloc, view, Content::Holds(Batch::new(alloc)), just),
+        Said::Nil(view, just) => proposal(alloc, view, Content::Nil, just),
+        Said::Mark(view, just) => proposal(alloc, view, Content::Mark, just),
         Said::Shows(phase, view, shown) => shows(alloc, phase, view, shown),
         Said::Vote(phase, view, at) => Ok(Message::Vote {
             phase,

@@ -3,8 +3,8 @@ ghost use Rattle.std.specs.Prelude.{◌≡◌, ◌<◌, IfOk};
 ghost use Rattle.iss_sb.specs.Calls.{IsGoodInput};
 
 use iss_request::{Batch, Bytes, NoMemory, NodeId, Seq, Slot, Value, Writer};
-use iss_sb::{Input, Params};
-use pbft_wire::{Certificate, Change, Message, Vote, digest_of};
+use iss_sb::{Input, Params, Signed};
+use pbft_wire::{Certificate, Change, Message, digest_of};
 use std::alloc::Global;
 
 /// What a ViewChange shows: nothing, or one certificate. But for the first it is not good for view 1, of which node 0 is no primary.
@@ -55,13 +55,13 @@ fn value(alloc: Global, nil: bool) -> Value {
     }
 }
 
-fn votes(alloc: Global, nodes: [u8; 3], many: usize) -> Result<Seq<Vote>, NoMemory> {
+fn votes(alloc: Global, nodes: [u8; 3], many: usize) -> Result<Seq<Signed>, NoMemory> {
     let mut votes = Seq::new(alloc);
     for node in nodes {
         if votes.len() < many {
             let sig = signature(alloc)?;
-            votes.push(Vote {
-                node: NodeId(node),
+            votes.push(Signed {
+                by: NodeId(node),
                 sig,
             })?;
         }

@@ -6,8 +6,8 @@ ghost use Rattle.sb_raft.specs.Raft.{raft};
 use crate::instance;
 use iss_keys::Keys;
 use iss_request::{Batch, Fields, NoMemory, NodeId, Seq, Slot, Writer};
-use iss_sb::{Input, Params, Sequenced, broadcast};
-use raft_wire::{Entry, Message, What};
+use iss_sb::{Content, Input, Params, Sequenced, broadcast};
+use raft_wire::{Entry, Message};
 use sb_raft::Raft;
 use std::alloc::Global;
 use std::test::Fail;
@@ -40,7 +40,7 @@ fn append(
     previous: u32,
     previous_term: u16,
     commit: u32,
-    what: Option<What>,
+    what: Option<Content>,
 ) -> Result<Message, NoMemory> {
     let mut entries = Seq::new(alloc);
     if let Some(what) = what {
@@ -58,9 +58,16 @@ fn append(
 fn message(alloc: Global, said: &Said) -> Result<Message, NoMemory> {
     match said {
         Said::Batch(t, p, q, c) => {
-            append(alloc, *t, *p, *q, *c, Some(What::Holds(Batch::new(alloc))))
+            append(
+                alloc,
+                *t,
+                *p,
+                *q,
+                *c,
+                Some(Content::Holds(Batch::new(alloc))),
+            )
         }
-        Said::Mark(t, p, q, c) => append(alloc, *t, *p, *q, *c, Some(What::Mark)),
+        Said::Mark(t, p, q, c) => append(alloc, *t, *p, *q, *c, Some(Content::Mark)),
         Said::None(t, p, q, c) => append(alloc, *t, *p, *q, *c, None),
         Said::Reply(term, ok, index) => Ok(Message::Reply {
             term: *term,

@@ -13,8 +13,9 @@ use Rattle.iss_sb.specs.declared.effects.Input.{Input}
 use Rattle.iss_sb.specs.declared.effects.Input.TheVariants.{Cast, Receive}
 use Rattle.iss_sb.specs.Calls.{IsGoodParams}
 use Rattle.iss_sb.specs.Evidence.{IsCredible, IsReadBatch, IsReadMessage, Separate, is_correct}
-use Rattle.iss_sb.specs.Statements.{signature}
+use Rattle.iss_sb.specs.Statements.{claim, signature}
 use Rattle.iss_sb.proofs.Read.{batch-read}
+use Rattle.iss_sb.proofs.Setups.{good-by}
 use Rattle.iss_sb.proofs.Signatures.{signature-shape}
 use Rattle.iss_composition.specs.Checkpoints.{is_good, scheme_of}
 use Rattle.iss_rules.specs.Books.{Signed}
@@ -33,34 +34,13 @@ use Rattle.iss_rules.proofs.Layouts.{however-signed, own-verifies, sound-rules}
 use Rattle.iss_theorems.proofs.Tests.{over-new, over-old, own-is, separate-more}
 use Rattle.sb_echo.specs.declared.word.Word.{Word}
 use Rattle.sb_echo.specs.declared.word.Word.TheVariants.{Say, Echo}
-use Rattle.sb_echo.specs.Echo.{claim, claims, digest_of, echo, statement, string_of}
+use Rattle.sb_echo.specs.Echo.{claims, digest_of, echo, statement, string_of}
 use Rattle.sb_echo.proofs.Lawful.{digest-length}
 use Rattle.sb_echo.proofs.Spelling.{echo-again, say-again}
-use Rattle.witness_echo.specs.Shown.{IsShown, batch, echoed, four, instance, rules, said}
+use Rattle.witness_echo.specs.Shown.{IsWitness, batch, echoed, four, instance, rules, said}
 
 setup-good : IsGoodSetup four
-setup-good = record {
-  version = refl;
-  faults = omega arith;
-  relay_faults = λ h. absurd (omega (arith, h));
-  relay_kind = λ h. absurd (omega (arith, h));
-  nodes = refl;
-  majority = refl;
-  epoch_low = omega arith;
-  epoch_high = omega arith;
-  buckets_low = omega arith;
-  buckets_high = omega arith;
-  batch_low = omega arith;
-  batch_high = omega arith;
-  window_low = omega arith;
-  window_high = omega arith;
-  clients_low = omega arith;
-  clients_high = omega arith;
-  keys_low = omega arith;
-  keys_high = omega arith;
-  few_faulty = omega arith;
-  rising_faulty = (omega arith, omega arith, tt);
-}
+setup-good = good-by four refl
 
 setup-of : IsSetupOf echo four
 setup-of = record { good = setup-good; tag = refl; kind = refl; nodes = refl; majority = refl }
@@ -308,7 +288,7 @@ by-few x (inr (inl q)) e = absurd (omega (arith, ap (λ (y : Signed). y.by) q, e
 by-few x (inr (inr (inl q))) e = absurd (omega (arith, ap (λ (y : Signed). y.by) q, e))
 by-few x (inr (inr (inr none))) e = none
 
-pub shown : ((w : Cluster Word) → Separate (Among w.strings) → Reach four S R echo w → Ordered four R echo w.pasts) → IsShown
+pub shown : ((w : Cluster Word) → Separate (Among w.strings) → Reach four S R echo w → Ordered four R echo w.pasts) → IsWitness
 shown composed = record {
   cluster = w5;
   reached = r5.reach;

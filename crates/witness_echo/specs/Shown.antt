@@ -1,4 +1,5 @@
--- What is shown of a cluster over echo: four nodes, of which the last is faulty, and epochs of four slots.
+-- A reached cluster that meets all premises of the composition at once: four nodes over echo, one of them Byzantine,
+-- with real keys. A batch is cast and delivered by three echoes, and the composition's result holds for it.
 use Rattle.std.specs.Prelude.{◌≡◌, ℕ, true, false, List, [], ◌∷◌, replicate}
 use Rattle.iss_request.specs.declared.requests.Batch.{Batch}
 use Rattle.iss_request.specs.declared.requests.Value.TheVariants.{Batch as Value_batch}
@@ -57,7 +58,7 @@ abbrev pub echoed : List ℕ
 echoed = statement instance 2 0 (digest_of instance batch)
 
 -- a cluster that moves lead to, and what is to be seen in it
-pub record IsShown : Type 0 where
+pub record IsWitness : Type 0 where
   pub cluster : Cluster Word
   pub reached : Reach four (scheme_of four) rules echo cluster
   pub sound : IsSoundRules four echo rules

@@ -4,10 +4,9 @@ use hs_tree::signing::{
     held_digest, held_string, node_statement, node_string, put_certificate_claims, round_statement,
     vote_statement,
 };
-use hs_tree::{Certificate, Message, Signed, read, write};
+use hs_tree::{Certificate, Message, read, write};
 use iss_request::{Batch, Bytes, DecodeError, Fields, NodeId, Seq, Writer};
-use iss_sb::Params;
-use raft_wire::What;
+use iss_sb::{Content, Params, Signed};
 use sha2::{Digest, Sha256};
 use std::alloc::Global;
 use std::test::Fail;
@@ -105,7 +104,7 @@ fn a_proposal_is_exact(rt: HostRuntime) -> Result<(), Fail> {
     let alloc = rt.alloc();
     let batch = Message::Prepare {
         view: 1,
-        what: What::Holds(Batch::new(alloc)),
+        what: Content::Holds(Batch::new(alloc)),
         just: Certificate::Root,
         sig: sig(alloc)?,
     };
@@ -113,7 +112,7 @@ fn a_proposal_is_exact(rt: HostRuntime) -> Result<(), Fail> {
     assert!(rt; is_exact(alloc, &batch, &front, 12 + SIGNATURE)?);
     let mark = Message::Prepare {
         view: 65538,
-        what: What::Mark,
+        what: Content::Mark,
         just: votes(alloc, 1, &[0, 3])?,
         sig: sig(alloc)?,
     };
@@ -274,7 +273,12 @@ fn what_has_no_spelling_is_not_read(rt: HostRuntime) -> Result<(), Fail> {
     Ok(())
 }
 
-fn digest_on(alloc: Global, p: &Params, parent: &[u8; 32], what: &What) -> Result<[u8; 32], Fail> {
+fn digest_on(
+    alloc: Global,
+    p: &Params,
+    parent: &[u8; 32],
+    what: &Content,
+) -> Result<[u8; 32], Fail> {
     let string = held_string(alloc, p.setup.version, what)?;
     let held = held_digest(p, what, &string);
     let node = node_string(alloc, p.setup.version, parent, what, &held)?;
@@ -285,10 +289,10 @@ fn digest_on(alloc: Global, p: &Params, parent: &[u8; 32], what: &What) -> Resul
 fn digests_of_nodes_are_those_of_another_program(rt: HostRuntime) -> Result<(), Fail> {
     let alloc = rt.alloc();
     let p = withstands(alloc, 1)?;
-    let nil = digest_on(alloc, &p, &[0; 32], &What::Nil)?;
+    let nil = digest_on(alloc, &p, &[0; 32], &Content::Nil)?;
     assert_eq!(rt; nil, NIL_NODE);
-    assert_eq!(rt; digest_on(alloc, &p, &nil, &What::Mark)?, MARK_NODE);
-    let batch = What::Holds(Batch::new(alloc));
+    assert_eq!(rt; digest_on(alloc, &p, &nil, &Content::Mark)?, MARK_NODE);
+    let batch = Content::Holds(Batch::new(alloc));
     assert_eq!(rt; digest_on(alloc, &p, &[9; 32], &batch)?, BATCH_NODE);
     Ok(())
 }

@@ -2,7 +2,7 @@ use Rattle.std.proofs.Common.{suc, ◌+◌, ◌-◌, ◌∙◌, refl, arith}
 use Rattle.iss_request.proofs.Readings.{exit}
 use Rattle.iss_sb.proofs.Read.{read-by, unread-by}
 use Rattle.pbft_wire.specs.Certificates.{after_slot, parse_certificate, slot_of}
-use Rattle.pbft_wire.proofs.Rising.{climbs-bad, climbs-end, climbs-next, climbs-start}
+use Rattle.iss_sb.proofs.Ascending.{climbs-bad, climbs-end, climbs-next, climbs-start}
 use Rattle.pbft_wire.proofs.reading.read_certificates.Goals as goal
 
 pub returns-in_err-certificate-clause-bad : goal.returns-in_err-certificate-clause-bad

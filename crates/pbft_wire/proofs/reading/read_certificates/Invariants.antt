@@ -1,6 +1,6 @@
 use Rattle.std.proofs.Common.{◌-◌, ◌≡◌}
 use Rattle.pbft_wire.specs.Certificates.{after_slot, parse_certificate, slot_of}
-use Rattle.pbft_wire.proofs.Rising.{Climbs}
+use Rattle.iss_sb.proofs.Ascending.{Climbs}
 use Rattle.pbft_wire.proofs.reading.read_certificates.Given as goal
 
 abbrev pub invariant-loop : goal.invariant-loop

@@ -3,7 +3,7 @@ use Rattle.iss_request.proofs.Readings.{exit}
 use Rattle.iss_sb.proofs.Read.{read-by, unread-by}
 use Rattle.pbft_wire.specs.Certificates.{after_node}
 use Rattle.pbft_wire.specs.Messages.{node_of_change, parse_node_change}
-use Rattle.pbft_wire.proofs.Rising.{climbs-bad, climbs-end, climbs-next, climbs-start}
+use Rattle.iss_sb.proofs.Ascending.{climbs-bad, climbs-end, climbs-next, climbs-start}
 use Rattle.pbft_wire.proofs.reading.read_changes.Goals as goal
 
 pub returns-in_err-change-clause-bad : goal.returns-in_err-change-clause-bad

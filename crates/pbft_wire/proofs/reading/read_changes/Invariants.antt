@@ -1,7 +1,7 @@
 use Rattle.std.proofs.Common.{◌-◌, ◌≡◌}
 use Rattle.pbft_wire.specs.Certificates.{after_node}
 use Rattle.pbft_wire.specs.Messages.{node_of_change, parse_node_change}
-use Rattle.pbft_wire.proofs.Rising.{Climbs}
+use Rattle.iss_sb.proofs.Ascending.{Climbs}
 use Rattle.pbft_wire.proofs.reading.read_changes.Given as goal
 
 abbrev pub invariant-loop : goal.invariant-loop

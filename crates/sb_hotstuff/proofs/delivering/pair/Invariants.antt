@@ -1,5 +1,5 @@
 use Rattle.std.proofs.Common.{◌≡◌, ◌++◌, drop}
-use Rattle.sb_hotstuff.specs.Delivered.{paired}
+use Rattle.iss_sb.specs.Paired.{paired}
 use Rattle.sb_hotstuff.proofs.delivering.pair.Given as goal
 
 abbrev pub invariant-loop-value : goal.invariant-loop-value

@@ -33,6 +33,6 @@ returns c =
     let now = c.args.self.now in
     let bytes = c.args.self.now.bytes.items in
     let is_end = ends bytes c.deref.result.now c.end_of-end.result c.gate_of-gate.result c.end_of-end.ensures c.deref.ensures.value in
-    let refines = ends_at bytes now.count now.last c.args.k c.gate_of-gate.result now.book c.requires c.gate_of-gate.ensures in
+    let stands = ends_at bytes now.count now.last c.args.k c.gate_of-gate.result now.book c.requires c.gate_of-gate.ensures in
     ap (λ (l : List ℕ). take (c.end_of-end.result - (c.gate_of-gate.result + 5)) (drop (c.gate_of-gate.result + 5) l)) c.deref-2.ensures.value
-    ∙ entry_is bytes now.count now.last c.args.k c.gate_of-gate.result c.end_of-end.result now.book c.requires c.gate_of-gate.ensures (is_end ∙ refines)
+    ∙ entry_is bytes now.count now.last c.args.k c.gate_of-gate.result c.end_of-end.result now.book c.requires c.gate_of-gate.ensures (is_end ∙ stands)

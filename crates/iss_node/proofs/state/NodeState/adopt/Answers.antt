@@ -3,7 +3,7 @@ use Rattle.std.proofs.lemmas.Result.{IfOk-weaker}
 use Rattle.iss_ballots.specs.Ballots.{AreKept, BallotsState}
 use Rattle.iss_model.specs.Node.{takes_each, then_turn}
 use Rattle.iss_node.proofs.AdoptLemmas.{adopted-all, kept-same, same-on}
-use Rattle.iss_node.specs.Inputs.{HasGrown}
+use Rattle.iss_node.specs.Inputs.{HasAppliedDeliveries}
 use Rattle.iss_node.specs.Shape.{IsNodeState}
 use Rattle.iss_node.specs.State.{StateView, seen_early}
 use Rattle.iss_node.specs.Steps.{IsLater, IsNextEpoch, IsTurnBehind}
@@ -39,7 +39,7 @@ returns-clause-adopted g c =
     (λ o. IsTurnBehind m refines w (λ F R me t. then_turn t (takes_each F R m me w.epoch (seen_early early))) first c.take_each.new.self o)
     (λ o. IsAdoptedBy m refines v p c.args.hashed c.take_each.new.self o)
     (λ o h. adopted-all m refines v u w c.take_each.new.self shape p c.args.hashed strings c.keep.new.self early first o
-    (subst (λ (ds : List (Slot × Value)). HasGrown v u ds) delivers c.in_ok-apply_deliveries.ensures.grown) c.in_ok-apply_deliveries.ensures.hashed
+    (subst (λ (ds : List (Slot × Value)). HasAppliedDeliveries v u ds) delivers c.in_ok-apply_deliveries.ensures.grown) c.in_ok-apply_deliveries.ensures.hashed
     (λ votes certs k. c.in_ok-keep.ensures.kept votes certs (subst (λ (b : BallotsState). AreKept b votes certs) (sym (ap (λ z. z.ballots) c.self-2.view_is)) k))
     (subst (λ (z : StateView g.row.M.Denot g.row.M-Msg.Denot). IsNextEpoch refines z w early) (ap kept c.self-2.view_is) c.in_ok-early.ensures.next)
     (subst (λ (z : StateView g.row.M.Denot g.row.M-Msg.Denot). IsLater z w) (ap kept c.self-2.view_is) c.in_ok-early.ensures.later)

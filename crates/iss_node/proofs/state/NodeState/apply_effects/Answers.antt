@@ -3,12 +3,12 @@ use Rattle.std.proofs.lemmas.Result.{IfOk-weaker}
 use Rattle.iss_node.proofs.ClaimLemmas.{handed-same}
 use Rattle.iss_node.proofs.MadeLemmas.{on-ok}
 use Rattle.iss_node.proofs.RequestLemmas.{absorbed-all, chained-after, now-its-own}
-use Rattle.iss_node.specs.Inputs.{IsAbsorbed, IsChained, IsHandedOut}
+use Rattle.iss_node.specs.Inputs.{HasAppliedEffects, IsChained, IsHandedOut}
 use Rattle.iss_sb.specs.declared.effects.To.{To}
 use Rattle.iss_node.proofs.state.NodeState.apply_effects.Goals as goal
 
 pub returns-clause-absorbed : goal.returns-clause-absorbed
-returns-clause-absorbed g c = on-ok c.hand_out.result (IsAbsorbed c.args.self.now c.apply_deliveries.new.self c.args.leader c.args.effects)
+returns-clause-absorbed g c = on-ok c.hand_out.result (HasAppliedEffects c.args.self.now c.apply_deliveries.new.self c.args.leader c.args.effects)
     (absorbed-all c.args.self.now c.accept.new.self c.apply_deliveries.new.self c.args.leader c.args.effects c.into_vec.result.items c.in_ok-accept.ensures.accepted c.in_ok-apply_deliveries.ensures.grown c.into_vec.ensures)
 
 pub returns-clause-made : goal.returns-clause-made

@@ -1,5 +1,5 @@
 use Rattle.std.proofs.Common.{◌∙◌, drop}
-use Rattle.sb_hotstuff.specs.Delivered.{paired}
+use Rattle.iss_sb.specs.Paired.{paired}
 use Rattle.sb_hotstuff.proofs.Standing.{high-step, low-step, undecided-step}
 use Rattle.sb_hotstuff.proofs.hotstuff.HotStuff.decide.Goals as goal
 

@@ -1,11 +1,7 @@
-use Rattle.std.proofs.Common.{true, false}
+use Rattle.std.proofs.Common.{◌∙◌}
 use Rattle.sb_pbft.proofs.Standing.{asks-of-cast}
 use Rattle.sb_pbft.proofs.pbft.PbftSequenced.asks.Goals as goal
 
-pub returns-then-may_cast : goal.returns-then-may_cast
-returns-then-may_cast c = λ me xs st.
-    asks-of-cast c.args.p.now c.requires.good c.args.self.now me xs st c.args.i.now _ _ true c.in-Cast.is c.if-may_cast.ensures
-
-pub returns-else-may_cast : goal.returns-else-may_cast
-returns-else-may_cast c = λ me xs st.
-    asks-of-cast c.args.p.now c.requires.good c.args.self.now me xs st c.args.i.now _ _ false c.in-Cast.is c.if-may_cast.ensures
+pub returns-in-Cast : goal.returns-in-Cast
+returns-in-Cast c = λ me xs st.
+    c.asks_if.ensures ∙ asks-of-cast c.args.p.now c.requires.good c.args.self.now me xs st c.args.i.now _ _ _ c.in-Cast.is c.may_cast.ensures

@@ -1,5 +1,5 @@
 use Rattle.std.proofs.Common.{◌∙◌, ℕ, List, ap, arith}
-use Rattle.pbft_wire.specs.declared.messages.Vote.{Vote}
+use Rattle.iss_sb.specs.declared.signers.Signed.{Signed}
 use Rattle.sb_pbft.specs.Places.{vote_at}
 use Rattle.sb_pbft.proofs.Tables.{votes-full, votes-out, votes-step}
 use Rattle.sb_pbft.proofs.tallies.Votes.votes.Goals as goal
@@ -12,7 +12,7 @@ loop-node-preserved c =
     elim c.if-len-most.branch [
       | then-len-most+then-has_voted+in_ok-sig+in_ok-push w ↦
           votes-step g d c.loop-node.node c.args.most c.loop-node.votes c.if-len-most.votes _ _ c.loop-node.invariant (let few = w.if-len-most.true in let long = c.len.ensures in omega (arith, few, long))
-          w.has_voted.ensures w.if-has_voted.true (ap (λ (s : List ℕ). let x : Vote = record { node = record { 0 = c.loop-node.node }; sig = s } in x) w.in_ok-sig.ensures) (w.votes-is ∙ w.in_ok-push.ensures.ok)
+          w.has_voted.ensures w.if-has_voted.true (ap (λ (s : List ℕ). let x : Signed = record { by = record { 0 = c.loop-node.node }; sig = s } in x) w.in_ok-sig.ensures) (w.votes-is ∙ w.in_ok-push.ensures.ok)
       | else-len-most w ↦ elim w.else-len-most.branch [
         | else-len-most-via-then-len-most+else-has_voted x ↦ votes-out g d c.loop-node.node c.args.most c.loop-node.votes c.if-len-most.votes _ c.loop-node.invariant x.has_voted.ensures x.if-has_voted.false w.votes-is
         | else-len-most-via-else-len-most x ↦

@@ -1,6 +1,6 @@
 use Rattle.std.proofs.Common.{◌≡◌, ◌≤◌, ◌-◌, take, drop}
 use Rattle.std.specs.Prelude.{max}
-use Rattle.sb_raft.specs.Held.{paired}
+use Rattle.iss_sb.specs.Paired.{paired}
 use Rattle.sb_raft.specs.Logs.{contents, filled}
 use Rattle.sb_raft.proofs.log.Log.commit_to.Given as goal
 

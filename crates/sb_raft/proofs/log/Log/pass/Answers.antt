@@ -3,7 +3,8 @@ use Rattle.std.proofs.lemmas.List.{length-take}
 use Rattle.std.proofs.Math.Facts.{Fits-of_lt}
 use Rattle.std.specs.Option.{option_to_list}
 use Rattle.raft_wire.specs.declared.entries.Entry.{Entry}
-use Rattle.sb_raft.specs.Held.{LogState, paired}
+use Rattle.iss_sb.specs.Paired.{paired}
+use Rattle.sb_raft.specs.Held.{LogState}
 use Rattle.sb_raft.specs.Logs.{content, contents, filled}
 use Rattle.sb_raft.proofs.Few.{filled-low}
 use Rattle.sb_raft.proofs.Passing.{fresh-none, pass-none, pass-some}

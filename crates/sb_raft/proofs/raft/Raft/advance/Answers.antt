@@ -1,7 +1,7 @@
 use Rattle.std.proofs.Common.{List, take, drop, ap, refl, arith, ◌∙◌}
 use Rattle.iss_request.specs.declared.ids.Slot.{Slot}
 use Rattle.sb_raft.specs.declared.raft.Raft.{Raft}
-use Rattle.sb_raft.specs.Held.{paired}
+use Rattle.iss_sb.specs.Paired.{paired}
 use Rattle.sb_raft.specs.Logs.{contents, filled}
 use Rattle.sb_raft.proofs.Leading.{advance-done, advance-idle, reach-within}
 use Rattle.sb_raft.proofs.raft.Raft.advance.Goals as goal

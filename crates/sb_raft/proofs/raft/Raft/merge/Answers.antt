@@ -1,7 +1,8 @@
 use Rattle.std.proofs.Common.{List, take, drop, ap, sym, refl, ◌∙◌, arith}
 use Rattle.iss_request.specs.declared.ids.Slot.{Slot}
 use Rattle.sb_raft.specs.declared.raft.Raft.{Raft}
-use Rattle.sb_raft.specs.Held.{paired, with_merged}
+use Rattle.iss_sb.specs.Paired.{paired}
+use Rattle.sb_raft.specs.Held.{with_merged}
 use Rattle.sb_raft.specs.Logs.{contents, filled}
 use Rattle.sb_raft.specs.Refines.{held}
 use Rattle.sb_raft.proofs.Handling.{merge-done, merge-idle, merged-told, when-false, when-true}

@@ -1,5 +1,0 @@
-use Rattle.std.proofs.Common.{length}
-use Rattle.hs_tree.proofs.certificates.+are_signed.Given as goal
-
-abbrev pub decreases-are_signed : goal.decreases-are_signed
-decreases-are_signed l = length l.votes.now

@@ -1,5 +1,0 @@
-use Rattle.std.proofs.Common.{◌≡◌, take}
-use Rattle.hs_tree.proofs.certificates.copy_votes.Given as goal
-
-abbrev pub invariant-loop-vote : goal.invariant-loop-vote
-invariant-loop-vote l = l.copies ≡ take l.vote-index l.votes
