@@ -4,7 +4,6 @@
 -- once the last one has its quorums, or a new round's first on the best certificate.
 use Rattle.std.specs.Prelude.{ℕ, zero, suc, ◌+◌, ◌*◌, ◌/◌, ◌%◌, ◌==◌, ◌&&◌, ◌||◌, Bool, true, false, not, nat_lt, nat_le, List, [], ◌∷◌, ◌++◌, length, Option, Some, None, is_some, if◌then◌else◌}
 use Rattle.iss_base.specs.Lists.{nth, same_bytes}
-use Rattle.iss_request.specs.declared.ids.Slot.{Slot}
 use Rattle.iss_request.specs.declared.requests.Batch.{Batch}
 use Rattle.iss_sb.specs.Calls.{is_slot}
 use Rattle.iss_sb.specs.declared.effects.Input.{Input}

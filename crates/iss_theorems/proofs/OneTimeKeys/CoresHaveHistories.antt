@@ -19,9 +19,9 @@ use Rattle.iss_model.specs.Frames.{Frame}
 use Rattle.iss_model.specs.Node.{Core, Taken, Turn, step}
 use Rattle.iss_model.specs.Run.{Held, as_signed, begin_run, node_of, run, turned_to, with_network}
 use Rattle.iss_theorems.specs.Leaves.{AreLives, Deed, IsLife, core_behind, sent}
-use Rattle.iss_theorems.proofs.EventResult.{run-holds}
-use Rattle.iss_theorems.proofs.Leaves.{signs-once-each}
-use Rattle.iss_theorems.proofs.Tests.{as_signed-append}
+use Rattle.iss_theorems.proofs.Refinement.RunKeepsWhatStepsKeep.{run-holds}
+use Rattle.iss_theorems.proofs.OneTimeKeys.LeafSignsOnce.{signs-once-each}
+use Rattle.iss_theorems.proofs.Refinement.DeliveryChecks.{as_signed-append}
 
 module _ {Msg : Type 0} (s : Setup) (F : Formats Msg) (R : Rules) (M : Module Msg) where
   abbrev W : Frame Msg

@@ -44,8 +44,8 @@ use Rattle.iss_model.proofs.Rows.{each-holds, early_input, settles-holds, then_e
 use Rattle.iss_model.proofs.Steps.{IsAdopted, Took, adopted, asked, cast, casting, fired, handed, kept, received, sought, took, voted}
 use Rattle.iss_transfer.specs.declared.pieces.Piece.{Piece as Sent_piece}
 use Rattle.iss_theorems.specs.Leaves.{AreOfRow, Deed, IsLife, IsOfRow, SignsOnceEach, core_behind, told}
-use Rattle.iss_theorems.proofs.Certs.{IsVoteOf, cert-there, in-below, in-claims, vote-there}
-use Rattle.iss_theorems.proofs.Tests.{only-by, own-claim}
+use Rattle.iss_theorems.proofs.Checkpoints.KeptVotesAreValid.{IsVoteOf, cert-there, in-below, in-claims, vote-there}
+use Rattle.iss_theorems.proofs.Refinement.DeliveryChecks.{only-by, own-claim}
 
 -- ---- places in a row
 

@@ -11,8 +11,8 @@ use Rattle.iss_rules.specs.Books.{Signed}
 use Rattle.iss_composition.specs.Cluster.{AllSpelled, Cluster, IsBooked, IsVerified, MayGet, MayTake, Reach, Scheme, adopt, chain_strings, ends, move, vote_statement}
 use Rattle.iss_rules.specs.Past.{adopted_log, adopts, advanced, Past, log_of, made_in, params_of, takes}
 use Rattle.iss_rules.specs.Rules.{Rules}
-use Rattle.iss_theorems.proofs.SmallMoves.{Adopts, AreRight, Ends, IsRight, MayHear, Small, Takes, hashes_at, hashes_of, past_after, past_of, signs_at, signs_of}
-use Rattle.iss_theorems.proofs.Tests.{own-is}
+use Rattle.iss_theorems.proofs.Refinement.EventIsManyMoves.{Adopts, AreRight, Ends, IsRight, MayHear, Small, Takes, hashes_at, hashes_of, past_after, past_of, signs_at, signs_of}
+use Rattle.iss_theorems.proofs.Refinement.DeliveryChecks.{own-is}
 
 module _ {Msg : Type 0} (s : Setup) (S : Scheme) (R : Rules) (M : Module Msg) (fails : M.stopping ≡ false) (i : ℕ) (correct : is_correct s i ≡ true) where
   abbrev after : Cluster Msg → Past Msg → List Signed → List (List ℕ) → Cluster Msg

@@ -26,9 +26,9 @@ use Rattle.iss_rules.specs.Setups.{IsSetupOf}
 use Rattle.iss_rules.proofs.Faithful.{IsFaithful}
 use Rattle.iss_model.specs.Runs.{AreAtCores}
 use Rattle.iss_rules.proofs.Layouts.{sound-rules}
-use Rattle.iss_theorems.proofs.OneLog.{premises}
-use Rattle.iss_theorems.proofs.Runs.{run-append, run-fits}
-use Rattle.iss_theorems.proofs.Shown.{collided-with, collision-shown, forged-shown}
+use Rattle.iss_theorems.proofs.Refinement.LogsArePrefixes.{premises}
+use Rattle.iss_theorems.proofs.Refinement.RunKeepsInvariant.{run-append, run-fits}
+use Rattle.iss_theorems.proofs.StoppedRuns.EvidenceIsValid.{collided-with, collision-shown, forged-shown}
 
 module _ {Msg : Type 0} (s : Setup) (F : Formats Msg) (R : Rules) (M : Module Msg) (sound : IsSoundRules s M R) where
   -- the outcome of an event shows its evidence, if it has any

@@ -21,11 +21,11 @@ use Rattle.iss_rules.proofs.Faithful.{IsFaithful}
 use Rattle.iss_model.specs.Runs.{pasts_of}
 use Rattle.iss_rules.proofs.Windows.{AreWindows}
 use Rattle.iss_model.proofs.Ready.{IsReadyCore}
-use Rattle.iss_theorems.proofs.Certs.{AreCertified}
-use Rattle.iss_theorems.proofs.Spelled.{AreReadPieces}
-use Rattle.iss_theorems.proofs.Standing.{AreStanding}
+use Rattle.iss_theorems.proofs.Checkpoints.KeptVotesAreValid.{AreCertified}
+use Rattle.iss_theorems.proofs.Refinement.LoggedValuesAreEncodable.{AreReadPieces}
+use Rattle.iss_theorems.proofs.Checkpoints.VotesDescribeLogs.{AreStanding}
 use Rattle.iss_model.proofs.Told.{AreTold}
-use Rattle.iss_theorems.proofs.Voting.{IsVoting}
+use Rattle.iss_theorems.proofs.Checkpoints.VotesAreForChains.{IsVoting}
 
 -- the premises of the invariant: sound rules that vote, faithful formats, a module that keeps its laws, windows, and a
 -- good set-up

@@ -29,16 +29,16 @@ use Rattle.iss_model.specs.Sound.{carried}
 use Rattle.iss_model.proofs.Ready.{IsReadyCore}
 use Rattle.iss_model.specs.Views.{claims_of_body, claims_of_parcel}
 use Rattle.iss_model.proofs.Casts.{cast-fit, cast-read, casting-ready, step-ready}
-use Rattle.iss_theorems.proofs.Certs.{AreCertified, IsKeptCert, IsTrueSign, cert-there, claims-in, counted-certified, in-claims, true-each}
-use Rattle.iss_theorems.proofs.Fits.{AreSent as AreSentBy, Fits as FitsBy, Premises}
-use Rattle.iss_theorems.proofs.Onward.{ends-fits, reads-fits, takes-fits}
+use Rattle.iss_theorems.proofs.Checkpoints.KeptVotesAreValid.{AreCertified, IsKeptCert, IsTrueSign, cert-there, claims-in, counted-certified, in-claims, true-each}
+use Rattle.iss_theorems.proofs.Refinement.Invariant.{AreSent as AreSentBy, Fits as FitsBy, Premises}
+use Rattle.iss_theorems.proofs.Refinement.StepIsMove.{ends-fits, reads-fits, takes-fits}
 use Rattle.iss_model.proofs.Rows.{IsFit, claims_early, each-holds, settles-holds}
 use Rattle.iss_model.proofs.Steps.{IsAdopted, Took, adopted, asked, cast, casting, fired, handed, kept, next_batch, received, sought, took, voted}
-use Rattle.iss_theorems.proofs.Tests.{each-verifies, in-signed, only-by, separate-more, unforged}
-use Rattle.iss_theorems.proofs.Taking.{adopts-turned}
+use Rattle.iss_theorems.proofs.Refinement.DeliveryChecks.{each-verifies, in-signed, only-by, separate-more, unforged}
+use Rattle.iss_theorems.proofs.Refinement.AdoptionIsMove.{adopts-turned}
 use Rattle.iss_model.proofs.Told.{AreTold, took-told}
-use Rattle.iss_theorems.proofs.Turned as turned
-use Rattle.iss_theorems.proofs.Turned.{Comes-in}
+use Rattle.iss_theorems.proofs.Refinement.ClusterDuringStep as turned
+use Rattle.iss_theorems.proofs.Refinement.ClusterDuringStep.{Comes-in}
 use Rattle.iss_model.proofs.Twins.{correct-is}
 
 module _ {Msg : Type 0} (s : Setup) (F : Formats Msg) (R : Rules) (M : Module Msg) (o : Premises s F R M) (h : Held Msg) (ok : FitsBy s F R M h) (i : ℕ) where

@@ -20,7 +20,7 @@ use Rattle.iss_rules.specs.Rules.{Rules}
 use Rattle.iss_rules.specs.Setups.{IsSetupOf}
 use Rattle.iss_rules.proofs.Layouts.{signed-spelled}
 use Rattle.iss_log.proofs.LogLemmas.{requests-turned}
-use Rattle.iss_theorems.proofs.Linked.{chain-is}
+use Rattle.iss_theorems.proofs.Refinement.StepsHashChains.{chain-is}
 
 -- the rules chain logs and vote for them as the set-up has it, and a signed request has an encoding
 pub record IsVoting (s : Setup) (R : Rules) : Type 0 where

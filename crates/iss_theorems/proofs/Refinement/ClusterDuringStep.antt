@@ -32,17 +32,17 @@ use Rattle.iss_rules.proofs.Faithful.{is_message}
 use Rattle.iss_model.specs.Runs.{pasts_of}
 use Rattle.iss_model.proofs.Ready.{IsReadyCore}
 use Rattle.iss_composition.proofs.Agree.{separate-part}
-use Rattle.iss_theorems.proofs.Certs.{AreCertified, more-certified}
+use Rattle.iss_theorems.proofs.Checkpoints.KeptVotesAreValid.{AreCertified, more-certified}
 use Rattle.iss_composition.proofs.Checkpoints.{exact-of}
 use Rattle.iss_rules.proofs.Ending.{HasSlots}
-use Rattle.iss_theorems.proofs.Fits.{AreSent as AreSentBy, Fits as FitsBy, IsPosted as IsPostedBy, Premises, view}
+use Rattle.iss_theorems.proofs.Refinement.Invariant.{AreSent as AreSentBy, Fits as FitsBy, IsPosted as IsPostedBy, Premises, view}
 use Rattle.iss_composition.proofs.Good.{Good}
-use Rattle.iss_theorems.proofs.Posts.{posted-from}
+use Rattle.iss_theorems.proofs.Refinement.PacketsHoldSends.{posted-from}
 use Rattle.iss_composition.proofs.Reached.{good-reach}
 use Rattle.iss_model.proofs.Rows.{IsFit}
-use Rattle.iss_theorems.proofs.Spelled.{AreReadPieces}
-use Rattle.iss_theorems.proofs.Tests.{each-verifies, over-append, over-new, over-old}
-use Rattle.iss_theorems.proofs.Standing.{AreStanding}
+use Rattle.iss_theorems.proofs.Refinement.LoggedValuesAreEncodable.{AreReadPieces}
+use Rattle.iss_theorems.proofs.Refinement.DeliveryChecks.{each-verifies, over-append, over-new, over-old}
+use Rattle.iss_theorems.proofs.Checkpoints.VotesDescribeLogs.{AreStanding}
 use Rattle.iss_model.proofs.Told.{AreTold}
 use Rattle.iss_rules.proofs.Nodes.{correct-below}
 use Rattle.iss_model.proofs.Twins.{addressee-core, core-correct, core-low, correct-is, faultless, leader-below}

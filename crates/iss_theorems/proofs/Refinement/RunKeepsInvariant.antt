@@ -22,14 +22,14 @@ use Rattle.iss_rules.specs.Concrete.{request_of}
 use Rattle.iss_model.specs.Run.{Happening, Held, Progress, at_core, begin_run, calms, cores_of, delivered_to, delivers, delivers_each, done, run_event_if_open, apply_event, loses, pumps, node_of, run, unless, with_network}
 use Rattle.iss_rules.proofs.Faithful.{is_message}
 use Rattle.iss_model.specs.Runs.{AreAtCores, IsAtCore, pasts_of}
-use Rattle.iss_theorems.proofs.Answered.{at-fits}
+use Rattle.iss_theorems.proofs.Refinement.EventKeepsInvariant.{at-fits}
 use Rattle.iss_rules.proofs.Logs.{newborn-log}
 use Rattle.iss_model.proofs.Casts.{idle-ready}
 use Rattle.iss_composition.proofs.Checkpoints.{exact-of}
 use Rattle.iss_composition.proofs.Reached.{composition}
 use Rattle.iss_model.proofs.Grown.{Grows, at-grows, grows-trans, same-net}
-use Rattle.iss_theorems.proofs.Fits.{Fits as FitsBy, IsPosted, Premises, view}
-use Rattle.iss_theorems.proofs.Turned.{Comes-in}
+use Rattle.iss_theorems.proofs.Refinement.Invariant.{Fits as FitsBy, IsPosted, Premises, view}
+use Rattle.iss_theorems.proofs.Refinement.ClusterDuringStep.{Comes-in}
 use Rattle.iss_model.proofs.Twins.{core-low, faultless}
 
 pub run-append : {Msg : Type 0} (s : Setup) (F : Formats Msg) (R : Rules) (M : Module Msg) (es fs : List Event) (p : Progress Msg) →

@@ -25,7 +25,7 @@ use Rattle.iss_rules.specs.Ends.{End, Forged}
 use Rattle.iss_model.specs.Run.{Happening, Held, Progress, at_core, by_collision, by_forged, claims_at, collision_in, done, early_of, ended_at, ended_by, first_forged, is_forged, lost_by, node_of, noted, turned_to, with_network, after_step as free_step, delivered_to as free_delivered, apply_event as free_apply_event, loses as free_loses}
 use Rattle.iss_rules.specs.Concrete.{request_of}
 use Rattle.iss_model.specs.Runs.{AreAtCores, IsAtCore}
-use Rattle.iss_theorems.proofs.Courses.{Leads, course-over, going, leads-less, leads-none, leads-on, leads-one, leads-same, nobody, nobody-asked, over, standing}
+use Rattle.iss_theorems.proofs.CrashRecovery.RunsInSequence.{Leads, course-over, going, leads-less, leads-none, leads-on, leads-one, leads-same, nobody, nobody-asked, over, standing}
 use Rattle.iss_model.specs.Courses.{Course, Machines, Upshot, after_step, apply_event, at_machine, begin_machines, by_step, calms, core_of, course, delivered_to, delivers, delivers_each, loses, machines_done, machines_lost, pumps, recover, stops, unless, with_disk, with_disks, with_packets}
 use Rattle.iss_model.specs.Disks.{Disk, fails, fused, keeps, may_keep, works_again}
 use Rattle.iss_theorems.specs.Headline.{AreOfTheirDisks, IsUndisturbed, WasAsked, asked_in, why_ended}

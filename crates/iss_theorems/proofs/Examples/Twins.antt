@@ -11,7 +11,7 @@ use Rattle.iss_rules.specs.declared.events.Why.TheVariants.{BadClaim, NotLeader}
 use Rattle.iss_model.specs.Node.{Core}
 use Rattle.iss_model.specs.Run.{addressees, node_of}
 use Rattle.iss_model.proofs.Example.{plain_request}
-use Rattle.iss_theorems.proofs.Forging.{after, four, heard}
+use Rattle.iss_theorems.proofs.Examples.ForgedClaims.{after, four, heard}
 use Rattle.iss_composition.proofs.Signing.{Word}
 
 -- both cores run node 3, and what is sent to node 3 goes to both

@@ -24,24 +24,24 @@ use Rattle.iss_rules.specs.Rules.{Rules}
 use Rattle.iss_model.specs.Run.{Held, as_signed, booked, posted_all, turned_to}
 use Rattle.iss_rules.proofs.Faithful.{is_message}
 use Rattle.iss_model.specs.Runs.{pasts_of}
-use Rattle.iss_theorems.proofs.Booked.{ends-booked, takes-booked}
+use Rattle.iss_theorems.proofs.StoppedRuns.BookIsComplete.{ends-booked, takes-booked}
 use Rattle.iss_model.proofs.Casts.{bounded-core, ends-ready, inputs-ready, settled-core}
 use Rattle.iss_rules.proofs.Ending.{advanced-later, advanced-log, complete-far}
 use Rattle.iss_rules.proofs.Epochs.{start-cut}
-use Rattle.iss_theorems.proofs.Fits.{Fits, Premises, more-posted, view}
+use Rattle.iss_theorems.proofs.Refinement.Invariant.{Fits, Premises, more-posted, view}
 use Rattle.iss_composition.proofs.Good.{Good}
-use Rattle.iss_theorems.proofs.Linked.{grown-hashed}
+use Rattle.iss_theorems.proofs.Refinement.StepsHashChains.{grown-hashed}
 use Rattle.iss_rules.proofs.Logs.{Later, later-refl, log-chain, log-later, takes-later}
 use Rattle.iss_composition.proofs.Moves.{good-moved}
-use Rattle.iss_theorems.proofs.Posts.{posted-append, posted-in, told, told-is}
+use Rattle.iss_theorems.proofs.Refinement.PacketsHoldSends.{posted-append, posted-in, told, told-is}
 use Rattle.iss_model.proofs.Rows.{IsFit, then_ends, then_reads, then_takes}
-use Rattle.iss_theorems.proofs.Spelled.{log-read, loose, loose-strings, loosen, read-spelled}
-use Rattle.iss_theorems.proofs.Standing.{log-at-later, voted-later}
+use Rattle.iss_theorems.proofs.Refinement.LoggedValuesAreEncodable.{log-read, loose, loose-strings, loosen, read-spelled}
+use Rattle.iss_theorems.proofs.Checkpoints.VotesDescribeLogs.{log-at-later, voted-later}
 use Rattle.iss_composition.proofs.Statements.{apart, leader-far, votes as votes_same}
-use Rattle.iss_theorems.proofs.Tests.{booked-first, booked-last, booked-split, own-is}
-use Rattle.iss_theorems.proofs.Turned as turned
+use Rattle.iss_theorems.proofs.Refinement.DeliveryChecks.{booked-first, booked-last, booked-split, own-is}
+use Rattle.iss_theorems.proofs.Refinement.ClusterDuringStep as turned
 use Rattle.iss_model.proofs.Twins.{addressee-core, core-low, faultless}
-use Rattle.iss_theorems.proofs.Voting.{end-chain, end-requests, voted-is}
+use Rattle.iss_theorems.proofs.Checkpoints.VotesAreForChains.{end-chain, end-requests, voted-is}
 
 module _ {Msg : Type 0} (s : Setup) (F : Formats Msg) (R : Rules) (M : Module Msg) (o : Premises s F R M) (h : Held Msg) (ok : Fits s F R M h)
     (i : ℕ) (correct : is_correct s i ≡ true) where

@@ -38,7 +38,7 @@ use Rattle.iss_composition.proofs.Checkpoints.{exact-of}
 use Rattle.iss_rules.proofs.Layouts.{own-verifies, sound-rules}
 use Rattle.iss_composition.proofs.Reached.{composition}
 use Rattle.iss_composition.proofs.Signing.{Word, is_slot, lawful, made_of, passes, sent-again, signing, slot-in, word-again}
-use Rattle.iss_theorems.proofs.Tests.{over-new, over-old, own-is, separate-more}
+use Rattle.iss_theorems.proofs.Refinement.DeliveryChecks.{over-new, over-old, own-is, separate-more}
 
 -- The module of the example: like the one that signs, but each node delivers nil in all slots as soon as it takes any
 -- input.

@@ -29,7 +29,7 @@ use Rattle.iss_composition.proofs.Agree.{before-is, begun, in-world, placed, rig
 use Rattle.iss_rules.proofs.Epochs.{epoch-low}
 use Rattle.iss_composition.proofs.Good.{Good}
 use Rattle.iss_rules.proofs.Judged.{accepted, entry-judged}
-use Rattle.iss_theorems.proofs.Voting.{IsVoting}
+use Rattle.iss_theorems.proofs.Checkpoints.VotesAreForChains.{IsVoting}
 
 -- a value that decodes from its encoding counts as encodable
 pub read-spelled : (s : Setup) (v : Value) → IsReadValue s v → (scheme_of s).spells v ≡ true

@@ -12,7 +12,7 @@ use Rattle.iss_rules.specs.Rules.{Rules}
 use Rattle.iss_rules.specs.Ends.{End}
 use Rattle.iss_model.specs.Run.{Happening, Held, Progress, ended_at, run, run_event_if_open as free_run_event, apply_event as free_apply_event}
 use Rattle.iss_model.specs.Runs.{AreAtCores, IsAtCore}
-use Rattle.iss_theorems.proofs.Runs.{run-append}
+use Rattle.iss_theorems.proofs.Refinement.RunKeepsInvariant.{run-append}
 use Rattle.iss_model.specs.Courses.{Course, Machines, course, run_event_if_open}
 use Rattle.iss_theorems.specs.Headline.{AreUndisturbed, IsUndisturbed, WasAsked, why_ended}
 

@@ -13,7 +13,7 @@ use Rattle.iss_rules.specs.Ends.{End, Forged}
 use Rattle.iss_rules.specs.declared.events.Why.TheVariants.{Stopped}
 use Rattle.iss_model.proofs.Example.{first_told, light, plain_request, short}
 use Rattle.iss_composition.proofs.Signing.{Word, claim_of, signing}
-use Rattle.iss_theorems.proofs.Forging.{four}
+use Rattle.iss_theorems.proofs.Examples.ForgedClaims.{four}
 use Rattle.iss_model.specs.Courses.{Course, begin_course, course}
 
 abbrev easy : Rules

@@ -14,12 +14,12 @@ use Rattle.iss_theorems.specs.Certified.{AreOfLogs, WereDelivered}
 use Rattle.iss_theorems.specs.Conserved.{AcceptsOnce, IsConserved, IsInOnePlace}
 use Rattle.iss_theorems.specs.Ends.{HasEvidence, IsEvidenced}
 use Rattle.iss_theorems.specs.OneLog.{IsClusterRun, IsOneLog, run_after}
-use Rattle.iss_theorems.proofs.Runs.{run-append}
+use Rattle.iss_theorems.proofs.Refinement.RunKeepsInvariant.{run-append}
 use Rattle.iss_model.specs.Courses.{Course, begin_course, begin_machines, course}
 use Rattle.iss_theorems.specs.Headline.{AreCertified, AreOfCluster, AreOneLog, AreWritten, IsWhole, WasAsked, course_after, held_after, shown, why_ended}
-use Rattle.iss_theorems.proofs.Courses.{Leads, course-append, course-over, going, going-is, leads-behind, over-is}
-use Rattle.iss_theorems.proofs.Entering.{Follows, begin-own, follows}
-use Rattle.iss_theorems.proofs.Numbers.{same-numbers}
+use Rattle.iss_theorems.proofs.CrashRecovery.RunsInSequence.{Leads, course-append, course-over, going, going-is, leads-behind, over-is}
+use Rattle.iss_theorems.proofs.CrashRecovery.JournaledEventsEnter.{Follows, begin-own, follows}
+use Rattle.iss_theorems.proofs.CrashRecovery.SlotsHaveOneNumber.{same-numbers}
 
 -- why a run stopped, and in which event
 ended-is : (o : Option (ℕ × End)) (end : End) → why_ended o ≡ Some end → (k : ℕ) × (o ≡ Some (k, end))

@@ -30,7 +30,7 @@ use Rattle.iss_rules.specs.Setups.{IsSetupOf}
 use Rattle.iss_rules.proofs.Faithful.{IsFaithful, IsReadBack}
 use Rattle.iss_composition.proofs.Good.{Good}
 use Rattle.iss_rules.proofs.Ids.{ids-right}
-use Rattle.iss_theorems.proofs.OnePlace.{one-place, segments}
+use Rattle.iss_theorems.proofs.NoLoss.OnePlaceInCluster.{one-place, segments}
 use Rattle.iss_model.proofs.Places.{Filed, FiledCore, HasSegments, IsPlaced, Keeps, PlacedCore, keeps-refl, keeps-trans, request-waits, step-keeps}
 use Rattle.iss_composition.proofs.Reached.{good-reach}
 use Rattle.iss_model.proofs.Twins.{correct-is}

@@ -21,7 +21,7 @@ use Rattle.iss_rules.specs.Votes.{are_true, cert_on, claims_by, is_true_cert, ke
 use Rattle.iss_model.specs.Node.{Core, counted}
 use Rattle.iss_rules.specs.SoundRules.{IsSoundRules}
 use Rattle.iss_rules.specs.Rules.{Rules}
-use Rattle.iss_theorems.proofs.Voting.{IsVoting}
+use Rattle.iss_theorems.proofs.Checkpoints.VotesAreForChains.{IsVoting}
 
 -- the signatures, as a cluster's certificate has them
 abbrev pub signs_of : List Signature → List Sign

@@ -20,7 +20,7 @@ use Rattle.iss_rules.proofs.Ending.{advanced-later}
 use Rattle.iss_rules.proofs.Epochs.{start-mono}
 use Rattle.iss_rules.proofs.Logs.{Later, before-later, takes-later}
 use Rattle.iss_rules.proofs.Pieces.{adopts-later}
-use Rattle.iss_theorems.proofs.Shown.{own-all}
+use Rattle.iss_theorems.proofs.StoppedRuns.EvidenceIsValid.{own-all}
 
 module _ {Msg : Type 0} (R : Rules) (M : Module Msg) (i : ℕ) (c : Core Msg) (sound : IsSoundCore R M i c) where
   -- the log before an epoch that has begun stays

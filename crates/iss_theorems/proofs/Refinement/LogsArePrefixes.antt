@@ -16,9 +16,9 @@ use Rattle.iss_model.specs.Runs.{AreAtCores}
 use Rattle.iss_rules.proofs.Layouts.{sound-rules}
 use Rattle.iss_model.proofs.Printed.{once-turned, turned, turned-cut}
 use Rattle.iss_composition.proofs.Checkpoints.{exact-of}
-use Rattle.iss_theorems.proofs.Fits.{Premises}
-use Rattle.iss_theorems.proofs.Runs.{run-fits, run-grows, run-ordered}
-use Rattle.iss_theorems.proofs.Voting.{rules-voting}
+use Rattle.iss_theorems.proofs.Refinement.Invariant.{Premises}
+use Rattle.iss_theorems.proofs.Refinement.RunKeepsInvariant.{run-fits, run-grows, run-ordered}
+use Rattle.iss_theorems.proofs.Checkpoints.VotesAreForChains.{rules-voting}
 use Rattle.iss_rules.proofs.Windows.{are-windows}
 
 -- the premises of the run's invariant, for a good set-up

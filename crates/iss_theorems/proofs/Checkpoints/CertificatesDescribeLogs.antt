@@ -18,13 +18,13 @@ use Rattle.iss_rules.specs.Rules.{Rules}
 use Rattle.iss_rules.specs.Setups.{IsSetupOf}
 use Rattle.iss_rules.proofs.Faithful.{IsFaithful}
 use Rattle.iss_model.specs.Runs.{AreAtCores}
-use Rattle.iss_theorems.proofs.Certs.{in-signers, quorum-is, signs_of}
+use Rattle.iss_theorems.proofs.Checkpoints.KeptVotesAreValid.{in-signers, quorum-is, signs_of}
 use Rattle.iss_composition.proofs.Checkpoints.{exact-of, quorums}
-use Rattle.iss_theorems.proofs.Fits.{view}
+use Rattle.iss_theorems.proofs.Refinement.Invariant.{view}
 use Rattle.iss_rules.proofs.Logs.{log-chain}
-use Rattle.iss_theorems.proofs.OneLog.{premises}
+use Rattle.iss_theorems.proofs.Refinement.LogsArePrefixes.{premises}
 use Rattle.iss_composition.proofs.Reached.{good-reach}
-use Rattle.iss_theorems.proofs.Runs.{run-fits}
+use Rattle.iss_theorems.proofs.Refinement.RunKeepsInvariant.{run-fits}
 
 module _ {Msg : Type 0} (s : Setup) (M : Module Msg) (h : IsSetupOf M s) (faithful : IsFaithful s (formats_of s M) M) (law : IsLawful M) (safe : IsSafe M) where
   pub are-of-logs : (events : List Event) → AreAtCores s events → AreOfLogs s M events

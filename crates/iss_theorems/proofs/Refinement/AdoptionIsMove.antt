@@ -18,22 +18,22 @@ use Rattle.iss_composition.specs.Ordered.{Among}
 use Rattle.iss_rules.proofs.Faithful.{IsReadValue}
 use Rattle.iss_model.specs.Runs.{pasts_of}
 use Rattle.iss_composition.proofs.Agree.{separate-part}
-use Rattle.iss_theorems.proofs.Booked.{adopts-booked}
+use Rattle.iss_theorems.proofs.StoppedRuns.BookIsComplete.{adopts-booked}
 use Rattle.iss_model.proofs.Casts.{adopts-ready}
-use Rattle.iss_theorems.proofs.Certs.{IsKeptCert, in-signers, keeping-certified, quorum-is, signs_of}
+use Rattle.iss_theorems.proofs.Checkpoints.KeptVotesAreValid.{IsKeptCert, in-signers, keeping-certified, quorum-is, signs_of}
 use Rattle.iss_composition.proofs.Chains.{strings-oldest}
-use Rattle.iss_theorems.proofs.Fits.{Fits, Premises, view}
+use Rattle.iss_theorems.proofs.Refinement.Invariant.{Fits, Premises, view}
 use Rattle.iss_composition.proofs.Good.{Good}
-use Rattle.iss_theorems.proofs.Linked.{over-hashed}
+use Rattle.iss_theorems.proofs.Refinement.StepsHashChains.{over-hashed}
 use Rattle.iss_rules.proofs.Logs.{Later, log-chain, log-later}
 use Rattle.iss_rules.proofs.Pieces.{adopts-later}
-use Rattle.iss_theorems.proofs.Spelled.{AreReadPieces, log-read, read-spelled}
-use Rattle.iss_theorems.proofs.Standing.{log-at-later, voted-later}
+use Rattle.iss_theorems.proofs.Refinement.LoggedValuesAreEncodable.{AreReadPieces, log-read, read-spelled}
+use Rattle.iss_theorems.proofs.Checkpoints.VotesDescribeLogs.{log-at-later, voted-later}
 use Rattle.iss_model.proofs.Steps.{IsAdopted}
-use Rattle.iss_theorems.proofs.Tests.{over-new, over-old}
-use Rattle.iss_theorems.proofs.Turned as turned
-use Rattle.iss_theorems.proofs.Voting.{leads-chained}
-use Rattle.iss_theorems.proofs.Onward as onward
+use Rattle.iss_theorems.proofs.Refinement.DeliveryChecks.{over-new, over-old}
+use Rattle.iss_theorems.proofs.Refinement.ClusterDuringStep as turned
+use Rattle.iss_theorems.proofs.Checkpoints.VotesAreForChains.{leads-chained}
+use Rattle.iss_theorems.proofs.Refinement.StepIsMove as onward
 
 -- what values add to a log
 in-over : (v : Value) (vs log : List Value) → In v (push_all vs log) → In v vs ⊎ In v log

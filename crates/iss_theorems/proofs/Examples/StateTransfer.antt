@@ -32,7 +32,7 @@ use Rattle.iss_rules.specs.Ends.{Forged}
 use Rattle.iss_model.specs.Run.{Progress, begin_run, run}
 use Rattle.iss_model.specs.Views.{claims_of_bytes}
 use Rattle.iss_model.proofs.Example.{Word, easy, light, plain, short, spell, telling}
-use Rattle.iss_theorems.proofs.Forging.{after as forging}
+use Rattle.iss_theorems.proofs.Examples.ForgedClaims.{after as forging}
 
 abbrev run_of : List Event → Progress Word
 run_of events = run plain short easy telling (begin_run plain) events
