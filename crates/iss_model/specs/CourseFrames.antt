@@ -6,7 +6,7 @@ use Rattle.iss_model.specs.Frames.{Frame}
 use Rattle.iss_model.specs.Node.{Core}
 use Rattle.iss_model.specs.Courses.{Course, Machines, Upshot, apply_event, at_machine, calms, core_of, course, delivers, delivers_each, injects, pumps, recover, run_event, run_event_if_open}
 
--- a core
+-- one core
 abbrev pub core_of_in : {Msg : Type 0} → Frame Msg → ℕ → List NodeEvent → Core Msg
 core_of_in W me events = core_of W.formats W.rules W.spec me events
 

@@ -10,7 +10,7 @@ use Rattle.iss_rules.specs.Ends.{End}
 use Rattle.iss_model.specs.Run.{Net, ended_at, node_of}
 use Rattle.iss_model.specs.Courses.{Course, apply_event, run_event, run_event_if_open}
 use Rattle.iss_theorems.specs.Headline.{course_after}
-use Rattle.iss_theorems.proofs.Told.{after-one, after-stays, end-notes-nothing, further-on}
+use Rattle.iss_theorems.proofs.CrashRecovery.LostEventsAreNumbered.{after-one, after-stays, end-notes-nothing, further-on}
 use Rattle.iss_model.proofs.Twins.{node-is}
 use Rattle.iss_rules.specs.declared.events.Why.{Why}
 use Rattle.iss_replay.specs.Text.{drop_line, node_block}

@@ -4,7 +4,7 @@ use Rattle.iss_request.specs.Log.{has_id}
 use Rattle.iss_request.specs.declared.ids.ReqId.{ReqId}
 use Rattle.iss_request.specs.declared.requests.Request.{Request}
 
--- the set with one identity more, which stays where it is in the list if it is there
+-- the set with one more identity; one that is there keeps its place
 abbrev pub and_id : List ReqId → ReqId → List ReqId
 and_id xs x = if has_id x xs then xs else xs ++ x ∷ []
 

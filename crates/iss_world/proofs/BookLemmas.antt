@@ -15,7 +15,7 @@ use Rattle.iss_rules.specs.Concrete.{keys_of, rules_of}
 use Rattle.iss_rules.specs.Rules.{Rules}
 use Rattle.iss_rules.specs.Ends.{End, Collision}
 use Rattle.iss_model.specs.Run.{as_signed, booked, collision_in, collision_with, first_forged, has_signed, is_collision, is_forged}
-use Rattle.iss_theorems.proofs.Tests.{as_signed-append}
+use Rattle.iss_theorems.proofs.Refinement.DeliveryChecks.{as_signed-append}
 use Rattle.iss_request.specs.Digest.{digest}
 use Rattle.iss_request.specs.declared.ids.NodeId.{NodeId}
 use Rattle.iss_request.specs.declared.setups.Setup.{Setup}

@@ -5,7 +5,7 @@ use Rattle.iss_model.proofs.Ranges.{at-cores}
 use Rattle.iss_model.specs.Frames.{frame_of}
 use Rattle.iss_model.specs.Runs.{AreAtCores}
 use Rattle.iss_request.specs.declared.setups.Setup.{Setup}
-use Rattle.iss_theorems.proofs.Told.{after-more}
+use Rattle.iss_theorems.proofs.CrashRecovery.LostEventsAreNumbered.{after-more}
 use Rattle.iss_model.specs.Courses.{Course, run_event_if_open}
 use Rattle.iss_theorems.specs.Headline.{IsWhole, course_after}
 use Rattle.iss_rules.specs.Concrete.{rules_of}

@@ -7,7 +7,7 @@ use Rattle.iss_base.proofs.Lists.{eqb-other, eqb-same, same_or_not}
 use Rattle.iss_request.specs.declared.setups.Setup.{Setup}
 use Rattle.iss_base.specs.Lists.{below, nth}
 use Rattle.iss_model.specs.Run.{addressees, node_of, posted_all, posted_to}
-use Rattle.iss_theorems.proofs.Posts.{posted-append}
+use Rattle.iss_theorems.proofs.Refinement.PacketsHoldSends.{posted-append}
 use Rattle.iss_model.proofs.Twins.{node-is}
 use Rattle.iss_network.specs.Network.{Network, posted}
 use Rattle.iss_network.specs.declared.packets.Sent.{Sent}

@@ -36,7 +36,7 @@ use Rattle.iss_sb.specs.declared.effects.Claim.{Claim}
 use Rattle.iss_sb.specs.declared.effects.To.{To}
 use Rattle.iss_sb.specs.Calls.{AreToNodes, Relation}
 use Rattle.iss_sb.specs.Evidence.{Module}
-use Rattle.iss_theorems.proofs.Entering.{forged-first}
+use Rattle.iss_theorems.proofs.CrashRecovery.JournaledEventsEnter.{forged-first}
 use Rattle.iss_world.proofs.BookLemmas.{forged-append}
 use Rattle.iss_world.proofs.OverLemmas.{at-working, epoch-grown, log-grown, over-shows, over-stale}
 use Rattle.iss_world.specs.Books.{AreHashed, AreSigned}
