@@ -4,12 +4,10 @@ use Rattle.std.proofs.lemmas.Bool.Decides.{Decides-eqb}
 use Rattle.iss_request.specs.declared.requests.Batch.{Batch}
 use Rattle.iss_request.specs.declared.requests.Value.{Value}
 use Rattle.iss_request.specs.declared.requests.Value.TheVariants.{Batch as Value_batch}
+use Rattle.iss_request.proofs.Identities.{holds-injective}
 use Rattle.iss_sb.specs.declared.content.Content.{Content}
 use Rattle.iss_sb.specs.declared.content.Content.TheVariants.{Nil, Holds, Mark}
 use Rattle.hs_tree.specs.Tree.{filled, value_at, value_here, value_of, weight}
-
-batch-same : (b c : Batch) → Value_batch b ≡ Value_batch c → b ≡ c
-batch-same b c h = cc
 
 -- a batch at a place stands on top, or below
 pub here-is : (k n : ℕ) (c : Content) (o : Option Value) (b : Batch) → value_here k n c o ≡ Some (Value_batch b) → ((k ≡ n) × (c ≡ Holds b)) ⊎ (o ≡ Some (Value_batch b))
@@ -18,7 +16,7 @@ here-is k n c o b h = go (k == n) refl c h
     go : (t : Bool) → (k == n) ≡ t → (c : Content) → (if t && (weight c == 1) then value_of c else o) ≡ Some (Value_batch b) → ((k ≡ n) × (c ≡ Holds b)) ⊎ (o ≡ Some (Value_batch b))
     go false q c e = inr e
     go true q Nil e = absurd cc
-    go true q (Holds x) e = inl ((Decides-eqb k n).0 q, (let v : Value_batch x ≡ Value_batch b = cc in ap (λ (z : Batch). Holds z) (batch-same x b v)))
+    go true q (Holds x) e = inl ((Decides-eqb k n).0 q, (let v : Value_batch x ≡ Value_batch b = cc in ap (λ (z : Batch). Holds z) (holds-injective x b v)))
     go true q Mark e = inr e
 
 one-below : (k n m : ℕ) (c : Content) (o : Option Value) (x : Value) → k < n → n ≤ m → o ≡ Some x → (if (k == m) && (weight c == 1) then value_of c else o) ≡ Some x

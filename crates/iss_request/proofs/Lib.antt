@@ -1,6 +1,7 @@
 mod Examples
 pub mod FormatLemmas
 pub mod Identities
+pub mod Kinds
 pub mod OneSpelling
 pub mod ParserLemmas
 pub mod Parts

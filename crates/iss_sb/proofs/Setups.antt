@@ -3,15 +3,12 @@ use Rattle.std.proofs.Common.{◌≡◌, ◌≤◌, ◌&&◌, ◌||◌, ◌==◌
 use Rattle.std.specs.Prelude.{nat_le, nat_lt}
 use Rattle.std.proofs.lemmas.Bool.{eq-eqb, eqb-true, leb-true, ltb-true}
 use Rattle.iss_base.proofs.Lists.{and-true}
+use Rattle.iss_request.proofs.Kinds.{is_stopping, stops}
 use Rattle.iss_request.specs.Setup.{AreRising, IsFewFaulty, IsGoodSetup, node_count, quorum_count}
 use Rattle.iss_request.specs.declared.ids.NodeId.{NodeId}
 use Rattle.iss_request.specs.declared.setups.Kind.{Kind}
 use Rattle.iss_request.specs.declared.setups.Kind.TheVariants.{Byzantine, Stopping}
 use Rattle.iss_request.specs.declared.setups.Setup.{Setup}
-
-abbrev stops : Kind → Bool
-stops Byzantine = false
-stops Stopping = true
 
 abbrev few_faulty : Kind → ℕ → List NodeId → Bool
 few_faulty Byzantine f faulty = nat_le (length faulty) f
@@ -40,10 +37,6 @@ has_ranges s =
 abbrev pub is_good : Setup → Bool
 is_good s = has_counts s && (has_ranges s && (few_faulty s.kind s.f s.faulty && are_ascending 0 s.n s.faulty))
 
-stopping : (k : Kind) → stops k ≡ true → k ≡ Stopping
-stopping Byzantine h = absurd (true≢false (sym h))
-stopping Stopping h = refl
-
 faulty-few : (k : Kind) (f : ℕ) (is : List NodeId) → few_faulty k f is ≡ true → IsFewFaulty k f is
 faulty-few Byzantine f is h = leb-true (length is) f h
 faulty-few Stopping f [] h = refl
@@ -66,7 +59,7 @@ implied false b h e = absurd (true≢false (sym e))
 relay : (s : Setup) → is_relay_good s ≡ true → s.module ≡ 1 → (s.f ≡ 0) × (s.kind ≡ Stopping)
 relay s h e =
     let a = and-true (s.f == 0) (stops s.kind) (implied (s.module == 1) ((s.f == 0) && stops s.kind) h (eq-eqb s.module 1 e)) in
-    (eqb-true s.f 0 a.0, stopping s.kind a.1)
+    (eqb-true s.f 0 a.0, is_stopping s.kind a.1)
 
 pub good-by : (s : Setup) → is_good s ≡ true → IsGoodSetup s
 good-by s h =
