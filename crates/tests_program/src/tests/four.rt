@@ -50,9 +50,9 @@ impl Model for Four {
 
     ghost Value = { ℕ };
 
-    ghost view = { λ f. f.world.running.setup.n };
+    ghost view = { λ f. f.world.simulation.setup.n };
 
-    ghost invariant = { λ f. (f.world.running.setup.n ≡ 4) × (f.world.running.setup.kind ≡ Byzantine) };
+    ghost invariant = { λ f. (f.world.simulation.setup.n ≡ 4) × (f.world.simulation.setup.kind ≡ Byzantine) };
 }
 
 // The same bytes, each of which is below 256.
@@ -63,8 +63,8 @@ fn bytes_from(all: Vec<u8>) -> Bytes
 }
 
 fn happens(alloc: Global, world: &mut World<Echo>, event: &Event) -> Told
-    requires { IsInRange world.old.running.setup event.now }
-    ensures same { world.new.running.setup ≡ world.old.running.setup }
+    requires { IsInRange world.old.simulation.setup event.now }
+    ensures same { world.new.simulation.setup ≡ world.old.simulation.setup }
 {
     in_brief(&world.event(alloc, event))
 }
