@@ -20,11 +20,11 @@ differs a b ne = elim (cases_Bool (bytes_eq a b)) [ inl same ↦ absurd (ne ((by
 pub same_names : (a b : List ℕ) → a ≡ b → bytes_eq a b ≡ true
 same_names a b is = subst (λ (l : List ℕ). bytes_eq a l ≡ true) is (bytes_eq_self a)
 
--- the first file, where it has the name
+-- the first file is found by its name
 pub among_first : (file : StoredFile) (files : List StoredFile) (name : List ℕ) → file.name.items ≡ name → history_among (file ∷ files) name ≡ history_of file
 among_first file files name is = cond-true (bytes_eq file.name.items name) (history_of file) (history_among files name) (same_names _ _ is)
 
--- and where it has another name
+-- a file with another name is found among the rest
 pub among_others : (file : StoredFile) (files : List StoredFile) (name : List ℕ) → file.name.items ≢ name → history_among (file ∷ files) name ≡ history_among files name
 among_others file files name ne = cond-false (bytes_eq file.name.items name) (history_of file) (history_among files name) (differs _ _ ne)
 
@@ -37,7 +37,7 @@ among_found files i file name lt is named = ap (λ (fs : List StoredFile). histo
 pub among_passed : (files : List StoredFile) (i : ℕ) (file : StoredFile) (name : List ℕ) → i < length files → file ≡ get_or files i file → file.name.items ≢ name → history_among (drop i files) name ≡ history_among (drop (i + 1) files) name
 among_passed files i file name lt is named = ap (λ (fs : List StoredFile). history_among fs name) (dropped files i file lt is) ∙ among_others file (drop (i + 1) files) name named
 
--- to take a file out changes nothing for other names
+-- removing a file changes nothing for other names
 pub among_removed : (files : List StoredFile) (i : ℕ) (file : StoredFile) (name : List ℕ) → i < length files → file ≡ get_or files i file → file.name.items ≢ name → history_among (take i files ++ drop (suc i) files) name ≡ history_among files name
 among_removed [] i file name lt is ne = absurd (omega arith)
 among_removed (f ∷ files) zero file name lt is ne = sym (among_others f files name (λ e. ne (ap (λ (s : StoredFile). s.name.items) is ∙ e)))
@@ -46,7 +46,7 @@ among_removed (f ∷ files) (suc i) file name lt is ne = ap (λ (h : List File).
 pub among_none : (files : List StoredFile) (i : ℕ) (name : List ℕ) → length files ≤ i → history_among (drop i files) name ≡ settled [] ∷ []
 among_none files i name past = ap (λ (fs : List StoredFile). history_among fs name) (drop_all i files past)
 
--- a file and those behind it restart, whatever their names
+-- a file and those after it restart, whatever their names
 pub restarts_first : (old new : StoredFile) (old_rest new_rest : List StoredFile) (name : List ℕ) → old.name.items ≡ new.name.items → Restarts (history_of old) (history_of new) → Restarts (history_among old_rest name) (history_among new_rest name)
     → Restarts (history_among (old ∷ old_rest) name) (history_among (new ∷ new_rest) name)
 restarts_first old new old_rest new_rest name named first rest = elim (cases_Bool (bytes_eq old.name.items name)) [
@@ -56,7 +56,7 @@ restarts_first old new old_rest new_rest name named first rest = elim (cases_Boo
       (subst (λ (h : List File). Restarts (history_among old_rest name) h) (sym (cond-false (bytes_eq new.name.items name) (history_of new) (history_among new_rest name) (ap (λ (l : List ℕ). bytes_eq l name) (sym named) ∙ other))) rest)
 ]
 
--- two reads at one place
+-- equal reads of one name
 pub same_read : (files : List StoredFile) (i : ℕ) (a b : StoredFile) → i < length files → a ≡ get_or files i a → b ≡ get_or files i b → a ≡ b
 same_read files i a b lt is_a is_b = get_or_read files i a lt is_a b ∙ sym is_b
 
@@ -78,7 +78,7 @@ each_more [] (n ∷ news) old new each named restarts = absurd each
 each_more (o ∷ olds) [] old new each named restarts = absurd each
 each_more (o ∷ olds) (n ∷ news) old new each named restarts = (each.0, each.1, each_more olds news old new each.2 named restarts)
 
--- one file more has restarted
+-- one more file has restarted
 pub each_next : (olds news : List StoredFile) (i : ℕ) (old new : StoredFile) → i < length olds → length news ≡ length olds → EachRestarts (take i olds) (take i news) → drop i news ≡ drop i olds → old ≡ get_or news i old → new.name.items ≡ old.name.items → Restarts (history_of old) (history_of new)
     → EachRestarts (take (i + 1) olds) (take (i + 1) (set news i new)) × (drop (i + 1) (set news i new) ≡ drop (i + 1) olds)
 each_next olds news i old new lt long done left is named restarts =
@@ -98,7 +98,7 @@ each_done olds news i past long done =
     let in_news : length news ≤ i = omega (arith, past, long) in
     subst (λ (l : List StoredFile). EachRestarts l news) (take_all i olds past) (subst (λ (l : List StoredFile). EachRestarts (take i olds) l) (take_all i news in_news) done)
 
--- where the wanted file becomes the current one, and the former one joins the others, each name has the file it had
+-- After the wanted file becomes the current one, and the former one joins the others, each name has the same file.
 pub attached_files : (file next : StoredFile) (before after : List StoredFile) (wanted : List ℕ) → file.name.items ≢ wanted → next.name.items ≡ wanted → history_of next ≡ history_among before wanted
     → ((name : List ℕ) → name ≢ wanted → history_among after name ≡ history_among before name) → (n : List ℕ) → history_among (next ∷ file ∷ after) n ≡ history_among (file ∷ before) n
 attached_files file next before after wanted apart named is_next others n = elim (cases_Bool (bytes_eq next.name.items n)) [
@@ -111,7 +111,7 @@ attached_files file next before after wanted apart named is_next others n = elim
       ∙ ap (λ (h : List File). cond (bytes_eq file.name.items n) (history_of file) h) (others n (λ e. false≢true (sym other ∙ same_names _ _ (named ∙ sym e))))
 ]
 
--- what is asked of the told content holds of what the file holds
+-- a bound on the recorded content is a bound on the stored content
 pub within_content : (stored : StoredFile) (n : ℕ) → IfTold (history_of stored) (λ file. n ≤ length file.content) → n ≤ length stored.content.items
 within_content stored n within =
     let some = states_some (calls_of stored.recent ++ calls_in stored.calls) stored.lost.items stored.content.items in

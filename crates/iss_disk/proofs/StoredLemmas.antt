@@ -1,4 +1,4 @@
--- A write and a cut can be undone, and keep what a stored file says of itself.
+-- A write and a cut can be undone, and keep the invariant of a stored file.
 use Rattle.std.proofs.Common.{◌≡◌, ℕ, ◌+◌, ◌-◌, ◌<◌, ◌≤◌, List, [], ◌∷◌, ◌++◌, length, take, drop, get_or, set, refl, sym, ◌∙◌, ap, arith, length-append, length-take-le, length-drop}
 use Rattle.std.proofs.lemmas.List.{append-nil, append_assoc, take_at, drop_at, drop_all, drop_more, take_all, take-set, drop-set, take-take, take-append-le, take-append-drop, drop-drop}
 use Rattle.iss_disk.specs.File.{File, overwritten, wrote, shortened, synced, restarted}
@@ -12,7 +12,7 @@ use Rattle.iss_disk.specs.declared.call.Call.TheVariants.{ToEnd, Within, Cut, Ke
 pub newest_after : (change : File → File) (files : List File) → HasNewest files → newest (after change files) ≡ change (newest files)
 newest_after change files some = ap (λ (fs : List File). newest (after change fs)) some.is ∙ sym (ap (λ (fs : List File). change (newest fs)) some.is)
 
--- what the last call took away, and what was taken away before it
+-- what the last call removed, and what was removed before it
 pub last_taken : (lost taken : List ℕ) (n : ℕ) → length taken ≡ n → last_bytes n (lost ++ taken) ≡ taken
 last_taken lost taken n is =
     let front : length (lost ++ taken) - n ≡ length lost = omega (arith, length-append lost taken, is) in
@@ -23,13 +23,13 @@ taken_before lost taken n is =
     let front : length (lost ++ taken) - n ≡ length lost = omega (arith, length-append lost taken, is) in
     take_at lost taken _ (sym front)
 
--- behind where it ends, a write changes nothing
+-- a write changes nothing after its end
 pub drop-overwritten : (at : ℕ) (bytes content : List ℕ) → at + length bytes ≤ length content → drop (at + length bytes) (overwritten at bytes content) ≡ drop (at + length bytes) content
 drop-overwritten at bytes content within =
     let l : length (take at content ++ bytes) ≡ at + length bytes = omega (arith, length-append (take at content) bytes, length-take-le at content (omega (arith, within))) in
     drop_at (take at content ++ bytes) (drop (at + length bytes) content) (at + length bytes) l
 
--- below where it begins, a write changes nothing
+-- a write changes nothing before its offset
 pub take-overwritten : (same at : ℕ) (bytes content : List ℕ) → same ≤ at → at ≤ length content → take same (overwritten at bytes content) ≡ take same content
 take-overwritten same at bytes content le within =
     let l : length (take at content) ≡ at = length-take-le at content within in
@@ -37,7 +37,7 @@ take-overwritten same at bytes content le within =
     ∙ take-append-le same (take at content) bytes (omega (arith, l, le))
     ∙ take-take same at content le
 
--- a write that reaches the end is what stands there from its offset on
+-- after a write that reaches the end, the bytes from its offset on are what it wrote
 pub to-end-overwritten : (at : ℕ) (bytes content : List ℕ) → length content ≤ at + length bytes → overwritten at bytes content ≡ take at content ++ bytes
 to-end-overwritten at bytes content past =
     ap (λ (l : List ℕ). (take at content ++ bytes) ++ l) (drop_all (at + length bytes) content past) ∙ append-nil (take at content ++ bytes)
@@ -71,7 +71,7 @@ undone_within calls at len bytes content lost long within =
     ∙ ap (λ (xs : List ℕ). after (wrote at bytes) (states calls lost (with_part at len xs over))) (last_taken lost taken len n)
     ∙ ap (λ (xs : List ℕ). after (wrote at bytes) (states calls lost xs)) back
 
--- one that reaches the end is undone
+-- a write that reaches the end is undone
 pub undone_to_end : (calls : List Call) (at over : ℕ) (bytes content lost : List ℕ) → at ≤ length content → length content ≤ at + length bytes → over ≡ length content - at
     → states (ToEnd at over ∷ calls) (lost ++ drop at content) (overwritten at bytes content) ≡ after (wrote at bytes) (states calls lost content)
 undone_to_end calls at over bytes content lost within past is_over =
@@ -88,7 +88,7 @@ undone_to_end calls at over bytes content lost within past is_over =
     ∙ ap (λ (xs : List ℕ). after (wrote at bytes) (states calls lost (with_tail at xs whole))) (last_taken lost taken over n)
     ∙ ap (λ (xs : List ℕ). after (wrote at bytes) (states calls lost xs)) back
 
--- so is one behind all that was there, which takes nothing away
+-- a write at the end, which removes nothing, is undone
 pub undone_behind : (calls : List Call) (bytes content lost : List ℕ) → states (ToEnd (length content) 0 ∷ calls) lost (content ++ bytes) ≡ after (wrote (length content) bytes) (states calls lost content)
 undone_behind calls bytes content lost =
     let at = length content in
@@ -113,7 +113,7 @@ undone_cut calls n by content lost within is_by =
     ∙ ap (λ (xs : List ℕ). after (shortened n) (states calls lost (take n content ++ xs))) (last_taken lost taken by k)
     ∙ ap (λ (xs : List ℕ). after (shortened n) (states calls lost xs)) (take-append-drop n content)
 
--- so is what a crash took
+-- what a crash removed is restored
 pub undone_restart : (calls : List Call) (at over : ℕ) (content lost whole : List ℕ) → at ≤ length content → over ≡ length content - at → take at whole ≡ take at content
     → states (Restarted at over ∷ calls) (lost ++ drop at content) whole ≡ after restarted (states calls lost content)
 undone_restart calls at over content lost whole within is_over front =
@@ -124,7 +124,7 @@ undone_restart calls at over content lost whole within is_over front =
     ∙ ap (λ (xs : List ℕ). after restarted (states calls lost (xs ++ taken))) front
     ∙ ap (λ (xs : List ℕ). after restarted (states calls lost xs)) (take-append-drop at content)
 
--- where the content goes on with nothing that was synced
+-- nothing of the content after the saved bytes was synced
 pub nothing_behind : (apart content : List ℕ) (resumes : ℕ) → length content ≤ resumes → apart ++ drop resumes content ≡ apart
 nothing_behind apart content resumes past = ap (λ (l : List ℕ). apart ++ l) (drop_all resumes content past) ∙ append-nil apart
 
@@ -143,7 +143,7 @@ write_keeps old_states new_states at bytes content over behind apart same resume
       in_order = omega (arith, le_same, old.in_content, longer, ends);
     }
 
--- a byte put into its place is a write of one byte
+-- setting one byte is a write of one byte
 pub set-overwritten : (at byte : ℕ) (content : List ℕ) → at < length content → set content at byte ≡ overwritten at (byte ∷ []) content
 set-overwritten at byte content within =
     sym (take-append-drop at (set content at byte))
@@ -151,7 +151,7 @@ set-overwritten at byte content within =
     ∙ ap (λ (l : List ℕ). take at content ++ l) (drop-set content at byte within)
     ∙ sym (append_assoc (take at content) (byte ∷ []) (drop (at + 1) content))
 
--- so a byte over the last one before what was just kept is undone
+-- a write of one byte before what was just synced is undone
 pub undone_byte : (recent : Recent) (calls : List Call) (at byte former : ℕ) (content lost after_loss over : List ℕ) → at < length content → former ≡ get_or content at former → recent ≡ Just_kept (at + 1)
     → after_loss ≡ lost ++ former ∷ [] → over ≡ overwritten at (byte ∷ []) content → states (calls_of (Opening (at + 1)) ++ calls) after_loss over ≡ after (wrote at (byte ∷ [])) (states (calls_of recent ++ calls) lost content)
 undone_byte recent calls at byte former content lost after_loss over within was just_kept loses is_over =
@@ -163,7 +163,7 @@ undone_byte recent calls at byte former content lost after_loss over within was 
     ∙ undone_within (Kept (at + 1) ∷ calls) at 1 (byte ∷ []) content lost refl (omega (arith, within))
     ∙ ap (λ (o : Recent). after (wrote at (byte ∷ [])) (states (calls_of o ++ calls) lost content)) (sym just_kept)
 
--- and what is written behind all that was there
+-- a write at the end is undone
 pub written_behind : (recent : Recent) (calls : List Call) (at : ℕ) (bytes content lost longer : List ℕ) → recent ≡ Nothing → at ≡ length content → longer ≡ content ++ bytes
     → states (calls_of (Just_wrote at) ++ calls) lost longer ≡ after (wrote (length content) bytes) (states (calls_of recent ++ calls) lost content)
 written_behind recent calls at bytes content lost longer nothing is_end extended =
@@ -172,7 +172,7 @@ written_behind recent calls at bytes content lost longer nothing is_end extended
     ∙ undone_behind calls bytes content lost
     ∙ ap (λ (o : Recent). after (wrote (length content) bytes) (states (calls_of o ++ calls) lost content)) (sym nothing)
 
--- one byte over another, where all was synced: what it came over is all that is set apart
+-- one byte over another in a file that is all synced: only the byte that it replaced is saved
 pub over_keeps : (old_states new_states : List File) (at byte former : ℕ) (content over : List ℕ) (same resumes : ℕ) → HasNewest old_states → IsStored old_states content [] same resumes → same ≡ length content → at < length content
     → former ≡ get_or content at former → new_states ≡ after (wrote at (byte ∷ [])) old_states → over ≡ overwritten at (byte ∷ []) content → IsStored new_states over (former ∷ []) at (at + 1)
 over_keeps old_states new_states at byte former content over same resumes some old all within was one_more is_over =
@@ -207,7 +207,7 @@ cut_keeps old_states new_states n content short behind apart same resumes m some
       in_order = omega (arith, le_n);
     }
 
--- a file that was synced rests
+-- after a sync the stored bytes are all synced
 pub sync_keeps : (old_states new_states : List File) (content behind : List ℕ) (same resumes end : ℕ) → HasNewest old_states → IsStored old_states content behind same resumes
     → new_states ≡ after synced old_states → end ≡ length content → IsStored new_states content [] end end
 sync_keeps old_states new_states content behind same resumes end some old one_more ends =
@@ -221,7 +221,7 @@ sync_keeps old_states new_states content behind same resumes end some old one_mo
       in_order = omega arith;
     }
 
--- a file that was brought back to what was synced rests
+-- after a restart the stored bytes are all synced
 pub restart_keeps : (old_states new_states : List File) (content behind whole : List ℕ) (same resumes end : ℕ) → HasNewest old_states → IsStored old_states content behind same resumes
     → new_states ≡ after restarted old_states → whole ≡ take same content ++ (behind ++ drop resumes content) → end ≡ length whole → IsStored new_states whole [] end end
 restart_keeps old_states new_states content behind whole same resumes end some old one_more is_whole ends =

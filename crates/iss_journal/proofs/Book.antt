@@ -1,4 +1,4 @@
--- Entries that lie in the bytes of a file.
+-- Entries laid out in the bytes of a file.
 use Rattle.std.proofs.Common.{◌≡◌, ◌≢◌, inl, inr, lit<, length-drop, length-take-le, ℕ, zero, suc, ◌+◌, ◌-◌, ◌*◌, ◌<◌, ◌≤◌, List, [], ◌∷◌, ◌++◌, length, take, drop, get_or, refl, sym, ◌∙◌, ap, subst, arith, append_assoc, length-append, length-take, take-append-drop}
 use Rattle.std.proofs.lemmas.List.{take_at, drop_at, drop-drop, get_or_append_left, get_or-append_right, get_or-take, get_or-drop, get_or_past, drop_more, take-append-le}
 use Rattle.std.proofs.lemmas.Bool.{cases_lt}
@@ -8,7 +8,7 @@ use Rattle.iss_journal.specs.Frames.{frame, frames, max_entry, AreShort, IsWhole
 use Rattle.iss_journal.specs.Views.{AreMarks, IsBook, end_at, entries_at, entry_at, size_at}
 use Rattle.iss_journal.proofs.FrameLemmas.{entries_back, frames-push, length-entries, short-push, size_of}
 
--- the entries that were written are those that are found, and the book is right
+-- the entries read from the bytes are those that were written
 pub record Rebuilt (bytes : List ℕ) (count last : ℕ) (entries : List (List ℕ)) : Type 0 where
   pub found : entries_at bytes count ≡ entries
   pub book : IsBook bytes count last
@@ -29,11 +29,11 @@ rebuilt bytes count last entries tail is many end short =
 pub begins : (bytes : List ℕ) (count last : ℕ) → IsBook bytes count last → bytes ≡ frames (entries_at bytes count) ++ drop last bytes
 begins bytes count last book = sym (take-append-drop last bytes) ∙ ap (λ (l : List ℕ). l ++ drop last bytes) book.front
 
--- a book with other bytes behind its last gate
+-- a book with other bytes after its last gate
 pub with_tail : (bytes : List ℕ) (count last : ℕ) (other tail : List ℕ) → IsBook bytes count last → other ≡ frames (entries_at bytes count) ++ tail → Rebuilt other count last (entries_at bytes count)
 with_tail bytes count last other tail book is = rebuilt other count last (entries_at bytes count) tail is (sym (length-entries 0 bytes count)) book.end book.short
 
--- a book with one entry more
+-- a book with one more entry
 pub with_entry : (bytes : List ℕ) (count more last next : ℕ) (entry tail : List ℕ) → IsBook bytes count last → bytes ≡ frames (entries_at bytes count) ++ (frame entry ++ tail) → length entry ≤ max_entry → more ≡ count + 1 → next ≡ last + (5 + length entry)
     → Rebuilt bytes more next (entries_at bytes count ++ entry ∷ [])
 with_entry bytes count more last next entry tail book is short is_more is_next =
@@ -44,7 +44,7 @@ with_entry bytes count more last next entry tail book is short is_more is_next =
     (omega (arith, is_next, book.end, ap length (frames-push entries entry), length-append (frames entries) (frame entry)))
     (short-push entries entry book.short short)
 
--- one entry between those before and those behind it
+-- the frames of a list split at an entry
 pub frames_split : (entries : List (List ℕ)) (k : ℕ) → k < length entries → frames entries ≡ frames (take k entries) ++ (frame (get_or entries k []) ++ frames (drop (suc k) entries))
 frames_split [] k lt = absurd (omega arith)
 frames_split (e ∷ entries) zero lt = refl
@@ -55,12 +55,12 @@ length_more [] k lt = absurd (omega arith)
 length_more (e ∷ entries) zero lt = omega (arith, length-append (frame e) [])
 length_more (e ∷ entries) (suc k) lt = omega (arith, length-append (frame e) (frames (take (suc k) entries)), length-append (frame e) (frames (take k entries)), length_more entries k (omega arith))
 
--- no more entries than bytes
+-- there are no more entries than bytes
 pub as_many : (entries : List (List ℕ)) → length entries ≤ length (frames entries)
 as_many [] = omega arith
 as_many (e ∷ entries) = omega (arith, as_many entries, length-append (frame e) (frames entries))
 
--- an entry, with what stands before its frame and behind it
+-- an entry, with the bytes before its frame and after it
 pub split_at : (bytes : List ℕ) (count last k : ℕ) → IsBook bytes count last → k < length (entries_at bytes count) →
     bytes ≡ frames (take k (entries_at bytes count)) ++ (frame (get_or (entries_at bytes count) k []) ++ (frames (drop (suc k) (entries_at bytes count)) ++ drop last bytes))
 split_at bytes count last k book lt =
@@ -76,7 +76,7 @@ short_at [] k lt short = absurd (omega (arith, lt))
 short_at (e ∷ entries) zero lt short = short.0
 short_at (e ∷ entries) (suc k) lt short = short_at entries k (omega (arith, lt)) short.1
 
--- it ends where its length says
+-- its end follows from its length
 pub ends_at : (bytes : List ℕ) (count last k gate : ℕ) → IsBook bytes count last → k < length (entries_at bytes count) → gate ≡ length (frames (take k (entries_at bytes count)))
     → end_at bytes gate ≡ length (frames (take (k + 1) (entries_at bytes count)))
 ends_at bytes count last k gate book lt is_gate =
@@ -90,7 +90,7 @@ ends_at bytes count last k gate book lt is_gate =
     plus_one : (n : ℕ) → n + 1 ≡ suc n
     plus_one n = omega arith
 
--- the bytes of an entry
+-- its bytes
 pub entry_is : (bytes : List ℕ) (count last k gate end : ℕ) → IsBook bytes count last → k < length (entries_at bytes count) → gate ≡ length (frames (take k (entries_at bytes count))) → end ≡ length (frames (take (k + 1) (entries_at bytes count)))
     → take (end - (gate + 5)) (drop (gate + 5) bytes) ≡ get_or (entries_at bytes count) k []
 entry_is bytes count last k gate end book lt is_gate is_end =
@@ -107,7 +107,7 @@ entry_is bytes count last k gate end book lt is_gate is_end =
     plus_one : (n : ℕ) → n + 1 ≡ suc n
     plus_one n = omega arith
 
--- the entry lies within the bytes
+-- it lies within the bytes
 pub entry_within : (bytes : List ℕ) (count last k gate end : ℕ) → IsBook bytes count last → last ≤ length bytes → k < length (entries_at bytes count) → gate ≡ length (frames (take k (entries_at bytes count))) → end ≡ length (frames (take (k + 1) (entries_at bytes count)))
     → (gate + 5 ≤ end) × (end ≤ length bytes)
 entry_within bytes count last k gate end book in_bytes lt is_gate is_end =
@@ -127,13 +127,13 @@ last_within bytes count last book =
     let l : length (take last bytes) ≡ last = ap length book.front ∙ sym book.end in
     omega (arith, l, length-take last bytes)
 
--- and within the bytes
+-- its end lies within the bytes
 pub ends_within : (bytes : List ℕ) (count last k gate : ℕ) → IsBook bytes count last → k < length (entries_at bytes count) → gate ≡ length (frames (take k (entries_at bytes count)))
     → end_at bytes gate ≤ length bytes
 ends_within bytes count last k gate book lt is_gate =
     (entry_within bytes count last k gate (end_at bytes gate) book (last_within bytes count last book) lt is_gate (ends_at bytes count last k gate book lt is_gate)).1
 
--- an open gate behind the last entry, and a whole entry behind it
+-- an open gate after the last entry, followed by a whole entry
 pub one_more : (bytes : List ℕ) (count more at next first : ℕ) → IsBook bytes count at → at < length bytes → first ≡ get_or bytes at first → first ≡ 1 → to_be_bytes w32 (from_be_bytes w32 (take 4 (drop (at + 1) bytes))) ≡ take 4 (drop (at + 1) bytes) → IsWhole (drop (at + 1) bytes) → next ≡ at + 5 + from_be_bytes w32 (take 4 (drop (at + 1) bytes)) → more ≡ count + 1 → Rebuilt bytes more next (entries_at bytes count ++ entry_at bytes at ∷ [])
 one_more bytes count more at next first book within is_first is_open sized whole is_next is_more =
     let rest = drop (at + 1) bytes in
@@ -154,7 +154,7 @@ one_more bytes count more at next first book within is_first is_open sized whole
     five : (n : ℕ) → n + 1 + 4 ≡ n + 5
     five n = omega arith
 
--- a closed gate behind the last entry
+-- a closed gate after the last entry
 pub closes : (bytes : List ℕ) (count at first : ℕ) (entries : List (List ℕ)) → IsBook bytes count at → at < length bytes → first ≡ get_or bytes at first → first ≢ 1 → entries ≡ entries_at bytes count → ClosesAfter entries bytes
 closes bytes count at first entries book within is_first closed same = record {
   gate = first;
@@ -164,7 +164,7 @@ closes bytes count at first entries book within is_first closed same = record {
   short = subst AreShort (sym same) book.short;
 }
 
--- four bytes are the spelling of the number that they spell
+-- the encoding of the number that four bytes encode is these bytes
 pub spelled : (bytes : List ℕ) (from : ℕ) → ((i : ℕ) → get_or bytes i 0 < 256) → 4 ≤ length (drop from bytes) → to_be_bytes w32 (from_be_bytes w32 (take 4 (drop from bytes))) ≡ take 4 (drop from bytes)
 spelled bytes from fit long =
     let rest = drop from bytes in
@@ -175,7 +175,7 @@ spelled bytes from fit long =
     ] in
     be_bytes_4 (take 4 rest) (from_be_bytes w32 (take 4 rest)) four fits refl
 
--- the marks where an entry more is none of the eighth ones
+-- the marks after one more entry that is not an eighth one
 pub unmarked : (marks : List ℕ) (entries : List (List ℕ)) (entry : List ℕ) → AreMarks marks entries → length entries < 8 * length marks → AreMarks marks (entries ++ entry ∷ [])
 unmarked marks entries entry are below =
     let more = length-append entries (entry ∷ []) in
@@ -187,7 +187,7 @@ unmarked marks entries entry are below =
       no_more = omega (arith, more, are.no_more);
     }
 
--- and where it is one of them
+-- the marks after one more entry that is an eighth one
 pub marked : (marks : List ℕ) (entries : List (List ℕ)) (entry : List ℕ) (gate : ℕ) → AreMarks marks entries → 8 * length marks ≤ length entries → gate ≡ length (frames entries) → AreMarks (marks ++ gate ∷ []) (entries ++ entry ∷ [])
 marked marks entries entry gate are reached is_gate =
     let more = length-append entries (entry ∷ []) in

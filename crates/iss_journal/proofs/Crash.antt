@@ -1,4 +1,4 @@
--- What a crash leaves at each step of an append.
+-- Every crash image at each step of an append.
 use Rattle.std.proofs.Common.{◌≡◌, ◌≢◌, inl, inr, ℕ, ◌+◌, ◌<◌, ◌≤◌, false, List, [], ◌∷◌, ◌++◌, length, take, drop, get_or, set, refl, sym, ◌∙◌, ap, arith, append_assoc, length-append, length-take-le, take-append-drop, get_or-set_same, get_or-set_other, length-set}
 use Rattle.std.proofs.lemmas.List.{take_at, drop_at, drop-drop, append-nil, take_all, drop_all, get_or-take, ext_get_or, set_at}
 use Rattle.std.proofs.lemmas.Bool.{cases_lt, cases_eq, lt-leb, le-ltb, or_from, and_left, and_right}
@@ -8,24 +8,24 @@ use Rattle.iss_journal.specs.Frames.{frame, frames, max_entry, AreShort, Reads, 
 use Rattle.iss_journal.specs.Promises.{OnlyLeaves, HoldsWithOrWithout, RestsOn}
 use Rattle.iss_journal.proofs.FrameLemmas.{frames-push, short-push}
 
--- what is written behind the gate: the length, the entry and a closed gate
+-- what is written after the gate: the length, the entry and a closed gate
 abbrev pub body : List ℕ → List ℕ
 body entry = (to_be_bytes w32 (length entry) ++ entry) ++ 0 ∷ []
 
--- bytes that agree with a list as far as it reaches begin with it
+-- bytes that agree with a list up to its length begin with it
 pub begins_with : (bytes front : List ℕ) → length front ≤ length bytes → ((i : ℕ) → i < length front → get_or bytes i 0 ≡ get_or front i 0) → bytes ≡ front ++ drop (length front) bytes
 begins_with bytes front long same =
     let l : length (take (length front) bytes) ≡ length front = length-take-le (length front) bytes long in
     let is : take (length front) bytes ≡ front = ext_get_or 0 (take (length front) bytes) front l (λ i lt. let below : i < length front = omega (arith, l, lt) in get_or-take (length front) bytes i 0 below ∙ same i below) in
     sym (take-append-drop (length front) bytes) ∙ ap (λ (f : List ℕ). f ++ drop (length front) bytes) is
 
--- of a settled file a crash leaves what it holds
+-- a file that is all synced is its only crash image
 pub only_settled : (bytes c : List ℕ) → Image (settled bytes) c → c ≡ bytes
 only_settled bytes c image =
     let l : length c ≡ length bytes = omega (arith, image.long_enough, image.short_enough) in
     ext_get_or 0 c bytes l (λ i lt. image.others i lt (omega (arith, l, lt)) refl)
 
--- a closed gate behind the entries, and anything behind it
+-- the reading of entries, a closed gate and any bytes
 pub reads_closed : (entries : List (List ℕ)) (gate : ℕ) (rest bytes : List ℕ) → AreShort entries → gate ≢ 1 → bytes ≡ frames entries ++ gate ∷ rest → Reads bytes (holds entries)
 reads_closed [] gate rest bytes short closed is = elim (cases_lt 1 (length bytes)) [
   | inl long ↦ inr (long, record { gate = gate; rest = rest; is = is; closed = closed; short = short })
@@ -75,7 +75,7 @@ module _ (entries : List (List ℕ)) (entry : List ℕ) (gate : ℕ) (short : Ar
   pub at_rest : OnlyLeaves P (settled rest)
   at_rest c image = inl (reads_closed entries gate [] c short closed (only_settled rest c image))
 
-  -- while the entry is written behind the closed gate
+  -- crash images while the entry is written after the closed gate
   pub behind : OnlyLeaves P (wrote (last + 1) (body entry) (settled rest))
   behind c image =
       let front : c ≡ rest ++ drop (length rest) c =
@@ -96,7 +96,7 @@ module _ (entries : List (List ℕ)) (entry : List ℕ) (gate : ℕ) (short : Ar
   pub length_staged : length staged ≡ last + 1 + length (body entry)
   length_staged = omega (arith, length-append (frames entries) (gate ∷ body entry))
 
-  -- a gate of any byte before a whole entry
+  -- a gate with any byte before a whole entry
   with_gate : (x : ℕ) (c : List ℕ) → c ≡ frames entries ++ x ∷ body entry → P c
   with_gate x c is = elim (cases_eq x 1) [
     | inl open_gate ↦ inr (reads_closed (entries ++ entry ∷ []) 0 [] c (short-push entries entry short fits) (λ e. omega arith)
@@ -104,7 +104,7 @@ module _ (entries : List (List ℕ)) (entry : List ℕ) (gate : ℕ) (short : Ar
     | inr shut ↦ inl (reads_closed entries x (body entry) c short shut is)
   ]
 
-  -- while the gate is opened
+  -- crash images while the gate is opened
   pub opening : OnlyLeaves P (wrote last (1 ∷ []) (settled staged))
   opening c image =
       let l : length c ≡ length staged = omega (arith, image.long_enough, image.short_enough, length_staged) in

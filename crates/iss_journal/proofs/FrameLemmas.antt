@@ -1,4 +1,4 @@
--- Frames of entries: their lengths, and that they are read back.
+-- Frames of entries: their lengths, and that decoding a frame gives the entry.
 use Rattle.std.proofs.Common.{◌≡◌, ℕ, zero, suc, ◌+◌, ◌≤◌, List, [], ◌∷◌, ◌++◌, length, take, drop, refl, sym, ◌∙◌, ap, arith, append_assoc, length-append}
 use Rattle.std.proofs.lemmas.List.{take_at, drop_at, drop-drop, append-nil}
 use Rattle.std.proofs.lemmas.Nat.{from_be_bytes-to_be_bytes_4}
@@ -12,7 +12,7 @@ length-frame entry = omega arith
 pub size_back : (entry : List ℕ) → length entry ≤ max_entry → from_be_bytes w32 (to_be_bytes w32 (length entry)) ≡ length entry
 size_back entry short = from_be_bytes-to_be_bytes_4 (length entry) (omega (arith, short))
 
--- its length is read back from a frame, wherever that stands
+-- the length is decoded from a frame at any offset
 pub size_of : (before entry rest : List ℕ) (gate : ℕ) → gate ≡ length before → length entry ≤ max_entry → size_at (before ++ (frame entry ++ rest)) gate ≡ length entry
 size_of before entry rest gate is short =
     let size : List ℕ = to_be_bytes w32 (length entry) in
@@ -21,7 +21,7 @@ size_of before entry rest gate is short =
     let sized : take 4 (drop (gate + 1) (before ++ (frame entry ++ rest))) ≡ size = ap (take 4) opened in
     ap (from_be_bytes w32) sized ∙ size_back entry short
 
--- and so is the entry
+-- the entry is decoded from a frame at any offset
 pub entry_back : (before entry rest : List ℕ) (gate : ℕ) → gate ≡ length before → length entry ≤ max_entry → entry_at (before ++ (frame entry ++ rest)) gate ≡ entry
 entry_back before entry rest gate is short =
     let there : drop (gate + 5) (before ++ (frame entry ++ rest)) ≡ entry ++ rest =
@@ -48,7 +48,7 @@ entries_back_from before (entry ∷ entries) rest at is short =
 pub entries_back : (entries : List (List ℕ)) (rest : List ℕ) (count : ℕ) → count ≡ length entries → AreShort entries → entries_at (frames entries ++ rest) count ≡ entries
 entries_back entries rest count many short = ap (entries_at (frames entries ++ rest)) many ∙ entries_back_from [] entries rest 0 refl short
 
--- as many are read as are asked for
+-- reading n entries gives n entries
 pub length-entries : (at : ℕ) (bytes : List ℕ) (count : ℕ) → length (entries_from at bytes count) ≡ count
 length-entries at bytes zero = refl
 length-entries at bytes (suc count) = ap suc (length-entries (end_at bytes at) bytes count)

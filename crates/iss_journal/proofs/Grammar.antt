@@ -1,11 +1,11 @@
--- Each file has one reading.
+-- Each file has at most one reading.
 use Rattle.std.proofs.Common.{◌≡◌, ◌≢◌, inl, inr, ℕ, ◌≤◌, List, [], ◌∷◌, ◌++◌, length, take, drop, get_or, refl, sym, ◌∙◌, ap, subst, arith, append_assoc, length-append}
 use Rattle.std.proofs.lemmas.List.{take_at, drop_at}
 use Rattle.std.specs.Int.{w32, to_be_bytes, from_be_bytes}
 use Rattle.iss_journal.specs.Frames.{frame, frames, max_entry, AreShort, IsWhole, Reading, holds, damaged, Reads}
 use Rattle.iss_journal.proofs.FrameLemmas.{size_back}
 
--- No whole frame, with something behind it, stands at the front of these bytes.
+-- these bytes do not begin with a whole frame followed by a byte
 pub Ends : List ℕ → Type 0
 Ends bytes = (entry rest : List ℕ) → length entry ≤ max_entry → 1 ≤ length rest → bytes ≡ frame entry ++ rest → ⊥
 
@@ -16,7 +16,7 @@ pub closed_ends : (gate : ℕ) (rest : List ℕ) → gate ≢ 1 → Ends (gate �
 unfolding Ends
 closed_ends gate rest closed entry more short some is = closed (ap (λ (l : List ℕ). get_or l 0 0) is)
 
--- behind the gate of a frame with something behind it stands a whole entry
+-- after the gate of a frame that is followed by a byte there is a whole entry
 pub whole_frame : (entry rest : List ℕ) → length entry ≤ max_entry → 1 ≤ length rest → IsWhole (drop 1 (frame entry ++ rest))
 whole_frame entry rest short some =
     let size : List ℕ = to_be_bytes w32 (length entry) in
@@ -28,7 +28,7 @@ pub broken_ends : (rest : List ℕ) → (IsWhole rest → ⊥) → Ends (1 ∷ r
 unfolding Ends
 broken_ends rest broken entry more short some is = broken (subst IsWhole (sym (ap (drop 1) is)) (whole_frame entry more short some))
 
--- two frames at the front of the same bytes are the same
+-- two frames at the start of the same bytes are equal
 same_frame : (e f x y : List ℕ) → length e ≤ max_entry → length f ≤ max_entry → frame e ++ x ≡ frame f ++ y → (e ≡ f) × (x ≡ y)
 same_frame e f x y short_e short_f is =
     let sized : to_be_bytes w32 (length e) ≡ to_be_bytes w32 (length f) = ap (λ (l : List ℕ). take 4 (drop 1 l)) is in

@@ -1,4 +1,4 @@
--- A file that is read and brought to rest reads as before at each moment.
+-- Attaching keeps a file's reading at each moment.
 use Rattle.std.proofs.Common.{◌≡◌, inl, inr, ℕ, zero, suc, Some, Result, Ok, Err, OnOk, ◌+◌, ◌<◌, ◌≤◌, true, false, List, [], ◌∷◌, ◌++◌, length, take, refl, sym, ◌∙◌, ap, subst, arith, append_assoc, vec_len, vec_capacity}
 use Rattle.iss_disk.specs.File.{File, Image, settled, synced}
 use Rattle.iss_disk.specs.Calls.{IfTold, EachState, Moves, Stays, Room, Takes}
@@ -41,7 +41,7 @@ brief_reads h bytes told brief = told_so _ _ h told (λ file is. subst (λ (b : 
 pub whole_reads : (h : List File) (bytes : List ℕ) (entries : List (List ℕ)) → IfTold h (λ file. bytes ≡ file.content) → 1 < length bytes → ClosesAfter entries bytes → IfTold h (λ file. Reads file.content (holds entries))
 whole_reads h bytes entries told long ends = told_so _ _ h told (λ file is. subst (λ (b : List ℕ). Reads b (holds entries)) is (inr (long, ends)))
 
--- what attaching makes of a file
+-- what attaching leaves of a file of at most one byte
 pub brief_rests : (h new : List File) (bytes : List ℕ) (entries : List (List ℕ)) → IfTold h (λ file. bytes ≡ file.content) → length bytes ≤ 1 → IfTold new (λ file. file ≡ settled (0 ∷ [])) → IfTold h (λ file. IfTold new (ComesToRest entries file.content))
 brief_rests h new bytes entries told brief made =
     told_so _ _ h told (λ file is. told_so _ _ new made (λ now e. inl (subst (λ (b : List ℕ). length b ≤ 1) is brief, e)))
@@ -81,7 +81,7 @@ pub sync_content : (h0 h1 : List File) → Moves synced true h0 h1 → IfTold h1
 sync_content [] h1 moves = subst (λ (h : List File). IfTold h (λ file. file ≡ settled file.content)) (sym moves) tt
 sync_content (file ∷ past) h1 moves = subst (λ (h : List File). IfTold h (λ file. file ≡ settled file.content)) (sym moves) refl
 
--- what holds of what a read gives after the sync holds of what it gave before
+-- what holds for a read after the sync held for a read before it
 pub before_sync : (P : List ℕ → Type 0) (h0 h1 : List File) → Moves synced true h0 h1 → IfTold h1 (λ file. P file.content) → IfTold h0 (λ file. P file.content)
 before_sync P [] h1 moves told = tt
 before_sync P (file ∷ past) h1 moves told = subst (λ (h : List File). IfTold h (λ f. P f.content)) moves told
@@ -97,7 +97,7 @@ rests_durable h entries told = told_so _ _ h told (λ file rests c image.
 pub history_same : (h0 h1 : List File) (f0 f1 : List ℕ → List File) (n0 n1 : List ℕ) → h0 ≡ f0 n0 → h1 ≡ f1 n1 → Stays n0 n1 f0 f1 → h1 ≡ h0
 history_same h0 h1 f0 f1 n0 n1 is0 is1 stays = is1 ∙ ap f1 stays.name ∙ stays.all n0 ∙ sym is0
 
--- whether there is room does not depend on room that was added
+-- room that was added does not matter for whether there is room
 pub room_more : (spare : Reserved) (old new : Entries) (room now : Room) → HasRoom spare old room → entries_in new ≡ entries_in old → vec_capacity old.bytes ≤ vec_capacity new.bytes → vec_len new.marks ≡ vec_len old.marks → vec_capacity old.marks ≤ vec_capacity new.marks → Takes 0 0 room now → HasRoom spare new now
 room_more spare old new room now has same no_less as_many marks takes = record {
   some = has.some;
@@ -107,7 +107,7 @@ room_more spare old new room now has same no_less as_many marks takes = record {
   on_disk = omega (arith, has.on_disk, takes.bytes_left);
 }
 
--- room for all that is below a length is room for a longest entry
+-- room for every entry below a limit is room for a longest entry
 pub longest_below : (below bytes : ℕ) → bytes < below → (most : ℕ) × (longest_of below ≡ Some most) × (bytes ≤ most)
 longest_below zero bytes lt = absurd (omega (arith, lt))
 longest_below (suc most) bytes lt = (most, refl, omega (arith, lt))

@@ -1,4 +1,4 @@
--- What a crash leaves while the end of a file is cut off, and while an empty journal is made.
+-- The crash images while the end of a file is cut off, and while an empty journal is made.
 use Rattle.std.proofs.Common.{◌≡◌, inl, ℕ, ◌+◌, ◌<◌, ◌≤◌, Bool, true, List, [], ◌∷◌, ◌++◌, length, take, drop, get_or, refl, sym, ◌∙◌, ap, subst, arith, append_assoc, length-append}
 use Rattle.std.proofs.lemmas.List.{take_at, take_all, get_or_append_left, nil_from_length}
 use Rattle.iss_disk.specs.File.{File, settled, wrote, shortened, synced}
@@ -78,7 +78,7 @@ module _ (entries : List (List ℕ)) (bytes : List ℕ) (ends : ClosesAfter entr
       let made : h2 ≡ synced (shortened end file) ∷ shortened end file ∷ file ∷ past = subst (λ (l : List File). Moves synced true l h2) moves then in
       subst (λ (l : List File). IfTold l (RestsOn entries)) (sym made) (subst (λ (f : File). RestsOn entries (synced (shortened end f))) (sym is) rest_cut)
 
-  -- all up to the last gate is left
+  -- everything up to the last gate is left
   pub left_whole : (h : List File) → IfTold h (λ file. file ≡ settled bytes) → length bytes ≤ end → IfTold h (λ file. file ≡ settled (take end bytes))
   left_whole [] is brief = tt
   left_whole (file ∷ past) is brief = is ∙ ap settled (sym (take_all end bytes brief))

@@ -19,7 +19,7 @@ byte_at bytes each i = within (dec_lt i (length bytes))
     within (yes here) = All-get_or IsByte bytes i 0 here each
     within (no behind) = omega (arith, get_or-eq_default bytes 0 {n = i} (omega (arith, behind)))
 
--- a frame, and what stands behind it
+-- a frame, and what follows it
 record Framed (rest : List ℕ) : Type 0 where
   entry : List ℕ
   more : List ℕ
@@ -53,7 +53,7 @@ framed rest bytes whole =
       bytes = All-drop IsByte size body (All-drop IsByte 4 rest bytes);
     }
 
--- what stands from a gate on
+-- what follows from a gate on
 data Found (file : List ℕ) : Type 0 where
   closes : (entries : List (List ℕ)) → ClosesAfter entries file → Found file
   breaks : (at : ℕ) → BreaksAt at file → Found file

@@ -1,4 +1,4 @@
--- How runs of device calls go on.
+-- Sequences of device calls.
 use Rattle.std.proofs.Common.{◌≡◌, inl, inr, ⊎_elim, ℕ, zero, suc, ◌+◌, ◌<◌, ◌≤◌, Bool, true, false, Option, Some, None, List, [], ◌∷◌, ◌++◌, length, drop, refl, sym, ◌∙◌, ap, subst, arith, append_assoc}
 use Rattle.std.proofs.lemmas.List.{drop_at, drop-drop}
 use Rattle.std.proofs.lemmas.Bool.{true≢false, false≢true}
@@ -15,7 +15,7 @@ stop_at None n before now run = run
 stop_at (Some true) n before now run = absurd (false≢true run.1)
 stop_at (Some false) n before now run = run
 
--- a call that fails ends a run
+-- a call that fails ends a sequence of calls
 pub runs_stop : (n : ℕ) (before now : Passes) → Runs 1 before now false → Runs (suc n) before now false
 runs_stop n before now run = stop_at (outcome before) n before now run
 
@@ -26,7 +26,7 @@ more_at None (suc n) before mid now passed is run rest =
 more_at (Some true) n before mid now passed is run rest = subst (λ (p : Passes). Runs n p now passed) run.0 rest
 more_at (Some false) n before mid now passed is run rest = absurd (true≢false run.1)
 
--- a call that passes goes before a run
+-- a call that succeeds comes before a sequence of calls
 pub runs_more : (n : ℕ) (before mid now : Passes) (passed : Bool) → Runs 1 before mid true → Runs n mid now passed → Runs (suc n) before now passed
 runs_more n before mid now passed run rest = more_at (outcome before) n before mid now passed refl run rest
 
@@ -64,7 +64,7 @@ between_kept K (s ∷ states) f g past each k = subst K (sym each.0.kept) k
 pub untold : (change : File → File) (passed : Bool) (h new : List File) → h ≡ [] → Moves change passed h new → new ≡ []
 untold change passed h new is moves = subst (λ (l : List File). Moves change passed l new) is moves
 
--- one call more, after which a crash leaves what has P
+-- one more call, after which P holds for every crash image
 pub goes_on : (P : List ℕ → Type 0) (file : File) (past h new : List File) (change : File → File) (passed : Bool) (now : File) (before : List File) → LeavesOnly P (file ∷ past) h → h ≡ now ∷ before → OnlyLeaves P now → OnlyLeaves P (change now) → Moves change passed h new → LeavesOnly P (file ∷ past) new
 goes_on P file past h new change passed now before so_far is here there moves = goes (passed) (subst (λ (l : List File). Moves change passed l new) is moves)
   where
@@ -77,12 +77,12 @@ goes_on P file past h new change passed now before so_far is here there moves = 
 
 -- An append
 
--- what is promised where a call fails
+-- what is promised if a call fails
 pub record Interrupted (entries : List (List ℕ)) (entry : List ℕ) (old new : List File) : Type 0 where
   pub moment : LeavesOnly (HoldsWithOrWithout entries entry) old new
   pub kept : IfTold new (λ file. Reads file.kept (holds entries))
 
--- and where all pass
+-- what is promised if all calls succeed
 pub record Appended (entries : List (List ℕ)) (entry : List ℕ) (old new : List File) : Type 0 where
   pub moment : LeavesOnly (HoldsWithOrWithout entries entry) old new
   pub rests : IfTold new (RestsOn (entries ++ entry ∷ []))
@@ -156,7 +156,7 @@ module _ (entries : List (List ℕ)) (entry : List ℕ) (fits : length entry ≤
     pub told2 : (passed : Bool) (h1 h2 : List File) → Moves write true (file ∷ past) h1 → Moves synced passed h1 h2 → LeavesOnly P (file ∷ past) h2
     told2 passed h1 h2 w s = goes_on P file past h1 h2 synced passed (write file) (file ∷ past) (told1 true h1 w) w written on_disk s
 
-    -- the states after two calls that passed
+    -- the states after two successful calls
     two : (h1 h2 : List File) → Moves write true (file ∷ past) h1 → Moves synced true h1 h2 → h2 ≡ synced (write file) ∷ write file ∷ file ∷ past
     two h1 h2 w s = subst (λ (l : List File). Moves synced true l h2) w s
 
@@ -188,7 +188,7 @@ module _ (entries : List (List ℕ)) (entry : List ℕ) (fits : length entry ≤
         let made = subst (λ (l : List File). Moves synced false l h4) (three h1 h2 h3 w s o) t in
         subst (λ (l : List File). IfTold l (λ f. K f.kept)) (sym made.1) (between_kept K made.0 (open_gate (synced (write file))) (synced (open_gate (synced (write file)))) (synced (write file) ∷ write file ∷ file ∷ past) made.2 kept_staged)
 
-    -- what is true of the file after all four calls
+    -- what holds for the file after all four calls
     pub after4 : (Q : File → Type 0) (h1 h2 h3 h4 : List File) → Moves write true (file ∷ past) h1 → Moves synced true h1 h2 → Moves open_gate true h2 h3 → Moves synced true h3 h4 → Q (synced (open_gate (synced (write file)))) → IfTold h4 Q
     after4 Q h1 h2 h3 h4 w s o t is =
         let made : h4 ≡ synced (open_gate (synced (write file))) ∷ open_gate (synced (write file)) ∷ synced (write file) ∷ write file ∷ file ∷ past = subst (λ (l : List File). Moves synced true l h4) (three h1 h2 h3 w s o) t in
@@ -236,12 +236,12 @@ module _ (entries : List (List ℕ)) (entry : List ℕ) (fits : length entry ≤
       subst (λ (l : List File). IfTold l (λ file. last ≤ length file.content)) (sym (two file past rests h1 h2 w s))
       (omega (arith, ap (λ (f : File). length f.content) (is_staged file past rests), crash.length_staged entries entry rests.gate rests.short fits rests.closed))
 
--- what is staged behind the gate
+-- what is staged after the gate
 pub is_body : (entries : List (List ℕ)) (entry bytes behind : List ℕ) → bytes ≡ frames entries ++ (frame entry ++ 0 ∷ []) → behind ≡ drop (length (frames entries) + 1) bytes → behind ≡ crash.body entry
 is_body entries entry bytes behind is is_behind =
     is_behind ∙ ap (drop (length (frames entries) + 1)) is ∙ sym (drop-drop 1 (length (frames entries)) (frames entries ++ (frame entry ++ 0 ∷ []))) ∙ ap (drop 1) (drop_at (frames entries) (frame entry ++ 0 ∷ []) (length (frames entries)) refl)
 
--- a write of the same bytes at the same place
+-- a write of the same bytes at the same offset
 pub same_write : (at to : ℕ) (bytes others : List ℕ) (passed : Bool) (h new : List File) → at ≡ to → bytes ≡ others → Moves (wrote at bytes) passed h new → Moves (wrote to others) passed h new
 same_write at to bytes others passed h new is_at is_bytes moves =
     subst (λ (n : ℕ). Moves (wrote n others) passed h new) is_at (subst (λ (l : List ℕ). Moves (wrote at l) passed h new) is_bytes moves)
