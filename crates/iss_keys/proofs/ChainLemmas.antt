@@ -1,4 +1,4 @@
--- Facts on chains, digits and joined pieces.
+-- Facts about chains, digits and concatenated pieces.
 use Rattle.std.proofs.Common.{◌≡◌, ℕ, zero, suc, ◌+◌, ◌-◌, ◌*◌, ◌/◌, ◌^◌, ◌≤◌, List, ◌++◌, sym, ◌∙◌, arith, add-one, append_assoc, subst}
 use Rattle.std.proofs.lemmas.List.{append-nil}
 use Rattle.sha2.specs.Hashers.{Holds256}
@@ -39,12 +39,12 @@ sum_below-bound f b (suc n) h =
     let below = sum_below-bound f b n h in
     omega arith
 
--- one more level of a climb
+-- one more level of an authentication path
 pub climb_more : (q : ℕ) (sig x : List ℕ) (k : ℕ) → climb q sig x (k + 1) ≡ parent_of (q / 2 ^ k) (climb q sig x k) (sibling_at sig k)
 unfolding climb
 climb_more q sig x k = rw add-one
 
--- the message of a leaf, with one more chain end
+-- the string hashed for a leaf, with one more chain end
 pub ends_more : (m f : List ℕ) (e : ℕ → List ℕ) (n : ℕ) → f ≡ e n → (m ++ join_below e n) ++ f ≡ m ++ join_below e (n + 1)
 ends_more m f e n h = rw (join_below_more e n, h) (append_assoc m (join_below e n) (e n))
 
@@ -52,11 +52,11 @@ pub join_below_none : (m n : List ℕ) (e : ℕ → List ℕ) → m ≡ n → m 
 unfolding join_below
 join_below_none m n e h = h ∙ sym (append-nil n)
 
--- a hasher of a message that is another way to write it
+-- a hasher of an equal string
 pub holds_along : (s : Sha256) (m n : List ℕ) → m ≡ n → Holds256 s m → Holds256 s n
 holds_along s m n e h = subst (λ (x : List ℕ). Holds256 s x) e h
 
--- a written list with no pieces behind it, and with one more
+-- concatenation with no pieces, and with one more
 pub pieces_none : (xs : List ℕ) (f : ℕ → List ℕ) → xs ≡ xs ++ join_below f 0
 unfolding join_below
 pieces_none xs f = sym (append-nil xs)

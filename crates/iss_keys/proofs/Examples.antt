@@ -1,4 +1,4 @@
--- The definitions, run on a small key: 32 zero bytes. The numbers were computed by another program.
+-- The definitions, evaluated on a small key: 32 zero bytes. The numbers were computed by another program.
 use Rattle.std.specs.Prelude.{◌≡◌, ℕ, List, [], ◌∷◌, replicate}
 use Rattle.std.proofs.Common.{refl}
 use Rattle.sha2.specs.Sha256.{sha256, digest_bytes, hash_after, compress, rounds, schedule, first_words}
@@ -12,7 +12,7 @@ first_start : chain_start (replicate 32 0) 0 0 ≡ 227 ∷ 41 ∷ 245 ∷ 111 �
 unfolding sha256 digest_bytes hash_after compress rounds schedule first_words
 first_start = refl
 
--- and its end
+-- the end of the first chain of the first leaf
 first_end : chain_end (replicate 32 0) 0 0 ≡ 16 ∷ 248 ∷ 174 ∷ 249 ∷ 118 ∷ 13 ∷ 246 ∷ 242 ∷ 219 ∷ 166 ∷ 177 ∷ 128 ∷ 221 ∷ 219 ∷ 175 ∷ 31 ∷ 193 ∷ 102 ∷ 0 ∷ 243 ∷ 119 ∷ 113 ∷ 75 ∷ 99 ∷ 6 ∷ 153 ∷ 250 ∷ 207 ∷ 51 ∷ 159 ∷ 44 ∷ 201 ∷ []
 unfolding steps sha256 digest_bytes hash_after compress rounds schedule first_words
 first_end = refl
@@ -28,12 +28,12 @@ tree_of_four : (secret : List ℕ)
 unfolding node
 tree_of_four secret = refl
 
--- the way up from leaf 2 passes leaf 3, and then the node over leaves 0 and 1
+-- the authentication path of leaf 2 has leaf 3, then the parent of leaves 0 and 1
 way_up : (secret : List ℕ)
     → path_node secret 2 0 ∷ path_node secret 2 1 ∷ [] ≡ leaf_value secret 3 ∷ inner (leaf_value secret 0) (leaf_value secret 1) ∷ []
 unfolding node
 way_up secret = refl
 
--- how the signature of s by leaf 258 begins
+-- the head of the signature of s with leaf 258
 head : (secret s : List ℕ) → signature_of secret 12 258 s ≡ 12 ∷ 0 ∷ 0 ∷ 1 ∷ 2 ∷ part_of secret 12 258 (statement_digest s)
 head secret s = refl

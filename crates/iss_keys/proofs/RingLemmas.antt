@@ -1,4 +1,4 @@
--- Facts on the trees of numbers.
+-- Facts about the trees of numbers.
 use Rattle.std.proofs.Common.{◌≡◌, ℕ, ◌+◌, ◌<◌, ◌≤◌, List, [], ◌∷◌, ◌++◌, length, sym, ap, subst, ◌∙◌, length-append, map, get_or}
 use Rattle.std.proofs.lemmas.List.{length-map, get_or-map}
 use Rattle.std.specs.Prelude.{Option, IfSome, slice_get}
@@ -23,7 +23,7 @@ ring_more kind h n trees t size is ring =
           ∙ ap (listed (ring_tree kind h)) (sym one);
     }
 
--- what is at a place is the tree of its number
+-- place i has the tree of number i
 pub ring_at : {X : Type 0} (f : X → KeyTree) (kind h i : ℕ) (xs : List X) (x : X) → IsRing kind h (map f xs) → i < length xs → x ≡ get_or xs i x
     → f x ≡ ring_tree kind h i
 ring_at f kind h i xs x ring lt at =
@@ -33,7 +33,7 @@ ring_at f kind h i xs x ring lt at =
     ∙ ap (λ (ts : List KeyTree). get_or ts i (f x)) ring.trees_are
     ∙ get_or-listed (ring_tree kind h) (length (map f xs)) i (f x) within
 
--- keys that are as high as the public key of their number are as high as all are
+-- if each key has its number's secret and all have one height, these are the public keys of the numbers
 pub keys_listed : (secret_of : ℕ → List ℕ) (h n i : ℕ) (secret : List ℕ) (k : KeyState) → i < length (public_keys_of secret_of h n)
     → k ≡ record { secret = secret; height = h; used = 0 }
     → IfSome (slice_get (public_keys_of secret_of h n) i) (λ key. k ≡ record { secret = secret; height = key.height; used = 0 })
@@ -43,7 +43,7 @@ keys_listed secret_of h n i secret k lt e =
     subst (λ (o : Option PublicKeyView). IfSome o (λ key. k ≡ record { secret = secret; height = key.height; used = 0 }))
     (sym (slice_get-listed f n i within)) e
 
--- and back, where the public keys are known
+-- the converse, if the public keys are known
 pub keys_made : (secret_of : ℕ → List ℕ) (h n i : ℕ) (secret : List ℕ) (k : KeyState) (keys : List PublicKeyView) → i < length keys
     → keys ≡ public_keys_of secret_of h n
     → IfSome (slice_get keys i) (λ key. k ≡ record { secret = secret; height = key.height; used = 0 })

@@ -1,4 +1,4 @@
--- Facts on the tree of a key.
+-- Facts about the tree of a key.
 use Rattle.std.proofs.Common.{◌≡◌, ℕ, zero, suc, ◌+◌, ◌-◌, ◌*◌, ◌/◌, ◌%◌, ◌^◌, ◌<◌, ◌≤◌, List, [], length, get_or, refl, sym, ap, ap₂, ◌∙◌, arith, add-one, pow-add, inl, inr, get_or-set_same, get_or-set_other}
 use Rattle.std.specs.Prelude.{slice_set}
 use Rattle.std.proofs.Math.Nat.{pow-succ', pow-suc, div-div-eq-div-mul, div-lt_iff_lt-mul, mul_assoc, mul-le-mul_right}
@@ -8,14 +8,14 @@ use Rattle.std.proofs.lemmas.Bool.{cases_eq}
 use Rattle.iss_keys.specs.Chains.{leaf_value}
 use Rattle.iss_keys.specs.Trees.{inner, node, beside, path_node, root_of, HasNodesFrom}
 
--- one level down there are twice as many
+-- a level has twice as many nodes as the one above
 pow_down : (h k : ℕ) → suc k ≤ h → 2 ^ (h - k) ≡ 2 * 2 ^ (h - suc k)
 pow_down h k le = let e : h - k ≡ suc (h - suc k) = omega arith in rw e (pow-succ' 2 (h - suc k))
 
 pow_at_most : (h k : ℕ) → 2 ^ (h - k) ≤ 2 ^ h
 pow_at_most h k = let le : h - k ≤ h = omega arith in pow_mono le
 
--- the leaves
+-- the leaves are in their places
 pub leaves_are_nodes : (secret : List ℕ) (h n : ℕ) (nodes : List (List ℕ)) → n ≡ 2 ^ h
     → ((p : ℕ) → p < n → get_or nodes (n + p) [] ≡ leaf_value secret p) → HasNodesFrom secret h n nodes
 unfolding node
@@ -28,7 +28,7 @@ leaves_are_nodes secret h n nodes e leaf (suc k) p le lt at =
     let most = pow_at_most h k in
     absurd (omega arith)
 
--- the node that is made
+-- the node just computed is in its place
 node_here : (secret : List ℕ) (h i : ℕ) (nodes : List (List ℕ)) (l r : List ℕ) → 1 ≤ i → i < 2 ^ h → i < length nodes
     → HasNodesFrom secret h (i + 1) nodes → l ≡ get_or nodes (2 * i) [] → r ≡ get_or nodes (2 * i + 1) []
     → (k p : ℕ) → k ≤ h → p < 2 ^ (h - k) → 2 ^ (h - k) + p ≡ i
@@ -50,7 +50,7 @@ node_here secret h i nodes l r low high len tree left right (suc k) p le lt same
     let is_right : r ≡ node secret k (2 * p + 1) = right ∙ ap (λ j. get_or nodes j []) e1 ∙ tree k (2 * p + 1) below lt1 at1 in
     rw (same, get_or-set_same) (ap₂ inner is_left is_right)
 
--- one more inner node
+-- one more inner node is in its place
 pub node_more : (secret : List ℕ) (h i : ℕ) (nodes : List (List ℕ)) (l r : List ℕ) → 1 ≤ i → i < 2 ^ h → i < length nodes
     → HasNodesFrom secret h (i + 1) nodes → l ≡ get_or nodes (2 * i) [] → r ≡ get_or nodes (2 * i + 1) []
     → HasNodesFrom secret h i (slice_set nodes i (inner l r))
@@ -70,7 +70,7 @@ below_level h k q le lt =
     let whole : 2 ^ (h - k) * 2 ^ k ≡ 2 ^ h = sym (pow-add 2 (h - k) k) ∙ ap (λ n. 2 ^ n) (omega arith) in
     (div-lt_iff_lt-mul (pow_pos k)).1 (rw whole lt)
 
--- what is beside a place of the path
+-- the sibling of a node of the path
 pub beside_path : (h k q place : ℕ) → k < h → q < 2 ^ h → place ≡ 2 ^ (h - k) + q / 2 ^ k
     → (beside place ≡ 2 ^ (h - k) + beside (q / 2 ^ k)) × (beside (q / 2 ^ k) < 2 ^ (h - k))
 beside_path h k q place lt leaf e =
@@ -87,7 +87,7 @@ beside_path h k q place lt leaf e =
           rw (same, one) (omega arith, omega arith)
     ]
 
--- the place above
+-- the place of the parent
 pub place_up : (h k q place : ℕ) → k < h → place ≡ 2 ^ (h - k) + q / 2 ^ k → place / 2 ≡ 2 ^ (h - (k + 1)) + q / 2 ^ (k + 1)
 place_up h k q place lt e =
     let le : suc k ≤ h = lt in
@@ -127,7 +127,7 @@ has_a_root h n e =
 
 -- ---- the nodes under a node
 
--- the two nodes under one have their leaves where it has its own
+-- the leaves under the two children of a node are leaves under it
 pub halves_within : (l p m : ℕ) → (l ≡ 0 → ⊥) → (p + 1) * 2 ^ l ≤ m
     → ((2 * p + 1) * 2 ^ (l - 1) ≤ m) × ((2 * p + 1 + 1) * 2 ^ (l - 1) ≤ m)
 halves_within zero p m some h = absurd (some refl)

@@ -1,4 +1,4 @@
--- A signature that is made as one should be verifies.
+-- A signature made as defined verifies.
 use Rattle.std.proofs.Common.{subst, ◌≡◌, ℕ, zero, suc, ◌+◌, ◌-◌, ◌*◌, ◌/◌, ◌%◌, ◌^◌, ◌<◌, ◌≤◌, ◌==◌, true, false, List, [], ◌∷◌, ◌++◌, length, take, drop, get_or, refl, sym, ap, ap₂, ◌∙◌, arith, ◌⊎◌, inl, inr, length-append, append_assoc, length-drop}
 use Rattle.std.specs.Prelude.{if◌then◌else◌, nat_lt}
 use Rattle.std.specs.Int.{w32, to_be_bytes}
@@ -38,7 +38,7 @@ length-join_below f (suc n) h =
 
 -- ---- pieces of joined pieces
 
--- a part of a list lies in a front that is long enough
+-- a part of a list is a part of each prefix that is long enough
 part_of_front : (xs ys : List ℕ) (k n : ℕ) → k + n ≤ length xs → take n (drop k (xs ++ ys)) ≡ take n (drop k xs)
 part_of_front xs ys k n h =
     let low : k ≤ length xs = omega arith in
@@ -63,7 +63,7 @@ piece_of_join f (suc n) i h lt =
           rw (at, drop-append_seam (join_below f n) (f n), same) (take_all 32 (f n) all)
     ]
 
--- the same pieces make the same whole
+-- equal pieces have equal concatenations
 pub join_below-same : (f g : ℕ → List ℕ) (n : ℕ) → ((i : ℕ) → i < n → f i ≡ g i) → join_below f n ≡ join_below g n
 unfolding join_below
 join_below-same f g zero h = refl
@@ -73,7 +73,7 @@ join_below-same f g (suc n) h =
 
 -- ---- chains
 
--- steps in two parts
+-- steps split in two
 pub steps_joined : (q i d n : ℕ) (x : List ℕ) → steps q i d n (steps q i 0 d x) ≡ steps q i 0 (d + n) x
 unfolding steps
 steps_joined q i d zero x = let e : d + 0 ≡ d = omega arith in rw e
@@ -161,7 +161,7 @@ climb_is_node secret sig q h sib (suc k) le =
 
 -- ---- the pieces of a part
 
--- piece i of joined pieces before more
+-- piece i of a concatenation that is followed by more bytes
 piece_in_front : (more : List ℕ) (f : ℕ → List ℕ) (n i : ℕ) → ((i : ℕ) → length (f i) ≡ 32) → i < n
     → take 32 (drop (32 * i) (join_below f n ++ more)) ≡ f i
 piece_in_front more f n i each lt =
@@ -169,7 +169,7 @@ piece_in_front more f n i each lt =
     let room : 32 * i + 32 ≤ length (join_below f n) = omega arith in
     part_of_front (join_below f n) more (32 * i) 32 room ∙ piece_of_join f n i each lt
 
--- piece i of joined pieces behind a front of b bytes and before more
+-- piece i of a concatenation that follows b bytes and is followed by more
 piece_behind : (front more : List ℕ) (f : ℕ → List ℕ) (b n i : ℕ) → length front ≡ b → ((i : ℕ) → length (f i) ≡ 32) → i < n
     → take 32 (drop (b + 32 * i) ((front ++ join_below f n) ++ more)) ≡ f i
 piece_behind front more f b n i size each lt =
@@ -177,7 +177,7 @@ piece_behind front more f b n i size each lt =
 
 -- ---- the whole
 
--- the ends that a part leads to
+-- the chain ends computed from a part are those of the leaf
 ends_agree : (secret part m : List ℕ) (q : ℕ) → AreBytes m → ((i : ℕ) → i < 67 → value_at part i ≡ signed_value secret q m i)
     → (i : ℕ) → i < 67 → end_from q m part i ≡ chain_end secret q i
 ends_agree secret part m q bytes values i lt =
@@ -185,7 +185,7 @@ ends_agree secret part m q bytes values i lt =
     let sum : digit m i + (15 - digit m i) ≡ 15 = omega arith in
     rw (values i lt, steps_joined q i (digit m i) (15 - digit m i) (chain_start secret q i), sum)
 
--- a part that is made as it should be leads to the root, whatever stands behind it
+-- a part made as defined gives the root, whatever follows it
 pub part_gives_root : (secret m rest : List ℕ) (h q : ℕ) → AreBytes m → q < 2 ^ h → part_root q m (part_of secret h q m ++ rest) h ≡ root_of secret h
 part_gives_root secret m rest h q bytes lt =
     let front = join_below (signed_value secret q m) 67 in
@@ -216,7 +216,7 @@ leaf_of_signature secret s h q high lt =
     let fits : q < 2 ^ 32 = omega arith in
     from_be_bytes-to_be_bytes_4 q fits
 
--- a signature has bytes
+-- a signature is a list of bytes
 steps_bytes : (q i j n : ℕ) (x : List ℕ) → AreBytes x → AreBytes (steps q i j n x)
 unfolding steps
 steps_bytes q i j zero x h = h
@@ -243,7 +243,7 @@ bytes_of_signature secret s h q high =
     let siblings = join_bytes (path_node secret q) h (λ k. node_bytes secret k _) in
     bytes-append (h ∷ to_be_bytes w32 q) (part_of secret h q m) (head_bytes h q high) (bytes-append _ _ values siblings)
 
--- a signature that is made as it should be verifies
+-- a signature made as defined verifies
 pub signature_verifies : (secret s : List ℕ) (h q : ℕ) → h ≤ 12 → q < 2 ^ h → Verifies (root_of secret h) h s (signature_of secret h q s)
 signature_verifies secret s h q high lt =
     let m = statement_digest s in
