@@ -1,4 +1,4 @@
--- Slots that rise, with one more behind them.
+-- Strictly ascending slots, with one more at the end.
 use Rattle.std.proofs.Common.{◌≡◌, ◌<◌, ◌≤◌, ◌+◌, ◌^◌, ◌∙◌, ℕ, suc, List, [], ◌∷◌, ◌++◌, length, refl, ap, arith}
 use Rattle.iss_request.specs.Slots.{AreAscending}
 use Rattle.iss_request.specs.declared.ids.Slot.{Slot}
@@ -16,7 +16,7 @@ pub length-more : (s : Slot) (xs : List Slot) → length (xs ++ (s ∷ [])) ≡ 
 length-more s [] = refl
 length-more s (x ∷ xs) = let r = length-more s xs in omega (arith, r)
 
--- what holds of the first so many slots
+-- a property of the first n slots
 abbrev pub AreFirst : ℕ → List Slot → Type 0
 AreFirst k xs = (length xs ≡ k) × AreAscending 0 xs × AreBelow k xs × AreBelow (2 ^ 64) xs
 

@@ -1,4 +1,4 @@
--- Tests that are joined, answers, membership, longer lists, chains, and functions that are changed at one place.
+-- Conjoined tests, membership, extended lists, chains, and functions that are changed at one argument.
 use Rattle.std.proofs.Common.{IsTrue, ◌↔◌, ◌∙◌, append_assoc, ◌≡◌, ◌≢◌, ◌⊎◌, inl, inr, ℕ, zero, suc, ◌+◌, ◌≤◌, ◌<◌, Bool, true, false, cond, eqb, not, ◌&&◌, ◌||◌, List, [], ◌∷◌, ◌++◌, length, Option, Some, None, refl, sym, ap, ap₂, subst, arith, length-append, true≢false}
 use Rattle.std.proofs.lemmas.Bool.Decides.{eqb_tells, leb_tells, nat_tests}
 use Rattle.std.specs.Ordering.{is_eq, nat_cmp}
@@ -26,14 +26,14 @@ eqb-other i j h = grind (arith, nat_tests)
 pub same_number : (a b : ℕ) → is_eq (nat_cmp a b) ≡ eqb a b
 same_number a b = grind arith
 
--- two tests of one thing
+-- two tests for the same fact are equal
 pub same-test : (b t : Bool) {P : Type 0} → IsTrue b ↔ P → (t ≡ true) ↔ P → b ≡ t
 same-test true true h k = refl
 same-test false false h k = refl
 same-test true false h k = absurd (true≢false (sym (k.1 (h.0 refl))))
 same-test false true h k = absurd (true≢false (sym (h.1 (k.0 refl))))
 
--- tests that are joined
+-- conjoined tests
 
 pub and-true : (a b : Bool) → (a && b) ≡ true → (a ≡ true) × (b ≡ true)
 and-true true b h = (refl, h)
@@ -97,7 +97,7 @@ pub same_bytes-refl : (a : List ℕ) → same_bytes a a ≡ true
 same_bytes-refl [] = refl
 same_bytes-refl (x ∷ xs) = both (eqb x x) (same_bytes xs xs) (eqb-same x) (same_bytes-refl xs)
 
--- lists of equal lengths with anything behind them
+-- equal suffixes of lists whose prefixes have equal lengths
 pub ends-same : {A : Type 0} (a b x y : List A) → length a ≡ length b → a ++ x ≡ b ++ y → (a ≡ b) × (x ≡ y)
 ends-same [] [] x y l h = (refl, h)
 ends-same [] (k ∷ b) x y l h = absurd (omega (arith, l))
@@ -129,7 +129,7 @@ nth-in [] k x h = absurd (cc)
 nth-in (y ∷ xs) zero x h = inl (let q : y ≡ x = some-injective y x h in sym q)
 nth-in (y ∷ xs) (suc k) x h = inr (nth-in xs k x h)
 
--- lists of different elements
+-- lists without repeated elements
 
 pub different-append : {A : Type 0} (xs ys : List A) → Different xs → Different ys → ((z : A) → In z xs → In z ys → ⊥) → Different (xs ++ ys)
 different-append [] ys dx dy apart = dy
@@ -151,7 +151,7 @@ different-apart [] ys d z a b = a
 different-apart (x ∷ xs) ys d z (inl e) b = d.0 (in_right x xs ys (rw (← e) b))
 different-apart (x ∷ xs) ys d z (inr a) b = different-apart xs ys d.1 z a b
 
--- functions that are changed at one place
+-- functions changed at one argument
 
 pub set_at-same : {A : Type 0} (f : ℕ → A) (i : ℕ) (x : A) → set_at f i x i ≡ x
 set_at-same f i x = rw (eqb-same i) refl
@@ -177,7 +177,7 @@ set_at2-cons {A} f e l x d k = go (same_or_not d e) (same_or_not k l)
     go (inl a) (inr b) = ([], set_at2-other f e l (x ∷ f e l) d k (inr b))
     go (inr a) b = ([], set_at2-other f e l (x ∷ f e l) d k (inl a))
 
--- answers of which the first counts
+-- the first of two optional values
 
 pub first-cases : {A : Type 0} (a b : Option A) (v : A) → first_of a b ≡ Some v → (a ≡ Some v) ⊎ ((a ≡ None) × (b ≡ Some v))
 first-cases None b v h = inr (refl, h)
@@ -192,7 +192,7 @@ pub first_of-none : {A : Type 0} (o : Option A) → first_of o None ≡ o
 first_of-none None = refl
 first_of-none (Some x) = refl
 
--- lists newest first: longer ones
+-- extension of lists that are kept newest first
 
 pub extends-refl : {A : Type 0} (a : List A) → Extends a a
 extends-refl a = ([], refl)
@@ -273,7 +273,7 @@ pub chain-oldest : {A : Type 0} (P : List A → A → Type 0) (n : ℕ) (xs : Li
 chain-oldest P n [] h = tt
 chain-oldest P n (v ∷ xs) h = elim (leb_tells n (length xs)) [ inl t ↦ rw t.0 (chain-oldest P n xs h.0) | inr t ↦ rw t.0 h ]
 
--- two chains whose next elements agree over one list are one longer than the other
+-- Two chains that agree on the next element over each list: one extends the other.
 pub same_length : {A : Type 0} (P Q : List A → A → Type 0) → ((older : List A) (v u : A) → Chain P older → Chain Q older → P older v → Q older u → v ≡ u) → (a b : List A) → Chain P a → Chain Q b → length a ≡ length b → a ≡ b
 same_length P Q meet [] [] p q e = refl
 same_length P Q meet [] (u ∷ b) p q e = absurd (omega (arith, e))
@@ -293,7 +293,7 @@ chains-meet P Q meet a (u ∷ b) p q h =
       | inr t ↦ let e : a ≡ u ∷ b = same_length P Q meet a (u ∷ b) p q (omega (arith, t.1, h)) in ([], sym e)
     ]
 
--- values in order over a list
+-- values put over a list in order
 
 pub length-over : {A : Type 0} (vs log : List A) → length (push_all vs log) ≡ length vs + length log
 length-over [] log = omega arith

@@ -1,11 +1,11 @@
--- Quorums meet, by counting the numbers below n that pass a test.
+-- Quorums intersect. Proved by counting the numbers below n that pass a test.
 use Rattle.std.proofs.Common.{◌≡◌, ℕ, zero, suc, ◌+◌, ◌*◌, ◌<◌, ◌≤◌, Bool, true, false, ◌&&◌, ◌||◌, not, cond, List, [], ◌∷◌, length, arith, refl, inl, inr, ◌⊎◌}
 use Rattle.std.specs.Prelude.{◌==◌, nat_lt}
 use Rattle.std.proofs.lemmas.Bool.{cases_Bool, eqb-true, eqb-false, ltb-true, and_parts, not-true}
 use Rattle.std.proofs.lemmas.Bool.Decides.{nat_tests}
 use Rattle.iss_base.specs.Quorum.{all_below, count_below, distinct, mem}
 
--- one step, on values alone
+-- one step of the count
 both_step : (a b : Bool) (x y n z : ℕ) → x + y ≤ n + z → (cond a 1 0 + x) + (cond b 1 0 + y) ≤ suc n + (cond (a && b) 1 0 + z)
 both_step a b x y n z h = grind arith
 
@@ -53,7 +53,7 @@ count-more p x (suc n) l e = elim (cases_Bool (n == x)) [
 member_step : (x n : ℕ) (xs : List ℕ) → (nat_lt x n && all_below n xs) ≡ true → (not (mem x xs) && distinct xs) ≡ true → (x < n) × (all_below n xs ≡ true) × (mem x xs ≡ false) × (distinct xs ≡ true)
 member_step x n xs h g = let a = and_parts (nat_lt x n) (all_below n xs) h in let b = and_parts (not (mem x xs)) (distinct xs) g in (ltb-true x n a.0, a.1, not-true (mem x xs) b.0, b.1)
 
--- a list of different numbers below n has as many as there are numbers below n in it
+-- A list of distinct numbers below n is as long as the count of its members below n.
 pub count-distinct : (n : ℕ) (xs : List ℕ) → all_below n xs ≡ true → distinct xs ≡ true → length xs ≤ count_below (λ k. mem k xs) n
 count-distinct n [] h g = omega arith
 count-distinct n (x ∷ xs) h g =
@@ -86,7 +86,7 @@ count-length n (x ∷ xs) = let h = count-one (λ k. mem k xs) x n in let r = co
 three : (a b c : Bool) → ((a && b) && not c) ≡ true → (a ≡ true) × (b ≡ true) × (c ≡ false)
 three a b c h = grind arith
 
--- two tests that pass so many numbers below n that more than f pass both: one of these is not among f that are bad
+-- If more than f numbers below n pass both tests, one of them is not among the f faulty ones.
 pub counts-meet : (n f q : ℕ) (t u bad : ℕ → Bool) → n + f < q + q → count_below bad n ≤ f → q ≤ count_below t n → q ≤ count_below u n →
     (k : ℕ) × (k < n) × (t k ≡ true) × (u k ≡ true) × (bad k ≡ false)
 counts-meet n f q t u bad wide few tq uq =
@@ -96,7 +96,7 @@ counts-meet n f q t u bad wide few tq uq =
     let z = three (t r.0) (u r.0) (bad r.0) r.2 in
     (r.0, r.1, z.0, z.1, z.2)
 
--- two quorums share a node that is not faulty
+-- two quorums share a correct node
 pub meet : (f : ℕ) (xs ys faulty : List ℕ) → length faulty ≤ f → distinct xs ≡ true → distinct ys ≡ true → all_below (3 * f + 1) xs ≡ true → all_below (3 * f + 1) ys ≡ true → 2 * f + 1 ≤ length xs → 2 * f + 1 ≤ length ys → (k : ℕ) × (k < 3 * f + 1) × (mem k xs ≡ true) × (mem k ys ≡ true) × (mem k faulty ≡ false)
 meet f xs ys faulty hf dx dy bx by lx ly =
     let n : ℕ = 3 * f + 1 in

@@ -89,7 +89,7 @@ example : newest (states (Restarted 1 1 ∷ Within 1 1 ∷ Synced ∷ ToEnd 0 0 
     ≡ settled (97 ∷ 98 ∷ [])
 example = refl
 
--- Two bytes behind a gate are written and synced, and then the gate is opened and synced.
+-- Two bytes after a gate are written and synced, then the gate is opened and synced.
 
 opened_is_kept : states (Opened 2 ∷ ToEnd 0 0 ∷ []) (97 ∷ []) (100 ∷ 98 ∷ 99 ∷ []) ≡
     states (Synced ∷ Within 0 1 ∷ Synced ∷ ToEnd 1 0 ∷ ToEnd 0 0 ∷ []) (97 ∷ []) (100 ∷ 98 ∷ 99 ∷ [])

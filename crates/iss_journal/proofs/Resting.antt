@@ -8,7 +8,7 @@ use Rattle.iss_journal.specs.Promises.{OnlyLeaves, LeavesOnly, RestsOn}
 use Rattle.iss_journal.proofs.Crash.{begins_with, only_settled, reads_closed}
 use Rattle.iss_journal.proofs.Steps.{goes_on, untold}
 
--- Cutting behind the last gate
+-- Cutting after the last gate
 
 module _ (entries : List (List ℕ)) (bytes : List ℕ) (ends : ClosesAfter entries bytes) where
   abbrev end : ℕ

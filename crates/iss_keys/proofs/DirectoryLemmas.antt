@@ -92,7 +92,7 @@ length-signature_of secret h q s = let size = length-part_of secret (statement_d
 pub first-signature_of : (secret : List ℕ) (h q : ℕ) (s : List ℕ) → slice_index (signature_of secret h q s) 0 ≡ h
 first-signature_of secret h q s = refl
 
--- ---- who has keys
+-- ---- the owners of keys
 
 pub length-nodes : (n c h : ℕ) → length (directory_of n c h).nodes ≡ n
 length-nodes n c h = length-listed (λ i. public_key (node_secret i) h) n

@@ -63,7 +63,7 @@ node_more secret h i nodes l r low high len tree left right k p le lt at =
           rw get_or-set_other (tree k p le lt above)
     ]
 
--- ---- the path of a leaf
+-- ---- the authentication path of a leaf
 
 below_level : (h k q : ℕ) → k ≤ h → q < 2 ^ h → q / 2 ^ k < 2 ^ (h - k)
 below_level h k q le lt =

@@ -36,7 +36,7 @@ length-join_below f (suc n) h =
     let below = length-join_below f n h in
     simp length-append (omega arith)
 
--- ---- pieces of joined pieces
+-- ---- pieces of a concatenation
 
 -- a part of a list is a part of each prefix that is long enough
 part_of_front : (xs ys : List ℕ) (k n : ℕ) → k + n ≤ length xs → take n (drop k (xs ++ ys)) ≡ take n (drop k xs)
@@ -129,7 +129,7 @@ digit_small m i h =
       ]
     ]
 
--- ---- the climb
+-- ---- the authentication path
 
 halves : (p : ℕ) → ((p % 2 ≡ 0) × (p ≡ 2 * (p / 2))) ⊎ ((p % 2 ≡ 1) × (p ≡ 2 * (p / 2) + 1))
 halves p = elim (cases_eq (p % 2) 0) [
@@ -175,7 +175,7 @@ piece_behind : (front more : List ℕ) (f : ℕ → List ℕ) (b n i : ℕ) → 
 piece_behind front more f b n i size each lt =
     rw (← size, append_assoc front (join_below f n) more, drop-append-add front (join_below f n ++ more) (32 * i)) (piece_in_front more f n i each lt)
 
--- ---- the whole
+-- ---- the whole signature
 
 -- the chain ends computed from a part are those of the leaf
 ends_agree : (secret part m : List ℕ) (q : ℕ) → AreBytes m → ((i : ℕ) → i < 67 → value_at part i ≡ signed_value secret q m i)

@@ -8,7 +8,7 @@ use Rattle.iss_keys.specs.Pieces.{join_below}
 use Rattle.iss_keys.specs.Chains.{chain_start, steps, leaf_of_ends, digit, statement_digest}
 use Rattle.iss_keys.specs.Trees.{path_node, parent_of}
 
--- ---- what a part leads to
+-- ---- the root computed from a part
 
 -- the value of chain i in the part of a signature after its head
 abbrev pub value_at : List ℕ → ℕ → List ℕ

@@ -1,4 +1,4 @@
--- A packet has one spelling.
+-- A packet has at most one encoding.
 use Rattle.std.proofs.Common.{◌≡◌, ℕ, ◌^◌, ◌≤◌, Bool, true, false, cond, ltb, leb, eqb, List, [], ◌∷◌, ◌++◌, length, refl, sym, ap, subst, ◌∙◌, append_assoc, append-nil, arith, inl, inr, ◌⊎◌, eqb-true, eq-eqb}
 use Rattle.std.specs.Prelude.{◌↔◌}
 use Rattle.std.specs.Int.{w32, w64, to_be_bytes}
@@ -171,7 +171,7 @@ packet_only version n bytes rest p e =
 pub packet_grammar : (version n : ℕ) → IsGrammar (spell_packet version) (parse_packet version n)
 packet_grammar version n = record { only = packet_only version n; whole = λ p. packet_whole version n p (is_spellable p) refl }
 
--- what is read of bytes, and all of them, is what the table relates to them
+-- what is decoded from exactly these bytes is what the table relates to them
 pub packet_table : (version n : ℕ) (p : Packet) (bytes : List ℕ) → (parse_packet version n bytes ≡ Good p []) ↔ IsSpelledPacket version n p bytes
 unfolding parse_packet
 packet_table version n p bytes = (forth, back)

@@ -1,4 +1,4 @@
--- Packets are read as they are spelled.
+-- Decoding the encoding of a packet gives it back.
 use Rattle.std.proofs.Common.{◌≡◌, ◌≢◌, ℕ, ◌^◌, ◌<◌, ◌≤◌, Bool, true, false, ltb, leb, ◌&&◌, List, [], ◌∷◌, ◌++◌, length, refl, sym, ap, subst, append_assoc, arith, inl, inr}
 use Rattle.std.specs.Prelude.{Result, Ok, Err}
 use Rattle.std.specs.Result.{IsErrAnd}
@@ -33,7 +33,7 @@ other_kind n a b c d e =
       | inr le ↦ let none : n ≡ 0 = omega arith in rw none refl
     ]
 
--- the exit of a `?`, where an error of a field becomes one of a packet
+-- the exit of a `?`, where a field's error becomes a packet's error
 pub exit : {T U : Type 0} (r : Result T PacketError) (d : DecodeError) (P : Type 0) → IsErrAnd r (λ e. e ≡ as_packet_error d) → ((at : ℕ) → ◌≡◌ {A = Result U DecodeError} (Err d) (Err (fields.BadField at)) → P) → r ≡ Err NotPacket → P
 exit (Ok x) d P h bad e = absurd h
 exit (Err y) (fields.BadField at) P h bad e = bad at refl
@@ -56,6 +56,6 @@ packet_unspelled version p e = rw (sym e) refl
 five_parts : (old : List ℕ) (v k f : ℕ) (epoch : List ℕ) (l : ℕ) → ((((old ++ v ∷ []) ++ k ∷ []) ++ f ∷ []) ++ epoch) ++ l ∷ [] ≡ old ++ (v ∷ k ∷ f ∷ (epoch ++ l ∷ []))
 five_parts old v k f epoch l = simp append_assoc
 
--- the fields of the route, written one after another
+-- the fields of the route, one after another
 pub five_written : (old a b c d e : Written) (v k f : ℕ) (epoch : List ℕ) (l : ℕ) → a ≡ and_bytes old (v ∷ []) → b ≡ and_bytes a (k ∷ []) → c ≡ and_bytes b (f ∷ []) → d ≡ and_bytes c epoch → e ≡ and_bytes d (l ∷ []) → e ≡ and_bytes old (v ∷ k ∷ f ∷ (epoch ++ l ∷ []))
 five_written old a b c d e v k f epoch l p q r s t = rw (t, s, r, q, p) (ap (λ (z : List ℕ). record old { bytes = z }) (five_parts old.bytes v k f epoch l))

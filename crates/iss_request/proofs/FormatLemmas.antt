@@ -1,4 +1,4 @@
--- Requests and values are read as they are spelled.
+-- Decoding the encoding of a request or value gives it back.
 use Rattle.std.proofs.Common.{◌≡◌, ◌≢◌, ℕ, ◌^◌, ◌<◌, ◌≤◌, Bool, true, false, cond, eqb, ltb, ◌&&◌, ◌||◌, List, [], ◌∷◌, ◌++◌, length, refl, sym, ap, subst, ◌∙◌, append_assoc}
 use Rattle.std.specs.Prelude.{Result, Ok, Err, OnOk}
 use Rattle.std.specs.Int.{w16, to_be_bytes}
@@ -31,7 +31,7 @@ unfolding parse_rest
 rest_of version true = refl
 rest_of version false = refl
 
--- what is read behind the byte of a batch
+-- what is read after the first byte of a batch
 pub batch_rest : (version : ℕ) → parse_rest version (version_byte version) ≡ (parse_batch version >>= λ b. done (Value_batch b))
 batch_rest version = rest_of version (is_second version)
 
@@ -77,7 +77,7 @@ pub first_count : (version n : ℕ) → false ≡ is_second version → spell_co
 unfolding spell_count
 first_count version n e = rw (sym e) refl
 
--- ---- what has no spelling
+-- ---- what has no encoding
 
 pub request_test : (r : Request) (b : Bool) → r.id.number < 2 ^ 32 → length r.payload ≤ 256 → b ≡ is_signature r.sig → b ≡ has_spelling r
 request_test r b lt le e = rw (lt-ltb r.id.number (2 ^ 32) lt, le-leb (length r.payload) 256 le) e
@@ -113,17 +113,17 @@ pub holds_spelled : (version : ℕ) (v : Value) (b : List Request) → v ≡ Val
 unfolding spell_value
 holds_spelled version v b e = rw e refl
 
--- a piece that is written behind a piece
+-- one piece written after another
 pub both_written : (r : Result (Unit {0}) NoMemory) (old mid new : Written) (xs ys : List ℕ) → mid ≡ and_bytes old xs → OnOk r (new ≡ and_bytes mid ys) → OnOk r (new ≡ and_bytes old (xs ++ ys))
 both_written (Ok u) old mid new xs ys e h = h ∙ ap (λ (m : Written). and_bytes m ys) e ∙ ap (λ (z : List ℕ). record old { bytes = z }) (append_assoc old.bytes xs ys)
 both_written (Err d) old mid new xs ys e h = h
 
--- the same where the version decides what is written behind
+-- the same if the version decides the second piece
 pub versioned_written : (r : Result (Unit {0}) NoMemory) (old mid new : Written) (xs : List ℕ) (spelled : ℕ → List ℕ) → mid ≡ and_bytes old xs → OnOk r (new ≡ and_bytes mid (spelled mid.version)) → OnOk r (new ≡ and_bytes old (xs ++ spelled old.version))
 versioned_written r old mid new xs spelled e h =
     both_written r old mid new xs (spelled old.version) e (subst (λ (v : ℕ). OnOk r (new ≡ and_bytes mid (spelled v))) (ap (λ (w : Written). w.version) e) h)
 
--- a batch that is written behind its byte
+-- a batch written after its first byte
 pub holds_written : (r : Result (Unit {0}) NoMemory) (old mid new : Written) (v : Value) (b : List Request) (first : ℕ) → v ≡ Value_batch b → first ≡ version_byte old.version → mid ≡ and_bytes old (first ∷ []) → OnOk r (new ≡ and_bytes mid (spell_batch mid.version b)) → OnOk r (new ≡ and_bytes old (spell_value old.version v))
 holds_written r old mid new v b first is e m h =
     rw (holds_spelled old.version v b is)

@@ -1,4 +1,4 @@
--- Identities that are the same, where they stand, and the values that hold batches.
+-- Equal identities, their positions, and the values that hold batches.
 use Rattle.std.proofs.Common.{◌≡◌, ◌∙◌, true, ◌&&◌, ◌||◌, eqb, List, [], ◌∷◌, ◌++◌, refl, ap, arith, ℕ}
 use Rattle.std.specs.List.{list_any}
 use Rattle.iss_base.proofs.Lists.{and-true, eqb-same, is-eq, or-assoc}

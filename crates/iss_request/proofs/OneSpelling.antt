@@ -1,4 +1,4 @@
--- Requests and values have one spelling each.
+-- Requests and values have at most one encoding each.
 use Rattle.std.proofs.Common.{◌≡◌, ℕ, zero, suc, ◌+◌, ◌*◌, ◌^◌, ◌<◌, ◌≤◌, Bool, true, false, cond, ltb, leb, eqb, ◌&&◌, ◌||◌, List, [], ◌∷◌, ◌++◌, length, take, drop, refl, sym, ap, subst, ◌∙◌, append_assoc, arith, inl, inr, ◌⊎◌, eqb-true, eq-eqb, append-nil}
 use Rattle.std.specs.Prelude.{◌↔◌}
 use Rattle.std.specs.List.{AllByRecursion, flat_map}
@@ -163,9 +163,9 @@ request_grammar = record {
   whole = λ r. request_whole r (has_spelling r) refl;
 }
 
--- ---- so many things
+-- ---- repeated elements
 
--- all of them are read again, or none
+-- decoding the encoding succeeds whatever follows, or fails whatever follows
 abbrev pub Whole : {A : Type 0} → List ℕ → Parser A → A → Type 0
 Whole spelling p x = ((rest : List ℕ) → p (spelling ++ rest) ≡ Good x rest) ⊎ ((rest : List ℕ) → IsBad (p (spelling ++ rest)))
 
@@ -215,7 +215,7 @@ times_whole spell p g (x ∷ xs) =
       ]
     ]
 
--- what holds of each thing that is read holds of all
+-- what holds for each element read holds for all
 times_all : {A : Type 0} (P : A → Type 0) (p : Parser A) → ((bytes rest : List ℕ) (x : A) → p bytes ≡ Good x rest → P x) → (count : ℕ) (bytes rest : List ℕ) (xs : List A) → times count p bytes ≡ Good xs rest → AllByRecursion P xs
 unfolding times
 times_all {A} P p each zero bytes rest xs e =
@@ -266,7 +266,7 @@ count_parts version bytes rest n e = parts_of (is_second version) bytes rest n e
 
 -- ---- batches
 
--- the count of a batch, and behind it its requests
+-- the count of a batch, followed by its requests
 regrouped : (version : ℕ) (b : List Request) (rest : List ℕ) → length b ≤ requests_most version → spell_batch version b ++ rest ≡ spell_count version (length b) ++ (flat_map spell_request b ++ rest)
 regrouped version b rest le = ap (λ (x : List ℕ). x ++ rest) (batch_spelled version b le) ∙ append_assoc (spell_count version (length b)) (flat_map spell_request b) rest
 
@@ -345,7 +345,7 @@ value_whole version (Value_batch b) =
       | inr bad ↦ inr (λ rest. holds_bad version (spell_batch version b ++ rest) (bad rest))
     ]
 
--- what a value is that was read
+-- what is known of a value that was read
 abbrev IsValue : ℕ → List ℕ → List ℕ → Value → Type 0
 IsValue version bytes rest Nil = bytes ≡ 0 ∷ rest
 IsValue version bytes rest (Value_batch b) = (mid : List ℕ) × (bytes ≡ version_byte version ∷ mid) × IsBatch version mid rest b
@@ -380,7 +380,7 @@ value_only version (Value_batch b) bytes rest is = is.1 ∙ ap (λ (x : List ℕ
 pub value_grammar : (version : ℕ) → IsGrammar (spell_value version) (parse_value version)
 value_grammar version = record { only = λ bytes rest v e. value_only version v bytes rest (value_parts version bytes rest v e); whole = value_whole version }
 
--- ---- the relation between things and bytes
+-- ---- the relation between elements and bytes
 
 all_spelled : (b : List Request) → AllByRecursion HasSpelling b → flat_map spell_request b ≡ flat_map request_bytes b
 all_spelled [] h = refl
@@ -399,7 +399,7 @@ request_related r bytes = (
   (λ h. ap parse_request (h.1 ∙ sym (append-nil (request_bytes r))) ∙ request_bytes_again r [] h.0),
 )
 
--- a batch whose requests all have a spelling, in bytes
+-- a batch of encodable requests, in bytes
 batch_table : (version : ℕ) (b : List Request) → length b ≤ requests_most version → AllByRecursion HasSpelling b → spell_batch version b ≡ spell_count version (length b) ++ flat_map request_bytes b
 batch_table version b le h = batch_spelled version b le ∙ ap (λ (x : List ℕ). spell_count version (length b) ++ x) (all_spelled b h)
 

@@ -1,4 +1,4 @@
--- What parsers give on bytes whose front is known, and what is known of bytes that were read.
+-- What parsers return on bytes with a known prefix, and what is known of bytes that were parsed.
 use Rattle.std.proofs.Common.{◌≡◌, ℕ, zero, suc, ◌+◌, ◌-◌, ◌*◌, ◌/◌, ◌%◌, ◌^◌, ◌<◌, ◌≤◌, Bool, true, false, cond, ltb, leb, List, [], ◌∷◌, ◌++◌, length, get_or, take, drop, refl, sym, arith}
 use Rattle.std.specs.List.{list_all}
 use Rattle.std.specs.Int.{Width, w16, w32, w64, byte_len, from_be_bytes, to_be_bytes}
@@ -10,7 +10,7 @@ pub use Rattle.iss_base.proofs.Lists.{and-true as both_true}
 use Rattle.iss_request.specs.Fields.{Parsed, Good, Bad}
 use Rattle.iss_request.specs.Parsing.{Parser, ◌>>=◌, done, such_that, tested, shifted, followed, byte, has_bytes, number, block, digests}
 
--- ---- one thing and another
+-- ---- sequences
 
 pub then_good : {A B : Type 0} (p : Parser A) (q : A → Parser B) (bytes mid rest : List ℕ) (x : A) (y : B) → p bytes ≡ Good x mid → q x mid ≡ Good y rest → (p >>= q) bytes ≡ Good y rest
 unfolding ◌>>=◌
@@ -24,7 +24,7 @@ pub first_bad : {A B : Type 0} (p : Parser A) (q : A → Parser B) (bytes : List
 unfolding ◌>>=◌
 first_bad p q bytes at e = rw e refl
 
--- where both were read
+-- p was read, then q
 pub record AreRead {A B : Type 0} (p : Parser A) (q : A → Parser B) (bytes rest : List ℕ) (y : B) : Type 0 where
   pub thing : A
   pub mid : List ℕ

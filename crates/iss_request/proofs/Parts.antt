@@ -1,4 +1,4 @@
--- Parts of bytes: what stands between two offsets.
+-- Parts of bytes: the bytes between two offsets.
 use Rattle.std.proofs.Common.{◌≡◌, ◌∙◌, ℕ, ◌+◌, ◌-◌, ◌<◌, ◌≤◌, List, ◌++◌, length, take, drop, min, refl, sym, ap, subst, arith, ◌⊎◌, inl, inr}
 use Rattle.std.specs.Prelude.{Result, Ok, Err, IfOk}
 use Rattle.iss_request.specs.Fields.{Reading, Good, left, IsRead}
@@ -7,7 +7,7 @@ use Rattle.std.proofs.Math.Nat.{min-le_left, min-le_right}
 use Rattle.std.proofs.lemmas.Bool.{cases_lt}
 use Rattle.std.proofs.lemmas.List.{append_cancel_right, take-append-drop, take-take, take_min, drop_min, drop-take, drop-drop, length-take, length-drop}
 
--- offsets that are cut off at the end tell the same bytes
+-- offsets past the end select the same bytes as the end
 pub cut_off : (all : List ℕ) (from to t f : ℕ) → t ≡ min to (length all) → f ≡ min from t → take (t - f) (drop f all) ≡ drop from (take to all)
 cut_off all from to t f t-is f-is =
     let front : take t all ≡ take to all = ap (λ (n : ℕ). take n all) t-is ∙ take_min to all in
@@ -17,7 +17,7 @@ cut_off all from to t f t-is f-is =
     let start : drop f (take t all) ≡ drop from (take t all) = ap (λ (n : ℕ). drop n (take t all)) (f-is ∙ ap (λ (n : ℕ). min from n) (sym long)) ∙ drop_min from (take t all) in
     sym (drop-take f (t - f) all) ∙ ap (λ (n : ℕ). drop f (take n all)) whole ∙ start ∙ ap (λ (xs : List ℕ). drop from xs) front
 
--- what stands in the front of bytes stands in the bytes
+-- a part of a prefix is a part of the whole
 in_front : (all : List ℕ) (k i last : ℕ) → (k ≡ 0) ⊎ (i + k ≤ last) → take k (drop i (take last all)) ≡ take k (drop i all)
 in_front all k i last (inl none) = rw none refl
 in_front all k i last (inr fits) =
@@ -41,7 +41,7 @@ part_again all shown first last from to is fits order =
     ∙ sym (in_front all (to - from) (first + from) last room)
     ∙ ap (λ (xs : List ℕ). take (to - from) xs) (sym (drop-drop from first (take last all)) ∙ ap (λ (xs : List ℕ). drop from xs) (sym is))
 
--- what was read since an offset, and what is left
+-- the bytes read since an offset, followed by those left to read
 pub since_and_left : {E : Type 0} (r : Result (List ℕ) E) (all shown : List ℕ) (from at : ℕ) → IfOk r (λ b. b ≡ take (at - from) (drop from shown)) → shown ≡ all →
     from ≤ at → IfOk r (λ b. b ++ drop at all ≡ drop from all)
 since_and_left {E} (Err e) all shown from at found same order = found
@@ -51,7 +51,7 @@ since_and_left {E} (Ok b) all shown from at found same order =
     let front : b ≡ take (at - from) (drop from all) = found ∙ ap (λ (xs : List ℕ). take (at - from) (drop from xs)) same in
     ap (λ (xs : List ℕ). xs ++ drop at all) front ∙ ap (λ (xs : List ℕ). take (at - from) (drop from all) ++ xs) (sym rest) ∙ take-append-drop (at - from) (drop from all)
 
--- the same where it is a reader that read
+-- the same for a reader
 pub since_read : {E : Type 0} (r : Result (List ℕ) E) (f : Reading) (version at from : ℕ) (all shown : List ℕ) → record { version = version; all = all; at = at } ≡ f →
     IfOk r (λ b. b ≡ take (at - from) (drop from shown)) → shown ≡ all → from ≤ f.at → IfOk r (λ b. b ++ left f ≡ drop from f.all)
 since_read {E} r f version at from all shown is found same order =
@@ -59,7 +59,7 @@ since_read {E} r f version at from all shown is found same order =
     let moved : IfOk r (λ b. b ≡ take (f.at - from) (drop from shown)) = subst (λ (n : ℕ). IfOk r (λ b. b ≡ take (n - from) (drop from shown))) here found in
     since_and_left r f.all shown from f.at moved (same ∙ ap (λ (z : Reading). z.all) is) order
 
--- What was read is the bytes since then, where a parser reads bytes as they are.
+-- If a parser returns bytes unchanged, its result is the bytes read since then.
 pub read_as_is : (p : Parser (List ℕ)) → ((bytes rest x : List ℕ) → p bytes ≡ Good x rest → bytes ≡ x ++ rest) →
     {a f : Reading} {x : List ℕ} (b : List ℕ) (from : ℕ) → IsRead p a f x → b ++ left f ≡ drop from f.all → from ≡ a.at → IsRead p a f b
 read_as_is p only {a} {f} {x} b from read is at =

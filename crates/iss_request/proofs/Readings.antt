@@ -1,4 +1,4 @@
--- Readers that go through their fields in order read what the parser of the whole reads.
+-- A reader that reads its fields in order reads what the parser of the whole reads.
 use Rattle.std.proofs.Common.{◌≡◌, ℕ, suc, ◌+◌, ◌-◌, ◌*◌, ◌/◌, ◌<◌, ◌≤◌, Bool, true, false, List, [], ◌∷◌, ◌++◌, length, refl, sym, ap, subst, ◌∙◌, append_assoc, append-nil, arith, inl, inr}
 use Rattle.std.specs.Int.{Width, byte_len, to_be_bytes}
 use Rattle.std.proofs.lemmas.Bool.{cases_lt}
@@ -11,7 +11,7 @@ use Rattle.iss_request.specs.Fields.{Reading, Good, Bad, left, IsRead, IsUnreada
 use Rattle.iss_request.specs.Parsing.{Parser, ◌>>=◌, done, such_that, byte, number, block, digests, times, at_end, all_of}
 use Rattle.iss_request.proofs.ParserLemmas
 
--- ---- one thing and another
+-- ---- sequences
 
 pub read_then : {A B : Type 0} (p : Parser A) (q : A → Parser B) {a b c : Reading} {x : A} {y : B} → IsRead p a b x → IsRead (q x) b c y → IsRead (p >>= q) a c y
 read_then {A} {B} p q {a} {b} {c} {x} {y} r s = record {
@@ -45,13 +45,13 @@ unread_failed {A} test p {a} {b} {x} r t = record { after = 0; found = ParserLem
 pub unread_tested : {A : Type 0} (test : A → Bool) (p : Parser A) {a : Reading} {at : ℕ} → IsUnreadable p a at → IsUnreadable (such_that test p) a at
 unread_tested {A} test p {a} {at} u = record { after = u.after; found = ParserLemmas.test_bad test p (left a) u.after u.found; field = u.field }
 
--- the offset that an error names
+-- the offset in an error
 pub named : {A T : Type 0} (p : Parser A) (a : Reading) (x : ℕ) (d : DecodeError) (at : ℕ) → IsUnreadable p a x → d ≡ BadField x → ◌≡◌ {A = Result T DecodeError} (Err d) (Err (BadField at)) → IsUnreadable p a at
 named {A} {T} p a x d at u is e =
     let same : x ≡ at = cc in
     record { after = u.after; found = u.found; field = sym same ∙ u.field }
 
--- the exit of a `?`, where an error is passed on
+-- the exit of a `?`, which returns the error
 pub exit : {T U : Type 0} (r : Result T DecodeError) (d : DecodeError) (P : ℕ → Type 0) → IsErrAnd r (λ y. y ≡ d) → ((at : ℕ) → ◌≡◌ {A = Result U DecodeError} (Err d) (Err (BadField at)) → P at) → (at : ℕ) → r ≡ Err (BadField at) → P at
 exit (Ok x) d P h bad at e = absurd h
 exit (Err y) d P h bad at e =
@@ -60,7 +60,7 @@ exit (Err y) d P h bad at e =
 
 -- ---- fields
 
--- so many bytes further on
+-- n bytes further
 abbrev pub moved : ℕ → Reading → Reading
 moved width a = record a { at = a.at + width }
 
@@ -97,7 +97,7 @@ digests_read count a b front parts len is = read_front (digests count) a b front
 pub digests_unread : (count : ℕ) (a : Reading) → length (left a) < 32 * count → IsUnreadable (digests count) a (a.at + 32 * (length (left a) / 32))
 digests_unread count a lt = record { after = 32 * (length (left a) / 32); found = ParserLemmas.digests_short count (left a) lt; field = refl }
 
--- ---- so many things
+-- ---- repeated elements
 
 pub read_more : {A : Type 0} (p : Parser A) (count : ℕ) {a b c : Reading} {x : A} {xs : List A} → IsRead p a b x → IsRead (times count p) b c xs → IsRead (times (suc count) p) a c (x ∷ xs)
 unfolding times
@@ -115,7 +115,7 @@ pub read_none : {A : Type 0} (p : Parser A) (a : Reading) → IsRead (times 0 p)
 unfolding times
 read_none p a = read_done [] a
 
--- of `total` things these are read, and `count` are still to come
+-- of `total` elements these are read, and `count` remain
 pub record Continues {A : Type 0} (p : Parser A) (total : ℕ) (start : Reading) (count : ℕ) (here : Reading) (got : List A) : Type 0 where
   pub all : (later : Reading) (xs : List A) → IsRead (times count p) here later xs → IsRead (times total p) start later (got ++ xs)
   pub fails : (at : ℕ) → IsUnreadable (times count p) here at → IsUnreadable (times total p) start at
@@ -155,7 +155,7 @@ end_bad x (b ∷ rest) lt = refl
 contradiction : IsTrue false → ⊥
 contradiction e = cc
 
--- whether a reader is done, as its answer says
+-- b says whether the reader is at its end
 abbrev pub Tells : Bool → Reading → Type 0
 Tells b f = IsTrue b ↔ (length f.all ≤ f.at)
 

@@ -1,4 +1,4 @@
--- What tests of numbers and kinds say.
+-- What tests of numbers and fault models decide.
 use Rattle.std.proofs.Common.{◌≡◌, ℕ, ◌≤◌, Bool, true, false, eqb, leb, refl, arith}
 use Rattle.std.proofs.lemmas.Bool.{false≢true}
 use Rattle.iss_request.specs.declared.setups.Kind.{Kind}

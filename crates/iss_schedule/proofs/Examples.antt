@@ -1,4 +1,4 @@
--- The definitions, run on worked schedules.
+-- The definitions, evaluated on worked schedules.
 use Rattle.std.proofs.Common.{◌≡◌, ℕ, List, ◌∷◌, [], codes, refl, arith, inl}
 use Rattle.std.specs.Fmt.{digits}
 use Rattle.hex.specs.Hex.{encode_with}
@@ -33,12 +33,12 @@ backs_off : text_of (record { setup = setup_with (0 ∷ 0 ∷ 0 ∷ 3 ∷ 3 ∷ 
 unfolding digits
 backs_off = refl
 
--- five nodes of Raft, of which two may stop
+-- five nodes of Raft, of which two may crash
 of_raft : text_of (record { setup = setup_with (0 ∷ 1 ∷ 2 ∷ 5 ∷ 3 ∷ 4 ∷ 8 ∷ 0 ∷ 1 ∷ 4 ∷ []) [] []; events = Pump ∷ [] }) ≡ codes "iss 1\nmodule raft\nf 2\nepoch 5\nbuckets 3\nbatch 4\nwindow 8\npolicy simple\nclients 1\nkeys 4\nfaulty none\npump\n"
 unfolding digits
 of_raft = refl
 
--- two nodes that do as they like, and their second cores behind the three nodes
+-- two Byzantine nodes; their second cores are numbered after the three nodes
 two_faulty : List NodeId
 two_faulty = record { 0 = 1 } ∷ record { 0 = 2 } ∷ []
 
@@ -50,7 +50,7 @@ five_cores : cores_of (setup_with three two_faulty []) ≡ 5
 unfolding three two_faulty
 five_cores = refl
 
--- words are parted by one space, so two spaces have an empty word between them
+-- words are separated by one space, so two spaces have an empty word between them
 two_spaces : words_of (codes "propose  0") ≡ codes "propose" ∷ [] ∷ codes "0" ∷ []
 two_spaces = refl
 

@@ -1,4 +1,4 @@
--- The line of the faulty nodes: its words are theirs, and it is that of one list.
+-- The line of the faulty nodes determines its list of nodes.
 use Rattle.std.proofs.Common.{◌≡◌, ◌≢◌, ◌∙◌, inl, inr, ℕ, suc, ◌+◌, ◌^◌, ◌<◌, ◌≤◌, List, [], ◌∷◌, ◌++◌, length, get_or, codes, decimal, Option, Some, None, Result, Ok, Err, refl, sym, ap, subst, arith, length-append}
 use Rattle.std.specs.Prelude.{IfOk}
 use Rattle.std.proofs.lemmas.Fmt.{decimal_injective}
@@ -104,7 +104,7 @@ most_is_few Stopping f = omega arith
 
 -- ---- words that are read as nodes
 
--- from where on the next node may be numbered
+-- the least number that the next node may have
 abbrev pub after : ℕ → List NodeId → ℕ
 after from [] = from
 after from (i ∷ is) = after (suc i.0) is
@@ -121,7 +121,7 @@ pub words_push : (is : List NodeId) (x : NodeId) (rest : List (List ℕ)) → no
 words_push [] x rest = refl
 words_push (i ∷ is) x rest = ap (λ (ws : List (List ℕ)). decimal i.0 ∷ ws) (words_push is x rest)
 
--- what is left of nodes of which these are the first
+-- what remains of a list of nodes after a prefix
 record IsLeft (start n : ℕ) (is js : List NodeId) (words : List (List ℕ)) : Type 0 where
   pub left : List NodeId
   pub size : length js ≡ length is + length left
@@ -139,7 +139,7 @@ left_of start n (i ∷ is) (j ∷ js) words le small rising e =
     let rest = left_of (suc i.0) n is js words le small.1 (subst (λ k. AreRising (suc k) n js) same rising.2) tails in
     record { left = rest.left; size = omega (arith, rest.size); same = rest.same; rising = rest.rising }
 
--- no list of nodes in range goes on with this word
+-- no list of nodes in range continues with this word
 pub goes_on_not : (most n : ℕ) (is : List NodeId) (all : List (List ℕ)) (word : List ℕ) (rest : List (List ℕ)) → n ≤ 2 ^ 64 → AreRising 0 n is → all ≡ node_words is ++ word ∷ rest →
     ((k : ℕ) → length is < most → IsWithin (after 0 is) n k → word ≢ decimal k) → (js : List NodeId) → AreFew most n js → all ≢ node_words js
 goes_on_not most n is all word rest le rising text none js few e =
@@ -153,7 +153,7 @@ goes_on_not most n is all word rest le rising text none js few e =
         let head : word ≡ decimal k.0 = cc in
         none k.0 (omega (arith, size, few.0)) (more.0, more.1) head
 
--- one node more
+-- one more node
 pub one_node : (n from x : ℕ) (is more : List NodeId) (all words rest : List (List ℕ)) (word : List ℕ) → more ≡ is ++ record { 0 = x } ∷ [] → words ≡ word ∷ rest → word ≡ decimal x → IsWithin from n x → all ≡ node_words is ++ words → AreRising 0 n is → from ≡ after 0 is →
     (all ≡ node_words more ++ rest) × AreRising 0 n more × (x + 1 ≡ after 0 more) × (length more ≡ length is + 1)
 one_node n from x is more all words rest word pushed cut spelled within text rising here =

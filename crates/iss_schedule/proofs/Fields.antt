@@ -1,4 +1,4 @@
--- Tables of header fields: a text has one list of values, and values that are in range so far can be gone on with.
+-- Tables of header fields. A text has one list of values, and values in range can be extended.
 use Rattle.std.proofs.Common.{◌≡◌, ◌∙◌, ℕ, zero, suc, ◌^◌, ◌<◌, ◌≤◌, Bool, true, not, ◌&&◌, List, [], ◌∷◌, ◌++◌, length, take, get_or, Some, decimal, refl, sym, ap, subst, arith, append_assoc, append-nil, true≢false}
 use Rattle.std.specs.List.{list_all}
 use Rattle.std.proofs.lemmas.Fmt.{decimal_injective}
@@ -10,7 +10,7 @@ use Rattle.iss_schedule.specs.Words.{Lacks}
 use Rattle.iss_schedule.proofs.Blanks.{lacks_test, lacks_by_test, lacks_decimal, lacks_append}
 use Rattle.iss_schedule.proofs.Numbers.{decimal_is_number}
 
--- ---- what a table asks of its fields: texts differ, a text and a name have no line feed, and numbers fit a word
+-- ---- what a table requires of its fields: texts differ, a text and a name have no line feed, and numbers fit a word
 
 abbrev pub all_differ : List (List ℕ) → Bool
 all_differ [] = true
@@ -24,12 +24,12 @@ abbrev pub AreSound : List HeaderField → Type 0
 AreSound [] = Unit {0}
 AreSound (f ∷ fs) = IsSoundField f × AreSound fs
 
--- whatever values stand above, some value is in range
+-- whatever the values above, some value is in range
 abbrev pub Fills : List HeaderField → List ℕ → Type 0
 Fills [] above = Unit {0}
 Fills (f ∷ fs) above = ((v : ℕ) × IsValue f above v) × ((v : ℕ) → IsValue f above v → Fills fs (above ++ v ∷ []))
 
--- values in range of the first fields, and the fields that are left
+-- values in range for the first fields, and the fields that remain
 abbrev pub AreSome : List HeaderField → List ℕ → List ℕ → List HeaderField → Type 0
 AreSome fs above [] left = left ≡ fs
 AreSome [] above (v ∷ vs) left = ⊥
@@ -78,7 +78,7 @@ value_formed (Number name low end) s above line g = let b = s.1 above in (decima
 
 -- ---- all fields
 
--- what stands at a place
+-- the element at an index
 pub record IsAt (fs : List HeaderField) (p : ℕ) (line : List ℕ) : Type 0 where
   pub field : HeaderField
   pub above : List ℕ
@@ -122,7 +122,7 @@ length_some fs above [] left h = ap length (none_read fs)
 length_some [] above (v ∷ vs) left h = absurd h
 length_some (f ∷ fs) above (v ∷ vs) left h = ap suc (length_some fs (above ++ v ∷ []) vs left h.1)
 
--- the field that is left first stands at the place behind the values
+-- the first remaining field is the one at the index after the values
 pub field_behind : (fs : List HeaderField) (above vs : List ℕ) (f : HeaderField) (more : List HeaderField) → AreSome fs above vs (f ∷ more) → nth fs (length vs) ≡ Some f
 field_behind [] above [] f more h = absurd cc
 field_behind (g ∷ fs) above [] f more h = let same : f ≡ g = cc in ap (λ (z : HeaderField). Some z) (sym same)
@@ -157,14 +157,14 @@ some_all (f ∷ fs) above [] h = absurd cc
 some_all [] above (v ∷ vs) h = absurd h
 some_all (f ∷ fs) above (v ∷ vs) h = (h.0, some_all fs (above ++ v ∷ []) vs h.1)
 
--- values in range are so many as there are fields
+-- values in range for all fields are as many as the fields
 pub all_some : (fs : List HeaderField) (above vs : List ℕ) → AreValues fs above vs → AreSome fs above vs []
 all_some [] above [] ok = refl
 all_some [] above (v ∷ vs) ok = absurd (let none : v ∷ vs ≡ [] = ok in cc)
 all_some (f ∷ fs) above [] ok = absurd ok
 all_some (f ∷ fs) above (v ∷ vs) ok = (ok.0, all_some fs (above ++ v ∷ []) vs ok.1)
 
--- ---- values so far are gone on with
+-- ---- values so far are extended
 
 rest_of : (fs : List HeaderField) (above : List ℕ) → Fills fs above → (vs : List ℕ) × AreValues fs above vs
 rest_of [] above h = ([], refl)
@@ -181,7 +181,7 @@ front_of (f ∷ fs) above [] more left others h = refl
 front_of [] above (v ∷ vs) more left others h = absurd h
 front_of (f ∷ fs) above (v ∷ vs) more left others h = ap (λ (ls : List (List ℕ)). spell_value f v ∷ ls) (front_of fs (above ++ v ∷ []) vs more left others h.1)
 
--- of a list whose front is that of the values so far, the next line spells a value in range behind them
+-- If a list extends the values so far, the next line encodes a value in range after them.
 pub next_good : (fs : List HeaderField) → AreSound fs → (above vs ws : List ℕ) (f : HeaderField) (more : List HeaderField) (line : List ℕ) (others : List (List ℕ)) → AreSome fs above vs (f ∷ more) → AreValues fs above ws → lines_of fs vs ++ line ∷ [] ≡ take (length (lines_of fs vs ++ line ∷ [])) (lines_of fs ws ++ others) → IsGoodLine f (above ++ vs) line
 next_good [] s above [] ws f more line others some ok e = absurd cc
 next_good (g ∷ fs) s above [] [] f more line others some ok e = absurd ok

@@ -1,4 +1,4 @@
--- The lines of a schedule in range: none holds a line feed, and each has the form of its place.
+-- The lines of a schedule in range: none contains a line feed, and each has the form of its place.
 use Rattle.std.proofs.Common.{◌≡◌, ◌≢◌, ℕ, zero, suc, ◌^◌, ◌<◌, ◌≤◌, List, [], ◌∷◌, ◌++◌, length, take, map, get_or, Option, Some, decimal, refl, sym, ap, subst, ◌∙◌, arith, append_assoc, length-append, inl, inr}
 use Rattle.std.proofs.Math.Pow.{pow_mono}
 use Rattle.std.proofs.lemmas.Bool.Decides.{leb_tells}
@@ -60,12 +60,12 @@ whole_events s (e ∷ es) good range = (lacks_line (event_words e) (event_lacks 
 pub whole_lines : (s : Schedule) → IsFine s → AreWhole (schedule_lines s)
 whole_lines s fine = whole_append (header_lines s.setup) (map spell_event s.events) (whole_header s.setup fine.setup) (whole_events s.setup s.events fine.setup.good fine.events)
 
--- ---- texts with one front
+-- ---- texts with a common prefix
 
 empty_front : (f : List ℕ) (fs : List (List ℕ)) (rest : List ℕ) → ended (f ∷ fs) ++ rest ≢ []
 empty_front f fs rest e = omega (arith, ap length e, length-append (f ++ 10 ∷ ended fs) rest, length-append f (10 ∷ ended fs))
 
--- what two texts that are one say of their lines: the lines of one go on with those of the other
+-- what two texts that are equal say of their lines: the lines of one continue those of the other
 pub data Meets (xs ys : List (List ℕ)) (r t : List ℕ) : Type 0 where
   Same : xs ≡ ys → r ≡ t → Meets xs ys r t
   Left : (m : List ℕ) (ms : List (List ℕ)) → ys ≡ xs ++ m ∷ ms → r ≡ ended (m ∷ ms) ++ t → Meets xs ys r t
@@ -89,7 +89,7 @@ meets (x ∷ xs) (y ∷ ys) r t h k e =
 core_number : (s : Setup) (core : ℕ) → IsGoodSetup s → core < cores_of s → IsNumber (decimal core)
 core_number s core good ok = decimal_is_number core (omega (arith, cores_fit s good, ok))
 
--- an event in range is spelled as its name asks
+-- an event in range is encoded with the arguments that its name needs
 pub event_line : (s : Setup) (line : List ℕ) (e : Event) → IsGoodSetup s → IsInRange s e → line ≡ spell_event e → IsEventLine line
 event_line s line (Request core client number payload) good ok is =
     let leaves : 2 ^ s.keys ≤ 2 ^ 12 = pow_mono good.keys_high in
@@ -138,13 +138,13 @@ nth_left [] ys k lt = absurd (omega (arith, lt))
 nth_left (x ∷ xs) ys zero lt = refl
 nth_left (x ∷ xs) ys (suc k) lt = nth_left xs ys k (omega (arith, lt))
 
--- a line of the header spells a value of its field
+-- a line of the header encodes a value of its field
 header_at : (s : Schedule) (p : ℕ) (line : List ℕ) → IsFine s → p < 10 → nth (schedule_lines s) p ≡ Some line → IsAt header_fields p line
 header_at s p line fine lt e =
     value_at header_fields fields_sound [] (values_of s.setup) (values_in_range s.setup fine.setup) p line
     (sym (nth_left (lines_of header_fields (values_of s.setup)) (faulty_line s.setup.faulty ∷ map spell_event s.events) p lt) ∙ e)
 
--- and the last names its faulty nodes
+-- the last line of the header names its faulty nodes
 last_at : (s : Schedule) (p : ℕ) (line : List ℕ) → IsFine s → p ≡ 10 → nth (schedule_lines s) p ≡ Some line → HasForm p line
 last_at s p line fine is e =
     let ten : Some (faulty_line s.setup.faulty) ≡ Some line = subst (λ k. nth (schedule_lines s) k ≡ Some line) is e in
@@ -188,7 +188,7 @@ injected_event s (Restart core) args ok is = absurd (other 114 (event_words (Res
 injected_event s (Crash core calls) args ok is = absurd (other 99 (event_words (Crash core calls)) args refl (λ e. omega arith) is)
 injected_event s (Bytes core bytes) args ok is = ok.0
 
--- a schedule that gives bytes to a core is of a module that withstands them
+-- a schedule that injects bytes has a module for Byzantine faults
 pub injection_of : (s : Schedule) (p : ℕ) (line : List ℕ) → IsFine s → 11 ≤ p → nth (schedule_lines s) p ≡ Some line → IsInjection line → s.setup.kind ≡ Byzantine
 injection_of s p line fine le e h =
     let here = event_behind s p line fine le e in

@@ -1,4 +1,4 @@
--- Texts and the lines at their front.
+-- Texts and the lines that are a prefix of them.
 use Rattle.std.proofs.Common.{◌≡◌, ℕ, zero, suc, ◌+◌, ◌<◌, ◌≤◌, List, [], ◌∷◌, ◌++◌, length, take, drop, set, get_or, map, codes, Option, Some, None, Result, refl, sym, ap, subst, ◌∙◌, arith, append_assoc, length-append, inl, inr}
 use Rattle.std.proofs.Math.Seq.{drop-cons}
 use Rattle.std.proofs.lemmas.List.{length-take-le, take_more_set}
@@ -27,13 +27,13 @@ pub ended-append : (xs ys : List (List ℕ)) → ended (xs ++ ys) ≡ ended xs +
 ended-append [] ys = refl
 ended-append (x ∷ xs) ys = ap (λ (t : List ℕ). x ++ 10 ∷ t) (ended-append xs ys) ∙ sym (append_assoc x (10 ∷ ended xs) (ended ys))
 
--- one more line at the front
+-- one more line in the prefix
 pub past : (text : List ℕ) (front : List (List ℕ)) (line rest more : List ℕ) → text ≡ ended front ++ rest → rest ≡ line ++ 10 ∷ more → text ≡ ended (front ++ line ∷ []) ++ more
 past text front line rest more e cut =
     e ∙ ap (λ (t : List ℕ). ended front ++ t) (cut ∙ sym (append_assoc line (10 ∷ []) more)) ∙ sym (append_assoc (ended front) (line ++ 10 ∷ []) more)
     ∙ ap (λ (t : List ℕ). t ++ more) (sym (ended-append front (line ∷ [])))
 
--- the element that stands behind the front
+-- the element that follows the prefix
 pub nth_behind : (front : List (List ℕ)) (line : List ℕ) (lines : List (List ℕ)) → front ++ line ∷ [] ≡ take (length (front ++ line ∷ [])) lines → nth lines (length front) ≡ Some line
 nth_behind [] line [] e = cc
 nth_behind [] line (l ∷ ls) e = cc
@@ -42,7 +42,7 @@ nth_behind (f ∷ fs) line (l ∷ ls) e = let tails : fs ++ line ∷ [] ≡ take
 
 -- ---- headers
 
--- the schedule without events whose header has these values, and no faulty node
+-- the schedule without events and faulty nodes whose header has these values
 abbrev pub empty_schedule : List ℕ → Schedule
 empty_schedule vs = record { setup = setup_made vs []; events = [] }
 
@@ -62,7 +62,7 @@ begun vs left some =
           (front_of header_fields [] vs rest.0 left (codes "faulty none" ∷ []) some);
     }
 
--- the form of a field's line is that of its place
+-- the form of a field's line is the form of its place
 pub form_at : (fs : List HeaderField) (k : ℕ) (f : HeaderField) → nth fs k ≡ Some f → nth (forms_of fs) k ≡ Some (Field f)
 form_at [] k f e = absurd (let none : None ≡ Some f = e in cc)
 form_at (g ∷ fs) zero f e = let same : Some g ≡ Some f = e in ap (λ (z : HeaderField). Some (Field z)) (some-injective g f same)
@@ -91,7 +91,7 @@ line_bad front rest f G short place fits Faulty x = absurd x
 line_bad front rest f G short place fits Injected x = absurd x
 line_bad front rest f G short place fits Size x = absurd x
 
--- behind values in range a field was read amiss
+-- after values in range, a field could not be read
 pub field_bad : (vs : List ℕ) (f : HeaderField) (more : List HeaderField) → AreSome header_fields [] vs (f ∷ more) → (text rest : List ℕ) → text ≡ ended (lines_of header_fields vs) ++ rest → (read : ℕ) → read ≡ suc (length vs) → (why : LineFault) → IsFieldFault f vs rest why → IsFirstBad text read why
 field_bad vs f more some text rest e read count why fault =
     let len = length_some header_fields [] vs (f ∷ more) some in
@@ -109,7 +109,7 @@ field_bad vs f more some text rest e read count why fault =
           why fault;
     }
 
--- the values of so many lines, of which the next is to be read
+-- the values read so far, and the field to read next
 pub next_is : (all : List ℕ) (place : ℕ) → length all ≡ 10 → place < 10 → drop place header_fields ≡ next_field (take place all) ∷ drop (suc place) header_fields
 next_is all place size lt =
     drop-cons header_fields place (OneOf []) lt
@@ -119,7 +119,7 @@ next_is all place size lt =
 pub read_at : (above : List ℕ) (old new : Place) (r : Result ℕ LineFault) (k : ℕ) (f : HeaderField) → length above ≡ k → f ≡ get_or header_fields k (OneOf []) → ReadsField f above old new r → ReadsField (next_field above) above old new r
 read_at above old new r k f e is h = subst (λ (z : HeaderField). ReadsField z above old new r) (is ∙ ap (λ n. get_or header_fields n (OneOf [])) (sym e)) h
 
--- one value more
+-- one more value
 pub one_more : (text all new : List ℕ) (place v : ℕ) (rest left : List ℕ) → length all ≡ 10 → place < 10 → AreSome header_fields [] (take place all) (drop place header_fields) → text ≡ ended (lines_of header_fields (take place all)) ++ rest → rest ≡ spell_value (next_field (take place all)) v ++ 10 ∷ left → IsValue (next_field (take place all)) (take place all) v → new ≡ set all place v → (text ≡ ended (lines_of header_fields (take (place + 1) new)) ++ left) × AreSome header_fields [] (take (place + 1) new) (drop (place + 1) header_fields)
 one_more text all new place v rest left size lt some e cut ok is =
     let vs = take place all in
@@ -154,7 +154,7 @@ pub past_event : (text : List ℕ) (es : List Event) (e : Event) (rest more : Li
 past_event text es e rest more eq cut =
     past text (map spell_event es) (spell_event e) rest more eq cut ∙ ap (λ (ls : List (List ℕ)). ended ls ++ more) (sym (map_push es e))
 
--- a line is shorter than the text that it begins
+-- a line is shorter than a text that begins with it and a line feed
 pub shorter : (line rest more : List ℕ) → rest ≡ line ++ 10 ∷ more → length more < length rest
 shorter line rest more cut = omega (arith, ap length cut, length-append line (10 ∷ more))
 
@@ -165,7 +165,7 @@ events_more s text es more e rest left pushed eq range ok cut =
 
 -- ---- the line of the faulty nodes
 
--- behind ten lines of values in range that line was read amiss
+-- after ten lines with values in range, the line of the faulty nodes could not be read
 pub faulty_bad : (vs : List ℕ) (text rest : List ℕ) (read most n : ℕ) → AreValues header_fields [] vs → text ≡ ended (lines_of header_fields vs) ++ rest → read ≡ 11 → most ≡ most_faulty (row_at (value vs 1)).kind (value vs 2) → n ≡ (setup_with vs [] []).n → (why : LineFault) → IsFaultyLineFault most n rest why → IsFirstBad text read why
 faulty_bad vs text rest read most n ok e count is nodes why fault =
     let len = length_lines header_fields [] vs ok in
@@ -187,7 +187,7 @@ faulty_bad vs text rest read most n ok e count is nodes why fault =
     unformed : (line : List ℕ) → HasForm (length (lines_of header_fields vs)) line → IsFaultyFormed line
     unformed line h = subst (λ k. HasForm k line) size h
 
-    -- a schedule that goes on with a line names its faulty nodes there
+    -- if a schedule continues with this line, the line names its faulty nodes
     taken : (line : List ℕ) → Begins (lines_of header_fields vs ++ line ∷ []) → (js : List NodeId) × (AreFew most n js × (line ≡ faulty_line js))
     taken line b =
         let s = b.schedule.setup in
@@ -212,7 +212,7 @@ faulty_refused vs bytes old most n NoMemory ok text read short is nodes h = tt
 
 -- ---- the header
 
--- the set-up that was made is that of the header that was read
+-- the set-up that was built has the header that was read
 pub made : (vs : List ℕ) (is : List NodeId) (bytes front rest rest' : List ℕ) (s : Setup) → AreValues header_fields [] vs → s ≡ setup_with vs is (sha256 (67 ∷ front)) → ((read : List ℕ) → bytes ≡ read ++ rest' → front ≡ read) → rest' ≡ rest → bytes ≡ ended (lines_of header_fields vs ++ faulty_line is ∷ []) ++ rest → s ≡ setup_made vs is
 made vs is bytes front rest rest' s ok e front_is same text =
     e ∙ ap (λ (t : List ℕ). setup_with vs is (sha256 (67 ∷ t))) (front_is (ended (lines_of header_fields vs ++ faulty_line is ∷ [])) (text ∙ ap (λ (t : List ℕ). ended (lines_of header_fields vs ++ faulty_line is ∷ []) ++ t) (sym same)))

@@ -1,4 +1,4 @@
--- A text with a bad line is that of no schedule, and has one first bad line with one reason.
+-- A text with a bad line is the text of no schedule, and has exactly one first bad line with one reason.
 use Rattle.std.proofs.Common.{◌≡◌, ◌≢◌, ℕ, zero, suc, ◌+◌, ◌<◌, List, [], ◌∷◌, ◌++◌, length, take, drop, map, Some, refl, sym, ap, subst, ◌∙◌, arith, append_assoc, length-append, inl, inr}
 use Rattle.iss_base.specs.Lists.{nth}
 use Rattle.iss_request.specs.declared.setups.Kind.{Kind}
@@ -35,7 +35,7 @@ line_count s = let all = length-append (header_lines s.setup) (map spell_event s
 pub nonempty : (line more : List ℕ) → line ++ 10 ∷ more ≢ []
 nonempty line more e = omega (arith, ap length e, length-append line (10 ∷ more))
 
--- ---- a schedule in range goes on behind the front with the line m
+-- ---- a schedule in range continues the prefix with line m
 
 begins_more : (s : Schedule) (front ms : List (List ℕ)) (m : List ℕ) → IsFine s → schedule_lines s ≡ front ++ m ∷ ms → Begins (front ++ m ∷ [])
 begins_more s front ms m fine is =
@@ -72,7 +72,7 @@ goes_on s front ms m rest tail Faulty fine is whole text bad = next_none s front
 goes_on s front ms m rest tail Injected fine is whole text bad = next_none s front ms m rest tail Injected fine is whole text bad.1
 goes_on s front ms m rest tail Range fine is whole text bad = next_none s front ms m rest tail Range fine is whole text bad.1
 
--- or it ends there, and so does the text
+-- or the line ends there, and so does the text
 next_ends : (front : List (List ℕ)) (rest : List ℕ) (why : LineFault) → rest ≡ [] → (line : List ℕ) × (IsNext line rest × IsFault front line why) → ⊥
 next_ends front rest why none f = nonempty f.0 f.1.0.more (sym f.1.0.text ∙ none)
 
@@ -99,7 +99,7 @@ whole_at : (xs : List (List ℕ)) (y : List ℕ) (ys : List (List ℕ)) → AreW
 whole_at [] y ys h = h.0
 whole_at (x ∷ xs) y ys h = whole_at xs y ys h.1
 
--- the line with its feed, and what follows
+-- the line with its line feed, and what follows
 next_text : (m : List ℕ) (ms : List (List ℕ)) (t : List ℕ) → ended (m ∷ ms) ++ t ≡ m ++ 10 ∷ (ended ms ++ t)
 next_text m ms t = append_assoc m (10 ∷ ended ms) t
 
@@ -116,7 +116,7 @@ refused_none b line why s (inr first) h =
     refused_meets s f.front f.rest why h.fine
     (meets f.front (schedule_lines s) f.rest [] (whole_front f.front f.good) (whole_lines s h.fine) (sym f.text ∙ h.text ∙ sym (nothing (ended (schedule_lines s))))) f.bad
 
--- two faults of one line are one
+-- two faults of one line are equal
 same_fault : (front : List (List ℕ)) (line : List ℕ) (v w : LineFault) → IsFault front line v → IsFault front line w → v ≡ w
 same_fault front line Form Form f g = refl
 same_fault front line Form Faulty f g = absurd (f g.0)
@@ -145,7 +145,7 @@ same_fault front line Injected Size f g = absurd g
 same_fault front line Range Cut f g = absurd g
 same_fault front line Range Size f g = absurd g
 
--- what is wrong with a rest: there is an event too many, or no line is whole, or the next line has a fault
+-- what is wrong with the rest: there is an event too many, no line feed follows, or the next line has a fault
 data Kinds (front : List (List ℕ)) (rest : List ℕ) (why : LineFault) : Type 0 where
   Full : why ≡ Size → length front ≡ 11 + most_events → Kinds front rest why
   Unended : why ≡ Cut → length front < 11 + most_events → Lacks 10 rest → Kinds front rest why
@@ -176,7 +176,7 @@ same_rest : (xs ys : List (List ℕ)) (r t : List ℕ) (v w : LineFault) → xs 
 same_rest xs ys r t v w e f a b =
     same_kinds ys t v w (kinds ys t v (subst (λ (x : List ℕ). IsBadRest ys x v) f (subst (λ (ls : List (List ℕ)). IsBadRest ls r v) e a))) (kinds ys t w b)
 
--- the front of one bad line can't be longer than that of the other
+-- the prefix before one bad line is not longer than the prefix before another
 longer : (xs ys ms : List (List ℕ)) (m r t : List ℕ) (v : LineFault) → Begins ys → ys ≡ xs ++ m ∷ ms → r ≡ ended (m ∷ ms) ++ t → IsBadRest xs r v → ⊥
 longer xs ys ms m r t v b is text bad =
     let s = b.schedule in

@@ -1,4 +1,4 @@
--- A text is that of one schedule.
+-- A text is the text of at most one schedule.
 use Rattle.std.proofs.Common.{◌≡◌, ℕ, ◌+◌, ◌*◌, ◌^◌, ◌<◌, ◌≤◌, List, [], ◌∷◌, ◌++◌, length, take, drop, map, get_or, false, cond, eqb, Result, decimal, refl, sym, ap, subst, ◌∙◌, arith, append_assoc}
 use Rattle.std.proofs.Math.Pow.{pow_mono}
 use Rattle.std.specs.Result.{result_unwrap_or}
@@ -23,7 +23,7 @@ use Rattle.iss_schedule.proofs.OneLine.{nonempty, nothing}
 use Rattle.iss_schedule.proofs.Table.{same_setup}
 use Rattle.iss_schedule.proofs.Twins.{cores_fit}
 
--- ---- events back from their words
+-- ---- events from their words
 
 back_number : List ℕ → ℕ
 back_number w = digits_value 10 w
@@ -43,12 +43,12 @@ bytes_back (b ∷ bs) fits =
     let two : eqb (length (encode_with lower_digits (b ∷ bs))) 1 ≡ false = grind (arith, long) in
     rw two (ap (λ (r : Result (List ℕ) FromHexError). result_unwrap_or r []) (decode_of-encode_lower (b ∷ bs) fits))
 
--- the event of a word, by its length and first letter, with these words behind it
+-- the event with this name (by its length and first letter) and these words as arguments
 abbrev one : (ℕ → Event) → List (List ℕ) → Event
 one f (a ∷ []) = f (back_number a)
 one f _ = Pump
 
--- `request` and `restart` are as long, and begin with one letter
+-- `request` and `restart` have the same length and first letter
 abbrev one_or_four : List (List ℕ) → Event
 one_or_four (a ∷ []) = Restart (back_number a)
 one_or_four (a ∷ b ∷ c ∷ d ∷ []) = Request (back_number a) (back_number b) (back_number c) (back_bytes d)

@@ -24,7 +24,7 @@ pub take_all : (xs : List (List ℕ)) → xs ≡ take (length xs) xs
 take_all [] = refl
 take_all (x ∷ xs) = ap (λ (t : List (List ℕ)). x ∷ t) (take_all xs)
 
--- behind the header stand the lines of events
+-- the lines after the header are events
 pub event_at : (s : Setup) (es : List Event) (k : ℕ) (line : List ℕ) → AreInRange s es → nth (map spell_event es) k ≡ Some line → (e : Event) × (IsInRange s e × (line ≡ spell_event e))
 event_at s [] k line range e = let none : None ≡ Some line = e in cc
 event_at s (x ∷ xs) zero line range e = (x, (range.0, (let some : Some (spell_event x) ≡ Some line = e in cc)))
@@ -35,16 +35,16 @@ nth_right [] ys k le = let same : k - 0 ≡ k = omega arith in ap (nth ys) (sym 
 nth_right (x ∷ xs) ys zero le = absurd (omega arith)
 nth_right (x ∷ xs) ys (suc k) le = let same : suc k - length (x ∷ xs) ≡ k - length xs = omega arith in nth_right xs ys k (omega arith) ∙ ap (nth ys) (sym same)
 
--- a line behind the header of a schedule in range
+-- a line after the header of a schedule in range
 pub event_behind : (s : Schedule) (k : ℕ) (line : List ℕ) → IsFine s → 11 ≤ k → nth (schedule_lines s) k ≡ Some line → (e : Event) × (IsInRange s.setup e × (line ≡ spell_event e))
 event_behind s k line fine le e =
     event_at s.setup s.events (k - 11) line fine.events (sym (nth_right (header_lines s.setup) (map spell_event s.events) k le) ∙ e)
 
--- set-ups whose lines begin alike are the same
+-- set-ups with the same header lines are equal
 same_header : (s : Setup) (t : Schedule) (more : List (List ℕ)) → IsKnown s → IsFine t → header_lines s ++ more ≡ take (length (header_lines s ++ more)) (schedule_lines t) → s ≡ t.setup
 same_header s t more known fine e = same_setup s t.setup known fine.setup (ap (λ (ls : List (List ℕ)). take 11 ls) e)
 
--- ---- a refusal behind the header
+-- ---- a refusal after the header
 
 pub behind_form : (n : ℕ) (line : List ℕ) → 11 ≤ n → HasForm n line → IsEventLine line
 behind_form n line le h = subst (λ (o : Option LineForm). IsFormed o line) (nth-beyond (forms_of header_fields) n le) h
@@ -52,7 +52,7 @@ behind_form n line le h = subst (λ (o : Option LineForm). IsFormed o line) (nth
 pub form_behind : (n : ℕ) (line : List ℕ) → 11 ≤ n → IsEventLine line → HasForm n line
 form_behind n line le h = subst (λ (o : Option LineForm). IsFormed o line) (sym (nth-beyond (forms_of header_fields) n le)) h
 
--- a line that spells no event in range goes on with no schedule
+-- after a line that encodes no event in range, no schedule continues
 no_event : (s : Setup) (lines : List (List ℕ)) (line : List ℕ) → IsKnown s → ((e : Event) → IsInRange s e → line ≢ spell_event e) → Begins ((header_lines s ++ lines) ++ line ∷ []) → ⊥
 no_event s lines line known none begin =
     let front = header_lines s ++ lines in
@@ -116,7 +116,7 @@ bad_rest s text line why known b =
       | inr next ↦ bad_event s (map spell_event b.events) b.rest why known (λ stops. record { begins = begin_events s b.events known b.range b.few; stops = stops }) (omega (arith, next.0)) b.some next.1
     ]
 
--- what was refused behind the header of a text is refused of the text
+-- what is refused after the header of a text is refused for the text
 pub refused_behind : (s : Setup) (bytes rest : List ℕ) (e : ReadError) → IsKnown s → bytes ≡ ended (header_lines s) ++ rest → length bytes ≤ most_bytes → IsEventsRefused s rest e → IsRefused bytes e
 refused_behind s bytes rest (BadLine line why) known text short b = inr (
   short,

@@ -1,4 +1,4 @@
--- The table of modules: what each row keeps, and where a row stands. Nothing here grows with the table.
+-- The table of modules: the invariant of each row, and where a row is. Nothing here grows with the table.
 use Rattle.std.proofs.Common.{◌≡◌, ◌∙◌, inl, inr, ℕ, zero, suc, ◌<◌, ◌≤◌, Bool, true, false, not, ◌&&◌, cond, eqb, leb, List, [], ◌∷◌, length, get_or, refl, sym, ap, subst, arith}
 use Rattle.std.specs.List.{list_all}
 use Rattle.iss_base.proofs.Lists.{and-true, not-true}
@@ -26,7 +26,7 @@ all_below P [] k d t lt = absurd (omega (arith, lt))
 all_below P (r ∷ rs) zero d t lt = (and-true (P r) (list_all P rs) t).0
 all_below P (r ∷ rs) (suc k) d t lt = all_below P rs k d (and-true (P r) (list_all P rs) t).1 (omega (arith, lt))
 
--- ---- what a row keeps
+-- ---- the invariant of a row
 
 pub record IsSoundRow (r : ModuleRow) : Type 0 where
   pub few : r.most_faults ≤ 3
@@ -45,7 +45,7 @@ sound_row r t =
 pub rows_sound : (place : ℕ) → IsSoundRow (row_at place)
 rows_sound place = sound_row (row_at place) (all_at is_sound module_rows place relay_row refl refl)
 
--- ---- where a row stands
+-- ---- where a row is
 
 tail_of : (m : ℕ) (r : ModuleRow) (rs : List ModuleRow) → IsOneOf m (r ∷ rs) → (r.number ≡ m → ⊥) → IsOneOf m rs
 tail_of m r [] h ne = absurd (ne (sym h))
@@ -90,7 +90,7 @@ one_at (r ∷ q ∷ rs) (suc k) d lt = inr (one_at (q ∷ rs) k d (omega (arith,
 
 -- ---- the code's table
 
--- what stands where no module is left
+-- the row for a place past the end
 abbrev pub no_module : Module
 no_module = record { line = record { ref_ptr = (0, 0); now = [] }; number = 0; kind = Byzantine; most_faults = 0 }
 
@@ -108,7 +108,7 @@ see_beyond [] k r le = refl
 see_beyond (m ∷ ms) zero r le = absurd (omega (arith, le))
 see_beyond (m ∷ ms) (suc k) r le = see_beyond ms k r (omega (arith, le))
 
--- the row of a place
+-- the row at a place
 pub seen_at : (ms : List Module) (k : ℕ) (d : Module) → see_all ms ≡ module_rows → k < length ms → see (get_or ms k d) ≡ row_at k
 seen_at ms k d is lt = sym (see_at ms k d relay_row lt) ∙ ap (λ (rs : List ModuleRow). get_or rs k relay_row) is
 
@@ -135,7 +135,7 @@ line_beyond [] k le = refl
 line_beyond (m ∷ ms) zero le = absurd (omega (arith, le))
 line_beyond (m ∷ ms) (suc k) le = line_beyond ms k (omega (arith, le))
 
--- the first module of a number
+-- the first module with a number
 pub place_first : (ms : List Module) (number k : ℕ) (d : Module) → k < length ms → ((j : ℕ) → j < k → (get_or ms j d).number ≡ number → ⊥) → (get_or ms k d).number ≡ number → place_among number (see_all ms) ≡ k
 place_first [] number k d lt none here = absurd (omega (arith, lt))
 place_first (m ∷ ms) number zero d lt none here =

@@ -1,4 +1,4 @@
--- The table of a header: it is sound, it can be gone on with, and set-ups and values determine each other.
+-- The table of a header. It is sound, values can be extended, and set-ups and values determine each other.
 use Rattle.std.proofs.Common.{◌≡◌, ◌∙◌, ℕ, zero, suc, ◌<◌, ◌≤◌, Bool, true, false, cond, eqb, List, [], ◌∷◌, ◌++◌, length, refl, sym, ap, subst, arith}
 use Rattle.sha2.specs.Sha256.{sha256}
 use Rattle.iss_request.specs.Setup.{AreRising, IsGoodSetup, nodes_of_kind, quorum_of_kind}
@@ -17,9 +17,9 @@ use Rattle.iss_schedule.proofs.FaultyNodes.{AreSmall, faulty_few, few_faulty, ri
 use Rattle.iss_schedule.proofs.Fields.{AreSome, AreSound, Fills, one_list}
 use Rattle.iss_schedule.proofs.Rows.{number_of_row, one_at, place_back, place_low, rows_sound}
 
--- ---- bounds that hang on the module
+-- ---- bounds that depend on the module
 
--- how many nodes the module of a place is of
+-- the number of nodes for the module at a place
 abbrev pub nodes_at : ℕ → ℕ → ℕ
 nodes_at place f = (setup_with (0 ∷ place ∷ f ∷ []) [] []).n
 
@@ -118,7 +118,7 @@ known_quorum s h =
     h.good.majority ∙ ap (λ m. cond (eqb m 1) 2 (quorum_of_kind s.kind s.f)) (known_number s h)
     ∙ ap (λ (k : Kind). cond (eqb (row_of s.module).number 1) 2 (quorum_of_kind k s.f)) h.kind
 
--- the values of a set-up and its faulty nodes give it back
+-- the values of a set-up and its faulty nodes determine it
 pub rebuilt : (s : Setup) → IsKnown s → s ≡ setup_with (values_of s) s.faulty s.tag
 unfolding parts
 rebuilt s h =
@@ -174,7 +174,7 @@ pub record AreRead (vs : List ℕ) : Type 0 where
   pub clients_in : IsWithin 1 257 clients
   pub keys_in : IsWithin 2 13 keys
 
--- each value is where the table asks for it
+-- each value is at the index that the table uses
 pub are_read : (vs : List ℕ) → AreValues header_fields [] vs → AreRead vs
 are_read [] h = absurd h
 are_read (a ∷ []) h = absurd h.1
@@ -215,7 +215,7 @@ are_read (a ∷ b ∷ f ∷ e ∷ bu ∷ ba ∷ w ∷ p ∷ c ∷ k ∷ more) h 
 abbrev pub MayFail : List ℕ → List NodeId → Type 0
 MayFail vs is = AreFew (most_faulty (row_at (value vs 1)).kind (value vs 2)) (setup_with vs [] []).n is
 
--- those of a set-up that has a text
+-- the faulty nodes of a set-up that has a text
 pub known_faulty : (s : Setup) → IsKnown s → MayFail (values_of s) s.faulty
 known_faulty s h = (
   subst (λ (k : Kind). length s.faulty ≤ most_faulty k s.f) h.kind (faulty_few s.kind s.f s.faulty h.good.few_faulty),
@@ -252,7 +252,7 @@ good_at m f e b ba w p c k is tag faults epoch buckets batch window clients keys
       rising_faulty = few.1;
     }
 
--- the set-up that values and faulty nodes give, with the tag of its own header
+-- the set-up with these values and faulty nodes, and the tag of its own header
 abbrev pub setup_made : List ℕ → List NodeId → Setup
 setup_made vs is = setup_with vs is (cluster_tag (setup_with vs is []))
 
@@ -283,7 +283,7 @@ values_back vs is tag r =
     (ap (λ (m : ℕ). (let z : List ℕ = 0 ∷ m ∷ r.faults ∷ r.epoch ∷ r.buckets ∷ r.batch ∷ r.window ∷ place_of_policy (policy_at r.policy) ∷ r.clients ∷ r.keys ∷ [] in z)) (place_back r.place r.place_in)
     ∙ ap (λ (p : ℕ). (let z : List ℕ = 0 ∷ r.place ∷ r.faults ∷ r.epoch ∷ r.buckets ∷ r.batch ∷ r.window ∷ p ∷ r.clients ∷ r.keys ∷ [] in z)) (policy_back r.policy r.policy_in))
 
--- the number of faults is small wherever it has been read, and 0 before
+-- the number of faults is small once it is read, and 0 before
 pub few_so_far : (vs : List ℕ) (left : List HeaderField) → AreSome header_fields [] vs left → value vs 2 < 4
 few_so_far [] left h = omega arith
 few_so_far (a ∷ []) left h = omega arith
@@ -293,9 +293,9 @@ few_so_far (a ∷ b ∷ f ∷ vs) left h = omega (arith, h.1.1.0.1, (rows_sound 
 pub few_read : (vs : List ℕ) → AreRead vs → value vs 2 < 4
 few_read vs r = subst (λ (z : List ℕ). value z 2 < 4) (sym r.is) (omega (arith, r.faults_in, (rows_sound r.place).few))
 
--- ---- set-ups with the same lines are the same
+-- ---- set-ups with the same lines are equal
 
--- headers with the same lines have the same values and the same faulty nodes
+-- headers with the same lines have the same values and faulty nodes
 pub same_header_lines : (vs ws : List ℕ) (line line' : List ℕ) → AreValues header_fields [] vs → AreValues header_fields [] ws → lines_of header_fields vs ++ line ∷ [] ≡ lines_of header_fields ws ++ line' ∷ [] → (vs ≡ ws) × (line ≡ line')
 same_header_lines vs ws line line' ok ok' e =
     let ends = last_same (lines_of header_fields vs) (lines_of header_fields ws) line line' e in

@@ -18,7 +18,7 @@ pub line_before : (a b c line tail : List ℕ) → b ≡ a ++ line ++ 10 ∷ [] 
 line_before a b c line tail e f =
     f ∙ ap (λ (t : List ℕ). t ++ tail) e ∙ append_assoc (a ++ line) (10 ∷ []) tail ∙ append_assoc a line (10 ∷ tail)
 
--- one more event behind the lines so far
+-- one more event after the lines so far
 pub event_after : (lines : List (List ℕ)) (es : List Event) (i : ℕ) (e : Event) (a b c : List ℕ) → i < length es → e ≡ get_or es i e → a ≡ ended (lines ++ map spell_event (take i es)) → b ≡ a ++ spell_event e → c ≡ b ++ 10 ∷ [] → c ≡ ended (lines ++ map spell_event (take (i + 1) es))
 event_after lines es i e a b c lt is so_far one two =
     let front = map spell_event (take i es) in

@@ -1,4 +1,4 @@
-//! Texts from outside: bad lines, and worked schedules read and written again.
+//! Texts with bad lines, and worked schedules that are read and written again.
 use iss_schedule::{Event, LineFault, MOST_BYTES, MOST_EVENTS, ReadError, read, write};
 use std::alloc::{AllocError, Global};
 use std::test::Fail;
@@ -6,7 +6,7 @@ use std::test::Fail;
 const HEADER: &str =
     "iss 1\nmodule relay\nf 0\nepoch 3\nbuckets 3\nbatch 4\nwindow 8\npolicy simple\nclients 1\nkeys 4\nfaulty none\n";
 
-// A line number, what is wrong there, and the line that stands there in place of a good one.
+// A line number, what is wrong there, and the line that replaces a good one.
 const BAD_LINES: &str =
     "1 Form iss 2\n1 Form iss 01\n1 Form iss  1\n1 Form iss 1 \n1 Form \n1 Form Iss 1\n1 Form iss 1\r
 2 Form module zab\n2 Form module Raft\n2 Form module\n2 Form module relay x\n3 Range f 1\n3 Form f 00
@@ -45,11 +45,11 @@ const WIDE_HEADER: &str =
 const STRICT_HEADER: &str =
     "iss 1\nmodule relay\nf 0\nepoch 64\nbuckets 256\nbatch 32\nwindow 64\npolicy blacklist\nclients 256\nkeys 12\nfaulty none\n";
 
-// Four nodes of which node 3 has a twin, core 4.
+// Four nodes, of which node 3 has a twin, core 4.
 const TWIN_HEADER: &str =
     "iss 1\nmodule pbft\nf 1\nepoch 4\nbuckets 4\nbatch 4\nwindow 8\npolicy simple\nclients 8\nkeys 6\nfaulty 3\n";
 
-// The events of each worked schedule of `rows/` that is one, parted by semicolons.
+// The events of each worked schedule of `rows/` that can be read, separated by semicolons.
 const WORKED: &str = "request 0 0 0 aa\npropose 0\ndrop 2\ncalm 10\n;\
      request 2 0 2 -\npropose 2\nrequest 0 0 0 -\npropose 0\ncalm 10\n;\
      request 0 0 0 aa\npropose 0\ncalm 10\n;\
@@ -72,7 +72,7 @@ fn why_of(word: &str) -> Why {
     }
 }
 
-// The header with this line in place of the one of this number, and an event behind it.
+// The header with this line in place of line `number`, and an event after it.
 fn text_with(alloc: Global, number: u32, line: &str) -> Result<String, AllocError> {
     let mut text = String::new(alloc);
     let mut at = 0u32;
@@ -95,8 +95,8 @@ fn each_bad_line_is_named(rt: HostRuntime) -> Result<(), Fail> {
             if let Some((why, line)) = rest.split_once(' ') {
                 let number = number.parse::<u32>()?;
                 let text = text_with(rt.alloc(), number, line)?;
-                let refused =
-                    matches!(read(rt.alloc(), text.as_bytes()), Err(ReadError::BadLine { line: at, why: is }) if at == number && is == why_of(why));
+                let refused = matches!(read(rt.alloc(), text.as_bytes()),
+                        Err(ReadError::BadLine { line: at, why: is }) if at == number && is == why_of(why));
                 assert!(rt; refused, "at {case}");
                 count = count.saturating_add(1);
             }
@@ -144,7 +144,7 @@ fn lines_that_are_cut_and_bytes_that_are_no_text(rt: HostRuntime) -> Result<(), 
     Ok(())
 }
 
-// Whether what is read of this schedule is written as it was.
+// Whether reading and writing this schedule gives the same text.
 fn is_written_back(alloc: Global, header: &str, events: &str) -> Result<bool, Fail> {
     let mut text = String::from_str(alloc, header)?;
     text.push_str(events)?;
@@ -168,7 +168,7 @@ fn worked_schedules_are_written_as_they_were_read(rt: HostRuntime) -> Result<(),
     Ok(())
 }
 
-// Whether the events are a crash of core 2 behind so many calls, and a restart of it.
+// Whether the events are a crash of core 2 after this many calls, and its restart.
 fn are_crash_and_restart(events: &[Event], passed: u32) -> bool {
     match events {
         [Event::Crash { core, calls }, Event::Restart { core: again }] => {
@@ -256,7 +256,7 @@ fn a_schedule_holds_what_its_text_says(rt: HostRuntime) -> Result<(), Fail> {
     Ok(())
 }
 
-// A text of so many bytes: the header, lines of 16 bytes, and a last line that fills it up.
+// A text of this many bytes: the header, lines of 16 bytes, and a last line of the remaining length.
 fn text_of_bytes(alloc: Global, bytes: usize) -> Result<String, AllocError> {
     let mut text = String::from_str(alloc, HEADER)?;
     let lines = bytes.saturating_sub(HEADER.len()).saturating_sub(10) / 16;
@@ -271,7 +271,7 @@ fn text_of_bytes(alloc: Global, bytes: usize) -> Result<String, AllocError> {
     Ok(text)
 }
 
-// A text of so many events.
+// A text of this many events.
 fn text_of_events(alloc: Global, events: usize) -> Result<String, AllocError> {
     let mut text = String::from_str(alloc, HEADER)?;
     for _ in 0..events {

@@ -5,7 +5,7 @@ use Rattle.iss_schedule.specs.Words.{word_of}
 use Rattle.iss_schedule.proofs.HexWords.{word_injective}
 use Rattle.iss_schedule.proofs.events.payload_in.Goals as goal
 
--- bytes that are too long are the only ones that the word spells
+-- a word of too many bytes encodes no other bytes
 long : (o : Option (List ℕ)) (xs ys : List ℕ) (ws : List (List ℕ)) → o ≡ Some xs → Reads (λ bytes. word_of bytes ∷ []) IsBytes ws o → 256 < length xs → IsBytes ys → length ys ≤ 256 → ws ≡ word_of ys ∷ [] → ⊥
 long (Some zs) xs ys ws is h over fits short e =
     let both : word_of zs ∷ [] ≡ word_of ys ∷ [] = sym h.0 ∙ e in

@@ -6,7 +6,7 @@ use Rattle.iss_schedule.specs.Places.{Place, ReadsField}
 use Rattle.iss_schedule.proofs.Fronts.{read_at}
 use Rattle.iss_schedule.proofs.header.read_field.Goals as goal
 
--- bounds that are counted from the values above
+-- bounds computed from the values above
 number_at : (name : List ℕ) (low end : List ℕ → ℕ) (l e : ℕ) (above : List ℕ) (old new : Place) (r : Result ℕ LineFault) → l ≡ low above → e ≡ end above →
     ReadsField (Number name (λ _. l) (λ _. e)) above old new r → ReadsField (Number name low end) above old new r
 number_at name low end l e above old new r is is' h =
