@@ -11,8 +11,8 @@ use Rattle.iss_schedule.specs.Cores.{cores_of}
 use Rattle.iss_schedule.specs.Headers.{faulty_line, setup_with}
 use Rattle.iss_schedule.specs.Schedules.{text_of}
 use Rattle.iss_schedule.specs.Words.{words_of}
-use Rattle.iss_schedule.proofs.Blanks.{lacks_by_test}
-use Rattle.iss_schedule.proofs.Fronts.{empty_schedule, fine_header}
+use Rattle.iss_schedule.proofs.Encoding.NoSeparatorInWords.{lacks_by_test}
+use Rattle.iss_schedule.proofs.BadLines.PrefixesAreRead.{empty_schedule, fine_header}
 
 three : List ℕ
 three = 0 ∷ 0 ∷ 0 ∷ 3 ∷ 3 ∷ 4 ∷ 8 ∷ 0 ∷ 1 ∷ 4 ∷ []

@@ -1,5 +1,5 @@
 use Rattle.std.proofs.Common.{◌∙◌, sym}
-use Rattle.iss_schedule.proofs.Blanks.{line_reads, no_name}
+use Rattle.iss_schedule.proofs.Encoding.NoSeparatorInWords.{line_reads, no_name}
 use Rattle.iss_schedule.proofs.events.event_of.Goals as goal
 
 pub returns-in_default-name_of : goal.returns-in_default-name_of

@@ -2,7 +2,7 @@ use Rattle.std.proofs.Common.{◌<◌, ◌≤◌, ◌≡◌, ◌∷◌, ◌∙�
 use Rattle.hex.specs.Hex.{IsBytes}
 use Rattle.iss_schedule.specs.Reads.{Reads}
 use Rattle.iss_schedule.specs.Words.{word_of}
-use Rattle.iss_schedule.proofs.HexWords.{word_injective}
+use Rattle.iss_schedule.proofs.Encoding.HexIsInjective.{word_injective}
 use Rattle.iss_schedule.proofs.events.payload_in.Goals as goal
 
 -- a word of too many bytes encodes no other bytes

@@ -1,6 +1,6 @@
 use Rattle.std.proofs.Common.{rules, sym, ◌∙◌}
 use Rattle.std.proofs.lemmas.Bool.{iff_false}
-use Rattle.iss_schedule.proofs.Arguments.{faulty_words}
+use Rattle.iss_schedule.proofs.Encoding.ArgumentsAreRead.{faulty_words}
 use Rattle.iss_schedule.proofs.faulty.names_faulty.Goals as goal
 
 pub returns : goal.returns

@@ -1,7 +1,7 @@
 use Rattle.std.proofs.Common.{◌∙◌, ◌++◌, List, ℕ, ap, arith, subst, sym}
 use Rattle.iss_schedule.specs.Headers.{node_words}
 use Rattle.iss_schedule.specs.Reads.{IsWithin}
-use Rattle.iss_schedule.proofs.FaultyNodes.{goes_on_not, one_node}
+use Rattle.iss_schedule.proofs.HeaderTable.LineDeterminesFaultyNodes.{goes_on_not, one_node}
 use Rattle.iss_schedule.proofs.faulty.nodes_in.Goals as goal
 
 pub returns-then-left-eq0 : goal.returns-then-left-eq0

@@ -1,6 +1,6 @@
 use Rattle.std.proofs.Common.{◌∙◌, arith, rules, sym}
 use Rattle.std.proofs.lemmas.Bool.{iff_false}
-use Rattle.iss_schedule.proofs.FaultyNodes.{faulty_reads, faulty_unread, no_words}
+use Rattle.iss_schedule.proofs.HeaderTable.LineDeterminesFaultyNodes.{faulty_reads, faulty_unread, no_words}
 use Rattle.iss_schedule.proofs.faulty.nodes_of.Goals as goal
 
 pub returns-then-is_done : goal.returns-then-is_done

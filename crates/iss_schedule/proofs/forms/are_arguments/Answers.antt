@@ -1,6 +1,6 @@
 use Rattle.std.proofs.Common.{arith, rules, true, false, ◌≡◌}
 use Rattle.std.proofs.lemmas.Bool.{false≢true, iff_false}
-use Rattle.iss_schedule.proofs.Arguments.{too_few, next_argument}
+use Rattle.iss_schedule.proofs.Encoding.ArgumentsAreRead.{too_few, next_argument}
 use Rattle.iss_schedule.proofs.forms.are_arguments.Goals as goal
 
 pub returns-in_default : goal.returns-in_default

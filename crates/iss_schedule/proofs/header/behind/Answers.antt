@@ -1,5 +1,5 @@
 use Rattle.std.proofs.lemmas.Bool.{iff_false}
-use Rattle.iss_schedule.proofs.Cuts.{uncut, behind_same}
+use Rattle.iss_schedule.proofs.Encoding.SplitsAreUnique.{uncut, behind_same}
 use Rattle.iss_schedule.proofs.header.behind.Goals as goal
 
 pub returns-in_default-clause-none : goal.returns-in_default-clause-none

@@ -1,7 +1,7 @@
 use Rattle.std.proofs.Common.{sym, decimal, subst}
 use Rattle.std.proofs.lemmas.Bool.{iff_false}
 use Rattle.iss_schedule.specs.Words.{IsNumber}
-use Rattle.iss_schedule.proofs.Cuts.{behind_same}
+use Rattle.iss_schedule.proofs.Encoding.SplitsAreUnique.{behind_same}
 use Rattle.iss_schedule.proofs.header.number.Goals as goal
 
 pub returns-then-is_number-clause-reads : goal.returns-then-is_number-clause-reads

@@ -3,7 +3,7 @@ use Rattle.iss_schedule.specs.declared.errors.LineFault.{LineFault}
 use Rattle.iss_schedule.specs.declared.errors.LineFault.TheVariants.{Cut, Form, Faulty, Injected, Range, Size}
 use Rattle.iss_schedule.specs.Headers.{Number, OneOf, header_fields, row_at, setup_with, value}
 use Rattle.iss_schedule.specs.Places.{Place, ReadsField}
-use Rattle.iss_schedule.proofs.Fronts.{read_at}
+use Rattle.iss_schedule.proofs.BadLines.PrefixesAreRead.{read_at}
 use Rattle.iss_schedule.proofs.header.read_field.Goals as goal
 
 -- bounds computed from the values above

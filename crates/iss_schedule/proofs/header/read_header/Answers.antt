@@ -1,8 +1,8 @@
 use Rattle.std.proofs.Common.{◌∙◌, arith, refl, set}
 use Rattle.std.proofs.lemmas.List.{length-set}
 use Rattle.std.proofs.lemmas.Result.{err_from_is_err_and}
-use Rattle.iss_schedule.proofs.Fronts.{one_more, read_amiss}
-use Rattle.iss_schedule.proofs.Table.{few_so_far}
+use Rattle.iss_schedule.proofs.BadLines.PrefixesAreRead.{one_more, read_amiss}
+use Rattle.iss_schedule.proofs.HeaderTable.ValuesDetermineSetup.{few_so_far}
 use Rattle.iss_schedule.proofs.header.read_header.Goals as goal
 
 pub returns-in_err-value-clause-bad : goal.returns-in_err-value-clause-bad

@@ -1,5 +1,5 @@
 use Rattle.std.proofs.Common.{arith}
-use Rattle.iss_schedule.proofs.Rows.{line_first, line_none, no_module}
+use Rattle.iss_schedule.proofs.HeaderTable.ModuleRows.{line_first, line_none, no_module}
 use Rattle.iss_schedule.proofs.modules.line_in.Goals as goal
 
 pub returns-then-all-place : goal.returns-then-all-place

@@ -1,5 +1,5 @@
 use Rattle.std.proofs.Common.{arith}
-use Rattle.iss_schedule.proofs.Rows.{no_module, seen_at, seen_first}
+use Rattle.iss_schedule.proofs.HeaderTable.ModuleRows.{no_module, seen_at, seen_first}
 use Rattle.iss_schedule.proofs.modules.module_at.Goals as goal
 
 pub returns-then-place-all : goal.returns-then-place-all

@@ -2,7 +2,7 @@ use Rattle.std.proofs.Common.{◌≡◌, ◌∙◌, suc, [], get_or, arith, sym,
 use Rattle.std.proofs.lemmas.Bool.{iff_false}
 use Rattle.std.proofs.lemmas.Bool.Decides.{leb_tells}
 use Rattle.iss_schedule.specs.Headers.{lines_of_rows, see_all}
-use Rattle.iss_schedule.proofs.Rows.{length_lines_of, line_at, no_module}
+use Rattle.iss_schedule.proofs.HeaderTable.ModuleRows.{length_lines_of, line_at, no_module}
 use Rattle.iss_schedule.proofs.modules.place_in.Goals as goal
 
 pub returns-then-is_same : goal.returns-then-is_same

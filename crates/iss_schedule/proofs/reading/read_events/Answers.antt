@@ -1,5 +1,5 @@
 use Rattle.std.proofs.Common.{arith}
-use Rattle.iss_schedule.proofs.Fronts.{events_more}
+use Rattle.iss_schedule.proofs.BadLines.PrefixesAreRead.{events_more}
 use Rattle.iss_schedule.proofs.reading.read_events.Goals as goal
 
 pub lines-preserved : goal.lines-preserved

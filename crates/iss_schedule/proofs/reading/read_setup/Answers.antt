@@ -3,7 +3,7 @@ use Rattle.std.proofs.lemmas.Result.{err_from_is_err_and}
 use Rattle.iss_schedule.specs.Headers.{faulty_line, header_fields, lines_of, row_at, value}
 use Rattle.iss_schedule.specs.Places.{AreFew, Place, most_faulty}
 use Rattle.iss_schedule.specs.Words.{ended}
-use Rattle.iss_schedule.proofs.Fronts.{faulty_refused, known_made, made, past, text_made}
+use Rattle.iss_schedule.proofs.BadLines.PrefixesAreRead.{faulty_refused, known_made, made, past, text_made}
 use Rattle.iss_schedule.proofs.reading.read_setup.Goals as goal
 
 pub returns-in_err-faulty-clause-bad : goal.returns-in_err-faulty-clause-bad

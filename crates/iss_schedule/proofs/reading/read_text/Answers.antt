@@ -1,7 +1,7 @@
 use Rattle.std.proofs.Common.{arith}
 use Rattle.std.proofs.lemmas.Result.{err_from_is_err_and}
-use Rattle.iss_schedule.proofs.Fronts.{schedule_read}
-use Rattle.iss_schedule.proofs.Refusals.{refused_behind}
+use Rattle.iss_schedule.proofs.BadLines.PrefixesAreRead.{schedule_read}
+use Rattle.iss_schedule.proofs.BadLines.RefusedLines.{refused_behind}
 use Rattle.iss_schedule.proofs.reading.read_text.Goals as goal
 
 pub returns-in_err-events-clause-bad : goal.returns-in_err-events-clause-bad

@@ -1,7 +1,7 @@
 use Rattle.std.proofs.Common.{length, sym, ap, ◌∙◌, arith, inl, inr}
 use Rattle.std.proofs.lemmas.Bool.{iff_false, eqb-true, eqb-false}
 use Rattle.hex.proofs.HexLemmas.{decode_of-same}
-use Rattle.iss_schedule.proofs.HexWords.{word_is_long, decoded, is_word, is_encoding}
+use Rattle.iss_schedule.proofs.Encoding.HexIsInjective.{word_is_long, decoded, is_word, is_encoding}
 use Rattle.hex.specs.Hex.{encode_lower}
 use Rattle.iss_schedule.proofs.words.bytes_of.Goals as goal
 

@@ -1,5 +1,5 @@
 use Rattle.std.proofs.Common.{arith}
-use Rattle.iss_schedule.proofs.Cuts.{lacks_take, lacks_all}
+use Rattle.iss_schedule.proofs.Encoding.SplitsAreUnique.{lacks_take, lacks_all}
 use Rattle.iss_schedule.proofs.words.cut_at.Goals as goal
 
 pub returns-then-b-byte-clause-first : goal.returns-then-b-byte-clause-first

@@ -1,7 +1,7 @@
 use Rattle.std.proofs.Common.{◌∙◌, ap, sym, decimal}
 use Rattle.std.proofs.lemmas.Bool.{iff_false}
 use Rattle.std.specs.declared.num.ParseIntError.{ParseIntError}
-use Rattle.iss_schedule.proofs.Numbers.{read_same, read_some, decimal_is_text}
+use Rattle.iss_schedule.proofs.Encoding.DecimalIsInjective.{read_same, read_some, decimal_is_text}
 use Rattle.iss_schedule.proofs.words.number_of.Goals as goal
 
 pub returns-in-Err-clause-none : goal.returns-in-Err-clause-none

@@ -1,6 +1,6 @@
 use Rattle.std.proofs.Common.{◌<◌, ◌^◌, ◌∙◌, arith, rules, sym}
 use Rattle.std.proofs.lemmas.Bool.{iff_false}
-use Rattle.iss_schedule.proofs.Numbers.{outside}
+use Rattle.iss_schedule.proofs.Encoding.DecimalIsInjective.{outside}
 use Rattle.iss_schedule.proofs.words.number_within.Goals as goal
 
 pub returns-else-is_within : goal.returns-else-is_within

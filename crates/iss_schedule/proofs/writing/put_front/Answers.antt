@@ -1,7 +1,7 @@
 use Rattle.std.proofs.Common.{◌≡◌, ◌∙◌, ◌∷◌, ◌++◌, [], ℕ, List, codes, get_or, refl, ap, append_assoc}
 use Rattle.std.proofs.lemmas.Result.{on_ok_weaker}
 use Rattle.iss_schedule.specs.Headers.{field, lines_of_rows, module_rows, place_among}
-use Rattle.iss_schedule.proofs.Written.{line_before, field_before}
+use Rattle.iss_schedule.proofs.Encoding.TextIsWritten.{line_before, field_before}
 use Rattle.iss_schedule.proofs.writing.put_front.Goals as goal
 
 pub returns : goal.returns

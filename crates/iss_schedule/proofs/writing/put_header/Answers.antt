@@ -1,7 +1,7 @@
 use Rattle.std.proofs.Common.{◌≡◌, ◌++◌, ◌∷◌, []}
 use Rattle.std.proofs.lemmas.Result.{on_ok_weaker}
 use Rattle.iss_schedule.specs.Headers.{faulty_line}
-use Rattle.iss_schedule.proofs.Written.{header_written}
+use Rattle.iss_schedule.proofs.Encoding.TextIsWritten.{header_written}
 use Rattle.iss_schedule.proofs.writing.put_header.Goals as goal
 
 pub returns : goal.returns

@@ -1,5 +1,5 @@
 use Rattle.std.proofs.Common.{arith, codes}
-use Rattle.iss_schedule.proofs.Written.{node_after}
+use Rattle.iss_schedule.proofs.Encoding.TextIsWritten.{node_after}
 use Rattle.iss_schedule.proofs.writing.put_nodes.Goals as goal
 
 pub loop-node-preserved : goal.loop-node-preserved

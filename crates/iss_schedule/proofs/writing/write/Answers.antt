@@ -3,7 +3,7 @@ use Rattle.iss_schedule.specs.declared.schedules.Event.{Event}
 use Rattle.iss_schedule.specs.Events.{spell_event}
 use Rattle.iss_schedule.specs.Schedules.{header_lines}
 use Rattle.iss_schedule.specs.Words.{ended}
-use Rattle.iss_schedule.proofs.Written.{event_after, events_all}
+use Rattle.iss_schedule.proofs.Encoding.TextIsWritten.{event_after, events_all}
 use Rattle.iss_schedule.proofs.writing.write.Goals as goal
 
 pub loop-event-preserved : goal.loop-event-preserved

@@ -1,5 +1,5 @@
 use Rattle.std.proofs.Common.{rules, true, ◌≡◌, sym}
-use Rattle.iss_schedule.proofs.Cuts.{words_next, words_last}
+use Rattle.iss_schedule.proofs.Encoding.SplitsAreUnique.{words_next, words_last}
 use Rattle.iss_schedule.proofs.words.Words.next.Goals as goal
 
 pub returns-in-Some-clause-some : goal.returns-in-Some-clause-some

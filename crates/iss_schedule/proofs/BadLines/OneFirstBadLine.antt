@@ -12,9 +12,9 @@ use Rattle.iss_schedule.specs.BadLines.{Begins, IsNext, IsFault, IsBadRest, IsBa
 use Rattle.iss_schedule.specs.Events.{spell_event}
 use Rattle.iss_schedule.specs.Schedules.{header_lines, schedule_lines, IsFine, IsSchedule, most_events}
 use Rattle.iss_schedule.specs.Words.{Lacks, ended}
-use Rattle.iss_schedule.proofs.Cuts.{cut_same, no_cut}
-use Rattle.iss_schedule.proofs.Forming.{AreWhole, whole_take, whole_lines, Meets, Same, Left, Right, meets, formed, injection_of, same_front}
-use Rattle.iss_schedule.proofs.Refusals.{form_behind, length_spelled}
+use Rattle.iss_schedule.proofs.Encoding.SplitsAreUnique.{cut_same, no_cut}
+use Rattle.iss_schedule.proofs.BadLines.LinesHaveTheirForm.{AreWhole, whole_take, whole_lines, Meets, Same, Left, Right, meets, formed, injection_of, same_front}
+use Rattle.iss_schedule.proofs.BadLines.RefusedLines.{form_behind, length_spelled}
 
 nth_at : (xs : List (List ℕ)) (y : List ℕ) (ys : List (List ℕ)) → nth (xs ++ y ∷ ys) (length xs) ≡ Some y
 nth_at [] y ys = refl

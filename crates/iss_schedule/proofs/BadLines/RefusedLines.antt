@@ -17,8 +17,8 @@ use Rattle.iss_schedule.specs.Headers.{header_fields}
 use Rattle.iss_schedule.specs.Places.{IsEventBad, IsEventsBad, IsEventsRefused}
 use Rattle.iss_schedule.specs.Schedules.{header_lines, schedule_lines, IsKnown, IsFine, most_events, most_bytes}
 use Rattle.iss_schedule.specs.Words.{ended}
-use Rattle.iss_schedule.proofs.Fronts.{ended-append, nth_behind}
-use Rattle.iss_schedule.proofs.Table.{same_setup}
+use Rattle.iss_schedule.proofs.BadLines.PrefixesAreRead.{ended-append, nth_behind}
+use Rattle.iss_schedule.proofs.HeaderTable.ValuesDetermineSetup.{same_setup}
 
 pub take_all : (xs : List (List ℕ)) → xs ≡ take (length xs) xs
 take_all [] = refl

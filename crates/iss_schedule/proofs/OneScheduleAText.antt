@@ -17,11 +17,11 @@ use Rattle.iss_schedule.specs.Cores.{cores_of}
 use Rattle.iss_schedule.specs.Events.{event_words, spell_event, IsInRange, AreInRange}
 use Rattle.iss_schedule.specs.Schedules.{header_lines, schedule_lines, IsFine, IsSchedule}
 use Rattle.iss_schedule.specs.Words.{word_of, ended}
-use Rattle.iss_schedule.proofs.Blanks.{event_spelled}
-use Rattle.iss_schedule.proofs.Forming.{whole_lines, Meets, Same, Left, Right, meets}
-use Rattle.iss_schedule.proofs.OneLine.{nonempty, nothing}
-use Rattle.iss_schedule.proofs.Table.{same_setup}
-use Rattle.iss_schedule.proofs.Twins.{cores_fit}
+use Rattle.iss_schedule.proofs.Encoding.NoSeparatorInWords.{event_spelled}
+use Rattle.iss_schedule.proofs.BadLines.LinesHaveTheirForm.{whole_lines, Meets, Same, Left, Right, meets}
+use Rattle.iss_schedule.proofs.BadLines.OneFirstBadLine.{nonempty, nothing}
+use Rattle.iss_schedule.proofs.HeaderTable.ValuesDetermineSetup.{same_setup}
+use Rattle.iss_schedule.proofs.CoreCount.{cores_fit}
 
 -- ---- events from their words
 

@@ -8,7 +8,7 @@ use Rattle.iss_schedule.specs.Events.{spell_event}
 use Rattle.iss_schedule.specs.Headers.{faulty_line, field, node_words}
 use Rattle.iss_schedule.specs.Schedules.{header_lines}
 use Rattle.iss_schedule.specs.Words.{ended, line_of}
-use Rattle.iss_schedule.proofs.Fronts.{ended-append, map_push}
+use Rattle.iss_schedule.proofs.BadLines.PrefixesAreRead.{ended-append, map_push}
 
 -- what follows a text, and what follows a line
 pub text_before : (a b c text tail : List ℕ) → b ≡ a ++ text → c ≡ b ++ tail → c ≡ a ++ (text ++ tail)

@@ -12,8 +12,8 @@ use Rattle.iss_schedule.specs.Headers.{faulty_line, node_words}
 use Rattle.iss_schedule.specs.Places.{AreFew, most_faulty}
 use Rattle.iss_schedule.specs.Reads.{IsWithin, Reads}
 use Rattle.iss_schedule.specs.Words.{Lacks, line_of, words_of}
-use Rattle.iss_schedule.proofs.Blanks.{AllLack, lacks_by_test, lacks_decimal, lacks_line, words_of-line_of}
-use Rattle.iss_schedule.proofs.Numbers.{decimal_is_number}
+use Rattle.iss_schedule.proofs.Encoding.NoSeparatorInWords.{AllLack, lacks_by_test, lacks_decimal, lacks_line, words_of-line_of}
+use Rattle.iss_schedule.proofs.Encoding.DecimalIsInjective.{decimal_is_number}
 
 abbrev pub AreSmall : List NodeId → Type 0
 AreSmall [] = Unit {0}

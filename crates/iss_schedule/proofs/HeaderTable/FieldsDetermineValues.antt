@@ -7,8 +7,8 @@ use Rattle.iss_base.proofs.Lists.{and-true, not-true, same_bytes-refl, some-inje
 use Rattle.iss_schedule.specs.Forms.{IsFieldFormed}
 use Rattle.iss_schedule.specs.Headers.{HeaderField, OneOf, Number, IsValue, IsGoodLine, AreValues, spell_value, lines_of}
 use Rattle.iss_schedule.specs.Words.{Lacks}
-use Rattle.iss_schedule.proofs.Blanks.{lacks_test, lacks_by_test, lacks_decimal, lacks_append}
-use Rattle.iss_schedule.proofs.Numbers.{decimal_is_number}
+use Rattle.iss_schedule.proofs.Encoding.NoSeparatorInWords.{lacks_test, lacks_by_test, lacks_decimal, lacks_append}
+use Rattle.iss_schedule.proofs.Encoding.DecimalIsInjective.{decimal_is_number}
 
 -- ---- what a table requires of its fields: texts differ, a text and a name have no line feed, and numbers fit a word
 

@@ -20,8 +20,8 @@ use Rattle.iss_schedule.specs.Events.{event_words, spell_event, IsInRange}
 use Rattle.iss_schedule.specs.Names.{text_of_name}
 use Rattle.iss_schedule.specs.Reads.{Reads}
 use Rattle.iss_schedule.specs.Words.{Lacks, words_of, line_of, word_of}
-use Rattle.iss_schedule.proofs.Cuts.{lacks_all, words_at, words_none}
-use Rattle.iss_schedule.proofs.Twins.{cores_fit}
+use Rattle.iss_schedule.proofs.Encoding.SplitsAreUnique.{lacks_all, words_at, words_none}
+use Rattle.iss_schedule.proofs.CoreCount.{cores_fit}
 
 -- a line has a word, and no word contains the byte
 abbrev pub AllLack : ℕ → List (List ℕ) → Type 0

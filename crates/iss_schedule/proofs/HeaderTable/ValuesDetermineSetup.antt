@@ -13,9 +13,9 @@ use Rattle.iss_schedule.specs.Places.{AreFew, most_faulty}
 use Rattle.iss_schedule.specs.Reads.{IsWithin}
 use Rattle.iss_schedule.specs.Schedules.{IsKnown, cluster_tag, header_lines}
 use Rattle.iss_schedule.specs.Words.{ended}
-use Rattle.iss_schedule.proofs.FaultyNodes.{AreSmall, faulty_few, few_faulty, rising_small, same_faulty}
-use Rattle.iss_schedule.proofs.Fields.{AreSome, AreSound, Fills, one_list}
-use Rattle.iss_schedule.proofs.Rows.{number_of_row, one_at, place_back, place_low, rows_sound}
+use Rattle.iss_schedule.proofs.HeaderTable.LineDeterminesFaultyNodes.{AreSmall, faulty_few, few_faulty, rising_small, same_faulty}
+use Rattle.iss_schedule.proofs.HeaderTable.FieldsDetermineValues.{AreSome, AreSound, Fills, one_list}
+use Rattle.iss_schedule.proofs.HeaderTable.ModuleRows.{number_of_row, one_at, place_back, place_low, rows_sound}
 
 -- ---- bounds that depend on the module
 

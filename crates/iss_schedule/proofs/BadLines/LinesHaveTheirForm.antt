@@ -18,15 +18,15 @@ use Rattle.iss_schedule.specs.Headers.{HeaderField, AreValues, faulty_line, head
 use Rattle.iss_schedule.specs.Names.{text_of_name}
 use Rattle.iss_schedule.specs.Schedules.{header_lines, schedule_lines, IsFine, IsKnown}
 use Rattle.iss_schedule.specs.Words.{IsNumber, Lacks, ended}
-use Rattle.iss_schedule.proofs.Blanks.{feed, lacks_line, event_lacks, event_spelled}
-use Rattle.iss_schedule.proofs.Cuts.{cut_same}
-use Rattle.iss_schedule.proofs.FaultyNodes.{faulty_formed, faulty_whole}
-use Rattle.iss_schedule.proofs.Fields.{AreSound, IsAt, value_at, value_formed, value_whole}
-use Rattle.iss_schedule.proofs.Fronts.{form_at}
-use Rattle.iss_schedule.proofs.Numbers.{decimal_is_number}
-use Rattle.iss_schedule.proofs.Refusals.{event_behind, form_behind}
-use Rattle.iss_schedule.proofs.Table.{fields_sound, same_setup, small_faulty, values_in_range}
-use Rattle.iss_schedule.proofs.Twins.{cores_fit}
+use Rattle.iss_schedule.proofs.Encoding.NoSeparatorInWords.{feed, lacks_line, event_lacks, event_spelled}
+use Rattle.iss_schedule.proofs.Encoding.SplitsAreUnique.{cut_same}
+use Rattle.iss_schedule.proofs.HeaderTable.LineDeterminesFaultyNodes.{faulty_formed, faulty_whole}
+use Rattle.iss_schedule.proofs.HeaderTable.FieldsDetermineValues.{AreSound, IsAt, value_at, value_formed, value_whole}
+use Rattle.iss_schedule.proofs.BadLines.PrefixesAreRead.{form_at}
+use Rattle.iss_schedule.proofs.Encoding.DecimalIsInjective.{decimal_is_number}
+use Rattle.iss_schedule.proofs.BadLines.RefusedLines.{event_behind, form_behind}
+use Rattle.iss_schedule.proofs.HeaderTable.ValuesDetermineSetup.{fields_sound, same_setup, small_faulty, values_in_range}
+use Rattle.iss_schedule.proofs.CoreCount.{cores_fit}
 
 -- ---- no line feed
 

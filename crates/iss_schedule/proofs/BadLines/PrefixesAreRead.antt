@@ -20,8 +20,8 @@ use Rattle.iss_schedule.specs.Headers.{HeaderField, OneOf, header_fields, AreVal
 use Rattle.iss_schedule.specs.Places.{AreFew, Place, IsFieldFault, IsLineFault, IsFaultyLineFault, IsFaultyRefused, ReadsField, most_faulty}
 use Rattle.iss_schedule.specs.Schedules.{header_lines, schedule_lines, cluster_tag, IsKnown, IsFine, IsSchedule, most_events, most_bytes}
 use Rattle.iss_schedule.specs.Words.{ended}
-use Rattle.iss_schedule.proofs.Fields.{AreSome, all_some, field_behind, front_of, gone_on, length_lines, length_some, lines_more, next_good, some_more}
-use Rattle.iss_schedule.proofs.Table.{MayFail, are_read, fields_fill, fields_sound, setup_made, known_faulty, known_read, same_header_lines, values_back, values_in_range}
+use Rattle.iss_schedule.proofs.HeaderTable.FieldsDetermineValues.{AreSome, all_some, field_behind, front_of, gone_on, length_lines, length_some, lines_more, next_good, some_more}
+use Rattle.iss_schedule.proofs.HeaderTable.ValuesDetermineSetup.{MayFail, are_read, fields_fill, fields_sound, setup_made, known_faulty, known_read, same_header_lines, values_back, values_in_range}
 
 pub ended-append : (xs ys : List (List ℕ)) → ended (xs ++ ys) ≡ ended xs ++ ended ys
 ended-append [] ys = refl
