@@ -21,7 +21,7 @@ use std::collections::VecDeque;
 // The maximal number of messages delivered at once.
 const MOST: u32 = 100_000_000;
 
-// ---- the instance, in which node 0 leads. Its counts are parameters, since for literal ones the tactics would evaluate each key
+// ---- the instance, led by node 0. Its counts are parameters: the tactics would evaluate each key of literal ones
 
 fn setup(alloc: Global, f: u32, n: u32, quorum: u32, keys: u32) -> Setup
     requires few { f ≤ 3 }

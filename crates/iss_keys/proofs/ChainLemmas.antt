@@ -9,7 +9,8 @@ use Rattle.iss_keys.specs.Trees.{parent_of}
 use Rattle.iss_keys.specs.Signatures.{climb, sibling_at}
 
 -- one more step
-pub steps_more : (q i j k : ℕ) (x : List ℕ) → j ≤ k → steps q i j (k + 1 - j) x ≡ chain_step q i k (steps q i j (k - j) x)
+pub steps_more : (q i j k : ℕ) (x : List ℕ) → j ≤ k →
+    steps q i j (k + 1 - j) x ≡ chain_step q i k (steps q i j (k - j) x)
 unfolding steps
 steps_more q i j k x h =
     let n : k + 1 - j ≡ suc (k - j) = omega arith in
@@ -40,12 +41,14 @@ sum_below-bound f b (suc n) h =
     omega arith
 
 -- one more level of an authentication path
-pub climb_more : (q : ℕ) (sig x : List ℕ) (k : ℕ) → climb q sig x (k + 1) ≡ parent_of (q / 2 ^ k) (climb q sig x k) (sibling_at sig k)
+pub climb_more : (q : ℕ) (sig x : List ℕ) (k : ℕ) →
+    climb q sig x (k + 1) ≡ parent_of (q / 2 ^ k) (climb q sig x k) (sibling_at sig k)
 unfolding climb
 climb_more q sig x k = rw add-one
 
 -- the string hashed for a leaf, with one more chain end
-pub ends_more : (m f : List ℕ) (e : ℕ → List ℕ) (n : ℕ) → f ≡ e n → (m ++ join_below e n) ++ f ≡ m ++ join_below e (n + 1)
+pub ends_more : (m f : List ℕ) (e : ℕ → List ℕ) (n : ℕ) → f ≡ e n →
+    (m ++ join_below e n) ++ f ≡ m ++ join_below e (n + 1)
 ends_more m f e n h = rw (join_below_more e n, h) (append_assoc m (join_below e n) (e n))
 
 pub join_below_none : (m n : List ℕ) (e : ℕ → List ℕ) → m ≡ n → m ≡ n ++ join_below e 0
@@ -61,5 +64,6 @@ pub pieces_none : (xs : List ℕ) (f : ℕ → List ℕ) → xs ≡ xs ++ join_b
 unfolding join_below
 pieces_none xs f = sym (append-nil xs)
 
-pub pieces_more : (xs ys zs : List ℕ) (f : ℕ → List ℕ) (n : ℕ) → ys ≡ xs ++ join_below f n → zs ≡ f n → ys ++ zs ≡ xs ++ join_below f (n + 1)
+pub pieces_more : (xs ys zs : List ℕ) (f : ℕ → List ℕ) (n : ℕ) → ys ≡ xs ++ join_below f n → zs ≡ f n →
+    ys ++ zs ≡ xs ++ join_below f (n + 1)
 pieces_more xs ys zs f n h g = rw h (ends_more xs zs f n g)

@@ -15,7 +15,8 @@ pub listed_none : {X : Type 0} (f : ℕ → X) → [] ≡ listed f 0
 unfolding listed
 listed_none f = refl
 
-pub listed_more : {X : Type 0} (xs : List X) (x : X) (f : ℕ → X) (n : ℕ) → xs ≡ listed f n → x ≡ f n → xs ++ x ∷ [] ≡ listed f (n + 1)
+pub listed_more : {X : Type 0} (xs : List X) (x : X) (f : ℕ → X) (n : ℕ) → xs ≡ listed f n → x ≡ f n →
+    xs ++ x ∷ [] ≡ listed f (n + 1)
 unfolding listed
 listed_more xs x f n h e = rw add-one (ap₂ (λ a b. a ++ b ∷ []) h e)
 
@@ -37,7 +38,8 @@ get_or-listed f (suc n) i d lt =
       | inr top ↦
           let at : i ≡ length (listed f n) = omega arith in
           let same : i ≡ n = omega arith in
-          ap (λ j. get_or (listed f n ++ f n ∷ []) j d) at ∙ get_or-append_seam (listed f n) (f n) [] d ∙ ap f (sym same)
+          ap (λ j. get_or (listed f n ++ f n ∷ []) j d) at ∙ get_or-append_seam (listed f n) (f n) [] d
+          ∙ ap f (sym same)
     ]
 
 pub slice_get-listed : {X : Type 0} (f : ℕ → X) (n i : ℕ) → i < n → slice_get (listed f n) i ≡ Some (f i)
@@ -57,7 +59,8 @@ publics_listed secret_of h keys has =
     let key = get_or keys i (record { secret = []; height = 0; used = 0 }) in
     let at : slice_get keys i ≡ Some key = slice_get-get_or keys i _ within in
     let own = has i key at in
-    get_or_from_slice_get (map public_of keys) i (public_of key) none (slice_get-map public_of keys i ∙ ap (option_map public_of) at)
+    get_or_from_slice_get (map public_of keys) i (public_of key) none (slice_get-map public_of keys i
+    ∙ ap (option_map public_of) at)
     ∙ ap₂ public_key own.0 own.1
     ∙ sym (get_or-listed (λ j. public_key (secret_of j) h) (length keys) i none within))
 

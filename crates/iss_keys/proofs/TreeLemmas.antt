@@ -47,11 +47,13 @@ node_here secret h i nodes l r low high len tree left right (suc k) p le lt same
     let e0 : 2 * i ≡ 2 ^ (h - k) + 2 * p = omega arith in
     let e1 : 2 * i + 1 ≡ 2 ^ (h - k) + (2 * p + 1) = omega arith in
     let is_left : l ≡ node secret k (2 * p) = left ∙ ap (λ j. get_or nodes j []) e0 ∙ tree k (2 * p) below lt0 at0 in
-    let is_right : r ≡ node secret k (2 * p + 1) = right ∙ ap (λ j. get_or nodes j []) e1 ∙ tree k (2 * p + 1) below lt1 at1 in
+    let is_right : r ≡ node secret k (2 * p + 1) = right ∙ ap (λ j. get_or nodes j []) e1
+    ∙ tree k (2 * p + 1) below lt1 at1 in
     rw (same, get_or-set_same) (ap₂ inner is_left is_right)
 
 -- one more inner node is in its place
-pub node_more : (secret : List ℕ) (h i : ℕ) (nodes : List (List ℕ)) (l r : List ℕ) → 1 ≤ i → i < 2 ^ h → i < length nodes
+pub node_more : (secret : List ℕ) (h i : ℕ) (nodes : List (List ℕ)) (l r : List ℕ) → 1 ≤ i → i < 2 ^ h →
+    i < length nodes
     → HasNodesFrom secret h (i + 1) nodes → l ≡ get_or nodes (2 * i) [] → r ≡ get_or nodes (2 * i + 1) []
     → HasNodesFrom secret h i (slice_set nodes i (inner l r))
 unfolding node
@@ -88,7 +90,8 @@ beside_path h k q place lt leaf e =
     ]
 
 -- the place of the parent
-pub place_up : (h k q place : ℕ) → k < h → place ≡ 2 ^ (h - k) + q / 2 ^ k → place / 2 ≡ 2 ^ (h - (k + 1)) + q / 2 ^ (k + 1)
+pub place_up : (h k q place : ℕ) → k < h → place ≡ 2 ^ (h - k) + q / 2 ^ k →
+    place / 2 ≡ 2 ^ (h - (k + 1)) + q / 2 ^ (k + 1)
 place_up h k q place lt e =
     let le : suc k ≤ h = lt in
     let down = pow_down h k le in
@@ -102,7 +105,8 @@ beside_within h k q place lt leaf e =
     let whole : 2 ^ (h + 1) ≡ 2 * 2 ^ h = rw add-one (pow-succ' 2 h) in
     omega (arith, at.0, at.1)
 
-pub path_is : (secret : List ℕ) (h : ℕ) (nodes : List (List ℕ)) (q k place b : ℕ) → HasNodesFrom secret h 1 nodes → k < h → q < 2 ^ h
+pub path_is : (secret : List ℕ) (h : ℕ) (nodes : List (List ℕ)) (q k place b : ℕ) → HasNodesFrom secret h 1 nodes →
+    k < h → q < 2 ^ h
     → place ≡ 2 ^ (h - k) + q / 2 ^ k → b ≡ beside place → get_or nodes b [] ≡ path_node secret q k
 path_is secret h nodes q k place b tree lt leaf e is =
     let at = beside_path h k q place lt leaf e in
@@ -110,7 +114,8 @@ path_is secret h nodes q k place b tree lt leaf e is =
     let some = pow_pos (h - k) in
     rw (is, at.0) (tree k (beside (q / 2 ^ k)) below at.1 (omega arith))
 
-pub has_root : (secret : List ℕ) (h : ℕ) (nodes : List (List ℕ)) → HasNodesFrom secret h 1 nodes → get_or nodes 1 [] ≡ root_of secret h
+pub has_root : (secret : List ℕ) (h : ℕ) (nodes : List (List ℕ)) → HasNodesFrom secret h 1 nodes →
+    get_or nodes 1 [] ≡ root_of secret h
 has_root secret h nodes tree =
     let none : h - h ≡ 0 = omega arith in
     let top : h ≤ h = omega arith in
@@ -137,5 +142,6 @@ halves_within (suc k) p m some h =
     ap (λ n. n * 2 ^ k) (let d : 2 * p + 1 + 1 ≡ (p + 1) * 2 = omega arith in d)
     ∙ mul_assoc (p + 1) 2 (2 ^ k) ∙ ap (λ n. (p + 1) * n) (sym (pow-succ' 2 k)) in
     let right : (2 * p + 1 + 1) * 2 ^ k ≤ m = rw whole h in
-    let less : (2 * p + 1) * 2 ^ k ≤ (2 * p + 1 + 1) * 2 ^ k = mul-le-mul_right (2 ^ k) (let l : 2 * p + 1 ≤ 2 * p + 1 + 1 = omega arith in l) in
+    let less : (2 * p + 1) * 2 ^ k ≤ (2 * p + 1 + 1) * 2 ^ k =
+    mul-le-mul_right (2 ^ k) (let l : 2 * p + 1 ≤ 2 * p + 1 + 1 = omega arith in l) in
     rw e (omega (arith, less, right), right)

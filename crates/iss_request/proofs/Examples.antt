@@ -15,12 +15,14 @@ unfolding spell_value spell_batch spell_count
 empty_value = (refl, refl)
 
 -- an empty batch followed by a byte
-empty_read : (parse_value 1 (1 ∷ 0 ∷ 9 ∷ []) ≡ Good (Value_batch []) (9 ∷ [])) × (parse_value 2 (2 ∷ 0 ∷ 0 ∷ 9 ∷ []) ≡ Good (Value_batch []) (9 ∷ []))
+empty_read : (parse_value 1 (1 ∷ 0 ∷ 9 ∷ []) ≡ Good (Value_batch []) (9 ∷ []))
+    × (parse_value 2 (2 ∷ 0 ∷ 0 ∷ 9 ∷ []) ≡ Good (Value_batch []) (9 ∷ []))
 unfolding parse_value parse_rest parse_batch parse_count count_field such_that byte number times done ◌>>=◌
 empty_read = (refl, refl)
 
 trailing : (all_of (parse_value 1) (1 ∷ 0 ∷ 9 ∷ []) ≡ Bad 2) × (all_of (parse_value 2) (2 ∷ 0 ∷ 0 ∷ 9 ∷ []) ≡ Bad 3)
-unfolding all_of at_end parse_value parse_rest parse_batch parse_count count_field such_that byte number times done ◌>>=◌
+unfolding all_of at_end parse_value parse_rest parse_batch parse_count count_field such_that byte number
+    times done ◌>>=◌
 trailing = (refl, refl)
 
 -- the other version's batch is refused at its first byte

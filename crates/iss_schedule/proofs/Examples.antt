@@ -21,20 +21,27 @@ three = 0 ∷ 0 ∷ 0 ∷ 3 ∷ 3 ∷ 4 ∷ 8 ∷ 0 ∷ 1 ∷ 4 ∷ []
 worked : Schedule
 worked = record {
   setup = setup_with three [] [];
-  events = Request 0 0 0 (170 ∷ []) ∷ Propose 0 ∷ Timeout 1 (record { 0 = 2 }) ∷ Ask 2 (record { 0 = 0 }) ∷ Deliver 12 ∷ Lose 0 ∷ Pump ∷ Calm 10 ∷ Hold 2 ∷ Free 2 ∷ Drop 1 ∷ Crash 1 0 ∷ Restart 1 ∷ [];
+  events = Request 0 0 0 (170 ∷ []) ∷ Propose 0 ∷ Timeout 1 (record { 0 = 2 }) ∷ Ask 2
+      (record { 0 = 0 }) ∷ Deliver 12 ∷ Lose 0 ∷ Pump ∷ Calm 10 ∷ Hold 2 ∷ Free 2 ∷ Drop 1 ∷ Crash 1 0 ∷ Restart 1 ∷ [];
 }
 
-worked_text : text_of worked ≡ codes "iss 1\nmodule relay\nf 0\nepoch 3\nbuckets 3\nbatch 4\nwindow 8\npolicy simple\nclients 1\nkeys 4\nfaulty none\nrequest 0 0 0 aa\npropose 0\ntimeout 1 2\nask 2 0\ndeliver 12\nlose 0\npump\ncalm 10\nhold 2\nfree 2\ndrop 1\ncrash 1 0\nrestart 1\n"
+worked_text : text_of worked
+    ≡ codes "iss 1\nmodule relay\nf 0\nepoch 3\nbuckets 3\nbatch 4\nwindow 8\npolicy simple\nclients 1\nkeys 4\nfaulty none\nrequest 0 0 0 aa\npropose 0\ntimeout 1 2\nask 2 0\ndeliver 12\nlose 0\npump\ncalm 10\nhold 2\nfree 2\ndrop 1\ncrash 1 0\nrestart 1\n"
 unfolding worked three digits encode_with
 worked_text = refl
 
 -- the same cluster with another policy
-backs_off : text_of (record { setup = setup_with (0 ∷ 0 ∷ 0 ∷ 3 ∷ 3 ∷ 4 ∷ 8 ∷ 1 ∷ 1 ∷ 4 ∷ []) [] []; events = Pump ∷ [] }) ≡ codes "iss 1\nmodule relay\nf 0\nepoch 3\nbuckets 3\nbatch 4\nwindow 8\npolicy backoff\nclients 1\nkeys 4\nfaulty none\npump\n"
+backs_off : text_of (record {
+  setup = setup_with (0 ∷ 0 ∷ 0 ∷ 3 ∷ 3 ∷ 4 ∷ 8 ∷ 1 ∷ 1 ∷ 4 ∷ []) [] [];
+  events = Pump ∷ [];
+}) ≡ codes
+    "iss 1\nmodule relay\nf 0\nepoch 3\nbuckets 3\nbatch 4\nwindow 8\npolicy backoff\nclients 1\nkeys 4\nfaulty none\npump\n"
 unfolding digits
 backs_off = refl
 
 -- five nodes of Raft, of which two may crash
-of_raft : text_of (record { setup = setup_with (0 ∷ 1 ∷ 2 ∷ 5 ∷ 3 ∷ 4 ∷ 8 ∷ 0 ∷ 1 ∷ 4 ∷ []) [] []; events = Pump ∷ [] }) ≡ codes "iss 1\nmodule raft\nf 2\nepoch 5\nbuckets 3\nbatch 4\nwindow 8\npolicy simple\nclients 1\nkeys 4\nfaulty none\npump\n"
+of_raft : text_of (record { setup = setup_with (0 ∷ 1 ∷ 2 ∷ 5 ∷ 3 ∷ 4 ∷ 8 ∷ 0 ∷ 1 ∷ 4 ∷ []) [] []; events = Pump ∷ [] })
+    ≡ codes "iss 1\nmodule raft\nf 2\nepoch 5\nbuckets 3\nbatch 4\nwindow 8\npolicy simple\nclients 1\nkeys 4\nfaulty none\npump\n"
 unfolding digits
 of_raft = refl
 
@@ -76,7 +83,10 @@ cut_text = record {
               (omega arith, omega arith),
               (
                 (omega arith, omega arith),
-                ((omega arith, omega arith), (omega arith, ((omega arith, omega arith), ((omega arith, omega arith), refl)))),
+                (
+                  (omega arith, omega arith),
+                  (omega arith, ((omega arith, omega arith), ((omega arith, omega arith), refl))),
+                ),
               ),
             ),
           ),

@@ -14,7 +14,8 @@ word_is_long [] = omega arith
 word_is_long (b ∷ bs) = omega arith
 
 -- a word other than `-` decodes to its bytes
-pub decoded : (word bytes : List ℕ) → word ≢ codes "-" → IsBytes bytes → word ≡ word_of bytes → decode_of word ≡ Ok bytes
+pub decoded : (word bytes : List ℕ) → word ≢ codes "-" → IsBytes bytes → word ≡ word_of bytes →
+    decode_of word ≡ Ok bytes
 decoded word [] other fits e = absurd (other e)
 decoded word (b ∷ bs) other fits e = rw e (decode_of-encode_lower (b ∷ bs) fits)
 

@@ -6,4 +6,5 @@ pub returns-then-place-all : goal.returns-then-place-all
 returns-then-place-all c = seen_at c.modules-all.result.now c.args.place no_module c.modules-all.ensures (omega arith)
 
 pub returns-else-place-all : goal.returns-else-place-all
-returns-else-place-all c = seen_first c.modules-all.result.now c.args.place no_module c.modules-all.ensures (omega arith)
+returns-else-place-all c = seen_first c.modules-all.result.now c.args.place no_module c.modules-all.ensures
+    (omega arith)

@@ -10,11 +10,13 @@ use Rattle.iss_schedule.specs.Schedules.{IsSchedule}
 use Rattle.iss_schedule.proofs.BadLines.OneFirstBadLine.{refused_none}
 use Rattle.iss_schedule.proofs.reading.read.Goals as goal
 
-good_setup : (bytes : List ℕ) (r : Result Schedule ReadError) → IfOk r (IsSchedule bytes) → IfOk r (λ s. IsGoodSetup s.setup)
+good_setup : (bytes : List ℕ) (r : Result Schedule ReadError) → IfOk r (IsSchedule bytes) →
+    IfOk r (λ s. IsGoodSetup s.setup)
 good_setup bytes (Ok s) h = h.fine.setup.good
 good_setup bytes (Err e) h = tt
 
-in_range : (bytes : List ℕ) (r : Result Schedule ReadError) → IfOk r (IsSchedule bytes) → IfOk r (λ s. AreInRange s.setup s.events)
+in_range : (bytes : List ℕ) (r : Result Schedule ReadError) → IfOk r (IsSchedule bytes) →
+    IfOk r (λ s. AreInRange s.setup s.events)
 in_range bytes (Ok s) h = h.fine.events
 in_range bytes (Err e) h = tt
 

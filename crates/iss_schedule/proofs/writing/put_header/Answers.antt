@@ -8,5 +8,7 @@ pub returns : goal.returns
 returns c =
     on_ok_weaker c.put_faulty.result
     (λ (e : c.put_faulty.new.out.items ≡ c.put_middle.new.out.items ++ faulty_line c.as_slice.result.now ++ 10 ∷ []).
-    header_written c.args.setup.now c.as_slice.result.now c.args.out.now.items c.put_front.new.out.items c.put_middle.new.out.items c.put_faulty.new.out.items c.in_ok-put_front.ensures c.in_ok-put_middle.ensures e c.as_slice.ensures)
+    header_written c.args.setup.now c.as_slice.result.now c.args.out.now.items c.put_front.new.out.items
+    c.put_middle.new.out.items c.put_faulty.new.out.items c.in_ok-put_front.ensures c.in_ok-put_middle.ensures e
+    c.as_slice.ensures)
     c.put_faulty.ensures
