@@ -1,4 +1,6 @@
--- Bytes that are read from the front, and what a reader finds there.
+-- What a reader and a writer of fields do. A reader that succeeds gives the thing that the parser gives, goes forward
+-- by its bytes, and keeps the version. One that fails names the offset of the first field that does not fit. A format
+-- is exact if what is read is encoded just so, and each thing has one encoding, or bytes that no reader takes.
 use Rattle.std.specs.Prelude.{ℕ, ◌+◌, ◌≤◌, List, ◌++◌, length, drop, ◌≡◌, ◌⊎◌}
 
 -- a reader's state: the version of the formats, all bytes, and the offset of the next one

@@ -1,7 +1,7 @@
 //! The contents of a schedule.
 use iss_request::bytes::Bytes;
 use iss_request::ids::NodeId;
-use iss_request::rows::Seq;
+use iss_request::seqs::Seq;
 use iss_request::setups::Setup;
 
 /// One event of a run. Cores and packets are numbered from 0.
