@@ -11,8 +11,8 @@ use iss_sb::Params;
 use std::alloc::Global;
 use std::time::Instant;
 
-/// The workload: a segment in the normal case, or what 2f+1 ViewChanges lead to: at all nodes with one directory, at
-/// all nodes with one each, at the new primary, or at the last node.
+/// The workload: a segment in the normal case, or what 2f+1 ViewChanges lead to. The latter is measured at all nodes
+/// with one directory, at all nodes with one each, at the new primary, or at the last node.
 #[derive(Clone, Copy)]
 enum Work {
     Order,

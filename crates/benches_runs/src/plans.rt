@@ -11,8 +11,8 @@ pub const SLOTS: u32 = 16;
 /// The height of all trees.
 pub const HEIGHT: u8 = 8;
 
-/// A kind of run: a module and its number of signatures for a slot; the requests in a batch; the clients and their
-/// requests in an epoch, so that all batches are full; and for how many epochs nodes and clients have leaves.
+/// A kind of run: a module and its number of signatures for a slot, and the requests in a batch. The clients have
+/// enough requests in an epoch to fill all batches. Nodes and clients have leaves for a number of epochs.
 #[derive(Clone, Copy)]
 pub struct Plan {
     pub module: &'static str,

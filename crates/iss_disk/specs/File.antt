@@ -24,8 +24,8 @@ abbrev pub is_written : List (ℕ × List ℕ) → ℕ → Bool
 is_written [] i = false
 is_written (write ∷ writes) i = (nat_le write.0 i && nat_lt i (write.0 + length write.1)) || is_written writes i
 
--- The crash images of a file. A crash may change only the ranges written since the last sync and what lies past
--- `open_from`. All other bytes are those that were synced.
+-- The crash images of a file. A crash leaves any length from `shortest` to `longest`. It may change only the ranges
+-- written since the last sync and what lies past `open_from`. All other bytes are those that were synced.
 -- rule: Disk: A crash may change only bytes written since the last sync
 pub record Image (file : File) (bytes : List ℕ) : Type 0 where
   pub long_enough : file.shortest ≤ length bytes
