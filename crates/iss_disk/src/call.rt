@@ -1,8 +1,7 @@
-// A call that changed or synced a file, with what is needed to undo it. The bytes that it removed are kept in a
-// separate list.
+// The calls that a memory disk records for a file.
 
-/// A call that changed or synced a file, with what it takes to undo it; the bytes that it took away are kept beside the
-/// list.
+/// A call that changed or synced a file, with what is needed to undo it. The bytes that it removed are kept in a
+/// separate list.
 #[derive(Clone, Copy, Debug, PartialEq, Eq)]
 pub enum Call {
     /// A write from offset `at` to the end of the file. It replaced the last `over` bytes.
