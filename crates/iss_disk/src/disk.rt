@@ -80,7 +80,7 @@ pub trait Disk {
         ensures cause { HasCause (faults self.old) (faults self.new) (IsErr result) }
         ensures device { Runs 1 (passes self.old) (passes self.new) (is_ok result) };
 
-    /// Cuts the file to `len` bytes.
+    /// Cuts the file to `len` bytes, which is at most its length.
     fn cut(&mut self, len: u64) -> Result<(), Failed>
         requires call { 1 ≤ (room self.old).calls }
         requires within { IfTold (history self.old) (λ file. len ≤ length file.content) }

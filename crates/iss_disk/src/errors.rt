@@ -12,7 +12,7 @@ pub struct Failed;
 #[derive(Clone, Copy, Debug, PartialEq, Eq)]
 pub struct NoMemory;
 
-/// Why a call that may run out of memory and may call the device failed: `attach` of a disk, and an append to a
+/// Why a call failed that may use the device and may run out of memory, such as `attach` of a disk or an append to a
 /// journal.
 #[derive(Clone, Copy, Debug, PartialEq, Eq)]
 pub enum EndError {

@@ -1,4 +1,4 @@
-// A disk over the operating system's files. It is trusted: nothing is assumed or proved about what the files hold.
+// A disk over the operating system's files: the trusted edge. Nothing is proved about what the files hold.
 ghost use Rattle.std.specs.Prelude.{◌≡◌, ◌≤◌, ◌^◌, [], length, IfOk, IsErr, is_ok};
 ghost use Rattle.iss_disk.specs.Calls.{HasCause, untold};
 

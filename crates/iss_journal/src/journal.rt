@@ -52,9 +52,9 @@ impl<D: Disk> Journal<D> {
         }
     }
 
-    /// Reads the file, syncs it, and cuts off what follows its last gate. A file of at most one byte becomes an empty
+    /// Syncs and reads the file, and cuts off what follows its last gate. A file of at most one byte becomes an empty
     /// journal. The errors: `Damaged` if an open gate is not followed by a whole entry, `Failed` if the device fails,
-    /// `NoMemory` if out of memory. The entries then are those from before the call.
+    /// `NoMemory` if out of memory. After an error the entries are those from before the call.
     pub fn attach(&mut self) -> Result<(), AttachError>
         requires sound { IsSound D.history D.room self.old }
         ensures entries { OnOk result (IfTold (D.history (disk_of self.old))

@@ -75,8 +75,8 @@ impl Answer {
     }
 }
 
-// The number of sets of the cache for `nodes` nodes. A message can carry a quorum's signatures for each of 64 slots,
-// and a quorum of nodes send one each. There is room for twice as many, up to 16,384.
+// The number of sets of the cache for `nodes` nodes. One message can carry, for each node of a quorum, a quorum's
+// signatures for each of 64 slots. There is room for twice as many, up to 16,384.
 fn sets_for(n: usize) -> usize
     ensures low { 1 ≤ result }
     ensures high { result ≤ 8192 }

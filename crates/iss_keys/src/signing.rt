@@ -72,7 +72,7 @@ fn signature_bytes(
     Ok(out)
 }
 
-// The signature of a statement with a leaf. The authentication path is computed for it.
+// The signature of a statement with a leaf of a tree, whose nodes are computed first if needed.
 fn signature_by(tree: &LateTree, leaf: u32, statement: &[u8]) -> Result<Vec<u8>, NoMemory>
     requires { leaf < 2 ^ tree.now.height }
     ensures exact { IfOk result (λ sig. sig.items ≡ signature_of tree.now.secret tree.now.height leaf statement.now) }

@@ -36,9 +36,9 @@ pub enum Event {
     Lose {
         packet: u64,
     },
-    /// Each pending packet whose core is not held is delivered, in ascending order.
+    /// Each packet that is pending now and whose core is not held is delivered, in ascending order.
     Pump,
-    /// At most this many pumps; it stops when nothing is pending.
+    /// At most this many pumps; it stops when a pump would deliver nothing.
     Calm {
         pumps: u32,
     },
