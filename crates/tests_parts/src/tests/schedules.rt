@@ -16,7 +16,8 @@ const BAD_LINES: &str =
 8 Form policy Simple\n9 Range clients 257\n9 Range clients 0\n9 Form clients \n10 Range keys 1
 10 Range keys 13\n10 Form keys 4 4\n11 Faulty faulty 0\n11 Faulty faulty 1 0 7
 11 Form faulty\n11 Form faulty 01\n11 Form faulty none none\n11 Form faulty 0 none
-12 Form \n12 Form jump 0\n12 Form restart\n12 Form restart 0 1\n12 Form restart 00\n12 Form restart -\n12 Range restart 3
+12 Form \n12 Form jump 0\n12 Form restart\n12 Form restart 0 1\n12 Form restart 00\n12 Form restart -
+12 Range restart 3
 12 Range restart 18446744073709551616\n12 Form Restart 0\n12 Form restarts 0\n12 Form tear 0 1 1
 12 Form crash\n12 Form crash 0\n12 Form crash 0 \n12 Form crash 0 01\n12 Form crash 0 0 0\n12 Form crash 0 -1
 12 Form crash  0 0\n12 Form crashes 0 0\n12 Form crash 3 01\n12 Range crash 3 0\n12 Range crash 0 1001
@@ -25,7 +26,8 @@ const BAD_LINES: &str =
 12 Form propose 0 \n12 Form  propose 0\n12 Form propose\t0\n12 Form Propose 0\n12 Form propose 0\r
 12 Range propose 3\n12 Range propose 18446744073709551616\n12 Form propose 018446744073709551616
 12 Form request 0 0 0\n12 Form request 0 0 0 AA\n12 Form request 0 0 0 a
-12 Form request 0 0 0 aa bb\n12 Form request 0 0 0 \n12 Form request 9 9 99 0g\n12 Range request 3 0 0 aa\n12 Range request 0 1 0 aa\n12 Range request 0 0 16 aa
+12 Form request 0 0 0 aa bb\n12 Form request 0 0 0 \n12 Form request 9 9 99 0g
+12 Range request 3 0 0 aa\n12 Range request 0 1 0 aa\n12 Range request 0 0 16 aa
 12 Range timeout 0 3\n12 Range timeout 3 0\n12 Form timeout 0\n12 Range ask 0 3\n12 Range ask 3 0
 12 Form ask 0\n12 Form ask 0 1 2\n12 Form ask 0 00\n12 Range deliver 18446744073709551616
 12 Form deliver -1\n12 Range lose 99999999999999999999\n12 Form pump 0
@@ -43,7 +45,8 @@ const WIDE_HEADER: &str =
     "iss 1\nmodule relay\nf 0\nepoch 6\nbuckets 3\nbatch 2\nwindow 8\npolicy backoff\nclients 1\nkeys 4\nfaulty none\n";
 
 const STRICT_HEADER: &str =
-    "iss 1\nmodule relay\nf 0\nepoch 64\nbuckets 256\nbatch 32\nwindow 64\npolicy blacklist\nclients 256\nkeys 12\nfaulty none\n";
+    "iss 1\nmodule relay\nf 0\nepoch 64\nbuckets 256\nbatch 32\nwindow 64\npolicy blacklist\n\
+     clients 256\nkeys 12\nfaulty none\n";
 
 // Four nodes, of which node 3 has a twin, core 4.
 const TWIN_HEADER: &str =
